@@ -10,17 +10,17 @@ use Rattle.dr_history.specs.History.{IsPrefixOf, messages_of}
 use Rattle.dr_history.specs.Members.{has}
 use Rattle.dr_machine.specs.Effects.{appends, beats, delivers, ends, entries_of, least_shown, marks, publishes, reports, sender_at, with_own}
 use Rattle.dr_machine.specs.Group.{Group, IsGroup, IsPresent, roster}
-use Rattle.dr_machine.specs.Guards.{CanDeliver, CanMark, CanReport}
+use Rattle.dr_machine.specs.Guards.{CanDeliver, CanMark, CanReport, IsInView}
 use Rattle.dr_machine.specs.Run.{PastGrew, WordsGrew}
 use Rattle.dr_machine.specs.World.{Past, World, item_at_place, own_word, shown}
 use Rattle.dr_machine.specs.Writes.{at, at₃}
-use Rattle.dr_faithful.proofs.Beside.{same_own_keeps}
+use Rattle.dr_faithful.proofs.Beside.{in_view, same_own_keeps}
 use Rattle.dr_faithful.proofs.Lists.{least_all, least_most, least_some, prefix_more, prefix_next}
 use Rattle.dr_faithful.proofs.OwnWords.{IsPlain, accepts_word, counts_word, delivered_word, form_word, old_later, own_grown, suspicions_word, closed_written, fresh_written}
 use Rattle.dr_faithful.proofs.Pasts.{past_same, prefix_refl, prefix_short, same_past, tells_done, tells_later, tells_logged, words_later}
 use Rattle.dr_faithful.proofs.Shown.{shown_le}
 use Rattle.dr_faithful.proofs.Writes.{at_case, at₃_case}
-use Rattle.dr_faithful.specs.Faithful.{Faithful}
+use Rattle.dr_faithful.specs.Faithful.{Faithful, StandsOnLogs}
 use Rattle.dr_faithful.specs.Tells.{HasAll, Tells, Views}
 use Rattle.dr_words.proofs.Order.{HasGrown_refl}
 use Rattle.dr_words.proofs.Forms.{form_done, form_free, grown_done, grown_free}
@@ -36,6 +36,14 @@ pub beside_keeps : (g : Group) (V : Views) (w : World) (turns : ℕ → ℕ) (en
     → Faithful g V (record w { turns = turns; end = end; committed = committed })
 beside_keeps g V w turns end committed f =
     let u : World = record w { turns = turns; end = end; committed = committed } in
+    same_own_keeps g V w u refl (words_later g V w u (past_same w.past) refl refl refl refl f.words)
+    f.logs f.delivered f.old f.form f
+
+-- nor of letters
+pub beside_letters : (g : Group) (V : Views) (w : World) (given : ℕ → ℕ) (letter : ℕ → Option (List Entry))
+    → Faithful g V w → Faithful g V (record w { given = given; letter = letter })
+beside_letters g V w given letter f =
+    let u : World = record w { given = given; letter = letter } in
     same_own_keeps g V w u refl (words_later g V w u (past_same w.past) refl refl refl refl f.words)
     f.logs f.delivered f.old f.form f
 
@@ -64,10 +72,10 @@ word_grew g w m c x grown = record {
 }
 
 -- one own word has grown, and tells
-word_keeps : (g : Group) (V : Views) (w : World) (m c x : ℕ) → IsPlain c
+word_keeps : (g : Group) (V : Views) (w : World) (m c x : ℕ) → IsPlain c → IsInView w m
     → HasGrown (roster g) c (own_word w m c) x → IsInForm (roster g) c x
     → Tells g V w.past m (w.past.view m) c x → Faithful g V w → Faithful g V (with_own w m c x)
-word_keeps g V w m c x plain grown form told f = record {
+word_keeps g V w m c x plain inside grown form told f = record {
   beginning = f.beginning;
   views = f.views;
   items = f.items;
@@ -87,8 +95,8 @@ word_keeps g V w m c x plain grown form told f = record {
   };
   logs = f.logs;
   delivered = delivered_word g V w.past.view w.next w.past.own m (w.past.view m) c x plain f.delivered;
-  fresh = fresh_written w.past.view w.past.own w.past.count m (w.past.view m) _ (le_refl (w.past.view m))
-      f.fresh;
+  fresh = fresh_written V w.past.view w.past.own w.past.count m (w.past.view m) _ (le_refl (w.past.view m))
+      (in_view g V w m f inside) f.fresh;
   closed = closed_written g V w.past.view w.past.own m _ f.closed;
   old = old_later g w.past.view w.past.own (at₃ w.past.own m (w.past.view m) c x) w.table w.seen
       (own_grown g w.past.own m (w.past.view m) c x grown) f.old;
@@ -113,11 +121,11 @@ pub publish_grew : (g : Group) (V : Views) (w : World) (m : ℕ) → Faithful g 
 publish_grew g V w m f = word_grew g w m LOGGED_COLUMN (length (w.past.log m)) (publish_grown g V w m f)
 
 -- the logged word tells of the log
-pub publish_keeps : (g : Group) (V : Views) (w : World) (m : ℕ) → Faithful g V w
+pub publish_keeps : (g : Group) (V : Views) (w : World) (m : ℕ) → IsInView w m → Faithful g V w
     → Faithful g V (publishes w m)
-publish_keeps g V w m f =
+publish_keeps g V w m inside f =
     let log : ℕ = length (w.past.log m) in
-    word_keeps g V w m LOGGED_COLUMN log (omega arith, omega arith, omega arith) (publish_grown g V w m f)
+    word_keeps g V w m LOGGED_COLUMN log (omega arith, omega arith, omega arith) inside (publish_grown g V w m f)
     (form_free (roster g) LOGGED_COLUMN log (inl (omega arith, omega arith)))
     (tells_logged g V w.past m (w.past.view m) log (le_refl log)) f
 
@@ -134,7 +142,7 @@ mark_grew g V w m f = word_grew g w m DONE_COLUMN 1 (mark_grown g V w m f)
 pub mark_keeps : (g : Group) (V : Views) (w : World) (m : ℕ) → CanMark g w m → Faithful g V w
     → Faithful g V (marks w m)
 mark_keeps g V w m can f =
-    word_keeps g V w m DONE_COLUMN 1 (omega arith, omega arith, omega arith) (mark_grown g V w m f)
+    word_keeps g V w m DONE_COLUMN 1 (omega arith, omega arith, omega arith) can.may.inside (mark_grown g V w m f)
     (form_done (roster g) 1 (le_refl 1))
     (tells_done g V w.past m (w.past.view m) mine) f
   where
@@ -173,7 +181,13 @@ append_keeps g V w m f = same_own_keeps g V w (appends w m) refl
       bounded = f.logs.bounded;
       front = at_case (λ i l. IsPrefixOf l (w.past.history i)) w.past.log m (w.past.log m ++ one)
           (λ i d. f.logs.front i) (prefix_next (w.past.log m) (w.past.history m) (f.logs.front m));
-      safe = λ a i l h. le_trans (f.logs.safe a i l h) (longer i);
+      safe = λ a l. let old = f.logs.safe a l in record {
+        own = le_trans old.own (longer a);
+        since = old.since;
+        come = old.come;
+        logged = λ i h. le_trans (old.logged i h) (longer i);
+        stayed = λ i h e. le_trans (old.stayed i h e) (longer i);
+      };
       small = f.logs.small;
     })
     f.delivered
@@ -218,9 +232,14 @@ report_keeps g V w m is can f = same_own_keeps g V w (reports w m) refl
     (record {
       bounded = f.logs.bounded;
       front = f.logs.front;
-      safe = at_case (λ a d. (i : ℕ) → IsPresent g a → has (V (w.past.view a)) i ≡ true → d
-          ≤ length (w.past.log i)) w.past.durable m least
-          (λ a d. f.logs.safe a) (λ i l h. logged i h);
+      safe = at_case (λ a d. IsPresent g a → StandsOnLogs g V w.past.log a (w.past.view a) d) w.past.durable m least
+          (λ a d. f.logs.safe a) (λ l. record {
+            own = logged m (in_view g V w m f can.may.inside);
+            since = w.past.view m;
+            come = le_refl (w.past.view m);
+            logged = logged;
+            stayed = λ i h e. logged i h;
+          });
       small = at_case (λ a d. d < 2 ^ 64) w.past.durable m least (λ a d. f.logs.small a)
           (omega (arith, least_most (λ i. shown w m i LOGGED_COLUMN) (w.members m) (2 ^ 64 - 1)));
     })
@@ -270,9 +289,9 @@ deliver_keeps g V w m can f = same_own_keeps g V w (delivers w m) refl
       small = f.logs.small;
     })
     (record {
-      held = λ a i. at_case (λ x n. IsPresent g x → has (V (w.past.view x)) i ≡ true → n
+      held = λ a i. at_case (λ x n. has (V (w.past.view x)) i ≡ true → n
           ≤ w.past.own i (w.past.view x) 2) w.next m (w.next m + 1)
-          (λ x d. f.delivered.held x i) (λ l h. shows i h) a;
+          (λ x d. f.delivered.held x i) (λ h. shows i h) a;
     })
     f.old f.form f
   where

@@ -16,8 +16,8 @@ use Rattle.dr_history.specs.Places.{first, front_of}
 use Rattle.dr_history.specs.Soundness.{Sound}
 use Rattle.dr_history.specs.declared.opening.Opening.{Opening}
 use Rattle.dr_history_laws.proofs.Lengths.{start-short}
-use Rattle.dr_machine.proofs.Presence.{in_first, is_there}
-use Rattle.dr_machine.specs.Group.{Group, IsGroup, IsPresent, roster}
+use Rattle.dr_machine.proofs.Presence.{is_there}
+use Rattle.dr_machine.specs.Group.{Group, IsGroup, roster}
 use Rattle.dr_machine.specs.World.{no_value, opening_world}
 use Rattle.dr_faithful.proofs.Pasts.{tells_logged, tells_nothing}
 use Rattle.dr_faithful.specs.Faithful.{Faithful}
@@ -137,7 +137,13 @@ begun g V is opens within = record {
   beginning = record {
     all = λ m first. is_there g m is first;
   };
-  views = record { own = λ m. sym opens; present = λ m l. present m l; within = within };
+  views = record {
+    own = λ m. sym opens;
+    came = λ m e. absurd (grind (arith, has_zero m, e));
+    back = λ m u e. absurd (omega (arith, e));
+    present = λ m l. ap (λ k. has k m) opens ∙ l;
+    within = within;
+  };
   items = record {
     counted = λ m v s. le_refl 0;
     same = λ m s k l. absurd (omega (arith, l));
@@ -158,7 +164,8 @@ begun g V is opens within = record {
     few = λ m v s. (0, omega arith);
   };
   suspicions = record {
-    part = λ m i h. absurd (cc (h, has_zero i));
+    named = λ m i h. absurd (cc (h, has_zero i));
+    inside = λ m d. absurd (d refl);
     trusted = λ m. has_zero m;
     told = λ m. grind arith;
     final = λ m s d h. absurd (d refl);
@@ -177,15 +184,25 @@ begun g V is opens within = record {
   logs = record {
     bounded = λ m. omega arith;
     front = λ m. ([], append-nil (first_entries g.opening));
-    safe = λ m i l h. le_refl (length (first_entries g.opening));
+    safe = λ m l. record {
+      own = le_refl (length (first_entries g.opening));
+      since = 0;
+      come = le_refl 0;
+      logged = λ i h. le_refl (length (first_entries g.opening));
+      stayed = λ i h e. le_refl (length (first_entries g.opening));
+    };
     small = λ m. omega (
       arith,
       start-short g.opening is.sound is.age is.some_member is.most_members is.messages,
       length-append g.opening.start (View g.opening.age 0 g.opening.members ∷ []),
     );
   };
-  delivered = record { held = λ m i l h. omega arith };
-  fresh = record { unwritten = λ m v c l. grind (arith, l); empty = λ m v s l. refl };
+  delivered = record { held = λ m i h. omega arith };
+  fresh = record {
+    unwritten = λ m v c l. grind (arith, l);
+    outside = λ m v c out d. outside m v c out;
+    empty = λ m v s l. refl;
+  };
   closed = λ m v l. absurd (omega (arith, l));
   old = record {
     in_table = λ v j i c. grown_zero (roster g) c _;
@@ -198,8 +215,9 @@ begun g V is opens within = record {
   };
 }
   where
-    present : (m : ℕ) → IsPresent g m → has (V 0) m ≡ true
-    present m there = ap (λ mask. has mask m) opens ∙ in_first g m is there
+    outside : (m v c : ℕ) → has (V v) m ≡ false → (opening_world g).past.own m v c ≡ 0
+    outside m zero c out = grind (arith, sym (ap (λ k. has k m) opens) ∙ out)
+    outside m (suc v) c out = grind arith
 
     none : (m c : ℕ) → (recv_column (roster g) ≤ c) × (c < head_column (roster g) 0)
         → (opening_world g).past.own m 0 c ≡ 0

@@ -1,11 +1,14 @@
 -- Worlds in which members have the same own words, items and votes.
-use Rattle.std.proofs.Common.{◌≡◌, subst, sym}
+use Rattle.std.proofs.Common.{◌≡◌, ◌∙◌, ap, subst, sym, true, ℕ}
+use Rattle.dr_history.specs.Members.{has}
 use Rattle.dr_machine.specs.Group.{Group}
+use Rattle.dr_machine.specs.Guards.{IsInView}
 use Rattle.dr_machine.specs.World.{World}
 use Rattle.dr_faithful.specs.Faithful.{AreDelivered, AreInForm, AreLogs, AreOld, Faithful}
 use Rattle.dr_faithful.specs.Tells.{Views, WordsTell}
 
--- two worlds differ at most in turns, ends, commits, histories, places, logs, and copies of words
+-- two worlds differ at most in turns, ends, commits, histories, places, logs, letters, and copies
+-- of words
 abbrev pub HasSameOwn : World → World → Type 0
 HasSameOwn w u = u ≡ record w {
   past = record w.past { history = u.past.history; log = u.past.log; durable = u.past.durable };
@@ -15,12 +18,19 @@ HasSameOwn w u = u ≡ record w {
   turns = u.turns;
   end = u.end;
   table = u.table;
+  given = u.given;
+  letter = u.letter;
 }
+
+-- who is in the view that it has is in the view of its number
+pub in_view : (g : Group) (V : Views) (w : World) (m : ℕ) → Faithful g V w → IsInView w m
+    → has (V (w.past.view m)) m ≡ true
+in_view g V w m f inside = ap (λ k. has k m) (sym (f.views.own m)) ∙ inside
 
 -- such a world is faithful where these are
 pub same_own_keeps : (g : Group) (V : Views) (w u : World) → HasSameOwn w u → WordsTell g V u
     → AreLogs g V w.past.view w.past.acts u.past.durable u.past.log u.past.history
-    → AreDelivered g V w.past.view u.next w.past.own → AreOld g w.past.view w.past.own u.table u.seen
+    → AreDelivered V w.past.view u.next w.past.own → AreOld g w.past.view w.past.own u.table u.seen
     → AreInForm g w.past.own u.table u.seen → Faithful g V w → Faithful g V u
 same_own_keeps g V w u same words logs delivered old form f = subst (λ (x : World). Faithful g V x) (sym same)
     (record {

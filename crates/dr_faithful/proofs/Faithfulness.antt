@@ -6,11 +6,12 @@ use Rattle.std.proofs.lemmas.Nat.{mod_below}
 use Rattle.dr_entry.specs.declared.record.Value.{Value}
 use Rattle.dr_entry.specs.declared.end.SentItem.{SentItem}
 use Rattle.dr_entry.specs.declared.end.SentItem.TheVariants.{Index, Null}
+use Rattle.dr_history.specs.History.{last_view}
 use Rattle.dr_history.specs.Members.{has}
 use Rattle.dr_machine.specs.Acts.{CanDo, CanTake, Guard, does, effect, effect_of}
-use Rattle.dr_machine.specs.Effects.{appends, logs_vote, puts, stamped, finishes, finishes_by, stamped_in}
-use Rattle.dr_machine.specs.Group.{Group, IsGroup, IsPresent, roster}
-use Rattle.dr_machine.specs.Guards.{IsOther, IsRunning, next_index, unsuspected_of}
+use Rattle.dr_machine.specs.Effects.{appends, logs_vote, puts, stamped, finishes, finishes_by, stamped_in, welcomes}
+use Rattle.dr_machine.specs.Group.{Group, IsGroup, roster}
+use Rattle.dr_machine.specs.Guards.{IsInView, IsOther, IsRunning, next_index, unsuspected_of}
 use Rattle.dr_machine.specs.Run.{NoLaterItem, PastGrew, WordsGrew}
 use Rattle.dr_machine.specs.World.{World, items_received, no_value, opening_world}
 use Rattle.dr_machine.specs.Writes.{at}
@@ -18,17 +19,18 @@ use Rattle.dr_machine.specs.declared.event.Event.{Event}
 use Rattle.dr_machine.specs.declared.event.Act.{Act}
 use Rattle.dr_machine.specs.declared.event.Act.TheVariants as acts
 use Rattle.dr_machine.specs.declared.step.Step.{Step}
-use Rattle.dr_machine.specs.declared.step.Step.TheVariants.{Do, Look, Push, Append, LogVote}
+use Rattle.dr_machine.specs.declared.step.Step.TheVariants.{Do, Look, Push, Append, LogVote, Welcome, Join}
 use Rattle.dr_machine.specs.Events.{member_of, step_of}
 use Rattle.dr_rows.specs.Words.{own, seen}
-use Rattle.dr_faithful.proofs.Acts.{append_keeps, append_past, beat_keeps, deliver_keeps, deliver_past, end_keeps, mark_grew, mark_keeps, publish_grew, publish_keeps, report_keeps, report_past}
+use Rattle.dr_faithful.proofs.Acts.{beside_letters, append_keeps, append_past, beat_keeps, deliver_keeps, deliver_past, end_keeps, mark_grew, mark_keeps, publish_grew, publish_keeps, report_keeps, report_past}
 use Rattle.dr_faithful.proofs.Begin.{begun}
-use Rattle.dr_faithful.proofs.Finishes.{finish_grew, finish_keeps, finish_past}
+use Rattle.dr_faithful.proofs.Beside.{in_view}
+use Rattle.dr_faithful.proofs.Finishes.{enter_grew, enter_past, finish_grew, finish_keeps, finish_past, join_keeps, joined_is}
 use Rattle.dr_faithful.proofs.Copies.{look_grew, look_keeps, push_grew, push_keeps}
 use Rattle.dr_faithful.proofs.Pieces.{sent_item, tag_of_piece}
 use Rattle.dr_faithful.proofs.Receipts.{receive_grew, receive_keeps, receive_past}
 use Rattle.dr_faithful.proofs.Puts.{may_message, may_null, put_grew, put_keeps, put_past}
-use Rattle.dr_faithful.proofs.Suspicions.{promise_least, suspect_grew, suspect_keeps, suspicions_told}
+use Rattle.dr_faithful.proofs.Suspicions.{may_name, promise_least, suspect_grew, suspect_keeps, suspicions_told}
 use Rattle.dr_faithful.proofs.Votes.{accept_grew, accept_keeps, commit_keeps, vote_keeps, vote_past}
 use Rattle.dr_faithful.proofs.Stamps.{stamp_grew, stamp_keeps, stamp_past}
 use Rattle.dr_faithful.proofs.Pasts.{past_on, past_same, same_past}
@@ -52,16 +54,16 @@ act_keeps g V w m acts.Send is well can f =
     put_keeps g V w m (Index (next_index w m)) is (may_message g V w m can f) f
 act_keeps g V w m acts.Null is well can f = put_keeps g V w m Null is (may_null g V w m can f) f
 act_keeps g V w m acts.Deliver is well can f = deliver_keeps g V w m can f
-act_keeps g V w m acts.Publish is well can f = publish_keeps g V w m f
+act_keeps g V w m acts.Publish is well can f = publish_keeps g V w m can.may.inside f
 act_keeps g V w m acts.Report is well can f = report_keeps g V w m is can f
 act_keeps g V w m acts.Mark is well can f = mark_keeps g V w m can f
-act_keeps g V w m (acts.Suspect j) is well can f = suspect_keeps g V w m j is can f
-act_keeps g V w m acts.Propose is well can f = accept_keeps g V w m can.vote is can.waits f
-act_keeps g V w m acts.Accept is well can f = accept_keeps g V w m can.vote is can.waits f
+act_keeps g V w m (acts.Suspect j) is well can f = suspect_keeps g V w m j is (may_name g V w m j well can) f
+act_keeps g V w m acts.Propose is well can f = accept_keeps g V w m can.vote is can.inside can.waits f
+act_keeps g V w m acts.Accept is well can f = accept_keeps g V w m can.vote is can.inside can.waits f
 act_keeps g V w m acts.Commit is well can f = commit_keeps g V w m f
 act_keeps g V w m acts.Finish is well can f =
     committed_is w m can.value (Faithful g V) g can.committed
-    (finish_keeps g V w m can.value is can.may.alive.present can.may.idle can.stays (well m can) f)
+    (finish_keeps g V w m can.value is can.may can.stays (well.finish m can) f)
 act_keeps g V w m (acts.Halt end) is well can f = end_keeps g V w m end f
 act_keeps g V w m (acts.Crash end) is well can f = end_keeps g V w m end f
 
@@ -81,7 +83,11 @@ step_keeps g V w m (Do a) is well can f = stamp_keeps g V (does g w m a) m (w.pa
 step_keeps g V w m (Look i c) is well can f = look_keeps g V w m i c f
 step_keeps g V w m (Push j c) is well can f = push_keeps g V w m j c f
 step_keeps g V w m Append is well can f = append_keeps g V w m f
-step_keeps g V w m (LogVote v) is well can f = vote_keeps g V w m v can f
+step_keeps g V w m (LogVote v) is well can f = vote_keeps g V w m v is can f
+step_keeps g V w m (Welcome j) is well can f = beside_letters g V w (welcomes w m j).given (welcomes w m j).letter f
+step_keeps g V w m Join is well can f = joined_is w m can.letter (Faithful g V) can.given
+    (join_keeps g V w m (last_view (0, 0) can.letter).0 (last_view (0, 0) can.letter).1 can.letter is
+    can.may.idle (well.join m can) f)
 
 -- the members are faithful after each event
 pub faithful_keeps : (g : Group) (V : Views) (w : World) (e : Event) → IsGroup g → AllGoOn g V w
@@ -99,7 +105,7 @@ faithful_begins = begun
 pub all_told : (g : Group) (V : Views) (w : World) → Faithful g V w → SuspicionsTold g w
 all_told = suspicions_told
 
-pub waits_for : (g : Group) (V : Views) (w : World) (m : ℕ) → IsGroup g → Faithful g V w → IsPresent g m
+pub waits_for : (g : Group) (V : Views) (w : World) (m : ℕ) → IsGroup g → Faithful g V w
     → w.suspects m ≢ 0 → IsLeastOf (unsuspected_of w m) (w.promise m)
 waits_for = promise_least
 
@@ -131,31 +137,36 @@ same_words g w u own table seen = record {
 }
 
 -- the words grow in an act
-pub does_grow : (g : Group) (V : Views) (w : World) (m : ℕ) (a : Act) → IsGroup g → CanDo g w m a
-    → Faithful g V w → WordsGrew g w (does g w m a)
-does_grow g V w m acts.Send is can f =
+pub does_grow : (g : Group) (V : Views) (w : World) (m : ℕ) (a : Act) → IsGroup g → AllGoOn g V w
+    → CanDo g w m a → Faithful g V w → WordsGrew g w (does g w m a)
+does_grow g V w m acts.Send is well can f =
     put_grew g V w m (Index (next_index w m)) is (may_message g V w m can f) f
-does_grow g V w m acts.Null is can f = put_grew g V w m Null is (may_null g V w m can f) f
-does_grow g V w m (acts.Receive s) is can f = receive_grew g V w m s is can f
-does_grow g V w m acts.Publish is can f = publish_grew g V w m f
-does_grow g V w m acts.Mark is can f = mark_grew g V w m f
-does_grow g V w m (acts.Suspect j) is can f = suspect_grew g V w m j is can f
-does_grow g V w m acts.Propose is can f = accept_grew g V w m can.vote can.waits f
-does_grow g V w m acts.Accept is can f = accept_grew g V w m can.vote can.waits f
-does_grow g V w m acts.Finish is can f =
+does_grow g V w m acts.Null is well can f = put_grew g V w m Null is (may_null g V w m can f) f
+does_grow g V w m (acts.Receive s) is well can f = receive_grew g V w m s is can f
+does_grow g V w m acts.Publish is well can f = publish_grew g V w m f
+does_grow g V w m acts.Mark is well can f = mark_grew g V w m f
+does_grow g V w m (acts.Suspect j) is well can f =
+    suspect_grew g V w m j is (may_name g V w m j well can) f
+does_grow g V w m acts.Propose is well can f = accept_grew g V w m can.vote can.waits f
+does_grow g V w m acts.Accept is well can f = accept_grew g V w m can.vote can.waits f
+does_grow g V w m acts.Finish is well can f =
     committed_is w m can.value (WordsGrew g w) g can.committed (finish_grew g V w m can.value f)
-does_grow g V w m a is can f = same_words g w (does g w m a) refl refl refl
+does_grow g V w m a is well can f = same_words g w (does g w m a) refl refl refl
 
 -- the words grow at every step
 pub grew : (g : Group) (V : Views) (w : World) (m : ℕ) (s : Step) → IsGroup g → AllGoOn g V w
     → CanTake g w m s → Faithful g V w → WordsGrew g w (effect_of g w m s)
 grew g V w m (Do a) is well can f =
-    act_grew g V w (does g w m a) m (w.past.view m) (does_grow g V w m a is can f)
+    act_grew g V w (does g w m a) m (w.past.view m) (does_grow g V w m a is well can f)
     (act_keeps g V w m a is well can f)
 grew g V w m (Look i c) is well can f = look_grew g V w m i c f can.row.other
 grew g V w m (Push j c) is well can f = push_grew g V w m j c f
 grew g V w m Append is well can f = same_words g w (appends w m) refl refl refl
 grew g V w m (LogVote v) is well can f = same_words g w (logs_vote g w m v) refl refl refl
+grew g V w m (Welcome j) is well can f = same_words g w (welcomes w m j) refl refl refl
+grew g V w m Join is well can f = joined_is w m can.letter (WordsGrew g w) can.given
+    (enter_grew g V w m (last_view (0, 0) can.letter).0 (last_view (0, 0) can.letter).1 can.letter
+    (well.join m can).later f)
 
 -- the words grow at every event
 pub words_on : (g : Group) (V : Views) (w : World) (e : Event) → IsGroup g → AllGoOn g V w
@@ -195,6 +206,10 @@ step_past g V w m (Look i c) is well can f = past_same w.past
 step_past g V w m (Push j c) is well can f = past_same w.past
 step_past g V w m Append is well can f = append_past w m
 step_past g V w m (LogVote v) is well can f = vote_past g w m v
+step_past g V w m (Welcome j) is well can f = past_same w.past
+step_past g V w m Join is well can f = joined_is w m can.letter (λ u. PastGrew w.past u.past) can.given
+    (enter_past w m (last_view (0, 0) can.letter).0 (last_view (0, 0) can.letter).1 can.letter
+    (well.join m can).later (well.join m can).begins)
 
 -- and so does all else that only grows
 pub past_on_event : (g : Group) (V : Views) (w : World) (e : Event) → IsGroup g → AllGoOn g V w
@@ -218,7 +233,7 @@ same_slot n k q some e l = by (cases_lt (k / n) (q / n))
 
 -- a word of the slot of the item that m waits for is no later one's
 later_tag : (g : Group) (V : Views) (w : World) (m s part word : ℕ) → IsGroup g → Faithful g V w
-    → IsPresent g m → IsOther w m s
+    → IsInView w m → IsOther w m s
     → TellsPiece g (length (w.past.sent s (w.past.view m))) (item_sent g w.past.sent s (w.past.view m))
     (items_received w m s % g.window) part word
     → ring_tag word ≤ items_received w m s + 1
@@ -228,7 +243,7 @@ later_tag g V w m s part word is f l other (inr p) =
     let tag = tag_of_piece g (length (w.past.sent s v)) (item_sent g w.past.sent s v)
     (items_received w m s % g.window) part word
     (λ i. sent_item g w.past.sent s v i is) p in
-    let window = f.items.window m v s (f.views.present m l)
+    let window = f.items.window m v s (in_view g V w m f l)
     (ap (λ k. has k s) (sym (f.views.own m)) ∙ other.member) in
     let earlier = same_slot g.window (items_received w m s) p.number is.some_slot p.place
     (omega (arith, p.put, window, f.sent.all s v)) in

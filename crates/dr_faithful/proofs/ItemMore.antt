@@ -5,8 +5,7 @@ use Rattle.dr_entry.specs.declared.entry.Item.{Item}
 use Rattle.dr_history.specs.History.{IsPrefixOf, Sent, messages_of}
 use Rattle.dr_history.specs.Members.{has, members_of}
 use Rattle.dr_history.specs.Places.{front_of}
-use Rattle.dr_machine.proofs.Presence.{in_roster}
-use Rattle.dr_machine.specs.Group.{Group, IsGroup, IsPresent, roster}
+use Rattle.dr_machine.specs.Group.{Group, IsGroup, roster}
 use Rattle.dr_machine.specs.Run.{PastGrew, WordsGrew}
 use Rattle.dr_machine.specs.World.{Past, World, items_received, own_word, view_members}
 use Rattle.dr_machine.specs.Writes.{at, at₂, at₃}
@@ -137,7 +136,7 @@ gained w m s x row sent =
 -- what a member may gain, and what its row may hold then
 pub record MayGain (g : Group) (V : Views) (w : World) (m s : ℕ) (x : Item) (row : ℕ → ℕ)
     (sent : Sent) : Type 0 where
-  pub present : IsPresent g m
+  pub inside : has (V (w.past.view m)) m ≡ true
   pub unwedged : w.suspects m ≡ 0
   pub sender : has (V (w.past.view m)) s ≡ true
   pub source : IsSource g V w.past.count m (w.past.view m) s
@@ -157,15 +156,15 @@ pub record MayGain (g : Group) (V : Views) (w : World) (m s : ℕ) (x : Item) (r
 low_or_high : (n c : ℕ) → (c < head_column n 0) ⊎ (head_column n 0 ≤ c)
 low_or_high n c = grind arith
 
-front_grown : (g : Group) (V : Views) (w : World) (m s : ℕ) → IsGroup g → IsPresent g m
+front_grown : (g : Group) (V : Views) (w : World) (m s : ℕ) → IsGroup g → has (V (w.past.view m)) m ≡ true
     → Faithful g V w
     → own_word w m 2 ≤ front_of (map (at (w.past.count m (w.past.view m)) s (items_received w m s + 1))
     (view_members w m))
 front_grown g V w m s is l f =
     let mask : V (w.past.view m) ≡ w.members m = sym (f.views.own m) in
     let some : 0 < length (view_members w m) =
-    some_members (w.members m) m (le_trans (in_roster g m is l) is.most_members)
-    (ap (λ k. has k m) (f.views.own m) ∙ f.views.present m l) in
+    some_members (w.members m) m (le_trans (f.views.within (w.past.view m) m l) is.most_members)
+    (ap (λ k. has k m) (f.views.own m) ∙ l) in
     let old : own_word w m 2 ≡ front_of (map (w.past.count m (w.past.view m)) (view_members w m)) =
     f.counts.received m (w.past.view m)
     ∙ ap (λ k. front_of (map (w.past.count m (w.past.view m)) (members_of k))) mask in
@@ -182,7 +181,7 @@ row_grown g V w m s x row sent is may f =
     (at row (recv_column s) (recv_word (items_received w m s + 1) false)) 2 _
     (λ c d. at_case (λ c z. HasGrown (roster g) c (own_word w m c) z) row (recv_column s)
     (recv_word (items_received w m s + 1) false) (λ c d. plain c (low_or_high (roster g) c)) recv c)
-    (grown_free (roster g) 2 _ _ (inl (omega arith, omega arith)) (front_grown g V w m s is may.present f))
+    (grown_free (roster g) 2 _ _ (inl (omega arith, omega arith)) (front_grown g V w m s is may.inside f))
   where
     plain : (c : ℕ) → (c < head_column (roster g) 0) ⊎ (head_column (roster g) 0 ≤ c)
         → HasGrown (roster g) c (own_word w m c) (row c)
@@ -289,7 +288,8 @@ suspicions_gained : (g : Group) (V : Views) (w : World) (m s : ℕ) (x : Item) (
     (sent : Sent) → MayGain g V w m s x row sent → Faithful g V w
     → AreSuspicions g V w.past.view w.suspects w.promise (gained w m s x row sent).past.own
 suspicions_gained g V w m s x row sent may f = record {
-  part = f.suspicions.part;
+  named = f.suspicions.named;
+  inside = f.suspicions.inside;
   trusted = f.suspicions.trusted;
   told = λ a. kept a 1 (omega arith) (omega arith) (omega arith) ∙ f.suspicions.told a;
   final = λ a b d h. final a b d h (cases_eq a m);
@@ -459,12 +459,12 @@ gain_keeps g V w m s x row sent is may f = record {
   words = words_gained g V w m s x row sent may f;
   logs = f.logs;
   delivered = record {
-    held = λ a i l h. le_trans (f.delivered.held a i l h)
+    held = λ a i h. le_trans (f.delivered.held a i h)
         (own_gained g V w m s x row sent is may f i (w.past.view a) 2).number;
   };
-  fresh = fresh_counted w.past.view _ w.past.count m (w.past.view m) _ (le_refl (w.past.view m))
-      (fresh_written w.past.view w.past.own w.past.count m (w.past.view m) _ (le_refl (w.past.view m))
-      f.fresh);
+  fresh = fresh_counted V w.past.view _ w.past.count m (w.past.view m) _ (le_refl (w.past.view m))
+      (fresh_written V w.past.view w.past.own w.past.count m (w.past.view m) _ (le_refl (w.past.view m))
+      may.inside f.fresh);
   closed = closed_written g V w.past.view w.past.own m _ f.closed;
   old = old_later g w.past.view w.past.own (gained w m s x row sent).past.own w.table w.seen
       (own_gained g V w m s x row sent is may f) f.old;

@@ -2,7 +2,7 @@ pub mod Writes
 mod Lists
 pub mod Pieces
 pub mod Pasts
-mod Beside
+pub mod Beside
 mod Begin
 pub mod OwnWords
 pub mod Stamps

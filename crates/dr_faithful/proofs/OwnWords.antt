@@ -1,5 +1,5 @@
 -- One own word that rises, in a column below those of the counts: what else its member's words tell stays.
-use Rattle.std.proofs.Common.{Option, ap, arith, sym, true, ℕ, ◌<◌, ◌∙◌, ◌≡◌, ◌≢◌, ◌≤◌, subst}
+use Rattle.std.proofs.Common.{Option, ap, arith, false, sym, true, ℕ, ◌<◌, ◌∙◌, ◌≡◌, ◌≢◌, ◌≤◌, subst}
 use Rattle.dr_entry.specs.declared.record.Value.{Value}
 use Rattle.dr_entry.specs.declared.record.Vote.{Vote}
 use Rattle.dr_machine.specs.Group.{Group, roster}
@@ -16,7 +16,7 @@ use Rattle.dr_words.specs.Columns.{recv_column}
 use Rattle.dr_words.specs.Form.{IsInForm}
 use Rattle.dr_words.specs.Grown.{HasGrown}
 use Rattle.dr_words.specs.Packing.{accept_tag, accept_value, accept_promise, is_final}
-use Rattle.dr_words.specs.Masks.{IsPartOf, least_of, without}
+use Rattle.dr_words.specs.Masks.{least_of, without}
 use Rattle.dr_history.specs.Members.{has}
 
 -- the columns of the beat, logged and done words
@@ -42,7 +42,8 @@ pub suspicions_word : (g : Group) (V : Views) (view suspects promise : ℕ → �
     → AreSuspicions g V view suspects promise own
     → AreSuspicions g V view suspects promise (at₃ own m v c x)
 suspicions_word g V view suspects promise own m v c x plain f = record {
-  part = f.part;
+  named = f.named;
+  inside = f.inside;
   trusted = f.trusted;
   told = λ i. at₃_column own m v c x i (view i) 1 (λ e. plain.2 (sym e)) ∙ f.told i;
   final = λ i s d h. rw (at₃_column own m v c x i (view i) (recv_column s) (omega (arith, plain.0)))
@@ -78,9 +79,9 @@ accepts_word g V view promise tag value pending own m v c x plain =
 
 -- the received words are as before
 pub delivered_word : (g : Group) (V : Views) (view next : ℕ → ℕ) (own : Numbers) (m v c x : ℕ)
-    → IsPlain c → AreDelivered g V view next own → AreDelivered g V view next (at₃ own m v c x)
+    → IsPlain c → AreDelivered V view next own → AreDelivered V view next (at₃ own m v c x)
 delivered_word g V view next own m v c x plain f = record {
-  held = λ i j l h. rw (at₃_column own m v c x j (view i) 2 (λ e. plain.1 (sym e))) (f.held i j l h);
+  held = λ i j h. rw (at₃_column own m v c x j (view i) 2 (λ e. plain.1 (sym e))) (f.held i j h);
 }
 
 -- what is written in a view that the member has come to leaves later views as they are
@@ -88,12 +89,24 @@ later_view : {A : Type 0} (f : ℕ → ℕ → A) (view : ℕ → ℕ) (m v : �
     → (i u : ℕ) → view i < u → at₂ f m v x i u ≡ f i u
 later_view f view m v x l i u less = grind (arith, l, less)
 
--- own words of such a view
-pub fresh_written : (view : ℕ → ℕ) (own count : Numbers) (m v : ℕ) (row : ℕ → ℕ) → v ≤ view m
-    → AreFresh view own count → AreFresh view (at₂ own m v row) count
-fresh_written view own count m v row l f = record {
+-- own words of such a view, of which it is a member
+pub fresh_written : (V : Views) (view : ℕ → ℕ) (own count : Numbers) (m v : ℕ) (row : ℕ → ℕ) → v ≤ view m
+    → has (V v) m ≡ true → AreFresh V view own count → AreFresh V view (at₂ own m v row) count
+fresh_written V view own count m v row l inside f = record {
   unwritten = λ i u c less. ap (λ (r : ℕ → ℕ). r c) (later_view own view m v row l i u less)
       ∙ f.unwritten i u c less;
+  outside = λ i u c. at₂_case (λ i u r. has (V u) i ≡ false → c ≢ BEAT_COLUMN → r c ≡ 0) own m v row
+      (λ i u. f.outside i u c) (λ out d. absurd (cc (inside, out))) i u;
+  empty = f.empty;
+}
+
+-- and its beat, of which it may be none
+pub fresh_stamped : (V : Views) (view : ℕ → ℕ) (own count : Numbers) (m v x : ℕ) → v ≤ view m
+    → AreFresh V view own count → AreFresh V view (at₃ own m v BEAT_COLUMN x) count
+fresh_stamped V view own count m v x l f = record {
+  unwritten = λ i u c less. ap (λ (r : ℕ → ℕ). r c)
+      (later_view own view m v (at (own m v) BEAT_COLUMN x) l i u less) ∙ f.unwritten i u c less;
+  outside = λ i u c out d. at₃_column own m v BEAT_COLUMN x i u c d ∙ f.outside i u c out d;
   empty = f.empty;
 }
 
@@ -104,14 +117,14 @@ earlier_view f view m x i u less = grind (arith, less)
 -- and what is written in its present view leaves those that it has left
 pub closed_written : (g : Group) (V : Views) (view : ℕ → ℕ) (own : Numbers) (m : ℕ) (row : ℕ → ℕ)
     → AreClosed g V view own → AreClosed g V view (at₂ own m (view m) row)
-closed_written g V view own m row f i u less =
-    subst (IsClosed g (V u) i) (sym (earlier_view own view m row i u less)) (f i u less)
+closed_written g V view own m row f i u less inside =
+    subst (IsClosed g (V u) i) (sym (earlier_view own view m row i u less)) (f i u less inside)
 
 -- the beat word tells nothing of it
 closed_beat : (g : Group) (view m : ℕ) (row : ℕ → ℕ) (x : ℕ) → IsClosed g view m row
     → IsClosed g view m (at row BEAT_COLUMN x)
 closed_beat g view m row x f = record {
-  part = subst (λ mask. IsPartOf mask view) (sym suspected) f.part;
+  named = λ j h. f.named j (sym (ap (λ mask. has mask j) suspected) ∙ h);
   trusted = ap (λ mask. has mask m) suspected ∙ f.trusted;
   wedged = λ e. f.wedged (sym suspected ∙ e);
   final = λ s member. ap is_final (other (recv_column s) (omega arith)) ∙ f.final s member;
@@ -130,14 +143,16 @@ closed_beat g view m row x f = record {
 
 pub closed_stamped : (g : Group) (V : Views) (view : ℕ → ℕ) (own : Numbers) (m v x : ℕ)
     → AreClosed g V view own → AreClosed g V view (at₃ own m v BEAT_COLUMN x)
-closed_stamped g V view own m v x f = at₂_case (λ i u row. u < view i → IsClosed g (V u) i row) own m v
-    (at (own m v) BEAT_COLUMN x) f (λ l. closed_beat g (V v) m (own m v) x (f m v l))
+closed_stamped g V view own m v x f = at₂_case
+    (λ i u row. u < view i → has (V u) i ≡ true → IsClosed g (V u) i row) own m v
+    (at (own m v) BEAT_COLUMN x) f (λ l inside. closed_beat g (V v) m (own m v) x (f m v l inside))
 
 -- and counts
-pub fresh_counted : (view : ℕ → ℕ) (own count : Numbers) (m v : ℕ) (counts : ℕ → ℕ) → v ≤ view m
-    → AreFresh view own count → AreFresh view own (at₂ count m v counts)
-fresh_counted view own count m v counts l f = record {
+pub fresh_counted : (V : Views) (view : ℕ → ℕ) (own count : Numbers) (m v : ℕ) (counts : ℕ → ℕ)
+    → v ≤ view m → AreFresh V view own count → AreFresh V view own (at₂ count m v counts)
+fresh_counted V view own count m v counts l f = record {
   unwritten = f.unwritten;
+  outside = f.outside;
   empty = λ i u s less. ap (λ (r : ℕ → ℕ). r s) (later_view count view m v counts l i u less)
       ∙ f.empty i u s less;
 }

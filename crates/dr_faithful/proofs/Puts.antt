@@ -21,6 +21,7 @@ use Rattle.dr_machine.specs.Writes.{at, at₂, at₃}
 use Rattle.dr_ring.proofs.Items.{few_pieces}
 use Rattle.dr_ring.specs.Pieces.{pieces}
 use Rattle.dr_ring.specs.Slots.{slot_column}
+use Rattle.dr_faithful.proofs.Beside.{in_view}
 use Rattle.dr_faithful.proofs.CountMore.{more, new_count}
 use Rattle.dr_faithful.proofs.ItemMore.{MayGain, accept_gained, counted_row, gain_grew, gain_keeps, gained, past_gained}
 use Rattle.dr_faithful.proofs.Pasts.{item_kept, prefix_refl, prefix_short}
@@ -274,9 +275,9 @@ put_gains g V w m x is can f =
     let from : ℕ = slot_from g w m in
     let list : List ℕ = pieces (item_named g m x) in
     let present = can.may.alive.present in record {
-      present = present;
+      inside = in_view g V w m f can.may.inside;
       unwedged = can.unwedged;
-      sender = f.views.present m present;
+      sender = in_view g V w m f can.may.inside;
       source = inl (refl, λ i h d. put_room g V w m i is present f h d can.room);
       grew = sent_grew w m x;
       item = sym (names_item g V w m x (items_received w m m) f refl);

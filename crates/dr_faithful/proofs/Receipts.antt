@@ -13,6 +13,7 @@ use Rattle.dr_machine.specs.World.{World, items_received, own_word}
 use Rattle.dr_ring.proofs.Items.{IsItem}
 use Rattle.dr_ring.specs.Pieces.{pieces}
 use Rattle.dr_ring.specs.Slots.{item_in}
+use Rattle.dr_faithful.proofs.Beside.{in_view}
 use Rattle.dr_faithful.proofs.CountMore.{own_same}
 use Rattle.dr_faithful.proofs.ItemMore.{MayGain, accept_gained, gain_grew, gain_keeps, past_gained}
 use Rattle.dr_faithful.proofs.Pasts.{prefix_refl}
@@ -65,7 +66,7 @@ receive_may g V w m s is can f =
     let taken = receive_words g V w m s is can f in
     let put = f.counts.few s (w.past.view m) s in
     record {
-      present = can.may.alive.present;
+      inside = in_view g V w m f can.may.inside;
       unwedged = can.unwedged;
       sender = ap (λ k. has k s) (sym (f.views.own m)) ∙ can.sender.member;
       source = inr (can.sender.other, taken.0);

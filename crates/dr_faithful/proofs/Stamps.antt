@@ -5,7 +5,7 @@ use Rattle.dr_machine.specs.Group.{Group, roster}
 use Rattle.dr_machine.specs.Run.{PastGrew, WordsGrew}
 use Rattle.dr_machine.specs.World.{Past, World}
 use Rattle.dr_machine.specs.Writes.{at₃, at₄}
-use Rattle.dr_faithful.proofs.OwnWords.{IsPlain, accepts_word, counts_word, delivered_word, form_word, old_later, own_grown, suspicions_word, closed_stamped, fresh_written}
+use Rattle.dr_faithful.proofs.OwnWords.{IsPlain, accepts_word, counts_word, delivered_word, form_word, old_later, own_grown, suspicions_word, closed_stamped, fresh_stamped}
 use Rattle.dr_faithful.proofs.Pasts.{past_same, tells_beat, tells_later}
 use Rattle.dr_faithful.proofs.Writes.{at_case, at_same, at₃_case, at₄_case}
 use Rattle.dr_faithful.specs.Faithful.{AreOld, Faithful}
@@ -118,7 +118,7 @@ stamp_keeps g V w m b come f = record {
     small = f.logs.small;
   };
   delivered = delivered_word g V w.past.view w.next w.past.own m b BEAT_COLUMN acts plain f.delivered;
-  fresh = fresh_written w.past.view w.past.own w.past.count m b _ come f.fresh;
+  fresh = fresh_stamped V w.past.view w.past.own w.past.count m b acts come f.fresh;
   closed = closed_stamped g V w.past.view w.past.own m b acts f.closed;
   old = stamp_old g V w m b f;
   form = record {

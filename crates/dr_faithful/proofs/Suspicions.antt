@@ -1,20 +1,24 @@
 -- A member suspects another one: its whole row is written anew, and the members stay faithful.
-use Rattle.std.proofs.Common.{ap, arith, false, inl, inr, le_trans, refl, subst, sym, true, Some, ℕ, ◌+◌, ◌-◌, ◌<◌, ◌^◌, ◌∙◌, ◌≡◌, ◌≢◌, ◌≤◌, ◌⊎◌, le_refl}
+use Rattle.std.proofs.Common.{Bool, ◌==◌, ◌||◌, ap, arith, false, inl, inr, le_trans, refl, subst, sym, true, Some, ℕ, ◌+◌, ◌-◌, ◌<◌, ◌^◌, ◌∙◌, ◌≡◌, ◌≢◌, ◌≤◌, ◌⊎◌, le_refl}
 use Rattle.std.proofs.lemmas.Bool.{cases_eq}
 use Rattle.dr_entry.specs.declared.record.Vote.{Vote}
 use Rattle.dr_history.specs.Members.{has}
+use Rattle.dr_history.specs.Order.{IsNewIn}
 use Rattle.dr_machine.specs.Effects.{suspects}
-use Rattle.dr_machine.specs.Group.{Group, IsGroup, IsPresent, roster}
-use Rattle.dr_machine.specs.Guards.{CanSuspect, unsuspected_of}
+use Rattle.dr_machine.specs.Group.{Group, IsGroup, roster}
+use Rattle.dr_machine.specs.Guards.{CanSuspect, IsNamable, IsOther, MayChoose, unsuspected_of}
 use Rattle.dr_machine.specs.Run.{PastGrew, WordsGrew}
 use Rattle.dr_machine.specs.World.{Past, World, own_word}
 use Rattle.dr_machine.specs.Writes.{at, at₂}
+use Rattle.dr_machine.proofs.Presence.{in_roster}
+use Rattle.dr_faithful.proofs.Beside.{in_view}
 use Rattle.dr_faithful.proofs.OwnWords.{closed_written, fresh_written, old_later}
 use Rattle.dr_faithful.proofs.Pasts.{same_past, tells_later, tells_recv, tells_accept, tells_suspected}
 use Rattle.dr_faithful.proofs.Writes.{at_case, at_other, at_same, at₂_case, at₂_read}
-use Rattle.dr_faithful.specs.Faithful.{AreAccepts, AreCounts, AreSuspicions, Faithful, IsWaiting, Numbers}
+use Rattle.dr_faithful.specs.Faithful.{AllGoOn, AreAccepts, AreCounts, AreSuspicions, Faithful, IsWaiting, Numbers}
 use Rattle.dr_faithful.specs.Tells.{SuspicionsTold, Tells, TellsSuspicion, Views, WordsTell}
-use Rattle.dr_words.proofs.Masks.{IsSuspecting, has_without_mask, in_roster_small, least_of_is, left_rises, left_within, more_grows, more_part, more_some, more_trusted, without_small}
+use Rattle.dr_words.proofs.Bits.{has_zero}
+use Rattle.dr_words.proofs.Masks.{IsSuspecting, has_with_member, has_without_mask, in_roster_small, least_of_is, left_rises, left_within, more_grows, more_has, more_named, more_trusted, without_small}
 use Rattle.dr_words.proofs.Order.{HasGrown_refl, HasGrown_trans}
 use Rattle.dr_words.proofs.Rewrites.{recv_within, wedged_by, wedged_count, wedged_final, wedged_grown, wedged_in_form, wedged_promise, wedged_rest, wedged_tag, wedged_value}
 use Rattle.dr_words.proofs.Accepts.{accept_within}
@@ -23,7 +27,7 @@ use Rattle.dr_words.specs.declared.column.TheConstants.{RECEIVED_COLUMN, SUSPECT
 use Rattle.dr_words.specs.Columns.{recv_column}
 use Rattle.dr_words.specs.Form.{IsInForm}
 use Rattle.dr_words.specs.Grown.{HasGrown}
-use Rattle.dr_words.specs.Masks.{IsLeastOf, IsPartOf, least_of, with_member, without}
+use Rattle.dr_words.specs.Masks.{IsInRoster, IsLeastOf, IsPartOf, least_of, with_member, without}
 use Rattle.dr_words.specs.Packing.{accept_promise, accept_tag, accept_value, is_final, recv_count, recv_word}
 
 -- ---- the mask and the promise
@@ -38,6 +42,15 @@ abbrev pub row_after : Group → World → ℕ → ℕ → ℕ → ℕ
 row_after g w m j c = wedged_word (roster g) (w.members m) (mask_after w m j) (promise_after w m j) c
     (own_word w m c)
 
+-- whom a member names is of the roster
+pub named_in_roster : (g : Group) (V : Views) (w : World) (m : ℕ) → IsGroup g → Faithful g V w
+    → IsInRoster (roster g) (w.suspects m)
+named_in_roster g V w m is f j h = by (f.suspicions.named m j h)
+  where
+    by : (has (V (w.past.view m)) j ≡ true) ⊎ IsNewIn g.opening V (w.past.view m) j → j < roster g
+    by (inl there) = f.views.within (w.past.view m) j there
+    by (inr new) = in_roster g j is new.late.0
+
 -- masks of the view have 16 bits
 pub mask_small : (g : Group) (V : Views) (w : World) (mask v : ℕ) → IsGroup g → Faithful g V w
     → IsPartOf mask (V v) → mask < 2 ^ 16
@@ -49,26 +62,78 @@ pub members_small : (g : Group) (V : Views) (w : World) (m : ℕ) → IsGroup g 
 members_small g V w m is f =
     rw (f.views.own m) (mask_small g V w (V (w.past.view m)) (w.past.view m) is f (λ i h. h))
 
+-- j is another member of m's view, or late and in no view so far
+abbrev pub IsKnown : Group → Views → World → ℕ → ℕ → Type 0
+IsKnown g V w m j = IsOther w m j ⊎ IsNewIn g.opening V (w.past.view m) j
+
+-- m may suspect it, or wish for it
+pub record MayName (g : Group) (V : Views) (w : World) (m j : ℕ) : Type 0 where
+  pub may : MayChoose g w m
+  pub known : IsKnown g V w m j
+  pub unsuspected : has (w.suspects m) j ≡ false
+
+pub may_name : (g : Group) (V : Views) (w : World) (m j : ℕ) → AllGoOn g V w → CanSuspect g w m j
+    → MayName g V w m j
+may_name g V w m j well can = record {
+  may = can.may;
+  known = by can.namable;
+  unsuspected = can.unsuspected;
+}
+  where
+    by : IsNamable g w m j → IsKnown g V w m j
+    by (inl other) = inl other
+    by (inr late) = inr (well.wish m j can.may.alive.present late)
+
+known_within : (g : Group) (V : Views) (w : World) (m j : ℕ) → IsGroup g → IsKnown g V w m j
+    → Faithful g V w → j < roster g
+known_within g V w m j is (inl other) f =
+    f.views.within (w.past.view m) j (ap (λ k. has k j) (sym (f.views.own m)) ∙ other.member)
+known_within g V w m j is (inr new) f = in_roster g j is new.late.0
+
 -- what is known of the masks of a member that may suspect another one
-suspecting : (g : Group) (V : Views) (w : World) (m j : ℕ) → IsGroup g → CanSuspect g w m j
+suspecting : (g : Group) (V : Views) (w : World) (m j : ℕ) → IsGroup g → MayName g V w m j
     → Faithful g V w → IsSuspecting (roster g) (w.members m) (w.suspects m) m j
 suspecting g V w m j is can f = record {
   few = is.most_members;
   roster = λ i h. f.views.within (w.past.view m) i (ap (λ k. has k i) (sym (f.views.own m)) ∙ h);
-  part = λ i h. ap (λ k. has k i) (f.views.own m) ∙ f.suspicions.part m i h;
-  present = ap (λ k. has k m) (f.views.own m) ∙ f.views.present m can.may.alive.present;
+  named = named_in_roster g V w m is f;
+  present = can.may.inside;
   trusted = f.suspicions.trusted m;
-  member = can.other.member;
-  apart = can.other.other;
+  within = known_within g V w m j is can.known f;
+  apart = apart can.known;
 }
+  where
+    apart : IsKnown g V w m j → j ≢ m
+    apart (inl other) = other.other
+    apart (inr new) = λ e. absurd (cc (
+      new.absent (w.past.view m) (le_refl (w.past.view m)),
+      e,
+      in_view g V w m f can.may.inside,
+    ))
 
--- somebody is suspected now
-pub mask_some : (g : Group) (V : Views) (w : World) (m j : ℕ) → IsGroup g → CanSuspect g w m j
+-- somebody is named now
+pub mask_some : (g : Group) (V : Views) (w : World) (m j : ℕ) → IsGroup g → j < roster g
     → Faithful g V w → mask_after w m j ≢ 0
-mask_some g V w m j is can f = more_some (suspecting g V w m j is can f)
+mask_some g V w m j is l f none = absurd (cc (
+  has_zero j,
+  none,
+  has_with_member (w.suspects m) j j
+      (in_roster_small 16 (w.suspects m) (λ i h. le_trans (named_in_roster g V w m is f i h) is.most_members))
+      (le_trans l is.most_members) ∙ one_is j (has (w.suspects m) j),
+))
+  where
+    one_is : (j : ℕ) (b : Bool) → (j == j || b) ≡ true
+    one_is j b = grind arith
+
+-- whom a member may name is of the roster
+pub namable_within : (g : Group) (V : Views) (w : World) (m j : ℕ) → IsGroup g → IsNamable g w m j
+    → Faithful g V w → j < roster g
+namable_within g V w m j is (inl other) f =
+    f.views.within (w.past.view m) j (ap (λ k. has k j) (sym (f.views.own m)) ∙ other.member)
+namable_within g V w m j is (inr late) f = in_roster g j is late.0.0
 
 -- the promise doesn't fall
-pub promise_rises : (g : Group) (V : Views) (w : World) (m j : ℕ) → IsGroup g → CanSuspect g w m j
+pub promise_rises : (g : Group) (V : Views) (w : World) (m j : ℕ) → IsGroup g → MayName g V w m j
     → Faithful g V w → w.promise m ≤ promise_after w m j
 promise_rises g V w m j is can f = by (cases_eq (w.suspects m) 0)
   where
@@ -88,14 +153,14 @@ plain_kept own n members mask promise m v a u c l d =
     (λ a u. refl) (wedged_rest n members mask promise c (own m v c) d (inl l)) a u
 
 -- each word of the row has grown
-row_grown : (g : Group) (V : Views) (w : World) (m j : ℕ) → IsGroup g → CanSuspect g w m j
+row_grown : (g : Group) (V : Views) (w : World) (m j : ℕ) → IsGroup g → MayName g V w m j
     → Faithful g V w → (c : ℕ) → HasGrown (roster g) c (own_word w m c) (row_after g w m j c)
 row_grown g V w m j is can f c =
     wedged_grown (roster g) (w.members m) (mask_after w m j) (promise_after w m j) c (own_word w m c)
     (λ e. rw (e, f.suspicions.told m) (more_grows (suspecting g V w m j is can f)))
     (λ a. rw (f.suspicions.accept m c (rw (← f.views.own m) a)) (promise_rises g V w m j is can f))
 
-own_after : (g : Group) (V : Views) (w : World) (m j : ℕ) → IsGroup g → CanSuspect g w m j
+own_after : (g : Group) (V : Views) (w : World) (m j : ℕ) → IsGroup g → MayName g V w m j
     → Faithful g V w
     → (i v c : ℕ) → HasGrown (roster g) c (w.past.own i v c) ((suspects g w m j).past.own i v c)
 own_after g V w m j is can f =
@@ -108,7 +173,7 @@ pub suspect_past : (g : Group) (w : World) (m j : ℕ) → PastGrew w.past (susp
 suspect_past g w m j = same_past w.past (suspects g w m j).past refl refl refl refl refl refl refl refl
 
 -- the words grow
-pub suspect_grew : (g : Group) (V : Views) (w : World) (m j : ℕ) → IsGroup g → CanSuspect g w m j
+pub suspect_grew : (g : Group) (V : Views) (w : World) (m j : ℕ) → IsGroup g → MayName g V w m j
     → Faithful g V w → WordsGrew g w (suspects g w m j)
 suspect_grew g V w m j is can f = record {
   own = own_after g V w m j is can f;
@@ -118,7 +183,7 @@ suspect_grew g V w m j is can f = record {
 
 -- ---- what the words tell
 
-counts_suspected : (g : Group) (V : Views) (w : World) (m j : ℕ) → IsGroup g → CanSuspect g w m j
+counts_suspected : (g : Group) (V : Views) (w : World) (m j : ℕ) → IsGroup g → MayName g V w m j
     → Faithful g V w
     → AreCounts g V w.past.view (suspects g w m j).suspects (suspects g w m j).past.own w.past.count
 counts_suspected g V w m j is can f = record {
@@ -131,7 +196,7 @@ counts_suspected g V w m j is can f = record {
       (mask_after w m j)
       (λ i d e. rw (at_other w.past.own m (at (w.past.own m) (w.past.view m) (row_after g w m j)) i d)
       (f.counts.unfinished i b l e))
-      (λ e. absurd (mask_some g V w m j is can f e)) a;
+      (λ e. absurd (mask_some g V w m j is (known_within g V w m j is can.known f) f e)) a;
   received = λ a u. plain_kept w.past.own (roster g) (w.members m) (mask_after w m j) (promise_after w m j)
       m (w.past.view m) a u RECEIVED_COLUMN (omega arith) (omega arith) ∙ f.counts.received a u;
   few = f.counts.few;
@@ -147,15 +212,21 @@ own_there : (g : Group) (w : World) (m j i c : ℕ) → i ≢ m
 own_there g w m j i c d = ap (λ r. r (w.past.view i) c)
     (at_other w.past.own m (at (w.past.own m) (w.past.view m) (row_after g w m j)) i d)
 
+-- who is one more or was before, and is not the one more, was before
+one_before : (n j : ℕ) (b : Bool) → n ≢ j → (n == j || b) ≡ true → b ≡ true
+one_before n j b d e = grind (arith, d, e)
+
 -- whom the members suspect, and what they promise
 suspicions_suspected : (g : Group) (V : Views) (w : World) (m j : ℕ) → IsGroup g
-    → CanSuspect g w m j → Faithful g V w
+    → MayName g V w m j → Faithful g V w
     → AreSuspicions g V w.past.view (suspects g w m j).suspects (suspects g w m j).promise
     (suspects g w m j).past.own
 suspicions_suspected g V w m j is can f = record {
-  part = at_case (λ i k. IsPartOf k (V (w.past.view i))) w.suspects m mask
-      (λ i d. f.suspicions.part i)
-      (λ i h. ap (λ k. has k i) (sym (f.views.own m)) ∙ more_part (suspecting g V w m j is can f) i h);
+  named = at_case (λ i k. (n : ℕ) → has k n ≡ true
+      → (has (V (w.past.view i)) n ≡ true) ⊎ IsNewIn g.opening V (w.past.view i) n) w.suspects m mask
+      (λ i d. f.suspicions.named i) (λ n h. named n h (cases_eq n j));
+  inside = at_case (λ i k. k ≢ 0 → has (V (w.past.view i)) i ≡ true) w.suspects m mask
+      (λ i d. f.suspicions.inside i) (λ d. in_view g V w m f can.may.inside);
   trusted = at_case (λ i k. has k i ≡ false) w.suspects m mask
       (λ i d. f.suspicions.trusted i) (more_trusted (suspecting g V w m j is can f));
   told = λ i. told i (cases_eq i m);
@@ -170,6 +241,17 @@ suspicions_suspected g V w m j is can f = record {
 
     promise : ℕ
     promise = promise_after w m j
+
+    known : IsKnown g V w m j → (has (V (w.past.view m)) j ≡ true) ⊎ IsNewIn g.opening V (w.past.view m) j
+    known (inl other) = inl (ap (λ k. has k j) (sym (f.views.own m)) ∙ other.member)
+    known (inr new) = inr new
+
+    named : (n : ℕ) → has (mask_after w m j) n ≡ true → (n ≡ j) ⊎ (n ≢ j)
+        → (has (V (w.past.view m)) n ≡ true) ⊎ IsNewIn g.opening V (w.past.view m) n
+    named n h (inl e) = subst (λ k. (has (V (w.past.view m)) k ≡ true) ⊎ IsNewIn g.opening V (w.past.view m) k)
+        (sym e) (known can.known)
+    named n h (inr d) = f.suspicions.named m n
+        (one_before n j (has (w.suspects m) n) d (sym (more_has (suspecting g V w m j is can f) n) ∙ h))
 
     told : (i : ℕ) → (i ≡ m) ⊎ (i ≢ m)
         → (suspects g w m j).past.own i (w.past.view i) SUSPECTED_COLUMN ≡ (suspects g w m j).suspects i
@@ -189,7 +271,7 @@ suspicions_suspected g V w m j is can f = record {
 
     none : (i : ℕ) → (i ≡ m) ⊎ (i ≢ m) → (suspects g w m j).suspects i ≡ 0
         → (suspects g w m j).promise i ≡ 0
-    none i (inl e) zeroed = absurd (mask_some g V w m j is can f
+    none i (inl e) zeroed = absurd (mask_some g V w m j is (known_within g V w m j is can.known f) f
         (sym (at_same w.suspects m mask) ∙ ap (suspects g w m j).suspects (sym e) ∙ zeroed))
     none i (inr d) zeroed = at_other w.promise m promise i d
         ∙ f.suspicions.none i (sym (at_other w.suspects m mask i d) ∙ zeroed)
@@ -210,7 +292,7 @@ suspicions_suspected g V w m j is can f = record {
         ∙ sym (at_other w.promise m promise i d)
 
 -- what the members have accepted stays, as the promise rises
-accepts_suspected : (g : Group) (V : Views) (w : World) (m j : ℕ) → IsGroup g → CanSuspect g w m j
+accepts_suspected : (g : Group) (V : Views) (w : World) (m j : ℕ) → IsGroup g → MayName g V w m j
     → Faithful g V w
     → AreAccepts g V w.past.view (suspects g w m j).promise w.tag w.value w.pending
     (suspects g w m j).past.own
@@ -275,7 +357,7 @@ words_suspected g V w m j f = record {
         told
 
 -- and the members stay faithful
-pub suspect_keeps : (g : Group) (V : Views) (w : World) (m j : ℕ) → IsGroup g → CanSuspect g w m j
+pub suspect_keeps : (g : Group) (V : Views) (w : World) (m j : ℕ) → IsGroup g → MayName g V w m j
     → Faithful g V w → Faithful g V (suspects g w m j)
 suspect_keeps g V w m j is can f = record {
   beginning = f.beginning;
@@ -288,12 +370,12 @@ suspect_keeps g V w m j is can f = record {
   words = words_suspected g V w m j f;
   logs = f.logs;
   delivered = record {
-    held = λ a i l h. rw (plain_kept w.past.own (roster g) (w.members m) (mask_after w m j)
+    held = λ a i h. rw (plain_kept w.past.own (roster g) (w.members m) (mask_after w m j)
         (promise_after w m j) m (w.past.view m) i (w.past.view a) RECEIVED_COLUMN (omega arith)
-        (omega arith)) (f.delivered.held a i l h);
+        (omega arith)) (f.delivered.held a i h);
   };
-  fresh = fresh_written w.past.view w.past.own w.past.count m (w.past.view m) (row_after g w m j)
-      (le_refl (w.past.view m)) f.fresh;
+  fresh = fresh_written V w.past.view w.past.own w.past.count m (w.past.view m) (row_after g w m j)
+      (le_refl (w.past.view m)) (in_view g V w m f can.may.inside) f.fresh;
   closed = closed_written g V w.past.view w.past.own m (row_after g w m j) f.closed;
   old = old_later g w.past.view w.past.own (suspects g w m j).past.own w.table w.seen
       (own_after g V w m j is can f) f.old;
@@ -301,8 +383,7 @@ suspect_keeps g V w m j is can f = record {
     in_own = at₂_case (λ i v r. (c : ℕ) → IsInForm (roster g) c (r c)) w.past.own m (w.past.view m)
         (row_after g w m j) f.form.in_own
         (λ c. wedged_in_form (roster g) (w.members m) (mask_after w m j) (promise_after w m j) c
-        (own_word w m c) (in_roster_small (roster g) (mask_after w m j)
-        (λ i h. s.roster i (more_part s i h)))
+        (own_word w m c) (in_roster_small (roster g) (mask_after w m j) (more_named s))
         (left_within s) (f.form.in_own m (w.past.view m) c));
     in_table = f.form.in_table;
     in_seen = f.form.in_seen;
@@ -323,7 +404,11 @@ final_wedged g V w i v s f l final none = by (which v (w.past.view i))
     which v u = grind arith
 
     by : (v < w.past.view i) ⊎ ((v ≡ w.past.view i) ⊎ (w.past.view i < v)) → ⊥
-    by (inl left) = (f.closed i v left).wedged none
+    by (inl left) = inside (has (V v) i) refl left
+      where
+        inside : (b : Bool) → has (V v) i ≡ b → v < w.past.view i → ⊥
+        inside true here left = (f.closed i v left here).wedged none
+        inside false out left = absurd (cc (final, f.fresh.outside i v (recv_column s) out (omega arith)))
     by (inr (inl same)) =
         let here : w.suspects i ≡ 0 = sym (f.suspicions.told i)
         ∙ ap (λ u. w.past.own i u SUSPECTED_COLUMN) (sym same) ∙ none in
@@ -358,9 +443,9 @@ suspicions_told g V w f = record {
 
 -- a member that suspects somebody waits for the least that it doesn't suspect
 pub promise_least : (g : Group) (V : Views) (w : World) (m : ℕ) → IsGroup g → Faithful g V w
-    → IsPresent g m → w.suspects m ≢ 0 → IsLeastOf (unsuspected_of w m) (w.promise m)
-promise_least g V w m is f l some =
+    → w.suspects m ≢ 0 → IsLeastOf (unsuspected_of w m) (w.promise m)
+promise_least g V w m is f some =
     rw (f.suspicions.least m some, ← f.views.own m)
     (least_of_is (unsuspected_of w m) m (without_small (w.members m) (w.suspects m))
     (has_without_mask (w.members m) (w.suspects m) m (members_small g V w m is f)
-    ∙ grind (arith, ap (λ k. has k m) (f.views.own m) ∙ f.views.present m l, f.suspicions.trusted m)))
+    ∙ grind (arith, ap (λ k. has k m) (f.views.own m) ∙ f.suspicions.inside m some, f.suspicions.trusted m)))

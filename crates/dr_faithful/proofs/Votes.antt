@@ -8,10 +8,12 @@ use Rattle.dr_history.specs.History.{IsPrefixOf}
 use Rattle.dr_history.specs.Members.{has}
 use Rattle.dr_machine.specs.Effects.{accepts, commits, logs_vote, vote_for}
 use Rattle.dr_machine.specs.Group.{Group, IsGroup, roster}
-use Rattle.dr_machine.specs.Guards.{CanLogVote, IsToAccept, IsToPropose}
+use Rattle.dr_machine.specs.Guards.{CanLogVote, IsInView, IsToAccept, IsToPropose}
 use Rattle.dr_machine.specs.Run.{PastGrew, WordsGrew}
 use Rattle.dr_machine.specs.World.{Past, World, no_vote, own_word, shown}
 use Rattle.dr_machine.specs.Writes.{at}
+use Rattle.dr_faithful.proofs.Beside.{in_view}
+use Rattle.dr_faithful.proofs.Suspicions.{named_in_roster}
 use Rattle.dr_faithful.proofs.Acts.{beside_keeps}
 use Rattle.dr_faithful.proofs.OwnWords.{closed_written, fresh_written, old_later}
 use Rattle.dr_faithful.proofs.Pasts.{past_same, prefix_refl, same_past, tells_accept, tells_later, words_later}
@@ -125,12 +127,12 @@ first_trims g V w m v f first s = by (has (w.members m) s) refl
     by true h = least h (first.trims s h)
     by false h = rw (first.others s h) (omega arith)
 
-voted_leavers : (g : Group) (V : Views) (w : World) (m : ℕ) (v : Value) → Faithful g V w
+voted_leavers : (g : Group) (V : Views) (w : World) (m : ℕ) (v : Value) → IsGroup g → Faithful g V w
     → IsToPropose g w m v ⊎ IsToAccept g w m v → v.leavers < 2 ^ roster g
-voted_leavers g V w m v f (inl (may, inl t)) = shown_leavers g V w m t.0 v f t.2
-voted_leavers g V w m v f (inl (may, inr t)) = rw t.1.leavers (in_roster_small (roster g) (w.suspects m)
-    (λ i h. f.views.within (w.past.view m) i (f.suspicions.part m i h)))
-voted_leavers g V w m v f (inr t) = shown_leavers g V w m _ v f t.1
+voted_leavers g V w m v is f (inl (may, inl t)) = shown_leavers g V w m t.0 v f t.2
+voted_leavers g V w m v is f (inl (may, inr t)) =
+    rw t.1.leavers (in_roster_small (roster g) (w.suspects m) (named_in_roster g V w m is f))
+voted_leavers g V w m v is f (inr t) = shown_leavers g V w m _ v f t.1
 
 voted_trims : (g : Group) (V : Views) (w : World) (m : ℕ) (v : Value) → Faithful g V w
     → IsToPropose g w m v ⊎ IsToAccept g w m v → (s : ℕ) → slice_index v.trim s < 2 ^ 32
@@ -139,9 +141,9 @@ voted_trims g V w m v f (inl (may, inr t)) = first_trims g V w m v f t.1
 voted_trims g V w m v f (inr t) = shown_trims g V w m _ v f t.1
 
 -- the vote waits to be acted on
-pub vote_keeps : (g : Group) (V : Views) (w : World) (m : ℕ) (v : Value) → CanLogVote g w m v
+pub vote_keeps : (g : Group) (V : Views) (w : World) (m : ℕ) (v : Value) → IsGroup g → CanLogVote g w m v
     → Faithful g V w → Faithful g V (logs_vote g w m v)
-vote_keeps g V w m v can f = record {
+vote_keeps g V w m v is can f = record {
   beginning = f.beginning;
   views = f.views;
   items = f.items;
@@ -168,7 +170,7 @@ vote_keeps g V w m v can f = record {
     this = record {
       ballot = refl;
       above = not_yet g V w m v can f;
-      leavers = voted_leavers g V w m v f can.allowed;
+      leavers = voted_leavers g V w m v is f can.allowed;
       trims = voted_trims g V w m v f can.allowed;
     }
 
@@ -284,7 +286,8 @@ suspicions_after : (g : Group) (V : Views) (w : World) (m : ℕ) (x : Vote) → 
     → w.pending m ≡ Some x → Faithful g V w
     → AreSuspicions g V w.past.view w.suspects w.promise (accepts g w m).past.own
 suspicions_after g V w m x is e f = record {
-  part = f.suspicions.part;
+  named = f.suspicions.named;
+  inside = f.suspicions.inside;
   trusted = f.suspicions.trusted;
   told = λ i. plain_after g w m i (w.past.view i) SUSPECTED_COLUMN (omega arith) ∙ f.suspicions.told i;
   final = λ i s d h. rw (plain_after g w m i (w.past.view i) (recv_column s)
@@ -374,9 +377,9 @@ words_after g V w m f = record {
         (λ a. tells_accept g V new m (w.past.view m) c _ (accept_within (roster g) (w.members m) c a))
 
 -- the members stay faithful
-pub accept_keeps : (g : Group) (V : Views) (w : World) (m : ℕ) (x : Vote) → IsGroup g
+pub accept_keeps : (g : Group) (V : Views) (w : World) (m : ℕ) (x : Vote) → IsGroup g → IsInView w m
     → w.pending m ≡ Some x → Faithful g V w → Faithful g V (accepts g w m)
-accept_keeps g V w m x is e f = record {
+accept_keeps g V w m x is inside e f = record {
   beginning = f.beginning;
   views = f.views;
   items = f.items;
@@ -387,11 +390,11 @@ accept_keeps g V w m x is e f = record {
   words = words_after g V w m f;
   logs = f.logs;
   delivered = record {
-    held = λ a i l h. rw (plain_after g w m i (w.past.view a) RECEIVED_COLUMN (omega arith))
-        (f.delivered.held a i l h);
+    held = λ a i h. rw (plain_after g w m i (w.past.view a) RECEIVED_COLUMN (omega arith))
+        (f.delivered.held a i h);
   };
-  fresh = fresh_written w.past.view w.past.own w.past.count m (w.past.view m) (accepted_row g w m)
-      (le_refl (w.past.view m)) f.fresh;
+  fresh = fresh_written V w.past.view w.past.own w.past.count m (w.past.view m) (accepted_row g w m)
+      (le_refl (w.past.view m)) (in_view g V w m f inside) f.fresh;
   closed = closed_written g V w.past.view w.past.own m (accepted_row g w m) f.closed;
   old = old_later g w.past.view w.past.own (accepts g w m).past.own w.table w.seen
       (own_after g V w m x e f) f.old;

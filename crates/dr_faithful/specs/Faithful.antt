@@ -1,25 +1,25 @@
 -- What is true of every world that is reached: each word tells the truth of its owner, and each item is as
 -- its sender put it.
 -- V gives the members of each view, as a mask, by the view's number.
-use Rattle.std.specs.Prelude.{◌≡◌, ◌≢◌, ℕ, ◌+◌, ◌^◌, ◌<◌, ◌≤◌, true, false, List, length, map, slice_index, Option, Some}
+use Rattle.std.specs.Prelude.{◌≡◌, ◌≢◌, ◌⊎◌, ℕ, ◌+◌, ◌^◌, ◌<◌, ◌≤◌, true, false, List, length, map, slice_index, Option, Some}
 use Rattle.dr_entry.specs.declared.entry.Entry.{Entry}
 use Rattle.dr_entry.specs.declared.entry.Item.{Item}
 use Rattle.dr_entry.specs.declared.record.Value.{Value}
 use Rattle.dr_entry.specs.declared.record.Vote.{Vote}
-use Rattle.dr_history.specs.Order.{messages_from}
+use Rattle.dr_history.specs.Order.{IsLateIn, IsNewIn, MayJoin, messages_from}
 use Rattle.dr_history.specs.Members.{has, members_of}
 use Rattle.dr_history.specs.Places.{front_of}
-use Rattle.dr_history.specs.History.{IsPrefixOf, Sent, messages_of}
+use Rattle.dr_history.specs.History.{IsPrefixOf, Sent, last_view, messages_of}
 use Rattle.dr_words.specs.Rewrites.{is_accept_of}
-use Rattle.dr_words.specs.declared.column.TheConstants.{SUSPECTED_COLUMN, RECEIVED_COLUMN}
+use Rattle.dr_words.specs.declared.column.TheConstants.{BEAT_COLUMN, SUSPECTED_COLUMN, RECEIVED_COLUMN}
 use Rattle.dr_words.specs.Accepts.{part_of}
 use Rattle.dr_words.specs.Columns.{recv_column}
 use Rattle.dr_words.specs.Form.{IsInForm}
 use Rattle.dr_words.specs.Grown.{HasGrown}
-use Rattle.dr_words.specs.Masks.{IsPartOf, least_of, without}
+use Rattle.dr_words.specs.Masks.{least_of, next_members, without}
 use Rattle.dr_words.specs.Packing.{accept_promise, accept_tag, accept_value, recv_count, is_final}
 use Rattle.dr_machine.specs.Effects.{finished_history}
-use Rattle.dr_machine.specs.Guards.{CanFinish}
+use Rattle.dr_machine.specs.Guards.{CanFinish, CanJoin}
 use Rattle.dr_machine.specs.Group.{Group, IsPresent, roster}
 use Rattle.dr_machine.specs.Sending.{IsPut}
 use Rattle.dr_machine.specs.World.{Table, World}
@@ -37,10 +37,13 @@ Items = ℕ → ℕ → ℕ → Item
 pub record IsBeginning (g : Group) : Type 0 where
   pub all : (m : ℕ) → has g.opening.members m ≡ true → IsPresent g m
 
--- each member that is there is in a view, and each view is of members of the roster
-pub record AreInViews (g : Group) (V : Views) (view members : ℕ → ℕ) : Type 0 where
+-- each member has a view of the roster, and is in it, but for a late one that hasn't joined. Where it was in the
+-- one that it came from, that is the one of the number before, and the other way round
+pub record AreInViews (g : Group) (V : Views) (view members came_from : ℕ → ℕ) : Type 0 where
   pub own : (m : ℕ) → members m ≡ V (view m)
-  pub present : (m : ℕ) → IsPresent g m → has (V (view m)) m ≡ true
+  pub came : (m : ℕ) → has (came_from m) m ≡ true → (u : ℕ) × (view m ≡ u + 1) × (came_from m ≡ V u)
+  pub back : (m u : ℕ) → view m ≡ u + 1 → has (V u) m ≡ true → came_from m ≡ V u
+  pub present : (m : ℕ) → has g.opening.members m ≡ true → has (V (view m)) m ≡ true
   pub within : (v m : ℕ) → has (V v) m ≡ true → m < roster g
 
 -- the items that members have are those that their senders have put
@@ -70,12 +73,14 @@ pub record AreCounts (g : Group) (V : Views) (view suspects : ℕ → ℕ)
   -- nobody has more items of a sender than some member has messages
   pub few : (m v s : ℕ) → (t : ℕ) × (count m v s ≤ length (messages_of g.opening t))
 
--- a member suspects other members of its view alone, and its own words say whom. Once it suspects somebody
--- its recv words are final, and its accept words have its promise, which is the least member that it doesn't
--- suspect
+-- a member suspects other members of its view, and wishes for late ones that are in no view so far, and its
+-- own words say whom. Once it names somebody it is in its view, its recv words are final, and its accept words
+-- have its promise, which is the least member of the view that it doesn't suspect
 pub record AreSuspicions (g : Group) (V : Views) (view suspects promise : ℕ → ℕ)
     (own : Numbers) : Type 0 where
-  pub part : (m : ℕ) → IsPartOf (suspects m) (V (view m))
+  pub named : (m j : ℕ) → has (suspects m) j ≡ true
+      → (has (V (view m)) j ≡ true) ⊎ IsNewIn g.opening V (view m) j
+  pub inside : (m : ℕ) → suspects m ≢ 0 → has (V (view m)) m ≡ true
   pub trusted : (m : ℕ) → has (suspects m) m ≡ false
   pub told : (m : ℕ) → own m (view m) SUSPECTED_COLUMN ≡ suspects m
   pub final : (m s : ℕ) → suspects m ≢ 0 → has (V (view m)) s ≡ true
@@ -104,23 +109,34 @@ pub record AreAccepts (g : Group) (V : Views) (view promise tag : ℕ → ℕ) (
   pub low : (m : ℕ) → tag m ≤ promise m + 1
   pub waits : (m : ℕ) (x : Vote) → pending m ≡ Some x → IsWaiting g (promise m) (tag m) x
 
--- the log of a member is a front of its history, and what it knows to be durable is on all logs
+-- what a member in a view knows to be durable stands on its own log, on those of all members of some view that
+-- has come, and on those of all members of its view that aren't late
+pub record StandsOnLogs (g : Group) (V : Views) (log : ℕ → List Entry) (m view durable : ℕ) : Type 0 where
+  pub own : durable ≤ length (log m)
+  pub since : ℕ
+  pub come : since ≤ view
+  pub logged : (i : ℕ) → has (V since) i ≡ true → durable ≤ length (log i)
+  pub stayed : (i : ℕ) → has (V view) i ≡ true → has g.opening.members i ≡ true
+      → durable ≤ length (log i)
+
+-- the log of a member is a front of its history, and what it knows to be durable is on logs
 pub record AreLogs (g : Group) (V : Views) (view : ℕ → ℕ) (acts durable : ℕ → ℕ)
     (log history : ℕ → List Entry) : Type 0 where
   pub bounded : (m : ℕ) → acts m < 2 ^ 64
   pub front : (m : ℕ) → IsPrefixOf (log m) (history m)
-  -- what a member knows to be durable stands on the logs of all members of its view
-  pub safe : (m i : ℕ) → IsPresent g m → has (V (view m)) i ≡ true → durable m ≤ length (log i)
+  pub safe : (m : ℕ) → IsPresent g m → StandsOnLogs g V log m (view m) (durable m)
   pub small : (m : ℕ) → durable m < 2 ^ 64
 
 -- a member has delivered only places that every member of its view holds
-pub record AreDelivered (g : Group) (V : Views) (view next : ℕ → ℕ) (own : Numbers) : Type 0 where
-  pub held : (m i : ℕ) → IsPresent g m → has (V (view m)) i ≡ true → next m
+pub record AreDelivered (V : Views) (view next : ℕ → ℕ) (own : Numbers) : Type 0 where
+  pub held : (m i : ℕ) → has (V (view m)) i ≡ true → next m
       ≤ own i (view m) RECEIVED_COLUMN
 
--- in a view that it has not come to, a member has written no word and has no items
-pub record AreFresh (view : ℕ → ℕ) (own count : Numbers) : Type 0 where
+-- in a view that it has not come to, a member has written no word and has no items, and in one of which it is
+-- no member, none but its beat
+pub record AreFresh (V : Views) (view : ℕ → ℕ) (own count : Numbers) : Type 0 where
   pub unwritten : (m v c : ℕ) → view m < v → own m v c ≡ 0
+  pub outside : (m v c : ℕ) → has (V v) m ≡ false → c ≢ BEAT_COLUMN → own m v c ≡ 0
   pub empty : (m v s : ℕ) → view m < v → count m v s ≡ 0
 
 -- a word in the table is an older one of its owner, and a seen word an older one of the table
@@ -135,36 +151,57 @@ pub record AreInForm (g : Group) (own : Numbers) (table : Table) (seen : Numbers
   pub in_table : (v j i c : ℕ) → IsInForm (roster g) c (table v j i c)
   pub in_seen : (m i c : ℕ) → IsInForm (roster g) c (seen m i c)
 
--- the own words of member m in a view of these members that it has left: it suspected others of it alone,
+-- the own words of member m in a view of these members that it has left: it named others of it and late ones,
 -- each of its counts is final, and it has promised to accept what the least one proposes that it didn't
 -- suspect
 pub record IsClosed (g : Group) (view m : ℕ) (row : ℕ → ℕ) : Type 0 where
-  pub part : IsPartOf (row SUSPECTED_COLUMN) view
+  pub named : (j : ℕ) → has (row SUSPECTED_COLUMN) j ≡ true
+      → (has view j ≡ true) ⊎ IsLateIn g.opening j
   pub trusted : has (row SUSPECTED_COLUMN) m ≡ false
   pub wedged : row SUSPECTED_COLUMN ≢ 0
   pub final : (s : ℕ) → has view s ≡ true → is_final (row (recv_column s)) ≡ true
   pub promise : (c : ℕ) → is_accept_of (roster g) view c ≡ true
       → accept_promise (row c) ≡ least_of (without view (row SUSPECTED_COLUMN))
 
--- so are those of each member in each view that it has left
+-- so are those of each member in each of its views that it has left
 abbrev pub AreClosed : Group → Views → (ℕ → ℕ) → Numbers → Type 0
-AreClosed g V view own = (m v : ℕ) → v < view m → IsClosed g (V v) m (own m v)
+AreClosed g V view own = (m v : ℕ) → v < view m → has (V v) m ≡ true → IsClosed g (V v) m (own m v)
 
--- a member that ends its view with a value goes on as it should: it suspects somebody, the next view has
--- those that remain, and the member's history holds no more of its own messages than the script has
+-- all members of the view v that aren't late are of the view u
+abbrev pub HaveStayed : Group → Views → ℕ → ℕ → Type 0
+HaveStayed g V u v = (i : ℕ) → has (V v) i ≡ true → has g.opening.members i ≡ true → has (V u) i ≡ true
+
+-- a member that ends its view with a value goes on as it should: it is wedged, the next view has the members
+-- that come of this one, and the member's history holds no more of its own messages than the script has
 pub record GoesOnWell (g : Group) (V : Views) (w : World) (m : ℕ) (value : Value) : Type 0 where
   pub wedged : w.suspects m ≢ 0
-  pub next : V (w.past.view m + 1) ≡ without (w.members m) value.leavers
+  pub next : V (w.past.view m + 1) ≡ next_members (w.members m) value.leavers
+  pub stayed : HaveStayed g V (w.past.view m) (w.past.view m + 1)
   pub few : length (messages_from m (finished_history g w m value)) ≤ length (messages_of g.opening m)
 
--- and so does each that may end its view
-abbrev pub AllGoOn : Group → Views → World → Type 0
-AllGoOn g V w = (m : ℕ) → (can : CanFinish g w m) → GoesOnWell g V w m can.value
+-- a member that joins goes on as it should: its letter goes on from its history, to a later view of these
+-- members, the first one that it is in
+pub record JoinsWell (g : Group) (V : Views) (w : World) (m v members : ℕ) (letter : List Entry) : Type 0 where
+  pub later : w.past.view m < v
+  pub next : V v ≡ members
+  pub inside : has (V v) m ≡ true
+  pub first : (u : ℕ) → u < v → has (V u) m ≡ false
+  pub stayed : HaveStayed g V (w.past.view m) v
+  pub begins : IsPrefixOf (w.past.history m) letter
+  pub few : length (messages_from m letter) ≤ length (messages_of g.opening m)
+
+-- and so does each that may end its view or join, and whom a member may wish for is in no view so far
+pub record AllGoOn (g : Group) (V : Views) (w : World) : Type 0 where
+  pub finish : (m : ℕ) (can : CanFinish g w m) → GoesOnWell g V w m can.value
+  pub join : (m : ℕ) (can : CanJoin g w m) → JoinsWell g V w m (last_view (0, 0) can.letter).0
+      (last_view (0, 0) can.letter).1 can.letter
+  pub wish : (m j : ℕ) → IsPresent g m → MayJoin g.opening (w.past.history m) j
+      → IsNewIn g.opening V (w.past.view m) j
 
 -- the members of a group are faithful
 pub record Faithful (g : Group) (V : Views) (w : World) : Type 0 where
   pub beginning : IsBeginning g
-  pub views : AreInViews g V w.past.view w.members
+  pub views : AreInViews g V w.past.view w.members w.came_from
   pub items : AreItems g V w.past.view w.past.count w.item w.past.sent
   pub sent : AreSent g w.past.view w.base w.past.sent w.past.count
   pub counts : AreCounts g V w.past.view w.suspects w.past.own w.past.count
@@ -172,8 +209,8 @@ pub record Faithful (g : Group) (V : Views) (w : World) : Type 0 where
   pub accepts : AreAccepts g V w.past.view w.promise w.tag w.value w.pending w.past.own
   pub words : WordsTell g V w
   pub logs : AreLogs g V w.past.view w.past.acts w.past.durable w.past.log w.past.history
-  pub delivered : AreDelivered g V w.past.view w.next w.past.own
-  pub fresh : AreFresh w.past.view w.past.own w.past.count
+  pub delivered : AreDelivered V w.past.view w.next w.past.own
+  pub fresh : AreFresh V w.past.view w.past.own w.past.count
   pub closed : AreClosed g V w.past.view w.past.own
   pub old : AreOld g w.past.view w.past.own w.table w.seen
   pub form : AreInForm g w.past.own w.table w.seen

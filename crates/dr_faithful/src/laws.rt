@@ -2,7 +2,7 @@
 ghost use Rattle.std.specs.Prelude.{◌≡◌, ◌≢◌, ◌<◌, true, ℕ, List, [], ◌∷◌};
 ghost use Rattle.dr_history.specs.Members.{has};
 ghost use Rattle.dr_machine.specs.declared.event.Event.{Event};
-ghost use Rattle.dr_machine.specs.Group.{Group, IsGroup, IsPresent, roster};
+ghost use Rattle.dr_machine.specs.Group.{Group, IsGroup, roster};
 ghost use Rattle.dr_machine.specs.Guards.{unsuspected_of};
 ghost use Rattle.dr_machine.specs.World.{Table, World, opening_world};
 ghost use Rattle.dr_machine.specs.Acts.{Guard, effect};
@@ -41,7 +41,7 @@ pub fn late_words_do_no_harm()
 pub fn suspicions_are_told()
     ensures words { (g : Group) (V : Views) (w : World) → Faithful g V w → SuspicionsTold g w }
     ensures promise { (g : Group) (V : Views) (w : World) (m : ℕ) → IsGroup g → Faithful g V w
-        → IsPresent g m → w.suspects m ≢ 0 → IsLeastOf (unsuspected_of w m) (w.promise m) }
+        → w.suspects m ≢ 0 → IsLeastOf (unsuspected_of w m) (w.promise m) }
 {}
 
 /// No event makes a word fall: own words, those in the table and those that were seen only grow, while

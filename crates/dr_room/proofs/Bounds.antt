@@ -11,12 +11,13 @@ use Rattle.dr_history.specs.History.{messages_of}
 use Rattle.dr_history.specs.Order.{first_entries}
 use Rattle.dr_history.proofs.Fronts.{count_max}
 use Rattle.dr_machine.specs.declared.step.Step.{Step}
+use Rattle.dr_machine.proofs.Presence.{late_few}
 use Rattle.dr_machine.specs.Group.{Group, IsGroup, roster, banks}
 use Rattle.dr_machine.specs.World.{World}
 use Rattle.dr_machine.specs.Acts.{CanTake, effect_of}
 use Rattle.dr_machine.specs.Run.{IsReached}
 use Rattle.dr_program.specs.Replica.{Replica, greatest}
-use Rattle.dr_program.specs.Reading.{world_of}
+use Rattle.dr_program.specs.Reading.{Shared, world_of}
 use Rattle.dr_program.proofs.Holdings.{held_of}
 use Rattle.dr_program.proofs.OpeningForm.{greatest_within}
 use Rattle.dr_world_laws.proofs.Rooms.{history-short, view-below}
@@ -33,7 +34,7 @@ use Rattle.std.specs.Prelude.{Option}
 first_length : (g : Group) → length (first_entries g.opening) ≡ length g.opening.start + 1
 first_length g = length-append g.opening.start (View g.opening.age 0 g.opening.members ∷ [])
 
-greatest_at : (totals : List ℕ) (i : ℕ) → slice_index totals i ≤ greatest totals
+pub greatest_at : (totals : List ℕ) (i : ℕ) → slice_index totals i ≤ greatest totals
 greatest_at totals i = elim (cases_lt i (length totals)) [
   | inl within ↦ count_max totals 0 i within
   | inr past ↦ omega (arith, get_or_past totals i 0 past)
@@ -48,7 +49,7 @@ each_is g s = get_or-map length g.opening.messages s []
 
 -- a history has no more than the start, a View for each bank, and the messages that the script can give the
 -- roster
-history_below : (g : Group) (w : World) (m most : ℕ) → IsGroup g → IsReached g w → m < roster g
+pub history_below : (g : Group) (w : World) (m most : ℕ) → IsGroup g → IsReached g w → m < roster g
     → ((s : ℕ) → length (messages_of g.opening s) ≤ most)
     → length (w.past.history m) ≤ length g.opening.start + banks g + most * roster g
 history_below g w m most is r l few =
@@ -69,28 +70,29 @@ history_bounded g w m is r l = history_below g w m (greatest (messages_each g)) 
 
 -- no script gives more
 pub history_small : (g : Group) (w : World) (m : ℕ) → IsGroup g → IsReached g w → m < roster g
-    → length (w.past.history m) ≤ length g.opening.start + MAX_MEMBERS + MAX_MESSAGES * MAX_MEMBERS
+    → length (w.past.history m) ≤ length g.opening.start + 2 * MAX_MEMBERS + MAX_MESSAGES * MAX_MEMBERS
 history_small g w m is reached l =
     let each : greatest (messages_each g) ≤ MAX_MESSAGES =
     greatest_within (messages_each g) 0 MAX_MESSAGES
     (omega arith) (λ s. omega (arith, each_is g s, is.messages s)) in
     let product = mul-le-mul each is.most_members in
-    omega (arith, history_bounded g w m is reached l, product, is.most_members)
+    omega (arith, history_bounded g w m is reached l, product, is.most_members, late_few g)
 
 -- ---- room
 
 -- the room for a step is there by itself
-pub has_room : (g : Group) (rs : List (Option Replica)) (table : List ℕ) (m : ℕ) (r : Replica) (s : Step)
+pub has_room : (g : Group) (rs : List (Option Replica)) (table : Shared) (m : ℕ) (r : Replica) (s : Step)
     → IsMember g rs table m r
     → length g.opening.start + banks g + greatest r.totals * roster g < r.room
-    → IsReached g (world_of g rs table) → CanTake g (world_of g rs table) m s → HasRoomFor r s
+    → IsReached g (world_of g rs table) → CanTake g (world_of g rs table) m s
+    → HasRoomFor r s
 has_room g rs table m r s is room reached can =
     room_by g rs table m r s is can
     (omega (arith, short w reached, ap (λ h. length h.history) (held_of g rs table m r is.there), room))
     counts (omega (arith, short after goes_on, room))
     (λ can. omega (
       arith,
-      (all_go_on g w is.group (known g w is.group reached) m can).few,
+      ((all_go_on g w is.group (known g w is.group reached)).finish m can).few,
       ap length is.of.messages,
     ))
   where

@@ -18,7 +18,7 @@ AreExcludedSo w = (m next : ℕ) → w.end m ≡ Some (Excluded next) → IsExcl
 
 ends_so : (w : World) (m next : ℕ) → AreExcludedSo w → EndsSo w m (Excluded next) → IsExcluded w m next
 ends_so w m next old (inl before) = old m next before
-ends_so w m next old (inr (inl due)) = due
+ends_so w m next old (inr (inl due)) = due.1
 ends_so w m next old (inr (inr fault)) = absurd fault
 
 -- a member that stands as it did is excluded as it was

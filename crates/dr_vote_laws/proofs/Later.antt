@@ -87,7 +87,8 @@ original_on g V own new votes more v b x within grew late t = record {
     source (inl f) = inl record {
       none = λ i c y h voted. first i c y h (none i c y h voted);
       leavers = f.leavers;
-      leaver = f.leaver;
+      newcomers = f.newcomers;
+      named = f.named;
       trims = λ s m. least_on g V own new v t.mask s _ grew (within s m) (λ i h. t.final i s h m)
           (f.trims s m);
     }

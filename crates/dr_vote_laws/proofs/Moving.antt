@@ -1,14 +1,15 @@
--- A member ends its view and goes on in the next one: what is true of votes stays so.
-use Rattle.std.proofs.Common.{None, Option, Some, arith, inl, inr, length, refl, subst, sym, true, ℕ, ◌+◌, ◌∙◌, ◌≡◌, ◌≢◌, ◌⊎◌}
+-- A member goes on in a later view: what is true of votes stays so.
+use Rattle.std.proofs.Common.{List, None, Option, Some, arith, inl, inr, length, refl, subst, sym, true, ℕ, ◌+◌, ◌<◌, ◌∙◌, ◌≡◌, ◌≢◌, ◌⊎◌}
 use Rattle.std.proofs.lemmas.Bool.{cases_eq}
 use Rattle.dr_entry.specs.declared.record.Value.{Value}
 use Rattle.dr_entry.specs.declared.record.Vote.{Vote}
-use Rattle.dr_machine.specs.Effects.{finishes_by}
+use Rattle.dr_entry.specs.declared.entry.Entry.{Entry}
+use Rattle.dr_machine.specs.Effects.{enters}
 use Rattle.dr_machine.specs.Group.{Group, roster}
 use Rattle.dr_machine.specs.Votes.{HasLogged, HasVoted, MajorityHas, Votes, vote_in}
 use Rattle.dr_machine.specs.World.{Table, World, no_value}
 use Rattle.dr_machine.specs.Writes.{at}
-use Rattle.dr_faithful.proofs.Finishes.{finish_grew}
+use Rattle.dr_faithful.proofs.Finishes.{enter_grew}
 use Rattle.dr_faithful.proofs.Writes.{at_other, at_same, at₃_column}
 use Rattle.dr_faithful.specs.Faithful.{Faithful, Numbers}
 use Rattle.dr_faithful.specs.Tells.{Views}
@@ -72,15 +73,16 @@ moved_votes g V view tag value committed pending own table seen votes m next x i
         by (inl e) = subst P (sym e) mine
         by (inr d) = other d
 
--- so it is where a member ends its view
-pub finish_votes : (g : Group) (V : Views) (w : World) (m : ℕ) (x : Value) → w.pending m ≡ None
-    → Faithful g V w → Voting g V w → Voting g V (finishes_by g w m x)
-finish_votes g V w m x idle f old =
-    same_accepts g V (at w.past.view m (w.past.view m + 1)) (at w.tag m 0) (at w.value m no_value)
-    (at w.committed m None) w.pending w.past.own (finishes_by g w m x).past.own w.table w.table
-    (at w.seen m (λ i c. 0)) w.past.votes (λ v s h. f.views.within v s h) (finish_grew g V w m x f).own
-    (λ i v c b. at₃_column w.past.own m (w.past.view m + 1) LOGGED_COLUMN (length (w.past.log m)) i v c
-    (omega (arith, b.0)))
+-- so it is where a member goes on in a later view
+pub enter_votes : (g : Group) (V : Views) (w : World) (m to members : ℕ) (history : List Entry)
+    → w.pending m ≡ None → w.past.view m < to → Faithful g V w → Voting g V w
+    → Voting g V (enters w m to members history)
+enter_votes g V w m to members history idle later f old =
+    same_accepts g V (at w.past.view m to) (at w.tag m 0) (at w.value m no_value)
+    (at w.committed m None) w.pending w.past.own (enters w m to members history).past.own w.table w.table
+    (at w.seen m (λ i c. 0)) w.past.votes (λ v s h. f.views.within v s h)
+    (enter_grew g V w m to members history later f).own
+    (λ i v c b. at₃_column w.past.own m to LOGGED_COLUMN (length (w.past.log m)) i v c (omega (arith, b.0)))
     (λ v j i c b. refl)
     (moved_votes g V w.past.view w.tag w.value w.committed w.pending w.past.own w.table w.seen
-    w.past.votes m (w.past.view m + 1) no_value idle old)
+    w.past.votes m to no_value idle old)

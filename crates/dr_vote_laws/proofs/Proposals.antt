@@ -9,7 +9,7 @@ use Rattle.dr_machine.specs.Group.{Group, IsGroup, roster}
 use Rattle.dr_machine.specs.Guards.{CanLogVote, IsToPropose, unsuspected_of}
 use Rattle.dr_machine.specs.Votes.{HasLogged, HasVoted, vote_in}
 use Rattle.dr_machine.specs.World.{World, shown}
-use Rattle.dr_faithful.proofs.Suspicions.{mask_small, members_small}
+use Rattle.dr_faithful.proofs.Suspicions.{members_small, named_in_roster}
 use Rattle.dr_faithful.proofs.Votes.{own_promise}
 use Rattle.dr_faithful.specs.Faithful.{Faithful}
 use Rattle.dr_faithful.specs.Tells.{Views}
@@ -18,7 +18,7 @@ use Rattle.dr_vote_laws.proofs.Logs.{logged_before, logged_stays}
 use Rattle.dr_vote_laws.proofs.Rows.{no_vote_yet, not_torn, shown_grown, shows_voted}
 use Rattle.dr_vote_laws.specs.Tells.{TellsVote}
 use Rattle.dr_vote_laws.specs.Voting.{IsFirst, IsLater, IsOriginal, Voting}
-use Rattle.dr_words.proofs.Masks.{has_without_mask}
+use Rattle.dr_words.proofs.Masks.{has_without_mask, in_roster_small}
 use Rattle.dr_words.proofs.Ranks.{least_member}
 use Rattle.dr_words.proofs.Accepts.{leavers_accept, all_promised}
 use Rattle.dr_words.specs.Accepts.{Shows, tag_of}
@@ -162,7 +162,8 @@ first : (g : Group) (V : Views) (w : World) (m : ℕ) (v : Value) → IsGroup g 
 first g V w m v is some may f old untagged fresh = record {
   none = λ j b y h there. none j b y h (old_or_new g V w m j b v y f may there) (cases_lt b m);
   leavers = λ i h. leavers i (ap (λ z. has z i) (f.views.own m) ∙ h) (unsuspected_is g V w m i is f);
-  leaver = leaver;
+  newcomers = λ i h. f.suspicions.named m i (sym (ap (λ z. has z i) fresh.leavers) ∙ h);
+  named = named;
   trims = λ s h. trims s (ap (λ z. has z s) (f.views.own m) ∙ h);
 }
   where
@@ -173,12 +174,12 @@ first g V w m v is some may f old untagged fresh = record {
     none j b y h (inl there) (inl l) =
         absurd (omega (arith, passed g V w m j b y may old h there l, untagged j h))
 
-    leaver : (i : ℕ) × (has (V (w.past.view m)) i ≡ true) × (has v.leavers i ≡ true)
-    leaver =
+    named : (i : ℕ) × (has v.leavers i ≡ true)
+    named =
         let least = least_member (w.suspects m) (omega (arith, some))
-        (mask_small g V w (w.suspects m) (w.past.view m) is f (f.suspicions.part m)) in (
+        (in_roster_small 16 (w.suspects m)
+        (λ i h. le_trans (named_in_roster g V w m is f i h) is.most_members)) in (
           trailing_zeros w16 (w.suspects m),
-          f.suspicions.part m (trailing_zeros w16 (w.suspects m)) least.member,
           ap (λ z. has z (trailing_zeros w16 (w.suspects m))) fresh.leavers ∙ least.member,
         )
 

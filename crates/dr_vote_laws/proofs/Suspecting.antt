@@ -3,10 +3,9 @@ use Rattle.std.proofs.Common.{Some, ap, arith, inl, inr, le_of_eq, refl, subst, 
 use Rattle.dr_entry.specs.declared.record.Value.{Value}
 use Rattle.dr_machine.specs.Effects.{suspects}
 use Rattle.dr_machine.specs.Group.{Group, IsGroup, roster}
-use Rattle.dr_machine.specs.Guards.{CanSuspect}
 use Rattle.dr_machine.specs.Votes.{vote_in}
 use Rattle.dr_machine.specs.World.{World, own_word}
-use Rattle.dr_faithful.proofs.Suspicions.{mask_after, promise_after, promise_rises, row_after, suspect_grew}
+use Rattle.dr_faithful.proofs.Suspicions.{MayName, mask_after, promise_after, promise_rises, row_after, suspect_grew}
 use Rattle.dr_faithful.proofs.Writes.{at₂_case, at₂_read}
 use Rattle.dr_faithful.specs.Faithful.{Faithful}
 use Rattle.dr_faithful.specs.Tells.{Views}
@@ -41,7 +40,7 @@ promise_now g w m j =
     (leavers_accept (roster g) (w.members m))
 
 -- each accept word of the row tells
-row_votes : (g : Group) (V : Views) (w : World) (m j c : ℕ) → IsGroup g → CanSuspect g w m j
+row_votes : (g : Group) (V : Views) (w : World) (m j c : ℕ) → IsGroup g → MayName g V w m j
     → Faithful g V w → Voting g V w → is_accept_of (roster g) (V (w.past.view m)) c ≡ true
     → TellsVote g (suspects g w m j).past.own w.past.votes m (w.past.view m) c (row_after g w m j c)
 row_votes g V w m j c is can f old a = record {
@@ -83,7 +82,7 @@ row_votes g V w m j c is can f old a = record {
     passed b x (inr waits) = absurd (cc (can.may.idle, waits))
 
 -- what is true of votes stays so
-pub suspect_votes : (g : Group) (V : Views) (w : World) (m j : ℕ) → IsGroup g → CanSuspect g w m j
+pub suspect_votes : (g : Group) (V : Views) (w : World) (m j : ℕ) → IsGroup g → MayName g V w m j
     → Faithful g V w → Voting g V w → Voting g V (suspects g w m j)
 suspect_votes g V w m j is can f old = record {
   valid = old.valid;

@@ -4,7 +4,9 @@ use Rattle.std.specs.Prelude.{◌≡◌, ℕ, ◌+◌, ◌<◌, ◌≤◌, ◌�
 use Rattle.dr_entry.specs.declared.limits.TheConstants.{MAX_MEMBERS}
 use Rattle.dr_entry.specs.declared.record.Value.{Value}
 use Rattle.dr_entry.specs.declared.record.Vote.{Vote}
+use Rattle.dr_history.specs.declared.opening.Opening.{Opening}
 use Rattle.dr_history.specs.Members.{has}
+use Rattle.dr_history.specs.Order.{IsNewIn}
 use Rattle.dr_words.specs.Changes.{IsLeastReceived}
 use Rattle.dr_words.specs.Columns.{recv_column}
 use Rattle.dr_words.specs.Masks.{IsMajorityOf, IsPartOf}
@@ -40,13 +42,14 @@ pub record AreActed (g : Group) (view tag : ℕ → ℕ) (value : ℕ → Value)
   pub waiting : (m : ℕ) (x : Vote) → pending m ≡ Some x → HasLogged votes m x × (x.view ≡ view m)
 
 -- nobody of the mask has a vote of the view by a ballot below this one, and the value is the first one: the
--- others of the view leave, at least one, and of each member as much is delivered as all of the mask have
--- received
+-- others of the view leave, late members that are in no view so far come, one of these at least is named, and
+-- of each member as much is delivered as all of the mask have received
 pub record IsFirst (g : Group) (V : Views) (own : Numbers) (votes : Votes) (v b mask : ℕ)
     (x : Value) : Type 0 where
   pub none : (i c : ℕ) (y : Value) → has mask i ≡ true → HasVoted g votes i v c y → b ≤ c
   pub leavers : (i : ℕ) → has (V v) i ≡ true → has x.leavers i ≡ not (has mask i)
-  pub leaver : (i : ℕ) × (has (V v) i ≡ true) × (has x.leavers i ≡ true)
+  pub newcomers : (i : ℕ) → has x.leavers i ≡ true → (has (V v) i ≡ true) ⊎ IsNewIn g.opening V v i
+  pub named : (i : ℕ) × (has x.leavers i ≡ true)
   pub trims : (s : ℕ) → has (V v) s ≡ true
       → IsLeastReceived (λ i c. own i v c) mask s (slice_index x.trim s)
 
@@ -105,15 +108,17 @@ HaveVotedFor votes members v b x = MajorityHas votes members (λ z. IsOf z v b �
 abbrev pub IsChosen : Views → Votes → ℕ → ℕ → Value → Type 0
 IsChosen V votes v b x = HaveVotedFor votes (V v) v b x
 
--- the value lets the others than the members of a mask leave, at least one: the mask has more than
--- half of the view, the counts of its members are final, and the value's trims are the least of these counts
-pub record IsCut (members : ℕ) (own : Numbers) (v : ℕ) (x : Value) : Type 0 where
+-- the value lets the others than the members of a mask leave the view, and late members come that are in no
+-- view so far, and it names somebody: the mask has more than half of the view, the counts of its members are
+-- final, and the value's trims are the least of these counts
+pub record IsCut (o : Opening) (V : Views) (own : Numbers) (v : ℕ) (x : Value) : Type 0 where
   pub mask : ℕ
-  pub part : IsPartOf mask members
-  pub majority : IsMajorityOf mask members
-  pub final : (i s : ℕ) → has mask i ≡ true → has members s ≡ true
+  pub part : IsPartOf mask (V v)
+  pub majority : IsMajorityOf mask (V v)
+  pub final : (i s : ℕ) → has mask i ≡ true → has (V v) s ≡ true
       → is_final (own i v (recv_column s)) ≡ true
-  pub leavers : (i : ℕ) → has members i ≡ true → has x.leavers i ≡ not (has mask i)
-  pub leaver : (i : ℕ) × (has members i ≡ true) × (has x.leavers i ≡ true)
-  pub trims : (s : ℕ) → has members s ≡ true
+  pub leavers : (i : ℕ) → has (V v) i ≡ true → has x.leavers i ≡ not (has mask i)
+  pub newcomers : (i : ℕ) → has x.leavers i ≡ true → (has (V v) i ≡ true) ⊎ IsNewIn o V v i
+  pub named : (i : ℕ) × (has x.leavers i ≡ true)
+  pub trims : (s : ℕ) → has (V v) s ≡ true
       → IsLeastReceived (λ i c. own i v c) mask s (slice_index x.trim s)

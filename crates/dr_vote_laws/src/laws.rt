@@ -57,11 +57,12 @@ pub fn votes_are_one()
         → early.past.view m ≡ late.past.view k → u ≡ v }
 {}
 
-/// Each value that somebody has voted for lets a minority of its view leave. The counts of those that stay
-/// are final, and of each member as many items are delivered as all of these have received.
+/// Each value that somebody has voted for names somebody: it lets a minority of its view leave, and takes in late
+/// members that are in no view so far. The counts of those that stay are final, and of each member as many items
+/// are delivered as all of these have received.
 pub fn votes_are_cuts()
     ensures { (g : Group) (V : Views) (w : World) (i : ℕ) (x : Vote) → Voting g V w
-        → HasLogged w.past.votes i x → IsCut (V x.view) w.past.own x.view x.value }
+        → HasLogged w.past.votes i x → IsCut g.opening V w.past.own x.view x.value }
 {}
 
 /// A member is excluded only by the value that it has committed, which names it, and by the next view.

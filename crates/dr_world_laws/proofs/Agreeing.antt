@@ -1,5 +1,6 @@
 -- The histories of a world that is reached agree, and a member that is done holds everything.
-use Rattle.std.proofs.Common.{◌≡◌, refl, ap, sym, ◌∙◌, ◌⊎◌, inl, inr, subst, ℕ, ◌<◌, ◌≤◌, arith, Bool, true, false, [], ◌∷◌, append-nil, take_at, ◌++◌, length, take, All, Contains, Option, Some, List, slice_get, get_or, IsSomeAnd, length-append}
+use Rattle.std.proofs.Common.{◌≡◌, ◌≢◌, refl, ap, sym, ◌∙◌, ◌⊎◌, inl, inr, subst, ℕ, ◌<◌, ◌≤◌, arith, Bool, true, false, [], ◌∷◌, append-nil, take_at, ◌++◌, length, take, All, Contains, Some, List, slice_get, get_or, length-append}
+use Rattle.std.proofs.lemmas.Bool.{cases_eq}
 use Rattle.std.proofs.lemmas.List.{nil_from_length, take_all}
 use Rattle.std.proofs.lemmas.Option.{slice_get-get_or}
 use Rattle.dr_entry.specs.declared.entry.Entry.{Entry}
@@ -7,7 +8,7 @@ use Rattle.dr_entry.specs.declared.entry.Entry.TheVariants.{View}
 use Rattle.dr_entry.specs.declared.end.End.TheVariants.{Done}
 use Rattle.dr_history.specs.Members.{has, members_of}
 use Rattle.dr_history.specs.History.{IsPrefixOf, GroupView, Sent, merge, messages_of, view_of}
-use Rattle.dr_history.specs.Order.{InOrder, first_entries, messages_from}
+use Rattle.dr_history.specs.Order.{InOrder, IsLateIn, first_entries, messages_from}
 use Rattle.dr_history.specs.Agreement.{Accounts, sent_by, SamePast, KnowsDurable, Agreed}
 use Rattle.dr_history.proofs.NumberedLemmas.{length-numbered_messages, messages_from-append}
 use Rattle.dr_history_laws.specs.Courses.{IsUncut, MayReach, course, view_in}
@@ -18,16 +19,17 @@ use Rattle.dr_history_laws.proofs.Merging.{laid-whole}
 use Rattle.dr_history_laws.proofs.Quiet.{no-more}
 use Rattle.dr_history_laws.proofs.Views.{SamePast-either}
 use Rattle.dr_words.specs.declared.column.TheConstants.{DONE_COLUMN}
-use Rattle.dr_machine.proofs.Presence.{in_roster, is_there}
+use Rattle.dr_machine.proofs.Presence.{in_roster}
 use Rattle.dr_machine.specs.Group.{Group, IsGroup, IsPresent, roster}
 use Rattle.dr_machine.specs.Guards.{HoldsAll}
 use Rattle.dr_machine.specs.World.{World}
 use Rattle.dr_machine.specs.Run.{accounts_in, WorldAgreed}
 use Rattle.dr_faithful.specs.Chosen.{Values, endings_by, views_by}
+use Rattle.dr_faithful.specs.Faithful.{StandsOnLogs}
+use Rattle.dr_world_laws.proofs.Holding.{view-there}
 use Rattle.dr_world_laws.specs.Historic.{IsMerged, head_by, view_numbered}
-use Rattle.dr_world_laws.proofs.Away.{ended-there, there-or-first}
 use Rattle.dr_world_laws.proofs.Completion.{done_shown}
-use Rattle.dr_world_laws.proofs.ChosenViews.{place-kept, views-of-first}
+use Rattle.dr_world_laws.proofs.ChosenViews.{place-kept, views-there}
 use Rattle.dr_world_laws.proofs.Finishing.{goes-any}
 use Rattle.dr_world_laws.proofs.Items.{held-next}
 use Rattle.dr_world_laws.proofs.Reached.{Known}
@@ -43,14 +45,14 @@ may-reach g values w m is y l = record {
     ended = λ u less. (y.laid.left m u l less).ended;
     goes = λ u less. goes-any g values w u is y.faithful y.laid.historic;
   };
-  held = held-next g (views_by g values) w m y.faithful (there-or-first g w m y.away);
+  held = held-next g (views_by g values) w m y.faithful y.outside l;
 }
 
 -- and where another member has come to a later view, it has passed no place that is cut off
 pub is-kept : (g : Group) (values : Values) (w : World) (m k : ℕ) → IsGroup g → Known g values w
     → m < roster g → k < roster g
     → IsUncut g.opening (endings_by g.opening values) (w.past.view m) (w.next m) (w.past.view k)
-is-kept g values w m k is y l r less = place-kept g values w m is y.faithful (there-or-first g w m y.away) (λ s there.
+is-kept g values w m k is y l r less = place-kept g values w m is y.faithful y.outside l (λ s there.
     let t = (y.laid.left k (w.past.view m) r less).least s there in (t.0, t.1, t.3))
 
 pub in-order : (g : Group) (values : Values) (w : World) (m : ℕ) → IsGroup g → Known g values w
@@ -87,39 +89,62 @@ pub record AreAccounts (g : Group) (w : World) (accounts : Accounts) : Type 0 wh
   pub log : (m : ℕ) → IsPresent g m → (accounts m).log ≡ w.past.log m
   pub durable : (m : ℕ) → IsPresent g m → (accounts m).durable ≡ w.past.durable m
 
--- what holds of the value of an option
-IsSomeAnd-of : {A : Type 0} (P : A → Type 0) (r : Option A) (x : A) → r ≡ Some x → P x
-    → IsSomeAnd r P
-IsSomeAnd-of P r x e p = rw e p
-
--- what a member knows to be durable stands on the logs of all members of its view
+-- what a member knows to be durable stands on logs: on those of all members of some view that it has come to,
+-- and, where nobody is late, of its view
 knows-durable : (g : Group) (values : Values) (w : World) (accounts : Accounts) (m : ℕ) → IsGroup g
-    → Known g values w → AreAccounts g w accounts → IsPresent g m → KnowsDurable accounts m
-knows-durable g values w accounts m is y told there = IsSomeAnd-of
-    (λ (v : GroupView). Contains v.members m
-    × All (λ j. (accounts m).durable ≤ length (accounts j).log) v.members)
-    (view_of (accounts m).history) (view_numbered g (views_by g values) (w.past.view m))
-    (ap view_of (told.history m there) ∙ the-view g values w m is y l) (
-      has-member mask m (y.faithful.views.present m there) (omega (arith, l, is.most_members)),
-      each,
-    )
+    → Known g values w → AreAccounts g w accounts → IsPresent g m → KnowsDurable g.opening accounts m
+knows-durable g values w accounts m is y told there = by (cases_eq g.opening.members g.opening.present)
   where
     l : m < roster g
     l = in_roster g m is there
 
-    mask : ℕ
-    mask = views_by g values (w.past.view m)
+    safe : StandsOnLogs g (views_by g values) w.past.log m (w.past.view m) (w.past.durable m)
+    safe = y.faithful.logs.safe m there
 
-    on_log : (j : ℕ) → has (views_by g values (w.past.view m)) j ≡ true
-        → (accounts m).durable ≤ length (accounts j).log
-    on_log j member =
-        rw (told.durable m there, told.log j (is_there g j is (views-of-first g values (w.past.view m) j is member)))
-        (y.faithful.logs.safe m j there member)
+    own : (accounts m).durable ≤ length (accounts m).log
+    own = rw (told.durable m there, told.log m there) safe.own
 
-    each : All (λ j. (accounts m).durable ≤ length (accounts j).log)
-        (members_of (views_by g values (w.past.view m)))
-    each k d within = on_log (get_or (members_of mask) k d)
-        (member-has mask k (get_or (members_of mask) k d) (slice_get-get_or (members_of mask) k d within))
+    held : (u : ℕ) → u ≤ w.past.view m
+        → Contains (accounts m).history (View g.opening.age u (views_by g values u))
+    held u come = subst (λ es. Contains es (View g.opening.age u (views_by g values u))) (sym (told.history m there))
+        (view-there g values w m u y.laid.historic l come)
+
+    each : (u : ℕ) → ((j : ℕ) → has (views_by g values u) j ≡ true → w.past.durable m ≤ length (w.past.log j))
+        → All (λ j. (accounts m).durable ≤ length (accounts j).log) (members_of (views_by g values u))
+    each u on_log k d within =
+        let j : ℕ = get_or (members_of (views_by g values u)) k d in
+        let member = member-has (views_by g values u) k j
+        (slice_get-get_or (members_of (views_by g values u)) k d within) in
+        rw (told.durable m there, told.log j (views-there g values u j is member)) (on_log j member)
+
+    -- where nobody is late, all members of its view are those with which the age opened
+    early : g.opening.members ≡ g.opening.present → (j : ℕ) → has (views_by g values (w.past.view m)) j ≡ true
+        → has g.opening.members j ≡ true
+    early nobody j member = ap (λ k. has k j) nobody
+        ∙ views-there g values (w.past.view m) j is member
+
+    by : (g.opening.members ≡ g.opening.present) ⊎ (g.opening.members ≢ g.opening.present)
+        → KnowsDurable g.opening accounts m
+    by (inl nobody) = record {
+      own = own;
+      number = w.past.view m;
+      members = views_by g values (w.past.view m);
+      view = held (w.past.view m) (omega arith);
+      logged = each (w.past.view m) (λ j member. safe.stayed j member (early nobody j member));
+      last = λ _. (
+        ap view_of (told.history m there) ∙ the-view g values w m is y l,
+        has-member (views_by g values (w.past.view m)) m
+            (y.faithful.views.present m (ap (λ k. has k m) nobody ∙ there)) (omega (arith, l, is.most_members)),
+      );
+    }
+    by (inr some) = record {
+      own = own;
+      number = safe.since;
+      members = views_by g values safe.since;
+      view = held safe.since safe.come;
+      logged = each safe.since safe.logged;
+      last = λ nobody. absurd (some nobody);
+    }
 
 -- so the members agree by all accounts that tell what they have done
 pub agreed-by : (g : Group) (values : Values) (w : World) (accounts : Accounts) → IsGroup g
@@ -154,7 +179,7 @@ agreed g values w is y = agreed-by g values w (accounts_in w) is y
 pub done-durable : (g : Group) (values : Values) (w : World) (m : ℕ) → Known g values w → m < roster g
     → w.end m ≡ Some Done → w.past.durable m ≡ length (w.past.history m)
 done-durable g values w m y l e = y.complete.durable m l
-    (done_shown g (views_by g values) w m y.faithful y.complete (ended-there g w m Done y.away e) e)
+    (done_shown g (views_by g values) w m y.faithful y.complete l e)
 
 -- a member that ended as done holds all messages of the members of its view
 pub done-whole : (g : Group) (values : Values) (w : World) (m : ℕ) → IsGroup g → Known g values w
@@ -169,7 +194,7 @@ done-whole g values w m is y l e s member =
     omega (
       arith,
       ((y.faithful.words.own m (w.past.view m) DONE_COLUMN).done refl).1
-          (done_shown g (views_by g values) w m y.faithful y.complete (ended-there g w m Done y.away e) e) s of_view,
+          (done_shown g (views_by g values) w m y.faithful y.complete l e) s of_view,
       ap (λ es. length (messages_from s es)) all,
       ap length numbered.1,
       length-append (messages_from s (w.past.history m)) numbered.0,
@@ -220,12 +245,12 @@ done-same g values w m k is y l e r d same =
     ++ merge g.opening w.past.sent v (counts_sent w.past.sent v)) same
     ∙ sym (done-merged g values w k is y r d)
 
--- nobody has a message that a member that is done lacks: as for the members of its view, it has all, and
--- who was no member of it any more has put none behind its history
+-- nobody has a message that a member that is done lacks, but of late members: as for the members of its view, it
+-- has all, and who was no member of it any more has put none behind its history
 pub done-lacks-none : (g : Group) (values : Values) (w : World) (m k s : ℕ) → IsGroup g → Known g values w
-    → m < roster g → w.end m ≡ Some Done → k < roster g
+    → ¬ IsLateIn g.opening s → m < roster g → w.end m ≡ Some Done → k < roster g
     → IsPrefixOf (messages_from s (w.past.history k)) (messages_from s (w.past.history m))
-done-lacks-none g values w m k s is y l e r = by (either-prefix g values w m k is y l r)
+done-lacks-none g values w m k s is y early l e r = by (either-prefix g values w m k is y l r)
   where
     mine : List Entry
     mine = w.past.history m
@@ -266,7 +291,7 @@ done-lacks-none g values w m k s is y l e r = by (either-prefix g values w m k i
         ap (take (length mine)) (sym p.1) ∙ take_at mine p.0 (length mine) refl in
         let first = (in-order g values w m is y l).begins in
         no-more g.opening w.past.sent theirs s (length mine)
-        (view_numbered g (views_by g values) (w.past.view m)) is.sound (in-order g values w k is y r)
+        (view_numbered g (views_by g values) (w.past.view m)) is.sound early (in-order g values w k is y r)
         (omega (
           arith,
           ap length first.1,

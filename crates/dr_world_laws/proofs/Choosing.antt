@@ -7,26 +7,28 @@ use Rattle.std.proofs.lemmas.Bool.{cases_eq, cases_lt}
 use Rattle.std.proofs.lemmas.List.Elements.{All-cons, All-head, All-nil, All-tail}
 use Rattle.std.proofs.lemmas.Option.{none-some}
 use Rattle.dr_entry.specs.declared.record.Value.{Value}
+use Rattle.std.specs.Prelude.{unwrap_or, false}
+use Rattle.dr_history.specs.History.{last_view}
+use Rattle.dr_history.specs.Members.{has}
 use Rattle.dr_machine.proofs.Events.{standing_after}
 use Rattle.dr_machine.proofs.Presence.{in_roster}
 use Rattle.dr_machine.proofs.Runs.{by_way}
 use Rattle.dr_machine.specs.Acts.{CanTake, Guard, effect, effect_of}
 use Rattle.dr_machine.specs.declared.event.Event.{Event}
 use Rattle.dr_machine.specs.declared.step.Step.{Step}
-use Rattle.dr_machine.specs.Effects.{commits as after_commit, finishes}
+use Rattle.dr_machine.specs.Effects.{commits as after_commit, finishes, joins}
 use Rattle.dr_machine.specs.Events.{member_of, step_of}
 use Rattle.dr_machine.specs.Group.{Group, IsGroup, IsPresent, roster}
-use Rattle.dr_machine.specs.Guards.{CanCommit}
+use Rattle.dr_machine.specs.Guards.{CanCommit, CanJoin}
 use Rattle.dr_machine.specs.Run.{ComesNext, HaveArrived, Way, with_table}
 use Rattle.dr_machine.specs.Votes.{IsOf, MajorityHas}
 use Rattle.dr_machine.specs.World.{Table, World, no_value}
 use Rattle.dr_machine.specs.Writes.{at}
 use Rattle.dr_faithful.proofs.Writes.{at_both, at_case, at_other, at_same}
-use Rattle.dr_faithful.specs.Chosen.{AreChosen, Values, views_by}
+use Rattle.dr_faithful.specs.Chosen.{AreChosen, Values, come_of, views_by}
 use Rattle.dr_vote_laws.proofs.Accepting.{commit_votes}
 use Rattle.dr_vote_laws.proofs.Values.{chosen_once, commits}
 use Rattle.dr_vote_laws.specs.Voting.{IsChosen}
-use Rattle.dr_words.specs.Masks.{without}
 use Rattle.dr_world_laws.proofs.ChosenViews.{views-first, views-next}
 use Rattle.dr_world_laws.proofs.Reached.{Known, known}
 use Rattle.dr_world_laws.proofs.ByValues.{IsReachedBy}
@@ -46,6 +48,9 @@ others_idle g w m s is can old = standing_after g w m s
     (λ x. (k : ℕ) → roster g ≤ k → (x.view k ≡ 0) × (x.committed k ≡ None)) can (record {
       goes_on = λ can. at_both (λ k v c. roster g ≤ k → (v ≡ 0) × (c ≡ None)) w.past.view w.committed m
           (w.past.view m + 1) None old (λ l. absurd (within can.may.alive.present l));
+      joins = λ can. at_both (λ k v c. roster g ≤ k → (v ≡ 0) × (c ≡ None)) w.past.view w.committed m
+          (last_view (0, 0) (unwrap_or (w.letter m) [])).0 None old
+          (λ l. absurd (within can.may.alive.present l));
       chooses = λ can. at_case (λ k c. roster g ≤ k → (w.past.view k ≡ 0) × (c ≡ None)) w.committed m
           (Some (w.value m)) (λ k d. old k) (λ l. absurd (within can.may.alive.present l));
       wedges = λ j can. old;
@@ -145,23 +150,50 @@ finish_back g w m v after k = by (cases_eq k m)
         (subst (λ c. IsBefore v (at w.past.view m (w.past.view m + 1) k) c) (at_other w.committed m None k d)
         (after k))
 
+-- whoever joins had the first view, and had committed nothing
+join_back : (g : Group) (values : Values) (w : World) (m v : ℕ) → IsGroup g → Known g values w → CanJoin g w m
+    → AreBefore (joins w m) v → AreBefore w v
+join_back g values w m v is y can after k = by (cases_eq k m)
+  where
+    to : ℕ
+    to = (last_view (0, 0) (unwrap_or (w.letter m) [])).0
+
+    out : has (views_by g values (w.past.view m)) m ≡ false
+    out = ap (λ x. has x m) (sym (y.faithful.views.own m)) ∙ can.outside
+
+    zero : w.past.view m ≡ 0
+    zero = (y.outside m (in_roster g m is can.may.alive.present) out).0
+
+    none : (c : Option Value) → w.committed m ≡ c → c ≡ None
+    none None e = refl
+    none (Some x) e = absurd (cc (y.faithful.suspicions.inside m (y.wedged m x e), out))
+
+    by : (k ≡ m) ⊎ (k ≢ m) → IsBefore v (w.past.view k) (w.committed k)
+    by (inl e) = subst (λ i. IsBefore v (w.past.view i) (w.committed i)) (sym e)
+        (record { within = omega (arith, zero); none = λ same. none (w.committed m) refl })
+    by (inr d) = subst (λ x. IsBefore v x (w.committed k))
+        (at_other w.past.view m (last_view (0, 0) (unwrap_or (w.letter m) [])).0 k d)
+        (subst (λ c. IsBefore v (at w.past.view m (last_view (0, 0) (unwrap_or (w.letter m) [])).0 k) c)
+        (at_other w.committed m None k d) (after k))
+
 -- where nobody has passed a view after a step, nobody had before
-step_back : (g : Group) (w : World) (m : ℕ) (s : Step) (v : ℕ) → CanTake g w m s
-    → AreBefore (effect_of g w m s) v → AreBefore w v
-step_back g w m s v can = standing_after g w m s
+step_back : (g : Group) (values : Values) (w : World) (m : ℕ) (s : Step) (v : ℕ) → IsGroup g
+    → Known g values w → CanTake g w m s → AreBefore (effect_of g w m s) v → AreBefore w v
+step_back g values w m s v is y can = standing_after g w m s
     (λ x. ((k : ℕ) → IsBefore v (x.view k) (x.committed k)) → AreBefore w v) can (record {
       goes_on = λ can. finish_back g w m v;
+      joins = λ can. join_back g values w m v is y can;
       chooses = λ can. commit_back g w m v can;
       wedges = λ j can before. before;
       stops = λ end alive why before. before;
       stays = λ before. before;
     })
 
-follows_back : (g : Group) (us : List World) (w mid : World) (v : ℕ) → ComesNext g us w mid → AreBefore mid v
-    → AreBefore w v
-follows_back g us w mid v (inl (e, can, same)) b = step_back g w (member_of e) (step_of e) v can
-    (subst (λ u. AreBefore u v) same b)
-follows_back g us w mid v (inr (table, come, same)) b = subst (λ u. AreBefore u v) same b
+follows_back : (g : Group) (values : Values) (us : List World) (w mid : World) (v : ℕ) → IsGroup g
+    → Known g values w → ComesNext g us w mid → AreBefore mid v → AreBefore w v
+follows_back g values us w mid v is y (inl (e, can, same)) b =
+    step_back g values w (member_of e) (step_of e) v is y can (subst (λ u. AreBefore u v) same b)
+follows_back g values us w mid v is y (inr (table, come, same)) b = subst (λ u. AreBefore u v) same b
 
 -- the value of such a view may be any one
 value_free : (w : World) (values : Values) (v : ℕ) (x : Value) → AreBefore w v → AreChosen values w
@@ -169,20 +201,21 @@ value_free : (w : World) (values : Values) (v : ℕ) (x : Value) → AreBefore w
 value_free w values v x before chosen k y e = chosen k y e ∙ sym (at_other values v x (w.past.view k)
     (λ same. absurd (none-some y (sym ((before k).none same) ∙ e))))
 
-way_free : (g : Group) (values : Values) (v : ℕ) (x : Value) (us : List World) (w : World) → Way g us w
-    → All (AreChosen values) us → AreBefore w v → All (AreChosen (at values v x)) us
-way_free g values v x [] w r all b = All-nil (AreChosen (at values v x))
-way_free g values v x (u ∷ us) w r all b =
-    let here = follows_back g us u w v r.1 b in
+way_free : (g : Group) (values : Values) (v : ℕ) (x : Value) (us : List World) (w : World) → IsGroup g
+    → Way g us w → All (AreChosen values) us → AreBefore w v → All (AreChosen (at values v x)) us
+way_free g values v x [] w is r all b = All-nil (AreChosen (at values v x))
+way_free g values v x (u ∷ us) w is r all b =
+    let rest = All-tail (AreChosen values) u us all in
+    let here = follows_back g values us u w v is (known g values us u is r.0 rest) r.1 b in
     All-cons (AreChosen (at values v x)) u us
     (value_free u values v x here (All-head (AreChosen values) u us all))
-    (way_free g values v x us u r.0 (All-tail (AreChosen values) u us all) here)
+    (way_free g values v x us u is r.0 rest here)
 
 reached_free : (g : Group) (values : Values) (us : List World) (w : World) (v : ℕ) (x : Value)
-    → AreBefore w v → IsReachedBy g values us w → IsReachedBy g (at values v x) us w
-reached_free g values us w v x before r = record {
+    → IsGroup g → AreBefore w v → IsReachedBy g values us w → IsReachedBy g (at values v x) us w
+reached_free g values us w v x is before r = record {
   way = r.way;
-  before = way_free g values v x us w r.way r.before before;
+  before = way_free g values v x us w is r.way r.before before;
   now = value_free w values v x before r.now;
 }
 
@@ -225,6 +258,13 @@ choose g values us w m s is idle r can = standing_after g w m s (λ x. (more : V
             (λ k v (c : Option Value). (y : Value) → c ≡ Some y → y ≡ values v) w.past.view w.committed m
             (w.past.view m + 1) None r.now (λ y e. absurd (none-some y e)),
       );
+      joins = λ can. (
+        values,
+        r,
+        at_both
+            (λ k v (c : Option Value). (y : Value) → c ≡ Some y → y ≡ values v) w.past.view w.committed m
+            (last_view (0, 0) (unwrap_or (w.letter m) [])).0 None r.now (λ y e. absurd (none-some y e)),
+      );
       chooses = λ can. by can (passed_or_before g w (w.past.view m) idle);
       wedges = λ j can. (values, r, r.now);
       stops = λ end alive why. (values, r, r.now);
@@ -246,7 +286,7 @@ choose g values us w m s is idle r can = standing_after g w m s (λ x. (more : V
     )
     by can (inr before) =
         let more : Values = at values (w.past.view m) (w.value m) in
-        let free = reached_free g values us w (w.past.view m) (w.value m) before r in
+        let free = reached_free g values us w (w.past.view m) (w.value m) is before r in
         (more, free, commit more free.now (sym (at_same values (w.past.view m) (w.value m))))
 
 -- so every world that is reached is reached by values
@@ -316,8 +356,9 @@ members_stay g values v x zero l = views-first g (at values v x) ∙ sym (views-
 members_stay g values v x (suc u) l =
     let next : u + 1 ≡ suc u = omega arith in
     rw (← next) (views-next g (at values v x) u
-    ∙ ap (λ mask. without mask (at values v x u).leavers) (members_stay g values v x u (omega (arith, l)))
-    ∙ ap (λ (y : Value). without (views_by g values u) y.leavers)
+    ∙ ap (λ mask. come_of g.opening mask (at values v x u).leavers)
+    (members_stay g values v x u (omega (arith, l)))
+    ∙ ap (λ (y : Value). come_of g.opening (views_by g values u) y.leavers)
     (at_other values v x u (λ same. omega (arith, same, l)))
     ∙ sym (views-next g values u))
 
@@ -336,7 +377,7 @@ voted_by g values us w v b x is r voted = by (passed_or_before g w v (nobody_els
         in (values, r, sym same, subst (λ y. IsChosen (views_by g values) w.past.votes v b y) same voted)
     by (inr before) = (
       at values v x,
-      reached_free g values us w v x before r,
+      reached_free g values us w v x is before r,
       at_same values v x,
       subst (λ y. IsChosen (views_by g (at values v x)) w.past.votes v b y) (sym (at_same values v x))
           (subst (λ mask. MajorityHas w.past.votes mask (λ z. IsOf z v b × (z.value ≡ x)))

@@ -1,28 +1,31 @@
 -- The views of an age, each of which ends with a value: their members, how one follows another, and what
 -- stays of a view that was left.
-use Rattle.std.proofs.Common.{Bool, List, [], ◌&&◌, not, ap, arith, false, inl, inr, length, map, refl, slice_index, subst, suc, sym, true, zero, get_or, ℕ, ◌+◌, ◌^◌, ◌-◌, ◌<◌, ◌∙◌, ◌≡◌, ◌≢◌, ◌≤◌, ◌⊎◌, if◌then◌else◌}
-use Rattle.std.proofs.lemmas.Bool.{cases_eq}
+use Rattle.std.proofs.Common.{Bool, List, [], ◌∷◌, ◌&&◌, not, nat_lt, filter, slice_get, length-append, Contains, Some, ap, arith, false, inl, inr, length, map, refl, slice_index, subst, suc, sym, true, zero, ℕ, ◌+◌, ◌*◌, ◌^◌, ◌<◌, ◌∙◌, ◌≡◌, ◌≤◌, ◌⊎◌, if◌then◌else◌}
+use Rattle.std.proofs.lemmas.Bool.{and_parts, cases_lt}
+use Rattle.std.proofs.lemmas.List.Elements.{filter-append}
 use Rattle.std.proofs.lemmas.List.{get_or-map, length-map}
 use Rattle.std.proofs.lemmas.Option.{get_or_from_slice_get, slice_get-get_or}
 use Rattle.dr_history.specs.Members.{has, members_below, members_of}
-use Rattle.dr_history.specs.Order.{IsSucceededBy}
+use Rattle.dr_history.specs.Order.{AreOfRoster, ContinuesAge, IsNewIn}
 use Rattle.dr_history.specs.Places.{AllHeldBelow, front_of, place_of}
 use Rattle.dr_history.proofs.Fronts.{front_is}
 use Rattle.dr_history_laws.specs.Courses.{counts_taken, view_in}
 use Rattle.dr_history_laws.proofs.Courses.{ended-steady, members-first, members-next}
 use Rattle.dr_history_laws.proofs.Lists.{slice_get-some}
 use Rattle.dr_history_laws.proofs.Members.{has-member, member-has}
-use Rattle.dr_machine.proofs.Presence.{in_roster}
-use Rattle.dr_words.proofs.Masks.{has_without_mask, in_roster_small, without_small}
+use Rattle.dr_words.proofs.Bits.{has_zero}
+use Rattle.dr_words.proofs.Masks.{has_above, has_mask_of, has_next_members, in_roster_small, mask_of_small, next_members_small, same_masks}
 use Rattle.dr_words.proofs.Ranks.{length-members_below_suc, some_member}
+use Rattle.dr_machine.proofs.Presence.{in_roster}
 use Rattle.dr_words.specs.Columns.{recv_column}
-use Rattle.dr_words.specs.Masks.{IsMajorityOf, IsPartOf, without}
+use Rattle.dr_words.specs.Masks.{IsMajorityOf, IsPartOf, next_members}
 use Rattle.dr_words.specs.Packing.{is_final, recv_count}
 use Rattle.dr_machine.specs.Group.{Group, IsGroup, IsPresent, roster}
 use Rattle.dr_machine.specs.Run.{PastGrew, WordsGrew}
 use Rattle.dr_machine.specs.World.{World}
-use Rattle.dr_faithful.specs.Chosen.{Values, endings_by, members_by, views_by}
-use Rattle.dr_faithful.specs.Faithful.{Faithful}
+use Rattle.dr_faithful.specs.Chosen.{Values, come_of, endings_by, members_by, views_by}
+use Rattle.dr_faithful.specs.Faithful.{Faithful, HaveStayed}
+use Rattle.dr_world_laws.proofs.Items.{AreOutside}
 use Rattle.dr_world_laws.specs.Historic.{HasEndedSafely}
 
 -- ---- members
@@ -39,15 +42,15 @@ views-are g values (suc v) =
     ap (views_by g values) next ∙ members-next g.opening (endings_by g.opening values) v
 
 pub views-next : (g : Group) (values : Values) (v : ℕ) → views_by g values (v + 1)
-    ≡ without (views_by g values v) (values v).leavers
+    ≡ come_of g.opening (views_by g values v) (values v).leavers
 unfolding members_by
 views-next g values v = members-next g.opening (endings_by g.opening values) v
-    ∙ ap (λ mask. without mask (values v).leavers) (sym (views-are g values v))
+    ∙ ap (λ mask. come_of g.opening mask (values v).leavers) (sym (views-are g values v))
 
--- what remains is what the ending says
-pub remaining-next : (g : Group) (values : Values) (v : ℕ)
-    → (endings_by g.opening values v).remaining ≡ views_by g values (v + 1)
-remaining-next g values v = sym (members-next g.opening (endings_by g.opening values) v)
+-- what comes of a view is what the ending says
+pub ending-next : (g : Group) (values : Values) (v : ℕ)
+    → (endings_by g.opening values v).next ≡ views_by g values (v + 1)
+ending-next g values v = sym (members-next g.opening (endings_by g.opening values) v)
 
 -- each is a mask
 pub views-small : (g : Group) (values : Values) (v : ℕ) → IsGroup g → views_by g values v < 2 ^ 16
@@ -55,165 +58,271 @@ views-small g values zero is = rw (views-first g values) (in_roster_small 16 g.o
     (λ i h. omega (arith, is.sound.members.within i h, is.most_members)))
 views-small g values (suc v) is =
     let next : suc v ≡ v + 1 = omega arith in
-    rw (next, views-next g values v) (without_small (views_by g values v) (values v).leavers)
+    rw (next, views-next g values v) (mask_of_small _)
 
-was_in : (a b : Bool) → (a && not b) ≡ true → a ≡ true
-was_in true b e = refl
-was_in false b e = e
+-- who is in a later view is there, and was in the one before and isn't named, or is named and was not
+views-are_come : (g : Group) (values : Values) (v i : ℕ) → has (views_by g values (v + 1)) i
+    ≡ (nat_lt i 16 && (has g.opening.present i
+    && (if has (values v).leavers i then not (has (views_by g values v) i) else has (views_by g values v) i)))
+views-are_come g values v i = ap (λ k. has k i) (views-next g values v) ∙ has_mask_of _ i
 
--- who is in a later view is in the one before
-pub views-part : (g : Group) (values : Values) (v i : ℕ) → IsGroup g
-    → has (views_by g values (v + 1)) i ≡ true
-    → has (views_by g values v) i ≡ true
-views-part g values v i is h = was_in _ _
-    (sym (has_without_mask (views_by g values v) (values v).leavers i (views-small g values v is))
-    ∙ sym (ap (λ k. has k i) (views-next g values v)) ∙ h)
+named_or : (a b : Bool) → (if b then not a else a) ≡ true
+    → ((a ≡ true) × (b ≡ false)) ⊎ ((a ≡ false) × (b ≡ true))
+named_or true true e = absurd (cc e)
+named_or true false e = inl (refl, refl)
+named_or false true e = inr (refl, refl)
+named_or false false e = absurd (cc e)
 
--- and of the roster
+pub views-cases : (g : Group) (values : Values) (v i : ℕ) → has (views_by g values (v + 1)) i ≡ true
+    → ((has (views_by g values v) i ≡ true) × (has (values v).leavers i ≡ false))
+    ⊎ ((has (views_by g values v) i ≡ false) × (has (values v).leavers i ≡ true))
+views-cases g values v i h =
+    let p = and_parts _ _ (sym (views-are_come g values v i) ∙ h) in
+    named_or (has (views_by g values v) i) (has (values v).leavers i) (and_parts _ _ p.1).1
+
+-- each is of members that are there
+pub views-there : (g : Group) (values : Values) (v i : ℕ) → IsGroup g → has (views_by g values v) i ≡ true
+    → IsPresent g i
+views-there g values zero i is h = is.sound.part i (sym (ap (λ k. has k i) (views-first g values)) ∙ h)
+views-there g values (suc v) i is h =
+    let next : suc v ≡ v + 1 = omega arith in
+    let p = and_parts _ _ (sym (views-are_come g values v i)
+    ∙ subst (λ n. has (views_by g values n) i ≡ true) next h) in
+    (and_parts _ _ p.1).0
+
+-- so each is of the roster
 pub views-within : (g : Group) (values : Values) (v i : ℕ) → IsGroup g → has (views_by g values v) i ≡ true
     → i < roster g
-views-within g values zero i is h =
-    is.sound.members.within i (subst (λ mask. has mask i ≡ true) (views-first g values) h)
-views-within g values (suc v) i is h =
-    let next : suc v ≡ v + 1 = omega arith in
-    views-within g values v i is (views-part g values v i is
-    (subst (λ n. has (views_by g values n) i ≡ true) next h))
+views-within g values v i is h = in_roster g i is (views-there g values v i is h)
 
-pub stays_in : (a b : Bool) → a ≡ true → b ≡ false → (a && not b) ≡ true
-stays_in a b e d = grind (arith, e, d)
+come_in : (i : ℕ) (p a b : Bool) → i < 16 → p ≡ true → (if b then not a else a) ≡ true
+    → (nat_lt i 16 && (p && (if b then not a else a))) ≡ true
+come_in i p a b small here e = rw (e, here) (grind (arith, small))
 
--- so everybody in a view was in the first one
-pub views-of-first : (g : Group) (values : Values) (v i : ℕ) → IsGroup g → has (views_by g values v) i ≡ true
-    → has g.opening.members i ≡ true
-views-of-first g values zero i is h = subst (λ mask. has mask i ≡ true) (views-first g values) h
-views-of-first g values (suc v) i is h =
-    let next : suc v ≡ v + 1 = omega arith in
-    views-of-first g values v i is (views-part g values v i is
-    (subst (λ n. has (views_by g values n) i ≡ true) next h))
-
--- who doesn't leave is in the next one
+-- who doesn't leave is in the next one, and so is who comes
 pub views-stays : (g : Group) (values : Values) (v i : ℕ) → IsGroup g → has (views_by g values v) i ≡ true
     → has (values v).leavers i ≡ false → has (views_by g values (v + 1)) i ≡ true
-views-stays g values v i is there stays = ap (λ k. has k i) (views-next g values v)
-    ∙ has_without_mask (views_by g values v) (values v).leavers i (views-small g values v is)
-    ∙ stays_in _ _ there stays
+views-stays g values v i is there stays =
+    let l = views-within g values v i is there in
+    views-are_come g values v i
+    ∙ come_in i (has g.opening.present i) (has (views_by g values v) i) (has (values v).leavers i)
+    (omega (arith, l, is.most_members)) (views-there g values v i is there) (rw (stays, there) refl)
 
--- and who is in the next one doesn't leave
-pub views-remain : (g : Group) (values : Values) (v i : ℕ) → IsGroup g
-    → has (views_by g values (v + 1)) i ≡ true → has (values v).leavers i ≡ false
-views-remain g values v i is there = not_out _ _
-    (sym (has_without_mask (views_by g values v) (values v).leavers i (views-small g values v is))
-    ∙ sym (ap (λ k. has k i) (views-next g values v)) ∙ there)
+pub views-comes : (g : Group) (values : Values) (v i : ℕ) → IsGroup g → IsPresent g i
+    → has (views_by g values v) i ≡ false → has (values v).leavers i ≡ true
+    → has (views_by g values (v + 1)) i ≡ true
+views-comes g values v i is here out named = views-are_come g values v i
+    ∙ come_in i (has g.opening.present i) (has (views_by g values v) i) (has (values v).leavers i)
+    (omega (arith, in_roster g i is here, is.most_members)) here (rw (named, out) refl)
+
+-- and who leaves is not
+pub views-leaves : (g : Group) (values : Values) (v i : ℕ) → has (views_by g values v) i ≡ true
+    → has (values v).leavers i ≡ true → has (views_by g values (v + 1)) i ≡ false
+views-leaves g values v i there leaves = by (has (views_by g values (v + 1)) i) refl
   where
-    not_out : (a b : Bool) → (a && not b) ≡ true → b ≡ false
-    not_out a true e = grind (arith, e)
-    not_out a false e = refl
+    none : ((has (views_by g values v) i ≡ true) × (has (values v).leavers i ≡ false))
+        ⊎ ((has (views_by g values v) i ≡ false) × (has (values v).leavers i ≡ true)) → ⊥
+    none (inl t) = absurd (cc (leaves, t.1))
+    none (inr t) = absurd (cc (there, t.0))
+
+    by : (b : Bool) → has (views_by g values (v + 1)) i ≡ b → has (views_by g values (v + 1)) i ≡ false
+    by true e = absurd (none (views-cases g values v i e))
+    by false e = e
 
 -- ---- the next view
 
-fewer_step : (x y : ℕ) (a b : Bool) → (a ≡ true → b ≡ true) → x ≤ y
-    → x + (if a then 1 else 0) ≤ y + (if b then 1 else 0)
-fewer_step x y true true part l = omega (arith, l)
-fewer_step x y true false part l = absurd (cc (part refl))
-fewer_step x y false true part l = omega (arith, l)
-fewer_step x y false false part l = omega (arith, l)
+-- what is known of the value by which a view ends: more than half of the view stay, each other one that it
+-- names is new, and it names somebody
+pub record Changes (g : Group) (values : Values) (v : ℕ) : Type 0 where
+  pub mask : ℕ
+  pub part : IsPartOf mask (views_by g values v)
+  pub majority : IsMajorityOf mask (views_by g values v)
+  pub stay : (i : ℕ) → has mask i ≡ true → has (values v).leavers i ≡ false
+  pub newcomers : (i : ℕ) → has (values v).leavers i ≡ true
+      → (has (views_by g values v) i ≡ true) ⊎ IsNewIn g.opening (views_by g values) v i
+  pub named : (i : ℕ) × (has (values v).leavers i ≡ true)
 
-less_step : (x y : ℕ) (a b : Bool) → (a ≡ true → b ≡ true) → x < y
-    → x + (if a then 1 else 0) < y + (if b then 1 else 0)
-less_step x y true true part l = omega (arith, l)
-less_step x y true false part l = absurd (cc (part refl))
-less_step x y false true part l = omega (arith, l)
-less_step x y false false part l = omega (arith, l)
+-- whom it names is there
+pub named-there : (g : Group) (values : Values) (v i : ℕ) → IsGroup g → Changes g values v
+    → has (values v).leavers i ≡ true → IsPresent g i
+named-there g values v i is c h = by (c.newcomers i h)
+  where
+    by : (has (views_by g values v) i ≡ true) ⊎ IsNewIn g.opening (views_by g values) v i → IsPresent g i
+    by (inl there) = views-there g values v i is there
+    by (inr new) = new.late.0
 
--- a part of a mask has no more members, and fewer where it lacks one
-pub no_more_below : (a b n : ℕ) → IsPartOf a b → length (members_below a n) ≤ length (members_below b n)
+-- and so of the roster
+pub named-within : (g : Group) (values : Values) (v i : ℕ) → IsGroup g → Changes g values v
+    → has (values v).leavers i ≡ true → i < roster g
+named-within g values v i is c h = in_roster g i is (named-there g values v i is c h)
+
+-- so what comes of the view by it is the next one
+pub views-come : (g : Group) (values : Values) (v : ℕ) → IsGroup g → Changes g values v
+    → views_by g values (v + 1) ≡ next_members (views_by g values v) (values v).leavers
+views-come g values v is c = same_masks (views_by g values (v + 1))
+    (next_members (views_by g values v) (values v).leavers)
+    (λ i. by i (cases_lt i 16) (has g.opening.present i) refl)
+  where
+    out : (i : ℕ) → has g.opening.present i ≡ false → (b : Bool) → has (values v).leavers i ≡ b → b ≡ false
+    out i away true e = absurd (cc (away, named-there g values v i is c e))
+    out i away false e = refl
+
+    gone : (i : ℕ) → has g.opening.present i ≡ false → (b : Bool) → has (views_by g values v) i ≡ b → b ≡ false
+    gone i away true e = absurd (cc (away, views-there g values v i is e))
+    gone i away false e = refl
+
+    within : (i : ℕ) (p x : Bool) → i < 16 → p ≡ true → (nat_lt i 16 && (p && x)) ≡ x
+    within i p x small here = rw here (grind (arith, small))
+
+    beyond : (i : ℕ) (p x : Bool) → p ≡ false → (nat_lt i 16 && (p && x)) ≡ false
+    beyond i p x away = rw away (grind arith)
+
+    by : (i : ℕ) → (i < 16) ⊎ (16 ≤ i) → (p : Bool) → has g.opening.present i ≡ p
+        → has (views_by g values (v + 1)) i ≡ has (next_members (views_by g values v) (values v).leavers) i
+    by i (inl small) true here = views-are_come g values v i
+        ∙ within i (has g.opening.present i) _ small here
+        ∙ sym (has_next_members (views_by g values v) (values v).leavers i small)
+    by i (inl small) false away = views-are_come g values v i
+        ∙ beyond i (has g.opening.present i) _ away
+        ∙ sym (has_next_members (views_by g values v) (values v).leavers i small
+        ∙ rw (out i away (has (values v).leavers i) refl, gone i away (has (views_by g values v) i) refl) refl)
+    by i (inr above) p e = has_above (views_by g values (v + 1)) i (views-small g values (v + 1) is) above
+        ∙ sym (has_above (next_members (views_by g values v) (values v).leavers) i
+        (next_members_small (views_by g values v) (values v).leavers) above)
+
+-- the members of a mask are no more than those members of another that pass a test, where each is one
+kept-below : (mask all next n : ℕ) → IsPartOf mask all → IsPartOf mask next
+    → length (members_below mask n) ≤ length (filter (has next) (members_below all n))
 unfolding members_below
-no_more_below a b zero part = omega arith
-no_more_below a b (suc n) part = rw (length-members_below_suc a n, length-members_below_suc b n)
-    (fewer_step (length (members_below a n)) (length (members_below b n)) (has a n) (has b n) (part n)
-    (no_more_below a b n part))
-
-fewer_below : (a b i n : ℕ) → IsPartOf a b → has b i ≡ true → has a i ≡ false → i < n
-    → length (members_below a n) < length (members_below b n)
-fewer_below a b i zero part there gone l = absurd (omega (arith, l))
-fewer_below a b i (suc n) part there gone l =
-    rw (length-members_below_suc a n, length-members_below_suc b n)
-    (by (cases_eq i n) (fewer_below a b i n part there gone))
+kept-below mask all next zero part stay = omega arith
+kept-below mask all next (suc n) part stay =
+    omega (
+      arith,
+      length-members_below_suc mask n,
+      kept-below mask all next n part stay,
+      ap length (filter-append (has next) (members_below all n) (if has all n then n ∷ [] else [])),
+      length-append (filter (has next) (members_below all n))
+          (filter (has next) (if has all n then n ∷ [] else [])),
+      one (has mask n) (has all n) (has next n) refl (part n) (stay n),
+    )
   where
-    last : (k : ℕ) → i ≡ k → has a k ≡ false
-    last k e = subst (λ x. has a x ≡ false) e gone
+    one : (a b c : Bool) → has next n ≡ c → (a ≡ true → b ≡ true) → (a ≡ true → c ≡ true)
+        → (if a then 1 else 0) ≤ length (filter (has next) (if b then n ∷ [] else []))
+    one true true true e p q = rw e (omega arith)
+    one true true false e p q = absurd (cc (q refl))
+    one true false c e p q = absurd (cc (p refl))
+    one false b c e p q = omega arith
 
-    last_there : (k : ℕ) → i ≡ k → has b k ≡ true
-    last_there k e = subst (λ x. has b x ≡ true) e there
-
-    by : (i ≡ n) ⊎ (i ≢ n)
-        → (i < n → length (members_below a n) < length (members_below b n))
-        → length (members_below a n) + (if has a n then 1 else 0)
-        < length (members_below b n) + (if has b n then 1 else 0)
-    by (inl e) less = rw (last n e, last_there n e) (omega (arith, no_more_below a b n part))
-    by (inr d) less = less_step (length (members_below a n)) (length (members_below b n)) (has a n) (has b n)
-        (part n) (less (omega (arith, l, d)))
-
-pub fewer-members : (a b i : ℕ) → IsPartOf a b → has b i ≡ true → has a i ≡ false → i < 16
-    → length (members_of a) < length (members_of b)
+kept-of : (mask all next : ℕ) → IsPartOf mask all → IsPartOf mask next
+    → length (members_of mask) ≤ length (filter (has next) (members_of all))
 unfolding members_of
-fewer-members a b i part there gone l = fewer_below a b i 16 part there gone l
+kept-of mask all next part stay = kept-below mask all next 16 part stay
 
--- a mask of which a part has more than half of some members has more than half of them itself
-pub majority-more : (a b all : ℕ) → IsPartOf a b → IsMajorityOf a all → IsMajorityOf b all
-unfolding members_of
-majority-more a b all part most = omega (arith, most, no_more_below a b 16 part)
-
-gone_out : (a b : Bool) → b ≡ true → (a && not b) ≡ false
-gone_out true b e = rw e refl
-gone_out false b e = refl
-
-nonempty : (ms : List ℕ) → 0 < length ms → ms ≢ []
-nonempty ms l e = omega (arith, l, ap length e)
-
--- where somebody leaves a view the next one has fewer members
-pub views-fewer : (g : Group) (values : Values) (v i : ℕ) → IsGroup g
-    → has (views_by g values v) i ≡ true → has (values v).leavers i ≡ true
-    → length (members_of (views_by g values (v + 1))) < length (members_of (views_by g values v))
-views-fewer g values v i is there leaves =
-    fewer-members (views_by g values (v + 1)) (views_by g values v) i (λ n. views-part g values v n is) there gone
-    (omega (arith, views-within g values v i is there, is.most_members))
-  where
-    gone : has (views_by g values (v + 1)) i ≡ false
-    gone = ap (λ k. has k i) (views-next g values v)
-        ∙ has_without_mask (views_by g values v) (values v).leavers i (views-small g values v is)
-        ∙ gone_out _ _ leaves
-
--- a view that somebody leaves and in which more than half remain may be succeeded by the view of these
-pub next-succeeds : (g : Group) (values : Values) (v i : ℕ) → IsGroup g
-    → has (views_by g values v) i ≡ true → has (values v).leavers i ≡ true
-    → IsMajorityOf (views_by g values (v + 1)) (views_by g values v)
-    → IsSucceededBy (view_in g.opening (endings_by g.opening values) v) g.opening.age (v + 1)
-    (endings_by g.opening values v).remaining
-next-succeeds g values v i is there leaves most = record {
-  follows = record {
-    same_age = refl;
-    next_number = refl;
-    some = nonempty (members_of (endings_by g.opening values v).remaining)
-        (rw (remaining-next g values v) (omega (arith, most)));
-    part = λ k d l. has-member (views_by g values v) _ (members k d l) (small k d l);
-    fewer = rw (remaining-next g values v) (views-fewer g values v i is there leaves);
-    numbers = rw (remaining-next g values v) (views-small g values (v + 1) is);
-  };
-  majority = rw (remaining-next g values v) most;
+-- it may follow, with a number that is small, and more than half of the view are in it
+pub next-follows : (g : Group) (values : Values) (v : ℕ) → IsGroup g → Changes g values v → v + 1 < 256
+    → ContinuesAge (view_in g.opening (endings_by g.opening values) v) g.opening.age (v + 1)
+    (endings_by g.opening values v).next
+next-follows g values v is c small = record {
+  same_age = refl;
+  next_number = refl;
+  numbers = (small, rw (ending-next g values v) (views-small g values (v + 1) is));
+  other = λ same. other c.named.0 c.named.1 (has (views_by g values v) c.named.0) refl
+      (ap members_of (sym (ending-next g values v)) ∙ same);
 }
   where
-    members : (k d : ℕ) → k < length (members_of (endings_by g.opening values v).remaining)
-        → has (views_by g values v) (get_or (members_of (endings_by g.opening values v).remaining) k d) ≡ true
-    members k d l = views-part g values v _ is
-        (sym (ap (λ m. has m (get_or (members_of (endings_by g.opening values v).remaining) k d))
-        (remaining-next g values v))
-        ∙ member-has (endings_by g.opening values v).remaining k _
-        (slice_get-get_or (members_of (endings_by g.opening values v).remaining) k d l))
+    there : (a b i : ℕ) → members_of a ≡ members_of b → has a i ≡ true → i < 16 → has b i ≡ true
+    there a b i same h l =
+        let c = subst (λ xs. Contains xs i) same (has-member a i h l) in
+        member-has b c.0 i (slice_get-get_or (members_of b) c.0 i c.1 ∙ ap Some c.2)
 
-    small : (k d : ℕ) → k < length (members_of (endings_by g.opening values v).remaining)
-        → get_or (members_of (endings_by g.opening values v).remaining) k d < 16
-    small k d l = omega (arith, views-within g values v _ is (members k d l), is.most_members)
+    other : (i : ℕ) → has (values v).leavers i ≡ true → (b : Bool) → has (views_by g values v) i ≡ b
+        → members_of (views_by g values (v + 1)) ≡ members_of (views_by g values v) → ⊥
+    other i named true here same =
+        let l = views-within g values v i is here in
+        absurd (cc (
+          views-leaves g values v i here named,
+          there (views_by g values v) (views_by g values (v + 1)) i (sym same) here
+              (omega (arith, l, is.most_members)),
+        ))
+    other i named false out same =
+        let l = named-within g values v i is c named in
+        absurd (cc (
+          out,
+          there (views_by g values (v + 1)) (views_by g values v) i same
+              (views-comes g values v i is (named-there g values v i is c named) out named)
+              (omega (arith, l, is.most_members)),
+        ))
+
+pub next-majority : (g : Group) (values : Values) (v : ℕ) → IsGroup g → Changes g values v
+    → length (members_of (views_by g values v))
+    < 2 * length (filter (has (endings_by g.opening values v).next) (members_of (views_by g values v)))
+next-majority g values v is c = omega (
+  arith,
+  c.majority,
+  kept-of c.mask (views_by g values v) (endings_by g.opening values v).next c.part
+      (λ i h. ap (λ k. has k i) (ending-next g values v)
+      ∙ views-stays g values v i is (c.part i h) (c.stay i h)),
+)
+
+-- somebody stays, so it has members of the roster
+some_of : (xs : List ℕ) → 0 < length xs → (x : ℕ) × (slice_get xs 0 ≡ Some x)
+some_of [] l = absurd (omega (arith, l))
+some_of (x ∷ xs) l = (x, refl)
+
+pub somebody-stays : (g : Group) (values : Values) (v : ℕ) → Changes g values v
+    → (i : ℕ) × (has (views_by g values v) i ≡ true) × (has (values v).leavers i ≡ false)
+somebody-stays g values v c =
+    let x = some_of (members_of c.mask) (omega (arith, c.majority)) in
+    let h = member-has c.mask 0 x.0 x.1 in (x.0, c.part x.0 h, c.stay x.0 h)
+
+above_none : (mask i : ℕ) → has mask i ≡ true → 0 < mask
+above_none zero i h = absurd (cc (has_zero i, h))
+above_none (suc mask) i h = omega arith
+
+pub next-roster : (g : Group) (values : Values) (v : ℕ) → IsGroup g → Changes g values v
+    → AreOfRoster (roster g) (endings_by g.opening values v).next
+next-roster g values v is c = subst (AreOfRoster (roster g)) (sym (ending-next g values v)) (record {
+  some = above_none (views_by g values (v + 1)) s.0 (views-stays g values v s.0 is s.1 s.2);
+  within = λ i h. views-within g values (v + 1) i is h;
+})
+  where
+    s : (i : ℕ) × (has (views_by g values v) i ≡ true) × (has (values v).leavers i ≡ false)
+    s = somebody-stays g values v c
+
+-- and each other one in it is new
+pub next-newcomers : (g : Group) (values : Values) (v s : ℕ) → IsGroup g → Changes g values v
+    → has (endings_by g.opening values v).next s ≡ true
+    → Contains (members_of (views_by g values v)) s ⊎ IsNewIn g.opening (views_by g values) v s
+next-newcomers g values v s is c h =
+    by (views-cases g values v s (sym (ap (λ k. has k s) (ending-next g values v)) ∙ h))
+  where
+    named : (has (views_by g values v) s ≡ true) ⊎ IsNewIn g.opening (views_by g values) v s
+        → Contains (members_of (views_by g values v)) s ⊎ IsNewIn g.opening (views_by g values) v s
+    named (inl there) = inl (has-member (views_by g values v) s there
+        (omega (arith, views-within g values v s is there, is.most_members)))
+    named (inr new) = inr new
+
+    by : ((has (views_by g values v) s ≡ true) × (has (values v).leavers s ≡ false))
+        ⊎ ((has (views_by g values v) s ≡ false) × (has (values v).leavers s ≡ true))
+        → Contains (members_of (views_by g values v)) s ⊎ IsNewIn g.opening (views_by g values) v s
+    by (inl t) = named (inl t.0)
+    by (inr t) = named (c.newcomers s t.1)
+
+-- so who is in it and not late was in the view
+pub next-stayed : (g : Group) (values : Values) (v : ℕ) → Changes g values v
+    → HaveStayed g (views_by g values) v (v + 1)
+next-stayed g values v c i h early = by (views-cases g values v i h)
+  where
+    named : (has (views_by g values v) i ≡ true) ⊎ IsNewIn g.opening (views_by g values) v i
+        → has (views_by g values v) i ≡ true
+    named (inl there) = there
+    named (inr new) = absurd (cc (new.late.1, early))
+
+    by : ((has (views_by g values v) i ≡ true) × (has (values v).leavers i ≡ false))
+        ⊎ ((has (views_by g values v) i ≡ false) × (has (values v).leavers i ≡ true))
+        → has (views_by g values v) i ≡ true
+    by (inl t) = t.0
+    by (inr t) = named (c.newcomers i t.1)
 
 -- ---- views that were left
 
@@ -237,17 +346,16 @@ left-steady g values w u v is f f' grew words left = record {
           f'.counts.recv t.0 v s (views-within g values v s is member),
         ),
       );
-  covered = λ i s remains member. omega (arith, left.covered i s remains member, grew.count i v s);
+  covered = λ i s was remains member. omega (arith, left.covered i s was remains member, grew.count i v s);
 }
 
--- nobody that is there has delivered a place of it that is cut off
-place-kept-there : (g : Group) (values : Values) (w : World) (m : ℕ) → IsGroup g
-    → Faithful g (views_by g values) w → IsPresent g m
+place-kept_in : (g : Group) (values : Values) (w : World) (m : ℕ) → IsGroup g
+    → Faithful g (views_by g values) w → has (views_by g values (w.past.view m)) m ≡ true
     → ((s : ℕ) → has (views_by g values (w.past.view m)) s ≡ true
     → (j : ℕ) × (has (views_by g values (w.past.view m)) j ≡ true)
     × (w.past.count j (w.past.view m) s ≤ slice_index (values (w.past.view m)).trim s))
     → w.next m ≤ front_of (counts_taken g.opening (endings_by g.opening values) (w.past.view m))
-place-kept-there g values w m is f there least = (front_is (map taken ms) some).greatest (w.next m) held
+place-kept_in g values w m is f here least = (front_is (map taken ms) some).greatest (w.next m) held
   where
     v : ℕ
     v = w.past.view m
@@ -259,13 +367,13 @@ place-kept-there g values w m is f there least = (front_is (map taken ms) some).
     taken s = slice_index (values (w.past.view m)).trim s
 
     l : m < roster g
-    l = in_roster g m is there
+    l = f.views.within (w.past.view m) m here
 
     some : 0 < length (map taken (members_of (views_by g values (w.past.view m))))
     some = omega (
       arith,
       length-map ms taken,
-      some_member (views_by g values v) m (omega (arith, l, is.most_members)) (f.views.present m there),
+      some_member (views_by g values v) m (omega (arith, l, is.most_members)) here,
     )
 
     few : (j : ℕ) → 0 < length (map (w.past.count j (w.past.view m))
@@ -288,15 +396,19 @@ place-kept-there g values w m is f there least = (front_is (map taken ms) some).
         let place : place_of (length (map (w.past.count j.0 v) ms)) rank k < w.next m =
         subst (λ n. place_of n rank k < w.next m) same below in
         let has_it = front.held rank k (omega (arith, within, same))
-        (omega (arith, place, f.delivered.held m j.0 there j.1, f.counts.received j.0 v)) in
+        (omega (arith, place, f.delivered.held m j.0 j.1, f.counts.received j.0 v)) in
         omega (arith, has_it, read, cut, j.2)
 
--- nor has one that is at its first place
+-- nobody has delivered a place of it that is cut off
 pub place-kept : (g : Group) (values : Values) (w : World) (m : ℕ) → IsGroup g
-    → Faithful g (views_by g values) w → IsPresent g m ⊎ (w.next m ≡ 0)
+    → Faithful g (views_by g values) w → AreOutside g (views_by g values) w → m < roster g
     → ((s : ℕ) → has (views_by g values (w.past.view m)) s ≡ true
     → (j : ℕ) × (has (views_by g values (w.past.view m)) j ≡ true)
     × (w.past.count j (w.past.view m) s ≤ slice_index (values (w.past.view m)).trim s))
     → w.next m ≤ front_of (counts_taken g.opening (endings_by g.opening values) (w.past.view m))
-place-kept g values w m is f (inl there) least = place-kept-there g values w m is f there least
-place-kept g values w m is f (inr none) least = omega (arith, none)
+place-kept g values w m is f out l least = by (has (views_by g values (w.past.view m)) m) refl
+  where
+    by : (b : Bool) → has (views_by g values (w.past.view m)) m ≡ b
+        → w.next m ≤ front_of (counts_taken g.opening (endings_by g.opening values) (w.past.view m))
+    by true here = place-kept_in g values w m is f here least
+    by false none = let zero = (out m l none).1 in omega (arith, zero)

@@ -3,6 +3,7 @@
 use Rattle.std.proofs.Common.{◌≡◌, ◌≢◌, refl, ap, sym, ◌∙◌, ◌⊎◌, inl, inr, subst, ℕ, ◌+◌, ◌<◌, ◌≤◌, arith, true, [], ◌++◌, length, Some, append-nil, length-append}
 use Rattle.std.proofs.lemmas.Bool.{cases_eq}
 use Rattle.dr_entry.specs.declared.end.End.TheVariants.{Done}
+use Rattle.dr_history.specs.History.{last_view}
 use Rattle.dr_history.specs.Members.{has}
 use Rattle.dr_words.specs.declared.column.TheConstants.{BEAT_COLUMN, LOGGED_COLUMN, DONE_COLUMN}
 use Rattle.dr_machine.proofs.Ends.{EndsSo, ended_so}
@@ -10,17 +11,22 @@ use Rattle.dr_machine.proofs.Events.{AreDoneAs, marks_or_leaves, progress_after}
 use Rattle.dr_machine.specs.declared.event.Event.{Event}
 use Rattle.dr_machine.specs.declared.step.Step.{Step}
 use Rattle.dr_machine.specs.Events.{member_of, step_of}
-use Rattle.dr_machine.specs.Group.{Group, IsPresent, roster}
+use Rattle.dr_machine.specs.Group.{Group, roster}
 use Rattle.dr_machine.specs.Acts.{CanTake, Guard, effect, effect_of}
-use Rattle.dr_machine.specs.Guards.{CanReport, CanMark, CanDeliver}
+use Rattle.dr_machine.specs.Guards.{CanReport, CanMark, CanDeliver, CanJoin, IsInView}
 use Rattle.dr_machine.specs.Run.{WordsGrew}
 use Rattle.dr_machine.specs.World.{World, own_word, shown}
 use Rattle.dr_machine.specs.Effects.{committed_value, finished_history, least_shown, marks, one_more, stamped}
+use Rattle.dr_faithful.proofs.Finishes.{joined_is}
 use Rattle.dr_faithful.proofs.Shown.{done_is_one, shown_le}
 use Rattle.dr_faithful.proofs.Writes.{at_both, at_case, at₃_member}
 use Rattle.dr_faithful.specs.Faithful.{Faithful}
 use Rattle.dr_faithful.specs.Tells.{Views}
 use Rattle.dr_world_laws.proofs.Histories.{added}
+
+-- whoever may join comes into a later view
+abbrev pub JoinsLater : Group → World → Type 0
+JoinsLater g w = (m : ℕ) (can : CanJoin g w m) → w.past.view m < (last_view (0, 0) can.letter).0
 
 -- those who show done have completed their history, and nobody ends as done before all of its view show it
 pub record Complete (g : Group) (w : World) : Type 0 where
@@ -30,6 +36,8 @@ pub record Complete (g : Group) (w : World) : Type 0 where
   -- all members of the view of one that has ended as done show it
   pub shown : (m : ℕ) → w.end m ≡ Some Done → (i : ℕ) → has (w.members m) i ≡ true
       → w.past.own i (w.past.view m) DONE_COLUMN ≡ 1
+  -- which it is in
+  pub inside : (m : ℕ) → w.end m ≡ Some Done → IsInView w m
 
 -- what a member shows itself is its own word
 pub shows_own : (w : World) (m c x : ℕ) → x < shown w m m c → x < own_word w m c
@@ -42,8 +50,7 @@ reported : (g : Group) (V : Views) (w : World) (m : ℕ) → Faithful g V w → 
     → w.past.durable m ≡ length (w.past.history m) → ⊥
 reported g V w m f can e = omega (
   arith,
-  shows_own w m LOGGED_COLUMN (w.past.durable m) (can.logged m (subst (λ x. has x m ≡ true)
-      (sym (f.views.own m)) (f.views.present m can.may.alive.present))),
+  shows_own w m LOGGED_COLUMN (w.past.durable m) (can.logged m can.may.inside),
   (f.words.own m (w.past.view m) LOGGED_COLUMN).logged refl,
   e,
   length-append (w.past.log m) (f.logs.front m).0,
@@ -53,10 +60,10 @@ reported g V w m f can e = omega (
 -- who showed done before a step knows the history that it has then to be durable
 still_durable : (g : Group) (V : Views) (w : World) (m : ℕ) (s : Step) → Faithful g V w
     → ((m : ℕ) → CanDeliver g w m → m < roster g → own_word w m DONE_COLUMN ≡ 1 → added w m ≡ [])
-    → CanTake g w m s → Complete g w → (k : ℕ) → k < roster g
+    → JoinsLater g w → CanTake g w m s → Complete g w → (k : ℕ) → k < roster g
     → w.past.own k ((effect_of g w m s).past.view k) DONE_COLUMN ≡ 1
     → (effect_of g w m s).past.durable k ≡ length ((effect_of g w m s).past.history k)
-still_durable g V w m s f nothing can c = progress_after g w m s (λ x. (k : ℕ) → k < roster g
+still_durable g V w m s f nothing later can c = progress_after g w m s (λ x. (k : ℕ) → k < roster g
     → w.past.own k (x.view k) DONE_COLUMN ≡ 1 → x.durable k ≡ length (x.history k)) can (record {
       puts_item = λ name may. c.durable;
       delivers_place = λ can. at_case
@@ -76,15 +83,25 @@ still_durable g V w m s f nothing can c = progress_after g w m s (λ x. (k : ℕ
             e,
             f.fresh.unwritten m (w.past.view m + 1) DONE_COLUMN (omega arith),
           )));
+      joins = λ can. joined_is w m can.letter
+          (λ u. (k : ℕ) → k < roster g → w.past.own k (u.past.view k) DONE_COLUMN ≡ 1
+          → u.past.durable k ≡ length (u.past.history k)) can.given
+          (at_both (λ k v h. k < roster g → w.past.own k v DONE_COLUMN ≡ 1 → w.past.durable k ≡ length h)
+          w.past.view w.past.history m (last_view (0, 0) can.letter).0 can.letter c.durable
+          (λ l e. absurd (omega (
+            arith,
+            e,
+            f.fresh.unwritten m (last_view (0, 0) can.letter).0 DONE_COLUMN (later m can),
+          ))));
       stays = c.durable;
     })
 
 step_durable : (g : Group) (V : Views) (w : World) (m : ℕ) (s : Step) → Faithful g V w
     → ((m : ℕ) → CanDeliver g w m → m < roster g → own_word w m DONE_COLUMN ≡ 1 → added w m ≡ [])
-    → CanTake g w m s → Complete g w → (k : ℕ) → k < roster g
+    → JoinsLater g w → CanTake g w m s → Complete g w → (k : ℕ) → k < roster g
     → own_word (effect_of g w m s) k DONE_COLUMN ≡ 1
     → (effect_of g w m s).past.durable k ≡ length ((effect_of g w m s).past.history k)
-step_durable g V w m s f nothing can c k l e = by (marks_or_leaves g w m s can)
+step_durable g V w m s f nothing later can c k l e = by (marks_or_leaves g w m s can)
   where
     marked : CanMark g w m → (k ≡ m) ⊎ (k ≢ m) → own_word (stamped (marks w m) m) k DONE_COLUMN ≡ 1
         → w.past.durable k ≡ length (w.past.history k)
@@ -98,7 +115,7 @@ step_durable g V w m s f nothing can c k l e = by (marks_or_leaves g w m s can)
         → (effect_of g w m s).past.durable k ≡ length ((effect_of g w m s).past.history k)
     by (inl (can, is)) = subst (λ u. u.past.durable k ≡ length (u.past.history k)) (sym is)
         (marked can (cases_eq k m) (subst (λ u. own_word u k DONE_COLUMN ≡ 1) is e))
-    by (inr same) = still_durable g V w m s f nothing can c k l
+    by (inr same) = still_durable g V w m s f nothing later can c k l
         (sym (same k ((effect_of g w m s).past.view k)) ∙ e)
 
 -- ---- who has ended as done
@@ -108,7 +125,7 @@ ends_shown : (g : Group) (V : Views) (w : World) (k : ℕ) → Faithful g V w �
     → EndsSo w k Done → (i : ℕ) → has (w.members k) i ≡ true → w.past.own i (w.past.view k) DONE_COLUMN ≡ 1
 ends_shown g V w k f c (inl before) = c.shown k before
 ends_shown g V w k f c (inr (inl due)) = λ i member. done_is_one g V w i (w.past.view k) f
-    (omega (arith, due.all i member, shown_le g V w k i DONE_COLUMN f))
+    (omega (arith, due.1.all i member, shown_le g V w k i DONE_COLUMN f))
 ends_shown g V w k f c (inr (inr fault)) = absurd fault
 
 -- and who shows done in a view goes on to do so
@@ -125,18 +142,30 @@ step_shown g V U w m s f after grew can c k e i member =
     (omega (arith, shows, (grew.own i (w.past.view k) DONE_COLUMN).number)))
 
 -- so one that has ended as done shows it itself
-pub done_shown : (g : Group) (V : Views) (w : World) (m : ℕ) → Faithful g V w → Complete g w → IsPresent g m
+pub done_shown : (g : Group) (V : Views) (w : World) (m : ℕ) → Faithful g V w → Complete g w → m < roster g
     → w.end m ≡ Some Done → own_word w m DONE_COLUMN ≡ 1
-done_shown g V w m f c there e = c.shown m e m
-    (subst (λ x. has x m ≡ true) (sym (f.views.own m)) (f.views.present m there))
+done_shown g V w m f c l e = c.shown m e m (c.inside m e)
+
+-- and who has ended so is in its view
+step_inside : (g : Group) (w : World) (m : ℕ) (s : Step) → CanTake g w m s → Complete g w
+    → (k : ℕ) → (effect_of g w m s).end k ≡ Some Done → IsInView (effect_of g w m s) k
+step_inside g w m s can c k e =
+    let t = ended_so g w m s k Done can e in
+    ap (λ mask. has mask k) t.0.members ∙ by t.1
+  where
+    by : EndsSo w k Done → has (w.members k) k ≡ true
+    by (inl before) = c.inside k before
+    by (inr (inl due)) = due.0
+    by (inr (inr fault)) = absurd fault
 
 -- after an event too, who shows done has completed its history
 pub event_completes : (g : Group) (V : Views) (w : World) (e : Event) → Faithful g V w
     → Faithful g V (effect g w e) → WordsGrew g w (effect g w e)
     → ((m : ℕ) → CanDeliver g w m → m < roster g → own_word w m DONE_COLUMN ≡ 1 → added w m
     ≡ [])
-    → Guard g w e → Complete g w → Complete g (effect g w e)
-event_completes g V w e f after grew nothing can c = record {
-  durable = step_durable g V w (member_of e) (step_of e) f nothing can c;
+    → JoinsLater g w → Guard g w e → Complete g w → Complete g (effect g w e)
+event_completes g V w e f after grew nothing later can c = record {
+  durable = step_durable g V w (member_of e) (step_of e) f nothing later can c;
+  inside = step_inside g w (member_of e) (step_of e) can c;
   shown = step_shown g V V w (member_of e) (step_of e) f after grew can c;
 }

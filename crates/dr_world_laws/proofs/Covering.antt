@@ -11,19 +11,18 @@ use Rattle.dr_history_laws.specs.Courses.{counts_taken, view_in}
 use Rattle.dr_history_laws.proofs.Courses.{head-next}
 use Rattle.dr_history_laws.proofs.Cutting.{merge-prefix}
 use Rattle.dr_machine.specs.Group.{Group, IsGroup, roster}
-use Rattle.dr_machine.specs.Votes.{vote_in}
 use Rattle.dr_machine.specs.World.{World}
-use Rattle.dr_words.specs.Masks.{without}
+use Rattle.dr_words.specs.Masks.{next_members}
 use Rattle.dr_faithful.specs.Chosen.{AreChosen, Values, endings_by, views_by}
-use Rattle.dr_vote_laws.proofs.Cuts.{vote_cut}
-use Rattle.dr_vote_laws.proofs.Values.{somebody}
 use Rattle.dr_vote_laws.specs.Voting.{IsChosen, IsCut}
 use Rattle.dr_world_laws.specs.Historic.{head_by}
 use Rattle.dr_world_laws.specs.Views.{IsCovered, all_taken}
-use Rattle.dr_world_laws.proofs.HeldViews.{behind-is, head-last, reaches}
+use Rattle.dr_world_laws.proofs.HeldViews.{behind-is}
+use Rattle.dr_history_laws.proofs.Heads.{head-last}
+use Rattle.dr_world_laws.proofs.Holding.{reaches}
 use Rattle.dr_world_laws.proofs.Safety.{kept_in}
-use Rattle.dr_world_laws.proofs.Away.{there-or-first}
-use Rattle.dr_world_laws.proofs.ChosenViews.{place-kept, remaining-next, views-next}
+use Rattle.dr_world_laws.proofs.ChosenViews.{ending-next, place-kept, views-come}
+use Rattle.dr_world_laws.proofs.Ballots.{cut-changes, voted-cut}
 use Rattle.dr_world_laws.proofs.Reached.{Known, safe}
 
 -- a member of a view in which a value is committed has delivered nothing that this value cuts off
@@ -31,8 +30,8 @@ pub delivered_within : (g : Group) (values : Values) (w : World) (m k : ℕ) (x 
     → Known g values w → AreChosen values w → m < roster g → w.committed k ≡ Some x
     → w.past.view m ≡ w.past.view k
     → w.next m ≤ front_of (counts_taken g.opening (endings_by g.opening values) (w.past.view m))
-delivered_within g values w m k x is y chosen l e same = place-kept g values w m is y.faithful (there-or-first g w m y.away) (λ s there.
-    let t = (safe g values w k x is y e).least s (sym (member s) ∙ there) in (
+delivered_within g values w m k x is y chosen l e same = place-kept g values w m is y.faithful y.outside l (λ s there.
+    let t = (safe g values w k x y e).least s (sym (member s) ∙ there) in (
       t.0,
       member t.0 ∙ t.1,
       subst (λ (z : Value). w.past.count t.0 (w.past.view m) s ≤ slice_index z.trim s) value
@@ -77,13 +76,13 @@ pub covered : (g : Group) (values : Values) (w : World) (v b : ℕ) → IsGroup 
     → IsCovered g w v (views_by g values v) (values v)
 covered g values w v b is y voted = record {
   within = λ m before behind l here e.
-      let r = reaches g values w m v y l (omega (arith, here)) in
+      let r = reaches g values w m v y.laid.historic l (omega (arith, here)) in
       subst (λ es. IsPrefixOf es merged) (sym (behind-is g values w m v (views_by g values v)
       (views_by g values v) before behind t.0 r.0 is y l e (sym r.1 ∙ head_with r.0)))
       (prefix_behind (head_by g values w v) r.0 merged
       (subst (λ es. IsPrefixOf es (head_by g values w v ++ merged)) (sym r.1) (delivered m l here)));
   whole = λ m before behind l less e.
-      let r = reaches g values w m (v + 1) y l (omega (arith, less)) in (
+      let r = reaches g values w m (v + 1) y.laid.historic l (omega (arith, less)) in (
         r.0,
         sym (behind-is g values w m v (views_by g values v) (views_by g values v) before behind t.0
             ((merged ++ next) ++ r.0) is y l e (sym r.1
@@ -102,7 +101,7 @@ covered g values w v b is y voted = record {
     merged = all_taken g w v (views_by g values v) (values v)
 
     next : List Entry
-    next = View g.opening.age (v + 1) (without (views_by g values v) (values v).leavers) ∷ []
+    next = View g.opening.age (v + 1) (next_members (views_by g values v) (values v).leavers) ∷ []
 
     t : (before : List Entry) × (head_by g values w v
         ≡ before ++ View g.opening.age v (views_by g values v) ∷ [])
@@ -113,10 +112,8 @@ covered g values w v b is y voted = record {
     head_with rest = ap (λ es. es ++ rest) t.1
         ∙ append_assoc t.0 (View g.opening.age v (views_by g values v) ∷ []) rest
 
-    cut : IsCut (views_by g values v) w.past.own v (values v)
-    cut =
-        let one = somebody g (views_by g values) w v b (values v) y.voting voted in
-        vote_cut g (views_by g values) w one.0 (vote_in g v b (values v)) y.voting one.1
+    cut : IsCut g.opening (views_by g values) w.past.own v (values v)
+    cut = voted-cut g values w v b y.voting voted
 
     least : (s : ℕ) → has (views_by g values v) s ≡ true
         → (j : ℕ) × (has (views_by g values v) j ≡ true)
@@ -132,19 +129,19 @@ covered g values w v b is y voted = record {
         ≡ (head_by g values w v
         ++ merge g.opening w.past.sent (view_in g.opening (endings_by g.opening values) v)
         (counts_taken g.opening (endings_by g.opening values) v))
-        ++ View g.opening.age (v + 1) (without (views_by g values v) (values v).leavers) ∷ []
+        ++ View g.opening.age (v + 1) (next_members (views_by g values v) (values v).leavers) ∷ []
     head = head-next g.opening w.past.sent (endings_by g.opening values) v
         ∙ ap (λ mask. (head_by g values w v
         ++ merge g.opening w.past.sent (view_in g.opening (endings_by g.opening values) v)
         (counts_taken g.opening (endings_by g.opening values) v)) ++ View g.opening.age (v + 1) mask ∷ [])
-        (remaining-next g values v ∙ views-next g values v)
+        (ending-next g values v ∙ views-come g values v is (cut-changes g values w.past.own v cut))
 
     delivered : (m : ℕ) → m < roster g → w.past.view m ≡ v → IsPrefixOf (w.past.history m)
         (head_by g values w v ++ all_taken g w v (views_by g values v) (values v))
     delivered m l here = subst (λ u. IsPrefixOf (w.past.history m) (head_by g values w u
         ++ merge g.opening w.past.sent (view_in g.opening (endings_by g.opening values) u)
         (counts_taken g.opening (endings_by g.opening values) u))) here
-        (front_part g values w m y l (place-kept g values w m is y.faithful (there-or-first g w m y.away) (λ s there.
+        (front_part g values w m y l (place-kept g values w m is y.faithful y.outside l (λ s there.
         subst (λ u. (j : ℕ) × (has (views_by g values u) j ≡ true)
         × (w.past.count j u s ≤ slice_index (values u).trim s)) (sym here)
         (least s (subst (λ u. has (views_by g values u) s ≡ true) here there)))))

@@ -12,27 +12,27 @@ use Rattle.dr_history.specs.History.{GroupView, item_at, merge, messages_of}
 use Rattle.dr_history.specs.Order.{messages_from}
 use Rattle.dr_history.specs.Places.{is_held, rest_places}
 use Rattle.dr_history.proofs.NumberedLemmas.{length-numbered_messages}
-use Rattle.dr_history_laws.specs.Courses.{MayCome, ViewHasEnded, counts_taken}
+use Rattle.dr_history_laws.specs.Courses.{ViewHasEnded, counts_taken}
 use Rattle.dr_history_laws.specs.Laid.{GoesOn, entry_at, laid}
 use Rattle.dr_history_laws.proofs.Courses.{InOrder-head, head-ends, head-next}
 use Rattle.dr_history_laws.proofs.Indices.{item_at-parts}
 use Rattle.dr_history_laws.proofs.Lists.{Contains-slice_get}
-use Rattle.dr_history_laws.proofs.Members.{member-has, view-distinct}
+use Rattle.dr_history_laws.proofs.Members.{member-has, members_of-few, view-distinct}
 use Rattle.dr_history_laws.proofs.Resting.{rest-merged}
 use Rattle.dr_history_laws.proofs.SendingLemmas.{held_member}
-use Rattle.dr_words.specs.Masks.{IsMajorityOf, without}
+use Rattle.dr_words.specs.Masks.{next_members}
 use Rattle.dr_machine.specs.Effects.{counts_by, finished_history, with_place}
-use Rattle.dr_machine.specs.Group.{Group, IsGroup, IsPresent, roster}
+use Rattle.dr_machine.specs.Group.{Group, IsGroup, banks, late_members, roster}
 use Rattle.dr_machine.specs.Guards.{CanFinish}
 use Rattle.dr_machine.specs.World.{World, view_members}
+use Rattle.dr_faithful.proofs.Beside.{in_view}
 use Rattle.dr_faithful.proofs.Finishes.{no_items}
 use Rattle.dr_faithful.specs.Chosen.{AreChosen, Values, endings_by, views_by}
 use Rattle.dr_faithful.specs.Faithful.{Faithful, GoesOnWell}
 use Rattle.dr_world_laws.specs.Historic.{AreLaid, Historic, HasEndedSafely, head_by, view_numbered}
-use Rattle.dr_world_laws.proofs.ChosenViews.{next-succeeds, place-kept, remaining-next, views-next, views-part, views-remain, views-within}
-use Rattle.dr_world_laws.proofs.Histories.{ComesToHead}
+use Rattle.dr_world_laws.proofs.ChosenViews.{Changes, ending-next, next-follows, next-majority, next-newcomers, next-roster, next-stayed, place-kept, views-cases, views-come, views-within}
 use Rattle.dr_world_laws.proofs.Safety.{IsSafe}
-use Rattle.dr_world_laws.proofs.Items.{IsReceived, entries-next, item-here}
+use Rattle.dr_world_laws.proofs.Items.{AreOutside, IsReceived, entries-next, item-here}
 
 -- a member of a view is of the roster
 of_roster : (g : Group) (values : Values) (v s : ℕ) → IsGroup g
@@ -63,20 +63,24 @@ goes-any g values w v is f h = record {
 
 -- what is known of a member that may end its view with a value
 pub record Finishes (g : Group) (values : Values) (w : World) (m : ℕ) (x : Value) : Type 0 where
-  pub there : IsPresent g m
   pub within : m < roster g
+  pub inside : has (views_by g values (w.past.view m)) m ≡ true
   pub chosen : x ≡ values (w.past.view m)
-  pub safe : IsSafe w m x
+  pub stays : has (values (w.past.view m)).leavers m ≡ false
+  pub bank : w.past.view m + 1 < banks g
+  pub safe : IsSafe g (views_by g values) w m x
   pub items : (s : ℕ) → has (views_by g values (w.past.view m)) s ≡ true
       → slice_index (values (w.past.view m)).trim s ≤ w.past.count m (w.past.view m) s
 
 pub finishes : (g : Group) (values : Values) (w : World) (m : ℕ) → IsGroup g
     → Faithful g (views_by g values) w → AreChosen values w → (can : CanFinish g w m)
-    → IsSafe w m can.value → Finishes g values w m can.value
+    → IsSafe g (views_by g values) w m can.value → Finishes g values w m can.value
 finishes g values w m is f chosen can safe = record {
-  there = can.may.alive.present;
-  within = f.views.within (w.past.view m) m (f.views.present m can.may.alive.present);
+  within = f.views.within (w.past.view m) m inside;
+  inside = inside;
   chosen = one;
+  stays = subst (λ (y : Value). has y.leavers m ≡ false) one can.stays;
+  bank = can.bank;
   safe = safe;
   items = λ s member. subst (λ (y : Value). slice_index y.trim s ≤ w.past.count m (w.past.view m) s) one
       (can.items s (ap (λ k. has k s) (f.views.own m) ∙ member));
@@ -85,13 +89,35 @@ finishes g values w m is f chosen can safe = record {
     one : can.value ≡ values (w.past.view m)
     one = chosen m can.value can.committed
 
+    inside : has (views_by g values (w.past.view m)) m ≡ true
+    inside = in_view g (views_by g values) w m f can.may.inside
+
+-- a value that is safe changes the view as it should
+pub changes : (g : Group) (values : Values) (w : World) (m : ℕ) (x : Value)
+    → x ≡ values (w.past.view m) → IsSafe g (views_by g values) w m x
+    → Changes g values (w.past.view m)
+changes g values w m x chosen safe = record {
+  mask = safe.mask;
+  part = safe.part;
+  majority = safe.majority;
+  stay = λ i h. subst (λ (y : Value). has y.leavers i ≡ false) chosen (safe.stay i h);
+  newcomers = λ i h. safe.newcomers i (subst (λ (y : Value). has y.leavers i ≡ true) (sym chosen) h);
+  named = (safe.named.0, subst (λ (y : Value). has y.leavers safe.named.0 ≡ true) chosen safe.named.1);
+}
+
+-- the numbers of views are small
+pub banks-small : (g : Group) → IsGroup g → banks g ≤ 32
+banks-small g is = omega (arith, is.most_members, members_of-few (late_members g))
+
 -- the view that it ends
 pub leaves : (g : Group) (values : Values) (w : World) (m : ℕ) (x : Value) → IsGroup g
     → Faithful g (views_by g values) w → Finishes g values w m x → HasEndedSafely g values w (w.past.view m)
 leaves g values w m x is f y = record {
   ended = record {
-    succeeded = next-succeeds g values v y.safe.leaver.0 is (member y.safe.leaver.0 ∙ y.safe.leaver.1)
-        (subst (λ (z : Value). has z.leavers y.safe.leaver.0 ≡ true) y.chosen y.safe.leaver.2) most;
+    follows = next-follows g values v is c (omega (arith, y.bank, banks-small g is));
+    roster = next-roster g values v is c;
+    majority = next-majority g values v is c;
+    newcomers = λ s h. next-newcomers g values v s is c h;
     given = λ s at.
         let there = member-has (views_by g values v) at.0 s
         (slice_get-get_or (members_of (views_by g values v)) at.0 s at.1 ∙ ap Some at.2) in
@@ -105,22 +131,37 @@ leaves g values w m x is f y = record {
         subst (λ (z : Value). w.past.count t.0 v s ≤ slice_index z.trim s)
             y.chosen t.3,
       );
-  covered = λ i s remains there. subst (λ (z : Value). slice_index z.trim s ≤ w.past.count i v s) y.chosen
-      (y.safe.covered i s (sym (member i) ∙ views-part g values v i is remains)
-      (subst (λ (z : Value). has z.leavers i ≡ false) (sym y.chosen) (views-remain g values v i is remains))
+  covered = λ i s was remains there. subst (λ (z : Value). slice_index z.trim s ≤ w.past.count i v s) y.chosen
+      (y.safe.covered i s (sym (member i) ∙ was)
+      (subst (λ (z : Value). has z.leavers i ≡ false) (sym y.chosen)
+      (stay i was (views-cases g values v i remains)))
       (sym (member s) ∙ there));
 }
   where
     v : ℕ
     v = w.past.view m
 
+    c : Changes g values (w.past.view m)
+    c = changes g values w m x y.chosen y.safe
+
+    stay : (i : ℕ) → has (views_by g values (w.past.view m)) i ≡ true
+        → ((has (views_by g values (w.past.view m)) i ≡ true)
+        × (has (values (w.past.view m)).leavers i ≡ false))
+        ⊎ ((has (views_by g values (w.past.view m)) i ≡ false)
+        × (has (values (w.past.view m)).leavers i ≡ true)) → has (values (w.past.view m)).leavers i ≡ false
+    stay i was (inl t) = t.1
+    stay i was (inr t) = absurd (cc (was, t.0))
+
     member : (i : ℕ) → has (views_by g values (w.past.view m)) i ≡ has (w.members m) i
     member i = sym (ap (λ k. has k i) (f.views.own m))
 
-    most : IsMajorityOf (views_by g values (w.past.view m + 1)) (views_by g values (w.past.view m))
-    most = subst (λ mask. IsMajorityOf mask (views_by g values v)) (sym (views-next g values v))
-        (subst (λ (z : Value). IsMajorityOf (without (views_by g values v) z.leavers) (views_by g values v))
-        y.chosen (subst (λ mask. IsMajorityOf (without mask x.leavers) mask) (f.views.own m) y.safe.majority))
+-- the members that come of it are those of the next view
+pub next-is : (g : Group) (values : Values) (w : World) (m : ℕ) (x : Value) → IsGroup g
+    → Faithful g (views_by g values) w → Finishes g values w m x
+    → next_members (w.members m) x.leavers ≡ views_by g values (w.past.view m + 1)
+next-is g values w m x is f y = ap (λ (z : Value). next_members (w.members m) z.leavers) y.chosen
+    ∙ ap (λ mask. next_members mask (values (w.past.view m)).leavers) (f.views.own m)
+    ∙ sym (views-come g values (w.past.view m) is (changes g values w m x y.chosen y.safe))
 
 -- a place of the merge adds its entry
 rest-place : (g : Group) (values : Values) (w : World) (m : ℕ) (x : Value) → IsGroup g
@@ -169,16 +210,17 @@ rest-place g values w m x is f h y q history held next =
 
 -- the history of a member that ends its view is the head of the next one
 pub finished-head : (g : Group) (values : Values) (w : World) (m : ℕ) (x : Value) → IsGroup g
-    → Faithful g (views_by g values) w → Historic g values w → Finishes g values w m x
+    → Faithful g (views_by g values) w → AreOutside g (views_by g values) w → Historic g values w
+    → Finishes g values w m x
     → finished_history g w m x ≡ head_by g values w (w.past.view m + 1)
-finished-head g values w m x is f h y =
+finished-head g values w m x is f out h y =
     ap (λ cs. fold (with_place w m) (w.past.history m) (rest_places cs (w.next m)) ++ last) counts
     ∙ ap (λ es. fold (with_place w m) es (rest_places taken (w.next m)) ++ last) (h.history m y.within)
     ∙ ap (λ es. es ++ last) (rest-merged g.opening w.past.sent (head_by g values w v) view
     (λ s. slice_index (values v).trim s) (w.next m) (with_place w m) (goes-any g values w v is f h)
     (view-distinct (head_by g values w v) view
     (head-ends g.opening w.past.sent (endings_by g.opening values) v))
-    (place-kept g values w m is f (inl y.there) least) (rest-place g values w m x is f h y))
+    (place-kept g values w m is f out y.within least) (rest-place g values w m x is f h y))
     ∙ ap (λ mask. (head_by g values w v ++ merge g.opening w.past.sent view taken)
     ++ View g.opening.age (v + 1) mask ∷ []) remain
     ∙ sym (head-next g.opening w.past.sent (endings_by g.opening values) v)
@@ -193,51 +235,49 @@ finished-head g values w m x is f h y =
     taken = counts_taken g.opening (endings_by g.opening values) (w.past.view m)
 
     last : List Entry
-    last = View g.opening.age (w.past.view m + 1) (without (w.members m) x.leavers) ∷ []
+    last = View g.opening.age (w.past.view m + 1) (next_members (w.members m) x.leavers) ∷ []
 
     counts : counts_by w m x
         ≡ counts_taken g.opening (endings_by g.opening values) (w.past.view m)
     counts = ap (λ (z : Value). map (λ s. slice_index z.trim s) (view_members w m)) y.chosen
         ∙ ap (λ mask. map (λ s. slice_index (values v).trim s) (members_of mask)) (f.views.own m)
 
-    remain : without (w.members m) x.leavers
-        ≡ (endings_by g.opening values (w.past.view m)).remaining
-    remain = ap (λ (z : Value). without (w.members m) z.leavers) y.chosen
-        ∙ ap (λ mask. without mask (values v).leavers) (f.views.own m)
-        ∙ sym (views-next g values v) ∙ sym (remaining-next g values v)
+    remain : next_members (w.members m) x.leavers
+        ≡ (endings_by g.opening values (w.past.view m)).next
+    remain = next-is g values w m x is f y ∙ sym (ending-next g values v)
 
     least : (s : ℕ) → has (views_by g values (w.past.view m)) s ≡ true
         → (j : ℕ) × (has (views_by g values (w.past.view m)) j ≡ true)
         × (w.past.count j (w.past.view m) s ≤ slice_index (values (w.past.view m)).trim s)
     least s there = let t = (leaves g values w m x is f y).least s there in (t.0, t.1, t.3)
 
--- so it comes to this head, from which the messages of the next view go on
-pub comes-to_head : (g : Group) (values : Values) (w : World) (m : ℕ) (x : Value) → IsGroup g
-    → Faithful g (views_by g values) w → Historic g values w → Finishes g values w m x
-    → ComesToHead g values w m x
-comes-to_head g values w m x is f h y = record {
-  history = finished-head g values w m x is f h y;
-  goes = goes-any g values w (w.past.view m + 1) is f h;
-}
+-- a head is in order, so it holds no more messages than the script
+pub head-few : (g : Group) (values : Values) (w : World) (s v : ℕ) (history : List Entry) → IsGroup g
+    → Faithful g (views_by g values) w → AreLaid g values w
+    → ((u : ℕ) → u < v → ViewHasEnded g.opening w.past.sent (endings_by g.opening values) u)
+    → history ≡ head_by g values w v
+    → length (messages_from s history) ≤ length (messages_of g.opening s)
+head-few g values w s v history is f laid ended same =
+    let numbered = (InOrder-head g.opening w.past.sent (endings_by g.opening values) v is.sound
+    (record { ended = ended; goes = λ u l. goes-any g values w u is f laid.historic })).numbered s in
+    omega (
+      arith,
+      ap (λ es. length (messages_from s es)) same,
+      ap length numbered.1,
+      length-append (messages_from s (head_by g values w v)) numbered.0,
+      length-numbered_messages g.opening s,
+    )
 
 -- and goes on well: the head is in order, so it holds no more messages than the script
 pub goes-on_well : (g : Group) (values : Values) (w : World) (m : ℕ) (x : Value) → IsGroup g
-    → Faithful g (views_by g values) w → AreLaid g values w → Finishes g values w m x
-    → GoesOnWell g (views_by g values) w m x
-goes-on_well g values w m x is f laid y = record {
+    → Faithful g (views_by g values) w → AreOutside g (views_by g values) w → AreLaid g values w
+    → Finishes g values w m x → GoesOnWell g (views_by g values) w m x
+goes-on_well g values w m x is f out laid y = record {
   wedged = y.safe.wedged;
-  next = views-next g values v ∙ ap (λ mask. without mask (values v).leavers) (sym (f.views.own m))
-      ∙ ap (λ (z : Value). without (w.members m) z.leavers) (sym y.chosen);
-  few =
-      let numbered = (InOrder-head g.opening w.past.sent (endings_by g.opening values) (v + 1) is.sound
-      may).numbered m in
-      omega (
-        arith,
-        ap (λ es. length (messages_from m es)) (finished-head g values w m x is f laid.historic y),
-        ap length numbered.1,
-        length-append (messages_from m (head_by g values w (v + 1))) numbered.0,
-        length-numbered_messages g.opening m,
-      );
+  next = sym (next-is g values w m x is f y);
+  stayed = next-stayed g values v (changes g values w m x y.chosen y.safe);
+  few = head-few g values w m (v + 1) (finished_history g w m x) is f laid
+      (λ u l. ended u (last_or_before u v l)) (finished-head g values w m x is f out laid.historic y);
 }
   where
     v : ℕ
@@ -251,9 +291,3 @@ goes-on_well g values w m x is f laid y = record {
 
     last_or_before : (u n : ℕ) → u < n + 1 → (u < n) ⊎ (u ≡ n)
     last_or_before u n l = grind (arith, l)
-
-    may : MayCome g.opening w.past.sent (endings_by g.opening values) (w.past.view m + 1)
-    may = record {
-      ended = λ u l. ended u (last_or_before u v l);
-      goes = λ u l. goes-any g values w u is f laid.historic;
-    }

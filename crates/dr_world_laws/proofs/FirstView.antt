@@ -7,18 +7,17 @@ use Rattle.dr_entry.specs.declared.entry.Item.{Item}
 use Rattle.dr_entry.specs.declared.entry.Item.TheVariants.{Null, Text}
 use Rattle.dr_history.specs.Members.{has}
 use Rattle.dr_history.specs.Order.{first_entries, messages_from}
-use Rattle.dr_machine.proofs.Events.{progress_after, standing_after}
+use Rattle.dr_machine.proofs.Events.{letters_after, progress_after, standing_after}
 use Rattle.dr_machine.proofs.Runs.{by_way}
 use Rattle.dr_machine.specs.declared.step.Step.{Step}
 use Rattle.dr_machine.specs.Acts.{CanTake, effect_of}
 use Rattle.dr_machine.specs.Effects.{entries_of, sender_at}
 use Rattle.dr_machine.specs.Events.{member_of, step_of}
 use Rattle.dr_machine.specs.Group.{Group, IsGroup, roster}
-use Rattle.dr_machine.specs.Guards.{CanFinish}
+use Rattle.dr_machine.specs.Guards.{CanFinish, CanJoin}
 use Rattle.dr_machine.specs.Writes.{at}
 use Rattle.dr_machine.specs.Run.{IsReachedWhere}
 use Rattle.dr_machine.specs.World.{World, item_at_place}
-use Rattle.dr_words.proofs.Bits.{has_ones}
 use Rattle.dr_faithful.proofs.Faithfulness.{faithful_begins, faithful_keeps}
 use Rattle.dr_faithful.proofs.Late.{arrived_keeps, backed_arrived, backed_begins, backed_event}
 use Rattle.dr_faithful.specs.Late.{AreBacked}
@@ -34,28 +33,40 @@ pub record AreUncommitted (g : Group) (w : World) : Type 0 where
   pub start : (m : ℕ) → w.base m ≡ length (messages_from m g.opening.start)
   -- each place delivered has added one entry at most
   pub short : (m : ℕ) → length (w.past.history m) ≤ length (first_entries g.opening) + w.next m
+  -- and no late member has a letter
+  pub unsent : (m : ℕ) → w.letter m ≡ None
 
 one_entry : (history : List Entry) (s : ℕ) (item : Item) → length (entries_of history s item) ≤ 1
 one_entry history s Null = omega arith
 one_entry history s (Text bytes) = omega arith
 
+-- the members of the one view that there is so far
+abbrev pub whole : Group → Views
+whole g v = g.opening.members
+
 step_keeps : (g : Group) (w : World) (m : ℕ) (s : Step) → CanTake g w m s → NobodySuspects w
-    → AreUncommitted g w → AreUncommitted g (effect_of g w m s)
-step_keeps g w m s can calm u = record {
+    → Faithful g (whole g) w → AreUncommitted g w → AreUncommitted g (effect_of g w m s)
+step_keeps g w m s can calm f u = record {
   none = stand.0;
   first = stand.1;
   start = went.0;
   short = went.1;
+  unsent = letters_after g w m s (λ letter. (k : ℕ) → letter k ≡ None) can
+      (λ j can. absurd (omega (arith, (f.views.came m can.welcomer).1, u.first m))) u.unsent;
 }
   where
     stays : CanFinish g w m → ⊥
     stays can = none-some can.value (sym (u.none m) ∙ can.committed)
+
+    never : CanJoin g w m → ⊥
+    never can = none-some can.letter (sym (u.unsent m) ∙ can.given)
 
     stand : ((k : ℕ) → (effect_of g w m s).committed k ≡ None)
         × ((k : ℕ) → (effect_of g w m s).past.view k ≡ 0)
     stand = standing_after g w m s (λ x. ((k : ℕ) → x.committed k ≡ None) × ((k : ℕ) → x.view k ≡ 0)) can
         (record {
           goes_on = λ can. absurd (stays can);
+          joins = λ can. absurd (never can);
           chooses = λ can. absurd (can.wedged (calm m));
           wedges = λ j can. (u.none, u.first);
           stops = λ end alive why. (u.none, u.first);
@@ -86,19 +97,20 @@ step_keeps g w m s can calm u = record {
           delivers_place = λ can. (u.start, delivered);
           knows_more = λ can. (u.start, u.short);
           goes_on = λ can. absurd (stays can);
+          joins = λ can. absurd (never can);
           stays = (u.start, u.short);
         })
 
--- nobody may end its view
-pub none_go_on : (g : Group) (V : Views) (w : World) → AreUncommitted g w → AllGoOn g V w
-none_go_on g V w u m can = absurd (none-some can.value (sym (u.none m) ∙ can.committed))
-
--- the members of the one view that there is so far
-abbrev pub whole : Group → Views
-whole g v = g.opening.members
-
 whole_within : (g : Group) → IsGroup g → (v m : ℕ) → has (whole g v) m ≡ true → m < roster g
 whole_within g is v m h = is.sound.members.within m h
+
+-- nobody may end its view or join
+pub none_go_on : (g : Group) (w : World) → AreUncommitted g w → AllGoOn g (whole g) w
+none_go_on g w u = record {
+  finish = λ m can. absurd (none-some can.value (sym (u.none m) ∙ can.committed));
+  join = λ m can. absurd (none-some can.letter (sym (u.unsent m) ∙ can.given));
+  wish = λ m j there may. record { late = may.0; absent = λ n l. may.0.1 };
+}
 
 -- so nothing is committed in a world that is reached by worlds in which nobody suspects anybody, and the
 -- members are faithful in the one view
@@ -107,16 +119,16 @@ pub trusting : (g : Group) (w : World) → IsGroup g → IsReachedWhere g Nobody
 trusting g w is r = let y = by_way g NobodySuspects
     (λ us u. AreUncommitted g u × Faithful g (whole g) u × AreBacked g (whole g) us u)
     (λ us u e run calm can f. (
-      step_keeps g u (member_of e) (step_of e) can (All-head NobodySuspects u us calm) f.0,
-      faithful_keeps g (whole g) u e is (none_go_on g (whole g) u f.0) can f.1,
-      backed_event g (whole g) us u e is (none_go_on g (whole g) u f.0) can f.1 f.2,
+      step_keeps g u (member_of e) (step_of e) can (All-head NobodySuspects u us calm) f.1 f.0,
+      faithful_keeps g (whole g) u e is (none_go_on g u f.0) can f.1,
+      backed_event g (whole g) us u e is (none_go_on g u f.0) can f.1 f.2,
     ))
     (λ us u table run calm come f. (
-      record { none = f.0.none; first = f.0.first; start = f.0.start; short = f.0.short },
+      record { none = f.0.none; first = f.0.first; start = f.0.start; short = f.0.short; unsent = f.0.unsent },
       arrived_keeps g (whole g) us u table come f.2 f.1,
       backed_arrived g (whole g) us u table f.1 come f.2,
     )) (
-      record { none = λ m. refl; first = λ m. refl; start = λ m. refl; short = λ m. omega arith },
+      record { none = λ m. refl; first = λ m. refl; start = λ m. refl; short = λ m. omega arith; unsent = λ m. refl },
       faithful_begins g (whole g) is refl (whole_within g is),
       backed_begins g (whole g),
     ) r.0 w r.1 r.2 in (y.0, y.1)

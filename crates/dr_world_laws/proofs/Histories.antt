@@ -5,7 +5,7 @@ use Rattle.dr_entry.specs.declared.end.SentItem.{SentItem}
 use Rattle.dr_entry.specs.declared.end.SentItem.TheVariants.{Index, Null}
 use Rattle.std.proofs.lemmas.Bool.{cases_eq}
 use Rattle.dr_history.specs.declared.opening.Opening.{Opening}
-use Rattle.dr_history.specs.History.{IsPrefixOf, GroupView, Sent, messages_in}
+use Rattle.dr_history.specs.History.{IsPrefixOf, GroupView, Sent, last_view, messages_in}
 use Rattle.dr_history.specs.Order.{messages_from}
 use Rattle.dr_history_laws.specs.Laid.{laid, entry_at, GoesOn, HeldBelow, MayBeNext, SentMore}
 use Rattle.dr_history_laws.proofs.LaidLemmas.{laid-next}
@@ -18,15 +18,15 @@ use Rattle.dr_machine.proofs.Events.{IsNextItem, Progress, progress, progress_af
 use Rattle.dr_machine.specs.Events.{member_of, step_of}
 use Rattle.dr_machine.specs.Group.{Group, roster, IsPresent}
 use Rattle.dr_machine.specs.Acts.{CanTake, Guard, effect, effect_of}
-use Rattle.dr_machine.specs.Guards.{CanDeliver, CanFinish}
+use Rattle.dr_machine.specs.Guards.{CanDeliver, CanFinish, CanJoin}
 use Rattle.dr_machine.specs.Writes.{at₂}
 use Rattle.dr_machine.specs.World.{World, item_at_place}
-use Rattle.dr_machine.specs.Effects.{delivers, finished_history, finishes, finishes_by, entries_of, sender_at}
+use Rattle.dr_machine.specs.Effects.{delivers, enters, finished_history, finishes, entries_of, joins, sender_at}
 use Rattle.dr_faithful.specs.Tells.{Views}
 use Rattle.dr_faithful.specs.Chosen.{Values, endings_by, views_by}
 use Rattle.dr_faithful.proofs.Faithfulness.{committed_is}
-use Rattle.dr_faithful.proofs.Writes.{at_both, at_case, at_three, at₂_case, at₂_read}
-use Rattle.dr_entry.specs.declared.record.Value.{Value}
+use Rattle.dr_faithful.proofs.Finishes.{joined_is}
+use Rattle.dr_faithful.proofs.Writes.{at_both, at_three, at₂_case, at₂_read}
 use Rattle.dr_world_laws.specs.Historic.{Historic, head_by, view_numbered}
 
 -- what the next place adds
@@ -168,43 +168,23 @@ put_keeps g values w m name ended held next h = record {
         (view_numbered g (views_by g values) v) (λ s. at₂_view w.past.sent m u items s v other)
         (h.goes k v l come)
 
--- a member goes on in the next view
-finish_keeps : (g : Group) (values : Values) (w : World) (m : ℕ) (x : Value)
-    → finished_history g w m x ≡ head_by g values w (w.past.view m + 1)
-    → GoesOn g.opening w.past.sent (head_by g values w (w.past.view m + 1))
-    (view_numbered g (views_by g values) (w.past.view m + 1))
+-- a member goes on in a view with its head
+enter_keeps : (g : Group) (values : Values) (w : World) (m to members : ℕ) (history : List Entry)
+    → history ≡ head_by g values w to
+    → ((u : ℕ) → GoesOn g.opening w.past.sent (head_by g values w u) (view_numbered g (views_by g values) u))
     → Historic g values w
-    → Historic g values (finishes_by g w m x)
-finish_keeps g values w m x is next h = record {
+    → Historic g values (enters w m to members history)
+enter_keeps g values w m to members history is goes h = record {
   history = at_three
       (λ k es b p. k < roster g → es
       ≡ course g.opening w.past.sent (endings_by g.opening values) b p)
-      w.past.history w.past.view w.next m (finished_history g w m x) (w.past.view m + 1) 0 h.history
-      (λ l. is ∙ sym (course-head g.opening w.past.sent (endings_by g.opening values) (w.past.view m + 1)));
-  goes = λ k v. at_case
-      (λ i b. i < roster g → v ≤ b
-      → GoesOn g.opening w.past.sent (head_by g values w v) (view_numbered g (views_by g values) v))
-      w.past.view m (w.past.view m + 1) (λ i d. h.goes i v) (λ l come. by v l (last_or_before v come)) k;
+      w.past.history w.past.view w.next m history to 0 h.history
+      (λ l. is ∙ sym (course-head g.opening w.past.sent (endings_by g.opening values) to));
+  goes = λ k v l come. goes v;
   based = at_both (λ k base b. k < roster g → base ≡ length (messages_from k (head_by g values w b)))
-      w.base w.past.view m (length (messages_from m (finished_history g w m x))) (w.past.view m + 1) h.based
+      w.base w.past.view m (length (messages_from m history)) to h.based
       (λ l. ap (λ es. length (messages_from m es)) is);
 }
-  where
-    last_or_before : (v : ℕ) → v ≤ w.past.view m + 1 → (v ≤ w.past.view m) ⊎ (v ≡ w.past.view m + 1)
-    last_or_before v l = grind (arith, l)
-
-    by : (v : ℕ) → m < roster g → (v ≤ w.past.view m) ⊎ (v ≡ w.past.view m + 1)
-        → GoesOn g.opening w.past.sent (head_by g values w v) (view_numbered g (views_by g values) v)
-    by v l (inl come) = h.goes m v l come
-    by v l (inr same) = subst
-        (λ n. GoesOn g.opening w.past.sent (head_by g values w n) (view_numbered g (views_by g values) n))
-        (sym same) next
-
--- what has to be known of a member that may end its view
-pub record ComesToHead (g : Group) (values : Values) (w : World) (m : ℕ) (x : Value) : Type 0 where
-  pub history : finished_history g w m x ≡ head_by g values w (w.past.view m + 1)
-  pub goes : GoesOn g.opening w.past.sent (head_by g values w (w.past.view m + 1))
-      (view_numbered g (views_by g values) (w.past.view m + 1))
 
 -- what is known of the members before a step
 pub record AreReady (g : Group) (values : Values) (w : World) : Type 0 where
@@ -212,7 +192,12 @@ pub record AreReady (g : Group) (values : Values) (w : World) : Type 0 where
   pub ended : HaveEnded g values w
   pub held : AreHeld g (views_by g values) w
   pub adds : (m : ℕ) → CanDeliver g w m → AddsEntry g (views_by g values) w m
-  pub comes : (m : ℕ) → (can : CanFinish g w m) → ComesToHead g values w m can.value
+  pub goes : (u : ℕ) → GoesOn g.opening w.past.sent (head_by g values w u)
+      (view_numbered g (views_by g values) u)
+  pub comes : (m : ℕ) → (can : CanFinish g w m) → finished_history g w m can.value
+      ≡ head_by g values w (w.past.view m + 1)
+  pub joins : (m : ℕ) → (can : CanJoin g w m) → can.letter
+      ≡ head_by g values w (last_view (0, 0) can.letter).0
 
 -- the world, but for what its members have put and delivered
 abbrev with_progress : World → Progress → World
@@ -229,9 +214,16 @@ step_keeps g values w m s r can h = record { history = after.history; goes = aft
   where
     finish : CanFinish g w m → Historic g values (with_progress w (progress (finishes g w m)))
     finish can =
-        let c = r.comes m can in
         let next : Historic g values (finishes g w m) = committed_is w m can.value (Historic g values) g
-        can.committed (finish_keeps g values w m can.value c.history c.goes h) in
+        can.committed (enter_keeps g values w m (w.past.view m + 1) _ (finished_history g w m can.value)
+        (r.comes m can) r.goes h) in
+        record { history = next.history; goes = next.goes; based = next.based }
+
+    join : CanJoin g w m → Historic g values (with_progress w (progress (joins w m)))
+    join can =
+        let next : Historic g values (joins w m) = joined_is w m can.letter (Historic g values) can.given
+        (enter_keeps g values w m (last_view (0, 0) can.letter).0 (last_view (0, 0) can.letter).1 can.letter
+        (r.joins m can) r.goes h) in
         record { history = next.history; goes = next.goes; based = next.based }
 
     after : Historic g values (with_progress w (progress (effect_of g w m s)))
@@ -241,6 +233,7 @@ step_keeps g values w m s r can h = record { history = after.history; goes = aft
       delivers_place = λ can. deliver_keeps g values w m (r.adds m can) h;
       knows_more = λ can. h;
       goes_on = finish;
+      joins = join;
       stays = h;
     })
 

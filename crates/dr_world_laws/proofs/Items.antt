@@ -1,5 +1,5 @@
 -- The places that a member has received hold sent items, each of which it has as it was sent.
-use Rattle.std.proofs.Common.{◌≡◌, refl, ap, ap₂, ◌∙◌, ℕ, ◌/◌, ◌%◌, ◌<◌, arith, true, List, [], ◌∷◌, length, map, slice_index, slice_index_or, None, Some, slice_get, option_to_list, ◌⊎◌, inl, inr}
+use Rattle.std.proofs.Common.{Bool, ◌≡◌, false, refl, ap, ap₂, ◌∙◌, ℕ, ◌/◌, ◌%◌, ◌<◌, arith, true, List, [], ◌∷◌, length, map, slice_index, slice_index_or, None, Some, slice_get, option_to_list}
 use Rattle.std.proofs.lemmas.Option.{get_or_from_slice_get, slice_get-get_or}
 use Rattle.dr_entry.specs.declared.entry.Entry.{Entry}
 use Rattle.dr_entry.specs.declared.entry.Entry.TheVariants.{Msg}
@@ -14,32 +14,41 @@ use Rattle.dr_history_laws.specs.Laid.{HeldBelow, entry_at}
 use Rattle.dr_history_laws.proofs.SendingLemmas.{HeldBelow-front, held_member}
 use Rattle.dr_history_laws.proofs.Members.{member-has}
 use Rattle.dr_history_laws.proofs.Indices.{item_at-of_parts}
-use Rattle.dr_machine.specs.Group.{Group, IsPresent, roster}
+use Rattle.dr_machine.specs.Group.{Group, roster}
 use Rattle.dr_machine.specs.World.{World, item_at_place, own_word}
 use Rattle.dr_machine.specs.Effects.{entries_of, sender_at}
 use Rattle.dr_faithful.specs.Faithful.{Faithful}
 use Rattle.dr_faithful.specs.Tells.{Views, item_named}
 use Rattle.dr_world_laws.specs.Historic.{view_numbered}
 
+-- a member that is none of its view, as it is late and hasn't joined, has the first view, and has delivered
+-- nothing behind it
+abbrev pub AreOutside : Group → Views → World → Type 0
+AreOutside g V w = (m : ℕ) → m < roster g → has (V (w.past.view m)) m ≡ false
+    → (w.past.view m ≡ 0) × (w.next m ≡ 0)
+
 -- every place below the next one of a member holds a sent item
-held-there : (g : Group) (V : Views) (w : World) (m : ℕ) → Faithful g V w → IsPresent g m
+held-in : (g : Group) (V : Views) (w : World) (m : ℕ) → Faithful g V w → has (V (w.past.view m)) m ≡ true
     → HeldBelow w.past.sent (view_numbered g V (w.past.view m)) (w.next m)
-held-there g V w m f there = HeldBelow-front w.past.sent (view_numbered g V v) (w.past.count m v) (w.next m)
+held-in g V w m f here = HeldBelow-front w.past.sent (view_numbered g V v) (w.past.count m v) (w.next m)
     (λ s _. omega (arith, f.items.counted m v s, f.sent.all s v))
     (omega (
       arith,
-      f.delivered.held m m there (f.views.present m there),
+      f.delivered.held m m here,
       f.counts.received m v,
     ))
   where
     v : ℕ
     v = w.past.view m
 
--- and no place is below the first one
-pub held-next : (g : Group) (V : Views) (w : World) (m : ℕ) → Faithful g V w
-    → IsPresent g m ⊎ (w.next m ≡ 0) → HeldBelow w.past.sent (view_numbered g V (w.past.view m)) (w.next m)
-held-next g V w m f (inl there) = held-there g V w m f there
-held-next g V w m f (inr none) = λ p l. absurd (omega (arith, none, l))
+pub held-next : (g : Group) (V : Views) (w : World) (m : ℕ) → Faithful g V w → AreOutside g V w → m < roster g
+    → HeldBelow w.past.sent (view_numbered g V (w.past.view m)) (w.next m)
+held-next g V w m f out l = by (has (V (w.past.view m)) m) refl
+  where
+    by : (b : Bool) → has (V (w.past.view m)) m ≡ b
+        → HeldBelow w.past.sent (view_numbered g V (w.past.view m)) (w.next m)
+    by true here = held-in g V w m f here
+    by false none = let zero = (out m l none).1 in λ q less. absurd (omega (arith, zero, less))
 
 -- the place p holds an item of s, and m has it as s put it
 pub record IsReceived (g : Group) (V : Views) (w : World) (m p : ℕ) : Type 0 where

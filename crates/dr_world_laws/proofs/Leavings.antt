@@ -1,6 +1,5 @@
 -- Members are ended by suspicion only where they are left out.
-use Rattle.dr_world_laws.proofs.Away.{AreAway, ended-there}
-use Rattle.std.proofs.Common.{All, List, ◌⊎◌, inl, inr, ◌≡◌, refl, ap, sym, ◌∙◌, subst, ℕ, ◌<◌, ◌&&◌, not, true}
+use Rattle.std.proofs.Common.{All, List, ◌⊎◌, inl, inr, ◌≡◌, refl, ap, sym, ◌∙◌, subst, ℕ, ◌<◌, ◌&&◌, not}
 use Rattle.std.specs.Prelude.{⊤, Option, None, Some}
 use Rattle.std.proofs.lemmas.Bool.{and_parts}
 use Rattle.std.proofs.lemmas.List.Elements.{All-head, All-tail}
@@ -13,8 +12,8 @@ use Rattle.dr_words.proofs.Masks.{has_without_mask}
 use Rattle.dr_machine.specs.declared.step.Step.{Step}
 use Rattle.dr_machine.specs.Acts.{CanTake, effect_of}
 use Rattle.dr_machine.specs.Events.{member_of, step_of}
-use Rattle.dr_machine.specs.Group.{Group, IsGroup, roster, IsPresent}
-use Rattle.dr_machine.specs.Guards.{IsDue, IsFault, IsMinority, IsSuspectedBy}
+use Rattle.dr_machine.specs.Group.{Group, IsGroup, roster}
+use Rattle.dr_machine.specs.Guards.{IsDue, IsFault, IsInView, IsMinority, IsSuspectedBy}
 use Rattle.dr_machine.specs.Run.{Way, WordsGrew, with_table}
 use Rattle.dr_machine.specs.World.{Table, World}
 use Rattle.dr_machine.proofs.Ends.{EndsSo, IsStill, ended_so}
@@ -26,7 +25,7 @@ use Rattle.dr_faithful.specs.Tells.{Views}
 use Rattle.dr_faithful.proofs.Faithfulness.{words_on}
 use Rattle.dr_faithful.proofs.Suspicions.{members_small, suspicions_told}
 use Rattle.dr_world_laws.specs.Ends.{IsLeftWith, IsSuspectedBack}
-use Rattle.dr_world_laws.proofs.Reached.{all-go_on, event-known, known}
+use Rattle.dr_world_laws.proofs.Reached.{all-go_on, known}
 
 -- an end by suspicion is that of a member that is left out of its view
 abbrev pub IsLeftSo : World → ℕ → Option End → Type 0
@@ -51,30 +50,27 @@ named_so g V w m by f due = record {
 }
 
 -- a member whose others that it trusts are few is among those, and they are of its view
-few_left : (g : Group) (V : Views) (w : World) (m mask : ℕ) → IsGroup g → Faithful g V w → IsPresent g m
+few_left : (g : Group) (V : Views) (w : World) (m mask : ℕ) → IsGroup g → Faithful g V w → IsInView w m
     → IsMinority w m mask → IsLeftWith w m mask
-few_left g V w m mask is f there due = record {
+few_left g V w m mask is f own due = record {
   unsuspected = due.unsuspected;
   own = who m ∙ rw (f.suspicions.trusted m, own) refl;
   members = λ i h. (and_parts _ _ (sym (who i) ∙ h)).0;
   minority = due.minority;
 }
   where
-    own : has (w.members m) m ≡ true
-    own = ap (λ k. has k m) (f.views.own m) ∙ f.views.present m there
-
     who : (i : ℕ) → has mask i ≡ (has (w.members m) i && not (has (w.suspects m) i))
     who i = ap (λ x. has x i) due.unsuspected
         ∙ has_without_mask (w.members m) (w.suspects m) i (members_small g V w m is f)
 
 -- a member that ends by suspicion is left out: no suspicion comes over one as a fault
 stops_so : (g : Group) (V : Views) (w : World) (m : ℕ) (end : End) → IsGroup g → Faithful g V w
-    → IsPresent g m → IsDue w m end ⊎ IsFault end → IsLeftSo w m (Some end)
-stops_so g V w m (Suspected by) is f l (inl due) = named_so g V w m by f due
-stops_so g V w m (NoMajority mask) is f l (inl due) = few_left g V w m mask is f l due
-stops_so g V w m (Suspected by) is f l (inr fault) = absurd fault
-stops_so g V w m (NoMajority mask) is f l (inr fault) = absurd fault
-stops_so g V w m end is f l why = tt
+    → (IsInView w m × IsDue w m end) ⊎ IsFault end → IsLeftSo w m (Some end)
+stops_so g V w m (Suspected by) is f (inl due) = named_so g V w m by f due.1
+stops_so g V w m (NoMajority mask) is f (inl due) = few_left g V w m mask is f due.0 due.1
+stops_so g V w m (Suspected by) is f (inr fault) = absurd fault
+stops_so g V w m (NoMajority mask) is f (inr fault) = absurd fault
+stops_so g V w m end is f why = tt
 
 -- ---- a member has ended
 
@@ -102,19 +98,19 @@ stays_so g w u k end grew same old = tt
 
 -- who has ended after it was left out so before, or is so as it ends
 step_leaves : (g : Group) (V : Views) (w : World) (m : ℕ) (s : Step) → IsGroup g → Faithful g V w
-    → CanTake g w m s → WordsGrew g w (effect_of g w m s) → AreAway g (effect_of g w m s) → AreLeftSo g w
+    → CanTake g w m s → WordsGrew g w (effect_of g w m s) → AreLeftSo g w
     → AreLeftSo g (effect_of g w m s)
-step_leaves g V w m s is f can grew away old k l = by ((effect_of g w m s).end k) refl
+step_leaves g V w m s is f can grew old k l = by ((effect_of g w m s).end k) refl
   where
-    so : (end : End) → IsPresent g k → EndsSo w k end → IsLeftSo w k (Some end)
-    so end there (inl before) = subst (IsLeftSo w k) before (old k l)
-    so end there (inr why) = stops_so g V w k end is f there why
+    so : (end : End) → EndsSo w k end → IsLeftSo w k (Some end)
+    so end (inl before) = subst (IsLeftSo w k) before (old k l)
+    so end (inr why) = stops_so g V w k end is f why
 
     by : (o : Option End) → (effect_of g w m s).end k ≡ o → IsLeftSo (effect_of g w m s) k o
     by None e = tt
     by (Some end) e =
         let t = ended_so g w m s k end can e in
-        stays_so g w (effect_of g w m s) k end grew t.0 (so end (ended-there g (effect_of g w m s) k end away e) t.1)
+        stays_so g w (effect_of g w m s) k end grew t.0 (so end t.1)
 
 -- words that arrive leave nobody out, and take nobody back
 arrival_leaves : (w : World) (table : Table) (k : ℕ) (o : Option End) → IsLeftSo w k o
@@ -144,6 +140,5 @@ left_so g values us w is r chosen = by_way g (AreChosen values) (λ us u. AreLef
     let k = known g values us u is run (All-tail (AreChosen values) u us all) in
     step_leaves g (views_by g values) u (member_of e) (step_of e) is k.faithful can
     (words_on g (views_by g values) u e is
-    (all-go_on g values u is k (All-head (AreChosen values) u us all)) can k.faithful)
-    (event-known g values u e is (All-head (AreChosen values) u us all) can k).away y)
+    (all-go_on g values u is k (All-head (AreChosen values) u us all)) can k.faithful) y)
     (λ us u table run all come y m l. arrival_leaves u table m (u.end m) (y m l)) (λ m l. tt) us w r chosen

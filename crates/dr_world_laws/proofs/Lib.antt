@@ -1,5 +1,4 @@
 pub mod Agreeing
-pub mod Away
 pub mod Completion
 mod Histories
 mod Items
@@ -12,6 +11,9 @@ pub mod ChosenViews
 pub mod Safety
 pub mod Finishing
 pub mod Ballots
+pub mod Holding
+pub mod Letters
+pub mod Joining
 pub mod Reached
 pub mod Wholes
 pub mod Choosing

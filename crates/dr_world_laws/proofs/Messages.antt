@@ -1,19 +1,17 @@
 -- The entries of a history: Views and messages of the script behind the first entries, and each of them a
 -- valid record.
-use Rattle.std.proofs.Common.{◌≡◌, ◌≢◌, refl, ap, sym, ◌∙◌, subst, ℕ, zero, suc, ◌+◌, ◌-◌, ◌^◌, ◌<◌, ◌≤◌, arith, inl, inr, List, [], ◌∷◌, ◌++◌, append-nil, append_assoc, length, map, take, get_or, All, Option, None, Some, slice_get, option_to_list, option_map, option_and_then, IsSomeAnd}
+use Rattle.std.proofs.Common.{◌≡◌, refl, ap, sym, ◌∙◌, subst, ℕ, zero, suc, ◌+◌, ◌<◌, arith, inl, inr, List, [], ◌∷◌, ◌++◌, append-nil, append_assoc, length, map, take, get_or, All, Option, None, Some, slice_get, option_to_list, option_map, option_and_then}
 use Rattle.std.proofs.lemmas.Bool.{cases_lt}
 use Rattle.std.proofs.lemmas.List.{get_or_past}
 use Rattle.std.proofs.lemmas.List.Elements.{All-nil, All-cons, All-append}
-use Rattle.std.proofs.lemmas.Nat.{pow_pos}
 use Rattle.std.proofs.lemmas.Option.{none-some, same_Some, slice_get-get_or, slice_get_within}
 use Rattle.dr_entry.specs.declared.entry.Entry.{Entry}
 use Rattle.dr_entry.specs.declared.entry.Entry.TheVariants.{View, Msg}
 use Rattle.dr_entry.specs.declared.end.SentItem.{SentItem}
 use Rattle.dr_entry.specs.declared.end.SentItem.TheVariants.{Index, Null}
 use Rattle.dr_entry.specs.Spelling.{IsValidEntry}
-use Rattle.dr_history.specs.Members.{members_of, members_below}
-use Rattle.dr_history.specs.History.{GroupView, Sent, entry_of, item_at, merge, messages_of, view_of}
-use Rattle.dr_history.specs.Order.{MayFollow, first_entries}
+use Rattle.dr_history.specs.History.{GroupView, Sent, entry_of, item_at, merge, messages_of}
+use Rattle.dr_history.specs.Order.{first_entries}
 use Rattle.dr_history.specs.Soundness.{MayStand}
 use Rattle.dr_history_laws.specs.Laid.{laid, entry_at}
 use Rattle.dr_history_laws.specs.Courses.{ViewEnds, ViewHasEnded, counts_taken, head_of, view_in}
@@ -90,25 +88,19 @@ pub merged_of_script : (g : Group) (sent : Sent) (v : GroupView) (taken : ℕ �
 merged_of_script g sent v taken = subst (All (IsOfScript g)) (sym (cut_merge g.opening sent v taken))
     (laid_of_script g (cut sent v taken) v (top_place (map taken v.members)))
 
--- a mask that has members is above 0
-above_none : (mask : ℕ) → members_of mask ≢ [] → 0 < mask
-unfolding members_of members_below
-above_none zero some = absurd (some refl)
-above_none (suc mask) some = omega arith
-
 -- the head of a view holds Views and messages behind the first entries
-head_holds : (g : Group) (sent : Sent) (endings : ViewEnds) (v : ℕ)
+head_holds : (g : Group) (sent : Sent) (endings : ViewEnds) (v : ℕ) → IsGroup g
     → ((u : ℕ) → u < v → ViewHasEnded g.opening sent endings u)
     → HoldsMessages g (head_of g.opening sent endings v)
 unfolding head_of
-head_holds g sent endings zero ended =
+head_holds g sent endings zero is ended =
     ([], sym (append-nil (first_entries g.opening)), All-nil (IsOfAge g))
-head_holds g sent endings (suc v) ended =
-    let rest = head_holds g sent endings v (λ u l. ended u (omega (arith, l))) in
-    let follows = (ended v (omega arith)).succeeded.follows in
+head_holds g sent endings (suc v) is ended =
+    let rest = head_holds g sent endings v is (λ u l. ended u (omega (arith, l))) in
+    let next = ended v (omega arith) in
     let merged : List Entry = merge g.opening sent (view_in g.opening endings v)
     (counts_taken g.opening endings v) in
-    let last : List Entry = View g.opening.age (suc v) (endings v).remaining ∷ [] in (
+    let last : List Entry = View g.opening.age (suc v) (endings v).next ∷ [] in (
       (rest.0 ++ merged) ++ last,
       ap (λ es. (es ++ merged) ++ last) rest.1
           ∙ ap (λ es. es ++ last) (append_assoc (first_entries g.opening) rest.0 merged)
@@ -116,16 +108,17 @@ head_holds g sent endings (suc v) ended =
       All-append (IsOfAge g) (rest.0 ++ merged) last
           (All-append (IsOfAge g) rest.0 merged rest.2
           (all_of_age g merged (merged_of_script g sent (view_in g.opening endings v) (endings v).taken)))
-          (All-cons (IsOfAge g) (View g.opening.age (suc v) (endings v).remaining) []
-          (refl, omega arith, above_none (endings v).remaining follows.some, follows.numbers)
+          (All-cons (IsOfAge g) (View g.opening.age (suc v) (endings v).next) []
+          (refl, omega arith, next.roster.some, next.follows.numbers.1)
           (All-nil (IsOfAge g))),
     )
 
 -- a history holds such Views and messages behind its first entries
-pub holds_messages : (g : Group) (values : Values) (w : World) (m : ℕ) → Known g values w → m < roster g
+pub holds_messages : (g : Group) (values : Values) (w : World) (m : ℕ) → IsGroup g → Known g values w
+    → m < roster g
     → HoldsMessages g (w.past.history m)
-holds_messages g values w m y l =
-    let head = head_holds g w.past.sent (endings_by g.opening values) (w.past.view m)
+holds_messages g values w m is y l =
+    let head = head_holds g w.past.sent (endings_by g.opening values) (w.past.view m) is
     (λ u less. (y.laid.left m u l less).ended) in
     let here : List Entry = laid g.opening w.past.sent
     (view_in g.opening (endings_by g.opening values) (w.past.view m)) (w.next m) in (

@@ -5,8 +5,7 @@ use Rattle.dr_machine.specs.Group.{Group}
 use Rattle.dr_machine.specs.Run.{PastGrew}
 use Rattle.dr_machine.specs.Votes.{IsOf, MajorityHas}
 use Rattle.dr_machine.specs.World.{World}
-use Rattle.dr_words.specs.Masks.{without}
-use Rattle.dr_faithful.specs.Chosen.{Values, views_by}
+use Rattle.dr_faithful.specs.Chosen.{Values, come_of, views_by}
 use Rattle.dr_vote_laws.proofs.Values.{chosen_once, chosen_since}
 use Rattle.dr_vote_laws.specs.Voting.{IsChosen}
 use Rattle.dr_world_laws.proofs.ChosenViews.{views-first, views-next}
@@ -41,7 +40,7 @@ same-views g one other early late m k (suc v) before after grew l n =
     let same = same-views g one other early late m k v before after grew (omega (arith, l)) (omega (arith, n))
     in
     rw (← next) (views-next g one v
-    ∙ ap (λ mask. without mask (one v).leavers) same
-    ∙ ap (λ (x : Value). without (views_by g other v) x.leavers)
+    ∙ ap (λ mask. come_of g.opening mask (one v).leavers) same
+    ∙ ap (λ (x : Value). come_of g.opening (views_by g other v) x.leavers)
     (value-from g one other early late m k v before after grew (omega (arith, l)) (omega (arith, n)) same)
     ∙ sym (views-next g other v))

@@ -1,5 +1,5 @@
 -- What holds of the histories of every world that is reached.
-use Rattle.std.proofs.Common.{All, List, ◌∷◌, ◌≡◌, ◌≢◌, ◌⊎◌, inl, inr, refl, ap, ap₂, sym, ◌∙◌, subst, ℕ, ◌+◌, ◌/◌, ◌%◌, ◌<◌, arith, true, Some, [], length, slice_get, take}
+use Rattle.std.proofs.Common.{All, List, ◌∷◌, ◌≡◌, ◌≢◌, ◌⊎◌, inl, inr, refl, ap, ap₂, sym, ◌∙◌, subst, ℕ, ◌+◌, ◌/◌, ◌%◌, ◌<◌, arith, true, Some, [], length, slice_get, take, unwrap_or}
 use Rattle.std.proofs.lemmas.Bool.{cases_eq}
 use Rattle.std.proofs.lemmas.List.{take_all}
 use Rattle.std.proofs.lemmas.List.Elements.{All-head}
@@ -8,7 +8,7 @@ use Rattle.dr_entry.specs.declared.end.SentItem.{SentItem}
 use Rattle.dr_entry.specs.declared.end.SentItem.TheVariants.{Index, Null}
 use Rattle.dr_entry.specs.declared.record.Value.{Value}
 use Rattle.dr_history.specs.Members.{has}
-use Rattle.dr_history.specs.History.{GroupView, item_at, messages_of}
+use Rattle.dr_history.specs.History.{GroupView, item_at, last_view, messages_of}
 use Rattle.dr_history.specs.Order.{messages_from}
 use Rattle.dr_history.proofs.NumberedLemmas.{messages_from-View}
 use Rattle.dr_words.specs.declared.column.TheConstants.{RECEIVED_COLUMN, DONE_COLUMN}
@@ -19,16 +19,17 @@ use Rattle.dr_history_laws.proofs.Lists.{Contains-slice_get}
 use Rattle.dr_history_laws.proofs.Courses.{course-head, head-ends, head-first}
 use Rattle.dr_history_laws.proofs.Members.{view-distinct}
 use Rattle.dr_history_laws.proofs.SendingLemmas.{GoesOn-none}
+use Rattle.dr_words.proofs.Bits.{has_zero}
 use Rattle.dr_machine.specs.declared.event.Event.{Event}
 use Rattle.dr_machine.specs.Group.{Group, IsGroup, roster}
-use Rattle.dr_machine.specs.Guards.{CanDeliver, CanFinish}
-use Rattle.dr_machine.specs.Effects.{entries_of}
+use Rattle.dr_machine.specs.Guards.{CanDeliver, CanFinish, CanJoin}
+use Rattle.dr_machine.specs.Effects.{entries_of, joins}
 use Rattle.dr_machine.specs.World.{Table, World, opening_world, own_word}
 use Rattle.dr_machine.specs.Acts.{CanTake, Guard, effect, effect_of}
 use Rattle.dr_machine.specs.Events.{member_of, step_of}
 use Rattle.dr_machine.specs.Writes.{at}
 use Rattle.dr_machine.specs.declared.step.Step.{Step}
-use Rattle.dr_machine.proofs.Events.{standing_after}
+use Rattle.dr_machine.proofs.Events.{letters, standing_after}
 use Rattle.dr_machine.proofs.Presence.{in_roster}
 use Rattle.dr_machine.specs.Run.{HaveArrived, Way, with_table}
 use Rattle.dr_machine.proofs.Runs.{by_way}
@@ -43,16 +44,17 @@ use Rattle.dr_vote_laws.specs.Late.{VotesBacked}
 use Rattle.dr_vote_laws.proofs.Opening.{begun as voting_begins}
 use Rattle.dr_vote_laws.proofs.Steps.{voting_keeps}
 use Rattle.dr_vote_laws.specs.Voting.{Voting}
-use Rattle.dr_world_laws.proofs.Away.{AreAway, away-begins, away-stays, there-or-first}
-use Rattle.dr_world_laws.proofs.Ballots.{ballots-stay, voted-for}
+use Rattle.dr_world_laws.proofs.Ballots.{HasLeft, ballots-stay, voted-for}
 use Rattle.dr_world_laws.proofs.ByValues.{AreVotedFor}
 use Rattle.dr_world_laws.specs.Historic.{AreLaid, HasEndedSafely, head_by, view_numbered}
 use Rattle.dr_world_laws.proofs.ChosenViews.{left-steady, views-first, views-within}
-use Rattle.dr_world_laws.proofs.Finishing.{Finishes, comes-to_head, finishes, goes-any, goes-on_well, leaves}
+use Rattle.dr_world_laws.proofs.Finishing.{Finishes, finished-head, finishes, goes-any, goes-on_well, leaves}
+use Rattle.dr_world_laws.proofs.Joining.{joins-head, joins-well, letter-number, outside-stay, wishes-new}
+use Rattle.dr_world_laws.proofs.Letters.{AreGiven, AreHeads, are-heads, letters-stay}
 use Rattle.dr_world_laws.proofs.Completion.{Complete, shows_own, event_completes}
 use Rattle.dr_world_laws.proofs.Histories.{AddsEntry, AreReady, added, event_keeps}
 use Rattle.dr_world_laws.proofs.Safety.{IsSafe, safe-value, wedged_stay}
-use Rattle.dr_world_laws.proofs.Items.{IsReceived, entries-next, held-next, item-received}
+use Rattle.dr_world_laws.proofs.Items.{AreOutside, IsReceived, entries-next, held-next, item-received}
 
 -- what is known of a world that is reached by chosen values
 pub record Known (g : Group) (values : Values) (w : World) : Type 0 where
@@ -62,25 +64,31 @@ pub record Known (g : Group) (values : Values) (w : World) : Type 0 where
   pub voting : Voting g (views_by g values) w
   pub ballots : AreVotedFor g values w
   pub wedged : (m : ℕ) (x : Value) → w.committed m ≡ Some x → w.suspects m ≢ 0
-  pub away : AreAway g w
+  pub outside : AreOutside g (views_by g values) w
+  pub letters : AreGiven g values w (letters w)
 
 -- so a value that somebody has committed is safe
-pub safe : (g : Group) (values : Values) (w : World) (m : ℕ) (x : Value) → IsGroup g → Known g values w
-    → w.committed m ≡ Some x → IsSafe w m x
-safe g values w m x is y e =
-    safe-value g (views_by g values) w m x is y.faithful y.voting (y.wedged m x e) e
+pub safe : (g : Group) (values : Values) (w : World) (m : ℕ) (x : Value) → Known g values w
+    → w.committed m ≡ Some x → IsSafe g (views_by g values) w m x
+safe g values w m x y e =
+    safe-value g (views_by g values) w m x y.faithful y.voting (y.wedged m x e) e
 
 -- and whoever may end its view does so with a value of which that much is known
 pub may-end : (g : Group) (values : Values) (w : World) (m : ℕ) → IsGroup g → Known g values w
     → AreChosen values w → (can : CanFinish g w m) → Finishes g values w m can.value
 may-end g values w m is y chosen can =
-    finishes g values w m is y.faithful chosen can (safe g values w m can.value is y can.committed)
+    finishes g values w m is y.faithful chosen can (safe g values w m can.value y can.committed)
 
 -- so it goes on as it should
 pub all-go_on : (g : Group) (values : Values) (w : World) → IsGroup g → Known g values w
     → AreChosen values w → AllGoOn g (views_by g values) w
-all-go_on g values w is y chosen m can =
-    goes-on_well g values w m can.value is y.faithful y.laid (may-end g values w m is y chosen can)
+all-go_on g values w is y chosen = record {
+  finish = λ m can. goes-on_well g values w m can.value is y.faithful y.outside y.laid
+      (may-end g values w m is y chosen can);
+  join = λ m can. joins-well g values w m is y.faithful y.outside y.laid can
+      (y.letters.letters m can.letter can.given).0;
+  wish = λ m j there may. wishes-new g values w m j is y.laid.historic there may;
+}
 
 -- ---- the next place
 
@@ -113,17 +121,14 @@ index-delivered g values w m s i is y l place = (
 item-next : (g : Group) (V : Views) (w : World) (m : ℕ) → Faithful g V w → CanDeliver g w m
     → IsReceived g V w m (w.next m)
 item-next g V w m f can =
-    let own : has (w.members m) m
-    ≡ true = subst (λ mask. has mask m ≡ true) (sym (f.views.own m))
-    (f.views.present m can.may.alive.present) in
     item-received g V w m (w.next m) f
-    (shows_own w m RECEIVED_COLUMN (w.next m) (can.received m own))
+    (shows_own w m RECEIVED_COLUMN (w.next m) (can.received m can.may.inside))
 
 adds-entry : (g : Group) (values : Values) (w : World) (m : ℕ) → IsGroup g → Known g values w
     → CanDeliver g w m → AddsEntry g (views_by g values) w m
 adds-entry g values w m is y can =
     let x = item-next g (views_by g values) w m y.faithful can in
-    let l = y.faithful.views.within (w.past.view m) m (y.faithful.views.present m can.may.alive.present) in
+    let l = in_roster g m is can.may.alive.present in
     entries-next g (views_by g values) w m (w.next m) (w.past.history m) x.sender x.name x.place x.sent
     x.has_it
     (λ i e. index-delivered g values w m x.sender i is y l (x.place ∙ ap (λ n. Some (x.sender, n)) e))
@@ -160,45 +165,67 @@ done-delivers_none g values w m is y can l e =
 -- ---- the views that are left
 
 -- a view that is left after a step was left before it, or is the one that the step ends
-left_or_ended : (g : Group) (w : World) (m : ℕ) (s : Step) (k v : ℕ) → CanTake g w m s
-    → v < (effect_of g w m s).past.view k → (v < w.past.view k)
-    ⊎ (CanFinish g w k × (v ≡ w.past.view k))
-left_or_ended g w m s k v can = standing_after g w m s
-    (λ x. v < x.view k → (v < w.past.view k) ⊎ (CanFinish g w k × (v ≡ w.past.view k))) can (record {
+left_or_ended : (g : Group) (values : Values) (w : World) (m : ℕ) (s : Step) (k v : ℕ)
+    → AreHeads g values w w.letter → CanTake g w m s
+    → v < (effect_of g w m s).past.view k → HasLeft g w v k ⊎ (CanFinish g w k × (v ≡ w.past.view k))
+left_or_ended g values w m s k v letters can = standing_after g w m s
+    (λ x. v < x.view k → HasLeft g w v k ⊎ (CanFinish g w k × (v ≡ w.past.view k))) can (record {
       goes_on = λ can l. moved can l (cases_eq k m);
-      chooses = λ can l. inl l;
-      wedges = λ j can l. inl l;
-      stops = λ end alive why l. inl l;
-      stays = λ l. inl l;
+      joins = λ can l. came can l (cases_eq k m);
+      chooses = λ can l. before l;
+      wedges = λ j can l. before l;
+      stops = λ end alive why l. before l;
+      stays = λ l. before l;
     })
   where
+    before : v < w.past.view k → HasLeft g w v k ⊎ (CanFinish g w k × (v ≡ w.past.view k))
+    before l = inl (inl l)
+
     here : (view : ℕ → ℕ) (m v : ℕ) → v < at view m (view m + 1) m → (v < view m) ⊎ (v ≡ view m)
     here view m v l = grind (arith, l)
 
     other : (view : ℕ → ℕ) (m k v : ℕ) → k ≢ m → v < at view m (view m + 1) k → v < view k
     other view m k v d l = grind (arith, d, l)
 
-    ended : CanFinish g w m → (v < w.past.view m) ⊎ (v ≡ w.past.view m) → (v < w.past.view m)
-        ⊎ (CanFinish g w m × (v ≡ w.past.view m))
-    ended can (inl less) = inl less
+    ended : CanFinish g w m → (v < w.past.view m) ⊎ (v ≡ w.past.view m)
+        → HasLeft g w v m ⊎ (CanFinish g w m × (v ≡ w.past.view m))
+    ended can (inl less) = inl (inl less)
     ended can (inr same) = inr (can, same)
 
     moved : CanFinish g w m → v < at w.past.view m (w.past.view m + 1) k → (k ≡ m) ⊎ (k ≢ m)
-        → (v < w.past.view k) ⊎ (CanFinish g w k × (v ≡ w.past.view k))
+        → HasLeft g w v k ⊎ (CanFinish g w k × (v ≡ w.past.view k))
     moved can l (inl same) =
-        subst (λ i. (v < w.past.view i) ⊎ (CanFinish g w i × (v ≡ w.past.view i))) (sym same)
+        subst (λ i. HasLeft g w v i ⊎ (CanFinish g w i × (v ≡ w.past.view i))) (sym same)
         (ended can (here w.past.view m v (subst (λ i. v < at w.past.view m (w.past.view m + 1) i) same l)))
-    moved can l (inr d) = inl (other w.past.view m k v d l)
+    moved can l (inr d) = before (other w.past.view m k v d l)
+
+    -- whoever joins comes into a view that the giver of its letter has come to
+    elsewhere : (view : ℕ → ℕ) (m k v to : ℕ) → k ≢ m → v < at view m to k → v < view k
+    elsewhere view m k v to d l = grind (arith, d, l)
+
+    there : (view : ℕ → ℕ) (m v to : ℕ) → v < at view m to m → v < to
+    there view m v to l = grind (arith, l)
+
+    came : CanJoin g w m → v < (joins w m).past.view k → (k ≡ m) ⊎ (k ≢ m)
+        → HasLeft g w v k ⊎ (CanFinish g w k × (v ≡ w.past.view k))
+    came can l (inl same) =
+        let t = letters m can.letter can.given in
+        let to : ℕ = (last_view (0, 0) can.letter).0 in
+        let less : v < to = there w.past.view m v to (subst (λ i. v < at w.past.view m to i) same
+        (subst (λ r. v < at w.past.view m (last_view (0, 0) (unwrap_or r [])).0 k) can.given l)) in
+        inl (inr (t.giver, t.within, omega (arith, less, t.come, letter-number g values w m can.letter t)))
+    came can l (inr d) = before (elsewhere w.past.view m k v (last_view (0, 0) (unwrap_or (w.letter m) [])).0 d l)
 
 -- each of them ended well
 all-left : (g : Group) (values : Values) (w : World) (e : Event) → IsGroup g → AreChosen values w
     → Guard g w e → Known g values w → (k v : ℕ) → k < roster g → v < (effect g w e).past.view k
     → HasEndedSafely g values w v
 all-left g values w e is chosen can y k v l less =
-    by (left_or_ended g w (member_of e) (step_of e) k v can less)
+    by (left_or_ended g values w (member_of e) (step_of e) k v (are-heads g values w (letters w) y.letters) can less)
   where
-    by : (v < w.past.view k) ⊎ (CanFinish g w k × (v ≡ w.past.view k)) → HasEndedSafely g values w v
-    by (inl before) = y.laid.left k v l before
+    by : HasLeft g w v k ⊎ (CanFinish g w k × (v ≡ w.past.view k)) → HasEndedSafely g values w v
+    by (inl (inl before)) = y.laid.left k v l before
+    by (inl (inr t)) = y.laid.left t.0 v t.1 t.2
     by (inr (finish, same)) = subst (HasEndedSafely g values w) (sym same)
         (leaves g values w k finish.value is
         y.faithful (may-end g values w k is y chosen finish))
@@ -220,7 +247,7 @@ opening-laid g values = record {
 }
 
 opening-complete : (g : Group) → Complete g (opening_world g)
-opening-complete g = record { durable = λ m l e. refl; shown = λ m e. absurd (cc) }
+opening-complete g = record { durable = λ m l e. refl; shown = λ m e. absurd (cc); inside = λ m e. absurd (cc) }
 
 pub begins : (g : Group) (values : Values) → IsGroup g → Known g values (opening_world g)
 begins g values is = record {
@@ -231,7 +258,11 @@ begins g values is = record {
   voting = voting_begins g (views_by g values);
   ballots = λ m v l. absurd (omega (arith, l));
   wedged = λ m x e. absurd (none-some x e);
-  away = away-begins g;
+  outside = λ m l out. (refl, refl);
+  letters = record {
+    letters = λ j l e. absurd (none-some l e);
+    given = λ m j t. absurd (cc (has_zero j, t));
+  };
 }
 
 -- what is known stays, where the values are the chosen ones
@@ -248,14 +279,17 @@ event-known g values w e is chosen can y = record {
   };
   complete = event_completes g (views_by g values) w e y.faithful now
       (words_on g (views_by g values) w e is well can y.faithful)
-      (λ m d. done-delivers_none g values w m is y d) can y.complete;
+      (λ m d. done-delivers_none g values w m is y d) (λ m can. (well.join m can).later) can y.complete;
   voting = voting_keeps g (views_by g values) w e is well can y.faithful y.voting;
   ballots = λ k v less. ballots-stay g values w (effect g w e) v
       (past_on_event g (views_by g values) w e is well can y.faithful)
       (voted-for g values w k v chosen y.voting y.ballots
-      (left_or_ended g w (member_of e) (step_of e) k v can less));
+      (left_or_ended g values w (member_of e) (step_of e) k v (are-heads g values w (letters w) y.letters) can less));
   wedged = wedged_stay g (views_by g values) w (member_of e) (step_of e) is can y.faithful y.wedged;
-  away = away-stays g w (member_of e) (step_of e) can y.away;
+  outside = outside-stay g values w (member_of e) (step_of e) is y.faithful well
+      (λ can. may-end g values w (member_of e) is y chosen can) can y.outside;
+  letters = letters-stay g values w (member_of e) (step_of e) is y.faithful well y.laid
+      (past_on_event g (views_by g values) w e is well can y.faithful) can y.letters;
 }
   where
     well : AllGoOn g (views_by g values) w
@@ -268,10 +302,12 @@ event-known g values w e is chosen can y = record {
     ready = record {
       present = λ m there. in_roster g m is there;
       ended = λ m v l less. (y.laid.left m v l less).ended;
-      held = λ m l. held-next g (views_by g values) w m y.faithful (there-or-first g w m y.away);
+      held = λ m l. held-next g (views_by g values) w m y.faithful y.outside l;
       adds = λ m d. adds-entry g values w m is y d;
-      comes = λ m can. comes-to_head g values w m can.value is y.faithful y.laid.historic
+      goes = λ u. goes-any g values w u is y.faithful y.laid.historic;
+      comes = λ m can. finished-head g values w m can.value is y.faithful y.outside y.laid.historic
           (may-end g values w m is y chosen can);
+      joins = λ m can. joins-head g values w m can.letter (y.letters.letters m can.letter can.given).0;
     }
 
 -- what is known of a world and of the words that are on their way in it: those of the worlds before it
@@ -307,12 +343,35 @@ arrived-known g values us w table come y = record {
       left = λ m v l less. let ended = y.world.laid.left m v l less in
           record { ended = ended.ended; least = ended.least; covered = ended.covered };
     };
-    complete = record { durable = y.world.complete.durable; shown = y.world.complete.shown };
+    complete = record {
+      durable = y.world.complete.durable;
+      shown = y.world.complete.shown;
+      inside = y.world.complete.inside;
+    };
     voting = voted.0;
     ballots = y.world.ballots;
     wedged = y.world.wedged;
-    away = λ k none. let a = y.world.away k none in
-        record { view = a.view; next = a.next; suspects = a.suspects; end = a.end };
+    outside = y.world.outside;
+    letters = record {
+      letters = λ j l e. let y = y.world.letters.letters j l e in let t = y.0 in (
+        record {
+          view = t.view;
+          giver = t.giver;
+          within = t.within;
+          come = t.come;
+          is = t.is;
+          member = t.member;
+          new = t.new;
+          from = t.from;
+          next = t.next;
+          was = t.was;
+          stays = t.stays;
+          least = t.least;
+        },
+        y.1,
+      );
+      given = y.world.letters.given;
+    };
   };
   backed = backed_arrived g (views_by g values) us w table y.world.faithful come y.backed;
   votes = voted.1;

@@ -38,7 +38,6 @@ use Rattle.dr_faithful.specs.Chosen.{AreChosen, Values, endings_by, views_by}
 use Rattle.dr_faithful.specs.Tells.{item_named}
 use Rattle.dr_history_laws.specs.Courses.{course}
 use Rattle.dr_history_laws.proofs.Courses.{head-first}
-use Rattle.dr_world_laws.proofs.Away.{there-or-first}
 use Rattle.dr_world_laws.proofs.Reached.{Known, begins, event-known, known}
 use Rattle.dr_history_laws.specs.Remaining.{remaining, to_send}
 use Rattle.dr_world_laws.proofs.SentItems.{first_messages, left_at, left_within, same_entry}
@@ -123,7 +122,7 @@ pub held-first : (g : Group) (values : Values) (w : World) (m : ℕ) → Known g
     → w.past.view m ≡ 0 → HeldBelow w.past.sent (first_view g.opening) (w.next m)
 held-first g values w m y l first = subst (λ v. HeldBelow w.past.sent v (w.next m)) (view-first g values)
     (subst (λ n. HeldBelow w.past.sent (view_numbered g (views_by g values) n) (w.next m)) first
-    (held-next g (views_by g values) w m y.faithful (there-or-first g w m y.away)))
+    (held-next g (views_by g values) w m y.faithful y.outside l))
 
 -- ---- what each member has put in the first view
 

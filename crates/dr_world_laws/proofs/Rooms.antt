@@ -1,34 +1,32 @@
 -- Histories are short: there is a bank for each view that a member comes to, and room for its whole history.
-use Rattle.std.proofs.Common.{ap, arith, length, ℕ, ◌*◌, ◌+◌, ◌<◌, ◌∙◌, ◌≤◌, Contains, Some, ◌⊎◌, inl, inr, false, ◌≡◌}
+use Rattle.std.proofs.Common.{Bool, ◌≡◌, true, false, refl, ap, arith, length, ℕ, ◌*◌, ◌+◌, ◌<◌, ◌∙◌, ◌≤◌, Contains, Some}
 use Rattle.std.proofs.lemmas.Option.{slice_get-get_or}
 use Rattle.dr_history.specs.History.{messages_of}
-use Rattle.dr_history.specs.Members.{members_of, has}
+use Rattle.dr_history.specs.Members.{has, members_of}
 use Rattle.dr_history.specs.Order.{first_entries}
 use Rattle.dr_history_laws.proofs.Members.{member-has}
 use Rattle.dr_history_laws.proofs.Sizes.{short-course}
 use Rattle.dr_words.proofs.Ranks.{some_member}
-use Rattle.dr_machine.specs.Group.{Group, IsGroup, banks, roster, IsPresent}
+use Rattle.dr_machine.specs.Group.{Group, IsGroup, banks, roster}
 use Rattle.dr_machine.specs.World.{World}
 use Rattle.dr_faithful.specs.Chosen.{Values, endings_by, views_by}
 use Rattle.dr_world_laws.proofs.Agreeing.{may-reach}
 use Rattle.dr_world_laws.proofs.ChosenViews.{views-within}
-use Rattle.dr_world_laws.proofs.Away.{there-or-not}
-use Rattle.dr_world_laws.proofs.Ending.{views-few}
+use Rattle.dr_world_laws.proofs.Ending.{left-changes, views-few}
 use Rattle.dr_world_laws.proofs.Reached.{Known}
 
 -- no member comes to a view for which there is no bank
 pub view-below : (g : Group) (values : Values) (w : World) (m : ℕ) → IsGroup g → Known g values w
     → m < roster g → w.past.view m < banks g
-view-below g values w m is y l = by (there-or-not g m)
+view-below g values w m is y l = by (has (views_by g values (w.past.view m)) m) refl
   where
-    by : IsPresent g m ⊎ (has g.opening.present m ≡ false) → w.past.view m < banks g
-    by (inl there) = omega (
+    by : (b : Bool) → has (views_by g values (w.past.view m)) m ≡ b → w.past.view m < banks g
+    by true here = omega (
       arith,
-      views-few g values w (w.past.view m) is (λ u less. y.laid.left m u l less),
-      some_member (views_by g values (w.past.view m)) m (omega (arith, l, is.most_members))
-          (y.faithful.views.present m there),
+      views-few g values (w.past.view m) is (λ u less. left-changes g values w m u y less),
+      some_member (views_by g values (w.past.view m)) m (omega (arith, l, is.most_members)) here,
     )
-    by (inr none) = omega (arith, (y.away m none).view, is.some_member)
+    by false out = omega (arith, (y.outside m l out).0, is.some_member)
 
 -- a history has the first entries, a View for each view that was left, and no more messages than the script
 pub history-short : (g : Group) (values : Values) (w : World) (m most : ℕ) → IsGroup g → Known g values w

@@ -1,12 +1,17 @@
 -- What is known of a world, told by the members of views as the histories have them.
-use Rattle.std.proofs.Common.{ap, arith, inl, inr, subst, sym, true, Some, ℕ, ◌+◌, ◌<◌, ◌∙◌, ◌≡◌, ◌≤◌, ◌⊎◌, map}
+use Rattle.std.proofs.Common.{List, [], ◌∷◌, ◌++◌, Contains, ap, arith, inl, inr, subst, sym, true, Some, ℕ, ◌+◌, ◌<◌, ◌∙◌, ◌≡◌, ◌≤◌, ◌⊎◌, map}
 use Rattle.std.proofs.lemmas.Bool.{cases_lt}
+use Rattle.dr_entry.specs.declared.entry.Entry.TheVariants.{View}
 use Rattle.dr_entry.specs.declared.record.Value.{Value}
 use Rattle.dr_entry.specs.declared.record.Vote.{Vote}
+use Rattle.dr_entry.specs.declared.entry.Entry.{Entry}
+use Rattle.dr_history.specs.History.{IsPrefixOf}
+use Rattle.dr_history_laws.proofs.Courses.{course-head}
+use Rattle.dr_history_laws.proofs.Heads.{course_views, head-last}
 use Rattle.dr_history.specs.Members.{has, members_of}
 use Rattle.dr_history.specs.Places.{front_of}
 use Rattle.dr_words.specs.Columns.{leavers_column}
-use Rattle.dr_words.specs.Masks.{without}
+use Rattle.dr_words.specs.Masks.{next_members}
 use Rattle.dr_words.specs.Packing.{accept_tag}
 use Rattle.dr_words.specs.Rewrites.{is_accept_of}
 use Rattle.dr_machine.specs.Group.{Group, IsGroup, roster}
@@ -14,7 +19,7 @@ use Rattle.dr_machine.specs.Run.{WasOwn}
 use Rattle.dr_machine.specs.Votes.{HasLogged, HasVoted, IsOf, MajorityHas, vote_in}
 use Rattle.dr_machine.specs.World.{Past, World}
 use Rattle.dr_faithful.proofs.Pasts.{tells_nothing}
-use Rattle.dr_faithful.specs.Chosen.{views_by}
+use Rattle.dr_faithful.specs.Chosen.{endings_by, views_by}
 use Rattle.dr_faithful.specs.Faithful.{Faithful}
 use Rattle.dr_faithful.specs.Tells.{Tells, Views, WordsTell}
 use Rattle.dr_vote_laws.proofs.Cuts.{vote_cut}
@@ -23,11 +28,16 @@ use Rattle.dr_vote_laws.proofs.Values.{majority_stays, vote_is}
 use Rattle.dr_vote_laws.specs.Moments.{AcceptsOfMoments, HadAccepted}
 use Rattle.dr_vote_laws.specs.Tells.{TellsVote, VotesTold}
 use Rattle.dr_vote_laws.specs.Voting.{HaveVotedFor, IsCut, Voting}
+use Rattle.dr_world_laws.specs.Historic.{head_by}
+use Rattle.dr_world_laws.specs.Letters.{IsHeadFor}
 use Rattle.dr_world_laws.specs.Views.{AreViews, HasView, IsCovered}
-use Rattle.dr_world_laws.proofs.ChosenViews.{views-next}
+use Rattle.dr_world_laws.proofs.Ballots.{cut-changes, voted-cut as changed-cut}
+use Rattle.dr_world_laws.proofs.ChosenViews.{views-come}
 use Rattle.dr_world_laws.proofs.Choosing.{nobody_else, voted_by}
 use Rattle.dr_world_laws.proofs.Covering as covering
-use Rattle.dr_world_laws.proofs.HeldViews.{view-held, view-is, view-there}
+use Rattle.dr_world_laws.proofs.HeldViews.{view-is}
+use Rattle.dr_world_laws.proofs.Holding.{reaches, view-held, view-there}
+use Rattle.dr_world_laws.proofs.Letters.{IsLetter}
 use Rattle.dr_world_laws.proofs.Reached as worlds
 use Rattle.dr_world_laws.proofs.Worlds.{Known, accepts_so, known_late}
 
@@ -39,18 +49,72 @@ pub has-view : (g : Group) (w : World) (i v : ℕ) → IsGroup g → (y : Known 
 has-view g w i v is y come = by (cases_lt i (roster g))
   where
     by : (i < roster g) ⊎ (roster g ≤ i) → HasView g w v (views_by g y.values v)
-    by (inl l) = (i, l, view-there g y.values w i v y.chosen l come)
+    by (inl l) = (i, l, view-there g y.values w i v y.chosen.laid.historic l come)
     by (inr beyond) =
         let first = (nobody_else g y.run.0 w is y.run.1 i beyond).0 in (
           0,
           is.some_member,
-          view-there g y.values w 0 v y.chosen is.some_member (omega (arith, first, come)),
+          view-there g y.values w 0 v y.chosen.laid.historic is.some_member (omega (arith, first, come)),
         )
 
 pub view-once : (g : Group) (w : World) (v one other : ℕ) → IsGroup g → Known g w → HasView g w v one
     → HasView g w v other → one ≡ other
 view-once g w v one other is y h k =
     sym (view-is g y.values w v one is y.chosen h) ∙ view-is g y.values w v other is y.chosen k
+
+-- a letter is the head of the first view that its member is in
+pub head-for : (g : Group) (w : World) (j : ℕ) (l : List Entry) → IsGroup g → Known g w
+    → w.letter j ≡ Some l → IsHeadFor g w j l
+head-for g w j l is y e = record {
+  giver = t.giver;
+  within = t.within;
+  delivered = subst (λ es. IsPrefixOf es (w.past.history t.giver)) (sym t.is)
+      (reaches g y.values w t.giver t.view y.chosen.laid.historic t.within t.come);
+  before = h.0;
+  view = t.view;
+  members = views_by g y.values t.view;
+  is = t.is ∙ h.1;
+  later = omega (arith, t.next);
+  member = t.member;
+  first = λ v others c there.
+      let held = course_views g.opening w.past.sent (endings_by g.opening y.values) t.view 0 v others is.sound
+      (subst (λ es. Contains es (View g.opening.age v others))
+      (t.is ∙ sym (course-head g.opening w.past.sent (endings_by g.opening y.values) t.view)) c) in
+      by v (ap (λ k. has k j) held.1 ∙ there) held.0 (cases_lt v t.view);
+}
+  where
+    t : IsLetter g y.values w j l
+    t = (y.chosen.letters.letters j l e).0
+
+    h : (before : List Entry) × (head_by g y.values w t.view
+        ≡ before ++ View g.opening.age t.view (views_by g y.values t.view) ∷ [])
+    h = head-last g.opening w.past.sent (endings_by g.opening y.values) t.view
+
+    by : (v : ℕ) → has (views_by g y.values v) j ≡ true → v ≤ t.view → (v < t.view) ⊎ (t.view ≤ v) → v ≡ t.view
+    by v there low (inl less) = absurd (cc (there, t.new v less))
+    by v there low (inr high) = omega (arith, low, high)
+
+-- a member that was in the view that it came from was in the one of the number before, of which its history
+-- has the View
+pub came-before : (g : Group) (w : World) (m : ℕ) → IsGroup g → Known g w → has (w.came_from m) m ≡ true
+    → (v : ℕ) × (w.past.view m ≡ v + 1)
+    × Contains (w.past.history m) (View g.opening.age v (w.came_from m))
+came-before g w m is y e =
+    let f = y.chosen.faithful in
+    let t = f.views.came m e in
+    let l = f.views.within t.0 m (ap (λ k. has k m) (sym t.2) ∙ e) in (
+      t.0,
+      t.1,
+      subst (λ k. Contains (w.past.history m) (View g.opening.age t.0 k)) (sym t.2)
+          (view-there g y.values w m t.0 y.chosen.laid.historic l (omega (arith, t.1))),
+    )
+
+-- and who was in that one came from it
+pub came-back : (g : Group) (w : World) (m v members : ℕ) → IsGroup g → Known g w → w.past.view m ≡ v + 1
+    → HasView g w v members → has members m ≡ true → w.came_from m ≡ members
+came-back g w m v members is y next h there =
+    let same = view-is g y.values w v members is y.chosen h in
+    y.chosen.faithful.views.back m v next (ap (λ k. has k m) same ∙ there) ∙ same
 
 -- the members of the present view of a member
 pub has-present : (g : Group) (w : World) (m : ℕ) → IsGroup g → Known g w
@@ -61,15 +125,17 @@ has-present g w m is y = subst (HasView g w (w.past.view m)) (sym (y.chosen.fait
 -- a view that another one follows ended by votes
 pub view-ended : (g : Group) (w : World) (v members next : ℕ) → IsGroup g → Known g w
     → HasView g w v members → HasView g w (v + 1) next
-    → (b : ℕ) × (x : Value) × HaveVotedFor w.past.votes members v b x × (next ≡ without members x.leavers)
+    → (b : ℕ) × (x : Value) × HaveVotedFor w.past.votes members v b x × (next ≡ next_members members x.leavers)
 view-ended g w v members next is y h k =
     let same = view-is g y.values w v members is y.chosen h in
-    let after = view-held g y.values w k.0 (v + 1) next is y.chosen k.1 k.2 in
+    let after = view-held g y.values w k.0 (v + 1) next is y.chosen.laid.historic k.1 k.2 in
     let t = y.chosen.ballots k.0 v (omega (arith, after.0)) in (
       t.0,
       y.values v,
       subst (λ mask. MajorityHas w.past.votes mask (λ z. IsOf z v t.0 × (z.value ≡ y.values v))) same t.1,
-      sym after.1 ∙ views-next g y.values v ∙ ap (λ mask. without mask (y.values v).leavers) same,
+      sym after.1 ∙ views-come g y.values v is (cut-changes g y.values w.past.own v
+          (changed-cut g y.values w v t.0 y.chosen.voting t.1))
+          ∙ ap (λ mask. next_members mask (y.values v).leavers) same,
     )
 
 -- ---- votes
@@ -105,9 +171,11 @@ majority-kept g w i j members x z is y held h k most view above =
 
 pub voted-cut : (g : Group) (w : World) (i : ℕ) (x : Vote) → IsGroup g → Known g w
     → HasLogged w.past.votes i x
-    → (members : ℕ) × HasView g w x.view members × IsCut members w.past.own x.view x.value
+    → (V : Views) × AreViews g w V × HasView g w x.view (V x.view)
+    × IsCut g.opening V w.past.own x.view x.value
 voted-cut g w i x is y h = (
-  views_by g y.values x.view,
+  views_by g y.values,
+  λ v members. view-is g y.values w v members is y.chosen,
   has-view g w i x.view is y (voted_come g (views_by g y.values) w i x.view x.ballot x.value y.chosen.faithful
       y.chosen.voting (vote_is g (views_by g y.values) w i x y.chosen.voting h)),
   vote_cut g (views_by g y.values) w i x y.chosen.voting h,

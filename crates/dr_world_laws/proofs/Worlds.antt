@@ -18,7 +18,7 @@ use Rattle.dr_machine.specs.Acts.{Guard, effect}
 use Rattle.dr_machine.specs.declared.event.Event.{Event}
 use Rattle.dr_machine.specs.Effects.{counts_by}
 use Rattle.dr_machine.specs.Events.{member_of, step_of}
-use Rattle.dr_machine.specs.Group.{Group, IsGroup, IsPresent, roster}
+use Rattle.dr_machine.specs.Group.{Group, IsGroup, roster}
 use Rattle.dr_machine.specs.Guards.{CanFinish, HoldsAll, MayChoose, unsuspected_of}
 use Rattle.dr_machine.proofs.Runs.{by_way, last_or_before, reached}
 use Rattle.dr_machine.specs.Run.{ComesNext, IsReached, NoLaterItem, PastGrew, Way, WordsGrew, WorldAgreed}
@@ -37,7 +37,6 @@ use Rattle.dr_vote_laws.proofs.Values as votes
 use Rattle.dr_vote_laws.specs.Moments.{AcceptsOfMoments}
 use Rattle.dr_vote_laws.specs.Voting.{IsChosen}
 use Rattle.dr_world_laws.specs.Historic.{HoldsMessages, view_numbered}
-use Rattle.dr_world_laws.proofs.Away.{there-or-not}
 use Rattle.dr_world_laws.proofs.ByValues.{IsReachedBy}
 use Rattle.dr_world_laws.proofs.Agreeing as agreeing
 use Rattle.dr_world_laws.proofs.Agreeing.{AreAccounts}
@@ -93,11 +92,7 @@ told g w is y = all_told g (views_by g y.values) w y.chosen.faithful
 
 pub waits : (g : Group) (w : World) (m : ℕ) → IsGroup g → Known g w → m < roster g → w.suspects m ≢ 0
     → IsLeastOf (unsuspected_of w m) (w.promise m)
-waits g w m is y l some = by (there-or-not g m)
-  where
-    by : IsPresent g m ⊎ (has g.opening.present m ≡ false) → IsLeastOf (unsuspected_of w m) (w.promise m)
-    by (inl there) = waits_for g (views_by g y.values) w m is y.chosen.faithful there some
-    by (inr none) = absurd (some (y.chosen.away m none).suspects)
+waits g w m is y l some = waits_for g (views_by g y.values) w m is y.chosen.faithful some
 
 -- the words grow at every event, and so does all else that only grows
 pub words_grew : (g : Group) (w : World) (e : Event) → IsGroup g → Known g w → Guard g w e
@@ -263,9 +258,9 @@ pub holds-remaining : (g : Group) (w : World) (m : ℕ) → IsGroup g → Known 
 holds-remaining g w m is y l first whole =
     remainders.holds-remaining g y.values y.run.0 w m is y.by.way y.by.before y.chosen l first whole
 
-pub holds_messages : (g : Group) (w : World) (m : ℕ) → Known g w → m < roster g
+pub holds_messages : (g : Group) (w : World) (m : ℕ) → IsGroup g → Known g w → m < roster g
     → HoldsMessages g (w.past.history m)
-holds_messages g w m y l = messages.holds_messages g y.values w m y.chosen l
+holds_messages g w m is y l = messages.holds_messages g y.values w m is y.chosen l
 
 pub left_so : (g : Group) (w : World) → IsGroup g → Known g w → (m : ℕ) → m < roster g
     → IsLeftSo w m (w.end m)

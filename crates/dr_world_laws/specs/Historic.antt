@@ -44,7 +44,8 @@ pub record HasEndedSafely (g : Group) (values : Values) (w : World) (v : ℕ) : 
       × (is_final (w.past.own j v (recv_column s)) ≡ true)
       × (w.past.count j v s ≤ slice_index (values v).trim s)
   -- and no more than each that remains has received
-  pub covered : (i s : ℕ) → has (views_by g values (v + 1)) i ≡ true → has (views_by g values v) s ≡ true
+  pub covered : (i s : ℕ) → has (views_by g values v) i ≡ true → has (views_by g values (v + 1)) i ≡ true
+      → has (views_by g values v) s ≡ true
       → slice_index (values v).trim s ≤ w.past.count i v s
 
 -- the histories of a world are laid out by the values of its views, and each view that was left ended well

@@ -1,3 +1,4 @@
 pub mod Historic
 pub mod Ends
 pub mod Views
+pub mod Letters

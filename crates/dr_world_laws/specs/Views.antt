@@ -5,7 +5,7 @@ use Rattle.dr_entry.specs.declared.entry.Entry.TheVariants.{View}
 use Rattle.dr_entry.specs.declared.record.Value.{Value}
 use Rattle.dr_history.specs.History.{IsPrefixOf, merge}
 use Rattle.dr_history.specs.Members.{has, members_of}
-use Rattle.dr_words.specs.Masks.{without}
+use Rattle.dr_words.specs.Masks.{next_members}
 use Rattle.dr_machine.specs.Group.{Group, roster}
 use Rattle.dr_machine.specs.World.{World}
 use Rattle.dr_faithful.specs.Tells.{Views}
@@ -31,11 +31,11 @@ pub record IsCovered (g : Group) (w : World) (v members : ℕ) (x : Value) : Typ
   pub within : (m : ℕ) (before behind : List Entry) → m < roster g → w.past.view m ≡ v
       → w.past.history m ≡ before ++ View g.opening.age v members ∷ behind
       → IsPrefixOf behind (all_taken g w v members x)
-  -- who has left it has all of this, and behind it the View of those that don't leave
+  -- who has left it has all of this, and behind it the View of the members that come of it
   pub whole : (m : ℕ) (before behind : List Entry) → m < roster g → v < w.past.view m
       → w.past.history m ≡ before ++ View g.opening.age v members ∷ behind
       → IsPrefixOf
-      (all_taken g w v members x ++ View g.opening.age (v + 1) (without members x.leavers) ∷ []) behind
-  -- and each of these has received all items that the value takes
+      (all_taken g w v members x ++ View g.opening.age (v + 1) (next_members members x.leavers) ∷ []) behind
+  -- and each that doesn't leave has received all items that the value takes
   pub received : (i s : ℕ) → has members i ≡ true → has x.leavers i ≡ false → has members s ≡ true
       → slice_index x.trim s ≤ w.past.count i v s

@@ -7,8 +7,10 @@
 //! `docs/PROOFS.md` shows how.
 #![tactic(auto)]
 
-ghost use Rattle.std.specs.Prelude.{◌≡◌, ◌≢◌, ℕ, ◌*◌, ◌+◌, ◌<◌, ◌≤◌, false, List, [], ◌∷◌, ◌++◌, All, Contains, length, None, Some};
+ghost use Rattle.std.specs.Prelude.{◌≡◌, ◌≢◌, ℕ, ◌*◌, ◌+◌, ◌<◌, ◌≤◌, true, false, List, [], ◌∷◌, ◌++◌, All, Contains, length, None, Some};
 ghost use Rattle.dr_entry.specs.declared.end.End.TheVariants.{Done, Suspected, NoMajority};
+ghost use Rattle.dr_entry.specs.declared.entry.Entry.{Entry};
+ghost use Rattle.dr_entry.specs.declared.entry.Entry.TheVariants.{View};
 ghost use Rattle.dr_entry.specs.Spelling.{IsValidEntry};
 ghost use Rattle.dr_entry.specs.declared.record.Value.{Value};
 ghost use Rattle.dr_entry.specs.declared.record.Vote.{Vote};
@@ -22,19 +24,20 @@ ghost use Rattle.dr_machine.specs.declared.event.Event.{Event};
 ghost use Rattle.dr_machine.specs.Group.{Group, IsGroup, banks, roster};
 ghost use Rattle.dr_machine.specs.World.{World, opening_world};
 ghost use Rattle.dr_history.specs.declared.opening.Opening.{Opening};
-ghost use Rattle.dr_machine.specs.Guards.{CanFinish, HoldsAll, MayChoose, unsuspected_of};
+ghost use Rattle.dr_machine.specs.Guards.{CanFinish, CanWelcome, HoldsAll, MayChoose, unsuspected_of};
 ghost use Rattle.dr_machine.specs.Run.{ComesNext, Run, IsReached, IsReachedWhere, Way, NoLaterItem, PastGrew, WordsGrew, WorldAgreed};
 ghost use Rattle.dr_machine.specs.Effects.{counts_by};
 ghost use Rattle.dr_machine.specs.Votes.{HasLogged, IsOf, MajorityHas};
-ghost use Rattle.dr_words.specs.Masks.{IsLeastOf, without};
+ghost use Rattle.dr_words.specs.Masks.{IsLeastOf, next_members};
 ghost use Rattle.dr_vote_laws.specs.Moments.{AcceptsOfMoments};
 ghost use Rattle.dr_vote_laws.specs.Tells.{VotesTold};
 ghost use Rattle.dr_vote_laws.specs.Voting.{HaveVotedFor, IsCut};
-ghost use Rattle.dr_history.specs.Order.{first_entries, messages_from};
-ghost use Rattle.dr_history.specs.Soundness.{Sound};
+ghost use Rattle.dr_history.specs.Order.{IsLateIn, first_entries, messages_from};
+ghost use Rattle.dr_history.specs.Soundness.{IsNobodyLate, Sound};
 ghost use Rattle.dr_history_laws.specs.Remaining.{remaining};
 ghost use Rattle.dr_world_laws.specs.Ends.{IsLeftWith, IsSuspectedBack, NobodySuspects};
 ghost use Rattle.dr_world_laws.specs.Historic.{AreLaid, HoldsMessages, IsMerged};
+ghost use Rattle.dr_world_laws.specs.Letters.{IsHeadFor};
 ghost use Rattle.dr_world_laws.specs.Views.{AreViews, HasView, IsCovered};
 
 /// In every world that a group reaches its members agree: on their histories, on their logs, and on what
@@ -48,8 +51,10 @@ pub fn agreement()
 
 /// In every world that a group reaches the histories tell the members of each view that somebody has come
 /// to: the View of a number has the same members wherever it stands, and the View of a member's own
-/// view in some. A view is followed by another as more than half of its members have voted for one value by
-/// one ballot, and the next view has the members that don't leave by it.
+/// view in some. A member that was in the view before its own has kept that one's members as those that it
+/// came from. A view is followed by another as more than half of its members have voted for one value by
+/// one ballot, and the next view has the members that come of it: those of the view that the value doesn't
+/// name, and those that it names and the view lacks.
 pub fn views_end_by_votes()
     ensures once { (g : Group) (w : World) (v one other : ℕ) → IsGroup g → IsReached g w
         → HasView g w v one → HasView g w v other → one ≡ other }
@@ -57,10 +62,32 @@ pub fn views_end_by_votes()
         → (members : ℕ) × HasView g w v members }
     ensures present { (g : Group) (w : World) (m : ℕ) → IsGroup g → IsReached g w
         → HasView g w (w.past.view m) (w.members m) }
+    ensures came { (g : Group) (w : World) (m v members : ℕ) → IsGroup g → IsReached g w
+        → w.past.view m ≡ v + 1 → HasView g w v members → has members m ≡ true
+        → w.came_from m ≡ members }
+    ensures before { (g : Group) (w : World) (m : ℕ) → IsGroup g → IsReached g w
+        → has (w.came_from m) m ≡ true → (v : ℕ) × (w.past.view m ≡ v + 1)
+        × Contains (w.past.history m) (View g.opening.age v (w.came_from m)) }
     ensures ended { (g : Group) (w : World) (v members next : ℕ) → IsGroup g → IsReached g w
         → HasView g w v members → HasView g w (v + 1) next
         → (b : ℕ) × (x : Value) × HaveVotedFor w.past.votes members v b x
-        × (next ≡ without members x.leavers) }
+        × (next ≡ next_members members x.leavers) }
+{}
+
+/// In every world that a group reaches a letter for a late member is a front part of what some member has
+/// delivered, up to and with the first View that names the late one, and it goes on from what this one has. It
+/// is given once: whoever may give it finds that there is none yet, and who has given one in its view finds it
+/// there.
+pub fn letters_are_given_once()
+    ensures heads { (g : Group) (w : World) (j : ℕ) (letter : List Entry) → IsGroup g → IsReached g w
+        → w.letter j ≡ Some letter → IsHeadFor g w j letter }
+    ensures goes_on { (g : Group) (w : World) (j : ℕ) (letter : List Entry) → IsGroup g → IsReached g w
+        → j < roster g → w.letter j ≡ Some letter → has (w.members j) j ≡ false
+        → IsPrefixOf (w.past.history j) letter }
+    ensures once { (g : Group) (w : World) (m j : ℕ) → IsGroup g → IsReached g w → CanWelcome g w m j
+        → w.letter j ≡ None }
+    ensures stays { (g : Group) (w : World) (m j : ℕ) → IsGroup g → IsReached g w
+        → has (w.given m) j ≡ true → (letter : List Entry) × (w.letter j ≡ Some letter) }
 {}
 
 /// In every world that a group reaches the votes of a view agree on one value: votes of one ballot are equal;
@@ -88,12 +115,14 @@ pub fn one_value()
         → early.past.view m ≡ late.past.view k → u ≡ v }
 {}
 
-/// Each value that somebody has voted for lets a minority of its view leave, and somebody. The counts of
-/// those that stay are final, and of each member as many items are delivered as all of these have received.
+/// Each value that somebody has voted for lets a minority of its view leave, and late members come that are in
+/// no view so far, and it names somebody. The counts of those that stay are final, and of each member as many
+/// items are delivered as all of these have received.
 pub fn values_are_cuts()
     ensures { (g : Group) (w : World) (i : ℕ) (x : Vote) → IsGroup g → IsReached g w
         → HasLogged w.past.votes i x
-        → (members : ℕ) × HasView g w x.view members × IsCut members w.past.own x.view x.value }
+        → (V : Views) × AreViews g w V × HasView g w x.view (V x.view)
+        × IsCut g.opening V w.past.own x.view x.value }
 {}
 
 /// In every world that a group reaches each word tells the truth of its owner: of what it has received,
@@ -147,8 +176,8 @@ pub fn trim_covers()
 {}
 
 /// Whoever has committed a value may end its view with it, unless it leaves by the value: the table has a
-/// bank for the next view, and all items that the value takes are there. No age has more views than
-/// members.
+/// bank for the next view, and all items that the value takes are there. No age has more views than the table
+/// has banks.
 pub fn committed_members_may_finish()
     ensures { (g : Group) (w : World) (m : ℕ) (x : Value) → IsGroup g → IsReached g w → MayChoose g w m
         → w.committed m ≡ Some x → has x.leavers m ≡ false → CanFinish g w m }
@@ -174,7 +203,8 @@ pub fn histories_hold_messages()
 {}
 
 /// A member that has ended as done has delivered all messages that the script gives the members of its
-/// view, and knows its whole history to be durable. Nobody has a message that it lacks. Behind the View
+/// view, and knows its whole history to be durable. Nobody has a message that it lacks, but for those of late
+/// members, which may come into a later view. Behind the View
 /// that it is in lies the merge of all that was sent in this view. Members that are done in the same view
 /// have the same history.
 pub fn done_members_hold_all()
@@ -183,7 +213,7 @@ pub fn done_members_hold_all()
     ensures durable { (g : Group) (w : World) (m : ℕ) → IsGroup g → IsReached g w
         → m < roster g → w.end m ≡ Some Done → w.past.durable m ≡ length (w.past.history m) }
     ensures lacks_none { (g : Group) (w : World) (m k s : ℕ) → IsGroup g → IsReached g w
-        → m < roster g → w.end m ≡ Some Done → k < roster g
+        → ¬ IsLateIn g.opening s → m < roster g → w.end m ≡ Some Done → k < roster g
         → IsPrefixOf (messages_from s (w.past.history k)) (messages_from s (w.past.history m)) }
     ensures merged { (g : Group) (w : World) (m : ℕ) → IsGroup g → IsReached g w
         → m < roster g → w.end m ≡ Some Done → (values : Values) × IsMerged g values w m }

@@ -1,0 +1,303 @@
+-- The letters of late members: each is the head of the first view that its member is in.
+use Rattle.std.proofs.Common.{List, None, Option, Some, refl, ◌||◌, ◌==◌, ◌≢◌, ◌≡◌, ◌⊎◌, Contains, ap, arith, false, inl, inr, subst, sym, true, ℕ, ◌+◌, ◌<◌, ◌∙◌, ◌≤◌}
+use Rattle.std.proofs.lemmas.Bool.{cases_eq, cases_lt}
+use Rattle.std.proofs.lemmas.Bool.Decides.{nat_tests}
+use Rattle.std.proofs.lemmas.Option.{same_Some, slice_get-get_or}
+use Rattle.dr_entry.specs.declared.entry.Entry.{Entry}
+use Rattle.dr_history.specs.History.{last_view, up_to_view}
+use Rattle.dr_history.specs.Members.{has, members_of}
+use Rattle.dr_history.specs.Order.{IsNewIn}
+use Rattle.dr_history_laws.specs.Courses.{ViewHasEnded}
+use Rattle.dr_history_laws.proofs.Courses.{head-steady}
+use Rattle.dr_history_laws.proofs.Heads.{course_up_to}
+use Rattle.dr_history_laws.proofs.Members.{member-has}
+use Rattle.dr_machine.proofs.Events.{Letters, given_after, letters}
+use Rattle.dr_machine.proofs.Presence.{in_roster}
+use Rattle.dr_machine.specs.Acts.{CanTake, effect_of}
+use Rattle.dr_machine.specs.declared.step.Step.{Step}
+use Rattle.dr_machine.specs.Group.{Group, IsGroup, roster}
+use Rattle.dr_machine.specs.Guards.{CanWelcome}
+use Rattle.dr_machine.specs.Run.{PastGrew}
+use Rattle.dr_machine.specs.World.{World}
+use Rattle.dr_machine.specs.Writes.{at}
+use Rattle.dr_machine.specs.Effects.{welcomes}
+use Rattle.dr_words.proofs.Bits.{has_zero}
+use Rattle.dr_words.proofs.Masks.{has_mask_of}
+use Rattle.dr_words.specs.Masks.{with_member}
+use Rattle.dr_faithful.proofs.Finishes.{joined_is}
+use Rattle.dr_faithful.proofs.Writes.{at_case, at_other, at_same}
+use Rattle.dr_faithful.specs.Chosen.{Values, endings_by, views_by}
+use Rattle.dr_faithful.specs.Faithful.{AllGoOn, Faithful}
+use Rattle.dr_world_laws.specs.Historic.{AreLaid, head_by}
+use Rattle.dr_world_laws.proofs.ChosenViews.{ending-next}
+
+-- the letter for member j is the head of a view that somebody has come to, the first one that j is in
+pub record IsLetter (g : Group) (values : Values) (w : World) (j : ℕ) (letter : List Entry) : Type 0 where
+  pub view : ℕ
+  pub giver : ℕ
+  pub within : giver < roster g
+  pub come : view ≤ w.past.view giver
+  pub is : letter ≡ head_by g values w view
+  pub member : has (views_by g values view) j ≡ true
+  pub new : (u : ℕ) → u < view → has (views_by g values u) j ≡ false
+  -- and the least of those that stayed gave it
+  pub from : ℕ
+  pub next : view ≡ from + 1
+  pub was : has (views_by g values from) giver ≡ true
+  pub stays : has (views_by g values view) giver ≡ true
+  pub least : (i : ℕ) → has (views_by g values from) i ≡ true → has (views_by g values view) i ≡ true → giver ≤ i
+
+-- so are these letters
+abbrev pub AreHeads : Group → Values → World → (ℕ → Option (List Entry)) → Type 0
+AreHeads g values w letter = (j : ℕ) (l : List Entry) → letter j ≡ Some l → IsLetter g values w j l
+
+-- a letter stays so
+letter-on : (g : Group) (values : Values) (w after : World) (j : ℕ) (l : List Entry) → AreLaid g values w
+    → PastGrew w.past after.past → IsLetter g values w j l → IsLetter g values after j l
+letter-on g values w after j l laid grew t = record {
+  view = t.view;
+  giver = t.giver;
+  within = t.within;
+  come = omega (arith, t.come, grew.view t.giver);
+  is = t.is ∙ sym (head-steady g.opening w.past.sent after.past.sent (endings_by g.opening values) t.view
+      grew.sent (λ u less. (laid.left t.giver u t.within (omega (arith, less, t.come))).ended));
+  member = t.member;
+  new = t.new;
+  from = t.from;
+  next = t.next;
+  was = t.was;
+  stays = t.stays;
+  least = t.least;
+}
+
+-- who comes into the view with m, which was in the one before, is in no view before
+comes-new : (g : Group) (values : Values) (w : World) (m j : ℕ) → IsGroup g
+    → Faithful g (views_by g values) w → AreLaid g values w → CanWelcome g w m j
+    → (u : ℕ) → u < w.past.view m → has (views_by g values u) j ≡ false
+comes-new g values w m j is f laid can u less =
+    (fresh (ended.newcomers j next)).absent u (omega (arith, less, was.1))
+  where
+    l : m < roster g
+    l = in_roster g m is can.may.alive.present
+
+    there : has (views_by g values (w.past.view m)) j ≡ true
+    there = ap (λ k. has k j) (sym (f.views.own m)) ∙ can.newcomer
+
+    was : (u : ℕ) × (w.past.view m ≡ u + 1) × (w.came_from m ≡ views_by g values u)
+    was = f.views.came m can.welcomer
+
+    ended : ViewHasEnded g.opening w.past.sent (endings_by g.opening values) was.0
+    ended = (laid.left m was.0 l (omega (arith, was.1))).ended
+
+    next : has (endings_by g.opening values was.0).next j ≡ true
+    next = ap (λ k. has k j) (ending-next g values was.0)
+        ∙ subst (λ v. has (views_by g values v) j ≡ true) was.1 there
+
+    fresh : Contains (members_of (views_by g values was.0)) j
+        ⊎ IsNewIn g.opening (views_by g values) was.0 j
+        → IsNewIn g.opening (views_by g values) was.0 j
+    fresh (inl c) =
+        let there : has (views_by g values was.0) j ≡ true = member-has (views_by g values was.0) c.0 j
+        (slice_get-get_or (members_of (views_by g values was.0)) c.0 j c.1 ∙ ap Some c.2) in
+        absurd (cc (there, ap (λ k. has k j) (sym was.2) ∙ can.new))
+    fresh (inr new) = new
+
+-- what m gives is one
+given-letter : (g : Group) (values : Values) (w : World) (m j : ℕ) → IsGroup g
+    → Faithful g (views_by g values) w → AreLaid g values w → CanWelcome g w m j
+    → IsLetter g values w j (up_to_view (w.past.history m))
+given-letter g values w m j is f laid can = record {
+  view = w.past.view m;
+  giver = m;
+  within = l;
+  come = omega arith;
+  is = ap up_to_view (laid.historic.history m l)
+      ∙ course_up_to g.opening w.past.sent (endings_by g.opening values) (w.past.view m) (w.next m);
+  member = ap (λ k. has k j) (sym (f.views.own m)) ∙ can.newcomer;
+  new = comes-new g values w m j is f laid can;
+  from = was.0;
+  next = was.1;
+  was = ap (λ k. has k m) (sym was.2) ∙ can.welcomer;
+  stays = ap (λ k. has k m) (sym (f.views.own m)) ∙ can.may.inside;
+  least = λ i there stays. can.least i (ap (λ k. has k i) was.2 ∙ there)
+      (ap (λ k. has k i) (f.views.own m) ∙ stays);
+}
+  where
+    l : m < roster g
+    l = in_roster g m is can.may.alive.present
+
+    was : (u : ℕ) × (w.past.view m ≡ u + 1) × (w.came_from m ≡ views_by g values u)
+    was = f.views.came m can.welcomer
+
+-- ---- who has given it
+
+-- a member that has given one keeps that in its view
+abbrev IsKept : (ℕ → ℕ) → (ℕ → ℕ) → ℕ → ℕ → ℕ → Type 0
+IsKept view given giver v j = (has (given giver) j ≡ true) ⊎ (v < view giver)
+
+-- each letter is the head of such a view, and its giver keeps that it has given it; and who has given one has
+-- not lost it
+pub record AreGiven (g : Group) (values : Values) (w : World) (p : Letters) : Type 0 where
+  pub letters : (j : ℕ) (l : List Entry) → p.letter j ≡ Some l
+      → (t : IsLetter g values w j l) × IsKept p.view p.given t.giver t.view j
+  pub given : (m j : ℕ) → has (p.given m) j ≡ true → (l : List Entry) × (p.letter j ≡ Some l)
+
+pub are-heads : (g : Group) (values : Values) (w : World) (p : Letters) → AreGiven g values w p
+    → AreHeads g values w p.letter
+are-heads g values w p y j l e = (y.letters j l e).0
+
+-- who goes on in a later view
+kept-on : (view given : ℕ → ℕ) (m to giver v j : ℕ) → view m < to → v ≤ view giver → IsKept view given giver v j
+    → IsKept (at view m to) (at given m 0) giver v j
+kept-on view given m to giver v j later come kept = elim (cases_eq giver m) [
+  | inl same ↦ inr (grind (arith, same, later, come))
+  | inr d ↦ elim kept [
+    | inl t ↦ inl (ap (λ x. has x j) (at_other given m 0 giver d) ∙ t)
+    | inr less ↦ inr (grind (arith, d, less))
+  ]
+]
+
+given-on : (given : ℕ → ℕ) (letter : ℕ → Option (List Entry)) (m : ℕ)
+    → ((k j : ℕ) → has (given k) j ≡ true → (l : List Entry) × (letter j ≡ Some l))
+    → (k j : ℕ) → has (at given m 0 k) j ≡ true → (l : List Entry) × (letter j ≡ Some l)
+given-on given letter m old k j t = elim (cases_eq k m) [
+  | inl same ↦ absurd (cc (has_zero j, ap (λ x. has x j) (sym (ap (at given m 0) same ∙ at_same given m 0)) ∙ t))
+  | inr d ↦ old k j (ap (λ x. has x j) (sym (at_other given m 0 k d)) ∙ t)
+]
+
+-- a mask with one member more
+has-more : (mask n i : ℕ) → i < 16 → has mask i ≡ true → has (with_member mask n) i ≡ true
+has-more mask n i small there = has_mask_of (λ i. i == n || has mask i) i ∙ grind (arith, nat_tests, small, there)
+
+has-new : (mask n : ℕ) → n < 16 → has (with_member mask n) n ≡ true
+has-new mask n small = has_mask_of (λ i. i == n || has mask i) n ∙ grind (arith, nat_tests, small)
+
+has-old : (mask n i : ℕ) → i ≢ n → has (with_member mask n) i ≡ true → has mask i ≡ true
+has-old mask n i d t = grind (arith, nat_tests, d, sym (has_mask_of (λ i. i == n || has mask i) i) ∙ t)
+
+kept-more : (view given : ℕ → ℕ) (m n giver v j : ℕ) → j < 16 → IsKept view given giver v j
+    → IsKept view (at given m (with_member (given m) n)) giver v j
+kept-more view given m n giver v j small (inr less) = inr less
+kept-more view given m n giver v j small (inl t) = inl (elim (cases_eq giver m) [
+  | inl same ↦ ap (λ x. has x j) (ap (at given m (with_member (given m) n)) same
+      ∙ at_same given m (with_member (given m) n))
+      ∙ has-more (given m) n j small (ap (λ x. has x j) (sym (ap given same)) ∙ t)
+  | inr d ↦ ap (λ x. has x j) (at_other given m (with_member (given m) n) giver d) ∙ t
+])
+
+given-more : (given : ℕ → ℕ) (letter : ℕ → Option (List Entry)) (m n : ℕ) (x : List Entry)
+    → ((k j : ℕ) → has (given k) j ≡ true → (l : List Entry) × (letter j ≡ Some l))
+    → (k j : ℕ) → has (at given m (with_member (given m) n) k) j ≡ true
+    → (l : List Entry) × (at letter n (Some x) j ≡ Some l)
+given-more given letter m n x old k j t = elim (cases_eq j n) [
+  | inl same ↦ (x, ap (at letter n (Some x)) same ∙ at_same letter n (Some x))
+  | inr d ↦ let y = old k j (before d (cases_eq k m)) in (y.0, at_other letter n (Some x) j d ∙ y.1)
+]
+  where
+    before : j ≢ n → (k ≡ m) ⊎ (k ≢ m) → has (given k) j ≡ true
+    before d (inl same) = ap (λ i. has (given i) j) same ∙ has-old (given m) n j d
+        (ap (λ x. has x j) (sym (ap (at given m (with_member (given m) n)) same
+        ∙ at_same given m (with_member (given m) n))) ∙ t)
+    before d (inr e) = ap (λ x. has x j) (sym (at_other given m (with_member (given m) n) k e)) ∙ t
+
+-- so it stays
+gives : (g : Group) (values : Values) (w : World) (m i : ℕ) → IsGroup g → Faithful g (views_by g values) w
+    → AreLaid g values w → CanWelcome g w m i → AreGiven g values w (letters w)
+    → AreGiven g values w (letters (welcomes w m i))
+unfolding given-letter
+gives g values w m i is f laid can old = record {
+  letters = at_case (λ k (r : Option (List Entry)). (l : List Entry) → r ≡ Some l
+      → (t : IsLetter g values w k l) × IsKept w.past.view more t.giver t.view k) w.letter i
+      (Some (up_to_view (w.past.history m)))
+      (λ k d l e. let t = old.letters k l e in (
+        t.0,
+        kept-more w.past.view w.given m i t.0.giver t.0.view k (small t.0.view k t.0.member) t.1,
+      ))
+      (λ l e. subst (λ es. (t : IsLetter g values w i es) × IsKept w.past.view more t.giver t.view i)
+      (same_Some (up_to_view (w.past.history m)) l e) (
+        given-letter g values w m i is f laid can,
+        inl (ap (λ x. has x i) (at_same w.given m (with_member (w.given m) i))
+            ∙ has-new (w.given m) i (small (w.past.view m) i
+            (ap (λ k. has k i) (sym (f.views.own m)) ∙ can.newcomer))),
+      ));
+  given = given-more w.given w.letter m i (up_to_view (w.past.history m)) old.given;
+}
+  where
+    more : ℕ → ℕ
+    more = at w.given m (with_member (w.given m) i)
+
+    small : (v k : ℕ) → has (views_by g values v) k ≡ true → k < 16
+    small v k there = omega (arith, f.views.within v k there, is.most_members)
+
+goes : (g : Group) (values : Values) (w : World) (m to : ℕ) → w.past.view m < to
+    → AreGiven g values w (letters w)
+    → AreGiven g values w (record { view = at w.past.view m to; given = at w.given m 0; letter = w.letter })
+goes g values w m to later old = record {
+  letters = λ j l e. let t = old.letters j l e in
+      (t.0, kept-on w.past.view w.given m to t.0.giver t.0.view j later t.0.come t.1);
+  given = given-on w.given w.letter m old.given;
+}
+
+-- and the letters are such after each step
+pub letters-stay : (g : Group) (values : Values) (w : World) (m : ℕ) (s : Step) → IsGroup g
+    → Faithful g (views_by g values) w → AllGoOn g (views_by g values) w → AreLaid g values w
+    → PastGrew w.past (effect_of g w m s).past
+    → CanTake g w m s → AreGiven g values w (letters w)
+    → AreGiven g values (effect_of g w m s) (letters (effect_of g w m s))
+unfolding letter-on
+letters-stay g values w m s is f well laid grew can old = record {
+  letters = λ j l e. let t = now.letters j l e in
+      (letter-on g values w (effect_of g w m s) j l laid grew t.0, t.1);
+  given = now.given;
+}
+  where
+    now : AreGiven g values w (letters (effect_of g w m s))
+    now = given_after g w m s (AreGiven g values w) can (record {
+      gives = λ i may. gives g values w m i is f laid may old;
+      goes_on = λ may. goes g values w m (w.past.view m + 1) (omega arith) old;
+      joins = λ may. joined_is w m may.letter (λ u. AreGiven g values w (letters u)) may.given
+          (goes g values w m (last_view (0, 0) may.letter).0 (well.join m may).later old);
+      stays = old;
+    })
+
+-- a member gives no second letter, nor does another
+pub gives-once : (g : Group) (values : Values) (w : World) (m j : ℕ) → IsGroup g
+    → Faithful g (views_by g values) w → AreLaid g values w → AreGiven g values w (letters w)
+    → CanWelcome g w m j → w.letter j ≡ None
+gives-once g values w m j is f laid y can = by (w.letter j) refl
+  where
+    was : (u : ℕ) × (w.past.view m ≡ u + 1) × (w.came_from m ≡ views_by g values u)
+    was = f.views.came m can.welcomer
+
+    there : has (views_by g values (w.past.view m)) j ≡ true
+    there = ap (λ k. has k j) (sym (f.views.own m)) ∙ can.newcomer
+
+    -- it is the same view
+    same-view : (l : List Entry) (t : IsLetter g values w j l)
+        → (t.view < w.past.view m) ⊎ (w.past.view m ≤ t.view)
+        → (w.past.view m < t.view) ⊎ (t.view ≤ w.past.view m) → t.view ≡ w.past.view m
+    same-view l t (inl less) b = absurd (cc (t.member, comes-new g values w m j is f laid can t.view less))
+    same-view l t (inr a) (inl less) = absurd (cc (there, t.new (w.past.view m) less))
+    same-view l t (inr a) (inr b) = omega (arith, a, b)
+
+    by : (r : Option (List Entry)) → w.letter j ≡ r → w.letter j ≡ None
+    by None e = e
+    by (Some l) e =
+        let y = y.letters j l e in
+        let t = y.0 in
+        let view : t.view ≡ w.past.view m = same-view l t (cases_lt t.view (w.past.view m))
+        (cases_lt (w.past.view m) t.view) in
+        let from : t.from ≡ was.0 = omega (arith, view, t.next, was.1) in
+        let low : t.giver ≤ m = t.least m
+        (subst (λ u. has (views_by g values u) m ≡ true) (sym from) (ap (λ k. has k m) (sym was.2) ∙ can.welcomer))
+        (subst (λ u. has (views_by g values u) m ≡ true) (sym view)
+        (ap (λ k. has k m) (sym (f.views.own m)) ∙ can.may.inside)) in
+        let high : m ≤ t.giver = can.least t.giver
+        (ap (λ k. has k t.giver) was.2 ∙ subst (λ u. has (views_by g values u) t.giver ≡ true) from t.was)
+        (ap (λ k. has k t.giver) (f.views.own m)
+        ∙ subst (λ u. has (views_by g values u) t.giver ≡ true) view t.stays) in
+        let one : t.giver ≡ m = omega (arith, low, high) in
+        elim y.1 [
+          | inl given ↦ absurd (cc (ap (λ k. has (w.given k) j) (sym one) ∙ given, can.none))
+          | inr less ↦ absurd (omega (arith, less, view, ap w.past.view one))
+        ]
