@@ -1,14 +1,16 @@
 -- What it makes of a replica that it votes, accepts a value or commits one: its words have grown, and it
 -- keeps its form.
-use Rattle.std.proofs.Common.{◌≡◌, ℕ, ◌+◌, ◌*◌, ◌<◌, ◌≤◌, ◌⊎◌, inl, inr, true, List, [], ◌∷◌, ◌++◌, length, Option, None, Some, unwrap_or, refl, sym, ap, subst, ◌∙◌, arith}
+use Rattle.std.proofs.Common.{◌≡◌, ℕ, ◌+◌, ◌*◌, ◌^◌, ◌<◌, ◌≤◌, ◌⊎◌, inl, inr, true, false, List, [], ◌∷◌, ◌++◌, length, Option, None, Some, unwrap_or, refl, sym, ap, subst, ◌∙◌, arith}
+use Rattle.std.proofs.lemmas.Bool.{and_parts}
 use Rattle.std.proofs.lemmas.List.{length_push}
+use Rattle.std.proofs.lemmas.Option.{same_Some}
 use Rattle.dr_entry.specs.declared.record.Value.{Value}
 use Rattle.dr_entry.specs.declared.record.Vote.{Vote}
 use Rattle.dr_rows.proofs.Rewrites.{IsWords-rewritten, own_rewritten}
 use Rattle.dr_rows.specs.Words.{own, rewritten}
-use Rattle.dr_words.proofs.Accepts.{FitsWords, accept_within}
+use Rattle.dr_words.proofs.Accepts.{FitsWords, accept_within, leavers_accept}
 use Rattle.dr_words.proofs.Rewrites.{accepted_grown as word_grown, accepted_in_form, accepted_promise, accepted_rest, accepted_tag, accepted_value, rewritten_grown, rewritten_in_form}
-use Rattle.dr_words.specs.Columns.{head_column, recv_column}
+use Rattle.dr_words.specs.Columns.{head_column, leavers_column, recv_column}
 use Rattle.dr_words.specs.Form.{AllInForm}
 use Rattle.dr_words.specs.Grown.{HasGrown, Grown}
 use Rattle.dr_words.specs.Packing.{accept_promise, accept_tag, accept_value}
@@ -16,29 +18,43 @@ use Rattle.dr_words.specs.Rewrites.{accepted_word, is_accept_of}
 use Rattle.dr_words.specs.declared.column.TheConstants.{BEAT_COLUMN, LOGGED_COLUMN, RECEIVED_COLUMN, SUSPECTED_COLUMN}
 use Rattle.dr_ring.specs.Slots.{slot_column}
 use Rattle.dr_machine.specs.World.{no_vote}
-use Rattle.dr_program.proofs.Voting.{promise_within, vote_due}
+use Rattle.dr_program.proofs.Voting.{promise_within, vote_due, wedged_inside}
+use Rattle.dr_program.proofs.OwnWords.{same_number}
 use Rattle.dr_form.proofs.Beside.{beside_form}
 use Rattle.dr_program.specs.Form.{HasForm, IsVoteDue, waiting}
-use Rattle.dr_program.specs.Replica.{Replica, accepted, decided, is_others, is_own, may_vote, me, promise, vote_of, voted}
+use Rattle.dr_program.specs.Replica.{Replica, accepted, decided, is_inside, is_others, is_own, is_wedged, may_vote, me, promise, vote_of, voted}
 
 -- ---- what is noted beside the words
 
 noted_form : (r : Replica) (committed : Option Value) (pending : Option Vote) (votes : List Vote) → HasForm r
     → ((x : Vote) → pending ≡ Some x → IsVoteDue r.roster r.tag (promise r) x)
     → length votes ≤ r.view * r.roster + r.tag + waiting pending
+    → ((x : Value) → committed ≡ Some x → x.leavers < 2 ^ r.roster)
+    → (is_inside r ≡ false → (votes ≡ []) × (pending ≡ None))
     → HasForm (record r { committed = committed; pending = pending; votes = votes })
-noted_form r committed pending votes f waits few = beside_form r r.next r.logged r.durable r.turns r.acts
-    r.history r.end committed pending votes f (omega arith) f.logged f.room (omega arith) f.acts waits few
+noted_form r committed pending votes f waits few decided none = beside_form r r.next r.logged r.durable r.turns r.acts
+    r.history r.end committed pending votes f (omega arith) f.logged f.room (omega arith) f.acts waits few decided
+    (λ e. ((none e).0, (none e).1, (f.outside e).all))
+
+-- what it has accepted names members of the roster
+value_small : (r : Replica) → HasForm r → r.value.leavers < 2 ^ r.roster
+value_small r f =
+    let words = subst (λ (n : ℕ). AllInForm n r.rows.words) f.members f.words in
+    let small = (words (me r) (leavers_column r.roster)).leavers refl in
+    let shown = f.valued (leavers_column r.roster) (leavers_accept r.roster r.members) in
+    rw (shown, same_number (leavers_column r.roster)) at small
 
 -- a commit keeps a replica in form
 pub decided_form : (r : Replica) → HasForm r → HasForm (decided r)
 decided_form r f = noted_form r (Some r.value) r.pending r.votes f f.waits f.votes
+    (λ x e. rw (← same_Some r.value x e) (value_small r f)) (λ e. ((f.outside e).none, (f.outside e).idle))
 
 -- so does a vote, where none waits
 pub voted_form : (r : Replica) (v : Value) → HasForm r → r.pending ≡ None → may_vote r v ≡ true
     → HasForm (voted r v)
 voted_form r v f none may =
-    noted_form r r.committed (Some (vote_of r v)) (r.votes ++ vote_of r v ∷ []) f waits few
+    noted_form r r.committed (Some (vote_of r v)) (r.votes ++ vote_of r v ∷ []) f waits few f.decided
+    (λ e. absurd (cc (e, wedged_inside r f (and_parts (is_wedged r) _ may).0)))
   where
     waits : (x : Vote) → Some (vote_of r v) ≡ Some x → IsVoteDue r.roster r.tag (promise r) x
     waits x e =
@@ -119,12 +135,18 @@ accepted_form r x f e = record {
       (anew_form r x f e);
   some_slot = f.some_slot;
   most_slots = f.most_slots;
-  suspicion = f.suspicion;
+  number = f.number;
+  trusted = f.trusted;
+  named = f.named;
   frozen = f.frozen;
   bank = f.bank;
   left = f.left;
   roster = f.roster;
-  present = f.present;
+  late = f.late;
+  outside = λ e. let o = f.outside e in
+      record { late = o.late; first = o.first; trusting = o.trusting; none = o.none; idle = refl; all = o.all };
+  decided = f.decided;
+  given = f.given;
   counts = f.counts;
   bounded = f.bounded;
   few = f.few;

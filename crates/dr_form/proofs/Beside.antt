@@ -1,11 +1,11 @@
 -- What of a replica is beside its words and items may count on, and be noted, without them.
-use Rattle.std.proofs.Common.{◌≡◌, ℕ, ◌+◌, ◌*◌, ◌^◌, ◌<◌, ◌≤◌, List, length, Option, Some, arith}
+use Rattle.std.proofs.Common.{◌≡◌, ℕ, ◌+◌, ◌*◌, ◌^◌, ◌<◌, ◌≤◌, false, List, [], length, Option, None, Some, arith}
 use Rattle.dr_entry.specs.declared.end.End.{End}
 use Rattle.dr_entry.specs.declared.entry.Entry.{Entry}
 use Rattle.dr_entry.specs.declared.record.Value.{Value}
 use Rattle.dr_entry.specs.declared.record.Vote.{Vote}
 use Rattle.dr_program.specs.Form.{HasForm, IsVoteDue, waiting}
-use Rattle.dr_program.specs.Replica.{Replica, promise}
+use Rattle.dr_program.specs.Replica.{Replica, is_inside, promise}
 
 -- a replica keeps its form where these are within their bounds
 pub beside_form : (r : Replica) (next logged durable turns acts : ℕ) (history : List Entry)
@@ -14,6 +14,8 @@ pub beside_form : (r : Replica) (next logged durable turns acts : ℕ) (history 
     → acts < 2 ^ 64
     → ((x : Vote) → pending ≡ Some x → IsVoteDue r.roster r.tag (promise r) x)
     → length votes ≤ r.view * r.roster + r.tag + waiting pending
+    → ((x : Value) → committed ≡ Some x → x.leavers < 2 ^ r.roster)
+    → (is_inside r ≡ false → (votes ≡ []) × (pending ≡ None) × (logged ≡ length history))
     → HasForm (record r {
       next = next;
       history = history;
@@ -27,19 +29,32 @@ pub beside_form : (r : Replica) (next logged durable turns acts : ℕ) (history 
       votes = votes;
     })
 beside_form r next logged durable turns acts history end committed pending votes f more within room rises
-    small waits few = record {
+    small waits few decided out = record {
       rows = f.rows;
       members = f.members;
       columns = f.columns;
       words = f.words;
       some_slot = f.some_slot;
       most_slots = f.most_slots;
-      suspicion = f.suspicion;
+      number = f.number;
+      trusted = f.trusted;
+      named = f.named;
       frozen = f.frozen;
       bank = f.bank;
       left = f.left;
       roster = f.roster;
-      present = f.present;
+      late = f.late;
+      outside = λ e. let o = f.outside e in
+          let t = out e in record {
+            late = o.late;
+            first = o.first;
+            trusting = o.trusting;
+            none = t.0;
+            idle = t.1;
+            all = t.2;
+          };
+      given = f.given;
+      decided = decided;
       counts = f.counts;
       bounded = f.bounded;
       few = f.few;

@@ -21,7 +21,7 @@ use Rattle.dr_ring.specs.Slots.{slot_column, IsFree, is_free, with_item}
 use Rattle.dr_ring.proofs.Freedom.{IsFree-from_test}
 use Rattle.dr_words.specs.Masks.{IsInRoster}
 use Rattle.dr_rows.specs.Words as rows
-use Rattle.dr_rows.specs.Words.{Words, IsWords, own, seen, with_own, is_frozen}
+use Rattle.dr_rows.specs.Words.{Words, own, seen, with_own}
 use Rattle.dr_rows.proofs.WordsLemmas.{IsWords-pushed}
 use Rattle.dr_words.specs.Rewrites.{is_accept_of}
 use Rattle.dr_words.specs.declared.column.TheConstants.{BEAT_COLUMN, SUSPECTED_COLUMN, RECEIVED_COLUMN, LOGGED_COLUMN, DONE_COLUMN}
@@ -38,7 +38,7 @@ use Rattle.dr_machine.specs.Sending.{IsPut}
 use Rattle.dr_machine.specs.Effects.{one_more, entries_of}
 use Rattle.dr_machine.specs.declared.event.Act.{Act}
 use Rattle.dr_machine.specs.declared.event.Act.TheVariants as acts
-use Rattle.dr_program.specs.Replica.{Replica, me, count, greatest, members_in_view, is_other, is_wedged, least_seen, sender_of_place, item_of_place, may_append, may_deliver, is_behind, may_receive, may_send, may_null, ready_item, next_index, gained, acted, beaten, ended, reported, appended, delivered, published, marked, looked, pushed, put, received, suspected, accepted, decided}
+use Rattle.dr_program.specs.Replica.{Replica, me, count, greatest, members_in_view, is_inside, is_other, is_others, is_own, is_wedged, may_finish, may_suspect, least_seen, sender_of_place, item_of_place, may_append, may_deliver, is_behind, may_receive, may_send, may_null, ready_item, next_index, gained, acted, beaten, ended, reported, appended, delivered, published, marked, looked, pushed, put, received, suspected, accepted, decided}
 use Rattle.dr_program.specs.Form.{HasForm}
 use Rattle.dr_words.proofs.Ranks.{some_member}
 use Rattle.dr_words.proofs.Accepts.{accept_within}
@@ -70,7 +70,7 @@ me_within r f = omega (arith, f.rows.present, f.members)
 rest_keeps : (r : Replica) (next logged durable turns acts : ℕ) (history : List Entry)
     (end : Option End) → HasForm r
     → r.logged ≤ logged → logged ≤ length history → length history ≤ r.room → r.acts ≤ acts
-    → acts < 2 ^ 64
+    → acts < 2 ^ 64 → (is_inside r ≡ false → logged ≡ length history)
     → HasForm (record r {
       next = next;
       history = history;
@@ -80,9 +80,9 @@ rest_keeps : (r : Replica) (next logged durable turns acts : ℕ) (history : Lis
       acts = acts;
       end = end;
     })
-rest_keeps r next logged durable turns acts history end f more within room rises small =
+rest_keeps r next logged durable turns acts history end f more within room rises small all =
     beside_form r next logged durable turns acts history end r.committed r.pending r.votes f more within room
-    rises small f.waits f.votes
+    rises small f.waits f.votes f.decided (λ e. ((f.outside e).none, (f.outside e).idle, all e))
 
 -- ---- words
 
@@ -103,12 +103,18 @@ words_keep r words sent f w = record {
   words = w.table.words;
   some_slot = f.some_slot;
   most_slots = f.most_slots;
-  suspicion = f.suspicion;
+  number = f.number;
+  trusted = f.trusted;
+  named = f.named;
   frozen = f.frozen;
   bank = f.bank;
   left = f.left;
   roster = f.roster;
-  present = f.present;
+  late = f.late;
+  outside = λ e. let o = f.outside e in
+      record { late = o.late; first = o.first; trusting = o.trusting; none = o.none; idle = o.idle; all = o.all };
+  decided = f.decided;
+  given = f.given;
   counts = f.counts;
   bounded = f.bounded;
   few = f.few;
@@ -184,7 +190,7 @@ pub acted_keeps : (r : Replica) → HasForm r → HasForm (acted r)
 acted_keeps r f =
     let acts : ℕ = one_more 64 r.acts in
     let counted = rest_keeps r r.next r.logged r.durable r.turns acts r.history r.end f
-    (omega arith) f.logged f.room (omega (arith, f.acts)) (omega arith) in
+    (omega arith) f.logged f.room (omega (arith, f.acts)) (omega arith) (λ e. (f.outside e).all) in
     own_keeps (record r { acts = acts }) BEAT_COLUMN acts counted (inl refl)
     (form_free r.roster BEAT_COLUMN acts (inl (omega arith, omega arith)))
     (λ e. omega arith) (λ e. absurd (omega arith))
@@ -200,22 +206,23 @@ acted_grown r f =
 beaten_keeps : (r : Replica) → HasForm r → HasForm (acted (beaten r))
 beaten_keeps r f = acted_keeps (beaten r)
     (rest_keeps r r.next r.logged r.durable (one_more 32 r.turns) r.acts r.history r.end f
-    (omega arith) f.logged f.room (omega arith) f.acts)
+    (omega arith) f.logged f.room (omega arith) f.acts (λ e. (f.outside e).all))
 
 ended_keeps : (r : Replica) (end : End) → HasForm r → HasForm (acted (ended r end))
 ended_keeps r end f = acted_keeps (ended r end)
     (rest_keeps r r.next r.logged r.durable r.turns r.acts r.history (Some end) f
-    (omega arith) f.logged f.room (omega arith) f.acts)
+    (omega arith) f.logged f.room (omega arith) f.acts (λ e. (f.outside e).all))
 
 reported_keeps : (r : Replica) → HasForm r → HasForm (acted (reported r))
 reported_keeps r f = acted_keeps (reported r)
     (rest_keeps r r.next r.logged (least_seen r LOGGED_COLUMN) r.turns r.acts r.history r.end f
-    (omega arith) f.logged f.room (omega arith) f.acts)
+    (omega arith) f.logged f.room (omega arith) f.acts (λ e. (f.outside e).all))
 
 -- an append keeps a replica in form
 pub appended_keeps : (r : Replica) → HasForm r → may_append r ≡ true → HasForm (appended r)
 appended_keeps r f may = rest_keeps r r.next (r.logged + 1) r.durable r.turns r.acts r.history r.end f
     (omega arith) (grind (arith, nat_tests, may)) f.room (omega arith) f.acts
+    (λ e. let all = (f.outside e).all in absurd (grind (arith, nat_tests, may, all)))
 
 -- an item gives one entry at most
 one_entry : (history : List Entry) (s : ℕ) (item : Item) → length (entries_of history s item) ≤ 1
@@ -223,8 +230,9 @@ one_entry history s Null = omega arith
 one_entry history s (Text bytes) = omega arith
 
 -- a delivery keeps a replica in form
-pub delivered_keeps : (r : Replica) → HasForm r → may_deliver r ≡ true → HasForm (acted (delivered r))
-delivered_keeps r f may =
+pub delivered_keeps : (r : Replica) → HasForm r → is_inside r ≡ true → may_deliver r ≡ true
+    → HasForm (acted (delivered r))
+delivered_keeps r f inside may =
     let new : List Entry = entries_of r.history (sender_of_place r r.next) (item_of_place r r.next) in
     let one = one_entry r.history (sender_of_place r r.next) (item_of_place r r.next) in
     let more = length-append r.history new in
@@ -234,7 +242,7 @@ delivered_keeps r f may =
     (and_parts (not (is_wedged r)) _ may).1).1 in
     acted_keeps (delivered r) (rest_keeps r (r.next + 1) r.logged r.durable r.turns r.acts
     (r.history ++ new) r.end f (omega arith) (omega (arith, more, f.logged))
-    (omega (arith, more, one, room)) (omega arith) f.acts)
+    (omega (arith, more, one, room)) (omega arith) f.acts (λ e. absurd (cc (inside, e))))
 
 -- ---- own words of their own
 
@@ -371,12 +379,18 @@ gained_keeps r s item words puts f p =
       words = t.words;
       some_slot = f.some_slot;
       most_slots = f.most_slots;
-      suspicion = f.suspicion;
+      number = f.number;
+      trusted = f.trusted;
+      named = f.named;
       frozen = f.frozen;
       bank = f.bank;
       left = f.left;
       roster = f.roster;
-      present = f.present;
+      late = f.late;
+      outside = λ e. let o = f.outside e in
+          record { late = o.late; first = o.first; trusting = o.trusting; none = o.none; idle = o.idle; all = o.all };
+      decided = f.decided;
+      given = f.given;
       counts = length-set r.counts s k ∙ f.counts;
       bounded = counts_bounded r.counts s k (greatest r.totals) within (omega (arith, p.room)) f.bounded;
       few = f.few;
@@ -417,15 +431,15 @@ gained_keeps r s item words puts f p =
     }
 
 gained_grown : (r : Replica) (s : ℕ) (item : Item) (words : List (List ℕ)) (puts : List SentItem)
-    → HasForm r → IsPutting r s words puts
+    → HasForm r → is_inside r ≡ true → IsPutting r s words puts
     → Grown r.roster words (gained
     (record r { rows = record r.rows { words = words }; sent = puts }) s item).rows.words r.rows.frozen
     r.rows.frozen
-gained_grown r s item words puts f p =
+gained_grown r s item words puts f inside p =
     let w : Words = record r.rows { words = words } in
     let k : ℕ = count r s + 1 in
     let within : s < length r.counts = omega (arith, p.sender, f.counts) in
-    let some = some_member r.members (me r) (omega (arith, f.rows.present, f.rows.few)) f.present in
+    let some = some_member r.members (me r) (omega (arith, f.rows.present, f.rows.few)) inside in
     let rises = front_rises (members_in_view r) r.counts s k some within (omega arith) in
     shown_grown r.roster r.window w s (count r s) k
     (front_of (map (slice_index (set r.counts s k)) (members_in_view r))) p.table p.sender
@@ -469,13 +483,13 @@ pub received_keeps : (r : Replica) (s : ℕ) → HasForm r → may_receive r s �
 received_keeps r s f may = acted_keeps (received r s) (received_form r s f may)
 
 -- no word falls by the act of receiving
-pub received_grown : (r : Replica) (s : ℕ) → HasForm r → may_receive r s ≡ true
+pub received_grown : (r : Replica) (s : ℕ) → HasForm r → is_inside r ≡ true → may_receive r s ≡ true
     → Grown r.roster r.rows.words (acted (received r s)).rows.words r.rows.frozen
     (acted (received r s)).rows.frozen
-received_grown r s f may =
+received_grown r s f inside may =
     Grown_trans r.roster r.rows.words (received r s).rows.words
     (acted (received r s)).rows.words r.rows.frozen r.rows.frozen r.rows.frozen
-    (gained_grown r s (unwrap_or (ready_item r s) Null) r.rows.words r.sent f (receiving r s f may))
+    (gained_grown r s (unwrap_or (ready_item r s) Null) r.rows.words r.sent f inside (receiving r s f may))
     (acted_grown (received r s) (received_form r s f may))
 
 -- ---- putting
@@ -595,10 +609,10 @@ pub put_keeps : (r : Replica) (name : SentItem) (item : Item) → HasForm r → 
 put_keeps r name item f may = acted_keeps (put r name item) (put_form r name item f may)
 
 -- no word falls by it
-pub put_rises : (r : Replica) (name : SentItem) (item : Item) → HasForm r → MayPut r name item
+pub put_rises : (r : Replica) (name : SentItem) (item : Item) → HasForm r → is_inside r ≡ true → MayPut r name item
     → Grown r.roster r.rows.words (acted (put r name item)).rows.words r.rows.frozen
     (acted (put r name item)).rows.frozen
-put_rises r name item f may =
+put_rises r name item f inside may =
     let words : List (List ℕ) = (with_item r.window r.rows (count r (me r)) item).words in
     Grown_trans r.roster r.rows.words (put r name item).rows.words
     (acted (put r name item)).rows.words r.rows.frozen r.rows.frozen r.rows.frozen
@@ -606,7 +620,7 @@ put_rises r name item f may =
     r.rows.frozen
     (put_grown r.roster r.window r.rows (count r (me r)) item (table_of r f) f.some_slot may.ranges
     (λ part lt. f.ring (count r (me r)) part lt))
-    (gained_grown r (me r) item words (r.sent ++ name ∷ []) f (putting r name item f may)))
+    (gained_grown r (me r) item words (r.sent ++ name ∷ []) f inside (putting r name item f may)))
     (acted_grown (put r name item) (put_form r name item f may))
 
 -- ---- votes
@@ -623,45 +637,59 @@ accepting_grown r x f e =
 -- ---- every act
 
 -- each act that a replica may take keeps it in form
-pub taken_keeps : (r : Replica) (a : Act) → HasForm r → may r a ≡ true → steps.is_free r (Do a) ≡ true
-    → HasForm (taken r a)
+pub taken_keeps : (r : Replica) (a : Act) → HasForm r → steps.allows r (Do a) ≡ true
+    → steps.is_free r (Do a) ≡ true → HasForm (taken r a)
 taken_keeps r acts.Beat f m free = beaten_keeps r f
+taken_keeps r (acts.Crash end) f m free = ended_keeps r end f
 taken_keeps r (acts.Receive s) f m free =
-    received_keeps r s f (and_parts (nat_lt s r.roster) (may_receive r s) m).1
-taken_keeps r acts.Send f m free = put_keeps r _ _ f (sending r f m)
-taken_keeps r acts.Null f m free = put_keeps r _ _ f (filling r f m)
-taken_keeps r acts.Deliver f m free = delivered_keeps r f m
+    received_keeps r s f (and_parts (nat_lt s r.roster) (may_receive r s)
+    (and_parts (is_inside r) (nat_lt s r.roster && may_receive r s) m).1).1
+taken_keeps r acts.Send f m free = put_keeps r _ _ f (sending r f (and_parts (is_inside r) (may_send r) m).1)
+taken_keeps r acts.Null f m free = put_keeps r _ _ f (filling r f (and_parts (is_inside r) (may_null r) m).1)
+taken_keeps r acts.Deliver f m free =
+    let two = and_parts (is_inside r) (may_deliver r) m in delivered_keeps r f two.0 two.1
 taken_keeps r acts.Publish f m free = published_keeps r f
 taken_keeps r acts.Report f m free = reported_keeps r f
 taken_keeps r acts.Mark f m free = marked_keeps r f
-taken_keeps r (acts.Suspect j) f m free = acted_keeps (suspected r j) (suspected_form r j f m)
+taken_keeps r (acts.Suspect j) f m free =
+    let two = and_parts (is_inside r) (may_suspect r j) m in
+    acted_keeps (suspected r j) (suspected_form r j f two.0 two.1)
 taken_keeps r acts.Propose f m free =
-    let x = own_waits (me r) r.pending m in acted_keeps (accepted r) (accepted_form r x.0 f x.1)
+    let x = own_waits (me r) r.pending (and_parts (is_inside r) (is_own (me r) r.pending) m).1 in
+    acted_keeps (accepted r) (accepted_form r x.0 f x.1)
 taken_keeps r acts.Accept f m free =
-    let x = others_wait (me r) r.pending m in acted_keeps (accepted r) (accepted_form r x.0 f x.1)
+    let x = others_wait (me r) r.pending (and_parts (is_inside r) (is_others (me r) r.pending) m).1 in
+    acted_keeps (accepted r) (accepted_form r x.0 f x.1)
 taken_keeps r acts.Commit f m free = acted_keeps (decided r) (decided_form r f)
 taken_keeps r (acts.Halt end) f m free = ended_keeps r end f
-taken_keeps r (acts.Crash end) f m free = ended_keeps r end f
 taken_keeps r acts.Finish f m free =
-    finished_form (acted r) (acted_keeps r f) m (none_waits r.pending free)
+    let two = and_parts (is_inside r) (may_finish r r.committed) m in
+    finished_form (acted r) (acted_keeps r f) two.0 two.1 (none_waits r.pending free)
 
 -- no word falls by an act that a replica may take, by which it stays in its view
-pub taken_grown : (r : Replica) (a : Act) → HasForm r → may r a ≡ true → (taken r a).view ≡ r.view
+pub taken_grown : (r : Replica) (a : Act) → HasForm r → steps.allows r (Do a) ≡ true
+    → (taken r a).view ≡ r.view
     → Grown r.roster r.rows.words (taken r a).rows.words r.rows.frozen (taken r a).rows.frozen
 taken_grown r (acts.Receive s) f m same =
-    received_grown r s f (and_parts (nat_lt s r.roster) (may_receive r s) m).1
-taken_grown r acts.Send f m same = put_rises r _ _ f (sending r f m)
-taken_grown r acts.Null f m same = put_rises r _ _ f (filling r f m)
+    let two = and_parts (is_inside r) (nat_lt s r.roster && may_receive r s) m in
+    received_grown r s f two.0 (and_parts (nat_lt s r.roster) (may_receive r s) two.1).1
+taken_grown r acts.Send f m same =
+    let two = and_parts (is_inside r) (may_send r) m in put_rises r _ _ f two.0 (sending r f two.1)
+taken_grown r acts.Null f m same =
+    let two = and_parts (is_inside r) (may_null r) m in put_rises r _ _ f two.0 (filling r f two.1)
 taken_grown r acts.Publish f m same = published_grown r f
 taken_grown r acts.Mark f m same = marked_grown r f
 taken_grown r (acts.Suspect j) f m same =
+    let two = and_parts (is_inside r) (may_suspect r j) m in
     Grown_trans r.roster r.rows.words (suspected r j).rows.words (acted (suspected r j)).rows.words
-    r.rows.frozen (suspected r j).rows.frozen (suspected r j).rows.frozen (suspected_grown r j f m)
-    (acted_grown (suspected r j) (suspected_form r j f m))
+    r.rows.frozen (suspected r j).rows.frozen (suspected r j).rows.frozen (suspected_grown r j f two.0 two.1)
+    (acted_grown (suspected r j) (suspected_form r j f two.0 two.1))
 taken_grown r acts.Propose f m same =
-    let x = own_waits (me r) r.pending m in accepting_grown r x.0 f x.1
+    let x = own_waits (me r) r.pending (and_parts (is_inside r) (is_own (me r) r.pending) m).1 in
+    accepting_grown r x.0 f x.1
 taken_grown r acts.Accept f m same =
-    let x = others_wait (me r) r.pending m in accepting_grown r x.0 f x.1
+    let x = others_wait (me r) r.pending (and_parts (is_inside r) (is_others (me r) r.pending) m).1 in
+    accepting_grown r x.0 f x.1
 taken_grown r acts.Finish f m same = absurd (omega (arith, same))
 taken_grown r a f m same = acted_grown r f
 

@@ -6,7 +6,7 @@ use Rattle.dr_history.specs.Members.{has}
 use Rattle.dr_rows.proofs.Rewrites.{IsWords-frozen, IsWords-rewritten, frozen_more, own_rewritten}
 use Rattle.dr_rows.specs.Words.{own, rewritten}
 use Rattle.dr_words.proofs.Accepts.{accept_within}
-use Rattle.dr_words.proofs.Masks.{IsSuspecting, in_roster_small, left_rises, left_within, more_grows, more_has, more_part, more_some, more_trusted}
+use Rattle.dr_words.proofs.Masks.{IsSuspecting, in_roster_small, left_rises, left_within, more_grows, more_has, more_named, more_some, more_trusted}
 use Rattle.dr_words.proofs.Order.{Grown_trans}
 use Rattle.dr_words.proofs.Rewrites.{frozen_grown, recv_within, rewritten_grown, rewritten_in_form, wedged_grown, wedged_in_form, wedged_promise, wedged_recv, wedged_rest, wedged_tag, wedged_value}
 use Rattle.dr_words.specs.declared.column.TheConstants.{BEAT_COLUMN, LOGGED_COLUMN, RECEIVED_COLUMN, SUSPECTED_COLUMN}
@@ -19,7 +19,7 @@ use Rattle.dr_words.specs.Rewrites.{is_accept_of, is_recv_of, wedged_word}
 use Rattle.dr_ring.specs.Slots.{slot_column}
 use Rattle.dr_program.proofs.Suspecting.{suspecting}
 use Rattle.dr_program.specs.Form.{HasForm}
-use Rattle.dr_program.specs.Replica.{Replica, count, is_wedged, may_suspect, me, promise, suspected}
+use Rattle.dr_program.specs.Replica.{Replica, count, is_inside, is_wedged, may_suspect, me, promise, suspected}
 
 -- ---- the masks
 
@@ -31,15 +31,15 @@ abbrev voter_of : Replica → ℕ → ℕ
 voter_of r j = least_of (without r.members (mask_with r j))
 
 -- it is wedged then
-wedged_then : (r : Replica) (j : ℕ) → HasForm r → may_suspect r j ≡ true → not (mask_with r j == 0) ≡ true
-wedged_then r j f may = let some = more_some (suspecting r j f may) in grind (arith, nat_tests, some)
+wedged_then : (r : Replica) (j : ℕ) → HasForm r → is_inside r ≡ true → may_suspect r j ≡ true → not (mask_with r j == 0) ≡ true
+wedged_then r j f inside may = let some = more_some (suspecting r j f inside may) in grind (arith, nat_tests, some)
 
 -- its promise doesn't fall
-promise_rises : (r : Replica) (j : ℕ) → HasForm r → may_suspect r j ≡ true → promise r ≤ voter_of r j
-promise_rises r j f may = elim (cases_eq r.suspects 0) [
+promise_rises : (r : Replica) (j : ℕ) → HasForm r → is_inside r ≡ true → may_suspect r j ≡ true → promise r ≤ voter_of r j
+promise_rises r j f inside may = elim (cases_eq r.suspects 0) [
   | inl none ↦ let calm : is_wedged r ≡ false = grind (arith, nat_tests, none) in rw calm (omega arith)
   | inr before ↦ let already : is_wedged r ≡ true = grind (arith, nat_tests, before) in
-      rw already (left_rises (suspecting r j f may))
+      rw already (left_rises (suspecting r j f inside may))
 ]
 
 -- ---- the replica
@@ -49,26 +49,26 @@ abbrev anew : Replica → ℕ → ℕ → ℕ → ℕ
 anew r j = wedged_word r.roster r.members (mask_with r j) (voter_of r j)
 
 -- each is in form, and has grown
-anew_form : (r : Replica) (j : ℕ) → HasForm r → may_suspect r j ≡ true
+anew_form : (r : Replica) (j : ℕ) → HasForm r → is_inside r ≡ true → may_suspect r j ≡ true
     → AllInForm r.roster (rewritten r.rows (anew r j)).words
-anew_form r j f may =
+anew_form r j f inside may =
     rewritten_in_form r.roster r.rows (anew r j) f.rows
     (λ c. wedged_in_form r.roster r.members (mask_with r j) (voter_of r j) c (own r.rows c)
-    (in_roster_small r.roster (mask_with r j) (λ i there. s.roster i (more_part s i there))) (left_within s)
+    (in_roster_small r.roster (mask_with r j) (more_named s)) (left_within s)
     (words (me r) c)) words
   where
     s : IsSuspecting r.roster r.members r.suspects (me r) j
-    s = suspecting r j f may
+    s = suspecting r j f inside may
 
     words : AllInForm r.roster r.rows.words
     words = subst (λ (n : ℕ). AllInForm n r.rows.words) f.members f.words
 
-anew_grown : (r : Replica) (j c : ℕ) → HasForm r → may_suspect r j ≡ true
+anew_grown : (r : Replica) (j c : ℕ) → HasForm r → is_inside r ≡ true → may_suspect r j ≡ true
     → HasGrown r.roster c (own r.rows c) (anew r j c (own r.rows c))
-anew_grown r j c f may =
+anew_grown r j c f inside may =
     wedged_grown r.roster r.members (mask_with r j) (voter_of r j) c (own r.rows c)
-    (λ e. rw (e, f.suspected) (more_grows (suspecting r j f may)))
-    (λ is. omega (arith, f.accept c is, promise_rises r j f may))
+    (λ e. rw (e, f.suspected) (more_grows (suspecting r j f inside may)))
+    (λ is. omega (arith, f.accept c is, promise_rises r j f inside may))
 
 -- a count that stays, final where its sender is of the view
 final_recv : (n : ℕ) (wedged member : Bool)
@@ -81,28 +81,28 @@ final_recv n true false = refl
 final_recv n false false = refl
 
 -- a suspicion keeps a replica in form
-pub suspected_form : (r : Replica) (j : ℕ) → HasForm r → may_suspect r j ≡ true → HasForm (suspected r j)
-suspected_form r j f may = record {
+pub suspected_form : (r : Replica) (j : ℕ) → HasForm r → is_inside r ≡ true → may_suspect r j ≡ true → HasForm (suspected r j)
+suspected_form r j f inside may = record {
   rows = IsWords-frozen (rewritten r.rows (anew r j)) j (IsWords-rewritten r.rows (anew r j) f.rows) s.apart;
   members = f.members;
   columns = f.columns;
   words = subst (λ (n : ℕ). AllInForm n (rewritten r.rows (anew r j)).words) (sym f.members)
-      (anew_form r j f may);
+      (anew_form r j f inside may);
   some_slot = f.some_slot;
   most_slots = f.most_slots;
-  suspicion = record {
-    number = f.suspicion.number;
-    present = f.present;
-    trusted = more_trusted s;
-    others = more_part s;
-  };
+  number = f.number;
+  trusted = more_trusted s;
+  named = more_named s;
   frozen = λ i. frozen_more (rewritten r.rows (anew r j)) j i (IsWords-rewritten r.rows (anew r j) f.rows)
-      (omega (arith, s.roster j s.member, f.members))
+      (omega (arith, s.within, f.members))
       ∙ ap (λ (b : Bool). i == j || b) (f.frozen i) ∙ sym (more_has s i);
   bank = f.bank;
   left = f.left;
   roster = f.roster;
-  present = f.present;
+  late = f.late;
+  outside = λ e. absurd (cc (inside, e));
+  decided = f.decided;
+  given = f.given;
   counts = f.counts;
   bounded = f.bounded;
   few = f.few;
@@ -143,13 +143,13 @@ suspected_form r j f may = record {
 }
   where
     s : IsSuspecting r.roster r.members r.suspects (me r) j
-    s = suspecting r j f may
+    s = suspecting r j f inside may
 
     wedged : not (mask_with r j == 0) ≡ true
-    wedged = wedged_then r j f may
+    wedged = wedged_then r j f inside may
 
     later : promise r ≤ voter_of r j
-    later = promise_rises r j f may
+    later = promise_rises r j f inside may
 
     word : (c : ℕ) → c < r.rows.columns → own (rewritten r.rows (anew r j)) c ≡ anew r j c (own r.rows c)
     word c low = own_rewritten r.rows (anew r j) c f.rows low
@@ -169,19 +169,19 @@ suspected_form r j f may = record {
     early c low other = same c (omega (arith, f.columns, low)) other (inl low)
 
 -- no word falls by it
-pub suspected_rises : (r : Replica) (j c : ℕ) → HasForm r → may_suspect r j ≡ true
+pub suspected_rises : (r : Replica) (j c : ℕ) → HasForm r → is_inside r ≡ true → may_suspect r j ≡ true
     → own r.rows c ≤ anew r j c (own r.rows c)
-suspected_rises r j c f may = (anew_grown r j c f may).number
+suspected_rises r j c f inside may = (anew_grown r j c f inside may).number
 
-pub suspected_grown : (r : Replica) (j : ℕ) → HasForm r → may_suspect r j ≡ true
+pub suspected_grown : (r : Replica) (j : ℕ) → HasForm r → is_inside r ≡ true → may_suspect r j ≡ true
     → Grown r.roster r.rows.words (suspected r j).rows.words r.rows.frozen (suspected r j).rows.frozen
-suspected_grown r j f may =
-    let s = suspecting r j f may in
+suspected_grown r j f inside may =
+    let s = suspecting r j f inside may in
     Grown_trans r.roster r.rows.words (rewritten r.rows (anew r j)).words (rewritten r.rows (anew r j)).words
     r.rows.frozen r.rows.frozen (suspected r j).rows.frozen
-    (rewritten_grown r.roster r.rows (anew r j) f.rows (λ c. anew_grown r j c f may))
+    (rewritten_grown r.roster r.rows (anew r j) f.rows (λ c. anew_grown r j c f inside may))
     (frozen_grown r.roster (rewritten r.rows (anew r j)) j (IsWords-rewritten r.rows (anew r j) f.rows)
-    (omega (arith, s.roster j s.member, f.members)))
+    (omega (arith, s.within, f.members)))
 
 -- the recv words are small
 pub recv_small : (r : Replica) → HasForm r → (c : ℕ) → is_recv_of r.roster r.members c ≡ true

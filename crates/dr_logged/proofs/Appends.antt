@@ -12,7 +12,7 @@ use Rattle.dr_log.specs.State.{KeepsLimit, LogState, appended, as_entry, as_othe
 use Rattle.dr_log.proofs.Ordinary.{IsOrdinary, ordinary_keeps, ordinary_placed, ordinary_spare}
 use Rattle.dr_log_bytes.specs.Content.{IsPlaced, OnLog, block_length, with_record}
 use Rattle.dr_program.specs.Running.{Running, broken_off, next_step}
-use Rattle.dr_logged.specs.Appended.{HasAppended, IsAppendDue, record_due, record_of, why_of}
+use Rattle.dr_logged.specs.Appended.{HasAppended, IsAppendDue, record_due, why_of}
 use Rattle.dr_logged.specs.Served.{HasServed, IsReady, IsSafe, LosesNothing}
 use Rattle.dr_logged.proofs.Serving.{failed_served, full_served, ordinary_record, spares, unfailed}
 

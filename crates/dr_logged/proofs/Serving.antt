@@ -25,7 +25,7 @@ use Rattle.dr_log_bytes.specs.Grammar.{StandFor}
 use Rattle.dr_machine.specs.declared.event.Act.{Act}
 use Rattle.dr_program.specs.Acts.{taken}
 use Rattle.dr_machine.specs.declared.step.Step.{Step}
-use Rattle.dr_machine.specs.declared.step.Step.TheVariants.{Append, LogVote}
+use Rattle.dr_machine.specs.declared.step.Step.TheVariants.{Append, Join, LogVote}
 use Rattle.dr_machine.specs.World.{no_value}
 use Rattle.dr_program.proofs.Finishing.{finished_more}
 use Rattle.dr_program.proofs.Fixed.{Told as ToldReplica, step_told}
@@ -35,14 +35,15 @@ use Rattle.dr_program.specs.declared.place.Part.TheVariants as parts
 use Rattle.dr_program.specs.declared.outcome.LogWhy.{LogWhy}
 use Rattle.dr_program.specs.declared.outcome.LogWhy.TheVariants as whys
 use Rattle.dr_program.specs.Replica.{Replica, acted, finished, vote_of}
-use Rattle.dr_program.specs.Running.{Running, after_step, append_or_end, broken_off, columns, crashes_now, end_by, members, next_step, step_at, took}
+use Rattle.dr_program.specs.Running.{Running, after_step, append_or_end, broken_off, columns, crashes_now, end_by, members, next_step, settled, step_at, took, took_letter}
 use Rattle.dr_program.specs.Steps.{IsAppend, stepped}
 use Rattle.dr_program.specs.Turn.{part_of, places_in}
+use Rattle.dr_program.specs.declared.place.Place.{Place}
 use Rattle.dr_program.specs.declared.place.TheConstants.{TURN}
 use Rattle.dr_turn.proofs.Failing.{append_at}
 use Rattle.dr_turn.proofs.Search.{settle_only}
 use Rattle.dr_logged.specs.Appended.{IsAppendDue, MayLog, is_append, record_due, record_of}
-use Rattle.dr_logged.specs.Served.{EndsNext, HasCome, HasServed, IsReady, IsRecordDue, IsRoomy, IsSafe, LosesNothing, WentSo}
+use Rattle.dr_logged.specs.Served.{EndsNext, HasCome, HasServed, IsReady, IsRecordDue, IsRoomy, IsSafe, LetterGoesOn, LosesNothing, WentSo}
 use Rattle.dr_logged.proofs.Dues.{due_still}
 
 -- ---- what a step other than an append leaves
@@ -170,6 +171,67 @@ other_ready log word r other ready =
         ap (λ (t : ToldReplica). t.banks * t.roster) same,
       );
     })
+
+-- ---- a take
+
+-- the member has another history where it joins, and nothing else of what its log goes by
+took_grows : (letter : Option (List Entry)) (r : Running) → LetterGoesOn r.replica.history letter
+    → Grows r.replica (took_letter letter r).replica
+took_grows None r on = record {
+  more = [];
+  history = sym (append-nil r.replica.history);
+  logged = refl;
+  votes = refl;
+}
+took_grows (Some letter) r on = record { more = on.0; history = on.1; logged = refl; votes = refl }
+
+took_failed : (letter : Option (List Entry)) (r : Running) → (took_letter letter r).failed ≡ r.failed
+took_failed None r = refl
+took_failed (Some letter) r = refl
+
+took_ready : {D : Type 0} (log : LogState D) (letter : Option (List Entry)) (r : Running) → IsReady log r
+    → IsReady log (took_letter letter r)
+took_ready log None r ready = record { whole = ready.whole; spare = ready.spare; votes = ready.votes }
+took_ready log (Some letter) r ready =
+    record { whole = ready.whole; spare = ready.spare; votes = ready.votes }
+
+settled_took : (letter : Option (List Entry)) (r : Running) → settled (took_letter letter r)
+    ≡ record (took_letter letter r) { place = (settled (took_letter letter r)).place }
+settled_took letter r = settle_only (places_in (members r') (columns r') TURN) r'
+  where
+    r' : Running
+    r' = took_letter letter r
+
+-- no append of a member that takes has failed
+takes_well : (r : Running) (why : Option LogWhy) → r.failed ≡ why → EndsNext r → r.replica.end ≡ None
+    → next_step r ≡ Join → why ≡ None
+takes_well r None e ends none due = refl
+takes_well r (Some why) e ends none due = absurd (cc (ends why e none, due))
+
+-- the log of a member that takes has served it
+pub took_served : {D : Type 0} (told : D → Option Told) (faults : D → ℕ) (base log : LogState D)
+    (letter : Option (List Entry)) (r : Running) → next_step r ≡ Join → r.replica.end ≡ None
+    → r.replica.logged ≤ length r.replica.history → LetterGoesOn r.replica.history letter
+    → HasServed told faults base log r → HasServed told faults base log (settled (took_letter letter r))
+took_served told faults base log letter r due none within on served =
+    subst (HasServed told faults base log) (sym (settled_took letter r)) (record {
+      come = subst (HasCome told faults base log (took_letter letter r).replica) (sym (took_failed letter r))
+          (come_on told faults base log r.replica (took_letter letter r).replica r.failed
+          (took_grows letter r on) within (λ next some record_due. absurd (some well)) served.come);
+      ends = λ why failed unended. absurd (none_or_some r.failed why well (sym (took_failed letter r) ∙ failed));
+    })
+  where
+    well : r.failed ≡ None
+    well = takes_well r r.failed refl served.ends none due
+
+-- and is ready for the next deed
+pub took_stays_ready : {D : Type 0} (log : LogState D) (letter : Option (List Entry)) (r : Running)
+    → IsReady log r → IsReady log (settled (took_letter letter r))
+took_stays_ready log letter r ready =
+    subst (IsReady log) (sym (settled_took letter r)) (placed (took_letter letter r) _ (took_ready log letter r ready))
+  where
+    placed : (x : Running) (p : Place) → IsReady log x → IsReady log (record x { place = p })
+    placed x p is = record { whole = is.whole; spare = is.spare; votes = is.votes }
 
 -- ---- an append
 

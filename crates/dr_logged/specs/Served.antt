@@ -1,5 +1,5 @@
 -- The logs of members that run: what comes of each while its member takes its deeds.
-use Rattle.std.specs.Prelude.{◌≡◌, ◌≢◌, ℕ, ◌+◌, ◌*◌, ◌-◌, ◌<◌, ◌≤◌, max, true, false, List, ◌++◌, length, take, slice_get, slice_index_or, Option, None, Some, is_some}
+use Rattle.std.specs.Prelude.{⊤, ◌≡◌, ◌≢◌, ℕ, ◌+◌, ◌*◌, ◌-◌, ◌<◌, ◌≤◌, max, true, false, List, ◌++◌, length, take, slice_get, slice_index_or, Option, None, Some, is_some}
 use Rattle.dr_entry.specs.declared.entry.Entry.{Entry}
 use Rattle.dr_entry.specs.declared.entry.Entry.TheVariants.{View}
 use Rattle.dr_entry.specs.declared.record.Record.{Record}
@@ -118,6 +118,11 @@ pub record IsReady {D : Type 0} (log : LogState D) (r : Running) : Type 0 where
   pub spare : r.failed ≡ None → r.replica.room ≤ r.replica.logged + log.spare_entries
   pub votes : r.failed ≡ None → r.replica.banks * r.replica.roster
       ≤ length r.replica.votes + log.spare_votes
+
+-- a letter that a member finds goes on from the member's history
+abbrev pub LetterGoesOn : List Entry → Option (List Entry) → Type 0
+LetterGoesOn history None = ⊤
+LetterGoesOn history (Some letter) = (rest : List Entry) × (letter ≡ history ++ rest)
 
 -- what the member appends next is a valid record
 abbrev pub AppendsWell : Running → Type 0

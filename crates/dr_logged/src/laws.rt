@@ -1,17 +1,19 @@
 //! Laws of members and their logs.
-ghost use Rattle.std.specs.Prelude.{◌≡◌, ℕ, false, [], Option, length, None, Some};
+ghost use Rattle.std.specs.Prelude.{◌≡◌, ℕ, false, List, [], Option, length, None, Some};
+ghost use Rattle.dr_entry.specs.declared.entry.Entry.{Entry};
 ghost use Rattle.dr_disk.specs.Disk.{Told, content_of};
 ghost use Rattle.dr_disk.specs.Images.{ReadsAnImage};
 ghost use Rattle.dr_logged.specs.Left.{IsLeftOf};
 ghost use Rattle.dr_log.specs.State.{LogState};
 ghost use Rattle.dr_log_bytes.specs.Content.{OnLog};
 ghost use Rattle.dr_log_bytes.specs.Grammar.{StandFor};
+ghost use Rattle.dr_machine.specs.declared.step.Step.TheVariants.{Join};
 ghost use Rattle.dr_program.specs.declared.outcome.LogWhy.{LogWhy};
 ghost use Rattle.dr_program.specs.declared.outcome.LogWhy.TheVariants as whys;
 ghost use Rattle.dr_program.specs.Form.{HasForm};
 ghost use Rattle.dr_program.specs.Replica.{Replica};
-ghost use Rattle.dr_program.specs.Running.{Running, after_step, broken_off, next_step};
-ghost use Rattle.dr_logged.specs.Served.{HasCome, HasServed, IsReady, IsRoomy};
+ghost use Rattle.dr_program.specs.Running.{Running, after_step, broken_off, next_step, settled, took_letter};
+ghost use Rattle.dr_logged.specs.Served.{HasCome, HasServed, IsReady, IsRoomy, LetterGoesOn};
 ghost use Rattle.dr_logged.specs.Appended.{HasAppended, HasBroken, IsAppendDue, IsOver, is_append};
 
 use dr_disk::Disk;
@@ -30,6 +32,16 @@ pub fn other_deeds_leave_logs<D: Disk>()
     ensures { (base log : LogState D) (word : ℕ) (r : Running) → is_append (next_step r) ≡ false
         → r.replica.end ≡ None → HasForm r.replica → IsReady log r → HasServed D.told D.faults base log r
         → HasServed D.told D.faults base log (after_step word r) × IsReady log (after_step word r) }
+{}
+
+/// Nor does a take of such a member put anything on its log: where it finds a letter, that goes on from the history of
+/// the member, so what is logged still stands at its beginning.
+pub fn takes_leave_logs<D: Disk>()
+    ensures { (base log : LogState D) (letter : Option (List Entry)) (r : Running) → next_step r ≡ Join
+        → r.replica.end ≡ None → HasForm r.replica → LetterGoesOn r.replica.history letter → IsReady log r
+        → HasServed D.told D.faults base log r
+        → HasServed D.told D.faults base log (settled (took_letter letter r))
+        × IsReady log (settled (took_letter letter r)) }
 {}
 
 /// An append that goes well puts the next entry of the history, or a vote, on the log. One that the disk

@@ -5,7 +5,7 @@ use Rattle.dr_entry.specs.declared.entry.Entry.TheVariants.{View}
 use Rattle.dr_entry.specs.declared.record.Value.{Value}
 use Rattle.dr_history.specs.Places.{rest_places}
 use Rattle.dr_machine.specs.Effects.{entries_of}
-use Rattle.dr_words.specs.Masks.{without}
+use Rattle.dr_words.specs.Masks.{next_members}
 use Rattle.dr_program.specs.Replica.{Replica, finished_history, item_of_place, members_in_view, sender_of_place, with_place}
 
 -- places add to a history
@@ -21,7 +21,7 @@ rest_more r history (p ∷ ps) =
 pub finished_more : (r : Replica) (x : Value)
     → (more : List Entry) × (finished_history r x ≡ r.history ++ more)
 finished_more r x =
-    let last : List Entry = View r.age (r.view + 1) (without r.members x.leavers) ∷ [] in
+    let last : List Entry = View r.age (r.view + 1) (next_members r.members x.leavers) ∷ [] in
     let rest = rest_more r r.history
     (rest_places (map (λ s. slice_index x.trim s) (members_in_view r)) r.next) in
     (rest.0 ++ last, ap (λ es. es ++ last) rest.1 ∙ append_assoc r.history rest.0 last)

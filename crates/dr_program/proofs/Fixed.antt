@@ -1,8 +1,9 @@
 -- What no step changes of a replica.
-use Rattle.std.proofs.Common.{◌≡◌, ap, ◌∙◌, ℕ, List, slice_index, arith}
+use Rattle.dr_entry.specs.declared.entry.Entry.{Entry}
+use Rattle.std.proofs.Common.{◌≡◌, refl, ap, sym, subst, ◌∙◌, ℕ, ◌+◌, ◌*◌, ◌<◌, List, length, slice_index, arith}
 use Rattle.dr_machine.specs.declared.step.Step.{Step}
-use Rattle.dr_machine.specs.Group.{Group}
-use Rattle.dr_program.specs.Replica.{Replica, me}
+use Rattle.dr_machine.specs.Group.{Group, banks, roster}
+use Rattle.dr_program.specs.Replica.{Replica, greatest, joined, me}
 use Rattle.dr_program.specs.Steps.{stepped}
 use Rattle.dr_program.specs.Form.{IsOf}
 
@@ -16,6 +17,7 @@ pub record Told : Type 0 where
   pub messages : List (List ℕ)
   pub totals : List ℕ
   pub room : ℕ
+  pub late : ℕ
 
 abbrev pub told : Replica → Told
 told r = record {
@@ -27,11 +29,16 @@ told r = record {
   messages = r.messages;
   totals = r.totals;
   room = r.room;
+  late = r.late;
 }
 
 -- a step leaves it, whatever it sees
 pub step_told : (word : ℕ) (r : Replica) (s : Step) → told (stepped word r s) ≡ told r
 step_told word r s = grind arith
+
+-- nor does a join
+pub join_told : (r : Replica) (letter : List Entry) → told (joined r letter) ≡ told r
+join_told r letter = refl
 
 -- a replica that was told the same is still that of the member
 pub of_told : (g : Group) (m : ℕ) (r q : Replica) → told q ≡ told r → IsOf g m r → IsOf g m q
@@ -44,4 +51,7 @@ of_told g m r q same of = record {
   banks = ap (λ (t : Told). t.banks) same ∙ of.banks;
   messages = ap (λ (t : Told). t.messages) same ∙ of.messages;
   totals = λ s. ap (λ (t : Told). slice_index t.totals s) same ∙ of.totals s;
+  late = ap (λ (t : Told). t.late) same ∙ of.late;
+  room = subst (λ (t : Told). length g.opening.start + banks g + greatest t.totals * roster g < t.room)
+      (sym same) of.room;
 }

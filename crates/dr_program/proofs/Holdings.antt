@@ -18,7 +18,7 @@ use Rattle.dr_machine.specs.World.{World, opening_world}
 use Rattle.dr_program.specs.Replica.{Replica, me, count, item, promise}
 use Rattle.dr_program.specs.Presence.{present_at, with_present}
 use Rattle.dr_program.proofs.Present.{present_kept, present_set}
-use Rattle.dr_program.specs.Reading.{world_of, word_of, in_view, kept_count, kept_word, left_in}
+use Rattle.dr_program.specs.Reading.{Shared, letters_of, world_of, word_of, in_view, kept_count, kept_word, left_in}
 
 -- all that the world has of one member
 pub record Holding : Type 0 where
@@ -33,6 +33,8 @@ pub record Holding : Type 0 where
   pub durable : ℕ
   pub acts : ℕ
   pub members : ℕ
+  pub came_from : ℕ
+  pub given : ℕ
   pub suspects : ℕ
   pub promise : ℕ
   pub tag : ℕ
@@ -57,6 +59,8 @@ held w m = record {
   durable = w.past.durable m;
   acts = w.past.acts m;
   members = w.members m;
+  came_from = w.came_from m;
+  given = w.given m;
   suspects = w.suspects m;
   promise = w.promise m;
   tag = w.tag m;
@@ -72,8 +76,8 @@ held w m = record {
 }
 
 -- the world in which each member has this
-abbrev pub gathered : (ℕ → Holding) → (ℕ → ℕ → ℕ → ℕ → ℕ) → World
-gathered h table = record {
+abbrev pub gathered : (ℕ → Holding) → (ℕ → ℕ → ℕ → ℕ → ℕ) → (ℕ → Option (List Entry)) → World
+gathered h table letter = record {
   past = record {
     view = λ m. (h m).view;
     own = λ m. (h m).own;
@@ -86,6 +90,8 @@ gathered h table = record {
     acts = λ m. (h m).acts;
   };
   members = λ m. (h m).members;
+  came_from = λ m. (h m).came_from;
+  given = λ m. (h m).given;
   suspects = λ m. (h m).suspects;
   promise = λ m. (h m).promise;
   tag = λ m. (h m).tag;
@@ -99,13 +105,15 @@ gathered h table = record {
   turns = λ m. (h m).turns;
   end = λ m. (h m).end;
   table = table;
+  letter = letter;
 }
 
--- worlds in which each member has the same, with the same table, are one
-pub same_worlds : (w v : World) → ((m : ℕ) → held w m ≡ held v m) → w.table ≡ v.table → w ≡ v
-same_worlds w v members table =
+-- worlds in which each member has the same, with the same table and letters, are one
+pub same_worlds : (w v : World) → ((m : ℕ) → held w m ≡ held v m) → w.table ≡ v.table
+    → w.letter ≡ v.letter → w ≡ v
+same_worlds w v members table letter =
     let holdings : held w ≡ held v = fun_ext members in
-    λ z. gathered (holdings z) (table z)
+    λ z. gathered (holdings z) (table z) (letter z)
 
 -- what replica r has
 abbrev pub holding_of : Group → Replica → Holding
@@ -122,6 +130,8 @@ holding_of g r =
       durable = r.durable;
       acts = r.acts;
       members = r.members;
+      came_from = r.came_from;
+      given = r.given;
       suspects = r.suspects;
       promise = promise r;
       tag = r.tag;
@@ -136,17 +146,17 @@ holding_of g r =
     }
 
 -- the world has of a member what its replica has
-pub held_of : (g : Group) (rs : List (Option Replica)) (table : List ℕ) (m : ℕ) (r : Replica)
+pub held_of : (g : Group) (rs : List (Option Replica)) (table : Shared) (m : ℕ) (r : Replica)
     → present_at rs m ≡ Some r → held (world_of g rs table) m ≡ holding_of g r
 held_of g rs table m r e = rw e refl
 
 -- and of a member that is absent, what the opening has
-pub held_past : (g : Group) (rs : List (Option Replica)) (table : List ℕ) (m : ℕ)
+pub held_past : (g : Group) (rs : List (Option Replica)) (table : Shared) (m : ℕ)
     → present_at rs m ≡ None → held (world_of g rs table) m ≡ held (opening_world g) m
 held_past g rs table m e = rw e refl
 
 -- the same where two lists have the same replica
-pub held_same : (g : Group) (rs qs : List (Option Replica)) (table cells : List ℕ) (m : ℕ)
+pub held_same : (g : Group) (rs qs : List (Option Replica)) (table cells : Shared) (m : ℕ)
     → present_at rs m ≡ present_at qs m → held (world_of g rs table) m ≡ held (world_of g qs cells) m
 held_same g rs qs table cells m e = rw e refl
 
@@ -173,14 +183,14 @@ pub record Changes (w v : World) (m : ℕ) (after : Holding) : Type 0 where
   pub here : held v m ≡ after
 
 -- where one replica is replaced, the world is the one in which it alone is changed
-pub changed_world : (g : Group) (rs : List (Option Replica)) (table cells : List ℕ) (m : ℕ) (r : Replica)
+pub changed_world : (g : Group) (rs : List (Option Replica)) (table cells : Shared) (m : ℕ) (r : Replica)
     (v : World) → m < length rs
-    → Changes (world_of g rs table) v m (holding_of g r) → word_of g cells ≡ v.table
-    → world_of g (with_present rs m r) cells ≡ v
-changed_world g rs table cells m r v within changes cell =
+    → Changes (world_of g rs table) v m (holding_of g r) → word_of g cells.words ≡ v.table
+    → letters_of cells.letters ≡ v.letter → world_of g (with_present rs m r) cells ≡ v
+changed_world g rs table cells m r v within changes cell letter =
     same_worlds (world_of g (with_present rs m r) cells) v (λ k. elim (cases_eq k m) [
       | inl same ↦ rw same (held_of g (with_present rs m r) cells m r (present_set rs m r within)
           ∙ sym changes.here)
       | inr other ↦ held_same g (with_present rs m r) rs cells table k (present_kept rs m k r other)
           ∙ sym (changes.others k other)
-    ]) cell
+    ]) cell letter

@@ -2,13 +2,14 @@
 use Rattle.std.proofs.Common.{◌≡◌, refl, ap, ◌∙◌, ℕ, zero, suc, ◌+◌, ◌*◌, ◌<◌, ◌≤◌, ◌==◌, ◌&&◌, if◌then◌else◌, inl, inr, List, [], ◌∷◌, length, replicate, map, arith}
 use Rattle.std.proofs.Math.Path.{fun_ext}
 use Rattle.std.proofs.Math.Seq.{take-length}
-use Rattle.std.specs.Prelude.{Option, Some, None, nat_lt, slice_index_or, option_map}
+use Rattle.std.specs.Prelude.{Bool, Option, Some, None, nat_lt, slice_index_or, option_map}
 use Rattle.std.specs.List.{range_with_len}
 use Rattle.std.proofs.lemmas.Bool.{cases_lt, cases_eq}
 use Rattle.std.proofs.lemmas.Bool.Decides.{nat_tests}
 use Rattle.std.proofs.lemmas.List.{get_or-replicate, get_or_past, length-replicate}
 use Rattle.dr_entry.specs.declared.entry.Item.TheVariants.{Null}
 use Rattle.dr_history.specs.History.{messages_of}
+use Rattle.dr_history.specs.Members.{has}
 use Rattle.dr_history.specs.Order.{first_entries}
 use Rattle.dr_rows.specs.Words.{Words, begun, own, seen, with_own}
 use Rattle.dr_rows.proofs.WordsLemmas.{IsWords-begun, IsFresh-begun}
@@ -17,14 +18,14 @@ use Rattle.dr_words.specs.declared.shape.Shape.{Shape}
 use Rattle.dr_words.specs.Columns.{columns_of}
 use Rattle.dr_words.specs.Layout.{words_of, word_index_of}
 use Rattle.dr_program.specs.declared.setup.Setup.{Setup}
-use Rattle.dr_machine.specs.Group.{Group, IsGroup, banks, roster, columns}
+use Rattle.dr_machine.specs.Group.{Group, IsGroup, banks, late_members, roster, columns}
 use Rattle.dr_machine.specs.World.{opening_world}
 use Rattle.dr_program.specs.Replica.{Replica, begun_replica}
 use Rattle.dr_program.specs.Running.{Running, begun_running}
 use Rattle.dr_program.specs.Program.{IsSetup, AreSetups, begun_program}
 use Rattle.dr_program.specs.Presence.{present_at}
 use Rattle.dr_program.proofs.Present.{present_within}
-use Rattle.dr_program.specs.Reading.{world, world_of, word_of}
+use Rattle.dr_program.specs.Reading.{Shared, table_of, world, world_of, word_of}
 use Rattle.dr_program.proofs.Holdings.{held, holding_of, held_of, held_past, same_worlds}
 use Rattle.dr_program.proofs.OwnWords.{both_same, own_with, seen_with, same_number, other_number}
 
@@ -36,6 +37,7 @@ setup_of g limit m shape told = record {
   me = m;
   age = g.opening.age;
   members = g.opening.members;
+  late = late_members g;
   turns = limit;
   start = g.opening.start;
   messages = messages_of g.opening m;
@@ -53,6 +55,7 @@ setup_is g limit m s is = λ z. record {
   me = is.me z;
   age = is.age z;
   members = is.view z;
+  late = is.late z;
   turns = is.turns z;
   start = is.start z;
   messages = is.messages z;
@@ -111,6 +114,10 @@ wide g shape is of = (
   omega (arith, is.most_members, is.most_slots, of.members, of.window),
 )
 
+-- how many entries a member's own word says as the age opens
+abbrev first_logged : Group → ℕ → ℕ
+first_logged g m = if has g.opening.members m then length (first_entries g.opening) else 0
+
 -- what a member has as its age opens
 begun_own : (g : Group) (limit m : ℕ) (shape : Shape) (told : Setup) → IsGroup g → IsShape g shape
     → m < roster g
@@ -118,14 +125,14 @@ begun_own : (g : Group) (limit m : ℕ) (shape : Shape) (told : Setup) → IsGro
 begun_own g limit m shape told is of within = fun_ext λ v. fun_ext λ c.
     let bounds = wide g shape is of in
     let word = first_own shape.members (columns_of shape.members shape.window) m
-    (length (first_entries g.opening)) c bounds.0 bounds.2 (omega (arith, within, of.members)) bounds.1 in
+    (first_logged g m) c bounds.0 bounds.2 (omega (arith, within, of.members)) bounds.1 in
     ap (λ x. if v == 0 then x else 0) word
-    ∙ begun_word (roster g) m v c (length (first_entries g.opening)) within
+    ∙ begun_word (has g.opening.members m) v c (length (first_entries g.opening))
   where
-    begun_word : (n m v c logged : ℕ) → m < n
-        → (if v == 0 then (if c == LOGGED_COLUMN then logged else 0) else 0)
-        ≡ (if nat_lt m n && (v == 0 && c == LOGGED_COLUMN) then logged else 0)
-    begun_word n m v c logged within = grind (arith, nat_tests, within)
+    begun_word : (b : Bool) (v c logged : ℕ)
+        → (if v == 0 then (if c == LOGGED_COLUMN then (if b then logged else 0) else 0) else 0)
+        ≡ (if b && (v == 0 && c == LOGGED_COLUMN) then logged else 0)
+    begun_word b v c logged = grind (arith, nat_tests)
 
 begun_holding : (g : Group) (limit m : ℕ) (shape : Shape) (told : Setup) → IsGroup g → IsShape g shape
     → m < roster g
@@ -145,8 +152,7 @@ begun_holding g limit m shape told is of within =
     ≡ (opening_world g).past.sent m = fun_ext λ v. both_same (v == 0) [] in
     let log : (holding_of g r).log ≡ (opening_world g).past.log m = take-length (first_entries g.opening) in
     let seen : (holding_of g r).seen ≡ (opening_world g).seen m = fun_ext λ i. fun_ext λ c.
-    first_seen shape.members (columns_of shape.members shape.window) m
-    (length (first_entries g.opening)) i c in
+    first_seen shape.members (columns_of shape.members shape.window) m (first_logged g m) i c in
     λ z. record (held (opening_world g) m)
     { own = own z; count = count z; item = item z; sent = sent z; log = log z; seen = seen z }
 
@@ -169,7 +175,7 @@ begun_get (None ∷ setups) zero = refl
 begun_get (Some s ∷ setups) zero = refl
 begun_get (o ∷ setups) (suc m) = begun_get setups m
 
-begun_member : (g : Group) (limit : ℕ) (setups : List (Option Setup)) (table : List ℕ) (m : ℕ) → IsGroup g
+begun_member : (g : Group) (limit : ℕ) (setups : List (Option Setup)) (table : Shared) (m : ℕ) → IsGroup g
     → AreSetups g limit setups
     → held (world_of g (begun_replicas setups) table) m ≡ held (opening_world g) m
 begun_member g limit setups table m is are = by (present_at setups m) refl
@@ -191,5 +197,6 @@ pub begins_at_the_opening : (g : Group) (limit : ℕ) (setups : List (Option Set
     → world g (begun_program g setups) ≡ opening_world g
 begins_at_the_opening g limit setups is are =
     same_worlds (world g (begun_program g setups)) (opening_world g)
-    (λ m. begun_member g limit setups (replicate (words_of (roster g) g.window (banks g)) 0) m is are)
+    (λ m. begun_member g limit setups (table_of (begun_program g setups)) m is are)
     (empty_table g (words_of (roster g) g.window (banks g)))
+    (fun_ext λ m. copy_at (roster g) None m)

@@ -1,6 +1,6 @@
 -- The members of a program as its age opens have their form.
-use Rattle.std.proofs.Common.{◌≡◌, ◌≢◌, refl, sym, ap, ◌∙◌, subst, ℕ, zero, suc, ◌+◌, ◌-◌, ◌*◌, ◌<◌, ◌≤◌, ◌⊎◌, inl, inr, false, max, List, [], ◌∷◌, ◌++◌, length, replicate, map, fold, take, if◌then◌else◌, arith, length-append, add-one}
-use Rattle.std.specs.Prelude.{Option, Some, None, nat_lt, slice_get, slice_index}
+use Rattle.std.proofs.Common.{◌≡◌, ◌≢◌, refl, sym, ap, ◌∙◌, subst, ℕ, zero, suc, ◌+◌, ◌-◌, ◌*◌, ◌<◌, ◌≤◌, ◌⊎◌, inl, inr, false, true, ◌&&◌, ◌||◌, ◌^◌, not, Bool, max, List, [], ◌∷◌, ◌++◌, length, replicate, map, fold, take, if◌then◌else◌, arith, length-append, add-one}
+use Rattle.std.specs.Prelude.{Option, Some, None, slice_get, slice_index}
 use Rattle.std.specs.List.{range_with_len}
 use Rattle.std.proofs.lemmas.Bool.{cases_lt, cases_eq}
 use Rattle.std.proofs.lemmas.List.{length-replicate, get_or-replicate, get_or_past, take_more}
@@ -13,7 +13,7 @@ use Rattle.dr_entry.specs.declared.entry.Entry.{Entry}
 use Rattle.dr_entry.specs.declared.entry.Entry.TheVariants.{View, Msg}
 use Rattle.dr_history.proofs.NumberedLemmas.{messages_from-View, messages_from-other, messages_from-Msg}
 use Rattle.dr_history.specs.declared.opening.Opening.{Opening}
-use Rattle.dr_history.specs.Members.{has}
+use Rattle.dr_history.specs.Members.{has, members_of}
 use Rattle.dr_history.specs.History.{messages_of}
 use Rattle.dr_history.specs.Order.{messages_from}
 use Rattle.dr_history.specs.Places.{front_of, first}
@@ -27,12 +27,14 @@ use Rattle.dr_words.specs.Accepts.{part_of}
 use Rattle.dr_words.specs.Columns.{columns_of, leavers_column, recv_column, trim_column}
 use Rattle.dr_words.specs.Form.{IsInForm, AllInForm}
 use Rattle.dr_words.specs.Packing.{accept_promise, accept_tag, accept_value, recv_word}
-use Rattle.dr_words.proofs.Bits.{has_ones, has_zero}
+use Rattle.dr_words.specs.Masks.{IsInRoster}
+use Rattle.dr_words.proofs.Bits.{has_zero}
+use Rattle.dr_words.proofs.Masks.{has_without_mask, in_roster_small}
+use Rattle.dr_words.proofs.Ranks.{few_members}
 use Rattle.dr_ring.specs.Slots.{slot_column}
 use Rattle.dr_program.specs.declared.setup.Setup.{Setup}
 use Rattle.dr_history_laws.proofs.Lengths.{start-short}
-use Rattle.dr_machine.proofs.Presence.{in_first}
-use Rattle.dr_machine.specs.Group.{Group, IsGroup, IsPresent, roster}
+use Rattle.dr_machine.specs.Group.{Group, IsGroup, IsPresent, late_members, roster}
 use Rattle.dr_machine.specs.World.{no_value}
 use Rattle.dr_program.specs.Replica.{Replica, begun_replica, first_entries_of, count, greatest, members_in_view}
 use Rattle.dr_program.specs.Running.{begun_running}
@@ -159,6 +161,39 @@ totals_of g s is =
           ∙ sym (ap length (get_or_past g.opening.messages s [] (omega (arith, is.most_members))))
     ]
 
+-- whoever the age knows is of the roster: who is there, and so who is in the first view, and who is late
+first_of_roster : (g : Group) → IsGroup g → IsInRoster (roster g) g.opening.members
+first_of_roster g is i there = is.sound.members.within i there
+
+present_small : (g : Group) → IsGroup g → g.opening.present < 2 ^ 16
+present_small g is = in_roster_small 16 g.opening.present (λ i h. omega (arith, is.sound.present i h, is.most_members))
+
+late_is : (g : Group) (i : ℕ) → IsGroup g → has (late_members g) i
+    ≡ (has g.opening.present i && not (has g.opening.members i))
+late_is g i is = has_without_mask g.opening.present g.opening.members i (present_small g is)
+
+both : (a b : Bool) → (a && not b) ≡ true → (a ≡ true) × (b ≡ false)
+both true true e = absurd (cc e)
+both true false e = (refl, refl)
+both false b e = absurd (cc e)
+
+late_of_roster : (g : Group) → IsGroup g → IsInRoster (roster g) (late_members g)
+late_of_roster g is i there = is.sound.present i (both _ _ (sym (late_is g i is) ∙ there)).0
+
+late_apart : (g : Group) (i : ℕ) → IsGroup g → has (late_members g) i ≡ true
+    → has g.opening.members i ≡ false
+late_apart g i is there = (both _ _ (sym (late_is g i is) ∙ there)).1
+
+one_or_other : (a b : Bool) → b ≡ true → (a || (b && not a)) ≡ true
+one_or_other true b e = refl
+one_or_other false true e = refl
+one_or_other false false e = absurd (cc e)
+
+first_or_late : (g : Group) (m : ℕ) → IsGroup g → IsPresent g m
+    → (has g.opening.members m || has (late_members g) m) ≡ true
+first_or_late g m is there = rw (late_is g m is)
+    (one_or_other (has g.opening.members m) (has g.opening.present m) there)
+
 -- a product of small numbers is small
 pub product_within : (a n : ℕ) → a ≤ 4096 → n ≤ 16 → a * n ≤ 65536
 product_within a n l h = mul-le-mul l h
@@ -177,6 +212,17 @@ no_part n c = elim (cases_eq c (leavers_column n)) [
   | inr d ↦ grind (arith, no_trim 16 (c - trim_column n 0))
 ]
 
+-- a member that can begin is of the roster, and where it is not in View 0, it is late
+known_within : (s : Setup) → CanBegin s → s.me < s.shape.members
+known_within s can = by (has s.members s.me) refl
+  where
+    by : (b : Bool) → has s.members s.me ≡ b → s.me < s.shape.members
+    by true e = can.roster s.me e
+    by false e = can.late s.me (sym (ap (λ b. b || has s.late s.me) e) ∙ can.present)
+
+late_outside : (s : Setup) → CanBegin s → has s.members s.me ≡ false → has s.late s.me ≡ true
+late_outside s can e = sym (ap (λ b. b || has s.late s.me) e) ∙ can.present
+
 -- a replica that can begin begins in its form
 pub begun_in_form : (s : Setup) → CanBegin s → HasForm (begun_replica s)
 begun_in_form s can =
@@ -187,33 +233,40 @@ begun_in_form s can =
     let few : n ≤ 16 = s.shape.most_members in
     let narrow : k ≤ 1024 = omega (arith, s.shape.most_slots, few) in
     let low : LOGGED_COLUMN < k = omega arith in
-    let inside : s.me < n = can.roster s.me can.present in
+    let inside : s.me < n = known_within s can in
+    let shown : ℕ = if has s.members s.me then logged else 0 in
     let word : (c : ℕ) → c ≢ LOGGED_COLUMN → own r.rows c ≡ 0 =
-    λ c other. first_own n k s.me logged c few narrow inside low
-    ∙ ap (λ b. if b then logged else 0) (other_number c LOGGED_COLUMN other) in
+    λ c other. first_own n k s.me shown c few narrow inside low
+    ∙ ap (λ b. if b then shown else 0) (other_number c LOGGED_COLUMN other) in
+    let most_banks : length (members_of s.late) ≤ 16 = few_members s.late in
     let none : (i : ℕ) → count r i ≡ 0 = copy_at {X = ℕ} n 0 in
     let most : greatest r.totals ≤ 4096 = greatest_within s.totals 0 4096 (omega arith) can.few in
     let one : length s.start + 1 ≡ logged = sym (length-append s.start (View s.age 0 s.members ∷ [])) in
     record {
-      rows = IsWords-looked (begun n k s.me) s.me LOGGED_COLUMN logged
+      rows = IsWords-looked (begun n k s.me) s.me LOGGED_COLUMN shown
           (IsWords-begun n k s.me few narrow inside) inside;
       members = refl;
       columns = refl;
-      words = first_in_form n k s.me logged (omega (arith, inside));
+      words = first_in_form n k s.me shown (omega (arith, inside));
       some_slot = s.shape.some_slot;
       most_slots = s.shape.most_slots;
-      suspicion = record {
-        number = omega (arith, inside, few);
-        present = can.present;
-        trusted = has_zero s.me;
-        others = λ i there. absurd (grind (arith, has_zero i, there));
-      };
+      number = inside;
+      trusted = has_zero s.me;
+      named = λ i there. absurd (grind (arith, has_zero i, there));
       frozen = λ i. (IsFresh-begun n k s.me).unfrozen i ∙ sym (has_zero i);
       suspected = word SUSPECTED_COLUMN (omega arith);
       bank = omega (arith, can.banks, inside);
       left = refl;
       roster = can.roster;
-      present = can.present;
+      late = can.late;
+      outside = λ e. record {
+        late = late_outside s can e;
+        first = refl;
+        trusting = refl;
+        none = refl;
+        idle = refl;
+        all = refl;
+      };
       counts = length-replicate n 0;
       bounded = λ i. omega (arith, none i);
       few = most;
@@ -223,12 +276,15 @@ begun_in_form s can =
       tagged = λ c is. ap accept_tag (word c (λ e. absurd (grind (arith, is, e))));
       valued = λ c is. ap accept_value (word c (λ e. absurd (grind (arith, is, e)))) ∙ sym (no_part n c);
       low = omega arith;
+      decided = λ x e. absurd (cc e);
+      given = omega arith;
       waits = λ x e. absurd (cc e);
       votes = omega arith;
       received = word RECEIVED_COLUMN (omega arith) ∙ sym (front_of_none n (members_in_view r));
       beat = omega (arith, word 0 (omega arith));
       acts = omega arith;
-      published = omega (arith, first_own n k s.me logged LOGGED_COLUMN few narrow inside low);
+      published = first_published (has s.members s.me) logged
+          (first_own n k s.me shown LOGGED_COLUMN few narrow inside low);
       ring = λ i part l. let zero = word (slot_column n s.shape.window i + part) (omega arith) in
           omega (arith, zero);
       messages = can.messages;
@@ -243,16 +299,23 @@ begun_in_form s can =
       logged = omega arith;
       room = omega (arith, one, can.banks, inside);
       small = let product = product_within (greatest r.totals) n most few in
-          omega (arith, product, can.start, can.banks, few);
+          omega (arith, product, can.start, can.banks, most_banks, few);
     }
+  where
+    first_published : (b : Bool) (logged : ℕ) {x : ℕ} → x ≡ (if b then logged else 0) → x ≤ logged
+    first_published true logged e = omega (arith, e)
+    first_published false logged e = omega (arith, e)
 
 -- a setup of the group can begin
 setups_can_begin : (g : Group) (limit m : ℕ) (shape : Shape) (told : Setup) → IsGroup g
     → IsShape g shape → IsPresent g m → CanBegin (setup_of g limit m shape told)
 setups_can_begin g limit m shape told is of there = record {
   banks = omega (arith, of.banks, of.members);
-  roster = λ i has_i. omega (arith, is.sound.members.within i has_i, of.members);
-  present = in_first g m is there;
+  some = is.sound.members.some;
+  roster = rw of.members (first_of_roster g is);
+  late = rw of.members (late_of_roster g is);
+  apart = λ i late. late_apart g i is late;
+  present = first_or_late g m is there;
   few = λ i. omega (arith, totals_of g i is, is.messages i);
   messages = sym (totals_of g m is);
   short = is.short m;
@@ -283,6 +346,8 @@ begun_is_of g limit m shape told is of there = record {
   banks = of.banks;
   messages = refl;
   totals = λ s. totals_of g s is;
+  late = refl;
+  room = rw (of.banks, of.members) (omega arith);
 }
 
 begun_runs : (g : Group) (limit m : ℕ) (shape : Shape) (told : Setup) → IsGroup g → IsShape g shape

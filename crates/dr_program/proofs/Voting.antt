@@ -24,7 +24,7 @@ use Rattle.dr_words.specs.Form.{IsInForm}
 use Rattle.dr_words.specs.Masks.{without}
 use Rattle.dr_words.specs.Packing.{accept_value}
 use Rattle.dr_program.specs.Form.{HasForm, IsVoteDue, waiting}
-use Rattle.dr_program.specs.Replica.{Replica, is_value, is_wedged, may_accept, may_append, may_propose, may_vote, me, promise, value_due, vote_of}
+use Rattle.dr_program.specs.Replica.{Replica, is_value, is_wedged, may_accept, may_append, may_propose, may_vote, me, promise, value_due, vote_of, is_inside}
 
 -- ---- the value
 
@@ -130,10 +130,19 @@ pub view_small : (r : Replica) → HasForm r → r.members < 2 ^ 16
 view_small r f = in_roster_small 16 r.members (λ i there.
     omega (arith, f.roster i there, f.members, f.rows.few))
 
-pub self_left : (r : Replica) → HasForm r → has (without r.members r.suspects) (me r) ≡ true
-self_left r f =
+pub self_left : (r : Replica) → HasForm r → is_inside r ≡ true
+    → has (without r.members r.suspects) (me r) ≡ true
+self_left r f inside =
     has_without_mask r.members r.suspects (me r) (view_small r f)
-    ∙ and_from _ _ f.present (ap not f.suspicion.trusted)
+    ∙ and_from _ _ inside (ap not f.trusted)
+
+-- who is wedged is in its view
+pub wedged_inside : (r : Replica) → HasForm r → is_wedged r ≡ true → is_inside r ≡ true
+wedged_inside r f wedged = by (is_inside r) refl
+  where
+    by : (b : Bool) → is_inside r ≡ b → b ≡ true
+    by true e = refl
+    by false e = let none = (f.outside e).trusting in absurd (grind (arith, wedged, none))
 
 -- ---- the ballot
 
@@ -207,8 +216,7 @@ shown_fits r i v f shows = record {
 first_fits : (r : Replica) (v : Value) → HasForm r
     → IsFirstValue (seen r.rows) r.members r.suspects v → Fits r.roster r.members v
 first_fits r v f first = record {
-  leavers = rw first.leavers (in_roster_small r.roster r.suspects
-      (λ i h. f.roster i (f.suspicion.others i h)));
+  leavers = rw first.leavers (in_roster_small r.roster r.suspects f.named);
   trims = λ s. by s (has r.members s) refl;
   others = first.others;
 }
@@ -226,8 +234,8 @@ first_fits r v f first = record {
     by s true h = least s h (first.trims s h)
     by s false h = rw (first.others s h) (omega arith)
 
-due_fits : (r : Replica) → HasForm r → Fits r.roster r.members (value_due r)
-due_fits r f = by (may_propose r) refl
+due_fits : (r : Replica) → HasForm r → is_inside r ≡ true → Fits r.roster r.members (value_due r)
+due_fits r f inside = by (may_propose r) refl
   where
     proposed : IsProposal r.roster (seen r.rows) r.members r.suspects
         (proposal r.roster (seen r.rows) r.members r.suspects)
@@ -240,7 +248,7 @@ due_fits r f = by (may_propose r) refl
         let same : value_due r ≡ proposal r.roster (seen r.rows) r.members r.suspects = rw e refl in
         subst (Fits r.roster r.members) (sym same)
         (proposed (proposal_is r.roster (seen r.rows) r.members r.suspects (me r) (view_small r f)
-        (self_left r f)))
+        (self_left r f inside)))
     by false e =
         let same : value_due r
         ≡ shown_value r.roster (seen r.rows) r.members (promise_of r.roster (seen r.rows) (me r)) =
@@ -254,7 +262,7 @@ due_fits r f = by (may_propose r) refl
 pub vote_due : (r : Replica) (v : Value) → HasForm r → may_vote r v ≡ true
     → IsVoteDue r.roster r.tag (promise r) (vote_of r v)
 vote_due r v f e =
-    let fits : Fits r.roster r.members v = subst (Fits r.roster r.members) (sym (votes_for r v e)) (due_fits r f) in record {
+    let fits : Fits r.roster r.members v = subst (Fits r.roster r.members) (sym (votes_for r v e)) (due_fits r f (wedged_inside r f (voting r v e).wedged)) in record {
       ballot = omega arith;
       above = not_yet r v f e;
       leavers = fits.leavers;
@@ -264,7 +272,7 @@ vote_due r v f e =
 -- and it is a valid record
 pub vote_valid : (r : Replica) (v : Value) → HasForm r → may_vote r v ≡ true → IsValidVote (vote_of r v)
 vote_valid r v f e =
-    let fits : Fits r.roster r.members v = subst (Fits r.roster r.members) (sym (votes_for r v e)) (due_fits r f) in record {
+    let fits : Fits r.roster r.members v = subst (Fits r.roster r.members) (sym (votes_for r v e)) (due_fits r f (wedged_inside r f (voting r v e).wedged)) in record {
       members = omega (arith, f.members, f.rows.few);
       ballot = promise_within r f;
       leavers = fits.leavers;

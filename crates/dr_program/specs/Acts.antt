@@ -29,6 +29,12 @@ may_waiting acts.Accept = true
 may_waiting (acts.Crash end) = true
 may_waiting a = false
 
+-- whether a member that is none of its view may do it
+abbrev pub is_outside_act : Act → Bool
+is_outside_act acts.Beat = true
+is_outside_act (acts.Crash end) = true
+is_outside_act a = false
+
 -- whether a member leaves its view with it
 abbrev pub leaves_view : Act → Bool
 leaves_view acts.Finish = true

@@ -1,12 +1,13 @@
 -- The form that replicas and running members always have, and what ties them to a group.
-use Rattle.std.specs.Prelude.{◌≡◌, ℕ, ◌+◌, ◌*◌, ◌^◌, ◌<◌, ◌≤◌, ◌&&◌, true, List, length, map, slice_index, slice_get, Option, None, Some}
-use Rattle.dr_entry.specs.declared.limits.TheConstants.{MAX_MESSAGES, MAX_MESSAGE_LENGTH}
-use Rattle.dr_history.specs.Members.{has}
+use Rattle.std.specs.Prelude.{◌≡◌, ℕ, ◌+◌, ◌*◌, ◌^◌, ◌<◌, ◌≤◌, ◌&&◌, ◌||◌, true, false, List, [], length, map, slice_index, slice_get, Option, None, Some}
+use Rattle.dr_entry.specs.declared.limits.TheConstants.{MAX_MEMBERS, MAX_MESSAGES, MAX_MESSAGE_LENGTH}
+use Rattle.dr_history.specs.Members.{has, members_of}
 use Rattle.dr_history.specs.Places.{front_of}
 use Rattle.dr_history.specs.History.{messages_of}
 use Rattle.dr_history.specs.Order.{messages_from}
 use Rattle.dr_ring.specs.Slots.{slot_column}
 use Rattle.dr_rows.specs.Words.{IsWords, own, is_frozen}
+use Rattle.dr_entry.specs.declared.record.Value.{Value}
 use Rattle.dr_entry.specs.declared.record.Vote.{Vote}
 use Rattle.dr_words.specs.Accepts.{part_of as value_part}
 use Rattle.dr_words.specs.Rewrites.{is_accept_of}
@@ -15,21 +16,25 @@ use Rattle.dr_words.specs.Columns.{columns_of, recv_column}
 use Rattle.dr_words.specs.Form.{AllInForm}
 use Rattle.dr_words.specs.Masks.{IsInRoster}
 use Rattle.dr_words.specs.Packing.{accept_promise, accept_tag, accept_value, recv_word, ring_tag}
-use Rattle.dr_suspect.specs.Suspicion.{IsSuspicion}
 use Rattle.dr_suspect.specs.Waits.{IsWaits}
 use Rattle.dr_program.specs.declared.setup.Setup.{Setup}
 use Rattle.dr_program.specs.Turn.{IsIn, part_of, turn_begins}
-use Rattle.dr_machine.specs.Group.{Group, IsPresent, banks, roster}
+use Rattle.dr_machine.specs.Group as groups
+use Rattle.dr_machine.specs.Group.{Group, IsPresent, banks, late_members, roster}
 use Rattle.dr_machine.specs.Sending.{IsPut}
-use Rattle.dr_program.specs.Replica.{Replica, me, count, greatest, is_wedged, promise, suspicion_of, members_in_view}
+use Rattle.dr_program.specs.Replica.{Replica, me, count, greatest, is_inside, is_wedged, promise, members_in_view}
 use Rattle.dr_program.specs.Running.{Running, WaitsAt, members, columns, applies}
 
 -- what a replica begins with has its ranges
 pub record CanBegin (s : Setup) : Type 0 where
-  -- there are as many banks as members; View 0 is of the roster, and the member is one of it
-  pub banks : s.shape.banks ≡ s.shape.members
+  -- there is a bank for each member, and one more for each late one; View 0, in which somebody is, and the late
+  -- members are of the roster, and the member is in View 0 or late
+  pub banks : s.shape.banks ≡ s.shape.members + length (members_of s.late)
+  pub some : 0 < s.members
   pub roster : IsInRoster s.shape.members s.members
-  pub present : has s.members s.me ≡ true
+  pub late : IsInRoster s.shape.members s.late
+  pub apart : (i : ℕ) → has s.late i ≡ true → has s.members i ≡ false
+  pub present : (has s.members s.me || has s.late s.me) ≡ true
   -- nobody has too many messages, and the member has as many as it is told, of a length that a message may
   -- have
   pub few : (i : ℕ) → slice_index s.totals i ≤ MAX_MESSAGES
@@ -54,6 +59,16 @@ pub record IsVoteDue (n tag promise : ℕ) (x : Vote) : Type 0 where
   pub leavers : x.value.leavers < 2 ^ n
   pub trims : (s : ℕ) → slice_index x.value.trim s < 2 ^ 32
 
+-- a member that is none of its view: it is late and has the first view, where it has named nobody, has voted for
+-- nothing and waits for no vote, and has logged all that it has
+pub record WaitsToJoin (r : Replica) : Type 0 where
+  pub late : has r.late (me r) ≡ true
+  pub first : r.view ≡ 0
+  pub trusting : r.suspects ≡ 0
+  pub none : r.votes ≡ []
+  pub idle : r.pending ≡ None
+  pub all : r.logged ≡ length r.history
+
 -- the form that a replica always has
 pub record HasForm (r : Replica) : Type 0 where
   -- its rows are of the group's shape, and each word of them is in form
@@ -63,15 +78,20 @@ pub record HasForm (r : Replica) : Type 0 where
   pub words : AllInForm r.rows.members r.rows.words
   pub some_slot : 1 ≤ r.window
   pub most_slots : r.window ≤ 8
-  -- it suspects other members of its view alone, whose rows are frozen
-  pub suspicion : IsSuspicion (suspicion_of r)
+  -- it names others of the roster alone, and in its view alone; rows of suspects are frozen
+  pub number : me r < r.roster
+  pub trusted : has r.suspects (me r) ≡ false
+  pub named : IsInRoster r.roster r.suspects
   pub frozen : (i : ℕ) → is_frozen r.rows i ≡ has r.suspects i
-  -- its view is of the roster, has a bank, and it is a member of it
+  -- its view is of the roster, has a bank, and it is a member of it, or late, and has done nothing yet
   pub bank : r.view < r.banks
   -- it keeps something of each view before
   pub left : length r.left ≡ r.view
   pub roster : IsInRoster r.roster r.members
-  pub present : has r.members (me r) ≡ true
+  pub late : IsInRoster r.roster r.late
+  pub outside : is_inside r ≡ false → WaitsToJoin r
+  -- it has given letters to members that a roster can have
+  pub given : r.given < 2 ^ MAX_MEMBERS
   -- it counts the items of each member, and no more than anyone has messages, with a place for each
   pub counts : length r.counts ≡ r.roster
   pub bounded : (s : ℕ) → count r s ≤ greatest r.totals
@@ -86,6 +106,8 @@ pub record HasForm (r : Replica) : Type 0 where
   pub valued : (c : ℕ) → is_accept_of r.roster r.members c ≡ true
       → accept_value (own r.rows c) ≡ value_part r.roster r.value c
   pub low : r.tag ≤ promise r + 1
+  -- the value that it has committed names members of the roster
+  pub decided : (x : Value) → r.committed ≡ Some x → x.leavers < 2 ^ r.roster
   -- a vote that waits is by a ballot up to its promise, above its tag, and of a value that accept words hold
   pub waits : (x : Vote) → r.pending ≡ Some x → IsVoteDue r.roster r.tag (promise r) x
   -- it has voted once by each ballot at most in each view that it has left, in this one once by each ballot
@@ -122,6 +144,9 @@ pub record IsOf (g : Group) (m : ℕ) (r : Replica) : Type 0 where
   pub banks : r.banks ≡ banks g
   pub messages : r.messages ≡ messages_of g.opening m
   pub totals : (s : ℕ) → slice_index r.totals s ≡ length (messages_of g.opening s)
+  pub late : r.late ≡ late_members g
+  -- its history has room for the start, a View for each bank, and all messages
+  pub room : length g.opening.start + groups.banks g + greatest r.totals * roster g < r.room
 
 -- the form that a running member always has
 pub record IsRunningMember (r : Running) : Type 0 where

@@ -1,7 +1,8 @@
 -- A program: the members of a group as they run, over the words of one table, and its runs.
-use Rattle.std.specs.Prelude.{◌≡◌, ℕ, ◌+◌, ◌<◌, Bool, true, IsTrue, All, List, [], ◌∷◌, ◌++◌, length, map, fold, replicate, Option, None, Some, is_some, option_map, unwrap_or}
+use Rattle.std.specs.Prelude.{◌≡◌, ℕ, ◌+◌, ◌<◌, Bool, true, IsTrue, All, List, [], ◌∷◌, ◌++◌, length, map, fold, replicate, slice_index_or, Option, None, Some, is_some, option_map, unwrap_or}
 use Rattle.dr_entry.specs.declared.limits.TheConstants.{MAX_MEMBERS}
 use Rattle.std.specs.List.{range_with_len}
+use Rattle.dr_entry.specs.declared.entry.Entry.{Entry}
 use Rattle.dr_entry.specs.declared.end.AgeEnd.{AgeEnd}
 use Rattle.dr_entry.specs.declared.end.MemberEnd.{MemberEnd}
 use Rattle.dr_entry.specs.declared.end.ViewSent.{ViewSent}
@@ -14,18 +15,20 @@ use Rattle.dr_program.specs.declared.outcome.Outcome.{Outcome}
 use Rattle.dr_program.specs.declared.outcome.Outcome.TheVariants as outcomes
 use Rattle.dr_program.specs.declared.setup.Setup.{Setup}
 use Rattle.dr_machine.specs.declared.step.Step.{Step}
-use Rattle.dr_machine.specs.declared.step.Step.TheVariants.{Append, LogVote}
-use Rattle.dr_machine.specs.Group.{Group, IsPresent, banks, roster}
+use Rattle.dr_machine.specs.declared.step.Step.TheVariants.{Append, Join, LogVote}
+use Rattle.dr_machine.specs.Group.{Group, IsPresent, banks, late_members, roster}
 use Rattle.dr_program.specs.Presence.{present_at, with_present}
 use Rattle.dr_program.specs.Replica.{LeftView, Replica}
-use Rattle.dr_program.specs.Running.{Running, begun_running, next_step, after_step, broken_off}
-use Rattle.dr_program.specs.Steps.{sight, stored}
+use Rattle.dr_program.specs.Running.{Running, begun_running, next_step, after_step, broken_off, settled, took_letter}
+use Rattle.dr_program.specs.Steps.{sight, stored, stored_letters}
 
 pub record Program : Type 0 where
   -- the members, by number: whoever is absent has an empty place
   pub members : List (Option Running)
   -- the table's words, by index
   pub table : List ℕ
+  -- the letters for late members, by number: nothing where none was given yet
+  pub letters : List (Option (List Entry))
 
 -- an element of a run: a member takes its next deed, and where that is an append, it goes so
 pub record Move : Type 0 where
@@ -50,29 +53,44 @@ abbrev pub appended_as : Outcome → Running → Running
 appended_as outcomes.Ok r = after_step 0 r
 appended_as (outcomes.Failed why) r = broken_off why r
 
--- a member after the step that is due, with the word that it sees: after an append by its outcome
-abbrev pub after_deed : ℕ → Outcome → Running → Step → Running
-after_deed word outcome r Append = appended_as outcome r
-after_deed word outcome r (LogVote v) = appended_as outcome r
-after_deed word outcome r s = after_step word r
+-- a member after the step that is due, with the word and the letter that it sees: after an append by its
+-- outcome
+abbrev pub after_deed : ℕ → Option (List Entry) → Outcome → Running → Step → Running
+after_deed word letter outcome r Append = appended_as outcome r
+after_deed word letter outcome r (LogVote v) = appended_as outcome r
+after_deed word letter outcome r Join = settled (took_letter letter r)
+after_deed word letter outcome r s = after_step word r
 
 -- the step of the machine that an append comes to, by its outcome: none where it failed
 abbrev pub append_by : Step → Outcome → Option Step
 append_by s outcomes.Ok = Some s
 append_by s (outcomes.Failed why) = None
 
--- the step of the machine that a due step comes to: an append by its outcome, any other as it is
-abbrev pub comes_to : Option Step → Outcome → Option Step
-comes_to None outcome = None
-comes_to (Some Append) outcome = append_by Append outcome
-comes_to (Some (LogVote v)) outcome = append_by (LogVote v) outcome
-comes_to (Some s) outcome = Some s
+-- the step of the machine that a take comes to: none where it finds no letter
+abbrev pub join_by : Option (List Entry) → Option Step
+join_by None = None
+join_by (Some letter) = Some Join
+
+-- the step of the machine that a due step comes to: an append by its outcome, a take by the letter that it finds,
+-- and any other as it is
+abbrev pub comes_to : Option (List Entry) → Option Step → Outcome → Option Step
+comes_to letter None outcome = None
+comes_to letter (Some Append) outcome = append_by Append outcome
+comes_to letter (Some (LogVote v)) outcome = append_by (LogVote v) outcome
+comes_to letter (Some Join) outcome = join_by letter
+comes_to letter (Some s) outcome = Some s
+
+-- the letter for a member
+abbrev pub letter_for : Program → ℕ → Option (List Entry)
+letter_for p m = slice_index_or p.letters m None
 
 -- the program after its member r, with this end, has made this move
 abbrev pub went : Program → Running → Move → Option End → Program
 went p r e None = record {
-  members = with_present p.members e.member (after_deed (next_sight p.table r) e.outcome r (next_step r));
+  members = with_present p.members e.member
+      (after_deed (next_sight p.table r) (letter_for p e.member) e.outcome r (next_step r));
   table = stored p.table r.replica (next_step r);
+  letters = stored_letters p.letters r.replica (next_step r);
 }
 went p r e (Some end) = p
 
@@ -102,6 +120,7 @@ pub record IsSetup (g : Group) (limit m : ℕ) (s : Setup) : Type 0 where
   pub me : s.me ≡ m
   pub age : s.age ≡ g.opening.age
   pub view : s.members ≡ g.opening.members
+  pub late : s.late ≡ late_members g
   pub turns : s.turns ≡ limit
   pub start : s.start ≡ g.opening.start
   pub messages : s.messages ≡ messages_of g.opening m
@@ -118,6 +137,7 @@ abbrev pub begun_program : Group → List (Option Setup) → Program
 begun_program g setups = record {
   members = map (option_map begun_running) setups;
   table = replicate (words_of (roster g) g.window (banks g)) 0;
+  letters = replicate (roster g) None;
 }
 
 -- whoever stands at a place has ended

@@ -1,6 +1,7 @@
 -- The world that replicas and a table are.
 use Rattle.std.specs.Option.{option_map_or}
-use Rattle.std.specs.Prelude.{ℕ, ◌&&◌, ◌==◌, nat_lt, if◌then◌else◌, List, [], map, take, slice_index, slice_index_or, Option, None, Some, option_map}
+use Rattle.std.specs.Prelude.{ℕ, ◌&&◌, ◌==◌, nat_lt, if◌then◌else◌, List, map, take, slice_index, slice_index_or, Option, None, Some, option_map}
+use Rattle.dr_entry.specs.declared.entry.Entry.{Entry}
 use Rattle.dr_entry.specs.declared.entry.Item.TheVariants.{Null}
 use Rattle.dr_rows.specs.Words.{own, seen}
 use Rattle.dr_words.specs.Layout.{word_index_of}
@@ -10,7 +11,7 @@ use Rattle.dr_machine.specs.Group.{Group, banks, roster, columns}
 use Rattle.dr_machine.specs.World.{World, opening_world}
 use Rattle.dr_program.specs.declared.outcome.Outcome.{Outcome}
 use Rattle.dr_program.specs.Presence.{present_at}
-use Rattle.dr_program.specs.Replica.{LeftView, Replica, me, count, item, promise}
+use Rattle.dr_program.specs.Replica.{LeftView, Replica, me, count, item, nothing_left, promise}
 use Rattle.dr_program.specs.Running.{Running, next_step}
 use Rattle.dr_program.specs.Program.{Program, comes_to}
 
@@ -24,9 +25,6 @@ abbrev pub in_view : {A : Type 0} → Replica → ℕ → A → A → A
 in_view r v x kept = if v == r.view then x else kept
 
 -- what it has kept of a view: nothing of one that it hasn't left
-abbrev pub nothing_left : LeftView
-nothing_left = record { own = []; counts = []; sent = [] }
-
 abbrev pub left_in : Replica → ℕ → LeftView
 left_in r v = slice_index_or r.left v nothing_left
 
@@ -42,8 +40,17 @@ word_of g table v j i c =
     if (nat_lt v (banks g) && nat_lt j (roster g)) && (nat_lt i (roster g) && nat_lt c (columns g))
     then slice_index table (word_index_of (roster g) g.window v j i c) else 0
 
+-- what the members share: the words of the table, by index, and the letters for late members, by number
+pub record Shared : Type 0 where
+  pub words : List ℕ
+  pub letters : List (Option (List Entry))
+
+-- the letters for the members, by number, in a world
+abbrev pub letters_of : List (Option (List Entry)) → ℕ → Option (List Entry)
+letters_of letters m = slice_index_or letters m None
+
 -- the world of these replicas and this table
-abbrev pub world_of : Group → List (Option Replica) → List ℕ → World
+abbrev pub world_of : Group → List (Option Replica) → Shared → World
 world_of g rs table =
     let o = opening_world g in record {
       past = record {
@@ -58,6 +65,8 @@ world_of g rs table =
         acts = of_member rs (λ r. r.acts) o.past.acts;
       };
       members = of_member rs (λ r. r.members) o.members;
+      came_from = of_member rs (λ r. r.came_from) o.came_from;
+      given = of_member rs (λ r. r.given) o.given;
       suspects = of_member rs (λ r. r.suspects) o.suspects;
       promise = of_member rs promise o.promise;
       tag = of_member rs (λ r. r.tag) o.tag;
@@ -70,12 +79,17 @@ world_of g rs table =
       seen = of_member rs (λ r i c. if i == me r then 0 else seen r.rows i c) o.seen;
       turns = of_member rs (λ r. r.turns) o.turns;
       end = of_member rs (λ r. r.end) o.end;
-      table = word_of g table;
+      table = word_of g table.words;
+      letter = letters_of table.letters;
     }
+
+-- the table of a program
+abbrev pub table_of : Program → Shared
+table_of p = record { words = p.table; letters = p.letters }
 
 -- the world of a program
 abbrev pub world : Group → Program → World
-world g p = world_of g (map (option_map (λ (r : Running). r.replica)) p.members) p.table
+world g p = world_of g (map (option_map (λ (r : Running). r.replica)) p.members) (table_of p)
 
 -- the step that is due to a running member, unless it has ended
 abbrev pub step_due : Running → Option End → Option Step
@@ -85,6 +99,7 @@ step_due r (Some end) = None
 abbrev pub step_of_member : Running → Option Step
 step_of_member r = step_due r r.replica.end
 
--- the step of the machine that the next deed of a running member comes to, where an append has this outcome
-abbrev pub step_by : Running → Outcome → Option Step
-step_by r outcome = comes_to (step_of_member r) outcome
+-- the step of the machine that the next deed of a running member comes to, where an append has this outcome, and
+-- it finds this letter
+abbrev pub step_by : Option (List Entry) → Running → Outcome → Option Step
+step_by letter r outcome = comes_to letter (step_of_member r) outcome

@@ -13,19 +13,20 @@ use Rattle.dr_entry.specs.declared.end.SentItem.TheVariants as sent_items
 use Rattle.dr_entry.specs.declared.end.SentItem.TheVariants.{Index}
 use Rattle.dr_history.specs.Members.{has, members_of}
 use Rattle.dr_history.specs.Places.{front_of, rest_places}
-use Rattle.dr_history.specs.History.{messages_in}
+use Rattle.dr_history.specs.History.{last_view, messages_in}
 use Rattle.dr_history.specs.Order.{messages_from}
 use Rattle.dr_ring.specs.Slots.{is_free, item_in, slot_of, with_item}
 use Rattle.dr_rows.specs.Words as rows
 use Rattle.dr_rows.specs.Words.{Words, begun, row_of, seen, own, rewritten, with_frozen}
 use Rattle.dr_suspect.specs.Suspicion.{Suspicion, names_me}
+use Rattle.dr_suspect.specs.Wishes.{may_wish}
 use Rattle.dr_words.specs.Accepts.{promise_of}
 use Rattle.dr_words.specs.Choices as choices
 use Rattle.dr_words.specs.Choices.{proposal, shown_value}
 use Rattle.dr_words.specs.Rewrites.{accepted_word, wedged_word}
 use Rattle.dr_words.specs.declared.column.TheConstants.{BEAT_COLUMN, RECEIVED_COLUMN, LOGGED_COLUMN, DONE_COLUMN}
 use Rattle.dr_words.specs.Columns.{columns_of, recv_column}
-use Rattle.dr_words.specs.Masks.{least_of, with_member, without}
+use Rattle.dr_words.specs.Masks.{least_of, mask_of, next_members, with_member, without}
 use Rattle.dr_words.specs.Packing.{recv_word}
 use Rattle.dr_program.specs.declared.setup.Setup.{Setup}
 use Rattle.dr_entry.specs.declared.record.Value.{Value}
@@ -50,13 +51,19 @@ pub record Replica : Type 0 where
   pub banks : ℕ
   pub messages : List (List ℕ)
   pub totals : List ℕ
+  -- the late members of the age, as a mask
+  pub late : ℕ
   -- its own words, those that it has seen, and those that it has pushed
   pub rows : Words
-  -- the number of its view, and as masks the view's members and those of them that it suspects, whose rows
-  -- are frozen
+  -- the number of its view, and as masks the view's members, and those that it suspects or wishes for: rows of
+  -- suspects are frozen
   pub view : ℕ
   pub members : ℕ
   pub suspects : ℕ
+  -- the members of the view before, where it came from that one, and those to which it has given a letter in
+  -- this one, as masks
+  pub came_from : ℕ
+  pub given : ℕ
   -- the tag and the value that it has accepted, the value that it has committed, the vote that it has logged
   -- and not yet acted on, and the votes on its log
   pub tag : ℕ
@@ -104,10 +111,14 @@ begun_replica s =
       banks = s.shape.banks;
       messages = s.messages;
       totals = s.totals;
-      rows = rows.with_own (begun n (columns_of n s.shape.window) s.me) LOGGED_COLUMN (length first);
+      late = s.late;
+      rows = rows.with_own (begun n (columns_of n s.shape.window) s.me) LOGGED_COLUMN
+          (if has s.members s.me then length first else 0);
       view = 0;
       members = s.members;
       suspects = 0;
+      came_from = 0;
+      given = 0;
       tag = 0;
       value = no_value;
       committed = None;
@@ -137,6 +148,10 @@ me r = r.rows.me
 abbrev pub members_in_view : Replica → List ℕ
 members_in_view r = members_of r.members
 
+-- it is in its view: a late member is so once it has joined
+abbrev pub is_inside : Replica → Bool
+is_inside r = has r.members (me r)
+
 -- i is another member of its view
 abbrev pub is_other : Replica → ℕ → Bool
 is_other r i = has r.members i && not (i == me r)
@@ -148,7 +163,7 @@ count r s = slice_index r.counts s
 abbrev pub item : Replica → ℕ → ℕ → Item
 item r s k = slice_index_or r.items (k * r.roster + s) Null
 
--- who suspects somebody is wedged: it puts and takes no more items in its view
+-- who suspects somebody, or wishes for somebody, is wedged: it puts and takes no more items in its view
 abbrev pub is_wedged : Replica → Bool
 is_wedged r = not (r.suspects == 0)
 
@@ -287,14 +302,14 @@ abbrev pub item_of_place : Replica → ℕ → Item
 item_of_place r p = item r (sender_of_place r p) (p / length (members_in_view r))
 
 -- its history as it ends its view with a value: the rest is delivered, place by place, and behind it stands
--- the View of those that remain
+-- the View of the members that come of this one
 abbrev pub with_place : Replica → List Entry → ℕ → List Entry
 with_place r history p = history ++ entries_of history (sender_of_place r p) (item_of_place r p)
 
 abbrev pub finished_history : Replica → Value → List Entry
 finished_history r x =
     fold (with_place r) r.history (rest_places (map (λ s. slice_index x.trim s) (members_in_view r)) r.next)
-    ++ View r.age (r.view + 1) (without r.members x.leavers) ∷ []
+    ++ View r.age (r.view + 1) (next_members r.members x.leavers) ∷ []
 
 -- it may end its view with a value by which it stays, where there is a bank for the next one, it has the
 -- items that the value takes, there is room for the entries, and these have no more of its messages than
@@ -314,9 +329,20 @@ abbrev pub is_named : ℕ → Option Value → Bool
 is_named me None = false
 is_named me (Some v) = has v.leavers me
 
--- another member of its view, not yet suspected
+-- another member of its view, or one that it may wish for, not yet named
 abbrev pub may_suspect : Replica → ℕ → Bool
-may_suspect r j = nat_lt j r.roster && (is_other r j && not (has r.suspects j))
+may_suspect r j = nat_lt j r.roster && (not (j == me r)
+    && ((has r.members j || may_wish r.history r.age r.late j) && not (has r.suspects j)))
+
+-- it has come into its view with j, and is the least of those that were in the one before: it gives j the
+-- letter, once
+abbrev pub is_welcomer : Replica → Bool
+is_welcomer r = has r.came_from (me r)
+    && (least_of (mask_of (λ i. has r.came_from i && has r.members i)) == me r)
+
+abbrev pub may_give : Replica → ℕ → Bool
+may_give r j = nat_lt j r.roster && (is_welcomer r && (has r.members j && (not (has r.came_from j)
+    && not (has r.given j))))
 
 -- the end is due: it is done; an unsuspected row says that its member suspects this one; or it is wedged, and
 -- these unsuspected members are no majority
@@ -427,25 +453,46 @@ decided r = record r { committed = Some r.value }
 abbrev pub left_now : Replica → LeftView
 left_now r = record { own = row_of r.rows.words (me r); counts = r.counts; sent = r.sent }
 
--- it ends its view with a value, and goes on in the next one, in which all is as at the beginning
+-- what it keeps of a view that it was none of
+abbrev pub nothing_left : LeftView
+nothing_left = record { own = []; counts = []; sent = [] }
+
+-- it goes on in a view of these members with this history, where all is as at the beginning, and keeps this of
+-- the views before
+abbrev pub entered : Replica → ℕ → ℕ → List Entry → List LeftView → Replica
+entered r view members history left = record r {
+  rows = rows.with_own (begun r.rows.members r.rows.columns (me r)) LOGGED_COLUMN r.logged;
+  view = view;
+  members = members;
+  suspects = 0;
+  came_from = r.members;
+  given = 0;
+  tag = 0;
+  value = no_value;
+  committed = None;
+  counts = replicate r.roster 0;
+  items = replicate (greatest r.totals * r.roster) Null;
+  base = length (messages_from (me r) history);
+  sent = [];
+  left = left;
+  next = 0;
+  history = history;
+}
+
+-- it ends its view with a value, and goes on in the next one
 abbrev pub finished_by : Replica → Value → Replica
-finished_by r x =
-    let history = finished_history r x in record r {
-      rows = rows.with_own (begun r.rows.members r.rows.columns (me r)) LOGGED_COLUMN r.logged;
-      view = r.view + 1;
-      members = without r.members x.leavers;
-      suspects = 0;
-      tag = 0;
-      value = no_value;
-      committed = None;
-      counts = replicate r.roster 0;
-      items = replicate (greatest r.totals * r.roster) Null;
-      base = length (messages_from (me r) history);
-      sent = [];
-      left = r.left ++ left_now r ∷ [];
-      next = 0;
-      history = history;
-    }
+finished_by r x = entered r (r.view + 1) (next_members r.members x.leavers) (finished_history r x)
+    (r.left ++ left_now r ∷ [])
+
+-- it comes into the view of its letter
+abbrev pub joined : Replica → List Entry → Replica
+joined r letter =
+    let view = last_view (0, 0) letter in
+    entered r view.0 view.1 letter (left_now r ∷ replicate (view.0 - 1) nothing_left)
+
+-- it has given j the letter
+abbrev pub gave : Replica → ℕ → Replica
+gave r j = record r { given = with_member r.given j }
 
 abbrev pub finished : Replica → Replica
 finished r = finished_by r (unwrap_or r.committed no_value)

@@ -3,6 +3,7 @@
 use Rattle.std.specs.Prelude.{◌≡◌, ◌⊎◌, ℕ, zero, suc, ◌+◌, ◌-◌, ◌==◌, ◌&&◌, ◌||◌, Bool, not, true, if◌then◌else◌, List, length, slice_index_or, Option, None, Some, is_some, unwrap_or}
 use Rattle.std.specs.List.{find, list_any}
 use Rattle.std.specs.Option.{option_map, option_or}
+use Rattle.dr_entry.specs.declared.entry.Entry.{Entry}
 use Rattle.dr_entry.specs.declared.entry.Entry.TheVariants.{View}
 use Rattle.dr_entry.specs.declared.record.Record.TheVariants as records
 use Rattle.dr_entry.specs.declared.record.Value.{Value}
@@ -11,6 +12,7 @@ use Rattle.dr_entry.specs.declared.end.End.TheVariants as ends
 use Rattle.dr_rows.specs.Words.{own, changed, looked}
 use Rattle.dr_suspect.specs.Answers.{least_where}
 use Rattle.dr_suspect.specs.Suspicion.{names_me, spread_of}
+use Rattle.dr_suspect.specs.Wishes.{may_wish}
 use Rattle.dr_suspect.specs.Waits.{Waits, begun, compared, is_overdue}
 use Rattle.dr_words.specs.Columns.{columns_of}
 use Rattle.dr_program.specs.declared.outcome.LogWhy.{LogWhy}
@@ -27,12 +29,12 @@ use Rattle.dr_machine.specs.declared.event.Act.TheVariants as acts
 use Rattle.dr_machine.specs.declared.step.Step.{Step}
 use Rattle.dr_machine.specs.declared.step.Step.TheVariants as steps
 use Rattle.dr_program.specs.Acts.{leaves_view}
-use Rattle.dr_program.specs.Turn.{part_of, after, is_beat, places_in}
+use Rattle.dr_program.specs.Turn.{part_of, after, is_beat, places_in, turn_ends}
 use Rattle.dr_program.specs.Steps.{allows, stepped, index_in}
 use Rattle.dr_program.specs.declared.deed.Deed.{Deed}
 use Rattle.dr_program.specs.declared.deed.Deed.TheVariants as deeds
 use Rattle.dr_machine.specs.Effects.{one_more}
-use Rattle.dr_program.specs.Replica.{Replica, begun_replica, me, is_other, is_others, has_majority, is_wedged, may_suspect, suspicion_of, unsuspected, value_due, vote_of}
+use Rattle.dr_program.specs.Replica.{Replica, begun_replica, joined, me, is_other, is_others, has_majority, is_wedged, may_suspect, suspicion_of, unsuspected, value_due, vote_of}
 
 pub record Running : Type 0 where
   -- the replica
@@ -109,9 +111,10 @@ scripted r = option_map (λ (s : Suspicion). s.other) (find (is_scripted r.repli
 abbrev pub named_by : Replica → Option ℕ
 named_by r = least_where (names_me (suspicion_of r) r.rows)
 
--- the member that the rows have it suspect next, if any, and the least one that it has waited for too long
+-- the member that the rows have it suspect or wish for next, if any, and the least one that it has waited for too
+-- long
 abbrev pub told : Replica → Option ℕ
-told r = spread_of (suspicion_of r) r.rows
+told r = spread_of (suspicion_of r) (may_wish r.history r.age r.late) r.rows
 
 abbrev pub overdue : Running → Option ℕ
 overdue r = least_where (is_overdue r.waits r.replica.rows (unsuspected r.replica))
@@ -145,6 +148,8 @@ step_at r parts.Crash i c = steps.Do (acts.Crash ends.Crashed)
 step_at r parts.Excluded i c = steps.Do (acts.Halt (ends.Excluded (r.replica.view + 1)))
 step_at r parts.Done i c = steps.Do (acts.Halt ends.Done)
 step_at r parts.Spent i c = steps.Do (acts.Crash (ends.Spent r.replica.turns))
+step_at r parts.Give i c = steps.Welcome i
+step_at r parts.Take i c = steps.Join
 step_at r (parts.Do a) i c = steps.Do a
 
 -- what a part asks besides what its step does
@@ -195,6 +200,7 @@ goes n k parts.Append p = after n k p
 goes n k parts.Vote p = after n k p
 goes n k (parts.Do acts.Publish) p = record p { part = p.part - 1 }
 goes n k parts.Push p = after n k p
+goes n k parts.Take p = turn_ends
 goes n k part p = if is_beat part then after n k p else p
 
 -- the pushes of the turn after a step
@@ -210,6 +216,7 @@ waits_after word r (steps.Look i c) =
     if c + 1 == columns r then compared r.waits (looked r.replica.rows i c word) i
     else r.waits
 waits_after word r (steps.Do a) = if leaves_view a then begun r.waits.limit else r.waits
+waits_after word r steps.Join = begun r.waits.limit
 waits_after word r s = r.waits
 
 -- the member after a step, with the word that it saw, before and after the search
@@ -227,6 +234,15 @@ next_step r = step_of r r.place
 abbrev pub after_step : ℕ → Running → Running
 after_step word r = settled (took word r (next_step r))
 
+-- the member after a take: where it finds a letter, it joins and waits anew
+abbrev pub took_letter : Option (List Entry) → Running → Running
+took_letter None r = record r { place = turn_ends }
+took_letter (Some letter) r = record r {
+  replica = joined r.replica letter;
+  place = turn_ends;
+  waits = begun r.waits.limit;
+}
+
 -- the member after an append that failed: it stays where it is
 abbrev pub broken_off : LogWhy → Running → Running
 broken_off why r = record r { failed = Some why }
@@ -240,6 +256,8 @@ deed_of r (steps.Push j c) = deeds.Push (index_in r.replica j (me r.replica) c) 
 deed_of r steps.Append = deeds.Append
     (records.Entry (slice_index_or r.replica.history r.replica.logged (View 0 0 0)))
 deed_of r (steps.LogVote v) = deeds.Append (records.Vote (vote_of r.replica v))
+deed_of r (steps.Welcome j) = deeds.Give j
+deed_of r steps.Join = deeds.Take
 
 -- the next deed of the member
 abbrev pub deed : Running → Option End → Deed

@@ -1,5 +1,7 @@
 -- What a step makes of a replica and of the table, and when it may.
-use Rattle.std.specs.Prelude.{⊤, ◌≡◌, ℕ, ◌&&◌, ◌||◌, not, nat_lt, Bool, is_some, List, slice_index, slice_set}
+use Rattle.std.specs.Prelude.{⊤, ◌≡◌, ℕ, ◌&&◌, ◌||◌, not, nat_lt, true, false, Bool, Option, Some, is_some, List, slice_index, slice_set}
+use Rattle.dr_entry.specs.declared.entry.Entry.{Entry}
+use Rattle.dr_history.specs.History.{up_to_view}
 use Rattle.dr_history.specs.Members.{has}
 use Rattle.dr_rows.specs.Words.{own}
 use Rattle.dr_words.specs.declared.column.TheConstants.{BEAT_COLUMN}
@@ -7,10 +9,10 @@ use Rattle.dr_words.specs.Columns.{columns_of}
 use Rattle.dr_words.specs.Grown.{Grown}
 use Rattle.dr_words.specs.Layout.{word_index_of}
 use Rattle.dr_machine.specs.declared.step.Step.{Step}
-use Rattle.dr_machine.specs.declared.step.Step.TheVariants.{Do, Look, Push, Append, LogVote}
-use Rattle.dr_program.specs.Acts.{may, may_waiting, taken}
+use Rattle.dr_machine.specs.declared.step.Step.TheVariants.{Do, Look, Push, Append, LogVote, Welcome, Join}
+use Rattle.dr_program.specs.Acts.{is_outside_act, may, may_waiting, taken}
 use Rattle.dr_machine.specs.Effects.{one_more}
-use Rattle.dr_program.specs.Replica.{Replica, me, is_other, may_append, may_vote, looked, pushed, appended, voted}
+use Rattle.dr_program.specs.Replica.{Replica, me, is_inside, is_other, may_append, may_give, may_vote, looked, pushed, appended, gave, voted}
 
 -- another member of the view has a word of this column
 abbrev pub has_cell : Replica → ℕ → ℕ → Bool
@@ -21,13 +23,24 @@ abbrev pub is_free : Replica → Step → Bool
 is_free r (Do a) = may_waiting a || not (is_some r.pending)
 is_free r s = not (is_some r.pending)
 
--- the test of a step at a replica without an end, of which no vote waits, and at any
+-- a member that is none of its view begins turns, joins, or crashes, and does nothing else
+abbrev pub is_outside_step : Step → Bool
+is_outside_step (Do a) = is_outside_act a
+is_outside_step Join = true
+is_outside_step s = false
+
+-- the test of a step at a replica in its view without an end, of which no vote waits, and at any
+abbrev pub allows_inside : Replica → Step → Bool
+allows_inside r (Do a) = may r a
+allows_inside r (Look i c) = not (has r.suspects i) && has_cell r i c
+allows_inside r (Push j c) = has_cell r j c
+allows_inside r Append = may_append r
+allows_inside r (LogVote v) = may_vote r v
+allows_inside r (Welcome j) = may_give r j
+allows_inside r Join = not (is_inside r)
+
 abbrev pub allows : Replica → Step → Bool
-allows r (Do a) = may r a
-allows r (Look i c) = not (has r.suspects i) && has_cell r i c
-allows r (Push j c) = has_cell r j c
-allows r Append = may_append r
-allows r (LogVote v) = may_vote r v
+allows r s = (is_outside_step s || is_inside r) && allows_inside r s
 
 abbrev pub may_take : Replica → Step → Bool
 may_take r s = not (is_some r.end) && (is_free r s && allows r s)
@@ -62,14 +75,18 @@ sight table r (Look i c) = found table r i c
 sight table r (Push j c) = 0
 sight table r Append = 0
 sight table r (LogVote v) = 0
+sight table r (Welcome j) = 0
+sight table r Join = 0
 
--- the replica after the step, with the word that it saw
+-- the replica after the step, with the word that it saw. A join goes by the letter besides, and is apart
 abbrev pub stepped : ℕ → Replica → Step → Replica
 stepped word r (Do a) = taken r a
 stepped word r (Look i c) = looked r i c word
 stepped word r (Push j c) = pushed r j c
 stepped word r Append = appended r
 stepped word r (LogVote v) = voted r v
+stepped word r (Welcome j) = gave r j
+stepped word r Join = r
 
 -- the replica after the step over this table
 abbrev pub stepped_over : List ℕ → Replica → Step → Replica
@@ -86,3 +103,10 @@ stored table r (Look i c) = table
 stored table r (Push j c) = slice_set table (index_in r j (me r) c) (own r.rows c)
 stored table r Append = table
 stored table r (LogVote v) = table
+stored table r (Welcome j) = table
+stored table r Join = table
+
+-- the letters after the step: a welcome gives one
+abbrev pub stored_letters : List (Option (List Entry)) → Replica → Step → List (Option (List Entry))
+stored_letters letters r (Welcome j) = slice_set letters j (Some (up_to_view r.history))
+stored_letters letters r s = letters

@@ -4,7 +4,7 @@ use Rattle.dr_program.specs.declared.place.Part.{Part}
 use Rattle.dr_machine.specs.declared.event.Act.TheVariants as acts
 use Rattle.dr_program.specs.declared.place.Part.TheVariants as parts
 use Rattle.dr_program.specs.declared.place.Place.{Place}
-use Rattle.dr_program.specs.declared.place.TheConstants.{TURN}
+use Rattle.dr_program.specs.declared.place.TheConstants.{TURN, TURN_ENDS}
 
 -- the part with which a turn begins, and whether a part is it
 abbrev pub turn_begins : Part
@@ -23,6 +23,7 @@ abbrev pub rows_in : ℕ → Part → ℕ
 rows_in n parts.Look = n
 rows_in n parts.Receive = n
 rows_in n parts.Push = n
+rows_in n parts.Give = n
 rows_in n p = 1
 
 abbrev pub columns_in : ℕ → Part → ℕ
@@ -42,6 +43,10 @@ after n k p =
     if nat_lt (p.column + 1) (columns_in k (part_of p)) then record p { column = p.column + 1 }
     else (if nat_lt (p.row + 1) (rows_in n (part_of p)) then record p { row = p.row + 1; column = 0 }
     else record { part = if nat_lt (p.part + 1) (length TURN) then p.part + 1 else 0; row = 0; column = 0 })
+
+-- the place at which the end of a turn begins: the first one that a member comes to behind a take
+abbrev pub turn_ends : Place
+turn_ends = record { part = TURN_ENDS; row = 0; column = 0 }
 
 -- how many places these parts have
 unfoldable pub places_in : ℕ → ℕ → List Part → ℕ

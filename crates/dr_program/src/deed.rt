@@ -11,6 +11,10 @@ pub enum Deed {
     Act(usize, u64),
     /// It appends this record to its log.
     Append(Record),
+    /// It gives this late member the letter with which that one comes into the view.
+    Give { late: u8 },
+    /// It takes its letter, if there is one.
+    Take,
     /// It has ended, and does nothing more.
     Rest(End),
 }

@@ -1,6 +1,6 @@
 //! Laws of programs.
-ghost use Rattle.std.specs.Prelude.{◌≡◌, ℕ, ◌<◌, ◌≤◌, List, Option, [], ◌∷◌, ◌++◌};
-ghost use Rattle.dr_program.specs.declared.place.TheConstants.{PARTS, TURN};
+ghost use Rattle.std.specs.Prelude.{◌≡◌, ℕ, ◌<◌, ◌≤◌, List, Option, [], ◌∷◌, ◌++◌, Some, slice_get};
+ghost use Rattle.dr_program.specs.declared.place.TheConstants.{PARTS, TURN, TURN_ENDS};
 ghost use Rattle.dr_program.specs.declared.setup.Setup.{Setup};
 ghost use Rattle.dr_machine.specs.Group.{Group, IsGroup, roster};
 ghost use Rattle.dr_machine.specs.World.{opening_world};
@@ -30,11 +30,13 @@ pub fn programs_begin_at_the_opening()
         → IsSetup g turns m s → CanBegin s }
 {}
 
-/// The law of the turn: how many parts it has, and which, by their names in their order.
+/// The law of the turn: how many parts it has, and which, by their names in their order; and with which one the
+/// end of a turn begins.
 pub fn turn_law()
-    ensures count { PARTS ≡ 21 }
-    ensures parts { TURN ≡ Part.Look ∷ Part.Judge ∷ Part.Receive ∷ Part.Do Act.Send ∷ Part.Do Act.Null
+    ensures count { PARTS ≡ 23 }
+    ensures parts { TURN ≡ Part.Take ∷ Part.Look ∷ Part.Judge ∷ Part.Receive ∷ Part.Do Act.Send ∷ Part.Do Act.Null
         ∷ Part.Do Act.Deliver ∷ Part.Append ∷ Part.Do Act.Publish ∷ Part.Do Act.Report ∷ Part.Do Act.Mark
         ∷ Part.Vote ∷ Part.Do Act.Propose ∷ Part.Do Act.Accept ∷ Part.Do Act.Commit ∷ Part.Excluded
-        ∷ Part.Push ∷ Part.Crash ∷ Part.Done ∷ Part.Do Act.Finish ∷ Part.Spent ∷ Part.Do Act.Beat ∷ [] }
+        ∷ Part.Push ∷ Part.Crash ∷ Part.Done ∷ Part.Do Act.Finish ∷ Part.Give ∷ Part.Spent ∷ Part.Do Act.Beat ∷ [] }
+    ensures ends { slice_get TURN TURN_ENDS ≡ Some Part.Crash }
 {}

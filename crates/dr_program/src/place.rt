@@ -23,15 +23,23 @@ pub enum Part {
     Crash,
     /// The end of a member that is done.
     Done,
+    /// The letters for the newcomers of the view to which a member has gone on.
+    Give,
     /// The end of a member whose turns are spent.
     Spent,
+    /// The take of a late member that hasn't joined: where it finds a letter it does, and else its turn ends.
+    Take,
 }
 
 /// The number of parts of a turn.
-pub const PARTS: usize = 21;
+pub const PARTS: usize = 23;
+
+/// The number of the part with which the end of a turn begins.
+pub const TURN_ENDS: u8 = 17;
 
 /// The parts of a turn, in their order. With the last one the next turn begins.
 pub static TURN: [Part; PARTS] = [
+    Part::Take,
     Part::Look,
     Part::Judge,
     Part::Receive,
@@ -51,6 +59,7 @@ pub static TURN: [Part; PARTS] = [
     Part::Crash,
     Part::Done,
     Part::Do(Act::Finish),
+    Part::Give,
     Part::Spent,
     Part::Do(Act::Beat),
 ];

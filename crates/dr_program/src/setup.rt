@@ -31,6 +31,8 @@ pub struct Setup {
     pub age: u16,
     /// The members of View 0.
     pub members: Mask,
+    /// The late members, which are there, and in no view yet.
+    pub late: Mask,
     /// After how many turns a member ends, at least 1.
     pub turns: u32,
     /// After how many turns in which nothing new is seen of a member it is suspected; never, where

@@ -16,7 +16,7 @@ use Rattle.dr_machine.specs.World.{World}
 use Rattle.dr_machine.specs.Effects as effects
 use Rattle.dr_machine.specs.Effects.{one_more, entries_of, stamped, beats, delivers, appends, publishes, reports, marks}
 use Rattle.dr_program.specs.Replica.{Replica, item_of_place, sender_of_place, least_seen, acted, beaten, delivered, appended, published, reported, marked, ended}
-use Rattle.dr_program.specs.Reading.{world_of}
+use Rattle.dr_program.specs.Reading.{Shared, world_of}
 use Rattle.dr_program.proofs.Holdings.{Holding, held, holding_of, held_of, Changes}
 use Rattle.dr_program.proofs.OwnWords.{same_number, other_number}
 use Rattle.dr_refine.specs.Programs.{IsMember, acted_table}
@@ -37,7 +37,7 @@ beat_changes w m = record {
 }
 
 -- a turn begins
-pub beat_effect : (g : Group) (rs : List (Option Replica)) (table : List ℕ) (m : ℕ) (r : Replica)
+pub beat_effect : (g : Group) (rs : List (Option Replica)) (table : Shared) (m : ℕ) (r : Replica)
     → IsMember g rs table m r
     → world_of g (with_present rs m (acted (beaten r))) (acted_table g table m r)
     ≡ stamped (beats (world_of g rs table) m) m
@@ -45,7 +45,7 @@ beat_effect g rs table m r is =
     then_acted g rs table m (beaten r) (beats (world_of g rs table) m) (present_within rs m r is.there)
     (fits g rs table m r is) is.cells
     (replaced g rs table table m r (beaten r) (beats (world_of g rs table) m) beat_after is.there
-    (beat_changes (world_of g rs table) m) refl refl)
+    (beat_changes (world_of g rs table) m) refl refl refl)
 
 -- ---- ends
 
@@ -60,7 +60,7 @@ end_changes w m end = record {
 }
 
 -- a member ends
-pub end_effect : (g : Group) (rs : List (Option Replica)) (table : List ℕ) (m : ℕ) (r : Replica) (end : End)
+pub end_effect : (g : Group) (rs : List (Option Replica)) (table : Shared) (m : ℕ) (r : Replica) (end : End)
     → IsMember g rs table m r
     → world_of g (with_present rs m (acted (ended r end))) (acted_table g table m r)
     ≡ stamped (effects.ends (world_of g rs table) m end) m
@@ -68,7 +68,7 @@ end_effect g rs table m r end is =
     then_acted g rs table m (ended r end) (effects.ends (world_of g rs table) m end)
     (present_within rs m r is.there) (fits g rs table m r is) is.cells
     (replaced g rs table table m r (ended r end) (effects.ends (world_of g rs table) m end)
-    (end_after end) is.there (end_changes (world_of g rs table) m end) refl refl)
+    (end_after end) is.there (end_changes (world_of g rs table) m end) refl refl refl)
 
 -- ---- a delivery
 
@@ -92,7 +92,7 @@ item_shown n s x within =
     let test : nat_lt s n ≡ true = grind (arith, nat_tests, within) in rw test refl
 
 -- a place is delivered
-pub deliver_effect : (g : Group) (rs : List (Option Replica)) (table : List ℕ) (m : ℕ) (r : Replica)
+pub deliver_effect : (g : Group) (rs : List (Option Replica)) (table : Shared) (m : ℕ) (r : Replica)
     → IsMember g rs table m r
     → world_of g (with_present rs m (acted (delivered r))) (acted_table g table m r)
     ≡ stamped (delivers (world_of g rs table) m) m
@@ -108,7 +108,7 @@ deliver_effect g rs table m r is =
     (replaced g rs table table m r (delivered r) (delivers (world_of g rs table) m) deliver_after is.there
     (deliver_changes (world_of g rs table) m)
     (λ z. record (holding_of g r)
-    { history = r.history ++ entries_of r.history s (item z); next = r.next + 1; log = sym log z }) refl)
+    { history = r.history ++ entries_of r.history s (item z); next = r.next + 1; log = sym log z }) refl refl)
 
 -- ---- an append
 
@@ -132,19 +132,19 @@ next_front xs n within =
     ∙ ap (λ k. take (k + 1) xs) len
 
 -- an entry goes on the log
-pub append_effect : (g : Group) (rs : List (Option Replica)) (table : List ℕ) (m : ℕ) (r : Replica)
+pub append_effect : (g : Group) (rs : List (Option Replica)) (table : Shared) (m : ℕ) (r : Replica)
     → IsMember g rs table m r
     → world_of g (with_present rs m (appended r)) table ≡ appends (world_of g rs table) m
 append_effect g rs table m r is =
     let log = next_front r.history r.logged is.form.logged in
     replaced g rs table table m r (appended r) (appends (world_of g rs table) m) append_after is.there
     (append_changes (world_of g rs table) m)
-    (λ z. record (holding_of g r) { log = log z }) refl
+    (λ z. record (holding_of g r) { log = log z }) refl refl
 
 -- ---- the logged word, and the done word
 
 -- the logged word follows the log
-pub publish_effect : (g : Group) (rs : List (Option Replica)) (table : List ℕ) (m : ℕ) (r : Replica)
+pub publish_effect : (g : Group) (rs : List (Option Replica)) (table : Shared) (m : ℕ) (r : Replica)
     → IsMember g rs table m r
     → world_of g (with_present rs m (acted (published r))) (acted_table g table m r)
     ≡ stamped (publishes (world_of g rs table) m) m
@@ -159,7 +159,7 @@ publish_effect g rs table m r is =
     ∙ ap (effects.with_own (world_of g rs table) m LOGGED_COLUMN) (sym logged))
 
 -- the done word is set
-pub mark_effect : (g : Group) (rs : List (Option Replica)) (table : List ℕ) (m : ℕ) (r : Replica)
+pub mark_effect : (g : Group) (rs : List (Option Replica)) (table : Shared) (m : ℕ) (r : Replica)
     → IsMember g rs table m r
     → world_of g (with_present rs m (acted (marked r))) (acted_table g table m r)
     ≡ stamped (marks (world_of g rs table) m) m
@@ -187,7 +187,7 @@ report_changes w m = record {
 }
 
 -- more is known to be durable
-pub report_effect : (g : Group) (rs : List (Option Replica)) (table : List ℕ) (m : ℕ) (r : Replica)
+pub report_effect : (g : Group) (rs : List (Option Replica)) (table : Shared) (m : ℕ) (r : Replica)
     → IsMember g rs table m r
     → world_of g (with_present rs m (acted (reported r))) (acted_table g table m r)
     ≡ stamped (reports (world_of g rs table) m) m
@@ -199,4 +199,4 @@ report_effect g rs table m r is =
     (present_within rs m r is.there) (fits g rs table m r is) is.cells
     (replaced g rs table table m r (reported r) (reports (world_of g rs table) m) (report_after m) is.there
     (report_changes (world_of g rs table) m)
-    (λ z. record (holding_of g r) { durable = least z }) refl)
+    (λ z. record (holding_of g r) { durable = least z }) refl refl)

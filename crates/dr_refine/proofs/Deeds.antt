@@ -1,11 +1,15 @@
 -- The next deed of a running member is a step of the machine.
-use Rattle.std.proofs.Common.{◌≡◌, ◌⊎◌, refl, sym, ap, ◌∙◌, subst, ℕ, zero, suc, ◌||◌, Bool, true, false, inl, inr, if◌then◌else◌, List, [], ◌∷◌, map, arith}
+use Rattle.std.proofs.Common.{◌≡◌, refl, sym, ap, ◌∙◌, subst, ℕ, zero, suc, ◌||◌, Bool, true, false, ◌⊎◌, not, inl, inr, if◌then◌else◌, List, [], ◌∷◌, map}
 use Rattle.std.specs.Prelude.{Option, Some, None, is_some, option_map, slice_set}
 use Rattle.std.proofs.lemmas.List.{set-get_or}
+use Rattle.std.proofs.lemmas.Option.{same_Some}
 use Rattle.dr_program.proofs.Present.{present_map}
 use Rattle.std.proofs.lemmas.Bool.{and_from, and_parts}
 use Rattle.dr_entry.specs.declared.end.End.{End}
+use Rattle.dr_entry.specs.declared.entry.Entry.{Entry}
 use Rattle.dr_machine.specs.declared.step.Step.{Step}
+use Rattle.dr_machine.specs.declared.step.Step.TheVariants as steps
+use Rattle.dr_program.specs.declared.outcome.Outcome.TheVariants as outcomes
 use Rattle.dr_machine.specs.declared.event.Event.{Event}
 use Rattle.dr_machine.specs.Events.{event_of}
 use Rattle.dr_machine.specs.Events as events
@@ -13,18 +17,20 @@ use Rattle.dr_machine.specs.Group.{Group, IsGroup}
 use Rattle.dr_machine.specs.World.{World}
 use Rattle.dr_machine.specs.Acts.{CanTake, Guard, effect, effect_of}
 use Rattle.dr_machine.specs.Run.{ComesNext, ComesOfEvents, IsReached}
-use Rattle.dr_program.specs.Replica.{Replica}
+use Rattle.dr_program.specs.Replica.{Replica, is_inside}
 use Rattle.dr_program.specs.declared.outcome.Outcome.{Outcome}
-use Rattle.dr_program.specs.Steps.{allows, sight, stored}
-use Rattle.dr_program.specs.Running.{Running, after_step, applies, asks, moved, next_step, settle, settled, took}
+use Rattle.dr_program.specs.Steps.{allows, is_free, sight, stored, stored_letters}
+use Rattle.dr_program.specs.Running.{Running, after_step, applies, asks, moved, next_step, settle, settled, took, took_letter}
 use Rattle.dr_program.specs.Turn.{part_of}
-use Rattle.dr_program.specs.Program.{Program, Move, after_deed, comes_to, moved_by, next_sight, step_of, went}
-use Rattle.dr_program.specs.Reading.{step_by, step_due, world, world_of}
+use Rattle.dr_program.specs.Program.{Program, Move, after_deed, comes_to, letter_for, moved_by, next_sight, step_of, went}
+use Rattle.dr_program.specs.Net.{FindsNone}
+use Rattle.dr_program.specs.Reading.{Shared, step_by, step_due, table_of, world, world_of}
 use Rattle.dr_program.proofs.Waiting.{free_step}
 use Rattle.dr_machine.proofs.Events.{member_of_event, step_of_event}
 use Rattle.dr_machine.proofs.Runs.{events_more, reached_more, stays_next}
-use Rattle.dr_refine.specs.Programs.{IsMember, IsProgram}
-use Rattle.dr_refine.proofs.Tests.{step_effect, step_guard}
+use Rattle.dr_refine.specs.Programs.{AreLetters, IsMember, IsNoJoin, IsProgram, stored_in}
+use Rattle.dr_refine.proofs.Joins.{join_effect}
+use Rattle.dr_refine.proofs.Tests.{step_effect, step_guard, taken_guard}
 use Rattle.dr_program.specs.Presence.{present_at, with_present}
 
 -- ---- on to the next place
@@ -52,11 +58,11 @@ replicas_set (x ∷ rs) (suc m) r q e =
     ap (λ ps. option_map (λ (r : Running). r.replica) x ∷ ps) (replicas_set rs m r q e)
 
 -- the world after a deed that leaves the member as r, before it goes on to its next place
-pub settled_world : (g : Group) (rs : List (Option Running)) (cells : List ℕ) (m : ℕ) (r : Running)
-    → world g (record { members = with_present rs m (settled r); table = cells })
-    ≡ world_of g (with_present (replicas rs) m r.replica) cells
-settled_world g rs cells m r =
-    ap (λ qs. world_of g qs cells) (replicas_set rs m (settled r) r.replica (settle_replica _ r))
+pub settled_world : (g : Group) (rs : List (Option Running)) (table : Shared) (m : ℕ) (r : Running)
+    → world g (record { members = with_present rs m (settled r); table = table.words; letters = table.letters })
+    ≡ world_of g (with_present (replicas rs) m r.replica) table
+settled_world g rs table m r =
+    ap (λ qs. world_of g qs table) (replicas_set rs m (settled r) r.replica (settle_replica _ r))
 
 -- ---- the member of the replicas
 
@@ -68,10 +74,11 @@ replica_there p m r there = present_map (λ (x : Running). x.replica) p.members 
 -- a member of a program is one of its group
 pub program_member : (g : Group) (p : Program) (m : ℕ) (r : Running) → IsGroup g → IsProgram g p
     → present_at p.members m ≡ Some r
-    → IsMember g (replicas p.members) p.table m r.replica
+    → IsMember g (replicas p.members) (table_of p) m r.replica
 program_member g p m r group is there = record {
   group = group;
   cells = is.table;
+  posts = is.posts;
   there = replica_there p m r there;
   form = (is.form m r there).replica;
   of = is.of m r there;
@@ -93,53 +100,111 @@ due_allowed r due = (and_parts (asks r (part_of r.place) r.place.row r.place.col
 pub step_is : (p : Program) (e : Move) (r : Running) → present_at p.members e.member ≡ Some r
     → r.replica.end ≡ None
     → step_of p e ≡ record {
-      members = with_present p.members e.member (after_deed (next_sight p.table r) e.outcome r (next_step r));
+      members = with_present p.members e.member
+          (after_deed (next_sight p.table r) (letter_for p e.member) e.outcome r (next_step r));
       table = stored p.table r.replica (next_step r);
+      letters = stored_letters p.letters r.replica (next_step r);
     }
 step_is p e r there unended = ap (λ o. moved_by p o e) there ∙ ap (went p r e) unended
 
--- a deed that takes the step that is due is that step
+-- a deed other than a take that takes the step that is due is that step
 pub deed_step : (g : Group) (p : Program) (m : ℕ) (o : Outcome) (r : Running) → IsGroup g → IsProgram g p
-    → present_at p.members m ≡ Some r → r.replica.end ≡ None
-    → after_deed (next_sight p.table r) o r (next_step r) ≡ after_step (next_sight p.table r) r
+    → present_at p.members m ≡ Some r → r.replica.end ≡ None → IsNoJoin (next_step r)
+    → after_deed (next_sight p.table r) (letter_for p m) o r (next_step r) ≡ after_step (next_sight p.table r) r
     → IsStep g p (record { member = m; outcome = o }) (next_step r)
-deed_step g p m o r group is there unended takes =
+deed_step g p m o r group is there unended no_join takes =
     let member = program_member g p m r group is there in
     let may = due_allowed r ((is.form m r there).due unended) in (
-      ((step_guard g (replicas p.members) p.table m r.replica (next_step r) member unended).0
+      ((step_guard g (replicas p.members) (table_of p) m r.replica (next_step r) member unended no_join).0
           (and_from _ _ (free_step r (is.form m r there).free) may)).0,
       ap (world g) (step_is p (record { member = m; outcome = o }) r there unended)
-          ∙ ap (λ x. world g (record
-          { members = with_present p.members m x; table = stored p.table r.replica (next_step r) })) takes
-          ∙ settled_world g p.members (stored p.table r.replica (next_step r)) m
+          ∙ ap (λ x. world g (record {
+            members = with_present p.members m x;
+            table = stored p.table r.replica (next_step r);
+            letters = stored_letters p.letters r.replica (next_step r);
+          })) takes
+          ∙ settled_world g p.members (stored_in (table_of p) r.replica (next_step r)) m
           (took (next_sight p.table r) r (next_step r))
-          ∙ step_effect g (replicas p.members) p.table m r.replica (next_step r) member may,
+          ∙ step_effect g (replicas p.members) (table_of p) m r.replica (next_step r) member may no_join,
     )
 
--- what comes to a step is the step that is due, and is taken
-came_to : (table : List ℕ) (o : Outcome) (r : Running) (due s : Step) → comes_to (Some due) o ≡ Some s
-    → (due ≡ s) × (after_deed (sight table r.replica due) o r due ≡ after_step (sight table r.replica due) r)
-came_to table o r due s came = grind (arith, came)
+-- a take that finds a letter is a join
+take_step : (g : Group) (p : Program) (m : ℕ) (o : Outcome) (r : Running) (letter : List Entry) → IsGroup g
+    → IsProgram g p → AreLetters p → present_at p.members m ≡ Some r → r.replica.end ≡ None
+    → next_step r ≡ steps.Join → letter_for p m ≡ Some letter
+    → IsStep g p (record { member = m; outcome = o }) steps.Join
+take_step g p m o r letter group is letters there unended join found =
+    let member = program_member g p m r group is there in
+    let due : allows r.replica steps.Join ≡ true =
+    subst (λ s. allows r.replica s ≡ true) join (due_allowed r ((is.form m r there).due unended)) in
+    let free : is_free r.replica steps.Join ≡ true =
+    subst (λ s. is_free r.replica s ≡ true) join (free_step r (is.form m r there).free) in
+    let outside : is_inside r.replica ≡ false = none_inside (is_inside r.replica) due in (
+      ((taken_guard g (replicas p.members) (table_of p) m r.replica steps.Join member unended).0
+          (and_from _ _ free due, (letter, found))).0,
+      ap (world g) (step_is p (record { member = m; outcome = o }) r there unended)
+          ∙ ap (λ s. world g (record {
+            members = with_present p.members m (after_deed (sight p.table r.replica s) (letter_for p m) o r s);
+            table = stored p.table r.replica s;
+            letters = stored_letters p.letters r.replica s;
+          })) join
+          ∙ ap (λ l. world g (record {
+            members = with_present p.members m (settled (took_letter l r));
+            table = p.table;
+            letters = p.letters;
+          })) found
+          ∙ settled_world g p.members (table_of p) m (took_letter (Some letter) r)
+          ∙ join_effect g (replicas p.members) (table_of p) m r.replica letter member outside found
+          (letters m r letter there outside found),
+    )
+  where
+    none_inside : (b : Bool) → not b ≡ true → b ≡ false
+    none_inside true e = absurd (cc e)
+    none_inside false e = refl
+
+-- what comes to a step is the step that is due, and is taken, unless it is a join
+abbrev CameTo : List ℕ → Option (List Entry) → Outcome → Running → Step → Step → Type 0
+CameTo table letter o r due s =
+    ((due ≡ s) × IsNoJoin due
+    × (after_deed (sight table r.replica due) letter o r due ≡ after_step (sight table r.replica due) r))
+    ⊎ ((due ≡ steps.Join) × (s ≡ steps.Join) × ((l : List Entry) × (letter ≡ Some l)))
+
+came_to : (table : List ℕ) (letter : Option (List Entry)) (o : Outcome) (r : Running) (due s : Step)
+    → comes_to letter (Some due) o ≡ Some s → CameTo table letter o r due s
+came_to table letter o r (steps.Do a) s came = inl (same_Some (steps.Do a) s came, tt, refl)
+came_to table letter o r (steps.Look i c) s came = inl (same_Some (steps.Look i c) s came, tt, refl)
+came_to table letter o r (steps.Push j c) s came = inl (same_Some (steps.Push j c) s came, tt, refl)
+came_to table letter o r (steps.Welcome j) s came = inl (same_Some (steps.Welcome j) s came, tt, refl)
+came_to table letter outcomes.Ok r steps.Append s came = inl (same_Some steps.Append s came, tt, refl)
+came_to table letter (outcomes.Failed why) r steps.Append s came = absurd (cc came)
+came_to table letter outcomes.Ok r (steps.LogVote v) s came = inl (same_Some (steps.LogVote v) s came, tt, refl)
+came_to table letter (outcomes.Failed why) r (steps.LogVote v) s came = absurd (cc came)
+came_to table None o r steps.Join s came = absurd (cc came)
+came_to table (Some l) o r steps.Join s came = inr (refl, sym (same_Some steps.Join s came), (l, refl))
 
 -- by the outcome
 outcome_step : (g : Group) (p : Program) (m : ℕ) (r : Running) (o : Outcome) (s : Step) → IsGroup g
-    → IsProgram g p → present_at p.members m ≡ Some r
-    → r.replica.end ≡ None → comes_to (Some (next_step r)) o ≡ Some s
+    → IsProgram g p → AreLetters p → present_at p.members m ≡ Some r
+    → r.replica.end ≡ None → comes_to (letter_for p m) (Some (next_step r)) o ≡ Some s
     → IsStep g p (record { member = m; outcome = o }) s
-outcome_step g p m r o s group is there unended came =
-    let taken = came_to p.table o r (next_step r) s came in
-    subst (IsStep g p (record { member = m; outcome = o })) taken.0
-    (deed_step g p m o r group is there unended taken.1)
+outcome_step g p m r o s group is letters there unended came =
+    elim (came_to p.table (letter_for p m) o r (next_step r) s came) [
+      | inl taken ↦ subst (IsStep g p (record { member = m; outcome = o })) taken.0
+          (deed_step g p m o r group is there unended taken.1 taken.2)
+      | inr join ↦ subst (IsStep g p (record { member = m; outcome = o })) (sym join.1)
+          (take_step g p m o r join.2.0 group is letters there unended join.0 join.2.1)
+    ]
 
 -- the deed of a member is the step of its place
 pub deed_is_step : (g : Group) (p : Program) (e : Move) (r : Running) (s : Step) → IsGroup g
-    → IsProgram g p
-    → present_at p.members e.member ≡ Some r → step_by r e.outcome ≡ Some s → IsStep g p e s
-deed_is_step g p e r s group is there named = by r.replica.end refl named
+    → IsProgram g p → AreLetters p
+    → present_at p.members e.member ≡ Some r → step_by (letter_for p e.member) r e.outcome ≡ Some s
+    → IsStep g p e s
+deed_is_step g p e r s group is letters there named = by r.replica.end refl named
   where
-    by : (o : Option End) → r.replica.end ≡ o → comes_to (step_due r o) e.outcome ≡ Some s
+    by : (o : Option End) → r.replica.end ≡ o → comes_to (letter_for p e.member) (step_due r o) e.outcome ≡ Some s
         → IsStep g p e s
-    by None unended came = outcome_step g p e.member r e.outcome s group is there unended came
+    by None unended came = outcome_step g p e.member r e.outcome s group is letters there unended came
     by (Some x) ended came = absurd (cc)
 
 -- a member at rest changes nothing
@@ -151,32 +216,60 @@ rest_changes_nothing p e r there rests = by r.replica.end refl rests
     by None ended t = absurd (cc)
     by (Some x) ended t = ap (λ o. moved_by p o e) there ∙ ap (went p r e) ended
 
--- what comes to no step is an append that failed: it leaves the replica and the table
-fails_alone : (table : List ℕ) (o : Outcome) (r : Running) (due : Step) → comes_to (Some due) o ≡ None
-    → ((after_deed (sight table r.replica due) o r due).replica ≡ r.replica)
-    × (stored table r.replica due ≡ table)
-fails_alone table o r due none = grind (arith, none)
+-- what comes to no step is an append that failed, or a take that finds no letter: it leaves the replica and the
+-- table
+fails_alone : (table : List ℕ) (letters : List (Option (List Entry))) (letter : Option (List Entry))
+    (o : Outcome) (r : Running) (due : Step) → comes_to letter (Some due) o ≡ None
+    → ((after_deed (sight table r.replica due) letter o r due).replica ≡ r.replica)
+    × (stored table r.replica due ≡ table) × (stored_letters letters r.replica due ≡ letters)
+fails_alone table letters letter outcomes.Ok r steps.Append none = absurd (cc none)
+fails_alone table letters letter (outcomes.Failed why) r steps.Append none = (refl, refl, refl)
+fails_alone table letters letter outcomes.Ok r (steps.LogVote v) none = absurd (cc none)
+fails_alone table letters letter (outcomes.Failed why) r (steps.LogVote v) none = (refl, refl, refl)
+fails_alone table letters None o r steps.Join none = (settle_replica _ (took_letter None r), refl, refl)
+fails_alone table letters (Some l) o r steps.Join none = absurd (cc none)
+fails_alone table letters letter o r (steps.Do a) none = absurd (cc none)
+fails_alone table letters letter o r due none = absurd (cc none)
 
 -- a move that is no step leaves the world
 pub no_step_no_change : (g : Group) (p : Program) (e : Move) (r : Running) → present_at p.members e.member
-    ≡ Some r → step_by r e.outcome ≡ None
+    ≡ Some r → step_by (letter_for p e.member) r e.outcome ≡ None
     → world g (step_of p e) ≡ world g p
 no_step_no_change g p e r there named = by r.replica.end refl named
   where
-    after : Running
-    after = after_deed (next_sight p.table r) e.outcome r (next_step r)
+    letter : Option (List Entry)
+    letter = letter_for p e.member
 
-    by : (o : Option End) → r.replica.end ≡ o → comes_to (step_due r o) e.outcome ≡ None
+    after : Running
+    after = after_deed (next_sight p.table r) letter e.outcome r (next_step r)
+
+    by : (o : Option End) → r.replica.end ≡ o → comes_to letter (step_due r o) e.outcome ≡ None
         → world g (step_of p e) ≡ world g p
     by None unended none =
-        let alone = fails_alone p.table e.outcome r (next_step r) none in
+        let alone = fails_alone p.table p.letters letter e.outcome r (next_step r) none in
         ap (world g) (step_is p e r there unended)
-        ∙ ap (λ cells. world g (record
-        { members = with_present p.members e.member after; table = cells })) alone.1
-        ∙ ap (λ rs. world_of g rs p.table) (replicas_set p.members e.member after r.replica alone.0
+        ∙ ap (λ cells. world g (record {
+          members = with_present p.members e.member after;
+          table = cells;
+          letters = stored_letters p.letters r.replica (next_step r);
+        })) alone.1
+        ∙ ap (λ posts. world g (record {
+          members = with_present p.members e.member after;
+          table = p.table;
+          letters = posts;
+        })) alone.2
+        ∙ ap (λ rs. world_of g rs (table_of p)) (replicas_set p.members e.member after r.replica alone.0
         ∙ sym (ap (slice_set (replicas p.members) e.member) (replica_there p e.member r there))
         ∙ set-get_or (replicas p.members) e.member None)
     by (Some x) ended none = ap (world g) (rest_changes_nothing p e r there (ap is_some ended))
+
+-- nor does a take that doesn't find the letter that was given
+pub missed_stays : (g : Group) (p q : Program) → FindsNone p q → world g q ≡ world g p
+missed_stays g p q t = ap (world g) t.made
+    ∙ settled_world g p.members (table_of p) t.number (took_letter None t.member)
+    ∙ ap (λ rs. world_of g rs (table_of p)) (sym (ap (slice_set (replicas p.members) t.number)
+    (replica_there p t.number t.member t.there))
+    ∙ set-get_or (replicas p.members) t.number None)
 
 -- a step of a member is an event
 is_event : (g : Group) (w after : World) (m : ℕ) (s : Step) → CanTake g w m s → after
@@ -194,20 +287,20 @@ taken_reached g w after m s reached can e =
     reached_more g w after (event_of m s) reached (inl (is_event g w after m s can e))
 
 -- the world after a move is what an event makes of the one before, or that one still
-pub step_comes : (g : Group) (p : Program) (e : Move) → IsGroup g → IsProgram g p
+pub step_comes : (g : Group) (p : Program) (e : Move) → IsGroup g → IsProgram g p → AreLetters p
     → ((event : Event) × Guard g (world g p) event
     × (world g (step_of p e) ≡ effect g (world g p) event))
     ⊎ (world g (step_of p e) ≡ world g p)
-step_comes g p e group is = by (present_at p.members e.member) refl
+step_comes g p e group is letters = by (present_at p.members e.member) refl
   where
     named : (r : Running) → present_at p.members e.member ≡ Some r → (x : Option Step)
-        → step_by r e.outcome ≡ x
+        → step_by (letter_for p e.member) r e.outcome ≡ x
         → ((event : Event) × Guard g (world g p) event
         × (world g (step_of p e) ≡ effect g (world g p) event))
         ⊎ (world g (step_of p e) ≡ world g p)
     named r there None none = inr (no_step_no_change g p e r there none)
     named r there (Some s) some =
-        let happened = deed_is_step g p e r s group is there some in
+        let happened = deed_is_step g p e r s group is letters there some in
         let event = is_event g (world g p) (world g (step_of p e)) e.member s happened.0 happened.1 in
         inl (event_of e.member s, event.0, event.1)
 
@@ -216,12 +309,12 @@ step_comes g p e group is = by (present_at p.members e.member) refl
         × (world g (step_of p e) ≡ effect g (world g p) event))
         ⊎ (world g (step_of p e) ≡ world g p)
     by None none = inr (ap (λ x. world g (moved_by p x e)) none)
-    by (Some r) there = named r there (step_by r e.outcome) refl
+    by (Some r) there = named r there (step_by (letter_for p e.member) r e.outcome) refl
 
 -- so it comes next
 pub step_follows : (g : Group) (p : Program) (e : Move) (us : List World) → IsGroup g → IsProgram g p
-    → ComesNext g us (world g p) (world g (step_of p e))
-step_follows g p e us group is = by (step_comes g p e group is)
+    → AreLetters p → ComesNext g us (world g p) (world g (step_of p e))
+step_follows g p e us group is letters = by (step_comes g p e group is letters)
   where
     by : ((event : Event) × Guard g (world g p) event
         × (world g (step_of p e) ≡ effect g (world g p) event))
@@ -231,14 +324,15 @@ step_follows g p e us group is = by (step_comes g p e group is)
     by (inr same) = subst (ComesNext g us (world g p)) (sym same) (stays_next g us (world g p))
 
 -- it is reached, where the world before it is
-pub step_reached : (g : Group) (p : Program) (e : Move) → IsGroup g → IsProgram g p
+pub step_reached : (g : Group) (p : Program) (e : Move) → IsGroup g → IsProgram g p → AreLetters p
     → IsReached g (world g p) → IsReached g (world g (step_of p e))
-step_reached g p e group is (us, way) = (world g p ∷ us, (way, step_follows g p e us group is))
+step_reached g p e group is letters (us, way) =
+    (world g p ∷ us, (way, step_follows g p e us group is letters))
 
 -- and comes of events, where that one does
-pub step_events : (g : Group) (p : Program) (e : Move) → IsGroup g → IsProgram g p
+pub step_events : (g : Group) (p : Program) (e : Move) → IsGroup g → IsProgram g p → AreLetters p
     → ComesOfEvents g (world g p) → ComesOfEvents g (world g (step_of p e))
-step_events g p e group is come = by (step_comes g p e group is)
+step_events g p e group is letters come = by (step_comes g p e group is letters)
   where
     by : ((event : Event) × Guard g (world g p) event
         × (world g (step_of p e) ≡ effect g (world g p) event))

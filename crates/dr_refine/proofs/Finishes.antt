@@ -17,7 +17,7 @@ use Rattle.dr_history.specs.Order.{messages_from}
 use Rattle.dr_history.specs.Places.{rest_places}
 use Rattle.dr_rows.specs.Words.{Words, begun, own, with_own}
 use Rattle.dr_words.specs.declared.column.TheConstants.{BEAT_COLUMN, LOGGED_COLUMN}
-use Rattle.dr_words.specs.Masks.{IsInRoster, without}
+use Rattle.dr_words.specs.Masks.{IsInRoster, next_members}
 use Rattle.dr_words.proofs.Tests.{all_members, each_member}
 use Rattle.dr_machine.specs.Writes.{at₂, at₃}
 use Rattle.dr_machine.specs.Group.{Group, roster}
@@ -25,8 +25,8 @@ use Rattle.dr_machine.specs.Guards.{CanFinish}
 use Rattle.dr_machine.specs.World.{World, items_received, no_value}
 use Rattle.dr_machine.specs.Effects as effects
 use Rattle.dr_machine.specs.Effects.{committed_value, entries_of, finishes, finishes_by, one_more, stamped, stamped_in}
-use Rattle.dr_program.specs.Replica.{LeftView, Replica, me, acted, count, finished, finished_by, finished_history, item_of_place, left_now, may_end, may_finish, sender_of_place, members_in_view, with_place}
-use Rattle.dr_program.specs.Reading.{kept_word, nothing_left, world_of}
+use Rattle.dr_program.specs.Replica.{LeftView, Replica, me, acted, count, finished, finished_by, finished_history, item_of_place, left_now, may_end, may_finish, nothing_left, sender_of_place, members_in_view, with_place}
+use Rattle.dr_program.specs.Reading.{Shared, kept_word, world_of}
 use Rattle.dr_program.proofs.Finishing.{finished_more}
 use Rattle.dr_program.proofs.Holdings.{Holding, held, holding_of, held_of, Changes}
 use Rattle.dr_program.proofs.Opening.{copy_at, first_own, first_seen}
@@ -43,7 +43,7 @@ use Rattle.dr_program.proofs.Present.{present_within, present_set}
 -- ---- when it may
 
 -- it ends its view exactly where that may come, and it has room
-pub finish_guard : (g : Group) (rs : List (Option Replica)) (table : List ℕ) (m : ℕ) (r : Replica)
+pub finish_guard : (g : Group) (rs : List (Option Replica)) (table : Shared) (m : ℕ) (r : Replica)
     → IsMember g rs table m r → IsIdle r
     → (may_finish r r.committed ≡ true)
     ↔ (CanFinish g (world_of g rs table) m × (length (finished r).history ≤ r.room)
@@ -166,14 +166,16 @@ abbrev history_from : Group → Value → Holding → List Entry
 history_from g x h =
     fold (place_from h) h.history (rest_places
     (map (λ s. slice_index x.trim s) (members_of h.members)) h.next)
-    ++ View g.opening.age (h.view + 1) (without h.members x.leavers) ∷ []
+    ++ View g.opening.age (h.view + 1) (next_members h.members x.leavers) ∷ []
 
 abbrev finish_after : Group → ℕ → Value → Holding → Holding
 finish_after g m x h = record h {
   view = h.view + 1;
   own = at₂ h.own (h.view + 1) LOGGED_COLUMN (length h.log);
   history = history_from g x h;
-  members = without h.members x.leavers;
+  members = next_members h.members x.leavers;
+  came_from = h.members;
+  given = 0;
   suspects = 0;
   promise = 0;
   tag = 0;
@@ -216,12 +218,12 @@ pub record MayGoOn (g : Group) (m : ℕ) (r : Replica) : Type 0 where
   pub logged : r.logged ≤ length r.history
 
 -- the world of a member that goes on
-pub finish_world : (g : Group) (rs : List (Option Replica)) (table : List ℕ) (m : ℕ) (r : Replica) (x : Value)
+pub finish_world : (g : Group) (rs : List (Option Replica)) (table : Shared) (m : ℕ) (r : Replica) (x : Value)
     → present_at rs m ≡ Some r → MayGoOn g m r
     → world_of g (with_present rs m (finished_by r x)) table ≡ finishes_by g (world_of g rs table) m x
 finish_world g rs table m r x there f =
     replaced g rs table table m r (finished_by r x) (finishes_by g (world_of g rs table) m x)
-    (finish_after g m x) there (finish_changes g (world_of g rs table) m x) same refl
+    (finish_after g m x) there (finish_changes g (world_of g rs table) m x) same refl refl
   where
     q : Replica
     q = finished_by r x
@@ -246,10 +248,10 @@ finish_world g rs table m r x there f =
 
     history : history_from g x (holding_of g r) ≡ finished_history r x
     history = ap (λ add. fold add r.history (rest_places (map (λ s. slice_index x.trim s) (members_in_view r)) r.next)
-        ++ View g.opening.age (r.view + 1) (without r.members x.leavers) ∷ []) places
+        ++ View g.opening.age (r.view + 1) (next_members r.members x.leavers) ∷ []) places
         ∙ ap (λ age. fold (with_place r) r.history
         (rest_places (map (λ s. slice_index x.trim s) (members_in_view r)) r.next)
-        ++ View age (r.view + 1) (without r.members x.leavers) ∷ []) (sym f.age)
+        ++ View age (r.view + 1) (next_members r.members x.leavers) ∷ []) (sym f.age)
 
     log : take r.logged (finished_history r x) ≡ take r.logged r.history
     log =
@@ -352,7 +354,7 @@ stamped_first g w m x =
     }
 
 -- it ends its view
-pub finish_effect : (g : Group) (rs : List (Option Replica)) (table : List ℕ) (m : ℕ) (r : Replica)
+pub finish_effect : (g : Group) (rs : List (Option Replica)) (table : Shared) (m : ℕ) (r : Replica)
     → IsMember g rs table m r
     → world_of g (with_present rs m (finished (acted r))) (acted_table g table m r)
     ≡ stamped_in (finishes g (world_of g rs table) m) m ((world_of g rs table).past.view m)
@@ -367,7 +369,7 @@ finish_effect g rs table m r is =
     w : World
     w = world_of g rs table
 
-    cells : List ℕ
+    cells : Shared
     cells = acted_table g table m r
 
     x : Value
@@ -391,7 +393,7 @@ finish_effect g rs table m r is =
     value = ap (λ h. unwrap_or h.committed no_value) (held_of g rs table m r is.there)
 
 -- so there is room for it, where its history and its own messages there keep within what the replica may hold
-pub finish_room : (g : Group) (rs : List (Option Replica)) (table : List ℕ) (m : ℕ) (r : Replica)
+pub finish_room : (g : Group) (rs : List (Option Replica)) (table : Shared) (m : ℕ) (r : Replica)
     → IsMember g rs table m r → (can : CanFinish g (world_of g rs table) m)
     → length ((stamped_in (finishes g (world_of g rs table) m) m
     ((world_of g rs table).past.view m)).past.history m) ≤ r.room

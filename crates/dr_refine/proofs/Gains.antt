@@ -19,7 +19,7 @@ use Rattle.dr_machine.specs.Group.{Group, roster}
 use Rattle.dr_machine.specs.World.{World}
 use Rattle.dr_machine.specs.Effects.{gains}
 use Rattle.dr_program.specs.Replica.{Replica, count, item, gained, greatest, members_in_view}
-use Rattle.dr_program.specs.Reading.{kept_count, kept_word, world_of}
+use Rattle.dr_program.specs.Reading.{Shared, kept_count, kept_word, world_of}
 use Rattle.dr_program.proofs.Holdings.{Holding, held, holding_of, Changes}
 use Rattle.dr_program.proofs.OwnWords.{same_number, other_number, own_with}
 use Rattle.dr_refine.proofs.Members.{Fits, fits_own, replaced, seen_kept}
@@ -135,12 +135,12 @@ gained_items g r s x may = fun_ext λ t. fun_ext λ l. item_written
     may.items may.few may.sender (omega (arith, within, may.roster)))
 
 -- an item more of a replica is one more in its world
-pub gained_world : (g : Group) (rs : List (Option Replica)) (table : List ℕ) (m : ℕ) (r : Replica) (s : ℕ)
+pub gained_world : (g : Group) (rs : List (Option Replica)) (table : Shared) (m : ℕ) (r : Replica) (s : ℕ)
     (item : Item) → present_at rs m ≡ Some r → Fits g m r.rows r.view → MayGain g r s
     → world_of g (with_present rs m (gained r s item)) table ≡ gains (world_of g rs table) m s item
 gained_world g rs table m r s x there f may =
     replaced g rs table table m r (gained r s x) (gains (world_of g rs table) m s x) (gain_after s x) there
-    (gain_changes (world_of g rs table) m s x) same refl
+    (gain_changes (world_of g rs table) m s x) same refl refl
   where
     counts : ◌≡◌ {A = ℕ → ℕ} (slice_index (slice_set r.counts s (count r s + 1)))
         (at (slice_index r.counts) s (count r s + 1))

@@ -1,5 +1,5 @@
 -- A replica may act exactly where the event may come.
-use Rattle.std.proofs.Common.{◌≡◌, ◌≢◌, refl, sym, ap, ◌∙◌, ◌↔◌, subst, ℕ, ◌+◌, ◌-◌, ◌^◌, ◌<◌, ◌≤◌, ◌==◌, ◌&&◌, inl, inr, not, suc, ◌*◌, Bool, true, false, List, [], ◌∷◌, length, slice_index, arith, le_trans}
+use Rattle.std.proofs.Common.{◌≡◌, ◌≢◌, refl, sym, ap, ◌∙◌, ◌↔◌, subst, ℕ, ◌+◌, ◌-◌, ◌^◌, ◌<◌, ◌≤◌, ◌==◌, ◌&&◌, ◌||◌, inl, inr, not, suc, ◌*◌, Bool, true, false, List, [], ◌∷◌, length, slice_index, arith, le_trans}
 use Rattle.std.proofs.Math.Path.{fun_ext}
 use Rattle.dr_entry.specs.declared.entry.Item.{Item}
 use Rattle.std.specs.Prelude.{Option, Some, None, nat_lt, is_some, IsSome}
@@ -13,7 +13,7 @@ use Rattle.dr_entry.specs.declared.end.End.TheVariants.{Done, Suspected, Exclude
 use Rattle.dr_entry.specs.declared.record.Value.{Value}
 use Rattle.dr_history.specs.Members.{has, members_of}
 use Rattle.dr_history.specs.History.{messages_in}
-use Rattle.dr_history.specs.Order.{messages_from}
+use Rattle.dr_history.specs.Order.{MayJoin, messages_from}
 use Rattle.dr_ring.specs.Slots.{IsFree, is_free, IsReady, slot_of, slot_column}
 use Rattle.dr_ring.proofs.Freedom.{is_free-true, IsFree-from_test}
 use Rattle.dr_ring.proofs.Readiness.{ready_test}
@@ -21,50 +21,71 @@ use Rattle.dr_rows.specs.Words.{own, seen}
 use Rattle.dr_words.specs.declared.column.TheConstants.{SUSPECTED_COLUMN, RECEIVED_COLUMN, LOGGED_COLUMN, DONE_COLUMN}
 use Rattle.dr_words.specs.Columns.{recv_column}
 use Rattle.dr_words.specs.Masks.{IsInRoster, without}
+use Rattle.dr_machine.proofs.Presence.{in_roster}
 use Rattle.dr_machine.specs.Group.{Group, roster, columns}
 use Rattle.dr_machine.specs.World.{World, items_received, shown}
 use Rattle.dr_machine.specs.Guards as guards
-use Rattle.dr_machine.specs.Guards.{IsRunning, MayChoose, IsOther, IsFault, CanBeat, CanLook, CanPush, CanSend, CanNull, CanReceive, CanDeliver, CanAppend, CanPublish, CanReport, CanMark, CanSuspect, CanHalt, CanCrash, HasRoom, IsBehind, IsUnwedged, IsDue, IsDone, IsExcluded, IsSuspectedBy, IsMinority, seen_slot, unsuspected_of}
-use Rattle.dr_program.specs.Replica.{Replica, me, is_other, count, greatest, least_seen, ready_item, next_index, holds_all, all_done, is_behind, is_wedged, is_due, is_named, has_majority, unsuspected, members_in_view, may_receive, may_send, may_null, may_deliver, may_append, may_publish, may_report, may_mark, may_suspect}
-use Rattle.dr_program.specs.Reading.{world_of}
+use Rattle.dr_machine.specs.Guards.{IsInView, IsNamable, IsRunning, MayChoose, MayTurn, IsOther, IsFault, CanBeat, CanLook, CanPush, CanSend, CanNull, CanReceive, CanDeliver, CanAppend, CanPublish, CanReport, CanMark, CanSuspect, CanHalt, CanCrash, HasRoom, IsBehind, IsUnwedged, IsDue, IsDone, IsExcluded, IsSuspectedBy, IsMinority, seen_slot, unsuspected_of}
+use Rattle.dr_suspect.specs.Wishes.{is_silent, may_wish}
+use Rattle.dr_program.specs.Replica.{Replica, me, is_inside, is_other, count, greatest, least_seen, ready_item, next_index, holds_all, all_done, is_behind, is_wedged, is_due, is_named, has_majority, unsuspected, members_in_view, may_receive, may_send, may_null, may_deliver, may_append, may_publish, may_report, may_mark, may_suspect}
+use Rattle.dr_program.specs.Reading.{Shared, world_of}
 use Rattle.dr_program.proofs.Holdings.{Holding, held_of}
 use Rattle.dr_program.proofs.Least.{received_small}
 use Rattle.dr_program.proofs.OwnWords.{same_number, other_number}
 use Rattle.dr_refine.specs.Programs.{IsMember}
-use Rattle.dr_refine.proofs.Members.{fits, inside, shown_seen, own_shown}
+use Rattle.dr_refine.proofs.Members.{inside, shown_seen, own_shown}
 use Rattle.dr_words.proofs.Tests.{all_members, each_member}
 use Rattle.dr_refine.proofs.Views.{below_least}
+use Rattle.dr_refine.proofs.Wishes.{late_test, silent_test}
 
 -- ---- the member
 
--- it has no end, and no vote of it waits
+-- it has no end, no vote of it waits, and it is in its view
 abbrev pub IsIdle : Replica → Type 0
-IsIdle r = (r.end ≡ None) × (r.pending ≡ None)
+IsIdle r = (r.end ≡ None) × (r.pending ≡ None) × (is_inside r ≡ true)
 
 -- a replica without an end is a member without one
-pub running : (g : Group) (rs : List (Option Replica)) (table : List ℕ) (m : ℕ) (r : Replica)
+pub running : (g : Group) (rs : List (Option Replica)) (table : Shared) (m : ℕ) (r : Replica)
     → IsMember g rs table m r → r.end ≡ None → IsRunning g (world_of g rs table) m
 running g rs table m r is alive = record {
   present = is.of.present;
   running = ap (λ h. h.end) (held_of g rs table m r is.there) ∙ alive;
 }
 
+-- and is in its view exactly where the world says so
+pub in_view_test : (g : Group) (rs : List (Option Replica)) (table : Shared) (m : ℕ) (r : Replica)
+    → IsMember g rs table m r → (is_inside r ≡ true) ↔ IsInView (world_of g rs table) m
+in_view_test g rs table m r is =
+    let members : (world_of g rs table).members m ≡ r.members = ap (λ h. h.members) (held_of g rs table m r is.there) in (
+      λ e. rw (members, ← is.of.number) e,
+      λ there. rw is.of.number (sym (ap (λ k. has k m) members) ∙ there),
+    )
+
+-- it may begin a turn where no vote of it waits
+pub may_turn : (g : Group) (rs : List (Option Replica)) (table : Shared) (m : ℕ) (r : Replica)
+    → IsMember g rs table m r → r.end ≡ None → r.pending ≡ None → MayTurn g (world_of g rs table) m
+may_turn g rs table m r is alive idle = record {
+  alive = running g rs table m r is alive;
+  idle = ap (λ h. h.pending) (held_of g rs table m r is.there) ∙ idle;
+}
+
 -- and may take an event of its own choice
-pub may_choose : (g : Group) (rs : List (Option Replica)) (table : List ℕ) (m : ℕ) (r : Replica)
+pub may_choose : (g : Group) (rs : List (Option Replica)) (table : Shared) (m : ℕ) (r : Replica)
     → IsMember g rs table m r → IsIdle r → MayChoose g (world_of g rs table) m
 may_choose g rs table m r is free = record {
   alive = running g rs table m r is free.0;
   idle = ap (λ h. h.pending) (held_of g rs table m r is.there) ∙ free.1;
+  inside = (in_view_test g rs table m r is).0 free.2;
 }
 
 -- where it may, no vote waits
-pub no_vote_waits : (g : Group) (rs : List (Option Replica)) (table : List ℕ) (m : ℕ) (r : Replica)
-    → IsMember g rs table m r → MayChoose g (world_of g rs table) m → r.pending ≡ None
+pub no_vote_waits : (g : Group) (rs : List (Option Replica)) (table : Shared) (m : ℕ) (r : Replica)
+    → IsMember g rs table m r → MayTurn g (world_of g rs table) m → r.pending ≡ None
 no_vote_waits g rs table m r is may =
     sym (ap (λ h. h.pending) (held_of g rs table m r is.there)) ∙ may.idle
 
 -- whom it suspects
-pub suspects_are : (g : Group) (rs : List (Option Replica)) (table : List ℕ) (m : ℕ) (r : Replica)
+pub suspects_are : (g : Group) (rs : List (Option Replica)) (table : Shared) (m : ℕ) (r : Replica)
     → IsMember g rs table m r → (world_of g rs table).suspects m ≡ r.suspects
 suspects_are g rs table m r is = ap (λ h. h.suspects) (held_of g rs table m r is.there)
 
@@ -72,7 +93,7 @@ suspects_are g rs table m r is = ap (λ h. h.suspects) (held_of g rs table m r i
 not_wedged : (r : Replica) → (not (is_wedged r) ≡ true) ↔ (r.suspects ≡ 0)
 not_wedged r = (λ e. grind (arith, e), λ none. grind (arith, none))
 
-unwedged : (g : Group) (rs : List (Option Replica)) (table : List ℕ) (m : ℕ) (r : Replica)
+unwedged : (g : Group) (rs : List (Option Replica)) (table : Shared) (m : ℕ) (r : Replica)
     → IsMember g rs table m r
     → (not (is_wedged r) ≡ true) ↔ IsUnwedged (world_of g rs table) m
 unwedged g rs table m r is =
@@ -82,7 +103,7 @@ unwedged g rs table m r is =
     )
 
 -- and who suspects somebody is
-pub wedged : (g : Group) (rs : List (Option Replica)) (table : List ℕ) (m : ℕ) (r : Replica)
+pub wedged : (g : Group) (rs : List (Option Replica)) (table : Shared) (m : ℕ) (r : Replica)
     → IsMember g rs table m r
     → (is_wedged r ≡ true) ↔ (¬ IsUnwedged (world_of g rs table) m)
 wedged g rs table m r is =
@@ -106,7 +127,7 @@ not_less a b = (
 
 -- a test that only one who isn't wedged passes is the guard of an event that comes to no other, where the
 -- rest of it is for one who suspects nobody
-unless_wedged : (g : Group) (rs : List (Option Replica)) (table : List ℕ) (m : ℕ) (r : Replica) (test : Bool)
+unless_wedged : (g : Group) (rs : List (Option Replica)) (table : Shared) (m : ℕ) (r : Replica) (test : Bool)
     {Can : Type 0} → IsMember g rs table m r
     → (IsUnwedged (world_of g rs table) m → (test ≡ true) ↔ Can)
     → (Can → IsUnwedged (world_of g rs table) m) → ((not (is_wedged r) && test) ≡ true) ↔ Can
@@ -117,7 +138,7 @@ unless_wedged g rs table m r test is same none =
     )
 
 -- a member that it doesn't suspect
-unsuspected_member : (g : Group) (rs : List (Option Replica)) (table : List ℕ) (m : ℕ) (r : Replica) (i : ℕ)
+unsuspected_member : (g : Group) (rs : List (Option Replica)) (table : Shared) (m : ℕ) (r : Replica) (i : ℕ)
     → IsMember g rs table m r
     → (not (has r.suspects i) ≡ true) ↔ (has ((world_of g rs table).suspects m) i ≡ false)
 unsuspected_member g rs table m r i is =
@@ -127,12 +148,12 @@ unsuspected_member g rs table m r i is =
     )
 
 -- the members of its view
-pub members_are : (g : Group) (rs : List (Option Replica)) (table : List ℕ) (m : ℕ) (r : Replica)
+pub members_are : (g : Group) (rs : List (Option Replica)) (table : Shared) (m : ℕ) (r : Replica)
     → IsMember g rs table m r → (world_of g rs table).members m ≡ r.members
 members_are g rs table m r is = ap (λ h. h.members) (held_of g rs table m r is.there)
 
 -- another member of the view
-pub other_member : (g : Group) (rs : List (Option Replica)) (table : List ℕ) (m : ℕ) (r : Replica) (i : ℕ)
+pub other_member : (g : Group) (rs : List (Option Replica)) (table : Shared) (m : ℕ) (r : Replica) (i : ℕ)
     → IsMember g rs table m r
     → (is_other r i ≡ true) ↔ IsOther (world_of g rs table) m i
 other_member g rs table m r i is = (
@@ -149,28 +170,28 @@ other_member g rs table m r i is = (
     differs a b e same = absurd (grind (arith, e, same))
 
 -- it is of the roster
-pub other_within : (g : Group) (rs : List (Option Replica)) (table : List ℕ) (m : ℕ) (r : Replica) (i : ℕ)
+pub other_within : (g : Group) (rs : List (Option Replica)) (table : Shared) (m : ℕ) (r : Replica) (i : ℕ)
     → IsMember g rs table m r → is_other r i ≡ true → i < roster g
 other_within g rs table m r i is e =
     let within : i < r.roster = is.form.roster i (and_parts (has r.members i) (not (i == me r)) e).0 in
     omega (arith, within, is.of.members)
 
 -- and passes the test for that
-pub other_below : (g : Group) (rs : List (Option Replica)) (table : List ℕ) (m : ℕ) (r : Replica) (i : ℕ)
+pub other_below : (g : Group) (rs : List (Option Replica)) (table : Shared) (m : ℕ) (r : Replica) (i : ℕ)
     → IsMember g rs table m r → is_other r i ≡ true → nat_lt i r.roster ≡ true
 other_below g rs table m r i is e =
     let within : i < r.roster = rw is.of.members (other_within g rs table m r i is e) in
     grind (arith, nat_tests, within)
 
 -- the seen word of another row
-pub seen_is : (g : Group) (rs : List (Option Replica)) (table : List ℕ) (m : ℕ) (r : Replica) (i c : ℕ)
+pub seen_is : (g : Group) (rs : List (Option Replica)) (table : Shared) (m : ℕ) (r : Replica) (i c : ℕ)
     → IsMember g rs table m r → i ≢ m → (world_of g rs table).seen m i c ≡ seen r.rows i c
 seen_is g rs table m r i c is other =
     ap (λ h. h.seen i c) (held_of g rs table m r is.there)
     ∙ rw (other_number i (me r) (λ e. other (e ∙ is.of.number))) refl
 
 -- a number is below the least word over the view exactly where it is below the word of each row
-below_each : (g : Group) (rs : List (Option Replica)) (table : List ℕ) (m : ℕ) (r : Replica) (c x : ℕ)
+below_each : (g : Group) (rs : List (Option Replica)) (table : Shared) (m : ℕ) (r : Replica) (c x : ℕ)
     → IsMember g rs table m r → nat_lt x (least_seen r c) ≡ true
     → (i : ℕ) → has ((world_of g rs table).members m) i ≡ true → x
     < shown (world_of g rs table) m i c
@@ -184,23 +205,23 @@ below_each g rs table m r c x is e i member =
     (ap (λ k. has k i) (sym (members_are g rs table m r is)) ∙ member) in
     rw (shown_seen g rs table m r i c is.there is.of.number) (grind (arith, nat_tests, here))
 
-each_below : (g : Group) (rs : List (Option Replica)) (table : List ℕ) (m : ℕ) (r : Replica) (c x : ℕ)
-    → IsMember g rs table m r → own r.rows c ≤ 2 ^ 64 - 1
+each_below : (g : Group) (rs : List (Option Replica)) (table : Shared) (m : ℕ) (r : Replica) (c x : ℕ)
+    → IsMember g rs table m r → is_inside r ≡ true → own r.rows c ≤ 2 ^ 64 - 1
     → ((i : ℕ) → has ((world_of g rs table).members m) i ≡ true → x
     < shown (world_of g rs table) m i c) → nat_lt x (least_seen r c) ≡ true
-each_below g rs table m r c x is small each =
+each_below g rs table m r c x is inside small each =
     let here : (i : ℕ) → has r.members i ≡ true → x < seen r.rows i c =
     λ i member. rw (shown_seen g rs table m r i c is.there is.of.number) at
     (each i (ap (λ k. has k i) (members_are g rs table m r is) ∙ member)) in
     below_least x (2 ^ 64 - 1) (λ k. seen r.rows k c) (members_of r.members)
-    ∙ and_from _ _ (lt-ltb x (2 ^ 64 - 1) (le_trans (here (me r) is.form.present) small))
+    ∙ and_from _ _ (lt-ltb x (2 ^ 64 - 1) (le_trans (here (me r) inside) small))
     (all_members (λ k. nat_lt x (seen r.rows k c)) r.members
     (λ i member. lt-ltb x (seen r.rows i c) (here i member)))
 
 -- ---- deliveries and reports
 
 -- it delivers exactly where that may come, and it has room
-pub deliver_guard : (g : Group) (rs : List (Option Replica)) (table : List ℕ) (m : ℕ) (r : Replica)
+pub deliver_guard : (g : Group) (rs : List (Option Replica)) (table : Shared) (m : ℕ) (r : Replica)
     → IsMember g rs table m r → IsIdle r
     → (may_deliver r ≡ true) ↔ (CanDeliver g (world_of g rs table) m × (length r.history < r.room))
 deliver_guard g rs table m r is alive =
@@ -218,14 +239,14 @@ deliver_guard g rs table m r is alive =
             grind (arith, nat_tests, two.1),
           ),
       λ can. and_from _ _
-          (each_below g rs table m r RECEIVED_COLUMN r.next is
+          (each_below g rs table m r RECEIVED_COLUMN r.next is alive.2
           (omega (arith, is.form.received, received_small r (λ s. le_trans (is.form.bounded s) is.form.few)))
           (λ i member. rw next at (can.0.received i member)))
           (grind (arith, nat_tests, can.1)),
     )) (λ can. can.0.unwedged)
 
 -- it reports exactly where that may come
-pub report_guard : (g : Group) (rs : List (Option Replica)) (table : List ℕ) (m : ℕ) (r : Replica)
+pub report_guard : (g : Group) (rs : List (Option Replica)) (table : Shared) (m : ℕ) (r : Replica)
     → IsMember g rs table m r → IsIdle r
     → (may_report r ≡ true) ↔ CanReport g (world_of g rs table) m
 report_guard g rs table m r is alive =
@@ -235,7 +256,7 @@ report_guard g rs table m r is alive =
         may = may_choose g rs table m r is alive;
         logged = λ i member. rw durable (below_each g rs table m r LOGGED_COLUMN r.durable is e i member);
       },
-      λ can. each_below g rs table m r LOGGED_COLUMN r.durable is
+      λ can. each_below g rs table m r LOGGED_COLUMN r.durable is alive.2
           (omega (arith, is.form.published, is.form.logged, is.form.room, is.form.small))
           (λ i member. rw durable at (can.logged i member)),
     )
@@ -243,7 +264,7 @@ report_guard g rs table m r is alive =
 -- ---- appends and publications
 
 -- it appends exactly where that may come
-pub append_guard : (g : Group) (rs : List (Option Replica)) (table : List ℕ) (m : ℕ) (r : Replica)
+pub append_guard : (g : Group) (rs : List (Option Replica)) (table : Shared) (m : ℕ) (r : Replica)
     → IsMember g rs table m r → IsIdle r
     → (may_append r ≡ true) ↔ CanAppend g (world_of g rs table) m
 append_guard g rs table m r is alive =
@@ -260,7 +281,7 @@ append_guard g rs table m r is alive =
     )
 
 -- it publishes exactly where that may come
-pub publish_guard : (g : Group) (rs : List (Option Replica)) (table : List ℕ) (m : ℕ) (r : Replica)
+pub publish_guard : (g : Group) (rs : List (Option Replica)) (table : Shared) (m : ℕ) (r : Replica)
     → IsMember g rs table m r → IsIdle r
     → (may_publish r ≡ true) ↔ CanPublish g (world_of g rs table) m
 publish_guard g rs table m r is alive =
@@ -278,7 +299,7 @@ publish_guard g rs table m r is alive =
 -- ---- marks and ends
 
 -- it marks exactly where that may come
-pub mark_guard : (g : Group) (rs : List (Option Replica)) (table : List ℕ) (m : ℕ) (r : Replica)
+pub mark_guard : (g : Group) (rs : List (Option Replica)) (table : Shared) (m : ℕ) (r : Replica)
     → IsMember g rs table m r → IsIdle r
     → (may_mark r ≡ true) ↔ CanMark g (world_of g rs table) m
 mark_guard g rs table m r is alive =
@@ -314,25 +335,75 @@ mark_guard g rs table m r is alive =
 
 -- ---- suspicions and ends
 
+-- j is late and in no View of the history exactly where the replica may wish for it
+wish_test : (g : Group) (rs : List (Option Replica)) (table : Shared) (m : ℕ) (r : Replica) (j : ℕ)
+    → IsMember g rs table m r
+    → (may_wish r.history r.age r.late j ≡ true) ↔ MayJoin g.opening ((world_of g rs table).past.history m) j
+wish_test g rs table m r j is =
+    let history : (world_of g rs table).past.history m ≡ r.history = ap (λ h. h.history) (held_of g rs table m r is.there) in
+    let late = late_test g j is.group in
+    let silent = silent_test g.opening.age j r.history in (
+      λ e. let two = and_parts (has r.late j) (list_all (is_silent r.age j) r.history) e in
+          rw history (late.0 (rw is.of.late at two.0), silent.0 (rw is.of.age at two.1)),
+      λ may. let there = rw history at may in
+          and_from (has r.late j) (list_all (is_silent r.age j) r.history) (rw is.of.late (late.1 there.0))
+          (rw is.of.age (silent.1 there.1)),
+    )
+
+namable_test : (g : Group) (rs : List (Option Replica)) (table : Shared) (m : ℕ) (r : Replica) (j : ℕ)
+    → IsMember g rs table m r
+    → (j ≢ m → (has r.members j || may_wish r.history r.age r.late j) ≡ true
+    → IsNamable g (world_of g rs table) m j)
+    × (IsNamable g (world_of g rs table) m j
+    → (has r.members j || may_wish r.history r.age r.late j) ≡ true)
+namable_test g rs table m r j is = (
+  λ other e. elim (or_cases (has r.members j) (may_wish r.history r.age r.late j) e) [
+    | inl there ↦ inl (record { member = ap (λ k. has k j) (members_are g rs table m r is) ∙ there; other = other })
+    | inr wish ↦ inr ((wish_test g rs table m r j is).0 wish)
+  ],
+  λ named. elim named [
+    | inl row ↦ let there : has r.members j ≡ true = sym (ap (λ k. has k j) (members_are g rs table m r is)) ∙ row.member in
+        ap (λ b. b || may_wish r.history r.age r.late j) there
+    | inr join ↦ let wish = (wish_test g rs table m r j is).1 join in grind (arith, wish)
+  ],
+)
+
+-- and is a number below those of the roster
+namable_below : (g : Group) (rs : List (Option Replica)) (table : Shared) (m : ℕ) (r : Replica) (j : ℕ)
+    → IsMember g rs table m r → IsNamable g (world_of g rs table) m j → nat_lt j r.roster ≡ true
+namable_below g rs table m r j is (inl row) =
+    other_below g rs table m r j is ((other_member g rs table m r j is).1 row)
+namable_below g rs table m r j is (inr join) =
+    let within : j < roster g = in_roster g j is.group join.0.0 in grind (arith, nat_tests, within, is.of.members)
+
 -- it suspects exactly where that may come
-pub suspect_guard : (g : Group) (rs : List (Option Replica)) (table : List ℕ) (m : ℕ) (r : Replica) (j : ℕ)
+pub suspect_guard : (g : Group) (rs : List (Option Replica)) (table : Shared) (m : ℕ) (r : Replica) (j : ℕ)
     → IsMember g rs table m r → IsIdle r
     → (may_suspect r j ≡ true) ↔ CanSuspect g (world_of g rs table) m j
 suspect_guard g rs table m r j is alive =
-    let other = other_member g rs table m r j is in
-    let free = unsuspected_member g rs table m r j is in (
-      λ e. let two = and_parts (nat_lt j r.roster) (is_other r j && not (has r.suspects j)) e in
-          let three = and_parts (is_other r j) (not (has r.suspects j)) two.1 in record {
+    let free = unsuspected_member g rs table m r j is in
+    let named = namable_test g rs table m r j is in (
+      λ e. let two = and_parts (nat_lt j r.roster) (not (j == me r)
+          && ((has r.members j || may_wish r.history r.age r.late j) && not (has r.suspects j))) e in
+          let three = and_parts (not (j == me r))
+          ((has r.members j || may_wish r.history r.age r.late j) && not (has r.suspects j)) two.1 in
+          let four = and_parts (has r.members j || may_wish r.history r.age r.late j) (not (has r.suspects j)) three.1 in
+          let other : j ≢ m = λ same. not_me three.0 (same ∙ sym is.of.number) in record {
             may = may_choose g rs table m r is alive;
-            other = other.0 three.0;
-            unsuspected = free.0 three.1;
+            namable = named.0 other four.0;
+            apart = other;
+            unsuspected = free.0 four.1;
           },
-      λ can. let e = other.1 can.other in
-          and_from _ _ (other_below g rs table m r j is e) (and_from _ _ e (free.1 can.unsuspected)),
+      λ can. and_from _ _ (namable_below g rs table m r j is can.namable) (and_from _ _
+          (ap not (other_number j (me r) (λ e. can.apart (e ∙ is.of.number))))
+          (and_from _ _ (named.1 can.namable) (free.1 can.unsuspected))),
     )
+  where
+    not_me : not (j == me r) ≡ true → j ≡ me r → ⊥
+    not_me e same = absurd (grind (arith, e, same))
 
 -- it is done exactly where the world says so
-done_due : (g : Group) (rs : List (Option Replica)) (table : List ℕ) (m : ℕ) (r : Replica)
+done_due : (g : Group) (rs : List (Option Replica)) (table : Shared) (m : ℕ) (r : Replica)
     → IsMember g rs table m r
     → (is_due r Done ≡ true) ↔ IsDone (world_of g rs table) m
 done_due g rs table m r is =
@@ -352,7 +423,7 @@ done_due g rs table m r is =
     )) (λ due. due.unwedged)
 
 -- a row says that it is suspected exactly where the world says so
-suspected_due : (g : Group) (rs : List (Option Replica)) (table : List ℕ) (m : ℕ) (r : Replica) (i : ℕ)
+suspected_due : (g : Group) (rs : List (Option Replica)) (table : Shared) (m : ℕ) (r : Replica) (i : ℕ)
     → IsMember g rs table m r
     → (is_due r (Suspected i) ≡ true) ↔ IsSuspectedBy (world_of g rs table) m i
 suspected_due g rs table m r i is = (
@@ -384,7 +455,7 @@ suspected_due g rs table m r i is = (
         ∙ ap (has (seen r.rows i SUSPECTED_COLUMN)) (sym is.of.number)
 
 -- it is left with no majority exactly where the world says so
-minority_due : (g : Group) (rs : List (Option Replica)) (table : List ℕ) (m : ℕ) (r : Replica) (mask : ℕ)
+minority_due : (g : Group) (rs : List (Option Replica)) (table : Shared) (m : ℕ) (r : Replica) (mask : ℕ)
     → IsMember g rs table m r
     → (is_due r (NoMajority mask) ≡ true) ↔ IsMinority (world_of g rs table) m mask
 minority_due g rs table m r mask is = (
@@ -418,7 +489,7 @@ minority_due g rs table m r mask is = (
         ∙ ap (without r.members) (suspects_are g rs table m r is)
 
 -- the value that it has committed names it exactly where the world says so
-excluded_due : (g : Group) (rs : List (Option Replica)) (table : List ℕ) (m : ℕ) (r : Replica) (view : ℕ)
+excluded_due : (g : Group) (rs : List (Option Replica)) (table : Shared) (m : ℕ) (r : Replica) (view : ℕ)
     → IsMember g rs table m r
     → (is_due r (Excluded view) ≡ true) ↔ IsExcluded (world_of g rs table) m view
 excluded_due g rs table m r view is = (
@@ -447,7 +518,7 @@ excluded_due g rs table m r view is = (
     }
 
 -- its end is due exactly where the world says so
-end_due : (g : Group) (rs : List (Option Replica)) (table : List ℕ) (m : ℕ) (r : Replica) (end : End)
+end_due : (g : Group) (rs : List (Option Replica)) (table : Shared) (m : ℕ) (r : Replica) (end : End)
     → IsMember g rs table m r
     → (is_due r end ≡ true) ↔ IsDue (world_of g rs table) m end
 end_due g rs table m r Done is = done_due g rs table m r is
@@ -457,7 +528,7 @@ end_due g rs table m r (Excluded view) is = excluded_due g rs table m r view is
 end_due g rs table m r end is = (λ e. absurd (cc), λ due. absurd due)
 
 -- it halts exactly where that may come
-pub halt_guard : (g : Group) (rs : List (Option Replica)) (table : List ℕ) (m : ℕ) (r : Replica) (end : End)
+pub halt_guard : (g : Group) (rs : List (Option Replica)) (table : Shared) (m : ℕ) (r : Replica) (end : End)
     → IsMember g rs table m r → IsIdle r
     → (is_due r end ≡ true) ↔ CanHalt g (world_of g rs table) m end
 halt_guard g rs table m r end is alive =
@@ -467,7 +538,7 @@ halt_guard g rs table m r end is alive =
     )
 
 -- it crashes exactly where that may come
-pub crash_guard : (g : Group) (rs : List (Option Replica)) (table : List ℕ) (m : ℕ) (r : Replica) (end : End)
+pub crash_guard : (g : Group) (rs : List (Option Replica)) (table : Shared) (m : ℕ) (r : Replica) (end : End)
     → IsMember g rs table m r → r.end ≡ None
     → IsFault end ↔ CanCrash g (world_of g rs table) m end
 crash_guard g rs table m r end is alive =
@@ -476,13 +547,13 @@ crash_guard g rs table m r end is alive =
 -- ---- turns, looks and pushes
 
 -- it may always begin a turn
-pub beat_guard : (g : Group) (rs : List (Option Replica)) (table : List ℕ) (m : ℕ) (r : Replica)
-    → IsMember g rs table m r → IsIdle r
+pub beat_guard : (g : Group) (rs : List (Option Replica)) (table : Shared) (m : ℕ) (r : Replica)
+    → IsMember g rs table m r → r.end ≡ None → r.pending ≡ None
     → CanBeat g (world_of g rs table) m
-beat_guard = may_choose
+beat_guard = may_turn
 
 -- it looks exactly where that may come
-pub look_guard : (g : Group) (rs : List (Option Replica)) (table : List ℕ) (m : ℕ) (r : Replica) (i c : ℕ)
+pub look_guard : (g : Group) (rs : List (Option Replica)) (table : Shared) (m : ℕ) (r : Replica) (i c : ℕ)
     → IsMember g rs table m r → IsIdle r → c < columns g
     → ((not (has r.suspects i) ≡ true) × (is_other r i ≡ true)) ↔ CanLook g (world_of g rs table) m i c
 look_guard g rs table m r i c is alive within =
@@ -498,7 +569,7 @@ look_guard g rs table m r i c is alive within =
     )
 
 -- it pushes exactly where that may come
-pub push_guard : (g : Group) (rs : List (Option Replica)) (table : List ℕ) (m : ℕ) (r : Replica) (j c : ℕ)
+pub push_guard : (g : Group) (rs : List (Option Replica)) (table : Shared) (m : ℕ) (r : Replica) (j c : ℕ)
     → IsMember g rs table m r → IsIdle r → c < columns g
     → (is_other r j ≡ true) ↔ CanPush g (world_of g rs table) m j c
 push_guard g rs table m r j c is alive within =
@@ -510,21 +581,21 @@ push_guard g rs table m r j c is alive within =
 -- ---- messages and items
 
 -- the index of its next message
-pub next_is : (g : Group) (rs : List (Option Replica)) (table : List ℕ) (m : ℕ) (r : Replica)
+pub next_is : (g : Group) (rs : List (Option Replica)) (table : Shared) (m : ℕ) (r : Replica)
     → IsMember g rs table m r → guards.next_index (world_of g rs table) m ≡ next_index r
 next_is g rs table m r is =
     let show : Holding → ℕ = λ h. h.base + messages_in (h.sent h.view) in
     ap show (held_of g rs table m r is.there) ∙ rw (same_number r.view) refl
 
 -- its count of a sender
-pub count_is : (g : Group) (rs : List (Option Replica)) (table : List ℕ) (m : ℕ) (r : Replica) (s : ℕ)
+pub count_is : (g : Group) (rs : List (Option Replica)) (table : Shared) (m : ℕ) (r : Replica) (s : ℕ)
     → IsMember g rs table m r → items_received (world_of g rs table) m s ≡ count r s
 count_is g rs table m r s is =
     let show : Holding → ℕ = λ h. h.count h.view s in
     ap show (held_of g rs table m r is.there) ∙ rw (same_number r.view) refl
 
 -- the slot of its next item is free exactly where the world says so
-room_guard : (g : Group) (rs : List (Option Replica)) (table : List ℕ) (m : ℕ) (r : Replica)
+room_guard : (g : Group) (rs : List (Option Replica)) (table : Shared) (m : ℕ) (r : Replica)
     → IsMember g rs table m r
     → (is_free r.window r.rows r.members (count r (me r)) ≡ true)
     ↔ HasRoom g (world_of g rs table) m (items_received (world_of g rs table) m m)
@@ -566,7 +637,7 @@ room_guard g rs table m r is = (
         at (received i (record { member = ap (λ x. has x i) members ∙ member; other = apart }))))
 
 -- it sends exactly where that may come
-pub send_guard : (g : Group) (rs : List (Option Replica)) (table : List ℕ) (m : ℕ) (r : Replica)
+pub send_guard : (g : Group) (rs : List (Option Replica)) (table : Shared) (m : ℕ) (r : Replica)
     → IsMember g rs table m r → IsIdle r
     → (may_send r ≡ true) ↔ CanSend g (world_of g rs table) m
 send_guard g rs table m r is alive = unless_wedged g rs table m r _ is (λ none. (
@@ -590,7 +661,7 @@ above_some k (x ∷ xs) e = elim (or_cases (nat_lt k x) (list_any (nat_lt k) xs)
 ]
 
 -- it is behind exactly where the world says so
-behind_guard : (g : Group) (rs : List (Option Replica)) (table : List ℕ) (m : ℕ) (r : Replica)
+behind_guard : (g : Group) (rs : List (Option Replica)) (table : Shared) (m : ℕ) (r : Replica)
     → IsMember g rs table m r → (is_behind r ≡ true) ↔ IsBehind (world_of g rs table) m
 behind_guard g rs table m r is = (
   λ e. let s = above_some (count r (me r)) r.counts e in (
@@ -618,7 +689,7 @@ behind_guard g rs table m r is = (
     ]
 
 -- it puts a null exactly where that may come
-pub null_guard : (g : Group) (rs : List (Option Replica)) (table : List ℕ) (m : ℕ) (r : Replica)
+pub null_guard : (g : Group) (rs : List (Option Replica)) (table : Shared) (m : ℕ) (r : Replica)
     → IsMember g rs table m r → IsIdle r
     → (may_null r ≡ true) ↔ CanNull g (world_of g rs table) m
 null_guard g rs table m r is alive = unless_wedged g rs table m r _ is (λ none. (
@@ -641,7 +712,7 @@ some_test None = (λ e. absurd (cc), λ s. absurd (cc))
 some_test (Some x) = (λ e. refl, λ s. refl)
 
 -- the slot of the next item of another member, as it is seen
-pub slot_is : (g : Group) (rs : List (Option Replica)) (table : List ℕ) (m : ℕ) (r : Replica) (s k : ℕ)
+pub slot_is : (g : Group) (rs : List (Option Replica)) (table : Shared) (m : ℕ) (r : Replica) (s k : ℕ)
     → IsMember g rs table m r → s ≢ m
     → seen_slot g (world_of g rs table) m s k ≡ slot_of r.window r.rows s k
 slot_is g rs table m r s k is other = fun_ext λ part.
@@ -650,7 +721,7 @@ slot_is g rs table m r s k is other = fun_ext λ part.
     ∙ ap (λ window. seen r.rows s (slot_column r.rows.members window k + part)) (sym is.of.window)
 
 -- it receives exactly where that may come, and fewer were taken than anyone has messages
-pub receive_guard : (g : Group) (rs : List (Option Replica)) (table : List ℕ) (m : ℕ) (r : Replica) (s : ℕ)
+pub receive_guard : (g : Group) (rs : List (Option Replica)) (table : Shared) (m : ℕ) (r : Replica) (s : ℕ)
     → IsMember g rs table m r → IsIdle r
     → (may_receive r s ≡ true) ↔ (CanReceive g (world_of g rs table) m s
     × (count r s < greatest r.totals))

@@ -2,6 +2,7 @@ pub mod Tables
 pub mod Members
 pub mod Views
 pub mod Acts
+pub mod Wishes
 pub mod Guards
 pub mod Looks
 pub mod Gains
@@ -11,4 +12,5 @@ pub mod Votes
 pub mod Finishes
 pub mod Deeds
 pub mod Steps
+pub mod Joins
 pub mod Tests

@@ -1,7 +1,7 @@
 -- What looks and pushes make of the world.
 use Rattle.std.proofs.Common.{◌≡◌, ◌≢◌, refl, sym, ap, ◌∙◌, ℕ, ◌<◌, ◌==◌, if◌then◌else◌, inl, inr, true, List, slice_index, arith}
 use Rattle.std.proofs.Math.Path.{fun_ext}
-use Rattle.std.specs.Prelude.{slice_set, Option}
+use Rattle.std.specs.Prelude.{Option}
 use Rattle.std.proofs.lemmas.Bool.{cases_eq}
 use Rattle.dr_rows.specs.Words as rows
 use Rattle.dr_rows.specs.Words.{Words, IsWords, own, seen}
@@ -12,10 +12,10 @@ use Rattle.dr_machine.specs.Group.{Group, roster, columns}
 use Rattle.dr_machine.specs.World.{World}
 use Rattle.dr_machine.specs.Effects.{looks, pushes}
 use Rattle.dr_program.specs.Replica.{Replica, is_other, looked, pushed}
-use Rattle.dr_program.specs.Reading.{world_of, word_of, in_view, kept_word}
+use Rattle.dr_program.specs.Reading.{Shared, world_of, word_of, in_view, kept_word}
 use Rattle.dr_program.proofs.Holdings.{Holding, held, holding_of, held_of, Changes}
 use Rattle.dr_program.proofs.OwnWords.{same_number, other_number}
-use Rattle.dr_refine.specs.Programs.{IsMember}
+use Rattle.dr_refine.specs.Programs.{IsMember, with_table_word}
 use Rattle.dr_refine.proofs.Tables.{table_written, word_inside}
 use Rattle.dr_refine.proofs.Members.{fits, inside, replaced}
 use Rattle.dr_refine.proofs.Guards.{other_member, other_within}
@@ -57,26 +57,26 @@ looked_own w kept view i c x other = fun_ext λ v. fun_ext λ d.
     (sym (ap (λ r. slice_index r d) (with_word-row w.words i c x w.me (λ e. other (sym e)))))
 
 -- a look at the word that stands in the own copy
-pub look_effect : (g : Group) (rs : List (Option Replica)) (table : List ℕ) (m : ℕ) (r : Replica) (i c : ℕ)
+pub look_effect : (g : Group) (rs : List (Option Replica)) (table : Shared) (m : ℕ) (r : Replica) (i c : ℕ)
     → IsMember g rs table m r → is_other r i ≡ true → c < columns g
     → world_of g (with_present rs m
-    (looked r i c (slice_index table (word_index_of (roster g) g.window r.view m i c)))) table
+    (looked r i c (slice_index table.words (word_index_of (roster g) g.window r.view m i c)))) table
     ≡ looks (world_of g rs table) m i c
 look_effect g rs table m r i c is e column =
     let other : i ≢ m = ((other_member g rs table m r i is).0 e).other in
     let row : i < roster g = other_within g rs table m r i is e in
     let f = fits g rs table m r is in
-    let x : ℕ = slice_index table (word_index_of (roster g) g.window r.view m i c) in
+    let x : ℕ = slice_index table.words (word_index_of (roster g) g.window r.view m i c) in
     let apart : i ≢ r.rows.me = λ e. other (e ∙ f.number) in
-    let word = word_inside g table r.view m i c f.bank (inside g m r.rows r.view f) row column in
+    let word = word_inside g table.words r.view m i c f.bank (inside g m r.rows r.view f) row column in
     let seen = looked_seen r.rows i c x f.words apart (omega (arith, row, f.members))
     (omega (arith, column, f.columns)) in
     let own = looked_own r.rows (kept_word r) r.view i c x apart in
-    let after : Holding → Holding = look_after (word_of g table) m i c in
+    let after : Holding → Holding = look_after (word_of g table.words) m i c in
     replaced g rs table table m r (looked r i c x) (looks (world_of g rs table) m i c) after is.there
     (look_changes (world_of g rs table) m i c)
     (ap (λ y. record (holding_of g r) { seen = at₂ (holding_of g r).seen i c y }) word
-    ∙ (λ z. record (holding_of g r) { own = own z; seen = seen z })) refl
+    ∙ (λ z. record (holding_of g r) { own = own z; seen = seen z })) refl refl
 
 -- ---- pushes
 
@@ -84,10 +84,10 @@ push_changes : (w : World) (m j c : ℕ) → Changes w (pushes w m j c) m (held 
 push_changes w m j c = record { others = λ k other. refl; here = refl }
 
 -- a push of the own word to a member's copy
-pub push_effect : (g : Group) (rs : List (Option Replica)) (table : List ℕ) (m : ℕ) (r : Replica) (j c : ℕ)
+pub push_effect : (g : Group) (rs : List (Option Replica)) (table : Shared) (m : ℕ) (r : Replica) (j c : ℕ)
     → IsMember g rs table m r → is_other r j ≡ true → c < columns g
     → world_of g (with_present rs m (pushed r j c))
-    (slice_set table (word_index_of (roster g) g.window r.view j m c) (own r.rows c))
+    (with_table_word table (word_index_of (roster g) g.window r.view j m c) (own r.rows c))
     ≡ pushes (world_of g rs table) m j c
 push_effect g rs table m r j c is e column =
     let copy : j < roster g = other_within g rs table m r j is e in
@@ -97,10 +97,10 @@ push_effect g rs table m r j c is e column =
     → ℕ = λ h. at₄ w.table h.view j m c (h.own h.view c) in
     let word : own r.rows c ≡ in_view r r.view (own r.rows c) (kept_word r r.view c) =
     rw (same_number r.view) refl in
-    replaced g rs table (slice_set table (word_index_of (roster g) g.window r.view j m c) (own r.rows c)) m
+    replaced g rs table (with_table_word table (word_index_of (roster g) g.window r.view j m c) (own r.rows c)) m
     r (pushed r j c) (pushes w m j c) (λ h. h) is.there
     (push_changes w m j c) refl
-    (table_written g table r.view j m c (own r.rows c) is.cells f.bank copy
+    (table_written g table.words r.view j m c (own r.rows c) is.cells f.bank copy
     (inside g m r.rows r.view f) column
     ∙ ap (λ x. at₄ w.table r.view j m c x) word
-    ∙ ap cell (sym (held_of g rs table m r is.there)))
+    ∙ ap cell (sym (held_of g rs table m r is.there))) refl

@@ -12,7 +12,7 @@ use Rattle.dr_machine.specs.World.{World, own_word, shown}
 use Rattle.dr_machine.specs.Effects as effects
 use Rattle.dr_machine.specs.Effects.{one_more, stamped}
 use Rattle.dr_program.specs.Replica.{Replica, me, acted}
-use Rattle.dr_program.specs.Reading.{world_of, word_of, in_view, kept_word}
+use Rattle.dr_program.specs.Reading.{Shared, letters_of, world_of, word_of, in_view, kept_word}
 use Rattle.dr_program.proofs.Holdings.{Holding, held, holding_of, held_of, Changes, changed_world}
 use Rattle.dr_program.proofs.OwnWords.{same_number, other_number, own_with, seen_with}
 use Rattle.dr_refine.specs.Programs.{IsMember, IsTable, acted_table}
@@ -31,7 +31,7 @@ pub record Fits (g : Group) (m : ℕ) (rows : Words) (view : ℕ) : Type 0 where
   pub bank : view < banks g
 
 -- the rows of a member fit
-pub fits : (g : Group) (rs : List (Option Replica)) (table : List ℕ) (m : ℕ) (r : Replica)
+pub fits : (g : Group) (rs : List (Option Replica)) (table : Shared) (m : ℕ) (r : Replica)
     → IsMember g rs table m r → Fits g m r.rows r.view
 fits g rs table m r is = record {
   number = is.of.number;
@@ -83,18 +83,18 @@ seen_kept rows c x = fun_ext λ i. fun_ext λ d. elim (cases_eq i rows.me) [
 
 -- the world with replica r of member m replaced by q, where a change of that member alone makes the same of
 -- what it has
-pub replaced : (g : Group) (rs : List (Option Replica)) (table cells : List ℕ) (m : ℕ) (r q : Replica)
+pub replaced : (g : Group) (rs : List (Option Replica)) (table cells : Shared) (m : ℕ) (r q : Replica)
     (v : World) (after : Holding → Holding) → present_at rs m ≡ Some r
     → Changes (world_of g rs table) v m (after (held (world_of g rs table) m)) → after (holding_of g r)
-    ≡ holding_of g q → word_of g cells ≡ v.table
+    ≡ holding_of g q → word_of g cells.words ≡ v.table → letters_of cells.letters ≡ v.letter
     → world_of g (with_present rs m q) cells ≡ v
-replaced g rs table cells m r q v after there changes same cell =
+replaced g rs table cells m r q v after there changes same cell letter =
     changed_world g rs table cells m q v (present_within rs m r there)
     (record {
       others = changes.others;
       here = changes.here ∙ ap after (held_of g rs table m r there)
           ∙ same;
-    }) cell
+    }) cell letter
 
 -- ---- one own word, and acts
 
@@ -108,7 +108,7 @@ own_changes w m c x = record {
 }
 
 -- an own word of a replica is one of its world
-pub own_world : (g : Group) (rs : List (Option Replica)) (table : List ℕ) (m : ℕ) (r : Replica) (c x : ℕ)
+pub own_world : (g : Group) (rs : List (Option Replica)) (table : Shared) (m : ℕ) (r : Replica) (c x : ℕ)
     → present_at rs m ≡ Some r → Fits g m r.rows r.view → c < columns g
     → world_of g (with_present rs m (record r { rows = with_own r.rows c x })) table
     ≡ effects.with_own (world_of g rs table) m c x
@@ -118,7 +118,7 @@ own_world g rs table m r c x there f within =
     replaced g rs table table m r (record r { rows = with_own r.rows c x })
     (effects.with_own (world_of g rs table) m c x) (own_after c x) there
     (own_changes (world_of g rs table) m c x)
-    (λ z. record (holding_of g r) { own = sym own z; seen = sym seen z }) refl
+    (λ z. record (holding_of g r) { own = sym own z; seen = sym seen z }) refl refl
 
 abbrev stamp_after : Holding → Holding
 stamp_after h = record h {
@@ -133,8 +133,8 @@ stamp_changes w m = record {
 }
 
 -- and a stamp of a replica is one of its world
-pub acted_world : (g : Group) (rs : List (Option Replica)) (table : List ℕ) (m : ℕ) (r : Replica)
-    → present_at rs m ≡ Some r → Fits g m r.rows r.view → IsTable g table
+pub acted_world : (g : Group) (rs : List (Option Replica)) (table : Shared) (m : ℕ) (r : Replica)
+    → present_at rs m ≡ Some r → Fits g m r.rows r.view → IsTable g table.words
     → world_of g (with_present rs m (acted r)) (acted_table g table m r) ≡ stamped (world_of g rs table) m
 acted_world g rs table m r there f whole =
     let w : World = world_of g rs table in
@@ -148,12 +148,12 @@ acted_world g rs table m r there f whole =
     replaced g rs table (acted_table g table m r) m r (acted r) (stamped w m) stamp_after there
     (stamp_changes w m)
     (λ z. record (holding_of g r) { acts = one_more 64 r.acts; own = sym own z; seen = sym seen z })
-    (table_written g table r.view m m BEAT_COLUMN (one_more 64 r.acts) whole f.bank member member within
-    ∙ ap cell (sym (held_of g rs table m r there)))
+    (table_written g table.words r.view m m BEAT_COLUMN (one_more 64 r.acts) whole f.bank member member within
+    ∙ ap cell (sym (held_of g rs table m r there))) refl
 
 -- an act behind another change of the replica
-pub then_acted : (g : Group) (rs : List (Option Replica)) (table : List ℕ) (m : ℕ) (r : Replica) (w : World)
-    → m < length rs → Fits g m r.rows r.view → IsTable g table
+pub then_acted : (g : Group) (rs : List (Option Replica)) (table : Shared) (m : ℕ) (r : Replica) (w : World)
+    → m < length rs → Fits g m r.rows r.view → IsTable g table.words
     → world_of g (with_present rs m r) table ≡ w
     → world_of g (with_present rs m (acted r)) (acted_table g table m r) ≡ stamped w m
 then_acted g rs table m r w within f whole before =
@@ -175,7 +175,7 @@ shown_word r m i c number =
     ]
 
 -- the word that a member shows is the seen one of its replica
-pub shown_seen : (g : Group) (rs : List (Option Replica)) (table : List ℕ) (m : ℕ) (r : Replica) (i c : ℕ)
+pub shown_seen : (g : Group) (rs : List (Option Replica)) (table : Shared) (m : ℕ) (r : Replica) (i c : ℕ)
     → present_at rs m ≡ Some r → me r ≡ m
     → shown (world_of g rs table) m i c ≡ seen r.rows i c
 shown_seen g rs table m r i c there number =
@@ -183,7 +183,7 @@ shown_seen g rs table m r i c there number =
     ap show (held_of g rs table m r there) ∙ shown_word r m i c number
 
 -- and its own word the own one
-pub own_shown : (g : Group) (rs : List (Option Replica)) (table : List ℕ) (m : ℕ) (r : Replica) (c : ℕ)
+pub own_shown : (g : Group) (rs : List (Option Replica)) (table : Shared) (m : ℕ) (r : Replica) (c : ℕ)
     → present_at rs m ≡ Some r
     → own_word (world_of g rs table) m c ≡ own r.rows c
 own_shown g rs table m r c there =

@@ -29,7 +29,7 @@ use Rattle.dr_machine.specs.Guards as guards
 use Rattle.dr_machine.specs.Guards.{seen_slot}
 use Rattle.dr_machine.specs.Effects.{stamped, gains, puts, sends, nulls, receives, next_item, row_with}
 use Rattle.dr_program.specs.Replica.{Replica, me, count, item, gained, received, put, sent, nulled, greatest, next_index, ready_item, is_other, is_behind, is_wedged, may_send, may_null, may_receive, acted}
-use Rattle.dr_program.specs.Reading.{kept_word, left_in, world_of}
+use Rattle.dr_program.specs.Reading.{Shared, kept_word, left_in, world_of}
 use Rattle.dr_program.proofs.Holdings.{Holding, held, holding_of, Changes}
 use Rattle.dr_program.proofs.OwnWords.{same_number, other_number}
 use Rattle.dr_refine.specs.Programs.{IsMember, acted_table}
@@ -42,7 +42,7 @@ use Rattle.dr_program.proofs.Present.{present_within, present_set}
 -- ---- received items
 
 -- an item is received
-pub receive_effect : (g : Group) (rs : List (Option Replica)) (table : List ℕ) (m : ℕ) (r : Replica) (s : ℕ)
+pub receive_effect : (g : Group) (rs : List (Option Replica)) (table : Shared) (m : ℕ) (r : Replica) (s : ℕ)
     → IsMember g rs table m r → may_receive r s ≡ true
     → world_of g (with_present rs m (acted (received r s))) (acted_table g table m r)
     ≡ stamped (receives g (world_of g rs table) m s) m
@@ -197,14 +197,14 @@ fits_placed g m r name item f slot few = record {
   bank = f.bank;
 }
 
-placed_world : (g : Group) (rs : List (Option Replica)) (table : List ℕ) (m : ℕ) (r : Replica) (name : SentItem)
+placed_world : (g : Group) (rs : List (Option Replica)) (table : Shared) (m : ℕ) (r : Replica) (name : SentItem)
     (item : Item) → IsMember g rs table m r
     → HasSlot r.window r.rows (count r (me r)) → length (pieces item) ≤ 17
     → world_of g (with_present rs m (placed r name item)) table ≡ places g (world_of g rs table) m name item
 placed_world g rs table m r name item is slot few =
     replaced g rs table table m r (placed r name item) (places g (world_of g rs table) m name item)
     (place_after g m name item) is.there
-    (place_changes g (world_of g rs table) m name item) same refl
+    (place_changes g (world_of g rs table) m name item) same refl refl
   where
     f : Fits g m r.rows r.view
     f = fits g rs table m r is
@@ -253,7 +253,7 @@ most xs i = elim (cases_lt i (length xs)) [
 ]
 
 -- a message that is left, with the premises of putting it
-left_over : (g : Group) (rs : List (Option Replica)) (table : List ℕ) (m : ℕ) (r : Replica)
+left_over : (g : Group) (rs : List (Option Replica)) (table : Shared) (m : ℕ) (r : Replica)
     → IsMember g rs table m r → next_index r < length r.messages → count r m < greatest r.totals
 left_over g rs table m r is left =
     let put : length r.sent ≡ count r m = is.form.put ∙ ap (count r) is.of.number in
@@ -266,7 +266,7 @@ few_parts bytes short =
     omega (arith, short, length-map-range_with_len (body_piece bytes) 0 (div_ceil (length bytes) 4))
 
 -- an item is put
-put_effect : (g : Group) (rs : List (Option Replica)) (table : List ℕ) (m : ℕ) (r : Replica) (name : SentItem)
+put_effect : (g : Group) (rs : List (Option Replica)) (table : Shared) (m : ℕ) (r : Replica) (name : SentItem)
     (item : Item) → IsMember g rs table m r → length (pieces item) ≤ 17 → count r m < greatest r.totals
     → world_of g (with_present rs m (acted (put r name item))) (acted_table g table m r)
     ≡ stamped (puts g (world_of g rs table) m name item) m
@@ -305,7 +305,7 @@ put_effect g rs table m r name item is few below =
     }
 
 -- a message is put
-pub send_effect : (g : Group) (rs : List (Option Replica)) (table : List ℕ) (m : ℕ) (r : Replica)
+pub send_effect : (g : Group) (rs : List (Option Replica)) (table : Shared) (m : ℕ) (r : Replica)
     → IsMember g rs table m r → may_send r ≡ true
     → world_of g (with_present rs m (acted (sent r))) (acted_table g table m r)
     ≡ stamped (sends g (world_of g rs table) m) m
@@ -330,7 +330,7 @@ send_effect g rs table m r is e =
         (slice_get-get_or r.messages (next_index r) [] left)
 
 -- a null is put
-pub null_effect : (g : Group) (rs : List (Option Replica)) (table : List ℕ) (m : ℕ) (r : Replica)
+pub null_effect : (g : Group) (rs : List (Option Replica)) (table : Shared) (m : ℕ) (r : Replica)
     → IsMember g rs table m r → may_null r ≡ true
     → world_of g (with_present rs m (acted (nulled r))) (acted_table g table m r)
     ≡ stamped (nulls g (world_of g rs table) m) m

@@ -7,15 +7,18 @@ use Rattle.std.proofs.lemmas.Option.{same_Some}
 use Rattle.dr_words.specs.Layout.{words_of}
 use Rattle.dr_program.specs.declared.setup.Setup.{Setup}
 use Rattle.dr_machine.specs.Group.{Group, IsGroup, banks, roster}
-use Rattle.dr_program.specs.Replica.{Replica}
+use Rattle.dr_program.specs.Replica.{Replica, joined}
 use Rattle.dr_entry.specs.declared.end.End.{End}
+use Rattle.dr_entry.specs.declared.entry.Entry.{Entry}
+use Rattle.dr_history.specs.History.{up_to_view}
 use Rattle.dr_machine.specs.declared.step.Step.{Step}
+use Rattle.dr_machine.specs.declared.step.Step.TheVariants.{Welcome}
 use Rattle.dr_program.specs.declared.outcome.Outcome.{Outcome}
-use Rattle.dr_program.specs.Steps.{stepped, stored}
-use Rattle.dr_program.specs.Running.{Running, begun_running, next_step, settled, took}
-use Rattle.dr_program.specs.Program.{Program, Move, AreSetups, after_deed, begun_program, next_sight, step_of}
+use Rattle.dr_program.specs.Steps.{stepped, stored, stored_letters}
+use Rattle.dr_program.specs.Running.{Running, begun_running, next_step, settled, took, took_letter}
+use Rattle.dr_program.specs.Program.{Program, Move, AreSetups, after_deed, begun_program, letter_for, next_sight, step_of}
 use Rattle.dr_program.specs.Form.{IsOf, IsRunningMember}
-use Rattle.dr_program.proofs.Fixed.{step_told, of_told}
+use Rattle.dr_program.proofs.Fixed.{join_told, step_told, of_told}
 use Rattle.dr_program.proofs.OpeningForm.{begins_in_form}
 use Rattle.dr_program.proofs.Runs.{after_either}
 use Rattle.dr_refine.specs.Programs.{IsProgram}
@@ -25,7 +28,7 @@ use Rattle.dr_program.proofs.Present.{present_kept, present_map, present_set, pr
 
 -- ---- the member
 
-of_settled : (g : Group) (m : ℕ) (x : Running) → IsOf g m x.replica → IsOf g m (settled x).replica
+pub of_settled : (g : Group) (m : ℕ) (x : Running) → IsOf g m x.replica → IsOf g m (settled x).replica
 of_settled g m x of = subst (IsOf g m) (sym (settle_replica _ x)) of
 
 -- ---- the program
@@ -34,12 +37,18 @@ of_settled g m x of = subst (IsOf g m) (sym (settle_replica _ x)) of
 pub stored_length : (table : List ℕ) (q : Replica) (s : Step) → length (stored table q s) ≡ length table
 stored_length table q s = grind (arith, length-set table)
 
+posts_length : (letters : List (Option (List Entry))) (q : Replica) (s : Step)
+    → length (stored_letters letters q s) ≡ length letters
+posts_length letters q (Welcome j) = length-set letters j (Some (up_to_view q.history))
+posts_length letters q s = refl
+
 -- one member replaced by a running one of its number
-replaced_program : (g : Group) (p : Program) (m : ℕ) (r : Running) (cells : List ℕ) → IsProgram g p
+pub replaced_program : (g : Group) (p : Program) (m : ℕ) (r : Running) (cells : List ℕ)
+    (letters : List (Option (List Entry))) → IsProgram g p
     → m < length p.members → IsRunningMember r → IsOf g m r.replica
-    → length cells ≡ length p.table
-    → IsProgram g (record { members = with_present p.members m r; table = cells })
-replaced_program g p m r cells is within form of same_length = record {
+    → length cells ≡ length p.table → length letters ≡ length p.letters
+    → IsProgram g (record { members = with_present p.members m r; table = cells; letters = letters })
+replaced_program g p m r cells letters is within form of same_length same_letters = record {
   all = length-set p.members m (Some r) ∙ is.all;
   form = λ k x there. elim (cases_eq k m) [
     | inl same ↦ subst IsRunningMember
@@ -56,22 +65,27 @@ replaced_program g p m r cells is within form of same_length = record {
     | inr other ↦ let old = is.there k below here in (old.0, present_kept p.members m k r other ∙ old.1)
   ];
   table = same_length ∙ is.table;
+  posts = same_letters ∙ is.posts;
 }
 
 -- a deed leaves the member the one that it was, however its append went
-of_deed : (g : Group) (m : ℕ) (table : List ℕ) (o : Outcome) (r : Running) → IsOf g m r.replica
-    → IsOf g m (after_deed (next_sight table r) o r (next_step r)).replica
-of_deed g m table o r of =
-    after_either (λ (x : Running). IsOf g m x.replica) table o r (next_step r)
+of_deed : (g : Group) (m : ℕ) (table : List ℕ) (letter : Option (List Entry)) (o : Outcome) (r : Running)
+    → IsOf g m r.replica → IsOf g m (after_deed (next_sight table r) letter o r (next_step r)).replica
+of_deed g m table letter o r of =
+    after_either (λ (x : Running). IsOf g m x.replica) table letter o r (next_step r)
     (of_settled g m (took (next_sight table r) r (next_step r)) (of_told g m r.replica
     (stepped (next_sight table r) r.replica (next_step r))
     (step_told (next_sight table r) r.replica (next_step r)) of))
-    (λ why due. of)
+    (λ why due. of) (λ join. of_settled g m (took_letter letter r) (taken letter))
+  where
+    taken : (letter : Option (List Entry)) → IsOf g m (took_letter letter r).replica
+    taken None = of
+    taken (Some es) = of_told g m r.replica (joined r.replica es) (join_told r.replica es) of
 
 -- a move of a member that keeps its form
 pub step_kept : (g : Group) (p : Program) (e : Move) → IsProgram g p
     → ((r : Running) → present_at p.members e.member ≡ Some r → r.replica.end ≡ None
-    → IsRunningMember (after_deed (next_sight p.table r) e.outcome r (next_step r)))
+    → IsRunningMember (after_deed (next_sight p.table r) (letter_for p e.member) e.outcome r (next_step r)))
     → IsProgram g (step_of p e)
 step_kept g p e is keeps = by (present_at p.members e.member) refl
   where
@@ -80,11 +94,12 @@ step_kept g p e is keeps = by (present_at p.members e.member) refl
     at r there (Some x) ended = subst (IsProgram g)
         (sym (rest_changes_nothing p e r there (ap is_some ended))) is
     at r there None unended = subst (IsProgram g) (sym (step_is p e r there unended))
-        (replaced_program g p e.member (after_deed (next_sight p.table r) e.outcome r (next_step r))
-        (stored p.table r.replica (next_step r)) is
+        (replaced_program g p e.member
+        (after_deed (next_sight p.table r) (letter_for p e.member) e.outcome r (next_step r))
+        (stored p.table r.replica (next_step r)) (stored_letters p.letters r.replica (next_step r)) is
         (present_within p.members e.member r there) (keeps r there unended)
-        (of_deed g e.member p.table e.outcome r (is.of e.member r there))
-        (stored_length p.table r.replica (next_step r)))
+        (of_deed g e.member p.table (letter_for p e.member) e.outcome r (is.of e.member r there))
+        (stored_length p.table r.replica (next_step r)) (posts_length p.letters r.replica (next_step r)))
 
     by : (o : Option Running) → present_at p.members e.member ≡ o → IsProgram g (step_of p e)
     by None none = rw none is
@@ -102,6 +117,7 @@ begun_is_program g limit setups is some are = record {
   there = λ m below here. let s = are.there m below here in
       (begun_running s.0, present_map begun_running setups m ∙ ap (option_map begun_running) s.1);
   table = length-replicate (words_of (roster g) g.window (banks g)) 0;
+  posts = length-replicate (roster g) None;
 }
   where
     named : (m : ℕ) (r : Running) (o : Option Setup) → present_at setups m ≡ o

@@ -12,8 +12,8 @@ use Rattle.dr_machine.specs.Writes.{at}
 use Rattle.dr_machine.specs.Group.{Group, roster}
 use Rattle.dr_machine.specs.World.{World}
 use Rattle.dr_machine.specs.Effects.{stamped, suspects}
-use Rattle.dr_program.specs.Replica.{Replica, acted, may_suspect, suspected}
-use Rattle.dr_program.specs.Reading.{kept_word, world_of}
+use Rattle.dr_program.specs.Replica.{Replica, acted, is_inside, may_suspect, suspected}
+use Rattle.dr_program.specs.Reading.{Shared, kept_word, world_of}
 use Rattle.dr_program.proofs.Holdings.{Holding, held, holding_of, Changes}
 use Rattle.dr_program.proofs.OwnWords.{same_number, other_number}
 use Rattle.dr_program.proofs.Suspecting.{suspecting}
@@ -45,15 +45,15 @@ suspect_changes g w m j = record {
 }
 
 -- one member more is suspected
-pub suspect_effect : (g : Group) (rs : List (Option Replica)) (table : List ℕ) (m : ℕ) (r : Replica) (j : ℕ)
-    → IsMember g rs table m r → may_suspect r j ≡ true
+pub suspect_effect : (g : Group) (rs : List (Option Replica)) (table : Shared) (m : ℕ) (r : Replica) (j : ℕ)
+    → IsMember g rs table m r → is_inside r ≡ true → may_suspect r j ≡ true
     → world_of g (with_present rs m (acted (suspected r j))) (acted_table g table m r)
     ≡ stamped (suspects g (world_of g rs table) m j) m
-suspect_effect g rs table m r j is e =
+suspect_effect g rs table m r j is inside e =
     then_acted g rs table m (suspected r j) (suspects g w m j) (present_within rs m r is.there)
     new_fits is.cells
     (replaced g rs table table m r (suspected r j) (suspects g w m j) (suspect_after g j) is.there
-    (suspect_changes g w m j) same refl)
+    (suspect_changes g w m j) same refl refl)
   where
     w : World
     w = world_of g rs table
@@ -62,7 +62,7 @@ suspect_effect g rs table m r j is e =
     f = fits g rs table m r is
 
     s : IsSuspecting r.roster r.members r.suspects r.rows.me j
-    s = suspecting r j is.form e
+    s = suspecting r j is.form inside e
 
     mask : ℕ
     mask = with_member r.suspects j

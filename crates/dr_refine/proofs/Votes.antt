@@ -24,15 +24,15 @@ use Rattle.dr_machine.specs.Guards.{CanAccept, CanCommit, CanLogVote, CanPropose
 use Rattle.dr_machine.specs.Votes.{vote_in}
 use Rattle.dr_machine.specs.World.{World, no_vote, shown}
 use Rattle.dr_machine.specs.Writes.{at}
-use Rattle.dr_program.specs.Replica.{Replica, accepted, acted, decided, is_others, is_own, is_value, is_wedged, may_append, may_commit, may_vote, me, promise, value_due, vote_of, voted}
+use Rattle.dr_program.specs.Replica.{Replica, accepted, acted, decided, is_inside, is_others, is_own, is_value, is_wedged, may_append, may_commit, may_vote, me, promise, value_due, vote_of, voted}
 use Rattle.dr_program.specs.Replica as replicas
-use Rattle.dr_program.specs.Reading.{kept_word, world_of}
+use Rattle.dr_program.specs.Reading.{Shared, kept_word, world_of}
 use Rattle.dr_program.proofs.Holdings.{Changes, Holding, held, held_of, holding_of}
 use Rattle.dr_program.proofs.OwnWords.{same_number, other_number}
 use Rattle.dr_program.proofs.Voting.{value_long, value_test}
 use Rattle.dr_refine.specs.Programs.{IsMember, acted_table}
 use Rattle.dr_refine.proofs.Gains.{own_here, row_written}
-use Rattle.dr_refine.proofs.Guards.{IsIdle, may_choose, members_are, not_less, running, suspects_are, wedged}
+use Rattle.dr_refine.proofs.Guards.{IsIdle, in_view_test, may_choose, members_are, not_less, running, suspects_are, wedged}
 use Rattle.dr_refine.proofs.Members.{Fits, fits, replaced, shown_seen, then_acted}
 use Rattle.dr_program.specs.Presence.{with_present}
 use Rattle.dr_program.proofs.Present.{present_within}
@@ -40,13 +40,13 @@ use Rattle.dr_program.proofs.Present.{present_within}
 -- ---- the rows
 
 -- the rows that the member shows are those of its replica
-shows_rows : (g : Group) (rs : List (Option Replica)) (table : List ℕ) (m : ℕ) (r : Replica)
+shows_rows : (g : Group) (rs : List (Option Replica)) (table : Shared) (m : ℕ) (r : Replica)
     → IsMember g rs table m r → ◌≡◌ {A = ℕ → ℕ → ℕ} (shown (world_of g rs table) m) (seen r.rows)
 shows_rows g rs table m r is =
     fun_ext λ i. fun_ext λ c. shown_seen g rs table m r i c is.there is.of.number
 
 -- what holds of them, of the view and of the suspects holds in the world
-to_world : (g : Group) (rs : List (Option Replica)) (table : List ℕ) (m : ℕ) (r : Replica)
+to_world : (g : Group) (rs : List (Option Replica)) (table : Shared) (m : ℕ) (r : Replica)
     (P : ℕ → Shown → ℕ → ℕ → ℕ → Type 0) → IsMember g rs table m r
     → P r.roster (seen r.rows) r.members r.suspects (me r)
     → P (roster g) (shown (world_of g rs table) m) ((world_of g rs table).members m)
@@ -60,7 +60,7 @@ to_world g rs table m r P is p =
     (subst (λ k. P k (seen r.rows) r.members r.suspects (me r)) is.of.members p))))
 
 -- and the other way round
-from_world : (g : Group) (rs : List (Option Replica)) (table : List ℕ) (m : ℕ) (r : Replica)
+from_world : (g : Group) (rs : List (Option Replica)) (table : Shared) (m : ℕ) (r : Replica)
     (P : ℕ → Shown → ℕ → ℕ → ℕ → Type 0) → IsMember g rs table m r
     → P (roster g) (shown (world_of g rs table) m) ((world_of g rs table).members m)
     ((world_of g rs table).suspects m) m
@@ -74,17 +74,17 @@ from_world g rs table m r P is p =
     (subst (λ k. P (roster g) (shown w m) (w.members m) (w.suspects m) k) (sym is.of.number) p))))
 
 -- the view is of 16 members at most, and somebody of it is unsuspected: the member itself
-view_small : (g : Group) (rs : List (Option Replica)) (table : List ℕ) (m : ℕ) (r : Replica)
+view_small : (g : Group) (rs : List (Option Replica)) (table : Shared) (m : ℕ) (r : Replica)
     → IsMember g rs table m r → r.members < 2 ^ 16
 view_small g rs table m r is = in_roster_small 16 r.members (λ i there.
     let within : i < r.roster = is.form.roster i there in
     omega (arith, within, is.of.members, is.group.most_members))
 
-self_left : (g : Group) (rs : List (Option Replica)) (table : List ℕ) (m : ℕ) (r : Replica)
-    → IsMember g rs table m r → has (without r.members r.suspects) (me r) ≡ true
-self_left g rs table m r is =
+self_left : (g : Group) (rs : List (Option Replica)) (table : Shared) (m : ℕ) (r : Replica)
+    → IsMember g rs table m r → is_inside r ≡ true → has (without r.members r.suspects) (me r) ≡ true
+self_left g rs table m r is inside =
     has_without_mask r.members r.suspects (me r) (view_small g rs table m r is)
-    ∙ and_from _ _ is.form.present (ap not is.form.suspicion.trusted)
+    ∙ and_from _ _ inside (ap not is.form.trusted)
 
 -- ---- votes
 
@@ -99,11 +99,11 @@ IsAllowed v n rows members suspects me =
     ⊎ (MayAccept n rows members suspects me × Shows n rows members (promise_of n rows me) v)
 
 -- the value is due exactly where it is allowed
-allowed_test : (g : Group) (rs : List (Option Replica)) (table : List ℕ) (m : ℕ) (r : Replica) (v : Value)
-    → IsMember g rs table m r → length v.trim ≡ 16
+allowed_test : (g : Group) (rs : List (Option Replica)) (table : Shared) (m : ℕ) (r : Replica) (v : Value)
+    → IsMember g rs table m r → is_inside r ≡ true → length v.trim ≡ 16
     → ((replicas.may_propose r || replicas.may_accept r) ≡ true) × (v ≡ value_due r)
     ↔ IsAllowed v r.roster (seen r.rows) r.members r.suspects (me r)
-allowed_test g rs table m r v is long = (λ p. from (replicas.may_propose r) refl p, to)
+allowed_test g rs table m r v is inside long = (λ p. from (replicas.may_propose r) refl p, to)
   where
     small : r.members < 2 ^ 16
     small = view_small g rs table m r is
@@ -119,7 +119,7 @@ allowed_test g rs table m r v is long = (λ p. from (replicas.may_propose r) ref
     proposes : IsProposal r.roster (seen r.rows) r.members r.suspects
         (proposal r.roster (seen r.rows) r.members r.suspects)
     proposes = proposal_is r.roster (seen r.rows) r.members r.suspects (me r) small
-        (self_left g rs table m r is)
+        (self_left g rs table m r is inside)
 
     shows : Shows r.roster (seen r.rows) r.members (promise_of r.roster (seen r.rows) (me r))
         (shown_value r.roster (seen r.rows) r.members (promise_of r.roster (seen r.rows) (me r)))
@@ -168,7 +168,7 @@ allowed_test g rs table m r v is long = (λ p. from (replicas.may_propose r) ref
         )
 
 -- it votes exactly where that may come
-pub vote_guard : (g : Group) (rs : List (Option Replica)) (table : List ℕ) (m : ℕ) (r : Replica) (v : Value)
+pub vote_guard : (g : Group) (rs : List (Option Replica)) (table : Shared) (m : ℕ) (r : Replica) (v : Value)
     → IsMember g rs table m r → IsIdle r
     → (may_vote r v ≡ true) ↔ CanLogVote g (world_of g rs table) m v
 vote_guard g rs table m r v is free = (
@@ -185,9 +185,9 @@ vote_guard g rs table m r v is free = (
         logged = rw (log, history) (caught.0 c.0);
         whole = long;
         allowed = to_world g rs table m r (IsAllowed v) is
-            ((allowed_test g rs table m r v is long).0 (d.0, value));
+            ((allowed_test g rs table m r v is free.2 long).0 (d.0, value));
       },
-  λ can. let t = (allowed_test g rs table m r v is can.whole).1
+  λ can. let t = (allowed_test g rs table m r v is free.2 can.whole).1
       (from_world g rs table m r (IsAllowed v) is can.allowed) in
       and_from _ _ ((wedged g rs table m r is).1 can.wedged)
       (and_from _ _ ((none_test r.committed).1 (sym committed ∙ can.uncommitted))
@@ -214,10 +214,10 @@ vote_guard g rs table m r v is free = (
 -- ---- the vote that waits
 
 -- it acts on its vote exactly where that may come
-pub propose_guard : (g : Group) (rs : List (Option Replica)) (table : List ℕ) (m : ℕ) (r : Replica)
-    → IsMember g rs table m r → r.end ≡ None
+pub propose_guard : (g : Group) (rs : List (Option Replica)) (table : Shared) (m : ℕ) (r : Replica)
+    → IsMember g rs table m r → r.end ≡ None → is_inside r ≡ true
     → (is_own (me r) r.pending ≡ true) ↔ CanPropose g (world_of g rs table) m
-propose_guard g rs table m r is alive = (
+propose_guard g rs table m r is alive inside = (
   λ e. from r.pending refl e,
   λ can. subst (λ o. is_own (me r) o ≡ true) (sym (sym pending ∙ can.waits))
       (eq-eqb can.vote.ballot (me r) (can.own ∙ sym is.of.number)),
@@ -231,15 +231,16 @@ propose_guard g rs table m r is alive = (
     from None q e = absurd (cc e)
     from (Some x) q e = record {
       alive = running g rs table m r is alive;
+      inside = (in_view_test g rs table m r is).0 inside;
       vote = x;
       waits = pending ∙ q;
       own = eqb-true x.ballot (me r) e ∙ is.of.number;
     }
 
-pub accept_guard : (g : Group) (rs : List (Option Replica)) (table : List ℕ) (m : ℕ) (r : Replica)
-    → IsMember g rs table m r → r.end ≡ None
+pub accept_guard : (g : Group) (rs : List (Option Replica)) (table : Shared) (m : ℕ) (r : Replica)
+    → IsMember g rs table m r → r.end ≡ None → is_inside r ≡ true
     → (is_others (me r) r.pending ≡ true) ↔ CanAccept g (world_of g rs table) m
-accept_guard g rs table m r is alive = (
+accept_guard g rs table m r is alive inside = (
   λ e. from r.pending refl e,
   λ can. subst (λ o. is_others (me r) o ≡ true) (sym (sym pending ∙ can.waits))
       (ap not (other_number can.vote.ballot (me r) (λ e. can.other (e ∙ is.of.number)))),
@@ -256,13 +257,14 @@ accept_guard g rs table m r is alive = (
     from None q e = absurd (cc e)
     from (Some x) q e = record {
       alive = running g rs table m r is alive;
+      inside = (in_view_test g rs table m r is).0 inside;
       vote = x;
       waits = pending ∙ q;
       other = λ same. differs x.ballot (me r) e (same ∙ sym is.of.number);
     }
 
 -- and commits exactly where that may come
-pub commit_guard : (g : Group) (rs : List (Option Replica)) (table : List ℕ) (m : ℕ) (r : Replica)
+pub commit_guard : (g : Group) (rs : List (Option Replica)) (table : Shared) (m : ℕ) (r : Replica)
     → IsMember g rs table m r → IsIdle r
     → (may_commit r ≡ true) ↔ CanCommit g (world_of g rs table) m
 commit_guard g rs table m r is free = (
@@ -299,7 +301,7 @@ vote_changes g w m v = record {
 }
 
 -- a vote goes on the log
-pub vote_effect : (g : Group) (rs : List (Option Replica)) (table : List ℕ) (m : ℕ) (r : Replica) (v : Value)
+pub vote_effect : (g : Group) (rs : List (Option Replica)) (table : Shared) (m : ℕ) (r : Replica) (v : Value)
     → IsMember g rs table m r
     → world_of g (with_present rs m (voted r v)) table ≡ logs_vote g (world_of g rs table) m v
 vote_effect g rs table m r v is =
@@ -313,7 +315,7 @@ vote_effect g rs table m r v is =
     }) in
     replaced g rs table table m r (voted r v) (logs_vote g (world_of g rs table) m v) (vote_after g v)
     is.there (vote_changes g (world_of g rs table) m v)
-    (λ z. record (holding_of g r) { votes = r.votes ++ vote z ∷ []; pending = Some (vote z) }) refl
+    (λ z. record (holding_of g r) { votes = r.votes ++ vote z ∷ []; pending = Some (vote z) }) refl refl
 
 abbrev commit_after : Holding → Holding
 commit_after h = record h { committed = Some h.value }
@@ -325,7 +327,7 @@ commit_changes w m = record {
 }
 
 -- a value is committed
-pub commit_effect : (g : Group) (rs : List (Option Replica)) (table : List ℕ) (m : ℕ) (r : Replica)
+pub commit_effect : (g : Group) (rs : List (Option Replica)) (table : Shared) (m : ℕ) (r : Replica)
     → IsMember g rs table m r
     → world_of g (with_present rs m (acted (decided r))) (acted_table g table m r)
     ≡ stamped (commits (world_of g rs table) m) m
@@ -333,7 +335,7 @@ commit_effect g rs table m r is =
     then_acted g rs table m (decided r) (commits (world_of g rs table) m) (present_within rs m r is.there)
     (fits g rs table m r is) is.cells
     (replaced g rs table table m r (decided r) (commits (world_of g rs table) m) commit_after is.there
-    (commit_changes (world_of g rs table) m) refl refl)
+    (commit_changes (world_of g rs table) m) refl refl refl)
 
 -- what a member has once it has accepted this vote, where these were its own words in its view
 abbrev accept_from : Group → Holding → Vote → (ℕ → ℕ) → Holding
@@ -355,7 +357,7 @@ accept_changes g w m = record {
 }
 
 -- what it has voted for is accepted
-pub accept_effect : (g : Group) (rs : List (Option Replica)) (table : List ℕ) (m : ℕ) (r : Replica)
+pub accept_effect : (g : Group) (rs : List (Option Replica)) (table : Shared) (m : ℕ) (r : Replica)
     → IsMember g rs table m r
     → world_of g (with_present rs m (acted (accepted r))) (acted_table g table m r)
     ≡ stamped (accepts g (world_of g rs table) m) m
@@ -363,7 +365,7 @@ accept_effect g rs table m r is =
     then_acted g rs table m (accepted r) (accepts g w m) (present_within rs m r is.there)
     new_fits is.cells
     (replaced g rs table table m r (accepted r) (accepts g w m) (accept_after g) is.there
-    (accept_changes g w m) same refl)
+    (accept_changes g w m) same refl refl)
   where
     w : World
     w = world_of g rs table

@@ -13,7 +13,8 @@ use Rattle.dr_program.specs.declared.place.Place.{Place}
 use Rattle.dr_program.specs.declared.place.TheConstants.{TURN}
 use Rattle.dr_machine.specs.Effects.{one_more}
 use Rattle.dr_program.specs.Turn.{after, is_beat, IsIn, part_of, places_in, rows_in, columns_in, turn_begins}
-use Rattle.dr_program.specs.Replica.{Replica, value_due}
+use Rattle.dr_history.specs.Members.{has}
+use Rattle.dr_program.specs.Replica.{Replica, is_inside, value_due}
 use Rattle.dr_rows.specs.Words.{is_frozen}
 use Rattle.dr_program.specs.Steps.{AtLook, NoWordFell, allows, has_cell, stepped}
 use Rattle.dr_program.specs.Running.{Running, members, columns, asks, waits_after, settled, goes, pushes_after, took, next_step, after_step, WaitsAt}
@@ -23,7 +24,7 @@ use Rattle.dr_program.proofs.Fixed as fixed
 use Rattle.dr_turn.specs.Search.{left, IsUnderway}
 use Rattle.dr_turn.specs.Work.{work, deeds_of, left_to, may_fail, deeds_left, HasGrownTo, IsAfterDeed}
 use Rattle.dr_turn.proofs.Fewer.{fewer_here, fewer_turns}
-use Rattle.dr_turn.proofs.Order.{after_beat, after_in, all_below, beat_last, each_below, from_part, implied, left_falls, left_small, left_some}
+use Rattle.dr_turn.proofs.Order.{after_beat, after_in, all_below, beat_last, each_below, ends_in, from_part, implied, is_take, left_falls, left_small, left_some, left_take}
 use Rattle.dr_turn.proofs.Parts.{Going, Lowers, acts_on, due_at, end_comes, end_stays, going, is_final, is_publish, is_vote, lowers, none_waits, pending_gone, pending_stays, publish_size, turns_stay, vote_waits, waits_keep}
 use Rattle.dr_turn.proofs.Search.{beat_test, part_before, settle_less, settle_only, settled_running, settled_underway, some_column, some_member}
 
@@ -158,7 +159,8 @@ goes_in word r part d = by (going r part)
           row = subst (λ x. r.place.row < rows_in (members r) x) (sym at.before) at.row;
           column = subst (λ x. r.place.column < columns_in (columns r) x) (sym at.before) at.column;
         })
-    by (inr (inr stays)) = rw stays.0 d.underway.place
+    by (inr (inr (inl stays))) = rw stays.0 d.underway.place
+    by (inr (inr (inr ends))) = rw ends.1 (ends_in (members r) (columns r))
 
 one_more_at_most : (a : ℕ) → one_more 32 a ≤ a + 1
 one_more_at_most a = min-le_left (a + 1) 4294967295
@@ -209,7 +211,7 @@ beat_place r u at = λ z. record {
 
 -- a turn that begins leads to its first part
 pub first_part : (r : Running) → IsUnderway r → part_of r.place ≡ turn_begins
-    → part_of (after (members r) (columns r) r.place) ≡ parts.Look
+    → part_of (after (members r) (columns r) r.place) ≡ parts.Take
 first_part r u at = ap (λ (p : Place). part_of (after (members r) (columns r) p)) (beat_place r u at)
 
 unturned : (word : ℕ) (r : Running) (part : Part) → IsDue word r part
@@ -226,13 +228,14 @@ unturned word r part d none begins = absurd (by (is_beat part) refl (going r par
         cc (sym d.at ∙ left_behind r d.underway (ap is_beat d.at ∙ e) (sym (ap part_of on) ∙ begins))
     by false e (inr (inl back)) =
         cc (sym (publishing_at word r part d back.0).before ∙ sym (ap part_of back.1) ∙ begins)
-    by false e (inr (inr stays)) =
+    by false e (inr (inr (inl stays))) =
         cc (sym (ap is_beat d.at ∙ e) ∙ ap is_beat (sym (ap part_of stays.0) ∙ begins))
+    by false e (inr (inr (inr ends))) = cc (sym (ap part_of ends.1) ∙ begins)
 
 -- ---- how many deeds are left
 
 -- what is left to a member with this shape
-left_shaped : (r x : Running) → fixed.told x.replica ≡ fixed.told r.replica → left_to x None
+pub left_shaped : (r x : Running) → fixed.told x.replica ≡ fixed.told r.replica → left_to x None
     ≡ deeds_of (x.limit - x.replica.turns) (places_in (members r) (columns r) TURN)
     (left (members r) (columns r) x.place) (work x.replica) + may_fail x.failed
 left_shaped r x same =
@@ -275,7 +278,12 @@ fewer_amid word r part d amid other less = by (going r part)
       went.2,
       back (members r) (columns r) r.place d.underway.place.part (publishing_at word r part d went.0),
     ))
-    by (inr (inr stays)) = rw stays.0 (omega (arith, less, stays.1 other))
+    by (inr (inr (inl stays))) = rw stays.0 (omega (arith, less, stays.1 other))
+    by (inr (inr (inr ends))) = rw ends.1 (omega (
+      arith,
+      less,
+      left_take (members r) (columns r) r.place d.underway.place (ap is_take d.at ∙ ends.0),
+    ))
 
 fewer : (word : ℕ) (r : Running) (part : Part) → r.limit < 2 ^ 32 → IsDue word r part
     → Lowers (due_at r part) (work r.replica) (work (does_at word r part).replica)
@@ -354,7 +362,7 @@ does word r part fits d grown =
     }
 
 -- the search keeps what a deed has done
-settled_done : (r y : Running) → IsAfterDeed r y → IsAfterDeed r (settled y)
+pub settled_done : (r y : Running) → IsAfterDeed r y → IsAfterDeed r (settled y)
 settled_done r y d = record {
   underway = settled_underway y d.underway;
   grown = subst (λ (q : Replica). q.view ≡ r.replica.view → NoWordFell r.replica q) (sym same) d.grown;
@@ -405,6 +413,7 @@ unfrozen_read r m none = λ i c look.
     let may : allows r.replica (next_step r) ≡ true =
     (and_parts (asks r (part_of r.place) r.place.row r.place.column) (allows r.replica (next_step r))
     (m.due none)).1 in
-    let other = and_parts _ (has_cell r.replica i c)
+    let test = and_parts (is_inside r.replica) (not (has r.replica.suspects i) && has_cell r.replica i c)
     (subst (λ (s : Step). allows r.replica s ≡ true) look may) in
+    let other = and_parts (not (has r.replica.suspects i)) (has_cell r.replica i c) test.1 in
     m.replica.frozen i ∙ grind (arith, other.0)

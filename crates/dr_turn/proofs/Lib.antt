@@ -6,3 +6,4 @@ pub mod Staying
 pub mod Deeds
 pub mod Failing
 pub mod Parts
+pub mod Takes

@@ -8,7 +8,7 @@ use Rattle.dr_program.specs.declared.place.Part.{Part}
 use Rattle.dr_program.specs.declared.place.Part.TheVariants as parts
 use Rattle.dr_program.specs.declared.place.Place.{Place}
 use Rattle.dr_program.specs.declared.place.TheConstants.{TURN}
-use Rattle.dr_program.specs.Turn.{after, columns_in, is_beat, IsIn, part_of, places_in, rows_in, turn_begins}
+use Rattle.dr_program.specs.Turn.{after, columns_in, is_beat, IsIn, part_of, places_in, rows_in, turn_begins, turn_ends}
 use Rattle.dr_turn.specs.Search.{left}
 
 -- the places of a part
@@ -83,6 +83,7 @@ some_place : (n k : ℕ) (p : Part) → 0 < n → 0 < k → (0 < rows_in n p) ×
 some_place n k parts.Look a b = (a, b)
 some_place n k parts.Receive a b = (a, omega arith)
 some_place n k parts.Push a b = (a, b)
+some_place n k parts.Give a b = (a, omega arith)
 some_place n k p a b = (omega arith, omega arith)
 
 comes : (n k : ℕ) (p : Place) (x y z : Bool) → nat_lt (p.column + 1) (columns_in k (part_of p)) ≡ x
@@ -160,6 +161,36 @@ beat_last i l e = grind (
       || (j + 1 == length TURN)) refl l,
   e,
 )
+
+-- a take is the first part alone
+abbrev pub is_take : Part → Bool
+is_take parts.Take = true
+is_take part = false
+
+pub take_first : (i : ℕ) → i < length TURN → is_take (slice_index_or TURN i turn_begins) ≡ true → i ≡ 0
+unfolding all_below
+take_first i l e = grind (
+  arith,
+  nat_tests,
+  each_below (length TURN) i (λ j. not (is_take (slice_index_or TURN j turn_begins)) || (j == 0)) refl l,
+  e,
+)
+
+-- and behind it more places are left than where a turn ends
+pub left_take : (n k : ℕ) (p : Place) → IsIn n k p → is_take (part_of p) ≡ true
+    → left n k turn_ends < left n k p
+unfolding left
+left_take n k p is at = omega (
+  arith,
+  from_part n k 17 18 TURN turn_begins refl (omega arith),
+  few_places n k 16 (drop 1 TURN),
+  ap (λ i. places_in n k (drop (i + 1) TURN)) (take_first p.part is.part at),
+  within (rows_in n (part_of p)) (columns_in k (part_of p)) p.row p.column is.row is.column,
+)
+
+-- where a turn ends is a place of it
+pub ends_in : (n k : ℕ) → IsIn n k turn_ends
+ends_in n k = record { part = omega arith; row = omega arith; column = omega arith }
 
 -- so before a turn the member was at the place of the end with no turn left
 pub after_beat : (n k : ℕ) (p : Place) → IsIn n k (after n k p) → is_beat (part_of p) ≡ false

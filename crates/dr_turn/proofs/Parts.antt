@@ -2,7 +2,7 @@
 -- where the member goes on.
 use Rattle.std.proofs.Common.{◌≡◌, refl, sym, ap, ◌∙◌, ℕ, ◌+◌, ◌-◌, ◌<◌, ◌≤◌, ◌==◌, ◌&&◌, ◌||◌, ◌⊎◌, inl, inr, if◌then◌else◌, not, Bool, true, false, length, arith}
 use Rattle.std.specs.Prelude.{Option, Some, None, is_some, slice_index_or, unwrap_or}
-use Rattle.std.proofs.lemmas.Bool.{not-true}
+use Rattle.std.proofs.lemmas.Bool.{and_parts, not-true}
 use Rattle.std.specs.Option.{option_map, option_or}
 use Rattle.std.proofs.lemmas.List.{length-set}
 use Rattle.dr_entry.specs.declared.end.End.TheVariants as ends
@@ -19,16 +19,16 @@ use Rattle.dr_program.specs.declared.place.Place.{Place}
 use Rattle.dr_program.specs.declared.place.TheConstants.{TURN}
 use Rattle.dr_program.specs.Acts.{taken}
 use Rattle.dr_program.specs.Form.{HasForm}
-use Rattle.dr_program.specs.Replica.{Replica, has_majority, is_others, is_own, is_wedged, me, unsuspected}
+use Rattle.dr_program.specs.Replica.{Replica, has_majority, is_inside, is_others, is_own, is_wedged, me, unsuspected}
 use Rattle.dr_program.specs.Running.{Running, WaitsAt, applies, asks, columns, goes, judged, members, moved, named_by, overdue, scripted, step_at, told, vote_or_end, waits_after}
-use Rattle.dr_program.specs.Steps.{NoWordFell, allows, stepped}
-use Rattle.dr_program.specs.Turn.{IsIn, after, columns_in, is_beat, part_of, rows_in, turn_begins}
+use Rattle.dr_program.specs.Steps.{NoWordFell, allows, allows_inside, is_outside_step, stepped}
+use Rattle.dr_program.specs.Turn.{IsIn, after, columns_in, is_beat, part_of, rows_in, turn_begins, turn_ends}
 use Rattle.dr_program.proofs.Fixed.{Told, step_told}
 use Rattle.dr_suspect.specs.Waits.{IsWaits}
 use Rattle.dr_turn.specs.Work.{tasks, work}
 use Rattle.dr_turn.proofs.Fewer.{NoneRises, sum_falls, sum_keeps}
-use Rattle.dr_turn.proofs.Order.{all_below, each_below, follows, next_part}
-use Rattle.dr_turn.proofs.Tasks.{accepted_less, decided_less, delivered_less, ends_view, finished_less, marked_less, none_rises, proposed_less, published_less, put_less, received_less, reported_less, risen, suspected_less, view_stays, views_keep}
+use Rattle.dr_turn.proofs.Order.{all_below, each_below, follows, is_take, next_part}
+use Rattle.dr_turn.proofs.Tasks.{accepted_less, decided_less, delivered_less, ends_view, finished_less, gave_less, marked_less, none_rises, proposed_less, published_less, put_less, received_less, reported_less, risen, suspected_less, view_stays, views_keep}
 
 -- ---- which they are
 
@@ -155,6 +155,7 @@ least (steps.Do acts.Publish) = 2
 least (steps.Do (acts.Halt end)) = 0
 least (steps.Do (acts.Crash end)) = 0
 least (steps.Do a) = 1
+least (steps.Welcome j) = 1
 least s = 0
 
 abbrev pub Lowers : Step → ℕ → ℕ → Type 0
@@ -187,7 +188,7 @@ unfolding work
 no_more word r s stays none =
     omega (arith, views_keep word r s stays, sum_keeps r (stepped word r s) tasks none)
 
-lowers_task : (word : ℕ) (r : Replica) (s : Step) → ends_view s ≡ false → HasForm r → allows r s ≡ true
+lowers_task : (word : ℕ) (r : Replica) (s : Step) → ends_view s ≡ false → HasForm r → allows_inside r s ≡ true
     → HasForm (stepped word r s) → NoneRises r (stepped word r s) tasks
     → Lowers s (work r) (work (stepped word r s))
 lowers_task word r (steps.Do acts.Beat) stays f may form none = no_more word r (steps.Do acts.Beat) stays none
@@ -215,6 +216,8 @@ lowers_task word r (steps.Do acts.Commit) stays f may form none =
     less word r (steps.Do acts.Commit) stays none 7 (omega arith) (decided_less r may)
 lowers_task word r (steps.Do acts.Finish) stays f may form none = absurd (cc stays)
 lowers_task word r (steps.Do a) stays f may form none = no_more word r (steps.Do a) stays none
+lowers_task word r (steps.Welcome j) stays f may form none =
+    less word r (steps.Welcome j) stays none 8 (omega arith) (gave_less r j f may)
 lowers_task word r s stays f may form none = no_more word r s stays none
 
 -- the end of a view lowers it
@@ -231,10 +234,13 @@ pub lowers : (word : ℕ) (r : Replica) (s : Step) → HasForm r → allows r s 
     → Lowers s (work r) (work (stepped word r s))
 lowers word r s f may form grown = by (ends_view s) refl
   where
+    inner : allows_inside r s ≡ true
+    inner = (and_parts (is_outside_step s || is_inside r) (allows_inside r s) may).1
+
     by : (b : Bool) → ends_view s ≡ b → Lowers s (work r) (work (stepped word r s))
     by true ends = ending_lowers word r s ends f
-    by false stays = lowers_task word r s stays f may form
-        (none_rises word r s stays f may form (risen r (stepped word r s)
+    by false stays = lowers_task word r s stays f inner form
+        (none_rises word r s stays f inner form (risen r (stepped word r s)
         (ap (λ (t : Told). t.number) (step_told word r s)) (grown (view_stays word r s stays))))
 
 -- ---- where the member goes on
@@ -246,19 +252,22 @@ pub goes_back_or_stays : (n k : ℕ) (a : Act) (p : Place) → is_beat (parts.Do
 goes_back_or_stays n k a p other = grind (arith, other)
 
 -- after the step of a part: on, or back by a step that lowers the work by two, or it stays, and the step was
--- its end or lowers the work
+-- its end or lowers the work, or it goes to the end of the turn from a take
 abbrev pub Going : Running → Part → Type 0
 Going r part = let there : Place = goes (members r) (columns r) part r.place in
     (there ≡ after (members r) (columns r) r.place)
     ⊎ (((is_publish part ≡ true) × (there ≡ record r.place { part = r.place.part - 1 })
     × (least (due_at r part) ≡ 2))
-    ⊎ ((there ≡ r.place) × (is_final (due_at r part) ≡ false → least (due_at r part) ≡ 1)))
+    ⊎ (((there ≡ r.place) × (is_final (due_at r part) ≡ false → least (due_at r part) ≡ 1))
+    ⊎ ((is_take part ≡ true) × (there ≡ turn_ends))))
 
 verdict_less : (a : Act) → is_verdict a ≡ true → is_final (steps.Do a) ≡ false → least (steps.Do a) ≡ 1
 verdict_less a verdict other = grind (arith, verdict, other)
 
 pub going : (r : Running) (part : Part) → Going r part
-going r parts.Judge = inr (inr (refl, verdict_less (judged r) (verdict_of r)))
+going r parts.Judge = inr (inr (inl (refl, verdict_less (judged r) (verdict_of r))))
+going r parts.Take = inr (inr (inr (refl, refl)))
+going r parts.Give = inr (inr (inl (refl, λ other. refl)))
 going r part = grind arith
 
 -- publishing is at one place
@@ -342,9 +351,14 @@ other_ballot : (b : Bool) → b ≡ false → not b ≡ true
 other_ballot true e = absurd (cc e)
 other_ballot false e = refl
 
+tested : (inside test : Bool) → inside ≡ true → (inside && test) ≡ false → test ≡ false
+tested true test is e = e
+tested false test is e = absurd (cc is)
+
 pub waits_on : (r : Running) → IsIn (members r) (columns r) r.place → WaitsAt r (part_of r.place)
+    → (is_inside r.replica ≡ false → r.replica.pending ≡ None)
     → applies r r.place ≡ false → WaitsAt r (part_of (moved r).place)
-waits_on r is waits e = by waits r.replica.pending refl
+waits_on r is waits idle e = by waits r.replica.pending refl
   where
     here : (part : Part) → part_of r.place ≡ part
         → (asks r part r.place.row r.place.column
@@ -352,15 +366,29 @@ waits_on r is waits e = by waits r.replica.pending refl
     here part at = sym (ap (λ x. asks r x r.place.row r.place.column
         && allows r.replica (step_at r x r.place.row r.place.column)) at) ∙ e
 
+    inside : (x : Vote) → r.replica.pending ≡ Some x → is_inside r.replica ≡ true
+    inside x q = by (is_inside r.replica) refl
+      where
+        by : (b : Bool) → is_inside r.replica ≡ b → b ≡ true
+        by true t = refl
+        by false t = absurd (cc (q, idle t))
+
     by : WaitsAt r (part_of r.place) → (o : Option Vote) → r.replica.pending ≡ o
         → WaitsAt r (part_of (moved r).place)
     by (inl none) o q = inl none
     by (inr (inl at)) None q = inl q
     by (inr (inl at)) (Some x) q =
         let not_own : is_own (me r.replica) (Some x) ≡ false =
-        sym (ap (is_own (me r.replica)) q) ∙ here (parts.Do acts.Propose) at in
+        sym (ap (is_own (me r.replica)) q)
+        ∙ tested (is_inside r.replica) (is_own (me r.replica) r.replica.pending) (inside x q)
+        (here (parts.Do acts.Propose) at) in
         inr (inr (
           after_propose (members r) (columns r) r.place is at,
           ap (is_others (me r.replica)) q ∙ other_ballot (x.ballot == me r.replica) not_own,
         ))
-    by (inr (inr t)) o q = absurd (cc (t.1, here (parts.Do acts.Accept) t.0))
+    by (inr (inr t)) None q = inl q
+    by (inr (inr t)) (Some x) q = absurd (cc (
+      t.1,
+      tested (is_inside r.replica) (is_others (me r.replica) r.replica.pending) (inside x q)
+          (here (parts.Do acts.Accept) t.0),
+    ))

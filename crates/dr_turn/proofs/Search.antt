@@ -94,7 +94,7 @@ pub underway_idle : (r : Running) → IsUnderway r → applies r r.place ≡ fal
 underway_idle r u e =
     underway_moved r u (idle_part r r.place e)
     (λ none spent. unspent (ap (λ x. applies_at r x r.place.row r.place.column) spent))
-    (waits_on r u.place u.free e)
+    (waits_on r u.place u.free (λ outside. (u.replica.outside outside).idle) e)
   where
     unspent : applies r r.place ≡ ((r.replica.turns == r.limit) && true) → r.replica.turns < r.limit
     unspent t = grind (arith, nat_tests, t, e, u.turns)

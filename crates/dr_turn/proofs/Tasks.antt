@@ -1,20 +1,24 @@
 -- The tasks of a replica: which of its deeds lowers each, and that no deed raises any.
-use Rattle.std.proofs.Common.{◌≡◌, refl, ap, inl, sym, subst, ◌∙◌, ℕ, suc, ◌+◌, ◌-◌, ◌*◌, ◌^◌, ◌<◌, ◌≤◌, ◌==◌, nat_lt, not, ◌&&◌, Bool, true, false, length, slice_index, arith}
+use Rattle.std.proofs.Common.{◌≡◌, refl, ap, inl, sym, subst, ◌∙◌, ℕ, suc, ◌+◌, ◌-◌, ◌*◌, ◌^◌, ◌<◌, ◌≤◌, ◌==◌, nat_lt, not, ◌&&◌, Bool, true, false, List, [], ◌∷◌, ◌++◌, replicate, length, le_refl, slice_index, arith}
 use Rattle.std.proofs.lemmas.Bool.{and_parts, ltb-true}
 use Rattle.std.proofs.lemmas.Bool.Decides.{nat_tests}
 use Rattle.std.proofs.lemmas.List.{get_or-set_same}
 use Rattle.std.proofs.lemmas.List.Folds.{sum_by-replicate}
-use Rattle.std.proofs.Math.Nat.{mul_comm, mul-suc}
+use Rattle.std.proofs.Math.Nat.{mul_comm, mul-le-mul, mul-suc}
+use Rattle.dr_entry.specs.declared.entry.Entry.{Entry}
 use Rattle.dr_entry.specs.declared.entry.Item.{Item}
+use Rattle.dr_history.specs.History.{last_view}
+use Rattle.dr_history.specs.Members.{has}
 use Rattle.dr_entry.specs.declared.end.SentItem.{SentItem}
 use Rattle.dr_entry.specs.declared.record.Value.{Value}
 use Rattle.dr_entry.specs.declared.record.Vote.{Vote}
-use Rattle.dr_machine.specs.World.{no_vote}
+use Rattle.dr_machine.specs.World.{no_value, no_vote}
 use Rattle.dr_words.proofs.Accepts.{leavers_accept}
 use Rattle.dr_words.specs.Columns.{leavers_column}
 use Rattle.std.specs.Prelude.{None, Option, Some, is_some, unwrap_or}
+use Rattle.dr_machine.specs.declared.event.Act.TheVariants as acts
 use Rattle.dr_machine.specs.declared.step.Step.{Step}
-use Rattle.dr_machine.specs.declared.step.Step.TheVariants.{Do}
+use Rattle.dr_machine.specs.declared.step.Step.TheVariants.{Do, Welcome}
 use Rattle.dr_rows.specs.Words.{own, seen, with_own}
 use Rattle.dr_rows.proofs.Grids.{with_word-same, with_word-column}
 use Rattle.dr_words.specs.Rewrites.{is_accept_of}
@@ -22,12 +26,12 @@ use Rattle.dr_words.specs.declared.column.TheConstants.{BEAT_COLUMN, RECEIVED_CO
 use Rattle.dr_words.proofs.Masks.{in_roster_small, with_member_greater, with_member_small}
 use Rattle.dr_words.specs.Masks.{with_member}
 use Rattle.dr_program.specs.Acts.{leaves_view}
-use Rattle.dr_program.specs.Replica.{Replica, me, greatest, is_other, is_wedged, least_seen, may_deliver, may_mark, may_publish, may_receive, may_report, may_suspect, acted, received, put, delivered, published, reported, marked, suspected, accepted, decided, finished, is_own, is_others, may_commit, promise}
-use Rattle.dr_program.specs.Steps.{NoWordFell, allows, stepped}
+use Rattle.dr_program.specs.Replica.{LeftView, Replica, me, entered, finished_history, gave, left_now, nothing_left, greatest, is_welcomer, is_wedged, joined, may_give, least_seen, may_deliver, may_mark, may_publish, may_receive, may_report, may_suspect, acted, received, put, delivered, published, reported, marked, suspected, accepted, decided, finished, is_own, is_others, may_commit, promise}
+use Rattle.dr_program.specs.Steps.{NoWordFell, allows_inside, stepped}
 use Rattle.dr_program.specs.Form.{HasForm}
 use Rattle.dr_program.proofs.Least.{least_fits}
 use Rattle.dr_program.proofs.Opening.{first_own}
-use Rattle.dr_turn.specs.Work.{ballots_left, commit_left, items_left, open_count, places_left, log_left, refill, reports_left, mark_left, sum_of, trust_left, tasks, views_left, work}
+use Rattle.dr_turn.specs.Work.{ballots_left, commit_left, items_left, letters_left, open_count, places_left, log_left, refill, reports_left, mark_left, sum_of, trust_left, tasks, views_left, work}
 use Rattle.dr_turn.proofs.Fewer.{NoneRises, items_less, items_no_more}
 
 -- the step ends a view
@@ -104,7 +108,7 @@ delivered_less r is =
     (and_parts (nat_lt r.next (least_seen r RECEIVED_COLUMN)) _ (and_parts (not (is_wedged r)) _ is).1).0 in
     minus_less (2 ^ 64) r.next (r.next + 1) (omega arith) (omega (arith, below, least_fits r RECEIVED_COLUMN))
 
-places_keep : (word : ℕ) (r : Replica) (s : Step) → ends_view s ≡ false → allows r s ≡ true
+places_keep : (word : ℕ) (r : Replica) (s : Step) → ends_view s ≡ false → allows_inside r s ≡ true
     → places_left (stepped word r s) ≤ places_left r
 unfolding places_left
 places_keep word r s stays is = grind (arith, stays, is, delivered_less r)
@@ -129,7 +133,7 @@ published_less r form is = omega (arith, now, ltb-true (own r.rows LOGGED_COLUMN
     now : own (acted (published r)).rows LOGGED_COLUMN ≡ r.logged
     now = stamped_own r LOGGED_COLUMN r.logged form (omega arith) (omega (arith, form.columns))
 
-log_keeps : (word : ℕ) (r : Replica) (s : Step) → HasForm r → allows r s ≡ true
+log_keeps : (word : ℕ) (r : Replica) (s : Step) → HasForm r → allows_inside r s ≡ true
     → HasRisen r (stepped word r s) → log_left (stepped word r s) ≤ log_left r
 unfolding log_left
 log_keeps word r s form is rise =
@@ -145,7 +149,7 @@ reported_less r is =
     minus_less (2 ^ 64) r.durable (least_seen r LOGGED_COLUMN)
     (ltb-true r.durable (least_seen r LOGGED_COLUMN) is) (omega (arith, least_fits r LOGGED_COLUMN))
 
-reports_keep : (word : ℕ) (r : Replica) (s : Step) → allows r s ≡ true
+reports_keep : (word : ℕ) (r : Replica) (s : Step) → allows_inside r s ≡ true
     → reports_left (stepped word r s) ≤ reports_left r
 unfolding reports_left
 reports_keep word r s is = grind (arith, is, reported_less r)
@@ -179,7 +183,7 @@ mark_keeps word r s rise = minus_le 1 _ _ (rise.rise DONE_COLUMN)
 -- who a replica suspects are of its roster, so that they have 16 bits
 pub suspects_small : (r : Replica) → HasForm r → r.suspects < 2 ^ 16
 suspects_small r form = in_roster_small 16 r.suspects
-    (λ n h. omega (arith, form.roster n (form.suspicion.others n h), form.rows.few, form.members))
+    (λ n h. omega (arith, form.named n h, form.rows.few, form.members))
 
 -- a suspicion leaves fewer members to suspect
 pub suspected_less : (r : Replica) (j : ℕ) → HasForm r → may_suspect r j ≡ true
@@ -188,7 +192,7 @@ unfolding trust_left
 suspected_less r j form is = minus_less (2 ^ 16) r.suspects (with_member r.suspects j)
     (with_member_greater r.suspects j (suspects_small r form) few (grind (
       arith,
-      (and_parts (is_other r j) _ (and_parts (nat_lt j r.roster) _ is).1).1,
+      (and_parts _ (not (has r.suspects j)) (and_parts (not (j == me r)) _ (and_parts (nat_lt j r.roster) _ is).1).1).1,
     )))
     (omega (arith, with_member_small r.suspects j))
   where
@@ -196,7 +200,8 @@ suspected_less r j form is = minus_less (2 ^ 16) r.suspects (with_member r.suspe
     few = omega
         (arith, ltb-true j r.roster (and_parts (nat_lt j r.roster) _ is).0, form.rows.few, form.members)
 
-trust_keeps : (word : ℕ) (r : Replica) (s : Step) → ends_view s ≡ false → HasForm r → allows r s ≡ true
+trust_keeps : (word : ℕ) (r : Replica) (s : Step) → ends_view s ≡ false → HasForm r
+    → allows_inside r s ≡ true
     → trust_left (stepped word r s) ≤ trust_left r
 unfolding trust_left
 trust_keeps word r s stays form is = grind (arith, stays, is, form, suspected_less r)
@@ -240,10 +245,14 @@ pub accepted_less : (r : Replica) → HasForm r → is_others (me r) r.pending �
     → ballots_left (acted (accepted r)) < ballots_left r
 accepted_less r form is = let t = waits_others (me r) r.pending is in accepted_from r t.0 form t.1
 
-ballots_keep : (word : ℕ) (r : Replica) (s : Step) → ends_view s ≡ false → HasForm r → allows r s ≡ true
-    → ballots_left (stepped word r s) ≤ ballots_left r
+ballots_keep : (word : ℕ) (r : Replica) (s : Step) → ends_view s ≡ false → HasForm r
+    → allows_inside r s ≡ true → ballots_left (stepped word r s) ≤ ballots_left r
 unfolding ballots_left
-ballots_keep word r s stays form is = grind (arith, stays, is, form, proposed_less r, accepted_less r)
+ballots_keep word r (Do acts.Finish) stays form is = absurd (cc stays)
+ballots_keep word r (Do acts.Propose) stays form is = omega (arith, proposed_less r form is)
+ballots_keep word r (Do acts.Accept) stays form is = omega (arith, accepted_less r form is)
+ballots_keep word r (Do a) stays form is = le_refl _
+ballots_keep word r s stays form is = le_refl _
 
 -- a commit leaves none to come
 open_one : (o : Option Value) → not (is_some o) ≡ true → open_count o ≡ 1
@@ -258,15 +267,44 @@ decided_less r is =
     (and_parts (is_wedged r) _ is).1).0 in
     omega (arith, one)
 
-commit_keeps : (word : ℕ) (r : Replica) (s : Step) → ends_view s ≡ false → allows r s ≡ true
+commit_keeps : (word : ℕ) (r : Replica) (s : Step) → ends_view s ≡ false → allows_inside r s ≡ true
     → commit_left (stepped word r s) ≤ commit_left r
 unfolding commit_left
 commit_keeps word r s stays is = grind (arith, stays, is, decided_less r)
 
+-- ---- letters
+
+-- a letter that is given leaves fewer to give
+pub gave_less : (r : Replica) (j : ℕ) → HasForm r → may_give r j ≡ true → letters_left (gave r j) < letters_left r
+unfolding letters_left
+gave_less r j form is = minus_less (2 ^ 16) r.given (with_member r.given j)
+    (with_member_greater r.given j form.given few (grind (arith, new)))
+    (omega (arith, with_member_small r.given j))
+  where
+    within : nat_lt j r.roster ≡ true
+    within = (and_parts (nat_lt j r.roster) _ is).0
+
+    new : not (has r.given j) ≡ true
+    new = (and_parts (not (has r.came_from j)) _ (and_parts (has r.members j) _ (and_parts (is_welcomer r) _
+        (and_parts (nat_lt j r.roster) _ is).1).1).1).1
+
+    few : j < 16
+    few = omega (arith, ltb-true j r.roster within, form.rows.few, form.members)
+
+letters_keep : (word : ℕ) (r : Replica) (s : Step) → ends_view s ≡ false → HasForm r
+    → allows_inside r s ≡ true → letters_left (stepped word r s) ≤ letters_left r
+unfolding letters_left
+letters_keep word r (Do acts.Finish) stays form is = absurd (cc stays)
+letters_keep word r (Do acts.Beat) stays form is = le_refl _
+letters_keep word r (Do a) stays form is = le_refl _
+letters_keep word r (Welcome j) stays form is = omega (arith, gave_less r j form is)
+letters_keep word r s stays form is = le_refl _
+
 -- ---- all of them
 
 -- no step in a view raises any of the tasks
-pub none_rises : (word : ℕ) (r : Replica) (s : Step) → ends_view s ≡ false → HasForm r → allows r s ≡ true
+pub none_rises : (word : ℕ) (r : Replica) (s : Step) → ends_view s ≡ false → HasForm r
+    → allows_inside r s ≡ true
     → HasForm (stepped word r s) → HasRisen r (stepped word r s)
     → NoneRises r (stepped word r s) tasks
 none_rises word r s stays f is form rise = (
@@ -281,7 +319,10 @@ none_rises word r s stays f is form rise = (
           mark_keeps word r s rise,
           (
             trust_keeps word r s stays f is,
-            (ballots_keep word r s stays f is, (commit_keeps word r s stays is, tt)),
+            (
+              ballots_keep word r s stays f is,
+              (commit_keeps word r s stays is, (letters_keep word r s stays f is, tt)),
+            ),
           ),
         ),
       ),
@@ -301,36 +342,94 @@ pub views_keep : (word : ℕ) (r : Replica) (s : Step) → ends_view s ≡ false
 unfolding views_left refill
 views_keep word r s stays = grind (arith, stays)
 
--- the next view is one less
-one_view_less : (r : Replica) → r.view < r.banks → views_left (finished (acted r)) + refill r ≤ views_left r
+-- a replica that is as this one, but for what it has put on its words
+pub record IsAlike (r s : Replica) : Type 0 where
+  pub banks : s.banks ≡ r.banks
+  pub totals : s.totals ≡ r.totals
+  pub roster : s.roster ≡ r.roster
+  pub room : s.room ≡ r.room
+  pub logged : s.logged ≡ r.logged
+  pub durable : s.durable ≡ r.durable
+  pub few : s.rows.members ≤ 16
+  pub narrow : s.rows.columns ≤ 1024
+  pub present : me s < s.rows.members
+  pub inside : LOGGED_COLUMN < s.rows.columns
+
+-- a later view is one less
+one_view_less : (r s : Replica) (view members : ℕ) (history : List Entry) (kept : List LeftView) → IsAlike r s
+    → r.view < r.banks → r.view < view → views_left (entered s view members history kept) + refill r ≤ views_left r
 unfolding views_left refill
-one_view_less r l =
-    let most : ℕ = greatest r.totals * r.roster + 2 ^ 64 + 2 ^ 16 + 16 + 4 in
+one_view_less r s view members history kept like l later =
+    let most : ℕ = greatest r.totals * r.roster + 2 ^ 64 + 2 ^ 16 + 2 ^ 16 + 16 + 4 in
     let next : r.banks - r.view ≡ suc (r.banks - (r.view + 1)) = omega (arith, l) in
-    omega (
+    let less : r.banks - view ≤ r.banks - (r.view + 1) = omega (arith, later) in
+    rw (like.banks, like.totals, like.roster) (omega (
       arith,
       ap (λ n. most * n) next,
       mul-suc most (r.banks - (r.view + 1)),
-    )
+      mul-le-mul (le_refl most) less,
+    ))
 
 -- what is logged is published in the new view from its beginning on
-published_there : (r : Replica) → HasForm r → own (finished (acted r)).rows LOGGED_COLUMN ≡ r.logged
-published_there r form = first_own r.rows.members r.rows.columns (me r) r.logged LOGGED_COLUMN form.rows.few
-    form.rows.narrow form.rows.present (omega (arith, form.columns))
+published_there : (s : Replica) (view members : ℕ) (history : List Entry) (kept : List LeftView)
+    → s.rows.members ≤ 16 → s.rows.columns ≤ 1024 → me s < s.rows.members → LOGGED_COLUMN < s.rows.columns
+    → own (entered s view members history kept).rows LOGGED_COLUMN ≡ s.logged
+published_there s view members history kept few narrow present inside =
+    first_own s.rows.members s.rows.columns (me s) s.logged LOGGED_COLUMN few narrow present inside
 
-items_anew : (r : Replica) → items_left (finished (acted r)) ≡ greatest r.totals * r.roster
+items_anew : (s : Replica) (view members : ℕ) (history : List Entry) (kept : List LeftView)
+    → items_left (entered s view members history kept) ≡ greatest s.totals * s.roster
 unfolding items_left
-items_anew r =
-    let all : greatest r.totals - 0 ≡ greatest r.totals = omega arith in
-    sum_by-replicate (λ (count : ℕ). greatest r.totals - count) r.roster 0
-    ∙ ap (λ k. r.roster * k) all ∙ mul_comm r.roster (greatest r.totals)
+items_anew s view members history kept =
+    let all : greatest s.totals - 0 ≡ greatest s.totals = omega arith in
+    sum_by-replicate (λ (count : ℕ). greatest s.totals - count) s.roster 0
+    ∙ ap (λ k. s.roster * k) all ∙ mul_comm s.roster (greatest s.totals)
 
--- so less work is left
-pub finished_less : (r : Replica) → HasForm r → work (finished (acted r)) < work r
-unfolding work sum_of refill places_left log_left reports_left mark_left trust_left ballots_left commit_left
-finished_less r form = omega (
+-- so less work is left behind the View of a later view
+entered_less : (r s : Replica) (view members : ℕ) (history : List Entry) (kept : List LeftView) → HasForm r
+    → IsAlike r s → r.view < view → work (entered s view members history kept) < work r
+unfolding work sum_of refill places_left log_left reports_left mark_left trust_left ballots_left commit_left letters_left
+entered_less r s view members history kept form like later = omega (
   arith,
-  one_view_less r form.bank,
-  items_anew r,
-  published_there r form,
+  one_view_less r s view members history kept like form.bank later,
+  items_anew s view members history kept,
+  ap (λ xs. greatest xs * s.roster) like.totals,
+  ap (λ n. greatest r.totals * n) like.roster,
+  published_there s view members history kept like.few like.narrow like.present like.inside,
+  like.room,
+  like.logged,
+  like.durable,
 )
+
+-- the end of a view leaves less work
+pub finished_less : (r : Replica) → HasForm r → work (finished (acted r)) < work r
+finished_less r form = entered_less r (acted r) (r.view + 1) _
+    (finished_history (acted r) (unwrap_or r.committed no_value)) (r.left ++ left_now (acted r) ∷ []) form (record {
+      banks = refl;
+      totals = refl;
+      roster = refl;
+      room = refl;
+      logged = refl;
+      durable = refl;
+      few = form.rows.few;
+      narrow = form.rows.narrow;
+      present = form.rows.present;
+      inside = omega (arith, form.columns);
+    }) (omega arith)
+
+-- and so does a join
+pub joined_less : (r : Replica) (letter : List Entry) → HasForm r → r.view < (last_view (0, 0) letter).0
+    → work (joined r letter) < work r
+joined_less r letter form later = entered_less r r (last_view (0, 0) letter).0 _ letter
+    (left_now r ∷ replicate ((last_view (0, 0) letter).0 - 1) nothing_left) form (record {
+      banks = refl;
+      totals = refl;
+      roster = refl;
+      room = refl;
+      logged = refl;
+      durable = refl;
+      few = form.rows.few;
+      narrow = form.rows.narrow;
+      present = form.rows.present;
+      inside = omega (arith, form.columns);
+    }) later

@@ -1,6 +1,8 @@
 -- How much a running member still has to do at most: a number that each of its deeds lowers.
-use Rattle.std.specs.Prelude.{◌≡◌, ℕ, ◌+◌, ◌*◌, ◌-◌, ◌^◌, ◌<◌, List, [], ◌∷◌, Option, None, Some, sum_by}
+use Rattle.std.specs.Prelude.{⊤, ◌≡◌, ℕ, ◌+◌, ◌*◌, ◌-◌, ◌^◌, ◌<◌, List, [], ◌∷◌, Option, None, Some, sum_by}
 use Rattle.dr_entry.specs.declared.end.End.{End}
+use Rattle.dr_entry.specs.declared.entry.Entry.{Entry}
+use Rattle.dr_history.specs.History.{last_view}
 use Rattle.dr_entry.specs.declared.record.Value.{Value}
 use Rattle.dr_entry.specs.declared.limits.TheConstants.{MAX_MEMBERS}
 use Rattle.dr_program.specs.declared.outcome.LogWhy.{LogWhy}
@@ -38,7 +40,7 @@ reports_left r = 2 ^ 64 - r.durable
 unfoldable pub mark_left : Replica → ℕ
 mark_left r = 1 - own r.rows DONE_COLUMN
 
--- members to suspect
+-- members to suspect or to wish for
 unfoldable pub trust_left : Replica → ℕ
 trust_left r = 2 ^ MAX_MEMBERS - r.suspects
 
@@ -54,10 +56,14 @@ open_count (Some v) = 0
 unfoldable pub commit_left : Replica → ℕ
 commit_left r = open_count r.committed
 
+-- letters to give
+unfoldable pub letters_left : Replica → ℕ
+letters_left r = 2 ^ MAX_MEMBERS - r.given
+
 abbrev pub tasks : List (Replica → ℕ)
 tasks =
     items_left ∷ places_left ∷ log_left ∷ reports_left ∷ mark_left ∷ trust_left ∷ ballots_left
-    ∷ commit_left ∷ []
+    ∷ commit_left ∷ letters_left ∷ []
 
 -- some tasks together, and all of them
 unfoldable pub sum_of : List (Replica → ℕ) → Replica → ℕ
@@ -66,7 +72,7 @@ sum_of (task ∷ tasks) r = task r + sum_of tasks r
 
 -- views to end: each ending begins the tasks of a view anew, which are no more than this
 unfoldable pub refill : Replica → ℕ
-refill r = greatest r.totals * r.roster + 2 ^ 64 + 2 ^ MAX_MEMBERS + MAX_MEMBERS + 4
+refill r = greatest r.totals * r.roster + 2 ^ 64 + 2 ^ MAX_MEMBERS + 2 ^ MAX_MEMBERS + MAX_MEMBERS + 4
 
 unfoldable pub views_left : Replica → ℕ
 views_left r = refill r * (r.banks - r.view)
@@ -94,6 +100,11 @@ left_to r (Some end) = 0
 
 abbrev pub deeds_left : Running → ℕ
 deeds_left r = left_to r r.replica.end
+
+-- a letter that is found leads to a later view than the first
+abbrev pub LeadsOn : Option (List Entry) → Type 0
+LeadsOn None = ⊤
+LeadsOn (Some letter) = 0 < (last_view (0, 0) letter).0
 
 -- no word of the member has fallen, where it is in the same view
 abbrev pub HasGrownTo : Running → Running → Type 0

@@ -1,12 +1,14 @@
 //! Laws of the turn.
-ghost use Rattle.std.specs.Prelude.{◌≡◌, ℕ, ◌^◌, ◌<◌, ◌≤◌, None, is_some, false, true};
+ghost use Rattle.std.specs.Prelude.{◌≡◌, ℕ, ◌^◌, ◌<◌, ◌≤◌, List, Option, None, is_some, false, true};
+ghost use Rattle.dr_entry.specs.declared.entry.Entry.{Entry};
+ghost use Rattle.dr_machine.specs.declared.step.Step.TheVariants.{Join};
 ghost use Rattle.dr_program.specs.declared.outcome.LogWhy.{LogWhy};
 ghost use Rattle.dr_program.specs.Form.{HasForm, IsRunningMember};
-ghost use Rattle.dr_program.specs.Running.{Running, after_step, applies, broken_off, next_step, settled, took};
+ghost use Rattle.dr_program.specs.Running.{Running, after_step, applies, broken_off, next_step, settled, took, took_letter};
 ghost use Rattle.dr_program.specs.Steps.{AtLook, IsAppend};
 ghost use Rattle.dr_rows.specs.Words.{is_frozen};
 ghost use Rattle.dr_turn.specs.Search.{IsUnderway, Passed};
-ghost use Rattle.dr_turn.specs.Work.{HasGrownTo, IsAfterDeed, deeds_left};
+ghost use Rattle.dr_turn.specs.Work.{HasGrownTo, IsAfterDeed, LeadsOn, deeds_left};
 
 /// The search leads to the first place of the turn, from where the member stands, at which there is
 /// something to do. It changes nothing else, and leaves no more deeds to do. A member that has ended
@@ -23,7 +25,7 @@ pub fn the_search_goes_to_the_next_place()
 
 /// A running member stays one over each of its deeds, where its replica keeps its form. Where also no
 /// word falls and its turns are 32 bits, it then has fewer deeds to do. An append that fails is such a
-/// deed too.
+/// deed too. So is a take, by which a member joins where it finds a letter.
 pub fn deeds_keep_members()
     ensures form { (word : ℕ) (r : Running) → IsRunningMember r → r.replica.end ≡ None
         → HasForm (took word r (next_step r)).replica → IsRunningMember (after_step word r) }
@@ -31,6 +33,12 @@ pub fn deeds_keep_members()
         ≡ None
         → HasForm (took word r (next_step r)).replica → HasGrownTo r (took word r (next_step r))
         → IsAfterDeed r (after_step word r) }
+    ensures took_form { (letter : Option (List Entry)) (r : Running) → IsRunningMember r → r.replica.end ≡ None
+        → next_step r ≡ Join → HasForm (took_letter letter r).replica
+        → IsRunningMember (settled (took_letter letter r)) }
+    ensures took_done { (letter : Option (List Entry)) (r : Running) → IsRunningMember r → r.replica.end ≡ None
+        → next_step r ≡ Join → HasForm (took_letter letter r).replica → LeadsOn letter
+        → IsAfterDeed r (settled (took_letter letter r)) }
     ensures failed_form { (why : LogWhy) (r : Running) → IsRunningMember r → r.replica.end ≡ None
         → IsAppend (next_step r) → IsRunningMember (broken_off why r) }
     ensures failed_done { (why : LogWhy) (r : Running) → IsRunningMember r → r.replica.end ≡ None

@@ -1,3 +1,4 @@
+use Rattle.dr_form.proofs.Finishing.{joined_form}
 use Rattle.std.proofs.Common.{not, is_some}
 use Rattle.std.proofs.lemmas.Bool.{and_parts}
 use Rattle.dr_program.specs.Steps.{allows, is_free}
@@ -13,3 +14,6 @@ pub returns-clause-grown : goal.returns-clause-grown
 returns-clause-grown c = λ word r s form may sees.
     let both = and_parts (is_free r s) (allows r s) (and_parts (not (is_some r.end)) _ may).1 in
     stepped_grown word r s form both.1 sees
+
+pub returns-clause-joins : goal.returns-clause-joins
+returns-clause-joins c = joined_form

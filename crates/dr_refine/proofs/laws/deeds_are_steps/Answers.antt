@@ -1,18 +1,21 @@
-use Rattle.dr_refine.proofs.Deeds.{deed_is_step, no_step_no_change, rest_changes_nothing, step_reached}
+use Rattle.dr_refine.proofs.Deeds.{deed_is_step, missed_stays, no_step_no_change, rest_changes_nothing, step_reached}
 use Rattle.dr_refine.proofs.Steps.{begun_is_program, step_kept}
 use Rattle.dr_refine.proofs.laws.deeds_are_steps.Goals as goal
 
 pub returns-clause-may_come : goal.returns-clause-may_come
-returns-clause-may_come c g p e r s group is there named = (deed_is_step g p e r s group is there named).0
+returns-clause-may_come c g p e r s group is letters there named = (deed_is_step g p e r s group is letters there named).0
 
 pub returns-clause-happens : goal.returns-clause-happens
-returns-clause-happens c g p e r s group is there named = (deed_is_step g p e r s group is there named).1
+returns-clause-happens c g p e r s group is letters there named = (deed_is_step g p e r s group is letters there named).1
 
 pub returns-clause-rests : goal.returns-clause-rests
 returns-clause-rests c = rest_changes_nothing
 
 pub returns-clause-stays : goal.returns-clause-stays
 returns-clause-stays c = no_step_no_change
+
+pub returns-clause-misses : goal.returns-clause-misses
+returns-clause-misses c = missed_stays
 
 pub returns-clause-reached : goal.returns-clause-reached
 returns-clause-reached c = step_reached

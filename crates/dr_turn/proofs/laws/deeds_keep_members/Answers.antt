@@ -1,5 +1,6 @@
 use Rattle.dr_turn.proofs.Deeds.{deeds_keep, deeds_keep_form}
 use Rattle.dr_turn.proofs.Failing.{failed_done, failed_form}
+use Rattle.dr_turn.proofs.Takes.{takes_done, takes_keep_form}
 use Rattle.dr_turn.proofs.laws.deeds_keep_members.Goals as goal
 
 pub returns-clause-form : goal.returns-clause-form
@@ -13,3 +14,9 @@ returns-clause-failed_form c = failed_form
 
 pub returns-clause-failed_done : goal.returns-clause-failed_done
 returns-clause-failed_done c = failed_done
+
+pub returns-clause-took_form : goal.returns-clause-took_form
+returns-clause-took_form c = takes_keep_form
+
+pub returns-clause-took_done : goal.returns-clause-took_done
+returns-clause-took_done c = takes_done
