@@ -127,7 +127,7 @@ has_taken : {g : Group} {w : World} {most r m : ℕ} → HasHadTurn g w most r m
 has_taken {g = g} {w = w} {m = m} h t l other =
     let member = is_in_view h.known m t l in
     sym (count_first h.known m t)
-    ∙ takes_all g w m t h.known.group h.known.known.run (is_present g m h.known.whole h.member) (record { member = member; other = other })
+    ∙ takes_all g w m t h.known.group h.known.known.run (is_in_view h.known m m h.member) (record { member = member; other = other })
     (sees_slot h t l other)
     (λ ready. (nothing_left h.rested).items t (record { member = member; other = other }, ready))
     ∙ ap (λ v. w.past.count t v t) (h.known.view m)
@@ -223,7 +223,7 @@ has_received {g = g} {w = w} h i s k late l a left =
     subst (λ (z : ℕ). k * roster g + s < z)
     (sym ((told h.known).counts.received i 0
     ∙ ap (λ mask. front_of (map (w.past.count i 0) (members_of mask))) (views-first g h.known.known.values)
-    ∙ ap (λ ms. front_of (map (w.past.count i 0) ms)) (members_first g h.known.group h.known.whole)))
+    ∙ ap (λ ms. front_of (map (w.past.count i 0) ms)) (members_first g h.known.group h.known.nobody h.known.whole)))
     (front_past (w.past.count i 0) (roster g) (k * roster g + s) h.known.group.some_member
     (λ j t b before. let less = round_le (roster g) j k s t a before in
     has_items h i s t j late l a b (omega (arith, less, left))))
@@ -320,7 +320,7 @@ knows_durable {g = g} {w = w} {m = m} h late = by (cases_lt (w.past.durable m) (
     by (inr enough) = omega (
       arith,
       enough,
-      f.logs.safe m m (is_present g m h.known.whole h.member) (f.views.present m (is_present g m h.known.whole h.member)),
+      (f.logs.safe m (is_present g m h.known.whole h.member)).own,
       length-append (w.past.log m) (f.logs.front m).0,
       ap length (f.logs.front m).1,
     )

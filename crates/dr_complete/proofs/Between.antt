@@ -9,7 +9,7 @@ use Rattle.dr_machine.specs.Group.{Group, columns, roster}
 use Rattle.dr_machine.specs.World.{World}
 use Rattle.dr_program.proofs.Holdings.{Holding, held, held_same}
 use Rattle.dr_program.specs.Program.{AreSetups, Program}
-use Rattle.dr_program.specs.Reading.{world}
+use Rattle.dr_program.specs.Reading.{table_of, world}
 use Rattle.dr_program.specs.Running.{Running}
 use Rattle.dr_program.specs.Schedule.{is_between_turns}
 use Rattle.dr_program.specs.declared.setup.Setup.{Setup}
@@ -108,13 +108,14 @@ first_of g p steady ease = record {
   group = steady.group;
   known = known g (world g p) steady.group steady.reached;
   whole = steady.whole;
+  nobody = steady.nobody;
   view = λ m. stay_first g p m ease;
 }
 
 -- what the world has of a member is the same where the member is
 pub same_held : (g : Group) (p q : Program) (i : ℕ) → present_at q.members i ≡ present_at p.members i
     → held (world g q) i ≡ held (world g p) i
-same_held g p q i same = held_same g (replicas q.members) (replicas p.members) q.table p.table i
+same_held g p q i same = held_same g (replicas q.members) (replicas p.members) (table_of q) (table_of p) i
     (present_map (λ (r : Running). r.replica) q.members i
     ∙ ap (option_map (λ (r : Running). r.replica)) same
     ∙ sym (present_map (λ (r : Running). r.replica) p.members i))

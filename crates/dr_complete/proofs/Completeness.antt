@@ -10,8 +10,10 @@ use Rattle.dr_entry.specs.declared.end.End.{End}
 use Rattle.dr_entry.specs.declared.end.End.TheVariants as ends
 use Rattle.dr_entry.specs.declared.end.MemberEnd.{MemberEnd}
 use Rattle.dr_entry.specs.declared.limits.TheConstants.{MAX_MEMBERS}
+use Rattle.dr_history.specs.Soundness.{IsNobodyLate}
 use Rattle.dr_history_laws.specs.Remaining.{messages_left}
 use Rattle.dr_words.specs.declared.column.TheConstants.{BEAT_COLUMN, LOGGED_COLUMN}
+use Rattle.dr_history.specs.Members.{has}
 use Rattle.dr_machine.specs.Group.{AllPresent, Group, IsGroup, roster}
 use Rattle.dr_machine.specs.World.{World, opening_world}
 use Rattle.dr_program.proofs.Opening.{begins_at_the_opening}
@@ -133,20 +135,20 @@ begins_waiting g setups calm m r there unseen = record {
 -- all words are 0 but the logged ones
 begins_pushed : (g : Group) → ArePushed g (opening_world g)
 begins_pushed g i j c a b other inside apart begun =
-    test (nat_lt i (roster g)) c _ (λ e. omega (arith, begun e))
+    test (has g.opening.members i) c _ (λ e. omega (arith, begun e))
   where
     test : (is_member : Bool) (c x : ℕ) → (c ≡ LOGGED_COLUMN → ⊥)
         → 0 ≡ (if is_member && ((0 == 0) && (c == LOGGED_COLUMN)) then x else 0)
     test is_member c x unlogged = grind (arith, nat_tests, unlogged)
 
 -- so no round is over yet
-begins : (g : Group) (limit most : ℕ) (setups : List (Option Setup)) → IsGroup g → 1 ≤ limit → limit < 2 ^ 32
-    → AllPresent g → AreSetups g limit setups → AllLenient setups
+begins : (g : Group) (limit most : ℕ) (setups : List (Option Setup)) → IsGroup g → IsNobodyLate g.opening
+    → 1 ≤ limit → limit < 2 ^ 32 → AllPresent g → AreSetups g limit setups → AllLenient setups
     → IsBetween g setups most 0 0 (begun_program g setups)
 unfolding ran
-begins g limit most setups is some small whole are calm = record {
+begins g limit most setups is nobody some small whole are calm = record {
   paused = record {
-    steady = steady_begins g limit setups is some small whole are;
+    steady = steady_begins g limit setups is nobody some small whole are;
     ease = begins_easy setups calm;
     stand = all_stand g limit setups [] is some are;
     well = begins_well setups;
@@ -195,19 +197,19 @@ complete g setups most r m p y between there ended =
 
 -- in lockstep, without crashes, suspicions and failed appends and with turns enough, all members are
 pub completes : (g : Group) (limit most : ℕ) (setups : List (Option Setup)) (es : List Move) (p : Program)
-    → IsGroup g → AllPresent g → AreSetups g limit setups
+    → IsGroup g → AllPresent g → IsNobodyLate g.opening → AreSetups g limit setups
     → ((m : ℕ) (s : Setup) → present_at setups m ≡ Some s → s.crashes ≡ []) → AllLenient setups
     → ((s : ℕ) → messages_left g.opening s ≤ most) → 3 * most + 3 ≤ limit → limit < 2 ^ 32
     → AllOk es → IsLockstep (begun_program g setups) es p → (m : ℕ) (e : MemberEnd)
     → slice_get (map end_at p.members) m ≡ Some e → IsComplete g.opening e
-completes g limit most setups es p is whole are uncrashed calm few enough small well run m e at =
+completes g limit most setups es p is whole nobody are uncrashed calm few enough small well run m e at =
     subst (IsComplete g.opening) (same_Some (end_of y.0) e (sym (end_told p m y.0 y.1) ∙ at))
     (complete g setups most over.0 m p y.0 over.1 y.1 (ended_there p m y.0 run.ended y.1))
   where
     over : (n : ℕ) × IsBetween g setups most n 0 p
     over = rounds_keep g setups limit most run.rounds 0 (begun_program g setups) es p
         (record { are = are; uncrashed = uncrashed; few = few; enough = enough })
-        (begins g limit most setups is (omega (arith, enough)) small whole are calm) well run.ran
+        (begins g limit most setups is nobody (omega (arith, enough)) small whole are calm) well run.ran
 
     y : (r : Running) × (present_at p.members m ≡ Some r)
     y = member_at g p m over.1.paused.steady (omega (

@@ -2,6 +2,7 @@
 use Rattle.std.proofs.Common.{ap, length, subst, true, ℕ, ◌<◌, ◌∙◌, ◌≡◌}
 use Rattle.dr_history.specs.Members.{has}
 use Rattle.dr_history.specs.Order.{messages_from}
+use Rattle.dr_history.specs.Soundness.{IsNobodyLate}
 use Rattle.dr_history_laws.proofs.Courses.{head-first}
 use Rattle.dr_faithful.specs.Chosen.{endings_by, views_by}
 use Rattle.dr_faithful.specs.Faithful.{Faithful}
@@ -13,11 +14,13 @@ use Rattle.dr_world_laws.proofs.Remaining.{start_messages}
 use Rattle.dr_world_laws.proofs.Worlds.{Known}
 use Rattle.dr_world_laws.specs.Historic.{head_by}
 
--- a world that is reached, in which everybody of the roster is there, and in the first view
+-- a world that is reached, in which everybody of the roster is there, nobody is late, and everybody is in the first
+-- view
 pub record IsFirst (g : Group) (w : World) : Type 0 where
   pub group : IsGroup g
   pub known : Known g w
   pub whole : AllPresent g
+  pub nobody : IsNobodyLate g.opening
   pub view : (m : ℕ) → w.past.view m ≡ 0
 
 pub told : {g : Group} {w : World} (y : IsFirst g w) → Faithful g (views_by g y.known.values) w
@@ -37,7 +40,7 @@ pub of_members : {g : Group} {w : World} → IsFirst g w → (i : ℕ) → i < r
     → has g.opening.members i ≡ true
 of_members {g = g} y i l = subst (λ mask. has mask i ≡ true) (views-first g y.known.values)
     (subst (λ v. has (views_by g y.known.values v) i ≡ true) (y.view i)
-    ((told y).views.present i (is_present g i y.whole l)))
+    ((told y).views.present i (ap (λ mask. has mask i) y.nobody ∙ is_present g i y.whole l)))
 
 -- what a member has in its view it has in the first one
 pub count_first : {g : Group} {w : World} → IsFirst g w → (m s : ℕ) → items_received w m s ≡ w.past.count m 0 s

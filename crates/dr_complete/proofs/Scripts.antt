@@ -1,6 +1,7 @@
 -- The members of a script that gives them time enough are complete.
 use Rattle.std.proofs.Common.{ap, sym, inl, inr, ◌≡◌, ◌⊎◌, ◌∙◌, subst, ℕ, ◌-◌, ◌/◌, ◌≤◌, [], List, length, map, arith}
 use Rattle.dr_history.specs.History.{messages_of}
+use Rattle.dr_history.specs.Soundness.{IsNobodyLate}
 use Rattle.dr_machine.specs.Group.{AllPresent, IsGroup}
 use Rattle.dr_program.specs.Program.{AllOk, Move, Program, end_at}
 use Rattle.dr_program.specs.Schedule.{IsLockstep}
@@ -33,11 +34,11 @@ lenient_setups script start nth setups ranges time are m t there =
 
 pub completes_by_script : (script : Script) (start : Start) (nth : ℕ) (begun p : Program)
     (es : List Move) → IsGroup (group_of script start) → AllPresent (group_of script start)
-    → HasRanges script → HasTime script
+    → IsNobodyLate (group_of script start).opening → HasRanges script → HasTime script
     → IsBegun script start nth begun → AllOk es → IsLockstep begun es p
     → AreComplete (group_of script start).opening (map end_at p.members)
-completes_by_script script start nth begun p es is whole ranges time (setups, are, same) well run =
-    completes (group_of script start) script.turns most setups es p is whole
+completes_by_script script start nth begun p es is whole nobody ranges time (setups, are, same) well run =
+    completes (group_of script start) script.turns most setups es p is whole nobody
     (are_setups script start nth setups ranges.group.lists are)
     (λ m s there. (are.each m s there).crashes
     ∙ ap (λ faults. crashes_of faults nth m) time.faultless)

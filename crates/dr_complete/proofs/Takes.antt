@@ -9,8 +9,8 @@ use Rattle.dr_ring.proofs.Items.{IsItem, body_len-pieces, few_pieces, head_fits}
 use Rattle.dr_ring.specs.Pieces.{body_len, body_pieces, head_piece, null_mark, pieces}
 use Rattle.dr_ring.specs.Slots.{IsReady}
 use Rattle.dr_words.specs.Packing.{ring_low, ring_tag, ring_word}
-use Rattle.dr_machine.specs.Group.{Group, IsGroup, IsPresent, roster}
-use Rattle.dr_machine.specs.Guards.{IsOther, seen_slot}
+use Rattle.dr_machine.specs.Group.{Group, IsGroup, roster}
+use Rattle.dr_machine.specs.Guards.{IsInView, IsOther, seen_slot}
 use Rattle.dr_machine.specs.Run.{IsReached}
 use Rattle.dr_machine.specs.World.{World, items_received}
 use Rattle.dr_faithful.proofs.Pieces.{piece_of, sent_item}
@@ -46,11 +46,11 @@ ready k item slot is are = record {
     needs = ap body_len low ∙ body_len-pieces item is
 
 -- where the next item was put, a member that sees its slot as it stands sees its pieces there
-sees_pieces : (g : Group) (w : World) (m s : ℕ) → IsGroup g → IsReached g w → IsPresent g m
+sees_pieces : (g : Group) (w : World) (m s : ℕ) → IsGroup g → IsReached g w → IsInView w m
     → IsOther w m s → SeesSlot g w m s → items_received w m s < length (w.past.sent s (w.past.view m))
     → AreOf (items_received w m s) (item_sent g w.past.sent s (w.past.view m) (items_received w m s))
     (seen_slot g w m s (items_received w m s))
-sees_pieces g w m s is run there other fresh below part needed = (
+sees_pieces g w m s is run inside other fresh below part needed = (
   tag,
   (piece_of
       g (length (w.past.sent s v)) (item_sent g w.past.sent s v) (k % g.window) part
@@ -82,15 +82,15 @@ sees_pieces g w m s is run there other fresh below part needed = (
       arith,
       ap ring_tag (fresh part few),
       rings_keep g w is run s v k part sender below needed,
-      (no_later g w is y m s part there other few).1,
+      (no_later g w is y m s part inside other few).1,
     )
 
 -- so it has taken all of them
-pub takes_all : (g : Group) (w : World) (m s : ℕ) → IsGroup g → IsReached g w → IsPresent g m
+pub takes_all : (g : Group) (w : World) (m s : ℕ) → IsGroup g → IsReached g w → IsInView w m
     → IsOther w m s → SeesSlot g w m s
     → ¬ IsReady (items_received w m s) (seen_slot g w m s (items_received w m s))
     → items_received w m s ≡ w.past.count s (w.past.view m) s
-takes_all g w m s is run there other fresh none = by (cases_lt (items_received w m s) (length (w.past.sent s v)))
+takes_all g w m s is run inside other fresh none = by (cases_lt (items_received w m s) (length (w.past.sent s v)))
   where
     v : ℕ
     v = w.past.view m
@@ -105,5 +105,5 @@ takes_all g w m s is run there other fresh none = by (cases_lt (items_received w
         → items_received w m s ≡ w.past.count s (w.past.view m) s
     by (inl below) = absurd (none (ready (items_received w m s) (item_sent g w.past.sent s v (items_received w m s))
         (seen_slot g w m s (items_received w m s)) (sent_item g w.past.sent s v (items_received w m s) is)
-        (sees_pieces g w m s is run there other fresh below)))
+        (sees_pieces g w m s is run inside other fresh below)))
     by (inr all) = omega (arith, all, f.sent.all s v, f.items.counted m v s)

@@ -10,6 +10,7 @@ use Rattle.dr_history.specs.History.{GroupView, messages_in, messages_of}
 use Rattle.dr_history.specs.Members.{has, members_of}
 use Rattle.dr_history.specs.Order.{first_entries, messages_from, numbered_messages}
 use Rattle.dr_history.specs.Places.{AllHeldBelow, front_of}
+use Rattle.dr_history.specs.Soundness.{IsNobodyLate}
 use Rattle.dr_history_laws.proofs.Counting.{Counted, counted}
 use Rattle.dr_history_laws.proofs.Indices.{messages_in-le}
 use Rattle.dr_history_laws.proofs.Members.{view-distinct}
@@ -57,16 +58,17 @@ round_lt n a b s p h l = lt_of_mul-lt-mul_right n {m = a} {n = b} (omega (arith,
 
 -- ---- the members of the first view
 
-pub members_first : (g : Group) → IsGroup g → AllPresent g
+pub members_first : (g : Group) → IsGroup g → IsNobodyLate g.opening → AllPresent g
     → members_of g.opening.members ≡ range_with_len 0 (roster g)
-members_first g is whole = first-members g.opening (sym is.joined ∙ whole) is.most_members
+members_first g is nobody whole = first-members g.opening (nobody ∙ whole) is.most_members
 
-ranks : (g : Group) → IsGroup g → AllPresent g → length (members_of g.opening.members) ≡ roster g
-ranks g is whole = ap length (members_first g is whole) ∙ length-range_with_len 0 (roster g)
+ranks : (g : Group) → IsGroup g → IsNobodyLate g.opening → AllPresent g
+    → length (members_of g.opening.members) ≡ roster g
+ranks g is nobody whole = ap length (members_first g is nobody whole) ∙ length-range_with_len 0 (roster g)
 
-at_rank : (g : Group) (s : ℕ) → IsGroup g → AllPresent g → s < roster g
+at_rank : (g : Group) (s : ℕ) → IsGroup g → IsNobodyLate g.opening → AllPresent g → s < roster g
     → slice_get (members_of g.opening.members) s ≡ Some s
-at_rank g s is whole l = ap (λ ms. slice_get ms s) (members_first g is whole) ∙ range_at 0 (roster g) s l
+at_rank g s is nobody whole l = ap (λ ms. slice_get ms s) (members_first g is nobody whole) ∙ range_at 0 (roster g) s l
     ∙ ap Some (zero-add s)
 
 -- ---- what a member holds
@@ -103,7 +105,7 @@ messages_laid g w m s y l within = (
     c : Counted g.opening w.past.sent (first_view g.opening) s s (w.next m)
     c = counted g.opening w.past.sent (first_entries g.opening) v s s (w.next m)
         (goes_first g w y.group y.known)
-        (view-distinct (first_entries g.opening) v (first-ends g.opening)) (at_rank g s y.group y.whole within)
+        (view-distinct (first_entries g.opening) v (first-ends g.opening)) (at_rank g s y.group y.nobody y.whole within)
 
 -- the member has all messages that are left to s
 has_left : (g : Group) (w : World) (m s : ℕ) → IsFirst g w → m < roster g → s < roster g
@@ -133,7 +135,7 @@ has_left g w m s y l within past put = omega (
     many : (n : ℕ) → messages_left g.opening s ≡ n → n ≤ laid_so.0.0
     many zero e = omega arith
     many (suc k) e = round_lt (roster g) k laid_so.0.0 s (w.next m) (past s k within (omega (arith, e)))
-        (subst (λ (z : ℕ). w.next m ≤ laid_so.0.0 * z + s) (ranks g y.group y.whole) laid_so.0.1.low)
+        (subst (λ (z : ℕ). w.next m ≤ laid_so.0.0 * z + s) (ranks g y.group y.nobody y.whole) laid_so.0.1.low)
 
 -- a member whose next place is behind all messages holds them all
 pub holds_all : (g : Group) (w : World) (m : ℕ) → IsFirst g w → m < roster g

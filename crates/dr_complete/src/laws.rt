@@ -7,10 +7,11 @@ ghost use Rattle.dr_entry.specs.declared.entry.Entry.{Entry};
 ghost use Rattle.dr_history.specs.Agreement.{accounts_of};
 ghost use Rattle.dr_history.specs.declared.opening.Opening.{Opening};
 ghost use Rattle.dr_history.specs.Order.{first_entries};
+ghost use Rattle.dr_history.specs.Soundness.{IsNobodyLate};
 ghost use Rattle.dr_history.specs.Restarting.{AreLeftBy, IsLongest};
 ghost use Rattle.dr_history_laws.specs.Remaining.{messages_left, remaining};
-ghost use Rattle.dr_machine.specs.Group.{AllPresent, Group, IsGroup, IsPresent, roster};
-ghost use Rattle.dr_machine.specs.Guards.{IsOther, seen_slot};
+ghost use Rattle.dr_machine.specs.Group.{AllPresent, Group, IsGroup, roster};
+ghost use Rattle.dr_machine.specs.Guards.{IsInView, IsOther, seen_slot};
 ghost use Rattle.dr_machine.specs.Run.{IsReached};
 ghost use Rattle.dr_machine.specs.World.{World, items_received};
 ghost use Rattle.dr_program.specs.declared.setup.Setup.{Setup};
@@ -32,11 +33,11 @@ pub fn rings_keep_their_items()
     ensures { (g : Group) (w : World) → IsGroup g → IsReached g w → RingsKeep g w.past }
 {}
 
-/// In every world that is reached a member that is there and has seen the slot of a sender's next item as it
+/// In every world that is reached a member that is in its view and has seen the slot of a sender's next item as it
 /// stands, and finds no item ready there, has all that the sender has put.
 pub fn nothing_ready_is_overlooked()
     ensures { (g : Group) (w : World) (m s : ℕ) → IsGroup g → IsReached g w
-        → IsPresent g m → IsOther w m s → SeesSlot g w m s
+        → IsInView w m → IsOther w m s → SeesSlot g w m s
         → ¬ IsReady (items_received w m s) (seen_slot g w m s (items_received w m s))
         → items_received w m s ≡ w.past.count s (w.past.view m) s }
 {}
@@ -48,25 +49,25 @@ pub fn all_show_done_where_one_has_ended()
         → w.end m ≡ Some Done → AllShowDone w (w.past.view m) (w.members m) }
 {}
 
-/// In lockstep, with every patience that lasts for three turns, where all of the roster are there, no member is
-/// to crash or to suspect anybody by its setup and all appends go well, no member has more than `most` messages
-/// left, and each may take three turns for each of these and three more, every member ends as done. Its history
-/// is the start, View 0, and the merge of all that the start leaves, and all of it is logged and durable.
+/// In lockstep, with every patience that lasts for three turns, where all of the roster are there, nobody is late,
+/// no member is to crash or to suspect anybody by its setup and all appends go well, no member has more than `most`
+/// messages left, and each may take three turns for each of these and three more, every member ends as done. Its
+/// history is the start, View 0, and the merge of all that the start leaves, and all of it is logged and durable.
 pub fn lockstep_completes()
     ensures { (g : Group) (limit most : ℕ) (setups : List (Option Setup)) (es : List Move) (p : Program)
-        → IsGroup g → AllPresent g → AreSetups g limit setups
+        → IsGroup g → AllPresent g → IsNobodyLate g.opening → AreSetups g limit setups
         → ((m : ℕ) (s : Setup) → present_at setups m ≡ Some s → s.crashes ≡ []) → AllLenient setups
         → ((s : ℕ) → messages_left g.opening s ≤ most) → 3 * most + 3 ≤ limit → limit < 2 ^ 32
         → AllOk es → IsLockstep (begun_program g setups) es p → (m : ℕ) (e : MemberEnd)
         → slice_get (map end_at p.members) m ≡ Some e → IsComplete g.opening e }
 {}
 
-/// So do the members of a script that gives them time enough, from every sound start of the whole roster, where
-/// all appends go well.
+/// So do the members of a script that gives them time enough, from every sound start of the whole roster of which
+/// nobody is late, where all appends go well.
 pub fn scripts_complete()
     ensures { (script : Script) (start : Start) (nth : ℕ) (begun p : Program) (es : List Move)
-        → IsGroup (group_of script start) → AllPresent (group_of script start) → HasRanges script
-        → HasTime script → IsBegun script start nth begun → AllOk es → IsLockstep begun es p
+        → IsGroup (group_of script start) → AllPresent (group_of script start) → IsNobodyLate (group_of script start).opening
+        → HasRanges script → HasTime script → IsBegun script start nth begun → AllOk es → IsLockstep begun es p
         → AreComplete (group_of script start).opening (map end_at p.members) }
 {}
 

@@ -101,7 +101,7 @@ opened_behind script earlier w choice before opened logs tries try nth found aft
         → has try.set m ≡ false
     out m absent false e = e
     out m absent true e = absurd (absent
-        (ap (λ mask. has mask m) (is.chosen.chosen.present ∙ sym t.set) ∙ e))
+        (ap (λ mask. has mask m) (sym t.set) ∙ e))
 
     missing : AreLeftByOthers script try.start logs
     missing m log absent at =

@@ -9,7 +9,7 @@ use Rattle.dr_machine.specs.Group.{Group, IsGroup, IsPresent}
 use Rattle.dr_machine.specs.Run.{IsReached}
 use Rattle.dr_program.specs.Presence.{present_at}
 use Rattle.dr_program.specs.Program.{AreSetups, IsRanFrom, Program, begun_program}
-use Rattle.dr_program.specs.Reading.{world}
+use Rattle.dr_program.specs.Reading.{table_of, world}
 use Rattle.dr_program.specs.Replica.{Replica}
 use Rattle.dr_program.specs.Running.{Running}
 use Rattle.dr_program.proofs.Present.{present_map}
@@ -49,7 +49,7 @@ known_age script start nth found p ranges some is = record {
   form = kept.0;
   known = known g (world g p) group kept.1;
   majority = subst (λ mask. IsMajorityOf mask (whole_roster g.opening))
-      (sym (is.chosen.chosen.present ∙ is.chosen.chosen.members)) is.chosen.chosen.quorum;
+      (sym is.chosen.chosen.present) is.chosen.chosen.quorum;
   idle = λ m r there over. idle_end g script.turns is.begins.0 p m r group some are ran there over;
 }
   where
@@ -80,8 +80,7 @@ pub with_log : (script : Script) (start : Start) (nth : ℕ) (found : List (Opti
     (c : OnLog) → HasGroupRanges script → IsAgeOfChoice script start nth found p → content_at found m ≡ Some c
     → IsPresent (group_of script start) m
 with_log script start nth found p m c ranges is at =
-    ap (λ mask. has mask m) is.chosen.chosen.present
-    ∙ in_set (first_group_of script).opening found start m c is.chosen (few script ranges) at
+    in_set (first_group_of script).opening found start m c is.chosen (few script ranges) at
 
 -- and who is there has one
 pub has_log : (script : Script) (start : Start) (nth : ℕ) (found : List (Option OnLog)) (p : Program) (m : ℕ)
@@ -92,8 +91,8 @@ has_log script start nth found p m ranges is present = by (content_at found m) r
     by : (o : Option OnLog) → content_at found m ≡ o → is_some o ≡ true
     by (Some c) at = refl
     by None at =
-        let out : has start.present m ≡ false = ap (λ mask. has mask m) is.chosen.chosen.present
-        ∙ out_of_set (first_group_of script).opening found start m is.chosen (few script ranges) at in
+        let out : has start.present m ≡ false =
+        out_of_set (first_group_of script).opening found start m is.chosen (few script ranges) at in
         absurd (cc (present, out))
 
 pub some_there : (o : Option OnLog) → is_some o ≡ true → (c : OnLog) × (o ≡ Some c)
@@ -135,10 +134,11 @@ replica_at p m r there =
     ∙ ap (option_map (λ (r : Running). r.replica)) there
 
 pub member_at : (g : Group) (p : Program) (m : ℕ) (r : Running) → IsGroup g → IsProgram g p
-    → present_at p.members m ≡ Some r → IsMember g (replicas_of p) p.table m r.replica
+    → present_at p.members m ≡ Some r → IsMember g (replicas_of p) (table_of p) m r.replica
 member_at g p m r group form there = record {
   group = group;
   cells = form.table;
+  posts = form.posts;
   there = replica_at p m r there;
   form = (form.form m r there).replica;
   of = form.of m r there;

@@ -20,7 +20,7 @@ use Rattle.dr_program.proofs.Holdings.{Holding, held, held_of, holding_of}
 use Rattle.dr_program.proofs.Present.{present_slice, slice_present}
 use Rattle.dr_program.specs.Presence.{present_at}
 use Rattle.dr_program.specs.Program.{Program, end_at}
-use Rattle.dr_program.specs.Reading.{world}
+use Rattle.dr_program.specs.Reading.{table_of, world}
 use Rattle.dr_program.specs.Running.{Running}
 use Rattle.dr_restart.specs.declared.lists.LogLists.{LogLists}
 use Rattle.dr_restart.specs.declared.start.Start.{Start}
@@ -105,10 +105,10 @@ since_age script start nth found after p ranges is k left =
 -- the next start, as one of these lists
 pub next_of_set : (script : Script) (start next : Start) (after : List (Option OnLog)) → HasGroupRanges script
     → IsChosenOf (first_group_of script).opening after next
-    → IsChosenStart (group_of script start).opening (of_set (lists_with after) next.members) next
+    → IsChosenStart (group_of script start).opening (of_set (lists_with after) next.present) next
 next_of_set script start next after ranges chosen =
     start-by-messages (first_group_of script).opening (group_of script start).opening
-    (of_set (lists_with after) next.members) next refl
+    (of_set (lists_with after) next.present) next refl
     (chosen_by (first_group_of script).opening after (lists_with after) next chosen (few script ranges)
     (among_lists after))
 
@@ -134,7 +134,7 @@ account_of script start p m k present = record {
     end = slice_get-map end_at p.members m ∙ ap (option_map end_at) (present_slice p.members m there.0 there.1)
 
     has_of : held (world (group_of script start) p) m ≡ holding_of (group_of script start) there.0.replica
-    has_of = held_of (group_of script start) (replicas_of p) p.table m there.0.replica
+    has_of = held_of (group_of script start) (replicas_of p) (table_of p) m there.0.replica
         (replica_at p m there.0 there.1)
 
 kept_by_ends : (script : Script) (start next : Start) (p : Program) → IsKnownAge script start p
@@ -166,10 +166,10 @@ kept_in : (script : Script) (start next : Start) (nth : ℕ) (found after : List
 kept_in script start next nth found after p ranges is k left chosen =
     let since = since_age script start nth found after p ranges is k left in
     let choice = next_of_set script start next after ranges chosen in
-    choice-keeps (group_of script start) (world (group_of script start) p) (lists_with after) next.members next
+    choice-keeps (group_of script start) (world (group_of script start) p) (lists_with after) next.present next
     (group_of script next).opening since choice refl
     (chosen-keeps (group_of script start) (world (group_of script start) p) (lists_with after) (lists_with after) []
-    next.members next since choice).later
+    next.present next since choice).later
 
 pub next_keeps : (script : Script) (start next : Start) (nth : ℕ) (found after : List (Option OnLog)) (p : Program)
     → HasGroupRanges script → 1 ≤ script.turns → IsAgeOfChoice script start nth found p

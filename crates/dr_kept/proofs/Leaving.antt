@@ -15,7 +15,7 @@ use Rattle.dr_machine.specs.Group.{Group}
 use Rattle.dr_machine.specs.World.{World}
 use Rattle.dr_program.proofs.Holdings.{Holding, held, held_of, holding_of}
 use Rattle.dr_program.specs.Program.{Program}
-use Rattle.dr_program.specs.Reading.{world}
+use Rattle.dr_program.specs.Reading.{table_of, world}
 use Rattle.dr_program.specs.Replica.{Replica}
 use Rattle.dr_restart.specs.declared.lists.LogLists.{LogLists}
 use Rattle.dr_restart.specs.declared.start.Start.{Start}
@@ -131,7 +131,7 @@ left_by_member script start nth found p m c is k l = by l.leaves
     r = l.member.replica
 
     has_of : held (world (group_of script start) p) m ≡ holding_of (group_of script start) l.member.replica
-    has_of = held_of g (replicas_of p) p.table m r (replica_at p m l.member l.there)
+    has_of = held_of g (replicas_of p) (table_of p) m r (replica_at p m l.member l.there)
 
     log : (world (group_of script start) p).past.log m ≡ take l.member.replica.logged l.member.replica.history
     log = ap (λ (h : Holding). h.log) has_of
@@ -211,7 +211,7 @@ left_by_member script start nth found p m c is k l = by l.leaves
         (as_lists (with_record next d))
     next_is (records.Entry e) d j due idle = entry e d j due
     next_is (records.Vote v) d j due idle = vote v d j due
-        (due_may g (replicas_of p) p.table m r v (member_at g p m l.member k.group k.form l.there) idle due)
+        (due_may g (replicas_of p) (table_of p) m r v (member_at g p m l.member k.group k.form l.there) idle due)
     next_is (records.AgeVote v) d j due idle = absurd due
     next_is (records.Cut keep) d j due idle = absurd due
     next_is records.Upgrade d j due idle = absurd due

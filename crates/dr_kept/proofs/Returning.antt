@@ -6,6 +6,7 @@ use Rattle.std.proofs.lemmas.Option.{none-some}
 use Rattle.std.specs.Prelude.{Option, None, Some, is_some, option_map}
 use Rattle.dr_entry.specs.declared.entry.Entry.{Entry}
 use Rattle.dr_entry.specs.declared.entry.Entry.TheVariants.{View}
+use Rattle.dr_entry.specs.declared.record.Vote.{Vote}
 use Rattle.dr_history.specs.History.{IsPrefixOf}
 use Rattle.dr_history.specs.Members.{has}
 use Rattle.dr_history.specs.Restarting.{AllStand, AreAlong}
@@ -33,7 +34,8 @@ use Rattle.dr_quorum_laws.specs.Returning.{HasHandedIn, HaveReturned}
 use Rattle.dr_quorum_laws.proofs.AllThere.{returned-pass}
 use Rattle.dr_quorum_laws.proofs.ByMessages.{refused-by-messages}
 use Rattle.dr_quorum_laws.proofs.Ended.{first-in, no-later, stands}
-use Rattle.dr_quorum_laws.proofs.Handing.{Since}
+use Rattle.dr_quorum_laws.proofs.Extra.{vote-present}
+use Rattle.dr_quorum_laws.proofs.Handing.{Since, left-vote}
 use Rattle.dr_quorum_laws.proofs.LastViews.{last-view, view-come, view-late}
 use Rattle.dr_quorum_laws.proofs.Lists.{prefix-in}
 use Rattle.dr_quorum_laws.proofs.Refusals.{one-first}
@@ -42,6 +44,7 @@ use Rattle.dr_opening.specs.Tries.{IsChosenOf, content_at}
 use Rattle.dr_opening.proofs.Lists.{handed_is}
 use Rattle.dr_kept.specs.Leaving.{AreLeftFrom, IsAgeOfChoice}
 use Rattle.dr_kept.proofs.Chosen.{IsKnownAge, few, has_log, known_age}
+use Rattle.dr_kept.proofs.Leaving.{left_by_member}
 use Rattle.dr_kept.proofs.Following.{IsFrontAt, ages_within, front_at, handed_there, lists_with, since_age}
 
 -- an age that has ended, and what is on the same logs behind it
@@ -196,8 +199,20 @@ returned script start nth found after p b = record {
   first = λ age first m last of there. back m
       (is_there (group_of script start) m b.knows.group
       (subst (λ mask. has mask m ≡ true) (first_behind script start nth found after p age first b of) there));
+  named = λ age k m log x last at c same l named. back m (voted k m log x at c
+      (same ∙ age_behind script start nth found after p last.some.0 age last.some.1 b last.some.2 last.some.3) named);
 }
   where
+    -- whom a vote of the age names is there
+    voted : (k m : ℕ) (log : LogLists) (x : Vote) → handed_from after k ≡ Some log → Contains log.votes x
+        → x.age ≡ start.age → has x.value.leavers m ≡ true → IsPresent (group_of script start) m
+    voted k m log x at c same named =
+        let t = there_so script start nth found after p k log b at in
+        vote-present (group_of script start) (world (group_of script start) p) k m x b.knows.group b.knows.known
+        (left-vote (group_of script start) (world (group_of script start) p) k (as_lists t.content) x
+        (left_by_member script start nth found p k t.content b.is b.knows (b.left.each k t.content t.at))
+        (subst (λ (l : LogLists). Contains l.votes x) (sym t.is) c) same) named
+
     some_handed : (o : Option OnLog) → is_some o ≡ true → is_some (option_map as_lists o) ≡ true
     some_handed (Some c) e = refl
     some_handed None e = absurd (cc)

@@ -1,6 +1,7 @@
 -- The vote that a member has due, whose end is left out of account, may come.
 use Rattle.std.proofs.Common.{◌≡◌, refl, sym, ap, ◌∙◌, subst, ℕ, arith, List}
 use Rattle.std.specs.Prelude.{Option, None, Some}
+use Rattle.std.proofs.lemmas.Bool.{and_parts}
 use Rattle.dr_entry.specs.declared.record.Value.{Value}
 use Rattle.dr_entry.specs.declared.record.Vote.{Vote}
 use Rattle.dr_form.proofs.Beside.{beside_form}
@@ -13,10 +14,11 @@ use Rattle.dr_machine.specs.Writes.{at}
 use Rattle.dr_program.proofs.Holdings.{Holding, changed_world, held, held_of, holding_of}
 use Rattle.dr_program.proofs.OwnWords.{other_number, same_number}
 use Rattle.dr_program.proofs.Present.{present_set, present_within}
+use Rattle.dr_program.proofs.Voting.{wedged_inside}
 use Rattle.dr_program.specs.Form.{HasForm, IsOf}
 use Rattle.dr_program.specs.Presence.{present_at, with_present}
-use Rattle.dr_program.specs.Reading.{world_of}
-use Rattle.dr_program.specs.Replica.{Replica, value_due, vote_of}
+use Rattle.dr_program.specs.Reading.{Shared, world_of}
+use Rattle.dr_program.specs.Replica.{Replica, is_wedged, value_due, vote_of}
 use Rattle.dr_refine.specs.Programs.{IsMember}
 use Rattle.dr_refine.proofs.Votes.{vote_guard}
 use Rattle.dr_restart.specs.Left.{MayLogVote, without_ends}
@@ -31,7 +33,8 @@ unended_in w m = record w { end = at w.end m None }
 
 unended_form : (r : Replica) → HasForm r → HasForm (unended r)
 unended_form r f = beside_form r r.next r.logged r.durable r.turns r.acts r.history None r.committed r.pending
-    r.votes f (omega arith) f.logged f.room (omega arith) f.acts f.waits f.votes
+    r.votes f (omega arith) f.logged f.room (omega arith) f.acts f.waits f.votes f.decided
+    (λ outside. let waits = f.outside outside in (waits.none, waits.idle, waits.all))
 
 unended_of : (g : Group) (m : ℕ) (r : Replica) → IsOf g m r → IsOf g m (unended r)
 unended_of g m r of = record {
@@ -43,17 +46,19 @@ unended_of g m r of = record {
   banks = of.banks;
   messages = of.messages;
   totals = of.totals;
+  late = of.late;
+  room = of.room;
 }
 
 -- the world of the replicas is that world
-unended_world : (g : Group) (rs : List (Option Replica)) (table : List ℕ) (m : ℕ) (r : Replica)
+unended_world : (g : Group) (rs : List (Option Replica)) (table : Shared) (m : ℕ) (r : Replica)
     → present_at rs m ≡ Some r
     → world_of g (with_present rs m (unended r)) table ≡ unended_in (world_of g rs table) m
 unended_world g rs table m r there =
     changed_world g rs table table m (unended r) (unended_in w m) (present_within rs m r there) (record {
       others = λ k other. rw (other_number k m other) refl;
       here = here;
-    }) refl
+    }) refl refl
   where
     w : World
     w = world_of g rs table
@@ -64,11 +69,12 @@ unended_world g rs table m r there =
         alone : held (unended_in w m) m ≡ record (held w m) { end = None }
         alone = rw (same_number m) refl
 
-unended_member : (g : Group) (rs : List (Option Replica)) (table : List ℕ) (m : ℕ) (r : Replica)
+unended_member : (g : Group) (rs : List (Option Replica)) (table : Shared) (m : ℕ) (r : Replica)
     → IsMember g rs table m r → IsMember g (with_present rs m (unended r)) table m (unended r)
 unended_member g rs table m r is = record {
   group = is.group;
   cells = is.cells;
+  posts = is.posts;
   there = present_set rs m (unended r) (present_within rs m r is.there);
   form = unended_form r is.form;
   of = unended_of g m r is.of;
@@ -81,6 +87,7 @@ ends_aside g w m v can = record {
   may = record {
     alive = record { present = can.may.alive.present; running = refl };
     idle = can.may.idle;
+    inside = can.may.inside;
   };
   wedged = can.wedged;
   uncommitted = can.uncommitted;
@@ -89,7 +96,7 @@ ends_aside g w m v can = record {
   allowed = can.allowed;
 }
 
-vote_is : (g : Group) (rs : List (Option Replica)) (table : List ℕ) (m : ℕ) (r : Replica) (v : Value)
+vote_is : (g : Group) (rs : List (Option Replica)) (table : Shared) (m : ℕ) (r : Replica) (v : Value)
     → IsMember g rs table m r → vote_of r v ≡ vote_for g (world_of g rs table) m v
 vote_is g rs table m r v is =
     let h : held (world_of g rs table) m ≡ holding_of g r = held_of g rs table m r is.there in
@@ -101,13 +108,14 @@ vote_is g rs table m r v is =
       value = v;
     }
 
-pub due_may : (g : Group) (rs : List (Option Replica)) (table : List ℕ) (m : ℕ) (r : Replica) (x : Vote)
+pub due_may : (g : Group) (rs : List (Option Replica)) (table : Shared) (m : ℕ) (r : Replica) (x : Vote)
     → IsMember g rs table m r → r.pending ≡ None → IsDueVote r x → MayLogVote g (world_of g rs table) m x
 due_may g rs table m r x is idle due = (
   value_due r,
   ends_aside g (world_of g rs table) m (value_due r)
       (subst (λ (w : World). CanLogVote g w m (value_due r)) (unended_world g rs table m r is.there)
       ((vote_guard g (with_present rs m (unended r)) table m (unended r) (value_due r)
-      (unended_member g rs table m r is) (refl, idle)).0 due.may)),
+      (unended_member g rs table m r is)
+      (refl, idle, wedged_inside r is.form (and_parts (is_wedged r) _ due.may).0)).0 due.may)),
   due.is ∙ vote_is g rs table m r (value_due r) is,
 )

@@ -1,6 +1,7 @@
 -- Where an append of a member has failed, no vote of it waits to be acted on, also as it has ended by that.
 use Rattle.std.proofs.Common.{◌≡◌, refl, sym, ap, ◌∙◌, subst, inl, inr, ℕ, ◌≤◌, false, List, []}
 use Rattle.std.specs.Prelude.{Option, None, Some, is_some, option_map}
+use Rattle.dr_entry.specs.declared.entry.Entry.{Entry}
 use Rattle.std.proofs.lemmas.Option.{same_Some}
 use Rattle.dr_entry.specs.declared.end.End.{End}
 use Rattle.dr_entry.specs.declared.end.End.TheVariants.{DiskFault}
@@ -10,8 +11,8 @@ use Rattle.dr_program.specs.declared.place.Part.{Part}
 use Rattle.dr_program.specs.declared.setup.Setup.{Setup}
 use Rattle.dr_program.specs.Form.{IsRunningMember}
 use Rattle.dr_program.specs.Presence.{present_at}
-use Rattle.dr_program.specs.Program.{AreSetups, IsRanFrom, Move, Program, after_deed, begun_program, moved_by, next_sight, ran, step_of}
-use Rattle.dr_program.specs.Running.{Running, WaitsAt, after_step, begun_running, broken_off, next_step, step_at, took}
+use Rattle.dr_program.specs.Program.{AreSetups, IsRanFrom, Move, Program, after_deed, begun_program, letter_for, moved_by, next_sight, ran, step_of}
+use Rattle.dr_program.specs.Running.{Running, WaitsAt, after_step, begun_running, broken_off, next_step, settled, step_at, took, took_letter}
 use Rattle.dr_program.specs.Steps.{IsAppend, stepped}
 use Rattle.dr_program.specs.Turn.{part_of}
 use Rattle.dr_program.proofs.Present.{present_map}
@@ -61,6 +62,22 @@ takes_idle word r none is idle why failed =
     by (inl due) = ap (λ s. (stepped word r.replica s).pending) due.1 ∙ idle why was
     by (inr over) = absurd (cc (none, over))
 
+-- nor at a take, whether it finds a letter or none
+letter_idle : (letter : Option (List Entry)) (r : Running) → IsIdleFailed r
+    → IsIdleFailed (settled (took_letter letter r))
+letter_idle letter r idle why failed = ap (λ (x : Running). x.replica.pending) only
+    ∙ (same letter).0 ∙ idle why (sym (same letter).1 ∙ (sym (ap (λ (x : Running). x.failed) only) ∙ failed))
+  where
+    only : settled (took_letter letter r) ≡ record (took_letter letter r) {
+      place = (settled (took_letter letter r)).place;
+    }
+    only = settle_only _ (took_letter letter r)
+
+    same : (letter : Option (List Entry)) → ((took_letter letter r).replica.pending ≡ r.replica.pending)
+        × ((took_letter letter r).failed ≡ r.failed)
+    same None = (refl, refl)
+    same (Some es) = (refl, refl)
+
 move_idle : (p : Program) (e : Move) (g : Group) → IsProgram g p → AreFailing p → AreIdleFailed p
     → AreIdleFailed (step_of p e)
 move_idle p e g is failing all = by (present_at p.members e.member) refl
@@ -71,10 +88,12 @@ move_idle p e g is failing all = by (present_at p.members e.member) refl
         (sym (rest_changes_nothing p e r there (ap is_some ended))) all
     at r there None unended = subst AreIdleFailed (sym (step_is p e r there unended)) (λ m y found.
         elim (replaced_either p.members e.member r
-        (after_deed (next_sight p.table r) e.outcome r (next_step r)) there m y found) [
-          | inl here ↦ subst IsIdleFailed here.1 (after_either IsIdleFailed p.table e.outcome r (next_step r)
+        (after_deed (next_sight p.table r) (letter_for p e.member) e.outcome r (next_step r)) there m y found) [
+          | inl here ↦ subst IsIdleFailed here.1 (after_either IsIdleFailed p.table (letter_for p e.member) e.outcome
+              r (next_step r)
               (takes_idle (next_sight p.table r) r unended (failing e.member r there) (all e.member r there))
-              (λ why due. breaks_idle why r (is.form e.member r there) due))
+              (λ why due. breaks_idle why r (is.form e.member r there) due)
+              (λ due. letter_idle (letter_for p e.member) r (all e.member r there)))
           | inr other ↦ all m y other.1
         ])
 

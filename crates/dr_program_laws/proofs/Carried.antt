@@ -1,31 +1,33 @@
 -- What the deeds of members and words that come make of a program whose words are carried by a net.
-use Rattle.std.proofs.Common.{◌≡◌, ◌∙◌, ap, arith, refl, subst, sym, true, ℕ, ◌<◌, [], All, Contains, List, ◌∷◌, length, slice_index}
+use Rattle.std.proofs.Common.{◌≡◌, arith, refl, subst, sym, true, ℕ, ◌<◌, [], All, Contains, List, ◌∷◌, length, slice_index}
 use Rattle.std.specs.Prelude.{max, slice_set, None, Option, Some}
 use Rattle.std.proofs.lemmas.List.Elements.{All-cons, All-contains, All-nil, All-weaker}
+use Rattle.std.proofs.lemmas.Bool.{and_parts}
 use Rattle.std.proofs.lemmas.Option.{same_Some}
 use Rattle.dr_entry.specs.declared.end.End.{End}
 use Rattle.dr_rows.specs.Words.{own}
 use Rattle.dr_words.proofs.Places.{word_index_within}
 use Rattle.dr_words.specs.Layout.{word_index_of}
 use Rattle.dr_machine.proofs.Runs.{is_before, stays_next}
-use Rattle.dr_machine.specs.declared.step.Step.TheVariants.{Push}
+use Rattle.dr_machine.specs.declared.step.Step.TheVariants.{Join, Push}
 use Rattle.dr_machine.specs.Group.{Group, IsGroup, banks, columns, roster}
 use Rattle.dr_machine.specs.Run.{ComesNext, IsReached}
 use Rattle.dr_machine.specs.World.{World}
 use Rattle.dr_program.specs.declared.packet.Packet.{Packet}
-use Rattle.dr_program.specs.Net.{IsOnItsWay}
+use Rattle.dr_program.specs.Net.{FindsNone, IsOnItsWay, took_nothing}
 use Rattle.dr_program.specs.Program.{Move, Program, ok, step_of}
-use Rattle.dr_program.specs.Reading.{step_due, step_of_member, world}
-use Rattle.dr_program.specs.Replica.{is_other, me}
+use Rattle.dr_program.specs.Reading.{step_due, step_of_member, table_of, world}
+use Rattle.dr_program.specs.Replica.{is_inside, is_other, me}
 use Rattle.dr_program.specs.Running.{Running, next_step}
 use Rattle.dr_program.specs.Steps.{allows, index_in}
-use Rattle.dr_refine.proofs.Deeds.{due_allowed, program_member, replicas, step_follows}
+use Rattle.dr_refine.proofs.Deeds.{due_allowed, missed_stays, program_member, replicas, step_follows}
 use Rattle.dr_refine.proofs.Guards.{other_within}
 use Rattle.dr_refine.proofs.Members.{fits, inside}
 use Rattle.dr_refine.proofs.Tests.{cell_test}
 use Rattle.dr_refine.specs.Programs.{IsMember, IsProgram}
+use Rattle.dr_room.proofs.Letters.{letters_are}
 use Rattle.dr_program_laws.proofs.Keeping.{move_kept}
-use Rattle.dr_program_laws.proofs.Nets.{come_follows, own_now, way_stays}
+use Rattle.dr_program_laws.proofs.Nets.{come_follows, due_take, missed_kept, own_now, way_stays}
 use Rattle.dr_program_laws.specs.Carried.{IsCarried, WasSent}
 use Rattle.dr_program.specs.Presence.{present_at}
 
@@ -68,7 +70,7 @@ carried_moves g p net e y = record {
   group = y.group;
   form = (move_kept g p e y.group y.form (y.before, y.way)).0;
   before = world g p ∷ y.before;
-  way = (y.way, step_follows g p e y.before y.group y.form);
+  way = (y.way, step_follows g p e y.before y.group y.form (letters_are g p y.group y.form (y.before, y.way)));
   sent = all_sent g (world g p ∷ y.before) (world g (step_of p e)) net y.sent;
 }
 
@@ -85,15 +87,16 @@ due_push r j c push = by r.replica.end refl push
 -- and so does a push whose word goes into a packet
 pub carried_pushes : (g : Group) (p : Program) (net : List Packet) (m : ℕ) (r : Running) (j c : ℕ)
     → IsCarried g p net → present_at p.members m ≡ Some r → step_of_member r ≡ Some (Push j c)
-    → IsCarried g (record { members = (step_of p (ok m)).members; table = p.table })
+    → IsCarried g (record { members = (step_of p (ok m)).members; table = p.table; letters = p.letters })
     (record { index = index_in r.replica j (me r.replica) c; word = own r.replica.rows c } ∷ net)
 carried_pushes g p net m r j c y there push = record {
   group = y.group;
-  form = record { all = kept.all; there = kept.there; form = kept.form; of = kept.of; table = y.form.table };
+  form = record { all = kept.all; there = kept.there; form = kept.form; of = kept.of; table = y.form.table; posts = y.form.posts };
   before = world g p ∷ y.before;
   way = (
     y.way,
-    subst (ComesNext g y.before (world g p)) (sym (way_stays g p q y.group y.form on))
+    subst (ComesNext g y.before (world g p)) (sym (way_stays g p q y.group y.form
+        (letters_are g p y.group y.form (y.before, y.way)) on))
         (stays_next g y.before (world g p)),
   );
   sent = All-cons (WasSent g (world g q ∷ world g p ∷ y.before)) packet net
@@ -102,7 +105,7 @@ carried_pushes g p net m r j c y there push = record {
 }
   where
     q : Program
-    q = record { members = (step_of p (ok m)).members; table = p.table }
+    q = record { members = (step_of p (ok m)).members; table = p.table; letters = p.letters }
 
     packet : Packet
     packet = record { index = index_in r.replica j (me r.replica) c; word = own r.replica.rows c }
@@ -121,13 +124,13 @@ carried_pushes g p net m r j c y there push = record {
       made = refl;
     }
 
-    member : IsMember g (replicas p.members) p.table m r.replica
+    member : IsMember g (replicas p.members) (table_of p) m r.replica
     member = program_member g p m r y.group y.form there
 
     cell : (is_other r.replica j ≡ true) × (c < columns g)
-    cell = (cell_test g (replicas p.members) p.table m r.replica j c member).0
-        (subst (λ s. allows r.replica s ≡ true) (due_push r j c push).1
-        (due_allowed r ((y.form.form m r there).due (due_push r j c push).0)))
+    cell = (cell_test g (replicas p.members) (table_of p) m r.replica j c member).0
+        (and_parts (is_inside r.replica) _ (subst (λ s. allows r.replica s ≡ true) (due_push r j c push).1
+        (due_allowed r ((y.form.form m r there).due (due_push r j c push).0)))).1
 
     new : WasSent g (world g p ∷ y.before) packet
     new = record {
@@ -135,9 +138,9 @@ carried_pushes g p net m r j c y there push = record {
       copy = j;
       row = m;
       column = c;
-      bank = (fits g (replicas p.members) p.table m r.replica member).bank;
-      to = other_within g (replicas p.members) p.table m r.replica j member cell.0;
-      from = inside g m r.replica.rows r.replica.view (fits g (replicas p.members) p.table m r.replica member);
+      bank = (fits g (replicas p.members) (table_of p) m r.replica member).bank;
+      to = other_within g (replicas p.members) (table_of p) m r.replica j member cell.0;
+      from = inside g m r.replica.rows r.replica.view (fits g (replicas p.members) (table_of p) m r.replica member);
       cell = cell.1;
       place = λ z. word_index_of (member.of.members z) (member.of.window z) r.replica.view j
           (member.of.number z) c;
@@ -174,11 +177,13 @@ pub carried_comes : (g : Group) (p : Program) (net : List Packet) (packet : Pack
     → Contains net packet → IsCarried g (record {
       members = p.members;
       table = slice_set p.table packet.index (max (slice_index p.table packet.index) packet.word);
+      letters = p.letters;
     }) net
 carried_comes g p net packet y on =
     subst (λ index. IsCarried g (record {
       members = p.members;
       table = slice_set p.table index (max (slice_index p.table index) packet.word);
+      letters = p.letters;
     }) net) (sym one.place) (record {
       group = y.group;
       form = next.0;
@@ -197,8 +202,28 @@ carried_comes g p net packet y on =
     q = record {
       members = p.members;
       table = slice_set p.table place (max (slice_index p.table place) packet.word);
+      letters = p.letters;
     }
 
     next : IsProgram g q × ComesNext g y.before (world g p) (world g q)
     next = come_follows g y.before p one.view one.copy one.row one.column packet.word y.form
         one.bank one.to one.from one.cell one.was
+
+-- and so does a take that finds no letter, as it is on its way
+pub carried_misses : (g : Group) (p : Program) (net : List Packet) (m : ℕ) (r : Running)
+    → IsCarried g p net → present_at p.members m ≡ Some r → step_of_member r ≡ Some Join
+    → IsCarried g (took_nothing p m r) net
+carried_misses g p net m r y there take = record {
+  group = y.group;
+  form = missed_kept g p m r y.form there (due_take r take).0 (due_take r take).1;
+  before = world g p ∷ y.before;
+  way = (
+    y.way,
+    subst (ComesNext g y.before (world g p)) (sym (missed_stays g p (took_nothing p m r) none))
+        (stays_next g y.before (world g p)),
+  );
+  sent = all_sent g (world g p ∷ y.before) (world g (took_nothing p m r)) net y.sent;
+}
+  where
+    none : FindsNone p (took_nothing p m r)
+    none = record { number = m; member = r; there = there; take = take; made = refl }

@@ -1,10 +1,11 @@
 -- A deed leads a member from where it stands so to where it does again.
 use Rattle.std.proofs.Common.{◌≡◌, inl, inr, refl, sym, ap, ◌∙◌, subst, ℕ, ◌-◌, Bool, true, false, ◌==◌, ◌||◌, not, List, length, arith}
-use Rattle.std.specs.Prelude.{Any, None, Some, slice_index_or}
+use Rattle.std.specs.Prelude.{Any, Option, None, Some, slice_index_or}
 use Rattle.std.specs.List.{list_any}
 use Rattle.std.proofs.lemmas.Bool.{and_parts}
 use Rattle.std.proofs.lemmas.Bool.Decides.{nat_tests}
 use Rattle.std.proofs.lemmas.List.Folds.{Any-from_list_any}
+use Rattle.dr_entry.specs.declared.entry.Entry.{Entry}
 use Rattle.dr_machine.specs.declared.event.Act.{Act}
 use Rattle.dr_machine.specs.declared.step.Step.{Step}
 use Rattle.dr_machine.specs.declared.step.Step.TheVariants as steps
@@ -18,7 +19,7 @@ use Rattle.dr_program.specs.declared.place.Part.TheVariants as parts
 use Rattle.dr_program.specs.declared.place.TheConstants.{TURN}
 use Rattle.dr_program.specs.Form.{IsRunningMember}
 use Rattle.dr_program.specs.Program.{after_deed, next_sight}
-use Rattle.dr_program.specs.Running.{Running, append_or_end, asks, begun_running, columns, crashes_now, end_by, is_at_push, is_in_turn, judged, members, next_step, push_or_crash, pushes_after, step_at, goes, vote_or_end, waits_after}
+use Rattle.dr_program.specs.Running.{Running, append_or_end, asks, begun_running, columns, crashes_now, end_by, is_at_push, is_in_turn, judged, members, next_step, push_or_crash, pushes_after, step_at, took_letter, goes, vote_or_end, waits_after}
 use Rattle.dr_program.specs.Replica.{value_due}
 use Rattle.dr_program.specs.Steps.{allows, stepped}
 use Rattle.dr_program.specs.Turn.{after, is_beat, part_of, turn_begins}
@@ -266,15 +267,40 @@ deed_keeps limit points word r parts.Spent d v =
       ahead = v.ahead;
       proper = (last, last, v.ahead (ap is_late d.at));
     }
+deed_keeps limit points word r parts.Take d v = record {
+  limited = v.limited;
+  planned = v.planned;
+  later = v.later;
+  ahead = λ late. absurd (cc late);
+  proper = v.proper;
+}
 deed_keeps limit points word r part d v =
     record { limited = v.limited; planned = v.planned; later = v.later; ahead = v.ahead; proper = v.proper }
 
--- the member's next deed, however its append goes
-pub deed_stands : (limit : ℕ) (points : List CrashPoint) (table : List ℕ) (o : Outcome) (r : Running)
-    → IsRunningMember r → r.replica.end ≡ None → Stands limit points r
-    → Stands limit points (after_deed (next_sight table r) o r (next_step r))
-deed_stands limit points table o r member none v =
-    after_either (Stands limit points) table o r (next_step r)
+-- a take leaves it standing so: it goes to the end of the turn, from its first part
+pub took_stands : (limit : ℕ) (points : List CrashPoint) (letter : Option (List Entry)) (r : Running)
+    → Stands limit points r → Stands limit points (took_letter letter r)
+took_stands limit points None r v = record {
+  limited = v.limited;
+  planned = v.planned;
+  later = v.later;
+  ahead = λ late. absurd (cc late);
+  proper = v.proper;
+}
+took_stands limit points (Some letter) r v = record {
+  limited = v.limited;
+  planned = v.planned;
+  later = v.later;
+  ahead = λ late. absurd (cc late);
+  proper = v.proper;
+}
+
+-- the member's next deed, however its append goes, and whatever letter it finds
+pub deed_stands : (limit : ℕ) (points : List CrashPoint) (table : List ℕ) (letter : Option (List Entry))
+    (o : Outcome) (r : Running) → IsRunningMember r → r.replica.end ≡ None → Stands limit points r
+    → Stands limit points (after_deed (next_sight table r) letter o r (next_step r))
+deed_stands limit points table letter o r member none v =
+    after_either (Stands limit points) table letter o r (next_step r)
     (settled_stands limit points (done_at (next_sight table r) r (part_of r.place))
     (deed_keeps limit points (next_sight table r) r (part_of r.place) (record {
       at = refl;
@@ -290,6 +316,7 @@ deed_stands limit points table o r member none v =
       ahead = v.ahead;
       proper = v.proper;
     })
+    (λ due. settled_stands limit points (took_letter letter r) (took_stands limit points letter r v))
 
 -- ---- the beginning
 

@@ -1,5 +1,5 @@
 -- Members that have all ended have ended as they should.
-use Rattle.std.proofs.Common.{◌≡◌, ◌⊎◌, refl, sym, ap, ◌∙◌, inl, inr, subst, ℕ, ◌+◌, ◌<◌, ◌≤◌, ◌&&◌, not, Bool, List, [], ◌++◌, length, take, true, false, Contains, append-nil, length-append, arith}
+use Rattle.std.proofs.Common.{◌≡◌, ◌⊎◌, refl, sym, ap, ◌∙◌, inl, inr, subst, ℕ, ◌+◌, ◌<◌, ◌≤◌, Bool, List, [], ◌++◌, length, take, true, false, Contains, append-nil, length-append, arith}
 use Rattle.std.specs.Prelude.{IsTrue, Option, None, Some, is_some, option_map, slice_get, unwrap_or}
 use Rattle.std.proofs.lemmas.List.{length-take, nil_from_length}
 use Rattle.std.proofs.lemmas.Option.{slice_get-map, same_Some}
@@ -8,23 +8,26 @@ use Rattle.dr_entry.specs.declared.entry.Entry.TheVariants.{View}
 use Rattle.dr_entry.specs.declared.end.End.{End}
 use Rattle.dr_entry.specs.declared.end.End.TheVariants as ends
 use Rattle.dr_entry.specs.declared.end.MemberEnd.{MemberEnd}
-use Rattle.dr_faithful.proofs.Suspicions.{members_small}
 use Rattle.dr_faithful.specs.Chosen.{views_by}
+use Rattle.dr_faithful.specs.Faithful.{StandsOnLogs}
 use Rattle.dr_history.specs.Agreement.{EndsAgreed}
 use Rattle.dr_history.specs.History.{GroupView, IsPrefixOf, view_of}
 use Rattle.dr_history.specs.Members.{has, members_of}
-use Rattle.dr_history.specs.Order.{first_entries, messages_from, numbered_messages}
+use Rattle.dr_history.specs.Order.{IsLateIn, first_entries, messages_from, numbered_messages}
 use Rattle.dr_history.proofs.NumberedLemmas.{length-numbered_messages}
 use Rattle.dr_history_laws.specs.Remaining.{remaining}
 use Rattle.dr_history_laws.proofs.Keeping.{prefix_beside, prefix_shorter, prefix_then}
 use Rattle.dr_program.specs.declared.setup.CrashPoint.{CrashPoint}
 use Rattle.dr_program.specs.declared.setup.Setup.{Setup}
-use Rattle.dr_machine.specs.Group.{Group, IsGroup, IsPresent, roster}
+use Rattle.dr_machine.specs.Group.{Group, IsGroup, IsPresent, late_members, roster}
+use Rattle.dr_machine.proofs.Presence.{late_in}
 use Rattle.dr_machine.specs.World.{World, opening_world}
+use Rattle.dr_program.specs.Form.{WaitsToJoin}
+use Rattle.dr_program.specs.Replica.{is_inside, me}
 use Rattle.dr_program.specs.Running.{Running}
 use Rattle.dr_program.proofs.Present.{ended_there, slice_present}
 use Rattle.dr_program.specs.Program.{Program, AllEnded, AreSetups, IsRanFrom, absent_end, begun_program, end_at, end_of}
-use Rattle.dr_machine.proofs.Presence.{in_roster, is_there}
+use Rattle.dr_machine.proofs.Presence.{in_roster}
 use Rattle.dr_program.specs.Net.{IsRanOverNet}
 use Rattle.dr_program.specs.Reading.{world}
 use Rattle.dr_machine.specs.Run.{IsReached}
@@ -35,18 +38,17 @@ use Rattle.dr_restart.specs.Groups.{group_of}
 use Rattle.dr_restart.specs.Setups.{IsBegun, crashes_of}
 use Rattle.dr_restart.proofs.Setups.{are_setups}
 use Rattle.dr_vote_laws.proofs.Exclusions.{excluded_so}
-use Rattle.dr_words.proofs.Masks.{has_without_mask}
-use Rattle.dr_words.specs.Masks.{IsInRoster, IsMajorityOf, without}
+use Rattle.dr_words.specs.Masks.{IsInRoster, IsMajorityOf}
 use Rattle.dr_world_laws.proofs.Agreeing.{done-lacks-none, done-same, either-prefix, the-view}
-use Rattle.dr_world_laws.proofs.ChosenViews.{views-next, views-of-first}
-use Rattle.dr_world_laws.proofs.HeldViews.{view-held}
+use Rattle.dr_world_laws.proofs.ChosenViews.{views-leaves, views-there}
+use Rattle.dr_world_laws.proofs.Holding.{view-held}
 use Rattle.dr_world_laws.proofs.Leavings.{IsLeftSo}
 use Rattle.dr_world_laws.proofs.Worlds.{Known, commits, done-durable, done-whole, holds-remaining, in-order, known, left_so}
 use Rattle.dr_program_laws.specs.Causes.{HasCause, IsVotedOut}
-use Rattle.dr_program_laws.specs.Ended.{GoOnWithout, HasEnded, HasReason, HaveEnded, IsComplete, IsInView, IsLeftOut, IsWhole, is_log_end}
+use Rattle.dr_program_laws.specs.Ended.{GoOnWithout, HasEnded, HasReason, HaveEnded, IsComplete, LastViewIs, IsLeftOut, IsWhole, is_log_end}
 use Rattle.dr_program_laws.proofs.Keeping.{deeds_kept}
 use Rattle.dr_program_laws.proofs.Nets.{net_keeps, net_reached}
-use Rattle.dr_program_laws.proofs.Programs.{AllStand, all_stand, begun_stands, move_stands}
+use Rattle.dr_program_laws.proofs.Programs.{AllStand, all_stand, begun_stands, missed_stands, move_stands}
 use Rattle.dr_program_laws.proofs.Standing.{IsProper, Stands}
 use Rattle.dr_program_laws.proofs.Worlds.{all_ends, end_told, ends_agreed, ends_of, of_there, stands_there}
 use Rattle.dr_program.specs.Presence.{present_at}
@@ -109,7 +111,7 @@ views_are g p m r is =
 
 -- its history is in the view that it is in
 in_view : (g : Group) (p : Program) (m : ℕ) (r : Running) → IsThere g p m r
-    → IsInView g.opening r.replica.view r.replica.members r.replica.history
+    → LastViewIs g.opening r.replica.view r.replica.members r.replica.history
 in_view g p m r is =
     ap view_of (sym (history_is g p m r is))
     ∙ the-view g y.values (world g p) m is.group y.chosen (within g p m r is)
@@ -122,11 +124,23 @@ in_view g p m r is =
     view_with : ℕ → ℕ → GroupView
     view_with number mask = record { age = g.opening.age; number = number; members = members_of mask }
 
--- and it is a member of it
+-- and it is a member of it, or late, and has not joined
 own_view : (g : Group) (p : Program) (m : ℕ) (r : Running) → IsThere g p m r
-    → has r.replica.members m ≡ true
-own_view g p m r is = ap (λ mask. has mask m) (sym (views_are g p m r is))
-    ∙ (known_of g p m r is).chosen.faithful.views.present m (there_is g p m r is)
+    → (has r.replica.members m ≡ true) ⊎ (IsLateIn g.opening m × (r.replica.view ≡ 0))
+own_view g p m r is = by (is_inside r.replica) refl
+  where
+    number : me r.replica ≡ m
+    number = (is.program.of m r is.there).number
+
+    late : WaitsToJoin r.replica → IsLateIn g.opening m
+    late out = late_in g m is.group (ap (λ k. has (late_members g) k) (sym number)
+        ∙ ap (λ mask. has mask (me r.replica)) (sym (is.program.of m r is.there).late) ∙ out.late)
+
+    by : (b : Bool) → is_inside r.replica ≡ b
+        → (has r.replica.members m ≡ true) ⊎ (IsLateIn g.opening m × (r.replica.view ≡ 0))
+    by true inside = inl (ap (has r.replica.members) (sym number) ∙ inside)
+    by false outside = let out = (is.program.form m r is.there).replica.outside outside in
+        inr (late out, out.first)
 
 -- the end that stands at the place of a member is that member's
 end_is : (p : Program) (i : ℕ) (r : Running) (e : MemberEnd) → present_at p.members i ≡ Some r
@@ -155,8 +169,8 @@ end_there p i e at = by (slice_get p.members i) refl
 beside_it : (g : Group) (p : Program) (m : ℕ) (r : Running) (i : ℕ) → IsThere g p m r
     → has r.replica.members i ≡ true → (q : Running) × (present_at p.members i ≡ Some q)
 beside_it g p m r i is member = stands_there g p i is.group is.program
-    (is_there g i is.group (views-of-first g (known_of g p m r is).values ((world g p).past.view m) i is.group
-    (ap (λ mask. has mask i) (views_are g p m r is) ∙ member)))
+    (views-there g (known_of g p m r is).values ((world g p).past.view m) i is.group
+    (ap (λ mask. has mask i) (views_are g p m r is) ∙ member))
 
 -- ---- a member that is done
 
@@ -190,11 +204,12 @@ done_durable g p m r is end =
     (ended_is g p m r ends.Done is end)
     ∙ ap length (history_is g p m r is)
 
--- so each member of its view has it on its log
-done_kept : (g : Group) (p : Program) (m : ℕ) (r : Running) (i : ℕ) (q : Running) → IsThere g p m r
-    → r.replica.end ≡ Some ends.Done → has r.replica.members i ≡ true → present_at p.members i ≡ Some q
+-- who has so much on its log has it all
+done_held : (g : Group) (p : Program) (m : ℕ) (r : Running) (i : ℕ) (q : Running) → IsThere g p m r
+    → r.replica.end ≡ Some ends.Done → present_at p.members i ≡ Some q
+    → (world g p).past.durable m ≤ length ((world g p).past.log i)
     → IsPrefixOf r.replica.history (take q.replica.logged q.replica.history)
-done_kept g p m r i q is end member at =
+done_held g p m r i q is end at enough =
     subst (λ h. IsPrefixOf h (take q.replica.logged q.replica.history)) (history_is g p m r is)
     (subst (IsPrefixOf (w.past.history m)) (log_is g p i q other)
     (by (either-prefix g y.values w m i is.group y.chosen (within g p m r is) (within g p i q other))))
@@ -214,8 +229,7 @@ done_kept g p m r i q is end member at =
     long : length ((world g p).past.history m) ≤ length ((world g p).past.log i)
     long = omega (
       arith,
-      y.chosen.faithful.logs.safe m i (there_is g p m r is)
-          (ap (λ mask. has mask i) (views_are g p m r is) ∙ member),
+      enough,
       done-durable g w m y (within g p m r is) (ended_is g p m r ends.Done is end),
     )
 
@@ -227,6 +241,20 @@ done_kept g p m r i q is end member at =
         ([], append-nil (w.past.history m))
         (prefix_then (w.past.log i) (w.past.history i) (w.past.history m) front more) long
 
+-- what it knows to be durable stands on logs
+safe_is : (g : Group) (p : Program) (m : ℕ) (r : Running) (is : IsThere g p m r)
+    → StandsOnLogs g (views_by g (known_of g p m r is).values) (world g p).past.log m ((world g p).past.view m)
+    ((world g p).past.durable m)
+safe_is g p m r is = (known_of g p m r is).chosen.faithful.logs.safe m (there_is g p m r is)
+
+-- so each member of its view that isn't late has it all on its log
+done_kept : (g : Group) (p : Program) (m : ℕ) (r : Running) (i : ℕ) (q : Running) → IsThere g p m r
+    → r.replica.end ≡ Some ends.Done → has r.replica.members i ≡ true → has g.opening.members i ≡ true
+    → present_at p.members i ≡ Some q
+    → IsPrefixOf r.replica.history (take q.replica.logged q.replica.history)
+done_kept g p m r i q is end member early at = done_held g p m r i q is end at
+    ((safe_is g p m r is).stayed i (ap (λ mask. has mask i) (views_are g p m r is) ∙ member) early)
+
 -- it has itself all of it on its log
 done_logged : (g : Group) (p : Program) (m : ℕ) (r : Running) → IsThere g p m r
     → r.replica.end ≡ Some ends.Done → r.replica.logged ≡ length r.replica.history
@@ -235,19 +263,19 @@ done_logged g p m r is end = omega (
   (is.program.form m r is.there).replica.logged,
   length-take r.replica.logged r.replica.history,
   prefix_shorter r.replica.history (take r.replica.logged r.replica.history)
-      (done_kept g p m r m r is end (own_view g p m r is) is.there),
+      (done_held g p m r m r is end is.there (safe_is g p m r is).own),
 )
 
 -- nobody has a message that it lacks
 done_lacks : (g : Group) (p : Program) (m : ℕ) (r : Running) (s i : ℕ) (q : Running) → IsThere g p m r
-    → r.replica.end ≡ Some ends.Done → present_at p.members i ≡ Some q
+    → (¬ IsLateIn g.opening s) → r.replica.end ≡ Some ends.Done → present_at p.members i ≡ Some q
     → IsPrefixOf (messages_from s q.replica.history) (messages_from s r.replica.history)
-done_lacks g p m r s i q is end at =
+done_lacks g p m r s i q is early end at =
     let y = known_of g p m r is in
     let other = beside g p m r i q is at in
     subst (λ h. IsPrefixOf (messages_from s h) (messages_from s r.replica.history)) (history_is g p i q other)
     (subst (λ h. IsPrefixOf (messages_from s ((world g p).past.history i)) (messages_from s h))
-    (history_is g p m r is) (done-lacks-none g y.values (world g p) m i s is.group y.chosen
+    (history_is g p m r is) (done-lacks-none g y.values (world g p) m i s is.group y.chosen early
     (within g p m r is)
     (ended_is g p m r ends.Done is end) (within g p i q other)))
 
@@ -259,7 +287,7 @@ told_done (Some end) some e = ap Some e
 -- who is done in the same view has the same history
 done_same : (g : Group) (p : Program) (m : ℕ) (r : Running) (i : ℕ) (q : Running) → IsThere g p m r
     → r.replica.end ≡ Some ends.Done → present_at p.members i ≡ Some q → q.replica.end ≡ Some ends.Done
-    → IsInView g.opening r.replica.view r.replica.members q.replica.history
+    → LastViewIs g.opening r.replica.view r.replica.members q.replica.history
     → q.replica.history ≡ r.replica.history
 done_same g p m r i q is end at done here =
     let y = known_of g p m r is in
@@ -302,19 +330,19 @@ whole : (g : Group) (p : Program) (m : ℕ) (r : Running) → IsThere g p m r �
 whole g p m r is ended end = record {
   end = ap (λ o. unwrap_or o ends.Done) end;
   whole = done_whole g p m r is end;
-  lacks_none = λ s. all_ends (λ (e : MemberEnd). IsPrefixOf (messages_from s e.history)
-      (messages_from s r.replica.history)) p (messages_from s r.replica.history, refl) (λ i q at. done_lacks g p m r s i q is end at);
+  lacks_none = λ s early. all_ends (λ (e : MemberEnd). IsPrefixOf (messages_from s e.history)
+      (messages_from s r.replica.history)) p (messages_from s r.replica.history, refl) (λ i q at. done_lacks g p m r s i q is early end at);
   logged = done_logged g p m r is end;
   durable = done_durable g p m r is end;
-  kept = λ i e member at. let q = beside_it g p m r i is member in
+  kept = λ i e member early at. let q = beside_it g p m r i is member in
       subst (λ (x : MemberEnd). IsPrefixOf r.replica.history (take x.logged x.history))
-      (end_is p i q.0 e q.1 at) (done_kept g p m r i q.0 is end member q.1);
+      (end_is p i q.0 e q.1 at) (done_kept g p m r i q.0 is end member early q.1);
   same = λ i e at done here. so i e done here (end_there p i e at);
   first = done_first g p m r is end;
 }
   where
     so : (i : ℕ) (e : MemberEnd) → e.end ≡ ends.Done
-        → IsInView g.opening r.replica.view r.replica.members e.history
+        → LastViewIs g.opening r.replica.view r.replica.members e.history
         → (e ≡ absent_end) ⊎ ((q : Running) × (present_at p.members i ≡ Some q) × (end_of q ≡ e))
         → e.history ≡ r.replica.history
     so i e done here (inl absent) = absurd (cc (ap (λ (x : MemberEnd). x.end) absent, done))
@@ -345,8 +373,8 @@ without_it : (g : Group) (p : Program) (m : ℕ) (r : Running) (view : ℕ) → 
 without_it g p m r view is end =
     all_ends (λ (e : MemberEnd). (members : ℕ) → Contains e.history (View g.opening.age view members)
     → has members m ≡ false) p (λ members held. absurd (omega (arith, held.1))) (λ i q at members held. let other = beside g p m r i q is at in
-    left members (view-held g y.values (world g p) i ((world g p).past.view m + 1) members is.group y.chosen
-    (within g p i q other) (subst (λ h. Contains h (View g.opening.age ((world g p).past.view m + 1) members))
+    left members (view-held g y.values (world g p) i ((world g p).past.view m + 1) members is.group
+    y.chosen.laid.historic (within g p i q other) (subst (λ h. Contains h (View g.opening.age ((world g p).past.view m + 1) members))
     (sym (history_is g p i q other))
     (subst (λ v. Contains q.replica.history (View g.opening.age v members)) out.next held))).1)
   where
@@ -356,21 +384,14 @@ without_it g p m r view is end =
     out : IsVotedOut (world g p) m view
     out = voted_out g p m r view is end
 
-    gone : (a b : Bool) → b ≡ true → (a && not b) ≡ false
-    gone true b e = ap not e
-    gone false b e = refl
+    here : has (views_by g y.values ((world g p).past.view m)) m ≡ true
+    here = y.chosen.faithful.suspicions.inside m (y.chosen.wedged m out.value out.committed)
 
     left : (members : ℕ) → views_by g y.values ((world g p).past.view m + 1) ≡ members
         → has members m ≡ false
-    left members same =
-        ap (λ mask. has mask m) (sym same
-        ∙ views-next g y.values ((world g p).past.view m)
-        ∙ ap (λ mask. without mask (y.values ((world g p).past.view m)).leavers)
-        (sym (y.chosen.faithful.views.own m))
-        ∙ ap (λ x. without ((world g p).members m) x.leavers) (sym (y.by.now m out.value out.committed)))
-        ∙ has_without_mask ((world g p).members m) out.value.leavers m
-        (members_small g (views_by g y.values) (world g p) m is.group y.chosen.faithful)
-        ∙ gone (has ((world g p).members m) m) (has out.value.leavers m) out.named
+    left members same = ap (λ mask. has mask m) (sym same)
+        ∙ views-leaves g y.values ((world g p).past.view m) m here
+        (ap (λ x. has x.leavers m) (sym (y.by.now m out.value out.committed)) ∙ out.named)
 
 -- an end by suspicion is as the world has it
 left_so_there : (g : Group) (p : Program) (m : ℕ) (r : Running) (end : End) → IsThere g p m r
@@ -511,7 +532,8 @@ pub net_ended : (g : Group) (turns : ℕ) (setups : List (Option Setup)) (points
 net_ended g turns setups points p is some are planned (before, way) ended =
     ended_so g turns setups points p is are planned (net_reached g turns setups p is some are (before, way))
     (net_keeps g turns setups (AllStand setups) is some are (λ q e form run all. move_stands g setups q e form all)
-    (λ q table all. all) (begun_stands g setups) before p way) ended
+    (λ q table letters all. all) (λ q m r form all there unended due. missed_stands setups q m r all there)
+    (begun_stands g setups) before p way) ended
 
 -- and each that has ended has its cause
 pub have_causes : (g : Group) (turns : ℕ) (setups : List (Option Setup)) (p : Program) (m : ℕ) (r : Running)

@@ -3,7 +3,9 @@ use Rattle.std.proofs.Common.{◌≡◌, refl, sym, ap, ◌∙◌, subst, inl, i
 use Rattle.std.specs.Prelude.{Option, None, Some, is_some, option_map}
 use Rattle.std.proofs.lemmas.Option.{same_Some}
 use Rattle.dr_entry.specs.declared.end.End.{End}
+use Rattle.dr_entry.specs.declared.entry.Entry.{Entry}
 use Rattle.dr_machine.specs.declared.event.Act.{Act}
+use Rattle.dr_machine.specs.declared.step.Step.TheVariants.{Join}
 use Rattle.dr_machine.specs.Group.{Group, IsGroup}
 use Rattle.dr_program.specs.declared.outcome.LogWhy.{LogWhy}
 use Rattle.dr_program.specs.declared.place.Part.{Part}
@@ -11,10 +13,10 @@ use Rattle.dr_program.specs.declared.place.Part.TheVariants as parts
 use Rattle.dr_program.specs.declared.setup.Setup.{Setup}
 use Rattle.dr_program.specs.Acts.{taken}
 use Rattle.dr_program.specs.Form.{IsRunningMember}
-use Rattle.dr_program.specs.Program.{AreSetups, IsRanFrom, Move, Program, after_deed, begun_program, moved_by, next_sight, step_of}
-use Rattle.dr_program.specs.Net.{IsRanOverNet}
+use Rattle.dr_program.specs.Program.{AreSetups, IsRanFrom, Move, Program, after_deed, begun_program, letter_for, moved_by, next_sight, step_of}
+use Rattle.dr_program.specs.Net.{IsRanOverNet, took_nothing}
 use Rattle.dr_program.specs.Replica.{Replica, value_due}
-use Rattle.dr_program.specs.Running.{Running, after_step, append_or_end, begun_running, broken_off, crashes_now, end_by, judged, next_step, push_or_crash, step_at, took, vote_or_end}
+use Rattle.dr_program.specs.Running.{Running, after_step, append_or_end, begun_running, broken_off, crashes_now, end_by, judged, next_step, push_or_crash, settled, step_at, took, took_letter, vote_or_end}
 use Rattle.dr_program.specs.Steps.{IsAppend, stepped}
 use Rattle.dr_program.specs.Turn.{part_of}
 use Rattle.dr_program.proofs.Runs.{after_either}
@@ -98,6 +100,33 @@ breaks why r none due = record {
   );
 }
 
+-- a member that takes, and finds a letter or none
+takes_letter : (letter : Option (List Entry)) (r : Running) → r.replica.end ≡ None → next_step r ≡ Join
+    → IsFailing r → IsFailing (settled (took_letter letter r))
+takes_letter letter r none due is = record {
+  well = λ unfailed. ap has_log_end ended ∙ is.well (sym failed ∙ unfailed);
+  broken = λ why broken. absurd (elim (is.broken why (sym failed ∙ broken)) [
+    | inl ends ↦ cc (sym due ∙ ends.1)
+    | inr over ↦ cc (none, over)
+  ]);
+}
+  where
+    only : settled (took_letter letter r) ≡ record (took_letter letter r) {
+      place = (settled (took_letter letter r)).place;
+    }
+    only = settle_only _ (took_letter letter r)
+
+    same : (letter : Option (List Entry)) → ((took_letter letter r).replica.end ≡ r.replica.end)
+        × ((took_letter letter r).failed ≡ r.failed)
+    same None = (refl, refl)
+    same (Some es) = (refl, refl)
+
+    ended : (settled (took_letter letter r)).replica.end ≡ r.replica.end
+    ended = ap (λ (x : Running). x.replica.end) only ∙ (same letter).0
+
+    failed : (settled (took_letter letter r)).failed ≡ r.failed
+    failed = ap (λ (x : Running). x.failed) only ∙ (same letter).1
+
 -- ---- a move
 
 pub move_fails : (g : Group) (p : Program) (e : Move) → IsProgram g p → AreFailing p
@@ -110,10 +139,12 @@ move_fails g p e is all = by (present_at p.members e.member) refl
         (sym (rest_changes_nothing p e r there (ap is_some ended))) all
     at r there None unended = subst AreFailing (sym (step_is p e r there unended)) (λ m y found.
         elim (replaced_either p.members e.member r
-        (after_deed (next_sight p.table r) e.outcome r (next_step r)) there m y found) [
-          | inl here ↦ subst IsFailing here.1 (after_either IsFailing p.table e.outcome r (next_step r)
+        (after_deed (next_sight p.table r) (letter_for p e.member) e.outcome r (next_step r)) there m y found) [
+          | inl here ↦ subst IsFailing here.1 (after_either IsFailing p.table (letter_for p e.member) e.outcome r
+              (next_step r)
               (takes (next_sight p.table r) r (is.form e.member r there) unended (all e.member r there))
-              (λ why due. breaks why r unended due))
+              (λ why due. breaks why r unended due)
+              (λ due. takes_letter (letter_for p e.member) r unended due (all e.member r there)))
           | inr other ↦ all m y other.1
         ])
 
@@ -142,9 +173,18 @@ all_fail g turns setups p m r group some are (es, is) =
     (begun_is_program g turns setups group some are) (begun_reached g turns setups group are)
     (move_fails g) (begun_fails g setups)) m r
 
+-- a take that finds no letter
+missed_fails : (p : Program) (m : ℕ) (r : Running) → AreFailing p → present_at p.members m ≡ Some r
+    → r.replica.end ≡ None → next_step r ≡ Join → AreFailing (took_nothing p m r)
+missed_fails p m r all there unended due k y found =
+    elim (replaced_either p.members m r (settled (took_letter None r)) there k y found) [
+      | inl here ↦ subst IsFailing here.1 (takes_letter None r unended due (all m r there))
+      | inr other ↦ all k y other.1
+    ]
+
 -- and over a net
 pub net_fails : (g : Group) (turns : ℕ) (setups : List (Option Setup)) (p : Program) → IsGroup g → 1 ≤ turns
     → AreSetups g turns setups → IsRanOverNet g (begun_program g setups) p → AreFailing p
 net_fails g turns setups p group some are (before, way) =
     net_keeps g turns setups AreFailing group some are (λ q e form run all. move_fails g q e form all)
-    (λ q table all. all) (begun_fails g setups) before p way
+    (λ q table letters all. all) (λ q m r form all. missed_fails q m r all) (begun_fails g setups) before p way

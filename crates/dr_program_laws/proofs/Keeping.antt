@@ -3,17 +3,19 @@ use Rattle.std.proofs.Common.{◌≡◌, refl, sym, subst, ℕ, ◌≤◌, true,
 use Rattle.std.specs.Prelude.{Option, None, Some}
 use Rattle.std.proofs.lemmas.Option.{same_Some}
 use Rattle.dr_entry.specs.declared.end.End.{End}
+use Rattle.dr_entry.specs.declared.entry.Entry.{Entry}
 use Rattle.dr_words.specs.Form.{IsInForm}
 use Rattle.dr_program.specs.declared.place.Part.TheVariants as parts
+use Rattle.dr_machine.specs.declared.step.Step.TheVariants.{Join}
 use Rattle.dr_machine.specs.Group.{Group, IsGroup}
 use Rattle.dr_machine.proofs.Runs.{events_reached}
 use Rattle.dr_machine.specs.Run.{ComesOfEvents, IsReached}
 use Rattle.dr_program.specs.declared.outcome.Outcome.{Outcome}
 use Rattle.dr_program.specs.declared.setup.Setup.{Setup}
 use Rattle.dr_program.specs.Form.{HasForm, IsRunningMember}
-use Rattle.dr_program.specs.Program.{AreSetups, IsRanFrom, Move, Program, after_deed, begun_program, next_sight, ran, step_of}
+use Rattle.dr_program.specs.Program.{AreSetups, IsRanFrom, Move, Program, after_deed, begun_program, letter_for, next_sight, ran, step_of}
 use Rattle.dr_program.specs.Reading.{step_due, step_of_member, world}
-use Rattle.dr_program.specs.Running.{Running, after_step, next_step, step_at}
+use Rattle.dr_program.specs.Running.{Running, after_step, next_step, step_at, took_letter}
 use Rattle.dr_program.specs.Sight.{IsSeenNext, MaySee}
 use Rattle.dr_program.specs.Steps.{allows, sight, stepped}
 use Rattle.dr_program.proofs.Opening.{begins_at_the_opening}
@@ -22,9 +24,12 @@ use Rattle.dr_program.proofs.Waiting.{free_step}
 use Rattle.dr_refine.specs.Programs.{IsProgram}
 use Rattle.dr_refine.proofs.Deeds.{due_allowed, step_events, step_reached}
 use Rattle.dr_refine.proofs.Steps.{begun_is_program, step_kept}
+use Rattle.dr_form.proofs.Finishing.{joined_form}
 use Rattle.dr_form.proofs.Steps.{stepped_form}
+use Rattle.dr_room.proofs.Letters.{letters_are, letters_have_room}
 use Rattle.dr_turn.proofs.Deeds.{deeds_keep_form}
 use Rattle.dr_turn.proofs.Failing.{failed_form}
+use Rattle.dr_turn.proofs.Takes.{takes_keep_form, taking}
 use Rattle.dr_program_laws.proofs.Sight.{found_seen}
 use Rattle.dr_program.specs.Presence.{present_at}
 
@@ -51,13 +56,26 @@ member_kept g p m r group is run there unended =
     deeds_keep_form (next_sight p.table r) r (is.form m r there) unended
     (next_form g p m r group is run there unended)
 
--- and over its next deed, however its append goes
+-- a take keeps its form as well, whatever letter it finds
+pub took_form : (g : Group) (p : Program) (m : ℕ) (r : Running) (letter : Option (List Entry)) → IsGroup g
+    → IsProgram g p → IsReached g (world g p) → present_at p.members m ≡ Some r → r.replica.end ≡ None
+    → next_step r ≡ Join → letter_for p m ≡ letter → HasForm (took_letter letter r).replica
+took_form g p m r None group is run there unended due found = (is.form m r there).replica
+took_form g p m r (Some letter) group is run there unended due found =
+    let take = taking r (is.form m r there) unended due in
+    joined_form r.replica letter (is.form m r there).replica take.outside take.idle
+    (letters_have_room g p m r letter group is run there take.outside found)
+
+-- and over its next deed, however its append goes, and whatever letter it finds
 deed_kept : (g : Group) (p : Program) (m : ℕ) (o : Outcome) (r : Running) → IsGroup g → IsProgram g p
-    → IsReached g (world g p) → present_at p.members m ≡ Some r
-    → r.replica.end ≡ None → IsRunningMember (after_deed (next_sight p.table r) o r (next_step r))
+    → IsReached g (world g p) → present_at p.members m ≡ Some r → r.replica.end ≡ None
+    → IsRunningMember (after_deed (next_sight p.table r) (letter_for p m) o r (next_step r))
 deed_kept g p m o r group is run there unended =
-    after_either IsRunningMember p.table o r (next_step r) (member_kept g p m r group is run there unended)
+    after_either IsRunningMember p.table (letter_for p m) o r (next_step r)
+    (member_kept g p m r group is run there unended)
     (λ why due. failed_form why r (is.form m r there) unended due)
+    (λ due. takes_keep_form (letter_for p m) r (is.form m r there) unended due
+    (took_form g p m r (letter_for p m) group is run there unended due refl))
 
 -- a move keeps a program of its group, in a world that is reached
 pub move_kept : (g : Group) (p : Program) (e : Move) → IsGroup g → IsProgram g p
@@ -65,7 +83,7 @@ pub move_kept : (g : Group) (p : Program) (e : Move) → IsGroup g → IsProgram
     → IsProgram g (step_of p e) × IsReached g (world g (step_of p e))
 move_kept g p e group is run = (
   step_kept g p e is (λ r there unended. deed_kept g p e.member e.outcome r group is run there unended),
-  step_reached g p e group is run,
+  step_reached g p e group is (letters_are g p group is run) run,
 )
 
 -- ---- every run
@@ -98,7 +116,7 @@ unfolding ran
 run_events g p [] group is come = come
 run_events g p (e ∷ es) group is come =
     run_events g (step_of p e) es group (move_kept g p e group is (events_reached g (world g p) come)).0
-    (step_events g p e group is come)
+    (step_events g p e group is (letters_are g p group is (events_reached g (world g p) come)) come)
 
 -- and the world comes of events alone
 pub deeds_events : (g : Group) (turns : ℕ) (setups : List (Option Setup)) (p : Program) → IsGroup g → 1 ≤ turns

@@ -1,13 +1,16 @@
 -- A program over a net stays one of its group, in a world that is reached: its deeds are events, and the words
 -- that come are own words of moments before.
 use Rattle.std.proofs.Common.{◌≡◌, ◌⊎◌, ◌∙◌, ap, arith, inl, inr, le_refl, map, refl, subst, sym, ℕ, ◌<◌, ◌≤◌, List, [], ◌∷◌, Contains, slice_index}
-use Rattle.std.specs.Prelude.{◌==◌, if◌then◌else◌, max, Some, slice_set, Option}
+use Rattle.std.specs.Prelude.{◌==◌, if◌then◌else◌, max, None, Option, Some, slice_set, Option}
 use Rattle.std.proofs.lemmas.Bool.{cases_lt}
+use Rattle.std.proofs.lemmas.Option.{same_Some}
+use Rattle.dr_entry.specs.declared.end.End.{End}
+use Rattle.dr_entry.specs.declared.entry.Entry.{Entry}
 use Rattle.std.proofs.lemmas.List.{get_or-map, length-map, length-set}
 use Rattle.dr_rows.specs.Words.{own}
 use Rattle.dr_words.specs.Layout.{word_index_of}
 use Rattle.dr_machine.proofs.Runs.{is_last, stays_next}
-use Rattle.dr_machine.specs.declared.step.Step.TheVariants.{Push}
+use Rattle.dr_machine.specs.declared.step.Step.TheVariants.{Join, Push}
 use Rattle.dr_machine.specs.Group.{Group, IsGroup, banks, columns, roster}
 use Rattle.dr_machine.specs.Run.{ComesNext, HaveArrived, IsReached, MayArrive, WasOwn, Way, with_table}
 use Rattle.dr_machine.specs.World.{World, opening_world}
@@ -15,17 +18,20 @@ use Rattle.dr_machine.specs.Writes.{at₄}
 use Rattle.dr_faithful.proofs.Writes.{at₄_case}
 use Rattle.dr_program.proofs.Opening.{begins_at_the_opening}
 use Rattle.dr_program.specs.declared.setup.Setup.{Setup}
-use Rattle.dr_program.specs.Net.{NetStep, HadWord, WordComes, IsOnItsWay, IsRanOverNet, NetWay}
-use Rattle.dr_program.specs.Program.{AreSetups, Move, Program, begun_program, comes_to, step_of}
-use Rattle.dr_program.specs.Reading.{kept_word, in_view, word_of, world}
-use Rattle.dr_program.specs.Running.{Running}
-use Rattle.dr_refine.proofs.Deeds.{deed_is_step, step_follows}
-use Rattle.dr_refine.proofs.Steps.{begun_is_program}
+use Rattle.dr_program.specs.Net.{NetStep, HadWord, IsOnItsWay, IsRanOverNet, NetWay, took_nothing}
+use Rattle.dr_program.specs.Program.{AreSetups, Move, Program, begun_program, comes_to, letter_for, step_of}
+use Rattle.dr_program.specs.Reading.{kept_word, in_view, letters_of, step_due, step_of_member, word_of, world}
+use Rattle.dr_program.specs.Running.{Running, next_step, settled, took_letter}
+use Rattle.dr_refine.proofs.Deeds.{deed_is_step, missed_stays, step_follows}
+use Rattle.dr_refine.proofs.Steps.{begun_is_program, of_settled, replaced_program}
 use Rattle.dr_refine.proofs.Tables.{table_written, word_inside}
-use Rattle.dr_refine.specs.Programs.{IsProgram}
+use Rattle.dr_refine.specs.Programs.{AreLetters, IsProgram}
+use Rattle.dr_room.proofs.Letters.{letters_are}
+use Rattle.dr_turn.proofs.Takes.{takes_keep_form}
 use Rattle.dr_program_laws.proofs.Keeping.{move_kept}
 use Rattle.dr_program_laws.proofs.Worlds.{of_there}
 use Rattle.dr_program.specs.Presence.{present_at}
+use Rattle.dr_program.proofs.Present.{present_within}
 
 -- the worlds that programs are
 abbrev pub worlds : Group → List Program → List World
@@ -33,7 +39,8 @@ worlds g programs = map (world g) programs
 
 -- a program with another table is the same world with that table
 with_cells : (g : Group) (p : Program) (table : List ℕ)
-    → world g (record { members = p.members; table = table }) ≡ with_table (world g p) (word_of g table)
+    → world g (record { members = p.members; table = table; letters = p.letters })
+    ≡ with_table (world g p) (word_of g table)
 with_cells g p table = refl
 
 -- ---- words that members had
@@ -75,12 +82,13 @@ had_own g programs m v c word (p, among, r, there, view, is) = (
 -- ---- one step
 
 -- a push that is on its way leaves the world as it is
-pub way_stays : (g : Group) (p q : Program) → IsGroup g → IsProgram g p → IsOnItsWay p q
+pub way_stays : (g : Group) (p q : Program) → IsGroup g → IsProgram g p → AreLetters p → IsOnItsWay p q
     → world g q ≡ world g p
-way_stays g p q group is on =
-    let step = deed_is_step g p on.move on.member (Push on.to on.column) group is on.there
-    (ap (λ due. comes_to due on.move.outcome) on.push) in
-    ap (world g) on.made ∙ ap (λ w. with_table w (word_of g p.table)) step.1
+way_stays g p q group is letters on =
+    let step = deed_is_step g p on.move on.member (Push on.to on.column) group is letters on.there
+    (ap (λ due. comes_to (letter_for p on.move.member) due on.move.outcome) on.push) in
+    ap (world g) on.made
+    ∙ ap (λ (w : World). record w { table = word_of g p.table; letter = letters_of p.letters }) step.1
 
 -- a word that comes is one that arrives
 greater : (a b : ℕ) → (max a b ≡ a) ⊎ (max a b ≡ b)
@@ -122,6 +130,7 @@ pub come_follows : (g : Group) (before : List World) (p : Program) (v j i c word
     let q : Program = record {
       members = p.members;
       table = slice_set p.table place (max (slice_index p.table place) word);
+      letters = p.letters;
     } in
     IsProgram g q × ComesNext g before (world g p) (world g q)
 come_follows g before p v j i c word is bank to from cell was = (
@@ -131,6 +140,7 @@ come_follows g before p v j i c word is bank to from cell was = (
     of = is.of;
     there = is.there;
     table = length-set p.table place (max (slice_index p.table place) word) ∙ is.table;
+    posts = is.posts;
   },
   inr (
     at₄ (word_of g p.table) v j i c (max (slice_index p.table place) word),
@@ -143,20 +153,44 @@ come_follows g before p v j i c word is bank to from cell was = (
     place : ℕ
     place = word_index_of (roster g) g.window v j i c
 
+-- a take that is due
+pub due_take : (r : Running) → step_of_member r ≡ Some Join → (r.replica.end ≡ None) × (next_step r ≡ Join)
+due_take r take = by r.replica.end refl take
+  where
+    by : (o : Option End) → r.replica.end ≡ o → step_due r o ≡ Some Join
+        → (r.replica.end ≡ None) × (next_step r ≡ Join)
+    by None e same = (e, same_Some (next_step r) Join same)
+    by (Some x) e same = absurd (cc)
+
+-- a take that finds no letter keeps a program of its group
+pub missed_kept : (g : Group) (p : Program) (m : ℕ) (r : Running) → IsProgram g p → present_at p.members m ≡ Some r
+    → r.replica.end ≡ None → next_step r ≡ Join → IsProgram g (took_nothing p m r)
+missed_kept g p m r is there unended due = replaced_program g p m (settled (took_letter None r)) p.table p.letters
+    is (present_within p.members m r there)
+    (takes_keep_form None r (is.form m r there) unended due (is.form m r there).replica)
+    (of_settled g m (took_letter None r) (is.of m r there)) refl refl
+
 -- what comes next of a program is of the group, and is the next world
 goes_on : (g : Group) (before : List Program) (p q : Program) → IsGroup g → IsProgram g p
     → IsReached g (world g p) → NetStep g before p q
     → IsProgram g q × ComesNext g (worlds g before) (world g p) (world g q)
 goes_on g before p q group is run (inl (e, same)) =
     subst (λ x. IsProgram g x × ComesNext g (worlds g before) (world g p) (world g x)) (sym same)
-    ((move_kept g p e group is run).0, step_follows g p e (worlds g before) group is)
+    ((move_kept g p e group is run).0, step_follows g p e (worlds g before) group is (letters_are g p group is run))
 goes_on g before p q group is run (inr (inl on)) = (
   let kept = (move_kept g p on.move group is run).0 in subst (IsProgram g) (sym on.made)
-      (record { all = kept.all; form = kept.form; of = kept.of; there = kept.there; table = is.table }),
-  subst (ComesNext g (worlds g before) (world g p)) (sym (way_stays g p q group is on))
+      (record { all = kept.all; form = kept.form; of = kept.of; there = kept.there; table = is.table; posts = is.posts }),
+  subst (ComesNext g (worlds g before) (world g p))
+      (sym (way_stays g p q group is (letters_are g p group is run) on))
       (stays_next g (worlds g before) (world g p)),
 )
-goes_on g before p q group is run (inr (inr y)) =
+goes_on g before p q group is run (inr (inr (inr t))) = (
+  subst (IsProgram g) (sym t.made) (missed_kept g p t.number t.member is t.there (due_take t.member t.take).0
+      (due_take t.member t.take).1),
+  subst (ComesNext g (worlds g before) (world g p)) (sym (missed_stays g p q t))
+      (stays_next g (worlds g before) (world g p)),
+)
+goes_on g before p q group is run (inr (inr (inl y))) =
     subst (λ x. IsProgram g x × ComesNext g (worlds g before) (world g p) (world g x)) (sym y.made)
     (come_follows g (worlds g before) p y.view y.copy y.row y.column y.word is y.bank y.to y.from y.cell
     (had_own g (p ∷ before) y.row y.view y.column y.word y.sent))
@@ -185,16 +219,21 @@ net_reached g turns setups p group some are (before, way) =
 pub net_keeps : (g : Group) (turns : ℕ) (setups : List (Option Setup)) (P : Program → Type 0) → IsGroup g → 1 ≤ turns
     → AreSetups g turns setups
     → ((q : Program) (e : Move) → IsProgram g q → IsReached g (world g q) → P q → P (step_of q e))
-    → ((q : Program) (table : List ℕ) → P q → P (record { members = q.members; table = table }))
+    → ((q : Program) (table : List ℕ) (letters : List (Option (List Entry))) → P q
+    → P (record { members = q.members; table = table; letters = letters }))
+    → ((q : Program) (m : ℕ) (r : Running) → IsProgram g q → P q → present_at q.members m ≡ Some r
+    → r.replica.end ≡ None → next_step r ≡ Join → P (took_nothing q m r))
     → P (begun_program g setups) → (before : List Program) (p : Program)
     → NetWay g (begun_program g setups) before p → P p
-net_keeps g turns setups P group some are keeps same begun [] p way = subst P (sym way) begun
-net_keeps g turns setups P group some are keeps same begun (x ∷ xs) p way =
+net_keeps g turns setups P group some are keeps same misses begun [] p way = subst P (sym way) begun
+net_keeps g turns setups P group some are keeps same misses begun (x ∷ xs) p way =
     by (net_kept g turns setups xs x group some are way.0)
-    (net_keeps g turns setups P group some are keeps same begun xs x way.0) way.1
+    (net_keeps g turns setups P group some are keeps same misses begun xs x way.0) way.1
   where
     by : IsProgram g x × Way g (worlds g xs) (world g x) → P x → NetStep g xs x p → P p
     by old so (inl (e, made)) = subst P (sym made) (keeps x e old.0 (worlds g xs, old.1) so)
     by old so (inr (inl on)) = subst P (sym on.made)
-        (same (step_of x on.move) x.table (keeps x on.move old.0 (worlds g xs, old.1) so))
-    by old so (inr (inr y)) = subst P (sym y.made) (same x _ so)
+        (same (step_of x on.move) x.table x.letters (keeps x on.move old.0 (worlds g xs, old.1) so))
+    by old so (inr (inr (inl y))) = subst P (sym y.made) (same x _ _ so)
+    by old so (inr (inr (inr t))) = let due = due_take t.member t.take in
+        subst P (sym t.made) (misses x t.number t.member old.0 so t.there due.0 due.1)

@@ -1,23 +1,24 @@
 -- How long a member waits for news of others, over its deeds.
-use Rattle.std.proofs.Common.{◌≡◌, ◌≢◌, ◌⊎◌, refl, sym, ap, ◌∙◌, subst, inl, inr, ℕ, suc, ◌+◌, ◌-◌, ◌^◌, ◌<◌, ◌≤◌, ◌==◌, ◌||◌, Bool, true, false, not, nat_lt, min, if◌then◌else◌, length, le_trans, arith}
+use Rattle.std.proofs.Common.{◌≡◌, ◌≢◌, ◌⊎◌, refl, sym, ap, ◌∙◌, subst, inl, inr, ℕ, suc, ◌+◌, ◌-◌, ◌^◌, ◌<◌, ◌≤◌, ◌==◌, ◌||◌, Bool, true, false, not, nat_lt, min, if◌then◌else◌, length, le_trans, replicate, arith}
 use Rattle.std.proofs.lemmas.Bool.{cases_eq, cases_lt, not-true}
 use Rattle.std.proofs.lemmas.Bool.Decides.{nat_tests}
-use Rattle.std.proofs.lemmas.List.{get_or_past, get_or-set_same, get_or-set_other}
+use Rattle.std.proofs.lemmas.List.{get_or-replicate, get_or_past, get_or-set_same, get_or-set_other}
+use Rattle.std.specs.Prelude.{None}
 use Rattle.dr_machine.specs.declared.step.Step.{Step}
-use Rattle.dr_machine.specs.declared.step.Step.TheVariants.{Look}
+use Rattle.dr_machine.specs.declared.step.Step.TheVariants.{Join, Look}
 use Rattle.dr_program.specs.declared.place.Part.{Part}
 use Rattle.dr_program.specs.declared.place.Part.TheVariants as parts
 use Rattle.dr_program.specs.declared.place.Place.{Place}
 use Rattle.dr_program.specs.declared.place.TheConstants.{TURN}
 use Rattle.dr_program.specs.Form.{IsRunningMember}
-use Rattle.dr_program.specs.Running.{Running, after_step, applies, columns, crashes_now, goes, members, next_step, settled, step_at, took, waits_after}
+use Rattle.dr_program.specs.Running.{Running, after_step, applies, columns, crashes_now, goes, members, next_step, settled, step_at, took, took_letter, waits_after}
 use Rattle.dr_program.specs.Turn.{after, columns_in, is_beat, part_of, rows_in, turn_begins}
 use Rattle.dr_program.proofs.Fixed.{Told, step_told}
 use Rattle.dr_program.proofs.StepsAt.{append_either, push_either, vote_either}
 use Rattle.dr_rows.specs.Words.{Words, looked, seen}
-use Rattle.dr_suspect.specs.Waits.{Waits, beat_of, compared, next_count, turns_without_news}
+use Rattle.dr_suspect.specs.Waits.{Waits, beat_of, begun, compared, next_count, turns_without_news}
 use Rattle.dr_turn.specs.Search.{Passed, here, on}
-use Rattle.dr_turn.proofs.Order.{all_below, each_below}
+use Rattle.dr_turn.proofs.Order.{all_below, each_below, is_take}
 use Rattle.dr_turn.proofs.Search.{applies_at, beat_test, passed_at, settle_only, settle_passed}
 use Rattle.dr_turn.proofs.Tasks.{ends_view}
 use Rattle.dr_words.specs.declared.column.TheConstants.{BEAT_COLUMN}
@@ -29,13 +30,15 @@ use Rattle.dr_turn.proofs.Parts.{goes_back_or_stays, is_publish, numbered}
 abbrev pub comes : Place → ℕ → ℕ
 comes p i = to_come (part_of p) p.row i
 
--- the part is that of the looks
+-- the part is that of the looks, or of the take before them
 abbrev pub is_looks : Part → Bool
+is_looks parts.Take = true
 is_looks parts.Look = true
 is_looks part = false
 
 -- none is behind the looks
 pub none_comes : (part : Part) (row i : ℕ) → is_looks part ≡ false → to_come part row i ≡ 0
+none_comes parts.Take row i other = absurd (cc other)
 none_comes parts.Look row i other = absurd (cc other)
 none_comes part row i other = refl
 
@@ -56,11 +59,19 @@ row_less parts.Look row i = by (cases_lt i row)
     by (inr l) = grind (arith, l)
 row_less part row i = omega arith
 
--- the looks are the first part of the turn, and the last one begins the next
-pub looks_first : (a : ℕ) → a + 1 < length TURN → is_looks (numbered (a + 1)) ≡ false
+-- the looks come behind the take, with which a turn begins, and the last part begins the next
+take_test : (part : Part) → is_take part ≡ true → part ≡ parts.Take
+take_test part e = grind (arith, e)
+
+pub looks_first : (a : ℕ) → a + 1 < length TURN → is_looks (numbered (a + 1)) ≡ true → numbered a ≡ parts.Take
 unfolding all_below
-looks_first a l = not-true _
-    (each_below (length TURN - 1) a (λ b. not (is_looks (numbered (b + 1)))) refl (omega (arith, l)))
+looks_first a l looks = take_test (numbered a) (implied _ _
+    (each_below (length TURN - 1) a (λ b. not (is_looks (numbered (b + 1))) || is_take (numbered b)) refl
+    (omega (arith, l))) looks)
+  where
+    implied : (x y : Bool) → (not x || y) ≡ true → x ≡ true → y ≡ true
+    implied true y t e = t
+    implied false y t e = absurd (cc e)
 
 looks_before : (a : ℕ) → a < length TURN → is_publish (numbered a) ≡ true
     → is_looks (numbered (a - 1)) ≡ false
@@ -88,6 +99,15 @@ pub after_less : (n k : ℕ) (p : Place) (i : ℕ) → is_beat (part_of p) ≡ f
 after_less n k p i amid = by (nat_lt (p.column + 1) (columns_in k (part_of p)))
     (nat_lt (p.row + 1) (rows_in n (part_of p))) (cases_lt (p.part + 1) (length TURN))
   where
+    looked : (b : Bool) → is_looks (numbered (p.part + 1)) ≡ b → p.part + 1 < length TURN
+        → to_come (numbered (p.part + 1)) 0 i ≤ comes p i
+    looked true e l = omega (
+      arith,
+      one_comes (numbered (p.part + 1)) 0 i,
+      ap (λ part. to_come part p.row i) (looks_first p.part l e),
+    )
+    looked false e l = omega (arith, none_comes (numbered (p.part + 1)) 0 i e)
+
     next : (p.part + 1 < length TURN) ⊎ (length TURN ≤ p.part + 1)
         → comes (record {
           part = if nat_lt (p.part + 1)
@@ -98,7 +118,7 @@ after_less n k p i amid = by (nat_lt (p.column + 1) (columns_in k (part_of p)))
         i ≤ comes p i
     next (inl l) =
         let within : nat_lt (p.part + 1) (length TURN) ≡ true = grind (arith, l) in
-        rw within (omega (arith, none_comes (numbered (p.part + 1)) 0 i (looks_first p.part l)))
+        rw within (looked (is_looks (numbered (p.part + 1))) refl l)
     next (inr l) = absurd (cc (last_begins p.part l, amid))
 
     by : (x y : Bool) → (p.part + 1 < length TURN) ⊎ (length TURN ≤ p.part + 1)
@@ -140,14 +160,16 @@ settled_passed y =
 
 -- ---- a deed
 
--- the step is a look
+-- the step is a look, or a take
 abbrev pub is_look : Step → Bool
 is_look (Look i c) = true
+is_look Join = true
 is_look s = false
 
--- only the looks of a turn are
+-- only the looks and the take of a turn are
 pub plain_looks : (r : Running) (part : Part) (i c : ℕ) → is_looks part ≡ false
     → is_look (step_at r part i c) ≡ false
+plain_looks r parts.Take i c other = absurd (cc other)
 plain_looks r parts.Look i c other = absurd (cc other)
 plain_looks r parts.Append i c other = append_either (λ s. is_look s ≡ false) r.failed refl (λ why. refl)
 plain_looks r parts.Vote i c other = vote_either (λ s. is_look s ≡ false) r.failed _ refl (λ why. refl)
@@ -162,6 +184,7 @@ waits_stay word r s other stays = grind (arith, other, stays)
 -- behind the looks no deed but the one that begins a turn goes back to them
 pub goes_less : (n k : ℕ) (part : Part) (p : Place) (i : ℕ) → part_of p ≡ part → is_beat part ≡ false
     → is_looks part ≡ false → comes (goes n k part p) i ≤ comes p i
+goes_less n k parts.Take p i at amid other = absurd (cc other)
 goes_less n k parts.Look p i at amid other = absurd (cc other)
 goes_less n k parts.Append p i at amid other = after_less n k p i (ap is_beat at)
 goes_less n k parts.Vote p i at amid other = after_less n k p i (ap is_beat at)
@@ -213,6 +236,9 @@ pub compared_other : (w : Waits) (rows : Words) (j i : ℕ) → i ≢ j
 compared_other w rows j i other =
     get_or-set_other w.counts j i (next_count (turns_without_news w j) (beat_of w j) (seen rows j BEAT_COLUMN)) 0 other
 
+is_below : (a b : ℕ) → a < b → nat_lt a b ≡ true
+is_below a b l = grind (arith, l)
+
 -- the looks: with the last word of a row one is counted, and none is to come for it
 looks_less : (word : ℕ) (r : Running) (i : ℕ) → IsRunningMember r → part_of r.place ≡ parts.Look
     → turns_without_news (waits_after word r (step_at r parts.Look r.place.row r.place.column)) i
@@ -234,6 +260,11 @@ looks_less word r i member at = by (r.place.column + 1 == columns r) refl (cases
         ∙ grind (arith, nat_tests, e))
         (cases_lt (r.place.part + 1) (length TURN))
       where
+        no_looks : (b : Bool) → is_looks (numbered (r.place.part + 1)) ≡ b → r.place.part + 1 < length TURN
+            → is_looks (numbered (r.place.part + 1)) ≡ false
+        no_looks true e l = absurd (cc (sym (looks_first r.place.part l e) ∙ at))
+        no_looks false e l = e
+
         next : (r.place.part + 1 < length TURN) ⊎ (length TURN ≤ r.place.part + 1)
             → comes (record {
               part = if nat_lt (r.place.part + 1) (length TURN) then r.place.part + 1 else 0;
@@ -241,8 +272,9 @@ looks_less word r i member at = by (r.place.column + 1 == columns r) refl (cases
               column = 0;
             }) i ≡ 0
         next (inl l) =
-            let within : nat_lt (r.place.part + 1) (length TURN) ≡ true = grind (arith, l) in
-            rw within (none_comes (numbered (r.place.part + 1)) 0 i (looks_first r.place.part l))
+            let within = is_below (r.place.part + 1) (length TURN) l in
+            rw within (none_comes (numbered (r.place.part + 1)) 0 i
+            (no_looks (is_looks (numbered (r.place.part + 1))) refl l))
         next (inr l) = absurd (cc (last_begins r.place.part l, ap is_beat at))
 
         past : (x y : Bool) → x ≡ false
@@ -294,6 +326,14 @@ Lessens word r i part =
     + comes (goes (members r) (columns r) part r.place) i
     ≤ turns_without_news r.waits i + comes r.place i
 
+-- who waits anew has waited for nobody
+no_news : (limit i : ℕ) → turns_without_news (begun limit) i ≡ 0
+no_news limit i = by (cases_lt i 16)
+  where
+    by : (i < 16) ⊎ (16 ≤ i) → turns_without_news (begun limit) i ≡ 0
+    by (inl l) = get_or-replicate 16 i 0 0 l
+    by (inr past) = get_or_past (replicate 16 0) i 0 past
+
 -- so it is where no turn begins by it
 took_less : (word : ℕ) (r : Running) (i : ℕ) → IsRunningMember r → ends_view (next_step r) ≡ false
     → is_beat (part_of r.place) ≡ false
@@ -312,7 +352,24 @@ took_less word r i member stays amid = by (part_of r.place) refl
 
     by : (part : Part) → part_of r.place ≡ part → Lessens word r i (part_of r.place)
     by parts.Look at = subst (Lessens word r i) (sym at) (looks_less word r i member at)
+    by parts.Take at = subst (Lessens word r i) (sym at)
+        (omega (arith, no_news r.waits.limit i))
     by part at = subst (Lessens word r i) (sym at) (plain part at refl)
+
+-- a patient member stays so over a take that finds no letter
+pub patient_take : (r : Running) → IsPatient r → IsPatient (settled (took_letter None r))
+patient_take r patient = subst IsPatient (sym (settle_only _ y)) (by patient)
+  where
+    y : Running
+    y = took_letter None r
+
+    by : IsPatient r → IsPatient (record (took_letter None r) { place = (settled (took_letter None r)).place })
+    by (inl none) = inl none
+    by (inr enough) = inr (λ i is. omega (
+      arith,
+      enough i is,
+      passed_less (settled y) y.place (settled y).place i (settled_passed y),
+    ))
 
 -- so a patient member stays so, where it may wait as its turn begins
 pub patient_on : (word : ℕ) (r : Running) → IsRunningMember r → ends_view (next_step r) ≡ false

@@ -4,19 +4,21 @@ use Rattle.std.specs.Prelude.{Option, None, Some, is_some, option_map}
 use Rattle.std.proofs.lemmas.Bool.{cases_eq}
 use Rattle.std.proofs.lemmas.Option.{same_Some}
 use Rattle.dr_entry.specs.declared.end.End.{End}
+use Rattle.dr_entry.specs.declared.entry.Entry.{Entry}
 use Rattle.dr_machine.specs.Group.{Group, IsGroup}
 use Rattle.dr_machine.specs.Run.{IsReached}
 use Rattle.dr_program.specs.declared.setup.Setup.{Setup}
-use Rattle.dr_program.specs.Program.{AreSetups, Move, Program, after_deed, begun_program, moved_by, next_sight, ran, step_of}
+use Rattle.dr_program.specs.Net.{took_nothing}
+use Rattle.dr_program.specs.Program.{AreSetups, Move, Program, after_deed, begun_program, letter_for, moved_by, next_sight, ran, step_of}
 use Rattle.dr_program.specs.Reading.{world}
-use Rattle.dr_program.specs.Running.{Running, begun_running, next_step}
-use Rattle.dr_program.specs.Steps.{stored}
+use Rattle.dr_program.specs.Running.{Running, begun_running, next_step, settled, took_letter}
+use Rattle.dr_program.specs.Steps.{stored, stored_letters}
 use Rattle.dr_refine.specs.Programs.{IsProgram}
 use Rattle.dr_refine.proofs.Deeds.{rest_changes_nothing, step_is}
 use Rattle.dr_refine.proofs.Steps.{begun_is_program}
-use Rattle.dr_program_laws.proofs.Deeds.{begins, deed_stands}
+use Rattle.dr_program_laws.proofs.Deeds.{begins, deed_stands, took_stands}
 use Rattle.dr_program_laws.proofs.Keeping.{begun_reached, move_kept}
-use Rattle.dr_program_laws.proofs.Standing.{Stands}
+use Rattle.dr_program_laws.proofs.Standing.{Stands, settled_stands}
 use Rattle.dr_program.specs.Presence.{present_at, with_present}
 use Rattle.dr_program.proofs.Present.{present_within, present_set, present_kept, present_map}
 
@@ -44,11 +46,12 @@ replaced_either rs m x y at k r is = elim (cases_eq k m) [
 ]
 
 -- one member is replaced by one that stands as its setup wants
-replaced_stands : (setups : List (Option Setup)) (p : Program) (m : ℕ) (x y : Running) (table : List ℕ)
+pub replaced_stands : (setups : List (Option Setup)) (p : Program) (m : ℕ) (x y : Running) (table : List ℕ)
+    (letters : List (Option (List Entry)))
     → AllStand setups p → present_at p.members m ≡ Some x
     → ((s : Setup) → present_at setups m ≡ Some s → Stands s.turns s.crashes y)
-    → AllStand setups (record { members = with_present p.members m y; table = table })
-replaced_stands setups p m x y table all at stands k s r there is =
+    → AllStand setups (record { members = with_present p.members m y; table = table; letters = letters })
+replaced_stands setups p m x y table letters all at stands k s r there is =
     elim (replaced_either p.members m x y at k r is) [
       | inl here ↦ subst (Stands s.turns s.crashes) here.1 (stands s (rw here.0 at there))
       | inr other ↦ all k s r there other.1
@@ -64,14 +67,23 @@ move_stands g setups p e is all = by (present_at p.members e.member) refl
         (sym (rest_changes_nothing p e r there (ap is_some ended))) all
     at r there None unended =
         subst (AllStand setups) (sym (step_is p e r there unended))
-        (replaced_stands setups p e.member r (after_deed (next_sight p.table r) e.outcome r (next_step r))
-        (stored p.table r.replica (next_step r)) all there
-        (λ s setup. deed_stands s.turns s.crashes p.table e.outcome r (is.form e.member r there) unended
-        (all e.member s r setup there)))
+        (replaced_stands setups p e.member r
+        (after_deed (next_sight p.table r) (letter_for p e.member) e.outcome r (next_step r))
+        (stored p.table r.replica (next_step r)) (stored_letters p.letters r.replica (next_step r)) all there
+        (λ s setup. deed_stands s.turns s.crashes p.table (letter_for p e.member) e.outcome r
+        (is.form e.member r there) unended (all e.member s r setup there)))
 
     by : (o : Option Running) → present_at p.members e.member ≡ o → AllStand setups (step_of p e)
     by None none = subst (AllStand setups) (sym (ap (λ o. moved_by p o e) none)) all
     by (Some r) there = at r there r.replica.end refl
+
+-- nor does a take that finds no letter
+pub missed_stands : (setups : List (Option Setup)) (p : Program) (m : ℕ) (r : Running) → AllStand setups p
+    → present_at p.members m ≡ Some r → AllStand setups (took_nothing p m r)
+missed_stands setups p m r all there =
+    replaced_stands setups p m r (settled (took_letter None r)) p.table p.letters all there
+    (λ s setup. settled_stands s.turns s.crashes (took_letter None r)
+    (took_stands s.turns s.crashes None r (all m s r setup there)))
 
 -- what each move of a program of the group keeps, moves one after the other keep
 pub ran_keeps : (g : Group) (P : Program → Type 0) (p : Program) (es : List Move) → IsGroup g

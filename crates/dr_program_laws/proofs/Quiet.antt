@@ -10,9 +10,10 @@ use Rattle.dr_program.specs.declared.place.Part.{Part}
 use Rattle.dr_program.specs.declared.place.Part.TheVariants as parts
 use Rattle.dr_turn.proofs.Tasks.{ends_view}
 
--- the part is one that a member which suspects nobody passes: it judges nothing, has no vote, and doesn't end
--- its view
+-- the part is one that a member of the first view which suspects nobody passes: it takes and gives no letter,
+-- judges nothing, has no vote, and doesn't end its view
 abbrev pub is_passed : Part → Bool
+is_passed parts.Take = true
 is_passed parts.Judge = true
 is_passed parts.Vote = true
 is_passed (parts.Do acts.Propose) = true
@@ -20,6 +21,7 @@ is_passed (parts.Do acts.Accept) = true
 is_passed (parts.Do acts.Commit) = true
 is_passed (parts.Do a) = ends_view (Do a)
 is_passed parts.Excluded = true
+is_passed parts.Give = true
 is_passed part = false
 
 -- the act of such a part it may not do

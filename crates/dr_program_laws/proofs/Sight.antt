@@ -1,5 +1,5 @@
 -- What a look finds in the table of a program in a reached world, its member may see.
-use Rattle.std.proofs.Common.{◌≡◌, ◌≢◌, sym, ap, ◌∙◌, subst, ℕ, ◌<◌, true, slice_index, ◌&&◌, not, arith}
+use Rattle.std.proofs.Common.{◌≡◌, ◌≢◌, sym, ap, ◌∙◌, subst, ℕ, ◌<◌, true, slice_index, not, arith}
 use Rattle.std.specs.Prelude.{Some}
 use Rattle.std.proofs.lemmas.Bool.{and_parts}
 use Rattle.dr_history.specs.Members.{has}
@@ -7,15 +7,16 @@ use Rattle.dr_rows.specs.Words.{seen}
 use Rattle.dr_words.specs.Form.{IsInForm}
 use Rattle.dr_words.specs.Grown.{HasGrown}
 use Rattle.dr_words.specs.Layout.{word_index_of}
+use Rattle.dr_machine.specs.declared.step.Step.TheVariants.{Look}
 use Rattle.dr_machine.specs.Group.{Group, IsGroup, columns, roster}
 use Rattle.dr_machine.specs.Run.{IsReached}
 use Rattle.dr_machine.specs.World.{World}
-use Rattle.dr_program.specs.Replica.{is_other}
+use Rattle.dr_program.specs.Replica.{is_inside, is_other}
 use Rattle.dr_program.specs.Running.{Running}
-use Rattle.dr_program.specs.Steps.{found, has_cell}
+use Rattle.dr_program.specs.Steps.{allows, found, has_cell}
 use Rattle.dr_program.specs.Form.{IsOf}
 use Rattle.dr_program.specs.Program.{Program}
-use Rattle.dr_program.specs.Reading.{world}
+use Rattle.dr_program.specs.Reading.{table_of, world}
 use Rattle.dr_program.specs.Sight.{IsSeenNext}
 use Rattle.dr_program.proofs.Holdings.{held_of}
 use Rattle.dr_faithful.specs.Faithful.{Faithful}
@@ -31,28 +32,28 @@ use Rattle.dr_program.proofs.Present.{present_within}
 
 -- the word that the look finds is that of the world's table
 word_found : (g : Group) (p : Program) (m : ℕ) (r : Running) (i c : ℕ)
-    → IsMember g (replicas p.members) p.table m r.replica
+    → IsMember g (replicas p.members) (table_of p) m r.replica
     → m < roster g → is_other r.replica i ≡ true → c < columns g
     → (world g p).table ((world g p).past.view m) m i c ≡ found p.table r.replica i c
 word_found g p m r i c member within other column =
     ap (λ v. (world g p).table v m i c)
-    (ap (λ x. x.view) (held_of g (replicas p.members) p.table m r.replica member.there))
+    (ap (λ x. x.view) (held_of g (replicas p.members) (table_of p) m r.replica member.there))
     ∙ word_inside g p.table r.replica.view m i c (omega (arith, member.form.bank, member.of.banks)) within
-    (other_within g (replicas p.members) p.table m r.replica i member other) column
+    (other_within g (replicas p.members) (table_of p) m r.replica i member other) column
     ∙ ap (slice_index p.table) (λ z. word_index_of (sym member.of.members z)
     (sym member.of.window z) r.replica.view (sym member.of.number z) i c)
 
 -- it is in form, and has grown from the word that was seen before
 pub found_seen : (g : Group) (p : Program) (m : ℕ) (r : Running) (i c : ℕ) → IsGroup g
     → IsProgram g p → IsReached g (world g p)
-    → present_at p.members m ≡ Some r → (not (has r.replica.suspects i) && has_cell r.replica i c) ≡ true
+    → present_at p.members m ≡ Some r → allows r.replica (Look i c) ≡ true
     → IsSeenNext r i c (found p.table r.replica i c)
 found_seen g p m r i c group is run there may = record {
   form = subst (λ n. IsInForm n c word) (sym of.members)
       (subst (IsInForm (roster g) c) same (told.form.in_table (w.past.view m) m i c));
   grown = subst (λ n. HasGrown n c (seen r.replica.rows i c) word) (sym of.members)
       (subst (λ x. HasGrown (roster g) c x word)
-      (seen_is g (replicas p.members) p.table m r.replica i c member apart)
+      (seen_is g (replicas p.members) (table_of p) m r.replica i c member apart)
       (subst (HasGrown (roster g) c (w.seen m i c)) same (told.old.in_seen m i c apart)));
 }
   where
@@ -65,15 +66,16 @@ found_seen g p m r i c group is run there may = record {
     of : IsOf g m r.replica
     of = is.of m r there
 
-    member : IsMember g (replicas p.members) p.table m r.replica
+    member : IsMember g (replicas p.members) (table_of p) m r.replica
     member = program_member g p m r group is there
 
     cell : (is_other r.replica i ≡ true) × (c < columns g)
-    cell = (cell_test g (replicas p.members) p.table m r.replica i c member).0
-        (and_parts (not (has r.replica.suspects i)) (has_cell r.replica i c) may).1
+    cell = (cell_test g (replicas p.members) (table_of p) m r.replica i c member).0
+        (and_parts (not (has r.replica.suspects i)) (has_cell r.replica i c)
+        (and_parts (is_inside r.replica) _ may).1).1
 
     apart : i ≢ m
-    apart = ((other_member g (replicas p.members) p.table m r.replica i member).0 cell.0).other
+    apart = ((other_member g (replicas p.members) (table_of p) m r.replica i member).0 cell.0).other
 
     y : Known g (world g p)
     y = known g (world g p) group run

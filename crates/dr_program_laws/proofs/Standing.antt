@@ -55,6 +55,7 @@ no_crash points turns later none =
 -- the parts behind the end of a member that was to crash, and the beginning of the next turn
 abbrev pub is_late : Part → Bool
 is_late parts.Done = true
+is_late parts.Give = true
 is_late parts.Spent = true
 is_late (parts.Do a) = ends_view (steps.Do a) || is_beat (parts.Do a)
 is_late part = false

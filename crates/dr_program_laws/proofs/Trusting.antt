@@ -1,6 +1,6 @@
 -- Members that suspect nobody, and wait for everybody or have not waited for too long, judge nothing: so
 -- nobody is suspected, and no member is ended by suspicion.
-use Rattle.std.proofs.Common.{◌≡◌, ◌≢◌, refl, sym, ap, ◌∙◌, subst, inl, inr, ◌⊎◌, ℕ, suc, ◌+◌, ◌<◌, ◌≤◌, ◌==◌, ◌&&◌, not, nat_lt, Bool, true, false, if◌then◌else◌, All, List, [], ◌∷◌, length, map, arith}
+use Rattle.std.proofs.Common.{◌≡◌, ◌≢◌, refl, sym, ap, ◌∙◌, subst, inl, inr, ◌⊎◌, ℕ, suc, ◌+◌, ◌<◌, ◌≤◌, ◌==◌, ◌&&◌, ◌||◌, not, nat_lt, Bool, true, false, if◌then◌else◌, All, List, [], ◌∷◌, length, map, arith}
 use Rattle.std.proofs.Math.Path.{fun_ext}
 use Rattle.std.specs.List.{find}
 use Rattle.std.specs.Option.{option_and_then, option_map}
@@ -9,25 +9,27 @@ use Rattle.std.proofs.lemmas.Bool.{and_left, and_right, cases_eq, cases_lt}
 use Rattle.std.proofs.lemmas.Bool.Decides.{nat_tests}
 use Rattle.std.proofs.lemmas.Option.{same_Some}
 use Rattle.dr_entry.specs.declared.end.End.{End}
+use Rattle.dr_entry.specs.declared.entry.Entry.{Entry}
 use Rattle.dr_entry.specs.declared.end.End.TheVariants as ends
 use Rattle.dr_faithful.specs.Chosen.{views_by}
 use Rattle.dr_faithful.specs.Faithful.{Faithful}
 use Rattle.dr_machine.specs.declared.event.Act.{Act}
 use Rattle.dr_machine.specs.declared.step.Step.{Step}
-use Rattle.dr_machine.specs.declared.step.Step.TheVariants.{Do}
+use Rattle.dr_machine.specs.declared.step.Step.TheVariants.{Do, LogVote}
 use Rattle.dr_machine.specs.Group.{Group, IsGroup}
 use Rattle.dr_machine.specs.Run.{IsReached}
 use Rattle.dr_machine.specs.World.{World, opening_world}
+use Rattle.dr_program.specs.Acts.{is_outside_act}
 use Rattle.dr_program.specs.declared.place.Part.{Part}
 use Rattle.dr_program.specs.declared.place.Part.TheVariants as parts
 use Rattle.dr_program.specs.declared.setup.Setup.{Setup}
 use Rattle.dr_program.specs.declared.setup.Suspicion.{Suspicion}
-use Rattle.dr_program.specs.Program.{AreSetups, IsRanFrom, Move, Program, after_deed, begun_program, end_at, moved_by, next_sight, step_of}
-use Rattle.dr_program.specs.Net.{IsRanOverNet}
-use Rattle.dr_program.specs.Reading.{world}
-use Rattle.dr_program.specs.Replica.{Replica, is_named, is_wedged, may_vote, me, value_due}
+use Rattle.dr_program.specs.Program.{AreSetups, IsRanFrom, Move, Program, after_deed, begun_program, end_at, letter_for, moved_by, next_sight, step_of}
+use Rattle.dr_program.specs.Net.{IsRanOverNet, took_nothing}
+use Rattle.dr_program.specs.Reading.{table_of, world}
+use Rattle.dr_program.specs.Replica.{Replica, is_inside, is_named, is_wedged, is_welcomer, me, value_due}
 use Rattle.dr_program.specs.Replica as replica
-use Rattle.dr_program.specs.Running.{Running, after_step, begun_running, crashes_now, is_scripted, judged, judgement, minority, named_by, next_step, overdue, scripted, step_at, told, took, vote_or_end, waits_after}
+use Rattle.dr_program.specs.Running.{Running, after_step, begun_running, crashes_now, is_scripted, judged, judgement, minority, named_by, next_step, overdue, scripted, settled, step_at, told, took, took_letter, vote_or_end, waits_after}
 use Rattle.dr_program.specs.Steps.{allows, stepped}
 use Rattle.dr_program.specs.Turn.{is_beat, part_of}
 use Rattle.dr_program.specs.Form.{HasForm, IsRunningMember}
@@ -38,6 +40,7 @@ use Rattle.dr_refine.specs.Programs.{IsProgram}
 use Rattle.dr_refine.proofs.Deeds.{due_allowed, program_member, replicas, rest_changes_nothing, step_is, step_reached}
 use Rattle.dr_refine.proofs.Guards.{seen_is}
 use Rattle.dr_refine.proofs.Steps.{begun_is_program}
+use Rattle.dr_room.proofs.Letters.{letters_are}
 use Rattle.dr_restart.specs.declared.start.Start.{Start}
 use Rattle.dr_restart.specs.Groups.{group_of}
 use Rattle.dr_restart.specs.Setups.{AreSetupsOf, IsBegun, suspicion_in, suspicion_of}
@@ -47,6 +50,7 @@ use Rattle.dr_script.specs.declared.script.Fault.{Fault}
 use Rattle.dr_script.specs.declared.script.Script.{Script}
 use Rattle.dr_suspect.specs.Answers.{least_where}
 use Rattle.dr_suspect.specs.Suspicion.{is_unsuspected, names, names_me, spreads}
+use Rattle.dr_suspect.specs.Wishes.{may_wish}
 use Rattle.dr_suspect.specs.Waits.{is_late, is_overdue, turns_without_news}
 use Rattle.dr_turn.proofs.Parts.{has_verdict, is_judge, is_verdict, no_verdict}
 use Rattle.dr_turn.proofs.Search.{settle_only}
@@ -57,7 +61,7 @@ use Rattle.dr_words.specs.declared.column.TheConstants.{SUSPECTED_COLUMN}
 use Rattle.dr_world_laws.proofs.Worlds.{Known, faithful, known, quiet}
 use Rattle.dr_history.specs.Members.{has}
 use Rattle.dr_program_laws.specs.Trusting.{AreAtEase, AreTrusting, IsAtEase, IsCalm, IsPatient, IsTrusting, MayWait, NoneLeft, SuspectsNobody, has_been_left, is_left_out, to_come, AllCalm}
-use Rattle.dr_program_laws.proofs.Patience.{patient_on}
+use Rattle.dr_program_laws.proofs.Patience.{patient_on, patient_take}
 use Rattle.dr_program_laws.proofs.Keeping.{begun_reached}
 use Rattle.dr_program_laws.proofs.Nets.{net_keeps}
 use Rattle.dr_program_laws.proofs.Programs.{ran_keeps, replaced_either}
@@ -102,7 +106,7 @@ unsuspecting g p m r is i = elim (cases_eq i (me r.replica)) [
       ∙ (is.ease m r is.there).unwedged)
   | inr apart ↦
       let other : i ≢ m = λ same. apart (same ∙ sym (is.program.of m r is.there).number) in
-      sym (seen_is g (replicas p.members) p.table m r.replica i SUSPECTED_COLUMN
+      sym (seen_is g (replicas p.members) (table_of p) m r.replica i SUSPECTED_COLUMN
       (program_member g p m r is.group is.program is.there) other)
       ∙ nothing ((told_truly.old.in_seen m i SUSPECTED_COLUMN other).number)
       ((told_truly.old.in_table (w.past.view m) m i SUSPECTED_COLUMN).number) own
@@ -170,7 +174,7 @@ judges_nothing g p m r is = grind (arith, named, script, spread, late, few)
     script = ap (λ xs. option_map (λ (s : Suspicion). s.other) (find (is_scripted q) xs)) so.unscripted
 
     spread : told q ≡ None
-    spread = nothing_spreads (spreads (replica.suspicion_of q) q.rows) (λ i j.
+    spread = nothing_spreads (spreads (replica.suspicion_of q) (may_wish q.history q.age q.late) q.rows) (λ i j.
         and_right (is_unsuspected (replica.suspicion_of q) i) _
         (and_left (names q.rows i j) _ (unnamed i j)))
 
@@ -228,10 +232,33 @@ votes_nothing g p m r is =
       sym (of_there p (λ q. q.committed) (opening_world g).committed m r is.there) ∙ none.1,
     )
 
--- so until an append of it fails it stands at no part that it passes
+-- and came from no view before
+came_from_none : (g : Group) (p : Program) (m : ℕ) (r : Running) → IsAmong g p m r
+    → has r.replica.came_from (me r.replica) ≡ false
+came_from_none g p m r is = by (has r.replica.came_from (me r.replica)) refl
+  where
+    y : Known g (world g p)
+    y = known g (world g p) is.group is.reached
+
+    there : (world g p).came_from m ≡ r.replica.came_from
+    there = of_there p (λ q. q.came_from) (opening_world g).came_from m r is.there
+
+    none : has r.replica.came_from (me r.replica) ≡ true → ⊥
+    none came =
+        let before = (faithful g (world g p) y).views.came m (ap (λ k. has k m) there
+        ∙ ap (has r.replica.came_from) (sym (is.program.of m r is.there).number) ∙ came) in
+        omega (arith, before.1, stay_first g p m is.ease)
+
+    by : (b : Bool) → has r.replica.came_from (me r.replica) ≡ b
+        → has r.replica.came_from (me r.replica) ≡ false
+    by true came = absurd (none came)
+    by false other = other
+
+-- so in its view, until an append of it fails, it stands at no part that it passes
 pub never_passed : (g : Group) (p : Program) (m : ℕ) (r : Running) → IsAmong g p m r
-    → r.replica.end ≡ None → r.failed ≡ None → is_passed (part_of r.place) ≡ false
-never_passed g p m r is unended well = by (part_of r.place) refl
+    → is_inside r.replica ≡ true → r.replica.end ≡ None → r.failed ≡ None
+    → is_passed (part_of r.place) ≡ false
+never_passed g p m r is inside unended well = by (part_of r.place) refl
   where
     none : (r.replica.pending ≡ None) × (r.replica.committed ≡ None)
     none = votes_nothing g p m r is
@@ -239,12 +266,17 @@ never_passed g p m r is unended well = by (part_of r.place) refl
     calm : is_wedged r.replica ≡ false
     calm = ap (λ n. not (n == 0)) (is.ease m r is.there).unwedged
 
-    no_vote : may_vote r.replica (value_due r.replica) ≡ false
-    no_vote = and_left (is_wedged r.replica) _ calm
+    no_vote : allows r.replica (LogVote (value_due r.replica)) ≡ false
+    no_vote = and_right (is_inside r.replica) _ (and_left (is_wedged r.replica) _ calm)
+
+    no_giver : allows r.replica (step_at r parts.Give r.place.row r.place.column) ≡ false
+    no_giver = and_right (is_inside r.replica) _ (and_right (nat_lt r.place.row r.replica.roster) _
+        (and_left (is_welcomer r.replica) _ (and_left (has r.replica.came_from (me r.replica)) _
+        (came_from_none g p m r is))))
 
     unnamed : allows r.replica (step_at r parts.Excluded r.place.row r.place.column) ≡ false
-    unnamed = and_left (is_named (me r.replica) r.replica.committed) _
-        (ap (is_named (me r.replica)) none.1)
+    unnamed = and_right (is_inside r.replica) _ (and_left (is_named (me r.replica) r.replica.committed) _
+        (ap (is_named (me r.replica)) none.1))
 
     never : (part : Part) → part_of r.place ≡ part
         → allows r.replica (step_at r part r.place.row r.place.column) ≡ false → is_passed part ≡ false
@@ -257,10 +289,13 @@ never_passed g p m r is unended well = by (part_of r.place) refl
     act : (a : Act) → part_of r.place ≡ parts.Do a → (b : Bool) → is_passed (parts.Do a) ≡ b
         → is_passed (parts.Do a) ≡ false
     act a at true passed =
-        never (parts.Do a) at (passed_act r.replica a (is.ease m r is.there).unwedged none.0 none.1 passed)
+        never (parts.Do a) at (and_right (is_outside_act a || is_inside r.replica) _
+        (passed_act r.replica a (is.ease m r is.there).unwedged none.0 none.1 passed))
     act a at false other = other
 
     by : (part : Part) → part_of r.place ≡ part → is_passed part ≡ false
+    by parts.Take at = never parts.Take at (ap not inside)
+    by parts.Give at = never parts.Give at no_giver
     by parts.Judge at = absurd (cc (ap is_judge at, never_judges g p m r is unended))
     by parts.Vote at = never parts.Vote at
         (ap (λ o. allows r.replica (vote_or_end o (value_due r.replica))) well ∙ no_vote)
@@ -305,7 +340,11 @@ end_stays : (word : ℕ) (r : Replica) (s : Step) → r.committed ≡ None → j
     → allows r s ≡ true → has_been_left r.end ≡ false → has_been_left (stepped word r s).end ≡ false
 end_stays word r s none other may kept = grind (arith, none, other, may, kept)
 
--- no step at all changes for how long it waits
+-- no step at all changes for how long it waits, nor does a take
+took_limit : (letter : Option (List Entry)) (r : Running) → (took_letter letter r).waits.limit ≡ r.waits.limit
+took_limit None r = refl
+took_limit (Some letter) r = refl
+
 pub limit_stays : (word : ℕ) (r : Running) (s : Step) → (waits_after word r s).limit ≡ r.waits.limit
 limit_stays word r s = grind arith
 
@@ -328,14 +367,38 @@ step_eases word r member none other may waits so =
           ∙ end_stays word r.replica (next_step r) none other may so.kept;
     }
 
+-- as nobody has come to a later view, no letter was given
+no_letter : (g : Group) (p : Program) (m : ℕ) → IsGroup g → IsReached g (world g p) → AreAtEase p
+    → letter_for p m ≡ None
+no_letter g p m group run ease = by (letter_for p m) refl
+  where
+    y : Known g (world g p)
+    y = known g (world g p) group run
+
+    by : (letter : Option (List Entry)) → letter_for p m ≡ letter → letter_for p m ≡ None
+    by None none = none
+    by (Some letter) found =
+        let t = (y.chosen.letters.letters m letter found).0 in
+        absurd (omega (arith, t.next, t.come, stay_first g p t.giver ease))
+
+-- so a take finds none
+take_eases : (r : Running) → IsAtEase r → IsAtEase (settled (took_letter None r))
+take_eases r so = let only = settle_only _ (took_letter None r) in record {
+  first = ap (λ (x : Running). x.replica.view) only ∙ so.first;
+  unwedged = ap (λ (x : Running). x.replica.suspects) only ∙ so.unwedged;
+  patient = patient_take r so.patient;
+  unscripted = ap (λ (x : Running). x.suspicions) only ∙ so.unscripted;
+  kept = ap (λ (x : Running). has_been_left x.replica.end) only ∙ so.kept;
+}
+
 -- the member after its next deed
 deed_eases : (g : Group) (p : Program) (e : Move) (r : Running) → IsAmong g p e.member r
     → r.replica.end ≡ None → (is_beat (part_of r.place) ≡ true → MayWait r)
-    → IsAtEase (after_deed (next_sight p.table r) e.outcome r (next_step r))
+    → IsAtEase (after_deed (next_sight p.table r) (letter_for p e.member) e.outcome r (next_step r))
 deed_eases g p e r is unended waits =
     let form = is.program.form e.member r is.there in
     let so = is.ease e.member r is.there in
-    after_either IsAtEase p.table e.outcome r (next_step r)
+    after_either IsAtEase p.table (letter_for p e.member) e.outcome r (next_step r)
     (step_eases (next_sight p.table r) r form (votes_nothing g p e.member r is).1
     (plain_step r (part_of r.place) r.place.row r.place.column (never_judges g p e.member r is unended)
     (no_verdict r.place.part form.place.part))
@@ -347,12 +410,14 @@ deed_eases g p e r is unended waits =
       unscripted = so.unscripted;
       kept = so.kept;
     })
+    (λ due. subst (λ letter. IsAtEase (settled (took_letter letter r)))
+    (sym (no_letter g p e.member is.group is.reached is.ease)) (take_eases r so))
 
 -- what holds of each member, and of the one that moves after its deed, holds after a move
 pub moved_all : (P : Running → Type 0) (p : Program) (e : Move)
     → ((k : ℕ) (y : Running) → present_at p.members k ≡ Some y → P y)
     → ((r : Running) → present_at p.members e.member ≡ Some r → r.replica.end ≡ None
-    → P (after_deed (next_sight p.table r) e.outcome r (next_step r)))
+    → P (after_deed (next_sight p.table r) (letter_for p e.member) e.outcome r (next_step r)))
     → (k : ℕ) (y : Running) → present_at (step_of p e).members k ≡ Some y → P y
 moved_all P p e all deed = by (present_at p.members e.member) refl
   where
@@ -366,7 +431,7 @@ moved_all P p e all deed = by (present_at p.members e.member) refl
     at r there None unended = subst (λ (q : Program). (k : ℕ) (y : Running) → present_at q.members k ≡ Some y
         → P y) (sym (step_is p e r there unended)) (λ k y here.
         elim (replaced_either p.members e.member r
-        (after_deed (next_sight p.table r) e.outcome r (next_step r)) there k y here) [
+        (after_deed (next_sight p.table r) (letter_for p e.member) e.outcome r (next_step r)) there k y here) [
           | inl moved ↦ subst P moved.1 (deed r there unended)
           | inr other ↦ all k y other.1
         ])
@@ -411,10 +476,13 @@ move_trusts g p e group is run trusting k y here =
       first = so.first;
       unwedged = so.unwedged;
       patient = moved_all (λ r. r.waits.limit ≡ 0) p e (λ i r there. (trusting i r there).patient)
-          (λ r there unended. after_either (λ x. x.waits.limit ≡ 0) p.table e.outcome r (next_step r)
+          (λ r there unended. after_either (λ x. x.waits.limit ≡ 0) p.table (letter_for p e.member) e.outcome r
+          (next_step r)
           (ap (λ (x : Running). x.waits.limit) (settle_only _ (took (next_sight p.table r) r (next_step r)))
           ∙ limit_stays (next_sight p.table r) r (next_step r) ∙ (trusting e.member r there).patient)
-          (λ why due. (trusting e.member r there).patient)) k y here;
+          (λ why due. (trusting e.member r there).patient)
+          (λ due. ap (λ (x : Running). x.waits.limit) (settle_only _ (took_letter (letter_for p e.member) r))
+          ∙ (took_limit (letter_for p e.member) r ∙ (trusting e.member r there).patient))) k y here;
       unscripted = so.unscripted;
       kept = so.kept;
     }
@@ -449,15 +517,45 @@ pub trusting_ran : (g : Group) (turns : ℕ) (setups : List (Option Setup)) (p :
 trusting_ran g turns setups p group some are calm (es, same) = subst AreTrusting (sym same)
     (ran_keeps g (λ q. IsReached g (world g q) × AreTrusting q) (begun_program g setups) es group
     (begun_is_program g turns setups group some are) (begun_reached g turns setups group are)
-    (λ q e is so. (step_reached g q e group is so.0, move_trusts g q e group is so.0 so.1))
+    (λ q e is so. (
+      step_reached g q e group is (letters_are g q group is so.0) so.0,
+      move_trusts g q e group is so.0 so.1,
+    ))
     (begun_reached g turns setups group are, trusting_begins g turns setups group are calm)).1
+
+-- a take that finds no letter leaves them so
+missed_trusts : (p : Program) (m : ℕ) (r : Running) → AreTrusting p → present_at p.members m ≡ Some r
+    → AreTrusting (took_nothing p m r)
+missed_trusts p m r trusting there k y found =
+    elim (replaced_either p.members m r (settled (took_letter None r)) there k y found) [
+      | inl here ↦ subst IsTrusting here.1 now
+      | inr other ↦ trusting k y other.1
+    ]
+  where
+    only : settled (took_letter None r) ≡ record (took_letter None r) {
+      place = (settled (took_letter None r)).place;
+    }
+    only = settle_only _ (took_letter None r)
+
+    so : IsTrusting r
+    so = trusting m r there
+
+    now : IsTrusting (settled (took_letter None r))
+    now = record {
+      first = ap (λ (x : Running). x.replica.view) only ∙ so.first;
+      unwedged = ap (λ (x : Running). x.replica.suspects) only ∙ so.unwedged;
+      patient = ap (λ (x : Running). x.waits.limit) only ∙ so.patient;
+      unscripted = ap (λ (x : Running). x.suspicions) only ∙ so.unscripted;
+      kept = ap (λ (x : Running). has_been_left x.replica.end) only ∙ so.kept;
+    }
 
 -- over a net too, however late the words of others come
 pub net_trusts : (g : Group) (turns : ℕ) (setups : List (Option Setup)) (p : Program) → IsGroup g → 1 ≤ turns
     → AreSetups g turns setups → AllCalm setups → IsRanOverNet g (begun_program g setups) p → AreTrusting p
 net_trusts g turns setups p group some are calm (before, way) =
     net_keeps g turns setups AreTrusting group some are
-    (λ q e form run trusting. move_trusts g q e group form run trusting) (λ q table trusting. trusting)
+    (λ q e form run trusting. move_trusts g q e group form run trusting) (λ q table letters trusting. trusting)
+    (λ q m r form trusting there unended due. missed_trusts q m r trusting there)
     (trusting_begins g turns setups group are calm) before p way
 
 -- so none of them ends by suspicion

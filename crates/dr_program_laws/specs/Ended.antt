@@ -8,7 +8,7 @@ use Rattle.dr_entry.specs.declared.entry.Entry.TheVariants.{View}
 use Rattle.dr_history.specs.declared.opening.Opening.{Opening}
 use Rattle.dr_history.specs.History.{IsPrefixOf, view_of}
 use Rattle.dr_history.specs.Members.{has, members_of}
-use Rattle.dr_history.specs.Order.{first_entries, messages_from, numbered_messages}
+use Rattle.dr_history.specs.Order.{IsLateIn, first_entries, messages_from, numbered_messages}
 use Rattle.dr_history_laws.specs.Remaining.{remaining}
 use Rattle.dr_history.specs.Soundness.{IsPresentIn}
 use Rattle.dr_program.specs.declared.setup.CrashPoint.{CrashPoint}
@@ -20,25 +20,27 @@ abbrev pub IsBeforeCrash : List CrashPoint → ℕ → Type 0
 IsBeforeCrash points turns = All (λ (c : CrashPoint). 1 ≤ c.turn → turns < c.turn) points
 
 -- a history is in the view of this number, of which these are the members: its last View says so
-abbrev pub IsInView : Opening → ℕ → ℕ → List Entry → Type 0
-IsInView o number members history =
+abbrev pub LastViewIs : Opening → ℕ → ℕ → List Entry → Type 0
+LastViewIs o number members history =
     view_of history ≡ Some (record { age = o.age; number = number; members = members_of members })
 
 -- a member has ended as done in the view of this number and these members
 pub record IsWhole (o : Opening) (ends : List MemberEnd) (number members : ℕ) (e : MemberEnd) : Type 0 where
   pub end : e.end ≡ Done
-  -- it has all messages that the script gives the members of the view, and nobody has a message that it lacks
+  -- it has all messages that the script gives the members of the view, and nobody has a message that it lacks,
+  -- but for those of late members, which may come into a later view
   pub whole : (s : ℕ) → has members s ≡ true → messages_from s e.history ≡ numbered_messages o s
-  pub lacks_none : (s : ℕ) → All (λ (other : MemberEnd).
+  pub lacks_none : (s : ℕ) → (¬ IsLateIn o s) → All (λ (other : MemberEnd).
       IsPrefixOf (messages_from s other.history) (messages_from s e.history)) ends
-  -- all of it is logged and durable: each member of the view has it on its log
+  -- all of it is logged and durable: each member of the view that isn't late has it on its log
   pub logged : e.logged ≡ length e.history
   pub durable : e.durable ≡ length e.history
-  pub kept : (i : ℕ) (other : MemberEnd) → has members i ≡ true → slice_get ends i ≡ Some other
+  pub kept : (i : ℕ) (other : MemberEnd) → has members i ≡ true → has o.members i ≡ true
+      → slice_get ends i ≡ Some other
       → IsPrefixOf e.history (take other.logged other.history)
   -- who is done in the same view has the same history, and in the first view it is that of a complete member
   pub same : (i : ℕ) (other : MemberEnd) → slice_get ends i ≡ Some other → other.end ≡ Done
-      → IsInView o number members other.history → other.history ≡ e.history
+      → LastViewIs o number members other.history → other.history ≡ e.history
   pub first : number ≡ 0 → e.history ≡ first_entries o ++ remaining o
 
 -- a member that is done in the first view has ended as done: its history is the start, View 0, and all
@@ -110,14 +112,15 @@ HasReason o ends number members limit m points e =
     ⊎ (IsSpent limit points e
     ⊎ (HasCrashed points e ⊎ (HasEndedByLog points e ⊎ HasBeenLeft o ends number members m points e)))
 
--- member m has ended as it should, in the view that its history is in, which is of the roster, as a member of it
+-- member m has ended as it should, in the view that its history is in, which is of the roster, as a member of it,
+-- or in the first view as a late one that hasn't joined
 pub record HasEnded (o : Opening) (ends : List MemberEnd) (limit m : ℕ) (points : List CrashPoint)
     (e : MemberEnd) : Type 0 where
   pub number : ℕ
   pub members : ℕ
-  pub view : IsInView o number members e.history
+  pub view : LastViewIs o number members e.history
   pub roster : IsInRoster (length o.messages) members
-  pub own : has members m ≡ true
+  pub own : (has members m ≡ true) ⊎ (IsLateIn o m × (number ≡ 0))
   pub reason : HasReason o ends number members limit m points e
 
 -- all members that are there have, each with the crash points of its number; and who is absent tells nothing

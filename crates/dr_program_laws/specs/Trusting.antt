@@ -59,6 +59,7 @@ AreTrusting p = (m : ℕ) (r : Running) → present_at p.members m ≡ Some r �
 
 -- whether a row is still to be compared in this turn: one look at it is to come then
 abbrev pub to_come : Part → ℕ → ℕ → ℕ
+to_come parts.Take row i = 1
 to_come parts.Look row i = if nat_lt i row then 0 else 1
 to_come part row i = 0
 

@@ -8,13 +8,13 @@
 ghost use Rattle.std.specs.Prelude.{◌≡◌, ℕ, ◌<◌, ◌≤◌, All, Contains, List, [], ◌∷◌, length, map, max, slice_index, slice_set, Some, Option};
 ghost use Rattle.dr_entry.specs.declared.end.End.{End};
 ghost use Rattle.dr_history.specs.Agreement.{EndsAgreed};
-ghost use Rattle.dr_machine.specs.declared.step.Step.TheVariants.{Look, Push};
+ghost use Rattle.dr_machine.specs.declared.step.Step.TheVariants.{Join, Look, Push};
 ghost use Rattle.dr_machine.specs.Group.{Group, IsGroup};
 ghost use Rattle.dr_machine.specs.Run.{ComesOfEvents, IsReached, Way};
 ghost use Rattle.dr_program.specs.declared.packet.Packet.{Packet};
 ghost use Rattle.dr_program.specs.declared.setup.CrashPoint.{CrashPoint};
 ghost use Rattle.dr_program.specs.declared.setup.Setup.{Setup};
-ghost use Rattle.dr_program.specs.Net.{IsRanOverNet, NetWay};
+ghost use Rattle.dr_program.specs.Net.{IsRanOverNet, NetWay, took_nothing};
 ghost use Rattle.dr_program.specs.Program.{AllEnded, AreSetups, IsRanFrom, Move, Program, begun_program, end_at, next_sight, ok, ran, step_of};
 ghost use Rattle.dr_program.specs.Reading.{step_of_member, world};
 ghost use Rattle.dr_program.specs.Running.{Running};
@@ -87,8 +87,8 @@ pub fn nets_keep_programs()
 /// So it is told to who carries the words, and knows no worlds: a net is a list of packets, each with the place
 /// that its word was pushed to. A program begins with none. Its members take their deeds; the word of a push is
 /// there at once, or goes into a packet; packets are lost, doubled, and put into any order; and the word of one
-/// comes to its place in the table, however late, where no greater one stands. Then it stays one of its group, in
-/// a world that is reached.
+/// comes to its place in the table, however late, where no greater one stands; and a member that asks for its
+/// letter may find none, as it is on its way. Then it stays one of its group, in a world that is reached.
 pub fn carried_words_do_no_harm()
     ensures begins { (g : Group) (p : Program) → IsGroup g → IsProgram g p → IsReached g (world g p)
         → IsCarried g p [] }
@@ -96,7 +96,7 @@ pub fn carried_words_do_no_harm()
         → IsCarried g (step_of p e) net }
     ensures pushes { (g : Group) (p : Program) (net : List Packet) (m : ℕ) (r : Running) (j c : ℕ)
         → IsCarried g p net → present_at p.members m ≡ Some r → step_of_member r ≡ Some (Push j c)
-        → IsCarried g (record { members = (step_of p (ok m)).members; table = p.table })
+        → IsCarried g (record { members = (step_of p (ok m)).members; table = p.table; letters = p.letters })
         (record { index = index_in r.replica j (me r.replica) c; word = own r.replica.rows c } ∷ net) }
     ensures among { (g : Group) (p : Program) (net other : List Packet) → IsCarried g p net
         → All (Contains net) other → IsCarried g p other }
@@ -106,7 +106,11 @@ pub fn carried_words_do_no_harm()
         → Contains net packet → IsCarried g (record {
           members = p.members;
           table = slice_set p.table packet.index (max (slice_index p.table packet.index) packet.word);
+          letters = p.letters;
         }) net }
+    ensures misses { (g : Group) (p : Program) (net : List Packet) (m : ℕ) (r : Running)
+        → IsCarried g p net → present_at p.members m ≡ Some r → step_of_member r ≡ Some Join
+        → IsCarried g (took_nothing p m r) net }
 {}
 
 /// The program of an age begins as one of its group, in a world that is reached. Each schedule takes the

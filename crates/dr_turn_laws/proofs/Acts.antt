@@ -2,8 +2,9 @@
 -- that none is asked for behind the turn. A further act adds its lines here.
 use Rattle.std.proofs.Common.{◌≡◌, refl, sym, ◌∙◌, inl, ℕ, ◌<◌, ◌≤◌, ◌^◌, ◌==◌, Bool, true, false, length, ap, ◌+◌, ◌-◌, ◌&&◌, ◌||◌, arith}
 use Rattle.std.proofs.Math.Nat.{min-le_left}
-use Rattle.std.specs.Prelude.{Option, None, Some, is_some, option_map}
+use Rattle.std.specs.Prelude.{List, Option, None, Some, is_some, option_map}
 use Rattle.dr_entry.specs.declared.end.End.{End}
+use Rattle.dr_entry.specs.declared.entry.Entry.{Entry}
 use Rattle.dr_entry.specs.declared.end.End.TheVariants as ends
 use Rattle.dr_history.specs.Members.{has}
 use Rattle.dr_machine.specs.Acts.{does, effect_of, CanTake}
@@ -67,7 +68,7 @@ is_to_end w m end calm due = absurd due
 -- a step that is asked for may come, where its member may choose and suspects nobody
 pub asked : (g : Group) (w : World) (m : ℕ) (s : Step) → MayChoose g w m → IsUnwedged w m
     → Wants g w m s → CanTake g w m s
-asked g w m (steps.Do acts.Beat) may calm wants = may
+asked g w m (steps.Do acts.Beat) may calm wants = record { alive = may.alive; idle = may.idle }
 asked g w m (steps.Do (acts.Receive s)) may calm wants =
     record { may = may; unwedged = calm; sender = wants.0; ready = wants.1 }
 asked g w m (steps.Do acts.Send) may calm wants =
@@ -81,7 +82,7 @@ asked g w m (steps.Do acts.Report) may calm wants = record { may = may; logged =
 asked g w m (steps.Do acts.Mark) may calm wants =
     record { may = may; unwedged = calm; unmarked = wants.0; whole = wants.1; durable = wants.2 }
 asked g w m (steps.Do (acts.Suspect j)) may calm wants =
-    record { may = may; other = wants; unsuspected = trusted w m j calm }
+    record { may = may; namable = wants.0; apart = wants.1; unsuspected = trusted w m j calm }
 asked g w m (steps.Do acts.Propose) may calm wants = absurd wants
 asked g w m (steps.Do acts.Accept) may calm wants = absurd wants
 asked g w m (steps.Do acts.Commit) may calm wants = absurd wants
@@ -105,6 +106,15 @@ asked g w m (steps.Push j c) may calm wants =
     record { may = may; copy = wants.0; column = wants.1 }
 asked g w m steps.Append may calm wants = record { may = may; behind = wants }
 asked g w m (steps.LogVote v) may calm wants = absurd wants
+asked g w m (steps.Welcome j) may calm wants = record {
+  may = may;
+  newcomer = wants.0;
+  new = wants.1;
+  welcomer = wants.2;
+  least = wants.3;
+  none = wants.4;
+}
+asked g w m steps.Join may calm wants = absurd wants
 
 -- a step that may come is asked for: an end or a vote, where its member may choose and suspects nobody
 pub asks : (g : Group) (w : World) (m : ℕ) (s : Step)
@@ -118,7 +128,7 @@ asks g w m (steps.Do acts.Deliver) calm can = can.received
 asks g w m (steps.Do acts.Publish) calm can = can.behind
 asks g w m (steps.Do acts.Report) calm can = can.logged
 asks g w m (steps.Do acts.Mark) calm can = (can.unmarked, can.whole, can.durable)
-asks g w m (steps.Do (acts.Suspect j)) calm can = can.other
+asks g w m (steps.Do (acts.Suspect j)) calm can = (can.namable, can.apart)
 asks g w m (steps.Do acts.Propose) calm can = absurd (cc ((calm refl).0.idle, can.waits))
 asks g w m (steps.Do acts.Accept) calm can = absurd (cc ((calm refl).0.idle, can.waits))
 asks g w m (steps.Do acts.Commit) calm can = absurd (can.wedged (calm refl).1)
@@ -129,6 +139,8 @@ asks g w m (steps.Look i c) calm can = (can.row, can.column)
 asks g w m (steps.Push j c) calm can = (can.copy, can.column)
 asks g w m steps.Append calm can = can.behind
 asks g w m (steps.LogVote v) calm can = absurd (can.wedged (calm refl).1)
+asks g w m (steps.Welcome j) calm can = (can.newcomer, can.new, can.welcomer, can.least, can.none)
+asks g w m steps.Join calm can = absurd (cc ((calm refl).0.inside, can.outside))
 
 -- ---- what a step leaves
 
@@ -144,6 +156,7 @@ receive_kept g w m (steps.Do acts.Null) i c =
     wants.0 wants.1))
 receive_kept g w m (steps.Do acts.Finish) i c = None
 receive_kept g w m (steps.Look j d) i c = None
+receive_kept g w m steps.Join i c = None
 receive_kept g w m s i c = Some (λ old wants. old
     (to_take g w (effect_of g w m s) m i (items_received w m i) refl refl wants.0 wants.1))
 
@@ -154,6 +167,7 @@ send_kept g w m (steps.Do acts.Send) i c = None
 send_kept g w m (steps.Do acts.Null) i c = Some (λ old wants. old (nulled_left g w m wants))
 send_kept g w m (steps.Do acts.Finish) i c = None
 send_kept g w m (steps.Look j d) i c = None
+send_kept g w m steps.Join i c = None
 send_kept g w m s i c = Some (λ old wants. old (
   wants.0,
   still_room g w (effect_of g w m s) m (items_received w m m)
@@ -167,6 +181,7 @@ null_kept g w m (steps.Do acts.Send) i c = None
 null_kept g w m (steps.Do acts.Null) i c = None
 null_kept g w m (steps.Do acts.Finish) i c = None
 null_kept g w m (steps.Look j d) i c = None
+null_kept g w m steps.Join i c = None
 null_kept g w m s i c = Some (λ old wants. old (
   wants.0,
   still_room g w (effect_of g w m s) m (items_received w m m)
@@ -265,6 +280,7 @@ both f h = None
 -- what a step leaves
 kept : (g : Group) (w : World) (m : ℕ) (s : Step) (part : Part) (i c : ℕ)
     → Option (Stays g w (effect_of g w m s) m part i c)
+kept g w m s parts.Take i c = Some (λ old. tt)
 kept g w m s parts.Judge i c = Some (λ old. tt)
 kept g w m s parts.Receive i c = receive_kept g w m s i c
 kept g w m s (parts.Do (acts.Receive j)) i c = None
@@ -286,6 +302,8 @@ kept g w m (steps.Push j d) (parts.Do acts.Mark) i c = Some (λ old. old)
 kept g w m (steps.Push j d) part i c = Some (λ old. old)
 kept g w m (steps.Look j d) part i c = None
 kept g w m (steps.LogVote v) part i c = None
+kept g w m (steps.Welcome j) part i c = None
+kept g w m steps.Join part i c = None
 
 -- ---- what a part of the turn leaves
 
@@ -332,12 +350,12 @@ earlier_kept g w m r p q inside before plain forth =
 -- the member stands behind the pushes in its turn, and its view is of the roster
 pub record IsPastPushes (g : Group) (w : World) (m : ℕ) (p : Place) : Type 0 where
   pub swept : Swept g w m p
-  pub late : length TURN - 5 < p.part
+  pub late : length TURN - 6 < p.part
   pub view : (i : ℕ) → has (w.members m) i ≡ true → i < roster g
 
 -- a row and a column of a part
 pub idle_part : (g : Group) (w : World) (m : ℕ) (p : Place) (a i c : ℕ) → IsPastPushes g w m p
-    → a < length TURN - 5 → i < rows_in (roster g) (numbered a) → c < columns_in (columns g) (numbered a)
+    → a < length TURN - 6 → i < rows_in (roster g) (numbered a) → c < columns_in (columns g) (numbered a)
     → IsIdle g w m (numbered a) i c
 idle_part g w m p a i c behind early row column =
     behind.swept (record { part = a; row = i; column = c })
@@ -349,22 +367,22 @@ pub idle_work : (g : Group) (w : World) (m : ℕ) (p : Place) → IsPastPushes g
     → (s : Step) → is_work s ≡ true → Wants g w m s → ⊥
 idle_work g w m p behind s work = by s work
   where
-    one : (a : ℕ) → a < length TURN - 5 → rows_in (roster g) (numbered a) ≡ 1
+    one : (a : ℕ) → a < length TURN - 6 → rows_in (roster g) (numbered a) ≡ 1
         → columns_in (columns g) (numbered a) ≡ 1 → IsIdle g w m (numbered a) 0 0
     one a early row column =
         idle_part g w m p a 0 0 behind early (omega (arith, row)) (omega (arith, column))
 
     by : (s : Step) → is_work s ≡ true → Wants g w m s → ⊥
     by (steps.Do (acts.Receive i)) work = λ wants.
-        idle_part g w m p 2 i 0 behind (omega arith) (behind.view i wants.0.member) (omega arith) wants
-    by (steps.Do acts.Send) work = one 3 (omega arith) refl refl
-    by (steps.Do acts.Null) work = one 4 (omega arith) refl refl
-    by (steps.Do acts.Deliver) work = one (length TURN - 16) (omega arith) refl refl
-    by steps.Append work = λ wants. one (length TURN - 14) (omega arith) refl refl
-        (one (length TURN - 15) (omega arith) refl refl wants)
-    by (steps.Do acts.Publish) work = one (length TURN - 14) (omega arith) refl refl
-    by (steps.Do acts.Report) work = one (length TURN - 13) (omega arith) refl refl
-    by (steps.Do acts.Mark) work = one (length TURN - 12) (omega arith) refl refl
+        idle_part g w m p 3 i 0 behind (omega arith) (behind.view i wants.0.member) (omega arith) wants
+    by (steps.Do acts.Send) work = one 4 (omega arith) refl refl
+    by (steps.Do acts.Null) work = one 5 (omega arith) refl refl
+    by (steps.Do acts.Deliver) work = one (length TURN - 17) (omega arith) refl refl
+    by steps.Append work = λ wants. one (length TURN - 15) (omega arith) refl refl
+        (one (length TURN - 16) (omega arith) refl refl wants)
+    by (steps.Do acts.Publish) work = one (length TURN - 15) (omega arith) refl refl
+    by (steps.Do acts.Report) work = one (length TURN - 14) (omega arith) refl refl
+    by (steps.Do acts.Mark) work = one (length TURN - 13) (omega arith) refl refl
     by s work = absurd (cc)
 
 -- ---- a member at rest
@@ -445,9 +463,9 @@ worked_on word n r s form may keeps grown turn old going =
 -- ---- an append that fails
 
 -- breaks its member off, and is no step of the machine
-pub fails : (word : ℕ) (why : LogWhy) (r : Running) (s : Step) → IsAppend s
-    → (after_deed word (outcomes.Failed why) r s ≡ broken_off why r)
-    × (comes_to (Some s) (outcomes.Failed why) ≡ None)
-fails word why r steps.Append is = (refl, refl)
-fails word why r (steps.LogVote v) is = (refl, refl)
-fails word why r s is = absurd is
+pub fails : (word : ℕ) (letter : Option (List Entry)) (why : LogWhy) (r : Running) (s : Step) → IsAppend s
+    → (after_deed word letter (outcomes.Failed why) r s ≡ broken_off why r)
+    × (comes_to letter (Some s) (outcomes.Failed why) ≡ None)
+fails word letter why r steps.Append is = (refl, refl)
+fails word letter why r (steps.LogVote v) is = (refl, refl)
+fails word letter why r s is = absurd is

@@ -1,19 +1,20 @@
 -- In the first view acts are few, so the beat of a member rises with each turn.
-use Rattle.std.proofs.Common.{◌≡◌, refl, ap, ◌∙◌, subst, inl, inr, ◌⊎◌, ℕ, ◌+◌, ◌-◌, ◌*◌, ◌^◌, ◌<◌, ◌≤◌, List, fold, length, map, max, not, slice_index, arith}
+use Rattle.std.proofs.Common.{◌≡◌, refl, ap, ◌∙◌, subst, inl, inr, ◌⊎◌, ℕ, ◌+◌, ◌-◌, ◌*◌, ◌^◌, ◌<◌, ◌≤◌, List, fold, length, map, max, not, slice_index, true, arith}
 use Rattle.std.proofs.Math.Nat.{min-eq_left, mul-le-mul}
 use Rattle.std.proofs.lemmas.Bool.{cases_lt}
 use Rattle.std.proofs.lemmas.List.{get_or-map, get_or_past, length-map, length-take}
+use Rattle.dr_history.specs.Members.{has}
 use Rattle.dr_history.specs.Places.{front_of, is_held}
 use Rattle.dr_history.proofs.Fronts.{first_within}
 use Rattle.dr_history_laws.proofs.Members.{members_of-few}
 use Rattle.dr_machine.specs.Acts.{effect_of}
 use Rattle.dr_machine.specs.Effects.{one_more}
-use Rattle.dr_machine.specs.Group.{Group, IsPresent, roster}
+use Rattle.dr_machine.specs.Group.{Group, IsPresent}
 use Rattle.dr_machine.specs.World.{World}
 use Rattle.dr_machine.specs.Writes.{at₃}
 use Rattle.dr_program.specs.Form.{HasForm}
 use Rattle.dr_program.specs.Program.{Program, ok, step_of}
-use Rattle.dr_program.specs.Reading.{world}
+use Rattle.dr_program.specs.Reading.{table_of, world}
 use Rattle.dr_program.specs.Replica.{Replica, greatest, members_in_view}
 use Rattle.dr_program.specs.Running.{Running, step_at}
 use Rattle.dr_program.specs.Turn.{part_of, turn_begins}
@@ -21,7 +22,7 @@ use Rattle.dr_program.proofs.Holdings.{held_of}
 use Rattle.dr_program.proofs.OpeningForm.{greatest_within}
 use Rattle.dr_refine.proofs.Deeds.{replicas}
 use Rattle.dr_refine.proofs.Members.{own_shown}
-use Rattle.dr_turn.specs.Work.{ballots_left, commit_left, items_left, log_left, mark_left, places_left, refill, reports_left, sum_of, trust_left, views_left, work}
+use Rattle.dr_turn.specs.Work.{ballots_left, commit_left, items_left, letters_left, log_left, mark_left, places_left, refill, reports_left, sum_of, trust_left, views_left, work}
 use Rattle.dr_words.specs.declared.column.TheConstants.{BEAT_COLUMN, RECEIVED_COLUMN}
 use Rattle.dr_world_laws.proofs.Worlds.{Known, known}
 use Rattle.dr_turn_laws.proofs.Passing.{IsGoing, member}
@@ -73,7 +74,7 @@ places_few r form = omega (
 -- what is left of all acts
 few : (x acts items next log durable rest some room turns : ℕ)
     → acts + (x + (items + ((2 ^ 64 - next) + (log + ((2 ^ 64 - durable) + rest)))))
-    ≤ x + (some + 2 ^ 65 + 2 * room + 2 ^ 16 + 16 + 4) + turns
+    ≤ x + (some + 2 ^ 65 + 2 * room + 2 ^ 16 + 2 ^ 16 + 16 + 4) + turns
     → next ≤ 16 * 4096 → durable ≤ room → room < 2 ^ 32 → some ≤ 4096 * 16 → turns < 2 ^ 32
     → acts + 1 < 2 ^ 64
 few x acts items next log durable rest some room turns paid places known small messages early =
@@ -83,7 +84,7 @@ pub acts_few : (g : Group) (p : Program) (m : ℕ) (r : Running) → IsGoing g p
 unfolding work views_left sum_of places_left reports_left
 acts_few g p m r is =
     few (refill q * q.banks) q.acts (items_left q) q.next (log_left q) q.durable
-    (mark_left q + (trust_left q + (ballots_left q + (commit_left q + 0))))
+    (mark_left q + (trust_left q + (ballots_left q + (commit_left q + (letters_left q + 0)))))
     (greatest q.totals * q.roster) q.room
     q.turns (omega (
       arith,
@@ -114,13 +115,15 @@ acts_few g p m r is =
     here : IsPresent g m
     here = (is.steady.program.of m r is.there).present
 
+    first_members : has g.opening.members m ≡ true
+    first_members = ap (λ k. has k m) is.steady.nobody ∙ here
+
     next : r.replica.next ≤ 16 * 4096
     next = omega (
       arith,
-      y.chosen.faithful.delivered.held m m here
-          (y.chosen.faithful.views.present m here),
-      ap (λ h. h.next) (held_of g (replicas p.members) p.table m q (member g p m r is).there),
-      own_shown g (replicas p.members) p.table m q RECEIVED_COLUMN (member g p m r is).there,
+      y.chosen.faithful.delivered.held m m (y.chosen.faithful.views.present m first_members),
+      ap (λ h. h.next) (held_of g (replicas p.members) (table_of p) m q (member g p m r is).there),
+      own_shown g (replicas p.members) (table_of p) m q RECEIVED_COLUMN (member g p m r is).there,
       form.received,
       places_few q form,
     )
@@ -128,10 +131,9 @@ acts_few g p m r is =
     durable : r.replica.durable ≤ r.replica.room
     durable = omega (
       arith,
-      y.chosen.faithful.logs.safe m m here
-          (y.chosen.faithful.views.present m here),
-      ap (λ h. h.durable) (held_of g (replicas p.members) p.table m q (member g p m r is).there),
-      ap (λ h. length h.log) (held_of g (replicas p.members) p.table m q (member g p m r is).there),
+      (y.chosen.faithful.logs.safe m here).own,
+      ap (λ h. h.durable) (held_of g (replicas p.members) (table_of p) m q (member g p m r is).there),
+      ap (λ h. length h.log) (held_of g (replicas p.members) (table_of p) m q (member g p m r is).there),
       length-take q.logged q.history,
       form.room,
     )
@@ -157,7 +159,7 @@ beat_rises g p m r is begins = subst (λ v. w.past.own m v BEAT_COLUMN < u.past.
       one_stamp (w.past.acts m) (omega (
         arith,
         acts_few g p m r is,
-        ap (λ h. h.acts) (held_of g (replicas p.members) p.table m r.replica (member g p m r is).there),
+        ap (λ h. h.acts) (held_of g (replicas p.members) (table_of p) m r.replica (member g p m r is).there),
       )),
     ))
   where

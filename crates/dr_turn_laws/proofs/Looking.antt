@@ -16,12 +16,13 @@ use Rattle.dr_program.specs.declared.place.Place.{Place}
 use Rattle.dr_program.specs.declared.place.TheConstants.{TURN}
 use Rattle.dr_program.specs.Form.{IsOf, IsRunningMember}
 use Rattle.dr_program.specs.Program.{Program, next_sight, ok, step_of}
-use Rattle.dr_program.specs.Reading.{world}
+use Rattle.dr_program.specs.Reading.{table_of, world}
 use Rattle.dr_program.specs.Running as running
 use Rattle.dr_program.specs.Running.{Running, applies, goes, members, next_step, settled, step_at, took, waits_after}
 use Rattle.dr_program.specs.Steps.{stepped}
 use Rattle.dr_program.specs.Turn.{IsIn, after, columns_in, is_beat, part_of, rows_in}
 use Rattle.dr_refine.proofs.Deeds.{program_member, replicas}
+use Rattle.dr_refine.specs.Programs.{IsNoJoin}
 use Rattle.dr_refine.proofs.Guards.{seen_is}
 use Rattle.dr_rows.specs.Words.{Words, looked, seen}
 use Rattle.dr_program.specs.Replica.{Replica}
@@ -29,7 +30,7 @@ use Rattle.dr_program.proofs.Fixed.{of_told, step_told}
 use Rattle.dr_suspect.specs.Waits.{Waits, beat_of, compared, next_count, turns_without_news}
 use Rattle.dr_turn.specs.Search.{Passed, here, on}
 use Rattle.dr_turn.proofs.Deeds.{deed_done}
-use Rattle.dr_turn.proofs.Order.{after_in}
+use Rattle.dr_turn.proofs.Order.{after_in, is_take, take_first}
 use Rattle.dr_turn.proofs.Search.{applies_at, settle_only}
 use Rattle.dr_turn.proofs.Staying.{settled_end}
 use Rattle.dr_turn.proofs.Tasks.{ends_view}
@@ -41,7 +42,7 @@ use Rattle.dr_turn.proofs.Parts.{numbered}
 use Rattle.dr_program_laws.proofs.Keeping.{next_form}
 use Rattle.dr_turn_laws.proofs.Passing.{IsGoing, among, in_view, unasked}
 use Rattle.dr_program_laws.proofs.Patience.{after_less, comes, compared_other, goes_less, is_look, is_looks, last_begins, looks_first, none_comes, passed_amid, plain_looks, settled_passed, waits_stay}
-use Rattle.dr_turn_laws.proofs.Steadying.{moved_member, steady_moves, stepped_on, stepped_replica, world_on}
+use Rattle.dr_turn_laws.proofs.Steadying.{moved_member, steady_moves, stepped_on, stepped_replica, takes_none, world_on}
 use Rattle.dr_program_laws.proofs.Trusting.{never_ends}
 use Rattle.dr_turn_laws.proofs.Working.{next_grown}
 
@@ -66,6 +67,11 @@ next_none : (p : Place) (i : ℕ) → part_of p ≡ parts.Look
     ≡ 0
 next_none p i at = by (cases_lt (p.part + 1) (length TURN))
   where
+    no_looks : (b : Bool) → is_looks (numbered (p.part + 1)) ≡ b → p.part + 1 < length TURN
+        → is_looks (numbered (p.part + 1)) ≡ false
+    no_looks true e l = absurd (cc (sym (looks_first p.part l e) ∙ at))
+    no_looks false e l = e
+
     by : (p.part + 1 < length TURN) ⊎ (length TURN ≤ p.part + 1)
         → comes (record {
           part = if nat_lt (p.part + 1)
@@ -76,7 +82,7 @@ next_none p i at = by (cases_lt (p.part + 1) (length TURN))
         i ≡ 0
     by (inl l) =
         let within : nat_lt (p.part + 1) (length TURN) ≡ true = grind (arith, l) in
-        rw within (none_comes (numbered (p.part + 1)) 0 i (looks_first p.part l))
+        rw within (none_comes (numbered (p.part + 1)) 0 i (no_looks (is_looks (numbered (p.part + 1))) refl l))
     by (inr l) = absurd (cc (last_begins p.part l, ap is_beat at))
 
 -- behind the last column of a row come those of the next one, if there is one
@@ -152,6 +158,25 @@ rows_after n k p i at low other within = by (p.column + 1 == k) refl
     by true e = last_after n k p i at e ∙ rows_stay p.row n i other within ∙ sym (here_comes p i at)
     by false e = wide_after n k p i at low e
 
+-- and all rows are to come from the first place of a turn on, and from the first look
+pub at_first : (i : ℕ) → to_come parts.Look 0 i ≡ 1
+at_first i = grind arith
+
+take_after : (n k : ℕ) (p : Place) (i : ℕ) → IsIn n k p → part_of p ≡ parts.Take
+    → comes (after n k p) i ≡ comes p i
+take_after n k p i is at = ap (λ q. comes (after n k q) i) first ∙ at_first i
+    ∙ sym (ap (λ part. to_come part p.row i) at)
+  where
+    zero : (x : ℕ) → x < 1 → x ≡ 0
+    zero x l = omega (arith, l)
+
+    first : p ≡ record { part = 0; row = 0; column = 0 }
+    first = λ z. record {
+      part = take_first p.part is.part (ap is_take at) z;
+      row = zero p.row (subst (λ part. p.row < rows_in n part) at is.row) z;
+      column = zero p.column (subst (λ part. p.column < columns_in k part) at is.column) z;
+    }
+
 -- ---- the search
 
 -- it passes no look at another member's row
@@ -176,6 +201,7 @@ passes_none g q m z a i is inside fails within other = by (part_of a) refl
 
     by : (part : Part) → part_of a ≡ part → comes (after (roster g) (columns g) a) i ≡ comes a i
     by parts.Look at = looks at (cases_eq a.row m)
+    by parts.Take at = take_after (roster g) (columns g) a i inside at
     by part at = omega (
       arith,
       after_less (roster g) (columns g) a i (passed_amid z a fails),
@@ -318,9 +344,9 @@ look_behind g p m r old is at was = by (r.place.column + 1 == running.columns r)
         (next_sight p.table r)) r.place.row BEAT_COLUMN
     seen_here other =
         let steady = steady_moves g p (ok m) is.steady in
-        seen_is g (replicas (step_of p (ok m)).members) (step_of p (ok m)).table m (stepped_on p r).replica j
+        seen_is g (replicas (step_of p (ok m)).members) (table_of (step_of p (ok m))) m (stepped_on p r).replica j
         BEAT_COLUMN (program_member g (step_of p (ok m)) m (stepped_on p r) steady.group steady.program
-        (moved_member p m r is.there is.unended)) other
+        (moved_member g p m r is.steady is.there is.unended)) other
         ∙ ap (λ (q : Replica). seen q.rows j BEAT_COLUMN) (stepped_replica p r
         ∙ ap (stepped word r.replica) step)
 
@@ -414,6 +440,8 @@ deed_behind g p m r old is amid was = by (part_of r.place) refl
   where
     by : (part : Part) → part_of r.place ≡ part → Behind g p m old r
     by parts.Look at = look_behind g p m r old is at was
+    by parts.Take at = absurd (subst IsNoJoin
+        (ap (λ part. step_at r part r.place.row r.place.column) at) (takes_none g p m r is.steady is.there is.unended))
     by part at = plain_behind g p m r old is amid (ap is_looks at) was
 
 -- and the search behind it
@@ -465,6 +493,6 @@ settled_behind g p m r old is ease was = by (stepped_on p r).replica.end refl
             (stepped_on p r).place i (record {
               steady = steady_moves g p (ok m) is.steady;
               ease = ease;
-              there = moved_member p m r is.there is.unended;
+              there = moved_member g p m r is.steady is.there is.unended;
               unended = e;
             }) inside (settled_passed (took word r (next_step r))) l d

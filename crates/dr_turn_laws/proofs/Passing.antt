@@ -6,21 +6,22 @@ use Rattle.std.proofs.lemmas.Bool.Decides.{nat_tests}
 use Rattle.dr_faithful.specs.Chosen.{views_by}
 use Rattle.dr_history.specs.Members.{has}
 use Rattle.dr_machine.specs.declared.step.Step.{Step}
+use Rattle.dr_machine.specs.declared.step.Step.TheVariants as steps
 use Rattle.dr_machine.specs.Group.{Group, columns, roster}
-use Rattle.dr_machine.specs.World.{own_word}
+use Rattle.dr_machine.specs.World.{World, own_word}
 use Rattle.dr_program.specs.declared.outcome.LogWhy.{LogWhy}
 use Rattle.dr_program.specs.declared.place.Part.{Part}
 use Rattle.dr_program.specs.declared.place.Part.TheVariants as parts
 use Rattle.dr_program.specs.declared.place.Place.{Place}
 use Rattle.dr_program.specs.Program.{Program}
-use Rattle.dr_program.specs.Reading.{world}
+use Rattle.dr_program.specs.Reading.{table_of, world}
 use Rattle.dr_program.specs.Replica.{is_other}
 use Rattle.dr_program.specs.Running as running
 use Rattle.dr_program.specs.Running.{Running, append_or_end, applies, crashes_now, members, push_or_crash, step_at}
 use Rattle.dr_program.specs.Steps.{allows, is_free}
 use Rattle.dr_program.specs.Turn.{after, columns_in, part_of, rows_in}
 use Rattle.dr_program.proofs.Holdings.{held_of}
-use Rattle.dr_refine.specs.Programs.{IsMember}
+use Rattle.dr_refine.specs.Programs.{IsMember, IsNoJoin}
 use Rattle.dr_refine.proofs.Deeds.{program_member, replicas}
 use Rattle.dr_refine.proofs.Guards as guards
 use Rattle.dr_refine.proofs.Members.{own_shown}
@@ -38,6 +39,7 @@ use Rattle.dr_program_laws.specs.Trusting.{AreAtEase}
 use Rattle.dr_turn_laws.specs.Wants.{Wants}
 use Rattle.dr_turn_laws.proofs.Acts.{asked, uncrashed}
 use Rattle.dr_turn_laws.proofs.Before.{before_after}
+use Rattle.dr_turn_laws.proofs.Steadying.{is_in}
 use Rattle.dr_program_laws.proofs.Trusting.{IsAmong, nobody_suspects, stay_first, votes_nothing}
 use Rattle.dr_machine.proofs.Presence.{is_present}
 use Rattle.dr_program.specs.Presence.{present_at}
@@ -50,7 +52,7 @@ pub record IsGoing (g : Group) (p : Program) (m : ℕ) (r : Running) : Type 0 wh
   pub unended : r.replica.end ≡ None
 
 pub member : (g : Group) (p : Program) (m : ℕ) (r : Running) → IsGoing g p m r
-    → IsMember g (replicas p.members) p.table m r.replica
+    → IsMember g (replicas p.members) (table_of p) m r.replica
 member g p m r is = program_member g p m r is.steady.group is.steady.program is.there
 
 -- it is among members that suspect nobody
@@ -72,22 +74,28 @@ in_view g p m r i is within =
     ap (λ x. has x i) (told.views.own m)
     ∙ ap (λ v. has (views_by g y.values v) i)
     (stay_first g p m is.ease ∙ sym (stay_first g p i is.ease))
-    ∙ told.views.present i (is_present g i is.steady.whole within)
+    ∙ told.views.present i (ap (λ k. has k i) is.steady.nobody ∙ is_present g i is.steady.whole within)
 
 -- ---- tests
+
+-- what is asked for is no join
+asks_none : (g : Group) (w : World) (m : ℕ) (s : Step) → Wants g w m s → IsNoJoin s
+asks_none g w m steps.Join wants = absurd wants
+asks_none g w m s wants = tt
 
 -- what is asked for passes its test
 allowed : (g : Group) (p : Program) (m : ℕ) (r : Running) (s : Step) → IsGoing g p m r
     → Wants g (world g p) m s → allows r.replica s ≡ true
 allowed g p m r s is wants =
     let can = asked g (world g p) m s
-    (guards.may_choose g (replicas p.members) p.table m r.replica (member g p m r is)
-    (is.unended, (votes_nothing g p m r (among g p m r is)).0))
+    (guards.may_choose g (replicas p.members) (table_of p) m r.replica (member g p m r is)
+    (is.unended, (votes_nothing g p m r (among g p m r is)).0, is_in g p m r is.steady is.there))
     (nobody_suspects g p m is.ease) wants in
     (and_parts (is_free r.replica s) (allows r.replica s)
-    ((step_guard g (replicas p.members) p.table m r.replica s (member g p m r is) is.unended).1 (
+    ((step_guard g (replicas p.members) (table_of p) m r.replica s (member g p m r is) is.unended
+    (asks_none g (world g p) m s wants)).1 (
       can,
-      has_room g (replicas p.members) p.table m r.replica s (member g p m r is)
+      has_room g (replicas p.members) (table_of p) m r.replica s (member g p m r is)
           (is.steady.rooms m r is.there) is.steady.reached can,
     ))).1
 
@@ -104,10 +112,10 @@ unchanged_stands : (g : Group) (p : Program) (m : ℕ) (r : Running) (j c : ℕ)
     → (world g p).table ((world g p).past.view m) j m c ≡ own_word (world g p) m c
 unchanged_stands g p m r j c is within other low same =
     ap (λ v. (world g p).table v j m c)
-    (ap (λ h. h.view) (held_of g (replicas p.members) p.table m r.replica (member g p m r is).there))
+    (ap (λ h. h.view) (held_of g (replicas p.members) (table_of p) m r.replica (member g p m r is).there))
     ∙ sym (is.steady.pushes m r is.there j c within other low)
     ∙ sym (equal (own r.replica.rows c) (last_pushed r.replica.rows j c) same)
-    ∙ sym (own_shown g (replicas p.members) p.table m r.replica c (member g p m r is).there)
+    ∙ sym (own_shown g (replicas p.members) (table_of p) m r.replica c (member g p m r is).there)
   where
     equal : (a b : ℕ) → not (a == b) ≡ false → a ≡ b
     equal a b e = grind (arith, nat_tests, e)
@@ -124,7 +132,7 @@ unpushed : (g : Group) (p : Program) (m : ℕ) (r : Running) (j c : ℕ) → IsG
     → changed r.replica.rows j c ≡ false
 unpushed g p m r j c is within other low fails =
     passed_push (is_other r.replica j) (changed r.replica.rows j c) _ fails
-    ((guards.other_member g (replicas p.members) p.table m r.replica j (member g p m r is)).1
+    ((guards.other_member g (replicas p.members) (table_of p) m r.replica j (member g p m r is)).1
     (record { member = in_view g p m r j is within; other = other }))
     (may (crashes_now r))
   where

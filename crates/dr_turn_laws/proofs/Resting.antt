@@ -43,7 +43,7 @@ knows_logs g w m p (Some end) known = absurd known
 
 -- the part is not one of the last ends, or stands at its number from the end
 abbrev is_at : ℕ → Part → Bool
-is_at i parts.Done = i == length TURN - 4
+is_at i parts.Done = i == length TURN - 5
 is_at i parts.Spent = i == length TURN - 2
 is_at i part = true
 
@@ -59,17 +59,17 @@ rested_behind : (g : Group) (w : World) (m : ℕ) (p : Place) → IsPastPushes g
     → (w.end m ≡ Some ends.Done) ↔ SeesAllDone w m → IsRested g w m
 rested_behind g w m p behind done = record {
   idle = idle_work g w m p behind;
-  seen = λ i c within other low. idle_part g w m p 0 i c behind (omega arith) within low other;
+  seen = λ i c within other low. idle_part g w m p 1 i c behind (omega arith) within low other;
   pushed = λ j c within other low.
-      idle_part g w m p (length TURN - 6) j c behind (omega arith) within low other;
+      idle_part g w m p (length TURN - 7) j c behind (omega arith) within low other;
   done = done;
 }
 
 -- where the end as done was asked for and not taken, not all are done
-undone : (g : Group) (w : World) (m : ℕ) (p : Place) → Swept g w m p → length TURN - 4 < p.part
+undone : (g : Group) (w : World) (m : ℕ) (p : Place) → Swept g w m p → length TURN - 5 < p.part
     → SeesAllDone w m → ⊥
 undone g w m p swept late all =
-    swept (record { part = length TURN - 4; row = 0; column = 0 })
+    swept (record { part = length TURN - 5; row = 0; column = 0 })
     (record { part = omega arith; row = omega arith; column = omega arith }) (inl late) all
 
 -- ---- the end of a turn
@@ -85,12 +85,12 @@ rests g w m p None e inside between view swept =
     (λ done. absurd (cc (e, done)), λ all. absurd (undone g w m p swept (omega (arith, last)) all)))
 rests g w m p (Some ends.Done) e inside between view known =
     let at = stands_at p.part parts.Done inside known.1 in
-    let late : length TURN - 5 < p.part = grind (arith, nat_tests, at) in
+    let late : length TURN - 6 < p.part = grind (arith, nat_tests, at) in
     inr (rested_behind g w m p (record { swept = known.0; late = late; view = view })
     (λ done. known.2, λ all. e))
 rests g w m p (Some (ends.Spent n)) e inside between view known =
     let at = stands_at p.part parts.Spent inside known.1 in
-    let late : length TURN - 4 < p.part = grind (arith, nat_tests, at) in
+    let late : length TURN - 5 < p.part = grind (arith, nat_tests, at) in
     inr (rested_behind g w m p (record { swept = known.0; late = omega (arith, late); view = view })
     (λ done. absurd (cc (e, done)), λ all. absurd (undone g w m p known.0 late all)))
 rests g w m p (Some ends.Crashed) e inside between view known = inl e

@@ -7,33 +7,37 @@ use Rattle.std.proofs.lemmas.Option.{same_Some}
 use Rattle.dr_entry.specs.declared.end.End.{End}
 use Rattle.dr_machine.specs.declared.event.Act.{Act}
 use Rattle.dr_machine.specs.declared.step.Step.{Step}
-use Rattle.dr_machine.specs.declared.step.Step.TheVariants.{Do}
+use Rattle.dr_history.specs.Members.{has}
+use Rattle.dr_history.specs.Order.{IsLateIn}
+use Rattle.dr_history.specs.Soundness.{IsNobodyLate}
+use Rattle.dr_machine.proofs.Presence.{late_in}
+use Rattle.dr_machine.specs.declared.step.Step.TheVariants.{Do, Join}
 use Rattle.dr_machine.specs.Acts.{CanTake, does, effect_of}
 use Rattle.dr_machine.specs.Effects.{one_more, pushes}
-use Rattle.dr_machine.specs.Group.{AllPresent, Group, IsGroup, banks, columns, roster}
+use Rattle.dr_machine.specs.Group.{AllPresent, Group, IsGroup, banks, columns, late_members, roster}
 use Rattle.dr_machine.specs.World.{World, own_word}
 use Rattle.dr_machine.specs.Writes.{at₄}
 use Rattle.dr_program.specs.declared.outcome.LogWhy.{LogWhy}
 use Rattle.dr_program.specs.declared.outcome.Outcome.TheVariants as outcomes
 use Rattle.dr_program.specs.declared.setup.Setup.{Setup}
 use Rattle.dr_program.specs.Acts.{taken}
-use Rattle.dr_program.specs.Program.{AreSetups, IsSetup, Move, Program, after_deed, begun_program, comes_to, moved_by, next_sight, ok, step_of}
-use Rattle.dr_program.specs.Reading.{step_by, step_due, world}
-use Rattle.dr_program.specs.Replica.{Replica, first_entries_of, greatest, pushed}
+use Rattle.dr_program.specs.Program.{AreSetups, IsSetup, Move, Program, after_deed, begun_program, comes_to, letter_for, moved_by, next_sight, ok, step_of}
+use Rattle.dr_program.specs.Reading.{step_by, step_due, table_of, world}
+use Rattle.dr_program.specs.Replica.{Replica, first_entries_of, greatest, is_inside, me, pushed}
 use Rattle.dr_program.specs.Running.{Running, after_step, begun_running, broken_off, crashes_now, judged, next_step, step_at, took}
 use Rattle.dr_program.specs.Turn.{is_beat, part_of}
 use Rattle.dr_program.specs.declared.place.Part.{Part}
 use Rattle.dr_program.specs.declared.place.Part.TheVariants as parts
-use Rattle.dr_program.specs.Steps.{IsAppend, stepped, stored}
+use Rattle.dr_program.specs.Steps.{IsAppend, allows, stepped, stored, stored_letters}
 use Rattle.dr_program.proofs.Fixed.{Told, step_told}
 use Rattle.dr_program.proofs.Holdings.{held_of}
 use Rattle.dr_program.proofs.Opening.{begins_at_the_opening, first_rows}
 use Rattle.dr_program.proofs.Runs.{after_either, after_ok}
 use Rattle.dr_program.proofs.StepsAt.{append_either, push_either, vote_either}
 use Rattle.dr_program_laws.proofs.Keeping.{begun_reached, move_kept}
-use Rattle.dr_refine.proofs.Deeds.{deed_step, no_step_no_change, program_member, replicas, rest_changes_nothing, settle_replica, step_is}
+use Rattle.dr_refine.proofs.Deeds.{deed_step, due_allowed, no_step_no_change, program_member, replicas, rest_changes_nothing, settle_replica, step_is}
 use Rattle.dr_machine.specs.Run.{IsReached}
-use Rattle.dr_refine.specs.Programs.{IsProgram}
+use Rattle.dr_refine.specs.Programs.{IsNoJoin, IsProgram}
 use Rattle.dr_refine.proofs.Members.{own_shown}
 use Rattle.dr_refine.proofs.Steps.{begun_is_program}
 use Rattle.dr_rows.specs.Words.{IsWords, begun, last_pushed, own, with_word, word_at}
@@ -53,38 +57,79 @@ use Rattle.dr_program_laws.proofs.Programs.{replaced_either}
 use Rattle.dr_program.specs.Presence.{present_at, with_present}
 use Rattle.dr_program.proofs.Present.{present_within, present_set, present_kept, present_map}
 
+-- ---- nobody is late
+
+-- so each member of the program is in its view
+pub is_in : (g : Group) (p : Program) (m : ℕ) (r : Running) → IsSteady g p → present_at p.members m ≡ Some r
+    → is_inside r.replica ≡ true
+is_in g p m r is there = by (is_inside r.replica) refl
+  where
+    late : is_inside r.replica ≡ false → has (late_members g) m ≡ true
+    late outside = ap (has (late_members g)) (sym (is.program.of m r there).number)
+        ∙ ap (λ mask. has mask (me r.replica)) (sym (is.program.of m r there).late)
+        ∙ ((is.program.form m r there).replica.outside outside).late
+
+    none : IsLateIn g.opening m → ⊥
+    none late = absurd (cc (ap (λ k. has k m) is.nobody, late.0, late.1))
+
+    by : (b : Bool) → is_inside r.replica ≡ b → is_inside r.replica ≡ true
+    by true inside = inside
+    by false outside = absurd (none (late_in g m is.group (late outside)))
+
+-- and whoever is doesn't join
+no_join : (r : Replica) (s : Step) → is_inside r ≡ true → allows r s ≡ true → IsNoJoin s
+no_join r Join inside may = absurd (cc (ap not inside, may))
+no_join r s inside may = tt
+
+pub takes_none : (g : Group) (p : Program) (m : ℕ) (r : Running) → IsSteady g p
+    → present_at p.members m ≡ Some r → r.replica.end ≡ None → IsNoJoin (next_step r)
+takes_none g p m r is there unended = no_join r.replica (next_step r) (is_in g p m r is there)
+    (due_allowed r ((is.program.form m r there).due unended))
+
 -- ---- a move
 
 -- a member after its next step
 abbrev pub stepped_on : Program → Running → Running
 stepped_on p r = after_step (next_sight p.table r) r
 
+takes_step : (g : Group) (p : Program) (m : ℕ) (r : Running) → IsSteady g p → present_at p.members m ≡ Some r
+    → r.replica.end ≡ None
+    → after_deed (next_sight p.table r) (letter_for p m) outcomes.Ok r (next_step r) ≡ stepped_on p r
+takes_step g p m r is there unended = elim (after_ok p.table (letter_for p m) r (next_step r)) [
+  | inl same ↦ same
+  | inr take ↦ absurd (subst IsNoJoin take.0 (takes_none g p m r is there unended))
+]
+
 -- a move of a member without an end
-move_made : (p : Program) (m : ℕ) (r : Running) → present_at p.members m ≡ Some r
+move_made : (g : Group) (p : Program) (m : ℕ) (r : Running) → IsSteady g p → present_at p.members m ≡ Some r
     → r.replica.end ≡ None
     → step_of p (ok m) ≡ record {
       members = with_present p.members m (stepped_on p r);
       table = stored p.table r.replica (next_step r);
+      letters = stored_letters p.letters r.replica (next_step r);
     }
-move_made p m r there unended =
+move_made g p m r is there unended =
     step_is p (ok m) r there unended
-    ∙ ap (λ x. record
-    { members = with_present p.members m x; table = stored p.table r.replica (next_step r) })
-    (after_ok p.table r (next_step r))
+    ∙ ap (λ x. record {
+      members = with_present p.members m x;
+      table = stored p.table r.replica (next_step r);
+      letters = stored_letters p.letters r.replica (next_step r);
+    }) (takes_step g p m r is there unended)
 
 -- leads it on
-pub moved_member : (p : Program) (m : ℕ) (r : Running) → present_at p.members m ≡ Some r
+pub moved_member : (g : Group) (p : Program) (m : ℕ) (r : Running) → IsSteady g p
+    → present_at p.members m ≡ Some r
     → r.replica.end ≡ None → present_at (step_of p (ok m)).members m ≡ Some (stepped_on p r)
-moved_member p m r there unended =
-    ap (λ (x : Program). present_at x.members m) (move_made p m r there unended)
+moved_member g p m r is there unended =
+    ap (λ (x : Program). present_at x.members m) (move_made g p m r is there unended)
     ∙ present_set p.members m (stepped_on p r) (present_within p.members m r there)
 
 -- and leaves the others
-pub other_member : (p : Program) (m : ℕ) (r : Running) (i : ℕ) → present_at p.members m ≡ Some r
-    → r.replica.end ≡ None → i ≢ m
+pub other_member : (g : Group) (p : Program) (m : ℕ) (r : Running) (i : ℕ) → IsSteady g p
+    → present_at p.members m ≡ Some r → r.replica.end ≡ None → i ≢ m
     → present_at (step_of p (ok m)).members i ≡ present_at p.members i
-other_member p m r i there unended other =
-    ap (λ (x : Program). present_at x.members i) (move_made p m r there unended)
+other_member g p m r i is there unended other =
+    ap (λ (x : Program). present_at x.members i) (move_made g p m r is there unended)
     ∙ present_kept p.members m i (stepped_on p r) other
 
 -- the search leaves the replica of the one that moved
@@ -225,10 +270,10 @@ shown_in g p m r is there =
       form = member.form.rows;
       rows = member.form.members ∙ member.of.members;
       wide = member.form.columns ∙ λ z. columns_of (member.of.members z) (member.of.window z);
-      view = ap (λ h. h.view) (held_of g (replicas p.members) p.table m r.replica member.there);
-      own = λ c. own_shown g (replicas p.members) p.table m r.replica c member.there;
+      view = ap (λ h. h.view) (held_of g (replicas p.members) (table_of p) m r.replica member.there);
+      own = λ c. own_shown g (replicas p.members) (table_of p) m r.replica c member.there;
       unwritten = λ j c. none_ahead g (world g p) m (r.replica.view + 1) j c is.group is.reached
-          (omega (arith, ap (λ h. h.view) (held_of g (replicas p.members) p.table m r.replica member.there)));
+          (omega (arith, ap (λ h. h.view) (held_of g (replicas p.members) (table_of p) m r.replica member.there)));
     }
 
 -- the world after the next step of a member
@@ -237,14 +282,15 @@ pub world_on : (g : Group) (p : Program) (m : ℕ) (r : Running) → IsSteady g 
     → CanTake g (world g p) m (next_step r)
     × (world g (step_of p (ok m)) ≡ effect_of g (world g p) m (next_step r))
 world_on g p m r is there unended =
-    deed_step g p m outcomes.Ok r is.group is.program there unended (after_ok p.table r (next_step r))
+    deed_step g p m outcomes.Ok r is.group is.program there unended (takes_none g p m r is there unended)
+    (takes_step g p m r is there unended)
 
 -- a member of the program after a move is the one that moved, or as it was
-moved_either : (p : Program) (m : ℕ) (r : Running) → present_at p.members m ≡ Some r
+moved_either : (g : Group) (p : Program) (m : ℕ) (r : Running) → IsSteady g p → present_at p.members m ≡ Some r
     → r.replica.end ≡ None → (i : ℕ) (y : Running) → present_at (step_of p (ok m)).members i ≡ Some y
     → ((i ≡ m) × (stepped_on p r ≡ y)) ⊎ ((i ≢ m) × (present_at p.members i ≡ Some y))
-moved_either p m r there unended i y at = replaced_either p.members m r (stepped_on p r) there i y
-    (sym (ap (λ (x : Program). present_at x.members i) (move_made p m r there unended)) ∙ at)
+moved_either g p m r is there unended i y at = replaced_either p.members m r (stepped_on p r) there i y
+    (sym (ap (λ (x : Program). present_at x.members i) (move_made g p m r is there unended)) ∙ at)
 
 -- only one part begins a turn
 plain_begins : (r : Running) (part : Part) (i c : ℕ) → is_beat part ≡ false
@@ -262,26 +308,27 @@ steady_on : (g : Group) (p : Program) (m : ℕ) (r : Running) → IsSteady g p
 steady_on g p m r is there unended = record {
   group = is.group;
   whole = is.whole;
+  nobody = is.nobody;
   program = (move_kept g p (ok m) is.group is.program is.reached).0;
   reached = (move_kept g p (ok m) is.group is.program is.reached).1;
-  limits = λ i y at. elim (moved_either p m r there unended i y at) [
+  limits = λ i y at. elim (moved_either g p m r is there unended i y at) [
     | inl here ↦ subst (λ (x : Running). x.limit < 2 ^ 32) here.1
         (omega (arith, stepped_limit p r, is.limits m r there))
     | inr there ↦ is.limits i y there.1
   ];
-  rooms = λ i y at. elim (moved_either p m r there unended i y at) [
+  rooms = λ i y at. elim (moved_either g p m r is there unended i y at) [
     | inl here ↦ subst (λ (x : Running). HasRooms g x.replica) here.1
         (subst (HasRooms g) (sym (stepped_replica p r))
         (rooms_told g (next_sight p.table r) r.replica (next_step r) (is.rooms m r there)))
     | inr there ↦ is.rooms i y there.1
   ];
-  works = λ i y at. elim (moved_either p m r there unended i y at) [
+  works = λ i y at. elim (moved_either g p m r is there unended i y at) [
     | inl here ↦ subst HasWorked here.1 (subst (λ (q : Replica). q.end ≡ None
         → q.acts + work q ≤ all_work q + q.turns) (sym (stepped_replica p r))
         (works_on g p m r is.group is.program is.reached there unended begins_early (is.works m r there)))
     | inr there ↦ is.works i y there.1
   ];
-  pushes = λ i y at. elim (moved_either p m r there unended i y at) [
+  pushes = λ i y at. elim (moved_either g p m r is there unended i y at) [
     | inl here ↦ rw here.0 (subst (λ (x : Running). ArePushed g after m x.replica) here.1
         (subst (ArePushed g after m) (sym (stepped_replica p r))
         (subst (λ v. ArePushed g v m
@@ -319,13 +366,15 @@ failed_made : (p : Program) (m : ℕ) (why : LogWhy) (r : Running) → present_a
     → step_of p (record { member = m; outcome = outcomes.Failed why }) ≡ record {
       members = with_present p.members m (broken_off why r);
       table = stored p.table r.replica (next_step r);
+      letters = stored_letters p.letters r.replica (next_step r);
     }
 failed_made p m why r there unended due =
     step_is p (record { member = m; outcome = outcomes.Failed why }) r there unended
     ∙ ap (λ x. record {
       members = with_present p.members m x;
       table = stored p.table r.replica (next_step r);
-    }) (fails (next_sight p.table r) why r (next_step r) due).0
+      letters = stored_letters p.letters r.replica (next_step r);
+    }) (fails (next_sight p.table r) (letter_for p m) why r (next_step r) due).0
 
 -- it leaves each member its replica and its limit
 failed_leaves : (p : Program) (m : ℕ) (why : LogWhy) (r : Running) → present_at p.members m ≡ Some r
@@ -348,10 +397,12 @@ steady_failed : (g : Group) (p : Program) (m : ℕ) (why : LogWhy) (r : Running)
     → IsSteady g (record {
       members = with_present p.members m (broken_off why r);
       table = stored p.table r.replica (next_step r);
+      letters = stored_letters p.letters r.replica (next_step r);
     })
 steady_failed g p m why r is there unended due = record {
   group = is.group;
   whole = is.whole;
+  nobody = is.nobody;
   program = subst (IsProgram g) made kept.0;
   reached = subst (λ q. IsReached g (world g q)) made kept.1;
   limits = λ i y at. let old = failed_leaves p m why r there i y at in
@@ -372,19 +423,21 @@ steady_failed g p m why r is there unended due = record {
     made : step_of p move ≡ record {
       members = with_present p.members m (broken_off why r);
       table = stored p.table r.replica (next_step r);
+      letters = stored_letters p.letters r.replica (next_step r);
     }
     made = failed_made p m why r there unended due
 
     kept : IsProgram g (step_of p move) × IsReached g (world g (step_of p move))
     kept = move_kept g p move is.group is.program is.reached
 
-    none : step_by r (outcomes.Failed why) ≡ None
-    none = ap (λ o. comes_to (step_due r o) (outcomes.Failed why)) unended
-        ∙ (fails 0 why r (next_step r) due).1
+    none : step_by (letter_for p m) r (outcomes.Failed why) ≡ None
+    none = ap (λ o. comes_to (letter_for p m) (step_due r o) (outcomes.Failed why)) unended
+        ∙ (fails 0 (letter_for p m) why r (next_step r) due).1
 
     same : world g (record {
       members = with_present p.members m (broken_off why r);
       table = stored p.table r.replica (next_step r);
+      letters = stored_letters p.letters r.replica (next_step r);
     }) ≡ world g p
     same = sym (ap (world g) made) ∙ no_step_no_change g p move r there none
 
@@ -398,10 +451,12 @@ steady_moves g p e is = by (present_at p.members e.member) refl
         (after_either (λ x. IsSteady g (record {
           members = with_present p.members e.member x;
           table = stored p.table r.replica (next_step r);
-        })) p.table e.outcome r (next_step r)
-        (subst (IsSteady g) (move_made p e.member r there unended)
+          letters = stored_letters p.letters r.replica (next_step r);
+        })) p.table (letter_for p e.member) e.outcome r (next_step r)
+        (subst (IsSteady g) (move_made g p e.member r is there unended)
         (steady_on g p e.member r is there unended))
-        (λ why due. steady_failed g p e.member why r is there unended due))
+        (λ why due. steady_failed g p e.member why r is there unended due)
+        (λ take. absurd (subst IsNoJoin take (takes_none g p e.member r is there unended))))
     at r there (Some x) ended = subst (IsSteady g)
         (sym (rest_changes_nothing p e r there (ap is_some ended))) is
 
@@ -434,11 +489,12 @@ begun_member g turns m s of = record {
 }
 
 -- a program begins steady
-pub steady_begins : (g : Group) (turns : ℕ) (setups : List (Option Setup)) → IsGroup g → 1 ≤ turns
-    → turns < 2 ^ 32 → AllPresent g → AreSetups g turns setups → IsSteady g (begun_program g setups)
-steady_begins g turns setups group some small whole are = record {
+pub steady_begins : (g : Group) (turns : ℕ) (setups : List (Option Setup)) → IsGroup g → IsNobodyLate g.opening
+    → 1 ≤ turns → turns < 2 ^ 32 → AllPresent g → AreSetups g turns setups → IsSteady g (begun_program g setups)
+steady_begins g turns setups group nobody some small whole are = record {
   group = group;
   whole = whole;
+  nobody = nobody;
   program = begun_is_program g turns setups group some are;
   reached = begun_reached g turns setups group are;
   limits = λ m r there. omega (arith, small, (begins m r there).limit);

@@ -31,7 +31,7 @@ use Rattle.dr_turn_laws.proofs.Acts.{asks, uncrashed}
 use Rattle.dr_turn_laws.proofs.Leaving.{end_sees}
 use Rattle.dr_turn_laws.proofs.Passing.{IsGoing, among, passes}
 use Rattle.dr_turn_laws.proofs.Resting.{Knows}
-use Rattle.dr_turn_laws.proofs.Steadying.{moved_member, steady_moves, stepped_on, stepped_replica, world_on}
+use Rattle.dr_turn_laws.proofs.Steadying.{is_in, moved_member, steady_moves, stepped_on, stepped_replica, world_on}
 use Rattle.dr_turn_laws.proofs.Sweeping.{swept_behind, world_behind}
 use Rattle.dr_program_laws.proofs.Patience.{settled_passed}
 use Rattle.dr_program_laws.proofs.Trusting.{move_eases, never_passed, nobody_suspects}
@@ -80,7 +80,8 @@ swept_on g p m r is plain =
     (swept_behind g (world g p) m r (record {
       place = place_of g p m r is.going;
       begun = is.begun;
-      unpassed = never_passed g p m r (among g p m r is.going) is.going.unended is.well;
+      unpassed = never_passed g p m r (among g p m r is.going)
+          (is_in g p m r is.going.steady is.going.there) is.going.unended is.well;
       published = ((faithful g (world g p) (known g (world g p) is.going.steady.group
           is.going.steady.reached)).words.own m ((world g p).past.view m) LOGGED_COLUMN).logged refl;
       can = subst (CanTake g (world g p) m) plain on.0;
@@ -109,7 +110,7 @@ onward g p m r part is at plain unended =
     (stepped_on p r).place (record {
       steady = steady_moves g p (ok m) is.going.steady;
       ease = ease_on g p m r is.going (λ beat. absurd (cc (beat, is.begun)));
-      there = moved_member p m r is.going.there is.going.unended;
+      there = moved_member g p m r is.going.steady is.going.there is.going.unended;
       unended = none;
     }) (settled_passed (took (next_sight p.table r) r (next_step r)))
     (swept_on g p m r is (subst (λ x. due r x ≡ uncrashed r x r.place.row r.place.column) (sym at) plain)))
@@ -178,13 +179,16 @@ knows_next g p m r is = by (part_of r.place) refl
     elsewhere part at passed = absurd (cc (
       passed,
       ap is_passed at,
-      never_passed g p m r (among g p m r is.going) is.going.unended is.well,
+      never_passed g p m r (among g p m r is.going) (is_in g p m r is.going.steady is.going.there)
+          is.going.unended is.well,
     ))
 
     by : (part : Part) → part_of r.place ≡ part → KnowsNext g p m r
+    by parts.Take at = elsewhere parts.Take at refl
     by parts.Judge at = elsewhere parts.Judge at refl
     by parts.Vote at = elsewhere parts.Vote at refl
     by parts.Excluded at = elsewhere parts.Excluded at refl
+    by parts.Give at = elsewhere parts.Give at refl
     by parts.Append at = onward g p m r parts.Append is at (ap append_or_end is.well)
         (ap (λ o. (stepped (next_sight p.table r) r.replica (append_or_end o)).end) is.well
         ∙ is.going.unended)

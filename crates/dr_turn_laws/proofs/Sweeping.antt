@@ -55,6 +55,7 @@ less_kept g w m r parts.Receive i c j d row column less = λ old wants.
     apart l same = absurd (omega (arith, l, same))
 less_kept g w m r parts.Push i c j d row column less = λ old other unended.
     pushed_less w.table (w.past.view m) m i c (own_word w m c) j d less ∙ old other unended
+less_kept g w m r parts.Give i c j d row column less = λ old. tt
 less_kept g w m r part i c j d row column less = absurd (one_place j d i c row column less)
 
 -- ---- what it does at its own place
@@ -186,6 +187,7 @@ swept_behind g w m r amid q is = by (part_of r.place) refl
     by parts.Look e before = onward (ap is_once e) before
     by parts.Append e before = onward (ap is_once e) before
     by parts.Push e before = onward (ap is_once e) before
+    by parts.Take e before = absurd (cc (ap is_passed e, amid.unpassed))
     by parts.Vote e before = absurd (cc (ap is_passed e, amid.unpassed))
     by (parts.Do a) e before = act a e before
     by part e before = stays part e refl before

@@ -22,7 +22,7 @@ use Rattle.dr_turn.proofs.Search.{beat_test}
 use Rattle.dr_words.specs.declared.column.TheConstants.{BEAT_COLUMN}
 use Rattle.dr_program.specs.Program.{AllOk, Move, Program, next_sight, ok, ran, step_of}
 use Rattle.dr_program.specs.Form.{IsRunningMember}
-use Rattle.dr_program.specs.Reading.{world}
+use Rattle.dr_program.specs.Reading.{table_of, world}
 use Rattle.dr_program.specs.Replica.{Replica}
 use Rattle.dr_program.specs.Steps.{stepped}
 use Rattle.dr_program.specs.Running as running
@@ -80,12 +80,12 @@ deed_rises g p m r is v c =
 -- what the world has of a member's turns and end
 turns_are : (g : Group) (p : Program) (m : ℕ) (r : Running) → IsSteady g p
     → present_at p.members m ≡ Some r → (world g p).turns m ≡ r.replica.turns
-turns_are g p m r is there = ap (λ h. h.turns) (held_of g (replicas p.members) p.table m r.replica
+turns_are g p m r is there = ap (λ h. h.turns) (held_of g (replicas p.members) (table_of p) m r.replica
     (program_member g p m r is.group is.program there).there)
 
 end_is : (g : Group) (p : Program) (m : ℕ) (r : Running) → IsSteady g p
     → present_at p.members m ≡ Some r → (world g p).end m ≡ r.replica.end
-end_is g p m r is there = ap (λ h. h.end) (held_of g (replicas p.members) p.table m r.replica
+end_is g p m r is there = ap (λ h. h.end) (held_of g (replicas p.members) (table_of p) m r.replica
     (program_member g p m r is.group is.program there).there)
 
 -- a move of m whose append goes well
@@ -145,9 +145,6 @@ begins g p m r is at q inside before =
     nothing a i c earlier = grind (arith, earlier)
 
 -- and all rows are to come
-at_first : (i : ℕ) → to_come parts.Look 0 i ≡ 1
-at_first i = grind arith
-
 begins_looking : (g : Group) (p : Program) (m : ℕ) (r : Running) → IsGoing g p m r
     → part_of r.place ≡ turn_begins
     → HasLooked g (world g (step_of p (ok m))) m r.waits (took (next_sight p.table r) r (next_step r))
@@ -158,7 +155,7 @@ begins_looking g p m r is at = record {
 }
   where
     one : (i : ℕ) → comes (record { part = 0; row = 0; column = 0 }) i ≡ 1
-    one i = at_first i
+    one i = refl
 
     waits : (took (next_sight p.table r) r (next_step r)).waits ≡ r.waits
     waits = ap (λ part. waits_after (next_sight p.table r) r (step_at r part r.place.row r.place.column)) at
@@ -181,7 +178,7 @@ first_deed g p m r is well waits begins_at = record {
         unended = none;
       })
       (settled_passed (took (next_sight p.table r) r (next_step r))) (begins g p m r is begins_at));
-  others = λ i other. other_member p m r i is.there is.unended other;
+  others = λ i other. other_member g p m r i is.steady is.there is.unended other;
   turns = ap (λ (u : World). u.turns m) on.1
       ∙ ap (λ x. (effect_of g (world g p) m (step_at r x r.place.row r.place.column)).turns m) begins_at
       ∙ at_here (world g p).turns m (one_more 32 ((world g p).turns m))
@@ -202,7 +199,7 @@ first_deed g p m r is well waits begins_at = record {
     steady = steady_moves g p (ok m) is.steady
 
     there : present_at (step_of p (ok m)).members m ≡ Some (stepped_on p r)
-    there = moved_member p m r is.there is.unended
+    there = moved_member g p m r is.steady is.there is.unended
 
     on : CanTake g (world g p) m (next_step r)
         × (world g (step_of p (ok m)) ≡ effect_of g (world g p) m (next_step r))
@@ -232,7 +229,7 @@ next_deed g p m u gone between = record {
   steady = steady_moves g u (ok m) gone.steady;
   ease = ease_on g u m r is (λ beat. absurd (cc (beat, amid.1)));
   member = stepped_on u r;
-  there = moved_member u m r gone.there amid.0;
+  there = moved_member g u m r gone.steady gone.there amid.0;
   well = stepped_failed u r ∙ gone.well;
   knows = knows_next g u m r (record {
     going = is;
@@ -240,7 +237,7 @@ next_deed g p m u gone between = record {
     well = gone.well;
     swept = subst (Knows g (world g u) m r.place) amid.0 gone.knows;
   });
-  others = λ i other. other_member u m r i gone.there amid.0 other ∙ gone.others i other;
+  others = λ i other. other_member g u m r i gone.steady gone.there amid.0 other ∙ gone.others i other;
   turns = ap (λ (v : World). v.turns m) (world_on g u m r gone.steady gone.there amid.0).1
       ∙ turns_on g (world g u) m r (part_of r.place) r.place.row r.place.column amid.1 ∙ gone.turns;
   rises = λ v c. le_trans (gone.rises v c) (deed_rises g u m r is v c);

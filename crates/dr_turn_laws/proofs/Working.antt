@@ -19,9 +19,7 @@ use Rattle.dr_refine.specs.Programs.{IsProgram}
 use Rattle.dr_refine.proofs.Deeds.{due_allowed}
 use Rattle.dr_form.proofs.Steps.{stepped_grown}
 use Rattle.dr_rows.specs.Words.{seen}
-use Rattle.dr_turn.specs.Work.{ballots_left, commit_left, items_left, log_left, mark_left, places_left, refill, reports_left, sum_of, trust_left, views_left, work}
-use Rattle.dr_turn.proofs.Deeds.{one_turn}
-use Rattle.dr_turn.proofs.Parts.{lowers}
+use Rattle.dr_turn.specs.Work.{ballots_left, commit_left, items_left, letters_left, log_left, mark_left, places_left, refill, reports_left, sum_of, trust_left, views_left, work}
 use Rattle.dr_words.specs.Grown.{HasGrown}
 use Rattle.dr_turn_laws.specs.Steady.{HasWorked, all_work}
 use Rattle.dr_program_laws.proofs.Keeping.{next_form}
@@ -49,8 +47,8 @@ next_grown g p m r group is run there unended =
 all_same : (word : ℕ) (r : Replica) (s : Step) → all_work (stepped word r s) ≡ all_work r
 unfolding refill
 all_same word r s = ap (λ (t : Told).
-    (greatest t.totals * t.roster + 2 ^ 64 + 2 ^ MAX_MEMBERS + MAX_MEMBERS + 4) * t.banks
-    + (greatest t.totals * t.roster + 2 ^ 65 + 2 * t.room + 2 ^ MAX_MEMBERS + MAX_MEMBERS + 4))
+    (greatest t.totals * t.roster + 2 ^ 64 + 2 ^ MAX_MEMBERS + 2 ^ MAX_MEMBERS + MAX_MEMBERS + 4) * t.banks
+    + (greatest t.totals * t.roster + 2 ^ 65 + 2 * t.room + 2 ^ MAX_MEMBERS + 2 ^ MAX_MEMBERS + MAX_MEMBERS + 4))
     (step_told word r s)
 
 -- so it is with each next step of a member
@@ -77,7 +75,7 @@ items_begin most n =
 pub works_begin : (s : Setup) → HasWorked (begun_running s)
 unfolding work views_left sum_of items_left places_left log_left reports_left mark_left trust_left
     ballots_left
-    commit_left
+    commit_left letters_left
 works_begin s none = omega (
   arith,
   ap (λ b. refill (begun_replica s) * b) all,

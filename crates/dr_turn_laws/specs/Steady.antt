@@ -1,6 +1,7 @@
 -- Programs whose members' words stand in the table as they were pushed.
 use Rattle.std.specs.Prelude.{◌≡◌, ◌≢◌, ℕ, ◌+◌, ◌*◌, ◌^◌, ◌<◌, ◌≤◌, length, None, Some}
 use Rattle.dr_entry.specs.declared.limits.TheConstants.{MAX_MEMBERS}
+use Rattle.dr_history.specs.Soundness.{IsNobodyLate}
 use Rattle.dr_machine.specs.Group.{AllPresent, Group, IsGroup, banks, columns, roster}
 use Rattle.dr_machine.specs.Run.{IsReached}
 use Rattle.dr_program.specs.Program.{Program}
@@ -20,18 +21,20 @@ HasRooms g r = length g.opening.start + banks g + greatest r.totals * roster g <
 abbrev pub all_work : Replica → ℕ
 all_work r =
     refill r * r.banks
-    + (greatest r.totals * r.roster + 2 ^ 65 + 2 * r.room + 2 ^ MAX_MEMBERS + MAX_MEMBERS + 4)
+    + (greatest r.totals * r.roster + 2 ^ 65 + 2 * r.room + 2 ^ MAX_MEMBERS + 2 ^ MAX_MEMBERS + MAX_MEMBERS + 4)
 
 -- with each act a member has done some of its work, or has begun a turn
 abbrev pub HasWorked : Running → Type 0
 HasWorked r = r.replica.end ≡ None
     → r.replica.acts + work r.replica ≤ all_work r.replica + r.replica.turns
 
--- a program of the group, which all of the roster are in, in a reached world; its members keep their limits and
--- have done their acts for work, and their words stand in the table as they were last pushed
+-- a program of a group of which nobody is late, which all of the roster are in, in a reached world; its members keep their limits and
+-- have done
+-- their acts for work, and their words stand in the table as they were last pushed
 pub record IsSteady (g : Group) (p : Program) : Type 0 where
   pub group : IsGroup g
   pub whole : AllPresent g
+  pub nobody : IsNobodyLate g.opening
   pub program : IsProgram g p
   pub reached : IsReached g (world g p)
   pub limits : (m : ℕ) (r : Running) → present_at p.members m ≡ Some r → r.limit < 2 ^ 32

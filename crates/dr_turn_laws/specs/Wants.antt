@@ -1,5 +1,5 @@
 -- What a step asks of a member that may choose and suspects nobody.
-use Rattle.std.specs.Prelude.{◌≡◌, ⊤, ℕ, ◌+◌, ◌<◌, ◌≤◌, Bool, true, false, length, slice_index, Some}
+use Rattle.std.specs.Prelude.{◌≡◌, ◌≢◌, ⊤, ℕ, ◌+◌, ◌<◌, ◌≤◌, Bool, true, false, length, slice_index, Some}
 use Rattle.dr_entry.specs.declared.end.End.{End}
 use Rattle.dr_entry.specs.declared.end.End.TheVariants.{Done, Excluded, Suspected}
 use Rattle.dr_entry.specs.declared.record.Value.{Value}
@@ -9,7 +9,7 @@ use Rattle.dr_machine.specs.declared.event.Act.TheVariants as acts
 use Rattle.dr_machine.specs.declared.step.Step.{Step}
 use Rattle.dr_machine.specs.declared.step.Step.TheVariants as steps
 use Rattle.dr_machine.specs.Group.{Group, banks, columns}
-use Rattle.dr_machine.specs.Guards.{HasRoom, HoldsAll, IsBehind, IsExcluded, IsFault, IsOther, next_index, seen_slot}
+use Rattle.dr_machine.specs.Guards.{HasRoom, HoldsAll, IsBehind, IsExcluded, IsFault, IsNamable, IsOther, next_index, seen_slot}
 use Rattle.dr_machine.specs.World.{World, items_received, own_word, shown}
 use Rattle.dr_ring.specs.Slots.{IsReady}
 use Rattle.dr_words.specs.declared.column.TheConstants.{DONE_COLUMN, LOGGED_COLUMN, RECEIVED_COLUMN, SUSPECTED_COLUMN}
@@ -59,6 +59,14 @@ IsToFinish g w m =
     × (w.past.view m + 1 < banks g)
     × ((s : ℕ) → has (w.members m) s ≡ true → slice_index value.trim s ≤ items_received w m s)
 
+-- m came into its view with j, which was not in the one before, is the least of those that were, and has given j no
+-- letter
+abbrev pub IsToWelcome : World → ℕ → ℕ → Type 0
+IsToWelcome w m j =
+    (has (w.members m) j ≡ true) × (has (w.came_from m) j ≡ false) × (has (w.came_from m) m ≡ true)
+    × ((i : ℕ) → has (w.came_from m) i ≡ true → has (w.members m) i ≡ true → m ≤ i)
+    × (has (w.given m) j ≡ false)
+
 -- m is to end so: done, suspected, or excluded; one that suspects nobody has a majority
 abbrev pub IsToEnd : World → ℕ → End → Type 0
 IsToEnd w m Done = SeesAllDone w m
@@ -76,7 +84,7 @@ Wants g w m (steps.Do acts.Deliver) = ShowsMore w m RECEIVED_COLUMN (w.next m)
 Wants g w m (steps.Do acts.Publish) = IsToPublish w m
 Wants g w m (steps.Do acts.Report) = ShowsMore w m LOGGED_COLUMN (w.past.durable m)
 Wants g w m (steps.Do acts.Mark) = IsToMark g w m
-Wants g w m (steps.Do (acts.Suspect j)) = IsOther w m j
+Wants g w m (steps.Do (acts.Suspect j)) = IsNamable g w m j × (j ≢ m)
 Wants g w m (steps.Do acts.Propose) = ⊥
 Wants g w m (steps.Do acts.Accept) = ⊥
 Wants g w m (steps.Do acts.Commit) = ⊥
@@ -87,6 +95,8 @@ Wants g w m (steps.Look i c) = IsOther w m i × (c < columns g)
 Wants g w m (steps.Push j c) = IsOther w m j × (c < columns g)
 Wants g w m steps.Append = IsToLog w m
 Wants g w m (steps.LogVote v) = ⊥
+Wants g w m (steps.Welcome j) = IsToWelcome w m j
+Wants g w m steps.Join = ⊥
 
 -- the steps that a turn has to do between its looks and its pushes, where they are asked for
 abbrev pub is_work : Step → Bool
@@ -103,3 +113,5 @@ is_work (steps.Look i c) = false
 is_work (steps.Push j c) = false
 is_work steps.Append = true
 is_work (steps.LogVote v) = false
+is_work (steps.Welcome j) = false
+is_work steps.Join = false

@@ -1,9 +1,11 @@
 //! Laws of whole turns: after one a member has nothing left to do, and the table has its words.
 //!
-//! They are of programs in which nobody suspects anybody; `docs/PROOFS.md` shows what they are for.
+//! They are of programs of which nobody is late, and in which nobody suspects anybody; `docs/PROOFS.md` shows what
+//! they are for.
 #![tactic(auto)]
 
 ghost use Rattle.std.specs.Prelude.{◌≡◌, ◌↔◌, ℕ, ◌^◌, ◌<◌, ◌≤◌, true, List, None, Some, Option};
+ghost use Rattle.dr_history.specs.Soundness.{IsNobodyLate};
 ghost use Rattle.dr_machine.specs.declared.step.Step.{Step};
 ghost use Rattle.dr_machine.specs.Acts.{CanTake};
 ghost use Rattle.dr_machine.specs.Group.{AllPresent, Group, IsGroup};
@@ -20,11 +22,11 @@ ghost use Rattle.dr_program_laws.specs.Trusting.{AreAtEase, MayWait};
 ghost use Rattle.dr_turn_laws.specs.Wants.{Wants, is_work};
 ghost use Rattle.dr_program.specs.Presence.{present_at};
 
-/// A program of a group that all of the roster are in begins steady, where its turns are 32 bits, and each move
-/// keeps it so.
+/// A program of a group that all of the roster are in, and in which nobody is late, begins steady, where its turns
+/// are 32 bits, and each move keeps it so.
 pub fn programs_are_steady()
-    ensures begins { (g : Group) (turns : ℕ) (setups : List (Option Setup)) → IsGroup g → 1 ≤ turns
-        → turns < 2 ^ 32 → AllPresent g → AreSetups g turns setups → IsSteady g (begun_program g setups) }
+    ensures begins { (g : Group) (turns : ℕ) (setups : List (Option Setup)) → IsGroup g → IsNobodyLate g.opening
+        → 1 ≤ turns → turns < 2 ^ 32 → AllPresent g → AreSetups g turns setups → IsSteady g (begun_program g setups) }
     ensures keeps { (g : Group) (p : Program) (e : Move) → IsSteady g p → IsSteady g (step_of p e) }
 {}
 

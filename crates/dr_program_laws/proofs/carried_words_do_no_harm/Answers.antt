@@ -1,4 +1,4 @@
-use Rattle.dr_program_laws.proofs.Carried.{carried_among, carried_begins, carried_comes, carried_moves, carried_place, carried_pushes}
+use Rattle.dr_program_laws.proofs.Carried.{carried_among, carried_begins, carried_comes, carried_misses, carried_moves, carried_place, carried_pushes}
 use Rattle.dr_program_laws.proofs.carried_words_do_no_harm.Goals as goal
 
 pub returns : goal.returns
@@ -9,4 +9,5 @@ returns c = record {
   among = carried_among;
   place = carried_place;
   comes = carried_comes;
+  misses = carried_misses;
 }
