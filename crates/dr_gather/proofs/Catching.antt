@@ -15,7 +15,7 @@ use Rattle.dr_log.specs.declared.fault.LogFault.TheVariants as logs
 use Rattle.dr_gather.specs.declared.catching_up.CatchFault.{CatchFault}
 use Rattle.dr_gather.specs.declared.catching_up.CatchFault.TheVariants.{DiskFault, LogFull}
 use Rattle.dr_log.specs.Grouping.{added_all, group}
-use Rattle.dr_log.specs.Standing.{IsNoneOrAll, as_records, entries_length, with_entries}
+use Rattle.dr_log.specs.Standing.{IsNoneOrAll, as_records, with_entries}
 use Rattle.dr_log.specs.State.{KeepsLimit, LogState, appended_all, broken_off_all}
 use Rattle.dr_log_bytes.specs.Content.{OnLog}
 use Rattle.dr_log_bytes.specs.Grammar.{StandFor}

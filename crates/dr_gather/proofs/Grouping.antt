@@ -8,7 +8,8 @@ use Rattle.dr_entry.specs.Spelling.{IsValidEntry}
 use Rattle.dr_history.specs.Members.{has}
 use Rattle.dr_history.specs.History.{GroupView, IsPrefixOf, view_of}
 use Rattle.dr_history.specs.Restarting.{AreAlong, next_age}
-use Rattle.dr_history.specs.Soundness.{AreOfRoster, MayStand}
+use Rattle.dr_history.specs.Soundness.{IsNobodyLate, MayStand}
+use Rattle.dr_history.specs.Order.{AreOfRoster}
 use Rattle.dr_history_laws.proofs.Keeping.{prefix_beside}
 use Rattle.dr_history_laws.proofs.Standing.{stands-by}
 use Rattle.dr_machine.specs.Group.{AllPresent, IsGroup}
@@ -53,13 +54,17 @@ start_group script lists start ranges small is =
             (subst (λ mask. has mask m ≡ true) is.members there);
         present = λ m there. first.sound.present m (subst (λ mask. has mask m ≡ true) is.present there);
       };
-      joined = is.present ∙ sym is.members;
     }
 
 -- all of the roster are there
 pub start_whole : (script : Script) (lists : List (List Entry)) (start : Start) → HasGroupRanges script
     → IsStartOf script lists start → AllPresent (group_of script start)
 start_whole script lists start ranges is = is.present ∙ ap (λ (n : ℕ). 2 ^ n - 1) (sym ranges.lists)
+
+-- and nobody is late
+pub start_prompt : (script : Script) (lists : List (List Entry)) (start : Start) → IsStartOf script lists start
+    → IsNobodyLate (group_of script start).opening
+start_prompt script lists start is = is.members ∙ sym is.present
 
 -- ---- its entries are valid
 

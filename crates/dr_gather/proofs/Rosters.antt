@@ -1,7 +1,7 @@
 -- Masks of members of the roster.
 use Rattle.std.proofs.Common.{◌≡◌, ◌≢◌, ℕ, ◌-◌, ◌^◌, ◌<◌, ◌==◌, refl, ap, arith, Bool, true, false, Decides}
 use Rattle.dr_history.specs.Members.{has}
-use Rattle.dr_history.specs.Soundness.{AreOfRoster}
+use Rattle.dr_history.specs.Order.{AreOfRoster}
 use Rattle.dr_words.proofs.Bits.{has_ones, has_zero}
 use Rattle.dr_words.proofs.Masks.{has_without_mask, same_masks}
 use Rattle.dr_words.specs.Masks.{without}

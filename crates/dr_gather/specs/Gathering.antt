@@ -1,9 +1,8 @@
 -- What the logs of a group make its next age start with.
-use Rattle.std.specs.Prelude.{◌≡◌, ℕ, ◌-◌, ◌^◌, ◌<◌, ◌≤◌, List, length, map, slice_index_or, Option}
+use Rattle.std.specs.Prelude.{◌≡◌, ◌-◌, ◌^◌, ◌≤◌, List, map}
 use Rattle.dr_entry.specs.declared.entry.Entry.{Entry}
 use Rattle.dr_history.specs.declared.opening.Opening.{Opening}
-use Rattle.dr_history.specs.History.{GroupView, view_of}
-use Rattle.dr_history.specs.Order.{messages_from}
+use Rattle.dr_history.specs.History.{view_of}
 use Rattle.dr_history.specs.Restarting.{AreAllAlong, AreSound, IsLongest, IsRestart, next_age}
 use Rattle.dr_log.specs.State.{LogState}
 use Rattle.dr_restart.specs.declared.start.Start.{Start}

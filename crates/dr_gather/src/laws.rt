@@ -7,6 +7,7 @@ ghost use Rattle.dr_history.specs.declared.opening.Opening.{Opening};
 ghost use Rattle.dr_history.specs.Agreement.{EndsAgreed, accounts_of};
 ghost use Rattle.dr_history.specs.History.{IsPrefixOf};
 ghost use Rattle.dr_history.specs.Restarting.{AreAllAlong, AreSound, IsFirstDisagreement, IsFirstForeign, IsLongest, Kept};
+ghost use Rattle.dr_history.specs.Soundness.{IsNobodyLate};
 ghost use Rattle.dr_machine.specs.Group.{AllPresent, IsGroup, roster};
 ghost use Rattle.dr_restart.specs.declared.start.Start.{Start};
 ghost use Rattle.dr_restart.specs.Groups.{group_of};
@@ -17,13 +18,15 @@ ghost use Rattle.dr_gather.specs.Gathering.{AreAccepted, IsStartOf, judged_by};
 ghost use Rattle.dr_gather.specs.Leaving.{LeaveLogs};
 ghost use Rattle.dr_gather.specs.Parts.{AreFirstPartsOf, AreOnTheWay};
 
-/// The start that logs make is that of a group of the script, if there is a number left for its age, and the
-/// whole roster is there. Its entries can be written on a log, and each of the logs has the first ones of them.
+/// The start that logs make is that of a group of the script, if there is a number left for its age, the whole
+/// roster is there, and nobody is late. Its entries can be written on a log, and each of the logs has the first ones of them.
 pub fn starts_are_sound()
     ensures group { (script : Script) (lists : List (List Entry)) (start : Start) → HasGroupRanges script
         → start.age < 2 ^ 16 → IsStartOf script lists start → IsGroup (group_of script start) }
     ensures present { (script : Script) (lists : List (List Entry)) (start : Start) → HasGroupRanges script
         → IsStartOf script lists start → AllPresent (group_of script start) }
+    ensures prompt { (script : Script) (lists : List (List Entry)) (start : Start)
+        → IsStartOf script lists start → IsNobodyLate (group_of script start).opening }
     ensures valid { (script : Script) (lists : List (List Entry)) (start : Start) → HasGroupRanges script
         → IsStartOf script lists start → All IsValidEntry start.entries }
     ensures part { (script : Script) (lists : List (List Entry)) (start : Start) (m : ℕ) (es : List Entry)

@@ -1,9 +1,10 @@
 -- What the steps of a choice know makes a start, or a reason for which there is none.
-use Rattle.std.proofs.Common.{◌≡◌, refl, sym, subst, ◌⊎◌, inl, inr, ℕ, ◌<◌, ◌≤◌, ◌^◌, List, length, Contains, Result, Ok, Err}
+use Rattle.std.proofs.Common.{◌≡◌, refl, sym, ◌∙◌, subst, true, ◌⊎◌, inl, inr, ℕ, ◌<◌, ◌≤◌, ◌^◌, List, length, Contains, Result, Ok, Err}
 use Rattle.std.specs.Prelude.{IfErr}
 use Rattle.dr_entry.specs.declared.entry.Entry.{Entry}
 use Rattle.dr_entry.specs.declared.entry.Entry.TheVariants.{View}
 use Rattle.dr_history.specs.declared.opening.Opening.{Opening}
+use Rattle.dr_history.specs.Members.{has}
 use Rattle.dr_history.specs.Restarting.{AllStand}
 use Rattle.dr_history.specs.Soundness.{whole_roster}
 use Rattle.dr_history_laws.proofs.Views.{ViewsRise-standing}
@@ -12,6 +13,7 @@ use Rattle.dr_restart.specs.Choosing.{AreFirst, AreOfHolders, AreOfNobody, AreOn
 use Rattle.dr_restart.specs.Refusing.{AreEnough, AreHoldersAlong, HasPath, HaveNothingForeign, IsHeldBy}
 use Rattle.dr_quorum_laws.proofs.Lists.{prefix-in}
 use Rattle.dr_quorum_laws.proofs.Refusals.{no-last, one-last, one-view}
+use Rattle.dr_quorum_laws.proofs.Sounding.{handed-some}
 use Rattle.dr_quorum.specs.declared.faults.ChooseFault.{ChooseFault}
 use Rattle.dr_quorum.specs.declared.faults.ChooseFault.TheVariants.{OutOfMemory}
 use Rattle.dr_quorum.specs.Telling.{IsRightlyTold}
@@ -70,16 +72,17 @@ longest_on h age es last all = (
 -- a start is chosen that has what the steps have found
 pub chosen_start : (o : Opening) (h : Handed) (start : Start) (es : List Entry) → AreEnough o h
     → AreOfHolders o h es ⊎ AreOfNobody h es → start.entries ≡ es → IsAgeAfter h start.age
-    → start.age < 2 ^ 16 → start.members ≡ handed_of h (whole_roster o) → start.present ≡ start.members
+    → start.age < 2 ^ 16 → start.present ≡ handed_of h (whole_roster o) → start.members ≡ start.present
     → IsChosenStart o h start
-chosen_start o h start es enough chosen same age left members present = record {
+chosen_start o h start es enough chosen same age left present members = record {
   sound = enough.0;
   quorum = enough.1;
   entries = subst (λ x. AreOfHolders o h x ⊎ AreOfNobody h x) (sym same) chosen;
   age = age;
   left = left;
-  members = members;
   present = present;
+  members = λ m there. subst (λ mask. has mask m ≡ true) members there;
+  some = subst (λ mask. 0 < mask) (sym (members ∙ present)) (handed-some o h enough.1);
 }
 
 -- of want of memory nothing is told

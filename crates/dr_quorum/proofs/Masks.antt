@@ -5,7 +5,7 @@ use Rattle.std.proofs.lemmas.List.{get_or_past, get_or_read_under}
 use Rattle.dr_history.specs.Members.{has}
 use Rattle.dr_restart.specs.declared.lists.LogLists.{LogLists}
 use Rattle.dr_restart.specs.Choosing.{handed_of}
-use Rattle.dr_history.specs.Soundness.{AreOfRoster}
+use Rattle.dr_history.specs.Order.{AreOfRoster}
 use Rattle.dr_words.proofs.Bits.{has_ones, has_zero}
 use Rattle.dr_words.proofs.Masks.{has_mask_of, has_with_member, has_without_mask, same_masks, with_member_small}
 use Rattle.dr_words.specs.Masks.{with_member, without}

@@ -25,6 +25,8 @@ impl<'a> Model for BorrowedLists<'a> {
 }
 
 impl<'a> BorrowedLists<'a> {
+    /// The lists of what stands on a log: its logged entries, its votes on trims and its votes for ages, each
+    /// in the log's order.
     pub fn new(
         entries: &'a [Entry],
         votes: &'a [Vote],

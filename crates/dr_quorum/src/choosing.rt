@@ -96,6 +96,7 @@ fn start_with(
         ⊎ AreOfNobody (handed_by lists.now) entries.now }
     requires after { IsAgeAfter (handed_by lists.now) age }
     ensures start { IfOk result (IsChosenStart (first_group_of script.now).opening (handed_by lists.now)) }
+    ensures members { IfOk result (λ start. start.members ≡ start.present) }
     ensures memory { IfErr result (λ why. why ≡ OutOfMemory) }
 {
     let members = handed_among(lists, roster_of(script)).bits();
@@ -116,6 +117,7 @@ fn choose_start(
     requires ranges { HasGroupRanges script.now }
     requires all { length lists.now ≡ script.now.members }
     ensures start { IfOk result (IsChosenStart (first_group_of script.now).opening (handed_by lists.now)) }
+    ensures members { IfOk result (λ start. start.members ≡ start.present) }
     ensures refused { IfErr result (IsRightlyTold (first_group_of script.now).opening (handed_by lists.now)) }
 {
     check_logs(script, lists)?;
@@ -127,11 +129,11 @@ fn choose_start(
 }
 
 /// What the next age starts with, by the logs that the members have handed in, ascending, where others are
-/// missing. Its entries are those of the longest log among those that end in the last age, and the members of
-/// the age are those that have handed in their logs. Each log has to be one that the script can have brought
-/// about; there have to be the logs of more than half of the roster; of any two logs that end in the last age
-/// one has to be a front of the other; and there have to be those of more than half of each view on the path
-/// that they name.
+/// missing. Its entries are those of the longest log among those that end in the last age, and who is there, and
+/// in the first view, are those that have handed in their logs. Each log has to be one that the script can have
+/// brought about; there have to be the logs of more than half of the roster; of any two logs that end in the
+/// last age one has to be a front of the other; and there have to be those of more than half of each view on the
+/// path that they name.
 ///
 /// # Errors
 ///
@@ -144,6 +146,8 @@ pub fn choose(
     requires ranges { HasGroupRanges script.now }
     requires all { length lists.now ≡ script.now.members }
     ensures start { IfOk result (IsChosenStart (first_group_of script.now).opening (handed_by lists.now)) }
+    // Its first view has all who have handed in their logs.
+    ensures members { IfOk result (λ start. start.members ≡ start.present) }
     ensures refused { IfErr result (IsRightlyTold (first_group_of script.now).opening (handed_by lists.now)) }
     // Where logs make a start, nothing but want of memory refuses it.
     ensures only_memory { (start : StartOf)

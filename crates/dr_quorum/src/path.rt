@@ -1,5 +1,6 @@
 //! The path of the views that the logs handed in name.
-ghost use Rattle.std.specs.Prelude.{◌≡◌, ℕ, IfNone, IfSome, List, [], ◌++◌, Contains, filter, length, Some};
+ghost use Rattle.dr_entry.specs.declared.limits.TheConstants.{MAX_MEMBERS};
+ghost use Rattle.std.specs.Prelude.{◌≡◌, ◌≤◌, ℕ, IfNone, IfSome, List, [], ◌++◌, Contains, filter, length, Some};
 ghost use Rattle.std.specs.Option.{option_map_or};
 ghost use Rattle.dr_entry.specs.declared.entry.Entry.TheVariants.{View};
 ghost use Rattle.dr_entry.specs.declared.record.Vote.{Vote as VoteOf};
@@ -19,13 +20,19 @@ use dr_words::Mask;
 
 /// Whether a vote of a view of these members names the next one.
 fn names_next(roster: u8, age: u16, view: u8, members: Mask, vote: &Vote) -> bool
+    requires some { 1 ≤ roster }
+    requires most { roster ≤ MAX_MEMBERS }
     ensures { result ≡ names_next roster age view members vote.now }
 {
     vote.age == age
         && vote.view == view
         && vote.members == roster
         && vote.value.leavers != 0
-        && members.without(Mask::of(vote.value.leavers)).bits() != 0
+        && Mask::of(vote.value.leavers)
+            .without(Mask::all(roster))
+            .bits()
+            == 0
+        && members.next(Mask::of(vote.value.leavers)).bits() != 0
 }
 
 /// The vote of the higher ballot, and the first one where these are equal.
@@ -63,6 +70,8 @@ fn best_among(
     view: u8,
     members: Mask,
 ) -> Option<Vote>
+    requires some { 1 ≤ roster }
+    requires most { roster ≤ MAX_MEMBERS }
     ensures { (before : List VoteOf) → best ≡ highest before
         → result ≡ highest (before ++ filter (names_next roster age view members) votes.now) }
 {
@@ -83,6 +92,8 @@ fn best_vote(
     view: u8,
     members: Mask,
 ) -> Option<Vote>
+    requires some { 1 ≤ roster }
+    requires most { roster ≤ MAX_MEMBERS }
     ensures { result ≡ highest (next_votes (handed_by lists.now) roster age view members) }
 {
     let mut best = None;
@@ -102,10 +113,12 @@ fn next_view(
     view: u8,
     members: Mask,
 ) -> Option<Mask>
+    requires some { 1 ≤ roster }
+    requires most { roster ≤ MAX_MEMBERS }
     ensures { result ≡ next_on_path (handed_by lists.now) roster age view members }
 {
     match best_vote(lists, roster, age, view, members) {
-        Some(vote) => Some(members.without(Mask::of(vote.value.leavers))),
+        Some(vote) => Some(members.next(Mask::of(vote.value.leavers))),
         None => None,
     }
 }
@@ -118,6 +131,8 @@ fn find_lacking(
     age: u16,
     first: Mask,
 ) -> Option<(u8, u8, u8)>
+    requires some { 1 ≤ roster }
+    requires most { roster ≤ MAX_MEMBERS }
     ensures none { IfNone result (HasPath roster (handed_by lists.now) age first) }
     ensures some { IfSome result (λ x. LacksPath roster (handed_by lists.now) age first x.0 x.1 x.2) }
 {

@@ -1,7 +1,7 @@
 -- Where the logs of more than half of the roster come back, those of all members of the last age among them, or
 -- none is missing, all may stand, and of any two one is a front of the other, they are refused only where one
 -- knows the last age.
-use Rattle.std.proofs.Common.{◌≡◌, ◌≢◌, refl, ap, sym, ◌∙◌, ◌⊎◌, inl, inr, subst, ℕ, zero, suc, ◌-◌, ◌^◌, ◌<◌, ◌≤◌, ◌&&◌, not, nat_lt, arith, Bool, true, false, List, [], ◌∷◌, filter, length, Contains, Option, None, Some, is_some, slice_get, append-nil, if◌then◌else◌, option_and_then, option_map}
+use Rattle.std.proofs.Common.{◌≡◌, ◌≢◌, refl, ap, sym, ◌∙◌, ◌⊎◌, inl, inr, subst, ℕ, zero, suc, ◌-◌, ◌^◌, ◌<◌, ◌≤◌, ◌==◌, ◌&&◌, not, nat_lt, arith, Bool, true, false, List, [], ◌∷◌, filter, length, Contains, Option, None, Some, is_some, slice_get, append-nil, if◌then◌else◌, option_and_then, option_map}
 use Rattle.std.specs.Option.{option_map_or}
 use Rattle.std.proofs.lemmas.Option.{none-some, same_Some}
 use Rattle.dr_entry.specs.declared.entry.Entry.{Entry}
@@ -10,21 +10,22 @@ use Rattle.dr_entry.specs.declared.record.Vote.{Vote}
 use Rattle.dr_history.specs.declared.opening.Opening.{Opening}
 use Rattle.dr_history.specs.Members.{has, members_of}
 use Rattle.dr_history.specs.Restarting.{AllStand, AreAllAlong, AreAlong}
-use Rattle.dr_history.specs.Soundness.{AreOfRoster, whole_roster}
+use Rattle.dr_history.specs.Soundness.{whole_roster}
+use Rattle.dr_history.specs.Order.{AreOfRoster}
 use Rattle.dr_history_laws.proofs.Differing.{differ_not_along}
 use Rattle.dr_history_laws.proofs.Lists.{slice_get-some}
 use Rattle.dr_history_laws.proofs.Members.{has-member}
 use Rattle.std.proofs.lemmas.Bool.{cases_lt}
 use Rattle.std.proofs.lemmas.Nat.Bits.{bit_at_above}
 use Rattle.dr_restart.specs.declared.lists.LogLists.{LogLists}
-use Rattle.dr_restart.specs.Choosing.{AreFirst, Handed, HasQuorum, handed_of, highest, names_next, next_on_path, next_votes, of_set, on_path}
+use Rattle.dr_restart.specs.Choosing.{AreFirst, Handed, HasQuorum, IsLastAge, handed_of, highest, names_next, next_on_path, next_votes, of_set, on_path}
 use Rattle.dr_restart.specs.Left.{entries_on_logs}
 use Rattle.dr_restart.specs.Refusing.{HaveNothingForeign, IsRefusedFor, Refusal}
 use Rattle.dr_restart.specs.Refusing.Refusal.{AgesUsedUp, Disagree, Foreign, NoQuorum}
 use Rattle.dr_restart.proofs.Listed.{listed}
 use Rattle.dr_words.proofs.Bits.{has_ones, has_zero}
-use Rattle.dr_words.proofs.Masks.{has_mask_of, has_without_mask, mask_of_small, same_masks}
-use Rattle.dr_words.specs.Masks.{mask_of, without}
+use Rattle.dr_words.proofs.Masks.{has_mask_of, has_next_members, mask_of_small, next_members_small, next_members_within, same_masks}
+use Rattle.dr_words.specs.Masks.{mask_of, next_members, without}
 use Rattle.dr_quorum_laws.specs.Returning.{HasHandedIn, HaveReturned}
 use Rattle.dr_quorum_laws.proofs.Handing.{log-of_set, set-log}
 use Rattle.dr_quorum_laws.proofs.Lists.{filter-in, flat_map-in, highest-in, in-nothing, read-in}
@@ -83,6 +84,11 @@ record AreSomeOf (IsSuch : ℕ → Type 0) (mask : ℕ) : Type 0 where
   some : mask ≢ 0
   within : (m : ℕ) → has mask m ≡ true → IsSuch m
 
+-- the votes of an age on the logs name none of the roster but such members
+abbrev NameNoneBut : Handed → ℕ → ℕ → (ℕ → Type 0) → Type 0
+NameNoneBut h n age IsSuch = (k : ℕ) (log : LogLists) (x : Vote) → h k ≡ Some log → Contains log.votes x
+    → x.age ≡ age → (m : ℕ) → m < n → has x.value.leavers m ≡ true → IsSuch m
+
 -- of the roster
 some-of : (n mask : ℕ) → n ≤ 16 → AreOfRoster n mask → AreSomeOf (λ m. m < n) mask
 some-of n mask most of = record {
@@ -123,46 +129,80 @@ all-handed h IsSuch mask all of =
 
 -- ---- the path
 
--- so are the members of the view after such a view
-next-of : (h : Handed) (IsSuch : ℕ → Type 0) (n age v members next : ℕ) → AreSomeOf IsSuch members
-    → next_on_path h n age v members ≡ Some next → AreSomeOf IsSuch next
-next-of h IsSuch n age v members next of e = by (highest (next_votes h n age v members)) refl e
+-- a mask that has none but members of the roster
+in-roster : (n mask m : ℕ) → m < 16 → (without mask (2 ^ n - 1) == 0) ≡ true → has mask m ≡ true → m < n
+in-roster n mask m l alone h = grind (
+  arith,
+  h,
+  l,
+  has_mask_of (λ j. has mask j && not (has (2 ^ n - 1) j)) m,
+  ap (λ x. has x m) none,
+  has_zero m,
+  has_ones n m,
+)
   where
-    left : (x : Vote) → Contains (next_votes h n age v members) x → without members x.value.leavers ≢ 0
-    left x c =
+    none : without mask (2 ^ n - 1) ≡ 0
+    none = grind (arith, alone)
+
+-- so are the members of the view after such a view, where the votes of the age name none but such members
+next-of : (h : Handed) (IsSuch : ℕ → Type 0) (n age v members next : ℕ) → NameNoneBut h n age IsSuch
+    → AreSomeOf IsSuch members → next_on_path h n age v members ≡ Some next → AreSomeOf IsSuch next
+next-of h IsSuch n age v members next names of e = by (highest (next_votes h n age v members)) refl e
+  where
+    counted : (x : Vote) → Contains (next_votes h n age v members) x
+        → (next_members members x.value.leavers ≢ 0)
+        × ((m : ℕ) → m < 16 → has x.value.leavers m ≡ true → IsSuch m)
+    counted x c =
         let t = flat_map-in (λ m. filter (names_next n age v members) (option_map_or (λ (log : LogLists). log.votes) (h m) []))
         (members_of members) x c in
         let f = filter-in (names_next n age v members) (option_map_or (λ (log : LogLists). log.votes) (h t.0) []) x t.2 in
-        λ z. absurd (grind (arith, f.1, z))
+        let alone : (without x.value.leavers (2 ^ n - 1) == 0) ≡ true = grind (arith, f.1) in (
+          λ z. absurd (grind (arith, f.1, z)),
+          λ m l e. on_log t.0 (h t.0) refl x f.0 (grind (arith, f.1)) m (in-roster n x.value.leavers m l alone e) e,
+        )
+      where
+        on_log : (k : ℕ) (o : Option LogLists) → h k ≡ o → (y : Vote)
+            → Contains (option_map_or (λ (log : LogLists). log.votes) (h k) []) y → y.age ≡ age
+            → (m : ℕ) → m < n → has y.value.leavers m ≡ true → IsSuch m
+        on_log k None at y d same = absurd (in-nothing y
+            (subst (λ (o : Option LogLists). Contains (option_map_or (λ (log : LogLists). log.votes) o []) y) at d))
+        on_log k (Some log) at y d same = names k log y at
+            (subst (λ (o : Option LogLists). Contains (option_map_or (λ (log : LogLists). log.votes) o []) y) at d) same
 
-    part : (x : Vote) (m : ℕ) → has (without members x.value.leavers) m ≡ true → IsSuch m
-    part x m there =
-        let mine : has members m ≡ true = grind (
-          arith,
-          has_without_mask members x.value.leavers m of.small,
-          there,
-        ) in
-        of.within m mine
+    part : (x : Vote) → ((m : ℕ) → m < 16 → has x.value.leavers m ≡ true → IsSuch m) → (m : ℕ)
+        → has (next_members members x.value.leavers) m ≡ true → IsSuch m
+    part x named m there = by (has x.value.leavers m) refl
+      where
+        l : m < 16
+        l = next_members_within members x.value.leavers m there
+
+        by : (b : Bool) → has x.value.leavers m ≡ b → IsSuch m
+        by false e =
+            let mine : has members m ≡ true =
+            grind (arith, e, has_next_members members x.value.leavers m l, there) in
+            of.within m mine
+        by true e = named m l e
 
     by : (o : Option Vote) → highest (next_votes h n age v members) ≡ o
-        → option_map (λ x. without members x.value.leavers) (highest (next_votes h n age v members)) ≡ Some next
+        → option_map (λ x. next_members members x.value.leavers) (highest (next_votes h n age v members)) ≡ Some next
         → AreSomeOf IsSuch next
-    by None f g = absurd (none-some next (ap (option_map (λ (x : Vote). without members x.value.leavers)) (sym f) ∙ g))
+    by None f g = absurd (none-some next
+        (ap (option_map (λ (x : Vote). next_members members x.value.leavers)) (sym f) ∙ g))
     by (Some x) f g = subst (AreSomeOf IsSuch)
-        (same_Some (without members x.value.leavers) next
-        (ap (option_map (λ (y : Vote). without members y.value.leavers)) (sym f) ∙ g))
+        (same_Some (next_members members x.value.leavers) next
+        (ap (option_map (λ (y : Vote). next_members members y.value.leavers)) (sym f) ∙ g))
         (record {
-          small = mask_of_small (λ i. has members i && not (has x.value.leavers i));
-          some = left x (highest-in (next_votes h n age v members) x f);
-          within = part x;
+          small = next_members_small members x.value.leavers;
+          some = (counted x (highest-in (next_votes h n age v members) x f)).0;
+          within = part x (counted x (highest-in (next_votes h n age v members) x f)).1;
         })
 
-path-of : (h : Handed) (IsSuch : ℕ → Type 0) (n age first v members : ℕ) → AreSomeOf IsSuch first → on_path h n age first v ≡ Some members
-    → AreSomeOf IsSuch members
+path-of : (h : Handed) (IsSuch : ℕ → Type 0) (n age first v members : ℕ) → NameNoneBut h n age IsSuch
+    → AreSomeOf IsSuch first → on_path h n age first v ≡ Some members → AreSomeOf IsSuch members
 unfolding on_path
-path-of h IsSuch n age first zero members of e = subst (AreSomeOf IsSuch) (same_Some first members e) of
-path-of h IsSuch n age first (suc v) members of e =
-    go (λ u is. path-of h IsSuch n age first v u of is) (nat_lt v 255) (on_path h n age first v) refl e
+path-of h IsSuch n age first zero members names of e = subst (AreSomeOf IsSuch) (same_Some first members e) of
+path-of h IsSuch n age first (suc v) members names of e =
+    go (λ u is. path-of h IsSuch n age first v u names of is) (nat_lt v 255) (on_path h n age first v) refl e
   where
     go : ((u : ℕ) → on_path h n age first v ≡ Some u → AreSomeOf IsSuch u) → (b : Bool) (o : Option ℕ)
         → on_path h n age first v ≡ o
@@ -171,7 +211,7 @@ path-of h IsSuch n age first (suc v) members of e =
     go old false o f g = absurd (none-some members g)
     go old true None f g = absurd (none-some members (ap (option_and_then (next_on_path h n age v)) (sym f) ∙ g))
     go old true (Some u) f g =
-        next-of h IsSuch n age v u members (old u f) (ap (option_and_then (next_on_path h n age v)) (sym f) ∙ g)
+        next-of h IsSuch n age v u members names (old u f) (ap (option_and_then (next_on_path h n age v)) (sym f) ∙ g)
 
 -- ---- logs that come back
 
@@ -190,14 +230,24 @@ returned-pass o h why most back = by why
         k : (i : ℕ) × (slice_get log.entries i ≡ Some (View age 0 first))
         k = read-in log.entries (View age 0 first) (subst (λ l. Contains l (View age 0 first)) same c)
 
+    -- all of them have handed in their logs
+    first-handed : (age first : ℕ) → IsLastAge h age → AreFirst h age first → AreSomeOf (HasHandedIn h) first
+    first-handed age first last of = let own = first-own age first of in record {
+      small = own.small;
+      some = own.some;
+      within = λ m there. back.first age first m last of (own.within m there);
+    }
+
     by : (r : Refusal) → IsRefusedFor o h r → r ≡ AgesUsedUp
     by (Foreign m place) x = absurd (foreign-no o h m place x back.enough.0)
     by (NoQuorum None have need) x = absurd (lacks-no h (whole_roster o) have need x.1 back.enough.1)
     by (Disagree a b place) x = absurd (differ_not_along x.3.one x.3.other place x.3.differ
         (back.along x.1 x.2 x.3.one x.3.other (a, x.3.in_a.0, x.3.in_a.1, x.3.in_a.2, x.3.in_a.3) (b, x.3.in_b.0, x.3.in_b.1, x.3.in_b.2, x.3.in_b.3)))
     by (NoQuorum (Some v) have need) x = absurd (lacks-no h x.6.members have need x.6.lacks
-        (all-handed h (λ m. has x.4 m ≡ true) x.6.members (λ m there. back.first x.1 x.4 m x.2 x.5 there)
-        (path-of h (λ m. has x.4 m ≡ true) n x.1 x.4 v x.6.members (first-own x.1 x.4 x.5) x.6.here)))
+        (all-handed h (HasHandedIn h) x.6.members (λ m there. there)
+        (path-of h (HasHandedIn h) n x.1 x.4 v x.6.members
+        (λ k log y at c same m l e. back.named x.1 k m log y x.2 at c same l e)
+        (first-handed x.1 x.4 x.2 x.5) x.6.here)))
     by AgesUsedUp x = refl
 
 -- ---- all logs
@@ -217,6 +267,7 @@ all-pass o logs set why least most long all stand along = returned-pass o h why 
   enough = (sound, all-handed h (λ m. m < n) (whole_roster o) given (some-of n (whole_roster o) most roster));
   along = λ age last f g x y. two f g x.0 y.0 (here x.0 f x.1 x.2 x.4) (here y.0 g y.1 y.2 y.4) (apart x.0 y.0);
   first = λ age first m last of there. given m (first-within age first of m there);
+  named = λ age k m log x last at c same l e. given m l;
 })
   where
     n : ℕ

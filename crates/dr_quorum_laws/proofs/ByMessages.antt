@@ -39,8 +39,9 @@ start-so o p h start c = record {
   entries = by c.entries;
   age = c.age;
   left = c.left;
-  members = c.members;
   present = c.present;
+  members = c.members;
+  some = c.some;
 }
   where
     by : AreOfHolders (with_messages o p.messages) h start.entries ⊎ AreOfNobody h start.entries

@@ -15,10 +15,9 @@ use Rattle.dr_restart.specs.declared.lists.LogLists.{LogLists}
 use Rattle.dr_restart.specs.declared.start.Start.{Start}
 use Rattle.dr_restart.specs.Choosing.{AreFirst, AreOfHolders, AreOfNobody, EndsInAge, HasQuorum, IsChosenStart, of_set, on_path}
 use Rattle.dr_restart.specs.Trying.{age_vote_of, first_view_of}
-use Rattle.dr_world_laws.proofs.Telling.{has-present}
 use Rattle.dr_world_laws.specs.Views.{HasView}
 use Rattle.dr_quorum_laws.specs.Holding.{GoesOnFrom, IsKeptBy, IsOfAgeOrEarlier, IsOpenedTry, KeepsDurable}
-use Rattle.dr_quorum_laws.proofs.Ended.{durable-delivered, durable-front, durable-logged, first-in, no-later, view-present}
+use Rattle.dr_quorum_laws.proofs.Ended.{durable-delivered, durable-front, durable-since, first-in, no-later, view-present}
 use Rattle.dr_quorum_laws.proofs.Handing.{Since, durable-there, first-there, quorum-meets, quorum-some, set-log}
 use Rattle.dr_quorum_laws.proofs.LastViews.{last-view, view-come, view-late}
 use Rattle.dr_quorum_laws.proofs.Lists.{last-of, prefix-in}
@@ -75,8 +74,9 @@ whole_front g w choice logs tries set start s c h same front m there =
     d : ℕ
     d = w.past.durable m
 
-    held : HasView g w (w.past.view m) (w.members m)
-    held = has-present g w m s.group s.known
+    since : (v : ℕ) × (members : ℕ) × HasView g w v members
+        × ((i : ℕ) → has members i ≡ true → w.past.durable m ≤ length (w.past.log i))
+    since = durable-since g w m s.group s.known there
 
     first : AreFirst (of_set logs set) g.opening.age g.opening.members
     first =
@@ -96,16 +96,16 @@ whole_front g w choice logs tries set start s c h same front m there =
         (subst (λ a. AreFirst (of_set logs set) a g.opening.members) (sym same) first)
         (subst (λ a. on_path (of_set logs set) (roster g) a g.opening.members u ≡ Some mask) (sym same) e)
 
-    one : (i : ℕ) × (has (w.members m) i ≡ true) × (log : LogLists) × (of_set logs set i ≡ Some log)
-    one = quorum-some (of_set logs set) (w.members m) (quorums (w.past.view m) (w.members m)
-        (path-has g w choice logs tries set (w.past.view m) (w.members m) s quorums held))
+    one : (i : ℕ) × (has since.1 i ≡ true) × (log : LogLists) × (of_set logs set i ≡ Some log)
+    one = quorum-some (of_set logs set) since.1 (quorums since.0 since.1
+        (path-has g w choice logs tries set since.0 since.1 s quorums since.2))
 
     here : IsPresent g one.0
-    here = view-present g w (w.past.view m) (w.members m) one.0 s.group s.known held one.1
+    here = view-present g w since.0 since.1 one.0 s.group s.known since.2 one.1
 
     has_it : IsPrefixOf (take (w.past.durable m) s.held.history) one.2.entries
     has_it = durable-there g w choice logs tries s one.0 m d one.2 here (set-log logs set one.0 one.2 one.3).1 there
-        (durable-logged g w m one.0 s.group s.known there one.1) (omega arith)
+        (since.3 one.0 one.1) (omega arith)
 
     long : length (take (w.past.durable m) s.held.history) ≤ length start.entries
     long =

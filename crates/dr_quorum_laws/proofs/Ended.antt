@@ -13,14 +13,15 @@ use Rattle.dr_history.specs.Restarting.{AllStand}
 use Rattle.dr_history_laws.proofs.Keeping.{prefix_shorter, prefix_then}
 use Rattle.dr_history_laws.proofs.Lists.{take-prefix}
 use Rattle.dr_history_laws.proofs.Standing.{history-stands}
-use Rattle.dr_machine.proofs.Presence.{in_roster, is_there}
+use Rattle.dr_machine.proofs.Presence.{in_roster, late_few}
 use Rattle.dr_machine.specs.Group.{Group, IsGroup, IsPresent, roster}
 use Rattle.dr_machine.proofs.Runs.{is_before, is_last}
 use Rattle.dr_machine.specs.Run.{Way, WorldAgreed, accounts_in}
 use Rattle.dr_machine.specs.World.{World, opening_world}
 use Rattle.dr_history.specs.Agreement.{sent_by}
-use Rattle.dr_world_laws.proofs.ChosenViews.{views-first, views-of-first}
-use Rattle.dr_world_laws.proofs.HeldViews.{view-held, view-is}
+use Rattle.dr_world_laws.proofs.ChosenViews.{views-first, views-there}
+use Rattle.dr_world_laws.proofs.HeldViews.{view-is}
+use Rattle.dr_world_laws.proofs.Holding.{view-held}
 use Rattle.dr_world_laws.proofs.Rooms.{view-below}
 use Rattle.dr_world_laws.proofs.Telling.{has-view}
 use Rattle.dr_world_laws.proofs.Worlds.{Known, agreed, holds_messages, past_since}
@@ -63,7 +64,7 @@ stands g w m is y there = history-stands g.opening (sent_by (accounts_in w)) (w.
 -- no View of a history is of a later age
 pub no-later : (g : Group) (w : World) (m a n k : ℕ) → IsGroup g → Known g w → IsPresent g m
     → Contains (w.past.history m) (View a n k) → a ≤ g.opening.age
-no-later g w m a n k is y there c = by (holds_messages g w m y (in_roster g m is there))
+no-later g w m a n k is y there c = by (holds_messages g w m is y (in_roster g m is there))
   where
     last : Contains (View g.opening.age 0 g.opening.members ∷ []) (View a n k) → a ≤ g.opening.age
     last c = one (in-cases (View g.opening.age 0 g.opening.members) (View a n k) [] c)
@@ -177,8 +178,8 @@ durable-front g w history m is y longest there l =
 -- the members of a view are there
 pub view-present : (g : Group) (w : World) (v members i : ℕ) → IsGroup g → Known g w → HasView g w v members
     → has members i ≡ true → IsPresent g i
-view-present g w v members i is y h there = is_there g i is (views-of-first g y.values v i is
-    (subst (λ mask. has mask i ≡ true) (sym (view-is g y.values w v members is y.chosen h)) there))
+view-present g w v members i is y h there = views-there g y.values v i is
+    (subst (λ mask. has mask i ≡ true) (sym (view-is g y.values w v members is y.chosen h)) there)
 
 pub first-view : (g : Group) (w : World) (members : ℕ) → IsGroup g → Known g w → HasView g w 0 members
     → members ≡ g.opening.members
@@ -186,28 +187,30 @@ first-view g w members is y h = sym (view-is g y.values w 0 members is y.chosen 
 
 -- a view that is no first one has one before it, and there are few
 pub view-before : (g : Group) (w : World) (v next : ℕ) → IsGroup g → Known g w → HasView g w (suc v) next
-    → (v + 1 < 16) × (members : ℕ) × HasView g w v members
+    → (v + 1 < 32) × (members : ℕ) × HasView g w v members
 view-before g w v next is y h =
-    let t = view-held g y.values w h.0 (suc v) next is y.chosen h.1 h.2 in (
-      omega (arith, t.0, view-below g y.values w h.0 is y.chosen h.1, is.most_members),
+    let t = view-held g y.values w h.0 (suc v) next is y.chosen.laid.historic h.1 h.2 in (
+      omega (arith, t.0, view-below g y.values w h.0 is y.chosen h.1, late_few g, is.most_members),
       views_by g y.values v,
       has-view g w h.0 v is y (omega (arith, t.0)),
     )
 
--- what a member knows to be durable stands on the logs of all members of its view
-pub durable-logged : (g : Group) (w : World) (m i : ℕ) → IsGroup g → Known g w → IsPresent g m
-    → has (w.members m) i ≡ true → w.past.durable m ≤ length (w.past.log i)
-durable-logged g w m i is y there h = y.chosen.faithful.logs.safe m i there
-    (subst (λ mask. has mask i ≡ true) (y.chosen.faithful.views.own m) h)
+-- what a member knows to be durable stands on the logs of all members of some view that has come
+pub durable-since : (g : Group) (w : World) (m : ℕ) → IsGroup g → Known g w → IsPresent g m
+    → (v : ℕ) × (members : ℕ) × HasView g w v members
+    × ((i : ℕ) → has members i ≡ true → w.past.durable m ≤ length (w.past.log i))
+durable-since g w m is y there =
+    let safe = y.chosen.faithful.logs.safe m there in (
+      safe.since,
+      views_by g y.values safe.since,
+      has-view g w m safe.since is y safe.come,
+      safe.logged,
+    )
 
-pub own-view : (g : Group) (w : World) (m : ℕ) → IsGroup g → Known g w → IsPresent g m
-    → has (w.members m) m ≡ true
-own-view g w m is y there = subst (λ mask. has mask m ≡ true) (sym (y.chosen.faithful.views.own m))
-    (y.chosen.faithful.views.present m there)
-
+-- and on its own
 pub own-durable : (g : Group) (w : World) (m : ℕ) → IsGroup g → Known g w → IsPresent g m
     → w.past.durable m ≤ length (w.past.log m)
-own-durable g w m is y there = durable-logged g w m m is y there (own-view g w m is y there)
+own-durable g w m is y there = (y.chosen.faithful.logs.safe m there).own
 
 pub durable-delivered : (g : Group) (w : World) (m : ℕ) → IsGroup g → Known g w → IsPresent g m
     → w.past.durable m ≤ length (w.past.history m)

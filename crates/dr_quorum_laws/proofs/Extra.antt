@@ -1,21 +1,25 @@
 -- Votes with those that members may have begun to log before they ended: they still have one value.
-use Rattle.std.proofs.Common.{◌≡◌, refl, sym, ◌⊎◌, inl, inr, subst, ℕ, ◌≤◌}
+use Rattle.std.proofs.Common.{◌≡◌, sym, ◌⊎◌, inl, inr, subst, true, ℕ, ◌≤◌}
 use Rattle.std.proofs.lemmas.Option.{none-some}
 use Rattle.dr_entry.specs.declared.record.Value.{Value}
 use Rattle.dr_entry.specs.declared.record.Vote.{Vote}
 use Rattle.dr_faithful.proofs.Faithfulness.{past_on_event}
 use Rattle.dr_faithful.specs.Chosen.{AreChosen, Values, views_by}
+use Rattle.dr_history.specs.Members.{has}
+use Rattle.dr_history.specs.Order.{IsNewIn}
 use Rattle.dr_machine.specs.declared.event.Event.TheVariants.{LogVote}
 use Rattle.dr_machine.specs.Effects.{logs_vote, vote_for}
-use Rattle.dr_machine.specs.Group.{Group, IsGroup}
+use Rattle.dr_machine.specs.Group.{Group, IsGroup, IsPresent}
 use Rattle.dr_machine.specs.Guards.{CanLogVote}
 use Rattle.dr_machine.specs.Run.{PastGrew}
 use Rattle.dr_machine.specs.Votes.{HasLogged, IsOf, MajorityHas}
 use Rattle.dr_machine.specs.World.{World}
+use Rattle.dr_vote_laws.proofs.Cuts.{vote_cut}
 use Rattle.dr_vote_laws.proofs.Logs.{logged_new}
 use Rattle.dr_vote_laws.proofs.Values.{chosen_since, higher, somebody, vote_is}
 use Rattle.dr_vote_laws.specs.Voting.{HaveVotedFor, IsChosen, Voting}
 use Rattle.dr_faithful.specs.Tells.{Views}
+use Rattle.dr_world_laws.proofs.ChosenViews.{views-there}
 use Rattle.dr_world_laws.proofs.HeldViews.{view-is}
 use Rattle.dr_world_laws.proofs.Reached as worlds
 use Rattle.dr_world_laws.proofs.Reached.{all-go_on, event-known}
@@ -62,15 +66,31 @@ endless-known g values w y = record {
   complete = record {
     durable = y.complete.durable;
     shown = λ m e. absurd (none-some _ e);
+    inside = λ m e. absurd (none-some _ e);
   };
   voting = y.voting;
   ballots = y.ballots;
   wedged = y.wedged;
-  away = λ m none. let t = y.away m none in record {
-    view = t.view;
-    next = t.next;
-    suspects = t.suspects;
-    end = refl;
+  outside = y.outside;
+  letters = record {
+    letters = λ j l e. let t = y.letters.letters j l e in (
+      record {
+        view = t.0.view;
+        giver = t.0.giver;
+        within = t.0.within;
+        come = t.0.come;
+        is = t.0.is;
+        member = t.0.member;
+        new = t.0.new;
+        from = t.0.from;
+        next = t.0.next;
+        was = t.0.was;
+        stays = t.0.stays;
+        least = t.0.least;
+      },
+      t.1,
+    );
+    given = y.letters.given;
   };
 }
 
@@ -126,4 +146,24 @@ left-value g w m b members x z is y held voted l = by
         value-of g (views_by g y.values) u m b x z t.voting
         (chosen_since (views_by g y.values) w u z.view b x (extra-grew g y.values w m v is y.by.now y.chosen can)
         chosen) l
+        (subst (HasLogged u.past.votes m) (sym e) (logged_new w.past.votes m (vote_for g w m v)))
+
+-- whom a vote names that a member has logged, or may have begun to log, is there
+pub vote-present : (g : Group) (w : World) (m j : ℕ) (x : Vote) → IsGroup g → Known g w
+    → HasLogged w.past.votes m x ⊎ MayLogVote g w m x → has x.value.leavers j ≡ true → IsPresent g j
+vote-present g w m j x is y held h = by held
+  where
+    named : (has (views_by g y.values x.view) j ≡ true) ⊎ IsNewIn g.opening (views_by g y.values) x.view j
+        → IsPresent g j
+    named (inl there) = views-there g y.values x.view j is there
+    named (inr new) = new.late.0
+
+    of : (u : World) → Voting g (views_by g y.values) u → HasLogged u.past.votes m x → IsPresent g j
+    of u voting logged = named ((vote_cut g (views_by g y.values) u m x voting logged).newcomers j h)
+
+    by : HasLogged w.past.votes m x ⊎ MayLogVote g w m x → IsPresent g j
+    by (inl logged) = of w y.chosen.voting logged
+    by (inr (v, can, e)) =
+        let u = logs_vote g (without_ends w) m v in
+        of u (extra-known g y.values w m v is y.by.now y.chosen can).voting
         (subst (HasLogged u.past.votes m) (sym e) (logged_new w.past.votes m (vote_for g w m v)))

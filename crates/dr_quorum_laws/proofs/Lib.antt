@@ -3,7 +3,7 @@ pub mod Beginning
 pub mod ByMessages
 pub mod Chosen
 pub mod Ended
-mod Extra
+pub mod Extra
 pub mod Grown
 pub mod Handing
 pub mod Keeping

@@ -1,5 +1,5 @@
 -- Logs that hold have nothing foreign, and those that a further try lacks are of ages before it.
-use Rattle.std.proofs.Common.{◌≡◌, refl, ap, sym, ◌∙◌, ◌⊎◌, inl, inr, subst, ℕ, ◌+◌, ◌-◌, ◌<◌, ◌≤◌, arith, false, List, [], ◌∷◌, ◌++◌, length, length-append, length-take, take, drop, Contains, Some, slice_get, append_assoc, take-append-drop, take_at}
+use Rattle.std.proofs.Common.{◌≡◌, refl, ap, sym, ◌∙◌, ◌⊎◌, inl, inr, subst, ℕ, ◌+◌, ◌-◌, ◌<◌, ◌≤◌, arith, Bool, true, false, List, [], ◌∷◌, ◌++◌, length, length-append, length-take, take, drop, Contains, Some, slice_get, append_assoc, take-append-drop, take_at}
 use Rattle.std.proofs.lemmas.Bool.{cases_lt}
 use Rattle.std.proofs.lemmas.Option.{same_Some, slice_get_within}
 use Rattle.dr_entry.specs.declared.entry.Entry.{Entry}
@@ -9,7 +9,7 @@ use Rattle.dr_history.specs.Restarting.{AllStand}
 use Rattle.dr_history.specs.Soundness.{MayStand, Sound}
 use Rattle.dr_history_laws.proofs.Lists.{slice_get-left, slice_get-push_cases, slice_get-seam, slice_get-some, take-next, take-prefix}
 use Rattle.dr_history_laws.proofs.Standing.{all-by, part-stands}
-use Rattle.dr_machine.specs.Group.{Group, IsGroup, IsPresent}
+use Rattle.dr_machine.specs.Group.{Group, IsGroup}
 use Rattle.dr_machine.specs.World.{World}
 use Rattle.dr_restart.specs.declared.lists.Attempt.{Attempt}
 use Rattle.dr_restart.specs.declared.lists.LogLists.{LogLists}
@@ -18,7 +18,6 @@ use Rattle.dr_restart.specs.Groups.{group_of}
 use Rattle.dr_restart.specs.Left.{AreLeft, IsLeftByOther}
 use Rattle.dr_restart.specs.Trying.{IsTry, first_view_of, opened_by}
 use Rattle.dr_script.specs.declared.script.Script.{Script}
-use Rattle.dr_world_laws.proofs.Away.{there-or-not}
 use Rattle.dr_world_laws.proofs.Worlds.{Known}
 use Rattle.dr_quorum_laws.specs.Holding.{AreSoundTries, GoesOnFrom, HaveNoLaterVotes, HoldSince, IsKeptBy, IsOfAgeOrEarlier, IsOpenedTry}
 use Rattle.dr_quorum_laws.proofs.Chosen.{chosen-keeps}
@@ -138,11 +137,11 @@ held-stand g w choice logs tries m log is y held sounds at = by (held.grown m lo
 -- the votes on the logs that were left are of the age that has ended, or of earlier ones
 pub left-votes : (g : Group) (w : World) (choice : List LogLists) → AreLeft g w choice
     → HaveNoLaterVotes g.opening.age choice
-left-votes g w choice left m log x at c = by (there-or-not g m)
+left-votes g w choice left m log x at c = by (has g.opening.present m) refl
   where
-    by : IsPresent g m ⊎ (has g.opening.present m ≡ false) → x.age ≤ g.opening.age
-    by (inl there) = (left.members m log there at).votes x c
-    by (inr none) =
+    by : (b : Bool) → has g.opening.present m ≡ b → x.age ≤ g.opening.age
+    by true there = (left.members m log there at).votes x c
+    by false none =
         let other = left.others m log (λ there. absurd (cc (there, none))) at in
         omega (arith, other.earlier.votes x c)
 

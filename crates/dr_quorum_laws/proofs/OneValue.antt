@@ -39,6 +39,7 @@ vote-apart g u m n v z apart can = record {
   may = record {
     alive = record { present = can.may.alive.present; running = can.may.alive.running };
     idle = at_other u.pending n (Some (vote_for g u n z)) m apart ∙ can.may.idle;
+    inside = can.may.inside;
   };
   wedged = can.wedged;
   uncommitted = can.uncommitted;

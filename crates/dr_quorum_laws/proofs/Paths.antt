@@ -1,10 +1,11 @@
 -- The path of views that the logs handed in name has every view that the histories of the age have.
-use Rattle.std.proofs.Common.{◌≡◌, ◌≢◌, refl, ap, sym, ◌∙◌, subst, ℕ, zero, suc, ◌+◌, ◌^◌, ◌<◌, ◌≤◌, nat_lt, arith, true, List, [], Contains, filter, Option, None, Some, option_and_then, option_map, if◌then◌else◌}
+use Rattle.std.proofs.Common.{◌≡◌, ◌≢◌, ◌⊎◌, inl, inr, ◌&&◌, not, Bool, false, refl, ap, sym, ◌∙◌, subst, ℕ, zero, suc, ◌+◌, ◌-◌, ◌^◌, ◌<◌, ◌≤◌, nat_lt, arith, true, List, [], Contains, filter, Option, None, Some, option_and_then, option_map, if◌then◌else◌}
 use Rattle.std.specs.Option.{option_map_or}
 use Rattle.dr_entry.specs.declared.record.Value.{Value}
 use Rattle.dr_entry.specs.declared.record.Vote.{Vote}
 use Rattle.dr_faithful.specs.Chosen.{views_by}
 use Rattle.dr_history.specs.Members.{has, members_of}
+use Rattle.dr_history.specs.Order.{IsNewIn}
 use Rattle.dr_history_laws.proofs.Members.{has-member, member-has}
 use Rattle.dr_machine.proofs.Presence.{in_roster}
 use Rattle.dr_machine.specs.Group.{Group, IsGroup, IsPresent, roster}
@@ -15,11 +16,11 @@ use Rattle.dr_restart.specs.declared.lists.LogLists.{LogLists}
 use Rattle.dr_restart.specs.Choosing.{HasQuorum, Handed, highest, names_next, next_on_path, next_votes, of_set, on_path}
 use Rattle.dr_vote_laws.proofs.Cuts.{vote_cut}
 use Rattle.dr_vote_laws.specs.Voting.{HaveVotedFor, IsCut}
-use Rattle.dr_words.proofs.Bits.{has_zero}
+use Rattle.dr_words.proofs.Bits.{has_ones, has_zero}
 use Rattle.dr_words.proofs.Majorities.{majorities_meet_lem}
-use Rattle.dr_words.proofs.Masks.{has_without_mask}
-use Rattle.dr_words.specs.Masks.{without}
-use Rattle.dr_world_laws.proofs.ChosenViews.{views-small}
+use Rattle.dr_words.proofs.Masks.{has_mask_of, has_next_members, same_masks}
+use Rattle.dr_words.specs.Masks.{next_members, without}
+use Rattle.dr_world_laws.proofs.ChosenViews.{views-within}
 use Rattle.dr_world_laws.proofs.HeldViews.{view-is}
 use Rattle.dr_world_laws.proofs.Telling.{view-ended}
 use Rattle.dr_world_laws.proofs.Worlds.{Known}
@@ -32,20 +33,41 @@ use Rattle.dr_quorum_laws.proofs.Lists.{filter-in, flat_map-in, highest-in, high
 
 -- ---- votes that name the next view
 
+-- a mask with members below a number alone has none but those
+of-roster-alone : (n mask : ℕ) → ((i : ℕ) → has mask i ≡ true → i < n) → without mask (2 ^ n - 1) ≡ 0
+of-roster-alone n mask within = same_masks (without mask (2 ^ n - 1)) 0 (λ i. by i (has mask i) refl)
+  where
+    by : (i : ℕ) (b : Bool) → has mask i ≡ b → has (without mask (2 ^ n - 1)) i ≡ has 0 i
+    by i false e = grind (
+      arith,
+      e,
+      has_mask_of (λ j. has mask j && not (has (2 ^ n - 1) j)) i,
+      has_zero i,
+    )
+    by i true e = grind (
+      arith,
+      e,
+      within i e,
+      has_mask_of (λ j. has mask j && not (has (2 ^ n - 1) j)) i,
+      has_ones n i,
+      has_zero i,
+    )
+
 names_so : (n age v members : ℕ) (x : Vote) → x.age ≡ age → x.view ≡ v → x.members ≡ n → x.value.leavers ≢ 0
-    → without members x.value.leavers ≢ 0 → names_next n age v members x ≡ true
-names_so n age v members x a b c d e = grind (arith, a, b, c, d, e)
+    → without x.value.leavers (2 ^ n - 1) ≡ 0
+    → next_members members x.value.leavers ≢ 0 → names_next n age v members x ≡ true
+names_so n age v members x a b c d inside e = grind (arith, a, b, c, d, inside, e)
 
 names_parts : (n age v members : ℕ) (x : Vote) → names_next n age v members x ≡ true
     → (x.age ≡ age) × (x.view ≡ v)
 names_parts n age v members x e = grind (arith, e)
 
--- a vote of a view names the next one: somebody leaves by it, and somebody stays
+-- a vote of a view names the next one: it names somebody, and somebody stays
 vote_names : (g : Group) (w : World) (i members : ℕ) (x : Vote) → IsGroup g → Known g w
     → HasView g w x.view members → HasLogged w.past.votes i x
     → names_next (roster g) g.opening.age x.view members x ≡ true
 vote_names g w i members x is y held h = names_so (roster g) g.opening.age x.view members x
-    (ap (λ (z : Vote). z.age) own) refl (ap (λ (z : Vote). z.members) own) some left
+    (ap (λ (z : Vote). z.age) own) refl (ap (λ (z : Vote). z.members) own) some inside left
   where
     own : x ≡ vote_in g x.view x.ballot x.value
     own = y.chosen.voting.valid.own i x h
@@ -53,27 +75,36 @@ vote_names g w i members x is y held h = names_so (roster g) g.opening.age x.vie
     same : views_by g y.values x.view ≡ members
     same = view-is g y.values w x.view members is y.chosen held
 
-    cut : IsCut members w.past.own x.view x.value
-    cut = subst (λ mask. IsCut mask w.past.own x.view x.value) same
-        (vote_cut g (views_by g y.values) w i x y.chosen.voting h)
-
-    small : members < 2 ^ 16
-    small = subst (λ mask. mask < 2 ^ 16) same (views-small g y.values x.view is)
+    cut : IsCut g.opening (views_by g y.values) w.past.own x.view x.value
+    cut = vote_cut g (views_by g y.values) w i x y.chosen.voting h
 
     some : x.value.leavers ≢ 0
-    some e = absurd (grind (arith, ap (λ mask. has mask cut.leaver.0) e, cut.leaver.2, has_zero cut.leaver.0))
+    some e = absurd (grind (arith, ap (λ mask. has mask cut.named.0) e, cut.named.1, has_zero cut.named.0))
 
-    left : without members x.value.leavers ≢ 0
+    there : (j : ℕ) → (has (views_by g y.values x.view) j ≡ true)
+        ⊎ IsNewIn g.opening (views_by g y.values) x.view j → j < roster g
+    there j (inl h) = views-within g y.values x.view j is h
+    there j (inr new) = in_roster g j is new.late.0
+
+    inside : without x.value.leavers (2 ^ roster g - 1) ≡ 0
+    inside = of-roster-alone (roster g) x.value.leavers (λ j h. there j (cut.newcomers j h))
+
+    met : (m : ℕ) × (has cut.mask m ≡ true) × (has cut.mask m ≡ true) × (has (views_by g y.values x.view) m ≡ true)
+    met = let t = majorities_meet_lem (views_by g y.values x.view) cut.mask cut.mask cut.part cut.part
+        cut.majority cut.majority in (t.0, t.3, t.3, t.2)
+
+    left : next_members members x.value.leavers ≢ 0
     left e =
-        let t = majorities_meet_lem members cut.mask cut.mask cut.part cut.part cut.majority cut.majority in
+        let here : has members met.0 ≡ true = sym (ap (λ mask. has mask met.0) same) ∙ met.3 in
         absurd (grind (
           arith,
-          has_without_mask members x.value.leavers t.0 small,
-          cut.leavers t.0 t.2,
-          t.3,
-          t.2,
-          ap (λ mask. has mask t.0) e,
-          has_zero t.0,
+          has_next_members members x.value.leavers met.0
+              (omega (arith, views-within g y.values x.view met.0 is met.3, is.most_members)),
+          cut.leavers met.0 met.3,
+          met.1,
+          here,
+          ap (λ mask. has mask met.0) e,
+          has_zero met.0,
         ))
 
 -- ---- a vote among those on the logs handed in
@@ -129,7 +160,8 @@ next_is g w choice logs tries set v members next s held after quorum = from top
     is : IsGroup g
     is = s.group
 
-    ended : (b : ℕ) × (x : Value) × HaveVotedFor w.past.votes members v b x × (next ≡ without members x.leavers)
+    ended : (b : ℕ) × (x : Value) × HaveVotedFor w.past.votes members v b x
+        × (next ≡ next_members members x.leavers)
     ended = let plus : suc v ≡ v + 1 = omega arith in
         view-ended g w v members next s.group s.known held (subst (λ k. HasView g w k next) plus after)
 
@@ -177,8 +209,11 @@ next_is g w choice logs tries set v members next s held after quorum = from top
         (subst (λ k. HaveVotedFor w.past.votes members k ended.0 ended.1) (sym p.1) ended.2)
         (omega (arith, l, one.2.0.by_ballot))
         (left-vote g w a.0 t.0 y t.1 (subst (λ l. Contains l y) t.2 a.4) p.0) in
-        ap (option_map (λ (x : Vote). without members x.value.leavers)) e
-        ∙ ap (λ (x : Value). Some (without members x.leavers)) value ∙ ap Some (sym ended.3)
+        ap (option_map (λ (x : Vote). next_members members x.value.leavers)) e
+        ∙ ap (λ (x : Value). Some (next_members members x.leavers)) value ∙ ap Some (sym ended.3)
+
+below-last : (v : ℕ) → v + 1 < 32 → nat_lt v 255 ≡ true
+below-last v few = grind (arith, few)
 
 -- so each view of the histories is on the path, where of each view on it more than half has
 pub path-has : (g : Group) (w : World) (choice logs : List LogLists) (tries : List Attempt) (set v members : ℕ)
@@ -197,12 +232,12 @@ path-has g w choice logs tries set (suc v) members s quorum held =
     h : Handed
     h = of_set logs set
 
-    by : (v + 1 < 16) × (mask : ℕ) × HasView g w v mask
+    by : (v + 1 < 32) × (mask : ℕ) × HasView g w v mask
         → ((mask : ℕ) → HasView g w v mask
         → on_path (of_set logs set) (roster g) g.opening.age g.opening.members v ≡ Some mask)
         → (if nat_lt v 255 then option_and_then (next_on_path (of_set logs set) (roster g) g.opening.age v)
         (on_path (of_set logs set) (roster g) g.opening.age g.opening.members v) else None) ≡ Some members
     by (few, mask, before) rest =
-        let less : nat_lt v 255 ≡ true = grind (arith, few) in
+        let less : nat_lt v 255 ≡ true = below-last v few in
         let at = rest mask before in
         rw (less, at) (next_is g w choice logs tries set v mask members s before held (quorum v mask at))

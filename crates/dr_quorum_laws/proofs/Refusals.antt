@@ -75,14 +75,13 @@ one-age h a b x y = by x.next y.next
       x.above n d other here knows,
     )
 
-same-start : (s t : Start) → s.age ≡ t.age → s.members ≡ t.members → s.present ≡ t.present
-    → s.entries ≡ t.entries → s ≡ t
-same-start s t a m p e = λ z. record { age = a z; members = m z; present = p z; entries = e z }
+same-start : (s t : Start) → s.age ≡ t.age → s.present ≡ t.present → s.entries ≡ t.entries
+    → s ≡ record t { members = s.members }
+same-start s t a p e = λ z. record { age = a z; members = s.members; present = p z; entries = e z }
 
-pub one-start : (o : Opening) (h : Handed) (s t : Start) → IsChosenStart o h s → IsChosenStart o h t → s ≡ t
-one-start o h s t x y =
-    let members : s.members ≡ t.members = x.members ∙ sym y.members in
-    same-start s t (one-age h s.age t.age x.age y.age) members (x.present ∙ (members ∙ sym y.present))
+pub one-start : (o : Opening) (h : Handed) (s t : Start) → IsChosenStart o h s → IsChosenStart o h t
+    → s ≡ record t { members = s.members }
+one-start o h s t x y = same-start s t (one-age h s.age t.age x.age y.age) (x.present ∙ sym y.present)
     (one-entries o h s.entries t.entries x.entries y.entries)
 
 -- ---- what each reason excludes

@@ -11,7 +11,7 @@ use Rattle.dr_history_laws.proofs.Standing.{all-by}
 use Rattle.std.specs.Prelude.{Some}
 use Rattle.dr_restart.specs.declared.lists.LogLists.{LogLists}
 use Rattle.dr_restart.specs.declared.start.Start.{Start}
-use Rattle.dr_restart.specs.Choosing.{AreOfHolders, AreOfNobody, Handed, IsChosenStart, handed_of}
+use Rattle.dr_restart.specs.Choosing.{AreOfHolders, AreOfNobody, Handed, HasQuorum, IsChosenStart, handed_of}
 use Rattle.dr_restart.specs.Trying.{opened_by}
 use Rattle.dr_restart.proofs.Groups.{first_group}
 use Rattle.dr_restart.specs.Groups.{first_group_of, group_of}
@@ -42,23 +42,24 @@ start-later o h start v c e = by c.entries (last-view start.entries v e)
         (inl (v.number, members, subst (λ es. Contains es (View v.age v.number members)) held.held.4 there))
     by (inr nobody) (members, there) = absurd (omega (arith, there.1, ap length nobody.none))
 
--- its members are of the roster, and somebody is
-start-members : (o : Opening) (h : Handed) (start : Start) (m : ℕ) → IsChosenStart o h start
-    → has start.members m ≡ true → m < length o.messages
-start-members o h start m c e = by (has_ones (length o.messages) m)
-    (handed-part h (whole_roster o) m (subst (λ mask. has mask m ≡ true) c.members e))
+-- who is there is of the roster
+start-present : (o : Opening) (h : Handed) (start : Start) (m : ℕ) → IsChosenStart o h start
+    → has start.present m ≡ true → m < length o.messages
+start-present o h start m c e = by (has_ones (length o.messages) m)
+    (handed-part h (whole_roster o) m (subst (λ mask. has mask m ≡ true) c.present e))
   where
     by : has (whole_roster o) m ≡ nat_lt m (length o.messages) → has (whole_roster o) m ≡ true
         → m < length o.messages
     by is there = grind (arith, is, there)
 
-start-some : (o : Opening) (h : Handed) (start : Start) → IsChosenStart o h start → 0 < start.members
-start-some o h start c = nonzero start.members t.0 (subst (λ mask. has mask t.0 ≡ true) (sym c.members) t.2)
+-- where more than half of the roster have handed in their logs, somebody has
+pub handed-some : (o : Opening) (h : Handed) → HasQuorum h (whole_roster o) → 0 < handed_of h (whole_roster o)
+handed-some o h quorum = nonzero (handed_of h (whole_roster o)) t.0 t.2
   where
     t : (m : ℕ) × (has (whole_roster o) m ≡ true) × (has (handed_of h (whole_roster o)) m ≡ true)
         × (log : LogLists) × (h m ≡ Some log)
-    t = quorum-meets h (whole_roster o) (handed_of h (whole_roster o)) c.quorum (handed-part h (whole_roster o))
-        c.quorum
+    t = quorum-meets h (whole_roster o) (handed_of h (whole_roster o)) quorum (handed-part h (whole_roster o))
+        quorum
 
     nonzero : (mask i : ℕ) → has mask i ≡ true → 0 < mask
     nonzero mask i h = grind (arith, h, has_zero i)
@@ -69,11 +70,11 @@ choice-sound o h start c = record {
   entries = all-by o (opened_by o start) start.entries refl (start-stands o h start c);
   later = λ v e. start-later o h start v c e;
   members = record {
-    some = start-some o h start c;
-    within = λ m e. start-members o h start m c e;
+    some = c.some;
+    within = λ m e. start-present o h start m c (c.members m e);
   };
-  part = λ m e. subst (λ mask. has mask m ≡ true) (sym c.present) e;
-  present = λ m e. start-members o h start m c (subst (λ mask. has mask m ≡ true) c.present e);
+  part = c.members;
+  present = λ m e. start-present o h start m c e;
 }
 
 -- with a script it makes a group
@@ -89,7 +90,6 @@ choice-group script h start ranges c = record {
   bytes = first.bytes;
   age = c.left;
   sound = choice-sound (first_group_of script).opening h start c;
-  joined = c.present;
 }
   where
     first : IsGroup (first_group_of script)

@@ -356,7 +356,7 @@ tried-held g w choice before after tries try s t = record {
     kept = chosen-keeps g w choice before tries try.set try.start s t.choice
 
     set : try.set ≡ handed_of (of_set before try.set) (whole_roster g.opening)
-    set = t.set ∙ t.choice.members
+    set = t.set ∙ t.choice.present
 
     begins : (m d k : ℕ) (old log : LogLists) → slice_get after m ≡ Some log → slice_get before m ≡ Some old
         → IsPresent g k → d ≤ w.past.durable k → IsPrefixOf (take d s.held.history) old.entries

@@ -51,8 +51,8 @@ pub fn votes_left_are_one()
 {}
 
 /// An age may start with what logs make, whichever are missing: its entries may stand on a log, its age is
-/// above that of the last View, and its members are those that have handed in their logs. With a script it
-/// makes a group.
+/// above that of the last View, who is there are those that have handed in their logs, and its members are some of
+/// them. With a script it makes a group.
 pub fn choices_are_sound()
     ensures sound { (o : Opening) (h : Handed) (start : StartOf) → IsChosenStart o h start
         → Sound (opened_by o start) }
@@ -60,10 +60,11 @@ pub fn choices_are_sound()
         → IsChosenStart (first_group_of script).opening h start → IsGroup (group_of script start) }
 {}
 
-/// Logs make one start at most, or are refused for one reason at most, and never both.
+/// Logs make one start at most but for who are the members of its first view, or are refused for one reason at
+/// most, and never both.
 pub fn choices_are_one()
     ensures start { (o : Opening) (h : Handed) (one other : StartOf) → IsChosenStart o h one
-        → IsChosenStart o h other → one ≡ other }
+        → IsChosenStart o h other → one ≡ record other { members = one.members } }
     ensures unrefused { (o : Opening) (h : Handed) (start : StartOf) (why : Refusal)
         → IsChosenStart o h start → IsRefusedFor o h why → ⊥ }
     ensures refusal { (o : Opening) (h : Handed) (one other : Refusal) → IsRefusedFor o h one
@@ -96,9 +97,9 @@ pub fn all_logs_are_enough()
         → AreAllAlong (entries_on_logs logs) → IsRefusedFor o (of_set logs set) why → why ≡ AgesUsedUp }
 {}
 
-/// Where the logs of more than half of the roster come back, those of all members of the last age's View 0 among
-/// them, all of their entries may stand, and of any two of that age one is a front of the other, they are refused
-/// only where one knows the last age, whichever others are missing.
+/// Where the logs of more than half of the roster come back, those of all members of the last age's View 0 and
+/// of all whom a vote of that age names among them, all of their entries may stand, and of any two of that age one
+/// is a front of the other, they are refused only where one knows the last age, whichever others are missing.
 pub fn returning_logs_are_enough()
     ensures { (o : Opening) (h : Handed) (why : Refusal) → length o.messages ≤ 16 → HaveReturned o h
         → IsRefusedFor o h why → why ≡ AgesUsedUp }

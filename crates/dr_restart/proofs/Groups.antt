@@ -1,5 +1,5 @@
 -- A script and a first start make a group.
-use Rattle.std.proofs.Common.{◌≡◌, refl, true, zero, suc, sym, ap, ◌∙◌, ◌⊎◌, inl, inr, subst, ℕ, ◌-◌, ◌^◌, ◌<◌, ◌≤◌, List, [], length, get_or, arith}
+use Rattle.std.proofs.Common.{◌≡◌, true, zero, suc, sym, ap, ◌∙◌, ◌⊎◌, inl, inr, subst, ℕ, ◌-◌, ◌^◌, ◌<◌, ◌≤◌, List, [], length, get_or, arith}
 use Rattle.std.specs.Prelude.{All, Some, slice_get, slice_index, unwrap_or}
 use Rattle.std.proofs.lemmas.Option.{get_or_from_slice_get, slice_get_within, slice_get_past, unwrap_or-slice_get}
 use Rattle.std.proofs.lemmas.Bool.{cases_lt}
@@ -75,7 +75,6 @@ first_group script ranges = record {
     part = λ m h. h;
     present = within;
   };
-  joined = refl;
 }
   where
     within : (m : ℕ) → has (2 ^ script.members - 1) m ≡ true → m < length script.messages

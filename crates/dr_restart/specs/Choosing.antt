@@ -1,5 +1,5 @@
 -- What the logs that are handed in make the next age start with, though others may be missing.
-use Rattle.std.specs.Prelude.{◌≡◌, ℕ, zero, suc, ◌+◌, ◌<◌, ◌≤◌, ◌⊎◌, ◌^◌, ◌==◌, ◌&&◌, nat_lt, not, if◌then◌else◌, List, [], ◌∷◌, filter, length, Contains, Option, None, Some, is_some, option_and_then, option_map, slice_get, Bool}
+use Rattle.std.specs.Prelude.{◌≡◌, ℕ, zero, suc, ◌+◌, ◌-◌, ◌<◌, ◌≤◌, ◌⊎◌, ◌^◌, ◌==◌, ◌&&◌, nat_lt, not, if◌then◌else◌, List, [], ◌∷◌, filter, length, Contains, Option, None, Some, is_some, option_and_then, option_map, slice_get, Bool}
 use Rattle.std.specs.List.{flat_map}
 use Rattle.std.specs.Option.{option_map_or}
 use Rattle.dr_entry.specs.declared.entry.Entry.{Entry}
@@ -10,7 +10,7 @@ use Rattle.dr_history.specs.History.{GroupView, view_of}
 use Rattle.dr_history.specs.Members.{has, members_of}
 use Rattle.dr_history.specs.Restarting.{AllStand, AreAlong}
 use Rattle.dr_history.specs.Soundness.{whole_roster}
-use Rattle.dr_words.specs.Masks.{IsMajorityOf, mask_of, without}
+use Rattle.dr_words.specs.Masks.{IsMajorityOf, IsPartOf, mask_of, next_members, without}
 use Rattle.dr_entry.specs.declared.record.AgeVote.{AgeVote}
 use Rattle.dr_restart.specs.declared.lists.LogLists.{LogLists}
 use Rattle.dr_restart.specs.declared.start.Start.{Start}
@@ -49,12 +49,13 @@ AreOnHolder h age es =
 
 -- ---- the path of its views
 
--- a vote of this view of the age, in a roster of so many, names the next one: somebody leaves by it, and
--- somebody stays
+-- a vote of this view of the age, in a roster of so many, names the next one: it names some members of the roster
+-- and nobody else, and somebody is in the next view
 abbrev pub names_next : ℕ → ℕ → ℕ → ℕ → Vote → Bool
 names_next n age v members x =
     x.age == age && (x.view == v && (x.members == n
-    && (not (x.value.leavers == 0) && not (without members x.value.leavers == 0))))
+    && (not (x.value.leavers == 0) && (without x.value.leavers (2 ^ n - 1) == 0
+    && not (next_members members x.value.leavers == 0)))))
 
 -- the votes that name it on the logs of the members of the view, by ascending member and as they stand there
 abbrev pub next_votes : Handed → ℕ → ℕ → ℕ → ℕ → List Vote
@@ -70,7 +71,7 @@ highest (x ∷ xs) = Some (option_map_or (λ y. if nat_lt x.ballot y.ballot then
 -- the members of the view that follows a view of these members, where a vote names it
 abbrev pub next_on_path : Handed → ℕ → ℕ → ℕ → ℕ → Option ℕ
 next_on_path h n age v members =
-    option_map (λ x. without members x.value.leavers) (highest (next_votes h n age v members))
+    option_map (λ x. next_members members x.value.leavers) (highest (next_votes h n age v members))
 
 -- the members of view v of the age, where `first` are those of View 0
 unfoldable pub on_path : Handed → ℕ → ℕ → ℕ → ℕ → Option ℕ
@@ -113,13 +114,15 @@ pub record IsAgeAfter (h : Handed) (age : ℕ) : Type 0 where
   pub next : (age ≡ 0)
       ⊎ ((a : ℕ) × (m : ℕ) × (log : LogLists) × (h m ≡ Some log) × HasAge log a × (age ≡ a + 1))
 
--- The start that the logs handed in make: each is a log that the script can have brought about, they are
--- those of more than half of the roster, and the members of the age are those that handed them in.
+-- A start that the logs handed in make: each is a log that the script can have brought about, and they are
+-- those of more than half of the roster. Who is there are those that handed them in, and the members of the
+-- age's first view are some of them.
 pub record IsChosenStart (o : Opening) (h : Handed) (start : Start) : Type 0 where
   pub sound : (m : ℕ) (log : LogLists) → h m ≡ Some log → AllStand o log.entries
   pub quorum : HasQuorum h (whole_roster o)
   pub entries : AreOfHolders o h start.entries ⊎ AreOfNobody h start.entries
   pub age : IsAgeAfter h start.age
   pub left : start.age < 2 ^ 16
-  pub members : start.members ≡ handed_of h (whole_roster o)
-  pub present : start.present ≡ start.members
+  pub present : start.present ≡ handed_of h (whole_roster o)
+  pub members : IsPartOf start.members start.present
+  pub some : 0 < start.members

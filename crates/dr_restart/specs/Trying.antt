@@ -57,7 +57,7 @@ MayBeBroughtUp start old new =
 pub record IsTry (o : Opening) (before after : List LogLists) (try : Attempt) : Type 0 where
   -- the logs of a set make a start
   pub choice : IsChosenStart o (of_set before try.set) try.start
-  pub set : try.set ≡ try.start.members
+  pub set : try.set ≡ try.start.present
   -- the other logs are as before
   pub places : length after ≡ length before
   pub others : (m : ℕ) → has try.set m ≡ false → slice_get after m ≡ slice_get before m

@@ -10,5 +10,5 @@ mod start;
 pub use copies::{copy_entries, copy_messages};
 pub use laws::setups_are_of_the_group;
 pub use lists::{Attempt, LogLists};
-pub use setup::{setup_of, shape_of};
+pub use setup::{late_of, setup_of, shape_of};
 pub use start::{Start, first_start};

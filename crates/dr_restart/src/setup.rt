@@ -1,6 +1,8 @@
 //! What the members of a group are told as its age opens.
-ghost use Rattle.std.specs.Prelude.{◌≡◌, ◌≤◌, ◌<◌, All, IfOk, [], length, map, slice_index_or};
+ghost use Rattle.std.specs.Prelude.{◌≡◌, ◌+◌, ◌≤◌, ◌<◌, All, IfOk, [], length, map, slice_index_or};
 ghost use Rattle.std.specs.List.{range_with_len};
+ghost use Rattle.dr_history.specs.Members.{members_of};
+ghost use Rattle.dr_words.specs.Masks.{without};
 ghost use Rattle.dr_machine.specs.Group.{IsPresent};
 ghost use Rattle.dr_script.specs.Ranges.{HasGroupRanges};
 ghost use Rattle.dr_restart.specs.Groups.{group_of};
@@ -14,17 +16,25 @@ use dr_script::{Fault, Script, What};
 use dr_words::{Mask, Shape};
 use std::alloc::{AllocError, Global};
 
-/// The shape of the table of a script's group: a bank for each member.
-pub fn shape_of(script: &Script) -> Shape
+/// The members that are late in the age of a start: they are there, and not in View 0.
+pub fn late_of(start: &Start) -> Mask
+    ensures { result ≡ without start.now.present start.now.members }
+{
+    Mask::of(start.present).without(Mask::of(start.members))
+}
+
+/// The shape of the table of a script's group in the age of a start: a bank for each member of the roster, and
+/// one more for each late member.
+pub fn shape_of(script: &Script, start: &Start) -> Shape
     requires { HasGroupRanges script.now }
     ensures members { result.members ≡ script.now.members }
     ensures window { result.window ≡ script.now.window }
-    ensures banks { result.banks ≡ script.now.members }
+    ensures banks { result.banks ≡ script.now.members + length (members_of (without start.now.present start.now.members)) }
 {
     Shape {
         members: script.members,
         window: script.window,
-        banks: script.members,
+        banks: script.members + late_of(start).count(),
     }
 }
 
@@ -48,10 +58,11 @@ pub fn setup_of(
     let lists = script.messages.as_slice();
     let (crashes, suspicions) = faults_of(alloc, script.faults.as_slice(), nth, me)?;
     Ok(Setup {
-        shape: shape_of(script),
+        shape: shape_of(script, start),
         me,
         age: start.age,
         members: Mask::of(start.members),
+        late: late_of(start),
         turns: script.turns,
         patience: script.patience,
         start: copy_entries(alloc, &start.entries)?,
