@@ -25,12 +25,12 @@ use Rattle.dr_opening.proofs.Ways.{KeepsVotes, rising_brought, rising_has, risin
 
 -- ---- who is in the set
 
--- the members of the start are those whose logs are there
-members_are : (o : Opening) (contents : List (Option OnLog)) (start : Start) (m : ℕ) (b : Bool)
+-- who is there by the start are those whose logs are there
+present_are : (o : Opening) (contents : List (Option OnLog)) (start : Start) (m : ℕ) (b : Bool)
     → IsChosenOf o contents start → length o.messages ≤ 16 → is_some (content_at contents m) ≡ b
-    → (b ≡ true → m < length o.messages) → has start.members m ≡ b
-members_are o contents start m b is few there within =
-    ap (λ x. has x m) is.chosen.members
+    → (b ≡ true → m < length o.messages) → has start.present m ≡ b
+present_are o contents start m b is few there within =
+    ap (λ x. has x m) is.chosen.present
     ∙ has_mask_of (λ i. has (whole_roster o) i && is_some (handed_by (all_as_lists contents) i)) m
     ∙ by b (ap is_some (handed_is contents m) ∙ same (content_at contents m) ∙ there) within
   where
@@ -46,16 +46,16 @@ members_are o contents start m b is few there within =
 
 pub in_set : (o : Opening) (contents : List (Option OnLog)) (start : Start) (m : ℕ) (c : OnLog)
     → IsChosenOf o contents start → length o.messages ≤ 16 → content_at contents m ≡ Some c
-    → has start.members m ≡ true
+    → has start.present m ≡ true
 in_set o contents start m c is few at =
-    members_are o contents start m true is few (ap is_some at)
+    present_are o contents start m true is few (ap is_some at)
     (λ e. omega (arith, within_places contents m c at, is.all))
 
 pub out_of_set : (o : Opening) (contents : List (Option OnLog)) (start : Start) (m : ℕ)
     → IsChosenOf o contents start → length o.messages ≤ 16 → content_at contents m ≡ None
-    → has start.members m ≡ false
+    → has start.present m ≡ false
 out_of_set o contents start m is few at =
-    members_are o contents start m false is few (ap is_some at) (λ e. absurd (cc))
+    present_are o contents start m false is few (ap is_some at) (λ e. absurd (cc))
 
 -- ---- the choice, of lists of all members
 
@@ -63,7 +63,7 @@ out_of_set o contents start m is few at =
 handed_so : (o : Opening) (contents : List (Option OnLog)) (before : List LogLists) (start : Start) (m : ℕ)
     → IsChosenOf o contents start → length o.messages ≤ 16 → AreAmong contents before
     → (c : Option OnLog) → content_at contents m ≡ c
-    → handed_by (all_as_lists contents) m ≡ of_set before start.members m
+    → handed_by (all_as_lists contents) m ≡ of_set before start.present m
 handed_so o contents before start m is few among (Some c) at =
     handed_is contents m ∙ ap (option_map as_lists) at
     ∙ sym (ap (λ b. if b then slice_get before m else None) (in_set o contents start m c is few at) ∙ among m c at)
@@ -73,9 +73,9 @@ handed_so o contents before start m is few among None at =
 
 pub chosen_by : (o : Opening) (contents : List (Option OnLog)) (before : List LogLists) (start : Start)
     → IsChosenOf o contents start → length o.messages ≤ 16 → AreAmong contents before
-    → IsChosenStart o (of_set before start.members) start
+    → IsChosenStart o (of_set before start.present) start
 chosen_by o contents before start is few among =
-    let same : handed_by (all_as_lists contents) ≡ of_set before start.members = fun_ext λ m.
+    let same : handed_by (all_as_lists contents) ≡ of_set before start.present = fun_ext λ m.
     handed_so o contents before start m is few among (content_at contents m) refl in
     subst (λ (h : Handed). IsChosenStart o h start) same is.chosen
 
@@ -91,7 +91,7 @@ pub record Knows (P : OnLog → OnLog → Type 0) (o : Opening) (contents : List
 
 -- a log of the set was there, and came to something
 there : (P : OnLog → OnLog → Type 0) (o : Opening) (contents : List (Option OnLog)) (before after : List LogLists)
-    (start : Start) (m : ℕ) → Knows P o contents before after start → has start.members m ≡ true
+    (start : Start) (m : ℕ) → Knows P o contents before after start → has start.present m ≡ true
     → (c : OnLog) × (now : OnLog) × (content_at contents m ≡ Some c) × P c now
     × (slice_get after m ≡ Some (as_lists now))
 there P o contents before after start m k inside = by (content_at contents m) refl
@@ -104,7 +104,7 @@ there P o contents before after start m k inside = by (content_at contents m) re
 
 -- of a log that is not in the set nothing changed
 beside : (P : OnLog → OnLog → Type 0) (o : Opening) (contents : List (Option OnLog)) (before after : List LogLists)
-    (start : Start) (m : ℕ) → Knows P o contents before after start → has start.members m ≡ false
+    (start : Start) (m : ℕ) → Knows P o contents before after start → has start.present m ≡ false
     → slice_get after m ≡ slice_get before m
 beside P o contents before after start m k outside = by (content_at contents m) refl
   where
@@ -122,7 +122,7 @@ pub record Both (P : OnLog → OnLog → Type 0) (old new : LogLists) : Type 0 w
 
 both_there : (P : OnLog → OnLog → Type 0) (o : Opening) (contents : List (Option OnLog))
     (before after : List LogLists) (start : Start) (m : ℕ) (old new : LogLists)
-    → Knows P o contents before after start → has start.members m ≡ true → slice_get before m ≡ Some old
+    → Knows P o contents before after start → has start.present m ≡ true → slice_get before m ≡ Some old
     → slice_get after m ≡ Some new → Both P old new
 both_there P o contents before after start m old new k inside was are =
     let one = there P o contents before after start m k inside in
@@ -143,9 +143,9 @@ votes_stay : (P : OnLog → OnLog → Type 0) (o : Opening) (contents : List (Op
     (before after : List LogLists) (start : Start) (m : ℕ) (old new : LogLists)
     → Knows P o contents before after start → ((c now : OnLog) → P c now → KeepsVotes c now)
     → slice_get before m ≡ Some old → slice_get after m ≡ Some new → Stay old new
-votes_stay P o contents before after start m old new k keeps was are = by (has start.members m) refl
+votes_stay P o contents before after start m old new k keeps was are = by (has start.present m) refl
   where
-    by : (b : Bool) → has start.members m ≡ b → Stay old new
+    by : (b : Bool) → has start.present m ≡ b → Stay old new
     by false outside =
         let same = same_Some old new
         (sym was ∙ sym (beside P o contents before after start m k outside) ∙ are) in
@@ -163,8 +163,8 @@ pub try_made : (P : OnLog → OnLog → Type 0) (o : Opening) (contents : List (
     → ((c now : OnLog) → P c now → KeepsVotes c now)
     → ((c now : OnLog) → P c now → MayBeBroughtUp start c.entries now.entries)
     → (opened ≡ false → (c now : OnLog) → P c now → MayHaveAgeVote start (as_lists c) (as_lists now))
-    → (opened ≡ true → HaveAgeVote after start.members start)
-    → (opened ≡ false → ¬ HaveAgeVote after start.members start)
+    → (opened ≡ true → HaveAgeVote after start.present start)
+    → (opened ≡ false → ¬ HaveAgeVote after start.present start)
     → IsTry o before after (try_of start opened)
 try_made P o contents before after start opened k keeps brought waits have lack = record {
   choice = chosen_by o contents before start k.is k.few k.among;
@@ -190,7 +190,7 @@ try_made P o contents before after start opened k keeps brought waits have lack 
 -- the second phase is that of an opened try
 all_rising : (o : Opening) (contents : List (Option OnLog)) (before after : List LogLists) (start : Start)
     → Knows (λ c now. IsRising start (voted_for start c) now) o contents before after start
-    → HaveAgeVote after start.members start
+    → HaveAgeVote after start.present start
 all_rising o contents before after start k m log inside =
     let one = there (λ c now. IsRising start (voted_for start c) now) o contents before after start m k inside.0 in
     subst (λ (l : LogLists). Contains l.age_votes (age_vote_of start))

@@ -44,9 +44,9 @@ entries_among contents lists m c among at =
 -- where none is missing all are in the set
 pub all_in_set : (o : Opening) (contents : List (Option OnLog)) (start : Start) (m : ℕ)
     → IsChosenOf o contents start → length o.messages ≤ 16 → is_some (content_at contents m) ≡ true
-    → has start.members m ≡ true
+    → has start.present m ≡ true
 all_in_set o contents start m is few there = by (content_at contents m) refl there
   where
-    by : (d : Option OnLog) → content_at contents m ≡ d → is_some d ≡ true → has start.members m ≡ true
+    by : (d : Option OnLog) → content_at contents m ≡ d → is_some d ≡ true → has start.present m ≡ true
     by (Some c) at is_there = in_set o contents start m c is few at
     by None at is_there = absurd (cc)

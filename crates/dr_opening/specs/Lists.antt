@@ -1,5 +1,6 @@
 -- What stands on logs, one place for each member.
-use Rattle.std.specs.Prelude.{ℕ, List, map, Option, None, option_map, slice_index_or}
+use Rattle.std.specs.Prelude.{◌≡◌, ℕ, false, List, map, Option, None, Some, option_map, slice_index_or}
+use Rattle.dr_history.specs.Members.{has}
 use Rattle.dr_log.specs.State.{LogState}
 use Rattle.dr_log_bytes.specs.Content.{OnLog}
 use Rattle.dr_restart.specs.declared.lists.LogLists.{LogLists}
@@ -7,6 +8,11 @@ use Rattle.dr_restart.specs.declared.lists.LogLists.{LogLists}
 -- the log of a member, by number, where it is not missing
 abbrev pub log_of : {D : Type 0} → List (Option (LogState D)) → ℕ → Option (LogState D)
 log_of logs m = slice_index_or logs m None
+
+-- somebody whose log is there isn't late
+abbrev pub SomebodyPrompt : {D : Type 0} → ℕ → List (Option (LogState D)) → Type 0
+SomebodyPrompt {D} late logs =
+    (m : ℕ) × (log : LogState D) × (log_of logs m ≡ Some log) × (has late m ≡ false)
 
 -- what is on each log
 abbrev pub contents_of : {D : Type 0} → List (Option (LogState D)) → List (Option OnLog)

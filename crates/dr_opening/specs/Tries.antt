@@ -18,7 +18,7 @@ use Rattle.dr_opening.specs.Lists.{all_as_lists, as_lists, log_of}
 
 -- the try to open the age of a start, on the logs of its members
 abbrev pub try_of : Start → Bool → Attempt
-try_of start opened = record { set = start.members; start = start; opened = opened }
+try_of start opened = record { set = start.present; start = start; opened = opened }
 
 -- the start was chosen of what is on the logs that are there, in a place for each member
 pub record IsChosenOf (o : Opening) (contents : List (Option OnLog)) (start : Start) : Type 0 where
@@ -48,10 +48,10 @@ HasStoppedSo start contents before after =
     CameSo (IsVoting start) contents before after
     ⊎ CameSo (λ c now. IsRising start (voted_for start c) now) contents before after
 
--- a try is told rightly by the logs that it left: its set are the members of its start, and it was opened exactly
--- where each of their logs has the age vote
+-- a try is told rightly by the logs that it left: its set are those who are there by its start, and it was opened
+-- exactly where each of their logs has the age vote
 pub record IsToldBy (after : List LogLists) (try : Attempt) : Type 0 where
-  pub set : try.set ≡ try.start.members
+  pub set : try.set ≡ try.start.present
   pub opened : try.opened ≡ true → HaveAgeVote after try.set try.start
   pub unopened : try.opened ≡ false → ¬ HaveAgeVote after try.set try.start
 

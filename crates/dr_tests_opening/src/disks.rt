@@ -1,12 +1,14 @@
 //! Disks with logs.
-ghost use Rattle.std.specs.Prelude.{◌≡◌, ℕ, IfOk, Some, false, vec_len};
+ghost use Rattle.std.specs.Prelude.{◌≡◌, ◌≤◌, ℕ, IfOk, IsTrue, Some, false, length, vec_len};
+ghost use Rattle.dr_entry.specs.declared.limits.TheConstants.{MAX_MEMBERS};
 ghost use Rattle.dr_disk.specs.Memory.{MemoryState};
 ghost use Rattle.dr_log.specs.State.{LogState};
-ghost use Rattle.dr_opening.specs.Lists.{log_of};
+ghost use Rattle.dr_opening.specs.Lists.{SomebodyPrompt, log_of};
 
 use anyhow::anyhow;
 use dr_disk::{Disk, MemoryDisk};
 use dr_log::Log;
+use dr_words::Mask;
 use std::alloc::Global;
 
 /// The most bytes of a log.
@@ -29,6 +31,41 @@ pub(crate) fn logs_of(
         logs.push(log_at(alloc, m, disks, missing, broken)?)?;
     }
     Ok(logs)
+}
+
+/// The late members, listed as digits, where somebody else is there.
+pub(crate) fn late_among(logs: &[Option<Log<MemoryDisk>>], members: &str) -> anyhow::Result<Mask>
+    requires { length logs.now ≤ MAX_MEMBERS }
+    ensures { IfOk result (λ late. SomebodyPrompt late logs.now) }
+{
+    let late = mask_of(members.trim());
+    if has_prompt(logs, late) {
+        Ok(late)
+    } else {
+        Err(anyhow!("everybody who is there is late"))
+    }
+}
+
+/// The mask of members that are listed as digits.
+fn mask_of(digits: &str) -> Mask {
+    let mut mask = Mask::empty();
+    for digit in digits.bytes() {
+        mask = mask.with(digit % 16);
+    }
+    mask
+}
+
+/// Whether the log of somebody is there who isn't late.
+fn has_prompt(logs: &[Option<Log<MemoryDisk>>], late: Mask) -> bool
+    requires { length logs.now ≤ MAX_MEMBERS }
+    ensures { IsTrue result → SomebodyPrompt late logs.now }
+{
+    for m in 0..logs.len() {
+        if logs[m].is_some() && !late.has(m as u8) {
+            return true;
+        }
+    }
+    false
 }
 
 /// The log of a member, unless it is missing.

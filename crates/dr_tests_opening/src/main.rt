@@ -3,14 +3,15 @@
 //!
 //! A line that begins with a brace is a script, and takes away the disks; one that begins with `#` says what the
 //! lines behind it show. `disk` is the disk of the next member, and what stands on it, in hexadecimal. `open` and
-//! members opens an age on the logs of all others; members are listed as digits. With `after M N` behind that, the
-//! disk of member M fails from its call N + 1 on. What stands on each disk then is there when the next age opens.
+//! members opens an age on the logs of all others; members are listed as digits. With `late` and members behind
+//! that, these are late, and with `after M N` the disk of member M fails from its call N + 1 on. What stands on each
+//! disk then is there when the next age opens.
 #![tactic(auto)]
 
 mod disks;
 mod printing;
 
-use disks::{keep_all, logs_of};
+use disks::{keep_all, late_among, logs_of};
 use dr_opening::open_age;
 use dr_script::read_script;
 use printing::text_of;
@@ -49,9 +50,11 @@ fn opened(
     words: &str,
 ) -> anyhow::Result<String> {
     let script = read_script(alloc, script.as_bytes())?;
-    let (missing, rest) = words.split_once("after").unwrap_or((words, ""));
+    let (members, rest) = words.split_once("after").unwrap_or((words, ""));
+    let (missing, late) = members.split_once("late").unwrap_or((members, ""));
     let mut logs = logs_of(alloc, script.members, disks.as_slice(), missing, rest)?;
-    let answer = open_age(alloc, &script, logs.as_mut_slice());
+    let late = late_among(logs.as_slice(), late)?;
+    let answer = open_age(alloc, &script, late, logs.as_mut_slice());
     keep_all(alloc, logs, disks)?;
     text_of(alloc, answer)
 }

@@ -7,6 +7,6 @@ use Rattle.dr_opening.proofs.laws.whole_openings_cut_nothing.Goals as goal
 pub returns : goal.returns
 returns c o contents lists start few is among all there along m content at =
     front_of_longest (entries_on_logs lists) start.entries content.entries m along
-    (c.all_logs_give_the_longest.ensures o lists start.members start (chosen_by o contents lists start is few among)
+    (c.all_logs_give_the_longest.ensures o lists start.present start (chosen_by o contents lists start is few among)
     (λ i l. all_in_set o contents start i is few (there i (omega (arith, l, all)))) along)
     (entries_among contents lists m content among at)
