@@ -1,12 +1,14 @@
 -- Which log may go, from what is found of each member.
-use Rattle.std.proofs.Common.{◌≡◌, ◌≢◌, ◌⊎◌, inl, inr, subst, arith, ℕ, ◌+◌, ◌<◌, ◌≤◌, List}
+use Rattle.std.proofs.Common.{◌≡◌, ◌≢◌, ◌⊎◌, inl, inr, refl, sym, subst, arith, ℕ, ◌+◌, ◌<◌, ◌≤◌, Bool, true, false, if◌then◌else◌, List}
 use Rattle.std.specs.Prelude.{None, Some}
 use Rattle.std.proofs.lemmas.Bool.{cases_lt}
 use Rattle.dr_restart.specs.declared.start.Start.{Start}
 use Rattle.dr_script.specs.declared.script.Script.{Script}
+use Rattle.dr_folder.specs.declared.advice.Advice.{Advice}
+use Rattle.dr_folder.specs.declared.advice.Advice.TheVariants as advised
 use Rattle.dr_folder.specs.declared.file.LogFile.{LogFile}
 use Rattle.dr_folder.specs.declared.survey.Survey.{Survey}
-use Rattle.dr_folder.specs.Advice.{CanNotGo, IsNextAway, MayGo}
+use Rattle.dr_folder.specs.Advice.{CanNotGo, IsAdvice, IsNextAway, MayGo, are_shared}
 
 -- the logs of these members can't go: those from one number on, below another
 abbrev pub CanNotGoTo : Script → List LogFile → List Survey → ℕ → ℕ → Type 0
@@ -28,9 +30,11 @@ can_not_more script files surveys from n before here m behind below = by (cases_
 -- the only one without which the others make a start may go
 pub only_one : (script : Script) (files : List LogFile) (surveys : List Survey) (member : ℕ) (start : Start)
     → IsNextAway script files surveys 0 (Some (member, start))
-    → IsNextAway script files surveys (member + 1) None → MayGo script files surveys member start
-only_one script files surveys member start (from, below, makes, before) behind = record {
+    → IsNextAway script files surveys (member + 1) None → are_shared start.entries ≡ true
+    → MayGo script files surveys member start
+only_one script files surveys member start (from, below, makes, before) behind shared = record {
   makes = makes;
+  shared = shared;
   only = λ m inside apart. by m inside apart (cases_lt m member);
 }
   where
@@ -38,3 +42,17 @@ only_one script files surveys member start (from, below, makes, before) behind =
         → CanNotGo script files surveys m
     by m inside apart (inl less) = before m (omega arith) less
     by m inside apart (inr more) = behind m (omega (arith, apart, more)) inside
+
+-- what is advised then
+pub away_if : (script : Script) (files : List LogFile) (surveys : List Survey) (member : ℕ) (start : Start)
+    (advice : Advice) → IsNextAway script files surveys 0 (Some (member, start))
+    → IsNextAway script files surveys (member + 1) None
+    → advice ≡ (if are_shared start.entries then advised.Away member start else advised.Alone member)
+    → IsAdvice script files surveys advice
+away_if script files surveys member start advice first behind is =
+    subst (IsAdvice script files surveys) (sym is) (by (are_shared start.entries) refl)
+  where
+    by : (shared : Bool) → are_shared start.entries ≡ shared
+        → IsAdvice script files surveys (if shared then advised.Away member start else advised.Alone member)
+    by true shared = only_one script files surveys member start first behind shared
+    by false alone = tt

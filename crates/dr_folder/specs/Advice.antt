@@ -1,5 +1,11 @@
 -- Which log may be moved away.
-use Rattle.std.specs.Prelude.{◌≡◌, ◌≢◌, ◌⊎◌, ⊤, ℕ, ◌+◌, ◌<◌, ◌≤◌, true, List, length, slice_get, slice_set, Option, None, Some}
+use Rattle.std.specs.Prelude.{◌≡◌, ◌≢◌, ◌⊎◌, ⊤, ℕ, ◌+◌, ◌<◌, ◌≤◌, ◌==◌, ◌||◌, not, nat_lt, Bool, true, false, List, length, slice_get, slice_set, Option, None, Some}
+use Rattle.std.specs.List.{list_all}
+use Rattle.std.specs.Option.{option_map_or}
+use Rattle.dr_entry.specs.declared.entry.Entry.{Entry}
+use Rattle.dr_entry.specs.declared.entry.Entry.TheVariants.{View, Msg}
+use Rattle.dr_history.specs.History.{GroupView, view_of}
+use Rattle.dr_history.specs.Members.{members_of}
 use Rattle.dr_restart.specs.declared.start.Start.{Start}
 use Rattle.dr_script.specs.declared.script.Script.{Script}
 use Rattle.dr_text.specs.declared.last.Last.{Last}
@@ -32,11 +38,23 @@ abbrev pub CanNotGo : Script → List LogFile → List Survey → ℕ → Type 0
 CanNotGo script files surveys member =
     (AreIntactBut surveys member → ⊥) ⊎ ((last : Last) × IsBarred script (slice_set files member Missing) last)
 
+-- the entry is no View of this age, or one of several members
+abbrev pub is_shared : ℕ → Entry → Bool
+is_shared age (View other number members) = not (other == age) || nat_lt 1 (length (members_of members))
+is_shared age (Msg sender index bytes) = true
+
+-- each View of the last age among entries is one of several members: the first may have one alone, where the
+-- others were late
+abbrev pub are_shared : List Entry → Bool
+are_shared es = option_map_or (λ (v : GroupView). list_all (is_shared v.age) es) (view_of es) false
+
 -- The log of this member may be moved away: it is the only one without which the others, all of them intact, make
--- a run start. So if one log alone is bad, it is this one, and what was durable stands on another one.
+-- a run start, and in the last age of that no view had one member alone. So if one log alone is bad, it is this
+-- one, and what was durable stands on another one.
 pub record MayGo (script : Script) (files : List LogFile) (surveys : List Survey) (member : ℕ) (start : Start)
     : Type 0 where
   pub makes : MakesStartAlone script files surveys member start
+  pub shared : are_shared start.entries ≡ true
   pub only : (m : ℕ) → m < script.members → m ≢ member → CanNotGo script files surveys m
 
 -- what is advised: a log is told that may be moved away

@@ -49,11 +49,13 @@ pub record IsRefusedAt (n : ℕ) (files : List LogFile) (last : Last) : Type 0 w
   pub contents : List (Option OnLog)
   pub before : AreTakenFor member files contents
 
--- what a run starts with over these files: what is chosen of the logs that it takes them for
+-- what a run in which nobody is late starts with over these files: what is chosen of the logs that it takes them
+-- for, with all who are there in its first view
 pub record IsForetold (script : Script) (files : List LogFile) (start : Start) : Type 0 where
   pub contents : List (Option OnLog)
   pub taken : AreTakenFor script.members files contents
   pub starts : IsChosenOf (first_group_of script).opening contents start
+  pub members : start.members ≡ start.present
 
 -- why the logs that a run has found make no start, by its last line: they are not those of the script's group, too
 -- few of a view are there, or they leave no age

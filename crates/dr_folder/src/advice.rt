@@ -1,12 +1,16 @@
 //! Which log may be moved away where logs are bad.
 
-ghost use Rattle.std.specs.Prelude.{◌≡◌, ◌↔◌, ◌<◌, IfOk, IsTrue, MatchOption, length};
+ghost use Rattle.std.specs.Prelude.{◌≡◌, ◌↔◌, ◌<◌, if◌then◌else◌, IfOk, IsTrue, MatchOption, length};
+ghost use Rattle.std.specs.List.{list_all};
 ghost use Rattle.dr_script.specs.Ranges.{HasGroupRanges};
-ghost use Rattle.dr_folder.specs.Advice.{AreIntactBut, CanNotGo, IsAdvice, IsIntact, IsNextAway, MakesStartAlone};
+ghost use Rattle.dr_folder.specs.declared.advice.Advice.TheVariants.{Alone, Away};
+ghost use Rattle.dr_folder.specs.Advice.{AreIntactBut, CanNotGo, IsAdvice, IsIntact, IsNextAway, MakesStartAlone, are_shared, is_shared};
 
 use crate::file::LogFile;
 use crate::foretelling::foretell_without;
 use crate::survey::Survey;
+use dr_entry::Entry;
+use dr_history::{members_of, view_of};
 use dr_restart::Start;
 use dr_script::Script;
 use std::alloc::{AllocError, Global};
@@ -19,6 +23,9 @@ pub enum Advice {
     /// The log of this member may be moved away: it is the only one without which the others, all of them there
     /// and intact, make a start, and this is it.
     Away { member: usize, start: Start },
+    /// So it is with the log of this member, but a view of the last age had one member alone: what was durable may
+    /// stand on that log and on no other.
+    Alone { member: usize },
     /// One of these two is wrong, or both are, and nothing tells which.
     Unclear { one: usize, other: usize },
     /// No log is the only bad one.
@@ -43,7 +50,47 @@ pub(crate) fn advice_on(
     };
     match next_away(alloc, script, files, surveys, member + 1)? {
         Some((other, _)) => Ok(Advice::Unclear { one: member, other }),
-        None => Ok(Advice::Away { member, start }),
+        None => Ok(away_if_shared(member, start)),
+    }
+}
+
+/// What may be done where it is the log of this member alone without which the others make this start.
+fn away_if_shared(member: usize, start: Start) -> Advice
+    ensures { result ≡ (if are_shared start.entries then Away member start else Alone member) }
+{
+    if are_shared(start.entries.as_slice()) {
+        Advice::Away { member, start }
+    } else {
+        Advice::Alone { member }
+    }
+}
+
+/// Whether each view of the last age among these entries has several members.
+pub(crate) fn are_shared(entries: &[Entry]) -> bool
+    ensures { result ≡ are_shared entries.now }
+{
+    match view_of(entries) {
+        Some(view) => all_shared(view.age(), entries),
+        None => false,
+    }
+}
+
+fn all_shared(age: u16, entries: &[Entry]) -> bool
+    ensures { result ≡ list_all (is_shared age) entries.now }
+{
+    entries.iter().all(|entry| is_shared(age, entry))
+}
+
+fn is_shared(age: u16, entry: &Entry) -> bool
+    ensures { result ≡ is_shared age entry.now }
+{
+    match entry {
+        Entry::View {
+            age: other,
+            members,
+            ..
+        } => *other != age || members_of(*members).len() > 1,
+        Entry::Msg { .. } => true,
     }
 }
 

@@ -4,7 +4,7 @@ ghost use Rattle.std.specs.Prelude.{◌≡◌};
 ghost use Rattle.std.specs.List.{list_all, list_any};
 ghost use Rattle.dr_folder.specs.Told.{is_missing, lack_some};
 
-use crate::advice::{Advice, are_intact_but};
+use crate::advice::{Advice, are_intact_but, are_shared};
 use crate::checking::FolderCheck;
 use crate::differences::entries_of;
 use crate::survey::Survey;
@@ -19,7 +19,7 @@ pub(crate) fn details_of(alloc: Global, check: &FolderCheck) -> Result<String, A
     match &check.next {
         Ok(start) => {
             push_source(&mut text, start, &check.surveys)?;
-            push_missing(&mut text, &check.surveys)?;
+            push_missing(&mut text, start, &check.surveys)?;
         }
         Err(last) => push_foreign(&mut text, last, &check.surveys)?,
     }
@@ -63,8 +63,8 @@ fn is_missing(survey: &Survey) -> bool
     matches!(survey, Survey::Missing)
 }
 
-/// Appends which logs are missing where others are there, and what that means.
-fn push_missing(out: &mut String, surveys: &[Survey]) -> Result<(), AllocError> {
+/// Appends which logs are missing where others are there, and what that means where a run starts so without them.
+fn push_missing(out: &mut String, start: &Start, surveys: &[Survey]) -> Result<(), AllocError> {
     if !lack_some(surveys) {
         return Ok(());
     }
@@ -78,7 +78,7 @@ fn push_missing(out: &mut String, surveys: &[Survey]) -> Result<(), AllocError> 
             alone = are_intact_but(surveys, number);
         }
     }
-    out.push_str(if alone {
+    out.push_str(if alone && are_shared(start.entries.as_slice()) {
         "\nit is one alone, so what was durable stands on the others\n"
     } else {
         "\nput them back first: what was durable may stand on them alone\n"
@@ -111,6 +111,10 @@ fn push_advice(out: &mut String, advice: &Advice) -> Result<(), AllocError> {
                 "member-{member}.log may be moved away, and nothing durable is lost: age {age} starts with {count} then"
             )
         }
+        Advice::Alone { member } => writeln!(
+            out,
+            "member-{member}.log is the bad one, and what was durable may stand on it alone, so don't move it away"
+        ),
         Advice::Unclear { one, other } => writeln!(
             out,
             "member-{one}.log or member-{other}.log is wrong, and nothing tells which, so move none away"

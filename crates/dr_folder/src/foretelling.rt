@@ -54,6 +54,7 @@ fn choose_of<D: Disk>(
     requires ranges { HasGroupRanges script.now }
     requires all { length logs.now ≡ script.now.members }
     ensures start { IfOk result (IsChosenOf (first_group_of script.now).opening (contents_of logs.now)) }
+    ensures members { IfOk result (λ start. start.members ≡ start.present) }
     ensures refused { (last : LastOf) → IsErrOf result (Some last)
         → AreRefusedBy script.now last (contents_of logs.now) }
 {

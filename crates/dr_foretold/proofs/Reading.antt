@@ -38,9 +38,9 @@ taken_read n files yard contents hold taken = record {
 pub start_read : (script : Script) (files : List LogFile) (yard : YardState) (start : Start)
     → HoldFiles yard files → IsForetold script files start
     → (contents : List (Option OnLog)) × AreRead script.members 0 yard contents
-    × IsChosenOf (first_group_of script).opening contents start
+    × IsChosenOf (first_group_of script).opening contents start × (start.members ≡ start.present)
 start_read script files yard start hold is =
-    (is.contents, taken_read script.members files yard is.contents hold is.taken, is.starts)
+    (is.contents, taken_read script.members files yard is.contents hold is.taken, is.starts, is.members)
 
 -- a disk is damaged where its file is
 one_damaged : (file : LogFile) (told : Option Told) (member m at : ℕ) → IsDiskOf file told

@@ -1,7 +1,7 @@
 //! That a run over disks comes to what is foretold of files with their bytes.
 #![tactic(auto)]
 
-ghost use Rattle.std.specs.Prelude.{ℕ, List, Option};
+ghost use Rattle.std.specs.Prelude.{◌≡◌, ℕ, List, Option};
 ghost use Rattle.dr_log_bytes.specs.Content.{OnLog};
 ghost use Rattle.dr_opening.specs.Tries.{IsChosenOf};
 ghost use Rattle.dr_restart.specs.declared.start.Start.{Start};
@@ -16,14 +16,15 @@ ghost use Rattle.dr_folder.specs.Foretold.{IsBarred, IsForetold};
 ghost use Rattle.dr_foretold.specs.Held.{HoldFiles};
 
 /// A law: where the disks of a yard have the bytes of files, what is foretold of these files is what the contract of
-/// `run_ages` says of a run over the disks in which no log is missing. What the logs read as makes the next age start
-/// so; and what a run over the files is refused by is what the logs on the disks are refused for, which is what such a
-/// run stops by, with no age, unless memory is wanting or a disk fails before (`IsRightlyRefused`, by `due`).
+/// `run_ages` says of a run over the disks in which no log is missing and nobody is late. What the logs read as makes
+/// the next age start so; and what a run over the files is refused by is what the logs on the disks are refused for,
+/// which is what such a run stops by, with no age, unless memory is wanting or a disk fails before
+/// (`IsRightlyRefused`, by `due`).
 pub fn verdicts_are_the_runs()
     ensures start { (script : Script) (files : List LogFile) (yard : YardState) (start : Start)
         → HoldFiles yard files → IsForetold script files start
         → (contents : List (Option OnLog)) × AreRead script.members 0 yard contents
-        × IsChosenOf (first_group_of script).opening contents start }
+        × IsChosenOf (first_group_of script).opening contents start × (start.members ≡ start.present) }
     ensures damaged { (script : Script) (files : List LogFile) (yard : YardState) (member at : ℕ)
         → HoldFiles yard files → IsBarred script files (lasts.Damaged member at)
         → IsRefusal script 0 yard (stops.Damaged member at) }

@@ -2,7 +2,7 @@ use Rattle.std.proofs.Common.{◌+◌, subst, ℕ, List, Option, Some, None}
 use Rattle.dr_restart.specs.declared.start.Start.{Start}
 use Rattle.dr_folder.specs.declared.file.LogFile.{LogFile}
 use Rattle.dr_folder.specs.Advice.{IsNextAway}
-use Rattle.dr_folder.proofs.Advising.{only_one}
+use Rattle.dr_folder.proofs.Advising.{away_if}
 use Rattle.dr_folder.proofs.advice.advice_on.Goals as goal
 
 pub returns-in-None-clause-advice : goal.returns-in-None-clause-advice
@@ -17,6 +17,6 @@ returns-in-None-clause-advice c =
     let behind : IsNextAway script c.next_away.new.files surveys (member + 1) None =
     subst (λ (o : Option (ℕ × Start)). IsNextAway script c.next_away.new.files surveys (member + 1) o)
     c.in-None.is c.in_ok-other.ensures.next in
-    only_one script files surveys member c.in-Some.start first
+    away_if script files surveys member c.in-Some.start c.away_if_shared.result first
     (subst (λ (f : List LogFile). IsNextAway script f surveys (member + 1) None) c.in_ok-member.ensures.kept
-    behind)
+    behind) c.away_if_shared.ensures
