@@ -14,7 +14,7 @@ use Rattle.dr_program.specs.declared.deed.Deed.TheVariants as deeds
 use Rattle.dr_program.specs.declared.place.Part.TheVariants as parts
 use Rattle.dr_program.specs.Program.{next_sight}
 use Rattle.dr_program.specs.Reading.{step_due, step_of_member}
-use Rattle.dr_program.specs.Replica.{Replica, is_other, looked, me, pushed}
+use Rattle.dr_program.specs.Replica.{Replica, is_inside, is_other, looked, me, pushed}
 use Rattle.dr_program.specs.Form.{HasForm, IsRunningMember}
 use Rattle.dr_program.specs.Running.{Running, after_step, asks, crashes_now, next_deed, next_step, push_or_crash, settled, step_at}
 use Rattle.dr_program.specs.Sight.{MaySee}
@@ -39,7 +39,7 @@ use Rattle.dr_member.proofs.Answers.{IsAnswer}
 use Rattle.dr_member.proofs.Crashes.{some_at_push}
 use Rattle.dr_member.proofs.Dues.{at_look, may_look, push_due}
 use Rattle.dr_member.proofs.Indices.{columns_after, look_at, push_at}
-use Rattle.dr_member.proofs.Moves.{IsLooked, IsPushed, IsWaited, counted, look_left, looked_row_timely, push_left, pushed_behind, pushed_timely, waited}
+use Rattle.dr_member.proofs.Moves.{IsLooked, IsPushed, IsWaited, counted, look_left, looked_inside, looked_row_timely, push_left, pushed_behind, pushed_inside, pushed_timely, waited}
 use Rattle.dr_member.proofs.Sweeps.{IsLookOf, IsOnRow, look_index, look_on, look_takes, looks_begin, looks_end, push_index, push_on, pushes_begin, pushes_end, saw, stale_in, untrue, was_waited, wrote}
 
 -- one deed more
@@ -243,6 +243,7 @@ pub record IsBehindRow (table : List ℕ) (from : Running) (a : Inside) (cells :
   pub place : IsIn q.roster (columns_of q.roster q.window) a.place
   pub underway : IsUnderway (standing q fate (next_row q.roster a.place))
   pub timely : IsTimely fate q.turns
+  pub inside : is_inside q ≡ true
   pub left : (p : Place) (ready : ℕ)
       → standing q fate p ≡ settled (standing q fate (next_row q.roster a.place)) → KeepsReady q p ready
       → HasComeAlone table from cells (record a { replica = q; place = p; fate = fate; ready = ready })
@@ -259,6 +260,7 @@ looks_done table from first a q w is e waits = record {
       (ap (λ (r : Replica). r.window) e) (omega arith);
   underway = look_left b.replica q b.fate b.place v w l past;
   timely = looked_row_timely b q a.place.row last v w at.on.inside l.after;
+  inside = looked_inside b.replica q b.fate b.place v l;
   left = λ p ready settles keeps.
       let end = looks_end from b q p (first + last) v ready w at.on l past settles keeps in record {
         inside = end.inside;
@@ -486,6 +488,7 @@ module _ (table : List ℕ) (from : Running) (first : ℕ) (a : Inside) (is : Is
         (push_left b.replica q b.fate b.place n column l past);
     timely = subst (λ f. IsTimely (counted f n) q.turns) to.fate
         (pushed_timely b.replica q b.fate b.place n column l);
+    inside = pushed_inside b.replica q b.fate b.place n column l;
     left = λ p ready settles keeps.
         let back : standing q (counted b.fate n) p
         ≡ settled (standing q (counted b.fate n) (next_row q.roster b.place)) =

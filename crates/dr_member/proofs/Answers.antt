@@ -1,5 +1,5 @@
 -- What a running member is after a deed, in the terms of the code's fields.
-use Rattle.std.proofs.Common.{◌≡◌, refl, sym, ap, ◌∙◌, subst, ℕ, ◌^◌, ◌<◌, ◌≤◌, ◌==◌, ◌&&◌, Bool, true, false, arith}
+use Rattle.std.proofs.Common.{◌≡◌, refl, sym, ap, ◌∙◌, subst, ℕ, ◌^◌, ◌<◌, ◌≤◌, ◌==◌, ◌&&◌, ◌||◌, Bool, true, false, arith}
 use Rattle.std.specs.Prelude.{None, is_some}
 use Rattle.std.proofs.lemmas.Bool.Decides.{nat_tests}
 use Rattle.dr_rows.specs.Words.{changed}
@@ -7,7 +7,7 @@ use Rattle.dr_words.specs.Columns.{columns_of}
 use Rattle.dr_machine.specs.declared.step.Step.{Step}
 use Rattle.dr_program.specs.declared.place.Part.TheVariants as parts
 use Rattle.dr_program.specs.declared.place.Place.{Place}
-use Rattle.dr_program.specs.Replica.{Replica, is_other}
+use Rattle.dr_program.specs.Replica.{Replica, is_inside, is_other}
 use Rattle.dr_program.specs.Steps.{NoWordFell, allows, has_cell, stepped}
 use Rattle.dr_program.specs.Turn.{columns_in, part_of}
 use Rattle.dr_program.specs.Running.{Running, members, columns, applies, crashes_now, goes, push_or_crash, pushes_after, settled, step_at, took, next_step, after_step, waits_after}
@@ -102,9 +102,15 @@ answer_at word r now x view a = subst (λ (y : Running). IsAnswer word y x) view
 -- ---- where the search stays
 
 -- there is something to do at a look that is allowed
-pub look_applies : (r : Running) (p : Place) → part_of p ≡ parts.Look
+pub together : (a b : Bool) → a ≡ true → b ≡ true → (a && b) ≡ true
+together true b d e = e
+together false b d e = absurd (cc d)
+
+pub look_applies : (r : Running) (p : Place) → part_of p ≡ parts.Look → is_inside r.replica ≡ true
     → may_look r.replica p.row p.column ≡ true → applies r p ≡ true
-look_applies r p at may = ap (λ x. applies_at r x p.row p.column) at ∙ may
+look_applies r p at inside may =
+    ap (λ x. applies_at r x p.row p.column) at
+    ∙ together (is_inside r.replica) (may_look r.replica p.row p.column) inside may
 
 -- and at the push of a changed word to it, be it a push or a crash
 both : (a b d : Bool) → a ≡ true → b ≡ true → d ≡ true → ((a && b) && d) ≡ true
@@ -114,18 +120,23 @@ both true false d e f h = absurd (cc)
 
 pub push_applies : (r : Running) (p : Place) → part_of p ≡ parts.Push → is_other r.replica p.row
     ≡ true
+    → (is_inside r.replica || crashes_now r) ≡ true
     → changed r.replica.rows p.row p.column ≡ true
     → has_cell r.replica p.row p.column ≡ true → applies r p ≡ true
-push_applies r p at other word cell =
+push_applies r p at other may word cell =
     ap (λ x. applies_at r x p.row p.column) at
     ∙ both (is_other r.replica p.row) (changed r.replica.rows p.row p.column)
-    (allows r.replica (step_at r parts.Push p.row p.column)) other word (by (crashes_now r))
+    (allows r.replica (step_at r parts.Push p.row p.column)) other word (by (crashes_now r) may)
   where
-    by : (b : Bool)
-        → allows r.replica
-        (push_or_crash b p.row p.column) ≡ true
-    by true = refl
-    by false = cell
+    either : (a : Bool) → (a || false) ≡ true → a ≡ true
+    either true e = refl
+    either false e = absurd (cc e)
+
+    by : (b : Bool) → (is_inside r.replica || b) ≡ true
+        → allows r.replica (push_or_crash b p.row p.column) ≡ true
+    by true e = refl
+    by false e = together (is_inside r.replica) (has_cell r.replica p.row p.column)
+        (either (is_inside r.replica) e) cell
 
 pub stays : (r : Running) → applies r r.place ≡ true → r ≡ settled r
 stays r due = sym (settled_here r (stops_due (is_some r.replica.end) (applies r r.place) due))

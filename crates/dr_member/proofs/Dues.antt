@@ -1,5 +1,5 @@
 -- What is due to a running member, by the kind of its next deed.
-use Rattle.std.proofs.Common.{◌≡◌, ◌≢◌, ◌⊎◌, inl, inr, refl, subst, sym, ap, ◌∙◌, ℕ, ◌+◌, ◌<◌, ◌≤◌, ◌==◌, ◌&&◌, if◌then◌else◌, Bool, true, false, nat_lt, arith}
+use Rattle.std.proofs.Common.{◌≡◌, ◌≢◌, ◌⊎◌, inl, inr, refl, subst, sym, ap, ◌∙◌, ℕ, ◌+◌, ◌<◌, ◌≤◌, ◌==◌, ◌&&◌, ◌||◌, if◌then◌else◌, Bool, true, false, nat_lt, arith}
 use Rattle.std.specs.Prelude.{Option, Some, None, slice_get}
 use Rattle.std.proofs.lemmas.Bool.{and_parts, ltb-true}
 use Rattle.std.proofs.lemmas.Bool.Decides.{nat_tests}
@@ -19,12 +19,11 @@ use Rattle.dr_program.specs.declared.outcome.LogWhy.{LogWhy}
 use Rattle.dr_program.specs.declared.place.Part.{Part}
 use Rattle.dr_program.specs.declared.place.Part.TheVariants as parts
 use Rattle.dr_program.specs.declared.place.Place.{Place}
-use Rattle.dr_program.specs.Acts.{may}
 use Rattle.dr_rows.specs.Words as rows
 use Rattle.dr_suspect.specs.Waits.{compared}
 use Rattle.dr_machine.specs.Effects.{one_more}
-use Rattle.dr_program.specs.Replica.{Replica, appended, is_other, is_wedged, looked, may_vote, pushed, value_due, vote_of, voted}
-use Rattle.dr_program.specs.Steps.{IsAppend, allows, has_cell, stepped}
+use Rattle.dr_program.specs.Replica.{Replica, appended, gave, is_inside, is_other, is_wedged, looked, may_give, may_vote, pushed, value_due, vote_of, voted}
+use Rattle.dr_program.specs.Steps.{IsAppend, allows, allows_inside, has_cell, is_outside_step, stepped}
 use Rattle.dr_program.specs.Turn.{part_of}
 use Rattle.dr_program.specs.Running.{Running, append_or_end, asks, columns, crashes_now, deed, deed_of, members, next_deed, next_step, push_or_crash, pushes_after, step_at, vote_or_end, waits_after}
 use Rattle.dr_program.specs.Reading.{step_due, step_of_member}
@@ -32,9 +31,10 @@ use Rattle.dr_program.specs.Sight.{IsSeenNext, MaySee}
 use Rattle.dr_program.specs.Form.{IsRunningMember}
 use Rattle.dr_program.proofs.Waiting.{append_free}
 use Rattle.dr_program.proofs.StepsAt.{append_either, push_either, vote_either}
+use Rattle.dr_turn.proofs.Takes.{taking}
 use Rattle.dr_member.specs.declared.search.Due.{Due}
 use Rattle.dr_member.specs.declared.search.Due.TheVariants as dues
-use Rattle.dr_member.specs.Deeds.{is_act, is_look, is_push, is_append}
+use Rattle.dr_member.specs.Deeds.{is_act, is_append, is_give, is_look, is_push, is_take}
 use Rattle.dr_member.specs.Search.{step_by}
 
 -- ---- the kind of a deed
@@ -124,9 +124,28 @@ allowed r m none s is =
     ∙ (and_parts (asks r (part_of r.place) r.place.row r.place.column) (allows r.replica (next_step r))
     (m.due none)).1
 
--- a replica may look at this cell
+-- so it is where the member is in its view, and it is there, where nobody may take the step outside
+pub allowed_inside : (r : Running) → IsRunningMember r → r.replica.end ≡ None → (s : Step)
+    → next_step r ≡ s
+    → allows_inside r.replica s ≡ true
+allowed_inside r m none s is =
+    (and_parts (is_outside_step s || is_inside r.replica) (allows_inside r.replica s)
+    (allowed r m none s is)).1
+
+pub in_view : (r : Running) → IsRunningMember r → r.replica.end ≡ None → (s : Step) → next_step r ≡ s
+    → is_outside_step s ≡ false → is_inside r.replica ≡ true
+in_view r m none s is =
+    either (is_outside_step s) (is_inside r.replica)
+    (and_parts (is_outside_step s || is_inside r.replica) (allows_inside r.replica s)
+    (allowed r m none s is)).0
+  where
+    either : (a b : Bool) → (a || b) ≡ true → a ≡ false → b ≡ true
+    either true b e f = absurd (cc f)
+    either false b e f = e
+
+-- a replica in its view may look at this cell
 abbrev pub may_look : Replica → ℕ → ℕ → Bool
-may_look r i c = allows r (steps.Look i c)
+may_look r i c = allows_inside r (steps.Look i c)
 
 -- within a row it goes on waiting as before, and with the last column it has waited a turn more
 waits_stay : (word : ℕ) (r : Running) (i c : ℕ) → c + 1 < columns r
@@ -155,6 +174,7 @@ waits_turn word r i c within past = by (c + 1 == columns r) (grind (arith, nat_t
 pub record IsLookDue (r : Running) (word : ℕ) : Type 0 where
   pub none : r.replica.end ≡ None
   pub at : part_of r.place ≡ parts.Look
+  pub inside : is_inside r.replica ≡ true
   pub may : may_look r.replica r.place.row r.place.column ≡ true
   pub cell : IsCellOf r r.place.row r.place.column
   pub seen : IsSeenNext r r.place.row r.place.column word
@@ -188,12 +208,13 @@ look_due r word m may = by r.replica.end refl may
         let at = look_part r (part_of r.place) r.place.row r.place.column word see in
         let step : next_step r ≡ steps.Look r.place.row r.place.column =
         ap (λ x. step_at r x r.place.row r.place.column) at.0 in
-        let may = allowed r m none (steps.Look r.place.row r.place.column) step in
+        let may = allowed_inside r m none (steps.Look r.place.row r.place.column) step in
         let cell = is_cell r r.place.row r.place.column
         (and_parts _ (has_cell r.replica r.place.row r.place.column) may).1 in
         record {
           none = none;
           at = at.0;
+          inside = in_view r m none (steps.Look r.place.row r.place.column) step refl;
           may = may;
           cell = cell;
           seen = at.1;
@@ -220,7 +241,7 @@ pub at_look : (r : Running) → IsRunningMember r → is_look (next_deed r) ≡ 
 at_look r m e =
     let due = deed_due is_look (λ end. refl) r e in
     let at = sees_part r (part_of r.place) r.place.row r.place.column due.1 in
-    let may = allowed r m due.0 (steps.Look r.place.row r.place.column)
+    let may = allowed_inside r m due.0 (steps.Look r.place.row r.place.column)
     (ap (λ x. step_at r x r.place.row r.place.column) at) in
     record {
       none = due.0;
@@ -244,6 +265,7 @@ at_look r m e =
 pub record IsPushDue (r : Running) : Type 0 where
   pub none : r.replica.end ≡ None
   pub at : part_of r.place ≡ parts.Push
+  pub inside : is_inside r.replica ≡ true
   pub cell : IsCellOf r r.place.row r.place.column
   pub later : crashes_now r ≡ false
   -- what it makes of the replica, of the pushes and of the waits
@@ -262,9 +284,10 @@ push_due r m e =
     record {
       none = due.0;
       at = at.0;
+      inside = in_view r m due.0 (steps.Push r.place.row r.place.column) step refl;
       cell =
           is_cell r r.place.row r.place.column
-          (allowed r m due.0 (steps.Push r.place.row r.place.column) step);
+          (allowed_inside r m due.0 (steps.Push r.place.row r.place.column) step);
       later = at.1;
       step = λ word. ap (stepped word r.replica) step;
       pushes = ap (pushes_after r.pushes) (sym step);
@@ -312,7 +335,7 @@ vote_due r m e at = record {
     ]
 
     may : may_vote r.replica (value_due r.replica) ≡ true
-    may = allowed r m due.0 (steps.LogVote (value_due r.replica)) step
+    may = allowed_inside r m due.0 (steps.LogVote (value_due r.replica)) step
 
 -- and elsewhere an entry, at its part
 pub record IsEntryDue (r : Running) : Type 0 where
@@ -327,6 +350,82 @@ entry_due r e other =
       | inl t ↦ record { at = t.0; step = λ word. ap (stepped word r.replica) t.1 }
       | inr t ↦ absurd (other t.0)
     ]
+
+-- a member at an append is in its view
+pub append_inside : (r : Running) → IsRunningMember r → is_append (next_deed r) ≡ true
+    → is_inside r.replica ≡ true
+append_inside r m e =
+    let due = deed_due is_append (λ end. refl) r e in
+    in_view r m due.0 (next_step r) refl (by (next_step r) due.1)
+  where
+    by : (s : Step) → is_append (deed_of r s) ≡ true → is_outside_step s ≡ false
+    by steps.Append e = refl
+    by (steps.LogVote v) e = refl
+    by s e = absurd (cc)
+
+-- the next deed is a letter to give
+pub record IsGiveDue (r : Running) : Type 0 where
+  pub none : r.replica.end ≡ None
+  pub at : part_of r.place ≡ parts.Give
+  pub may : may_give r.replica r.place.row ≡ true
+  -- what it makes of the replica, of the pushes and of the waits
+  pub step : (word : ℕ) → stepped word r.replica (next_step r) ≡ gave r.replica r.place.row
+  pub pushes : r.pushes ≡ pushes_after r.pushes (next_step r)
+  pub waits : (word : ℕ) → r.waits ≡ waits_after word r (next_step r)
+
+give_part : (r : Running) (part : Part) (i c : ℕ) → is_give (deed_of r (step_at r part i c)) ≡ true
+    → part ≡ parts.Give
+give_part r parts.Give i c e = refl
+give_part r parts.Append i c e =
+    absurd (append_either (λ s. is_give (deed_of r s) ≡ true → ⊥) r.failed (λ e. cc) (λ why e. cc) e)
+give_part r parts.Vote i c e =
+    absurd (vote_either (λ s. is_give (deed_of r s) ≡ true → ⊥) r.failed _ (λ e. cc) (λ why e. cc) e)
+give_part r parts.Push i c e =
+    absurd (push_either (λ s. is_give (deed_of r s) ≡ true → ⊥) (crashes_now r) i c (λ e. cc) (λ e. cc) e)
+give_part r part i c e = absurd (cc)
+
+-- a running member at one has it due
+pub give_due : (r : Running) → IsRunningMember r → is_give (next_deed r) ≡ true → IsGiveDue r
+give_due r m e =
+    let due = deed_due is_give (λ end. refl) r e in
+    let at = give_part r (part_of r.place) r.place.row r.place.column due.1 in
+    let step : next_step r ≡ steps.Welcome r.place.row =
+    ap (λ x. step_at r x r.place.row r.place.column) at in
+    record {
+      none = due.0;
+      at = at;
+      may = allowed_inside r m due.0 (steps.Welcome r.place.row) step;
+      step = λ word. ap (stepped word r.replica) step;
+      pushes = ap (pushes_after r.pushes) (sym step);
+      waits = λ word. ap (waits_after word r) (sym step);
+    }
+
+-- the next deed is to take its letter
+pub record IsTakeDue (r : Running) : Type 0 where
+  pub none : r.replica.end ≡ None
+  pub at : part_of r.place ≡ parts.Take
+  pub step : next_step r ≡ steps.Join
+  pub outside : is_inside r.replica ≡ false
+  pub free : r.replica.pending ≡ None
+
+take_part : (r : Running) (part : Part) (i c : ℕ) → is_take (deed_of r (step_at r part i c)) ≡ true
+    → part ≡ parts.Take
+take_part r parts.Take i c e = refl
+take_part r parts.Append i c e =
+    absurd (append_either (λ s. is_take (deed_of r s) ≡ true → ⊥) r.failed (λ e. cc) (λ why e. cc) e)
+take_part r parts.Vote i c e =
+    absurd (vote_either (λ s. is_take (deed_of r s) ≡ true → ⊥) r.failed _ (λ e. cc) (λ why e. cc) e)
+take_part r parts.Push i c e =
+    absurd (push_either (λ s. is_take (deed_of r s) ≡ true → ⊥) (crashes_now r) i c (λ e. cc) (λ e. cc) e)
+take_part r part i c e = absurd (cc)
+
+pub take_due : (r : Running) → IsRunningMember r → is_take (next_deed r) ≡ true → IsTakeDue r
+take_due r m e =
+    let due = deed_due is_take (λ end. refl) r e in
+    let at = take_part r (part_of r.place) r.place.row r.place.column due.1 in
+    let step : next_step r ≡ steps.Join = ap (λ x. step_at r x r.place.row r.place.column) at in
+    let is = taking r m due.0 step in
+    record { none = due.0; at = at; step = step; outside = is.outside; free = is.idle }
 
 -- without an end the next deed is that of the next step
 pub next_without_end : (r : Running) → r.replica.end ≡ None → next_deed r ≡ deed_of r (next_step r)

@@ -7,6 +7,7 @@ mod Answers
 mod Indices
 mod Ready
 mod Moves
+mod Joins
 mod Sweeps
 pub mod Alone
 mod Fates

@@ -1,5 +1,5 @@
 -- What a running member is after each kind of deed, in the terms of the code's fields.
-use Rattle.std.proofs.Common.{◌≡◌, ◌≢◌, refl, sym, ap, ◌∙◌, subst, ℕ, ◌+◌, ◌^◌, ◌<◌, ◌≤◌, ◌&&◌, Bool, true, false, nat_lt, arith}
+use Rattle.std.proofs.Common.{◌≡◌, ◌≢◌, refl, sym, ap, ◌∙◌, subst, ℕ, ◌+◌, ◌^◌, ◌<◌, ◌≤◌, ◌&&◌, ◌||◌, Bool, true, false, nat_lt, arith}
 use Rattle.std.proofs.lemmas.Bool.Decides.{nat_tests}
 use Rattle.dr_rows.specs.Words.{changed, own}
 use Rattle.dr_suspect.specs.Waits.{Waits, compared}
@@ -8,16 +8,17 @@ use Rattle.dr_words.specs.Columns.{columns_of}
 use Rattle.dr_words.specs.declared.column.TheConstants.{LOGGED_COLUMN}
 use Rattle.dr_machine.specs.Effects.{one_more}
 use Rattle.dr_machine.specs.declared.event.Act.{Act}
+use Rattle.dr_machine.specs.declared.event.Act.TheVariants as acts
 use Rattle.dr_machine.specs.declared.step.Step.TheVariants.{Do}
 use Rattle.dr_program.specs.declared.place.Part.{Part}
 use Rattle.dr_program.specs.declared.place.Part.TheVariants as parts
 use Rattle.dr_program.specs.declared.place.Place.{Place}
 use Rattle.std.specs.Prelude.{None}
-use Rattle.dr_program.specs.Acts.{may, taken}
-use Rattle.dr_program.specs.Replica.{Replica, appended, is_other, looked, pushed}
-use Rattle.dr_program.specs.Steps.{NoWordFell, has_cell, is_free, stepped}
+use Rattle.dr_program.specs.Acts.{is_outside_act, may, taken}
+use Rattle.dr_program.specs.Replica.{Replica, appended, is_inside, is_other, looked, pushed}
+use Rattle.dr_program.specs.Steps.{NoWordFell, allows, has_cell, is_free, stepped}
 use Rattle.dr_program.specs.Turn.{IsIn, after, columns_in, part_of, rows_in}
-use Rattle.dr_program.specs.Running.{Running, applies, goes, next_deed, next_step, settled}
+use Rattle.dr_program.specs.Running.{Running, applies, crashes_now, goes, next_deed, next_step, settled}
 use Rattle.dr_program.specs.Reading.{step_of_member}
 use Rattle.dr_program.specs.Sight.{MaySee}
 use Rattle.dr_program.specs.Form.{HasForm, IsRunningMember}
@@ -27,14 +28,14 @@ use Rattle.dr_turn.proofs.Order.{all_below}
 use Rattle.dr_member.specs.declared.fate.Fate.{Fate}
 use Rattle.dr_member.specs.declared.member.Member.TheInside.{Inside}
 use Rattle.dr_member.specs.Deeds.{is_act, is_append, is_push}
-use Rattle.dr_member.specs.Fate.{IsTimely}
+use Rattle.dr_member.specs.Fate.{IsTimely, is_of_view}
 use Rattle.dr_member.specs.Inside.{IsInsideMember, member_inside}
 use Rattle.dr_member.specs.Ready.{KeepsReady}
 use Rattle.dr_member.specs.Search.{next_row, standing}
 use Rattle.dr_member.proofs.Fates.{IsFateBy, fate_told}
-use Rattle.dr_member.proofs.Answers.{IsAnswer, IsFateAfter, IsTaken, answer_at, fate_stays, is_answer, is_done, look_applies, push_applies, pushes_searched, stays}
+use Rattle.dr_member.proofs.Answers.{IsAnswer, IsFateAfter, IsTaken, answer_at, fate_stays, is_answer, is_done, look_applies, push_applies, pushes_searched, stays, together}
 use Rattle.dr_member.proofs.Crashes.{some_at_push, timely_push}
-use Rattle.dr_member.proofs.Dues.{IsEntryDue, IsLookDue, IsPushDue, IsVoteDue, allowed, append_due, deed_due, entry_due, look_due, may_look, push_due, vote_due}
+use Rattle.dr_member.proofs.Dues.{IsEntryDue, IsLookDue, IsPushDue, IsVoteDue, allowed, allowed_inside, append_due, append_inside, deed_due, entry_due, look_due, may_look, push_due, vote_due}
 use Rattle.dr_member.proofs.Indices.{bases_stay, footing}
 use Rattle.dr_member.proofs.Passing.{begin, from_behind, from_column, from_here, only_place, part_number}
 
@@ -44,10 +45,6 @@ all_three : (a b d : Bool) → a ≡ true → b ≡ true → d ≡ true → (a &
 all_three true true d e f h = h
 all_three false b d e f h = absurd (cc)
 all_three true false d e f h = absurd (cc)
-
-together : (a b : Bool) → a ≡ true → b ≡ true → (a && b) ≡ true
-together true b d e = e
-together false b d e = absurd (cc)
 
 pub cell_test : (replica : Replica) (i c : ℕ) → i < replica.roster → is_other replica i ≡ true
     → c < columns_of replica.roster replica.window → has_cell replica i c ≡ true
@@ -87,6 +84,11 @@ pub record IsLooked (replica q : Replica) (fate : Fate) (p : Place) (word : ℕ)
   pub after : q ≡ looked replica p.row p.column word
   pub form : HasForm q
   pub grown : NoWordFell replica q
+
+-- who looked is in its view
+pub looked_inside : (replica q : Replica) (fate : Fate) (p : Place) (word : ℕ)
+    → IsLooked replica q fate p word → is_inside q ≡ true
+looked_inside replica q fate p word l = ap (λ (x : Replica). is_inside x) l.after ∙ l.due.inside
 
 -- the fate with these waits
 abbrev pub waited : Fate → Waits → Fate
@@ -148,7 +150,7 @@ looked_within now replica q fate p word view l within =
     (is_answer word (standing replica fate p) q fate
     (from_column q.roster (columns_of q.roster q.window) p (p.column + 1)) next
     (look_taken replica q fate fate p word l (told_within replica q fate p word l within))
-    (stays (standing q fate next) (look_applies (standing q fate next) next l.due.at may)
+    (stays (standing q fate next) (look_applies (standing q fate next) next l.due.at inside may)
     ∙ ap (λ (x : Place). settled (standing q fate x)) (sym here)))
   where
     next : Place
@@ -160,6 +162,9 @@ looked_within now replica q fate p word view l within =
     }
     here = from_here q.roster (columns_of q.roster q.window) p (p.column + 1)
         (omega (arith, within, ap (columns_in (columns_of q.roster q.window)) l.due.at))
+
+    inside : is_inside q ≡ true
+    inside = ap (λ (x : Replica). is_inside x) l.after ∙ l.due.inside
 
     cell : has_cell q p.row (p.column + 1) ≡ true
     cell = cell_test q p.row (p.column + 1)
@@ -212,6 +217,11 @@ pub record IsPushed (replica q : Replica) (fate : Fate) (p : Place) (n t : ℕ) 
   pub unchanged : (x : ℕ) → p.column + 1 ≤ x → x < t → changed q.rows p.row x ≡ false
   pub above : p.column + 1 ≤ t
   pub within : t ≤ columns_of q.roster q.window
+
+-- who pushed is in its view
+pub pushed_inside : (replica q : Replica) (fate : Fate) (p : Place) (n t : ℕ)
+    → IsPushed replica q fate p n t → is_inside q ≡ true
+pushed_inside replica q fate p n t l = ap (λ (x : Replica). is_inside x) l.after ∙ l.due.inside
 
 -- a replica that has pushed took its push, and stands at the next column
 pub push_taken : (replica q : Replica) (fate : Fate) (p : Place) (n t word : ℕ)
@@ -269,7 +279,7 @@ pub pushed_within : (now : Running) (replica q : Replica) (fate : Fate) (p : Pla
     → IsAnswer word now (standing q (counted fate n) (record p { column = t }))
 pushed_within now replica q fate p n t word view l within word_changed =
     pushed_past now replica q fate p next n t word view l
-    (stays x (push_applies x next l.due.at other word_changed
+    (stays x (push_applies x next l.due.at other (ap (λ b. b || crashes_now x) inside) word_changed
     (cell_test q p.row t
     (omega (arith, ap (λ (y : Replica). y.roster) l.after, l.due.cell.row)) other within))
     ∙ ap (λ (y : Place). settled (standing q (counted fate n) y)) (sym here))
@@ -286,6 +296,9 @@ pushed_within now replica q fate p n t word view l within word_changed =
 
     other : is_other q p.row ≡ true
     other = ap (λ (y : Replica). is_other y p.row) l.after ∙ l.due.cell.other
+
+    inside : is_inside q ≡ true
+    inside = ap (λ (y : Replica). is_inside y) l.after ∙ l.due.inside
 
 -- and goes on with the next row, where there is none
 pub push_left : (replica q : Replica) (fate : Fate) (p : Place) (n t : ℕ)
@@ -369,9 +382,32 @@ act_none now a view acts = (deed_due is_act (λ end. refl) (member_inside a)
 
 pub act_allowed : (now : Running) (a : Inside) (act : Act) → member_inside a ≡ now → IsInsideMember a
     → is_act (next_deed now) ≡ true → next_step (member_inside a) ≡ Do act
-    → may a.replica act ≡ true
+    → allows a.replica (Do act) ≡ true
 act_allowed now a act view is acts due =
     allowed (member_inside a) is.form (act_none now a view acts) (Do act) due
+
+pub act_may : (now : Running) (a : Inside) (act : Act) → member_inside a ≡ now → IsInsideMember a
+    → is_act (next_deed now) ≡ true → next_step (member_inside a) ≡ Do act
+    → may a.replica act ≡ true
+act_may now a act view is acts due =
+    allowed_inside (member_inside a) is.form (act_none now a view acts) (Do act) due
+
+-- an act of those that come up most leaves a member in its view
+kept_in_view : (r : Replica) (act : Act) → is_of_view act ≡ true → (is_outside_act act || is_inside r) ≡ true
+    → is_inside (taken r act) ≡ true
+kept_in_view r (acts.Receive s) of e = e
+kept_in_view r acts.Send of e = e
+kept_in_view r acts.Null of e = e
+kept_in_view r acts.Deliver of e = e
+kept_in_view r acts.Publish of e = e
+kept_in_view r acts.Report of e = e
+kept_in_view r act of e = absurd (cc)
+
+pub act_in_view : (r q : Replica) (act : Act) → allows r (Do act) ≡ true → q ≡ taken r act
+    → is_of_view act ≡ true → is_inside q ≡ true
+act_in_view r q act allowed after of =
+    ap (λ (x : Replica). is_inside x) after
+    ∙ kept_in_view r act of (and_parts (is_outside_act act || is_inside r) (may r act) allowed).0
 
 -- a vote waits only where the act is the vote's
 pub act_free : (a : Inside) (act : Act) → IsInsideMember a → next_step (member_inside a) ≡ Do act
@@ -434,17 +470,19 @@ is_append_part parts.Append = true
 is_append_part part = false
 
 -- behind the place of an append is that where the log is published
-append_next : (n k : ℕ) (p : Place) → IsIn n k p → part_of p ≡ parts.Append → after n k p ≡ begin 7
+append_next : (n k : ℕ) (p : Place) → IsIn n k p → part_of p ≡ parts.Append → after n k p ≡ begin 8
 unfolding all_below
-append_next n k p is at = ap (after n k) (only_place n k 6 p is (ap (rows_in n) at) (ap (columns_in k) at)
-    (part_number is_append_part 6 p refl is.part (ap is_append_part at)))
+append_next n k p is at = ap (after n k) (only_place n k 7 p is (ap (rows_in n) at) (ap (columns_in k) at)
+    (part_number is_append_part 7 p refl is.part (ap is_append_part at)))
 
 -- with one entry more on its log, it has that to publish
-publishes : (r q : Replica) (fate : Fate) → HasForm r → q ≡ appended r
-    → applies (standing q fate (begin 7)) (begin 7) ≡ true
-publishes r q fate f after =
-    subst (λ (x : Replica). nat_lt (own x.rows LOGGED_COLUMN) x.logged ≡ true) (sym after)
-    (grind (arith, nat_tests, f.published))
+publishes : (r q : Replica) (fate : Fate) → HasForm r → is_inside r ≡ true → q ≡ appended r
+    → applies (standing q fate (begin 8)) (begin 8) ≡ true
+publishes r q fate f inside after =
+    together (is_inside q) (nat_lt (own q.rows LOGGED_COLUMN) q.logged)
+    (ap (λ (x : Replica). is_inside x) after ∙ inside)
+    (subst (λ (x : Replica). nat_lt (own x.rows LOGGED_COLUMN) x.logged ≡ true) (sym after)
+    (grind (arith, nat_tests, f.published)))
 
 -- so behind the append of an entry the search stays
 pub entry_answer : (word : ℕ) (now : Running) (a : Inside) (q : Replica) (from : Place) → member_inside a ≡ now
@@ -455,14 +493,16 @@ pub entry_answer : (word : ℕ) (now : Running) (a : Inside) (q : Replica) (from
     → IsAnswer word now (standing q a.fate from)
 entry_answer word now a q from view is append other after form grown place =
     let due = subst IsEntryDue (sym view) (entry_due now append other) in
-    let next : from ≡ begin 7 = place
+    let next : from ≡ begin 8 = place
     ∙ ap (λ x. goes a.replica.roster (columns_of a.replica.roster a.replica.window) x a.place) due.at
     ∙ append_next a.replica.roster (columns_of a.replica.roster a.replica.window) a.place is.form.place
     due.at in
     answer_at word _ now _ view (is_answer word _ _ _ _ from
     (append_taken word now a q from view is append (after ∙ sym (due.step word)) form grown place)
     (stays (standing q a.fate from) (subst (λ (x : Place). applies (standing q a.fate x) x ≡ true) (sym next)
-    (publishes a.replica q a.fate is.form.replica after))))
+    (publishes a.replica q a.fate is.form.replica
+    (append_inside (member_inside a) is.form
+    (subst (λ (x : Running). is_append (next_deed x) ≡ true) (sym view) append)) after))))
 
 -- of a vote
 pub vote_due_at : (now : Running) (a : Inside) → member_inside a ≡ now → IsInsideMember a

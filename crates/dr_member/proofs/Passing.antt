@@ -8,9 +8,9 @@ use Rattle.dr_program.specs.declared.place.Part.TheVariants as parts
 use Rattle.dr_program.specs.declared.place.Place.{Place}
 use Rattle.dr_program.specs.declared.place.TheConstants.{TURN}
 use Rattle.dr_program.specs.Turn.{IsIn, columns_in, part_of, places_in, rows_in, turn_begins}
-use Rattle.dr_program.specs.Replica.{Replica, is_other}
-use Rattle.dr_program.specs.Running.{Running, members, columns, applies, moved, settled, step_at}
-use Rattle.dr_program.specs.Steps.{allows}
+use Rattle.dr_program.specs.Replica.{Replica, is_inside, is_other}
+use Rattle.dr_program.specs.Running.{Running, members, columns, applies, crashes_now, moved, push_or_crash, settled, step_at}
+use Rattle.dr_program.specs.Steps.{allows, has_cell}
 use Rattle.dr_turn.specs.Search.{IsUnderway, left}
 use Rattle.dr_turn.proofs.Order.{all_below, each_below, left_falls, left_small}
 use Rattle.dr_turn.proofs.Search.{applies_at, applies_from, idle_part, part_before, underway_idle}
@@ -150,6 +150,33 @@ pushes_idle replica fate p c at same =
     ap (λ x. applies_at (standing replica fate p) x p.row c) at
     ∙ neither (is_other replica p.row) (changed replica.rows p.row c)
     (allows replica (step_at (standing replica fate p) parts.Push p.row c)) same
+
+-- nor has anybody but another member of its view, and who neither pushes nor crashes has nothing
+pub pushes_nobody : (replica : Replica) (fate : Fate) (p : Place) (c : ℕ) → part_of p ≡ parts.Push
+    → is_other replica p.row ≡ false
+    → applies (standing replica fate p) (record p { column = c }) ≡ false
+pushes_nobody replica fate p c at none =
+    ap (λ x. applies_at (standing replica fate p) x p.row c) at
+    ∙ ap (λ b. (b && changed replica.rows p.row c)
+    && allows replica (step_at (standing replica fate p) parts.Push p.row c)) none
+
+pub pushes_nothing : (replica : Replica) (fate : Fate) (p : Place) (c : ℕ) → part_of p ≡ parts.Push
+    → (is_inside replica || crashes_now (standing replica fate p)) ≡ false
+    → applies (standing replica fate p) (record p { column = c }) ≡ false
+pushes_nothing replica fate p c at neither_one =
+    ap (λ x. applies_at (standing replica fate p) x p.row c) at
+    ∙ last (is_other replica p.row && changed replica.rows p.row c) _
+    (by (is_inside replica) (crashes_now (standing replica fate p)) refl neither_one)
+  where
+    last : (a b : Bool) → b ≡ false → (a && b) ≡ false
+    last true b e = e
+    last false b e = refl
+
+    by : (inside crashes : Bool) → is_inside replica ≡ inside → (inside || crashes) ≡ false
+        → allows replica (push_or_crash crashes p.row c) ≡ false
+    by true crashes is e = absurd (cc e)
+    by false true is e = absurd (cc e)
+    by false false is e = ap (λ x. x && has_cell replica p.row c) is
 
 -- a test that fails at a number more, where it fails below it
 pub none_more : (test : ℕ → Bool) (from n : ℕ)

@@ -101,6 +101,7 @@ goes_receives n k p is at = by (part_of p) refl at
         && is_receive (slice_index_or TURN (j - 1) turn_begins))) refl is.part)
         (ap is_publish e) (ap is_receive at))
     by (parts.Do a) e at = at
+    by parts.Take e at = absurd (cc at)
     by x e at = at
 
 -- behind a deed of another part nothing is kept

@@ -7,7 +7,7 @@ use Rattle.dr_program.specs.declared.outcome.LogWhy.{LogWhy}
 use Rattle.dr_program.specs.declared.place.Part.{Part}
 use Rattle.dr_program.specs.declared.place.Part.TheVariants as parts
 use Rattle.dr_program.specs.declared.place.Place.{Place}
-use Rattle.dr_program.specs.Replica.{Replica, is_named, is_others, is_own, is_wedged, me, value_due}
+use Rattle.dr_program.specs.Replica.{Replica, is_inside, is_named, is_others, is_own, is_wedged, me, value_due}
 use Rattle.dr_program.specs.Running.{vote_or_end}
 use Rattle.dr_program.specs.Steps.{allows}
 use Rattle.dr_program.specs.Turn.{IsIn, columns_in, part_of, rows_in}
@@ -38,6 +38,11 @@ calm_parts false false true e = absurd (cc e)
 first_fails : (a b : Bool) → a ≡ false → (a && b) ≡ false
 first_fails a b e = ap (λ x. x && b) e
 
+-- and where the second does
+second_fails : (a b : Bool) → b ≡ false → (a && b) ≡ false
+second_fails true b e = e
+second_fails false b e = refl
+
 -- no append has failed
 none_there : (o : Option LogWhy) → is_some o ≡ false → o ≡ None
 none_there None e = refl
@@ -53,27 +58,29 @@ none_waits o me (inr (inr t)) = absurd (cc t.0)
 
 -- from the part of the vote the search comes to the pushes
 past : (q : Replica) (fate : Fate) → is_calm q fate ≡ true → q.end ≡ None
-    → IsUnderway (standing q fate (begin 10))
-    → GoesBy (standing q fate (begin 10)) (standing q fate (begin PUSHES))
+    → IsUnderway (standing q fate (begin 11))
+    → GoesBy (standing q fate (begin 11)) (standing q fate (begin PUSHES))
 past q fate calm none u =
     let parts = calm_parts (is_some fate.failed) (is_wedged q) (is_named (me q) q.committed) calm in
     let pending = none_waits q.pending (me q) u.free in
-    let vote = goes_on (standing q fate (begin 10)) u none
+    let vote = goes_on (standing q fate (begin 11)) u none
     (ap (λ o. allows q (vote_or_end o (value_due q))) (none_there fate.failed parts.0)
-    ∙ first_fails (is_wedged q) _ parts.1.0) in
-    let propose = goes_on (standing q fate (begin 11)) vote.underway none (ap (is_own (me q)) pending) in
-    let accept = goes_on (standing q fate (begin 12)) propose.underway none (ap (is_others (me q)) pending) in
-    let commit = goes_on (standing q fate (begin 13)) accept.underway none
-    (first_fails (is_wedged q) _ parts.1.0) in
-    let excluded = goes_on (standing q fate (begin 14)) commit.underway none
-    (first_fails (is_named (me q) q.committed) _ parts.1.1) in
+    ∙ second_fails (is_inside q) _ (first_fails (is_wedged q) _ parts.1.0)) in
+    let propose = goes_on (standing q fate (begin 12)) vote.underway none
+    (second_fails (is_inside q) _ (ap (is_own (me q)) pending)) in
+    let accept = goes_on (standing q fate (begin 13)) propose.underway none
+    (second_fails (is_inside q) _ (ap (is_others (me q)) pending)) in
+    let commit = goes_on (standing q fate (begin 14)) accept.underway none
+    (second_fails (is_inside q) _ (first_fails (is_wedged q) _ parts.1.0)) in
+    let excluded = goes_on (standing q fate (begin 15)) commit.underway none
+    (second_fails (is_inside q) _ (first_fails (is_named (me q) q.committed) _ parts.1.1)) in
     goes_far _ _ _ vote (goes_far _ _ _ propose (goes_far _ _ _ accept (goes_far _ _ _ commit excluded)))
 
 -- a place of the vote's part is its first
-vote_place : (n k : ℕ) (p : Place) → IsIn n k p → part_of p ≡ parts.Vote → p ≡ begin 10
+vote_place : (n k : ℕ) (p : Place) → IsIn n k p → part_of p ≡ parts.Vote → p ≡ begin 11
 unfolding all_below
-vote_place n k p is at = only_place n k 10 p is (ap (rows_in n) at) (ap (columns_in k) at)
-    (part_number is_vote 10 p refl is.part (ap is_vote at))
+vote_place n k p is at = only_place n k 11 p is (ap (rows_in n) at) (ap (columns_in k) at)
+    (part_number is_vote 11 p refl is.part (ap is_vote at))
 
 -- where nothing of a vote is due, the search goes from its part to the pushes
 pub votes_passed : (q : Replica) (fate : Fate) (p : Place) → IsUnderway (standing q fate p) → q.end ≡ None

@@ -6,7 +6,7 @@ use Rattle.dr_program.specs.declared.deed.Deed.TheVariants as deeds
 use Rattle.dr_program.specs.Running.{Running}
 use Rattle.dr_program.specs.Turn.{is_beat, part_of}
 
--- the deed is a look, a push, an act, or an append
+-- the deed is a look, a push, an act, an append, a letter to give, or one to take
 abbrev pub is_look : Deed → Bool
 is_look (deeds.Look index) = true
 is_look d = false
@@ -23,12 +23,22 @@ abbrev pub is_append : Deed → Bool
 is_append (deeds.Append entry) = true
 is_append d = false
 
+abbrev pub is_give : Deed → Bool
+is_give (deeds.Give late) = true
+is_give d = false
+
+abbrev pub is_take : Deed → Bool
+is_take deeds.Take = true
+is_take d = false
+
 -- an index in the deed is below this size
 abbrev pub IsWithin : ℕ → Deed → Type 0
 IsWithin size (deeds.Look index) = index < size
 IsWithin size (deeds.Push index word) = index < size
 IsWithin size (deeds.Act index word) = index < size
 IsWithin size (deeds.Append entry) = Unit {0}
+IsWithin size (deeds.Give late) = Unit {0}
+IsWithin size deeds.Take = Unit {0}
 IsWithin size (deeds.Rest end) = Unit {0}
 
 -- the number of words of the member's table

@@ -1,5 +1,7 @@
 -- What a member keeps of its script: the least push of its turn at which it crashes.
-use Rattle.std.specs.Prelude.{◌≡◌, ℕ, ◌==◌, ◌≤◌, min, if◌then◌else◌, Bool, false, List, fold, Option, None, Some}
+use Rattle.std.specs.Prelude.{◌≡◌, ℕ, ◌==◌, ◌≤◌, min, if◌then◌else◌, Bool, true, false, List, fold, Option, None, Some}
+use Rattle.dr_machine.specs.declared.event.Act.{Act}
+use Rattle.dr_machine.specs.declared.event.Act.TheVariants as acts
 use Rattle.dr_suspect.specs.Waits.{begun}
 use Rattle.dr_program.specs.declared.setup.CrashPoint.{CrashPoint}
 use Rattle.dr_member.specs.declared.fate.Fate.{Fate}
@@ -32,3 +34,13 @@ turned fate turn = record fate { pushes = 0; crash = first_push turn fate.crashe
 
 abbrev pub renewed : Fate → Fate
 renewed fate = record fate { waits = begun fate.waits.limit }
+
+-- one of the acts that come up most: only a member in its view does it, and stays there
+abbrev pub is_of_view : Act → Bool
+is_of_view (acts.Receive s) = true
+is_of_view acts.Send = true
+is_of_view acts.Null = true
+is_of_view acts.Deliver = true
+is_of_view acts.Publish = true
+is_of_view acts.Report = true
+is_of_view a = false

@@ -31,6 +31,8 @@ step_by dues.Look p v = steps.Look p.row p.column
 step_by dues.Push p v = steps.Push p.row p.column
 step_by dues.Append p v = steps.Append
 step_by dues.Vote p v = steps.LogVote v
+step_by dues.Give p v = steps.Welcome p.row
+step_by dues.Take p v = steps.Join
 step_by (dues.Act a) p v = steps.Do a
 
 -- what comes after the row of this place

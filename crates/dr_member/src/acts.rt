@@ -1,15 +1,22 @@
 //! What an act makes of a member.
-ghost use Rattle.std.specs.Prelude.{◌≡◌, ◌≢◌, ◌/◌, ℕ, true};
+ghost use Rattle.std.specs.Prelude.{◌≡◌, ◌≢◌, ◌/◌, ℕ, IfSome, None, false, option_map, true};
 ghost use Rattle.dr_machine.specs.declared.event.Act.TheVariants.{Beat, Finish, Receive};
 ghost use Rattle.dr_machine.specs.declared.step.Step.TheVariants.{Do};
-ghost use Rattle.dr_program.specs.Acts.{may, taken};
+ghost use Rattle.dr_form.specs.Letters.{IsFitting};
+ghost use Rattle.dr_program.specs.declared.place.Place.{Place};
+ghost use Rattle.dr_program.specs.Acts.{taken};
 ghost use Rattle.dr_program.specs.Form.{HasForm};
-ghost use Rattle.dr_program.specs.Steps.{NoWordFell, is_free};
+ghost use Rattle.dr_program.specs.Replica.{is_inside};
+ghost use Rattle.dr_program.specs.Running.{took_letter};
+ghost use Rattle.dr_program.specs.Steps.{NoWordFell, allows, is_free};
+ghost use Rattle.dr_program.specs.Turn.{turn_ends};
 ghost use Rattle.dr_member.specs.Bases.{AreBases};
-ghost use Rattle.dr_member.specs.Fate.{renewed, turned};
+ghost use Rattle.dr_member.specs.Fate.{IsTimely, is_of_view, renewed, turned};
+ghost use Rattle.dr_member.specs.Search.{standing};
 
 use crate::bases::Bases;
 use crate::fate::Fate;
+use dr_entry::Entry;
 use dr_machine::Act;
 use dr_replica::Replica;
 
@@ -23,7 +30,7 @@ pub(crate) fn take_act(
     bases: &mut Bases,
     ready: &mut u16,
 )
-    requires may { may replica.old act ≡ true }
+    requires may { allows replica.old (Do act) ≡ true }
     requires free { is_free replica.old (Do act) ≡ true }
     ensures after { replica.new ≡ taken replica.old act }
     ensures grown { replica.new.view ≡ replica.old.view → NoWordFell replica.old replica.new }
@@ -49,5 +56,44 @@ pub(crate) fn take_act(
             *ready >>= 1;
         }
         _ => replica.take(act),
+    }
+}
+
+/// Whether the member is in its view after this act: of acts that only such a member does, and that leave it
+/// there, that is known.
+#[inline(always)]
+pub(crate) fn is_inside_after(replica: &Replica, act: Act) -> bool
+    requires { is_of_view act ≡ true → is_inside replica.now ≡ true }
+    ensures { result ≡ is_inside replica.now }
+{
+    match act {
+        Act::Receive { .. } | Act::Send | Act::Null | Act::Deliver | Act::Publish | Act::Report =>
+            true,
+        _ => replica.is_inside(),
+    }
+}
+
+/// Takes the letter of a late member, if there is one: it comes into the view that the letter ends with, whose words
+/// stand elsewhere, and waits anew.
+pub(crate) fn take_letter(
+    letter: Option<&[Entry]>,
+    replica: &mut Replica,
+    fate: &mut Fate,
+    bases: &mut Bases,
+)
+    requires outside { is_inside replica.old ≡ false }
+    requires free { replica.old.pending ≡ None }
+    requires fitting { IfSome letter (λ list. IsFitting replica.old list.now) }
+    requires form { HasForm replica.old }
+    ensures after { (place : Place) → standing replica.new fate.new turn_ends
+        ≡ took_letter (option_map (λ list. list.now) letter.entry) (standing replica.old fate.old place) }
+    ensures form { HasForm replica.new }
+    ensures timely { IsTimely fate.old replica.old.turns → IsTimely fate.new replica.new.turns }
+    ensures bases { AreBases bases.old replica.old → AreBases bases.new replica.new }
+{
+    if let Some(letter) = letter {
+        replica.join(letter);
+        fate.begin_view();
+        *bases = Bases::of(replica);
     }
 }

@@ -2,7 +2,7 @@ mod alone;
 mod asking;
 mod sweep;
 
-ghost use Rattle.std.specs.Prelude.{◌≡◌, ◌≢◌, ◌+◌, ◌*◌, ◌-◌, ◌^◌, ◌<◌, ◌≤◌, ℕ, true, IfOk, Some, is_some, length};
+ghost use Rattle.std.specs.Prelude.{◌≡◌, ◌≢◌, ◌+◌, ◌*◌, ◌-◌, ◌^◌, ◌<◌, ◌≤◌, ℕ, true, IfOk, IfSome, Some, [], is_some, length, option_map, vec_capacity};
 ghost use Rattle.dr_machine.specs.declared.event.Act.TheVariants.{Crash};
 ghost use Rattle.dr_machine.specs.declared.step.Step.TheVariants.{Do};
 ghost use Rattle.dr_program.specs.declared.place.Part.TheVariants as parts;
@@ -10,15 +10,17 @@ ghost use Rattle.dr_program.specs.Form.{CanBegin, IsRunningMember};
 ghost use Rattle.dr_program.specs.Program.{end_of};
 ghost use Rattle.dr_program.specs.Reading.{step_of_member};
 ghost use Rattle.dr_program.specs.Replica.{is_wedged, me, value_due, vote_of};
-ghost use Rattle.dr_program.specs.Running.{after_step, begun_running, broken_off, columns, crashes_now, deed_of, end_by, members, next_deed, next_step, push_or_crash};
+ghost use Rattle.dr_program.specs.Running.{after_step, begun_running, broken_off, columns, crashes_now, deed_of, end_by, members, next_deed, next_step, push_or_crash, settled, took_letter};
 ghost use Rattle.dr_program.specs.Schedule.{is_between_turns};
 ghost use Rattle.dr_program.specs.Sight.{MaySee};
 ghost use Rattle.dr_program.specs.Steps.{NoWordFell, index_in};
 ghost use Rattle.dr_program.specs.Turn.{part_of};
-ghost use Rattle.dr_member.specs.Deeds.{IsWithin, is_act, is_append, is_before_turn, is_push, table_size};
+ghost use Rattle.dr_form.specs.Letters.{IsFitting};
+ghost use Rattle.dr_history.specs.History.{up_to_view};
+ghost use Rattle.dr_member.specs.Deeds.{IsWithin, is_act, is_append, is_before_turn, is_give, is_push, is_take, table_size};
 ghost use Rattle.dr_turn.specs.Work.{HasGrownTo, IsStill, deeds_left};
 
-use crate::acts::take_act;
+use crate::acts::{is_inside_after, take_act, take_letter};
 use crate::bases::Bases;
 use crate::fate::Fate;
 use crate::search::{
@@ -40,9 +42,10 @@ pub use sweep::{Access, Standing};
 /// It goes through its turn place by place, and stands at a place at which there is something to do:
 /// [`Member::next`] says what. Whoever runs the member does that, and then calls the method that
 /// takes note of it: [`Member::looked`], [`Member::pushed`], [`Member::acted`], and
-/// [`Member::appended`] or [`Member::append_failed`]; or it has the member take the looks or the pushes
-/// of a row at once, by [`Member::look_row`] and [`Member::push_row`]. Each of these leaves the member with
-/// fewer deeds to do, so it comes to its end.
+/// [`Member::appended`] or [`Member::append_failed`], [`Member::given`], once it has the letter that
+/// [`Member::letter`] writes, and [`Member::taken`]; or it has the member take the looks or the pushes of a row
+/// at once, by [`Member::look_row`] and [`Member::push_row`]. Each of these leaves the member with fewer deeds to
+/// do, so it comes to its end.
 #[derive(Drop)]
 pub struct Member {
     replica: Replica,
@@ -129,6 +132,8 @@ impl Member {
             Due::Push => Deed::Push(self.push_index(row, column), self.replica.own(column)),
             Due::Append => Deed::Append(Record::Entry(self.replica.next_entry())),
             Due::Vote => Deed::Append(Record::Vote(self.next_vote())),
+            Due::Give => Deed::Give { late: row },
+            Due::Take => Deed::Take,
             Due::Act(_) => Deed::Act(
                 self.look_index(self.me(), BEAT_COLUMN),
                 self.replica.acts_after(),
@@ -202,12 +207,12 @@ impl Member {
             DELIVERS => self.act(Act::Deliver),
             PUBLISHES => self.act(Act::Publish),
             REPORTS => self.act(Act::Report),
-            BEAT => self.act(Act::Beat),
             _ => self.act_at_place(),
         }
     }
 
-    /// Does the act of a part that comes up rarely. Out of line, it leaves the others small.
+    /// Does the act of a part that comes up rarely, or after which it may be outside its view. Out of line, it
+    /// leaves the others small.
     #[inline(never)]
     fn act_at_place(&mut self)
         requires { is_act (next_deed self.old) ≡ true }
@@ -241,7 +246,70 @@ impl Member {
             &mut self.bases,
             &mut self.ready,
         );
-        settle(&self.replica, &self.fate, &mut self.place, &mut self.ready);
+        let inside = is_inside_after(&self.replica, act);
+        settle(
+            &self.replica,
+            &self.fate,
+            &mut self.place,
+            &mut self.ready,
+            inside,
+        );
+    }
+
+    /// Writes the letter that it gives: its history up to and with its last View. An empty list with room for a
+    /// whole history takes it.
+    pub fn letter(&self, into: &mut Vec<Entry>)
+        requires empty { into.old.items ≡ [] }
+        requires room { self.now.replica.room ≤ vec_capacity into.old }
+        ensures { into.new.items ≡ up_to_view self.now.replica.history }
+    {
+        self.replica.write_letter(into);
+    }
+
+    /// Takes note that its letter was given to the member of its place's row.
+    #[inline(never)]
+    pub fn given(&mut self)
+        requires { is_give (next_deed self.old) ≡ true }
+        ensures after { (word : ℕ) → self.new ≡ after_step word self.old }
+        ensures form { IsRunningMember self.new }
+        ensures grown { NoWordFell self.old.replica self.new.replica }
+        ensures falls { deeds_left self.new < deeds_left self.old }
+        ensures keeps { IsStill self.old self.new }
+    {
+        let newcomer = self.place.row;
+        go(&self.replica.shape(), &mut self.place);
+        self.replica.give(newcomer);
+        let inside = self.replica.is_inside();
+        settle(
+            &self.replica,
+            &self.fate,
+            &mut self.place,
+            &mut self.ready,
+            inside,
+        );
+    }
+
+    /// Takes its letter, if there is one: it comes into the view that the letter ends with, whose words stand in
+    /// another bank of the table, and waits anew.
+    #[inline(never)]
+    pub fn taken(&mut self, letter: Option<&[Entry]>)
+        requires due { is_take (next_deed self.old) ≡ true }
+        requires fitting { IfSome letter (λ list. IsFitting self.old.replica list.now) }
+        ensures after { self.new ≡ settled (took_letter (option_map (λ list. list.now) letter.entry) self.old) }
+        ensures form { IsRunningMember self.new }
+        ensures falls { deeds_left self.new < deeds_left self.old }
+        ensures keeps { IsStill self.old self.new }
+    {
+        go(&self.replica.shape(), &mut self.place);
+        take_letter(letter, &mut self.replica, &mut self.fate, &mut self.bases);
+        let inside = self.replica.is_inside();
+        settle(
+            &self.replica,
+            &self.fate,
+            &mut self.place,
+            &mut self.ready,
+            inside,
+        );
     }
 
     /// Takes note that its log has the record that it appended.
@@ -400,7 +468,14 @@ impl Member {
         go(&self.replica.shape(), &mut self.place);
         let value = self.replica.value_due();
         self.replica.vote(value);
-        settle(&self.replica, &self.fate, &mut self.place, &mut self.ready);
+        let inside = self.replica.is_inside();
+        settle(
+            &self.replica,
+            &self.fate,
+            &mut self.place,
+            &mut self.ready,
+            inside,
+        );
     }
 
     /// The deed that is due at a push: the push, or the end of a member that crashes just before it.

@@ -1,9 +1,11 @@
 //! The search for the next place of a turn at which there is something to do.
-ghost use Rattle.std.specs.Prelude.{length, ◌≡◌, ℕ, ◌<◌, ◌≤◌, true, false, MatchOption, None, Some};
+ghost use Rattle.std.specs.Prelude.{length, ◌≡◌, ℕ, ◌<◌, ◌≤◌, ◌||◌, true, false, MatchOption, None, Some};
+ghost use Rattle.dr_program.specs.declared.place.Part.TheVariants as parts;
+ghost use Rattle.dr_program.specs.declared.place.Place.{Place};
 ghost use Rattle.dr_program.specs.declared.place.TheConstants.{TURN};
 ghost use Rattle.dr_machine.specs.declared.event.Act.TheVariants.{Crash};
-ghost use Rattle.dr_program.specs.Replica.{value_due};
-ghost use Rattle.dr_program.specs.Running.{applies, end_by, goes, settled, step_of};
+ghost use Rattle.dr_program.specs.Replica.{is_inside, value_due};
+ghost use Rattle.dr_program.specs.Running.{applies, crashes_now, end_by, goes, settled, step_of};
 ghost use Rattle.dr_program.specs.Turn.{IsIn, after, columns_in, part_of, rows_in};
 ghost use Rattle.dr_program.specs.Form.{HasForm};
 ghost use Rattle.dr_words.specs.Columns.{columns_of};
@@ -17,36 +19,44 @@ ghost use Rattle.dr_member.specs.Search.{IsFirstDue, IsIdleTo, is_calm, next_row
 use crate::fate::{Fate, end_by};
 use crate::judge::{judged, may_judge};
 use dr_entry::End;
-use dr_machine::Act;
-use dr_program::{LogWhy, PARTS, Part, Place, TURN};
+use dr_machine::{Act, Step};
+use dr_program::{LogWhy, PARTS, Part, Place, TURN, TURN_ENDS};
 use dr_replica::Replica;
 use dr_words::Shape;
 
 /// The numbers of the parts of a turn that have the looks and the pushes, of those whose acts come up most, and
 /// of the part before a turn.
-pub(crate) const LOOKS: u8 = 0;
+pub(crate) const LOOKS: u8 = 1;
 
-pub(crate) const RECEIVES: u8 = 2;
+pub(crate) const RECEIVES: u8 = 3;
 
-pub(crate) const SENDS: u8 = 3;
+pub(crate) const SENDS: u8 = 4;
 
-pub(crate) const DELIVERS: u8 = 5;
+pub(crate) const DELIVERS: u8 = 6;
 
-pub(crate) const PUBLISHES: u8 = 7;
+pub(crate) const PUBLISHES: u8 = 8;
 
-pub(crate) const REPORTS: u8 = 8;
+pub(crate) const REPORTS: u8 = 9;
 
-pub(crate) const PUSHES: u8 = 15;
+pub(crate) const PUSHES: u8 = 16;
 
 pub(crate) const BEAT: u8 = PARTS as u8 - 1;
 
 /// Goes on to the first place of the turn, from this one on, at which there is something to do. Stays,
-/// where the member has ended. Where nothing of a vote is due, it goes past the parts of votes at once.
+/// where the member has ended. Where nothing of a vote is due, it goes past the parts of votes at once. Whoever
+/// calls it says whether the member is in its view.
 #[inline(always)]
-pub(crate) fn settle(replica: &Replica, fate: &Fate, place: &mut Place, ready: &mut u16)
+pub(crate) fn settle(
+    replica: &Replica,
+    fate: &Fate,
+    place: &mut Place,
+    ready: &mut u16,
+    inside: bool,
+)
     requires underway { IsUnderway (standing replica.now fate.now place.old) }
     requires fate { IsTimely fate.now replica.now.turns }
     requires ready { KeepsReady replica.now place.old ready.old }
+    requires inside { inside ≡ is_inside replica.now }
     ensures place { standing replica.now fate.now place.new
         ≡ settled (standing replica.now fate.now place.old) }
     ensures ready { KeepsReady replica.now place.new ready.new }
@@ -54,17 +64,57 @@ pub(crate) fn settle(replica: &Replica, fate: &Fate, place: &mut Place, ready: &
     if replica.end().is_some() {
         return;
     }
+    if inside {
+        settle_inside(replica, fate, place, ready);
+    } else {
+        settle_outside(replica, fate, place, ready);
+    }
+}
+
+/// The same of a member that has not ended, and is in its view: no place asks that again.
+#[inline(always)]
+fn settle_inside(replica: &Replica, fate: &Fate, place: &mut Place, ready: &mut u16)
+    requires underway { IsUnderway (standing replica.now fate.now place.old) }
+    requires fate { IsTimely fate.now replica.now.turns }
+    requires ready { KeepsReady replica.now place.old ready.old }
+    requires going { replica.now.end ≡ None }
+    requires inside { is_inside replica.now ≡ true }
+    ensures place { standing replica.now fate.now place.new
+        ≡ settled (standing replica.now fate.now place.old) }
+    ensures ready { KeepsReady replica.now place.new ready.new }
+{
     loop {
         match *part_of(*place) {
             Part::Vote if is_calm(replica, fate) => place.part = PUSHES,
             _ => {
-                if let Some(column) = first_due(replica, fate, *place, *ready) {
+                if let Some(column) = first_inside(replica, fate, *place, *ready) {
                     place.column = column;
                     return;
                 }
                 enter_row(replica, place, ready);
             }
         }
+    }
+}
+
+/// The same of a late member that hasn't joined. Out of line, as few members are late.
+#[inline(never)]
+fn settle_outside(replica: &Replica, fate: &Fate, place: &mut Place, ready: &mut u16)
+    requires underway { IsUnderway (standing replica.now fate.now place.old) }
+    requires fate { IsTimely fate.now replica.now.turns }
+    requires ready { KeepsReady replica.now place.old ready.old }
+    requires going { replica.now.end ≡ None }
+    requires outside { is_inside replica.now ≡ false }
+    ensures place { standing replica.now fate.now place.new
+        ≡ settled (standing replica.now fate.now place.old) }
+    ensures ready { KeepsReady replica.now place.new ready.new }
+{
+    loop {
+        if let Some(column) = first_outside(replica, fate, *place) {
+            place.column = column;
+            return;
+        }
+        enter_row(replica, place, ready);
     }
 }
 
@@ -77,19 +127,20 @@ fn is_calm(replica: &Replica, fate: &Fate) -> bool
     fate.failed.is_none() && !replica.is_wedged() && !replica.is_named()
 }
 
-/// Goes on from what comes after the row to the first place at which there is something to do. Out of
-/// line, it leaves looks and pushes a small loop.
+/// Goes on from what comes after the row to the first place at which there is something to do, for a member that
+/// is in its view, as who looks and pushes is. Out of line, it leaves looks and pushes a small loop.
 #[inline(never)]
 pub(crate) fn leave_row(replica: &Replica, fate: &Fate, place: &mut Place, ready: &mut u16)
     requires place { IsIn replica.now.roster (columns_of replica.now.roster replica.now.window) place.old }
     requires underway { IsUnderway (standing replica.now fate.now (next_row replica.now.roster place.old)) }
     requires fate { IsTimely fate.now replica.now.turns }
+    requires inside { is_inside replica.now ≡ true }
     ensures place { standing replica.now fate.now place.new
         ≡ settled (standing replica.now fate.now (next_row replica.now.roster place.old)) }
     ensures ready { KeepsReady replica.now place.new ready.new }
 {
     enter_row(replica, place, ready);
-    settle(replica, fate, place, ready);
+    settle(replica, fate, place, ready, true);
 }
 
 /// Goes on to what comes after the row. Where items of another member are received there, it sweeps the ring
@@ -109,33 +160,81 @@ fn enter_row(replica: &Replica, place: &mut Place, ready: &mut u16)
     }
 }
 
-/// The first column of the row, from this place on, at which there is something to do.
+/// The first column of the row, from this place on, at which there is something to do for a member that is in
+/// its view.
 #[inline(always)]
-fn first_due(replica: &Replica, fate: &Fate, place: Place, ready: u16) -> Option<usize>
+fn first_inside(replica: &Replica, fate: &Fate, place: Place, ready: u16) -> Option<usize>
     requires underway { IsUnderway (standing replica.now fate.now place) }
     requires fate { IsTimely fate.now replica.now.turns }
     requires ready { KeepsReady replica.now place ready }
+    requires inside { is_inside replica.now ≡ true }
     ensures { MatchOption result
         (IsIdleTo (standing replica.now fate.now place) place
         (columns_in (columns_of replica.now.roster replica.now.window) (part_of place)))
         (IsFirstDue (standing replica.now fate.now place) place) }
 {
     match *part_of(place) {
-        Part::Push if replica.is_other(place.row) => {
-            let columns = replica.shape().columns();
-            let next = next_changed(replica, columns, place.row, place.column);
-            if next < columns { Some(next) } else { None }
-        }
-        _ => applies(replica, fate, place, ready).then_some(place.column),
+        Part::Push => first_push(replica, fate, place),
+        _ => applies_inside(replica, fate, place, ready).then_some(place.column),
     }
 }
 
-/// Whether there is something to do at a place.
+/// The same for a late member that hasn't joined.
 #[inline(always)]
-fn applies(replica: &Replica, fate: &Fate, place: Place, ready: u16) -> bool
+fn first_outside(replica: &Replica, fate: &Fate, place: Place) -> Option<usize>
+    requires underway { IsUnderway (standing replica.now fate.now place) }
+    requires fate { IsTimely fate.now replica.now.turns }
+    requires outside { is_inside replica.now ≡ false }
+    ensures { MatchOption result
+        (IsIdleTo (standing replica.now fate.now place) place
+        (columns_in (columns_of replica.now.roster replica.now.window) (part_of place)))
+        (IsFirstDue (standing replica.now fate.now place) place) }
+{
+    match *part_of(place) {
+        Part::Push => first_push(replica, fate, place),
+        _ => applies_outside(replica, fate, place).then_some(place.column),
+    }
+}
+
+/// The first column of the row, from this place on, of which there is a push to do, or a crash just before it.
+#[inline(always)]
+fn first_push(replica: &Replica, fate: &Fate, place: Place) -> Option<usize>
+    requires part { part_of place ≡ parts.Push }
+    requires underway { IsUnderway (standing replica.now fate.now place) }
+    requires fate { IsTimely fate.now replica.now.turns }
+    ensures { MatchOption result
+        (IsIdleTo (standing replica.now fate.now place) place
+        (columns_in (columns_of replica.now.roster replica.now.window) (part_of place)))
+        (IsFirstDue (standing replica.now fate.now place) place) }
+{
+    if !replica.is_other(place.row) {
+        return None;
+    }
+    if !has_pushes(replica, fate) {
+        return None;
+    }
+    let columns = replica.shape().columns();
+    let next = next_changed(replica, columns, place.row, place.column);
+    if next < columns { Some(next) } else { None }
+}
+
+/// Whether the member is in its view, where it pushes, or crashes just before its next push.
+#[inline(always)]
+fn has_pushes(replica: &Replica, fate: &Fate) -> bool
+    requires { IsTimely fate.now replica.now.turns }
+    ensures { (place : Place) → result
+        ≡ (is_inside replica.now || crashes_now (standing replica.now fate.now place)) }
+{
+    replica.is_inside() || fate.crashes_now()
+}
+
+/// Whether there is something to do at a place for a member that is in its view.
+#[inline(always)]
+fn applies_inside(replica: &Replica, fate: &Fate, place: Place, ready: u16) -> bool
     requires underway { IsUnderway (standing replica.now fate.now place) }
     requires fate { IsTimely fate.now replica.now.turns }
     requires ready { KeepsReady replica.now place ready }
+    requires inside { is_inside replica.now ≡ true }
     ensures { result ≡ applies (standing replica.now fate.now place) place }
 {
     let Place { row, column, .. } = place;
@@ -150,7 +249,33 @@ fn applies(replica: &Replica, fate: &Fate, place: Place, ready: u16) -> bool
         Part::Push => replica.is_other(row) && replica.has_changed(row, column),
         Part::Crash => fate.crashes_in_turn(),
         Part::Done => replica.may(Act::Halt { end: End::Done }),
+        Part::Give => replica.may_give(row),
         Part::Spent => replica.turns() == fate.limit,
+        Part::Take => false,
+    }
+}
+
+/// Whether there is something to do at a place for a late member that hasn't joined: it takes its letter, begins
+/// turns and crashes.
+#[inline(always)]
+fn applies_outside(replica: &Replica, fate: &Fate, place: Place) -> bool
+    requires underway { IsUnderway (standing replica.now fate.now place) }
+    requires fate { IsTimely fate.now replica.now.turns }
+    requires outside { is_inside replica.now ≡ false }
+    ensures { result ≡ applies (standing replica.now fate.now place) place }
+{
+    let Place { row, column, .. } = place;
+    match *part_of(place) {
+        Part::Take => true,
+        Part::Do(act) => replica.allows(Step::Do(act)),
+        Part::Append | Part::Vote => fate.failed.is_some(),
+        Part::Push => {
+            replica.is_other(row) && (replica.has_changed(row, column) && fate.crashes_now())
+        }
+        Part::Crash => fate.crashes_in_turn(),
+        Part::Spent => replica.turns() == fate.limit,
+        Part::Look | Part::Judge | Part::Receive | Part::Excluded | Part::Done | Part::Give =>
+            false,
     }
 }
 
@@ -175,6 +300,10 @@ pub(crate) enum Due {
     Append,
     /// The append of the vote that is due.
     Vote,
+    /// The letter for the member of the place's row.
+    Give,
+    /// The take of the own letter.
+    Take,
     /// An act.
     Act(Act),
 }
@@ -189,6 +318,8 @@ pub(crate) fn due_at(replica: &Replica, fate: &Fate, place: Place) -> Due
 {
     match *part_of(place) {
         Part::Look => Due::Look,
+        Part::Give => Due::Give,
+        Part::Take => Due::Take,
         Part::Judge => Due::Act(judged(replica, fate)),
         Part::Receive => Due::Act(Act::Receive { sender: place.row }),
         Part::Append => unless_failed(Due::Append, fate.failed),
@@ -282,7 +413,7 @@ fn rows_in(shape: &Shape, part: Part) -> u8
     ensures { result ≡ rows_in shape.now.members part }
 {
     match part {
-        Part::Look | Part::Receive | Part::Push => shape.members,
+        Part::Look | Part::Receive | Part::Push | Part::Give => shape.members,
         _ => 1,
     }
 }
@@ -308,6 +439,13 @@ pub(crate) fn go(shape: &Shape, place: &mut Place)
     match *part_of(*place) {
         Part::Look | Part::Push => step_on(shape, place),
         Part::Append | Part::Vote => next_row(shape, place),
+        Part::Take => {
+            *place = Place {
+                part: TURN_ENDS,
+                row: 0,
+                column: 0,
+            }
+        }
         Part::Do(Act::Publish) => place.part = place.part.saturating_sub(1),
         _ if place.part == BEAT => next_row(shape, place),
         _ => {}

@@ -21,7 +21,7 @@ use Rattle.dr_words.specs.Choices.{proposal, shown_value}
 use Rattle.dr_program.proofs.Voting.{self_left, value_long, value_test, view_small, votes_for}
 use Rattle.dr_program.specs.Form.{HasForm}
 use Rattle.dr_replica.proofs.Received.{same_truth}
-use Rattle.dr_program.specs.Replica.{Replica, is_others, is_own, is_value, is_wedged, may_accept, may_append, may_propose, may_vote, me, value_due}
+use Rattle.dr_program.specs.Replica.{Replica, is_inside, is_others, is_own, is_value, is_wedged, may_accept, may_append, may_propose, may_vote, me, value_due}
 
 -- it stands as the replica says, its history logged
 pub record StandsAs (r : Replica) (s : Standing) : Type 0 where
@@ -100,11 +100,12 @@ accept_told r s o f is told =
     (accept_test r.roster (seen r.rows) r.members r.suspects (me r) (view_small r f)) f is told
 
 -- the value that it proposes
-pub proposes : (r : Replica) (s : Standing) (o : Option Value) (v : Value) → HasForm r → StandsAs r s
+pub proposes : (r : Replica) (s : Standing) (o : Option Value) (v : Value) → HasForm r → is_inside r ≡ true
+    → StandsAs r s
     → MatchOption o (¬ lead.MayPropose r.rows s)
     (λ v. lead.MayPropose r.rows s × lead.IsProposal r.rows s v)
     → o ≡ Some v → length v.trim ≡ 16 → v ≡ value_due r
-proposes r s o v f is told there long = by o told there
+proposes r s o v f inside is told there long = by o told there
   where
     due : may_propose r ≡ true → value_due r ≡ proposal r.roster (seen r.rows) r.members r.suspects
     due e = rw e refl
@@ -118,7 +119,7 @@ proposes r s o v f is told there long = by o told there
         (proposal r.roster (seen r.rows) r.members r.suspects)
         (long ∙ sym (proposal_long r.roster (seen r.rows) r.members r.suspects))
         (to_replica r s (λ n members suspects k. IsProposal n (seen r.rows) members suspects v) f is t.1)
-        (proposal_is r.roster (seen r.rows) r.members r.suspects (me r) (view_small r f) (self_left r f))
+        (proposal_is r.roster (seen r.rows) r.members r.suspects (me r) (view_small r f) (self_left r f inside))
         ∙ sym (due may)
 
     by : (o : Option Value) → MatchOption o (¬ lead.MayPropose r.rows s)

@@ -19,7 +19,6 @@ use Rattle.dr_program.specs.Form.{HasForm}
 use Rattle.dr_replica.specs.Items.{Held, front, taken}
 use Rattle.dr_replica.specs.Inside.{IsInsideReplica, replica_inside}
 use Rattle.dr_replica.specs.declared.replica.Replica.TheInside.{Inside}
-use Rattle.dr_words.proofs.Ranks.{some_member}
 use Rattle.dr_replica.proofs.Insides.{same_suspicion}
 use Rattle.dr_form.proofs.Gains.{front_rises, shown}
 use Rattle.dr_form.specs.Puts.{MayPut}
@@ -40,7 +39,7 @@ pub front_after : (a : Inside) (t : Held) (s : ℕ) (item : Item) → IsInsideRe
 front_after a t s item inside within after =
     let f = inside.form in
     let k : ℕ = get_or a.items.counts s 0 + 1 in
-    let some = some_member a.members a.rows.me (omega (arith, f.rows.present, f.rows.few)) f.present in
+    let some : 0 < length (members_of a.members) = omega (arith, inside.next.rank) in
     let rises = front_rises (members_of a.members) a.items.counts s k some (omega (arith, f.counts, within))
     (omega arith) in
     let same : front (taken a.items s item)

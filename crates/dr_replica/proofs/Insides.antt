@@ -14,12 +14,12 @@ use Rattle.dr_program.specs.Replica as replica
 use Rattle.dr_program.specs.Replica.{Replica, delivered, least_seen, may_deliver, may_suspect, suspected, suspicion_of, accepted, vote_of, voted}
 use Rattle.dr_program.specs.Form.{HasForm}
 use Rattle.std.proofs.lemmas.Option.{get_or_from_slice_get}
-use Rattle.std.specs.Prelude.{Some, slice_get, vec_capacity}
+use Rattle.std.specs.Prelude.{IsSome, MatchOption, Some, false, slice_get, vec_capacity}
 use Rattle.dr_entry.specs.declared.record.Value.{Value}
 use Rattle.dr_entry.specs.declared.record.Vote.{Vote}
 use Rattle.dr_machine.specs.World.{no_vote}
-use Rattle.dr_form.proofs.Accepting.{accepted_form}
-use Rattle.dr_history.specs.Members.{members_of}
+use Rattle.dr_form.proofs.Accepting.{accepted_form, decided_form}
+use Rattle.dr_history.specs.Members.{has, members_of}
 use Rattle.dr_rows.specs.Words.{with_frozen, with_own}
 use Rattle.dr_words.specs.Masks as masks
 use Rattle.dr_words.specs.Masks.{with_member, without}
@@ -119,6 +119,26 @@ grown_to old new v q from to grown =
 pub may_of : (f : Replica → Bool) (v now : Replica) → v ≡ now → f now ≡ true → f v ≡ true
 may_of f v now same may = ap f same ∙ may
 
+-- a value that is committed leaves the fields in good order
+pub decided_kept : (a : Inside) → IsInsideReplica a → IsInsideReplica (record a { committed = Some a.value })
+decided_kept a inside = record {
+  form = decided_form (replica_inside a) inside.form;
+  suspicion = inside.suspicion;
+  members = inside.members;
+  roster = inside.roster;
+  most = inside.most;
+  messages = inside.messages;
+  next = inside.next;
+  received = inside.received;
+  sent = inside.sent;
+  left = inside.left;
+  spares = inside.spares;
+  enough = inside.enough;
+  past = inside.past;
+  end = inside.end;
+  votes = inside.votes;
+}
+
 -- ---- delivery
 
 -- the next place to deliver is a spot of the view's members
@@ -126,14 +146,14 @@ pub next_is_spot : (a : Inside) → IsInsideReplica a → IsSpot (length a.items
 next_is_spot a inside = subst (λ (ms : List ℕ). IsSpot (length ms) a.next) (sym inside.members) inside.next
 
 -- a place that may be delivered is before the own front
-next_held : (r : Replica) → HasForm r → may_deliver r ≡ true
+next_held : (r : Replica) → HasForm r → replica.is_inside r ≡ true → may_deliver r ≡ true
     → (r.next < front_of (map (slice_index r.counts) (replica.members_in_view r))) × (r.next + 1 < 2 ^ 64)
-next_held r f may =
+next_held r f inside may =
     let seen_by_all : r.next < least_seen r RECEIVED_COLUMN =
     ltb-true r.next (least_seen r RECEIVED_COLUMN)
     (and_parts (nat_lt r.next (least_seen r RECEIVED_COLUMN)) (nat_lt (length r.history) r.room)
     (and_parts (not (replica.is_wedged r)) _ may).1).0 in
-    let mine = least_of r RECEIVED_COLUMN (replica.me r) (omega (arith, f.rows.present, f.rows.few)) f.present
+    let mine = least_of r RECEIVED_COLUMN (replica.me r) (omega (arith, f.rows.present, f.rows.few)) inside
     in (
       omega (arith, seen_by_all, mine, f.received),
       omega (arith, seen_by_all, least_fits r RECEIVED_COLUMN),
@@ -141,9 +161,10 @@ next_held r f may =
 
 -- a member that may deliver has its next place below the front, and can count one more
 pub next_before : (a : Inside) (now : Replica) → replica_inside a ≡ now → IsInsideReplica a → may_deliver now
-    ≡ true → (a.next.place < items.front a.items) × (a.next.place + 1 < 2 ^ 64)
-next_before a now same inside may =
-    let held = next_held (replica_inside a) inside.form (may_of may_deliver (replica_inside a) now same may) in (
+    ≡ true → replica.is_inside now ≡ true → (a.next.place < items.front a.items) × (a.next.place + 1 < 2 ^ 64)
+next_before a now same inside may in_view =
+    let held = next_held (replica_inside a) inside.form (ap replica.is_inside same ∙ in_view)
+    (may_of may_deliver (replica_inside a) now same may) in (
       subst (λ (ms : List ℕ). a.next.place < front_of (map (slice_index a.items.counts) ms))
           (sym inside.members) held.0,
       held.1,
@@ -178,6 +199,12 @@ delivered_after a n h s item inside sender what after next =
 
 -- ---- suspicion
 
+-- a mask with a member has a least one
+pub somebody : (o : Option ℕ) (mask i : ℕ) → MatchOption o ((k : ℕ) → has mask k ≡ false) (masks.IsLeastOf mask)
+    → has mask i ≡ true → IsSome o
+somebody None mask i least there = absurd (cc (least i, there))
+somebody (Some m) mask i least there = refl
+
 -- the least member of a mask, as it is read
 pub least_read : (mask p : ℕ) → slice_get (members_of mask) 0 ≡ Some p → p ≡ masks.least_of mask
 unfolding masks.least_of
@@ -211,18 +238,19 @@ suspected_after a s rows mid j m p inside more mask voter words frozen =
 
 -- they keep their invariant
 pub suspected_kept : (a : Inside) (s : Suspicion) (rows : Words) (j : ℕ) → IsInsideReplica a
+    → replica.is_inside (replica_inside a) ≡ true
     → may_suspect (replica_inside a) j ≡ true → s ≡ record a.suspects { suspects = s.suspects }
     → replica_inside (record a { rows = rows; suspects = s }) ≡ suspected (replica_inside a) j
     → IsInsideReplica (record a { rows = rows; suspects = s })
-suspected_kept a s rows j inside may rest there =
+suspected_kept a s rows j inside in_view may rest there =
     fields_kept a rows s a.tag a.value a.pending a.votes a.logged a.durable a.turns a.acts a.end inside
-    (subst HasForm (sym there) (suspected_form (replica_inside a) j inside.form may))
+    (subst HasForm (sym there) (suspected_form (replica_inside a) j inside.form in_view may))
     (rest ∙ ap (λ (x : Suspicion). record x { suspects = s.suspects }) inside.suspicion
     ∙ ap (λ (m : ℕ). record { me = m; members = a.members; suspects = s.suspects })
     (sym (ap (λ (r : Replica). r.rows.me) there)))
     (subst (λ (q : Replica). least_seen (replica_inside a) RECEIVED_COLUMN ≤ least_seen q RECEIVED_COLUMN)
     (sym there)
-    (suspected_received (replica_inside a) j inside.form may)) inside.votes
+    (suspected_received (replica_inside a) j inside.form in_view may)) inside.votes
 
 -- ---- votes
 

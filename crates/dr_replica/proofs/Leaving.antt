@@ -1,6 +1,6 @@
--- What a member that may end its view has room for.
-use Rattle.std.proofs.Common.{◌≡◌, ℕ, ◌+◌, ◌^◌, ◌<◌, ◌≤◌, true, false, not, nat_lt, List, [], ◌∷◌, ◌++◌, length, map, Option, None, Some, refl, sym, ap, subst, ◌∙◌, arith, length-append}
-use Rattle.std.specs.Prelude.{◌&&◌, All, option_to_list, unwrap_or, vec_capacity}
+-- How a member goes on in a later view, and what one that may end its view has room for.
+use Rattle.std.proofs.Common.{◌≡◌, ℕ, ◌+◌, ◌<◌, ◌≤◌, Bool, true, false, not, nat_lt, List, [], ◌∷◌, ◌++◌, length, map, Option, None, Some, refl, sym, ap, subst, ◌∙◌, arith, length-append}
+use Rattle.std.specs.Prelude.{All, option_to_list, unwrap_or, vec_capacity}
 use Rattle.std.proofs.lemmas.List.Elements.{All-pop}
 use Rattle.std.proofs.lemmas.Bool.{and_parts, ltb-true}
 use Rattle.dr_entry.specs.declared.entry.Entry.{Entry}
@@ -8,15 +8,14 @@ use Rattle.dr_entry.specs.declared.entry.Entry.TheVariants.{View}
 use Rattle.dr_entry.specs.declared.record.Value.{Value}
 use Rattle.dr_history.specs.Members.{has, members_of}
 use Rattle.dr_history.specs.Order.{messages_from}
-use Rattle.dr_history.proofs.NumberedLemmas.{messages_from-View}
 use Rattle.dr_machine.specs.World.{no_value}
 use Rattle.dr_program.specs.Form.{HasForm}
-use Rattle.dr_program.specs.Replica.{Replica, finished, finished_by, finished_history, greatest, left_now, may_end, may_finish}
+use Rattle.dr_program.specs.Replica.{LeftView, Replica, entered, finished, finished_by, finished_history, greatest, is_inside, left_now, may_end, may_finish, me}
 use Rattle.dr_rows.specs.Words.{Words, begun, with_own}
 use Rattle.dr_suspect.specs.Suspicion.{Suspicion, trusting}
 use Rattle.dr_words.specs.declared.column.TheConstants.{LOGGED_COLUMN}
 use Rattle.dr_trim.specs.Trims.{trims_by_rank}
-use Rattle.dr_words.specs.Masks.{IsInRoster, without}
+use Rattle.dr_words.specs.Masks.{IsInRoster, next_members}
 use Rattle.dr_replica.specs.History.{Kept}
 use Rattle.dr_replica.specs.Items.{Held, none_held}
 use Rattle.dr_replica.specs.Inside.{IsInsideReplica, replica_inside}
@@ -32,18 +31,13 @@ use Rattle.dr_form.proofs.Finishing.{finished_form}
 use Rattle.dr_words.proofs.Ranks.{some_member}
 use Rattle.dr_replica.proofs.Openings.{AreReserved}
 use Rattle.dr_replica.proofs.Spots.{first_is_spot}
-use Rattle.dr_words.proofs.Masks.{has_without_mask, in_roster_small}
 
 -- what the fields say of a member that may end its view with a value
 pub record MayLeave (a : Inside) (x : Value) : Type 0 where
-  pub stays : has x.leavers a.rows.me ≡ false
   pub bank : a.view + 1 < a.shape.banks
   pub taken : has_taken (replica_inside a) x.trim ≡ true
   pub room : length (merged_from a.items a.history.entries (trims_by_rank a.members x.trim) a.next.place)
       < a.history.room
-  pub base : length (messages_from a.rows.me
-      (merged_from a.items a.history.entries (trims_by_rank a.members x.trim) a.next.place))
-      ≤ length a.messages.items
 
 leaves : (a : Inside) (x : Value) → IsInsideReplica a → may_end (replica_inside a) x ≡ true → MayLeave a x
 leaves a x inside may =
@@ -52,9 +46,8 @@ leaves a x inside may =
     let there = and_parts (has_taken (replica_inside a) x.trim) _ bank.1 in
     let fits = and_parts (nat_lt (length (finished_history (replica_inside a) x)) (a.history.room + 1)) _ there.1 in
     let same = merged_same a x.trim inside in
-    let view : List Entry = View a.age (a.view + 1) (without a.members x.leavers) ∷ [] in
+    let view : List Entry = View a.age (a.view + 1) (next_members a.members x.leavers) ∷ [] in
     record {
-      stays = grind (arith, stays.0);
       bank = ltb-true (a.view + 1) a.shape.banks bank.0;
       taken = there.0;
       room = omega (
@@ -62,14 +55,6 @@ leaves a x inside may =
         ltb-true (length (finished_history (replica_inside a) x)) (a.history.room + 1) fits.0,
         length-append (merged (replica_inside a) x.trim) view,
         ap length same,
-      );
-      base = omega (
-        arith,
-        ltb-true (length (messages_from a.rows.me (finished_history (replica_inside a) x)))
-            (length a.messages.items + 1) fits.1,
-        ap length (messages_from-View a.rows.me (merged (replica_inside a) x.trim) a.age (a.view + 1)
-            (without a.members x.leavers)),
-        ap (λ (es : List Entry). length (messages_from a.rows.me es)) same,
       );
     }
 
@@ -79,25 +64,26 @@ may_leave a now x same inside committed may =
     leaves a x inside (subst (λ (o : Option Value). may_finish (replica_inside a) o ≡ true) committed
     (ap (λ (r : Replica). may_finish r r.committed) same ∙ may))
 
--- the fields of a member that has ended its view with a value, beside those of before
-pub record AreLeft (a b : Inside) (x : Value) : Type 0 where
+-- the fields of a member that goes on in a view of these members with these entries, beside those of before, where
+-- this is kept of the views before
+pub record AreEntered (a b : Inside) (v mask : ℕ) (entries : List Entry) (kept : List LeftView) : Type 0 where
   pub shape : b.shape ≡ a.shape
   pub messages : b.messages ≡ a.messages
   pub totals : b.totals ≡ a.totals
+  pub late : b.late ≡ a.late
   pub rows : b.rows ≡ with_own (begun a.rows.members a.rows.columns a.rows.me) LOGGED_COLUMN a.logged
-  pub view : b.view ≡ a.view + 1
-  pub members : b.members ≡ without a.members x.leavers
-  pub suspects : b.suspects ≡ trusting a.rows.me (without a.members x.leavers)
-  pub items : b.items ≡ none_held (without a.members x.leavers) a.items.roster a.items.most
-  pub base : b.base ≡ length (messages_from a.rows.me b.history.entries)
+  pub view : b.view ≡ v
+  pub members : b.members ≡ mask
+  pub suspects : b.suspects ≡ trusting a.rows.me mask
+  pub came_from : b.came_from ≡ a.members
+  pub given : b.given ≡ 0
+  pub items : b.items ≡ none_held mask a.items.roster a.items.most
+  pub base : b.base ≡ length (messages_from a.rows.me entries)
   pub sent : b.sent.items ≡ []
-  pub left : map left_of b.left.items ≡ map left_of a.left.items ++ left_now (replica_inside a) ∷ []
+  pub left : map left_of b.left.items ≡ kept
   pub next : b.next ≡ first_spot
   pub received : b.received ≡ 0
-  pub history : b.history ≡ record a.history {
-    entries = merged_from a.items a.history.entries (trims_by_rank a.members x.trim) a.next.place
-        ++ View a.age (a.view + 1) (without a.members x.leavers) ∷ [];
-  }
+  pub history : b.history ≡ record a.history { entries = entries }
   pub logged : b.logged ≡ a.logged
   pub durable : b.durable ≡ a.durable
   pub turns : b.turns ≡ a.turns
@@ -110,78 +96,56 @@ pub record AreLeft (a b : Inside) (x : Value) : Type 0 where
   pub pending : b.pending ≡ a.pending
   pub votes : b.votes ≡ a.votes
 
--- contracts see them as the replica that has ended its view
-left_view : (a b : Inside) (x : Value) → IsInsideReplica a → AreLeft a b x → replica_inside b ≡ finished_by (replica_inside a) x
-left_view a b x inside l =
-    let entries : b.history.entries ≡ finished_history (replica_inside a) x =
-    ap (λ (h : Kept). h.entries) l.history
-    ∙ ap (λ (es : List Entry). es ++ View a.age (a.view + 1) (without a.members x.leavers) ∷ [])
-    (merged_same a x.trim inside) in
+-- contracts see them as the replica that goes on there
+pub entered_view : (a b : Inside) (view members : ℕ) (entries : List Entry) (kept : List LeftView)
+    → IsInsideReplica a → AreEntered a b view members entries kept
+    → replica_inside b ≡ entered (replica_inside a) view members entries kept
+entered_view a b view members entries kept inside l =
+    let history : b.history.entries ≡ entries = ap (λ (h : Kept). h.entries) l.history in
     let room = ap (λ (h : Kept). h.room) l.history in
-    let items : b.items ≡ none_held (without a.members x.leavers) a.shape.members
-    (greatest a.totals) = l.items
-    ∙ ap (λ (n : ℕ). none_held (without a.members x.leavers) n a.items.most) inside.roster
-    ∙ ap (λ (k : ℕ). none_held (without a.members x.leavers) a.shape.members k) inside.most in
-    let base : b.base ≡ length (messages_from a.rows.me (finished_history (replica_inside a) x)) =
-    l.base ∙ ap (λ (es : List Entry). length (messages_from a.rows.me es)) entries in
+    let items : b.items ≡ none_held members a.shape.members (greatest a.totals) = l.items
+    ∙ ap (λ (n : ℕ). none_held members n a.items.most) inside.roster
+    ∙ ap (λ (k : ℕ). none_held members a.shape.members k) inside.most in
     let suspects : b.suspects.suspects ≡ 0 = ap (λ (s : Suspicion). s.suspects) l.suspects in
     let next : b.next.place ≡ 0 = ap (λ (n : Spot). n.place) l.next in
-    let shape = l.shape in let messages = l.messages in let totals = l.totals in let rows = l.rows in
-    let view = l.view in let members = l.members in let sent = l.sent in let left = l.left in
+    let base = l.base in let shape = l.shape in let messages = l.messages in let totals = l.totals in
+    let late = l.late in let rows = l.rows in let number = l.view in let those = l.members in
+    let came_from = l.came_from in let given = l.given in let sent = l.sent in let left = l.left in
     let logged = l.logged in let durable = l.durable in let turns = l.turns in let acts = l.acts in
     let end = l.end in let age = l.age in let tag = l.tag in let value = l.value in
     let committed = l.committed in let pending = l.pending in let votes = l.votes in
     cc
 
--- this is what ending the view makes of the replica
-pub left_after : (a b : Inside) (now : Replica) (x : Value) → replica_inside a ≡ now → IsInsideReplica a
-    → a.committed ≡ Some x → AreLeft a b x → replica_inside b ≡ finished now
-left_after a b now x same inside committed l =
-    left_view a b x inside l
-    ∙ ap (λ (o : Option Value). finished_by (replica_inside a) (unwrap_or o no_value)) (sym committed)
-    ∙ ap finished same
+-- in a later view that a replica goes on in with its form there is somebody, each of the roster, and itself
+pub entered_some : (r : Replica) (view members : ℕ) (entries : List Entry) (kept : List LeftView) → 0 < view
+    → HasForm (entered r view members entries kept)
+    → (0 < length (members_of members)) × IsInRoster r.roster members
+entered_some r view members entries kept later f = (
+  some_member members (me r) (omega (arith, f.rows.present, f.rows.few)) (by (has members (me r)) refl),
+  f.roster,
+)
+  where
+    by : (b : Bool) → has members (me r) ≡ b → has members (me r) ≡ true
+    by true e = e
+    by false e = absurd (omega (arith, later, (f.outside e).first))
 
--- some member remains, each of the roster
-pub remaining_some : (a : Inside) (x : Value) → IsInsideReplica a → MayLeave a x
-    → (0 < length (members_of (without a.members x.leavers)))
-    × ((has (without a.members x.leavers) a.rows.me ≡ true)
-    × IsInRoster a.items.roster (without a.members x.leavers))
-remaining_some a x inside may =
-    let small : a.members < 2 ^ 16 =
-    in_roster_small 16 a.members (λ i is. omega (arith, inside.form.roster i is, a.shape.most_members)) in
-    let remain : (i : ℕ) → has (without a.members x.leavers) i ≡ (has a.members i && not (has x.leavers i)) =
-    λ i. has_without_mask a.members x.leavers i small in
-    let mine : has (without a.members x.leavers) a.rows.me ≡ true = remain a.rows.me
-    ∙ grind (arith, inside.form.present, may.stays) in
-    let low : a.rows.me < 16 = omega (arith, inside.form.rows.present, inside.form.rows.few) in (
-      some_member (without a.members x.leavers) a.rows.me low mine,
-      (
-        mine,
-        λ i is. omega (
-          arith,
-          inside.form.roster i (and_parts (has a.members i) (not (has x.leavers i)) (sym (remain i) ∙ is)).0,
-          inside.roster,
-        ),
-      ),
-    )
-
--- and the fields keep their invariant
-pub left_inside : (a b : Inside) (now : Replica) (x : Value) → replica_inside a ≡ now → IsInsideReplica a
-    → a.committed ≡ Some x → may_finish now now.committed ≡ true → now.pending ≡ None → AreLeft a b x
-    → AreReserved b → greatest a.totals ≤ vec_capacity b.sent → b.past ≡ a.past → IsInsideReplica b
-left_inside a b now x same inside committed may none l held sent past = record {
-  form = subst HasForm (sym (left_after a b now x same inside committed l))
-      (finished_form now (subst HasForm same inside.form) may none);
+-- the fields keep their invariant, where the replica keeps its form
+pub entered_inside : (a b : Inside) (view members : ℕ) (entries : List Entry) (kept : List LeftView)
+    → IsInsideReplica a → AreEntered a b view members entries kept → 0 < view
+    → HasForm (entered (replica_inside a) view members entries kept) → AreReserved b
+    → greatest a.totals ≤ vec_capacity b.sent → b.past ≡ a.past → IsInsideReplica b
+entered_inside a b view members entries kept inside l later form held sent past = record {
+  form = subst HasForm (sym (entered_view a b view members entries kept inside l)) form;
   suspicion =
       let me : b.rows.me ≡ a.rows.me = ap (λ (w : Words). w.me) l.rows in
-      let suspects = l.suspects in let members = l.members in rw (suspects, me, members) refl;
+      let suspects = l.suspects in let those = l.members in rw (suspects, me, those) refl;
   members = ap (λ (h : Held). h.members) l.items ∙ sym (ap members_of l.members);
   roster = ap (λ (h : Held). h.roster) l.items ∙ inside.roster ∙ ap (λ (s : _). s.members) (sym l.shape);
   most = ap (λ (h : Held). h.most) l.items ∙ inside.most ∙ ap greatest (sym l.totals);
   messages = ap (λ (h : Kept). h.roster) l.history ∙ inside.messages
       ∙ ap (λ (s : _). s.members) (sym l.shape);
-  next = rw (l.next, l.members) (first_is_spot (length (members_of (without a.members x.leavers)))
-      (remaining_some a x inside (may_leave a now x same inside committed may)).0);
+  next = rw (l.next, l.members) (first_is_spot (length (members_of members))
+      (entered_some (replica_inside a) view members entries kept later form).0);
   received = rw l.received (omega arith);
   sent = rw l.totals sent;
   left = held.left;
@@ -191,6 +155,51 @@ left_inside a b now x same inside committed may none l held sent past = record {
   end = held.end;
   votes = held.votes;
 }
+
+-- ---- the end of a view
+
+-- the entries of a member that has ended its view with a value
+abbrev pub ended_entries : Inside → Value → List Entry
+ended_entries a x =
+    merged_from a.items a.history.entries (trims_by_rank a.members x.trim) a.next.place
+    ++ View a.age (a.view + 1) (next_members a.members x.leavers) ∷ []
+
+-- and what it keeps of its views
+abbrev pub ended_views : Inside → List LeftView
+ended_views a = map left_of a.left.items ++ left_now (replica_inside a) ∷ []
+
+-- so it goes on
+abbrev pub AreLeft : Inside → Inside → Value → Type 0
+AreLeft a b x =
+    AreEntered a b (a.view + 1) (next_members a.members x.leavers) (ended_entries a x) (ended_views a)
+
+ended_by : (a : Inside) (x : Value) → IsInsideReplica a
+    → entered (replica_inside a) (a.view + 1) (next_members a.members x.leavers) (ended_entries a x) (ended_views a)
+    ≡ finished_by (replica_inside a) x
+ended_by a x inside =
+    ap (λ (es : List Entry). entered (replica_inside a) (a.view + 1) (next_members a.members x.leavers)
+    (es ++ View a.age (a.view + 1) (next_members a.members x.leavers) ∷ []) (ended_views a))
+    (merged_same a x.trim inside)
+
+-- this is what ending the view makes of the replica
+pub left_after : (a b : Inside) (now : Replica) (x : Value) → replica_inside a ≡ now → IsInsideReplica a
+    → a.committed ≡ Some x → AreLeft a b x → replica_inside b ≡ finished now
+left_after a b now x same inside committed l =
+    entered_view a b (a.view + 1) (next_members a.members x.leavers) (ended_entries a x) (ended_views a) inside l
+    ∙ ended_by a x inside
+    ∙ ap (λ (o : Option Value). finished_by (replica_inside a) (unwrap_or o no_value)) (sym committed)
+    ∙ ap finished same
+
+-- its form stays
+pub left_form : (a : Inside) (now : Replica) (x : Value) → replica_inside a ≡ now → IsInsideReplica a
+    → a.committed ≡ Some x → may_finish now now.committed ≡ true → is_inside now ≡ true → now.pending ≡ None
+    → HasForm (entered (replica_inside a) (a.view + 1) (next_members a.members x.leavers) (ended_entries a x)
+    (ended_views a))
+left_form a now x same inside committed may in_view none =
+    subst HasForm (sym (ended_by a x inside))
+    (subst (λ (o : Option Value). HasForm (finished_by (replica_inside a) (unwrap_or o no_value))) committed
+    (finished_form (replica_inside a) inside.form (ap is_inside same ∙ in_view)
+    (ap (λ (r : Replica). may_finish r r.committed) same ∙ may) (ap (λ (r : Replica). r.pending) same ∙ none)))
 
 -- ---- the memory that was taken for it
 

@@ -11,3 +11,4 @@ pub mod Choosing
 pub mod Lefts
 pub mod Leaving
 pub mod Along
+mod Joining

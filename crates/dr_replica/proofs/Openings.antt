@@ -1,9 +1,9 @@
 -- The fields of a replica as its age opens.
-use Rattle.std.proofs.Common.{◌≡◌, ℕ, ◌+◌, ◌*◌, ◌^◌, ◌<◌, ◌≤◌, [], List, length, None, refl, sym, ap, subst, ◌∙◌, arith}
-use Rattle.std.specs.Prelude.{All, map, vec_capacity}
+use Rattle.std.proofs.Common.{◌≡◌, ℕ, zero, suc, ◌+◌, ◌*◌, ◌^◌, ◌<◌, ◌≤◌, Bool, true, false, [], List, length, None, refl, sym, ap, subst, ◌∙◌, arith}
+use Rattle.std.specs.Prelude.{All, if◌then◌else◌, map, vec_capacity}
 use Rattle.dr_replica.specs.Lefts.{IsSpare, left_of}
 use Rattle.dr_entry.specs.declared.entry.Entry.{Entry}
-use Rattle.dr_history.specs.Members.{members_of}
+use Rattle.dr_history.specs.Members.{has, members_of}
 use Rattle.dr_history.specs.Order.{messages_from}
 use Rattle.dr_history.proofs.NumberedLemmas.{messages_from-View}
 use Rattle.dr_rows.specs.Words.{Words, begun, with_own}
@@ -22,7 +22,10 @@ use Rattle.dr_replica.specs.declared.replica.Replica.TheInside.{Inside}
 use Rattle.dr_replica.specs.Spots.{first_spot}
 use Rattle.dr_replica.specs.declared.spot.Spot.{Spot}
 use Rattle.dr_replica.proofs.Spots.{first_is_spot}
-use Rattle.dr_words.proofs.Ranks.{some_member}
+use Rattle.dr_words.specs.Masks.{IsInRoster}
+use Rattle.dr_words.proofs.Bits.{has_zero}
+use Rattle.dr_words.proofs.Masks.{same_masks}
+use Rattle.dr_words.proofs.Ranks.{few_members, some_member}
 
 -- the ranges of what is taken
 pub few_messages_each : (s : Setup) → CanBegin s → greatest s.totals ≤ 4096
@@ -35,12 +38,27 @@ pub small_room : (s : Setup) (most : ℕ) → CanBegin s → most ≡ greatest s
 small_room s most can is =
     let few : most ≤ 4096 = omega (arith, is, few_messages_each s can) in
     let product = product_within most s.shape.members few s.shape.most_members in
-    omega (arith, product, can.start, can.banks, s.shape.most_members)
+    omega (arith, product, can.start, can.banks, few_members s.late, s.shape.most_members)
 
--- a member that can begin has at least one member in its view
+-- the member is one of the roster
+pub number_within : (s : Setup) → CanBegin s → s.me < s.shape.members
+number_within s can = (begun_in_form s can).number
+
+-- a mask that isn't 0 has a member
+some_of : (mask n : ℕ) → IsInRoster n mask → n ≤ 16 → 0 < mask → 0 < length (members_of mask)
+some_of mask n within few some = by (length (members_of mask)) refl
+  where
+    none : length (members_of mask) ≡ 0 → (i : ℕ) (b : Bool) → has mask i ≡ b → has mask i ≡ has 0 i
+    none e i true t = absurd (omega (arith, e, some_member mask i (omega (arith, within i t, few)) t))
+    none e i false t = t ∙ sym (has_zero i)
+
+    by : (k : ℕ) → length (members_of mask) ≡ k → 0 < length (members_of mask)
+    by zero e = absurd (omega (arith, some, same_masks mask 0 (λ i. none e i (has mask i) refl)))
+    by (suc k) e = omega (arith, e)
+
+-- somebody is in the first view
 pub someone : (s : Setup) → CanBegin s → 0 < length (members_of s.members)
-someone s can = some_member s.members s.me
-    (omega (arith, can.roster s.me can.present, s.shape.most_members)) can.present
+someone s can = some_of s.members s.shape.members can.roster s.shape.most_members can.some
 
 -- the fields, as they were made
 pub record AreBegun (a : Inside) (s : Setup) (fresh : Words) (top : ℕ) : Type 0 where
@@ -49,10 +67,13 @@ pub record AreBegun (a : Inside) (s : Setup) (fresh : Words) (top : ℕ) : Type 
   pub totals : a.totals ≡ s.totals
   pub most : top ≡ greatest s.totals
   pub first : fresh ≡ begun s.shape.members (columns_of s.shape.members s.shape.window) s.me
-  pub rows : a.rows ≡ with_own fresh LOGGED_COLUMN (length a.history.entries)
+  pub late : a.late ≡ s.late
+  pub rows : a.rows ≡ with_own fresh LOGGED_COLUMN (if has s.members s.me then length a.history.entries else 0)
   pub view : a.view ≡ 0
   pub members : a.members ≡ s.members
   pub suspects : a.suspects ≡ trusting s.me s.members
+  pub came_from : a.came_from ≡ 0
+  pub given : a.given ≡ 0
   pub items : a.items ≡ none_held s.members s.shape.members top
   pub base : a.base ≡ length (messages_from s.me a.history.entries)
   pub sent : a.sent.items ≡ []
@@ -88,17 +109,19 @@ begun_view a s first most b =
     ∙ ap (λ (n : ℕ). none_held s.members s.shape.members n) b.most in
     let count : ℕ = length (first_entries_of s) in
     let rows : a.rows ≡ with_own (begun s.shape.members (columns_of s.shape.members s.shape.window) s.me)
-    LOGGED_COLUMN count =
-    b.rows ∙ ap (λ (w : Words). with_own w LOGGED_COLUMN (length a.history.entries)) b.first
+    LOGGED_COLUMN (if has s.members s.me then count else 0) =
+    b.rows ∙ ap (λ (w : Words). with_own w LOGGED_COLUMN
+    (if has s.members s.me then length a.history.entries else 0)) b.first
     ∙ ap (λ (es : List Entry). with_own
-    (begun s.shape.members (columns_of s.shape.members s.shape.window) s.me) LOGGED_COLUMN (length es))
-    entries in
+    (begun s.shape.members (columns_of s.shape.members s.shape.window) s.me) LOGGED_COLUMN
+    (if has s.members s.me then length es else 0)) entries in
     let base : a.base ≡ length (messages_from s.me s.start) =
     b.base ∙ ap (λ (es : List Entry). length (messages_from s.me es)) entries
     ∙ ap length (messages_from-View s.me s.start s.age 0 s.members) in
     let logged : a.logged ≡ count = b.logged ∙ ap length entries in
     let durable : a.durable ≡ count = b.durable ∙ ap length entries in
-    let shape = b.shape in let messages = b.messages in let totals = b.totals in let view = b.view in
+    let shape = b.shape in let messages = b.messages in let totals = b.totals in let late = b.late in
+    let view = b.view in let came_from = b.came_from in let given = b.given in
     let members = b.members in
     let suspects : a.suspects.suspects ≡ 0 = ap (λ (x : Suspicion). x.suspects) b.suspects in
     let sent = b.sent in let left = ap (map left_of) b.left in

@@ -1,4 +1,4 @@
-ghost use Rattle.std.specs.Prelude.{◌≡◌, ℕ, ◌+◌, ◌^◌, ◌<◌, ◌≤◌, ◌++◌, ◌∷◌, [], IfOk, length, nat_lt, slice_index};
+ghost use Rattle.std.specs.Prelude.{◌≡◌, ℕ, ◌+◌, ◌^◌, ◌<◌, ◌≤◌, ◌++◌, ◌∷◌, [], IfOk, length, nat_lt, slice_index, vec_capacity};
 ghost use Rattle.dr_history.specs.Order.{messages_from};
 
 use dr_entry::{Entry, Item, Seq};
@@ -118,11 +118,33 @@ impl History {
         self.entries.push(view).unwrap();
     }
 
+    /// Takes the entries of a letter in place of its own.
+    pub(crate) fn take_letter(&mut self, letter: &[Entry])
+        requires room { length letter.now ≤ self.old.room }
+        ensures { self.new ≡ record self.old { entries = letter.now } }
+    {
+        self.entries.clear();
+        copy_entries(letter, &mut self.entries);
+        self.messages.fill(0);
+        count_messages(letter, &mut self.messages);
+    }
+
     /// The entries as a list.
     pub(crate) fn into_entries(self) -> Seq<Entry>
         ensures { result ≡ self.entries }
     {
         Seq::of(self.entries)
+    }
+}
+
+/// Adds copies of these entries to a list with room for them.
+pub(crate) fn copy_entries(from: &[Entry], into: &mut Vec<Entry>)
+    requires { length into.old.items + length from.now ≤ vec_capacity into.old }
+    ensures items { into.new.items ≡ into.old.items ++ from.now }
+    ensures room { vec_capacity into.old ≤ vec_capacity into.new }
+{
+    for entry in from {
+        into.push(entry.copy()).unwrap();
     }
 }
 

@@ -1,6 +1,6 @@
 //! What is kept of a view that a member has left.
-ghost use Rattle.std.specs.Prelude.{◌≡◌, All, IfOk, [], length, vec_capacity};
-ghost use Rattle.dr_program.specs.Replica.{LeftView};
+ghost use Rattle.std.specs.Prelude.{◌≡◌, ℕ, ◌+◌, ◌≤◌, ◌++◌, All, IfOk, [], length, map, replicate, vec_capacity};
+ghost use Rattle.dr_program.specs.Replica.{LeftView, nothing_left};
 ghost use Rattle.dr_replica.specs.Lefts.{HasRoom, IsSpare, left_of};
 ghost use Rattle.dr_rows.specs.Words.{IsWords, row_of};
 
@@ -51,6 +51,33 @@ impl Left {
         self.own.copy_from_slice(rows.own_words());
         self.counts.copy_from_slice(items.counts());
         mem::swap(&mut self.sent, sent);
+    }
+
+    /// Keeps nothing: of a view that the member was none of.
+    fn empty(&mut self)
+        ensures { left_of self.new ≡ nothing_left }
+    {
+        self.own.clear();
+        self.counts.clear();
+        self.sent.clear();
+    }
+}
+
+/// Keeps nothing of so many views, each in the memory of a spare one.
+pub(crate) fn skip_views(views: u8, lefts: &mut Vec<Left>, spares: &mut Vec<Left>)
+    requires spares { views ≤ length spares.old.items }
+    requires room { length lefts.old.items + views ≤ vec_capacity lefts.old }
+    ensures lefts { map left_of lefts.new.items
+        ≡ map left_of lefts.old.items ++ replicate views nothing_left }
+    ensures room { vec_capacity lefts.old ≤ vec_capacity lefts.new }
+    ensures count { length spares.new.items + views ≡ length spares.old.items }
+    ensures spare { (columns roster most : ℕ) → All (IsSpare columns roster most) spares.old.items
+        → All (IsSpare columns roster most) spares.new.items }
+{
+    for _ in 0..views {
+        let mut left = spares.pop().unwrap();
+        left.empty();
+        lefts.push(left).unwrap();
     }
 }
 

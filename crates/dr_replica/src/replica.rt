@@ -2,6 +2,7 @@ mod acts;
 mod asking;
 mod finish;
 mod guards;
+mod joining;
 mod judging;
 mod opening;
 mod state;
@@ -31,6 +32,11 @@ pub struct Replica {
     view: u8,
     members: Mask,
     suspects: Suspects,
+    /// The late members of the age.
+    late: Mask,
+    /// The members of the view that it came from, and those to which it has given a letter in this one.
+    came_from: Mask,
+    given: Mask,
     items: Items,
     base: u32,
     sent: Vec<SentItem>,

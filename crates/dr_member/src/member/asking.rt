@@ -29,6 +29,8 @@ impl Member {
             Due::Vote => Step::LogVote {
                 value: self.replica.value_due(),
             },
+            Due::Give => Step::Welcome { late: row },
+            Due::Take => Step::Join,
             Due::Act(act) => Step::Do(act),
         }
     }

@@ -4,9 +4,9 @@ ghost use Rattle.dr_history.specs.Members.{has};
 ghost use Rattle.dr_machine.specs.declared.step.Step.TheVariants.{Do};
 ghost use Rattle.dr_program.specs.Form.{HasForm};
 ghost use Rattle.dr_program.specs.Acts.{done, may, taken};
-ghost use Rattle.dr_program.specs.Replica.{acted, appended, delivered, finished, is_other, looked, marked, may_append, may_deliver, may_finish, may_null, may_receive, may_send, may_suspect, nulled, published, put, pushed, received, reported, sent, suspected};
+ghost use Rattle.dr_program.specs.Replica.{acted, appended, delivered, finished, is_inside, is_other, looked, marked, may_append, may_deliver, may_finish, may_null, may_receive, may_send, may_suspect, nulled, published, put, pushed, received, reported, sent, suspected};
 ghost use Rattle.dr_program.specs.Running.{minority};
-ghost use Rattle.dr_program.specs.Steps.{NoWordFell, is_free};
+ghost use Rattle.dr_program.specs.Steps.{NoWordFell, allows, is_free};
 ghost use Rattle.dr_replica.specs.Items.{front};
 ghost use Rattle.dr_form.specs.Puts.{MayPut};
 ghost use Rattle.dr_ring.specs.Slots.{HasShape};
@@ -69,7 +69,7 @@ impl Replica {
     /// Does an act.
     #[inline(always)]
     pub fn take(&mut self, act: Act)
-        requires may { may self.old act ≡ true }
+        requires may { allows self.old (Do act) ≡ true }
         requires free { is_free self.old (Do act) ≡ true }
         ensures after { self.new ≡ taken self.old act }
         ensures grown { self.new.view ≡ self.old.view → NoWordFell self.old self.new }
@@ -168,7 +168,7 @@ impl Replica {
     #[inline(always)]
     #[tactic(auto, using(crate::proofs::Choosing::own_is_there, crate::proofs::Choosing::others_is_there))]
     fn carry_out(&mut self, act: Act)
-        requires may { may self.old act ≡ true }
+        requires may { allows self.old (Do act) ≡ true }
         requires free { is_free self.old (Do act) ≡ true }
         ensures { self.new ≡ done self.old act }
     {
@@ -194,6 +194,7 @@ impl Replica {
     #[inline(always)]
     fn leave(&mut self)
         requires may { may_finish self.old self.old.committed ≡ true }
+        requires inside { is_inside self.old ≡ true }
         requires free { self.old.pending ≡ None }
         ensures after { self.new ≡ finished (acted self.old) }
         ensures form { HasForm self.new }
@@ -207,6 +208,7 @@ impl Replica {
     fn receive(&mut self, sender: u8)
         requires sender { sender < self.old.roster }
         requires may { may_receive self.old sender ≡ true }
+        requires inside { is_inside self.old ≡ true }
         ensures { self.new ≡ received self.old sender }
     {
         let count = self.items.count(sender);
@@ -217,7 +219,8 @@ impl Replica {
 
     /// It puts its next message.
     fn send(&mut self)
-        requires { may_send self.old ≡ true }
+        requires may { may_send self.old ≡ true }
+        requires inside { is_inside self.old ≡ true }
         ensures { self.new ≡ sent self.old }
     {
         let index = self.next_index();
@@ -228,7 +231,8 @@ impl Replica {
     /// It fills its next place with a null.
     #[inline(always)]
     fn fill(&mut self)
-        requires { may_null self.old ≡ true }
+        requires may { may_null self.old ≡ true }
+        requires inside { is_inside self.old ≡ true }
         ensures { self.new ≡ nulled self.old }
     {
         self.put(SentItem::Null, Item::Null);
@@ -237,7 +241,8 @@ impl Replica {
     /// It puts an item under its name.
     #[inline(always)]
     fn put(&mut self, name: SentItem, item: Item)
-        requires { HasForm self.old → MayPut self.old name item }
+        requires may { HasForm self.old → MayPut self.old name item }
+        requires inside { is_inside self.old ≡ true }
         ensures { self.new ≡ put self.old name item }
     {
         let me = self.rows.me();
@@ -255,7 +260,8 @@ impl Replica {
 
     /// It delivers its next place.
     fn deliver(&mut self)
-        requires { may_deliver self.old ≡ true }
+        requires may { may_deliver self.old ≡ true }
+        requires inside { is_inside self.old ≡ true }
         ensures { self.new ≡ delivered self.old }
     {
         self.ask_received();
@@ -302,7 +308,8 @@ impl Replica {
     /// It suspects another member of its view: it is wedged, which its own words say, and it looks at
     /// that member no more.
     fn suspect(&mut self, other: u8)
-        requires { may_suspect self.old other ≡ true }
+        requires may { may_suspect self.old other ≡ true }
+        requires inside { is_inside self.old ≡ true }
         ensures { self.new ≡ suspected self.old other }
     {
         self.suspects.add(other);

@@ -1,7 +1,7 @@
 //! What a replica's next acts will come to.
 ghost use Rattle.std.specs.Prelude.{◌≡◌, ◌<◌, [], length, slice_index_or, true};
 ghost use Rattle.dr_history.specs.Order.{messages_from};
-ghost use Rattle.dr_program.specs.Replica.{item_of_place, least_seen, may_deliver, may_send, next_index, sender_of_place};
+ghost use Rattle.dr_program.specs.Replica.{is_inside, item_of_place, least_seen, may_deliver, may_send, next_index, sender_of_place};
 ghost use Rattle.dr_words.specs.declared.column.TheConstants.{LOGGED_COLUMN, RECEIVED_COLUMN};
 
 use super::Replica;
@@ -34,7 +34,8 @@ impl Replica {
 
     /// The item at the place that it delivers next.
     pub fn next_item(&self) -> &Item
-        requires { may_deliver self.now ≡ true }
+        requires may { may_deliver self.now ≡ true }
+        requires inside { is_inside self.now ≡ true }
         ensures { result.now ≡ item_of_place self.now self.now.next }
     {
         self.items.item_at(self.next)

@@ -5,7 +5,7 @@ ghost use Rattle.dr_history.specs.Members.{members_of};
 ghost use Rattle.dr_history.specs.Order.{messages_from};
 ghost use Rattle.dr_history.specs.Places.{is_held};
 ghost use Rattle.dr_machine.specs.Effects.{entries_of};
-ghost use Rattle.dr_program.specs.Replica.{finished, may_end, may_finish};
+ghost use Rattle.dr_program.specs.Replica.{finished, is_inside, may_end, may_finish};
 ghost use Rattle.dr_replica.specs.Items.{counts_of, item_held_at, sender_held_at};
 ghost use Rattle.dr_replica.specs.Spots.{IsSpot};
 ghost use Rattle.dr_replica.specs.Rests.{AreWithin, fits, has_taken, merged, merged_from};
@@ -79,15 +79,16 @@ impl Replica {
     }
 
     /// It ends its view with the value that it has committed: it delivers what the trim has left and the
-    /// View of those that remain, and begins anew in the next view.
+    /// View of the members that come of it, and begins anew in that view.
     pub(super) fn finish(&mut self)
         requires may { may_finish self.old self.old.committed ≡ true }
+        requires inside { is_inside self.old ≡ true }
         requires free { self.old.pending ≡ None }
         ensures { self.new ≡ finished self.old }
     {
         let value = self.committed.unwrap();
         let me = self.rows.me();
-        let remaining = self.members.without(Mask::of(value.leavers));
+        let next = self.members.next(Mask::of(value.leavers));
         let rest = Rest::from(self.members, &value.trim, self.next);
         deliver_rest(&mut self.history, &self.items, rest);
         self.history
@@ -95,13 +96,15 @@ impl Replica {
         let mut left = self.spares.pop().unwrap();
         left.keep(&self.rows, &self.items, &mut self.sent);
         self.left.push(left).unwrap();
-        self.items.renew(remaining);
+        self.items.renew(next);
         self.rows.renew();
         self.rows.set_own(LOGGED_COLUMN, self.logged as u64);
         self.base = first_unsent(self.history.entries(), me);
         self.view += 1;
-        self.members = remaining;
-        self.suspects = Suspects::new(me, remaining);
+        self.came_from = self.members;
+        self.given = Mask::empty();
+        self.members = next;
+        self.suspects = Suspects::new(me, next);
         self.tag = 0;
         self.value = no_value();
         self.committed = None;

@@ -1,18 +1,22 @@
 //! What a replica may do.
 ghost use Rattle.std.specs.Int.{bit_at};
-ghost use Rattle.std.specs.Prelude.{◌≡◌, ℕ, ◌+◌, ◌<◌, ◌≤◌, ◌↔◌, ◌&&◌, length, nat_lt, not};
+ghost use Rattle.std.specs.Prelude.{◌≡◌, ℕ, ◌+◌, ◌<◌, ◌≤◌, ◌↔◌, ◌&&◌, ◌||◌, length, nat_lt, not};
 ghost use Rattle.dr_history.specs.Members.{has};
-ghost use Rattle.dr_program.specs.Replica.{all_done, count, greatest, has_majority, holds_all, is_due, is_other, is_wedged, least_seen, me, may_append, may_deliver, may_mark, may_null, may_publish, may_receive, may_report, may_send, may_suspect, next_index};
-ghost use Rattle.dr_program.specs.Steps.{allows, has_cell};
+ghost use Rattle.dr_program.specs.Replica.{all_done, count, greatest, has_majority, holds_all, is_due, is_inside, is_other, is_wedged, is_welcomer, least_seen, me, may_append, may_deliver, may_give, may_mark, may_null, may_publish, may_receive, may_report, may_send, may_suspect, next_index};
+ghost use Rattle.dr_program.specs.Steps.{allows, allows_inside, has_cell, is_outside_step};
+ghost use Rattle.dr_suspect.specs.Wishes.{may_wish};
+ghost use Rattle.dr_entry.specs.declared.limits.TheConstants.{MAX_MEMBERS};
 ghost use Rattle.dr_ring.specs.Slots.{IsReady, is_free, slot_of};
 ghost use Rattle.dr_words.specs.declared.column.TheConstants.{RECEIVED_COLUMN};
 ghost use Rattle.dr_rows.specs.Words.{changed};
 
 use super::Replica;
-use dr_entry::End;
-use dr_machine::Step;
+use dr_entry::{End, MAX_MEMBERS};
+use dr_join::{newcomers, welcomer};
+use dr_machine::{Act, Step};
 use dr_pred::{LoggedFront, ReceivedFront, Watch, least_word};
 use dr_ring::{free, is_ready, sweep};
+use dr_suspect::may_wish;
 use dr_words::{DONE_COLUMN, LOGGED_COLUMN, RECEIVED_COLUMN};
 
 impl Replica {
@@ -30,13 +34,56 @@ impl Replica {
     pub fn allows(&self, step: Step) -> bool
         ensures { result ≡ allows self.now step }
     {
+        (is_outside_step(step) || self.is_inside()) && self.allows_inside(step)
+    }
+
+    /// Whether it may take a step, where it has no end, and is in its view or may take it outside.
+    #[inline(always)]
+    fn allows_inside(&self, step: Step) -> bool
+        ensures { result ≡ allows_inside self.now step }
+    {
         match step {
             Step::Do(act) => self.may(act),
             Step::Look { row, column } => self.may_look(row, column),
             Step::Push { to, column } => self.has_cell(to, column),
             Step::Append => self.may_append(),
             Step::LogVote { value } => self.may_vote(&value),
+            Step::Welcome { late } => self.may_give(late),
+            Step::Join => !self.is_inside(),
         }
+    }
+
+    /// Whether it is in its view: a late member is so once it has joined.
+    #[inline(always)]
+    pub fn is_inside(&self) -> bool
+        ensures { result ≡ is_inside self.now }
+    {
+        self.members.has(self.rows.me())
+    }
+
+    /// Whether it came into its view with this member, is the least of those that were in the one before, and
+    /// hasn't given it the letter yet.
+    pub fn may_give(&self, newcomer: u8) -> bool
+        ensures { result ≡ may_give self.now newcomer }
+    {
+        newcomer < self.shape.members && self.is_welcomer() && self.lacks_letter(newcomer)
+    }
+
+    /// Whether a member came into its view with this one, and this one hasn't given it a letter.
+    fn lacks_letter(&self, member: u8) -> bool
+        requires { member < MAX_MEMBERS }
+        ensures { result ≡ (has self.now.members member
+            && (not (has self.now.came_from member) && not (has self.now.given member))) }
+    {
+        newcomers(self.came_from, self.members).has(member) && !self.given.has(member)
+    }
+
+    /// Whether it was in the view before, and is the least of the members of its view that were.
+    fn is_welcomer(&self) -> bool
+        ensures { result ≡ is_welcomer self.now }
+    {
+        let me = self.rows.me();
+        self.came_from.has(me) && welcomer(self.came_from, self.members).unwrap_or(0) == me
     }
 
     /// Whether this is another member of the view that it doesn't suspect, and a column of its row.
@@ -132,7 +179,8 @@ impl Replica {
             members: self.members,
             at: self.next.place,
         };
-        received.holds(&self.rows)
+        // no word is above the greatest
+        self.next.place < u64::MAX && received.holds(&self.rows)
     }
 
     /// Whether its history has an entry that isn't on its log.
@@ -159,7 +207,8 @@ impl Replica {
             members: self.members,
             at: self.durable.saturating_add(1),
         };
-        logged.holds(&self.rows)
+        // no word is above the greatest
+        self.durable < u64::MAX && logged.holds(&self.rows)
     }
 
     /// Whether it isn't wedged, holds everything, durably, and hasn't said so yet.
@@ -184,11 +233,24 @@ impl Replica {
         true
     }
 
-    /// Whether this is another member of its view that it doesn't suspect yet.
+    /// Whether this is another member of its view, or one that it may wish for, and it doesn't suspect or wish for
+    /// it yet.
     pub fn may_suspect(&self, other: u8) -> bool
         ensures { result ≡ may_suspect self.now other }
     {
-        other < self.shape.members && self.is_other(other) && !self.is_suspected(other)
+        other < self.shape.members
+            && other != self.rows.me()
+            && self.is_namable(other)
+            && !self.is_suspected(other)
+    }
+
+    /// Whether this is a member of its view, or one that it may wish for.
+    fn is_namable(&self, other: u8) -> bool
+        requires { other < MAX_MEMBERS }
+        ensures { result ≡ (has self.now.members other
+            || may_wish self.now.history self.now.age self.now.late other) }
+    {
+        self.members.has(other) || may_wish(self.history.entries(), self.age, self.late, other)
     }
 
     /// Whether an end that is no fault is due: it is done, or a member that it doesn't suspect suspects
@@ -280,4 +342,15 @@ impl Replica {
         }
         true
     }
+}
+
+/// Whether a member that is none of its view may take the step.
+#[inline(always)]
+fn is_outside_step(step: Step) -> bool
+    ensures { result ≡ is_outside_step step }
+{
+    matches!(
+        step,
+        Step::Do(Act::Beat) | Step::Do(Act::Crash { .. }) | Step::Join
+    )
 }

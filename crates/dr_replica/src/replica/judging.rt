@@ -17,12 +17,14 @@ impl Replica {
         self.suspects.named_by(&self.rows)
     }
 
-    /// The member to suspect next since a member that it doesn't suspect says so.
+    /// The member to suspect or to wish for next since a member that it doesn't suspect says so.
     #[inline]
     pub fn told(&self) -> Option<u8>
         ensures { result ≡ told self.now }
     {
-        self.suspects.next_spread(&self.rows)
+        let history = self.history.entries();
+        self.suspects
+            .next_spread(&self.rows, self.late, history, self.age)
     }
 
     /// The least member that it has waited for too long.

@@ -14,7 +14,7 @@ use dr_entry::{End, Entry, MAX_MEMBERS, MemberEnd, Seq, Value, ViewSent};
 use dr_program::Setup;
 use dr_rows::Rows;
 use dr_suspect::Suspects;
-use dr_words::LOGGED_COLUMN;
+use dr_words::{LOGGED_COLUMN, Mask};
 use std::alloc::{AllocError, Global};
 
 impl Replica {
@@ -36,7 +36,12 @@ impl Replica {
         let history = History::begin(alloc, setup.start, view, shape.members, room)?;
         let logged = history.entries().len();
         let mut rows = Rows::new(alloc, shape.members, shape.columns(), setup.me)?;
-        rows.set_own(LOGGED_COLUMN, logged as u64);
+        let shown = if setup.members.has(setup.me) {
+            logged
+        } else {
+            0
+        };
+        rows.set_own(LOGGED_COLUMN, shown as u64);
         let messages = setup.messages.into_vec();
         Ok(Replica {
             shape,
@@ -45,6 +50,9 @@ impl Replica {
             view: 0,
             members: setup.members,
             suspects: Suspects::new(setup.me, setup.members),
+            late: setup.late,
+            came_from: Mask::empty(),
+            given: Mask::empty(),
             items: Items::begin(alloc, setup.members, shape.members, most)?,
             base: history.messages_from(setup.me),
             sent: Vec::with_capacity(alloc, most as usize)?,

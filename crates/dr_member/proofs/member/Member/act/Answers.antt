@@ -9,7 +9,7 @@ use Rattle.dr_member.specs.Search.{standing}
 use Rattle.dr_member.proofs.Fates.{IsFateBy}
 use Rattle.dr_member.proofs.Answers.{IsAnswer, IsFateAfter, IsTaken, answer_at, is_answer, is_done}
 use Rattle.dr_member.proofs.Ready.{act_keeps}
-use Rattle.dr_member.proofs.Moves.{act_allowed, act_free, act_taken, act_told}
+use Rattle.dr_member.proofs.Moves.{act_allowed, act_free, act_in_view, act_may, act_taken, act_told}
 use Rattle.dr_member.proofs.member.Member.act.Goals as goal
 
 -- what it makes of the fate
@@ -54,6 +54,12 @@ pub take_act-requires-clause-free : goal.take_act-requires-clause-free
 take_act-requires-clause-free c = act_free c.self.inside c.args.act c.self.invariant
     (ap next_step c.self.view_is ∙ c.requires.step)
 
+pub is_inside_after-inside-requires : goal.is_inside_after-inside-requires
+is_inside_after-inside-requires c =
+    act_in_view c.self.inside.replica c.take_act.new.replica c.args.act
+    (act_allowed c.args.self.now c.self.inside c.args.act c.self.view_is c.self.invariant c.requires.deed
+    (ap next_step c.self.view_is ∙ c.requires.step)) c.take_act.ensures.after
+
 pub settle-requires-clause-underway : goal.settle-requires-clause-underway
 settle-requires-clause-underway c = (is_done 0 _ _ _ _ (known c 0)).underway
 
@@ -61,7 +67,7 @@ pub settle-requires-clause-ready : goal.settle-requires-clause-ready
 settle-requires-clause-ready c =
     act_keeps c.self.inside c.take_act.new.replica c.args.act c.go.new.place c.take_act.new.ready
     c.self.invariant (ap next_step c.self.view_is ∙ c.requires.step)
-    (act_allowed c.args.self.now c.self.inside c.args.act c.self.view_is c.self.invariant c.requires.deed
+    (act_may c.args.self.now c.self.inside c.args.act c.self.view_is c.self.invariant c.requires.deed
     (ap next_step c.self.view_is ∙ c.requires.step))
     c.take_act.ensures.after
     (c.go.ensures

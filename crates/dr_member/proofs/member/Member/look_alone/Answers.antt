@@ -73,6 +73,9 @@ leave_row-requires-clause-place c = (behind c).place
 pub leave_row-requires-clause-underway : goal.leave_row-requires-clause-underway
 leave_row-requires-clause-underway c = (behind c).underway
 
+pub leave_row-requires-clause-inside : goal.leave_row-requires-clause-inside
+leave_row-requires-clause-inside c = (behind c).inside
+
 pub leave_row-requires-clause-fate : goal.leave_row-requires-clause-fate
 leave_row-requires-clause-fate c = (behind c).timely
 

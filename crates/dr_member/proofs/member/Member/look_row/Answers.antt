@@ -1,7 +1,7 @@
 use Rattle.std.proofs.Common.{◌+◌, ◌<◌, refl, sym, ap, subst, arith}
 use Rattle.dr_program.specs.Replica.{Replica}
 use Rattle.dr_member.specs.Inside.{member_inside}
-use Rattle.dr_member.proofs.Moves.{IsLooked, look_left, looked_row_timely, waited}
+use Rattle.dr_member.proofs.Moves.{IsLooked, look_left, looked_inside, looked_row_timely, waited}
 use Rattle.dr_member.proofs.Sweeps.{HasLeft, at_column, look_index, look_on, look_row_stays, look_takes, looks_begin, looks_end, saw, stale_in, untrue, was_waited}
 use Rattle.dr_member.proofs.member.Member.look_row.Given.{Over}
 use Rattle.dr_member.proofs.member.Member.look_row.Goals as goal
@@ -116,6 +116,12 @@ leave_row-requires-clause-underway g c =
     c.loop-column.invariant.on.inside l
     (omega (arith, c.if-column-columns.true, c.loop-column.invariant.columns))
     c.loop-column.invariant.row c.wait_for.ensures.after)
+
+pub leave_row-requires-clause-inside : goal.leave_row-requires-clause-inside
+leave_row-requires-clause-inside g c =
+    let a = at_column c.loop-column.self-inside c.loop-column.column in
+    looked_inside a.replica c.look.new.self a.fate a.place c.look-word.result
+    (known g (goal.at.leave_row-requires-clause-inside g c).After-look)
 
 pub leave_row-requires-clause-fate : goal.leave_row-requires-clause-fate
 leave_row-requires-clause-fate g c =

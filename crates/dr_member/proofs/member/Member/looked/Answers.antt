@@ -5,7 +5,7 @@ use Rattle.dr_member.proofs.Answers.{IsAnswer}
 use Rattle.dr_member.proofs.Indices.{columns_after}
 use Rattle.dr_member.proofs.Ready.{elsewhere}
 use Rattle.dr_program.specs.declared.place.Part.TheVariants as parts
-use Rattle.dr_member.proofs.Moves.{IsLooked, IsWaited, inside_after, is_looked, look_due_at, look_left, looked_past, looked_row_timely, looked_within, stays_timely, waited}
+use Rattle.dr_member.proofs.Moves.{IsLooked, IsWaited, inside_after, is_looked, look_due_at, look_left, looked_inside, looked_past, looked_row_timely, looked_within, stays_timely, waited}
 use Rattle.dr_member.proofs.member.Member.looked.Goals as goal
 
 known : (c : goal.After-look)
@@ -79,6 +79,10 @@ pub leave_row-requires-clause-underway : goal.leave_row-requires-clause-underway
 leave_row-requires-clause-underway c =
     look_left c.self.inside.replica c.look-else-next-self.new.self c.self.inside.fate c.self.inside.place
     c.args.word c.wait_for.new.patience (known_past c) (outer c)
+
+pub leave_row-requires-clause-inside : goal.leave_row-requires-clause-inside
+leave_row-requires-clause-inside c = looked_inside c.self.inside.replica c.look-else-next-self.new.self
+    c.self.inside.fate c.self.inside.place c.args.word (known_past c)
 
 pub leave_row-requires-clause-fate : goal.leave_row-requires-clause-fate
 leave_row-requires-clause-fate c =

@@ -50,6 +50,20 @@ leave_row-requires-clause-underway c =
     (c.saturating_add-self-inside.ensures
     ∙ ap (λ n. min (c.self.inside.fate.pushes + n) (2 ^ 32 - 1)) c.push_row-count.ensures.after.2)).underway
 
+pub leave_row-requires-clause-inside : goal.leave_row-requires-clause-inside
+leave_row-requires-clause-inside c =
+    (pushes_done c.args.table.now c.args.self.now c.push_index-first.result c.self.inside
+    c.push_row-count.new.self c.saturating_add-self-inside.result
+    (record {
+      view = c.self.view_is;
+      inside = c.self.invariant;
+      due = c.requires.deed;
+      begins = c.push_index-first.ensures.index;
+      safe = no_crash c.self.inside.fate.crash (sym c.is_some.ensures ∙ c.if-is_some.false);
+    }) c.push_row-count.ensures.after.0
+    (c.saturating_add-self-inside.ensures
+    ∙ ap (λ n. min (c.self.inside.fate.pushes + n) (2 ^ 32 - 1)) c.push_row-count.ensures.after.2)).inside
+
 -- it has left the row
 left : (c : goal.After-leave_row) → HasComeAlone c.args.table.now c.args.self.now c.push_row-count.new.table
     (record c.self.inside {

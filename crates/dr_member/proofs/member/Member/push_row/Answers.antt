@@ -8,7 +8,7 @@ use Rattle.dr_member.proofs.Answers.{IsAnswer}
 use Rattle.dr_member.proofs.Indices.{columns_after}
 use Rattle.dr_member.proofs.Ready.{elsewhere}
 use Rattle.dr_program.specs.declared.place.Part.TheVariants as parts
-use Rattle.dr_member.proofs.Moves.{IsPushed, counted, push_left, pushed_behind, pushed_timely, pushed_within}
+use Rattle.dr_member.proofs.Moves.{IsPushed, counted, push_left, pushed_behind, pushed_inside, pushed_timely, pushed_within}
 use Rattle.dr_member.proofs.Sweeps.{HasLeft, IsOnRow, at_column, push_index, push_on, push_row_stays, pushed_from, pushes_begin, pushes_end, wrote}
 use Rattle.dr_member.proofs.member.Member.push_row.Given.{Over}
 use Rattle.dr_member.proofs.member.Member.push_row.Goals as goal
@@ -130,6 +130,12 @@ leave_row-requires-clause-underway g c =
     let a = at_column c.loop-column.self-inside c.loop-column.column in
     push_left a.replica c.push-in-loop-column.new.self a.fate a.place _ _ (known g at)
     (omega (arith, c.if-column-columns.true, columns g at))
+
+pub leave_row-requires-clause-inside : goal.leave_row-requires-clause-inside
+leave_row-requires-clause-inside g c =
+    let at = (goal.at.leave_row-requires-clause-inside g c).After-next_changed-column in
+    let a = at_column c.loop-column.self-inside c.loop-column.column in
+    pushed_inside a.replica c.push-in-loop-column.new.self a.fate a.place _ _ (known g at)
 
 pub leave_row-requires-clause-fate : goal.leave_row-requires-clause-fate
 leave_row-requires-clause-fate g c =

@@ -5,7 +5,7 @@ use Rattle.dr_member.proofs.Answers.{IsAnswer}
 use Rattle.dr_member.proofs.Indices.{columns_after}
 use Rattle.dr_member.proofs.Ready.{elsewhere}
 use Rattle.dr_program.specs.declared.place.Part.TheVariants as parts
-use Rattle.dr_member.proofs.Moves.{IsPushed, counted, inside_after, is_pushed, push_left, pushed_behind, pushed_timely, pushed_within}
+use Rattle.dr_member.proofs.Moves.{IsPushed, counted, inside_after, is_pushed, push_left, pushed_behind, pushed_inside, pushed_timely, pushed_within}
 use Rattle.dr_member.proofs.member.Member.pushed.Goals as goal
 
 known : (c : goal.After-self-then-next-columns-1)
@@ -70,6 +70,11 @@ pub leave_row-requires-clause-underway : goal.leave_row-requires-clause-underway
 leave_row-requires-clause-underway c =
     push_left c.self.inside.replica c.push.new.self c.self.inside.fate c.self.inside.place
     c.saturating_add-self-inside.result c.next_changed-next.result (known_past c) (outer c)
+
+pub leave_row-requires-clause-inside : goal.leave_row-requires-clause-inside
+leave_row-requires-clause-inside c =
+    pushed_inside c.self.inside.replica c.push.new.self c.self.inside.fate c.self.inside.place
+    c.saturating_add-self-inside.result c.next_changed-next.result (known_past c)
 
 pub leave_row-requires-clause-fate : goal.leave_row-requires-clause-fate
 leave_row-requires-clause-fate c =

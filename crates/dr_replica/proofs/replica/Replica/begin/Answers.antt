@@ -1,6 +1,6 @@
-use Rattle.std.proofs.Common.{ℕ, List, length, None, refl, rules, sym, ap, subst, ◌∙◌, arith}
-use Rattle.dr_entry.specs.declared.entry.Entry.{Entry}
-use Rattle.std.specs.Prelude.{All}
+use Rattle.std.proofs.Common.{◌≡◌, ℕ, length, None, refl, rules, sym, ap, subst, ◌∙◌, arith}
+use Rattle.dr_history.specs.Members.{has}
+use Rattle.std.specs.Prelude.{All, if◌then◌else◌}
 use Rattle.dr_words.specs.Columns.{columns_of}
 use Rattle.dr_replica.specs.Lefts.{IsSpare}
 use Rattle.dr_rows.specs.Words.{begun, with_own}
@@ -9,7 +9,7 @@ use Rattle.dr_program.proofs.OpeningForm.{begun_in_form}
 use Rattle.dr_replica.specs.declared.replica.Replica.TheInside.{Inside}
 use Rattle.dr_replica.proofs.Openings.{AreBegun, AreReserved, few_messages_each, small_room, someone, begun_view, begun_inside}
 use Rattle.dr_replica.proofs.replica.Replica.begin.Goals as goal
-use Rattle.dr_replica.proofs.replica.Replica.begin.Goals.{After-no_value}
+use Rattle.dr_replica.proofs.replica.Replica.begin.Goals.{After-no_value, else-has, then-has}
 
 pub begin-requires-clause-small : goal.begin-requires-clause-small
 begin-requires-clause-small c =
@@ -33,6 +33,9 @@ fields c = record {
   view = 0;
   members = c.args.setup.members;
   suspects = c.new-2.result;
+  late = c.args.setup.late;
+  came_from = c.empty.result;
+  given = c.empty-2.result;
   items = c.in_ok-begin.field-0;
   base = c.messages_from.result;
   sent = c.in_ok-with_capacity.field-0;
@@ -55,20 +58,31 @@ fields c = record {
   votes = c.in_ok-with_capacity-4.field-0;
 }
 
+-- what its own logged word says
+shown : (c : After-no_value) → c.if-has.shown
+    ≡ (if has c.args.setup.members c.args.setup.me then length c.in_ok-history.history.entries else 0)
+shown c = elim c.if-has.branch [
+  | then-has w ↦ w.shown-is ∙ ap length c.entries-logged.ensures.entries
+      ∙ sym (ap (λ b. if b then length c.in_ok-history.history.entries else 0) (sym c.has.ensures ∙ w.if-has.true))
+  | else-has w ↦ w.shown-is
+      ∙ sym (ap (λ b. if b then length c.in_ok-history.history.entries else 0) (sym c.has.ensures ∙ w.if-has.false))
+]
+
 made : (c : After-no_value) → AreBegun (fields c) c.args.setup c.in_ok-rows.rows c.greatest-most.result
 made c = record {
   shape = refl;
   messages = c.into_vec-messages.ensures;
   totals = refl;
+  late = refl;
   most = c.greatest-most.ensures;
   first = c.in_ok-rows.ensures.begun
       ∙ ap (λ (k : ℕ). begun c.args.setup.shape.members k c.args.setup.me) c.columns.ensures;
-  rows = c.set_own.ensures.after
-      ∙ ap (λ (es : List Entry). with_own c.in_ok-rows.rows 3 (length es))
-      c.entries-logged.ensures.entries;
+  rows = c.set_own.ensures.after ∙ ap (with_own c.in_ok-rows.rows 3) (shown c);
   view = refl;
   members = refl;
   suspects = c.new-2.ensures.value;
+  came_from = c.empty.ensures.bits;
+  given = c.empty-2.ensures.bits;
   items = c.in_ok-begin.ensures.begun;
   base = c.messages_from.ensures;
   sent = c.in_ok-with_capacity.ensures.items;

@@ -10,13 +10,13 @@ item_at-requires c = record {
   spot = next_is_spot c.self.inside c.self.invariant;
   held = front_held (counts_of c.self.inside.items) c.self.inside.next.place
       (next_before c.self.inside c.args.self.now (c.self.view_is ∙ c.ask_received.ensures)
-      c.self.invariant c.requires).0;
+      c.self.invariant c.requires.may c.requires.inside).0;
 }
 
 pub step-requires-clause-small : goal.step-requires-clause-small
 step-requires-clause-small c =
     (next_before c.self.inside c.args.self.now
-    (c.self.view_is ∙ c.ask_received.ensures) c.self.invariant c.requires).1
+    (c.self.view_is ∙ c.ask_received.ensures) c.self.invariant c.requires.may c.requires.inside).1
 
 pub returns : goal.returns
 returns c =

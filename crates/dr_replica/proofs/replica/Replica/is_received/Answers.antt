@@ -1,6 +1,7 @@
-use Rattle.std.proofs.Common.{◌≡◌, subst, arith, nat_lt}
+use Rattle.std.proofs.Common.{◌≡◌, ◌∙◌, subst, arith, nat_lt, sym, ap}
+use Rattle.std.proofs.lemmas.Bool.Decides.{nat_tests}
 use Rattle.dr_program.specs.Replica.{Replica, least_seen}
-use Rattle.dr_replica.proofs.Received.{is_of_group, received_test}
+use Rattle.dr_replica.proofs.Received.{is_of_group, none_above, received_test}
 use Rattle.dr_replica.specs.Inside.{replica_inside}
 use Rattle.dr_words.specs.declared.column.TheConstants.{RECEIVED_COLUMN}
 use Rattle.dr_replica.proofs.replica.Replica.is_received.Goals as goal
@@ -11,7 +12,15 @@ holds-requires c = (
   λ i member. omega (arith, c.self.invariant.form.roster i member, c.self.invariant.form.members),
 )
 
-pub returns : goal.returns
-returns c = subst (λ (r : Replica). c.holds.result ≡ nat_lt r.next (least_seen r RECEIVED_COLUMN))
-    c.self.view_is
-    (received_test (replica_inside c.self.inside) c.holds.result c.self.invariant.form c.holds.ensures)
+pub returns-then-self-lt18446744073709551615 : goal.returns-then-self-lt18446744073709551615
+returns-then-self-lt18446744073709551615 c =
+    subst (λ (r : Replica). c.holds.result ≡ nat_lt r.next (least_seen r RECEIVED_COLUMN)) c.self.view_is
+    (received_test (replica_inside c.self.inside) c.holds.result c.self.invariant.form
+    c.if-self-lt18446744073709551615.true c.holds.ensures)
+
+pub returns-else-self-lt18446744073709551615 : goal.returns-else-self-lt18446744073709551615
+returns-else-self-lt18446744073709551615 c =
+    let a = c.self.inside in
+    let high = c.if-self-lt18446744073709551615.false in
+    grind (arith, nat_tests, high) ∙ sym (none_above (replica_inside a) RECEIVED_COLUMN a.next.place high)
+    ∙ ap (λ (r : Replica). nat_lt r.next (least_seen r RECEIVED_COLUMN)) c.self.view_is

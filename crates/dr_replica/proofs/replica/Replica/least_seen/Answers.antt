@@ -9,6 +9,7 @@ pub returns : goal.returns
 returns c = subst (λ (r : Replica). c.unwrap_or.result ≡ least_seen r c.args.column) c.self.view_is
     (least_by (replica_inside c.self.inside) c.args.column c.least_word.result c.unwrap_or.result
     c.self.invariant.form c.least_word.ensures.below c.least_word.ensures.among c.least_word.ensures.none
+    (λ none. c.unwrap_or.ensures ∙ ap (λ (o : Option ℕ). unwrap_or o 18446744073709551615) none)
     (λ least is.
     let same : c.unwrap_or.result ≡ least =
     c.unwrap_or.ensures ∙ ap (λ (o : Option ℕ). unwrap_or o 18446744073709551615) is in

@@ -1,5 +1,5 @@
 use Rattle.std.proofs.Common.{ap, ◌∙◌}
-use Rattle.dr_program.specs.Replica.{Replica, acted, finished, may_finish}
+use Rattle.dr_program.specs.Replica.{Replica, acted, finished, is_inside, may_finish}
 use Rattle.dr_form.proofs.Finishing.{finished_form}
 use Rattle.dr_form.proofs.Keeps.{acted_keeps}
 use Rattle.dr_replica.proofs.Insides.{form_to}
@@ -8,10 +8,13 @@ use Rattle.dr_replica.proofs.replica.Replica.leave.Goals as goal
 pub finish-requires-clause-may : goal.finish-requires-clause-may
 finish-requires-clause-may c = ap (λ (r : Replica). may_finish r r.committed) c.stamp.ensures ∙ c.requires.may
 
+pub finish-requires-clause-inside : goal.finish-requires-clause-inside
+finish-requires-clause-inside c = ap is_inside c.stamp.ensures ∙ c.requires.inside
+
 pub returns-clause-after : goal.returns-clause-after
 returns-clause-after c = c.finish.ensures ∙ ap finished c.stamp.ensures
 
 pub returns-clause-form : goal.returns-clause-form
 returns-clause-form c = form_to c.finish.new.self _ (c.finish.ensures ∙ ap finished c.stamp.ensures)
-    (finished_form (acted c.args.self.now) (acted_keeps c.args.self.now c.me.ensures.form) c.requires.may
-    c.requires.free)
+    (finished_form (acted c.args.self.now) (acted_keeps c.args.self.now c.me.ensures.form) c.requires.inside
+    c.requires.may c.requires.free)

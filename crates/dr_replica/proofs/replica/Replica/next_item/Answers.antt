@@ -6,4 +6,4 @@ use Rattle.dr_replica.proofs.replica.Replica.next_item.Goals as goal
 pub item_at-requires-clause-held : goal.item_at-requires-clause-held
 item_at-requires-clause-held c =
     front_held (counts_of c.self.inside.items) c.self.inside.next.place
-    (next_before c.self.inside c.args.self.now c.self.view_is c.self.invariant c.requires).0
+    (next_before c.self.inside c.args.self.now c.self.view_is c.self.invariant c.requires.may c.requires.inside).0

@@ -1,6 +1,6 @@
 use Rattle.std.proofs.Common.{◌≡◌, ◌≤◌, rules, sym, ap, subst, ◌∙◌, le_trans, ℕ, slice_index}
 use Rattle.dr_program.specs.Form.{HasForm}
-use Rattle.dr_program.specs.Replica.{Replica, least_seen, put}
+use Rattle.dr_program.specs.Replica.{Replica, is_inside, least_seen, put}
 use Rattle.dr_ring.specs.Slots.{IsFree}
 use Rattle.dr_replica.specs.Inside.{replica_inside}
 use Rattle.dr_form.specs.Puts.{MayPut}
@@ -14,7 +14,7 @@ use Rattle.dr_replica.proofs.replica.Replica.put.Goals.{After-take}
 pub put-requires-clause-free : goal.put-requires-clause-free
 put-requires-clause-free c =
     let may = subst (λ (r : Replica). HasForm r → MayPut r c.args.name c.args.item) (sym c.self.view_is)
-    c.requires c.self.invariant.form in
+    c.requires.may c.self.invariant.form in
     subst (λ (n : ℕ). IsFree c.self.inside.shape.window c.self.inside.rows c.self.inside.members n)
     (sym (c.count.ensures.count ∙ ap (λ (i : ℕ). slice_index c.self.inside.items.counts i) c.me-me.ensures.me))
     may.free
@@ -22,7 +22,7 @@ put-requires-clause-free c =
 pub take-requires-clause-room : goal.take-requires-clause-room
 take-requires-clause-room c =
     let may = subst (λ (r : Replica). HasForm r → MayPut r c.args.name c.args.item) (sym c.self.view_is)
-    c.requires c.self.invariant.form in
+    c.requires.may c.self.invariant.form in
     room_left c.self.inside c.me-me.result c.args.name c.args.item c.self.invariant may c.me-me.ensures.me
 
 -- the item was put, and taken
@@ -38,21 +38,21 @@ was c = record {
 pub show_items-requires-clause-recv : goal.show_items-requires-clause-recv
 show_items-requires-clause-recv c =
     let may = subst (λ (r : Replica). HasForm r → MayPut r c.args.name c.args.item) (sym c.self.view_is)
-    c.requires c.self.invariant.form in
+    c.requires.may c.self.invariant.form in
     (put_shows c.self.inside c.me-me.result c.count.result c.args.name c.args.item c.put.new.rows
     c.take.new.self c.self.invariant may (was (goal.at.show_items-requires-clause-recv c).After-take)).0
 
 pub show_items-requires-clause-received : goal.show_items-requires-clause-received
 show_items-requires-clause-received c =
     let may = subst (λ (r : Replica). HasForm r → MayPut r c.args.name c.args.item) (sym c.self.view_is)
-    c.requires c.self.invariant.form in
+    c.requires.may c.self.invariant.form in
     (put_shows c.self.inside c.me-me.result c.count.result c.args.name c.args.item c.put.new.rows
     c.take.new.self c.self.invariant may (was (goal.at.show_items-requires-clause-received c).After-take)).1
 
 pub invariant_of-self : goal.invariant_of-self
 invariant_of-self c =
     let may = subst (λ (r : Replica). HasForm r → MayPut r c.args.name c.args.item) (sym c.self.view_is)
-    c.requires c.self.invariant.form in
+    c.requires.may c.self.invariant.form in
     let there : replica_inside (record c.self.inside
     { rows = c.show_items.new.rows; items = c.take.new.self; sent = c.push.new.self })
     ≡ put (replica_inside c.self.inside) c.args.name c.args.item =
@@ -67,4 +67,5 @@ invariant_of-self c =
     c.self.invariant.form may))
     (subst (λ (r : Replica). least_seen (replica_inside c.self.inside) RECEIVED_COLUMN
     ≤ least_seen r RECEIVED_COLUMN) (sym there)
-    (put_received (replica_inside c.self.inside) c.args.name c.args.item c.self.invariant.form may))
+    (put_received (replica_inside c.self.inside) c.args.name c.args.item c.self.invariant.form
+    (ap is_inside c.self.view_is ∙ c.requires.inside) may))

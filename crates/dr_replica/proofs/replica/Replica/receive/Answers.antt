@@ -2,7 +2,7 @@ use Rattle.std.proofs.Common.{◌≡◌, ℕ, ◌+◌, ◌<◌, ◌≤◌, true,
 use Rattle.std.proofs.lemmas.Bool.{and_parts, not-true}
 use Rattle.std.proofs.lemmas.List.{get_or-set_same}
 use Rattle.dr_replica.specs.Items.{Held}
-use Rattle.dr_program.specs.Replica.{Replica, count, is_wedged, least_seen, may_receive, received}
+use Rattle.dr_program.specs.Replica.{Replica, count, is_inside, is_wedged, least_seen, may_receive, received}
 use Rattle.dr_program.specs.Form.{HasForm}
 use Rattle.dr_replica.specs.Inside.{replica_inside}
 use Rattle.dr_form.proofs.Keeps.{open_recv, received_form}
@@ -65,7 +65,8 @@ invariant_of-self c =
     (received_form (replica_inside c.self.inside) c.args.sender c.self.invariant.form (may c)))
     (subst (λ (r : Replica). least_seen (replica_inside c.self.inside) RECEIVED_COLUMN
     ≤ least_seen r RECEIVED_COLUMN) (sym (there c))
-    (received_received (replica_inside c.self.inside) c.args.sender c.self.invariant.form (may c)))
+    (received_received (replica_inside c.self.inside) c.args.sender c.self.invariant.form
+    (ap is_inside c.self.view_is ∙ c.requires.inside) (may c)))
 
 pub returns : goal.returns
 returns c = there c ∙ ap (λ (r : Replica). received r c.args.sender) c.self.view_is

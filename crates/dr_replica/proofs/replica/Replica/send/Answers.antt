@@ -14,22 +14,22 @@ pub overflow_cast-index : goal.overflow_cast-index
 overflow_cast-index c = omega (
   arith,
   c.next_index-index.ensures,
-  index_small c.args.self.now (subst HasForm c.self.view_is c.self.invariant.form) c.requires,
+  index_small c.args.self.now (subst HasForm c.self.view_is c.self.invariant.form) c.requires.may,
 )
 
-pub put-requires : goal.put-requires
-put-requires c = λ form.
+pub put-requires-clause-may : goal.put-requires-clause-may
+put-requires-clause-may c = λ form.
     let now = c.args.self.now in
     let left : next_index now < length now.messages =
     ltb-true (next_index now) (length now.messages)
     (and_parts (nat_lt (next_index now) (length now.messages)) _
-    (and_parts (not (is_wedged now)) _ c.requires).1).0 in
+    (and_parts (not (is_wedged now)) _ c.requires.may).1).0 in
     let read : Text c.copy-message.result ≡ message_to_send now =
     message_read c.self.inside now c.next_index-index.result c.index.result.now c.copy-message.result
     c.self.view_is left c.next_index-index.ensures c.index.ensures c.copy-message.ensures in
     subst (λ (item : Item). MayPut now (Index c.next_index-index.result) item) (sym read)
     (subst (λ (i : ℕ). MayPut now (Index i) (message_to_send now)) (sym c.next_index-index.ensures)
-    (sending now form c.requires))
+    (sending now form c.requires.may))
 
 pub returns : goal.returns
 returns c =
@@ -37,7 +37,7 @@ returns c =
     let left : next_index now < length now.messages =
     ltb-true (next_index now) (length now.messages)
     (and_parts (nat_lt (next_index now) (length now.messages)) _
-    (and_parts (not (is_wedged now)) _ c.requires).1).0 in
+    (and_parts (not (is_wedged now)) _ c.requires.may).1).0 in
     let read : Text c.copy-message.result ≡ message_to_send now =
     message_read c.self.inside now c.next_index-index.result c.index.result.now c.copy-message.result
     c.self.view_is left c.next_index-index.ensures c.index.ensures c.copy-message.ensures in

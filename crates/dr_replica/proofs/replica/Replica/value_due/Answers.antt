@@ -1,5 +1,6 @@
 use Rattle.std.proofs.Common.{◌≡◌, false, is_some, sym, ap, ◌∙◌}
-use Rattle.dr_program.specs.Replica.{may_propose, value_due}
+use Rattle.dr_program.specs.Replica.{is_wedged, may_propose, value_due}
+use Rattle.dr_program.proofs.Voting.{wedged_inside}
 use Rattle.dr_replica.specs.Inside.{replica_inside}
 use Rattle.dr_replica.proofs.Choosing.{accepts, propose_told, proposes, stands}
 use Rattle.dr_replica.proofs.replica.Replica.value_due.Goals as goal
@@ -8,6 +9,8 @@ pub returns-in-Some : goal.returns-in-Some
 returns-in-Some c =
     proposes (replica_inside c.self.inside) c.standing-standing.result c.try_propose.result c.in-Some.value
     c.self.invariant.form
+    (wedged_inside (replica_inside c.self.inside) c.self.invariant.form
+    (ap is_wedged c.self.view_is ∙ c.requires.wedged))
     (stands (replica_inside c.self.inside) c.args.self.now c.standing-standing.result c.self.view_is
     c.standing-standing.ensures.form c.standing-standing.ensures.members c.standing-standing.ensures.suspects
     c.standing-standing.ensures.logged)

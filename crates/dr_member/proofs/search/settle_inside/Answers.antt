@@ -1,0 +1,59 @@
+use Rattle.std.proofs.Common.{sym, ◌∙◌, subst}
+use Rattle.dr_program.specs.declared.place.Place.{Place}
+use Rattle.dr_member.specs.declared.search.TheConstants.{PUSHES}
+use Rattle.dr_member.specs.Search.{standing}
+use Rattle.dr_member.proofs.Passing.{GoesBy, first_found, row_passed}
+use Rattle.dr_member.proofs.Votes.{votes_passed}
+use Rattle.dr_member.proofs.search.settle_inside.Goals as goal
+
+goes : (c : goal.After-enter_row)
+    → GoesBy (standing c.args.replica.now c.args.fate.now c.loop-place.place)
+    (standing c.args.replica.now c.args.fate.now c.enter_row.new.place)
+goes c =
+    let r = standing c.args.replica.now c.args.fate.now c.loop-place.place in
+    subst (λ (x : Place). GoesBy r (standing c.args.replica.now c.args.fate.now x))
+    (sym c.enter_row.ensures.place)
+    (row_passed r c.loop-place.invariant.underway c.loop-place.invariant.none c.in_default-first_inside.ensures)
+
+pub returns-in-Some-clause-ready : goal.returns-in-Some-clause-ready
+returns-in-Some-clause-ready c = c.loop-place.invariant.ready
+
+pub enter_row-requires-clause-next : goal.enter_row-requires-clause-next
+enter_row-requires-clause-next c =
+    (row_passed (standing c.args.replica.now c.args.fate.now c.loop-place.place)
+    c.loop-place.invariant.underway c.loop-place.invariant.none c.in_default-first_inside.ensures).underway.place
+
+pub returns-in-Some-clause-place : goal.returns-in-Some-clause-place
+returns-in-Some-clause-place c =
+    first_found (standing c.args.replica.now c.args.fate.now c.loop-place.place) c.in-Some.column
+    c.loop-place.invariant.underway c.loop-place.invariant.none c.in-Some.ensures
+    ∙ c.loop-place.invariant.same
+
+pub loop-place-smaller : goal.loop-place-smaller
+loop-place-smaller c = (goes c).later
+
+pub loop-place-preserved : goal.loop-place-preserved
+loop-place-preserved c = record {
+  same = (goes c).same ∙ c.loop-place.invariant.same;
+  underway = (goes c).underway;
+  none = c.loop-place.invariant.none;
+  ready = c.enter_row.ensures.ready;
+}
+
+past : (c : goal.After-place-1)
+    → GoesBy (standing c.args.replica.now c.args.fate.now c.loop-place.place)
+    (standing c.args.replica.now c.args.fate.now (record c.loop-place.place { part = PUSHES }))
+past c = votes_passed c.args.replica.now c.args.fate.now c.loop-place.place
+    c.loop-place.invariant.underway c.loop-place.invariant.none (sym c.part_of.ensures ∙ c.in-Vote.is)
+    (sym c.is_calm.ensures ∙ c.if-is_calm.true)
+
+pub loop-place-smaller-then-is_calm : goal.loop-place-smaller-then-is_calm
+loop-place-smaller-then-is_calm c = (past c).later
+
+pub loop-place-preserved-then-is_calm : goal.loop-place-preserved-then-is_calm
+loop-place-preserved-then-is_calm c = record {
+  same = (past c).same ∙ c.loop-place.invariant.same;
+  underway = (past c).underway;
+  none = c.loop-place.invariant.none;
+  ready = λ at. absurd (cc at);
+}
