@@ -1,8 +1,8 @@
 -- What a world has delivered durably.
 use Rattle.std.proofs.Common.{ℕ, ◌≤◌, arith, length}
-use Rattle.dr_history_laws.proofs.Keeping.{durable_logged, prefix_shorter}
+use Rattle.dr_history_laws.proofs.Keeping.{prefix_shorter}
 use Rattle.dr_machine.specs.Group.{Group, IsGroup, IsPresent}
-use Rattle.dr_machine.specs.Run.{IsReached, accounts_in}
+use Rattle.dr_machine.specs.Run.{IsReached}
 use Rattle.dr_machine.specs.World.{World}
 use Rattle.dr_world_laws.proofs.Worlds.{agreed, known}
 
@@ -13,6 +13,6 @@ durable_delivered g w m is reached there =
     let agrees = agreed g w is (known g w is reached) in
     omega (
       arith,
-      durable_logged (accounts_in w) m (agrees.durable m there),
+      (agrees.durable m there).own,
       prefix_shorter (w.past.log m) (w.past.history m) (agrees.logged m there),
     )

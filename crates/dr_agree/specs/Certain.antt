@@ -3,13 +3,13 @@ use Rattle.std.specs.Prelude.{◌≡◌, ℕ, ◌+◌, ◌<◌, ◌≤◌, ◌++
 use Rattle.dr_entry.specs.declared.end.End.TheVariants.{Done}
 use Rattle.dr_entry.specs.declared.record.Value.{Value}
 use Rattle.dr_history.specs.History.{IsPrefixOf}
-use Rattle.dr_history.specs.Order.{first_entries, messages_from}
+use Rattle.dr_history.specs.Order.{IsLateIn, first_entries, messages_from}
 use Rattle.dr_history_laws.specs.Remaining.{remaining}
 use Rattle.dr_machine.specs.Group.{Group, roster}
 use Rattle.dr_machine.specs.Guards.{HoldsAll}
 use Rattle.dr_machine.specs.World.{World}
 use Rattle.dr_vote_laws.specs.Voting.{HaveVotedFor}
-use Rattle.dr_words.specs.Masks.{without}
+use Rattle.dr_words.specs.Masks.{next_members}
 use Rattle.dr_world_laws.specs.Views.{HasView, IsCovered}
 
 -- the members agree on their views
@@ -20,9 +20,9 @@ pub record ViewsAgreed (g : Group) (w : World) : Type 0 where
   pub come : (m v : ℕ) → v ≤ w.past.view m → (members : ℕ) × HasView g w v members
   -- that of a member's own view has the members by which it goes
   pub present : (m : ℕ) → HasView g w (w.past.view m) (w.members m)
-  -- the next view has those that don't leave by a value that more than half of this one has voted for
+  -- the next view has the members that come of this one by a value that more than half of it has voted for
   pub ended : (v members next : ℕ) → HasView g w v members → HasView g w (v + 1) next
-      → (b : ℕ) × (x : Value) × HaveVotedFor w.past.votes members v b x × (next ≡ without members x.leavers)
+      → (b : ℕ) × (x : Value) × HaveVotedFor w.past.votes members v b x × (next ≡ next_members members x.leavers)
   -- and such a value covers what anybody has delivered in the view
   pub covered : (v members b : ℕ) (x : Value) → HasView g w v members
       → HaveVotedFor w.past.votes members v b x → IsCovered g w v members x
@@ -32,8 +32,8 @@ pub record DoneHoldAll (g : Group) (w : World) : Type 0 where
   -- it has delivered all messages of the members of its view, durably
   pub whole : (m : ℕ) → m < roster g → w.end m ≡ Some Done → HoldsAll g w m
   pub durable : (m : ℕ) → m < roster g → w.end m ≡ Some Done → w.past.durable m ≡ length (w.past.history m)
-  -- nobody has a message that it lacks
-  pub lacks_none : (m k s : ℕ) → m < roster g → w.end m ≡ Some Done → k < roster g
+  -- nobody has a message that it lacks, but for those of late members, which may come into a later view
+  pub lacks_none : (m k s : ℕ) → ¬ IsLateIn g.opening s → m < roster g → w.end m ≡ Some Done → k < roster g
       → IsPrefixOf (messages_from s (w.past.history k)) (messages_from s (w.past.history m))
   -- those that are done in one view have one history
   pub same : (m k : ℕ) → m < roster g → w.end m ≡ Some Done → k < roster g → w.end k ≡ Some Done

@@ -1,5 +1,5 @@
 -- A script and a first start of a part of its roster make a group.
-use Rattle.std.proofs.Common.{◌≡◌, refl, ℕ, ◌<◌, [], length, arith, true}
+use Rattle.std.proofs.Common.{◌≡◌, ℕ, ◌<◌, [], length, arith, true}
 use Rattle.std.proofs.lemmas.Option.{slice_get_within}
 use Rattle.dr_history.specs.Members.{has}
 use Rattle.dr_machine.specs.Group.{IsGroup}
@@ -8,10 +8,11 @@ use Rattle.dr_restart.specs.Groups.{first_group_of, group_of}
 use Rattle.dr_script.specs.declared.script.Script.{Script}
 use Rattle.dr_script.specs.Ranges.{HasGroupRanges}
 
-pub part_group : (script : Script) (mask : ℕ) → HasGroupRanges script → 0 < mask
-    → ((m : ℕ) → has mask m ≡ true → m < script.members)
-    → IsGroup (group_of script (record { age = 0; members = mask; present = mask; entries = [] }))
-part_group script mask ranges some within =
+pub part_group : (script : Script) (first present : ℕ) → HasGroupRanges script → 0 < first
+    → ((m : ℕ) → has first m ≡ true → has present m ≡ true)
+    → ((m : ℕ) → has present m ≡ true → m < script.members)
+    → IsGroup (group_of script (record { age = 0; members = first; present = present; entries = [] }))
+part_group script first present ranges some part within =
     let whole : IsGroup (first_group_of script) = first_group script ranges in
     record {
       some_member = whole.some_member;
@@ -25,12 +26,11 @@ part_group script mask ranges some within =
       sound = record {
         entries = λ i e there. absurd (omega (arith, slice_get_within [] i e there));
         later = whole.sound.later;
-        members = record { some = some; within = below };
-        part = λ m h. h;
+        members = record { some = some; within = λ m h. below m (part m h) };
+        part = part;
         present = below;
       };
-      joined = refl;
     }
   where
-    below : (m : ℕ) → has mask m ≡ true → m < length script.messages
+    below : (m : ℕ) → has present m ≡ true → m < length script.messages
     below m h = omega (arith, within m h, ranges.lists)

@@ -18,6 +18,7 @@ pub(crate) fn event_of(name: &str, numbers: &[u8]) -> Option<Event> {
         "accept" => Some(Event::Accept { m }),
         "commit" => Some(Event::Commit { m }),
         "finish" => Some(Event::Finish { m }),
+        "join" => Some(Event::Join { m }),
         "crash" => Some(Event::Crash {
             m,
             end: End::Crashed,
@@ -35,6 +36,7 @@ fn event_with(name: &str, m: u8, numbers: &[u8]) -> Option<Event> {
     match (name, numbers) {
         ("receive", &[s]) => Some(Event::Receive { m, s }),
         ("suspect", &[j]) => Some(Event::Suspect { m, j }),
+        ("welcome", &[j]) => Some(Event::Welcome { m, j }),
         ("excluded", &[view]) => Some(Event::Halt {
             m,
             end: End::Excluded { view },

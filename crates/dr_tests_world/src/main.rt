@@ -2,7 +2,8 @@
 //! comes to. What it has to print was worked out by hand.
 //!
 //! A line that begins with a brace is a script, and opens the world of its group; `absent M` opens it anew
-//! without this member too. A line that begins with `#` says what the lines behind it show. `world` prints the world, and `again` that of a new run through all
+//! without this member too, and `late M` so that this one isn't in its first view. A line that begins with `#` says
+//! what the lines behind it show. `world` prints the world, and `again` that of a new run through all
 //! events so far. `word M ROW COLUMN` prints a word of a member's copy of the table, and `show FROM TO
 //! FIRST END` has a member push its words of these columns to another, which looks at them. Any other line
 //! is an event: its name, its member, and what else belongs to it.

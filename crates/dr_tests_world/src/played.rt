@@ -16,11 +16,12 @@ use dr_world::{Event, World};
 use std::alloc::{AllocError, Global};
 use std::fmt::Write;
 
-/// The world of a script without some members, and all events that it was offered.
+/// The world of a script without some members and with others late, and all events that it was offered.
 #[derive(Drop)]
 pub(crate) struct Played {
     script: String,
     away: Mask,
+    late: Mask,
     world: World,
     events: Vec<Event>,
 }
@@ -31,7 +32,8 @@ impl Played {
         Ok(Played {
             script: String::from_str(alloc, script)?,
             away: Mask::empty(),
-            world: run_of(alloc, script, Mask::empty(), &[])?,
+            late: Mask::empty(),
+            world: run_of(alloc, script, Mask::empty(), Mask::empty(), &[])?,
             events: Vec::new(alloc),
         })
     }
@@ -48,13 +50,16 @@ impl Played {
             ("world", []) => push_world(&mut said, &self.world)?,
             ("again", []) => {
                 let events = self.events.as_slice();
-                let world = run_of(alloc, self.script.as_str(), self.away, events)?;
+                let world = run_of(alloc, self.script.as_str(), self.away, self.late, events)?;
                 push_world(&mut said, &world)?;
             }
             ("absent", &[m]) if m < MAX_MEMBERS as u8 => {
                 self.away = self.away.with(m);
-                self.world = run_of(alloc, self.script.as_str(), self.away, &[])?;
-                self.events.clear();
+                self.open_anew(alloc)?;
+            }
+            ("late", &[m]) if m < MAX_MEMBERS as u8 => {
+                self.late = self.late.with(m);
+                self.open_anew(alloc)?;
             }
             ("word", &[m, row, column]) => push_word(&mut said, &self.world, m, row, column)?,
             ("show", &[from, to, first, end]) => {
@@ -76,6 +81,13 @@ impl Played {
         Ok(Some(said))
     }
 
+    /// Opens the world anew, without those that are away and with those that are late.
+    fn open_anew(&mut self, alloc: Global) -> anyhow::Result<()> {
+        self.world = run_of(alloc, self.script.as_str(), self.away, self.late, &[])?;
+        self.events.clear();
+        Ok(())
+    }
+
     /// Offers the world an event; whether it came.
     fn take(&mut self, event: Event) -> Result<bool, AllocError> {
         let came = self.world.step(&event);
@@ -95,26 +107,33 @@ impl Played {
     }
 }
 
-/// The world of a script behind these events in its first age, without these members.
-fn run_of(alloc: Global, script: &str, away: Mask, events: &[Event]) -> anyhow::Result<World> {
+/// The world of a script behind these events in its first age, without some members and with others late.
+fn run_of(
+    alloc: Global,
+    script: &str,
+    away: Mask,
+    late: Mask,
+    events: &[Event],
+) -> anyhow::Result<World> {
     let script = read_script(alloc, script.as_bytes())?;
-    let start = start_without(alloc, &script, away).ok_or(anyhow!("nobody is there"))?;
+    let start = start_without(alloc, &script, away, late).ok_or(anyhow!("nobody is there"))?;
     Ok(agreed_run(alloc, &script, &start, events)?)
 }
 
-/// The first start of a script without these members, where somebody is left.
-fn start_without(alloc: Global, script: &Script, away: Mask) -> Option<Start>
+/// The first start of a script without some members and with others late, where somebody is left for its first view.
+fn start_without(alloc: Global, script: &Script, away: Mask, late: Mask) -> Option<Start>
     requires { HasGroupRanges script.now }
     ensures { IfSome result (λ start. IsGroup (group_of script.now start)) }
 {
-    let there = Mask::all(script.members).without(away).bits();
-    if there == 0 {
+    let there = Mask::all(script.members).without(away);
+    let first = there.without(late).bits();
+    if first == 0 {
         return None;
     }
     Some(Start {
         age: 0,
-        members: there,
-        present: there,
+        members: first,
+        present: there.bits(),
         entries: Seq::of(Vec::new(alloc)),
     })
 }

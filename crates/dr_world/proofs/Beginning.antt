@@ -1,15 +1,16 @@
 -- Replicas that have begun are the group's as its age opens.
-use Rattle.std.proofs.Common.{◌≡◌, refl, sym, ap, ◌∙◌, subst, ℕ, ◌+◌, ◌*◌, ◌<◌, List, [], ◌∷◌, ◌++◌, length, map, replicate, arith}
+use Rattle.std.proofs.Common.{◌≡◌, refl, sym, ap, ◌∙◌, subst, ℕ, ◌+◌, ◌<◌, List, [], ◌∷◌, ◌++◌, map, replicate, arith}
 use Rattle.std.specs.Prelude.{Option, Some, None, option_map}
 use Rattle.std.proofs.lemmas.List.{length-map, length-replicate, map-append}
 use Rattle.std.proofs.lemmas.Option.{same_Some}
 use Rattle.dr_program.specs.declared.setup.Setup.{Setup}
 use Rattle.dr_machine.specs.Group.{Group, IsGroup, roster, banks}
 use Rattle.dr_machine.specs.World.{opening_world}
-use Rattle.dr_program.specs.Replica.{Replica, begun_replica, greatest}
+use Rattle.dr_program.specs.Replica.{Replica, begun_replica}
 use Rattle.dr_program.specs.Running.{Running, begun_running}
 use Rattle.dr_program.specs.Program.{AreSetups, IsSetup}
-use Rattle.dr_program.specs.Reading.{world_of}
+use Rattle.dr_entry.specs.declared.entry.Entry.{Entry}
+use Rattle.dr_program.specs.Reading.{Shared, world_of}
 use Rattle.dr_program.specs.Form.{HasForm, IsOf}
 use Rattle.dr_program.proofs.Opening.{begins_at_the_opening}
 use Rattle.dr_program.proofs.OpeningForm.{begins_in_form}
@@ -40,6 +41,7 @@ with_one_turn g limit m s is = record {
   start = is.start;
   messages = is.messages;
   totals = is.totals;
+  late = is.late;
 }
 
 begins : (g : Group) (limit m : ℕ) (s : Setup) → IsGroup g → IsSetup g limit m s → m < roster g
@@ -48,14 +50,6 @@ begins g limit m s is setup within =
     let begun = begins_in_form g 1 m (record s { turns = 1 }) is (omega arith)
     (with_one_turn g limit m s setup) in
     (begun.0.replica, begun.1)
-
-begun_room : (g : Group) (limit m : ℕ) (s : Setup) → IsSetup g limit m s
-    → length g.opening.start + banks g + greatest (begun_replica s).totals * roster g
-    < (begun_replica s).room
-begun_room g limit m s setup =
-    let product : greatest s.totals * s.shape.members
-    ≡ greatest s.totals * roster g = ap (λ n. greatest s.totals * n) setup.members in
-    omega (arith, product, setup.banks, ap length setup.start)
 
 -- each replica has begun with the setup of its number
 begun_at : (g : Group) (limit : ℕ) (setups : List (Option Setup)) → AreSetups g limit setups
@@ -83,9 +77,6 @@ begun_members g limit setups is are = record {
       (λ s setup within. (begins g limit m s is setup within).0);
   of = λ m r there. begun_at g limit setups are (IsOf g m) m r there
       (λ s setup within. (begins g limit m s is setup within).1);
-  room = λ m r there. begun_at g limit setups are
-      (λ q. length g.opening.start + banks g + greatest q.totals * roster g < q.room) m r there
-      (λ s setup within. begun_room g limit m s setup);
 }
 
 replicas_begun : (setups : List (Option Setup))
@@ -95,13 +86,18 @@ replicas_begun [] = refl
 replicas_begun (None ∷ setups) = ap (λ rs. None ∷ rs) (replicas_begun setups)
 replicas_begun (Some s ∷ setups) = ap (λ rs. Some (begun_replica s) ∷ rs) (replicas_begun setups)
 
+-- what the members share as a group opens: a table of zeros, and no letters
+abbrev shared_at : Group → Shared
+shared_at g = record {
+  words = replicate (words_of (roster g) g.window (banks g)) 0;
+  letters = replicate (roster g) None;
+}
+
 -- their world is the opening's
-pub begun_world : (g : Group) (limit : ℕ) (setups : List (Option Setup)) → IsGroup g → AreSetups g limit setups
-    → world_of g (map (option_map begun_replica) setups) (replicate (words_of (roster g) g.window (banks g)) 0)
-    ≡ opening_world g
+begun_world : (g : Group) (limit : ℕ) (setups : List (Option Setup)) → IsGroup g → AreSetups g limit setups
+    → world_of g (map (option_map begun_replica) setups) (shared_at g) ≡ opening_world g
 begun_world g limit setups is are =
-    ap (λ rs. world_of g rs (replicate (words_of (roster g) g.window (banks g)) 0))
-    (sym (replicas_begun setups))
+    ap (λ rs. world_of g rs (shared_at g)) (sym (replicas_begun setups))
     ∙ begins_at_the_opening g limit setups is are
 
 -- ---- one by one
@@ -133,26 +129,29 @@ begun_more script start n rs qs None so_far away pushed = (
 -- what is held of a group as it opens
 abbrev begun_held : Script → Start → List (Option Setup) → Held
 begun_held script start setups =
-    let n = roster (group_of script start) in
+    let g = group_of script start in
     record {
       script = script;
       start = start;
       replicas = map (option_map begun_replica) setups;
-      table = replicate (words_of n script.window n) 0;
+      table = replicate (words_of (roster g) script.window (banks g)) 0;
+      letters = replicate (roster g) None;
     }
 
--- the replicas of the members, over a table of zeros, are a group in its opening world
+-- the replicas of the members, over a table of zeros and without letters, are a group in its opening world
 pub opened : (script : Script) (start : Start) (h : Held) (k : ℕ) → h.script ≡ script → h.start
     ≡ start → IsGroup (group_of script start)
     → script.members ≡ roster (group_of script start) → HaveBegun script start script.members h.replicas
-    → k ≡ words_of script.members script.window script.members → h.table ≡ replicate k 0
+    → k ≡ words_of script.members script.window (banks (group_of script start)) → h.table ≡ replicate k 0
+    → h.letters ≡ replicate script.members None
     → IsHeld h × (its_world h ≡ opening_world (group_of script start))
-opened script start h k same likewise is all begun words zeros =
+opened script start h k same likewise is all begun words zeros none =
     subst (λ (x : Held). IsHeld x × (its_world x ≡ opening_world (group_of script start))) (sym held) (
       record {
         group = is;
         members = begun_members g script.turns begun.0 is told;
         table = length-replicate (words_of (roster g) g.window (banks g)) 0;
+        posts = length-replicate {A = Option (List Entry)} (roster g) None;
         events = ([], begun_world g script.turns begun.0 is told);
       },
       begun_world g script.turns begun.0 is told,
@@ -165,8 +164,18 @@ opened script start h k same likewise is all begun words zeros =
     told = are_setups script start 0 begun.0 (sym all) begun.1
 
     cells : h.table ≡ replicate (words_of (roster (group_of script start)) script.window
-        (roster (group_of script start))) 0
-    cells = zeros ∙ ap (λ i. replicate i 0) (words ∙ ap (λ i. words_of i script.window i) all)
+        (banks (group_of script start))) 0
+    cells = zeros ∙ ap (λ i. replicate i 0)
+        (words ∙ ap (λ i. words_of i script.window (banks (group_of script start))) all)
+
+    letters : h.letters ≡ replicate (roster (group_of script start)) None
+    letters = none ∙ ap (λ i. replicate i None) all
 
     held : h ≡ begun_held script start begun.0
-    held = λ z. record { script = same z; start = likewise z; replicas = begun.2 z; table = cells z }
+    held = λ z. record {
+      script = same z;
+      start = likewise z;
+      replicas = begun.2 z;
+      table = cells z;
+      letters = letters z;
+    }

@@ -1,51 +1,75 @@
 -- The test of an event at the replica of its member is the guard of that event, in every world that is
 -- reached.
-use Rattle.std.proofs.Common.{◌≡◌, ◌↔◌, ℕ, ◌<◌, true}
-use Rattle.std.specs.Prelude.{Some}
+use Rattle.std.proofs.Common.{◌≡◌, ◌↔◌, refl, ℕ, ◌<◌, true, false, not, Bool, List}
+use Rattle.std.specs.Prelude.{None, Option, Some}
+use Rattle.std.proofs.lemmas.Bool.{and_from, and_parts}
+use Rattle.dr_entry.specs.declared.entry.Entry.{Entry}
 use Rattle.dr_machine.specs.declared.event.Event.{Event}
+use Rattle.dr_machine.specs.declared.step.Step.{Step}
+use Rattle.dr_machine.specs.declared.step.Step.TheVariants.{Join}
 use Rattle.dr_machine.specs.Events.{member_of, step_of}
 use Rattle.dr_machine.proofs.Presence.{in_roster}
 use Rattle.dr_machine.proofs.Runs.{events_reached}
 use Rattle.dr_machine.specs.Group.{Group, IsGroup, IsPresent, roster}
 use Rattle.dr_machine.specs.World.{World}
 use Rattle.dr_machine.specs.Acts.{Guard}
-use Rattle.dr_program.specs.Replica.{Replica}
-use Rattle.dr_program.specs.Steps.{may_take}
-use Rattle.dr_refine.specs.Programs.{IsMember}
+use Rattle.dr_program.specs.Reading.{letters_of}
+use Rattle.dr_program.specs.Replica.{Replica, is_inside}
+use Rattle.dr_program.specs.Steps.{allows, may_take}
+use Rattle.dr_refine.specs.Programs.{HasLetter, IsMember}
 use Rattle.dr_refine.proofs.Tests.{step_alive, step_test}
 use Rattle.dr_room.proofs.Bounds.{has_room}
-use Rattle.dr_world.specs.Held.{Held, its_group, its_world, IsHeld}
+use Rattle.dr_world.specs.Held.{Held, its_group, its_world, shared_of, IsHeld}
+use Rattle.dr_world.specs.Steps.{finds_letter, may_come}
 use Rattle.dr_program.specs.Presence.{present_at}
 
 -- ---- a member of what is held
 
 -- a replica that is held is a member's
 pub is_member : (h : Held) (m : ℕ) (r : Replica) → IsHeld h → present_at h.replicas m ≡ Some r
-    → IsMember (its_group h) h.replicas h.table m r
+    → IsMember (its_group h) h.replicas (shared_of h) m r
 is_member h m r is there = record {
   group = is.group;
   cells = is.table;
+  posts = is.posts;
   there = there;
   form = is.members.form m r there;
   of = is.members.of m r there;
 }
 
+-- who may join is none of its view
+pub outside_view : (r : Replica) → allows r Join ≡ true → is_inside r ≡ false
+outside_view r may = none_inside (is_inside r) may
+  where
+    none_inside : (b : Bool) → not b ≡ true → b ≡ false
+    none_inside true e = absurd (cc e)
+    none_inside false e = refl
+
 -- ---- the guard
+
+-- a letter is there where one is needed
+pub letter_test : (letter : Option (List Entry)) (s : Step)
+    → (finds_letter letter s ≡ true) ↔ HasLetter letter s
+letter_test None Join = (λ e. absurd (cc e), λ found. absurd (cc found.1))
+letter_test (Some es) Join = (λ e. (es, refl), λ found. refl)
+letter_test letter s = (λ e. tt, λ found. refl)
 
 -- the test of an event is its guard
 pub take_test : (h : Held) (e : Event) (r : Replica) → IsHeld h → present_at h.replicas (member_of e)
     ≡ Some r
-    → (may_take r (step_of e) ≡ true) ↔ Guard (its_group h) (its_world h) e
+    → (may_come (Some r) (letters_of h.letters (member_of e)) (step_of e) ≡ true)
+    ↔ Guard (its_group h) (its_world h) e
 take_test h e r is there =
-    let law = step_test (its_group h) h.replicas h.table (member_of e) r (step_of e)
-    (is_member h (member_of e) r is there) in (
-      λ may. (law.0 may).0,
-      λ can. law.1 (
+    let law = step_test (its_group h) h.replicas (shared_of h) (member_of e) r (step_of e)
+    (is_member h (member_of e) r is there) in
+    let letter = letter_test (letters_of h.letters (member_of e)) (step_of e) in (
+      λ may. let two = and_parts (may_take r (step_of e)) _ may in (law.0 (two.0, letter.0 two.1)).0,
+      λ can. let test = law.1 (
         can,
-        has_room (its_group h) h.replicas h.table (member_of e) r (step_of e)
-            (is_member h (member_of e) r is there) (is.members.room (member_of e) r there)
+        has_room (its_group h) h.replicas (shared_of h) (member_of e) r (step_of e)
+            (is_member h (member_of e) r is there) (is.members.of (member_of e) r there).room
             (events_reached (its_group h) (its_world h) is.events) can,
-      ),
+      ) in and_from (may_take r (step_of e)) _ test.0 (letter.1 test.1),
     )
 
 -- only members that are there have events, and these are of the roster

@@ -1,4 +1,5 @@
+pub mod Letters
 pub mod Guarding
 pub mod Effects
-pub mod Taking
 pub mod Beginning
+pub mod Taking

@@ -1,39 +1,48 @@
 -- What is held stays the members of the group, in a world that is reached.
-use Rattle.std.proofs.Common.{◌≡◌, ◌≢◌, refl, sym, ap, ◌∙◌, subst, ℕ, ◌+◌, ◌*◌, ◌<◌, ◌≤◌, ◌⊎◌, inl, inr, true, false, not, List, [], ◌∷◌, length, take, get_or, arith}
-use Rattle.std.specs.Prelude.{None, Some, is_some, Option}
-use Rattle.std.proofs.lemmas.Bool.{and_parts, cases_eq}
+use Rattle.std.proofs.Common.{◌≡◌, ◌≢◌, refl, sym, ap, ◌∙◌, subst, ℕ, ◌+◌, ◌<◌, ◌≤◌, ◌⊎◌, inl, inr, true, false, not, List, [], ◌∷◌, length, take, get_or, arith}
+use Rattle.std.specs.Prelude.{IfSome, None, Some, is_some, Option}
+use Rattle.std.proofs.lemmas.Bool.{and_from, and_parts, cases_eq}
 use Rattle.std.proofs.lemmas.List.{get_or_read_under, length-set, take_more}
 use Rattle.std.proofs.lemmas.Option.{same_Some}
+use Rattle.dr_entry.specs.declared.entry.Entry.{Entry}
+use Rattle.dr_form.specs.Letters.{IsFitting}
+use Rattle.dr_history.specs.History.{up_to_view}
+use Rattle.dr_history.specs.Members.{members_of}
 use Rattle.dr_restart.specs.Groups.{group_of}
 use Rattle.dr_words.specs.Layout.{words_of}
 use Rattle.dr_machine.specs.declared.event.Event.{Event}
 use Rattle.dr_machine.specs.declared.step.Step.{Step}
+use Rattle.dr_machine.specs.declared.step.Step.TheVariants.{Join, Welcome}
 use Rattle.dr_machine.specs.Events.{member_of, step_of}
-use Rattle.dr_machine.specs.Group.{Group, roster, banks}
-use Rattle.dr_machine.specs.Acts.{Guard, effect}
-use Rattle.dr_machine.specs.Run.{Happens, Run, WordsGrew}
-use Rattle.dr_program.specs.Replica.{Replica, greatest}
+use Rattle.dr_machine.specs.Group.{Group, banks, late_members}
+use Rattle.dr_machine.specs.Acts.{CanTake, Guard, effect}
+use Rattle.dr_machine.specs.Run.{ComesOfEvents, Happens, Run, WordsGrew}
+use Rattle.dr_program.specs.Replica.{Replica, is_inside, me}
 use Rattle.dr_program.specs.Form.{HasForm, IsOf}
 use Rattle.dr_machine.proofs.Runs.{events_more, events_reached, run_on}
-use Rattle.dr_program.proofs.Fixed.{Told, told, step_told, of_told}
+use Rattle.dr_program.proofs.Fixed.{Told, join_told, told, step_told, of_told}
 use Rattle.dr_world_laws.proofs.Worlds.{known, words_grew}
 use Rattle.dr_refine.proofs.Steps.{stored_length}
-use Rattle.dr_world.specs.Held.{Held, its_group, its_world, AreMembers, IsHeld}
-use Rattle.dr_program.specs.Steps.{allows, is_free, may_take, sight, stepped_over, stored}
-use Rattle.dr_world.specs.Steps.{may_come}
-use Rattle.dr_world.proofs.Guarding.{take_test, of_present, of_roster}
-use Rattle.dr_world.proofs.Effects.{after, take_effect}
+use Rattle.dr_room.proofs.Letters.{letter_fits}
+use Rattle.dr_world.specs.Held.{Held, its_group, its_world, shared_of, AreMembers, IsHeld}
+use Rattle.dr_program.specs.Reading.{letters_of}
+use Rattle.dr_program.specs.Steps.{allows, is_free, may_take, sight, stored, stored_letters}
+use Rattle.dr_world.specs.Posts.{HasLists, PostsOf, count_filled}
+use Rattle.dr_world.specs.Steps.{IsReadyFor, finds_letter, may_come, posts_after, stepped_with}
+use Rattle.dr_world.proofs.Guarding.{is_member, outside_view, take_test, of_present, of_roster}
+use Rattle.dr_world.proofs.Effects.{after, in_sight, take_effect}
+use Rattle.dr_world.proofs.Letters.{MayGet, enough_after, list_left, may_get}
 use Rattle.dr_program.specs.Presence.{present_at, with_present}
 use Rattle.dr_program.proofs.Present.{present_within, present_set, present_kept}
 
 -- ---- what no event changes of a replica
 
-room_told : (g : Group) (r q : Replica) → told q ≡ told r
-    → length g.opening.start + banks g + greatest r.totals * roster g < r.room
-    → length g.opening.start + banks g + greatest q.totals * roster g < q.room
-room_told g r q same room = subst
-    (λ (t : Told). length g.opening.start + banks g + greatest t.totals * roster g < t.room)
-    (sym same) room
+-- an event leaves what a replica was told
+with_told : (letter : Option (List Entry)) (table : List ℕ) (r : Replica) (s : Step)
+    → told (stepped_with letter table r s) ≡ told r
+with_told None table r Join = refl
+with_told (Some es) table r Join = join_told r es
+with_told letter table r s = step_told (sight table r s) r s
 
 -- ---- the members
 
@@ -57,7 +66,6 @@ members_kept g rs m r q are there form same = record {
   there = λ k below here. still k (cases_eq k m) (are.there k below here);
   form = λ k x is. by_form k x (set_cases rs m k q x within is);
   of = λ k x is. by_of k x (set_cases rs m k q x within is);
-  room = λ k x is. by_room k x (set_cases rs m k q x within is);
 }
   where
     within : m < length rs
@@ -80,51 +88,152 @@ members_kept g rs m r q are there form same = record {
         (subst (λ i. IsOf g i q) (sym here.0) (of_told g m r q same (are.of m r there)))
     by_of k x (inr other) = are.of k x other
 
-    by_room : (k : ℕ) (x : Replica) → ((k ≡ m) × (q ≡ x)) ⊎ (present_at rs k ≡ Some x)
-        → length g.opening.start + banks g + greatest x.totals * roster g < x.room
-    by_room k x (inl here) = subst
-        (λ (y : Replica). length g.opening.start + banks g + greatest y.totals * roster g < y.room)
-        here.1 (room_told g r q same (are.room m r there))
-    by_room k x (inr other) = are.room k x other
-
--- the table keeps its length
-pub stored_within : (table : List ℕ) (r : Replica) (s : Step) (n : ℕ) → length table ≡ n
-    → length (stored table r s) ≡ n
-stored_within table r s n is = stored_length table r s ∙ is
-
 -- ---- a step
 
--- a step that may be taken is allowed
-pub allowed : (r : Replica) (e : Event) → may_take r (step_of e) ≡ true → allows r (step_of e) ≡ true
-allowed r e may = (and_parts (is_free r (step_of e)) (allows r (step_of e))
-    (and_parts (not (is_some r.end)) _ may).1).1
+-- an event that may come is one that the replica of its member may take, and it finds its letter
+pub record MayHappen (h : Held) (e : Event) (r : Replica) : Type 0 where
+  pub held : IsHeld h
+  pub there : present_at h.replicas (member_of e) ≡ Some r
+  pub may : may_take r (step_of e) ≡ true
+  pub finds : finds_letter (letters_of h.letters (member_of e)) (step_of e) ≡ true
 
--- an event that the replica of its member may take happens
-pub taken_happens : (h : Held) (e : Event) (r : Replica) → IsHeld h → present_at h.replicas (member_of e)
-    ≡ Some r → may_take r (step_of e) ≡ true
-    → Guard (its_group h) (its_world h) e
-    × (its_world (after h e r) ≡ effect (its_group h) (its_world h) e)
-taken_happens h e r is there may =
-    ((take_test h e r is there).0 may, take_effect h e r is there (allowed r e may))
+-- a step that may be taken is allowed
+allowed : (r : Replica) (s : Step) → may_take r s ≡ true → allows r s ≡ true
+allowed r s may = (and_parts (is_free r s) (allows r s) (and_parts (not (is_some r.end)) _ may).1).1
+
+-- it happens
+happens_guard : (h : Held) (e : Event) (r : Replica) → MayHappen h e r → Guard (its_group h) (its_world h) e
+happens_guard h e r x = (take_test h e r x.held x.there).0
+    (and_from (may_take r (step_of e)) _ x.may x.finds)
+
+happens_effect : (h : Held) (e : Event) (r : Replica) → MayHappen h e r
+    → its_world (after h e r) ≡ effect (its_group h) (its_world h) e
+happens_effect h e r x = take_effect h e r x.held x.there (allowed r (step_of e) x.may) x.finds
+
+-- what is held after it comes of events
+happens_on : (h : Held) (e : Event) (r : Replica) → MayHappen h e r
+    → ComesOfEvents (its_group h) (its_world (after h e r))
+happens_on h e r x = events_more (its_group h) (its_world h) (its_world (after h e r)) e x.held.events
+    (inl (happens_guard h e r x, happens_effect h e r x))
+
+-- as many letters have a place
+letters_length : (letters : List (Option (List Entry))) (r : Replica) (s : Step)
+    → length (stored_letters letters r s) ≡ length letters
+letters_length letters r (Welcome j) = length-set letters j (Some (up_to_view r.history))
+letters_length letters r s = refl
 
 -- what is held after an event is held
-pub taken_held : (h : Held) (e : Event) (r : Replica) → IsHeld h → present_at h.replicas (member_of e)
-    ≡ Some r → may_take r (step_of e) ≡ true
-    → HasForm (stepped_over (stored h.table r (step_of e)) r (step_of e)) → IsHeld (after h e r)
-taken_held h e r is there may form = record {
-  group = is.group;
+happens_held : (h : Held) (e : Event) (r : Replica) → MayHappen h e r
+    → HasForm (stepped_with (letters_of h.letters (member_of e)) h.table r (step_of e)) → IsHeld (after h e r)
+happens_held h e r x form = record {
+  group = x.held.group;
   members = members_kept (its_group h) h.replicas (member_of e) r
-      (stepped_over (stored h.table r (step_of e)) r (step_of e)) is.members there form
-      (step_told (sight (stored h.table r (step_of e)) r (step_of e)) r (step_of e));
-  table = stored_length h.table r (step_of e) ∙ is.table;
-  events = events_more (its_group h) (its_world h) (its_world (after h e r)) e is.events
-      (inl (taken_happens h e r is there may));
+      (stepped_with (letters_of h.letters (member_of e)) h.table r (step_of e)) x.held.members x.there form
+      (with_told (letters_of h.letters (member_of e)) h.table r (step_of e));
+  table = stored_length h.table r (step_of e) ∙ x.held.table;
+  posts = letters_length h.letters r (step_of e) ∙ x.held.posts;
+  events = happens_on h e r x;
 }
+
+-- the words grow
+happens_grew : (h : Held) (e : Event) (r : Replica) → MayHappen h e r
+    → WordsGrew (its_group h) (its_world h) (its_world (after h e r))
+happens_grew h e r x =
+    subst (WordsGrew (its_group h) (its_world h)) (sym (happens_effect h e r x))
+    (words_grew (its_group h) (its_world h) e x.held.group (known (its_group h) (its_world h) x.held.group
+    (events_reached (its_group h) (its_world h) x.held.events))
+    (happens_guard h e r x))
+
+-- whom a welcome gives a letter has none, and a list is left for it
+happens_list : (h : Held) (e : Event) (r : Replica) (j left : ℕ) → MayHappen h e r → step_of e ≡ Welcome j
+    → length (members_of (late_members (its_group h))) ≤ left + count_filled h.letters
+    → (0 < left) × (present_at h.letters j ≡ None) × (j < length h.letters)
+happens_list h e r j left x welcome enough = (
+  list_left g (its_world (after h e r)) h.letters j left (up_to_view r.history) x.held.group
+      (events_reached g (its_world (after h e r)) (happens_on h e r x)) x.held.posts
+      (ap (λ s. letters_of (stored_letters h.letters r s)) welcome) get enough,
+  get.none,
+  get.within,
+)
+  where
+    g : Group
+    g = its_group h
+
+    get : MayGet (its_group h) h.letters j
+    get = may_get g (its_world h) h.letters (member_of e) j x.held.group
+        (events_reached g (its_world h) x.held.events) x.held.posts refl
+        (subst (CanTake g (its_world h) (member_of e)) welcome (happens_guard h e r x))
+
+-- so enough lists are left for all others
+happens_lists : (h : Held) (e : Event) (r q : Replica) (p : PostsOf) → MayHappen h e r → p.letters ≡ h.letters
+    → told q ≡ told r → HasLists (its_group h) h.replicas p
+    → HasLists (its_group h) (with_present h.replicas (member_of e) q) (posts_after p r (step_of e))
+happens_lists h e r q p x same as_told lists = record {
+  enough = enough_after p.letters p.left (length (members_of (late_members (its_group h)))) r (step_of e) lists.enough
+      (λ j welcome. subst (λ ls. (0 < p.left) × (present_at ls j ≡ None) × (j < length ls)) (sym same)
+      (happens_list h e r j p.left x welcome
+      (subst (λ ls. length (members_of (late_members (its_group h))) ≤ p.left + count_filled ls) same lists.enough)));
+  room = λ k y is. by k y (set_cases h.replicas (member_of e) k q y
+      (present_within h.replicas (member_of e) r x.there) is);
+}
+  where
+    by : (k : ℕ) (y : Replica) → ((k ≡ member_of e) × (q ≡ y)) ⊎ (present_at h.replicas k ≡ Some y)
+        → y.room ≤ p.room
+    by k y (inl here) = subst (λ (z : Replica). z.room ≤ p.room) here.1
+        (subst (λ (t : Told). t.room ≤ p.room) (sym as_told) (lists.room (member_of e) r x.there))
+    by k y (inr other) = lists.room k y other
+
+-- a late member that joins finds a letter that fits it
+happens_fitting : (h : Held) (e : Event) (r : Replica) → MayHappen h e r → step_of e ≡ Join
+    → IfSome (letters_of h.letters (member_of e)) (IsFitting r)
+happens_fitting h e r x join = by (letters_of h.letters (member_of e)) refl
+  where
+    outside : is_inside r ≡ false
+    outside = outside_view r (subst (λ s. allows r s ≡ true) join (allowed r (step_of e) x.may))
+
+    by : (o : Option (List Entry)) → letters_of h.letters (member_of e) ≡ o → IfSome o (IsFitting r)
+    by None f = tt
+    by (Some letter) f = letter_fits (its_group h) h.replicas (shared_of h) (member_of e) r letter
+        (is_member h (member_of e) r x.held x.there)
+        (events_reached (its_group h) (its_world h) x.held.events) outside f
+
+-- the table has the words of the shape that its replicas know
+words_within : (h : Held) (m : ℕ) (r : Replica) → IsHeld h → present_at h.replicas m ≡ Some r
+    → length h.table ≡ words_of r.roster r.window r.banks
+words_within h m r is there =
+    let of : IsOf (its_group h) m r = is.members.of m r there in
+    is.table
+    ∙ ap (λ n. words_of n (its_group h).window (banks (its_group h))) (sym of.members)
+    ∙ ap (λ w. words_of r.roster w (banks (its_group h))) (sym of.window)
+    ∙ ap (words_of r.roster r.window) (sym of.banks)
+
+-- all is there that the event asks for
+pub happens_ready : (h : Held) (e : Event) (r : Replica) (p : PostsOf) → MayHappen h e r → p.letters ≡ h.letters
+    → HasLists (its_group h) h.replicas p → IsReadyFor r h.table p (step_of e)
+happens_ready h e r p x same lists = record {
+  may = x.may;
+  words = words_within h (member_of e) r x.held x.there;
+  posts = ap length same ∙ x.held.posts ∙ sym of.members;
+  sight = λ i c look. in_sight h e r i c x.held x.there
+      (subst (λ s. allows r s ≡ true) look (allowed r (step_of e) x.may));
+  fitting = λ join. subst (λ o. IfSome o (IsFitting r)) letter (happens_fitting h e r x join);
+  list = λ j welcome. (happens_list h e r j p.left x welcome
+      (subst (λ ls. length (members_of (late_members (its_group h))) ≤ p.left + count_filled ls) same lists.enough)).0;
+  room = lists.room (member_of e) r x.there;
+}
+  where
+    of : IsOf (its_group h) (member_of e) r
+    of = x.held.members.of (member_of e) r x.there
+
+    letter : letters_of h.letters (member_of e) ≡ letters_of p.letters (me r)
+    letter = ap (letters_of h.letters) (sym of.number) ∙ ap (λ ls. letters_of ls (me r)) (sym same)
+
+-- ---- an event that can't come
 
 -- an event that whoever stands at the place of its member may not take can't come, nor can one of a number that
 -- nobody has
 pub refused : (h : Held) (e : Event) (m : ℕ) (o : Option Replica) → IsHeld h → m ≡ member_of e
-    → present_at h.replicas m ≡ o → may_come o (step_of e) ≡ false
+    → present_at h.replicas m ≡ o → may_come o (letters_of h.letters (member_of e)) (step_of e) ≡ false
     → ¬ Guard (its_group h) (its_world h) e
 refused h e m (Some r) is number there not_may can =
     let at = ap (present_at h.replicas) (sym number) ∙ there in
@@ -141,16 +250,11 @@ pub nobody : (h : Held) (e : Event) → IsHeld h → length h.replicas ≤ membe
 nobody h e is past can = absurd
     (omega (arith, of_roster (its_group h) (its_world h) e is.group can, is.members.all, past))
 
--- the words grow
-pub taken_grew : (h : Held) (e : Event) (r : Replica) → IsHeld h → present_at h.replicas (member_of e)
-    ≡ Some r → may_take r (step_of e) ≡ true
-    → WordsGrew (its_group h) (its_world h) (its_world (after h e r))
-taken_grew h e r is there may =
-    let happens = taken_happens h e r is there may in
-    subst (WordsGrew (its_group h) (its_world h)) (sym happens.1)
-    (words_grew (its_group h) (its_world h) e is.group (known (its_group h) (its_world h) is.group
-    (events_reached (its_group h) (its_world h) is.events))
-    happens.0)
+-- an event that was refused
+pub refused_event : (h now : Held) (e : Event) → h ≡ now → (¬ Guard (its_group h) (its_world h) e)
+    → Happens (its_group now) (its_world now) e (its_world now)
+refused_event h now e same not_now =
+    inr (subst (λ (v : Held). ¬ Guard (its_group v) (its_world v) e) same not_now, refl)
 
 -- ---- as the program finds them
 
@@ -160,41 +264,31 @@ pub place_at : (rs : List (Option Replica)) (m n : ℕ) (o : Option Replica) →
 place_at rs m n o long within read = sym (get_or_read_under rs m n o None read within long)
 
 -- a step that may come there is one of a replica that stands there
-pub may_stand : (h : Held) (m n : ℕ) (e : Event) (first then : Option Replica) → n ≡ length h.replicas
+pub may_stand : (h : Held) (m n : ℕ) (e : Event) (first then : Option Replica) (letter : Option (List Entry))
+    → n ≡ length h.replicas
     → m < n → first ≡ get_or h.replicas m first → then ≡ get_or h.replicas m then
-    → may_come first (step_of e) ≡ true → then ≡ None → ⊥
-may_stand h m n e first then long within one other may none =
+    → may_come first letter (step_of e) ≡ true → then ≡ None → ⊥
+may_stand h m n e first then letter long within one other may none =
     let same : first ≡ None = sym (place_at h.replicas m n first long within one)
     ∙ place_at h.replicas m n then long within other ∙ none in
-    absurd (cc (may, ap (λ o. may_come o (step_of e)) same))
+    absurd (cc (may, ap (λ o. may_come o letter (step_of e)) same))
 
--- and that one may take it
-pub may_still : (h : Held) (m n : ℕ) (e : Event) (first then : Option Replica) (r : Replica)
-    → n ≡ length h.replicas → m < n → first ≡ get_or h.replicas m first → then ≡ get_or h.replicas m then
-    → may_come first (step_of e) ≡ true → then ≡ Some r
-    → (present_at h.replicas m ≡ Some r) × (may_take r (step_of e) ≡ true)
-may_still h m n e first then r long within one other may some =
+-- and that event comes
+pub may_still : (h : Held) (m n : ℕ) (e : Event) (first then : Option Replica) (letter : Option (List Entry))
+    (r : Replica)
+    → IsHeld h → m ≡ member_of e → n ≡ length h.replicas → m < n → first ≡ get_or h.replicas m first
+    → then ≡ get_or h.replicas m then → letter ≡ letters_of h.letters (member_of e)
+    → may_come first letter (step_of e) ≡ true → then ≡ Some r → MayHappen h e r
+may_still h m n e first then letter r is number long within one other found may some =
     let there : present_at h.replicas m ≡ Some r = place_at h.replicas m n then long within other ∙ some in
-    let before : present_at h.replicas m ≡ first = place_at h.replicas m n first long within one in (
-      there,
-      sym (ap (λ o. may_come o (step_of e)) (sym before ∙ there)) ∙ may,
-    )
-
--- the table has the words of the shape that its replicas know
-pub words_within : (h : Held) (m : ℕ) (r : Replica) → IsHeld h → present_at h.replicas m ≡ Some r
-    → length h.table ≡ words_of r.roster r.window r.banks
-words_within h m r is there =
-    let of : IsOf (its_group h) m r = is.members.of m r there in
-    is.table
-    ∙ ap (λ n. words_of n (its_group h).window (roster (its_group h))) (sym of.members)
-    ∙ ap (λ w. words_of r.roster w (roster (its_group h))) (sym of.window)
-    ∙ ap (words_of r.roster r.window) (sym of.banks)
-
--- an event that was refused
-pub refused_event : (h now : Held) (e : Event) → h ≡ now → (¬ Guard (its_group h) (its_world h) e)
-    → Happens (its_group now) (its_world now) e (its_world now)
-refused_event h now e same not_now =
-    inr (subst (λ (v : Held). ¬ Guard (its_group v) (its_world v) e) same not_now, refl)
+    let before : present_at h.replicas m ≡ first = place_at h.replicas m n first long within one in
+    let both = and_parts (may_take r (step_of e)) _
+    (sym (ap (λ o. may_come o letter (step_of e)) (sym before ∙ there)) ∙ may) in record {
+      held = is;
+      there = ap (present_at h.replicas) (sym number) ∙ there;
+      may = both.0;
+      finds = ap (λ o. finds_letter o (step_of e)) (sym found) ∙ both.1;
+    }
 
 -- an event that was taken at the replica of its member
 pub record Took (h : Held) (e : Event) (after : Held) : Type 0 where
@@ -203,31 +297,45 @@ pub record Took (h : Held) (e : Event) (after : Held) : Type 0 where
   pub held : IsHeld after
   pub grew : WordsGrew (its_group h) (its_world h) (its_world after)
 
+-- what the program holds after it
+abbrev pub holding : Held → ℕ → Replica → List ℕ → PostsOf → Held
+holding h m q cells p = record h { replicas = with_present h.replicas m q; table = cells; letters = p.letters }
+
 -- so an event happens
-pub took : (h : Held) (e : Event) (m : ℕ) (r q : Replica) (cells : List ℕ) → IsHeld h → m
-    ≡ member_of e → present_at h.replicas m ≡ Some r → may_take r (step_of e) ≡ true
-    → cells ≡ stored h.table r (step_of e) → q ≡ stepped_over cells r (step_of e) → HasForm q
-    → Took h e (record h { replicas = with_present h.replicas m q; table = cells })
-took h e m r q cells is number there may stores takes form =
-    subst (Took h e) (sym same) (record {
-      guard = happens.0;
-      effect = happens.1;
-      held = taken_held h e r is at may (subst HasForm replica form);
-      grew = taken_grew h e r is at may;
-    })
+pub took : (h : Held) (e : Event) (m : ℕ) (r q : Replica) (cells : List ℕ) (p posts : PostsOf) → MayHappen h e r
+    → m ≡ member_of e → p.letters ≡ h.letters → HasLists (its_group h) h.replicas p
+    → q ≡ stepped_with (letters_of p.letters (me r)) h.table r (step_of e) → cells ≡ stored h.table r (step_of e)
+    → posts ≡ posts_after p r (step_of e) → HasForm q
+    → Took h e (holding h m q cells posts) × HasLists (its_group h) (with_present h.replicas m q) posts
+took h e m r q cells p posts x number same lists takes stores gives form = (
+  subst (Took h e) (sym now) (record {
+    guard = happens_guard h e r x;
+    effect = happens_effect h e r x;
+    held = happens_held h e r x (subst HasForm replica form);
+    grew = happens_grew h e r x;
+  }),
+  subst (λ k. HasLists (its_group h) (with_present h.replicas k q) posts) (sym number)
+      (subst (HasLists (its_group h) (with_present h.replicas (member_of e) q)) (sym gives)
+      (happens_lists h e r q p x same (ap told replica
+      ∙ with_told (letters_of h.letters (member_of e)) h.table r (step_of e)) lists)),
+)
   where
-    at : present_at h.replicas (member_of e) ≡ Some r
-    at = ap (present_at h.replicas) (sym number) ∙ there
+    letter : letters_of p.letters (me r) ≡ letters_of h.letters (member_of e)
+    letter = ap (λ ls. letters_of ls (me r)) same
+        ∙ ap (letters_of h.letters) (x.held.members.of (member_of e) r x.there).number
 
-    replica : q ≡ stepped_over (stored h.table r (step_of e)) r (step_of e)
-    replica = takes ∙ ap (λ t. stepped_over t r (step_of e)) stores
+    replica : q ≡ stepped_with (letters_of h.letters (member_of e)) h.table r (step_of e)
+    replica = takes ∙ ap (λ l. stepped_with l h.table r (step_of e)) letter
 
-    same : record h { replicas = with_present h.replicas m q; table = cells } ≡ after h e r
-    same = λ z. record h { replicas = with_present h.replicas (number z) (replica z); table = stores z }
+    given : posts.letters ≡ stored_letters h.letters r (step_of e)
+    given = ap (λ (y : PostsOf). y.letters) gives ∙ ap (λ ls. stored_letters ls r (step_of e)) same
 
-    happens : Guard (its_group h) (its_world h) e
-        × (its_world (after h e r) ≡ effect (its_group h) (its_world h) e)
-    happens = taken_happens h e r is at may
+    now : holding h m q cells posts ≡ after h e r
+    now = λ z. record h {
+      replicas = with_present h.replicas (number z) (replica z);
+      table = stores z;
+      letters = given z;
+    }
 
 -- one event more of a list
 pub ran_more : (first old new : Held) (events : List Event) (i : ℕ) (d : Event) → old.script

@@ -1,14 +1,18 @@
 //! What a world opens with.
-ghost use Rattle.std.specs.Prelude.{◌≡◌, ◌<◌, IfOk};
+ghost use Rattle.std.specs.Prelude.{◌≡◌, ℕ, ◌<◌, ◌≤◌, IfOk, None, Some, length, replicate};
+ghost use Rattle.dr_history.specs.Members.{members_of};
 ghost use Rattle.dr_history.specs.Order.{first_entries};
-ghost use Rattle.dr_machine.specs.Group.{IsGroup};
+ghost use Rattle.dr_machine.specs.Group.{IsGroup, late_members};
+ghost use Rattle.dr_program.specs.Presence.{present_at};
+ghost use Rattle.dr_program.specs.Replica.{Replica as ReplicaOf};
 ghost use Rattle.dr_script.specs.Ranges.{HasGroupRanges};
 ghost use Rattle.dr_restart.specs.Groups.{group_of};
 ghost use Rattle.dr_world.specs.Begun.{HasReplica, HaveBegun};
 
+use crate::posts::Posts;
 use dr_entry::{Entry, Seq};
 use dr_replica::Replica;
-use dr_restart::{Start, copy_entries, copy_messages, setup_of};
+use dr_restart::{Start, copy_entries, copy_messages, late_of, setup_of};
 use dr_script::Script;
 use dr_words::Mask;
 use std::alloc::{AllocError, Global};
@@ -48,6 +52,44 @@ fn replica_of(
     }
     let setup = setup_of(alloc, script, start, 0, me)?;
     Ok(Some(Replica::begin(alloc, setup)?))
+}
+
+/// No letters, and the memory for one of each late member, with room for the history of any of these replicas.
+pub(crate) fn no_posts(
+    alloc: Global,
+    script: &Script,
+    start: &Start,
+    replicas: &[Option<Replica>],
+) -> Result<Posts, AllocError>
+    ensures letters { IfOk result (λ posts. posts.letters ≡ replicate script.now.members None) }
+    ensures left { IfOk result (λ posts.
+        posts.left ≡ length (members_of (late_members (group_of script.now start.now)))) }
+    ensures room { IfOk result (λ posts.
+        (m : ℕ) (r : ReplicaOf) → present_at replicas.now m ≡ Some r → r.room ≤ posts.room) }
+{
+    let late = late_of(start).count();
+    Posts::none(alloc, script.members, late, most_room(replicas))
+}
+
+/// The room of the replica that has the most for its history.
+fn most_room(replicas: &[Option<Replica>]) -> usize
+    ensures { (m : ℕ) (r : ReplicaOf) → present_at replicas.now m ≡ Some r → r.room ≤ result }
+{
+    let mut most = 0;
+    for place in replicas {
+        if let Some(replica) = place {
+            most = most.max(room_of(replica));
+        }
+    }
+    most
+}
+
+/// How many entries the history of a replica has room for.
+fn room_of(replica: &Replica) -> usize
+    ensures { result ≡ replica.now.room }
+{
+    let _ = replica.me();
+    replica.appends_left() + replica.logged() as usize
 }
 
 /// The entries that every history of the age begins with.

@@ -9,12 +9,13 @@ ghost use Rattle.dr_program.specs.Presence.{present_at};
 ghost use Rattle.dr_restart.specs.Groups.{group_of};
 ghost use Rattle.dr_world.specs.Held.{AreMembers, its_group, its_world};
 
-use crate::opening::{copy_script, first_entries, replicas_of};
-use crate::steps::{may_come, store, take};
+use crate::opening::{copy_script, first_entries, no_posts, replicas_of};
+use crate::posts::Posts;
+use crate::steps::{carry_out, may_come};
 use dr_entry::{Entry, SentItem};
 use dr_machine::Event;
 use dr_replica::Replica;
-use dr_restart::{Start, shape_of};
+use dr_restart::{Start, late_of, shape_of};
 use dr_script::Script;
 use dr_words::{Mask, Shape};
 use std::alloc::{AllocError, Global};
@@ -30,6 +31,7 @@ pub struct World {
     // A place for each member of the roster, which is empty where the member is absent.
     replicas: Vec<Option<Replica>>,
     table: Vec<u64>,
+    posts: Posts,
 }
 
 impl Model for World {
@@ -58,12 +60,15 @@ impl World {
         ensures script { IfOk result (λ w. w.script ≡ script.now) }
         ensures start { IfOk result (λ w. w.start ≡ start.now) }
     {
+        let replicas = replicas_of(alloc, script, start)?;
+        let posts = no_posts(alloc, script, start, replicas.as_slice())?;
         Ok(World {
             script: copy_script(alloc, script)?,
             start: start.copy(alloc)?,
             first: first_entries(alloc, script, start)?,
-            replicas: replicas_of(alloc, script, start)?,
-            table: vec![in alloc; 0; shape_of(script).words()]?,
+            replicas,
+            table: vec![in alloc; 0; shape_of(script, start).words()]?,
+            posts,
         })
     }
 
@@ -77,16 +82,16 @@ impl World {
         ensures start { self.new.start ≡ self.old.start }
         ensures grown { WordsGrew (its_group self.old) (its_world self.old) (its_world self.new) }
     {
-        let m = usize::from(event.member());
-        if m >= self.replicas.len() || !may_come(&self.replicas[m], event) {
+        let number = event.member();
+        let m = usize::from(number);
+        let letter = self.posts.letter(number);
+        if m >= self.replicas.len() || !may_come(&self.replicas[m], letter, event) {
             return false;
         }
         let Some(replica) = &mut self.replicas[m] else {
             unreachable!()
         };
-        let table = self.table.as_mut_slice();
-        store(replica, table, event);
-        take(replica, table, event);
+        carry_out(replica, self.table.as_mut_slice(), &mut self.posts, event);
         true
     }
 
@@ -210,7 +215,7 @@ impl World {
         Shape {
             members,
             window: self.script.window,
-            banks: members,
+            banks: members + late_of(&self.start).count(),
         }
     }
 

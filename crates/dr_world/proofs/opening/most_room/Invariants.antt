@@ -1,0 +1,9 @@
+use Rattle.std.proofs.Common.{◌≡◌, ℕ, ◌<◌, ◌≤◌}
+use Rattle.std.specs.Prelude.{Some}
+use Rattle.dr_program.specs.Presence.{present_at}
+use Rattle.dr_program.specs.Replica.{Replica}
+use Rattle.dr_world.proofs.opening.most_room.Given as goal
+
+abbrev pub invariant-loop-place : goal.invariant-loop-place
+invariant-loop-place l = (m : ℕ) → m < l.place-index → (r : Replica) → present_at l.replicas m ≡ Some r
+    → r.room ≤ l.most

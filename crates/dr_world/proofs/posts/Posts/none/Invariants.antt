@@ -1,0 +1,7 @@
+use Rattle.std.proofs.Common.{◌≡◌, replicate}
+use Rattle.std.specs.Prelude.{None}
+use Rattle.dr_world.specs.InsidePosts.{letters_in}
+use Rattle.dr_world.proofs.posts.Posts.none.Given as goal
+
+abbrev pub invariant-loop : goal.invariant-loop
+invariant-loop l = letters_in l.letters.items ≡ replicate l.counter None
