@@ -1,10 +1,11 @@
 -- An age begins as the program of its script, sound and in the world as the age opens.
 use Rattle.std.proofs.Common.{◌≡◌, sym, ap, ◌∙◌, ℕ, ◌+◌, ◌≤◌, List, [], ◌∷◌, ◌++◌, length, replicate}
 use Rattle.std.proofs.lemmas.List.{map-append}
+use Rattle.dr_entry.specs.declared.entry.Entry.{Entry}
 use Rattle.dr_script.specs.declared.script.Script.{Script}
 use Rattle.dr_words.specs.Layout.{words_of}
 use Rattle.std.specs.Prelude.{None, Option, Some, option_map}
-use Rattle.dr_machine.specs.Group.{IsGroup}
+use Rattle.dr_machine.specs.Group.{IsGroup, banks}
 use Rattle.dr_program.specs.Running.{Running, begun_running}
 use Rattle.dr_program.specs.Program.{Program}
 use Rattle.dr_program_laws.proofs.Schedules.{age_begins_reached, begun_program_of}
@@ -37,17 +38,20 @@ begun_more script start nth n rs qs None so_far away pushed = record {
       ∙ sym (map-append (option_map begun_running) so_far.setups (None ∷ []));
 }
 
--- all members, over a table of zeros, are the program as the age opens
+-- all members, over a table of zeros and no letters, are the program as the age opens
 pub is_begun : (script : Script) (start : Start) (nth : ℕ) (members : List (Option Running)) (table : List ℕ)
+    (letters : List (Option (List Entry)))
     → HaveBegun script start nth script.members members → length script.messages ≡ script.members
-    → table ≡ replicate (words_of script.members script.window script.members) 0
-    → IsBegun script start nth (record { members = members; table = table })
-is_begun script start nth members table begun lists zeros = (
+    → table ≡ replicate (words_of script.members script.window (banks (group_of script start))) 0
+    → letters ≡ replicate script.members None
+    → IsBegun script start nth (record { members = members; table = table; letters = letters })
+is_begun script start nth members table letters begun lists zeros none = (
   begun.setups,
   begun.are,
   λ z. record {
     members = begun.begun z;
-    table = (zeros ∙ ap (λ n. replicate (words_of n script.window n) 0) (sym lists)) z;
+    table = (zeros ∙ ap (λ n. replicate (words_of n script.window (banks (group_of script start))) 0) (sym lists)) z;
+    letters = (none ∙ ap (λ n. replicate n None) (sym lists)) z;
   },
 )
 

@@ -1,29 +1,32 @@
 -- What the next deed of a member says of the step that is due to it.
 use Rattle.std.proofs.Common.{◌≡◌, refl, ap, subst, ℕ, false, true, List, [], length, slice_index, ltb-true}
 use Rattle.std.specs.Prelude.{All, Option, None, Some, slice_set}
+use Rattle.std.proofs.lemmas.Bool.{and_parts}
 use Rattle.dr_entry.specs.declared.end.End.{End}
+use Rattle.dr_entry.specs.declared.entry.Entry.{Entry}
 use Rattle.dr_entry.specs.declared.entry.Entry.TheVariants.{View}
 use Rattle.dr_entry.specs.Spelling.{IsValid, IsValidEntry}
 use Rattle.dr_entry.specs.declared.record.Record.{Record}
 use Rattle.dr_machine.specs.declared.event.Act.{Act}
 use Rattle.dr_machine.specs.declared.step.Step.{Step}
-use Rattle.dr_machine.specs.declared.step.Step.TheVariants.{Do, Append, LogVote}
+use Rattle.dr_machine.specs.declared.step.Step.TheVariants.{Do, Append, Join, LogVote, Welcome}
 use Rattle.dr_program.specs.declared.deed.Deed.{Deed}
 use Rattle.dr_program.specs.declared.deed.Deed.TheVariants as deeds
 use Rattle.dr_program.specs.declared.outcome.Outcome.{Outcome}
 use Rattle.dr_program.specs.Form.{HasForm, IsRunningMember}
 use Rattle.dr_program.specs.Program.{after_deed, appended_as}
 use Rattle.dr_entry.specs.declared.record.Value.{Value}
-use Rattle.dr_program.specs.Replica.{Replica, may_vote, vote_of}
-use Rattle.dr_program.specs.Running.{Running, after_step, crashes_now, deed, deed_of, next_deed, next_step, step_at}
+use Rattle.dr_program.specs.Replica.{Replica, is_inside, may_append, may_vote, vote_of}
+use Rattle.dr_program.specs.Running.{Running, after_step, crashes_now, deed, deed_of, next_deed, next_step, settled, step_at, took_letter}
 use Rattle.dr_program.specs.Turn.{part_of}
 use Rattle.dr_program.specs.declared.place.Part.{Part}
 use Rattle.dr_program.specs.declared.place.Part.TheVariants as parts
 use Rattle.dr_program.proofs.StepsAt.{append_either, push_either, vote_either}
 use Rattle.dr_program.proofs.Voting.{vote_room, vote_valid, votes_for}
 use Rattle.dr_program.proofs.Waiting.{append_free}
-use Rattle.dr_program.specs.Steps.{IsAppend, allows, sight, stepped, stored}
+use Rattle.dr_program.specs.Steps.{IsAppend, allows, sight, stepped, stored, stored_letters}
 use Rattle.dr_refine.proofs.Deeds.{due_allowed}
+use Rattle.dr_refine.specs.Programs.{IsNoJoin}
 use Rattle.dr_logged.specs.Appended.{IsAppendDue, MayLog, is_append, record_due, record_of}
 
 -- ---- a step, by its deed
@@ -34,12 +37,16 @@ pub record IsLookAt (words : List ℕ) (r : Running) (s : Step) (index : ℕ) : 
   pub column : ℕ
   pub look : s ≡ step_at r parts.Look row column
   pub sees : sight words r.replica s ≡ slice_index words index
+  pub no_join : IsNoJoin s
+  pub posts : (letters : List (Option (List Entry))) → stored_letters letters r.replica s ≡ letters
 
 -- it stores this word at this index
 pub record IsStoreAt (words : List ℕ) (r : Running) (s : Step) (index word : ℕ) : Type 0 where
   pub other : is_append s ≡ false
   pub sees : sight words r.replica s ≡ 0
   pub stores : stored words r.replica s ≡ slice_set words index word
+  pub no_join : IsNoJoin s
+  pub posts : (letters : List (Option (List Entry))) → stored_letters letters r.replica s ≡ letters
 
 -- what a deed says of its step over these words
 abbrev pub Says : List ℕ → Running → Step → Deed → Type 0
@@ -47,6 +54,8 @@ Says words r s (deeds.Look index) = IsLookAt words r s index
 Says words r s (deeds.Push index word) = IsStoreAt words r s index word
 Says words r s (deeds.Act index word) = IsStoreAt words r s index word
 Says words r s (deeds.Append due) = IsAppend s × (due ≡ record_of r s)
+Says words r s (deeds.Give j) = s ≡ Welcome j
+Says words r s deeds.Take = s ≡ Join
 Says words r s (deeds.Rest end) = ⊥
 
 -- the deed that the step is says so
@@ -54,16 +63,21 @@ abbrev SaysOf : List ℕ → Running → Step → Type 0
 SaysOf words r s = Says words r s (deed_of r s)
 
 act_says : (words : List ℕ) (r : Running) (a : Act) → SaysOf words r (Do a)
-act_says words r a = record { other = refl; sees = refl; stores = refl }
+act_says words r a =
+    record { other = refl; sees = refl; stores = refl; no_join = tt; posts = λ letters. refl }
 
 says : (words : List ℕ) (r : Running) (part : Part) (i c : ℕ) → SaysOf words r (step_at r part i c)
-says words r parts.Look i c = record { row = i; column = c; look = refl; sees = refl }
+says words r parts.Look i c =
+    record { row = i; column = c; look = refl; sees = refl; no_join = tt; posts = λ letters. refl }
 says words r parts.Append i c =
     append_either (SaysOf words r) r.failed (tt, refl) (λ why. act_says words r _)
 says words r parts.Vote i c =
     vote_either (SaysOf words r) r.failed _ (tt, refl) (λ why. act_says words r _)
 says words r parts.Push i c = push_either (SaysOf words r) (crashes_now r) i c
-    (record { other = refl; sees = refl; stores = refl }) (act_says words r _)
+    (record { other = refl; sees = refl; stores = refl; no_join = tt; posts = λ letters. refl })
+    (act_says words r _)
+says words r parts.Give i c = refl
+says words r parts.Take i c = refl
 says words r part i c = act_says words r _
 
 -- so it is with the next deed of a member that has not ended
@@ -93,19 +107,31 @@ tells words r = by r.replica.end refl
 pub deed_tells : (words : List ℕ) (r : Running) (d : Deed) → next_deed r ≡ d → Tells words r d
 deed_tells words r d is = subst (Tells words r) is (tells words r)
 
--- however an append goes, another deed is its step
-pub any_outcome : (word : ℕ) (o : Outcome) (r : Running) (s : Step) → is_append s ≡ false
-    → after_deed word o r s ≡ after_step word r
-any_outcome word o r Append other = absurd (cc)
-any_outcome word o r (LogVote v) other = absurd (cc)
-any_outcome word o r s other = refl
+-- however an append goes, and whatever letter is there, another deed is its step
+pub any_outcome : (word : ℕ) (letter : Option (List Entry)) (o : Outcome) (r : Running) (s : Step)
+    → is_append s ≡ false → IsNoJoin s → after_deed word letter o r s ≡ after_step word r
+any_outcome word letter o r Append other no_join = absurd (cc)
+any_outcome word letter o r (LogVote v) other no_join = absurd (cc)
+any_outcome word letter o r Join other no_join = absurd no_join
+any_outcome word letter o r s other no_join = refl
 
--- an append is done by how it goes, and leaves the words as they are
-pub after_append : (word : ℕ) (o : Outcome) (r : Running) (s : Step) → IsAppend s
-    → after_deed word o r s ≡ appended_as o r
-after_append word o r Append is = refl
-after_append word o r (LogVote v) is = refl
-after_append word o r s is = absurd is
+-- a take goes by the letter
+pub after_take : (word : ℕ) (letter : Option (List Entry)) (o : Outcome) (r : Running) (s : Step) → s ≡ Join
+    → after_deed word letter o r s ≡ settled (took_letter letter r)
+after_take word letter o r s is = ap (after_deed word letter o r) is
+
+-- an append is done by how it goes, and leaves the words and the letters as they are
+pub after_append : (word : ℕ) (letter : Option (List Entry)) (o : Outcome) (r : Running) (s : Step)
+    → IsAppend s → after_deed word letter o r s ≡ appended_as o r
+after_append word letter o r Append is = refl
+after_append word letter o r (LogVote v) is = refl
+after_append word letter o r s is = absurd is
+
+pub posted_append : (letters : List (Option (List Entry))) (r : Replica) (s : Step) → IsAppend s
+    → stored_letters letters r s ≡ letters
+posted_append letters r Append is = refl
+posted_append letters r (LogVote v) is = refl
+posted_append letters r s is = absurd is
 
 pub stored_append : (words : List ℕ) (r : Replica) (s : Step) → IsAppend s → stored words r s ≡ words
 stored_append words r Append is = refl
@@ -131,16 +157,25 @@ pub at_act : (r : Running) (index word : ℕ) → next_deed r ≡ deeds.Act inde
     → is_append (next_step r) ≡ false
 at_act r index word is = (deed_tells [] r (deeds.Act index word) is).says.other
 
+-- a give is a welcome, and a take a join
+pub at_give : (r : Running) (j : ℕ) → next_deed r ≡ deeds.Give j → next_step r ≡ Welcome j
+at_give r j is = (deed_tells [] r (deeds.Give j) is).says
+
+pub at_take : (r : Running) → next_deed r ≡ deeds.Take → next_step r ≡ Join
+at_take r is = (deed_tells [] r deeds.Take is).says
+
 -- an append that is allowed is of the next entry, which is there, or of a vote
 may_log : (r : Running) (s : Step) → HasForm r.replica → IsAppend s → allows r.replica s ≡ true
     → r.replica.pending ≡ None → MayLog r s
-may_log r Append form is may free = ltb-true r.replica.logged (length r.replica.history) may
-may_log r (LogVote v) form is may free = record {
-  may = subst (λ (x : Value). may_vote r.replica x ≡ true) (votes_for r.replica v may) may;
-  is = ap (vote_of r.replica) (votes_for r.replica v may);
-  valid = vote_valid r.replica v form may;
-  few = vote_room r.replica v form free may;
-}
+may_log r Append form is both free = ltb-true r.replica.logged (length r.replica.history)
+    (and_parts (is_inside r.replica) (may_append r.replica) both).1
+may_log r (LogVote v) form is both free =
+    let may = (and_parts (is_inside r.replica) (may_vote r.replica v) both).1 in record {
+      may = subst (λ (x : Value). may_vote r.replica x ≡ true) (votes_for r.replica v may) may;
+      is = ap (vote_of r.replica) (votes_for r.replica v may);
+      valid = vote_valid r.replica v form may;
+      few = vote_room r.replica v form free may;
+    }
 may_log r s form is may free = absurd is
 
 -- and its record is valid where the entries of the member's history are

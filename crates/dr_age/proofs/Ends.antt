@@ -1,5 +1,5 @@
 -- The logs of an age: how they begin, and what has come of them where all members have ended.
-use Rattle.std.proofs.Common.{◌≡◌, refl, sym, ap, ◌∙◌, subst, inl, inr, ℕ, ◌+◌, ◌*◌, ◌<◌, ◌≤◌, false, List, [], ◌∷◌, ◌++◌, length, map, drop, drop_at, take, true, true≢false, arith, le_trans, length-append, length-take}
+use Rattle.std.proofs.Common.{◌≡◌, refl, sym, ap, ◌∙◌, subst, inl, inr, ℕ, ◌+◌, ◌*◌, ◌<◌, ◌≤◌, false, List, [], ◌∷◌, ◌++◌, length, map, drop, drop_at, take, true, true≢false, arith, le_of_eq, le_refl, le_trans, length-append, length-take}
 use Rattle.std.proofs.Math.Nat.{mul-le-mul}
 use Rattle.std.proofs.lemmas.List.{length-map}
 use Rattle.std.specs.Prelude.{All, IsTrue, Option, None, Some, is_some, option_map, slice_get, slice_index_or, unwrap_or}
@@ -23,12 +23,12 @@ use Rattle.dr_log.specs.State.{LogState}
 use Rattle.dr_log.specs.Standing.{log_length, votes_length}
 use Rattle.dr_log.proofs.Growing.{short_block, short_log_length}
 use Rattle.dr_log_bytes.specs.Content.{block_length}
-use Rattle.dr_machine.specs.Group.{Group, IsGroup, IsPresent, roster}
+use Rattle.dr_machine.specs.Group.{Group, IsGroup, IsPresent, banks, roster}
 use Rattle.dr_program.specs.declared.outcome.LogWhy.{LogWhy}
 use Rattle.dr_program.specs.declared.outcome.LogWhy.TheVariants as whys
 use Rattle.dr_program.specs.declared.setup.Setup.{Setup}
 use Rattle.dr_program.specs.Program.{AllEnded, AreSetups, IsRanFrom, IsSetup, Program, begun_program, end_at, end_of}
-use Rattle.dr_program.specs.Reading.{world}
+use Rattle.dr_program.specs.Reading.{table_of, world}
 use Rattle.dr_program.specs.Running.{Running, begun_running, end_by}
 use Rattle.dr_program.proofs.Holdings.{held_of}
 use Rattle.dr_program.proofs.Voting.{votes_within}
@@ -41,7 +41,7 @@ use Rattle.dr_restart.specs.Groups.{group_of}
 use Rattle.dr_restart.specs.Setups.{IsBegun}
 use Rattle.dr_restart.proofs.Setups.{are_setups}
 use Rattle.dr_script.specs.declared.script.Script.{Script}
-use Rattle.dr_room.proofs.Bounds.{history_small}
+use Rattle.dr_room.proofs.Bounds.{history_below}
 use Rattle.dr_refine.proofs.Deeds.{program_member, replicas}
 use Rattle.dr_world_laws.proofs.Messages.{valid_history}
 use Rattle.dr_world_laws.proofs.Worlds.{holds_messages, known}
@@ -232,7 +232,7 @@ long_log vs es ws valid few =
 votes_there : (g : Group) (p : Program) (m : ℕ) (r : Running) → IsSound g p
     → present_at p.members m ≡ Some r → (world g p).past.votes m ≡ r.replica.votes
 votes_there g p m r is there =
-    ap (λ h. h.votes) (held_of g (replicas p.members) p.table m r.replica
+    ap (λ h. h.votes) (held_of g (replicas p.members) (table_of p) m r.replica
     (program_member g p m r is.group is.form there).there)
 
 -- a log with room enough isn't full for a member of a sound program
@@ -250,20 +250,24 @@ ample_log {D} told count g p m r base log len is there ample at served =
 
     valid : All IsValidEntry r.replica.history
     valid = subst (All IsValidEntry) same (valid_history g ((world g p).past.history m) is.group
-        (holds_messages g (world g p) m (known g (world g p) is.group is.reached) below))
+        (holds_messages g (world g p) m is.group (known g (world g p) is.group is.reached) below))
 
-    small : length r.replica.history ≤ length g.opening.start + MAX_MEMBERS + MAX_MESSAGES * MAX_MEMBERS
-    small = subst (λ h. length h ≤ length g.opening.start + MAX_MEMBERS + MAX_MESSAGES * MAX_MEMBERS) same
-        (history_small g (world g p) m is.group is.reached below)
-
-    banks : r.replica.banks ≤ MAX_MEMBERS
-    banks = omega (arith, (is.form.of m r there).banks, is.group.most_members)
+    small : length r.replica.history ≤ length g.opening.start + banks g + MAX_MESSAGES * MAX_MEMBERS
+    small = omega (
+      arith,
+      ap length same,
+      history_below g (world g p) m MAX_MESSAGES is.group is.reached below is.group.messages,
+      mul-le-mul (le_refl MAX_MESSAGES) is.group.most_members,
+    )
 
     members : r.replica.roster ≤ MAX_MEMBERS
     members = omega (arith, (is.form.of m r there).members, is.group.most_members)
 
-    few : length r.replica.votes ≤ MAX_MEMBERS * MAX_MEMBERS
-    few = le_trans (votes_within r.replica (is.form.form m r there).replica) (mul-le-mul banks members)
+    ballots : r.replica.banks * r.replica.roster ≤ banks g * MAX_MEMBERS
+    ballots = mul-le-mul (le_of_eq (is.form.of m r there).banks) members
+
+    few : length r.replica.votes ≤ banks g * MAX_MEMBERS
+    few = le_trans (votes_within r.replica (is.form.form m r there).replica) ballots
 
     short : All (λ (v : Vote). v.members ≤ MAX_MEMBERS) r.replica.votes
     short k d within =
@@ -335,8 +339,7 @@ ample_log {D} told count g p m r base log len is there ample at served =
         )
     by (records.Vote v) due over =
         let block : block_length (records.Vote v) ≤ 73 = short_vote v due.valid.members in
-        let most = mul-le-mul banks members in
-        omega (arith, over, block, long, as_long, all, due.few, most, small, ample.limit, came.limit)
+        omega (arith, over, block, long, as_long, all, due.few, ballots, small, ample.limit, came.limit)
     by (records.AgeVote v) due over = due
     by (records.Cut keep) due over = due
     by records.Upgrade due over = due

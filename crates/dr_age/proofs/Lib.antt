@@ -3,3 +3,4 @@ pub mod Deeds
 pub mod Ends
 pub mod Sound
 pub mod Lasting
+pub mod Letters

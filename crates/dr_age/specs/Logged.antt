@@ -7,7 +7,7 @@ use Rattle.dr_entry.specs.declared.limits.TheConstants.{MAX_MEMBERS, MAX_MESSAGE
 use Rattle.dr_disk.specs.Disk.{Told}
 use Rattle.dr_history.specs.Order.{first_entries}
 use Rattle.dr_log.specs.State.{LogState}
-use Rattle.dr_machine.specs.Group.{Group, IsPresent, roster}
+use Rattle.dr_machine.specs.Group.{Group, IsPresent, banks, roster}
 use Rattle.dr_program.specs.declared.outcome.LogWhy.{LogWhy}
 use Rattle.dr_program.specs.declared.outcome.LogWhy.TheVariants as whys
 use Rattle.dr_program.specs.Presence.{present_at}
@@ -51,12 +51,12 @@ abbrev pub NoneFull : List MemberEnd → Type 0
 NoneFull members = All (λ (e : MemberEnd). IsNotFull e.end) members
 
 -- The limit of a log is enough for what stands on it and for all that an age may bring: 72 bytes for each
--- entry that it has not yet, of those of the start, 16 Views, and 4,096 messages of each of 16 members, and 73
--- for each vote more, of which there may be 16 in each view.
+-- entry that it has not yet, of those of the start, a View for each bank, and 4,096 messages of each of 16 members,
+-- and 73 for each vote more, of which there may be 16 in each view.
 pub record IsAmple {D : Type 0} (g : Group) (log : LogState D) : Type 0 where
   pub limit : log.content.length
-      + 72 * (length g.opening.start + MAX_MEMBERS + MAX_MESSAGES * MAX_MEMBERS - length log.content.entries)
-      + 73 * (MAX_MEMBERS * MAX_MEMBERS) ≤ log.limit
+      + 72 * (length g.opening.start + banks g + MAX_MESSAGES * MAX_MEMBERS - length log.content.entries)
+      + 73 * (banks g * MAX_MEMBERS) ≤ log.limit
 
 -- so it is with each of these logs
 abbrev pub AreAmple : {D : Type 0} → Group → List (Option (LogState D)) → Type 0

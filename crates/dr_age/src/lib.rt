@@ -3,7 +3,9 @@
 #![tactic(auto)]
 
 mod ending;
+mod laws;
 mod opening;
 
 pub use ending::ends_of;
+pub use laws::letters_are_for_late_members;
 pub use opening::begun_members;

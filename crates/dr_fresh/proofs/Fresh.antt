@@ -11,6 +11,7 @@ use Rattle.dr_history.specs.Members.{has}
 use Rattle.dr_log.specs.State.{LogState}
 use Rattle.dr_log_bytes.specs.Content.{OnLog, empty_of}
 use Rattle.dr_log_bytes.specs.Grammar.{IsDamaged, StandFor}
+use Rattle.dr_machine.proofs.Presence.{late_few}
 use Rattle.dr_machine.specs.Group.{Group, IsGroup, roster}
 use Rattle.dr_program.specs.Presence.{present_at}
 use Rattle.dr_program.proofs.Present.{present_within}
@@ -114,7 +115,17 @@ pub fresh_limit : {D : Type 0} (start : Start) (most : ℕ) (logs : List (Option
 fresh_limit start most logs fresh m log there = (fresh_there start most m logs log fresh there).1.limit
 
 pub fresh_ample : {D : Type 0} (script : Script) (start : Start) (logs : List (Option (LogState D)))
-    → start.entries ≡ [] → AllFresh start 2147483648 logs → AreAmple (group_of script start) logs
-fresh_ample script start logs none fresh m log there =
-    let is = (fresh_there start 2147483648 m logs log fresh there).1 in
-    record { limit = omega (arith, is.long, is.limit, ap length none, ap length is.entries) }
+    → IsGroup (group_of script start) → start.entries ≡ [] → AllFresh start 2147483648 logs
+    → AreAmple (group_of script start) logs
+fresh_ample script start logs group none fresh m log there =
+    let is = (fresh_there start 2147483648 m logs log fresh there).1 in record {
+      limit = omega (
+        arith,
+        is.long,
+        is.limit,
+        ap length none,
+        ap length is.entries,
+        group.most_members,
+        late_few (group_of script start),
+      );
+    }

@@ -8,7 +8,7 @@ use Rattle.dr_entry.specs.declared.end.End.{End}
 use Rattle.dr_script.specs.declared.script.Schedule.TheVariants.{Seed}
 use Rattle.dr_program.specs.declared.outcome.Outcome.TheVariants as outcomes
 use Rattle.dr_program.specs.Running.{Running, next_step}
-use Rattle.dr_program.specs.Program.{AllEnded, Move, Program, after_deed, moved_by, next_sight, ran, step_of, went, has_ended}
+use Rattle.dr_program.specs.Program.{AllEnded, Move, Program, after_deed, has_ended, letter_for, moved_by, next_sight, ran, step_of, went}
 use Rattle.dr_program.specs.Schedule.{next_state, choice_of, going, AreChosen}
 use Rattle.dr_program.specs.declared.outcome.Outcome.{Outcome}
 use Rattle.dr_sim.specs.Simulated.{HasRun, SomeFailed, WentWell}
@@ -124,7 +124,7 @@ others_go p e k other = by (present_at p.members e.member)
     at : (r : Running) (o : Option End) → goes (went p r e o) k ≡ goes p k
     at r None = ap (λ o. not (has_ended o))
         (present_kept p.members e.member k
-        (after_deed (next_sight p.table r) e.outcome r (next_step r)) other)
+        (after_deed (next_sight p.table r) (letter_for p e.member) e.outcome r (next_step r)) other)
     at r (Some end) = refl
 
     by : (o : Option Running) → goes (moved_by p o e) k ≡ goes p k
@@ -221,6 +221,12 @@ picked x p xs ys n j listed same counted left chosen = record {
 
     place : j ≡ choice_of (next_state x) (length (going p))
     place = chosen ∙ ap (choice_of (next_state x)) (counted ∙ ap length listed)
+
+-- the state that the generator is left in chooses this place once more
+pub chosen_place : (x y s n k j : ℕ) → s ≡ y → y ≡ next_state x → n ≡ k → j ≡ choice_of (next_state x) n
+    → choice_of s k ≡ j
+chosen_place x y s n k j kept next counted chosen =
+    ap (λ z. choice_of z k) (kept ∙ next) ∙ ap (choice_of (next_state x)) (sym counted) ∙ sym chosen
 
 -- the program has run by the seed, and the watcher was told of it
 abbrev pub HasRunTold : {W : Type 0} → (W → Running → List ℕ → W → Type 0) → W → W → ℕ → Program → Program → Type 0

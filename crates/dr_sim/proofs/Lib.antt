@@ -4,6 +4,8 @@ mod Steps
 mod Outcomes
 mod Logs
 mod Places
+mod Lists
+mod Begun
 mod Rooms
 mod Tellings
 mod Turns

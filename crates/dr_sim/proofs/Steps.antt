@@ -7,19 +7,21 @@ use Rattle.std.proofs.lemmas.Option.{same_Some}
 use Rattle.dr_words.specs.Layout.{words_of}
 use Rattle.dr_machine.specs.Group.{Group}
 use Rattle.dr_program.specs.Form.{IsRunningMember}
-use Rattle.dr_program.specs.Running.{Running}
+use Rattle.dr_program.specs.Running.{Running, next_step}
 use Rattle.dr_program.specs.declared.outcome.LogWhy.{LogWhy}
 use Rattle.dr_program.specs.declared.outcome.Outcome.{Outcome}
 use Rattle.dr_program.specs.declared.outcome.Outcome.TheVariants.{Ok}
-use Rattle.dr_program.specs.Program.{Move, Program, step_of, has_ended}
+use Rattle.dr_entry.specs.declared.entry.Entry.{Entry}
+use Rattle.dr_program.specs.Program.{Move, Program, after_deed, has_ended, letter_for, next_sight, step_of}
+use Rattle.dr_program.specs.Reading.{letters_of}
 use Rattle.dr_refine.proofs.Deeds.{step_is}
 use Rattle.dr_program_laws.proofs.Keeping.{move_kept, sees}
 use Rattle.dr_member.specs.Deeds.{table_size}
 use Rattle.dr_turn.specs.Work.{deeds_left}
-use Rattle.dr_sim.specs.Deeds.{SeesWell, member_after, outcome_by, stores, table_after, went_so}
+use Rattle.dr_sim.specs.Deeds.{IsTaken, SeesWell, outcome_by, own_letter, posted, stores, went_so}
 use Rattle.dr_sim.specs.Simulated.{SomeFailed}
 use Rattle.dr_age.specs.Sound.{IsSound}
-use Rattle.dr_sim.specs.Sound.{IsAmong, TookDeed, move, left_at}
+use Rattle.dr_sim.specs.Sound.{IsAmong, TookDeed, move, left_at, program_over}
 use Rattle.dr_program.specs.Presence.{present_at, with_present}
 use Rattle.dr_program.proofs.Present.{present_within, present_set}
 
@@ -35,42 +37,47 @@ pub record HasStepped (g : Group) (p : Program) (m : ℕ) (q : Program) : Type 0
   pub well : (outcome ≡ Ok) ⊎ SomeFailed q
   pub sound : IsSound g q
 
+-- the letter for it is its own
+pub own_there : (g : Group) (p : Program) (m : ℕ) (r : Running) → IsSound g p → present_at p.members m ≡ Some r
+    → own_letter p.letters r ≡ letter_for p m
+own_there g p m r is there = ap (letters_of p.letters) (is.form.of m r there).number
+
 -- a member takes its step, and the others stay
-pub stepped : (g : Group) (p : Program) (m : ℕ) (r x : Running) (cells : List ℕ) → IsSound g p
-    → present_at p.members m ≡ Some r → r.replica.end ≡ None
-    → x ≡ member_after p.table (outcome_by x.failed) r → cells ≡ table_after p.table r
-    → HasStepped g p m (record { members = with_present p.members m x; table = cells })
-stepped g p m r x cells is there none member table = record {
+pub stepped : (g : Group) (p : Program) (m : ℕ) (r x : Running) (cells : List ℕ)
+    (mails : List (Option (List Entry))) → IsSound g p
+    → present_at p.members m ≡ Some r → r.replica.end ≡ None → IsTaken p.table p.letters r cells mails x
+    → HasStepped g p m (program_over (with_present p.members m x) cells mails)
+stepped g p m r x cells mails is there none taken = record {
   outcome = outcome_by x.failed;
   step = step;
   well = well x.failed refl;
   sound = subst (IsSound g) (sym step) (move_sound g p (move m (outcome_by x.failed)) is);
 }
   where
-    step : record { members = with_present p.members m x; table = cells }
-        ≡ step_of p (move m (outcome_by x.failed))
+    member : x ≡ after_deed (next_sight p.table r) (letter_for p m) (outcome_by x.failed) r (next_step r)
+    member = taken.member ∙ ap (went_so p.table (own_letter p.letters r) (outcome_by x.failed) r) none
+        ∙ ap (λ l. after_deed (next_sight p.table r) l (outcome_by x.failed) r (next_step r)) (own_there g p m r is there)
+
+    step : program_over (with_present p.members m x) cells mails ≡ step_of p (move m (outcome_by x.failed))
     step =
-        (λ z. record {
-          members = with_present p.members m ((member
-              ∙ ap (went_so p.table (outcome_by x.failed) r) none) z);
-          table = (table ∙ ap (stores p.table r) none) z;
-        })
+        (λ z. program_over (with_present p.members m (member z)) ((taken.table ∙ ap (stores p.table r) none) z)
+        ((taken.letters ∙ ap (posted p.letters r) none) z))
         ∙ sym (step_is p (move m (outcome_by x.failed)) r there none)
 
     well : (o : Option LogWhy) → x.failed ≡ o → (outcome_by o ≡ Ok)
-        ⊎ SomeFailed (record { members = with_present p.members m x; table = cells })
+        ⊎ SomeFailed (program_over (with_present p.members m x) cells mails)
     well None at = inl refl
     well (Some why) at =
         inr (m, x, why, present_set p.members m x (present_within p.members m r there), at)
 
 -- and where its deeds left fall, those of all do
-pub took : (g : Group) (p : Program) (m : ℕ) (r x : Running) (cells : List ℕ) → IsSound g p
-    → present_at p.members m ≡ Some r → r.replica.end ≡ None
-    → x ≡ member_after p.table (outcome_by x.failed) r → cells ≡ table_after p.table r
+pub took : (g : Group) (p : Program) (m : ℕ) (r x : Running) (cells : List ℕ)
+    (mails : List (Option (List Entry))) → IsSound g p
+    → present_at p.members m ≡ Some r → r.replica.end ≡ None → IsTaken p.table p.letters r cells mails x
     → deeds_left x < deeds_left r
-    → TookDeed g p m (record { members = with_present p.members m x; table = cells })
-took g p m r x cells is there none member table falls =
-    let now = stepped g p m r x cells is there none member table in
+    → TookDeed g p m (program_over (with_present p.members m x) cells mails)
+took g p m r x cells mails is there none taken falls =
+    let now = stepped g p m r x cells mails is there none taken in
     record {
       outcome = now.outcome;
       step = now.step;
@@ -105,50 +112,52 @@ whole_table g p m r is there =
     (λ z. words_of (of.members z) (of.window z) (of.banks z)) ∙ sym is.form.table
 
 -- so there is one at its number
-pub going_there : (rs : List (Option Running)) (cells : List ℕ) (now : Program) (m : ℕ)
-    → record { members = rs; table = cells } ≡ now
+pub going_there : (rs : List (Option Running)) (cells : List ℕ)
+    (posts : List (Option (List Entry))) (now : Program) (m : ℕ) → program_over rs cells posts ≡ now
     → has_ended (present_at now.members m) ≡ false → m < length rs
-going_there rs cells now m is going =
+going_there rs cells posts now m is going =
     subst (λ (v : Program). has_ended (present_at v.members m) ≡ false → m < length rs) is
     (going_within rs m) going
 
 -- the place that is read at its number, and the member that stands there
-pub place_read : (rs : List (Option Running)) (cells : List ℕ) (now : Program) (m : ℕ) (o : Option Running)
-    → record { members = rs; table = cells } ≡ now → m < length now.members → o ≡ get_or rs m o
+pub place_read : (rs : List (Option Running)) (cells : List ℕ) (posts : List (Option (List Entry)))
+    (now : Program) (m : ℕ) (o : Option Running) → program_over rs cells posts ≡ now → m < length now.members → o ≡ get_or rs m o
     → present_at now.members m ≡ o
-place_read rs cells now m o is within read =
+place_read rs cells posts now m o is within read =
     subst (λ (v : Program). m < length v.members → present_at v.members m ≡ o) is
     (λ below. sym (get_or_read rs m o below read None)) within
 
-pub member_read : (rs : List (Option Running)) (cells : List ℕ) (now : Program) (m : ℕ) (o : Option Running)
-    (r : Running) → record { members = rs; table = cells } ≡ now
+pub member_read : (rs : List (Option Running)) (cells : List ℕ) (posts : List (Option (List Entry)))
+    (now : Program) (m : ℕ) (o : Option Running) (r : Running) → program_over rs cells posts ≡ now
     → has_ended (present_at now.members m) ≡ false → o ≡ get_or rs m o → o ≡ Some r
     → present_at now.members m ≡ Some r
-member_read rs cells now m o r is going read some =
+member_read rs cells posts now m o r is going read some =
     subst (λ (v : Program). has_ended (present_at v.members m) ≡ false → present_at v.members m
     ≡ Some r) is
     (λ goes. sym (get_or_read rs m o (going_within rs m goes) read None) ∙ some) going
 
 -- a member that has not ended stands at its place
-pub goes_there : (rs : List (Option Running)) (cells : List ℕ) (now : Program) (m : ℕ) (o : Option Running)
-    → record { members = rs; table = cells } ≡ now → has_ended (present_at now.members m) ≡ false
+pub goes_there : (rs : List (Option Running)) (cells : List ℕ) (posts : List (Option (List Entry)))
+    (now : Program) (m : ℕ) (o : Option Running) → program_over rs cells posts ≡ now → has_ended (present_at now.members m) ≡ false
     → o ≡ get_or rs m o → o ≡ None → ⊥
-goes_there rs cells now m o is going read none =
+goes_there rs cells posts now m o is going read none =
     absurd (cc (
       going,
-      ap has_ended (place_read rs cells now m o is
-          (subst (λ (v : Program). m < length v.members) is (going_there rs cells now m is going)) read ∙ none),
+      ap has_ended (place_read rs cells posts now m o is
+          (subst (λ (v : Program). m < length v.members) is (going_there rs cells posts now m is going)) read ∙ none),
     ))
 
 -- so it is one of the program
-pub among_read : (g : Group) (rs : List (Option Running)) (cells words : List ℕ) (now : Program) (m : ℕ)
-    (o : Option Running) (r : Running) → record { members = rs; table = cells } ≡ now → IsSound g now
+pub among_read : (g : Group) (rs : List (Option Running)) (cells words : List ℕ)
+    (posts : List (Option (List Entry))) (now : Program) (m : ℕ) (o : Option Running) (r : Running)
+    → program_over rs cells posts ≡ now → IsSound g now
     → has_ended (present_at now.members m) ≡ false → o ≡ get_or rs m o → o ≡ Some r → words ≡ cells
-    → IsAmong g now m r words
-among_read g rs cells words now m o r is sound going read some same = record {
+    → IsAmong g now m r words posts
+among_read g rs cells words posts now m o r is sound going read some same = record {
   sound = sound;
-  there = member_read rs cells now m o r is going read some;
+  there = member_read rs cells posts now m o r is going read some;
   table = sym (same ∙ ap (λ (v : Program). v.table) is);
+  letters = sym (ap (λ (v : Program). v.letters) is);
 }
 
 -- what is so of the member that was put at a number is so of the one that stands there

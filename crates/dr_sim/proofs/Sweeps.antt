@@ -1,5 +1,5 @@
 -- Sweeps: what comes of a program, and of a log, by looks and pushes of one member.
-use Rattle.std.proofs.Common.{◌≡◌, refl, sym, ap, ◌∙◌, subst, inl, inr, ℕ, zero, suc, ◌<◌, ◌≤◌, true, false, ◌||◌, List, length, length-append, le_of_eq, arith}
+use Rattle.std.proofs.Common.{◌≡◌, refl, sym, ap, ◌∙◌, subst, inl, inr, ℕ, zero, suc, ◌<◌, ◌≤◌, true, false, ◌||◌, List, [], length, length-append, le_of_eq, arith}
 use Rattle.std.specs.Prelude.{Option, None, Some, is_some}
 use Rattle.std.proofs.lemmas.List.Sums.{sum_by-set}
 use Rattle.dr_disk.specs.Disk.{Told}
@@ -22,18 +22,24 @@ use Rattle.dr_program.specs.Reading.{step_of_member}
 use Rattle.dr_program.specs.Running.{Running, after_step, deed, deed_of, next_deed, next_step, step_at}
 use Rattle.dr_program.specs.Sight.{MaySee}
 use Rattle.dr_program.specs.Schedule.{IsTurn, is_between_turns}
-use Rattle.dr_program.specs.Steps.{stored}
+use Rattle.dr_program.specs.Steps.{stored, stored_letters}
+use Rattle.dr_refine.specs.Programs.{IsNoJoin}
+use Rattle.dr_machine.specs.declared.step.Step.{Step}
+use Rattle.dr_entry.specs.declared.entry.Entry.{Entry}
 use Rattle.dr_program.specs.Turn.{is_beat, part_of}
 use Rattle.dr_turn.specs.Work.{deeds_left}
 use Rattle.dr_age.specs.Sound.{IsSound}
-use Rattle.dr_age.proofs.Deeds.{at_look, at_push}
-use Rattle.dr_sim.specs.Deeds.{member_after, outcome_by, table_after}
+use Rattle.dr_age.proofs.Deeds.{at_look, at_push, deed_tells}
+use Rattle.dr_sim.specs.Deeds.{IsTaken}
+use Rattle.dr_world.specs.Posts.{PostsOf}
+use Rattle.dr_sim.specs.Lists.{HasSpare}
 use Rattle.dr_sim.specs.Places.{HasServedAt, IsReadyAt}
 use Rattle.dr_sim.specs.Simulated.{WentWell}
-use Rattle.dr_sim.specs.Sound.{IsAmong, IsSomewhere, all_left, with_member, left_at}
+use Rattle.dr_sim.specs.Sound.{IsAmong, IsSomewhere, all_left, left_at, program_over, with_member}
 use Rattle.dr_sim.specs.Sweeps.{HasGoneOn}
 use Rattle.dr_sim.specs.Watched.{TakesNoNote, WasTold}
-use Rattle.dr_sim.proofs.Deeds.{IsTaken, other_taken}
+use Rattle.dr_sim.proofs.Deeds.{other_taken}
+use Rattle.dr_sim.proofs.Lists.{lists_still, taken_told}
 use Rattle.dr_sim.proofs.Steps.{HasStepped, sees_well, stepped, whole_table}
 use Rattle.dr_sim.proofs.Turns.{HasTurn, IsInTurn, IsUnderWay, more_moves, set_twice, stands, turn_ends, turn_goes_on}
 use Rattle.dr_program.specs.Presence.{present_at, with_present}
@@ -41,12 +47,21 @@ use Rattle.dr_program.proofs.Present.{present_within, present_set}
 
 -- ---- a member at a look or a push
 
--- the deed is no append
-no_append : (r : Running) (d : Deed) → next_deed r ≡ d → (is_look d || is_push d) ≡ true
-    → is_append (next_step r) ≡ false
-no_append r (deeds.Look index) next due = at_look r index next
-no_append r (deeds.Push index word) next due = at_push r index word next
-no_append r d next due = absurd (cc)
+-- the deed is no append, no take, and gives no letter
+record IsPlain (r : Running) (s : Step) : Type 0 where
+  pub other : is_append s ≡ false
+  pub no_join : IsNoJoin s
+  pub posts : (letters : List (Option (List Entry))) → stored_letters letters r.replica s ≡ letters
+
+is_plain : (r : Running) (d : Deed) → next_deed r ≡ d → (is_look d || is_push d) ≡ true
+    → IsPlain r (next_step r)
+is_plain r (deeds.Look index) next due =
+    let t = deed_tells [] r (deeds.Look index) next in
+    record { other = at_look r index next; no_join = t.says.no_join; posts = t.says.posts }
+is_plain r (deeds.Push index word) next due =
+    let t = deed_tells [] r (deeds.Push index word) next in
+    record { other = at_push r index word next; no_join = t.says.no_join; posts = t.says.posts }
+is_plain r d next due = absurd (cc)
 
 -- nor does it begin a turn
 no_beat : (r : Running) (p : Part) (i c : ℕ) → let d = deed_of r (step_at r p i c) in
@@ -58,6 +73,8 @@ no_beat r p i c due = refl
 pub record IsSweeping (r : Running) : Type 0 where
   pub none : r.replica.end ≡ None
   pub other : is_append (next_step r) ≡ false
+  pub no_join : IsNoJoin (next_step r)
+  pub posts : (letters : List (Option (List Entry))) → stored_letters letters r.replica (next_step r) ≡ letters
   pub amid : is_between_turns (Some r) ≡ false
 
 pub at_sweep : (r : Running) → IsAtSweep r → IsSweeping r
@@ -68,56 +85,64 @@ at_sweep r due = by r.replica.end refl due
     by (Some end) e kind = absurd (cc)
     by None e kind = record {
       none = e;
-      other = no_append r (next_deed r) refl due;
+      other = (is_plain r (next_deed r) refl due).other;
+      no_join = (is_plain r (next_deed r) refl due).no_join;
+      posts = (is_plain r (next_deed r) refl due).posts;
       amid = ap (λ o. is_some o || is_beat (part_of r.place)) e
           ∙ no_beat r (part_of r.place) r.place.row r.place.column kind;
     }
 
 -- what its next deed makes of it and of the table
-pub swept_taken : (words : List ℕ) (r : Running) → IsSweeping r
-    → IsTaken words r (stored words r.replica (next_step r)) (after_step (next_sight words r) r)
-swept_taken words r is = other_taken words r _ _ is.none is.other refl refl
+pub swept_taken : (words : List ℕ) (posts : List (Option (List Entry))) (r : Running) → IsSweeping r
+    → IsTaken words posts r (stored words r.replica (next_step r)) posts (after_step (next_sight words r) r)
+swept_taken words posts r is =
+    other_taken words posts r _ posts _ is.none is.other is.no_join refl refl (sym (is.posts posts))
 
 -- ---- a member of some sound program
 
 -- it is one of a sound program after its next deed too
-pub somewhere_on : (r x : Running) (words cells : List ℕ) → IsSomewhere r words → r.replica.end ≡ None
-    → IsTaken words r cells x → IsSomewhere x cells
-somewhere_on r x words cells (g, p, m, is) none taken =
-    let now = stepped g p m r x cells is.sound is.there none
-    (subst (λ t. x ≡ member_after t (outcome_by x.failed) r) (sym is.table) taken.member)
-    (subst (λ t. cells ≡ table_after t r) (sym is.table) taken.table) in (
+pub somewhere_on : (r x : Running) (words cells : List ℕ) (posts mails : List (Option (List Entry)))
+    → IsSomewhere r words posts → r.replica.end ≡ None → IsTaken words posts r cells mails x
+    → IsSomewhere x cells mails
+somewhere_on r x words cells posts mails (g, p, m, is) none taken =
+    let now = stepped g p m r x cells mails is.sound is.there none
+    (subst (λ (t : List ℕ). IsTaken t p.letters r cells mails x) (sym is.table)
+    (subst (λ (t : List (Option (List Entry))). IsTaken words t r cells mails x) (sym is.letters) taken)) in (
       g,
-      record { members = with_present p.members m x; table = cells },
+      program_over (with_present p.members m x) cells mails,
       m,
       record {
         sound = now.sound;
         there = present_set p.members m x (present_within p.members m r is.there);
         table = refl;
+        letters = refl;
       },
     )
 
 -- so it is wherever looks and pushes lead it
-pub leads_somewhere : (n : ℕ) (words : List ℕ) (r : Running) (cells : List ℕ) (q : Running)
-    → LeadsTo n words r cells q → IsSomewhere r words → IsSomewhere q cells
-leads_somewhere zero words r cells q (same, is) somewhere = subst (IsSomewhere q) same
-    (subst (λ x. IsSomewhere x words) is somewhere)
-leads_somewhere (suc n) words r cells q (due, rest) somewhere =
-    leads_somewhere n _ _ cells q rest
-    (somewhere_on r (after_step (next_sight words r) r) words (stored words r.replica (next_step r)) somewhere
-    (at_sweep r due).none (swept_taken words r (at_sweep r due)))
+pub leads_somewhere : (n : ℕ) (words : List ℕ) (posts : List (Option (List Entry))) (r : Running)
+    (cells : List ℕ) (q : Running) → LeadsTo n words r cells q → IsSomewhere r words posts
+    → IsSomewhere q cells posts
+leads_somewhere zero words posts r cells q (same, is) somewhere = subst (λ t. IsSomewhere q t posts) same
+    (subst (λ x. IsSomewhere x words posts) is somewhere)
+leads_somewhere (suc n) words posts r cells q (due, rest) somewhere =
+    leads_somewhere n _ posts _ cells q rest
+    (somewhere_on r (after_step (next_sight words r) r) words (stored words r.replica (next_step r)) posts posts
+    somewhere (at_sweep r due).none (swept_taken words posts r (at_sweep r due)))
 
 -- and it may see there what it looks at
-pub sees_along : (words : List ℕ) (r : Running) → IsSomewhere r words → SeesAlong words r
-sees_along words r somewhere n q lead due =
-    let (g, p, m, is) = leads_somewhere n words r words q lead somewhere in
+pub sees_along : (words : List ℕ) (posts : List (Option (List Entry))) (r : Running) → IsSomewhere r words posts
+    → SeesAlong words r
+sees_along words posts r somewhere n q lead due =
+    let (g, p, m, is) = leads_somewhere n words posts r words q lead somewhere in
     subst (λ t. MaySee q (step_of_member q) (next_sight t q)) is.table
     (sees_well g p m q is.sound is.there q.place.row q.place.column
     (look_step q (is.sound.form.form m q is.there) due))
 
 -- the table has all words that it may name
-pub whole_words : (words : List ℕ) (r : Running) → IsSomewhere r words → table_size r ≤ length words
-whole_words words r (g, p, m, is) =
+pub whole_words : (words : List ℕ) (posts : List (Option (List Entry))) (r : Running) → IsSomewhere r words posts
+    → table_size r ≤ length words
+whole_words words posts r (g, p, m, is) =
     le_of_eq (whole_table g p m r is.sound is.there ∙ ap length is.table)
 
 -- ---- a turn
@@ -136,65 +161,67 @@ pub record HasTurned {W : Type 0} (sees : W → Running → List ℕ → W → T
 
 -- it has, or it is still amid it, as its place says
 pub record HasGone {W : Type 0} (sees : W → Running → List ℕ → W → Type 0) (old new : W) (g : Group)
-    (p : Program) (m : ℕ) (x : Running) (cells : List ℕ) : Type 0 where
-  pub amid : is_between_turns (Some x) ≡ false → IsOnWay sees old new g p m (with_member p m x cells)
-  pub whole : is_between_turns (Some x) ≡ true → HasTurned sees old new g p m (with_member p m x cells)
+    (p : Program) (m : ℕ) (x : Running) (cells : List ℕ) (posts : List (Option (List Entry))) : Type 0 where
+  pub amid : is_between_turns (Some x) ≡ false → IsOnWay sees old new g p m (with_member p m x cells posts)
+  pub whole : is_between_turns (Some x) ≡ true → HasTurned sees old new g p m (with_member p m x cells posts)
 
 -- its next deed there
-steps_there : (g : Group) (p : Program) (m : ℕ) (x y : Running) (cells next : List ℕ) → m < length p.members
-    → IsSound g (with_member p m x cells) → x.replica.end ≡ None → IsTaken cells x next y
-    → HasStepped g (with_member p m x cells) m (with_member p m y next)
-steps_there g p m x y cells next within sound none taken =
-    subst (λ rs. HasStepped g (with_member p m x cells) m (record { members = rs; table = next }))
+steps_there : (g : Group) (p : Program) (m : ℕ) (x y : Running) (cells next : List ℕ)
+    (posts mails : List (Option (List Entry))) → m < length p.members
+    → IsSound g (with_member p m x cells posts) → x.replica.end ≡ None → IsTaken cells posts x next mails y
+    → HasStepped g (with_member p m x cells posts) m (with_member p m y next mails)
+steps_there g p m x y cells next posts mails within sound none taken =
+    subst (λ rs. HasStepped g (with_member p m x cells posts) m (program_over rs next mails))
     (set_twice p.members m (Some x) (Some y))
-    (stepped g (with_member p m x cells) m x y next sound (present_set p.members m x within) none
-    taken.member taken.table)
+    (stepped g (with_member p m x cells posts) m x y next mails sound (present_set p.members m x within) none taken)
 
 gone_by : {W : Type 0} {sees : W → Running → List ℕ → W → Type 0} {old mid : W} (new : W) (g : Group)
-    (p : Program) (m : ℕ) (x y : Running) (cells next : List ℕ) → m < length p.members
-    → IsOnWay sees old mid g p m (with_member p m x cells) → x.replica.end ≡ None → IsTaken cells x next y
-    → sees mid x cells new → HasGone sees old new g p m y next
-gone_by new g p m x y cells next within way none taken seen =
-    let step = steps_there g p m x y cells next within way.sound none taken in
+    (p : Program) (m : ℕ) (x y : Running) (cells next : List ℕ) (posts mails : List (Option (List Entry)))
+    → m < length p.members → IsOnWay sees old mid g p m (with_member p m x cells posts)
+    → x.replica.end ≡ None → IsTaken cells posts x next mails y
+    → sees mid x cells new → HasGone sees old new g p m y next mails
+gone_by new g p m x y cells next posts mails within way none taken seen =
+    let step = steps_there g p m x y cells next posts mails within way.sound none taken in
     let there = present_set p.members m x within in
     record {
       amid = λ amid. record {
         sound = step.sound;
-        turn = turn_goes_on new m step.outcome p (with_member p m x cells) (with_member p m y next) x way.turn
-            step.step step.well (stands p m y next false within amid) there seen;
+        turn = turn_goes_on new m step.outcome p (with_member p m x cells posts) (with_member p m y next mails) x
+            way.turn step.step step.well (stands p m y next mails false within amid) there seen;
       };
       whole = λ whole.
-          let turn = turn_ends new m step.outcome p (with_member p m x cells) (with_member p m y next) x
-          way.turn step.step step.well (stands p m y next true within whole) there seen in
+          let turn = turn_ends new m step.outcome p (with_member p m x cells posts) (with_member p m y next mails) x
+          way.turn step.step step.well (stands p m y next mails true within whole) there seen in
           record {
             sound = step.sound;
-            turn = (more_moves m step.outcome p (with_member p m x cells) way.turn, turn.0, turn.1, turn.2);
+            turn = (more_moves m step.outcome p (with_member p m x cells posts) way.turn, turn.0, turn.1, turn.2);
           };
     }
 
 -- where the watcher takes no note
 module _ {W : Type 0} (sees : W → Running → List ℕ → W → Type 0) (old now : W) (idle : TakesNoNote sees now)
-    (g : Group) (p : Program) (m : ℕ) (within : m < length p.members) where
+    (g : Group) (p : Program) (m : ℕ) (within : m < length p.members) (posts : List (Option (List Entry))) where
   -- by a look or a push
-  gone_swept : (words : List ℕ) (r : Running) → IsOnWay sees old now g p m (with_member p m r words)
+  gone_swept : (words : List ℕ) (r : Running) → IsOnWay sees old now g p m (with_member p m r words posts)
       → IsAtSweep r → HasGone sees old now g p m (after_step (next_sight words r) r)
-      (stored words r.replica (next_step r))
+      (stored words r.replica (next_step r)) posts
   gone_swept words r way due =
-      gone_by now g p m r (after_step (next_sight words r) r) words (stored words r.replica (next_step r))
-      within way (at_sweep r due).none (swept_taken words r (at_sweep r due)) (idle r words)
+      gone_by now g p m r (after_step (next_sight words r) r) words (stored words r.replica (next_step r)) posts posts
+      within way (at_sweep r due).none (swept_taken words posts r (at_sweep r due)) (idle r words)
 
   -- and where it has come by several
   gone_sweeping : (n : ℕ) (words : List ℕ) (r : Running) (cells : List ℕ) (q : Running)
-      → IsOnWay sees old now g p m (with_member p m r words) → is_between_turns (Some r) ≡ false
-      → LeadsTo n words r cells q → HasGone sees old now g p m q cells
+      → IsOnWay sees old now g p m (with_member p m r words posts) → is_between_turns (Some r) ≡ false
+      → LeadsTo n words r cells q → HasGone sees old now g p m q cells posts
   gone_sweeping zero words r cells q way amid (same, is) =
-      subst (λ x. HasGone sees old now g p m x cells) is (subst (HasGone sees old now g p m r) same (record {
+      subst (λ x. HasGone sees old now g p m x cells posts) is
+      (subst (λ t. HasGone sees old now g p m r t posts) same (record {
         amid = λ e. way;
         whole = λ whole. absurd (cc);
       }))
   gone_sweeping (suc zero) words r cells q way amid (due, (same, is)) =
-      subst (λ x. HasGone sees old now g p m x cells) is
-      (subst (HasGone sees old now g p m (after_step (next_sight words r) r)) same
+      subst (λ x. HasGone sees old now g p m x cells posts) is
+      (subst (λ t. HasGone sees old now g p m (after_step (next_sight words r) r) t posts) same
       (gone_swept words r way due))
   gone_sweeping (suc (suc n)) words r cells q way amid (due, (then, rest)) =
       let x = after_step (next_sight words r) r in
@@ -202,9 +229,11 @@ module _ {W : Type 0} (sees : W → Running → List ℕ → W → Type 0) (old 
       ((gone_swept words r way due).amid (at_sweep x then).amid) (at_sweep x then).amid (then, rest)
 
 -- fewer deeds are left to all, where a member has fewer left
-left_falls : (p : Program) (m : ℕ) (r x y : Running) (cells next : List ℕ) → present_at p.members m ≡ Some r
-    → deeds_left y < deeds_left x → all_left (with_member p m y next) < all_left (with_member p m x cells)
-left_falls p m r x y cells next there falls = omega (
+left_falls : (p : Program) (m : ℕ) (r x y : Running) (cells next : List ℕ)
+    (posts mails : List (Option (List Entry))) → present_at p.members m ≡ Some r
+    → deeds_left y < deeds_left x
+    → all_left (with_member p m y next mails) < all_left (with_member p m x cells posts)
+left_falls p m r x y cells next posts mails there falls = omega (
   arith,
   sum_by-set left_at p.members m (Some x) None (present_within p.members m r there),
   sum_by-set left_at p.members m (Some y) None (present_within p.members m r there),
@@ -214,11 +243,12 @@ left_falls p m r x y cells next there falls = omega (
 -- a member that goes on is under way still, or has ended its turn, as its place says
 pub way_on : {W : Type 0} {sees : W → Running → List ℕ → W → Type 0} {old mid : W} (new : W) (g : Group)
     (p : Program) (m : ℕ) (r x y : Running) (table cells next : List ℕ)
-    → IsAmong g p m r table → IsUnderWay sees old mid g p m (with_member p m x cells) → x.replica.end ≡ None
-    → HasGoneOn sees mid new cells x next y → deeds_left y < deeds_left x
-    → (is_between_turns (Some y) ≡ false → IsUnderWay sees old new g p m (with_member p m y next))
-    × (is_between_turns (Some y) ≡ true → HasTurn sees old new g p m (with_member p m y next))
-way_on {W} {sees} {old} {mid} new g p m r x y table cells next is way none goes falls = (
+    (letters posts mails : List (Option (List Entry))) → IsAmong g p m r table letters
+    → IsUnderWay sees old mid g p m (with_member p m x cells posts) → x.replica.end ≡ None
+    → HasGoneOn sees mid new cells posts x next mails y → deeds_left y < deeds_left x
+    → (is_between_turns (Some y) ≡ false → IsUnderWay sees old new g p m (with_member p m y next mails))
+    × (is_between_turns (Some y) ≡ true → HasTurn sees old new g p m (with_member p m y next mails))
+way_on {W} {sees} {old} {mid} new g p m r x y table cells next letters posts mails is way none goes falls = (
   λ amid. let on = (gone goes).amid amid in
       record { sound = on.sound; turn = on.turn; falls = omega (arith, less, way.falls) },
   λ whole.
@@ -235,21 +265,21 @@ way_on {W} {sees} {old} {mid} new g p m r x y table cells next is way none goes 
       ),
 )
   where
-    less : all_left (with_member p m y next) < all_left (with_member p m x cells)
-    less = left_falls p m r x y cells next is.there falls
+    less : all_left (with_member p m y next mails) < all_left (with_member p m x cells posts)
+    less = left_falls p m r x y cells next posts mails is.there falls
 
     within : m < length p.members
     within = present_within p.members m r is.there
 
-    here : IsOnWay sees old mid g p m (with_member p m x cells)
+    here : IsOnWay sees old mid g p m (with_member p m x cells posts)
     here = record { sound = way.sound; turn = way.turn }
 
-    gone : HasGoneOn sees mid new cells x next y → HasGone sees old new g p m y next
-    gone (inl (member, stores, seen)) = gone_by new g p m x y cells next within here none
-        (record { member = member; table = stores }) seen
-    gone (inr (due, (n, taken), same, idle)) =
-        subst (λ w. HasGone sees old w g p m y next) same
-        (gone_sweeping sees old mid idle g p m within n cells x next y here (at_sweep x due).amid taken)
+    gone : HasGoneOn sees mid new cells posts x next mails y → HasGone sees old new g p m y next mails
+    gone (inl (taken, seen)) = gone_by new g p m x y cells next posts mails within here none taken seen
+    gone (inr (due, (n, taken), stay, same, idle)) =
+        subst (λ w. HasGone sees old w g p m y next mails) same
+        (subst (HasGone sees old mid g p m y next) (sym stay)
+        (gone_sweeping sees old mid idle g p m within posts n cells x next y here (at_sweep x due).amid taken))
 
 -- ---- logs
 
@@ -289,6 +319,20 @@ pub come_ready : {D : Type 0} (place : Option (LogState D)) (words : List ℕ) (
 come_ready place words r cells q (n, taken) (log, at, ready) =
     (log, at, swept_ready log n words r cells q taken ready)
 
+-- and lists are left for it as before
+swept_lists : (posts : PostsOf) (n : ℕ) (words : List ℕ) (r : Running) (cells : List ℕ) (q : Running)
+    → LeadsTo n words r cells q → HasSpare posts r → HasSpare posts q
+swept_lists posts zero words r cells q (same, is) lists = subst (HasSpare posts) is lists
+swept_lists posts (suc n) words r cells q (due, rest) lists =
+    let is = at_sweep r due in
+    swept_lists posts n _ _ cells q rest
+    (lists_still posts r (after_step (next_sight words r) r)
+    (taken_told words posts.letters r _ posts.letters _ is.none (swept_taken words posts.letters r is)) lists)
+
+pub come_lists : (posts : PostsOf) (words : List ℕ) (r : Running) (cells : List ℕ) (q : Running)
+    → ((n : ℕ) × LeadsTo n words r cells q) → HasSpare posts r → HasSpare posts q
+come_lists posts words r cells q (n, taken) lists = swept_lists posts n words r cells q taken lists
+
 pub come_served : {D : Type 0} (told : D → Option Told) (faults : D → ℕ) (base : LogState D)
     (place : Option (LogState D)) (words : List ℕ) (r : Running) (cells : List ℕ) (q : Running)
     → ((n : ℕ) × LeadsTo n words r cells q) → r.replica.logged ≤ length r.replica.history
@@ -297,6 +341,6 @@ come_served told faults base place words r cells q (n, taken) within served = λ
     swept_served told faults base log n words r cells q taken within (served log at)
 
 -- a running member has logged no more than there is
-pub somewhere_logged : (r : Running) (words : List ℕ) → IsSomewhere r words
-    → r.replica.logged ≤ length r.replica.history
-somewhere_logged r words (g, p, m, is) = (is.sound.form.form m r is.there).replica.logged
+pub somewhere_logged : (r : Running) (words : List ℕ) (posts : List (Option (List Entry)))
+    → IsSomewhere r words posts → r.replica.logged ≤ length r.replica.history
+somewhere_logged r words posts (g, p, m, is) = (is.sound.form.form m r is.there).replica.logged

@@ -5,6 +5,7 @@ use Rattle.std.specs.List.{range_with_len}
 use Rattle.std.proofs.lemmas.List.{append_assoc, length_push, set-get_or, take-append-le, take_all}
 use Rattle.std.proofs.lemmas.List.Elements.{All-append, All-nil}
 use Rattle.dr_entry.specs.declared.end.End.{End}
+use Rattle.dr_entry.specs.declared.entry.Entry.{Entry}
 use Rattle.dr_machine.specs.Group.{Group}
 use Rattle.dr_program.specs.declared.outcome.Outcome.TheVariants as outcomes
 use Rattle.dr_program.specs.Schedule.{is_between_turns, IsTurn, Rounds, TakeTurns, TakesTurn}
@@ -17,7 +18,7 @@ use Rattle.dr_program.specs.declared.outcome.Outcome.{Outcome}
 use Rattle.dr_script.specs.declared.script.Schedule.TheVariants.{Lockstep}
 use Rattle.dr_sim.specs.Simulated.{HasRun, SomeFailed, WentWell}
 use Rattle.dr_age.specs.Sound.{IsSound}
-use Rattle.dr_sim.specs.Sound.{IsAmong, TookTurn, TookTurns, all_left, move, with_member}
+use Rattle.dr_sim.specs.Sound.{IsAmong, TookTurn, TookTurns, all_left, move, program_over, with_member}
 use Rattle.dr_sim.proofs.Outcomes.{none_well, well_both, well_one}
 use Rattle.dr_sim.proofs.Ranges.{count_more}
 use Rattle.dr_sim.specs.Watched.{WasTold}
@@ -185,33 +186,33 @@ pub record IsUnderWay {W : Type 0} (sees : W → Running → List ℕ → W → 
 
 -- a member among a program's is under way
 pub way_begins : {W : Type 0} (sees : W → Running → List ℕ → W → Type 0) (w : W) (g : Group) (p : Program)
-    (m : ℕ) (r : Running) (table : List ℕ) → IsAmong g p m r table
-    → IsUnderWay sees w w g p m (with_member p m r table)
-way_begins sees w g p m r table is =
+    (m : ℕ) (r : Running) (table : List ℕ) (posts : List (Option (List Entry))) → IsAmong g p m r table posts
+    → IsUnderWay sees w w g p m (with_member p m r table posts)
+way_begins sees w g p m r table posts is =
     subst (IsUnderWay sees w w g p m) (sym same)
     (record { sound = is.sound; turn = turn_begins sees w m p; falls = le_refl _ })
   where
-    same : with_member p m r table ≡ p
-    same = ap (λ rs. record { members = rs; table = table }) (set_itself p.members m r is.there)
-        ∙ ap (λ t. record { members = p.members; table = t }) (sym is.table)
+    same : with_member p m r table posts ≡ p
+    same = λ z. program_over (set_itself p.members m r is.there z) (sym is.table z) (sym is.letters z)
 
 -- the member is one of the program that has gone so far
 pub way_among : {W : Type 0} {sees : W → Running → List ℕ → W → Type 0} {old new : W} (g : Group)
-    (p : Program) (m : ℕ) (r x : Running) (table cells : List ℕ) → IsAmong g p m r table
-    → IsUnderWay sees old new g p m (with_member p m x cells)
-    → IsAmong g (with_member p m x cells) m x cells
-way_among g p m r x table cells is way =
+    (p : Program) (m : ℕ) (r x : Running) (table cells : List ℕ) (letters posts : List (Option (List Entry)))
+    → IsAmong g p m r table letters → IsUnderWay sees old new g p m (with_member p m x cells posts)
+    → IsAmong g (with_member p m x cells posts) m x cells posts
+way_among g p m r x table cells letters posts is way =
     record {
       sound = way.sound;
       there = present_set p.members m x (present_within p.members m r is.there);
       table = refl;
+      letters = refl;
     }
 
 -- where it stands then is where it stands in the program
-pub stands : (p : Program) (m : ℕ) (y : Running) (next : List ℕ) (b : Bool) → m < length p.members
-    → is_between_turns (Some y) ≡ b → is_between_turns (present_at (with_member p m y next).members m)
-    ≡ b
-stands p m y next b within at = ap is_between_turns (present_set p.members m y within) ∙ at
+pub stands : (p : Program) (m : ℕ) (y : Running) (next : List ℕ) (mails : List (Option (List Entry))) (b : Bool)
+    → m < length p.members → is_between_turns (Some y) ≡ b
+    → is_between_turns (present_at (with_member p m y next mails).members m) ≡ b
+stands p m y next mails b within at = ap is_between_turns (present_set p.members m y within) ∙ at
 
 -- member m took one whole turn, and the watcher was told of it
 abbrev pub HasTurn : {W : Type 0} → (W → Running → List ℕ → W → Type 0) → W → W → Group → Program → ℕ

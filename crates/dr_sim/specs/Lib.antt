@@ -6,4 +6,5 @@ pub mod Simulated
 pub mod Watched
 pub mod Rooms
 pub mod Places
+pub mod Lists
 pub mod Repeated

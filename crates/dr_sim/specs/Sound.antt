@@ -1,5 +1,6 @@
 -- What a member of a sound program does, and how much is left to all.
 use Rattle.std.specs.Prelude.{◌≡◌, ◌≢◌, ◌⊎◌, ℕ, ◌<◌, List, Some, sum_by, Option, None}
+use Rattle.dr_entry.specs.declared.entry.Entry.{Entry}
 use Rattle.dr_machine.specs.Group.{Group}
 use Rattle.dr_program.specs.Running.{Running}
 use Rattle.dr_program.specs.declared.outcome.Outcome.{Outcome}
@@ -11,23 +12,25 @@ use Rattle.dr_sim.specs.Simulated.{SomeFailed, WentWell}
 use Rattle.dr_turn.specs.Work.{deeds_left}
 use Rattle.dr_program.specs.Presence.{present_at, with_present}
 
--- the program that has these members, over these words
-abbrev pub program_over : List (Option Running) → List ℕ → Program
-program_over members words = record { members = members; table = words }
+-- the program that has these members, over these words and letters
+abbrev pub program_over : List (Option Running) → List ℕ → List (Option (List Entry)) → Program
+program_over members words letters = record { members = members; table = words; letters = letters }
 
--- a member of a sound program, over the words of its table
-pub record IsAmong (g : Group) (p : Program) (m : ℕ) (r : Running) (cells : List ℕ) : Type 0 where
+-- a member of a sound program, over the words of its table and its letters
+pub record IsAmong (g : Group) (p : Program) (m : ℕ) (r : Running) (cells : List ℕ)
+    (posts : List (Option (List Entry))) : Type 0 where
   pub sound : IsSound g p
   pub there : present_at p.members m ≡ Some r
   pub table : p.table ≡ cells
+  pub letters : p.letters ≡ posts
 
 -- a member of some sound program
-abbrev pub IsSomewhere : Running → List ℕ → Type 0
-IsSomewhere r table = (g : Group) × (p : Program) × (m : ℕ) × IsAmong g p m r table
+abbrev pub IsSomewhere : Running → List ℕ → List (Option (List Entry)) → Type 0
+IsSomewhere r table posts = (g : Group) × (p : Program) × (m : ℕ) × IsAmong g p m r table posts
 
--- the program in which this is member m, and this the table
-abbrev pub with_member : Program → ℕ → Running → List ℕ → Program
-with_member p m r words = program_over (with_present p.members m r) words
+-- the program in which this is member m, and these the table and the letters
+abbrev pub with_member : Program → ℕ → Running → List ℕ → List (Option (List Entry)) → Program
+with_member p m r words posts = program_over (with_present p.members m r) words posts
 
 -- more deeds than whoever stands at a place still does, and than the members of the program do
 abbrev pub left_at : Option Running → ℕ

@@ -1,12 +1,16 @@
-ghost use Rattle.std.specs.Prelude.{◌≡◌, ℕ, ◌<◌, ◌≤◌, ◌↔◌, All, IsTrue, None, true, false, is_some, List, length};
+ghost use Rattle.std.specs.Prelude.{◌≡◌, ℕ, ◌-◌, ◌<◌, ◌≤◌, ◌↔◌, All, IsTrue, None, true, false, is_some, slice_set, Some, List, Option, length};
 ghost use Rattle.dr_machine.specs.Group.{Group};
 ghost use Rattle.dr_log.specs.State.{LogState};
 ghost use Rattle.dr_program.specs.Form.{IsRunningMember};
 ghost use Rattle.dr_program.specs.Program.{Program, has_ended};
 ghost use Rattle.dr_member.specs.Deeds.{is_append, table_size};
-ghost use Rattle.dr_program.specs.Running.{next_deed};
 ghost use Rattle.dr_turn.specs.Work.{deeds_left};
-ghost use Rattle.dr_sim.specs.Deeds.{SeesWell, member_after, outcome_by, table_after};
+ghost use Rattle.dr_entry.specs.declared.entry.Entry.{Entry};
+ghost use Rattle.dr_program.specs.declared.deed.Deed.TheVariants.{Give, Take};
+ghost use Rattle.dr_program.specs.Running.{after_step, next_deed, settled, took_letter};
+ghost use Rattle.dr_history.specs.History.{up_to_view};
+ghost use Rattle.dr_sim.specs.Deeds.{IsTaken, SeesWell, own_letter};
+ghost use Rattle.dr_sim.specs.Lists.{FindsLists, HasSpare};
 ghost use Rattle.dr_logged.specs.Served.{AppendsWell};
 ghost use Rattle.dr_sim.specs.Places.{HasServedAt, IsReadyAt};
 ghost use Rattle.dr_sim.specs.Sound.{IsAmong, IsSomewhere, TookTurn, with_member};
@@ -18,14 +22,16 @@ use dr_disk::Disk;
 use dr_log::Log;
 use dr_logged::why_of;
 use dr_member::{Deed, Member};
+use dr_world::Posts;
 
-/// The member, which has not ended, takes its next deed, over the words of the table. The watcher is told of it
-/// first. Only an append asks what stands at the place of the member's log. Answers whether the member has
-/// ended, which a look or a push leaves as it is.
+/// The member, which has not ended, takes its next deed, over the words of the table and the letters. The
+/// watcher is told of it first. Only an append asks what stands at the place of the member's log. Answers
+/// whether the member has ended, which a look or a push leaves as it is.
 #[inline(always)]
 pub fn take<D: Disk, W: Watcher>(
     member: &mut Member,
     table: &mut [u64],
+    posts: &mut Posts,
     place: &mut Option<Log<D>>,
     watcher: &mut W,
 ) -> bool
@@ -35,8 +41,10 @@ pub fn take<D: Disk, W: Watcher>(
     requires sight { SeesWell table.old member.old }
     requires appends { AppendsWell member.old }
     requires ready { IsReadyAt place.old member.old }
-    ensures member { member.new ≡ member_after table.old (outcome_by member.new.failed) member.old }
-    ensures table { table.new ≡ table_after table.old member.old }
+    requires lists { FindsLists posts.old member.old }
+    ensures taken { IsTaken table.old posts.old.letters member.old table.new posts.new.letters member.new }
+    ensures lists { HasSpare posts.old member.old → HasSpare posts.new member.new }
+    ensures same { posts.new.room ≡ posts.old.room }
     ensures ended { result ≡ is_some member.new.replica.end }
     ensures falls { deeds_left member.new < deeds_left member.old }
     ensures ready { IsReadyAt place.new member.new }
@@ -65,12 +73,20 @@ pub fn take<D: Disk, W: Watcher>(
             append(member, place);
             member.end().is_some()
         }
+        Deed::Give { late } => {
+            give(member, late, posts);
+            member.end().is_some()
+        }
+        Deed::Take => {
+            take_letter(member, posts);
+            member.end().is_some()
+        }
         Deed::Rest(_) => true,
     }
 }
 
-/// The member, whose next deed is an append, does it, to the log at this place. Out of line, and with a record of its own, it
-/// leaves the other deeds a small loop.
+/// The member, whose next deed is an append, does it, to the log at this place. Out of line, and with a
+/// record of its own, it leaves the other deeds a small loop.
 #[inline(never)]
 fn append<D: Disk>(member: &mut Member, place: &mut Option<Log<D>>)
     requires due { is_append (next_deed member.old) ≡ true }
@@ -78,9 +94,8 @@ fn append<D: Disk>(member: &mut Member, place: &mut Option<Log<D>>)
     requires form { IsRunningMember member.old }
     requires appends { AppendsWell member.old }
     requires ready { IsReadyAt place.old member.old }
-    ensures member { (table : List ℕ) → member.new
-        ≡ member_after table (outcome_by member.new.failed) member.old }
-    ensures table { (table : List ℕ) → table ≡ table_after table member.old }
+    ensures taken { (table : List ℕ) → (posts : List (Option (List Entry)))
+        → IsTaken table posts member.old table posts member.new }
     ensures falls { deeds_left member.new < deeds_left member.old }
     ensures ready { IsReadyAt place.new member.new }
     ensures served { (base : LogState D) → HasServedAt D.told D.faults base place.old member.old
@@ -95,20 +110,55 @@ fn append<D: Disk>(member: &mut Member, place: &mut Option<Log<D>>)
     }
 }
 
+/// The member, whose next deed gives a late member its letter, does it: the letter is written into one of the
+/// lists that are left.
+#[inline(never)]
+fn give(member: &mut Member, late: u8, posts: &mut Posts)
+    requires due { next_deed member.old ≡ Give late }
+    requires lists { FindsLists posts.old member.old }
+    ensures after { (seen : ℕ) → member.new ≡ after_step seen member.old }
+    ensures posts { posts.new ≡ record posts.old {
+      letters = slice_set posts.old.letters late (Some (up_to_view member.old.replica.history));
+      left = posts.old.left - 1;
+    } }
+    ensures falls { deeds_left member.new < deeds_left member.old }
+{
+    let mut letter = posts.take_list();
+    member.letter(&mut letter);
+    posts.put(late, letter);
+    member.given();
+}
+
+/// The member, whose next deed takes its letter, does it, where one is there for it.
+#[inline(never)]
+fn take_letter(member: &mut Member, posts: &Posts)
+    requires due { next_deed member.old ≡ Take }
+    requires lists { FindsLists posts.now member.old }
+    ensures after { member.new ≡ settled (took_letter (own_letter posts.now.letters member.old) member.old) }
+    ensures falls { deeds_left member.new < deeds_left member.old }
+{
+    let letter = posts.letter(member.me());
+    member.taken(letter);
+}
+
 /// The member, which has not ended, takes its next deed, told to the watcher first. Where the watcher takes
 /// note of none, it takes with a look or a push those of the same kind behind it in the row.
 #[inline(always)]
 fn take_on<D: Disk, W: Watcher>(
     member: &mut Member,
     table: &mut Vec<u64>,
+    posts: &mut Posts,
     place: &mut Option<Log<D>>,
     watcher: &mut W,
 )
-    requires somewhere { IsSomewhere member.old table.old.items }
+    requires somewhere { IsSomewhere member.old table.old.items posts.old.letters }
+    requires lists { HasSpare posts.old member.old }
     requires going { is_some member.old.replica.end ≡ false }
     requires ready { IsReadyAt place.old member.old }
-    ensures goes { HasGoneOn W.sees watcher.old watcher.new table.old.items member.old
-        table.new.items member.new }
+    ensures goes { HasGoneOn W.sees watcher.old watcher.new table.old.items posts.old.letters member.old
+        table.new.items posts.new.letters member.new }
+    ensures lists { HasSpare posts.new member.new }
+    ensures same { posts.new.room ≡ posts.old.room }
     ensures falls { deeds_left member.new < deeds_left member.old }
     ensures ready { IsReadyAt place.new member.new }
     ensures served { (base : LogState D) → HasServedAt D.told D.faults base place.old member.old
@@ -119,7 +169,7 @@ fn take_on<D: Disk, W: Watcher>(
         Deed::Look(_) if !noted => member.look_alone(table.as_slice()),
         Deed::Push(_, _) if !noted => member.push_alone(table.as_mut_slice()),
         _ => {
-            take(member, table.as_mut_slice(), place, watcher);
+            take(member, table.as_mut_slice(), posts, place, watcher);
         }
     }
 }
@@ -129,21 +179,26 @@ fn take_on<D: Disk, W: Watcher>(
 pub fn take_turn<D: Disk, W: Watcher>(
     member: &mut Member,
     table: &mut Vec<u64>,
+    posts: &mut Posts,
     place: &mut Option<Log<D>>,
     watcher: &mut W,
 )
-    requires somewhere { IsSomewhere member.old table.old.items }
+    requires somewhere { IsSomewhere member.old table.old.items posts.old.letters }
+    requires lists { HasSpare posts.old member.old }
     requires going { is_some member.old.replica.end ≡ false }
     requires ready { IsReadyAt place.old member.old }
-    ensures turn { (g : Group) → (p : Program) → (m : ℕ) → IsAmong g p m member.old table.old.items
-        → (took : TookTurn g p m (with_member p m member.new table.new.items))
+    ensures lists { HasSpare posts.new member.new }
+    ensures same { posts.new.room ≡ posts.old.room }
+    ensures turn { (g : Group) → (p : Program) → (m : ℕ)
+        → IsAmong g p m member.old table.old.items posts.old.letters
+        → (took : TookTurn g p m (with_member p m member.new table.new.items posts.new.letters))
         × WasTold W.sees p took.moves watcher.old watcher.new }
     ensures ready { IsReadyAt place.new member.new }
     ensures served { (base : LogState D) → HasServedAt D.told D.faults base place.old member.old
         → HasServedAt D.told D.faults base place.new member.new }
 {
     loop {
-        take_on(member, table, place, watcher);
+        take_on(member, table, posts, place, watcher);
         if member.is_between_turns() {
             return;
         }

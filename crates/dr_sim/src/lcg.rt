@@ -66,8 +66,24 @@ impl Lcg {
             .state
             .wrapping_mul(self.multiplier)
             .wrapping_add(self.increment);
-        (self.state >> 33) as u32 % n
+        choice(self.state, n)
     }
+
+    /// Its state.
+    pub(crate) fn state(&self) -> u64
+        ensures { result ≡ self.now }
+    {
+        self.state
+    }
+}
+
+/// The choice that a state makes among a few.
+#[inline(always)]
+pub(crate) fn choice(state: u64, n: u32) -> u32
+    requires { n ≢ 0 }
+    ensures { result ≡ choice_of state n }
+{
+    (state >> 33) as u32 % n
 }
 
 /// The remainder of a number of 32 bits by another, which is mostly as short.

@@ -2,10 +2,12 @@ ghost use Rattle.std.specs.Prelude.{◌≡◌, ◌+◌, ◌<◌, ◌≤◌, ℕ,
 ghost use Rattle.std.specs.List.{remove};
 ghost use Rattle.dr_machine.specs.Group.{Group};
 ghost use Rattle.dr_program.specs.Program.{has_ended};
-ghost use Rattle.dr_program.specs.Schedule.{going};
+ghost use Rattle.dr_program.specs.Schedule.{choice_of, going};
 ghost use Rattle.dr_script.specs.declared.script.Schedule.TheVariants.{Seed};
 ghost use Rattle.dr_log.specs.State.{LogState};
 ghost use Rattle.dr_logged.specs.Served.{AreReady, AtMember, HaveServed, HaveSamePlaces};
+ghost use Rattle.dr_entry.specs.declared.entry.Entry.{Entry};
+ghost use Rattle.dr_sim.specs.Lists.{HaveSpares};
 ghost use Rattle.dr_sim.specs.Simulated.{HasRun};
 ghost use Rattle.dr_age.specs.Sound.{IsSound};
 ghost use Rattle.dr_sim.specs.Sound.{TookDeed, program_over};
@@ -13,33 +15,37 @@ ghost use Rattle.dr_sim.specs.Watched.{WasTold};
 ghost use Rattle.dr_program.specs.Presence.{present_at};
 
 use crate::deed::{has_ended, take};
-use crate::lcg::Lcg;
+use crate::lcg::{Lcg, choice};
 use crate::watcher::Watcher;
 use arrayvec::ArrayVec;
 use dr_disk::Disk;
 use dr_entry::MAX_MEMBERS;
 use dr_log::Log;
 use dr_member::Member;
+use dr_world::Posts;
 
-/// Runs these members over these words to their ends, one deed at a time: each is of the member that the
-/// generator of this seed chooses among those that have not ended. The watcher is told of it first. It takes
-/// both as slices, so that where they stand is read once for all deeds.
+/// Runs these members over these words and letters to their ends, one deed at a time: each is of the member that the
+/// generator of this seed chooses among those that have not ended. The watcher is told of it first. It has
+/// members and words as slices, so that where they stand is read once for all deeds.
 #[inline(never)]
 pub fn run_by_seed<D: Disk, W: Watcher>(
     members: &mut [Option<Member>],
     table: &mut [u64],
+    posts: &mut Posts,
     seed: u64,
     logs: &mut [Option<Log<D>>],
     watcher: &mut W,
 )
     ghost group: { Group }
-    requires sound { IsSound group (program_over members.old table.old) }
+    requires sound { IsSound group (program_over members.old table.old posts.old.letters) }
     requires ready { AreReady logs.old members.old }
-    ensures run { (run : HasRun (Seed seed) (program_over members.old table.old)
-        (program_over members.new table.new))
-        × WasTold W.sees (program_over members.old table.old) run.moves watcher.old watcher.new }
-    ensures sound { IsSound group (program_over members.new table.new) }
+    requires lists { HaveSpares posts.old members.old }
+    ensures run { (run : HasRun (Seed seed) (program_over members.old table.old posts.old.letters)
+        (program_over members.new table.new posts.new.letters))
+        × WasTold W.sees (program_over members.old table.old posts.old.letters) run.moves watcher.old watcher.new }
+    ensures sound { IsSound group (program_over members.new table.new posts.new.letters) }
     ensures ready { AreReady logs.new members.new }
+    ensures lists { HaveSpares posts.new members.new }
     ensures places { HaveSamePlaces logs.old logs.new }
     ensures served { (bases : List (Option (LogState D)))
         → HaveServed D.told D.faults bases logs.old members.old
@@ -53,8 +59,8 @@ pub fn run_by_seed<D: Disk, W: Watcher>(
         'deeds: loop {
             let at = lcg.choose_few(few) as usize;
             let m = going[at];
-            if take_deed(members, table, m, logs, watcher) {
-                strike(&mut going, at);
+            if take_deed(members, table, posts, m, logs, watcher) {
+                strike(&mut going, lcg.state());
                 break;
             }
         }
@@ -67,35 +73,41 @@ pub fn run_by_seed<D: Disk, W: Watcher>(
 fn take_deed<D: Disk, W: Watcher>(
     members: &mut [Option<Member>],
     table: &mut [u64],
+    posts: &mut Posts,
     m: usize,
     logs: &mut [Option<Log<D>>],
     watcher: &mut W,
 ) -> bool
     ghost group: { Group }
-    requires sound { IsSound group (program_over members.old table.old) }
+    requires sound { IsSound group (program_over members.old table.old posts.old.letters) }
     requires going { has_ended (present_at members.old m) ≡ false }
     requires within { m < length members.old }
     requires ready { AreReady logs.old members.old }
-    ensures took { TookDeed group (program_over members.old table.old) m (program_over members.new table.new) }
+    requires lists { HaveSpares posts.old members.old }
+    ensures took { TookDeed group (program_over members.old table.old posts.old.letters) m (program_over members.new table.new posts.new.letters) }
     ensures ended { result ≡ has_ended (present_at members.new m) }
     ensures ready { AreReady logs.new members.new }
+    ensures lists { HaveSpares posts.new members.new }
     ensures places { HaveSamePlaces logs.old logs.new }
     ensures served { (bases : List (Option (LogState D)))
         → HaveServed D.told D.faults bases logs.old members.old
         → HaveServed D.told D.faults bases logs.new members.new }
-    ensures told { AtMember (program_over members.old table.old) m
+    ensures told { AtMember (program_over members.old table.old posts.old.letters) m
         (λ r. W.sees watcher.old r table.old watcher.new) }
 {
     let Some(member) = &mut members[m] else {
         unreachable!()
     };
-    take(member, table, &mut logs[m], watcher)
+    // It knows its number, so that a deed need not keep it for the append that may come.
+    let me = usize::from(member.me());
+    take(member, table, posts, &mut logs[me], watcher)
 }
 
 /// The numbers of the members that have not ended, ascending.
 fn going(members: &[Option<Member>]) -> ArrayVec<usize, MAX_MEMBERS>
     requires { length members.now ≤ MAX_MEMBERS }
-    ensures { (words : List ℕ) → result.items ≡ going (program_over members.now words) }
+    ensures { (words : List ℕ) (letters : List (Option (List Entry)))
+        → result.items ≡ going (program_over members.now words letters) }
 {
     let mut going = ArrayVec::new();
     for m in 0..members.len() {
@@ -106,12 +118,14 @@ fn going(members: &[Option<Member>]) -> ArrayVec<usize, MAX_MEMBERS>
     going
 }
 
-/// Strikes the number at this place off the list. Out of line, so that a deed need not keep more of the place.
+/// Strikes the number that this state of the generator chose off the list. Out of line, and by the state, so
+/// that a deed need not keep the place.
 #[inline(never)]
-fn strike(going: &mut ArrayVec<usize, MAX_MEMBERS>, at: usize)
-    requires { at < length going.old.items }
-    ensures items { going.new.items ≡ remove going.old.items at }
+fn strike(going: &mut ArrayVec<usize, MAX_MEMBERS>, state: u64)
+    requires { 0 < length going.old.items }
+    ensures items { going.new.items ≡ remove going.old.items (choice_of state (length going.old.items)) }
     ensures len { length going.new.items + 1 ≡ length going.old.items }
 {
-    going.remove(at);
+    let at = choice(state, going.len() as u32);
+    going.remove(at as usize);
 }

@@ -1,5 +1,8 @@
-ghost use Rattle.std.specs.Prelude.{◌≡◌, ◌<◌, ◌↔◌, IfOk, OnOk, IsTrue, List, Option, false, is_some, length};
-ghost use Rattle.dr_machine.specs.Group.{Group, IsGroup};
+ghost use Rattle.std.specs.Prelude.{◌≡◌, ℕ, ◌<◌, ◌≤◌, ◌↔◌, IfOk, OnOk, IsTrue, List, None, Option, Some, false, is_some, length, replicate};
+ghost use Rattle.dr_history.specs.Members.{members_of};
+ghost use Rattle.dr_machine.specs.Group.{Group, IsGroup, late_members};
+ghost use Rattle.dr_program.specs.Form.{IsRunningMember};
+ghost use Rattle.dr_program.specs.Running.{Running};
 ghost use Rattle.dr_program.specs.Presence.{present_at};
 ghost use Rattle.dr_program.specs.Program.{AllEnded, Program, has_ended};
 ghost use Rattle.dr_restart.specs.Groups.{group_of};
@@ -23,17 +26,19 @@ use dr_age::begun_members;
 use dr_disk::Disk;
 use dr_log::Log;
 use dr_member::Member;
-use dr_restart::{Start, shape_of};
+use dr_restart::{Start, late_of, shape_of};
 use dr_script::Script;
+use dr_world::Posts;
 use std::alloc::{AllocError, Global};
 use std::marker::Model;
 
-/// The running members of a group, over the words of one table. Contracts see it as the machine's
+/// The running members of a group, over the words of one table and the letters for late members. Contracts see it as the machine's
 /// program.
 #[derive(Drop)]
 pub struct Simulation {
     members: Vec<Option<Member>>,
     table: Vec<u64>,
+    posts: Posts,
 }
 
 impl Model for Simulation {
@@ -41,9 +46,11 @@ impl Model for Simulation {
 
     ghost Value = { Program };
 
-    ghost use Rattle.dr_sim.specs.Inside.{program_of};
+    ghost use Rattle.dr_sim.specs.Inside.{AreListsLeft, program_of};
 
     ghost view = { program_of };
+
+    ghost invariant = { AreListsLeft };
 }
 
 impl Simulation {
@@ -64,9 +71,12 @@ impl Simulation {
         ensures begun { IfOk result (λ s. IsBegun script.now start.now nth s) }
         ensures sound { IfOk result (λ s. IsSound (group_of script.now start.now) s) }
     {
+        let members = begun_members(alloc, script, start, nth)?;
+        let posts = no_posts(alloc, script, start, members.as_slice())?;
         Ok(Simulation {
-            members: begun_members(alloc, script, start, nth)?,
-            table: vec![in alloc; 0; shape_of(script).words()]?,
+            members,
+            table: vec![in alloc; 0; shape_of(script, start).words()]?,
+            posts,
         })
     }
 
@@ -149,6 +159,7 @@ impl Simulation {
         run_by_seed(
             self.members.as_mut_slice(),
             self.table.as_mut_slice(),
+            &mut self.posts,
             seed,
             logs,
             watcher,
@@ -178,7 +189,7 @@ impl Simulation {
         let Some(member) = &mut self.members[m] else {
             unreachable!()
         };
-        take_turn(member, &mut self.table, place, watcher);
+        take_turn(member, &mut self.table, &mut self.posts, place, watcher);
     }
 }
 
@@ -197,4 +208,44 @@ fn make_room_at<D: Disk>(
         return Ok(());
     };
     log.reserve(member.appends_left(), member.votes_left())
+}
+
+/// No letters, and the memory for one of each late member, with room for the history of any of these members.
+fn no_posts(
+    alloc: Global,
+    script: &Script,
+    start: &Start,
+    members: &[Option<Member>],
+) -> Result<Posts, AllocError>
+    requires { (m : ℕ) (r : Running) → present_at members.now m ≡ Some r → IsRunningMember r }
+    ensures letters { IfOk result (λ posts. posts.letters ≡ replicate script.now.members None) }
+    ensures left { IfOk result (λ posts.
+        posts.left ≡ length (members_of (late_members (group_of script.now start.now)))) }
+    ensures room { IfOk result (λ posts.
+        (m : ℕ) (r : Running) → present_at members.now m ≡ Some r → r.replica.room ≤ posts.room) }
+{
+    let late = late_of(start).count();
+    Posts::none(alloc, script.members, late, most_room(members))
+}
+
+/// The room of the member that has the most for its history.
+fn most_room(members: &[Option<Member>]) -> usize
+    requires { (m : ℕ) (r : Running) → present_at members.now m ≡ Some r → IsRunningMember r }
+    ensures { (m : ℕ) (r : Running) → present_at members.now m ≡ Some r → r.replica.room ≤ result }
+{
+    let mut most = 0;
+    for place in members {
+        if let Some(member) = place {
+            most = most.max(room_of(member));
+        }
+    }
+    most
+}
+
+/// How many entries the history of a member has room for.
+fn room_of(member: &Member) -> usize
+    requires { IsRunningMember member.now }
+    ensures { result ≡ member.now.replica.room }
+{
+    member.appends_left() + member.logged() as usize
 }

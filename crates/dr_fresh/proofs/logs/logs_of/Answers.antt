@@ -44,5 +44,6 @@ returns-clause-limit c = fresh_limit c.args.start.now LOG_LIMIT c.loop-member.lo
     c.loop-member.invariant.fresh
 
 pub returns-clause-ample : goal.returns-clause-ample
-returns-clause-ample c = fresh_ample c.args.script.now c.args.start.now c.loop-member.logs.items c.requires.none
+returns-clause-ample c = fresh_ample c.args.script.now c.args.start.now c.loop-member.logs.items c.requires.group
+    c.requires.none
     c.loop-member.invariant.fresh

@@ -28,15 +28,10 @@ append-requires-clause-placed g c = λ ks within.
     let at = at_append c.args.member.now c.in-Append.record c.requires.form (sym c.in-Append.ensures.deed) in
     (has_place c.in-Some.log c.args.member.now c.in-Append.record at.1).1
 
-pub returns-in-Ok-clause-member : goal.returns-in-Ok-clause-member
-returns-in-Ok-clause-member g c = λ table.
-    (append_taken table c.args.member.now _ c.appended.new.self (sym c.in-Append.ensures.deed)
-    c.appended.ensures.after).member
-
-pub returns-in-Ok-clause-table : goal.returns-in-Ok-clause-table
-returns-in-Ok-clause-table g c = λ table.
-    (append_taken table c.args.member.now _ c.appended.new.self (sym c.in-Append.ensures.deed)
-    c.appended.ensures.after).table
+pub returns-in-Ok-clause-taken : goal.returns-in-Ok-clause-taken
+returns-in-Ok-clause-taken g c = λ table posts.
+    append_taken table posts c.args.member.now _ c.appended.new.self (sym c.in-Append.ensures.deed)
+    c.appended.ensures.after
 
 pub returns-in-Ok-clause-ready : goal.returns-in-Ok-clause-ready
 returns-in-Ok-clause-ready g c =
@@ -62,15 +57,10 @@ returns-in-Ok-clause-served g c = λ base served new there.
     (appended_served _ _ base c.in-Some.log c.append.new.self 0 c.args.member.now at.0.due
     (served c.in-Some.log c.in-Some.is) did.made did.fits did.goes did.lasting did.safe did.calm))
 
-pub returns-in-Err-clause-member : goal.returns-in-Err-clause-member
-returns-in-Err-clause-member g c = λ table.
-    (failure_taken table c.args.member.now _ _ c.append_failed.new.self (sym c.in-Append.ensures.deed)
-    c.append_failed.ensures.after).member
-
-pub returns-in-Err-clause-table : goal.returns-in-Err-clause-table
-returns-in-Err-clause-table g c = λ table.
-    (failure_taken table c.args.member.now _ _ c.append_failed.new.self (sym c.in-Append.ensures.deed)
-    c.append_failed.ensures.after).table
+pub returns-in-Err-clause-taken : goal.returns-in-Err-clause-taken
+returns-in-Err-clause-taken g c = λ table posts.
+    failure_taken table posts c.args.member.now _ _ c.append_failed.new.self (sym c.in-Append.ensures.deed)
+    c.append_failed.ensures.after
 
 pub returns-in-Err-clause-ready : goal.returns-in-Err-clause-ready
 returns-in-Err-clause-ready g c = (

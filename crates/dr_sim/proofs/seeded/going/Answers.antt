@@ -14,8 +14,8 @@ loop-m-preserved c =
     elim c.if-not-has_ended.branch [
       | then-not-has_ended w ↦
           let items = ap (λ (v : ArrayVec ℕ). v.items) w.going-is ∙ w.push.ensures.items in record {
-            found = λ words. found_one (program_over c.args.members.now words) c.loop-m.m c.loop-m.going.items c.if-not-has_ended.going.items
-                (c.loop-m.invariant.found words)
+            found = λ words letters. found_one (program_over c.args.members.now words letters) c.loop-m.m c.loop-m.going.items c.if-not-has_ended.going.items
+                (c.loop-m.invariant.found words letters)
                 (ap has_ended (sym read) ∙ sym c.has_ended.ensures ∙ w.if-not-has_ended.true) items;
             few = omega (
               arith,
@@ -26,8 +26,8 @@ loop-m-preserved c =
           }
       | else-not-has_ended w ↦
           let items = ap (λ (v : ArrayVec ℕ). v.items) w.going-is in record {
-            found = λ words. items ∙ found_none (program_over c.args.members.now words) c.loop-m.m c.loop-m.going.items
-                (c.loop-m.invariant.found words)
+            found = λ words letters. items ∙ found_none (program_over c.args.members.now words letters) c.loop-m.m c.loop-m.going.items
+                (c.loop-m.invariant.found words letters)
                 (ap has_ended (sym read) ∙ sym c.has_ended.ensures ∙ w.if-not-has_ended.false);
             few = omega (arith, ap length items);
           }

@@ -1,4 +1,6 @@
 use Rattle.std.proofs.Common.{◌≡◌, ◌≤◌, ℕ, List, length}
+use Rattle.std.specs.Prelude.{Option}
+use Rattle.dr_entry.specs.declared.entry.Entry.{Entry}
 use Rattle.std.specs.List.{range_with_len, filter}
 use Rattle.dr_sim.specs.Sound.{program_over}
 use Rattle.dr_sim.proofs.Choices.{goes}
@@ -6,6 +8,7 @@ use Rattle.dr_sim.proofs.seeded.going.Given as goal
 
 abbrev pub invariant-loop-m : goal.invariant-loop-m
 invariant-loop-m l = record {
-  found : (words : List ℕ) → l.going.items ≡ filter (goes (program_over l.members words)) (range_with_len 0 l.m);
+  found : (words : List ℕ) (letters : List (Option (List Entry)))
+      → l.going.items ≡ filter (goes (program_over l.members words letters)) (range_with_len 0 l.m);
   few : length l.going.items ≤ l.m;
 }

@@ -1,7 +1,7 @@
-use Rattle.std.proofs.Common.{rules, sym, ap, ◌∙◌, ◌==◌}
+use Rattle.std.proofs.Common.{rules, sym, ap, ◌∙◌, ◌==◌, length}
 use Rattle.std.specs.List.{remove}
 use Rattle.dr_sim.proofs.Logs.{places_both, places_same}
-use Rattle.dr_sim.proofs.Choices.{chosen_again, going_on, count_none, nothing_chosen, one_has_ended, picked, seeded, count_some}
+use Rattle.dr_sim.proofs.Choices.{chosen_again, chosen_place, going_on, count_none, nothing_chosen, one_has_ended, picked, seeded, count_some}
 use Rattle.dr_sim.specs.Sound.{program_over}
 use Rattle.dr_sim.proofs.Steps.{going_within}
 use Rattle.dr_sim.proofs.seeded.run_by_seed.Goals as goal
@@ -9,10 +9,11 @@ use Rattle.dr_sim.proofs.seeded.run_by_seed.Goals as goal
 pub members-init : goal.members-init
 members-init g c = record {
   sound = c.requires.1.1.1.0;
-  going = c.going-going.ensures c.args.table.now;
-  chosen = nothing_chosen g.W.Watcher.sees c.args.watcher.now c.args.seed c.new-lcg.result (program_over c.args.members.now c.args.table.now)
+  going = c.going-going.ensures c.args.table.now c.args.posts.now.letters;
+  chosen = nothing_chosen g.W.Watcher.sees c.args.watcher.now c.args.seed c.new-lcg.result (program_over c.args.members.now c.args.table.now c.args.posts.now.letters)
       c.new-lcg.ensures;
-  ready = c.requires.1.1.1.1;
+  ready = c.requires.1.1.1.1.0;
+  lists = c.requires.1.1.1.1.1;
   places = places_same c.args.logs.now;
   served = λ bases served. served;
 }
@@ -26,13 +27,14 @@ deeds-init g c = record {
       ∙ sym c.is_empty.ensures ∙ c.members-test.true);
   chosen = c.members.invariant.chosen;
   ready = c.members.invariant.ready;
+  lists = c.members.invariant.lists;
   places = c.members.invariant.places;
   served = c.members.invariant.served;
 }
 
 pub take_deed-requires-send-D : goal.take_deed-requires-send-D
 take_deed-requires-send-D g c = λ ks within.
-    let pick = picked c.deeds.lcg (program_over c.deeds.members c.deeds.table) c.deeds.going.items c.deref.result.now c.len-few.result
+    let pick = picked c.deeds.lcg (program_over c.deeds.members c.deeds.table c.deeds.posts.letters) c.deeds.going.items c.deref.result.now c.len-few.result
     c.choose_few-at.result c.deeds.invariant.going c.deref.ensures.0 c.deeds.invariant.few
     c.deeds.invariant.some c.choose_few-at.ensures.choice in (
       within.0,
@@ -46,7 +48,7 @@ take_deed-requires-send-D g c = λ ks within.
               pick.goes,
               (
                 going_within c.deeds.members _ pick.goes,
-                c.deeds.invariant.ready,
+                (c.deeds.invariant.ready, c.deeds.invariant.lists),
               ),
             ),
           ),
@@ -56,21 +58,26 @@ take_deed-requires-send-D g c = λ ks within.
 
 pub members-preserved : goal.members-preserved
 members-preserved g c =
-    let pick = picked c.deeds.lcg (program_over c.deeds.members c.deeds.table) c.deeds.going.items c.deref.result.now c.len-few.result
+    let pick = picked c.deeds.lcg (program_over c.deeds.members c.deeds.table c.deeds.posts.letters) c.deeds.going.items c.deref.result.now c.len-few.result
     c.choose_few-at.result c.deeds.invariant.going c.deref.ensures.0 c.deeds.invariant.few
     c.deeds.invariant.some c.choose_few-at.ensures.choice in
     let took = c.take_deed.ensures.took in
     let all = took.sound.form.all ∙ sym c.deeds.invariant.sound.form.all in record {
       sound = took.sound;
-      going = c.strike.ensures.items ∙ ap (λ xs. remove xs c.choose_few-at.result) c.deeds.invariant.going
-          ∙ sym (one_has_ended (program_over c.deeds.members c.deeds.table) (program_over c.take_deed.new.members c.take_deed.new.table) _ c.choose_few-at.result took.outcome
+      going = c.strike.ensures.items
+          ∙ ap (remove c.deeds.going.items) (chosen_place c.deeds.lcg c.choose_few-at.new.self c.state.result c.len-few.result
+          (length c.deeds.going.items) c.choose_few-at.result c.state.ensures c.choose_few-at.ensures.state
+          c.deeds.invariant.few c.choose_few-at.ensures.choice)
+          ∙ ap (λ xs. remove xs c.choose_few-at.result) c.deeds.invariant.going
+          ∙ sym (one_has_ended (program_over c.deeds.members c.deeds.table c.deeds.posts.letters) (program_over c.take_deed.new.members c.take_deed.new.table c.take_deed.new.posts.letters) _ c.choose_few-at.result took.outcome
           took.step all pick.within pick.place
           (sym c.take_deed.ensures.ended ∙ c.if-take_deed.true));
-      chosen = chosen_again c.take_deed.new.watcher c.args.seed (program_over c.args.members.now c.args.table.now) c.deeds.lcg
-          c.choose_few-at.new.self (program_over c.deeds.members c.deeds.table) (program_over c.take_deed.new.members c.take_deed.new.table) _ took.outcome
+      chosen = chosen_again c.take_deed.new.watcher c.args.seed (program_over c.args.members.now c.args.table.now c.args.posts.now.letters) c.deeds.lcg
+          c.choose_few-at.new.self (program_over c.deeds.members c.deeds.table c.deeds.posts.letters) (program_over c.take_deed.new.members c.take_deed.new.table c.take_deed.new.posts.letters) _ took.outcome
           c.deeds.invariant.chosen pick.choice
           c.choose_few-at.ensures.state took.step took.well pick.goes c.take_deed.ensures.told;
       ready = c.take_deed.ensures.ready;
+      lists = c.take_deed.ensures.lists;
       places = places_both c.args.logs.now c.deeds.logs c.take_deed.new.logs c.deeds.invariant.places
           c.take_deed.ensures.places;
       served = λ bases served. c.take_deed.ensures.served bases (c.deeds.invariant.served bases served);
@@ -78,22 +85,23 @@ members-preserved g c =
 
 pub deeds-preserved : goal.deeds-preserved
 deeds-preserved g c =
-    let pick = picked c.deeds.lcg (program_over c.deeds.members c.deeds.table) c.deeds.going.items c.deref.result.now c.len-few.result
+    let pick = picked c.deeds.lcg (program_over c.deeds.members c.deeds.table c.deeds.posts.letters) c.deeds.going.items c.deref.result.now c.len-few.result
     c.choose_few-at.result c.deeds.invariant.going c.deref.ensures.0 c.deeds.invariant.few
     c.deeds.invariant.some c.choose_few-at.ensures.choice in
     let took = c.take_deed.ensures.took in
     let all = took.sound.form.all ∙ sym c.deeds.invariant.sound.form.all in record {
       sound = took.sound;
       going = c.deeds.invariant.going
-          ∙ sym (going_on (program_over c.deeds.members c.deeds.table) (program_over c.take_deed.new.members c.take_deed.new.table) _ took.outcome took.step all pick.goes
+          ∙ sym (going_on (program_over c.deeds.members c.deeds.table c.deeds.posts.letters) (program_over c.take_deed.new.members c.take_deed.new.table c.take_deed.new.posts.letters) _ took.outcome took.step all pick.goes
           (sym c.take_deed.ensures.ended ∙ c.if-take_deed.false));
       few = c.deeds.invariant.few;
       some = c.deeds.invariant.some;
-      chosen = chosen_again c.take_deed.new.watcher c.args.seed (program_over c.args.members.now c.args.table.now) c.deeds.lcg
-          c.choose_few-at.new.self (program_over c.deeds.members c.deeds.table) (program_over c.take_deed.new.members c.take_deed.new.table) _ took.outcome
+      chosen = chosen_again c.take_deed.new.watcher c.args.seed (program_over c.args.members.now c.args.table.now c.args.posts.now.letters) c.deeds.lcg
+          c.choose_few-at.new.self (program_over c.deeds.members c.deeds.table c.deeds.posts.letters) (program_over c.take_deed.new.members c.take_deed.new.table c.take_deed.new.posts.letters) _ took.outcome
           c.deeds.invariant.chosen pick.choice
           c.choose_few-at.ensures.state took.step took.well pick.goes c.take_deed.ensures.told;
       ready = c.take_deed.ensures.ready;
+      lists = c.take_deed.ensures.lists;
       places = places_both c.args.logs.now c.deeds.logs c.take_deed.new.logs c.deeds.invariant.places
           c.take_deed.ensures.places;
       served = λ bases served. c.take_deed.ensures.served bases (c.deeds.invariant.served bases served);
@@ -101,6 +109,6 @@ deeds-preserved g c =
 
 pub returns-clause-run : goal.returns-clause-run
 returns-clause-run g c =
-    seeded c.args.seed (program_over c.args.members.now c.args.table.now) c.members.lcg (program_over c.members.members c.members.table) c.members.going.items
+    seeded c.args.seed (program_over c.args.members.now c.args.table.now c.args.posts.now.letters) c.members.lcg (program_over c.members.members c.members.table c.members.posts.letters) c.members.going.items
     c.members.invariant.chosen c.members.invariant.going
     (count_none _ (sym c.is_empty.ensures ∙ c.members-test.false))

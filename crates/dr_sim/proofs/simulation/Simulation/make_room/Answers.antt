@@ -30,7 +30,8 @@ loop-m-preserved g c =
     one_more_made g.D.Disk.told g.D.Disk.faults c.args.self.now.members c.args.logs.now c.loop-m.logs c.loop-m.m
     c.index.result.now c.index-logs-m.result c.make_room_at.new.place c.loop-m.invariant
     (omega (arith, c.loop-m-test.true, c.loop-m.invariant.places.all))
-    (place_read c.self.inside.members.items c.self.inside.table.items c.args.self.now c.loop-m.m
+    (place_read c.self.inside.members.items c.self.inside.table.items c.self.inside.posts.letters
+    c.args.self.now c.loop-m.m
     c.index.result.now c.self.view_is
     (omega (arith, c.loop-m-test.true, c.requires.all)) c.index.ensures)
     c.make_room_at.ensures.stays c.in_ok-make_room_at.ensures.room
