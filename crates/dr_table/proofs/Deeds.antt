@@ -1,6 +1,7 @@
 -- Deeds that store, appends, and which program a deed makes.
 use Rattle.std.proofs.Common.{◌≡◌, refl, sym, ap, ◌∙◌, subst, ℕ, true, List, [], ◌∷◌, ◌++◌, set-set}
-use Rattle.std.specs.Prelude.{None, Some, Option}
+use Rattle.std.specs.Prelude.{None, Some, Option, slice_index_or}
+use Rattle.dr_entry.specs.declared.entry.Entry.{Entry}
 use Rattle.dr_member.specs.Deeds.{is_append}
 use Rattle.dr_program.specs.declared.deed.Deed.{Deed}
 use Rattle.dr_program.specs.declared.deed.Deed.TheVariants as deeds
@@ -8,11 +9,11 @@ use Rattle.dr_program.specs.declared.outcome.Outcome.{Outcome}
 use Rattle.dr_program.specs.declared.outcome.Outcome.TheVariants as outcomes
 use Rattle.dr_program.specs.Program.{IsRanFrom, Move, Program, after_deed, appended_as, next_sight, ran, step_of}
 use Rattle.dr_program.specs.Running.{Running, after_step, next_deed, next_step, took}
-use Rattle.dr_program.specs.Steps.{IsAppend, stored}
+use Rattle.dr_program.specs.Steps.{IsAppend, stored, stored_letters}
 use Rattle.dr_program.proofs.Fixed.{Told, told, step_told}
 use Rattle.dr_program.proofs.Runs.{ran_on}
 use Rattle.dr_refine.proofs.Deeds.{settle_replica, step_is}
-use Rattle.dr_age.proofs.Deeds.{IsStoreAt, after_append, deed_tells, stored_append}
+use Rattle.dr_age.proofs.Deeds.{IsStoreAt, after_append, deed_tells, posted_append, stored_append}
 use Rattle.dr_table.specs.Rule.{number}
 use Rattle.dr_table.specs.Deeds.{IsStore}
 use Rattle.dr_table.specs.Steps.{HasAppended}
@@ -74,62 +75,76 @@ same_number r x same = ap (λ (t : Told). t.number) same
 -- ---- programs
 
 -- one deed more
-pub deed_ran : (begun : Program) (words : List ℕ) (members : List (Option Running)) (m : ℕ) (o : Outcome)
+pub deed_ran : (begun : Program) (words : List ℕ) (letters : List (Option (List Entry))) (members : List (Option Running)) (m : ℕ) (o : Outcome)
     (r : Running) → present_at members m ≡ Some r → r.replica.end ≡ None
-    → IsRanFrom begun (record { members = members; table = words })
+    → IsRanFrom begun (record { members = members; table = words; letters = letters })
     → IsRanFrom begun (record {
-      members = with_present members m (after_deed (next_sight words r) o r (next_step r));
+      members = with_present members m
+          (after_deed (next_sight words r) (slice_index_or letters m None) o r (next_step r));
       table = stored words r.replica (next_step r);
+      letters = stored_letters letters r.replica (next_step r);
     })
 unfolding ran
-deed_ran begun words members m o r there none (es, is) = (
+deed_ran begun words letters members m o r there none (es, is) = (
   es ++ e ∷ [],
   sym (ran_on begun es (e ∷ []) ∙ ap (λ p. step_of p e) (sym is)
-      ∙ step_is (record { members = members; table = words }) e r there none),
+      ∙ step_is (record { members = members; table = words; letters = letters }) e r there none),
 )
   where
     e : Move
     e = record { member = m; outcome = o }
 
 -- appends, one after the other
-pub appends_ran : (begun : Program) (words : List ℕ) (os : List Outcome) (members : List (Option Running)) (m : ℕ)
+pub appends_ran : (begun : Program) (words : List ℕ) (letters : List (Option (List Entry))) (os : List Outcome) (members : List (Option Running)) (m : ℕ)
     (r q : Running) → HasAppended os r q → present_at members m ≡ Some r
-    → IsRanFrom begun (record { members = members; table = words })
-    → IsRanFrom begun (record { members = with_present members m q; table = words })
-appends_ran begun words [] members m r q same there ran =
-    subst (λ x. IsRanFrom begun (record { members = with_present members m x; table = words })) same
-    (subst (λ l. IsRanFrom begun (record { members = l; table = words })) (sym (again members m r there))
+    → IsRanFrom begun (record { members = members; table = words; letters = letters })
+    → IsRanFrom begun (record { members = with_present members m q; table = words; letters = letters })
+appends_ran begun words letters [] members m r q same there ran =
+    subst (λ x. IsRanFrom begun (record { members = with_present members m x; table = words; letters = letters })) same
+    (subst (λ l. IsRanFrom begun (record { members = l; table = words; letters = letters })) (sym (again members m r there))
     ran)
-appends_ran begun words (o ∷ os) members m r q (due, more) there ran =
+appends_ran begun words letters (o ∷ os) members m r q (due, more) there ran =
     let (none, step) = append_due r due in
     let x = appended_as o r in
-    let once : IsRanFrom begun (record { members = with_present members m x; table = words }) =
-    subst (λ t. IsRanFrom begun (record { members = with_present members m x; table = t }))
+    let once : IsRanFrom begun (record { members = with_present members m x; table = words; letters = letters }) =
+    subst (λ t. IsRanFrom begun (record { members = with_present members m x; table = t; letters = letters }))
     (stored_append words r.replica (next_step r) step)
-    (subst (λ y. IsRanFrom begun
-    (record { members = with_present members m y; table = stored words r.replica (next_step r) }))
-    (after_append (next_sight words r) o r (next_step r) step)
-    (deed_ran begun words members m o r there none ran)) in
-    subst (λ l. IsRanFrom begun (record { members = l; table = words })) (set-set members m (Some x) (Some q))
-    (appends_ran begun words os (with_present members m x) m x q more
+    (subst (λ ls. IsRanFrom begun (record {
+      members = with_present members m x;
+      table = stored words r.replica (next_step r);
+      letters = ls;
+    })) (posted_append letters r.replica (next_step r) step)
+    (subst (λ y. IsRanFrom begun (record {
+      members = with_present members m y;
+      table = stored words r.replica (next_step r);
+      letters = stored_letters letters r.replica (next_step r);
+    })) (after_append (next_sight words r) (slice_index_or letters m None) o r (next_step r) step)
+    (deed_ran begun words letters members m o r there none ran))) in
+    subst (λ l. IsRanFrom begun (record { members = l; table = words; letters = letters })) (set-set members m (Some x) (Some q))
+    (appends_ran begun words letters os (with_present members m x) m x q more
     (present_set members m x (present_within members m r there)) once)
 
 -- appends, and then a deed
-pub deeds_ran : (begun : Program) (words cells : List ℕ) (os : List Outcome) (members : List (Option Running)) (m : ℕ)
+pub deeds_ran : (begun : Program) (words cells : List ℕ) (letters : List (Option (List Entry))) (os : List Outcome) (members : List (Option Running)) (m : ℕ)
     (r q x : Running) → HasAppended os r q → present_at members m ≡ Some r → q.replica.end ≡ None
-    → after_deed (next_sight words q) outcomes.Ok q (next_step q) ≡ x → stored words q.replica (next_step q)
-    ≡ cells
-    → IsRanFrom begun (record { members = members; table = words })
-    → IsRanFrom begun (record { members = with_present members m x; table = cells })
-deeds_ran begun words cells os members m r q x more there none to stores ran =
-    let caught = appends_ran begun words os members m r q more there ran in
+    → after_deed (next_sight words q) (slice_index_or letters m None) outcomes.Ok q (next_step q) ≡ x
+    → stored words q.replica (next_step q) ≡ cells → stored_letters letters q.replica (next_step q) ≡ letters
+    → IsRanFrom begun (record { members = members; table = words; letters = letters })
+    → IsRanFrom begun (record { members = with_present members m x; table = cells; letters = letters })
+deeds_ran begun words cells letters os members m r q x more there none to stores posts ran =
+    let caught = appends_ran begun words letters os members m r q more there ran in
     let here = present_set members m q (present_within members m r there) in
-    subst (λ l. IsRanFrom begun (record { members = l; table = cells })) (set-set members m (Some q) (Some x))
-    (subst (λ t. IsRanFrom begun (record { members = with_present (with_present members m q) m x; table = t }))
+    subst (λ l. IsRanFrom begun (record { members = l; table = cells; letters = letters })) (set-set members m (Some q) (Some x))
+    (subst (λ t. IsRanFrom begun (record { members = with_present (with_present members m q) m x; table = t; letters = letters }))
     stores
-    (subst (λ y. IsRanFrom begun
-    (record {
+    (subst (λ ls. IsRanFrom begun (record {
+      members = with_present (with_present members m q) m x;
+      table = stored words q.replica (next_step q);
+      letters = ls;
+    })) posts
+    (subst (λ y. IsRanFrom begun (record {
       members = with_present (with_present members m q) m y;
       table = stored words q.replica (next_step q);
+      letters = stored_letters letters q.replica (next_step q);
     })) to
-    (deed_ran begun words (with_present members m q) m outcomes.Ok q here none caught)))
+    (deed_ran begun words letters (with_present members m q) m outcomes.Ok q here none caught))))

@@ -6,7 +6,7 @@ use Rattle.std.proofs.lemmas.List.{get_or_past, length-map}
 use Rattle.std.proofs.lemmas.List.Sums.{sum_by-cons}
 use Rattle.std.proofs.lemmas.Option.{same_Some}
 use Rattle.dr_history.specs.Members.{has}
-use Rattle.dr_history.specs.Soundness.{AreOfRoster}
+use Rattle.dr_history.specs.Order.{AreOfRoster}
 use Rattle.dr_machine.specs.Group.{banks, roster}
 use Rattle.dr_member.specs.Deeds.{is_append}
 use Rattle.dr_program.specs.declared.outcome.Outcome.{Outcome}
@@ -25,7 +25,7 @@ use Rattle.dr_words.proofs.Bits.{has_zero}
 use Rattle.dr_words.proofs.Masks.{same_masks}
 use Rattle.dr_words.proofs.Places.{word_index_within}
 use Rattle.dr_table.specs.Cards.{AreAtEnd, AreOf, AreReached, Cards, IsAtEnd, opened}
-use Rattle.dr_table.specs.Rule.{Found, HasSuchProgram, IsDealt, number}
+use Rattle.dr_table.specs.Rule.{Found, HasSuchProgram, IsDealt, no_posts, number}
 use Rattle.dr_table.specs.Steps.{AreAhead, HasAppended, IsAhead}
 use Rattle.dr_age.proofs.Deeds.{unended_append}
 use Rattle.dr_table.proofs.Deeds.{append_due}
@@ -211,6 +211,7 @@ dealt_reached dealt d k r there = (
       form = dealt_program dealt d;
       reached = begun_reached d.group d.turns d.setups d.is d.are;
     };
+    nobody = d.nobody;
     there = ap (present_at (begun_program d.group d.setups).members) (dealt_number dealt d k r there)
         ∙ dealt_there dealt d k r there;
   },
@@ -222,7 +223,8 @@ pub dealt_words : (dealt : List (Option Running)) (d : IsDealt dealt)
 dealt_words dealt d =
     let some : 0 < roster d.group = let s = d.is.some_member in omega arith in
     let column : 0 < columns_of (roster d.group) d.group.window = omega arith in
-    let below = word_index_within (roster d.group) d.group.window (banks d.group) 0 0 0 0 some some some
+    let bank : 0 < banks d.group = omega (arith, some) in
+    let below = word_index_within (roster d.group) d.group.window (banks d.group) 0 0 0 0 bank some some
     column in
     omega (arith, below)
 
@@ -274,9 +276,13 @@ dealt_some dealt d =
 -- the board opens with the program of the group
 pub dealt_opened : (dealt : List (Option Running)) (d : IsDealt dealt) (words : ℕ)
     → words ≡ words_of (roster d.group) d.group.window (banks d.group)
-    → ◌≡◌ {A = Program} (record { members = dealt; table = replicate words 0 })
+    → ◌≡◌ {A = Program} (record { members = dealt; table = replicate words 0; letters = no_posts dealt })
     (begun_program d.group d.setups)
-dealt_opened dealt d words same = λ z. record { members = d.begun z; table = replicate (same z) 0 }
+dealt_opened dealt d words same = λ z. record {
+  members = d.begun z;
+  table = replicate (same z) 0;
+  letters = replicate (dealt_few dealt d z) None;
+}
 
 -- no deeds
 none_ran : (begun p : Program) → p ≡ begun → IsRanFrom begun p
@@ -290,7 +296,11 @@ pub dealt_kept : (dealt : List (Option Running)) (d : IsDealt dealt) (words : �
 dealt_kept dealt d words same = record {
   opening = d;
   members = dealt;
-  ran = none_ran (begun_program d.group d.setups) (record { members = dealt; table = replicate words 0 })
+  ran = none_ran (begun_program d.group d.setups) (record {
+    members = dealt;
+    table = replicate words 0;
+    letters = no_posts dealt;
+  })
       (dealt_opened dealt d words same);
   stands = record {
     each = λ s a r f. let at = only s a r f in

@@ -1,6 +1,6 @@
 -- The steps of a hand's members keep the rule, and what they tell.
 use Rattle.std.proofs.Common.{◌≡◌, refl, sym, ap, ◌∙◌, subst, ℕ, true, List, length, length-set}
-use Rattle.std.specs.Prelude.{None, Some, slice_get, slice_index, slice_set, Option}
+use Rattle.std.specs.Prelude.{None, Some, slice_get, slice_index, slice_index_or, slice_set, Option}
 use Rattle.std.proofs.lemmas.List.{set-get_or}
 use Rattle.atomic_table.specs.Table.{keeps, Allows, Me}
 use Rattle.dr_machine.specs.Group.{Group}
@@ -9,7 +9,7 @@ use Rattle.dr_member.specs.Deeds.{is_append}
 use Rattle.dr_program.specs.declared.deed.Deed.TheVariants as deeds
 use Rattle.dr_program.specs.declared.outcome.Outcome.{Outcome}
 use Rattle.dr_program.specs.declared.outcome.Outcome.TheVariants as outcomes
-use Rattle.dr_program.specs.Program.{IsRanFrom, Move, Program, after_deed, appended_as, begun_program, next_sight, step_of}
+use Rattle.dr_program.specs.Program.{IsRanFrom, Move, Program, after_deed, appended_as, begun_program, letter_for, next_sight, step_of}
 use Rattle.dr_program.specs.Reading.{step_due, step_of_member, world}
 use Rattle.dr_program.specs.Running.{Running, after_step, next_deed, next_step}
 use Rattle.dr_program.specs.Sight.{MaySee}
@@ -17,9 +17,11 @@ use Rattle.dr_program.specs.Steps.{stored}
 use Rattle.dr_program_laws.proofs.Keeping.{deeds_kept, move_kept, sees}
 use Rattle.dr_refine.specs.Programs.{IsProgram}
 use Rattle.dr_refine.proofs.Deeds.{step_is}
+use Rattle.dr_age.specs.Sound.{IsOfNoLetter}
+use Rattle.dr_age.proofs.Letters.{deals_with_none}
 use Rattle.dr_age.proofs.Deeds.{after_append, any_outcome, at_look, deed_tells}
 use Rattle.dr_table.specs.Deeds.{IsStore}
-use Rattle.dr_table.specs.Rule.{HasSuchProgram, number}
+use Rattle.dr_table.specs.Rule.{HasSuchProgram, no_posts, number}
 use Rattle.dr_table.specs.Steps.{HasAppended, IsAhead, IsOfProgram, IsReachedMember, Looked, MayFind, Stored}
 use Rattle.dr_table.proofs.Deeds.{after_told, append_due, appended_told, appends_ran, appends_told, deeds_ran, same_number, stores}
 use Rattle.dr_table.proofs.Lists.{by_table, sum_again}
@@ -40,7 +42,7 @@ kept_program dealt words views k p ran =
 
 -- a member goes on by a deed
 goes_on : (g : Group) (p : Program) (r x : Running) (o : Outcome) → IsOfProgram g p r → r.replica.end ≡ None
-    → after_deed (next_sight p.table r) o r (next_step r) ≡ x → number x ≡ number r → IsReachedMember x
+    → after_deed (next_sight p.table r) (letter_for p (number r)) o r (next_step r) ≡ x → number x ≡ number r → IsReachedMember x
 goes_on g p r x o is none to same =
     let e : Move = record { member = number r; outcome = o } in
     let kept = move_kept g p e is.sound.group is.sound.form is.sound.reached in (
@@ -48,10 +50,11 @@ goes_on g p r x o is none to same =
       step_of p e,
       record {
         sound = record { group = is.sound.group; form = kept.0; reached = kept.1 };
+        nobody = is.nobody;
         there = ap (λ (q : Program). present_at q.members (number x)) (step_is p e r is.there none)
             ∙ ap (present_at (with_present p.members (number r)
-            (after_deed (next_sight p.table r) o r (next_step r)))) same
-            ∙ present_set p.members (number r) (after_deed (next_sight p.table r) o r (next_step r))
+            (after_deed (next_sight p.table r) (letter_for p (number r)) o r (next_step r)))) same
+            ∙ present_set p.members (number r) (after_deed (next_sight p.table r) (letter_for p (number r)) o r (next_step r))
             (present_within p.members (number r) r is.there)
             ∙ ap (λ y. Some y) to;
       },
@@ -63,9 +66,13 @@ pub look_reached : (r : Running) (index word : ℕ) → next_deed r ≡ deeds.Lo
 look_reached r index word next (g, p, is, found) =
     let t = deed_tells p.table r (deeds.Look index) next in
     goes_on g p r (after_step word r) outcomes.Ok is t.none
-    (any_outcome (next_sight p.table r) outcomes.Ok r (next_step r) (at_look r index next)
-    ∙ ap (λ w. after_step w r) found)
+    (any_outcome (next_sight p.table r) (letter_for p (number r)) outcomes.Ok r (next_step r)
+    (at_look r index next) t.says.no_join ∙ ap (λ w. after_step w r) found)
     (same_number r (after_step word r) (after_told word r))
+
+-- such a member deals with no letter
+pub reached_plain : (r : Running) → IsReachedMember r → IsOfNoLetter (next_deed r)
+reached_plain r (g, p, is) = deals_with_none g p (number r) r is.sound is.nobody is.there
 
 -- by a deed that stores
 pub store_reached : (r : Running) (index word : ℕ) → IsStore index word (next_deed r) → IsReachedMember r
@@ -73,8 +80,8 @@ pub store_reached : (r : Running) (index word : ℕ) → IsStore index word (nex
 store_reached r index word next (g, p, is) =
     let t = stores p.table r index word next in
     goes_on g p r (after_step 0 r) outcomes.Ok is t.none
-    (any_outcome (next_sight p.table r) outcomes.Ok r (next_step r) t.says.other
-    ∙ ap (λ w. after_step w r) t.says.sees)
+    (any_outcome (next_sight p.table r) (letter_for p (number r)) outcomes.Ok r (next_step r) t.says.other
+    t.says.no_join ∙ ap (λ w. after_step w r) t.says.sees)
     (same_number r (after_step 0 r) (after_told 0 r))
 
 -- by an append
@@ -83,7 +90,7 @@ pub append_reached : (r : Running) (o : Outcome) → is_append (next_deed r) ≡
 append_reached r o due (g, p, is) =
     let (none, step) = append_due r due in
     goes_on g p r (appended_as o r) o is none
-    (after_append (next_sight p.table r) o r (next_step r) step)
+    (after_append (next_sight p.table r) (letter_for p (number r)) o r (next_step r) step)
     (same_number r (appended_as o r) (appended_told o r))
 
 -- the word that a look may find, its member may see
@@ -102,8 +109,9 @@ kept_step : (dealt : List (Option Running)) (words cells : List ℕ) (views : Li
     (v : List (Option Running)) (at : ℕ) (r x : Running) → slice_get views id ≡ Some v → present_at v at ≡ Some r
     → number x ≡ number r
     → ((begun : Program) (members : List (Option Running)) → present_at members (number r) ≡ Some r
-    → IsRanFrom begun (record { members = members; table = words })
-    → IsRanFrom begun (record { members = with_present members (number r) x; table = cells }))
+    → IsRanFrom begun (record { members = members; table = words; letters = no_posts dealt })
+    → IsRanFrom begun
+    (record { members = with_present members (number r) x; table = cells; letters = no_posts dealt }))
     → HasSuchProgram dealt words views → HasSuchProgram dealt cells (slice_set views id (with_present v at x))
 kept_step dealt words cells views id v at r x is here same moves k = record {
   opening = k.opening;
@@ -122,14 +130,17 @@ may_find : (dealt : List (Option Running)) (words : List ℕ) (views : List (Lis
 may_find dealt words views id v at os r q index is here more next k =
     let there = k.stands.each id at r (v, is, here) in
     let named = same_number r q (appends_told os r q more) in
-    let p : Program = record { members = with_present k.members (number r) q; table = words } in
+    let p : Program =
+    record { members = with_present k.members (number r) q; table = words; letters = no_posts dealt } in
     let kept = kept_program dealt words views k p
-    (appends_ran (begun_program k.opening.group k.opening.setups) words os k.members (number r) r q more there
+    (appends_ran (begun_program k.opening.group k.opening.setups) words (no_posts dealt) os k.members (number r) r q
+    more there
     k.ran) in (
       k.opening.group,
       p,
       record {
         sound = record { group = k.opening.is; form = kept.0; reached = kept.1 };
+        nobody = k.opening.nobody;
         there = ap (present_at (with_present k.members (number r) q)) named
             ∙ present_set k.members (number r) q (present_within k.members (number r) r there);
       },
@@ -148,10 +159,11 @@ look_allowed dealt slots id at index me r q here (os, more) next s k _ is _ =
     let t = deed_tells s.words q (deeds.Look index) next in
     let kept = kept_step dealt s.words s.words s.views id v at r x home here
     (same_number q x (after_told found q) ∙ same_number r q (appends_told os r q more))
-    (λ begun members there ran. deeds_ran begun s.words s.words os members (number r) r q x more there t.none
-    (any_outcome (next_sight s.words q) outcomes.Ok q (next_step q) (at_look q index next)
-    ∙ ap (λ w. after_step w q) t.says.sees)
-    (ap (stored s.words q.replica) t.says.look) ran)
+    (λ begun members there ran. deeds_ran begun s.words s.words (no_posts dealt) os members (number r) r q x more
+    there t.none
+    (any_outcome (next_sight s.words q) (slice_index_or (no_posts dealt) (number r) None) outcomes.Ok q
+    (next_step q) (at_look q index next) t.says.no_join ∙ ap (λ w. after_step w q) t.says.sees)
+    (ap (stored s.words q.replica) t.says.look) (t.says.posts (no_posts dealt)) ran)
     k in (
       with_present v at x,
       keeps,
@@ -172,10 +184,10 @@ store_allowed dealt slots id at index new me r q here (os, more) next s k _ is _
     let t = stores s.words q index new next in
     let kept = kept_step dealt s.words (slice_set s.words index new) s.views id v at r x home here
     (same_number q x (after_told 0 q) ∙ same_number r q (appends_told os r q more))
-    (λ begun members there ran. deeds_ran begun s.words (slice_set s.words index new) os members (number r) r
-    q
-    x more there t.none
-    (any_outcome (next_sight s.words q) outcomes.Ok q (next_step q) t.says.other
-    ∙ ap (λ w. after_step w q) t.says.sees) t.says.stores ran)
+    (λ begun members there ran. deeds_ran begun s.words (slice_set s.words index new) (no_posts dealt) os members
+    (number r) r q x more there t.none
+    (any_outcome (next_sight s.words q) (slice_index_or (no_posts dealt) (number r) None) outcomes.Ok q
+    (next_step q) t.says.other t.says.no_join ∙ ap (λ w. after_step w q) t.says.sees) t.says.stores
+    (t.says.posts (no_posts dealt)) ran)
     k in
     (with_present v at x, keeps, tt, kept, (refl, refl))

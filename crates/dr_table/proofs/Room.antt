@@ -11,7 +11,7 @@ use Rattle.dr_program.specs.Running.{Running, begun_running}
 use Rattle.dr_program.proofs.Present.{present_map, present_within}
 use Rattle.dr_refine.specs.Programs.{IsProgram}
 use Rattle.dr_table.specs.Cards.{AreSame}
-use Rattle.dr_table.specs.Rule.{HasSuchProgram, number}
+use Rattle.dr_table.specs.Rule.{HasSuchProgram, no_posts, number}
 use Rattle.dr_table.proofs.Hands.{dealt_few, dealt_number}
 use Rattle.dr_table.proofs.Keeping.{kept_program}
 use Rattle.dr_table.proofs.Lists.{by_table, same_places, set_again}
@@ -46,8 +46,8 @@ pub whole : (dealt : List (Option Running)) (words : List ℕ) (views : List (Li
     → k.members ≡ v
 whole dealt words views id v is same k = same_places k.members v lengths filled here
   where
-    form : IsProgram k.opening.group (record { members = k.members; table = words })
-    form = (kept_program dealt words views k (record { members = k.members; table = words }) k.ran).0
+    form : IsProgram k.opening.group (record { members = k.members; table = words; letters = no_posts dealt })
+    form = (kept_program dealt words views k (record { members = k.members; table = words; letters = no_posts dealt }) k.ran).0
 
     lengths : length k.members ≡ length v
     lengths = form.all ∙ sym (dealt_few dealt k.opening) ∙ sym (length-map dealt (option_map number))

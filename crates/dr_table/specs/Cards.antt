@@ -5,7 +5,7 @@ use Rattle.dr_member.specs.Deeds.{table_size}
 use Rattle.dr_program.specs.Program.{Program}
 use Rattle.dr_program.specs.Running.{Running, after_step}
 use Rattle.dr_turn.specs.Work.{deeds_left}
-use Rattle.dr_table.specs.Rule.{number}
+use Rattle.dr_table.specs.Rule.{no_posts, number}
 use Rattle.dr_table.specs.Steps.{IsReachedMember}
 use Rattle.dr_program.specs.Presence.{present_at, with_present}
 
@@ -20,9 +20,13 @@ pub record Cards : Type 0 where
   pub table : DealtTable
   pub members : List (Option Running)
 
--- the program as the age opens: the dealt members, over words that are all 0
+-- the program as the age opens: the dealt members, over words that are all 0, without letters
 abbrev pub opened : Cards → Program
-opened board = record { members = board.members; table = replicate board.table.id.words 0 }
+opened board = record {
+  members = board.members;
+  table = replicate board.table.id.words 0;
+  letters = no_posts board.members;
+}
 
 -- the members know the number of the table's words
 abbrev pub AreOf : ℕ → List (Option Running) → Type 0

@@ -1,6 +1,7 @@
 -- What steps make of the members of a seat, and what they tell.
 use Rattle.std.specs.Prelude.{◌≡◌, ℕ, true, List, [], ◌∷◌, length, None, Some, Option, is_some}
 use Rattle.dr_age.specs.Sound.{IsSound}
+use Rattle.dr_history.specs.Soundness.{IsNobodyLate}
 use Rattle.dr_machine.specs.Group.{Group}
 use Rattle.dr_machine.specs.World.{no_value}
 use Rattle.dr_member.specs.Deeds.{is_append}
@@ -10,9 +11,10 @@ use Rattle.dr_program.specs.Running.{Running, after_step, next_deed}
 use Rattle.dr_table.specs.Rule.{number}
 use Rattle.dr_program.specs.Presence.{present_at, with_present}
 
--- r is a member of this sound program of the group
+-- r is a member of this sound program of the group, in which nobody is late
 pub record IsOfProgram (g : Group) (p : Program) (r : Running) : Type 0 where
   pub sound : IsSound g p
+  pub nobody : IsNobodyLate g.opening
   pub there : present_at p.members (number r) ≡ Some r
 
 -- r is a member of some such program
@@ -56,10 +58,13 @@ nobody = record {
     banks = 0;
     messages = [];
     totals = [];
+    late = 0;
     rows = record { members = 0; columns = 0; me = 0; words = []; sent = []; frozen = [] };
     view = 0;
     members = 0;
     suspects = 0;
+    came_from = 0;
+    given = 0;
     tag = 0;
     value = no_value;
     committed = None;

@@ -4,7 +4,7 @@ ghost use Rattle.dr_program.specs.Program.{IsRanFrom, begun_program};
 ghost use Rattle.dr_table.specs.Cards.{AreAtEnd, AreOf, AreSame, opened};
 ghost use Rattle.dr_program.specs.Presence.{present_at};
 ghost use Rattle.dr_program.specs.Running.{Running};
-ghost use Rattle.dr_table.specs.Rule.{IsDealt};
+ghost use Rattle.dr_table.specs.Rule.{IsDealt, no_posts};
 
 use crate::hand::Hand;
 use crate::rule::{Ruled, View};
@@ -69,7 +69,7 @@ pub fn close(board: Board, hand: Hand) -> Vec<Option<Member>>
     requires ended { AreAtEnd hand.members }
     ensures members { result.items ≡ hand.members }
     ensures ran { (words : List ℕ)
-        × IsRanFrom (opened board) (record { members = result.items; table = words }) }
+        × IsRanFrom (opened board) (record { members = result.items; table = words; letters = no_posts board.members }) }
 {
     let Board { table } = board;
     let Hand { seat, members, .. } = hand;

@@ -1,5 +1,5 @@
 -- The run of one member, sweep by sweep and deed by deed.
-use Rattle.std.proofs.Common.{◌≡◌, refl, sym, ap, ◌∙◌, subst, ℕ, ◌<◌, true, false, List, [], ◌∷◌, length, map, true≢false, arith}
+use Rattle.std.proofs.Common.{◌≡◌, ◌⊎◌, inl, inr, refl, sym, ap, ◌∙◌, subst, ℕ, ◌<◌, true, false, List, [], ◌∷◌, length, map, true≢false, arith}
 use Rattle.std.specs.Prelude.{IsTrue, Option, None, Some, is_some, option_map}
 use Rattle.std.proofs.lemmas.List.{length-map}
 use Rattle.std.proofs.lemmas.Option.{same_Some}
@@ -15,6 +15,7 @@ use Rattle.dr_program.specs.Form.{IsRunningMember}
 use Rattle.dr_program.specs.Running.{Running, after_step, next_deed, next_step}
 use Rattle.dr_age.proofs.Deeds.{at_look, at_push, deed_tells}
 use Rattle.dr_age.proofs.Sound.{appends_well}
+use Rattle.dr_age.specs.Sound.{IsOfNoLetter}
 use Rattle.dr_turn.specs.Work.{deeds_left}
 use Rattle.dr_table.specs.Cards.{AreAtEnd, AreSame, HasFewerLeft, IsAtEnd}
 use Rattle.dr_table.specs.Rule.{number}
@@ -34,6 +35,11 @@ reached_well r (g, p, is) = appends_well g p (number r) r is.sound is.there
 
 pub reached_form : (r : Running) → IsReachedMember r → IsRunningMember r
 reached_form r (g, p, is) = is.sound.form.form (number r) r is.there
+
+-- a deed that deals with no letter is no give and no take
+pub no_letter : (d : Deed) → IsOfNoLetter d → ((late : ℕ) × (d ≡ deeds.Give late)) ⊎ (d ≡ deeds.Take) → ⊥
+no_letter d plain (inl give) = subst IsOfNoLetter give.1 plain
+no_letter d plain (inr take) = subst IsOfNoLetter take plain
 
 -- a look or a push is no append
 swept_other : (r : Running) → IsSwept (next_deed r) → is_append (next_step r) ≡ false

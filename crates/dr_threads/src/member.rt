@@ -57,6 +57,8 @@ fn take<D: Disk>(board: &Board, hand: &mut Hand, log: &mut Log<D>)
         Deed::Act(_, _) => hand.act(board, 0),
         Deed::Append(_) => append(hand, log),
         Deed::Rest(_) => {}
+        // Where nobody is late there are no letters.
+        Deed::Give { .. } | Deed::Take => unreachable!(),
     }
 }
 

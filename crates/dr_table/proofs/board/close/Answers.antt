@@ -2,7 +2,7 @@ use Rattle.std.proofs.Common.{◌≡◌, sym, ap, ◌∙◌, subst, length, map}
 use Rattle.std.specs.Prelude.{Some, option_map, slice_get}
 use Rattle.dr_program.specs.Program.{IsRanFrom, Program, begun_program}
 use Rattle.dr_table.specs.Cards.{AreAtEnd, AreSame, Cards}
-use Rattle.dr_table.specs.Rule.{number}
+use Rattle.dr_table.specs.Rule.{no_posts, number}
 use Rattle.dr_table.proofs.Hands.{board_opened, seat_knows}
 use Rattle.dr_table.proofs.Lists.{by_table}
 use Rattle.dr_table.proofs.Room.{whole}
@@ -30,7 +30,10 @@ returns-clause-ran c =
     }) c.args.board
     c.board.view_is kept.opening c.board.invariant.1 in (
       s.words,
-      subst (λ (b : Program). IsRanFrom b (record { members = items; table = s.words })) (sym begins)
+      subst (λ (b : Program). IsRanFrom b
+          (record { members = items; table = s.words; letters = no_posts c.args.board.members })) (sym begins)
+          (subst (λ (w : Cards). IsRanFrom (begun_program kept.opening.group kept.opening.setups)
+          (record { members = items; table = s.words; letters = no_posts w.members })) c.board.view_is
           (subst (λ l. IsRanFrom (begun_program kept.opening.group kept.opening.setups)
-          (record { members = l; table = s.words })) same kept.ran),
+          (record { members = l; table = s.words; letters = no_posts shared.key.items })) same kept.ran)),
     )

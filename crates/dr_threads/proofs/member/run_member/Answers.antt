@@ -1,5 +1,5 @@
 use Rattle.std.proofs.Common.{ap, not, ◌∙◌}
-use Rattle.dr_threads.proofs.Runs.{as_filled, as_many, ended_by, gone_more, one_ended}
+use Rattle.dr_threads.proofs.Runs.{as_filled, as_many, ended_by, gone_more, left_falls, one_ended}
 use Rattle.dr_threads.proofs.member.run_member.Goals as goal
 
 pub loop-hand-preserved-then-is_between_turns : goal.loop-hand-preserved-then-is_between_turns
@@ -17,6 +17,11 @@ loop-hand-preserved g c = record {
       ∙ c.loop-hand.invariant.there;
   gone = gone_more _ _ _ _ _ _ _ _ c.loop-hand.invariant.gone c.take.ensures.gone;
 }
+
+pub loop-hand-smaller-then-is_between_turns : goal.loop-hand-smaller-then-is_between_turns
+loop-hand-smaller-then-is_between_turns g c =
+    left_falls c.loop-hand.hand.members c.take.new.hand.members c.loop-hand.invariant.there
+    c.take.ensures.gone.same c.take.ensures.falls
 
 pub returns-clause-over : goal.returns-clause-over
 returns-clause-over g c = record {

@@ -1,10 +1,12 @@
-use Rattle.std.proofs.Common.{◌≡◌, ◌<◌, arith, refl, sym, ap, ◌∙◌, subst, []}
+use Rattle.std.proofs.Common.{◌≡◌, ◌<◌, ℕ, arith, refl, sym, ap, ◌∙◌, subst, true, []}
 use Rattle.std.specs.Prelude.{Some}
+use Rattle.dr_program.specs.declared.deed.Deed.{Deed}
+use Rattle.dr_program.specs.declared.deed.Deed.TheVariants as deeds
 use Rattle.dr_program.specs.Presence.{present_at}
 use Rattle.dr_program.proofs.Fixed.{told}
 use Rattle.dr_program.specs.Running.{Running, after_step}
 use Rattle.atomic_table.specs.Seated.{TableId}
-use Rattle.dr_member.specs.Deeds.{IsWithin, table_size}
+use Rattle.dr_member.specs.Deeds.{IsWithin, is_act, table_size}
 use Rattle.dr_table.specs.Cards.{Cards, DealtTable}
 use Rattle.dr_table.specs.Deeds.{IsStore}
 use Rattle.dr_table.specs.Steps.{IsAhead, IsReachedMember}
@@ -63,6 +65,17 @@ pub unreachable-requires : goal.unreachable-requires
 unreachable-requires c =
     never_empty c.self.inside c.args.self.now c.args.i c.index.result.now c.self.view_is c.requires.there
     c.index.ensures c.in_default.is
+
+-- an act is one by its index and its word
+an_act : (d : Deed) → is_act d ≡ true → ((index word : ℕ) → d ≡ deeds.Act index word → ⊥) → ⊥
+an_act (deeds.Act index word) is none = none index word refl
+an_act d is none = cc is
+
+pub unreachable-requires-in_default-next : goal.unreachable-requires-in_default-next
+unreachable-requires-in_default-next c =
+    let s = lent c.index.result.now c.self.invariant c.self.view_is c.requires.there c.index.ensures c.in-Some.is in
+    an_act c.next.result (ap is_act c.next.ensures.deed ∙ c.requires.deed c.in-Some.member (there s))
+    c.in_default-next.not-Act
 
 pub store_at-requires-clause-word : goal.store_at-requires-clause-word
 store_at-requires-clause-word c =
