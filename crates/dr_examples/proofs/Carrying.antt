@@ -4,7 +4,7 @@ use Rattle.std.specs.Prelude.{◌-◌, None, Option, Some, drop, slice_index_or,
 use Rattle.std.proofs.lemmas.List.Elements.{All-contains_itself, All-drop, All-push, All-take, All-weaker, Contains-append_left, Contains-append_right, Contains-push}
 use Rattle.std.proofs.lemmas.List.{get_or_default}
 use Rattle.dr_age.specs.Sound.{IsSound}
-use Rattle.dr_age.proofs.Deeds.{after_append, any_outcome, deed_tells, stored_append}
+use Rattle.dr_age.proofs.Deeds.{after_append, any_outcome, deed_tells, posted_append, stored_append}
 use Rattle.dr_entry.specs.declared.record.Record.{Record}
 use Rattle.dr_logged.specs.Appended.{is_append}
 use Rattle.dr_machine.specs.Group.{Group}
@@ -12,25 +12,22 @@ use Rattle.dr_member.specs.Deeds.{table_size}
 use Rattle.dr_program.specs.declared.deed.Deed.TheVariants as deeds
 use Rattle.dr_program.specs.declared.outcome.Outcome.TheVariants.{Ok}
 use Rattle.dr_program.specs.Presence.{present_at, with_present}
-use Rattle.dr_program.specs.Program.{Program, after_deed, next_sight, ok, step_of}
+use Rattle.dr_program.specs.Program.{Program, after_deed, letter_for, next_sight, ok, step_of}
 use Rattle.dr_program.specs.Reading.{step_due, step_of_member}
 use Rattle.dr_program.specs.Running.{Running, after_step, deed, deed_of, next_deed, next_step}
 use Rattle.dr_program.specs.Sight.{MaySee}
 use Rattle.dr_machine.specs.declared.step.Step.{Step}
-use Rattle.dr_machine.specs.declared.step.Step.TheVariants.{Do, Look, Push, Append, LogVote}
+use Rattle.dr_machine.specs.declared.step.Step.TheVariants.{Do, Look, Push, Append, Join, LogVote, Welcome}
 use Rattle.dr_program.specs.Replica.{me}
 use Rattle.dr_rows.specs.Words.{own}
-use Rattle.dr_program.specs.Steps.{index_in, stored}
+use Rattle.dr_program.specs.Steps.{index_in, stored, stored_letters}
 use Rattle.dr_program.specs.declared.packet.Packet.{Packet}
 use Rattle.dr_program_laws.proofs.Carried.{carried_among, carried_begins, carried_place, carried_pushes}
 use Rattle.dr_program_laws.proofs.Keeping.{move_kept, sees}
 use Rattle.dr_program_laws.specs.Carried.{IsCarried}
 use Rattle.dr_refine.proofs.Deeds.{step_is}
 use Rattle.dr_words.specs.Layout.{words_of}
-
--- these members, over these words
-abbrev pub over : List (Option Running) → List ℕ → Program
-over members words = record { members = members; table = words }
+use Rattle.dr_examples.specs.Led.{Letters, over}
 
 -- the member that was read stands there
 pub there_is : (members : List (Option Running)) (m : ℕ) (d : Option Running) (r : Running) → m < length members
@@ -39,12 +36,13 @@ there_is members m d r within read = get_or_default members m None d within ∙ 
 
 -- a word that the member names is one of the table's
 pub inside : (members : List (Option Running)) (words : List ℕ) (m index : ℕ) (r : Running)
-    → present_at members m ≡ Some r → ((g : Group) × IsSound g (over members words)) → index < table_size r
+    → present_at members m ≡ Some r
+    → ((g : Group) × (letters : Letters) × IsSound g (over members words letters)) → index < table_size r
     → index < length words
 inside members words m index r there some below =
-    let of = some.1.form.of m r there in
+    let of = some.2.form.of m r there in
     let same : table_size r ≡ length words =
-    (λ z. words_of (of.members z) (of.window z) (of.banks z)) ∙ sym some.1.form.table in
+    (λ z. words_of (of.members z) (of.window z) (of.banks z)) ∙ sym some.2.form.table in
     subst (λ n. index < n) same below
 
 -- at a look it may see the word that stands there
@@ -62,18 +60,26 @@ pub carried_sound : (g : Group) (p : Program) (net : List Packet) → IsCarried 
 carried_sound g p net y = record { group = y.group; form = y.form; reached = (y.before, y.way) }
 
 pub sound_of : (members : List (Option Running)) (words : List ℕ) (net : List Packet)
-    → ((g : Group) × IsCarried g (over members words) net) → (g : Group) × IsSound g (over members words)
-sound_of members words net some = (some.0, carried_sound some.0 (over members words) net some.1)
+    → ((g : Group) × (letters : Letters) × IsCarried g (over members words letters) net)
+    → (g : Group) × (letters : Letters) × IsSound g (over members words letters)
+sound_of members words net some =
+    (some.0, some.1, carried_sound some.0 (over members words some.1) net some.2)
 
--- what holds of a program after a deed of a member holds of what it makes of itself and of the words
+-- what holds of a program after a deed of a member, by which no letter is given, holds of what it makes of itself and
+-- of the words
 moved_on : (P : Program → Type 0) (p : Program) (m : ℕ) (r x : Running) (cells : List ℕ)
     → P (step_of p (ok m)) → present_at p.members m ≡ Some r → r.replica.end ≡ None
-    → x ≡ after_deed (next_sight p.table r) Ok r (next_step r)
+    → x ≡ after_deed (next_sight p.table r) (letter_for p m) Ok r (next_step r)
     → cells ≡ stored p.table r.replica (next_step r)
-    → P (record { members = with_present p.members m x; table = cells })
-moved_on P p m r x cells kept there none member words =
+    → stored_letters p.letters r.replica (next_step r) ≡ p.letters
+    → P (record { members = with_present p.members m x; table = cells; letters = p.letters })
+moved_on P p m r x cells kept there none member words posts =
     subst P (step_is p (ok m) r there none
-    ∙ sym (λ z. record { members = with_present p.members m (member z); table = words z })) kept
+    ∙ sym (λ z. record {
+      members = with_present p.members m (member z);
+      table = words z;
+      letters = sym posts z;
+    })) kept
 
 -- it is sound
 pub sound_on : (g : Group) (p : Program) (m : ℕ) → IsSound g p → IsSound g (step_of p (ok m))
@@ -85,45 +91,47 @@ sound_on g p m is =
 pub looks : (P : Program → Type 0) (p : Program) (m : ℕ) (r x : Running) (index : ℕ)
     → P (step_of p (ok m)) → present_at p.members m ≡ Some r → next_deed r ≡ deeds.Look index
     → x ≡ after_step (slice_index p.table index) r
-    → P (record { members = with_present p.members m x; table = p.table })
+    → P (record { members = with_present p.members m x; table = p.table; letters = p.letters })
 looks P p m r x index is there due member =
     let t = deed_tells p.table r (deeds.Look index) due in
     moved_on P p m r x p.table is there t.none
     (member ∙ ap (λ w. after_step w r) (sym t.says.sees)
-    ∙ sym (any_outcome (next_sight p.table r) Ok r (next_step r) (ap is_append t.says.look)))
-    (sym (ap (stored p.table r.replica) t.says.look))
+    ∙ sym (any_outcome (next_sight p.table r) (letter_for p m) Ok r (next_step r) (ap is_append t.says.look)
+    t.says.no_join))
+    (sym (ap (stored p.table r.replica) t.says.look)) (t.says.posts p.letters)
 
 pub pushes : (P : Program → Type 0) (p : Program) (m : ℕ) (r x : Running) (index word : ℕ)
     → P (step_of p (ok m)) → present_at p.members m ≡ Some r → next_deed r ≡ deeds.Push index word
     → ((seen : ℕ) → x ≡ after_step seen r)
-    → P (record { members = with_present p.members m x; table = slice_set p.table index word })
+    → P (record { members = with_present p.members m x; table = slice_set p.table index word; letters = p.letters })
 pushes P p m r x index word is there due member =
     let t = deed_tells p.table r (deeds.Push index word) due in
     moved_on P p m r x (slice_set p.table index word) is there t.none
     (member (next_sight p.table r)
-    ∙ sym (any_outcome (next_sight p.table r) Ok r (next_step r) t.says.other))
-    (sym t.says.stores)
+    ∙ sym (any_outcome (next_sight p.table r) (letter_for p m) Ok r (next_step r) t.says.other t.says.no_join))
+    (sym t.says.stores) (t.says.posts p.letters)
 
 pub acts : (P : Program → Type 0) (p : Program) (m : ℕ) (r x : Running) (index word : ℕ)
     → P (step_of p (ok m)) → present_at p.members m ≡ Some r → next_deed r ≡ deeds.Act index word
     → ((seen : ℕ) → x ≡ after_step seen r)
-    → P (record { members = with_present p.members m x; table = slice_set p.table index word })
+    → P (record { members = with_present p.members m x; table = slice_set p.table index word; letters = p.letters })
 acts P p m r x index word is there due member =
     let t = deed_tells p.table r (deeds.Act index word) due in
     moved_on P p m r x (slice_set p.table index word) is there t.none
     (member (next_sight p.table r)
-    ∙ sym (any_outcome (next_sight p.table r) Ok r (next_step r) t.says.other))
-    (sym t.says.stores)
+    ∙ sym (any_outcome (next_sight p.table r) (letter_for p m) Ok r (next_step r) t.says.other t.says.no_join))
+    (sym t.says.stores) (t.says.posts p.letters)
 
 pub appends : (P : Program → Type 0) (p : Program) (m : ℕ) (r x : Running) (due : Record)
     → P (step_of p (ok m)) → present_at p.members m ≡ Some r → next_deed r ≡ deeds.Append due
     → ((seen : ℕ) → x ≡ after_step seen r)
-    → P (record { members = with_present p.members m x; table = p.table })
+    → P (record { members = with_present p.members m x; table = p.table; letters = p.letters })
 appends P p m r x due is there next member =
     let t = deed_tells p.table r (deeds.Append due) next in
     moved_on P p m r x p.table is there t.none
-    (member 0 ∙ sym (after_append (next_sight p.table r) Ok r (next_step r) t.says.0))
+    (member 0 ∙ sym (after_append (next_sight p.table r) (letter_for p m) Ok r (next_step r) t.says.0))
     (sym (stored_append p.table r.replica (next_step r) t.says.0))
+    (posted_append p.letters r.replica (next_step r) t.says.0)
 
 -- ---- over a net
 
@@ -136,6 +144,8 @@ push_is r (Look i c) index word e = absurd (cc)
 push_is r (Push j c) index word e = (j, c, refl, cc e, cc e)
 push_is r Append index word e = absurd (cc)
 push_is r (LogVote v) index word e = absurd (cc)
+push_is r (Welcome j) index word e = absurd (cc)
+push_is r Join index word e = absurd (cc)
 
 -- a packet that goes behind the others is on its way with them
 behind : (net : List Packet) (packet : Packet) → All (Contains (packet ∷ net)) (net ++ packet ∷ [])
@@ -153,16 +163,16 @@ among_part net from to = All-take (Contains net) (to - from) (drop from net)
 pub sends : (g : Group) (p : Program) (net : List Packet) (m : ℕ) (r x : Running) (index word : ℕ)
     → IsCarried g p net → present_at p.members m ≡ Some r → next_deed r ≡ deeds.Push index word
     → ((seen : ℕ) → x ≡ after_step seen r)
-    → IsCarried g (record { members = with_present p.members m x; table = p.table })
+    → IsCarried g (record { members = with_present p.members m x; table = p.table; letters = p.letters })
     (net ++ record { index = index; word = word } ∷ [])
 sends g p net m r x index word y there due member =
     let t = deed_tells p.table r (deeds.Push index word) due in
     let is = push_is r (next_step r) index word (sym (ap (deed r) t.none) ∙ due) in
     let same = step_is p (ok m) r there t.none in
     let after = member (next_sight p.table r)
-    ∙ sym (any_outcome (next_sight p.table r) Ok r (next_step r) t.says.other) in
+    ∙ sym (any_outcome (next_sight p.table r) (letter_for p m) Ok r (next_step r) t.says.other t.says.no_join) in
     let packet : Packet = record { index = index; word = word } in
-    let q : Program = record { members = with_present p.members m x; table = p.table } in
+    let q : Program = record { members = with_present p.members m x; table = p.table; letters = p.letters } in
     let sent = carried_pushes g p net m r is.0 is.1 y there (ap (step_due r) t.none ∙ ap Some is.2) in
     carried_among g q (packet ∷ net) (net ++ packet ∷ [])
     (subst (λ (q : Program). IsCarried g q (packet ∷ net))
@@ -170,23 +180,26 @@ sends g p net m r x index word y there due member =
       members = (ap (λ (q : Program). q.members) same
           ∙ ap (with_present p.members m) (sym after)) z;
       table = p.table;
+      letters = p.letters;
     })
-    (subst (λ (packet : Packet). IsCarried g (record { members = (step_of p (ok m)).members; table = p.table })
+    (subst (λ (packet : Packet). IsCarried g (record { members = (step_of p (ok m)).members; table = p.table; letters = p.letters })
     (packet ∷ net)) (λ z. record { index = is.3 z; word = is.4 z }) sent))
     (behind net packet)
 
 -- a sound program begins with nothing on its way
-pub begins : (g : Group) (members : List (Option Running)) (words : List ℕ) → IsSound g (over members words)
-    → IsCarried g (over members words) []
-begins g members words is = carried_begins g (over members words) is.group is.form is.reached
+pub begins : (g : Group) (members : List (Option Running)) (words : List ℕ) (letters : Letters)
+    → IsSound g (over members words letters) → IsCarried g (over members words letters) []
+begins g members words letters is =
+    carried_begins g (over members words letters) is.group is.form is.reached
 
 -- a packet among these goes to a place of the table, where words of them have come before
 pub packet_place : (first words : List ℕ) (packets : List Packet) (n : ℕ) (d : Packet) → n < length packets
-    → ((g : Group) × (members : List (Option Running)) × (net : List Packet) × All (Contains net) packets
-    × IsCarried g (over members first) net)
-    → ((g : Group) (members : List (Option Running)) (net : List Packet) → All (Contains net) packets
-    → IsCarried g (over members first) net → IsCarried g (over members words) net)
+    → ((g : Group) × (members : List (Option Running)) × (letters : Letters) × (net : List Packet)
+    × All (Contains net) packets × IsCarried g (over members first letters) net)
+    → ((g : Group) (members : List (Option Running)) (letters : Letters) (net : List Packet)
+    → All (Contains net) packets → IsCarried g (over members first letters) net
+    → IsCarried g (over members words letters) net)
     → (slice_index_or packets n d).index < length words
 packet_place first words packets n d within some on =
-    carried_place some.0 (over some.1 words) some.2 (slice_index_or packets n d)
-    (on some.0 some.1 some.2 some.3 some.4) (some.3 n d within)
+    carried_place some.0 (over some.1 words some.2) some.3 (slice_index_or packets n d)
+    (on some.0 some.1 some.2 some.3 some.4 some.5) (some.4 n d within)

@@ -2,6 +2,7 @@
 ghost use Rattle.std.specs.Prelude.{◌<◌, length};
 ghost use Rattle.dr_age.specs.Sound.{IsSound};
 ghost use Rattle.dr_machine.specs.Group.{Group};
+ghost use Rattle.dr_examples.specs.Led.{Letters, over};
 
 use crate::members::{is_at_rest, opened, take_deed};
 use dr_member::Member;
@@ -26,7 +27,7 @@ const DEEDS: u32 = 10_000;
 pub fn show_leader(rt: &impl Print, alloc: Global) -> anyhow::Result<()> {
     let script = read_script(alloc, SCRIPT)?;
     let start = first_start(alloc, &script);
-    let shape = shape_of(&script);
+    let shape = shape_of(&script, &start);
     let (mut members, mut words) = opened(alloc, &script, &start)?;
     if shape.members < 3 {
         return Ok(());
@@ -42,7 +43,7 @@ fn show_turns(
     words: &mut [u64],
     index: usize,
 ) -> anyhow::Result<()>
-    requires sound { (g : Group) × IsSound g (record { members = members.old; table = words.old }) }
+    requires sound { (g : Group) × (letters : Letters) × IsSound g (over members.old words.old letters) }
 {
     let mut shown = 0;
     for turn in 1..=TURNS {
@@ -58,9 +59,9 @@ fn show_turns(
 
 /// Each member that is there and has not ended takes a whole turn, by number.
 fn lead_round(members: &mut [Option<Member>], words: &mut [u64])
-    requires sound { (g : Group) × IsSound g (record { members = members.old; table = words.old }) }
-    ensures sound { (g : Group) → IsSound g (record { members = members.old; table = words.old })
-        → IsSound g (record { members = members.new; table = words.new }) }
+    requires sound { (g : Group) × (letters : Letters) × IsSound g (over members.old words.old letters) }
+    ensures sound { (g : Group) (letters : Letters) → IsSound g (over members.old words.old letters)
+        → IsSound g (over members.new words.new letters) }
 {
     for m in 0..members.len() {
         for _ in 0..DEEDS {

@@ -1,9 +1,10 @@
 //! The members of a group, led deed by deed.
-ghost use Rattle.std.specs.Prelude.{◌<◌, IfOk, length};
+ghost use Rattle.std.specs.Prelude.{◌<◌, IfOk, None, length, replicate};
 ghost use Rattle.dr_age.specs.Sound.{IsSound};
 ghost use Rattle.dr_machine.specs.Group.{Group, IsGroup};
 ghost use Rattle.dr_restart.specs.Groups.{group_of};
 ghost use Rattle.dr_script.specs.Ranges.{HasRanges};
+ghost use Rattle.dr_examples.specs.Led.{Letters, over};
 
 use dr_age::begun_members;
 use dr_member::{Deed, Member};
@@ -49,19 +50,19 @@ pub(crate) fn opened(
     requires ranges { HasRanges script.now }
     requires group { IsGroup (group_of script.now start.now) }
     ensures { IfOk result (λ r. IsSound (group_of script.now start.now)
-        (record { members = r.0.items; table = r.1.items })) }
+        (over r.0.items r.1.items (replicate script.now.members None))) }
 {
     Ok((
         begun_members(alloc, script, start, 0)?,
-        vec![in alloc; 0; shape_of(script).words()]?,
+        vec![in alloc; 0; shape_of(script, start).words()]?,
     ))
 }
 
 /// Leads the members of a group: each takes so many deeds, one at a time.
 fn lead(members: &mut [Option<Member>], words: &mut [u64])
-    requires sound { (g : Group) × IsSound g (record { members = members.old; table = words.old }) }
-    ensures sound { (g : Group) → IsSound g (record { members = members.old; table = words.old })
-        → IsSound g (record { members = members.new; table = words.new }) }
+    requires sound { (g : Group) × (letters : Letters) × IsSound g (over members.old words.old letters) }
+    ensures sound { (g : Group) (letters : Letters) → IsSound g (over members.old words.old letters)
+        → IsSound g (over members.new words.new letters) }
 {
     for _ in 0..DEEDS {
         for m in 0..members.len() {
@@ -73,9 +74,9 @@ fn lead(members: &mut [Option<Member>], words: &mut [u64])
 /// The member `m`, where it is there, takes its next deed. Its words go by way of this list; what it appends is not kept.
 pub(crate) fn take_deed(members: &mut [Option<Member>], words: &mut [u64], m: usize)
     requires within { m < length members.old }
-    requires sound { (g : Group) × IsSound g (record { members = members.old; table = words.old }) }
-    ensures sound { (g : Group) → IsSound g (record { members = members.old; table = words.old })
-        → IsSound g (record { members = members.new; table = words.new }) }
+    requires sound { (g : Group) × (letters : Letters) × IsSound g (over members.old words.old letters) }
+    ensures sound { (g : Group) (letters : Letters) → IsSound g (over members.old words.old letters)
+        → IsSound g (over members.new words.new letters) }
 {
     let Some(member) = &mut members[m] else {
         return;
@@ -91,7 +92,8 @@ pub(crate) fn take_deed(members: &mut [Option<Member>], words: &mut [u64], m: us
             member.acted();
         }
         Deed::Append(_) => member.appended(),
-        Deed::Rest(_) => {}
+        // Nobody is late here, so no letter is given and none is taken.
+        Deed::Give { .. } | Deed::Take | Deed::Rest(_) => {}
     }
 }
 

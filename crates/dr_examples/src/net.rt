@@ -5,6 +5,7 @@ ghost use Rattle.dr_machine.specs.Group.{Group};
 ghost use Rattle.dr_program.specs.declared.packet.Packet.{Packet as PacketOf};
 ghost use Rattle.dr_program.specs.Running.{Running};
 ghost use Rattle.dr_program_laws.specs.Carried.{IsCarried};
+ghost use Rattle.dr_examples.specs.Led.{Letters, over};
 
 use crate::members::{is_at_rest, opened};
 use dr_member::{Deed, Member};
@@ -61,9 +62,9 @@ fn lead(
     members: &mut [Option<Member>],
     words: &mut [u64],
 ) -> Result<usize, AllocError>
-    requires sound { (g : Group) × IsSound g (record { members = members.old; table = words.old }) }
-    ensures sound { (g : Group) → IsSound g (record { members = members.old; table = words.old })
-        → IsSound g (record { members = members.new; table = words.new }) }
+    requires sound { (g : Group) × (letters : Letters) × IsSound g (over members.old words.old letters) }
+    ensures sound { (g : Group) (letters : Letters) → IsSound g (over members.old words.old letters)
+        → IsSound g (over members.new words.new letters) }
 {
     let mut net: Vec<Packet> = Vec::new(alloc);
     // How many packets there were as each turn began.
@@ -101,11 +102,11 @@ fn take_turn(
     m: usize,
 ) -> Result<(), AllocError>
     requires within { m < length members.old }
-    requires carried { (g : Group)
-        × IsCarried g (record { members = members.old; table = words.old }) net.old.items }
-    ensures carried { (g : Group)
-        → IsCarried g (record { members = members.old; table = words.old }) net.old.items
-        → IsCarried g (record { members = members.new; table = words.new }) net.new.items }
+    requires carried { (g : Group) × (letters : Letters)
+        × IsCarried g (over members.old words.old letters) net.old.items }
+    ensures carried { (g : Group) (letters : Letters)
+        → IsCarried g (over members.old words.old letters) net.old.items
+        → IsCarried g (over members.new words.new letters) net.new.items }
 {
     for _ in 0..DEEDS {
         take_deed(members, words, net, m)?;
@@ -124,11 +125,11 @@ fn take_deed(
     m: usize,
 ) -> Result<(), AllocError>
     requires within { m < length members.old }
-    requires carried { (g : Group)
-        × IsCarried g (record { members = members.old; table = words.old }) net.old.items }
-    ensures carried { (g : Group)
-        → IsCarried g (record { members = members.old; table = words.old }) net.old.items
-        → IsCarried g (record { members = members.new; table = words.new }) net.new.items }
+    requires carried { (g : Group) × (letters : Letters)
+        × IsCarried g (over members.old words.old letters) net.old.items }
+    ensures carried { (g : Group) (letters : Letters)
+        → IsCarried g (over members.old words.old letters) net.old.items
+        → IsCarried g (over members.new words.new letters) net.new.items }
 {
     let Some(member) = &mut members[m] else {
         return Ok(());
@@ -144,7 +145,8 @@ fn take_deed(
             member.acted();
         }
         Deed::Append(_) => member.appended(),
-        Deed::Rest(_) => {}
+        // Nobody is late here, so no letter is given and none is taken.
+        Deed::Give { .. } | Deed::Take | Deed::Rest(_) => {}
     }
     Ok(())
 }
@@ -152,13 +154,13 @@ fn take_deed(
 /// The words of these packets come to their places, each where no greater one stands; over a lossy way one of
 /// four is lost. Whatever else is on its way stays so.
 fn arrive(words: &mut [u64], packets: &[Packet], lossy: bool)
-    requires carried { (g : Group) × (members : List (Option Running)) × (net : List PacketOf)
-        × All (Contains net) packets.now
-        × IsCarried g (record { members = members; table = words.old }) net }
-    ensures carried { (g : Group) (members : List (Option Running)) (net : List PacketOf)
-        → All (Contains net) packets.now
-        → IsCarried g (record { members = members; table = words.old }) net
-        → IsCarried g (record { members = members; table = words.new }) net }
+    requires carried { (g : Group) × (members : List (Option Running)) × (letters : Letters)
+        × (net : List PacketOf) × All (Contains net) packets.now
+        × IsCarried g (over members words.old letters) net }
+    ensures carried { (g : Group) (members : List (Option Running)) (letters : Letters)
+        (net : List PacketOf) → All (Contains net) packets.now
+        → IsCarried g (over members words.old letters) net
+        → IsCarried g (over members words.new letters) net }
 {
     for (nth, packet) in packets.iter().enumerate() {
         if !lossy || nth % LOST != 1 {

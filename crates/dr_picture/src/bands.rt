@@ -230,6 +230,14 @@ impl Bands {
                 let cell = Cell::of_number(self.alloc, RED, "suspects", u64::from(other))?;
                 self.tell(lanes, me, Kind::Deed(Shape::Cross), cell)
             }
+            News::Wish(other) => {
+                let cell = Cell::of_number(self.alloc, INK, "wishes for", u64::from(other))?;
+                self.tell(lanes, me, Kind::Deed(Shape::HollowDiamond), cell)
+            }
+            News::Letter(other) => {
+                let cell = Cell::of_number(self.alloc, INK, "welcomes", u64::from(other))?;
+                self.tell(lanes, me, Kind::Deed(Shape::HollowDiamond), cell)
+            }
             News::Vote => self.say(lanes, me, Shape::HollowDiamond, "votes"),
             News::Proposal(value) => self.say_value(lanes, me, "proposes", &value),
             News::Acceptance => self.say(lanes, me, Shape::HollowDiamond, "accepts"),

@@ -78,13 +78,16 @@ abbrev pub vote_text : Replica → Value → List ℕ
 vote_text r value = concat
     (codes "vote " ∷ decimal (promise r) ∷ codes " " ∷ value_text r.roster value ∷ [])
 
--- a step of a replica over the words of a table, where there is something to tell
+-- a step of a replica over the words of a table, where there is something to tell: nothing of a take, since whoever
+-- gives the letter tells of it
 abbrev pub step_text : List ℕ → Replica → Step → Option (List ℕ)
 step_text table r (steps.Do act) = Some (act_text r act)
 step_text table r (steps.Look i c) = look_text r i c (found table r i c)
 step_text table r (steps.Push j c) = Some (word_text (codes "push ") j c (own r.rows c))
 step_text table r steps.Append = Some (with_number (codes "append ") r.logged)
 step_text table r (steps.LogVote value) = Some (vote_text r value)
+step_text table r (steps.Welcome j) = Some (with_number (codes "welcome ") j)
+step_text table r steps.Join = None
 
 -- the line of something that a member does
 abbrev pub told : ℕ → List ℕ → List ℕ

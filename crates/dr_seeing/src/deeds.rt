@@ -1,18 +1,19 @@
 //! What there is to tell of a deed that a member is about to do: its line, and its news.
-ghost use Rattle.std.specs.Prelude.{◌≡◌, ◌<◌, ◌≤◌, ◌++◌, None, OnOk, length, string_bytes, true};
+ghost use Rattle.std.specs.Prelude.{◌≡◌, ◌||◌, ◌<◌, ◌≤◌, ◌++◌, None, OnOk, length, string_bytes, true};
 ghost use Rattle.dr_machine.specs.declared.event.Act.TheVariants as acts;
 ghost use Rattle.dr_member.specs.Deeds.{table_size};
-ghost use Rattle.dr_program.specs.Acts.{may};
+ghost use Rattle.dr_program.specs.Acts.{is_outside_act, may};
 ghost use Rattle.dr_program.specs.Form.{IsRunningMember};
-ghost use Rattle.dr_program.specs.Replica.{may_deliver, may_send, me};
+ghost use Rattle.dr_program.specs.Replica.{is_inside, may_deliver, may_send, me};
 ghost use Rattle.dr_seeing.specs.Lines.{act_text, line_of, told};
 
 use crate::lines::{
-    push_appended, push_ended, push_look, push_number, push_voted, push_waiting, push_word,
+    push_appended, push_ended, push_look, push_number, push_voted, push_waiting, push_welcome,
+    push_word,
 };
 use crate::news::News;
 use crate::values::{push_item, push_message, push_value};
-use dr_entry::Item;
+use dr_entry::{Item, MAX_MEMBERS};
 use dr_machine::{Act, Step};
 use dr_member::{Deed, Member};
 use dr_replica::Replica;
@@ -20,7 +21,7 @@ use std::alloc::AllocError;
 use std::fmt::Write;
 
 /// Appends the line of the deed that is due to a member, which has not ended, over these words of the
-/// table. A look that shows nothing new has no line.
+/// table. A look that shows nothing new has no line, and no take has one.
 ///
 /// # Errors
 ///
@@ -42,12 +43,15 @@ pub fn push_line(out: &mut String, member: &Member, table: &[u64]) -> Result<(),
         Step::Push { to, column } => push_word(out, me, "push ", to, column, replica.own(column)),
         Step::Append => push_appended(out, replica),
         Step::LogVote { value } => push_voted(out, replica, value),
+        Step::Welcome { late } => push_welcome(out, replica, late),
+        Step::Join => Ok(()),
     }
 }
 
 /// Appends the line of an act that a replica may do.
 fn push_done(out: &mut String, replica: &Replica, act: Act) -> Result<(), AllocError>
-    requires { may replica.now act ≡ true }
+    requires place { (is_outside_act act || is_inside replica.now) ≡ true }
+    requires may { may replica.now act ≡ true }
     ensures { OnOk result
         (string_bytes out.new ≡ string_bytes out.old ++ told (me replica.now) (act_text replica.now act)) }
 {
@@ -59,7 +63,8 @@ fn push_done(out: &mut String, replica: &Replica, act: Act) -> Result<(), AllocE
 
 /// Appends an act that a replica may do.
 fn push_act(out: &mut String, replica: &Replica, act: Act) -> Result<(), AllocError>
-    requires { may replica.now act ≡ true }
+    requires place { (is_outside_act act || is_inside replica.now) ≡ true }
+    requires may { may replica.now act ≡ true }
     ensures { OnOk result (string_bytes out.new ≡ string_bytes out.old ++ act_text replica.now act) }
 {
     match act {
@@ -101,7 +106,8 @@ fn push_put(out: &mut String, replica: &Replica) -> Result<(), AllocError>
 }
 
 fn push_delivery(out: &mut String, replica: &Replica) -> Result<(), AllocError>
-    requires { may_deliver replica.now ≡ true }
+    requires inside { is_inside replica.now ≡ true }
+    requires may { may_deliver replica.now ≡ true }
     ensures { OnOk result
         (string_bytes out.new ≡ string_bytes out.old ++ act_text replica.now acts.Deliver) }
 {
@@ -126,13 +132,15 @@ pub fn news_of(member: &Member) -> Option<News<'_>>
     match member.step() {
         Step::Do(act) => news_of_act(member.replica(), act),
         Step::LogVote { .. } => Some(News::Vote),
+        Step::Welcome { late } => Some(News::Letter(late)),
         _ => None,
     }
 }
 
 /// The news of an act that a replica may do, where there is some.
 fn news_of_act(replica: &Replica, act: Act) -> Option<News<'_>>
-    requires { may replica.now act ≡ true }
+    requires place { (is_outside_act act || is_inside replica.now) ≡ true }
+    requires may { may replica.now act ≡ true }
 {
     match act {
         Act::Beat => Some(News::Turn(replica.turns().saturating_add(1))),
@@ -146,7 +154,7 @@ fn news_of_act(replica: &Replica, act: Act) -> Option<News<'_>>
         Act::Publish => Some(News::Logged(replica.logged())),
         Act::Report => Some(News::Durable(replica.least_logged())),
         Act::Mark => None,
-        Act::Suspect { other } => Some(News::Suspicion(other)),
+        Act::Suspect { other } => Some(suspicion(replica, other)),
         Act::Propose => replica
             .waiting_vote()
             .map(|vote| News::Proposal(vote.value)),
@@ -159,7 +167,8 @@ fn news_of_act(replica: &Replica, act: Act) -> Option<News<'_>>
 
 /// The news of a delivery: a null has none.
 fn delivery(replica: &Replica) -> Option<News<'_>>
-    requires { may_deliver replica.now ≡ true }
+    requires inside { is_inside replica.now ≡ true }
+    requires may { may_deliver replica.now ≡ true }
 {
     let sender = replica.next_sender();
     match replica.next_item() {
@@ -169,6 +178,15 @@ fn delivery(replica: &Replica) -> Option<News<'_>>
             index: replica.messages_from(sender),
             message,
         }),
+    }
+}
+
+/// The news that a replica suspects another one of its view, or wishes for one that isn't in it.
+fn suspicion(replica: &Replica, other: u8) -> News<'_> {
+    if other < MAX_MEMBERS as u8 && replica.members().has(other) {
+        News::Suspicion(other)
+    } else {
+        News::Wish(other)
     }
 }
 

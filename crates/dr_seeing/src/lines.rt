@@ -81,6 +81,15 @@ pub(crate) fn push_voted(
     out.push_str("\n")
 }
 
+/// Appends the line of a letter for a late member.
+pub(crate) fn push_welcome(out: &mut String, replica: &Replica, late: u8) -> Result<(), AllocError>
+    ensures { OnOk result (string_bytes out.new ≡ string_bytes out.old
+        ++ told (me replica.now) (with_number (codes "welcome ") late)) }
+{
+    let me = replica.me();
+    writeln!(out, "{me} welcome {late}")
+}
+
 /// Appends a number behind a word.
 pub(crate) fn push_number(out: &mut String, word: &str, number: u64) -> Result<(), AllocError>
     ensures { OnOk result (string_bytes out.new ≡ string_bytes out.old ++ with_number word.now number) }

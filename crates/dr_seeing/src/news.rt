@@ -27,6 +27,10 @@ pub enum News<'a> {
     Durable(u64),
     /// This member is suspected.
     Suspicion(u8),
+    /// This member, which is late, is wished for.
+    Wish(u8),
+    /// This member gets the letter with which it comes into the view.
+    Letter(u8),
     /// A vote goes on the log.
     Vote,
     /// A value is proposed.

@@ -115,10 +115,12 @@ impl Turn {
         }
     }
 
-    /// Takes note of what a member does to change its view.
+    /// Takes note of what a member does to change its view, or to take another one into it.
     fn note_vote(&mut self, news: News<'_>) -> Result<(), AllocError> {
         match news {
             News::Suspicion(other) => write!(self.more, ";\nsuspects\n{other}"),
+            News::Wish(other) => write!(self.more, ";\nwishes\nfor\n{other}"),
+            News::Letter(other) => write!(self.more, ";\nwelcomes\n{other}"),
             News::Vote => self.more.push_str(";\nvotes"),
             News::Proposal(_) => self.more.push_str(";\nproposes"),
             _ => self.more.push_str(";\naccepts"),

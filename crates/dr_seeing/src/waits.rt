@@ -26,6 +26,9 @@ pub fn push_waits(
         return Ok(());
     };
     let replica = member.replica();
+    if !replica.is_inside() {
+        return push_outside(out, replica);
+    }
     if replica.is_wedged() {
         return push_change(out, replica, members);
     }
@@ -69,6 +72,15 @@ pub fn push_waits(
     } else {
         Ok(())
     }
+}
+
+/// Appends that a late member waits for its letter.
+fn push_outside(out: &mut String, replica: &Replica) -> Result<(), AllocError> {
+    let me = replica.me();
+    writeln!(
+        out,
+        "member {me} waits for: a letter, with which it comes into the view"
+    )
 }
 
 /// The member of a number, if it is there.
@@ -160,7 +172,7 @@ fn push_change(
     replica: &Replica,
     members: &[Option<Member>],
 ) -> Result<(), AllocError> {
-    push_suspecting(out, replica.me(), replica.suspects())?;
+    push_wedged(out, replica)?;
     let leader = replica.members().without(replica.suspects()).least();
     for number in 0..16u8 {
         if let Some(other) = member_at(members, number) {
@@ -172,13 +184,24 @@ fn push_change(
     Ok(())
 }
 
-/// Appends that a member waits for the change of its view, and whom it suspects.
-fn push_suspecting(out: &mut String, me: u8, suspects: Mask) -> Result<(), AllocError> {
-    write!(
-        out,
-        "member {me} waits for: the change of its view, as it suspects "
-    )?;
-    push_mask(out, suspects.bits())?;
+/// Appends that a member waits for the change of its view, whom it suspects, and for whom it wishes.
+fn push_wedged(out: &mut String, replica: &Replica) -> Result<(), AllocError> {
+    let me = replica.me();
+    let wishes = replica.suspects().without(replica.members());
+    let suspects = replica.suspects().without(wishes);
+    write!(out, "member {me} waits for: the change of its view, as it ")?;
+    if suspects.bits() != 0 {
+        out.push_str("suspects ")?;
+        push_mask(out, suspects.bits())?;
+    }
+    if wishes.bits() != 0 {
+        out.push_str(if suspects.bits() == 0 {
+            "wishes for "
+        } else {
+            " and wishes for "
+        })?;
+        push_mask(out, wishes.bits())?;
+    }
     out.push_str("\n")
 }
 

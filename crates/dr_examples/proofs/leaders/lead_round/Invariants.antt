@@ -1,11 +1,12 @@
 use Rattle.dr_age.specs.Sound.{IsSound}
 use Rattle.dr_machine.specs.Group.{Group}
+use Rattle.dr_examples.specs.Led.{Letters, over}
 use Rattle.dr_examples.proofs.leaders.lead_round.Given as goal
 
 abbrev pub invariant-loop-m : goal.invariant-loop-m
-invariant-loop-m l = (g : Group) → IsSound g (record { members = l.fn.members; table = l.fn.words })
-    → IsSound g (record { members = l.members; table = l.words })
+invariant-loop-m l = (g : Group) (letters : Letters) → IsSound g (over l.fn.members l.fn.words letters)
+    → IsSound g (over l.members l.words letters)
 
 abbrev pub invariant-loop : goal.invariant-loop
-invariant-loop l = (g : Group) → IsSound g (record { members = l.fn.members; table = l.fn.words })
-    → IsSound g (record { members = l.members; table = l.words })
+invariant-loop l = (g : Group) (letters : Letters) → IsSound g (over l.fn.members l.fn.words letters)
+    → IsSound g (over l.members l.words letters)

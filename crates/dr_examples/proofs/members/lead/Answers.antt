@@ -1,5 +1,8 @@
 use Rattle.dr_examples.proofs.members.lead.Goals as goal
 
 pub take_deed-requires-clause-sound : goal.take_deed-requires-clause-sound
-take_deed-requires-clause-sound c =
-    (c.requires.sound.0, c.loop-m.invariant c.requires.sound.0 c.requires.sound.1)
+take_deed-requires-clause-sound c = (
+  c.requires.sound.0,
+  c.requires.sound.1,
+  c.loop-m.invariant c.requires.sound.0 c.requires.sound.1 c.requires.sound.2,
+)

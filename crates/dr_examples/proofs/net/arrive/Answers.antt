@@ -2,7 +2,8 @@ use Rattle.std.proofs.Common.{rules, subst, sym, ◌<◌, length, slice_index_or
 use Rattle.dr_program.specs.declared.packet.Packet.{Packet}
 use Rattle.dr_program_laws.proofs.Carried.{carried_comes}
 use Rattle.dr_program_laws.specs.Carried.{IsCarried}
-use Rattle.dr_examples.proofs.Carrying.{over, packet_place}
+use Rattle.dr_examples.proofs.Carrying.{packet_place}
+use Rattle.dr_examples.specs.Led.{over}
 use Rattle.dr_examples.proofs.net.arrive.Goals as goal
 use Rattle.dr_examples.proofs.net.arrive.Goals.{then-not-lossy, else-not-lossy+else-nth-ne1}
 
@@ -35,16 +36,16 @@ bounds-words-packet-then-not-lossy c =
     (record { index = 0; word = 0 }) within c.requires.carried c.loop-nth.invariant
 
 pub loop-nth-preserved : goal.loop-nth-preserved
-loop-nth-preserved c g members net among is =
+loop-nth-preserved c g members letters net among is =
     let within : c.loop-nth.nth < length c.args.packets.now = search rules in
     let d : Packet = record { index = 0; word = 0 } in
-    let old = c.loop-nth.invariant g members net among is in
+    let old = c.loop-nth.invariant g members letters net among is in
     elim c.if-not-lossy.branch [
-      | then-not-lossy w ↦ subst (λ words. IsCarried g (over members words) net) (sym w.words-is)
+      | then-not-lossy w ↦ subst (λ words. IsCarried g (over members words letters) net) (sym w.words-is)
           (subst (λ z. IsCarried g (over members (slice_set c.loop-nth.words
-          (slice_index_or c.args.packets.now c.loop-nth.nth d).index z)) net) (sym w.max.ensures)
-          (carried_comes g (over members c.loop-nth.words) net (slice_index_or c.args.packets.now c.loop-nth.nth d)
+          (slice_index_or c.args.packets.now c.loop-nth.nth d).index z) letters) net) (sym w.max.ensures)
+          (carried_comes g (over members c.loop-nth.words letters) net (slice_index_or c.args.packets.now c.loop-nth.nth d)
           old (among c.loop-nth.nth d within)))
       | else-not-lossy+else-nth-ne1 w ↦
-          subst (λ words. IsCarried g (over members words) net) (sym w.words-is) old
+          subst (λ words. IsCarried g (over members words letters) net) (sym w.words-is) old
     ]
