@@ -1,56 +1,16 @@
--- The last view of a history, and its age.
-use Rattle.std.proofs.Common.{◌≡◌, ◌⊎◌, inl, inr, sym, ap, ◌∙◌, ℕ, zero, suc, ◌+◌, ◌<◌, ◌≤◌, arith, List, [], ◌∷◌, ◌++◌, length, take, None, Some, slice_get, append_assoc}
-use Rattle.std.specs.Prelude.{Option}
+-- View 0 of a history, and the age of the views behind it.
+use Rattle.std.proofs.Common.{◌≡◌, ◌⊎◌, inl, inr, sym, ap, ◌∙◌, ℕ, zero, suc, ◌+◌, ◌<◌, ◌≤◌, arith, List, [], ◌∷◌, ◌++◌, length, take, Some, slice_get, append_assoc}
 use Rattle.std.proofs.lemmas.Bool.{cases_lt}
-use Rattle.std.proofs.lemmas.Option.{none-some, same_Some}
+use Rattle.std.proofs.lemmas.Option.{same_Some}
 use Rattle.dr_entry.specs.declared.entry.Entry.{Entry}
 use Rattle.dr_entry.specs.declared.entry.Entry.TheVariants.{View, Msg}
 use Rattle.dr_history.specs.declared.opening.Opening.{Opening}
-use Rattle.dr_history.specs.History.{GroupView, Sent, view_after, view_of}
+use Rattle.dr_history.specs.History.{GroupView, Sent, view_of}
 use Rattle.dr_history.specs.Members.{members_of}
 use Rattle.dr_history.specs.Order.{InOrder, IsSucceededBy}
 use Rattle.dr_history.proofs.ViewLemmas.{view_of-View, view_of-Msg}
 use Rattle.dr_history_laws.proofs.Lists.{slice_get-seam, slice_get-some, take-next}
 use Rattle.dr_history_laws.proofs.Stood.{some_of}
-
--- a View by which the entries are in this view
-abbrev pub StandsAt : List Entry → GroupView → Type 0
-StandsAt es v =
-    (i : ℕ) × (m : ℕ) × (slice_get es i ≡ Some (View v.age v.number m)) × (members_of m ≡ v.members)
-
--- the view after some entries was there before, or one of them is its View
-view_stands : (u : Option GroupView) (es : List Entry) (v : GroupView) → view_after u es ≡ Some v
-    → (u ≡ Some v) ⊎ StandsAt es v
-unfolding view_after
-view_stands u [] v is = inl is
-view_stands u (View a n m ∷ es) v is =
-    by (view_stands (Some (record { age = a; number = n; members = members_of m })) es v is)
-  where
-    by : (Some (record { age = a; number = n; members = members_of m }) ≡ Some v) ⊎ StandsAt es v
-        → (u ≡ Some v) ⊎ StandsAt (View a n m ∷ es) v
-    by (inl e) =
-        let same : record { age = a; number = n; members = members_of m } ≡ v = same_Some _ v e in
-        inr (
-          0,
-          m,
-          ap (λ (w : GroupView). Some (View w.age w.number m)) same,
-          ap
-              (λ (w : GroupView). w.members) same,
-        )
-    by (inr at) = inr (suc at.0, at.1, at.2, at.3)
-view_stands u (Msg s k b ∷ es) v is = by (view_stands u es v is)
-  where
-    by : (u ≡ Some v) ⊎ StandsAt es v → (u ≡ Some v) ⊎ StandsAt (Msg s k b ∷ es) v
-    by (inl e) = inl e
-    by (inr at) = inr (suc at.0, at.1, at.2, at.3)
-
--- the view that a history is in stands in it
-pub last_view_at : (h : List Entry) (v : GroupView) → view_of h ≡ Some v → StandsAt h v
-last_view_at h v is = by (view_stands None h v is)
-  where
-    by : (None ≡ Some v) ⊎ StandsAt h v → StandsAt h v
-    by (inl e) = absurd (none-some v e)
-    by (inr at) = at
 
 -- View 0 stands behind the start
 pub first_at : (o : Opening) (sent : Sent) (h : List Entry) → InOrder o sent h
@@ -83,7 +43,7 @@ view_age o sent h order (suc i) behind within v is =
     later : ((u : GroupView) → view_of (take i h) ≡ Some u → u.age ≡ o.age) → length o.start < i
         → (e : Entry) → slice_get h i ≡ Some e → v.age ≡ o.age
     later before less (View a k m) at =
-        let u = some_of (λ w. IsSucceededBy w a k m) (view_of (take i h)) (order.views i a k m less at) in
+        let u = some_of (λ w. IsSucceededBy o (take i h) w a k m) (view_of (take i h)) (order.views i a k m less at) in
         sym (at_View a k m at) ∙ (u.2.follows.same_age ∙ before u.0 u.1)
     later before less (Msg s k b) at =
         before v (sym (view_of-Msg (take i h) s k b) ∙ (ap view_of (sym (more (Msg s k b) at)) ∙ is))

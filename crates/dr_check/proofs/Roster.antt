@@ -6,7 +6,8 @@ use Rattle.dr_history.specs.declared.opening.Opening.{Opening}
 use Rattle.dr_history.specs.History.{GroupView, view_of}
 use Rattle.dr_history.specs.Members.{has, members_of}
 use Rattle.dr_history.specs.Restarting.{AllStand}
-use Rattle.dr_history.specs.Soundness.{AreOfRoster, ContinuesAge, MayStand}
+use Rattle.dr_history.specs.Soundness.{MayStand}
+use Rattle.dr_history.specs.Order.{AreOfRoster, ContinuesAge}
 use Rattle.dr_history_laws.proofs.Lists.{IsSomeAnd-more}
 use Rattle.dr_history_laws.proofs.Members.{has-member}
 use Rattle.dr_history_laws.proofs.Stood.{named_below}

@@ -1,5 +1,5 @@
 -- What is printed of ages is a report with their values.
-use Rattle.std.proofs.Common.{◌≡◌, refl, sym, ap, ◌∙◌, subst, ℕ, zero, suc, ◌+◌, ◌<◌, ◌≤◌, ◌^◌, ◌==◌, ◌⊎◌, inl, inr, arith, All, Bool, not, true, false, if◌then◌else◌, List, [], ◌∷◌, ◌++◌, codes, length, map, drop, None, Some, append_assoc, append-nil}
+use Rattle.std.proofs.Common.{◌≡◌, refl, sym, ap, ◌∙◌, subst, ℕ, zero, suc, ◌+◌, ◌<◌, ◌≤◌, ◌^◌, ◌==◌, inl, inr, arith, All, Bool, not, true, false, if◌then◌else◌, List, [], ◌∷◌, ◌++◌, codes, length, map, drop, None, Some, append_assoc, append-nil}
 use Rattle.std.specs.Fmt.{decimal}
 use Rattle.std.specs.List.{AllZip, concat, enumerate_from, flat_map}
 use Rattle.std.proofs.lemmas.Bool.{eqb-true, false≢true}
@@ -22,7 +22,7 @@ use Rattle.dr_check.specs.declared.report.ReportMember.{ReportMember}
 use Rattle.dr_check.specs.Fields.{is_end}
 use Rattle.dr_check.specs.Grammar.{AgesFrom, HasStart, IsReport, IsWholeAge, MembersFrom, age_lines, member_head, members_lines, report_lines}
 use Rattle.dr_check.specs.Lines.{EndFits, EntryFits, IsLineText, LastFits, absent_text, age_start_text, lines_of, present_text}
-use Rattle.dr_check.specs.Values.{HasAge, HasMember, HasValues, IsTellable, IsTellableAge, TellsNothing, TellsPart}
+use Rattle.dr_check.specs.Values.{HasAge, HasMember, HasValues, IsTellable, IsTellableAge}
 use Rattle.dr_check.proofs.Feeds.{AreFed, IsFed, free_both, is_free, lines_fed, lines_none}
 use Rattle.dr_check.proofs.Printed.{absent_fed}
 use Rattle.dr_check.proofs.Splitting.{IsPlain, plain_decimal, plain_mask, plain_message}

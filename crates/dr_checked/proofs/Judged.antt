@@ -1,6 +1,7 @@
 -- What is printed of a script that was played is judged right.
-use Rattle.std.proofs.Common.{◌≡◌, ◌↔◌, refl, sym, ap, ◌∙◌, subst, ℕ, arith, List, ◌++◌, Option, None, Some}
+use Rattle.std.proofs.Common.{◌≡◌, ◌↔◌, inl, inr, refl, sym, ap, ◌∙◌, subst, ℕ, arith, List, ◌++◌, Option, None, Some}
 use Rattle.std.proofs.lemmas.Option.{same_Some}
+use Rattle.dr_ages.specs.declared.part.Part.{Part}
 use Rattle.dr_check.proofs.Flawless.{unflawed}
 use Rattle.dr_check.proofs.OneReport.{one_report}
 use Rattle.dr_check.specs.declared.flaw.Flaw.{Flaw}
@@ -10,8 +11,8 @@ use Rattle.dr_intake.specs.Status.{status_of}
 use Rattle.dr_outcome.specs.declared.outcome.Body.TheVariants as bodies
 use Rattle.dr_outcome.specs.declared.outcome.Body.{Body}
 use Rattle.dr_outcome.specs.declared.outcome.Outcome.{Outcome}
-use Rattle.dr_outcome.specs.Outcome.{HasPlayed, HasRun, OfScript, Plays, SaysOnly, body_text, outcome_text}
-use Rattle.dr_outcome.specs.Playing.{InFolder, Playing}
+use Rattle.dr_outcome.specs.Outcome.{HasPlayed, HasRun, OfScript, Plays, SaysOnly, WasPlayedOrNot, body_text, outcome_text}
+use Rattle.dr_outcome.specs.Playing.{InFolder, Playing, part_in}
 use Rattle.dr_script.specs.declared.script.Script.{Script}
 use Rattle.dr_script.specs.Json.{json_of}
 use Rattle.dr_script.specs.Reading.{NotJson, Reading, Reads, TooLong, Wrong, reading_of}
@@ -64,32 +65,42 @@ played_right play script before after o last played report is end tell =
     subst (λ text. IsVerdict script (text ++ last_text last) lasts.Right)
     (ap (λ (b : Body). body_text b o.ages) (sym report)) (by play.folder played.run tell)
   where
-    by : (folder : Option InFolder) → HasRun play.mode folder script before after o.ages o.stop
+    part : Part
+    part = part_in play
+
+    by : (folder : Option InFolder) → HasRun play.mode folder part script before after o.ages o.stop
         → DisksTell folder script.members before → IsVerdict script (report_text o.ages last) lasts.Right
     by (Some folder) run tell =
-        run_right script folder.missing play.mode before after o.ages o.stop last played.ranges tell run
-        (sym played.line ∙ is) end
+        run_right script part play.mode before after o.ages o.stop last played.ranges tell run (sym played.line ∙ is)
+        end
     by None run tell =
-        run_right script 0 play.mode empty_yard run.1.after o.ages o.stop last played.ranges (λ m below. refl)
+        run_right script part play.mode empty_yard run.1.after o.ages o.stop last played.ranges (λ m below. refl)
         run.1.run (sym played.line ∙ is) end
 
--- one that is refused has another status
+-- where nothing is run the status is another
 refused : (known last : Last) (before after : YardState) (o : Outcome) → status_of known ≡ 3
     → SaysOnly (Some known) before after o → o.last ≡ Some last → IsRunEnd (status_of last) → ⊥
 refused known last before after o three says is end =
     apart 3 (status_of last) (λ e. omega (arith, e)) (λ e. omega (arith, e)) (λ e. omega (arith, e))
     (ap status_of (same_Some last known (sym is ∙ says.line)) ∙ three) end
 
+unplayed : (last : Last) (before after : YardState) (o : Outcome) → SaysOnly (Some lasts.Usage) before after o
+    → o.last ≡ Some last → IsRunEnd (status_of last) → ⊥
+unplayed last before after o says is end =
+    apart 2 (status_of last) (λ e. omega (arith, e)) (λ e. omega (arith, e)) (λ e. omega (arith, e))
+    (ap status_of (same_Some last lasts.Usage (sym is ∙ says.line))) end
+
 reading_right : (play : Playing) (before after : YardState) (o : Outcome) (last : Last) (r : Reading)
-    → OfScript (λ script result. HasPlayed play script before after result × (result.body ≡ bodies.Report)) r
-    before after o → o.last ≡ Some last → IsRunEnd (status_of last)
+    → OfScript (λ script result. WasPlayedOrNot play script before after result) r before after o → o.last ≡ Some last → IsRunEnd (status_of last)
     → ((script : Script) → r ≡ Reads script → DisksTell play.folder script.members before)
     → (script : Script) × (r ≡ Reads script) × IsVerdict script (outcome_text o last) lasts.Right
-reading_right play before after o last (Reads script) (played, report) is end tell = (
+reading_right play before after o last (Reads script) (inl played) is end tell = (
   script,
   refl,
-  played_right play script before after o last played report is end (tell script refl),
+  played_right play script before after o last played.0 played.1 is end (tell script refl),
 )
+reading_right play before after o last (Reads script) (inr says) is end tell =
+    absurd (unplayed last before after o says.1 is end)
 reading_right play before after o last TooLong says is end tell =
     absurd (refused lasts.TooLong last before after o refl says is end)
 reading_right play before after o last NotJson says is end tell =

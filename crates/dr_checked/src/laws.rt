@@ -2,6 +2,7 @@
 ghost use Rattle.std.specs.Prelude.{◌≡◌, ◌↔◌, ℕ, List, [], ◌∷◌, Contains, Option, Some};
 ghost use Rattle.dr_ages.specs.Runs.{IsRunOf};
 ghost use Rattle.dr_ages.specs.declared.mode.Mode.{Mode};
+ghost use Rattle.dr_ages.specs.declared.part.Part.{Part};
 ghost use Rattle.dr_ages.specs.declared.stop.Stop.{Stop};
 ghost use Rattle.dr_entry.specs.declared.end.AgeEnd.{AgeEnd};
 ghost use Rattle.dr_intake.specs.Status.{status_of};
@@ -20,9 +21,9 @@ ghost use Rattle.dr_checked.specs.Checked.{DisksTell, HandsIn, IsChecked, IsJudg
 
 /// The report of a run over disks that tell is right, where its last line has status 0, 8 or 9.
 pub fn runs_are_right()
-    ensures { (script : Script) (missing : ℕ) (mode : Mode) (before after : YardState) (ages : List AgeEnd)
+    ensures { (script : Script) (part : Part) (mode : Mode) (before after : YardState) (ages : List AgeEnd)
         (stop : Option Stop) (last : LastOf) → HasRanges script → AllTell script.members before
-        → IsRunOf script missing mode before after ages stop → last_of ages stop ≡ Some last
+        → IsRunOf script part mode before after ages stop → last_of ages stop ≡ Some last
         → Contains (0 ∷ 8 ∷ 9 ∷ []) (status_of last) → IsVerdict script (report_text ages last) Right }
 {}
 
