@@ -10,6 +10,7 @@ use Rattle.dr_entry.specs.declared.end.AgeEnd.{AgeEnd}
 use Rattle.dr_entry.specs.declared.end.End.{End}
 use Rattle.dr_entry.specs.declared.end.End.TheVariants as ends
 use Rattle.dr_entry.specs.declared.end.MemberEnd.{MemberEnd}
+use Rattle.dr_history.specs.Soundness.{IsNobodyLate}
 use Rattle.dr_machine.specs.Group.{AllPresent, IsGroup}
 use Rattle.dr_program.specs.declared.outcome.LogWhy.{LogWhy}
 use Rattle.dr_program.specs.declared.outcome.LogWhy.TheVariants as whys
@@ -49,14 +50,15 @@ none_failed p ended failing stopped (m, r, why, there, at) =
 
 -- a script that gives its members time enough makes them complete in an age of which no log failed
 pub complete_by_time : (script : Script) (start : Start) (nth : ℕ) (age : AgeEnd)
-    → IsGroup (group_of script start) → AllPresent (group_of script start) → HasRanges script
+    → IsGroup (group_of script start) → AllPresent (group_of script start)
+    → IsNobodyLate (group_of script start).opening → HasRanges script
     → IsSimulated script start nth age → HasTime script
     → NoneStopped age.members
     → AreComplete (group_of script start).opening age.members
-complete_by_time script start nth age is whole ranges sim time stopped =
+complete_by_time script start nth age is whole prompt ranges sim time stopped =
     subst (λ (a : AgeEnd). AreComplete (group_of script start).opening a.members) (sym sim.told)
     (elim sim.run.well [
-      | inl well ↦ completes_by_script script start nth sim.begun sim.over sim.run.moves is whole ranges time
+      | inl well ↦ completes_by_script script start nth sim.begun sim.over sim.run.moves is whole prompt ranges time
           sim.begins well (subst (λ (schedule : Schedule). IsRunBy schedule sim.begun sim.run.moves sim.over)
           time.lockstep sim.run.by)
       | inr failed ↦ absurd (none_failed sim.over (schedule_ends script.schedule sim.begun sim.over sim.run)

@@ -36,6 +36,7 @@ use Rattle.dr_restart.specs.Groups.{first_group_of}
 use Rattle.dr_script.specs.declared.script.Script.{Script}
 use Rattle.dr_yard.specs.Yards.{AllTell, YardState}
 use Rattle.dr_ages.specs.declared.mode.Mode.{Mode}
+use Rattle.dr_ages.specs.declared.part.Part.{Part}
 use Rattle.dr_ages.specs.declared.stop.Stop.{Stop}
 use Rattle.dr_ages.specs.Ages.{IsAgeOf, start_of}
 use Rattle.dr_ages.specs.Crashed.{HaveCrashed, IsLeftOver}
@@ -235,24 +236,24 @@ reads_on (Some t) (Some u) logged c over left reads =
     (none.has.more_entries, sym none.has.entries ∙ ap (λ (d : OnLog). d.entries) is)
 
 -- so the next run begins with all that was logged in the last age
-pub logged_begins : (script : Script) (missing lacking : ℕ) (mode : Mode) (nth : ℕ) (ages earlier : List AgeEnd)
-    (age : AgeEnd) (m : ℕ) (e : MemberEnd) (mid after end : YardState) (next : AgeEnd) → HaveLogged missing ages mid
-    → ages ≡ earlier ++ age ∷ [] → slice_get age.members m ≡ Some e → m < script.members → has missing m ≡ false
-    → has lacking m ≡ false → AreFit script mid → HaveCrashed script.members mid after
-    → IsAgeOf script lacking mode nth after end next → IsPrefixOf (take e.logged e.history) next.start
-logged_begins script missing lacking mode nth ages earlier age m e mid after end next logged is at l there here fit
+pub logged_begins : (script : Script) (part other : Part) (mode : Mode) (nth : ℕ) (ages earlier : List AgeEnd)
+    (age : AgeEnd) (m : ℕ) (e : MemberEnd) (mid after end : YardState) (next : AgeEnd) → HaveLogged part.missing ages mid
+    → ages ≡ earlier ++ age ∷ [] → slice_get age.members m ≡ Some e → m < script.members → has part.missing m ≡ false
+    → has other.missing m ≡ false → AreFit script mid → HaveCrashed script.members mid after
+    → IsAgeOf script other mode nth after end next → IsPrefixOf (take e.logged e.history) next.start
+logged_begins script part other mode nth ages earlier age m e mid after end next logged is at l there here fit
     crashed opens =
-    let c = there_found script.members lacking after opens.contents m opens.found l here in
+    let c = there_found script.members other.missing after opens.contents m opens.found l here in
     prefix_then (take e.logged e.history) c.0.entries next.start
     (reads_on (mid.told m) (after.told m) (take e.logged e.history) c.0 (crashed m l)
     (logged earlier age m e is at there) (opens.found.each m c.0 c.1).reads)
-    (front_of_start (first_group_of script).opening opens.contents (start_of script lacking next) m c.0 opens.starts
-    (λ i j f g at_f at_g. found_along script lacking mid after opens.contents i j f g fit crashed opens.found at_f at_g)
+    (front_of_start (first_group_of script).opening opens.contents (start_of script other next) m c.0 opens.starts
+    (λ i j f g at_f at_g. found_along script other.missing mid after opens.contents i j f g fit crashed opens.found at_f at_g)
     c.1)
 
 -- a run over disks that tell behind it had such disks before it
-pub told_before : (script : Script) (missing : ℕ) (mode : Mode) (before mid : YardState) (ages : List AgeEnd)
-    (stop : Option Stop) → IsRunOf script missing mode before mid ages stop → AllTell script.members mid
+pub told_before : (script : Script) (part : Part) (mode : Mode) (before mid : YardState) (ages : List AgeEnd)
+    (stop : Option Stop) → IsRunOf script part mode before mid ages stop → AllTell script.members mid
     → AllTell script.members before
-told_before script missing mode before mid ages stop run tell m l =
+told_before script part mode before mid ages stop run tell m l =
     subst IsTrue (sym (run.passes m).tells) (tell m l)

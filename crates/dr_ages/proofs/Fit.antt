@@ -54,6 +54,7 @@ use Rattle.dr_script.specs.Ranges.{HasGroupRanges, HasRanges}
 use Rattle.dr_words.proofs.Bits.{has_zero}
 use Rattle.dr_yard.specs.Yards.{AllTell, YardState}
 use Rattle.dr_ages.specs.declared.mode.Mode.{Mode}
+use Rattle.dr_ages.specs.declared.part.Part.{Part}
 use Rattle.dr_ages.specs.declared.stop.Stop.{Stop}
 use Rattle.dr_ages.specs.Ages.{IsAgeOf, over_of, start_of}
 use Rattle.dr_ages.specs.Fit.{AreChosen, AreFit, IsReadable, MayLeave}
@@ -111,11 +112,11 @@ fit_good script yard fit = record {
   whole = λ m at l reads. undamaged (yard.told m) at (fit.readable m l) reads;
 }
 
-pub fit_never : (script : Script) (missing : ℕ) (before after : YardState) (s : Stop) → HasGroupRanges script
-    → NoneMissing script.members missing → AreFit script before → HasStopped script missing before after s
+pub fit_never : (script : Script) (part : Part) (before after : YardState) (s : Stop) → HasGroupRanges script
+    → NoneMissing script.members part.missing → AreFit script before → HasStopped script part before after s
     → IsBadLogs s → ⊥
-fit_never script missing before after s ranges none fit is bad =
-    good_never script missing before after s ranges none (fit_good script before fit) is bad
+fit_never script part before after s ranges none fit is bad =
+    good_never script part before after s ranges none (fit_good script before fit) is bad
 
 -- ---- empty disks
 
@@ -198,23 +199,23 @@ mounted_fit tells faults script before mid after logs fit mounted rest back =
 
 -- ---- the disks that an age leaves
 
-pub age_fit : (script : Script) (missing : ℕ) (mode : Mode) (nth : ℕ) (before yard : YardState) (age : AgeEnd)
-    → HasRanges script → NoneMissing script.members missing → IsAgeOf script missing mode nth before yard age
+pub age_fit : (script : Script) (part : Part) (mode : Mode) (nth : ℕ) (before yard : YardState) (age : AgeEnd)
+    → HasRanges script → NoneMissing script.members part.missing → IsAgeOf script part mode nth before yard age
     → AllTell script.members yard → AreFit script yard
-age_fit script missing mode nth before yard age ranges none is tell = record {
-  readable = λ m l. readable_behind script missing mode nth before yard age is tell m l (none m l);
+age_fit script part mode nth before yard age ranges none is tell = record {
+  readable = λ m l. readable_behind script part mode nth before yard age is tell m l (none m l);
   accepted = λ lists chosen.
-      ended_accepted script (start_of script missing age) age.members lists group
-      (all_take_part script missing ranges.group.most_members none ∙ ap (λ (n : ℕ). 2 ^ n - 1) (sym ranges.group.lists))
+      ended_accepted script (start_of script part age) age.members lists group
+      (all_take_part script part.missing ranges.group.most_members none ∙ ap (λ (n : ℕ). 2 ^ n - 1) (sym ranges.group.lists))
       is.agreed (is.roster ∙ sym ranges.group.lists) (parts lists chosen);
 }
   where
-    group : IsGroup (group_of script (start_of script missing age))
-    group = chosen_group script is.contents (start_of script missing age) ranges.group is.starts
+    group : IsGroup (group_of script (start_of script part age))
+    group = chosen_group script is.contents (start_of script part age) ranges.group is.starts
 
     -- what is on a log that its member has left has its first entries
     left_of : (o : Option Told) (m : ℕ) (e : MemberEnd) (es : List Entry)
-        → (x : EndsSo (over_of mode script (start_of script missing age) nth age is.run) m e)
+        → (x : EndsSo (over_of mode script (start_of script part age) nth age is.run) m e)
         → HasLeft o x.r.replica (is.begun m) → IsSomeAnd o (MayLeave es) → IsLeftOf e.history e.logged es
     left_of None m e es x left may = absurd may
     left_of (Some t) m e es x left may =
@@ -226,7 +227,7 @@ age_fit script missing mode nth before yard age ranges none is tell = record {
     parts lists chosen m es at =
         let below : m < script.members = omega (arith, slice_get_within lists m es at, chosen.all) in
         let e = slice_get-some age.members m (omega (arith, below, is.roster)) in
-        let x = ended_over script missing mode nth before yard age is m e.0 e.1 (none m below) in (
+        let x = ended_over script part mode nth before yard age is m e.0 e.1 (none m below) in (
           m,
           e.0,
           e.1,
@@ -234,11 +235,11 @@ age_fit script missing mode nth before yard age ranges none is tell = record {
         )
 
 -- so its logs are never refused
-pub age_leaves_good : (script : Script) (missing : ℕ) (mode : Mode) (nth : ℕ) (before yard : YardState) (age : AgeEnd)
-    → HasRanges script → NoneMissing script.members missing → IsAgeOf script missing mode nth before yard age
+pub age_leaves_good : (script : Script) (part : Part) (mode : Mode) (nth : ℕ) (before yard : YardState) (age : AgeEnd)
+    → HasRanges script → NoneMissing script.members part.missing → IsAgeOf script part mode nth before yard age
     → AllTell script.members yard → IsGood script yard
-age_leaves_good script missing mode nth before yard age ranges none is tell =
-    fit_good script yard (age_fit script missing mode nth before yard age ranges none is tell)
+age_leaves_good script part mode nth before yard age ranges none is tell =
+    fit_good script yard (age_fit script part mode nth before yard age ranges none is tell)
 
 -- ---- logs on the way to a start
 
@@ -269,7 +270,7 @@ whole_front script yard contents start m c ranges good found chosen at =
     let few : length o.messages ≤ 16 = omega (arith, ranges.lists, ranges.most_members) in
     let along = (good.accepted contents found).along in
     front_of_longest (entries_on_logs (lists_with contents)) start.entries c.entries m along
-    (longest-chosen o (lists_with contents) start.members start
+    (longest-chosen o (lists_with contents) start.present start
     (chosen_by o contents (lists_with contents) start chosen few (among_lists contents))
     (λ i l. all_in_set o contents start i chosen few (there i (omega (
       arith,
@@ -411,14 +412,14 @@ unopened_fit {D} tells faults script before start olds news fault ranges all but
         ∙ may.entries) f.part
 
 -- and those on which none was begun
-pub why_fit : {D : Type 0} (tells : D → Option Told) (faults : D → ℕ) (script : Script) (before : YardState)
-    (olds news : List (Option (LogState D))) (why : NotOpened) → HasGroupRanges script
+pub why_fit : {D : Type 0} (tells : D → Option Told) (faults : D → ℕ) (script : Script) (late : ℕ)
+    (before : YardState) (olds news : List (Option (LogState D))) (why : NotOpened) → HasGroupRanges script
     → length olds ≡ script.members → AreAllBut 0 olds → AreFit script before → AreMounted tells faults before olds
-    → IsWhyUnopened tells faults script olds news why → AreFit script (with_logs tells faults before news)
-why_fit tells faults script before olds news (Unchosen fault) ranges all but fit mounted is =
+    → IsWhyUnopened tells faults script late olds news why → AreFit script (with_logs tells faults before news)
+why_fit tells faults script late before olds news (Unchosen fault) ranges all but fit mounted is =
     subst (λ logs. AreFit script (with_logs tells faults before logs)) (sym is.1)
     (mounted_fit tells faults script before before (with_logs tells faults before olds) olds fit mounted
     (λ m none. alike_same (before.told m) (before.told m) (before.faults m) (before.faults m) refl
     (le_refl (before.faults m))) (λ m. (refl, refl)))
-why_fit tells faults script before olds news (Unfinished fault) ranges all but fit mounted is =
-    unopened_fit tells faults script before is.0 olds news fault ranges all but fit mounted is.1 is.2
+why_fit tells faults script late before olds news (Unfinished fault) ranges all but fit mounted is =
+    unopened_fit tells faults script before is.0 olds news fault ranges all but fit mounted is.1 is.3

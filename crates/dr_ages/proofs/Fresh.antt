@@ -33,6 +33,7 @@ use Rattle.dr_log_bytes.specs.Content.{OnLog, empty_of, with_record}
 use Rattle.dr_log_bytes.specs.Grammar.{StandFor}
 use Rattle.dr_log_bytes.proofs.Meaning.{content_once}
 use Rattle.dr_logged.specs.Served.{IsRecordDue}
+use Rattle.dr_machine.specs.Group.{Group, IsGroup, banks, roster}
 use Rattle.dr_opening.specs.Contents.{IsCutFor, IsOpenFor, IsRisingStep, IsVoteStep, voted_for}
 use Rattle.dr_opening.specs.Lists.{all_as_lists, as_lists}
 use Rattle.dr_opening.specs.Tries.{IsChosenOf, content_at}
@@ -49,7 +50,7 @@ use Rattle.dr_quorum_laws.proofs.Refusals.{one-start}
 use Rattle.dr_restart.specs.declared.lists.LogLists.{LogLists}
 use Rattle.dr_restart.specs.declared.start.Start.{Start}
 use Rattle.dr_restart.specs.Choosing.{AreOfHolders, AreOfNobody, HasAge, IsChosenStart}
-use Rattle.dr_restart.specs.Groups.{first_group_of}
+use Rattle.dr_restart.specs.Groups.{first_group_of, group_of}
 use Rattle.dr_restart.specs.Left.{entries_on_logs}
 use Rattle.dr_restart.specs.Refusing.{Refusal}
 use Rattle.dr_restart.specs.Trying.{age_vote_of}
@@ -57,13 +58,16 @@ use Rattle.dr_script.specs.declared.script.Script.{Script}
 use Rattle.dr_script.specs.Ranges.{HasGroupRanges, HasRanges}
 use Rattle.dr_words.proofs.Bits.{has_zero}
 use Rattle.dr_yard.specs.Yards.{AllTell, AreEmpty, YardState}
+use Rattle.dr_world_laws.proofs.Finishing.{banks-small}
 use Rattle.dr_ages.specs.declared.mode.Mode.{Mode}
+use Rattle.dr_ages.specs.declared.part.Part.{Part}
 use Rattle.dr_ages.specs.declared.stop.Stop.{Stop}
 use Rattle.dr_ages.specs.declared.stop.Stop.TheVariants.{OutOfMemory, DiskFault, LogFull, Damaged, Disagree, Foreign, NoQuorum, AgesUsedUp}
 use Rattle.dr_ages.specs.Ages.{AreAges, IsAgeOf, IsMemberOf, opening_of, start_of}
 use Rattle.dr_ages.specs.Found.{AreFew, AreFound, AreRoomy, NoneMissing, ReadsAs}
 use Rattle.dr_ages.specs.Left.{HasLeft, with_logged}
 use Rattle.dr_ages.specs.Stops.{AreOpenBelow, AreRefusedFor, HasStopped, HaveVotesBelow, IsOutside, IsTooFull}
+use Rattle.dr_opening.proofs.Choosing.{chosen_group}
 use Rattle.dr_ages.proofs.Chain.{tell_on}
 use Rattle.dr_ages.proofs.Fit.{age_leaves_good}
 use Rattle.dr_ages.proofs.Good.{IsGood, empty_found, empty_good, found_of, found_whole, good_never}
@@ -77,23 +81,28 @@ use Rattle.dr_ages.proofs.Votes.{found_valid}
 
 -- behind what stood on a log as the age began: little but the entries that came
 abbrev HasFewMore : OnLog → OnLog → Type 0
-HasFewMore base c = c.length ≤ base.length + 18688 + entries_length (drop (length base.entries) c.entries)
+HasFewMore base c = c.length ≤ base.length + 37376 + entries_length (drop (length base.entries) c.entries)
 
-image_few : (t : Told) (image : List ℕ) (n : ℕ) (r : Replica) (c base : OnLog) → IsImage (state_of t) image
-    → StandFor image c → n ≤ MAX_MEMBERS → IsMemberOf n r → IsPrefixOf base.entries (take r.logged r.history)
+-- a group has a bank for each member of the roster, and one more for each late one
+record IsSmallGroup (g : Group) : Type 0 where
+  roster : roster g ≤ MAX_MEMBERS
+  banks : banks g ≤ 2 * MAX_MEMBERS
+
+image_few : (t : Told) (image : List ℕ) (g : Group) (r : Replica) (c base : OnLog) → IsImage (state_of t) image
+    → StandFor image c → IsSmallGroup g → IsMemberOf g r → IsPrefixOf base.entries (take r.logged r.history)
     → All IsValidVote c.votes → HasLeft (Some t) r base → HasFewMore base c
-image_few t image n r c base is reads most of begins valid left = by left
+image_few t image g r c base is reads most of begins valid left = by left
   where
     -- the votes of a group are few
-    few : length r.votes ≤ MAX_MEMBERS * MAX_MEMBERS
-    few = omega (arith, of.few, mul-le n n MAX_MEMBERS MAX_MEMBERS most most)
+    few : length r.votes ≤ 2 * MAX_MEMBERS * MAX_MEMBERS
+    few = omega (arith, of.few, mul-le (banks g) (roster g) (2 * MAX_MEMBERS) MAX_MEMBERS most.banks most.roster)
 
     same_as : (d : OnLog) → StandFor image d → c ≡ d
     same_as d here = content_once image c d reads here
 
     -- so they are short
-    short : (more : List Vote) → c.votes ≡ base.votes ++ more → length more ≤ MAX_MEMBERS * MAX_MEMBERS
-        → votes_length more ≤ 18688
+    short : (more : List Vote) → c.votes ≡ base.votes ++ more → length more ≤ 2 * MAX_MEMBERS * MAX_MEMBERS
+        → votes_length more ≤ 37376
     short more parts less =
         let behind : All IsValidVote more =
         subst (All IsValidVote) (ap (drop (length base.votes)) parts
@@ -132,12 +141,12 @@ image_few t image n r c base is reads most of begins valid left = by left
         let all = same_as (with_record (records.Vote v) (with_logged base r)) s in
         let votes : c.votes ≡ base.votes ++ (r.votes ++ v ∷ []) =
         ap (λ (d : OnLog). d.votes) all ∙ append_assoc base.votes r.votes (v ∷ []) in
-        let less : length (r.votes ++ v ∷ []) ≤ MAX_MEMBERS * MAX_MEMBERS = omega (
+        let less : length (r.votes ++ v ∷ []) ≤ 2 * MAX_MEMBERS * MAX_MEMBERS = omega (
           arith,
           length-append r.votes (v ∷ []),
           due.few,
-          mul-le r.banks r.roster MAX_MEMBERS MAX_MEMBERS (omega (arith, of.banks, most))
-              (omega (arith, of.roster, most)),
+          mul-le r.banks r.roster (2 * MAX_MEMBERS) MAX_MEMBERS (omega (arith, of.banks, most.banks))
+              (omega (arith, of.roster, most.roster)),
         ) in
         omega (
           arith,
@@ -158,13 +167,13 @@ image_few t image n r c base is reads most of begins valid left = by left
     ]
 
 -- and it begins with what was logged
-read_few : (o : Option Told) (n : ℕ) (r : Replica) (c base : OnLog) (first : List Entry) → IsTrue (is_some o)
-    → IfSome o (ReadsAs c) → n ≤ MAX_MEMBERS → IsMemberOf n r → base.entries ≡ first
+read_few : (o : Option Told) (g : Group) (r : Replica) (c base : OnLog) (first : List Entry) → IsTrue (is_some o)
+    → IfSome o (ReadsAs c) → IsSmallGroup g → IsMemberOf g r → base.entries ≡ first
     → IsPrefixOf first (take r.logged r.history) → All IsValidVote c.votes → HasLeft o r base
     → HasFewMore base c × IsPrefixOf first c.entries
-read_few None n r c base first some reads most of opened begins valid left = absurd (cc)
-read_few (Some t) n r c base first some reads most of opened begins valid left = (
-  image_few t (content_of t) n r c base reads.image reads.stands most of
+read_few None g r c base first some reads most of opened begins valid left = absurd (cc)
+read_few (Some t) g r c base first some reads most of opened begins valid left = (
+  image_few t (content_of t) g r c base reads.image reads.stands most of
       (subst (λ (es : List Entry). IsPrefixOf es (take r.logged r.history)) (sym opened) begins) valid left,
   left_begins first (member_end r) c.entries begins
       (image_entries t (content_of t) r c base reads.image reads.stands left),
@@ -180,7 +189,7 @@ uncut : (script : Script) (yard : YardState) (contents : List (Option OnLog)) (s
     → IsPrefixOf c.entries start.entries
 uncut script yard contents start m c ranges found accepted chosen at =
     front_of_longest (entries_on_logs (lists_with contents)) start.entries c.entries m accepted.along
-    (longest-chosen (first_group_of script).opening (lists_with contents) start.members start
+    (longest-chosen (first_group_of script).opening (lists_with contents) start.present start
     (chosen_by (first_group_of script).opening contents (lists_with contents) start chosen few (among_lists contents))
     (λ i l. all_in_set (first_group_of script).opening contents start i chosen few (there i l))
     accepted.along)
@@ -227,7 +236,7 @@ pub record IsRoomyAt (script : Script) (bytes first k : ℕ) (yard : YardState) 
   pub tell : AllTell script.members yard
   pub good : IsGood script yard
   pub few : (contents : List (Option OnLog)) → AreFound script.members 0 yard contents → (m : ℕ) (c : OnLog)
-      → content_at contents m ≡ Some c → c.length ≤ bytes + 18696 * k + entries_length c.entries
+      → content_at contents m ≡ Some c → c.length ≤ bytes + 37384 * k + entries_length c.entries
   pub next : (contents : List (Option OnLog)) (start : Start) → AreFound script.members 0 yard contents
       → IsChosenOf (first_group_of script).opening contents start → start.age ≡ first + k
   pub last : (contents : List (Option OnLog)) → AreFound script.members 0 yard contents
@@ -278,12 +287,12 @@ fresh_first script yard empty = record {
         (subst (λ (l : LogLists). HasAge l a) (sym c.2) has))
 
 -- the age has the number of those before it
-age_number : (script : Script) (missing : ℕ) (mode : Mode) (bytes first k nth : ℕ) (before yard : YardState)
-    (age : AgeEnd) → NoneMissing script.members missing → IsRoomyAt script bytes first k before
-    → IsAgeOf script missing mode nth before yard age → age.age ≡ first + k
-age_number script missing mode bytes first k nth before yard age none roomy is =
-    roomy.next is.contents (start_of script missing age)
-    (found_whole script.members missing before is.contents none is.found) is.starts
+age_number : (script : Script) (part : Part) (mode : Mode) (bytes first k nth : ℕ) (before yard : YardState)
+    (age : AgeEnd) → NoneMissing script.members part.missing → IsRoomyAt script bytes first k before
+    → IsAgeOf script part mode nth before yard age → age.age ≡ first + k
+age_number script part mode bytes first k nth before yard age none roomy is =
+    roomy.next is.contents (start_of script part age)
+    (found_whole script.members part.missing before is.contents none is.found) is.starts
 
 -- on each log there is little but entries
 few_at : (script : Script) (bytes first k : ℕ) (yard : YardState) (contents : List (Option OnLog)) (m : ℕ) (c : OnLog)
@@ -293,12 +302,12 @@ few_at script bytes first k yard contents m c roomy short small found at =
     record { few = omega (arith, roomy.few contents found m c at, small, short) }
 
 -- the first age starts with nothing
-pub fresh_start : (script : Script) (missing : ℕ) (mode : Mode) (nth : ℕ) (before : YardState) (ages : List AgeEnd)
+pub fresh_start : (script : Script) (part : Part) (mode : Mode) (nth : ℕ) (before : YardState) (ages : List AgeEnd)
     (last : YardState) (a : AgeEnd) → AreEmpty script.members before
-    → AreAges script missing mode nth before ages last → slice_get ages 0 ≡ Some a → a.start ≡ []
-fresh_start script missing mode nth before [] last a empty are at =
+    → AreAges script part mode nth before ages last → slice_get ages 0 ≡ Some a → a.start ≡ []
+fresh_start script part mode nth before [] last a empty are at =
     absurd (omega (arith, slice_get_within [] 0 a at))
-fresh_start script missing mode nth before (one ∷ ages) last a empty are at =
+fresh_start script part mode nth before (one ∷ ages) last a empty are at =
     ap (λ (x : AgeEnd). x.start) (sym (same_Some one a at)) ∙ by are.1.starts.chosen.entries
   where
     by : AreOfHolders (first_group_of script).opening (handed_by (all_as_lists are.1.contents)) one.start
@@ -308,24 +317,24 @@ fresh_start script missing mode nth before (one ∷ ages) last a empty are at =
         let c = on_found are.1.contents held.held.0 held.held.1 held.held.2 in
         held.held.4 ∙ (sym (ap (λ (l : LogLists). l.entries) c.2)
         ∙ ap (λ (d : OnLog). d.entries)
-        (empty_found script missing before are.1.contents held.held.0 c.0 empty are.1.found c.1))
+        (empty_found script part.missing before are.1.contents held.held.0 c.0 empty are.1.found c.1))
 
 -- what an age leaves on a log, by what was found on it as the age opened
-pub roomy_next : (script : Script) (missing : ℕ) (mode : Mode) (bytes first k nth : ℕ) (before yard : YardState)
-    (age : AgeEnd) → HasRanges script → NoneMissing script.members missing → IsRoomyAt script bytes first k before
-    → IsAgeOf script missing mode nth before yard age → IsRoomyAt script bytes first (k + 1) yard
-roomy_next script missing mode bytes first k nth before yard age ranges none roomy is = record {
+pub roomy_next : (script : Script) (part : Part) (mode : Mode) (bytes first k nth : ℕ) (before yard : YardState)
+    (age : AgeEnd) → HasRanges script → NoneMissing script.members part.missing → IsRoomyAt script bytes first k before
+    → IsAgeOf script part mode nth before yard age → IsRoomyAt script bytes first (k + 1) yard
+roomy_next script part mode bytes first k nth before yard age ranges none roomy is = record {
   tell = tell;
-  good = age_leaves_good script missing mode nth before yard age ranges none is tell;
+  good = age_leaves_good script part mode nth before yard age ranges none is tell;
   few = few;
   next = λ contents start found chosen. omega (
     arith,
-    age_next script missing yard age contents start (behind_of contents found) chosen,
+    age_next script part yard age contents start (behind_of contents found) chosen,
     number,
   );
   last = λ contents found used. omega (
     arith,
-    (refused_after script missing yard age contents Refusal.AgesUsedUp (behind_of contents found) used).1,
+    (refused_after script part yard age contents Refusal.AgesUsedUp (behind_of contents found) used).1,
     number,
   );
 }
@@ -334,11 +343,11 @@ roomy_next script missing mode bytes first k nth before yard age ranges none roo
     tell = tell_on script.members (age.start ∷ []) before yard is.passes roomy.tell
 
     number : age.age ≡ first + k
-    number = age_number script missing mode bytes first k nth before yard age none roomy is
+    number = age_number script part mode bytes first k nth before yard age none roomy is
 
     -- as it is found with none missing, it is found with these missing
     same_found : (contents : List (Option OnLog)) → AreFound script.members 0 yard contents
-        → AreFound script.members missing yard contents
+        → AreFound script.members part.missing yard contents
     same_found contents found = record {
       all = found.all;
       there = λ m l. found.there m l ∙ ap not (has_zero m ∙ sym (none m l));
@@ -346,38 +355,44 @@ roomy_next script missing mode bytes first k nth before yard age ranges none roo
     }
 
     behind_of : (contents : List (Option OnLog)) → AreFound script.members 0 yard contents
-        → IsBehind script missing yard age contents
+        → IsBehind script part yard age contents
     behind_of contents found =
-        behind script missing mode nth before yard age ranges is tell contents (same_found contents found)
+        behind script part mode nth before yard age ranges is tell contents (same_found contents found)
 
     whole_found : AreFound script.members 0 before is.contents
-    whole_found = found_whole script.members missing before is.contents none is.found
+    whole_found = found_whole script.members part.missing before is.contents none is.found
+
+    group : IsGroup (group_of script (start_of script part age))
+    group = chosen_group script is.contents (start_of script part age) ranges.group is.starts
+
+    small : IsSmallGroup (group_of script (start_of script part age))
+    small = record { roster = group.most_members; banks = banks-small (group_of script (start_of script part age)) group }
 
     few : (contents : List (Option OnLog)) → AreFound script.members 0 yard contents → (m : ℕ) (c : OnLog)
-        → content_at contents m ≡ Some c → c.length ≤ bytes + 18696 * (k + 1) + entries_length c.entries
+        → content_at contents m ≡ Some c → c.length ≤ bytes + 37384 * (k + 1) + entries_length c.entries
     few contents found m c at =
         let l : m < script.members = omega (arith, within_places contents m c at, found.all) in
         let old = found_of script.members before is.contents m whole_found l in
         let e = slice_get-some age.members m (omega (arith, l, is.roster)) in
-        let x = ended_over script missing mode nth before yard age is m e.0 e.1 (none m l) in
-        let start = start_of script missing age in
-        let whole = first_entries (opening_of script missing age) in
+        let x = ended_over script part mode nth before yard age is m e.0 e.1 (none m l) in
+        let start = start_of script part age in
+        let whole = first_entries (opening_of script part age) in
         let opened = is.begins m old.0 old.1 in
         let base = open_entries start (voted_for start old.0) (is.begun m) opened in
         let begins = subst (λ (end : MemberEnd). IsPrefixOf whole (take end.logged end.history)) (sym x.is)
         (is.opened m e.0 e.1 (none m l)) in
-        let part = uncut script before is.contents start m old.0 ranges.group whole_found
+        let fits = uncut script before is.contents start m old.0 ranges.group whole_found
         (roomy.good.accepted is.contents whole_found) is.starts old.1 in
-        let read = read_few (yard.told m) script.members x.r.replica c (is.begun m) whole (tell m l)
-        (found.each m c at).reads ranges.group.most_members (is.few m x.r x.at) base begins
+        let read = read_few (yard.told m) (group_of script start) x.r.replica c (is.begun m) whole (tell m l)
+        (found.each m c at).reads small (is.few m x.r x.at) base begins
         (found_valid script.members 0 yard contents m c tell found l at) (is.left m x.r x.at) in
-        let front = part_of_opened old.0.entries start.entries (View age.age 0 start.members) part in
+        let front = part_of_opened old.0.entries start.entries (View age.age 0 start.members) fits in
         omega (
           arith,
           read.0,
           ap (λ (es : List Entry). entries_length (drop (length es) c.entries)) base,
           parts whole c.entries read.1,
-          open_uncut start old.0 (is.begun m) part opened,
+          open_uncut start old.0 (is.begun m) fits opened,
           parts old.0.entries whole front,
           roomy.few is.contents whole_found m old.0 old.1,
         )
@@ -389,36 +404,36 @@ roomy_next script missing mode bytes first k nth before yard age ranges none roo
             (ap (drop (length es)) (sym front.1) ∙ drop_at es front.0 (length es) refl)
             ∙ (sym (entries_length-append es front.0) ∙ ap entries_length front.1)
 
-pub roomy_last : (script : Script) (missing : ℕ) (mode : Mode) (bytes first k nth : ℕ) (before : YardState)
-    (ages : List AgeEnd) (last : YardState) → HasRanges script → NoneMissing script.members missing
-    → IsRoomyAt script bytes first k before → AreAges script missing mode nth before ages last
+pub roomy_last : (script : Script) (part : Part) (mode : Mode) (bytes first k nth : ℕ) (before : YardState)
+    (ages : List AgeEnd) (last : YardState) → HasRanges script → NoneMissing script.members part.missing
+    → IsRoomyAt script bytes first k before → AreAges script part mode nth before ages last
     → IsRoomyAt script bytes first (k + length ages) last
-roomy_last script missing mode bytes first k nth before [] last ranges none roomy are =
+roomy_last script part mode bytes first k nth before [] last ranges none roomy are =
     subst (λ (n : ℕ). IsRoomyAt script bytes first n last) (omega arith)
     (subst (IsRoomyAt script bytes first k) are roomy)
-roomy_last script missing mode bytes first k nth before (age ∷ ages) last ranges none roomy are =
+roomy_last script part mode bytes first k nth before (age ∷ ages) last ranges none roomy are =
     subst (λ (n : ℕ). IsRoomyAt script bytes first n last) (omega arith)
-    (roomy_last script missing mode bytes first (k + 1) (nth + 1) are.0 ages last ranges none
-    (roomy_next script missing mode bytes first k nth before are.0 age ranges none roomy are.1) are.2)
+    (roomy_last script part mode bytes first (k + 1) (nth + 1) are.0 ages last ranges none
+    (roomy_next script part mode bytes first k nth before are.0 age ranges none roomy are.1) are.2)
 
-pub roomy_ages : (script : Script) (missing : ℕ) (mode : Mode) (bytes first k nth : ℕ) (before : YardState)
+pub roomy_ages : (script : Script) (part : Part) (mode : Mode) (bytes first k nth : ℕ) (before : YardState)
     (ages : List AgeEnd) (last : YardState) (i : ℕ) (a : AgeEnd) → HasRanges script
-    → NoneMissing script.members missing → bytes ≤ 536870912 → k + length ages ≤ 16
-    → IsRoomyAt script bytes first k before → AreAges script missing mode nth before ages last
+    → NoneMissing script.members part.missing → bytes ≤ 536870912 → k + length ages ≤ 16
+    → IsRoomyAt script bytes first k before → AreAges script part mode nth before ages last
     → slice_get ages i ≡ Some a → (a.age ≡ first + k + i) × NoneFull a.members
-roomy_ages script missing mode bytes first k nth before [] last i a ranges none short small roomy are at =
+roomy_ages script part mode bytes first k nth before [] last i a ranges none short small roomy are at =
     absurd (omega (arith, slice_get_within [] i a at))
-roomy_ages script missing mode bytes first k nth before (age ∷ ages) last zero a ranges none short small roomy are at =
-    let number = age_number script missing mode bytes first k nth before are.0 age none roomy are.1 in
-    let found = found_whole script.members missing before are.1.contents none are.1.found in
+roomy_ages script part mode bytes first k nth before (age ∷ ages) last zero a ranges none short small roomy are at =
+    let number = age_number script part mode bytes first k nth before are.0 age none roomy are.1 in
+    let found = found_whole script.members part.missing before are.1.contents none are.1.found in
     subst (λ (x : AgeEnd). (x.age ≡ first + k + 0) × NoneFull x.members) (same_Some age a at) (
       omega (arith, number),
       are.1.ample (λ m c at. few_at script bytes first k before are.1.contents m c roomy short (omega (arith, small))
           found at),
     )
-roomy_ages script missing mode bytes first k nth before (age ∷ ages) last (suc i) a ranges none short small roomy are at =
-    let r = roomy_ages script missing mode bytes first (k + 1) (nth + 1) are.0 ages last i a ranges none short
-    (omega (arith, small)) (roomy_next script missing mode bytes first k nth before are.0 age ranges none roomy are.1)
+roomy_ages script part mode bytes first k nth before (age ∷ ages) last (suc i) a ranges none short small roomy are at =
+    let r = roomy_ages script part mode bytes first (k + 1) (nth + 1) are.0 ages last i a ranges none short
+    (omega (arith, small)) (roomy_next script part mode bytes first k nth before are.0 age ranges none roomy are.1)
     are.2 at in
     (omega (arith, r.0), r.1)
 
@@ -482,9 +497,9 @@ roomy_lasts script yard contents ranges roomy found used =
 -- ---- no log is full
 
 -- each append of an opening leaves a log that is no longer than one that is open
-full_never : (script : Script) (missing : ℕ) (before after : YardState) (m len : ℕ) → HasGroupRanges script
-    → (is : IsTooFull script missing before after m len) → AreFew is.content → ⊥
-full_never script missing before after m len ranges is little = omega (
+full_never : (script : Script) (part : Part) (before after : YardState) (m len : ℕ) → HasGroupRanges script
+    → (is : IsTooFull script part before after m len) → AreFew is.content → ⊥
+full_never script part before after m len ranges is little = omega (
   arith,
   little.few,
   found_short script is.contents is.start m is.content ranges is.chosen is.there,
@@ -503,21 +518,21 @@ full_never script missing before after m len ranges is little = omega (
 
 -- ---- what stops a run
 
-pub roomy_stop : (script : Script) (missing : ℕ) (bytes first k : ℕ) (last after : YardState) (s : Stop)
-    → HasRanges script → NoneMissing script.members missing → bytes ≤ 536870912 → k ≤ 16 → first + k < 2 ^ 16
-    → IsRoomyAt script bytes first k last → HasStopped script missing last after s → IsOutside s
-roomy_stop script missing bytes first k last after s ranges none short small number roomy stopped = by s stopped
+pub roomy_stop : (script : Script) (part : Part) (bytes first k : ℕ) (last after : YardState) (s : Stop)
+    → HasRanges script → NoneMissing script.members part.missing → bytes ≤ 536870912 → k ≤ 16 → first + k < 2 ^ 16
+    → IsRoomyAt script bytes first k last → HasStopped script part last after s → IsOutside s
+roomy_stop script part bytes first k last after s ranges none short small number roomy stopped = by s stopped
   where
-    by : (s : Stop) → HasStopped script missing last after s → IsOutside s
+    by : (s : Stop) → HasStopped script part last after s → IsOutside s
     by OutOfMemory is = tt
     by (DiskFault m) is = tt
     by (LogFull m len) is =
-        full_never script missing last after m len ranges.group is
+        full_never script part last after m len ranges.group is
         (few_at script bytes first k last is.contents m is.content roomy short small
-        (found_whole script.members missing last is.contents none is.found) is.there)
-    by (Damaged m at) is = good_never script missing last after (Damaged m at) ranges.group none roomy.good is tt
-    by (Disagree a b p) is = good_never script missing last after (Disagree a b p) ranges.group none roomy.good is tt
-    by (Foreign m p) is = good_never script missing last after (Foreign m p) ranges.group none roomy.good is tt
-    by (NoQuorum v h n) is = good_never script missing last after (NoQuorum v h n) ranges.group none roomy.good is tt
+        (found_whole script.members part.missing last is.contents none is.found) is.there)
+    by (Damaged m at) is = good_never script part last after (Damaged m at) ranges.group none roomy.good is tt
+    by (Disagree a b p) is = good_never script part last after (Disagree a b p) ranges.group none roomy.good is tt
+    by (Foreign m p) is = good_never script part last after (Foreign m p) ranges.group none roomy.good is tt
+    by (NoQuorum v h n) is = good_never script part last after (NoQuorum v h n) ranges.group none roomy.good is tt
     by AgesUsedUp is =
-        omega (arith, number, roomy.last is.0 (found_whole script.members missing last is.0 none is.1) is.2)
+        omega (arith, number, roomy.last is.0 (found_whole script.members part.missing last is.0 none is.1) is.2)

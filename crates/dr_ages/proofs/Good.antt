@@ -35,6 +35,7 @@ use Rattle.dr_script.specs.Ranges.{HasGroupRanges, HasRanges}
 use Rattle.dr_words.proofs.Bits.{has_ones, has_zero}
 use Rattle.dr_yard.specs.Yards.{AllTell, AreEmpty, YardState}
 use Rattle.dr_ages.specs.declared.mode.Mode.{Mode}
+use Rattle.dr_ages.specs.declared.part.Part.{Part}
 use Rattle.dr_ages.specs.declared.stop.Stop.{Stop}
 use Rattle.dr_ages.specs.declared.stop.Stop.TheVariants.{OutOfMemory, DiskFault, LogFull, Damaged, Disagree, Foreign, NoQuorum, AgesUsedUp}
 use Rattle.dr_ages.specs.Ages.{IsAgeOf}
@@ -65,31 +66,31 @@ left_readable (Some t) r base some (inr broken) = λ image here.
       | inr after ↦ (with_record broken.next (with_logged base r), after)
     ]
 
-pub readable_behind : (script : Script) (missing : ℕ) (mode : Mode) (nth : ℕ) (before yard : YardState)
-    (age : AgeEnd) → IsAgeOf script missing mode nth before yard age → AllTell script.members yard → (m : ℕ)
-    → m < script.members → has missing m ≡ false
+pub readable_behind : (script : Script) (part : Part) (mode : Mode) (nth : ℕ) (before yard : YardState)
+    (age : AgeEnd) → IsAgeOf script part mode nth before yard age → AllTell script.members yard → (m : ℕ)
+    → m < script.members → has part.missing m ≡ false
     → IsSomeAnd (yard.told m) (λ t. AllImages (state_of t) IsReadable)
-readable_behind script missing mode nth before yard age is tell m l there =
+readable_behind script part mode nth before yard age is tell m l there =
     let e = slice_get-some age.members m (omega (arith, l, is.roster)) in
-    let x = ended_over script missing mode nth before yard age is m e.0 e.1 there in
+    let x = ended_over script part mode nth before yard age is m e.0 e.1 there in
     left_readable (yard.told m) x.r.replica (is.begun m) (tell m l) (is.left m x.r x.at)
 
 -- the logs that an age leaves are not refused by the next one, but as no number is left
-pub age_never : (script : Script) (missing : ℕ) (mode : Mode) (nth : ℕ) (before last after : YardState)
-    (age : AgeEnd) (s : Stop) → HasRanges script → IsAgeOf script missing mode nth before last age
-    → AllTell script.members last → HasStopped script missing last after s → IsBadLogs s → ⊥
-age_never script missing mode nth before last after age s ranges is tell stopped bad = by s stopped bad
+pub age_never : (script : Script) (part : Part) (mode : Mode) (nth : ℕ) (before last after : YardState)
+    (age : AgeEnd) (s : Stop) → HasRanges script → IsAgeOf script part mode nth before last age
+    → AllTell script.members last → HasStopped script part last after s → IsBadLogs s → ⊥
+age_never script part mode nth before last after age s ranges is tell stopped bad = by s stopped bad
   where
     other : (why : Refusal) → (found : (contents : List (Option OnLog))
-        × AreFound script.members missing last contents × AreRefusedFor script why contents)
+        × AreFound script.members part.missing last contents × AreRefusedFor script why contents)
         → why ≡ Refusal.AgesUsedUp
     other why found =
-        (refused_after script missing last age found.0 why
-        (behind script missing mode nth before last age ranges is tell found.0 found.1) found.2).0
+        (refused_after script part last age found.0 why
+        (behind script part mode nth before last age ranges is tell found.0 found.1) found.2).0
 
-    by : (s : Stop) → HasStopped script missing last after s → IsBadLogs s → ⊥
+    by : (s : Stop) → HasStopped script part last after s → IsBadLogs s → ⊥
     by (Damaged m at) stopped bad = undamaged (last.told m) at
-        (readable_behind script missing mode nth before last age is tell m stopped.below stopped.there) stopped.damaged
+        (readable_behind script part mode nth before last age is tell m stopped.below stopped.there) stopped.damaged
     by (Disagree a b p) stopped bad =
         absurd (let same : Refusal.Disagree a b p ≡ Refusal.AgesUsedUp = other (Refusal.Disagree a b p) stopped in cc)
     by (Foreign m p) stopped bad =
@@ -188,19 +189,19 @@ pub record IsGood (script : Script) (yard : YardState) : Type 0 where
   pub whole : (m at : ℕ) → m < script.members → IfSome (yard.told m) (ReadsDamaged at) → ⊥
 
 -- so their logs are never refused
-pub good_never : (script : Script) (missing : ℕ) (last after : YardState) (s : Stop) → HasGroupRanges script
-    → NoneMissing script.members missing → IsGood script last → HasStopped script missing last after s → IsBadLogs s
+pub good_never : (script : Script) (part : Part) (last after : YardState) (s : Stop) → HasGroupRanges script
+    → NoneMissing script.members part.missing → IsGood script last → HasStopped script part last after s → IsBadLogs s
     → ⊥
-good_never script missing last after s ranges none good stopped bad = by s stopped bad
+good_never script part last after s ranges none good stopped bad = by s stopped bad
   where
     other : (why : Refusal) → (found : (contents : List (Option OnLog))
-        × AreFound script.members missing last contents × AreRefusedFor script why contents)
+        × AreFound script.members part.missing last contents × AreRefusedFor script why contents)
         → why ≡ Refusal.AgesUsedUp
     other why found =
-        let all = found_whole script.members missing last found.0 none found.1 in
+        let all = found_whole script.members part.missing last found.0 none found.1 in
         accepted_pass script last found.0 why ranges all (good.accepted found.0 all) found.2
 
-    by : (s : Stop) → HasStopped script missing last after s → IsBadLogs s → ⊥
+    by : (s : Stop) → HasStopped script part last after s → IsBadLogs s → ⊥
     by (Damaged m at) stopped bad = good.whole m at stopped.below stopped.damaged
     by (Disagree a b p) stopped bad =
         absurd (let same : Refusal.Disagree a b p ≡ Refusal.AgesUsedUp = other (Refusal.Disagree a b p) stopped in cc)

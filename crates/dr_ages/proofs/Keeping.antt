@@ -40,6 +40,7 @@ use Rattle.dr_script.specs.declared.script.Script.{Script}
 use Rattle.dr_script.specs.Ranges.{HasRanges}
 use Rattle.dr_yard.specs.Yards.{AllTell, YardState}
 use Rattle.dr_ages.specs.declared.mode.Mode.{Mode}
+use Rattle.dr_ages.specs.declared.part.Part.{Part}
 use Rattle.dr_ages.specs.Ages.{AreAges, IsAgeOf, opening_of, over_of, start_of}
 use Rattle.dr_ages.specs.Found.{AreFound, ReadsAs}
 use Rattle.dr_ages.specs.Left.{HasLeft, with_logged}
@@ -142,30 +143,30 @@ left_begins first e es begins left =
 -- ---- the disks that an age leaves
 
 -- the age is one of choice, by its program
-pub of_choice : (script : Script) (missing : ℕ) (mode : Mode) (nth : ℕ) (before yard : YardState) (age : AgeEnd)
-    → (is : IsAgeOf script missing mode nth before yard age)
-    → IsAgeOfChoice script (start_of script missing age) nth is.contents
-    (over_of mode script (start_of script missing age) nth age is.run)
-of_choice script missing mode nth before yard age is =
-    let ran = ran_over mode script (start_of script missing age) nth age is.run in
+pub of_choice : (script : Script) (part : Part) (mode : Mode) (nth : ℕ) (before yard : YardState) (age : AgeEnd)
+    → (is : IsAgeOf script part mode nth before yard age)
+    → IsAgeOfChoice script (start_of script part age) nth is.contents
+    (over_of mode script (start_of script part age) nth age is.run)
+of_choice script part mode nth before yard age is =
+    let ran = ran_over mode script (start_of script part age) nth age is.run in
     record { chosen = is.starts; begun = ran.begun; begins = ran.begins; ran = ran.ran }
 
 -- an age over disks that tell behind it, and what is found on them then
-pub record IsBehind (script : Script) (missing : ℕ) (yard : YardState) (age : AgeEnd)
+pub record IsBehind (script : Script) (part : Part) (yard : YardState) (age : AgeEnd)
     (contents : List (Option OnLog)) : Type 0 where
   pub ranges : HasRanges script
   pub mode : Mode
   pub nth : ℕ
   pub before : YardState
-  pub is : IsAgeOf script missing mode nth before yard age
+  pub is : IsAgeOf script part mode nth before yard age
   pub tell : AllTell script.members yard
-  pub found : AreFound script.members missing yard contents
+  pub found : AreFound script.members part.missing yard contents
 
-abbrev pub behind : (script : Script) (missing : ℕ) (mode : Mode) (nth : ℕ) (before yard : YardState) (age : AgeEnd)
-    → HasRanges script → IsAgeOf script missing mode nth before yard age → AllTell script.members yard
-    → (contents : List (Option OnLog)) → AreFound script.members missing yard contents
-    → IsBehind script missing yard age contents
-behind script missing mode nth before yard age ranges is tell contents found = record {
+abbrev pub behind : (script : Script) (part : Part) (mode : Mode) (nth : ℕ) (before yard : YardState) (age : AgeEnd)
+    → HasRanges script → IsAgeOf script part mode nth before yard age → AllTell script.members yard
+    → (contents : List (Option OnLog)) → AreFound script.members part.missing yard contents
+    → IsBehind script part yard age contents
+behind script part mode nth before yard age ranges is tell contents found = record {
   ranges = ranges;
   mode = mode;
   nth = nth;
@@ -176,10 +177,10 @@ behind script missing mode nth before yard age ranges is tell contents found = r
 }
 
 -- the program as it ended
-abbrev pub over_behind : {script : Script} {missing : ℕ} {yard : YardState} {age : AgeEnd}
-    {contents : List (Option OnLog)} → IsBehind script missing yard age contents → Program
-over_behind {script} {missing} {yard} {age} b =
-    over_of b.mode script (start_of script missing age) b.nth age b.is.run
+abbrev pub over_behind : {script : Script} {part : Part} {yard : YardState} {age : AgeEnd}
+    {contents : List (Option OnLog)} → IsBehind script part yard age contents → Program
+over_behind {script} {part} {yard} {age} b =
+    over_of b.mode script (start_of script part age) b.nth age b.is.run
 
 -- where something is found the member isn't missing
 pub found_there : (n missing : ℕ) (yard : YardState) (contents : List (Option OnLog)) (m : ℕ) (c : OnLog)
@@ -200,15 +201,15 @@ there_found n missing yard contents m found l there =
     some_there (content_at contents m) (found.there m l ∙ ap not there)
 
 -- how who isn't missing ended
-pub ended_over : (script : Script) (missing : ℕ) (mode : Mode) (nth : ℕ) (before yard : YardState) (age : AgeEnd)
-    → (is : IsAgeOf script missing mode nth before yard age) → (m : ℕ) (e : MemberEnd)
-    → slice_get age.members m ≡ Some e → has missing m ≡ false
-    → EndsSo (over_of mode script (start_of script missing age) nth age is.run) m e
-ended_over script missing mode nth before yard age is m e at there =
-    by (member_over mode script (start_of script missing age) nth age is.run m e at)
+pub ended_over : (script : Script) (part : Part) (mode : Mode) (nth : ℕ) (before yard : YardState) (age : AgeEnd)
+    → (is : IsAgeOf script part mode nth before yard age) → (m : ℕ) (e : MemberEnd)
+    → slice_get age.members m ≡ Some e → has part.missing m ≡ false
+    → EndsSo (over_of mode script (start_of script part age) nth age is.run) m e
+ended_over script part mode nth before yard age is m e at there =
+    by (member_over mode script (start_of script part age) nth age is.run m e at)
   where
     over : Program
-    over = over_of mode script (start_of script missing age) nth age is.run
+    over = over_of mode script (start_of script part age) nth age is.run
 
     by : EndsSo over m e ⊎ LacksSo over m e → EndsSo over m e
     by (inl ends) = ends
@@ -218,18 +219,18 @@ ended_over script missing mode nth before yard age is m e at there =
         cc)
 
 -- who stands at a place of the program isn't missing
-pub told_there : (script : Script) (missing : ℕ) (mode : Mode) (nth : ℕ) (before yard : YardState) (age : AgeEnd)
-    → HasRanges script → (is : IsAgeOf script missing mode nth before yard age) → (m : ℕ) (r : Running)
-    → present_at (over_of mode script (start_of script missing age) nth age is.run).members m ≡ Some r
-    → has missing m ≡ false
-told_there script missing mode nth before yard age ranges is m r at =
-    let start = start_of script missing age in
+pub told_there : (script : Script) (part : Part) (mode : Mode) (nth : ℕ) (before yard : YardState) (age : AgeEnd)
+    → HasRanges script → (is : IsAgeOf script part mode nth before yard age) → (m : ℕ) (r : Running)
+    → present_at (over_of mode script (start_of script part age) nth age is.run).members m ≡ Some r
+    → has part.missing m ≡ false
+told_there script part mode nth before yard age ranges is m r at =
+    let start = start_of script part age in
     let over = over_of mode script start nth age is.run in
-    let choice = of_choice script missing mode nth before yard age is in
+    let choice = of_choice script part mode nth before yard age is in
     let known = known_age script start nth is.contents over ranges.group ranges.some_turn choice in
     let c = some_there (content_at is.contents m)
     (has_log script start nth is.contents over m ranges.group choice (known.form.of m r at).present) in
-    found_there script.members missing before is.contents m c.0 is.found c.1
+    found_there script.members part.missing before is.contents m c.0 is.found c.1
 
 -- the same logs are there
 same_there : (n missing : ℕ) (one other : YardState) (xs ys : List (Option OnLog)) → AreFound n missing one xs
@@ -241,18 +242,18 @@ same_there n missing one other xs ys first next m = ⊎_elim
     ∙ sym (get_or_past ys m None (omega (arith, next.all, past)))))
     (cases_lt m n)
 
-pub left_from : (script : Script) (missing : ℕ) (yard : YardState) (age : AgeEnd) (contents : List (Option OnLog))
-    → (b : IsBehind script missing yard age contents)
-    → AreLeftFrom (start_of script missing age) b.is.contents (over_behind b) contents
-left_from script missing yard age contents b = record {
+pub left_from : (script : Script) (part : Part) (yard : YardState) (age : AgeEnd) (contents : List (Option OnLog))
+    → (b : IsBehind script part yard age contents)
+    → AreLeftFrom (start_of script part age) b.is.contents (over_behind b) contents
+left_from script part yard age contents b = record {
   all = b.found.all ∙ sym b.is.found.all;
-  same = same_there script.members missing yard b.before contents b.is.contents b.found b.is.found;
+  same = same_there script.members part.missing yard b.before contents b.is.contents b.found b.is.found;
   each = λ m c at.
       let l : m < script.members = omega (arith, within_places contents m c at, b.found.all) in
-      let there = found_there script.members missing yard contents m c b.found at in
+      let there = found_there script.members part.missing yard contents m c b.found at in
       let e = slice_get-some age.members m (omega (arith, l, b.is.roster)) in
-      let x = ended_over script missing b.mode b.nth b.before yard age b.is m e.0 e.1 there in
-      let first = there_found script.members missing b.before b.is.contents m b.is.found l there in
+      let x = ended_over script part b.mode b.nth b.before yard age b.is m e.0 e.1 there in
+      let first = there_found script.members part.missing b.before b.is.contents m b.is.found l there in
       record {
         member = x.r;
         there = x.at;
@@ -266,45 +267,45 @@ left_from script missing yard age contents b = record {
 }
 
 -- the next age has the next number
-pub age_next : (script : Script) (missing : ℕ) (yard : YardState) (age : AgeEnd) (contents : List (Option OnLog))
-    (next : Start) → (b : IsBehind script missing yard age contents)
+pub age_next : (script : Script) (part : Part) (yard : YardState) (age : AgeEnd) (contents : List (Option OnLog))
+    (next : Start) → (b : IsBehind script part yard age contents)
     → IsChosenOf (first_group_of script).opening contents next → next.age ≡ age.age + 1
-age_next script missing yard age contents next b chosen =
-    next_number script (start_of script missing age) next b.nth b.is.contents contents (over_behind b) b.ranges.group
-    b.ranges.some_turn (of_choice script missing b.mode b.nth b.before yard age b.is)
-    (left_from script missing yard age contents b) chosen
+age_next script part yard age contents next b chosen =
+    next_number script (start_of script part age) next b.nth b.is.contents contents (over_behind b) b.ranges.group
+    b.ranges.some_turn (of_choice script part b.mode b.nth b.before yard age b.is)
+    (left_from script part yard age contents b) chosen
 
 -- and what is found is a front of its start
-pub next_has : (script : Script) (missing : ℕ) (yard : YardState) (age : AgeEnd) (contents : List (Option OnLog))
-    (next : Start) (m : ℕ) (c : OnLog) → (b : IsBehind script missing yard age contents)
+pub next_has : (script : Script) (part : Part) (yard : YardState) (age : AgeEnd) (contents : List (Option OnLog))
+    (next : Start) (m : ℕ) (c : OnLog) → (b : IsBehind script part yard age contents)
     → IsChosenOf (first_group_of script).opening contents next → content_at contents m ≡ Some c
     → IsPrefixOf c.entries next.entries
-next_has script missing yard age contents next m c b chosen at =
-    next_has_all script (start_of script missing age) next b.nth b.is.contents contents (over_behind b) m c
-    b.ranges.group b.ranges.some_turn (of_choice script missing b.mode b.nth b.before yard age b.is)
-    (left_from script missing yard age contents b) chosen at
+next_has script part yard age contents next m c b chosen at =
+    next_has_all script (start_of script part age) next b.nth b.is.contents contents (over_behind b) m c
+    b.ranges.group b.ranges.some_turn (of_choice script part b.mode b.nth b.before yard age b.is)
+    (left_from script part yard age contents b) chosen at
 
 -- so the start has all that a member has logged
-pub logged_first : (script : Script) (missing : ℕ) (yard : YardState) (age : AgeEnd) (contents : List (Option OnLog))
-    (next : Start) (m : ℕ) (e : MemberEnd) → (b : IsBehind script missing yard age contents)
+pub logged_first : (script : Script) (part : Part) (yard : YardState) (age : AgeEnd) (contents : List (Option OnLog))
+    (next : Start) (m : ℕ) (e : MemberEnd) → (b : IsBehind script part yard age contents)
     → IsChosenOf (first_group_of script).opening contents next → slice_get age.members m ≡ Some e
-    → has missing m ≡ false → IsPrefixOf (take e.logged e.history) next.entries
-logged_first script missing yard age contents next m e b chosen at there =
+    → has part.missing m ≡ false → IsPrefixOf (take e.logged e.history) next.entries
+logged_first script part yard age contents next m e b chosen at there =
     prefix_then (take e.logged e.history) on.0.entries next.entries
     (subst (λ (end : MemberEnd). IsPrefixOf (take end.logged end.history) on.0.entries) x.is
     (left_begins (take x.r.replica.logged x.r.replica.history) (member_end x.r.replica) on.0.entries ([], append-nil _)
     (read_entries (yard.told m) x.r.replica on.0 (b.is.begun m) (b.tell m l) (b.found.each m on.0 on.1).reads
     (b.is.left m x.r x.at))))
-    (next_has script missing yard age contents next m on.0 b chosen on.1)
+    (next_has script part yard age contents next m on.0 b chosen on.1)
   where
     l : m < script.members
     l = omega (arith, slice_get_within age.members m e at, b.is.roster)
 
     x : EndsSo (over_behind b) m e
-    x = ended_over script missing b.mode b.nth b.before yard age b.is m e at there
+    x = ended_over script part b.mode b.nth b.before yard age b.is m e at there
 
     on : (c : OnLog) × (content_at contents m ≡ Some c)
-    on = there_found script.members missing yard contents m b.found l there
+    on = there_found script.members part.missing yard contents m b.found l there
 
     read_entries : (o : Option Told) (r : Replica) (c base : OnLog) → IsTrue (is_some o) → IfSome o (ReadsAs c)
         → HasLeft o r base → IsLeftOf r.history r.logged c.entries
@@ -314,33 +315,33 @@ logged_first script missing yard age contents next m e b chosen at there =
 
 -- ---- ages beside one another
 
-abbrev behind_first : (script : Script) (missing : ℕ) (start : YardState) (a b : AgeEnd) → HasRanges script
-    → AllTell script.members start → (r : AreBeside script missing start a b)
-    → IsBehind script missing r.mid a r.second.contents
-behind_first script missing start a b ranges tell r = behind script missing r.mode r.nth r.before r.mid a ranges r.first
+abbrev behind_first : (script : Script) (part : Part) (start : YardState) (a b : AgeEnd) → HasRanges script
+    → AllTell script.members start → (r : AreBeside script part start a b)
+    → IsBehind script part r.mid a r.second.contents
+behind_first script part start a b ranges tell r = behind script part r.mode r.nth r.before r.mid a ranges r.first
     (r.tell tell) r.second.contents r.second.found
 
-keeps_next : (script : Script) (missing : ℕ) (start : YardState) (a b : AgeEnd) → HasRanges script
-    → AllTell script.members start → AreBeside script missing start a b
-    → Kept (opening_of script missing a) (accounts_of a.members) (opening_of script missing b)
-keeps_next script missing start a b ranges tell r =
-    subst (λ (ends : List MemberEnd). Kept (opening_of script missing a) (accounts_of ends) (opening_of script missing b))
-    (sym (ap (λ (x : AgeEnd). x.members) (told_by r.mode script (start_of script missing a) r.nth a r.first.run)))
-    (next_keeps script (start_of script missing a) (start_of script missing b) r.nth r.first.contents r.second.contents
-    (over_of r.mode script (start_of script missing a) r.nth a r.first.run) ranges.group ranges.some_turn
-    (of_choice script missing r.mode r.nth r.before r.mid a r.first)
-    (left_from script missing r.mid a r.second.contents (behind_first script missing start a b ranges tell r))
+keeps_next : (script : Script) (part : Part) (start : YardState) (a b : AgeEnd) → HasRanges script
+    → AllTell script.members start → AreBeside script part start a b
+    → Kept (opening_of script part a) (accounts_of a.members) (opening_of script part b)
+keeps_next script part start a b ranges tell r =
+    subst (λ (ends : List MemberEnd). Kept (opening_of script part a) (accounts_of ends) (opening_of script part b))
+    (sym (ap (λ (x : AgeEnd). x.members) (told_by r.mode script (start_of script part a) r.nth a r.first.run)))
+    (next_keeps script (start_of script part a) (start_of script part b) r.nth r.first.contents r.second.contents
+    (over_of r.mode script (start_of script part a) r.nth a r.first.run) ranges.group ranges.some_turn
+    (of_choice script part r.mode r.nth r.before r.mid a r.first)
+    (left_from script part r.mid a r.second.contents (behind_first script part start a b ranges tell r))
     r.second.starts)
 
 -- a later start begins with an earlier one
-grows : (script : Script) (missing : ℕ) (start : YardState) (a b : AgeEnd) → HasRanges script
-    → AllTell script.members start → AreBeside script missing start a b → IsPrefixOf a.start b.start
-grows script missing start a b ranges tell r =
-    prefix_then a.start (first_entries (opening_of script missing a)) b.start (_ ∷ [], refl)
-    (next_begins script (start_of script missing a) (start_of script missing b) r.nth r.first.contents r.second.contents
-    (over_of r.mode script (start_of script missing a) r.nth a r.first.run) ranges.group ranges.some_turn
-    (of_choice script missing r.mode r.nth r.before r.mid a r.first)
-    (left_from script missing r.mid a r.second.contents (behind_first script missing start a b ranges tell r))
+grows : (script : Script) (part : Part) (start : YardState) (a b : AgeEnd) → HasRanges script
+    → AllTell script.members start → AreBeside script part start a b → IsPrefixOf a.start b.start
+grows script part start a b ranges tell r =
+    prefix_then a.start (first_entries (opening_of script part a)) b.start (_ ∷ [], refl)
+    (next_begins script (start_of script part a) (start_of script part b) r.nth r.first.contents r.second.contents
+    (over_of r.mode script (start_of script part a) r.nth a r.first.run) ranges.group ranges.some_turn
+    (of_choice script part r.mode r.nth r.before r.mid a r.first)
+    (left_from script part r.mid a r.second.contents (behind_first script part start a b ranges tell r))
     r.second.starts)
 
 -- what a member knew to be durable, by its account
@@ -351,24 +352,24 @@ durable_by ends m e start at kept =
     subst (λ (end : Option MemberEnd). IsPrefixOf (take (option_map_or (λ (e : MemberEnd). e.durable) end 0)
     (option_map_or (λ (e : MemberEnd). e.history) end [])) start) at kept
 
-pub are_kept : (script : Script) (missing : ℕ) (mode : Mode) (before : YardState) (ages : List AgeEnd)
-    (last : YardState) → HasRanges script → AreAges script missing mode 0 before ages last
-    → AllTell script.members before → AreKept script missing ages
-are_kept script missing mode before ages last ranges are tell = record {
-  next = λ i a b at_a at_b. keeps_next script missing before a b ranges tell (pair i a b at_a at_b);
+pub are_kept : (script : Script) (part : Part) (mode : Mode) (before : YardState) (ages : List AgeEnd)
+    (last : YardState) → HasRanges script → AreAges script part mode 0 before ages last
+    → AllTell script.members before → AreKept script part ages
+are_kept script part mode before ages last ranges are tell = record {
+  next = λ i a b at_a at_b. keeps_next script part before a b ranges tell (pair i a b at_a at_b);
   ever = λ i j m a b e l at_a at_b there. ever (j - (i + 1)) i j m a b e (omega (arith, l)) at_a at_b there;
 }
   where
     pair : (i : ℕ) (a b : AgeEnd) → slice_get ages i ≡ Some a → slice_get ages (i + 1) ≡ Some b
-        → AreBeside script missing before a b
-    pair i a b at_a at_b = beside script missing mode 0 before ages last i a b are at_a at_b
+        → AreBeside script part before a b
+    pair i a b at_a at_b = beside script part mode 0 before ages last i a b are at_a at_b
 
     -- who was absent knew of nothing
-    one : (m : ℕ) (a b : AgeEnd) (e : MemberEnd) → (r : AreBeside script missing before a b)
-        → slice_get a.members m ≡ Some e → (here : Bool) → has (opening_of script missing a).present m ≡ here
+    one : (m : ℕ) (a b : AgeEnd) (e : MemberEnd) → (r : AreBeside script part before a b)
+        → slice_get a.members m ≡ Some e → (here : Bool) → has (opening_of script part a).present m ≡ here
         → IsPrefixOf (take e.durable e.history) b.start
     one m a b e r there true present =
-        durable_by a.members m e b.start there ((keeps_next script missing before a b ranges tell r).durable m present)
+        durable_by a.members m e b.start there ((keeps_next script part before a b ranges tell r).durable m present)
     one m a b e r there false gone =
         subst (λ (x : MemberEnd). IsPrefixOf (take x.durable x.history) b.start)
         (sym (r.first.ended.absent m e there (λ present. let no : true ≡ false = sym present ∙ gone in cc)))
@@ -379,10 +380,10 @@ are_kept script missing mode before ages last ranges are tell = record {
         → IsPrefixOf (take e.durable e.history) b.start
     ever zero i j m a b e far at_a at_b there =
         one m a b e (pair i a b at_a (ap (slice_get ages) (omega (arith, far)) ∙ at_b)) there
-        (has (opening_of script missing a).present m) refl
+        (has (opening_of script part a).present m) refl
     ever (suc d) i j m a b e far at_a at_b there =
         let c = slice_get-some ages (i + 1 + d) (omega (arith, far, slice_get_within ages j b at_b)) in
         prefix_then (take e.durable e.history) c.0.start b.start
         (ever d i (i + 1 + d) m a c.0 e refl at_a c.1 there)
-        (grows script missing before c.0 b ranges tell
+        (grows script part before c.0 b ranges tell
         (pair (i + 1 + d) c.0 b c.1 (ap (slice_get ages) (omega (arith, far)) ∙ at_b)))

@@ -9,6 +9,7 @@ pub mod Keeping
 mod Loans
 mod Opening
 mod Played
+pub mod Prompt
 mod Reading
 mod Refusals
 mod Runs

@@ -24,6 +24,7 @@ use Rattle.dr_opening.proofs.Lists.{content_is}
 use Rattle.dr_program.proofs.Present.{present_within}
 use Rattle.dr_script.specs.declared.script.Script.{Script}
 use Rattle.dr_yard.specs.Yards.{YardState}
+use Rattle.dr_ages.specs.declared.part.Part.{Part}
 use Rattle.dr_ages.specs.declared.stop.Stop.{Stop}
 use Rattle.dr_ages.specs.declared.stop.Stop.TheVariants.{OutOfMemory, DiskFault, LogFull, Damaged, Disagree, Foreign, NoQuorum, AgesUsedUp}
 use Rattle.dr_ages.specs.Found.{AreFound, ReadsAs, WasFound}
@@ -275,21 +276,21 @@ were_refused tells faults missing n k before mid after logs stop below there are
     absurd is
 
 -- so the next age was not opened, where the disks of the others are as they were then
-pub refused_stop : (script : Script) (missing k : ℕ) (before mid after : YardState) (stop : Stop)
+pub refused_stop : (script : Script) (part : Part) (k : ℕ) (before mid after : YardState) (stop : Stop)
     → ((m : ℕ) → mid.faults m ≤ after.faults m) → ((m : ℕ) → k ≤ m → after.told m ≡ mid.told m)
-    → AreKeptSince script.members missing k [] before after
-    → WereRefused script.members missing k before mid stop → HasStopped script missing before after stop
-refused_stop script missing k before mid after OutOfMemory later back since is = tt
-refused_stop script missing k before mid after (DiskFault m) later back since is =
+    → AreKeptSince script.members part.missing k [] before after
+    → WereRefused script.members part.missing k before mid stop → HasStopped script part before after stop
+refused_stop script part k before mid after OutOfMemory later back since is = tt
+refused_stop script part k before mid after (DiskFault m) later back since is =
     record {
       below = is.1.below;
       there = is.1.there;
       rose = le_trans is.1.rose (later m);
       at = in_mount is.1.contents is.1.found
           (λ j l. back j (omega (arith, l, is.0)) ∙ (is.1.above j l).0)
-          (subst (λ (n : ℕ). AreKeptSince script.members missing n [] before after) (sym is.0) since);
+          (subst (λ (n : ℕ). AreKeptSince script.members part.missing n [] before after) (sym is.0) since);
     }
-refused_stop script missing k before mid after (Damaged m at) later back since is = record {
+refused_stop script part k before mid after (Damaged m at) later back since is = record {
   below = is.1.below;
   there = is.1.there;
   damaged = is.1.damaged;
@@ -297,11 +298,11 @@ refused_stop script missing k before mid after (Damaged m at) later back since i
   contents = is.1.contents;
   found = is.1.found;
 }
-refused_stop script missing k before mid after (LogFull m len) later back since is = absurd is
-refused_stop script missing k before mid after (Disagree a b p) later back since is = absurd is
-refused_stop script missing k before mid after (Foreign m p) later back since is = absurd is
-refused_stop script missing k before mid after (NoQuorum v h n) later back since is = absurd is
-refused_stop script missing k before mid after AgesUsedUp later back since is = absurd is
+refused_stop script part k before mid after (LogFull m len) later back since is = absurd is
+refused_stop script part k before mid after (Disagree a b p) later back since is = absurd is
+refused_stop script part k before mid after (Foreign m p) later back since is = absurd is
+refused_stop script part k before mid after (NoQuorum v h n) later back since is = absurd is
+refused_stop script part k before mid after AgesUsedUp later back since is = absurd is
 
 -- so many were mounted then
 pub refused_mounted : (n missing k : ℕ) (before after : YardState) (stop : Stop)

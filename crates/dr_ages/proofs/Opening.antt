@@ -271,27 +271,27 @@ pub on_still : {D : Type 0} (told : D → Option Told) (faults : D → ℕ) (sta
 on_still told faults starts logs m old new there here =
     subst (IsLater told faults starts old) (same_Some old new (sym there ∙ here)) (later_same told faults starts old)
 
-pub gone_on : {D : Type 0} (told : D → Option Told) (faults : D → ℕ) (script : Script)
-    (olds news : List (Option (LogState D))) (why : NotOpened) → IsWhyUnopened told faults script olds news why
+pub gone_on : {D : Type 0} (told : D → Option Told) (faults : D → ℕ) (script : Script) (late : ℕ)
+    (olds news : List (Option (LogState D))) (why : NotOpened) → IsWhyUnopened told faults script late olds news why
     → HaveGoneOn told faults script (contents_of olds) olds news
-gone_on told faults script olds news (Unchosen fault) is = (
+gone_on told faults script late olds news (Unchosen fault) is = (
   [],
   inl refl,
   subst (AreLater told faults [] olds) (sym is.1) (on_still told faults [] olds),
 )
-gone_on told faults script olds news (Unfinished fault) is = (
+gone_on told faults script late olds news (Unfinished fault) is = (
   is.0.entries ∷ [],
   inr (is.0, is.1, refl),
-  unopened_on told faults is.0 olds news fault is.2,
+  unopened_on told faults is.0 olds news fault is.3,
 )
 
-pub why_places : {D : Type 0} (told : D → Option Told) (faults : D → ℕ) (script : Script)
-    (olds news : List (Option (LogState D))) (why : NotOpened) → IsWhyUnopened told faults script olds news why
+pub why_places : {D : Type 0} (told : D → Option Told) (faults : D → ℕ) (script : Script) (late : ℕ)
+    (olds news : List (Option (LogState D))) (why : NotOpened) → IsWhyUnopened told faults script late olds news why
     → HaveSamePlaces olds news
-why_places told faults script olds news (Unchosen fault) is =
+why_places told faults script late olds news (Unchosen fault) is =
     subst (HaveSamePlaces olds) (sym is.1) (same_places olds)
-why_places told faults script olds news (Unfinished fault) is =
-    unopened_places told faults is.0 olds news fault is.2
+why_places told faults script late olds news (Unfinished fault) is =
+    unopened_places told faults is.0 olds news fault is.3
 
 -- ---- the age begins on them
 
@@ -319,8 +319,7 @@ are_opened {D} told faults script start olds news lists few all chosen opened = 
         let mid = come_mid (GotVote told faults start) olds opened.0 m old.0 opened.1 old.1 in
         let got = in_come (GotStart told faults start) opened.0 news m mid.0 new
         (all_raised told faults start olds opened.0 news opened.1.all opened.2) mid.1 here in (
-          ap (λ (mask : ℕ). has mask m) chosen.chosen.present
-              ∙ in_set (first_group_of script).opening (contents_of olds) start m old.0.content chosen small
+          in_set (first_group_of script).opening (contents_of olds) start m old.0.content chosen small
               (content_at_log olds m old.0 old.1),
           record {
             entries = open_entries start mid.0.content new.content got.content;
@@ -331,7 +330,7 @@ are_opened {D} told faults script start olds news lists few all chosen opened = 
     there : (m : ℕ) → IsPresent (group_of script start) m → (o : Option (LogState D)) → log_of olds m ≡ o
         → (new : LogState D) × (log_of news m ≡ Some new)
     there m present None at = absurd (cc (
-      sym (ap (λ (mask : ℕ). has mask m) chosen.chosen.present) ∙ present,
+      present,
       out_of_set (first_group_of script).opening (contents_of olds) start m chosen small (content_none olds m at),
     ))
     there m present (Some old) at = stays_there olds news m old places at

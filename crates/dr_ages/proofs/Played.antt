@@ -21,6 +21,7 @@ use Rattle.dr_gather.proofs.Catching.{rose_since}
 use Rattle.dr_history.specs.declared.opening.Opening.{Opening}
 use Rattle.dr_history.specs.Agreement.{EndsAgreed}
 use Rattle.dr_history.specs.History.{IsPrefixOf}
+use Rattle.dr_history.specs.Soundness.{IsNobodyLate}
 use Rattle.dr_history.specs.Members.{has}
 use Rattle.dr_history.specs.Order.{first_entries}
 use Rattle.dr_history_laws.proofs.Lists.{slice_get-some}
@@ -32,10 +33,10 @@ use Rattle.dr_log_bytes.specs.Content.{OnLog, block_length, empty_of}
 use Rattle.dr_log_bytes.specs.Grammar.{StandFor}
 use Rattle.dr_logged.proofs.Serving.{has_base}
 use Rattle.dr_logged.specs.Served.{AtMember, BrokeOff, HasCome, HaveSamePlaces, IsFull, IsRecordDue, IsSafe, WentSo}
-use Rattle.dr_machine.specs.Group.{AllPresent, IsGroup, IsPresent}
+use Rattle.dr_machine.specs.Group.{AllPresent, Group, IsGroup, IsPresent}
 use Rattle.dr_machine.proofs.Presence.{in_roster}
 use Rattle.dr_opening.specs.Contents.{IsOpenFor, voted_for}
-use Rattle.dr_opening.specs.Lists.{all_as_lists, as_lists, contents_of, log_of}
+use Rattle.dr_opening.specs.Lists.{SomebodyPrompt, all_as_lists, as_lists, contents_of, log_of}
 use Rattle.dr_opening.specs.Logs.{GotStart, GotVote, Together, WereOpened}
 use Rattle.dr_opening.specs.Tries.{IsChosenOf, content_at}
 use Rattle.dr_opening.proofs.Choosing.{chosen_group}
@@ -60,11 +61,14 @@ use Rattle.dr_script.specs.Ranges.{HasRanges}
 use Rattle.dr_age.specs.Logged.{AreAmple, AreAsBefore, AreCalm, AreOpened, HaveCome, NoneFull, NoneStopped, why_ended}
 use Rattle.dr_threads.specs.Logs.{AreLonger}
 use Rattle.dr_words.proofs.Bits.{has_ones}
+use Rattle.dr_words.specs.Masks.{without}
+use Rattle.dr_world_laws.proofs.Finishing.{banks-small}
 use Rattle.dr_words.proofs.Masks.{has_mask_of, same_masks}
 use Rattle.dr_yard.specs.Yards.{YardState}
 use Rattle.dr_ages.specs.declared.mode.Mode.{Mode}
 use Rattle.dr_ages.specs.declared.mode.Mode.TheVariants.{Sim}
-use Rattle.dr_ages.specs.Ages.{IsAgeOf, IsMemberOf, IsPlayed, opening_of, over_of, start_of, taking_part}
+use Rattle.dr_ages.specs.declared.part.Part.{Part}
+use Rattle.dr_ages.specs.Ages.{HaveSomebodyPrompt, IsAgeOf, IsMemberOf, IsPlayed, opening_of, over_of, start_of, taking_part}
 use Rattle.dr_ages.specs.Found.{AreFew, NoneMissing}
 use Rattle.dr_ages.specs.Left.{HasLeft, IsFullAt, with_logged}
 use Rattle.dr_ages.specs.Lent.{AreAllBut, AreMounted, IsMounted, with_logs}
@@ -312,44 +316,55 @@ all_take_part script missing few none =
         has_mask_of (λ k. has (2 ^ script.members - 1) k && not (has missing k)) i
         ∙ grind (arith, e)
 
+-- of the logs that are there that of somebody who isn't late is one
+pub somebody_prompt : {D : Type 0} (script : Script) (part : Part) (logs : List (Option (LogState D))) (m : ℕ)
+    (log : LogState D) → length logs ≡ script.members → AreAllBut part.missing logs → HaveSomebodyPrompt script part
+    → log_of logs m ≡ Some log → SomebodyPrompt part.late logs
+somebody_prompt script part logs m log all but some at =
+    let l = present_within logs m log at in
+    let k = some m (omega (arith, l, all)) (not_missing part.missing logs m log but at) in
+    let other = log_at part.missing logs k.0 but (omega (arith, k.1, all)) k.2 in
+    (k.0, other.0, other.1, k.3)
+
 -- ---- the age
 
 -- an age that was run over these logs: as they were mounted, as it began, and as they are
-pub record WasPlayed {D : Type 0} (tells : D → Option Told) (faults : D → ℕ) (script : Script) (missing : ℕ)
+pub record WasPlayed {D : Type 0} (tells : D → Option Told) (faults : D → ℕ) (script : Script) (part : Part)
     (mode : Mode) (nth : ℕ) (before : YardState) (start : Start) (olds mids news : List (Option (LogState D)))
     (age : AgeEnd) : Type 0 where
   pub ranges : HasRanges script
   pub all : length olds ≡ script.members
   pub mounted : AreMounted tells faults before olds
-  pub but : AreAllBut missing olds
+  pub but : AreAllBut part.missing olds
   pub starts : IsChosenOf (first_group_of script).opening (contents_of olds) start
+  pub late : start.members ≡ without start.present part.late
   pub began : WereOpened tells faults start olds mids
   pub run : IsPlayed mode script start nth age
   pub come : HaveCome tells faults mids news (over_of mode script start nth age run).members
   pub agreed : EndsAgreed (group_of script start).opening age.members
   pub ended : HaveEnded (group_of script start).opening script.turns (crashes_of script.faults nth) age.members
   pub trusting : SuspectsNobody script → NoneLeft age.members
-  pub complete : AllPresent (group_of script start) → mode ≡ Sim → HasTime script → NoneStopped age.members
-      → AreComplete (group_of script start).opening age.members
+  pub complete : AllPresent (group_of script start) → IsNobodyLate (group_of script start).opening → mode ≡ Sim
+      → HasTime script → NoneStopped age.members → AreComplete (group_of script start).opening age.members
   pub ample : AreAmple (group_of script start) mids → NoneFull age.members
   pub places : HaveSamePlaces mids news
   pub members : length age.members ≡ length mids
 
 -- its start is the one that its end tells
-pub same_start : (mode : Mode) (script : Script) (missing : ℕ) (contents : List (Option OnLog)) (start : Start)
+pub same_start : (mode : Mode) (script : Script) (part : Part) (contents : List (Option OnLog)) (start : Start)
     (nth : ℕ) (age : AgeEnd) → length script.messages ≡ script.members
-    → ((m : ℕ) → m < script.members → is_some (content_at contents m) ≡ not (has missing m))
-    → IsChosenOf (first_group_of script).opening contents start → IsPlayed mode script start nth age
-    → start ≡ start_of script missing age
-same_start mode script missing contents start nth age lists there starts run = λ i. record {
+    → ((m : ℕ) → m < script.members → is_some (content_at contents m) ≡ not (has part.missing m))
+    → IsChosenOf (first_group_of script).opening contents start → start.members ≡ without start.present part.late
+    → IsPlayed mode script start nth age → start ≡ start_of script part age
+same_start mode script part contents start nth age lists there starts late run = λ i. record {
   age = sym (ap (λ (a : AgeEnd). a.age) (told_by mode script start nth age run)) i;
-  members = members i;
-  present = (starts.chosen.present ∙ members) i;
+  members = (late ∙ ap (λ (all : ℕ). without all part.late) present) i;
+  present = present i;
   entries = sym (ap (λ (a : AgeEnd). a.start) (told_by mode script start nth age run)) i;
 }
   where
-    members : start.members ≡ taking_part script missing
-    members = starts.chosen.members ∙ handed_are script missing contents lists there
+    present : start.present ≡ taking_part script part.missing
+    present = starts.chosen.present ∙ handed_are script part.missing contents lists there
 
 -- what came of a log that was there
 together_some : {D : Type 0} (P : LogState D → LogState D → Type 0) (o p : Option (LogState D)) (old : LogState D)
@@ -407,14 +422,14 @@ record IsOf {D : Type 0} (tells : D → Option Told) (faults : D → ℕ) (start
   to : log_of news m ≡ Some new
   come : HasCome tells faults open_one.mid new r.replica (why_ended (end_of r).end)
 
-is_of : {D : Type 0} (tells : D → Option Told) (faults : D → ℕ) (script : Script) (missing : ℕ) (mode : Mode)
+is_of : {D : Type 0} (tells : D → Option Told) (faults : D → ℕ) (script : Script) (part : Part) (mode : Mode)
     (nth : ℕ) (before : YardState) (start : Start) (olds mids news : List (Option (LogState D))) (age : AgeEnd)
     (m : ℕ) (r : Running)
-    → (w : WasPlayed tells faults script missing mode nth before start olds mids news age)
-    → start.present ≡ taking_part script missing → IsGroup (group_of script start)
+    → (w : WasPlayed tells faults script part mode nth before start olds mids news age)
+    → start.present ≡ taking_part script part.missing → IsGroup (group_of script start)
     → present_at (over_of mode script start nth age w.run).members m ≡ Some r
     → IsOf tells faults start before olds mids news m r
-is_of tells faults script missing mode nth before start olds mids news age m r w present group at =
+is_of tells faults script part mode nth before start olds mids news age m r w present group at =
     let form = over_form mode script start nth age w.ranges group w.run in
     let below : m < length olds = omega (
       arith,
@@ -423,16 +438,16 @@ is_of tells faults script missing mode nth before start olds mids news age m r w
       w.ranges.group.lists,
       w.all,
     ) in
-    let gone = takes_part script missing m
+    let gone = takes_part script part.missing m
     (subst (λ mask. has mask m ≡ true) present (form.of m r at).present) in
-    let old = log_at missing olds m w.but below gone in
+    let old = log_at part.missing olds m w.but below gone in
     let x = open_log tells faults start before olds mids m old.0 w.mounted w.began old.1 in
     let new = stays_there mids news m x.mid w.places x.by in
     record { open_one = x; new = new.0; to = new.1; come = w.come m x.mid new.0 r x.by new.1 at }
 
 -- what a member of it leaves
-record LeavesSo (members : ℕ) (found : OnLog) (told : Option Told) (r : Replica) : Type 0 where
-  few : IsMemberOf members r
+record LeavesSo (g : Group) (found : OnLog) (told : Option Told) (r : Replica) : Type 0 where
+  few : IsMemberOf g r
   left : HasLeft told r found
   full : (len : ℕ) → r.end ≡ Some (ends.LogFull len) → IsFullAt r found len
 
@@ -457,13 +472,13 @@ not_away o all limit m points e ended away = by ended.reason
     by (inr (inr (inr (inl by_log)))) = true≢false (sym by_log.end ∙ ap is_log_end away)
     by (inr (inr (inr (inr left)))) = subst (IsLeftOut o all ended.number ended.members m) away left.end
 
-pub is_age : {D : Type 0} (tells : D → Option Told) (faults : D → ℕ) (script : Script) (missing : ℕ) (mode : Mode)
+pub is_age : {D : Type 0} (tells : D → Option Told) (faults : D → ℕ) (script : Script) (part : Part) (mode : Mode)
     (nth : ℕ) (before : YardState) (start : Start) (olds mids news : List (Option (LogState D))) (age : AgeEnd)
-    → WasPlayed tells faults script missing mode nth before start olds mids news age
-    → IsAgeOf script missing mode nth before (with_logs tells faults before news) age
-is_age {D} tells faults script missing mode nth before start olds mids news age w = record {
+    → WasPlayed tells faults script part mode nth before start olds mids news age
+    → IsAgeOf script part mode nth before (with_logs tells faults before news) age
+is_age {D} tells faults script part mode nth before start olds mids news age w = record {
   contents = contents_of olds;
-  found = are_found tells faults missing before olds script.members w.mounted w.but w.all;
+  found = are_found tells faults part.missing before olds script.members w.mounted w.but w.all;
   starts = subst (IsChosenOf (first_group_of script).opening (contents_of olds)) same w.starts;
   begun = content_on mids;
   begins = λ m c at. subst (λ (s : Start). IsOpenFor s (voted_for s c) (content_on mids m)) same (begins m c at);
@@ -472,8 +487,8 @@ is_age {D} tells faults script missing mode nth before start olds mids news age 
   agreed = subst (λ (s : Start). EndsAgreed (group_of script s).opening age.members) same w.agreed;
   ended = ended;
   trusting = w.trusting;
-  complete = λ none. subst (λ (s : Start). mode ≡ Sim → HasTime script → NoneStopped age.members
-      → AreComplete (group_of script s).opening age.members) same (w.complete (whole none));
+  complete = λ none. subst (λ (s : Start). IsNobodyLate (group_of script s).opening → mode ≡ Sim → HasTime script
+      → NoneStopped age.members → AreComplete (group_of script s).opening age.members) same (w.complete (whole none));
   absent = absent;
   few = λ m r at. (ran.1 m r at).few;
   opened = λ m e at there. subst (λ (s : Start). IsPrefixOf (first_entries (group_of script s).opening)
@@ -488,27 +503,28 @@ is_age {D} tells faults script missing mode nth before start olds mids news age 
       (passed_with tells faults (start.entries ∷ []) before before olds news w.mounted later places
       (λ m none. on_same (start.entries ∷ []) (before.told m) (before.told m) (before.faults m) (before.faults m) refl
       (le_refl (before.faults m))));
-  since = subst (λ (es : List Entry). AreKeptSince script.members missing script.members (es ∷ []) before
+  since = subst (λ (es : List Entry). AreKeptSince script.members part.missing script.members (es ∷ []) before
       (with_logs tells faults before news)) (ap (λ (s : Start). s.entries) same)
-      (subst (λ (k : ℕ). AreKeptSince script.members missing k (start.entries ∷ []) before
+      (subst (λ (k : ℕ). AreKeptSince script.members part.missing k (start.entries ∷ []) before
       (with_logs tells faults before news)) w.all
-      (kept_back tells faults script.members missing (start.entries ∷ []) before before
+      (kept_back tells faults script.members part.missing (start.entries ∷ []) before before
       (with_logs tells faults before news) olds news w.mounted w.but later places
       (λ m none. alike_same (before.told m) (before.told m) (before.faults m) (before.faults m) refl
       (le_refl (before.faults m))) (λ m. (refl, refl))));
-  untouched = untouched_with tells faults missing before olds news w.but places;
+  untouched = untouched_with tells faults part.missing before olds news w.but places;
 }
   where
     group : IsGroup (group_of script start)
     group = chosen_group script (contents_of olds) start w.ranges.group w.starts
 
-    there : (m : ℕ) → m < script.members → is_some (content_at (contents_of olds) m) ≡ not (has missing m)
+    there : (m : ℕ) → m < script.members → is_some (content_at (contents_of olds) m) ≡ not (has part.missing m)
     there m below = contents_there olds m ∙ w.but m (omega (arith, below, w.all))
 
-    same : start ≡ start_of script missing age
-    same = same_start mode script missing (contents_of olds) start nth age w.ranges.group.lists there w.starts w.run
+    same : start ≡ start_of script part age
+    same = same_start mode script part (contents_of olds) start nth age w.ranges.group.lists there w.starts w.late
+        w.run
 
-    present : start.present ≡ taking_part script missing
+    present : start.present ≡ taking_part script part.missing
     present = ap (λ (s : Start). s.present) same
 
     began : HaveSamePlaces olds mids
@@ -535,8 +551,8 @@ is_age {D} tells faults script missing mode nth before start olds mids news age 
         (later_by_run tells faults script start nth age mode mids news w.ranges group opens (w.run, w.come) m old new
         from to))
 
-    whole : NoneMissing script.members missing → AllPresent (group_of script start)
-    whole none = present ∙ all_take_part script missing w.ranges.group.most_members none
+    whole : NoneMissing script.members part.missing → AllPresent (group_of script start)
+    whole none = present ∙ all_take_part script part.missing w.ranges.group.most_members none
         ∙ ap (λ n. 2 ^ n - 1) (sym w.ranges.group.lists)
 
     begins : (m : ℕ) (c : OnLog) → content_at (contents_of olds) m ≡ Some c
@@ -552,11 +568,11 @@ is_age {D} tells faults script missing mode nth before start olds mids news age 
     one : (m : ℕ) (r : Running) → present_at over.members m ≡ Some r
         → IsOf tells faults start before olds mids news m r
     one m r at =
-        is_of tells faults script missing mode nth before start olds mids news age m r w present group at
+        is_of tells faults script part mode nth before start olds mids news age m r w present group at
 
     -- ---- who is absent
 
-    ended : HaveEnded (opening_of script missing age) script.turns (crashes_of script.faults nth) age.members
+    ended : HaveEnded (opening_of script part age) script.turns (crashes_of script.faults nth) age.members
     ended = subst (λ (s : Start). HaveEnded (group_of script s).opening script.turns
         (crashes_of script.faults nth) age.members) same w.ended
 
@@ -564,18 +580,18 @@ is_age {D} tells faults script missing mode nth before start olds mids news age 
     below m e at = omega (arith, slice_get_within age.members m e at, roster)
 
     absent : (m : ℕ) (e : MemberEnd) → slice_get age.members m ≡ Some e
-        → (e.end ≡ ends.Absent) ↔ (has missing m ≡ true)
-    absent m e at = elim (cases_Bool (has missing m)) [
+        → (e.end ≡ ends.Absent) ↔ (has part.missing m ≡ true)
+    absent m e at = elim (cases_Bool (has part.missing m)) [
       | inl gone ↦ (
         λ away. gone,
         λ _. ap (λ (x : MemberEnd). x.end) (ended.absent m e at
-            (λ here. true≢false (sym gone ∙ takes_part script missing m here))),
+            (λ here. true≢false (sym gone ∙ takes_part script part.missing m here))),
       )
       | inr stays ↦ (
-        λ away. absurd (not_away (opening_of script missing age) age.members script.turns m
+        λ away. absurd (not_away (opening_of script part age) age.members script.turns m
             (crashes_of script.faults nth m) e
             (ended.each m e at
-            (part_of script missing m w.ranges.group.most_members (below m e at) stays)) away),
+            (part_of script part.missing m w.ranges.group.most_members (below m e at) stays)) away),
         λ gone. absurd (true≢false (sym gone ∙ stays)),
       )
     ]
@@ -587,7 +603,7 @@ is_age {D} tells faults script missing mode nth before start olds mids news age 
       | inr lacks ↦ absurd (apart (sym (ap (λ (x : MemberEnd). x.end) lacks.is)))
     ]
 
-    opened : (m : ℕ) (e : MemberEnd) → slice_get age.members m ≡ Some e → has missing m ≡ false
+    opened : (m : ℕ) (e : MemberEnd) → slice_get age.members m ≡ Some e → has part.missing m ≡ false
         → IsPrefixOf (opened_with start start.members) (take e.logged e.history)
     opened m e at stays =
         let end = who m e at (λ away. true≢false (sym ((absent m e at).0 away) ∙ stays)) in
@@ -638,12 +654,13 @@ is_age {D} tells faults script missing mode nth before start olds mids news age 
         }
 
     -- what holds of its members, by the start that its end tells
-    ran : (is : IsPlayed mode script (start_of script missing age) nth age)
-        × ((m : ℕ) → AtMember (over_of mode script (start_of script missing age) nth age is) m
-        (λ r. LeavesSo script.members (content_on mids m) ((with_logs tells faults before news).told m) r.replica))
+    ran : (is : IsPlayed mode script (start_of script part age) nth age)
+        × ((m : ℕ) → AtMember (over_of mode script (start_of script part age) nth age is) m
+        (λ r. LeavesSo (group_of script (start_of script part age)) (content_on mids m)
+        ((with_logs tells faults before news).told m) r.replica))
     ran = subst (λ (s : Start). (is : IsPlayed mode script s nth age)
         × ((m : ℕ) → AtMember (over_of mode script s nth age is) m
-        (λ r. LeavesSo script.members (content_on mids m) ((with_logs tells faults before news).told m) r.replica)))
+        (λ r. LeavesSo (group_of script s) (content_on mids m) ((with_logs tells faults before news).told m) r.replica)))
         same (
           w.run,
           λ m r at. record {
@@ -693,7 +710,7 @@ is_age {D} tells faults script missing mode nth before start olds mids news age 
         by None at = refl
         by (Some new) at =
             let old = was_there olds news m new places at in
-            let stays = not_missing missing olds m old.0 w.but old.1 in
+            let stays = not_missing part.missing olds m old.0 w.but old.1 in
             let e = slice_get-some age.members m (omega (
               arith,
               present_within olds m old.0 old.1,
@@ -729,5 +746,7 @@ is_age {D} tells faults script missing mode nth before start olds mids news age 
             found_short script (contents_of olds) start m x.old.content w.ranges.group w.starts at,
             opened_short script (contents_of olds) start w.ranges.group w.starts,
             limit m x,
+            banks-small (group_of script start) group,
+            group.most_members,
           );
         }

@@ -20,6 +20,7 @@ use Rattle.dr_script.specs.declared.script.Script.{Script}
 use Rattle.dr_script.specs.Ranges.{HasRanges}
 use Rattle.dr_yard.specs.Yards.{AllTell, YardState}
 use Rattle.dr_ages.specs.declared.mode.Mode.{Mode}
+use Rattle.dr_ages.specs.declared.part.Part.{Part}
 use Rattle.dr_ages.specs.declared.stop.Stop.{Stop}
 use Rattle.dr_ages.specs.declared.stop.Stop.TheVariants.{OutOfMemory, DiskFault, LogFull, Damaged, Disagree, Foreign, NoQuorum, AgesUsedUp}
 use Rattle.dr_ages.specs.Ages.{AreAges, start_of}
@@ -43,15 +44,15 @@ found_so : (script : Script) (missing : ℕ) (before : YardState) (why : Refusal
 found_so script missing before why tell is =
     (is.0, found_read script.members missing before is.0 tell is.1, is.2)
 
-pub stop_refusal : (script : Script) (missing : ℕ) (before after : YardState) (s : Stop)
-    → AllTell script.members before → HasStopped script missing before after s → IsOfLogs s
-    → IsRefusal script missing before s
-stop_refusal script missing before after (Damaged m at) tell is of = record {
+pub stop_refusal : (script : Script) (part : Part) (before after : YardState) (s : Stop)
+    → AllTell script.members before → HasStopped script part before after s → IsOfLogs s
+    → IsRefusal script part.missing before s
+stop_refusal script part before after (Damaged m at) tell is of = record {
   below = is.below;
   there = is.there;
   damaged = damaged (before.told m) (tell m is.below) is.damaged;
   contents = is.contents;
-  read = found_read m missing before is.contents
+  read = found_read m part.missing before is.contents
       (fewer_tell m script.members before (omega (arith, is.below)) tell) is.found;
 }
   where
@@ -59,17 +60,17 @@ stop_refusal script missing before after (Damaged m at) tell is of = record {
         → IsSomeAnd o (λ t. IsDamaged (content_of t) at)
     damaged None some reads = absurd (cc)
     damaged (Some t) some reads = reads.damaged
-stop_refusal script missing before after (Disagree a b p) tell is of =
-    found_so script missing before (Refusal.Disagree a b p) tell is
-stop_refusal script missing before after (Foreign m p) tell is of =
-    found_so script missing before (Refusal.Foreign m p) tell is
-stop_refusal script missing before after (NoQuorum v h n) tell is of =
-    found_so script missing before (Refusal.NoQuorum v h n) tell is
-stop_refusal script missing before after AgesUsedUp tell is of =
-    found_so script missing before Refusal.AgesUsedUp tell is
-stop_refusal script missing before after OutOfMemory tell is of = absurd of
-stop_refusal script missing before after (DiskFault m) tell is of = absurd of
-stop_refusal script missing before after (LogFull m len) tell is of = absurd of
+stop_refusal script part before after (Disagree a b p) tell is of =
+    found_so script part.missing before (Refusal.Disagree a b p) tell is
+stop_refusal script part before after (Foreign m p) tell is of =
+    found_so script part.missing before (Refusal.Foreign m p) tell is
+stop_refusal script part before after (NoQuorum v h n) tell is of =
+    found_so script part.missing before (Refusal.NoQuorum v h n) tell is
+stop_refusal script part before after AgesUsedUp tell is of =
+    found_so script part.missing before Refusal.AgesUsedUp tell is
+stop_refusal script part before after OutOfMemory tell is of = absurd of
+stop_refusal script part before after (DiskFault m) tell is of = absurd of
+stop_refusal script part before after (LogFull m len) tell is of = absurd of
 
 -- ---- there is one refusal
 
@@ -185,28 +186,28 @@ started script missing yard s contents start is read starts = by (sorted script 
 -- ---- a run
 
 -- a stop that is no other
-first_stop : (script : Script) (missing : ℕ) (before after : YardState) (s t : Stop) → AllTell script.members before
-    → IsRefusal script missing before s → HasStopped script missing before after t → (t ≡ s) ⊎ IsOutside t
-first_stop script missing before after s OutOfMemory tell due is = inr tt
-first_stop script missing before after s (DiskFault m) tell due is = inr tt
-first_stop script missing before after s (LogFull m len) tell due is =
-    absurd (started script missing before s is.contents is.start due
-    (found_read script.members missing before is.contents tell is.found) is.chosen)
-first_stop script missing before after s (Damaged m at) tell due is =
-    inl (one_refusal script missing before s (Damaged m at) due
-    (stop_refusal script missing before after (Damaged m at) tell is tt))
-first_stop script missing before after s (Disagree a b p) tell due is =
-    inl (one_refusal script missing before s (Disagree a b p) due
-    (stop_refusal script missing before after (Disagree a b p) tell is tt))
-first_stop script missing before after s (Foreign m p) tell due is =
-    inl (one_refusal script missing before s (Foreign m p) due
-    (stop_refusal script missing before after (Foreign m p) tell is tt))
-first_stop script missing before after s (NoQuorum v h n) tell due is =
-    inl (one_refusal script missing before s (NoQuorum v h n) due
-    (stop_refusal script missing before after (NoQuorum v h n) tell is tt))
-first_stop script missing before after s AgesUsedUp tell due is =
-    inl (one_refusal script missing before s AgesUsedUp due
-    (stop_refusal script missing before after AgesUsedUp tell is tt))
+first_stop : (script : Script) (part : Part) (before after : YardState) (s t : Stop) → AllTell script.members before
+    → IsRefusal script part.missing before s → HasStopped script part before after t → (t ≡ s) ⊎ IsOutside t
+first_stop script part before after s OutOfMemory tell due is = inr tt
+first_stop script part before after s (DiskFault m) tell due is = inr tt
+first_stop script part before after s (LogFull m len) tell due is =
+    absurd (started script part.missing before s is.contents is.start due
+    (found_read script.members part.missing before is.contents tell is.found) is.chosen)
+first_stop script part before after s (Damaged m at) tell due is =
+    inl (one_refusal script part.missing before s (Damaged m at) due
+    (stop_refusal script part before after (Damaged m at) tell is tt))
+first_stop script part before after s (Disagree a b p) tell due is =
+    inl (one_refusal script part.missing before s (Disagree a b p) due
+    (stop_refusal script part before after (Disagree a b p) tell is tt))
+first_stop script part before after s (Foreign m p) tell due is =
+    inl (one_refusal script part.missing before s (Foreign m p) due
+    (stop_refusal script part before after (Foreign m p) tell is tt))
+first_stop script part before after s (NoQuorum v h n) tell due is =
+    inl (one_refusal script part.missing before s (NoQuorum v h n) due
+    (stop_refusal script part before after (NoQuorum v h n) tell is tt))
+first_stop script part before after s AgesUsedUp tell due is =
+    inl (one_refusal script part.missing before s AgesUsedUp due
+    (stop_refusal script part before after AgesUsedUp tell is tt))
 
 -- of logs that are not bad
 used_up_alone : (s : Stop) → (IsBadLogs s → ⊥) → IsOfLogs s → s ≡ AgesUsedUp
@@ -220,35 +221,35 @@ used_up_alone (DiskFault m) good of = absurd of
 used_up_alone (LogFull m len) good of = absurd of
 
 -- behind the last age no start has a number
-last_stop : (script : Script) (missing : ℕ) (last after : YardState) (s : Stop) → (IsBadLogs s → ⊥)
-    → ((contents : List (Option OnLog)) (start : Start) → AreFound script.members missing last contents
+last_stop : (script : Script) (part : Part) (last after : YardState) (s : Stop) → (IsBadLogs s → ⊥)
+    → ((contents : List (Option OnLog)) (start : Start) → AreFound script.members part.missing last contents
     → IsChosenOf (first_group_of script).opening contents start → start.age ≡ 65536)
-    → HasStopped script missing last after s → (s ≡ AgesUsedUp) ⊎ IsOutside s
-last_stop script missing last after OutOfMemory good next is = inr tt
-last_stop script missing last after (DiskFault m) good next is = inr tt
-last_stop script missing last after (LogFull m len) good next is =
+    → HasStopped script part last after s → (s ≡ AgesUsedUp) ⊎ IsOutside s
+last_stop script part last after OutOfMemory good next is = inr tt
+last_stop script part last after (DiskFault m) good next is = inr tt
+last_stop script part last after (LogFull m len) good next is =
     absurd (omega (arith, is.chosen.chosen.left, next is.contents is.start is.found is.chosen))
-last_stop script missing last after (Damaged m at) good next is = absurd (good tt)
-last_stop script missing last after (Disagree a b p) good next is = absurd (good tt)
-last_stop script missing last after (Foreign m p) good next is = absurd (good tt)
-last_stop script missing last after (NoQuorum v h n) good next is = absurd (good tt)
-last_stop script missing last after AgesUsedUp good next is = inl refl
+last_stop script part last after (Damaged m at) good next is = absurd (good tt)
+last_stop script part last after (Disagree a b p) good next is = absurd (good tt)
+last_stop script part last after (Foreign m p) good next is = absurd (good tt)
+last_stop script part last after (NoQuorum v h n) good next is = absurd (good tt)
+last_stop script part last after AgesUsedUp good next is = inl refl
 
 -- what an age leaves is refused only behind the last number
-pub refused_after : (script : Script) (missing : ℕ) (yard : YardState) (age : AgeEnd) (contents : List (Option OnLog))
-    (why : Refusal) → (b : IsBehind script missing yard age contents) → AreRefusedFor script why contents
+pub refused_after : (script : Script) (part : Part) (yard : YardState) (age : AgeEnd) (contents : List (Option OnLog))
+    (why : Refusal) → (b : IsBehind script part yard age contents) → AreRefusedFor script why contents
     → (why ≡ Refusal.AgesUsedUp) × (age.age ≡ 65535)
-refused_after script missing yard age contents why b refused =
-    refused_behind script (start_of script missing age) b.nth b.is.contents contents (over_behind b) why b.ranges.group
-    b.ranges.some_turn (of_choice script missing b.mode b.nth b.before yard age b.is)
-    (left_from script missing yard age contents b) refused
+refused_after script part yard age contents why b refused =
+    refused_behind script (start_of script part age) b.nth b.is.contents contents (over_behind b) why b.ranges.group
+    b.ranges.some_turn (of_choice script part b.mode b.nth b.before yard age b.is)
+    (left_from script part yard age contents b) refused
 
-pub refused_run : (script : Script) (missing : ℕ) (mode : Mode) (before : YardState) (ages : List AgeEnd)
+pub refused_run : (script : Script) (part : Part) (mode : Mode) (before : YardState) (ages : List AgeEnd)
     (last after : YardState) (chosen : List (List Entry)) (stop : Option Stop) → HasRanges script
-    → AreAges script missing mode 0 before ages last → HasFinished script missing last after chosen ages stop
+    → AreAges script part mode 0 before ages last → HasFinished script part last after chosen ages stop
     → (ages ≢ [] → IfSome stop (λ s. IsBadLogs s → ⊥)) → AllTell script.members before
-    → IsRightlyRefused script missing before ages stop
-refused_run script missing mode before ages last after chosen stop ranges are end good tell = record {
+    → IsRightlyRefused script part.missing before ages stop
+refused_run script part mode before ages last after chosen stop ranges are end good tell = record {
   first = first ages stop are end;
   due = λ s is. due s is ages stop are end;
   later = λ some. later stop (good some);
@@ -260,27 +261,27 @@ refused_run script missing mode before ages last after chosen stop ranges are en
     empty [] age same = cc
     empty (x ∷ earlier) age same = cc
 
-    first : (ages : List AgeEnd) (stop : Option Stop) → AreAges script missing mode 0 before ages last
-        → HasFinished script missing last after chosen ages stop → ages ≡ []
-        → IfSome stop (λ s. IsOfLogs s → IsRefusal script missing before s)
+    first : (ages : List AgeEnd) (stop : Option Stop) → AreAges script part mode 0 before ages last
+        → HasFinished script part last after chosen ages stop → ages ≡ []
+        → IfSome stop (λ s. IsOfLogs s → IsRefusal script part.missing before s)
     first ages None are end none = tt
     first [] (Some s) are end none = λ of.
-        stop_refusal script missing before after s tell
-        (subst (λ (y : YardState). HasStopped script missing y after s) (sym are) end.1) of
+        stop_refusal script part before after s tell
+        (subst (λ (y : YardState). HasStopped script part y after s) (sym are) end.1) of
     first (age ∷ ages) (Some s) are end none = absurd (cc)
 
-    due : (s : Stop) → IsRefusal script missing before s → (ages : List AgeEnd) (stop : Option Stop)
-        → AreAges script missing mode 0 before ages last → HasFinished script missing last after chosen ages stop
+    due : (s : Stop) → IsRefusal script part.missing before s → (ages : List AgeEnd) (stop : Option Stop)
+        → AreAges script part mode 0 before ages last → HasFinished script part last after chosen ages stop
         → (ages ≡ []) × IsStoppedBy s stop
     due s is [] None are end = absurd (omega (arith, end.0, ranges.some_age))
     due s is [] (Some t) are end = (
       refl,
-      first_stop script missing before after s t tell is
-          (subst (λ (y : YardState). HasStopped script missing y after t) (sym are) end.1),
+      first_stop script part before after s t tell is
+          (subst (λ (y : YardState). HasStopped script part y after t) (sym are) end.1),
     )
     due s is (age ∷ ages) stop are end =
-        absurd (started script missing before s are.1.contents (start_of script missing age) is
-        (found_read script.members missing before are.1.contents tell are.1.found) are.1.starts)
+        absurd (started script part.missing before s are.1.contents (start_of script part age) is
+        (found_read script.members part.missing before are.1.contents tell are.1.found) are.1.starts)
 
     later : (stop : Option Stop) → IfSome stop (λ s. IsBadLogs s → ⊥)
         → IfSome stop (λ s. IsOfLogs s → s ≡ AgesUsedUp)
@@ -289,27 +290,27 @@ refused_run script missing mode before ages last after chosen stop ranges are en
 
     -- what the last age leaves
     tell_last : AllTell script.members last
-    tell_last = tell_behind script missing mode 0 before ages last are tell
+    tell_last = tell_behind script part mode 0 before ages last are tell
 
     used_up : (earlier : List AgeEnd) (age : AgeEnd) → ages ≡ earlier ++ age ∷ [] → (stop : Option Stop)
-        → stop ≡ Some AgesUsedUp → HasFinished script missing last after chosen ages stop → age.age ≡ 65535
+        → stop ≡ Some AgesUsedUp → HasFinished script part last after chosen ages stop → age.age ≡ 65535
     used_up earlier age is stop by end =
-        let r = ends_with script missing mode 0 before ages last earlier age are is in
-        let found = (subst (HasFinished script missing last after chosen ages) by end).1 in
-        (refused_after script missing last age found.0 Refusal.AgesUsedUp
-        (behind script missing mode r.0 r.1 last age ranges r.2 tell_last found.0 found.1) found.2).1
+        let r = ends_with script part mode 0 before ages last earlier age are is in
+        let found = (subst (HasFinished script part last after chosen ages) by end).1 in
+        (refused_after script part last age found.0 Refusal.AgesUsedUp
+        (behind script part mode r.0 r.1 last age ranges r.2 tell_last found.0 found.1) found.2).1
 
     no_more : (earlier : List AgeEnd) (age : AgeEnd) → ages ≡ earlier ++ age ∷ [] → age.age ≡ 65535
-        → (stop : Option Stop) → HasFinished script missing last after chosen ages stop
+        → (stop : Option Stop) → HasFinished script part last after chosen ages stop
         → IfSome stop (λ s. IsBadLogs s → ⊥) → (length ages ≡ script.ages) ⊎ IsStoppedBy AgesUsedUp stop
     no_more earlier age is number None end good = inl end.0
     no_more earlier age is number (Some s) end good =
-        let r = ends_with script missing mode 0 before ages last earlier age are is in
-        inr (last_stop script missing last after s good
+        let r = ends_with script part mode 0 before ages last earlier age are is in
+        inr (last_stop script part last after s good
         (λ contents start found starts.
         omega (
           arith,
-          age_next script missing last age contents start
-              (behind script missing mode r.0 r.1 last age ranges r.2 tell_last contents found) starts,
+          age_next script part last age contents start
+              (behind script part mode r.0 r.1 last age ranges r.2 tell_last contents found) starts,
           number,
         )) end.1)

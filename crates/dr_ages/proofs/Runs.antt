@@ -28,6 +28,7 @@ use Rattle.dr_script.specs.declared.script.Script.{Script}
 use Rattle.dr_script.specs.Ranges.{HasRanges}
 use Rattle.dr_yard.specs.Yards.{AllTell, AreEmpty, YardState}
 use Rattle.dr_ages.specs.declared.mode.Mode.{Mode}
+use Rattle.dr_ages.specs.declared.part.Part.{Part}
 use Rattle.dr_ages.specs.declared.stop.Stop.{Stop}
 use Rattle.dr_ages.specs.declared.stop.Stop.TheVariants.{OutOfMemory, DiskFault, LogFull, Damaged, Disagree, Foreign, NoQuorum, AgesUsedUp}
 use Rattle.dr_ages.specs.Ages.{AreAges, IsAgeOf, start_of, starts_of}
@@ -47,16 +48,16 @@ use Rattle.dr_ages.proofs.Staying.{left_so}
 use Rattle.dr_ages.proofs.Votes.{age_told}
 
 -- what an age leaves is not refused
-never : (script : Script) (missing : ℕ) (mode : Mode) (before : YardState) (ages : List AgeEnd)
+never : (script : Script) (part : Part) (mode : Mode) (before : YardState) (ages : List AgeEnd)
     (last after : YardState) (chosen : List (List Entry)) (stop : Option Stop) → HasRanges script
-    → AreAges script missing mode 0 before ages last → HasFinished script missing last after chosen ages stop
+    → AreAges script part mode 0 before ages last → HasFinished script part last after chosen ages stop
     → AllTell script.members before → ages ≢ [] → IfSome stop (λ s. IsBadLogs s → ⊥)
-never script missing mode before ages last after chosen None ranges are end tell some = tt
-never script missing mode before [] last after chosen (Some stop) ranges are end tell some = absurd (some refl)
-never script missing mode before (one ∷ ages) last after chosen (Some stop) ranges are end tell some =
-    let r = last_age script missing mode 0 before one ages last are in
-    age_never script missing r.mode r.nth r.before last after r.age stop ranges r.is
-    (tell_behind script missing mode 0 before (one ∷ ages) last are tell) end.1
+never script part mode before ages last after chosen None ranges are end tell some = tt
+never script part mode before [] last after chosen (Some stop) ranges are end tell some = absurd (some refl)
+never script part mode before (one ∷ ages) last after chosen (Some stop) ranges are end tell some =
+    let r = last_age script part mode 0 before one ages last are in
+    age_never script part r.mode r.nth r.before last after r.age stop ranges r.is
+    (tell_behind script part mode 0 before (one ∷ ages) last are tell) end.1
 
 -- an opening that stopped has kept what it mounted, but for entries that these starts lack
 abbrev pub IsKeptBy : Script → ℕ → YardState → YardState → List (List Entry) → Stop → Type 0
@@ -68,28 +69,28 @@ abbrev pub StaysFit : Script → ℕ → YardState → YardState → Stop → Ty
 StaysFit script missing last after stop =
     stop ≢ OutOfMemory → NoneMissing script.members missing → AreFit script last → AreFit script after
 
-few_ages : (script : Script) (missing : ℕ) (last after : YardState) (chosen : List (List Entry)) (ages : List AgeEnd)
-    (stop : Option Stop) → HasRanges script → HasFinished script missing last after chosen ages stop
+few_ages : (script : Script) (part : Part) (last after : YardState) (chosen : List (List Entry)) (ages : List AgeEnd)
+    (stop : Option Stop) → HasRanges script → HasFinished script part last after chosen ages stop
     → length ages ≤ 16
-few_ages script missing last after chosen ages None ranges end = omega (arith, end.0, ranges.most_ages)
-few_ages script missing last after chosen ages (Some stop) ranges end = omega (arith, end.0, ranges.most_ages)
+few_ages script part last after chosen ages None ranges end = omega (arith, end.0, ranges.most_ages)
+few_ages script part last after chosen ages (Some stop) ranges end = omega (arith, end.0, ranges.most_ages)
 
 -- how the disks of its last opening went
-last_passes : (script : Script) (missing : ℕ) (last after : YardState) (chosen : List (List Entry))
-    (ages : List AgeEnd) (stop : Option Stop) → HasFinished script missing last after chosen ages stop
+last_passes : (script : Script) (part : Part) (last after : YardState) (chosen : List (List Entry))
+    (ages : List AgeEnd) (stop : Option Stop) → HasFinished script part last after chosen ages stop
     → PassOn chosen last after
-last_passes script missing last after chosen ages None end =
+last_passes script part last after chosen ages None end =
     subst (λ (starts : List (List Entry)). PassOn starts last after) (sym end.2)
     (subst (PassOn [] last) end.1 (passes_none last))
-last_passes script missing last after chosen ages (Some stop) end = end.3
+last_passes script part last after chosen ages (Some stop) end = end.3
 
-fresh_run : (script : Script) (missing : ℕ) (mode : Mode) (before : YardState) (ages : List AgeEnd)
+fresh_run : (script : Script) (part : Part) (mode : Mode) (before : YardState) (ages : List AgeEnd)
     (last after : YardState) (chosen : List (List Entry)) (stop : Option Stop) → HasRanges script
-    → AreAges script missing mode 0 before ages last → HasFinished script missing last after chosen ages stop
-    → NoneMissing script.members missing → AreEmpty script.members before → IsFreshRun ages stop
-fresh_run script missing mode before ages last after chosen stop ranges are end none empty = record {
+    → AreAges script part mode 0 before ages last → HasFinished script part last after chosen ages stop
+    → NoneMissing script.members part.missing → AreEmpty script.members before → IsFreshRun ages stop
+fresh_run script part mode before ages last after chosen stop ranges are end none empty = record {
   numbered = λ i age at. omega (arith, (each i age at).0);
-  first = λ age at. fresh_start script missing mode 0 before ages last age empty are at;
+  first = λ age at. fresh_start script part mode 0 before ages last age empty are at;
   roomy = λ i d l. (each i (get_or ages i d) (slice_get-get_or ages i d l)).1;
   stopped = stopped stop end;
 }
@@ -99,145 +100,145 @@ fresh_run script missing mode before ages last after chosen stop ranges are end 
 
     each : (i : ℕ) (age : AgeEnd) → slice_get ages i ≡ Some age → (age.age ≡ 0 + 0 + i) × NoneFull age.members
     each i age at =
-        roomy_ages script missing mode 9 0 0 0 before ages last i age ranges none (omega arith)
-        (omega (arith, few_ages script missing last after chosen ages stop ranges end)) begun are at
+        roomy_ages script part mode 9 0 0 0 before ages last i age ranges none (omega arith)
+        (omega (arith, few_ages script part last after chosen ages stop ranges end)) begun are at
 
-    stopped : (s : Option Stop) → HasFinished script missing last after chosen ages s → IfSome s IsOutside
+    stopped : (s : Option Stop) → HasFinished script part last after chosen ages s → IfSome s IsOutside
     stopped None is = tt
     stopped (Some s) is =
-        let few = few_ages script missing last after chosen ages (Some s) ranges is in
-        roomy_stop script missing 9 0 (0 + length ages) last after s ranges none (omega arith) (omega (arith, few))
-        (omega (arith, few)) (roomy_last script missing mode 9 0 0 0 before ages last ranges none begun are) is.1
+        let few = few_ages script part last after chosen ages (Some s) ranges is in
+        roomy_stop script part 9 0 (0 + length ages) last after s ranges none (omega arith) (omega (arith, few))
+        (omega (arith, few)) (roomy_last script part mode 9 0 0 0 before ages last ranges none begun are) is.1
 
 -- where the disks are fit, and their logs are roomy, no log is full, and each age is opened
-roomy_run : (script : Script) (missing : ℕ) (mode : Mode) (before : YardState) (ages : List AgeEnd)
+roomy_run : (script : Script) (part : Part) (mode : Mode) (before : YardState) (ages : List AgeEnd)
     (last after : YardState) (chosen : List (List Entry)) (stop : Option Stop) → HasRanges script
-    → AreAges script missing mode 0 before ages last → HasFinished script missing last after chosen ages stop
-    → NoneMissing script.members missing → AreFit script before → AreRoomy script before → IsRoomyRun ages stop
-roomy_run script missing mode before ages last after chosen stop ranges are end none fit roomy = record {
+    → AreAges script part mode 0 before ages last → HasFinished script part last after chosen ages stop
+    → NoneMissing script.members part.missing → AreFit script before → AreRoomy script before → IsRoomyRun ages stop
+roomy_run script part mode before ages last after chosen stop ranges are end none fit roomy = record {
   roomy = λ i d l. (each ages are end i (get_or ages i d) (slice_get-get_or ages i d l)).1;
   stopped = stopped stop ages are end;
 }
   where
-    begins : (contents : List (Option OnLog)) (start : Start) → AreFound script.members missing before contents
+    begins : (contents : List (Option OnLog)) (start : Start) → AreFound script.members part.missing before contents
         → IsChosenOf (first_group_of script).opening contents start
         → IsRoomyAt script 536870912 start.age 0 before
     begins contents start found is =
         roomy_first script before contents start ranges (fit_tell script before fit) (fit_good script before fit) roomy
-        (found_whole script.members missing before contents none found) is
+        (found_whole script.members part.missing before contents none found) is
 
-    numbers : (contents : List (Option OnLog)) (start : Start) → AreFound script.members missing before contents
+    numbers : (contents : List (Option OnLog)) (start : Start) → AreFound script.members part.missing before contents
         → IsChosenOf (first_group_of script).opening contents start → start.age + script.ages ≤ 2 ^ 16
     numbers contents start found is =
         roomy_numbers script before contents start ranges roomy
-        (found_whole script.members missing before contents none found) is
+        (found_whole script.members part.missing before contents none found) is
 
-    each : (ages : List AgeEnd) → AreAges script missing mode 0 before ages last
-        → HasFinished script missing last after chosen ages stop → (i : ℕ) (age : AgeEnd)
+    each : (ages : List AgeEnd) → AreAges script part mode 0 before ages last
+        → HasFinished script part last after chosen ages stop → (i : ℕ) (age : AgeEnd)
         → slice_get ages i ≡ Some age → ℕ × NoneFull age.members
     each [] are end i age at = absurd (omega (arith, slice_get_within [] i age at))
     each (one ∷ ages) are end i age at =
-        let r = roomy_ages script missing mode 536870912 one.age 0 0 before (one ∷ ages) last i age ranges none
-        (omega arith) (omega (arith, few_ages script missing last after chosen (one ∷ ages) stop ranges end))
-        (begins are.1.contents (start_of script missing one) are.1.found are.1.starts) are at in
+        let r = roomy_ages script part mode 536870912 one.age 0 0 before (one ∷ ages) last i age ranges none
+        (omega arith) (omega (arith, few_ages script part last after chosen (one ∷ ages) stop ranges end))
+        (begins are.1.contents (start_of script part one) are.1.found are.1.starts) are at in
         (0, r.1)
 
-    early : (s : Stop) → HasStopped script missing before after s → IsOutside s
+    early : (s : Stop) → HasStopped script part before after s → IsOutside s
     early OutOfMemory is = tt
     early (DiskFault m) is = tt
     early (LogFull m len) is =
-        roomy_stop script missing 536870912 is.start.age 0 before after (LogFull m len) ranges none (omega arith)
+        roomy_stop script part 536870912 is.start.age 0 before after (LogFull m len) ranges none (omega arith)
         (omega arith) (omega (arith, numbers is.contents is.start is.found is.chosen, ranges.some_age))
         (begins is.contents is.start is.found is.chosen) is
-    early (Damaged m at) is = fit_never script missing before after (Damaged m at) ranges.group none fit is tt
-    early (Disagree a b p) is = fit_never script missing before after (Disagree a b p) ranges.group none fit is tt
-    early (Foreign m p) is = fit_never script missing before after (Foreign m p) ranges.group none fit is tt
-    early (NoQuorum v h n) is = fit_never script missing before after (NoQuorum v h n) ranges.group none fit is tt
+    early (Damaged m at) is = fit_never script part before after (Damaged m at) ranges.group none fit is tt
+    early (Disagree a b p) is = fit_never script part before after (Disagree a b p) ranges.group none fit is tt
+    early (Foreign m p) is = fit_never script part before after (Foreign m p) ranges.group none fit is tt
+    early (NoQuorum v h n) is = fit_never script part before after (NoQuorum v h n) ranges.group none fit is tt
     early AgesUsedUp is = absurd (roomy_lasts script before is.0 ranges roomy
-        (found_whole script.members missing before is.0 none is.1) is.2)
+        (found_whole script.members part.missing before is.0 none is.1) is.2)
 
-    stopped : (s : Option Stop) (ages : List AgeEnd) → AreAges script missing mode 0 before ages last
-        → HasFinished script missing last after chosen ages s → IfSome s IsOutside
+    stopped : (s : Option Stop) (ages : List AgeEnd) → AreAges script part mode 0 before ages last
+        → HasFinished script part last after chosen ages s → IfSome s IsOutside
     stopped None ages are is = tt
     stopped (Some s) [] are is =
-        early s (subst (λ (y : YardState). HasStopped script missing y after s) (sym are) is.1)
+        early s (subst (λ (y : YardState). HasStopped script part y after s) (sym are) is.1)
     stopped (Some s) (one ∷ ages) are is =
-        let few = few_ages script missing last after chosen (one ∷ ages) (Some s) ranges is in
-        roomy_stop script missing 536870912 one.age (0 + length (one ∷ ages)) last after s ranges none (omega arith)
+        let few = few_ages script part last after chosen (one ∷ ages) (Some s) ranges is in
+        roomy_stop script part 536870912 one.age (0 + length (one ∷ ages)) last after s ranges none (omega arith)
         (omega (arith, few))
-        (omega (arith, numbers are.1.contents (start_of script missing one) are.1.found are.1.starts, is.0))
-        (roomy_last script missing mode 536870912 one.age 0 0 before (one ∷ ages) last ranges none
-        (begins are.1.contents (start_of script missing one) are.1.found are.1.starts) are) is.1
+        (omega (arith, numbers are.1.contents (start_of script part one) are.1.found are.1.starts, is.0))
+        (roomy_last script part mode 536870912 one.age 0 0 before (one ∷ ages) last ranges none
+        (begins are.1.contents (start_of script part one) are.1.found are.1.starts) are) is.1
 
 -- what was found on the disks is kept
-kept_run : (script : Script) (missing : ℕ) (mode : Mode) (before : YardState) (ages : List AgeEnd)
+kept_run : (script : Script) (part : Part) (mode : Mode) (before : YardState) (ages : List AgeEnd)
     (last after : YardState) (chosen : List (List Entry)) (stop : Option Stop) → HasRanges script
-    → AreAges script missing mode 0 before ages last → HasFinished script missing last after chosen ages stop
-    → IfSome stop (IsKeptBy script missing last after chosen)
-    → IsKeptRun script missing (starts_of ages ++ chosen) before after ages stop
-kept_run script missing mode before [] last after chosen None ranges are end kept =
+    → AreAges script part mode 0 before ages last → HasFinished script part last after chosen ages stop
+    → IfSome stop (IsKeptBy script part.missing last after chosen)
+    → IsKeptRun script part.missing (starts_of ages ++ chosen) before after ages stop
+kept_run script part mode before [] last after chosen None ranges are end kept =
     absurd (omega (arith, end.0, ranges.some_age))
-kept_run script missing mode before [] last after chosen (Some stop) ranges are end kept = record {
+kept_run script part mode before [] last after chosen (Some stop) ranges are end kept = record {
   mounted = kept.0.mounted;
-  since = subst (λ (starts : List (List Entry)). AreKeptSince script.members missing kept.0.mounted starts before after)
+  since = subst (λ (starts : List (List Entry)). AreKeptSince script.members part.missing kept.0.mounted starts before after)
       kept.1
-      (subst (λ (y : YardState). AreKeptSince script.members missing kept.0.mounted kept.0.starts y after) (sym are)
+      (subst (λ (y : YardState). AreKeptSince script.members part.missing kept.0.mounted kept.0.starts y after) (sym are)
       kept.0.since);
   all = λ some. absurd (some refl);
   count = λ none. kept.0.count;
 }
-kept_run script missing mode before (age ∷ ages) last after chosen stop ranges are end kept = record {
+kept_run script part mode before (age ∷ ages) last after chosen stop ranges are end kept = record {
   mounted = script.members;
-  since = kept_passes script.members missing (age.start ∷ []) (starts_of ages ++ chosen) before are.0 after are.1.since
-      (passes_on (starts_of ages) chosen are.0 last after (ages_pass script missing mode 1 are.0 ages last are.2)
-      (last_passes script missing last after chosen (age ∷ ages) stop end));
+  since = kept_passes script.members part.missing (age.start ∷ []) (starts_of ages ++ chosen) before are.0 after are.1.since
+      (passes_on (starts_of ages) chosen are.0 last after (ages_pass script part mode 1 are.0 ages last are.2)
+      (last_passes script part last after chosen (age ∷ ages) stop end));
   all = λ some. refl;
   count = λ none. absurd (cc);
 }
 
 -- the disks of the missing are as they were
-ages_untouched : (script : Script) (missing : ℕ) (mode : Mode) (nth : ℕ) (before : YardState) (ages : List AgeEnd)
-    (last : YardState) → AreAges script missing mode nth before ages last → AreUntouched missing before last
-ages_untouched script missing mode nth before [] last are m gone =
+ages_untouched : (script : Script) (part : Part) (mode : Mode) (nth : ℕ) (before : YardState) (ages : List AgeEnd)
+    (last : YardState) → AreAges script part mode nth before ages last → AreUntouched part.missing before last
+ages_untouched script part mode nth before [] last are m gone =
     subst (λ (y : YardState). (y.told m ≡ before.told m) × (y.faults m ≡ before.faults m)) are (refl, refl)
-ages_untouched script missing mode nth before (age ∷ ages) last are m gone =
+ages_untouched script part mode nth before (age ∷ ages) last are m gone =
     let one = are.1.untouched m gone in
-    let rest = ages_untouched script missing mode (nth + 1) are.0 ages last are.2 m gone in
+    let rest = ages_untouched script part mode (nth + 1) are.0 ages last are.2 m gone in
     (rest.0 ∙ one.0, rest.1 ∙ one.1)
 
-run_untouched : (script : Script) (missing : ℕ) (mode : Mode) (before : YardState) (ages : List AgeEnd)
+run_untouched : (script : Script) (part : Part) (mode : Mode) (before : YardState) (ages : List AgeEnd)
     (last after : YardState) (chosen : List (List Entry)) (stop : Option Stop)
-    → AreAges script missing mode 0 before ages last → HasFinished script missing last after chosen ages stop
-    → IfSome stop (IsKeptBy script missing last after chosen) → AreUntouched missing before after
-run_untouched script missing mode before ages last after chosen None are end kept m gone =
-    subst (AreUntouched missing before) end.1 (ages_untouched script missing mode 0 before ages last are) m gone
-run_untouched script missing mode before ages last after chosen (Some stop) are end kept m gone =
-    let one = ages_untouched script missing mode 0 before ages last are m gone in
+    → AreAges script part mode 0 before ages last → HasFinished script part last after chosen ages stop
+    → IfSome stop (IsKeptBy script part.missing last after chosen) → AreUntouched part.missing before after
+run_untouched script part mode before ages last after chosen None are end kept m gone =
+    subst (AreUntouched part.missing before) end.1 (ages_untouched script part mode 0 before ages last are) m gone
+run_untouched script part mode before ages last after chosen (Some stop) are end kept m gone =
+    let one = ages_untouched script part mode 0 before ages last are m gone in
     let rest = kept.0.untouched m gone in
     (rest.0 ∙ one.0, rest.1 ∙ one.1)
 
 -- ---- what was logged in the last age is kept
 
 -- the start that was chosen behind an age has all that its member has logged
-chosen_has : (script : Script) (missing : ℕ) (mode : Mode) (nth : ℕ) (before last after : YardState) (age : AgeEnd)
+chosen_has : (script : Script) (part : Part) (mode : Mode) (nth : ℕ) (before last after : YardState) (age : AgeEnd)
     (chosen : List (List Entry)) (ages : List AgeEnd) (stop : Option Stop) (m : ℕ) (e : MemberEnd)
-    → HasRanges script → IsAgeOf script missing mode nth before last age → AllTell script.members last
-    → HasFinished script missing last after chosen ages stop → slice_get age.members m ≡ Some e
-    → has missing m ≡ false → AllBeginWith (take e.logged e.history) chosen
-chosen_has script missing mode nth before last after age chosen ages None m e ranges is tell end at there =
+    → HasRanges script → IsAgeOf script part mode nth before last age → AllTell script.members last
+    → HasFinished script part last after chosen ages stop → slice_get age.members m ≡ Some e
+    → has part.missing m ≡ false → AllBeginWith (take e.logged e.history) chosen
+chosen_has script part mode nth before last after age chosen ages None m e ranges is tell end at there =
     subst (AllBeginWith (take e.logged e.history)) (sym end.2)
     (All-nil (λ (start : List Entry). IsPrefixOf (take e.logged e.history) start))
-chosen_has script missing mode nth before last after age chosen ages (Some stop) m e ranges is tell end at there =
+chosen_has script part mode nth before last after age chosen ages (Some stop) m e ranges is tell end at there =
     by end.2
   where
-    by : AreChosenIn script missing last chosen → AllBeginWith (take e.logged e.history) chosen
+    by : AreChosenIn script part.missing last chosen → AllBeginWith (take e.logged e.history) chosen
     by (inl none) = subst (AllBeginWith (take e.logged e.history)) (sym none)
         (All-nil (λ (start : List Entry). IsPrefixOf (take e.logged e.history) start))
     by (inr (contents, found, of)) =
         subst (AllBeginWith (take e.logged e.history)) (sym of.2)
         (All-cons (λ (start : List Entry). IsPrefixOf (take e.logged e.history) start) of.0.entries []
-        (logged_first script missing last age contents of.0 m e
-        (behind script missing mode nth before last age ranges is tell contents found) of.1 at there)
+        (logged_first script part last age contents of.0 m e
+        (behind script part mode nth before last age ranges is tell contents found) of.1 at there)
         (All-nil (λ (start : List Entry). IsPrefixOf (take e.logged e.history) start)))
 
 -- what stands on a log has been kept by whatever the member may leave of it
@@ -272,85 +273,85 @@ has_logged r base = record {
   age_votes = refl;
 }
 
-logged_kept : (script : Script) (missing : ℕ) (mode : Mode) (before : YardState) (ages : List AgeEnd)
+logged_kept : (script : Script) (part : Part) (mode : Mode) (before : YardState) (ages : List AgeEnd)
     (last after : YardState) (chosen : List (List Entry)) (stop : Option Stop) → HasRanges script
-    → AreAges script missing mode 0 before ages last → HasFinished script missing last after chosen ages stop
-    → AllTell script.members before → HaveLogged missing ages after
-logged_kept script missing mode before ages last after chosen stop ranges are end tell earlier age m e is at there =
-    let a = ends_with script missing mode 0 before ages last earlier age are is in
-    let x = ended_over script missing mode a.0 a.1 last age a.2 m e at there in
+    → AreAges script part mode 0 before ages last → HasFinished script part last after chosen ages stop
+    → AllTell script.members before → HaveLogged part.missing ages after
+logged_kept script part mode before ages last after chosen stop ranges are end tell earlier age m e is at there =
+    let a = ends_with script part mode 0 before ages last earlier age are is in
+    let x = ended_over script part mode a.0 a.1 last age a.2 m e at there in
     let logged = with_these (take e.logged e.history) in
     Goes-last (last.told m) (after.told m) (LosesNone logged)
-    ((last_passes script missing last after chosen ages stop end m).stays logged
-    (chosen_has script missing mode a.0 a.1 last after age chosen ages stop m e ranges a.2
-    (tell_behind script missing mode 0 before ages last are tell) end at there)
+    ((last_passes script part last after chosen ages stop end m).stays logged
+    (chosen_has script part mode a.0 a.1 last after age chosen ages stop m e ranges a.2
+    (tell_behind script part mode 0 before ages last are tell) end at there)
     (subst (λ (end : MemberEnd). IsLeft (last.told m) (LosesNone (with_these (take end.logged end.history)))) x.is
     (left_has (last.told m) x.r.replica (a.2.begun m) (with_these (take x.r.replica.logged x.r.replica.history))
     (has_logged x.r.replica (a.2.begun m)) (a.2.left m x.r x.at))))
 
 -- and so are the votes
-voted_kept : (script : Script) (missing : ℕ) (mode : Mode) (before : YardState) (ages : List AgeEnd)
+voted_kept : (script : Script) (part : Part) (mode : Mode) (before : YardState) (ages : List AgeEnd)
     (last after : YardState) (chosen : List (List Entry)) (stop : Option Stop) → HasRanges script
-    → AreAges script missing mode 0 before ages last → HasFinished script missing last after chosen ages stop
-    → AllTell script.members before → HaveEndedWith script missing mode ages last after
-voted_kept script missing mode before ages last after chosen stop ranges are end tell earlier age nth start same is m r at =
-    let x = age_told mode script (start_of script missing age) nth age is.run m r at in
+    → AreAges script part mode 0 before ages last → HasFinished script part last after chosen ages stop
+    → AllTell script.members before → HaveEndedWith script part mode ages last after
+voted_kept script part mode before ages last after chosen stop ranges are end tell earlier age nth start same is m r at =
+    let x = age_told mode script (start_of script part age) nth age is.run m r at in
     let logged = with_logged (is.begun m) r.replica in
     Goes-last (last.told m) (after.told m) (LosesNone logged)
-    ((last_passes script missing last after chosen ages stop end m).stays logged
-    (chosen_has script missing mode nth start last after age chosen ages stop m (end_of r) ranges is
-    (tell_behind script missing mode 0 before ages last are tell) end x
-    (told_there script missing mode nth start last age ranges is m r at))
+    ((last_passes script part last after chosen ages stop end m).stays logged
+    (chosen_has script part mode nth start last after age chosen ages stop m (end_of r) ranges is
+    (tell_behind script part mode 0 before ages last are tell) end x
+    (told_there script part mode nth start last age ranges is m r at))
     (left_has (last.told m) r.replica (is.begun m) logged (has_itself logged) (is.left m r at)))
 
 -- ---- fit disks stay fit
 
-fit_last : (script : Script) (missing : ℕ) (mode : Mode) (before : YardState) (ages : List AgeEnd) (last : YardState)
-    → HasRanges script → NoneMissing script.members missing → AreAges script missing mode 0 before ages last
+fit_last : (script : Script) (part : Part) (mode : Mode) (before : YardState) (ages : List AgeEnd) (last : YardState)
+    → HasRanges script → NoneMissing script.members part.missing → AreAges script part mode 0 before ages last
     → AreFit script before → AreFit script last
-fit_last script missing mode before [] last ranges none are fit = subst (AreFit script) are fit
-fit_last script missing mode before (one ∷ ages) last ranges none are fit =
-    let r = last_age script missing mode 0 before one ages last are in
-    age_fit script missing r.mode r.nth r.before last r.age ranges none r.is
-    (tell_behind script missing mode 0 before (one ∷ ages) last are (fit_tell script before fit))
+fit_last script part mode before [] last ranges none are fit = subst (AreFit script) are fit
+fit_last script part mode before (one ∷ ages) last ranges none are fit =
+    let r = last_age script part mode 0 before one ages last are in
+    age_fit script part r.mode r.nth r.before last r.age ranges none r.is
+    (tell_behind script part mode 0 before (one ∷ ages) last are (fit_tell script before fit))
 
-fit_run : (script : Script) (missing : ℕ) (mode : Mode) (before : YardState) (ages : List AgeEnd)
+fit_run : (script : Script) (part : Part) (mode : Mode) (before : YardState) (ages : List AgeEnd)
     (last after : YardState) (chosen : List (List Entry)) (stop : Option Stop) → HasRanges script
-    → AreAges script missing mode 0 before ages last → HasFinished script missing last after chosen ages stop
-    → IfSome stop (StaysFit script missing last after) → NoneMissing script.members missing
+    → AreAges script part mode 0 before ages last → HasFinished script part last after chosen ages stop
+    → IfSome stop (StaysFit script part.missing last after) → NoneMissing script.members part.missing
     → AreFit script before → IsFitRun script after stop
-fit_run script missing mode before ages last after chosen None ranges are end stays none fit = record {
+fit_run script part mode before ages last after chosen None ranges are end stays none fit = record {
   never = tt;
-  fit = λ other. subst (AreFit script) end.1 (fit_last script missing mode before ages last ranges none are fit);
+  fit = λ other. subst (AreFit script) end.1 (fit_last script part mode before ages last ranges none are fit);
 }
-fit_run script missing mode before ages last after chosen (Some stop) ranges are end stays none fit =
-    let now = fit_last script missing mode before ages last ranges none are fit in
+fit_run script part mode before ages last after chosen (Some stop) ranges are end stays none fit =
+    let now = fit_last script part mode before ages last ranges none are fit in
     record {
-      never = fit_never script missing last after stop ranges.group none now end.1;
+      never = fit_never script part last after stop ranges.group none now end.1;
       fit = λ other. stays (λ same. other (ap Some same)) none now;
     }
 
-pub a_run : (script : Script) (missing : ℕ) (mode : Mode) (before : YardState) (ages : List AgeEnd)
+pub a_run : (script : Script) (part : Part) (mode : Mode) (before : YardState) (ages : List AgeEnd)
     (last after : YardState) (stop : Option Stop) (chosen : List (List Entry)) → HasRanges script
-    → AreAges script missing mode 0 before ages last → HasFinished script missing last after chosen ages stop
-    → IfSome stop (IsKeptBy script missing last after chosen) → IfSome stop (StaysFit script missing last after)
-    → IsRunOf script missing mode before after ages stop
-a_run script missing mode before ages last after stop chosen ranges are end kept fit = record {
+    → AreAges script part mode 0 before ages last → HasFinished script part last after chosen ages stop
+    → IfSome stop (IsKeptBy script part.missing last after chosen) → IfSome stop (StaysFit script part.missing last after)
+    → IsRunOf script part mode before after ages stop
+a_run script part mode before ages last after stop chosen ranges are end kept fit = record {
   last = last;
   course = are;
   chosen = chosen;
   finish = end;
-  passes = passes_on (starts_of ages) chosen before last after (ages_pass script missing mode 0 before ages last are)
-      (last_passes script missing last after chosen ages stop end);
-  untouched = run_untouched script missing mode before ages last after chosen stop are end kept;
-  kept = are_kept script missing mode before ages last ranges are;
-  never = never script missing mode before ages last after chosen stop ranges are end;
-  fresh = fresh_run script missing mode before ages last after chosen stop ranges are end;
-  since = kept_run script missing mode before ages last after chosen stop ranges are end kept;
-  logged = logged_kept script missing mode before ages last after chosen stop ranges are end;
-  voted = voted_kept script missing mode before ages last after chosen stop ranges are end;
-  fit = fit_run script missing mode before ages last after chosen stop ranges are end fit;
-  roomy = roomy_run script missing mode before ages last after chosen stop ranges are end;
-  refused = λ tell. refused_run script missing mode before ages last after chosen stop ranges are end
-      (never script missing mode before ages last after chosen stop ranges are end tell) tell;
+  passes = passes_on (starts_of ages) chosen before last after (ages_pass script part mode 0 before ages last are)
+      (last_passes script part last after chosen ages stop end);
+  untouched = run_untouched script part mode before ages last after chosen stop are end kept;
+  kept = are_kept script part mode before ages last ranges are;
+  never = never script part mode before ages last after chosen stop ranges are end;
+  fresh = fresh_run script part mode before ages last after chosen stop ranges are end;
+  since = kept_run script part mode before ages last after chosen stop ranges are end kept;
+  logged = logged_kept script part mode before ages last after chosen stop ranges are end;
+  voted = voted_kept script part mode before ages last after chosen stop ranges are end;
+  fit = fit_run script part mode before ages last after chosen stop ranges are end fit;
+  roomy = roomy_run script part mode before ages last after chosen stop ranges are end;
+  refused = λ tell. refused_run script part mode before ages last after chosen stop ranges are end
+      (never script part mode before ages last after chosen stop ranges are end tell) tell;
 }

@@ -24,7 +24,9 @@ use Rattle.dr_quorum.specs.declared.faults.ChooseFault.TheVariants as chooses
 use Rattle.dr_restart.specs.declared.start.Start.{Start}
 use Rattle.dr_restart.specs.Groups.{first_group_of}
 use Rattle.dr_script.specs.declared.script.Script.{Script}
+use Rattle.dr_words.specs.Masks.{without}
 use Rattle.dr_yard.specs.Yards.{YardState}
+use Rattle.dr_ages.specs.declared.part.Part.{Part}
 use Rattle.dr_ages.specs.Found.{AreFound}
 use Rattle.dr_ages.specs.Lent.{AreAllBut, AreMounted, with_logs}
 use Rattle.dr_ages.specs.Passing.{AreKeptSince}
@@ -37,24 +39,25 @@ use Rattle.dr_ages.proofs.Staying.{alike_same}
 
 -- ---- logs that make no start
 
-chosen_stops : (script : Script) (missing : ℕ) (before after : YardState) (contents : List (Option OnLog))
-    (fault : ChooseFault) → AreFound script.members missing before contents → IsUnchosen script contents fault
-    → HasStopped script missing before after (stop_of_choice fault)
-chosen_stops script missing before after contents chooses.OutOfMemory found is = tt
-chosen_stops script missing before after contents (chooses.Foreign m p) found is = (contents, found, is)
-chosen_stops script missing before after contents (chooses.NoQuorum v h n) found is = (contents, found, is)
-chosen_stops script missing before after contents (chooses.Disagree a b p) found is = (contents, found, is)
-chosen_stops script missing before after contents chooses.AgesUsedUp found is = (contents, found, is)
+chosen_stops : (script : Script) (part : Part) (before after : YardState) (contents : List (Option OnLog))
+    (fault : ChooseFault) → AreFound script.members part.missing before contents → IsUnchosen script contents fault
+    → HasStopped script part before after (stop_of_choice fault)
+chosen_stops script part before after contents chooses.OutOfMemory found is = tt
+chosen_stops script part before after contents (chooses.Foreign m p) found is = (contents, found, is)
+chosen_stops script part before after contents (chooses.NoQuorum v h n) found is = (contents, found, is)
+chosen_stops script part before after contents (chooses.Disagree a b p) found is = (contents, found, is)
+chosen_stops script part before after contents chooses.AgesUsedUp found is = (contents, found, is)
 
 -- ---- a log that was refused what it lacked
 
 -- an opening on logs that were mounted, whose start was chosen
-pub record IsOpeningOn {D : Type 0} (tells : D → Option Told) (faults : D → ℕ) (script : Script) (missing : ℕ)
+pub record IsOpeningOn {D : Type 0} (tells : D → Option Told) (faults : D → ℕ) (script : Script) (part : Part)
     (before : YardState) (start : Start) (olds : List (Option (LogState D))) : Type 0 where
   pub all : length olds ≡ script.members
   pub mounted : AreMounted tells faults before olds
-  pub but : AreAllBut missing olds
+  pub but : AreAllBut part.missing olds
   pub chosen : IsChosenOf (first_group_of script).opening (contents_of olds) start
+  pub members : start.members ≡ without start.present part.late
 
 -- what a crash leaves of a disk under a log that is safe
 left_at : {D : Type 0} (tells : D → Option Told) (faults : D → ℕ) (before : YardState)
@@ -66,12 +69,12 @@ left_at {D} tells faults before news m new c here same safe =
     (subst (λ (d : OnLog). IsLeft (tells new.disk) (λ image. StandFor image d)) same safe)
 
 -- in the first phase
-votes_below : {D : Type 0} (tells : D → Option Told) (faults : D → ℕ) (script : Script) (missing : ℕ)
+votes_below : {D : Type 0} (tells : D → Option Told) (faults : D → ℕ) (script : Script) (part : Part)
     (before : YardState) (start : Start) (olds news : List (Option (LogState D))) (k : ℕ) (why : CatchFault)
-    → IsOpeningOn tells faults script missing before start olds
+    → IsOpeningOn tells faults script part before start olds
     → StopAt (GotVote tells faults start) (λ old new. LacksVote tells faults start old new why) olds news k
     → HaveVotesBelow start (contents_of olds) (with_logs tells faults before news) k
-votes_below {D} tells faults script missing before start olds news k why on stop = record {
+votes_below {D} tells faults script part before start olds news k why on stop = record {
   below = λ m c l at.
       let old = log_of_content olds m c at in
       let new = stays_there olds news m old.0 places old.1 in
@@ -89,13 +92,13 @@ votes_below {D} tells faults script missing before start olds news k why on stop
         stop
 
 -- in the second
-open_below : {D : Type 0} (tells : D → Option Told) (faults : D → ℕ) (script : Script) (missing : ℕ)
+open_below : {D : Type 0} (tells : D → Option Told) (faults : D → ℕ) (script : Script) (part : Part)
     (before : YardState) (start : Start) (olds mids news : List (Option (LogState D))) (k : ℕ) (why : CatchFault)
-    → IsOpeningOn tells faults script missing before start olds
+    → IsOpeningOn tells faults script part before start olds
     → ComeBelow (GotVote tells faults start) olds mids (length olds)
     → StopAt (GotStart tells faults start) (λ old new. LacksStart tells faults start old new why) mids news k
     → AreOpenBelow start (contents_of olds) (with_logs tells faults before news) k
-open_below {D} tells faults script missing before start olds mids news k why on voted stop = record {
+open_below {D} tells faults script part before start olds mids news k why on voted stop = record {
   below = λ m c l at.
       let old = log_of_content olds m c at in
       let mid = come_mid (GotVote tells faults start) olds mids m old.0 voted old.1 in
@@ -122,7 +125,7 @@ open_below {D} tells faults script missing before start olds mids news k why on 
 
 -- the log that was refused an append: as it was mounted, as the append found it, and as it is, and what the append
 -- was to make of it
-record IsStuckAt {D : Type 0} (tells : D → Option Told) (faults : D → ℕ) (script : Script) (missing : ℕ)
+record IsStuckAt {D : Type 0} (tells : D → Option Told) (faults : D → ℕ) (script : Script) (part : Part)
     (before : YardState) (start : Start) (olds news : List (Option (LogState D))) (k : ℕ) (why : CatchFault)
     : Type 0 where
   old : LogState D
@@ -139,11 +142,11 @@ record IsStuckAt {D : Type 0} (tells : D → Option Told) (faults : D → ℕ) (
       × AreOpenBelow start (contents_of olds) (with_logs tells faults before news) k)
   reason : Explains tells faults new.content next mid new why
 
-stuck_at : {D : Type 0} (tells : D → Option Told) (faults : D → ℕ) (script : Script) (missing : ℕ)
+stuck_at : {D : Type 0} (tells : D → Option Told) (faults : D → ℕ) (script : Script) (part : Part)
     (before : YardState) (start : Start) (olds news : List (Option (LogState D))) (fault : OpenFault)
-    → IsOpeningOn tells faults script missing before start olds → WereNotOpened tells faults start olds news fault
-    → IsStuckAt tells faults script missing before start olds news fault.member fault.why
-stuck_at tells faults script missing before start olds news fault on (inl stop) =
+    → IsOpeningOn tells faults script part before start olds → WereNotOpened tells faults start olds news fault
+    → IsStuckAt tells faults script part before start olds news fault.member fault.why
+stuck_at tells faults script part before start olds news fault on (inl stop) =
     let at = stop.stop in
     record {
       old = at.0;
@@ -156,11 +159,11 @@ stuck_at tells faults script missing before start olds news fault on (inl stop) 
       next = at.4.next;
       phase = inl (
         at.4.step,
-        votes_below tells faults script missing before start olds news fault.member fault.why on stop,
+        votes_below tells faults script part before start olds news fault.member fault.why on stop,
       );
       reason = at.4.reason;
     }
-stuck_at tells faults script missing before start olds news fault on (inr (mids, voted, stop)) =
+stuck_at tells faults script part before start olds news fault on (inr (mids, voted, stop)) =
     let at = stop.stop in
     let old = was_there olds mids fault.member at.0 (come_places (GotVote tells faults start) olds mids voted) at.2 in
     let got = in_come (GotVote tells faults start) olds mids fault.member old.0 at.0 voted old.1 at.2 in
@@ -175,23 +178,24 @@ stuck_at tells faults script missing before start olds news fault on (inr (mids,
       next = at.4.next;
       phase = inr (
         subst (λ (v : OnLog). IsRisingStep start v at.1.content at.4.next) got.0.content at.4.step,
-        open_below tells faults script missing before start olds mids news fault.member fault.why on voted stop,
+        open_below tells faults script part before start olds mids news fault.member fault.why on voted stop,
       );
       reason = at.4.reason;
     }
 
 -- what was found, and chosen of it, as the append was refused
-is_stuck : {D : Type 0} (tells : D → Option Told) (faults : D → ℕ) (script : Script) (missing : ℕ)
+is_stuck : {D : Type 0} (tells : D → Option Told) (faults : D → ℕ) (script : Script) (part : Part)
     (before : YardState) (start : Start) (olds news : List (Option (LogState D))) (k : ℕ) (why : CatchFault)
-    (At : OnLog → OnLog → Type 0) → IsOpeningOn tells faults script missing before start olds
-    → (s : IsStuckAt tells faults script missing before start olds news k why) → At s.new.content s.next
-    → IsStuckIn script missing before (with_logs tells faults before news) k At
-is_stuck tells faults script missing before start olds news k why At on s at = record {
+    (At : OnLog → OnLog → Type 0) → IsOpeningOn tells faults script part before start olds
+    → (s : IsStuckAt tells faults script part before start olds news k why) → At s.new.content s.next
+    → IsStuckIn script part before (with_logs tells faults before news) k At
+is_stuck tells faults script part before start olds news k why At on s at = record {
   below = omega (arith, present_within olds k s.old s.there, on.all);
   contents = contents_of olds;
-  found = are_found tells faults missing before olds script.members on.mounted on.but on.all;
+  found = are_found tells faults part.missing before olds script.members on.mounted on.but on.all;
   start = start;
   chosen = on.chosen;
+  members = on.members;
   content = s.old.content;
   there = content_at_log olds k s.old s.there;
   now = s.new.content;
@@ -201,49 +205,49 @@ is_stuck tells faults script missing before start olds news k why At on s at = r
 }
 
 -- the disks are kept since they were mounted
-since_mounted : {D : Type 0} (tells : D → Option Told) (faults : D → ℕ) (script : Script) (missing : ℕ)
+since_mounted : {D : Type 0} (tells : D → Option Told) (faults : D → ℕ) (script : Script) (part : Part)
     (before : YardState) (start : Start) (olds news : List (Option (LogState D))) (fault : OpenFault)
-    → IsOpeningOn tells faults script missing before start olds → WereNotOpened tells faults start olds news fault
-    → AreKeptSince script.members missing script.members (start.entries ∷ []) before
+    → IsOpeningOn tells faults script part before start olds → WereNotOpened tells faults start olds news fault
+    → AreKeptSince script.members part.missing script.members (start.entries ∷ []) before
     (with_logs tells faults before news)
-since_mounted tells faults script missing before start olds news fault on stopped =
-    subst (λ (n : ℕ). AreKeptSince script.members missing n (start.entries ∷ []) before
+since_mounted tells faults script part before start olds news fault on stopped =
+    subst (λ (n : ℕ). AreKeptSince script.members part.missing n (start.entries ∷ []) before
     (with_logs tells faults before news)) on.all
-    (kept_back tells faults script.members missing (start.entries ∷ []) before before
+    (kept_back tells faults script.members part.missing (start.entries ∷ []) before before
     (with_logs tells faults before news) olds news on.mounted on.but
     (unopened_on tells faults start olds news fault stopped)
     (unopened_places tells faults start olds news fault stopped)
     (λ m none. alike_same (before.told m) (before.told m) (before.faults m) (before.faults m) refl
     (le_refl (before.faults m))) (λ m. (refl, refl)))
 
-open_stops : {D : Type 0} (tells : D → Option Told) (faults : D → ℕ) (script : Script) (missing : ℕ)
+open_stops : {D : Type 0} (tells : D → Option Told) (faults : D → ℕ) (script : Script) (part : Part)
     (before : YardState) (start : Start) (olds news : List (Option (LogState D))) (k : ℕ) (why : CatchFault)
-    → IsOpeningOn tells faults script missing before start olds
+    → IsOpeningOn tells faults script part before start olds
     → WereNotOpened tells faults start olds news (record { member = k; why = why })
-    → HasStopped script missing before (with_logs tells faults before news) (stop_at k why)
+    → HasStopped script part before (with_logs tells faults before news) (stop_at k why)
 unfolding is_stuck
-open_stops tells faults script missing before start olds news k catches.OutOfMemory on stopped = tt
-open_stops tells faults script missing before start olds news k catches.DiskFault on stopped =
+open_stops tells faults script part before start olds news k catches.OutOfMemory on stopped = tt
+open_stops tells faults script part before start olds news k catches.DiskFault on stopped =
     let fault : OpenFault = record { member = k; why = catches.DiskFault } in
-    let s = stuck_at tells faults script missing before start olds news fault on stopped in
+    let s = stuck_at tells faults script part before start olds news fault on stopped in
     let is = on.mounted k s.old s.there in
     record {
       below = omega (arith, present_within olds k s.old s.there, on.all);
-      there = not_missing missing olds k s.old on.but s.there;
+      there = not_missing part.missing olds k s.old on.but s.there;
       rose = subst (Rose (before.faults k)) (sym (faults_at tells faults before news k s.new s.here))
           (subst (λ (n : ℕ). Rose n (faults s.new.disk)) (s.calm ∙ is.calm) s.reason.1);
-      at = in_opening (is_stuck tells faults script missing before start olds news k catches.DiskFault
+      at = in_opening (is_stuck tells faults script part before start olds news k catches.DiskFault
           (λ now next. IsLeft ((with_logs tells faults before news).told k)
           (λ image. StandFor image now ⊎ StandFor image next)) on s
           (subst (λ (o : Option Told). IsLeft o (λ image. StandFor image s.new.content ⊎ StandFor image s.next))
           (sym (told_at tells faults before news k s.new s.here)) s.reason.2))
-          (since_mounted tells faults script missing before start olds news fault on stopped);
+          (since_mounted tells faults script part before start olds news fault on stopped);
     }
-open_stops tells faults script missing before start olds news k (catches.LogFull len) on stopped =
+open_stops tells faults script part before start olds news k (catches.LogFull len) on stopped =
     let fault : OpenFault = record { member = k; why = catches.LogFull len } in
-    let s = stuck_at tells faults script missing before start olds news fault on stopped in
+    let s = stuck_at tells faults script part before start olds news fault on stopped in
     let is = on.mounted k s.old s.there in
-    is_stuck tells faults script missing before start olds news k (catches.LogFull len)
+    is_stuck tells faults script part before start olds news k (catches.LogFull len)
     (λ now next. (len ≡ now.length) × (2147483648 < next.length)
     × IsLeft ((with_logs tells faults before news).told k) (λ image. StandFor image now)) on s (
       s.reason.1,
@@ -251,17 +255,17 @@ open_stops tells faults script missing before start olds news k (catches.LogFull
       left_at tells faults before news k s.new s.new.content s.here refl s.reason.0.safe,
     )
 
-pub why_stops : {D : Type 0} (tells : D → Option Told) (faults : D → ℕ) (script : Script) (missing : ℕ)
+pub why_stops : {D : Type 0} (tells : D → Option Told) (faults : D → ℕ) (script : Script) (part : Part)
     (before : YardState) (olds news : List (Option (LogState D))) (why : NotOpened)
-    → length olds ≡ script.members → AreMounted tells faults before olds → AreAllBut missing olds
-    → IsWhyUnopened tells faults script olds news why
-    → HasStopped script missing before (with_logs tells faults before news) (stop_of why)
-why_stops tells faults script missing before olds news (Unchosen fault) all mounted but is =
-    chosen_stops script missing before (with_logs tells faults before news) (contents_of olds) fault
-    (are_found tells faults missing before olds script.members mounted but all) is.0
-why_stops tells faults script missing before olds news (Unfinished fault) all mounted but is =
-    open_stops tells faults script missing before is.0 olds news fault.member fault.why
-    (record { all = all; mounted = mounted; but = but; chosen = is.1 }) is.2
+    → length olds ≡ script.members → AreMounted tells faults before olds → AreAllBut part.missing olds
+    → IsWhyUnopened tells faults script part.late olds news why
+    → HasStopped script part before (with_logs tells faults before news) (stop_of why)
+why_stops tells faults script part before olds news (Unchosen fault) all mounted but is =
+    chosen_stops script part before (with_logs tells faults before news) (contents_of olds) fault
+    (are_found tells faults part.missing before olds script.members mounted but all) is.0
+why_stops tells faults script part before olds news (Unfinished fault) all mounted but is =
+    open_stops tells faults script part before is.0 olds news fault.member fault.why
+    (record { all = all; mounted = mounted; but = but; chosen = is.1; members = is.2 }) is.3
 
 -- ---- whose calls failed
 
@@ -315,16 +319,16 @@ open_names tells faults before start olds news k (catches.LogFull len) mounted s
     calm_at tells faults before start olds news (record { member = k; why = catches.LogFull len }) m mounted stopped
     (λ at old new next is. is.0.calm)
 
-pub why_names : {D : Type 0} (tells : D → Option Told) (faults : D → ℕ) (script : Script) (before : YardState)
+pub why_names : {D : Type 0} (tells : D → Option Told) (faults : D → ℕ) (script : Script) (late : ℕ) (before : YardState)
     (olds news : List (Option (LogState D))) (why : NotOpened) → AreMounted tells faults before olds
-    → IsWhyUnopened tells faults script olds news why
+    → IsWhyUnopened tells faults script late olds news why
     → NamesFaults (stop_of why) before (with_logs tells faults before news)
-why_names {D} tells faults script before olds news (Unchosen fault) mounted is =
+why_names {D} tells faults script late before olds news (Unchosen fault) mounted is =
     names_none (stop_of_choice fault) before (with_logs tells faults before news) (λ m.
     ap (λ (logs : List (Option (LogState D))). (with_logs tells faults before logs).faults m) is.1
     ∙ counts_still tells faults before olds mounted m)
-why_names tells faults script before olds news (Unfinished fault) mounted is =
-    open_names tells faults before is.0 olds news fault.member fault.why mounted is.2
+why_names tells faults script late before olds news (Unfinished fault) mounted is =
+    open_names tells faults before is.0 olds news fault.member fault.why mounted is.3
 
 -- ---- all disks were mounted
 

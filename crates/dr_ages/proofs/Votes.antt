@@ -12,7 +12,7 @@ use Rattle.dr_entry.specs.declared.record.Record.TheVariants as records
 use Rattle.dr_entry.specs.Spelling.{IsValid, IsValidVote}
 use Rattle.dr_log_bytes.specs.Content.{OnLog, content_after, empty_of, with_record}
 use Rattle.dr_log_bytes.specs.Grammar.{AreSpelled, StandFor}
-use Rattle.dr_machine.specs.Group.{IsGroup}
+use Rattle.dr_machine.specs.Group.{IsGroup, banks, roster}
 use Rattle.dr_logged.specs.Served.{AtMember}
 use Rattle.dr_opening.specs.Tries.{content_at}
 use Rattle.dr_program.specs.Presence.{present_at}
@@ -94,18 +94,18 @@ over_form mode script start nth age ranges group is =
     (are_setups script start nth r.begins.0 ranges.group.lists r.begins.1)
     (subst (λ (b : Program). IsRanFrom b over) r.begins.2 r.ran)).0
 
--- and a member casts in each view no more votes than there are members
+-- and a member casts in each view no more votes than the roster has members
 pub few_cast : (mode : Mode) (script : Script) (start : Start) (nth : ℕ) (age : AgeEnd) → HasRanges script
     → IsGroup (group_of script start) → (is : IsPlayed mode script start nth age) → (m : ℕ)
-    → AtMember (over_of mode script start nth age is) m (λ r. IsMemberOf script.members r.replica)
+    → AtMember (over_of mode script start nth age is) m (λ r. IsMemberOf (group_of script start) r.replica)
 few_cast mode script start nth age ranges group is m r at = record {
-  roster = omega (arith, (form.of m r at).members, ranges.group.lists);
-  banks = omega (arith, (form.of m r at).banks, ranges.group.lists);
+  roster = (form.of m r at).members;
+  banks = (form.of m r at).banks;
   few = omega (
     arith,
     votes_within r.replica (form.form m r at).replica,
-    mul-le r.replica.banks r.replica.roster script.members script.members
-        (omega (arith, (form.of m r at).banks, ranges.group.lists)) (omega (arith, (form.of m r at).members, ranges.group.lists)),
+    mul-le r.replica.banks r.replica.roster (banks (group_of script start)) (roster (group_of script start))
+        (omega (arith, (form.of m r at).banks)) (omega (arith, (form.of m r at).members)),
   );
 }
   where

@@ -5,25 +5,26 @@ use Rattle.dr_program.specs.Running.{Running}
 use Rattle.dr_restart.specs.declared.start.Start.{Start}
 use Rattle.dr_script.specs.declared.script.Script.{Script}
 use Rattle.dr_ages.specs.declared.mode.Mode.{Mode}
+use Rattle.dr_ages.specs.declared.part.Part.{Part}
 use Rattle.dr_ages.specs.Ages.{start_of}
 use Rattle.dr_ages.specs.Watched.{AreWatched, HasSeen}
 
 -- who was told of ages, and then of one more, was told of all
 pub watched_more : {W : Type 0} (opens : W → Start → W → Type 0) (sees : W → Running → List ℕ → W → Type 0)
-    (closes : W → List (Option Running) → List ℕ → W → Type 0) (mode : Mode) (script : Script) (missing nth n : ℕ)
+    (closes : W → List (Option Running) → List ℕ → W → Type 0) (mode : Mode) (script : Script) (part : Part) (nth n : ℕ)
     (ages : List AgeEnd) (age : AgeEnd) (old mid new : W) → n ≡ nth + length ages
-    → AreWatched opens sees closes mode script missing nth ages old mid
-    → HasSeen opens sees closes mode script (start_of script missing age) n mid new age
-    → AreWatched opens sees closes mode script missing nth (ages ++ age ∷ []) old new
-watched_more opens sees closes mode script missing nth n [] age old mid new at are is = (
+    → AreWatched opens sees closes mode script part nth ages old mid
+    → HasSeen opens sees closes mode script (start_of script part age) n mid new age
+    → AreWatched opens sees closes mode script part nth (ages ++ age ∷ []) old new
+watched_more opens sees closes mode script part nth n [] age old mid new at are is = (
   new,
-  subst (λ w. HasSeen opens sees closes mode script (start_of script missing age) nth w new age) are
-      (subst (λ k. HasSeen opens sees closes mode script (start_of script missing age) k mid new age)
+  subst (λ w. HasSeen opens sees closes mode script (start_of script part age) nth w new age) are
+      (subst (λ k. HasSeen opens sees closes mode script (start_of script part age) k mid new age)
       (omega (arith, at)) is),
   refl,
 )
-watched_more opens sees closes mode script missing nth n (one ∷ ages) age old mid new at are is = (
+watched_more opens sees closes mode script part nth n (one ∷ ages) age old mid new at are is = (
   are.0,
   are.1,
-  watched_more opens sees closes mode script missing (nth + 1) n ages age are.0 mid new (omega (arith, at)) are.2 is,
+  watched_more opens sees closes mode script part (nth + 1) n ages age are.0 mid new (omega (arith, at)) are.2 is,
 )

@@ -1,5 +1,5 @@
 -- The ages of a run.
-use Rattle.std.specs.Prelude.{◌≡◌, ◌≢◌, ℕ, ◌+◌, ◌-◌, ◌*◌, ◌^◌, ◌≤◌, ◌↔◌, true, false, List, [], ◌∷◌, length, map, slice_get, take, Option, Some}
+use Rattle.std.specs.Prelude.{◌≡◌, ◌≢◌, ℕ, ◌+◌, ◌-◌, ◌*◌, ◌^◌, ◌<◌, ◌≤◌, ◌↔◌, true, false, List, [], ◌∷◌, length, map, slice_get, take, Option, Some}
 use Rattle.dr_complete.specs.Time.{HasTime}
 use Rattle.dr_entry.specs.declared.end.AgeEnd.{AgeEnd}
 use Rattle.dr_entry.specs.declared.end.End.TheVariants.{Absent, DiskFault, LogFull}
@@ -10,9 +10,11 @@ use Rattle.dr_history.specs.Agreement.{EndsAgreed}
 use Rattle.dr_history.specs.History.{IsPrefixOf}
 use Rattle.dr_history.specs.Members.{has}
 use Rattle.dr_history.specs.Order.{first_entries}
+use Rattle.dr_history.specs.Soundness.{IsNobodyLate}
 use Rattle.dr_io.specs.Faults.{Rose}
 use Rattle.dr_log_bytes.specs.Content.{OnLog}
 use Rattle.dr_logged.specs.Served.{AtMember}
+use Rattle.dr_machine.specs.Group.{Group, banks, roster}
 use Rattle.dr_opening.specs.Contents.{IsOpenFor, voted_for}
 use Rattle.dr_opening.specs.Tries.{IsChosenOf, content_at}
 use Rattle.dr_program.specs.Program.{Program}
@@ -30,6 +32,7 @@ use Rattle.dr_words.specs.Masks.{without}
 use Rattle.dr_yard.specs.Yards.{YardState}
 use Rattle.dr_ages.specs.declared.mode.Mode.{Mode}
 use Rattle.dr_ages.specs.declared.mode.Mode.TheVariants.{Sim, Run}
+use Rattle.dr_ages.specs.declared.part.Part.{Part}
 use Rattle.dr_ages.specs.Found.{AreFew, AreFound, NoneMissing}
 use Rattle.dr_ages.specs.Left.{HasLeft, IsFullAt}
 use Rattle.dr_ages.specs.Passing.{AreKeptSince, AreUntouched, PassOn}
@@ -38,18 +41,27 @@ use Rattle.dr_ages.specs.Passing.{AreKeptSince, AreUntouched, PassOn}
 abbrev pub taking_part : Script → ℕ → ℕ
 taking_part script missing = without (2 ^ script.members - 1) missing
 
--- the start that the end of an age tells
-abbrev pub start_of : Script → ℕ → AgeEnd → Start
-start_of script missing age = record {
+-- all take part but the missing, and nobody is late
+abbrev pub all_but : ℕ → Part
+all_but missing = record { missing = missing; late = 0 }
+
+-- somebody who takes part isn't late, where anybody takes part
+abbrev pub HaveSomebodyPrompt : Script → Part → Type 0
+HaveSomebodyPrompt script part = (m : ℕ) → m < script.members → has part.missing m ≡ false
+    → (k : ℕ) × (k < script.members) × (has part.missing k ≡ false) × (has part.late k ≡ false)
+
+-- the start that the end of an age tells: in its first view is who takes part and isn't late
+abbrev pub start_of : Script → Part → AgeEnd → Start
+start_of script part age = record {
   age = age.age;
-  members = taking_part script missing;
-  present = taking_part script missing;
+  members = without (taking_part script part.missing) part.late;
+  present = taking_part script part.missing;
   entries = age.start;
 }
 
 -- what the members of the age have begun with
-abbrev pub opening_of : Script → ℕ → AgeEnd → Opening
-opening_of script missing age = (group_of script (start_of script missing age)).opening
+abbrev pub opening_of : Script → Part → AgeEnd → Opening
+opening_of script part age = (group_of script (start_of script part age)).opening
 
 -- the age is that of the script's program, which begins from the start: a simulated one runs by the script's
 -- schedule, and one in threads by some list of deeds
@@ -63,66 +75,66 @@ abbrev pub over_of : (mode : Mode) (script : Script) (start : Start) (nth : ℕ)
 over_of Sim script start nth age is = is.over
 over_of Run script start nth age is = is.over
 
--- a member of a group of so many: it has as many banks for its views, and has cast no more votes than one by
--- the ballot of each member in each of them
-pub record IsMemberOf (members : ℕ) (r : Replica) : Type 0 where
-  pub roster : r.roster ≡ members
-  pub banks : r.banks ≡ members
-  pub few : length r.votes ≤ members * members
+-- a member of a group: it has as many banks for its views as the group, and has cast no more votes than one by the
+-- ballot of each member of the roster in each of them
+pub record IsMemberOf (g : Group) (r : Replica) : Type 0 where
+  pub few : length r.votes ≤ banks g * roster g
+  pub roster : r.roster ≡ roster g
+  pub banks : r.banks ≡ banks g
 
 -- this is age number nth of a run, from 0, over disks that were so before it and are so behind it, but for those
 -- of the missing
-pub record IsAgeOf (script : Script) (missing : ℕ) (mode : Mode) (nth : ℕ) (before after : YardState)
+pub record IsAgeOf (script : Script) (part : Part) (mode : Mode) (nth : ℕ) (before after : YardState)
     (age : AgeEnd) : Type 0 where
   -- it starts with what is chosen of what is found on the disks
   pub contents : List (Option OnLog)
-  pub found : AreFound script.members missing before contents
-  pub starts : IsChosenOf (first_group_of script).opening contents (start_of script missing age)
+  pub found : AreFound script.members part.missing before contents
+  pub starts : IsChosenOf (first_group_of script).opening contents (start_of script part age)
   -- each log gets the age vote, is cut back and brought up to the start
   pub begun : ℕ → OnLog
   pub begins : (m : ℕ) (c : OnLog) → content_at contents m ≡ Some c
-      → IsOpenFor (start_of script missing age) (voted_for (start_of script missing age) c) (begun m)
+      → IsOpenFor (start_of script part age) (voted_for (start_of script part age) c) (begun m)
   -- it is the run of the script's program from there on, and its members agree, and end as they should
   pub roster : length age.members ≡ script.members
-  pub run : IsPlayed mode script (start_of script missing age) nth age
-  pub agreed : EndsAgreed (opening_of script missing age) age.members
-  pub ended : HaveEnded (opening_of script missing age) script.turns (crashes_of script.faults nth) age.members
+  pub run : IsPlayed mode script (start_of script part age) nth age
+  pub agreed : EndsAgreed (opening_of script part age) age.members
+  pub ended : HaveEnded (opening_of script part age) script.turns (crashes_of script.faults nth) age.members
   pub trusting : SuspectsNobody script → NoneLeft age.members
-  pub complete : NoneMissing script.members missing → mode ≡ Sim → HasTime script → NoneStopped age.members
-      → AreComplete (opening_of script missing age) age.members
+  pub complete : NoneMissing script.members part.missing → IsNobodyLate (opening_of script part age) → mode ≡ Sim
+      → HasTime script → NoneStopped age.members → AreComplete (opening_of script part age) age.members
   -- exactly the missing are absent
   pub absent : (m : ℕ) (e : MemberEnd) → slice_get age.members m ≡ Some e
-      → (e.end ≡ Absent) ↔ (has missing m ≡ true)
+      → (e.end ≡ Absent) ↔ (has part.missing m ≡ true)
   -- its members have cast no more votes than they may
-  pub few : (m : ℕ) → AtMember (over_of mode script (start_of script missing age) nth age run) m
-      (λ r. IsMemberOf script.members r.replica)
+  pub few : (m : ℕ) → AtMember (over_of mode script (start_of script part age) nth age run) m
+      (λ r. IsMemberOf (group_of script (start_of script part age)) r.replica)
   -- each log begins with what every history of the age does
-  pub opened : (m : ℕ) (e : MemberEnd) → slice_get age.members m ≡ Some e → has missing m ≡ false
-      → IsPrefixOf (first_entries (opening_of script missing age)) (take e.logged e.history)
+  pub opened : (m : ℕ) (e : MemberEnd) → slice_get age.members m ≡ Some e → has part.missing m ≡ false
+      → IsPrefixOf (first_entries (opening_of script part age)) (take e.logged e.history)
   -- whatever a crash leaves of each disk is what its member may leave, behind what stood there as the age began
-  pub left : (m : ℕ) → AtMember (over_of mode script (start_of script missing age) nth age run) m
+  pub left : (m : ℕ) → AtMember (over_of mode script (start_of script part age) nth age run) m
       (λ r. HasLeft (after.told m) r.replica (begun m))
   -- who ends by its disk has one that failed, no call of another disk did, and who ends by a full log has one
   pub failed : (m : ℕ) (e : MemberEnd) → slice_get age.members m ≡ Some e → e.end ≡ DiskFault
       → Rose (before.faults m) (after.faults m)
   pub calm : (m : ℕ) → ((e : MemberEnd) → slice_get age.members m ≡ Some e → e.end ≢ DiskFault)
       → after.faults m ≡ before.faults m
-  pub full : (m : ℕ) → AtMember (over_of mode script (start_of script missing age) nth age run) m
+  pub full : (m : ℕ) → AtMember (over_of mode script (start_of script part age) nth age run) m
       (λ r. (len : ℕ) → r.replica.end ≡ Some (LogFull len) → IsFullAt r.replica (begun m) len)
   -- logs on which there is little but entries have room for all that an age may bring
   pub ample : ((m : ℕ) (c : OnLog) → content_at contents m ≡ Some c → AreFew c) → NoneFull age.members
   -- no disk has lost anything, nor would a crash have lost what was on one as the age mounted it, but for entries
   -- that the start lacks; and those of the missing are as they were
   pub passes : PassOn (age.start ∷ []) before after
-  pub since : AreKeptSince script.members missing script.members (age.start ∷ []) before after
-  pub untouched : AreUntouched missing before after
+  pub since : AreKeptSince script.members part.missing script.members (age.start ∷ []) before after
+  pub untouched : AreUntouched part.missing before after
 
 -- these ages came one after the other, the first of them as number nth of the run
-abbrev pub AreAges : Script → ℕ → Mode → ℕ → YardState → List AgeEnd → YardState → Type 0
-AreAges script missing mode nth before [] after = before ≡ after
-AreAges script missing mode nth before (age ∷ ages) after =
-    (between : YardState) × IsAgeOf script missing mode nth before between age
-    × AreAges script missing mode (nth + 1) between ages after
+abbrev pub AreAges : Script → Part → Mode → ℕ → YardState → List AgeEnd → YardState → Type 0
+AreAges script part mode nth before [] after = before ≡ after
+AreAges script part mode nth before (age ∷ ages) after =
+    (between : YardState) × IsAgeOf script part mode nth before between age
+    × AreAges script part mode (nth + 1) between ages after
 
 -- the entries of their starts
 abbrev pub starts_of : List AgeEnd → List (List Entry)

@@ -15,6 +15,7 @@ use Rattle.dr_age.specs.Logged.{NoneFull}
 use Rattle.dr_logged.specs.Served.{AtMember}
 use Rattle.dr_yard.specs.Yards.{AllTell, AreEmpty, YardState}
 use Rattle.dr_ages.specs.declared.mode.Mode.{Mode}
+use Rattle.dr_ages.specs.declared.part.Part.{Part}
 use Rattle.dr_ages.specs.declared.stop.Stop.{Stop}
 use Rattle.dr_ages.specs.declared.stop.Stop.TheVariants.{OutOfMemory, AgesUsedUp}
 use Rattle.dr_ages.specs.Ages.{AreAges, IsAgeOf, opening_of, over_of, start_of, starts_of}
@@ -26,9 +27,9 @@ use Rattle.dr_ages.specs.Refused.{IsRefusal}
 use Rattle.dr_ages.specs.Stops.{AreChosenIn, HasMounted, HasStopped, IsBadLogs, IsOfLogs, IsOutside, NamesFaults}
 
 -- each age keeps the one before it, and begins with all that a member of any earlier one knew to be durable
-pub record AreKept (script : Script) (missing : ℕ) (ages : List AgeEnd) : Type 0 where
+pub record AreKept (script : Script) (part : Part) (ages : List AgeEnd) : Type 0 where
   pub next : (i : ℕ) (a b : AgeEnd) → slice_get ages i ≡ Some a → slice_get ages (i + 1) ≡ Some b
-      → Kept (opening_of script missing a) (accounts_of a.members) (opening_of script missing b)
+      → Kept (opening_of script part a) (accounts_of a.members) (opening_of script part b)
   pub ever : (i j m : ℕ) (a b : AgeEnd) (e : MemberEnd) → i < j → slice_get ages i ≡ Some a
       → slice_get ages j ≡ Some b → slice_get a.members m ≡ Some e
       → IsPrefixOf (take e.durable e.history) b.start
@@ -90,49 +91,49 @@ HaveLogged missing ages after = (earlier : List AgeEnd) (age : AgeEnd) (m : ℕ)
     → IsLeft (after.told m) (LosesNone (with_these (take e.logged e.history)))
 
 -- and has its votes: all that stood on the log of the member where this age, which ended over such disks, has ended
-abbrev pub HaveEndedWith : Script → ℕ → Mode → List AgeEnd → YardState → YardState → Type 0
-HaveEndedWith script missing mode ages last after = (earlier : List AgeEnd) (age : AgeEnd) (nth : ℕ)
+abbrev pub HaveEndedWith : Script → Part → Mode → List AgeEnd → YardState → YardState → Type 0
+HaveEndedWith script part mode ages last after = (earlier : List AgeEnd) (age : AgeEnd) (nth : ℕ)
     (before : YardState) → ages ≡ earlier ++ age ∷ []
-    → (is : IsAgeOf script missing mode nth before last age) → (m : ℕ)
-    → AtMember (over_of mode script (start_of script missing age) nth age is.run) m
+    → (is : IsAgeOf script part mode nth before last age) → (m : ℕ)
+    → AtMember (over_of mode script (start_of script part age) nth age is.run) m
     (λ r. IsLeft (after.told m) (LosesNone (with_logged (is.begun m) r.replica)))
 
 -- so many ages ran as the script asks for, or fewer, and this is why the next one was not opened, by which no
 -- disk has lost anything but entries that the start lacks which was chosen then, if one was, and only the one that
 -- is named has failed
-abbrev pub HasFinished : Script → ℕ → YardState → YardState → List (List Entry) → List AgeEnd → Option Stop
+abbrev pub HasFinished : Script → Part → YardState → YardState → List (List Entry) → List AgeEnd → Option Stop
     → Type 0
-HasFinished script missing last after chosen ages None =
+HasFinished script part last after chosen ages None =
     (length ages ≡ script.ages) × (last ≡ after) × (chosen ≡ [])
-HasFinished script missing last after chosen ages (Some stop) =
-    (length ages < script.ages) × HasStopped script missing last after stop
-    × AreChosenIn script missing last chosen × PassOn chosen last after × NamesFaults stop last after
+HasFinished script part last after chosen ages (Some stop) =
+    (length ages < script.ages) × HasStopped script part last after stop
+    × AreChosenIn script part.missing last chosen × PassOn chosen last after × NamesFaults stop last after
 
 -- these are the ages of a run of the script in this mode, over disks that were so before it and are so behind
 -- it, but for those of the missing, and this is why it ended before its last age, if it did
-pub record IsRunOf (script : Script) (missing : ℕ) (mode : Mode) (before after : YardState) (ages : List AgeEnd)
+pub record IsRunOf (script : Script) (part : Part) (mode : Mode) (before after : YardState) (ages : List AgeEnd)
     (stop : Option Stop) : Type 0 where
   pub last : YardState
-  pub course : AreAges script missing mode 0 before ages last
+  pub course : AreAges script part mode 0 before ages last
   -- the entries of the start that was chosen of what was found behind the last age, where one was
   pub chosen : List (List Entry)
-  pub finish : HasFinished script missing last after chosen ages stop
+  pub finish : HasFinished script part last after chosen ages stop
   -- whatever ended it, no disk has lost anything but entries that one of the starts lacks, and those of the missing
   -- are as they were
   pub passes : PassOn (starts_of ages ++ chosen) before after
-  pub untouched : AreUntouched missing before after
+  pub untouched : AreUntouched part.missing before after
   -- over disks that tell, nothing durable is ever lost, and what an age leaves is never refused
-  pub kept : AllTell script.members before → AreKept script missing ages
+  pub kept : AllTell script.members before → AreKept script part ages
   pub never : AllTell script.members before → ages ≢ [] → IfSome stop (λ s. IsBadLogs s → ⊥)
-  pub fresh : NoneMissing script.members missing → AreEmpty script.members before → IsFreshRun ages stop
+  pub fresh : NoneMissing script.members part.missing → AreEmpty script.members before → IsFreshRun ages stop
   -- what was found on the disks, and what was logged in the last age, is kept
-  pub since : IsKeptRun script missing (starts_of ages ++ chosen) before after ages stop
-  pub logged : AllTell script.members before → HaveLogged missing ages after
-  pub voted : AllTell script.members before → HaveEndedWith script missing mode ages last after
+  pub since : IsKeptRun script part.missing (starts_of ages ++ chosen) before after ages stop
+  pub logged : AllTell script.members before → HaveLogged part.missing ages after
+  pub voted : AllTell script.members before → HaveEndedWith script part mode ages last after
   -- and fit disks stay fit, where none is missing
-  pub fit : NoneMissing script.members missing → AreFit script before → IsFitRun script after stop
+  pub fit : NoneMissing script.members part.missing → AreFit script before → IsFitRun script after stop
   -- all their ages are opened, where the logs leave room for them, unless memory is wanting or a disk fails
-  pub roomy : NoneMissing script.members missing → AreFit script before → AreRoomy script before
+  pub roomy : NoneMissing script.members part.missing → AreFit script before → AreRoomy script before
       → IsRoomyRun ages stop
   -- and logs are refused for what is wrong with them, and for nothing else
-  pub refused : AllTell script.members before → IsRightlyRefused script missing before ages stop
+  pub refused : AllTell script.members before → IsRightlyRefused script part.missing before ages stop

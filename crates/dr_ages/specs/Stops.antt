@@ -16,7 +16,9 @@ use Rattle.dr_restart.specs.declared.start.Start.{Start}
 use Rattle.dr_restart.specs.Groups.{first_group_of}
 use Rattle.dr_restart.specs.Refusing.{IsRefusedFor, Refusal}
 use Rattle.dr_script.specs.declared.script.Script.{Script}
+use Rattle.dr_words.specs.Masks.{without}
 use Rattle.dr_yard.specs.Yards.{YardState}
+use Rattle.dr_ages.specs.declared.part.Part.{Part}
 use Rattle.dr_ages.specs.declared.stop.Stop.{Stop}
 use Rattle.dr_ages.specs.declared.stop.Stop.TheVariants.{OutOfMemory, DiskFault, LogFull, Damaged, Disagree, Foreign, NoQuorum, AgesUsedUp}
 use Rattle.dr_ages.specs.Found.{AreFound}
@@ -55,13 +57,14 @@ pub record AreOpenBelow (start : Start) (contents : List (Option OnLog)) (after 
 
 -- An append of the opening was refused to the log of a member, when `now` stood on it, and it was to come to
 -- `next`: in the first phase, or in the second.
-pub record IsStuckIn (script : Script) (missing : ℕ) (before after : YardState) (member : ℕ)
+pub record IsStuckIn (script : Script) (part : Part) (before after : YardState) (member : ℕ)
     (At : OnLog → OnLog → Type 0) : Type 0 where
   pub below : member < script.members
   pub contents : List (Option OnLog)
-  pub found : AreFound script.members missing before contents
+  pub found : AreFound script.members part.missing before contents
   pub start : Start
   pub chosen : IsChosenOf (first_group_of script).opening contents start
+  pub members : start.members ≡ without start.present part.late
   pub content : OnLog
   pub there : content_at contents member ≡ Some content
   pub now : OnLog
@@ -73,27 +76,27 @@ pub record IsStuckIn (script : Script) (missing : ℕ) (before after : YardState
 -- when the disk of a member failed: as it was to be mounted, when the logs of those below it had been, and
 -- the disks of those above it were as before; or as its log was to be brought to where the age begins. The disks
 -- that were mounted by then are kept since: those below it, or all.
-pub data FailedAt (script : Script) (missing : ℕ) (before after : YardState) (member : ℕ) : Type 0 where
-  in_mount : (contents : List (Option OnLog)) → AreFound member missing before contents
+pub data FailedAt (script : Script) (part : Part) (before after : YardState) (member : ℕ) : Type 0 where
+  in_mount : (contents : List (Option OnLog)) → AreFound member part.missing before contents
       → ((m : ℕ) → member < m → after.told m ≡ before.told m)
-      → AreKeptSince script.members missing member [] before after
-      → FailedAt script missing before after member
-  in_opening : (stuck : IsStuckIn script missing before after member (λ now next.
+      → AreKeptSince script.members part.missing member [] before after
+      → FailedAt script part before after member
+  in_opening : (stuck : IsStuckIn script part before after member (λ now next.
       IsLeft (after.told member) (λ image. StandFor image now ⊎ StandFor image next)))
-      → AreKeptSince script.members missing script.members (stuck.start.entries ∷ []) before after
-      → FailedAt script missing before after member
+      → AreKeptSince script.members part.missing script.members (stuck.start.entries ∷ []) before after
+      → FailedAt script part before after member
 
 -- the disk of a member that is not missing failed
-pub record HasFailed (script : Script) (missing : ℕ) (before after : YardState) (member : ℕ) : Type 0 where
+pub record HasFailed (script : Script) (part : Part) (before after : YardState) (member : ℕ) : Type 0 where
   pub below : member < script.members
-  pub there : has missing member ≡ false
+  pub there : has part.missing member ≡ false
   pub rose : Rose (before.faults member) (after.faults member)
-  pub at : FailedAt script missing before after member
+  pub at : FailedAt script part before after member
 
 -- The log of a member, of this length, would have been longer than a log may be with what was to be appended to
 -- it. It outlives a crash.
-abbrev pub IsTooFull : Script → ℕ → YardState → YardState → ℕ → ℕ → Type 0
-IsTooFull script missing before after member len = IsStuckIn script missing before after member (λ now next.
+abbrev pub IsTooFull : Script → Part → YardState → YardState → ℕ → ℕ → Type 0
+IsTooFull script part before after member len = IsStuckIn script part before after member (λ now next.
     (len ≡ now.length) × (2147483648 < next.length)
     × IsLeft (after.told member) (λ image. StandFor image now))
 
@@ -113,20 +116,20 @@ pub record HasDamaged (n missing : ℕ) (before after : YardState) (member at : 
   pub found : AreFound member missing before contents
 
 -- why the next age was not opened, over disks that were so before and are so now
-abbrev pub HasStopped : Script → ℕ → YardState → YardState → Stop → Type 0
-HasStopped script missing before after OutOfMemory = ⊤
-HasStopped script missing before after (DiskFault member) = HasFailed script missing before after member
-HasStopped script missing before after (LogFull member len) = IsTooFull script missing before after member len
-HasStopped script missing before after (Damaged member at) =
-    HasDamaged script.members missing before after member at
-HasStopped script missing before after (Disagree a b place) =
-    AreFoundSo script missing before (AreRefusedFor script (Refusal.Disagree a b place))
-HasStopped script missing before after (Foreign member place) =
-    AreFoundSo script missing before (AreRefusedFor script (Refusal.Foreign member place))
-HasStopped script missing before after (NoQuorum view have need) =
-    AreFoundSo script missing before (AreRefusedFor script (Refusal.NoQuorum view have need))
-HasStopped script missing before after AgesUsedUp =
-    AreFoundSo script missing before (AreRefusedFor script Refusal.AgesUsedUp)
+abbrev pub HasStopped : Script → Part → YardState → YardState → Stop → Type 0
+HasStopped script part before after OutOfMemory = ⊤
+HasStopped script part before after (DiskFault member) = HasFailed script part before after member
+HasStopped script part before after (LogFull member len) = IsTooFull script part before after member len
+HasStopped script part before after (Damaged member at) =
+    HasDamaged script.members part.missing before after member at
+HasStopped script part before after (Disagree a b place) =
+    AreFoundSo script part.missing before (AreRefusedFor script (Refusal.Disagree a b place))
+HasStopped script part before after (Foreign member place) =
+    AreFoundSo script part.missing before (AreRefusedFor script (Refusal.Foreign member place))
+HasStopped script part before after (NoQuorum view have need) =
+    AreFoundSo script part.missing before (AreRefusedFor script (Refusal.NoQuorum view have need))
+HasStopped script part before after AgesUsedUp =
+    AreFoundSo script part.missing before (AreRefusedFor script Refusal.AgesUsedUp)
 
 -- which disks' calls failed in an opening that stopped so: that of the member which the stop names, and no
 -- other. Nothing is said where memory was wanting.

@@ -6,6 +6,7 @@ use Rattle.dr_restart.specs.declared.start.Start.{Start}
 use Rattle.dr_script.specs.declared.script.Script.{Script}
 use Rattle.dr_sim.specs.Watched.{IsWatched}
 use Rattle.dr_ages.specs.declared.mode.Mode.{Mode}
+use Rattle.dr_ages.specs.declared.part.Part.{Part}
 use Rattle.dr_ages.specs.declared.mode.Mode.TheVariants.{Sim, Run}
 use Rattle.dr_ages.specs.Ages.{start_of}
 
@@ -18,8 +19,8 @@ HasSeen opens sees closes Run script start nth old new age = new ≡ old
 
 -- so it was of each of these ages in turn, the first of which is number nth of the run
 abbrev pub AreWatched : {W : Type 0} → (W → Start → W → Type 0) → (W → Running → List ℕ → W → Type 0)
-    → (W → List (Option Running) → List ℕ → W → Type 0) → Mode → Script → ℕ → ℕ → List AgeEnd → W → W → Type 0
-AreWatched opens sees closes mode script missing nth [] old new = new ≡ old
-AreWatched {W} opens sees closes mode script missing nth (age ∷ ages) old new =
-    (next : W) × HasSeen opens sees closes mode script (start_of script missing age) nth old next age
-    × AreWatched opens sees closes mode script missing (nth + 1) ages next new
+    → (W → List (Option Running) → List ℕ → W → Type 0) → Mode → Script → Part → ℕ → List AgeEnd → W → W → Type 0
+AreWatched opens sees closes mode script part nth [] old new = new ≡ old
+AreWatched {W} opens sees closes mode script part nth (age ∷ ages) old new =
+    (next : W) × HasSeen opens sees closes mode script (start_of script part age) nth old next age
+    × AreWatched opens sees closes mode script part (nth + 1) ages next new

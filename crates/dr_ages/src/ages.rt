@@ -4,6 +4,7 @@ ghost use Rattle.dr_age.specs.Logged.{AreAmple, AreOpened, HaveCome, NoneFull, N
 ghost use Rattle.dr_complete.specs.Time.{HasTime};
 ghost use Rattle.dr_entry.specs.declared.limits.TheConstants.{MAX_MEMBERS};
 ghost use Rattle.dr_history.specs.Agreement.{EndsAgreed};
+ghost use Rattle.dr_history.specs.Soundness.{IsNobodyLate};
 ghost use Rattle.dr_log.specs.State.{LogState};
 ghost use Rattle.dr_logged.specs.Served.{HaveSamePlaces};
 ghost use Rattle.dr_machine.specs.Group.{AllPresent, IsGroup};
@@ -14,7 +15,7 @@ ghost use Rattle.dr_restart.specs.Groups.{group_of};
 ghost use Rattle.dr_restart.specs.Setups.{crashes_of};
 ghost use Rattle.dr_script.specs.Ranges.{HasRanges};
 ghost use Rattle.dr_yard.specs.Yards.{YardState, state_by};
-ghost use Rattle.dr_ages.specs.Ages.{IsAgeOf, IsPlayed, over_of, start_of};
+ghost use Rattle.dr_ages.specs.Ages.{IsAgeOf, IsPlayed, HaveSomebodyPrompt, over_of, start_of};
 ghost use Rattle.dr_ages.specs.Fit.{AreFit};
 ghost use Rattle.dr_ages.specs.Found.{NoneMissing};
 ghost use Rattle.dr_ages.specs.Lent.{AreAllBut, AreMounted, with_logs};
@@ -22,7 +23,7 @@ ghost use Rattle.dr_ages.specs.Opened.{AreLater, HaveGoneOn};
 ghost use Rattle.dr_ages.specs.Runs.{IsRunOf};
 ghost use Rattle.dr_ages.specs.Stops.{HasKept, HasStopped, IsBehindMounts, NamesFaults};
 ghost use Rattle.dr_ages.specs.Watched.{AreWatched, HasSeen};
-ghost use Rattle.dr_ages.specs.declared.mode.Mode.TheVariants.{Sim};
+ghost use Rattle.dr_ages.specs.declared.mode.Mode.TheVariants.{Run, Sim};
 ghost use Rattle.dr_ages.specs.declared.stop.Stop.TheVariants as stops;
 
 use crate::lending::{give_all_back, mount_all};
@@ -68,10 +69,13 @@ pub fn run_ages<R: Threads + Sync, Y: Yard, P: Pace + Sync>(
     pace: &P,
 ) -> AgesEnd
     requires ranges { HasRanges script.now }
+    requires some { HaveSomebodyPrompt script.now part.now }
+    // So far nobody joins in threads.
+    requires prompt { mode ≡ Run → part.now.late ≡ 0 }
     requires here { (m : ℕ) → m < MAX_MEMBERS → Y.is_lent yard.old m ≡ false }
     ensures here { (m : ℕ) → m < MAX_MEMBERS → Y.is_lent yard.new m ≡ false }
     // How the disks were, and are, tells which ages ran, and why no further one did.
-    ensures run { IsRunOf script.now part.now.missing mode (state_by Y.told Y.faults yard.old)
+    ensures run { IsRunOf script.now part.now mode (state_by Y.told Y.faults yard.old)
         (state_by Y.told Y.faults yard.new) result.ages result.stop }
 {
     watch_ages(
@@ -101,11 +105,14 @@ pub fn watch_ages<R: Threads + Sync, Y: Yard, P: Pace + Sync, W: Watcher>(
     watcher: &mut W,
 ) -> AgesEnd
     requires ranges { HasRanges script.now }
+    requires some { HaveSomebodyPrompt script.now part.now }
+    // So far nobody joins in threads.
+    requires prompt { mode ≡ Run → part.now.late ≡ 0 }
     requires here { (m : ℕ) → m < MAX_MEMBERS → Y.is_lent yard.old m ≡ false }
     ensures here { (m : ℕ) → m < MAX_MEMBERS → Y.is_lent yard.new m ≡ false }
-    ensures run { IsRunOf script.now part.now.missing mode (state_by Y.told Y.faults yard.old)
+    ensures run { IsRunOf script.now part.now mode (state_by Y.told Y.faults yard.old)
         (state_by Y.told Y.faults yard.new) result.ages result.stop }
-    ensures watched { AreWatched W.opens W.sees W.closes mode script.now part.now.missing 0 result.ages
+    ensures watched { AreWatched W.opens W.sees W.closes mode script.now part.now 0 result.ages
         watcher.old watcher.new }
 {
     let Ok(mut ages) = Vec::with_capacity(alloc, usize::from(script.ages)) else {
@@ -148,11 +155,14 @@ fn run_age<R: Threads + Sync, Y: Yard, P: Pace + Sync, W: Watcher>(
     watcher: &mut W,
 ) -> Result<AgeEnd, Stop>
     requires ranges { HasRanges script.now }
+    requires some { HaveSomebodyPrompt script.now part.now }
+    // So far nobody joins in threads.
+    requires prompt { mode ≡ Run → part.now.late ≡ 0 }
     requires here { (m : ℕ) → m < MAX_MEMBERS → Y.is_lent yard.old m ≡ false }
     ensures here { (m : ℕ) → m < MAX_MEMBERS → Y.is_lent yard.new m ≡ false }
-    ensures age { IfOk result (IsAgeOf script.now part.now.missing mode nth
+    ensures age { IfOk result (IsAgeOf script.now part.now mode nth
         (state_by Y.told Y.faults yard.old) (state_by Y.told Y.faults yard.new)) }
-    ensures stopped { IfErr result (HasStopped script.now part.now.missing
+    ensures stopped { IfErr result (HasStopped script.now part.now
         (state_by Y.told Y.faults yard.old) (state_by Y.told Y.faults yard.new)) }
     ensures kept { IfErr result (HasKept script.now part.now.missing (state_by Y.told Y.faults yard.old)
         (state_by Y.told Y.faults yard.new)) }
@@ -163,14 +173,14 @@ fn run_age<R: Threads + Sync, Y: Yard, P: Pace + Sync, W: Watcher>(
     ensures names { IfErr result (λ stop. NamesFaults stop (state_by Y.told Y.faults yard.old)
         (state_by Y.told Y.faults yard.new)) }
     ensures watched { IfOk result (λ age. HasSeen W.opens W.sees W.closes mode script.now
-        (start_of script.now part.now.missing age) nth watcher.old watcher.new age) }
+        (start_of script.now part.now age) nth watcher.old watcher.new age) }
     ensures untold { OnErr result (watcher.new ≡ watcher.old) }
 {
     let Ok(mut logs) = Vec::with_capacity(alloc, usize::from(script.members)) else {
         return Err(Stop::OutOfMemory);
     };
     let (ended, logs) = match mount_all(alloc, folder, yard, part, script.members, &mut logs) {
-        Ok(()) => run_over(rt, alloc, script, mode, nth, logs, pace, watcher),
+        Ok(()) => run_over(rt, alloc, script, part, mode, nth, logs, pace, watcher),
         Err(stop) => (Err(stop), logs),
     };
     give_all_back(yard, logs);
@@ -182,6 +192,7 @@ fn run_over<R: Threads + Sync, D: Disk, P: Pace + Sync, W: Watcher>(
     rt: &R,
     alloc: Global,
     script: &Script,
+    part: &Part,
     mode: Mode,
     nth: u8,
     mut logs: Vec<Option<Log<D>>>,
@@ -190,14 +201,15 @@ fn run_over<R: Threads + Sync, D: Disk, P: Pace + Sync, W: Watcher>(
 ) -> (Result<AgeEnd, Stop>, Vec<Option<Log<D>>>)
     requires ranges { HasRanges script.now }
     requires all { length logs.items ≡ script.now.members }
+    requires places { AreAllBut part.now.missing logs.items }
+    requires some { HaveSomebodyPrompt script.now part.now }
+    requires prompt { mode ≡ Run → part.now.late ≡ 0 }
     requires whole { (m : ℕ) (log : LogState D) → log_of logs.items m ≡ Some log → log.failed ≡ false }
     // Over any yard from whose disks these logs were mounted.
-    ensures age { IfOk result.0 (λ age. (before : YardState) (missing : ℕ)
-        → AreMounted D.told D.faults before logs.items → AreAllBut missing logs.items
-        → IsAgeOf script.now missing mode nth before (with_logs D.told D.faults before result.1.items) age) }
-    ensures stopped { IfErr result.0 (λ stop. (before : YardState) (missing : ℕ)
-        → AreMounted D.told D.faults before logs.items → AreAllBut missing logs.items
-        → HasStopped script.now missing before (with_logs D.told D.faults before result.1.items) stop) }
+    ensures age { IfOk result.0 (λ age. (before : YardState) → AreMounted D.told D.faults before logs.items
+        → IsAgeOf script.now part.now mode nth before (with_logs D.told D.faults before result.1.items) age) }
+    ensures stopped { IfErr result.0 (λ stop. (before : YardState) → AreMounted D.told D.faults before logs.items
+        → HasStopped script.now part.now before (with_logs D.told D.faults before result.1.items) stop) }
     ensures fit { IfErr result.0 (λ stop. (before : YardState) → AreMounted D.told D.faults before logs.items
         → stop ≢ stops.OutOfMemory → AreAllBut 0 logs.items → AreFit script.now before
         → AreFit script.now (with_logs D.told D.faults before result.1.items)) }
@@ -208,12 +220,11 @@ fn run_over<R: Threads + Sync, D: Disk, P: Pace + Sync, W: Watcher>(
     ensures later { HaveGoneOn D.told D.faults script.now (contents_of logs.items) logs.items
         result.1.items }
     ensures places { HaveSamePlaces logs.items result.1.items }
-    ensures watched { IfOk result.0 (λ age. (missing : ℕ) → AreAllBut missing logs.items
-        → HasSeen W.opens W.sees W.closes mode script.now (start_of script.now missing age) nth
-        watcher.old watcher.new age) }
+    ensures watched { IfOk result.0 (λ age. HasSeen W.opens W.sees W.closes mode script.now
+        (start_of script.now part.now age) nth watcher.old watcher.new age) }
     ensures untold { OnErr result.0 (watcher.new ≡ watcher.old) }
 {
-    let start = match open_age(alloc, script, logs.as_mut_slice()) {
+    let start = match open_age(alloc, script, part.late, logs.as_mut_slice()) {
         Ok(start) => start,
         Err(why) => return (Err(Stop::of_unopened(why)), logs),
     };
@@ -238,6 +249,7 @@ fn play_age<R: Threads + Sync, D: Disk, P: Pace + Sync, W: Watcher>(
 ) -> (Result<AgeEnd, AllocError>, Vec<Option<Log<D>>>)
     requires ranges { HasRanges script.now }
     requires group { IsGroup (group_of script.now start.now) }
+    requires prompt { mode ≡ Run → IsNobodyLate (group_of script.now start.now).opening }
     requires logs { AreOpened (group_of script.now start.now) logs.items }
     ensures run { IfOk result.0 (λ age. (is : IsPlayed mode script.now start.now nth age)
         × HaveCome D.told D.faults logs.items result.1.items
@@ -247,8 +259,8 @@ fn play_age<R: Threads + Sync, D: Disk, P: Pace + Sync, W: Watcher>(
     ensures ended { IfOk result.0 (λ age. HaveEnded (group_of script.now start.now).opening
         script.now.turns (crashes_of script.now.faults nth) age.members) }
     ensures trusting { IfOk result.0 (λ age. SuspectsNobody script.now → NoneLeft age.members) }
-    ensures complete { IfOk result.0 (λ age. AllPresent (group_of script.now start.now) → mode ≡ Sim
-        → HasTime script.now → NoneStopped age.members
+    ensures complete { IfOk result.0 (λ age. AllPresent (group_of script.now start.now)
+        → IsNobodyLate (group_of script.now start.now).opening → mode ≡ Sim → HasTime script.now → NoneStopped age.members
         → AreComplete (group_of script.now start.now).opening age.members) }
     ensures ample { IfOk result.0 (λ age. AreAmple (group_of script.now start.now) logs.items
         → NoneFull age.members) }

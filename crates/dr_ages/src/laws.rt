@@ -8,6 +8,7 @@ ghost use Rattle.dr_entry.specs.declared.end.AgeEnd.{AgeEnd};
 ghost use Rattle.dr_entry.specs.declared.end.MemberEnd.{MemberEnd};
 ghost use Rattle.dr_history.specs.History.{IsPrefixOf};
 ghost use Rattle.dr_history.specs.Members.{has};
+ghost use Rattle.dr_history.specs.Soundness.{IsNobodyLate};
 ghost use Rattle.dr_log_bytes.specs.Content.{OnLog};
 ghost use Rattle.dr_machine.specs.Group.{AllPresent, IsGroup};
 ghost use Rattle.dr_opening.specs.Tries.{content_at};
@@ -19,6 +20,7 @@ ghost use Rattle.dr_script.specs.Ranges.{HasRanges};
 ghost use Rattle.dr_sim.specs.Simulated.{IsSimulated};
 ghost use Rattle.dr_yard.specs.Yards.{YardState};
 ghost use Rattle.dr_ages.specs.declared.mode.Mode.{Mode};
+ghost use Rattle.dr_ages.specs.declared.part.Part.{Part};
 ghost use Rattle.dr_ages.specs.declared.stop.Stop.{Stop};
 ghost use Rattle.dr_ages.specs.Ages.{IsAgeOf};
 ghost use Rattle.dr_ages.specs.Crashed.{HaveCrashed};
@@ -26,11 +28,12 @@ ghost use Rattle.dr_ages.specs.Fit.{AreFit};
 ghost use Rattle.dr_ages.specs.Found.{NoneMissing};
 ghost use Rattle.dr_ages.specs.Runs.{IsRunOf};
 
-/// In a simulated age of a script that gives its members time enough, from which nobody is absent, and of which no
-/// log failed, all members are complete.
+/// In a simulated age of a script that gives its members time enough, from which nobody is absent, in which nobody
+/// is late, and of which no log failed, all members are complete.
 pub fn timely_ages_complete()
     ensures { (script : Script) (start : Start) (nth : ℕ) (age : AgeEnd) → IsGroup (group_of script start)
-        → AllPresent (group_of script start) → HasRanges script → IsSimulated script start nth age → HasTime script → NoneStopped age.members
+        → AllPresent (group_of script start) → IsNobodyLate (group_of script start).opening → HasRanges script
+        → IsSimulated script start nth age → HasTime script → NoneStopped age.members
         → AreComplete (group_of script start).opening age.members }
 {}
 
@@ -47,20 +50,20 @@ pub fn fit_disks_outlive_crashes()
 /// A run over disks that a crash has left, behind another run of the script that has left them fit, begins with all
 /// that any member had logged in the last age of that one, where its log is missing in neither.
 pub fn runs_outlive_crashes()
-    ensures { (script : Script) (missing lacking : ℕ) (mode other : Mode) (before mid after end : YardState)
+    ensures { (script : Script) (part apart : Part) (mode other : Mode) (before mid after end : YardState)
         (earlier ages : List AgeEnd) (age next : AgeEnd) (stop ends : Option Stop) (m : ℕ) (e : MemberEnd)
-        → IsRunOf script missing mode before mid (earlier ++ age ∷ []) stop
-        → slice_get age.members m ≡ Some e → m < script.members → has missing m ≡ false
-        → has lacking m ≡ false → AreFit script mid → HaveCrashed script.members mid after
-        → IsRunOf script lacking other after end (next ∷ ages) ends
+        → IsRunOf script part mode before mid (earlier ++ age ∷ []) stop
+        → slice_get age.members m ≡ Some e → m < script.members → has part.missing m ≡ false
+        → has apart.missing m ≡ false → AreFit script mid → HaveCrashed script.members mid after
+        → IsRunOf script apart other after end (next ∷ ages) ends
         → IsPrefixOf (take e.logged e.history) next.start }
 {}
 
 /// Over fit disks of which none is missing an age starts with all that is on the logs: each is a front of its
 /// start.
 pub fn fit_ages_start_with_all()
-    ensures { (script : Script) (missing : ℕ) (mode : Mode) (nth : ℕ) (before after : YardState) (age : AgeEnd)
-        (m : ℕ) (c : OnLog) → HasRanges script → NoneMissing script.members missing → AreFit script before
-        → (is : IsAgeOf script missing mode nth before after age) → content_at is.contents m ≡ Some c
+    ensures { (script : Script) (part : Part) (mode : Mode) (nth : ℕ) (before after : YardState) (age : AgeEnd)
+        (m : ℕ) (c : OnLog) → HasRanges script → NoneMissing script.members part.missing → AreFit script before
+        → (is : IsAgeOf script part mode nth before after age) → content_at is.contents m ≡ Some c
         → IsPrefixOf c.entries age.start }
 {}

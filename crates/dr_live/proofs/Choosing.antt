@@ -11,7 +11,7 @@ use Rattle.dr_history.specs.Restarting.{AllStand}
 use Rattle.dr_kept.proofs.Following.{among_lists, handed_there, lists_with}
 use Rattle.dr_log_bytes.specs.Content.{OnLog}
 use Rattle.dr_opening.proofs.Lists.{handed_is}
-use Rattle.dr_opening.specs.Lists.{all_as_lists, as_lists}
+use Rattle.dr_opening.specs.Lists.{all_as_lists}
 use Rattle.dr_opening.specs.Tries.{IsChosenOf}
 use Rattle.dr_quorum.specs.Handing.{handed_by}
 use Rattle.dr_restart.specs.declared.lists.LogLists.{LogLists}
@@ -67,8 +67,9 @@ chosen_before plan old new yard contents start same good found is = record {
         (first_group_of (plan_with plan new)).opening h start.entries same is.chosen.entries;
     age = is.chosen.age;
     left = is.chosen.left;
-    members = subst (λ (n : ℕ). start.members ≡ handed_of h (2 ^ n - 1)) same is.chosen.members;
-    present = is.chosen.present;
+    present = subst (λ (n : ℕ). start.present ≡ handed_of h (2 ^ n - 1)) same is.chosen.present;
+    members = is.chosen.members;
+    some = is.chosen.some;
   };
 }
   where

@@ -1,5 +1,5 @@
 -- The ages of a live group, from the first on.
-use Rattle.std.proofs.Common.{◌≡◌, refl, sym, ap, ◌∙◌, subst, ℕ, zero, suc, ◌+◌, ◌-◌, ◌^◌, ◌<◌, ◌≤◌, arith, le_trans, le_refl, List, [], ◌∷◌, ◌++◌, length, Some, slice_get}
+use Rattle.std.proofs.Common.{◌≡◌, refl, sym, ap, ◌∙◌, subst, ℕ, zero, suc, ◌+◌, ◌<◌, ◌≤◌, arith, le_trans, le_refl, List, [], ◌∷◌, ◌++◌, length, Some, slice_get}
 use Rattle.std.specs.Prelude.{All, None, Option}
 use Rattle.std.proofs.Math.Path.{fun_ext}
 use Rattle.std.proofs.lemmas.List.Elements.{All-append, All-cons, All-head, All-nil, All-tail}
@@ -7,7 +7,7 @@ use Rattle.std.proofs.lemmas.Option.{same_Some}
 use Rattle.dr_age.specs.Logged.{NoneFull}
 use Rattle.dr_ages.proofs.Fresh.{IsRoomyAt, fresh_first, fresh_start, roomy_ages, roomy_next, roomy_stop}
 use Rattle.dr_ages.proofs.Keeping.{IsBehind, behind, left_from, of_choice, over_behind}
-use Rattle.dr_ages.specs.Ages.{AreAges, IsAgeOf, opening_of, start_of}
+use Rattle.dr_ages.specs.Ages.{AreAges, IsAgeOf, all_but, opening_of, start_of}
 use Rattle.dr_ages.specs.Found.{NoneMissing}
 use Rattle.dr_ages.specs.Runs.{HasFinished, IsRunOf}
 use Rattle.dr_ages.specs.Stops.{HasStopped, IsOutside}
@@ -68,11 +68,11 @@ empty_rooms plan taken lists at = fresh_first (plan_with plan lists) empty_yard 
 -- and those behind one more age
 room_next : (plan : Script) (lists : Lists) (taken : List Lists) (k : ℕ) (before after : YardState)
     (age : AgeEnd) → HasRanges (plan_with plan lists) → AreGrowing (lists ∷ taken)
-    → HaveRoom plan (lists ∷ taken) k before → IsAgeOf (plan_with plan lists) 0 Run 0 before after age
+    → HaveRoom plan (lists ∷ taken) k before → IsAgeOf (plan_with plan lists) (all_but 0) Run 0 before after age
     → HaveRoom plan taken (k + 1) after
 room_next plan lists taken k before after age ranges growing room is next at =
     roomy_grown plan lists next (k + 1) after (growing 0 lists next refl at)
-    (roomy_next (plan_with plan lists) 0 Run 9 0 k 0 before after age ranges (none_lacks plan.members)
+    (roomy_next (plan_with plan lists) (all_but 0) Run 9 0 k 0 before after age ranges (none_lacks plan.members)
     (room lists refl) is)
 
 -- no fault goes
@@ -99,7 +99,7 @@ as_many plan (lists ∷ taken) (age ∷ ages) start after are =
 pub record IsLiveAge (plan : Script) (k : ℕ) (lists : Lists) (last : YardState) (age : AgeEnd) : Type 0 where
   pub before : YardState
   pub after : YardState
-  pub is : IsAgeOf (plan_with plan lists) 0 Run 0 before after age
+  pub is : IsAgeOf (plan_with plan lists) (all_but 0) Run 0 before after age
   pub roomy : IsRoomyAt (plan_with plan lists) 9 0 k before
   pub later : (m : ℕ) → after.faults m ≤ last.faults m
 
@@ -162,7 +162,7 @@ opens_always plan lists ages yard ready ranges one few after run stop calm is =
     roomy = room_on plan ready.taken ages empty_yard yard 0 lists ready.way.ranges ready.growing
         (empty_rooms plan (ready.taken ++ lists ∷ [])) ready.way.course
 
-    outside : (s : Stop) → IsOutside s → HasStopped (plan_with plan lists) 0 yard after s → s ≡ OutOfMemory
+    outside : (s : Stop) → IsOutside s → HasStopped (plan_with plan lists) (all_but 0) yard after s → s ≡ OutOfMemory
     outside OutOfMemory out stopped = refl
     outside (DiskFault m) out stopped = absurd (omega (arith, stopped.rose, calm m, ready.way.calm m))
     outside (LogFull m len) out stopped = absurd out
@@ -173,21 +173,22 @@ opens_always plan lists ages yard ready ranges one few after run stop calm is =
     outside AgesUsedUp out stopped = absurd out
 
     by : (ran : List AgeEnd)
-        → AreAges (plan_with plan lists) 0 Run 0 yard ran is.last
-        → HasFinished (plan_with plan lists) 0 is.last after is.chosen ran (Some stop) → stop ≡ OutOfMemory
+        → AreAges (plan_with plan lists) (all_but 0) Run 0 yard ran is.last
+        → HasFinished (plan_with plan lists) (all_but 0) is.last after is.chosen ran (Some stop) → stop ≡ OutOfMemory
     by [] are end =
-        let stopped = subst (λ (y : YardState). HasStopped (plan_with plan lists) 0 y after stop) (sym are) end.1 in
+        let script = plan_with plan lists in
+        let stopped = subst (λ (y : YardState). HasStopped script (all_but 0) y after stop) (sym are) end.1 in
         outside stop
-        (roomy_stop (plan_with plan lists) 0 9 0 (0 + length ages) yard after stop ranges (none_lacks plan.members)
+        (roomy_stop script (all_but 0) 9 0 (0 + length ages) yard after stop ranges (none_lacks plan.members)
         (omega arith) (omega (arith, few)) (omega (arith, few)) roomy stopped) stopped
     by (age ∷ more) are end = absurd (omega (arith, end.0, one))
 
 live_more : (plan : Script) (taken : List Lists) (ages : List AgeEnd) (start mid after : YardState)
     (lists : Lists) (age : AgeEnd) → AreLiveAges plan start taken ages mid
-    → IsAgeOf (plan_with plan lists) 0 Run 0 mid after age
+    → IsAgeOf (plan_with plan lists) (all_but 0) Run 0 mid after age
     → AreLiveAges plan start (taken ++ lists ∷ []) (ages ++ age ∷ []) after
 live_more plan [] [] start mid after lists age are is =
-    (after, subst (λ (y : YardState). IsAgeOf (plan_with plan lists) 0 Run 0 y after age) (sym are) is, refl)
+    (after, subst (λ (y : YardState). IsAgeOf (plan_with plan lists) (all_but 0) Run 0 y after age) (sym are) is, refl)
 live_more plan [] (a ∷ ages) start mid after lists age are is = absurd are
 live_more plan (l ∷ taken) [] start mid after lists age are is = absurd are
 live_more plan (l ∷ taken) (a ∷ ages) start mid after lists age are is =
@@ -195,7 +196,7 @@ live_more plan (l ∷ taken) (a ∷ ages) start mid after lists age are is =
 
 pub up_to_next : (plan : Script) (lists : Lists) (ages : List AgeEnd) (mid after : YardState) (age : AgeEnd)
     → AreReadyFor plan lists ages mid → HasRanges (plan_with plan lists)
-    → IsAgeOf (plan_with plan lists) 0 Run 0 mid after age → ((m : ℕ) → after.faults m ≡ 0)
+    → IsAgeOf (plan_with plan lists) (all_but 0) Run 0 mid after age → ((m : ℕ) → after.faults m ≡ 0)
     → AreUpTo plan lists (ages ++ age ∷ []) after
 up_to_next plan lists ages mid after age ready ranges is calm = record {
   taken = ready.taken;
@@ -219,14 +220,15 @@ first_age plan (lists ∷ taken) [] last age way few at = absurd (cc)
 first_age plan (lists ∷ taken) (a ∷ ages) last age way few at =
     subst BeginsAnew (same_Some a age at) (record {
       number = omega (arith, number.0);
-      start = fresh_start (plan_with plan lists) 0 Run 0 empty_yard (a ∷ []) way.course.0 a (λ m l. refl) one refl;
+      start = fresh_start (plan_with plan lists) (all_but 0) Run 0 empty_yard (a ∷ []) way.course.0 a (λ m l. refl)
+          one refl;
     })
   where
-    one : AreAges (plan_with plan lists) 0 Run 0 empty_yard (a ∷ []) way.course.0
+    one : AreAges (plan_with plan lists) (all_but 0) Run 0 empty_yard (a ∷ []) way.course.0
     one = (way.course.0, way.course.1, refl)
 
     number : (a.age ≡ 0 + 0 + 0) × NoneFull a.members
-    number = roomy_ages (plan_with plan lists) 0 Run 9 0 0 0 empty_yard (a ∷ []) way.course.0 0 a
+    number = roomy_ages (plan_with plan lists) (all_but 0) Run 9 0 0 0 empty_yard (a ∷ []) way.course.0 0 a
         (range_head plan lists taken way.ranges) (none_lacks plan.members) (omega arith) (omega arith)
         (empty_rooms plan (lists ∷ taken) lists refl) one refl
 
@@ -237,8 +239,8 @@ pub record AreLivePair (plan : Script) (old new : Lists) (a b : AgeEnd) : Type 0
   pub before : YardState
   pub mid : YardState
   pub after : YardState
-  pub first : IsAgeOf (plan_with plan old) 0 Run 0 before mid a
-  pub second : IsAgeOf (plan_with plan new) 0 Run 0 mid after b
+  pub first : IsAgeOf (plan_with plan old) (all_but 0) Run 0 before mid a
+  pub second : IsAgeOf (plan_with plan new) (all_but 0) Run 0 mid after b
   pub number : ℕ
   pub roomy : IsRoomyAt (plan_with plan old) 9 0 number mid
 
@@ -257,13 +259,14 @@ pair_at plan (l ∷ m ∷ taken) (one ∷ two ∷ ages) start last k zero a b ol
       before = start;
       mid = are.0;
       after = are.2.0;
-      first = subst (λ (x : Lists). IsAgeOf (plan_with plan x) 0 Run 0 start are.0 a) (same_Some l old at_old)
-          (subst (IsAgeOf (plan_with plan l) 0 Run 0 start are.0) (same_Some one a at_a) are.1);
-      second = subst (λ (x : Lists). IsAgeOf (plan_with plan x) 0 Run 0 are.0 are.2.0 b) (same_Some m new at_new)
-          (subst (IsAgeOf (plan_with plan m) 0 Run 0 are.0 are.2.0) (same_Some two b at_b) are.2.1);
+      first = subst (λ (x : Lists). IsAgeOf (plan_with plan x) (all_but 0) Run 0 start are.0 a) (same_Some l old at_old)
+          (subst (IsAgeOf (plan_with plan l) (all_but 0) Run 0 start are.0) (same_Some one a at_a) are.1);
+      second = subst (λ (x : Lists). IsAgeOf (plan_with plan x) (all_but 0) Run 0 are.0 are.2.0 b)
+          (same_Some m new at_new)
+          (subst (IsAgeOf (plan_with plan m) (all_but 0) Run 0 are.0 are.2.0) (same_Some two b at_b) are.2.1);
       number = k + 1;
       roomy = subst (λ (x : Lists). IsRoomyAt (plan_with plan x) 9 0 (k + 1) are.0) (same_Some l old at_old)
-          (roomy_next (plan_with plan l) 0 Run 9 0 k 0 start are.0 one (range_head plan l (m ∷ taken) fit)
+          (roomy_next (plan_with plan l) (all_but 0) Run 9 0 k 0 start are.0 one (range_head plan l (m ∷ taken) fit)
           (none_lacks plan.members) (room l refl) are.1);
     }
 pair_at plan (l ∷ taken) (one ∷ ages) start last k (suc i) a b old new fit growing room are at_a at_b at_old at_new =
@@ -276,23 +279,26 @@ pair_at plan (l ∷ taken) (one ∷ ages) start last k (suc i) a b old new fit g
 
 pair_keeps : (plan : Script) (old new : Lists) (a b : AgeEnd) → HasRanges (plan_with plan old)
     → HasRanges (plan_with plan new) → AreLivePair plan old new a b
-    → Kept (opening_of (plan_with plan old) 0 a) (accounts_of a.members) (opening_of (plan_with plan new) 0 b)
+    → Kept (opening_of (plan_with plan old) (all_but 0) a) (accounts_of a.members)
+    (opening_of (plan_with plan new) (all_but 0) b)
 pair_keeps plan old new a b ranges more r =
     record { later = kept.later; delivered = kept.delivered; durable = kept.durable }
   where
     first : Script
     first = plan_with plan old
 
-    left : IsBehind first 0 r.mid a r.second.contents
-    left = behind first 0 Run 0 r.before r.mid a ranges r.first r.roomy.tell r.second.contents r.second.found
+    left : IsBehind first (all_but 0) r.mid a r.second.contents
+    left = behind first (all_but 0) Run 0 r.before r.mid a ranges r.first r.roomy.tell r.second.contents r.second.found
 
-    kept : Kept (opening_of first 0 a) (accounts_of a.members) (opening_of first 0 b)
-    kept = subst (λ (ends : List MemberEnd). Kept (opening_of first 0 a) (accounts_of ends) (opening_of first 0 b))
+    kept : Kept (opening_of first (all_but 0) a) (accounts_of a.members) (opening_of first (all_but 0) b)
+    kept = subst (λ (ends : List MemberEnd).
+        Kept (opening_of first (all_but 0) a) (accounts_of ends) (opening_of first (all_but 0) b))
         (sym (ap (λ (x : AgeEnd). x.members) r.first.run.told))
-        (next_keeps first (start_of first 0 a) (start_of first 0 b) 0 r.first.contents r.second.contents
-        (over_behind left) ranges.group ranges.some_turn (of_choice first 0 Run 0 r.before r.mid a r.first)
-        (left_from first 0 r.mid a r.second.contents left)
-        (chosen_before plan old new r.mid r.second.contents (start_of first 0 b)
+        (next_keeps first (start_of first (all_but 0) a) (start_of first (all_but 0) b) 0 r.first.contents
+        r.second.contents (over_behind left) ranges.group ranges.some_turn
+        (of_choice first (all_but 0) Run 0 r.before r.mid a r.first)
+        (left_from first (all_but 0) r.mid a r.second.contents left)
+        (chosen_before plan old new r.mid r.second.contents (start_of first (all_but 0) b)
         (more.group.lists ∙ sym ranges.group.lists) r.roomy.good r.second.found r.second.starts))
 
 pub keep_each_other : (plan : Script) (taken : List Lists) (ages : List AgeEnd) (last : YardState)
@@ -343,7 +349,8 @@ ready_next plan lists ages yard up = record {
 -- ---- the one age of a run
 
 pub one_age : (script : Script) (before after : YardState) (ages : List AgeEnd) (age : AgeEnd)
-    → IsRunOf script 0 Run before after ages None → ages ≡ age ∷ [] → IsAgeOf script 0 Run 0 before after age
+    → IsRunOf script (all_but 0) Run before after ages None → ages ≡ age ∷ []
+    → IsAgeOf script (all_but 0) Run 0 before after age
 one_age script before after ages age run is =
-    let one = subst (λ (l : List AgeEnd). AreAges script 0 Run 0 before l run.last) is run.course in
-    subst (λ (y : YardState). IsAgeOf script 0 Run 0 before y age) (one.2 ∙ run.finish.1) one.1
+    let one = subst (λ (l : List AgeEnd). AreAges script (all_but 0) Run 0 before l run.last) is run.course in
+    subst (λ (y : YardState). IsAgeOf script (all_but 0) Run 0 before y age) (one.2 ∙ run.finish.1) one.1

@@ -10,7 +10,8 @@ use Rattle.std.proofs.lemmas.List.Elements.{All-nil}
 use Rattle.std.proofs.lemmas.Option.{get_or_from_slice_get, slice_get-get_or, slice_get_within}
 use Rattle.dr_age.specs.Logged.{IsNotFull, NoneFull, NoneStopped, why_ended}
 use Rattle.dr_ages.proofs.Fresh.{roomy_ages}
-use Rattle.dr_ages.specs.Ages.{AreAges, opening_of, taking_part}
+use Rattle.dr_ages.proofs.Prompt.{nobody_late}
+use Rattle.dr_ages.specs.Ages.{AreAges, all_but, opening_of, taking_part}
 use Rattle.dr_ages.specs.declared.mode.Mode.TheVariants.{Run}
 use Rattle.dr_entry.specs.declared.end.AgeEnd.{AgeEnd}
 use Rattle.dr_entry.specs.declared.end.End.{End}
@@ -22,7 +23,7 @@ use Rattle.dr_entry.specs.declared.limits.TheConstants.{MAX_MEMBERS}
 use Rattle.dr_history.specs.declared.opening.Opening.{Opening}
 use Rattle.dr_history.specs.History.{IsPrefixOf}
 use Rattle.dr_history.specs.Members.{has}
-use Rattle.dr_history.specs.Order.{messages_from, numbered_messages}
+use Rattle.dr_history.specs.Order.{IsLateIn, messages_from, numbered_messages}
 use Rattle.dr_history.specs.Soundness.{IsPresentIn}
 use Rattle.dr_history_laws.proofs.Keeping.{prefix_shorter, prefix_then}
 use Rattle.dr_history_laws.proofs.Lists.{slice_get-seam, slice_get-some}
@@ -65,11 +66,11 @@ live_stored plan k lists last age ranges few calm live m d within =
     unstopped e.end (full.1 m d within)
     (λ broken. omega (arith, live.is.failed m e at broken, live.later m, calm m))
   where
-    one : AreAges (plan_with plan lists) 0 Run 0 live.before (age ∷ []) live.after
+    one : AreAges (plan_with plan lists) (all_but 0) Run 0 live.before (age ∷ []) live.after
     one = (live.after, live.is, refl)
 
     full : (age.age ≡ 0 + k + 0) × NoneFull age.members
-    full = roomy_ages (plan_with plan lists) 0 Run 9 0 k 0 live.before (age ∷ []) live.after 0 age ranges
+    full = roomy_ages (plan_with plan lists) (all_but 0) Run 9 0 k 0 live.before (age ∷ []) live.after 0 age ranges
         (none_lacks plan.members) (omega arith) (omega (arith, few)) live.roomy one refl
 
 pub live_trusting : (plan : Script) (k : ℕ) (lists : Lists) (last : YardState) (age : AgeEnd)
@@ -99,7 +100,7 @@ there_takes_part script missing m few below there =
 -- each member takes part
 takes_part : (plan : Script) (k : ℕ) (lists : Lists) (last : YardState) (age : AgeEnd) (m : ℕ) (e : MemberEnd)
     → HasGroupRanges (plan_with plan lists) → IsLiveAge plan k lists last age → slice_get age.members m ≡ Some e
-    → IsPresentIn (opening_of (plan_with plan lists) 0 age) m
+    → IsPresentIn (opening_of (plan_with plan lists) (all_but 0) age) m
 takes_part plan k lists last age m e ranges live at =
     there_takes_part (plan_with plan lists) 0 m ranges.most_members
     (omega (arith, slice_get_within age.members m e at, live.is.roster)) (has_zero m)
@@ -108,9 +109,9 @@ takes_part plan k lists last age m e ranges live at =
 numbered_in : (plan : Script) (k : ℕ) (lists : Lists) (last : YardState) (age : AgeEnd) (m : ℕ) (e : MemberEnd)
     (s : ℕ) → HasGroupRanges (plan_with plan lists) → IsLiveAge plan k lists last age
     → slice_get age.members m ≡ Some e
-    → IsPrefixOf (messages_from s e.history) (numbered_messages (opening_of (plan_with plan lists) 0 age) s)
+    → IsPrefixOf (messages_from s e.history) (numbered_messages (opening_of (plan_with plan lists) (all_but 0) age) s)
 numbered_in plan k lists last age m e s ranges live at =
-    let o = opening_of (plan_with plan lists) 0 age in
+    let o = opening_of (plan_with plan lists) (all_but 0) age in
     let there = takes_part plan k lists last age m e ranges live at in
     subst (λ (end : Option MemberEnd).
     IsPrefixOf (messages_from s (option_map_or (λ (x : MemberEnd). x.history) end [])) (numbered_messages o s)) at
@@ -121,10 +122,11 @@ pub live_delivers : (plan : Script) (k : ℕ) (lists pushed : Lists) (last : Yar
     → DeliversPushed plan pushed age.members
 live_delivers plan k lists pushed last age ranges grown live m d within s =
     let e = get_or age.members m d in
-    prefix_then (messages_from s e.history) (numbered_messages (opening_of (plan_with plan lists) 0 age) s)
+    prefix_then (messages_from s e.history) (numbered_messages (opening_of (plan_with plan lists) (all_but 0) age) s)
     (pushed_by plan pushed s)
     (numbered_in plan k lists last age m e s ranges live (slice_get-get_or age.members m d within))
-    (numbered_grown (opening_of (plan_with plan lists) 0 age) (first_group_of (plan_with plan pushed)).opening s grown)
+    (numbered_grown (opening_of (plan_with plan lists) (all_but 0) age)
+    (first_group_of (plan_with plan pushed)).opening s grown)
 
 -- who is done has all messages of the members of its view
 done_whole : (o : Opening) (members : List MemberEnd) (number view limit m : ℕ) (points : List CrashPoint)
@@ -159,7 +161,7 @@ live_whole plan k lists last age ranges live done m d within s =
     (by (cases_lt s (length lists)))
   where
     o : Opening
-    o = opening_of (plan_with plan lists) 0 age
+    o = opening_of (plan_with plan lists) (all_but 0) age
 
     e : MemberEnd
     e = get_or age.members m d
@@ -182,16 +184,33 @@ live_whole plan k lists last age ranges live done m d within s =
         let ended = ended_at i x there in
         done_whole o age.members ended.number ended.members plan.turns i _ x (end_at i x there) ended.reason
 
+    prompt : (i : ℕ) → ¬ IsLateIn o i
+    prompt i late =
+        let no : true ≡ false =
+        sym late.0 ∙ ap (λ (mask : ℕ). has mask i) (sym (nobody_late (plan_with plan lists) 0 age)) ∙ late.1 in
+        cc
+
+    in_view : (i number members : ℕ) → (has members i ≡ true) ⊎ (IsLateIn o i × (number ≡ 0))
+        → has members i ≡ true
+    in_view i number members (inl own) = own
+    in_view i number members (inr late) = absurd (prompt i late.0)
+
+    own_at : (i : ℕ) (x : MemberEnd) (there : slice_get age.members i ≡ Some x)
+        → has (ended_at i x there).members i ≡ true
+    own_at i x there =
+        let ended = ended_at i x there in
+        in_view i ended.number ended.members ended.own
+
     by : (s < length lists) ⊎ (length lists ≤ s)
         → IsPrefixOf (numbered_messages o s) (messages_from s e.history)
     by (inl l) =
         let x = slice_get-some age.members s (omega (arith, l, ranges.lists, live.is.roster)) in
-        let own = (whole_at s x.0 x.1).whole s (ended_at s x.0 x.1).own in
+        let own = (whole_at s x.0 x.1).whole s (own_at s x.0 x.1) in
         let in_place = slice_get_within age.members s x.0 x.1 in
         let same = get_or_from_slice_get age.members s x.0 x.0 x.1 in
         subst (λ (l : List Entry). IsPrefixOf l (messages_from s e.history)) own
         (subst (λ (y : MemberEnd). IsPrefixOf (messages_from s y.history) (messages_from s e.history)) same
-        ((whole_at m e at).lacks_none s s x.0 in_place))
+        ((whole_at m e at).lacks_none s (prompt s) s x.0 in_place))
     by (inr past) =
         let none : numbered_messages o s ≡ [] =
         ap (λ (l : List (List ℕ)). map (λ (t : ℕ × List ℕ). Msg s t.0 t.1) (enumerate_from 0 l))

@@ -20,7 +20,7 @@ use Rattle.dr_yard.specs.Yards.{YardState, empty_yard}
 use Rattle.dr_ages.specs.declared.mode.Mode.TheVariants.{Run}
 use Rattle.dr_ages.specs.declared.stop.Stop.{Stop}
 use Rattle.dr_ages.specs.declared.stop.Stop.TheVariants.{OutOfMemory}
-use Rattle.dr_ages.specs.Ages.{IsAgeOf, opening_of}
+use Rattle.dr_ages.specs.Ages.{IsAgeOf, all_but, opening_of}
 use Rattle.dr_ages.specs.Runs.{IsRunOf}
 
 -- a plan for a live group: it has one age, and nobody crashes in it or is suspected
@@ -41,7 +41,7 @@ AreLiveAges plan before [] [] after = before ≡ after
 AreLiveAges plan before [] (age ∷ ages) after = ⊥
 AreLiveAges plan before (lists ∷ taken) [] after = ⊥
 AreLiveAges plan before (lists ∷ taken) (age ∷ ages) after =
-    (between : YardState) × IsAgeOf (plan_with plan lists) 0 Run 0 before between age
+    (between : YardState) × IsAgeOf (plan_with plan lists) (all_but 0) Run 0 before between age
     × AreLiveAges plan between taken ages after
 
 -- what was taken grows from age to age
@@ -61,7 +61,8 @@ pub record AreUnderWay (plan : Script) (taken : List Lists) (ages : List AgeEnd)
 abbrev pub KeepEachOther : Script → List Lists → List AgeEnd → Type 0
 KeepEachOther plan taken ages = (i : ℕ) (a b : AgeEnd) (old new : Lists) → slice_get ages i ≡ Some a
     → slice_get ages (i + 1) ≡ Some b → slice_get taken i ≡ Some old → slice_get taken (i + 1) ≡ Some new
-    → Kept (opening_of (plan_with plan old) 0 a) (accounts_of a.members) (opening_of (plan_with plan new) 0 b)
+    → Kept (opening_of (plan_with plan old) (all_but 0) a) (accounts_of a.members)
+    (opening_of (plan_with plan new) (all_but 0) b)
 
 -- x is the last of them, if there are any
 abbrev pub IsLastOf : {T : Type 0} → T → List T → Type 0
@@ -134,4 +135,4 @@ calm_yard places = record { told = place_told places; faults = λ m. 0 }
 -- memory
 abbrev pub OpensAlways : Script → YardState → Type 0
 OpensAlways script yard = (after : YardState) (ages : List AgeEnd) (stop : Stop)
-    → ((m : ℕ) → after.faults m ≡ 0) → IsRunOf script 0 Run yard after ages (Some stop) → stop ≡ OutOfMemory
+    → ((m : ℕ) → after.faults m ≡ 0) → IsRunOf script (all_but 0) Run yard after ages (Some stop) → stop ≡ OutOfMemory

@@ -1,7 +1,7 @@
 //! A live group, from age to age.
 ghost use Rattle.std.specs.Prelude.{◌≡◌, ◌+◌, ◌<◌, ◌∷◌, ℕ, OnOk, IfOk, [], false, length};
 ghost use Rattle.dr_entry.specs.declared.limits.TheConstants.{MAX_MEMBERS};
-ghost use Rattle.dr_ages.specs.Ages.{IsAgeOf};
+ghost use Rattle.dr_ages.specs.Ages.{IsAgeOf, all_but};
 ghost use Rattle.dr_ages.specs.declared.mode.Mode.TheVariants as modes;
 ghost use Rattle.dr_live.specs.Live.{AreReadyFor, AreUpTo, IsLivePlan, OpensAlways, calm_yard, plan_with};
 ghost use Rattle.dr_script.specs.declared.script.Script.{Script as ScriptOf};
@@ -108,10 +108,12 @@ fn run_one<R: Threads + Sync, P: Pace + Sync>(
     requires opens { OpensAlways script.now (calm_yard yard.old) }
     ensures here { (m : ℕ) → m < MAX_MEMBERS → place_lent yard.new m ≡ false }
     ensures age { IfOk result
-        (IsAgeOf script.now 0 modes.Run 0 (calm_yard yard.old) (calm_yard yard.new)) }
+        (IsAgeOf script.now (all_but 0) modes.Run 0 (calm_yard yard.old) (calm_yard yard.new)) }
 {
+    let nobody = Mask::empty();
     let part = Part {
-        missing: Mask::empty(),
+        missing: nobody,
+        late: nobody,
     };
     let AgesEnd { ages, stop } = run_ages(rt, alloc, script, &part, Mode::Run, "", yard, pace);
     match stop {

@@ -3,7 +3,7 @@ use Rattle.std.proofs.Common.{◌≡◌, refl, sym, ap, ◌∙◌, subst, inl, i
 use Rattle.dr_intake.specs.Status.{status_of}
 use Rattle.dr_outcome.specs.declared.outcome.Outcome.{Outcome}
 use Rattle.dr_outcome.specs.Last.{last_of}
-use Rattle.dr_outcome.specs.Outcome.{HasDone, SaysOnly, by_run, unrun}
+use Rattle.dr_outcome.specs.Outcome.{HasDone, SaysOnly, by_run, unrun, unrun_ends}
 use Rattle.dr_outcome.proofs.Due.{EndsIn, contains_more, same_tells, script_ends}
 use Rattle.dr_script.specs.declared.script.Script.{Script}
 use Rattle.dr_script.specs.Reading.{reading_of}
@@ -15,8 +15,8 @@ use Rattle.dr_lived.proofs.Lasts.{live_lasts}
 refused_ends : (yard : YardState) (o : Outcome) → SaysOnly (Some refused_plan) yard yard o → EndsIn live_ends o
 refused_ends yard o says = (
   unrun says.none says.unstopped
-      (subst (λ l. IfSome l (λ line. Contains (0 ∷ 3 ∷ 12 ∷ 13 ∷ []) (status_of line))) (sym says.line)
-      (1, omega arith, refl)),
+      (subst (λ l. IfSome l (λ line. Contains unrun_ends (status_of line))) (sym says.line)
+      (2, omega arith, refl)),
   subst (λ l. IfSome l (λ line. Contains live_ends (status_of line))) (sym says.line) (0, omega arith, refl),
 )
 

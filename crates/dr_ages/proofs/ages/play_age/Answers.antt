@@ -40,8 +40,8 @@ returns-in-Ok-clause-run g c =
 pub returns-in-Sim-clause-complete : goal.returns-in-Sim-clause-complete
 returns-in-Sim-clause-complete g c =
     IfOk-weaker c.watch_age.result _ _
-    (λ age so whole sim. complete_by_time c.args.script.now c.args.start.now c.args.nth age c.requires.group whole
-    c.requires.ranges so) c.watch_age.ensures.run
+    (λ age so whole prompt sim. complete_by_time c.args.script.now c.args.start.now c.args.nth age c.requires.group
+    whole prompt c.requires.ranges so) c.watch_age.ensures.run
 
 pub returns-in-Sim-clause-watched : goal.returns-in-Sim-clause-watched
 returns-in-Sim-clause-watched g c =

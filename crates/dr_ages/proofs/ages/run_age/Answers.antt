@@ -128,8 +128,8 @@ returns-clause-age g c = elim c.match-mount_all.branch [
       w.in-Ok-mount_all.ensures.all w.in-Ok-mount_all.ensures.rest in
       rw w.ended-is (IfOk-weaker w.run_over.result.0 _ _
       (λ age so. subst (λ (y : YardState).
-      IsAgeOf c.args.script.now c.args.part.now.missing c.args.mode c.args.nth (before g c) y age) is
-      (so (before g c) c.args.part.now.missing c.mount_all.ensures.mounted c.mount_all.ensures.places))
+      IsAgeOf c.args.script.now c.args.part.now c.args.mode c.args.nth (before g c) y age) is
+      (so (before g c) c.mount_all.ensures.mounted))
       w.run_over.ensures.age)
   | in-Err w ↦ rw w.ended-is tt
 ]
@@ -141,15 +141,15 @@ returns-clause-stopped g c = elim c.match-mount_all.branch [
       w.in-Ok-mount_all.ensures.all w.in-Ok-mount_all.ensures.rest in
       rw w.ended-is (IfErr-weaker w.run_over.result.0 _ _
       (λ stop so. subst (λ (y : YardState).
-      HasStopped c.args.script.now c.args.part.now.missing (before g c) y stop) is
-      (so (before g c) c.args.part.now.missing c.mount_all.ensures.mounted c.mount_all.ensures.places))
+      HasStopped c.args.script.now c.args.part.now (before g c) y stop) is
+      (so (before g c) c.mount_all.ensures.mounted))
       w.run_over.ensures.stopped)
   | in-Err w ↦
       let told = g.Y.Store.Disk.told in
       let faults = g.Y.Store.Disk.faults in
       let logs : Logs g = c.mount_all.new.logs.items in
       let are_back = back g c logs (rw w.ended-is refl) in
-      rw w.ended-is (refused_stop c.args.script.now c.args.part.now.missing (length logs) (before g c) (mid g c)
+      rw w.ended-is (refused_stop c.args.script.now c.args.part.now (length logs) (before g c) (mid g c)
       (after g c) w.in-Err.stop
       (later_back told faults (mid g c) (after g c) logs c.mount_all.ensures.lent.counted are_back)
       (λ m past. (are_back m).0 ∙ told_none told faults (mid g c) logs m (place_past logs m past))
@@ -269,8 +269,7 @@ returns-clause-names g c = elim c.match-mount_all.branch [
 
 pub returns-clause-watched : goal.returns-clause-watched
 returns-clause-watched g c = elim c.match-mount_all.branch [
-  | in-Ok-mount_all w ↦ rw (w.ended-is, w.watcher-is) (IfOk-weaker w.run_over.result.0 _ _
-      (λ age so. so c.args.part.now.missing c.mount_all.ensures.places) w.run_over.ensures.watched)
+  | in-Ok-mount_all w ↦ rw (w.ended-is, w.watcher-is) w.run_over.ensures.watched
   | in-Err w ↦ rw w.ended-is tt
 ]
 

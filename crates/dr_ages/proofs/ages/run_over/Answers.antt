@@ -3,12 +3,13 @@ use Rattle.std.proofs.lemmas.List.{with_items_is}
 use Rattle.dr_age.specs.Logged.{AreAmple, AreOpened, HaveCome}
 use Rattle.dr_log.specs.State.{LogState}
 use Rattle.dr_logged.specs.Served.{HaveSamePlaces}
-use Rattle.dr_opening.specs.Lists.{contents_of, log_of}
+use Rattle.dr_opening.specs.Lists.{SomebodyPrompt, contents_of, log_of}
 use Rattle.dr_opening.specs.Logs.{WereOpened}
 use Rattle.dr_opening.specs.Tries.{IsChosenOf}
 use Rattle.dr_opening.specs.Unopened.{IsWhyUnopened}
 use Rattle.dr_restart.specs.declared.start.Start.{Start}
 use Rattle.dr_restart.specs.Groups.{first_group_of, group_of}
+use Rattle.dr_words.specs.Masks.{without}
 use Rattle.dr_ages.specs.declared.stop.Stop.{Stop}
 use Rattle.dr_ages.specs.Ages.{over_of}
 use Rattle.dr_ages.specs.Fit.{AreFit}
@@ -20,7 +21,8 @@ use Rattle.dr_ages.proofs.Backs.{places_then}
 use Rattle.dr_ages.proofs.Fit.{why_fit}
 use Rattle.dr_ages.proofs.Loans.{contents_there}
 use Rattle.dr_ages.proofs.Opening.{are_opened, gone_on, opened_on, opened_places, why_places}
-use Rattle.dr_ages.proofs.Played.{is_age, later_on, ok_at, same_start}
+use Rattle.dr_ages.proofs.Played.{is_age, later_on, ok_at, same_start, somebody_prompt}
+use Rattle.dr_ages.proofs.Prompt.{without-nobody}
 use Rattle.dr_ages.proofs.Staying.{later_by_all}
 use Rattle.dr_ages.proofs.Stopping.{why_behind, why_names, why_stops}
 use Rattle.dr_ages.proofs.ages.run_over.Given.{Over}
@@ -48,32 +50,44 @@ play_age-ended-requires-clause-logs g c κs h =
     c.open_age.new.logs c.requires.ranges.group.lists c.requires.ranges.group.most_members
     (ap length c.as_mut_slice.ensures.value ∙ c.requires.all) c.in-Ok.ensures.chosen c.in-Ok.ensures.opened)
 
+-- nobody is late in it, where it is run in threads
+pub play_age-ended-requires-clause-prompt : goal.play_age-ended-requires-clause-prompt
+play_age-ended-requires-clause-prompt g c κs h run = c.in-Ok.ensures.members
+    ∙ (ap (without c.in-Ok.start.present) (c.requires.prompt run) ∙ without-nobody _ c.in-Ok.start.present c.in-Ok.ensures.chosen.chosen.present)
+
+-- somebody whose log is there isn't late
+pub open_age-requires-clause-prompt : goal.open_age-requires-clause-prompt
+open_age-requires-clause-prompt g c κs h m log at =
+    subst (λ (l : Logs g). SomebodyPrompt c.args.part.now.late l) (sym c.as_mut_slice.ensures.value)
+    (somebody_prompt c.args.script.now c.args.part.now c.args.logs.items m log c.requires.all c.requires.places
+    c.requires.some (ap (λ (l : Logs g). log_of l m) (sym c.as_mut_slice.ensures.value) ∙ at))
+
 -- ---- an age that was not opened
 
 -- why, over the logs that came
 why : (g : Over) (c : After-of_unopened g) → IsWhyUnopened g.D.Disk.told g.D.Disk.faults c.args.script.now
-    c.args.logs.items c.open_age.new.logs c.in-Err.why
+    c.args.part.now.late c.args.logs.items c.open_age.new.logs c.in-Err.why
 why g c = subst (λ (l : Logs g).
-    IsWhyUnopened g.D.Disk.told g.D.Disk.faults c.args.script.now l c.open_age.new.logs c.in-Err.why)
+    IsWhyUnopened g.D.Disk.told g.D.Disk.faults c.args.script.now c.args.part.now.late l c.open_age.new.logs c.in-Err.why)
     c.as_mut_slice.ensures.value c.in-Err.ensures.why
 
 -- there are as many behind it
 as_many : (g : Over) (c : After-of_unopened g)
     → length c.open_age.new.logs ≡ length c.as_mut_slice.result.now
-as_many g c = (why_places g.D.Disk.told g.D.Disk.faults c.args.script.now c.as_mut_slice.result.now
+as_many g c = (why_places g.D.Disk.told g.D.Disk.faults c.args.script.now c.args.part.now.late c.as_mut_slice.result.now
     c.open_age.new.logs c.in-Err.why c.in-Err.ensures.why).all
 
 pub returns-in-Err-clause-stopped : goal.returns-in-Err-clause-stopped
-returns-in-Err-clause-stopped g c before missing mounted but =
+returns-in-Err-clause-stopped g c before mounted =
     let told = g.D.Disk.told in
     let faults = g.D.Disk.faults in
     let script = c.args.script.now in
-    subst (λ (l : Logs g). HasStopped script missing before (with_logs told faults before l) c.of_unopened.result)
+    subst (λ (l : Logs g). HasStopped script c.args.part.now before (with_logs told faults before l) c.of_unopened.result)
     (sym (with_items_is c.args.logs c.open_age.new.logs (as_many g c ∙ c.as_mut_slice.ensures.len)))
-    (subst (λ (s : Stop). HasStopped script missing before (with_logs told faults before c.open_age.new.logs) s)
+    (subst (λ (s : Stop). HasStopped script c.args.part.now before (with_logs told faults before c.open_age.new.logs) s)
     (sym c.of_unopened.ensures)
-    (why_stops told faults script missing before c.args.logs.items c.open_age.new.logs c.in-Err.why c.requires.all
-    mounted but (why g c)))
+    (why_stops told faults script c.args.part.now before c.args.logs.items c.open_age.new.logs c.in-Err.why c.requires.all
+    mounted c.requires.places (why g c)))
 
 pub returns-in-Err-clause-names : goal.returns-in-Err-clause-names
 returns-in-Err-clause-names g c before mounted =
@@ -83,7 +97,7 @@ returns-in-Err-clause-names g c before mounted =
     (sym (with_items_is c.args.logs c.open_age.new.logs (as_many g c ∙ c.as_mut_slice.ensures.len)))
     (subst (λ (s : Stop). NamesFaults s before (with_logs told faults before c.open_age.new.logs))
     (sym c.of_unopened.ensures)
-    (why_names told faults c.args.script.now before c.args.logs.items c.open_age.new.logs c.in-Err.why
+    (why_names told faults c.args.script.now c.args.part.now.late before c.args.logs.items c.open_age.new.logs c.in-Err.why
     mounted (why g c)))
 
 pub returns-in-Err-clause-behind : goal.returns-in-Err-clause-behind
@@ -97,13 +111,13 @@ returns-in-Err-clause-later g c =
     let script = c.args.script.now in
     subst (λ (l : Logs g). HaveGoneOn told faults script (contents_of c.args.logs.items) c.args.logs.items l)
     (sym (with_items_is c.args.logs c.open_age.new.logs (as_many g c ∙ c.as_mut_slice.ensures.len)))
-    (gone_on told faults script c.args.logs.items c.open_age.new.logs c.in-Err.why (why g c))
+    (gone_on told faults script c.args.part.now.late c.args.logs.items c.open_age.new.logs c.in-Err.why (why g c))
 
 pub returns-in-Err-clause-places : goal.returns-in-Err-clause-places
 returns-in-Err-clause-places g c =
     subst (λ (l : Logs g). HaveSamePlaces c.args.logs.items l)
     (sym (with_items_is c.args.logs c.open_age.new.logs (as_many g c ∙ c.as_mut_slice.ensures.len)))
-    (why_places g.D.Disk.told g.D.Disk.faults c.args.script.now c.args.logs.items c.open_age.new.logs
+    (why_places g.D.Disk.told g.D.Disk.faults c.args.script.now c.args.part.now.late c.args.logs.items c.open_age.new.logs
     c.in-Err.why (why g c))
 
 pub returns-in-Err-clause-fit : goal.returns-in-Err-clause-fit
@@ -112,7 +126,7 @@ returns-in-Err-clause-fit g c before mounted unlike but fit =
     let faults = g.D.Disk.faults in
     subst (λ (l : Logs g). AreFit c.args.script.now (with_logs told faults before l))
     (sym (with_items_is c.args.logs c.open_age.new.logs (as_many g c ∙ c.as_mut_slice.ensures.len)))
-    (why_fit told faults c.args.script.now before c.args.logs.items c.open_age.new.logs c.in-Err.why
+    (why_fit told faults c.args.script.now c.args.part.now.late before c.args.logs.items c.open_age.new.logs c.in-Err.why
     c.requires.ranges.group c.requires.all but fit mounted (why g c))
 
 -- ---- an age that was played
@@ -136,7 +150,7 @@ same_logs g c = (opened_places g.D.Disk.told g.D.Disk.faults c.in-Ok.start c.as_
     c.open_age.new.logs c.in-Ok.ensures.opened).all
 
 pub returns-in-Ok-ended-clause-age : goal.returns-in-Ok-ended-clause-age
-returns-in-Ok-ended-clause-age g c before missing mounted but =
+returns-in-Ok-ended-clause-age g c before mounted =
     let told = g.D.Disk.told in
     let faults = g.D.Disk.faults in
     let script = c.args.script.now in
@@ -150,12 +164,13 @@ returns-in-Ok-ended-clause-age g c before missing mounted but =
     let age = c.in-Ok-ended.age in
     let is = c.in-Ok-ended.is in
     let run = ok_at _ ended age is c.play_age-ended.ensures.run in
-    is_age told faults script missing c.args.mode c.args.nth before start olds mids news age (record {
+    is_age told faults script c.args.part.now c.args.mode c.args.nth before start olds mids news age (record {
       ranges = c.requires.ranges;
       all = c.requires.all;
       mounted = mounted;
-      but = but;
+      but = c.requires.places;
       starts = chosen g a;
+      late = c.in-Ok.ensures.members;
       began = began g a;
       run = run.0;
       come = subst (λ (l : Logs g).
@@ -171,7 +186,7 @@ returns-in-Ok-ended-clause-age g c before missing mounted but =
     })
 
 pub returns-in-Ok-ended-clause-watched : goal.returns-in-Ok-ended-clause-watched
-returns-in-Ok-ended-clause-watched g c missing but =
+returns-in-Ok-ended-clause-watched g c =
     let script = c.args.script.now in
     let ended = c.play_age-ended.result.0 in
     let age = c.in-Ok-ended.age in
@@ -179,10 +194,10 @@ returns-in-Ok-ended-clause-watched g c missing but =
     let run = ok_at _ ended age c.in-Ok-ended.is c.play_age-ended.ensures.run in
     subst (λ (start : Start). HasSeen g.W.Watcher.opens g.W.Watcher.sees g.W.Watcher.closes c.args.mode script
     start c.args.nth c.args.watcher.now c.play_age-ended.new.watcher age)
-    (same_start c.args.mode script missing (contents_of c.args.logs.items) c.in-Ok.start c.args.nth age
+    (same_start c.args.mode script c.args.part.now (contents_of c.args.logs.items) c.in-Ok.start c.args.nth age
     c.requires.ranges.group.lists
-    (λ m l. contents_there c.args.logs.items m ∙ but m (subst (λ (n : ℕ). m < n) (sym c.requires.all) l))
-    (chosen g a) run.0)
+    (λ m l. contents_there c.args.logs.items m ∙ c.requires.places m (subst (λ (n : ℕ). m < n) (sym c.requires.all) l))
+    (chosen g a) c.in-Ok.ensures.members run.0)
     (ok_at _ ended age c.in-Ok-ended.is c.play_age-ended.ensures.watched)
 
 -- a log is later behind the opening and the age

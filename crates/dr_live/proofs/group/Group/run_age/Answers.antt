@@ -1,5 +1,5 @@
 use Rattle.std.proofs.Common.{◌≡◌, ◌++◌, ◌∷◌, List, [], refl, rules, subst, sym}
-use Rattle.dr_ages.specs.Ages.{IsAgeOf}
+use Rattle.dr_ages.specs.Ages.{IsAgeOf, all_but}
 use Rattle.dr_ages.specs.declared.mode.Mode.TheVariants.{Run}
 use Rattle.dr_entry.specs.declared.end.AgeEnd.{AgeEnd}
 use Rattle.dr_script.specs.declared.script.Script.{Script}
@@ -21,7 +21,7 @@ returns-clause-up g c =
     let before = calm_yard c.args.self.now.yard in
     let after = calm_yard c.run_one.new.yard in
     let items : c.push.new.self.items ≡ ages ++ age ∷ [] = search rules in
-    let is = subst (λ (script : Script). IsAgeOf script 0 Run 0 before after age) c.with_messages-script.ensures
-    c.in_ok-age.ensures.age in
+    let is = subst (λ (script : Script). IsAgeOf script (all_but 0) Run 0 before after age)
+    c.with_messages-script.ensures c.in_ok-age.ensures.age in
     subst (λ (all : List AgeEnd). AreUpTo c.args.plan.now c.args.lists all after) (sym items)
     (up_to_next c.args.plan.now c.args.lists ages before after age c.requires.ready c.requires.ranges is (λ m. refl))
