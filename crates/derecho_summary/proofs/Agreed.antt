@@ -4,7 +4,7 @@ use Rattle.std.proofs.lemmas.Bool.{cases_Bool}
 use Rattle.std.proofs.lemmas.List.Elements.{All-cons, All-nil}
 use Rattle.dr_ages.specs.declared.mode.Mode.{Mode}
 use Rattle.dr_ages.specs.declared.stop.Stop.{Stop}
-use Rattle.dr_ages.specs.Ages.{AreAges, IsAgeOf, opening_of}
+use Rattle.dr_ages.specs.Ages.{AreAges, IsAgeOf, all_but, opening_of}
 use Rattle.dr_entry.specs.declared.end.AgeEnd.{AgeEnd}
 use Rattle.dr_entry.specs.declared.end.MemberEnd.{MemberEnd}
 use Rattle.dr_history.specs.declared.opening.Opening.{Opening}
@@ -23,10 +23,10 @@ IsAgreed age = (o : Opening) × HaveAgreed o age.members
 
 -- whoever is absent has no history
 part_or_none : (script : Script) (missing : ℕ) (mode : Mode) (nth : ℕ) (before after : YardState) (age : AgeEnd)
-    (i : ℕ) (e : MemberEnd) → IsAgeOf script missing mode nth before after age → slice_get age.members i ≡ Some e
-    → IsPresentIn (opening_of script missing age) i ⊎ (e.history ≡ [])
+    (i : ℕ) (e : MemberEnd) → IsAgeOf script (all_but missing) mode nth before after age → slice_get age.members i ≡ Some e
+    → IsPresentIn (opening_of script (all_but missing) age) i ⊎ (e.history ≡ [])
 part_or_none script missing mode nth before after age i e is at =
-    elim (cases_Bool (has (opening_of script missing age).present i)) [
+    elim (cases_Bool (has (opening_of script (all_but missing) age).present i)) [
       | inl here ↦ inl here
       | inr away ↦
           let none : e ≡ absent_end = is.ended.absent i e at (λ here. true≢false (sym here ∙ away)) in
@@ -34,11 +34,11 @@ part_or_none script missing mode nth before after age i e is at =
     ]
 
 agreed_ages : (script : Script) (missing : ℕ) (mode : Mode) (nth : ℕ) (before after : YardState)
-    (ages : List AgeEnd) → AreAges script missing mode nth before ages after → AreAgreed ages
+    (ages : List AgeEnd) → AreAges script (all_but missing) mode nth before ages after → AreAgreed ages
 agreed_ages script missing mode nth before after [] are = All-nil IsAgreed
 agreed_ages script missing mode nth before after (age ∷ ages) (between, is, rest) =
     All-cons IsAgreed age ages (
-      opening_of script missing age,
+      opening_of script (all_but missing) age,
       record {
         present = λ i e at. part_or_none script missing mode nth before between age i e is at;
         agreed = is.agreed;

@@ -1,6 +1,7 @@
 -- What is told of a run, by what its watcher was told.
 use Rattle.std.proofs.Common.{◌≡◌, ℕ, ◌+◌, List, [], ◌∷◌, ◌++◌, Option, Some, None, length, refl, sym, ap, subst, append-nil, append_assoc, ◌⊎◌, inl, inr}
 use Rattle.std.proofs.lemmas.Option.{none-some}
+use Rattle.dr_ages.specs.Ages.{all_but}
 use Rattle.dr_ages.specs.declared.mode.Mode.TheVariants.{Sim}
 use Rattle.dr_ages.specs.Watched.{AreWatched}
 use Rattle.dr_entry.specs.declared.end.AgeEnd.{AgeEnd}
@@ -57,7 +58,7 @@ pub record HaveLines (script : Script) (nth : ℕ) (ages : List AgeEnd) (old new
   pub tells : Tells text old new
 
 pub lines_told : (script : Script) (nth : ℕ) (ages : List AgeEnd) (old new : Written)
-    → AreWatched Opens Sees Closes Sim script 0 nth ages old new → HaveLines script nth ages old new
+    → AreWatched Opens Sees Closes Sim script (all_but 0) nth ages old new → HaveLines script nth ages old new
 lines_told script nth [] old new same = record {
   text = [];
   lines = refl;
@@ -102,7 +103,7 @@ some_moves p (e ∷ es) old new was =
     some_both old was.1 new was.3 (some_moves (step_of p e) es was.1 new was.4)
 
 pub some_told : (script : Script) (nth : ℕ) (ages : List AgeEnd) (old new : Written)
-    → AreWatched OpensSome SeesSome ClosesSome Sim script 0 nth ages old new → TellsSome old new
+    → AreWatched OpensSome SeesSome ClosesSome Sim script (all_but 0) nth ages old new → TellsSome old new
 some_told script nth [] old new same = ([], tells_same old new (sym same))
 some_told script nth (age ∷ ages) old new was =
     let seen = was.1 in
@@ -160,12 +161,12 @@ run_wrote form script ages stop last held holds fell falls status told run is te
 
 pub lines_wrote : (script : Script) (ages : List AgeEnd) (stop : Option Stop) (last : Option Last)
     (held holds : Option (List ℕ)) (fell falls status : ℕ) (old new : Written) → HasRun script ages stop last
-    → AreWatched Opens Sees Closes Sim script 0 0 ages old new → HasTold held fell [] old
+    → AreWatched Opens Sees Closes Sim script (all_but 0) 0 ages old new → HasTold held fell [] old
     → Writes held holds fell falls status last new
     → WroteOne (IsTraced Lines script) held holds fell falls status
 lines_wrote script ages stop last held holds fell falls status old new (inl none) watched told writes =
     let same : new ≡ old =
-    subst (λ (l : List AgeEnd). AreWatched Opens Sees Closes Sim script 0 0 l old new) none.0 watched in
+    subst (λ (l : List AgeEnd). AreWatched Opens Sees Closes Sim script (all_but 0) 0 l old new) none.0 watched in
     wanting_wrote Lines script last held holds fell falls status none.2
     (writes [] (subst (λ (w : Written). HasTold held fell [] w) (sym same) told))
 lines_wrote script ages stop last held holds fell falls status old new (inr ran) watched told writes =
@@ -175,12 +176,12 @@ lines_wrote script ages stop last held holds fell falls status old new (inr ran)
 
 pub chart_wrote : (script : Script) (ages : List AgeEnd) (stop : Option Stop) (last : Option Last)
     (held holds : Option (List ℕ)) (fell falls status : ℕ) (old new : Written) → HasRun script ages stop last
-    → AreWatched OpensSome SeesSome ClosesSome Sim script 0 0 ages old new → HasTold held fell [] old
+    → AreWatched OpensSome SeesSome ClosesSome Sim script (all_but 0) 0 ages old new → HasTold held fell [] old
     → Writes held holds fell falls status last new
     → WroteOne (IsTraced Chart script) held holds fell falls status
 chart_wrote script ages stop last held holds fell falls status old new (inl none) watched told writes =
     let same : new ≡ old =
-    subst (λ (l : List AgeEnd). AreWatched OpensSome SeesSome ClosesSome Sim script 0 0 l old new) none.0
+    subst (λ (l : List AgeEnd). AreWatched OpensSome SeesSome ClosesSome Sim script (all_but 0) 0 l old new) none.0
     watched in
     wanting_wrote Chart script last held holds fell falls status none.2
     (writes [] (subst (λ (w : Written). HasTold held fell [] w) (sym same) told))

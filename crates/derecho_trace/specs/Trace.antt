@@ -4,7 +4,7 @@ use Rattle.std.specs.Option.{option_map_or}
 use Rattle.std.specs.declared.alloc.Global.{Global}
 use Rattle.dr_ages.specs.declared.mode.Mode.TheVariants.{Sim}
 use Rattle.dr_ages.specs.declared.stop.Stop.{Stop}
-use Rattle.dr_ages.specs.Ages.{start_of}
+use Rattle.dr_ages.specs.Ages.{all_but, start_of}
 use Rattle.dr_entry.specs.declared.end.AgeEnd.{AgeEnd}
 use Rattle.dr_intake.specs.Answer as intake
 use Rattle.dr_intake.specs.Answer.{IsLine, Said}
@@ -40,7 +40,7 @@ moves_text p (e ∷ es) = deed_line p.table (present_at p.members e.member) ++ m
 abbrev pub AreLines : Script → ℕ → List AgeEnd → List ℕ → Type 0
 AreLines script nth [] text = text ≡ []
 AreLines script nth (age ∷ ages) text =
-    (is : IsSimulated script (start_of script 0 age) nth age) × (rest : List ℕ)
+    (is : IsSimulated script (start_of script (all_but 0) age) nth age) × (rest : List ℕ)
     × AreLines script (nth + 1) ages rest
     × (text ≡ (age_line age.age (length age.start) ++ moves_text is.begun is.run.moves) ++ rest)
 

@@ -1,21 +1,31 @@
 -- Why the status of a call is what it is, and what its clauses say in each case.
 use Rattle.std.proofs.Common.{◌≡◌, ◌⊎◌, refl, sym, ap, ap₂, ◌∙◌, subst, inl, inr, ℕ, zero, suc, ◌<◌, ◌≤◌, Bool, true, false, true≢false, IsTrue, arith, List, [], ◌∷◌, Contains, Option, None, Some, IfSome, is_some, if◌then◌else◌, String}
-use Rattle.std.specs.Prelude.{MatchOption}
+use Rattle.std.specs.Prelude.{MatchOption, ⊤}
+use Rattle.std.proofs.lemmas.List.{append_cancel_right}
+use Rattle.std.proofs.lemmas.Option.{same_Some}
+use Rattle.dr_ages.specs.declared.stop.Stop.{Stop}
+use Rattle.dr_entry.specs.declared.end.AgeEnd.{AgeEnd}
 use Rattle.std.specs.declared.alloc.Global.{Global}
-use Rattle.dr_intake.specs.Answer.{done, no_memory, no_source, usage}
+use Rattle.dr_intake.specs.Answer.{WasReadFor, done, no_memory, no_source, usage}
+use Rattle.dr_intake.specs.Reading.{WasRead}
 use Rattle.dr_intake.specs.Status.{status_of}
 use Rattle.dr_io.specs.Faults.{Rose}
 use Rattle.dr_io.specs.Sink.{Gains}
+use Rattle.dr_script.specs.declared.script.Script.{Script}
+use Rattle.dr_script.specs.Reading.{NotJson, Reading, Reads, TooLong, Wrong, reading_of}
 use Rattle.dr_text.specs.declared.last.Last.{Last}
+use Rattle.dr_text.specs.declared.last.Last.TheVariants as lasts
 use Rattle.dr_yard.specs.Yards.{YardState}
 use Rattle.dr_outcome.specs.declared.last.Kind.TheVariants.{DiskFault, LogFull, NoMajority, Spent}
 use Rattle.dr_outcome.specs.declared.outcome.Outcome.{Outcome}
 use Rattle.dr_outcome.specs.Last.{first_end, first_told, last_by, last_of, refusal_of, some_end, some_so}
-use Rattle.dr_outcome.specs.Outcome.{HasDone, TellsDisks, by_run, outcome_text, unrun}
+use Rattle.dr_outcome.specs.Outcome.{AreAllLate, HasDone, OfScript, Plays, TellsDisks, WasPlayedOrNot, by_run, outcome_text, unrun, unrun_ends}
+use Rattle.dr_outcome.specs.Playing.{Playing, part_in}
 use Rattle.dr_outcome.proofs.Lasts.{end_so, refusal_status, told_so}
-use Rattle.dr_outcome.proofs.Due.{contains_more, line_behind}
+use Rattle.dr_outcome.proofs.Due.{contains_more, line_behind, run_lasts}
 use Rattle.dr_commands.specs.declared.words.Command.{Command}
-use Rattle.dr_commands.specs.Outcome.{Course, Does, Exactly, IsWritten, WroteOrNot}
+use Rattle.dr_commands.specs.declared.words.Command.TheVariants.{Check, Drill, Live, Play, Shards, Store}
+use Rattle.dr_commands.specs.Outcome.{AsksLate, Course, Does, Exactly, IsWritten, WroteOrNot}
 use Rattle.dr_commands.specs.Words.{IsCommand, asked_by, ends_of, reads, statuses_of, told_by}
 
 -- a call: its words, its source and its yard before and after, and what it came to
@@ -58,7 +68,7 @@ pub data Rank (o : Outcome) (status : ℕ) : Type 0 where
 abbrev IsEarly : ℕ → Type 0
 IsEarly status = (status ≡ 10) ⊎ (status ≡ 5)
 
--- the status of a last line behind which nothing was run
+-- the status of a last line behind which nothing was run, but for the usage
 abbrev IsUnrun : ℕ → Type 0
 IsUnrun status = Contains (0 ∷ 3 ∷ 12 ∷ 13 ∷ []) status
 
@@ -66,6 +76,8 @@ IsUnrun status = Contains (0 ∷ 3 ∷ 12 ∷ 13 ∷ []) status
 pub data Standing (c : Call) (status : ℕ) : Type 0 where
   early : IsEarly status → Standing c status
   bad_words : status ≡ 2 → asked_by c.words ≡ None → IsQuiet c.outcome → Standing c status
+  all_late : status ≡ 2 → (k : Command) → asked_by c.words ≡ Some k → Contains (ends_of k) status
+      → AsksLate c.words c.old c.new → IsQuiet c.outcome → Standing c status
   bad_source : status ≡ 4 → (k : Command) → asked_by c.words ≡ Some k → IsTrue (reads k)
       → Rose c.failed c.fails → IsQuiet c.outcome → Standing c status
   has_run : (k : Command) → asked_by c.words ≡ Some k → Contains (ends_of k) status → Rank c.outcome status
@@ -145,29 +157,131 @@ run_rank o status line is due =
     (first_end Spent o.ages) (first_end NoMajority o.ages) refl refl refl refl refl
     (due ∙ sym (ap status_of (line_behind o.ages o.stop line is).1))
 
+-- ---- the usage
+
+-- a number that is not in a list
+abbrev Lacks : ℕ → List ℕ → Type 0
+Lacks n [] = ⊤
+Lacks n (e ∷ es) = (e ≡ n → ⊥) × Lacks n es
+
+lacks : (n : ℕ) (es : List ℕ) → Lacks n es → Contains es n → ⊥
+lacks n [] none (i, below, is) = omega (arith, below)
+lacks n (e ∷ es) none (zero, below, is) = none.0 is
+lacks n (e ∷ es) none (suc i, below, is) = lacks n es none.1 (i, omega (arith, below), is)
+
+-- a status that tells of no run is that of the usage or another
+usage_or_not : (status : ℕ) → Contains unrun_ends status → (status ≡ 2) ⊎ IsUnrun status
+usage_or_not status (zero, below, is) = inr (0, omega arith, is)
+usage_or_not status (suc zero, below, is) = inl (sym is)
+usage_or_not status (suc (suc i), below, is) = inr (suc i, omega (arith, below), is)
+
+-- the usage tells of no ages
+run_lacks_usage : (ages : List AgeEnd) (stop : Option Stop) (line : Last) → last_of ages stop ≡ Some line
+    → status_of line ≡ 2 → ⊥
+run_lacks_usage ages stop line is two =
+    lacks 2 (0 ∷ 6 ∷ 7 ∷ 8 ∷ 9 ∷ 11 ∷ []) (
+      λ e. omega (arith, e),
+      (
+        λ e. omega (arith, e),
+        (
+          λ e. omega (arith, e),
+          (
+            λ e. omega (arith, e),
+            (λ e. omega (arith, e), (λ e. omega (arith, e), tt)),
+          ),
+        ),
+      ),
+    )
+    (subst (Contains (0 ∷ 6 ∷ 7 ∷ 8 ∷ 9 ∷ 11 ∷ [])) two (run_lasts ages stop line is))
+
+-- what is refused as no script has another status
+other_line : (known line : Last) (last : Option Last) → status_of known ≡ 3 → last ≡ Some known → last ≡ Some line
+    → status_of line ≡ 2 → ⊥
+other_line known line last three was is two =
+    omega (arith, three, two, ap status_of (same_Some known line (sym was ∙ is)))
+
+-- where a script that was to be played comes to the usage all who take part are late
+abbrev IsLateReading : Playing → Reading → Type 0
+IsLateReading play r = (script : Script) × (r ≡ Reads script) × AreAllLate script (part_in play)
+
+late_reading : (play : Playing) (before after : YardState) (o : Outcome) (line : Last) (r : Reading)
+    → OfScript (λ script result. WasPlayedOrNot play script before after result) r before after o
+    → o.last ≡ Some line → status_of line ≡ 2 → IsLateReading play r
+late_reading play before after o line TooLong says is two =
+    absurd (other_line lasts.TooLong line o.last refl says.line is two)
+late_reading play before after o line NotJson says is two =
+    absurd (other_line lasts.NotJson line o.last refl says.line is two)
+late_reading play before after o line (Wrong rule path) says is two =
+    absurd (other_line (lasts.Rule rule path) line o.last refl says.line is two)
+late_reading play before after o line (Reads script) (inl played) is two =
+    absurd (run_lacks_usage o.ages o.stop line (sym played.0.line ∙ is) two)
+late_reading play before after o line (Reads script) (inr unplayed) is two = (script, refl, unplayed.0)
+
+-- so it is where the last line of any command is the usage: no other one has that status
+late_asked : (c : Call) (k : Command) (bytes : List ℕ) (line : Last) → asked_by c.words ≡ Some k
+    → WasReadFor (reads k) c.old c.new bytes → Does k bytes c.before c.after c.outcome → c.outcome.last ≡ Some line
+    → status_of line ≡ 2 → Contains (ends_of k) 2 → AsksLate c.words c.old c.new
+late_asked c (Play play) bytes line asked was plays is two known =
+    let found = late_reading play c.before c.after c.outcome line (reading_of bytes) plays is two in
+    record {
+      play = play;
+      asked = asked;
+      script = found.0;
+      read = (bytes, was, found.1);
+      late = found.2;
+    }
+late_asked c (Store key version) bytes line asked was does is two known =
+    absurd (lacks 2 (3 ∷ 0 ∷ 8 ∷ 9 ∷ [])
+    (λ e. omega (arith, e), (λ e. omega (arith, e), (λ e. omega (arith, e), (λ e. omega (arith, e), tt)))) known)
+late_asked c (Drill number) bytes line asked was does is two known =
+    absurd (lacks 2 (0 ∷ 8 ∷ 9 ∷ []) (λ e. omega (arith, e), (λ e. omega (arith, e), (λ e. omega (arith, e), tt))) known)
+late_asked c (Shards sharding) bytes line asked was does is two known =
+    absurd (lacks 2 (3 ∷ 12 ∷ 0 ∷ 8 ∷ 9 ∷ []) (
+      λ e. omega (arith, e),
+      (
+        λ e. omega (arith, e),
+        (
+          λ e. omega (arith, e),
+          (
+            λ e. omega (arith, e),
+            (λ e. omega (arith, e), tt),
+          ),
+        ),
+      ),
+    ) known)
+late_asked c (Live rounds) bytes line asked was does is two known =
+    absurd (lacks 2 (3 ∷ 0 ∷ 8 ∷ []) (λ e. omega (arith, e), (λ e. omega (arith, e), (λ e. omega (arith, e), tt))) known)
+late_asked c Check bytes line asked was does is two known =
+    absurd (lacks 2 (0 ∷ 3 ∷ 13 ∷ []) (λ e. omega (arith, e), (λ e. omega (arith, e), (λ e. omega (arith, e), tt))) known)
+
 -- a command that did what it does, and whose last line is written
 done_standing : (c : Call) (held holds : Option (List ℕ)) (fell falls status : ℕ) (k : Command)
-    (bytes : List ℕ) → asked_by c.words ≡ Some k
+    (bytes : List ℕ) → asked_by c.words ≡ Some k → WasReadFor (reads k) c.old c.new bytes
     → HasDone (Does k bytes) (ends_of k) c.before c.after c.outcome
     → WroteOrNot held holds fell falls status c.outcome → (last : Option Last) → c.outcome.last ≡ last
     → Standing c status
-done_standing c held holds fell falls status k bytes asked has wrote None is =
+done_standing c held holds fell falls status k bytes asked was has wrote None is =
     early (unsaid held holds fell falls status c.outcome wrote is)
-done_standing c held holds fell falls status k bytes asked has wrote (Some line) is =
+done_standing c held holds fell falls status k bytes asked was has wrote (Some line) is =
     elim (said held holds fell falls status c.outcome line wrote is) [
       | inl first ↦ early first
-      | inr due ↦
-          let known : Contains (ends_of k) status =
-          subst (Contains (ends_of k)) (sym due)
-          (subst (λ (l : Option Last). IfSome l (λ x. Contains (ends_of k) (status_of x))) is has.known) in
-          elim has.due [
-            | by_run told ↦ has_run k asked known (run_rank c.outcome status line (sym told ∙ is) due)
-            | unrun none unstopped tells ↦ has_not k asked known
-                (subst IsUnrun (sym due)
-                (subst (λ (l : Option Last). IfSome l (λ x. IsUnrun (status_of x))) is tells))
-                (quiet c.outcome none unstopped)
-          ]
+      | inr due ↦ elim has.due [
+        | by_run told ↦ has_run k asked (known due) (run_rank c.outcome status line (sym told ∙ is) due)
+        | unrun none unstopped tells ↦ by due (quiet c.outcome none unstopped)
+            (usage_or_not status (subst (Contains unrun_ends) (sym due)
+            (subst (λ (l : Option Last). IfSome l (λ x. Contains unrun_ends (status_of x))) is tells)))
+      ]
     ]
+  where
+    known : status ≡ status_of line → Contains (ends_of k) status
+    known due = subst (Contains (ends_of k)) (sym due)
+        (subst (λ (l : Option Last). IfSome l (λ x. Contains (ends_of k) (status_of x))) is has.known)
+
+    by : status ≡ status_of line → IsQuiet c.outcome → (status ≡ 2) ⊎ IsUnrun status → Standing c status
+    by due calm (inl two) = all_late two k asked (known due)
+        (late_asked c k bytes line asked was has.does is (sym due ∙ two) (subst (Contains (ends_of k)) two (known due)))
+        calm
+    by due calm (inr few) = has_not k asked (known due) few calm
 
 -- a call that has been written
 pub standing_of : (c : Call) (held holds : Option (List ℕ)) (fell falls status : ℕ) → IsCourse c
@@ -185,7 +299,7 @@ standing_of c held holds fell falls status course wrote = elim course [
       ]
   | no_memory k asked alone ↦ early (unsaid held holds fell falls status c.outcome wrote alone.line)
   | done k asked bytes was has ↦
-      done_standing c held holds fell falls status k bytes asked has wrote c.outcome.last refl
+      done_standing c held holds fell falls status k bytes asked was has wrote c.outcome.last refl
 ]
 
 -- a disk that failed is told by the status, unless an earlier one is
@@ -256,6 +370,7 @@ rank_of : (c : Call) (due status : ℕ) → status ≡ due → 5 < due → due <
 rank_of c due status is above below ten standing = elim standing [
   | early e ↦ absurd (late due status is ten (λ five. omega (arith, above, five)) e)
   | bad_words e none calm ↦ absurd (omega (arith, above, is, e))
+  | all_late e k asked known late calm ↦ absurd (omega (arith, above, is, e))
   | bad_source e k asked reading rose calm ↦ absurd (omega (arith, above, is, e))
   | has_run k asked known rank ↦ rank
   | has_not k asked known few calm ↦
@@ -271,32 +386,86 @@ unless_of : (c : Call) (status due : ℕ) (rest : List ℕ) (test : Bool) → te
 unless_of c status due rest test came silent ranks standing = elim standing [
   | early e ↦ inr (in_early rest status e)
   | bad_words e none calm ↦ absurd (true≢false (sym came ∙ silent calm))
+  | all_late e k asked known late calm ↦ absurd (true≢false (sym came ∙ silent calm))
   | bad_source e k asked reading rose calm ↦ absurd (true≢false (sym came ∙ silent calm))
   | has_run k asked known rank ↦ ranks rank
   | has_not k asked known few calm ↦ absurd (true≢false (sym came ∙ silent calm))
 ]
 
-pub usage_of : {c : Call} {status : ℕ} → Standing c status
-    → Exactly status 2 (10 ∷ 5 ∷ []) (IsCommand c.words → ⊥)
-usage_of {c} {status} standing = record {
-  only = λ is. elim standing [
-    | early e ↦ absurd (late 2 status is (λ e. omega (arith, e)) (λ e. omega (arith, e)) e)
-    | bad_words e none calm ↦ λ known. true≢false (sym known ∙ ap is_some none)
-    | bad_source e k asked reading rose calm ↦ absurd (omega (arith, is, e))
-    | has_run k asked known rank ↦
-        absurd (ranked c.outcome status rank (omega (arith, is)) (omega (arith, is)))
-    | has_not k asked known few calm ↦
-        absurd (not_unrun status few (λ e. omega (arith, is, e)) (λ e. omega (arith, is, e))
-        (omega (arith, is)))
-  ];
-  unless = λ other. elim standing [
-    | early e ↦ inr (in_early [] status e)
-    | bad_words e none calm ↦ inl e
-    | bad_source e k asked reading rose calm ↦ absurd (other (ap is_some asked))
-    | has_run k asked known rank ↦ absurd (other (ap is_some asked))
-    | has_not k asked known few calm ↦ absurd (other (ap is_some asked))
-  ];
-}
+pub usage_of : {c : Call} {status : ℕ} → Standing c status → status ≡ 2
+    → (IsCommand c.words → ⊥) ⊎ AsksLate c.words c.old c.new
+usage_of {c} {status} standing is = elim standing [
+  | early e ↦ absurd (late 2 status is (λ e. omega (arith, e)) (λ e. omega (arith, e)) e)
+  | bad_words e none calm ↦ inl (λ known. true≢false (sym known ∙ ap is_some none))
+  | all_late e k asked known asks calm ↦ inr asks
+  | bad_source e k asked reading rose calm ↦ absurd (omega (arith, is, e))
+  | has_run k asked known rank ↦
+      absurd (ranked c.outcome status rank (omega (arith, is)) (omega (arith, is)))
+  | has_not k asked known few calm ↦
+      absurd (not_unrun status few (λ e. omega (arith, is, e)) (λ e. omega (arith, is, e))
+      (omega (arith, is)))
+]
+
+pub usage_told_of : {c : Call} {status : ℕ} → Standing c status → (IsCommand c.words → ⊥)
+    → (status ≡ 2) ⊎ Contains (10 ∷ 5 ∷ []) status
+usage_told_of {c} {status} standing other = elim standing [
+  | early e ↦ inr (in_early [] status e)
+  | bad_words e none calm ↦ inl e
+  | all_late e k asked known asks calm ↦ inl e
+  | bad_source e k asked reading rose calm ↦ absurd (other (ap is_some asked))
+  | has_run k asked known rank ↦ absurd (other (ap is_some asked))
+  | has_not k asked known few calm ↦ absurd (other (ap is_some asked))
+]
+
+-- of a source that tells what it has left the same bytes were read
+same_read : (old new : Option (List ℕ)) (one other : List ℕ) → IsTrue (is_some old) → WasRead old new one
+    → WasRead old new other → one ≡ other
+same_read None new one other tells was is = absurd (true≢false (sym tells))
+same_read (Some left) None one other tells was is = absurd was.lost
+same_read (Some left) (Some rest) one other tells was is =
+    append_cancel_right one other rest (sym was.lost ∙ is.lost)
+
+-- a script in which all are late who take part was not played
+unplayed : (play : Playing) (script : Script) (before after : YardState) (o : Outcome)
+    → AreAllLate script (part_in play) → WasPlayedOrNot play script before after o → o.last ≡ Some lasts.Usage
+unplayed play script before after o late (inl played) =
+    let k = played.0.prompt late.some.0 late.some.1 late.some.2 in
+    absurd (true≢false (sym (late.all k.0 k.1 k.2) ∙ k.3))
+unplayed play script before after o late (inr says) = says.1.line
+
+pub late_told_of : (c : Call) (held holds : Option (List ℕ)) (fell falls status : ℕ) → IsCourse c
+    → WroteOrNot held holds fell falls status c.outcome → IsTrue (is_some c.old) → AsksLate c.words c.old c.new
+    → (status ≡ 2) ⊎ Contains (10 ∷ 5 ∷ 4 ∷ []) status
+late_told_of c held holds fell falls status course wrote tells asks = elim course [
+  | usage none kept alone ↦ by lasts.Usage alone.line (inl refl)
+  | no_source k asked reading rose alone ↦ by lasts.SourceFault alone.line (inr refl)
+  | no_memory k asked alone ↦
+      inr (in_early (4 ∷ []) status (unsaid held holds fell falls status c.outcome wrote alone.line))
+  | done k asked bytes was has ↦
+      let same : k ≡ Play asks.play = same_Some k (Play asks.play) (sym asked ∙ asks.asked) in
+      by lasts.Usage (comes_to bytes (subst (λ (j : Command). WasReadFor (reads j) c.old c.new bytes) same was)
+      (subst (λ (j : Command). Does j bytes c.before c.after c.outcome) same has.does)) (inl refl)
+]
+  where
+    by : (line : Last) → c.outcome.last ≡ Some line → (status_of line ≡ 2) ⊎ (status_of line ≡ 4)
+        → (status ≡ 2) ⊎ Contains (10 ∷ 5 ∷ 4 ∷ []) status
+    by line is which = elim (said held holds fell falls status c.outcome line wrote is) [
+      | inl first ↦ inr (in_early (4 ∷ []) status first)
+      | inr due ↦ elim which [
+        | inl two ↦ inl (due ∙ two)
+        | inr four ↦ inr (2, omega arith, sym (due ∙ four))
+      ]
+    ]
+
+    comes_to : (bytes : List ℕ) → WasRead c.old c.new bytes → Plays asks.play bytes c.before c.after c.outcome
+        → c.outcome.last ≡ Some lasts.Usage
+    comes_to bytes was plays =
+        let read : reading_of bytes ≡ Reads asks.script =
+        ap reading_of (same_read c.old c.new bytes asks.read.0 tells was asks.read.1) ∙ asks.read.2 in
+        unplayed asks.play asks.script c.before c.after c.outcome asks.late
+        (subst (λ (r : Reading). OfScript
+        (λ script result. WasPlayedOrNot asks.play script c.before c.after result) r c.before c.after c.outcome) read
+        plays)
 
 pub disk_fault_of : {c : Call} {status : ℕ} → Standing c status
     → Exactly status 6 (10 ∷ 5 ∷ []) (IsTrue (some_so DiskFault c.outcome.ages c.outcome.stop))
@@ -418,6 +587,7 @@ pub read_fault_of : {c : Call} {status : ℕ} → Standing c status → status �
 read_fault_of {c} {status} standing is = elim standing [
   | early e ↦ absurd (late 4 status is (λ e. omega (arith, e)) (λ e. omega (arith, e)) e)
   | bad_words e none calm ↦ absurd (omega (arith, is, e))
+  | all_late e k asked known asks calm ↦ absurd (omega (arith, is, e))
   | bad_source e k asked reading rose calm ↦ rose
   | has_run k asked known rank ↦ absurd (ranked c.outcome status rank (omega (arith, is)) (omega (arith, is)))
   | has_not k asked known few calm ↦
@@ -443,6 +613,7 @@ status_known {c} {status} standing = elim standing [
   | early e ↦ in_early (told_by (asked_by c.words)) status e
   | bad_words e none calm ↦
       subst (λ a. Contains (statuses_of a) status) (sym none) (2, omega arith, sym e)
+  | all_late e k asked known asks calm ↦ of_command k (asked_by c.words) asked status known
   | bad_source e k asked reading rose calm ↦
       subst (λ a. Contains (statuses_of a) status) (sym asked)
       (subst (λ (b : Bool). Contains (10 ∷ 5 ∷ (if b then 4 ∷ ends_of k else ends_of k)) status) (sym reading)

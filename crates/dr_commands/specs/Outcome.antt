@@ -1,16 +1,16 @@
 -- What comes of a call: what each command does, the last line, and the status.
-use Rattle.std.specs.Prelude.{◌≡◌, ◌⊎◌, ℕ, List, [], Option, Contains, MatchOption, String}
+use Rattle.std.specs.Prelude.{◌≡◌, ◌⊎◌, ℕ, List, [], Option, Some, Contains, MatchOption, String}
 use Rattle.std.specs.declared.alloc.Global.{Global}
 use Rattle.dr_checked.specs.Checked.{Checks, DisksTell, IsJudgedRight}
 use Rattle.dr_drilled.specs.Drilled.{Drills}
 use Rattle.dr_intake.specs.Answer.{IsAnswer}
-use Rattle.dr_intake.specs.Reading.{WasRead}
+use Rattle.dr_intake.specs.Reading.{IsScript, WasRead}
 use Rattle.dr_intake.specs.Status.{WroteText, status_of}
 use Rattle.dr_io.specs.Sink.{Gains}
 use Rattle.dr_lived.specs.Lived.{RunsLive}
-use Rattle.dr_outcome.specs.Outcome.{HasDone, Plays, SaysOnly, outcome_text}
+use Rattle.dr_outcome.specs.Outcome.{AreAllLate, HasDone, Plays, SaysOnly, outcome_text}
 use Rattle.dr_outcome.specs.declared.outcome.Outcome.{Outcome}
-use Rattle.dr_outcome.specs.Playing.{InFolder}
+use Rattle.dr_outcome.specs.Playing.{InFolder, Playing, part_in}
 use Rattle.dr_script.specs.declared.script.Script.{Script}
 use Rattle.dr_script.specs.Reading.{Reads, reading_of}
 use Rattle.dr_sharded.specs.Sharded.{RunsShards}
@@ -55,6 +55,14 @@ WroteOrNot old new failed fails status o =
 pub record Exactly (status due : ℕ) (earlier : List ℕ) (P : Type 0) : Type 0 where
   pub only : status ≡ due → P
   pub unless : P → (status ≡ due) ⊎ Contains earlier status
+
+-- the words ask for a script to be played that was read, and all who take part in it are late
+pub record AsksLate (words : List (String Global)) (old new : Option (List ℕ)) : Type 0 where
+  pub play : Playing
+  pub asked : asked_by words ≡ Some (Play play)
+  pub script : Script
+  pub read : IsScript old new script
+  pub late : AreAllLate script (part_in play)
 
 -- What was written for a script that was read is judged right as a report of that script, where the disks of
 -- its members tell.

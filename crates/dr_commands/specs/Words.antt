@@ -61,14 +61,19 @@ abbrev pub with_no_more : Option Command → List (List ℕ) → Option Command
 with_no_more (Some asked) [] = Some asked
 with_no_more asked rest = None
 
--- to play in a mode, over the logs in a folder if there is one
-abbrev pub played : Mode → Option InFolder → Command
-played mode folder = Play (record { mode = mode; folder = folder })
+-- to play in a mode, over the logs in a folder if there is one, with these members late
+abbrev pub played : Mode → Option InFolder → ℕ → Command
+played mode folder late = Play (record { mode = mode; folder = folder; late = late })
 
--- the members whose logs are missing: those of a list, and nobody's where there is none
-abbrev pub missing_in : Option (List ℕ) → Option ℕ
-missing_in None = Some 0
-missing_in (Some list) = mask_word list
+-- the members of a list, and nobody where there is none
+abbrev pub members_in : Option (List ℕ) → Option ℕ
+members_in None = Some 0
+members_in (Some list) = mask_word list
+
+-- the members that the option with this name lists, if the words begin with one, and the words behind it
+abbrev pub option_members : List ℕ → List (List ℕ) → Option (ℕ × List (List ℕ))
+option_members name words =
+    option_and_then (λ found. option_map (λ mask. (mask, found.1)) (members_in found.0)) (option_of name words)
 
 -- the folder of this name, but for the logs of the members of a mask
 abbrev pub in_folder : List ℕ → ℕ → InFolder
@@ -77,14 +82,23 @@ in_folder name missing = record { name = name; missing = missing }
 -- the folder of this name, but for the logs that the words behind it name as missing, and the words behind these
 abbrev pub folder_of : List ℕ → List (List ℕ) → Option (InFolder × List (List ℕ))
 folder_of name words =
-    option_and_then (λ found. option_map (λ missing. (in_folder name missing, found.1)) (missing_in found.0))
-    (option_of (codes "--missing") words)
+    option_map (λ found. (in_folder name found.0, found.1)) (option_members (codes "--missing") words)
+
+-- who is late by these words, and the words behind that: in threads so far nobody
+abbrev pub latecomers : Mode → List (List ℕ) → Option (ℕ × List (List ℕ))
+latecomers Sim words = option_members (codes "--late") words
+latecomers Run words = Some (0, words)
+
+-- to play in a mode over a folder, if there is one, by the words behind what names that
+abbrev pub play_over : Mode → Option InFolder → List (List ℕ) → Option Command
+play_over mode folder words =
+    option_and_then (λ found. with_no_more (Some (played mode folder found.0)) found.1) (latecomers mode words)
 
 -- to play in a mode, by the words behind the name of a folder, if there is one
 abbrev pub play_in : Mode → Option (List ℕ) → List (List ℕ) → Option Command
-play_in mode None words = with_no_more (Some (played mode None)) words
+play_in mode None words = play_over mode None words
 play_in mode (Some name) words =
-    option_and_then (λ found. with_no_more (Some (played mode (Some found.0))) found.1) (folder_of name words)
+    option_and_then (λ found. play_over mode (Some found.0) found.1) (folder_of name words)
 
 abbrev pub play_of : Mode → List (List ℕ) → Option Command
 play_of mode words =

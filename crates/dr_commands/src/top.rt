@@ -9,7 +9,7 @@ ghost use Rattle.dr_outcome.specs.declared.last.Kind.TheVariants.{DiskFault, Log
 ghost use Rattle.dr_outcome.specs.declared.outcome.Outcome.{Outcome as OutcomeOf};
 ghost use Rattle.dr_outcome.specs.Last.{refusal_of, some_end, some_so};
 ghost use Rattle.dr_outcome.specs.Playing.{Playing};
-ghost use Rattle.dr_commands.specs.Outcome.{Course, Exactly, IsWritten, WasJudgedRight, WroteOrNot};
+ghost use Rattle.dr_commands.specs.Outcome.{AsksLate, Course, Exactly, IsWritten, WasJudgedRight, WroteOrNot};
 ghost use Rattle.dr_commands.specs.declared.words.Command.TheVariants.{Play as PlayOf};
 ghost use Rattle.dr_commands.specs.Words.{IsCommand, asked_by, statuses_of};
 
@@ -42,8 +42,9 @@ pub struct Ended {
 /// `--logs F` or `--logs=F` each member keeps its log on a disk of the yard, in the folder `F`, and the first
 /// age begins with what is there. Behind it `--missing L` or `--missing=L` names the members whose logs are
 /// missing: they take no part. Without a folder each keeps its log on a disk in memory, which is gone when the
-/// run has ended. What the other commands do is told of each at [`Command`](crate::Command). The status says
-/// how that went: see the constants of `dr_intake`.
+/// run has ended. With `sim`, `--late L` or `--late=L` as the last option names the members that are in no first
+/// view: they wait until others wish for them. What the other commands do is told of each at
+/// [`Command`](crate::Command). The status says how that went: see the constants of `dr_intake`.
 pub fn derecho<R: Threads + Sync, S: Source, K: Sink, Y: Yard, P: Pace + Sync>(
     rt: &R,
     alloc: Global,
@@ -74,14 +75,22 @@ pub fn derecho<R: Threads + Sync, S: Source, K: Sink, Y: Yard, P: Pace + Sync>(
         (K.held sink.old) (K.held sink.new) (state_by Y.told Y.faults yard.old) }
     ensures given_up { result.status ≡ 10 → Gains (K.held sink.old) (K.held sink.new) [] }
 
-    // Where each status comes: 2 for words, 3 for what was read, 4 for a read, 5 for a write, 6 for a disk,
-    // 7 for logs, 8 for turns that were spent, 9 for a member without a majority of its view, 10 for memory,
-    // 11 for a full log, 12 for a layout that is refused, 13 for a report that is wrong, and else 0. Where
-    // several apply, the first of 10, 5, 2, 4, 3, 12, 13, 6, 7, 11, 8, 9 is taken.
+    // Where each status comes: 2 for words, and where all are late who take part in the script that was read, 3
+    // for what was read, 4 for a read, 5 for a write, 6 for a disk, 7 for logs, 8 for turns that were spent, 9 for a
+    // member without a majority of its view, 10 for memory, 11 for a full log, 12 for a layout that is refused,
+    // 13 for a report that is wrong, and else 0. Where several apply, the first of 10, 5, 2, 4, 3, 12, 13, 6, 7,
+    // 11, 8, 9 is taken, but that 4 and 3 come before a 2 for a script.
     // The table `ends_of` says which of them a command may come to: over disks in memory 6, 7 and 11 don't
     // come.
     ensures statuses { Contains (statuses_of (asked_by words.now)) result.status }
-    ensures usage { Exactly result.status 2 (10 ∷ 5 ∷ []) (¬ IsCommand words.now) }
+    ensures usage { result.status ≡ 2
+        → (¬ IsCommand words.now) ⊎ AsksLate words.now (S.left source.old) (S.left source.new) }
+    ensures usage_told { ¬ IsCommand words.now
+        → (result.status ≡ 2) ⊎ Contains (10 ∷ 5 ∷ []) result.status }
+    // Of a source that tells what it has left.
+    ensures late_told { IsTrue (is_some (S.left source.old))
+        → AsksLate words.now (S.left source.old) (S.left source.new)
+        → (result.status ≡ 2) ⊎ Contains (10 ∷ 5 ∷ 4 ∷ []) result.status }
     ensures read_fault { result.status ≡ 4 → Rose (S.faults source.old) (S.faults source.new) }
     ensures write_fault { result.status ≡ 5 → Rose (K.faults sink.old) (K.faults sink.new) }
     ensures read_fault_told { (S.faults source.new ≡ S.faults source.old)

@@ -1,6 +1,7 @@
-ghost use Rattle.std.specs.Prelude.{◌≡◌, bytes_eq, map, option_map, string_bytes};
+ghost use Rattle.std.specs.Prelude.{◌≡◌, IfSome, bytes_eq, map, option_map, string_bytes};
 ghost use Rattle.std.specs.List.{find};
-ghost use Rattle.dr_commands.specs.Words.{asked_at, asked_behind, behind, command_of, drill_of, folder_of, live_of, missing_in, option_of, own_word, play_in, play_of, played, shards_of, store_of, value_in, verb_by, verbs, with_no_more};
+ghost use Rattle.dr_ages.specs.declared.mode.Mode.TheVariants.{Run};
+ghost use Rattle.dr_commands.specs.Words.{asked_at, asked_behind, behind, command_of, drill_of, folder_of, latecomers, option_members, live_of, members_in, option_of, own_word, play_in, play_of, play_over, played, shards_of, store_of, value_in, verb_by, verbs, with_no_more};
 
 use dr_ages::Mode;
 use dr_entry::Message;
@@ -111,17 +112,28 @@ fn play_in<'a>(mode: Mode, name: Option<&'a str>, words: &'a [String]) -> Option
     ensures { result ≡ play_in mode (option_map (λ n. n.now) name.entry) (map string_bytes words.now) }
 {
     let Some(name) = name else {
-        return with_no_more(Some(played(mode, None)), words);
+        return play_over(mode, None, words);
     };
     let (folder, rest) = folder_of(name, words)?;
-    with_no_more(Some(played(mode, Some(folder))), rest)
+    play_over(mode, Some(folder), rest)
 }
 
-/// To play in a mode, over the logs in a folder if there is one.
-fn played<'a>(mode: Mode, folder: Option<Folder<'a>>) -> Command<'a>
-    ensures { result ≡ played mode folder.entry }
+/// What they ask for over a folder, if there is one, by the words behind what names that.
+fn play_over<'a>(mode: Mode, folder: Option<Folder<'a>>, words: &'a [String]) -> Option<Command<'a>>
+    ensures { result ≡ play_over mode folder.entry (map string_bytes words.now) }
 {
-    Command::Play(Play { mode, folder })
+    let Some((late, rest)) = latecomers(mode, words) else {
+        return None;
+    };
+    with_no_more(Some(played(mode, folder, late)), rest)
+}
+
+/// To play in a mode, over the logs in a folder if there is one, with these members late.
+fn played<'a>(mode: Mode, folder: Option<Folder<'a>>, late: Mask) -> Command<'a>
+    requires { mode ≡ Run → late ≡ 0 }
+    ensures { result ≡ played mode folder.entry late }
+{
+    Command::Play(Play { mode, folder, late })
 }
 
 /// The folder of this name, but for the logs that the words behind it name as missing, and the words behind
@@ -130,14 +142,37 @@ fn folder_of<'a>(name: &'a str, words: &'a [String]) -> Option<(Folder<'a>, &'a 
     ensures { option_map (λ found. (found.0, map string_bytes found.1.now)) result
         ≡ folder_of name.now (map string_bytes words.now) }
 {
-    let (list, rest) = option_of("--missing", words)?;
-    let missing = missing_in(list)?;
+    let Some((missing, rest)) = option_members("--missing", words) else {
+        return None;
+    };
     Some((Folder { name, missing }, rest))
 }
 
-/// The members whose logs are missing: those of a list, and nobody's where there is none.
-fn missing_in(list: Option<&str>) -> Option<Mask>
-    ensures { result ≡ missing_in (option_map (λ l. l.now) list.entry) }
+/// Who is late by these words, and the words behind that: in threads so far nobody.
+fn latecomers(mode: Mode, words: &[String]) -> Option<(Mask, &[String])>
+    ensures words { option_map (λ found. (found.0, map string_bytes found.1.now)) result
+        ≡ latecomers mode (map string_bytes words.now) }
+    ensures prompt { IfSome result (λ found. mode ≡ Run → found.0 ≡ 0) }
+{
+    match mode {
+        Mode::Sim => option_members("--late", words),
+        Mode::Run => Some((Mask::empty(), words)),
+    }
+}
+
+/// The members that the option with this name lists, if the words begin with one, and the words behind it.
+fn option_members<'a>(name: &str, words: &'a [String]) -> Option<(Mask, &'a [String])>
+    ensures { option_map (λ found. (found.0, map string_bytes found.1.now)) result
+        ≡ option_members name.now (map string_bytes words.now) }
+{
+    let (list, rest) = option_of(name, words)?;
+    let mask = members_in(list)?;
+    Some((mask, rest))
+}
+
+/// The members of a list, and nobody where there is none.
+fn members_in(list: Option<&str>) -> Option<Mask>
+    ensures { result ≡ members_in (option_map (λ l. l.now) list.entry) }
 {
     match list {
         Some(list) => mask_word(list),

@@ -18,6 +18,7 @@ played_so : (number : ℕ) (yard : YardState) (o : Outcome) (text : List ℕ)
     → HasPlayed simulated (drill number) yard yard (saying o text)
 played_so number yard o text played = record {
   ranges = played.ranges;
+  prompt = played.prompt;
   run = played.run;
   line = played.line;
   accepted = played.accepted;

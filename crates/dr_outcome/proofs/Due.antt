@@ -1,12 +1,15 @@
 -- What is certain of a script that was played, and of its last line.
-use Rattle.std.proofs.Common.{◌≡◌, ◌≢◌, ◌⊎◌, refl, sym, ap, ap₂, ◌∙◌, subst, inl, inr, ℕ, suc, true, false, true≢false, arith, List, [], ◌∷◌, length, Contains, Option, None, Some, IfSome, is_some, if◌then◌else◌}
+use Rattle.std.proofs.Common.{◌≡◌, ◌≢◌, ◌⊎◌, refl, sym, ap, ap₂, ◌∙◌, subst, inl, inr, ℕ, zero, suc, ◌<◌, ◌&&◌, not, nat_lt, is_none, MatchBool, true, false, true≢false, arith, List, [], ◌∷◌, length, Contains, Option, None, Some, IfSome, is_some, if◌then◌else◌}
+use Rattle.std.specs.Prelude.{MatchOption}
 use Rattle.std.proofs.lemmas.Bool.{cases_Bool, or_parts}
+use Rattle.std.proofs.lemmas.Bool.Decides.{nat_tests}
 use Rattle.std.proofs.lemmas.Option.{none-some, same_Some}
 use Rattle.dr_ages.specs.declared.mode.Mode.{Mode}
 use Rattle.dr_ages.specs.declared.mode.Mode.TheVariants.{Sim}
 use Rattle.dr_ages.specs.declared.stop.Stop.{Stop}
 use Rattle.dr_ages.specs.declared.stop.Stop.TheVariants.{OutOfMemory}
-use Rattle.dr_ages.specs.Ages.{AreAges}
+use Rattle.dr_ages.specs.Ages.{AreAges, HaveSomebodyPrompt}
+use Rattle.dr_ages.specs.declared.part.Part.{Part}
 use Rattle.dr_ages.specs.Fit.{AreFit}
 use Rattle.dr_ages.specs.Found.{NoneMissing}
 use Rattle.dr_complete.specs.Time.{HasTime}
@@ -19,33 +22,63 @@ use Rattle.dr_script.specs.Ranges.{HasRanges}
 use Rattle.dr_script.specs.Reading.{NotJson, Reading, Reads, TooLong, Wrong, reading_of}
 use Rattle.dr_text.specs.declared.last.Last.{Last}
 use Rattle.dr_text.specs.declared.last.Last.TheVariants as lasts
+use Rattle.dr_history.specs.Members.{has}
 use Rattle.dr_words.proofs.Bits.{has_zero}
+use Rattle.dr_words.specs.Masks.{IsLeastOf}
 use Rattle.dr_yard.specs.Yards.{YardState, empty_yard}
 use Rattle.dr_outcome.specs.declared.last.Kind.TheVariants.{DiskFault, LogFull, NoMajority, Spent}
 use Rattle.dr_outcome.specs.declared.outcome.Body.TheVariants as bodies
 use Rattle.dr_outcome.specs.declared.outcome.Outcome.{Outcome}
 use Rattle.dr_outcome.specs.Last.{first_end, first_told, is_memory, last_by, last_of, refusal_of, some_end, some_so, stopped_by}
-use Rattle.dr_outcome.specs.Outcome.{HasAllLogs, HasDone, HasPlayed, HasRun, IsDue, IsRunInMemory, LeavesRoom, NoneFailed, OfScript, Plays, SaysOnly, TellsDisks, body_text, by_run, unrun}
-use Rattle.dr_outcome.specs.Playing.{InFolder, Playing, ends_over, play_ends}
+use Rattle.dr_outcome.specs.Outcome.{AreAllLate, HasAllLogs, HasDone, HasPlayed, HasRun, IsDue, IsMemoryRun, LeavesRoom, NoneFailed, NoneLate, OfScript, Plays, SaysOnly, TellsDisks, WasPlayedOrNot, body_text, by_run, unrun, unrun_ends}
+use Rattle.dr_outcome.specs.Playing.{InFolder, Playing, ends_over, missing_of, part_in, play_ends, with_usage}
 use Rattle.dr_outcome.proofs.Lasts.{end_so, refusal_status, told_so}
-use Rattle.dr_outcome.proofs.Runs.{IsWhole, calm_run, memory_lasts, none_spent, none_split, whole_in_memory, whole_lasts, whole_run}
-
--- whose logs are missing: in memory nobody's
-abbrev missing_of : Option InFolder → ℕ
-missing_of (Some folder) = folder.missing
-missing_of None = 0
+use Rattle.dr_outcome.proofs.Runs.{IsWhole, calm_run, none_spent, none_split, part_lasts, whole_in_memory, whole_lasts, whole_run}
 
 -- the ages of a run, over whatever disks
-ages_of : (mode : Mode) (folder : Option InFolder) (script : Script) (before after : YardState)
-    (ages : List AgeEnd) (stop : Option Stop) → HasRun mode folder script before after ages stop
-    → (from : YardState) × (to : YardState) × AreAges script (missing_of folder) mode 0 from ages to
-ages_of mode (Some folder) script before after ages stop run = (before, run.last, run.course)
-ages_of mode None script before after ages stop run = (empty_yard, run.1.run.last, run.1.run.course)
+ages_of : (mode : Mode) (folder : Option InFolder) (part : Part) (script : Script) (before after : YardState)
+    (ages : List AgeEnd) (stop : Option Stop) → HasRun mode folder part script before after ages stop
+    → (from : YardState) × (to : YardState) × AreAges script part mode 0 from ages to
+ages_of mode (Some folder) part script before after ages stop run = (before, run.last, run.course)
+ages_of mode None part script before after ages stop run = (empty_yard, run.1.run.last, run.1.run.course)
 
 all_there : (folder : Option InFolder) (script : Script) → HasAllLogs folder script
     → NoneMissing script.members (missing_of folder)
 all_there (Some folder) script all = all
 all_there None script all = λ m below. has_zero m
+
+-- ---- who is late
+
+-- who takes part and isn't late, if anybody does, decides
+pub all_late : (script : Script) (part : Part) (there prompt : ℕ)
+    → ((i : ℕ) → has there i ≡ (nat_lt i script.members && not (has part.missing i)))
+    → ((i : ℕ) → has prompt i ≡ (has there i && not (has part.late i)))
+    → (some first : Option ℕ) → MatchOption some ((i : ℕ) → has there i ≡ false) (IsLeastOf there)
+    → MatchOption first ((i : ℕ) → has prompt i ≡ false) (IsLeastOf prompt)
+    → MatchBool (is_some some && is_none first) (AreAllLate script part) (HaveSomebodyPrompt script part)
+all_late script part there prompt here soon None first nobody least = λ m below taken.
+    let taking : has there m ≡ true = grind (arith, nat_tests, here m, below, taken) in
+    absurd (true≢false (sym taking ∙ nobody m))
+all_late script part there prompt here soon (Some k) None some none = record {
+  some = (
+    k,
+    grind (arith, nat_tests, here k, some.member),
+    grind (arith, nat_tests, here k, some.member),
+  );
+  all = λ m below taken. grind (arith, nat_tests, here m, soon m, none m, below, taken);
+}
+all_late script part there prompt here soon (Some k) (Some j) some first = λ m below taken. (
+  j,
+  grind (arith, nat_tests, here j, soon j, first.member),
+  grind (arith, nat_tests, here j, soon j, first.member),
+  grind (arith, nat_tests, here j, soon j, first.member),
+)
+
+-- where nobody is late not all are
+pub none_late : (script : Script) (part : Part) → part.late ≡ 0 → AreAllLate script part → ⊥
+none_late script part none late =
+    true≢false (sym (late.all late.some.0 late.some.1 late.some.2)
+    ∙ (ap (λ mask. has mask late.some.0) none ∙ has_zero late.some.0))
 
 -- what holds anyway holds of each last line
 pub whenever : {P : Type 0} (last : Option Last) → P → IfSome last (λ line. P)
@@ -162,23 +195,23 @@ accepts ages stop (Some line) is = λ three.
 -- ---- a script that was played
 
 untimely_by : (play : Playing) (script : Script) (before after : YardState) (ages : List AgeEnd)
-    (stop : Option Stop) → HasRun play.mode play.folder script before after ages stop → play.mode ≡ Sim
-    → HasAllLogs play.folder script → last_of ages stop ≡ Some lasts.Unfinished → HasTime script → ⊥
-untimely_by play script before after ages stop run sim all is time =
+    (stop : Option Stop) → HasRun play.mode play.folder (part_in play) script before after ages stop → play.mode ≡ Sim
+    → HasAllLogs play.folder script → NoneLate script.members play.late → last_of ages stop ≡ Some lasts.Unfinished → HasTime script → ⊥
+untimely_by play script before after ages stop run sim all prompt is time =
     let parts = unfinished_by (first_told DiskFault ages stop) (refusal_of stop) (first_told LogFull ages stop)
     (first_end Spent ages) (first_end NoMajority ages) (refusal_status stop)
     (ap status_of (line_behind ages stop lasts.Unfinished is).1) in
     let disk : some_so DiskFault ages stop ≡ false = sym (told_so DiskFault ages stop) ∙ parts.0 in
     let full : some_so LogFull ages stop ≡ false = sym (told_so LogFull ages stop) ∙ parts.1 in
     let turns : some_end Spent ages ≡ true = sym (end_so Spent ages) ∙ parts.2 in
-    let course = ages_of play.mode play.folder script before after ages stop run in
-    true≢false (sym turns ∙ none_spent script (missing_of play.folder) play.mode 0 course.0 course.1 ages course.2
-    (all_there play.folder script all) sim time
+    let course = ages_of play.mode play.folder (part_in play) script before after ages stop run in
+    true≢false (sym turns ∙ none_spent script (part_in play) play.mode 0 course.0 course.1 ages course.2
+    (all_there play.folder script all) prompt sim time
     (or_parts (some_end DiskFault ages) (is_some (stopped_by DiskFault stop)) disk).0
     (or_parts (some_end LogFull ages) (is_some (stopped_by LogFull stop)) full).0)
 
 untrusting_by : (play : Playing) (script : Script) (before after : YardState) (ages : List AgeEnd)
-    (stop : Option Stop) → HasRun play.mode play.folder script before after ages stop
+    (stop : Option Stop) → HasRun play.mode play.folder (part_in play) script before after ages stop
     → last_of ages stop ≡ Some lasts.NoMajority → SuspectsNobody script → ⊥
 untrusting_by play script before after ages stop run is trusting =
     let split : some_end NoMajority ages ≡ true =
@@ -186,8 +219,8 @@ untrusting_by play script before after ages stop run is trusting =
     ∙ split_by (first_told DiskFault ages stop) (refusal_of stop) (first_told LogFull ages stop)
     (first_end Spent ages) (first_end NoMajority ages) (refusal_status stop)
     (ap status_of (line_behind ages stop lasts.NoMajority is).1) in
-    let course = ages_of play.mode play.folder script before after ages stop run in
-    true≢false (sym split ∙ none_split script (missing_of play.folder) play.mode 0 course.0 course.1 ages course.2
+    let course = ages_of play.mode play.folder (part_in play) script before after ages stop run in
+    true≢false (sym split ∙ none_split script (part_in play) play.mode 0 course.0 course.1 ages course.2
     trusting)
 
 -- where there is a last line, memory was not wanting
@@ -197,13 +230,13 @@ not_wanting ages stop line is wanting =
     true≢false (sym (ap is_memory wanting) ∙ (line_behind ages stop line is).0)
 
 -- a disk that failed is told
-tells_disks : (mode : Mode) (folder : Option InFolder) (script : Script) (before after : YardState)
+tells_disks : (mode : Mode) (folder : Option InFolder) (part : Part) (script : Script) (before after : YardState)
     (ages : List AgeEnd) (stop : Option Stop) (last : Option Last)
-    → HasRun mode folder script before after ages stop → last ≡ last_of ages stop → TellsDisks before after last
-tells_disks mode folder script before after ages stop None run is = tt
-tells_disks mode None script before after ages stop (Some line) run is =
+    → HasRun mode folder part script before after ages stop → last ≡ last_of ages stop → TellsDisks before after last
+tells_disks mode folder part script before after ages stop None run is = tt
+tells_disks mode None part script before after ages stop (Some line) run is =
     inl (λ m. ap (λ (yard : YardState). yard.faults m) run.0)
-tells_disks mode (Some folder) script before after ages stop (Some line) run is =
+tells_disks mode (Some folder) part script before after ages stop (Some line) run is =
     by (first_told DiskFault ages stop) refl
   where
     behind : (is_memory stop ≡ false) × (line_of ages stop ≡ line)
@@ -212,66 +245,82 @@ tells_disks mode (Some folder) script before after ages stop (Some line) run is 
     by : (disk : Option ℕ) → first_told DiskFault ages stop ≡ disk
         → NoneFailed before after ⊎ (status_of line ≡ 6)
     by None none =
-        inl (calm_run script folder.missing mode before after ages stop run
+        inl (calm_run script part mode before after ages stop run
         (sym (told_so DiskFault ages stop) ∙ ap is_some none) behind.0)
     by (Some m) some =
         let named : line_of ages stop ≡ lasts.DiskFault m = ap (λ d. last_by d (refusal_of stop)
         (first_told LogFull ages stop) (first_end Spent ages) (first_end NoMajority ages)) some in
         inr (ap status_of (sym behind.1 ∙ named))
 
-stays_fit : (mode : Mode) (folder : Option InFolder) (script : Script) (before after : YardState)
+stays_fit : (mode : Mode) (folder : Option InFolder) (part : Part) (script : Script) (before after : YardState)
     (ages : List AgeEnd) (stop : Option Stop) (last : Option Last)
-    → HasRun mode folder script before after ages stop → last ≡ last_of ages stop
-    → HasAllLogs folder script → AreFit script before → IfSome last (λ line. AreFit script after)
-stays_fit mode folder script before after ages stop None run is all fit = tt
-stays_fit mode (Some name) script before after ages stop (Some line) run is all fit =
+    → HasRun mode folder part script before after ages stop → last ≡ last_of ages stop
+    → NoneMissing script.members part.missing → AreFit script before → IfSome last (λ line. AreFit script after)
+stays_fit mode folder part script before after ages stop None run is all fit = tt
+stays_fit mode (Some name) part script before after ages stop (Some line) run is all fit =
     (run.fit all fit).fit (not_wanting ages stop line (sym is))
-stays_fit mode None script before after ages stop (Some line) run is all fit =
+stays_fit mode None part script before after ages stop (Some line) run is all fit =
     subst (AreFit script) (sym run.0) fit
 
 -- a run that has room for all its ages
-whole_of : (mode : Mode) (folder : Option InFolder) (script : Script) (before after : YardState)
-    (ages : List AgeEnd) (stop : Option Stop) → HasRun mode folder script before after ages stop
-    → LeavesRoom folder script before after → is_memory stop ≡ false → IsWhole script ages stop
-whole_of mode (Some folder) script before after ages stop run room ample =
-    whole_run script folder.missing mode before after ages stop run room.0 room.1 room.2 room.3 ample
-whole_of mode None script before after ages stop run room ample =
-    whole_in_memory script mode ages stop run.1 ample
+room_for_all : (folder : Option InFolder) (script : Script) (before after : YardState)
+    → LeavesRoom folder script before after → NoneMissing script.members (missing_of folder)
+room_for_all (Some folder) script before after room = room.0
+room_for_all None script before after room = λ m below. has_zero m
+
+whole_of : (mode : Mode) (folder : Option InFolder) (part : Part) (script : Script) (before after : YardState)
+    (ages : List AgeEnd) (stop : Option Stop) → HasRun mode folder part script before after ages stop
+    → NoneMissing script.members part.missing → LeavesRoom folder script before after → is_memory stop ≡ false
+    → IsWhole script ages stop
+whole_of mode (Some folder) part script before after ages stop run all room ample =
+    whole_run script part mode before after ages stop run all room.1 room.2 room.3 ample
+whole_of mode None part script before after ages stop run all room ample =
+    whole_in_memory script part mode ages stop all run.1 ample
 
 all_ages : (play : Playing) (script : Script) (before after : YardState) (ages : List AgeEnd)
-    (stop : Option Stop) (last : Option Last) → HasRun play.mode play.folder script before after ages stop
+    (stop : Option Stop) (last : Option Last) → HasRun play.mode play.folder (part_in play) script before after ages stop
     → last ≡ last_of ages stop → LeavesRoom play.folder script before after
     → IfSome last (λ line. (length ages ≡ script.ages) × Contains (0 ∷ 8 ∷ 9 ∷ []) (status_of line))
 all_ages play script before after ages stop None run is room = tt
 all_ages play script before after ages stop (Some line) run is room =
     let ample = (line_behind ages stop line (sym is)).0 in
-    let whole = whole_of play.mode play.folder script before after ages stop run room ample in
+    let whole = whole_of play.mode play.folder (part_in play) script before after ages stop run
+    (room_for_all play.folder script before after room) room ample in
     (whole.ages_all, whole_lasts script ages stop line whole ample (sym is))
 
 pub has_played : (play : Playing) (script : Script) (before after : YardState) (o : Outcome)
-    → HasRanges script → HasRun play.mode play.folder script before after o.ages o.stop
+    → HasRanges script → HaveSomebodyPrompt script (part_in play)
+    → HasRun play.mode play.folder (part_in play) script before after o.ages o.stop
     → o.last ≡ last_of o.ages o.stop → HasPlayed play script before after o
-has_played play script before after o ranges run line = record {
+has_played play script before after o ranges prompt run line = record {
   ranges = ranges;
+  prompt = prompt;
   run = run;
   line = line;
   accepted = accepts o.ages o.stop o.last line;
-  untimely = λ sim all is. untimely_by play script before after o.ages o.stop run sim all (sym line ∙ is);
+  untimely = λ sim all none is.
+      untimely_by play script before after o.ages o.stop run sim all none (sym line ∙ is);
   untrusting = λ is. untrusting_by play script before after o.ages o.stop run (sym line ∙ is);
-  told = tells_disks play.mode play.folder script before after o.ages o.stop o.last run line;
-  fit = λ all fit. stays_fit play.mode play.folder script before after o.ages o.stop o.last run line all fit;
+  told = tells_disks play.mode play.folder (part_in play) script before after o.ages o.stop o.last run line;
+  fit = λ all fit. stays_fit play.mode play.folder (part_in play) script before after o.ages o.stop o.last run line
+      (all_there play.folder script all) fit;
   complete = λ room. all_ages play script before after o.ages o.stop o.last run line room;
 }
 
+-- in memory, with these members late
+abbrev memory_play : Mode → ℕ → Playing
+memory_play mode late = record { mode = mode; folder = None; late = late }
+
 -- nothing was run in memory, or the run there is one that was played, and every yard is as it was
-pub memory_played : (mode : Mode) (script : Script) (yard : YardState) (o : Outcome) → HasRanges script
-    → o.body ≡ bodies.Report → ((o.ages ≡ []) × (o.stop ≡ None) × (o.last ≡ None))
-    ⊎ (IsRunInMemory script mode o.ages o.stop × (o.last ≡ last_of o.ages o.stop))
-    → SaysOnly None yard yard o ⊎ HasPlayed (record { mode = mode; folder = None }) script yard yard o
-memory_played mode script yard o ranges body (inl nothing) =
+pub memory_played : (mode : Mode) (late : ℕ) (script : Script) (yard : YardState) (o : Outcome) → HasRanges script
+    → HaveSomebodyPrompt script (part_in (memory_play mode late)) → o.body ≡ bodies.Report
+    → ((o.ages ≡ []) × (o.stop ≡ None) × (o.last ≡ None))
+    ⊎ (IsMemoryRun script (part_in (memory_play mode late)) mode o.ages o.stop × (o.last ≡ last_of o.ages o.stop))
+    → SaysOnly None yard yard o ⊎ HasPlayed (memory_play mode late) script yard yard o
+memory_played mode late script yard o ranges prompt body (inl nothing) =
     inl (says_only None yard o nothing.0 nothing.1 body nothing.2)
-memory_played mode script yard o ranges body (inr ran) =
-    inr (has_played (record { mode = mode; folder = None }) script yard yard o ranges (refl, ran.0) ran.1)
+memory_played mode late script yard o ranges prompt body (inr ran) =
+    inr (has_played (memory_play mode late) script yard yard o ranges prompt (refl, ran.0) ran.1)
 
 -- ---- the last lines of commands
 
@@ -293,8 +342,8 @@ refused_ends : (ends : List ℕ) (before after : YardState) (o : Outcome) (line 
     → SaysOnly (Some line) before after o → EndsIn (3 ∷ ends) o
 refused_ends ends before after o line three says = (
   unrun says.none says.unstopped
-      (subst (λ l. IfSome l (λ line. Contains (0 ∷ 3 ∷ 12 ∷ 13 ∷ []) (status_of line))) (sym says.line)
-      (1, omega arith, sym three)),
+      (subst (λ l. IfSome l (λ line. Contains unrun_ends (status_of line))) (sym says.line)
+      (2, omega arith, sym three)),
   subst (λ l. IfSome l (λ line. Contains (3 ∷ ends) (status_of line))) (sym says.line)
       (0, omega arith, sym three),
 )
@@ -341,27 +390,58 @@ played_ends play script before after o played = (
 )
   where
     by_folder : (folder : Option InFolder) (last : Option Last)
-        → HasRun play.mode folder script before after o.ages o.stop → last_of o.ages o.stop ≡ last
-        → IfSome last (λ line. Contains (ends_over folder) (status_of line))
+        → HasRun play.mode folder (record { missing = missing_of folder; late = play.late }) script before after o.ages
+        o.stop → last_of o.ages o.stop ≡ last → IfSome last (λ line. Contains (ends_over folder) (status_of line))
     by_folder None None run is = tt
     by_folder (Some name) None run is = tt
-    by_folder None (Some line) run is = memory_lasts script play.mode o.ages o.stop line run.1 is
+    by_folder None (Some line) run is =
+        part_lasts script (record { missing = 0; late = play.late }) play.mode o.ages o.stop line (λ m below. has_zero m)
+        run.1 is
     by_folder (Some name) (Some line) run is = run_lasts o.ages o.stop line is
+
+-- the statuses of a run are among those of a play, and so is that of the usage where somebody is late
+with_usage_more : (late : ℕ) (ends : List ℕ) (last : Option Last) → IfSome last (λ line. Contains ends (status_of line))
+    → IfSome last (λ line. Contains (with_usage late ends) (status_of line))
+with_usage_more zero ends last is = is
+with_usage_more (suc late) ends last is = one_more 2 ends last is
+
+usage_ends : (play : Playing) (script : Script) (ends : List ℕ) (late : ℕ) → late ≡ play.late
+    → AreAllLate script (part_in play) → Contains (with_usage late ends) 2
+usage_ends play script ends zero is all = absurd (none_late script (part_in play) (sym is) all)
+usage_ends play script ends (suc late) is all = (0, omega arith, refl)
+
+play_or_not_ends : (play : Playing) (script : Script) (before after : YardState) (o : Outcome)
+    → WasPlayedOrNot play script before after o → EndsIn (with_usage play.late (ends_over play.folder)) o
+play_or_not_ends play script before after o (inl played) =
+    let ends = played_ends play script before after o played.0 in
+    (ends.0, with_usage_more play.late (ends_over play.folder) o.last ends.1)
+play_or_not_ends play script before after o (inr unplayed) = (
+  unrun unplayed.1.none unplayed.1.unstopped
+      (subst (λ l. IfSome l (λ line. Contains unrun_ends (status_of line))) (sym unplayed.1.line)
+      (1, omega arith, refl)),
+  subst (λ l. IfSome l (λ line. Contains (with_usage play.late (ends_over play.folder)) (status_of line)))
+      (sym unplayed.1.line)
+      (usage_ends play script (ends_over play.folder) play.late refl unplayed.0),
+)
+
+play_or_not_tells : (play : Playing) (script : Script) (before after : YardState) (o : Outcome)
+    → WasPlayedOrNot play script before after o → TellsDisks before after o.last
+play_or_not_tells play script before after o (inl played) = played.0.told
+play_or_not_tells play script before after o (inr unplayed) =
+    unrun_tells before after o (Some lasts.Usage) unplayed.1
 
 pub play_done : (play : Playing) (bytes : List ℕ) (before after : YardState) (o : Outcome)
     → Plays play bytes before after o → HasDone (Plays play bytes) (play_ends play) before after o
 play_done play bytes before after o plays =
-    let has = script_ends
-    (λ script result. HasPlayed play script before after result × (result.body ≡ bodies.Report))
-    (ends_over play.folder) before after o
-    (λ script is. played_ends play script before after o is.0) (reading_of bytes) plays in
+    let has = script_ends (λ script result. WasPlayedOrNot play script before after result)
+    (with_usage play.late (ends_over play.folder)) before after o
+    (λ script is. play_or_not_ends play script before after o is) (reading_of bytes) plays in
     record {
       does = plays;
       due = has.0;
       known = has.1;
-      told = script_tells
-          (λ script result. HasPlayed play script before after result × (result.body ≡ bodies.Report)) before after o
-          (λ script is. is.0.told) (reading_of bytes) plays;
+      told = script_tells (λ script result. WasPlayedOrNot play script before after result) before after o
+          (λ script is. play_or_not_tells play script before after o is) (reading_of bytes) plays;
     }
 
 -- ---- a text that is refused

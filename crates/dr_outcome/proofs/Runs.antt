@@ -1,8 +1,9 @@
 -- What is certain of the ends and of the stop of a run.
-use Rattle.std.proofs.Common.{◌≡◌, ◌≢◌, refl, sym, ap, subst, ◌∙◌, inl, inr, ℕ, ◌+◌, ◌<◌, ◌≤◌, Bool, true, false, true≢false, arith, List, [], ◌∷◌, length, slice_get, get_or, All, Contains, Option, None, Some, is_some, IfSome, if◌then◌else◌}
+use Rattle.std.proofs.Common.{◌≡◌, ◌≢◌, ◌⊎◌, refl, sym, ap, subst, ◌∙◌, inl, inr, ℕ, ◌+◌, ◌-◌, ◌^◌, ◌<◌, ◌≤◌, ◌&&◌, nat_lt, not, Bool, true, false, true≢false, arith, List, [], ◌∷◌, length, slice_get, get_or, All, Contains, Option, None, Some, is_some, IfSome, if◌then◌else◌}
 use Rattle.std.specs.List.{list_any}
 use Rattle.std.proofs.Math.Path.{fun_ext}
-use Rattle.std.proofs.lemmas.Bool.{cases_Bool, or_from, or_parts}
+use Rattle.std.proofs.lemmas.Bool.{cases_Bool, cases_lt, or_from, or_parts}
+use Rattle.std.proofs.lemmas.Bool.Decides.{nat_tests}
 use Rattle.std.proofs.lemmas.List.Elements.{All-cons, All-nil}
 use Rattle.std.proofs.lemmas.List.Folds.{list_any_at, list_any_none}
 use Rattle.std.proofs.lemmas.Option.{none-some, same_Some, slice_get-get_or, slice_get_within}
@@ -10,7 +11,8 @@ use Rattle.dr_ages.specs.declared.mode.Mode.{Mode}
 use Rattle.dr_ages.specs.declared.mode.Mode.TheVariants.{Sim}
 use Rattle.dr_ages.specs.declared.stop.Stop.{Stop}
 use Rattle.dr_ages.specs.declared.stop.Stop.TheVariants as stops
-use Rattle.dr_ages.specs.Ages.{AreAges, opening_of}
+use Rattle.dr_ages.specs.Ages.{AreAges, all_but, opening_of, taking_part}
+use Rattle.dr_ages.specs.declared.part.Part.{Part}
 use Rattle.dr_ages.specs.Fit.{AreFit}
 use Rattle.dr_ages.specs.Found.{AreRoomy, NoneMissing}
 use Rattle.dr_ages.specs.Runs.{HasFinished, IsFreshRun, IsRoomyRun, IsRunOf}
@@ -24,19 +26,23 @@ use Rattle.dr_entry.specs.declared.end.End.TheVariants as ends
 use Rattle.dr_entry.specs.declared.end.MemberEnd.{MemberEnd}
 use Rattle.dr_entry.specs.declared.limits.TheConstants.{MAX_MEMBERS}
 use Rattle.dr_history.specs.declared.opening.Opening.{Opening}
+use Rattle.dr_history.specs.Members.{has}
+use Rattle.dr_history.specs.Soundness.{IsNobodyLate}
 use Rattle.dr_program_laws.specs.Ended.{AreComplete}
 use Rattle.dr_program_laws.specs.Trusting.{NoneLeft, SuspectsNobody, is_left_out}
 use Rattle.dr_script.specs.declared.script.Script.{Script}
 use Rattle.dr_age.specs.Logged.{IsNotFull, NoneFull, why_ended}
 use Rattle.dr_io.specs.Faults.{Rose}
-use Rattle.dr_words.proofs.Bits.{has_zero}
+use Rattle.dr_words.proofs.Bits.{has_ones, has_zero}
+use Rattle.dr_words.proofs.Masks.{has_mask_of, same_masks}
+use Rattle.dr_words.specs.Masks.{without}
 use Rattle.dr_yard.specs.Yards.{YardState, empty_yard}
 use Rattle.dr_outcome.specs.declared.last.Kind.{Kind}
 use Rattle.dr_outcome.specs.declared.last.Kind.TheVariants.{DiskFault, LogFull, NoMajority, Spent}
 use Rattle.dr_intake.specs.Status.{status_of}
 use Rattle.dr_text.specs.declared.last.Last.{Last}
 use Rattle.dr_outcome.specs.Last.{first_end, first_told, is_memory, is_of, last_by, last_of, refusal_of, some_end, some_so, stopped_by}
-use Rattle.dr_outcome.specs.Outcome.{IsRunInMemory}
+use Rattle.dr_outcome.specs.Outcome.{IsMemoryRun, IsRunInMemory, NoneLate}
 use Rattle.dr_outcome.proofs.Lasts.{told_so}
 
 -- whether some of these members ended so
@@ -44,20 +50,20 @@ abbrev some_of : Kind → List MemberEnd → Bool
 some_of kind members = list_any (λ (m : MemberEnd). is_of kind m.end) members
 
 -- every age has as many members as the script
-pub few_members : (script : Script) (missing : ℕ) (mode : Mode) (nth : ℕ) (before after : YardState) (ages : List AgeEnd)
-    → script.members ≤ MAX_MEMBERS → AreAges script missing mode nth before ages after
+pub few_members : (script : Script) (part : Part) (mode : Mode) (nth : ℕ) (before after : YardState) (ages : List AgeEnd)
+    → script.members ≤ MAX_MEMBERS → AreAges script part mode nth before ages after
     → All (λ (age : AgeEnd). length age.members ≤ MAX_MEMBERS) ages
-few_members script missing mode nth before after [] few are = All-nil (λ (age : AgeEnd). length age.members ≤ MAX_MEMBERS)
-few_members script missing mode nth before after (age ∷ ages) few (between, is, rest) =
+few_members script part mode nth before after [] few are = All-nil (λ (age : AgeEnd). length age.members ≤ MAX_MEMBERS)
+few_members script part mode nth before after (age ∷ ages) few (between, is, rest) =
     All-cons (λ (age : AgeEnd). length age.members ≤ MAX_MEMBERS) age ages (omega (arith, is.roster, few))
-    (few_members script missing mode (nth + 1) between after ages few rest)
+    (few_members script part mode (nth + 1) between after ages few rest)
 
 -- no count of faults falls
-later : (script : Script) (missing : ℕ) (mode : Mode) (nth : ℕ) (before after : YardState) (ages : List AgeEnd)
-    → AreAges script missing mode nth before ages after → (m : ℕ) → before.faults m ≤ after.faults m
-later script missing mode nth before after [] are m = omega (arith, ap (λ (yard : YardState). yard.faults m) are)
-later script missing mode nth before after (age ∷ ages) (between, is, rest) m =
-    omega (arith, (is.passes m).later, later script missing mode (nth + 1) between after ages rest m)
+later : (script : Script) (part : Part) (mode : Mode) (nth : ℕ) (before after : YardState) (ages : List AgeEnd)
+    → AreAges script part mode nth before ages after → (m : ℕ) → before.faults m ≤ after.faults m
+later script part mode nth before after [] are m = omega (arith, ap (λ (yard : YardState). yard.faults m) are)
+later script part mode nth before after (age ∷ ages) (between, is, rest) m =
+    omega (arith, (is.passes m).later, later script part mode (nth + 1) between after ages rest m)
 
 disk_fault_is : (e : End) → is_of DiskFault e ≡ true → e ≡ ends.DiskFault
 disk_fault_is ends.Done is = absurd (true≢false (sym is))
@@ -71,13 +77,13 @@ disk_fault_is (ends.Spent turns) is = absurd (true≢false (sym is))
 disk_fault_is ends.Absent is = absurd (true≢false (sym is))
 
 -- where no fault is counted no disk has ended a member
-none_failed : (script : Script) (missing : ℕ) (mode : Mode) (nth : ℕ) (before after : YardState) (ages : List AgeEnd)
-    → AreAges script missing mode nth before ages after → ((m : ℕ) → after.faults m ≡ 0) → some_end DiskFault ages ≡ false
-none_failed script missing mode nth before after [] are calm = refl
-none_failed script missing mode nth before after (age ∷ ages) (between, is, rest) calm =
+none_failed : (script : Script) (part : Part) (mode : Mode) (nth : ℕ) (before after : YardState) (ages : List AgeEnd)
+    → AreAges script part mode nth before ages after → ((m : ℕ) → after.faults m ≡ 0) → some_end DiskFault ages ≡ false
+none_failed script part mode nth before after [] are calm = refl
+none_failed script part mode nth before after (age ∷ ages) (between, is, rest) calm =
     or_from (some_of DiskFault age.members) (some_end DiskFault ages)
     (list_any_none (λ (m : MemberEnd). is_of DiskFault m.end) age.members here)
-    (none_failed script missing mode (nth + 1) between after ages rest calm)
+    (none_failed script part mode (nth + 1) between after ages rest calm)
   where
     here : All (λ (m : MemberEnd). is_of DiskFault m.end ≡ false) age.members
     here k d within =
@@ -86,7 +92,7 @@ none_failed script missing mode nth before after (age ∷ ages) (between, is, re
           | inl failed ↦
               let at = slice_get-get_or age.members k d within in
               let rose = is.failed k e at (disk_fault_is e.end failed) in
-              absurd (omega (arith, rose, later script missing mode (nth + 1) between after ages rest k, calm k))
+              absurd (omega (arith, rose, later script part mode (nth + 1) between after ages rest k, calm k))
           | inr other ↦ other
         ]
 
@@ -115,22 +121,49 @@ none_spends o members complete = list_any_none (λ (m : MemberEnd). is_of Spent 
     (λ k d within.
     ap (is_of Spent) (complete k (get_or members k d) (slice_get-get_or members k d within)).end)
 
+-- where nobody of the roster is late nobody is in an age
+nobody_late : (script : Script) (part : Part) (age : AgeEnd) → NoneLate script.members part.late
+    → IsNobodyLate (opening_of script part age)
+nobody_late script part age none =
+    same_masks (without there part.late) there
+    (λ i. has_mask_of (λ k. has there k && not (has part.late k)) i ∙ by i (cases_lt i script.members))
+  where
+    there : ℕ
+    there = taking_part script part.missing
+
+    by : (i : ℕ) → (i < script.members) ⊎ (script.members ≤ i)
+        → (nat_lt i 16 && (has there i && not (has part.late i))) ≡ has there i
+    by i (inl low) = grind (
+      arith,
+      nat_tests,
+      none i low,
+      has_mask_of (λ k. has (2 ^ script.members - 1) k && not (has part.missing k)) i,
+    )
+    by i (inr high) = grind (
+      arith,
+      nat_tests,
+      high,
+      has_ones script.members i,
+      has_mask_of (λ k. has (2 ^ script.members - 1) k && not (has part.missing k)) i,
+    )
+
 -- with time enough, and unless a log ends one, no member spends its turns
-pub none_spent : (script : Script) (missing : ℕ) (mode : Mode) (nth : ℕ) (before after : YardState) (ages : List AgeEnd)
-    → AreAges script missing mode nth before ages after → NoneMissing script.members missing → mode ≡ Sim
+pub none_spent : (script : Script) (part : Part) (mode : Mode) (nth : ℕ) (before after : YardState) (ages : List AgeEnd)
+    → AreAges script part mode nth before ages after → NoneMissing script.members part.missing → NoneLate script.members part.late → mode ≡ Sim
     → HasTime script
     → some_end DiskFault ages ≡ false
     → some_end LogFull ages ≡ false → some_end Spent ages ≡ false
-none_spent script missing mode nth before after [] are all sim time failed full = refl
-none_spent script missing mode nth before after (age ∷ ages) (between, is, rest) all sim time failed full =
+none_spent script part mode nth before after [] are all prompt sim time failed full = refl
+none_spent script part mode nth before after (age ∷ ages) (between, is, rest) all prompt sim time failed full =
     let fails = or_parts (some_of DiskFault age.members) (some_end DiskFault ages) failed in
     let fills = or_parts (some_of LogFull age.members) (some_end LogFull ages) full in
     or_from (some_of Spent age.members) (some_end Spent ages)
-    (none_spends (opening_of script missing age) age.members (is.complete all sim time
+    (none_spends (opening_of script part age) age.members (is.complete all
+    (nobody_late script part age prompt) sim time
     (λ k d within. unstopped (get_or age.members k d).end
     (none_of (λ (m : MemberEnd). is_of DiskFault m.end) age.members k d fails.0 within)
     (none_of (λ (m : MemberEnd). is_of LogFull m.end) age.members k d fills.0 within))))
-    (none_spent script missing mode (nth + 1) between after ages rest all sim time fails.1 fills.1)
+    (none_spent script part mode (nth + 1) between after ages rest all prompt sim time fails.1 fills.1)
 
 unsplit : (e : End) → is_left_out e ≡ false → is_of NoMajority e ≡ false
 unsplit ends.Done stays = refl
@@ -148,13 +181,13 @@ none_splits : (members : List MemberEnd) → NoneLeft members → some_of NoMajo
 none_splits members stay = list_any_none (λ (m : MemberEnd). is_of NoMajority m.end) members
     (λ k d within. unsplit (get_or members k d).end (stay k d within))
 
-pub none_split : (script : Script) (missing : ℕ) (mode : Mode) (nth : ℕ) (before after : YardState) (ages : List AgeEnd)
-    → AreAges script missing mode nth before ages after → SuspectsNobody script → some_end NoMajority ages ≡ false
-none_split script missing mode nth before after [] are trusting = refl
-none_split script missing mode nth before after (age ∷ ages) (between, is, rest) trusting =
+pub none_split : (script : Script) (part : Part) (mode : Mode) (nth : ℕ) (before after : YardState) (ages : List AgeEnd)
+    → AreAges script part mode nth before ages after → SuspectsNobody script → some_end NoMajority ages ≡ false
+none_split script part mode nth before after [] are trusting = refl
+none_split script part mode nth before after (age ∷ ages) (between, is, rest) trusting =
     or_from (some_of NoMajority age.members) (some_end NoMajority ages)
     (none_splits age.members (is.trusting trusting))
-    (none_split script missing mode (nth + 1) between after ages rest trusting)
+    (none_split script part mode (nth + 1) between after ages rest trusting)
 
 unfull : (e : End) → IsNotFull e → is_of LogFull e ≡ false
 unfull ends.Done room = refl
@@ -167,63 +200,64 @@ unfull (ends.LogFull len) room = absurd room
 unfull (ends.Spent turns) room = refl
 unfull ends.Absent room = refl
 
--- a run over empty disks
-fresh : (script : Script) (mode : Mode) (ages : List AgeEnd) (stop : Option Stop) → IsRunInMemory script mode ages stop
-    → IsFreshRun ages stop
-fresh script mode ages stop in_memory = in_memory.run.fresh (λ m below. has_zero m) (λ m below. refl)
+-- a run over empty disks, of which none is missing
+fresh : (script : Script) (part : Part) (mode : Mode) (ages : List AgeEnd) (stop : Option Stop)
+    → NoneMissing script.members part.missing → IsMemoryRun script part mode ages stop → IsFreshRun ages stop
+fresh script part mode ages stop all in_memory = in_memory.run.fresh all (λ m below. refl)
 
-pub in_memory : (script : Script) (mode : Mode) (ages : List AgeEnd) (stop : Option Stop) (told : ℕ → Option Told)
-    (after : YardState) → ((m : ℕ) → told m ≡ Some (Now (at_rest []))) → ((m : ℕ) → after.faults m ≡ 0)
-    → IsRunOf script 0 mode (record { told = told; faults = λ m. 0 }) after ages stop
-    → IsRunInMemory script mode ages stop
-in_memory script mode ages stop told after empty calm run = record {
+pub in_memory : (script : Script) (part : Part) (mode : Mode) (ages : List AgeEnd) (stop : Option Stop)
+    (told : ℕ → Option Told) (after : YardState) → ((m : ℕ) → told m ≡ Some (Now (at_rest [])))
+    → ((m : ℕ) → after.faults m ≡ 0)
+    → IsRunOf script part mode (record { told = told; faults = λ m. 0 }) after ages stop
+    → IsMemoryRun script part mode ages stop
+in_memory script part mode ages stop told after empty calm run = record {
   after = after;
   calm = calm;
-  run = subst (λ (t : ℕ → Option Told). IsRunOf script 0 mode (record { told = t; faults = λ m. 0 }) after ages stop)
+  run = subst (λ (t : ℕ → Option Told). IsRunOf script part mode (record { told = t; faults = λ m. 0 }) after ages stop)
       (fun_ext empty) run;
 }
 
 -- over empty disks that count no fault, and where memory is not wanting, no disk ends a run or a member
-pub memory_holds : (script : Script) (mode : Mode) (ages : List AgeEnd) (stop : Option Stop)
-    → IsRunInMemory script mode ages stop → is_memory stop ≡ false → some_so DiskFault ages stop ≡ false
-memory_holds script mode ages None in_memory ample =
+pub memory_holds : (script : Script) (part : Part) (mode : Mode) (ages : List AgeEnd) (stop : Option Stop)
+    → NoneMissing script.members part.missing → IsMemoryRun script part mode ages stop → is_memory stop ≡ false → some_so DiskFault ages stop ≡ false
+memory_holds script part mode ages None all in_memory ample =
     or_from (some_end DiskFault ages) false
-    (none_failed script 0 mode 0 empty_yard in_memory.run.last ages in_memory.run.course
+    (none_failed script part mode 0 empty_yard in_memory.run.last ages in_memory.run.course
     (λ m. ap (λ (yard : YardState). yard.faults m) in_memory.run.finish.1 ∙ in_memory.calm m))
     refl
-memory_holds script mode ages (Some stops.OutOfMemory) in_memory ample = absurd (true≢false ample)
-memory_holds script mode ages (Some (stops.DiskFault member)) in_memory ample =
+memory_holds script part mode ages (Some stops.OutOfMemory) all in_memory ample = absurd (true≢false ample)
+memory_holds script part mode ages (Some (stops.DiskFault member)) all in_memory ample =
     absurd (omega (arith, in_memory.run.finish.1.rose, in_memory.calm member))
-memory_holds script mode ages (Some (stops.LogFull member len)) in_memory ample =
-    absurd (fresh script mode ages (Some (stops.LogFull member len)) in_memory).stopped
-memory_holds script mode ages (Some (stops.Damaged member at)) in_memory ample =
-    absurd (fresh script mode ages (Some (stops.Damaged member at)) in_memory).stopped
-memory_holds script mode ages (Some (stops.NoQuorum view have need)) in_memory ample =
-    absurd (fresh script mode ages (Some (stops.NoQuorum view have need)) in_memory).stopped
-memory_holds script mode ages (Some (stops.Disagree a b place)) in_memory ample =
-    absurd (fresh script mode ages (Some (stops.Disagree a b place)) in_memory).stopped
-memory_holds script mode ages (Some (stops.Foreign member place)) in_memory ample =
-    absurd (fresh script mode ages (Some (stops.Foreign member place)) in_memory).stopped
-memory_holds script mode ages (Some stops.AgesUsedUp) in_memory ample =
-    absurd (fresh script mode ages (Some stops.AgesUsedUp) in_memory).stopped
+memory_holds script part mode ages (Some (stops.LogFull member len)) all in_memory ample =
+    absurd (fresh script part mode ages (Some (stops.LogFull member len)) all in_memory).stopped
+memory_holds script part mode ages (Some (stops.Damaged member at)) all in_memory ample =
+    absurd (fresh script part mode ages (Some (stops.Damaged member at)) all in_memory).stopped
+memory_holds script part mode ages (Some (stops.NoQuorum view have need)) all in_memory ample =
+    absurd (fresh script part mode ages (Some (stops.NoQuorum view have need)) all in_memory).stopped
+memory_holds script part mode ages (Some (stops.Disagree a b place)) all in_memory ample =
+    absurd (fresh script part mode ages (Some (stops.Disagree a b place)) all in_memory).stopped
+memory_holds script part mode ages (Some (stops.Foreign member place)) all in_memory ample =
+    absurd (fresh script part mode ages (Some (stops.Foreign member place)) all in_memory).stopped
+memory_holds script part mode ages (Some stops.AgesUsedUp) all in_memory ample =
+    absurd (fresh script part mode ages (Some stops.AgesUsedUp) all in_memory).stopped
 
 -- nor are logs refused
-pub memory_accepts : (script : Script) (mode : Mode) (ages : List AgeEnd) (stop : Option Stop)
-    → IsRunInMemory script mode ages stop → is_some (refusal_of stop) ≡ false
-memory_accepts script mode ages None in_memory = refl
-memory_accepts script mode ages (Some stops.OutOfMemory) in_memory = refl
-memory_accepts script mode ages (Some (stops.DiskFault member)) in_memory = refl
-memory_accepts script mode ages (Some (stops.LogFull member len)) in_memory = refl
-memory_accepts script mode ages (Some (stops.Damaged member at)) in_memory =
-    absurd (fresh script mode ages (Some (stops.Damaged member at)) in_memory).stopped
-memory_accepts script mode ages (Some (stops.NoQuorum view have need)) in_memory =
-    absurd (fresh script mode ages (Some (stops.NoQuorum view have need)) in_memory).stopped
-memory_accepts script mode ages (Some (stops.Disagree a b place)) in_memory =
-    absurd (fresh script mode ages (Some (stops.Disagree a b place)) in_memory).stopped
-memory_accepts script mode ages (Some (stops.Foreign member place)) in_memory =
-    absurd (fresh script mode ages (Some (stops.Foreign member place)) in_memory).stopped
-memory_accepts script mode ages (Some stops.AgesUsedUp) in_memory =
-    absurd (fresh script mode ages (Some stops.AgesUsedUp) in_memory).stopped
+pub memory_accepts : (script : Script) (part : Part) (mode : Mode) (ages : List AgeEnd) (stop : Option Stop)
+    → NoneMissing script.members part.missing → IsMemoryRun script part mode ages stop → is_some (refusal_of stop) ≡ false
+memory_accepts script part mode ages None all in_memory = refl
+memory_accepts script part mode ages (Some stops.OutOfMemory) all in_memory = refl
+memory_accepts script part mode ages (Some (stops.DiskFault member)) all in_memory = refl
+memory_accepts script part mode ages (Some (stops.LogFull member len)) all in_memory = refl
+memory_accepts script part mode ages (Some (stops.Damaged member at)) all in_memory =
+    absurd (fresh script part mode ages (Some (stops.Damaged member at)) all in_memory).stopped
+memory_accepts script part mode ages (Some (stops.NoQuorum view have need)) all in_memory =
+    absurd (fresh script part mode ages (Some (stops.NoQuorum view have need)) all in_memory).stopped
+memory_accepts script part mode ages (Some (stops.Disagree a b place)) all in_memory =
+    absurd (fresh script part mode ages (Some (stops.Disagree a b place)) all in_memory).stopped
+memory_accepts script part mode ages (Some (stops.Foreign member place)) all in_memory =
+    absurd (fresh script part mode ages (Some (stops.Foreign member place)) all in_memory).stopped
+memory_accepts script part mode ages (Some stops.AgesUsedUp) all in_memory =
+    absurd (fresh script part mode ages (Some stops.AgesUsedUp) all in_memory).stopped
 
 unstopped_by_full : (stop : Option Stop) (ages : List AgeEnd) → IsFreshRun ages stop
     → is_some (stopped_by LogFull stop) ≡ false
@@ -238,10 +272,10 @@ unstopped_by_full (Some (stops.Foreign member place)) ages fresh = refl
 unstopped_by_full (Some stops.AgesUsedUp) ages fresh = refl
 
 -- nor is one full
-pub memory_has_room : (script : Script) (mode : Mode) (ages : List AgeEnd) (stop : Option Stop)
-    → IsRunInMemory script mode ages stop → some_so LogFull ages stop ≡ false
-memory_has_room script mode ages stop in_memory =
-    let run = fresh script mode ages stop in_memory in
+pub memory_has_room : (script : Script) (part : Part) (mode : Mode) (ages : List AgeEnd) (stop : Option Stop)
+    → NoneMissing script.members part.missing → IsMemoryRun script part mode ages stop → some_so LogFull ages stop ≡ false
+memory_has_room script part mode ages stop all in_memory =
+    let run = fresh script part mode ages stop all in_memory in
     or_from (some_end LogFull ages) (is_some (stopped_by LogFull stop))
     (list_any_none (λ (age : AgeEnd). some_of LogFull age.members) ages
     (λ k d within. list_any_none (λ (m : MemberEnd). is_of LogFull m.end) (get_or ages k d).members
@@ -254,14 +288,14 @@ rose_between : (a b c d : ℕ) → a ≤ b → Rose b c → c ≤ d → Rose a d
 rose_between a b c d low rose high = omega (arith, low, rose, high)
 
 -- where no count of faults rose no disk has ended a member
-none_rose : (script : Script) (missing : ℕ) (mode : Mode) (nth : ℕ) (first : ℕ → ℕ) (before after : YardState)
-    (ages : List AgeEnd) → AreAges script missing mode nth before ages after → ((m : ℕ) → first m ≤ before.faults m)
+none_rose : (script : Script) (part : Part) (mode : Mode) (nth : ℕ) (first : ℕ → ℕ) (before after : YardState)
+    (ages : List AgeEnd) → AreAges script part mode nth before ages after → ((m : ℕ) → first m ≤ before.faults m)
     → ((m : ℕ) → m < script.members → Rose (first m) (after.faults m) → ⊥) → some_end DiskFault ages ≡ false
-none_rose script missing mode nth first before after [] are low calm = refl
-none_rose script missing mode nth first before after (age ∷ ages) (between, is, rest) low calm =
+none_rose script part mode nth first before after [] are low calm = refl
+none_rose script part mode nth first before after (age ∷ ages) (between, is, rest) low calm =
     or_from (some_of DiskFault age.members) (some_end DiskFault ages)
     (list_any_none (λ (m : MemberEnd). is_of DiskFault m.end) age.members here)
-    (none_rose script missing mode (nth + 1) first between after ages rest (λ m. omega (arith, low m, (is.passes m).later)) calm)
+    (none_rose script part mode (nth + 1) first between after ages rest (λ m. omega (arith, low m, (is.passes m).later)) calm)
   where
     here : All (λ (m : MemberEnd). is_of DiskFault m.end ≡ false) age.members
     here k d within =
@@ -271,7 +305,7 @@ none_rose script missing mode nth first before after (age ∷ ages) (between, is
               let rose = is.failed k e (slice_get-get_or age.members k d within) (disk_fault_is e.end failed) in
               absurd (calm k (omega (arith, within, is.roster)) (rose_between (first k) (before.faults k)
               (between.faults k) (after.faults k) (low k) rose
-              (later script missing mode (nth + 1) between after ages rest k)))
+              (later script part mode (nth + 1) between after ages rest k)))
           | inr other ↦ other
         ]
 
@@ -287,13 +321,13 @@ none_at members m e none at =
     (none_of (λ (x : MemberEnd). is_of DiskFault x.end) members m e none within)
 
 -- where no disk has ended a member none has failed
-calm_ages : (script : Script) (missing : ℕ) (mode : Mode) (nth : ℕ) (before after : YardState) (ages : List AgeEnd)
-    → AreAges script missing mode nth before ages after → some_end DiskFault ages ≡ false
+calm_ages : (script : Script) (part : Part) (mode : Mode) (nth : ℕ) (before after : YardState) (ages : List AgeEnd)
+    → AreAges script part mode nth before ages after → some_end DiskFault ages ≡ false
     → (m : ℕ) → after.faults m ≡ before.faults m
-calm_ages script missing mode nth before after [] are none m = ap (λ (yard : YardState). yard.faults m) (sym are)
-calm_ages script missing mode nth before after (age ∷ ages) (between, is, rest) none m =
+calm_ages script part mode nth before after [] are none m = ap (λ (yard : YardState). yard.faults m) (sym are)
+calm_ages script part mode nth before after (age ∷ ages) (between, is, rest) none m =
     let parts = or_parts (some_of DiskFault age.members) (some_end DiskFault ages) none in
-    calm_ages script missing mode (nth + 1) between after ages rest parts.1 m
+    calm_ages script part mode (nth + 1) between after ages rest parts.1 m
     ∙ is.calm m (λ e at. not_failed e.end (none_at age.members m e parts.0 at))
 
 -- and where none has ended the run, unless memory was wanting
@@ -309,16 +343,16 @@ calm_stop (stops.Disagree a b p) last after names none ample = names
 calm_stop (stops.Foreign m p) last after names none ample = names
 calm_stop stops.AgesUsedUp last after names none ample = names
 
-pub calm_run : (script : Script) (missing : ℕ) (mode : Mode) (before after : YardState) (ages : List AgeEnd) (stop : Option Stop)
-    → IsRunOf script missing mode before after ages stop → some_so DiskFault ages stop ≡ false → is_memory stop ≡ false
+pub calm_run : (script : Script) (part : Part) (mode : Mode) (before after : YardState) (ages : List AgeEnd) (stop : Option Stop)
+    → IsRunOf script part mode before after ages stop → some_so DiskFault ages stop ≡ false → is_memory stop ≡ false
     → (m : ℕ) → after.faults m ≡ before.faults m
-calm_run script missing mode before after ages stop run none ample m =
-    by stop run.finish parts.1 ample m ∙ calm_ages script missing mode 0 before run.last ages run.course parts.0 m
+calm_run script part mode before after ages stop run none ample m =
+    by stop run.finish parts.1 ample m ∙ calm_ages script part mode 0 before run.last ages run.course parts.0 m
   where
     parts : (some_end DiskFault ages ≡ false) × (is_some (stopped_by DiskFault stop) ≡ false)
     parts = or_parts (some_end DiskFault ages) (is_some (stopped_by DiskFault stop)) none
 
-    by : (o : Option Stop) → HasFinished script missing run.last after run.chosen ages o → is_some (stopped_by DiskFault o) ≡ false
+    by : (o : Option Stop) → HasFinished script part run.last after run.chosen ages o → is_some (stopped_by DiskFault o) ≡ false
         → is_memory o ≡ false → (m : ℕ) → after.faults m ≡ run.last.faults m
     by None end calm ample m = ap (λ (yard : YardState). yard.faults m) (sym end.1)
     by (Some s) end calm ample m = calm_stop s run.last after end.4 calm ample m
@@ -350,20 +384,20 @@ none_full ages roomy =
     (λ j e below. unfull (get_or (get_or ages k d).members j e).end (roomy k d within j e below)))
 
 -- fit disks that leave room, of which no call fails
-pub whole_run : (script : Script) (missing : ℕ) (mode : Mode) (before after : YardState) (ages : List AgeEnd) (stop : Option Stop)
-    → IsRunOf script missing mode before after ages stop → NoneMissing script.members missing
+pub whole_run : (script : Script) (part : Part) (mode : Mode) (before after : YardState) (ages : List AgeEnd) (stop : Option Stop)
+    → IsRunOf script part mode before after ages stop → NoneMissing script.members part.missing
     → AreFit script before → AreRoomy script before
     → ((m : ℕ) → m < script.members → Rose (before.faults m) (after.faults m) → ⊥) → is_memory stop ≡ false
     → IsWhole script ages stop
-whole_run script missing mode before after ages stop run all fit roomy calm ample = by stop refl
+whole_run script part mode before after ages stop run all fit roomy calm ample = by stop refl
   where
     r : IsRoomyRun ages stop
     r = run.roomy all fit roomy
 
     low : (m : ℕ) → before.faults m ≤ run.last.faults m
-    low m = later script missing mode 0 before run.last ages run.course m
+    low m = later script part mode 0 before run.last ages run.course m
 
-    outside : (s : Stop) → stop ≡ Some s → HasFinished script missing run.last after run.chosen ages (Some s) → IsOutside s → ⊥
+    outside : (s : Stop) → stop ≡ Some s → HasFinished script part run.last after run.chosen ages (Some s) → IsOutside s → ⊥
     outside stops.OutOfMemory is end out = true≢false (sym (ap is_memory is) ∙ ample)
     outside (stops.DiskFault m) is end out =
         calm m end.1.below (rose_between (before.faults m) (run.last.faults m) (after.faults m) (after.faults m)
@@ -377,26 +411,26 @@ whole_run script missing mode before after ages stop run all fit roomy calm ampl
 
     by : (o : Option Stop) → stop ≡ o → IsWhole script ages stop
     by None is =
-        let end = subst (HasFinished script missing run.last after run.chosen ages) is run.finish in
+        let end = subst (HasFinished script part run.last after run.chosen ages) is run.finish in
         whole_by script ages stop is end.0
-        (none_rose script missing mode 0 before.faults before run.last ages run.course (λ m. omega arith)
+        (none_rose script part mode 0 before.faults before run.last ages run.course (λ m. omega arith)
         (λ m l rose. calm m l (subst (λ (y : YardState). Rose (before.faults m) (y.faults m)) end.1 rose)))
         (none_full ages r.roomy)
     by (Some s) is =
-        absurd (outside s is (subst (HasFinished script missing run.last after run.chosen ages) is run.finish)
+        absurd (outside s is (subst (HasFinished script part run.last after run.chosen ages) is run.finish)
         (subst (λ (o : Option Stop). IfSome o IsOutside) is r.stopped))
 
 -- empty disks in memory, none of which counts a fault
-pub whole_in_memory : (script : Script) (mode : Mode) (ages : List AgeEnd) (stop : Option Stop)
-    → IsRunInMemory script mode ages stop → is_memory stop ≡ false → IsWhole script ages stop
-whole_in_memory script mode ages stop in_memory ample = record {
-  ages_all = by stop refl in_memory.run.finish (fresh script mode ages stop in_memory).stopped;
-  disk = memory_holds script mode ages stop in_memory ample;
-  logs = memory_accepts script mode ages stop in_memory;
-  full = memory_has_room script mode ages stop in_memory;
+pub whole_in_memory : (script : Script) (part : Part) (mode : Mode) (ages : List AgeEnd) (stop : Option Stop)
+    → NoneMissing script.members part.missing → IsMemoryRun script part mode ages stop → is_memory stop ≡ false → IsWhole script ages stop
+whole_in_memory script part mode ages stop all in_memory ample = record {
+  ages_all = by stop refl in_memory.run.finish (fresh script part mode ages stop all in_memory).stopped;
+  disk = memory_holds script part mode ages stop all in_memory ample;
+  logs = memory_accepts script part mode ages stop all in_memory;
+  full = memory_has_room script part mode ages stop all in_memory;
 }
   where
-    by : (o : Option Stop) → stop ≡ o → HasFinished script 0 in_memory.run.last in_memory.after in_memory.run.chosen ages o
+    by : (o : Option Stop) → stop ≡ o → HasFinished script part in_memory.run.last in_memory.after in_memory.run.chosen ages o
         → IfSome o IsOutside → length ages ≡ script.ages
     by None is end out = end.0
     by (Some stops.OutOfMemory) is end out = absurd (true≢false (sym (ap is_memory is) ∙ ample))
@@ -434,15 +468,22 @@ whole_lasts script ages stop line whole ample is =
         (first_end Spent ages) (first_end NoMajority ages)
 
 -- the last line behind a run over empty disks that count no fault is one of these
-pub memory_lasts : (script : Script) (mode : Mode) (ages : List AgeEnd) (stop : Option Stop) (line : Last)
-    → IsRunInMemory script mode ages stop → last_of ages stop ≡ Some line
-    → Contains (0 ∷ 8 ∷ 9 ∷ []) (status_of line)
-memory_lasts script mode ages stop line run is = elim (cases_Bool (is_memory stop)) [
+pub part_lasts : (script : Script) (part : Part) (mode : Mode) (ages : List AgeEnd) (stop : Option Stop) (line : Last)
+    → NoneMissing script.members part.missing → IsMemoryRun script part mode ages stop
+    → last_of ages stop ≡ Some line → Contains (0 ∷ 8 ∷ 9 ∷ []) (status_of line)
+part_lasts script part mode ages stop line all run is = elim (cases_Bool (is_memory stop)) [
   | inl wanting ↦ absurd (none-some line (sym (ap (λ b. if b then None else Some told) wanting) ∙ is))
   | inr ample ↦
-      whole_lasts script ages stop line (whole_in_memory script mode ages stop run ample) ample is
+      whole_lasts script ages stop line (whole_in_memory script part mode ages stop all run ample) ample is
 ]
   where
     told : Last
     told = last_by (first_told DiskFault ages stop) (refusal_of stop) (first_told LogFull ages stop)
         (first_end Spent ages) (first_end NoMajority ages)
+
+-- so is that where nobody is late
+pub memory_lasts : (script : Script) (mode : Mode) (ages : List AgeEnd) (stop : Option Stop) (line : Last)
+    → IsRunInMemory script mode ages stop → last_of ages stop ≡ Some line
+    → Contains (0 ∷ 8 ∷ 9 ∷ []) (status_of line)
+memory_lasts script mode ages stop line run is =
+    part_lasts script (all_but 0) mode ages stop line (λ m below. has_zero m) run is

@@ -1,14 +1,17 @@
 -- What was run, and what is said of it.
-use Rattle.std.specs.Prelude.{◌≡◌, ◌≢◌, ◌⊎◌, ⊤, ℕ, ◌<◌, List, [], ◌∷◌, ◌++◌, length, Option, Some, None, Contains, IfSome}
+use Rattle.std.specs.Prelude.{◌≡◌, ◌≢◌, ◌⊎◌, ⊤, ℕ, ◌<◌, true, false, List, [], ◌∷◌, ◌++◌, length, Option, Some, None, Contains, IfSome}
 use Rattle.std.specs.List.{flat_map}
+use Rattle.dr_ages.specs.Ages.{HaveSomebodyPrompt, all_but}
 use Rattle.dr_ages.specs.declared.mode.Mode.{Mode}
 use Rattle.dr_ages.specs.declared.mode.Mode.TheVariants.{Sim}
+use Rattle.dr_ages.specs.declared.part.Part.{Part}
 use Rattle.dr_ages.specs.declared.stop.Stop.{Stop}
 use Rattle.dr_ages.specs.Fit.{AreFit}
 use Rattle.dr_ages.specs.Found.{AreRoomy, NoneMissing}
 use Rattle.dr_ages.specs.Runs.{IsRunOf}
 use Rattle.dr_complete.specs.Time.{HasTime}
 use Rattle.dr_entry.specs.declared.end.AgeEnd.{AgeEnd}
+use Rattle.dr_history.specs.Members.{has}
 use Rattle.dr_intake.specs.Reading.{refusal_in}
 use Rattle.dr_intake.specs.Status.{status_of}
 use Rattle.dr_io.specs.Faults.{Rose}
@@ -21,7 +24,7 @@ use Rattle.dr_text.specs.declared.last.Last.TheVariants as lasts
 use Rattle.dr_text.specs.Report.{age_text, last_text}
 use Rattle.dr_yard.specs.Yards.{YardState, empty_yard}
 use Rattle.dr_outcome.specs.Last.{last_of}
-use Rattle.dr_outcome.specs.Playing.{InFolder, Playing}
+use Rattle.dr_outcome.specs.Playing.{InFolder, Playing, part_in}
 use Rattle.dr_outcome.specs.declared.outcome.Body.{Body}
 use Rattle.dr_outcome.specs.declared.outcome.Body.TheVariants as bodies
 use Rattle.dr_outcome.specs.declared.outcome.Outcome.{Outcome}
@@ -48,18 +51,27 @@ pub record SaysOnly (last : Option Last) (before after : YardState) (o : Outcome
   pub line : o.last ≡ last
 
 -- the ages of a run over empty disks, none of which counts a fault
-pub record IsRunInMemory (script : Script) (mode : Mode) (ages : List AgeEnd) (stop : Option Stop) : Type 0 where
+pub record IsMemoryRun (script : Script) (part : Part) (mode : Mode) (ages : List AgeEnd) (stop : Option Stop) :
+    Type 0 where
   pub after : YardState
   pub calm : (m : ℕ) → after.faults m ≡ 0
-  pub run : IsRunOf script 0 mode empty_yard after ages stop
+  pub run : IsRunOf script part mode empty_yard after ages stop
+
+-- the same where nobody is missing, and nobody late
+abbrev pub IsRunInMemory : Script → Mode → List AgeEnd → Option Stop → Type 0
+IsRunInMemory script = IsMemoryRun script (all_but 0)
 
 -- the ages of a run over the disks of the yard that are not missing, where a folder is named, and else over
 -- disks in memory, and then the yard is as it was
-abbrev pub HasRun : Mode → Option InFolder → Script → YardState → YardState → List AgeEnd → Option Stop
+abbrev pub HasRun : Mode → Option InFolder → Part → Script → YardState → YardState → List AgeEnd → Option Stop
     → Type 0
-HasRun mode (Some folder) script before after ages stop =
-    IsRunOf script folder.missing mode before after ages stop
-HasRun mode None script before after ages stop = (after ≡ before) × IsRunInMemory script mode ages stop
+HasRun mode (Some folder) part script before after ages stop = IsRunOf script part mode before after ages stop
+HasRun mode None part script before after ages stop =
+    (after ≡ before) × IsMemoryRun script part mode ages stop
+
+-- of so many members nobody is late
+abbrev pub NoneLate : ℕ → ℕ → Type 0
+NoneLate n late = (m : ℕ) → m < n → has late m ≡ false
 
 -- no log of a member of the script is missing: in memory none is
 abbrev pub HasAllLogs : Option InFolder → Script → Type 0
@@ -85,14 +97,16 @@ TellsDisks before after last = IfSome last (λ line. NoneFailed before after ⊎
 -- a script was played, one with the ranges of a script that was read, and the last line tells how its run ended
 pub record HasPlayed (play : Playing) (script : Script) (before after : YardState) (o : Outcome) : Type 0 where
   pub ranges : HasRanges script
-  pub run : HasRun play.mode play.folder script before after o.ages o.stop
+  -- somebody who takes part isn't late, where anybody does
+  pub prompt : HaveSomebodyPrompt script (part_in play)
+  pub run : HasRun play.mode play.folder (part_in play) script before after o.ages o.stop
   pub line : o.last ≡ last_of o.ages o.stop
   -- no script is refused
   pub accepted : IfSome o.last (λ line. status_of line ≢ 3)
-  -- a simulation that spends the turns of a member had too few of them, or a log was missing; of threads nothing is
-  -- said
-  pub untimely : play.mode ≡ Sim → HasAllLogs play.folder script → o.last ≡ Some lasts.Unfinished
-      → HasTime script → ⊥
+  -- a simulation that spends the turns of a member had too few of them, or a log was missing, or somebody late; of
+  -- threads nothing is said
+  pub untimely : play.mode ≡ Sim → HasAllLogs play.folder script → NoneLate script.members play.late
+      → o.last ≡ Some lasts.Unfinished → HasTime script → ⊥
   -- a member without a majority had a reason to suspect others
   pub untrusting : o.last ≡ Some lasts.NoMajority → SuspectsNobody script → ⊥
   -- a disk that failed is told
@@ -110,18 +124,32 @@ abbrev pub OfScript : (Script → Outcome → Type 0) → Reading → YardState 
 OfScript Of (Reads script) before after o = Of script o
 OfScript Of refused before after o = SaysOnly (refusal_in refused) before after o
 
--- the text is a script, which was played, and the report of its ages is said, or it is refused
+-- somebody takes part, and all who do are late
+pub record AreAllLate (script : Script) (part : Part) : Type 0 where
+  pub some : (m : ℕ) × (m < script.members) × (has part.missing m ≡ false)
+  pub all : (m : ℕ) → m < script.members → has part.missing m ≡ false → has part.late m ≡ true
+
+-- a script was played, and the report of its ages is said, or all who take part in it are late: then nothing was
+-- run, and how the program is called is said
+abbrev pub WasPlayedOrNot : Playing → Script → YardState → YardState → Outcome → Type 0
+WasPlayedOrNot play script before after o =
+    (HasPlayed play script before after o × (o.body ≡ bodies.Report))
+    ⊎ (AreAllLate script (part_in play) × SaysOnly (Some lasts.Usage) before after o)
+
+-- the text is a script, which was played or not, or it is refused
 abbrev pub Plays : Playing → List ℕ → YardState → YardState → Outcome → Type 0
 Plays play bytes before after o =
-    OfScript (λ script result. HasPlayed play script before after result × (result.body ≡ bodies.Report))
-    (reading_of bytes) before after o
+    OfScript (λ script result. WasPlayedOrNot play script before after result) (reading_of bytes) before after o
+
+-- the statuses of last lines that tell of no run
+abbrev pub unrun_ends : List ℕ
+unrun_ends = 0 ∷ 2 ∷ 3 ∷ 12 ∷ 13 ∷ []
 
 -- the last line is that of the ages that ran, and of what ended the run; or nothing was run, and it tells of
 -- no run
 pub data IsDue (o : Outcome) : Type 0 where
   by_run : o.last ≡ last_of o.ages o.stop → IsDue o
-  unrun : o.ages ≡ [] → o.stop ≡ None
-      → IfSome o.last (λ line. Contains (0 ∷ 3 ∷ 12 ∷ 13 ∷ []) (status_of line)) → IsDue o
+  unrun : o.ages ≡ [] → o.stop ≡ None → IfSome o.last (λ line. Contains unrun_ends (status_of line)) → IsDue o
 
 -- a command came to this: it did what it does, and the last line, if there is one, is due, with one of these
 -- statuses, and tells of a disk that failed

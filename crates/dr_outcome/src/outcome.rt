@@ -1,9 +1,10 @@
 ghost use Rattle.std.specs.Prelude.{◌≡◌, None, []};
 ghost use Rattle.dr_yard.specs.Yards.{YardState};
 ghost use Rattle.dr_outcome.specs.Outcome.{SaysOnly};
+ghost use Rattle.dr_outcome.specs.Playing.{missing_of, part_in};
 ghost use Rattle.dr_outcome.specs.declared.outcome.Body.TheVariants.{Report};
 
-use dr_ages::{Mode, Stop};
+use dr_ages::{Mode, Part, Stop};
 use dr_entry::{AgeEnd, Seq};
 use dr_text::{Last, LongText};
 use dr_words::Mask;
@@ -32,14 +33,42 @@ pub struct Play<'a> {
     pub mode: Mode,
     /// The folder of the logs. Without one they are empty at first, and kept in memory.
     pub folder: Option<Folder<'a>>,
+    /// The members that are in no view until others wish for them: in threads so far nobody.
+    pub late: Mask,
 }
 
 impl<'a> Model for Play<'a> {
+    ghost use Rattle.std.specs.Prelude.{◌≡◌};
+    ghost use Rattle.dr_ages.specs.declared.mode.Mode.TheVariants.{Run};
     ghost use Rattle.dr_outcome.specs.Playing.{Playing};
 
     ghost Value = { Playing };
 
-    ghost view = { λ p. record { mode = p.mode; folder = p.folder } };
+    ghost view = { λ p. record { mode = p.mode; folder = p.folder; late = p.late } };
+
+    ghost invariant = { λ p. p.mode ≡ Run → p.late ≡ 0 };
+}
+
+impl<'a> Play<'a> {
+    /// Who takes part, and from when on.
+    pub(crate) fn part(&self) -> Part
+        ensures { result ≡ part_in self.now }
+    {
+        Part {
+            missing: missing_of(&self.folder),
+            late: self.late,
+        }
+    }
+}
+
+/// The members whose logs are missing: in memory nobody's.
+fn missing_of(folder: &Option<Folder<'_>>) -> Mask
+    ensures { result ≡ missing_of folder.now }
+{
+    match folder {
+        Some(folder) => folder.missing,
+        None => Mask::empty(),
+    }
 }
 
 /// What is said of the ages that ran, before the last line.

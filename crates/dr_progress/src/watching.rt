@@ -1,5 +1,6 @@
 ghost use Rattle.std.specs.Prelude.{◌≡◌, ◌⊎◌, None, []};
 ghost use Rattle.dr_script.specs.Ranges.{HasRanges};
+ghost use Rattle.dr_ages.specs.Ages.{all_but};
 ghost use Rattle.dr_ages.specs.Watched.{AreWatched};
 ghost use Rattle.dr_ages.specs.declared.mode.Mode.TheVariants.{Sim};
 ghost use Rattle.dr_outcome.specs.Last.{last_of};
@@ -29,7 +30,7 @@ pub fn watch_with_progress<R: Threads + Sync, W: Watcher, T: Timer, K: Sink>(
     ensures ran { ((result.ages ≡ []) × (result.stop ≡ None) × (result.last ≡ None))
         ⊎ (IsRunInMemory script.now Sim result.ages result.stop
         × (result.last ≡ last_of result.ages result.stop)) }
-    ensures watched { AreWatched W.opens W.sees W.closes Sim script.now 0 0 result.ages
+    ensures watched { AreWatched W.opens W.sees W.closes Sim script.now (all_but 0) 0 result.ages
         watcher.old watcher.new }
     // Nothing is said but to a terminal, and not before two seconds have passed.
     ensures quiet { IsQuiet progress.old progress.new }

@@ -3,7 +3,7 @@ use Rattle.std.proofs.Common.{◌≡◌, refl, sym, ap, ◌∙◌, subst, ℕ, a
 use Rattle.dr_intake.specs.Status.{status_of}
 use Rattle.dr_outcome.specs.declared.outcome.Outcome.{Outcome}
 use Rattle.dr_outcome.specs.Last.{last_of}
-use Rattle.dr_outcome.specs.Outcome.{HasDone, SaysOnly, by_run, unrun}
+use Rattle.dr_outcome.specs.Outcome.{HasDone, SaysOnly, by_run, unrun, unrun_ends}
 use Rattle.dr_outcome.specs.Playing.{ends_over}
 use Rattle.dr_outcome.proofs.Due.{EndsIn, contains_more, same_tells, script_ends}
 use Rattle.dr_script.specs.declared.script.Script.{Script}
@@ -34,8 +34,8 @@ refused_ends : (yard : YardState) (o : Outcome) (fault : LayFault)
     → SaysOnly (refused_layout fault) yard yard o → EndsIn (12 ∷ ends_over None) o
 refused_ends yard o fault says = (
   unrun says.none says.unstopped
-      (subst (λ l. IfSome l (λ line. Contains (0 ∷ 3 ∷ 12 ∷ 13 ∷ []) (status_of line))) (sym says.line)
-      (among (0 ∷ 3 ∷ 12 ∷ 13 ∷ []) (refused_layout fault) (λ status is. (2, omega arith, sym is))
+      (subst (λ l. IfSome l (λ line. Contains unrun_ends (status_of line))) (sym says.line)
+      (among unrun_ends (refused_layout fault) (λ status is. (3, omega arith, sym is))
       (twelve fault))),
   subst (λ l. IfSome l (λ line. Contains (12 ∷ ends_over None) (status_of line))) (sym says.line)
       (among (12 ∷ ends_over None) (refused_layout fault) (λ status is. (0, omega arith, sym is))

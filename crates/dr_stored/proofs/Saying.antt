@@ -1,10 +1,10 @@
 -- What a simulated run comes to, with the values in place of its report.
-use Rattle.std.proofs.Common.{◌≡◌, ◌⊎◌, ap, inl, inr, ℕ, List, ◌∙◌, Option, None}
+use Rattle.std.proofs.Common.{◌≡◌, ◌⊎◌, ap, inl, inr, refl, ℕ, List, ◌∙◌, Option, None}
 use Rattle.dr_outcome.specs.declared.outcome.Body.TheVariants as bodies
 use Rattle.dr_outcome.specs.declared.outcome.Outcome.{Outcome}
-use Rattle.dr_outcome.specs.Outcome.{HasDone, HasPlayed, IsDue, OfScript, Plays, SaysOnly, by_run, unrun}
-use Rattle.dr_outcome.proofs.Due.{whenever}
-use Rattle.dr_outcome.specs.Playing.{play_ends, simulated}
+use Rattle.dr_outcome.specs.Outcome.{HasDone, HasPlayed, IsDue, OfScript, Plays, SaysOnly, WasPlayedOrNot, by_run, unrun}
+use Rattle.dr_outcome.proofs.Due.{none_late, whenever}
+use Rattle.dr_outcome.specs.Playing.{part_in, play_ends, simulated}
 use Rattle.dr_script.specs.Reading.{NotJson, Reading, Reads, TooLong, Wrong, reading_of}
 use Rattle.dr_text.specs.declared.last.Last.{Last}
 use Rattle.dr_yard.specs.Yards.{YardState}
@@ -28,16 +28,18 @@ alone key version yard o text last is says = record {
 
 stores : (key : List ℕ) (version : ℕ) (yard : YardState) (o : Outcome) (text : List ℕ) (r : Reading)
     → text ≡ last_values_text key version o.ages
-    → OfScript (λ script result. HasPlayed simulated script yard yard result × (result.body ≡ bodies.Report)) r
-    yard yard o
+    → OfScript (λ script result. WasPlayedOrNot simulated script yard yard result) r yard yard o
     → OfScript (λ script result. HasPlayed simulated script yard yard result
     × (result.body ≡ bodies.Text (last_values_text key version result.ages))) r yard yard (saying o text)
 stores key version yard o text TooLong is says = alone key version yard o text _ is says
 stores key version yard o text NotJson is says = alone key version yard o text _ is says
 stores key version yard o text (Wrong rule path) is says = alone key version yard o text _ is says
-stores key version yard o text (Reads script) is (played, report) = (
+stores key version yard o text (Reads script) is (inr unplayed) =
+    absurd (none_late script (part_in simulated) refl unplayed.0)
+stores key version yard o text (Reads script) is (inl (played, report)) = (
   record {
     ranges = played.ranges;
+    prompt = played.prompt;
     run = played.run;
     line = played.line;
     accepted = played.accepted;

@@ -57,6 +57,7 @@ pub(crate) fn run(
             name: "d",
             missing: Mask::empty(),
         }),
+        late: Mask::empty(),
     };
     let outcome = play_script(rt, alloc, &script, &play, &mut yard, &SnoozePace);
     Ok(Ran {

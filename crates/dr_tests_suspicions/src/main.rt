@@ -10,6 +10,9 @@
 //! stand behind lines that begin with `#` and say what was worked out for them by hand.
 #![tactic(auto)]
 
+ghost use Rattle.std.specs.Prelude.{◌≡◌};
+ghost use Rattle.dr_ages.specs.Ages.{all_but};
+
 use anyhow::anyhow;
 use dr_ages::{AgesEnd, Mode, Part, run_ages};
 use dr_disk::MemoryDisk;
@@ -56,14 +59,11 @@ fn ended(
 ) -> anyhow::Result<(AgesEnd, Vec<MemoryDisk>)> {
     let script = read_script(alloc, script)?;
     let mut yard = MemoryYard::new(alloc, Vec::new(alloc), &[])?;
-    let part = Part {
-        missing: Mask::empty(),
-    };
     let end = run_ages(
         rt,
         alloc,
         &script,
-        &part,
+        &everybody(),
         Mode::Sim,
         "",
         &mut yard,
@@ -72,6 +72,16 @@ fn ended(
     let mut disks = yard.into_disks();
     disks.truncate(usize::from(script.members));
     Ok((end, disks))
+}
+
+/// All members, from the first view on.
+fn everybody() -> Part
+    ensures { result ≡ all_but 0 }
+{
+    Part {
+        missing: Mask::empty(),
+        late: Mask::empty(),
+    }
 }
 
 /// Prints the turns of each member of an age, and what it put in each view: the index of a message, or a dash

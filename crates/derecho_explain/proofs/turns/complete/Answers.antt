@@ -1,4 +1,4 @@
-use Rattle.std.proofs.Common.{sym}
+use Rattle.std.proofs.Common.{refl, sym}
 use Rattle.dr_restart.specs.Groups.{first_start_of}
 use Rattle.derecho_explain.proofs.Calm.{all_done, all_present}
 use Rattle.derecho_explain.proofs.turns.complete.Goals as goal
@@ -9,6 +9,6 @@ returns c =
     let age = c.in_ok-first_age.field-0 in
     let first = c.in_ok-first_age.ensures.first in
     let complete = c.timely_ages_complete.ensures script (first_start_of script) 0 age
-    c.in_ok-first_age.ensures.group (all_present script c.requires.ranges.group.lists) c.requires.ranges first.run
+    c.in_ok-first_age.ensures.group (all_present script c.requires.ranges.group.lists) refl c.requires.ranges first.run
     c.requires.time first.stored in
     record { age = age; is = first; done = sym (all_done age.members (λ m e at. (complete m e at).end)) }

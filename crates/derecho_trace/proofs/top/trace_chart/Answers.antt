@@ -1,4 +1,5 @@
 use Rattle.std.proofs.Common.{sym, subst}
+use Rattle.dr_ages.specs.Ages.{all_but}
 use Rattle.dr_ages.specs.declared.mode.Mode.TheVariants.{Sim}
 use Rattle.dr_ages.specs.Watched.{AreWatched}
 use Rattle.dr_seeing.specs.Output.{Written}
@@ -12,7 +13,7 @@ returns g c = λ held fell told.
     c.end.result.sink) fell
     (g.K.Sink.faults c.end.result.sink) c.end.result.status c.args.drawing c.drawing.inside.output
     c.watch_in_memory-outcome.ensures.ran
-    (subst (λ (w : Written). AreWatched OpensSome SeesSome ClosesSome Sim c.args.script.now 0 0
+    (subst (λ (w : Written). AreWatched OpensSome SeesSome ClosesSome Sim c.args.script.now (all_but 0) 0
     outcome.ages c.args.drawing w)
     (sym c.drawing.view_is) c.watch_in_memory-outcome.ensures.watched)
     told (c.end.ensures.wrote held fell)

@@ -6,7 +6,7 @@ use Rattle.dr_text.specs.declared.last.Last.TheVariants.{SourceFault}
 use Rattle.dr_yard.specs.Yards.{state_by}
 use Rattle.dr_outcome.specs.declared.outcome.Outcome.{Outcome}
 use Rattle.dr_commands.specs.Outcome.{WroteOrNot}
-use Rattle.dr_commands.proofs.Course.{Call, IsCourse, Standing, disk_fault_of, disk_told_of, fault_told, log_full_of, logs_refused_of, no_majority_of, read_fault_of, standing_of, status_known, unfinished_of, usage_of}
+use Rattle.dr_commands.proofs.Course.{Call, IsCourse, Standing, disk_fault_of, disk_told_of, fault_told, late_told_of, log_full_of, logs_refused_of, no_majority_of, read_fault_of, standing_of, status_known, unfinished_of, usage_of, usage_told_of}
 use Rattle.dr_commands.proofs.Judged.{judged_so}
 use Rattle.dr_commands.proofs.top.derecho.Given as given
 use Rattle.dr_commands.proofs.top.derecho.Goals as goal
@@ -63,6 +63,21 @@ returns-clause-usage g c =
     c.args.yard.now c.outcome_of-outcome.new.yard c.outcome_of-outcome.result c.args.sink.now
     c.tell-status.new.sink c.tell-status.result c.outcome_of-outcome.ensures.course
     c.tell-status.ensures.wrote)
+
+pub returns-clause-usage_told : goal.returns-clause-usage_told
+returns-clause-usage_told g c =
+    usage_told_of (stands g c.args.words.now c.args.source.now c.outcome_of-outcome.new.source
+    c.args.yard.now c.outcome_of-outcome.new.yard c.outcome_of-outcome.result c.args.sink.now
+    c.tell-status.new.sink c.tell-status.result c.outcome_of-outcome.ensures.course
+    c.tell-status.ensures.wrote)
+
+pub returns-clause-late_told : goal.returns-clause-late_told
+returns-clause-late_told g c = λ tells asks.
+    late_told_of (call g c.args.words.now c.args.source.now c.outcome_of-outcome.new.source c.args.yard.now
+    c.outcome_of-outcome.new.yard c.outcome_of-outcome.result) (g.K.Sink.held c.args.sink.now)
+    (g.K.Sink.held c.tell-status.new.sink) (g.K.Sink.faults c.args.sink.now)
+    (g.K.Sink.faults c.tell-status.new.sink) c.tell-status.result c.outcome_of-outcome.ensures.course
+    c.tell-status.ensures.wrote tells asks
 
 pub returns-clause-read_fault : goal.returns-clause-read_fault
 returns-clause-read_fault g c =

@@ -1,4 +1,5 @@
 use Rattle.std.proofs.Common.{rules, sym, subst}
+use Rattle.dr_ages.specs.Ages.{all_but}
 use Rattle.dr_ages.specs.declared.mode.Mode.TheVariants.{Sim}
 use Rattle.dr_ages.specs.Watched.{AreWatched}
 use Rattle.dr_progress.proofs.Besides.{Waits, beside_watched, quiet}
@@ -10,7 +11,7 @@ returns-clause-watched g c =
     let both = beside_watched g.W.Watcher.opens g.W.Watcher.sees g.W.Watcher.closes c.args.script.now 0
     outcome.result.ages _ outcome.new.watcher outcome.ensures.watched in
     let places = both.1.1 in
-    subst (AreWatched g.W.Watcher.opens g.W.Watcher.sees g.W.Watcher.closes Sim c.args.script.now 0 0
+    subst (AreWatched g.W.Watcher.opens g.W.Watcher.sees g.W.Watcher.closes Sim c.args.script.now (all_but 0) 0
     outcome.result.ages c.args.watcher.now) (sym (search rules)) both.0
 
 pub returns-clause-quiet : goal.returns-clause-quiet
