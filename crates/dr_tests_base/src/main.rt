@@ -5,11 +5,12 @@
 //! `merge_next FROM COUNT..`, `null_due RANK COUNT..`, `place RANKS RANK ITEM`, `frozen MEMBERS ME ROW` and
 //! `next_rest FROM MEMBERS TRIM..` with numbers; `merge COUNT..`,
 //! `agreed HISTORY HISTORY` and `in_order HISTORY` with histories; `mask BITS` prints a mask, and `script TEXT` what is
-//! read of a script; `reader` and `writer` are called with one that is interrupted and fails. A line that begins with
+//! read of a script; `next`, `newcomers`, `welcomer`, `may_wish`, `views` and `letter_end` are those of joins; `reader` and `writer` are called with one that is interrupted and fails. A line that begins with
 //! `#` says what those behind it show.
 #![tactic(auto)]
 
 mod histories;
+mod joins;
 mod numbers;
 mod outside;
 
@@ -17,6 +18,7 @@ use anyhow::anyhow;
 use dr_script::read_script;
 use dr_words::Mask;
 use histories::told_of_histories;
+use joins::told_of_joins;
 use numbers::answer_to;
 use outside::{told_of_reader, told_of_writer};
 use std::alloc::Global;
@@ -49,6 +51,9 @@ fn told_of(alloc: Global, line: &str) -> anyhow::Result<String> {
         "reader" => told_of_reader(alloc)?,
         "writer" => told_of_writer(alloc)?,
         "merge" | "agreed" | "in_order" => told_of_histories(alloc, name, rest)?,
+        "next" | "newcomers" | "welcomer" | "may_wish" | "views" | "letter_end" => {
+            told_of_joins(alloc, name, rest)?
+        }
         _ => format!(in alloc; "{:?}", answer_to(alloc, name, rest)?)?,
     })
 }
