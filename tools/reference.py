@@ -1,7 +1,7 @@
 #!/usr/bin/env python3
 """A second `derecho sim`, plain and slow, written apart from the crates:
 
-    tools/reference.py sim [--logs FOLDER [--missing L]] < SCRIPT
+    tools/reference.py sim [--logs FOLDER [--missing L]] [--late L] < SCRIPT
 
 prints the report of a script that keeps the rules, ends with its status, and leaves in FOLDER the logs that derecho
 leaves there, byte for byte. A log that can't be opened is a fault of its disk; it knows no other fault of a disk, no
@@ -245,14 +245,15 @@ def check_along(holders):
 
 
 def next_members(logs, roster, age, view, members):
-    """The members of the view behind one, where a vote on a log of its members names it."""
+    """The members of the view behind one, where a vote on a log of its members names it: who leaves isn't one, and who
+    comes is."""
     best = None
     for member in numbers_of(members):
         for vote in logs[member].votes if member in logs else []:
-            names = vote[1] == age and vote[2] == view and vote[4] == roster and vote[5] and members & ~vote[5]
+            names = vote[1] == age and vote[2] == view and vote[4] == roster and vote[5] and members != vote[5]
             if names and (best is None or best[3] < vote[3]):
                 best = vote
-    return members & ~best[5] if best else None
+    return members ^ best[5] if best else None
 
 
 def check_path(logs, roster, age, members):
@@ -287,8 +288,9 @@ def choose(script, logs):
 class Member:
     """A member of an age. `deeds` are what it does; each is answered by what the deed has given."""
 
-    def __init__(self, script, nth, me, age, members, start):
+    def __init__(self, script, nth, me, age, members, late, start):
         self.roster, self.window, self.me, self.age = len(script["messages"]), script["window"], me, age
+        self.late = late
         self.columns = 6 + 2 * self.roster + 17 * self.window
         self.messages = [text.encode() for text in script["messages"][me]]
         self.totals = [len(texts) for texts in script["messages"]]
@@ -308,16 +310,20 @@ class Member:
         self.others = [other for other in numbers_of(members) if other != self.me]
         self.suspects, self.promise, self.tag, self.value, self.committed = 0, 0, 0, (0, [0] * 16), None
         self.own = [0] * self.columns
-        self.own[LOGGED] = self.logged
+        self.own[LOGGED] = self.logged if self.is_inside() else 0
         self.seen = {other: [0] * self.columns for other in self.others}
         self.pushed = {other: [0] * self.columns for other in self.others}
         self.waited, self.beats = dict.fromkeys(self.others, 0), dict.fromkeys(self.others, 0)
         self.items = {sender: [] for sender in numbers_of(members)}
         self.first = {sender: self.messages_of(sender) for sender in numbers_of(members)}
-        self.place, self.queued = 0, self.first[self.me]
+        self.place, self.queued = 0, self.messages_of(self.me)
 
     def messages_of(self, sender):
         return sum(1 for entry in self.history if entry[0] == "msg" and entry[1] == sender)
+
+    def is_inside(self):
+        """Whether it is in its view: a late member is so once it has joined."""
+        return self.members >> self.me & 1
 
     def row(self, member):
         return self.own if member == self.me else self.seen[member]
@@ -341,10 +347,17 @@ class Member:
         while True:
             yield from self.act("beat")
             self.turns += 1
-            for part in parts:
+            for part in parts if self.is_inside() else [self.take, self.crash_here, self.spend]:
                 yield from part()
                 if self.end is not None:
                     return
+
+    def take(self):
+        """Goes on from its letter, where there is one."""
+        letter = yield ("take",)
+        if letter:
+            self.history = list(letter)
+            self.enter(*last_view(letter)[2:])
 
     def act(self, kind="act"):
         yield (kind,)
@@ -372,7 +385,7 @@ class Member:
             yield from self.ends(f"suspected {by}")
             return
         for turn, other in self.suspicions:
-            if turn == self.turns and other in self.others and not self.suspects >> other & 1:
+            if turn == self.turns and self.namable() >> other & 1:
                 yield from self.suspect(other)
         while (named := self.named_by_others()) is not None:
             yield from self.suspect(named)
@@ -381,10 +394,18 @@ class Member:
         if self.suspects and self.is_alone():
             yield from self.ends(f"nomajority {listed(self.trusted())}")
 
+    def namable(self):
+        """Whom it may suspect or wish for: other members of its view, and late ones that no View of its age names."""
+        were = 0
+        for entry in self.history:
+            if entry[:2] == ("view", self.age):
+                were |= entry[3]
+        return (self.members & ~(1 << self.me) | self.late & ~were) & ~self.suspects
+
     def named_by_others(self):
         for other in self.others:
             if not self.suspects >> other & 1:
-                named = self.seen[other][SUSPECTED] & self.trusted() & ~(1 << self.me)
+                named = self.seen[other][SUSPECTED] & self.namable()
                 if named:
                     return numbers_of(named)[0]
         return None
@@ -553,8 +574,15 @@ class Member:
         if self.committed and self.committed[0] >> self.me & 1:
             yield from self.ends(f"excluded {self.view + 1}")
 
+    def stops(self):
+        return [place for turn, place in self.crashes if turn == self.turns]
+
+    def crash_here(self):
+        if self.stops():
+            yield from self.ends("crashed")
+
     def push(self):
-        stops = [place for turn, place in self.crashes if turn == self.turns]
+        stops = self.stops()
         number = 0
         for other in self.others:
             for column in range(self.columns):
@@ -565,8 +593,7 @@ class Member:
                     yield ("push", self.view, other, column, self.own[column])
                     self.pushed[other][column] = self.own[column]
                     number += 1
-        if stops:
-            yield from self.ends("crashed")
+        yield from self.crash_here()
 
     def end_turn(self):
         if not self.suspects and all(self.row(member)[DONE] for member in self.items):
@@ -574,9 +601,20 @@ class Member:
             return
         if self.committed is not None:
             yield from self.act()
+            before = self.members
             self.finish(*self.committed)
+            yield from self.welcome(before)
+        yield from self.spend()
+
+    def spend(self):
         if self.turns == self.most_turns:
             yield from self.ends(f"spent {self.turns}")
+
+    def welcome(self, before):
+        """Gives each newcomer its letter, where it is the least member of the view before that has stayed."""
+        if numbers_of(before & self.members)[0] == self.me:
+            for newcomer in numbers_of(self.members & ~before):
+                yield ("give", newcomer, list(self.history))
 
     def finish(self, leavers, trims):
         """Delivers what is left of what a value takes, and goes on in the next view."""
@@ -585,15 +623,15 @@ class Member:
             if place // len(members) < trims[members[place % len(members)]]:
                 self.place = place
                 self.deliver()
-        self.history.append(("view", self.age, self.view + 1, self.members & ~leavers))
-        self.enter(self.view + 1, self.members & ~leavers)
+        self.history.append(("view", self.age, self.view + 1, self.members ^ leavers))
+        self.enter(self.view + 1, self.members ^ leavers)
 
 
 class Running:
-    """Members of an age over one table: words by bank, reader, row and column."""
+    """Members of an age over one table, words by bank, reader, row and column, with letters by late member."""
 
     def __init__(self, members, logs):
-        self.logs, self.table = logs, {}
+        self.logs, self.table, self.letters = logs, {}, {}
         self.streams = {member: member.deeds() for member in members}
         self.next = {member: next(stream) for member, stream in self.streams.items()}
 
@@ -608,6 +646,10 @@ class Running:
             self.table[view, other, member.me, column] = word
         elif kind == "append":
             self.logs[member.me].append(fields[0])
+        elif kind == "give":
+            self.letters[fields[0]] = fields[1]
+        elif kind == "take":
+            given = self.letters.get(member.me)
         try:
             self.next[member] = self.streams[member].send(given)
         except StopIteration:
@@ -650,34 +692,38 @@ def age_lines(age, roster, start, members):
     return lines
 
 
-def open_age(script, folder, missing):
-    """Opens an age on the logs that are there: its number, the entries that it starts with, and these logs."""
+def open_age(script, folder, missing, late):
+    """Opens an age on the logs that are there, those of late members too: its number, the entries that it starts
+    with, the members of its first view, and these logs."""
     logs = {me: Log(folder, me) for me in range(len(script["messages"])) if not missing >> me & 1}
     age, start = choose(script, logs)
-    members = sum(1 << me for me in logs)
+    members = sum(1 << me for me in logs if not late >> me & 1)
     for log in logs.values():
         log.vote_age(age, members)
     for log in logs.values():
         log.raise_to(age, members, start)
-    return age, start, logs
+    return age, start, members, logs
 
 
-def one_age(script, nth, folder, missing):
+def one_age(script, nth, folder, missing, late):
     """An age of a run: its lines, and how its members have ended."""
-    age, start, logs = open_age(script, folder, missing)
-    mask = sum(1 << me for me in logs)
-    members = [Member(script, nth, me, age, mask, start) for me in logs]
+    age, start, mask, logs = open_age(script, folder, missing, late)
+    waiting = sum(1 << me for me in logs) & ~mask
+    members = [Member(script, nth, me, age, mask, waiting, start) for me in logs]
     run_age(script, members, logs)
     lines = age_lines(age, len(script["messages"]), start, members)
     return lines, [member.end.split()[0] for member in members]
 
 
-def run(script, folder, missing=0):
+def run(script, folder, missing=0, late=0):
     """The lines of a report, and the status."""
+    there = 2 ** len(script["messages"]) - 1 & ~missing
+    if there and not there & ~late:
+        return [USAGE], 2
     lines, ends = [], []
     for nth in range(script["ages"]):
         try:
-            told, ended = one_age(script, nth, folder, missing)
+            told, ended = one_age(script, nth, folder, missing, late)
         except Refused as refused:
             return lines + [refused.line], refused.status
         lines += told
@@ -721,13 +767,14 @@ def option(words, name):
 
 
 def play_of(words):
-    """The folder and the mask of the missing that words name; nothing where they are no command."""
+    """The folder, the mask of the missing and that of the late that words name; nothing where they are no command."""
     if words[:1] != ["sim"]:
         return None
     path, rest = option(words[1:], "--logs")
-    named, rest = option(rest, "--missing") if path else (None, rest)
-    missing = mask_word(named) if named is not None else 0
-    return None if rest or missing is None else (path, missing)
+    gone, rest = option(rest, "--missing") if path else (None, rest)
+    later, rest = option(rest, "--late")
+    missing, late = (0 if named is None else mask_word(named) for named in (gone, later))
+    return None if rest or missing is None or late is None else (path, missing, late)
 
 
 def main():
@@ -735,11 +782,11 @@ def main():
     if play is None:
         print(USAGE)
         sys.exit(2)
-    path, missing = play
+    path, missing, late = play
     script = json.load(sys.stdin)
     files = files_of(path, script["members"]) if path else {}
     folder = Folder(files)
-    lines, status = run(script, folder, missing)
+    lines, status = run(script, folder, missing, late)
     for member, data in folder.files.items():
         if path and data is not None and files.get(member) != data:
             with open(os.path.join(path, f"member-{member}.log"), "wb") as file:
