@@ -39,7 +39,7 @@ struct Task {
     /// In lockstep, rows are taken whole.
     by_rows: bool,
     turns: u32,
-    /// How many members, the last ones, member 0 suspects, and in which turn.
+    /// How many members, the last ones, member 0 suspects or wishes for, and in which turn.
     suspected: usize,
     from: u32,
     has_report: bool,
@@ -66,7 +66,7 @@ fn read_task(words: &[String]) -> Option<Task> {
     let (words, rest) = words.split_at_checked(6)?;
     let has_report = rest.last().is_some_and(|word| word == "report");
     let rest = &rest[..rest.len() - usize::from(has_report)];
-    if rest.len() > 3 {
+    if rest.len() > 4 {
         return None;
     }
     let seed = match words[5].as_str() {
@@ -81,6 +81,7 @@ fn read_task(words: &[String]) -> Option<Task> {
         shape: Shape {
             members,
             window: number(&words[1], 1, 8)?,
+            late: last_members(members, number_or(0, rest.get(3), 0, members - 1)?),
         },
         totals: totals.collect(),
         bytes: number(&words[4], 0, MAX_MESSAGE)? as u8,
@@ -158,7 +159,7 @@ fn main() -> ExitCode {
     let words: Vec<String> = env::args().skip(1).collect();
     let Some(task) = read_task(&words) else {
         println!(
-            "usage: members MEMBERS WINDOW SENDERS MESSAGES BYTES lockstep|rows|SEED [TURNS [SUSPECTED [FROM]]] [report]"
+            "usage: members MEMBERS WINDOW SENDERS MESSAGES BYTES lockstep|rows|SEED [TURNS [SUSPECTED [FROM [LATE]]]] [report]"
         );
         return ExitCode::from(2);
     };

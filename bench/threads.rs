@@ -132,6 +132,7 @@ fn main() -> ExitCode {
     let shape = Shape {
         members: task.members,
         window: WINDOW,
+        late: 0,
     };
     let (messages, bytes) = (task.messages, task.bytes);
     match (task.way, task.extra) {

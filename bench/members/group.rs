@@ -1,24 +1,41 @@
 //! A group that runs over the words of one table.
 
 use crate::file::{Disk, Fault, Log};
-use crate::member::{Deed, Member, Scripted};
+use crate::member::{Deed, Member, Scripted, Seldom};
 use crate::records::{Entry, Message, Record, Value, Vote, mixed};
 use crate::rows::Shape;
 
 /// The most bytes of a log.
 const LOG_LIMIT: u64 = 1 << 31;
 
-/// The members over the words of one table, each with its log.
+/// The members over the words of one table, each with its log, and the letters for late ones.
 pub struct Group {
     pub members: Vec<Member>,
     logs: Vec<Log>,
     table: Vec<u64>,
+    posts: Posts,
     pub deeds: u64,
+}
+
+/// The letters for the members, and the memory for those that none is there for yet.
+struct Posts {
+    letters: Vec<Option<Vec<Entry>>>,
+    spare: Vec<Vec<Entry>>,
+}
+
+impl Posts {
+    fn none(shape: Shape, room: usize) -> Posts {
+        let spare = (0..shape.late.count_ones()).map(|_| Vec::with_capacity(room));
+        Posts {
+            letters: vec![None; shape.members],
+            spare: spare.collect(),
+        }
+    }
 }
 
 impl Group {
     /// The members have so many messages by their numbers, each of so many bytes, and take at most so
-    /// many turns. By its script, member 0 suspects these.
+    /// many turns. By its script, member 0 suspects these, or wishes for those of them that are late.
     pub fn begin(shape: Shape, totals: &[u32], bytes: u8, turns: u32, suspected: Scripted) -> Group {
         let begin = |me| {
             let messages =
@@ -34,10 +51,12 @@ impl Group {
             )
         };
         let members: Vec<Member> = (0..shape.members).map(begin).collect();
+        let room = members.iter().map(|member| member.room).max();
         Group {
             logs: members.iter().map(log_of).collect(),
             members,
             table: vec![0; shape.words()],
+            posts: Posts::none(shape, room.unwrap_or(0)),
             deeds: 0,
         }
     }
@@ -47,7 +66,7 @@ impl Group {
         let member = &mut self.members[m];
         let log = &mut self.logs[m];
         loop {
-            step(member, &mut self.table, log);
+            step(member, &mut self.table, log, &mut self.posts);
             self.deeds += 1;
             if member.is_between_turns() {
                 return;
@@ -62,7 +81,7 @@ impl Group {
         loop {
             let row = member.take_row(&mut self.table);
             self.deeds += row.unwrap_or_else(|| {
-                step(member, &mut self.table, log);
+                step(member, &mut self.table, log, &mut self.posts);
                 1
             });
             if member.is_between_turns() {
@@ -105,9 +124,11 @@ impl Group {
                 .wrapping_add(1_442_695_040_888_963_407);
             let chosen = ((state >> 33) as u32 % living.len() as u32) as usize;
             let m = living[chosen];
-            step(&mut self.members[m], &mut self.table, &mut self.logs[m]);
+            let member = &mut self.members[m];
+            step(member, &mut self.table, &mut self.logs[m], &mut self.posts);
+            let has_ended = member.end.is_some();
             self.deeds += 1;
-            if self.members[m].end.is_some() {
+            if has_ended {
                 living.remove(chosen);
             }
         }
@@ -161,7 +182,7 @@ fn log_of(member: &Member) -> Log {
 
 /// A member takes its next deed.
 #[inline(always)]
-fn step(member: &mut Member, table: &mut [u64], log: &mut Log) {
+fn step(member: &mut Member, table: &mut [u64], log: &mut Log, posts: &mut Posts) {
     match member.next() {
         Deed::Look(index) => member.looked(table[index]),
         Deed::Push(index, word) => {
@@ -172,13 +193,39 @@ fn step(member: &mut Member, table: &mut [u64], log: &mut Log) {
             table[index] = word;
             member.acted();
         }
-        Deed::Append => append(member, log),
+        Deed::Seldom => seldom(member, log, posts),
         Deed::Rest => {}
     }
 }
 
-/// A member appends its next record to its log.
+/// A member gives a newcomer of its view the letter.
+#[cold]
 #[inline(never)]
+fn give(member: &mut Member, newcomer: usize, posts: &mut Posts) {
+    let mut letter = posts.spare.pop().unwrap_or_default();
+    member.letter(&mut letter);
+    posts.letters[newcomer] = Some(letter);
+    member.given();
+}
+
+/// A late member takes its letter, if there is one.
+#[cold]
+#[inline(never)]
+fn take(member: &mut Member, posts: &Posts) {
+    member.taken(posts.letters[member.me].as_deref());
+}
+
+/// A member takes its next deed, which is a seldom one.
+#[inline(never)]
+fn seldom(member: &mut Member, log: &mut Log, posts: &mut Posts) {
+    match member.seldom() {
+        Seldom::Append => append(member, log),
+        Seldom::Give(newcomer) => give(member, newcomer, posts),
+        Seldom::Take => take(member, posts),
+    }
+}
+
+/// A member appends its next record to its log.
 fn append(member: &mut Member, log: &mut Log) {
     let record = member.record();
     log.append(&record).expect("a file in memory never fails");

@@ -26,8 +26,18 @@ pub enum Deed {
     Look(usize),
     Push(usize, u64),
     Act(usize, u64),
-    Append,
+    /// One that comes up seldom, which [`Member::seldom`] tells.
+    Seldom,
     Rest,
+}
+
+/// A deed other than a look, a push or an act.
+pub enum Seldom {
+    Append,
+    /// The letter for this newcomer of its view.
+    Give(usize),
+    /// Its own letter, if there is one.
+    Take,
 }
 
 /// Where a member stands in its turn.
@@ -43,6 +53,8 @@ enum Place {
     Null,
     Deliver,
     Append,
+    Give { newcomer: usize },
+    Take,
     Publish,
     Report,
     Mark,
@@ -82,7 +94,7 @@ impl Spot {
     }
 }
 
-/// Whom a member suspects by its script, and in which turn.
+/// Whom a member suspects or wishes for by its script, and in which turn.
 #[derive(Clone, Copy)]
 pub struct Scripted {
     pub turn: u32,
@@ -105,7 +117,7 @@ struct Left {
 /// A member, which always stands at a place of its turn at which there is something to do.
 pub struct Member {
     shape: Shape,
-    me: usize,
+    pub me: usize,
     /// The number of words of a copy, the index in the table of the first word of the bank of its view, and of
     /// the first one of the own copy in it.
     copy_words: usize,
@@ -119,10 +131,14 @@ pub struct Member {
     number: u8,
     members: u16,
     view: Vec<usize>,
-    /// Those of them that it suspects, whose rows it looks at no more, and those that it suspects by
-    /// its script.
+    /// Those of them that it suspects, whose rows it looks at no more, and the late members that it wishes for;
+    /// those that it suspects or wishes for by its script; and the late members that no View of its history
+    /// names.
     suspects: u16,
     scripted: Scripted,
+    wishable: u16,
+    /// The newcomers of its view to which it is yet to give their letters.
+    letterless: u16,
     /// The vote on its log that it has not yet acted on, and the value that it has committed.
     pending: Option<Vote>,
     pub committed: Option<Value>,
@@ -154,9 +170,9 @@ pub struct Member {
 }
 
 impl Member {
-    /// A member of View 0, which has everyone, before its first turn, with its messages, the number of
-    /// those of each member, and the others that it suspects by its script. No later call takes memory but
-    /// that by which it leaves a view.
+    /// A member before its first turn, with its messages, the number of those of each member, and the others that
+    /// it suspects or wishes for by its script. All have View 0, which has everyone who isn't late. No later call
+    /// takes memory but those by which it leaves a view.
     pub fn begin(
         shape: Shape,
         me: usize,
@@ -166,11 +182,11 @@ impl Member {
         scripted: Scripted,
     ) -> Member {
         let roster = shape.members;
-        let members = u16::MAX >> (16 - roster);
+        let members = u16::MAX >> (16 - roster) & !shape.late;
         let columns = shape.columns();
         let most = totals.iter().copied().max().unwrap_or(0);
         let spots = most as usize * roster;
-        let room = spots + roster;
+        let room = spots + shape.banks();
         let mut history = Vec::with_capacity(room);
         history.push(Entry::View {
             age: 0,
@@ -178,7 +194,7 @@ impl Member {
             members,
         });
         let mut rows = Rows::new(roster, columns, me);
-        rows.set_own(LOGGED, 1);
+        rows.set_own(LOGGED, u64::from(has(members, me)));
         Member {
             shape,
             me,
@@ -194,9 +210,11 @@ impl Member {
             rows,
             number: 0,
             members,
-            view: (0..roster).collect(),
+            view: listed(members, roster),
             suspects: 0,
             scripted,
+            wishable: shape.late,
+            letterless: 0,
             pending: None,
             committed: None,
             counts: vec![0; roster],
@@ -228,12 +246,21 @@ impl Member {
                 let index = self.bank + to * self.copy_words + self.rows.own_row + column;
                 Deed::Push(index, self.rows.own(column))
             }
-            Place::Append => Deed::Append,
+            Place::Append | Place::Give { .. } | Place::Take => Deed::Seldom,
             _ if self.end.is_some() => Deed::Rest,
             _ => Deed::Act(
                 self.own_copy + self.rows.own_row + BEAT,
                 self.acts.saturating_add(1),
             ),
+        }
+    }
+
+    /// The deed that is due, where it is a seldom one.
+    pub fn seldom(&self) -> Seldom {
+        match self.place {
+            Place::Give { newcomer } => Seldom::Give(newcomer),
+            Place::Take => Seldom::Take,
+            _ => Seldom::Append,
         }
     }
 
@@ -294,7 +321,7 @@ impl Member {
         self.place = match self.place {
             Place::Beat => {
                 self.turns = self.turns.saturating_add(1);
-                self.seek_look(0)
+                self.seek_take()
             }
             Place::Suspect { other } => {
                 self.suspect(other);
@@ -346,15 +373,47 @@ impl Member {
             Place::Done => self.halt(End::Done),
             Place::Finish => {
                 self.finish();
-                self.seek_spent()
+                self.seek_give()
             }
             Place::Spent => self.halt(End::Spent { turns: self.turns }),
             place => place,
         };
     }
 
+    /// Writes its history up to and with its last View into an empty list.
+    pub fn letter(&self, into: &mut Vec<Entry>) {
+        let last = self.history.iter().rposition(is_view);
+        into.extend_from_slice(&self.history[..last.map_or(0, |last| last + 1)]);
+    }
+
+    /// Goes on after it gave the letter.
+    #[inline(never)]
+    pub fn given(&mut self) {
+        if let Place::Give { newcomer } = self.place {
+            self.letterless &= !(1 << newcomer);
+            self.place = self.seek_give();
+        }
+    }
+
+    /// Goes on after it looked for its letter: it comes into the last view of it.
+    #[inline(never)]
+    pub fn taken(&mut self, letter: Option<&[Entry]>) {
+        if let Some(letter) = letter {
+            self.join(letter);
+        }
+        self.place = self.seek_done();
+    }
+
     // Each of these gives the first place, from one on in the order of a turn, at which there is
     // something to do.
+
+    fn seek_take(&self) -> Place {
+        if has(self.members, self.me) {
+            self.seek_look(0)
+        } else {
+            Place::Take
+        }
+    }
 
     fn seek_look(&self, row: usize) -> Place {
         let others = self.unsuspected_others();
@@ -492,7 +551,14 @@ impl Member {
         } else if self.committed.is_some() {
             Place::Finish
         } else {
-            self.seek_spent()
+            self.seek_give()
+        }
+    }
+
+    fn seek_give(&self) -> Place {
+        match least_of(self.letterless) {
+            Some(newcomer) => Place::Give { newcomer },
+            None => self.seek_spent(),
         }
     }
 
@@ -524,23 +590,28 @@ impl Member {
         self.unsuspected() & !(1 << self.me)
     }
 
-    /// Who suspects somebody does no more with items, and isn't done any more.
+    /// The others that it may suspect next, and those that it may wish for.
+    fn namable(&self) -> u16 {
+        self.unsuspected_others() | self.wishable & !self.suspects
+    }
+
+    /// Who suspects or wishes for somebody does no more with items, and isn't done any more.
     fn is_wedged(&self) -> bool {
         self.suspects != 0
     }
 
     /// It votes in each view at most once by the ballot of each member.
     pub fn most_votes(&self) -> usize {
-        self.shape.members * self.shape.members
+        self.shape.banks() * self.shape.members
     }
 
     fn has_majority(&self) -> bool {
         2 * self.unsuspected().count_ones() > self.members.count_ones()
     }
 
-    /// The least other member whom its script has it suspect now, or else whom the rows do.
+    /// The least member whom its script has it suspect or wish for now, or else whom the rows do.
     fn next_suspect(&self) -> Option<usize> {
-        let others = self.unsuspected_others();
+        let others = self.namable();
         if self.turns == self.scripted.turn && self.scripted.members & others != 0 {
             return least_of(self.scripted.members & others);
         }
@@ -548,7 +619,7 @@ impl Member {
         least_of(self.named_by(row) & others)
     }
 
-    /// The least unsuspected row that says that its member suspects one of these.
+    /// The least unsuspected row that says that its member suspects or wishes for one of these.
     fn least_row_naming(&self, members: u16) -> Option<usize> {
         let others = self.unsuspected_others();
         let mut rows = self.view.iter().copied();
@@ -687,7 +758,7 @@ impl Member {
     }
 
     /// The value of the highest tag in the rows of those that it doesn't suspect; where none has one, the
-    /// suspects leave, behind the items that all the others have.
+    /// suspects leave and those that it wishes for come, behind the items that all the others have.
     fn proposal(&self) -> Value {
         let rows = self.unsuspected_rows();
         match rows.rev().max_by_key(|row| self.tag(*row)) {
@@ -746,7 +817,7 @@ impl Member {
         }
     }
 
-    /// One more is suspected: the recv words are final, and the accept words have the promise to the
+    /// One more is suspected or wished for: the recv words are final, and the accept words have the promise to the
     /// least member that isn't.
     fn suspect(&mut self, other: usize) {
         self.suspects |= 1 << other;
@@ -820,32 +891,66 @@ impl Member {
     fn finish(&mut self) {
         if let Some(value) = self.committed.take() {
             self.deliver_rest(&value.trim);
-            self.members &= !value.leavers;
-            self.number += 1;
+            let before = self.members;
+            let members = before ^ value.leavers;
             self.history.push(Entry::View {
                 age: 0,
-                number: self.number,
-                members: self.members,
+                number: self.number + 1,
+                members,
             });
-            let roster = self.shape.members;
-            self.left.push(Left {
-                own: self.rows.own_words().to_vec(),
-                counts: mem::replace(&mut self.counts, vec![0; roster]),
-                sent: mem::replace(&mut self.sent, Vec::with_capacity(self.most as usize)),
-            });
-            self.rows.renew();
-            self.rows.set_own(LOGGED, self.logged as u64);
-            self.bank += roster * self.copy_words;
-            self.own_copy += roster * self.copy_words;
-            let members = self.members;
-            self.view.retain(|member| has(members, *member));
-            self.suspects = 0;
-            // Items beyond the counts are never read.
-            self.front = Spot::FIRST;
-            self.next = Spot::FIRST;
-            self.received = 0;
-            self.base = self.delivered[self.me] as usize;
+            self.enter(self.number + 1, members);
+            self.wishable &= !members;
+            if least_of(before & members) == Some(self.me) {
+                self.letterless = members & !before;
+            }
         }
+    }
+
+    /// It goes on in the view of this number with these members, in which all is as at the beginning.
+    fn enter(&mut self, number: u8, members: u16) {
+        let roster = self.shape.members;
+        self.left.push(Left {
+            own: self.rows.own_words().to_vec(),
+            counts: mem::replace(&mut self.counts, vec![0; roster]),
+            sent: mem::replace(&mut self.sent, Vec::with_capacity(self.most as usize)),
+        });
+        self.rows.renew();
+        self.rows.set_own(LOGGED, self.logged as u64);
+        self.bank = usize::from(number) * roster * self.copy_words;
+        self.own_copy = self.bank + self.me * self.copy_words;
+        self.number = number;
+        self.members = members;
+        self.view.clear();
+        self.view
+            .extend((0..roster).filter(|member| has(members, *member)));
+        self.suspects = 0;
+        // Items beyond the counts are never read.
+        self.front = Spot::FIRST;
+        self.next = Spot::FIRST;
+        self.received = 0;
+        self.base = self.delivered[self.me] as usize;
+    }
+
+    /// Its history is the letter from now on, and it goes on in the last view of it.
+    fn join(&mut self, letter: &[Entry]) {
+        self.history.clear();
+        self.history.extend_from_slice(letter);
+        self.delivered.fill(0);
+        let (mut last, mut members) = (0, 0);
+        for entry in letter {
+            match entry {
+                Entry::View {
+                    number,
+                    members: of,
+                    ..
+                } => {
+                    (last, members) = (*number, *of);
+                    self.wishable &= !members;
+                }
+                Entry::Msg { sender, .. } => self.delivered[usize::from(*sender)] += 1,
+            }
+        }
+        self.enter(last, members);
     }
 
     /// Delivers what these trims have left of the view.
@@ -939,6 +1044,15 @@ impl Member {
 
 fn has(mask: u16, member: usize) -> bool {
     (mask >> member) & 1 == 1
+}
+
+/// The numbers in a mask, ascending.
+fn listed(mask: u16, roster: usize) -> Vec<usize> {
+    (0..roster).filter(|member| has(mask, *member)).collect()
+}
+
+fn is_view(entry: &Entry) -> bool {
+    matches!(entry, Entry::View { .. })
 }
 
 fn least_of(mask: u16) -> Option<usize> {

@@ -36,11 +36,13 @@ const NULL_MARK: u32 = u32::MAX;
 /// A head word and the words of the body.
 const SLOT_WORDS: usize = 17;
 
-/// How many members a group has, and how many slots a ring.
+/// How many members a group has, and how many slots a ring; and who comes in a later view than the first, a bit
+/// for each.
 #[derive(Clone, Copy)]
 pub struct Shape {
     pub members: usize,
     pub window: usize,
+    pub late: u16,
 }
 
 impl Shape {
@@ -48,9 +50,14 @@ impl Shape {
         6 + 2 * self.members + SLOT_WORDS * self.window
     }
 
-    /// The number of words of the table, which has a bank for each member.
+    /// The number of banks, one for each view that there can be.
+    pub fn banks(&self) -> usize {
+        self.members + self.late.count_ones() as usize
+    }
+
+    /// The number of words of the table.
     pub fn words(&self) -> usize {
-        self.members * self.members * self.members * self.columns()
+        self.banks() * self.members * self.members * self.columns()
     }
 
     pub fn recv_column(&self, sender: usize) -> usize {

@@ -159,7 +159,7 @@ fn turn<const SEQUENTIAL: bool>(member: &mut Member, table: &[AtomicU64], log: &
                 table[index].store(word, order(SEQUENTIAL));
                 member.acted();
             }
-            Deed::Append => {
+            Deed::Seldom => {
                 append(log, &member.record());
                 member.appended();
             }
@@ -206,7 +206,7 @@ fn timed_turn<const SEQUENTIAL: bool>(
                 member.acted();
                 spent.acts += 1;
             }
-            Deed::Append => {
+            Deed::Seldom => {
                 append(log, &member.record());
                 member.appended();
                 spent.appends += 1;

@@ -2,7 +2,7 @@
 use Rattle.std.specs.Prelude.{ℕ, ◌*◌, ◌-◌, ◌<◌, ◌≤◌}
 use Rattle.dr_bench_groups.specs.declared.members.Group.{Group}
 
--- a group within the bounds of a script, of which a minority is suspected
+-- a group within the bounds of a script, of which a minority is suspected, and not everybody late
 pub record IsBounded (g : Group) : Type 0 where
   pub some : 1 ≤ g.members
   pub most : g.members ≤ 16
@@ -12,6 +12,7 @@ pub record IsBounded (g : Group) : Type 0 where
   pub from : 1 ≤ g.from
   pub timely : g.from ≤ g.turns
   pub turns : g.turns ≤ 1000000
+  pub prompt : g.late < g.members
 
 -- the first member that is suspected
 abbrev pub first_suspected : Group → ℕ

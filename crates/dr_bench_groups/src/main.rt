@@ -4,6 +4,7 @@
 ghost use Rattle.dr_script.specs.Ranges.{HasRanges};
 
 mod ends;
+mod first;
 mod members;
 mod pace;
 mod run;
@@ -33,7 +34,7 @@ fn main(rt: HostRuntime) -> io::Result<ExitCode> {
         }
         None => {
             println!(rt;
-                "usage: dr_bench_groups lockstep|seeded MESSAGES [SENDERS [SUSPECTED [TURNS [MEMBERS [FROM]]]]]"
+                "usage: dr_bench_groups lockstep|seeded MESSAGES [SENDERS [SUSPECTED [TURNS [MEMBERS [FROM [LATE]]]]]]"
             )?;
             println!(rt;
                 "    or dr_bench_groups MEMBERS MESSAGES SIZE sim|free|spin|yield [times]"

@@ -4,11 +4,11 @@ ghost use Rattle.dr_script.specs.declared.script.What.TheVariants.{Suspect};
 ghost use Rattle.dr_script.specs.Ranges.{HasRanges};
 ghost use Rattle.dr_bench_groups.specs.Groups.{IsBounded, first_suspected};
 
+use crate::first::start_with;
 use dr_disk::CalmDisk;
 use dr_entry::{AgeEnd, Entry, MAX_MESSAGE_LENGTH, MemberEnd, Message, Seq, Vote};
 use dr_fresh::logs_of;
 use dr_log::Log;
-use dr_restart::first_start;
 use dr_script::{Fault, Schedule, Script, What};
 use dr_sim::sim_age;
 use std::alloc::{AllocError, Global};
@@ -46,24 +46,28 @@ pub struct Group {
     pub messages: u32,
     /// The bytes of a message.
     pub size: usize,
-    /// How many members, the last ones, member 0 suspects, and in which turn.
+    /// How many members, the last ones, member 0 suspects, or wishes for where they are late, and in which turn.
     pub suspected: u8,
     pub from: u32,
     /// The most turns of each member.
     pub turns: u32,
+    /// How many members, the last ones, are late.
+    pub late: u8,
 }
 
 /// Runs a group from its opening to the ends of all members, over logs in memory.
 #[inline(never)]
 pub fn members(alloc: Global, group: Group) -> Result<Tally, AllocError> {
-    let script = script_of(alloc, bounded(group))?;
-    let start = first_start(alloc, &script);
+    let group = bounded(group);
+    let script = script_of(alloc, group)?;
+    let start = start_with(alloc, &script, group.late);
     let mut logs = logs_of(alloc, &script, &start)?;
     let age = sim_age(alloc, &script, &start, 0, logs.as_mut_slice())?;
     Ok(tally_of(&age, &logs))
 }
 
-/// The group within the bounds of a script, in which those that aren't suspected are a majority.
+/// The group within the bounds of a script, in which those that aren't suspected are a majority, and somebody
+/// isn't late.
 pub fn bounded(group: Group) -> Group
     ensures { IsBounded result }
 {
@@ -76,6 +80,7 @@ pub fn bounded(group: Group) -> Group
         suspected: group.suspected.min((members - 1) / 2),
         from: group.from.max(1).min(turns),
         turns,
+        late: group.late.min(members - 1),
         ..group
     }
 }
@@ -83,7 +88,8 @@ pub fn bounded(group: Group) -> Group
 /// The script of such a group.
 pub fn script_of(alloc: Global, group: Group) -> Result<Script, AllocError>
     requires { IsBounded group }
-    ensures { IfOk result HasRanges }
+    ensures ranges { IfOk result HasRanges }
+    ensures members { IfOk result (λ script. script.members ≡ group.members) }
 {
     Ok(Script {
         members: group.members,

@@ -8,7 +8,7 @@ use std::{env, io};
 /// The seed of seeded groups.
 const SEED: u64 = 7;
 
-/// The turn in which member 0 suspects others, where no word tells it.
+/// The turn in which member 0 suspects or wishes for others, where no word tells it.
 const FROM: u32 = 2;
 
 /// Who takes the members' deeds, and what a thread does between turns.
@@ -52,9 +52,9 @@ fn task_of(words: &[String]) -> Option<Task> {
 }
 
 /// The group that these words tell. A number that no word tells is that of the largest group, in which nobody
-/// is suspected.
+/// is suspected or late.
 fn group_of(schedule: Schedule, words: &[String]) -> Option<Group> {
-    if words.is_empty() || words.len() > 6 {
+    if words.is_empty() || words.len() > 7 {
         return None;
     }
     Some(Group {
@@ -66,6 +66,7 @@ fn group_of(schedule: Schedule, words: &[String]) -> Option<Group> {
         turns: large_or(words, 3, TURNS)?,
         members: small_or(words, 4, MEMBERS)?,
         from: large_or(words, 5, FROM)?,
+        late: small_or(words, 6, 0)?,
     })
 }
 
@@ -101,6 +102,7 @@ fn threads_of(words: &[String]) -> Option<Task> {
         turns: TURNS,
         members,
         from: FROM,
+        late: 0,
     };
     let mode = mode_in(words[3].as_str())?;
     Some(Task::Threads(group, mode, has_times))

@@ -1,0 +1,40 @@
+-- A group stays one where some of its members are late.
+use Rattle.std.proofs.Common.{◌≡◌, true, zero, suc, ℕ, ◌-◌, ◌^◌, ◌<◌, ◌≤◌, [], arith}
+use Rattle.std.proofs.lemmas.Option.{slice_get_within}
+use Rattle.std.proofs.lemmas.Nat.{pow_pos}
+use Rattle.dr_script.specs.declared.script.Script.{Script}
+use Rattle.dr_script.specs.Ranges.{HasGroupRanges}
+use Rattle.dr_history.specs.Members.{has}
+use Rattle.dr_machine.specs.Group.{IsGroup}
+use Rattle.dr_restart.specs.Groups.{first_group_of, first_start_of, group_of}
+use Rattle.dr_words.proofs.Bits.{has_ones}
+
+-- the first so many members are some, where they are not none
+above_ones : (n : ℕ) → 1 ≤ n → 0 < 2 ^ n - 1
+above_ones zero l = absurd (omega (arith, l))
+above_ones (suc n) l = omega (arith, pow_pos n)
+
+-- the first members make a view, and the others may be late
+pub late_group : (script : Script) (k : ℕ) → HasGroupRanges script → IsGroup (first_group_of script)
+    → 1 ≤ k → k ≤ script.members
+    → IsGroup (group_of script (record (first_start_of script) { members = 2 ^ k - 1 }))
+late_group script k ranges g some most = record {
+  some_member = g.some_member;
+  most_members = g.most_members;
+  some_slot = g.some_slot;
+  most_slots = g.most_slots;
+  messages = g.messages;
+  short = g.short;
+  bytes = g.bytes;
+  age = g.age;
+  sound = record {
+    entries = λ i e there. absurd (omega (arith, slice_get_within [] i e there));
+    later = g.sound.later;
+    members = record { some = above_ones k some; within = λ m h. g.sound.present m (whole m h) };
+    part = whole;
+    present = g.sound.present;
+  };
+}
+  where
+    whole : (m : ℕ) → has (2 ^ k - 1) m ≡ true → has (2 ^ script.members - 1) m ≡ true
+    whole m h = grind (arith, has_ones k m, has_ones script.members m, h, most)
