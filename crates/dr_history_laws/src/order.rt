@@ -92,8 +92,8 @@ pub fn rest_law()
 {}
 
 /// Where an age starts soundly, what every history of it begins with is in order, whatever is sent.
-/// It ends with View 0, whose members are all of the roster where nobody is late. And the start is short: an age
-/// has at most 256 views, and a member at most 4096 messages.
+/// It ends with View 0, whose members are all of the roster where nobody is missing and nobody is late. And the start
+/// is short: an age has at most 256 views, and a member at most 4096 messages.
 pub fn opening_laws()
     ensures order { (o : Opening) (sent : Sent) → Sound o → InOrder o sent (first_entries o) }
     ensures view { (o : Opening) → EndsWithView (first_entries o) (first_view o) }

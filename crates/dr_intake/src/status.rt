@@ -6,7 +6,7 @@ use dr_text::Last;
 /// The run ended, and no other status applies.
 pub const DONE: u8 = 0;
 
-/// The words are not those of a command.
+/// The words are not those of a command, or name all members of the script that take part as late.
 pub const USAGE: u8 = 2;
 
 /// What was read is not a script, or not what is to be checked.

@@ -11,7 +11,8 @@ use std::fmt::Write;
 pub enum Last {
     /// Every age ran to its end, and nothing is to be said of it.
     Done,
-    /// The words are not those of a command: the line says which are.
+    /// The words are not those of a command, or name all members of the script that take part as late: the line
+    /// says which commands run a group.
     Usage,
     /// The script is longer than a script may be.
     TooLong,
