@@ -8,7 +8,7 @@ use Rattle.dr_words.specs.Form.{IsInForm}
 use Rattle.dr_words.specs.Grown.{HasGrown}
 use Rattle.dr_words.proofs.Order.{Grown_refl}
 use Rattle.dr_machine.specs.declared.step.Step.{Step}
-use Rattle.dr_machine.specs.declared.step.Step.TheVariants.{Append, Do, Join, LogVote, Look, Push, Welcome}
+use Rattle.dr_machine.specs.declared.step.Step.TheVariants.{Append, Do, LogVote, Look, Push, Welcome}
 use Rattle.dr_program.specs.Form.{HasForm}
 use Rattle.dr_program.specs.Replica.{Replica, is_inside, is_other, may_append, may_vote}
 use Rattle.dr_program.specs.Steps.{AtLook, NoWordFell, allows, has_cell, is_free, stepped}
@@ -47,7 +47,7 @@ stepped_form word r Append form may free sees = appended_keeps r form
 stepped_form word r (LogVote v) form may free sees = voted_form r v form (none_waits r.pending free)
     (and_parts (is_inside r) (may_vote r v) may).1
 stepped_form word r (Welcome j) form may free sees = gave_form r j form
-stepped_form word r Join form may free sees = form
+stepped_form word r s form may free sees = form
 
 -- no word falls by one by which it stays in its view, where a word that it sees has grown
 pub stepped_grown : (word : ℕ) (r : Replica) (s : Step) → HasForm r → allows r s ≡ true
@@ -59,8 +59,4 @@ stepped_grown word r (Look i c) form may sees same =
     let both = and_parts (not (has r.suspects i)) (has_cell r i c) test.1 in
     let at = cell r i c both.1 in
     looked_rises r i c word form at.other (not-true (has r.suspects i) both.0) at.column (sees i c refl)
-stepped_grown word r (Push j c) form may sees same = Grown_refl r.roster r.rows.words r.rows.frozen
-stepped_grown word r Append form may sees same = Grown_refl r.roster r.rows.words r.rows.frozen
-stepped_grown word r (LogVote v) form may sees same = Grown_refl r.roster r.rows.words r.rows.frozen
-stepped_grown word r (Welcome j) form may sees same = Grown_refl r.roster r.rows.words r.rows.frozen
-stepped_grown word r Join form may sees same = Grown_refl r.roster r.rows.words r.rows.frozen
+stepped_grown word r s form may sees same = Grown_refl r.roster r.rows.words r.rows.frozen

@@ -8,7 +8,8 @@ use Rattle.dr_words.specs.Masks.{IsInRoster}
 use Rattle.dr_program.specs.Replica.{Replica, me}
 
 -- a letter that fits a member that hasn't joined: it is no shorter than the member's history, there is room for
--- it, and its last View is one of the roster with the member, above the first one, for which there is a bank
+-- it, it has no more messages of the member than that has, and its last View is one of the roster with the member,
+-- above the first one, for which there is a bank
 pub record IsFitting (r : Replica) (letter : List Entry) : Type 0 where
   pub more : length r.history ≤ length letter
   pub room : length letter ≤ r.room

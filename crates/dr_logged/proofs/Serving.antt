@@ -25,7 +25,7 @@ use Rattle.dr_log_bytes.specs.Grammar.{StandFor}
 use Rattle.dr_machine.specs.declared.event.Act.{Act}
 use Rattle.dr_program.specs.Acts.{taken}
 use Rattle.dr_machine.specs.declared.step.Step.{Step}
-use Rattle.dr_machine.specs.declared.step.Step.TheVariants.{Append, Join, LogVote}
+use Rattle.dr_machine.specs.declared.step.Step.TheVariants.{Append, LogVote}
 use Rattle.dr_machine.specs.World.{no_value}
 use Rattle.dr_program.proofs.Finishing.{finished_more}
 use Rattle.dr_program.proofs.Fixed.{Told as ToldReplica, step_told}
@@ -35,7 +35,7 @@ use Rattle.dr_program.specs.declared.place.Part.TheVariants as parts
 use Rattle.dr_program.specs.declared.outcome.LogWhy.{LogWhy}
 use Rattle.dr_program.specs.declared.outcome.LogWhy.TheVariants as whys
 use Rattle.dr_program.specs.Replica.{Replica, acted, finished, vote_of}
-use Rattle.dr_program.specs.Running.{Running, after_step, append_or_end, broken_off, columns, crashes_now, end_by, members, next_step, settled, step_at, took, took_letter}
+use Rattle.dr_program.specs.Running.{Running, after_step, append_or_end, broken_off, columns, crashes_now, end_by, members, next_step, settled, step_at, took, took_letter, AsksForLetter}
 use Rattle.dr_program.specs.Steps.{IsAppend, stepped}
 use Rattle.dr_program.specs.Turn.{part_of, places_in}
 use Rattle.dr_program.specs.declared.place.Place.{Place}
@@ -203,17 +203,16 @@ settled_took letter r = settle_only (places_in (members r') (columns r') TURN) r
     r' = took_letter letter r
 
 -- no append of a member that takes has failed
-takes_well : (r : Running) (why : Option LogWhy) → r.failed ≡ why → EndsNext r → r.replica.end ≡ None
-    → next_step r ≡ Join → why ≡ None
-takes_well r None e ends none due = refl
-takes_well r (Some why) e ends none due = absurd (cc (ends why e none, due))
+takes_well : (r : Running) (why : Option LogWhy) → r.failed ≡ why → EndsNext r → AsksForLetter r → why ≡ None
+takes_well r None e ends asks = refl
+takes_well r (Some why) e ends asks = absurd (cc (ends why e asks.unended, asks.due))
 
 -- the log of a member that takes has served it
 pub took_served : {D : Type 0} (told : D → Option Told) (faults : D → ℕ) (base log : LogState D)
-    (letter : Option (List Entry)) (r : Running) → next_step r ≡ Join → r.replica.end ≡ None
+    (letter : Option (List Entry)) (r : Running) → AsksForLetter r
     → r.replica.logged ≤ length r.replica.history → LetterGoesOn r.replica.history letter
     → HasServed told faults base log r → HasServed told faults base log (settled (took_letter letter r))
-took_served told faults base log letter r due none within on served =
+took_served told faults base log letter r asks within on served =
     subst (HasServed told faults base log) (sym (settled_took letter r)) (record {
       come = subst (HasCome told faults base log (took_letter letter r).replica) (sym (took_failed letter r))
           (come_on told faults base log r.replica (took_letter letter r).replica r.failed
@@ -222,7 +221,7 @@ took_served told faults base log letter r due none within on served =
     })
   where
     well : r.failed ≡ None
-    well = takes_well r r.failed refl served.ends none due
+    well = takes_well r r.failed refl served.ends asks
 
 -- and is ready for the next deed
 pub took_stays_ready : {D : Type 0} (log : LogState D) (letter : Option (List Entry)) (r : Running)

@@ -7,12 +7,11 @@ ghost use Rattle.dr_logged.specs.Left.{IsLeftOf};
 ghost use Rattle.dr_log.specs.State.{LogState};
 ghost use Rattle.dr_log_bytes.specs.Content.{OnLog};
 ghost use Rattle.dr_log_bytes.specs.Grammar.{StandFor};
-ghost use Rattle.dr_machine.specs.declared.step.Step.TheVariants.{Join};
 ghost use Rattle.dr_program.specs.declared.outcome.LogWhy.{LogWhy};
 ghost use Rattle.dr_program.specs.declared.outcome.LogWhy.TheVariants as whys;
 ghost use Rattle.dr_program.specs.Form.{HasForm};
 ghost use Rattle.dr_program.specs.Replica.{Replica};
-ghost use Rattle.dr_program.specs.Running.{Running, after_step, broken_off, next_step, settled, took_letter};
+ghost use Rattle.dr_program.specs.Running.{Running, after_step, broken_off, next_step, settled, took_letter, AsksForLetter};
 ghost use Rattle.dr_logged.specs.Served.{HasCome, HasServed, IsReady, IsRoomy, LetterGoesOn};
 ghost use Rattle.dr_logged.specs.Appended.{HasAppended, HasBroken, IsAppendDue, IsOver, is_append};
 
@@ -37,8 +36,8 @@ pub fn other_deeds_leave_logs<D: Disk>()
 /// Nor does a take of such a member put anything on its log: where it finds a letter, that goes on from the history of
 /// the member, so what is logged still stands at its beginning.
 pub fn takes_leave_logs<D: Disk>()
-    ensures { (base log : LogState D) (letter : Option (List Entry)) (r : Running) → next_step r ≡ Join
-        → r.replica.end ≡ None → HasForm r.replica → LetterGoesOn r.replica.history letter → IsReady log r
+    ensures { (base log : LogState D) (letter : Option (List Entry)) (r : Running) → AsksForLetter r
+        → HasForm r.replica → LetterGoesOn r.replica.history letter → IsReady log r
         → HasServed D.told D.faults base log r
         → HasServed D.told D.faults base log (settled (took_letter letter r))
         × IsReady log (settled (took_letter letter r)) }

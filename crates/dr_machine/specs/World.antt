@@ -43,7 +43,7 @@ pub record World : Type 0 where
   pub past : Past
   -- the members of a member's view, as a mask: it is one of them, but for a late member that hasn't joined
   pub members : ℕ → ℕ
-  -- whom it suspects and whom it wishes for, as a mask; rows of suspects are frozen for it
+  -- whom it suspects and whom it wishes for, as a mask; the rows of both are frozen for it
   pub suspects : ℕ → ℕ
   -- its promise, the tag and the value that it has accepted, and the value that it has committed
   pub promise : ℕ → ℕ
@@ -66,7 +66,7 @@ pub record World : Type 0 where
   -- the table: the word of a bank, a copy, a row and a column. The bank is a view's number, and a member
   -- reads its own copy
   pub table : Table
-  -- the members of the view that it came from
+  -- the members of the view that it came from, or waited outside of until it joined: nobody in the first view
   pub came_from : ℕ → ℕ
   -- those to which it has given a letter in its view, as a mask
   pub given : ℕ → ℕ

@@ -1,15 +1,18 @@
 -- Programs that take deeds one after the other.
-use Rattle.std.proofs.Common.{◌≡◌, ◌⊎◌, inl, inr, refl, sym, subst, ℕ, List, [], ◌∷◌, ◌++◌}
-use Rattle.std.specs.Prelude.{Option}
+use Rattle.std.proofs.Common.{◌≡◌, ◌⊎◌, inl, inr, refl, sym, subst, ℕ, true, false, List, [], ◌∷◌, ◌++◌}
+use Rattle.std.specs.Prelude.{Option, None, Some}
+use Rattle.std.proofs.lemmas.Bool.{not-true}
+use Rattle.std.proofs.lemmas.Option.{same_Some}
 use Rattle.dr_entry.specs.declared.entry.Entry.{Entry}
 use Rattle.dr_machine.specs.declared.step.Step.{Step}
 use Rattle.dr_machine.specs.declared.step.Step.TheVariants.{Append, Do, Join, LogVote}
 use Rattle.dr_program.specs.declared.outcome.LogWhy.{LogWhy}
 use Rattle.dr_program.specs.declared.outcome.Outcome.{Outcome}
 use Rattle.dr_program.specs.declared.outcome.Outcome.TheVariants as outcomes
-use Rattle.dr_program.specs.Steps.{IsAppend, sight}
+use Rattle.dr_program.specs.Replica.{Replica, is_inside}
+use Rattle.dr_program.specs.Steps.{IsAppend, IsNoJoin, allows, sight}
 use Rattle.dr_program.specs.Running.{Running, after_step, broken_off, settled, took_letter}
-use Rattle.dr_program.specs.Program.{Program, Move, after_deed, step_of, ran}
+use Rattle.dr_program.specs.Program.{Program, Move, after_deed, comes_to, step_of, ran}
 
 -- a program may take more deeds after others
 pub ran_on : (p : Program) (a b : List Move) → ran p (a ++ b) ≡ ran (ran p a) b
@@ -53,3 +56,42 @@ after_either P table letter (outcomes.Failed why) r s taken broken takes = elim 
   | inr (inl append) ↦ subst P (sym append.1) (broken why append.0)
   | inr (inr take) ↦ subst P (sym take.1) (takes take.0)
 ]
+
+-- what a due step comes to is that step: it is taken, or a join that finds its letter
+pub came_to : (table : List ℕ) (letter : Option (List Entry)) (o : Outcome) (r : Running) (due s : Step)
+    → comes_to letter (Some due) o ≡ Some s
+    → (due ≡ s) × ((IsNoJoin due
+    × (after_deed (sight table r.replica due) letter o r due ≡ after_step (sight table r.replica due) r))
+    ⊎ ((due ≡ Join) × ((l : List Entry) × (letter ≡ Some l))))
+came_to table letter outcomes.Ok r Append s came = (same_Some Append s came, inl (tt, refl))
+came_to table letter (outcomes.Failed why) r Append s came = absurd (cc came)
+came_to table letter outcomes.Ok r (LogVote v) s came = (same_Some (LogVote v) s came, inl (tt, refl))
+came_to table letter (outcomes.Failed why) r (LogVote v) s came = absurd (cc came)
+came_to table None o r Join s came = absurd (cc came)
+came_to table (Some l) o r Join s came = (same_Some Join s came, inr (refl, (l, refl)))
+came_to table letter o r (Do a) s came = (same_Some (Do a) s came, inl (tt, refl))
+came_to table letter o r due s came = (same_Some due s came, inl (tt, refl))
+
+-- and what comes to none is an append that failed, or a join that finds no letter
+pub comes_to_none : (word : ℕ) (letter : Option (List Entry)) (o : Outcome) (r : Running) (due : Step)
+    → comes_to letter (Some due) o ≡ None
+    → (IsAppend due × ((why : LogWhy) × (after_deed word letter o r due ≡ broken_off why r)))
+    ⊎ ((due ≡ Join) × (after_deed word letter o r due ≡ settled (took_letter None r)))
+comes_to_none word letter outcomes.Ok r Append none = absurd (cc none)
+comes_to_none word letter (outcomes.Failed why) r Append none = inl (tt, (why, refl))
+comes_to_none word letter outcomes.Ok r (LogVote v) none = absurd (cc none)
+comes_to_none word letter (outcomes.Failed why) r (LogVote v) none = inl (tt, (why, refl))
+comes_to_none word None o r Join none = inr (refl, refl)
+comes_to_none word (Some l) o r Join none = absurd (cc none)
+comes_to_none word letter o r (Do a) none = absurd (cc none)
+comes_to_none word letter o r due none = absurd (cc none)
+
+-- ---- joins
+
+-- only a member that is none of its view may join
+pub joins_outside : (r : Replica) (s : Step) → s ≡ Join → allows r s ≡ true → is_inside r ≡ false
+joins_outside r s join may = not-true (is_inside r) (subst (λ x. allows r x ≡ true) join may)
+
+pub inside_no_join : (r : Replica) (s : Step) → is_inside r ≡ true → allows r s ≡ true → IsNoJoin s
+inside_no_join r Join inside may = absurd (cc (not-true (is_inside r) may, inside))
+inside_no_join r s inside may = tt

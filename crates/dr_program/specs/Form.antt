@@ -78,7 +78,7 @@ pub record HasForm (r : Replica) : Type 0 where
   pub words : AllInForm r.rows.members r.rows.words
   pub some_slot : 1 ≤ r.window
   pub most_slots : r.window ≤ 8
-  -- it names others of the roster alone, and in its view alone; rows of suspects are frozen
+  -- it suspects, or wishes for, others of the roster alone; their rows are frozen
   pub number : me r < r.roster
   pub trusted : has r.suspects (me r) ≡ false
   pub named : IsInRoster r.roster r.suspects

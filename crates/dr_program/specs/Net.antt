@@ -1,14 +1,14 @@
 -- A program over a net: its members are on different machines. Each has its own copy of the table, which it
--- alone reads; what another member pushes to it comes later, more than once, or never, and so do letters.
+-- alone reads; what another member pushes to it comes later, more than once, or never, and a letter later, or never.
 use Rattle.std.specs.Prelude.{◌≡◌, ◌⊎◌, ℕ, ◌<◌, Contains, List, [], ◌∷◌, max, slice_index, slice_set, None, Some}
 use Rattle.dr_rows.specs.Words.{own}
 use Rattle.dr_words.specs.Layout.{word_index_of}
-use Rattle.dr_machine.specs.declared.step.Step.TheVariants.{Join, Push}
+use Rattle.dr_machine.specs.declared.step.Step.TheVariants.{Push}
 use Rattle.dr_machine.specs.Group.{Group, banks, columns, roster}
 use Rattle.dr_program.specs.Presence.{present_at, with_present}
 use Rattle.dr_program.specs.Program.{Move, Program, step_of}
 use Rattle.dr_program.specs.Reading.{step_of_member}
-use Rattle.dr_program.specs.Running.{Running, settled, took_letter}
+use Rattle.dr_program.specs.Running.{Running, settled, took_letter, AsksForLetter}
 
 -- member m of one of these programs was in this view, and this was its own word of the column
 abbrev pub HadWord : List Program → ℕ → ℕ → ℕ → ℕ → Type 0
@@ -59,7 +59,7 @@ pub record FindsNone (p q : Program) : Type 0 where
   pub number : ℕ
   pub member : Running
   pub there : present_at p.members number ≡ Some member
-  pub take : step_of_member member ≡ Some Join
+  pub take : AsksForLetter member
   pub made : q ≡ took_nothing p number member
 
 -- a program that comes next, behind these ones, of which p is the last: by a deed, of which a push or a letter may

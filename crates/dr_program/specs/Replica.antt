@@ -55,13 +55,13 @@ pub record Replica : Type 0 where
   pub late : ℕ
   -- its own words, those that it has seen, and those that it has pushed
   pub rows : Words
-  -- the number of its view, and as masks the view's members, and those that it suspects or wishes for: rows of
-  -- suspects are frozen
+  -- the number of its view, and as masks the view's members, and those that it suspects or wishes for: the
+  -- rows of both are frozen
   pub view : ℕ
   pub members : ℕ
   pub suspects : ℕ
-  -- the members of the view before, where it came from that one, and those to which it has given a letter in
-  -- this one, as masks
+  -- the members of the view that it came from, or waited outside of until it joined, and those to which it has given
+  -- a letter in this one, as masks
   pub came_from : ℕ
   pub given : ℕ
   -- the tag and the value that it has accepted, the value that it has committed, the vote that it has logged
@@ -420,8 +420,8 @@ reported r = record r { durable = least_seen r LOGGED_COLUMN }
 abbrev pub marked : Replica → Replica
 marked r = record r { rows = rows.with_own r.rows DONE_COLUMN 1 }
 
--- it suspects one member more: that one's row is frozen, its recv words are final, and its accept words have
--- the promise to the least member that it doesn't suspect
+-- it suspects one member more, or wishes for it: that one's row is frozen, its recv words are final, and its accept
+-- words have the promise to the least member that it doesn't suspect
 abbrev pub suspected : Replica → ℕ → Replica
 suspected r j =
     let mask = with_member r.suspects j in

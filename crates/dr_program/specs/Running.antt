@@ -231,6 +231,11 @@ took word r s = record r {
 abbrev pub next_step : Running → Step
 next_step r = step_of r r.place
 
+-- the member, which has not ended, asks for its letter
+pub record AsksForLetter (r : Running) : Type 0 where
+  pub unended : r.replica.end ≡ None
+  pub due : next_step r ≡ steps.Join
+
 abbrev pub after_step : ℕ → Running → Running
 after_step word r = settled (took word r (next_step r))
 

@@ -1,5 +1,5 @@
 -- What a step makes of a replica and of the table, and when it may.
-use Rattle.std.specs.Prelude.{⊤, ◌≡◌, ℕ, ◌&&◌, ◌||◌, not, nat_lt, true, false, Bool, Option, Some, is_some, List, slice_index, slice_set}
+use Rattle.std.specs.Prelude.{⊤, ◌≡◌, ℕ, ◌&&◌, ◌||◌, not, nat_lt, true, false, Bool, Option, None, Some, is_some, List, slice_index, slice_set}
 use Rattle.dr_entry.specs.declared.entry.Entry.{Entry}
 use Rattle.dr_history.specs.History.{up_to_view}
 use Rattle.dr_history.specs.Members.{has}
@@ -50,6 +50,16 @@ abbrev pub IsAppend : Step → Type 0
 IsAppend Append = ⊤
 IsAppend (LogVote v) = ⊤
 IsAppend s = ⊥
+
+-- the step is no join
+abbrev pub IsNoJoin : Step → Type 0
+IsNoJoin Join = ⊥
+IsNoJoin s = ⊤
+
+-- a join needs a letter
+abbrev pub HasLetter : Option (List Entry) → Step → Type 0
+HasLetter letter Join = (es : List Entry) × (letter ≡ Some es)
+HasLetter letter s = Unit {0}
 
 -- the step is a look, and this holds of the row and the column that it looks at
 abbrev pub IsLook : Step → (ℕ → ℕ → Type 0) → Type 0
@@ -105,6 +115,11 @@ stored table r Append = table
 stored table r (LogVote v) = table
 stored table r (Welcome j) = table
 stored table r Join = table
+
+-- whom the step gives a letter
+abbrev pub given_to : Step → Option ℕ
+given_to (Welcome j) = Some j
+given_to s = None
 
 -- the letters after the step: a welcome gives one
 abbrev pub stored_letters : List (Option (List Entry)) → Replica → Step → List (Option (List Entry))

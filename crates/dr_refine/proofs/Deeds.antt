@@ -1,15 +1,12 @@
 -- The next deed of a running member is a step of the machine.
-use Rattle.std.proofs.Common.{◌≡◌, refl, sym, ap, ◌∙◌, subst, ℕ, zero, suc, ◌||◌, Bool, true, false, ◌⊎◌, not, inl, inr, if◌then◌else◌, List, [], ◌∷◌, map}
+use Rattle.std.proofs.Common.{◌≡◌, refl, sym, ap, ◌∙◌, subst, ℕ, zero, suc, ◌||◌, Bool, true, false, ◌⊎◌, inl, inr, if◌then◌else◌, List, [], ◌∷◌, map, arith}
 use Rattle.std.specs.Prelude.{Option, Some, None, is_some, option_map, slice_set}
 use Rattle.std.proofs.lemmas.List.{set-get_or}
-use Rattle.std.proofs.lemmas.Option.{same_Some}
 use Rattle.dr_program.proofs.Present.{present_map}
 use Rattle.std.proofs.lemmas.Bool.{and_from, and_parts}
 use Rattle.dr_entry.specs.declared.end.End.{End}
 use Rattle.dr_entry.specs.declared.entry.Entry.{Entry}
 use Rattle.dr_machine.specs.declared.step.Step.{Step}
-use Rattle.dr_machine.specs.declared.step.Step.TheVariants as steps
-use Rattle.dr_program.specs.declared.outcome.Outcome.TheVariants as outcomes
 use Rattle.dr_machine.specs.declared.event.Event.{Event}
 use Rattle.dr_machine.specs.Events.{event_of}
 use Rattle.dr_machine.specs.Events as events
@@ -19,8 +16,8 @@ use Rattle.dr_machine.specs.Acts.{CanTake, Guard, effect, effect_of}
 use Rattle.dr_machine.specs.Run.{ComesNext, ComesOfEvents, IsReached}
 use Rattle.dr_program.specs.Replica.{Replica, is_inside}
 use Rattle.dr_program.specs.declared.outcome.Outcome.{Outcome}
-use Rattle.dr_program.specs.Steps.{allows, is_free, sight, stored, stored_letters}
-use Rattle.dr_program.specs.Running.{Running, after_step, applies, asks, moved, next_step, settle, settled, took, took_letter}
+use Rattle.dr_program.specs.Steps.{allows, sight, stored, stored_letters, IsAppend, IsNoJoin}
+use Rattle.dr_program.specs.Running.{Running, after_step, applies, asks, moved, next_step, settle, settled, took, took_letter, AsksForLetter}
 use Rattle.dr_program.specs.Turn.{part_of}
 use Rattle.dr_program.specs.Program.{Program, Move, after_deed, comes_to, letter_for, moved_by, next_sight, step_of, went}
 use Rattle.dr_program.specs.Net.{FindsNone}
@@ -28,10 +25,11 @@ use Rattle.dr_program.specs.Reading.{Shared, step_by, step_due, table_of, world,
 use Rattle.dr_program.proofs.Waiting.{free_step}
 use Rattle.dr_machine.proofs.Events.{member_of_event, step_of_event}
 use Rattle.dr_machine.proofs.Runs.{events_more, reached_more, stays_next}
-use Rattle.dr_refine.specs.Programs.{AreLetters, IsMember, IsNoJoin, IsProgram, stored_in}
+use Rattle.dr_refine.specs.Programs.{AreLetters, IsMember, IsProgram, stored_in}
 use Rattle.dr_refine.proofs.Joins.{join_effect}
-use Rattle.dr_refine.proofs.Tests.{step_effect, step_guard, taken_guard}
+use Rattle.dr_refine.proofs.Tests.{step_effect, step_guard, taken_guard, has_letter}
 use Rattle.dr_program.specs.Presence.{present_at, with_present}
+use Rattle.dr_program.proofs.Runs.{came_to, comes_to_none, joins_outside}
 
 -- ---- on to the next place
 
@@ -130,24 +128,22 @@ deed_step g p m o r group is there unended no_join takes =
 
 -- a take that finds a letter is a join
 take_step : (g : Group) (p : Program) (m : ℕ) (o : Outcome) (r : Running) (letter : List Entry) → IsGroup g
-    → IsProgram g p → AreLetters p → present_at p.members m ≡ Some r → r.replica.end ≡ None
-    → next_step r ≡ steps.Join → letter_for p m ≡ Some letter
-    → IsStep g p (record { member = m; outcome = o }) steps.Join
-take_step g p m o r letter group is letters there unended join found =
+    → IsProgram g p → AreLetters p → present_at p.members m ≡ Some r → AsksForLetter r
+    → letter_for p m ≡ Some letter → IsStep g p (record { member = m; outcome = o }) (next_step r)
+take_step g p m o r letter group is letters there asks found =
     let member = program_member g p m r group is there in
-    let due : allows r.replica steps.Join ≡ true =
-    subst (λ s. allows r.replica s ≡ true) join (due_allowed r ((is.form m r there).due unended)) in
-    let free : is_free r.replica steps.Join ≡ true =
-    subst (λ s. is_free r.replica s ≡ true) join (free_step r (is.form m r there).free) in
-    let outside : is_inside r.replica ≡ false = none_inside (is_inside r.replica) due in (
-      ((taken_guard g (replicas p.members) (table_of p) m r.replica steps.Join member unended).0
-          (and_from _ _ free due, (letter, found))).0,
-      ap (world g) (step_is p (record { member = m; outcome = o }) r there unended)
+    let due = due_allowed r ((is.form m r there).due asks.unended) in
+    let outside : is_inside r.replica ≡ false = joins_outside r.replica (next_step r) asks.due due in (
+      ((taken_guard g (replicas p.members) (table_of p) m r.replica (next_step r) member asks.unended).0 (
+        and_from _ _ (free_step r (is.form m r there).free) due,
+        has_letter (letter_for p m) letter (next_step r) found,
+      )).0,
+      ap (world g) (step_is p (record { member = m; outcome = o }) r there asks.unended)
           ∙ ap (λ s. world g (record {
             members = with_present p.members m (after_deed (sight p.table r.replica s) (letter_for p m) o r s);
             table = stored p.table r.replica s;
             letters = stored_letters p.letters r.replica s;
-          })) join
+          })) asks.due
           ∙ ap (λ l. world g (record {
             members = with_present p.members m (settled (took_letter l r));
             table = p.table;
@@ -155,32 +151,9 @@ take_step g p m o r letter group is letters there unended join found =
           })) found
           ∙ settled_world g p.members (table_of p) m (took_letter (Some letter) r)
           ∙ join_effect g (replicas p.members) (table_of p) m r.replica letter member outside found
-          (letters m r letter there outside found),
+          (letters m r letter there outside found)
+          ∙ ap (effect_of g (world g p) m) (sym asks.due),
     )
-  where
-    none_inside : (b : Bool) → not b ≡ true → b ≡ false
-    none_inside true e = absurd (cc e)
-    none_inside false e = refl
-
--- what comes to a step is the step that is due, and is taken, unless it is a join
-abbrev CameTo : List ℕ → Option (List Entry) → Outcome → Running → Step → Step → Type 0
-CameTo table letter o r due s =
-    ((due ≡ s) × IsNoJoin due
-    × (after_deed (sight table r.replica due) letter o r due ≡ after_step (sight table r.replica due) r))
-    ⊎ ((due ≡ steps.Join) × (s ≡ steps.Join) × ((l : List Entry) × (letter ≡ Some l)))
-
-came_to : (table : List ℕ) (letter : Option (List Entry)) (o : Outcome) (r : Running) (due s : Step)
-    → comes_to letter (Some due) o ≡ Some s → CameTo table letter o r due s
-came_to table letter o r (steps.Do a) s came = inl (same_Some (steps.Do a) s came, tt, refl)
-came_to table letter o r (steps.Look i c) s came = inl (same_Some (steps.Look i c) s came, tt, refl)
-came_to table letter o r (steps.Push j c) s came = inl (same_Some (steps.Push j c) s came, tt, refl)
-came_to table letter o r (steps.Welcome j) s came = inl (same_Some (steps.Welcome j) s came, tt, refl)
-came_to table letter outcomes.Ok r steps.Append s came = inl (same_Some steps.Append s came, tt, refl)
-came_to table letter (outcomes.Failed why) r steps.Append s came = absurd (cc came)
-came_to table letter outcomes.Ok r (steps.LogVote v) s came = inl (same_Some (steps.LogVote v) s came, tt, refl)
-came_to table letter (outcomes.Failed why) r (steps.LogVote v) s came = absurd (cc came)
-came_to table None o r steps.Join s came = absurd (cc came)
-came_to table (Some l) o r steps.Join s came = inr (refl, sym (same_Some steps.Join s came), (l, refl))
 
 -- by the outcome
 outcome_step : (g : Group) (p : Program) (m : ℕ) (r : Running) (o : Outcome) (s : Step) → IsGroup g
@@ -188,12 +161,12 @@ outcome_step : (g : Group) (p : Program) (m : ℕ) (r : Running) (o : Outcome) (
     → r.replica.end ≡ None → comes_to (letter_for p m) (Some (next_step r)) o ≡ Some s
     → IsStep g p (record { member = m; outcome = o }) s
 outcome_step g p m r o s group is letters there unended came =
-    elim (came_to p.table (letter_for p m) o r (next_step r) s came) [
-      | inl taken ↦ subst (IsStep g p (record { member = m; outcome = o })) taken.0
-          (deed_step g p m o r group is there unended taken.1 taken.2)
-      | inr join ↦ subst (IsStep g p (record { member = m; outcome = o })) (sym join.1)
-          (take_step g p m o r join.2.0 group is letters there unended join.0 join.2.1)
-    ]
+    let due = came_to p.table (letter_for p m) o r (next_step r) s came in
+    subst (IsStep g p (record { member = m; outcome = o })) due.0 (elim due.1 [
+      | inl taken ↦ deed_step g p m o r group is there unended taken.0 taken.1
+      | inr join ↦ take_step g p m o r join.1.0 group is letters there
+          (record { unended = unended; due = join.0 }) join.1.1
+    ])
 
 -- the deed of a member is the step of its place
 pub deed_is_step : (g : Group) (p : Program) (e : Move) (r : Running) (s : Step) → IsGroup g
@@ -216,20 +189,33 @@ rest_changes_nothing p e r there rests = by r.replica.end refl rests
     by None ended t = absurd (cc)
     by (Some x) ended t = ap (λ o. moved_by p o e) there ∙ ap (went p r e) ended
 
+-- an append leaves the table and the letters
+append_stores : (table : List ℕ) (q : Replica) (s : Step) → IsAppend s → stored table q s ≡ table
+append_stores table q s is = grind (arith, is)
+
+append_gives : (letters : List (Option (List Entry))) (q : Replica) (s : Step) → IsAppend s
+    → stored_letters letters q s ≡ letters
+append_gives letters q s is = grind (arith, is)
+
 -- what comes to no step is an append that failed, or a take that finds no letter: it leaves the replica and the
 -- table
 fails_alone : (table : List ℕ) (letters : List (Option (List Entry))) (letter : Option (List Entry))
     (o : Outcome) (r : Running) (due : Step) → comes_to letter (Some due) o ≡ None
     → ((after_deed (sight table r.replica due) letter o r due).replica ≡ r.replica)
     × (stored table r.replica due ≡ table) × (stored_letters letters r.replica due ≡ letters)
-fails_alone table letters letter outcomes.Ok r steps.Append none = absurd (cc none)
-fails_alone table letters letter (outcomes.Failed why) r steps.Append none = (refl, refl, refl)
-fails_alone table letters letter outcomes.Ok r (steps.LogVote v) none = absurd (cc none)
-fails_alone table letters letter (outcomes.Failed why) r (steps.LogVote v) none = (refl, refl, refl)
-fails_alone table letters None o r steps.Join none = (settle_replica _ (took_letter None r), refl, refl)
-fails_alone table letters (Some l) o r steps.Join none = absurd (cc none)
-fails_alone table letters letter o r (steps.Do a) none = absurd (cc none)
-fails_alone table letters letter o r due none = absurd (cc none)
+fails_alone table letters letter o r due none =
+    elim (comes_to_none (sight table r.replica due) letter o r due none) [
+      | inl append ↦ (
+        ap (λ (x : Running). x.replica) append.1.1,
+        append_stores table r.replica due append.0,
+        append_gives letters r.replica due append.0,
+      )
+      | inr join ↦ (
+        ap (λ (x : Running). x.replica) join.1 ∙ settle_replica _ (took_letter None r),
+        ap (stored table r.replica) join.0,
+        ap (stored_letters letters r.replica) join.0,
+      )
+    ]
 
 -- a move that is no step leaves the world
 pub no_step_no_change : (g : Group) (p : Program) (e : Move) (r : Running) → present_at p.members e.member

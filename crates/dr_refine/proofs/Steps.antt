@@ -10,9 +10,7 @@ use Rattle.dr_machine.specs.Group.{Group, IsGroup, banks, roster}
 use Rattle.dr_program.specs.Replica.{Replica, joined}
 use Rattle.dr_entry.specs.declared.end.End.{End}
 use Rattle.dr_entry.specs.declared.entry.Entry.{Entry}
-use Rattle.dr_history.specs.History.{up_to_view}
 use Rattle.dr_machine.specs.declared.step.Step.{Step}
-use Rattle.dr_machine.specs.declared.step.Step.TheVariants.{Welcome}
 use Rattle.dr_program.specs.declared.outcome.Outcome.{Outcome}
 use Rattle.dr_program.specs.Steps.{stepped, stored, stored_letters}
 use Rattle.dr_program.specs.Running.{Running, begun_running, next_step, settled, took, took_letter}
@@ -37,10 +35,9 @@ of_settled g m x of = subst (IsOf g m) (sym (settle_replica _ x)) of
 pub stored_length : (table : List ℕ) (q : Replica) (s : Step) → length (stored table q s) ≡ length table
 stored_length table q s = grind (arith, length-set table)
 
-posts_length : (letters : List (Option (List Entry))) (q : Replica) (s : Step)
+pub posts_length : (letters : List (Option (List Entry))) (q : Replica) (s : Step)
     → length (stored_letters letters q s) ≡ length letters
-posts_length letters q (Welcome j) = length-set letters j (Some (up_to_view q.history))
-posts_length letters q s = refl
+posts_length letters q s = grind (arith, length-set letters)
 
 -- one member replaced by a running one of its number
 pub replaced_program : (g : Group) (p : Program) (m : ℕ) (r : Running) (cells : List ℕ)

@@ -1,8 +1,9 @@
 -- All cases by acts and steps: a replica that has no end and passes its test is one whose event may come, and
 -- the other way round; what the step makes of it is the effect; and which room the step asks for.
-use Rattle.std.proofs.Common.{◌≡◌, refl, sym, ap, ◌∙◌, ◌↔◌, subst, ℕ, ◌+◌, ◌<◌, ◌≤◌, ◌&&◌, not, true, false, Bool, List, length, arith, slice_index}
+use Rattle.std.proofs.Common.{◌≡◌, ◌⊎◌, inl, inr, refl, sym, ap, ◌∙◌, ◌↔◌, subst, ℕ, ◌+◌, ◌<◌, ◌≤◌, ◌&&◌, not, true, false, Bool, List, length, arith, slice_index}
 use Rattle.std.proofs.lemmas.Bool.Decides.{nat_tests}
 use Rattle.std.specs.Prelude.{Option, None, Some, is_some, nat_lt}
+use Rattle.std.proofs.lemmas.Option.{same_Some}
 use Rattle.std.proofs.lemmas.Bool.{and_from, and_parts}
 use Rattle.dr_entry.specs.declared.end.End.{End}
 use Rattle.dr_entry.specs.declared.end.End.TheVariants.{Crashed, DiskFault, LogFull, Spent}
@@ -12,7 +13,7 @@ use Rattle.dr_machine.specs.declared.step.Step.{Step}
 use Rattle.dr_machine.specs.declared.step.Step.TheVariants as steps
 use Rattle.dr_machine.specs.Group.{Group, columns, roster}
 use Rattle.dr_machine.specs.World.{World, items_received}
-use Rattle.dr_program.specs.Steps.{has_cell, allows, allows_inside, is_free, may_take, index_in, found, stepped_over}
+use Rattle.dr_program.specs.Steps.{has_cell, allows, allows_inside, is_free, may_take, index_in, found, stepped_over, HasLetter, IsNoJoin, given_to, stored_letters}
 use Rattle.dr_machine.specs.Acts.{CanDo, CanTake, effect_of}
 use Rattle.dr_program.specs.Acts.{may, taken}
 use Rattle.dr_entry.specs.declared.record.Vote.{Vote}
@@ -24,7 +25,7 @@ use Rattle.dr_machine.specs.declared.event.Act.TheVariants as acts
 use Rattle.dr_program.specs.Replica.{Replica, greatest, is_inside, is_other, is_others, is_own, is_fault, may_give, may_null, may_receive, may_send, may_suspect, me, looked, pushed}
 use Rattle.dr_program.specs.Reading.{Shared, letters_of, world_of}
 use Rattle.dr_program.proofs.Holdings.{held_of}
-use Rattle.dr_refine.specs.Programs.{HasLetter, HasRoomFor, IsMember, IsNoJoin, acted_table, stored_in, with_table_word}
+use Rattle.dr_refine.specs.Programs.{HasRoomFor, IsMember, acted_table, stored_in, with_table_word}
 use Rattle.dr_refine.proofs.Votes.{accept_effect, accept_guard, commit_effect, commit_guard, propose_guard, vote_effect, vote_guard}
 use Rattle.dr_refine.proofs.Guards.{IsIdle, count_is, in_view_test, may_turn, no_vote_waits, beat_guard, look_guard, suspect_guard, other_member, other_below, push_guard, send_guard, null_guard, receive_guard, deliver_guard, append_guard, publish_guard, report_guard, mark_guard, halt_guard, crash_guard}
 use Rattle.dr_rows.specs.Words.{own}
@@ -227,6 +228,13 @@ step_guard g rs table m r s is unended no_join =
     unless_idle g rs table m r (allows_inside r s) is unended
     (λ idle. free_guard g rs table m r s is idle no_join) (λ can. can.0.may)
 
+-- a letter that is there is one for any step
+pub has_letter : (letter : Option (List Entry)) (es : List Entry) (s : Step) → letter ≡ Some es
+    → HasLetter letter s
+has_letter letter es steps.Join found = (es, found)
+has_letter letter es (steps.Do a) found = tt
+has_letter letter es s found = tt
+
 -- and any one, where it finds a letter if it needs one
 pub taken_guard : (g : Group) (rs : List (Option Replica)) (table : Shared) (m : ℕ) (r : Replica) (s : Step)
     → IsMember g rs table m r → r.end ≡ None
@@ -376,3 +384,15 @@ step_effect g rs table m r (steps.LogVote v) is may no_join = vote_effect g rs t
 step_effect g rs table m r (steps.Welcome j) is may no_join =
     welcome_effect g rs table m r j is (and_parts (is_inside r) (may_give r j) may).1
 step_effect g rs table m r steps.Join is may no_join = absurd no_join
+
+-- ---- whom a step gives a letter
+
+pub given_welcome : (s : Step) (j : ℕ) → given_to s ≡ Some j → s ≡ steps.Welcome j
+given_welcome (steps.Welcome k) j e = ap steps.Welcome (same_Some k j e)
+given_welcome s j e = absurd (cc e)
+
+-- a step gives somebody a letter, or leaves all letters
+pub letters_then : (letters : List (Option (List Entry))) (r : Replica) (s : Step)
+    → ((j : ℕ) × (s ≡ steps.Welcome j)) ⊎ ((given_to s ≡ None) × (stored_letters letters r s ≡ letters))
+letters_then letters r (steps.Welcome j) = inl (j, refl)
+letters_then letters r s = inr (refl, refl)

@@ -1,5 +1,5 @@
 -- Replicas and programs of a group, in their form.
-use Rattle.std.specs.Prelude.{⊤, ◌≡◌, ℕ, ◌<◌, ◌≤◌, false, List, ◌++◌, length, slice_set, Option, Some, Option}
+use Rattle.std.specs.Prelude.{◌≡◌, ℕ, ◌<◌, ◌≤◌, false, List, ◌++◌, length, slice_set, Option, Some, Option}
 use Rattle.dr_entry.specs.declared.entry.Entry.{Entry}
 use Rattle.dr_history.specs.History.{last_view}
 use Rattle.dr_words.specs.declared.column.TheConstants.{BEAT_COLUMN}
@@ -8,7 +8,7 @@ use Rattle.dr_machine.specs.Group.{Group, IsGroup, IsPresent, banks, roster}
 use Rattle.dr_machine.specs.Effects.{one_more}
 use Rattle.dr_machine.specs.declared.event.Act.TheVariants.{Receive, Deliver, Finish}
 use Rattle.dr_machine.specs.declared.step.Step.{Step}
-use Rattle.dr_machine.specs.declared.step.Step.TheVariants.{Do, Join}
+use Rattle.dr_machine.specs.declared.step.Step.TheVariants.{Do}
 use Rattle.dr_program.specs.Replica.{Replica, count, finished, greatest, is_inside}
 use Rattle.dr_program.specs.Running.{Running}
 use Rattle.dr_program.specs.Program.{Program, letter_for}
@@ -39,16 +39,6 @@ stored_in table r s = record {
   words = stored table.words r s;
   letters = stored_letters table.letters r s;
 }
-
--- the step is no join
-abbrev pub IsNoJoin : Step → Type 0
-IsNoJoin Join = ⊥
-IsNoJoin s = ⊤
-
--- a join needs a letter
-abbrev pub HasLetter : Option (List Entry) → Step → Type 0
-HasLetter letter Join = (es : List Entry) × (letter ≡ Some es)
-HasLetter letter s = Unit {0}
 
 -- a letter that a late member can go on from: it begins with the member's history, and its last View is a later
 -- one

@@ -2,20 +2,20 @@
 ghost use Rattle.std.specs.Prelude.{◌≡◌, ◌↔◌, ℕ, ◌≤◌, true, false, List, is_some, Some, None, Option};
 ghost use Rattle.dr_entry.specs.declared.entry.Entry.{Entry};
 ghost use Rattle.dr_machine.specs.declared.step.Step.{Step};
-ghost use Rattle.dr_machine.specs.declared.step.Step.TheVariants.{Join};
 ghost use Rattle.dr_program.specs.declared.setup.Setup.{Setup};
 ghost use Rattle.dr_machine.specs.Group.{Group, IsGroup};
 ghost use Rattle.dr_machine.specs.Acts.{CanTake, effect_of};
 ghost use Rattle.dr_machine.specs.Run.{IsReached};
 ghost use Rattle.dr_program.specs.Replica.{Replica, is_inside, joined};
-ghost use Rattle.dr_program.specs.Steps.{allows, may_take, stepped_over};
+ghost use Rattle.dr_program.specs.Steps.{allows, may_take, stepped_over, HasLetter, IsNoJoin};
 ghost use Rattle.dr_program.specs.Running.{Running, next_step};
 ghost use Rattle.dr_program.specs.Program.{Program, Move, AreSetups, after_deed, begun_program, letter_for, next_sight, step_of};
 ghost use Rattle.dr_program.specs.Net.{FindsNone};
 ghost use Rattle.dr_program.specs.Reading.{Shared, letters_of, step_by, world, world_of};
 ghost use Rattle.dr_program.specs.Form.{IsRunningMember};
-ghost use Rattle.dr_refine.specs.Programs.{AreLetters, HasLetter, HasRoomFor, IsLetterFor, IsMember, IsNoJoin, IsProgram, stored_in};
+ghost use Rattle.dr_refine.specs.Programs.{AreLetters, HasRoomFor, IsLetterFor, IsMember, IsProgram, stored_in};
 ghost use Rattle.dr_program.specs.Presence.{present_at, with_present};
+ghost use Rattle.dr_machine.specs.Effects.{joins};
 
 /// A member's step may come exactly where its replica has no end and passes the test of the step, and
 /// a join finds a letter, but for three ranges: it takes no more items of a member than anyone has
@@ -38,7 +38,7 @@ pub fn steps_are_effects()
     ensures joins { (g : Group) (rs : List (Option Replica)) (table : Shared) (m : ℕ) (r : Replica) (letter : List Entry)
         → IsMember g rs table m r → is_inside r ≡ false → letters_of table.letters m ≡ Some letter
         → IsLetterFor r letter
-        → world_of g (with_present rs m (joined r letter)) table ≡ effect_of g (world_of g rs table) m Join }
+        → world_of g (with_present rs m (joined r letter)) table ≡ joins (world_of g rs table) m }
 {}
 
 /// A deed of a running member is the step of its place: that may come, and the program's world after

@@ -1,21 +1,18 @@
 -- A take: where it finds a letter the member joins, and else its turn ends. It then has fewer deeds left.
-use Rattle.std.proofs.Common.{◌≡◌, refl, sym, subst, ℕ, ◌-◌, ◌<◌, not, Bool, true, false, inl, arith}
-use Rattle.std.specs.Prelude.{⊤, List, Option, Some, None}
+use Rattle.std.proofs.Common.{◌≡◌, refl, subst, ℕ, ◌-◌, ◌<◌, Bool, true, false, inl, arith}
+use Rattle.std.specs.Prelude.{List, Option, Some, None}
 use Rattle.std.proofs.lemmas.Bool.{and_parts}
 use Rattle.dr_entry.specs.declared.entry.Entry.{Entry}
 use Rattle.dr_words.proofs.Order.{Grown_refl}
-use Rattle.dr_machine.specs.declared.step.Step.{Step}
-use Rattle.dr_machine.specs.declared.step.Step.TheVariants.{Join}
-use Rattle.dr_program.specs.declared.outcome.LogWhy.{LogWhy}
 use Rattle.dr_program.specs.declared.place.Part.{Part}
 use Rattle.dr_program.specs.declared.place.Part.TheVariants as parts
-use Rattle.dr_program.specs.Replica.{is_inside, joined, value_due}
-use Rattle.dr_program.specs.Steps.{allows}
+use Rattle.dr_program.specs.Replica.{is_inside, joined}
+use Rattle.dr_program.specs.Steps.{allows, IsNoJoin}
 use Rattle.dr_program.specs.Turn.{part_of}
-use Rattle.dr_program.specs.Running.{Running, append_or_end, asks, columns, crashes_now, members, next_step, settled, step_at, took_letter, vote_or_end}
+use Rattle.dr_program.specs.Running.{Running, asks, columns, crashes_now, members, next_step, settled, step_at, took_letter, AsksForLetter}
 use Rattle.dr_program.specs.Form.{HasForm, IsRunningMember}
 use Rattle.dr_program.proofs.Fixed.{join_told, of_told}
-use Rattle.dr_program.proofs.StepsAt.{push_either}
+use Rattle.dr_program.proofs.StepsAt.{push_either, append_either, vote_either}
 use Rattle.dr_suspect.specs.Waits.{IsWaits, begun}
 use Rattle.dr_turn.specs.Search.{IsUnderway}
 use Rattle.dr_turn.specs.Work.{HasGrownTo, IsAfterDeed, IsStill, LeadsOn, deeds_left, work}
@@ -25,30 +22,24 @@ use Rattle.dr_turn.proofs.Order.{ends_in, is_take, left_take}
 use Rattle.dr_turn.proofs.Parts.{acts_on, none_waits}
 use Rattle.dr_turn.proofs.Search.{settled_running}
 use Rattle.dr_turn.proofs.Tasks.{joined_less}
+use Rattle.dr_program.proofs.Runs.{joins_outside}
 
 -- ---- where a take is due
 
--- the step is a join
-abbrev IsJoin : Step → Type 0
-IsJoin Join = ⊤
-IsJoin s = ⊥
+-- a join is due at its own part alone
+pub no_join_at : (r : Running) (part : Part) (i c : ℕ) → is_take part ≡ false → IsNoJoin (step_at r part i c)
+no_join_at r parts.Take i c other = absurd (cc other)
+no_join_at r parts.Append i c other = append_either IsNoJoin r.failed tt (λ why. tt)
+no_join_at r parts.Vote i c other = vote_either IsNoJoin r.failed _ tt (λ why. tt)
+no_join_at r parts.Push i c other = push_either IsNoJoin (crashes_now r) i c tt tt
+no_join_at r part i c other = tt
 
--- it is due at its own part alone
-take_at : (r : Running) (part : Part) (i c : ℕ) → IsJoin (step_at r part i c) → is_take part ≡ true
-take_at r parts.Take i c e = refl
-take_at r parts.Append i c e = absurd (by r.failed e)
+take_at : (r : Running) (part : Part) (i c : ℕ) → (IsNoJoin (step_at r part i c) → ⊥) → is_take part ≡ true
+take_at r part i c join = by (is_take part) refl
   where
-    by : (o : Option LogWhy) → IsJoin (append_or_end o) → ⊥
-    by None e = e
-    by (Some why) e = e
-take_at r parts.Vote i c e = absurd (by r.failed e)
-  where
-    by : (o : Option LogWhy) → IsJoin (vote_or_end o (value_due r.replica)) → ⊥
-    by None e = e
-    by (Some why) e = e
-take_at r parts.Push i c e =
-    absurd (push_either (λ s. IsJoin s → ⊥) (crashes_now r) i c (λ x. x) (λ x. x) e)
-take_at r part i c e = absurd e
+    by : (b : Bool) → is_take part ≡ b → is_take part ≡ true
+    by true e = e
+    by false e = absurd (join (no_join_at r part i c e))
 
 -- what is known of a member whose take is due
 pub record IsTaking (r : Running) : Type 0 where
@@ -57,30 +48,23 @@ pub record IsTaking (r : Running) : Type 0 where
   pub outside : is_inside r.replica ≡ false
   pub first : r.replica.view ≡ 0
 
-no_more : (b : Bool) → not b ≡ true → b ≡ false
-no_more true e = absurd (cc e)
-no_more false e = refl
-
-pub taking : (r : Running) → IsRunningMember r → r.replica.end ≡ None → next_step r ≡ Join → IsTaking r
-taking r m none due = record {
+pub taking : (r : Running) → IsRunningMember r → AsksForLetter r → IsTaking r
+taking r m is = record {
   at = at;
   idle = none_waits r (part_of r.place) refl (other (part_of r.place) at) m.free;
-  outside = no_more (is_inside r.replica) test;
-  first = (m.replica.outside (no_more (is_inside r.replica) test)).first;
+  outside = outside;
+  first = (m.replica.outside outside).first;
 }
   where
     at : is_take (part_of r.place) ≡ true
-    at = take_at r (part_of r.place) r.place.row r.place.column (subst IsJoin (sym due) tt)
+    at = take_at r (part_of r.place) r.place.row r.place.column (λ none. subst IsNoJoin is.due none)
 
     other : (part : Part) → is_take part ≡ true → acts_on part ≡ false
     other part e = grind (arith, e)
 
-    may : allows r.replica (next_step r) ≡ true
-    may = (and_parts (asks r (part_of r.place) r.place.row r.place.column) (allows r.replica (next_step r))
-        (m.due none)).1
-
-    test : not (is_inside r.replica) ≡ true
-    test = subst (λ (s : Step). allows r.replica s ≡ true) due may
+    outside : is_inside r.replica ≡ false
+    outside = joins_outside r.replica (next_step r) is.due (and_parts
+        (asks r (part_of r.place) r.place.row r.place.column) (allows r.replica (next_step r)) (m.due is.unended)).1
 
 -- ---- what it leads to
 
@@ -135,19 +119,19 @@ took_still (Some letter) r g m is =
 -- ---- the take as a deed
 
 -- a running member stays one over its take
-pub takes_keep_form : (letter : Option (List Entry)) (r : Running) → IsRunningMember r → r.replica.end ≡ None
-    → next_step r ≡ Join → HasForm (took_letter letter r).replica → IsRunningMember (settled (took_letter letter r))
-takes_keep_form letter r m none due form =
-    settled_running (took_letter letter r) (took_underway letter r m (taking r m none due) form)
+pub takes_keep_form : (letter : Option (List Entry)) (r : Running) → IsRunningMember r → AsksForLetter r
+    → HasForm (took_letter letter r).replica → IsRunningMember (settled (took_letter letter r))
+takes_keep_form letter r m asks form =
+    settled_running (took_letter letter r) (took_underway letter r m (taking r m asks) form)
 
 -- and has fewer deeds left
-pub takes_done : (letter : Option (List Entry)) (r : Running) → IsRunningMember r → r.replica.end ≡ None
-    → next_step r ≡ Join → HasForm (took_letter letter r).replica → LeadsOn letter
+pub takes_done : (letter : Option (List Entry)) (r : Running) → IsRunningMember r → AsksForLetter r
+    → HasForm (took_letter letter r).replica → LeadsOn letter
     → IsAfterDeed r (settled (took_letter letter r))
-takes_done letter r m none due form later = let t = taking r m none due in
+takes_done letter r m asks form later = let t = taking r m asks in
     settled_done r (took_letter letter r) (record {
       underway = took_underway letter r m t form;
       grown = took_grown letter r t later;
-      fewer = took_fewer letter r m none t later;
+      fewer = took_fewer letter r m asks.unended t later;
       still = took_still letter r;
     })

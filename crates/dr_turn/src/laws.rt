@@ -1,10 +1,9 @@
 //! Laws of the turn.
 ghost use Rattle.std.specs.Prelude.{◌≡◌, ℕ, ◌^◌, ◌<◌, ◌≤◌, List, Option, None, is_some, false, true};
 ghost use Rattle.dr_entry.specs.declared.entry.Entry.{Entry};
-ghost use Rattle.dr_machine.specs.declared.step.Step.TheVariants.{Join};
 ghost use Rattle.dr_program.specs.declared.outcome.LogWhy.{LogWhy};
 ghost use Rattle.dr_program.specs.Form.{HasForm, IsRunningMember};
-ghost use Rattle.dr_program.specs.Running.{Running, after_step, applies, broken_off, next_step, settled, took, took_letter};
+ghost use Rattle.dr_program.specs.Running.{Running, after_step, applies, broken_off, next_step, settled, took, took_letter, AsksForLetter};
 ghost use Rattle.dr_program.specs.Steps.{AtLook, IsAppend};
 ghost use Rattle.dr_rows.specs.Words.{is_frozen};
 ghost use Rattle.dr_turn.specs.Search.{IsUnderway, Passed};
@@ -33,11 +32,11 @@ pub fn deeds_keep_members()
         ≡ None
         → HasForm (took word r (next_step r)).replica → HasGrownTo r (took word r (next_step r))
         → IsAfterDeed r (after_step word r) }
-    ensures took_form { (letter : Option (List Entry)) (r : Running) → IsRunningMember r → r.replica.end ≡ None
-        → next_step r ≡ Join → HasForm (took_letter letter r).replica
+    ensures took_form { (letter : Option (List Entry)) (r : Running) → IsRunningMember r → AsksForLetter r
+        → HasForm (took_letter letter r).replica
         → IsRunningMember (settled (took_letter letter r)) }
-    ensures took_done { (letter : Option (List Entry)) (r : Running) → IsRunningMember r → r.replica.end ≡ None
-        → next_step r ≡ Join → HasForm (took_letter letter r).replica → LeadsOn letter
+    ensures took_done { (letter : Option (List Entry)) (r : Running) → IsRunningMember r → AsksForLetter r
+        → HasForm (took_letter letter r).replica → LeadsOn letter
         → IsAfterDeed r (settled (took_letter letter r)) }
     ensures failed_form { (why : LogWhy) (r : Running) → IsRunningMember r → r.replica.end ≡ None
         → IsAppend (next_step r) → IsRunningMember (broken_off why r) }

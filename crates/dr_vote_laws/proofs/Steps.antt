@@ -13,7 +13,7 @@ use Rattle.dr_machine.specs.declared.event.Event.{Event}
 use Rattle.dr_machine.specs.declared.event.Act.{Act}
 use Rattle.dr_machine.specs.declared.event.Act.TheVariants as acts
 use Rattle.dr_machine.specs.declared.step.Step.{Step}
-use Rattle.dr_machine.specs.declared.step.Step.TheVariants.{Do, Look, Push, Append, LogVote, Welcome, Join}
+use Rattle.dr_machine.specs.declared.step.Step.TheVariants.{Do, Look, Push, LogVote, Join}
 use Rattle.dr_entry.specs.declared.end.SentItem.{SentItem}
 use Rattle.dr_history.specs.History.{last_view}
 use Rattle.dr_words.specs.Masks.{next_members}
@@ -81,12 +81,11 @@ step_votes g V w m (Do a) is well can f old =
     (act_votes g V w m a is well can f old)
 step_votes g V w m (Look i c) is well can f old = look_votes g V w m i c old
 step_votes g V w m (Push j c) is well can f old = push_votes g V w m j c old
-step_votes g V w m Append is well can f old = old
 step_votes g V w m (LogVote v) is well can f old = vote_votes g V w m v is can f old
-step_votes g V w m (Welcome j) is well can f old = old
 step_votes g V w m Join is well can f old = joined_is w m can.letter (Voting g V) can.given
     (enter_votes g V w m (last_view (0, 0) can.letter).0 (last_view (0, 0) can.letter).1 can.letter
     can.may.idle (well.join m can).later f old)
+step_votes g V w m s is well can f old = old
 
 -- and so does each event
 pub voting_keeps : (g : Group) (V : Views) (w : World) (e : Event) → IsGroup g → AllGoOn g V w
