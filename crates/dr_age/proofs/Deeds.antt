@@ -24,9 +24,8 @@ use Rattle.dr_program.specs.declared.place.Part.TheVariants as parts
 use Rattle.dr_program.proofs.StepsAt.{append_either, push_either, vote_either}
 use Rattle.dr_program.proofs.Voting.{vote_room, vote_valid, votes_for}
 use Rattle.dr_program.proofs.Waiting.{append_free}
-use Rattle.dr_program.specs.Steps.{IsAppend, allows, sight, stepped, stored, stored_letters}
+use Rattle.dr_program.specs.Steps.{IsAppend, allows, sight, stepped, stored, stored_letters, IsNoJoin}
 use Rattle.dr_refine.proofs.Deeds.{due_allowed}
-use Rattle.dr_refine.specs.Programs.{IsNoJoin}
 use Rattle.dr_logged.specs.Appended.{IsAppendDue, MayLog, is_append, record_due, record_of}
 
 -- ---- a step, by its deed

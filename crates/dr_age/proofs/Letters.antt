@@ -1,6 +1,6 @@
 -- Where nobody is late, no letter is given or taken.
-use Rattle.std.proofs.Common.{◌≡◌, refl, sym, ap, ◌∙◌, subst, inl, inr, ◌⊎◌, Contains, ℕ, ◌+◌, Bool, true, false, not, [], arith}
-use Rattle.std.specs.Prelude.{None, Some}
+use Rattle.std.proofs.Common.{◌≡◌, refl, sym, ap, ◌∙◌, subst, inl, inr, ◌⊎◌, Contains, ℕ, ◌+◌, true, [], arith}
+use Rattle.std.specs.Prelude.{Some}
 use Rattle.std.proofs.lemmas.Option.{slice_get-get_or}
 use Rattle.dr_faithful.specs.Chosen.{endings_by, views_by}
 use Rattle.dr_faithful.specs.Faithful.{Faithful}
@@ -10,8 +10,6 @@ use Rattle.dr_history.specs.Soundness.{IsNobodyLate}
 use Rattle.dr_history_laws.proofs.Members.{member-has}
 use Rattle.dr_history_laws.specs.Courses.{ViewHasEnded}
 use Rattle.dr_machine.proofs.Presence.{in_roster, late_in}
-use Rattle.dr_machine.specs.declared.step.Step.{Step}
-use Rattle.dr_machine.specs.declared.step.Step.TheVariants.{Join, Welcome}
 use Rattle.dr_machine.specs.Group.{Group, IsGroup}
 use Rattle.dr_machine.specs.Guards.{CanWelcome}
 use Rattle.dr_machine.specs.World.{World}
@@ -21,15 +19,16 @@ use Rattle.dr_program.specs.declared.outcome.Outcome.TheVariants as outcomes
 use Rattle.dr_program.specs.Presence.{present_at}
 use Rattle.dr_program.specs.Program.{Program, comes_to, letter_for}
 use Rattle.dr_program.specs.Reading.{step_by, step_due, world}
-use Rattle.dr_program.specs.Replica.{is_inside, me}
+use Rattle.dr_program.specs.Replica.{me}
 use Rattle.dr_program.specs.Running.{Running, next_deed, next_step}
-use Rattle.dr_program.specs.Steps.{allows}
 use Rattle.dr_refine.proofs.Deeds.{deed_is_step, due_allowed}
 use Rattle.dr_room.proofs.Letters.{letters_are}
 use Rattle.dr_world_laws.proofs.ChosenViews.{ending-next}
 use Rattle.dr_world_laws.proofs.Worlds.{Known, known}
 use Rattle.dr_age.specs.Sound.{IsOfNoLetter, IsSound}
-use Rattle.dr_age.proofs.Deeds.{deed_tells}
+use Rattle.dr_age.proofs.Deeds.{deed_tells, IsTold}
+use Rattle.dr_machine.specs.Acts.{CanTake}
+use Rattle.dr_program.proofs.Runs.{joins_outside}
 
 -- nobody is late where all that are there are in the first view
 nobody : (g : Group) (m : ℕ) → IsNobodyLate g.opening → IsLateIn g.opening m → ⊥
@@ -61,41 +60,42 @@ newcomer_late g w m j is y can = fresh (ended.newcomers j next)
         absurd (cc (there, ap (λ k. has k j) (sym was.2) ∙ can.new))
     fresh (inr new) = new.late
 
--- no welcome is due
-no_welcome : (g : Group) (p : Program) (m j : ℕ) (r : Running) → IsSound g p → IsNobodyLate g.opening
-    → present_at p.members m ≡ Some r → r.replica.end ≡ None → next_step r ≡ Welcome j → ⊥
-no_welcome g p m j r is none there unended due = nobody g j none
-    (newcomer_late g (world g p) m j is.group (known g (world g p) is.group is.reached)
-    (deed_is_step g p (record { member = m; outcome = outcomes.Ok }) r (Welcome j) is.group is.form
-    (letters_are g p is.group is.form is.reached) there named).0)
+-- no letter is given
+no_give : (g : Group) (p : Program) (m j : ℕ) (r : Running) → IsSound g p → IsNobodyLate g.opening
+    → present_at p.members m ≡ Some r → next_deed r ≡ deeds.Give j → ⊥
+no_give g p m j r is none there give = nobody g j none (newcomer_late g (world g p) m j is.group
+    (known g (world g p) is.group is.reached) (subst (λ s. CanTake g (world g p) m s) tells.says can))
   where
-    named : step_by (letter_for p m) r outcomes.Ok ≡ Some (Welcome j)
-    named = ap (λ o. comes_to (letter_for p m) (step_due r o) outcomes.Ok) unended
-        ∙ ap (λ s. comes_to (letter_for p m) (Some s) outcomes.Ok) due
+    tells : IsTold [] r (deeds.Give j)
+    tells = deed_tells [] r (deeds.Give j) give
 
--- nor is a join
-no_join : (g : Group) (p : Program) (m : ℕ) (r : Running) → IsSound g p → IsNobodyLate g.opening
-    → present_at p.members m ≡ Some r → r.replica.end ≡ None → next_step r ≡ Join → ⊥
-no_join g p m r is none there unended due = nobody g m none (late_in g m is.group (subst (λ k. has k m ≡ true)
+    named : step_by (letter_for p m) r outcomes.Ok ≡ Some (next_step r)
+    named = ap (λ o. comes_to (letter_for p m) (step_due r o) outcomes.Ok) tells.none
+        ∙ ap (λ s. comes_to (letter_for p m) (Some s) outcomes.Ok) tells.says
+        ∙ ap Some (sym tells.says)
+
+    can : CanTake g (world g p) m (next_step r)
+    can = (deed_is_step g p (record { member = m; outcome = outcomes.Ok }) r (next_step r) is.group is.form
+        (letters_are g p is.group is.form is.reached) there named).0
+
+-- nor taken
+no_take : (g : Group) (p : Program) (m : ℕ) (r : Running) → IsSound g p → IsNobodyLate g.opening
+    → present_at p.members m ≡ Some r → next_deed r ≡ deeds.Take → ⊥
+no_take g p m r is none there take = nobody g m none (late_in g m is.group (subst (λ k. has k m ≡ true)
     (is.form.of m r there).late (subst (λ k. has r.replica.late k ≡ true) (is.form.of m r there).number late)))
   where
-    outside : (b : Bool) → not b ≡ true → b ≡ false
-    outside true e = absurd (cc e)
-    outside false e = refl
-
-    test : not (is_inside r.replica) ≡ true
-    test = subst (λ (s : Step). allows r.replica s ≡ true) due
-        (due_allowed r ((is.form.form m r there).due unended))
+    tells : IsTold [] r deeds.Take
+    tells = deed_tells [] r deeds.Take take
 
     late : has r.replica.late (me r.replica) ≡ true
-    late = ((is.form.form m r there).replica.outside (outside (is_inside r.replica) test)).late
+    late = ((is.form.form m r there).replica.outside (joins_outside r.replica (next_step r) tells.says
+        (due_allowed r ((is.form.form m r there).due tells.none)))).late
 
 pub deals_with_none : (g : Group) (p : Program) (m : ℕ) (r : Running) → IsSound g p → IsNobodyLate g.opening
     → present_at p.members m ≡ Some r → IsOfNoLetter (next_deed r)
 deals_with_none g p m r is none there = by (next_deed r) refl
   where
     by : (d : Deed) → next_deed r ≡ d → IsOfNoLetter d
-    by (deeds.Give j) e =
-        let t = deed_tells [] r (deeds.Give j) e in absurd (no_welcome g p m j r is none there t.none t.says)
-    by deeds.Take e = let t = deed_tells [] r deeds.Take e in absurd (no_join g p m r is none there t.none t.says)
+    by (deeds.Give j) e = absurd (no_give g p m j r is none there e)
+    by deeds.Take e = absurd (no_take g p m r is none there e)
     by d e = tt

@@ -9,7 +9,7 @@ use Rattle.dr_rows.specs.Words.{own}
 use Rattle.dr_words.proofs.Places.{word_index_within}
 use Rattle.dr_words.specs.Layout.{word_index_of}
 use Rattle.dr_machine.proofs.Runs.{is_before, stays_next}
-use Rattle.dr_machine.specs.declared.step.Step.TheVariants.{Join, Push}
+use Rattle.dr_machine.specs.declared.step.Step.TheVariants.{Push}
 use Rattle.dr_machine.specs.Group.{Group, IsGroup, banks, columns, roster}
 use Rattle.dr_machine.specs.Run.{ComesNext, IsReached}
 use Rattle.dr_machine.specs.World.{World}
@@ -18,7 +18,7 @@ use Rattle.dr_program.specs.Net.{FindsNone, IsOnItsWay, took_nothing}
 use Rattle.dr_program.specs.Program.{Move, Program, ok, step_of}
 use Rattle.dr_program.specs.Reading.{step_due, step_of_member, table_of, world}
 use Rattle.dr_program.specs.Replica.{is_inside, is_other, me}
-use Rattle.dr_program.specs.Running.{Running, next_step}
+use Rattle.dr_program.specs.Running.{Running, next_step, AsksForLetter}
 use Rattle.dr_program.specs.Steps.{allows, index_in}
 use Rattle.dr_refine.proofs.Deeds.{due_allowed, missed_stays, program_member, replicas, step_follows}
 use Rattle.dr_refine.proofs.Guards.{other_within}
@@ -27,7 +27,7 @@ use Rattle.dr_refine.proofs.Tests.{cell_test}
 use Rattle.dr_refine.specs.Programs.{IsMember, IsProgram}
 use Rattle.dr_room.proofs.Letters.{letters_are}
 use Rattle.dr_program_laws.proofs.Keeping.{move_kept}
-use Rattle.dr_program_laws.proofs.Nets.{come_follows, due_take, missed_kept, own_now, way_stays}
+use Rattle.dr_program_laws.proofs.Nets.{come_follows, missed_kept, own_now, way_stays}
 use Rattle.dr_program_laws.specs.Carried.{IsCarried, WasSent}
 use Rattle.dr_program.specs.Presence.{present_at}
 
@@ -211,11 +211,11 @@ carried_comes g p net packet y on =
 
 -- and so does a take that finds no letter, as it is on its way
 pub carried_misses : (g : Group) (p : Program) (net : List Packet) (m : ℕ) (r : Running)
-    → IsCarried g p net → present_at p.members m ≡ Some r → step_of_member r ≡ Some Join
+    → IsCarried g p net → present_at p.members m ≡ Some r → AsksForLetter r
     → IsCarried g (took_nothing p m r) net
 carried_misses g p net m r y there take = record {
   group = y.group;
-  form = missed_kept g p m r y.form there (due_take r take).0 (due_take r take).1;
+  form = missed_kept g p m r y.form there take;
   before = world g p ∷ y.before;
   way = (
     y.way,

@@ -11,6 +11,7 @@ use Rattle.dr_entry.specs.declared.end.MemberEnd.{MemberEnd}
 use Rattle.dr_faithful.specs.Chosen.{views_by}
 use Rattle.dr_faithful.specs.Faithful.{StandsOnLogs}
 use Rattle.dr_history.specs.Agreement.{EndsAgreed}
+use Rattle.dr_history.specs.declared.opening.Opening.{Opening}
 use Rattle.dr_history.specs.History.{GroupView, IsPrefixOf, view_of}
 use Rattle.dr_history.specs.Members.{has, members_of}
 use Rattle.dr_history.specs.Order.{IsLateIn, first_entries, messages_from, numbered_messages}
@@ -21,6 +22,7 @@ use Rattle.dr_program.specs.declared.setup.CrashPoint.{CrashPoint}
 use Rattle.dr_program.specs.declared.setup.Setup.{Setup}
 use Rattle.dr_machine.specs.Group.{Group, IsGroup, IsPresent, late_members, roster}
 use Rattle.dr_machine.proofs.Presence.{late_in}
+use Rattle.dr_machine.specs.Guards.{IsFault}
 use Rattle.dr_machine.specs.World.{World, opening_world}
 use Rattle.dr_program.specs.Form.{WaitsToJoin}
 use Rattle.dr_program.specs.Replica.{is_inside, me}
@@ -45,7 +47,7 @@ use Rattle.dr_world_laws.proofs.Holding.{view-held}
 use Rattle.dr_world_laws.proofs.Leavings.{IsLeftSo}
 use Rattle.dr_world_laws.proofs.Worlds.{Known, commits, done-durable, done-whole, holds-remaining, in-order, known, left_so}
 use Rattle.dr_program_laws.specs.Causes.{HasCause, IsVotedOut}
-use Rattle.dr_program_laws.specs.Ended.{GoOnWithout, HasEnded, HasReason, HaveEnded, IsComplete, LastViewIs, IsLeftOut, IsWhole, is_log_end}
+use Rattle.dr_program_laws.specs.Ended.{GoOnWithout, HasEnded, HasReason, HaveEnded, IsComplete, LastViewIs, IsLeftOut, IsWhole, is_log_end, HasCrashed, IsSpent}
 use Rattle.dr_program_laws.proofs.Keeping.{deeds_kept}
 use Rattle.dr_program_laws.proofs.Nets.{net_keeps, net_reached}
 use Rattle.dr_program_laws.proofs.Programs.{AllStand, all_stand, begun_stands, missed_stands, move_stands}
@@ -53,6 +55,9 @@ use Rattle.dr_program_laws.proofs.Standing.{IsProper, Stands}
 use Rattle.dr_program_laws.proofs.Worlds.{all_ends, end_told, ends_agreed, ends_of, of_there, stands_there}
 use Rattle.dr_program.specs.Presence.{present_at}
 use Rattle.dr_program.proofs.Present.{present_within}
+use Rattle.dr_program_laws.proofs.Outside.{AreApart, IsApart, IsFaulty, net_apart, ran_apart}
+use Rattle.dr_program_laws.proofs.Failing.{all_fail, net_fails}
+use Rattle.dr_program_laws.specs.Failing.{AreFailing, IsFailing, has_log_end}
 
 -- ---- a member in its world
 
@@ -470,10 +475,37 @@ has_reason g p limit points m r is all ended v = by r.replica.end refl ended v.p
     }))
     by (Some ends.Absent) e t so = absurd so
 
+-- who is left out of its view was in it
+none_left_out : (o : Opening) (all : List MemberEnd) (number members m : ℕ) (end : End)
+    → IsLeftOut o all number members m end → IsFault end → ⊥
+none_left_out o all number members m (ends.Suspected by) left fault = fault
+none_left_out o all number members m (ends.NoMajority mask) left fault = fault
+none_left_out o all number members m (ends.Excluded view) left fault = fault
+none_left_out o all number members m end left fault = left
+
+-- whose end is a fault, and none of its log, has spent its turns, or crashed
+by_fault : (o : Opening) (all : List MemberEnd) (number members limit m : ℕ) (points : List CrashPoint)
+    (e : MemberEnd) → HasReason o all number members limit m points e → IsFault e.end
+    → is_log_end e.end ≡ false → IsSpent limit points e ⊎ HasCrashed points e
+by_fault o all number members limit m points e (inl done) fault log =
+    absurd (subst IsFault done.whole.end fault)
+by_fault o all number members limit m points e (inr (inl spent)) fault log = inl spent
+by_fault o all number members limit m points e (inr (inr (inl crashed))) fault log = inr crashed
+by_fault o all number members limit m points e (inr (inr (inr (inl stopped)))) fault log =
+    absurd (cc (stopped.end, log))
+by_fault o all number members limit m points e (inr (inr (inr (inr left)))) fault log =
+    absurd (none_left_out o all number members m e.end left.end fault)
+
+-- so it is with a member that is none of its view
+apart_end : (o : Option End) → IsTrue (is_some o) → IsFaulty o → has_log_end o ≡ false
+    → IsFault (unwrap_or o ends.Done) × (is_log_end (unwrap_or o ends.Done) ≡ false)
+apart_end None some fault log = absurd (cc)
+apart_end (Some end) some fault log = (fault, log)
+
 has_ended : (g : Group) (p : Program) (limit : ℕ) (points : List CrashPoint) (m : ℕ) (r : Running)
     → IsThere g p m r → AllEnded p → IsTrue (is_some r.replica.end) → Stands limit points r
-    → HasEnded g.opening (ends_of p) limit m points (end_of r)
-has_ended g p limit points m r is all ended v = record {
+    → IsApart r → IsFailing r → HasEnded g.opening (ends_of p) limit m points (end_of r)
+has_ended g p limit points m r is all ended v apart fails = record {
   number = r.replica.view;
   members = r.replica.members;
   view = in_view g p m r is;
@@ -481,15 +513,20 @@ has_ended g p limit points m r is all ended v = record {
       (is.program.form m r is.there).replica.roster;
   own = own_view g p m r is;
   reason = has_reason g p limit points m r is all ended v;
+  apart = λ outside.
+      let none = apart (ap (has r.replica.members) (is.program.of m r is.there).number ∙ outside) in
+      let end = apart_end r.replica.end ended none.1 (fails.well none.0) in
+      by_fault g.opening (ends_of p) r.replica.view r.replica.members limit m points (end_of r)
+      (has_reason g p limit points m r is all ended v) end.0 end.1;
 }
 
 -- the members of a program in a reached world, each of which stands as its setup lets it
 ended_so : (g : Group) (turns : ℕ) (setups : List (Option Setup)) (points : ℕ → List CrashPoint)
     (p : Program) → IsGroup g → AreSetups g turns setups
     → ((m : ℕ) (s : Setup) → present_at setups m ≡ Some s → s.crashes ≡ points m)
-    → IsProgram g p × IsReached g (world g p) → AllStand setups p → AllEnded p
+    → IsProgram g p × IsReached g (world g p) → AllStand setups p → AreApart p → AreFailing p → AllEnded p
     → HaveEnded g.opening turns points (ends_of p)
-ended_so g turns setups points p is are planned kept stand ended = record {
+ended_so g turns setups points p is are planned kept stand apart fail ended = record {
   each = λ m e at here. let r = stands_there g p m is kept.0 here in
       subst (HasEnded g.opening (ends_of p) turns m (points m)) (end_is p m r.0 e r.1 at)
       (each m r.0 here r.1);
@@ -508,6 +545,7 @@ ended_so g turns setups points p is are planned kept stand ended = record {
         has_ended g p turns (points m) m r
         (record { group = is; program = kept.0; reached = kept.1; there = there }) ended
         (ended_there p m r ended there) (as_wanted m r s.0 s.1 (stand m s.0 r s.1 there))
+        (apart m r there) (fail m r there)
 
     by : (m : ℕ) (e : MemberEnd) → ¬ IsPresent g m
         → (e ≡ absent_end) ⊎ ((r : Running) × (present_at p.members m ≡ Some r) × (end_of r ≡ e))
@@ -522,7 +560,8 @@ pub have_ended : (g : Group) (turns : ℕ) (setups : List (Option Setup)) (point
     → IsRanFrom (begun_program g setups) p → AllEnded p → HaveEnded g.opening turns points (ends_of p)
 have_ended g turns setups points p is some are planned ran ended =
     ended_so g turns setups points p is are planned (deeds_kept g turns setups p is some are ran)
-    (subst (AllStand setups) (sym ran.1) (all_stand g turns setups ran.0 is some are)) ended
+    (subst (AllStand setups) (sym ran.1) (all_stand g turns setups ran.0 is some are))
+    (ran_apart g turns setups p is some are ran) (λ m r there. all_fail g turns setups p m r is some are ran there) ended
 
 -- and of any that comes of deeds and of words that come over a net
 pub net_ended : (g : Group) (turns : ℕ) (setups : List (Option Setup)) (points : ℕ → List CrashPoint)
@@ -532,8 +571,9 @@ pub net_ended : (g : Group) (turns : ℕ) (setups : List (Option Setup)) (points
 net_ended g turns setups points p is some are planned (before, way) ended =
     ended_so g turns setups points p is are planned (net_reached g turns setups p is some are (before, way))
     (net_keeps g turns setups (AllStand setups) is some are (λ q e form run all. move_stands g setups q e form all)
-    (λ q table letters all. all) (λ q m r form all there unended due. missed_stands setups q m r all there)
-    (begun_stands g setups) before p way) ended
+    (λ q table letters all. all) (λ q m r form all there asks. missed_stands setups q m r all there)
+    (begun_stands g setups) before p way)
+    (net_apart g turns setups p is some are (before, way)) (net_fails g turns setups p is some are (before, way)) ended
 
 -- and each that has ended has its cause
 pub have_causes : (g : Group) (turns : ℕ) (setups : List (Option Setup)) (p : Program) (m : ℕ) (r : Running)

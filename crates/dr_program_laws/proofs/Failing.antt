@@ -5,7 +5,6 @@ use Rattle.std.proofs.lemmas.Option.{same_Some}
 use Rattle.dr_entry.specs.declared.end.End.{End}
 use Rattle.dr_entry.specs.declared.entry.Entry.{Entry}
 use Rattle.dr_machine.specs.declared.event.Act.{Act}
-use Rattle.dr_machine.specs.declared.step.Step.TheVariants.{Join}
 use Rattle.dr_machine.specs.Group.{Group, IsGroup}
 use Rattle.dr_program.specs.declared.outcome.LogWhy.{LogWhy}
 use Rattle.dr_program.specs.declared.place.Part.{Part}
@@ -16,7 +15,7 @@ use Rattle.dr_program.specs.Form.{IsRunningMember}
 use Rattle.dr_program.specs.Program.{AreSetups, IsRanFrom, Move, Program, after_deed, begun_program, letter_for, moved_by, next_sight, step_of}
 use Rattle.dr_program.specs.Net.{IsRanOverNet, took_nothing}
 use Rattle.dr_program.specs.Replica.{Replica, value_due}
-use Rattle.dr_program.specs.Running.{Running, after_step, append_or_end, begun_running, broken_off, crashes_now, end_by, judged, next_step, push_or_crash, settled, step_at, took, took_letter, vote_or_end}
+use Rattle.dr_program.specs.Running.{Running, after_step, append_or_end, begun_running, broken_off, crashes_now, end_by, judged, next_step, push_or_crash, settled, step_at, took, took_letter, vote_or_end, AsksForLetter}
 use Rattle.dr_program.specs.Steps.{IsAppend, stepped}
 use Rattle.dr_program.specs.Turn.{part_of}
 use Rattle.dr_program.proofs.Runs.{after_either}
@@ -101,13 +100,13 @@ breaks why r none due = record {
 }
 
 -- a member that takes, and finds a letter or none
-takes_letter : (letter : Option (List Entry)) (r : Running) → r.replica.end ≡ None → next_step r ≡ Join
-    → IsFailing r → IsFailing (settled (took_letter letter r))
-takes_letter letter r none due is = record {
+takes_letter : (letter : Option (List Entry)) (r : Running) → AsksForLetter r → IsFailing r
+    → IsFailing (settled (took_letter letter r))
+takes_letter letter r asks is = record {
   well = λ unfailed. ap has_log_end ended ∙ is.well (sym failed ∙ unfailed);
   broken = λ why broken. absurd (elim (is.broken why (sym failed ∙ broken)) [
-    | inl ends ↦ cc (sym due ∙ ends.1)
-    | inr over ↦ cc (none, over)
+    | inl ends ↦ cc (sym asks.due ∙ ends.1)
+    | inr over ↦ cc (asks.unended, over)
   ]);
 }
   where
@@ -144,7 +143,7 @@ move_fails g p e is all = by (present_at p.members e.member) refl
               (next_step r)
               (takes (next_sight p.table r) r (is.form e.member r there) unended (all e.member r there))
               (λ why due. breaks why r unended due)
-              (λ due. takes_letter (letter_for p e.member) r unended due (all e.member r there)))
+              (λ due. takes_letter (letter_for p e.member) r (record { unended = unended; due = due }) (all e.member r there)))
           | inr other ↦ all m y other.1
         ])
 
@@ -175,10 +174,10 @@ all_fail g turns setups p m r group some are (es, is) =
 
 -- a take that finds no letter
 missed_fails : (p : Program) (m : ℕ) (r : Running) → AreFailing p → present_at p.members m ≡ Some r
-    → r.replica.end ≡ None → next_step r ≡ Join → AreFailing (took_nothing p m r)
-missed_fails p m r all there unended due k y found =
+    → AsksForLetter r → AreFailing (took_nothing p m r)
+missed_fails p m r all there asks k y found =
     elim (replaced_either p.members m r (settled (took_letter None r)) there k y found) [
-      | inl here ↦ subst IsFailing here.1 (takes_letter None r unended due (all m r there))
+      | inl here ↦ subst IsFailing here.1 (takes_letter None r asks (all m r there))
       | inr other ↦ all k y other.1
     ]
 

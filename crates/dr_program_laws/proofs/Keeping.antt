@@ -6,7 +6,6 @@ use Rattle.dr_entry.specs.declared.end.End.{End}
 use Rattle.dr_entry.specs.declared.entry.Entry.{Entry}
 use Rattle.dr_words.specs.Form.{IsInForm}
 use Rattle.dr_program.specs.declared.place.Part.TheVariants as parts
-use Rattle.dr_machine.specs.declared.step.Step.TheVariants.{Join}
 use Rattle.dr_machine.specs.Group.{Group, IsGroup}
 use Rattle.dr_machine.proofs.Runs.{events_reached}
 use Rattle.dr_machine.specs.Run.{ComesOfEvents, IsReached}
@@ -15,7 +14,7 @@ use Rattle.dr_program.specs.declared.setup.Setup.{Setup}
 use Rattle.dr_program.specs.Form.{HasForm, IsRunningMember}
 use Rattle.dr_program.specs.Program.{AreSetups, IsRanFrom, Move, Program, after_deed, begun_program, letter_for, next_sight, ran, step_of}
 use Rattle.dr_program.specs.Reading.{step_due, step_of_member, world}
-use Rattle.dr_program.specs.Running.{Running, after_step, next_step, step_at, took_letter}
+use Rattle.dr_program.specs.Running.{Running, after_step, next_step, step_at, took_letter, AsksForLetter}
 use Rattle.dr_program.specs.Sight.{IsSeenNext, MaySee}
 use Rattle.dr_program.specs.Steps.{allows, sight, stepped}
 use Rattle.dr_program.proofs.Opening.{begins_at_the_opening}
@@ -58,11 +57,11 @@ member_kept g p m r group is run there unended =
 
 -- a take keeps its form as well, whatever letter it finds
 pub took_form : (g : Group) (p : Program) (m : ℕ) (r : Running) (letter : Option (List Entry)) → IsGroup g
-    → IsProgram g p → IsReached g (world g p) → present_at p.members m ≡ Some r → r.replica.end ≡ None
-    → next_step r ≡ Join → letter_for p m ≡ letter → HasForm (took_letter letter r).replica
-took_form g p m r None group is run there unended due found = (is.form m r there).replica
-took_form g p m r (Some letter) group is run there unended due found =
-    let take = taking r (is.form m r there) unended due in
+    → IsProgram g p → IsReached g (world g p) → present_at p.members m ≡ Some r → AsksForLetter r
+    → letter_for p m ≡ letter → HasForm (took_letter letter r).replica
+took_form g p m r None group is run there asks found = (is.form m r there).replica
+took_form g p m r (Some letter) group is run there asks found =
+    let take = taking r (is.form m r there) asks in
     joined_form r.replica letter (is.form m r there).replica take.outside take.idle
     (letters_have_room g p m r letter group is run there take.outside found)
 
@@ -74,8 +73,9 @@ deed_kept g p m o r group is run there unended =
     after_either IsRunningMember p.table (letter_for p m) o r (next_step r)
     (member_kept g p m r group is run there unended)
     (λ why due. failed_form why r (is.form m r there) unended due)
-    (λ due. takes_keep_form (letter_for p m) r (is.form m r there) unended due
-    (took_form g p m r (letter_for p m) group is run there unended due refl))
+    (λ due. let asks : AsksForLetter r = record { unended = unended; due = due } in
+    takes_keep_form (letter_for p m) r (is.form m r there) asks
+    (took_form g p m r (letter_for p m) group is run there asks refl))
 
 -- a move keeps a program of its group, in a world that is reached
 pub move_kept : (g : Group) (p : Program) (e : Move) → IsGroup g → IsProgram g p

@@ -7,6 +7,7 @@ mod Deeds
 pub mod Programs
 pub mod Quiet
 pub mod Worlds
+mod Outside
 pub mod Ending
 pub mod Schedules
 pub mod Trusting

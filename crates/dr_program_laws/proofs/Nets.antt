@@ -3,14 +3,13 @@
 use Rattle.std.proofs.Common.{◌≡◌, ◌⊎◌, ◌∙◌, ap, arith, inl, inr, le_refl, map, refl, subst, sym, ℕ, ◌<◌, ◌≤◌, List, [], ◌∷◌, Contains, slice_index}
 use Rattle.std.specs.Prelude.{◌==◌, if◌then◌else◌, max, None, Option, Some, slice_set, Option}
 use Rattle.std.proofs.lemmas.Bool.{cases_lt}
-use Rattle.std.proofs.lemmas.Option.{same_Some}
 use Rattle.dr_entry.specs.declared.end.End.{End}
 use Rattle.dr_entry.specs.declared.entry.Entry.{Entry}
 use Rattle.std.proofs.lemmas.List.{get_or-map, length-map, length-set}
 use Rattle.dr_rows.specs.Words.{own}
 use Rattle.dr_words.specs.Layout.{word_index_of}
 use Rattle.dr_machine.proofs.Runs.{is_last, stays_next}
-use Rattle.dr_machine.specs.declared.step.Step.TheVariants.{Join, Push}
+use Rattle.dr_machine.specs.declared.step.Step.TheVariants.{Push}
 use Rattle.dr_machine.specs.Group.{Group, IsGroup, banks, columns, roster}
 use Rattle.dr_machine.specs.Run.{ComesNext, HaveArrived, IsReached, MayArrive, WasOwn, Way, with_table}
 use Rattle.dr_machine.specs.World.{World, opening_world}
@@ -20,8 +19,8 @@ use Rattle.dr_program.proofs.Opening.{begins_at_the_opening}
 use Rattle.dr_program.specs.declared.setup.Setup.{Setup}
 use Rattle.dr_program.specs.Net.{NetStep, HadWord, IsOnItsWay, IsRanOverNet, NetWay, took_nothing}
 use Rattle.dr_program.specs.Program.{AreSetups, Move, Program, begun_program, comes_to, letter_for, step_of}
-use Rattle.dr_program.specs.Reading.{kept_word, in_view, letters_of, step_due, step_of_member, word_of, world}
-use Rattle.dr_program.specs.Running.{Running, next_step, settled, took_letter}
+use Rattle.dr_program.specs.Reading.{kept_word, in_view, letters_of, word_of, world}
+use Rattle.dr_program.specs.Running.{Running, settled, took_letter, AsksForLetter}
 use Rattle.dr_refine.proofs.Deeds.{deed_is_step, missed_stays, step_follows}
 use Rattle.dr_refine.proofs.Steps.{begun_is_program, of_settled, replaced_program}
 use Rattle.dr_refine.proofs.Tables.{table_written, word_inside}
@@ -153,21 +152,12 @@ come_follows g before p v j i c word is bank to from cell was = (
     place : ℕ
     place = word_index_of (roster g) g.window v j i c
 
--- a take that is due
-pub due_take : (r : Running) → step_of_member r ≡ Some Join → (r.replica.end ≡ None) × (next_step r ≡ Join)
-due_take r take = by r.replica.end refl take
-  where
-    by : (o : Option End) → r.replica.end ≡ o → step_due r o ≡ Some Join
-        → (r.replica.end ≡ None) × (next_step r ≡ Join)
-    by None e same = (e, same_Some (next_step r) Join same)
-    by (Some x) e same = absurd (cc)
-
 -- a take that finds no letter keeps a program of its group
 pub missed_kept : (g : Group) (p : Program) (m : ℕ) (r : Running) → IsProgram g p → present_at p.members m ≡ Some r
-    → r.replica.end ≡ None → next_step r ≡ Join → IsProgram g (took_nothing p m r)
-missed_kept g p m r is there unended due = replaced_program g p m (settled (took_letter None r)) p.table p.letters
+    → AsksForLetter r → IsProgram g (took_nothing p m r)
+missed_kept g p m r is there asks = replaced_program g p m (settled (took_letter None r)) p.table p.letters
     is (present_within p.members m r there)
-    (takes_keep_form None r (is.form m r there) unended due (is.form m r there).replica)
+    (takes_keep_form None r (is.form m r there) asks (is.form m r there).replica)
     (of_settled g m (took_letter None r) (is.of m r there)) refl refl
 
 -- what comes next of a program is of the group, and is the next world
@@ -185,8 +175,7 @@ goes_on g before p q group is run (inr (inl on)) = (
       (stays_next g (worlds g before) (world g p)),
 )
 goes_on g before p q group is run (inr (inr (inr t))) = (
-  subst (IsProgram g) (sym t.made) (missed_kept g p t.number t.member is t.there (due_take t.member t.take).0
-      (due_take t.member t.take).1),
+  subst (IsProgram g) (sym t.made) (missed_kept g p t.number t.member is t.there t.take),
   subst (ComesNext g (worlds g before) (world g p)) (sym (missed_stays g p q t))
       (stays_next g (worlds g before) (world g p)),
 )
@@ -222,7 +211,7 @@ pub net_keeps : (g : Group) (turns : ℕ) (setups : List (Option Setup)) (P : Pr
     → ((q : Program) (table : List ℕ) (letters : List (Option (List Entry))) → P q
     → P (record { members = q.members; table = table; letters = letters }))
     → ((q : Program) (m : ℕ) (r : Running) → IsProgram g q → P q → present_at q.members m ≡ Some r
-    → r.replica.end ≡ None → next_step r ≡ Join → P (took_nothing q m r))
+    → AsksForLetter r → P (took_nothing q m r))
     → P (begun_program g setups) → (before : List Program) (p : Program)
     → NetWay g (begun_program g setups) before p → P p
 net_keeps g turns setups P group some are keeps same misses begun [] p way = subst P (sym way) begun
@@ -235,5 +224,4 @@ net_keeps g turns setups P group some are keeps same misses begun (x ∷ xs) p w
     by old so (inr (inl on)) = subst P (sym on.made)
         (same (step_of x on.move) x.table x.letters (keeps x on.move old.0 (worlds g xs, old.1) so))
     by old so (inr (inr (inl y))) = subst P (sym y.made) (same x _ _ so)
-    by old so (inr (inr (inr t))) = let due = due_take t.member t.take in
-        subst P (sym t.made) (misses x t.number t.member old.0 so t.there due.0 due.1)
+    by old so (inr (inr (inr t))) = subst P (sym t.made) (misses x t.number t.member old.0 so t.there t.take)

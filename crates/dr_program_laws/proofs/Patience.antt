@@ -5,7 +5,7 @@ use Rattle.std.proofs.lemmas.Bool.Decides.{nat_tests}
 use Rattle.std.proofs.lemmas.List.{get_or-replicate, get_or_past, get_or-set_same, get_or-set_other}
 use Rattle.std.specs.Prelude.{None}
 use Rattle.dr_machine.specs.declared.step.Step.{Step}
-use Rattle.dr_machine.specs.declared.step.Step.TheVariants.{Join, Look}
+use Rattle.dr_machine.specs.declared.step.Step.TheVariants.{Look}
 use Rattle.dr_program.specs.declared.place.Part.{Part}
 use Rattle.dr_program.specs.declared.place.Part.TheVariants as parts
 use Rattle.dr_program.specs.declared.place.Place.{Place}
@@ -24,6 +24,8 @@ use Rattle.dr_turn.proofs.Tasks.{ends_view}
 use Rattle.dr_words.specs.declared.column.TheConstants.{BEAT_COLUMN}
 use Rattle.dr_program_laws.specs.Trusting.{IsOthers, IsPatient, MayWait, to_come}
 use Rattle.dr_turn.proofs.Parts.{goes_back_or_stays, is_publish, numbered}
+use Rattle.dr_program.specs.Steps.{IsNoJoin}
+use Rattle.dr_turn.proofs.Takes.{no_join_at}
 
 -- ---- the rows that are still to be compared in the turn of a place
 
@@ -35,6 +37,9 @@ abbrev pub is_looks : Part → Bool
 is_looks parts.Take = true
 is_looks parts.Look = true
 is_looks part = false
+
+no_take : (part : Part) → is_looks part ≡ false → is_take part ≡ false
+no_take part other = grind (arith, other)
 
 -- none is behind the looks
 pub none_comes : (part : Part) (row i : ℕ) → is_looks part ≡ false → to_come part row i ≡ 0
@@ -160,26 +165,23 @@ settled_passed y =
 
 -- ---- a deed
 
--- the step is a look, or a take
 abbrev pub is_look : Step → Bool
 is_look (Look i c) = true
-is_look Join = true
 is_look s = false
 
--- only the looks and the take of a turn are
+-- only the looks of a turn are
 pub plain_looks : (r : Running) (part : Part) (i c : ℕ) → is_looks part ≡ false
     → is_look (step_at r part i c) ≡ false
-plain_looks r parts.Take i c other = absurd (cc other)
 plain_looks r parts.Look i c other = absurd (cc other)
 plain_looks r parts.Append i c other = append_either (λ s. is_look s ≡ false) r.failed refl (λ why. refl)
 plain_looks r parts.Vote i c other = vote_either (λ s. is_look s ≡ false) r.failed _ refl (λ why. refl)
 plain_looks r parts.Push i c other = push_either (λ s. is_look s ≡ false) (crashes_now r) i c refl refl
 plain_looks r part i c other = refl
 
--- no other step changes how long the member has waited, unless it ends its view
-pub waits_stay : (word : ℕ) (r : Running) (s : Step) → is_look s ≡ false → ends_view s ≡ false
+-- no step but a look and a join changes how long the member has waited, unless it ends its view
+pub waits_stay : (word : ℕ) (r : Running) (s : Step) → is_look s ≡ false → IsNoJoin s → ends_view s ≡ false
     → waits_after word r s ≡ r.waits
-waits_stay word r s other stays = grind (arith, other, stays)
+waits_stay word r s other no_join stays = grind (arith, other, no_join, stays)
 
 -- behind the looks no deed but the one that begins a turn goes back to them
 pub goes_less : (n k : ℕ) (part : Part) (p : Place) (i : ℕ) → part_of p ≡ part → is_beat part ≡ false
@@ -346,6 +348,7 @@ took_less word r i member stays amid = by (part_of r.place) refl
       arith,
       ap (λ (w : Waits). turns_without_news w i) (waits_stay word r (step_at r part r.place.row r.place.column)
           (plain_looks r part r.place.row r.place.column other)
+          (no_join_at r part r.place.row r.place.column (no_take part other))
           (ap (λ x. ends_view (step_at r x r.place.row r.place.column)) (sym at) ∙ stays)),
       goes_less (members r) (columns r) part r.place i at (sym (ap is_beat at) ∙ amid) other,
     )

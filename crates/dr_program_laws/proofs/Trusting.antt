@@ -555,7 +555,7 @@ pub net_trusts : (g : Group) (turns : ℕ) (setups : List (Option Setup)) (p : P
 net_trusts g turns setups p group some are calm (before, way) =
     net_keeps g turns setups AreTrusting group some are
     (λ q e form run trusting. move_trusts g q e group form run trusting) (λ q table letters trusting. trusting)
-    (λ q m r form trusting there unended due. missed_trusts q m r trusting there)
+    (λ q m r form trusting there asks. missed_trusts q m r trusting there)
     (trusting_begins g turns setups group are calm) before p way
 
 -- so none of them ends by suspicion

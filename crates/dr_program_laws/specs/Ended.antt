@@ -113,7 +113,7 @@ HasReason o ends number members limit m points e =
     ⊎ (HasCrashed points e ⊎ (HasEndedByLog points e ⊎ HasBeenLeft o ends number members m points e)))
 
 -- member m has ended as it should, in the view that its history is in, which is of the roster, as a member of it,
--- or in the first view as a late one that hasn't joined
+-- or in the first view as a late one that hasn't joined: with its turns spent, or crashed
 pub record HasEnded (o : Opening) (ends : List MemberEnd) (limit m : ℕ) (points : List CrashPoint)
     (e : MemberEnd) : Type 0 where
   pub number : ℕ
@@ -122,6 +122,7 @@ pub record HasEnded (o : Opening) (ends : List MemberEnd) (limit m : ℕ) (point
   pub roster : IsInRoster (length o.messages) members
   pub own : (has members m ≡ true) ⊎ (IsLateIn o m × (number ≡ 0))
   pub reason : HasReason o ends number members limit m points e
+  pub apart : has members m ≡ false → IsSpent limit points e ⊎ HasCrashed points e
 
 -- all members that are there have, each with the crash points of its number; and who is absent tells nothing
 pub record HaveEnded (o : Opening) (limit : ℕ) (points : ℕ → List CrashPoint) (ends : List MemberEnd)

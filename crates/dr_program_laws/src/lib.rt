@@ -8,7 +8,7 @@
 ghost use Rattle.std.specs.Prelude.{◌≡◌, ℕ, ◌<◌, ◌≤◌, All, Contains, List, [], ◌∷◌, length, map, max, slice_index, slice_set, Some, Option};
 ghost use Rattle.dr_entry.specs.declared.end.End.{End};
 ghost use Rattle.dr_history.specs.Agreement.{EndsAgreed};
-ghost use Rattle.dr_machine.specs.declared.step.Step.TheVariants.{Join, Look, Push};
+ghost use Rattle.dr_machine.specs.declared.step.Step.TheVariants.{Look, Push};
 ghost use Rattle.dr_machine.specs.Group.{Group, IsGroup};
 ghost use Rattle.dr_machine.specs.Run.{ComesOfEvents, IsReached, Way};
 ghost use Rattle.dr_program.specs.declared.packet.Packet.{Packet};
@@ -17,7 +17,7 @@ ghost use Rattle.dr_program.specs.declared.setup.Setup.{Setup};
 ghost use Rattle.dr_program.specs.Net.{IsRanOverNet, NetWay, took_nothing};
 ghost use Rattle.dr_program.specs.Program.{AllEnded, AreSetups, IsRanFrom, Move, Program, begun_program, end_at, next_sight, ok, ran, step_of};
 ghost use Rattle.dr_program.specs.Reading.{step_of_member, world};
-ghost use Rattle.dr_program.specs.Running.{Running};
+ghost use Rattle.dr_program.specs.Running.{Running, AsksForLetter};
 ghost use Rattle.dr_program.specs.Schedule.{IsLockstep, IsSeeded};
 ghost use Rattle.dr_program.specs.Sight.{MaySee};
 ghost use Rattle.dr_program.specs.Replica.{me};
@@ -109,7 +109,7 @@ pub fn carried_words_do_no_harm()
           letters = p.letters;
         }) net }
     ensures misses { (g : Group) (p : Program) (net : List Packet) (m : ℕ) (r : Running)
-        → IsCarried g p net → present_at p.members m ≡ Some r → step_of_member r ≡ Some Join
+        → IsCarried g p net → present_at p.members m ≡ Some r → AsksForLetter r
         → IsCarried g (took_nothing p m r) net }
 {}
 

@@ -24,7 +24,7 @@ use Rattle.dr_program.specs.declared.outcome.LogWhy.{LogWhy}
 use Rattle.dr_program.specs.declared.outcome.Outcome.TheVariants as outcomes
 use Rattle.dr_program.specs.Program.{after_deed, comes_to}
 use Rattle.dr_program.specs.Running.{Running, broken_off, step_at}
-use Rattle.dr_program.specs.Steps.{IsAppend, NoWordFell, allows, stepped}
+use Rattle.dr_program.specs.Steps.{IsAppend, NoWordFell, allows, stepped, IsNoJoin}
 use Rattle.dr_turn.specs.Work.{work}
 use Rattle.dr_program.specs.Turn.{part_of, columns_in, is_beat, rows_in}
 use Rattle.dr_program.specs.declared.place.Part.{Part}
@@ -141,6 +141,11 @@ asks g w m steps.Append calm can = can.behind
 asks g w m (steps.LogVote v) calm can = absurd (can.wedged (calm refl).1)
 asks g w m (steps.Welcome j) calm can = (can.newcomer, can.new, can.welcomer, can.least, can.none)
 asks g w m steps.Join calm can = absurd (cc ((calm refl).0.inside, can.outside))
+
+-- what is asked for is no join
+pub asks_no_join : (g : Group) (w : World) (m : ℕ) (s : Step) → Wants g w m s → IsNoJoin s
+asks_no_join g w m steps.Join wants = absurd wants
+asks_no_join g w m s wants = tt
 
 -- ---- what a step leaves
 

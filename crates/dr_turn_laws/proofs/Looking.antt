@@ -19,10 +19,9 @@ use Rattle.dr_program.specs.Program.{Program, next_sight, ok, step_of}
 use Rattle.dr_program.specs.Reading.{table_of, world}
 use Rattle.dr_program.specs.Running as running
 use Rattle.dr_program.specs.Running.{Running, applies, goes, members, next_step, settled, step_at, took, waits_after}
-use Rattle.dr_program.specs.Steps.{stepped}
+use Rattle.dr_program.specs.Steps.{stepped, IsNoJoin}
 use Rattle.dr_program.specs.Turn.{IsIn, after, columns_in, is_beat, part_of, rows_in}
 use Rattle.dr_refine.proofs.Deeds.{program_member, replicas}
-use Rattle.dr_refine.specs.Programs.{IsNoJoin}
 use Rattle.dr_refine.proofs.Guards.{seen_is}
 use Rattle.dr_rows.specs.Words.{Words, looked, seen}
 use Rattle.dr_program.specs.Replica.{Replica}
@@ -230,10 +229,10 @@ search_same g q m z _ _ i is inside (on a b fails rest) within other =
 
 -- ---- a deed
 
--- only a look changes what a member has seen
-seen_stays : (g : Group) (w : World) (m i : ℕ) (s : Step) → is_look s ≡ false → ends_view s ≡ false
+-- only a look and a join change what a member has seen
+seen_stays : (g : Group) (w : World) (m i : ℕ) (s : Step) → is_look s ≡ false → IsNoJoin s → ends_view s ≡ false
     → (effect_of g w m s).seen m i BEAT_COLUMN ≡ w.seen m i BEAT_COLUMN
-seen_stays g w m i s other stays = grind (arith, other, stays)
+seen_stays g w m i s other no_join stays = grind (arith, other, no_join, stays)
 
 seen_other : (seen : ℕ → ℕ → ℕ → ℕ) (m j c x i d : ℕ) → i ≢ j → at₃ seen m j c x m i d ≡ seen m i d
 seen_other seen m j c x i d other = grind (arith, other)
@@ -266,15 +265,18 @@ plain_behind g p m r old is amid other was = record {
     look : is_look (next_step r) ≡ false
     look = plain_looks r (part_of r.place) r.place.row r.place.column other
 
+    no_join : IsNoJoin (next_step r)
+    no_join = takes_none g p m r is.steady is.there is.unended
+
     stays : ends_view (next_step r) ≡ false
     stays = never_ends g p m r (among g p m r is) is.unended
 
     waits : waits_after (next_sight p.table r) r (next_step r) ≡ r.waits
-    waits = waits_stay (next_sight p.table r) r (next_step r) look stays
+    waits = waits_stay (next_sight p.table r) r (next_step r) look no_join stays
 
     seen_same : (i : ℕ) → (world g (step_of p (ok m))).seen m i BEAT_COLUMN ≡ (world g p).seen m i BEAT_COLUMN
     seen_same i = ap (λ (w : World). w.seen m i BEAT_COLUMN) (moved g p m r is)
-        ∙ seen_stays g (world g p) m i (next_step r) look stays
+        ∙ seen_stays g (world g p) m i (next_step r) look no_join stays
 
     none : (i : ℕ) → comes (took (next_sight p.table r) r (next_step r)).place i ≡ 0
     none i = omega (

@@ -6,7 +6,6 @@ use Rattle.std.proofs.lemmas.Bool.Decides.{nat_tests}
 use Rattle.dr_faithful.specs.Chosen.{views_by}
 use Rattle.dr_history.specs.Members.{has}
 use Rattle.dr_machine.specs.declared.step.Step.{Step}
-use Rattle.dr_machine.specs.declared.step.Step.TheVariants as steps
 use Rattle.dr_machine.specs.Group.{Group, columns, roster}
 use Rattle.dr_machine.specs.World.{World, own_word}
 use Rattle.dr_program.specs.declared.outcome.LogWhy.{LogWhy}
@@ -21,7 +20,7 @@ use Rattle.dr_program.specs.Running.{Running, append_or_end, applies, crashes_no
 use Rattle.dr_program.specs.Steps.{allows, is_free}
 use Rattle.dr_program.specs.Turn.{after, columns_in, part_of, rows_in}
 use Rattle.dr_program.proofs.Holdings.{held_of}
-use Rattle.dr_refine.specs.Programs.{IsMember, IsNoJoin}
+use Rattle.dr_refine.specs.Programs.{IsMember}
 use Rattle.dr_refine.proofs.Deeds.{program_member, replicas}
 use Rattle.dr_refine.proofs.Guards as guards
 use Rattle.dr_refine.proofs.Members.{own_shown}
@@ -37,7 +36,7 @@ use Rattle.dr_turn_laws.specs.Steady.{IsSteady}
 use Rattle.dr_turn_laws.specs.Swept.{IsBefore, IsIdle, Swept}
 use Rattle.dr_program_laws.specs.Trusting.{AreAtEase}
 use Rattle.dr_turn_laws.specs.Wants.{Wants}
-use Rattle.dr_turn_laws.proofs.Acts.{asked, uncrashed}
+use Rattle.dr_turn_laws.proofs.Acts.{asked, uncrashed, asks_no_join}
 use Rattle.dr_turn_laws.proofs.Before.{before_after}
 use Rattle.dr_turn_laws.proofs.Steadying.{is_in}
 use Rattle.dr_program_laws.proofs.Trusting.{IsAmong, nobody_suspects, stay_first, votes_nothing}
@@ -78,11 +77,6 @@ in_view g p m r i is within =
 
 -- ---- tests
 
--- what is asked for is no join
-asks_none : (g : Group) (w : World) (m : ℕ) (s : Step) → Wants g w m s → IsNoJoin s
-asks_none g w m steps.Join wants = absurd wants
-asks_none g w m s wants = tt
-
 -- what is asked for passes its test
 allowed : (g : Group) (p : Program) (m : ℕ) (r : Running) (s : Step) → IsGoing g p m r
     → Wants g (world g p) m s → allows r.replica s ≡ true
@@ -93,7 +87,7 @@ allowed g p m r s is wants =
     (nobody_suspects g p m is.ease) wants in
     (and_parts (is_free r.replica s) (allows r.replica s)
     ((step_guard g (replicas p.members) (table_of p) m r.replica s (member g p m r is) is.unended
-    (asks_none g (world g p) m s wants)).1 (
+    (asks_no_join g (world g p) m s wants)).1 (
       can,
       has_room g (replicas p.members) (table_of p) m r.replica s (member g p m r is)
           (is.steady.rooms m r is.there) is.steady.reached can,

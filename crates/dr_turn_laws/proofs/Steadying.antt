@@ -11,7 +11,7 @@ use Rattle.dr_history.specs.Members.{has}
 use Rattle.dr_history.specs.Order.{IsLateIn}
 use Rattle.dr_history.specs.Soundness.{IsNobodyLate}
 use Rattle.dr_machine.proofs.Presence.{late_in}
-use Rattle.dr_machine.specs.declared.step.Step.TheVariants.{Do, Join}
+use Rattle.dr_machine.specs.declared.step.Step.TheVariants.{Do}
 use Rattle.dr_machine.specs.Acts.{CanTake, does, effect_of}
 use Rattle.dr_machine.specs.Effects.{one_more, pushes}
 use Rattle.dr_machine.specs.Group.{AllPresent, Group, IsGroup, banks, columns, late_members, roster}
@@ -28,16 +28,16 @@ use Rattle.dr_program.specs.Running.{Running, after_step, begun_running, broken_
 use Rattle.dr_program.specs.Turn.{is_beat, part_of}
 use Rattle.dr_program.specs.declared.place.Part.{Part}
 use Rattle.dr_program.specs.declared.place.Part.TheVariants as parts
-use Rattle.dr_program.specs.Steps.{IsAppend, allows, stepped, stored, stored_letters}
+use Rattle.dr_program.specs.Steps.{IsAppend, stepped, stored, stored_letters, IsNoJoin}
 use Rattle.dr_program.proofs.Fixed.{Told, step_told}
 use Rattle.dr_program.proofs.Holdings.{held_of}
 use Rattle.dr_program.proofs.Opening.{begins_at_the_opening, first_rows}
-use Rattle.dr_program.proofs.Runs.{after_either, after_ok}
+use Rattle.dr_program.proofs.Runs.{after_either, after_ok, inside_no_join}
 use Rattle.dr_program.proofs.StepsAt.{append_either, push_either, vote_either}
 use Rattle.dr_program_laws.proofs.Keeping.{begun_reached, move_kept}
 use Rattle.dr_refine.proofs.Deeds.{deed_step, due_allowed, no_step_no_change, program_member, replicas, rest_changes_nothing, settle_replica, step_is}
 use Rattle.dr_machine.specs.Run.{IsReached}
-use Rattle.dr_refine.specs.Programs.{IsNoJoin, IsProgram}
+use Rattle.dr_refine.specs.Programs.{IsProgram}
 use Rattle.dr_refine.proofs.Members.{own_shown}
 use Rattle.dr_refine.proofs.Steps.{begun_is_program}
 use Rattle.dr_rows.specs.Words.{IsWords, begun, last_pushed, own, with_word, word_at}
@@ -76,14 +76,10 @@ is_in g p m r is there = by (is_inside r.replica) refl
     by true inside = inside
     by false outside = absurd (none (late_in g m is.group (late outside)))
 
--- and whoever is doesn't join
-no_join : (r : Replica) (s : Step) → is_inside r ≡ true → allows r s ≡ true → IsNoJoin s
-no_join r Join inside may = absurd (cc (ap not inside, may))
-no_join r s inside may = tt
-
+-- so it doesn't join
 pub takes_none : (g : Group) (p : Program) (m : ℕ) (r : Running) → IsSteady g p
     → present_at p.members m ≡ Some r → r.replica.end ≡ None → IsNoJoin (next_step r)
-takes_none g p m r is there unended = no_join r.replica (next_step r) (is_in g p m r is there)
+takes_none g p m r is there unended = inside_no_join r.replica (next_step r) (is_in g p m r is there)
     (due_allowed r ((is.program.form m r there).due unended))
 
 -- ---- a move

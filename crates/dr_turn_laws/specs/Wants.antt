@@ -94,9 +94,8 @@ Wants g w m (steps.Do (acts.Crash end)) = IsFault end
 Wants g w m (steps.Look i c) = IsOther w m i × (c < columns g)
 Wants g w m (steps.Push j c) = IsOther w m j × (c < columns g)
 Wants g w m steps.Append = IsToLog w m
-Wants g w m (steps.LogVote v) = ⊥
 Wants g w m (steps.Welcome j) = IsToWelcome w m j
-Wants g w m steps.Join = ⊥
+Wants g w m s = ⊥
 
 -- the steps that a turn has to do between its looks and its pushes, where they are asked for
 abbrev pub is_work : Step → Bool
@@ -109,9 +108,5 @@ is_work (steps.Do acts.Finish) = false
 is_work (steps.Do (acts.Halt end)) = false
 is_work (steps.Do (acts.Crash end)) = false
 is_work (steps.Do a) = true
-is_work (steps.Look i c) = false
-is_work (steps.Push j c) = false
 is_work steps.Append = true
-is_work (steps.LogVote v) = false
-is_work (steps.Welcome j) = false
-is_work steps.Join = false
+is_work s = false
