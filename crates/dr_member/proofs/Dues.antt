@@ -25,7 +25,7 @@ use Rattle.dr_machine.specs.Effects.{one_more}
 use Rattle.dr_program.specs.Replica.{Replica, appended, gave, is_inside, is_other, is_wedged, looked, may_give, may_vote, pushed, value_due, vote_of, voted}
 use Rattle.dr_program.specs.Steps.{IsAppend, allows, allows_inside, has_cell, is_outside_step, stepped}
 use Rattle.dr_program.specs.Turn.{part_of}
-use Rattle.dr_program.specs.Running.{Running, append_or_end, asks, columns, crashes_now, deed, deed_of, members, next_deed, next_step, push_or_crash, pushes_after, step_at, vote_or_end, waits_after}
+use Rattle.dr_program.specs.Running.{AsksForLetter, Running, append_or_end, asks, columns, crashes_now, deed, deed_of, members, next_deed, next_step, push_or_crash, pushes_after, step_at, vote_or_end, waits_after}
 use Rattle.dr_program.specs.Reading.{step_due, step_of_member}
 use Rattle.dr_program.specs.Sight.{IsSeenNext, MaySee}
 use Rattle.dr_program.specs.Form.{IsRunningMember}
@@ -389,12 +389,11 @@ pub give_due : (r : Running) → IsRunningMember r → is_give (next_deed r) ≡
 give_due r m e =
     let due = deed_due is_give (λ end. refl) r e in
     let at = give_part r (part_of r.place) r.place.row r.place.column due.1 in
-    let step : next_step r ≡ steps.Welcome r.place.row =
-    ap (λ x. step_at r x r.place.row r.place.column) at in
+    let step = ap (λ x. step_at r x r.place.row r.place.column) at in
     record {
       none = due.0;
       at = at;
-      may = allowed_inside r m due.0 (steps.Welcome r.place.row) step;
+      may = allowed_inside r m due.0 _ step;
       step = λ word. ap (stepped word r.replica) step;
       pushes = ap (pushes_after r.pushes) (sym step);
       waits = λ word. ap (waits_after word r) (sym step);
@@ -402,9 +401,8 @@ give_due r m e =
 
 -- the next deed is to take its letter
 pub record IsTakeDue (r : Running) : Type 0 where
-  pub none : r.replica.end ≡ None
+  pub asking : AsksForLetter r
   pub at : part_of r.place ≡ parts.Take
-  pub step : next_step r ≡ steps.Join
   pub outside : is_inside r.replica ≡ false
   pub free : r.replica.pending ≡ None
 
@@ -423,9 +421,9 @@ pub take_due : (r : Running) → IsRunningMember r → is_take (next_deed r) ≡
 take_due r m e =
     let due = deed_due is_take (λ end. refl) r e in
     let at = take_part r (part_of r.place) r.place.row r.place.column due.1 in
-    let step : next_step r ≡ steps.Join = ap (λ x. step_at r x r.place.row r.place.column) at in
-    let is = taking r m due.0 step in
-    record { none = due.0; at = at; step = step; outside = is.outside; free = is.idle }
+    let asking : AsksForLetter r =
+    record { unended = due.0; due = ap (λ x. step_at r x r.place.row r.place.column) at } in
+    let is = taking r m asking in record { asking = asking; at = at; outside = is.outside; free = is.idle }
 
 -- without an end the next deed is that of the next step
 pub next_without_end : (r : Running) → r.replica.end ≡ None → next_deed r ≡ deed_of r (next_step r)

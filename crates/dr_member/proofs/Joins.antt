@@ -111,11 +111,11 @@ module _ (letter : Option (List Entry)) (a : Inside) (q : Replica) (fate : Fate)
 
   pub took_running : IsRunningMember (settled (standing q fate from))
   took_running = subst (λ (x : Running). IsRunningMember (settled x)) (sym took_there)
-      (takes_keep_form letter (member_inside a) t.inside.form t.due.none t.due.step took_form)
+      (takes_keep_form letter (member_inside a) t.inside.form t.due.asking took_form)
 
   pub took_done : IsAfterDeed (member_inside a) (settled (standing q fate from))
   took_done = subst (λ (x : Running). IsAfterDeed (member_inside a) (settled x)) (sym took_there)
-      (takes_done letter (member_inside a) t.inside.form t.due.none t.due.step took_form t.leads)
+      (takes_done letter (member_inside a) t.inside.form t.due.asking took_form t.leads)
 
   pub took_limit : fate.limit ≡ a.fate.limit
   took_limit = ap (λ (x : Running). x.limit) t.after ∙ by letter

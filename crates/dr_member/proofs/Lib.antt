@@ -8,6 +8,7 @@ mod Indices
 mod Ready
 mod Moves
 mod Joins
+mod Letters
 mod Sweeps
 pub mod Alone
 mod Fates

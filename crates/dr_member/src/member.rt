@@ -3,7 +3,7 @@ mod asking;
 mod sweep;
 
 ghost use Rattle.std.specs.Prelude.{◌≡◌, ◌≢◌, ◌+◌, ◌*◌, ◌-◌, ◌^◌, ◌<◌, ◌≤◌, ℕ, true, IfOk, IfSome, Some, [], is_some, length, option_map, vec_capacity};
-ghost use Rattle.dr_machine.specs.declared.event.Act.TheVariants.{Crash};
+ghost use Rattle.dr_machine.specs.declared.event.Act.TheVariants.{Beat, Crash};
 ghost use Rattle.dr_machine.specs.declared.step.Step.TheVariants.{Do};
 ghost use Rattle.dr_program.specs.declared.place.Part.TheVariants as parts;
 ghost use Rattle.dr_program.specs.Form.{CanBegin, IsRunningMember};
@@ -32,7 +32,7 @@ use dr_machine::Act;
 use dr_program::{Deed, LogWhy, Part, Place, Setup};
 use dr_replica::Replica;
 use dr_suspect::Patience;
-use dr_words::BEAT_COLUMN;
+use dr_words::{BEAT_COLUMN, Mask};
 use std::alloc::{AllocError, Global};
 use std::marker::Model;
 pub use sweep::{Access, Standing};
@@ -207,12 +207,26 @@ impl Member {
             DELIVERS => self.act(Act::Deliver),
             PUBLISHES => self.act(Act::Publish),
             REPORTS => self.act(Act::Report),
+            BEAT => self.beat(),
             _ => self.act_at_place(),
         }
     }
 
-    /// Does the act of a part that comes up rarely, or after which it may be outside its view. Out of line, it
-    /// leaves the others small.
+    /// Begins a turn. Out of line, it leaves the acts that come up most small.
+    #[inline(never)]
+    fn beat(&mut self)
+        requires deed { is_act (next_deed self.old) ≡ true }
+        requires step { next_step self.old ≡ Do Beat }
+        ensures after { (word : ℕ) → self.new ≡ after_step word self.old }
+        ensures form { IsRunningMember self.new }
+        ensures grown { HasGrownTo self.old self.new }
+        ensures falls { deeds_left self.new < deeds_left self.old }
+        ensures keeps { IsStill self.old self.new }
+    {
+        self.act(Act::Beat);
+    }
+
+    /// Does the act of a part that comes up rarely. Out of line, it leaves the others small.
     #[inline(never)]
     fn act_at_place(&mut self)
         requires { is_act (next_deed self.old) ≡ true }
@@ -369,6 +383,13 @@ impl Member {
         ensures { result ≡ me self.now.replica }
     {
         self.replica.me()
+    }
+
+    /// The late members of its age.
+    pub fn late(&self) -> Mask
+        ensures { result ≡ self.now.replica.late }
+    {
+        self.replica.late()
     }
 
     /// The turns that it has begun.

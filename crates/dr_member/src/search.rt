@@ -24,8 +24,8 @@ use dr_program::{LogWhy, PARTS, Part, Place, TURN, TURN_ENDS};
 use dr_replica::Replica;
 use dr_words::Shape;
 
-/// The numbers of the parts of a turn that have the looks and the pushes, of those whose acts come up most, and
-/// of the part before a turn.
+/// The numbers of the parts of a turn that have the looks and the pushes, of those whose acts come up most, of
+/// the part behind the letters, and of the part before a turn.
 pub(crate) const LOOKS: u8 = 1;
 
 pub(crate) const RECEIVES: u8 = 3;
@@ -40,11 +40,13 @@ pub(crate) const REPORTS: u8 = 9;
 
 pub(crate) const PUSHES: u8 = 16;
 
+pub(crate) const SPENT: u8 = 21;
+
 pub(crate) const BEAT: u8 = PARTS as u8 - 1;
 
 /// Goes on to the first place of the turn, from this one on, at which there is something to do. Stays,
-/// where the member has ended. Where nothing of a vote is due, it goes past the parts of votes at once. Whoever
-/// calls it says whether the member is in its view.
+/// where the member has ended. Where nothing of a vote is due, it goes past the parts of votes at once, and where
+/// nobody has come into the view, past the letters. Whoever calls it says whether the member is in its view.
 #[inline(always)]
 pub(crate) fn settle(
     replica: &Replica,
@@ -85,7 +87,12 @@ fn settle_inside(replica: &Replica, fate: &Fate, place: &mut Place, ready: &mut 
 {
     loop {
         match *part_of(*place) {
+            Part::Take => place.part = LOOKS,
             Part::Vote if is_calm(replica, fate) => place.part = PUSHES,
+            Part::Give if replica.has_no_newcomers() => {
+                place.row = 0;
+                place.part = SPENT;
+            }
             _ => {
                 if let Some(column) = first_inside(replica, fate, *place, *ready) {
                     place.column = column;

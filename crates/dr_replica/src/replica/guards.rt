@@ -1,6 +1,6 @@
 //! What a replica may do.
 ghost use Rattle.std.specs.Int.{bit_at};
-ghost use Rattle.std.specs.Prelude.{◌≡◌, ℕ, ◌+◌, ◌<◌, ◌≤◌, ◌↔◌, ◌&&◌, ◌||◌, length, nat_lt, not};
+ghost use Rattle.std.specs.Prelude.{◌≡◌, ℕ, ◌+◌, ◌<◌, ◌≤◌, ◌↔◌, ◌&&◌, ◌||◌, ◌==◌, length, nat_lt, not};
 ghost use Rattle.dr_history.specs.Members.{has};
 ghost use Rattle.dr_program.specs.Replica.{all_done, count, greatest, has_majority, holds_all, is_due, is_inside, is_other, is_wedged, is_welcomer, least_seen, me, may_append, may_deliver, may_give, may_mark, may_null, may_publish, may_receive, may_report, may_send, may_suspect, next_index};
 ghost use Rattle.dr_program.specs.Steps.{allows, allows_inside, has_cell, is_outside_step};
@@ -8,6 +8,7 @@ ghost use Rattle.dr_suspect.specs.Wishes.{may_wish};
 ghost use Rattle.dr_entry.specs.declared.limits.TheConstants.{MAX_MEMBERS};
 ghost use Rattle.dr_ring.specs.Slots.{IsReady, is_free, slot_of};
 ghost use Rattle.dr_words.specs.declared.column.TheConstants.{RECEIVED_COLUMN};
+ghost use Rattle.dr_words.specs.Masks.{without};
 ghost use Rattle.dr_rows.specs.Words.{changed};
 
 use super::Replica;
@@ -61,8 +62,17 @@ impl Replica {
         self.members.has(self.rows.me())
     }
 
+    /// Whether all of its view were in the view before.
+    #[inline(always)]
+    pub fn has_no_newcomers(&self) -> bool
+        ensures { result ≡ (without self.now.members self.now.came_from == 0) }
+    {
+        newcomers(self.came_from, self.members).bits() == 0
+    }
+
     /// Whether it came into its view with this member, is the least of those that were in the one before, and
-    /// hasn't given it the letter yet.
+    /// hasn't given it the letter yet. Out of line, as few members come late.
+    #[inline(never)]
     pub fn may_give(&self, newcomer: u8) -> bool
         ensures { result ≡ may_give self.now newcomer }
     {

@@ -20,6 +20,14 @@ impl Replica {
         self.rows.me()
     }
 
+    /// The late members of the age.
+    #[inline]
+    pub fn late(&self) -> Mask
+        ensures { result ≡ self.now.late }
+    {
+        self.late
+    }
+
     /// The shape of the group's table.
     #[inline]
     pub fn shape(&self) -> Shape

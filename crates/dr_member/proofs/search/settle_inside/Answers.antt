@@ -1,7 +1,7 @@
 use Rattle.std.proofs.Common.{sym, ◌∙◌, subst}
 use Rattle.dr_program.specs.declared.place.Place.{Place}
-use Rattle.dr_member.specs.declared.search.TheConstants.{PUSHES}
 use Rattle.dr_member.specs.Search.{standing}
+use Rattle.dr_member.proofs.Letters.{letters_passed, take_passed}
 use Rattle.dr_member.proofs.Passing.{GoesBy, first_found, row_passed}
 use Rattle.dr_member.proofs.Votes.{votes_passed}
 use Rattle.dr_member.proofs.search.settle_inside.Goals as goal
@@ -40,20 +40,56 @@ loop-place-preserved c = record {
   ready = c.enter_row.ensures.ready;
 }
 
-past : (c : goal.After-place-1)
-    → GoesBy (standing c.args.replica.now c.args.fate.now c.loop-place.place)
-    (standing c.args.replica.now c.args.fate.now (record c.loop-place.place { part = PUSHES }))
-past c = votes_passed c.args.replica.now c.args.fate.now c.loop-place.place
-    c.loop-place.invariant.underway c.loop-place.invariant.none (sym c.part_of.ensures ∙ c.in-Vote.is)
-    (sym c.is_calm.ensures ∙ c.if-is_calm.true)
+pub loop-place-smaller-in-Take-1 : goal.loop-place-smaller-in-Take-1
+loop-place-smaller-in-Take-1 c =
+    (take_passed c.args.replica.now c.args.fate.now c.loop-place.place
+    c.loop-place.invariant.underway c.loop-place.invariant.none (sym c.part_of.ensures ∙ c.in-Take.is)
+    c.requires.inside).later
+
+pub loop-place-preserved-in-Take-1 : goal.loop-place-preserved-in-Take-1
+loop-place-preserved-in-Take-1 c =
+    let past = take_passed c.args.replica.now c.args.fate.now c.loop-place.place
+    c.loop-place.invariant.underway c.loop-place.invariant.none (sym c.part_of.ensures ∙ c.in-Take.is)
+    c.requires.inside in
+    record {
+      same = past.same ∙ c.loop-place.invariant.same;
+      underway = past.underway;
+      none = c.loop-place.invariant.none;
+      ready = λ at. absurd (cc at);
+    }
 
 pub loop-place-smaller-then-is_calm : goal.loop-place-smaller-then-is_calm
-loop-place-smaller-then-is_calm c = (past c).later
+loop-place-smaller-then-is_calm c =
+    (votes_passed c.args.replica.now c.args.fate.now c.loop-place.place
+    c.loop-place.invariant.underway c.loop-place.invariant.none (sym c.part_of.ensures ∙ c.in-Vote.is)
+    (sym c.is_calm.ensures ∙ c.if-is_calm.true)).later
 
 pub loop-place-preserved-then-is_calm : goal.loop-place-preserved-then-is_calm
-loop-place-preserved-then-is_calm c = record {
-  same = (past c).same ∙ c.loop-place.invariant.same;
-  underway = (past c).underway;
-  none = c.loop-place.invariant.none;
-  ready = λ at. absurd (cc at);
-}
+loop-place-preserved-then-is_calm c =
+    let past = votes_passed c.args.replica.now c.args.fate.now c.loop-place.place
+    c.loop-place.invariant.underway c.loop-place.invariant.none (sym c.part_of.ensures ∙ c.in-Vote.is)
+    (sym c.is_calm.ensures ∙ c.if-is_calm.true) in
+    record {
+      same = past.same ∙ c.loop-place.invariant.same;
+      underway = past.underway;
+      none = c.loop-place.invariant.none;
+      ready = λ at. absurd (cc at);
+    }
+
+pub loop-place-smaller-then-has_no_newcomers : goal.loop-place-smaller-then-has_no_newcomers
+loop-place-smaller-then-has_no_newcomers c =
+    (letters_passed c.args.replica.now c.args.fate.now c.loop-place.place
+    c.loop-place.invariant.underway c.loop-place.invariant.none (sym c.part_of.ensures ∙ c.in-Give.is)
+    c.requires.inside (sym c.has_no_newcomers.ensures ∙ c.if-has_no_newcomers.true)).later
+
+pub loop-place-preserved-then-has_no_newcomers : goal.loop-place-preserved-then-has_no_newcomers
+loop-place-preserved-then-has_no_newcomers c =
+    let past = letters_passed c.args.replica.now c.args.fate.now c.loop-place.place
+    c.loop-place.invariant.underway c.loop-place.invariant.none (sym c.part_of.ensures ∙ c.in-Give.is)
+    c.requires.inside (sym c.has_no_newcomers.ensures ∙ c.if-has_no_newcomers.true) in
+    record {
+      same = past.same ∙ c.loop-place.invariant.same;
+      underway = past.underway;
+      none = c.loop-place.invariant.none;
+      ready = λ at. absurd (cc at);
+    }
