@@ -17,7 +17,7 @@ use Rattle.dr_program.specs.Reading.{step_due, step_of_member}
 use Rattle.dr_program.specs.Running.{Running, after_step, deed, deed_of, next_deed, next_step}
 use Rattle.dr_program.specs.Sight.{MaySee}
 use Rattle.dr_machine.specs.declared.step.Step.{Step}
-use Rattle.dr_machine.specs.declared.step.Step.TheVariants.{Do, Look, Push, Append, Join, LogVote, Welcome}
+use Rattle.dr_machine.specs.declared.step.Step.TheVariants.{Push}
 use Rattle.dr_program.specs.Replica.{me}
 use Rattle.dr_rows.specs.Words.{own}
 use Rattle.dr_program.specs.Steps.{index_in, stored, stored_letters}
@@ -27,7 +27,7 @@ use Rattle.dr_program_laws.proofs.Keeping.{move_kept, sees}
 use Rattle.dr_program_laws.specs.Carried.{IsCarried}
 use Rattle.dr_refine.proofs.Deeds.{step_is}
 use Rattle.dr_words.specs.Layout.{words_of}
-use Rattle.dr_examples.specs.Led.{Letters, over}
+use Rattle.dr_examples.specs.Led.{LettersByNumber, over}
 
 -- the member that was read stands there
 pub there_is : (members : List (Option Running)) (m : ℕ) (d : Option Running) (r : Running) → m < length members
@@ -37,7 +37,7 @@ there_is members m d r within read = get_or_default members m None d within ∙ 
 -- a word that the member names is one of the table's
 pub inside : (members : List (Option Running)) (words : List ℕ) (m index : ℕ) (r : Running)
     → present_at members m ≡ Some r
-    → ((g : Group) × (letters : Letters) × IsSound g (over members words letters)) → index < table_size r
+    → ((g : Group) × (letters : LettersByNumber) × IsSound g (over members words letters)) → index < table_size r
     → index < length words
 inside members words m index r there some below =
     let of = some.2.form.of m r there in
@@ -60,8 +60,8 @@ pub carried_sound : (g : Group) (p : Program) (net : List Packet) → IsCarried 
 carried_sound g p net y = record { group = y.group; form = y.form; reached = (y.before, y.way) }
 
 pub sound_of : (members : List (Option Running)) (words : List ℕ) (net : List Packet)
-    → ((g : Group) × (letters : Letters) × IsCarried g (over members words letters) net)
-    → (g : Group) × (letters : Letters) × IsSound g (over members words letters)
+    → ((g : Group) × (letters : LettersByNumber) × IsCarried g (over members words letters) net)
+    → (g : Group) × (letters : LettersByNumber) × IsSound g (over members words letters)
 sound_of members words net some =
     (some.0, some.1, carried_sound some.0 (over members words some.1) net some.2)
 
@@ -139,13 +139,8 @@ appends P p m r x due is there next member =
 push_is : (r : Running) (s : Step) (index word : ℕ) → deed_of r s ≡ deeds.Push index word
     → (j : ℕ) × (c : ℕ) × (s ≡ Push j c) × (index_in r.replica j (me r.replica) c ≡ index)
     × (own r.replica.rows c ≡ word)
-push_is r (Do a) index word e = absurd (cc)
-push_is r (Look i c) index word e = absurd (cc)
 push_is r (Push j c) index word e = (j, c, refl, cc e, cc e)
-push_is r Append index word e = absurd (cc)
-push_is r (LogVote v) index word e = absurd (cc)
-push_is r (Welcome j) index word e = absurd (cc)
-push_is r Join index word e = absurd (cc)
+push_is r s index word e = absurd (cc)
 
 -- a packet that goes behind the others is on its way with them
 behind : (net : List Packet) (packet : Packet) → All (Contains (packet ∷ net)) (net ++ packet ∷ [])
@@ -187,16 +182,16 @@ sends g p net m r x index word y there due member =
     (behind net packet)
 
 -- a sound program begins with nothing on its way
-pub begins : (g : Group) (members : List (Option Running)) (words : List ℕ) (letters : Letters)
+pub begins : (g : Group) (members : List (Option Running)) (words : List ℕ) (letters : LettersByNumber)
     → IsSound g (over members words letters) → IsCarried g (over members words letters) []
 begins g members words letters is =
     carried_begins g (over members words letters) is.group is.form is.reached
 
 -- a packet among these goes to a place of the table, where words of them have come before
 pub packet_place : (first words : List ℕ) (packets : List Packet) (n : ℕ) (d : Packet) → n < length packets
-    → ((g : Group) × (members : List (Option Running)) × (letters : Letters) × (net : List Packet)
+    → ((g : Group) × (members : List (Option Running)) × (letters : LettersByNumber) × (net : List Packet)
     × All (Contains net) packets × IsCarried g (over members first letters) net)
-    → ((g : Group) (members : List (Option Running)) (letters : Letters) (net : List Packet)
+    → ((g : Group) (members : List (Option Running)) (letters : LettersByNumber) (net : List Packet)
     → All (Contains net) packets → IsCarried g (over members first letters) net
     → IsCarried g (over members words letters) net)
     → (slice_index_or packets n d).index < length words

@@ -5,9 +5,9 @@ use Rattle.dr_program.specs.Program.{Program}
 use Rattle.dr_program.specs.Running.{Running}
 
 -- the letters for late members, by number
-abbrev pub Letters : Type 0
-Letters = List (Option (List Entry))
+abbrev pub LettersByNumber : Type 0
+LettersByNumber = List (Option (List Entry))
 
 -- these members, over these words and letters
-abbrev pub over : List (Option Running) → List ℕ → Letters → Program
+abbrev pub over : List (Option Running) → List ℕ → LettersByNumber → Program
 over members words letters = record { members = members; table = words; letters = letters }

@@ -2,7 +2,7 @@
 ghost use Rattle.std.specs.Prelude.{◌<◌, length};
 ghost use Rattle.dr_age.specs.Sound.{IsSound};
 ghost use Rattle.dr_machine.specs.Group.{Group};
-ghost use Rattle.dr_examples.specs.Led.{Letters, over};
+ghost use Rattle.dr_examples.specs.Led.{LettersByNumber, over};
 
 use crate::members::{is_at_rest, opened, take_deed};
 use dr_member::Member;
@@ -43,7 +43,7 @@ fn show_turns(
     words: &mut [u64],
     index: usize,
 ) -> anyhow::Result<()>
-    requires sound { (g : Group) × (letters : Letters) × IsSound g (over members.old words.old letters) }
+    requires sound { (g : Group) × (letters : LettersByNumber) × IsSound g (over members.old words.old letters) }
 {
     let mut shown = 0;
     for turn in 1..=TURNS {
@@ -59,8 +59,8 @@ fn show_turns(
 
 /// Each member that is there and has not ended takes a whole turn, by number.
 fn lead_round(members: &mut [Option<Member>], words: &mut [u64])
-    requires sound { (g : Group) × (letters : Letters) × IsSound g (over members.old words.old letters) }
-    ensures sound { (g : Group) (letters : Letters) → IsSound g (over members.old words.old letters)
+    requires sound { (g : Group) × (letters : LettersByNumber) × IsSound g (over members.old words.old letters) }
+    ensures sound { (g : Group) (letters : LettersByNumber) → IsSound g (over members.old words.old letters)
         → IsSound g (over members.new words.new letters) }
 {
     for m in 0..members.len() {

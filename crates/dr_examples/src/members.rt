@@ -4,7 +4,7 @@ ghost use Rattle.dr_age.specs.Sound.{IsSound};
 ghost use Rattle.dr_machine.specs.Group.{Group, IsGroup};
 ghost use Rattle.dr_restart.specs.Groups.{group_of};
 ghost use Rattle.dr_script.specs.Ranges.{HasRanges};
-ghost use Rattle.dr_examples.specs.Led.{Letters, over};
+ghost use Rattle.dr_examples.specs.Led.{LettersByNumber, over};
 
 use dr_age::begun_members;
 use dr_member::{Deed, Member};
@@ -60,8 +60,8 @@ pub(crate) fn opened(
 
 /// Leads the members of a group: each takes so many deeds, one at a time.
 fn lead(members: &mut [Option<Member>], words: &mut [u64])
-    requires sound { (g : Group) × (letters : Letters) × IsSound g (over members.old words.old letters) }
-    ensures sound { (g : Group) (letters : Letters) → IsSound g (over members.old words.old letters)
+    requires sound { (g : Group) × (letters : LettersByNumber) × IsSound g (over members.old words.old letters) }
+    ensures sound { (g : Group) (letters : LettersByNumber) → IsSound g (over members.old words.old letters)
         → IsSound g (over members.new words.new letters) }
 {
     for _ in 0..DEEDS {
@@ -74,8 +74,8 @@ fn lead(members: &mut [Option<Member>], words: &mut [u64])
 /// The member `m`, where it is there, takes its next deed. Its words go by way of this list; what it appends is not kept.
 pub(crate) fn take_deed(members: &mut [Option<Member>], words: &mut [u64], m: usize)
     requires within { m < length members.old }
-    requires sound { (g : Group) × (letters : Letters) × IsSound g (over members.old words.old letters) }
-    ensures sound { (g : Group) (letters : Letters) → IsSound g (over members.old words.old letters)
+    requires sound { (g : Group) × (letters : LettersByNumber) × IsSound g (over members.old words.old letters) }
+    ensures sound { (g : Group) (letters : LettersByNumber) → IsSound g (over members.old words.old letters)
         → IsSound g (over members.new words.new letters) }
 {
     let Some(member) = &mut members[m] else {

@@ -5,7 +5,7 @@ ghost use Rattle.dr_machine.specs.Group.{Group};
 ghost use Rattle.dr_program.specs.declared.packet.Packet.{Packet as PacketOf};
 ghost use Rattle.dr_program.specs.Running.{Running};
 ghost use Rattle.dr_program_laws.specs.Carried.{IsCarried};
-ghost use Rattle.dr_examples.specs.Led.{Letters, over};
+ghost use Rattle.dr_examples.specs.Led.{LettersByNumber, over};
 
 use crate::members::{is_at_rest, opened};
 use dr_member::{Deed, Member};
@@ -62,8 +62,8 @@ fn lead(
     members: &mut [Option<Member>],
     words: &mut [u64],
 ) -> Result<usize, AllocError>
-    requires sound { (g : Group) × (letters : Letters) × IsSound g (over members.old words.old letters) }
-    ensures sound { (g : Group) (letters : Letters) → IsSound g (over members.old words.old letters)
+    requires sound { (g : Group) × (letters : LettersByNumber) × IsSound g (over members.old words.old letters) }
+    ensures sound { (g : Group) (letters : LettersByNumber) → IsSound g (over members.old words.old letters)
         → IsSound g (over members.new words.new letters) }
 {
     let mut net: Vec<Packet> = Vec::new(alloc);
@@ -102,9 +102,9 @@ fn take_turn(
     m: usize,
 ) -> Result<(), AllocError>
     requires within { m < length members.old }
-    requires carried { (g : Group) × (letters : Letters)
+    requires carried { (g : Group) × (letters : LettersByNumber)
         × IsCarried g (over members.old words.old letters) net.old.items }
-    ensures carried { (g : Group) (letters : Letters)
+    ensures carried { (g : Group) (letters : LettersByNumber)
         → IsCarried g (over members.old words.old letters) net.old.items
         → IsCarried g (over members.new words.new letters) net.new.items }
 {
@@ -125,9 +125,9 @@ fn take_deed(
     m: usize,
 ) -> Result<(), AllocError>
     requires within { m < length members.old }
-    requires carried { (g : Group) × (letters : Letters)
+    requires carried { (g : Group) × (letters : LettersByNumber)
         × IsCarried g (over members.old words.old letters) net.old.items }
-    ensures carried { (g : Group) (letters : Letters)
+    ensures carried { (g : Group) (letters : LettersByNumber)
         → IsCarried g (over members.old words.old letters) net.old.items
         → IsCarried g (over members.new words.new letters) net.new.items }
 {
@@ -154,10 +154,10 @@ fn take_deed(
 /// The words of these packets come to their places, each where no greater one stands; over a lossy way one of
 /// four is lost. Whatever else is on its way stays so.
 fn arrive(words: &mut [u64], packets: &[Packet], lossy: bool)
-    requires carried { (g : Group) × (members : List (Option Running)) × (letters : Letters)
+    requires carried { (g : Group) × (members : List (Option Running)) × (letters : LettersByNumber)
         × (net : List PacketOf) × All (Contains net) packets.now
         × IsCarried g (over members words.old letters) net }
-    ensures carried { (g : Group) (members : List (Option Running)) (letters : Letters)
+    ensures carried { (g : Group) (members : List (Option Running)) (letters : LettersByNumber)
         (net : List PacketOf) → All (Contains net) packets.now
         → IsCarried g (over members words.old letters) net
         → IsCarried g (over members words.new letters) net }

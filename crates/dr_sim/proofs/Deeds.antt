@@ -14,8 +14,7 @@ use Rattle.dr_program.specs.Program.{after_deed, next_sight}
 use Rattle.dr_program.specs.Reading.{step_due, step_of_member}
 use Rattle.dr_program.specs.Running.{Running, after_step, broken_off, deed, deed_of, next_deed, next_step, settled, took_letter}
 use Rattle.dr_program.specs.Sight.{MaySee}
-use Rattle.dr_program.specs.Steps.{IsAppend, stored, stored_letters}
-use Rattle.dr_refine.specs.Programs.{IsNoJoin}
+use Rattle.dr_program.specs.Steps.{IsAppend, IsNoJoin, stored, stored_letters}
 use Rattle.dr_logged.specs.Appended.{is_append}
 use Rattle.dr_logged.proofs.Serving.{none_failed, settled_same}
 use Rattle.dr_member.specs.Deeds.{is_act}

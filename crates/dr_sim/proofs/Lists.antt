@@ -10,30 +10,31 @@ use Rattle.dr_history.specs.Members.{members_of}
 use Rattle.dr_logged.specs.Served.{LetterGoesOn}
 use Rattle.dr_logged.proofs.Serving.{settled_same}
 use Rattle.dr_machine.specs.Acts.{CanTake}
-use Rattle.dr_machine.specs.declared.step.Step.TheVariants.{Join, Welcome}
 use Rattle.dr_machine.specs.Group.{Group, late_members, roster}
+use Rattle.dr_machine.specs.Guards.{CanWelcome}
+use Rattle.dr_program.specs.declared.deed.Deed.TheVariants as deeds
 use Rattle.dr_program.specs.declared.outcome.Outcome.{Outcome}
 use Rattle.dr_program.specs.declared.outcome.Outcome.TheVariants.{Ok}
 use Rattle.dr_program.specs.Presence.{present_at, with_present}
 use Rattle.dr_program.specs.Program.{Program, after_deed, next_sight, step_of, letter_for}
 use Rattle.dr_program.specs.Reading.{letters_of, world}
 use Rattle.dr_program.specs.Replica.{Replica, is_inside}
-use Rattle.dr_program.specs.Running.{Running, after_step, columns, members, next_step, settled, took_letter}
+use Rattle.dr_program.specs.Running.{AsksForLetter, Running, after_step, columns, deed, deed_of, members, next_deed, next_step, settled, took_letter}
 use Rattle.dr_program.specs.Turn.{places_in}
 use Rattle.dr_program.specs.declared.place.TheConstants.{TURN}
-use Rattle.dr_program.specs.Steps.{stored_letters}
+use Rattle.dr_program.specs.Steps.{IsNoJoin, stored_letters}
 use Rattle.dr_program.proofs.Fixed.{Told, join_told, step_told, told}
 use Rattle.dr_program.proofs.Present.{present_kept, present_set, present_within}
 use Rattle.dr_program.proofs.Runs.{after_either}
-use Rattle.dr_refine.specs.Programs.{IsNoJoin}
 use Rattle.dr_refine.proofs.Deeds.{deed_step, settle_replica, step_is}
+use Rattle.dr_refine.proofs.Tests.{given_welcome}
 use Rattle.dr_room.proofs.Letters.{letters_are, letters_have_room}
 use Rattle.dr_turn.proofs.Takes.{taking}
 use Rattle.dr_world.specs.Posts.{PostsOf, count_filled}
 use Rattle.dr_world.specs.Steps.{posts_after}
 use Rattle.dr_world.proofs.Letters.{MayGet, enough_after, list_left, may_get}
 use Rattle.dr_age.specs.Sound.{IsSound}
-use Rattle.dr_age.proofs.Deeds.{any_outcome}
+use Rattle.dr_age.proofs.Deeds.{any_outcome, at_give, at_take}
 use Rattle.dr_logged.specs.Appended.{is_append}
 use Rattle.dr_sim.specs.Deeds.{IsTaken, outcome_by, own_letter, went_so}
 use Rattle.dr_sim.specs.Lists.{FindsLists, HasSpare, HaveSpares}
@@ -50,14 +51,14 @@ record IsFree (p : PostsOf) (j : ℕ) : Type 0 where
 
 is_free : (g : Group) (p : Program) (m : ℕ) (r : Running) (posts : PostsOf) (j : ℕ)
     → IsAmong g p m r p.table posts.letters → r.replica.end ≡ None → HasSpare posts r
-    → next_step r ≡ Welcome j → IsFree posts j
-is_free g p m r posts j is none lists due = record {
+    → next_deed r ≡ deeds.Give j → IsFree posts j
+is_free g p m r posts j is none lists gives = record {
   within = get.within;
   none = get.none;
   left = list_left g (world g (step_of p (move m Ok))) posts.letters j posts.left (up_to_view r.replica.history)
       is.sound.group (move_sound g p (move m Ok) is.sound).reached whole
       (ap (λ (q : Program). letters_of q.letters) (step_is p (move m Ok) r is.there none)
-      ∙ ap (λ s. letters_of (stored_letters p.letters r.replica s)) due
+      ∙ ap (λ s. letters_of (stored_letters p.letters r.replica s)) (at_give r j gives)
       ∙ ap (λ ls. letters_of (slice_set ls j (Some (up_to_view r.replica.history)))) is.letters)
       get (omega (arith, lists.enough, ap (λ k. length (members_of k)) (is.sound.form.of m r is.there).late));
 }
@@ -66,12 +67,12 @@ is_free g p m r posts j is none lists due = record {
     whole = ap length (sym is.letters) ∙ is.sound.form.posts
 
     plain : IsNoJoin (next_step r)
-    plain = subst IsNoJoin (sym due) tt
+    plain = subst IsNoJoin (sym (at_give r j gives)) tt
 
-    can : CanTake g (world g p) m (Welcome j)
-    can = subst (CanTake g (world g p) m) due
+    can : CanWelcome g (world g p) m j
+    can = subst (CanTake g (world g p) m) (at_give r j gives)
         (deed_step g p m Ok r is.sound.group is.sound.form is.there none plain
-        (any_outcome (next_sight p.table r) (letter_for p m) Ok r (next_step r) (ap is_append due) plain)).0
+        (any_outcome (next_sight p.table r) (letter_for p m) Ok r (next_step r) (ap is_append (at_give r j gives)) plain)).0
 
     get : MayGet g posts.letters j
     get = may_get g (world g p) posts.letters m j is.sound.group is.sound.reached whole
@@ -83,11 +84,10 @@ record IsGood (r : Running) (letter : Option (List Entry)) : Type 0 where
   pub goes_on : LetterGoesOn r.replica.history letter
 
 is_good : (g : Group) (p : Program) (m : ℕ) (r : Running) (letter : Option (List Entry)) → IsSound g p
-    → present_at p.members m ≡ Some r → r.replica.end ≡ None → next_step r ≡ Join
-    → letter_for p m ≡ letter → IsGood r letter
-is_good g p m r None is there none due found = record { fitting = tt; goes_on = tt }
-is_good g p m r (Some letter) is there none due found =
-    let outside = (taking r (is.form.form m r there) none due).outside in
+    → present_at p.members m ≡ Some r → AsksForLetter r → letter_for p m ≡ letter → IsGood r letter
+is_good g p m r None is there asks found = record { fitting = tt; goes_on = tt }
+is_good g p m r (Some letter) is there asks found =
+    let outside = (taking r (is.form.form m r there) asks).outside in
     let on = letters_are g p is.group is.form is.reached m r letter there outside found in record {
       fitting = letters_have_room g p m r letter is.group is.form is.reached there outside found;
       goes_on = (on.rest, on.begins);
@@ -97,15 +97,16 @@ is_good g p m r (Some letter) is there none due found =
 pub finds_lists : (g : Group) (p : Program) (m : ℕ) (r : Running) (cells : List ℕ) (posts : PostsOf)
     → IsAmong g p m r cells posts.letters → r.replica.end ≡ None → HasSpare posts r → FindsLists posts r
 finds_lists g p m r cells posts is none lists = record {
-  list = λ j due. let free = is_free g p m r posts j
-      (record { sound = is.sound; there = is.there; table = refl; letters = is.letters }) none lists due in
+  list = λ j gives. let free = is_free g p m r posts j
+      (record { sound = is.sound; there = is.there; table = refl; letters = is.letters }) none lists gives in
       (free.within, free.none, free.left, lists.room);
-  fitting = λ due. (good due).fitting;
-  goes_on = λ due. (good due).goes_on;
+  fitting = λ takes. (good takes).fitting;
+  goes_on = λ takes. (good takes).goes_on;
 }
   where
-    good : next_step r ≡ Join → IsGood r (own_letter posts.letters r)
-    good due = is_good g p m r (own_letter posts.letters r) is.sound is.there none due
+    good : next_deed r ≡ deeds.Take → IsGood r (own_letter posts.letters r)
+    good takes = is_good g p m r (own_letter posts.letters r) is.sound is.there
+        (record { unended = none; due = at_take r takes })
         (sym (own_there g p m r is.sound is.there) ∙ ap (λ ls. own_letter ls r) is.letters)
 
 -- what is so of a letter that was read is so of the one that is there
@@ -139,17 +140,18 @@ taken_told words posts r cells mails x none taken =
     ∙ deed_told words (own_letter posts r) (outcome_by x.failed) r
 
 -- so lists are left for it as before
-pub lists_after : (posts after : PostsOf) (r x : Running) → told x.replica ≡ told r.replica
+pub lists_after : (posts after : PostsOf) (r x : Running) → r.replica.end ≡ None → told x.replica ≡ told r.replica
     → after ≡ posts_after posts r.replica (next_step r) → FindsLists posts r → HasSpare posts r
     → HasSpare after x
-lists_after posts after r x same is finds lists =
+lists_after posts after r x none same is finds lists =
     subst (λ p. HasSpare p x) (sym is) (record {
       enough = omega (
         arith,
         ap (λ (t : Told). length (members_of t.late)) same,
         enough_after posts.letters posts.left (length (members_of r.replica.late)) r.replica (next_step r)
             lists.enough
-            (λ j due. let free = finds.list j due in (free.2, free.1, free.0)),
+            (λ j given. let free = finds.list j (ap (deed r) none
+            ∙ ap (deed_of r) (given_welcome (next_step r) j given)) in (free.2, free.1, free.0)),
       );
       room = omega (arith, ap (λ (t : Told). t.room) same, lists.room);
     })

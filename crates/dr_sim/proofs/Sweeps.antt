@@ -22,8 +22,7 @@ use Rattle.dr_program.specs.Reading.{step_of_member}
 use Rattle.dr_program.specs.Running.{Running, after_step, deed, deed_of, next_deed, next_step, step_at}
 use Rattle.dr_program.specs.Sight.{MaySee}
 use Rattle.dr_program.specs.Schedule.{IsTurn, is_between_turns}
-use Rattle.dr_program.specs.Steps.{stored, stored_letters}
-use Rattle.dr_refine.specs.Programs.{IsNoJoin}
+use Rattle.dr_program.specs.Steps.{IsNoJoin, stored, stored_letters}
 use Rattle.dr_machine.specs.declared.step.Step.{Step}
 use Rattle.dr_entry.specs.declared.entry.Entry.{Entry}
 use Rattle.dr_program.specs.Turn.{is_beat, part_of}

@@ -3,19 +3,19 @@ use Rattle.std.specs.Prelude.{◌≡◌, ℕ, ◌+◌, ◌<◌, ◌≤◌, IfSom
 use Rattle.dr_form.specs.Letters.{IsFitting}
 use Rattle.dr_history.specs.Members.{members_of}
 use Rattle.dr_logged.specs.Served.{LetterGoesOn}
-use Rattle.dr_machine.specs.declared.step.Step.TheVariants.{Join, Welcome}
+use Rattle.dr_program.specs.declared.deed.Deed.TheVariants.{Give, Take}
 use Rattle.dr_program.specs.Presence.{present_at}
-use Rattle.dr_program.specs.Running.{Running, next_step}
+use Rattle.dr_program.specs.Running.{Running, next_deed}
 use Rattle.dr_sim.specs.Deeds.{own_letter}
 use Rattle.dr_world.specs.Posts.{PostsOf, count_filled}
 
 -- where the member gives a letter, its place is empty, and there is a list for it, with room for its history;
 -- and where it takes one that is there, that fits it, and goes on from its history
 pub record FindsLists (p : PostsOf) (r : Running) : Type 0 where
-  pub list : (j : ℕ) → next_step r ≡ Welcome j → (j < length p.letters) × (present_at p.letters j ≡ None)
+  pub list : (j : ℕ) → next_deed r ≡ Give j → (j < length p.letters) × (present_at p.letters j ≡ None)
       × (0 < p.left) × (r.replica.room ≤ p.room)
-  pub fitting : next_step r ≡ Join → IfSome (own_letter p.letters r) (IsFitting r.replica)
-  pub goes_on : next_step r ≡ Join → LetterGoesOn r.replica.history (own_letter p.letters r)
+  pub fitting : next_deed r ≡ Take → IfSome (own_letter p.letters r) (IsFitting r.replica)
+  pub goes_on : next_deed r ≡ Take → LetterGoesOn r.replica.history (own_letter p.letters r)
 
 -- a list is left for each late member that has no letter, with room for the history of this one
 pub record HasSpare (p : PostsOf) (r : Running) : Type 0 where

@@ -1,5 +1,5 @@
 -- What an event makes of the replica of its member and of the table is its effect on the world.
-use Rattle.std.proofs.Common.{◌≡◌, ◌≢◌, refl, sym, ap, ◌∙◌, subst, ℕ, ◌<◌, ◌&&◌, true, false, not, List, arith}
+use Rattle.std.proofs.Common.{◌≡◌, ◌≢◌, refl, sym, ap, ◌∙◌, subst, inl, inr, ℕ, ◌<◌, ◌&&◌, true, false, not, List, arith}
 use Rattle.std.specs.Prelude.{None, Option, Some, is_some, slice_index}
 use Rattle.std.proofs.lemmas.Bool.{and_parts}
 use Rattle.dr_entry.specs.declared.entry.Entry.{Entry}
@@ -10,17 +10,19 @@ use Rattle.dr_words.specs.Grown.{HasGrown}
 use Rattle.dr_words.specs.Layout.{word_index_of}
 use Rattle.dr_machine.specs.declared.event.Event.{Event}
 use Rattle.dr_machine.specs.declared.step.Step.{Step}
-use Rattle.dr_machine.specs.declared.step.Step.TheVariants.{Join, Look}
+use Rattle.dr_machine.specs.declared.step.Step.TheVariants.{Look}
 use Rattle.dr_machine.specs.Events.{member_of, step_of}
 use Rattle.dr_machine.proofs.Runs.{events_reached}
 use Rattle.dr_machine.specs.Group.{Group, banks, roster, columns}
 use Rattle.dr_machine.specs.World.{World}
 use Rattle.dr_machine.specs.Acts.{effect, effect_of}
+use Rattle.dr_machine.specs.Effects.{joins}
 use Rattle.dr_machine.specs.Run.{IsReached}
 use Rattle.dr_program.specs.Replica.{Replica, is_inside, is_other}
 use Rattle.dr_program.specs.Steps.{has_cell, allows, found, stored, stored_letters}
 use Rattle.dr_program.specs.Reading.{Shared, letters_of, world_of}
 use Rattle.dr_program.proofs.Holdings.{held_of}
+use Rattle.dr_program.proofs.Runs.{joins_outside}
 use Rattle.dr_faithful.specs.Faithful.{Faithful}
 use Rattle.dr_faithful.specs.Chosen.{views_by}
 use Rattle.dr_world_laws.proofs.Worlds.{Known, faithful, known}
@@ -32,7 +34,7 @@ use Rattle.dr_refine.proofs.Tests.{found_is, step_effect, cell_test}
 use Rattle.dr_room.proofs.Letters.{letter_goes_on}
 use Rattle.dr_world.specs.Held.{Held, its_group, its_world, shared_of, IsHeld}
 use Rattle.dr_world.specs.Steps.{IsSight, finds_letter, joined_by, stepped_with}
-use Rattle.dr_world.proofs.Guarding.{is_member, outside_view}
+use Rattle.dr_world.proofs.Guarding.{is_member, join_or_not}
 use Rattle.dr_program.specs.Presence.{present_at, with_present}
 use Rattle.dr_program.proofs.Present.{present_within}
 
@@ -47,24 +49,40 @@ after h e r = record h {
   letters = stored_letters h.letters r (step_of e);
 }
 
+-- a join with the letter that it finds is its effect
+with_letter : (g : Group) (rs : List (Option Replica)) (table : Shared) (m : ℕ) (r : Replica)
+    → IsMember g rs table m r → IsReached g (world_of g rs table) → is_inside r ≡ false
+    → is_some (letters_of table.letters m) ≡ true
+    → world_of g (with_present rs m (joined_by (letters_of table.letters m) r)) table
+    ≡ joins (world_of g rs table) m
+with_letter g rs table m r is reached outside found = by (letters_of table.letters m) refl found
+  where
+    by : (o : Option (List Entry)) → letters_of table.letters m ≡ o → is_some o ≡ true
+        → world_of g (with_present rs m (joined_by (letters_of table.letters m) r)) table
+        ≡ joins (world_of g rs table) m
+    by None e found = absurd (cc found)
+    by (Some letter) e found =
+        ap (λ o. world_of g (with_present rs m (joined_by o r)) table) e
+        ∙ join_effect g rs table m r letter is outside e
+        (letter_goes_on g rs table m r letter is reached outside e)
+
 -- a step with the letter that it finds is its effect
 with_effect : (g : Group) (rs : List (Option Replica)) (table : Shared) (m : ℕ) (r : Replica) (s : Step)
     → IsMember g rs table m r → IsReached g (world_of g rs table) → allows r s ≡ true
     → finds_letter (letters_of table.letters m) s ≡ true
     → world_of g (with_present rs m (stepped_with (letters_of table.letters m) table.words r s))
     (stored_in table r s) ≡ effect_of g (world_of g rs table) m s
-with_effect g rs table m r Join is reached may finds = by (letters_of table.letters m) refl finds
-  where
-    by : (o : Option (List Entry)) → letters_of table.letters m ≡ o → is_some o ≡ true
-        → world_of g (with_present rs m (joined_by (letters_of table.letters m) r)) table
-        ≡ effect_of g (world_of g rs table) m Join
-    by None e found = absurd (cc found)
-    by (Some letter) e found =
-        let outside : is_inside r ≡ false = outside_view r may in
-        ap (λ o. world_of g (with_present rs m (joined_by o r)) table) e
-        ∙ join_effect g rs table m r letter is outside e
-        (letter_goes_on g rs table m r letter is reached outside e)
-with_effect g rs table m r s is reached may finds = step_effect g rs table m r s is may tt
+with_effect g rs table m r s is reached may finds = elim (join_or_not s) [
+  | inl join ↦
+      subst (λ s. finds_letter (letters_of table.letters m) s ≡ true
+      → world_of g (with_present rs m (stepped_with (letters_of table.letters m) table.words r s))
+      (stored_in table r s) ≡ effect_of g (world_of g rs table) m s) (sym join)
+      (with_letter g rs table m r is reached (joins_outside r s join may)) finds
+  | inr (other, over) ↦
+      ap (λ q. world_of g (with_present rs m q) (stored_in table r s))
+      (over (letters_of table.letters m) table.words r)
+      ∙ step_effect g rs table m r s is may other
+]
 
 -- what an event makes of what is held is its effect
 pub take_effect : (h : Held) (e : Event) (r : Replica) → IsHeld h → present_at h.replicas (member_of e)

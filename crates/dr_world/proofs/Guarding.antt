@@ -1,6 +1,6 @@
 -- The test of an event at the replica of its member is the guard of that event, in every world that is
 -- reached.
-use Rattle.std.proofs.Common.{◌≡◌, ◌↔◌, refl, ℕ, ◌<◌, true, false, not, Bool, List}
+use Rattle.std.proofs.Common.{◌≡◌, ◌⊎◌, inl, inr, ◌↔◌, refl, ℕ, ◌<◌, true, false, not, Bool, List}
 use Rattle.std.specs.Prelude.{None, Option, Some}
 use Rattle.std.proofs.lemmas.Bool.{and_from, and_parts}
 use Rattle.dr_entry.specs.declared.entry.Entry.{Entry}
@@ -15,12 +15,12 @@ use Rattle.dr_machine.specs.World.{World}
 use Rattle.dr_machine.specs.Acts.{Guard}
 use Rattle.dr_program.specs.Reading.{letters_of}
 use Rattle.dr_program.specs.Replica.{Replica, is_inside}
-use Rattle.dr_program.specs.Steps.{allows, may_take}
-use Rattle.dr_refine.specs.Programs.{HasLetter, IsMember}
+use Rattle.dr_program.specs.Steps.{HasLetter, IsNoJoin, allows, may_take, stepped_over}
+use Rattle.dr_refine.specs.Programs.{IsMember}
 use Rattle.dr_refine.proofs.Tests.{step_alive, step_test}
 use Rattle.dr_room.proofs.Bounds.{has_room}
 use Rattle.dr_world.specs.Held.{Held, its_group, its_world, shared_of, IsHeld}
-use Rattle.dr_world.specs.Steps.{finds_letter, may_come}
+use Rattle.dr_world.specs.Steps.{finds_letter, may_come, stepped_with}
 use Rattle.dr_program.specs.Presence.{present_at}
 
 -- ---- a member of what is held
@@ -37,13 +37,12 @@ is_member h m r is there = record {
   of = is.members.of m r there;
 }
 
--- who may join is none of its view
-pub outside_view : (r : Replica) → allows r Join ≡ true → is_inside r ≡ false
-outside_view r may = none_inside (is_inside r) may
-  where
-    none_inside : (b : Bool) → not b ≡ true → b ≡ false
-    none_inside true e = absurd (cc e)
-    none_inside false e = refl
+-- a step other than a join goes by no letter
+pub join_or_not : (s : Step) → (s ≡ Join) ⊎ (IsNoJoin s
+    × ((letter : Option (List Entry)) (table : List ℕ) (r : Replica)
+    → stepped_with letter table r s ≡ stepped_over table r s))
+join_or_not Join = inl refl
+join_or_not s = inr (tt, λ letter table r. refl)
 
 -- ---- the guard
 

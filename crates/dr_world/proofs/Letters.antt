@@ -1,5 +1,5 @@
 -- Letters: whose they are, how many there are, and that a list is left for each that may be given.
-use Rattle.std.proofs.Common.{◌≡◌, ◌⊎◌, ap, sym, subst, ◌∙◌, ℕ, zero, suc, ◌+◌, ◌<◌, ◌≤◌, ◌&&◌, inl, inr, refl, Bool, true, false, not, List, [], ◌∷◌, length, take, if◌then◌else◌, cond, arith}
+use Rattle.std.proofs.Common.{◌≡◌, ◌⊎◌, ap, sym, subst, ◌∙◌, ℕ, zero, suc, ◌+◌, ◌-◌, ◌<◌, ◌≤◌, ◌&&◌, inl, inr, refl, Bool, true, false, not, List, [], ◌∷◌, length, take, if◌then◌else◌, cond, arith}
 use Rattle.std.specs.Prelude.{None, Option, Some, is_some, slice_set}
 use Rattle.std.proofs.lemmas.Bool.{cases_lt}
 use Rattle.std.proofs.lemmas.List.{length-set, take_all}
@@ -8,7 +8,6 @@ use Rattle.dr_entry.specs.declared.entry.Entry.{Entry}
 use Rattle.dr_history.specs.History.{up_to_view}
 use Rattle.dr_history.specs.Members.{has, members_below, members_of}
 use Rattle.dr_machine.specs.declared.step.Step.{Step}
-use Rattle.dr_machine.specs.declared.step.Step.TheVariants.{Welcome}
 use Rattle.dr_machine.specs.Group.{Group, IsGroup, late_members, roster}
 use Rattle.dr_machine.specs.Guards.{CanWelcome}
 use Rattle.dr_machine.specs.Run.{IsReached}
@@ -18,7 +17,8 @@ use Rattle.dr_words.proofs.Ranks.{length-members_below_suc}
 use Rattle.dr_program.specs.Presence.{present_at}
 use Rattle.dr_program.specs.Reading.{letters_of}
 use Rattle.dr_program.specs.Replica.{Replica}
-use Rattle.dr_program.specs.Steps.{stored_letters}
+use Rattle.dr_program.specs.Steps.{given_to, stored_letters}
+use Rattle.dr_refine.proofs.Tests.{letters_then}
 use Rattle.dr_world_laws.proofs.ChosenViews.{views-first, views-there}
 use Rattle.dr_world_laws.proofs.Letters.{IsLetter, gives-once}
 use Rattle.dr_world_laws.proofs.Worlds.{Known, known}
@@ -177,9 +177,14 @@ list_left g after letters j left x is reached long are may enough = omega (
 -- and enough are left then
 pub enough_after : (letters : List (Option (List Entry))) (left late : ℕ) (r : Replica) (s : Step)
     → late ≤ left + count_filled letters
-    → ((j : ℕ) → s ≡ Welcome j → (0 < left) × (present_at letters j ≡ None) × (j < length letters))
+    → ((j : ℕ) → given_to s ≡ Some j → (0 < left) × (present_at letters j ≡ None) × (j < length letters))
     → late ≤ lists_left left s + count_filled (stored_letters letters r s)
-enough_after letters left late r (Welcome j) enough free =
-    let may = free j refl in
-    omega (arith, enough, may.0, filled_set letters j (up_to_view r.history) may.2 may.1)
-enough_after letters left late r s enough free = enough
+enough_after letters left late r s enough free = elim (letters_then letters r s) [
+  | inl (j, welcome) ↦
+      let may = free j (ap given_to welcome) in
+      subst (λ s. late ≤ lists_left left s + count_filled (stored_letters letters r s)) (sym welcome)
+      (omega (arith, enough, may.0, filled_set letters j (up_to_view r.history) may.2 may.1))
+  | inr (none, same) ↦
+      subst (λ o. late ≤ (if is_some o then left - 1 else left) + count_filled (stored_letters letters r s))
+      (sym none) (subst (λ ls. late ≤ left + count_filled ls) (sym same) enough)
+]

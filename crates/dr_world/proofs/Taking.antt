@@ -12,7 +12,6 @@ use Rattle.dr_restart.specs.Groups.{group_of}
 use Rattle.dr_words.specs.Layout.{words_of}
 use Rattle.dr_machine.specs.declared.event.Event.{Event}
 use Rattle.dr_machine.specs.declared.step.Step.{Step}
-use Rattle.dr_machine.specs.declared.step.Step.TheVariants.{Join, Welcome}
 use Rattle.dr_machine.specs.Events.{member_of, step_of}
 use Rattle.dr_machine.specs.Group.{Group, banks, late_members}
 use Rattle.dr_machine.specs.Acts.{CanTake, Guard, effect}
@@ -21,15 +20,17 @@ use Rattle.dr_program.specs.Replica.{Replica, is_inside, me}
 use Rattle.dr_program.specs.Form.{HasForm, IsOf}
 use Rattle.dr_machine.proofs.Runs.{events_more, events_reached, run_on}
 use Rattle.dr_program.proofs.Fixed.{Told, join_told, told, step_told, of_told}
+use Rattle.dr_program.proofs.Runs.{joins_outside}
 use Rattle.dr_world_laws.proofs.Worlds.{known, words_grew}
-use Rattle.dr_refine.proofs.Steps.{stored_length}
+use Rattle.dr_refine.proofs.Steps.{posts_length, stored_length}
+use Rattle.dr_refine.proofs.Tests.{given_welcome}
 use Rattle.dr_room.proofs.Letters.{letter_fits}
 use Rattle.dr_world.specs.Held.{Held, its_group, its_world, shared_of, AreMembers, IsHeld}
 use Rattle.dr_program.specs.Reading.{letters_of}
-use Rattle.dr_program.specs.Steps.{allows, is_free, may_take, sight, stored, stored_letters}
+use Rattle.dr_program.specs.Steps.{allows, given_to, is_free, may_take, sight, stored, stored_letters}
 use Rattle.dr_world.specs.Posts.{HasLists, PostsOf, count_filled}
-use Rattle.dr_world.specs.Steps.{IsReadyFor, finds_letter, may_come, posts_after, stepped_with}
-use Rattle.dr_world.proofs.Guarding.{is_member, outside_view, take_test, of_present, of_roster}
+use Rattle.dr_world.specs.Steps.{IsReadyFor, finds_letter, joined_by, may_come, posts_after, stepped_with}
+use Rattle.dr_world.proofs.Guarding.{is_member, join_or_not, take_test, of_present, of_roster}
 use Rattle.dr_world.proofs.Effects.{after, in_sight, take_effect}
 use Rattle.dr_world.proofs.Letters.{MayGet, enough_after, list_left, may_get}
 use Rattle.dr_program.specs.Presence.{present_at, with_present}
@@ -40,9 +41,14 @@ use Rattle.dr_program.proofs.Present.{present_within, present_set, present_kept}
 -- an event leaves what a replica was told
 with_told : (letter : Option (List Entry)) (table : List ℕ) (r : Replica) (s : Step)
     → told (stepped_with letter table r s) ≡ told r
-with_told None table r Join = refl
-with_told (Some es) table r Join = join_told r es
-with_told letter table r s = step_told (sight table r s) r s
+with_told letter table r s = elim (join_or_not s) [
+  | inl join ↦ subst (λ s. told (stepped_with letter table r s) ≡ told r) (sym join) (by letter)
+  | inr (other, over) ↦ ap told (over letter table r) ∙ step_told (sight table r s) r s
+]
+  where
+    by : (o : Option (List Entry)) → told (joined_by o r) ≡ told r
+    by None = refl
+    by (Some es) = join_told r es
 
 -- ---- the members
 
@@ -116,12 +122,6 @@ happens_on : (h : Held) (e : Event) (r : Replica) → MayHappen h e r
 happens_on h e r x = events_more (its_group h) (its_world h) (its_world (after h e r)) e x.held.events
     (inl (happens_guard h e r x, happens_effect h e r x))
 
--- as many letters have a place
-letters_length : (letters : List (Option (List Entry))) (r : Replica) (s : Step)
-    → length (stored_letters letters r s) ≡ length letters
-letters_length letters r (Welcome j) = length-set letters j (Some (up_to_view r.history))
-letters_length letters r s = refl
-
 -- what is held after an event is held
 happens_held : (h : Held) (e : Event) (r : Replica) → MayHappen h e r
     → HasForm (stepped_with (letters_of h.letters (member_of e)) h.table r (step_of e)) → IsHeld (after h e r)
@@ -131,7 +131,7 @@ happens_held h e r x form = record {
       (stepped_with (letters_of h.letters (member_of e)) h.table r (step_of e)) x.held.members x.there form
       (with_told (letters_of h.letters (member_of e)) h.table r (step_of e));
   table = stored_length h.table r (step_of e) ∙ x.held.table;
-  posts = letters_length h.letters r (step_of e) ∙ x.held.posts;
+  posts = posts_length h.letters r (step_of e) ∙ x.held.posts;
   events = happens_on h e r x;
 }
 
@@ -145,13 +145,13 @@ happens_grew h e r x =
     (happens_guard h e r x))
 
 -- whom a welcome gives a letter has none, and a list is left for it
-happens_list : (h : Held) (e : Event) (r : Replica) (j left : ℕ) → MayHappen h e r → step_of e ≡ Welcome j
+happens_list : (h : Held) (e : Event) (r : Replica) (j left : ℕ) → MayHappen h e r → given_to (step_of e) ≡ Some j
     → length (members_of (late_members (its_group h))) ≤ left + count_filled h.letters
     → (0 < left) × (present_at h.letters j ≡ None) × (j < length h.letters)
-happens_list h e r j left x welcome enough = (
+happens_list h e r j left x given enough = (
   list_left g (its_world (after h e r)) h.letters j left (up_to_view r.history) x.held.group
       (events_reached g (its_world (after h e r)) (happens_on h e r x)) x.held.posts
-      (ap (λ s. letters_of (stored_letters h.letters r s)) welcome) get enough,
+      (ap (λ s. letters_of (stored_letters h.letters r s)) (given_welcome (step_of e) j given)) get enough,
   get.none,
   get.within,
 )
@@ -162,7 +162,7 @@ happens_list h e r j left x welcome enough = (
     get : MayGet (its_group h) h.letters j
     get = may_get g (its_world h) h.letters (member_of e) j x.held.group
         (events_reached g (its_world h) x.held.events) x.held.posts refl
-        (subst (CanTake g (its_world h) (member_of e)) welcome (happens_guard h e r x))
+        (subst (CanTake g (its_world h) (member_of e)) (given_welcome (step_of e) j given) (happens_guard h e r x))
 
 -- so enough lists are left for all others
 happens_lists : (h : Held) (e : Event) (r q : Replica) (p : PostsOf) → MayHappen h e r → p.letters ≡ h.letters
@@ -183,14 +183,11 @@ happens_lists h e r q p x same as_told lists = record {
         (subst (λ (t : Told). t.room ≤ p.room) (sym as_told) (lists.room (member_of e) r x.there))
     by k y (inr other) = lists.room k y other
 
--- a late member that joins finds a letter that fits it
-happens_fitting : (h : Held) (e : Event) (r : Replica) → MayHappen h e r → step_of e ≡ Join
+-- a letter that is there for a late member fits it
+happens_fitting : (h : Held) (e : Event) (r : Replica) → MayHappen h e r → is_inside r ≡ false
     → IfSome (letters_of h.letters (member_of e)) (IsFitting r)
-happens_fitting h e r x join = by (letters_of h.letters (member_of e)) refl
+happens_fitting h e r x outside = by (letters_of h.letters (member_of e)) refl
   where
-    outside : is_inside r ≡ false
-    outside = outside_view r (subst (λ s. allows r s ≡ true) join (allowed r (step_of e) x.may))
-
     by : (o : Option (List Entry)) → letters_of h.letters (member_of e) ≡ o → IfSome o (IsFitting r)
     by None f = tt
     by (Some letter) f = letter_fits (its_group h) h.replicas (shared_of h) (member_of e) r letter
@@ -216,7 +213,8 @@ happens_ready h e r p x same lists = record {
   posts = ap length same ∙ x.held.posts ∙ sym of.members;
   sight = λ i c look. in_sight h e r i c x.held x.there
       (subst (λ s. allows r s ≡ true) look (allowed r (step_of e) x.may));
-  fitting = λ join. subst (λ o. IfSome o (IsFitting r)) letter (happens_fitting h e r x join);
+  fitting = λ join. subst (λ o. IfSome o (IsFitting r)) letter
+      (happens_fitting h e r x (joins_outside r (step_of e) join (allowed r (step_of e) x.may)));
   list = λ j welcome. (happens_list h e r j p.left x welcome
       (subst (λ ls. length (members_of (late_members (its_group h))) ≤ p.left + count_filled ls) same lists.enough)).0;
   room = lists.room (member_of e) r x.there;

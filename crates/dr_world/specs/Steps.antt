@@ -1,5 +1,5 @@
 -- Which steps may come, and what they find and leave.
-use Rattle.std.specs.Prelude.{◌≡◌, ℕ, ◌-◌, ◌<◌, ◌≤◌, ◌&&◌, Bool, false, true, IfSome, List, None, Option, Some, is_some, length}
+use Rattle.std.specs.Prelude.{◌≡◌, ℕ, ◌-◌, ◌<◌, ◌≤◌, ◌&&◌, if◌then◌else◌, Bool, false, true, IfSome, List, None, Option, Some, is_some, length}
 use Rattle.dr_entry.specs.declared.entry.Entry.{Entry}
 use Rattle.dr_form.specs.Letters.{IsFitting}
 use Rattle.dr_rows.specs.Words.{seen}
@@ -9,8 +9,8 @@ use Rattle.dr_words.specs.Layout.{words_of}
 use Rattle.dr_program.specs.Reading.{letters_of}
 use Rattle.dr_program.specs.Replica.{Replica, joined, me}
 use Rattle.dr_machine.specs.declared.step.Step.{Step}
-use Rattle.dr_machine.specs.declared.step.Step.TheVariants.{Join, Look, Welcome}
-use Rattle.dr_program.specs.Steps.{found, may_take, stepped_over, stored_letters}
+use Rattle.dr_machine.specs.declared.step.Step.TheVariants.{Join, Look}
+use Rattle.dr_program.specs.Steps.{found, given_to, may_take, stepped_over, stored_letters}
 use Rattle.dr_world.specs.Posts.{PostsOf}
 
 -- whether a letter is there where the step needs one: a join does
@@ -34,10 +34,9 @@ abbrev pub stepped_with : Option (List Entry) → List ℕ → Replica → Step 
 stepped_with letter table r Join = joined_by letter r
 stepped_with letter table r s = stepped_over table r s
 
--- how many of so many lists for letters are left after the step: a welcome takes one
+-- how many of so many lists for letters are left after the step: one that gives a letter takes one
 abbrev pub lists_left : ℕ → Step → ℕ
-lists_left count (Welcome j) = count - 1
-lists_left count s = count
+lists_left count s = if is_some (given_to s) then count - 1 else count
 
 -- the letters after the step of this replica
 abbrev pub posts_after : PostsOf → Replica → Step → PostsOf
@@ -56,5 +55,5 @@ pub record IsReadyFor (r : Replica) (table : List ℕ) (p : PostsOf) (s : Step) 
   pub posts : length p.letters ≡ r.roster
   pub sight : (i c : ℕ) → s ≡ Look i c → IsSight table r i c
   pub fitting : s ≡ Join → IfSome (letters_of p.letters (me r)) (IsFitting r)
-  pub list : (j : ℕ) → s ≡ Welcome j → 0 < p.left
+  pub list : (j : ℕ) → given_to s ≡ Some j → 0 < p.left
   pub room : r.room ≤ p.room

@@ -1,12 +1,12 @@
 use Rattle.dr_age.specs.Sound.{IsSound}
 use Rattle.dr_machine.specs.Group.{Group}
-use Rattle.dr_examples.specs.Led.{Letters, over}
+use Rattle.dr_examples.specs.Led.{LettersByNumber, over}
 use Rattle.dr_examples.proofs.members.lead.Given as goal
 
 abbrev pub invariant-loop-m : goal.invariant-loop-m
-invariant-loop-m l = (g : Group) (letters : Letters) → IsSound g (over l.fn.members l.fn.words letters)
+invariant-loop-m l = (g : Group) (letters : LettersByNumber) → IsSound g (over l.fn.members l.fn.words letters)
     → IsSound g (over l.members l.words letters)
 
 abbrev pub invariant-loop : goal.invariant-loop
-invariant-loop l = (g : Group) (letters : Letters) → IsSound g (over l.fn.members l.fn.words letters)
+invariant-loop l = (g : Group) (letters : LettersByNumber) → IsSound g (over l.fn.members l.fn.words letters)
     → IsSound g (over l.members l.words letters)

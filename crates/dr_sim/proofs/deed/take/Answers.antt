@@ -106,7 +106,7 @@ returns-in-Give-clause-taken g c =
 pub returns-in-Give-clause-lists : goal.returns-in-Give-clause-lists
 returns-in-Give-clause-lists g c = λ lists.
     let due = at_give c.args.member.now _ (sym c.in-Give.ensures.deed) in
-    lists_after c.args.posts.now c.give.new.posts c.args.member.now c.give.new.member
+    lists_after c.args.posts.now c.give.new.posts c.args.member.now c.give.new.member c.requires.going
     (taken_told c.args.table.now c.args.posts.now.letters c.args.member.now c.args.table.now _ c.give.new.member
     c.requires.going (give_taken c.args.table.now c.args.posts.now.letters c.args.member.now _ _ c.give.new.member
     (sym c.in-Give.ensures.deed) c.give.ensures.after (ap (λ (p : PostsOf). p.letters) c.give.ensures.posts)))
@@ -148,7 +148,8 @@ returns-in-Take-clause-ready g c =
 
 pub returns-in-Take-clause-served : goal.returns-in-Take-clause-served
 returns-in-Take-clause-served g c = λ base served.
-    let due = at_take c.args.member.now (sym c.in-Take.ensures.deed) in
     subst (HasServedAt g.D.Disk.told g.D.Disk.faults base c.args.place.now) (sym c.take_letter.ensures.after)
     (served_took _ _ base c.args.place.now (own_letter c.args.posts.now.letters c.args.member.now) c.args.member.now
-    due c.requires.going c.requires.form.replica.logged (c.requires.lists.goes_on due) served)
+    (record { unended = c.requires.going; due = at_take c.args.member.now (sym c.in-Take.ensures.deed) })
+    c.requires.form.replica.logged
+    (c.requires.lists.goes_on (sym c.in-Take.ensures.deed)) served)

@@ -1,5 +1,4 @@
 use Rattle.std.proofs.Common.{sym, ap, ◌∙◌, subst}
-use Rattle.dr_age.proofs.Deeds.{at_take}
 use Rattle.dr_form.specs.Letters.{IsFitting}
 use Rattle.dr_member.specs.Deeds.{is_take}
 use Rattle.dr_program.specs.Reading.{letters_of}
@@ -14,7 +13,7 @@ pub taken-requires-clause-fitting : goal.taken-requires-clause-fitting
 taken-requires-clause-fitting c =
     some_read _ (IsFitting c.args.member.now.replica) c.letter-letter.result _
     (c.letter-letter.ensures ∙ ap (letters_of c.args.posts.now.letters) c.me.ensures)
-    (c.requires.lists.fitting (at_take c.args.member.now c.requires.due))
+    (c.requires.lists.fitting c.requires.due)
 
 pub returns-clause-after : goal.returns-clause-after
 returns-clause-after c =
