@@ -5,7 +5,6 @@ use Rattle.std.proofs.lemmas.List.{length-map}
 use Rattle.dr_disk.specs.Disk.{Told}
 use Rattle.dr_log.specs.State.{LogState}
 use Rattle.dr_logged.specs.Served.{HaveSamePlaces, HaveServed}
-use Rattle.dr_history.specs.Soundness.{IsNobodyLate}
 use Rattle.dr_machine.specs.Group.{IsGroup, IsPresent}
 use Rattle.dr_program.proofs.Present.{all_ended, present_map, present_within}
 use Rattle.dr_program.specs.Presence.{present_at}
@@ -27,15 +26,13 @@ use Rattle.dr_threads.specs.Logs.{AreFor}
 -- the members of a script are those of its group
 abbrev pub is_dealt : (script : Script) (start : Start) (nth : ℕ) (members : List (Option Running))
     → IsGroup (group_of script start) → length script.messages ≡ script.members → 1 ≤ script.turns
-    → IsNobodyLate (group_of script start).opening → HaveBegun script start nth script.members members
-    → IsDealt members
-is_dealt script start nth members group lists some nobody begun = record {
+    → HaveBegun script start nth script.members members → IsDealt members
+is_dealt script start nth members group lists some begun = record {
   group = group_of script start;
   turns = script.turns;
   setups = begun.setups;
   is = group;
   some = some;
-  nobody = nobody;
   are = are_setups script start nth begun.setups lists begun.are;
   begun = begun.begun;
 }
@@ -106,15 +103,15 @@ pub record IsAgeOver {D : Type 0} (told : D → Option Told) (faults : D → ℕ
 pub age_over : {D : Type 0} (told : D → Option Told) (faults : D → ℕ) (script : Script) (start : Start)
     (nth : ℕ) (members : List (Option Running)) (bases logs : List (Option (LogState D))) (begun p : Program)
     → IsGroup (group_of script start) → length script.messages ≡ script.members → 1 ≤ script.turns
-    → IsNobodyLate (group_of script start).opening → (b : HaveBegun script start nth script.members members)
+    → (b : HaveBegun script start nth script.members members)
     → ((d : IsDealt members) → begun ≡ begun_program d.group d.setups) → IsRanFrom begun p
     → AreAtEnd p.members
     → AreOpened (group_of script start) bases → HaveSamePlaces bases logs
     → HaveServed told faults bases logs p.members → IsAgeOver told faults script start nth bases logs begun p
-age_over told faults script start nth members bases logs begun p group lists some nobody b opens ran ended opened
+age_over told faults script start nth members bases logs begun p group lists some b opens ran ended opened
     places served =
     let same : begun ≡ begun_program (group_of script start) b.setups =
-    opens (is_dealt script start nth members group lists some nobody b) in
+    opens (is_dealt script start nth members group lists some b) in
     let begins : IsBegun script start nth begun = (b.setups, b.are, same) in
     let kept = deeds_kept (group_of script start) script.turns b.setups p group some
     (are_setups script start nth b.setups lists b.are) (subst (λ q. IsRanFrom q p) same ran) in record {

@@ -1,7 +1,6 @@
 //! An age in threads, from its opening to the ends of all members.
 ghost use Rattle.std.specs.Prelude.{◌≡◌, MatchResult, IfOk, length, Option};
 ghost use Rattle.dr_history.specs.Agreement.{EndsAgreed};
-ghost use Rattle.dr_history.specs.Soundness.{IsNobodyLate};
 ghost use Rattle.dr_machine.specs.Group.{IsGroup};
 ghost use Rattle.dr_program_laws.specs.Ended.{HaveEnded};
 ghost use Rattle.dr_program_laws.specs.Trusting.{NoneLeft, SuspectsNobody};
@@ -28,7 +27,7 @@ use std::thread::Threads;
 /// Runs the group of a script through one age, each member in a thread, and answers how it ended.
 /// `nth` is the number of the age in the run, from 0: it says which of the faults are those of this
 /// age. Each member that is there appends to the log of its number; one whose append fails ends with that. The
-/// place of a log is empty where its member is absent, and such a member takes no part. Nobody is late.
+/// place of a log is empty where its member is absent, and such a member takes no part.
 ///
 /// # Errors
 ///
@@ -44,7 +43,6 @@ pub fn run_script_age<R: Threads + Sync, D: Disk, P: Pace + Sync>(
 ) -> Result<(AgeEnd, Vec<Option<Log<D>>>), (Vec<Option<Log<D>>>, AllocError)>
     requires ranges { HasRanges script.now }
     requires group { IsGroup (group_of script.now start.now) }
-    requires nobody { IsNobodyLate (group_of script.now start.now).opening }
     requires logs { AreOpened (group_of script.now start.now) logs.items }
     ensures run { IfOk result (λ r. IsRun script.now start.now nth r.0) }
     ensures agreed { IfOk result (λ r. EndsAgreed (group_of script.now start.now).opening r.0.members) }

@@ -1,6 +1,6 @@
 -- Deeds that store, appends, and which program a deed makes.
 use Rattle.std.proofs.Common.{◌≡◌, refl, sym, ap, ◌∙◌, subst, ℕ, true, List, [], ◌∷◌, ◌++◌, set-set}
-use Rattle.std.specs.Prelude.{None, Some, Option, slice_index_or}
+use Rattle.std.specs.Prelude.{None, Some, Option, slice_index_or, slice_set}
 use Rattle.dr_entry.specs.declared.entry.Entry.{Entry}
 use Rattle.dr_member.specs.Deeds.{is_append}
 use Rattle.dr_program.specs.declared.deed.Deed.{Deed}
@@ -8,12 +8,14 @@ use Rattle.dr_program.specs.declared.deed.Deed.TheVariants as deeds
 use Rattle.dr_program.specs.declared.outcome.Outcome.{Outcome}
 use Rattle.dr_program.specs.declared.outcome.Outcome.TheVariants as outcomes
 use Rattle.dr_program.specs.Program.{IsRanFrom, Move, Program, after_deed, appended_as, next_sight, ran, step_of}
-use Rattle.dr_program.specs.Running.{Running, after_step, next_deed, next_step, took}
-use Rattle.dr_program.specs.Steps.{IsAppend, stored, stored_letters}
-use Rattle.dr_program.proofs.Fixed.{Told, told, step_told}
+use Rattle.dr_program.specs.Running.{Running, after_step, next_deed, next_step, settled, took, took_letter}
+use Rattle.dr_program.specs.Steps.{IsAppend, sight, stored, stored_letters}
+use Rattle.dr_program.proofs.Fixed.{Told, join_told, told, step_told}
 use Rattle.dr_program.proofs.Runs.{ran_on}
 use Rattle.dr_refine.proofs.Deeds.{settle_replica, step_is}
-use Rattle.dr_age.proofs.Deeds.{IsStoreAt, after_append, deed_tells, posted_append, stored_append}
+use Rattle.dr_age.proofs.Deeds.{IsStoreAt, after_append, after_take, deed_tells, posted_append, stored_append}
+use Rattle.dr_history.specs.History.{up_to_view}
+use Rattle.dr_program.specs.Reading.{letters_of}
 use Rattle.dr_table.specs.Rule.{number}
 use Rattle.dr_table.specs.Deeds.{IsStore}
 use Rattle.dr_table.specs.Steps.{HasAppended}
@@ -59,6 +61,13 @@ append_due r due = by (next_deed r) refl due
 pub after_told : (word : ℕ) (r : Running) → told (after_step word r).replica ≡ told r.replica
 after_told word r =
     ap told (settle_replica _ (took word r (next_step r))) ∙ step_told word r.replica (next_step r)
+
+-- nor does a take
+pub took_told : (letter : Option (List Entry)) (r : Running)
+    → told (settled (took_letter letter r)).replica ≡ told r.replica
+took_told None r = ap told (settle_replica _ (took_letter None r))
+took_told (Some letter) r =
+    ap told (settle_replica _ (took_letter (Some letter) r)) ∙ join_told r.replica letter
 
 pub appended_told : (o : Outcome) (r : Running) → told (appended_as o r).replica ≡ told r.replica
 appended_told outcomes.Ok r = after_told 0 r
@@ -148,3 +157,63 @@ deeds_ran begun words cells letters os members m r q x more there none to stores
       letters = stored_letters letters q.replica (next_step q);
     })) to
     (deed_ran begun words letters (with_present members m q) m outcomes.Ok q here none caught))))
+
+-- a letter is given
+pub give_ran : (begun : Program) (words : List ℕ) (letters : List (Option (List Entry)))
+    (members : List (Option Running))
+    (m j : ℕ) (r : Running) → present_at members m ≡ Some r → next_deed r ≡ deeds.Give j
+    → IsRanFrom begun (record { members = members; table = words; letters = letters })
+    → IsRanFrom begun (record {
+      members = with_present members m (after_step 0 r);
+      table = words;
+      letters = slice_set letters j (Some (up_to_view r.replica.history));
+    })
+give_ran begun words letters members m j r there next ran =
+    let t = deed_tells words r (deeds.Give j) next in
+    subst (λ ls. IsRanFrom begun (record { members = with_present members m (after_step 0 r); table = words; letters = ls }))
+    (ap (stored_letters letters r.replica) t.says)
+    (subst (λ ws. IsRanFrom begun (record {
+      members = with_present members m (after_step 0 r);
+      table = ws;
+      letters = stored_letters letters r.replica (next_step r);
+    })) (ap (stored words r.replica) t.says)
+    (subst (λ x. IsRanFrom begun (record {
+      members = with_present members m x;
+      table = stored words r.replica (next_step r);
+      letters = stored_letters letters r.replica (next_step r);
+    }))
+    (ap (λ s. after_deed (sight words r.replica s) (slice_index_or letters m None) outcomes.Ok r s) t.says)
+    (deed_ran begun words letters members m outcomes.Ok r there t.none ran)))
+
+-- a letter is taken, where one is there
+pub take_ran : (begun : Program) (words : List ℕ) (letters : List (Option (List Entry)))
+    (members : List (Option Running))
+    (m : ℕ) (r : Running) (letter : Option (List Entry)) → present_at members m ≡ Some r → next_deed r ≡ deeds.Take
+    → letters_of letters m ≡ letter
+    → IsRanFrom begun (record { members = members; table = words; letters = letters })
+    → IsRanFrom begun (record {
+      members = with_present members m (settled (took_letter letter r));
+      table = words;
+      letters = letters;
+    })
+take_ran begun words letters members m r letter there next found ran =
+    let t = deed_tells words r deeds.Take next in
+    subst (λ ls. IsRanFrom begun (record {
+      members = with_present members m (settled (took_letter letter r));
+      table = words;
+      letters = ls;
+    }))
+    (ap (stored_letters letters r.replica) t.says)
+    (subst (λ ws. IsRanFrom begun (record {
+      members = with_present members m (settled (took_letter letter r));
+      table = ws;
+      letters = stored_letters letters r.replica (next_step r);
+    })) (ap (stored words r.replica) t.says)
+    (subst (λ x. IsRanFrom begun (record {
+      members = with_present members m x;
+      table = stored words r.replica (next_step r);
+      letters = stored_letters letters r.replica (next_step r);
+    }))
+    (after_take (next_sight words r) (slice_index_or letters m None) outcomes.Ok r (next_step r) t.says
+    ∙ ap (λ o. settled (took_letter o r)) found)
+    (deed_ran begun words letters members m outcomes.Ok r there t.none ran)))

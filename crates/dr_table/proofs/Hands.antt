@@ -1,14 +1,19 @@
 -- What is known of the members of a hand, as it is dealt, and as hands are cut and put together.
-use Rattle.std.proofs.Common.{◌≡◌, ◌⊎◌, inl, inr, refl, sym, ap, ◌∙◌, subst, ℕ, zero, suc, ◌+◌, ◌-◌, ◌<◌, ◌≤◌, Bool, true, false, true≢false, List, [], ◌∷◌, ◌++◌, length, length-append, length-drop, length-set, length-take, take, drop, replicate, arith}
-use Rattle.std.specs.Prelude.{None, Some, is_some, option_map, Option}
+use Rattle.std.proofs.Common.{◌≡◌, ◌⊎◌, inl, inr, refl, sym, ap, ◌∙◌, subst, ℕ, zero, suc, ◌+◌, ◌-◌, ◌<◌, ◌≤◌, Bool, true, false, true≢false, List, [], ◌∷◌, ◌++◌, get_or, length, map, length-append, length-drop, length-set, length-take, take, drop, replicate, arith}
+use Rattle.std.specs.Prelude.{All, None, Some, is_some, option_map, Option, Vec, slice_get, slice_index, ◌^◌}
+use Rattle.std.specs.declared.alloc.Global.{Global}
 use Rattle.std.proofs.lemmas.Bool.{cases_eq, cases_lt}
-use Rattle.std.proofs.lemmas.List.{get_or_past, length-map}
+use Rattle.std.proofs.lemmas.List.{get_or_default, get_or_past, length-map, length-replicate, replicate-append-replicate}
 use Rattle.std.proofs.lemmas.List.Sums.{sum_by-cons}
-use Rattle.std.proofs.lemmas.Option.{same_Some}
-use Rattle.dr_history.specs.Members.{has}
+use Rattle.std.proofs.lemmas.Option.{same_Some, slice_get_within}
+use Rattle.dr_entry.specs.declared.entry.Entry.{Entry}
+use Rattle.dr_history.specs.Members.{has, members_of}
 use Rattle.dr_history.specs.Order.{AreOfRoster}
-use Rattle.dr_machine.specs.Group.{banks, roster}
-use Rattle.dr_member.specs.Deeds.{is_append}
+use Rattle.dr_machine.proofs.Presence.{in_roster, late_in}
+use Rattle.dr_machine.specs.Group.{banks, late_members, roster}
+use Rattle.dr_member.specs.Deeds.{is_append, table_size}
+use Rattle.dr_program.specs.Form.{IsRunningMember}
+use Rattle.dr_program.specs.Reading.{letters_of}
 use Rattle.dr_program.specs.declared.outcome.Outcome.{Outcome}
 use Rattle.dr_program.specs.declared.outcome.Outcome.TheVariants as outcomes
 use Rattle.dr_program.specs.Presence.{present_at, with_present}
@@ -24,11 +29,20 @@ use Rattle.dr_words.specs.Columns.{columns_of}
 use Rattle.dr_words.proofs.Bits.{has_zero}
 use Rattle.dr_words.proofs.Masks.{same_masks}
 use Rattle.dr_words.proofs.Places.{word_index_within}
+use Rattle.dr_words.proofs.Ranks.{at_rank_of, few_members}
 use Rattle.dr_table.specs.Cards.{AreAtEnd, AreOf, AreReached, Cards, IsAtEnd, opened}
+use Rattle.dr_table.specs.declared.rule.Errand.{Errand}
+use Rattle.dr_table.specs.declared.rule.View.{View}
+use Rattle.dr_table.specs.Slots.{AreLate, HaveSlots, IsBlankList, IsBlankSlot, IsPosted, Slot, slot_number}
 use Rattle.dr_table.specs.Rule.{Found, HasSuchProgram, IsDealt, no_posts, number}
 use Rattle.dr_table.specs.Steps.{AreAhead, HasAppended, IsAhead}
 use Rattle.dr_age.proofs.Deeds.{unended_append}
 use Rattle.dr_table.proofs.Deeds.{append_due}
+use Rattle.dr_table.proofs.Posting.{free}
+use Rattle.dr_table.proofs.Words.{words_small}
+use Rattle.atomic_table.proofs.Lists.{at_index, at_map}
+use mathlib.Core.Option.{some}
+use lib.ListN.{get_elem?}
 use Rattle.dr_table.proofs.Lists.{filled_by, place_append, place_drop, place_front, place_past, place_set, place_take, same_places, take_place}
 
 -- ---- what is so of each member
@@ -211,7 +225,6 @@ dealt_reached dealt d k r there = (
       form = dealt_program dealt d;
       reached = begun_reached d.group d.turns d.setups d.is d.are;
     };
-    nobody = d.nobody;
     there = ap (present_at (begun_program d.group d.setups).members) (dealt_number dealt d k r there)
         ∙ dealt_there dealt d k r there;
   },
@@ -228,11 +241,29 @@ dealt_words dealt d =
     column in
     omega (arith, below)
 
-pub dealt_of : (dealt : List (Option Running)) (d : IsDealt dealt) → AreOf
-    (words_of (roster d.group) d.group.window (banks d.group)) dealt
-dealt_of dealt d k r there =
+-- each of its members knows the number, and that of the board's words
+pub dealt_table : (dealt : List (Option Running)) (d : IsDealt dealt) (k : ℕ) (r : Running)
+    → present_at dealt k ≡ Some r → table_size r ≡ words_of (roster d.group) d.group.window (banks d.group)
+dealt_table dealt d k r there =
     let of = (dealt_program dealt d).of k r (dealt_there dealt d k r there) in
     λ z. words_of (of.members z) (of.window z) (of.banks z)
+
+pub dealt_of : (dealt : List (Option Running)) (d : IsDealt dealt) → AreOf
+    (words_of (roster d.group) d.group.window (banks d.group) + roster d.group) dealt
+dealt_of dealt d k r there =
+    let of = (dealt_program dealt d).of k r (dealt_there dealt d k r there) in
+    λ z. dealt_table dealt d k r there z + of.members z
+
+-- it is in form
+pub dealt_form : (dealt : List (Option Running)) (d : IsDealt dealt) (k : ℕ) (r : Running)
+    → present_at dealt k ≡ Some r → IsRunningMember r
+dealt_form dealt d k r there = (dealt_program dealt d).form k r (dealt_there dealt d k r there)
+
+-- the words of the table are few
+pub dealt_small : (dealt : List (Option Running)) (d : IsDealt dealt)
+    → words_of (roster d.group) d.group.window (banks d.group) < 2 ^ 32
+dealt_small dealt d = words_small (roster d.group) d.group.window (banks d.group) d.is.most_members d.is.most_slots
+    (omega (arith, d.is.most_members, few_members (late_members d.group)))
 
 pub dealt_few : (dealt : List (Option Running)) (d : IsDealt dealt) → length dealt ≡ roster d.group
 dealt_few dealt d = ap length d.begun ∙ length-map d.setups (option_map begun_running) ∙ d.are.all
@@ -273,6 +304,17 @@ dealt_some dealt d =
       ap (λ l. present_at l m) d.begun ∙ present_map begun_running d.setups m ∙ ap (option_map begun_running) at,
     )
 
+-- the members know the late members of the group
+pub dealt_late : (dealt list : List (Option Running)) (d : IsDealt dealt) (late : ℕ) → list ≡ dealt
+    → ((mask k : ℕ) (r : Running) → AreLate mask list → present_at list k ≡ Some r → late ≡ mask)
+    → late ≡ late_members d.group
+dealt_late dealt list d late same is =
+    let (k, r, there) = dealt_some dealt d in
+    is (late_members d.group) k r (λ m q stands.
+    let home = ap (λ l. present_at l m) (sym same) ∙ stands in
+    ((dealt_program dealt d).of m q (dealt_there dealt d m q home)).late)
+    (ap (λ l. present_at l k) same ∙ there)
+
 -- the board opens with the program of the group
 pub dealt_opened : (dealt : List (Option Running)) (d : IsDealt dealt) (words : ℕ)
     → words ≡ words_of (roster d.group) d.group.window (banks d.group)
@@ -289,19 +331,101 @@ none_ran : (begun p : Program) → p ≡ begun → IsRanFrom begun p
 unfolding ran
 none_ran begun p same = ([], same)
 
+-- a list of zeros, and one of nothing
+zeros_read : (n i : ℕ) → slice_index (replicate n 0) i ≡ 0
+zeros_read zero i = refl
+zeros_read (suc n) zero = refl
+zeros_read (suc n) (suc i) = zeros_read n i
+
+none_read : {X : Type 0} (n i : ℕ) → ◌≡◌ {A = Option X} (present_at (replicate n None) i) None
+none_read zero i = refl
+none_read (suc n) zero = refl
+none_read (suc n) (suc i) = none_read n i
+
+-- what is in a slot of blank lists
+blank_there : (room : ℕ) (slots : List Slot) (i : ℕ) → i < length slots → All (IsBlankSlot room) slots
+    → (list : Vec Entry Global) × (get_elem? (map some slots) i ≡ some (some (Some list))) × IsBlankList room list
+blank_there room slots i within all = by (get_or slots i None) refl (all i None within)
+  where
+    by : (o : Slot) → get_or slots i None ≡ o → IsBlankSlot room o
+        → (list : Vec Entry Global) × (get_elem? (map some slots) i ≡ some (some (Some list))) × IsBlankList room list
+    by None same blank = absurd blank
+    by (Some list) same blank = (
+      list,
+      at_map some slots i (Some list)
+          (at_index slots i (Some list) within (sym same ∙ get_or_default slots i None (Some list) within)),
+      blank,
+    )
+
+-- the slots of an age as it opens: for each late member one with a blank list, with room for each history
+pub record AreBlank (dealt : List (Option Running)) (late most : ℕ) (slots : List Slot) : Type 0 where
+  pub count : length slots ≡ length (members_of late)
+  pub blank : All (IsBlankSlot most) slots
+  pub room : (m : ℕ) (r : Running) → present_at dealt m ≡ Some r → r.replica.room ≤ most
+
+slots_dealt : (dealt : List (Option Running)) (d : IsDealt dealt) (n room : ℕ) (slots : List Slot)
+    → AreBlank dealt (late_members d.group) room slots
+    → HaveSlots d.group dealt (no_posts dealt) room (replicate n 0) (map some slots) (free dealt ∷ [])
+slots_dealt dealt d n room slots are = record {
+  late = λ j late.
+      let rank = at_rank_of (late_members d.group) j
+      (omega (arith, in_roster d.group j d.is (late_in d.group j d.is late).0, d.is.most_members)) late in
+      subst (λ word. IsPosted room word (get_elem? (map some slots) (slot_number (late_members d.group) j))
+      (letters_of (no_posts dealt) j)) (sym (zeros_read n j))
+      (record {
+        yet = λ below. none_read (length dealt) j;
+        there = λ two. absurd (omega (arith, two));
+        blank = λ none. blank_there room slots (slot_number (late_members d.group) j)
+            (omega (
+              arith,
+              are.count,
+              slice_get_within (members_of (late_members d.group))
+                  (slot_number (late_members d.group) j) j rank,
+            )) are.blank;
+        full = λ two. absurd (omega (arith, two));
+        empty = λ four. absurd (omega (arith, four));
+        away = λ out. absurd (neither out);
+        last = omega arith;
+      });
+  others = λ j no. zeros_read n j;
+  abouts = λ s u e at busy. absurd (first s u e at busy);
+  out = λ j out. absurd (neither (which (slice_index (replicate n 0) j) (zeros_read n j) out));
+  joined = λ j r four there. absurd (omega (arith, zeros_read n j, four));
+  room = are.room;
+}
+  where
+    neither : ◌≡◌ {A = ℕ} 0 1 ⊎ ◌≡◌ {A = ℕ} 0 3 → ⊥
+    neither (inl one) = omega (arith, one)
+    neither (inr three) = omega (arith, three)
+
+    which : (a : ℕ) → a ≡ 0 → (a ≡ 1) ⊎ (a ≡ 3) → ◌≡◌ {A = ℕ} 0 1 ⊎ ◌≡◌ {A = ℕ} 0 3
+    which a none (inl one) = inl (sym none ∙ one)
+    which a none (inr three) = inr (sym none ∙ three)
+
+    first : (s : ℕ) (u : View) (e : Errand) → slice_get (free dealt ∷ []) s ≡ Some u → u.errand ≡ Some e → ⊥
+    first zero u e at busy = cc (ap (λ (z : View). z.errand) (same_Some (free dealt) u at), busy)
+    first (suc s) u e at busy = cc at
+
 -- the rule holds as the members are dealt, in one hand
-pub dealt_kept : (dealt : List (Option Running)) (d : IsDealt dealt) (words : ℕ)
+pub dealt_kept : (dealt : List (Option Running)) (d : IsDealt dealt) (words room : ℕ) (slots : List Slot)
     → words ≡ words_of (roster d.group) d.group.window (banks d.group)
-    → HasSuchProgram dealt (replicate words 0) (dealt ∷ [])
-dealt_kept dealt d words same = record {
+    → AreBlank dealt (late_members d.group) room slots
+    → HasSuchProgram dealt (replicate (words + length dealt) 0) (map some slots) (free dealt ∷ [])
+dealt_kept dealt d words room slots same are = record {
   opening = d;
   members = dealt;
+  table = replicate words 0;
+  letters = no_posts dealt;
+  flags = replicate (length dealt) 0;
+  most = room;
   ran = none_ran (begun_program d.group d.setups) (record {
     members = dealt;
     table = replicate words 0;
     letters = no_posts dealt;
   })
       (dealt_opened dealt d words same);
+  laid = sym (replicate-append-replicate words (length dealt) 0);
+  all = length-replicate (length dealt) 0 ∙ dealt_few dealt d;
   stands = record {
     each = λ s a r f. let at = only s a r f in
         ap (present_at dealt) (dealt_number dealt d a r at.1) ∙ at.1;
@@ -312,6 +436,7 @@ dealt_kept dealt d words same = record {
     all = λ k r there. (0, k, r, (dealt, refl, there), dealt_number dealt d k r there);
   };
   places = omega (arith, sum_by-cons length dealt []);
+  slots = slots_dealt dealt d (length dealt) room slots are;
 }
   where
     only : (s a : ℕ) (r : Running) → Found (dealt ∷ []) s a r → (s ≡ 0) × (present_at dealt a ≡ Some r)
@@ -322,19 +447,25 @@ dealt_kept dealt d words same = record {
 
 -- the number of words that the members count is that of the group's table
 pub dealt_size : (dealt list : List (Option Running)) (d : IsDealt dealt) (size : ℕ) → list ≡ dealt
-    → ((words k : ℕ) (r : Running) → AreOf words list → present_at list k ≡ Some r → size ≡ words)
+    → ((words k : ℕ) (r : Running)
+    → ((m : ℕ) (q : Running) → present_at list m ≡ Some q → table_size q ≡ words)
+    → present_at list k ≡ Some r → size ≡ words)
     → size ≡ words_of (roster d.group) d.group.window (banks d.group)
 dealt_size dealt list d size same is =
     let (k, r, there) = dealt_some dealt d in
     let words = words_of (roster d.group) d.group.window (banks d.group) in
-    is words k r (subst (AreOf words) (sym same) (dealt_of dealt d)) (ap (λ l. present_at l k) same ∙ there)
+    is words k r (λ m q stands. dealt_table dealt d m q (ap (λ l. present_at l m) (sym same) ∙ stands))
+    (ap (λ l. present_at l k) same ∙ there)
 
-pub board_opened : (inside board : Cards) → inside ≡ board → (d : IsDealt inside.members)
-    → AreOf inside.table.id.words inside.members → opened board ≡ begun_program d.group d.setups
-board_opened inside board is d are =
+pub board_opened : (inside board : Cards) → inside ≡ board → inside.table.places ≡ length inside.members
+    → (d : IsDealt inside.members) → AreOf inside.table.id.words inside.members
+    → opened board ≡ begun_program d.group d.setups
+board_opened inside board is places d are =
     let (k, r, there) = dealt_some inside.members d in
-    ap opened (sym is) ∙ dealt_opened inside.members d inside.table.id.words
-    (sym (are k r there) ∙ dealt_of inside.members d k r there)
+    let size = sym (are k r there) ∙ dealt_of inside.members d k r there in
+    ap opened (sym is)
+    ∙ dealt_opened inside.members d (inside.table.id.words - inside.table.places)
+    (omega (arith, size, places, dealt_few inside.members d))
 
 pub ahead_same : (v rs : List (Option Running)) → v ≡ rs → AreAhead v rs
 ahead_same v rs same = record {

@@ -1,7 +1,15 @@
 pub mod Lists
+pub mod Words
 pub mod Places
 pub mod Deeds
+pub mod Later
+pub mod Seats
+pub mod Errands
+pub mod Welcoming
+pub mod Posting
 pub mod Keeping
+pub mod Exchanges
+pub mod Holding
 pub mod Cuts
 pub mod Room
 pub mod Hands

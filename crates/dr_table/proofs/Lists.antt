@@ -1,8 +1,8 @@
 -- Elements of lists by their positions: of lists with one element replaced, cut in two, and put together.
-use Rattle.std.proofs.Common.{◌≡◌, ◌≢◌, ◌⊎◌, inl, inr, refl, sym, ap, ◌∙◌, ℕ, zero, suc, ◌+◌, ◌-◌, ◌<◌, ◌≤◌, true, List, [], ◌∷◌, ◌++◌, length, take, drop, arith}
+use Rattle.std.proofs.Common.{◌≡◌, ◌≢◌, ◌⊎◌, inl, inr, refl, sym, ap, ◌∙◌, ℕ, zero, suc, ◌+◌, ◌-◌, ◌<◌, ◌≤◌, true, List, [], ◌∷◌, ◌++◌, length, take, drop, slice_index, arith}
 use Rattle.std.specs.Prelude.{None, Option, Some, is_some, slice_get, slice_set, sum_by}
 use Rattle.std.proofs.lemmas.Bool.{cases_lt}
-use Rattle.std.proofs.lemmas.List.{ext_get_or, get_or_past, set-get_or}
+use Rattle.std.proofs.lemmas.List.{ext_get_or, get_or_append_left, get_or-append_right, get_or_past, set-append_left, set-append_right, set-get_or}
 use Rattle.std.proofs.lemmas.List.Sums.{sum_by-set}
 use Rattle.std.proofs.lemmas.Option.{get_or_from_slice_get, same_Some, slice_get_within}
 use Rattle.dr_program.specs.Presence.{present_at, with_present}
@@ -42,6 +42,33 @@ sum_again f xs i x y there same = omega (
   ap f (get_or_from_slice_get xs i x x there),
   sum_by-set f xs i y x (slice_get_within xs i x there),
 )
+
+-- ---- numbers behind a list
+
+-- a number that stands in a list stands there too with others behind it
+pub front_read : (xs ys : List ℕ) (i : ℕ) → i < length xs → slice_index (xs ++ ys) i ≡ slice_index xs i
+front_read xs ys i within = get_or_append_left xs ys 0 i within
+
+pub front_set : (xs ys : List ℕ) (i x : ℕ) → i < length xs → slice_set (xs ++ ys) i x ≡ slice_set xs i x ++ ys
+front_set xs ys i x within = set-append_left xs ys i x within
+
+-- those behind it stand so much later
+pub behind_read : (xs ys : List ℕ) (i j : ℕ) → i ≡ length xs + j → slice_index (xs ++ ys) i ≡ slice_index ys j
+behind_read xs ys i j is =
+    let at : i - length xs ≡ j = omega (arith, is) in
+    get_or-append_right xs ys (length xs) i 0 refl (omega (arith, is)) ∙ ap (slice_index ys) at
+
+pub behind_set : (xs ys : List ℕ) (i j x : ℕ) → i ≡ length xs + j
+    → slice_set (xs ++ ys) i x ≡ xs ++ slice_set ys j x
+behind_set xs ys i j x is =
+    let at : i - length xs ≡ j = omega (arith, is) in
+    set-append_right xs ys (length xs) i x refl (omega (arith, is)) ∙ ap (λ k. xs ++ slice_set ys k x) at
+
+-- ---- slots
+
+-- what the table reads in a list is within it
+pub slot_within : {X : Type 0} (xs : List X) (i : ℕ) (x : X) → get_elem? xs i ≡ some x → i < length xs
+slot_within xs i x there = slice_get_within xs i x (by_table xs i x there)
 
 -- ---- lists of places that may be empty
 

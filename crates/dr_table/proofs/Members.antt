@@ -1,20 +1,24 @@
 -- A member of a hand takes a step or appends: what the hand knows then, and what its contracts say of it.
-use Rattle.std.proofs.Common.{◌≡◌, sym, ap, ◌∙◌, subst, ℕ, ◌<◌, true, true≢false, List, [], get_or, length, arith}
+use Rattle.std.proofs.Common.{◌≡◌, sym, ap, ◌∙◌, subst, ℕ, ◌+◌, ◌<◌, true, true≢false, List, get_or, length, arith}
 use Rattle.std.specs.Prelude.{None, Some, is_some, vec_capacity, Option}
 use Rattle.std.proofs.lemmas.List.{get_or_default}
 use Rattle.std.proofs.lemmas.Option.{same_Some}
 use Rattle.atomic_table.specs.Seated.{TableId}
-use Rattle.dr_member.specs.Deeds.{is_append, table_size}
+use Rattle.atomic_table.specs.Table.{Me}
+use Rattle.dr_member.specs.Deeds.{is_append}
 use Rattle.dr_program.specs.declared.outcome.Outcome.{Outcome}
 use Rattle.dr_program.specs.Program.{appended_as}
-use Rattle.dr_program.specs.Running.{Running, next_deed}
+use Rattle.dr_entry.specs.declared.entry.Entry.{Entry}
+use Rattle.dr_program.specs.Running.{Running, next_deed, settled, took_letter}
 use Rattle.dr_program.proofs.Fixed.{Told, told}
 use Rattle.dr_words.specs.Layout.{words_of}
 use Rattle.dr_turn.specs.Work.{deeds_left}
-use Rattle.dr_table.specs.Cards.{AreOf, AreReached, Cards, HasFewerLeft}
+use Rattle.dr_table.specs.Cards.{AreOf, AreReached, Cards, HasFewerLeft, HasAskedForLetter, board_size}
+use Rattle.dr_table.specs.declared.rule.View.{View}
+use Rattle.dr_table.specs.Slots.{Slot}
 use Rattle.dr_table.specs.declared.hand.Hand.TheInside.{Inside}
 use Rattle.dr_table.specs.Inside.{IsInsideHand, cards_of}
-use Rattle.dr_table.specs.Steps.{AreAhead, IsAhead, IsReachedMember}
+use Rattle.dr_table.specs.Steps.{AreAhead, IsAhead, IsReachedMember, MayTake, idle}
 use Rattle.dr_table.proofs.Deeds.{appended_told}
 use Rattle.dr_table.proofs.Hands.{ahead_more, ahead_set, each_set}
 use Rattle.dr_table.proofs.Keeping.{append_reached}
@@ -73,19 +77,24 @@ only {m = m} {r = r} s stands = same_Some m r (sym (there s) ∙ stands)
 of_step : (n k : ℕ) (rs : List (Option Running)) (at : ℕ) (r x : Running) → n ≡ k → AreOf n rs
     → present_at rs at ≡ Some r → told x.replica ≡ told r.replica → AreOf k (with_present rs at x)
 of_step n k rs at r x words are here same =
-    each_set (λ q. table_size q ≡ k) rs at x
-    (ap (λ (t : Told). words_of t.roster t.window t.banks) same ∙ are at r here ∙ words)
+    each_set (λ q. board_size q ≡ k) rs at x
+    (ap (λ (t : Told). words_of t.roster t.window t.banks + t.roster) same ∙ are at r here ∙ words)
     (λ j q there. are j q there ∙ words)
+
+-- a seat that is about nothing has these members
+pub idle_is : (me : Me Slot View) (members : List (Option Running)) → me ≡ idle members
+    → me ≡ idle me.0.members
+idle_is me members is = is ∙ ap idle (sym (ap (λ (m : Me Slot View). m.0.members) is))
 
 -- the hand keeps what it knows, behind a step of its seat or an append
 pub inside_after : {h : Inside} {hand : Cards} {at : ℕ} {m : Running} (k : Inside) (x : Running)
     → StandsAt h hand at m → told x.replica ≡ told m.replica → IsReachedMember x
     → k.members.items ≡ with_present h.members.items at x → vec_capacity k.members ≡ vec_capacity h.members → k.places ≡ h.places
-    → k.seat.table_id ≡ h.seat.table_id → k.seat.me.1 ≡ []
-    → AreAhead k.seat.me.0 (with_present h.members.items at x) → IsInsideHand k
-inside_after {h} {hand} {at} {m} k x s same reached items room places table slots ahead = record {
-  ahead = subst (AreAhead k.seat.me.0) (sym items) ahead;
-  slots = slots;
+    → k.seat.table_id ≡ h.seat.table_id → k.seat.me ≡ idle k.seat.me.0.members
+    → AreAhead k.seat.me.0.members (with_present h.members.items at x) → IsInsideHand k
+inside_after {h} {hand} {at} {m} k x s same reached items room places table free ahead = record {
+  ahead = subst (AreAhead k.seat.me.0.members) (sym items) ahead;
+  idle = free;
   reached = subst AreReached (sym items) (each_set IsReachedMember h.members.items at x reached s.is.reached);
   of = subst (AreOf k.seat.table_id.words) (sym items) (of_step h.seat.table_id.words k.seat.table_id.words
       h.members.items at m x (ap (λ (t : TableId). t.words) (sym table)) s.is.of s.here same);
@@ -97,12 +106,14 @@ inside_after {h} {hand} {at} {m} k x s same reached items room places table slot
 pub stepped_inside : {h : Inside} {hand : Cards} {at : ℕ} {m : Running} (k : Inside) (r x : Running)
     → StandsAt h hand at m → told x.replica ≡ told m.replica → IsReachedMember x
     → k.members.items ≡ with_present h.members.items at x → vec_capacity k.members ≡ vec_capacity h.members → k.places ≡ h.places
-    → k.seat.table_id ≡ h.seat.table_id → k.seat.me.1 ≡ []
-    → k.seat.me.0 ≡ with_present h.seat.me.0 at r → IsAhead r x → IsInsideHand k
-stepped_inside {h} {hand} {at} {m} k r x s same reached items room places table slots to ahead =
-    inside_after k x s same reached items room places table slots
-    (subst (λ v. AreAhead v (with_present h.members.items at x)) (sym to)
-    (ahead_set h.seat.me.0 h.members.items at r x ahead s.is.ahead))
+    → k.seat.table_id ≡ h.seat.table_id → k.seat.me ≡ idle (with_present h.seat.me.0.members at r)
+    → IsAhead r x → IsInsideHand k
+stepped_inside {h} {hand} {at} {m} k r x s same reached items room places table to ahead =
+    inside_after k x s same reached items room places table
+    (idle_is k.seat.me (with_present h.seat.me.0.members at r) to)
+    (subst (λ v. AreAhead v (with_present h.members.items at x))
+    (sym (ap (λ (me : Me Slot View). me.0.members) to))
+    (ahead_set h.seat.me.0.members h.members.items at r x ahead s.is.ahead))
 
 -- where the member has appended, however that went
 pub appended_inside : {h : Inside} {hand : Cards} {at : ℕ} {m : Running} (k : Inside) (o : Outcome)
@@ -112,10 +123,11 @@ pub appended_inside : {h : Inside} {hand : Cards} {at : ℕ} {m : Running} (k : 
 appended_inside {h} {hand} {at} {m} k o x s due to items room places seat =
     inside_after k x s (ap (λ (q : Running). told q.replica) to ∙ appended_told o m)
     (subst IsReachedMember (sym to) (append_reached m o due (s.is.reached at m s.here))) items room places
-    (ap (λ y. y.table_id) seat) (ap (λ y. y.me.1) seat ∙ s.is.slots)
-    (subst (λ y. AreAhead y.me.0 (with_present h.members.items at x)) (sym seat)
-    (subst (λ q. AreAhead h.seat.me.0 (with_present h.members.items at q)) (sym to)
-    (ahead_more h.seat.me.0 h.members.items at m o s.is.ahead s.here due)))
+    (ap (λ y. y.table_id) seat)
+    (idle_is k.seat.me h.seat.me.0.members (ap (λ y. y.me) seat ∙ s.is.idle))
+    (subst (λ y. AreAhead y.me.0.members (with_present h.members.items at x)) (sym seat)
+    (subst (λ q. AreAhead h.seat.me.0.members (with_present h.members.items at q)) (sym to)
+    (ahead_more h.seat.me.0.members h.members.items at m o s.is.ahead s.here due)))
 
 -- ---- what contracts say
 
@@ -124,6 +136,16 @@ pub went_so : {h : Inside} {hand : Cards} {at : ℕ} {m : Running} (f : Running 
     → StandsAt h hand at m → x ≡ f m → (r : Running) → present_at hand.members at ≡ Some r
     → with_present h.members.items at x ≡ with_present hand.members at (f r)
 went_so {at = at} f x s to r stands = λ k. with_present (s.items k) at ((to ∙ ap f (only s stands)) k)
+
+-- where it has taken its letter
+pub took_so : {h : Inside} {hand : Cards} {at : ℕ} {m : Running} (x : Running) (letter : Option (List Entry))
+    → StandsAt h hand at m → x ≡ settled (took_letter letter m) → MayTake m letter
+    → HasAskedForLetter hand.members at (with_present h.members.items at x)
+took_so {at = at} x letter s to may r stands = (
+  letter,
+  subst (λ q. MayTake q letter) (only s stands) may,
+  λ k. with_present (s.items k) at ((to ∙ ap (λ q. settled (took_letter letter q)) (only s stands)) k),
+)
 
 -- it has fewer deeds left
 pub fewer : {h : Inside} {hand : Cards} {at : ℕ} {m : Running} (x : Running) → StandsAt h hand at m

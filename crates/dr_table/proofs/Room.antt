@@ -11,43 +11,51 @@ use Rattle.dr_program.specs.Running.{Running, begun_running}
 use Rattle.dr_program.proofs.Present.{present_map, present_within}
 use Rattle.dr_refine.specs.Programs.{IsProgram}
 use Rattle.dr_table.specs.Cards.{AreSame}
-use Rattle.dr_table.specs.Rule.{HasSuchProgram, no_posts, number}
+use Rattle.dr_table.specs.declared.rule.View.{View}
+use Rattle.dr_table.specs.Rule.{HasSuchProgram, hands, number}
+use Rattle.dr_table.specs.Slots.{Slot}
 use Rattle.dr_table.proofs.Hands.{dealt_few, dealt_number}
-use Rattle.dr_table.proofs.Keeping.{kept_program}
 use Rattle.dr_table.proofs.Lists.{by_table, same_places, set_again}
+use Rattle.dr_table.proofs.Posting.{kept, sound}
+use Rattle.dr_table.proofs.Seats.{hands_get}
+use mathlib.Core.Option.{Option as Maybe}
 
-few : (dealt : List (Option Running)) (words : List ℕ) (views : List (List (Option Running))) (id : ℕ)
-    (v : List (Option Running)) → slice_get views id ≡ Some v → HasSuchProgram dealt words views
-    → length v ≤ length dealt
-few dealt words views id v is k = omega (
-  arith,
-  get_or-le-sum_by length views id v (slice_get_within views id v is),
-  ap length (get_or_from_slice_get views id v v is),
-  k.places,
-)
+few : (dealt : List (Option Running)) (words : List ℕ) (homes : List (Maybe Slot)) (views : List View) (id : ℕ)
+    (v : View) → slice_get views id ≡ Some v → HasSuchProgram dealt words homes views
+    → length v.members ≤ length dealt
+few dealt words homes views id v is k =
+    let mine = hands_get views id v is in omega (
+      arith,
+      get_or-le-sum_by length (hands views) id v.members (slice_get_within (hands views) id v.members mine),
+      ap length (get_or_from_slice_get (hands views) id v.members v.members mine),
+      k.places,
+    )
 
-pub count_allowed : (dealt : List (Option Running)) (slots id n : ℕ) (me : Me ℕ (List (Option Running)))
+pub count_allowed : (dealt : List (Option Running)) (slots id n : ℕ) (me : Me Slot View)
     → length dealt ≡ n
-    → Allows {S = ℕ} {V = List (Option Running)} (λ s. HasSuchProgram dealt s.words s.views) slots id me 0 (λ n. n)
-    (λ _ w. (w ≡ me) × (length me.0 ≤ n))
+    → Allows {S = Slot} {V = View} (λ s. HasSuchProgram dealt s.words s.homes s.views) slots id me 0 (λ n. n)
+    (λ _ w. (w ≡ me) × (length me.0.members ≤ n))
 count_allowed dealt slots id n me many s k _ is _ =
     let home = by_table s.views id me.0 is in (
       me.0,
       keeps,
       tt,
-      subst (λ ws. HasSuchProgram dealt ws (slice_set s.views id me.0)) (sym (set-get_or s.words 0 0))
-          (subst (λ vs. HasSuchProgram dealt s.words vs) (sym (set_again s.views id me.0 home)) k),
-      (refl, subst (λ most. length me.0 ≤ most) many (few dealt s.words s.views id me.0 home k)),
+      subst (λ ws. HasSuchProgram dealt ws s.homes (slice_set s.views id me.0)) (sym (set-get_or s.words 0 0))
+          (subst (λ vs. HasSuchProgram dealt s.words s.homes vs) (sym (set_again s.views id me.0 home)) k),
+      (
+        refl,
+        subst (λ most. length me.0.members ≤ most) many (few dealt s.words s.homes s.views id me.0 home k),
+      ),
     )
 
 -- a hand that holds the dealt members, in their order, holds those of the program
-pub whole : (dealt : List (Option Running)) (words : List ℕ) (views : List (List (Option Running))) (id : ℕ)
-    (v : List (Option Running)) → slice_get views id ≡ Some v → AreSame dealt v → (k : HasSuchProgram dealt words views)
-    → k.members ≡ v
-whole dealt words views id v is same k = same_places k.members v lengths filled here
+pub whole : (dealt : List (Option Running)) (words : List ℕ) (homes : List (Maybe Slot)) (views : List View) (id : ℕ)
+    (v : List (Option Running)) → slice_get (hands views) id ≡ Some v → AreSame dealt v
+    → (k : HasSuchProgram dealt words homes views) → k.members ≡ v
+whole dealt words homes views id v is same k = same_places k.members v lengths filled here
   where
-    form : IsProgram k.opening.group (record { members = k.members; table = words; letters = no_posts dealt })
-    form = (kept_program dealt words views k (record { members = k.members; table = words; letters = no_posts dealt }) k.ran).0
+    form : IsProgram k.opening.group (kept k)
+    form = (sound k).form
 
     lengths : length k.members ≡ length v
     lengths = form.all ∙ sym (dealt_few dealt k.opening) ∙ sym (length-map dealt (option_map number))

@@ -1,5 +1,5 @@
 -- Sweeps: what a hand knows as one begins, as it goes on, and as it ends.
-use Rattle.std.proofs.Common.{◌≡◌, refl, sym, ap, ◌∙◌, subst, ℕ, List, [], ◌∷◌, ◌++◌, set-set}
+use Rattle.std.proofs.Common.{◌≡◌, refl, sym, ap, ◌∙◌, subst, ℕ, ◌+◌, List, [], ◌∷◌, ◌++◌, set-set}
 use Rattle.std.specs.Prelude.{Option, Some, vec_capacity}
 use Rattle.dr_program.specs.declared.deed.Deed.TheVariants as deeds
 use Rattle.dr_program.specs.Running.{Running, after_step, next_deed}
@@ -9,7 +9,7 @@ use Rattle.dr_table.specs.Cards.{Cards}
 use Rattle.dr_table.specs.Deeds.{IsStore}
 use Rattle.dr_table.specs.declared.hand.Hand.TheInside.{Inside}
 use Rattle.dr_table.specs.Inside.{IsInsideHand}
-use Rattle.dr_table.specs.Steps.{IsReachedMember, MayFind}
+use Rattle.dr_table.specs.Steps.{IsReachedMember, MayFind, idle}
 use Rattle.dr_table.specs.Sweeps.{HasComeBySweep, HasSwept, HasTaken, IsSwept}
 use Rattle.dr_table.proofs.Deeds.{after_told, stores}
 use Rattle.dr_table.proofs.Hands.{seat_has}
@@ -34,12 +34,12 @@ taken_told (word ∷ words) r q (swept, found, rest) =
 
 -- no deed was taken yet
 pub come_begins : {h : Inside} {hand : Cards} {at : ℕ} {m : Running} → StandsAt h hand at m
-    → HasComeBySweep h.seat.table_id.words h.seat.me.0 m h.seat.me.0 at m
+    → HasComeBySweep h.seat.table_id.words h.seat.me.0.members m h.seat.me.0.members at m
 come_begins {h} {hand} {at} {m} s =
-    let (r, there, ahead) = seat_has h.seat.me.0 h.members.items at m s.is.ahead s.here in
+    let (r, there, ahead) = seat_has h.seat.me.0.members h.members.items at m s.is.ahead s.here in
     record {
       taken = ([], refl);
-      seat = (r, ahead, there, sym (again h.seat.me.0 at r there));
+      seat = (r, ahead, there, sym (again h.seat.me.0.members at r there));
       reached = s.is.reached at m s.here;
       of = s.is.of at m s.here;
     }
@@ -62,7 +62,7 @@ come_on size v from w u at q word come swept found to reached =
         to ∙ ap (λ l. with_present l at x) is ∙ set-set v at (Some r) (Some x),
       );
       reached = reached;
-      of = ap (λ (t : Told). words_of t.roster t.window t.banks) (after_told word q) ∙ come.of;
+      of = ap (λ (t : Told). words_of t.roster t.window t.banks + t.roster) (after_told word q) ∙ come.of;
     }
 
 -- a push sees nothing, which its member may find
@@ -83,12 +83,15 @@ push_swept q index new next = subst IsSwept (sym next) tt
 -- the hand keeps what it knows
 pub swept_inside : {h : Inside} {hand : Cards} {at : ℕ} {m : Running} (k : Inside) (x : Running)
     → StandsAt h hand at m → k.members.items ≡ with_present h.members.items at x
-    → vec_capacity k.members ≡ vec_capacity h.members → k.places ≡ h.places → k.seat.table_id ≡ h.seat.table_id → k.seat.me.1 ≡ []
-    → HasComeBySweep k.seat.table_id.words h.seat.me.0 m k.seat.me.0 at x → IsInsideHand k
-swept_inside {m = m} k x s items room places table slots come =
+    → vec_capacity k.members ≡ vec_capacity h.members → k.places ≡ h.places
+    → k.seat.table_id ≡ h.seat.table_id
+    → k.seat.me ≡ idle k.seat.me.0.members
+    → HasComeBySweep k.seat.table_id.words h.seat.me.0.members m k.seat.me.0.members at x → IsInsideHand k
+swept_inside {m = m} k x s items room places table free come =
     let (words, taken) = come.taken in
     let (r, ahead, there, to) = come.seat in
-    stepped_inside k r x s (taken_told words m x taken) come.reached items room places table slots to ahead
+    stepped_inside k r x s (taken_told words m x taken) come.reached items room places table
+    (free ∙ ap idle to) ahead
 
 -- what the member has become, where it stood
 pub went_sweeping : {h : Inside} {hand : Cards} {at : ℕ} {m : Running} (x : Running) → StandsAt h hand at m

@@ -1,12 +1,13 @@
 -- What contracts see of boards and hands.
-use Rattle.std.specs.Prelude.{◌≡◌, ◌<◌, ℕ, IsTrue, List, is_some, map, replicate, Some, Option, option_map}
+use Rattle.std.specs.Prelude.{◌≡◌, ◌<◌, ◌+◌, ◌-◌, ℕ, IsTrue, List, is_some, map, replicate, Some, Option, option_map}
+use Rattle.dr_entry.specs.declared.entry.Entry.{Entry}
 use Rattle.atomic_table.specs.Seated.{TableId}
 use Rattle.dr_member.specs.Deeds.{table_size}
 use Rattle.dr_program.specs.Program.{Program}
-use Rattle.dr_program.specs.Running.{Running, after_step}
+use Rattle.dr_program.specs.Running.{Running, after_step, settled, took_letter}
 use Rattle.dr_turn.specs.Work.{deeds_left}
 use Rattle.dr_table.specs.Rule.{no_posts, number}
-use Rattle.dr_table.specs.Steps.{IsReachedMember}
+use Rattle.dr_table.specs.Steps.{IsReachedMember, MayTake}
 use Rattle.dr_program.specs.Presence.{present_at, with_present}
 
 -- which table it is, and how many places were dealt over it
@@ -20,17 +21,22 @@ pub record Cards : Type 0 where
   pub table : DealtTable
   pub members : List (Option Running)
 
--- the program as the age opens: the dealt members, over words that are all 0, without letters
+-- the program as the age opens: the dealt members, over words that are all 0, without letters. One word more for each
+-- of its places stands behind its table
 abbrev pub opened : Cards → Program
 opened board = record {
   members = board.members;
-  table = replicate board.table.id.words 0;
+  table = replicate (board.table.id.words - board.table.places) 0;
   letters = no_posts board.members;
 }
 
--- the members know the number of the table's words
+-- the words of a board with this member: those of the table, and one for each member of the roster
+abbrev pub board_size : Running → ℕ
+board_size r = table_size r + r.replica.roster
+
+-- the members know the number of the board's words
 abbrev pub AreOf : ℕ → List (Option Running) → Type 0
-AreOf words members = (k : ℕ) (r : Running) → present_at members k ≡ Some r → table_size r ≡ words
+AreOf words members = (k : ℕ) (r : Running) → present_at members k ≡ Some r → board_size r ≡ words
 
 -- what is so of the member at this place
 abbrev pub AtPlace : List (Option Running) → ℕ → (Running → Type 0) → Type 0
@@ -54,6 +60,11 @@ AreSame before after = map (option_map number) after ≡ map (option_map number)
 -- the member at this place of a hand has done what it was due to do, and saw nothing
 abbrev pub HasGoneOn : List (Option Running) → ℕ → List (Option Running) → Type 0
 HasGoneOn old at new = (r : Running) → present_at old at ≡ Some r → new ≡ with_present old at (after_step 0 r)
+
+-- the member at this place has taken its letter, or found none: some such program has just that for it
+abbrev pub HasAskedForLetter : List (Option Running) → ℕ → List (Option Running) → Type 0
+HasAskedForLetter old at new = (r : Running) → present_at old at ≡ Some r → (letter : Option (List Entry))
+    × MayTake r letter × (new ≡ with_present old at (settled (took_letter letter r)))
 
 -- it has fewer deeds left to do
 abbrev pub HasFewerLeft : List (Option Running) → ℕ → List (Option Running) → Type 0

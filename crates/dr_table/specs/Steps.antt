@@ -1,20 +1,36 @@
 -- What steps make of the members of a seat, and what they tell.
-use Rattle.std.specs.Prelude.{◌≡◌, ℕ, true, List, [], ◌∷◌, length, None, Some, Option, is_some}
+use Rattle.std.specs.Prelude.{◌≡◌, ◌≢◌, ◌⊎◌, ℕ, true, List, [], ◌∷◌, length, None, Some, Option, Vec, is_some}
+use Rattle.std.specs.declared.alloc.Global.{Global}
+use Rattle.atomic_table.specs.Table.{Me}
 use Rattle.dr_age.specs.Sound.{IsSound}
-use Rattle.dr_history.specs.Soundness.{IsNobodyLate}
+use Rattle.dr_entry.specs.declared.entry.Entry.{Entry}
 use Rattle.dr_machine.specs.Group.{Group}
 use Rattle.dr_machine.specs.World.{no_value}
 use Rattle.dr_member.specs.Deeds.{is_append}
 use Rattle.dr_program.specs.declared.outcome.Outcome.{Outcome}
-use Rattle.dr_program.specs.Program.{Program, appended_as, next_sight}
-use Rattle.dr_program.specs.Running.{Running, after_step, next_deed}
+use Rattle.dr_program.specs.Program.{Program, appended_as, letter_for, next_sight}
+use Rattle.dr_program.specs.Running.{Running, after_step, next_deed, settled, took_letter}
+use Rattle.dr_table.specs.declared.rule.Errand.{Errand}
+use Rattle.dr_table.specs.declared.rule.View.{View}
 use Rattle.dr_table.specs.Rule.{number}
+use Rattle.dr_table.specs.Slots.{IsBlankList, Slot, slot_number}
 use Rattle.dr_program.specs.Presence.{present_at, with_present}
 
--- r is a member of this sound program of the group, in which nobody is late
+-- a seat with these members that is about no letter and holds no slot
+abbrev pub idle : List (Option Running) → Me Slot View
+idle members = (record { members = members; errand = None }, [])
+
+-- a seat with these members that is about this letter and holds these slots
+abbrev pub busy : List (Option Running) → Errand → List (ℕ × Slot) → Me Slot View
+busy members e slots = (record { members = members; errand = Some e }, slots)
+
+-- the seat holds the slot of the late member whose letter it is about, with this in it, and nothing else
+abbrev pub holds_slot : Running → Errand → Slot → List (ℕ × Slot)
+holds_slot r e slot = (slot_number r.replica.late e.late, slot) ∷ []
+
+-- r is a member of this sound program of the group
 pub record IsOfProgram (g : Group) (p : Program) (r : Running) : Type 0 where
   pub sound : IsSound g p
-  pub nobody : IsNobodyLate g.opening
   pub there : present_at p.members (number r) ≡ Some r
 
 -- r is a member of some such program
@@ -25,13 +41,44 @@ IsReachedMember r = (g : Group) × (p : Program) × IsOfProgram g p r
 abbrev pub MayFind : Running → ℕ → Type 0
 MayFind r word = (g : Group) × (p : Program) × IsOfProgram g p r × (next_sight p.table r ≡ word)
 
+-- and in that program this letter is there for it, or none
+abbrev pub MayTake : Running → Option (List Entry) → Type 0
+MayTake r letter = (g : Group) × (p : Program) × IsOfProgram g p r × (letter_for p (number r) ≡ letter)
+
 -- the member at this place, now r, has looked at this word
-abbrev pub Looked : ℕ → Running → List (Option Running) → ℕ → List (Option Running) → Type 0
-Looked at r v word w = (w ≡ with_present v at (after_step word r)) × MayFind r word
+abbrev pub Looked : ℕ → Running → Me Slot View → ℕ → Me Slot View → Type 0
+Looked at r me word after =
+    (after ≡ idle (with_present me.0.members at (after_step word r))) × MayFind r word
 
 -- the member at this place, now r, has stored the word of its deed
-abbrev pub Stored : ℕ → Running → List (Option Running) → List (Option Running) → Type 0
-Stored at r v w = w ≡ with_present v at (after_step 0 r)
+abbrev pub Stored : ℕ → Running → Me Slot View → Me Slot View → Type 0
+Stored at r me after = after ≡ idle (with_present me.0.members at (after_step 0 r))
+
+-- the member, now r, which is to give a letter has taken the slot, with a list into which its history fits
+abbrev pub Opened : Errand → Running → Me Slot View → Me Slot View → Type 0
+Opened e r me after = (list : Vec Entry Global) × IsBlankList r.replica.room list
+    × (after ≡ busy (with_present me.0.members e.place r) e (holds_slot r e (Some list)))
+
+-- it has put the slot back, and given the letter
+abbrev pub Homed : Errand → Running → Me Slot View → Me Slot View → Type 0
+Homed e r me after = after ≡ idle (with_present me.0.members e.place (after_step 0 r))
+
+-- the member, now r, which is to take its letter saw that it is there; or that it isn't, which was its take
+abbrev pub Peeked : Errand → Running → Me Slot View → ℕ → Me Slot View → Type 0
+Peeked e r me word after =
+    ((word ≡ 2) × (after ≡ busy (with_present me.0.members e.place r) e []))
+    ⊎ ((word ≢ 2) × MayTake r None
+    × (after ≡ idle (with_present me.0.members e.place (settled (took_letter None r)))))
+
+-- it has taken its slot, with its letter
+abbrev pub Fetched : Errand → Running → Me Slot View → Me Slot View → Type 0
+Fetched e r me after = (list : Vec Entry Global) × MayTake r (Some list.items)
+    × (after ≡ busy me.0.members (record e { word = 3; letter = list.items }) (holds_slot r e (Some list)))
+
+-- it has put the slot back, and taken the letter
+abbrev pub Returned : Errand → Running → Me Slot View → Me Slot View → Type 0
+Returned e r me after =
+    after ≡ idle (with_present me.0.members e.place (settled (took_letter (Some e.letter) r)))
 
 -- q is r after these appends
 abbrev pub HasAppended : List Outcome → Running → Running → Type 0
@@ -47,6 +94,10 @@ pub record AreAhead (v members : List (Option Running)) : Type 0 where
   pub all : length v ≡ length members
   pub places : (k : ℕ) → is_some (present_at members k) ≡ is_some (present_at v k)
   pub each : (k : ℕ) (r q : Running) → present_at v k ≡ Some r → present_at members k ≡ Some q → IsAhead r q
+
+-- an errand for seats that are about nothing
+abbrev pub no_errand : Errand
+no_errand = record { place = 0; late = 0; word = 0; letter = [] }
 
 -- a member for places at which nobody stands
 abbrev pub nobody : Running

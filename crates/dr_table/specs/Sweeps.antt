@@ -1,9 +1,9 @@
 -- Sweeps: looks and pushes that a member takes one after the other.
 use Rattle.std.specs.Prelude.{◌≡◌, ℕ, List, [], ◌∷◌, Some, Option}
-use Rattle.dr_member.specs.Deeds.{table_size}
 use Rattle.dr_program.specs.declared.deed.Deed.{Deed}
 use Rattle.dr_program.specs.declared.deed.Deed.TheVariants as deeds
 use Rattle.dr_program.specs.Running.{Running, after_step, next_deed}
+use Rattle.dr_table.specs.Cards.{board_size}
 use Rattle.dr_table.specs.Steps.{IsAhead, IsReachedMember, MayFind}
 use Rattle.dr_program.specs.Presence.{present_at, with_present}
 
@@ -24,10 +24,10 @@ HasSwept old at new = (r : Running) → present_at old at ≡ Some r
     → (words : List ℕ) × (q : Running) × HasTaken words r q × (new ≡ with_present old at q)
 
 -- a seat that knew the hand v knows w, and the member at this place, which was `from`, is q now: it has taken
--- some looks and pushes, over a table of so many words
+-- some looks and pushes, over a board of so many words
 pub record HasComeBySweep (size : ℕ) (v : List (Option Running)) (from : Running)
     (w : List (Option Running)) (at : ℕ) (q : Running) : Type 0 where
   pub taken : (words : List ℕ) × HasTaken words from q
   pub seat : (r : Running) × IsAhead r q × (present_at w at ≡ Some r) × (w ≡ with_present v at r)
   pub reached : IsReachedMember q
-  pub of : table_size q ≡ size
+  pub of : board_size q ≡ size

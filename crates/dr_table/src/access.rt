@@ -2,20 +2,21 @@
 
 use crate::board::Board;
 use crate::moves::{look_at, store_at};
-use crate::rule::View;
+use crate::rule::{Slot, View};
 use atomic_table::Seat;
 use dr_member::{Access, Standing};
 use std::marker::Brand;
 
-impl Access<Board> for Seat<u64, View> {
-    ghost use Rattle.std.specs.Prelude.{◌≡◌, []};
+impl Access<Board> for Seat<Slot, View> {
+    ghost use Rattle.std.specs.Prelude.{◌≡◌};
+    ghost use Rattle.dr_table.specs.Steps.{idle};
     ghost use Rattle.dr_table.specs.Sweeps.{HasComeBySweep};
 
     ghost home = { λ seat board. seat.table_id ≡ board.table.id };
 
     ghost came = { λ first from seat at now.
-        (seat.table_id ≡ first.table_id) × (seat.me.1 ≡ []) × HasComeBySweep seat.table_id.words first.me.0 from
-        seat.me.0 at now };
+        (seat.table_id ≡ first.table_id) × (seat.me ≡ idle seat.me.0.members)
+        × HasComeBySweep seat.table_id.words first.me.0.members from seat.me.0.members at now };
 
     #[inline(always)]
     fn look(&mut self, board: &Board, at: usize, now: &Standing<'_>, word: usize) -> u64 {

@@ -1,27 +1,33 @@
-//! The board of an age: its words, dealt and closed.
-ghost use Rattle.std.specs.Prelude.{◌≡◌, IfOk, ℕ, List, Some, Option};
+//! The board of an age: its words and slots, dealt and closed.
+ghost use Rattle.std.specs.Prelude.{◌≡◌, ◌≤◌, All, IfOk, ℕ, List, Some, Option, length};
+ghost use Rattle.std.specs.Mem.Slots.{IsFull};
+ghost use Rattle.dr_entry.specs.declared.entry.Entry.{Entry};
+ghost use Rattle.dr_member.specs.Deeds.{table_size};
+ghost use Rattle.dr_program.specs.Form.{IsRunningMember};
 ghost use Rattle.dr_program.specs.Program.{IsRanFrom, begun_program};
 ghost use Rattle.dr_table.specs.Cards.{AreAtEnd, AreOf, AreSame, opened};
 ghost use Rattle.dr_program.specs.Presence.{present_at};
 ghost use Rattle.dr_program.specs.Running.{Running};
-ghost use Rattle.dr_table.specs.Rule.{IsDealt, no_posts};
+ghost use Rattle.dr_table.specs.Rule.{IsDealt};
+ghost use Rattle.dr_table.specs.Slots.{AreLate, IsBlankSlot};
 
 use crate::hand::Hand;
-use crate::rule::{Ruled, View};
-use atomic_table::Table;
+use crate::rule::{Ruled, Slot, View};
+use atomic_table::{Closed, Table};
 use dr_member::Member;
+use dr_words::Mask;
 use std::alloc::{AllocError, Global};
 use std::marker::Model;
 
-/// The words of an age, over which its members take their deeds. Contracts see it as the table with the
-/// members that were dealt.
+/// The words of an age, over which its members take their deeds, and the slots for the letters of its late members.
+/// Contracts see it as the table with the members that were dealt.
 #[derive(Drop)]
 pub struct Board {
-    pub(crate) table: Table<u64, View, Vec<Option<Member>>, Ruled, Global>,
+    pub(crate) table: Table<Slot, View, Vec<Option<Member>>, Ruled, Global>,
 }
 
 impl Model for Board {
-    ghost use Rattle.std.specs.Prelude.{◌≡◌, length};
+    ghost use Rattle.std.specs.Prelude.{length};
     ghost use Rattle.dr_table.specs.Cards.{AreOf, Cards};
 
     ghost Value = { Cards };
@@ -31,8 +37,7 @@ impl Model for Board {
       members = b.table.shared.key.items;
     } };
 
-    ghost invariant = { λ b. (b.table.shared.table_id.slots ≡ 0)
-        × AreOf b.table.shared.table_id.words b.table.shared.key.items };
+    ghost invariant = { λ b. AreOf b.table.shared.table_id.words b.table.shared.key.items };
 }
 
 /// The board of an age, with the members of its group before their first deeds, and the hand of all of
@@ -48,9 +53,12 @@ pub fn deal(alloc: Global, members: Vec<Option<Member>>) -> Result<(Board, Hand)
         → opened r.0 ≡ begun_program d.group d.setups) }
     ensures hand { IfOk result (λ r. (r.1.table ≡ r.0.table) × (r.1.members ≡ members.items)) }
 {
-    let words = vec![in alloc; 0u64; table_words(&members)]?;
-    let (table, seat) = Table::of_words(alloc, words.as_slice(), &members)?;
     let places = members.len();
+    let words = vec![in alloc; 0u64; table_words(&members) + places]?;
+    let slots = blank_slots(alloc, late_members(&members).count(), most_room(&members))?;
+    let Ok((table, seat)) = Table::new(alloc, words.as_slice(), slots, &members) else {
+        return Err(AllocError);
+    };
     Ok((
         Board { table },
         Hand {
@@ -68,20 +76,32 @@ pub fn close(board: Board, hand: Hand) -> Vec<Option<Member>>
     requires all { AreSame board.members hand.members }
     requires ended { AreAtEnd hand.members }
     ensures members { result.items ≡ hand.members }
-    ensures ran { (words : List ℕ)
-        × IsRanFrom (opened board) (record { members = result.items; table = words; letters = no_posts board.members }) }
+    ensures ran { (words : List ℕ) × (letters : List (Option (List Entry)))
+        × IsRanFrom (opened board) (record { members = result.items; table = words; letters = letters }) }
 {
     let Board { table } = board;
     let Hand { seat, members, .. } = hand;
-    let closed = table.close_with(seat);
-    closed.free();
+    give_up(table.close_with(seat));
     members
+}
+
+/// Gives up what is in the slots.
+fn give_up(mut closed: Closed<Slot, Global>)
+    requires { IsFull closed.slots }
+{
+    let mut i = 0;
+    while i < closed.slot_count() {
+        drop(closed.take(i));
+        i += 1;
+    }
+    closed.free();
 }
 
 /// The number of words of the table of these members, of whom somebody is there.
 fn table_words(members: &[Option<Member>]) -> usize
-    ensures { (words k : ℕ) (r : Running) → AreOf words members.now → present_at members.now k ≡ Some r
-        → result ≡ words }
+    ensures { (size k : ℕ) (r : Running)
+        → ((m : ℕ) (q : Running) → present_at members.now m ≡ Some q → table_size q ≡ size)
+        → present_at members.now k ≡ Some r → result ≡ size }
 {
     for place in members {
         if let Some(member) = place {
@@ -89,4 +109,51 @@ fn table_words(members: &[Option<Member>]) -> usize
         }
     }
     0
+}
+
+/// The late members of the age, as these members know them, of whom somebody is there.
+fn late_members(members: &[Option<Member>]) -> Mask
+    ensures { (late k : ℕ) (r : Running) → AreLate late members.now → present_at members.now k ≡ Some r
+        → result ≡ late }
+{
+    for place in members {
+        if let Some(member) = place {
+            return member.late();
+        }
+    }
+    Mask::empty()
+}
+
+/// The room of the member that has the most for its history.
+fn most_room(members: &[Option<Member>]) -> usize
+    requires { (m : ℕ) (r : Running) → present_at members.now m ≡ Some r → IsRunningMember r }
+    ensures { (m : ℕ) (r : Running) → present_at members.now m ≡ Some r → r.replica.room ≤ result }
+{
+    let mut most = 0;
+    for place in members {
+        if let Some(member) = place {
+            most = most.max(room_of(member));
+        }
+    }
+    most
+}
+
+/// How many entries the history of a member has room for.
+fn room_of(member: &Member) -> usize
+    requires { IsRunningMember member.now }
+    ensures { result ≡ member.now.replica.room }
+{
+    member.appends_left() + member.logged() as usize
+}
+
+/// So many slots, each with a blank list with so much room.
+fn blank_slots(alloc: Global, count: u8, room: usize) -> Result<Vec<Slot>, AllocError>
+    ensures count { IfOk result (λ slots. length slots.items ≡ count) }
+    ensures blank { IfOk result (λ slots. All (IsBlankSlot room) slots.items) }
+{
+    let mut slots = Vec::with_capacity(alloc, usize::from(count))?;
+    for _ in 0..count {
+        slots.push(Some(Vec::with_capacity(alloc, room)?)).unwrap();
+    }
+    Ok(slots)
 }

@@ -1,15 +1,16 @@
 //! Hands of members, and the steps that these take.
 ghost use Rattle.std.specs.Prelude.{◌≡◌, ◌≤◌, ◌<◌, ◌+◌, ◌-◌, ◌++◌, true, IfErr, IfOk, is_some, not, drop, length, Some, take, vec_capacity, vec_len, Option};
-ghost use Rattle.dr_member.specs.Deeds.{is_act, is_append, is_look, is_push};
+ghost use Rattle.dr_member.specs.Deeds.{is_act, is_append, is_give, is_look, is_push, is_take};
 ghost use Rattle.dr_program.specs.Presence.{present_at, with_present};
 ghost use Rattle.dr_program.specs.Running.{Running, broken_off, next_deed};
-ghost use Rattle.dr_table.specs.Cards.{AtPlace, HasFewerLeft, HasGoneOn};
+ghost use Rattle.dr_table.specs.Cards.{AtPlace, HasFewerLeft, HasGoneOn, HasAskedForLetter};
 ghost use Rattle.dr_table.specs.Steps.{IsReachedMember};
 ghost use Rattle.dr_table.specs.Sweeps.{HasSwept};
 
 use crate::board::Board;
 use crate::moves::{count_at, cut_at, store_at};
-use crate::rule::{Gathers, View};
+use crate::posts::{give_at, take_at, take_letter};
+use crate::rule::{Gathers, Slot, View};
 use atomic_table::Seat;
 use dr_member::{Deed, LogWhy, Member};
 use std::alloc::{AllocError, Global};
@@ -19,7 +20,7 @@ use std::marker::{Brand, Model};
 /// of its board with these members.
 #[derive(Drop)]
 pub struct Hand {
-    pub(crate) seat: Seat<u64, View>,
+    pub(crate) seat: Seat<Slot, View>,
     /// How many places were dealt, for which `members` has room.
     pub(crate) places: usize,
     pub(crate) members: Vec<Option<Member>>,
@@ -119,6 +120,47 @@ impl Hand {
             unreachable!()
         };
         member.acted();
+    }
+
+    /// The member at a place gives a late member its letter, which is its next deed.
+    pub fn give(&mut self, board: &Board, i: usize)
+        requires board { self.old.table ≡ board.now.table }
+        requires there { is_some (present_at self.old.members i) ≡ true }
+        requires deed { AtPlace self.old.members i (λ r. is_give (next_deed r) ≡ true) }
+        ensures table { self.new.table ≡ self.old.table }
+        ensures members { HasGoneOn self.old.members i self.new.members }
+        ensures falls { HasFewerLeft self.old.members i self.new.members }
+    {
+        let Some(member) = &self.members[i] else {
+            unreachable!()
+        };
+        let Deed::Give { late } = member.next() else {
+            unreachable!()
+        };
+        give_at(board, &mut self.seat, i, member, late);
+        let Some(member) = &mut self.members[i] else {
+            unreachable!()
+        };
+        member.given();
+    }
+
+    /// The late member at a place takes its letter, which is its next deed, where one is there for it.
+    pub fn take(&mut self, board: &Board, i: usize)
+        requires board { self.old.table ≡ board.now.table }
+        requires there { is_some (present_at self.old.members i) ≡ true }
+        requires deed { AtPlace self.old.members i (λ r. is_take (next_deed r) ≡ true) }
+        ensures table { self.new.table ≡ self.old.table }
+        ensures members { HasAskedForLetter self.old.members i self.new.members }
+        ensures falls { HasFewerLeft self.old.members i self.new.members }
+    {
+        let Some(member) = &self.members[i] else {
+            unreachable!()
+        };
+        let letter = take_at(board, &mut self.seat, i, member);
+        let Some(member) = &mut self.members[i] else {
+            unreachable!()
+        };
+        take_letter(member, &letter);
     }
 
     /// The log of the member at a place has the record that it appended.

@@ -10,6 +10,7 @@ mod access;
 mod board;
 mod hand;
 mod moves;
+mod posts;
 mod rule;
 
 pub use board::{Board, close, deal};

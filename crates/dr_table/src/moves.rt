@@ -1,13 +1,14 @@
 //! The steps on the table, one for each kind.
-ghost use Rattle.std.specs.Prelude.{◌≡◌, ◌<◌, ◌≤◌, [], drop, length, Some, take};
+ghost use Rattle.std.specs.Prelude.{◌≡◌, ◌<◌, ◌≤◌, drop, length, Some, take};
+ghost use Rattle.dr_member.specs.Deeds.{table_size};
 ghost use Rattle.dr_program.specs.declared.deed.Deed.TheVariants.{Look};
 ghost use Rattle.dr_program.specs.Running.{Running, next_deed};
 ghost use Rattle.dr_table.specs.Deeds.{IsStore};
-ghost use Rattle.dr_table.specs.Steps.{IsAhead, Looked, Stored};
+ghost use Rattle.dr_table.specs.Steps.{IsAhead, Looked, Stored, idle};
 ghost use Rattle.dr_program.specs.Presence.{present_at};
 
 use crate::board::Board;
-use crate::rule::{Counts, Cuts, Looks, Place, Stores, View};
+use crate::rule::{Counts, Cuts, Looks, Place, Slot, Stores, View};
 use atomic_table::Seat;
 use dr_member::Standing;
 
@@ -16,7 +17,7 @@ use dr_member::Standing;
 #[inline(always)]
 pub(crate) fn look_at<J: Place>(
     board: &Board,
-    seat: &mut Seat<u64, View>,
+    seat: &mut Seat<Slot, View>,
     i: usize,
     member: &Standing<'_>,
     word: usize,
@@ -24,13 +25,13 @@ pub(crate) fn look_at<J: Place>(
     requires at { i ≡ J.at }
     requires now { member.now ≡ J.now }
     requires table { seat.old.table_id ≡ board.now.table.id }
-    requires slots { seat.old.me.1 ≡ [] }
+    requires idle { seat.old.me ≡ idle seat.old.me.0.members }
     requires word { word < board.now.table.id.words }
-    requires there { (r : Running) × (present_at seat.old.me.0 i ≡ Some r) × IsAhead r member.now }
+    requires within { word < table_size member.now }
+    requires there { (r : Running) × (present_at seat.old.me.0.members i ≡ Some r) × IsAhead r member.now }
     requires deed { next_deed member.now ≡ Look word }
     ensures table { seat.new.table_id ≡ seat.old.table_id }
-    ensures looked { Looked i member.now seat.old.me.0 result seat.new.me.0 }
-    ensures slots { seat.new.me.1 ≡ [] }
+    ensures looked { Looked i member.now seat.old.me result seat.new.me }
 {
     board.table.shared.load::<Looks<J>>(seat, word)
 }
@@ -39,7 +40,7 @@ pub(crate) fn look_at<J: Place>(
 #[inline(always)]
 pub(crate) fn store_at<J: Place>(
     board: &Board,
-    seat: &mut Seat<u64, View>,
+    seat: &mut Seat<Slot, View>,
     i: usize,
     member: &Standing<'_>,
     word: usize,
@@ -48,13 +49,13 @@ pub(crate) fn store_at<J: Place>(
     requires at { i ≡ J.at }
     requires now { member.now ≡ J.now }
     requires table { seat.old.table_id ≡ board.now.table.id }
-    requires slots { seat.old.me.1 ≡ [] }
+    requires idle { seat.old.me ≡ idle seat.old.me.0.members }
     requires word { word < board.now.table.id.words }
-    requires there { (r : Running) × (present_at seat.old.me.0 i ≡ Some r) × IsAhead r member.now }
+    requires within { word < table_size member.now }
+    requires there { (r : Running) × (present_at seat.old.me.0.members i ≡ Some r) × IsAhead r member.now }
     requires deed { IsStore word new (next_deed member.now) }
     ensures table { seat.new.table_id ≡ seat.old.table_id }
-    ensures stored { Stored i member.now seat.old.me.0 seat.new.me.0 }
-    ensures slots { seat.new.me.1 ≡ [] }
+    ensures stored { Stored i member.now seat.old.me seat.new.me }
 {
     board.table.shared.store::<Stores<J>>(seat, word, new);
 }
@@ -62,26 +63,26 @@ pub(crate) fn store_at<J: Place>(
 /// Cuts the hand of a seat at a place. The new seat has what stands from there on.
 pub(crate) fn cut_at<J: Place>(
     board: &Board,
-    seat: &mut Seat<u64, View>,
+    seat: &mut Seat<Slot, View>,
     at: usize,
-) -> Seat<u64, View>
+) -> Seat<Slot, View>
     requires at { at ≡ J.at }
     requires table { seat.old.table_id ≡ board.now.table.id }
-    requires slots { seat.old.me.1 ≡ [] }
+    requires idle { seat.old.me ≡ idle seat.old.me.0.members }
     requires words { 0 < board.now.table.id.words }
-    ensures seat { (seat.new.table_id ≡ board.now.table.id) × (seat.new.me ≡ (take at seat.old.me.0, [])) }
-    ensures other { (result.table_id ≡ board.now.table.id) × (result.me ≡ (drop at seat.old.me.0, [])) }
+    ensures seat { (seat.new.table_id ≡ board.now.table.id) × (seat.new.me ≡ idle (take at seat.old.me.0.members)) }
+    ensures other { (result.table_id ≡ board.now.table.id) × (result.me ≡ idle (drop at seat.old.me.0.members)) }
 {
     board.table.shared.split_seat::<Cuts<J>>(seat)
 }
 
 /// The hand of a seat has no more places than were dealt.
-pub(crate) fn count_at<J: Place>(board: &Board, seat: &mut Seat<u64, View>)
+pub(crate) fn count_at<J: Place>(board: &Board, seat: &mut Seat<Slot, View>)
     requires at { length board.now.members ≡ J.at }
     requires table { seat.old.table_id ≡ board.now.table.id }
     requires words { 0 < board.now.table.id.words }
     ensures seat { (seat.new.table_id ≡ seat.old.table_id) × (seat.new.me ≡ seat.old.me) }
-    ensures few { length seat.old.me.0 ≤ length board.now.members }
+    ensures few { length seat.old.me.0.members ≤ length board.now.members }
 {
     board.table.shared.load::<Counts<J>>(seat, 0);
 }

@@ -1,27 +1,29 @@
 -- The run of one member, sweep by sweep and deed by deed.
-use Rattle.std.proofs.Common.{◌≡◌, ◌⊎◌, inl, inr, refl, sym, ap, ◌∙◌, subst, ℕ, ◌<◌, true, false, List, [], ◌∷◌, length, map, true≢false, arith}
+use Rattle.std.proofs.Common.{◌≡◌, refl, sym, ap, ◌∙◌, subst, ℕ, ◌<◌, true, false, List, [], ◌∷◌, length, map, true≢false, arith}
 use Rattle.std.specs.Prelude.{IsTrue, Option, None, Some, is_some, option_map}
 use Rattle.std.proofs.lemmas.List.{length-map}
 use Rattle.std.proofs.lemmas.Option.{same_Some}
 use Rattle.dr_disk.specs.Disk.{Told}
 use Rattle.dr_entry.specs.declared.end.End.{End}
+use Rattle.dr_entry.specs.declared.entry.Entry.{Entry}
 use Rattle.dr_log.specs.State.{LogState}
 use Rattle.dr_logged.specs.Appended.{is_append}
-use Rattle.dr_logged.specs.Served.{AppendsWell, HasServed, IsReady}
-use Rattle.dr_logged.proofs.Serving.{other_ready, other_served}
+use Rattle.dr_logged.specs.Served.{AppendsWell, HasServed, IsReady, LetterGoesOn}
+use Rattle.dr_logged.proofs.Serving.{other_ready, other_served, took_served, took_stays_ready}
 use Rattle.dr_program.specs.declared.deed.Deed.{Deed}
 use Rattle.dr_program.specs.declared.deed.Deed.TheVariants as deeds
 use Rattle.dr_program.specs.Form.{IsRunningMember}
-use Rattle.dr_program.specs.Running.{Running, after_step, next_deed, next_step}
-use Rattle.dr_age.proofs.Deeds.{at_look, at_push, deed_tells}
+use Rattle.dr_program.specs.Running.{Running, after_step, next_deed, next_step, settled, took_letter}
+use Rattle.dr_age.proofs.Deeds.{at_look, at_push, at_take, deed_tells}
 use Rattle.dr_age.proofs.Sound.{appends_well}
-use Rattle.dr_age.specs.Sound.{IsOfNoLetter}
+use Rattle.dr_room.proofs.Letters.{letters_are}
+use Rattle.dr_turn.proofs.Takes.{taking}
 use Rattle.dr_turn.specs.Work.{deeds_left}
 use Rattle.dr_table.specs.Cards.{AreAtEnd, AreSame, HasFewerLeft, IsAtEnd}
 use Rattle.dr_table.specs.Rule.{number}
-use Rattle.dr_table.specs.Steps.{IsReachedMember}
+use Rattle.dr_table.specs.Steps.{IsReachedMember, MayTake}
 use Rattle.dr_table.specs.Sweeps.{HasSwept, HasTaken, IsSwept}
-use Rattle.dr_table.proofs.Deeds.{after_told, same_number}
+use Rattle.dr_table.proofs.Deeds.{after_told, same_number, took_told}
 use Rattle.dr_table.proofs.Sweeps.{taken_told}
 use Rattle.dr_threads.specs.Course.{HasGone}
 use Rattle.dr_program.specs.Presence.{present_at, with_present}
@@ -36,10 +38,15 @@ reached_well r (g, p, is) = appends_well g p (number r) r is.sound is.there
 pub reached_form : (r : Running) → IsReachedMember r → IsRunningMember r
 reached_form r (g, p, is) = is.sound.form.form (number r) r is.there
 
--- a deed that deals with no letter is no give and no take
-pub no_letter : (d : Deed) → IsOfNoLetter d → ((late : ℕ) × (d ≡ deeds.Give late)) ⊎ (d ≡ deeds.Take) → ⊥
-no_letter d plain (inl give) = subst IsOfNoLetter give.1 plain
-no_letter d plain (inr take) = subst IsOfNoLetter take plain
+-- a letter that it may take goes on from its history
+takes_on : (r : Running) (letter : Option (List Entry)) → next_deed r ≡ deeds.Take → MayTake r letter
+    → LetterGoesOn r.replica.history letter
+takes_on r None next may = tt
+takes_on r (Some letter) next (g, p, is, found) =
+    let form = is.sound.form.form (number r) r is.there in
+    let t = deed_tells p.table r deeds.Take next in
+    let fits = letters_are g p is.sound.group is.sound.form is.sound.reached (number r) r letter is.there
+    (taking r form (record { unended = t.none; due = t.says })).outside found in (fits.rest, fits.begins)
 
 -- a look or a push is no append
 swept_other : (r : Running) → IsSwept (next_deed r) → is_append (next_step r) ≡ false
@@ -107,6 +114,19 @@ module _ {D : Type 0} (told : D → Option Told) (faults : D → ℕ) where
       (same_number r (after_step word r) (after_told word r))
       (other_ready log word r other)
       (λ base. other_served told faults base log word r other none (reached_form r reached).replica.logged)
+
+  -- by a take
+  pub gone_taking : (rs qs : List (Option Running)) (r : Running) (log : LogState D) → length rs ≡ 1
+      → present_at rs 0 ≡ Some r → IsReachedMember r → r.replica.end ≡ None → next_deed r ≡ deeds.Take
+      → (letter : Option (List Entry)) × MayTake r letter
+      × (qs ≡ with_present rs 0 (settled (took_letter letter r)))
+      → HasGone told faults rs log qs log
+  gone_taking rs qs r log one there reached none next (letter, may, to) =
+      gone_by rs qs r (settled (took_letter letter r)) log log one there to
+      (same_number r (settled (took_letter letter r)) (took_told letter r))
+      (took_stays_ready log letter r)
+      (λ base. took_served told faults base log letter r (record { unended = none; due = at_take r next })
+      (reached_form r reached).replica.logged (takes_on r letter next may))
 
   -- and goes on to have served it
   swept_served : (base log : LogState D) (words : List ℕ) (r q : Running) → HasTaken words r q

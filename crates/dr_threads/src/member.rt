@@ -56,9 +56,9 @@ fn take<D: Disk>(board: &Board, hand: &mut Hand, log: &mut Log<D>)
         Deed::Push(_, _) => hand.push_row(board, 0),
         Deed::Act(_, _) => hand.act(board, 0),
         Deed::Append(_) => append(hand, log),
+        Deed::Give { .. } => hand.give(board, 0),
+        Deed::Take => hand.take(board, 0),
         Deed::Rest(_) => {}
-        // Where nobody is late there are no letters.
-        Deed::Give { .. } | Deed::Take => unreachable!(),
     }
 }
 

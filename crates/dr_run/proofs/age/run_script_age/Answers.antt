@@ -15,7 +15,6 @@ use Rattle.dr_restart.specs.Setups.{crashes_of}
 use Rattle.dr_age.specs.Logged.{NoneFull}
 use Rattle.dr_age.proofs.Ends.{have_come, none_full}
 use Rattle.dr_table.specs.Cards.{AreAtEnd, opened}
-use Rattle.dr_table.specs.Rule.{no_posts}
 use Rattle.dr_threads.specs.Logs.{AreFor}
 use Rattle.dr_threads.proofs.Halves.{same_longer}
 use Rattle.dr_threads.proofs.Runs.{as_many}
@@ -41,7 +40,7 @@ pub deal-requires : goal.deal-requires
 deal-requires g c = record {
   dealt = is_dealt c.args.script.now c.args.start.now c.args.nth c.in-Ok-begun_members.members.items
       c.requires.group
-      c.requires.ranges.group.lists c.requires.ranges.some_turn c.requires.nobody c.in-Ok-begun_members.ensures;
+      c.requires.ranges.group.lists c.requires.ranges.some_turn c.in-Ok-begun_members.ensures;
 }
 
 pub run_age-requires-clause-logs : goal.run_age-requires-clause-logs
@@ -68,12 +67,12 @@ ends_of-requires-clause-room g c = omega (
   c.from.ensures,
 )
 
--- the members at the end, over the words that they left, without letters
+-- the members at the end, over the words and the letters that they left
 abbrev closed : (g : Over) (c : goal.After-of g) → Program
 closed g c = record {
   members = c.close-members.result.items;
   table = c.close-members.ensures.ran.0;
-  letters = no_posts c.in-Ok-deal.board.members;
+  letters = c.close-members.ensures.ran.1;
 }
 
 -- the program of the age is over
@@ -83,8 +82,8 @@ over : (g : Over) (c : goal.After-of g)
 over g c =
     age_over g.D.Disk.told g.D.Disk.faults c.args.script.now c.args.start.now c.args.nth
     c.in-Ok-begun_members.members.items c.args.logs.items c.in_ok-hand.logs.items (opened c.in-Ok-deal.board)
-    (closed g c) c.requires.group c.requires.ranges.group.lists c.requires.ranges.some_turn c.requires.nobody
-    c.in-Ok-begun_members.ensures c.in-Ok-deal.ensures.opened c.close-members.ensures.ran.1
+    (closed g c) c.requires.group c.requires.ranges.group.lists c.requires.ranges.some_turn
+    c.in-Ok-begun_members.ensures c.in-Ok-deal.ensures.opened c.close-members.ensures.ran.2
     (subst AreAtEnd (sym c.close-members.ensures.members) c.in_ok-hand.ensures.run.over.ended)
     c.requires.logs c.in_ok-hand.ensures.run.places
     (subst (HaveServed g.D.Disk.told g.D.Disk.faults c.args.logs.items c.in_ok-hand.logs.items)

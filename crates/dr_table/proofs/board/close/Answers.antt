@@ -1,39 +1,40 @@
-use Rattle.std.proofs.Common.{◌≡◌, sym, ap, ◌∙◌, subst, length, map}
+use Rattle.std.proofs.Common.{◌≡◌, refl, sym, ap, ◌∙◌, subst, length, map}
 use Rattle.std.specs.Prelude.{Some, option_map, slice_get}
 use Rattle.dr_program.specs.Program.{IsRanFrom, Program, begun_program}
 use Rattle.dr_table.specs.Cards.{AreAtEnd, AreSame, Cards}
-use Rattle.dr_table.specs.Rule.{no_posts, number}
+use Rattle.dr_table.specs.Rule.{hands, number}
 use Rattle.dr_table.proofs.Hands.{board_opened, seat_knows}
 use Rattle.dr_table.proofs.Lists.{by_table}
 use Rattle.dr_table.proofs.Room.{whole}
+use Rattle.dr_table.proofs.Seats.{hands_get}
 use Rattle.dr_table.proofs.board.close.Goals as goal
 
 pub returns-clause-ran : goal.returns-clause-ran
 returns-clause-ran c =
-    let final = c.close_with-closed.ensures.values.2 in
+    let final = c.close_with.ensures.values.2 in
     let s = final.0 in
     let kept = final.1.0 in
     let shared = c.board.inside.table.shared in
     let items = c.hand.inside.members.items in
     let is = ap (λ (w : Cards). w.members) c.hand.view_is in
-    let knows = seat_knows c.hand.inside.seat.me.0 items c.hand.invariant.ahead
+    let knows = seat_knows c.hand.inside.seat.me.0.members items c.hand.invariant.ahead
     (subst AreAtEnd (sym is) c.requires.ended) in
-    let mine : slice_get s.views c.hand.inside.seat.id ≡ Some items =
-    by_table s.views c.hand.inside.seat.id c.hand.inside.seat.me.0 final.1.1 ∙ ap (λ v. Some v) knows in
+    let mine : slice_get (hands s.views) c.hand.inside.seat.id ≡ Some items =
+    hands_get s.views c.hand.inside.seat.id c.hand.inside.seat.me.0
+    (by_table s.views c.hand.inside.seat.id c.hand.inside.seat.me.0 final.1.1) ∙ ap (λ v. Some v) knows in
     let all : AreSame shared.key.items items =
     ap (map (option_map number)) is ∙ c.requires.all ∙ ap (map (option_map number))
     (sym (ap (λ (w : Cards). w.members) c.board.view_is)) in
-    let same = whole shared.key.items s.words s.views c.hand.inside.seat.id items mine all kept in
+    let same = whole shared.key.items s.words s.homes s.views c.hand.inside.seat.id items mine all kept in
     let begins = board_opened (record {
       table = record { id = shared.table_id; places = length shared.key.items };
       members = shared.key.items;
     }) c.args.board
-    c.board.view_is kept.opening c.board.invariant.1 in (
-      s.words,
+    c.board.view_is refl kept.opening c.board.invariant in (
+      kept.table,
+      kept.letters,
       subst (λ (b : Program). IsRanFrom b
-          (record { members = items; table = s.words; letters = no_posts c.args.board.members })) (sym begins)
-          (subst (λ (w : Cards). IsRanFrom (begun_program kept.opening.group kept.opening.setups)
-          (record { members = items; table = s.words; letters = no_posts w.members })) c.board.view_is
+          (record { members = items; table = kept.table; letters = kept.letters })) (sym begins)
           (subst (λ l. IsRanFrom (begun_program kept.opening.group kept.opening.setups)
-          (record { members = l; table = s.words; letters = no_posts shared.key.items })) same kept.ran)),
+          (record { members = l; table = kept.table; letters = kept.letters })) same kept.ran),
     )

@@ -1,63 +1,118 @@
-use Rattle.std.proofs.Common.{◌<◌, sym, ap, ◌∙◌, subst, List, [], ◌∷◌, ℕ, length, arith}
+use Rattle.std.proofs.Common.{◌≡◌, ◌+◌, ◌-◌, sym, ap, ◌∙◌, subst, List, [], ◌∷◌, ℕ, length, map, replicate, arith}
 use Rattle.std.proofs.lemmas.List.{length-replicate}
-use Rattle.std.specs.Prelude.{Option, Vec}
+use Rattle.std.specs.Prelude.{Option, Some, Vec}
+use Rattle.dr_history.specs.Members.{members_of}
+use Rattle.dr_machine.specs.Group.{banks, roster}
+use Rattle.dr_member.specs.Deeds.{table_size}
+use Rattle.dr_words.specs.Layout.{words_of}
 use Rattle.dr_program.specs.Presence.{present_at}
 use Rattle.std.specs.declared.alloc.Global.{Global}
 use Rattle.atomic_table.specs.Seated.{TableId}
 use Rattle.atomic_table.specs.Table.{Me}
 use Rattle.dr_program.specs.Running.{Running}
 use Rattle.dr_table.specs.Cards.{opened}
-use Rattle.dr_table.specs.Rule.{HasSuchProgram}
-use Rattle.dr_table.proofs.Hands.{ahead_same, dealt_kept, dealt_of, dealt_opened, dealt_reached, dealt_size, dealt_words}
+use Rattle.dr_table.specs.declared.rule.View.{View}
+use Rattle.dr_table.specs.Rule.{HasSuchProgram, IsDealt}
+use Rattle.dr_table.specs.Slots.{Slot}
+use Rattle.dr_table.proofs.Hands.{ahead_same, dealt_few, dealt_form, dealt_kept, dealt_late, dealt_of, dealt_opened, dealt_reached, dealt_size, dealt_small, dealt_words}
+use Rattle.dr_table.proofs.Members.{idle_is}
+use Rattle.dr_table.proofs.Posting.{free}
 use Rattle.dr_table.proofs.board.deal.Goals as goal
+use mathlib.Core.Option.{some}
 
-pub of_words-requires : goal.of_words-requires
-of_words-requires c =
+pub most_room-requires : goal.most_room-requires
+most_room-requires c = λ m r there. dealt_form c.args.members.items c.requires.dealt m r
+    (ap (λ l. present_at l m) (sym c.deref-3.ensures.value) ∙ there)
+
+pub overflow_add-table_words : goal.overflow_add-table_words
+overflow_add-table_words c =
     let items = c.args.members.items in
     let d = c.requires.dealt in
-    subst (λ (ws : List ℕ). HasSuchProgram items ws (items ∷ []))
-    (sym (c.as_slice.ensures.value ∙ c.in_ok-words.ensures.items_if_clones_equal (λ y e. e)))
-    (dealt_kept items d c.table_words.result (dealt_size items c.deref.result.now d c.table_words.result c.deref.ensures.value c.table_words.ensures))
+    omega (
+      arith,
+      dealt_size items c.deref.result.now d c.table_words.result c.deref.ensures.value c.table_words.ensures,
+      dealt_small items d,
+      dealt_few items d,
+      d.is.most_members,
+      c.len-places.ensures,
+      c.args.members.ok,
+    )
+
+pub new-requires : goal.new-requires
+new-requires c =
+    let items = c.args.members.items in
+    let d = c.requires.dealt in
+    subst (λ (ws : List ℕ). HasSuchProgram items ws (map some c.in_ok-slots.slots.items) (free items ∷ []))
+    (sym (c.as_slice.ensures.value ∙ c.in_ok-words.ensures.items_if_clones_equal (λ y e. e)
+    ∙ ap (λ n. replicate (c.table_words.result + n) 0) (c.len-places.ensures ∙ c.args.members.ok.0)))
+    (dealt_kept items d c.table_words.result c.most_room.result c.in_ok-slots.slots.items
+    (dealt_size items c.deref.result.now d c.table_words.result c.deref.ensures.value c.table_words.ensures) (record {
+      count = c.in_ok-slots.ensures.count ∙ c.count.ensures.value
+          ∙ ap (λ mask. length (members_of mask)) (dealt_late items c.deref-2.result.now d
+          c.late_members.result c.deref-2.ensures.value c.late_members.ensures);
+      blank = c.in_ok-slots.ensures.blank;
+      room = λ m r there. c.most_room.ensures m r (ap (λ l. present_at l m) c.deref-3.ensures.value ∙ there);
+    }))
+
+-- the board has the words of the table, and one for each place
+sized : (items list : List (Option Running)) (d : IsDealt items) (ws : List ℕ) (count places words : ℕ)
+    → ws ≡ replicate (count + places) 0 → list ≡ items
+    → ((size k : ℕ) (r : Running)
+    → ((m : ℕ) (q : Running) → present_at list m ≡ Some q → table_size q ≡ size) → present_at list k ≡ Some r
+    → count ≡ size)
+    → places ≡ length items → words ≡ length ws
+    → words ≡ words_of (roster d.group) d.group.window (banks d.group) + roster d.group
+sized items list d ws count places words is same counts many long = omega (
+  arith,
+  dealt_size items list d count same counts,
+  dealt_few items d,
+  many,
+  long,
+  ap length is,
+  length-replicate {A = ℕ} (count + places) 0,
+)
 
 pub invariant_of-result : goal.invariant_of-result
 invariant_of-result c =
     let items = c.args.members.items in
     let d = c.requires.dealt in
-    let size = c.in_ok-table.ensures.0 ∙ ap length (c.as_slice.ensures.value
-    ∙ c.in_ok-words.ensures.items_if_clones_equal (λ y e. e))
-    ∙ length-replicate c.table_words.result 0 ∙ dealt_size items c.deref.result.now d c.table_words.result c.deref.ensures.value c.table_words.ensures in (
-      c.in_ok-table.ensures.1,
-      λ k r there. dealt_of items d k r
-          (ap (λ (v : Vec (Option Running) Global). present_at v.items k) (sym c.in_ok-table.ensures.5) ∙ there) ∙ sym
-          size,
-    )
+    let size = sized items c.deref.result.now d c.as_slice.result.now c.table_words.result c.len-places.result
+    c.in-Ok.table.shared.table_id.words
+    (c.as_slice.ensures.value ∙ c.in_ok-words.ensures.items_if_clones_equal (λ y e. e)) c.deref.ensures.value
+    c.table_words.ensures (c.len-places.ensures ∙ c.args.members.ok.0) c.in-Ok.ensures.ok.0 in
+    λ k r there. dealt_of items d k r
+    (ap (λ (v : Vec (Option Running) Global). present_at v.items k) (sym c.in-Ok.ensures.ok.5) ∙ there)
+    ∙ sym size
 
 pub invariant_of-result-2 : goal.invariant_of-result-2
 invariant_of-result-2 c =
     let items = c.args.members.items in
     let d = c.requires.dealt in
-    let size = c.in_ok-table.ensures.0 ∙ ap length (c.as_slice.ensures.value
-    ∙ c.in_ok-words.ensures.items_if_clones_equal (λ y e. e))
-    ∙ length-replicate c.table_words.result 0 ∙ dealt_size items c.deref.result.now d c.table_words.result c.deref.ensures.value c.table_words.ensures in
-    let words = ap (λ (t : TableId). t.words) c.in_ok-table.ensures.2 ∙ size in record {
-      ahead = ahead_same c.in_ok-table.seat.me.0 items (ap (λ (me : Me ℕ (List (Option Running))). me.0)
-          c.in_ok-table.ensures.4);
-      slots = ap (λ (me : Me ℕ (List (Option Running))). me.1) c.in_ok-table.ensures.4;
+    let size = sized items c.deref.result.now d c.as_slice.result.now c.table_words.result c.len-places.result
+    c.in-Ok.table.shared.table_id.words
+    (c.as_slice.ensures.value ∙ c.in_ok-words.ensures.items_if_clones_equal (λ y e. e)) c.deref.ensures.value
+    c.table_words.ensures (c.len-places.ensures ∙ c.args.members.ok.0) c.in-Ok.ensures.ok.0 in
+    let words = ap (λ (t : TableId). t.words) c.in-Ok.ensures.ok.2 ∙ size in record {
+      ahead = ahead_same c.in-Ok.seat.me.0.members items (ap (λ (me : Me Slot View). me.0.members)
+          c.in-Ok.ensures.ok.4);
+      idle = idle_is c.in-Ok.seat.me items c.in-Ok.ensures.ok.4;
       reached = dealt_reached items d;
       of = λ k r there. dealt_of items d k r there ∙ sym words;
-      words = subst (λ (n : ℕ). 0 < n) (sym words) (dealt_words items d);
-      room = omega (arith, c.args.members.ok);
+      words = omega (arith, words, dealt_words items d);
+      room = omega (arith, c.args.members.ok, c.len-places.ensures);
     }
 
 pub returns-clause-opened : goal.returns-clause-opened
 returns-clause-opened c = λ d.
     let items = c.args.members.items in
-    let size = c.in_ok-table.ensures.0 ∙ ap length (c.as_slice.ensures.value
-    ∙ c.in_ok-words.ensures.items_if_clones_equal (λ y e. e))
-    ∙ length-replicate c.table_words.result 0 ∙ dealt_size items c.deref.result.now d c.table_words.result c.deref.ensures.value c.table_words.ensures in
+    let size = sized items c.deref.result.now d c.as_slice.result.now c.table_words.result c.len-places.result
+    c.in-Ok.table.shared.table_id.words
+    (c.as_slice.ensures.value ∙ c.in_ok-words.ensures.items_if_clones_equal (λ y e. e)) c.deref.ensures.value
+    c.table_words.ensures (c.len-places.ensures ∙ c.args.members.ok.0) c.in-Ok.ensures.ok.0 in
     ap (λ (v : Vec (Option Running) Global). opened (record {
-      table = record { id = c.in_ok-table.table.shared.table_id; places = length v.items };
+      table = record { id = c.in-Ok.table.shared.table_id; places = length v.items };
       members = v.items;
     }))
-    c.in_ok-table.ensures.5
-    ∙ dealt_opened items d c.in_ok-table.table.shared.table_id.words size
+    c.in-Ok.ensures.ok.5
+    ∙ dealt_opened items d (c.in-Ok.table.shared.table_id.words - length items)
+    (omega (arith, size, dealt_few items d))

@@ -13,4 +13,4 @@ load-requires g c = (
 
 pub returns-clause-few : goal.returns-clause-few
 returns-clause-few g c =
-    subst (λ n. length c.args.seat.now.me.0 ≤ n) (sym c.requires.at) c.load.ensures.2.1
+    subst (λ n. length c.args.seat.now.me.0.members ≤ n) (sym c.requires.at) c.load.ensures.2.1

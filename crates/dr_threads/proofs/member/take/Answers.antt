@@ -1,8 +1,7 @@
-use Rattle.std.proofs.Common.{sym, subst}
-use Rattle.dr_age.proofs.Deeds.{at_act}
-use Rattle.dr_age.specs.Sound.{IsOfNoLetter}
-use Rattle.dr_table.proofs.Keeping.{reached_plain}
-use Rattle.dr_threads.proofs.Runs.{gone_step, gone_sweeping, no_letter}
+use Rattle.std.proofs.Common.{ap, sym}
+use Rattle.dr_age.proofs.Deeds.{at_act, at_give}
+use Rattle.dr_logged.specs.Appended.{is_append}
+use Rattle.dr_threads.proofs.Runs.{gone_step, gone_sweeping, gone_taking}
 use Rattle.dr_threads.proofs.member.take.Goals as goal
 
 pub returns-in-Look-clause-gone : goal.returns-in-Look-clause-gone
@@ -22,7 +21,16 @@ returns-in-Act-clause-gone g c =
     c.member.ensures.there c.member.ensures.reached (c.requires.going r c.member.ensures.there) (at_act r _ _ (sym c.in-Act.ensures.deed))
     (c.act.ensures.members r c.member.ensures.there)
 
-pub unreachable-requires : goal.unreachable-requires
-unreachable-requires g c = no_letter c.next.result
-    (subst IsOfNoLetter (sym c.next.ensures.deed) (reached_plain c.member.result.now c.member.ensures.reached))
-    c.in-Give.is
+pub returns-in-Give-clause-gone : goal.returns-in-Give-clause-gone
+returns-in-Give-clause-gone g c =
+    let r = c.member.result.now in
+    gone_step _ _ c.args.hand.now.members c.give.new.self.members r 0 c.args.log.now c.requires.one
+    c.member.ensures.there c.member.ensures.reached (c.requires.going r c.member.ensures.there)
+    (ap is_append (at_give r _ (sym c.in-Give.ensures.deed))) (c.give.ensures.members r c.member.ensures.there)
+
+pub returns-in-Take-clause-gone : goal.returns-in-Take-clause-gone
+returns-in-Take-clause-gone g c =
+    let r = c.member.result.now in
+    gone_taking _ _ c.args.hand.now.members c.take.new.self.members r c.args.log.now c.requires.one
+    c.member.ensures.there c.member.ensures.reached (c.requires.going r c.member.ensures.there)
+    (sym c.in-Take.ensures.deed) (c.take.ensures.members r c.member.ensures.there)

@@ -19,9 +19,9 @@ use Rattle.dr_table.proofs.hand.Hand.act.Goals as goal
 pub store_at-requires-clause-there : goal.store_at-requires-clause-there
 store_at-requires-clause-there c =
     let s = lent c.index.result.now c.self.invariant c.self.view_is c.requires.there c.index.ensures c.in-Some.is in
-    subst (λ q. (r : Running) × (present_at c.self.inside.seat.me.0 c.args.i ≡ Some r) × IsAhead r q)
+    subst (λ q. (r : Running) × (present_at c.self.inside.seat.me.0.members c.args.i ≡ Some r) × IsAhead r q)
     (sym c.standing.ensures)
-    (seat_has c.self.inside.seat.me.0 c.self.inside.members.items c.args.i c.in-Some.member
+    (seat_has c.self.inside.seat.me.0.members c.self.inside.members.items c.args.i c.in-Some.member
     s.is.ahead s.here)
 
 pub invariant_of-self : goal.invariant_of-self
@@ -34,7 +34,7 @@ invariant_of-self c =
     (subst IsReachedMember (sym after) (store_reached c.in-Some.member c.in-Act.word c.in-Act.new
     (subst (IsStore c.in-Act.word c.in-Act.new) (sym c.in-Act.is ∙ c.next.ensures.deed) (refl, refl))
     (s.is.reached c.args.i c.in-Some.member s.here)))
-    refl refl refl c.store_at.ensures.table c.store_at.ensures.slots c.store_at.ensures.stored
+    refl refl refl c.store_at.ensures.table c.store_at.ensures.stored
     ([], ap (after_step 0) c.standing.ensures ∙ sym after)
 
 pub returns-clause-members : goal.returns-clause-members
@@ -82,9 +82,17 @@ store_at-requires-clause-word c =
     let s = lent c.index.result.now c.self.invariant c.self.view_is c.requires.there c.index.ensures c.in-Some.is in
     let home = ap (λ (w : Cards). w.table.id) c.self.view_is ∙ ap (λ (t : DealtTable). t.id) c.requires.board in
     subst (λ (t : TableId). c.in-Act.word < t.words) home
-    (subst (λ n. c.in-Act.word < n) (s.is.of c.args.i c.in-Some.member s.here)
-    (subst (IsWithin (table_size c.in-Some.member)) c.in-Act.is c.next.ensures.within))
+    (omega (
+      arith,
+      s.is.of c.args.i c.in-Some.member s.here,
+      subst (IsWithin (table_size c.in-Some.member)) c.in-Act.is c.next.ensures.within,
+    ))
 
 pub acted-requires : goal.acted-requires
 acted-requires c = c.requires.deed c.in-Some-index_mut.member (there (lent c.index_mut.result.now c.self.invariant
     c.self.view_is c.requires.there c.index_mut.ensures.value c.in-Some-index_mut.is))
+
+pub store_at-requires-clause-within : goal.store_at-requires-clause-within
+store_at-requires-clause-within c =
+    subst (λ q. c.in-Act.word < table_size q) (sym c.standing.ensures)
+    (subst (IsWithin (table_size c.in-Some.member)) c.in-Act.is c.next.ensures.within)

@@ -6,7 +6,7 @@ use Rattle.dr_table.proofs.hand.Hand.push_row.Goals as goal
 pub push_row-requires-clause-came : goal.push_row-requires-clause-came
 push_row-requires-clause-came c =
     let s = lent c.index_mut.result.now c.self.invariant c.self.view_is c.requires.there c.index_mut.ensures.value c.in-Some.is in
-    (refl, c.self.invariant.slots, come_begins s)
+    (refl, c.self.invariant.idle, come_begins s)
 
 pub push_row-requires-clause-deed : goal.push_row-requires-clause-deed
 push_row-requires-clause-deed c = c.requires.deed c.in-Some.member
@@ -15,8 +15,8 @@ push_row-requires-clause-deed c = c.requires.deed c.in-Some.member
 pub invariant_of-self : goal.invariant_of-self
 invariant_of-self c =
     let s = lent c.index_mut.result.now c.self.invariant c.self.view_is c.requires.there c.index_mut.ensures.value c.in-Some.is in
-    let (table, slots, come) = c.push_row.ensures.came in
-    swept_inside _ c.push_row.new.self s refl refl refl table slots come
+    let (table, free, come) = c.push_row.ensures.came in
+    swept_inside _ c.push_row.new.self s refl refl refl table free come
 
 pub returns-clause-members : goal.returns-clause-members
 returns-clause-members c =

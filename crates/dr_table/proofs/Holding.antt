@@ -1,0 +1,135 @@
+-- What a seat holds while it is about a letter, and what is known of the member that gives or takes it.
+use Rattle.std.proofs.Common.{◌≡◌, inl, inr, refl, sym, ap, ◌∙◌, ℕ, ◌<◌, ◌≤◌, Bool, true, false, eq-eqb, ne_eqb, List, [], ◌∷◌, arith}
+use Rattle.std.specs.Prelude.{IfSome, Option, None, Some, Vec, option_map, ◌^◌, ◌==◌}
+use Rattle.std.specs.declared.alloc.Global.{Global}
+use Rattle.std.proofs.lemmas.Option.{same_Some}
+use Rattle.atomic_table.specs.Table.{Me, rest}
+use Rattle.dr_age.proofs.Deeds.{deed_tells}
+use Rattle.dr_entry.specs.declared.entry.Entry.{Entry}
+use Rattle.dr_history.specs.Members.{has}
+use Rattle.dr_machine.specs.Group.{Group, late_members, roster}
+use Rattle.dr_member.specs.Deeds.{is_take, table_size}
+use Rattle.dr_program.specs.declared.deed.Deed.{Deed}
+use Rattle.dr_program.specs.declared.deed.Deed.TheVariants as deeds
+use Rattle.dr_program.specs.Form.{IsOf}
+use Rattle.dr_program.specs.Presence.{present_at, with_present}
+use Rattle.dr_program.specs.Program.{Program}
+use Rattle.dr_program.specs.Replica.{me}
+use Rattle.dr_program.specs.Running.{Running, next_deed, settled, took_letter}
+use Rattle.dr_form.specs.Letters.{IsFitting}
+use Rattle.dr_room.proofs.Letters.{letters_have_room}
+use Rattle.dr_turn.proofs.Takes.{taking}
+use Rattle.dr_words.proofs.Ranks.{few_members}
+use Rattle.dr_table.specs.declared.rule.Errand.{Errand}
+use Rattle.dr_table.specs.declared.rule.View.{View}
+use Rattle.dr_table.specs.Rule.{number}
+use Rattle.dr_table.specs.Slots.{Slot}
+use Rattle.dr_table.specs.Steps.{IsOfProgram, IsReachedMember, MayTake, Peeked, busy, idle}
+use Rattle.dr_table.proofs.Welcoming.{newcomer}
+use Rattle.dr_table.proofs.Words.{words_small}
+
+-- ---- what a seat holds
+
+-- a list of one slot
+pub held : (l : List (ℕ × Slot)) (x : ℕ × Slot) → l ≡ x ∷ [] → l ≡ x ∷ rest l
+held l x is = is ∙ ap (λ r. x ∷ r) (sym (ap rest is))
+
+first_or : (ℕ × Slot) → List (ℕ × Slot) → ℕ × Slot
+first_or d [] = d
+first_or d (x ∷ xs) = x
+
+-- what is in it
+pub first_is : (l : List (ℕ × Slot)) (k j : ℕ) (x y : Slot) → l ≡ (k, x) ∷ rest l → l ≡ (j, y) ∷ [] → x ≡ y
+unfolding first_or
+first_is l k j x y a b =
+    let same : (k, x) ≡ (j, y) = ap (first_or (k, x)) (sym a ∙ b) in ap (λ (z : ℕ × Slot). z.1) same
+
+-- a seat that is about a letter, once this was put into its slot
+pub exchanged : (old new : Me Slot View) (members : List (Option Running)) (e : Errand) (was : ℕ × Slot) (slot : ℕ)
+    (x : Slot) → old ≡ busy members e (was ∷ []) → new ≡ (old.0, (slot, x) ∷ rest old.1)
+    → new ≡ busy members e ((slot, x) ∷ [])
+exchanged old new members e was slot x is to = to ∙ (λ z. ((is z).0, (slot, x) ∷ rest (is z).1))
+
+-- it has these members
+pub busy_is : (seat : Me Slot View) (members : List (Option Running)) (e : Errand) (slots : List (ℕ × Slot))
+    → seat ≡ busy members e slots → seat ≡ busy seat.0.members e slots
+busy_is seat members e slots is =
+    is ∙ ap (λ ms. busy ms e slots) (sym (ap (λ (m : Me Slot View). m.0.members) is))
+
+pub members_there : (seat : Me Slot View) (members : List (Option Running)) (e : Errand) (slots : List (ℕ × Slot))
+    (at : ℕ) (r : Running) → seat ≡ busy members e slots → present_at members at ≡ Some r
+    → present_at seat.0.members at ≡ Some r
+members_there seat members e slots at r is there =
+    ap (λ (m : Me Slot View). present_at m.0.members at) is ∙ there
+
+-- the list that was in a slot
+pub same_list : (o : Slot) (list other : Vec Entry Global) → o ≡ Some list → o ≡ Some other → list ≡ other
+same_list o list other here there = same_Some list other (sym here ∙ there)
+
+-- what a peek has told, by whether it found 2
+pub saw_letter : (e : Errand) (r : Running) (old new : Me Slot View) (found : ℕ) (b : Bool) → b ≡ (found == 2)
+    → b ≡ true → Peeked e r old found new → new ≡ busy (with_present old.0.members e.place r) e []
+saw_letter e r old new found b is hit (inl (two, to)) = to
+saw_letter e r old new found b is hit (inr (other, none, to)) = absurd (cc (is, hit, ne_eqb found 2 other))
+
+pub saw_none : (e : Errand) (r : Running) (old new : Me Slot View) (found : ℕ) (b : Bool) → b ≡ (found == 2)
+    → b ≡ false → Peeked e r old found new
+    → MayTake r None × (new ≡ idle (with_present old.0.members e.place (settled (took_letter None r))))
+saw_none e r old new found b is miss (inl (two, to)) = absurd (cc (is, miss, eq-eqb found 2 two))
+saw_none e r old new found b is miss (inr (other, none, to)) = (none, to)
+
+-- ---- what is known of its member
+
+-- this late member is one of the member's roster, and its table has few words
+pub record KnowsLate (r : Running) (j : ℕ) : Type 0 where
+  pub late : has r.replica.late j ≡ true
+  pub within : j < r.replica.roster
+  pub few : r.replica.roster ≤ 16
+  pub small : table_size r < 2 ^ 32
+
+knows : (g : Group) (p : Program) (r : Running) (j : ℕ) → IsOfProgram g p r → has (late_members g) j ≡ true
+    → j < roster g → KnowsLate r j
+knows g p r j is late within = record {
+  late = ap (λ mask. has mask j) of.late ∙ late;
+  within = omega (arith, of.members, within);
+  few = omega (arith, of.members, is.sound.group.most_members);
+  small = words_small r.replica.roster r.replica.window r.replica.banks
+      (omega (arith, of.members, is.sound.group.most_members)) (omega (arith, of.window, is.sound.group.most_slots))
+      (omega (arith, of.banks, is.sound.group.most_members, few_members (late_members g)));
+}
+  where
+    of : IsOf g (number r) r.replica
+    of = is.sound.form.of (number r) r is.there
+
+pub giver_knows : (r : Running) (j : ℕ) → IsReachedMember r → next_deed r ≡ deeds.Give j → KnowsLate r j
+giver_knows r j (g, p, is) next =
+    let new = newcomer g p (number r) j r is.sound is.there next in knows g p r j is new.late new.within
+
+pub taker_knows : (r : Running) → IsReachedMember r → next_deed r ≡ deeds.Take → KnowsLate r (me r.replica)
+taker_knows r (g, p, is) next =
+    let form = is.sound.form.form (number r) r is.there in
+    let of = is.sound.form.of (number r) r is.there in
+    let t = deed_tells p.table r deeds.Take next in
+    let waits = form.replica.outside (taking r form (record { unended = t.none; due = t.says })).outside in
+    knows g p r (me r.replica) is (ap (λ mask. has mask (me r.replica)) (sym of.late) ∙ waits.late)
+    (omega (arith, form.replica.number, of.members))
+
+-- a letter that it may take fits it
+pub taken_fits : (r : Running) (letter : Option (List Entry)) → next_deed r ≡ deeds.Take → MayTake r letter
+    → IfSome letter (IsFitting r.replica)
+taken_fits r None next may = tt
+taken_fits r (Some letter) next (g, p, is, found) =
+    let form = is.sound.form.form (number r) r is.there in
+    let t = deed_tells p.table r deeds.Take next in
+    letters_have_room g p (number r) r letter is.sound.group is.sound.form is.sound.reached is.there
+    (taking r form (record { unended = t.none; due = t.says })).outside found
+
+pub fits_list : (P : List Entry → Type 0) (o : Slot) → IfSome (option_map (λ (l : Vec Entry Global). l.items) o) P
+    → IfSome o (λ (l : Vec Entry Global). P l.items)
+fits_list P None fits = tt
+fits_list P (Some l) fits = fits
+
+-- the deed is a take
+pub a_take : (d : Deed) → is_take d ≡ true → d ≡ deeds.Take
+a_take deeds.Take is = refl
+a_take d is = absurd (cc is)

@@ -1,0 +1,9 @@
+use Rattle.std.proofs.Common.{◌≡◌, ℕ, ◌<◌, ◌≤◌}
+use Rattle.std.specs.Prelude.{Some}
+use Rattle.dr_program.specs.Presence.{present_at}
+use Rattle.dr_program.specs.Running.{Running}
+use Rattle.dr_table.proofs.board.most_room.Given as goal
+
+abbrev pub invariant-loop-place : goal.invariant-loop-place
+invariant-loop-place l = (m : ℕ) → m < l.place-index → (r : Running) → present_at l.members m ≡ Some r
+    → r.replica.room ≤ l.most

@@ -1,0 +1,222 @@
+//! The steps by which a letter is given and taken.
+ghost use Rattle.std.specs.Prelude.{◌≡◌, ◌+◌, ◌<◌, ℕ, ◌∷◌, ◌==◌, true, IfSome, None, Some, [], option_map};
+ghost use Rattle.dr_form.specs.Letters.{IsFitting};
+ghost use Rattle.dr_history.specs.History.{up_to_view};
+ghost use Rattle.dr_member.specs.Deeds.{is_take, table_size};
+ghost use Rattle.dr_turn.specs.Work.{deeds_left};
+ghost use Rattle.dr_program.specs.declared.deed.Deed.TheVariants.{Give, Take};
+ghost use Rattle.dr_program.specs.Presence.{present_at, with_present};
+ghost use Rattle.dr_program.specs.Replica.{me};
+ghost use Rattle.dr_program.specs.Running.{Running, after_step, next_deed, settled, took_letter};
+ghost use Rattle.dr_table.specs.Cards.{board_size};
+ghost use Rattle.dr_table.specs.Slots.{IsBlankList, slot_number};
+ghost use Rattle.dr_table.specs.Steps.{IsAhead, IsReachedMember, MayTake, Peeked, busy, idle};
+
+use crate::board::Board;
+use crate::rule::{Fetches, Homes, Opens, Peeks, Posting, Returns, Slot, View};
+use atomic_table::Seat;
+use dr_entry::Entry;
+use dr_member::Member;
+use std::marker::Brand;
+
+/// The member at a place of the seat's hand, which may have made appends since the seat's last step, gives a late
+/// member its letter.
+pub(crate) fn give_at(
+    board: &Board,
+    seat: &mut Seat<Slot, View>,
+    i: usize,
+    member: &Member,
+    late: u8,
+)
+    requires table { seat.old.table_id ≡ board.now.table.id }
+    requires idle { seat.old.me ≡ idle seat.old.me.0.members }
+    requires there { (r : Running) × (present_at seat.old.me.0.members i ≡ Some r) × IsAhead r member.now }
+    requires reached { IsReachedMember member.now }
+    requires size { board_size member.now ≡ board.now.table.id.words }
+    requires deed { next_deed member.now ≡ Give late }
+    ensures table { seat.new.table_id ≡ seat.old.table_id }
+    ensures given { seat.new.me ≡ idle (with_present seat.old.me.0.members i (after_step 0 member.now)) }
+{
+    let word = member.table_words() + usize::from(late);
+    let slot = usize::from(member.late().rank_of(late));
+    let mut letter = open_at::<Brand>(board, seat, i, member, late, word, slot);
+    member.letter(&mut letter);
+    home_at::<Brand>(board, seat, i, member, late, word, slot, letter);
+}
+
+/// The late member at a place of the seat's hand, which may have made appends since the seat's last step, takes its
+/// letter, where one is there.
+pub(crate) fn take_at(board: &Board, seat: &mut Seat<Slot, View>, i: usize, member: &Member) -> Slot
+    requires table { seat.old.table_id ≡ board.now.table.id }
+    requires idle { seat.old.me ≡ idle seat.old.me.0.members }
+    requires there { (r : Running) × (present_at seat.old.me.0.members i ≡ Some r) × IsAhead r member.now }
+    requires reached { IsReachedMember member.now }
+    requires size { board_size member.now ≡ board.now.table.id.words }
+    requires deed { next_deed member.now ≡ Take }
+    ensures table { seat.new.table_id ≡ seat.old.table_id }
+    ensures may { MayTake member.now (option_map (λ list. list.items) result) }
+    ensures taken { seat.new.me ≡ idle (with_present seat.old.me.0.members i
+        (settled (took_letter (option_map (λ list. list.items) result) member.now))) }
+{
+    let word = member.table_words() + usize::from(member.me());
+    if !peek_at::<Brand>(board, seat, i, member, word) {
+        return None;
+    }
+    let slot = usize::from(member.late().rank_of(member.me()));
+    let letter = fetch_at::<Brand>(board, seat, i, member, word, slot);
+    return_at::<Brand>(board, seat, i, member, word, slot, &letter);
+    Some(letter)
+}
+
+/// The member takes this letter, or finds none, which is its next deed.
+pub(crate) fn take_letter(member: &mut Member, letter: &Slot)
+    requires due { is_take (next_deed member.old) ≡ true }
+    requires fitting { IfSome letter.now (λ list. IsFitting member.old.replica list.items) }
+    ensures after { member.new ≡ settled (took_letter (option_map (λ list. list.items) letter.now) member.old) }
+    ensures falls { deeds_left member.new < deeds_left member.old }
+{
+    match letter {
+        Some(list) => member.taken(Some(list.as_slice())),
+        None => member.taken(None),
+    }
+}
+
+/// The member takes the slot of the late member, and has the list that is in it.
+fn open_at<J: Posting>(
+    board: &Board,
+    seat: &mut Seat<Slot, View>,
+    i: usize,
+    member: &Member,
+    late: u8,
+    word: usize,
+    slot: usize,
+) -> Vec<Entry>
+    requires errand { (J.errand.place ≡ i) × (J.errand.late ≡ late) × (J.errand.word ≡ 1) }
+    requires now { J.now ≡ member.now }
+    requires table { seat.old.table_id ≡ board.now.table.id }
+    requires idle { seat.old.me ≡ idle seat.old.me.0.members }
+    requires there { (r : Running) × (present_at seat.old.me.0.members J.errand.place ≡ Some r) × IsAhead r J.now }
+    requires deed { next_deed J.now ≡ Give J.errand.late }
+    requires word { word ≡ table_size J.now + J.errand.late }
+    requires within { word < board.now.table.id.words }
+    requires slot { slot ≡ slot_number J.now.replica.late J.errand.late }
+    ensures table { seat.new.table_id ≡ seat.old.table_id }
+    ensures blank { IsBlankList J.now.replica.room result }
+    ensures opened { seat.new.me
+        ≡ busy (with_present seat.old.me.0.members J.errand.place J.now) J.errand ((slot, None) ∷ []) }
+{
+    board.table.shared.store::<Opens<J>>(seat, word, 1);
+    let Some(list) = board.table.shared.exchange(seat, slot, None) else {
+        unreachable!()
+    };
+    list
+}
+
+/// It puts the slot back with this letter, which gives it.
+fn home_at<J: Posting>(
+    board: &Board,
+    seat: &mut Seat<Slot, View>,
+    i: usize,
+    member: &Member,
+    late: u8,
+    word: usize,
+    slot: usize,
+    letter: Vec<Entry>,
+)
+    requires errand { (J.errand.place ≡ i) × (J.errand.late ≡ late) × (J.errand.word ≡ 1) }
+    requires now { J.now ≡ member.now }
+    requires table { seat.old.table_id ≡ board.now.table.id }
+    requires opened { seat.old.me ≡ busy seat.old.me.0.members J.errand ((slot, None) ∷ []) }
+    requires there { present_at seat.old.me.0.members J.errand.place ≡ Some J.now }
+    requires deed { next_deed J.now ≡ Give J.errand.late }
+    requires word { word ≡ table_size J.now + J.errand.late }
+    requires within { word < board.now.table.id.words }
+    requires slot { slot ≡ slot_number J.now.replica.late J.errand.late }
+    requires letter { letter.items ≡ up_to_view J.now.replica.history }
+    ensures table { seat.new.table_id ≡ seat.old.table_id }
+    ensures given { seat.new.me ≡ idle (with_present seat.old.me.0.members J.errand.place (after_step 0 J.now)) }
+{
+    let _none = board.table.shared.exchange(seat, slot, Some(letter));
+    board.table.shared.store::<Homes<J>>(seat, word, 2);
+}
+
+/// The late member looks whether its letter is there: where it isn't, that was its take.
+fn peek_at<J: Posting>(
+    board: &Board,
+    seat: &mut Seat<Slot, View>,
+    i: usize,
+    member: &Member,
+    word: usize,
+) -> bool
+    requires errand { (J.errand.place ≡ i) × (J.errand.word ≡ 2) }
+    requires now { J.now ≡ member.now }
+    requires table { seat.old.table_id ≡ board.now.table.id }
+    requires idle { seat.old.me ≡ idle seat.old.me.0.members }
+    requires there { (r : Running) × (present_at seat.old.me.0.members J.errand.place ≡ Some r) × IsAhead r J.now }
+    requires deed { next_deed J.now ≡ Take }
+    requires own { me J.now.replica ≡ J.errand.late }
+    requires word { word ≡ table_size J.now + me J.now.replica }
+    requires within { word < board.now.table.id.words }
+    ensures table { seat.new.table_id ≡ seat.old.table_id }
+    ensures peeked { (found : ℕ) × (result ≡ (found == 2)) × Peeked J.errand J.now seat.old.me found seat.new.me }
+{
+    board.table.shared.load::<Peeks<J>>(seat, word) == 2
+}
+
+/// It takes its slot, and has its letter.
+fn fetch_at<J: Posting>(
+    board: &Board,
+    seat: &mut Seat<Slot, View>,
+    i: usize,
+    member: &Member,
+    word: usize,
+    slot: usize,
+) -> Vec<Entry>
+    requires errand { (J.errand.place ≡ i) × (J.errand.word ≡ 2) }
+    requires now { J.now ≡ member.now }
+    requires table { seat.old.table_id ≡ board.now.table.id }
+    requires seen { seat.old.me ≡ busy seat.old.me.0.members J.errand [] }
+    requires there { present_at seat.old.me.0.members J.errand.place ≡ Some J.now }
+    requires deed { next_deed J.now ≡ Take }
+    requires own { me J.now.replica ≡ J.errand.late }
+    requires word { word ≡ table_size J.now + J.errand.late }
+    requires within { word < board.now.table.id.words }
+    requires slot { slot ≡ slot_number J.now.replica.late J.errand.late }
+    ensures table { seat.new.table_id ≡ seat.old.table_id }
+    ensures may { MayTake J.now (Some result.items) }
+    ensures fetched { seat.new.me
+        ≡ busy seat.old.me.0.members (record J.errand { word = 3; letter = result.items }) ((slot, None) ∷ []) }
+{
+    board.table.shared.store::<Fetches<J>>(seat, word, 3);
+    let Some(letter) = board.table.shared.exchange(seat, slot, None) else {
+        unreachable!()
+    };
+    letter
+}
+
+/// It puts the slot back, empty, which takes this letter.
+fn return_at<J: Posting>(
+    board: &Board,
+    seat: &mut Seat<Slot, View>,
+    i: usize,
+    member: &Member,
+    word: usize,
+    slot: usize,
+    letter: &Vec<Entry>,
+)
+    requires errand { (J.errand.place ≡ i) × (J.errand.word ≡ 3) × (J.errand.letter ≡ letter.now.items) }
+    requires now { J.now ≡ member.now }
+    requires table { seat.old.table_id ≡ board.now.table.id }
+    requires fetched { seat.old.me ≡ busy seat.old.me.0.members J.errand ((slot, None) ∷ []) }
+    requires there { present_at seat.old.me.0.members J.errand.place ≡ Some J.now }
+    requires deed { next_deed J.now ≡ Take }
+    requires own { me J.now.replica ≡ J.errand.late }
+    requires word { word ≡ table_size J.now + J.errand.late }
+    requires within { word < board.now.table.id.words }
+    requires slot { slot ≡ slot_number J.now.replica.late J.errand.late }
+    ensures table { seat.new.table_id ≡ seat.old.table_id }
+    ensures taken { seat.new.me ≡ idle (with_present seat.old.me.0.members J.errand.place
+        (settled (took_letter (Some J.errand.letter) J.now))) }
+{
+    board.table.shared.store::<Returns<J>>(seat, word, 4);
+}
