@@ -1,5 +1,5 @@
 -- Runs in which nobody is late.
-use Rattle.std.proofs.Common.{◌≡◌, ◌∙◌, refl, sym, subst, arith, ℕ, ◌-◌, ◌^◌, Bool, false}
+use Rattle.std.proofs.Common.{◌≡◌, ◌∙◌, refl, sym, subst, arith, ℕ, ◌-◌, ◌^◌, Bool}
 use Rattle.std.proofs.lemmas.Bool.Decides.{nat_tests}
 use Rattle.std.specs.Prelude.{◌&&◌, not}
 use Rattle.dr_entry.specs.declared.end.AgeEnd.{AgeEnd}

@@ -23,7 +23,7 @@ ghost use Rattle.dr_ages.specs.Opened.{AreLater, HaveGoneOn};
 ghost use Rattle.dr_ages.specs.Runs.{IsRunOf};
 ghost use Rattle.dr_ages.specs.Stops.{HasKept, HasStopped, IsBehindMounts, NamesFaults};
 ghost use Rattle.dr_ages.specs.Watched.{AreWatched, HasSeen};
-ghost use Rattle.dr_ages.specs.declared.mode.Mode.TheVariants.{Run, Sim};
+ghost use Rattle.dr_ages.specs.declared.mode.Mode.TheVariants.{Sim};
 ghost use Rattle.dr_ages.specs.declared.stop.Stop.TheVariants as stops;
 
 use crate::lending::{give_all_back, mount_all};
@@ -70,8 +70,6 @@ pub fn run_ages<R: Threads + Sync, Y: Yard, P: Pace + Sync>(
 ) -> AgesEnd
     requires ranges { HasRanges script.now }
     requires some { HaveSomebodyPrompt script.now part.now }
-    // So far nobody joins in threads.
-    requires prompt { mode ≡ Run → part.now.late ≡ 0 }
     requires here { (m : ℕ) → m < MAX_MEMBERS → Y.is_lent yard.old m ≡ false }
     ensures here { (m : ℕ) → m < MAX_MEMBERS → Y.is_lent yard.new m ≡ false }
     // How the disks were, and are, tells which ages ran, and why no further one did.
@@ -106,8 +104,6 @@ pub fn watch_ages<R: Threads + Sync, Y: Yard, P: Pace + Sync, W: Watcher>(
 ) -> AgesEnd
     requires ranges { HasRanges script.now }
     requires some { HaveSomebodyPrompt script.now part.now }
-    // So far nobody joins in threads.
-    requires prompt { mode ≡ Run → part.now.late ≡ 0 }
     requires here { (m : ℕ) → m < MAX_MEMBERS → Y.is_lent yard.old m ≡ false }
     ensures here { (m : ℕ) → m < MAX_MEMBERS → Y.is_lent yard.new m ≡ false }
     ensures run { IsRunOf script.now part.now mode (state_by Y.told Y.faults yard.old)
@@ -156,8 +152,6 @@ fn run_age<R: Threads + Sync, Y: Yard, P: Pace + Sync, W: Watcher>(
 ) -> Result<AgeEnd, Stop>
     requires ranges { HasRanges script.now }
     requires some { HaveSomebodyPrompt script.now part.now }
-    // So far nobody joins in threads.
-    requires prompt { mode ≡ Run → part.now.late ≡ 0 }
     requires here { (m : ℕ) → m < MAX_MEMBERS → Y.is_lent yard.old m ≡ false }
     ensures here { (m : ℕ) → m < MAX_MEMBERS → Y.is_lent yard.new m ≡ false }
     ensures age { IfOk result (IsAgeOf script.now part.now mode nth
@@ -203,7 +197,6 @@ fn run_over<R: Threads + Sync, D: Disk, P: Pace + Sync, W: Watcher>(
     requires all { length logs.items ≡ script.now.members }
     requires places { AreAllBut part.now.missing logs.items }
     requires some { HaveSomebodyPrompt script.now part.now }
-    requires prompt { mode ≡ Run → part.now.late ≡ 0 }
     requires whole { (m : ℕ) (log : LogState D) → log_of logs.items m ≡ Some log → log.failed ≡ false }
     // Over any yard from whose disks these logs were mounted.
     ensures age { IfOk result.0 (λ age. (before : YardState) → AreMounted D.told D.faults before logs.items
@@ -249,7 +242,6 @@ fn play_age<R: Threads + Sync, D: Disk, P: Pace + Sync, W: Watcher>(
 ) -> (Result<AgeEnd, AllocError>, Vec<Option<Log<D>>>)
     requires ranges { HasRanges script.now }
     requires group { IsGroup (group_of script.now start.now) }
-    requires prompt { mode ≡ Run → IsNobodyLate (group_of script.now start.now).opening }
     requires logs { AreOpened (group_of script.now start.now) logs.items }
     ensures run { IfOk result.0 (λ age. (is : IsPlayed mode script.now start.now nth age)
         × HaveCome D.told D.faults logs.items result.1.items

@@ -9,7 +9,6 @@ use Rattle.dr_opening.specs.Tries.{IsChosenOf}
 use Rattle.dr_opening.specs.Unopened.{IsWhyUnopened}
 use Rattle.dr_restart.specs.declared.start.Start.{Start}
 use Rattle.dr_restart.specs.Groups.{first_group_of, group_of}
-use Rattle.dr_words.specs.Masks.{without}
 use Rattle.dr_ages.specs.declared.stop.Stop.{Stop}
 use Rattle.dr_ages.specs.Ages.{over_of}
 use Rattle.dr_ages.specs.Fit.{AreFit}
@@ -22,7 +21,6 @@ use Rattle.dr_ages.proofs.Fit.{why_fit}
 use Rattle.dr_ages.proofs.Loans.{contents_there}
 use Rattle.dr_ages.proofs.Opening.{are_opened, gone_on, opened_on, opened_places, why_places}
 use Rattle.dr_ages.proofs.Played.{is_age, later_on, ok_at, same_start, somebody_prompt}
-use Rattle.dr_ages.proofs.Prompt.{without-nobody}
 use Rattle.dr_ages.proofs.Staying.{later_by_all}
 use Rattle.dr_ages.proofs.Stopping.{why_behind, why_names, why_stops}
 use Rattle.dr_ages.proofs.ages.run_over.Given.{Over}
@@ -49,11 +47,6 @@ play_age-ended-requires-clause-logs g c κs h =
     (are_opened told faults c.args.script.now c.in-Ok.start c.as_mut_slice.result.now
     c.open_age.new.logs c.requires.ranges.group.lists c.requires.ranges.group.most_members
     (ap length c.as_mut_slice.ensures.value ∙ c.requires.all) c.in-Ok.ensures.chosen c.in-Ok.ensures.opened)
-
--- nobody is late in it, where it is run in threads
-pub play_age-ended-requires-clause-prompt : goal.play_age-ended-requires-clause-prompt
-play_age-ended-requires-clause-prompt g c κs h run = c.in-Ok.ensures.members
-    ∙ (ap (without c.in-Ok.start.present) (c.requires.prompt run) ∙ without-nobody _ c.in-Ok.start.present c.in-Ok.ensures.chosen.chosen.present)
 
 -- somebody whose log is there isn't late
 pub open_age-requires-clause-prompt : goal.open_age-requires-clause-prompt

@@ -19,9 +19,6 @@ run_ages-ages-requires-clause-some g c κs within =
     subst (λ (nobody : ℕ). HaveSomebodyPrompt c.args.script.now (both nobody)) (sym c.empty-nobody.ensures.bits)
     (all_prompt c.args.script.now 0)
 
-pub run_ages-ages-requires-clause-prompt : goal.run_ages-ages-requires-clause-prompt
-run_ages-ages-requires-clause-prompt g c κs within run = c.empty-nobody.ensures.bits
-
 pub unreachable-requires : goal.unreachable-requires
 unreachable-requires g c =
     let before = calm_yard c.args.yard.now in
