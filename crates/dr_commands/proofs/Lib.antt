@@ -1,4 +1,3 @@
-pub mod Fronts
 pub mod Verbs
 pub mod Course
 pub mod Judged

@@ -7,7 +7,8 @@ use Rattle.dr_ages.specs.declared.mode.Mode.{Mode}
 use Rattle.dr_ages.specs.declared.mode.Mode.TheVariants.{Sim, Run}
 use Rattle.dr_checked.specs.Checked.{check_ends}
 use Rattle.dr_drilled.specs.Drilled.{drill_ends}
-use Rattle.dr_literals.specs.Literals.{key_word, mask_word, number_word}
+use Rattle.dr_literals.specs.Literals.{key_word, number_word}
+use Rattle.dr_literals.specs.Options.{option_members, option_of}
 use Rattle.dr_lived.specs.Lived.{live_ends}
 use Rattle.dr_lived.specs.Words.{rounds_of}
 use Rattle.dr_outcome.specs.Playing.{InFolder, play_ends}
@@ -18,41 +19,6 @@ use Rattle.dr_commands.specs.declared.words.Command.{Command}
 use Rattle.dr_commands.specs.declared.words.Command.TheVariants.{Check, Drill, Live, Play, Shards, Store}
 use Rattle.dr_commands.specs.declared.words.Verb.{Verb}
 use Rattle.dr_commands.specs.declared.words.Verb.TheVariants as verb
-
--- ---- options, each in two spellings: `--NAME VALUE` and `--NAME=VALUE`
-
--- the value that a word of its own is: one that is not empty and does not begin with a dash
-abbrev pub own_word : List ℕ → Option (List ℕ)
-own_word [] = None
-own_word (byte ∷ bytes) = if byte == 45 then None else Some (byte ∷ bytes)
-
--- what stands behind this front of a word, where the word begins with it
-abbrev pub behind : List ℕ → List ℕ → Option (List ℕ)
-behind front word =
-    if bytes_eq (take (length front) word) front then Some (drop (length front) word) else None
-
--- something that is not nothing
-abbrev pub filled : List ℕ → Option (List ℕ)
-filled [] = None
-filled (byte ∷ bytes) = Some (byte ∷ bytes)
-
--- what stands in a word behind the name and `=`, where that is something
-abbrev pub value_in : List ℕ → List ℕ → Option (List ℕ)
-value_in name word = option_and_then filled (option_and_then (behind (codes "=")) (behind name word))
-
--- the value in a word, if there is one, and the words that are left
-abbrev pub left_by : Option (List ℕ) → List ℕ → List (List ℕ) → Option (List ℕ) × List (List ℕ)
-left_by None word rest = (None, word ∷ rest)
-left_by (Some value) word rest = (Some value, rest)
-
--- the value of the option with this name, if the words begin with one, and the words behind it: none where
--- the option has no value
-abbrev pub option_of : List ℕ → List (List ℕ) → Option (Option (List ℕ) × List (List ℕ))
-option_of name [] = Some (None, [])
-option_of name (word ∷ []) = Some (left_by (value_in name word) word [])
-option_of name (word ∷ value ∷ rest) =
-    if bytes_eq word name then option_map (λ v. (Some v, rest)) (own_word value)
-    else Some (left_by (value_in name word) word (value ∷ rest))
 
 -- ---- commands, by the words behind their verb
 
@@ -65,16 +31,6 @@ with_no_more asked rest = None
 abbrev pub played : Mode → Option InFolder → ℕ → Command
 played mode folder late = Play (record { mode = mode; folder = folder; late = late })
 
--- the members of a list, and nobody where there is none
-abbrev pub members_in : Option (List ℕ) → Option ℕ
-members_in None = Some 0
-members_in (Some list) = mask_word list
-
--- the members that the option with this name lists, if the words begin with one, and the words behind it
-abbrev pub option_members : List ℕ → List (List ℕ) → Option (ℕ × List (List ℕ))
-option_members name words =
-    option_and_then (λ found. option_map (λ mask. (mask, found.1)) (members_in found.0)) (option_of name words)
-
 -- the folder of this name, but for the logs of the members of a mask
 abbrev pub in_folder : List ℕ → ℕ → InFolder
 in_folder name missing = record { name = name; missing = missing }
@@ -84,15 +40,11 @@ abbrev pub folder_of : List ℕ → List (List ℕ) → Option (InFolder × List
 folder_of name words =
     option_map (λ found. (in_folder name found.0, found.1)) (option_members (codes "--missing") words)
 
--- who is late by these words, and the words behind that: in threads so far nobody
-abbrev pub latecomers : Mode → List (List ℕ) → Option (ℕ × List (List ℕ))
-latecomers Sim words = option_members (codes "--late") words
-latecomers Run words = Some (0, words)
-
--- to play in a mode over a folder, if there is one, by the words behind what names that
+-- to play in a mode over a folder, if there is one, with those late whom the words behind it name
 abbrev pub play_over : Mode → Option InFolder → List (List ℕ) → Option Command
 play_over mode folder words =
-    option_and_then (λ found. with_no_more (Some (played mode folder found.0)) found.1) (latecomers mode words)
+    option_and_then (λ found. with_no_more (Some (played mode folder found.0)) found.1)
+    (option_members (codes "--late") words)
 
 -- to play in a mode, by the words behind the name of a folder, if there is one
 abbrev pub play_in : Mode → Option (List ℕ) → List (List ℕ) → Option Command

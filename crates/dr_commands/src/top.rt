@@ -42,8 +42,8 @@ pub struct Ended {
 /// `--logs F` or `--logs=F` each member keeps its log on a disk of the yard, in the folder `F`, and the first
 /// age begins with what is there. Behind it `--missing L` or `--missing=L` names the members whose logs are
 /// missing: they take no part. Without a folder each keeps its log on a disk in memory, which is gone when the
-/// run has ended. With `sim`, `--late L` or `--late=L` as the last option names the members that are in no first
-/// view: they wait until others wish for them. What the other commands do is told of each at
+/// run has ended. `--late L` or `--late=L` as the last option names the members that are in no first view: they
+/// wait until others wish for them. What the other commands do is told of each at
 /// [`Command`](crate::Command). The status says how that went: see the constants of `dr_intake`.
 pub fn derecho<R: Threads + Sync, S: Source, K: Sink, Y: Yard, P: Pace + Sync>(
     rt: &R,

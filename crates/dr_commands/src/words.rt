@@ -1,11 +1,10 @@
-ghost use Rattle.std.specs.Prelude.{◌≡◌, IfSome, bytes_eq, map, option_map, string_bytes};
+ghost use Rattle.std.specs.Prelude.{◌≡◌, bytes_eq, map, option_map, string_bytes};
 ghost use Rattle.std.specs.List.{find};
-ghost use Rattle.dr_ages.specs.declared.mode.Mode.TheVariants.{Run};
-ghost use Rattle.dr_commands.specs.Words.{asked_at, asked_behind, behind, command_of, drill_of, folder_of, latecomers, option_members, live_of, members_in, option_of, own_word, play_in, play_of, play_over, played, shards_of, store_of, value_in, verb_by, verbs, with_no_more};
+ghost use Rattle.dr_commands.specs.Words.{asked_at, asked_behind, command_of, drill_of, folder_of, live_of, play_in, play_of, play_over, played, shards_of, store_of, verb_by, verbs, with_no_more};
 
 use dr_ages::Mode;
 use dr_entry::Message;
-use dr_literals::{key_word, mask_word, number_word};
+use dr_literals::{key_word, number_word, option_members, option_of};
 use dr_lived::{Rounds, rounds_of};
 use dr_outcome::{Folder, Play};
 use dr_sharded::{Sharding, sharding_of};
@@ -122,7 +121,7 @@ fn play_in<'a>(mode: Mode, name: Option<&'a str>, words: &'a [String]) -> Option
 fn play_over<'a>(mode: Mode, folder: Option<Folder<'a>>, words: &'a [String]) -> Option<Command<'a>>
     ensures { result ≡ play_over mode folder.entry (map string_bytes words.now) }
 {
-    let Some((late, rest)) = latecomers(mode, words) else {
+    let Some((late, rest)) = option_members("--late", words) else {
         return None;
     };
     with_no_more(Some(played(mode, folder, late)), rest)
@@ -130,7 +129,6 @@ fn play_over<'a>(mode: Mode, folder: Option<Folder<'a>>, words: &'a [String]) ->
 
 /// To play in a mode, over the logs in a folder if there is one, with these members late.
 fn played<'a>(mode: Mode, folder: Option<Folder<'a>>, late: Mask) -> Command<'a>
-    requires { mode ≡ Run → late ≡ 0 }
     ensures { result ≡ played mode folder.entry late }
 {
     Command::Play(Play { mode, folder, late })
@@ -146,38 +144,6 @@ fn folder_of<'a>(name: &'a str, words: &'a [String]) -> Option<(Folder<'a>, &'a 
         return None;
     };
     Some((Folder { name, missing }, rest))
-}
-
-/// Who is late by these words, and the words behind that: in threads so far nobody.
-fn latecomers(mode: Mode, words: &[String]) -> Option<(Mask, &[String])>
-    ensures words { option_map (λ found. (found.0, map string_bytes found.1.now)) result
-        ≡ latecomers mode (map string_bytes words.now) }
-    ensures prompt { IfSome result (λ found. mode ≡ Run → found.0 ≡ 0) }
-{
-    match mode {
-        Mode::Sim => option_members("--late", words),
-        Mode::Run => Some((Mask::empty(), words)),
-    }
-}
-
-/// The members that the option with this name lists, if the words begin with one, and the words behind it.
-fn option_members<'a>(name: &str, words: &'a [String]) -> Option<(Mask, &'a [String])>
-    ensures { option_map (λ found. (found.0, map string_bytes found.1.now)) result
-        ≡ option_members name.now (map string_bytes words.now) }
-{
-    let (list, rest) = option_of(name, words)?;
-    let mask = members_in(list)?;
-    Some((mask, rest))
-}
-
-/// The members of a list, and nobody where there is none.
-fn members_in(list: Option<&str>) -> Option<Mask>
-    ensures { result ≡ members_in (option_map (λ l. l.now) list.entry) }
-{
-    match list {
-        Some(list) => mask_word(list),
-        None => Some(Mask::empty()),
-    }
 }
 
 /// What the words behind `store` ask for: a key in hexadecimal, and a version in decimal.
@@ -228,45 +194,4 @@ fn with_no_more<'a>(asked: Option<Command<'a>>, rest: &[String]) -> Option<Comma
         [] => asked,
         [_, ..] => None,
     }
-}
-
-/// The value of the option with this name, if the words begin with one, and the words behind it. Nothing
-/// where the option has no value.
-fn option_of<'a>(name: &str, words: &'a [String]) -> Option<(Option<&'a str>, &'a [String])>
-    ensures { option_map
-        (λ found. (option_map (λ value. value.now) found.0, map string_bytes found.1.now)) result
-        ≡ option_of name.now (map string_bytes words.now) }
-{
-    match words {
-        [word, value, rest @ ..] if word.as_str() == name => {
-            Some((Some(own_word(value.as_str())?), rest))
-        }
-        [word, rest @ ..] => match value_in(name, word.as_str()) {
-            Some(value) => Some((Some(value), rest)),
-            None => Some((None, words)),
-        },
-        [] => Some((None, words)),
-    }
-}
-
-/// The value that a word of its own is: one that is not empty and does not begin with a dash.
-fn own_word(word: &str) -> Option<&str>
-    ensures { option_map (λ value. value.now) result ≡ own_word word.now }
-{
-    (!word.is_empty() && !word.starts_with('-')).then_some(word)
-}
-
-/// What stands in a word behind the name and `=`, where that is something.
-fn value_in<'a>(name: &str, word: &'a str) -> Option<&'a str>
-    ensures { option_map (λ value. value.now) result ≡ value_in name.now word.now }
-{
-    let value = behind("=", behind(name, word)?)?;
-    (!value.is_empty()).then_some(value)
-}
-
-/// What stands behind this front of a word, where the word begins with it.
-fn behind<'a>(front: &str, word: &'a str) -> Option<&'a str>
-    ensures { option_map (λ rest. rest.now) result ≡ behind front.now word.now }
-{
-    word.strip_prefix(front)
 }

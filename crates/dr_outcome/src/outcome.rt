@@ -33,20 +33,16 @@ pub struct Play<'a> {
     pub mode: Mode,
     /// The folder of the logs. Without one they are empty at first, and kept in memory.
     pub folder: Option<Folder<'a>>,
-    /// The members that are in no view until others wish for them: in threads so far nobody.
+    /// The members that are in no view until others wish for them.
     pub late: Mask,
 }
 
 impl<'a> Model for Play<'a> {
-    ghost use Rattle.std.specs.Prelude.{◌≡◌};
-    ghost use Rattle.dr_ages.specs.declared.mode.Mode.TheVariants.{Run};
     ghost use Rattle.dr_outcome.specs.Playing.{Playing};
 
     ghost Value = { Playing };
 
     ghost view = { λ p. record { mode = p.mode; folder = p.folder; late = p.late } };
-
-    ghost invariant = { λ p. p.mode ≡ Run → p.late ≡ 0 };
 }
 
 impl<'a> Play<'a> {

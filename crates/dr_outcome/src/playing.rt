@@ -70,7 +70,7 @@ pub fn play_script<R: Threads + Sync, Y: Yard, P: Pace + Sync>(
 }
 
 /// Whether somebody takes part, and all who do are late.
-fn are_all_late(script: &Script, part: &Part) -> bool
+pub fn are_all_late(script: &Script, part: &Part) -> bool
     requires { HasRanges script.now }
     ensures { MatchBool result (AreAllLate script.now part.now) (HaveSomebodyPrompt script.now part.now) }
 {

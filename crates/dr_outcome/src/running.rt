@@ -4,9 +4,9 @@ ghost use Rattle.dr_script.specs.Ranges.{HasRanges};
 ghost use Rattle.dr_yard.specs.Yards.{state_by};
 ghost use Rattle.dr_ages.specs.Ages.{HaveSomebodyPrompt, all_but};
 ghost use Rattle.dr_ages.specs.Runs.{IsRunOf};
-ghost use Rattle.dr_ages.specs.declared.mode.Mode.TheVariants.{Run};
 ghost use Rattle.dr_outcome.specs.Last.{last_of};
 ghost use Rattle.dr_outcome.specs.Outcome.{IsMemoryRun};
+ghost use Rattle.dr_outcome.specs.Playing.{all_with};
 ghost use Rattle.dr_outcome.specs.declared.outcome.Body.TheVariants.{Report};
 
 use crate::last::last_of;
@@ -23,9 +23,16 @@ use std::thread::Threads;
 pub(crate) fn everybody() -> Part
     ensures { result ≡ all_but 0 }
 {
+    everybody_with(Mask::empty())
+}
+
+/// All members, of whom these are late.
+pub fn everybody_with(late: Mask) -> Part
+    ensures { result ≡ all_with late }
+{
     Part {
         missing: Mask::empty(),
-        late: Mask::empty(),
+        late,
     }
 }
 
@@ -40,7 +47,6 @@ pub fn run_in_memory<R: Threads + Sync, P: Pace + Sync>(
 ) -> Outcome
     requires ranges { HasRanges script.now }
     requires some { HaveSomebodyPrompt script.now part.now }
-    requires prompt { mode ≡ Run → part.now.late ≡ 0 }
     ensures ran { ((result.ages ≡ []) × (result.stop ≡ None) × (result.last ≡ None))
         ⊎ (IsMemoryRun script.now part.now mode result.ages result.stop
         × (result.last ≡ last_of result.ages result.stop)) }
@@ -65,7 +71,6 @@ pub(crate) fn run_over<R: Threads + Sync, Y: Yard, P: Pace + Sync>(
 ) -> Outcome
     requires ranges { HasRanges script.now }
     requires some { HaveSomebodyPrompt script.now part.now }
-    requires prompt { mode ≡ Run → part.now.late ≡ 0 }
     requires here { (m : ℕ) → m < MAX_MEMBERS → Y.is_lent yard.old m ≡ false }
     ensures here { (m : ℕ) → m < MAX_MEMBERS → Y.is_lent yard.new m ≡ false }
     ensures run { IsRunOf script.now part.now mode (state_by Y.told Y.faults yard.old)

@@ -2,17 +2,16 @@ ghost use Rattle.std.specs.Prelude.{◌≡◌, ◌<◌, ◌⊎◌, ℕ, None, []
 ghost use Rattle.dr_entry.specs.declared.limits.TheConstants.{MAX_MEMBERS};
 ghost use Rattle.dr_script.specs.Ranges.{HasRanges};
 ghost use Rattle.dr_yard.specs.Yards.{state_by};
-ghost use Rattle.dr_ages.specs.Ages.{all_but};
+ghost use Rattle.dr_ages.specs.Ages.{HaveSomebodyPrompt};
 ghost use Rattle.dr_ages.specs.Runs.{IsRunOf};
 ghost use Rattle.dr_ages.specs.Watched.{AreWatched};
 ghost use Rattle.dr_ages.specs.declared.mode.Mode.TheVariants.{Sim};
 ghost use Rattle.dr_outcome.specs.Last.{last_of};
-ghost use Rattle.dr_outcome.specs.Outcome.{IsRunInMemory};
+ghost use Rattle.dr_outcome.specs.Outcome.{IsMemoryRun};
 
 use crate::last::last_of;
 use crate::outcome::{Body, Outcome, without_ages};
-use crate::running::everybody;
-use dr_ages::{AgesEnd, Mode, watch_ages};
+use dr_ages::{AgesEnd, Mode, Part, watch_ages};
 use dr_pace::SnoozePace;
 use dr_script::Script;
 use dr_sim::Watcher;
@@ -25,17 +24,19 @@ pub fn watch_in_memory<R: Threads + Sync, W: Watcher>(
     rt: &R,
     alloc: Global,
     script: &Script,
+    part: &Part,
     watcher: &mut W,
 ) -> Outcome
-    requires { HasRanges script.now }
+    requires ranges { HasRanges script.now }
+    requires some { HaveSomebodyPrompt script.now part.now }
     ensures ran { ((result.ages ≡ []) × (result.stop ≡ None) × (result.last ≡ None))
-        ⊎ (IsRunInMemory script.now Sim result.ages result.stop
+        ⊎ (IsMemoryRun script.now part.now Sim result.ages result.stop
         × (result.last ≡ last_of result.ages result.stop)) }
-    ensures watched { AreWatched W.opens W.sees W.closes Sim script.now (all_but 0) 0 result.ages
+    ensures watched { AreWatched W.opens W.sees W.closes Sim script.now part.now 0 result.ages
         watcher.old watcher.new }
 {
     match CalmYard::new(alloc) {
-        Ok(mut yard) => watch_over(rt, alloc, script, &mut yard, watcher),
+        Ok(mut yard) => watch_over(rt, alloc, script, part, &mut yard, watcher),
         Err(_) => without_ages(alloc, None),
     }
 }
@@ -45,26 +46,27 @@ fn watch_over<R: Threads + Sync, Y: Yard, W: Watcher>(
     rt: &R,
     alloc: Global,
     script: &Script,
+    part: &Part,
     yard: &mut Y,
     watcher: &mut W,
 ) -> Outcome
     requires ranges { HasRanges script.now }
+    requires some { HaveSomebodyPrompt script.now part.now }
     requires here { (m : ℕ) → m < MAX_MEMBERS → Y.is_lent yard.old m ≡ false }
     ensures here { (m : ℕ) → m < MAX_MEMBERS → Y.is_lent yard.new m ≡ false }
-    ensures run { IsRunOf script.now (all_but 0) Sim (state_by Y.told Y.faults yard.old)
+    ensures run { IsRunOf script.now part.now Sim (state_by Y.told Y.faults yard.old)
         (state_by Y.told Y.faults yard.new) result.ages result.stop }
     ensures last { result.last ≡ last_of result.ages result.stop }
-    ensures watched { AreWatched W.opens W.sees W.closes Sim script.now (all_but 0) 0 result.ages
+    ensures watched { AreWatched W.opens W.sees W.closes Sim script.now part.now 0 result.ages
         watcher.old watcher.new }
 {
-    let part = everybody();
     // A simulation never calls its pace.
     let pace = &SnoozePace;
     let AgesEnd { ages, stop } = watch_ages(
         rt,
         alloc,
         script,
-        &part,
+        part,
         Mode::Sim,
         "",
         yard,

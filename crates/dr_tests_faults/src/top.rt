@@ -3,7 +3,7 @@ ghost use Rattle.dr_entry.specs.declared.limits.TheConstants.{MAX_MEMBERS};
 
 use dr_commands::{Ended, derecho};
 use dr_disk::MemoryDisk;
-use dr_entry::End;
+use dr_entry::{End, Entry};
 use dr_io::{MemorySink, MemorySource};
 use dr_pace::{HoldPace, MeetPace, Pace, SnoozePace};
 use dr_yard::{CalmYard, MemoryYard, Yard};
@@ -46,6 +46,10 @@ member 2 done history 4 logged 4 durable 4
   msg 2 0 63
 ok
 ";
+
+/// Three members with a message each, the first of which wishes for the last one, if that is late.
+const JOIN: &[u8] =
+    br#"{"members":3,"window":1,"turns":24,"patience":0,"ages":1,"messages":[["a"],["b"],["c"]],"faults":[{"age":0,"member":0,"suspect":[2,2]}],"schedule":"lockstep"}"#;
 
 /// How often a member looks at most whether the others have come.
 const LOOKS: u64 = 100_000_000;
@@ -198,6 +202,57 @@ fn members_in_threads_run_at_once(rt: HostRuntime) -> Result<(), Fail> {
     assert_eq!(rt; sink.bytes(), THREE_TEXT);
     assert!(rt; pace.missed() == 0 && pace.met() >= 3);
     Ok(())
+}
+
+/// A late member comes into the next view in threads, too, and delivers what the others do. Where that view stands
+/// among their messages depends on the threads.
+#[test]
+fn a_late_member_joins_in_threads(rt: HostRuntime) -> Result<(), Fail> {
+    let alloc = rt.alloc();
+    let mut yard = CalmYard::new(alloc)?;
+    let pace = MeetPace::new(alloc, 3, LOOKS)?;
+    let join = plain_call(&["run", "--late", "2"], JOIN);
+    let (ended, sink) = outcome(&rt, alloc, join, &mut yard, &pace)?;
+    assert!(rt; ended.status == 0 && pace.missed() == 0);
+    assert!(rt; sink.bytes().ends_with(b"\nok\n"));
+    let [age] = ended.ages.as_slice() else {
+        return Err(Fail::from("one age was asked for"));
+    };
+    let [first, second, third] = age.members.as_slice() else {
+        return Err(Fail::from("the group has three members"));
+    };
+    for member in [first, second, third] {
+        assert!(rt; member.end == End::Done && member.logged == 5 && member.durable == 5);
+        assert!(rt; member.history == first.history);
+    }
+    assert!(rt; has_joined(first.history.as_slice()));
+    Ok(())
+}
+
+/// Whether a history has the first view, and behind it in some order the messages of all three and the view in which
+/// the last one is, whose message stands behind that.
+fn has_joined(history: &[Entry]) -> bool {
+    let [first, rest @ ..] = history else {
+        return false;
+    };
+    let view = rest.iter().position(|entry| is_view(entry, 1, 0b111));
+    let last = rest
+        .iter()
+        .position(|entry| is_first_message(entry, 2, b"c"));
+    is_view(first, 0, 0b011)
+        && rest.len() == 4
+        && rest.iter().any(|entry| is_first_message(entry, 0, b"a"))
+        && rest.iter().any(|entry| is_first_message(entry, 1, b"b"))
+        && view.is_some()
+        && view < last
+}
+
+fn is_view(entry: &Entry, wanted: u8, of: u16) -> bool {
+    matches!(entry, Entry::View { age: 0, number, members } if *number == wanted && *members == of)
+}
+
+fn is_first_message(entry: &Entry, of: u8, text: &[u8]) -> bool {
+    matches!(entry, Entry::Msg { sender, index: 0, bytes } if *sender == of && bytes.bytes() == text)
 }
 
 /// Members that are held behind their first turns until another one has spent its own spend theirs, too.

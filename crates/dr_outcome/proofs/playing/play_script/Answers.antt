@@ -33,19 +33,9 @@ pub run_over-requires-clause-some : goal.run_over-requires-clause-some
 run_over-requires-clause-some g c κs h =
     told c.args.script.now c.part-part.result _ _ c.if-are_all_late.false c.are_all_late.ensures
 
-pub run_over-requires-clause-prompt : goal.run_over-requires-clause-prompt
-run_over-requires-clause-prompt g c κs h run =
-    ap (λ (p : Part). p.late) c.part-part.ensures
-    ∙ sym (ap (λ (p : Playing). p.late) c.play.view_is) ∙ c.play.invariant run
-
 pub run_in_memory-requires-clause-some : goal.run_in_memory-requires-clause-some
 run_in_memory-requires-clause-some g c κs h =
     told c.args.script.now c.part-part.result _ _ c.if-are_all_late.false c.are_all_late.ensures
-
-pub run_in_memory-requires-clause-prompt : goal.run_in_memory-requires-clause-prompt
-run_in_memory-requires-clause-prompt g c κs h run =
-    ap (λ (p : Part). p.late) c.part-part.ensures
-    ∙ sym (ap (λ (p : Playing). p.late) c.play.view_is) ∙ c.play.invariant run
 
 pub returns-in-Some-clause-played : goal.returns-in-Some-clause-played
 returns-in-Some-clause-played g c =
