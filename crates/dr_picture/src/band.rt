@@ -1,4 +1,5 @@
 //! A band of a picture: what the members do in a turn of each, until one of them begins its next one.
+use crate::shapes::member_colour;
 use crate::strip::Strip;
 use std::alloc::{AllocError, Global};
 
@@ -19,12 +20,13 @@ pub(crate) struct Band {
     pub arrows: Vec<Arrow>,
 }
 
-/// An item that one member has put, in the band of this number, and another one takes.
+/// What one member has put or given, in the band of this number, and another one takes.
 #[derive(Clone, Copy)]
 pub(crate) struct Arrow {
     pub from: u8,
     pub from_band: u32,
     pub to: u8,
+    pub colour: &'static str,
 }
 
 impl Band {
@@ -103,7 +105,7 @@ impl Band {
     /// Whether a member ends a view in it, of which there is more to tell.
     pub(crate) fn waits_for(&self, me: u8) -> bool {
         match self.strips.get(usize::from(me)) {
-            Some(strip) => strip.ends_view,
+            Some(strip) => strip.waits,
             None => false,
         }
     }
@@ -128,6 +130,7 @@ impl Band {
             from: sender,
             from_band,
             to: me,
+            colour: member_colour(sender),
         };
         Ok(self.arrows.push(arrow)?)
     }
@@ -144,7 +147,7 @@ impl Band {
     /// Whether there is more to tell of it.
     pub(crate) fn waits(&self) -> bool {
         for strip in self.strips.iter() {
-            if strip.ends_view {
+            if strip.waits {
                 return true;
             }
         }
@@ -154,7 +157,7 @@ impl Band {
     /// There is no more to tell of a view that a member ends.
     pub(crate) fn settle(&mut self, me: u8) {
         if let Some(strip) = self.strips.get_mut(usize::from(me)) {
-            strip.ends_view = false;
+            strip.waits = false;
         }
     }
 

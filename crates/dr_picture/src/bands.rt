@@ -1,12 +1,12 @@
 //! The bands of an age that are yet to be drawn, and what is told of its members.
-use crate::band::{Band, MOST_WITH_ARROWS};
+use crate::band::{Arrow, Band, MOST_WITH_ARROWS};
 use crate::labels::{label_of, push_ranges, shown_in};
 use crate::lane::Lane;
 use crate::picture::Window;
 use crate::shapes::{INK, RED, Shape, VIOLET, member_colour};
 use crate::strip::{Cell, Kind};
-use dr_entry::{End, Entry, Message, Value};
-use dr_seeing::News;
+use dr_entry::{End, Entry, Message};
+use dr_seeing::{Change, News};
 use dr_text::push_end;
 use std::alloc::{AllocError, Global};
 use std::fmt::Write;
@@ -130,13 +130,16 @@ impl Bands {
         }
     }
 
-    /// Tells of entries that have come to the history of a member, which may have ended a view.
+    /// Tells of entries that have come to the history of a member, which may have ended a view or taken a letter.
     fn note_entries(
         &mut self,
         lanes: &mut [Lane],
         me: u8,
         entries: &[Entry],
     ) -> Result<(), AllocError> {
+        if !entries.is_empty() {
+            self.note_join(lanes, me)?;
+        }
         for entry in entries {
             match entry {
                 Entry::View {
@@ -153,6 +156,53 @@ impl Bands {
         Ok(())
     }
 
+    /// Tells that a member joins by its letter, where these entries are those of one: it has looked for one, and
+    /// it was given one.
+    fn note_join(&mut self, lanes: &mut [Lane], me: u8) -> Result<(), AllocError> {
+        let here = self.told_in(me);
+        let has_looked = match self.bands.get(here) {
+            Some(band) => band.waits_for(me),
+            None => false,
+        };
+        if !has_looked {
+            return Ok(());
+        }
+        let letter = match lanes.get_mut(usize::from(me)) {
+            Some(lane) => replace(&mut lane.letter, None),
+            None => None,
+        };
+        let Some((welcomer, from_band)) = letter else {
+            return Ok(());
+        };
+        self.say_of(lanes, me, "joins by the letter of", "joins by", welcomer)?;
+        self.point_letter(
+            lanes.len(),
+            here,
+            Arrow {
+                from: welcomer,
+                from_band,
+                to: me,
+                colour: VIOLET,
+            },
+        )
+    }
+
+    /// Draws a letter as an arrow of a band, where so many members have arrows and the turn is told.
+    fn point_letter(
+        &mut self,
+        members: usize,
+        here: usize,
+        arrow: Arrow,
+    ) -> Result<(), AllocError> {
+        if members > MOST_WITH_ARROWS || !self.window.has(self.turn_of(arrow.to)) {
+            return Ok(());
+        }
+        match self.bands.get_mut(here) {
+            Some(band) => Ok(band.arrows.push(arrow)?),
+            None => Ok(()),
+        }
+    }
+
     fn note_view(
         &mut self,
         lanes: &mut [Lane],
@@ -160,11 +210,12 @@ impl Bands {
         number: u8,
         members: u16,
     ) -> Result<(), AllocError> {
-        let heading = heading_of(self.alloc, lanes.len(), number, members)?;
+        let is_in = members >> (me % 16) & 1 == 1;
+        let heading = heading_of(self.alloc, lanes.len(), is_in, number, members)?;
         if let Some(lane) = lanes.get_mut(usize::from(me)) {
-            lane.enter(me, number, heading);
+            lane.enter(me, number, is_in, heading);
         }
-        self.ground(me, Some(number));
+        self.ground(me, is_in.then_some(number));
         self.head(lanes, me)
     }
 
@@ -192,7 +243,8 @@ impl Bands {
             colour: INK,
             label: lane.heading.clone()?,
         };
-        self.write(me, Kind::View(lane.view), cell)
+        let view = lane.view_inside();
+        self.write(me, Kind::View(view), cell)
     }
 
     fn note_delivery(
@@ -230,19 +282,13 @@ impl Bands {
                 let cell = Cell::of_number(self.alloc, RED, "suspects", u64::from(other))?;
                 self.tell(lanes, me, Kind::Deed(Shape::Cross), cell)
             }
-            News::Wish(other) => {
-                let cell = Cell::of_number(self.alloc, INK, "wishes for", u64::from(other))?;
-                self.tell(lanes, me, Kind::Deed(Shape::HollowDiamond), cell)
-            }
-            News::Letter(other) => {
-                let cell = Cell::of_number(self.alloc, INK, "welcomes", u64::from(other))?;
-                self.tell(lanes, me, Kind::Deed(Shape::HollowDiamond), cell)
-            }
+            News::Wish(other) => self.say_of(lanes, me, "wishes for", "wish", other),
+            News::Letter(other) => self.note_letter(lanes, me, other),
             News::Vote => self.say(lanes, me, Shape::HollowDiamond, "votes"),
-            News::Proposal(value) => self.say_value(lanes, me, "proposes", &value),
+            News::Proposal(change) => self.say_change(lanes, me, "proposes", &change),
             News::Acceptance => self.say(lanes, me, Shape::HollowDiamond, "accepts"),
-            News::Commitment(value) => self.say_value(lanes, me, "commits", &value),
-            News::NextView { .. } => {
+            News::Commitment(change) => self.say_change(lanes, me, "commits", &change),
+            News::NextView { .. } | News::Letterbox => {
                 self.wait_for(me);
                 Ok(())
             }
@@ -251,11 +297,20 @@ impl Bands {
         }
     }
 
-    /// A member ends a view: what it delivers by that is still to come.
+    /// A member gives another one a letter.
+    fn note_letter(&mut self, lanes: &mut [Lane], me: u8, other: u8) -> Result<(), AllocError> {
+        let number = self.last_number();
+        if let Some(lane) = lanes.get_mut(usize::from(other)) {
+            lane.letter = Some((me, number));
+        }
+        self.say_of(lanes, me, "welcomes", "letter", other)
+    }
+
+    /// A member ends a view or looks for a letter: what comes to its history by that is still to be told.
     fn wait_for(&mut self, me: u8) {
         if let Some(band) = self.bands.last_mut() {
             if let Some(strip) = band.strips.get_mut(usize::from(me)) {
-                strip.ends_view = true;
+                strip.waits = true;
             }
         }
     }
@@ -322,22 +377,41 @@ impl Bands {
         self.tell(lanes, me, Kind::End, Cell { colour, label })
     }
 
-    /// Tells that a member does something with a value: who leaves, and how many items of each member count.
-    fn say_value(
+    /// Tells that a member does something with a value: who leaves and who joins, and how many items of each member
+    /// count.
+    fn say_change(
         &mut self,
         lanes: &mut [Lane],
         me: u8,
         does: &str,
-        value: &Value,
+        change: &Change,
     ) -> Result<(), AllocError> {
         self.say(lanes, me, Shape::Diamond, does)?;
-        let leave = Cell::of_leavers(self.alloc, value.leavers)?;
-        self.tell(lanes, me, Kind::Words, leave)?;
+        let names = Cell::of_names(self.alloc, change)?;
+        self.tell(lanes, me, Kind::Words, names)?;
         if lanes.len() > MOST_WITH_ARROWS {
             return Ok(());
         }
-        let trim = Cell::of_trim(self.alloc, value, lanes.len())?;
+        let trim = Cell::of_trim(self.alloc, change, lanes.len())?;
         self.tell(lanes, me, Kind::Words, trim)
+    }
+
+    /// Tells of a step of a join, with another member behind these words, or behind short ones where lanes are narrow.
+    fn say_of(
+        &mut self,
+        lanes: &mut [Lane],
+        me: u8,
+        words: &str,
+        short: &str,
+        other: u8,
+    ) -> Result<(), AllocError> {
+        let said = if lanes.len() > MOST_WITH_ARROWS {
+            short
+        } else {
+            words
+        };
+        let cell = Cell::of_number(self.alloc, VIOLET, said, u64::from(other))?;
+        self.tell(lanes, me, Kind::Deed(Shape::HollowDiamond), cell)
     }
 
     /// Tells of a step of a change of the view.
@@ -384,9 +458,18 @@ impl Bands {
     }
 }
 
-/// The heading of a view, over one of so many lanes.
-fn heading_of(alloc: Global, lanes: usize, number: u8, members: u16) -> Result<String, AllocError> {
+/// The heading of a view, over one of so many lanes, whose member is in it or not.
+fn heading_of(
+    alloc: Global,
+    lanes: usize,
+    is_in: bool,
+    number: u8,
+    members: u16,
+) -> Result<String, AllocError> {
     let mut heading = String::new(alloc);
+    if !is_in {
+        heading.push_str("not in ")?;
+    }
     // A narrow lane has no room for the word.
     if lanes <= MOST_WITH_ARROWS {
         heading.push_str("view ")?;

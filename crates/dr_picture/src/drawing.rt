@@ -139,7 +139,7 @@ fn draw_grounds(
 /// Which view a member is in behind what is told of it in a row, and down to which row it was in the one before.
 fn ground_behind(kind: Kind, view: Option<u8>, row: u32) -> (Option<u8>, u32) {
     match kind {
-        Kind::View(next) => (Some(next), row.saturating_add(2)),
+        Kind::View(next) => (next, row.saturating_add(2)),
         Kind::End => (None, row.saturating_add(ROW + 2)),
         _ => (view, row),
     }
@@ -253,7 +253,7 @@ fn draw_arrows(
             x: side_of(sheet, arrow.to, arrow.from),
             y: beside(top_of(tops, band.number), band.step_of(arrow.to)),
         };
-        marks.point(from, to, member_colour(arrow.from))?;
+        marks.point(from, to, arrow.colour)?;
     }
     Ok(())
 }

@@ -1,6 +1,7 @@
 //! The words beside the marks of a picture.
 use dr_entry::Message;
 use dr_quote::push_message;
+use dr_seeing::Change;
 use std::alloc::{AllocError, Global};
 use std::fmt::Write;
 
@@ -104,13 +105,29 @@ fn push_range(out: &mut String, from: u8, to: u8) -> Result<(), AllocError> {
     }
 }
 
-/// Appends that these members leave.
-pub(crate) fn push_leave(out: &mut String, leavers: u16) -> Result<(), AllocError> {
-    push_ranges(out, leavers)?;
-    out.push_str(if leavers.is_power_of_two() {
-        " leaves"
+/// Appends who leaves, and who joins.
+pub(crate) fn push_names(out: &mut String, change: &Change) -> Result<(), AllocError> {
+    let leavers = change.leavers;
+    let newcomers = change.newcomers;
+    if leavers != 0 {
+        push_those(out, leavers, " leaves", " leave")?;
+    }
+    if leavers != 0 && newcomers != 0 {
+        out.push_str(", ")?;
+    }
+    if newcomers != 0 {
+        push_those(out, newcomers, " joins", " join")?;
+    }
+    Ok(())
+}
+
+/// Appends these members, with a word behind one of them and another one behind several.
+fn push_those(out: &mut String, names: u16, one: &str, several: &str) -> Result<(), AllocError> {
+    push_ranges(out, names)?;
+    out.push_str(if names.is_power_of_two() {
+        one
     } else {
-        " leave"
+        several
     })
 }
 

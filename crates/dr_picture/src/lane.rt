@@ -12,6 +12,10 @@ pub(crate) struct Lane {
     pub view: u8,
     pub heading: String,
     pub is_headed: bool,
+    /// Whether the member is in that view.
+    pub is_in: bool,
+    /// Who has given it a letter that it hasn't taken yet, and in the band of which number.
+    pub letter: Option<(u8, u32)>,
     /// For each view, the number of the band of each item that it has put.
     pub items: Vec<Vec<u32>>,
     /// How many messages of each member it has delivered in this age.
@@ -56,6 +60,8 @@ impl Lane {
             view: 0,
             heading: String::new(alloc),
             is_headed: true,
+            is_in: true,
+            letter: None,
             items: Vec::new(alloc),
             delivered: [0; MAX_MEMBERS],
             put: 0,
@@ -106,9 +112,16 @@ impl Lane {
         *count = count.saturating_add(1);
     }
 
-    /// It enters a view, with this heading: the messages that it puts there are those that are not delivered.
-    pub(crate) fn enter(&mut self, me: u8, view: u8, heading: String) {
+    /// Which view it is in, if it is in one.
+    pub(crate) fn view_inside(&self) -> Option<u8> {
+        self.is_in.then_some(self.view)
+    }
+
+    /// Its history comes to a view, with this heading, and it is in that or not: the messages that it puts there are
+    /// those that are not delivered.
+    pub(crate) fn enter(&mut self, me: u8, view: u8, is_in: bool, heading: String) {
         self.view = view;
+        self.is_in = is_in;
         self.put = self.delivered_of(me);
         self.heading = heading;
         self.is_headed = false;

@@ -1,7 +1,7 @@
 //! The strip of a member: what is told of it in a band.
-use crate::labels::{push_leave, push_trim, width_of};
+use crate::labels::{push_names, push_trim, width_of};
 use crate::shapes::{Shape, VIOLET};
-use dr_entry::Value;
+use dr_seeing::Change;
 use std::alloc::{AllocError, Global};
 use std::fmt::Write;
 
@@ -21,8 +21,8 @@ pub(crate) struct Strip {
     pub has_begun: bool,
     /// Whether it has taken an item in this band.
     pub has_taken: bool,
-    /// Whether it ends a view, so that there is more to tell once that is done.
-    pub ends_view: bool,
+    /// Whether entries may come to the history by its last deed, so that there may be more to tell once that is done.
+    pub waits: bool,
     pub rows: Vec<Row>,
     /// The view that it is in as the band begins, if it is in one, and the same as the band ends.
     pub ground: Option<u8>,
@@ -49,8 +49,8 @@ pub(crate) enum Kind {
     Deed(Shape),
     /// Words alone.
     Words,
-    /// The heading of a view.
-    View(u8),
+    /// The heading of a view, and which one the member is in from there on, if it is in one.
+    View(Option<u8>),
     /// How the member ended.
     End,
 }
@@ -75,10 +75,10 @@ impl Cell {
         Ok(Cell { colour, label })
     }
 
-    /// Who leaves.
-    pub(crate) fn of_leavers(alloc: Global, leavers: u16) -> Result<Cell, AllocError> {
+    /// Who leaves, and who joins.
+    pub(crate) fn of_names(alloc: Global, change: &Change) -> Result<Cell, AllocError> {
         let mut label = String::new(alloc);
-        push_leave(&mut label, leavers)?;
+        push_names(&mut label, change)?;
         Ok(Cell {
             colour: VIOLET,
             label,
@@ -88,11 +88,11 @@ impl Cell {
     /// How many items of each of so many members count.
     pub(crate) fn of_trim(
         alloc: Global,
-        value: &Value,
+        change: &Change,
         members: usize,
     ) -> Result<Cell, AllocError> {
         let mut label = String::new(alloc);
-        push_trim(&mut label, value.trim.as_slice(), members)?;
+        push_trim(&mut label, change.trim.as_slice(), members)?;
         Ok(Cell {
             colour: VIOLET,
             label,
@@ -113,7 +113,7 @@ impl Strip {
             turn: 0,
             has_begun: false,
             has_taken: false,
-            ends_view: false,
+            waits: false,
             rows: Vec::new(alloc),
             ground: None,
             view: None,
@@ -127,7 +127,7 @@ impl Strip {
             turn: self.turn,
             has_begun: false,
             has_taken: false,
-            ends_view: false,
+            waits: false,
             rows: Vec::new(self.alloc),
             ground: self.view,
             view: self.view,

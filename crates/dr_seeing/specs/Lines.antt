@@ -87,7 +87,7 @@ step_text table r (steps.Push j c) = Some (word_text (codes "push ") j c (own r.
 step_text table r steps.Append = Some (with_number (codes "append ") r.logged)
 step_text table r (steps.LogVote value) = Some (vote_text r value)
 step_text table r (steps.Welcome j) = Some (with_number (codes "welcome ") j)
-step_text table r steps.Join = None
+step_text table r s = None
 
 -- the line of something that a member does
 abbrev pub told : ℕ → List ℕ → List ℕ

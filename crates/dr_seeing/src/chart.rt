@@ -45,8 +45,10 @@ struct Row {
     me: u8,
     turn: u32,
     words: String,
-    /// Whether there is more to tell of it, as it ended a view.
+    /// Whether there may be more to tell of it, once its last deed is done.
     waits: bool,
+    /// Whether that would come by a letter.
+    by_letter: bool,
     /// How many turns without news have ended before it.
     quiet: u64,
 }
@@ -145,20 +147,17 @@ impl Chart {
         Ok(())
     }
 
-    /// Tells of the entries of a member's history that came as it ended a view.
+    /// Tells of the entries of a member's history that came by its last deed, as it ended a view or took a letter.
     fn catch_up(&mut self, me: u8, history: &[Entry]) -> Result<(), AllocError> {
         let Some(told) = self.told.get_mut(usize::from(me)) else {
             return Ok(());
         };
         let new = &history[(*told).min(history.len())..];
         *told = history.len();
-        if new.is_empty() {
-            return Ok(());
-        }
         for row in self.rows.iter_mut() {
             if row.me == me && row.waits {
                 row.waits = false;
-                push_rest(&mut row.words, new)?;
+                push_rest(&mut row.words, row.by_letter, new)?;
                 return self.draw_rows();
             }
         }
@@ -205,13 +204,15 @@ impl Chart {
         }
         let mut words = String::new(self.alloc);
         turn.push_to(&mut words)?;
-        let waits = turn.ends_view();
+        let waits = turn.waits();
+        let by_letter = turn.by_letter();
         turn.begin(0);
         self.rows.push(Row {
             me,
             turn: number,
             words,
             waits,
+            by_letter,
             quiet: replace(&mut self.quiet, 0),
         })?;
         self.draw_rows()
@@ -223,12 +224,25 @@ impl Chart {
             return Ok(());
         }
         let rows = replace(&mut self.rows, Vec::new(self.alloc));
+        // There is nothing to tell of a turn that only waited.
+        let mut quiet = 0u64;
         for row in rows.iter() {
-            self.tell_gap(row.turn, row.quiet)?;
-            self.turn = row.turn;
-            push_row(&mut self.text, self.width, row)?;
+            quiet = quiet.saturating_add(row.quiet);
+            if row.words.as_str().is_empty() {
+                quiet = quiet.saturating_add(1);
+            } else {
+                self.draw_row(row, replace(&mut quiet, 0))?;
+            }
         }
+        self.quiet = self.quiet.saturating_add(quiet);
         Ok(())
+    }
+
+    /// Draws a row behind so many turns without news.
+    fn draw_row(&mut self, row: &Row, quiet: u64) -> Result<(), AllocError> {
+        self.tell_gap(row.turn, quiet)?;
+        self.turn = row.turn;
+        push_row(&mut self.text, self.width, row)
     }
 
     /// Tells of the turns without news before a row.

@@ -11,12 +11,13 @@ use crate::lines::{
     push_appended, push_ended, push_look, push_number, push_voted, push_waiting, push_welcome,
     push_word,
 };
-use crate::news::News;
+use crate::news::{Change, News};
 use crate::values::{push_item, push_message, push_value};
-use dr_entry::{Item, MAX_MEMBERS};
+use dr_entry::{Item, MAX_MEMBERS, Value};
 use dr_machine::{Act, Step};
 use dr_member::{Deed, Member};
 use dr_replica::Replica;
+use dr_words::Mask;
 use std::alloc::AllocError;
 use std::fmt::Write;
 
@@ -133,6 +134,7 @@ pub fn news_of(member: &Member) -> Option<News<'_>>
         Step::Do(act) => news_of_act(member.replica(), act),
         Step::LogVote { .. } => Some(News::Vote),
         Step::Welcome { late } => Some(News::Letter(late)),
+        Step::Join => Some(News::Letterbox),
         _ => None,
     }
 }
@@ -157,9 +159,9 @@ fn news_of_act(replica: &Replica, act: Act) -> Option<News<'_>>
         Act::Suspect { other } => Some(suspicion(replica, other)),
         Act::Propose => replica
             .waiting_vote()
-            .map(|vote| News::Proposal(vote.value)),
+            .map(|vote| News::Proposal(change(replica, vote.value))),
         Act::Accept => Some(News::Acceptance),
-        Act::Commit => Some(News::Commitment(replica.accepted_value())),
+        Act::Commit => Some(News::Commitment(change(replica, replica.accepted_value()))),
         Act::Finish => Some(next_view(replica)),
         Act::Halt { end } | Act::Crash { end } => Some(News::End(end)),
     }
@@ -187,6 +189,18 @@ fn suspicion(replica: &Replica, other: u8) -> News<'_> {
         News::Suspicion(other)
     } else {
         News::Wish(other)
+    }
+}
+
+/// What a value says of the view of a replica.
+fn change(replica: &Replica, value: Value) -> Change {
+    let names = Mask::of(value.leavers);
+    let newcomers = names.without(replica.members());
+    let trim = value.trim;
+    Change {
+        leavers: names.without(newcomers).bits(),
+        newcomers: newcomers.bits(),
+        trim,
     }
 }
 

@@ -13,6 +13,6 @@ mod waits;
 
 pub use chart::Chart;
 pub use deeds::{news_of, push_line};
-pub use news::News;
+pub use news::{Change, News};
 pub use output::{Output, Trouble};
 pub use waits::push_waits;

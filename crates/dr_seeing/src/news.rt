@@ -1,5 +1,5 @@
 //! What is new in a run.
-use dr_entry::{End, Message, Value};
+use dr_entry::{End, MAX_MEMBERS, Message};
 
 /// What is new as a member does a deed.
 #[derive(Clone, Copy, Debug)]
@@ -31,14 +31,16 @@ pub enum News<'a> {
     Wish(u8),
     /// This member gets the letter with which it comes into the view.
     Letter(u8),
+    /// It looks for its letter: if there is one, that is its history from then on.
+    Letterbox,
     /// A vote goes on the log.
     Vote,
     /// A value is proposed.
-    Proposal(Value),
+    Proposal(Change),
     /// The value of another member is accepted.
     Acceptance,
     /// A value is committed.
-    Commitment(Value),
+    Commitment(Change),
     /// The view of this number begins, once so many places of the one before are delivered.
     NextView {
         number: u8,
@@ -46,4 +48,15 @@ pub enum News<'a> {
     },
     /// The member ends.
     End(End),
+}
+
+/// What a value says of the view that it ends.
+#[derive(Clone, Copy, Debug)]
+pub struct Change {
+    /// Who leaves: bit `i` is set exactly where member `i` does.
+    pub leavers: u16,
+    /// Who comes in, as such bits.
+    pub newcomers: u16,
+    /// How many items of each member are still delivered.
+    pub trim: [u32; MAX_MEMBERS],
 }

@@ -1,6 +1,6 @@
 //! What is new in a turn of a member.
-use crate::news::News;
-use dr_entry::{End, Entry, Value};
+use crate::news::{Change, News};
+use dr_entry::{End, Entry};
 use dr_quote::push_message;
 use dr_text::{push_end, push_mask};
 use std::alloc::{AllocError, Global};
@@ -18,8 +18,10 @@ pub(crate) struct Turn {
     durable: Option<u64>,
     /// All else, each behind a semicolon.
     more: String,
-    /// Whether it ends a view, so that there is more to tell once that is done.
-    ends_view: bool,
+    /// Whether entries may come to the history by its last deed, so that there may be more to tell once that is done.
+    waits: bool,
+    /// Whether they would come by a letter.
+    by_letter: bool,
 }
 
 impl Turn {
@@ -34,7 +36,8 @@ impl Turn {
             logged: None,
             durable: None,
             more: String::new(alloc),
-            ends_view: false,
+            waits: false,
+            by_letter: false,
         }
     }
 
@@ -47,12 +50,18 @@ impl Turn {
         self.logged = None;
         self.durable = None;
         self.more.clear();
-        self.ends_view = false;
+        self.waits = false;
+        self.by_letter = false;
     }
 
-    /// Whether it ends a view.
-    pub(crate) fn ends_view(&self) -> bool {
-        self.ends_view
+    /// Whether there may be more to tell of it once its last deed is done.
+    pub(crate) fn waits(&self) -> bool {
+        self.waits
+    }
+
+    /// Whether that would come by a letter.
+    pub(crate) fn by_letter(&self) -> bool {
+        self.by_letter
     }
 
     /// Its number.
@@ -60,7 +69,7 @@ impl Turn {
         self.number
     }
 
-    /// Whether it has no news.
+    /// Whether it has no news, and waits for none.
     pub(crate) fn is_quiet(&self) -> bool {
         self.took.as_str().is_empty()
             && self.put.as_str().is_empty()
@@ -68,7 +77,7 @@ impl Turn {
             && self.logged.is_none()
             && self.durable.is_none()
             && self.more.as_str().is_empty()
-            && !self.ends_view
+            && !self.waits
     }
 
     /// Appends its news, in words.
@@ -91,11 +100,15 @@ impl Turn {
             News::Turn(number) => self.begin(number),
             News::Logged(count) => self.logged = Some(count),
             News::Durable(count) => self.durable = Some(count),
-            News::NextView { .. } => self.ends_view = true,
+            News::NextView { .. } => self.waits = true,
+            News::Letterbox => {
+                self.waits = true;
+                self.by_letter = true;
+            }
             News::Taking { .. } | News::Put(_) | News::Filler | News::Delivery { .. } => {
                 self.note_item(news)?;
             }
-            News::Commitment(value) => push_commitment(&mut self.more, members, &value)?,
+            News::Commitment(change) => push_commitment(&mut self.more, members, &change)?,
             News::End(end) => self.note_end(end)?,
             _ => self.note_vote(news)?,
         }
@@ -142,23 +155,40 @@ impl Turn {
         }
     }
 
-    /// Takes note of entries that came as the view ended.
+    /// Takes note of entries that came by its last deed, if there are any.
     pub(crate) fn note_rest(&mut self, entries: &[Entry]) -> Result<(), AllocError> {
-        self.ends_view = false;
-        push_rest(&mut self.more, entries)
+        let by_letter = self.by_letter;
+        self.waits = false;
+        self.by_letter = false;
+        push_rest(&mut self.more, by_letter, entries)
     }
 }
 
-/// Appends that a value is committed: who leaves, and how many items of each member are delivered.
-fn push_commitment(out: &mut String, members: usize, value: &Value) -> Result<(), AllocError> {
-    out.push_str(";\ncommits\nthat\n")?;
-    push_mask(out, value.leavers)?;
-    out.push_str(if value.leavers.is_power_of_two() {
-        "\nleaves\nwith\nitems"
+/// Appends that a value is committed: who leaves and who comes in, and how many items of each member are
+/// delivered.
+fn push_commitment(out: &mut String, members: usize, change: &Change) -> Result<(), AllocError> {
+    out.push_str(";\ncommits\nthat")?;
+    push_those(out, change.leavers, "\nleaves", "\nleave")?;
+    if change.leavers != 0 && change.newcomers != 0 {
+        out.push_str("\nand")?;
+    }
+    push_those(out, change.newcomers, "\njoins", "\njoin")?;
+    out.push_str("\nwith\nitems")?;
+    push_counts(out, members, &change.trim)
+}
+
+/// Appends these members, if there are any, with a word behind one of them and another one behind several.
+fn push_those(out: &mut String, names: u16, one: &str, several: &str) -> Result<(), AllocError> {
+    if names == 0 {
+        return Ok(());
+    }
+    out.push_str("\n")?;
+    push_mask(out, names)?;
+    out.push_str(if names.is_power_of_two() {
+        one
     } else {
-        "\nleave\nwith\nitems"
-    })?;
-    push_counts(out, members, &value.trim)
+        several
+    })
 }
 
 /// Appends how many items of each member are delivered.
@@ -169,8 +199,15 @@ fn push_counts(out: &mut String, members: usize, trim: &[u32]) -> Result<(), All
     Ok(())
 }
 
-/// Appends what was delivered as a view ended, and the view behind it.
-pub(crate) fn push_rest(out: &mut String, entries: &[Entry]) -> Result<(), AllocError> {
+/// Appends what was delivered as a view ended, or by a letter, and the view behind it, if anything was.
+pub(crate) fn push_rest(
+    out: &mut String,
+    by_letter: bool,
+    entries: &[Entry],
+) -> Result<(), AllocError> {
+    if by_letter && !entries.is_empty() {
+        out.push_str(";\njoins")?;
+    }
     let mut some = false;
     for entry in entries {
         let title = if some { "" } else { ";\ndelivered" };
