@@ -18,7 +18,9 @@ pub(crate) fn push_late(out: &mut String, script: &Script) -> Result<(), AllocEr
                 out,
                 "fault {index} never comes: member {member} has ended by then, by fault {earlier} at the latest"
             )?;
-        } else if script.schedule == Schedule::Lockstep && is_late(faults, fault.age, enough) {
+        } else if script.schedule == Schedule::Lockstep
+            && come_too_late(faults, fault.age, enough)
+        {
             writeln!(
                 out,
                 "fault {index} never comes: in lockstep member {member} is done by turn {enough}"
@@ -63,7 +65,7 @@ fn is_crash_before(at: usize, other: &Fault, index: usize, fault: &Fault) -> boo
 }
 
 /// Whether all faults of an age come in later turns than are enough: then its members are done before.
-fn is_late(faults: &[Fault], age: u8, enough: usize) -> bool {
+fn come_too_late(faults: &[Fault], age: u8, enough: usize) -> bool {
     faults
         .iter()
         .filter(|fault| fault.age == age)

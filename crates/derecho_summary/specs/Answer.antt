@@ -1,5 +1,5 @@
 -- What a call comes to.
-use Rattle.std.specs.Prelude.{◌≡◌, ℕ, true, List, IsSomeAnd, Option, Some, String, codes, map, string_bytes}
+use Rattle.std.specs.Prelude.{◌≡◌, ◌⊎◌, ℕ, true, List, IsSomeAnd, Option, Some, String, codes, map, string_bytes}
 use Rattle.std.specs.declared.alloc.Global.{Global}
 use Rattle.dr_ages.specs.declared.mode.Mode.TheVariants.{Sim}
 use Rattle.dr_ages.specs.declared.stop.Stop.{Stop}
@@ -8,24 +8,29 @@ use Rattle.dr_intake.specs.Answer.{IsAnswer, IsLine, Said, ToldBy}
 use Rattle.dr_intake.specs.Reading.{refusal_in}
 use Rattle.dr_intake.specs.Status.{status_of}
 use Rattle.dr_outcome.specs.Last.{last_of}
-use Rattle.dr_outcome.specs.Outcome.{IsRunInMemory}
+use Rattle.dr_outcome.specs.Outcome.{AreAllLate, IsMemoryRun}
+use Rattle.dr_outcome.specs.Playing.{all_with}
 use Rattle.dr_script.specs.declared.script.Script.{Script}
 use Rattle.dr_script.specs.Reading.{Reading, Reads, reading_of}
 use Rattle.dr_text.specs.declared.last.Last.{Last}
 use Rattle.dr_text.specs.Report.{last_text}
-use Rattle.derecho_summary.specs.declared.words.Wording.{Wording}
+use Rattle.derecho_summary.specs.declared.words.Asked.{Asked}
 use Rattle.derecho_summary.specs.Object.{summary_by}
-use Rattle.derecho_summary.specs.Words.{wording_of}
+use Rattle.derecho_summary.specs.Words.{asked_of}
 
--- the text is the summary of a simulated run of the script over empty disks, in this wording, and the status
+-- how it is called
+abbrev pub summary_usage : List ℕ
+summary_usage = codes "usage: derecho_summary [json] [--late L] < SCRIPT\n"
+
+-- the text is the summary of a simulated run of the script over empty disks, as it is asked for, and the status
 -- is that of its last line
-pub record IsRunAnswer (wording : Wording) (script : Script) (text : List ℕ) (status : ℕ) : Type 0 where
+pub record IsRunAnswer (asked : Asked) (script : Script) (text : List ℕ) (status : ℕ) : Type 0 where
   pub ages : List AgeEnd
   pub stop : Option Stop
-  pub run : IsRunInMemory script Sim ages stop
+  pub run : IsMemoryRun script (all_with asked.late) Sim ages stop
   pub last : Last
   pub line : last_of ages stop ≡ Some last
-  pub summary : text ≡ summary_by wording script ages last
+  pub summary : text ≡ summary_by asked.wording script asked.late ages last
   pub due : status ≡ status_of last
 
 -- the text is the last line by which what was read is refused, and the status is that of this line
@@ -35,22 +40,29 @@ pub record IsRefusal (reading : Reading) (text : List ℕ) (status : ℕ) : Type
   pub refused : text ≡ last_text last
   pub due : status ≡ status_of last
 
--- what is said of what was read, and the status
-abbrev pub IsAnswerFor : Wording → Reading → List ℕ → ℕ → Type 0
-IsAnswerFor wording (Reads script) text status = IsRunAnswer wording script text status
-IsAnswerFor wording refused text status = IsRefusal refused text status
+-- nothing was run, as all members are late, and the text says how the program is called
+pub record IsUnrun (late : ℕ) (script : Script) (text : List ℕ) (status : ℕ) : Type 0 where
+  pub all : AreAllLate script (all_with late)
+  pub usage : text ≡ summary_usage
+  pub due : status ≡ 2
 
--- how it is called
-abbrev pub summary_usage : List ℕ
-summary_usage = codes "usage: derecho_summary [json] < SCRIPT\n"
+-- what is said of a script
+abbrev pub IsScriptAnswer : Asked → Script → List ℕ → ℕ → Type 0
+IsScriptAnswer asked script text status =
+    IsRunAnswer asked script text status ⊎ IsUnrun asked.late script text status
+
+-- what is said of what was read, and the status
+abbrev pub IsAnswerFor : Asked → Reading → List ℕ → ℕ → Type 0
+IsAnswerFor asked (Reads script) text status = IsScriptAnswer asked script text status
+IsAnswerFor asked refused text status = IsRefusal refused text status
 
 -- what a call has to say, and the status that is due, by its words and by what its source had left and then
 -- has
 abbrev pub IsSummaryAnswer : List (String Global) → Option (List ℕ) → Option (List ℕ) → ℕ → ℕ → Said → Type 0
 IsSummaryAnswer words =
-    IsAnswer (λ wording. true) (λ line said. IsSomeAnd line (λ l. IsLine summary_usage l said))
-    (λ wording bytes said. IsAnswerFor wording (reading_of bytes) said.0 said.1)
-    (wording_of (map string_bytes words))
+    IsAnswer (λ asked. true) (λ line said. IsSomeAnd line (λ l. IsLine summary_usage l said))
+    (λ asked bytes said. IsAnswerFor asked (reading_of bytes) said.0 said.1)
+    (asked_of (map string_bytes words))
 
 -- memory was wanting and nothing was written, or an answer was
 abbrev pub SummaryTold : List (String Global) → Option (List ℕ) → Option (List ℕ) → ℕ → ℕ → Option (List ℕ)

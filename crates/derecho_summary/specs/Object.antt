@@ -17,10 +17,10 @@ abbrev pub age_objects : Script → List AgeEnd → List ℕ
 age_objects script ages = flat_map (λ t. age_object script t.0 t.1) (enumerate_from 0 ages)
 
 -- how many turns would have been enough: where nobody has spent its own, the most that a member took; else the
--- number that is enough in lockstep without faults, where the script is so, and nothing where it isn't
-abbrev pub enough_digits : Script → List AgeEnd → List ℕ
-enough_digits script ages =
-    if some_spent ages then (if is_calm script then decimal (turns_enough script) else codes "null")
+-- number that is enough in lockstep without faults, where the script is so and nobody late, and nothing elsewhere
+abbrev pub enough_digits : Script → ℕ → List AgeEnd → List ℕ
+enough_digits script late ages =
+    if some_spent ages then (if is_calm script late then decimal (turns_enough script) else codes "null")
     else decimal (most_turns ages)
 
 -- the ages of a run, as a summary begins
@@ -35,15 +35,15 @@ status_part status turns =
     ∷ codes ",\n \"turns_enough\": " ∷ [])
 
 -- how many would have been enough, as a summary ends
-abbrev pub enough_part : Script → List AgeEnd → List ℕ
-enough_part script ages = enough_digits script ages ++ codes "}\n"
+abbrev pub enough_part : Script → ℕ → List AgeEnd → List ℕ
+enough_part script late ages = enough_digits script late ages ++ codes "}\n"
 
--- the summary of a run of a script, with its ages, and the status of its last line
-abbrev pub summary_object : Script → List AgeEnd → Last → List ℕ
-summary_object script ages last =
-    ages_part script ages ++ (status_part (status_of last) script.turns ++ enough_part script ages)
+-- the summary of a run of a script in which these members are late, with its ages, and the status of its last line
+abbrev pub summary_object : Script → ℕ → List AgeEnd → Last → List ℕ
+summary_object script late ages last =
+    ages_part script ages ++ (status_part (status_of last) script.turns ++ enough_part script late ages)
 
 -- the summary in a wording
-abbrev pub summary_by : Wording → Script → List AgeEnd → Last → List ℕ
-summary_by People script ages last = summary_text script ages last
-summary_by Programs script ages last = summary_object script ages last
+abbrev pub summary_by : Wording → Script → ℕ → List AgeEnd → Last → List ℕ
+summary_by People script late ages last = summary_text script late ages last
+summary_by Programs script late ages last = summary_object script late ages last

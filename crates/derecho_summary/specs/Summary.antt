@@ -38,13 +38,14 @@ turns_in age = fold max 0 (map (λ (m : MemberEnd). m.turns) age.members)
 abbrev pub most_turns : List AgeEnd → ℕ
 most_turns ages = fold max 0 (map turns_in ages)
 
--- whether a script is in lockstep without faults
+-- whether a script is in lockstep
 abbrev pub is_lockstep : Schedule → Bool
 is_lockstep Lockstep = true
 is_lockstep (Seed seed) = false
 
-abbrev pub is_calm : Script → Bool
-is_calm script = (length script.faults == 0) && is_lockstep script.schedule
+-- whether it is so without faults, and nobody is late
+abbrev pub is_calm : Script → ℕ → Bool
+is_calm script late = (length script.faults == 0) && (late == 0) && is_lockstep script.schedule
 
 -- one turn, or turns
 abbrev pub turns_word : ℕ → List ℕ
@@ -56,17 +57,17 @@ enough_text count =
     concat (decimal count ∷ codes " " ∷ turns_word count ∷ codes " would have been enough for the same run\n" ∷ [])
 
 -- how many turns would have been enough for the same run: where nobody has spent its own, the most that a
--- member took; else the number that is enough in lockstep without faults, where the script is so
-abbrev pub turns_text : Script → List AgeEnd → List ℕ
-turns_text script ages =
+-- member took; else the number that is enough in lockstep without faults, where the script is so and nobody late
+abbrev pub turns_text : Script → ℕ → List AgeEnd → List ℕ
+turns_text script late ages =
     if some_spent ages then
-    (if is_calm script then
+    (if is_calm script late then
     concat
     (decimal (turns_enough script) ∷ codes " turns are enough in lockstep without faults\n" ∷ [])
     else [])
     else enough_text (most_turns ages)
 
--- the summary of a run of a script, with its ages and its last line
-abbrev pub summary_text : Script → List AgeEnd → Last → List ℕ
-summary_text script ages last =
-    concat (ages_text script ages ∷ turns_text script ages ∷ last_text last ∷ [])
+-- the summary of a run of a script in which these members are late, with its ages and its last line
+abbrev pub summary_text : Script → ℕ → List AgeEnd → Last → List ℕ
+summary_text script late ages last =
+    concat (ages_text script ages ∷ turns_text script late ages ∷ last_text last ∷ [])

@@ -1,10 +1,19 @@
--- In which way the words of a call ask for a run to be summed up.
-use Rattle.std.specs.Prelude.{ℕ, if◌then◌else◌, List, [], ◌∷◌, codes, bytes_eq, Option, None, Some}
+-- What the words of a call ask for.
+use Rattle.std.specs.Prelude.{ℕ, if◌then◌else◌, List, [], ◌∷◌, codes, bytes_eq, Option, option_map}
+use Rattle.dr_literals.specs.Options.{late_named}
+use Rattle.derecho_summary.specs.declared.words.Asked.{Asked}
 use Rattle.derecho_summary.specs.declared.words.Wording.{Wording}
 use Rattle.derecho_summary.specs.declared.words.Wording.TheVariants.{People, Programs}
 
--- the wording that these words ask for, if they are those of a call
-abbrev pub wording_of : List (List ℕ) → Option Wording
-wording_of [] = Some People
-wording_of (word ∷ []) = if bytes_eq word (codes "json") then Some Programs else None
-wording_of (word ∷ more ∷ words) = None
+-- the wording that the words begin with, and the words behind it
+abbrev pub wording_at : List (List ℕ) → Wording × List (List ℕ)
+wording_at [] = (People, [])
+wording_at (word ∷ words) = if bytes_eq word (codes "json") then (Programs, words) else (People, word ∷ words)
+
+-- a run to be summed up in a wording, in which these members are late
+abbrev pub asked_with : Wording → ℕ → Asked
+asked_with wording late = record { wording = wording; late = late }
+
+-- what these words ask for, if they are those of a call: a wording, and behind it who is late
+abbrev pub asked_of : List (List ℕ) → Option Asked
+asked_of words = option_map (asked_with (wording_at words).0) (late_named (wording_at words).1)

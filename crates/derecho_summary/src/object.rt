@@ -10,22 +10,24 @@ use dr_intake::status_of;
 use dr_script::Script;
 use dr_summary::push_age_object;
 use dr_text::Last;
+use dr_words::Mask;
 use std::alloc::{AllocError, Global};
 use std::fmt::Write;
 
-/// The summary of a run of a script as a JSON object: these are its ages, and its last line.
+/// The summary of a run of a script as a JSON object: these members are late, these are its ages, and its last line.
 pub(crate) fn object_of(
     alloc: Global,
     script: &Script,
+    late: Mask,
     ages: &[AgeEnd],
     last: &Last,
 ) -> Result<String, AllocError>
     requires { HasRanges script.now }
     ensures { IfOk result
-        (λ text. string_bytes text ≡ summary_object script.now ages.now last.now) }
+        (λ text. string_bytes text ≡ summary_object script.now late ages.now last.now) }
 {
     let mut text = String::new(alloc);
-    push_object(alloc, &mut text, script, ages, last)?;
+    push_object(alloc, &mut text, script, late, ages, last)?;
     Ok(text)
 }
 
@@ -33,16 +35,17 @@ fn push_object(
     alloc: Global,
     out: &mut String,
     script: &Script,
+    late: Mask,
     ages: &[AgeEnd],
     last: &Last,
 ) -> Result<(), AllocError>
     requires { HasRanges script.now }
     ensures { OnOk result
-        (string_bytes out.new ≡ string_bytes out.old ++ summary_object script.now ages.now last.now) }
+        (string_bytes out.new ≡ string_bytes out.old ++ summary_object script.now late ages.now last.now) }
 {
     push_ages_part(alloc, out, script, ages)?;
     push_status_part(out, status_of(last), script.turns)?;
-    push_enough_part(out, script, ages)
+    push_enough_part(out, script, late, ages)
 }
 
 /// Appends the ages, as a summary begins.
@@ -71,12 +74,17 @@ fn push_status_part(out: &mut String, status: u8, turns: u32) -> Result<(), Allo
 }
 
 /// Appends how many would have been enough, as a summary ends.
-fn push_enough_part(out: &mut String, script: &Script, ages: &[AgeEnd]) -> Result<(), AllocError>
+fn push_enough_part(
+    out: &mut String,
+    script: &Script,
+    late: Mask,
+    ages: &[AgeEnd],
+) -> Result<(), AllocError>
     requires { HasRanges script.now }
     ensures { OnOk result
-        (string_bytes out.new ≡ string_bytes out.old ++ enough_part script.now ages.now) }
+        (string_bytes out.new ≡ string_bytes out.old ++ enough_part script.now late ages.now) }
 {
-    push_enough(out, script, ages)?;
+    push_enough(out, script, late, ages)?;
     out.push_str("}\n")
 }
 
@@ -96,16 +104,21 @@ fn push_ages(
 }
 
 /// Appends how many turns would have been enough, as far as that is known.
-fn push_enough(out: &mut String, script: &Script, ages: &[AgeEnd]) -> Result<(), AllocError>
+fn push_enough(
+    out: &mut String,
+    script: &Script,
+    late: Mask,
+    ages: &[AgeEnd],
+) -> Result<(), AllocError>
     requires { HasRanges script.now }
     ensures { OnOk result
-        (string_bytes out.new ≡ string_bytes out.old ++ enough_digits script.now ages.now) }
+        (string_bytes out.new ≡ string_bytes out.old ++ enough_digits script.now late ages.now) }
 {
     if !some_spent(ages) {
         let turns = most_turns(ages);
         return write!(out, "{turns}");
     }
-    if is_calm(script) {
+    if is_calm(script, late) {
         let turns = turns_enough(script);
         return write!(out, "{turns}");
     }

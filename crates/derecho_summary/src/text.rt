@@ -10,42 +10,46 @@ use crate::words::Wording;
 use dr_entry::AgeEnd;
 use dr_script::Script;
 use dr_text::{Last, push_last};
+use dr_words::Mask;
 use std::alloc::{AllocError, Global};
 
-/// The summary of a run of a script in this wording: these are its ages, each of whose members agree, and its
-/// last line.
+/// The summary of a run of a script in this wording: these members are late, these are its ages, each of whose
+/// members agree, and its last line.
 pub(crate) fn summary_by(
     alloc: Global,
     wording: Wording,
     script: &Script,
+    late: Mask,
     ages: &[AgeEnd],
     last: &Last,
 ) -> Result<String, AllocError>
     requires ranges { HasRanges script.now }
     requires agreed { AreAgreed ages.now }
     ensures { IfOk result
-        (λ text. string_bytes text ≡ summary_by wording script.now ages.now last.now) }
+        (λ text. string_bytes text ≡ summary_by wording script.now late ages.now last.now) }
 {
     match wording {
-        Wording::People => summary_of(alloc, script, ages, last),
-        Wording::Programs => object_of(alloc, script, ages, last),
+        Wording::People => summary_of(alloc, script, late, ages, last),
+        Wording::Programs => object_of(alloc, script, late, ages, last),
     }
 }
 
-/// The summary of a run of a script: these are its ages, each of whose members agree, and its last line.
+/// The summary of a run of a script: these members are late, these are its ages, each of whose members agree, and
+/// its last line.
 fn summary_of(
     alloc: Global,
     script: &Script,
+    late: Mask,
     ages: &[AgeEnd],
     last: &Last,
 ) -> Result<String, AllocError>
     requires ranges { HasRanges script.now }
     requires agreed { AreAgreed ages.now }
-    ensures { IfOk result (λ text. string_bytes text ≡ summary_text script.now ages.now last.now) }
+    ensures { IfOk result (λ text. string_bytes text ≡ summary_text script.now late ages.now last.now) }
 {
     let mut text = String::new(alloc);
     push_ages(alloc, &mut text, script, ages)?;
-    push_turns(&mut text, script, ages)?;
+    push_turns(&mut text, script, late, ages)?;
     push_last(&mut text, last)?;
     Ok(text)
 }

@@ -1,16 +1,18 @@
 ghost use Rattle.std.specs.Prelude.{◌≡◌, ◌⊎◌, ◌∷◌, [], IfOk, Contains, string_bytes};
 ghost use Rattle.dr_progress.specs.Progress.{IsQuiet};
+ghost use Rattle.dr_ages.specs.Ages.{HaveSomebodyPrompt};
+ghost use Rattle.dr_outcome.specs.Playing.{all_with};
 ghost use Rattle.dr_script.specs.Ranges.{HasRanges};
 ghost use Rattle.dr_script.specs.Reading.{reading_of};
-ghost use Rattle.derecho_summary.specs.Answer.{IsAnswerFor, IsRunAnswer, IsSummaryAnswer, SummaryTold, summary_usage};
+ghost use Rattle.derecho_summary.specs.Answer.{IsAnswerFor, IsRunAnswer, IsScriptAnswer, IsSummaryAnswer, SummaryTold, summary_usage};
 
 use crate::text::summary_by;
-use crate::words::{Wording, wording_of};
+use crate::words::{Asked, asked_of};
 use dr_intake::{
     Answer, OUT_OF_MEMORY, READ_LIMIT, ReadFault, USAGE, read_all, script_or_refusal, status_of,
 };
 use dr_io::{Sink, Source};
-use dr_outcome::Outcome;
+use dr_outcome::{Outcome, are_all_late, everybody_with};
 use dr_progress::{Progress, Timer, watch_with_progress};
 use dr_script::Script;
 use dr_sim::Unwatched;
@@ -36,8 +38,9 @@ pub fn summarize<R: Threads + Sync, S: Source, K: Sink, T: Timer, E: Sink>(
     ensures told { SummaryTold words.now (S.left source.old) (S.left source.new)
         (S.faults source.old) (S.faults source.new) (K.held sink.old) (K.held sink.new)
         (K.faults sink.old) (K.faults sink.new) result }
-    // 2 for words, 3 for a text that is no script, 4 for a read, 5 for a write, 8 for turns that were spent,
-    // 9 for a member without a majority of its view, 10 for memory, and else 0.
+    // 2 for words, and where all members of the script that was read are late, 3 for a text that is no script, 4 for
+    // a read, 5 for a write, 8 for turns that were spent, 9 for a member without a majority of its view, 10 for
+    // memory, and else 0.
     ensures statuses { Contains (0 ∷ 2 ∷ 3 ∷ 4 ∷ 5 ∷ 8 ∷ 9 ∷ 10 ∷ []) result }
     // No fault is hidden.
     ensures read_fault_told { (S.faults source.new ≡ S.faults source.old)
@@ -66,11 +69,11 @@ fn answer_to<R: Threads + Sync, S: Source, T: Timer, E: Sink>(
         (λ a. (S.faults source.new ≡ S.faults source.old) ⊎ (a.status ≡ 4)) }
     ensures quiet { IsQuiet progress.old progress.new }
 {
-    let Some(wording) = wording_of(words) else {
+    let Some(asked) = asked_of(words) else {
         return usage(alloc);
     };
     match read_all(alloc, source, READ_LIMIT) {
-        Ok(bytes) => answer_for(rt, alloc, wording, &bytes, progress),
+        Ok(bytes) => answer_for(rt, alloc, asked, &bytes, progress),
         Err(ReadFault::Failed) => Answer::of_line(alloc, &Last::SourceFault),
         Err(ReadFault::OutOfMemory) => Err(AllocError),
     }
@@ -82,7 +85,7 @@ fn usage(alloc: Global) -> Result<Answer, AllocError>
     ensures due { IfOk result (λ a. a.status ≡ 2) }
 {
     Ok(Answer {
-        text: String::from_str(alloc, "usage: derecho_summary [json] < SCRIPT\n")?,
+        text: String::from_str(alloc, "usage: derecho_summary [json] [--late L] < SCRIPT\n")?,
         status: USAGE,
     })
 }
@@ -91,36 +94,60 @@ fn usage(alloc: Global) -> Result<Answer, AllocError>
 fn answer_for<R: Threads + Sync, T: Timer, E: Sink>(
     rt: &R,
     alloc: Global,
-    wording: Wording,
+    asked: Asked,
     bytes: &[u8],
     progress: &mut Progress<T, E>,
 ) -> Result<Answer, AllocError>
-    ensures answer { IfOk result (λ a. IsAnswerFor wording (reading_of bytes.now) (string_bytes a.text) a.status) }
+    ensures answer { IfOk result (λ a. IsAnswerFor asked (reading_of bytes.now) (string_bytes a.text) a.status) }
     ensures quiet { IsQuiet progress.old progress.new }
 {
     match script_or_refusal(alloc, bytes) {
-        Ok(script) => answer_to_script(rt, alloc, wording, &script, progress),
+        Ok(script) => answer_to_script(rt, alloc, asked, &script, progress),
         Err(Some(line)) => Answer::of_line(alloc, &line),
         Err(None) => Err(AllocError),
     }
 }
 
-/// The summary of a run of the script.
+/// The summary of a run of the script, unless all its members are late: then nothing is run, and it is said how the
+/// program is called.
 fn answer_to_script<R: Threads + Sync, T: Timer, E: Sink>(
     rt: &R,
     alloc: Global,
-    wording: Wording,
+    asked: Asked,
     script: &Script,
     progress: &mut Progress<T, E>,
 ) -> Result<Answer, AllocError>
     requires { HasRanges script.now }
-    ensures answer { IfOk result (λ a. IsRunAnswer wording script.now (string_bytes a.text) a.status) }
+    ensures answer { IfOk result
+        (λ a. IsScriptAnswer asked script.now (string_bytes a.text) a.status) }
     ensures quiet { IsQuiet progress.old progress.new }
 {
+    let part = everybody_with(asked.late);
+    if are_all_late(script, &part) {
+        return usage(alloc);
+    }
+    answer_to_run(rt, alloc, asked, script, progress)
+}
+
+/// The summary of a run of the script.
+fn answer_to_run<R: Threads + Sync, T: Timer, E: Sink>(
+    rt: &R,
+    alloc: Global,
+    asked: Asked,
+    script: &Script,
+    progress: &mut Progress<T, E>,
+) -> Result<Answer, AllocError>
+    requires ranges { HasRanges script.now }
+    requires some { HaveSomebodyPrompt script.now (all_with asked.late) }
+    ensures answer { IfOk result (λ a. IsRunAnswer asked script.now (string_bytes a.text) a.status) }
+    ensures quiet { IsQuiet progress.old progress.new }
+{
+    let part = everybody_with(asked.late);
     let Outcome { ages, last, .. } = watch_with_progress(
         rt,
         alloc,
         script,
+        &part,
         &mut Unwatched,
         progress,
     );
@@ -128,7 +155,14 @@ fn answer_to_script<R: Threads + Sync, T: Timer, E: Sink>(
         return Err(AllocError);
     };
     Ok(Answer {
-        text: summary_by(alloc, wording, script, ages.as_slice(), &last)?,
+        text: summary_by(
+            alloc,
+            asked.wording,
+            script,
+            asked.late,
+            ages.as_slice(),
+            &last,
+        )?,
         status: status_of(&last),
     })
 }

@@ -7,6 +7,7 @@ ghost use Rattle.derecho_summary.specs.Summary.{enough_text, is_calm, is_spent, 
 use dr_enough::turns_enough;
 use dr_entry::{AgeEnd, End, MemberEnd};
 use dr_script::{Schedule, Script};
+use dr_words::Mask;
 use std::alloc::AllocError;
 use std::fmt::Write;
 
@@ -14,15 +15,16 @@ use std::fmt::Write;
 pub(crate) fn push_turns(
     out: &mut String,
     script: &Script,
+    late: Mask,
     ages: &[AgeEnd],
 ) -> Result<(), AllocError>
     requires { HasRanges script.now }
-    ensures { OnOk result (string_bytes out.new ≡ string_bytes out.old ++ turns_text script.now ages.now) }
+    ensures { OnOk result (string_bytes out.new ≡ string_bytes out.old ++ turns_text script.now late ages.now) }
 {
     if !some_spent(ages) {
         return push_enough(out, most_turns(ages));
     }
-    if is_calm(script) {
+    if is_calm(script, late) {
         let turns = turns_enough(script);
         return writeln!(out, "{turns} turns are enough in lockstep without faults");
     }
@@ -59,11 +61,13 @@ fn is_spent(end: End) -> bool
     matches!(end, End::Spent { .. })
 }
 
-/// Whether a script is in lockstep without faults.
-pub(crate) fn is_calm(script: &Script) -> bool
-    ensures { result ≡ is_calm script.now }
+/// Whether a script is in lockstep without faults, and nobody is late.
+pub(crate) fn is_calm(script: &Script, late: Mask) -> bool
+    ensures { result ≡ is_calm script.now late }
 {
-    script.faults.as_slice().is_empty() && matches!(script.schedule, Schedule::Lockstep)
+    script.faults.as_slice().is_empty()
+        && late.bits() == 0
+        && matches!(script.schedule, Schedule::Lockstep)
 }
 
 /// The most turns that a member of any age has taken.

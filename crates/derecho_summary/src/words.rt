@@ -1,5 +1,8 @@
-ghost use Rattle.std.specs.Prelude.{◌≡◌, map, string_bytes};
-ghost use Rattle.derecho_summary.specs.Words.{wording_of};
+ghost use Rattle.std.specs.Prelude.{◌≡◌, map, option_map, string_bytes};
+ghost use Rattle.derecho_summary.specs.Words.{asked_of, wording_at};
+
+use dr_literals::late_named;
+use dr_words::Mask;
 
 /// In which way a run is summed up.
 #[derive(Clone, Copy, Debug, PartialEq, Eq)]
@@ -10,13 +13,28 @@ pub(crate) enum Wording {
     Programs,
 }
 
-/// The wording that the words of a call ask for, where they are those of one.
-pub(crate) fn wording_of(words: &[String]) -> Option<Wording>
-    ensures { result ≡ wording_of (map string_bytes words.now) }
+/// What is to be summed up: in which way, and a run in which these members are late.
+#[derive(Clone, Copy, Debug, PartialEq, Eq)]
+pub(crate) struct Asked {
+    pub wording: Wording,
+    pub late: Mask,
+}
+
+/// What the words of a call ask for, where they are those of one.
+pub(crate) fn asked_of(words: &[String]) -> Option<Asked>
+    ensures { result ≡ asked_of (map string_bytes words.now) }
+{
+    let (wording, rest) = wording_at(words);
+    let late = late_named(rest)?;
+    Some(Asked { wording, late })
+}
+
+/// The wording that the words begin with, and the words behind it.
+fn wording_at(words: &[String]) -> (Wording, &[String])
+    ensures { (result.0, map string_bytes result.1.now) ≡ wording_at (map string_bytes words.now) }
 {
     match words {
-        [] => Some(Wording::People),
-        [word] if word.as_str() == "json" => Some(Wording::Programs),
-        _ => None,
+        [word, rest @ ..] if word.as_str() == "json" => (Wording::Programs, rest),
+        _ => (Wording::People, words),
     }
 }

@@ -4,15 +4,17 @@ use Rattle.dr_ages.specs.declared.mode.Mode.TheVariants.{Sim}
 use Rattle.dr_ages.specs.declared.stop.Stop.{Stop}
 use Rattle.dr_entry.specs.declared.end.AgeEnd.{AgeEnd}
 use Rattle.dr_intake.specs.Status.{WroteText}
-use Rattle.dr_outcome.proofs.Runs.{memory_lasts}
+use Rattle.dr_outcome.proofs.Runs.{part_lasts}
 use Rattle.dr_outcome.specs.Last.{last_of}
-use Rattle.dr_outcome.specs.Outcome.{IsRunInMemory}
+use Rattle.dr_outcome.specs.Outcome.{IsMemoryRun}
+use Rattle.dr_outcome.specs.Playing.{all_with}
 use Rattle.dr_script.specs.declared.script.Script.{Script}
 use Rattle.dr_script.specs.Reading.{Reading, TooLong, NotJson, Wrong, Reads}
 use Rattle.dr_text.specs.declared.last.Last.{Last}
 use Rattle.dr_text.specs.Writing.{WroteFront}
 use Rattle.derecho_trace.specs.Trace.{IsTracedFor, Wrote, end_status}
-use Rattle.derecho_trace.specs.declared.words.Form.{Form}
+use Rattle.derecho_trace.specs.declared.words.Asked.{Asked}
+use Rattle.dr_words.proofs.Bits.{has_zero}
 
 -- the status of each call is one of these
 abbrev pub IsKnown : ℕ → Type 0
@@ -21,11 +23,11 @@ IsKnown status = Contains (0 ∷ 2 ∷ 3 ∷ 4 ∷ 5 ∷ 8 ∷ 9 ∷ 10 ∷ []) 
 wanting_known : (status : ℕ) → status ≡ 10 → IsKnown status
 wanting_known status is = (7, omega arith, sym is)
 
-last_known : (script : Script) (ages : List AgeEnd) (stop : Option Stop) (last : Option Last)
-    → IsRunInMemory script Sim ages stop → last_of ages stop ≡ last → IsKnown (end_status last)
-last_known script ages stop None run is = (7, omega arith, refl)
-last_known script ages stop (Some line) run is =
-    run_known (end_status (Some line)) (memory_lasts script Sim ages stop line run is)
+last_known : (script : Script) (late : ℕ) (ages : List AgeEnd) (stop : Option Stop) (last : Option Last)
+    → IsMemoryRun script (all_with late) Sim ages stop → last_of ages stop ≡ last → IsKnown (end_status last)
+last_known script late ages stop None run is = (7, omega arith, refl)
+last_known script late ages stop (Some line) run is =
+    run_known (end_status (Some line)) (part_lasts script (all_with late) Sim ages stop line (λ m below. has_zero m) run is)
   where
     run_known : (status : ℕ) → Contains (0 ∷ 8 ∷ 9 ∷ []) status → IsKnown status
     run_known status (zero, below, is) = (0, omega arith, is)
@@ -33,17 +35,19 @@ last_known script ages stop (Some line) run is =
     run_known status (suc (suc zero), below, is) = (6, omega arith, is)
     run_known status (suc (suc (suc i)), below, is) = absurd (omega (arith, below))
 
-pub traced_known : (form : Form) (r : Reading) (text : List ℕ) (due : ℕ) → IsTracedFor form r text due
+pub traced_known : (asked : Asked) (r : Reading) (text : List ℕ) (due : ℕ) → IsTracedFor asked r text due
     → IsKnown due
-traced_known form TooLong text due (inl wanting) = wanting_known due wanting.1
-traced_known form TooLong text due (inr is) = (2, omega arith, sym is.1)
-traced_known form NotJson text due (inl wanting) = wanting_known due wanting.1
-traced_known form NotJson text due (inr is) = (2, omega arith, sym is.1)
-traced_known form (Wrong rule path) text due (inl wanting) = wanting_known due wanting.1
-traced_known form (Wrong rule path) text due (inr is) = (2, omega arith, sym is.1)
-traced_known form (Reads script) text due (inl wanting) = wanting_known due wanting.1
-traced_known form (Reads script) text due (inr is) =
-    subst IsKnown (sym is.status) (last_known script is.ages is.stop (last_of is.ages is.stop) is.run refl)
+traced_known asked TooLong text due (inl wanting) = wanting_known due wanting.1
+traced_known asked TooLong text due (inr is) = (2, omega arith, sym is.1)
+traced_known asked NotJson text due (inl wanting) = wanting_known due wanting.1
+traced_known asked NotJson text due (inr is) = (2, omega arith, sym is.1)
+traced_known asked (Wrong rule path) text due (inl wanting) = wanting_known due wanting.1
+traced_known asked (Wrong rule path) text due (inr is) = (2, omega arith, sym is.1)
+traced_known asked (Reads script) text due (inl (inl wanting)) = wanting_known due wanting.1
+traced_known asked (Reads script) text due (inl (inr is)) =
+    subst IsKnown (sym is.status)
+    (last_known script asked.late is.ages is.stop (last_of is.ages is.stop) is.run refl)
+traced_known asked (Reads script) text due (inr unrun) = (1, omega arith, sym unrun.status)
 
 -- so is that of a call whose status that is due is one of them
 pub wrote_known : (held holds : Option (List ℕ)) (fell falls status due : ℕ) (text : List ℕ) → IsKnown due

@@ -1,7 +1,6 @@
 -- What is told of a run, by what its watcher was told.
 use Rattle.std.proofs.Common.{◌≡◌, ℕ, ◌+◌, List, [], ◌∷◌, ◌++◌, Option, Some, None, length, refl, sym, ap, subst, append-nil, append_assoc, ◌⊎◌, inl, inr}
 use Rattle.std.proofs.lemmas.Option.{none-some}
-use Rattle.dr_ages.specs.Ages.{all_but}
 use Rattle.dr_ages.specs.declared.mode.Mode.TheVariants.{Sim}
 use Rattle.dr_ages.specs.Watched.{AreWatched}
 use Rattle.dr_entry.specs.declared.end.AgeEnd.{AgeEnd}
@@ -14,15 +13,17 @@ use Rattle.dr_seeing.specs.Lines.{age_line, line_of}
 use Rattle.dr_seeing.specs.Output.{HasTold, Tells, TellsSome, Written}
 use Rattle.dr_seeing.proofs.Outputs.{tells_both}
 use Rattle.dr_sim.specs.Watched.{WasTold}
+use Rattle.dr_ages.specs.declared.part.Part.{Part}
 use Rattle.dr_ages.specs.declared.stop.Stop.{Stop}
 use Rattle.dr_intake.specs.Reading.{refusal_in}
 use Rattle.dr_outcome.specs.Last.{last_of}
-use Rattle.dr_outcome.specs.Outcome.{IsRunInMemory}
+use Rattle.dr_outcome.specs.Outcome.{IsMemoryRun}
 use Rattle.dr_script.specs.Reading.{Reading, NotJson, Reads, TooLong, Wrong}
 use Rattle.dr_text.specs.declared.last.Last.{Last}
+use Rattle.derecho_trace.specs.declared.words.Asked.{Asked}
 use Rattle.derecho_trace.specs.declared.words.Form.{Form}
 use Rattle.derecho_trace.specs.declared.words.Form.TheVariants.{Chart, Lines, Picture}
-use Rattle.derecho_trace.specs.Trace.{AreLines, IsToldOf, IsTraced, IsTracedFor, Wrote, WroteOne, deed_line, end_status, ending, moves_text, picture_ending, traced_end_line}
+use Rattle.derecho_trace.specs.Trace.{AreLines, IsRunTold, IsToldOf, IsTracedFor, Wrote, WroteOne, deed_line, end_status, ending, moves_text, picture_ending, traced_end_line}
 
 -- what `Lines` does as it is told of an age, of a deed and of the end
 abbrev pub Opens : Written → Start → Written → Type 0
@@ -52,22 +53,22 @@ moves_told p (e ∷ es) old new was =
     (moves_told (step_of p e) es was.1 new was.4)
 
 -- these ages have lines, which are told
-pub record HaveLines (script : Script) (nth : ℕ) (ages : List AgeEnd) (old new : Written) : Type 0 where
+pub record HaveLines (script : Script) (part : Part) (nth : ℕ) (ages : List AgeEnd) (old new : Written) : Type 0 where
   pub text : List ℕ
-  pub lines : AreLines script nth ages text
+  pub lines : AreLines script part nth ages text
   pub tells : Tells text old new
 
-pub lines_told : (script : Script) (nth : ℕ) (ages : List AgeEnd) (old new : Written)
-    → AreWatched Opens Sees Closes Sim script (all_but 0) nth ages old new → HaveLines script nth ages old new
-lines_told script nth [] old new same = record {
+pub lines_told : (script : Script) (part : Part) (nth : ℕ) (ages : List AgeEnd) (old new : Written)
+    → AreWatched Opens Sees Closes Sim script part nth ages old new → HaveLines script part nth ages old new
+lines_told script part nth [] old new same = record {
   text = [];
   lines = refl;
   tells = tells_same old new (sym same);
 }
-lines_told script nth (age ∷ ages) old new was =
+lines_told script part nth (age ∷ ages) old new was =
     let next = was.0 in
     let seen = was.1 in
-    let rest = lines_told script (nth + 1) ages next new was.2 in
+    let rest = lines_told script part (nth + 1) ages next new was.2 in
     let head = age_line age.age (length age.start) in
     let moves = moves_text seen.is.begun seen.is.run.moves in
     let told : Tells (head ++ moves) old seen.ended =
@@ -102,24 +103,24 @@ some_moves p [] old new same = ([], tells_same old new same)
 some_moves p (e ∷ es) old new was =
     some_both old was.1 new was.3 (some_moves (step_of p e) es was.1 new was.4)
 
-pub some_told : (script : Script) (nth : ℕ) (ages : List AgeEnd) (old new : Written)
-    → AreWatched OpensSome SeesSome ClosesSome Sim script (all_but 0) nth ages old new → TellsSome old new
-some_told script nth [] old new same = ([], tells_same old new (sym same))
-some_told script nth (age ∷ ages) old new was =
+pub some_told : (script : Script) (part : Part) (nth : ℕ) (ages : List AgeEnd) (old new : Written)
+    → AreWatched OpensSome SeesSome ClosesSome Sim script part nth ages old new → TellsSome old new
+some_told script part nth [] old new same = ([], tells_same old new (sym same))
+some_told script part nth (age ∷ ages) old new was =
     let seen = was.1 in
     some_both old was.0 new
     (some_both old seen.opened was.0 seen.opening
     (some_both seen.opened seen.ended was.0
     (some_moves seen.is.begun seen.is.run.moves seen.opened seen.ended seen.moves) seen.closing))
-    (some_told script (nth + 1) ages was.0 new was.2)
+    (some_told script part (nth + 1) ages was.0 new was.2)
 
 -- ---- what was written of a run
 
 -- nothing was run as memory was wanting, or this is the run
-abbrev pub HasRun : Script → List AgeEnd → Option Stop → Option Last → Type 0
-HasRun script ages stop last =
+abbrev pub HasRun : Script → Part → List AgeEnd → Option Stop → Option Last → Type 0
+HasRun script part ages stop last =
     ((ages ≡ []) × (stop ≡ None) × (last ≡ None))
-    ⊎ (IsRunInMemory script Sim ages stop × (last ≡ last_of ages stop))
+    ⊎ (IsMemoryRun script part Sim ages stop × (last ≡ last_of ages stop))
 
 -- whatever is told, it is written with the last line behind it
 abbrev pub Writes : Option (List ℕ) → Option (List ℕ) → ℕ → ℕ → ℕ → Option Last → Written → Type 0
@@ -127,24 +128,24 @@ Writes held holds fell falls status last now =
     (text : List ℕ) → HasTold held fell text now
     → Wrote held holds fell falls status (end_status last) (text ++ traced_end_line last)
 
-wanting_wrote : (form : Form) (script : Script) (last : Option Last) (held holds : Option (List ℕ))
+wanting_wrote : (form : Form) (script : Script) (part : Part) (last : Option Last) (held holds : Option (List ℕ))
     (fell falls status : ℕ) → last ≡ None
     → Wrote held holds fell falls status (end_status last) ([] ++ traced_end_line last)
-    → WroteOne (IsTraced form script) held holds fell falls status
-wanting_wrote form script last held holds fell falls status none wrote = record {
+    → WroteOne (IsRunTold form script part) held holds fell falls status
+wanting_wrote form script part last held holds fell falls status none wrote = record {
   text = traced_end_line last;
   due = end_status last;
   is = inl (ap traced_end_line none, ap end_status none);
   wrote = wrote;
 }
 
-run_wrote : (form : Form) (script : Script) (ages : List AgeEnd) (stop : Option Stop) (last : Option Last)
+run_wrote : (form : Form) (script : Script) (part : Part) (ages : List AgeEnd) (stop : Option Stop) (last : Option Last)
     (held holds : Option (List ℕ)) (fell falls status : ℕ) (told : List ℕ)
-    → IsRunInMemory script Sim ages stop
-    → last ≡ last_of ages stop → IsToldOf form script ages told
+    → IsMemoryRun script part Sim ages stop
+    → last ≡ last_of ages stop → IsToldOf form script part ages told
     → Wrote held holds fell falls status (end_status last) (told ++ ending form last)
-    → WroteOne (IsTraced form script) held holds fell falls status
-run_wrote form script ages stop last held holds fell falls status told run is tells wrote = record {
+    → WroteOne (IsRunTold form script part) held holds fell falls status
+run_wrote form script part ages stop last held holds fell falls status told run is tells wrote = record {
   text = told ++ ending form last;
   due = end_status last;
   is = inr (record {
@@ -159,35 +160,35 @@ run_wrote form script ages stop last held holds fell falls status told run is te
   wrote = wrote;
 }
 
-pub lines_wrote : (script : Script) (ages : List AgeEnd) (stop : Option Stop) (last : Option Last)
-    (held holds : Option (List ℕ)) (fell falls status : ℕ) (old new : Written) → HasRun script ages stop last
-    → AreWatched Opens Sees Closes Sim script (all_but 0) 0 ages old new → HasTold held fell [] old
+pub lines_wrote : (script : Script) (part : Part) (ages : List AgeEnd) (stop : Option Stop) (last : Option Last)
+    (held holds : Option (List ℕ)) (fell falls status : ℕ) (old new : Written) → HasRun script part ages stop last
+    → AreWatched Opens Sees Closes Sim script part 0 ages old new → HasTold held fell [] old
     → Writes held holds fell falls status last new
-    → WroteOne (IsTraced Lines script) held holds fell falls status
-lines_wrote script ages stop last held holds fell falls status old new (inl none) watched told writes =
+    → WroteOne (IsRunTold Lines script part) held holds fell falls status
+lines_wrote script part ages stop last held holds fell falls status old new (inl none) watched told writes =
     let same : new ≡ old =
-    subst (λ (l : List AgeEnd). AreWatched Opens Sees Closes Sim script (all_but 0) 0 l old new) none.0 watched in
-    wanting_wrote Lines script last held holds fell falls status none.2
+    subst (λ (l : List AgeEnd). AreWatched Opens Sees Closes Sim script part 0 l old new) none.0 watched in
+    wanting_wrote Lines script part last held holds fell falls status none.2
     (writes [] (subst (λ (w : Written). HasTold held fell [] w) (sym same) told))
-lines_wrote script ages stop last held holds fell falls status old new (inr ran) watched told writes =
-    let lines = lines_told script 0 ages old new watched in
-    run_wrote Lines script ages stop last held holds fell falls status lines.text ran.0 ran.1 lines.lines
+lines_wrote script part ages stop last held holds fell falls status old new (inr ran) watched told writes =
+    let lines = lines_told script part 0 ages old new watched in
+    run_wrote Lines script part ages stop last held holds fell falls status lines.text ran.0 ran.1 lines.lines
     (writes lines.text (lines.tells held fell [] told))
 
-pub chart_wrote : (script : Script) (ages : List AgeEnd) (stop : Option Stop) (last : Option Last)
-    (held holds : Option (List ℕ)) (fell falls status : ℕ) (old new : Written) → HasRun script ages stop last
-    → AreWatched OpensSome SeesSome ClosesSome Sim script (all_but 0) 0 ages old new → HasTold held fell [] old
+pub chart_wrote : (script : Script) (part : Part) (ages : List AgeEnd) (stop : Option Stop) (last : Option Last)
+    (held holds : Option (List ℕ)) (fell falls status : ℕ) (old new : Written) → HasRun script part ages stop last
+    → AreWatched OpensSome SeesSome ClosesSome Sim script part 0 ages old new → HasTold held fell [] old
     → Writes held holds fell falls status last new
-    → WroteOne (IsTraced Chart script) held holds fell falls status
-chart_wrote script ages stop last held holds fell falls status old new (inl none) watched told writes =
+    → WroteOne (IsRunTold Chart script part) held holds fell falls status
+chart_wrote script part ages stop last held holds fell falls status old new (inl none) watched told writes =
     let same : new ≡ old =
-    subst (λ (l : List AgeEnd). AreWatched OpensSome SeesSome ClosesSome Sim script (all_but 0) 0 l old new) none.0
+    subst (λ (l : List AgeEnd). AreWatched OpensSome SeesSome ClosesSome Sim script part 0 l old new) none.0
     watched in
-    wanting_wrote Chart script last held holds fell falls status none.2
+    wanting_wrote Chart script part last held holds fell falls status none.2
     (writes [] (subst (λ (w : Written). HasTold held fell [] w) (sym same) told))
-chart_wrote script ages stop last held holds fell falls status old new (inr ran) watched told writes =
-    let some = some_told script 0 ages old new watched in
-    run_wrote Chart script ages stop last held holds fell falls status some.0 ran.0 ran.1 tt
+chart_wrote script part ages stop last held holds fell falls status old new (inr ran) watched told writes =
+    let some = some_told script part 0 ages old new watched in
+    run_wrote Chart script part ages stop last held holds fell falls status some.0 ran.0 ran.1 tt
     (writes some.0 (some.1 held fell [] told))
 
 -- what is drawn, the last line and what closes a picture are told one behind the other
@@ -199,22 +200,22 @@ hung drawn line closing held fell old first then new told a b c =
     (c held fell (drawn ++ line) (b held fell drawn (a held fell [] told)))
 
 -- a picture was written, with the last line in it
-pub picture_wrote : (from to : ℕ) (script : Script) (ages : List AgeEnd) (stop : Option Stop) (last : Last)
+pub picture_wrote : (from to : ℕ) (script : Script) (part : Part) (ages : List AgeEnd) (stop : Option Stop) (last : Last)
     (held holds : Option (List ℕ)) (fell falls status : ℕ) (told : List ℕ)
-    → HasRun script ages stop (Some last)
+    → HasRun script part ages stop (Some last)
     → Wrote held holds fell falls status (end_status (Some last)) (told ++ picture_ending (Some last))
-    → WroteOne (IsTraced (Picture from to) script) held holds fell falls status
-picture_wrote from to script ages stop last held holds fell falls status told (inl none) wrote =
+    → WroteOne (IsRunTold (Picture from to) script part) held holds fell falls status
+picture_wrote from to script part ages stop last held holds fell falls status told (inl none) wrote =
     absurd (none-some last (sym none.2))
-picture_wrote from to script ages stop last held holds fell falls status told (inr ran) wrote =
-    run_wrote (Picture from to) script ages stop (Some last) held holds fell falls status told ran.0 ran.1 tt wrote
+picture_wrote from to script part ages stop last held holds fell falls status told (inr ran) wrote =
+    run_wrote (Picture from to) script part ages stop (Some last) held holds fell falls status told ran.0 ran.1 tt wrote
 
 -- what was written of a text that is no script
-pub refused_wrote : (form : Form) (r : Reading) (line : Option Last) (held holds : Option (List ℕ))
+pub refused_wrote : (asked : Asked) (r : Reading) (line : Option Last) (held holds : Option (List ℕ))
     (fell falls status : ℕ) → ((l : Last) → line ≡ Some l → refusal_in r ≡ Some l)
     → Wrote held holds fell falls status (end_status line) ([] ++ traced_end_line line)
-    → WroteOne (IsTracedFor form r) held holds fell falls status
-refused_wrote form r line held holds fell falls status refusal wrote = record {
+    → WroteOne (IsTracedFor asked r) held holds fell falls status
+refused_wrote asked r line held holds fell falls status refusal wrote = record {
   text = traced_end_line line;
   due = end_status line;
   is = by r line refusal;
@@ -222,11 +223,11 @@ refused_wrote form r line held holds fell falls status refusal wrote = record {
 }
   where
     by : (x : Reading) (o : Option Last) → ((l : Last) → o ≡ Some l → refusal_in x ≡ Some l)
-        → IsTracedFor form x (traced_end_line o) (end_status o)
+        → IsTracedFor asked x (traced_end_line o) (end_status o)
     by TooLong None is = inl (refl, refl)
     by NotJson None is = inl (refl, refl)
     by (Wrong rule path) None is = inl (refl, refl)
-    by (Reads script) None is = inl (refl, refl)
+    by (Reads script) None is = inl (inl (refl, refl))
     by TooLong (Some l) is = inr (ap traced_end_line (sym (is l refl)), ap end_status (sym (is l refl)))
     by NotJson (Some l) is = inr (ap traced_end_line (sym (is l refl)), ap end_status (sym (is l refl)))
     by (Wrong rule path) (Some l) is = inr (ap traced_end_line (sym (is l refl)), ap end_status (sym (is l refl)))

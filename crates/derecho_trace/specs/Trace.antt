@@ -4,14 +4,16 @@ use Rattle.std.specs.Option.{option_map_or}
 use Rattle.std.specs.declared.alloc.Global.{Global}
 use Rattle.dr_ages.specs.declared.mode.Mode.TheVariants.{Sim}
 use Rattle.dr_ages.specs.declared.stop.Stop.{Stop}
-use Rattle.dr_ages.specs.Ages.{all_but, start_of}
+use Rattle.dr_ages.specs.declared.part.Part.{Part}
+use Rattle.dr_ages.specs.Ages.{start_of}
 use Rattle.dr_entry.specs.declared.end.AgeEnd.{AgeEnd}
 use Rattle.dr_intake.specs.Answer as intake
 use Rattle.dr_intake.specs.Answer.{IsLine, Said}
 use Rattle.dr_intake.specs.Reading.{refusal_in}
 use Rattle.dr_intake.specs.Status.{WroteText, status_of}
 use Rattle.dr_outcome.specs.Last.{last_of}
-use Rattle.dr_outcome.specs.Outcome.{IsRunInMemory}
+use Rattle.dr_outcome.specs.Outcome.{AreAllLate, IsMemoryRun}
+use Rattle.dr_outcome.specs.Playing.{all_with}
 use Rattle.dr_program.specs.Presence.{present_at}
 use Rattle.dr_program.specs.Program.{Move, Program, step_of}
 use Rattle.dr_program.specs.Running.{Running}
@@ -23,6 +25,7 @@ use Rattle.dr_text.specs.declared.last.Last.{Last}
 use Rattle.dr_text.specs.Report.{last_text}
 use Rattle.dr_text.specs.Writing.{WroteFront}
 use Rattle.derecho_trace.specs.Words.{asked_by}
+use Rattle.derecho_trace.specs.declared.words.Asked.{Asked}
 use Rattle.derecho_trace.specs.declared.words.Form.{Form}
 use Rattle.derecho_trace.specs.declared.words.Form.TheVariants.{Chart, Lines, Picture}
 
@@ -37,18 +40,18 @@ moves_text p (e ∷ es) = deed_line p.table (present_at p.members e.member) ++ m
 
 -- the lines of these ages, the first of which is number nth of the run: for each its own line, and those of
 -- the moves by which it ran
-abbrev pub AreLines : Script → ℕ → List AgeEnd → List ℕ → Type 0
-AreLines script nth [] text = text ≡ []
-AreLines script nth (age ∷ ages) text =
-    (is : IsSimulated script (start_of script (all_but 0) age) nth age) × (rest : List ℕ)
-    × AreLines script (nth + 1) ages rest
+abbrev pub AreLines : Script → Part → ℕ → List AgeEnd → List ℕ → Type 0
+AreLines script part nth [] text = text ≡ []
+AreLines script part nth (age ∷ ages) text =
+    (is : IsSimulated script (start_of script part age) nth age) × (rest : List ℕ)
+    × AreLines script part (nth + 1) ages rest
     × (text ≡ (age_line age.age (length age.start) ++ moves_text is.begun is.run.moves) ++ rest)
 
 -- what is told of these ages in a form: of a chart and of a picture nothing is said
-abbrev pub IsToldOf : Form → Script → List AgeEnd → List ℕ → Type 0
-IsToldOf Lines script ages text = AreLines script 0 ages text
-IsToldOf Chart script ages text = ⊤
-IsToldOf (Picture from to) script ages text = ⊤
+abbrev pub IsToldOf : Form → Script → Part → List AgeEnd → List ℕ → Type 0
+IsToldOf Lines script part ages text = AreLines script part 0 ages text
+IsToldOf Chart script part ages text = ⊤
+IsToldOf (Picture from to) script part ages text = ⊤
 
 -- behind what is told comes the last line, with its status; where memory was wanting there is none, with
 -- status 10
@@ -70,37 +73,48 @@ ending form last = traced_end_line last
 abbrev pub IsWanting : List ℕ → ℕ → Type 0
 IsWanting text due = (text ≡ []) × (due ≡ 10)
 
+-- how the program is called
+abbrev pub trace_usage : List ℕ
+trace_usage = codes "usage: derecho_trace [lines|svg [FROM TO]] [--late L] < SCRIPT\n"
+
 -- the text tells the run of a script, with this status
-pub record IsRunTraced (form : Form) (script : Script) (text : List ℕ) (due : ℕ) : Type 0 where
+pub record IsRunTraced (form : Form) (script : Script) (part : Part) (text : List ℕ) (due : ℕ) : Type 0 where
   pub ages : List AgeEnd
   pub stop : Option Stop
-  pub run : IsRunInMemory script Sim ages stop
+  pub run : IsMemoryRun script part Sim ages stop
   pub told : List ℕ
-  pub tells : IsToldOf form script ages told
+  pub tells : IsToldOf form script part ages told
   pub whole : text ≡ told ++ ending form (last_of ages stop)
   pub status : due ≡ end_status (last_of ages stop)
 
 -- it does, or memory was wanting
-abbrev pub IsTraced : Form → Script → List ℕ → ℕ → Type 0
-IsTraced form script text due = IsWanting text due ⊎ IsRunTraced form script text due
+abbrev pub IsRunTold : Form → Script → Part → List ℕ → ℕ → Type 0
+IsRunTold form script part text due = IsWanting text due ⊎ IsRunTraced form script part text due
+
+-- nothing was run, as all members are late, and it tells how the program is called
+pub record IsUnrun (late : ℕ) (script : Script) (text : List ℕ) (due : ℕ) : Type 0 where
+  pub all : AreAllLate script (all_with late)
+  pub usage : text ≡ trace_usage
+  pub status : due ≡ 2
+
+-- what is asked of a script is told
+abbrev pub IsTraced : Asked → Script → List ℕ → ℕ → Type 0
+IsTraced asked script text due =
+    IsRunTold asked.form script (all_with asked.late) text due ⊎ IsUnrun asked.late script text due
 
 -- it tells what is to be told of what was read: the run of a script, or the line by which it is refused
-abbrev pub IsTracedFor : Form → Reading → List ℕ → ℕ → Type 0
-IsTracedFor form (Reads script) text due = IsTraced form script text due
-IsTracedFor form refused text due =
+abbrev pub IsTracedFor : Asked → Reading → List ℕ → ℕ → Type 0
+IsTracedFor asked (Reads script) text due = IsTraced asked script text due
+IsTracedFor asked refused text due =
     IsWanting text due ⊎ ((text ≡ traced_end_line (refusal_in refused)) × (due ≡ end_status (refusal_in refused)))
 
--- how the program is called
-abbrev pub trace_usage : List ℕ
-trace_usage = codes "usage: derecho_trace [lines|svg [FROM TO]] < SCRIPT\n"
-
--- What a call is to write, and the status that is due, by the form that its words ask for, and by what its
+-- What a call is to write, and the status that is due, by what its words ask for, and by what its
 -- source had left and then has.
 abbrev pub IsTraceAnswer : List (String Global) → Option (List ℕ) → Option (List ℕ) → ℕ → ℕ → Said → Type 0
 IsTraceAnswer words =
-    intake.IsAnswer (λ form. true)
+    intake.IsAnswer (λ asked. true)
     (λ line said. MatchOption line (IsWanting said.0 said.1) (λ l. IsLine trace_usage l said))
-    (λ form bytes said. IsTracedFor form (reading_of bytes) said.0 said.1) (asked_by words)
+    (λ asked bytes said. IsTracedFor asked (reading_of bytes) said.0 said.1) (asked_by words)
 
 -- the text was written, with the status that is due, or a front part of it, where the sink failed, with
 -- status 5, or memory was wanting, with status 10

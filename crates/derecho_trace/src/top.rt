@@ -1,20 +1,23 @@
 ghost use Rattle.std.specs.Prelude.{◌≡◌, ◌⊎◌, ◌∷◌, ◌++◌, ℕ, List, Option, Some, [], Contains};
 ghost use Rattle.dr_progress.specs.Progress.{IsQuiet};
+ghost use Rattle.dr_ages.specs.Ages.{HaveSomebodyPrompt};
+ghost use Rattle.dr_outcome.specs.Playing.{all_with};
 ghost use Rattle.dr_script.specs.Ranges.{HasRanges};
 ghost use Rattle.dr_script.specs.Reading.{reading_of};
 ghost use Rattle.dr_seeing.specs.Output.{HasTold};
-ghost use Rattle.derecho_trace.specs.Trace.{IsTraceAnswer, IsTraced, IsTracedFor, Wrote, WroteOne, end_status, picture_ending, trace_usage, traced_end_line};
+ghost use Rattle.derecho_trace.specs.Trace.{IsTraceAnswer, IsRunTold, IsTraced, IsTracedFor, Wrote, WroteOne, end_status, picture_ending, trace_usage, traced_end_line};
 
 use crate::chart::Drawing;
 use crate::lines::Lines;
 use crate::picture::{Picturing, is_lockstep};
-use crate::words::{Form, form_of};
+use crate::words::{Asked, Form, asked_of};
+use dr_ages::Part;
 use dr_intake::{
     OUT_OF_MEMORY, READ_FAULT, READ_LIMIT, ReadFault, USAGE, WRITE_FAULT, read_all,
     script_or_refusal, status_of,
 };
 use dr_io::{Sink, Source};
-use dr_outcome::watch_in_memory;
+use dr_outcome::{are_all_late, everybody_with, watch_in_memory};
 use dr_picture::Window;
 use dr_progress::{Progress, Timer, watch_with_progress};
 use dr_script::Script;
@@ -24,7 +27,7 @@ use std::alloc::Global;
 use std::thread::Threads;
 
 /// How the program is called.
-const USAGE_TEXT: &str = "usage: derecho_trace [lines|svg [FROM TO]] < SCRIPT\n";
+const USAGE_TEXT: &str = "usage: derecho_trace [lines|svg [FROM TO]] [--late L] < SCRIPT\n";
 
 /// What closes a picture.
 const CLOSING: &str = "</text>\n</svg>\n";
@@ -55,8 +58,9 @@ pub fn trace<R: Threads + Sync, S: Source, K: Sink, T: Timer, E: Sink>(
         (λ text due. IsTraceAnswer words.now (S.left source.old) (S.left source.new)
         (S.faults source.old) (S.faults source.new) (text, due))
         (K.held sink) (K.held result.sink) (K.faults sink) (K.faults result.sink) result.status }
-    // 2 for words, 3 for a text that is no script, 4 for a read, 5 for a write, 8 for turns that were spent,
-    // 9 for a member without a majority of its view, 10 for memory, and else 0.
+    // 2 for words, and where all members of the script that was read are late, 3 for a text that is no script, 4 for
+    // a read, 5 for a write, 8 for turns that were spent, 9 for a member without a majority of its view, 10 for
+    // memory, and else 0.
     ensures statuses { Contains (0 ∷ 2 ∷ 3 ∷ 4 ∷ 5 ∷ 8 ∷ 9 ∷ 10 ∷ []) result.status }
     // No fault is hidden.
     ensures read_fault_told { (S.faults source.new ≡ S.faults source.old)
@@ -65,11 +69,11 @@ pub fn trace<R: Threads + Sync, S: Source, K: Sink, T: Timer, E: Sink>(
     ensures quiet { IsQuiet progress.old progress.new }
 {
     let output = Output::new(alloc, sink);
-    let Some(form) = form_of(words) else {
+    let Some(asked) = asked_of(words) else {
         return usage(output);
     };
     match read_all(alloc, source, READ_LIMIT) {
-        Ok(bytes) => trace_bytes(rt, alloc, form, &bytes, output, progress),
+        Ok(bytes) => trace_bytes(rt, alloc, asked, &bytes, output, progress),
         Err(ReadFault::Failed) => end(output, Some(Last::SourceFault)),
         Err(ReadFault::OutOfMemory) => end(output, None),
     }
@@ -89,45 +93,70 @@ fn usage<K: Sink>(output: Output<K>) -> Traced<K>
 fn trace_bytes<R: Threads + Sync, K: Sink, T: Timer, E: Sink>(
     rt: &R,
     alloc: Global,
-    form: Form,
+    asked: Asked,
     bytes: &[u8],
     output: Output<K>,
     progress: &mut Progress<T, E>,
 ) -> Traced<K>
     ensures wrote { (held : Option (List ℕ)) (fell : ℕ) → HasTold held fell [] output
-        → WroteOne (IsTracedFor form (reading_of bytes.now)) held (K.held result.sink)
+        → WroteOne (IsTracedFor asked (reading_of bytes.now)) held (K.held result.sink)
         fell (K.faults result.sink) result.status }
     ensures quiet { IsQuiet progress.old progress.new }
 {
     match script_or_refusal(alloc, bytes) {
-        Ok(script) => trace_script(rt, alloc, form, &script, output, progress),
+        Ok(script) => trace_script(rt, alloc, asked, &script, output, progress),
         Err(line) => end(output, line),
     }
 }
 
-/// Tells the run of a script.
+/// Tells the run of a script, unless all its members are late: then nothing is run, and it says how the program
+/// is called.
 fn trace_script<R: Threads + Sync, K: Sink, T: Timer, E: Sink>(
     rt: &R,
     alloc: Global,
-    form: Form,
+    asked: Asked,
     script: &Script,
     output: Output<K>,
     progress: &mut Progress<T, E>,
 ) -> Traced<K>
     requires { HasRanges script.now }
     ensures wrote { (held : Option (List ℕ)) (fell : ℕ) → HasTold held fell [] output
-        → WroteOne (IsTraced form script.now) held (K.held result.sink)
+        → WroteOne (IsTraced asked script.now) held (K.held result.sink)
+        fell (K.faults result.sink) result.status }
+    ensures quiet { IsQuiet progress.old progress.new }
+{
+    let part = everybody_with(asked.late);
+    if are_all_late(script, &part) {
+        return usage(output);
+    }
+    trace_run(rt, alloc, asked.form, script, &part, output, progress)
+}
+
+/// Tells the run of a script in this form.
+fn trace_run<R: Threads + Sync, K: Sink, T: Timer, E: Sink>(
+    rt: &R,
+    alloc: Global,
+    form: Form,
+    script: &Script,
+    part: &Part,
+    output: Output<K>,
+    progress: &mut Progress<T, E>,
+) -> Traced<K>
+    requires ranges { HasRanges script.now }
+    requires some { HaveSomebodyPrompt script.now part.now }
+    ensures wrote { (held : Option (List ℕ)) (fell : ℕ) → HasTold held fell [] output
+        → WroteOne (IsRunTold form script.now part.now) held (K.held result.sink)
         fell (K.faults result.sink) result.status }
     ensures quiet { IsQuiet progress.old progress.new }
 {
     match form {
-        Form::Lines => trace_lines(rt, alloc, script, Lines { output }),
+        Form::Lines => trace_lines(rt, alloc, script, part, Lines { output }),
         Form::Chart => match Chart::new(alloc, script.members, is_lockstep(script)) {
-            Ok(chart) => trace_chart(rt, alloc, script, Drawing { output, chart }),
+            Ok(chart) => trace_chart(rt, alloc, script, part, Drawing { output, chart }),
             Err(_) => end(output, None),
         },
         Form::Picture { from, to } => match Picturing::new(alloc, script, Window { from, to }) {
-            Ok(picturing) => trace_picture(rt, alloc, script, picturing, output, progress),
+            Ok(picturing) => trace_picture(rt, alloc, script, part, picturing, output, progress),
             Err(_) => end(output, None),
         },
     }
@@ -138,15 +167,17 @@ fn trace_lines<R: Threads + Sync, K: Sink>(
     rt: &R,
     alloc: Global,
     script: &Script,
+    part: &Part,
     lines: Lines<K>,
 ) -> Traced<K>
-    requires { HasRanges script.now }
+    requires ranges { HasRanges script.now }
+    requires some { HaveSomebodyPrompt script.now part.now }
     ensures { (held : Option (List ℕ)) (fell : ℕ) → HasTold held fell [] lines
-        → WroteOne (IsTraced Form.Lines script.now) held (K.held result.sink)
+        → WroteOne (IsRunTold Form.Lines script.now part.now) held (K.held result.sink)
         fell (K.faults result.sink) result.status }
 {
     let mut lines = lines;
-    let outcome = watch_in_memory(rt, alloc, script, &mut lines);
+    let outcome = watch_in_memory(rt, alloc, script, part, &mut lines);
     end(lines.output, outcome.last)
 }
 
@@ -155,15 +186,17 @@ fn trace_chart<R: Threads + Sync, K: Sink>(
     rt: &R,
     alloc: Global,
     script: &Script,
+    part: &Part,
     drawing: Drawing<K>,
 ) -> Traced<K>
-    requires { HasRanges script.now }
+    requires ranges { HasRanges script.now }
+    requires some { HaveSomebodyPrompt script.now part.now }
     ensures { (held : Option (List ℕ)) (fell : ℕ) → HasTold held fell [] drawing
-        → WroteOne (IsTraced Form.Chart script.now) held (K.held result.sink)
+        → WroteOne (IsRunTold Form.Chart script.now part.now) held (K.held result.sink)
         fell (K.faults result.sink) result.status }
 {
     let mut drawing = drawing;
-    let outcome = watch_in_memory(rt, alloc, script, &mut drawing);
+    let outcome = watch_in_memory(rt, alloc, script, part, &mut drawing);
     end(drawing.output, outcome.last)
 }
 
@@ -172,18 +205,20 @@ fn trace_picture<R: Threads + Sync, K: Sink, T: Timer, E: Sink>(
     rt: &R,
     alloc: Global,
     script: &Script,
+    part: &Part,
     picturing: Picturing,
     output: Output<K>,
     progress: &mut Progress<T, E>,
 ) -> Traced<K>
-    requires { HasRanges script.now }
+    requires ranges { HasRanges script.now }
+    requires some { HaveSomebodyPrompt script.now part.now }
     ensures wrote { (from to : ℕ) (held : Option (List ℕ)) (fell : ℕ) → HasTold held fell [] output
-        → WroteOne (IsTraced (Form.Picture from to) script.now) held (K.held result.sink)
+        → WroteOne (IsRunTold (Form.Picture from to) script.now part.now) held (K.held result.sink)
         fell (K.faults result.sink) result.status }
     ensures quiet { IsQuiet progress.old progress.new }
 {
     let mut picturing = picturing;
-    let outcome = watch_with_progress(rt, alloc, script, &mut picturing, progress);
+    let outcome = watch_with_progress(rt, alloc, script, part, &mut picturing, progress);
     let Ok(drawn) = picturing.finish(alloc) else {
         return end(output, None);
     };

@@ -1,7 +1,8 @@
-ghost use Rattle.std.specs.Prelude.{◌≡◌, map, string_bytes};
-ghost use Rattle.derecho_trace.specs.Words.{form_of, window_of};
+ghost use Rattle.std.specs.Prelude.{◌≡◌, map, option_map, string_bytes};
+ghost use Rattle.derecho_trace.specs.Words.{asked_of, form_at, picture_at, window_of};
 
-use dr_literals::number_word;
+use dr_literals::{late_named, number_word};
+use dr_words::Mask;
 
 /// In which form a run is told.
 #[derive(Clone, Copy, Debug, PartialEq, Eq)]
@@ -14,19 +15,49 @@ pub(crate) enum Form {
     Picture { from: u64, to: u64 },
 }
 
-/// The form that the words of a call ask for, where they are those of one.
-pub(crate) fn form_of(words: &[String]) -> Option<Form>
-    ensures { result ≡ form_of (map string_bytes words.now) }
+/// A picture of all turns.
+const WHOLE: Form = Form::Picture {
+    from: 0,
+    to: u64::MAX,
+};
+
+/// What is to be told: in which form, and of a run in which these members are late.
+#[derive(Clone, Copy, Debug, PartialEq, Eq)]
+pub(crate) struct Asked {
+    pub form: Form,
+    pub late: Mask,
+}
+
+/// What the words of a call ask for, where they are those of one.
+pub(crate) fn asked_of(words: &[String]) -> Option<Asked>
+    ensures { result ≡ asked_of (map string_bytes words.now) }
+{
+    let (form, rest) = form_at(words);
+    let late = late_named(rest)?;
+    Some(Asked { form, late })
+}
+
+/// The form that the words begin with, and the words behind it.
+fn form_at(words: &[String]) -> (Form, &[String])
+    ensures { (result.0, map string_bytes result.1.now) ≡ form_at (map string_bytes words.now) }
 {
     match words {
-        [] => Some(Form::Chart),
-        [word] if word.as_str() == "lines" => Some(Form::Lines),
-        [word] if word.as_str() == "svg" => Some(Form::Picture {
-            from: 0,
-            to: u64::MAX,
-        }),
-        [word, from, to] if word.as_str() == "svg" => window_of(from.as_str(), to.as_str()),
-        _ => None,
+        [word, rest @ ..] if word.as_str() == "lines" => (Form::Lines, rest),
+        [word, rest @ ..] if word.as_str() == "svg" => picture_at(rest),
+        _ => (Form::Chart, words),
+    }
+}
+
+/// The picture whose turns the words begin with, or one of all turns, and the words behind it.
+fn picture_at(words: &[String]) -> (Form, &[String])
+    ensures { (result.0, map string_bytes result.1.now) ≡ picture_at (map string_bytes words.now) }
+{
+    match words {
+        [from, to, rest @ ..] => match window_of(from.as_str(), to.as_str()) {
+            Some(picture) => (picture, rest),
+            None => (WHOLE, words),
+        },
+        _ => (WHOLE, words),
     }
 }
 

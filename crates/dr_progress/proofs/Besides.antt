@@ -1,7 +1,7 @@
 -- What a watcher with a progress beside it is told of a run.
 use Rattle.std.proofs.Common.{◌≡◌, ◌⊎◌, ◌≤◌, ◌∙◌, inl, inr, refl, sym, ap, subst, ℕ, ◌+◌, true, List, [], ◌∷◌, Option, None, Some, arith}
 use Rattle.std.proofs.lemmas.Bool.{true≢false}
-use Rattle.dr_ages.specs.Ages.{all_but}
+use Rattle.dr_ages.specs.declared.part.Part.{Part}
 use Rattle.dr_ages.specs.declared.mode.Mode.TheVariants.{Sim}
 use Rattle.dr_ages.specs.Watched.{AreWatched}
 use Rattle.dr_entry.specs.declared.end.AgeEnd.{AgeEnd}
@@ -130,14 +130,14 @@ beside_told sees p (e ∷ es) old new (r, next, there, seen, more) =
 -- and of all ages
 pub beside_watched : {W T K : Type 0} (opens : W → Start → W → Type 0)
     (sees : W → Running → List ℕ → W → Type 0) (closes : W → List (Option Running) → List ℕ → W → Type 0)
-    (script : Script) (nth : ℕ) (ages : List AgeEnd) (old new : Beside W T K)
-    → AreWatched (BothOpen opens) (BothSee sees) (BothClose closes) Sim script (all_but 0) nth ages old new
-    → AreWatched opens sees closes Sim script (all_but 0) nth ages old.watcher.now new.watcher.now × GoesOn old new
-beside_watched opens sees closes script nth [] old new same =
+    (script : Script) (part : Part) (nth : ℕ) (ages : List AgeEnd) (old new : Beside W T K)
+    → AreWatched (BothOpen opens) (BothSee sees) (BothClose closes) Sim script part nth ages old new
+    → AreWatched opens sees closes Sim script part nth ages old.watcher.now new.watcher.now × GoesOn old new
+beside_watched opens sees closes script part nth [] old new same =
     (ap (λ b. b.watcher.now) same, subst (GoesOn old) (sym same) (goes_on_at_rest old))
-beside_watched opens sees closes script nth (age ∷ ages) old new (next, seen, more) =
+beside_watched opens sees closes script part nth (age ∷ ages) old new (next, seen, more) =
     let moves = beside_told sees seen.is.begun seen.is.run.moves seen.opened seen.ended seen.moves in
-    let rest = beside_watched opens sees closes script (nth + 1) ages next new more in
+    let rest = beside_watched opens sees closes script part (nth + 1) ages next new more in
     let opening : GoesOn old seen.opened =
     let before = old.progress.now in
     (kept_waits before seen.opened.progress.now age.age seen.opening.1, seen.opening.2, seen.opening.3) in

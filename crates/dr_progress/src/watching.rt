@@ -1,15 +1,16 @@
 ghost use Rattle.std.specs.Prelude.{◌≡◌, ◌⊎◌, None, []};
 ghost use Rattle.dr_script.specs.Ranges.{HasRanges};
-ghost use Rattle.dr_ages.specs.Ages.{all_but};
+ghost use Rattle.dr_ages.specs.Ages.{HaveSomebodyPrompt};
 ghost use Rattle.dr_ages.specs.Watched.{AreWatched};
 ghost use Rattle.dr_ages.specs.declared.mode.Mode.TheVariants.{Sim};
 ghost use Rattle.dr_outcome.specs.Last.{last_of};
-ghost use Rattle.dr_outcome.specs.Outcome.{IsRunInMemory};
+ghost use Rattle.dr_outcome.specs.Outcome.{IsMemoryRun};
 ghost use Rattle.dr_progress.specs.Progress.{IsQuiet};
 
 use crate::beside::Beside;
 use crate::progress::Progress;
 use crate::timer::Timer;
+use dr_ages::Part;
 use dr_io::Sink;
 use dr_outcome::{Outcome, watch_in_memory};
 use dr_script::Script;
@@ -23,14 +24,16 @@ pub fn watch_with_progress<R: Threads + Sync, W: Watcher, T: Timer, K: Sink>(
     rt: &R,
     alloc: Global,
     script: &Script,
+    part: &Part,
     watcher: &mut W,
     progress: &mut Progress<T, K>,
 ) -> Outcome
-    requires { HasRanges script.now }
+    requires ranges { HasRanges script.now }
+    requires some { HaveSomebodyPrompt script.now part.now }
     ensures ran { ((result.ages ≡ []) × (result.stop ≡ None) × (result.last ≡ None))
-        ⊎ (IsRunInMemory script.now Sim result.ages result.stop
+        ⊎ (IsMemoryRun script.now part.now Sim result.ages result.stop
         × (result.last ≡ last_of result.ages result.stop)) }
-    ensures watched { AreWatched W.opens W.sees W.closes Sim script.now (all_but 0) 0 result.ages
+    ensures watched { AreWatched W.opens W.sees W.closes Sim script.now part.now 0 result.ages
         watcher.old watcher.new }
     // Nothing is said but to a terminal, and not before two seconds have passed.
     ensures quiet { IsQuiet progress.old progress.new }
@@ -41,7 +44,7 @@ pub fn watch_with_progress<R: Threads + Sync, W: Watcher, T: Timer, K: Sink>(
         progress: &mut *progress,
         turns: 0,
     };
-    let outcome = watch_in_memory(rt, alloc, script, &mut beside);
+    let outcome = watch_in_memory(rt, alloc, script, part, &mut beside);
     progress.end();
     outcome
 }

@@ -2,8 +2,10 @@
 use crate::line::BLANK;
 use crate::{Progress, SteppedTimer, watch_with_progress};
 use dr_io::MemorySink;
+use dr_outcome::{are_all_late, everybody_with};
 use dr_script::read_script;
 use dr_sim::Unwatched;
+use dr_words::Mask;
 use std::alloc::Global;
 use std::fmt::Write;
 use std::process::Abort;
@@ -29,7 +31,10 @@ fn check<R: Threads + Sync + Abort>(
     let sink = MemorySink::new(alloc, 4096, &[])?;
     let timer = SteppedTimer::new(step, readings);
     let mut progress = Progress::new(alloc, timer, sink, is_terminal);
-    watch_with_progress(rt, alloc, &script, &mut Unwatched, &mut progress);
+    let part = everybody_with(Mask::empty());
+    if !are_all_late(&script, &part) {
+        watch_with_progress(rt, alloc, &script, &part, &mut Unwatched, &mut progress);
+    }
     let mut wanted = String::new(alloc);
     for turn in turns {
         write!(wanted, "{BLANK}age 0, turn {turn} of at most 1000")?;

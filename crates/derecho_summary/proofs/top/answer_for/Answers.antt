@@ -9,7 +9,7 @@ use Rattle.derecho_summary.proofs.top.answer_for.Goals as goal
 pub returns-in-Ok-clause-answer : goal.returns-in-Ok-clause-answer
 returns-in-Ok-clause-answer g c =
     let is : reading_of c.args.bytes.now ≡ Reads c.in-Ok.script = search rules in
-    script_if c.answer_to_script.result c.args.wording (reading_of c.args.bytes.now) c.in-Ok.script is
+    script_if c.answer_to_script.result c.args.asked (reading_of c.args.bytes.now) c.in-Ok.script is
     c.answer_to_script.ensures.answer
 
 pub returns-in-Err-Some-clause-answer : goal.returns-in-Err-Some-clause-answer
@@ -17,4 +17,4 @@ returns-in-Err-Some-clause-answer g c =
     let is : refusal_in (reading_of c.args.bytes.now) ≡ Some c.in-Err-Some.line = search rules in
     let text : IfOk c.of_line.result (λ a. string_bytes a.text ≡ last_text c.in-Err-Some.line) = search rules in
     let due : IfOk c.of_line.result (λ a. a.status ≡ status_of c.in-Err-Some.line) = search rules in
-    refused_if c.of_line.result c.args.wording (reading_of c.args.bytes.now) c.in-Err-Some.line is text due
+    refused_if c.of_line.result c.args.asked (reading_of c.args.bytes.now) c.in-Err-Some.line is text due

@@ -1,30 +1,21 @@
-use Rattle.std.proofs.Common.{◌≡◌, Some, rules, subst}
-use Rattle.dr_ages.specs.declared.mode.Mode.TheVariants.{Sim}
-use Rattle.derecho_summary.specs.Summary.{AreAgreed}
-use Rattle.derecho_summary.proofs.Agreed.{agreed_run}
-use Rattle.derecho_summary.proofs.Answers.{run_behind}
+use Rattle.std.proofs.Common.{subst}
+use Rattle.dr_ages.specs.declared.part.Part.{Part}
+use Rattle.dr_ages.specs.Ages.{HaveSomebodyPrompt}
+use Rattle.dr_outcome.specs.Outcome.{AreAllLate}
+use Rattle.derecho_summary.proofs.Answers.{run_if, unrun_if}
 use Rattle.derecho_summary.proofs.top.answer_to_script.Goals as goal
 
-pub summary_by-requires-clause-agreed : goal.summary_by-requires-clause-agreed
-summary_by-requires-clause-agreed g c =
-    let outcome = c.watch_with_progress-ages.result in
-    let is : outcome.last ≡ Some c.in-Some.last = search rules in
-    let run = run_behind c.args.script.now outcome.ages outcome.stop outcome.last c.in-Some.last
-    c.watch_with_progress-ages.ensures.ran is in
-    subst AreAgreed (search rules) (agreed_run c.args.script.now Sim outcome.ages outcome.stop run.0)
+pub answer_to_run-requires-clause-some : goal.answer_to_run-requires-clause-some
+answer_to_run-requires-clause-some g c κs h =
+    subst (λ (p : Part). HaveSomebodyPrompt c.args.script.now p) c.everybody_with-part.ensures
+    c.if-are_all_late.ensures
+
+pub returns-then-are_all_late-clause-answer : goal.returns-then-are_all_late-clause-answer
+returns-then-are_all_late-clause-answer g c =
+    unrun_if c.usage.result c.args.asked c.args.script.now
+    (subst (λ (p : Part). AreAllLate c.args.script.now p) c.everybody_with-part.ensures c.if-are_all_late.ensures)
+    c.usage.ensures.text c.usage.ensures.due
 
 pub returns-clause-answer : goal.returns-clause-answer
 returns-clause-answer g c =
-    let outcome = c.watch_with_progress-ages.result in
-    let is : outcome.last ≡ Some c.in-Some.last = search rules in
-    let run = run_behind c.args.script.now outcome.ages outcome.stop outcome.last c.in-Some.last
-    c.watch_with_progress-ages.ensures.ran is in
-    record {
-      ages = outcome.ages;
-      stop = outcome.stop;
-      run = run.0;
-      last = c.in-Some.last;
-      line = run.1;
-      summary = search rules;
-      due = search rules;
-    }
+    run_if c.answer_to_run.result c.args.asked c.args.script.now c.answer_to_run.ensures.answer

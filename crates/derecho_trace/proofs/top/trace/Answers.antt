@@ -13,36 +13,36 @@ pub returns-in-Ok-clause-told : goal.returns-in-Ok-clause-told
 returns-in-Ok-clause-told g c =
     let wrote = c.trace_bytes.ensures.wrote (g.K.Sink.held c.args.sink) (g.K.Sink.faults c.args.sink)
     c.new-output.ensures in
-    let asked : asked_by c.args.words.now ≡ Some c.in-Some.form = sym c.form_of.ensures ∙ c.in-Some.is in
+    let asked : asked_by c.args.words.now ≡ Some c.in-Some.asked = sym c.asked_of.ensures ∙ c.in-Some.is in
     record {
       text = wrote.text;
       due = wrote.due;
-      is = done c.in-Some.form asked c.in-Ok.bytes.items c.in-Ok.ensures.bytes
-          (subst (λ (l : List ℕ). IsTracedFor c.in-Some.form (reading_of l) wrote.text wrote.due)
+      is = done c.in-Some.asked asked c.in-Ok.bytes.items c.in-Ok.ensures.bytes
+          (subst (λ (l : List ℕ). IsTracedFor c.in-Some.asked (reading_of l) wrote.text wrote.due)
           c.deref.ensures.value wrote.is);
       wrote = wrote.wrote;
     }
 
 pub returns-in-Err-Failed-clause-told : goal.returns-in-Err-Failed-clause-told
 returns-in-Err-Failed-clause-told g c =
-    let asked : asked_by c.args.words.now ≡ Some c.in-Some.form = sym c.form_of.ensures ∙ c.in-Some.is in
+    let asked : asked_by c.args.words.now ≡ Some c.in-Some.asked = sym c.asked_of.ensures ∙ c.in-Some.is in
     let rose : Rose (g.S.Source.faults c.args.source.now) (g.S.Source.faults c.read_all.new.source) =
     search rules in
     record {
       text = last_text lasts.SourceFault;
       due = 4;
-      is = no_source c.in-Some.form asked refl rose (refl, refl);
+      is = no_source c.in-Some.asked asked refl rose (refl, refl);
       wrote = c.end.ensures.wrote (g.K.Sink.held c.args.sink) (g.K.Sink.faults c.args.sink) []
           c.new-output.ensures;
     }
 
 pub returns-in-Err-OutOfMemory-clause-told : goal.returns-in-Err-OutOfMemory-clause-told
 returns-in-Err-OutOfMemory-clause-told g c =
-    let asked : asked_by c.args.words.now ≡ Some c.in-Some.form = sym c.form_of.ensures ∙ c.in-Some.is in
+    let asked : asked_by c.args.words.now ≡ Some c.in-Some.asked = sym c.asked_of.ensures ∙ c.in-Some.is in
     record {
       text = [];
       due = 10;
-      is = no_memory c.in-Some.form asked (refl, refl);
+      is = no_memory c.in-Some.asked asked (refl, refl);
       wrote = c.end-in-Err-OutOfMemory.ensures.wrote (g.K.Sink.held c.args.sink) (g.K.Sink.faults
           c.args.sink) []
           c.new-output.ensures;
@@ -61,7 +61,7 @@ returns-in-Ok-clause-statuses g c =
     let sink = c.trace_bytes.result.sink in
     wrote_known (g.K.Sink.held c.args.sink) (g.K.Sink.held sink) (g.K.Sink.faults c.args.sink)
     (g.K.Sink.faults sink) c.trace_bytes.result.status wrote.due wrote.text
-    (traced_known c.in-Some.form (reading_of c.deref.result.now) wrote.text wrote.due wrote.is) wrote.wrote
+    (traced_known c.in-Some.asked (reading_of c.deref.result.now) wrote.text wrote.due wrote.is) wrote.wrote
 
 pub returns-in-Err-Failed-clause-statuses : goal.returns-in-Err-Failed-clause-statuses
 returns-in-Err-Failed-clause-statuses g c =

@@ -6,7 +6,7 @@ use Rattle.derecho_trace.proofs.top.trace_bytes.Goals as goal
 
 pub returns-in-Ok-clause-wrote : goal.returns-in-Ok-clause-wrote
 returns-in-Ok-clause-wrote g c = λ held fell told.
-    subst (λ (r : Reading). WroteOne (IsTracedFor c.args.form r) held (g.K.Sink.held
+    subst (λ (r : Reading). WroteOne (IsTracedFor c.args.asked r) held (g.K.Sink.held
     c.trace_script.result.sink)
     fell (g.K.Sink.faults c.trace_script.result.sink) c.trace_script.result.status) (sym
     c.in-Ok.ensures.script)
@@ -14,7 +14,7 @@ returns-in-Ok-clause-wrote g c = λ held fell told.
 
 pub returns-in-Err-clause-wrote : goal.returns-in-Err-clause-wrote
 returns-in-Err-clause-wrote g c = λ held fell told.
-    refused_wrote c.args.form (reading_of c.args.bytes.now) c.in-Err.line held (g.K.Sink.held
+    refused_wrote c.args.asked (reading_of c.args.bytes.now) c.in-Err.line held (g.K.Sink.held
     c.end.result.sink)
     fell (g.K.Sink.faults c.end.result.sink) c.end.result.status (λ l is. c.in-Err.ensures.refusal l (ap
     Err is))

@@ -1,41 +1,28 @@
-use Rattle.std.proofs.Common.{[], inl, refl, sym, subst}
-use Rattle.derecho_trace.specs.declared.words.Form.{Form}
-use Rattle.derecho_trace.specs.Trace.{IsTraced, WroteOne}
+use Rattle.std.proofs.Common.{inl, inr, refl, subst}
+use Rattle.dr_ages.specs.declared.part.Part.{Part}
+use Rattle.dr_outcome.specs.Outcome.{AreAllLate}
+use Rattle.derecho_trace.specs.Trace.{IsRunTold, trace_usage}
 use Rattle.derecho_trace.proofs.top.trace_script.Goals as goal
 
-pub returns-in-Lines-clause-wrote : goal.returns-in-Lines-clause-wrote
-returns-in-Lines-clause-wrote g c = λ held fell told.
-    subst (λ (f : Form). WroteOne (IsTraced f c.args.script.now) held (g.K.Sink.held
-    c.trace_lines.result.sink) fell
-    (g.K.Sink.faults c.trace_lines.result.sink) c.trace_lines.result.status) (sym c.in-Lines.is)
-    (c.trace_lines.ensures held fell told)
-
-pub returns-in-Ok-clause-wrote : goal.returns-in-Ok-clause-wrote
-returns-in-Ok-clause-wrote g c = λ held fell told.
-    subst (λ (f : Form). WroteOne (IsTraced f c.args.script.now) held (g.K.Sink.held
-    c.trace_chart.result.sink) fell
-    (g.K.Sink.faults c.trace_chart.result.sink) c.trace_chart.result.status) (sym c.in-Chart.is)
-    (c.trace_chart.ensures held fell told)
-
-pub returns-in-Err-clause-wrote : goal.returns-in-Err-clause-wrote
-returns-in-Err-clause-wrote g c = λ held fell told. record {
-  text = [];
-  due = 10;
-  is = inl (refl, refl);
-  wrote = c.end.ensures.wrote held fell [] told;
+pub returns-then-are_all_late-clause-wrote : goal.returns-then-are_all_late-clause-wrote
+returns-then-are_all_late-clause-wrote g c = λ held fell told. record {
+  text = trace_usage;
+  due = 2;
+  is = inr (record {
+    all = subst (λ (p : Part). AreAllLate c.args.script.now p) c.everybody_with-part.ensures c.if-are_all_late.ensures;
+    usage = refl;
+    status = refl;
+  });
+  wrote = c.usage.ensures held fell told;
 }
 
-pub returns-in-Ok-new-clause-wrote : goal.returns-in-Ok-new-clause-wrote
-returns-in-Ok-new-clause-wrote g c = λ held fell told.
-    subst (λ (f : Form). WroteOne (IsTraced f c.args.script.now) held (g.K.Sink.held
-    c.trace_picture.result.sink) fell
-    (g.K.Sink.faults c.trace_picture.result.sink) c.trace_picture.result.status) (sym c.in-Picture.is)
-    (c.trace_picture.ensures.wrote c.in-Picture.from c.in-Picture.to held fell told)
-
-pub returns-in-Err-new-clause-wrote : goal.returns-in-Err-new-clause-wrote
-returns-in-Err-new-clause-wrote g c = λ held fell told. record {
-  text = [];
-  due = 10;
-  is = inl (refl, refl);
-  wrote = c.end-in-Err-new.ensures.wrote held fell [] told;
-}
+pub returns-clause-wrote : goal.returns-clause-wrote
+returns-clause-wrote g c = λ held fell told.
+    let ran = c.trace_run.ensures.wrote held fell told in
+    record {
+      text = ran.text;
+      due = ran.due;
+      is = inl (subst (λ (p : Part). IsRunTold c.args.asked.form c.args.script.now p ran.text ran.due)
+          c.everybody_with-part.ensures ran.is);
+      wrote = ran.wrote;
+    }
