@@ -20,7 +20,7 @@ pub done_hold_all : (g : Group) (w : World) → IsGroup g → Known g w → Done
 done_hold_all g w is y = record {
   whole = λ m l e. done-whole g w m is y l e;
   durable = λ m l e. done-durable g w m y l e;
-  lacks_none = λ m k s early l e n. done-lacks-none g y.values w m k s is y.chosen early l e n;
+  lacks_none = λ m k s either l e n. done-lacks-none g y.values w m k s is y.chosen either l e n;
   same = λ m k l e n d view. done-same g y.values w m k is y.chosen l e n d view;
 }
 

@@ -1,8 +1,9 @@
 -- What is certain of the views of a world, and of its members that are done.
-use Rattle.std.specs.Prelude.{◌≡◌, ℕ, ◌+◌, ◌<◌, ◌≤◌, ◌++◌, length, Some}
+use Rattle.std.specs.Prelude.{◌≡◌, ◌⊎◌, ℕ, ◌+◌, ◌<◌, ◌≤◌, ◌++◌, length, true, Some}
 use Rattle.dr_entry.specs.declared.end.End.TheVariants.{Done}
 use Rattle.dr_entry.specs.declared.record.Value.{Value}
 use Rattle.dr_history.specs.History.{IsPrefixOf}
+use Rattle.dr_history.specs.Members.{has}
 use Rattle.dr_history.specs.Order.{IsLateIn, first_entries, messages_from}
 use Rattle.dr_history_laws.specs.Remaining.{remaining}
 use Rattle.dr_machine.specs.Group.{Group, roster}
@@ -32,8 +33,10 @@ pub record DoneHoldAll (g : Group) (w : World) : Type 0 where
   -- it has delivered all messages of the members of its view, durably
   pub whole : (m : ℕ) → m < roster g → w.end m ≡ Some Done → HoldsAll g w m
   pub durable : (m : ℕ) → m < roster g → w.end m ≡ Some Done → w.past.durable m ≡ length (w.past.history m)
-  -- nobody has a message that it lacks, but for those of late members, which may come into a later view
-  pub lacks_none : (m k s : ℕ) → ¬ IsLateIn g.opening s → m < roster g → w.end m ≡ Some Done → k < roster g
+  -- nobody has a message that it lacks, but for those of late members that aren't in its view, which may come
+  -- into a later one
+  pub lacks_none : (m k s : ℕ) → (¬ IsLateIn g.opening s) ⊎ (has (w.members m) s ≡ true)
+      → m < roster g → w.end m ≡ Some Done → k < roster g
       → IsPrefixOf (messages_from s (w.past.history k)) (messages_from s (w.past.history m))
   -- those that are done in one view have one history
   pub same : (m k : ℕ) → m < roster g → w.end m ≡ Some Done → k < roster g → w.end k ≡ Some Done

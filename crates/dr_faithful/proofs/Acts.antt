@@ -1,13 +1,17 @@
 -- Acts that put and take no items, before they stamp the beat word: turns, ends, logs, reports, marks and
 -- deliveries.
-use Rattle.std.proofs.Common.{List, ap, arith, drop, inl, le_of_eq, le_refl, le_trans, length, refl, sym, take, true, ℕ, ◌++◌, ◌+◌, ◌-◌, ◌<◌, ◌^◌, ◌∙◌, ◌≡◌, ◌≤◌}
+use Rattle.std.proofs.Common.{List, [], ◌∷◌, ap, arith, drop, inl, le_of_eq, le_refl, le_trans, length, refl, sym, take, true, ℕ, ◌++◌, ◌+◌, ◌-◌, ◌<◌, ◌^◌, ◌∙◌, ◌≡◌, ◌≤◌}
 use Rattle.std.proofs.lemmas.List.{take_all}
 use Rattle.dr_entry.specs.declared.end.End.{End}
 use Rattle.dr_entry.specs.declared.entry.Entry.{Entry}
+use Rattle.dr_entry.specs.declared.entry.Entry.TheVariants.{Msg, View}
+use Rattle.dr_entry.specs.declared.entry.Item.{Item}
+use Rattle.dr_entry.specs.declared.entry.Item.TheVariants.{Null, Text}
 use Rattle.dr_entry.specs.declared.record.Value.{Value}
 use Rattle.std.specs.Prelude.{Option}
-use Rattle.dr_history.specs.History.{IsPrefixOf, messages_of}
+use Rattle.dr_history.specs.History.{IsPrefixOf, before_some, messages_of, up_to_view}
 use Rattle.dr_history.specs.Members.{has}
+use Rattle.dr_history.specs.Order.{messages_from}
 use Rattle.dr_machine.specs.Effects.{appends, beats, delivers, ends, entries_of, least_shown, marks, publishes, reports, sender_at, with_own}
 use Rattle.dr_machine.specs.Group.{Group, IsGroup, IsPresent, roster}
 use Rattle.dr_machine.specs.Guards.{CanDeliver, CanMark, CanReport, IsInView}
@@ -185,6 +189,7 @@ append_keeps g V w m f = same_own_keeps g V w (appends w m) refl
         own = le_trans old.own (longer a);
         since = old.since;
         come = old.come;
+        before = old.before;
         logged = λ i h. le_trans (old.logged i h) (longer i);
         stayed = λ i h e. le_trans (old.stayed i h e) (longer i);
       };
@@ -232,11 +237,13 @@ report_keeps g V w m is can f = same_own_keeps g V w (reports w m) refl
     (record {
       bounded = f.logs.bounded;
       front = f.logs.front;
-      safe = at_case (λ a d. IsPresent g a → StandsOnLogs g V w.past.log a (w.past.view a) d) w.past.durable m least
-          (λ a d. f.logs.safe a) (λ l. record {
+      safe = at_case
+          (λ a d. IsPresent g a → StandsOnLogs g V w.past.log (w.past.history a) a (w.past.view a) d)
+          w.past.durable m least (λ a d. f.logs.safe a) (λ l. record {
             own = logged m (in_view g V w m f can.may.inside);
             since = w.past.view m;
             come = le_refl (w.past.view m);
+            before = λ less. absurd (omega (arith, less));
             logged = logged;
             stayed = λ i h e. logged i h;
           });
@@ -258,6 +265,20 @@ report_keeps g V w m is can f = same_own_keeps g V w (reports w m) refl
         ((f.words.own i (w.past.view m) LOGGED_COLUMN).logged refl))
 
 -- ---- the next place
+
+-- messages are no View
+up_to_view-same : (h es : List Entry) → up_to_view es ≡ [] → up_to_view (h ++ es) ≡ up_to_view h
+unfolding up_to_view
+up_to_view-same [] es none = none
+up_to_view-same (View a n m ∷ h) es none = ap (λ t. View a n m ∷ t) (up_to_view-same h es none)
+up_to_view-same (Msg s i b ∷ h) es none = ap (before_some (Msg s i b)) (up_to_view-same h es none)
+
+-- so the last View stays where an item is delivered
+up_to_view-entries : (h : List Entry) (s : ℕ) (item : Item)
+    → up_to_view (h ++ entries_of h s item) ≡ up_to_view h
+unfolding up_to_view
+up_to_view-entries h s Null = up_to_view-same h [] refl
+up_to_view-entries h s (Text bytes) = up_to_view-same h (Msg s (length (messages_from s h)) bytes ∷ []) refl
 
 -- the history goes on
 pub deliver_past : (w : World) (m : ℕ) → PastGrew w.past (delivers w m).past
@@ -285,7 +306,9 @@ deliver_keeps g V w m can f = same_own_keeps g V w (delivers w m) refl
       bounded = f.logs.bounded;
       front = at_case (λ i l. IsPrefixOf (w.past.log i) l) w.past.history m (w.past.history m ++ new)
           (λ i d. f.logs.front i) (prefix_more (w.past.log m) (w.past.history m) new (f.logs.front m));
-      safe = f.logs.safe;
+      safe = at_case
+          (λ a h. IsPresent g a → StandsOnLogs g V w.past.log h a (w.past.view a) (w.past.durable a))
+          w.past.history m (w.past.history m ++ new) (λ a d. f.logs.safe a) still;
       small = f.logs.small;
     })
     (record {
@@ -297,6 +320,18 @@ deliver_keeps g V w m can f = same_own_keeps g V w (delivers w m) refl
   where
     new : List Entry
     new = entries_of (w.past.history m) (sender_at w m (w.next m)) (item_at_place w m (w.next m))
+
+    still : IsPresent g m → StandsOnLogs g V w.past.log (w.past.history m ++ new) m (w.past.view m)
+        (w.past.durable m)
+    still l = let old = f.logs.safe m l in record {
+      own = old.own;
+      since = old.since;
+      come = old.come;
+      before = λ less. rw (up_to_view-entries (w.past.history m) (sender_at w m (w.next m))
+          (item_at_place w m (w.next m))) (old.before less);
+      logged = old.logged;
+      stayed = old.stayed;
+    }
 
     shows : (i : ℕ) → has (V (w.past.view m)) i ≡ true → w.next m + 1
         ≤ w.past.own i (w.past.view m) 2

@@ -188,6 +188,7 @@ begun g V is opens within = record {
       own = le_refl (length (first_entries g.opening));
       since = 0;
       come = le_refl 0;
+      before = λ l. absurd (omega (arith, l));
       logged = λ i h. le_refl (length (first_entries g.opening));
       stayed = λ i h e. le_refl (length (first_entries g.opening));
     };

@@ -1,6 +1,6 @@
 -- A member goes on in a later view, in which nothing of it was written, as it ends its view or joins: the
 -- members stay faithful, and the words grow.
-use Rattle.std.proofs.Common.{Bool, not, if◌then◌else◌, List, None, Some, [], ap, arith, false, fold, inl, inr, le_refl, le_trans, length, unwrap_or, refl, subst, sym, true, ℕ, ◌+◌, ◌<◌, ◌∙◌, ◌∷◌, ◌≡◌, ◌≢◌, ◌≤◌, ◌⊎◌}
+use Rattle.std.proofs.Common.{Bool, not, if◌then◌else◌, List, None, Some, [], ap, arith, false, fold, inl, inr, le_refl, le_trans, length, length-append, unwrap_or, refl, subst, sym, true, ℕ, ◌+◌, ◌<◌, ◌∙◌, ◌∷◌, ◌≡◌, ◌≢◌, ◌≤◌, ◌⊎◌}
 use Rattle.std.proofs.lemmas.Option.{none-some}
 use Rattle.dr_entry.specs.declared.entry.Entry.{Entry}
 use Rattle.dr_entry.specs.declared.entry.Entry.TheVariants.{View}
@@ -8,9 +8,10 @@ use Rattle.dr_entry.specs.declared.entry.Item.TheVariants.{Null}
 use Rattle.dr_entry.specs.declared.end.SentItem.{SentItem}
 use Rattle.dr_entry.specs.declared.record.Value.{Value}
 use Rattle.dr_entry.specs.declared.record.Vote.{Vote}
-use Rattle.dr_history.specs.History.{IsPrefixOf, last_view, messages_of}
+use Rattle.dr_history.proofs.Letters.{up_to_view-last}
+use Rattle.dr_history.specs.History.{IsPrefixOf, last_view, messages_of, up_to_view}
 use Rattle.dr_history.specs.Members.{has}
-use Rattle.dr_history.specs.Order.{IsLateIn, IsNewIn, messages_from}
+use Rattle.dr_history.specs.Order.{IsNewIn, messages_from}
 use Rattle.dr_history.specs.Places.{rest_places}
 use Rattle.dr_machine.specs.Effects.{counts_by, enters, entries_of, finished_history, finishes_by, joins, sender_at, with_place}
 use Rattle.dr_machine.specs.Group.{Group, IsGroup, IsPresent, roster}
@@ -22,7 +23,7 @@ use Rattle.dr_machine.specs.Writes.{at₂, at₃}
 use Rattle.dr_faithful.proofs.Begin.{no_part}
 use Rattle.dr_faithful.proofs.Beside.{in_view}
 use Rattle.dr_faithful.proofs.OwnWords.{IsPlain, accepts_word, counts_word, delivered_word, form_word, old_later, own_grown, suspicions_word}
-use Rattle.dr_faithful.proofs.Pasts.{past_same, prefix_on, prefix_refl, tells_later, tells_logged, tells_nothing}
+use Rattle.dr_faithful.proofs.Pasts.{past_same, prefix_on, prefix_refl, prefix_short, tells_later, tells_logged, tells_nothing}
 use Rattle.dr_faithful.proofs.Writes.{at_both, at_case, at_three, at₃_case, at₃_column, at₃_member, at₃_view}
 use Rattle.dr_faithful.specs.Faithful.{AreAccepts, AreCounts, AreDelivered, AreSuspicions, Faithful, GoesOnWell, HaveStayed, IsClosed, StandsOnLogs, IsWaiting, JoinsWell, Numbers}
 use Rattle.dr_faithful.specs.Tells.{Tells, Views, item_sent}
@@ -58,6 +59,26 @@ history_goes_on g w m x =
     prefix_on (w.past.history m) (fold (with_place w m) (w.past.history m) ps) _
     (rest_prefix w m (w.past.history m) ps)
     (View g.opening.age (w.past.view m + 1) (next_members (w.members m) x.leavers) ∷ [], refl)
+
+-- which stands behind all that the member had
+history_behind : (g : Group) (w : World) (m : ℕ) (x : Value)
+    → length (w.past.history m) < length (up_to_view (finished_history g w m x))
+unfolding up_to_view
+history_behind g w m x = omega (
+  arith,
+  ap length (up_to_view-last held [] g.opening.age (w.past.view m + 1) members refl),
+  length-append held (View g.opening.age (w.past.view m + 1) members ∷ []),
+  prefix_short (w.past.history m) held (rest_prefix w m (w.past.history m) ps),
+)
+  where
+    ps : List ℕ
+    ps = rest_places (counts_by w m x) (w.next m)
+
+    held : List Entry
+    held = fold (with_place w m) (w.past.history m) ps
+
+    members : ℕ
+    members = next_members (w.members m) x.leavers
 
 pub enter_past : (w : World) (m to members : ℕ) (history : List Entry) → w.past.view m < to
     → IsPrefixOf (w.past.history m) history → PastGrew w.past (enters w m to members history).past
@@ -123,9 +144,10 @@ pub record EntersWell (g : Group) (V : Views) (w : World) (m to members : ℕ)
   pub inside : has (V to) m ≡ true
   pub came : has (V (w.past.view m)) m ≡ true → to ≡ w.past.view m + 1
   pub back : (u : ℕ) → to ≡ u + 1 → has (V u) m ≡ true → w.past.view m ≡ u
-  pub closed : (u : ℕ) → u < to → has (V u) m ≡ true → IsClosed g (V u) m (w.past.own m u)
+  pub closed : (u : ℕ) → u < to → has (V u) m ≡ true → IsClosed g V u m (w.past.own m u)
   pub stayed : HaveStayed g V (w.past.view m) to
   pub goes_on : IsPrefixOf (w.past.history m) history
+  pub behind : length (w.past.history m) < length (up_to_view history)
   pub few : length (messages_from m history) ≤ length (messages_of g.opening m)
 
 pub enter_keeps : (g : Group) (V : Views) (w : World) (m to members : ℕ) (history : List Entry) → IsGroup g
@@ -230,11 +252,17 @@ enter_keeps g V w m to members history is well f = record {
     front = at_case (λ i h. IsPrefixOf (w.past.log i) h) w.past.history m history
         (λ i d. f.logs.front i)
         (prefix_on (w.past.log m) (w.past.history m) history (f.logs.front m) well.goes_on);
-    safe = at_case (λ k b. IsPresent g k → StandsOnLogs g V w.past.log k b (w.past.durable k)) w.past.view m to
-        (λ k d. f.logs.safe k) (λ l. let old = f.logs.safe m l in record {
+    safe = at_both (λ k b h. IsPresent g k → StandsOnLogs g V w.past.log h k b (w.past.durable k)) w.past.view
+        w.past.history m to history f.logs.safe (λ l. let old = f.logs.safe m l in record {
           own = old.own;
           since = old.since;
           come = omega (arith, old.come, well.later);
+          before = λ _. omega (
+            arith,
+            old.own,
+            prefix_short (w.past.log m) (w.past.history m) (f.logs.front m),
+            well.behind,
+          );
           logged = old.logged;
           stayed = λ i h e. old.stayed i (well.stayed i h e) e;
         });
@@ -256,11 +284,11 @@ enter_keeps g V w m to members history is well f = record {
     empty = at_case (λ k b. (v s : ℕ) → b < v → w.past.count k v s ≡ 0) w.past.view m to
         (λ k d v s l. f.fresh.empty k v s l) (λ v s l. f.fresh.empty m v s (omega (arith, l, well.later)));
   };
-  closed = at_case (λ k b. (v : ℕ) → v < b → has (V v) k ≡ true → IsClosed g (V v) k (own k v)) w.past.view m
+  closed = at_case (λ k b. (v : ℕ) → v < b → has (V v) k ≡ true → IsClosed g V v k (own k v)) w.past.view m
       to
-      (λ k d v l here. subst (IsClosed g (V v) k) (sym (row_member w.past.own m to _ k v d))
+      (λ k d v l here. subst (IsClosed g V v k) (sym (row_member w.past.own m to _ k v d))
       (f.closed k v l here))
-      (λ v l here. subst (IsClosed g (V v) m)
+      (λ v l here. subst (IsClosed g V v m)
       (sym (row_view w.past.own m to _ m v (earlier v to l))) (well.closed v l here));
   old = record {
     in_table = (old_later g w.past.view w.past.own own w.table w.seen (own_fresh g V w m to well.later f) f.old).in_table;
@@ -343,9 +371,9 @@ enter_keeps g V w m to members history is well f = record {
 
 -- the view that it leaves is closed
 left_closed : (g : Group) (V : Views) (w : World) (m : ℕ) → w.suspects m ≢ 0 → Faithful g V w
-    → IsClosed g (V (w.past.view m)) m (w.past.own m (w.past.view m))
+    → IsClosed g V (w.past.view m) m (w.past.own m (w.past.view m))
 left_closed g V w m wedged f = record {
-  named = λ j h. late j (f.suspicions.named m j (sym (ap (λ mask. has mask j) told) ∙ h));
+  named = λ j h. f.suspicions.named m j (sym (ap (λ mask. has mask j) told) ∙ h);
   trusted = ap (λ mask. has mask m) told ∙ f.suspicions.trusted m;
   wedged = λ e. wedged (sym told ∙ e);
   final = λ s. f.suspicions.final m s wedged;
@@ -355,11 +383,6 @@ left_closed g V w m wedged f = record {
   where
     told : w.past.own m (w.past.view m) SUSPECTED_COLUMN ≡ w.suspects m
     told = f.suspicions.told m
-
-    late : (j : ℕ) → (has (V (w.past.view m)) j ≡ true) ⊎ IsNewIn g.opening V (w.past.view m) j
-        → (has (V (w.past.view m)) j ≡ true) ⊎ IsLateIn g.opening j
-    late j (inl here) = inl here
-    late j (inr new) = inr new.late
 
 -- a member that isn't named stays
 stays_in : (a b : Bool) → a ≡ true → b ≡ false → (if b then not a else a) ≡ true
@@ -383,6 +406,7 @@ finish_enters g V w m x is may stays well f = record {
   closed = λ u l. closed u (last_or_before u (w.past.view m) l);
   stayed = well.stayed;
   goes_on = history_goes_on g w m x;
+  behind = history_behind g w m x;
   few = well.few;
 }
   where
@@ -390,9 +414,9 @@ finish_enters g V w m x is may stays well f = record {
     small = le_trans (f.views.within (w.past.view m) m (in_view g V w m f may.inside)) is.most_members
 
     closed : (u : ℕ) → (u < w.past.view m) ⊎ (u ≡ w.past.view m) → has (V u) m ≡ true
-        → IsClosed g (V u) m (w.past.own m u)
+        → IsClosed g V u m (w.past.own m u)
     closed u (inl less) here = f.closed m u less here
-    closed u (inr same) here = subst (λ v. IsClosed g (V v) m (w.past.own m v)) (sym same)
+    closed u (inr same) here = subst (λ v. IsClosed g V v m (w.past.own m v)) (sym same)
         (left_closed g V w m well.wedged f)
 
 pub finish_past : (g : Group) (w : World) (m : ℕ) (x : Value)
@@ -433,5 +457,6 @@ join_keeps g V w m v members letter is idle well f = enter_keeps g V w m v membe
   closed = λ u l here. absurd (cc (well.first u l, here));
   stayed = well.stayed;
   goes_on = well.begins;
+  behind = well.behind;
   few = well.few;
 }) f

@@ -118,18 +118,18 @@ earlier_view f view m x i u less = grind (arith, less)
 pub closed_written : (g : Group) (V : Views) (view : ℕ → ℕ) (own : Numbers) (m : ℕ) (row : ℕ → ℕ)
     → AreClosed g V view own → AreClosed g V view (at₂ own m (view m) row)
 closed_written g V view own m row f i u less inside =
-    subst (IsClosed g (V u) i) (sym (earlier_view own view m row i u less)) (f i u less inside)
+    subst (IsClosed g V u i) (sym (earlier_view own view m row i u less)) (f i u less inside)
 
 -- the beat word tells nothing of it
-closed_beat : (g : Group) (view m : ℕ) (row : ℕ → ℕ) (x : ℕ) → IsClosed g view m row
-    → IsClosed g view m (at row BEAT_COLUMN x)
-closed_beat g view m row x f = record {
+closed_beat : (g : Group) (V : Views) (v m : ℕ) (row : ℕ → ℕ) (x : ℕ) → IsClosed g V v m row
+    → IsClosed g V v m (at row BEAT_COLUMN x)
+closed_beat g V v m row x f = record {
   named = λ j h. f.named j (sym (ap (λ mask. has mask j) suspected) ∙ h);
   trusted = ap (λ mask. has mask m) suspected ∙ f.trusted;
   wedged = λ e. f.wedged (sym suspected ∙ e);
   final = λ s member. ap is_final (other (recv_column s) (omega arith)) ∙ f.final s member;
-  promise = λ c is. ap accept_promise (other c (behind c (accept_within (roster g) view c is).0))
-      ∙ f.promise c is ∙ ap (λ mask. least_of (without view mask)) (sym suspected);
+  promise = λ c is. ap accept_promise (other c (behind c (accept_within (roster g) (V v) c is).0))
+      ∙ f.promise c is ∙ ap (λ mask. least_of (without (V v) mask)) (sym suspected);
 }
   where
     other : (c : ℕ) → c ≢ BEAT_COLUMN → at row BEAT_COLUMN x c ≡ row c
@@ -144,8 +144,8 @@ closed_beat g view m row x f = record {
 pub closed_stamped : (g : Group) (V : Views) (view : ℕ → ℕ) (own : Numbers) (m v x : ℕ)
     → AreClosed g V view own → AreClosed g V view (at₃ own m v BEAT_COLUMN x)
 closed_stamped g V view own m v x f = at₂_case
-    (λ i u row. u < view i → has (V u) i ≡ true → IsClosed g (V u) i row) own m v
-    (at (own m v) BEAT_COLUMN x) f (λ l inside. closed_beat g (V v) m (own m v) x (f m v l inside))
+    (λ i u row. u < view i → has (V u) i ≡ true → IsClosed g V u i row) own m v
+    (at (own m v) BEAT_COLUMN x) f (λ l inside. closed_beat g V v m (own m v) x (f m v l inside))
 
 -- and counts
 pub fresh_counted : (V : Views) (view : ℕ → ℕ) (own count : Numbers) (m v : ℕ) (counts : ℕ → ℕ)

@@ -6,10 +6,10 @@ use Rattle.dr_entry.specs.declared.entry.Entry.{Entry}
 use Rattle.dr_entry.specs.declared.entry.Item.{Item}
 use Rattle.dr_entry.specs.declared.record.Value.{Value}
 use Rattle.dr_entry.specs.declared.record.Vote.{Vote}
-use Rattle.dr_history.specs.Order.{IsLateIn, IsNewIn, MayJoin, messages_from}
+use Rattle.dr_history.specs.Order.{IsNewIn, MayJoin, messages_from}
 use Rattle.dr_history.specs.Members.{has, members_of}
 use Rattle.dr_history.specs.Places.{front_of}
-use Rattle.dr_history.specs.History.{IsPrefixOf, Sent, last_view, messages_of}
+use Rattle.dr_history.specs.History.{IsPrefixOf, Sent, last_view, messages_of, up_to_view}
 use Rattle.dr_words.specs.Rewrites.{is_accept_of}
 use Rattle.dr_words.specs.declared.column.TheConstants.{BEAT_COLUMN, SUSPECTED_COLUMN, RECEIVED_COLUMN}
 use Rattle.dr_words.specs.Accepts.{part_of}
@@ -109,12 +109,15 @@ pub record AreAccepts (g : Group) (V : Views) (view promise tag : ℕ → ℕ) (
   pub low : (m : ℕ) → tag m ≤ promise m + 1
   pub waits : (m : ℕ) (x : Vote) → pending m ≡ Some x → IsWaiting g (promise m) (tag m) x
 
--- what a member in a view knows to be durable stands on its own log, on those of all members of some view that
--- has come, and on those of all members of its view that aren't late
-pub record StandsOnLogs (g : Group) (V : Views) (log : ℕ → List Entry) (m view durable : ℕ) : Type 0 where
+-- what a member in a view knows to be durable stands on its own log, on those of all members of some view
+-- that has come, and on those of all members of its view that aren't late; where that view is an earlier one,
+-- it ends before the last View of the member's history
+pub record StandsOnLogs (g : Group) (V : Views) (log : ℕ → List Entry) (history : List Entry)
+    (m view durable : ℕ) : Type 0 where
   pub own : durable ≤ length (log m)
   pub since : ℕ
   pub come : since ≤ view
+  pub before : since < view → durable < length (up_to_view history)
   pub logged : (i : ℕ) → has (V since) i ≡ true → durable ≤ length (log i)
   pub stayed : (i : ℕ) → has (V view) i ≡ true → has g.opening.members i ≡ true
       → durable ≤ length (log i)
@@ -124,7 +127,7 @@ pub record AreLogs (g : Group) (V : Views) (view : ℕ → ℕ) (acts durable : 
     (log history : ℕ → List Entry) : Type 0 where
   pub bounded : (m : ℕ) → acts m < 2 ^ 64
   pub front : (m : ℕ) → IsPrefixOf (log m) (history m)
-  pub safe : (m : ℕ) → IsPresent g m → StandsOnLogs g V log m (view m) (durable m)
+  pub safe : (m : ℕ) → IsPresent g m → StandsOnLogs g V log (history m) m (view m) (durable m)
   pub small : (m : ℕ) → durable m < 2 ^ 64
 
 -- a member has delivered only places that every member of its view holds
@@ -151,21 +154,21 @@ pub record AreInForm (g : Group) (own : Numbers) (table : Table) (seen : Numbers
   pub in_table : (v j i c : ℕ) → IsInForm (roster g) c (table v j i c)
   pub in_seen : (m i c : ℕ) → IsInForm (roster g) c (seen m i c)
 
--- the own words of member m in a view of these members that it has left: it named others of it and late ones,
--- each of its counts is final, and it has promised to accept what the least one proposes that it didn't
--- suspect
-pub record IsClosed (g : Group) (view m : ℕ) (row : ℕ → ℕ) : Type 0 where
+-- the own words of member m in a view v that it has left: it named others of it, and late ones that were in
+-- no view so far, each of its counts is final, and it has promised to accept what the least one proposes that
+-- it didn't suspect
+pub record IsClosed (g : Group) (V : Views) (v m : ℕ) (row : ℕ → ℕ) : Type 0 where
   pub named : (j : ℕ) → has (row SUSPECTED_COLUMN) j ≡ true
-      → (has view j ≡ true) ⊎ IsLateIn g.opening j
+      → (has (V v) j ≡ true) ⊎ IsNewIn g.opening V v j
   pub trusted : has (row SUSPECTED_COLUMN) m ≡ false
   pub wedged : row SUSPECTED_COLUMN ≢ 0
-  pub final : (s : ℕ) → has view s ≡ true → is_final (row (recv_column s)) ≡ true
-  pub promise : (c : ℕ) → is_accept_of (roster g) view c ≡ true
-      → accept_promise (row c) ≡ least_of (without view (row SUSPECTED_COLUMN))
+  pub final : (s : ℕ) → has (V v) s ≡ true → is_final (row (recv_column s)) ≡ true
+  pub promise : (c : ℕ) → is_accept_of (roster g) (V v) c ≡ true
+      → accept_promise (row c) ≡ least_of (without (V v) (row SUSPECTED_COLUMN))
 
 -- so are those of each member in each of its views that it has left
 abbrev pub AreClosed : Group → Views → (ℕ → ℕ) → Numbers → Type 0
-AreClosed g V view own = (m v : ℕ) → v < view m → has (V v) m ≡ true → IsClosed g (V v) m (own m v)
+AreClosed g V view own = (m v : ℕ) → v < view m → has (V v) m ≡ true → IsClosed g V v m (own m v)
 
 -- all members of the view v that aren't late are of the view u
 abbrev pub HaveStayed : Group → Views → ℕ → ℕ → Type 0
@@ -179,8 +182,8 @@ pub record GoesOnWell (g : Group) (V : Views) (w : World) (m : ℕ) (value : Val
   pub stayed : HaveStayed g V (w.past.view m) (w.past.view m + 1)
   pub few : length (messages_from m (finished_history g w m value)) ≤ length (messages_of g.opening m)
 
--- a member that joins goes on as it should: its letter goes on from its history, to a later view of these
--- members, the first one that it is in
+-- a member that joins goes on as it should: its letter goes on from its history, to the View of a later view
+-- of these members, the first one that it is in
 pub record JoinsWell (g : Group) (V : Views) (w : World) (m v members : ℕ) (letter : List Entry) : Type 0 where
   pub later : w.past.view m < v
   pub next : V v ≡ members
@@ -188,6 +191,7 @@ pub record JoinsWell (g : Group) (V : Views) (w : World) (m v members : ℕ) (le
   pub first : (u : ℕ) → u < v → has (V u) m ≡ false
   pub stayed : HaveStayed g V (w.past.view m) v
   pub begins : IsPrefixOf (w.past.history m) letter
+  pub behind : length (w.past.history m) < length (up_to_view letter)
   pub few : length (messages_from m letter) ≤ length (messages_of g.opening m)
 
 -- and so does each that may end its view or join, and whom a member may wish for is in no view so far

@@ -19,7 +19,6 @@ use Rattle.dr_entry.specs.declared.end.End.TheVariants as ends
 use Rattle.dr_entry.specs.declared.end.MemberEnd.{MemberEnd}
 use Rattle.dr_entry.specs.declared.entry.Entry.{Entry}
 use Rattle.dr_entry.specs.declared.entry.Entry.TheVariants.{Msg}
-use Rattle.dr_entry.specs.declared.limits.TheConstants.{MAX_MEMBERS}
 use Rattle.dr_history.specs.declared.opening.Opening.{Opening}
 use Rattle.dr_history.specs.History.{IsPrefixOf}
 use Rattle.dr_history.specs.Members.{has}
@@ -210,7 +209,7 @@ live_whole plan k lists last age ranges live done m d within s =
         let same = get_or_from_slice_get age.members s x.0 x.0 x.1 in
         subst (λ (l : List Entry). IsPrefixOf l (messages_from s e.history)) own
         (subst (λ (y : MemberEnd). IsPrefixOf (messages_from s y.history) (messages_from s e.history)) same
-        ((whole_at m e at).lacks_none s (prompt s) s x.0 in_place))
+        ((whole_at m e at).lacks_none s (inl (prompt s)) s x.0 in_place))
     by (inr past) =
         let none : numbered_messages o s ≡ [] =
         ap (λ (l : List (List ℕ)). map (λ (t : ℕ × List ℕ). Msg s t.0 t.1) (enumerate_from 0 l))
@@ -286,11 +285,3 @@ lived plan rounds pushed ages last is few count up = record {
 
     ends : IsLastOf pushed all
     ends = ends_in up.taken pushed
-
--- no age has more members than a group may have
-pub all_few : (plan : Script) (taken : List Lists) (ages : List AgeEnd) (last : YardState)
-    → AreUnderWay plan taken ages last → All (λ (age : AgeEnd). length age.members ≤ MAX_MEMBERS) ages
-all_few plan taken ages last way i d l =
-    let lists = slice_get-some taken i (omega (arith, l, as_many plan taken ages empty_yard last way.course)) in
-    let live = age_at plan taken ages last i lists.0 (get_or ages i d) way lists.1 (slice_get-get_or ages i d l) in
-    omega (arith, live.is.roster, (range_at plan taken i lists.0 way.ranges lists.1).group.most_members)

@@ -32,7 +32,7 @@ use Rattle.dr_turn.proofs.Search.{beat_test}
 use Rattle.dr_turn.proofs.Order.{all_below, each_below}
 use Rattle.dr_program_laws.specs.Ended.{IsBeforeCrash}
 use Rattle.dr_turn.proofs.Parts.{goes_back_or_stays, is_end, is_publish, is_verdict, no_end, taken_end, taken_turns, verdict_no_beat, verdict_of}
-use Rattle.dr_program_laws.proofs.Standing.{IsNotPast, IsProper, Stands, goes_on, is_crash, is_late, next_turn, settled_stands}
+use Rattle.dr_program_laws.proofs.Standing.{IsNotPast, IsProper, Stands, goes_on, is_crash, is_behind_crash, next_turn, settled_stands}
 
 -- ---- crash points
 
@@ -64,16 +64,16 @@ record IsDue (r : Running) (part : Part) : Type 0 where
   none : r.replica.end ≡ None
   asked : asks r part r.place.row r.place.column ≡ true
 
--- the part before the one that goes back is not late
+-- the part before the one that goes back is not behind the crash
 early_before : (r : Running) (part : Part) → IsDue r part → is_publish part ≡ true
-    → is_late (slice_index_or TURN (r.place.part - 1) turn_begins) ≡ false
+    → is_behind_crash (slice_index_or TURN (r.place.part - 1) turn_begins) ≡ false
 unfolding all_below
 early_before r part d e =
     let back : is_publish (slice_index_or TURN r.place.part turn_begins)
     ≡ true = ap is_publish d.at ∙ e in
     implied _ _ (each_below (length TURN) r.place.part
     (λ i. not (is_publish (slice_index_or TURN i turn_begins))
-    || not (is_late (slice_index_or TURN (i - 1) turn_begins))) refl d.member.place.part) back
+    || not (is_behind_crash (slice_index_or TURN (i - 1) turn_begins))) refl d.member.place.part) back
   where
     implied : (a b : Bool) → (not a || not b) ≡ true → a ≡ true → b ≡ false
     implied true true t e = absurd (cc)
@@ -85,7 +85,7 @@ early_before r part d e =
 -- the member is ahead of its crash at the next place, where its part is not the end of one that was to crash
 onward : (limit : ℕ) (points : List CrashPoint) (r : Running) (part : Part) → IsDue r part
     → is_crash part ≡ false → Stands limit points r
-    → is_late (part_of (after (members r) (columns r) r.place)) ≡ true
+    → is_behind_crash (part_of (after (members r) (columns r) r.place)) ≡ true
     → IsBeforeCrash points r.replica.turns
 onward limit points r part d other v late =
     goes_on limit points r v (λ here. absurd (cc (ap is_crash d.at, here, other))) late
@@ -106,7 +106,7 @@ done_at word r part = done_by word r part (step_at r part r.place.row r.place.co
 -- a step that counts no turn leaves a member standing as it should
 same_turn : (limit : ℕ) (points : List CrashPoint) (word : ℕ) (r : Running) (part : Part) (s : Step)
     → (stepped word r.replica s).turns ≡ r.replica.turns → Stands limit points r
-    → (is_late (part_of (goes (members r) (columns r) part r.place)) ≡ true
+    → (is_behind_crash (part_of (goes (members r) (columns r) part r.place)) ≡ true
     → IsBeforeCrash points r.replica.turns)
     → IsProper limit points r.replica.turns (stepped word r.replica s).end
     → Stands limit points (done_by word r part s)
@@ -129,7 +129,7 @@ push_keeps : (limit : ℕ) (points : List CrashPoint) (word : ℕ) (r : Running)
     → Stands limit points r → Stands limit points (done_at word r parts.Push)
 push_keeps limit points word r d v = by (crashes_now r) refl
   where
-    ahead : is_late (part_of (after (members r) (columns r) r.place)) ≡ true
+    ahead : is_behind_crash (part_of (after (members r) (columns r) r.place)) ≡ true
         → IsBeforeCrash points r.replica.turns
     ahead = onward limit points r parts.Push d refl v
 
@@ -181,8 +181,8 @@ beat_keeps : (limit : ℕ) (points : List CrashPoint) (word : ℕ) (r : Running)
 beat_keeps limit points word r d v = record {
   limited = v.limited;
   planned = v.planned;
-  later = next_turn points r.replica.turns (v.ahead (ap is_late d.at));
-  ahead = λ late. absurd (cc (ap is_late (first_part r underway d.at), late));
+  later = next_turn points r.replica.turns (v.ahead (ap is_behind_crash d.at));
+  ahead = λ late. absurd (cc (ap is_behind_crash (first_part r underway d.at), late));
   proper = subst (IsProper limit points _) (sym d.none) tt;
 }
   where
@@ -205,14 +205,14 @@ act_keeps limit points word r a d v = by (is_beat (parts.Do a)) refl
     ended = taken_end r.replica a (sym (ap is_end d.at) ∙ no_end r.place.part d.member.place.part)
 
     ahead : is_beat (parts.Do a) ≡ false
-        → is_late (part_of (goes (members r) (columns r) (parts.Do a) r.place)) ≡ true
+        → is_behind_crash (part_of (goes (members r) (columns r) (parts.Do a) r.place)) ≡ true
         → IsBeforeCrash points r.replica.turns
     ahead other late = elim (goes_back_or_stays (members r) (columns r) a r.place other) [
       | inl back ↦ absurd (cc (
         early_before r (parts.Do a) d back.0,
-        sym (ap (λ p. is_late (part_of p)) back.1) ∙ late,
+        sym (ap (λ p. is_behind_crash (part_of p)) back.1) ∙ late,
       ))
-      | inr stays ↦ v.ahead (sym (ap (λ p. is_late (part_of p)) stays.1) ∙ late)
+      | inr stays ↦ v.ahead (sym (ap (λ p. is_behind_crash (part_of p)) stays.1) ∙ late)
     ]
 
     stands : is_beat (parts.Do a) ≡ false → Stands limit points (done_at word r (parts.Do a))
@@ -256,7 +256,7 @@ deed_keeps limit points word r parts.Done d v =
       planned = v.planned;
       later = v.later;
       ahead = v.ahead;
-      proper = v.ahead (ap is_late d.at);
+      proper = v.ahead (ap is_behind_crash d.at);
     }
 deed_keeps limit points word r parts.Spent d v =
     let last : r.replica.turns ≡ limit = spent_at r.limit r.replica.turns d.asked ∙ v.limited in
@@ -265,7 +265,7 @@ deed_keeps limit points word r parts.Spent d v =
       planned = v.planned;
       later = v.later;
       ahead = v.ahead;
-      proper = (last, last, v.ahead (ap is_late d.at));
+      proper = (last, last, v.ahead (ap is_behind_crash d.at));
     }
 deed_keeps limit points word r parts.Take d v = record {
   limited = v.limited;

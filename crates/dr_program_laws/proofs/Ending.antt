@@ -1,5 +1,5 @@
 -- Members that have all ended have ended as they should.
-use Rattle.std.proofs.Common.{◌≡◌, ◌⊎◌, refl, sym, ap, ◌∙◌, inl, inr, subst, ℕ, ◌+◌, ◌<◌, ◌≤◌, Bool, List, [], ◌++◌, length, take, true, false, Contains, append-nil, length-append, arith}
+use Rattle.std.proofs.Common.{◌≡◌, ◌⊎◌, refl, sym, ap, ap₂, ◌∙◌, inl, inr, subst, if◌then◌else◌, ℕ, ◌==◌, ◌+◌, ◌<◌, ◌≤◌, Bool, List, [], ◌∷◌, ◌++◌, length, take, true, false, Contains, append-nil, length-append, arith}
 use Rattle.std.specs.Prelude.{IsTrue, Option, None, Some, is_some, option_map, slice_get, unwrap_or}
 use Rattle.std.proofs.lemmas.List.{length-take, nil_from_length}
 use Rattle.std.proofs.lemmas.Option.{slice_get-map, same_Some}
@@ -8,7 +8,8 @@ use Rattle.dr_entry.specs.declared.entry.Entry.TheVariants.{View}
 use Rattle.dr_entry.specs.declared.end.End.{End}
 use Rattle.dr_entry.specs.declared.end.End.TheVariants as ends
 use Rattle.dr_entry.specs.declared.end.MemberEnd.{MemberEnd}
-use Rattle.dr_faithful.specs.Chosen.{views_by}
+use Rattle.dr_entry.specs.declared.end.SentItem.{SentItem}
+use Rattle.dr_faithful.specs.Chosen.{endings_by, views_by}
 use Rattle.dr_faithful.specs.Faithful.{StandsOnLogs}
 use Rattle.dr_history.specs.Agreement.{EndsAgreed}
 use Rattle.dr_history.specs.declared.opening.Opening.{Opening}
@@ -17,6 +18,7 @@ use Rattle.dr_history.specs.Members.{has, members_of}
 use Rattle.dr_history.specs.Order.{IsLateIn, first_entries, messages_from, numbered_messages}
 use Rattle.dr_history.proofs.NumberedLemmas.{length-numbered_messages}
 use Rattle.dr_history_laws.specs.Remaining.{remaining}
+use Rattle.dr_history_laws.proofs.Courses.{head-first}
 use Rattle.dr_history_laws.proofs.Keeping.{prefix_beside, prefix_shorter, prefix_then}
 use Rattle.dr_program.specs.declared.setup.CrashPoint.{CrashPoint}
 use Rattle.dr_program.specs.declared.setup.Setup.{Setup}
@@ -28,10 +30,11 @@ use Rattle.dr_program.specs.Form.{WaitsToJoin}
 use Rattle.dr_program.specs.Replica.{is_inside, me}
 use Rattle.dr_program.specs.Running.{Running}
 use Rattle.dr_program.proofs.Present.{ended_there, slice_present}
-use Rattle.dr_program.specs.Program.{Program, AllEnded, AreSetups, IsRanFrom, absent_end, begun_program, end_at, end_of}
+use Rattle.dr_program.specs.Program.{Program, AllEnded, AreSetups, IsRanFrom, absent_end, begun_program, end_at, end_of, member_end, sent_before}
 use Rattle.dr_machine.proofs.Presence.{in_roster}
 use Rattle.dr_program.specs.Net.{IsRanOverNet}
-use Rattle.dr_program.specs.Reading.{world}
+use Rattle.dr_program.proofs.OwnWords.{same_number}
+use Rattle.dr_program.specs.Reading.{left_in, world}
 use Rattle.dr_machine.specs.Run.{IsReached}
 use Rattle.dr_refine.specs.Programs.{IsProgram}
 use Rattle.dr_script.specs.declared.script.Script.{Script}
@@ -41,13 +44,14 @@ use Rattle.dr_restart.specs.Setups.{IsBegun, crashes_of}
 use Rattle.dr_restart.proofs.Setups.{are_setups}
 use Rattle.dr_vote_laws.proofs.Exclusions.{excluded_so}
 use Rattle.dr_words.specs.Masks.{IsInRoster, IsMajorityOf}
-use Rattle.dr_world_laws.proofs.Agreeing.{done-lacks-none, done-same, either-prefix, the-view}
+use Rattle.dr_world_laws.proofs.Agreeing.{done-lacks-none, done-on-logs, done-same, either-prefix, the-view}
 use Rattle.dr_world_laws.proofs.ChosenViews.{views-leaves, views-there}
 use Rattle.dr_world_laws.proofs.Holding.{view-held}
+use Rattle.dr_world_laws.proofs.Joining.{outside-history, outside-sent}
 use Rattle.dr_world_laws.proofs.Leavings.{IsLeftSo}
-use Rattle.dr_world_laws.proofs.Worlds.{Known, commits, done-durable, done-whole, holds-remaining, in-order, known, left_so}
+use Rattle.dr_world_laws.proofs.Worlds.{Known, commits, done-durable, done-whole, first_durable, holds-remaining, in-order, known, left_so}
 use Rattle.dr_program_laws.specs.Causes.{HasCause, IsVotedOut}
-use Rattle.dr_program_laws.specs.Ended.{GoOnWithout, HasEnded, HasReason, HaveEnded, IsComplete, LastViewIs, IsLeftOut, IsWhole, is_log_end, HasCrashed, IsSpent}
+use Rattle.dr_program_laws.specs.Ended.{GoOnWithout, HasEnded, HasEndedOutside, HasReason, HaveEnded, IsComplete, LastViewIs, IsLeftOut, IsWhole, is_log_end, HasCrashed, IsSpent}
 use Rattle.dr_program_laws.proofs.Keeping.{deeds_kept}
 use Rattle.dr_program_laws.proofs.Nets.{net_keeps, net_reached}
 use Rattle.dr_program_laws.proofs.Programs.{AllStand, all_stand, begun_stands, missed_stands, move_stands}
@@ -248,17 +252,19 @@ done_held g p m r i q is end at enough =
 
 -- what it knows to be durable stands on logs
 safe_is : (g : Group) (p : Program) (m : ℕ) (r : Running) (is : IsThere g p m r)
-    → StandsOnLogs g (views_by g (known_of g p m r is).values) (world g p).past.log m ((world g p).past.view m)
-    ((world g p).past.durable m)
+    → StandsOnLogs g (views_by g (known_of g p m r is).values) (world g p).past.log ((world g p).past.history m) m
+    ((world g p).past.view m) ((world g p).past.durable m)
 safe_is g p m r is = (known_of g p m r is).chosen.faithful.logs.safe m (there_is g p m r is)
 
--- so each member of its view that isn't late has it all on its log
+-- and where it is done each member of its view has it all on its log
 done_kept : (g : Group) (p : Program) (m : ℕ) (r : Running) (i : ℕ) (q : Running) → IsThere g p m r
-    → r.replica.end ≡ Some ends.Done → has r.replica.members i ≡ true → has g.opening.members i ≡ true
-    → present_at p.members i ≡ Some q
+    → r.replica.end ≡ Some ends.Done → has r.replica.members i ≡ true → present_at p.members i ≡ Some q
     → IsPrefixOf r.replica.history (take q.replica.logged q.replica.history)
-done_kept g p m r i q is end member early at = done_held g p m r i q is end at
-    ((safe_is g p m r is).stayed i (ap (λ mask. has mask i) (views_are g p m r is) ∙ member) early)
+done_kept g p m r i q is end member at =
+    let y = known_of g p m r is in
+    done_held g p m r i q is end at
+    (done-on-logs g y.values (world g p) m i is.group y.chosen (there_is g p m r is)
+    (ended_is g p m r ends.Done is end) (ap (λ mask. has mask i) (views_are g p m r is) ∙ member))
 
 -- it has itself all of it on its log
 done_logged : (g : Group) (p : Program) (m : ℕ) (r : Running) → IsThere g p m r
@@ -271,16 +277,18 @@ done_logged g p m r is end = omega (
       (done_held g p m r m r is end is.there (safe_is g p m r is).own),
 )
 
--- nobody has a message that it lacks
+-- nobody has a message that it lacks, but of late members that aren't in its view
 done_lacks : (g : Group) (p : Program) (m : ℕ) (r : Running) (s i : ℕ) (q : Running) → IsThere g p m r
-    → (¬ IsLateIn g.opening s) → r.replica.end ≡ Some ends.Done → present_at p.members i ≡ Some q
+    → (¬ IsLateIn g.opening s) ⊎ (has r.replica.members s ≡ true) → r.replica.end ≡ Some ends.Done
+    → present_at p.members i ≡ Some q
     → IsPrefixOf (messages_from s q.replica.history) (messages_from s r.replica.history)
-done_lacks g p m r s i q is early end at =
+done_lacks g p m r s i q is either end at =
     let y = known_of g p m r is in
     let other = beside g p m r i q is at in
     subst (λ h. IsPrefixOf (messages_from s h) (messages_from s r.replica.history)) (history_is g p i q other)
     (subst (λ h. IsPrefixOf (messages_from s ((world g p).past.history i)) (messages_from s h))
-    (history_is g p m r is) (done-lacks-none g y.values (world g p) m i s is.group y.chosen early
+    (history_is g p m r is) (done-lacks-none g y.values (world g p) m i s is.group y.chosen
+    (subst (λ mask. (¬ IsLateIn g.opening s) ⊎ (has mask s ≡ true)) (sym (members_are g p m r is)) either)
     (within g p m r is)
     (ended_is g p m r ends.Done is end) (within g p i q other)))
 
@@ -335,13 +343,14 @@ whole : (g : Group) (p : Program) (m : ℕ) (r : Running) → IsThere g p m r �
 whole g p m r is ended end = record {
   end = ap (λ o. unwrap_or o ends.Done) end;
   whole = done_whole g p m r is end;
-  lacks_none = λ s early. all_ends (λ (e : MemberEnd). IsPrefixOf (messages_from s e.history)
-      (messages_from s r.replica.history)) p (messages_from s r.replica.history, refl) (λ i q at. done_lacks g p m r s i q is early end at);
+  lacks_none = λ s either. all_ends (λ (e : MemberEnd). IsPrefixOf (messages_from s e.history)
+      (messages_from s r.replica.history)) p (messages_from s r.replica.history, refl)
+      (λ i q at. done_lacks g p m r s i q is either end at);
   logged = done_logged g p m r is end;
   durable = done_durable g p m r is end;
-  kept = λ i e member early at. let q = beside_it g p m r i is member in
+  kept = λ i e member at. let q = beside_it g p m r i is member in
       subst (λ (x : MemberEnd). IsPrefixOf r.replica.history (take x.logged x.history))
-      (end_is p i q.0 e q.1 at) (done_kept g p m r i q.0 is end member early q.1);
+      (end_is p i q.0 e q.1 at) (done_kept g p m r i q.0 is end member q.1);
   same = λ i e at done here. so i e done here (end_there p i e at);
   first = done_first g p m r is end;
 }
@@ -475,6 +484,73 @@ has_reason g p limit points m r is all ended v = by r.replica.end refl ended v.p
     }))
     by (Some ends.Absent) e t so = absurd so
 
+-- ---- a late member that hasn't joined
+
+-- the world has it as none of its view
+none_of_it : (g : Group) (p : Program) (m : ℕ) (r : Running) → IsThere g p m r
+    → has r.replica.members m ≡ false → has ((world g p).members m) m ≡ false
+none_of_it g p m r is outside = ap (λ mask. has mask m) (members_are g p m r is) ∙ outside
+
+-- it has nothing but the start and View 0
+outside_history : (g : Group) (p : Program) (m : ℕ) (r : Running) → IsThere g p m r
+    → has r.replica.members m ≡ false → r.replica.history ≡ first_entries g.opening
+outside_history g p m r is outside =
+    let y = known_of g p m r is in
+    sym (history_is g p m r is)
+    ∙ outside-history g y.values (world g p) m y.chosen.faithful y.chosen.outside y.chosen.laid
+    (within g p m r is) (none_of_it g p m r is outside)
+    ∙ head-first g.opening (world g p).past.sent (endings_by g.opening y.values)
+
+-- all of it is durable: it was so at the opening
+outside_durable : (g : Group) (p : Program) (m : ℕ) (r : Running) → IsThere g p m r
+    → has r.replica.members m ≡ false → r.replica.durable ≡ length r.replica.history
+outside_durable g p m r is outside = omega (
+  arith,
+  ap length (outside_history g p m r is outside),
+  first_durable g (world g p) is.group is.reached m,
+  durable_is g p m r is,
+  (safe_is g p m r is).own,
+  ap length (log_is g p m r is),
+  length-take r.replica.logged r.replica.history,
+)
+
+-- it has put nothing
+outside_sent : (g : Group) (p : Program) (m : ℕ) (r : Running) → IsThere g p m r
+    → has r.replica.members m ≡ false → r.replica.view ≡ 0
+    → (member_end r.replica).sent ≡ record { number = 0; items = [] } ∷ []
+outside_sent g p m r is outside first =
+    ap (λ ls. sent_before 0 ls ++ record { number = r.replica.view; items = r.replica.sent } ∷ [])
+    (nil_from_length r.replica.left (omega (arith, (is.program.form m r is.there).replica.left, first)))
+    ∙ ap₂ (λ (n : ℕ) (items : List SentItem). record { number = n; items = items } ∷ []) first none
+  where
+    w : World
+    w = world g p
+
+    none : r.replica.sent ≡ []
+    none = sym (ap (λ b. if b then r.replica.sent else (left_in r.replica r.replica.view).sent)
+        (same_number r.replica.view))
+        ∙ sym (ap (λ f. f r.replica.view)
+        (of_there p (λ q v. if v == q.view then q.sent else (left_in q v).sent)
+        (opening_world g).past.sent m r is.there))
+        ∙ ap (w.past.sent m) (sym (view_is g p m r is))
+        ∙ outside-sent g (views_by g (known_of g p m r is).values) w m (known_of g p m r is).chosen.faithful
+        (within g p m r is) (none_of_it g p m r is outside)
+
+-- so it ends
+outside_end : (g : Group) (p : Program) (limit : ℕ) (points : List CrashPoint) (m : ℕ) (r : Running)
+    → IsThere g p m r → has r.replica.members m ≡ false
+    → IsSpent limit points (end_of r) ⊎ HasCrashed points (end_of r)
+    → HasEndedOutside g.opening limit points (end_of r)
+outside_end g p limit points m r is outside reason =
+    let waits = (is.program.form m r is.there).replica.outside
+    (ap (has r.replica.members) (is.program.of m r is.there).number ∙ outside) in record {
+      reason = reason;
+      sent = outside_sent g p m r is outside waits.first;
+      history = outside_history g p m r is outside;
+      logged = waits.all;
+      durable = outside_durable g p m r is outside;
+    }
+
 -- who is left out of its view was in it
 none_left_out : (o : Opening) (all : List MemberEnd) (number members m : ℕ) (end : End)
     → IsLeftOut o all number members m end → IsFault end → ⊥
@@ -513,11 +589,12 @@ has_ended g p limit points m r is all ended v apart fails = record {
       (is.program.form m r is.there).replica.roster;
   own = own_view g p m r is;
   reason = has_reason g p limit points m r is all ended v;
-  apart = λ outside.
+  outside = λ outside.
       let none = apart (ap (has r.replica.members) (is.program.of m r is.there).number ∙ outside) in
       let end = apart_end r.replica.end ended none.1 (fails.well none.0) in
-      by_fault g.opening (ends_of p) r.replica.view r.replica.members limit m points (end_of r)
-      (has_reason g p limit points m r is all ended v) end.0 end.1;
+      outside_end g p limit points m r is outside
+      (by_fault g.opening (ends_of p) r.replica.view r.replica.members limit m points (end_of r)
+      (has_reason g p limit points m r is all ended v) end.0 end.1);
 }
 
 -- the members of a program in a reached world, each of which stands as its setup lets it

@@ -26,7 +26,7 @@ use Rattle.dr_refine.proofs.Steps.{begun_is_program}
 use Rattle.dr_turn.proofs.Search.{settle_only}
 use Rattle.dr_program_laws.specs.Failing.{AreFailing, EndsBy, IsFailing, has_log_end}
 use Rattle.dr_turn.proofs.Parts.{is_end, is_verdict, no_end, taken_end, verdict_of}
-use Rattle.dr_program_laws.proofs.Keeping.{begun_reached}
+use Rattle.dr_program_laws.proofs.Keeping.{begun_reached, take_leaves}
 use Rattle.dr_program_laws.proofs.Nets.{net_keeps}
 use Rattle.dr_program_laws.proofs.Programs.{ran_keeps, replaced_either}
 use Rattle.dr_program.specs.Presence.{present_at}
@@ -110,21 +110,11 @@ takes_letter letter r asks is = record {
   ]);
 }
   where
-    only : settled (took_letter letter r) ≡ record (took_letter letter r) {
-      place = (settled (took_letter letter r)).place;
-    }
-    only = settle_only _ (took_letter letter r)
-
-    same : (letter : Option (List Entry)) → ((took_letter letter r).replica.end ≡ r.replica.end)
-        × ((took_letter letter r).failed ≡ r.failed)
-    same None = (refl, refl)
-    same (Some es) = (refl, refl)
-
     ended : (settled (took_letter letter r)).replica.end ≡ r.replica.end
-    ended = ap (λ (x : Running). x.replica.end) only ∙ (same letter).0
+    ended = (take_leaves letter r).0
 
     failed : (settled (took_letter letter r)).failed ≡ r.failed
-    failed = ap (λ (x : Running). x.failed) only ∙ (same letter).1
+    failed = (take_leaves letter r).1
 
 -- ---- a move
 

@@ -1,5 +1,5 @@
 -- Moves keep a program of its group, in a world that is reached.
-use Rattle.std.proofs.Common.{◌≡◌, refl, sym, subst, ℕ, ◌≤◌, true, List, [], ◌∷◌}
+use Rattle.std.proofs.Common.{◌≡◌, refl, sym, ap, ◌∙◌, subst, ℕ, ◌≤◌, true, List, [], ◌∷◌}
 use Rattle.std.specs.Prelude.{Option, None, Some}
 use Rattle.std.proofs.lemmas.Option.{same_Some}
 use Rattle.dr_entry.specs.declared.end.End.{End}
@@ -14,7 +14,7 @@ use Rattle.dr_program.specs.declared.setup.Setup.{Setup}
 use Rattle.dr_program.specs.Form.{HasForm, IsRunningMember}
 use Rattle.dr_program.specs.Program.{AreSetups, IsRanFrom, Move, Program, after_deed, begun_program, letter_for, next_sight, ran, step_of}
 use Rattle.dr_program.specs.Reading.{step_due, step_of_member, world}
-use Rattle.dr_program.specs.Running.{Running, after_step, next_step, step_at, took_letter, AsksForLetter}
+use Rattle.dr_program.specs.Running.{Running, after_step, next_step, settled, step_at, took_letter, AsksForLetter}
 use Rattle.dr_program.specs.Sight.{IsSeenNext, MaySee}
 use Rattle.dr_program.specs.Steps.{allows, sight, stepped}
 use Rattle.dr_program.proofs.Opening.{begins_at_the_opening}
@@ -28,6 +28,7 @@ use Rattle.dr_form.proofs.Steps.{stepped_form}
 use Rattle.dr_room.proofs.Letters.{letters_are, letters_have_room}
 use Rattle.dr_turn.proofs.Deeds.{deeds_keep_form}
 use Rattle.dr_turn.proofs.Failing.{failed_form}
+use Rattle.dr_turn.proofs.Search.{settle_only}
 use Rattle.dr_turn.proofs.Takes.{takes_keep_form, taking}
 use Rattle.dr_program_laws.proofs.Sight.{found_seen}
 use Rattle.dr_program.specs.Presence.{present_at}
@@ -64,6 +65,28 @@ took_form g p m r (Some letter) group is run there asks found =
     let take = taking r (is.form m r there) asks in
     joined_form r.replica letter (is.form m r there).replica take.outside take.idle
     (letters_have_room g p m r letter group is run there take.outside found)
+
+-- whether a take finds a letter or none, the member's end, what it has failed by and its votes that wait stay
+pub take_leaves : (letter : Option (List Entry)) (r : Running)
+    → ((settled (took_letter letter r)).replica.end ≡ r.replica.end)
+    × ((settled (took_letter letter r)).failed ≡ r.failed)
+    × ((settled (took_letter letter r)).replica.pending ≡ r.replica.pending)
+take_leaves letter r = (
+  ap (λ (x : Running). x.replica.end) only ∙ (same letter).0,
+  ap (λ (x : Running). x.failed) only ∙ (same letter).1,
+  ap (λ (x : Running). x.replica.pending) only ∙ (same letter).2,
+)
+  where
+    only : settled (took_letter letter r) ≡ record (took_letter letter r) {
+      place = (settled (took_letter letter r)).place;
+    }
+    only = settle_only _ (took_letter letter r)
+
+    same : (letter : Option (List Entry)) → ((took_letter letter r).replica.end ≡ r.replica.end)
+        × ((took_letter letter r).failed ≡ r.failed)
+        × ((took_letter letter r).replica.pending ≡ r.replica.pending)
+    same None = (refl, refl, refl)
+    same (Some es) = (refl, refl, refl)
 
 -- and over its next deed, however its append goes, and whatever letter it finds
 deed_kept : (g : Group) (p : Program) (m : ℕ) (o : Outcome) (r : Running) → IsGroup g → IsProgram g p

@@ -3,7 +3,6 @@
 use Rattle.std.proofs.Common.{◌≡◌, ◌⊎◌, ◌∙◌, ap, arith, inl, inr, le_refl, map, refl, subst, sym, ℕ, ◌<◌, ◌≤◌, List, [], ◌∷◌, Contains, slice_index}
 use Rattle.std.specs.Prelude.{◌==◌, if◌then◌else◌, max, None, Option, Some, slice_set, Option}
 use Rattle.std.proofs.lemmas.Bool.{cases_lt}
-use Rattle.dr_entry.specs.declared.end.End.{End}
 use Rattle.dr_entry.specs.declared.entry.Entry.{Entry}
 use Rattle.std.proofs.lemmas.List.{get_or-map, length-map, length-set}
 use Rattle.dr_rows.specs.Words.{own}
@@ -35,12 +34,6 @@ use Rattle.dr_program.proofs.Present.{present_within}
 -- the worlds that programs are
 abbrev pub worlds : Group → List Program → List World
 worlds g programs = map (world g) programs
-
--- a program with another table is the same world with that table
-with_cells : (g : Group) (p : Program) (table : List ℕ)
-    → world g (record { members = p.members; table = table; letters = p.letters })
-    ≡ with_table (world g p) (word_of g table)
-with_cells g p table = refl
 
 -- ---- words that members had
 

@@ -33,7 +33,7 @@ use Rattle.dr_refine.proofs.Steps.{begun_is_program}
 use Rattle.dr_room.proofs.Letters.{letters_are}
 use Rattle.dr_turn.proofs.Search.{settle_only}
 use Rattle.dr_turn.proofs.Tasks.{ends_view}
-use Rattle.dr_program_laws.proofs.Keeping.{begun_reached, next_form}
+use Rattle.dr_program_laws.proofs.Keeping.{begun_reached, next_form, take_leaves}
 use Rattle.dr_program_laws.proofs.Nets.{net_keeps}
 use Rattle.dr_program_laws.proofs.Programs.{ran_keeps, replaced_either}
 
@@ -116,20 +116,10 @@ breaks why r member none due outside = absurd (cc (
 takes_letter : (letter : Option (List Entry)) (r : Running) → IsRunningMember r → AsksForLetter r → IsApart r
     → IsApart (settled (took_letter letter r))
 takes_letter letter r member asks is outside = (
-  ap (λ (x : Running). x.failed) only ∙ (same letter).1 ∙ (is before).0,
-  subst IsFaulty (sym (ap (λ (x : Running). x.replica.end) only ∙ (same letter).0 ∙ asks.unended)) tt,
+  (take_leaves letter r).1 ∙ (is before).0,
+  subst IsFaulty (sym ((take_leaves letter r).0 ∙ asks.unended)) tt,
 )
   where
-    only : settled (took_letter letter r) ≡ record (took_letter letter r) {
-      place = (settled (took_letter letter r)).place;
-    }
-    only = settle_only _ (took_letter letter r)
-
-    same : (letter : Option (List Entry)) → ((took_letter letter r).replica.end ≡ r.replica.end)
-        × ((took_letter letter r).failed ≡ r.failed)
-    same None = (refl, refl)
-    same (Some es) = (refl, refl)
-
     before : is_inside r.replica ≡ false
     before = joins_outside r.replica (next_step r) asks.due (due_allowed r (member.due asks.unended))
 

@@ -53,12 +53,12 @@ no_crash points turns later none =
 -- ---- where it is known that the turn has no crash
 
 -- the parts behind the end of a member that was to crash, and the beginning of the next turn
-abbrev pub is_late : Part → Bool
-is_late parts.Done = true
-is_late parts.Give = true
-is_late parts.Spent = true
-is_late (parts.Do a) = ends_view (steps.Do a) || is_beat (parts.Do a)
-is_late part = false
+abbrev pub is_behind_crash : Part → Bool
+is_behind_crash parts.Done = true
+is_behind_crash parts.Give = true
+is_behind_crash parts.Spent = true
+is_behind_crash (parts.Do a) = ends_view (steps.Do a) || is_beat (parts.Do a)
+is_behind_crash part = false
 
 -- the part is that of a crash
 abbrev pub is_crash : Part → Bool
@@ -69,40 +69,40 @@ crash_test : (part : Part) → is_crash part ≡ true → part ≡ parts.Crash
 crash_test parts.Crash e = refl
 crash_test part e = absurd (cc)
 
--- late parts come only behind late ones, and behind that end
-late_next : (i : ℕ) → i + 1 < length TURN → is_late (slice_index_or TURN (i + 1) turn_begins)
+-- these parts come only behind such ones, and behind that of a crash
+behind_next : (i : ℕ) → i + 1 < length TURN → is_behind_crash (slice_index_or TURN (i + 1) turn_begins)
     ≡ true
-    → (is_late (slice_index_or TURN i turn_begins)
+    → (is_behind_crash (slice_index_or TURN i turn_begins)
     || is_crash (slice_index_or TURN i turn_begins)) ≡ true
 unfolding all_below
-late_next i l late =
+behind_next i l late =
     implied _ _ (each_below (length TURN - 1) i
-    (λ j. not (is_late (slice_index_or TURN (j + 1) turn_begins))
-    || (is_late (slice_index_or TURN j turn_begins)
+    (λ j. not (is_behind_crash (slice_index_or TURN (j + 1) turn_begins))
+    || (is_behind_crash (slice_index_or TURN j turn_begins)
     || is_crash (slice_index_or TURN j turn_begins))) refl (omega (arith, l))) late
   where
     implied : (a b : Bool) → (not a || b) ≡ true → a ≡ true → b ≡ true
     implied true b t e = t
     implied false b t e = absurd (cc)
 
--- a late part comes only behind a late part or that of a crash
-pub late_after : (n k : ℕ) (p : Place) → is_late (part_of (after n k p)) ≡ true
-    → (is_late (part_of p) || is_crash (part_of p)) ≡ true
-late_after n k p late = by (nat_lt (p.column + 1) (columns_in k (part_of p)))
+-- such a place comes only behind such a one or one at a crash
+pub behind_after : (n k : ℕ) (p : Place) → is_behind_crash (part_of (after n k p)) ≡ true
+    → (is_behind_crash (part_of p) || is_crash (part_of p)) ≡ true
+behind_after n k p late = by (nat_lt (p.column + 1) (columns_in k (part_of p)))
     (nat_lt (p.row + 1) (rows_in n (part_of p))) (nat_lt (p.part + 1) (length TURN)) refl late
   where
     same : (a b : Bool) → a ≡ true → (a || b) ≡ true
     same a b e = rw e refl
 
     by : (x y z : Bool) → nat_lt (p.part + 1) (length TURN) ≡ z
-        → is_late (part_of
+        → is_behind_crash (part_of
         (if x then record p { column = p.column + 1 } else
         (if y then record p { row = p.row + 1; column = 0 }
         else record { part = if z then p.part + 1 else 0; row = 0; column = 0 }))) ≡ true
-        → (is_late (part_of p) || is_crash (part_of p)) ≡ true
+        → (is_behind_crash (part_of p) || is_crash (part_of p)) ≡ true
     by true y z e h = same _ _ h
     by false true z e h = same _ _ h
-    by false false true e h = late_next p.part (grind (arith, nat_tests, e)) h
+    by false false true e h = behind_next p.part (grind (arith, nat_tests, e)) h
     by false false false e h = absurd (cc)
 
 -- ---- how it stands
@@ -121,14 +121,13 @@ IsProper limit points turns (Some (ends.NoMajority mask)) = ⊤
 IsProper limit points turns (Some (ends.Excluded view)) = ⊤
 IsProper limit points turns (Some ends.Absent) = ⊥
 
--- a member with these crash points, which takes at most so many turns, stands so: it is not past a crash,
--- ahead of it where it comes
--- late in its turn, and at an end that is as it should be
+-- a member with these crash points, which takes at most so many turns, stands so: it is not past a crash, is ahead
+-- of it where its part is behind that of a crash in its turn, and is at an end that is as it should be
 pub record Stands (limit : ℕ) (points : List CrashPoint) (r : Running) : Type 0 where
   pub limited : r.limit ≡ limit
   pub planned : r.crashes ≡ points
   pub later : IsNotPast points r.replica.turns
-  pub ahead : is_late (part_of r.place) ≡ true → IsBeforeCrash points r.replica.turns
+  pub ahead : is_behind_crash (part_of r.place) ≡ true → IsBeforeCrash points r.replica.turns
   pub proper : IsProper limit points r.replica.turns r.replica.end
 
 -- ---- the search
@@ -136,12 +135,12 @@ pub record Stands (limit : ℕ) (points : List CrashPoint) (r : Running) : Type 
 -- the next place, where this one's part is not that end, or the turn has no crash
 pub goes_on : (limit : ℕ) (points : List CrashPoint) (r : Running) → Stands limit points r
     → (is_crash (part_of r.place) ≡ true → IsBeforeCrash points r.replica.turns)
-    → is_late (part_of (after (members r) (columns r) r.place)) ≡ true
+    → is_behind_crash (part_of (after (members r) (columns r) r.place)) ≡ true
     → IsBeforeCrash points r.replica.turns
 goes_on limit points r v missed late =
-    by (is_late (part_of r.place)) refl (late_after (members r) (columns r) r.place late)
+    by (is_behind_crash (part_of r.place)) refl (behind_after (members r) (columns r) r.place late)
   where
-    by : (x : Bool) → is_late (part_of r.place) ≡ x → (x || is_crash (part_of r.place)) ≡ true
+    by : (x : Bool) → is_behind_crash (part_of r.place) ≡ x → (x || is_crash (part_of r.place)) ≡ true
         → IsBeforeCrash points r.replica.turns
     by true e h = v.ahead e
     by false e h = missed h

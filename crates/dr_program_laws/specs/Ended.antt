@@ -1,5 +1,5 @@
 -- How the members of an age are to end.
-use Rattle.std.specs.Prelude.{◌≡◌, ◌≢◌, ◌⊎◌, ℕ, ◌+◌, ◌<◌, ◌≤◌, All, Any, Bool, true, false, Contains, List, ◌++◌, length, slice_get, take, Some}
+use Rattle.std.specs.Prelude.{◌≡◌, ◌≢◌, ◌⊎◌, ℕ, ◌+◌, ◌<◌, ◌≤◌, All, Any, Bool, true, false, Contains, List, [], ◌∷◌, ◌++◌, length, slice_get, take, Some}
 use Rattle.dr_entry.specs.declared.end.End.{End}
 use Rattle.dr_entry.specs.declared.end.End.TheVariants.{Done, Crashed, Suspected, Excluded, NoMajority, DiskFault, LogFull, Spent}
 use Rattle.dr_entry.specs.declared.end.MemberEnd.{MemberEnd}
@@ -28,15 +28,14 @@ LastViewIs o number members history =
 pub record IsWhole (o : Opening) (ends : List MemberEnd) (number members : ℕ) (e : MemberEnd) : Type 0 where
   pub end : e.end ≡ Done
   -- it has all messages that the script gives the members of the view, and nobody has a message that it lacks,
-  -- but for those of late members, which may come into a later view
+  -- but for those of late members that aren't in the view, which may come into a later one
   pub whole : (s : ℕ) → has members s ≡ true → messages_from s e.history ≡ numbered_messages o s
-  pub lacks_none : (s : ℕ) → (¬ IsLateIn o s) → All (λ (other : MemberEnd).
+  pub lacks_none : (s : ℕ) → (¬ IsLateIn o s) ⊎ (has members s ≡ true) → All (λ (other : MemberEnd).
       IsPrefixOf (messages_from s other.history) (messages_from s e.history)) ends
-  -- all of it is logged and durable: each member of the view that isn't late has it on its log
+  -- all of it is logged and durable: each member of the view has it on its log
   pub logged : e.logged ≡ length e.history
   pub durable : e.durable ≡ length e.history
-  pub kept : (i : ℕ) (other : MemberEnd) → has members i ≡ true → has o.members i ≡ true
-      → slice_get ends i ≡ Some other
+  pub kept : (i : ℕ) (other : MemberEnd) → has members i ≡ true → slice_get ends i ≡ Some other
       → IsPrefixOf e.history (take other.logged other.history)
   -- who is done in the same view has the same history, and in the first view it is that of a complete member
   pub same : (i : ℕ) (other : MemberEnd) → slice_get ends i ≡ Some other → other.end ≡ Done
@@ -112,8 +111,17 @@ HasReason o ends number members limit m points e =
     ⊎ (IsSpent limit points e
     ⊎ (HasCrashed points e ⊎ (HasEndedByLog points e ⊎ HasBeenLeft o ends number members m points e)))
 
+-- a member has ended outside of the first view, with its turns spent, or crashed: it has put nothing, and has
+-- the start and View 0 alone, all of it logged and durable
+pub record HasEndedOutside (o : Opening) (limit : ℕ) (points : List CrashPoint) (e : MemberEnd) : Type 0 where
+  pub reason : IsSpent limit points e ⊎ HasCrashed points e
+  pub sent : e.sent ≡ record { number = 0; items = [] } ∷ []
+  pub history : e.history ≡ first_entries o
+  pub logged : e.logged ≡ length e.history
+  pub durable : e.durable ≡ length e.history
+
 -- member m has ended as it should, in the view that its history is in, which is of the roster, as a member of it,
--- or in the first view as a late one that hasn't joined: with its turns spent, or crashed
+-- or outside of the first view as a late one that hasn't joined
 pub record HasEnded (o : Opening) (ends : List MemberEnd) (limit m : ℕ) (points : List CrashPoint)
     (e : MemberEnd) : Type 0 where
   pub number : ℕ
@@ -122,7 +130,7 @@ pub record HasEnded (o : Opening) (ends : List MemberEnd) (limit m : ℕ) (point
   pub roster : IsInRoster (length o.messages) members
   pub own : (has members m ≡ true) ⊎ (IsLateIn o m × (number ≡ 0))
   pub reason : HasReason o ends number members limit m points e
-  pub apart : has members m ≡ false → IsSpent limit points e ⊎ HasCrashed points e
+  pub outside : has members m ≡ false → HasEndedOutside o limit points e
 
 -- all members that are there have, each with the crash points of its number; and who is absent tells nothing
 pub record HaveEnded (o : Opening) (limit : ℕ) (points : ℕ → List CrashPoint) (ends : List MemberEnd)

@@ -139,10 +139,11 @@ pub fn ends_agree()
 
 /// Members that have all ended have ended as they should, each by its setup, and in the view that it was in:
 /// done, with everything, or with all turns spent, or crashed where its setup says, or by a log that failed
-/// or was full, or by suspicion, in no later turn than that of its crash. It holds whatever deeds they took,
-/// and in whatever order. Whoever has ended so, also while others go on, has its cause in the world that the
-/// program is: it has everything durably, another member suspects it, it is left with no majority, or it
-/// has committed a value that its view has voted for, and that names it.
+/// or was full, or by suspicion, in no later turn than that of its crash. A late member that hasn't joined
+/// has put and delivered nothing, and ends with its turns spent, or crashed. It holds whatever deeds they
+/// took, and in whatever order. Whoever has ended so, also while others go on, has its cause in the world
+/// that the program is: it has everything durably, another member suspects it, it is left with no majority,
+/// or it has committed a value that its view has voted for, and that names it.
 pub fn members_end_as_they_should()
     ensures ends { (g : Group) (turns : ℕ) (setups : List (Option Setup)) (points : ℕ → List CrashPoint) (p : Program)
         → IsGroup g → 1 ≤ turns → AreSetups g turns setups

@@ -1,19 +1,20 @@
 -- The histories of a world that is reached agree, and a member that is done holds everything.
 use Rattle.std.proofs.Common.{◌≡◌, ◌≢◌, refl, ap, sym, ◌∙◌, ◌⊎◌, inl, inr, subst, ℕ, ◌<◌, ◌≤◌, arith, Bool, true, false, [], ◌∷◌, append-nil, take_at, ◌++◌, length, take, All, Contains, Some, List, slice_get, get_or, length-append}
-use Rattle.std.proofs.lemmas.Bool.{cases_eq}
+use Rattle.std.proofs.lemmas.Bool.{cases_eq, cases_lt}
 use Rattle.std.proofs.lemmas.List.{nil_from_length, take_all}
 use Rattle.std.proofs.lemmas.Option.{slice_get-get_or}
 use Rattle.dr_entry.specs.declared.entry.Entry.{Entry}
 use Rattle.dr_entry.specs.declared.entry.Entry.TheVariants.{View}
 use Rattle.dr_entry.specs.declared.end.End.TheVariants.{Done}
 use Rattle.dr_history.specs.Members.{has, members_of}
-use Rattle.dr_history.specs.History.{IsPrefixOf, GroupView, Sent, merge, messages_of, view_of}
+use Rattle.dr_history.specs.History.{IsPrefixOf, GroupView, Sent, merge, messages_of, up_to_view, view_of}
 use Rattle.dr_history.specs.Order.{InOrder, IsLateIn, first_entries, messages_from}
 use Rattle.dr_history.specs.Agreement.{Accounts, sent_by, SamePast, KnowsDurable, Agreed}
 use Rattle.dr_history.proofs.NumberedLemmas.{length-numbered_messages, messages_from-append}
 use Rattle.dr_history_laws.specs.Courses.{IsUncut, MayReach, course, view_in}
-use Rattle.dr_history_laws.specs.Laid.{counts_sent}
+use Rattle.dr_history_laws.specs.Laid.{counts_sent, laid}
 use Rattle.dr_history_laws.proofs.Courses.{InOrder-course, either-course, head-ends, view-course}
+use Rattle.dr_history_laws.proofs.Heads.{course_up_to}
 use Rattle.dr_history_laws.proofs.Members.{has-member, member-has, view-distinct}
 use Rattle.dr_history_laws.proofs.Merging.{laid-whole}
 use Rattle.dr_history_laws.proofs.Quiet.{no-more}
@@ -98,7 +99,8 @@ knows-durable g values w accounts m is y told there = by (cases_eq g.opening.mem
     l : m < roster g
     l = in_roster g m is there
 
-    safe : StandsOnLogs g (views_by g values) w.past.log m (w.past.view m) (w.past.durable m)
+    safe : StandsOnLogs g (views_by g values) w.past.log (w.past.history m) m (w.past.view m)
+        (w.past.durable m)
     safe = y.faithful.logs.safe m there
 
     own : (accounts m).durable ≤ length (accounts m).log
@@ -181,6 +183,39 @@ pub done-durable : (g : Group) (values : Values) (w : World) (m : ℕ) → Known
 done-durable g values w m y l e = y.complete.durable m l
     (done_shown g (views_by g values) w m y.faithful y.complete l e)
 
+-- and stands on the logs of all members of its view: it has that view's View, so it was reported there
+pub done-on-logs : (g : Group) (values : Values) (w : World) (m i : ℕ) → IsGroup g → Known g values w
+    → IsPresent g m → w.end m ≡ Some Done → has (views_by g values (w.past.view m)) i ≡ true
+    → w.past.durable m ≤ length (w.past.log i)
+done-on-logs g values w m i is y there e member =
+    safe.logged i (subst (λ v. has (views_by g values v) i ≡ true) (sym here) member)
+  where
+    v : ℕ
+    v = w.past.view m
+
+    l : m < roster g
+    l = in_roster g m is there
+
+    safe : StandsOnLogs g (views_by g values) w.past.log (w.past.history m) m v (w.past.durable m)
+    safe = y.faithful.logs.safe m there
+
+    within : length (up_to_view (w.past.history m)) ≤ length (w.past.history m)
+    within = omega (
+      arith,
+      ap (λ es. length (up_to_view es)) (y.laid.historic.history m l),
+      ap length (course_up_to g.opening w.past.sent (endings_by g.opening values) v (w.next m)),
+      ap length (y.laid.historic.history m l),
+      length-append (head_by g values w v)
+          (laid g.opening w.past.sent (view_in g.opening (endings_by g.opening values) v) (w.next m)),
+    )
+
+    here : safe.since ≡ v
+    here = by (cases_lt safe.since v)
+      where
+        by : (safe.since < v) ⊎ (v ≤ safe.since) → safe.since ≡ v
+        by (inl less) = absurd (omega (arith, safe.before less, within, done-durable g values w m y l e))
+        by (inr same) = omega (arith, same, safe.come)
+
 -- a member that ended as done holds all messages of the members of its view
 pub done-whole : (g : Group) (values : Values) (w : World) (m : ℕ) → IsGroup g → Known g values w
     → m < roster g → w.end m ≡ Some Done → HoldsAll g w m
@@ -245,12 +280,12 @@ done-same g values w m k is y l e r d same =
     ++ merge g.opening w.past.sent v (counts_sent w.past.sent v)) same
     ∙ sym (done-merged g values w k is y r d)
 
--- nobody has a message that a member that is done lacks, but of late members: as for the members of its view, it
--- has all, and who was no member of it any more has put none behind its history
+-- nobody has a message that a member that is done lacks, but of late members that aren't in its view: as for
+-- the members of its view, it has all, and who was no member of it any more has put none behind its history
 pub done-lacks-none : (g : Group) (values : Values) (w : World) (m k s : ℕ) → IsGroup g → Known g values w
-    → ¬ IsLateIn g.opening s → m < roster g → w.end m ≡ Some Done → k < roster g
-    → IsPrefixOf (messages_from s (w.past.history k)) (messages_from s (w.past.history m))
-done-lacks-none g values w m k s is y early l e r = by (either-prefix g values w m k is y l r)
+    → (¬ IsLateIn g.opening s) ⊎ (has (w.members m) s ≡ true) → m < roster g → w.end m ≡ Some Done
+    → k < roster g → IsPrefixOf (messages_from s (w.past.history k)) (messages_from s (w.past.history m))
+done-lacks-none g values w m k s is y either l e r = by (either-prefix g values w m k is y l r)
   where
     mine : List Entry
     mine = w.past.history m
@@ -285,8 +320,9 @@ done-lacks-none g values w m k s is y early l e r = by (either-prefix g values w
 
     -- of another one no message follows
     none_more : IsPrefixOf (w.past.history m) (w.past.history k) → has (w.members m) s ≡ false
+        → ¬ IsLateIn g.opening s
         → messages_from s (w.past.history k) ≡ messages_from s (w.past.history m)
-    none_more p absent =
+    none_more p absent early =
         let front : take (length mine) theirs ≡ mine =
         ap (take (length mine)) (sym p.1) ∙ take_at mine p.0 (length mine) refl in
         let first = (in-order g values w m is y l).begins in
@@ -309,7 +345,10 @@ done-lacks-none g values w m k s is y early l e r = by (either-prefix g values w
     of_view : IsPrefixOf (w.past.history m) (w.past.history k) → (b : Bool) → has (w.members m) s ≡ b
         → messages_from s (w.past.history k) ≡ messages_from s (w.past.history m)
     of_view p true there = held p there
-    of_view p false absent = none_more p absent
+    of_view p false absent = elim either [
+      | inl early ↦ none_more p absent early
+      | inr there ↦ absurd (cc (there, absent))
+    ]
 
     by : IsPrefixOf (w.past.history m) (w.past.history k) ⊎ IsPrefixOf (w.past.history k) (w.past.history m)
         → IsPrefixOf (messages_from s (w.past.history k)) (messages_from s (w.past.history m))

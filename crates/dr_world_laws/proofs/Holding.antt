@@ -45,19 +45,31 @@ reaches g values w m v h l come =
         (course g.opening w.past.sent endings u (w.next m))) (sym same)
         (laid g.opening w.past.sent (view_in g.opening endings v) (w.next m), refl)
 
-pub view-there : (g : Group) (values : Values) (w : World) (m v : ℕ) → Historic g values w → m < roster g
-    → v ≤ w.past.view m → Contains (w.past.history m) (View g.opening.age v (views_by g values v))
-view-there g values w m v h l come =
-    subst (λ es. Contains es here) p.1 (Contains-append_left (head_by g values w v) p.0 here
-    (subst (λ es. Contains es here) (sym t.1)
+-- and the head of a view behind that of each earlier one
+pub head-later : (g : Group) (values : Values) (w : World) (u v : ℕ) → u < v
+    → IsPrefixOf (head_by g values w u) (head_by g values w v)
+head-later g values w u v less = subst (λ es. IsPrefixOf es (head_by g values w v))
+    (course-head g.opening w.past.sent (endings_by g.opening values) u)
+    (subst (IsPrefixOf (course g.opening w.past.sent (endings_by g.opening values) u 0))
+    (course-head g.opening w.past.sent (endings_by g.opening values) v)
+    (prefix-later g.opening w.past.sent (endings_by g.opening values) u 0 v 0 less (omega arith)))
+
+-- it ends with its View, so whatever goes on behind it has that
+pub view-behind : (g : Group) (values : Values) (w : World) (v : ℕ) (es : List Entry)
+    → IsPrefixOf (head_by g values w v) es → Contains es (View g.opening.age v (views_by g values v))
+view-behind g values w v es p =
+    subst (λ x. Contains x here) p.1 (Contains-append_left (head_by g values w v) p.0 here
+    (subst (λ x. Contains x here) (sym t.1)
     (Contains-append_right t.0 (here ∷ []) here (0, omega arith, refl))))
   where
     here : Entry
     here = View g.opening.age v (views_by g values v)
 
-    p : IsPrefixOf (head_by g values w v) (w.past.history m)
-    p = reaches g values w m v h l come
-
     t : (before : List Entry) × (head_by g values w v
         ≡ before ++ View g.opening.age v (views_by g values v) ∷ [])
     t = head-last g.opening w.past.sent (endings_by g.opening values) v
+
+pub view-there : (g : Group) (values : Values) (w : World) (m v : ℕ) → Historic g values w → m < roster g
+    → v ≤ w.past.view m → Contains (w.past.history m) (View g.opening.age v (views_by g values v))
+view-there g values w m v h l come =
+    view-behind g values w v (w.past.history m) (reaches g values w m v h l come)

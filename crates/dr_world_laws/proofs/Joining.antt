@@ -1,12 +1,13 @@
 -- A late member that joins comes to the head of its first view, and goes on well; and whom a member may wish for
 -- is in no view so far.
-use Rattle.std.proofs.Common.{List, ◌≡◌, ap, ap₂, arith, false, refl, subst, sym, true, ℕ, ◌+◌, ◌<◌, ◌∙◌}
+use Rattle.std.proofs.Common.{List, [], ◌≡◌, ap, ap₂, arith, false, length, refl, subst, sym, true, ℕ, ◌+◌, ◌<◌, ◌∙◌}
+use Rattle.std.proofs.lemmas.List.{nil_from_length}
 use Rattle.dr_entry.specs.declared.entry.Entry.{Entry}
-use Rattle.dr_history.specs.History.{IsPrefixOf, last_view}
+use Rattle.dr_history.specs.History.{IsPrefixOf, last_view, up_to_view}
 use Rattle.dr_history.specs.Members.{has}
 use Rattle.dr_history.specs.Order.{IsNewIn, MayJoin}
 use Rattle.dr_history_laws.specs.Courses.{course}
-use Rattle.dr_history_laws.proofs.Courses.{course-head, prefix-later}
+use Rattle.dr_history_laws.proofs.Courses.{course-head}
 use Rattle.dr_history_laws.proofs.Heads.{head_view}
 use Rattle.dr_machine.proofs.Events.{progress_after}
 use Rattle.dr_machine.proofs.Presence.{in_roster}
@@ -15,17 +16,19 @@ use Rattle.dr_machine.specs.declared.step.Step.{Step}
 use Rattle.dr_machine.specs.Group.{Group, IsGroup, IsPresent, roster}
 use Rattle.dr_machine.specs.Guards.{CanFinish, CanJoin}
 use Rattle.dr_machine.specs.World.{World}
+use Rattle.dr_words.specs.Columns.{recv_column}
 use Rattle.dr_faithful.proofs.Beside.{in_view}
 use Rattle.dr_faithful.proofs.Finishes.{joined_is}
 use Rattle.dr_faithful.proofs.Writes.{at_both, at_case}
 use Rattle.dr_faithful.specs.Chosen.{Values, endings_by, views_by}
 use Rattle.dr_faithful.specs.Faithful.{AllGoOn, Faithful, JoinsWell}
+use Rattle.dr_faithful.specs.Tells.{Views}
 use Rattle.dr_world_laws.specs.Historic.{AreLaid, Historic, head_by}
 use Rattle.dr_world_laws.proofs.ChosenViews.{views-first, views-stays}
 use Rattle.dr_world_laws.proofs.Finishing.{Finishes, head-few}
-use Rattle.dr_world_laws.proofs.Holding.{view-there}
+use Rattle.dr_world_laws.proofs.Holding.{head-later, view-there}
 use Rattle.dr_world_laws.proofs.Items.{AreOutside}
-use Rattle.dr_world_laws.proofs.Letters.{IsLetter}
+use Rattle.dr_world_laws.proofs.Letters.{IsLetter, letter-behind}
 
 -- ---- a wish
 
@@ -51,31 +54,34 @@ pub letter-number : (g : Group) (values : Values) (w : World) (j : ℕ) (l : Lis
     → (t : IsLetter g values w j l) → (last_view (0, 0) l).0 ≡ t.view
 letter-number g values w j l t = ap (λ x. x.0) (letter-view g values w j l t)
 
--- it goes on from what its member has, which is none of its view yet
+-- whoever is none of its view has the history of the opening
+pub outside-history : (g : Group) (values : Values) (w : World) (m : ℕ) → Faithful g (views_by g values) w
+    → AreOutside g (views_by g values) w → AreLaid g values w → m < roster g → has (w.members m) m ≡ false
+    → w.past.history m ≡ head_by g values w 0
+outside-history g values w m f out laid l outside =
+    let zero = out m l (ap (λ k. has k m) (sym (f.views.own m)) ∙ outside) in
+    laid.historic.history m l ∙ ap₂ (course g.opening w.past.sent (endings_by g.opening values)) zero.0 zero.1
+    ∙ course-head g.opening w.past.sent (endings_by g.opening values) 0
+
+-- and it has put nothing
+pub outside-sent : (g : Group) (V : Views) (w : World) (m : ℕ) → Faithful g V w → m < roster g
+    → has (w.members m) m ≡ false → w.past.sent m (w.past.view m) ≡ []
+outside-sent g V w m f l outside = nil_from_length (w.past.sent m (w.past.view m)) (omega (
+  arith,
+  f.sent.all m (w.past.view m),
+  f.counts.recv m (w.past.view m) m l,
+  f.fresh.outside m (w.past.view m) (recv_column m) (ap (λ k. has k m) (sym (f.views.own m)) ∙ outside)
+      (omega arith),
+))
+
+-- the letter goes on from what its member has, which is none of its view yet
 pub letter-begins : (g : Group) (values : Values) (w : World) (m : ℕ) (letter : List Entry) → IsGroup g
     → Faithful g (views_by g values) w → AreOutside g (views_by g values) w → AreLaid g values w → m < roster g
     → has (w.members m) m ≡ false → IsLetter g values w m letter → IsPrefixOf (w.past.history m) letter
 letter-begins g values w m letter is f out laid l outside t =
-    subst (λ es. IsPrefixOf es letter) (sym first)
-    (subst (IsPrefixOf (head_by g values w 0)) (sym t.is) begins)
-  where
-    zero : (w.past.view m ≡ 0) × (w.next m ≡ 0)
-    zero = out m l (ap (λ k. has k m) (sym (f.views.own m)) ∙ outside)
-
-    later : 0 < t.view
-    later = omega (arith, t.next)
-
-    first : w.past.history m ≡ head_by g values w 0
-    first = laid.historic.history m l
-        ∙ ap₂ (course g.opening w.past.sent (endings_by g.opening values)) zero.0 zero.1
-        ∙ course-head g.opening w.past.sent (endings_by g.opening values) 0
-
-    begins : IsPrefixOf (head_by g values w 0) (head_by g values w t.view)
-    begins = subst (λ es. IsPrefixOf es (head_by g values w t.view))
-        (course-head g.opening w.past.sent (endings_by g.opening values) 0)
-        (subst (λ es. IsPrefixOf (course g.opening w.past.sent (endings_by g.opening values) 0 0) es)
-        (course-head g.opening w.past.sent (endings_by g.opening values) t.view)
-        (prefix-later g.opening w.past.sent (endings_by g.opening values) 0 0 t.view 0 later (omega arith)))
+    subst (λ es. IsPrefixOf es letter) (sym (outside-history g values w m f out laid l outside))
+    (subst (IsPrefixOf (head_by g values w 0)) (sym t.is)
+    (head-later g values w 0 t.view (omega (arith, t.next))))
 
 pub joins-well : (g : Group) (values : Values) (w : World) (m : ℕ) → IsGroup g
     → Faithful g (views_by g values) w → AreOutside g (views_by g values) w → AreLaid g values w
@@ -92,6 +98,8 @@ joins-well g values w m is f out laid can t =
       stayed = λ i h early. subst (λ v. has (views_by g values v) i ≡ true) (sym zero.0)
           (ap (λ k. has k i) (views-first g values) ∙ early);
       begins = letter-begins g values w m can.letter is f out laid l can.outside t;
+      behind = subst (λ es. length es < length (up_to_view can.letter))
+          (sym (outside-history g values w m f out laid l can.outside)) (letter-behind g values w m can.letter t);
       few = head-few g values w m t.view can.letter is f laid
           (λ u less. (laid.left t.giver u t.within (omega (arith, less, t.come))).ended) t.is;
     })

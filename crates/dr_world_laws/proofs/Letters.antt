@@ -1,15 +1,15 @@
 -- The letters of late members: each is the head of the first view that its member is in.
-use Rattle.std.proofs.Common.{List, None, Option, Some, refl, ◌||◌, ◌==◌, ◌≢◌, ◌≡◌, ◌⊎◌, Contains, ap, arith, false, inl, inr, subst, sym, true, ℕ, ◌+◌, ◌<◌, ◌∙◌, ◌≤◌}
+use Rattle.std.proofs.Common.{List, [], ◌∷◌, ◌++◌, None, Option, Some, append-nil, length, length-append, refl, ◌||◌, ◌==◌, ◌≢◌, ◌≡◌, ◌⊎◌, Contains, ap, arith, false, inl, inr, subst, sym, true, ℕ, ◌+◌, ◌<◌, ◌∙◌, ◌≤◌}
 use Rattle.std.proofs.lemmas.Bool.{cases_eq, cases_lt}
 use Rattle.std.proofs.lemmas.Bool.Decides.{nat_tests}
 use Rattle.std.proofs.lemmas.Option.{same_Some, slice_get-get_or}
 use Rattle.dr_entry.specs.declared.entry.Entry.{Entry}
-use Rattle.dr_history.specs.History.{last_view, up_to_view}
+use Rattle.dr_history.specs.History.{IsPrefixOf, last_view, up_to_view}
 use Rattle.dr_history.specs.Members.{has, members_of}
 use Rattle.dr_history.specs.Order.{IsNewIn}
 use Rattle.dr_history_laws.specs.Courses.{ViewHasEnded}
-use Rattle.dr_history_laws.proofs.Courses.{head-steady}
-use Rattle.dr_history_laws.proofs.Heads.{course_up_to}
+use Rattle.dr_history_laws.proofs.Courses.{course-head, head-steady}
+use Rattle.dr_history_laws.proofs.Heads.{course_up_to, head_view}
 use Rattle.dr_history_laws.proofs.Members.{member-has}
 use Rattle.dr_machine.proofs.Events.{Letters, given_after, letters}
 use Rattle.dr_machine.proofs.Presence.{in_roster}
@@ -30,6 +30,7 @@ use Rattle.dr_faithful.specs.Chosen.{Values, endings_by, views_by}
 use Rattle.dr_faithful.specs.Faithful.{AllGoOn, Faithful}
 use Rattle.dr_world_laws.specs.Historic.{AreLaid, head_by}
 use Rattle.dr_world_laws.proofs.ChosenViews.{ending-next}
+use Rattle.dr_world_laws.proofs.Holding.{head-later}
 
 -- the letter for member j is the head of a view that somebody has come to, the first one that j is in
 pub record IsLetter (g : Group) (values : Values) (w : World) (j : ℕ) (letter : List Entry) : Type 0 where
@@ -46,6 +47,32 @@ pub record IsLetter (g : Group) (values : Values) (w : World) (j : ℕ) (letter 
   pub was : has (views_by g values from) giver ≡ true
   pub stays : has (views_by g values view) giver ≡ true
   pub least : (i : ℕ) → has (views_by g values from) i ≡ true → has (views_by g values view) i ≡ true → giver ≤ i
+
+-- its View stands behind all that every history begins with
+pub letter-behind : (g : Group) (values : Values) (w : World) (j : ℕ) (letter : List Entry)
+    → IsLetter g values w j letter → length (head_by g values w 0) < length (up_to_view letter)
+letter-behind g values w j letter t = rw whole (by begins.0 begins.1)
+  where
+    begins : IsPrefixOf (head_by g values w 0) letter
+    begins = subst (IsPrefixOf (head_by g values w 0)) (sym t.is)
+        (head-later g values w 0 t.view (omega (arith, t.next)))
+
+    whole : up_to_view letter ≡ letter
+    whole = ap up_to_view (t.is
+        ∙ sym (course-head g.opening w.past.sent (endings_by g.opening values) t.view))
+        ∙ course_up_to g.opening w.past.sent (endings_by g.opening values) t.view 0
+        ∙ sym t.is
+
+    last : (v : ℕ) → (last_view (0, 0) (head_by g values w v)).0 ≡ v
+    last v = ap (λ x. x.0) (head_view g.opening w.past.sent (endings_by g.opening values) v (0, 0))
+
+    number : head_by g values w 0 ≡ letter → 0 ≡ t.view
+    number same = sym (last 0) ∙ ap (λ es. (last_view (0, 0) es).0) (same ∙ t.is) ∙ last t.view
+
+    by : (rest : List Entry) → head_by g values w 0 ++ rest ≡ letter
+        → length (head_by g values w 0) < length letter
+    by [] same = absurd (omega (arith, t.next, number (sym (append-nil (head_by g values w 0)) ∙ same)))
+    by (e ∷ rest) more = omega (arith, ap length more, length-append (head_by g values w 0) (e ∷ rest))
 
 -- so are these letters
 abbrev pub AreHeads : Group → Values → World → (ℕ → Option (List Entry)) → Type 0

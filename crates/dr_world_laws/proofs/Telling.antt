@@ -36,7 +36,7 @@ use Rattle.dr_world_laws.proofs.ChosenViews.{views-come}
 use Rattle.dr_world_laws.proofs.Choosing.{nobody_else, voted_by}
 use Rattle.dr_world_laws.proofs.Covering as covering
 use Rattle.dr_world_laws.proofs.HeldViews.{view-is}
-use Rattle.dr_world_laws.proofs.Holding.{reaches, view-held, view-there}
+use Rattle.dr_world_laws.proofs.Holding.{head-later, reaches, view-behind, view-held, view-there}
 use Rattle.dr_world_laws.proofs.Letters.{IsLetter}
 use Rattle.dr_world_laws.proofs.Reached as worlds
 use Rattle.dr_world_laws.proofs.Worlds.{Known, accepts_so, known_late}
@@ -62,7 +62,7 @@ pub view-once : (g : Group) (w : World) (v one other : ℕ) → IsGroup g → Kn
 view-once g w v one other is y h k =
     sym (view-is g y.values w v one is y.chosen h) ∙ view-is g y.values w v other is y.chosen k
 
--- a letter is the head of the first view that its member is in
+-- a letter is the head of the first view that its member is in, and the welcomer gave it
 pub head-for : (g : Group) (w : World) (j : ℕ) (l : List Entry) → IsGroup g → Known g w
     → w.letter j ≡ Some l → IsHeadFor g w j l
 head-for g w j l is y e = record {
@@ -74,13 +74,19 @@ head-for g w j l is y e = record {
   view = t.view;
   members = views_by g y.values t.view;
   is = t.is ∙ h.1;
-  later = omega (arith, t.next);
   member = t.member;
   first = λ v others c there.
       let held = course_views g.opening w.past.sent (endings_by g.opening y.values) t.view 0 v others is.sound
       (subst (λ es. Contains es (View g.opening.age v others))
       (t.is ∙ sym (course-head g.opening w.past.sent (endings_by g.opening y.values) t.view)) c) in
       by v (ap (λ k. has k j) held.1 ∙ there) held.0 (cases_lt v t.view);
+  from = t.from;
+  next = t.next;
+  earlier = views_by g y.values t.from;
+  came = view-behind g y.values w t.from l (subst (IsPrefixOf (head_by g y.values w t.from)) (sym t.is)
+      (head-later g y.values w t.from t.view (omega (arith, t.next))));
+  welcomer = record { was = t.was; stays = t.stays; least = t.least };
+  gave = (y.chosen.letters.letters j l e).1;
 }
   where
     t : IsLetter g y.values w j l

@@ -1,6 +1,6 @@
 -- The start, View 0, and the merge of what the start leaves have all messages, and an age that starts with
 -- them leaves none.
-use Rattle.std.proofs.Common.{Contains, List, Some, [], ap, append-nil, arith, fold, length, length-append, lt_of_mul-lt-mul_right, map, max, slice_get, slice_index_or, subst, suc, suc-mul, sym, take, mul-le-mul_right, mul_comm, ℕ, ◌*◌, ◌+◌, ◌++◌, ◌-◌, ◌<◌, ◌∙◌, ◌≡◌, ◌≤◌}
+use Rattle.std.proofs.Common.{Contains, List, Some, [], ap, append-nil, arith, fold, length, length-append, lt_of_mul-lt-mul_right, map, max, slice_get, slice_index_or, subst, suc, suc-mul, sym, take, mul-le-mul_right, mul_comm, ℕ, ◌*◌, ◌+◌, ◌++◌, ◌<◌, ◌∙◌, ◌≡◌, ◌≤◌}
 use Rattle.std.proofs.lemmas.List.{length-map, take_all}
 use Rattle.std.proofs.lemmas.List.FromFn.{length-map-range_with_len}
 use Rattle.std.proofs.lemmas.Option.{slice_get-get_or, slice_get_within}

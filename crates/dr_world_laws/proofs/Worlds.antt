@@ -174,6 +174,13 @@ past_since g (u ∷ us) early late is way c =
         let t = rest before in
         (past_on early.past u.past late.past t.0 (past_next g us u late is way.0 way.1), t.1)
 
+-- what everybody has at the opening stays durable
+pub first_durable : (g : Group) (w : World) → IsGroup g → IsReached g w
+    → (m : ℕ) → length (first_entries g.opening) ≤ w.past.durable m
+first_durable g w is r = reached g (λ u. (m : ℕ) → length (first_entries g.opening) ≤ u.past.durable m)
+    (λ u e run can y m. omega (arith, y m, (past_grew g u e is (known g u is run) can).durable m))
+    (λ u table y. y) (λ m. omega arith) w r
+
 -- values that are committed in one view on one way are equal
 pub commit_since : (g : Group) (us : List World) (early late : World) (m k : ℕ) (u v : Value) → IsGroup g
     → Way g us late → Contains (late ∷ us) early → early.committed m ≡ Some u → late.committed k ≡ Some v

@@ -7,7 +7,7 @@
 //! `docs/PROOFS.md` shows how.
 #![tactic(auto)]
 
-ghost use Rattle.std.specs.Prelude.{◌≡◌, ◌≢◌, ℕ, ◌*◌, ◌+◌, ◌<◌, ◌≤◌, true, false, List, [], ◌∷◌, ◌++◌, All, Contains, length, None, Some};
+ghost use Rattle.std.specs.Prelude.{◌≡◌, ◌≢◌, ◌⊎◌, ℕ, ◌*◌, ◌+◌, ◌<◌, ◌≤◌, true, false, List, [], ◌∷◌, ◌++◌, All, Contains, length, None, Some};
 ghost use Rattle.dr_entry.specs.declared.end.End.TheVariants.{Done, Suspected, NoMajority};
 ghost use Rattle.dr_entry.specs.declared.entry.Entry.{Entry};
 ghost use Rattle.dr_entry.specs.declared.entry.Entry.TheVariants.{View};
@@ -74,10 +74,12 @@ pub fn views_end_by_votes()
         × (next ≡ next_members members x.leavers) }
 {}
 
-/// In every world that a group reaches a letter for a late member is a front part of what some member has
-/// delivered, up to and with the first View that names the late one, and it goes on from what this one has. It
-/// is given once: whoever may give it finds that there is none yet, and who has given one in its view finds it
-/// there.
+/// In every world that a group reaches a letter for a late member is a front part of what its giver has
+/// delivered, up to and with the first View that names the late one, and it goes on from what this one has.
+/// The giver is the least of those that are in this view and were in the one before. The letter is given
+/// once: whoever may give it finds that there is none yet. It is there exactly where it was given: who has
+/// given one in its view finds it there, and the giver of one that is there has it as given until it leaves
+/// the view.
 pub fn letters_are_given_once()
     ensures heads { (g : Group) (w : World) (j : ℕ) (letter : List Entry) → IsGroup g → IsReached g w
         → w.letter j ≡ Some letter → IsHeadFor g w j letter }
@@ -202,18 +204,18 @@ pub fn histories_hold_messages()
         → m < roster g → All IsValidEntry (w.past.history m) }
 {}
 
-/// A member that has ended as done has delivered all messages that the script gives the members of its
-/// view, and knows its whole history to be durable. Nobody has a message that it lacks, but for those of late
-/// members, which may come into a later view. Behind the View
-/// that it is in lies the merge of all that was sent in this view. Members that are done in the same view
-/// have the same history.
+/// A member that has ended as done has delivered all messages that the script gives the members of its view,
+/// and knows its whole history to be durable. Nobody has a message that it lacks, but for those of late
+/// members that aren't in its view, which may come into a later one. Behind the View that it is in lies the
+/// merge of all that was sent in this view. Members that are done in the same view have the same history.
 pub fn done_members_hold_all()
     ensures whole { (g : Group) (w : World) (m : ℕ) → IsGroup g → IsReached g w
         → m < roster g → w.end m ≡ Some Done → HoldsAll g w m }
     ensures durable { (g : Group) (w : World) (m : ℕ) → IsGroup g → IsReached g w
         → m < roster g → w.end m ≡ Some Done → w.past.durable m ≡ length (w.past.history m) }
     ensures lacks_none { (g : Group) (w : World) (m k s : ℕ) → IsGroup g → IsReached g w
-        → ¬ IsLateIn g.opening s → m < roster g → w.end m ≡ Some Done → k < roster g
+        → (¬ IsLateIn g.opening s) ⊎ (has (w.members m) s ≡ true)
+        → m < roster g → w.end m ≡ Some Done → k < roster g
         → IsPrefixOf (messages_from s (w.past.history k)) (messages_from s (w.past.history m)) }
     ensures merged { (g : Group) (w : World) (m : ℕ) → IsGroup g → IsReached g w
         → m < roster g → w.end m ≡ Some Done → (values : Values) × IsMerged g values w m }
