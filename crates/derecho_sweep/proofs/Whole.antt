@@ -1,9 +1,6 @@
 -- Scripts of which all stays.
-use Rattle.std.proofs.Common.{◌≡◌, ◌∙◌, inl, inr, refl, ap, subst, sym, ℕ, zero, suc, ◌+◌, arith, Bool, true, Global, if◌then◌else◌, List, [], ◌∷◌, drop, length, replicate, unwrap_or, Result, Ok, Err, IfOk, String, string_bytes}
+use Rattle.std.proofs.Common.{◌≡◌, ◌∙◌, refl, ap, subst, sym, ℕ, zero, suc, ◌+◌, arith, Bool, true, Global, if◌then◌else◌, List, [], ◌∷◌, drop, length, Result, Ok, Err, IfOk, String, string_bytes}
 use Rattle.std.specs.List.{enumerate_from, flat_map}
-use Rattle.std.proofs.lemmas.List.{get_or-replicate, length-replicate}
-use Rattle.std.proofs.lemmas.Option.{slice_get-get_or, slice_get_past}
-use Rattle.std.proofs.lemmas.Bool.{cases_lt}
 use Rattle.dr_json.specs.Json.{script_json}
 use Rattle.dr_script.specs.declared.script.Script.{Script}
 use Rattle.derecho_sweep.specs.Outcomes.{TextEndsSo}
@@ -13,17 +10,6 @@ use Rattle.derecho_sweep.specs.Shrinking.{EndsSoWith, IsSmaller}
 -- everything stays
 abbrev pub AllStay : List Bool → Type 0
 AllStay keeps = (n : ℕ) → stays keeps n ≡ true
-
-pub replicate_stays : (count : ℕ) → AllStay (replicate count true)
-replicate_stays count n = elim (cases_lt n count) [
-  | inl within ↦
-      ap (λ o. unwrap_or o true)
-      (slice_get-get_or (replicate count true) n true (omega (arith, within, length-replicate count true)))
-      ∙ get_or-replicate count n true true within
-  | inr past ↦
-      ap (λ o. unwrap_or o true)
-      (slice_get_past (replicate count true) n (omega (arith, past, length-replicate count true)))
-]
 
 stays_behind : (n : ℕ) (keeps : List Bool) (k : ℕ) → stays (drop n keeps) k ≡ stays keeps (n + k)
 stays_behind zero keeps k = let same : k ≡ zero + k = omega arith in ap (stays keeps) same

@@ -119,23 +119,12 @@ pub after_take : (word : ℕ) (letter : Option (List Entry)) (o : Outcome) (r : 
     → after_deed word letter o r s ≡ settled (took_letter letter r)
 after_take word letter o r s is = ap (after_deed word letter o r) is
 
--- an append is done by how it goes, and leaves the words and the letters as they are
+-- an append is done by how it goes
 pub after_append : (word : ℕ) (letter : Option (List Entry)) (o : Outcome) (r : Running) (s : Step)
     → IsAppend s → after_deed word letter o r s ≡ appended_as o r
 after_append word letter o r Append is = refl
 after_append word letter o r (LogVote v) is = refl
 after_append word letter o r s is = absurd is
-
-pub posted_append : (letters : List (Option (List Entry))) (r : Replica) (s : Step) → IsAppend s
-    → stored_letters letters r s ≡ letters
-posted_append letters r Append is = refl
-posted_append letters r (LogVote v) is = refl
-posted_append letters r s is = absurd is
-
-pub stored_append : (words : List ℕ) (r : Replica) (s : Step) → IsAppend s → stored words r s ≡ words
-stored_append words r Append is = refl
-stored_append words r (LogVote v) is = refl
-stored_append words r s is = absurd is
 
 -- and it ends nobody
 pub unended_append : (word : ℕ) (r : Replica) (s : Step) → IsAppend s → (stepped word r s).end ≡ r.end

@@ -5,7 +5,7 @@ use Rattle.std.proofs.lemmas.List.{length-map}
 use Rattle.std.specs.Prelude.{All, IsTrue, Option, None, Some, is_some, option_map, slice_get, slice_index_or, unwrap_or}
 use Rattle.std.proofs.lemmas.Option.{get_or_from_slice_get, same_Some, slice_get-get_or, slice_get_within}
 use Rattle.std.proofs.lemmas.List.Elements.{All-drop, All-take}
-use Rattle.std.proofs.lemmas.List.Sums.{sum_by-append, sum_by-le}
+use Rattle.std.proofs.lemmas.List.Sums.{sum_by-le}
 use Rattle.dr_disk.specs.Disk.{Told}
 use Rattle.dr_entry.specs.declared.end.End.{End}
 use Rattle.dr_entry.specs.declared.end.End.TheVariants as ends
@@ -20,7 +20,7 @@ use Rattle.dr_entry.specs.Spelling.{IsValidEntry, vote_spelling}
 use Rattle.dr_entry.proofs.Trims.{counts_length}
 use Rattle.dr_history.specs.Order.{first_entries}
 use Rattle.dr_log.specs.State.{LogState}
-use Rattle.dr_log.specs.Standing.{log_length, votes_length}
+use Rattle.dr_log.specs.Standing.{votes_length}
 use Rattle.dr_log.proofs.Growing.{short_block, short_log_length}
 use Rattle.dr_log_bytes.specs.Content.{block_length}
 use Rattle.dr_machine.specs.Group.{Group, IsGroup, IsPresent, banks, roster}
@@ -218,15 +218,6 @@ short_votes vs few =
     let votes = sum_by-le (λ (v : Vote). 1 + length (vote_spelling v)) 73 vs
     (λ k d l. short_vote (slice_index_or vs k d) (few k d l)) in
     omega (arith, votes)
-
--- so a log of some votes, with these entries and votes more, is no longer than this
-pub long_log : (vs : List Vote) (es : List Entry) (ws : List Vote) → All IsValidEntry es
-    → All (λ (v : Vote). v.members ≤ MAX_MEMBERS) ws
-    → log_length es (vs ++ ws) ≤ log_length [] vs + 72 * length es + 73 * length ws
-long_log vs es ws valid few =
-    let entries = short_log_length es valid in
-    let both = sum_by-append (λ (v : Vote). 1 + length (vote_spelling v)) vs ws in
-    omega (arith, entries, both, short_votes ws few)
 
 -- the votes of a member in the program's world
 votes_there : (g : Group) (p : Program) (m : ℕ) (r : Running) → IsSound g p

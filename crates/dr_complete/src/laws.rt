@@ -66,7 +66,8 @@ pub fn lockstep_completes()
 /// nobody is late, where all appends go well.
 pub fn scripts_complete()
     ensures { (script : Script) (start : Start) (nth : ℕ) (begun p : Program) (es : List Move)
-        → IsGroup (group_of script start) → AllPresent (group_of script start) → IsNobodyLate (group_of script start).opening
+        → IsGroup (group_of script start) → AllPresent (group_of script start)
+        → IsNobodyLate (group_of script start).opening
         → HasRanges script → HasTime script → IsBegun script start nth begun → AllOk es → IsLockstep begun es p
         → AreComplete (group_of script start).opening (map end_at p.members) }
 {}

@@ -1,5 +1,5 @@
 -- The letters that the generator gives, one after the other.
-use Rattle.std.proofs.Common.{◌≡◌, ℕ, zero, suc, ◌+◌, ◌*◌, ◌<◌, ◌≤◌, ◌/◌, ◌^◌, get_or, mod-lt, List, [], ◌∷◌, ◌++◌, length, refl, ap, sym, ◌∙◌, arith}
+use Rattle.std.proofs.Common.{◌≡◌, ℕ, zero, suc, ◌+◌, ◌*◌, ◌<◌, ◌/◌, ◌^◌, get_or, mod-lt, List, [], ◌∷◌, ◌++◌, length, refl, ap, sym, ◌∙◌, arith}
 use Rattle.std.proofs.lemmas.List.FromFn.{fill_by_all, map-range_with_len_more}
 use Rattle.std.specs.Prelude.{map}
 use Rattle.std.specs.List.{range_with_len}
@@ -59,11 +59,6 @@ messages-add x m j = same_map (message (state_after x (32 * 400 * m))) (message 
     (λ k. moved (λ n. message (state_after x n) (400 * j + k)) (32 * 400 * m) (32 * (400 * m)) (omega arith)
     ∙ message-add x (400 * m) (400 * j + k)
     ∙ moved (message x) (400 * m + (400 * j + k)) (400 * (m + j) + k) (omega arith))
-
--- a letter is one of the 26 from a on
-pub letter-least : (x n : ℕ) → 97 ≤ letter x n
-unfolding letter
-letter-least x n = omega arith
 
 pub letter-most : (x n : ℕ) → letter x n < 123
 unfolding letter

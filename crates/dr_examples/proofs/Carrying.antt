@@ -4,7 +4,7 @@ use Rattle.std.specs.Prelude.{◌-◌, None, Option, Some, drop, slice_index_or,
 use Rattle.std.proofs.lemmas.List.Elements.{All-contains_itself, All-drop, All-push, All-take, All-weaker, Contains-append_left, Contains-append_right, Contains-push}
 use Rattle.std.proofs.lemmas.List.{get_or_default}
 use Rattle.dr_age.specs.Sound.{IsSound}
-use Rattle.dr_age.proofs.Deeds.{after_append, any_outcome, deed_tells, posted_append, stored_append}
+use Rattle.dr_age.proofs.Deeds.{after_append, any_outcome, deed_tells}
 use Rattle.dr_entry.specs.declared.record.Record.{Record}
 use Rattle.dr_logged.specs.Appended.{is_append}
 use Rattle.dr_machine.specs.Group.{Group}
@@ -25,7 +25,7 @@ use Rattle.dr_program.specs.declared.packet.Packet.{Packet}
 use Rattle.dr_program_laws.proofs.Carried.{carried_among, carried_begins, carried_place, carried_pushes}
 use Rattle.dr_program_laws.proofs.Keeping.{move_kept, sees}
 use Rattle.dr_program_laws.specs.Carried.{IsCarried}
-use Rattle.dr_refine.proofs.Deeds.{step_is}
+use Rattle.dr_refine.proofs.Deeds.{append_gives, append_stores, step_is}
 use Rattle.dr_words.specs.Layout.{words_of}
 use Rattle.dr_examples.specs.Led.{LettersByNumber, over}
 
@@ -130,8 +130,8 @@ appends P p m r x due is there next member =
     let t = deed_tells p.table r (deeds.Append due) next in
     moved_on P p m r x p.table is there t.none
     (member 0 ∙ sym (after_append (next_sight p.table r) (letter_for p m) Ok r (next_step r) t.says.0))
-    (sym (stored_append p.table r.replica (next_step r) t.says.0))
-    (posted_append p.letters r.replica (next_step r) t.says.0)
+    (sym (append_stores p.table r.replica (next_step r) t.says.0))
+    (append_gives p.letters r.replica (next_step r) t.says.0)
 
 -- ---- over a net
 

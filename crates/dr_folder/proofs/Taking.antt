@@ -1,11 +1,10 @@
 -- What is known of each file of a folder, by member, as one more is looked at, and of files of which one is put
 -- back.
-use Rattle.std.proofs.Common.{◌≡◌, ◌⊎◌, inl, inr, refl, sym, ap, ◌∙◌, subst, arith, ℕ, ◌+◌, ◌<◌, ◌≤◌, true, List, [], ◌∷◌, ◌++◌, length, get_or, length-append, Option, None, Some, is_some}
+use Rattle.std.proofs.Common.{◌≡◌, ◌⊎◌, inl, inr, sym, ap, ◌∙◌, subst, arith, ℕ, ◌+◌, ◌<◌, ◌≤◌, true, List, [], ◌∷◌, ◌++◌, length, get_or, length-append, Option, None, Some, is_some}
 use Rattle.std.specs.Prelude.{option_map, slice_get, slice_index_or, slice_set}
 use Rattle.std.proofs.lemmas.Bool.{cases_lt}
 use Rattle.std.proofs.lemmas.List.{get_or_append_left, get_or_push, map-append, set-get_or, set-set}
 use Rattle.std.proofs.lemmas.Option.{same_Some}
-use Rattle.dr_history_laws.proofs.Lists.{slice_get-push_cases}
 use Rattle.dr_log.specs.State.{LogState}
 use Rattle.dr_log_bytes.specs.Content.{OnLog}
 use Rattle.dr_opening.proofs.Lists.{within_places}
@@ -16,28 +15,10 @@ use Rattle.dr_folder.specs.declared.survey.Survey.{Survey}
 use Rattle.dr_folder.specs.Foretold.{AreTakenFor, IsTakenFor, file_in}
 use Rattle.dr_folder.specs.Surveys.{IsSurvey}
 
--- what holds of each element of a list, by its place, holds of each where there is one more
-pub each_more : {X : Type 0} (P : ℕ → X → Type 0) (xs : List X) (y : X) (n : ℕ)
-    → ((m : ℕ) (x : X) → slice_get xs m ≡ Some x → P m x) → length xs ≡ n → P n y
-    → (m : ℕ) (x : X) → slice_get (xs ++ y ∷ []) m ≡ Some x → P m x
-each_more {X} P xs y n each long is m x here = by (slice_get-push_cases xs y x m here)
-  where
-    by : ((m < length xs) × (slice_get xs m ≡ Some x)) ⊎ ((m ≡ length xs) × (y ≡ x)) → P m x
-    by (inl old) = each m x old.1
-    by (inr new) = subst (λ (j : ℕ). P j x) (sym (new.0 ∙ long)) (subst (λ (z : X). P n z) new.1 is)
-
 -- the first n files have these
 pub record AreFirstSurveys (n : ℕ) (files : List LogFile) (surveys : List Survey) : Type 0 where
   pub count : length surveys ≡ n
   pub each : (m : ℕ) (survey : Survey) → slice_get surveys m ≡ Some survey → IsSurvey (file_in files m) survey
-
-pub surveys_more : (n : ℕ) (files : List LogFile) (surveys : List Survey) (survey : Survey)
-    → AreFirstSurveys n files surveys → IsSurvey (file_in files n) survey
-    → AreFirstSurveys (n + 1) files (surveys ++ survey ∷ [])
-surveys_more n files surveys survey are is = record {
-  count = omega (arith, length-append surveys (survey ∷ []), are.count);
-  each = each_more (λ (m : ℕ) (s : Survey). IsSurvey (file_in files m) s) surveys survey n are.each are.count is;
-}
 
 -- what is in each place of a list, one of which was put behind it
 pushed_cases : {X : Type 0} (xs : List (Option X)) (y : Option X) (m n : ℕ) → length xs ≡ n → m < n + 1
@@ -88,14 +69,6 @@ log_taken {D} n files logs log are is =
     subst (λ (contents : List (Option OnLog)). AreTakenFor (n + 1) files contents)
     (sym (map-append (option_map (λ (log : LogState D). log.content)) logs (Some log ∷ [])))
     (taken_more n files (contents_of logs) log.content are is)
-
--- before the first
-pub none_taken : (files : List LogFile) → AreTakenFor 0 files []
-none_taken files = record {
-  all = refl;
-  there = λ m below. absurd (omega (arith, below));
-  each = λ m c at. absurd (cc at);
-}
 
 -- a file that was moved away is put back
 pub put_back : (files : List LogFile) (member : ℕ) (away file d : LogFile) → file ≡ get_or files member d

@@ -4,4 +4,3 @@ pub mod Following
 pub mod Grouping
 pub mod Logs
 pub mod Refusing
-mod Rosters

@@ -19,7 +19,8 @@ ghost use Rattle.dr_gather.specs.Leaving.{LeaveLogs};
 ghost use Rattle.dr_gather.specs.Parts.{AreFirstPartsOf, AreOnTheWay};
 
 /// The start that logs make is that of a group of the script, if there is a number left for its age, the whole
-/// roster is there, and nobody is late. Its entries can be written on a log, and each of the logs has the first ones of them.
+/// roster is there, and nobody is late. Its entries can be written on a log, and each of the logs has the first
+/// ones of them.
 pub fn starts_are_sound()
     ensures group { (script : Script) (lists : List (List Entry)) (start : Start) → HasGroupRanges script
         → start.age < 2 ^ 16 → IsStartOf script lists start → IsGroup (group_of script start) }

@@ -1,5 +1,5 @@
 -- What is read of a source, and by which line a text that is no script is refused.
-use Rattle.std.specs.Prelude.{◌≡◌, ◌≢◌, ℕ, ◌<◌, ◌≤◌, List, length, Option, None, Some}
+use Rattle.std.specs.Prelude.{◌≡◌, ℕ, ◌<◌, ◌≤◌, List, length, Option, None, Some}
 use Rattle.dr_io.specs.Source.{Loses, IsUsedUp}
 use Rattle.dr_script.specs.declared.script.Script.{Script}
 use Rattle.dr_script.specs.Reading.{Reading, TooLong, NotJson, Wrong, Reads, reading_of}
@@ -19,11 +19,6 @@ WasRead = WasReadTo 1048577
 -- what was read is this script
 abbrev pub IsScript : Option (List ℕ) → Option (List ℕ) → Script → Type 0
 IsScript old new s = (bytes : List ℕ) × WasRead old new bytes × (reading_of bytes ≡ Reads s)
-
--- what was read is no script
-abbrev pub IsNoScript : Option (List ℕ) → Option (List ℕ) → Type 0
-IsNoScript old new =
-    (bytes : List ℕ) × WasRead old new bytes × ((s : Script) → reading_of bytes ≢ Reads s)
 
 -- the last line by which a text that is no script is refused
 abbrev pub refusal_in : Reading → Option Last

@@ -23,7 +23,7 @@ use Rattle.dr_refine.proofs.Steps.{begun_is_program}
 use Rattle.dr_turn.proofs.Search.{settle_only}
 use Rattle.dr_program_laws.specs.Failing.{AreFailing, EndsBy, IsFailing, has_log_end}
 use Rattle.dr_program_laws.proofs.Failing.{all_fail, move_fails}
-use Rattle.dr_program_laws.proofs.Keeping.{begun_reached}
+use Rattle.dr_program_laws.proofs.Keeping.{begun_reached, take_leaves}
 use Rattle.dr_program_laws.proofs.Programs.{ran_keeps, replaced_either}
 
 -- no vote waits where an append has failed
@@ -65,18 +65,8 @@ takes_idle word r none is idle why failed =
 -- nor at a take, whether it finds a letter or none
 letter_idle : (letter : Option (List Entry)) (r : Running) → IsIdleFailed r
     → IsIdleFailed (settled (took_letter letter r))
-letter_idle letter r idle why failed = ap (λ (x : Running). x.replica.pending) only
-    ∙ (same letter).0 ∙ idle why (sym (same letter).1 ∙ (sym (ap (λ (x : Running). x.failed) only) ∙ failed))
-  where
-    only : settled (took_letter letter r) ≡ record (took_letter letter r) {
-      place = (settled (took_letter letter r)).place;
-    }
-    only = settle_only _ (took_letter letter r)
-
-    same : (letter : Option (List Entry)) → ((took_letter letter r).replica.pending ≡ r.replica.pending)
-        × ((took_letter letter r).failed ≡ r.failed)
-    same None = (refl, refl)
-    same (Some es) = (refl, refl)
+letter_idle letter r idle why failed =
+    let leaves = take_leaves letter r in leaves.2 ∙ idle why (sym leaves.1 ∙ failed)
 
 move_idle : (p : Program) (e : Move) (g : Group) → IsProgram g p → AreFailing p → AreIdleFailed p
     → AreIdleFailed (step_of p e)

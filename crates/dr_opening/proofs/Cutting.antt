@@ -48,11 +48,6 @@ common_along g h n (inr part) is =
     here = ap (λ k. take k g) (omega (arith, is, prefix_shorter h g part)) ∙ ap (take (length h)) (sym part.1)
         ∙ take_at h part.0 (length h) refl
 
--- where that is all of the first list it is a front of the other
-pub front_if_all : (g h : List Entry) (n : ℕ) → IsCommonFront g h (take n g) → n ≡ length g → IsPrefixOf g h
-front_if_all g h n common is =
-    subst (λ l. IsPrefixOf l h) (take_all n g (omega (arith, is))) common.of_other
-
 -- and where it isn't a cut is due
 pub due_if_less : (entries : List Entry) (c : OnLog) (n : ℕ) → IsCommonFront c.entries entries (take n c.entries)
     → n < length c.entries → IsCutDue entries c n

@@ -2,7 +2,7 @@
 use Rattle.std.proofs.Common.{◌≡◌, refl, ap, sym, ◌∙◌, ⊎_elim, ℕ, ◌<◌, ◌≤◌, arith, Bool, true, false, List, [], ◌∷◌, ◌++◌, length, map, take, ◌+◌, get_or, Option, None, Some}
 use Rattle.std.specs.Prelude.{if◌then◌else◌, option_map, slice_index_or}
 use Rattle.std.proofs.lemmas.Bool.{cases_lt}
-use Rattle.std.proofs.lemmas.List.{get_or-map, get_or_past, get_or_read_under, length-map, take_all, take_more}
+use Rattle.std.proofs.lemmas.List.{get_or-map, get_or_past, get_or_read_under, length-map, take_more}
 use Rattle.dr_entry.specs.declared.record.AgeVote.{AgeVote}
 use Rattle.dr_entry.specs.declared.record.Record.TheVariants as records
 use Rattle.dr_log.specs.Standing.{in_newer_format, with_age_vote}
@@ -55,16 +55,6 @@ next_listed {D} logs i x within is =
     (mapped_at as_lists (contents_of logs) i ∙ ap (option_map as_lists)
     (content_is logs i ∙ ap (option_map (λ (log : LogState D). log.content))
     (sym (get_or_read_under logs i (length logs) x None is within refl))))
-
--- and all of them
-pub all_listed : {D : Type 0} (logs : List (Option (LogState D))) (n : ℕ) → length logs ≤ n
-    → take n (all_as_lists (contents_of logs)) ≡ all_as_lists (contents_of logs)
-all_listed {D} logs n past = take_all n (all_as_lists (contents_of logs)) (omega (
-  arith,
-  past,
-  length-map logs (option_map (λ (log : LogState D). log.content)),
-  length-map (contents_of logs) (option_map as_lists),
-))
 
 -- ---- an upgrade changes no list, and an age vote is added to those that there are
 

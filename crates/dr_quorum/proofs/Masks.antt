@@ -70,9 +70,6 @@ pub record HasThoseBelow (logs : List (Option LogLists)) (members m mask : ℕ) 
   pub small : mask < 2 ^ 16
   pub those : (i : ℕ) → has mask i ≡ (nat_lt i m && is_handed logs members i)
 
-pub none_below : (logs : List (Option LogLists)) (members : ℕ) → HasThoseBelow logs members 0 0
-none_below logs members = record { small = omega arith; those = λ i. grind (arith, has_zero i) }
-
 pub one_below : (logs : List (Option LogLists)) (members m mask : ℕ) → m < 16
     → is_handed logs members m ≡ true → HasThoseBelow logs members m mask
     → HasThoseBelow logs members (m + 1) (with_member mask m)

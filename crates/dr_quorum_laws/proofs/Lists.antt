@@ -36,17 +36,6 @@ in-read xs k x e = (k, slice_get_within xs k x e, get_or_from_slice_get xs k x x
 pub read-in : {A : Type 0} (xs : List A) (x : A) → Contains xs x → (k : ℕ) × (slice_get xs k ≡ Some x)
 read-in xs x c = (c.0, slice_get-get_or xs c.0 x c.1 ∙ ap Some c.2)
 
--- an element stands between those before it and those behind it
-pub split-at : {A : Type 0} (xs : List A) (x : A) → Contains xs x
-    → (before : List A) × (behind : List A) × (xs ≡ before ++ x ∷ behind)
-split-at [] x c = absurd (in-nothing x c)
-split-at {A} (y ∷ xs) x c = by (λ h. split-at xs x h) (in-cases y x xs c)
-  where
-    by : (Contains xs x → (before : List A) × (behind : List A) × (xs ≡ before ++ x ∷ behind))
-        → (y ≡ x) ⊎ Contains xs x → (before : List A) × (behind : List A) × (y ∷ xs ≡ before ++ x ∷ behind)
-    by rest (inl e) = ([], xs, ap (λ z. z ∷ xs) e)
-    by rest (inr h) = let r = rest h in (y ∷ r.0, r.1, ap (λ l. y ∷ l) r.2)
-
 pub in-split : {A : Type 0} (before behind : List A) (x : A) → Contains (before ++ x ∷ behind) x
 in-split before behind x = Contains-append_right before (x ∷ behind) x (in-head x behind)
 

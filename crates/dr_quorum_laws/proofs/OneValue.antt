@@ -29,7 +29,7 @@ use Rattle.dr_world_laws.specs.Views.{HasView}
 use Rattle.dr_restart.specs.Left.{AreLeft, AreLeftOf, MayLogVote, votes_of_age, votes_on_logs, without_ends}
 use Rattle.dr_quorum_laws.proofs.Ended.{view-present}
 use Rattle.dr_quorum_laws.proofs.Extra.{endless-known}
-use Rattle.dr_quorum_laws.proofs.Handing.{left-vote, logged-left, was-left}
+use Rattle.dr_quorum_laws.proofs.Handing.{logged-left, was-left}
 use Rattle.dr_quorum_laws.proofs.Lists.{filter-in, in-filter, in-nothing, in-read, read-in}
 
 -- a vote of one member takes no vote from another
@@ -93,13 +93,6 @@ absent-none : (g : Group) (w : World) (logs : List LogLists) (i : ℕ) (x : Vote
 absent-none g w logs i x left absent h =
     let t = vote-left g logs i x h in
     omega (arith, (left.others i t.0 absent t.1).earlier.votes x t.2, t.3)
-
--- what a member has left is what it had logged, or what it may have begun to log
-present-left : (g : Group) (w : World) (logs : List LogLists) (i : ℕ) (x : Vote) → AreLeft g w logs
-    → IsPresent g i → HasLogged (votes_on_logs g logs) i x → HasLogged w.past.votes i x ⊎ MayLogVote g w i x
-present-left g w logs i x left there h =
-    let t = vote-left g logs i x h in
-    left-vote g w i t.0 x (left.members i t.0 there t.1) t.2 t.3
 
 -- of a member, all such are one vote: the last one
 one-left : (g : Group) (w : World) (logs : List LogLists) (i : ℕ) → AreLeft g w logs → IsPresent g i

@@ -109,10 +109,6 @@ vote_names g w i members x is y held h = names_so (roster g) g.opening.age x.vie
 
 -- ---- a vote among those on the logs handed in
 
-votes_on : Handed → ℕ → ℕ → ℕ → ℕ → ℕ → List Vote
-votes_on h n age v members m =
-    filter (names_next n age v members) (option_map_or (λ log. log.votes) (h m) [])
-
 pub vote-among : (h : Handed) (n age v members i : ℕ) (log : LogLists) (x : Vote) → h i ≡ Some log
     → has members i ≡ true → i < 16 → Contains log.votes x → names_next n age v members x ≡ true
     → Contains (next_votes h n age v members) x

@@ -190,10 +190,10 @@ rest_changes_nothing p e r there rests = by r.replica.end refl rests
     by (Some x) ended t = ap (λ o. moved_by p o e) there ∙ ap (went p r e) ended
 
 -- an append leaves the table and the letters
-append_stores : (table : List ℕ) (q : Replica) (s : Step) → IsAppend s → stored table q s ≡ table
+pub append_stores : (table : List ℕ) (q : Replica) (s : Step) → IsAppend s → stored table q s ≡ table
 append_stores table q s is = grind (arith, is)
 
-append_gives : (letters : List (Option (List Entry))) (q : Replica) (s : Step) → IsAppend s
+pub append_gives : (letters : List (Option (List Entry))) (q : Replica) (s : Step) → IsAppend s
     → stored_letters letters q s ≡ letters
 append_gives letters q s is = grind (arith, is)
 

@@ -306,7 +306,7 @@ act_effect g rs table m r (acts.Crash end) is may = end_effect g rs table m r en
 
 -- ---- room
 
-count_written : (count : ℕ → ℕ → ℕ → ℕ) (m v s x : ℕ)
+pub count_written : (count : ℕ → ℕ → ℕ → ℕ) (m v s x : ℕ)
     → at₂ count m v (at (count m v) s x) m v s ≡ x
 count_written count m v s x = grind arith
 

@@ -41,10 +41,10 @@ pub fn steps_are_effects()
         → world_of g (with_present rs m (joined r letter)) table ≡ joins (world_of g rs table) m }
 {}
 
-/// A deed of a running member is the step of its place: that may come, and the program's world after
-/// the move is its effect. A member that rests changes nothing, nor does a move that is no step change
-/// the world, or a take that doesn't find its letter, so a program that goes on from a reached world stays in reached ones. A program begins
-/// as one of its group, and a move keeps that where it keeps the form of the member that makes it.
+/// A deed of a running member is the step of its place: that may come, and the program's world after the move is
+/// its effect. A member that rests changes nothing, nor does a move that is no step change the world, or a take
+/// that doesn't find its letter, so a program that goes on from a reached world stays in reached ones. A program
+/// begins as one of its group, and a move keeps that where it keeps the form of the member that makes it.
 pub fn deeds_are_steps()
     ensures may_come { (g : Group) (p : Program) (e : Move) (r : Running) (s : Step) → IsGroup g
         → IsProgram g p → AreLetters p

@@ -19,7 +19,8 @@ use Rattle.dr_logged.specs.Appended.{is_append}
 use Rattle.dr_logged.proofs.Serving.{none_failed, settled_same}
 use Rattle.dr_member.specs.Deeds.{is_act}
 use Rattle.dr_turn.proofs.Parts.{end_stays, is_final}
-use Rattle.dr_age.proofs.Deeds.{IsStoreAt, after_append, after_take, any_outcome, deed_tells, posted_append, stored_append}
+use Rattle.dr_age.proofs.Deeds.{IsStoreAt, after_append, after_take, any_outcome, deed_tells}
+use Rattle.dr_refine.proofs.Deeds.{append_gives, append_stores}
 use Rattle.dr_sim.specs.Deeds.{IsTaken, SeesWell, outcome_by, own_letter, posted, stores, went_so}
 
 -- ---- a look
@@ -106,7 +107,7 @@ act_taken table posts r index word cells x is = let t = deed_tells table r (deed
 -- the table stays at an append
 table_at : (table : List ℕ) (r : Running) → IsAppend (next_step r)
     → table ≡ stored table r.replica (next_step r)
-table_at table r is = sym (stored_append table r.replica (next_step r) is)
+table_at table r is = sym (append_stores table r.replica (next_step r) is)
 
 -- a member at an append takes it where it goes well
 pub append_taken : (table : List ℕ) (posts : List (Option (List Entry))) (r : Running) (due : Record) (x : Running)
@@ -119,7 +120,7 @@ append_taken table posts r due x is member =
     is_taken table posts r table posts x t.none
     (member 0 ∙ sym (ap (λ o. after_deed (next_sight table r) (own_letter posts r) (outcome_by o) r (next_step r)) well
     ∙ after_append (next_sight table r) (own_letter posts r) Ok r (next_step r) t.says.0))
-    (table_at table r t.says.0) (sym (posted_append posts r.replica (next_step r) t.says.0))
+    (table_at table r t.says.0) (sym (append_gives posts r.replica (next_step r) t.says.0))
 
 -- and where it fails
 pub failure_taken : (table : List ℕ) (posts : List (Option (List Entry))) (r : Running) (due : Record)
@@ -129,7 +130,7 @@ failure_taken table posts r due why x is broken =
     let t = deed_tells table r (deeds.Append due) is in
     subst (IsTaken table posts r table posts) (sym broken) (is_taken table posts r table posts (broken_off why r) t.none
     (sym (after_append (next_sight table r) (own_letter posts r) (Failed why) r (next_step r) t.says.0))
-    (table_at table r t.says.0) (sym (posted_append posts r.replica (next_step r) t.says.0)))
+    (table_at table r t.says.0) (sym (append_gives posts r.replica (next_step r) t.says.0)))
 
 -- a member that gives a letter takes that deed, and the letter is there
 pub give_taken : (table : List ℕ) (posts : List (Option (List Entry))) (r : Running) (j : ℕ)

@@ -84,7 +84,8 @@ fn take_deed<D: Disk, W: Watcher>(
     requires within { m < length members.old }
     requires ready { AreReady logs.old members.old }
     requires lists { HaveSpares posts.old members.old }
-    ensures took { TookDeed group (program_over members.old table.old posts.old.letters) m (program_over members.new table.new posts.new.letters) }
+    ensures took { TookDeed group (program_over members.old table.old posts.old.letters) m
+        (program_over members.new table.new posts.new.letters) }
     ensures ended { result ≡ has_ended (present_at members.new m) }
     ensures ready { AreReady logs.new members.new }
     ensures lists { HaveSpares posts.new members.new }

@@ -32,8 +32,8 @@ use dr_world::Posts;
 use std::alloc::{AllocError, Global};
 use std::marker::Model;
 
-/// The running members of a group, over the words of one table and the letters for late members. Contracts see it as the machine's
-/// program.
+/// The running members of a group, over the words of one table and the letters for late members. Contracts see it
+/// as the machine's program.
 #[derive(Drop)]
 pub struct Simulation {
     members: Vec<Option<Member>>,

@@ -15,6 +15,7 @@ use Rattle.dr_machine.specs.World.{World, items_received, own_word}
 use Rattle.dr_machine.specs.Writes.{at, at₂, at₃, at₄}
 use Rattle.dr_program.specs.declared.place.Part.{Part}
 use Rattle.dr_program.specs.declared.place.Part.TheVariants as parts
+use Rattle.dr_refine.proofs.Tests.{count_written}
 use Rattle.dr_ring.specs.Slots.{IsReady}
 use Rattle.dr_words.specs.declared.column.TheConstants.{BEAT_COLUMN, DONE_COLUMN, LOGGED_COLUMN}
 use Rattle.dr_words.specs.Columns.{recv_column}
@@ -115,9 +116,6 @@ still_room g w v m n k view earlier (inr all) = inr (λ i other. omega (
   all i (record { member = ap (λ x. has x i) view ∙ other.member; other = other.other }),
 ))
 
-count_here : (count : ℕ → ℕ → ℕ → ℕ) (m v s x : ℕ) → at₂ count m v (at (count m v) s x) m v s ≡ x
-count_here count m v s x = grind arith
-
 sent_here : (sent : ℕ → ℕ → List SentItem) (m v : ℕ) (items : List SentItem)
     → at₂ sent m v items m v ≡ items
 sent_here sent m v items = grind arith
@@ -139,7 +137,7 @@ nulled_left g w m wants = (
     same = ap messages_in (sent_here w.past.sent m (w.past.view m) (sent ++ Null ∷ [])) ∙ messages_null sent
 
     more : items_received (nulls g w m) m m ≡ items_received w m m + 1
-    more = count_here w.past.count m (w.past.view m) m (items_received w m m + 1)
+    more = count_written w.past.count m (w.past.view m) m (items_received w m m + 1)
 
 -- what was pushed before an end, but for the beat word
 pub end_kept : (g : Group) (w : World) (m : ℕ) (end : End) (i c : ℕ)
