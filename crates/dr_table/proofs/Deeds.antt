@@ -9,13 +9,16 @@ use Rattle.dr_program.specs.declared.outcome.Outcome.{Outcome}
 use Rattle.dr_program.specs.declared.outcome.Outcome.TheVariants as outcomes
 use Rattle.dr_program.specs.Program.{IsRanFrom, Move, Program, after_deed, appended_as, next_sight, ran, step_of}
 use Rattle.dr_program.specs.Running.{Running, after_step, next_deed, next_step, settled, took, took_letter}
-use Rattle.dr_program.specs.Steps.{IsAppend, sight, stored, stored_letters}
+use Rattle.dr_program.specs.Steps.{IsAppend, sight, stepped, stored, stored_letters}
 use Rattle.dr_program.proofs.Fixed.{Told, join_told, told, step_told}
 use Rattle.dr_program.proofs.Runs.{ran_on}
-use Rattle.dr_refine.proofs.Deeds.{settle_replica, step_is}
-use Rattle.dr_age.proofs.Deeds.{IsStoreAt, after_append, after_take, deed_tells, posted_append, stored_append}
+use Rattle.dr_refine.proofs.Deeds.{append_gives, append_stores, settle_replica, step_is}
+use Rattle.dr_age.proofs.Deeds.{IsStoreAt, after_append, after_take, deed_tells}
 use Rattle.dr_history.specs.History.{up_to_view}
+use Rattle.dr_machine.specs.declared.step.Step.{Step}
+use Rattle.dr_machine.specs.declared.step.Step.TheVariants.{Append, LogVote}
 use Rattle.dr_program.specs.Reading.{letters_of}
+use Rattle.dr_program.specs.Replica.{Replica}
 use Rattle.dr_table.specs.Rule.{number}
 use Rattle.dr_table.specs.Deeds.{IsStore}
 use Rattle.dr_table.specs.Steps.{HasAppended}
@@ -78,6 +81,24 @@ pub appends_told : (os : List Outcome) (r q : Running) → HasAppended os r q
 appends_told [] r q same = ap (λ (x : Running). told x.replica) (sym same)
 appends_told (o ∷ os) r q (due, more) = appends_told os (appended_as o r) q more ∙ appended_told o r
 
+-- and appends give no letter
+appended_given : (o : Outcome) (r : Running) → is_append (next_deed r) ≡ true
+    → (appended_as o r).replica.given ≡ r.replica.given
+appended_given (outcomes.Failed why) r due = refl
+appended_given outcomes.Ok r due =
+    ap (λ (q : Replica). q.given) (settle_replica _ (took 0 r (next_step r)))
+    ∙ by (next_step r) (append_due r due).1
+  where
+    by : (s : Step) → IsAppend s → (stepped 0 r.replica s).given ≡ r.replica.given
+    by Append is = refl
+    by (LogVote v) is = refl
+    by s is = absurd is
+
+pub appends_given : (os : List Outcome) (r q : Running) → HasAppended os r q
+    → q.replica.given ≡ r.replica.given
+appends_given [] r q same = ap (λ (x : Running). x.replica.given) (sym same)
+appends_given (o ∷ os) r q (due, more) = appends_given os (appended_as o r) q more ∙ appended_given o r due
+
 pub same_number : (r x : Running) → told x.replica ≡ told r.replica → number x ≡ number r
 same_number r x same = ap (λ (t : Told). t.number) same
 
@@ -117,12 +138,12 @@ appends_ran begun words letters (o ∷ os) members m r q (due, more) there ran =
     let x = appended_as o r in
     let once : IsRanFrom begun (record { members = with_present members m x; table = words; letters = letters }) =
     subst (λ t. IsRanFrom begun (record { members = with_present members m x; table = t; letters = letters }))
-    (stored_append words r.replica (next_step r) step)
+    (append_stores words r.replica (next_step r) step)
     (subst (λ ls. IsRanFrom begun (record {
       members = with_present members m x;
       table = stored words r.replica (next_step r);
       letters = ls;
-    })) (posted_append letters r.replica (next_step r) step)
+    })) (append_gives letters r.replica (next_step r) step)
     (subst (λ y. IsRanFrom begun (record {
       members = with_present members m y;
       table = stored words r.replica (next_step r);

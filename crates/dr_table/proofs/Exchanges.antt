@@ -4,7 +4,9 @@ use Rattle.std.specs.Prelude.{None, Some, Option, Vec, slice_set}
 use Rattle.std.specs.declared.alloc.Global.{Global}
 use Rattle.std.proofs.lemmas.Bool.{cases_eq}
 use Rattle.std.proofs.lemmas.List.{set-get_or}
+use Rattle.std.proofs.lemmas.Option.{same_Some}
 use Rattle.atomic_table.specs.Table.{gives, keeps, takes, put_back, rest, Allows, Me}
+use Rattle.dr_age.proofs.Letters.{given_there}
 use Rattle.dr_entry.specs.declared.entry.Entry.{Entry}
 use Rattle.dr_history.specs.History.{up_to_view}
 use Rattle.dr_member.specs.Deeds.{table_size}
@@ -15,7 +17,7 @@ use Rattle.dr_table.specs.declared.rule.Errand.{Errand}
 use Rattle.dr_table.specs.declared.rule.View.{View}
 use Rattle.dr_table.specs.Rule.{HasSuchProgram, number}
 use Rattle.dr_table.specs.Slots.{Slot, slot_number}
-use Rattle.dr_table.specs.Steps.{Fetched, Homed, IsAhead, Opened, Peeked, Returned, busy, idle}
+use Rattle.dr_table.specs.Steps.{Fetched, HasFetched, Homed, IsAhead, Opened, Peeked, Returned, busy, idle}
 use Rattle.dr_table.proofs.Keeping.{Caught, catch_up, no_errand, no_slots, went_on}
 use Rattle.dr_table.proofs.Lists.{behind_read, by_table}
 use Rattle.dr_table.proofs.Posting.{about, fetched, free, homed, kept, missed, no_letter, noticed, opened, returned, sized, sound, stood}
@@ -104,7 +106,18 @@ peek_allowed dealt slots id index me e r q free_seat two here ahead next named a
                 (missed c.rule id w e.place q c.is refl c.here next nothing)),
             inr (
               other,
-              (c.rule.opening.group, kept c.rule, record { sound = sound c.rule; there = c.there }, nothing),
+              record {
+                may = (
+                  c.rule.opening.group,
+                  kept c.rule,
+                  record { sound = sound c.rule; there = c.there },
+                  nothing,
+                );
+                given = λ at p stands gave.
+                    let (letter, found) = given_there c.rule.opening.group (kept c.rule) (number p) (number q)
+                    p (sound c.rule) (stood c.rule id w at p c.is stands) gave in
+                    absurd (cc (nothing, found));
+              },
               λ z. (free (with_present hand e.place x), no_slots me free_seat z),
             ),
           )
@@ -154,21 +167,23 @@ fetch_allowed dealt slots id index me e q seen two here next named at s k _ is _
       ),
     )
 
-pub return_allowed : (dealt : List (Option Running)) (slots id index slot : ℕ) (me : Me Slot View) (e : Errand)
-    (q : Running)
-    → me ≡ busy me.0.members e ((slot, None) ∷ []) → e.word ≡ 3 → present_at me.0.members e.place ≡ Some q
+pub return_allowed : (dealt : List (Option Running)) (slots id index : ℕ) (me : Me Slot View) (e : Errand)
+    (q : Running) → HasFetched e q me → present_at me.0.members e.place ≡ Some q
     → next_deed q ≡ deeds.Take → number q ≡ e.late → index ≡ table_size q + e.late
-    → slot ≡ slot_number q.replica.late e.late
     → Allows {S = Slot} {V = View} (λ s. HasSuchProgram dealt s.words s.homes s.views) slots id me index (λ _. 4)
     (λ _ w. Returned e q me w)
-return_allowed dealt slots id index slot me e q has three here next named at same_slot s k _ is _ =
-    let x = free (with_present me.0.members e.place (settled (took_letter (Some e.letter) q))) in
-    let on = returned k id me.0 e slot index q (by_table s.views id me.0 is) (errand_of me has) three here next named
-    same_slot at in (
+return_allowed dealt slots id index me e q (letter, has) here next named at s k _ is _ =
+    let f : Errand = record e { word = 3; letter = letter } in
+    let x = free (with_present me.0.members e.place (settled (took_letter (Some letter) q))) in
+    let on = returned k id me.0 f (slot_number q.replica.late e.late) index q (by_table s.views id me.0 is)
+    (errand_of me has) refl here next named refl at in (
       x,
       gives,
       tt,
       subst (λ (c : List (ℕ × Slot)). HasSuchProgram dealt (slice_set s.words index 4)
           (put_back s.homes c) (slice_set s.views id x)) (sym (slots_of me has)) on,
-      λ z. (x, rest (slots_of me has z)),
+      λ g same. (λ z. (x, rest (slots_of me has z)))
+          ∙ ap (λ (o : Errand).
+          idle (with_present me.0.members e.place (settled (took_letter (Some o.letter) q))))
+          (same_Some f g (sym (errand_of me has) ∙ same)),
     )

@@ -33,11 +33,11 @@ use Rattle.dr_words.proofs.Ranks.{at_rank_of, few_members}
 use Rattle.dr_table.specs.Cards.{AreAtEnd, AreOf, AreReached, Cards, IsAtEnd, opened}
 use Rattle.dr_table.specs.declared.rule.Errand.{Errand}
 use Rattle.dr_table.specs.declared.rule.View.{View}
-use Rattle.dr_table.specs.Slots.{AreLate, HaveSlots, IsBlankList, IsBlankSlot, IsPosted, Slot, slot_number}
+use Rattle.dr_table.specs.Slots.{HaveSlots, IsBlankList, IsBlankSlot, IsPosted, Slot, slot_number}
 use Rattle.dr_table.specs.Rule.{Found, HasSuchProgram, IsDealt, no_posts, number}
 use Rattle.dr_table.specs.Steps.{AreAhead, HasAppended, IsAhead}
 use Rattle.dr_age.proofs.Deeds.{unended_append}
-use Rattle.dr_table.proofs.Deeds.{append_due}
+use Rattle.dr_table.proofs.Deeds.{append_due, appends_given}
 use Rattle.dr_table.proofs.Posting.{free}
 use Rattle.dr_table.proofs.Words.{words_small}
 use Rattle.atomic_table.proofs.Lists.{at_index, at_map}
@@ -107,6 +107,22 @@ pub seat_has : (v rs : List (Option Running)) (at : ℕ) (q : Running) → AreAh
 seat_has v rs at q are here =
     let (r, there) = filled_by (present_at v at) (sym (are.places at) ∙ ap is_some here) in
     (r, there, are.each at r q there here)
+
+-- and where one of them is known as it is in the hand, those that have given the same letters
+pub seat_gave : (v rs : List (Option Running)) (at k : ℕ) (m q : Running) → AreAhead v rs
+    → present_at rs at ≡ Some m → present_at rs k ≡ Some q
+    → (r : Running) × (present_at (with_present v at m) k ≡ Some r) × (r.replica.given ≡ q.replica.given)
+seat_gave v rs at k m q are here there = elim (cases_eq k at) [
+  | inl same ↦ (
+    m,
+    ap (present_at (with_present v at m)) same
+        ∙ present_set v at m (omega (arith, are.all, present_within rs at m here)),
+    ap (λ (x : Running). x.replica.given) (same_Some m q (sym here ∙ ap (present_at rs) (sym same) ∙ there)),
+  )
+  | inr other ↦
+      let (r, stands, (os, so)) = seat_has v rs k q are there in
+      (r, present_kept v at k m other ∙ stands, sym (appends_given os r q so))
+]
 
 more : (os : List Outcome) (o : Outcome) (r q : Running) → HasAppended os r q → is_append (next_deed q) ≡ true
     → HasAppended (os ++ o ∷ []) r (appended_as o q)
@@ -304,16 +320,20 @@ dealt_some dealt d =
       ap (λ l. present_at l m) d.begun ∙ present_map begun_running d.setups m ∙ ap (option_map begun_running) at,
     )
 
--- the members know the late members of the group
-pub dealt_late : (dealt list : List (Option Running)) (d : IsDealt dealt) (late : ℕ) → list ≡ dealt
-    → ((mask k : ℕ) (r : Running) → AreLate mask list → present_at list k ≡ Some r → late ≡ mask)
-    → late ≡ late_members d.group
-dealt_late dealt list d late same is =
-    let (k, r, there) = dealt_some dealt d in
-    is (late_members d.group) k r (λ m q stands.
-    let home = ap (λ l. present_at l m) (sym same) ∙ stands in
-    ((dealt_program dealt d).of m q (dealt_there dealt d m q home)).late)
-    (ap (λ l. present_at l k) same ∙ there)
+-- one of them knows the late members of the group
+pub dealt_late : (dealt list : List (Option Running)) (d : IsDealt dealt) (r : Running) (mask : ℕ)
+    → list ≡ dealt → (k : ℕ) × (present_at list k ≡ Some r) → mask ≡ r.replica.late
+    → mask ≡ late_members d.group
+dealt_late dealt list d r mask same (k, there) is = is
+    ∙ ((dealt_program dealt d).of k r
+    (dealt_there dealt d k r (ap (λ l. present_at l k) (sym same) ∙ there))).late
+
+-- and the number of the words of its table
+pub dealt_size : (dealt list : List (Option Running)) (d : IsDealt dealt) (r : Running) (size : ℕ)
+    → list ≡ dealt → (k : ℕ) × (present_at list k ≡ Some r) → size ≡ table_size r
+    → size ≡ words_of (roster d.group) d.group.window (banks d.group)
+dealt_size dealt list d r size same (k, there) is =
+    is ∙ dealt_table dealt d k r (ap (λ l. present_at l k) (sym same) ∙ there)
 
 -- the board opens with the program of the group
 pub dealt_opened : (dealt : List (Option Running)) (d : IsDealt dealt) (words : ℕ)
@@ -444,18 +464,6 @@ dealt_kept dealt d words room slots same are = record {
     only (suc s) a r (v, is, there) = absurd (cc)
 
 -- ---- boards
-
--- the number of words that the members count is that of the group's table
-pub dealt_size : (dealt list : List (Option Running)) (d : IsDealt dealt) (size : ℕ) → list ≡ dealt
-    → ((words k : ℕ) (r : Running)
-    → ((m : ℕ) (q : Running) → present_at list m ≡ Some q → table_size q ≡ words)
-    → present_at list k ≡ Some r → size ≡ words)
-    → size ≡ words_of (roster d.group) d.group.window (banks d.group)
-dealt_size dealt list d size same is =
-    let (k, r, there) = dealt_some dealt d in
-    let words = words_of (roster d.group) d.group.window (banks d.group) in
-    is words k r (λ m q stands. dealt_table dealt d m q (ap (λ l. present_at l m) (sym same) ∙ stands))
-    (ap (λ l. present_at l k) same ∙ there)
 
 pub board_opened : (inside board : Cards) → inside ≡ board → inside.table.places ≡ length inside.members
     → (d : IsDealt inside.members) → AreOf inside.table.id.words inside.members

@@ -1,5 +1,5 @@
 -- What a seat holds while it is about a letter, and what is known of the member that gives or takes it.
-use Rattle.std.proofs.Common.{◌≡◌, inl, inr, refl, sym, ap, ◌∙◌, ℕ, ◌<◌, ◌≤◌, Bool, true, false, eq-eqb, ne_eqb, List, [], ◌∷◌, arith}
+use Rattle.std.proofs.Common.{◌≡◌, inl, inr, refl, sym, ap, ◌∙◌, ℕ, ◌+◌, ◌<◌, ◌≤◌, Bool, true, ne_eqb, List, [], ◌∷◌, arith}
 use Rattle.std.specs.Prelude.{IfSome, Option, None, Some, Vec, option_map, ◌^◌, ◌==◌}
 use Rattle.std.specs.declared.alloc.Global.{Global}
 use Rattle.std.proofs.lemmas.Option.{same_Some}
@@ -15,16 +15,17 @@ use Rattle.dr_program.specs.Form.{IsOf}
 use Rattle.dr_program.specs.Presence.{present_at, with_present}
 use Rattle.dr_program.specs.Program.{Program}
 use Rattle.dr_program.specs.Replica.{me}
-use Rattle.dr_program.specs.Running.{Running, next_deed, settled, took_letter}
+use Rattle.dr_program.specs.Running.{Running, next_deed}
 use Rattle.dr_form.specs.Letters.{IsFitting}
 use Rattle.dr_room.proofs.Letters.{letters_have_room}
 use Rattle.dr_turn.proofs.Takes.{taking}
 use Rattle.dr_words.proofs.Ranks.{few_members}
+use Rattle.dr_table.specs.Cards.{board_size}
 use Rattle.dr_table.specs.declared.rule.Errand.{Errand}
 use Rattle.dr_table.specs.declared.rule.View.{View}
 use Rattle.dr_table.specs.Rule.{number}
-use Rattle.dr_table.specs.Slots.{Slot}
-use Rattle.dr_table.specs.Steps.{IsOfProgram, IsReachedMember, MayTake, Peeked, busy, idle}
+use Rattle.dr_table.specs.Slots.{Slot, slot_number}
+use Rattle.dr_table.specs.Steps.{IsLetterAt, IsOfProgram, IsReachedMember, MayTake, Peeked, busy}
 use Rattle.dr_table.proofs.Welcoming.{newcomer}
 use Rattle.dr_table.proofs.Words.{words_small}
 
@@ -72,12 +73,6 @@ pub saw_letter : (e : Errand) (r : Running) (old new : Me Slot View) (found : �
 saw_letter e r old new found b is hit (inl (two, to)) = to
 saw_letter e r old new found b is hit (inr (other, none, to)) = absurd (cc (is, hit, ne_eqb found 2 other))
 
-pub saw_none : (e : Errand) (r : Running) (old new : Me Slot View) (found : ℕ) (b : Bool) → b ≡ (found == 2)
-    → b ≡ false → Peeked e r old found new
-    → MayTake r None × (new ≡ idle (with_present old.0.members e.place (settled (took_letter None r))))
-saw_none e r old new found b is miss (inl (two, to)) = absurd (cc (is, miss, eq-eqb found 2 two))
-saw_none e r old new found b is miss (inr (other, none, to)) = (none, to)
-
 -- ---- what is known of its member
 
 -- this late member is one of the member's roster, and its table has few words
@@ -113,6 +108,16 @@ taker_knows r (g, p, is) next =
     let waits = form.replica.outside (taking r form (record { unended = t.none; due = t.says })).outside in
     knows g p r (me r.replica) is (ap (λ mask. has mask (me r.replica)) (sym of.late) ∙ waits.late)
     (omega (arith, form.replica.number, of.members))
+
+-- so the word and the slot of that one are these
+pub letter_at : (words : ℕ) (e : Errand) (r q : Running) (late index slot : ℕ) → KnowsLate r e.late
+    → board_size r ≡ words → e.late ≡ late → r ≡ q → index ≡ table_size q + late
+    → slot ≡ slot_number q.replica.late late → IsLetterAt words e r index slot
+letter_at words e r q late index slot k size named now at home = record {
+  word = at ∙ sym (λ z. table_size (now z) + named z);
+  within = omega (arith, k.within, size, at, named, ap table_size now);
+  home = home ∙ sym (λ z. slot_number (now z).replica.late (named z));
+}
 
 -- a letter that it may take fits it
 pub taken_fits : (r : Running) (letter : Option (List Entry)) → next_deed r ≡ deeds.Take → MayTake r letter

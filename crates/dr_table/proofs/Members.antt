@@ -9,6 +9,7 @@ use Rattle.dr_member.specs.Deeds.{is_append}
 use Rattle.dr_program.specs.declared.outcome.Outcome.{Outcome}
 use Rattle.dr_program.specs.Program.{appended_as}
 use Rattle.dr_entry.specs.declared.entry.Entry.{Entry}
+use Rattle.dr_history.specs.Members.{has}
 use Rattle.dr_program.specs.Running.{Running, next_deed, settled, took_letter}
 use Rattle.dr_program.proofs.Fixed.{Told, told}
 use Rattle.dr_words.specs.Layout.{words_of}
@@ -18,9 +19,10 @@ use Rattle.dr_table.specs.declared.rule.View.{View}
 use Rattle.dr_table.specs.Slots.{Slot}
 use Rattle.dr_table.specs.declared.hand.Hand.TheInside.{Inside}
 use Rattle.dr_table.specs.Inside.{IsInsideHand, cards_of}
-use Rattle.dr_table.specs.Steps.{AreAhead, IsAhead, IsReachedMember, MayTake, idle}
+use Rattle.dr_table.specs.Rule.{number}
+use Rattle.dr_table.specs.Steps.{AreAhead, FindsLetter, IsAhead, IsReachedMember, idle}
 use Rattle.dr_table.proofs.Deeds.{appended_told}
-use Rattle.dr_table.proofs.Hands.{ahead_more, ahead_set, each_set}
+use Rattle.dr_table.proofs.Hands.{ahead_more, ahead_set, each_set, seat_gave}
 use Rattle.dr_table.proofs.Keeping.{append_reached}
 use Rattle.dr_table.proofs.Lists.{filled_within}
 use Rattle.dr_program.specs.Presence.{present_at, with_present}
@@ -137,13 +139,26 @@ pub went_so : {h : Inside} {hand : Cards} {at : ℕ} {m : Running} (f : Running 
     → with_present h.members.items at x ≡ with_present hand.members at (f r)
 went_so {at = at} f x s to r stands = λ k. with_present (s.items k) at ((to ∙ ap f (only s stands)) k)
 
+-- what it finds in the hand that the seat knows, it finds in the whole of it
+finds_so : {h : Inside} {hand : Cards} {at : ℕ} {m : Running} (letter : Option (List Entry))
+    → StandsAt h hand at m → FindsLetter (with_present h.seat.me.0.members at m) m letter
+    → FindsLetter hand.members m letter
+finds_so {h} {hand} {at} {m} letter s finds = record {
+  may = finds.may;
+  given = λ k q stands gave.
+      let (r, known, same) = seat_gave h.seat.me.0.members h.members.items at k m q s.is.ahead s.here
+      (ap (λ l. present_at l k) s.items ∙ stands) in
+      finds.given k r known (ap (λ mask. has mask (number m)) same ∙ gave);
+}
+
 -- where it has taken its letter
 pub took_so : {h : Inside} {hand : Cards} {at : ℕ} {m : Running} (x : Running) (letter : Option (List Entry))
-    → StandsAt h hand at m → x ≡ settled (took_letter letter m) → MayTake m letter
+    → StandsAt h hand at m → x ≡ settled (took_letter letter m)
+    → FindsLetter (with_present h.seat.me.0.members at m) m letter
     → HasAskedForLetter hand.members at (with_present h.members.items at x)
-took_so {at = at} x letter s to may r stands = (
+took_so {hand = hand} {at = at} x letter s to finds r stands = (
   letter,
-  subst (λ q. MayTake q letter) (only s stands) may,
+  subst (λ q. FindsLetter hand.members q letter) (only s stands) (finds_so letter s finds),
   λ k. with_present (s.items k) at ((to ∙ ap (λ q. settled (took_letter letter q)) (only s stands)) k),
 )
 

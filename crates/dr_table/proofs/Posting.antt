@@ -11,7 +11,7 @@ use Rattle.dr_age.specs.Sound.{IsSound}
 use Rattle.dr_entry.specs.declared.entry.Entry.{Entry}
 use Rattle.dr_history.specs.History.{up_to_view}
 use Rattle.dr_history.specs.Members.{has}
-use Rattle.dr_machine.specs.Group.{Group, IsGroup, banks, late_members}
+use Rattle.dr_machine.specs.Group.{Group, IsGroup, late_members}
 use Rattle.dr_machine.proofs.Presence.{in_roster, late_in}
 use Rattle.dr_member.specs.Deeds.{table_size}
 use Rattle.dr_program.proofs.Fixed.{Told, join_told, told}

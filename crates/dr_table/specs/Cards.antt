@@ -7,7 +7,7 @@ use Rattle.dr_program.specs.Program.{Program}
 use Rattle.dr_program.specs.Running.{Running, after_step, settled, took_letter}
 use Rattle.dr_turn.specs.Work.{deeds_left}
 use Rattle.dr_table.specs.Rule.{no_posts, number}
-use Rattle.dr_table.specs.Steps.{IsReachedMember, MayTake}
+use Rattle.dr_table.specs.Steps.{FindsLetter, IsReachedMember}
 use Rattle.dr_program.specs.Presence.{present_at, with_present}
 
 -- which table it is, and how many places were dealt over it
@@ -61,10 +61,10 @@ AreSame before after = map (option_map number) after ≡ map (option_map number)
 abbrev pub HasGoneOn : List (Option Running) → ℕ → List (Option Running) → Type 0
 HasGoneOn old at new = (r : Running) → present_at old at ≡ Some r → new ≡ with_present old at (after_step 0 r)
 
--- the member at this place has taken its letter, or found none: some such program has just that for it
+-- the member at this place has taken the letter that it found, or has found none
 abbrev pub HasAskedForLetter : List (Option Running) → ℕ → List (Option Running) → Type 0
 HasAskedForLetter old at new = (r : Running) → present_at old at ≡ Some r → (letter : Option (List Entry))
-    × MayTake r letter × (new ≡ with_present old at (settled (took_letter letter r)))
+    × FindsLetter old r letter × (new ≡ with_present old at (settled (took_letter letter r)))
 
 -- it has fewer deeds left to do
 abbrev pub HasFewerLeft : List (Option Running) → ℕ → List (Option Running) → Type 0

@@ -32,10 +32,6 @@ abbrev pub IsBlankSlot : ℕ → Slot → Type 0
 IsBlankSlot room None = ⊥
 IsBlankSlot room (Some list) = IsBlankList room list
 
--- these are the late members that each of the members knows of
-abbrev pub AreLate : ℕ → List (Option Running) → Type 0
-AreLate late members = (k : ℕ) (r : Running) → present_at members k ≡ Some r → r.replica.late ≡ late
-
 -- a late member whose word is this number has its slot so, at home or out with a seat, and this letter, or none
 pub record IsPosted (room word : ℕ) (home : Maybe (Maybe Slot)) (letter : Option (List Entry)) : Type 0 where
   -- there is a letter exactly where the word is 2 or more

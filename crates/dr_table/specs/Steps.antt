@@ -1,12 +1,13 @@
 -- What steps make of the members of a seat, and what they tell.
-use Rattle.std.specs.Prelude.{◌≡◌, ◌≢◌, ◌⊎◌, ℕ, true, List, [], ◌∷◌, length, None, Some, Option, Vec, is_some}
+use Rattle.std.specs.Prelude.{◌≡◌, ◌≢◌, ◌⊎◌, ◌+◌, ◌<◌, ℕ, true, List, [], ◌∷◌, length, None, Some, Option, Vec, is_some}
 use Rattle.std.specs.declared.alloc.Global.{Global}
 use Rattle.atomic_table.specs.Table.{Me}
 use Rattle.dr_age.specs.Sound.{IsSound}
 use Rattle.dr_entry.specs.declared.entry.Entry.{Entry}
+use Rattle.dr_history.specs.Members.{has}
 use Rattle.dr_machine.specs.Group.{Group}
 use Rattle.dr_machine.specs.World.{no_value}
-use Rattle.dr_member.specs.Deeds.{is_append}
+use Rattle.dr_member.specs.Deeds.{is_append, table_size}
 use Rattle.dr_program.specs.declared.outcome.Outcome.{Outcome}
 use Rattle.dr_program.specs.Program.{Program, appended_as, letter_for, next_sight}
 use Rattle.dr_program.specs.Running.{Running, after_step, next_deed, settled, took_letter}
@@ -28,6 +29,12 @@ busy members e slots = (record { members = members; errand = Some e }, slots)
 abbrev pub holds_slot : Running → Errand → Slot → List (ℕ × Slot)
 holds_slot r e slot = (slot_number r.replica.late e.late, slot) ∷ []
 
+-- as r knows, the late member whose letter a seat is about has its word here, among so many, and this slot
+pub record IsLetterAt (words : ℕ) (e : Errand) (r : Running) (index slot : ℕ) : Type 0 where
+  pub word : index ≡ table_size r + e.late
+  pub within : index < words
+  pub home : slot ≡ slot_number r.replica.late e.late
+
 -- r is a member of this sound program of the group
 pub record IsOfProgram (g : Group) (p : Program) (r : Running) : Type 0 where
   pub sound : IsSound g p
@@ -44,6 +51,15 @@ MayFind r word = (g : Group) × (p : Program) × IsOfProgram g p r × (next_sigh
 -- and in that program this letter is there for it, or none
 abbrev pub MayTake : Running → Option (List Entry) → Type 0
 MayTake r letter = (g : Group) × (p : Program) × IsOfProgram g p r × (letter_for p (number r) ≡ letter)
+
+-- what r finds that asks for its letter, as one of the hand of these members: this letter, or none
+pub record FindsLetter (members : List (Option Running)) (r : Running) (letter : Option (List Entry))
+    : Type 0 where
+  -- some such program has just that for it
+  pub may : MayTake r letter
+  -- there is one, where a member of the hand has given it one, in the view in which that one is
+  pub given : (k : ℕ) (q : Running) → present_at members k ≡ Some q → has q.replica.given (number r) ≡ true
+      → is_some letter ≡ true
 
 -- the member at this place, now r, has looked at this word
 abbrev pub Looked : ℕ → Running → Me Slot View → ℕ → Me Slot View → Type 0
@@ -67,7 +83,7 @@ Homed e r me after = after ≡ idle (with_present me.0.members e.place (after_st
 abbrev pub Peeked : Errand → Running → Me Slot View → ℕ → Me Slot View → Type 0
 Peeked e r me word after =
     ((word ≡ 2) × (after ≡ busy (with_present me.0.members e.place r) e []))
-    ⊎ ((word ≢ 2) × MayTake r None
+    ⊎ ((word ≢ 2) × FindsLetter (with_present me.0.members e.place r) r None
     × (after ≡ idle (with_present me.0.members e.place (settled (took_letter None r)))))
 
 -- it has taken its slot, with its letter
@@ -75,10 +91,15 @@ abbrev pub Fetched : Errand → Running → Me Slot View → Me Slot View → Ty
 Fetched e r me after = (list : Vec Entry Global) × MayTake r (Some list.items)
     × (after ≡ busy me.0.members (record e { word = 3; letter = list.items }) (holds_slot r e (Some list)))
 
--- it has put the slot back, and taken the letter
+-- it has its letter, and nothing is in the slot that it holds
+abbrev pub HasFetched : Errand → Running → Me Slot View → Type 0
+HasFetched e r me = (letter : List Entry)
+    × (me ≡ busy me.0.members (record e { word = 3; letter = letter }) (holds_slot r e None))
+
+-- it has put the slot back, and taken the letter that it has
 abbrev pub Returned : Errand → Running → Me Slot View → Me Slot View → Type 0
-Returned e r me after =
-    after ≡ idle (with_present me.0.members e.place (settled (took_letter (Some e.letter) r)))
+Returned e r me after = (f : Errand) → me.0.errand ≡ Some f
+    → after ≡ idle (with_present me.0.members e.place (settled (took_letter (Some f.letter) r)))
 
 -- q is r after these appends
 abbrev pub HasAppended : List Outcome → Running → Running → Type 0

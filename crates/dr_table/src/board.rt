@@ -2,20 +2,18 @@
 ghost use Rattle.std.specs.Prelude.{◌≡◌, ◌≤◌, All, IfOk, ℕ, List, Some, Option, length};
 ghost use Rattle.std.specs.Mem.Slots.{IsFull};
 ghost use Rattle.dr_entry.specs.declared.entry.Entry.{Entry};
-ghost use Rattle.dr_member.specs.Deeds.{table_size};
 ghost use Rattle.dr_program.specs.Form.{IsRunningMember};
 ghost use Rattle.dr_program.specs.Program.{IsRanFrom, begun_program};
 ghost use Rattle.dr_table.specs.Cards.{AreAtEnd, AreOf, AreSame, opened};
 ghost use Rattle.dr_program.specs.Presence.{present_at};
 ghost use Rattle.dr_program.specs.Running.{Running};
 ghost use Rattle.dr_table.specs.Rule.{IsDealt};
-ghost use Rattle.dr_table.specs.Slots.{AreLate, IsBlankSlot};
+ghost use Rattle.dr_table.specs.Slots.{IsBlankSlot};
 
 use crate::hand::Hand;
 use crate::rule::{Ruled, Slot, View};
 use atomic_table::{Closed, Table};
 use dr_member::Member;
-use dr_words::Mask;
 use std::alloc::{AllocError, Global};
 use std::marker::Model;
 
@@ -54,8 +52,9 @@ pub fn deal(alloc: Global, members: Vec<Option<Member>>) -> Result<(Board, Hand)
     ensures hand { IfOk result (λ r. (r.1.table ≡ r.0.table) × (r.1.members ≡ members.items)) }
 {
     let places = members.len();
-    let words = vec![in alloc; 0u64; table_words(&members) + places]?;
-    let slots = blank_slots(alloc, late_members(&members).count(), most_room(&members))?;
+    let first = first_present(&members);
+    let words = vec![in alloc; 0u64; first.table_words() + places]?;
+    let slots = blank_slots(alloc, first.late().count(), most_room(&members))?;
     let Ok((table, seat)) = Table::new(alloc, words.as_slice(), slots, &members) else {
         return Err(AllocError);
     };
@@ -97,31 +96,17 @@ fn give_up(mut closed: Closed<Slot, Global>)
     closed.free();
 }
 
-/// The number of words of the table of these members, of whom somebody is there.
-fn table_words(members: &[Option<Member>]) -> usize
-    ensures { (size k : ℕ) (r : Running)
-        → ((m : ℕ) (q : Running) → present_at members.now m ≡ Some q → table_size q ≡ size)
-        → present_at members.now k ≡ Some r → result ≡ size }
+/// The first member that is there, where somebody is.
+fn first_present(members: &[Option<Member>]) -> &Member
+    requires { (k : ℕ) × (r : Running) × (present_at members.now k ≡ Some r) }
+    ensures { (k : ℕ) × (present_at members.now k ≡ Some result.now) }
 {
     for place in members {
         if let Some(member) = place {
-            return member.table_words();
+            return member;
         }
     }
-    0
-}
-
-/// The late members of the age, as these members know them, of whom somebody is there.
-fn late_members(members: &[Option<Member>]) -> Mask
-    ensures { (late k : ℕ) (r : Running) → AreLate late members.now → present_at members.now k ≡ Some r
-        → result ≡ late }
-{
-    for place in members {
-        if let Some(member) = place {
-            return member.late();
-        }
-    }
-    Mask::empty()
+    unreachable!()
 }
 
 /// The room of the member that has the most for its history.

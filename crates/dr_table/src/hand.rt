@@ -137,7 +137,7 @@ impl Hand {
         let Deed::Give { late } = member.next() else {
             unreachable!()
         };
-        give_at(board, &mut self.seat, i, member, late);
+        give_at::<Brand>(board, &mut self.seat, i, member, late);
         let Some(member) = &mut self.members[i] else {
             unreachable!()
         };
@@ -156,7 +156,7 @@ impl Hand {
         let Some(member) = &self.members[i] else {
             unreachable!()
         };
-        let letter = take_at(board, &mut self.seat, i, member);
+        let letter = take_at::<Brand>(board, &mut self.seat, i, member);
         let Some(member) = &mut self.members[i] else {
             unreachable!()
         };

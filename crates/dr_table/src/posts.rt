@@ -4,67 +4,75 @@ ghost use Rattle.dr_form.specs.Letters.{IsFitting};
 ghost use Rattle.dr_history.specs.History.{up_to_view};
 ghost use Rattle.dr_member.specs.Deeds.{is_take, table_size};
 ghost use Rattle.dr_turn.specs.Work.{deeds_left};
-ghost use Rattle.dr_program.specs.declared.deed.Deed.TheVariants.{Give, Take};
 ghost use Rattle.dr_program.specs.Presence.{present_at, with_present};
 ghost use Rattle.dr_program.specs.Replica.{me};
 ghost use Rattle.dr_program.specs.Running.{Running, after_step, next_deed, settled, took_letter};
 ghost use Rattle.dr_table.specs.Cards.{board_size};
-ghost use Rattle.dr_table.specs.Slots.{IsBlankList, slot_number};
-ghost use Rattle.dr_table.specs.Steps.{IsAhead, IsReachedMember, MayTake, Peeked, busy, idle};
+ghost use Rattle.dr_table.specs.Slots.{IsBlankList, IsDueFor};
+ghost use Rattle.dr_table.specs.Steps.{FindsLetter, HasFetched, IsAhead, IsLetterAt, IsReachedMember, MayTake, Peeked, Returned, busy, idle};
 
 use crate::board::Board;
 use crate::rule::{Fetches, Homes, Opens, Peeks, Posting, Returns, Slot, View};
 use atomic_table::Seat;
 use dr_entry::Entry;
 use dr_member::Member;
-use std::marker::Brand;
 
 /// The member at a place of the seat's hand, which may have made appends since the seat's last step, gives a late
 /// member its letter.
-pub(crate) fn give_at(
+pub(crate) fn give_at<J: Posting>(
     board: &Board,
     seat: &mut Seat<Slot, View>,
     i: usize,
     member: &Member,
     late: u8,
 )
+    requires errand { (J.errand.place ≡ i) × (J.errand.late ≡ late) × (J.errand.word ≡ 1) }
+    requires now { J.now ≡ member.now }
     requires table { seat.old.table_id ≡ board.now.table.id }
     requires idle { seat.old.me ≡ idle seat.old.me.0.members }
-    requires there { (r : Running) × (present_at seat.old.me.0.members i ≡ Some r) × IsAhead r member.now }
-    requires reached { IsReachedMember member.now }
-    requires size { board_size member.now ≡ board.now.table.id.words }
-    requires deed { next_deed member.now ≡ Give late }
+    requires there { (r : Running) × (present_at seat.old.me.0.members J.errand.place ≡ Some r) × IsAhead r J.now }
+    requires reached { IsReachedMember J.now }
+    requires size { board_size J.now ≡ board.now.table.id.words }
+    requires due { IsDueFor J.now J.errand }
     ensures table { seat.new.table_id ≡ seat.old.table_id }
-    ensures given { seat.new.me ≡ idle (with_present seat.old.me.0.members i (after_step 0 member.now)) }
+    ensures given { seat.new.me ≡ idle (with_present seat.old.me.0.members J.errand.place (after_step 0 J.now)) }
 {
     let word = member.table_words() + usize::from(late);
     let slot = usize::from(member.late().rank_of(late));
-    let mut letter = open_at::<Brand>(board, seat, i, member, late, word, slot);
+    let mut letter = open_at::<J>(board, seat, word, slot);
     member.letter(&mut letter);
-    home_at::<Brand>(board, seat, i, member, late, word, slot, letter);
+    home_at::<J>(board, seat, word, slot, letter);
 }
 
 /// The late member at a place of the seat's hand, which may have made appends since the seat's last step, takes its
 /// letter, where one is there.
-pub(crate) fn take_at(board: &Board, seat: &mut Seat<Slot, View>, i: usize, member: &Member) -> Slot
+pub(crate) fn take_at<J: Posting>(
+    board: &Board,
+    seat: &mut Seat<Slot, View>,
+    i: usize,
+    member: &Member,
+) -> Slot
+    requires errand { (J.errand.place ≡ i) × (J.errand.late ≡ me member.now.replica) × (J.errand.word ≡ 2) }
+    requires now { J.now ≡ member.now }
     requires table { seat.old.table_id ≡ board.now.table.id }
     requires idle { seat.old.me ≡ idle seat.old.me.0.members }
-    requires there { (r : Running) × (present_at seat.old.me.0.members i ≡ Some r) × IsAhead r member.now }
-    requires reached { IsReachedMember member.now }
-    requires size { board_size member.now ≡ board.now.table.id.words }
-    requires deed { next_deed member.now ≡ Take }
+    requires there { (r : Running) × (present_at seat.old.me.0.members J.errand.place ≡ Some r) × IsAhead r J.now }
+    requires reached { IsReachedMember J.now }
+    requires size { board_size J.now ≡ board.now.table.id.words }
+    requires due { IsDueFor J.now J.errand }
     ensures table { seat.new.table_id ≡ seat.old.table_id }
-    ensures may { MayTake member.now (option_map (λ list. list.items) result) }
-    ensures taken { seat.new.me ≡ idle (with_present seat.old.me.0.members i
-        (settled (took_letter (option_map (λ list. list.items) result) member.now))) }
+    ensures finds { FindsLetter (with_present seat.old.me.0.members J.errand.place J.now) J.now
+        (option_map (λ list. list.items) result) }
+    ensures taken { seat.new.me ≡ idle (with_present seat.old.me.0.members J.errand.place
+        (settled (took_letter (option_map (λ list. list.items) result) J.now))) }
 {
     let word = member.table_words() + usize::from(member.me());
-    if !peek_at::<Brand>(board, seat, i, member, word) {
+    if !peek_at::<J>(board, seat, word) {
         return None;
     }
     let slot = usize::from(member.late().rank_of(member.me()));
-    let letter = fetch_at::<Brand>(board, seat, i, member, word, slot);
-    return_at::<Brand>(board, seat, i, member, word, slot, &letter);
+    let letter = fetch_at::<J>(board, seat, word, slot);
+    return_at::<J>(board, seat, word);
     Some(letter)
 }
 
@@ -85,21 +93,15 @@ pub(crate) fn take_letter(member: &mut Member, letter: &Slot)
 fn open_at<J: Posting>(
     board: &Board,
     seat: &mut Seat<Slot, View>,
-    i: usize,
-    member: &Member,
-    late: u8,
     word: usize,
     slot: usize,
 ) -> Vec<Entry>
-    requires errand { (J.errand.place ≡ i) × (J.errand.late ≡ late) × (J.errand.word ≡ 1) }
-    requires now { J.now ≡ member.now }
+    requires first { J.errand.word ≡ 1 }
+    requires due { IsDueFor J.now J.errand }
     requires table { seat.old.table_id ≡ board.now.table.id }
     requires idle { seat.old.me ≡ idle seat.old.me.0.members }
     requires there { (r : Running) × (present_at seat.old.me.0.members J.errand.place ≡ Some r) × IsAhead r J.now }
-    requires deed { next_deed J.now ≡ Give J.errand.late }
-    requires word { word ≡ table_size J.now + J.errand.late }
-    requires within { word < board.now.table.id.words }
-    requires slot { slot ≡ slot_number J.now.replica.late J.errand.late }
+    requires at { IsLetterAt board.now.table.id.words J.errand J.now word slot }
     ensures table { seat.new.table_id ≡ seat.old.table_id }
     ensures blank { IsBlankList J.now.replica.room result }
     ensures opened { seat.new.me
@@ -116,22 +118,16 @@ fn open_at<J: Posting>(
 fn home_at<J: Posting>(
     board: &Board,
     seat: &mut Seat<Slot, View>,
-    i: usize,
-    member: &Member,
-    late: u8,
     word: usize,
     slot: usize,
     letter: Vec<Entry>,
 )
-    requires errand { (J.errand.place ≡ i) × (J.errand.late ≡ late) × (J.errand.word ≡ 1) }
-    requires now { J.now ≡ member.now }
+    requires first { J.errand.word ≡ 1 }
+    requires due { IsDueFor J.now J.errand }
     requires table { seat.old.table_id ≡ board.now.table.id }
     requires opened { seat.old.me ≡ busy seat.old.me.0.members J.errand ((slot, None) ∷ []) }
     requires there { present_at seat.old.me.0.members J.errand.place ≡ Some J.now }
-    requires deed { next_deed J.now ≡ Give J.errand.late }
-    requires word { word ≡ table_size J.now + J.errand.late }
-    requires within { word < board.now.table.id.words }
-    requires slot { slot ≡ slot_number J.now.replica.late J.errand.late }
+    requires at { IsLetterAt board.now.table.id.words J.errand J.now word slot }
     requires letter { letter.items ≡ up_to_view J.now.replica.history }
     ensures table { seat.new.table_id ≡ seat.old.table_id }
     ensures given { seat.new.me ≡ idle (with_present seat.old.me.0.members J.errand.place (after_step 0 J.now)) }
@@ -141,21 +137,13 @@ fn home_at<J: Posting>(
 }
 
 /// The late member looks whether its letter is there: where it isn't, that was its take.
-fn peek_at<J: Posting>(
-    board: &Board,
-    seat: &mut Seat<Slot, View>,
-    i: usize,
-    member: &Member,
-    word: usize,
-) -> bool
-    requires errand { (J.errand.place ≡ i) × (J.errand.word ≡ 2) }
-    requires now { J.now ≡ member.now }
+fn peek_at<J: Posting>(board: &Board, seat: &mut Seat<Slot, View>, word: usize) -> bool
+    requires second { J.errand.word ≡ 2 }
+    requires due { IsDueFor J.now J.errand }
     requires table { seat.old.table_id ≡ board.now.table.id }
     requires idle { seat.old.me ≡ idle seat.old.me.0.members }
     requires there { (r : Running) × (present_at seat.old.me.0.members J.errand.place ≡ Some r) × IsAhead r J.now }
-    requires deed { next_deed J.now ≡ Take }
-    requires own { me J.now.replica ≡ J.errand.late }
-    requires word { word ≡ table_size J.now + me J.now.replica }
+    requires word { word ≡ table_size J.now + J.errand.late }
     requires within { word < board.now.table.id.words }
     ensures table { seat.new.table_id ≡ seat.old.table_id }
     ensures peeked { (found : ℕ) × (result ≡ (found == 2)) × Peeked J.errand J.now seat.old.me found seat.new.me }
@@ -167,21 +155,15 @@ fn peek_at<J: Posting>(
 fn fetch_at<J: Posting>(
     board: &Board,
     seat: &mut Seat<Slot, View>,
-    i: usize,
-    member: &Member,
     word: usize,
     slot: usize,
 ) -> Vec<Entry>
-    requires errand { (J.errand.place ≡ i) × (J.errand.word ≡ 2) }
-    requires now { J.now ≡ member.now }
+    requires second { J.errand.word ≡ 2 }
+    requires due { IsDueFor J.now J.errand }
     requires table { seat.old.table_id ≡ board.now.table.id }
     requires seen { seat.old.me ≡ busy seat.old.me.0.members J.errand [] }
     requires there { present_at seat.old.me.0.members J.errand.place ≡ Some J.now }
-    requires deed { next_deed J.now ≡ Take }
-    requires own { me J.now.replica ≡ J.errand.late }
-    requires word { word ≡ table_size J.now + J.errand.late }
-    requires within { word < board.now.table.id.words }
-    requires slot { slot ≡ slot_number J.now.replica.late J.errand.late }
+    requires at { IsLetterAt board.now.table.id.words J.errand J.now word slot }
     ensures table { seat.new.table_id ≡ seat.old.table_id }
     ensures may { MayTake J.now (Some result.items) }
     ensures fetched { seat.new.me
@@ -194,29 +176,17 @@ fn fetch_at<J: Posting>(
     letter
 }
 
-/// It puts the slot back, empty, which takes this letter.
-fn return_at<J: Posting>(
-    board: &Board,
-    seat: &mut Seat<Slot, View>,
-    i: usize,
-    member: &Member,
-    word: usize,
-    slot: usize,
-    letter: &Vec<Entry>,
-)
-    requires errand { (J.errand.place ≡ i) × (J.errand.word ≡ 3) × (J.errand.letter ≡ letter.now.items) }
-    requires now { J.now ≡ member.now }
+/// It puts the slot back, empty, which takes its letter.
+fn return_at<J: Posting>(board: &Board, seat: &mut Seat<Slot, View>, word: usize)
+    requires second { J.errand.word ≡ 2 }
+    requires due { IsDueFor J.now J.errand }
     requires table { seat.old.table_id ≡ board.now.table.id }
-    requires fetched { seat.old.me ≡ busy seat.old.me.0.members J.errand ((slot, None) ∷ []) }
+    requires fetched { HasFetched J.errand J.now seat.old.me }
     requires there { present_at seat.old.me.0.members J.errand.place ≡ Some J.now }
-    requires deed { next_deed J.now ≡ Take }
-    requires own { me J.now.replica ≡ J.errand.late }
     requires word { word ≡ table_size J.now + J.errand.late }
     requires within { word < board.now.table.id.words }
-    requires slot { slot ≡ slot_number J.now.replica.late J.errand.late }
     ensures table { seat.new.table_id ≡ seat.old.table_id }
-    ensures taken { seat.new.me ≡ idle (with_present seat.old.me.0.members J.errand.place
-        (settled (took_letter (Some J.errand.letter) J.now))) }
+    ensures taken { Returned J.errand J.now seat.old.me seat.new.me }
 {
     board.table.shared.store::<Returns<J>>(seat, word, 4);
 }

@@ -21,7 +21,7 @@ use Rattle.dr_turn.proofs.Takes.{taking}
 use Rattle.dr_turn.specs.Work.{deeds_left}
 use Rattle.dr_table.specs.Cards.{AreAtEnd, AreSame, HasFewerLeft, IsAtEnd}
 use Rattle.dr_table.specs.Rule.{number}
-use Rattle.dr_table.specs.Steps.{IsReachedMember, MayTake}
+use Rattle.dr_table.specs.Steps.{FindsLetter, IsReachedMember, MayTake}
 use Rattle.dr_table.specs.Sweeps.{HasSwept, HasTaken, IsSwept}
 use Rattle.dr_table.proofs.Deeds.{after_told, same_number, took_told}
 use Rattle.dr_table.proofs.Sweeps.{taken_told}
@@ -118,15 +118,15 @@ module _ {D : Type 0} (told : D → Option Told) (faults : D → ℕ) where
   -- by a take
   pub gone_taking : (rs qs : List (Option Running)) (r : Running) (log : LogState D) → length rs ≡ 1
       → present_at rs 0 ≡ Some r → IsReachedMember r → r.replica.end ≡ None → next_deed r ≡ deeds.Take
-      → (letter : Option (List Entry)) × MayTake r letter
+      → (letter : Option (List Entry)) × FindsLetter rs r letter
       × (qs ≡ with_present rs 0 (settled (took_letter letter r)))
       → HasGone told faults rs log qs log
-  gone_taking rs qs r log one there reached none next (letter, may, to) =
+  gone_taking rs qs r log one there reached none next (letter, finds, to) =
       gone_by rs qs r (settled (took_letter letter r)) log log one there to
       (same_number r (settled (took_letter letter r)) (took_told letter r))
       (took_stays_ready log letter r)
       (λ base. took_served told faults base log letter r (record { unended = none; due = at_take r next })
-      (reached_form r reached).replica.logged (takes_on r letter next may))
+      (reached_form r reached).replica.logged (takes_on r letter next finds.may))
 
   -- and goes on to have served it
   swept_served : (base log : LogState D) (words : List ℕ) (r q : Running) → HasTaken words r q

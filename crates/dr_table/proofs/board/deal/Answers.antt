@@ -14,15 +14,20 @@ use Rattle.dr_table.specs.Cards.{opened}
 use Rattle.dr_table.specs.declared.rule.View.{View}
 use Rattle.dr_table.specs.Rule.{HasSuchProgram, IsDealt}
 use Rattle.dr_table.specs.Slots.{Slot}
-use Rattle.dr_table.proofs.Hands.{ahead_same, dealt_few, dealt_form, dealt_kept, dealt_late, dealt_of, dealt_opened, dealt_reached, dealt_size, dealt_small, dealt_words}
+use Rattle.dr_table.proofs.Hands.{ahead_same, dealt_few, dealt_form, dealt_kept, dealt_late, dealt_of, dealt_opened, dealt_reached, dealt_size, dealt_small, dealt_some, dealt_words}
 use Rattle.dr_table.proofs.Members.{idle_is}
 use Rattle.dr_table.proofs.Posting.{free}
 use Rattle.dr_table.proofs.board.deal.Goals as goal
 use mathlib.Core.Option.{some}
 
+pub first_present-first-requires : goal.first_present-first-requires
+first_present-first-requires c =
+    let (k, r, there) = dealt_some c.args.members.items c.requires.dealt in
+    (k, r, ap (λ l. present_at l k) c.deref.ensures.value ∙ there)
+
 pub most_room-requires : goal.most_room-requires
 most_room-requires c = λ m r there. dealt_form c.args.members.items c.requires.dealt m r
-    (ap (λ l. present_at l m) (sym c.deref-3.ensures.value) ∙ there)
+    (ap (λ l. present_at l m) (sym c.deref-2.ensures.value) ∙ there)
 
 pub overflow_add-table_words : goal.overflow_add-table_words
 overflow_add-table_words c =
@@ -30,7 +35,8 @@ overflow_add-table_words c =
     let d = c.requires.dealt in
     omega (
       arith,
-      dealt_size items c.deref.result.now d c.table_words.result c.deref.ensures.value c.table_words.ensures,
+      dealt_size items c.deref.result.now d c.first_present-first.result.now c.table_words.result
+          c.deref.ensures.value c.first_present-first.ensures c.table_words.ensures,
       dealt_small items d,
       dealt_few items d,
       d.is.most_members,
@@ -46,25 +52,26 @@ new-requires c =
     (sym (c.as_slice.ensures.value ∙ c.in_ok-words.ensures.items_if_clones_equal (λ y e. e)
     ∙ ap (λ n. replicate (c.table_words.result + n) 0) (c.len-places.ensures ∙ c.args.members.ok.0)))
     (dealt_kept items d c.table_words.result c.most_room.result c.in_ok-slots.slots.items
-    (dealt_size items c.deref.result.now d c.table_words.result c.deref.ensures.value c.table_words.ensures) (record {
+    (dealt_size items c.deref.result.now d c.first_present-first.result.now c.table_words.result
+    c.deref.ensures.value c.first_present-first.ensures c.table_words.ensures) (record {
       count = c.in_ok-slots.ensures.count ∙ c.count.ensures.value
-          ∙ ap (λ mask. length (members_of mask)) (dealt_late items c.deref-2.result.now d
-          c.late_members.result c.deref-2.ensures.value c.late_members.ensures);
+          ∙ ap (λ mask. length (members_of mask)) (dealt_late items c.deref.result.now d
+          c.first_present-first.result.now c.late.result c.deref.ensures.value
+          c.first_present-first.ensures c.late.ensures);
       blank = c.in_ok-slots.ensures.blank;
-      room = λ m r there. c.most_room.ensures m r (ap (λ l. present_at l m) c.deref-3.ensures.value ∙ there);
+      room = λ m r there. c.most_room.ensures m r (ap (λ l. present_at l m) c.deref-2.ensures.value ∙ there);
     }))
 
 -- the board has the words of the table, and one for each place
-sized : (items list : List (Option Running)) (d : IsDealt items) (ws : List ℕ) (count places words : ℕ)
+sized : (items list : List (Option Running)) (d : IsDealt items) (first : Running) (ws : List ℕ)
+    (count places words : ℕ)
     → ws ≡ replicate (count + places) 0 → list ≡ items
-    → ((size k : ℕ) (r : Running)
-    → ((m : ℕ) (q : Running) → present_at list m ≡ Some q → table_size q ≡ size) → present_at list k ≡ Some r
-    → count ≡ size)
+    → (k : ℕ) × (present_at list k ≡ Some first) → count ≡ table_size first
     → places ≡ length items → words ≡ length ws
     → words ≡ words_of (roster d.group) d.group.window (banks d.group) + roster d.group
-sized items list d ws count places words is same counts many long = omega (
+sized items list d first ws count places words is same there counts many long = omega (
   arith,
-  dealt_size items list d count same counts,
+  dealt_size items list d first count same there counts,
   dealt_few items d,
   many,
   long,
@@ -76,10 +83,11 @@ pub invariant_of-result : goal.invariant_of-result
 invariant_of-result c =
     let items = c.args.members.items in
     let d = c.requires.dealt in
-    let size = sized items c.deref.result.now d c.as_slice.result.now c.table_words.result c.len-places.result
-    c.in-Ok.table.shared.table_id.words
+    let size = sized items c.deref.result.now d c.first_present-first.result.now c.as_slice.result.now
+    c.table_words.result c.len-places.result c.in-Ok.table.shared.table_id.words
     (c.as_slice.ensures.value ∙ c.in_ok-words.ensures.items_if_clones_equal (λ y e. e)) c.deref.ensures.value
-    c.table_words.ensures (c.len-places.ensures ∙ c.args.members.ok.0) c.in-Ok.ensures.ok.0 in
+    c.first_present-first.ensures c.table_words.ensures (c.len-places.ensures ∙ c.args.members.ok.0)
+    c.in-Ok.ensures.ok.0 in
     λ k r there. dealt_of items d k r
     (ap (λ (v : Vec (Option Running) Global). present_at v.items k) (sym c.in-Ok.ensures.ok.5) ∙ there)
     ∙ sym size
@@ -88,10 +96,11 @@ pub invariant_of-result-2 : goal.invariant_of-result-2
 invariant_of-result-2 c =
     let items = c.args.members.items in
     let d = c.requires.dealt in
-    let size = sized items c.deref.result.now d c.as_slice.result.now c.table_words.result c.len-places.result
-    c.in-Ok.table.shared.table_id.words
+    let size = sized items c.deref.result.now d c.first_present-first.result.now c.as_slice.result.now
+    c.table_words.result c.len-places.result c.in-Ok.table.shared.table_id.words
     (c.as_slice.ensures.value ∙ c.in_ok-words.ensures.items_if_clones_equal (λ y e. e)) c.deref.ensures.value
-    c.table_words.ensures (c.len-places.ensures ∙ c.args.members.ok.0) c.in-Ok.ensures.ok.0 in
+    c.first_present-first.ensures c.table_words.ensures (c.len-places.ensures ∙ c.args.members.ok.0)
+    c.in-Ok.ensures.ok.0 in
     let words = ap (λ (t : TableId). t.words) c.in-Ok.ensures.ok.2 ∙ size in record {
       ahead = ahead_same c.in-Ok.seat.me.0.members items (ap (λ (me : Me Slot View). me.0.members)
           c.in-Ok.ensures.ok.4);
@@ -105,10 +114,11 @@ invariant_of-result-2 c =
 pub returns-clause-opened : goal.returns-clause-opened
 returns-clause-opened c = λ d.
     let items = c.args.members.items in
-    let size = sized items c.deref.result.now d c.as_slice.result.now c.table_words.result c.len-places.result
-    c.in-Ok.table.shared.table_id.words
+    let size = sized items c.deref.result.now d c.first_present-first.result.now c.as_slice.result.now
+    c.table_words.result c.len-places.result c.in-Ok.table.shared.table_id.words
     (c.as_slice.ensures.value ∙ c.in_ok-words.ensures.items_if_clones_equal (λ y e. e)) c.deref.ensures.value
-    c.table_words.ensures (c.len-places.ensures ∙ c.args.members.ok.0) c.in-Ok.ensures.ok.0 in
+    c.first_present-first.ensures c.table_words.ensures (c.len-places.ensures ∙ c.args.members.ok.0)
+    c.in-Ok.ensures.ok.0 in
     ap (λ (v : Vec (Option Running) Global). opened (record {
       table = record { id = c.in-Ok.table.shared.table_id; places = length v.items };
       members = v.items;

@@ -1,4 +1,4 @@
-use Rattle.std.proofs.Common.{◌<◌, ◌∷◌, [], sym, ap, ◌∙◌, subst}
+use Rattle.std.proofs.Common.{◌<◌, arith, ◌∷◌, [], sym, ap, ◌∙◌, subst}
 use Rattle.std.specs.Prelude.{None, Some, Vec}
 use Rattle.std.specs.declared.alloc.Global.{Global}
 use Rattle.dr_entry.specs.declared.entry.Entry.{Entry}
@@ -12,11 +12,11 @@ use Rattle.dr_table.proofs.Holding.{exchanged, first_is, held, same_list}
 use Rattle.dr_table.proofs.posts.fetch_at.Goals as goal
 
 pub store-requires : goal.store-requires
-store-requires g c = (
+store-requires g c = let due = c.requires.due.takes (omega (arith, c.requires.second)) in (
   c.requires.table ∙ sym (ap (λ (w : Cards). w.table.id) c.board.view_is),
-  subst (λ (w : Cards). c.args.word < w.table.id.words) (sym c.board.view_is) c.requires.within,
+  subst (λ (w : Cards). c.args.word < w.table.id.words) (sym c.board.view_is) c.requires.at.within,
   fetch_allowed _ _ _ _ c.args.seat.now.me g.J.Posting.errand g.J.Posting.now c.requires.seen
-      c.requires.errand.1 c.requires.there c.requires.deed c.requires.own c.requires.word,
+      c.requires.second c.requires.there due.0 due.1 c.requires.at.word,
 )
 
 pub exchange-requires : goal.exchange-requires
@@ -26,7 +26,7 @@ exchange-requires g c =
       (
         Some list,
         held c.store.new.seat.me.1 (c.args.slot, Some list)
-            (ap (λ (m : Me Slot View). m.1) is ∙ ap (λ n. (n, Some list) ∷ []) (sym c.requires.slot)),
+            (ap (λ (m : Me Slot View). m.1) is ∙ ap (λ n. (n, Some list) ∷ []) (sym c.requires.at.home)),
       ),
     )
 

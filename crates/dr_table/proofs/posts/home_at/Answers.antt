@@ -22,10 +22,11 @@ store-requires g c =
     let is = exchanged c.args.seat.now.me c.exchange-none.new.seat.me _ _ _ c.args.slot (Some c.args.letter)
     c.requires.opened c.exchange-none.ensures.3 in (
       c.exchange-none.ensures.0 ∙ c.requires.table ∙ sym (ap (λ (w : Cards). w.table.id) c.board.view_is),
-      subst (λ (w : Cards). c.args.word < w.table.id.words) (sym c.board.view_is) c.requires.within,
+      subst (λ (w : Cards). c.args.word < w.table.id.words) (sym c.board.view_is) c.requires.at.within,
       home_allowed _ _ _ _ c.args.slot c.exchange-none.new.seat.me g.J.Posting.errand c.args.letter
-          g.J.Posting.now (busy_is _ _ _ _ is) c.requires.errand.2
-          (members_there _ _ _ _ _ _ is c.requires.there) c.requires.deed c.requires.word c.requires.slot
+          g.J.Posting.now (busy_is _ _ _ _ is) c.requires.first
+          (members_there _ _ _ _ _ _ is c.requires.there) (c.requires.due.gives c.requires.first)
+          c.requires.at.word c.requires.at.home
           c.requires.letter,
     )
 

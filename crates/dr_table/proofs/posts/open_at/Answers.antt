@@ -12,9 +12,9 @@ pub store-requires : goal.store-requires
 store-requires g c =
     let t = c.requires.there in (
       c.requires.table ∙ sym (ap (λ (w : Cards). w.table.id) c.board.view_is),
-      subst (λ (w : Cards). c.args.word < w.table.id.words) (sym c.board.view_is) c.requires.within,
+      subst (λ (w : Cards). c.args.word < w.table.id.words) (sym c.board.view_is) c.requires.at.within,
       open_allowed _ _ _ _ c.args.seat.now.me g.J.Posting.errand t.0 g.J.Posting.now c.requires.idle
-          c.requires.errand.2 t.1 t.2 c.requires.deed c.requires.word,
+          c.requires.first t.1 t.2 (c.requires.due.gives c.requires.first) c.requires.at.word,
     )
 
 pub exchange-requires : goal.exchange-requires
@@ -24,7 +24,7 @@ exchange-requires g c =
       (
         Some list,
         held c.store.new.seat.me.1 (c.args.slot, Some list)
-            (ap (λ (m : Me Slot View). m.1) is ∙ ap (λ n. (n, Some list) ∷ []) (sym c.requires.slot)),
+            (ap (λ (m : Me Slot View). m.1) is ∙ ap (λ n. (n, Some list) ∷ []) (sym c.requires.at.home)),
       ),
     )
 

@@ -1,13 +1,16 @@
-use Rattle.std.proofs.Common.{◌<◌, sym, ap, ◌∙◌, subst}
+use Rattle.std.proofs.Common.{◌<◌, ◌+◌, arith, sym, ap, ◌∙◌, subst}
+use Rattle.dr_member.specs.Deeds.{table_size}
 use Rattle.dr_table.specs.Cards.{Cards}
 use Rattle.dr_table.proofs.Exchanges.{peek_allowed}
 use Rattle.dr_table.proofs.posts.peek_at.Goals as goal
 
 pub load-requires : goal.load-requires
 load-requires g c =
-    let t = c.requires.there in (
+    let t = c.requires.there in
+    let due = c.requires.due.takes (omega (arith, c.requires.second)) in (
       c.requires.table ∙ sym (ap (λ (w : Cards). w.table.id) c.board.view_is),
       subst (λ (w : Cards). c.args.word < w.table.id.words) (sym c.board.view_is) c.requires.within,
       peek_allowed _ _ _ _ c.args.seat.now.me g.J.Posting.errand t.0 g.J.Posting.now c.requires.idle
-          c.requires.errand.1 t.1 t.2 c.requires.deed c.requires.own c.requires.word,
+          c.requires.second t.1 t.2 due.0 due.1
+          (c.requires.word ∙ ap (λ n. table_size g.J.Posting.now + n) (sym due.1)),
     )

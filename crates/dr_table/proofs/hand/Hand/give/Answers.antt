@@ -51,8 +51,11 @@ give_at-requires-clause-size c =
     s.is.of c.args.i c.in-Some.member s.here ∙ ap (λ (w : Cards). w.table.id.words) c.self.view_is
     ∙ ap (λ (t : DealtTable). t.id.words) c.requires.board
 
-pub give_at-requires-clause-deed : goal.give_at-requires-clause-deed
-give_at-requires-clause-deed c = sym c.next.ensures.deed ∙ c.in-Give.is
+pub give_at-requires-clause-due : goal.give_at-requires-clause-due
+give_at-requires-clause-due c = record {
+  gives = λ one. sym c.next.ensures.deed ∙ c.in-Give.is;
+  takes = λ two. absurd (omega (arith, two));
+}
 
 -- a give is one by its late member
 a_give : (d : Deed) → is_give d ≡ true → ((late : ℕ) → d ≡ deeds.Give late → ⊥) → ⊥

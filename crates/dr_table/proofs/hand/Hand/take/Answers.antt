@@ -4,9 +4,10 @@ use Rattle.std.specs.Prelude.{Vec, option_map}
 use Rattle.std.specs.declared.alloc.Global.{Global}
 use Rattle.dr_entry.specs.declared.entry.Entry.{Entry}
 use Rattle.dr_form.specs.Letters.{IsFitting}
+use Rattle.dr_program.specs.Presence.{with_present}
 use Rattle.dr_program.specs.Running.{Running, next_deed, settled, took_letter}
 use Rattle.dr_table.specs.Cards.{Cards, DealtTable}
-use Rattle.dr_table.specs.Steps.{IsReachedMember, MayTake}
+use Rattle.dr_table.specs.Steps.{FindsLetter, IsReachedMember, MayTake}
 use Rattle.dr_table.proofs.Deeds.{took_told}
 use Rattle.dr_table.proofs.Keeping.{take_reached}
 use Rattle.dr_table.proofs.Hands.{seat_has}
@@ -53,10 +54,13 @@ take_at-letter-requires-clause-size c =
     s.is.of c.args.i c.in-Some.member s.here ∙ ap (λ (w : Cards). w.table.id.words) c.self.view_is
     ∙ ap (λ (t : DealtTable). t.id.words) c.requires.board
 
-pub take_at-letter-requires-clause-deed : goal.take_at-letter-requires-clause-deed
-take_at-letter-requires-clause-deed c =
+pub take_at-letter-requires-clause-due : goal.take_at-letter-requires-clause-due
+take_at-letter-requires-clause-due c =
     let s = lent c.index.result.now c.self.invariant c.self.view_is c.requires.there c.index.ensures c.in-Some.is in
-    a_take (next_deed c.in-Some.member) (c.requires.deed c.in-Some.member (there s))
+    record {
+      gives = λ one. absurd (omega (arith, one));
+      takes = λ two. (a_take (next_deed c.in-Some.member) (c.requires.deed c.in-Some.member (there s)), refl);
+    }
 
 pub take_letter-requires-clause-due : goal.take_letter-requires-clause-due
 take_letter-requires-clause-due c = c.requires.deed c.in-Some-index_mut.member (there (lent c.index_mut.result.now
@@ -70,7 +74,7 @@ take_letter-requires-clause-fitting c =
     let letter = option_map (λ (l : Vec Entry Global). l.items) c.take_at-letter.result in
     fits_list (IsFitting m.replica) c.take_at-letter.result
     (taken_fits m letter (a_take (next_deed m) (c.requires.deed m (there now)))
-    (subst (λ q. MayTake q letter) (sym (only now (there s))) c.take_at-letter.ensures.may))
+    (subst (λ q. MayTake q letter) (sym (only now (there s))) c.take_at-letter.ensures.finds.may))
 
 pub invariant_of-self : goal.invariant_of-self
 invariant_of-self c =
@@ -82,7 +86,7 @@ invariant_of-self c =
     (ap (λ (q : Running). told q.replica) after ∙ took_told letter c.in-Some.member)
     (subst IsReachedMember (sym after) (take_reached c.in-Some.member letter
     (a_take (next_deed c.in-Some.member) (c.requires.deed c.in-Some.member (there s)))
-    c.take_at-letter.ensures.may))
+    c.take_at-letter.ensures.finds.may))
     refl refl refl c.take_at-letter.ensures.table c.take_at-letter.ensures.taken ([], sym after)
 
 pub returns-clause-members : goal.returns-clause-members
@@ -91,7 +95,8 @@ returns-clause-members c =
     let now = lent c.index_mut.result.now c.self.invariant c.self.view_is c.requires.there c.index_mut.ensures.value c.in-Some-index_mut.is in
     let letter = option_map (λ (l : Vec Entry Global). l.items) c.take_at-letter.result in
     took_so c.take_letter.new.member letter now c.take_letter.ensures.after
-    (subst (λ q. MayTake q letter) (sym (only now (there s))) c.take_at-letter.ensures.may)
+    (subst (λ q. FindsLetter (with_present c.self.inside.seat.me.0.members c.args.i q) q letter)
+    (sym (only now (there s))) c.take_at-letter.ensures.finds)
 
 pub returns-clause-falls : goal.returns-clause-falls
 returns-clause-falls c =

@@ -1,7 +1,7 @@
 use Rattle.std.proofs.Common.{◌≡◌, ◌<◌, ℕ}
 use Rattle.std.specs.Prelude.{None}
 use Rattle.dr_program.specs.Presence.{present_at}
-use Rattle.dr_table.proofs.board.table_words.Given as goal
+use Rattle.dr_table.proofs.board.first_present.Given as goal
 
 -- nobody stood at the places before
 abbrev pub invariant-loop-place : goal.invariant-loop-place

@@ -1,8 +1,0 @@
-use Rattle.std.proofs.Common.{◌≡◌, ◌<◌, ℕ}
-use Rattle.std.specs.Prelude.{None}
-use Rattle.dr_program.specs.Presence.{present_at}
-use Rattle.dr_table.proofs.board.late_members.Given as goal
-
--- nobody stood at the places before
-abbrev pub invariant-loop-place : goal.invariant-loop-place
-invariant-loop-place l = (k : ℕ) → k < l.place-index → present_at l.members k ≡ None
