@@ -294,18 +294,6 @@ pub record AreBack {D : Type 0} (tells : D → Option Told) (faults : D → ℕ)
   pub back : (m : ℕ) → length logs ≤ m → (yard.told m ≡ (with_logs tells faults first all).told m)
       × (yard.faults m ≡ (with_logs tells faults first all).faults m)
 
-pub none_back : {D : Type 0} (tells : D → Option Told) (faults : D → ℕ) (first : YardState)
-    (all : List (Option (LogState D))) → AreBack tells faults first all first all
-none_back {D} tells faults first all = record {
-  few = omega arith;
-  same = λ m l. refl;
-  rest = λ m l. (refl, refl);
-  back = λ m past. (
-    sym (told_none tells faults first all m (place_past all m past)),
-    sym (faults_none tells faults first all m (place_past all m past)),
-  );
-}
-
 pub one_more_back : {D : Type 0} (tells : D → Option Told) (faults : D → ℕ) (first : YardState)
     (all : List (Option (LogState D))) (old new : YardState) (logs rest : List (Option (LogState D)))
     (place : Option (LogState D))

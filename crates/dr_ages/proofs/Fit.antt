@@ -56,9 +56,9 @@ use Rattle.dr_yard.specs.Yards.{AllTell, YardState}
 use Rattle.dr_ages.specs.declared.mode.Mode.{Mode}
 use Rattle.dr_ages.specs.declared.part.Part.{Part}
 use Rattle.dr_ages.specs.declared.stop.Stop.{Stop}
-use Rattle.dr_ages.specs.Ages.{IsAgeOf, over_of, start_of}
+use Rattle.dr_ages.specs.Ages.{IsAgeOf, NamesNobody, over_of, start_of}
 use Rattle.dr_ages.specs.Fit.{AreChosen, AreFit, IsReadable, MayLeave}
-use Rattle.dr_ages.specs.Found.{AreFound, NoneMissing, ReadsAs}
+use Rattle.dr_ages.specs.Found.{AreFound, ReadsAs}
 use Rattle.dr_ages.specs.Left.{HasLeft}
 use Rattle.dr_ages.specs.Lent.{AreAllBut, AreMounted, IsAlike, with_logs}
 use Rattle.dr_ages.specs.Stops.{HasStopped, IsBadLogs}
@@ -113,7 +113,7 @@ fit_good script yard fit = record {
 }
 
 pub fit_never : (script : Script) (part : Part) (before after : YardState) (s : Stop) → HasGroupRanges script
-    → NoneMissing script.members part.missing → AreFit script before → HasStopped script part before after s
+    → NamesNobody script.members part.missing → AreFit script before → HasStopped script part before after s
     → IsBadLogs s → ⊥
 fit_never script part before after s ranges none fit is bad =
     good_never script part before after s ranges none (fit_good script before fit) is bad
@@ -200,7 +200,7 @@ mounted_fit tells faults script before mid after logs fit mounted rest back =
 -- ---- the disks that an age leaves
 
 pub age_fit : (script : Script) (part : Part) (mode : Mode) (nth : ℕ) (before yard : YardState) (age : AgeEnd)
-    → HasRanges script → NoneMissing script.members part.missing → IsAgeOf script part mode nth before yard age
+    → HasRanges script → NamesNobody script.members part.missing → IsAgeOf script part mode nth before yard age
     → AllTell script.members yard → AreFit script yard
 age_fit script part mode nth before yard age ranges none is tell = record {
   readable = λ m l. readable_behind script part mode nth before yard age is tell m l (none m l);
@@ -236,7 +236,7 @@ age_fit script part mode nth before yard age ranges none is tell = record {
 
 -- so its logs are never refused
 pub age_leaves_good : (script : Script) (part : Part) (mode : Mode) (nth : ℕ) (before yard : YardState) (age : AgeEnd)
-    → HasRanges script → NoneMissing script.members part.missing → IsAgeOf script part mode nth before yard age
+    → HasRanges script → NamesNobody script.members part.missing → IsAgeOf script part mode nth before yard age
     → AllTell script.members yard → IsGood script yard
 age_leaves_good script part mode nth before yard age ranges none is tell =
     fit_good script yard (age_fit script part mode nth before yard age ranges none is tell)

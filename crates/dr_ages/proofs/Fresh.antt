@@ -63,8 +63,8 @@ use Rattle.dr_ages.specs.declared.mode.Mode.{Mode}
 use Rattle.dr_ages.specs.declared.part.Part.{Part}
 use Rattle.dr_ages.specs.declared.stop.Stop.{Stop}
 use Rattle.dr_ages.specs.declared.stop.Stop.TheVariants.{OutOfMemory, DiskFault, LogFull, Damaged, Disagree, Foreign, NoQuorum, AgesUsedUp}
-use Rattle.dr_ages.specs.Ages.{AreAges, IsAgeOf, IsMemberOf, opening_of, start_of}
-use Rattle.dr_ages.specs.Found.{AreFew, AreFound, AreRoomy, NoneMissing, ReadsAs}
+use Rattle.dr_ages.specs.Ages.{AreAges, IsAgeOf, IsMemberOf, NamesNobody, opening_of, start_of}
+use Rattle.dr_ages.specs.Found.{AreFew, AreFound, AreRoomy, ReadsAs}
 use Rattle.dr_ages.specs.Left.{HasLeft, with_logged}
 use Rattle.dr_ages.specs.Stops.{AreOpenBelow, AreRefusedFor, HasStopped, HaveVotesBelow, IsOutside, IsTooFull}
 use Rattle.dr_opening.proofs.Choosing.{chosen_group}
@@ -288,7 +288,7 @@ fresh_first script yard empty = record {
 
 -- the age has the number of those before it
 age_number : (script : Script) (part : Part) (mode : Mode) (bytes first k nth : ℕ) (before yard : YardState)
-    (age : AgeEnd) → NoneMissing script.members part.missing → IsRoomyAt script bytes first k before
+    (age : AgeEnd) → NamesNobody script.members part.missing → IsRoomyAt script bytes first k before
     → IsAgeOf script part mode nth before yard age → age.age ≡ first + k
 age_number script part mode bytes first k nth before yard age none roomy is =
     roomy.next is.contents (start_of script part age)
@@ -321,7 +321,7 @@ fresh_start script part mode nth before (one ∷ ages) last a empty are at =
 
 -- what an age leaves on a log, by what was found on it as the age opened
 pub roomy_next : (script : Script) (part : Part) (mode : Mode) (bytes first k nth : ℕ) (before yard : YardState)
-    (age : AgeEnd) → HasRanges script → NoneMissing script.members part.missing → IsRoomyAt script bytes first k before
+    (age : AgeEnd) → HasRanges script → NamesNobody script.members part.missing → IsRoomyAt script bytes first k before
     → IsAgeOf script part mode nth before yard age → IsRoomyAt script bytes first (k + 1) yard
 roomy_next script part mode bytes first k nth before yard age ranges none roomy is = record {
   tell = tell;
@@ -405,7 +405,7 @@ roomy_next script part mode bytes first k nth before yard age ranges none roomy 
             ∙ (sym (entries_length-append es front.0) ∙ ap entries_length front.1)
 
 pub roomy_last : (script : Script) (part : Part) (mode : Mode) (bytes first k nth : ℕ) (before : YardState)
-    (ages : List AgeEnd) (last : YardState) → HasRanges script → NoneMissing script.members part.missing
+    (ages : List AgeEnd) (last : YardState) → HasRanges script → NamesNobody script.members part.missing
     → IsRoomyAt script bytes first k before → AreAges script part mode nth before ages last
     → IsRoomyAt script bytes first (k + length ages) last
 roomy_last script part mode bytes first k nth before [] last ranges none roomy are =
@@ -418,7 +418,7 @@ roomy_last script part mode bytes first k nth before (age ∷ ages) last ranges 
 
 pub roomy_ages : (script : Script) (part : Part) (mode : Mode) (bytes first k nth : ℕ) (before : YardState)
     (ages : List AgeEnd) (last : YardState) (i : ℕ) (a : AgeEnd) → HasRanges script
-    → NoneMissing script.members part.missing → bytes ≤ 536870912 → k + length ages ≤ 16
+    → NamesNobody script.members part.missing → bytes ≤ 536870912 → k + length ages ≤ 16
     → IsRoomyAt script bytes first k before → AreAges script part mode nth before ages last
     → slice_get ages i ≡ Some a → (a.age ≡ first + k + i) × NoneFull a.members
 roomy_ages script part mode bytes first k nth before [] last i a ranges none short small roomy are at =
@@ -519,7 +519,7 @@ full_never script part before after m len ranges is little = omega (
 -- ---- what stops a run
 
 pub roomy_stop : (script : Script) (part : Part) (bytes first k : ℕ) (last after : YardState) (s : Stop)
-    → HasRanges script → NoneMissing script.members part.missing → bytes ≤ 536870912 → k ≤ 16 → first + k < 2 ^ 16
+    → HasRanges script → NamesNobody script.members part.missing → bytes ≤ 536870912 → k ≤ 16 → first + k < 2 ^ 16
     → IsRoomyAt script bytes first k last → HasStopped script part last after s → IsOutside s
 roomy_stop script part bytes first k last after s ranges none short small number roomy stopped = by s stopped
   where

@@ -38,9 +38,9 @@ use Rattle.dr_ages.specs.declared.mode.Mode.{Mode}
 use Rattle.dr_ages.specs.declared.part.Part.{Part}
 use Rattle.dr_ages.specs.declared.stop.Stop.{Stop}
 use Rattle.dr_ages.specs.declared.stop.Stop.TheVariants.{OutOfMemory, DiskFault, LogFull, Damaged, Disagree, Foreign, NoQuorum, AgesUsedUp}
-use Rattle.dr_ages.specs.Ages.{IsAgeOf}
+use Rattle.dr_ages.specs.Ages.{IsAgeOf, NamesNobody}
 use Rattle.dr_ages.specs.Fit.{IsReadable}
-use Rattle.dr_ages.specs.Found.{AreFound, NoneMissing, ReadsAs}
+use Rattle.dr_ages.specs.Found.{AreFound, ReadsAs}
 use Rattle.dr_ages.specs.Left.{HasLeft, with_logged}
 use Rattle.dr_ages.specs.Stops.{AreRefusedFor, HasStopped, IsBadLogs, ReadsDamaged}
 use Rattle.dr_ages.proofs.Keeping.{behind, ended_over}
@@ -104,7 +104,7 @@ age_never script part mode nth before last after age s ranges is tell stopped ba
 
 -- ---- where none is missing
 
-pub found_whole : (n missing : ℕ) (yard : YardState) (contents : List (Option OnLog)) → NoneMissing n missing
+pub found_whole : (n missing : ℕ) (yard : YardState) (contents : List (Option OnLog)) → NamesNobody n missing
     → AreFound n missing yard contents → AreFound n 0 yard contents
 found_whole n missing yard contents none found = record {
   all = found.all;
@@ -190,7 +190,7 @@ pub record IsGood (script : Script) (yard : YardState) : Type 0 where
 
 -- so their logs are never refused
 pub good_never : (script : Script) (part : Part) (last after : YardState) (s : Stop) → HasGroupRanges script
-    → NoneMissing script.members part.missing → IsGood script last → HasStopped script part last after s → IsBadLogs s
+    → NamesNobody script.members part.missing → IsGood script last → HasStopped script part last after s → IsBadLogs s
     → ⊥
 good_never script part last after s ranges none good stopped bad = by s stopped bad
   where

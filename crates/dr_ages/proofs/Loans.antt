@@ -117,11 +117,6 @@ all_but_more {D} missing logs place k but at is m l = ⊎_elim
     ∙ but m (omega (arith, l, length-append logs (place ∷ []), apart, at)))
     (cases_eq m k)
 
--- what is known of a place is known of its log
-pub log_placed : {D : Type 0} (P : LogState D → Type 0) (logs : List (Option (LogState D))) (m : ℕ)
-    (log : LogState D) → log_of logs m ≡ Some log → IfSome (log_of logs m) P → P log
-log_placed {D} P logs m log at is = subst (λ (o : Option (LogState D)). IfSome o P) at is
-
 -- a log that was mounted from a disk that was lent
 pub was_mounted : {D : Type 0} (tells : D → Option Told) (faults : D → ℕ) (told : Option Told) (count : ℕ)
     (disk : D) (log : LogState D) → tells disk ≡ told → IfSome (tells disk) ReadsAnImage

@@ -68,8 +68,8 @@ use Rattle.dr_yard.specs.Yards.{YardState}
 use Rattle.dr_ages.specs.declared.mode.Mode.{Mode}
 use Rattle.dr_ages.specs.declared.mode.Mode.TheVariants.{Sim}
 use Rattle.dr_ages.specs.declared.part.Part.{Part}
-use Rattle.dr_ages.specs.Ages.{HaveSomebodyPrompt, IsAgeOf, IsMemberOf, IsPlayed, opening_of, over_of, start_of, taking_part}
-use Rattle.dr_ages.specs.Found.{AreFew, NoneMissing}
+use Rattle.dr_ages.specs.Ages.{HaveSomebodyPrompt, IsAgeOf, IsMemberOf, IsPlayed, NamesNobody, opening_of, over_of, start_of, taking_part}
+use Rattle.dr_ages.specs.Found.{AreFew}
 use Rattle.dr_ages.specs.Left.{HasLeft, IsFullAt, with_logged}
 use Rattle.dr_ages.specs.Lent.{AreAllBut, AreMounted, IsMounted, with_logs}
 use Rattle.dr_ages.specs.Opened.{AreLater, IsLater}
@@ -301,7 +301,7 @@ part_of script missing m few below there =
     )
 
 -- where none is missing all do
-pub all_take_part : (script : Script) (missing : ℕ) → script.members ≤ 16 → NoneMissing script.members missing
+pub all_take_part : (script : Script) (missing : ℕ) → script.members ≤ 16 → NamesNobody script.members missing
     → taking_part script missing ≡ 2 ^ script.members - 1
 all_take_part script missing few none =
     same_masks (taking_part script missing) (2 ^ script.members - 1)
@@ -551,7 +551,7 @@ is_age {D} tells faults script part mode nth before start olds mids news age w =
         (later_by_run tells faults script start nth age mode mids news w.ranges group opens (w.run, w.come) m old new
         from to))
 
-    whole : NoneMissing script.members part.missing → AllPresent (group_of script start)
+    whole : NamesNobody script.members part.missing → AllPresent (group_of script start)
     whole none = present ∙ all_take_part script part.missing w.ranges.group.most_members none
         ∙ ap (λ n. 2 ^ n - 1) (sym w.ranges.group.lists)
 

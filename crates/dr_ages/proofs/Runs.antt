@@ -31,9 +31,9 @@ use Rattle.dr_ages.specs.declared.mode.Mode.{Mode}
 use Rattle.dr_ages.specs.declared.part.Part.{Part}
 use Rattle.dr_ages.specs.declared.stop.Stop.{Stop}
 use Rattle.dr_ages.specs.declared.stop.Stop.TheVariants.{OutOfMemory, DiskFault, LogFull, Damaged, Disagree, Foreign, NoQuorum, AgesUsedUp}
-use Rattle.dr_ages.specs.Ages.{AreAges, IsAgeOf, start_of, starts_of}
+use Rattle.dr_ages.specs.Ages.{AreAges, IsAgeOf, NamesNobody, start_of, starts_of}
 use Rattle.dr_ages.specs.Fit.{AreFit}
-use Rattle.dr_ages.specs.Found.{AreFound, AreRoomy, NoneMissing}
+use Rattle.dr_ages.specs.Found.{AreFound, AreRoomy}
 use Rattle.dr_ages.specs.Left.{HasLeft, with_logged}
 use Rattle.dr_ages.specs.Passing.{AllBeginWith, AreKeptSince, AreUntouched, PassOn}
 use Rattle.dr_ages.specs.Runs.{HaveEndedWith, HasFinished, HaveLogged, IsFitRun, IsFreshRun, IsKeptRun, IsRoomyRun, IsRunOf, with_these}
@@ -67,7 +67,7 @@ IsKeptBy script missing last after chosen stop =
 -- and it has left fit disks fit, where none is missing, unless memory was wanting
 abbrev pub StaysFit : Script → ℕ → YardState → YardState → Stop → Type 0
 StaysFit script missing last after stop =
-    stop ≢ OutOfMemory → NoneMissing script.members missing → AreFit script last → AreFit script after
+    stop ≢ OutOfMemory → NamesNobody script.members missing → AreFit script last → AreFit script after
 
 few_ages : (script : Script) (part : Part) (last after : YardState) (chosen : List (List Entry)) (ages : List AgeEnd)
     (stop : Option Stop) → HasRanges script → HasFinished script part last after chosen ages stop
@@ -87,7 +87,7 @@ last_passes script part last after chosen ages (Some stop) end = end.3
 fresh_run : (script : Script) (part : Part) (mode : Mode) (before : YardState) (ages : List AgeEnd)
     (last after : YardState) (chosen : List (List Entry)) (stop : Option Stop) → HasRanges script
     → AreAges script part mode 0 before ages last → HasFinished script part last after chosen ages stop
-    → NoneMissing script.members part.missing → AreEmpty script.members before → IsFreshRun ages stop
+    → NamesNobody script.members part.missing → AreEmpty script.members before → IsFreshRun ages stop
 fresh_run script part mode before ages last after chosen stop ranges are end none empty = record {
   numbered = λ i age at. omega (arith, (each i age at).0);
   first = λ age at. fresh_start script part mode 0 before ages last age empty are at;
@@ -114,7 +114,7 @@ fresh_run script part mode before ages last after chosen stop ranges are end non
 roomy_run : (script : Script) (part : Part) (mode : Mode) (before : YardState) (ages : List AgeEnd)
     (last after : YardState) (chosen : List (List Entry)) (stop : Option Stop) → HasRanges script
     → AreAges script part mode 0 before ages last → HasFinished script part last after chosen ages stop
-    → NoneMissing script.members part.missing → AreFit script before → AreRoomy script before → IsRoomyRun ages stop
+    → NamesNobody script.members part.missing → AreFit script before → AreRoomy script before → IsRoomyRun ages stop
 roomy_run script part mode before ages last after chosen stop ranges are end none fit roomy = record {
   roomy = λ i d l. (each ages are end i (get_or ages i d) (slice_get-get_or ages i d l)).1;
   stopped = stopped stop ages are end;
@@ -307,7 +307,7 @@ voted_kept script part mode before ages last after chosen stop ranges are end te
 -- ---- fit disks stay fit
 
 fit_last : (script : Script) (part : Part) (mode : Mode) (before : YardState) (ages : List AgeEnd) (last : YardState)
-    → HasRanges script → NoneMissing script.members part.missing → AreAges script part mode 0 before ages last
+    → HasRanges script → NamesNobody script.members part.missing → AreAges script part mode 0 before ages last
     → AreFit script before → AreFit script last
 fit_last script part mode before [] last ranges none are fit = subst (AreFit script) are fit
 fit_last script part mode before (one ∷ ages) last ranges none are fit =
@@ -318,7 +318,7 @@ fit_last script part mode before (one ∷ ages) last ranges none are fit =
 fit_run : (script : Script) (part : Part) (mode : Mode) (before : YardState) (ages : List AgeEnd)
     (last after : YardState) (chosen : List (List Entry)) (stop : Option Stop) → HasRanges script
     → AreAges script part mode 0 before ages last → HasFinished script part last after chosen ages stop
-    → IfSome stop (StaysFit script part.missing last after) → NoneMissing script.members part.missing
+    → IfSome stop (StaysFit script part.missing last after) → NamesNobody script.members part.missing
     → AreFit script before → IsFitRun script after stop
 fit_run script part mode before ages last after chosen None ranges are end stays none fit = record {
   never = tt;

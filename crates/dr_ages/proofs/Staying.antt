@@ -39,9 +39,6 @@ other_starts es (x ∷ xs) ys all = other_starts es xs ys (All-tail (begins_with
 pub no_starts : (es : List Entry) → AllBeginWith es []
 no_starts es = All-nil (begins_with es)
 
-pub one_start : (es start : List Entry) → IsPrefixOf es start → AllBeginWith es (start ∷ [])
-one_start es start part = All-cons (begins_with es) start [] part (All-nil (begins_with es))
-
 pub of_one_start : (es start : List Entry) → AllBeginWith es (start ∷ []) → IsPrefixOf es start
 of_one_start es start all = All-head (begins_with es) start [] all
 

@@ -33,7 +33,7 @@ use Rattle.dr_yard.specs.Yards.{YardState}
 use Rattle.dr_ages.specs.declared.mode.Mode.{Mode}
 use Rattle.dr_ages.specs.declared.mode.Mode.TheVariants.{Sim, Run}
 use Rattle.dr_ages.specs.declared.part.Part.{Part}
-use Rattle.dr_ages.specs.Found.{AreFew, AreFound, NoneMissing}
+use Rattle.dr_ages.specs.Found.{AreFew, AreFound}
 use Rattle.dr_ages.specs.Left.{HasLeft, IsFullAt}
 use Rattle.dr_ages.specs.Passing.{AreKeptSince, AreUntouched, PassOn}
 
@@ -41,9 +41,17 @@ use Rattle.dr_ages.specs.Passing.{AreKeptSince, AreUntouched, PassOn}
 abbrev pub taking_part : Script → ℕ → ℕ
 taking_part script missing = without (2 ^ script.members - 1) missing
 
+-- the mask names none of so many members
+abbrev pub NamesNobody : ℕ → ℕ → Type 0
+NamesNobody n mask = (m : ℕ) → m < n → has mask m ≡ false
+
 -- all take part but the missing, and nobody is late
 abbrev pub all_but : ℕ → Part
 all_but missing = record { missing = missing; late = 0 }
+
+-- all take part, and these are late
+abbrev pub all_with : ℕ → Part
+all_with late = record { missing = 0; late = late }
 
 -- somebody who takes part isn't late, where anybody takes part
 abbrev pub HaveSomebodyPrompt : Script → Part → Type 0
@@ -100,7 +108,7 @@ pub record IsAgeOf (script : Script) (part : Part) (mode : Mode) (nth : ℕ) (be
   pub agreed : EndsAgreed (opening_of script part age) age.members
   pub ended : HaveEnded (opening_of script part age) script.turns (crashes_of script.faults nth) age.members
   pub trusting : SuspectsNobody script → NoneLeft age.members
-  pub complete : NoneMissing script.members part.missing → IsNobodyLate (opening_of script part age) → mode ≡ Sim
+  pub complete : NamesNobody script.members part.missing → IsNobodyLate (opening_of script part age) → mode ≡ Sim
       → HasTime script → NoneStopped age.members → AreComplete (opening_of script part age) age.members
   -- exactly the missing are absent
   pub absent : (m : ℕ) (e : MemberEnd) → slice_get age.members m ≡ Some e

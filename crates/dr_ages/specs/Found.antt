@@ -1,5 +1,5 @@
 -- What is found on the disks of a yard as an age opens.
-use Rattle.std.specs.Prelude.{◌≡◌, ℕ, ◌+◌, ◌<◌, ◌^◌, ◌≤◌, false, not, List, length, Option, Some, IfSome, is_some}
+use Rattle.std.specs.Prelude.{◌≡◌, ℕ, ◌+◌, ◌<◌, ◌^◌, ◌≤◌, not, List, length, Option, Some, IfSome, is_some}
 use Rattle.dr_disk.specs.Disk.{Told, content_of}
 use Rattle.dr_disk.specs.Images.{ReadsAnImage}
 use Rattle.dr_history.specs.Members.{has}
@@ -28,10 +28,6 @@ pub record AreFound (n missing : ℕ) (yard : YardState) (contents : List (Optio
   pub all : length contents ≡ n
   pub there : (m : ℕ) → m < n → is_some (content_at contents m) ≡ not (has missing m)
   pub each : (m : ℕ) (c : OnLog) → content_at contents m ≡ Some c → WasFound (yard.told m) c
-
--- of so many members none is missing
-abbrev pub NoneMissing : ℕ → ℕ → Type 0
-NoneMissing n missing = (m : ℕ) → m < n → has missing m ≡ false
 
 -- a log that leaves room for a start, and for all that an age may bring: but for its entries it takes three
 -- quarters of the bytes that a log may have, or fewer

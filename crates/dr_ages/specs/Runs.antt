@@ -18,9 +18,9 @@ use Rattle.dr_ages.specs.declared.mode.Mode.{Mode}
 use Rattle.dr_ages.specs.declared.part.Part.{Part}
 use Rattle.dr_ages.specs.declared.stop.Stop.{Stop}
 use Rattle.dr_ages.specs.declared.stop.Stop.TheVariants.{OutOfMemory, AgesUsedUp}
-use Rattle.dr_ages.specs.Ages.{AreAges, IsAgeOf, opening_of, over_of, start_of, starts_of}
+use Rattle.dr_ages.specs.Ages.{AreAges, IsAgeOf, NamesNobody, opening_of, over_of, start_of, starts_of}
 use Rattle.dr_ages.specs.Fit.{AreFit}
-use Rattle.dr_ages.specs.Found.{AreRoomy, NoneMissing}
+use Rattle.dr_ages.specs.Found.{AreRoomy}
 use Rattle.dr_ages.specs.Left.{with_logged}
 use Rattle.dr_ages.specs.Passing.{AreKeptSince, AreUntouched, PassOn}
 use Rattle.dr_ages.specs.Refused.{IsRefusal}
@@ -125,15 +125,15 @@ pub record IsRunOf (script : Script) (part : Part) (mode : Mode) (before after :
   -- over disks that tell, nothing durable is ever lost, and what an age leaves is never refused
   pub kept : AllTell script.members before → AreKept script part ages
   pub never : AllTell script.members before → ages ≢ [] → IfSome stop (λ s. IsBadLogs s → ⊥)
-  pub fresh : NoneMissing script.members part.missing → AreEmpty script.members before → IsFreshRun ages stop
+  pub fresh : NamesNobody script.members part.missing → AreEmpty script.members before → IsFreshRun ages stop
   -- what was found on the disks, and what was logged in the last age, is kept
   pub since : IsKeptRun script part.missing (starts_of ages ++ chosen) before after ages stop
   pub logged : AllTell script.members before → HaveLogged part.missing ages after
   pub voted : AllTell script.members before → HaveEndedWith script part mode ages last after
   -- and fit disks stay fit, where none is missing
-  pub fit : NoneMissing script.members part.missing → AreFit script before → IsFitRun script after stop
+  pub fit : NamesNobody script.members part.missing → AreFit script before → IsFitRun script after stop
   -- all their ages are opened, where the logs leave room for them, unless memory is wanting or a disk fails
-  pub roomy : NoneMissing script.members part.missing → AreFit script before → AreRoomy script before
+  pub roomy : NamesNobody script.members part.missing → AreFit script before → AreRoomy script before
       → IsRoomyRun ages stop
   -- and logs are refused for what is wrong with them, and for nothing else
   pub refused : AllTell script.members before → IsRightlyRefused script part.missing before ages stop

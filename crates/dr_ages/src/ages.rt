@@ -15,9 +15,8 @@ ghost use Rattle.dr_restart.specs.Groups.{group_of};
 ghost use Rattle.dr_restart.specs.Setups.{crashes_of};
 ghost use Rattle.dr_script.specs.Ranges.{HasRanges};
 ghost use Rattle.dr_yard.specs.Yards.{YardState, state_by};
-ghost use Rattle.dr_ages.specs.Ages.{IsAgeOf, IsPlayed, HaveSomebodyPrompt, over_of, start_of};
+ghost use Rattle.dr_ages.specs.Ages.{HaveSomebodyPrompt, IsAgeOf, IsPlayed, NamesNobody, over_of, start_of};
 ghost use Rattle.dr_ages.specs.Fit.{AreFit};
-ghost use Rattle.dr_ages.specs.Found.{NoneMissing};
 ghost use Rattle.dr_ages.specs.Lent.{AreAllBut, AreMounted, with_logs};
 ghost use Rattle.dr_ages.specs.Opened.{AreLater, HaveGoneOn};
 ghost use Rattle.dr_ages.specs.Runs.{IsRunOf};
@@ -161,7 +160,7 @@ fn run_age<R: Threads + Sync, Y: Yard, P: Pace + Sync, W: Watcher>(
     ensures kept { IfErr result (HasKept script.now part.now.missing (state_by Y.told Y.faults yard.old)
         (state_by Y.told Y.faults yard.new)) }
     ensures fit { IfErr result (λ stop. stop ≢ stops.OutOfMemory
-        → NoneMissing script.now.members part.now.missing
+        → NamesNobody script.now.members part.now.missing
         → AreFit script.now (state_by Y.told Y.faults yard.old)
         → AreFit script.now (state_by Y.told Y.faults yard.new)) }
     ensures names { IfErr result (λ stop. NamesFaults stop (state_by Y.told Y.faults yard.old)
@@ -252,7 +251,8 @@ fn play_age<R: Threads + Sync, D: Disk, P: Pace + Sync, W: Watcher>(
         script.now.turns (crashes_of script.now.faults nth) age.members) }
     ensures trusting { IfOk result.0 (λ age. SuspectsNobody script.now → NoneLeft age.members) }
     ensures complete { IfOk result.0 (λ age. AllPresent (group_of script.now start.now)
-        → IsNobodyLate (group_of script.now start.now).opening → mode ≡ Sim → HasTime script.now → NoneStopped age.members
+        → IsNobodyLate (group_of script.now start.now).opening → mode ≡ Sim → HasTime script.now
+        → NoneStopped age.members
         → AreComplete (group_of script.now start.now).opening age.members) }
     ensures ample { IfOk result.0 (λ age. AreAmple (group_of script.now start.now) logs.items
         → NoneFull age.members) }

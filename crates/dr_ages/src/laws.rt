@@ -22,10 +22,9 @@ ghost use Rattle.dr_yard.specs.Yards.{YardState};
 ghost use Rattle.dr_ages.specs.declared.mode.Mode.{Mode};
 ghost use Rattle.dr_ages.specs.declared.part.Part.{Part};
 ghost use Rattle.dr_ages.specs.declared.stop.Stop.{Stop};
-ghost use Rattle.dr_ages.specs.Ages.{IsAgeOf};
+ghost use Rattle.dr_ages.specs.Ages.{IsAgeOf, NamesNobody};
 ghost use Rattle.dr_ages.specs.Crashed.{HaveCrashed};
 ghost use Rattle.dr_ages.specs.Fit.{AreFit};
-ghost use Rattle.dr_ages.specs.Found.{NoneMissing};
 ghost use Rattle.dr_ages.specs.Runs.{IsRunOf};
 
 /// In a simulated age of a script that gives its members time enough, from which nobody is absent, in which nobody
@@ -63,7 +62,7 @@ pub fn runs_outlive_crashes()
 /// start.
 pub fn fit_ages_start_with_all()
     ensures { (script : Script) (part : Part) (mode : Mode) (nth : ℕ) (before after : YardState) (age : AgeEnd)
-        (m : ℕ) (c : OnLog) → HasRanges script → NoneMissing script.members part.missing → AreFit script before
+        (m : ℕ) (c : OnLog) → HasRanges script → NamesNobody script.members part.missing → AreFit script before
         → (is : IsAgeOf script part mode nth before after age) → content_at is.contents m ≡ Some c
         → IsPrefixOf c.entries age.start }
 {}

@@ -7,8 +7,7 @@ use Rattle.std.proofs.lemmas.Option.{same_Some}
 use Rattle.dr_age.specs.Logged.{NoneFull}
 use Rattle.dr_ages.proofs.Fresh.{IsRoomyAt, fresh_first, fresh_start, roomy_ages, roomy_next, roomy_stop}
 use Rattle.dr_ages.proofs.Keeping.{IsBehind, behind, left_from, of_choice, over_behind}
-use Rattle.dr_ages.specs.Ages.{AreAges, IsAgeOf, all_but, opening_of, start_of}
-use Rattle.dr_ages.specs.Found.{NoneMissing}
+use Rattle.dr_ages.specs.Ages.{AreAges, IsAgeOf, NamesNobody, all_but, opening_of, start_of}
 use Rattle.dr_ages.specs.Runs.{HasFinished, IsRunOf}
 use Rattle.dr_ages.specs.Stops.{HasStopped, IsOutside}
 use Rattle.dr_ages.specs.declared.mode.Mode.TheVariants.{Run}
@@ -53,7 +52,7 @@ range_at plan (l ∷ taken) zero lists fit at =
 range_at plan (l ∷ taken) (suc i) lists fit at = range_at plan taken i lists (range_tail plan l taken fit) at
 
 -- no log is missing
-pub none_lacks : (n : ℕ) → NoneMissing n 0
+pub none_lacks : (n : ℕ) → NamesNobody n 0
 none_lacks n m below = has_zero m
 
 -- the logs of the disks have room, with the messages of the first of these lists

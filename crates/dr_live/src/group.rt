@@ -13,7 +13,6 @@ use dr_ages::{AgesEnd, Mode, Part, Stop, run_ages};
 use dr_entry::{AgeEnd, Message, Seq};
 use dr_pace::Pace;
 use dr_script::Script;
-use dr_words::Mask;
 use dr_yard::CalmYard;
 use std::alloc::{AllocError, Global};
 use std::thread::Threads;
@@ -110,11 +109,7 @@ fn run_one<R: Threads + Sync, P: Pace + Sync>(
     ensures age { IfOk result
         (IsAgeOf script.now (all_but 0) modes.Run 0 (calm_yard yard.old) (calm_yard yard.new)) }
 {
-    let nobody = Mask::empty();
-    let part = Part {
-        missing: nobody,
-        late: nobody,
-    };
+    let part = Part::everybody();
     let AgesEnd { ages, stop } = run_ages(rt, alloc, script, &part, Mode::Run, "", yard, pace);
     match stop {
         None => Ok(only(ages)),

@@ -1,5 +1,5 @@
 -- What is certain of a script that was played, and of its last line.
-use Rattle.std.proofs.Common.{◌≡◌, ◌≢◌, ◌⊎◌, refl, sym, ap, ap₂, ◌∙◌, subst, inl, inr, ℕ, zero, suc, ◌<◌, ◌&&◌, not, nat_lt, is_none, MatchBool, true, false, true≢false, arith, List, [], ◌∷◌, length, Contains, Option, None, Some, IfSome, is_some, if◌then◌else◌}
+use Rattle.std.proofs.Common.{◌≡◌, ◌≢◌, ◌⊎◌, refl, sym, ap, ap₂, ◌∙◌, subst, inl, inr, ℕ, zero, suc, ◌&&◌, not, nat_lt, is_none, MatchBool, true, false, true≢false, arith, List, [], ◌∷◌, length, Contains, Option, None, Some, IfSome, is_some, if◌then◌else◌}
 use Rattle.std.specs.Prelude.{MatchOption}
 use Rattle.std.proofs.lemmas.Bool.{cases_Bool, or_parts}
 use Rattle.std.proofs.lemmas.Bool.Decides.{nat_tests}
@@ -8,10 +8,9 @@ use Rattle.dr_ages.specs.declared.mode.Mode.{Mode}
 use Rattle.dr_ages.specs.declared.mode.Mode.TheVariants.{Sim}
 use Rattle.dr_ages.specs.declared.stop.Stop.{Stop}
 use Rattle.dr_ages.specs.declared.stop.Stop.TheVariants.{OutOfMemory}
-use Rattle.dr_ages.specs.Ages.{AreAges, HaveSomebodyPrompt}
+use Rattle.dr_ages.specs.Ages.{AreAges, HaveSomebodyPrompt, NamesNobody}
 use Rattle.dr_ages.specs.declared.part.Part.{Part}
 use Rattle.dr_ages.specs.Fit.{AreFit}
-use Rattle.dr_ages.specs.Found.{NoneMissing}
 use Rattle.dr_complete.specs.Time.{HasTime}
 use Rattle.dr_entry.specs.declared.end.AgeEnd.{AgeEnd}
 use Rattle.dr_intake.specs.Reading.{refusal_in}
@@ -30,7 +29,7 @@ use Rattle.dr_outcome.specs.declared.last.Kind.TheVariants.{DiskFault, LogFull, 
 use Rattle.dr_outcome.specs.declared.outcome.Body.TheVariants as bodies
 use Rattle.dr_outcome.specs.declared.outcome.Outcome.{Outcome}
 use Rattle.dr_outcome.specs.Last.{first_end, first_told, is_memory, last_by, last_of, refusal_of, some_end, some_so, stopped_by}
-use Rattle.dr_outcome.specs.Outcome.{AreAllLate, HasAllLogs, HasDone, HasPlayed, HasRun, IsDue, IsMemoryRun, LeavesRoom, NoneFailed, NoneLate, OfScript, Plays, SaysOnly, TellsDisks, WasPlayedOrNot, body_text, by_run, unrun, unrun_ends}
+use Rattle.dr_outcome.specs.Outcome.{AreAllLate, HasAllLogs, HasDone, HasPlayed, HasRun, IsDue, IsMemoryRun, LeavesRoom, NoneFailed, OfScript, Plays, SaysOnly, TellsDisks, WasPlayedOrNot, body_text, by_run, unrun, unrun_ends}
 use Rattle.dr_outcome.specs.Playing.{InFolder, Playing, ends_over, missing_of, part_in, play_ends, with_usage}
 use Rattle.dr_outcome.proofs.Lasts.{end_so, refusal_status, told_so}
 use Rattle.dr_outcome.proofs.Runs.{IsWhole, calm_run, none_spent, none_split, part_lasts, whole_in_memory, whole_lasts, whole_run}
@@ -43,7 +42,7 @@ ages_of mode (Some folder) part script before after ages stop run = (before, run
 ages_of mode None part script before after ages stop run = (empty_yard, run.1.run.last, run.1.run.course)
 
 all_there : (folder : Option InFolder) (script : Script) → HasAllLogs folder script
-    → NoneMissing script.members (missing_of folder)
+    → NamesNobody script.members (missing_of folder)
 all_there (Some folder) script all = all
 all_there None script all = λ m below. has_zero m
 
@@ -196,7 +195,7 @@ accepts ages stop (Some line) is = λ three.
 
 untimely_by : (play : Playing) (script : Script) (before after : YardState) (ages : List AgeEnd)
     (stop : Option Stop) → HasRun play.mode play.folder (part_in play) script before after ages stop → play.mode ≡ Sim
-    → HasAllLogs play.folder script → NoneLate script.members play.late → last_of ages stop ≡ Some lasts.Unfinished → HasTime script → ⊥
+    → HasAllLogs play.folder script → NamesNobody script.members play.late → last_of ages stop ≡ Some lasts.Unfinished → HasTime script → ⊥
 untimely_by play script before after ages stop run sim all prompt is time =
     let parts = unfinished_by (first_told DiskFault ages stop) (refusal_of stop) (first_told LogFull ages stop)
     (first_end Spent ages) (first_end NoMajority ages) (refusal_status stop)
@@ -255,7 +254,7 @@ tells_disks mode (Some folder) part script before after ages stop (Some line) ru
 stays_fit : (mode : Mode) (folder : Option InFolder) (part : Part) (script : Script) (before after : YardState)
     (ages : List AgeEnd) (stop : Option Stop) (last : Option Last)
     → HasRun mode folder part script before after ages stop → last ≡ last_of ages stop
-    → NoneMissing script.members part.missing → AreFit script before → IfSome last (λ line. AreFit script after)
+    → NamesNobody script.members part.missing → AreFit script before → IfSome last (λ line. AreFit script after)
 stays_fit mode folder part script before after ages stop None run is all fit = tt
 stays_fit mode (Some name) part script before after ages stop (Some line) run is all fit =
     (run.fit all fit).fit (not_wanting ages stop line (sym is))
@@ -264,13 +263,13 @@ stays_fit mode None part script before after ages stop (Some line) run is all fi
 
 -- a run that has room for all its ages
 room_for_all : (folder : Option InFolder) (script : Script) (before after : YardState)
-    → LeavesRoom folder script before after → NoneMissing script.members (missing_of folder)
+    → LeavesRoom folder script before after → NamesNobody script.members (missing_of folder)
 room_for_all (Some folder) script before after room = room.0
 room_for_all None script before after room = λ m below. has_zero m
 
 whole_of : (mode : Mode) (folder : Option InFolder) (part : Part) (script : Script) (before after : YardState)
     (ages : List AgeEnd) (stop : Option Stop) → HasRun mode folder part script before after ages stop
-    → NoneMissing script.members part.missing → LeavesRoom folder script before after → is_memory stop ≡ false
+    → NamesNobody script.members part.missing → LeavesRoom folder script before after → is_memory stop ≡ false
     → IsWhole script ages stop
 whole_of mode (Some folder) part script before after ages stop run all room ample =
     whole_run script part mode before after ages stop run all room.1 room.2 room.3 ample

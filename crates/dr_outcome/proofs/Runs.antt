@@ -11,10 +11,10 @@ use Rattle.dr_ages.specs.declared.mode.Mode.{Mode}
 use Rattle.dr_ages.specs.declared.mode.Mode.TheVariants.{Sim}
 use Rattle.dr_ages.specs.declared.stop.Stop.{Stop}
 use Rattle.dr_ages.specs.declared.stop.Stop.TheVariants as stops
-use Rattle.dr_ages.specs.Ages.{AreAges, all_but, opening_of, taking_part}
+use Rattle.dr_ages.specs.Ages.{AreAges, NamesNobody, opening_of, taking_part}
 use Rattle.dr_ages.specs.declared.part.Part.{Part}
 use Rattle.dr_ages.specs.Fit.{AreFit}
-use Rattle.dr_ages.specs.Found.{AreRoomy, NoneMissing}
+use Rattle.dr_ages.specs.Found.{AreRoomy}
 use Rattle.dr_ages.specs.Runs.{HasFinished, IsFreshRun, IsRoomyRun, IsRunOf}
 use Rattle.dr_ages.specs.Stops.{IsOutside, NamesFaults}
 use Rattle.dr_complete.specs.Time.{HasTime}
@@ -33,7 +33,7 @@ use Rattle.dr_program_laws.specs.Trusting.{NoneLeft, SuspectsNobody, is_left_out
 use Rattle.dr_script.specs.declared.script.Script.{Script}
 use Rattle.dr_age.specs.Logged.{IsNotFull, NoneFull, why_ended}
 use Rattle.dr_io.specs.Faults.{Rose}
-use Rattle.dr_words.proofs.Bits.{has_ones, has_zero}
+use Rattle.dr_words.proofs.Bits.{has_ones}
 use Rattle.dr_words.proofs.Masks.{has_mask_of, same_masks}
 use Rattle.dr_words.specs.Masks.{without}
 use Rattle.dr_yard.specs.Yards.{YardState, empty_yard}
@@ -42,7 +42,7 @@ use Rattle.dr_outcome.specs.declared.last.Kind.TheVariants.{DiskFault, LogFull, 
 use Rattle.dr_intake.specs.Status.{status_of}
 use Rattle.dr_text.specs.declared.last.Last.{Last}
 use Rattle.dr_outcome.specs.Last.{first_end, first_told, is_memory, is_of, last_by, last_of, refusal_of, some_end, some_so, stopped_by}
-use Rattle.dr_outcome.specs.Outcome.{IsMemoryRun, IsRunInMemory, NoneLate}
+use Rattle.dr_outcome.specs.Outcome.{IsMemoryRun}
 use Rattle.dr_outcome.proofs.Lasts.{told_so}
 
 -- whether some of these members ended so
@@ -122,7 +122,7 @@ none_spends o members complete = list_any_none (λ (m : MemberEnd). is_of Spent 
     ap (is_of Spent) (complete k (get_or members k d) (slice_get-get_or members k d within)).end)
 
 -- where nobody of the roster is late nobody is in an age
-nobody_late : (script : Script) (part : Part) (age : AgeEnd) → NoneLate script.members part.late
+nobody_late : (script : Script) (part : Part) (age : AgeEnd) → NamesNobody script.members part.late
     → IsNobodyLate (opening_of script part age)
 nobody_late script part age none =
     same_masks (without there part.late) there
@@ -149,7 +149,7 @@ nobody_late script part age none =
 
 -- with time enough, and unless a log ends one, no member spends its turns
 pub none_spent : (script : Script) (part : Part) (mode : Mode) (nth : ℕ) (before after : YardState) (ages : List AgeEnd)
-    → AreAges script part mode nth before ages after → NoneMissing script.members part.missing → NoneLate script.members part.late → mode ≡ Sim
+    → AreAges script part mode nth before ages after → NamesNobody script.members part.missing → NamesNobody script.members part.late → mode ≡ Sim
     → HasTime script
     → some_end DiskFault ages ≡ false
     → some_end LogFull ages ≡ false → some_end Spent ages ≡ false
@@ -202,7 +202,7 @@ unfull ends.Absent room = refl
 
 -- a run over empty disks, of which none is missing
 fresh : (script : Script) (part : Part) (mode : Mode) (ages : List AgeEnd) (stop : Option Stop)
-    → NoneMissing script.members part.missing → IsMemoryRun script part mode ages stop → IsFreshRun ages stop
+    → NamesNobody script.members part.missing → IsMemoryRun script part mode ages stop → IsFreshRun ages stop
 fresh script part mode ages stop all in_memory = in_memory.run.fresh all (λ m below. refl)
 
 pub in_memory : (script : Script) (part : Part) (mode : Mode) (ages : List AgeEnd) (stop : Option Stop)
@@ -219,7 +219,7 @@ in_memory script part mode ages stop told after empty calm run = record {
 
 -- over empty disks that count no fault, and where memory is not wanting, no disk ends a run or a member
 pub memory_holds : (script : Script) (part : Part) (mode : Mode) (ages : List AgeEnd) (stop : Option Stop)
-    → NoneMissing script.members part.missing → IsMemoryRun script part mode ages stop → is_memory stop ≡ false → some_so DiskFault ages stop ≡ false
+    → NamesNobody script.members part.missing → IsMemoryRun script part mode ages stop → is_memory stop ≡ false → some_so DiskFault ages stop ≡ false
 memory_holds script part mode ages None all in_memory ample =
     or_from (some_end DiskFault ages) false
     (none_failed script part mode 0 empty_yard in_memory.run.last ages in_memory.run.course
@@ -243,7 +243,7 @@ memory_holds script part mode ages (Some stops.AgesUsedUp) all in_memory ample =
 
 -- nor are logs refused
 pub memory_accepts : (script : Script) (part : Part) (mode : Mode) (ages : List AgeEnd) (stop : Option Stop)
-    → NoneMissing script.members part.missing → IsMemoryRun script part mode ages stop → is_some (refusal_of stop) ≡ false
+    → NamesNobody script.members part.missing → IsMemoryRun script part mode ages stop → is_some (refusal_of stop) ≡ false
 memory_accepts script part mode ages None all in_memory = refl
 memory_accepts script part mode ages (Some stops.OutOfMemory) all in_memory = refl
 memory_accepts script part mode ages (Some (stops.DiskFault member)) all in_memory = refl
@@ -273,7 +273,7 @@ unstopped_by_full (Some stops.AgesUsedUp) ages fresh = refl
 
 -- nor is one full
 pub memory_has_room : (script : Script) (part : Part) (mode : Mode) (ages : List AgeEnd) (stop : Option Stop)
-    → NoneMissing script.members part.missing → IsMemoryRun script part mode ages stop → some_so LogFull ages stop ≡ false
+    → NamesNobody script.members part.missing → IsMemoryRun script part mode ages stop → some_so LogFull ages stop ≡ false
 memory_has_room script part mode ages stop all in_memory =
     let run = fresh script part mode ages stop all in_memory in
     or_from (some_end LogFull ages) (is_some (stopped_by LogFull stop))
@@ -385,7 +385,7 @@ none_full ages roomy =
 
 -- fit disks that leave room, of which no call fails
 pub whole_run : (script : Script) (part : Part) (mode : Mode) (before after : YardState) (ages : List AgeEnd) (stop : Option Stop)
-    → IsRunOf script part mode before after ages stop → NoneMissing script.members part.missing
+    → IsRunOf script part mode before after ages stop → NamesNobody script.members part.missing
     → AreFit script before → AreRoomy script before
     → ((m : ℕ) → m < script.members → Rose (before.faults m) (after.faults m) → ⊥) → is_memory stop ≡ false
     → IsWhole script ages stop
@@ -422,7 +422,7 @@ whole_run script part mode before after ages stop run all fit roomy calm ample =
 
 -- empty disks in memory, none of which counts a fault
 pub whole_in_memory : (script : Script) (part : Part) (mode : Mode) (ages : List AgeEnd) (stop : Option Stop)
-    → NoneMissing script.members part.missing → IsMemoryRun script part mode ages stop → is_memory stop ≡ false → IsWhole script ages stop
+    → NamesNobody script.members part.missing → IsMemoryRun script part mode ages stop → is_memory stop ≡ false → IsWhole script ages stop
 whole_in_memory script part mode ages stop all in_memory ample = record {
   ages_all = by stop refl in_memory.run.finish (fresh script part mode ages stop all in_memory).stopped;
   disk = memory_holds script part mode ages stop all in_memory ample;
@@ -469,7 +469,7 @@ whole_lasts script ages stop line whole ample is =
 
 -- the last line behind a run over empty disks that count no fault is one of these
 pub part_lasts : (script : Script) (part : Part) (mode : Mode) (ages : List AgeEnd) (stop : Option Stop) (line : Last)
-    → NoneMissing script.members part.missing → IsMemoryRun script part mode ages stop
+    → NamesNobody script.members part.missing → IsMemoryRun script part mode ages stop
     → last_of ages stop ≡ Some line → Contains (0 ∷ 8 ∷ 9 ∷ []) (status_of line)
 part_lasts script part mode ages stop line all run is = elim (cases_Bool (is_memory stop)) [
   | inl wanting ↦ absurd (none-some line (sym (ap (λ b. if b then None else Some told) wanting) ∙ is))
@@ -480,10 +480,3 @@ part_lasts script part mode ages stop line all run is = elim (cases_Bool (is_mem
     told : Last
     told = last_by (first_told DiskFault ages stop) (refusal_of stop) (first_told LogFull ages stop)
         (first_end Spent ages) (first_end NoMajority ages)
-
--- so is that where nobody is late
-pub memory_lasts : (script : Script) (mode : Mode) (ages : List AgeEnd) (stop : Option Stop) (line : Last)
-    → IsRunInMemory script mode ages stop → last_of ages stop ≡ Some line
-    → Contains (0 ∷ 8 ∷ 9 ∷ []) (status_of line)
-memory_lasts script mode ages stop line run is =
-    part_lasts script (all_but 0) mode ages stop line (λ m below. has_zero m) run is

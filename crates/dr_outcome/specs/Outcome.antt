@@ -1,13 +1,13 @@
 -- What was run, and what is said of it.
 use Rattle.std.specs.Prelude.{◌≡◌, ◌≢◌, ◌⊎◌, ⊤, ℕ, ◌<◌, true, false, List, [], ◌∷◌, ◌++◌, length, Option, Some, None, Contains, IfSome}
 use Rattle.std.specs.List.{flat_map}
-use Rattle.dr_ages.specs.Ages.{HaveSomebodyPrompt, all_but}
+use Rattle.dr_ages.specs.Ages.{HaveSomebodyPrompt, NamesNobody, all_but}
 use Rattle.dr_ages.specs.declared.mode.Mode.{Mode}
 use Rattle.dr_ages.specs.declared.mode.Mode.TheVariants.{Sim}
 use Rattle.dr_ages.specs.declared.part.Part.{Part}
 use Rattle.dr_ages.specs.declared.stop.Stop.{Stop}
 use Rattle.dr_ages.specs.Fit.{AreFit}
-use Rattle.dr_ages.specs.Found.{AreRoomy, NoneMissing}
+use Rattle.dr_ages.specs.Found.{AreRoomy}
 use Rattle.dr_ages.specs.Runs.{IsRunOf}
 use Rattle.dr_complete.specs.Time.{HasTime}
 use Rattle.dr_entry.specs.declared.end.AgeEnd.{AgeEnd}
@@ -69,19 +69,15 @@ HasRun mode (Some folder) part script before after ages stop = IsRunOf script pa
 HasRun mode None part script before after ages stop =
     (after ≡ before) × IsMemoryRun script part mode ages stop
 
--- of so many members nobody is late
-abbrev pub NoneLate : ℕ → ℕ → Type 0
-NoneLate n late = (m : ℕ) → m < n → has late m ≡ false
-
 -- no log of a member of the script is missing: in memory none is
 abbrev pub HasAllLogs : Option InFolder → Script → Type 0
-HasAllLogs (Some folder) script = NoneMissing script.members folder.missing
+HasAllLogs (Some folder) script = NamesNobody script.members folder.missing
 HasAllLogs None script = ⊤
 
 -- a run of the script has room for all its ages: over disks in memory, or over disks of the yard of which none
 -- is missing, which are fit and leave room, and of which no call failed
 abbrev pub LeavesRoom : Option InFolder → Script → YardState → YardState → Type 0
-LeavesRoom (Some folder) script before after = NoneMissing script.members folder.missing
+LeavesRoom (Some folder) script before after = NamesNobody script.members folder.missing
     × AreFit script before × AreRoomy script before
     × ((m : ℕ) → m < script.members → Rose (before.faults m) (after.faults m) → ⊥)
 LeavesRoom None script before after = ⊤
@@ -105,7 +101,7 @@ pub record HasPlayed (play : Playing) (script : Script) (before after : YardStat
   pub accepted : IfSome o.last (λ line. status_of line ≢ 3)
   -- a simulation that spends the turns of a member had too few of them, or a log was missing, or somebody late; of
   -- threads nothing is said
-  pub untimely : play.mode ≡ Sim → HasAllLogs play.folder script → NoneLate script.members play.late
+  pub untimely : play.mode ≡ Sim → HasAllLogs play.folder script → NamesNobody script.members play.late
       → o.last ≡ Some lasts.Unfinished → HasTime script → ⊥
   -- a member without a majority had a reason to suspect others
   pub untrusting : o.last ≡ Some lasts.NoMajority → SuspectsNobody script → ⊥

@@ -24,10 +24,6 @@ missing_of None = 0
 abbrev pub part_in : Playing → Part
 part_in play = record { missing = missing_of play.folder; late = play.late }
 
--- all take part, and these are late
-abbrev pub all_with : ℕ → Part
-all_with late = record { missing = 0; late = late }
-
 -- simulated by the schedule of the script, over empty logs in memory, with nobody late
 abbrev pub simulated : Playing
 simulated = record { mode = Sim; folder = None; late = 0 }

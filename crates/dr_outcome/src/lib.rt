@@ -11,5 +11,5 @@ mod watching;
 pub use last::{Kind, last_of};
 pub use outcome::{Body, Folder, Outcome, Play, without_ages};
 pub use playing::{are_all_late, play_script, play_text, simulate, simulate_text};
-pub use running::{everybody_with, run_in_memory};
+pub use running::run_in_memory;
 pub use watching::watch_in_memory;

@@ -8,7 +8,7 @@ ghost use Rattle.dr_outcome.specs.Playing.{play_ends, simulated};
 ghost use Rattle.dr_outcome.specs.declared.outcome.Body.TheVariants.{Report};
 
 use crate::outcome::{Outcome, Play, without_ages};
-use crate::running::{everybody, run_in_memory, run_over};
+use crate::running::{run_in_memory, run_over};
 use dr_ages::{Mode, Part};
 use dr_intake::script_or_refusal;
 use dr_pace::{Pace, SnoozePace};
@@ -106,5 +106,12 @@ pub fn simulate<R: Threads + Sync>(rt: &R, alloc: Global, script: &Script) -> Ou
         ⊎ HasPlayed simulated script.now yard yard result }
     ensures body { result.body ≡ Report }
 {
-    run_in_memory(rt, alloc, script, Mode::Sim, &everybody(), &SnoozePace)
+    run_in_memory(
+        rt,
+        alloc,
+        script,
+        Mode::Sim,
+        &Part::everybody(),
+        &SnoozePace,
+    )
 }

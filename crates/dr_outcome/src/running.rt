@@ -2,11 +2,10 @@ ghost use Rattle.std.specs.Prelude.{◌≡◌, ◌<◌, ◌⊎◌, ℕ, None, []
 ghost use Rattle.dr_entry.specs.declared.limits.TheConstants.{MAX_MEMBERS};
 ghost use Rattle.dr_script.specs.Ranges.{HasRanges};
 ghost use Rattle.dr_yard.specs.Yards.{state_by};
-ghost use Rattle.dr_ages.specs.Ages.{HaveSomebodyPrompt, all_but};
+ghost use Rattle.dr_ages.specs.Ages.{HaveSomebodyPrompt};
 ghost use Rattle.dr_ages.specs.Runs.{IsRunOf};
 ghost use Rattle.dr_outcome.specs.Last.{last_of};
 ghost use Rattle.dr_outcome.specs.Outcome.{IsMemoryRun};
-ghost use Rattle.dr_outcome.specs.Playing.{all_with};
 ghost use Rattle.dr_outcome.specs.declared.outcome.Body.TheVariants.{Report};
 
 use crate::last::last_of;
@@ -14,27 +13,9 @@ use crate::outcome::{Body, Outcome, without_ages};
 use dr_ages::{AgesEnd, Mode, Part, run_ages};
 use dr_pace::Pace;
 use dr_script::Script;
-use dr_words::Mask;
 use dr_yard::{CalmYard, Yard};
 use std::alloc::Global;
 use std::thread::Threads;
-
-/// All members, from the first view on.
-pub(crate) fn everybody() -> Part
-    ensures { result ≡ all_but 0 }
-{
-    everybody_with(Mask::empty())
-}
-
-/// All members, of whom these are late.
-pub fn everybody_with(late: Mask) -> Part
-    ensures { result ≡ all_with late }
-{
-    Part {
-        missing: Mask::empty(),
-        late,
-    }
-}
 
 /// Runs a script over empty logs in memory, which are gone with the run.
 pub fn run_in_memory<R: Threads + Sync, P: Pace + Sync>(

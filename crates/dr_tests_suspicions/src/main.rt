@@ -10,9 +10,6 @@
 //! stand behind lines that begin with `#` and say what was worked out for them by hand.
 #![tactic(auto)]
 
-ghost use Rattle.std.specs.Prelude.{◌≡◌};
-ghost use Rattle.dr_ages.specs.Ages.{all_but};
-
 use anyhow::anyhow;
 use dr_ages::{AgesEnd, Mode, Part, run_ages};
 use dr_disk::MemoryDisk;
@@ -22,7 +19,6 @@ use dr_log::Log;
 use dr_pace::SnoozePace;
 use dr_script::read_script;
 use dr_text::{Last, Report};
-use dr_words::Mask;
 use dr_yard::MemoryYard;
 use std::alloc::Global;
 use std::io::{BufRead, BufReader};
@@ -63,7 +59,7 @@ fn ended(
         rt,
         alloc,
         &script,
-        &everybody(),
+        &Part::everybody(),
         Mode::Sim,
         "",
         &mut yard,
@@ -72,16 +68,6 @@ fn ended(
     let mut disks = yard.into_disks();
     disks.truncate(usize::from(script.members));
     Ok((end, disks))
-}
-
-/// All members, from the first view on.
-fn everybody() -> Part
-    ensures { result ≡ all_but 0 }
-{
-    Part {
-        missing: Mask::empty(),
-        late: Mask::empty(),
-    }
 }
 
 /// Prints the turns of each member of an age, and what it put in each view: the index of a message, or a dash
@@ -103,7 +89,7 @@ fn print_members(rt: &HostRuntime, age: &AgeEnd) -> anyhow::Result<()> {
     Ok(())
 }
 
-/// Prints the votes on a member's log. The leavers are a mask, in hexadecimal.
+/// Prints the votes on a member's log. Whom a vote names, to leave or to come, is a mask, in hexadecimal.
 fn print_votes(rt: &HostRuntime, alloc: Global, me: usize, disk: MemoryDisk) -> anyhow::Result<()> {
     let log = Log::mount(alloc, disk, LOG_LIMIT).map_err(|fault| anyhow!("{:?}", fault.why))?;
     for vote in log.votes() {

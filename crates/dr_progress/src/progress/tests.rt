@@ -1,11 +1,11 @@
 //! When something is said of a run, and what.
 use crate::line::BLANK;
 use crate::{Progress, SteppedTimer, watch_with_progress};
+use dr_ages::Part;
 use dr_io::MemorySink;
-use dr_outcome::{are_all_late, everybody_with};
+use dr_outcome::are_all_late;
 use dr_script::read_script;
 use dr_sim::Unwatched;
-use dr_words::Mask;
 use std::alloc::Global;
 use std::fmt::Write;
 use std::process::Abort;
@@ -31,7 +31,7 @@ fn check<R: Threads + Sync + Abort>(
     let sink = MemorySink::new(alloc, 4096, &[])?;
     let timer = SteppedTimer::new(step, readings);
     let mut progress = Progress::new(alloc, timer, sink, is_terminal);
-    let part = everybody_with(Mask::empty());
+    let part = Part::everybody();
     if !are_all_late(&script, &part) {
         watch_with_progress(rt, alloc, &script, &part, &mut Unwatched, &mut progress);
     }

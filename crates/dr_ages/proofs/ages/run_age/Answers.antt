@@ -11,9 +11,8 @@ use Rattle.dr_opening.specs.Lists.{contents_of, log_of}
 use Rattle.dr_script.specs.declared.script.Script.{Script}
 use Rattle.dr_words.proofs.Bits.{has_zero}
 use Rattle.dr_yard.specs.Yards.{YardState, state_by}
-use Rattle.dr_ages.specs.Ages.{IsAgeOf}
+use Rattle.dr_ages.specs.Ages.{IsAgeOf, NamesNobody}
 use Rattle.dr_ages.specs.Fit.{AreFit}
-use Rattle.dr_ages.specs.Found.{NoneMissing}
 use Rattle.dr_ages.specs.Lent.{AreAllBut, AreMounted, with_logs}
 use Rattle.dr_ages.specs.Opened.{AreChosenOf}
 use Rattle.dr_ages.specs.Passing.{AreUntouched, GoesOn}
@@ -89,7 +88,7 @@ chosen_in tells faults script missing before logs starts mounted but all (inr is
 
 -- where none is missing all logs are there
 all_there : {D : Type 0} (n missing : ℕ) (logs : List (Option (LogState D))) → AreAllBut missing logs
-    → length logs ≡ n → NoneMissing n missing → AreAllBut 0 logs
+    → length logs ≡ n → NamesNobody n missing → AreAllBut 0 logs
 all_there n missing logs but all none m l =
     but m l ∙ ap not (none m (omega (arith, l, all)) ∙ sym (has_zero m))
 
