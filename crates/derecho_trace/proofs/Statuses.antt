@@ -7,7 +7,7 @@ use Rattle.dr_intake.specs.Status.{WroteText}
 use Rattle.dr_outcome.proofs.Runs.{part_lasts}
 use Rattle.dr_outcome.specs.Last.{last_of}
 use Rattle.dr_outcome.specs.Outcome.{IsMemoryRun}
-use Rattle.dr_outcome.specs.Playing.{all_with}
+use Rattle.dr_ages.specs.Ages.{all_with}
 use Rattle.dr_script.specs.declared.script.Script.{Script}
 use Rattle.dr_script.specs.Reading.{Reading, TooLong, NotJson, Wrong, Reads}
 use Rattle.dr_text.specs.declared.last.Last.{Last}

@@ -5,7 +5,7 @@ use Rattle.std.specs.declared.alloc.Global.{Global}
 use Rattle.dr_ages.specs.declared.mode.Mode.TheVariants.{Sim}
 use Rattle.dr_ages.specs.declared.stop.Stop.{Stop}
 use Rattle.dr_ages.specs.declared.part.Part.{Part}
-use Rattle.dr_ages.specs.Ages.{start_of}
+use Rattle.dr_ages.specs.Ages.{all_with, start_of}
 use Rattle.dr_entry.specs.declared.end.AgeEnd.{AgeEnd}
 use Rattle.dr_intake.specs.Answer as intake
 use Rattle.dr_intake.specs.Answer.{IsLine, Said}
@@ -13,7 +13,6 @@ use Rattle.dr_intake.specs.Reading.{refusal_in}
 use Rattle.dr_intake.specs.Status.{WroteText, status_of}
 use Rattle.dr_outcome.specs.Last.{last_of}
 use Rattle.dr_outcome.specs.Outcome.{AreAllLate, IsMemoryRun}
-use Rattle.dr_outcome.specs.Playing.{all_with}
 use Rattle.dr_program.specs.Presence.{present_at}
 use Rattle.dr_program.specs.Program.{Move, Program, step_of}
 use Rattle.dr_program.specs.Running.{Running}

@@ -1,7 +1,6 @@
 ghost use Rattle.std.specs.Prelude.{◌≡◌, ◌⊎◌, ◌∷◌, ◌++◌, ℕ, List, Option, Some, [], Contains};
 ghost use Rattle.dr_progress.specs.Progress.{IsQuiet};
-ghost use Rattle.dr_ages.specs.Ages.{HaveSomebodyPrompt};
-ghost use Rattle.dr_outcome.specs.Playing.{all_with};
+ghost use Rattle.dr_ages.specs.Ages.{HaveSomebodyPrompt, all_with};
 ghost use Rattle.dr_script.specs.Ranges.{HasRanges};
 ghost use Rattle.dr_script.specs.Reading.{reading_of};
 ghost use Rattle.dr_seeing.specs.Output.{HasTold};
@@ -17,7 +16,7 @@ use dr_intake::{
     script_or_refusal, status_of,
 };
 use dr_io::{Sink, Source};
-use dr_outcome::{are_all_late, everybody_with, watch_in_memory};
+use dr_outcome::{are_all_late, watch_in_memory};
 use dr_picture::Window;
 use dr_progress::{Progress, Timer, watch_with_progress};
 use dr_script::Script;
@@ -43,9 +42,10 @@ pub struct Traced<K: Sink> {
 /// tells the sink what happens, in order. The last line and the status are those of `derecho sim`.
 ///
 /// Without words it is told as a chart; with the word `lines` as a line for each event; with the word `svg` as
-/// a picture, of all turns or of those from one to another, in which the last line stands. A picture is written
-/// at the end, and while it is drawn the progress says how far it is; the other texts are written as the run
-/// goes on. Where memory is wanting, and where a call of the sink fails, a front part of it is written.
+/// a picture, of all turns or of those from one to another, in which the last line stands. Behind these words
+/// `--late L` names members that are late. A picture is written at the end, and while it is drawn the progress
+/// says how far it is; the other texts are written as the run goes on. Where memory is wanting, and where a
+/// call of the sink fails, a front part of it is written.
 pub fn trace<R: Threads + Sync, S: Source, K: Sink, T: Timer, E: Sink>(
     rt: &R,
     alloc: Global,
@@ -125,7 +125,7 @@ fn trace_script<R: Threads + Sync, K: Sink, T: Timer, E: Sink>(
         fell (K.faults result.sink) result.status }
     ensures quiet { IsQuiet progress.old progress.new }
 {
-    let part = everybody_with(asked.late);
+    let part = Part::with_late(asked.late);
     if are_all_late(script, &part) {
         return usage(output);
     }

@@ -6,7 +6,7 @@ use Rattle.dr_picture.specs.Sheet.{Drawn, DrawnGrew}
 pub grown_same : (d : Drawn) → DrawnGrew d d
 grown_same d = record {
   grounds = ([], append-nil d.grounds);
-  joins = ([], append-nil d.joins);
+  arrows = ([], append-nil d.arrows);
   marks = ([], append-nil d.marks);
   words = ([], append-nil d.words);
   lane = refl;

@@ -34,9 +34,9 @@ words_text at style colour words = concat
     (codes "<text x='" ∷ decimal at.x ∷ codes "' y='" ∷ decimal at.y ∷ codes "'" ∷ style
     ∷ codes " fill='" ∷ colour ∷ codes "'>" ∷ words ∷ codes "</text>\n" ∷ [])
 
--- a line from one point to another
-abbrev pub join_text : Point → Point → List ℕ → List ℕ
-join_text one other colour = concat
+-- an arrow from one point to another
+abbrev pub arrow_text : Point → Point → List ℕ → List ℕ
+arrow_text one other colour = concat
     (codes "<path d='M" ∷ decimal one.x ∷ codes " " ∷ decimal one.y ∷ codes "L" ∷ decimal other.x
     ∷ codes " " ∷ decimal other.y ∷ codes "' stroke='" ∷ colour ∷ codes "'/>\n" ∷ [])
 

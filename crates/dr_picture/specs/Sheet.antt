@@ -8,7 +8,7 @@ use Rattle.dr_picture.specs.Marks.{heading_text, layer_text, words_text}
 -- begins, and how much higher the picture may get
 pub record Drawn : Type 0 where
   pub grounds : List ℕ
-  pub joins : List ℕ
+  pub arrows : List ℕ
   pub marks : List ℕ
   pub words : List ℕ
   pub lane : ℕ
@@ -19,7 +19,7 @@ pub record Drawn : Type 0 where
 -- nothing is drawn
 pub record IsBlank (now : Drawn) : Type 0 where
   pub grounds : now.grounds ≡ []
-  pub joins : now.joins ≡ []
+  pub arrows : now.arrows ≡ []
   pub marks : now.marks ≡ []
   pub words : now.words ≡ []
 
@@ -27,7 +27,7 @@ pub record IsBlank (now : Drawn) : Type 0 where
 -- what is drawn next begins no higher, and no height was given back
 pub record DrawnGrew (first now : Drawn) : Type 0 where
   pub grounds : IsPrefixOf first.grounds now.grounds
-  pub joins : IsPrefixOf first.joins now.joins
+  pub arrows : IsPrefixOf first.arrows now.arrows
   pub marks : IsPrefixOf first.marks now.marks
   pub words : IsPrefixOf first.words now.words
   pub lane : now.lane ≡ first.lane
@@ -65,7 +65,7 @@ headed age entries d = d.words
 abbrev pub layers_text : Drawn → List ℕ
 layers_text d = concat
     (layer_text (codes "stroke='#d5dfec'") d.grounds
-    ∷ layer_text (codes "fill='none' stroke-opacity='0.5' marker-end='url(#head)'") d.joins
+    ∷ layer_text (codes "fill='none' stroke-opacity='0.5' marker-end='url(#head)'") d.arrows
     ∷ layer_text (codes "stroke='white' stroke-width='3' stroke-opacity='0.8'") d.words
     ∷ layer_text (codes "stroke-width='1.5'") d.marks
     ∷ layer_text (codes "stroke='none'") d.words ∷ [])

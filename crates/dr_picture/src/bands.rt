@@ -159,44 +159,30 @@ impl Bands {
     /// Tells that a member joins by its letter, where these entries are those of one: it has looked for one, and
     /// it was given one.
     fn note_join(&mut self, lanes: &mut [Lane], me: u8) -> Result<(), AllocError> {
-        let here = self.told_in(me);
-        let has_looked = match self.bands.get(here) {
-            Some(band) => band.waits_for(me),
-            None => false,
-        };
-        if !has_looked {
+        if !self.has_looked(me) {
             return Ok(());
         }
-        let letter = match lanes.get_mut(usize::from(me)) {
-            Some(lane) => replace(&mut lane.letter, None),
-            None => None,
-        };
-        let Some((welcomer, from_band)) = letter else {
+        let Some(letter) = letter_arrow(lanes, me) else {
             return Ok(());
         };
-        self.say_of(lanes, me, "joins by the letter of", "joins by", welcomer)?;
-        self.point_letter(
-            lanes.len(),
-            here,
-            Arrow {
-                from: welcomer,
-                from_band,
-                to: me,
-                colour: VIOLET,
-            },
-        )
+        self.say_of(lanes, me, "joins by the letter of", "joins by", letter.from)?;
+        self.point_letter(lanes.len(), letter)
+    }
+
+    /// Whether a member looks for a letter, or ends a view, in the band that tells of it.
+    fn has_looked(&self, me: u8) -> bool {
+        match self.bands.get(self.told_in(me)) {
+            Some(band) => band.waits_for(me),
+            None => false,
+        }
     }
 
     /// Draws a letter as an arrow of a band, where so many members have arrows and the turn is told.
-    fn point_letter(
-        &mut self,
-        members: usize,
-        here: usize,
-        arrow: Arrow,
-    ) -> Result<(), AllocError> {
+    fn point_letter(&mut self, members: usize, arrow: Arrow) -> Result<(), AllocError> {
         if members > MOST_WITH_ARROWS || !self.window.has(self.turn_of(arrow.to)) {
             return Ok(());
         }
+        let here = self.told_in(arrow.to);
         match self.bands.get_mut(here) {
             Some(band) => Ok(band.arrows.push(arrow)?),
             None => Ok(()),
@@ -274,27 +260,47 @@ impl Bands {
             News::Put(message) => self.note_message(lanes, me, message),
             News::Filler => self.note_filler(lanes, me),
             News::Taking { sender, count } => self.note_taking(lanes, me, sender, count),
-            News::Durable(count) => {
-                let cell = Cell::of_number(self.alloc, INK, "durable", count)?;
-                self.tell(lanes, me, Kind::Deed(Shape::Bar), cell)
-            }
-            News::Suspicion(other) => {
-                let cell = Cell::of_number(self.alloc, RED, "suspects", u64::from(other))?;
-                self.tell(lanes, me, Kind::Deed(Shape::Cross), cell)
-            }
-            News::Wish(other) => self.say_of(lanes, me, "wishes for", "wish", other),
-            News::Letter(other) => self.note_letter(lanes, me, other),
-            News::Vote => self.say(lanes, me, Shape::HollowDiamond, "votes"),
-            News::Proposal(change) => self.say_change(lanes, me, "proposes", &change),
-            News::Acceptance => self.say(lanes, me, Shape::HollowDiamond, "accepts"),
-            News::Commitment(change) => self.say_change(lanes, me, "commits", &change),
+            News::Durable(count) => self.note_durable(lanes, me, count),
             News::NextView { .. } | News::Letterbox => {
                 self.wait_for(me);
                 Ok(())
             }
             News::End(end) => self.note_end(lanes, me, end),
             News::Turn(_) | News::Delivery { .. } | News::Logged(_) => Ok(()),
+            News::Suspicion(_)
+            | News::Wish(_)
+            | News::Letter(_)
+            | News::Vote
+            | News::Proposal(_)
+            | News::Acceptance
+            | News::Commitment(_) => self.note_step(lanes, me, news),
         }
+    }
+
+    /// Tells what a member does to change its view, or to take another one into it.
+    fn note_step(&mut self, lanes: &mut [Lane], me: u8, news: News<'_>) -> Result<(), AllocError> {
+        match news {
+            News::Suspicion(other) => self.note_suspicion(lanes, me, other),
+            News::Wish(other) => self.say_of(lanes, me, "wishes for", "wish", other),
+            News::Letter(other) => self.note_letter(lanes, me, other),
+            News::Vote => self.say(lanes, me, Shape::HollowDiamond, "votes"),
+            News::Proposal(change) => self.say_change(lanes, me, "proposes", &change),
+            News::Commitment(change) => self.say_change(lanes, me, "commits", &change),
+            News::Acceptance => self.say(lanes, me, Shape::HollowDiamond, "accepts"),
+            _ => Ok(()),
+        }
+    }
+
+    /// So many entries of a member are durable.
+    fn note_durable(&mut self, lanes: &mut [Lane], me: u8, count: u64) -> Result<(), AllocError> {
+        let cell = Cell::of_number(self.alloc, INK, "durable", count)?;
+        self.tell(lanes, me, Kind::Deed(Shape::Bar), cell)
+    }
+
+    /// A member suspects another one.
+    fn note_suspicion(&mut self, lanes: &mut [Lane], me: u8, other: u8) -> Result<(), AllocError> {
+        let cell = Cell::of_number(self.alloc, RED, "suspects", u64::from(other))?;
+        self.tell(lanes, me, Kind::Deed(Shape::Cross), cell)
     }
 
     /// A member gives another one a letter.
@@ -477,6 +483,18 @@ fn heading_of(
     write!(heading, "{number}: ")?;
     push_ranges(&mut heading, members)?;
     Ok(heading)
+}
+
+/// The arrow of the letter that a member was given, if it has one. It is taken.
+fn letter_arrow(lanes: &mut [Lane], me: u8) -> Option<Arrow> {
+    let lane = lanes.get_mut(usize::from(me))?;
+    let (from, from_band) = replace(&mut lane.letter, None)?;
+    Some(Arrow {
+        from,
+        from_band,
+        to: me,
+        colour: VIOLET,
+    })
 }
 
 /// In which band a sender has put an item of the view that a member is in.

@@ -40,7 +40,7 @@ fn put(sheet: &mut Sheet, mark: &Mark) -> Result<(), AllocError>
             colour,
             words,
         } => sheet.write(*at, *style, *colour, words.as_str()),
-        Mark::Arrow { from, to, colour } => sheet.join(*from, *to, *colour),
+        Mark::Arrow { from, to, colour } => sheet.draw_arrow(*from, *to, *colour),
         Mark::Ground { at, to, colour } => sheet.draw_ground(*at, *to, *colour),
     }
 }
@@ -88,29 +88,36 @@ fn marks_of(
     whole: bool,
 ) -> Result<Marks, AllocError> {
     let mut marks = Marks::new(alloc);
-    let height = band.height();
-    if height == 0 {
-        return Ok(marks);
+    if band.height() > 0 {
+        draw_strips(alloc, &mut marks, sheet, band, whole)?;
+        draw_arrows(&mut marks, sheet, tops, band)?;
     }
-    let to = sheet.row().saturating_add(height);
+    Ok(marks)
+}
+
+/// Draws the strips of a band, with the number of its turn where members take whole turns.
+fn draw_strips(
+    alloc: Global,
+    marks: &mut Marks,
+    sheet: &Sheet,
+    band: &Band,
+    whole: bool,
+) -> Result<(), AllocError> {
+    let y = sheet.row();
+    let to = y.saturating_add(band.height());
     for (member, strip) in band.strips.iter().enumerate() {
         let member = member.min(16) as u8;
         let at = Point {
             x: sheet.left_of(member),
-            y: sheet.row().saturating_add(band.step_of(member)),
+            y: y.saturating_add(band.step_of(member)),
         };
-        draw_grounds(&mut marks, strip, at, sheet.row(), to)?;
-        draw_strip(alloc, &mut marks, strip, at, whole)?;
+        draw_grounds(marks, strip, at, y, to)?;
+        draw_strip(alloc, marks, strip, at, whole)?;
     }
-    if whole {
-        let at = Point {
-            x: 10,
-            y: sheet.row(),
-        };
-        write_turn(alloc, &mut marks, at, band.turn())?;
+    if !whole {
+        return Ok(());
     }
-    draw_arrows(&mut marks, sheet, tops, band)?;
-    Ok(marks)
+    write_turn(alloc, marks, Point { x: 10, y }, band.turn())
 }
 
 /// Draws the grounds of the views that a member is in, whose rows begin at this point, from a row to another.
@@ -316,22 +323,38 @@ fn draw_lost(
     let mut count = 0usize;
     for (member, lane) in lanes.iter().enumerate() {
         let member = member.min(16) as u8;
-        for label in lane.lost(delivered_of(lanes, member)) {
-            if count < NAMED {
-                let at = Point { x, y };
-                let look = " text-decoration='line-through'";
-                marks.write(at, look, member_colour(member), label.as_str())?;
-                x = x
-                    .saturating_add(width_of(label.as_str()))
-                    .saturating_add(12);
-            }
-            count = count.saturating_add(1);
-        }
+        let lost = lane.lost(delivered_of(lanes, member));
+        let room = NAMED.saturating_sub(count).min(lost.len());
+        x = strike_out(marks, &lost[..room], Point { x, y }, member_colour(member))?;
+        count = count.saturating_add(lost.len());
     }
-    if count > 0 {
-        let mut words = String::new(alloc);
-        write!(words, "put, and delivered by nobody in this age ({count}):")?;
-        marks.write(Point { x: GUTTER, y }, "", RED, words.as_str())?;
-    }
+    count_lost(alloc, marks, Point { x: GUTTER, y }, count)?;
     Ok(count)
+}
+
+/// Writes labels of messages that are lost, one behind the other. Answers where the next one begins.
+fn strike_out(
+    marks: &mut Marks,
+    labels: &[String],
+    at: Point,
+    colour: &'static str,
+) -> Result<u32, AllocError> {
+    let mut x = at.x;
+    for label in labels {
+        let words = label.as_str();
+        let here = Point { x, y: at.y };
+        marks.write(here, " text-decoration='line-through'", colour, words)?;
+        x = x.saturating_add(width_of(words)).saturating_add(12);
+    }
+    Ok(x)
+}
+
+/// Writes how many messages are lost, if any are.
+fn count_lost(alloc: Global, marks: &mut Marks, at: Point, count: usize) -> Result<(), AllocError> {
+    if count == 0 {
+        return Ok(());
+    }
+    let mut words = String::new(alloc);
+    write!(words, "put, and delivered by nobody in this age ({count}):")?;
+    marks.write(at, "", RED, words.as_str())
 }

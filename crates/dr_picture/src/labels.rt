@@ -1,7 +1,7 @@
 //! The words beside the marks of a picture.
 use dr_entry::Message;
 use dr_quote::push_message;
-use dr_seeing::Change;
+use dr_seeing::{Change, push_counts};
 use std::alloc::{AllocError, Global};
 use std::fmt::Write;
 
@@ -134,8 +134,5 @@ fn push_those(out: &mut String, names: u16, one: &str, several: &str) -> Result<
 /// Appends how many items of each of the first `members` members are still delivered.
 pub(crate) fn push_trim(out: &mut String, trim: &[u32], members: usize) -> Result<(), AllocError> {
     out.push_str("items")?;
-    for (member, count) in trim.iter().enumerate().take(members) {
-        write!(out, " {member}:{count}")?;
-    }
-    Ok(())
+    push_counts(out, " ", members, trim)
 }

@@ -13,12 +13,12 @@ const KEYS: [(Shape, u32, &str); 5] = [
     (
         Shape::Dot,
         216,
-        "delivers, in the colour of the sender; an arrow: an item is taken",
+        "delivers, in the sender's colour; an arrow: an item is taken, or a letter",
     ),
-    (Shape::Bar, 560, "entries that are durable"),
+    (Shape::Bar, 590, "entries that are durable"),
     (
         Shape::Diamond,
-        706,
+        736,
         "a change of the view; N:K: K items of N count",
     ),
 ];

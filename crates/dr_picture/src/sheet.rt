@@ -1,7 +1,7 @@
 //! The sheet that a picture is drawn on.
 ghost use Rattle.std.specs.Prelude.{◌≡◌, ◌-◌, ◌++◌, OnOk, nat_eq, string_bytes};
 ghost use Rattle.dr_history.specs.History.{IsPrefixOf};
-ghost use Rattle.dr_picture.specs.Marks.{ground_text, join_text, layer_text, mark_text, words_text};
+ghost use Rattle.dr_picture.specs.Marks.{ground_text, arrow_text, layer_text, mark_text, words_text};
 ghost use Rattle.dr_picture.specs.Sheet.{IsBlank, IsDrawnIn, Keeps, advanced, layers_text, left_of};
 
 use crate::legend::{push_left_out, push_legend};
@@ -20,7 +20,7 @@ pub(crate) const MARGIN: u32 = 16;
 pub(crate) const GUTTER: u32 = 40;
 
 /// The width that the legend takes.
-const LEAST_WIDTH: u32 = 950;
+const LEAST_WIDTH: u32 = 980;
 
 /// What is left free between two lanes.
 const GAP: u32 = 8;
@@ -31,7 +31,7 @@ pub(crate) struct Sheet {
     /// The grounds of views.
     grounds: String,
     /// The arrows between lanes.
-    joins: String,
+    arrows: String,
     marks: String,
     words: String,
     /// The width of a lane.
@@ -52,7 +52,7 @@ impl Model for Sheet {
 
     ghost view = { λ s. record {
       grounds = string_bytes s.grounds;
-      joins = string_bytes s.joins;
+      arrows = string_bytes s.arrows;
       marks = string_bytes s.marks;
       words = string_bytes s.words;
       lane = s.lane;
@@ -70,7 +70,7 @@ impl Sheet {
         let lane = (1100 / u32::from(members.max(1))).max(72).min(280);
         Sheet {
             grounds: String::new(alloc),
-            joins: String::new(alloc),
+            arrows: String::new(alloc),
             marks: String::new(alloc),
             words: String::new(alloc),
             lane,
@@ -147,16 +147,21 @@ impl Sheet {
     }
 
     /// Draws an arrow from one point to another.
-    pub(crate) fn join(&mut self, one: Point, other: Point, colour: &str) -> Result<(), AllocError>
+    pub(crate) fn draw_arrow(
+        &mut self,
+        one: Point,
+        other: Point,
+        colour: &str,
+    ) -> Result<(), AllocError>
         ensures adds { OnOk result (self.new ≡ record self.old {
-          joins = self.old.joins ++ join_text one other colour.now;
+          arrows = self.old.arrows ++ arrow_text one other colour.now;
         }) }
         ensures keeps { OnOk result (Keeps self.old self.new) }
     {
         let Point { x, y } = one;
         let Point { x: to_x, y: to_y } = other;
         writeln!(
-            self.joins,
+            self.arrows,
             "<path d='M{x} {y}L{to_x} {to_y}' stroke='{colour}'/>"
         )
     }
@@ -199,8 +204,8 @@ impl Sheet {
         ensures { OnOk result (string_bytes out.new ≡ string_bytes out.old ++ layers_text self.now) }
     {
         push_layer(out, "stroke='#d5dfec'", &self.grounds)?;
-        let arrows = "fill='none' stroke-opacity='0.5' marker-end='url(#head)'";
-        push_layer(out, arrows, &self.joins)?;
+        let look = "fill='none' stroke-opacity='0.5' marker-end='url(#head)'";
+        push_layer(out, look, &self.arrows)?;
         let seam = "stroke='white' stroke-width='3' stroke-opacity='0.8'";
         push_layer(out, seam, &self.words)?;
         push_layer(out, "stroke-width='1.5'", &self.marks)?;

@@ -4,7 +4,6 @@ use Rattle.std.proofs.Math.Seq.{take-append_seam}
 use Rattle.std.proofs.lemmas.Bool.{false≢true}
 use Rattle.dr_io.specs.Faults.{Rose}
 use Rattle.dr_io.specs.Sink.{Gains}
-use Rattle.dr_io.proofs.KnownLemmas.{gains_more}
 use Rattle.dr_text.specs.Writing.{WroteFront}
 use Rattle.dr_text.proofs.Sinks.{front_behind, front_longer}
 use Rattle.dr_seeing.specs.declared.output.Trouble.{Trouble}
@@ -68,20 +67,6 @@ tells_wanting text old new none wanting same calm = λ held fell before told.
           (underway_front held fell before text old is),
     )
 
--- all that waits was written
-pub tells_written : (old new : Written) → old.trouble ≡ None → new.trouble ≡ None
-    → Gains old.held new.held old.waiting → new.faults ≡ old.faults → new.waiting ≡ [] → Tells [] old new
-tells_written old new none free gained calm waits = λ held fell before told.
-    let is = subst (λ (o : Option Trouble). WasWrittenSoFar o held fell before old) none told in
-    subst (λ (o : Option Trouble). WasWrittenSoFar o held fell (before ++ []) new) (sym free) (record {
-      front = is.front ++ old.waiting;
-      gained = gains_more held old.held new.held is.front old.waiting is.gained gained;
-      whole = append-nil before ∙ is.whole
-          ∙ sym (append-nil (is.front ++ old.waiting))
-          ∙ ap (λ (l : List ℕ). (is.front ++ old.waiting) ++ l) (sym waits);
-      calm = calm ∙ is.calm;
-    })
-
 -- the sink failed
 pub tells_failed : (old new : Written) → old.trouble ≡ None → new.trouble ≡ Some troubles.Sink
     → WroteFront old.held new.held old.waiting → Rose old.faults new.faults → Tells [] old new
@@ -102,13 +87,6 @@ tells_both a b old now new first then = λ held fell before told.
     (then held fell (before ++ a) (first held fell before told))
 
 -- the same, where what is told already waits
-pub settled_more : (text : List ℕ) (before old new : Written) → before.trouble ≡ None → old.trouble ≡ None
-    → before.held ≡ old.held → before.faults ≡ old.faults → old.waiting ≡ before.waiting ++ text → new ≡ old
-    → Tells text before new
-settled_more text before old new none free same calm waits is =
-    subst (λ (w : Written). Tells text before w) (sym is)
-    (tells_more text before old none free (sym same) (sym calm) waits)
-
 pub settled_flushed : (text : List ℕ) (before old new : Written) → before.trouble ≡ None → old.trouble ≡ None
     → before.held ≡ old.held → before.faults ≡ old.faults → old.waiting ≡ before.waiting ++ text
     → Tells [] old new → Tells text before new

@@ -25,11 +25,11 @@ use Rattle.dr_words.specs.declared.column.TheConstants.{LOGGED_COLUMN}
 abbrev pub with_number : List ℕ → ℕ → List ℕ
 with_number word number = word ++ decimal number
 
--- the members that leave by a value, or a dash where there are none
+-- the members that leave or come by a value, or a dash where there are none
 abbrev pub leavers_text : ℕ → List ℕ
 leavers_text mask = if mask == 0 then codes "-" else mask_text mask
 
--- a value: who leaves, and how many items of each member of the roster are still delivered
+-- a value: who leaves or comes, and how many items of each member of the roster are still delivered
 abbrev pub value_text : ℕ → Value → List ℕ
 value_text members value = concat
     (codes "leavers " ∷ leavers_text value.leavers ∷ codes " trim"

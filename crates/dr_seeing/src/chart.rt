@@ -218,9 +218,19 @@ impl Chart {
         self.draw_rows()
     }
 
+    /// Whether there may be more to tell of some row.
+    fn is_waiting(&self) -> bool {
+        for row in self.rows.iter() {
+            if row.waits {
+                return true;
+            }
+        }
+        false
+    }
+
     /// Draws the rows that are yet to be drawn, once there is no more to tell of any of them.
     fn draw_rows(&mut self) -> Result<(), AllocError> {
-        if self.rows.iter().any(|row| row.waits) {
+        if self.is_waiting() {
             return Ok(());
         }
         let rows = replace(&mut self.rows, Vec::new(self.alloc));

@@ -157,14 +157,18 @@ fn news_of_act(replica: &Replica, act: Act) -> Option<News<'_>>
         Act::Report => Some(News::Durable(replica.least_logged())),
         Act::Mark => None,
         Act::Suspect { other } => Some(suspicion(replica, other)),
-        Act::Propose => replica
-            .waiting_vote()
-            .map(|vote| News::Proposal(change(replica, vote.value))),
+        Act::Propose => proposal_news(replica),
         Act::Accept => Some(News::Acceptance),
         Act::Commit => Some(News::Commitment(change(replica, replica.accepted_value()))),
         Act::Finish => Some(next_view(replica)),
         Act::Halt { end } | Act::Crash { end } => Some(News::End(end)),
     }
+}
+
+/// The news of a proposal.
+fn proposal_news(replica: &Replica) -> Option<News<'_>> {
+    let vote = replica.waiting_vote()?;
+    Some(News::Proposal(change(replica, vote.value)))
 }
 
 /// The news of a delivery: a null has none.

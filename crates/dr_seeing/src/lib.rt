@@ -15,4 +15,5 @@ pub use chart::Chart;
 pub use deeds::{news_of, push_line};
 pub use news::{Change, News};
 pub use output::{Output, Trouble};
+pub use turn::push_counts;
 pub use waits::push_waits;

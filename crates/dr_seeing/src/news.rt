@@ -2,7 +2,7 @@
 use dr_entry::{End, MAX_MEMBERS, Message};
 
 /// What is new as a member does a deed.
-#[derive(Clone, Copy, Debug)]
+#[derive(Clone, Copy)]
 pub enum News<'a> {
     /// The turn of this number begins.
     Turn(u32),
@@ -51,7 +51,7 @@ pub enum News<'a> {
 }
 
 /// What a value says of the view that it ends.
-#[derive(Clone, Copy, Debug)]
+#[derive(Clone, Copy)]
 pub struct Change {
     /// Who leaves: bit `i` is set exactly where member `i` does.
     pub leavers: u16,

@@ -97,22 +97,39 @@ impl Turn {
     /// Takes note of news of one of so many members. That of a turn begins it.
     pub(crate) fn note(&mut self, members: usize, news: News<'_>) -> Result<(), AllocError> {
         match news {
-            News::Turn(number) => self.begin(number),
-            News::Logged(count) => self.logged = Some(count),
-            News::Durable(count) => self.durable = Some(count),
-            News::NextView { .. } => self.waits = true,
-            News::Letterbox => {
+            News::Turn(number) => {
+                self.begin(number);
+                Ok(())
+            }
+            News::Logged(count) => {
+                self.logged = Some(count);
+                Ok(())
+            }
+            News::Durable(count) => {
+                self.durable = Some(count);
+                Ok(())
+            }
+            News::NextView { .. } => {
                 self.waits = true;
-                self.by_letter = true;
+                Ok(())
+            }
+            News::Letterbox => {
+                self.wait_for_letter();
+                Ok(())
             }
             News::Taking { .. } | News::Put(_) | News::Filler | News::Delivery { .. } => {
-                self.note_item(news)?;
+                self.note_item(news)
             }
-            News::Commitment(change) => push_commitment(&mut self.more, members, &change)?,
-            News::End(end) => self.note_end(end)?,
-            _ => self.note_vote(news)?,
+            News::Commitment(change) => push_commitment(&mut self.more, members, &change),
+            News::End(end) => self.note_end(end),
+            _ => self.note_vote(news),
         }
-        Ok(())
+    }
+
+    /// Entries may come by a letter.
+    fn wait_for_letter(&mut self) {
+        self.waits = true;
+        self.by_letter = true;
     }
 
     /// Takes note of an item.
@@ -174,7 +191,7 @@ fn push_commitment(out: &mut String, members: usize, change: &Change) -> Result<
     }
     push_those(out, change.newcomers, "\njoins", "\njoin")?;
     out.push_str("\nwith\nitems")?;
-    push_counts(out, members, &change.trim)
+    push_counts(out, "\n", members, &change.trim)
 }
 
 /// Appends these members, if there are any, with a word behind one of them and another one behind several.
@@ -191,10 +208,19 @@ fn push_those(out: &mut String, names: u16, one: &str, several: &str) -> Result<
     })
 }
 
-/// Appends how many items of each member are delivered.
-fn push_counts(out: &mut String, members: usize, trim: &[u32]) -> Result<(), AllocError> {
+/// Appends how many items of each of so many members are delivered, each behind this text.
+///
+/// # Errors
+///
+/// Want of memory alone.
+pub fn push_counts(
+    out: &mut String,
+    before: &str,
+    members: usize,
+    trim: &[u32],
+) -> Result<(), AllocError> {
     for (member, count) in trim.iter().enumerate().take(members) {
-        write!(out, "\n{member}:{count}")?;
+        write!(out, "{before}{member}:{count}")?;
     }
     Ok(())
 }

@@ -1,6 +1,7 @@
 //! What a member waited for until its turns were spent.
 ghost use Rattle.std.specs.Prelude.{◌≡◌, ◌<◌, ◌≤◌, true};
 
+use crate::lines::push_number;
 use dr_entry::End;
 use dr_member::Member;
 use dr_replica::Replica;
@@ -33,45 +34,45 @@ pub fn push_waits(
         return push_change(out, replica, members);
     }
     if replica.own(DONE_COLUMN) == 1 {
-        return push_missing(
-            out,
-            replica,
-            members,
-            Missing {
-                kind: Kind::Done,
-                least: 0,
-            },
-        );
+        return push_missing(out, replica, members, Kind::Done, 0);
     }
-    let least = replica.durable();
-    let is_durable = least >= replica.history().len() as u64;
-    if !is_durable {
-        push_missing(
-            out,
-            replica,
-            members,
-            Missing {
-                kind: Kind::Logged,
-                least,
-            },
-        )?;
+    push_unlogged(out, replica, members)?;
+    push_item_wait(out, replica, members)
+}
+
+/// Whether all that a member has delivered is durable.
+fn is_durable(replica: &Replica) -> bool {
+    replica.durable() >= replica.history().len() as u64
+}
+
+/// Appends that a member waits for its entries to be on the logs of others, where not all are durable.
+fn push_unlogged(
+    out: &mut String,
+    replica: &Replica,
+    members: &[Option<Member>],
+) -> Result<(), AllocError> {
+    if is_durable(replica) {
+        return Ok(());
     }
-    let least = replica.next_place();
-    if replica.own(RECEIVED_COLUMN) > least {
-        push_missing(
-            out,
-            replica,
-            members,
-            Missing {
-                kind: Kind::Received,
-                least,
-            },
-        )
-    } else if is_durable {
-        push_put(out, replica, members)
-    } else {
-        Ok(())
+    push_missing(out, replica, members, Kind::Logged, replica.durable())
+}
+
+/// Appends that a member waits for the item of the next place: for others to have received it, where it has,
+/// and else for it to be put. A member some entries of which aren't durable waits for those instead.
+fn push_item_wait(
+    out: &mut String,
+    replica: &Replica,
+    members: &[Option<Member>],
+) -> Result<(), AllocError> {
+    let _ = replica.me();
+    let place = replica.next_place();
+    if replica.own(RECEIVED_COLUMN) > place {
+        return push_missing(out, replica, members, Kind::Received, place);
     }
+    if !is_durable(replica) {
+        return Ok(());
+    }
+    push_put(out, replica, members)
 }
 
 /// Appends that a late member waits for its letter.
@@ -125,14 +126,22 @@ fn push_place(
     if sender >= replica.shape().members || sender >= other.replica().shape().members {
         return writeln!(out, " to put what stands at place {place}");
     }
-    let taken = replica.count(sender);
-    let put = other.replica().count(sender);
-    let seen = if taken < put { "be seen to " } else { "" };
-    write!(
+    push_puts(
         out,
-        " to {seen}put what stands at place {place} (taken: {taken}, put: {put}"
+        place,
+        replica.count(sender),
+        other.replica().count(sender),
     )?;
     push_view(out, replica, other)
+}
+
+/// Appends that one is to put the item of a place, or to be seen to, where more are put than taken.
+fn push_puts(out: &mut String, place: u64, taken: u32, put: u32) -> Result<(), AllocError> {
+    out.push_str(if taken < put { " to be seen to" } else { " to" })?;
+    write!(
+        out,
+        " put what stands at place {place} (taken: {taken}, put: {put}"
+    )
 }
 
 /// What members are waited for to have.
@@ -184,29 +193,50 @@ fn push_change(
     Ok(())
 }
 
+/// Whom one suspects, which are members of its view, and for whom it wishes, which aren't.
+#[derive(Clone, Copy)]
+struct Named {
+    suspects: u16,
+    wishes: u16,
+}
+
+/// Those that a replica suspects, and those that it wishes for, of these.
+fn named_of(replica: &Replica, names: Mask) -> Named {
+    let wishes = names.without(replica.members());
+    Named {
+        suspects: names.without(wishes).bits(),
+        wishes: wishes.bits(),
+    }
+}
+
 /// Appends that a member waits for the change of its view, whom it suspects, and for whom it wishes.
 fn push_wedged(out: &mut String, replica: &Replica) -> Result<(), AllocError> {
     let me = replica.me();
-    let wishes = replica.suspects().without(replica.members());
-    let suspects = replica.suspects().without(wishes);
     write!(out, "member {me} waits for: the change of its view, as it ")?;
-    if suspects.bits() != 0 {
-        out.push_str("suspects ")?;
-        push_mask(out, suspects.bits())?;
-    }
-    if wishes.bits() != 0 {
-        out.push_str(if suspects.bits() == 0 {
-            "wishes for "
-        } else {
-            " and wishes for "
-        })?;
-        push_mask(out, wishes.bits())?;
-    }
+    push_suspecting(out, named_of(replica, replica.suspects()))?;
     out.push_str("\n")
 }
 
-/// Appends what is missing of a change of view at a member of it that nobody suspects: that it suspects whom
-/// this one suspects, that it proposes, as the least of them, or that it accepts.
+/// Appends whom one suspects, and for whom it wishes.
+fn push_suspecting(out: &mut String, named: Named) -> Result<(), AllocError> {
+    match (named.suspects, named.wishes) {
+        (suspects, 0) => push_titled(out, "suspects ", suspects),
+        (0, wishes) => push_titled(out, "wishes for ", wishes),
+        (suspects, wishes) => {
+            push_titled(out, "suspects ", suspects)?;
+            push_titled(out, " and wishes for ", wishes)
+        }
+    }
+}
+
+/// Appends members behind a title.
+fn push_titled(out: &mut String, title: &str, names: u16) -> Result<(), AllocError> {
+    out.push_str(title)?;
+    push_mask(out, names)
+}
+
+/// Appends what is missing of a change of view at a member of it that nobody suspects: that it suspects or
+/// wishes for whom this one suspects or wishes for, that it proposes, as the least of them, or that it accepts.
 fn push_step(
     out: &mut String,
     replica: &Replica,
@@ -280,7 +310,8 @@ fn push_proposal(
     })
 }
 
-/// Appends that a member of the view is to suspect whom this one suspects, where that is not seen.
+/// Appends that a member of the view is to suspect or wish for whom this one suspects or wishes for, where
+/// that is not seen.
 fn push_suspicions(
     out: &mut String,
     replica: &Replica,
@@ -291,20 +322,52 @@ fn push_suspicions(
 {
     let me = replica.me();
     let seen = Mask::of((replica.seen(number, SUSPECTED_COLUMN) & 0xffff) as u16);
-    if replica.suspects().without(seen).bits() == 0 {
+    let missing = replica.suspects().without(seen);
+    if missing.bits() == 0 {
         return Ok(());
     }
     push_awaited(out, me, number, other.end())?;
-    push_suspected(out, seen, other.replica().suspects())?;
+    push_unnamed(
+        out,
+        named_of(replica, missing),
+        named_of(replica, seen),
+        named_of(other.replica(), other.replica().suspects()),
+    )?;
     push_view(out, replica, other)
 }
 
-/// Appends whom a member is seen to suspect, and whom it suspects.
-fn push_suspected(out: &mut String, seen: Mask, suspects: Mask) -> Result<(), AllocError> {
+/// Appends that one is to suspect the same, or to wish for the same, where this is missing.
+fn push_unnamed(
+    out: &mut String,
+    missing: Named,
+    seen: Named,
+    has: Named,
+) -> Result<(), AllocError> {
+    match (missing.suspects, missing.wishes) {
+        (_, 0) => push_suspected(out, seen, has),
+        (0, _) => push_wished(out, seen, has),
+        _ => {
+            push_suspected(out, seen, has)?;
+            out.push_str(") and")?;
+            push_wished(out, seen, has)
+        }
+    }
+}
+
+/// Appends whom one is seen to suspect, and whom it suspects.
+fn push_suspected(out: &mut String, seen: Named, has: Named) -> Result<(), AllocError> {
     out.push_str(" to suspect the same (seen to suspect: ")?;
-    push_members(out, seen.bits())?;
+    push_members(out, seen.suspects)?;
     out.push_str(", suspects: ")?;
-    push_members(out, suspects.bits())
+    push_members(out, has.suspects)
+}
+
+/// Appends for whom one is seen to wish, and for whom it wishes.
+fn push_wished(out: &mut String, seen: Named, has: Named) -> Result<(), AllocError> {
+    out.push_str(" to wish for the same (seen to wish for: ")?;
+    push_members(out, seen.wishes)?;
+    out.push_str(", wishes for: ")?;
+    push_members(out, has.wishes)
 }
 
 /// Appends the members of a mask, or that there are none.
@@ -320,15 +383,17 @@ fn push_missing(
     out: &mut String,
     replica: &Replica,
     members: &[Option<Member>],
-    missing: Missing,
+    kind: Kind,
+    least: u64,
 ) -> Result<(), AllocError> {
-    let column = missing.kind.column();
+    let column = kind.column();
+    let missing = Missing { kind, least };
     let _ = replica.me();
     for number in 0..16u8 {
         if let Some(other) = member_at(members, number) {
             if is_with(replica, number) {
                 let seen = replica.seen(number, column);
-                if seen <= missing.least {
+                if seen <= least {
                     push_wait(out, replica, number, other, missing, seen)?;
                 }
             }
@@ -362,25 +427,39 @@ fn push_wait(
 /// Appends how many items or entries one that is waited for is to have.
 fn push_lack(out: &mut String, missing: Missing) -> Result<(), AllocError> {
     let wanted = missing.least.saturating_add(1);
-    let words = match missing.kind {
-        Kind::Received if wanted == 1 => "item in order",
-        Kind::Received => "items in order",
-        _ if wanted == 1 => "entry",
-        _ => "entries",
-    };
-    let taken = if matches!(&missing.kind, Kind::Received) {
-        "received"
+    match missing.kind {
+        Kind::Received => push_lacking_items(out, wanted),
+        _ => push_lacking_entries(out, wanted),
+    }
+}
+
+/// Appends how many items one is to have received.
+fn push_lacking_items(out: &mut String, wanted: u64) -> Result<(), AllocError> {
+    push_number(out, " to have received ", wanted)?;
+    out.push_str(if wanted == 1 {
+        " item in order"
     } else {
-        "logged"
-    };
-    write!(out, " to have {taken} {wanted} {words}")
+        " items in order"
+    })
+}
+
+/// Appends how many entries one is to have on its log.
+fn push_lacking_entries(out: &mut String, wanted: u64) -> Result<(), AllocError> {
+    push_number(out, " to have logged ", wanted)?;
+    out.push_str(if wanted == 1 { " entry" } else { " entries" })
 }
 
 /// Appends what is seen of one that is waited for, in this view, and what it has.
 fn push_seen(out: &mut String, view: u8, seen: u64, has: u64) -> Result<(), AllocError> {
+    push_seen_in(out, view)?;
+    write!(out, ": {seen}, has: {has}")
+}
+
+/// Appends in which view something is seen: the first one isn't named.
+fn push_seen_in(out: &mut String, view: u8) -> Result<(), AllocError> {
     match view {
-        0 => write!(out, " (seen: {seen}, has: {has}"),
-        _ => write!(out, " (seen in view {view}: {seen}, has: {has}"),
+        0 => out.push_str(" (seen"),
+        _ => push_number(out, " (seen in view ", u64::from(view)),
     }
 }
 

@@ -9,7 +9,7 @@ returns-then-are_all_late-clause-wrote g c = λ held fell told. record {
   text = trace_usage;
   due = 2;
   is = inr (record {
-    all = subst (λ (p : Part). AreAllLate c.args.script.now p) c.everybody_with-part.ensures c.if-are_all_late.ensures;
+    all = subst (λ (p : Part). AreAllLate c.args.script.now p) c.with_late-part.ensures c.if-are_all_late.ensures;
     usage = refl;
     status = refl;
   });
@@ -23,6 +23,6 @@ returns-clause-wrote g c = λ held fell told.
       text = ran.text;
       due = ran.due;
       is = inl (subst (λ (p : Part). IsRunTold c.args.asked.form c.args.script.now p ran.text ran.due)
-          c.everybody_with-part.ensures ran.is);
+          c.with_late-part.ensures ran.is);
       wrote = ran.wrote;
     }

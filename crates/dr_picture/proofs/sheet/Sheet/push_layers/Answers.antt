@@ -15,7 +15,7 @@ returns c =
     (on_ok_weaker c.push_layer-5.result
     (five_behind (string_bytes c.args.out.now)
     (layer_text (codes "stroke='#d5dfec'") (string_bytes inside.grounds))
-    (layer_text (codes "fill='none' stroke-opacity='0.5' marker-end='url(#head)'") (string_bytes inside.joins))
+    (layer_text (codes "fill='none' stroke-opacity='0.5' marker-end='url(#head)'") (string_bytes inside.arrows))
     (layer_text (codes "stroke='white' stroke-width='3' stroke-opacity='0.8'") words)
     (layer_text (codes "stroke-width='1.5'") (string_bytes inside.marks))
     (layer_text (codes "stroke='none'") words)
