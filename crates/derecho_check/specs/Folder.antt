@@ -1,5 +1,5 @@
 -- What a call comes to.
-use Rattle.std.specs.Prelude.{◌≡◌, ℕ, true, ◌==◌, if◌then◌else◌, List, [], ◌∷◌, length, codes, Option, None, Some, IsSomeAnd, String, string_bytes}
+use Rattle.std.specs.Prelude.{◌≡◌, ℕ, true, List, [], ◌∷◌, length, codes, Option, None, IsSomeAnd, String, string_bytes}
 use Rattle.std.specs.declared.alloc.Global.{Global}
 use Rattle.dr_folder.specs.declared.checking.FolderCheck.{FolderCheck}
 use Rattle.dr_folder.specs.declared.file.LogFile.{LogFile}
@@ -8,18 +8,14 @@ use Rattle.dr_folder.specs.Told.{TellsNext, status_due}
 use Rattle.dr_intake.specs.Answer.{IsAnswer, IsLine, Said, ToldBy}
 use Rattle.dr_intake.specs.Reading.{refusal_in}
 use Rattle.dr_intake.specs.Status.{status_of}
+use Rattle.dr_literals.specs.Options.{value_word}
 use Rattle.dr_script.specs.declared.script.Script.{Script}
 use Rattle.dr_script.specs.Reading.{Reading, Reads, reading_of}
 use Rattle.dr_text.specs.Report.{last_text}
 
--- the folder that a word names: it is not empty, and begins with no dash
-abbrev pub folder_in : List ℕ → Option (List ℕ)
-folder_in [] = None
-folder_in (byte ∷ bytes) = if byte == 45 then None else Some (byte ∷ bytes)
-
--- the folder that the words name: it is the only one
+-- the folder that the words name: it is the only one, is not empty and begins with no dash
 abbrev pub folder_named : List (String Global) → Option (List ℕ)
-folder_named (word ∷ []) = folder_in (string_bytes word)
+folder_named (word ∷ []) = value_word (string_bytes word)
 folder_named words = None
 
 -- the text tells what the next run of the script over some files, one for each member, starts with or is refused

@@ -1,12 +1,13 @@
 ghost use Rattle.std.specs.Prelude.{◌≡◌, ◌⊎◌, IfOk, option_map, string_bytes};
 ghost use Rattle.dr_script.specs.Ranges.{HasRanges};
 ghost use Rattle.dr_script.specs.Reading.{reading_of};
-ghost use Rattle.derecho_check.specs.Folder.{CheckTold, IsCheckAnswer, IsFolderAnswer, IsSaidOf, folder_in, folder_named, folder_usage};
+ghost use Rattle.derecho_check.specs.Folder.{CheckTold, IsCheckAnswer, IsFolderAnswer, IsSaidOf, folder_named, folder_usage};
 
 use crate::reading::read_files;
 use dr_folder::{check_folder, folder_report};
 use dr_intake::{Answer, OUT_OF_MEMORY, READ_LIMIT, ReadFault, USAGE, read_all, script_or_refusal};
 use dr_io::{Sink, Source};
+use dr_literals::value_word;
 use dr_script::Script;
 use dr_text::Last;
 use std::alloc::{AllocError, Global};
@@ -104,14 +105,7 @@ fn folder_named<'a>(words: &'a [String]) -> Option<&'a str>
     ensures { option_map (λ folder. folder.now) result ≡ folder_named words.now }
 {
     match words {
-        [word] => folder_in(word.as_str()),
+        [word] => value_word(word.as_str()),
         _ => None,
     }
-}
-
-/// The folder that a word names.
-fn folder_in(word: &str) -> Option<&str>
-    ensures { option_map (λ folder. folder.now) result ≡ folder_in word.now }
-{
-    (!word.is_empty() && !word.starts_with('-')).then_some(word)
 }

@@ -1,5 +1,5 @@
 -- Groups without faults, in lockstep, by how many turns they have.
-use Rattle.std.proofs.Common.{◌≡◌, ◌∙◌, ap, refl, sym, subst, ℕ, zero, suc, ◌+◌, ◌-◌, ◌*◌, ◌^◌, ◌<◌, ◌≤◌, true, arith, List, [], ◌∷◌, ◌&&◌, length, map, slice_get, All, Option, Some, Result, Ok, Err, IfOk}
+use Rattle.std.proofs.Common.{◌≡◌, ◌∙◌, ap, refl, sym, subst, ℕ, zero, suc, ◌+◌, ◌-◌, ◌*◌, ◌^◌, ◌<◌, ◌≤◌, true, arith, List, [], ◌∷◌, ◌&&◌, length, map, slice_get, Option, Some, Result, Ok, Err, IfOk}
 use Rattle.std.specs.List.{list_all}
 use Rattle.std.proofs.lemmas.List.{length-map}
 use Rattle.std.proofs.lemmas.List.Elements.{All-nil}
@@ -31,30 +31,6 @@ use Rattle.derecho_explain.specs.Turns.{IsFirstAge, TakesTurns, calm_group, is_d
 -- there are few turns
 pub few_turns : (s : Script) → HasRanges s → turns_enough s ≤ 4 * MAX_MESSAGES + 8
 few_turns s ranges = omega (arith, longest_within MAX_MESSAGES 0 s.messages (omega arith) ranges.group.few)
-
--- with any number of turns that a script may have it is one that may be run, as no fault depends on it
-pub turned_ranges : (s : Script) (turns : ℕ) → HasRanges s → s.faults ≡ [] → 1 ≤ turns → turns ≤ 1000000
-    → HasRanges (with_turns s turns)
-turned_ranges s turns ranges none some few = record {
-  group = record {
-    some_member = ranges.group.some_member;
-    most_members = ranges.group.most_members;
-    some_slot = ranges.group.some_slot;
-    most_slots = ranges.group.most_slots;
-    lists = ranges.group.lists;
-    few = ranges.group.few;
-    short = ranges.group.short;
-    bytes = ranges.group.bytes;
-  };
-  some_turn = some;
-  most_turns = few;
-  patience = ranges.patience;
-  some_age = ranges.some_age;
-  most_ages = ranges.most_ages;
-  few_faults = ranges.few_faults;
-  faults = subst (All (HasFaultRanges (with_turns s turns))) (sym none)
-      (All-nil (HasFaultRanges (with_turns s turns)));
-}
 
 pub calm_ranges : (s : Script) → HasRanges s → HasRanges (with_turns (calm_group s) (turns_enough s))
 calm_ranges s ranges = record {

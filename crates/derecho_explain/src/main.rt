@@ -5,7 +5,7 @@
 mod faults;
 mod found;
 mod keys;
-mod late;
+mod never;
 mod reasons;
 mod repeats;
 mod syntax;

@@ -3,7 +3,7 @@ ghost use Rattle.dr_script.specs.Ranges.{HasRanges};
 use crate::faults::{push_deed, push_form, push_place};
 use crate::found::Found;
 use crate::keys::push_keys;
-use crate::late::push_late;
+use crate::never::push_never;
 use crate::repeats::push_repeat;
 use crate::syntax::push_syntax;
 use crate::values::{push_found, push_value};
@@ -46,7 +46,7 @@ pub(crate) fn words_for(alloc: Global, bytes: &[u8], script: &Script) -> Result<
             "the schedule is a seed: more may be needed, and nothing is proved of how many\n",
         )?;
     }
-    push_late(&mut out, script)?;
+    push_never(&mut out, script)?;
     push_repeat(alloc, &mut out, bytes)?;
     Ok(out)
 }

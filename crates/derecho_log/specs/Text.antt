@@ -11,9 +11,9 @@ use Rattle.dr_log_bytes.specs.Grammar.{BreaksAt, IsLog, blocks, magic_of}
 use Rattle.dr_text.specs.declared.last.Last.TheVariants as lasts
 use Rattle.dr_text.specs.Report.{entry_text, last_text, mask_text}
 
--- the members that leave, or nobody
-abbrev pub leaving_text : ℕ → List ℕ
-leaving_text mask = if mask == 0 then codes "nobody" else mask_text mask
+-- the members that a vote names, those whom its view loses and those whom it gets, or nobody
+abbrev pub naming_text : ℕ → List ℕ
+naming_text mask = if mask == 0 then codes "nobody" else mask_text mask
 
 -- how many items of a member of the roster are taken, with a comma before all but the first
 abbrev pub taken_text : ℕ → ℕ → List ℕ
@@ -24,10 +24,10 @@ taken_text number count = concat
 abbrev pub place_text : Vote → List ℕ
 place_text v = concat (codes " vote  age " ∷ decimal v.age ∷ codes " view " ∷ decimal v.view ∷ [])
 
--- its ballot, and who leaves
+-- its ballot, and whom it names
 abbrev pub ballot_text : Vote → List ℕ
 ballot_text v =
-    concat (codes " ballot " ∷ decimal v.ballot ∷ codes " leaving " ∷ leaving_text v.value.leavers ∷ [])
+    concat (codes " ballot " ∷ decimal v.ballot ∷ codes " naming " ∷ naming_text v.value.leavers ∷ [])
 
 -- how many items of each member of the roster are taken
 abbrev pub trim_text : Vote → List ℕ

@@ -1,7 +1,7 @@
 ghost use Rattle.std.specs.Prelude.{◌≡◌, ◌++◌, OnOk, string_bytes, take};
 ghost use Rattle.std.specs.List.{enumerate_from, flat_map};
 ghost use Rattle.dr_entry.specs.Spelling.{FitsVote, IsValidVote};
-ghost use Rattle.derecho_log.specs.Text.{ballot_text, leaving_text, place_text, taken_text, trim_text, vote_text};
+ghost use Rattle.derecho_log.specs.Text.{ballot_text, naming_text, place_text, taken_text, trim_text, vote_text};
 
 use dr_entry::Vote;
 use dr_text::push_mask;
@@ -38,13 +38,13 @@ fn push_value(out: &mut String, vote: &Vote) -> Result<(), AllocError>
     push_trim(out, vote)
 }
 
-/// Appends the ballot of a vote, and who leaves.
+/// Appends the ballot of a vote, and whom it names.
 fn push_ballot(out: &mut String, vote: &Vote) -> Result<(), AllocError>
     ensures { OnOk result (string_bytes out.new ≡ string_bytes out.old ++ ballot_text vote.now) }
 {
     let ballot = vote.ballot;
-    write!(out, " ballot {ballot} leaving ")?;
-    push_leaving(out, vote.value.leavers)
+    write!(out, " ballot {ballot} naming ")?;
+    push_naming(out, vote.value.leavers)
 }
 
 /// Appends the trim of a vote.
@@ -68,14 +68,14 @@ fn trims_of(vote: &Vote) -> &[u32]
     &trim[..usize::from(vote.members)]
 }
 
-/// Appends the members that leave, or that nobody does.
-fn push_leaving(out: &mut String, leavers: u16) -> Result<(), AllocError>
-    ensures { OnOk result (string_bytes out.new ≡ string_bytes out.old ++ leaving_text leavers) }
+/// Appends the members that a vote names, or that it names nobody.
+fn push_naming(out: &mut String, names: u16) -> Result<(), AllocError>
+    ensures { OnOk result (string_bytes out.new ≡ string_bytes out.old ++ naming_text names) }
 {
-    if leavers == 0 {
+    if names == 0 {
         out.push_str("nobody")
     } else {
-        push_mask(out, leavers)
+        push_mask(out, names)
     }
 }
 

@@ -15,7 +15,7 @@ use Rattle.dr_ages.specs.declared.part.Part.{Part}
 use Rattle.dr_outcome.proofs.Runs.{part_lasts}
 use Rattle.dr_outcome.specs.Last.{last_of}
 use Rattle.dr_outcome.specs.Outcome.{AreAllLate, IsMemoryRun}
-use Rattle.dr_outcome.specs.Playing.{all_with}
+use Rattle.dr_ages.specs.Ages.{all_with}
 use Rattle.dr_words.proofs.Bits.{has_zero}
 use Rattle.dr_script.specs.declared.script.Script.{Script}
 use Rattle.dr_script.specs.Reading.{Reading, TooLong, NotJson, Wrong, Reads, reading_of}

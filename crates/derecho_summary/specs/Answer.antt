@@ -9,7 +9,7 @@ use Rattle.dr_intake.specs.Reading.{refusal_in}
 use Rattle.dr_intake.specs.Status.{status_of}
 use Rattle.dr_outcome.specs.Last.{last_of}
 use Rattle.dr_outcome.specs.Outcome.{AreAllLate, IsMemoryRun}
-use Rattle.dr_outcome.specs.Playing.{all_with}
+use Rattle.dr_ages.specs.Ages.{all_with}
 use Rattle.dr_script.specs.declared.script.Script.{Script}
 use Rattle.dr_script.specs.Reading.{Reading, Reads, reading_of}
 use Rattle.dr_text.specs.declared.last.Last.{Last}

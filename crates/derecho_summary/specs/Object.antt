@@ -1,14 +1,15 @@
 -- A summary as a JSON object.
-use Rattle.std.specs.Prelude.{ℕ, if◌then◌else◌, List, [], ◌∷◌, ◌++◌, codes}
+use Rattle.std.specs.Prelude.{ℕ, List, [], ◌∷◌, ◌++◌, codes}
 use Rattle.std.specs.Fmt.{decimal}
 use Rattle.std.specs.List.{concat, enumerate_from, flat_map}
-use Rattle.dr_enough.specs.Enough.{turns_enough}
 use Rattle.dr_entry.specs.declared.end.AgeEnd.{AgeEnd}
 use Rattle.dr_intake.specs.Status.{status_of}
 use Rattle.dr_script.specs.declared.script.Script.{Script}
 use Rattle.dr_summary.specs.Objects.{age_object}
 use Rattle.dr_text.specs.declared.last.Last.{Last}
-use Rattle.derecho_summary.specs.Summary.{is_calm, most_turns, some_spent, summary_text}
+use Rattle.derecho_summary.specs.Summary.{enough_of, summary_text}
+use Rattle.derecho_summary.specs.declared.enough.Enough.{Enough}
+use Rattle.derecho_summary.specs.declared.enough.Enough.TheVariants.{ForRun, InLockstep, Unknown}
 use Rattle.derecho_summary.specs.declared.words.Wording.{Wording}
 use Rattle.derecho_summary.specs.declared.words.Wording.TheVariants.{People, Programs}
 
@@ -16,12 +17,11 @@ use Rattle.derecho_summary.specs.declared.words.Wording.TheVariants.{People, Pro
 abbrev pub age_objects : Script → List AgeEnd → List ℕ
 age_objects script ages = flat_map (λ t. age_object script t.0 t.1) (enumerate_from 0 ages)
 
--- how many turns would have been enough: where nobody has spent its own, the most that a member took; else the
--- number that is enough in lockstep without faults, where the script is so and nobody late, and nothing elsewhere
-abbrev pub enough_digits : Script → ℕ → List AgeEnd → List ℕ
-enough_digits script late ages =
-    if some_spent ages then (if is_calm script late then decimal (turns_enough script) else codes "null")
-    else decimal (most_turns ages)
+-- how many turns would have been enough, as far as that is known
+abbrev pub enough_digits : Enough → List ℕ
+enough_digits (ForRun turns) = decimal turns
+enough_digits (InLockstep turns) = decimal turns
+enough_digits Unknown = codes "null"
 
 -- the ages of a run, as a summary begins
 abbrev pub ages_part : Script → List AgeEnd → List ℕ
@@ -35,15 +35,16 @@ status_part status turns =
     ∷ codes ",\n \"turns_enough\": " ∷ [])
 
 -- how many would have been enough, as a summary ends
-abbrev pub enough_part : Script → ℕ → List AgeEnd → List ℕ
-enough_part script late ages = enough_digits script late ages ++ codes "}\n"
+abbrev pub enough_part : Enough → List ℕ
+enough_part enough = enough_digits enough ++ codes "}\n"
 
--- the summary of a run of a script in which these members are late, with its ages, and the status of its last line
-abbrev pub summary_object : Script → ℕ → List AgeEnd → Last → List ℕ
-summary_object script late ages last =
-    ages_part script ages ++ (status_part (status_of last) script.turns ++ enough_part script late ages)
+-- the summary of a run of a script, for which so many turns would have been enough, with its ages, and the status of
+-- its last line
+abbrev pub summary_object : Script → Enough → List AgeEnd → Last → List ℕ
+summary_object script enough ages last =
+    ages_part script ages ++ (status_part (status_of last) script.turns ++ enough_part enough)
 
--- the summary in a wording
+-- the summary of a run in which these members are late, in a wording
 abbrev pub summary_by : Wording → Script → ℕ → List AgeEnd → Last → List ℕ
-summary_by People script late ages last = summary_text script late ages last
-summary_by Programs script late ages last = summary_object script late ages last
+summary_by People script late ages last = summary_text script (enough_of script late ages) ages last
+summary_by Programs script late ages last = summary_object script (enough_of script late ages) ages last

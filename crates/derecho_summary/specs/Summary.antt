@@ -1,5 +1,5 @@
 -- The text of a summary.
-use Rattle.std.specs.Prelude.{ℕ, ◌==◌, ◌&&◌, if◌then◌else◌, Bool, true, false, List, [], ◌∷◌, All, length, map, fold, max, codes}
+use Rattle.std.specs.Prelude.{ℕ, ◌-◌, ◌^◌, ◌==◌, ◌&&◌, if◌then◌else◌, Bool, true, false, List, [], ◌∷◌, All, length, map, fold, max, codes}
 use Rattle.std.specs.Fmt.{decimal}
 use Rattle.std.specs.List.{concat, enumerate_from, flat_map, list_any}
 use Rattle.dr_enough.specs.Enough.{turns_enough}
@@ -14,6 +14,9 @@ use Rattle.dr_script.specs.declared.script.Script.{Script}
 use Rattle.dr_summary.specs.Summary.{HaveAgreed, age_text}
 use Rattle.dr_text.specs.declared.last.Last.{Last}
 use Rattle.dr_text.specs.Report.{last_text}
+use Rattle.dr_words.specs.Masks.{without}
+use Rattle.derecho_summary.specs.declared.enough.Enough.{Enough}
+use Rattle.derecho_summary.specs.declared.enough.Enough.TheVariants.{ForRun, InLockstep, Unknown}
 
 -- the members of each age agree
 abbrev pub AreAgreed : List AgeEnd → Type 0
@@ -43,9 +46,22 @@ abbrev pub is_lockstep : Schedule → Bool
 is_lockstep Lockstep = true
 is_lockstep (Seed seed) = false
 
--- whether it is so without faults, and nobody is late
-abbrev pub is_calm : Script → ℕ → Bool
-is_calm script late = (length script.faults == 0) && (late == 0) && is_lockstep script.schedule
+-- whether none of so many members is late: without the late ones they are all
+abbrev pub is_nobody_late : ℕ → ℕ → Bool
+is_nobody_late n late = without (2 ^ n - 1) late == 2 ^ n - 1
+
+-- whether a script is in lockstep without faults, and none of its members is late
+abbrev pub is_undisturbed : Script → ℕ → Bool
+is_undisturbed script late =
+    (length script.faults == 0) && is_nobody_late script.members late && is_lockstep script.schedule
+
+-- how many turns would have been enough for a run with these ages, in which these members are late: where nobody has
+-- spent its own, the most that a member took; else the number that is enough in lockstep without faults, where the
+-- run was one, and of other runs it isn't known
+abbrev pub enough_of : Script → ℕ → List AgeEnd → Enough
+enough_of script late ages =
+    if some_spent ages then (if is_undisturbed script late then InLockstep (turns_enough script) else Unknown)
+    else ForRun (most_turns ages)
 
 -- one turn, or turns
 abbrev pub turns_word : ℕ → List ℕ
@@ -56,18 +72,14 @@ abbrev pub enough_text : ℕ → List ℕ
 enough_text count =
     concat (decimal count ∷ codes " " ∷ turns_word count ∷ codes " would have been enough for the same run\n" ∷ [])
 
--- how many turns would have been enough for the same run: where nobody has spent its own, the most that a
--- member took; else the number that is enough in lockstep without faults, where the script is so and nobody late
-abbrev pub turns_text : Script → ℕ → List AgeEnd → List ℕ
-turns_text script late ages =
-    if some_spent ages then
-    (if is_calm script late then
-    concat
-    (decimal (turns_enough script) ∷ codes " turns are enough in lockstep without faults\n" ∷ [])
-    else [])
-    else enough_text (most_turns ages)
+-- how many turns would have been enough, as far as that is known
+abbrev pub turns_text : Enough → List ℕ
+turns_text (ForRun turns) = enough_text turns
+turns_text (InLockstep turns) =
+    concat (decimal turns ∷ codes " turns are enough in lockstep without faults\n" ∷ [])
+turns_text Unknown = []
 
--- the summary of a run of a script in which these members are late, with its ages and its last line
-abbrev pub summary_text : Script → ℕ → List AgeEnd → Last → List ℕ
-summary_text script late ages last =
-    concat (ages_text script ages ∷ turns_text script late ages ∷ last_text last ∷ [])
+-- the summary of a run of a script, for which so many turns would have been enough, with its ages and its last line
+abbrev pub summary_text : Script → Enough → List AgeEnd → Last → List ℕ
+summary_text script enough ages last =
+    concat (ages_text script ages ∷ turns_text enough ∷ last_text last ∷ [])

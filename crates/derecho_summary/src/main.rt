@@ -4,6 +4,7 @@
 #![tactic(auto)]
 
 mod ages;
+mod enough;
 mod object;
 mod text;
 mod top;

@@ -1,33 +1,30 @@
 //! The summary of a run as a JSON object.
 ghost use Rattle.std.specs.Prelude.{◌≡◌, ◌++◌, IfOk, OnOk, string_bytes};
-ghost use Rattle.dr_script.specs.Ranges.{HasRanges};
 ghost use Rattle.derecho_summary.specs.Object.{age_objects, ages_part, enough_digits, enough_part, status_part, summary_object};
 
-use crate::turns::{is_calm, most_turns, some_spent};
-use dr_enough::turns_enough;
+use crate::enough::Enough;
 use dr_entry::AgeEnd;
 use dr_intake::status_of;
 use dr_script::Script;
 use dr_summary::push_age_object;
 use dr_text::Last;
-use dr_words::Mask;
 use std::alloc::{AllocError, Global};
 use std::fmt::Write;
 
-/// The summary of a run of a script as a JSON object: these members are late, these are its ages, and its last line.
+/// The summary of a run of a script as a JSON object: so many turns would have been enough for it, these are its
+/// ages, and its last line.
 pub(crate) fn object_of(
     alloc: Global,
     script: &Script,
-    late: Mask,
+    enough: Enough,
     ages: &[AgeEnd],
     last: &Last,
 ) -> Result<String, AllocError>
-    requires { HasRanges script.now }
     ensures { IfOk result
-        (λ text. string_bytes text ≡ summary_object script.now late ages.now last.now) }
+        (λ text. string_bytes text ≡ summary_object script.now enough ages.now last.now) }
 {
     let mut text = String::new(alloc);
-    push_object(alloc, &mut text, script, late, ages, last)?;
+    push_object(alloc, &mut text, script, enough, ages, last)?;
     Ok(text)
 }
 
@@ -35,17 +32,16 @@ fn push_object(
     alloc: Global,
     out: &mut String,
     script: &Script,
-    late: Mask,
+    enough: Enough,
     ages: &[AgeEnd],
     last: &Last,
 ) -> Result<(), AllocError>
-    requires { HasRanges script.now }
     ensures { OnOk result
-        (string_bytes out.new ≡ string_bytes out.old ++ summary_object script.now late ages.now last.now) }
+        (string_bytes out.new ≡ string_bytes out.old ++ summary_object script.now enough ages.now last.now) }
 {
     push_ages_part(alloc, out, script, ages)?;
     push_status_part(out, status_of(last), script.turns)?;
-    push_enough_part(out, script, late, ages)
+    push_enough_part(out, enough)
 }
 
 /// Appends the ages, as a summary begins.
@@ -74,17 +70,10 @@ fn push_status_part(out: &mut String, status: u8, turns: u32) -> Result<(), Allo
 }
 
 /// Appends how many would have been enough, as a summary ends.
-fn push_enough_part(
-    out: &mut String,
-    script: &Script,
-    late: Mask,
-    ages: &[AgeEnd],
-) -> Result<(), AllocError>
-    requires { HasRanges script.now }
-    ensures { OnOk result
-        (string_bytes out.new ≡ string_bytes out.old ++ enough_part script.now late ages.now) }
+fn push_enough_part(out: &mut String, enough: Enough) -> Result<(), AllocError>
+    ensures { OnOk result (string_bytes out.new ≡ string_bytes out.old ++ enough_part enough) }
 {
-    push_enough(out, script, late, ages)?;
+    push_enough(out, enough)?;
     out.push_str("}\n")
 }
 
@@ -104,23 +93,12 @@ fn push_ages(
 }
 
 /// Appends how many turns would have been enough, as far as that is known.
-fn push_enough(
-    out: &mut String,
-    script: &Script,
-    late: Mask,
-    ages: &[AgeEnd],
-) -> Result<(), AllocError>
-    requires { HasRanges script.now }
-    ensures { OnOk result
-        (string_bytes out.new ≡ string_bytes out.old ++ enough_digits script.now late ages.now) }
+fn push_enough(out: &mut String, enough: Enough) -> Result<(), AllocError>
+    ensures { OnOk result (string_bytes out.new ≡ string_bytes out.old ++ enough_digits enough) }
 {
-    if !some_spent(ages) {
-        let turns = most_turns(ages);
-        return write!(out, "{turns}");
+    match enough {
+        Enough::ForRun(turns) => write!(out, "{turns}"),
+        Enough::InLockstep(turns) => write!(out, "{turns}"),
+        Enough::Unknown => out.push_str("null"),
     }
-    if is_calm(script, late) {
-        let turns = turns_enough(script);
-        return write!(out, "{turns}");
-    }
-    out.push_str("null")
 }

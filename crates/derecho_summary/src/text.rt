@@ -4,6 +4,7 @@ ghost use Rattle.derecho_summary.specs.Object.{summary_by};
 ghost use Rattle.derecho_summary.specs.Summary.{AreAgreed, summary_text};
 
 use crate::ages::push_ages;
+use crate::enough::{Enough, enough_of};
 use crate::object::object_of;
 use crate::turns::push_turns;
 use crate::words::Wording;
@@ -28,28 +29,28 @@ pub(crate) fn summary_by(
     ensures { IfOk result
         (λ text. string_bytes text ≡ summary_by wording script.now late ages.now last.now) }
 {
+    let enough = enough_of(script, late, ages);
     match wording {
-        Wording::People => summary_of(alloc, script, late, ages, last),
-        Wording::Programs => object_of(alloc, script, late, ages, last),
+        Wording::People => summary_of(alloc, script, enough, ages, last),
+        Wording::Programs => object_of(alloc, script, enough, ages, last),
     }
 }
 
-/// The summary of a run of a script: these members are late, these are its ages, each of whose members agree, and
-/// its last line.
+/// The summary of a run of a script: so many turns would have been enough for it, these are its ages, each of whose
+/// members agree, and its last line.
 fn summary_of(
     alloc: Global,
     script: &Script,
-    late: Mask,
+    enough: Enough,
     ages: &[AgeEnd],
     last: &Last,
 ) -> Result<String, AllocError>
-    requires ranges { HasRanges script.now }
-    requires agreed { AreAgreed ages.now }
-    ensures { IfOk result (λ text. string_bytes text ≡ summary_text script.now late ages.now last.now) }
+    requires { AreAgreed ages.now }
+    ensures { IfOk result (λ text. string_bytes text ≡ summary_text script.now enough ages.now last.now) }
 {
     let mut text = String::new(alloc);
     push_ages(alloc, &mut text, script, ages)?;
-    push_turns(&mut text, script, late, ages)?;
+    push_turns(&mut text, enough)?;
     push_last(&mut text, last)?;
     Ok(text)
 }

@@ -1,18 +1,18 @@
 ghost use Rattle.std.specs.Prelude.{◌≡◌, ◌⊎◌, ◌∷◌, [], IfOk, Contains, string_bytes};
 ghost use Rattle.dr_progress.specs.Progress.{IsQuiet};
-ghost use Rattle.dr_ages.specs.Ages.{HaveSomebodyPrompt};
-ghost use Rattle.dr_outcome.specs.Playing.{all_with};
+ghost use Rattle.dr_ages.specs.Ages.{HaveSomebodyPrompt, all_with};
 ghost use Rattle.dr_script.specs.Ranges.{HasRanges};
 ghost use Rattle.dr_script.specs.Reading.{reading_of};
 ghost use Rattle.derecho_summary.specs.Answer.{IsAnswerFor, IsRunAnswer, IsScriptAnswer, IsSummaryAnswer, SummaryTold, summary_usage};
 
 use crate::text::summary_by;
 use crate::words::{Asked, asked_of};
+use dr_ages::Part;
 use dr_intake::{
     Answer, OUT_OF_MEMORY, READ_LIMIT, ReadFault, USAGE, read_all, script_or_refusal, status_of,
 };
 use dr_io::{Sink, Source};
-use dr_outcome::{Outcome, are_all_late, everybody_with};
+use dr_outcome::{Outcome, are_all_late};
 use dr_progress::{Progress, Timer, watch_with_progress};
 use dr_script::Script;
 use dr_sim::Unwatched;
@@ -23,9 +23,9 @@ use std::thread::Threads;
 /// Reads a script from the source, runs it as `derecho sim` does, writes the summary of its ages to the sink,
 /// and answers the status of `derecho`.
 ///
-/// Without words it is told in tables, and with the word `json` as a JSON object; with any others it writes how
-/// it is called. A text that is no script is refused as `derecho` refuses it, by the last line alone. While the
-/// run goes on, the progress says how far it is.
+/// Without words it is told in tables, and with the word `json` as a JSON object. Behind these `--late` names the
+/// members that are late. With any other words it writes how it is called. A text that is no script is refused as
+/// `derecho` refuses it, by the last line alone. While the run goes on, the progress says how far it is.
 pub fn summarize<R: Threads + Sync, S: Source, K: Sink, T: Timer, E: Sink>(
     rt: &R,
     alloc: Global,
@@ -122,7 +122,7 @@ fn answer_to_script<R: Threads + Sync, T: Timer, E: Sink>(
         (λ a. IsScriptAnswer asked script.now (string_bytes a.text) a.status) }
     ensures quiet { IsQuiet progress.old progress.new }
 {
-    let part = everybody_with(asked.late);
+    let part = Part::with_late(asked.late);
     if are_all_late(script, &part) {
         return usage(alloc);
     }
@@ -142,7 +142,7 @@ fn answer_to_run<R: Threads + Sync, T: Timer, E: Sink>(
     ensures answer { IfOk result (λ a. IsRunAnswer asked script.now (string_bytes a.text) a.status) }
     ensures quiet { IsQuiet progress.old progress.new }
 {
-    let part = everybody_with(asked.late);
+    let part = Part::with_late(asked.late);
     let Outcome { ages, last, .. } = watch_with_progress(
         rt,
         alloc,

@@ -1,34 +1,24 @@
 ghost use Rattle.std.specs.Prelude.{◌≡◌, ◌++◌, OnOk, string_bytes};
 ghost use Rattle.std.specs.List.{list_any};
 ghost use Rattle.dr_entry.specs.declared.end.MemberEnd.{MemberEnd as MemberEndOf};
-ghost use Rattle.dr_script.specs.Ranges.{HasRanges};
-ghost use Rattle.derecho_summary.specs.Summary.{enough_text, is_calm, is_spent, most_turns, some_spent, turns_in, turns_text};
+ghost use Rattle.derecho_summary.specs.Summary.{enough_text, is_spent, most_turns, some_spent, turns_in, turns_text};
 
-use dr_enough::turns_enough;
+use crate::enough::Enough;
 use dr_entry::{AgeEnd, End, MemberEnd};
-use dr_script::{Schedule, Script};
-use dr_words::Mask;
 use std::alloc::AllocError;
 use std::fmt::Write;
 
-/// Appends how many turns would have been enough for the same run, as far as that is known.
-pub(crate) fn push_turns(
-    out: &mut String,
-    script: &Script,
-    late: Mask,
-    ages: &[AgeEnd],
-) -> Result<(), AllocError>
-    requires { HasRanges script.now }
-    ensures { OnOk result (string_bytes out.new ≡ string_bytes out.old ++ turns_text script.now late ages.now) }
+/// Appends how many turns would have been enough, as far as that is known.
+pub(crate) fn push_turns(out: &mut String, enough: Enough) -> Result<(), AllocError>
+    ensures { OnOk result (string_bytes out.new ≡ string_bytes out.old ++ turns_text enough) }
 {
-    if !some_spent(ages) {
-        return push_enough(out, most_turns(ages));
+    match enough {
+        Enough::ForRun(turns) => push_enough(out, turns),
+        Enough::InLockstep(turns) => {
+            writeln!(out, "{turns} turns are enough in lockstep without faults")
+        }
+        Enough::Unknown => Ok(()),
     }
-    if is_calm(script, late) {
-        let turns = turns_enough(script);
-        return writeln!(out, "{turns} turns are enough in lockstep without faults");
-    }
-    Ok(())
 }
 
 /// Appends that so many turns would have been enough for the same run.
@@ -59,15 +49,6 @@ fn is_spent(end: End) -> bool
     ensures { result ≡ is_spent end }
 {
     matches!(end, End::Spent { .. })
-}
-
-/// Whether a script is in lockstep without faults, and nobody is late.
-pub(crate) fn is_calm(script: &Script, late: Mask) -> bool
-    ensures { result ≡ is_calm script.now late }
-{
-    script.faults.as_slice().is_empty()
-        && late.bits() == 0
-        && matches!(script.schedule, Schedule::Lockstep)
 }
 
 /// The most turns that a member of any age has taken.

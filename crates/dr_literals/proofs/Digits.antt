@@ -1,9 +1,9 @@
 -- Numbers and keys, digit by digit.
-use Rattle.std.proofs.Common.{◌≡◌, ℕ, ◌+◌, ◌*◌, ◌-◌, ◌^◌, ◌<◌, ◌≤◌, Bool, true, false, cond, ltb, List, [], ◌∷◌, ◌++◌, length, take, drop, refl, ap, sym, ◌∙◌, arith, append_assoc, append-nil, get_or, leb, ◌&&◌}
+use Rattle.std.proofs.Common.{◌≡◌, ℕ, ◌+◌, ◌*◌, ◌-◌, ◌^◌, ◌<◌, ◌≤◌, Bool, true, false, cond, ltb, List, [], ◌∷◌, ◌++◌, length, take, drop, refl, ap, sym, ◌∙◌, arith, append_assoc, get_or}
 use Rattle.std.specs.Prelude.{Option, None, Some, option_map}
 use Rattle.std.proofs.lemmas.List.{drop_all, drop_more}
-use Rattle.std.proofs.lemmas.Bool.{le-leb, lt-ltb, ltb-true}
-use Rattle.dr_literals.specs.Literals.{if_fits, hex_byte, hex_bytes, hex_digit, is_digit, is_plain, key_word, number_from, number_word}
+use Rattle.std.proofs.lemmas.Bool.{lt-ltb, ltb-true}
+use Rattle.dr_literals.specs.Literals.{if_fits, hex_byte, hex_bytes, hex_digit, is_digit, is_plain, number_from, number_word}
 
 -- a number that has come to the limit is above it with more digits
 pub too_great : (n : ℕ) (w : List ℕ) → 2 ^ 64 ≤ n → if_fits (number_from n w) ≡ None
@@ -28,11 +28,6 @@ no_more n c w great =
       | false ↦ λ _. refl
     ] refl
 
-pub one_more : (n c m : ℕ) (w : List ℕ) → is_digit c ≡ true → m ≡ 10 * n + (c - 48)
-    → number_from n (c ∷ w) ≡ number_from m w
-one_more n c m w is more =
-    ap (λ b. cond b (number_from (10 * n + (c - 48)) w) None) is ∙ ap (λ x. number_from x w) (sym more)
-
 -- one more byte of a key
 pub byte_more : (xs : List ℕ) (x y : Option ℕ) (b : ℕ) (rest : Option (List ℕ))
     → hex_byte x y (Some []) ≡ Some (b ∷ [])
@@ -46,20 +41,6 @@ byte_more xs (Some x) (Some y) b (Some ys) is =
     same : 16 * x + y ≡ b
     same = cc is
 
-pub byte_none : (xs : List ℕ) (x y : Option ℕ) (rest : Option (List ℕ)) → hex_byte x y (Some []) ≡ None
-    → option_map (λ ys. xs ++ ys) (hex_byte x y rest) ≡ None
-byte_none xs None y rest is = refl
-byte_none xs (Some x) None rest is = refl
-byte_none xs (Some x) (Some y) rest is = absurd (cc is)
-
--- before the first digit
-pub begun : (left word : List ℕ) → left ≡ word → hex_bytes word ≡ option_map (λ ys. [] ++ ys) (hex_bytes left)
-begun left word is = ap hex_bytes (sym is) ∙ same (hex_bytes left)
-  where
-    same : (x : Option (List ℕ)) → x ≡ option_map (λ ys. [] ++ ys) x
-    same None = refl
-    same (Some ys) = refl
-
 -- the digits as a pair and the others
 pub paired : (left : List ℕ) → 1 < length left → hex_bytes left
     ≡ hex_byte (hex_digit (get_or (take 2 left) 0 0)) (hex_digit (get_or (take 2 left) 1 0))
@@ -67,25 +48,6 @@ pub paired : (left : List ℕ) → 1 < length left → hex_bytes left
 paired [] two = absurd (omega (arith, two))
 paired (a ∷ []) two = absurd (omega (arith, two))
 paired (a ∷ b ∷ w) two = refl
-
--- a digit alone writes nothing, and no digit the key so far
-pub ended : (word left key : List ℕ) → hex_bytes word ≡ option_map (λ ys. key ++ ys) (hex_bytes left)
-    → left ≡ [] → hex_bytes word ≡ Some key
-ended word left key so_far none =
-    so_far ∙ ap (λ w. option_map (λ ys. key ++ ys) (hex_bytes w)) none ∙ ap Some (append-nil key)
-
-pub odd : (word left key : List ℕ) → hex_bytes word ≡ option_map (λ ys. key ++ ys) (hex_bytes left)
-    → length left ≡ 1 → hex_bytes word ≡ None
-odd word [] key so_far one = absurd (omega (arith, one))
-odd word (a ∷ []) key so_far one = so_far
-odd word (a ∷ b ∷ w) key so_far one = absurd (omega (arith, one))
-
--- the key of a word of the right length
-pub key_of : (word : List ℕ) (r : Option (List ℕ)) → 2 ≤ length word → length word ≤ 124
-    → hex_bytes word ≡ r → key_word word ≡ r
-key_of word r least most is =
-    ap (λ b. cond (b && leb (length word) 124) (hex_bytes word) None) (le-leb 2 (length word) least)
-    ∙ ap (λ b. cond b (hex_bytes word) None) (le-leb (length word) 124 most) ∙ is
 
 -- a pair of digits more
 pub key_more : (word left key pair rest longer : List ℕ) (b : ℕ)

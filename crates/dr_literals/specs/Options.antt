@@ -6,9 +6,9 @@ use Rattle.dr_literals.specs.Literals.{mask_word}
 -- ---- options, each in two spellings: `--NAME VALUE` and `--NAME=VALUE`
 
 -- the value that a word of its own is: one that is not empty and does not begin with a dash
-abbrev pub own_word : List ℕ → Option (List ℕ)
-own_word [] = None
-own_word (byte ∷ bytes) = if byte == 45 then None else Some (byte ∷ bytes)
+abbrev pub value_word : List ℕ → Option (List ℕ)
+value_word [] = None
+value_word (byte ∷ bytes) = if byte == 45 then None else Some (byte ∷ bytes)
 
 -- what stands behind this front of a word, where the word begins with it
 abbrev pub behind : List ℕ → List ℕ → Option (List ℕ)
@@ -35,7 +35,7 @@ abbrev pub option_of : List ℕ → List (List ℕ) → Option (Option (List ℕ
 option_of name [] = Some (None, [])
 option_of name (word ∷ []) = Some (left_by (value_in name word) word [])
 option_of name (word ∷ value ∷ rest) =
-    if bytes_eq word name then option_map (λ v. (Some v, rest)) (own_word value)
+    if bytes_eq word name then option_map (λ v. (Some v, rest)) (value_word value)
     else Some (left_by (value_in name word) word (value ∷ rest))
 
 -- the members of a list, and nobody where there is none

@@ -9,4 +9,4 @@ mod options;
 pub use keys::key_word;
 pub use masks::mask_word;
 pub use numbers::number_word;
-pub use options::{late_named, option_members, option_of};
+pub use options::{late_named, option_members, option_of, value_word};

@@ -1,5 +1,5 @@
 ghost use Rattle.std.specs.Prelude.{◌≡◌, map, option_map, string_bytes};
-ghost use Rattle.dr_literals.specs.Options.{behind, if_last, late_named, members_in, option_members, option_of, own_word, value_in};
+ghost use Rattle.dr_literals.specs.Options.{behind, if_last, late_named, members_in, option_members, option_of, value_in, value_word};
 
 use crate::masks::mask_word;
 use dr_words::Mask;
@@ -53,7 +53,7 @@ pub fn option_of<'a>(name: &str, words: &'a [String]) -> Option<(Option<&'a str>
 {
     match words {
         [word, value, rest @ ..] if word.as_str() == name => {
-            Some((Some(own_word(value.as_str())?), rest))
+            Some((Some(value_word(value.as_str())?), rest))
         }
         [word, rest @ ..] => match value_in(name, word.as_str()) {
             Some(value) => Some((Some(value), rest)),
@@ -64,8 +64,8 @@ pub fn option_of<'a>(name: &str, words: &'a [String]) -> Option<(Option<&'a str>
 }
 
 /// The value that a word of its own is: one that is not empty and does not begin with a dash.
-fn own_word(word: &str) -> Option<&str>
-    ensures { option_map (λ value. value.now) result ≡ own_word word.now }
+pub fn value_word(word: &str) -> Option<&str>
+    ensures { option_map (λ value. value.now) result ≡ value_word word.now }
 {
     (!word.is_empty() && !word.starts_with('-')).then_some(word)
 }

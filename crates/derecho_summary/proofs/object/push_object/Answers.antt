@@ -14,5 +14,5 @@ returns c =
     c.in_ok-push_status_part.ensures ∙ ap (λ s. begun ++ status_part s script.turns) c.status_of.ensures in
     pushed_thrice c.push_enough_part.result (string_bytes c.args.out.now) begun
     (string_bytes c.push_status_part.new.out) (string_bytes c.push_enough_part.new.out) (ages_part script ages)
-    (status_part (status_of c.args.last.now) script.turns) (enough_part script c.args.late ages)
+    (status_part (status_of c.args.last.now) script.turns) (enough_part c.args.enough)
     c.in_ok-push_ages_part.ensures middle c.push_enough_part.ensures

@@ -10,28 +10,28 @@ use Rattle.derecho_summary.proofs.top.answer_to_run.Goals as goal
 
 pub watch_with_progress-ages-requires-clause-some : goal.watch_with_progress-ages-requires-clause-some
 watch_with_progress-ages-requires-clause-some g c κs h =
-    subst (λ (p : Part). HaveSomebodyPrompt c.args.script.now p) (sym c.everybody_with-part.ensures) c.requires.some
+    subst (λ (p : Part). HaveSomebodyPrompt c.args.script.now p) (sym c.with_late-part.ensures) c.requires.some
 
 pub summary_by-requires-clause-agreed : goal.summary_by-requires-clause-agreed
 summary_by-requires-clause-agreed g c =
     let outcome = c.watch_with_progress-ages.result in
     let is : outcome.last ≡ Some c.in-Some.last = search rules in
-    let run = run_behind c.args.script.now c.everybody_with-part.result outcome.ages outcome.stop outcome.last
+    let run = run_behind c.args.script.now c.with_late-part.result outcome.ages outcome.stop outcome.last
     c.in-Some.last c.watch_with_progress-ages.ensures.ran is in
     subst AreAgreed (search rules)
-    (agreed_run c.args.script.now c.everybody_with-part.result Sim outcome.ages outcome.stop run.0)
+    (agreed_run c.args.script.now c.with_late-part.result Sim outcome.ages outcome.stop run.0)
 
 pub returns-clause-answer : goal.returns-clause-answer
 returns-clause-answer g c =
     let outcome = c.watch_with_progress-ages.result in
     let is : outcome.last ≡ Some c.in-Some.last = search rules in
-    let run = run_behind c.args.script.now c.everybody_with-part.result outcome.ages outcome.stop outcome.last
+    let run = run_behind c.args.script.now c.with_late-part.result outcome.ages outcome.stop outcome.last
     c.in-Some.last c.watch_with_progress-ages.ensures.ran is in
     record {
       ages = outcome.ages;
       stop = outcome.stop;
       run = subst (λ (p : Part). IsMemoryRun c.args.script.now p Sim outcome.ages outcome.stop)
-          c.everybody_with-part.ensures run.0;
+          c.with_late-part.ensures run.0;
       last = c.in-Some.last;
       line = run.1;
       summary = search rules;

@@ -7,13 +7,13 @@ use Rattle.derecho_summary.proofs.top.answer_to_script.Goals as goal
 
 pub answer_to_run-requires-clause-some : goal.answer_to_run-requires-clause-some
 answer_to_run-requires-clause-some g c κs h =
-    subst (λ (p : Part). HaveSomebodyPrompt c.args.script.now p) c.everybody_with-part.ensures
+    subst (λ (p : Part). HaveSomebodyPrompt c.args.script.now p) c.with_late-part.ensures
     c.if-are_all_late.ensures
 
 pub returns-then-are_all_late-clause-answer : goal.returns-then-are_all_late-clause-answer
 returns-then-are_all_late-clause-answer g c =
     unrun_if c.usage.result c.args.asked c.args.script.now
-    (subst (λ (p : Part). AreAllLate c.args.script.now p) c.everybody_with-part.ensures c.if-are_all_late.ensures)
+    (subst (λ (p : Part). AreAllLate c.args.script.now p) c.with_late-part.ensures c.if-are_all_late.ensures)
     c.usage.ensures.text c.usage.ensures.due
 
 pub returns-clause-answer : goal.returns-clause-answer

@@ -6,7 +6,7 @@ use std::alloc::AllocError;
 use std::fmt::Write;
 
 /// Appends which faults of a script never come.
-pub(crate) fn push_late(out: &mut String, script: &Script) -> Result<(), AllocError>
+pub(crate) fn push_never(out: &mut String, script: &Script) -> Result<(), AllocError>
     requires { HasRanges script.now }
 {
     let enough = turns_enough(script);
@@ -64,7 +64,8 @@ fn is_crash_before(at: usize, other: &Fault, index: usize, fault: &Fault) -> boo
     }
 }
 
-/// Whether all faults of an age come in later turns than are enough: then its members are done before.
+/// Whether all faults of an age come in later turns than are enough: then its members are done before, where nobody
+/// is late.
 fn come_too_late(faults: &[Fault], age: u8, enough: usize) -> bool {
     faults
         .iter()
