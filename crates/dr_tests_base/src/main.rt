@@ -3,10 +3,10 @@
 //!
 //! A line is the name of its case, what is called, and what it is called with: `front COUNT..`,
 //! `merge_next FROM COUNT..`, `null_due RANK COUNT..`, `place RANKS RANK ITEM`, `frozen MEMBERS ME ROW` and
-//! `next_rest FROM MEMBERS TRIM..` with numbers; `merge COUNT..`,
-//! `agreed HISTORY HISTORY` and `in_order HISTORY` with histories; `mask BITS` prints a mask, and `script TEXT` what is
-//! read of a script; `next`, `newcomers`, `welcomer`, `may_wish`, `views` and `letter_end` are those of joins; `reader` and `writer` are called with one that is interrupted and fails. A line that begins with
-//! `#` says what those behind it show.
+//! `next_rest FROM MEMBERS TRIM..` with numbers; `merge COUNT..`, `agreed HISTORY HISTORY` and `in_order HISTORY`
+//! with histories; `mask BITS` prints a mask, and `script TEXT` what is read of a script; `next`, `newcomers`,
+//! `welcomer`, `may_wish`, `views` and `letter_end` are those of joins; `reader` and `writer` are called with one
+//! that is interrupted and fails. A line that begins with `#` says what those behind it show.
 #![tactic(auto)]
 
 mod histories;

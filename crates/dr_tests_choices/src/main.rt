@@ -50,8 +50,8 @@ fn copied(alloc: Global, masks: &str) -> anyhow::Result<String> {
     let (members, present) = masks.split_once(' ').unwrap_or((masks, masks));
     let start = Start {
         age: 0,
-        members: mask_of(members),
-        present: mask_of(present),
+        members: mask_of(members)?,
+        present: mask_of(present)?,
         entries: Seq::of(Vec::new(alloc)),
     };
     text_of(alloc, Ok(start.copy(alloc)?))

@@ -97,7 +97,7 @@ fn view_of(word: &str) -> anyhow::Result<Entry> {
     Ok(Entry::View {
         age: parts.next().unwrap_or("").parse()?,
         number: parts.next().unwrap_or("").parse()?,
-        members: mask_of(parts.next().unwrap_or("")),
+        members: mask_of(parts.next().unwrap_or(""))?,
     })
 }
 
@@ -124,7 +124,7 @@ fn vote_of(word: &str) -> anyhow::Result<Vote> {
         ballot: parts.next().unwrap_or("").parse()?,
         members: parts.next().unwrap_or("").parse()?,
         value: Value {
-            leavers: mask_of(parts.next().unwrap_or("")),
+            leavers: mask_of(parts.next().unwrap_or(""))?,
             trim: [0; MAX_MEMBERS],
         },
     })
@@ -134,15 +134,18 @@ fn age_vote_of(word: &str) -> anyhow::Result<AgeVote> {
     let mut parts = word.split('.');
     Ok(AgeVote {
         age: parts.next().unwrap_or("").parse()?,
-        members: mask_of(parts.next().unwrap_or("")),
+        members: mask_of(parts.next().unwrap_or(""))?,
     })
 }
 
 /// The mask of members that are listed as digits.
-pub(crate) fn mask_of(digits: &str) -> u16 {
+pub(crate) fn mask_of(digits: &str) -> anyhow::Result<u16> {
     let mut mask = 0;
     for digit in digits.bytes() {
-        mask |= 1 << (digit % 16);
+        if !digit.is_ascii_digit() {
+            return Err(anyhow!("{digits} are no members"));
+        }
+        mask |= 1 << (digit - b'0');
     }
-    mask
+    Ok(mask)
 }

@@ -38,7 +38,7 @@ pub(crate) fn late_among(logs: &[Option<Log<MemoryDisk>>], members: &str) -> any
     requires { length logs.now ≤ MAX_MEMBERS }
     ensures { IfOk result (λ late. SomebodyPrompt late logs.now) }
 {
-    let late = mask_of(members.trim());
+    let late = mask_of(members.trim())?;
     if has_prompt(logs, late) {
         Ok(late)
     } else {
@@ -47,12 +47,15 @@ pub(crate) fn late_among(logs: &[Option<Log<MemoryDisk>>], members: &str) -> any
 }
 
 /// The mask of members that are listed as digits.
-fn mask_of(digits: &str) -> Mask {
+fn mask_of(digits: &str) -> anyhow::Result<Mask> {
     let mut mask = Mask::empty();
     for digit in digits.bytes() {
-        mask = mask.with(digit % 16);
+        if !digit.is_ascii_digit() {
+            return Err(anyhow!("{digits} are no members"));
+        }
+        mask = mask.with(digit - b'0');
     }
-    mask
+    Ok(mask)
 }
 
 /// Whether the log of somebody is there who isn't late.

@@ -55,14 +55,15 @@ fn event_with(name: &str, m: u8, numbers: &[u8]) -> Option<Event> {
     }
 }
 
-/// The value of a vote: behind its member stand the mask of the leavers and the counts of the trim.
+/// The value of a vote: behind its member stand the mask of the members that it names, and the counts of the
+/// trim.
 fn value_of(numbers: &[u8]) -> Value {
     let mut trim = [0; MAX_MEMBERS];
     for (count, number) in trim.iter_mut().zip(numbers.iter().skip(2)) {
         *count = u32::from(*number);
     }
     Value {
-        leavers: numbers.get(1).map_or(0, |leavers| u16::from(*leavers)),
+        leavers: numbers.get(1).map_or(0, |names| u16::from(*names)),
         trim,
     }
 }
