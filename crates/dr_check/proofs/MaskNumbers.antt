@@ -42,10 +42,6 @@ among_append (x ∷ xs) ys i = by (i == x) (among_append xs ys i)
     by true e = refl
     by false e = e
 
-small_with_all : (mask : ℕ) (ms : List ℕ) → mask < 2 ^ 16 → with_all mask ms < 2 ^ 16
-small_with_all mask [] small = small
-small_with_all mask (m ∷ ms) small = small_with_all (with_member mask m) ms (with_member_small mask m)
-
 has_with_all : (mask : ℕ) (ms : List ℕ) (i : ℕ) → mask < 2 ^ 16 → All (λ m. m < 16) ms
     → has (with_all mask ms) i ≡ (among ms i || has mask i)
 has_with_all mask [] i small low = refl

@@ -136,16 +136,6 @@ torn_by_write old at bytes image inside is = record {
       ∙ written_outside old at bytes i inside free;
 }
 
--- so does one that failed
-pub torn_by_fault : (old : List ℕ) (at n : ℕ) (image : List ℕ)
-    → IsImage (step (at_rest old) (FailedWrite at n)) image → Torn at n old image
-torn_by_fault old at n image is = record {
-  no_shorter = is.no_shorter;
-  no_longer = is.no_longer;
-  stays = λ i l free. is.stays i l
-      (⊎_elim (λ (h : i < at). inl (omega (arith, h, l))) (λ (h : at + n ≤ i). inr (omega (arith, h))) free);
-}
-
 -- what stands before the range is the old
 pub torn_front : (at n : ℕ) (old image : List ℕ) → at ≤ length old → Torn at n old image
     → take at image ≡ take at old

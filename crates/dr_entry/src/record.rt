@@ -15,11 +15,11 @@ pub(crate) const CUT: u8 = 5;
 
 pub(crate) const UPGRADE: u8 = 6;
 
-/// The value of a proposal: who leaves the view, and how many items of each sender are delivered
-/// before they leave.
+/// The value of a proposal: who leaves the view and who comes in, and how many items of each sender are
+/// delivered before that.
 #[derive(Clone, Copy, Debug, PartialEq, Eq)]
 pub struct Value {
-    /// Bit `i` is set exactly where member `i` leaves.
+    /// Bit `i` is set exactly where member `i` leaves, or comes in where the view lacks it.
     pub leavers: u16,
     /// `trim[s]` is the number of items of member `s`; 0 for whoever is no sender of the view.
     pub trim: [u32; MAX_MEMBERS],
@@ -38,7 +38,7 @@ pub struct Vote {
 }
 
 /// That an age was about to open: its number, and the members of its first view, as a mask. It stands on the
-/// log of each of these before the age begins.
+/// log of each member that takes part before the age begins.
 #[derive(Clone, Copy, Debug, PartialEq, Eq)]
 pub struct AgeVote {
     pub age: u16,

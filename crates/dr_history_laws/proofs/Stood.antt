@@ -1,23 +1,20 @@
 -- The views of entries that may stand, and the numbers of their entries.
-use Rattle.std.proofs.Common.{◌≡◌, ◌≢◌, ◌⊎◌, refl, ap, ap₂, sym, ◌∙◌, subst, ℕ, zero, suc, ◌+◌, ◌-◌, ◌^◌, ◌<◌, ◌≤◌, inl, inr, arith, Bool, true, false, true≢false, List, [], ◌∷◌, ◌++◌, All, Contains, Option, None, Some, length, filter, take, if◌then◌else◌, get_or, slice_get}
+use Rattle.std.proofs.Common.{◌≡◌, refl, ap, sym, ◌∙◌, subst, ℕ, zero, suc, ◌+◌, ◌-◌, ◌^◌, ◌<◌, ◌≤◌, inl, inr, arith, List, [], ◌∷◌, ◌++◌, All, Option, None, Some, length, take, get_or, slice_get}
 use Rattle.std.specs.Prelude.{IsSomeAnd}
-use Rattle.std.proofs.lemmas.Bool.{cases_lt}
 use Rattle.std.proofs.lemmas.List.{take_all}
-use Rattle.std.proofs.lemmas.List.Elements.{All-contains, filter-append}
-use Rattle.std.proofs.lemmas.Nat.Bits.{bit_at_ones_above}
 use Rattle.std.proofs.lemmas.Option.{none-some, same_Some, slice_get-get_or, slice_get_within}
 use Rattle.dr_entry.specs.declared.entry.Entry.{Entry}
 use Rattle.dr_entry.specs.declared.entry.Entry.TheVariants.{View, Msg}
 use Rattle.dr_history.specs.declared.opening.Opening.{Opening}
 use Rattle.dr_history.specs.History.{GroupView, view_of}
-use Rattle.dr_history.specs.Members.{has, members_below, members_of}
+use Rattle.dr_history.specs.Members.{has, members_of}
 use Rattle.dr_history.specs.Restarting.{AllStand}
 use Rattle.dr_history.specs.Soundness.{MayStand}
 use Rattle.dr_history.specs.Order.{AreOfRoster, ContinuesAge}
 use Rattle.dr_history.proofs.Following.{view_of-nil}
 use Rattle.dr_history.proofs.ViewLemmas.{view_of-View, view_of-Msg}
 use Rattle.dr_history_laws.proofs.Lists.{slice_get-some, take-next}
-use Rattle.dr_history_laws.proofs.Members.{has-member, member-has}
+use Rattle.dr_history_laws.proofs.Members.{member-has}
 
 -- what an option has
 pub some_of : {X : Type 0} (P : X → Type 0) (r : Option X) → IsSomeAnd r P → (x : X) × (r ≡ Some x) × P x
@@ -57,53 +54,6 @@ each_view P o es stand views (suc i) within v is =
         before v (sym (view_of-Msg (take i es) s k b) ∙ (ap view_of (sym (more es i (Msg s k b) at)) ∙ is))
 
 -- ---- members
-
--- those of the members below n of a mask that a part of it has are the part's
-kept_below : (part whole n : ℕ) → n ≤ 16 → ((s : ℕ) → s < 16 → has part s ≡ true → has whole s ≡ true)
-    → filter (has part) (members_below whole n) ≡ members_below part n
-unfolding members_below
-kept_below part whole zero few within = refl
-kept_below part whole (suc n) few within =
-    filter-append (has part) (members_below whole n) (if has whole n then n ∷ [] else [])
-    ∙ ap₂ (λ xs ys. xs ++ ys) (kept_below part whole n (omega (arith, few)) within)
-    (by (has part n) (has whole n) refl refl)
-  where
-    by : (p w : Bool) → has part n ≡ p → has whole n ≡ w
-        → filter (has part) (if w then n ∷ [] else []) ≡ (if p then n ∷ [] else [])
-    by true true in_part in_whole = rw in_part refl
-    by true false in_part in_whole =
-        absurd (true≢false (sym (within n (omega (arith, few)) in_part) ∙ in_whole))
-    by false true in_part in_whole = rw in_part refl
-    by false false in_part in_whole = refl
-
--- so are those of all its members
-pub kept_members : (part whole : ℕ) → All (Contains (members_of whole)) (members_of part)
-    → filter (has part) (members_of whole) ≡ members_of part
-unfolding members_of
-kept_members part whole inside = kept_below part whole 16 (omega arith) within
-  where
-    within : (s : ℕ) → s < 16 → has part s ≡ true → has whole s ≡ true
-    within s small is =
-        let there = All-contains (Contains (members_of whole)) (members_of part) s inside
-        (has-member part s is small) in
-        member-has whole there.0 s
-        (slice_get-get_or (members_of whole) there.0 s there.1 ∙ ap Some there.2)
-
--- the members of the whole roster are below its size
-pub roster_below : (n : ℕ) → All (λ s. s < n) (members_of (2 ^ n - 1))
-roster_below n k d within = by (cases_lt s n)
-  where
-    s : ℕ
-    s = get_or (members_of (2 ^ n - 1)) k d
-
-    there : has (2 ^ n - 1) s ≡ true
-    there = member-has (2 ^ n - 1) k s (slice_get-get_or (members_of (2 ^ n - 1)) k d within)
-
-    by : (s < n) ⊎ (n ≤ s) → s < n
-    by (inl below) = below
-    by (inr above) =
-        let none : has (2 ^ n - 1) s ≡ false = rw (bit_at_ones_above n s above) refl in
-        absurd (true≢false (sym there ∙ none))
 
 -- so are those of any mask of its members
 pub of_roster_below : (n m : ℕ) → AreOfRoster n m → All (λ s. s < n) (members_of m)

@@ -26,6 +26,10 @@ impl Model for Letters {
 
 impl Letters {
     /// So many lists, each with room for so many entries. No later call takes memory.
+    ///
+    /// # Errors
+    ///
+    /// Want of memory alone.
     pub fn new(alloc: Global, count: u8, room: usize) -> Result<Letters, AllocError>
         ensures { IfOk result (λ letters. letters ≡ record { count = count; room = room }) }
     {

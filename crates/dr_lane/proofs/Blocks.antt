@@ -13,10 +13,6 @@ use Rattle.std.proofs.lemmas.List.Sums.{sum_by-append}
 use Rattle.std.proofs.lemmas.Nat.{shl_whole}
 use Rattle.std.proofs.lemmas.Simd.{bit_mask_l, length-chunk, mask_l-lt, ones-mask_l}
 
--- whether a word equals this one
-abbrev equals : ℕ → ℕ → Bool
-equals to word = word == to
-
 -- a mask behind a mask
 mask_l-append : (ms ns : List Bool) → mask_l (ms ++ ns) ≡ mask_l ms + 2 ^ length ms * mask_l ns
 mask_l-append [] ns = omega arith

@@ -16,8 +16,9 @@ use dr_trim::trim_of;
 use dr_words::{Mask, Shape};
 
 /// The value that the member proposes now by its own ballot. Where unsuspected rows show proposals, it is
-/// that of the highest tag, as the least row with this tag shows it. Else the suspects leave, and of each
-/// member of the view as many items are delivered as all unsuspected members have received.
+/// that of the highest tag, as the least row with this tag shows it. Else the suspects leave, those that it
+/// wishes for come, and of each member of the view as many items are delivered as all unsuspected members have
+/// received.
 ///
 /// The unsuspected members have promised exactly this member: in a row that has promised a later one, words
 /// of two proposals may stand side by side. Whoever asks is wedged and has committed nothing in this view.

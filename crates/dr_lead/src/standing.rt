@@ -12,7 +12,7 @@ pub struct Standing {
     pub me: u8,
     /// The members of the view.
     pub members: Mask,
-    /// The members of the view that it suspects, which are others than itself, and not none.
+    /// Those that it suspects or wishes for, which are others than itself, and not none.
     pub suspects: Mask,
     /// The shape of the group's table.
     pub shape: Shape,

@@ -1,17 +1,16 @@
 -- The records and the bytes that are appended behind one gate, and the calls that write them.
-use Rattle.std.proofs.Common.{◌≡◌, ℕ, ◌+◌, ◌-◌, ◌<◌, ◌≤◌, min, max, List, [], ◌∷◌, ◌++◌, length, get_or, take, drop, Option, Some, None, IfSome, inl, inr, ⊎_elim, refl, sym, ap, subst, ◌∙◌, append_assoc, arith, length-append, take_at, drop_at, drop-drop, suc}
-use Rattle.std.proofs.lemmas.List.{drop_more, length-take-le}
-use Rattle.std.proofs.lemmas.List.Sums.{sum_by-cons}
+use Rattle.std.proofs.Common.{◌≡◌, ℕ, ◌+◌, ◌-◌, ◌<◌, ◌≤◌, min, max, List, [], ◌∷◌, ◌++◌, length, get_or, take, drop, Option, Some, None, IfSome, ⊎_elim, refl, sym, ap, subst, ◌∙◌, append_assoc, arith, length-append, take_at, drop_at, drop-drop, suc}
+use Rattle.std.proofs.lemmas.List.{length-take-le}
 use Rattle.dr_entry.specs.declared.entry.Entry.{Entry}
 use Rattle.dr_entry.specs.declared.record.Record.{Record}
-use Rattle.dr_entry.specs.Spelling.{IsValidEntry, FitsEntry, spelling, entry_spelling}
+use Rattle.dr_entry.specs.Spelling.{IsValidEntry, FitsEntry, spelling}
 use Rattle.dr_disk.specs.Calls.{Call, Write, FailedWrite, Sync, State, at_rest, written, step}
 use Rattle.dr_disk.specs.Disk.{Told, content_of, after, added}
 use Rattle.dr_disk.specs.Images.{IsImage}
 use Rattle.dr_disk.proofs.Images.{written_before, written_behind, length-written}
 use Rattle.dr_disk.proofs.Moments.{state-after}
-use Rattle.dr_log.specs.Grouping.{StopsAmong, added_all, gate_of, opening, writes}
-use Rattle.dr_log.specs.Standing.{as_records, entries_length}
+use Rattle.dr_log.specs.Grouping.{gate_of, opening, writes}
+use Rattle.dr_log.specs.Standing.{as_records}
 use Rattle.dr_log_bytes.specs.Grammar.{AreSpelled, blocks}
 
 -- ---- the records and the bytes of a group
@@ -106,65 +105,9 @@ reaches_written (Some told) new at n bytes is long inside =
     omega (arith, now, long, length-written (content_of told) at bytes inside) in
     subst (λ (o : Option Told). IfSome o (λ t. at + n ≤ length (content_of t))) (sym is) far
 
--- behind an entry that another follows the gate is open
-open_before : (es : List Entry) (last : Entry) → gate_of (as_records (es ++ last ∷ [])) ≡ 1
-open_before [] last = refl
-open_before (e ∷ es) last = refl
-
 -- what is left to write, and the calls that open the gate then
 abbrev pub left_calls : ℕ → ℕ → List Entry → Entry → List Call
 left_calls gate at es last = writes at (as_records (es ++ last ∷ [])) ++ opening gate
-
-left_more : (gate at : ℕ) (e : Entry) (es : List Entry) (last : Entry)
-    → left_calls gate at (e ∷ es) last
-    ≡ Write at (entry_spelling e ++ 1 ∷ []) ∷ left_calls gate (at + (1 + length (entry_spelling e))) es last
-left_more gate at e es last =
-    ap (λ (n : ℕ). Write at (entry_spelling e ++ n ∷ [])
-    ∷ left_calls gate (at + (1 + length (entry_spelling e))) es last) (open_before es last)
-
-left_at : (gate at : ℕ) (first : List Entry) (i : ℕ) (e last : Entry) → i < length first → e ≡ get_or first i e
-    → left_calls gate at (drop i first) last ≡ Write at (entry_spelling e ++ 1 ∷ [])
-    ∷ left_calls gate (at + (1 + length (entry_spelling e))) (drop (i + 1) first) last
-left_at gate at first i e last room is =
-    ap (λ (l : List Entry). left_calls gate at l last)
-    (drop_more first i e room ∙ ap (λ (x : Entry). x ∷ drop (i + 1) first) (sym is))
-    ∙ left_more gate at e (drop (i + 1) first) last
-
--- one entry more of a group was written
-pub next_calls : (gate at : ℕ) (first : List Entry) (i : ℕ) (e last : Entry) (told new : Option Told)
-    → i < length first → e ≡ get_or first i e → new ≡ added (Write at (entry_spelling e ++ 1 ∷ [])) told
-    → added_all (left_calls gate (at + (1 + length (entry_spelling e))) (drop (i + 1) first) last) new
-    ≡ added_all (left_calls gate at (drop i first) last) told
-next_calls gate at first i e last told new room is done =
-    ap (added_all (left_calls gate (at + (1 + length (entry_spelling e))) (drop (i + 1) first) last)) done
-    ∙ ap (λ (calls : List Call). added_all calls told) (sym (left_at gate at first i e last room is))
-
-pub next_stops : (gate at : ℕ) (first : List Entry) (i : ℕ) (e last : Entry) (told mid new : Option Told)
-    → i < length first → e ≡ get_or first i e → mid ≡ added (Write at (entry_spelling e ++ 1 ∷ [])) told
-    → StopsAmong (left_calls gate (at + (1 + length (entry_spelling e))) (drop (i + 1) first) last) mid new
-    → StopsAmong (left_calls gate at (drop i first) last) told new
-next_stops gate at first i e last told mid new room is done stops =
-    subst (λ (calls : List Call). StopsAmong calls told new) (sym (left_at gate at first i e last room is))
-    (inr (subst (λ (o : Option Told).
-    StopsAmong (left_calls gate (at + (1 + length (entry_spelling e))) (drop (i + 1) first) last) o new)
-    done stops))
-
-pub now_stops : (gate at : ℕ) (first : List Entry) (i : ℕ) (e last : Entry) (told new : Option Told)
-    → i < length first → e ≡ get_or first i e
-    → new ≡ added (FailedWrite at (length (entry_spelling e ++ 1 ∷ []))) told
-    → StopsAmong (left_calls gate at (drop i first) last) told new
-now_stops gate at first i e last told new room is failed =
-    subst (λ (calls : List Call). StopsAmong calls told new) (sym (left_at gate at first i e last room is))
-    (inl failed)
-
--- the bytes that are left to write
-pub less_left : (first : List Entry) (i : ℕ) (e last : Entry) → i < length first → e ≡ get_or first i e
-    → entries_length (drop i first ++ last ∷ [])
-    ≡ (1 + length (entry_spelling e)) + entries_length (drop (i + 1) first ++ last ∷ [])
-less_left first i e last room is =
-    ap (λ (l : List Entry). entries_length (l ++ last ∷ []))
-    (drop_more first i e room ∙ ap (λ (x : Entry). x ∷ drop (i + 1) first) (sym is))
-    ∙ sum_by-cons (λ (x : Entry). 1 + length (entry_spelling x)) e (drop (i + 1) first ++ last ∷ [])
 
 -- valid entries that fit are spelled
 pub are_spelled : (es : List Entry) → ((k : ℕ) (d : Entry) → k < length es → IsValidEntry (get_or es k d))

@@ -6,7 +6,7 @@ use Rattle.dr_entry.specs.declared.record.AgeVote.{AgeVote}
 use Rattle.dr_entry.specs.declared.record.Record.{Record}
 use Rattle.dr_entry.specs.declared.record.Record.TheVariants as records
 use Rattle.dr_entry.specs.declared.record.Vote.{Vote}
-use Rattle.dr_log.specs.Standing.{HasAllOf, IsBeforeOrAfter, IsNoneOrAll, LosesNone, with_entries}
+use Rattle.dr_log.specs.Standing.{HasAllOf, IsBeforeOrAfter, LosesNone}
 use Rattle.dr_log.specs.State.{as_other}
 use Rattle.dr_log_bytes.specs.Content.{IsPlaced, OnLog, with_record}
 use Rattle.dr_log_bytes.specs.Grammar.{StandFor}
@@ -98,17 +98,6 @@ pub ordinary_keeps : (r : Record) (first c : OnLog) → IsOrdinary r → HasAllO
     → HasAllOf first (with_record r c)
 ordinary_keeps r first c is has = has_through first c (with_record r c) has (ordinary_has r c is)
 
--- so has one with entries more
-pub entries_has : (news : List Entry) (c : OnLog) → HasAllOf c (with_entries news c)
-entries_has news c = record {
-  more_entries = news;
-  more_votes = [];
-  more_age_votes = [];
-  entries = refl;
-  votes = sym (append-nil c.votes);
-  age_votes = sym (append-nil c.age_votes);
-}
-
 -- bytes that stand for a log which has all of this have lost none of it
 pub none_lost : (first c : OnLog) (bytes : List ℕ) → HasAllOf first c → StandFor bytes c → LosesNone first bytes
 none_lost first c bytes has is = record { content = c; stands = is; has = has }
@@ -118,13 +107,6 @@ pub none_lost_by : (first c : OnLog) (r : Record) (bytes : List ℕ) → IsOrdin
 none_lost_by first c r bytes ordinary has (inl is) = none_lost first c bytes has is
 none_lost_by first c r bytes ordinary has (inr is) =
     none_lost first (with_record r c) bytes (ordinary_keeps r first c ordinary has) is
-
-pub none_lost_all : (first c : OnLog) (news : List Entry) (bytes : List ℕ) → HasAllOf first c
-    → IsNoneOrAll c news bytes → LosesNone first bytes
-none_lost_all first c news bytes has (inl is) = none_lost first c bytes has is
-none_lost_all first c news bytes has (inr is) =
-    none_lost first (with_entries news c) bytes
-    (has_through first c (with_entries news c) has (entries_has news c)) is
 
 -- what has lost none of this has lost none of what this has all of
 pub less_lost : (a b : OnLog) (bytes : List ℕ) → HasAllOf a b → LosesNone b bytes → LosesNone a bytes

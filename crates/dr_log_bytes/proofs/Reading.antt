@@ -77,11 +77,6 @@ begun_read bytes newer is = record {
   inside = omega (arith, length-take 8 bytes, ap length is, length-magic newer);
 }
 
-pub begun_parsed : (bytes : List ℕ) (newer : Bool) (c : OnLog) → take 8 bytes ≡ magic_of newer
-    → c ≡ empty_of newer → IsParsed bytes c 8
-begun_parsed bytes newer c is empty =
-    record { newer = newer; records = []; read = begun_read bytes newer is; content = sym empty }
-
 -- an open gate with a record behind it that may stand there is one record more
 pub next_read : (bytes : List ℕ) (c : OnLog) (at n : ℕ) (r : Record) (newer : Bool) (rs : List Record)
     → IsReadTo bytes newer rs at → content_after (empty_of newer) rs ≡ c → IsBlockAt bytes at (found.Record r n)
@@ -180,10 +175,6 @@ broken_by bytes c at is broken = record {
   parts = is.read.parts;
   place = is.read.place;
 }
-
-pub broken_read : (bytes : List ℕ) (c : OnLog) (at : ℕ)
-    → IsParsed bytes c at → IsBlockAt bytes at found.Broken → BreaksAt bytes at
-broken_read bytes c at is none = broken_by bytes c at is (no_record c (drop at bytes) none)
 
 -- so they do before a misplaced record
 pub misplaced_breaks : (bytes : List ℕ) (c : OnLog) (at n : ℕ) (r : Record)

@@ -106,20 +106,10 @@ pub reached_more : (g : Group) (w after : World) (e : Event) → IsReached g w �
 reached_more g w after e r (inl (can, same)) = (w ∷ r.0, (r.1, inl (e, can, same)))
 reached_more g w after e r (inr (refused, same)) = subst (IsReached g) (sym same) r
 
--- an event that may come leads to a reached world
-pub reached_effect : (g : Group) (w : World) (e : Event) → IsReached g w → Guard g w e
-    → IsReached g (effect g w e)
-reached_effect g w e r can = reached_more g w (effect g w e) e r (inl (can, refl))
-
 -- nothing at all may come next, as no word arrives
 pub stays_next : (g : Group) (us : List World) (w : World) → ComesNext g us w w
 stays_next g us w =
     inr (w.table, record { source = λ v j i c. inr (j, refl); rises = λ v j i c. le_refl (w.table v j i c) }, refl)
-
--- and so does the arrival of words
-pub reached_arrived : (g : Group) (us : List World) (w : World) (table : Table) → Way g us w
-    → HaveArrived (w ∷ us) w table → Way g (w ∷ us) (with_table w table)
-reached_arrived g us w table r come = (r, inr (table, come, refl))
 
 -- a run goes on a way, on which the worlds before it stand
 pub run_way : (g : Group) (us : List World) (w after : World) (es : List Event) → Way g us w → Run g w es after

@@ -75,10 +75,6 @@ push_sweeps r due = either (is_look (next_deed r)) (is_push (next_deed r)) due
 -- a member at a look, which has come to it over a table
 module _ (table : List ℕ) (from : Running) (first : ℕ) (b : Inside)
     (on : IsOnRow (deeds.Look (first + b.place.column)) from b) where
-  -- the word that stands there
-  word_there : ℕ
-  word_there = slice_index table (first + b.place.column)
-
   sight_there : next_sight table (member_inside b) ≡ slice_index table (first + b.place.column)
   sight_there =
       let at = at_look (member_inside b) on.inside.form (ap is_look on.due) in
@@ -353,10 +349,6 @@ pub record PushedTo (table : List ℕ) (from : Running) (first : ℕ) (a : Insid
 
 module _ (table : List ℕ) (from : Running) (first : ℕ) (a : Inside) (is : IsPushing table from first a) (s : Pushes)
     (column : ℕ) (to : PushedTo table from first a s column) where
-  -- the replica behind the last push
-  behind : Replica
-  behind = record a.replica { rows = s.words }
-
   row_is : to.last.place.row ≡ a.place.row
   row_is = ap (λ (p : Place). p.row) to.place
 

@@ -1,4 +1,4 @@
--- Whom a member suspects next.
+-- Whom a member suspects or wishes for next.
 use Rattle.std.specs.Prelude.{ℕ, List, Option}
 use Rattle.std.specs.List.{find}
 use Rattle.std.specs.Option.{option_map, option_or}
@@ -6,7 +6,7 @@ use Rattle.dr_program.specs.declared.setup.Suspicion.{Suspicion}
 use Rattle.dr_program.specs.Replica.{Replica}
 use Rattle.dr_program.specs.Running.{Running, is_scripted, overdue, scripted, told}
 
--- the first one that these lines of a script have it suspect
+-- the first one that these lines of a script have it suspect or wish for
 abbrev pub first_scripted : Replica → List Suspicion → Option ℕ
 first_scripted r script = option_map (λ (s : Suspicion). s.other) (find (is_scripted r) script)
 

@@ -48,7 +48,8 @@ fn judgement(replica: &Replica, fate: &Fate) -> Option<Act>
     replica.minority()
 }
 
-/// Whom the member suspects next: the first by its script, then by the others, then by its patience.
+/// Whom the member suspects or wishes for next: the first by its script, then by the others, then by its
+/// patience.
 fn suspicion(replica: &Replica, fate: &Fate) -> Option<u8>
     ensures { (place : Place) → result ≡ suspicion (standing replica.now fate.now place) }
 {
@@ -61,8 +62,8 @@ fn suspicion(replica: &Replica, fate: &Fate) -> Option<u8>
     replica.overdue(&fate.waits)
 }
 
-/// The first in the script's order whom it has the member suspect in this turn, and who may still be
-/// suspected.
+/// The first in the script's order whom it has the member suspect or wish for in this turn, and who may still
+/// be named.
 fn scripted(replica: &Replica, script: &[Suspicion]) -> Option<u8>
     ensures { result ≡ first_scripted replica.now script.now }
 {

@@ -1,8 +1,8 @@
 //! One member of a group as it runs: a replica with its place in its turn.
 //!
-//! A member says what it does next, its next *deed*; whoever runs it does that to the group's table
-//! or to the member's log, and tells the member. Contracts see a [`Member`] as the running member of
-//! the definitions.
+//! A member says what it does next, its next *deed*; whoever runs it does that to the group's table,
+//! to the member's log or with a letter, and tells the member. Contracts see a [`Member`] as the running
+//! member of the definitions.
 #![tactic(auto)]
 
 mod acts;

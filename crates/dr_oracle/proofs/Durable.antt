@@ -8,7 +8,7 @@ use Rattle.dr_history.specs.Agreement.{Accounts, KnowsDurable}
 use Rattle.dr_history.specs.History.{GroupView, view_after, view_of}
 use Rattle.dr_history.specs.Members.{members_of}
 use Rattle.dr_history.specs.Soundness.{IsNobodyLate}
-use Rattle.dr_oracle.specs.Agreeing.{HoldsLoggedView, IsInLoggedView}
+use Rattle.dr_oracle.specs.Agreeing.{IsInLoggedView}
 
 -- a view is that of a View among the entries
 record IsAmong (es : List Entry) (v : GroupView) : Type 0 where
@@ -102,21 +102,4 @@ prompt_decides o accounts i b prompt own decides = (
         );
       },
   λ k. decides.1 (k.number, k.members, (k.last prompt).0, (k.last prompt).1, k.logged),
-)
-
--- where somebody is late, its history is to hold one
-pub late_decides : (o : Opening) (accounts : Accounts) (i : ℕ) (b : Bool) → (IsNobodyLate o → ⊥)
-    → (accounts i).durable ≤ length (accounts i).log
-    → Decides b (HoldsLoggedView accounts o.age (accounts i).durable (accounts i).history)
-    → Decides b (KnowsDurable o accounts i)
-late_decides o accounts i b late own decides = (
-  λ t. let p = decides.0 t in record {
-    own = own;
-    number = p.0;
-    members = p.1;
-    view = p.2;
-    logged = p.3;
-    last = λ prompt. absurd (late prompt);
-  },
-  λ k. decides.1 (k.number, k.members, k.view, k.logged),
 )

@@ -5,7 +5,8 @@ use dr_machine::Act;
 pub enum Part {
     /// The looks at the words of the other members.
     Look,
-    /// What the looks have shown is judged: whom the member suspects, and whether it ends by suspicions.
+    /// What the looks have shown is judged: whom the member suspects or wishes for, and
+    /// whether it ends by suspicions.
     Judge,
     /// The next items of the senders are taken.
     Receive,

@@ -11,12 +11,12 @@ pub struct CrashPoint {
     pub push: u32,
 }
 
-/// A turn in which a member suspects another.
+/// A turn in which a member suspects another, or wishes for one that is late.
 #[derive(Clone, Copy, Debug, PartialEq, Eq)]
 pub struct Suspicion {
     /// The turn, counted from 1.
     pub turn: u32,
-    /// The member that it suspects.
+    /// The member that it suspects or wishes for.
     pub other: u8,
 }
 

@@ -20,12 +20,6 @@ found_any p xs false none = sym (list_any_none p xs (λ k d below. none k d (ome
 pub shown_clear : (text : List ℕ) → IsUtf8 text → is_clear text ≡ true → can_be_shown text ≡ true
 shown_clear text utf8 clear = rw (is_utf8-from_IsUtf8 text utf8, clear) refl
 
-pub hidden_unclear : (text : List ℕ) → is_clear text ≡ false → can_be_shown text ≡ false
-hidden_unclear text unclear = elim (cases_Bool (is_utf8 text)) [
-  | inl utf8 ↦ rw (utf8, unclear) refl
-  | inr other ↦ rw other refl
-]
-
 pub hidden_raw : (text : List ℕ) → (IsUtf8 text → ⊥) → can_be_shown text ≡ false
 hidden_raw text raw = elim (cases_Bool (is_utf8 text)) [
   | inl utf8 ↦ absurd (raw (IsUtf8-from_is_utf8 text utf8))

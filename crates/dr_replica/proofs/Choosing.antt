@@ -15,7 +15,7 @@ use Rattle.dr_rows.specs.Words.{seen}
 use Rattle.dr_words.proofs.Choices.{accept_test, proposal_is, proposal_long, propose_test, shows_value, trims_long}
 use Rattle.dr_words.proofs.Values.{proposal_once, shows_once}
 use Rattle.dr_words.specs.Accepts.{Shows, promise_of, trim_word}
-use Rattle.dr_words.specs.Changes.{IsProposal, MayAccept, MayCommit, MayPropose}
+use Rattle.dr_words.specs.Changes.{IsProposal, MayAccept, MayPropose}
 use Rattle.dr_words.specs.Packing.{accept_value}
 use Rattle.dr_words.specs.Choices.{proposal, shown_value}
 use Rattle.dr_program.proofs.Voting.{self_left, value_long, value_test, view_small, votes_for}
@@ -65,9 +65,6 @@ ToPropose r n members suspects k = MayPropose n (seen r.rows) members suspects k
 
 abbrev ToAccept : Replica → ℕ → ℕ → ℕ → ℕ → Type 0
 ToAccept r n members suspects k = MayAccept n (seen r.rows) members suspects k
-
-abbrev ToCommit : Replica → ℕ → ℕ → ℕ → ℕ → Type 0
-ToCommit r n members suspects k = MayCommit n (seen r.rows) members k
 
 -- an answer by such a relation at the standing tells the test that decides it at the replica
 test_told : (r : Replica) (s : Standing) (o : Option Value) (P : ℕ → ℕ → ℕ → ℕ → Type 0) (Q : Value → Type 0)

@@ -21,13 +21,9 @@ use Rattle.dr_machine.specs.Effects.{entries_of}
 use Rattle.dr_order.specs.Merge.{IsNextHeld}
 use Rattle.dr_order.proofs.Merges.{rest_places-next, rest_places-none}
 use Rattle.dr_replica.specs.History.{Kept}
-use Rattle.dr_replica.specs.Items.{Held, IsHeld, item_held_at, sender_held_at}
+use Rattle.dr_replica.specs.Items.{Held, item_held_at, sender_held_at}
 use Rattle.dr_replica.specs.Rests.{AreWithin, fits, has_taken, merged, merged_from, with_item}
 use Rattle.dr_trim.specs.Trims.{trims_by_rank}
-
--- there is a trim for each member of the view, so there are some
-pub some_trims : (h : Held) (trims : List ℕ) → IsHeld h → AreWithin h trims → 0 < length trims
-some_trims h trims is within = omega (arith, within.ranks, is.some)
 
 -- the item of the next place goes first, and the rest follows it
 pub next_merged : (h : Held) (es : List Entry) (trims : List ℕ) (from p : ℕ) → 0 < length trims

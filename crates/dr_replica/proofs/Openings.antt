@@ -40,10 +40,6 @@ small_room s most can is =
     let product = product_within most s.shape.members few s.shape.most_members in
     omega (arith, product, can.start, can.banks, few_members s.late, s.shape.most_members)
 
--- the member is one of the roster
-pub number_within : (s : Setup) → CanBegin s → s.me < s.shape.members
-number_within s can = (begun_in_form s can).number
-
 -- a mask that isn't 0 has a member
 some_of : (mask n : ℕ) → IsInRoster n mask → n ≤ 16 → 0 < mask → 0 < length (members_of mask)
 some_of mask n within few some = by (length (members_of mask)) refl

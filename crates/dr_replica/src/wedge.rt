@@ -7,15 +7,15 @@ ghost use Rattle.dr_words.specs.Rewrites.{is_accept_of, is_recv_of};
 use dr_rows::Rows;
 use dr_words::{Mask, SUSPECTED_COLUMN, Shape, pack_accept, pack_recv, unpack_accept, unpack_recv};
 
-/// How a member of a view stands once it suspects somebody: it takes no more items, so its counts are
-/// final, and it accepts the proposals of one member alone.
+/// How a member of a view stands once it suspects or wishes for somebody: it takes no more items, so its counts
+/// are final, and it accepts the proposals of one member alone.
 #[derive(Clone, Copy)]
 pub(crate) struct Wedge {
     /// The shape of the group's table.
     pub shape: Shape,
     /// The members of the view.
     pub members: Mask,
-    /// Those that it suspects.
+    /// Those that it suspects or wishes for.
     pub suspects: Mask,
     /// The member whose proposal it waits for.
     pub promise: u8,

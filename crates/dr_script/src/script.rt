@@ -41,7 +41,7 @@ pub enum What {
     /// are fewer.
     Crash { turn: u32, push: u32 },
     /// The member suspects the member `other`, another one, in the turn `turn`, from 1 to the
-    /// script's turns.
+    /// script's turns, or wishes for it where it is late.
     Suspect { turn: u32, other: u8 },
 }
 

@@ -1,5 +1,5 @@
 -- A store stands for what was applied to it.
-use Rattle.std.proofs.Common.{◌≡◌, ℕ, suc, ◌+◌, ◌≤◌, Bool, true, false, cond, leb, ltb, List, [], ◌∷◌, ◌++◌, length, take, fold, refl, ap, sym, subst, ◌∙◌, arith, max}
+use Rattle.std.proofs.Common.{◌≡◌, ℕ, suc, ◌+◌, ◌≤◌, Bool, true, false, cond, leb, ltb, List, [], ◌∷◌, ◌++◌, length, take, fold, refl, ap, sym, subst, ◌∙◌, arith}
 use Rattle.std.proofs.lemmas.List.{take-append-le, take_all, length-append}
 use Rattle.std.proofs.lemmas.List.Sums.{fold-append}
 use Rattle.std.proofs.lemmas.Bool.{le-leb, leb-true, leb-false, ltb-false}
@@ -215,10 +215,6 @@ module _ (s : Stock) (kept : HasNothingLater s) where
   kept-next None = kept-other
   kept-next (Some (key, value)) = kept-command key value
 
-  -- no change comes behind the next version
-  pub kept-later : (key : List ℕ) → All (λ (c : Change). c.version ≤ s.version + 1) (changes_at s key)
-  kept-later key k d within = omega (arith, kept.up_to key k d within)
-
 -- a new store
 pub stands-new : IsStoreOf (record { changes = maps.empty; version = 0; oldest = 0 }) []
 unfolding contents
@@ -252,16 +248,6 @@ not_refused s v answers =
             | false ↦ λ there _. (ltb-false v s.oldest there, ltb-false s.version v come)
           ] refl
     ] refl answers
-
--- what stands for a history stands for it when it has forgotten more
-pub stands-forgot : (s t : Stock) (h : List Entry) (below : ℕ) → IsStoreOf s h → t.version ≡ s.version
-    → t.oldest ≡ max s.oldest below
-    → ((key : List ℕ) (v : ℕ) → below ≤ v → value_at t key v ≡ value_at s key v) → IsStoreOf t h
-stands-forgot s t h below stands same_version older same = record {
-  version = same_version ∙ stands.version;
-  gives = λ v key low high. same key v (omega (arith, older))
-      ∙ stands.gives v key (omega (arith, older)) (omega (arith, same_version));
-}
 
 -- two stores of which one stands for what the history of the other has become give alike
 pub alike_at : (one other : Stock) (h more : List Entry) (v : ℕ) (key : List ℕ) → IsStoreOf one h

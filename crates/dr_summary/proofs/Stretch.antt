@@ -1,32 +1,10 @@
 -- Marks that stay for a stretch of rows.
-use Rattle.std.proofs.Common.{◌≡◌, refl, sym, ◌∙◌, ap, subst, inl, inr, ℕ, suc, ◌+◌, ◌<◌, ◌≤◌, nat_lt, List, [], ◌∷◌, ◌++◌, All, length, get_or, slice_index_or, take, arith, le_trans}
-use Rattle.std.proofs.lemmas.Bool.{cases_Bool, le-ltb, lt-ltb, ltb-false, ltb-true}
+use Rattle.std.proofs.Common.{◌≡◌, refl, sym, ◌∙◌, ap, subst, ℕ, suc, ◌+◌, ◌<◌, ◌≤◌, List, [], ◌∷◌, ◌++◌, All, length, get_or, slice_index_or, take, arith, le_trans}
 use Rattle.std.proofs.lemmas.List.{take_more}
 use Rattle.std.proofs.lemmas.List.Elements.{All-append, All-cons, All-nil}
 use Rattle.dr_entry.specs.declared.end.MemberEnd.{MemberEnd}
 use Rattle.dr_summary.specs.Marks.{AreMarks, IsMarkUntil}
 use Rattle.dr_summary.specs.Table.{marks_text}
-
--- numbers on one side of a limit
-same_side : (limit first last n : ℕ) → (first < limit → last < limit) → first ≤ n → n ≤ last
-    → nat_lt n limit ≡ nat_lt first limit
-same_side limit first last n before from until = elim (cases_Bool (nat_lt first limit)) [
-  | inl below ↦
-      lt-ltb n limit (omega (arith, until, before (ltb-true first limit below))) ∙ sym below
-  | inr above ↦
-      le-ltb n limit (omega (arith, from, ltb-false first limit above)) ∙ sym above
-]
-
--- a mark stays where a row passes none of the member's limits
-pub mark_stays : (m : MemberEnd) (first last : ℕ) → (first < m.durable → last < m.durable)
-    → (first < m.logged → last < m.logged) → (first < length m.history → last < length m.history)
-    → IsMarkUntil first last m
-mark_stays m first last durable logged delivered n from until =
-    rw (
-      same_side m.durable first last n durable from until,
-      same_side m.logged first last n logged from until,
-      same_side (length m.history) first last n delivered from until,
-    ) refl
 
 -- the marks of a row, where no member's changes
 pub marks_stay : (ms : List MemberEnd) (first last n : ℕ) → All (IsMarkUntil first last) ms → first ≤ n

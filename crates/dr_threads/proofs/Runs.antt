@@ -76,9 +76,6 @@ swept_ready log (word ∷ words) r q (swept, found, rest) ready =
     swept_ready log words (after_step word r) q rest (other_ready log word r (swept_other r swept) ready)
 
 module _ {D : Type 0} (told : D → Option Told) (faults : D → ℕ) where
-  pub gone_none : (rs : List (Option Running)) (log : LogState D) → HasGone told faults rs log rs log
-  gone_none rs log = record { same = refl; ready = λ is. is; served = λ base is. is }
-
   pub gone_more : (rs qs ps : List (Option Running)) (log new newer : LogState D) → HasGone told faults rs log qs new
       → HasGone told faults qs new ps newer → HasGone told faults rs log ps newer
   gone_more rs qs ps log new newer a b = record {

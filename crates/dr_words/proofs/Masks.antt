@@ -1,5 +1,5 @@
 -- Masks of the members that pass a test.
-use Rattle.std.proofs.Common.{◌≡◌, ◌≢◌, ℕ, zero, suc, ◌+◌, ◌-◌, ◌*◌, ◌/◌, ◌%◌, ◌^◌, ◌<◌, ◌≤◌, ◌==◌, ◌&&◌, ◌||◌, not, nat_lt, Bool, true, false, refl, sym, ap, ◌∙◌, ◌⊎◌, inl, inr, if◌then◌else◌, w16, bit_and, bit_or, bit_xor, arith, List, [], ◌∷◌, slice_get, slice_index, Some}
+use Rattle.std.proofs.Common.{◌≡◌, ◌≢◌, ℕ, zero, suc, ◌+◌, ◌-◌, ◌*◌, ◌/◌, ◌%◌, ◌^◌, ◌<◌, ◌≤◌, ◌==◌, ◌&&◌, ◌||◌, not, nat_lt, Bool, true, false, sym, ap, ◌∙◌, ◌⊎◌, inl, inr, if◌then◌else◌, w16, bit_and, bit_or, bit_xor, arith, List, [], ◌∷◌, slice_get, slice_index, Some}
 use Rattle.std.specs.Int.{bit_at, trailing_zeros}
 use Rattle.std.proofs.lemmas.Bool.{cases_eq, cases_lt}
 use Rattle.std.proofs.lemmas.Nat.{and_le_l, or_lt, mod_below, pow_pos, xor_of_16}
@@ -166,25 +166,6 @@ pub xor_is_next : (members names : ℕ) → members < 2 ^ 16 → names < 2 ^ 16
 xor_is_next members names small small_names =
     is_mask_of (λ i. if has names i then not (has members i) else has members i) (bit_xor members names)
     (xor_of_16 members names small small_names) (λ i l. has_xor members names i)
-
--- where only members are named, the others stay
-pub next_members-without : (members names : ℕ) → IsPartOf names members
-    → next_members members names ≡ without members names
-next_members-without members names part = same_masks (next_members members names) (without members names)
-    (λ i. by i (cases_lt i 16))
-  where
-    by : (i : ℕ) → (i < 16) ⊎ (16 ≤ i)
-        → has (next_members members names) i ≡ has (without members names) i
-    by i (inl l) = has_next_members members names i l
-        ∙ cases (has names i) refl
-        ∙ sym (has_mask_of (λ i. has members i && not (has names i)) i ∙ grind (arith, l))
-      where
-        cases : (b : Bool) → has names i ≡ b
-            → (if has names i then not (has members i) else has members i) ≡ (has members i && not (has names i))
-        cases true e = grind (arith, e, part i e)
-        cases false e = grind (arith, e)
-    by i (inr g) = has_above (next_members members names) i (next_members_small members names) g
-        ∙ sym (has_above (without members names) i (mask_of_small (λ i. has members i && not (has names i))) g)
 
 pub and_is_without : (mask other : ℕ) → mask < 2 ^ 16 → other < 2 ^ 16
     → bit_and mask (65535 - other) ≡ without mask other

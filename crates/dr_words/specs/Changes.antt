@@ -44,8 +44,8 @@ pub record IsLeastReceived (rows : Shown) (of sender count : ℕ) : Type 0 where
   pub least : (i : ℕ) → has of i ≡ true → count ≤ received rows i sender
   pub found : (i : ℕ) × (has of i ≡ true) × (count ≡ received rows i sender)
 
--- the value of a member that sees no proposal: the suspects leave, and of each member of the view as much
--- is delivered as all unsuspected members have received
+-- the value of a member that sees no proposal: the suspects leave, those that it wishes for come, and of each
+-- member of the view as much is delivered as all unsuspected members have received
 pub record IsFirstValue (rows : Shown) (members suspects : ℕ) (v : Value) : Type 0 where
   pub leavers : v.leavers ≡ suspects
   pub trims : (s : ℕ) → has members s ≡ true

@@ -1,4 +1,4 @@
--- The own words that a member makes anew: as it suspects somebody, and as it accepts a value.
+-- The own words that a member makes anew: as it suspects or wishes for somebody, and as it accepts a value.
 use Rattle.std.specs.Prelude.{ℕ, ◌-◌, ◌==◌, ◌&&◌, ◌||◌, nat_le, nat_lt, true, Bool, if◌then◌else◌}
 use Rattle.dr_entry.specs.declared.record.Value.{Value}
 use Rattle.dr_history.specs.Members.{has}

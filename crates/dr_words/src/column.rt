@@ -6,7 +6,7 @@ ghost use Rattle.dr_words.specs.Layout.{words_of, word_index_of};
 /// The column of the beat word: the number of acts that the member has done.
 pub const BEAT_COLUMN: usize = 0;
 
-/// The column of the suspected word: the mask of the members that the row's owner suspects.
+/// The column of the suspected word: the mask of the members that the row's owner suspects or wishes for.
 pub const SUSPECTED_COLUMN: usize = 1;
 
 /// The column of the received word: the front of the owner's counts.

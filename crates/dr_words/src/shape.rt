@@ -69,7 +69,7 @@ impl Shape {
         5 + sender as usize
     }
 
-    /// The column of the accept word whose value is the mask of the leavers.
+    /// The column of the accept word whose value is the mask of those that leave or come.
     #[inline]
     pub const fn leavers_column(&self) -> usize
         ensures value { result ≡ leavers_column self.now.members }

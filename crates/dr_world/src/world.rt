@@ -21,7 +21,8 @@ use dr_words::{Mask, Shape};
 use std::alloc::{AllocError, Global};
 use std::marker::Model;
 
-/// The world of a group in one age: what each member has and has seen, and the words of the table.
+/// The world of a group in one age: what each member has and has seen, the words of the
+/// table, and the letters.
 #[derive(Drop)]
 pub struct World {
     script: Script,

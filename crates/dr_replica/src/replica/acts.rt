@@ -305,8 +305,8 @@ impl Replica {
         self.rows.set_own(DONE_COLUMN, 1);
     }
 
-    /// It suspects another member of its view: it is wedged, which its own words say, and it looks at
-    /// that member no more.
+    /// It suspects another member of its view, or wishes for a late one: it is wedged, which its own words
+    /// say, and it looks at that member no more.
     fn suspect(&mut self, other: u8)
         requires may { may_suspect self.old other ≡ true }
         requires inside { is_inside self.old ≡ true }

@@ -65,7 +65,7 @@ impl Replica {
         self.least_seen(LOGGED_COLUMN)
     }
 
-    /// The members of its view that it suspects.
+    /// The members that it suspects or wishes for.
     pub fn suspects(&self) -> Mask
         ensures { result ≡ self.now.suspects }
     {

@@ -112,7 +112,7 @@ impl Replica {
         row < self.shape.members && self.is_other(row) && column < self.shape.columns()
     }
 
-    /// Whether it suspects somebody. It then takes, puts and delivers no more items in its view.
+    /// Whether it suspects or wishes for somebody. It then takes, puts and delivers no more items in its view.
     #[inline(always)]
     pub fn is_wedged(&self) -> bool
         ensures { result ≡ is_wedged self.now }
