@@ -8,6 +8,3 @@
 mod script;
 
 pub use script::make;
-
-#[cfg(test)]
-mod tests;

@@ -1,13 +1,18 @@
 //! Tests of runs whose disks stop or fail, at each of their calls in turn, of calls whose source, sink or disks
-//! fail, or whose threads wait for one another, and of a file that has become shorter.
+//! fail, or whose threads wait for one another, of ages that the log of a member stops, of a file that has become
+//! shorter, and of the script of a drill.
 #![tactic(auto)]
 
+#[cfg(test)]
+mod drill;
 #[cfg(test)]
 mod faults;
 #[cfg(test)]
 mod files;
 #[cfg(test)]
 mod runs;
+#[cfg(test)]
+mod stopped;
 #[cfg(test)]
 mod stops;
 #[cfg(test)]

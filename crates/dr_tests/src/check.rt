@@ -1,0 +1,54 @@
+//! This part reads a script and reports of it, line by line, and prints how each is judged. What it
+//! has to print was worked out by hand.
+//!
+//! A line that begins with a brace is a script. One that begins with `#` says what the lines behind it show,
+//! and is printed. At a line `?` the report that was gathered is judged. Every other line is one of a report;
+//! behind one that ends with a backslash there is no line feed.
+use dr_check::{ParseFault, judge, parse};
+use dr_script::read_script;
+use dr_text::{Last, push_last};
+use std::alloc::Global;
+
+/// Prints what becomes of these lines.
+pub(crate) fn show(rt: &HostRuntime, lines: &[String]) -> anyhow::Result<()> {
+    let alloc = rt.alloc();
+    let mut script = String::new(alloc);
+    let mut report = String::new(alloc);
+    for line in lines {
+        let line = line.as_str();
+        if line.starts_with('{') {
+            script = String::from_str(alloc, line)?;
+        } else if line.starts_with('#') {
+            println!(rt; "{line}")?;
+        } else if line == "?" {
+            let verdict = verdict_on(alloc, script.as_str(), report.as_str())?;
+            print!(rt; "{verdict}")?;
+            report.clear();
+        } else if let Some(part) = line.strip_suffix('\\') {
+            report.push_str(part)?;
+        } else {
+            report.push_str(line)?;
+            report.push_str("\n")?;
+        }
+    }
+    Ok(())
+}
+
+/// The line that says how a report of a script is judged.
+fn verdict_on(alloc: Global, script: &str, report: &str) -> anyhow::Result<String> {
+    let script = read_script(alloc, script.as_bytes())?;
+    let last = match parse(alloc, &script, report.as_bytes()) {
+        Ok(report) => match judge(&script, &report) {
+            Some(flaw) => Last::Wrong {
+                clause: flaw.clause,
+                line: flaw.line,
+            },
+            None => Last::Right,
+        },
+        Err(ParseFault::NoReport { line }) => Last::NoReport { line },
+        Err(ParseFault::OutOfMemory) => return Err(std::alloc::AllocError.into()),
+    };
+    let mut text = String::new(alloc);
+    push_last(&mut text, &last)?;
+    Ok(text)
+}
