@@ -1,5 +1,5 @@
 -- The test whether an item can be read.
-use Rattle.std.proofs.Common.{◌≡◌, ℕ, zero, suc, ◌+◌, ◌<◌, ◌≤◌, Bool, true, false, cond, ◌&&◌, nat_le, ◌⊎◌, inl, inr, ◌↔◌, Some, None, IsSome, IsTrue, is_some, refl, sym, ap, subst, ◌∙◌, add-one, arith, ◌*◌, ◌%◌, ◌^◌, bit_or, below_more, w16, map}
+use Rattle.std.proofs.Common.{◌≡◌, ℕ, zero, suc, ◌+◌, ◌<◌, ◌≤◌, Bool, true, false, cond, ◌&&◌, nat_le, ◌⊎◌, inl, inr, ◌↔◌, Option, Some, None, IsSome, IsTrue, is_some, refl, sym, ap, subst, ◌∙◌, add-one, arith, ◌*◌, ◌%◌, ◌^◌, bit_or, below_more, w16, map}
 use Rattle.std.specs.List.{list_all}
 use Rattle.std.specs.Int.{bit_at}
 use Rattle.std.proofs.lemmas.Bool.Decides.{nat_tests}
@@ -83,6 +83,10 @@ ready_test k slot = (
       },
   λ r. ap is_some (item_there k slot r),
 )
+
+some_tested : {A : Type 0} (o : Option A) (P : Type 0) → (IsSome o ↔ P) → IsTrue (is_some o) ↔ P
+some_tested None P t = t
+some_tested (Some x) P t = t
 
 -- the same, as a test
 pub ready_value : (k : ℕ) (slot : ℕ → ℕ) (ready : Bool) → ready ≡ is_some (item_in k slot)
