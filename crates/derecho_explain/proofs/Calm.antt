@@ -6,10 +6,10 @@ use Rattle.std.proofs.lemmas.List.Elements.{All-nil}
 use Rattle.std.specs.declared.alloc.AllocError.{AllocError}
 use Rattle.dr_age.proofs.Lasting.{none_stopped}
 use Rattle.dr_age.specs.Logged.{AreAmple, AreOpened, HaveCome, NoneFull, NoneStopped}
+use Rattle.dr_complete.specs.Enough.{turns_enough}
 use Rattle.dr_complete.specs.Time.{HasTime}
+use Rattle.dr_complete.proofs.Enough.{enough_is_time, longest_within}
 use Rattle.dr_disk.specs.Disk.{Told}
-use Rattle.dr_enough.specs.Enough.{turns_enough}
-use Rattle.dr_enough.proofs.Enough.{enough_is_time, longest_within}
 use Rattle.dr_entry.specs.declared.end.AgeEnd.{AgeEnd}
 use Rattle.dr_entry.specs.declared.end.End.TheVariants.{Done}
 use Rattle.dr_entry.specs.declared.end.MemberEnd.{MemberEnd}

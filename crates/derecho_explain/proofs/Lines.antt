@@ -1,7 +1,7 @@
 -- What is said of a text, by what is read of it.
 use Rattle.std.proofs.Common.{◌≡◌, ◌∙◌, sym, ap, subst, ℕ, List, [], ◌++◌, Some, Result, Ok, Err, IfOk, string_bytes, append_assoc}
 use Rattle.std.proofs.lemmas.Option.{none-some, same_Some}
-use Rattle.dr_enough.specs.Enough.{most_messages}
+use Rattle.dr_complete.specs.Enough.{most_messages}
 use Rattle.dr_intake.specs.Reading.{refusal_in}
 use Rattle.dr_intake.specs.Status.{status_of}
 use Rattle.dr_script.specs.declared.script.Script.{Script}

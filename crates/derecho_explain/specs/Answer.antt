@@ -4,7 +4,7 @@ use Rattle.std.specs.Fmt.{decimal}
 use Rattle.std.specs.List.{concat}
 use Rattle.std.specs.Option.{option_map_or}
 use Rattle.std.specs.declared.alloc.Global.{Global}
-use Rattle.dr_enough.specs.Enough.{most_messages, turns_enough}
+use Rattle.dr_complete.specs.Enough.{most_messages, turns_enough}
 use Rattle.dr_intake.specs.Answer.{IsAnswerBy, Said, ToldBy}
 use Rattle.dr_intake.specs.Reading.{refusal_in}
 use Rattle.dr_intake.specs.Status.{status_of}

@@ -1,6 +1,6 @@
 ghost use Rattle.dr_script.specs.Ranges.{HasRanges};
 
-use dr_enough::turns_enough;
+use dr_complete::turns_enough;
 use dr_script::{Fault, Schedule, Script, What};
 use std::alloc::AllocError;
 use std::fmt::Write;

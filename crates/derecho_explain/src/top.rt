@@ -7,7 +7,7 @@ ghost use Rattle.derecho_explain.specs.Answer.{BeginsWith, ExplainTold, IsAnswer
 
 use crate::reasons::{reasons_for, words_for};
 use crate::turns::{push_taken, push_turns, turns_taken};
-use dr_enough::most_messages;
+use dr_complete::most_messages;
 use dr_intake::{Answer, DONE, OUT_OF_MEMORY, bytes_or_answer, script_or_refusal, status_of};
 use dr_io::{Sink, Source};
 use dr_script::Script;

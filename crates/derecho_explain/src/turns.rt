@@ -1,9 +1,9 @@
 //! How many turns are enough for a group, and how many it takes.
 ghost use Rattle.std.specs.Prelude.{◌≡◌, ◌++◌, IfOk, OnOk, string_bytes, true};
 ghost use Rattle.std.specs.List.{list_all};
+ghost use Rattle.dr_complete.specs.Enough.{turns_enough};
 ghost use Rattle.dr_complete.specs.Time.{HasTime};
 ghost use Rattle.dr_entry.specs.declared.end.MemberEnd.{MemberEnd as MemberEndOf};
-ghost use Rattle.dr_enough.specs.Enough.{turns_enough};
 ghost use Rattle.dr_machine.specs.Group.{IsGroup};
 ghost use Rattle.dr_restart.specs.Groups.{first_group_of};
 ghost use Rattle.dr_script.specs.Ranges.{HasRanges};
@@ -11,7 +11,7 @@ ghost use Rattle.derecho_explain.specs.Answer.{taken_line, turns_line};
 ghost use Rattle.derecho_explain.specs.Turns.{EndDone, IsFirstAge, TakesTurns, calm_group, is_done, with_turns};
 
 use dr_ages::timely_ages_complete;
-use dr_enough::turns_enough;
+use dr_complete::turns_enough;
 use dr_entry::{AgeEnd, End, MemberEnd, Seq};
 use dr_fresh::logs_of;
 use dr_restart::first_start;

@@ -4,7 +4,7 @@ ghost use Rattle.dr_script.specs.Ranges.{HasRanges};
 ghost use Rattle.derecho_summary.specs.Summary.{enough_of, is_nobody_late, is_undisturbed};
 
 use crate::turns::{most_turns, some_spent};
-use dr_enough::turns_enough;
+use dr_complete::turns_enough;
 use dr_entry::AgeEnd;
 use dr_script::{Schedule, Script};
 use dr_words::Mask;

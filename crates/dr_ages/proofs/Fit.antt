@@ -12,11 +12,6 @@ use Rattle.dr_disk.proofs.Moments.{Goes-last, Went-last}
 use Rattle.dr_entry.specs.declared.end.AgeEnd.{AgeEnd}
 use Rattle.dr_entry.specs.declared.end.MemberEnd.{MemberEnd}
 use Rattle.dr_entry.specs.declared.entry.Entry.{Entry}
-use Rattle.dr_gather.specs.CatchingUp.{opened_with}
-use Rattle.dr_gather.specs.Gathering.{AreAccepted, judged_by}
-use Rattle.dr_gather.specs.Parts.{AreFirstPartsOf}
-use Rattle.dr_gather.proofs.Accepting.{ended_accepted, none_accepted}
-use Rattle.dr_gather.proofs.Catching.{part_of_opened}
 use Rattle.dr_history.specs.History.{IsPrefixOf, Sent}
 use Rattle.dr_history_laws.proofs.Lists.{slice_get-some}
 use Rattle.dr_history_laws.proofs.Openings.{InOrder-first}
@@ -31,6 +26,8 @@ use Rattle.dr_log_bytes.proofs.Meaning.{content_once}
 use Rattle.dr_logged.specs.Left.{IsLeftOf}
 use Rattle.dr_logged.specs.Served.{IsSafe}
 use Rattle.dr_machine.specs.Group.{IsGroup}
+use Rattle.dr_opening.specs.Accepted.{AreAccepted, judged_by}
+use Rattle.dr_opening.specs.CatchingUp.{opened_with}
 use Rattle.dr_opening.specs.declared.age.NotOpened.{NotOpened}
 use Rattle.dr_opening.specs.declared.age.NotOpened.TheVariants.{Unchosen, Unfinished}
 use Rattle.dr_opening.specs.declared.opening.OpenFault.{OpenFault}
@@ -39,6 +36,8 @@ use Rattle.dr_opening.specs.Lists.{as_lists, contents_of, log_of}
 use Rattle.dr_opening.specs.Logs.{GotStart, GotVote, LacksStart, LacksVote, WereNotOpened}
 use Rattle.dr_opening.specs.Tries.{IsChosenOf, content_at}
 use Rattle.dr_opening.specs.Unopened.{IsWhyUnopened}
+use Rattle.dr_opening.proofs.Accepting.{AreFirstPartsOf, ended_accepted, none_accepted}
+use Rattle.dr_opening.proofs.Catching.{part_of_opened}
 use Rattle.dr_opening.proofs.Choosing.{chosen_group}
 use Rattle.dr_opening.proofs.Trying.{chosen_by}
 use Rattle.dr_opening.proofs.Ways.{rising_brought, voting_brought}

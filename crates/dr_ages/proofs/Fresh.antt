@@ -20,9 +20,6 @@ use Rattle.dr_entry.specs.declared.record.Record.{Record}
 use Rattle.dr_entry.specs.declared.record.Record.TheVariants as records
 use Rattle.dr_entry.specs.declared.record.Vote.{Vote}
 use Rattle.dr_entry.specs.Spelling.{IsValidVote, entry_spelling, vote_spelling}
-use Rattle.dr_gather.specs.CatchingUp.{opened_with}
-use Rattle.dr_gather.specs.Gathering.{AreAccepted}
-use Rattle.dr_gather.proofs.Catching.{part_of_opened}
 use Rattle.dr_history.specs.History.{IsPrefixOf}
 use Rattle.dr_history.specs.Order.{first_entries}
 use Rattle.dr_history_laws.proofs.Lists.{slice_get-some}
@@ -34,9 +31,12 @@ use Rattle.dr_log_bytes.specs.Grammar.{StandFor}
 use Rattle.dr_log_bytes.proofs.Meaning.{content_once}
 use Rattle.dr_logged.specs.Served.{IsRecordDue}
 use Rattle.dr_machine.specs.Group.{Group, IsGroup, banks, roster}
+use Rattle.dr_opening.specs.Accepted.{AreAccepted}
+use Rattle.dr_opening.specs.CatchingUp.{opened_with}
 use Rattle.dr_opening.specs.Contents.{IsCutFor, IsOpenFor, IsRisingStep, IsVoteStep, voted_for}
 use Rattle.dr_opening.specs.Lists.{all_as_lists, as_lists}
 use Rattle.dr_opening.specs.Tries.{IsChosenOf, content_at}
+use Rattle.dr_opening.proofs.Catching.{part_of_opened}
 use Rattle.dr_opening.proofs.Lists.{handed_is, voted_lists, within_places}
 use Rattle.dr_opening.proofs.Trying.{chosen_by}
 use Rattle.dr_opening.proofs.Ways.{open_entries}

@@ -10,8 +10,6 @@ use Rattle.dr_disk.specs.Disk.{Told, content_of, state_of}
 use Rattle.dr_disk.specs.Images.{AllImages}
 use Rattle.dr_entry.specs.declared.end.AgeEnd.{AgeEnd}
 use Rattle.dr_entry.specs.declared.entry.Entry.{Entry}
-use Rattle.dr_gather.specs.Gathering.{AreAccepted}
-use Rattle.dr_gather.proofs.Accepting.{none_accepted}
 use Rattle.dr_history.specs.Members.{has}
 use Rattle.dr_history_laws.proofs.Lists.{slice_get-some}
 use Rattle.dr_kept.proofs.Chosen.{some_there}
@@ -19,8 +17,10 @@ use Rattle.dr_kept.proofs.Following.{among_lists, lists_with}
 use Rattle.dr_log_bytes.specs.Content.{OnLog, empty_of, with_record}
 use Rattle.dr_log_bytes.specs.Grammar.{StandFor}
 use Rattle.dr_log_bytes.proofs.Meaning.{stands_or_damaged}
+use Rattle.dr_opening.specs.Accepted.{AreAccepted}
 use Rattle.dr_opening.specs.Lists.{all_as_lists, as_lists}
 use Rattle.dr_opening.specs.Tries.{content_at}
+use Rattle.dr_opening.proofs.Accepting.{none_accepted}
 use Rattle.dr_opening.proofs.Lists.{handed_is, within_places}
 use Rattle.dr_program.specs.Replica.{Replica}
 use Rattle.dr_quorum.specs.Handing.{handed_by}

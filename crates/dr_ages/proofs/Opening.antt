@@ -7,7 +7,6 @@ use Rattle.dr_age.specs.Logged.{AreOpened, IsOpened}
 use Rattle.dr_disk.specs.Disk.{Told}
 use Rattle.dr_disk.specs.Images.{Goes}
 use Rattle.dr_entry.specs.declared.entry.Entry.{Entry}
-use Rattle.dr_gather.specs.declared.catching_up.CatchFault.{CatchFault}
 use Rattle.dr_history.specs.History.{IsPrefixOf}
 use Rattle.dr_history.specs.Members.{has}
 use Rattle.dr_log.specs.Standing.{HasAllOf, LosesNone}
@@ -18,6 +17,7 @@ use Rattle.dr_logged.specs.Served.{HaveSamePlaces}
 use Rattle.dr_machine.specs.Group.{IsPresent}
 use Rattle.dr_opening.specs.declared.age.NotOpened.{NotOpened}
 use Rattle.dr_opening.specs.declared.age.NotOpened.TheVariants.{Unchosen, Unfinished}
+use Rattle.dr_opening.specs.declared.catching_up.CatchFault.{CatchFault}
 use Rattle.dr_opening.specs.declared.opening.OpenFault.{OpenFault}
 use Rattle.dr_opening.specs.Contents.{IsRising, IsRisingStep, IsVoteStep, IsVoting, StandSo, voted_for}
 use Rattle.dr_opening.specs.Lists.{contents_of, log_of}

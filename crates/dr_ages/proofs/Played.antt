@@ -16,8 +16,6 @@ use Rattle.dr_entry.specs.declared.end.MemberEnd.{MemberEnd}
 use Rattle.dr_entry.specs.declared.entry.Entry.{Entry}
 use Rattle.dr_entry.specs.declared.entry.Entry.TheVariants.{View}
 use Rattle.dr_entry.specs.declared.record.Record.{Record}
-use Rattle.dr_gather.specs.CatchingUp.{opened_with}
-use Rattle.dr_gather.proofs.Catching.{rose_since}
 use Rattle.dr_history.specs.declared.opening.Opening.{Opening}
 use Rattle.dr_history.specs.Agreement.{EndsAgreed}
 use Rattle.dr_history.specs.History.{IsPrefixOf}
@@ -35,10 +33,12 @@ use Rattle.dr_logged.proofs.Serving.{has_base}
 use Rattle.dr_logged.specs.Served.{AtMember, BrokeOff, HasCome, HaveSamePlaces, IsFull, IsRecordDue, IsSafe, WentSo}
 use Rattle.dr_machine.specs.Group.{AllPresent, Group, IsGroup, IsPresent}
 use Rattle.dr_machine.proofs.Presence.{in_roster}
+use Rattle.dr_opening.specs.CatchingUp.{opened_with}
 use Rattle.dr_opening.specs.Contents.{IsOpenFor, voted_for}
 use Rattle.dr_opening.specs.Lists.{SomebodyPrompt, all_as_lists, as_lists, contents_of, log_of}
 use Rattle.dr_opening.specs.Logs.{GotStart, GotVote, Together, WereOpened}
 use Rattle.dr_opening.specs.Tries.{IsChosenOf, content_at}
+use Rattle.dr_opening.proofs.Catching.{rose_since}
 use Rattle.dr_opening.proofs.Choosing.{chosen_group}
 use Rattle.dr_opening.proofs.Ways.{open_entries}
 use Rattle.dr_program.proofs.Present.{present_map, present_within}

@@ -10,7 +10,6 @@ use Rattle.dr_entry.specs.declared.entry.Entry.{Entry}
 use Rattle.dr_entry.specs.declared.entry.Entry.TheVariants.{View, Msg}
 use Rattle.dr_entry.specs.declared.record.Record.TheVariants as records
 use Rattle.dr_entry.specs.Spelling.{IsValidEntry, entry_spelling}
-use Rattle.dr_gather.specs.CatchingUp.{opened_with}
 use Rattle.dr_history.specs.declared.opening.Opening.{Opening}
 use Rattle.dr_history.specs.History.{GroupView, messages_of, view_of}
 use Rattle.dr_history.specs.Order.{first_entries}
@@ -21,6 +20,7 @@ use Rattle.dr_log.specs.Standing.{entries_length, in_newer_format}
 use Rattle.dr_log.proofs.Growing.{entries_length-append, short_block}
 use Rattle.dr_log_bytes.specs.Content.{OnLog, block_length}
 use Rattle.dr_machine.specs.Group.{Group, IsGroup}
+use Rattle.dr_opening.specs.CatchingUp.{opened_with}
 use Rattle.dr_opening.specs.Contents.{IsCutFor, IsOpenFor, IsRisingStep, IsVoteStep, voted_for}
 use Rattle.dr_opening.specs.Lists.{all_as_lists, as_lists}
 use Rattle.dr_opening.specs.Tries.{IsChosenOf, content_at}

@@ -3,8 +3,6 @@ use Rattle.std.proofs.Common.{◌≡◌, refl, sym, ap, ◌∙◌, subst, inl, i
 use Rattle.std.specs.Prelude.{◌⊎◌, Option, None, Some}
 use Rattle.dr_disk.specs.Disk.{Told}
 use Rattle.dr_disk.specs.Images.{IsLeft}
-use Rattle.dr_gather.specs.declared.catching_up.CatchFault.{CatchFault}
-use Rattle.dr_gather.specs.declared.catching_up.CatchFault.TheVariants as catches
 use Rattle.dr_io.specs.Faults.{Rose}
 use Rattle.dr_log.specs.State.{LogState}
 use Rattle.dr_log_bytes.specs.Content.{OnLog}
@@ -12,6 +10,8 @@ use Rattle.dr_log_bytes.specs.Grammar.{StandFor}
 use Rattle.dr_logged.specs.Served.{HaveSamePlaces, IsSafe}
 use Rattle.dr_opening.specs.declared.age.NotOpened.{NotOpened}
 use Rattle.dr_opening.specs.declared.age.NotOpened.TheVariants.{Unchosen, Unfinished}
+use Rattle.dr_opening.specs.declared.catching_up.CatchFault.TheVariants as catches
+use Rattle.dr_opening.specs.declared.catching_up.CatchFault.{CatchFault}
 use Rattle.dr_opening.specs.declared.opening.OpenFault.{OpenFault}
 use Rattle.dr_opening.specs.Contents.{IsOpenFor, IsRisingStep, IsVoteStep, voted_for}
 use Rattle.dr_opening.specs.Lists.{contents_of, log_of}

@@ -4,9 +4,8 @@ ghost use Rattle.dr_log.specs.declared.fault.MountWhy.TheVariants as whys;
 ghost use Rattle.dr_ages.specs.declared.stop.Stop.TheVariants as stops;
 ghost use Rattle.dr_ages.specs.Telling.{stop_at, stop_of, stop_of_choice};
 
-use dr_gather::CatchFault;
 use dr_log::MountWhy;
-use dr_opening::NotOpened;
+use dr_opening::{CatchFault, NotOpened};
 use dr_quorum::ChooseFault;
 
 /// Why the next age of a run was not opened. Members count from 0, and so do the entries and the bytes of a

@@ -5,9 +5,9 @@ use dr_entry::AgeEnd;
 use dr_fresh::logs_of;
 use dr_pace::Pace;
 use dr_restart::first_start;
-use dr_run::run_script_age;
 use dr_script::Script;
 use dr_sim::sim_age;
+use dr_threads::run_script_age;
 use std::alloc::{AllocError, Global};
 use std::thread::Threads;
 

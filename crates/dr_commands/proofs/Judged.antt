@@ -1,8 +1,6 @@
 -- What is printed of a script that was played is judged right.
 use Rattle.std.proofs.Common.{◌≡◌, ◌⊎◌, refl, sym, ◌∙◌, subst, inl, inr, ℕ, arith, List, Option, None, Some}
 use Rattle.std.proofs.lemmas.Option.{none-some, same_Some}
-use Rattle.dr_checked.proofs.Judged.{plays_right}
-use Rattle.dr_checked.proofs.Runs.{IsRunEnd, apart}
 use Rattle.dr_intake.specs.Answer.{WasReadFor, done, no_memory, no_source, usage}
 use Rattle.dr_intake.specs.Status.{status_of}
 use Rattle.dr_io.specs.Sink.{Gains}
@@ -15,6 +13,8 @@ use Rattle.dr_commands.specs.declared.words.Command.TheVariants.{Play}
 use Rattle.dr_commands.specs.Outcome.{Does, IsWritten, WasJudgedRight, WroteOrNot}
 use Rattle.dr_commands.specs.Words.{asked_by, reads}
 use Rattle.dr_commands.proofs.Course.{Call, IsCourse, Writes, unsaid}
+use Rattle.dr_commands.proofs.PlayedRight.{plays_right}
+use Rattle.dr_commands.proofs.RunsRight.{IsRunEnd, apart}
 
 -- the status is not one that comes before all others
 not_early : (status : ℕ) → IsRunEnd status → (status ≡ 10) ⊎ (status ≡ 5) → ⊥

@@ -1,2 +1,13 @@
 pub mod Words
 pub mod Outcome
+pub mod Rounds
+pub mod LiveLines
+pub mod Live
+pub mod DrillLines
+pub mod Drill
+pub mod StoreLines
+pub mod Store
+pub mod Sharding
+pub mod ShardsLines
+pub mod Shards
+pub mod Check

@@ -5,16 +5,16 @@ use Rattle.std.specs.Option.{option_and_then}
 use Rattle.std.specs.declared.alloc.Global.{Global}
 use Rattle.dr_ages.specs.declared.mode.Mode.{Mode}
 use Rattle.dr_ages.specs.declared.mode.Mode.TheVariants.{Sim, Run}
-use Rattle.dr_checked.specs.Checked.{check_ends}
-use Rattle.dr_drilled.specs.Drilled.{drill_ends}
 use Rattle.dr_literals.specs.Literals.{key_word, number_word}
 use Rattle.dr_literals.specs.Options.{option_members, option_of}
-use Rattle.dr_lived.specs.Lived.{live_ends}
-use Rattle.dr_lived.specs.Words.{rounds_of}
 use Rattle.dr_outcome.specs.Playing.{InFolder, play_ends}
-use Rattle.dr_sharded.specs.Sharded.{shards_ends}
-use Rattle.dr_sharded.specs.Words.{sharding_of}
-use Rattle.dr_stored.specs.Stored.{store_ends}
+use Rattle.dr_commands.specs.Check.{check_ends}
+use Rattle.dr_commands.specs.Drill.{drill_ends}
+use Rattle.dr_commands.specs.Live.{live_ends}
+use Rattle.dr_commands.specs.Rounds.{rounds_of}
+use Rattle.dr_commands.specs.Sharding.{sharding_of}
+use Rattle.dr_commands.specs.Shards.{shards_ends}
+use Rattle.dr_commands.specs.Store.{store_ends}
 use Rattle.dr_commands.specs.declared.words.Command.{Command}
 use Rattle.dr_commands.specs.declared.words.Command.TheVariants.{Check, Drill, Live, Play, Shards, Store}
 use Rattle.dr_commands.specs.declared.words.Verb.{Verb}

@@ -2,12 +2,12 @@ ghost use Rattle.std.specs.Prelude.{◌≡◌, bytes_eq, map, option_map, string
 ghost use Rattle.std.specs.List.{find};
 ghost use Rattle.dr_commands.specs.Words.{asked_at, asked_behind, command_of, drill_of, folder_of, live_of, play_in, play_of, play_over, played, shards_of, store_of, verb_by, verbs, with_no_more};
 
+use crate::live::{Rounds, rounds_of};
+use crate::shards::{Sharding, sharding_of};
 use dr_ages::Mode;
 use dr_entry::Message;
 use dr_literals::{key_word, number_word, option_members, option_of};
-use dr_lived::{Rounds, rounds_of};
 use dr_outcome::{Folder, Play};
-use dr_sharded::{Sharding, sharding_of};
 use dr_words::Mask;
 
 /// What a version has to be below.

@@ -11,3 +11,4 @@ pub mod Scripts
 mod Takes
 mod Turns
 mod Whole
+pub mod Enough

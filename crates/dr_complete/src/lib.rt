@@ -7,8 +7,10 @@
 #![tactic(auto)]
 
 mod laws;
+mod time;
 
 pub use laws::{
     all_show_done_where_one_has_ended, complete_ages_leave_nothing, lockstep_completes,
     nothing_ready_is_overlooked, rings_keep_their_items, scripts_complete,
 };
+pub use time::{enough_is_time, most_messages, turns_enough};

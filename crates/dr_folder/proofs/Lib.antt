@@ -3,3 +3,4 @@ mod Fronts
 mod Refusing
 mod Saying
 mod Taking
+mod Reading

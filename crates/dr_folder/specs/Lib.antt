@@ -3,3 +3,4 @@ pub mod Surveys
 pub mod Advice
 pub mod Checked
 pub mod Told
+pub mod Held

@@ -12,7 +12,7 @@ use Rattle.dr_entry.specs.declared.entry.Entry.{Entry}
 use Rattle.dr_entry.specs.declared.entry.Entry.TheVariants.{View, Msg}
 use Rattle.dr_entry.specs.declared.limits.TheConstants.{MAX_MESSAGES}
 use Rattle.dr_entry.specs.Messages.{IsMessage}
-use Rattle.dr_gather.specs.Gathering.{judged_by}
+use Rattle.dr_opening.specs.Accepted.{judged_by}
 use Rattle.dr_history.specs.declared.opening.Opening.{Opening}
 use Rattle.dr_history.specs.History.{IsPrefixOf, messages_of}
 use Rattle.dr_history.specs.Order.{numbered_messages}

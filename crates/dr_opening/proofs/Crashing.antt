@@ -13,11 +13,11 @@ use Rattle.dr_log_bytes.proofs.Meaning.{content_once}
 use Rattle.dr_restart.specs.declared.lists.LogLists.{LogLists}
 use Rattle.dr_restart.specs.declared.start.Start.{Start}
 use Rattle.dr_restart.specs.Trying.{age_vote_of}
-use Rattle.dr_gather.specs.declared.catching_up.CatchFault.{CatchFault}
 use Rattle.dr_opening.specs.Contents.{IsRising, IsVoting, StandSo, voted_for}
 use Rattle.dr_opening.specs.Lists.{as_lists, contents_of, log_of}
 use Rattle.dr_opening.specs.Logs.{ComeBelow, GotStart, GotVote, IsReadyToRise, LacksStart, LacksVote, StopAt, Together, WereOpened}
 use Rattle.dr_opening.specs.Tries.{AreLeftOn, AreSafe, CameSo, IsLeftOn}
+use Rattle.dr_opening.specs.declared.catching_up.CatchFault.{CatchFault}
 use Rattle.dr_opening.proofs.Lists.{content_is, voted_newer, within_places}
 use Rattle.dr_opening.proofs.Placing.{came_from, came_to, none_to}
 

@@ -11,3 +11,5 @@ pub mod Choosing
 mod Placing
 mod Voting
 mod Rising
+pub mod Accepting
+pub mod Catching

@@ -8,8 +8,8 @@ use Rattle.dr_log.specs.State.{LogState}
 use Rattle.dr_restart.specs.declared.lists.LogLists.{LogLists}
 use Rattle.dr_restart.specs.declared.start.Start.{Start}
 use Rattle.dr_restart.specs.Trying.{IsTry}
-use Rattle.dr_gather.specs.declared.catching_up.CatchFault.{CatchFault}
-use Rattle.dr_gather.specs.CatchingUp.{opened_with}
+use Rattle.dr_opening.specs.CatchingUp.{opened_with}
+use Rattle.dr_opening.specs.declared.catching_up.CatchFault.{CatchFault}
 use Rattle.dr_opening.specs.declared.opening.OpenFault.{OpenFault}
 use Rattle.dr_opening.specs.Contents.{IsRising, IsVoting, voted_for}
 use Rattle.dr_opening.specs.Lists.{contents_of, log_of}

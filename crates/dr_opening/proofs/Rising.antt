@@ -14,12 +14,12 @@ use Rattle.dr_log.specs.State.{LogState}
 use Rattle.dr_log_bytes.specs.Content.{OnLog, with_record}
 use Rattle.dr_log_bytes.specs.Grammar.{StandFor}
 use Rattle.dr_restart.specs.declared.start.Start.{Start}
-use Rattle.dr_gather.specs.declared.catching_up.CatchFault.{CatchFault}
-use Rattle.dr_gather.specs.declared.catching_up.CatchFault.TheVariants.{DiskFault, LogFull, OutOfMemory}
-use Rattle.dr_gather.specs.CatchingUp.{FitsOrIsFull, HasCaughtUp, HasStayed, IsLeftAlone, lacked, opened_with}
+use Rattle.dr_opening.specs.CatchingUp.{FitsOrIsFull, HasCaughtUp, HasStayed, IsLeftAlone, lacked, opened_with}
 use Rattle.dr_opening.specs.CuttingBack.{IsCutDue, WasCutBack}
 use Rattle.dr_opening.specs.Contents.{IsCutFor, IsRising, IsRisingStep, StandSo, raised_to}
 use Rattle.dr_opening.specs.Logs.{Explains, GotStart, IsReadyToRise, LacksStart}
+use Rattle.dr_opening.specs.declared.catching_up.CatchFault.TheVariants.{DiskFault, LogFull, OutOfMemory}
+use Rattle.dr_opening.specs.declared.catching_up.CatchFault.{CatchFault}
 use Rattle.dr_opening.proofs.Steps.{IsFrom, goes_both, goes_so, stuck_by}
 
 -- a log that is ready is one from which an append is made

@@ -13,10 +13,10 @@ use Rattle.dr_log.specs.State.{LogState, broken_off}
 use Rattle.dr_log.specs.Voting.{WasAppended}
 use Rattle.dr_log_bytes.specs.Content.{OnLog, with_record}
 use Rattle.dr_log_bytes.specs.Grammar.{StandFor}
-use Rattle.dr_gather.specs.declared.catching_up.CatchFault.{CatchFault}
-use Rattle.dr_gather.specs.declared.catching_up.CatchFault.TheVariants.{DiskFault, LogFull}
 use Rattle.dr_opening.specs.Contents.{StandSo}
 use Rattle.dr_opening.specs.Logs.{Explains, HasStuck, IsWell}
+use Rattle.dr_opening.specs.declared.catching_up.CatchFault.TheVariants.{DiskFault, LogFull}
+use Rattle.dr_opening.specs.declared.catching_up.CatchFault.{CatchFault}
 
 -- two spans of time are one
 pub goes_both : (before mid after : Option Told) (P : List ℕ → Type 0) → Goes before mid (λ s. P)

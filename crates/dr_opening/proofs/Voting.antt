@@ -17,11 +17,11 @@ use Rattle.dr_log_bytes.specs.Grammar.{StandFor}
 use Rattle.dr_logged.specs.Served.{IsSafe}
 use Rattle.dr_restart.specs.declared.start.Start.{Start}
 use Rattle.dr_restart.specs.Trying.{age_vote_of}
-use Rattle.dr_gather.specs.declared.catching_up.CatchFault.{CatchFault}
-use Rattle.dr_gather.specs.declared.catching_up.CatchFault.TheVariants.{DiskFault, LogFull, OutOfMemory}
-use Rattle.dr_gather.proofs.Catching.{GotRoom}
 use Rattle.dr_opening.specs.Contents.{IsVoteStep, IsVoting, StandSo, voted_for}
 use Rattle.dr_opening.specs.Logs.{GotVote, LacksVote}
+use Rattle.dr_opening.specs.declared.catching_up.CatchFault.TheVariants.{DiskFault, LogFull, OutOfMemory}
+use Rattle.dr_opening.specs.declared.catching_up.CatchFault.{CatchFault}
+use Rattle.dr_opening.proofs.Catching.{GotRoom}
 use Rattle.dr_opening.proofs.Steps.{IsFrom, goes_so, stuck_by}
 
 -- what a vote may leave is of the first phase

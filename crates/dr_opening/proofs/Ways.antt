@@ -8,10 +8,10 @@ use Rattle.dr_log_bytes.specs.Content.{OnLog}
 use Rattle.dr_restart.specs.declared.lists.LogLists.{LogLists}
 use Rattle.dr_restart.specs.declared.start.Start.{Start}
 use Rattle.dr_restart.specs.Trying.{BeginsWithCommon, MayBeBroughtUp, MayHaveAgeVote, age_vote_of, first_view_of}
-use Rattle.dr_gather.specs.CatchingUp.{opened_with}
-use Rattle.dr_gather.proofs.Catching.{part_of_opened}
+use Rattle.dr_opening.specs.CatchingUp.{opened_with}
 use Rattle.dr_opening.specs.Contents.{IsCutFor, IsOpenFor, IsRising, IsVoting, voted_for}
 use Rattle.dr_opening.specs.Lists.{as_lists}
+use Rattle.dr_opening.proofs.Catching.{part_of_opened}
 use Rattle.dr_opening.proofs.Lists.{newer_lists, voted_lists, with_vote_more}
 
 -- the votes stay, and no age vote goes

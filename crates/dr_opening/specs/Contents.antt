@@ -8,7 +8,7 @@ use Rattle.dr_log_bytes.specs.Content.{OnLog, with_record}
 use Rattle.dr_log_bytes.specs.Grammar.{StandFor}
 use Rattle.dr_restart.specs.declared.start.Start.{Start}
 use Rattle.dr_restart.specs.Trying.{age_vote_of}
-use Rattle.dr_gather.specs.CatchingUp.{opened_with}
+use Rattle.dr_opening.specs.CatchingUp.{opened_with}
 use Rattle.dr_opening.specs.CuttingBack.{IsCutDue}
 
 -- with the age vote of a start, and an upgrade before it where the log was of the older format

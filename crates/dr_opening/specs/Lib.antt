@@ -4,3 +4,5 @@ pub mod Contents
 pub mod Logs
 pub mod Tries
 pub mod Unopened
+pub mod Accepted
+pub mod CatchingUp

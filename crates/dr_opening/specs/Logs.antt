@@ -8,8 +8,8 @@ use Rattle.dr_log_bytes.specs.Content.{OnLog}
 use Rattle.dr_log_bytes.specs.Grammar.{StandFor}
 use Rattle.dr_logged.specs.Served.{IsSafe}
 use Rattle.dr_restart.specs.declared.start.Start.{Start}
-use Rattle.dr_gather.specs.declared.catching_up.CatchFault.{CatchFault}
-use Rattle.dr_gather.specs.declared.catching_up.CatchFault.TheVariants.{OutOfMemory, DiskFault, LogFull}
+use Rattle.dr_opening.specs.declared.catching_up.CatchFault.TheVariants.{OutOfMemory, DiskFault, LogFull}
+use Rattle.dr_opening.specs.declared.catching_up.CatchFault.{CatchFault}
 use Rattle.dr_opening.specs.declared.opening.OpenFault.{OpenFault}
 use Rattle.dr_opening.specs.Contents.{IsOpenFor, IsRising, IsRisingStep, IsVoteStep, IsVoting, StandSo, voted_for}
 use Rattle.dr_opening.specs.Lists.{log_of}

@@ -6,12 +6,14 @@
 #![tactic(auto)]
 
 mod age;
+mod catching_up;
 mod cutting_back;
 mod laws;
 mod listing;
 mod opening;
 
 pub use age::{NotOpened, open_age};
+pub use catching_up::{CatchFault, catch_up};
 pub use cutting_back::cut_back;
 pub use laws::{
     openings_are_tries, openings_hold, openings_lose_nothing_common, whole_openings_cut_nothing,

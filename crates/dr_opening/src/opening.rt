@@ -3,19 +3,19 @@ ghost use Rattle.std.specs.Prelude.{◌≡◌, ◌<◌, ◌≤◌, ◌^◌, ℕ,
 ghost use Rattle.dr_entry.specs.Spelling.{IsValidEntry};
 ghost use Rattle.dr_entry.specs.declared.limits.TheConstants.{MAX_MEMBERS};
 ghost use Rattle.dr_history.specs.declared.opening.Opening.{Opening};
-ghost use Rattle.dr_gather.specs.CatchingUp.{opened_with};
-ghost use Rattle.dr_gather.specs.declared.catching_up.CatchFault.TheVariants as whys;
 ghost use Rattle.dr_log.specs.declared.fault.LogFault.TheVariants as logs;
 ghost use Rattle.dr_log.specs.State.{LogState};
 ghost use Rattle.dr_restart.specs.declared.lists.LogLists.{LogLists as LogListsOf};
 ghost use Rattle.dr_restart.specs.Trying.{IsTry};
+ghost use Rattle.dr_opening.specs.CatchingUp.{opened_with};
 ghost use Rattle.dr_opening.specs.Lists.{contents_of, log_of};
 ghost use Rattle.dr_opening.specs.Logs.{BothThere, ComeBelow, GotStart, GotVote, IsReadyToRise, LacksStart, LacksVote, StopAt, Together, WereNotOpened, WereOpened};
 ghost use Rattle.dr_opening.specs.Tries.{AreAmong, AreLeftOn, AreSafe, IsChosenOf, try_of};
+ghost use Rattle.dr_opening.specs.declared.catching_up.CatchFault.TheVariants as whys;
 
+use crate::catching_up::{CatchFault, catch_up};
 use crate::cutting_back::cut_back;
 use dr_disk::Disk;
-use dr_gather::{CatchFault, catch_up};
 use dr_log::{Log, LogFault};
 use dr_restart::Start;
 use dr_words::Mask;

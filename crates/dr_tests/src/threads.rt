@@ -10,12 +10,11 @@
 mod moments;
 
 use anyhow::anyhow;
+use dr_commands::{rounds_of, run_lived, run_sharded, sharding_of};
 use dr_intake::words_of;
 use dr_io::OutputSink;
-use dr_lived::{rounds_of, run_lived};
 use dr_outcome::{Body, Outcome};
 use dr_pace::{MeetPace, SnoozePace};
-use dr_sharded::{run_sharded, sharding_of};
 use dr_text::Report;
 use std::alloc::Global;
 use std::thread::Threads;

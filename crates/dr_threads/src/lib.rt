@@ -8,5 +8,7 @@
 
 mod age;
 mod member;
+mod script_age;
 
 pub use age::run_age;
+pub use script_age::run_script_age;

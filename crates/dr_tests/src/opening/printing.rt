@@ -1,6 +1,5 @@
 //! Prints what has come of an opening.
-use dr_gather::CatchFault;
-use dr_opening::{NotOpened, OpenFault};
+use dr_opening::{CatchFault, NotOpened, OpenFault};
 use dr_quorum::ChooseFault;
 use dr_restart::Start;
 use std::alloc::{AllocError, Global};

@@ -1,6 +1,6 @@
 use Rattle.std.proofs.Common.{◌≡◌, ◌∙◌, ◌++◌, [], ap, rules, string_bytes}
 use Rattle.derecho_explain.specs.Answer.{taken_line, turns_line}
-use Rattle.dr_enough.specs.Enough.{most_messages}
+use Rattle.dr_complete.specs.Enough.{most_messages}
 use Rattle.derecho_explain.proofs.Lines.{three_told}
 use Rattle.derecho_explain.proofs.top.turns_of.Goals as goal
 

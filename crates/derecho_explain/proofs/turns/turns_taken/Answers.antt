@@ -1,4 +1,4 @@
-use Rattle.dr_enough.specs.Enough.{turns_enough}
+use Rattle.dr_complete.specs.Enough.{turns_enough}
 use Rattle.derecho_explain.specs.Turns.{calm_group}
 use Rattle.derecho_explain.proofs.Calm.{taken_by}
 use Rattle.derecho_explain.proofs.turns.turns_taken.Goals as goal

@@ -1,5 +1,5 @@
-use Rattle.dr_gather.specs.declared.catching_up.CatchFault.{CatchFault}
 use Rattle.dr_opening.specs.Logs.{LacksStart}
+use Rattle.dr_opening.specs.declared.catching_up.CatchFault.{CatchFault}
 use Rattle.dr_opening.proofs.Placing.{both_by}
 use Rattle.dr_opening.proofs.opening.raise_at.Goals as goal
 

@@ -1,7 +1,7 @@
 use Rattle.std.proofs.Common.{◌≡◌, rules, arith, max}
 use Rattle.std.specs.Prelude.{Err}
-use Rattle.dr_gather.specs.declared.catching_up.CatchFault.TheVariants.{OutOfMemory}
-use Rattle.dr_gather.proofs.Catching.{GotRoom}
+use Rattle.dr_opening.specs.declared.catching_up.CatchFault.TheVariants.{OutOfMemory}
+use Rattle.dr_opening.proofs.Catching.{GotRoom}
 use Rattle.dr_opening.proofs.Voting.{no_room_for, unvoted_by, voted_by}
 use Rattle.dr_opening.proofs.opening.vote_on.Given.{Over}
 use Rattle.dr_opening.proofs.opening.vote_on.Goals as goal

@@ -1,0 +1,81 @@
+-- With which statuses a check ends.
+use Rattle.std.proofs.Common.{◌≡◌, ◌⊎◌, inl, inr, refl, sym, subst, arith, ℕ, ◌≤◌, ◌<◌, List, Contains, length, Some, None, Option}
+use Rattle.std.specs.Prelude.{IfSome}
+use Rattle.std.proofs.lemmas.Bool.{cases_lt}
+use Rattle.std.proofs.lemmas.Option.{same_Some}
+use Rattle.serde_json.specs.Data.{Data}
+use Rattle.dr_intake.specs.Status.{status_of}
+use Rattle.dr_script.specs.declared.script.Script.{Script}
+use Rattle.dr_script.specs.Json.{json_of}
+use Rattle.dr_script.specs.Reading.{NotJson, Reading, Reads, TooLong, Wrong, reading_of}
+use Rattle.dr_text.specs.declared.last.Last.{Last}
+use Rattle.dr_text.specs.declared.last.Last.TheVariants as lasts
+use Rattle.dr_commands.specs.Check.{IsChecked, IsVerdict, SaysOfScript, SaysOfStrings, SaysOfValue, check_ends, handed_in}
+
+-- one of the statuses 0, 3 and 13
+abbrev pub IsEnd : ℕ → Type 0
+IsEnd n = (n ≡ 0) ⊎ ((n ≡ 3) ⊎ (n ≡ 13))
+
+verdict_ends : (script : Script) (text : List ℕ) (last : Last) → IsVerdict script text last
+    → IsEnd (status_of last)
+verdict_ends script text (lasts.NoReport line) is = inr (inl refl)
+verdict_ends script text lasts.Right is = inl refl
+verdict_ends script text (lasts.Wrong clause line) is = inr (inr refl)
+verdict_ends script text lasts.Done is = absurd is
+verdict_ends script text lasts.Usage is = absurd is
+verdict_ends script text lasts.TooLong is = absurd is
+verdict_ends script text lasts.NotJson is = absurd is
+verdict_ends script text (lasts.Rule rule path) is = absurd is
+verdict_ends script text lasts.SourceFault is = absurd is
+verdict_ends script text (lasts.DiskFault member) is = absurd is
+verdict_ends script text (lasts.Damaged member at) is = absurd is
+verdict_ends script text (lasts.Foreign member place) is = absurd is
+verdict_ends script text (lasts.Disagree a b place) is = absurd is
+verdict_ends script text (lasts.NoQuorum view have need) is = absurd is
+verdict_ends script text lasts.AgesUsedUp is = absurd is
+verdict_ends script text lasts.Unfinished is = absurd is
+verdict_ends script text lasts.NoMajority is = absurd is
+verdict_ends script text (lasts.LogFull member) is = absurd is
+verdict_ends script text (lasts.NoShard shards members) is = absurd is
+verdict_ends script text (lasts.ManyAges ages) is = absurd is
+verdict_ends script text (lasts.Crosses fault) is = absurd is
+verdict_ends script text lasts.NotCheck is = absurd is
+
+-- a last line that is this one ends as it does
+same_end : (known last : Last) → last ≡ known → IsEnd (status_of known) → IsEnd (status_of last)
+same_end known last is ends = subst (λ (l : Last). IsEnd (status_of l)) (sym is) ends
+
+refused_ends : (known last : Last) → Some known ≡ Some last → IsEnd (status_of known) → IsEnd (status_of last)
+refused_ends known last is ends = same_end known last (sym (same_Some known last is)) ends
+
+script_ends : (r : Reading) (text : List ℕ) (last : Last) → SaysOfScript r text last → IsEnd (status_of last)
+script_ends (Reads script) text last is = verdict_ends script text last is
+script_ends TooLong text last is = refused_ends lasts.TooLong last is (inr (inl refl))
+script_ends NotJson text last is = refused_ends lasts.NotJson last is (inr (inl refl))
+script_ends (Wrong rule path) text last is = refused_ends (lasts.Rule rule path) last is (inr (inl refl))
+
+strings_end : (o : Option (List ℕ × List ℕ)) (last : Last) → SaysOfStrings o last → IsEnd (status_of last)
+strings_end None last is = same_end lasts.NotCheck last is (inr (inl refl))
+strings_end (Some texts) last is = script_ends (reading_of texts.0) texts.1 last is
+
+value_ends : (o : Option Data) (last : Last) → SaysOfValue o last → IsEnd (status_of last)
+value_ends None last is = same_end lasts.NotJson last is (inr (inl refl))
+value_ends (Some d) last is = strings_end (handed_in d) last is
+
+pub checked_ends : (bytes : List ℕ) (last : Last) → IsChecked bytes last → IsEnd (status_of last)
+checked_ends bytes last is = by (cases_lt 1048576 (length bytes))
+  where
+    by : (1048576 < length bytes) ⊎ (length bytes ≤ 1048576) → IsEnd (status_of last)
+    by (inl more) = same_end lasts.TooLong last (is.long more) (inr (inl refl))
+    by (inr most) = value_ends (json_of bytes) last (is.read most)
+
+pub is_known : (n : ℕ) → IsEnd n → Contains check_ends n
+is_known n (inl is) = (0, omega arith, sym is)
+is_known n (inr (inl is)) = (1, omega arith, sym is)
+is_known n (inr (inr is)) = (2, omega arith, sym is)
+
+-- a last line on what was read for a check has one of these statuses
+pub ends_well : (bytes : List ℕ) (r : Option Last) → IfSome r (IsChecked bytes)
+    → IfSome r (λ last. Contains check_ends (status_of last))
+ends_well bytes None is = tt
+ends_well bytes (Some last) is = is_known (status_of last) (checked_ends bytes last is)

@@ -1,0 +1,345 @@
+-- The report of a run whose last line has status 0, 8 or 9 is right.
+use Rattle.std.proofs.Common.{◌≡◌, ◌≢◌, ◌⊎◌, ◌↔◌, refl, sym, ap, ◌∙◌, subst, inl, inr, ℕ, zero, suc, ◌+◌, ◌-◌, ◌^◌, ◌<◌, ◌≤◌, ◌&&◌, nat_lt, Bool, not, true, false, true≢false, pow_mono, arith, List, [], ◌∷◌, All, Contains, Option, None, Some, is_some, length, slice_get}
+use Rattle.std.specs.Option.{option_map_or}
+use Rattle.std.specs.List.{list_any}
+use Rattle.std.proofs.lemmas.Bool.{cases_Bool, or_parts}
+use Rattle.std.proofs.lemmas.Bool.Decides.{nat_tests}
+use Rattle.std.proofs.lemmas.List.Elements.{All-cons, All-nil}
+use Rattle.std.proofs.lemmas.List.Folds.{list_any_at}
+use Rattle.std.proofs.lemmas.Option.{get_or_from_slice_get, same_Some, slice_get_cases, slice_get_within}
+use Rattle.dr_ages.specs.Ages.{AreAges, IsAgeOf, opening_of, start_of, taking_part}
+use Rattle.dr_ages.specs.Runs.{AreKept, IsRunOf}
+use Rattle.dr_ages.specs.declared.mode.Mode.{Mode}
+use Rattle.dr_ages.specs.declared.part.Part.{Part}
+use Rattle.dr_ages.specs.declared.stop.Stop.{Stop}
+use Rattle.dr_check.proofs.Agreed.{end_there, is_here, order}
+use Rattle.dr_check.proofs.Flawless.{printed_right}
+use Rattle.dr_check.proofs.Places.{all_at, all_from_places}
+use Rattle.dr_check.specs.Lines.{EndFits, LastFits}
+use Rattle.dr_check.specs.Values.{HasSmallNumbers, IsAgreed, KeepEachOther, TellsNothing, told_opening, took_part}
+use Rattle.dr_entry.specs.declared.end.AgeEnd.{AgeEnd}
+use Rattle.dr_entry.specs.declared.end.End.{End}
+use Rattle.dr_entry.specs.declared.end.End.TheVariants as ends
+use Rattle.dr_entry.specs.declared.end.MemberEnd.{MemberEnd}
+use Rattle.dr_history.specs.declared.opening.Opening.{Opening}
+use Rattle.dr_history.specs.Agreement.{EndsAgreed, accounts_of, sent_by}
+use Rattle.dr_history.specs.History.{GroupView}
+use Rattle.dr_history.specs.Members.{has, members_of}
+use Rattle.dr_history.specs.Restarting.{Kept}
+use Rattle.dr_history.specs.Soundness.{IsPresentIn, Sound}
+use Rattle.dr_intake.specs.Status.{status_of}
+use Rattle.dr_machine.specs.Group.{IsGroup}
+use Rattle.dr_opening.proofs.Choosing.{chosen_group}
+use Rattle.dr_outcome.proofs.Due.{line_behind}
+use Rattle.dr_outcome.proofs.Lasts.{refusal_status, told_so}
+use Rattle.dr_outcome.specs.declared.last.Kind.TheVariants.{DiskFault, LogFull, NoMajority, Spent}
+use Rattle.dr_outcome.specs.Last.{first_end, first_told, is_of, last_by, last_of, refusal_of, some_end, stopped_by}
+use Rattle.dr_program.specs.Program.{absent_end}
+use Rattle.dr_program_laws.specs.Ended.{HasEnded, HasReason, IsLeftOut, is_log_end}
+use Rattle.dr_restart.specs.Groups.{group_of}
+use Rattle.dr_restart.specs.Setups.{crashes_of}
+use Rattle.dr_script.specs.declared.script.Script.{Script}
+use Rattle.dr_script.specs.Ranges.{HasRanges}
+use Rattle.dr_text.specs.declared.last.Last.{Last}
+use Rattle.dr_text.specs.declared.last.Last.TheVariants as lasts
+use Rattle.dr_text.specs.Report.{is_absent, report_text}
+use Rattle.dr_words.proofs.Bits.{has_ones, has_zero}
+use Rattle.dr_words.proofs.Masks.{has_mask_of, in_roster_small, same_masks}
+use Rattle.dr_words.specs.Masks.{mask_of, without}
+use Rattle.dr_yard.specs.Yards.{AllTell, YardState}
+use Rattle.dr_commands.specs.Check.{IsVerdict}
+use Rattle.dr_commands.proofs.Succession.{low_number}
+
+-- ---- the last line
+
+-- one of the statuses 0, 8 and 9
+abbrev pub IsRunEnd : ℕ → Type 0
+IsRunEnd n = (n ≡ 0) ⊎ ((n ≡ 8) ⊎ (n ≡ 9))
+
+pub run_end : (n : ℕ) → Contains (0 ∷ 8 ∷ 9 ∷ []) n → IsRunEnd n
+run_end n (zero, below, is) = inl (sym is)
+run_end n (suc zero, below, is) = inr (inl (sym is))
+run_end n (suc (suc zero), below, is) = inr (inr (sym is))
+run_end n (suc (suc (suc i)), below, is) = absurd (omega (arith, below))
+
+pub apart : (known n : ℕ) → known ≢ 0 → known ≢ 8 → known ≢ 9 → n ≡ known → IsRunEnd n → ⊥
+apart known n zeroth eighth ninth same (inl is) = zeroth (sym same ∙ is)
+apart known n zeroth eighth ninth same (inr (inl is)) = eighth (sym same ∙ is)
+apart known n zeroth eighth ninth same (inr (inr is)) = ninth (sym same ∙ is)
+
+-- a last line with one of them tells of no full log, and is one of a report
+fits_by : (disk : Option ℕ) (logs : Option Last) (full turns split : Option ℕ) (line : Last)
+    → ((l : Last) → logs ≡ Some l → status_of l ≡ 7) → last_by disk logs full turns split ≡ line
+    → IsRunEnd (status_of line) → (is_some full ≡ false) × LastFits line
+fits_by (Some m) logs full turns split line seven said end =
+    absurd (apart 6 (status_of line) (λ e. omega (arith, e)) (λ e. omega (arith, e)) (λ e. omega (arith, e))
+    (ap status_of (sym said)) end)
+fits_by None (Some l) full turns split line seven said end =
+    absurd (apart 7 (status_of line) (λ e. omega (arith, e)) (λ e. omega (arith, e)) (λ e. omega (arith, e))
+    (ap status_of (sym said) ∙ seven l refl) end)
+fits_by None None (Some m) turns split line seven said end =
+    absurd (apart 11 (status_of line) (λ e. omega (arith, e)) (λ e. omega (arith, e)) (λ e. omega (arith, e))
+    (ap status_of (sym said)) end)
+fits_by None None None (Some m) split line seven said end = (refl, subst LastFits said tt)
+fits_by None None None None (Some m) line seven said end = (refl, subst LastFits said tt)
+fits_by None None None None None line seven said end = (refl, subst LastFits said tt)
+
+last_fits : (ages : List AgeEnd) (stop : Option Stop) (line : Last) → last_of ages stop ≡ Some line
+    → IsRunEnd (status_of line) → (some_end LogFull ages ≡ false) × LastFits line
+last_fits ages stop line is end =
+    let by = fits_by (first_told DiskFault ages stop) (refusal_of stop) (first_told LogFull ages stop)
+    (first_end Spent ages) (first_end NoMajority ages) line (refusal_status stop) (line_behind ages stop line is).1
+    end in (
+      (or_parts (some_end LogFull ages) (is_some (stopped_by LogFull stop))
+          (sym (told_so LogFull ages stop) ∙ by.0)).0,
+      by.1,
+    )
+
+-- ---- the ends of members
+
+-- where no member of any age ended by a full log none did
+none_full : (ages : List AgeEnd) (i : ℕ) (age : AgeEnd) (m : ℕ) (e : MemberEnd) → some_end LogFull ages ≡ false
+    → slice_get ages i ≡ Some age → slice_get age.members m ≡ Some e → is_of LogFull e.end ≡ false
+none_full ages i age m e none at there = elim (cases_Bool (is_of LogFull e.end)) [
+  | inl full ↦
+      let here : list_any (λ (x : MemberEnd). is_of LogFull x.end) age.members ≡ true =
+      list_any_at (λ (x : MemberEnd). is_of LogFull x.end) age.members m e
+      (slice_get_within age.members m e there)
+      (ap (λ (x : MemberEnd). is_of LogFull x.end) (get_or_from_slice_get age.members m e e there) ∙ full) in
+      absurd (true≢false (sym (list_any_at
+      (λ (x : AgeEnd). list_any (λ (y : MemberEnd). is_of LogFull y.end) x.members) ages i age
+      (slice_get_within ages i age at)
+      (ap (λ (x : AgeEnd). list_any (λ (y : MemberEnd). is_of LogFull y.end) x.members)
+      (get_or_from_slice_get ages i age age at) ∙ here)) ∙ none))
+  | inr other ↦ other
+]
+
+-- the end of a member that was left out
+left_fits : (o : Opening) (all : List MemberEnd) (number members m : ℕ) (end : End) → length o.messages ≤ 16
+    → number ≤ 32 → ((n : ℕ) → has members n ≡ true → n < length o.messages)
+    → IsLeftOut o all number members m end → EndFits end
+left_fits o all number members m (ends.Suspected by) few low roster out =
+    omega (arith, roster by out.0, few)
+left_fits o all number members m (ends.NoMajority mask) few low roster out =
+    let small = in_roster_small (length o.messages) mask (λ n h. roster n (out.1 n h)) in
+    let most : 2 ^ length o.messages ≤ 2 ^ 16 = pow_mono few in (
+      omega (arith, small, most),
+      λ none. true≢false (sym out.0 ∙ (ap (λ (x : ℕ). has x m) none ∙ has_zero m)),
+    )
+left_fits o all number members m (ends.Excluded view) few low roster out = omega (arith, out.0, low)
+left_fits o all number members m ends.Done few low roster out = absurd out
+left_fits o all number members m ends.Crashed few low roster out = absurd out
+left_fits o all number members m ends.DiskFault few low roster out = absurd out
+left_fits o all number members m (ends.LogFull len) few low roster out = absurd out
+left_fits o all number members m (ends.Spent turns) few low roster out = absurd out
+left_fits o all number members m ends.Absent few low roster out = absurd out
+
+-- one by a log that was not full
+log_fits : (end : End) → is_log_end end ≡ true → is_of LogFull end ≡ false → EndFits end
+log_fits ends.DiskFault by_log other = tt
+log_fits (ends.LogFull len) by_log other = absurd (true≢false other)
+log_fits ends.Done by_log other = absurd (true≢false (sym by_log))
+log_fits ends.Crashed by_log other = absurd (true≢false (sym by_log))
+log_fits (ends.Suspected by) by_log other = absurd (true≢false (sym by_log))
+log_fits (ends.Excluded view) by_log other = absurd (true≢false (sym by_log))
+log_fits (ends.NoMajority mask) by_log other = absurd (true≢false (sym by_log))
+log_fits (ends.Spent turns) by_log other = absurd (true≢false (sym by_log))
+log_fits ends.Absent by_log other = absurd (true≢false (sym by_log))
+
+-- any but that of a full log
+end_fits : (script : Script) (late : ℕ) (a : AgeEnd) (nth m : ℕ) (e : MemberEnd) → HasRanges script → IsAgreed script late a
+    → slice_get a.members m ≡ Some e → is_absent e.end ≡ false
+    → HasEnded (told_opening script late a) a.members script.turns m (crashes_of script.faults nth m) e
+    → is_of LogFull e.end ≡ false → EndFits e.end
+end_fits script late a nth m e ranges good here took ended other = by ended.reason
+  where
+    few : length script.messages ≤ 16
+    few = omega (arith, ranges.group.most_members, ranges.group.lists)
+
+    low : ended.number ≤ 32
+    low =
+        let view : GroupView = record { age = a.age; number = ended.number; members = members_of ended.members } in
+        low_number (told_opening script late a) (sent_by (accounts_of a.members)) e.history view
+        (order script late a ranges.group.most_members good m e here took) ended.view
+
+    by : HasReason (told_opening script late a) a.members ended.number ended.members script.turns m
+        (crashes_of script.faults nth m) e → EndFits e.end
+    by (inl done) = subst EndFits (sym done.whole.end) tt
+    by (inr (inl spent)) =
+        let small : script.turns < 2 ^ 32 = omega (arith, ranges.most_turns) in
+        subst EndFits (sym spent.end) small
+    by (inr (inr (inl crashed))) = subst EndFits (sym crashed.end) tt
+    by (inr (inr (inr (inl by_log)))) = log_fits e.end by_log.end other
+    by (inr (inr (inr (inr left)))) =
+        left_fits (told_opening script late a) a.members ended.number ended.members m e.end few low ended.roster
+        left.end
+
+-- ---- who took part
+
+is_end : (end : End) → is_absent end ≡ true → end ≡ ends.Absent
+is_end ends.Absent is = refl
+is_end ends.Done is = absurd (true≢false (sym is))
+is_end ends.Crashed is = absurd (true≢false (sym is))
+is_end ends.DiskFault is = absurd (true≢false (sym is))
+is_end (ends.Suspected by) is = absurd (true≢false (sym is))
+is_end (ends.Excluded view) is = absurd (true≢false (sym is))
+is_end (ends.NoMajority mask) is = absurd (true≢false (sym is))
+is_end (ends.LogFull len) is = absurd (true≢false (sym is))
+is_end (ends.Spent turns) is = absurd (true≢false (sym is))
+
+-- who is absent exactly where something else is so
+as_absent : (end : End) (b : Bool) → (end ≡ ends.Absent) ↔ (b ≡ true) → is_absent end ≡ b
+as_absent end true same = ap is_absent (same.1 refl)
+as_absent end false same = elim (cases_Bool (is_absent end)) [
+  | inl away ↦ absurd (true≢false (sym (same.0 (is_end end away))))
+  | inr there ↦ there
+]
+
+-- the members that took part, by the ends of an age, are those that are not missing
+took : (members missing i : ℕ) (es : List MemberEnd) → length es ≡ members
+    → ((m : ℕ) (e : MemberEnd) → slice_get es m ≡ Some e → (e.end ≡ ends.Absent) ↔ (has missing m ≡ true))
+    → took_part es i ≡ (has (2 ^ members - 1) i && not (has missing i))
+took members missing i es all away = by (slice_get es i) refl
+  where
+    by : (z : Option MemberEnd) → slice_get es i ≡ z
+        → took_part es i ≡ (has (2 ^ members - 1) i && not (has missing i))
+    by None none =
+        let past : nat_lt i members ≡ false = elim (slice_get_cases es i).1 [
+          | inl found ↦ absurd (cc (found.2, none))
+          | inr behind ↦ grind (arith, nat_tests, behind.0, all)
+        ] in
+        ap (λ z. option_map_or (λ (e : MemberEnd). not (is_absent e.end)) z false) none
+        ∙ sym (ap (λ b. b && not (has missing i)) (has_ones members i ∙ past))
+    by (Some e) some =
+        let below : nat_lt i members ≡ true = grind (arith, nat_tests, slice_get_within es i e some, all) in
+        ap (λ z. option_map_or (λ (e : MemberEnd). not (is_absent e.end)) z false) some
+        ∙ ap not (as_absent e.end (has missing i) (away i e some))
+        ∙ sym (ap (λ b. b && not (has missing i)) (has_ones members i ∙ below))
+
+-- so an age opened as its ends tell
+opened_as_told : (script : Script) (part : Part) (mode : Mode) (nth : ℕ) (before after : YardState) (age : AgeEnd)
+    → IsAgeOf script part mode nth before after age → told_opening script part.late age ≡ opening_of script part age
+opened_as_told script part mode nth before after age is =
+    ap (λ mask. record (told_opening script part.late age) { members = without mask part.late; present = mask })
+    same
+  where
+    same : mask_of (took_part age.members) ≡ taking_part script part.missing
+    same = same_masks (mask_of (took_part age.members)) (taking_part script part.missing)
+        (λ i. has_mask_of (took_part age.members) i
+        ∙ ap (λ b. nat_lt i 16 && b) (took script.members part.missing i age.members is.roster is.absent)
+        ∙ sym (has_mask_of (λ k. has (2 ^ script.members - 1) k && not (has part.missing k)) i))
+
+-- ---- the ages of a run
+
+-- what holds of each age of a run holds of all
+all_ages : (P : AgeEnd → Type 0) (script : Script) (part : Part) (mode : Mode)
+    → ((nth : ℕ) (before after : YardState) (age : AgeEnd) → IsAgeOf script part mode nth before after age
+    → P age)
+    → (nth : ℕ) (before after : YardState) (ages : List AgeEnd)
+    → AreAges script part mode nth before ages after
+    → All P ages
+all_ages P script part mode each nth before after [] are = All-nil P
+all_ages P script part mode each nth before after (age ∷ ages) (between, is, rest) =
+    All-cons P age ages (each nth before between age is)
+    (all_ages P script part mode each (nth + 1) between after ages rest)
+
+its_group : (script : Script) (part : Part) (mode : Mode) (nth : ℕ) (before after : YardState) (age : AgeEnd)
+    → HasRanges script → IsAgeOf script part mode nth before after age
+    → IsGroup (group_of script (start_of script part age))
+its_group script part mode nth before after age ranges is =
+    chosen_group script is.contents (start_of script part age) ranges.group is.starts
+
+agreed_age : (script : Script) (part : Part) (mode : Mode) (nth : ℕ) (before after : YardState) (age : AgeEnd)
+    → HasRanges script → IsAgeOf script part mode nth before after age → IsAgreed script part.late age
+agreed_age script part mode nth before after age ranges is = record {
+  all = is.roster;
+  sound = subst Sound (sym same) (its_group script part mode nth before after age ranges is).sound;
+  agreed = subst (λ o. EndsAgreed o age.members) (sym same) is.agreed;
+}
+  where
+    same : told_opening script part.late age ≡ opening_of script part age
+    same = opened_as_told script part mode nth before after age is
+
+-- an age, and that its numbers are small where no log was full
+abbrev IsSmallUnlessFull : AgeEnd → Type 0
+IsSmallUnlessFull age = ((m : ℕ) (e : MemberEnd) → slice_get age.members m ≡ Some e → is_of LogFull e.end ≡ false)
+    → HasSmallNumbers age
+
+-- what tells nothing
+nothing_told : (e : MemberEnd) → e ≡ absent_end → TellsNothing e
+nothing_told e is = record {
+  absent = ap (λ (x : MemberEnd). x.end) is;
+  history = ap (λ (x : MemberEnd). x.history) is;
+  logged = ap (λ (x : MemberEnd). x.logged) is;
+  durable = ap (λ (x : MemberEnd). x.durable) is;
+}
+
+small_age : (script : Script) (part : Part) (mode : Mode) (nth : ℕ) (before after : YardState) (age : AgeEnd)
+    → HasRanges script → IsAgeOf script part mode nth before after age → IsSmallUnlessFull age
+small_age script part mode nth before after age ranges is room = record {
+  age = (its_group script part mode nth before after age ranges is).age;
+  ends = all_from_places (λ (e : MemberEnd). EndFits e.end ⊎ TellsNothing e) age.members each;
+}
+  where
+    good : IsAgreed script part.late age
+    good = agreed_age script part mode nth before after age ranges is
+
+    same : told_opening script part.late age ≡ opening_of script part age
+    same = opened_as_told script part mode nth before after age is
+
+    not_there : (m : ℕ) (e : MemberEnd) → slice_get age.members m ≡ Some e → is_absent e.end ≡ true
+        → IsPresentIn (told_opening script part.late age) m → ⊥
+    not_there m e at away here =
+        let other = end_there script part.late age m here in
+        absurd (cc (
+          away,
+          other.2,
+          ap (λ (x : MemberEnd). is_absent x.end)
+              (same_Some other.0 e (sym other.1 ∙ at)),
+        ))
+
+    each : (m : ℕ) (e : MemberEnd) → slice_get age.members m ≡ Some e → EndFits e.end ⊎ TellsNothing e
+    each m e at = elim (cases_Bool (is_absent e.end)) [
+      | inl away ↦ inr (nothing_told e (is.ended.absent m e at (λ here. not_there m e at away
+          (subst (λ o. IsPresentIn o m) (sym same) here))))
+      | inr there ↦
+          let here : IsPresentIn (opening_of script part age) m =
+          subst (λ o. IsPresentIn o m) same (is_here script part.late age ranges.group.most_members good m e at there) in
+          let ended = subst
+          (λ o. HasEnded o age.members script.turns m (crashes_of script.faults nth m) e) (sym same)
+          (is.ended.each m e at here) in
+          inl (end_fits script part.late age nth m e ranges good at there ended (room m e at))
+    ]
+
+keep_each_other : (script : Script) (part : Part) (ages : List AgeEnd) → AreKept script part ages
+    → All (λ age. told_opening script part.late age ≡ opening_of script part age) ages → KeepEachOther script part.late ages
+keep_each_other script part ages kept told i a next at after =
+    let same : suc i ≡ i + 1 = omega arith in
+    let one = all_at (λ age. told_opening script part.late age ≡ opening_of script part age) ages i a told at in
+    let other = all_at (λ age. told_opening script part.late age ≡ opening_of script part age) ages (suc i) next told after in
+    subst (λ o. Kept o (accounts_of a.members) (told_opening script part.late next)) (sym one)
+    (subst (λ o. Kept (opening_of script part a) (accounts_of a.members) o) (sym other)
+    (kept.next i a next at (ap (slice_get ages) (sym same) ∙ after)))
+
+pub run_right : (script : Script) (part : Part) (mode : Mode) (before after : YardState) (ages : List AgeEnd)
+    (stop : Option Stop) (last : Last) → HasRanges script → AllTell script.members before
+    → IsRunOf script part mode before after ages stop → last_of ages stop ≡ Some last
+    → IsRunEnd (status_of last)
+    → IsVerdict script (report_text ages last) lasts.Right
+run_right script part mode before after ages stop last ranges tell run is end =
+    let fits = last_fits ages stop last is end in
+    let small = all_ages IsSmallUnlessFull script part mode
+    (λ nth before after age is. small_age script part mode nth before after age ranges is) 0 before run.last ages
+    run.course in
+    printed_right script part.late ages last ranges.group
+    (all_ages (IsAgreed script part.late) script part mode
+    (λ nth before after age is. agreed_age script part mode nth before after age ranges is) 0 before run.last
+    ages run.course)
+    (keep_each_other script part ages (run.kept tell)
+    (all_ages (λ age. told_opening script part.late age ≡ opening_of script part age) script part mode
+    (λ nth before after age is. opened_as_told script part mode nth before after age is) 0 before run.last
+    ages run.course))
+    (all_from_places HasSmallNumbers ages
+    (λ i age at. all_at IsSmallUnlessFull ages i age small at
+    (λ m e there. none_full ages i age m e fits.0 at there)))
+    fits.1

@@ -1,2 +1,0 @@
-mod LastViews
-mod Saying

@@ -1,7 +1,0 @@
-use Rattle.std.proofs.Common.{◌≡◌, ◌++◌, take, string_bytes}
-use Rattle.dr_drilled.specs.Lines.{end_lines}
-use Rattle.dr_drilled.proofs.lines.push_end_lines.Given as goal
-
-abbrev pub invariant-loop-number : goal.invariant-loop-number
-invariant-loop-number l =
-    string_bytes l.out ≡ string_bytes l.initial.out ++ end_lines (take l.number l.members)

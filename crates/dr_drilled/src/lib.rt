@@ -1,7 +1,0 @@
-//! The command `drill`: a large group that a number makes, simulated and told in few lines.
-#![tactic(auto)]
-
-mod drilling;
-mod lines;
-
-pub use drilling::run_drill;

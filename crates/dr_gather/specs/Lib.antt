@@ -1,4 +1,0 @@
-pub mod Gathering
-pub mod CatchingUp
-pub mod Leaving
-pub mod Parts

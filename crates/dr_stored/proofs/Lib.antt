@@ -1,2 +1,0 @@
-mod Lasts
-mod Saying

@@ -1,7 +1,0 @@
-use Rattle.std.proofs.Common.{◌≡◌, ◌++◌, take, string_bytes}
-use Rattle.dr_stored.specs.Values.{values_text}
-use Rattle.dr_stored.proofs.values.push_members.Given as goal
-
-abbrev pub invariant-loop-number : goal.invariant-loop-number
-invariant-loop-number l =
-    string_bytes l.out ≡ string_bytes l.initial.out ++ values_text l.key l.version (take l.number l.members)

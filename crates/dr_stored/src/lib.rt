@@ -1,7 +1,0 @@
-//! The command `store`: what the members of a simulated run store under a key, at a version.
-#![tactic(auto)]
-
-mod asking;
-mod values;
-
-pub use asking::ask_stores;
