@@ -91,13 +91,13 @@ module _ (script : Script) (o : Opening) (es : List Entry) (ranges : HasGroupRan
       by (Some v) below short = omega (arith, short, below v refl)
 
 -- all of an age whose members agree
-pub agreed_fit : (script : Script) (late : ℕ) (a : AgeEnd) → HasGroupRanges script → IsAgreed script late a → HasSmallNumbers a
+pub agreed_fit : (script : Script) (a : AgeEnd) → HasGroupRanges script → IsAgreed script a → HasSmallNumbers a
     → IsTellableAge script.members a
-agreed_fit script late a ranges good small = record {
+agreed_fit script a ranges good small = record {
   age = small.age;
   all = good.all;
-  entries = entries_fit script (told_opening script late a) a.start ranges refl good.sound.entries earlier;
-  start = entries_few script (told_opening script late a) a.start ranges refl good.sound.entries earlier;
+  entries = entries_fit script (told_opening script a) a.start ranges refl good.sound.entries earlier;
+  start = entries_few script (told_opening script a) a.start ranges refl good.sound.entries earlier;
   ends = all_from_places (IsTellable a.start) a.members each;
 }
   where
@@ -105,22 +105,22 @@ agreed_fit script late a ranges good small = record {
     earlier v is = omega (arith, good.sound.later v is, small.age)
 
     ordered : (i : ℕ) (e : MemberEnd) → slice_get a.members i ≡ Some e → EndFits e.end
-        → InOrder (told_opening script late a) (sent_by (accounts_of a.members)) e.history
-    ordered i e at fits = order script late a ranges.most_members good i e at (not_absent e.end fits)
+        → InOrder (told_opening script a) (sent_by (accounts_of a.members)) e.history
+    ordered i e at fits = order script a ranges.most_members good i e at (not_absent e.end fits)
 
     stands : (i : ℕ) (e : MemberEnd) → slice_get a.members i ≡ Some e → EndFits e.end
-        → AllStand (told_opening script late a) e.history
-    stands i e at fits = stand script late a ranges.most_members good i e at (not_absent e.end fits)
+        → AllStand (told_opening script a) e.history
+    stands i e at fits = stand script a ranges.most_members good i e at (not_absent e.end fits)
 
     part : (i : ℕ) (e : MemberEnd) → slice_get a.members i ≡ Some e → EndFits e.end → TellsPart a.start e
     part i e at fits = record {
       begins = (
-        View a.age 0 (told_opening script late a).members ∷ (ordered i e at fits).begins.0,
-        sym (append_assoc a.start (View a.age 0 (told_opening script late a).members ∷ [])
+        View a.age 0 (told_opening script a).members ∷ (ordered i e at fits).begins.0,
+        sym (append_assoc a.start (View a.age 0 (told_opening script a).members ∷ [])
             (ordered i e at fits).begins.0)
             ∙ (ordered i e at fits).begins.1,
       );
-      entries = entries_fit script (told_opening script late a) e.history ranges refl (stands i e at fits) last;
+      entries = entries_fit script (told_opening script a) e.history ranges refl (stands i e at fits) last;
       ended = fits;
       history = long;
       logged = omega (
@@ -128,25 +128,29 @@ agreed_fit script late a ranges good small = record {
         all_at (λ (f : MemberEnd). f.logged ≤ length f.history) a.members i e good.agreed.told at,
         long,
       );
-      durable = omega (arith, durable_within script late a ranges.most_members good i e at (not_absent e.end fits), long);
+      durable = omega (
+        arith,
+        durable_within script a ranges.most_members good i e at (not_absent e.end fits),
+        long,
+      );
     }
       where
         -- its last view is of the age
         last : (v : GroupView) → view_of e.history ≡ Some v → v.age < 2 ^ 16
         last v is =
             let h = e.history in
-            let within = slice_get_within h (length a.start) (View a.age 0 (told_opening script late a).members)
-            (first_at (told_opening script late a) (sent_by (accounts_of a.members)) h (ordered i e at fits)) in
+            let within = slice_get_within h (length a.start) (View a.age 0 (told_opening script a).members)
+            (first_at (told_opening script a) (sent_by (accounts_of a.members)) h (ordered i e at fits)) in
             omega (
               arith,
-              view_age (told_opening script late a) (sent_by (accounts_of a.members)) h (ordered i e at fits)
+              view_age (told_opening script a) (sent_by (accounts_of a.members)) h (ordered i e at fits)
                   (length h) within (omega arith) v
                   (ap view_of (take_all (length h) h (omega arith)) ∙ is),
               small.age,
             )
 
         long : IsLong (length e.history)
-        long = entries_few script (told_opening script late a) e.history ranges refl (stands i e at fits) last
+        long = entries_few script (told_opening script a) e.history ranges refl (stands i e at fits) last
 
     each : (i : ℕ) (e : MemberEnd) → slice_get a.members i ≡ Some e → IsTellable a.start e
     each i e at = elim (all_at (λ (e : MemberEnd). EndFits e.end ⊎ TellsNothing e) a.members i e small.ends at) [

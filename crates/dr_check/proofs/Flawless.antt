@@ -41,12 +41,12 @@ unflawed script r flaw right is =
     (right flaw.clause first.place first.one first.here) first.breaks
 
 -- what is printed of agreed ages, each of which keeps what the one before it had
-pub printed_right : (script : Script) (late : ℕ) (ages : List AgeEnd) (last : Last) → HasGroupRanges script
-    → All (IsAgreed script late) ages → KeepEachOther script late ages → All HasSmallNumbers ages → LastFits last
+pub printed_right : (script : Script) (ages : List AgeEnd) (last : Last) → HasGroupRanges script
+    → All (IsAgreed script) ages → KeepEachOther script ages → All HasSmallNumbers ages → LastFits last
     → (r : Report) × IsReport script.members (report_text ages last) r × IsRight script r
-printed_right script late ages last ranges agreed kept small fits =
+printed_right script ages last ranges agreed kept small fits =
     let r = told script.members ages last ranges.most_members
     (all_from_places (IsTellableAge script.members) ages
-    (λ i a at. agreed_fit script late a ranges (all_at (IsAgreed script late) ages i a agreed at)
+    (λ i a at. agreed_fit script a ranges (all_at (IsAgreed script) ages i a agreed at)
     (all_at HasSmallNumbers ages i a small at))) fits in
-    (r.0, r.1, passes script late ages r.0 ranges r.2 agreed kept)
+    (r.0, r.1, passes script ages r.0 ranges r.2 agreed kept)

@@ -3,7 +3,6 @@ use Rattle.std.proofs.Common.{◌≡◌, ◌⊎◌, inl, inr, refl, sym, ap, ◌
 use Rattle.std.specs.Prelude.{Option, IfSome, IsSomeAnd}
 use Rattle.std.specs.List.{Any}
 use Rattle.std.specs.Option.{option_map_or}
-use Rattle.std.proofs.lemmas.Bool.{and_parts}
 use Rattle.std.proofs.lemmas.List.{length-take}
 use Rattle.std.proofs.lemmas.List.Elements.{All-weaker}
 use Rattle.std.proofs.lemmas.Option.{same_Some, slice_get-get_or, slice_get_within}
@@ -23,8 +22,8 @@ use Rattle.dr_history_laws.proofs.Stood.{named_below, some_of}
 use Rattle.dr_script.specs.declared.script.Script.{Script}
 use Rattle.dr_script.specs.Ranges.{HasGroupRanges}
 use Rattle.dr_text.specs.Report.{is_absent}
-use Rattle.dr_words.proofs.Masks.{has_without_mask, mask_of_small, same_masks}
-use Rattle.dr_words.specs.Masks.{mask_of, without}
+use Rattle.dr_words.proofs.Masks.{same_masks}
+use Rattle.dr_words.specs.Masks.{mask_of}
 use Rattle.dr_text.specs.declared.last.Clause.{Clause}
 use Rattle.dr_text.specs.declared.last.Clause.TheVariants as clauses
 use Rattle.dr_check.specs.declared.report.Report.{Report}
@@ -33,8 +32,8 @@ use Rattle.dr_check.specs.declared.report.ReportMember.{ReportMember}
 use Rattle.dr_check.specs.Clauses.{AgeItself, MemberItself, EntryItself, AreLogged, TakesPart, KeepsBytes, KeepsIndex, KeepsPrefix, KeepsSender, HasDelivered, HasSame, IsDurableView, IsKeptIn, log_of, IsLate, Names, WasNamed, first_members, members_named, KeepsStart, KeepsView, KeepsDurable, KeepsAge, MayComeNext, MayStart, IsFirstView, FollowsView, logged_by}
 use Rattle.dr_check.specs.Firsts.{AllKeep}
 use Rattle.dr_check.specs.Flaws.{IsRight, own_entries}
-use Rattle.dr_check.specs.Values.{KeepEachOther, HasAge, HasMember, HasValues, IsAgreed, told_opening, took_part}
-use Rattle.dr_check.proofs.Agreed.{end_there, history_of, is_here, knows, order, stand}
+use Rattle.dr_check.specs.Values.{KeepEachOther, HasAge, HasMember, HasValues, IsAgreed, told_members, told_opening, took_part}
+use Rattle.dr_check.proofs.Agreed.{end_there, history_of, is_here, knows, not_so, order, stand}
 use Rattle.dr_check.proofs.Roster.{may_start}
 use Rattle.dr_check.proofs.LastViews.{first_at}
 use Rattle.dr_check.proofs.Places.{all_at, all_below, all_from_places, any_at, at_any, if_some}
@@ -47,24 +46,15 @@ same_at g h i x y (inl p) in_g in_h = same_Some x y (sym (slice_get-prefix g h i
 same_at g h i x y (inr p) in_g in_h = same_Some x y (sym in_g ∙ slice_get-prefix h g i y p in_h)
 
 -- a message that may stand keeps what is said of messages
-message_keeps : (script : Script) (late : ℕ) (a : AgeEnd) (before : List Entry) (e : Entry)
-    → MayStand (told_opening script late a) before e
+message_keeps : (script : Script) (a : AgeEnd) (before : List Entry) (e : Entry)
+    → MayStand (told_opening script a) before e
     → KeepsSender before e × KeepsIndex before e × KeepsBytes script e
-message_keeps script late a before (View g k m) stands = (tt, tt, tt)
-message_keeps script late a before (Msg s k b) stands = stands
+message_keeps script a before (View g k m) stands = (tt, tt, tt)
+message_keeps script a before (Msg s k b) stands = stands
 
--- who took part in an age, and who of them was in View 0
+-- who took part in an age
 abbrev mask_there : AgeEnd → ℕ
 mask_there a = mask_of (took_part a.members)
-
-abbrev mask_told : ℕ → AgeEnd → ℕ
-mask_told late a = without (mask_there a) late
-
--- whoever was in View 0 took part
-told_there : (late : ℕ) (a : AgeEnd) (s : ℕ) → has (mask_told late a) s ≡ true → has (mask_there a) s ≡ true
-told_there late a s named =
-    (and_parts (has (mask_there a) s) (not (has late s))
-    (sym (has_without_mask (mask_there a) late s (mask_of_small (took_part a.members))) ∙ named)).0
 
 -- whoever is among the members of a mask is in it
 in_mask : (mask s : ℕ) → Contains (members_of mask) s → has mask s ≡ true
@@ -79,15 +69,11 @@ all_members mask P each k d within =
 
 -- a member of a report took part exactly where the end does that it has the values of
 there_was : (e : MemberEnd) (m : ReportMember) → HasMember e m → m.present ≡ true → is_absent e.end ≡ false
-there_was e m same present = by (is_absent e.end) (sym same.present ∙ present)
-  where
-    by : (b : Bool) → not b ≡ true → b ≡ false
-    by false is = refl
-    by true is = absurd (cc is)
+there_was e m same present = not_so (is_absent e.end) (sym same.present ∙ present)
 
 -- one age of a report
-module _ (script : Script) (late : ℕ) (a : AgeEnd) (ra : ReportAge) (ranges : HasGroupRanges script)
-    (good : IsAgreed script late a) (values : HasAge a ra) where
+module _ (script : Script) (a : AgeEnd) (ra : ReportAge) (ranges : HasGroupRanges script)
+    (good : IsAgreed script a) (values : HasAge a ra) where
   -- each member of the report is one of the age
   end_of : (i : ℕ) (m : ReportMember) → slice_get ra.members i ≡ Some m
       → (e : MemberEnd) × (slice_get a.members i ≡ Some e) × HasMember e m
@@ -96,9 +82,9 @@ module _ (script : Script) (late : ℕ) (a : AgeEnd) (ra : ReportAge) (ranges : 
   few : script.members ≤ 16
   few = ranges.most_members
 
-  there : (s : ℕ) → IsPresentIn (told_opening script late a) s → TakesPart ra s
+  there : (s : ℕ) → IsPresentIn (told_opening script a) s → TakesPart ra s
   there s here =
-      let e = end_there script late a s here in
+      let e = end_there script a s here in
       let m = zip_to HasMember a.members ra.members values.members s e.0 e.1 in
       subst (λ r. IsSomeAnd r (λ (x : ReportMember). x.present ≡ true)) (sym m.1) (m.2.present ∙ ap not e.2)
 
@@ -111,7 +97,7 @@ module _ (script : Script) (late : ℕ) (a : AgeEnd) (ra : ReportAge) (ranges : 
   keeps_start = record {
     entries = subst (λ (es : List Entry). AllKeep (λ i e. MayStart script (take i es) e) es)
         (sym values.start)
-        (λ i e at. may_start script (told_opening script late a) a.start refl ranges.lists ranges.most_members
+        (λ i e at. may_start script (told_opening script a) a.start refl ranges.lists ranges.most_members
         good.sound.entries i e at);
     later = λ v is. subst (λ (n : ℕ). v.age < n) (sym values.age)
         (good.sound.later v (sym (ap view_of values.start) ∙ is));
@@ -121,24 +107,24 @@ module _ (script : Script) (late : ℕ) (a : AgeEnd) (ra : ReportAge) (ranges : 
 
   module _ (i : ℕ) (m : ReportMember) (e : MemberEnd) (at : slice_get a.members i ≡ Some e)
       (same : HasMember e m) (took : is_absent e.end ≡ false) where
-    first : slice_get e.history (length a.start) ≡ Some (View a.age 0 (mask_told late a))
-    first = first_at (told_opening script late a) (sent_by (accounts_of a.members)) e.history
-        (order script late a few good i e at took)
+    first : slice_get e.history (length a.start) ≡ Some (View a.age 0 (told_members a))
+    first = first_at (told_opening script a) (sent_by (accounts_of a.members)) e.history
+        (order script a few good i e at took)
 
     has_own : length ra.start < length m.history
     has_own =
-        let within = slice_get_within e.history (length a.start) (View a.age 0 (mask_told late a)) first in
+        let within = slice_get_within e.history (length a.start) (View a.age 0 (told_members a)) first in
         omega (arith, within, starts, ap length same.history)
 
     -- whoever is late in the age is late in the report
-    is_late : (s : ℕ) → IsLateIn (told_opening script late a) s → IsLate ra m s
+    is_late : (s : ℕ) → IsLateIn (told_opening script a) s → IsLate ra m s
     is_late s (here, outside) = (
       there s here,
-      λ named. true≢false (sym (in_mask (mask_told late a) s (subst (λ (xs : List ℕ). Contains xs s) firsts named))
+      λ named. true≢false (sym (in_mask (told_members a) s (subst (λ (xs : List ℕ). Contains xs s) firsts named))
           ∙ outside),
     )
       where
-        firsts : first_members ra m ≡ members_of (mask_told late a)
+        firsts : first_members ra m ≡ members_of (told_members a)
         firsts = ap (λ (h : List Entry). members_named (slice_get h (length ra.start))) same.history
             ∙ (ap (λ n. members_named (slice_get e.history n)) starts ∙ ap members_named first)
 
@@ -149,20 +135,21 @@ module _ (script : Script) (late : ℕ) (a : AgeEnd) (ra : ReportAge) (ranges : 
           × KeepsBytes script x
       keeps_messages =
           subst (λ (h : List Entry). KeepsSender (take j h) x × KeepsIndex (take j h) x × KeepsBytes script x)
-          (sym same.history) (message_keeps script late a (take j e.history) x (stand script late a few good i e at took j x spot))
+          (sym same.history)
+          (message_keeps script a (take j e.history) x (stand script a few good i e at took j x spot))
 
       is_first : j ≡ length ra.start → IsFirstView ra x
       is_first is =
-          let one : View a.age 0 (mask_told late a) ≡ x =
+          let one : View a.age 0 (told_members a) ≡ x =
           same_Some _ x (sym first ∙ (ap (slice_get e.history) (sym (is ∙ starts)) ∙ spot)) in
           subst (IsFirstView ra) one (
             sym values.age,
             refl,
-            all_members (mask_told late a) (TakesPart ra) (λ s named. there s (told_there late a s named)),
+            all_members (told_members a) (TakesPart ra) (λ s named. there s (good.sound.part s named)),
           )
 
       -- whoever may join is late in the report, and was named by no View of the age up to there
-      joins : (s : ℕ) → MayJoin (told_opening script late a) (take j e.history) s
+      joins : (s : ℕ) → MayJoin (told_opening script a) (take j e.history) s
           → IsLate ra m s × (WasNamed ra (take j m.history) s → ⊥)
       joins s may = (
         is_late s may.0,
@@ -179,7 +166,7 @@ module _ (script : Script) (late : ℕ) (a : AgeEnd) (ra : ReportAge) (ranges : 
           unnamed (Msg n k b) there named = named
 
       comes : (v : GroupView) (s : ℕ)
-          → Contains v.members s ⊎ MayJoin (told_opening script late a) (take j e.history) s
+          → Contains v.members s ⊎ MayJoin (told_opening script a) (take j e.history) s
           → Contains v.members s ⊎ (IsLate ra m s × (WasNamed ra (take j m.history) s → ⊥))
       comes v s (inl stays) = inl stays
       comes v s (inr may) = inr (joins s may)
@@ -189,9 +176,9 @@ module _ (script : Script) (late : ℕ) (a : AgeEnd) (ra : ReportAge) (ranges : 
       goes_on (Msg s k b) spot less = tt
       goes_on (View g k mask) spot less =
           let behind : length a.start < j = omega (arith, less, starts) in
-          let u = some_of (λ v. IsSucceededBy (told_opening script late a) (take j e.history) v g k mask)
+          let u = some_of (λ v. IsSucceededBy (told_opening script a) (take j e.history) v g k mask)
           (view_of (take j e.history))
-          ((order script late a few good i e at took).views j g k mask behind spot) in
+          ((order script a few good i e at took).views j g k mask behind spot) in
           let now : view_of (take j m.history) ≡ Some u.0 =
           ap (λ (h : List Entry). view_of (take j h)) same.history ∙ u.1 in
           let next : MayComeNext script ra m j u.0 g k mask = record {
@@ -199,7 +186,7 @@ module _ (script : Script) (late : ℕ) (a : AgeEnd) (ra : ReportAge) (ranges : 
             next_number = u.2.follows.next_number;
             other = u.2.follows.other;
             roster = subst (λ (n : ℕ). All (λ s. s < n) (members_of mask)) ranges.lists
-                (named_below (told_opening script late a) e.history (stand script late a few good i e at took) j g k mask
+                (named_below (told_opening script a) e.history (stand script a few good i e at took) j g k mask
                 spot);
             majority = u.2.majority;
             newcomers = λ n d within.
@@ -217,12 +204,12 @@ module _ (script : Script) (late : ℕ) (a : AgeEnd) (ra : ReportAge) (ranges : 
       has_same k other other_at present y y_at =
           let f = end_of k other other_at in
           let along = good.agreed.agreed.prefix k i
-          (is_here script late a few good k f.0 f.1 (there_was f.0 other f.2 present))
-          (is_here script late a few good i e at took) in
+          (is_here script a few good k f.0 f.1 (there_was f.0 other f.2 present))
+          (is_here script a few good i e at took) in
           let one : IsPrefixOf f.0.history e.history ⊎ IsPrefixOf e.history f.0.history =
-          subst (λ (h : List Entry). IsPrefixOf f.0.history h ⊎ IsPrefixOf h f.0.history) (history_of script late a few good i e at)
+          subst (λ (h : List Entry). IsPrefixOf f.0.history h ⊎ IsPrefixOf h f.0.history) (history_of a i e at)
           (subst (λ (g : List Entry). IsPrefixOf g (accounts_of a.members i).history
-          ⊎ IsPrefixOf (accounts_of a.members i).history g) (history_of script late a few good k f.0 f.1) along) in
+          ⊎ IsPrefixOf (accounts_of a.members i).history g) (history_of a k f.0 f.1) along) in
           same_at f.0.history e.history j y x one
           (subst (λ (h : List Entry). slice_get h j ≡ Some y) f.2.history y_at) spot
 
@@ -253,19 +240,19 @@ module _ (script : Script) (late : ℕ) (a : AgeEnd) (ra : ReportAge) (ranges : 
             omega (arith, log, told, length-take f.logged f.history)
 
     -- where nobody is late in the report, nobody is in the age
-    nobody_late : ((s : ℕ) → IsLate ra m s → ⊥) → IsNobodyLate (told_opening script late a)
-    nobody_late nobody = same_masks (mask_told late a) (mask_there a)
-        (λ s. by s (has (mask_told late a) s) (has (mask_there a) s) refl refl)
+    nobody_late : ((s : ℕ) → IsLate ra m s → ⊥) → IsNobodyLate (told_opening script a)
+    nobody_late nobody = same_masks (told_members a) (mask_there a)
+        (λ s. by s (has (told_members a) s) (has (mask_there a) s) refl refl)
       where
-        by : (s : ℕ) (x y : Bool) → has (mask_told late a) s ≡ x → has (mask_there a) s ≡ y
-            → has (mask_told late a) s ≡ has (mask_there a) s
-        by s true y first_is there_is = first_is ∙ sym (told_there late a s first_is)
+        by : (s : ℕ) (x y : Bool) → has (told_members a) s ≡ x → has (mask_there a) s ≡ y
+            → has (told_members a) s ≡ has (mask_there a) s
+        by s true y first_is there_is = first_is ∙ sym (good.sound.part s first_is)
         by s false true first_is there_is = absurd (nobody s (is_late s (there_is, first_is)))
         by s false false first_is there_is = first_is ∙ sym there_is
 
     keeps_durable : KeepsDurable ra m
     keeps_durable =
-        let k = knows script late a few good i e at took in
+        let k = knows script a few good i e at took in
         let on_logs : AreLogged ra m (members_of k.1) =
         All-weaker (λ j. e.durable ≤ length (accounts_of a.members j).log) (λ s. m.durable ≤ logged_by ra s)
         (λ s less. omega (arith, less, same.durable, log_short s)) (members_of k.1) k.3 in
@@ -282,10 +269,10 @@ module _ (script : Script) (late : ℕ) (a : AgeEnd) (ra : ReportAge) (ranges : 
         }
 
 -- an age keeps what the one before it had
-keeps_age : (script : Script) (late : ℕ) (p a : AgeEnd) (rp ra : ReportAge) → HasGroupRanges script → IsAgreed script late p
+keeps_age : (script : Script) (p a : AgeEnd) (rp ra : ReportAge) → HasGroupRanges script → IsAgreed script p
     → HasAge p rp → HasAge a ra
-    → Kept (told_opening script late p) (accounts_of p.members) (told_opening script late a) → KeepsAge rp ra
-keeps_age script late p a rp ra ranges good before after kept = record {
+    → Kept (told_opening script p) (accounts_of p.members) (told_opening script a) → KeepsAge rp ra
+keeps_age script p a rp ra ranges good before after kept = record {
   later = omega (arith, kept.later, before.age, after.age);
   delivered = delivered;
   durable = durable;
@@ -297,37 +284,37 @@ keeps_age script late p a rp ra ranges good before after kept = record {
     delivered : Any (HasDelivered ra) rp.members
     delivered =
         let i = kept.delivered.0 in
-        let e = end_there script late p i kept.delivered.1 in
+        let e = end_there script p i kept.delivered.1 in
         let m = zip_to HasMember p.members rp.members before.members i e.0 e.1 in
         any_at (HasDelivered ra) rp.members i m.0 m.1 (
           m.2.present ∙ ap not e.2,
           subst (λ (h : List Entry). IsPrefixOf ra.start h)
-              (history_of script late p few good i e.0 e.1 ∙ sym m.2.history)
+              (history_of p i e.0 e.1 ∙ sym m.2.history)
               (subst (λ (es : List Entry). IsPrefixOf es (accounts_of p.members i).history) (sym after.start)
               kept.delivered.2),
         )
 
     kept_in : (i : ℕ) (m : ReportMember) → slice_get rp.members i ≡ Some m → IsKeptIn ra m
     kept_in i m at present =
-        let e = end_of script late p rp ranges good before i m at in
+        let e = end_of script p rp ranges good before i m at in
         let known : (accounts_of p.members i).durable ≡ m.durable =
         ap (λ z. option_map_or (λ (e : MemberEnd). e.durable) z 0) e.1 ∙ sym e.2.durable in
         let history : (accounts_of p.members i).history ≡ m.history =
-        history_of script late p few good i e.0 e.1 ∙ sym e.2.history in
+        history_of p i e.0 e.1 ∙ sym e.2.history in
         subst (λ (es : List Entry). IsPrefixOf (take m.durable m.history) es) (sym after.start)
         (subst (λ (h : List Entry). IsPrefixOf (take m.durable h) a.start) history
         (subst (λ (n : ℕ). IsPrefixOf (take n (accounts_of p.members i).history) a.start) known
-        (kept.durable i (is_here script late p few good i e.0 e.1 (there_was e.0 m e.2 present)))))
+        (kept.durable i (is_here script p few good i e.0 e.1 (there_was e.0 m e.2 present)))))
 
     durable : All (IsKeptIn ra) rp.members
     durable = all_from_places (IsKeptIn ra) rp.members kept_in
 
 -- the whole report
-pub passes : (script : Script) (late : ℕ) (ages : List AgeEnd) (r : Report) → HasGroupRanges script → HasValues ages r
-    → All (IsAgreed script late) ages → KeepEachOther script late ages → IsRight script r
-passes script late ages r ranges values good kept c i ra at = (
+pub passes : (script : Script) (ages : List AgeEnd) (r : Report) → HasGroupRanges script → HasValues ages r
+    → All (IsAgreed script) ages → KeepEachOther script ages → IsRight script r
+passes script ages r ranges values good kept c i ra at = (
   itself c i at,
-  λ n m spot present. let e = end_of script late a.0 ra ranges fine a.2 n m spot in (
+  λ n m spot present. let e = end_of script a.0 ra ranges fine a.2 n m spot in (
     member c n m e.0 e.1 e.2 (there_was e.0 m e.2 present),
     λ k x own. entry c n m e.0 e.1 e.2 (there_was e.0 m e.2 present) k x own,
   ),
@@ -336,8 +323,8 @@ passes script late ages r ranges values good kept c i ra at = (
     a : (a : AgeEnd) × (slice_get ages i ≡ Some a) × HasAge a ra
     a = zip_at HasAge ages r.ages values i ra at
 
-    fine : IsAgreed script late a.0
-    fine = all_at (IsAgreed script late) ages i a.0 good a.1
+    fine : IsAgreed script a.0
+    fine = all_at (IsAgreed script) ages i a.0 good a.1
 
     after : (j : ℕ) → slice_get r.ages (suc j) ≡ Some ra
         → IfSome (slice_get r.ages j) (λ before. KeepsAge before ra)
@@ -348,11 +335,11 @@ passes script late ages r ranges values good kept c i ra at = (
         by (Some rp) was =
             let p = zip_at HasAge ages r.ages values j rp was in
             let b = zip_at HasAge ages r.ages values (suc j) ra here in
-            keeps_age script late p.0 b.0 rp ra ranges (all_at (IsAgreed script late) ages j p.0 good p.1) p.2 b.2
+            keeps_age script p.0 b.0 rp ra ranges (all_at (IsAgreed script) ages j p.0 good p.1) p.2 b.2
             (kept j p.0 b.0 p.1 b.1)
 
     itself : (c : Clause) (i : ℕ) → slice_get r.ages i ≡ Some ra → AgeItself c script r.ages i ra
-    itself clauses.Start i here = keeps_start script late a.0 ra ranges fine a.2
+    itself clauses.Start i here = keeps_start script a.0 ra ranges fine a.2
     itself clauses.View i here = tt
     itself clauses.Sender i here = tt
     itself clauses.Index i here = tt
@@ -365,12 +352,12 @@ passes script late ages r ranges values good kept c i ra at = (
     member : (c : Clause) (n : ℕ) (m : ReportMember) (e : MemberEnd) → slice_get a.0.members n ≡ Some e
         → HasMember e m → is_absent e.end ≡ false → MemberItself c ra m
     member clauses.Start n m e at same took = tt
-    member clauses.View n m e at same took = has_own script late a.0 ra ranges fine a.2 n m e at same took
+    member clauses.View n m e at same took = has_own script a.0 ra ranges fine a.2 n m e at same took
     member clauses.Sender n m e at same took = tt
     member clauses.Index n m e at same took = tt
     member clauses.Bytes n m e at same took = tt
     member clauses.Prefix n m e at same took = tt
-    member clauses.Durable n m e at same took = keeps_durable script late a.0 ra ranges fine a.2 n m e at same took
+    member clauses.Durable n m e at same took = keeps_durable script a.0 ra ranges fine a.2 n m e at same took
     member clauses.Kept n m e at same took = tt
 
     entry : (c : Clause) (n : ℕ) (m : ReportMember) (e : MemberEnd) → slice_get a.0.members n ≡ Some e
@@ -388,10 +375,10 @@ passes script late ages r ranges values good kept c i ra at = (
 
         by : (c : Clause) → EntryItself c script ra n m j x
         by clauses.Start = tt
-        by clauses.View = keeps_view script late a.0 ra ranges fine a.2 n m e at same took j x spot
-        by clauses.Sender = (keeps_messages script late a.0 ra ranges fine a.2 n m e at same took j x spot).0
-        by clauses.Index = (keeps_messages script late a.0 ra ranges fine a.2 n m e at same took j x spot).1
-        by clauses.Bytes = (keeps_messages script late a.0 ra ranges fine a.2 n m e at same took j x spot).2
-        by clauses.Prefix = keeps_prefix script late a.0 ra ranges fine a.2 n m e at same took j x spot n
+        by clauses.View = keeps_view script a.0 ra ranges fine a.2 n m e at same took j x spot
+        by clauses.Sender = (keeps_messages script a.0 ra ranges fine a.2 n m e at same took j x spot).0
+        by clauses.Index = (keeps_messages script a.0 ra ranges fine a.2 n m e at same took j x spot).1
+        by clauses.Bytes = (keeps_messages script a.0 ra ranges fine a.2 n m e at same took j x spot).2
+        by clauses.Prefix = keeps_prefix script a.0 ra ranges fine a.2 n m e at same took j x spot n
         by clauses.Durable = tt
         by clauses.Kept = tt

@@ -1,11 +1,12 @@
 -- Reports of ages that have ended.
-use Rattle.std.specs.Prelude.{◌≡◌, ◌⊎◌, ℕ, suc, ◌^◌, ◌<◌, not, Bool, false, List, [], All, length, slice_get, Some}
+use Rattle.std.specs.Prelude.{◌≡◌, ◌⊎◌, ℕ, suc, ◌^◌, ◌<◌, not, Bool, false, List, [], All, find, length, slice_get, Option, None, Some, option_and_then}
 use Rattle.std.specs.List.{AllZip}
 use Rattle.std.specs.Option.{option_map_or}
 use Rattle.dr_entry.specs.declared.end.AgeEnd.{AgeEnd}
 use Rattle.dr_entry.specs.declared.end.End.TheVariants.{Absent}
 use Rattle.dr_entry.specs.declared.end.MemberEnd.{MemberEnd}
 use Rattle.dr_entry.specs.declared.entry.Entry.{Entry}
+use Rattle.dr_entry.specs.declared.entry.Entry.TheVariants.{View, Msg}
 use Rattle.dr_history.specs.declared.opening.Opening.{Opening}
 use Rattle.dr_history.specs.Agreement.{EndsAgreed, accounts_of}
 use Rattle.dr_history.specs.History.{IsPrefixOf}
@@ -13,7 +14,7 @@ use Rattle.dr_history.specs.Restarting.{Kept}
 use Rattle.dr_history.specs.Soundness.{Sound}
 use Rattle.dr_script.specs.declared.script.Script.{Script}
 use Rattle.dr_text.specs.Report.{is_absent}
-use Rattle.dr_words.specs.Masks.{mask_of, without}
+use Rattle.dr_words.specs.Masks.{mask_of}
 use Rattle.dr_check.specs.Lines.{EndFits, EntryFits, IsLong}
 use Rattle.dr_check.specs.declared.report.Report.{Report}
 use Rattle.dr_check.specs.declared.report.ReportAge.{ReportAge}
@@ -23,11 +24,25 @@ use Rattle.dr_check.specs.declared.report.ReportMember.{ReportMember}
 abbrev pub took_part : List MemberEnd → ℕ → Bool
 took_part ends m = option_map_or (λ (e : MemberEnd). not (is_absent e.end)) (slice_get ends m) false
 
+-- the mask of the View that stands at a place, and 0 where none does
+abbrev pub mask_named : Option Entry → ℕ
+mask_named None = 0
+mask_named (Some (View age number members)) = members
+mask_named (Some (Msg sender index bytes)) = 0
+
+-- the mask of an age's View 0, which stands right behind the start: by the history of the first member that
+-- took part
+abbrev pub told_members : AgeEnd → ℕ
+told_members a =
+    mask_named
+    (option_and_then (λ (e : MemberEnd). slice_get e.history (length a.start))
+    (find (λ (e : MemberEnd). not (is_absent e.end)) a.members))
+
 -- how an age of a script opened: with the members that took part, of whom those that aren't late were in View 0
-abbrev pub told_opening : Script → ℕ → AgeEnd → Opening
-told_opening script late a = record {
+abbrev pub told_opening : Script → AgeEnd → Opening
+told_opening script a = record {
   age = a.age;
-  members = without (mask_of (took_part a.members)) late;
+  members = told_members a;
   present = mask_of (took_part a.members);
   start = a.start;
   messages = script.messages;
@@ -51,16 +66,16 @@ abbrev pub HasValues : List AgeEnd → Report → Type 0
 HasValues ages r = AllZip HasAge ages r.ages
 
 -- an age that has ended, with an end for each member of the roster, and those that took part agree
-pub record IsAgreed (script : Script) (late : ℕ) (a : AgeEnd) : Type 0 where
+pub record IsAgreed (script : Script) (a : AgeEnd) : Type 0 where
   pub all : length a.members ≡ script.members
-  pub sound : Sound (told_opening script late a)
-  pub agreed : EndsAgreed (told_opening script late a) a.members
+  pub sound : Sound (told_opening script a)
+  pub agreed : EndsAgreed (told_opening script a) a.members
 
 -- each age keeps what the one before it had
-abbrev pub KeepEachOther : Script → ℕ → List AgeEnd → Type 0
-KeepEachOther script late ages =
+abbrev pub KeepEachOther : Script → List AgeEnd → Type 0
+KeepEachOther script ages =
     (i : ℕ) (a next : AgeEnd) → slice_get ages i ≡ Some a → slice_get ages (suc i) ≡ Some next
-    → Kept (told_opening script late a) (accounts_of a.members) (told_opening script late next)
+    → Kept (told_opening script a) (accounts_of a.members) (told_opening script next)
 
 -- a member that was absent has no entries, and the numbers 0
 pub record TellsNothing (e : MemberEnd) : Type 0 where

@@ -17,15 +17,14 @@ ghost use Rattle.dr_script.specs.declared.script.Script.{Script as ScriptOf};
 use crate::report::Report;
 use dr_entry::AgeEnd;
 use dr_script::Script;
-use dr_words::Mask;
 
-/// A report that has the values of ages whose members agree, some of them late ones, each of which keeps what
-/// the one before it had, keeps every clause.
-pub fn report_passes(_script: &Script, _late: Mask, _ages: &[AgeEnd], _report: &Report)
+/// A report that has the values of ages whose members agree, those that aren't in an age's View 0 being late
+/// ones, and each of which keeps what the one before it had, keeps every clause.
+pub fn report_passes(_script: &Script, _ages: &[AgeEnd], _report: &Report)
     requires ranges { HasGroupRanges _script.now }
     requires values { HasValues _ages.now _report.now }
-    requires agreed { All (IsAgreed _script.now _late) _ages.now }
-    requires kept { KeepEachOther _script.now _late _ages.now }
+    requires agreed { All (IsAgreed _script.now) _ages.now }
+    requires kept { KeepEachOther _script.now _ages.now }
     ensures { IsRight _script.now _report.now }
 {}
 
@@ -64,12 +63,12 @@ pub fn printed_ages_are_reports()
         → (r : ReportOf) × IsReport members (report_text ages last) r × HasValues ages r }
 {}
 
-/// What is printed of ages whose members agree, some of them late ones, each of which keeps what the one before
-/// it had, is a report that keeps every clause.
-pub fn printed_ages_are_right(_script: &Script, _late: Mask, _ages: &[AgeEnd])
+/// What is printed of ages whose members agree, those that aren't in an age's View 0 being late ones, and each
+/// of which keeps what the one before it had, is a report that keeps every clause.
+pub fn printed_ages_are_right(_script: &Script, _ages: &[AgeEnd])
     requires ranges { HasGroupRanges _script.now }
-    requires agreed { All (IsAgreed _script.now _late) _ages.now }
-    requires kept { KeepEachOther _script.now _late _ages.now }
+    requires agreed { All (IsAgreed _script.now) _ages.now }
+    requires kept { KeepEachOther _script.now _ages.now }
     requires small { All HasSmallNumbers _ages.now }
     ensures { (last : LastOf) → LastFits last → (r : ReportOf)
         × IsReport _script.now.members (report_text _ages.now last) r × IsRight _script.now r }

@@ -12,7 +12,7 @@ use Rattle.dr_ages.specs.Runs.{AreKept, IsRunOf}
 use Rattle.dr_ages.specs.declared.mode.Mode.{Mode}
 use Rattle.dr_ages.specs.declared.part.Part.{Part}
 use Rattle.dr_ages.specs.declared.stop.Stop.{Stop}
-use Rattle.dr_check.proofs.Agreed.{end_there, is_here, order}
+use Rattle.dr_check.proofs.Agreed.{end_there, is_here, order, told_as_opened}
 use Rattle.dr_check.proofs.Flawless.{printed_right}
 use Rattle.dr_check.proofs.Places.{all_at, all_from_places}
 use Rattle.dr_check.specs.Lines.{EndFits, LastFits}
@@ -45,7 +45,7 @@ use Rattle.dr_text.specs.declared.last.Last.TheVariants as lasts
 use Rattle.dr_text.specs.Report.{is_absent, report_text}
 use Rattle.dr_words.proofs.Bits.{has_ones, has_zero}
 use Rattle.dr_words.proofs.Masks.{has_mask_of, in_roster_small, same_masks}
-use Rattle.dr_words.specs.Masks.{mask_of, without}
+use Rattle.dr_words.specs.Masks.{mask_of}
 use Rattle.dr_yard.specs.Yards.{AllTell, YardState}
 use Rattle.dr_commands.specs.Check.{IsVerdict}
 use Rattle.dr_commands.proofs.Succession.{low_number}
@@ -147,11 +147,11 @@ log_fits (ends.Spent turns) by_log other = absurd (true≢false (sym by_log))
 log_fits ends.Absent by_log other = absurd (true≢false (sym by_log))
 
 -- any but that of a full log
-end_fits : (script : Script) (late : ℕ) (a : AgeEnd) (nth m : ℕ) (e : MemberEnd) → HasRanges script → IsAgreed script late a
+end_fits : (script : Script) (a : AgeEnd) (nth m : ℕ) (e : MemberEnd) → HasRanges script → IsAgreed script a
     → slice_get a.members m ≡ Some e → is_absent e.end ≡ false
-    → HasEnded (told_opening script late a) a.members script.turns m (crashes_of script.faults nth m) e
+    → HasEnded (told_opening script a) a.members script.turns m (crashes_of script.faults nth m) e
     → is_of LogFull e.end ≡ false → EndFits e.end
-end_fits script late a nth m e ranges good here took ended other = by ended.reason
+end_fits script a nth m e ranges good here took ended other = by ended.reason
   where
     few : length script.messages ≤ 16
     few = omega (arith, ranges.group.most_members, ranges.group.lists)
@@ -159,10 +159,10 @@ end_fits script late a nth m e ranges good here took ended other = by ended.reas
     low : ended.number ≤ 32
     low =
         let view : GroupView = record { age = a.age; number = ended.number; members = members_of ended.members } in
-        low_number (told_opening script late a) (sent_by (accounts_of a.members)) e.history view
-        (order script late a ranges.group.most_members good m e here took) ended.view
+        low_number (told_opening script a) (sent_by (accounts_of a.members)) e.history view
+        (order script a ranges.group.most_members good m e here took) ended.view
 
-    by : HasReason (told_opening script late a) a.members ended.number ended.members script.turns m
+    by : HasReason (told_opening script a) a.members ended.number ended.members script.turns m
         (crashes_of script.faults nth m) e → EndFits e.end
     by (inl done) = subst EndFits (sym done.whole.end) tt
     by (inr (inl spent)) =
@@ -171,7 +171,7 @@ end_fits script late a nth m e ranges good here took ended other = by ended.reas
     by (inr (inr (inl crashed))) = subst EndFits (sym crashed.end) tt
     by (inr (inr (inr (inl by_log)))) = log_fits e.end by_log.end other
     by (inr (inr (inr (inr left)))) =
-        left_fits (told_opening script late a) a.members ended.number ended.members m e.end few low ended.roster
+        left_fits (told_opening script a) a.members ended.number ended.members m e.end few low ended.roster
         left.end
 
 -- ---- who took part
@@ -216,12 +216,21 @@ took members missing i es all away = by (slice_get es i) refl
         ∙ ap not (as_absent e.end (has missing i) (away i e some))
         ∙ sym (ap (λ b. b && not (has missing i)) (has_ones members i ∙ below))
 
--- so an age opened as its ends tell
+-- the group of an age
+its_group : (script : Script) (part : Part) (mode : Mode) (nth : ℕ) (before after : YardState) (age : AgeEnd)
+    → HasRanges script → IsAgeOf script part mode nth before after age
+    → IsGroup (group_of script (start_of script part age))
+its_group script part mode nth before after age ranges is =
+    chosen_group script is.contents (start_of script part age) ranges.group is.starts
+
+-- an age opened as its ends tell
 opened_as_told : (script : Script) (part : Part) (mode : Mode) (nth : ℕ) (before after : YardState) (age : AgeEnd)
-    → IsAgeOf script part mode nth before after age → told_opening script part.late age ≡ opening_of script part age
-opened_as_told script part mode nth before after age is =
-    ap (λ mask. record (told_opening script part.late age) { members = without mask part.late; present = mask })
-    same
+    → HasRanges script → IsAgeOf script part mode nth before after age
+    → told_opening script age ≡ opening_of script part age
+opened_as_told script part mode nth before after age ranges is =
+    told_as_opened script (opening_of script part age) age ranges.group is.roster
+    (ap (λ mask. record (opening_of script part age) { present = mask }) same)
+    (its_group script part mode nth before after age ranges is).sound is.agreed
   where
     same : mask_of (took_part age.members) ≡ taking_part script part.missing
     same = same_masks (mask_of (took_part age.members)) (taking_part script part.missing)
@@ -243,22 +252,16 @@ all_ages P script part mode each nth before after (age ∷ ages) (between, is, r
     All-cons P age ages (each nth before between age is)
     (all_ages P script part mode each (nth + 1) between after ages rest)
 
-its_group : (script : Script) (part : Part) (mode : Mode) (nth : ℕ) (before after : YardState) (age : AgeEnd)
-    → HasRanges script → IsAgeOf script part mode nth before after age
-    → IsGroup (group_of script (start_of script part age))
-its_group script part mode nth before after age ranges is =
-    chosen_group script is.contents (start_of script part age) ranges.group is.starts
-
 agreed_age : (script : Script) (part : Part) (mode : Mode) (nth : ℕ) (before after : YardState) (age : AgeEnd)
-    → HasRanges script → IsAgeOf script part mode nth before after age → IsAgreed script part.late age
+    → HasRanges script → IsAgeOf script part mode nth before after age → IsAgreed script age
 agreed_age script part mode nth before after age ranges is = record {
   all = is.roster;
   sound = subst Sound (sym same) (its_group script part mode nth before after age ranges is).sound;
   agreed = subst (λ o. EndsAgreed o age.members) (sym same) is.agreed;
 }
   where
-    same : told_opening script part.late age ≡ opening_of script part age
-    same = opened_as_told script part mode nth before after age is
+    same : told_opening script age ≡ opening_of script part age
+    same = opened_as_told script part mode nth before after age ranges is
 
 -- an age, and that its numbers are small where no log was full
 abbrev IsSmallUnlessFull : AgeEnd → Type 0
@@ -281,16 +284,16 @@ small_age script part mode nth before after age ranges is room = record {
   ends = all_from_places (λ (e : MemberEnd). EndFits e.end ⊎ TellsNothing e) age.members each;
 }
   where
-    good : IsAgreed script part.late age
+    good : IsAgreed script age
     good = agreed_age script part mode nth before after age ranges is
 
-    same : told_opening script part.late age ≡ opening_of script part age
-    same = opened_as_told script part mode nth before after age is
+    same : told_opening script age ≡ opening_of script part age
+    same = opened_as_told script part mode nth before after age ranges is
 
     not_there : (m : ℕ) (e : MemberEnd) → slice_get age.members m ≡ Some e → is_absent e.end ≡ true
-        → IsPresentIn (told_opening script part.late age) m → ⊥
+        → IsPresentIn (told_opening script age) m → ⊥
     not_there m e at away here =
-        let other = end_there script part.late age m here in
+        let other = end_there script age m here in
         absurd (cc (
           away,
           other.2,
@@ -304,20 +307,20 @@ small_age script part mode nth before after age ranges is room = record {
           (subst (λ o. IsPresentIn o m) (sym same) here))))
       | inr there ↦
           let here : IsPresentIn (opening_of script part age) m =
-          subst (λ o. IsPresentIn o m) same (is_here script part.late age ranges.group.most_members good m e at there) in
+          subst (λ o. IsPresentIn o m) same (is_here script age ranges.group.most_members good m e at there) in
           let ended = subst
           (λ o. HasEnded o age.members script.turns m (crashes_of script.faults nth m) e) (sym same)
           (is.ended.each m e at here) in
-          inl (end_fits script part.late age nth m e ranges good at there ended (room m e at))
+          inl (end_fits script age nth m e ranges good at there ended (room m e at))
     ]
 
 keep_each_other : (script : Script) (part : Part) (ages : List AgeEnd) → AreKept script part ages
-    → All (λ age. told_opening script part.late age ≡ opening_of script part age) ages → KeepEachOther script part.late ages
+    → All (λ age. told_opening script age ≡ opening_of script part age) ages → KeepEachOther script ages
 keep_each_other script part ages kept told i a next at after =
     let same : suc i ≡ i + 1 = omega arith in
-    let one = all_at (λ age. told_opening script part.late age ≡ opening_of script part age) ages i a told at in
-    let other = all_at (λ age. told_opening script part.late age ≡ opening_of script part age) ages (suc i) next told after in
-    subst (λ o. Kept o (accounts_of a.members) (told_opening script part.late next)) (sym one)
+    let one = all_at (λ age. told_opening script age ≡ opening_of script part age) ages i a told at in
+    let other = all_at (λ age. told_opening script age ≡ opening_of script part age) ages (suc i) next told after in
+    subst (λ o. Kept o (accounts_of a.members) (told_opening script next)) (sym one)
     (subst (λ o. Kept (opening_of script part a) (accounts_of a.members) o) (sym other)
     (kept.next i a next at (ap (slice_get ages) (sym same) ∙ after)))
 
@@ -331,13 +334,13 @@ run_right script part mode before after ages stop last ranges tell run is end =
     let small = all_ages IsSmallUnlessFull script part mode
     (λ nth before after age is. small_age script part mode nth before after age ranges is) 0 before run.last ages
     run.course in
-    printed_right script part.late ages last ranges.group
-    (all_ages (IsAgreed script part.late) script part mode
+    printed_right script ages last ranges.group
+    (all_ages (IsAgreed script) script part mode
     (λ nth before after age is. agreed_age script part mode nth before after age ranges is) 0 before run.last
     ages run.course)
     (keep_each_other script part ages (run.kept tell)
-    (all_ages (λ age. told_opening script part.late age ≡ opening_of script part age) script part mode
-    (λ nth before after age is. opened_as_told script part mode nth before after age is) 0 before run.last
+    (all_ages (λ age. told_opening script age ≡ opening_of script part age) script part mode
+    (λ nth before after age is. opened_as_told script part mode nth before after age ranges is) 0 before run.last
     ages run.course))
     (all_from_places HasSmallNumbers ages
     (λ i age at. all_at IsSmallUnlessFull ages i age small at
