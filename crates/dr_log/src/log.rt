@@ -312,7 +312,9 @@ impl<D: Disk> Log<D> {
     /// That of the append that was refused. The upgrade may stand alone.
     pub fn vote_age(&mut self, age: u16, members: u16) -> Result<(), LogFault>
         requires some { 0 < members }
-        requires spare { 2 ≤ self.old.spare_others }
+        requires spare { 1 ≤ self.old.spare_others }
+        // The upgrade of a log of the older format takes one more.
+        requires spare_upgrade { self.old.content.newer ≡ false → 2 ≤ self.old.spare_others }
         requires whole { self.old.failed ≡ false }
         // It is one append, or two.
         ensures appends { HasVotedAge D.told D.faults self.old self.new
@@ -341,6 +343,7 @@ impl<D: Disk> Log<D> {
         ensures newer { OnOk result (self.new.content.newer ≡ true) }
         ensures whole { OnOk result (self.new.failed ≡ false) }
         ensures spare { self.old.spare_others ≤ self.new.spare_others + 1 }
+        ensures none_spent { self.old.content.newer ≡ true → self.new.spare_others ≡ self.old.spare_others }
         ensures any_moment { Goes (D.told self.old.disk) (D.told self.new.disk)
             (λ s. MayBeUpgraded self.old.content) }
         ensures faults { D.faults self.old.disk ≤ D.faults self.new.disk }
