@@ -1,4 +1,4 @@
-ghost use Rattle.std.specs.Prelude.{◌≡◌, ℕ, ◌+◌, ◌-◌, ◌*◌, ◌%◌, ◌^◌, ◌<◌, ◌≤◌, ◌↔◌, true, false, IsTrue, IsSome, Some, is_some, map, take};
+ghost use Rattle.std.specs.Prelude.{length, slice_index, ◌≡◌, ℕ, ◌+◌, ◌-◌, ◌*◌, ◌%◌, ◌^◌, ◌&&◌, ◌<◌, ◌≤◌, ◌↔◌, true, false, IsTrue, IsSome, Some, is_some, map, take};
 ghost use Rattle.std.specs.List.{list_all, range_with_len};
 ghost use Rattle.std.specs.Int.{bit_at, div_ceil};
 ghost use Rattle.dr_words.specs.Form.{AllInForm};
@@ -6,16 +6,23 @@ ghost use Rattle.dr_words.specs.Grown.{Grown};
 ghost use Rattle.dr_words.specs.Masks.{IsInRoster};
 ghost use Rattle.dr_words.specs.Packing.{ring_tag, ring_low};
 ghost use Rattle.dr_rows.specs.Words.{IsWords, seen};
-ghost use Rattle.dr_ring.specs.Pieces.{body_piece, bytes_of};
-ghost use Rattle.dr_ring.specs.Slots.{HasShape, IsFree, is_free, IsReady, is_of, item_in, slot_of, with_item};
+ghost use Rattle.dr_ring.specs.Pieces.{body_len, body_piece, bytes_of, is_head};
+ghost use Rattle.dr_ring.specs.Slots.{HasShape, IsFree, is_free, IsReady, is_of, item_in, slot_column, slot_of, with_item};
 ghost use Rattle.dr_ring.specs.Arrival.{Arrives};
 
 use dr_entry::{Item, MAX_MESSAGE_LENGTH, Message};
+use dr_lane::match_mask;
 use dr_rows::Rows;
 use dr_words::{Mask, PIECES, Shape, pack_ring, unpack_recv, unpack_ring};
 
 /// The piece of the head of a null. That of a message is its length.
 const NULL_MARK: u32 = u32::MAX;
+
+/// The most slots that a ring has.
+const MOST_SLOTS: usize = 8;
+
+/// How many words of a body are judged at once.
+const BLOCK: usize = 4;
 
 /// Whether the slot of the own item `k` can be written: `k` is among the first items, or each other
 /// of the `members` has received the item that stood there before.
@@ -80,12 +87,8 @@ pub fn is_ready(rows: &Rows, shape: &Shape, row: u8, k: u32) -> bool
     ensures ready { IsTrue result ↔ IsReady k (slot_of shape.now.window rows.now row k) }
     ensures value { result ≡ is_some (item_in k (slot_of shape.now.window rows.now row k)) }
 {
-    let slot = slot_at(shape, k);
-    let word = rows.seen(row, shape.head_column(slot));
-    let (_, head) = unpack_ring(word);
-    is_of(k, word)
-        && (head == NULL_MARK
-            || head as usize <= MAX_MESSAGE_LENGTH && has_body(rows, shape, row, k, head as usize))
+    let column = shape.head_column(slot_at(shape, k));
+    is_of(k, rows.seen(row, column)) && has_rest(rows, row, column, k)
 }
 
 /// Which of the items from `k` on can be read from this row, as many as a ring has slots: bit `i`, from
@@ -98,9 +101,14 @@ pub fn sweep(rows: &Rows, shape: &Shape, row: u8, k: u32) -> u16
         → (bit_at result i ≡ 1) ↔ IsReady (k + i) (slot_of shape.now.window rows.now row (k + i)) }
     ensures clear { (i : ℕ) → shape.now.window ≤ i → bit_at result i ≡ 0 }
 {
+    let (columns, heads) = seen_heads(rows, shape, row, k);
+    if heads == 0 {
+        return 0;
+    }
     let mut mask = 0;
     for i in 0..shape.window {
-        if is_ready(rows, shape, row, k + u32::from(i)) {
+        let column = columns[usize::from(i)];
+        if heads >> i & 1 == 1 && has_rest(rows, row, column, k + u32::from(i)) {
             mask |= 1 << i;
         }
     }
@@ -156,21 +164,102 @@ fn is_of(k: u32, word: u64) -> bool
     u64::from(tag) == u64::from(k) + 1
 }
 
-// Whether all words of the body of item `k` were seen that hold so many bytes.
-fn has_body(rows: &Rows, shape: &Shape, row: u8, k: u32, len: usize) -> bool
+// The columns of the heads of the items from `k` on, as many as a ring has slots, and which of these heads
+// were seen: bit `i` is set exactly where that of item `k + i` was. To each tag is added how many items there
+// are from its item on, so that all are compared with the same number.
+#[inline(always)]
+fn seen_heads(rows: &Rows, shape: &Shape, row: u8, k: u32) -> ([usize; MOST_SLOTS], u64)
     requires shape { HasShape shape.now rows.now }
     requires row { row < rows.now.members }
+    requires number { k + shape.now.window < 2 ^ 32 }
+    ensures long { length result.0 ≡ MOST_SLOTS }
+    ensures columns { (i : ℕ) → i < shape.now.window
+        → slice_index result.0 i ≡ slot_column rows.now.members shape.now.window (k + i) }
+    ensures heads { (i : ℕ) → i < shape.now.window → (bit_at result.1 i ≡ 1)
+        ↔ (is_of (k + i) (slot_of shape.now.window rows.now row (k + i) 0) ≡ true) }
+{
+    let mut columns = [0; MOST_SLOTS];
+    let mut tags = [0; MOST_SLOTS];
+    for i in 0..shape.window {
+        let column = shape.head_column(slot_at(shape, k + u32::from(i)));
+        columns[usize::from(i)] = column;
+        tags[usize::from(i)] = tag_at(rows, row, column) + u64::from(shape.window - i);
+    }
+    (
+        columns,
+        match_mask(&tags, u64::from(k) + 1 + u64::from(shape.window)),
+    )
+}
+
+// The tag of a word of a ring in this row.
+#[inline(always)]
+fn tag_at(rows: &Rows, row: u8, column: usize) -> u64
+    requires row { row < rows.now.members }
+    requires column { column < rows.now.columns }
+    ensures value { result ≡ ring_tag (seen rows.now row column) }
+    ensures within { result < 2 ^ 32 }
+{
+    let (tag, _) = unpack_ring(rows.seen(row, column));
+    u64::from(tag)
+}
+
+// Whether this head, of whose tag nothing is asked, is one, and all words behind it that it asks for are of
+// item `k`.
+#[inline(always)]
+fn has_rest(rows: &Rows, row: u8, column: usize, k: u32) -> bool
+    requires row { row < rows.now.members }
+    requires column { column + PIECES ≤ rows.now.columns }
+    requires narrow { rows.now.columns ≤ 1024 }
+    ensures { let slot : ℕ → ℕ = λ part. seen rows.now row (column + part) in let head = ring_low (slot 0) in
+        result ≡ (is_head head && list_all (is_of k) (map slot (range_with_len 1 (body_len head)))) }
+{
+    let (_, head) = unpack_ring(rows.seen(row, column));
+    head == NULL_MARK
+        || head as usize <= MAX_MESSAGE_LENGTH && has_body(rows, row, column, k, head as usize)
+}
+
+// Whether all words behind this head that hold so many bytes are of item `k`. It takes whole blocks of words
+// at once, and then the rest one by one.
+#[inline(always)]
+fn has_body(rows: &Rows, row: u8, column: usize, k: u32, len: usize) -> bool
+    requires row { row < rows.now.members }
+    requires column { column + PIECES ≤ rows.now.columns }
+    requires narrow { rows.now.columns ≤ 1024 }
     requires len { len ≤ MAX_MESSAGE_LENGTH }
     ensures { result ≡ list_all (is_of k)
-        (map (slot_of shape.now.window rows.now row k) (range_with_len 1 (div_ceil len 4))) }
+        (map (λ part. seen rows.now row (column + part)) (range_with_len 1 (div_ceil len 4))) }
 {
-    let body = shape.body_column(slot_at(shape, k), 0);
-    for part in 0..len.div_ceil(4) {
-        if !is_of(k, rows.seen(row, body + part)) {
+    let count = len.div_ceil(4);
+    let mut part = 0;
+    while count - part >= BLOCK {
+        if !is_block_of(rows, row, column + 1 + part, k) {
+            return false;
+        }
+        part += BLOCK;
+    }
+    for i in part..count {
+        if !is_of(k, rows.seen(row, column + 1 + i)) {
             return false;
         }
     }
     true
+}
+
+// Whether the words of a block, from a column on, are of item `k`.
+#[inline(always)]
+fn is_block_of(rows: &Rows, row: u8, column: usize, k: u32) -> bool
+    requires row { row < rows.now.members }
+    requires column { column + 4 ≤ rows.now.columns }
+    requires narrow { rows.now.columns ≤ 1024 }
+    ensures { IsTrue result ↔ ((i : ℕ) → i < 4 → is_of k (seen rows.now row (column + i)) ≡ true) }
+{
+    let tags = [
+        tag_at(rows, row, column),
+        tag_at(rows, row, column + 1),
+        tag_at(rows, row, column + 2),
+        tag_at(rows, row, column + 3),
+    ];
+    match_mask(&tags, u64::from(k) + 1) == 0b1111
 }
 
 // The message of so many bytes in the body of item `k`.
