@@ -1,5 +1,5 @@
-//! What is certain of a group that has time enough: in lockstep, without crashes and failed appends, where
-//! nobody is missing or late, every member delivers everything.
+//! What is certain of a group that has time enough, and how many turns are: in lockstep, without crashes and
+//! failed appends, where nobody is missing or late, every member delivers everything.
 //!
 //! That a member has nothing left to do at the end of its turn comes from `dr_turn_laws`, and that one that
 //! is done holds everything from `dr_world_laws`; this crate shows how far each round brings the members on.

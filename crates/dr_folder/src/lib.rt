@@ -1,5 +1,7 @@
 //! What a folder of logs is: what each file has, what the next run over them would start with or be refused by,
 //! and which log may be moved away.
+//!
+//! A law says that a run over disks with the bytes of these files comes to what is foretold of it.
 #![tactic(auto)]
 
 mod advice;

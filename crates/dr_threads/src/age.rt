@@ -1,4 +1,4 @@
-//! The run of an age.
+//! The run of the members of a hand.
 ghost use Rattle.std.specs.Prelude.{◌≡◌, ◌<◌, ◌≤◌, ◌+◌, ◌++◌, IfErr, IfOk, List, length, vec_capacity, Option};
 ghost use Rattle.std.specs.Thread.{IsSync};
 ghost use Rattle.dr_log.specs.State.{LogState};
