@@ -3,19 +3,25 @@
 //!
 //! A line is the name of its case, what is called, and what it is called with: `front COUNT..`,
 //! `merge_next FROM COUNT..`, `null_due RANK COUNT..`, `place RANKS RANK ITEM`, `frozen MEMBERS ME ROW` and
-//! `next_rest FROM MEMBERS TRIM..` with numbers; `merge COUNT..`, `agreed HISTORY HISTORY` and `in_order HISTORY`
-//! with histories; `mask BITS` prints a mask, and `script TEXT` what is read of a script; `next`, `newcomers`,
-//! `welcomer`, `may_wish`, `views` and `letter_end` are those of joins; `reader` and `writer` are called with one
-//! that is interrupted and fails. A line that begins with `#` says what those behind it show.
+//! `next_rest FROM MEMBERS TRIM..` with numbers; `merge COUNT..`, `agreed HISTORY HISTORY` and
+//! `in_order HISTORY` with histories; `least WORD..`, `count_equal TO WORD..` and `match_mask TO WORD..` with
+//! words; `mask BITS` prints a mask, and `script TEXT` what is read of a script; `next`, `newcomers`,
+//! `welcomer`, `may_wish`, `views` and `letter_end` are those of joins; `watch KIND WORD WORD` polls a watch;
+//! `reader` and `writer` are called with one that is interrupted and fails. A line that begins with `#` says
+//! what those behind it show.
 mod histories;
 mod joins;
+mod lanes;
 mod numbers;
 mod outside;
+mod watches;
 
 use crate::base::histories::told_of_histories;
 use crate::base::joins::told_of_joins;
+use crate::base::lanes::answer_over;
 use crate::base::numbers::answer_to;
 use crate::base::outside::{told_of_reader, told_of_writer};
+use crate::base::watches::told_of_watch;
 use anyhow::anyhow;
 use dr_script::read_script;
 use dr_words::Mask;
@@ -51,6 +57,10 @@ fn told_of(alloc: Global, line: &str) -> anyhow::Result<String> {
         "next" | "newcomers" | "welcomer" | "may_wish" | "views" | "letter_end" => {
             told_of_joins(alloc, name, rest)?
         }
+        "least" | "count_equal" | "match_mask" => {
+            format!(in alloc; "{:?}", answer_over(alloc, name, rest)?)?
+        }
+        "watch" => told_of_watch(alloc, rest)?,
         _ => format!(in alloc; "{:?}", answer_to(alloc, name, rest)?)?,
     })
 }

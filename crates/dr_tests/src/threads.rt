@@ -1,6 +1,6 @@
 //! This part runs each script that it reads, a script a line, live, in as many rounds as its word
 //! asks for. It prints the report of the ages, and behind the last line of that what `derecho live` says of
-//! them before its last line. At the line `moments` it runs apps that push at different moments, in two rounds,
+//! them before its last line. At the line `moments` it runs apps that push at different moments, in three rounds,
 //! and prints in which ages their messages are. A script behind the word `shards` is laid out in one shard,
 //! whose members run in threads that wait for one another after each turn; behind what is said of it stands
 //! whether they met.
@@ -15,12 +15,10 @@ use dr_intake::words_of;
 use dr_io::OutputSink;
 use dr_outcome::{Body, Outcome};
 use dr_pace::{MeetPace, SnoozePace};
+use dr_script::read_script;
 use dr_text::Report;
 use std::alloc::Global;
 use std::thread::Threads;
-
-/// How many members the shard has whose threads wait for one another.
-const MEMBERS: u8 = 4;
 
 /// How often a thread looks at most whether the others have come.
 const LOOKS: u64 = 100_000_000;
@@ -52,7 +50,7 @@ pub(crate) fn show(
     Ok(())
 }
 
-/// What comes of a script of four members in one shard, whose threads wait for one another, and whether they met.
+/// What comes of a script in one shard, whose threads wait for one another, and whether they met.
 fn run_one_shard(
     rt: &(impl Threads + Sync),
     alloc: Global,
@@ -65,9 +63,12 @@ fn run_one_shard(
     let Some(sharding) = sharding_of(&words) else {
         return Err(anyhow!("these words ask for no shards"));
     };
-    let pace = MeetPace::new(alloc, MEMBERS, LOOKS)?;
+    let Ok(group) = read_script(alloc, script.as_bytes()) else {
+        return Err(anyhow!("this is no script"));
+    };
+    let pace = MeetPace::new(alloc, group.members, LOOKS)?;
     let outcome = run_sharded(rt, alloc, script.as_bytes(), &sharding, &pace);
-    let has_met = pace.missed() == 0 && pace.met() >= u32::from(MEMBERS);
+    let has_met = pace.missed() == 0 && pace.met() >= u32::from(group.members);
     Ok((outcome, has_met))
 }
 

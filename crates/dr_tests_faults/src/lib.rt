@@ -1,6 +1,6 @@
 //! Tests of runs whose disks stop or fail, at each of their calls in turn, of calls whose source, sink or disks
-//! fail, or whose threads wait for one another, of ages that the log of a member stops, of a file that has become
-//! shorter, and of the script of a drill.
+//! fail, or whose threads wait for one another, of ages that the log of a member stops, of files that are cut or
+//! have become shorter, and of the script of a drill.
 #![tactic(auto)]
 
 #[cfg(test)]
@@ -9,6 +9,8 @@ mod drill;
 mod faults;
 #[cfg(test)]
 mod files;
+#[cfg(test)]
+mod meetings;
 #[cfg(test)]
 mod runs;
 #[cfg(test)]

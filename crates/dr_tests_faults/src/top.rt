@@ -84,15 +84,15 @@ fault: disk of member 0
 /// What a call is made with: its words, the script on its source, which reads of that fail, and the room of
 /// its sink.
 #[derive(Clone, Copy)]
-struct Call<'a> {
-    words: &'a [&'a str],
-    script: &'a [u8],
-    fails: &'a [u64],
-    room: usize,
+pub(crate) struct Call<'a> {
+    pub(crate) words: &'a [&'a str],
+    pub(crate) script: &'a [u8],
+    pub(crate) fails: &'a [u64],
+    pub(crate) room: usize,
 }
 
 /// A call whose source doesn't fail, and whose sink has room.
-fn plain_call<'a>(words: &'a [&'a str], script: &'a [u8]) -> Call<'a> {
+pub(crate) fn plain_call<'a>(words: &'a [&'a str], script: &'a [u8]) -> Call<'a> {
     Call {
         words,
         script,
@@ -102,7 +102,7 @@ fn plain_call<'a>(words: &'a [&'a str], script: &'a [u8]) -> Call<'a> {
 }
 
 /// How a call ends, and what it has written.
-fn outcome<Y: Yard, P: Pace + Sync>(
+pub(crate) fn outcome<Y: Yard, P: Pace + Sync>(
     rt: &(impl Threads + Sync + Abort),
     alloc: Global,
     call: Call<'_>,
@@ -213,7 +213,7 @@ fn a_late_member_joins_in_threads(rt: HostRuntime) -> Result<(), Fail> {
     let pace = MeetPace::new(alloc, 3, LOOKS)?;
     let join = plain_call(&["run", "--late", "2"], JOIN);
     let (ended, sink) = outcome(&rt, alloc, join, &mut yard, &pace)?;
-    assert!(rt; ended.status == 0 && pace.missed() == 0);
+    assert!(rt; ended.status == 0 && pace.missed() == 0 && pace.met() >= 3);
     assert!(rt; sink.bytes().ends_with(b"\nok\n"));
     let [age] = ended.ages.as_slice() else {
         return Err(Fail::from("one age was asked for"));
