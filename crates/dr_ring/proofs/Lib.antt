@@ -2,6 +2,7 @@ pub mod Freedom
 pub mod Bodies
 pub mod Readiness
 pub mod Marked
+pub mod Heads
 pub mod Writes
 pub mod Growing
 pub mod Items

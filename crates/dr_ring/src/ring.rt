@@ -1,12 +1,13 @@
 ghost use Rattle.std.specs.Prelude.{length, slice_index, ◌≡◌, ℕ, ◌+◌, ◌-◌, ◌*◌, ◌%◌, ◌^◌, ◌&&◌, ◌<◌, ◌≤◌, ◌↔◌, true, false, IsTrue, IsSome, Some, is_some, map, take};
 ghost use Rattle.std.specs.List.{list_all, range_with_len};
 ghost use Rattle.std.specs.Int.{bit_at, div_ceil};
+ghost use Rattle.dr_words.specs.Columns.{columns_of};
 ghost use Rattle.dr_words.specs.Form.{AllInForm};
 ghost use Rattle.dr_words.specs.Grown.{Grown};
 ghost use Rattle.dr_words.specs.Masks.{IsInRoster};
 ghost use Rattle.dr_words.specs.Packing.{ring_tag, ring_low};
 ghost use Rattle.dr_rows.specs.Words.{IsWords, seen};
-ghost use Rattle.dr_ring.specs.Pieces.{body_len, body_piece, bytes_of, is_head};
+ghost use Rattle.dr_ring.specs.Pieces.{body_len, body_piece, bytes_of, is_head, null_mark};
 ghost use Rattle.dr_ring.specs.Slots.{HasShape, IsFree, is_free, IsReady, is_of, item_in, slot_column, slot_of, with_item};
 ghost use Rattle.dr_ring.specs.Arrival.{Arrives};
 
@@ -101,9 +102,9 @@ pub fn sweep(rows: &Rows, shape: &Shape, row: u8, k: u32) -> u16
         → (bit_at result i ≡ 1) ↔ IsReady (k + i) (slot_of shape.now.window rows.now row (k + i)) }
     ensures clear { (i : ℕ) → shape.now.window ≤ i → bit_at result i ≡ 0 }
 {
-    let (columns, heads) = seen_heads(rows, shape, row, k);
-    if heads == 0 {
-        return 0;
+    let (columns, heads, are_nulls) = seen_heads(rows, shape, row, k);
+    if heads == 0 || are_nulls {
+        return heads as u16;
     }
     let mut mask = 0;
     for i in 0..shape.window {
@@ -164,11 +165,13 @@ fn is_of(k: u32, word: u64) -> bool
     u64::from(tag) == u64::from(k) + 1
 }
 
-// The columns of the heads of the items from `k` on, as many as a ring has slots, and which of these heads
-// were seen: bit `i` is set exactly where that of item `k + i` was. To each tag is added how many items there
-// are from its item on, so that all are compared with the same number.
+// The columns of the heads of the items from `k` on, as many as a ring has slots, which of these heads were
+// seen, and whether all words in their columns, of whatever items, are heads of nulls. Bit `i` of the mask is
+// set exactly where the head of item `k + i` was seen. To each tag is added how many items there are from its
+// item on, so that all are compared with the same number. All bits that the pieces have in common are set
+// exactly where each piece is the mark of a null.
 #[inline(always)]
-fn seen_heads(rows: &Rows, shape: &Shape, row: u8, k: u32) -> ([usize; MOST_SLOTS], u64)
+fn seen_heads(rows: &Rows, shape: &Shape, row: u8, k: u32) -> ([usize; MOST_SLOTS], u64, bool)
     requires shape { HasShape shape.now rows.now }
     requires row { row < rows.now.members }
     requires number { k + shape.now.window < 2 ^ 32 }
@@ -177,18 +180,40 @@ fn seen_heads(rows: &Rows, shape: &Shape, row: u8, k: u32) -> ([usize; MOST_SLOT
         → slice_index result.0 i ≡ slot_column rows.now.members shape.now.window (k + i) }
     ensures heads { (i : ℕ) → i < shape.now.window → (bit_at result.1 i ≡ 1)
         ↔ (is_of (k + i) (slot_of shape.now.window rows.now row (k + i) 0) ≡ true) }
+    ensures clear { (i : ℕ) → shape.now.window ≤ i → bit_at result.1 i ≡ 0 }
+    ensures nulls { IsTrue result.2 ↔ ((i : ℕ) → i < shape.now.window
+        → ring_low (slot_of shape.now.window rows.now row (k + i) 0) ≡ null_mark) }
 {
     let mut columns = [0; MOST_SLOTS];
     let mut tags = [0; MOST_SLOTS];
+    let mut common = NULL_MARK;
+    let mut column = shape.head_column(slot_at(shape, k));
     for i in 0..shape.window {
-        let column = shape.head_column(slot_at(shape, k + u32::from(i)));
+        let (tag, piece) = unpack_ring(rows.seen(row, column));
         columns[usize::from(i)] = column;
-        tags[usize::from(i)] = tag_at(rows, row, column) + u64::from(shape.window - i);
+        tags[usize::from(i)] = u64::from(tag) + u64::from(shape.window - i);
+        common &= piece;
+        column = next_head(shape, column);
     }
     (
         columns,
         match_mask(&tags, u64::from(k) + 1 + u64::from(shape.window)),
+        common == NULL_MARK,
     )
+}
+
+// The column of the head behind this one; behind that of the last slot the first follows.
+#[inline(always)]
+fn next_head(shape: &Shape, column: usize) -> usize
+    requires { column < columns_of shape.now.members shape.now.window }
+    ensures { (k : ℕ) → column ≡ slot_column shape.now.members shape.now.window k
+        → result ≡ slot_column shape.now.members shape.now.window (k + 1) }
+{
+    if column == shape.head_column(shape.window - 1) {
+        shape.head_column(0)
+    } else {
+        column + PIECES
+    }
 }
 
 // The tag of a word of a ring in this row.

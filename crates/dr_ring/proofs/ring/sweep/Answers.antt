@@ -2,10 +2,17 @@ use Rattle.std.proofs.Common.{◌≡◌, ◌+◌, ◌<◌, ℕ, subst, sym, ap, 
 use Rattle.std.proofs.lemmas.Bool.{true≢false}
 use Rattle.std.proofs.lemmas.Nat.Bits.{shr_and_one}
 use Rattle.dr_ring.specs.Slots.{IsReady, slot_column, slot_of}
+use Rattle.dr_ring.proofs.Heads.{few_bits}
 use Rattle.dr_ring.proofs.Marked.{no_head, rest_behind}
 use Rattle.dr_ring.proofs.Readiness.{Marks, one_marked, one_unmarked}
 use Rattle.dr_ring.proofs.ring.sweep.Goals as goal
 use Rattle.dr_ring.proofs.ring.sweep.Goals.{then-heads-i-eq1+then-has_rest, else-heads-i-eq1, else-heads-i-eq1-via-then-heads-i-eq1+else-has_rest, else-heads-i-eq1-via-else-heads-i-eq1}
+
+pub overflow_cast-result : goal.overflow_cast-result
+overflow_cast-result c =
+    let small = few_bits c.seen_heads-heads.result.1 16
+    (λ i g. c.seen_heads-heads.ensures.clear i (omega (arith, g, c.args.shape.now.most_slots))) in
+    omega (arith, small)
 
 pub loop-i-preserved : goal.loop-i-preserved
 loop-i-preserved c =
