@@ -1,6 +1,6 @@
 -- Acts that put and take no items, before they stamp the beat word: turns, ends, logs, reports, marks and
 -- deliveries.
-use Rattle.std.proofs.Common.{List, [], ◌∷◌, ap, arith, drop, inl, le_of_eq, le_refl, le_trans, length, refl, sym, take, true, ℕ, ◌++◌, ◌+◌, ◌-◌, ◌<◌, ◌^◌, ◌∙◌, ◌≡◌, ◌≤◌}
+use Rattle.std.proofs.Common.{List, [], ◌∷◌, ap, arith, drop, false, inl, le_of_eq, le_refl, le_trans, length, refl, sym, take, true, ℕ, ◌++◌, ◌+◌, ◌-◌, ◌<◌, ◌^◌, ◌∙◌, ◌≡◌, ◌≤◌}
 use Rattle.std.proofs.lemmas.List.{take_all}
 use Rattle.dr_entry.specs.declared.end.End.{End}
 use Rattle.dr_entry.specs.declared.entry.Entry.{Entry}
@@ -99,7 +99,7 @@ word_keeps g V w m c x plain inside grown form told f = record {
   };
   logs = f.logs;
   delivered = delivered_word g V w.past.view w.next w.past.own m (w.past.view m) c x plain f.delivered;
-  fresh = fresh_written V w.past.view w.past.own w.past.count m (w.past.view m) _ (le_refl (w.past.view m))
+  fresh = fresh_written g V w.past.view w.past.own w.past.count m (w.past.view m) _ (le_refl (w.past.view m))
       (in_view g V w m f inside) f.fresh;
   closed = closed_written g V w.past.view w.past.own m _ f.closed;
   old = old_later g w.past.view w.past.own (at₃ w.past.own m (w.past.view m) c x) w.table w.seen
@@ -315,6 +315,8 @@ deliver_keeps g V w m can f = same_own_keeps g V w (delivers w m) refl
       held = λ a i. at_case (λ x n. has (V (w.past.view x)) i ≡ true → n
           ≤ w.past.own i (w.past.view x) 2) w.next m (w.next m + 1)
           (λ x d. f.delivered.held x i) (λ h. shows i h) a;
+      none = at_case (λ x n. has (V (w.past.view x)) x ≡ false → n ≡ 0) w.next m (w.next m + 1)
+          (λ x d. f.delivered.none x) (λ out. absurd (cc (out, in_view g V w m f can.may.inside)));
     })
     f.old f.form f
   where

@@ -142,6 +142,7 @@ begun g V is opens within = record {
     came = λ m e. absurd (grind (arith, has_zero m, e));
     back = λ m u e. absurd (omega (arith, e));
     present = λ m l. ap (λ k. has k m) opens ∙ l;
+    outside = λ m out. refl;
     within = within;
   };
   items = record {
@@ -198,10 +199,10 @@ begun g V is opens within = record {
       length-append g.opening.start (View g.opening.age 0 g.opening.members ∷ []),
     );
   };
-  delivered = record { held = λ m i h. omega arith };
+  delivered = record { held = λ m i h. omega arith; none = λ m out. refl };
   fresh = record {
     unwritten = λ m v c l. grind (arith, l);
-    outside = λ m v c out d. outside m v c out;
+    outside = λ m v c out some. absurd (some (outside m v c out));
     empty = λ m v s l. refl;
   };
   closed = λ m v l. absurd (omega (arith, l));

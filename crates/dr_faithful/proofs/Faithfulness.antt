@@ -1,5 +1,5 @@
 -- Each event keeps the members faithful and lets the words grow, so in every world that is reached they are.
-use Rattle.std.proofs.Common.{ap, arith, inl, inr, le_refl, length, refl, subst, suc, sym, true, unwrap_or, Some, ℕ, ◌%◌, ◌*◌, ◌+◌, ◌/◌, ◌<◌, ◌∙◌, ◌≡◌, ◌≢◌, ◌≤◌, ◌⊎◌}
+use Rattle.std.proofs.Common.{ap, arith, inl, inr, le_refl, length, refl, subst, suc, sym, true, unwrap_or, Some, ℕ, ◌%◌, ◌*◌, ◌+◌, ◌/◌, ◌<◌, ◌∙◌, ◌≡◌, ◌≤◌, ◌⊎◌}
 use Rattle.std.proofs.lemmas.Bool.{cases_lt}
 use Rattle.std.proofs.Math.Nat.{div-add-mod, mul-le-mul_left, mul-suc}
 use Rattle.std.proofs.lemmas.Nat.{mod_below}
@@ -11,7 +11,7 @@ use Rattle.dr_history.specs.Members.{has}
 use Rattle.dr_machine.specs.Acts.{CanDo, CanTake, Guard, does, effect, effect_of}
 use Rattle.dr_machine.specs.Effects.{appends, logs_vote, puts, stamped, finishes, finishes_by, stamped_in, welcomes}
 use Rattle.dr_machine.specs.Group.{Group, IsGroup, roster}
-use Rattle.dr_machine.specs.Guards.{IsInView, IsOther, IsRunning, next_index, unsuspected_of}
+use Rattle.dr_machine.specs.Guards.{IsInView, IsOther, IsRunning, next_index}
 use Rattle.dr_machine.specs.Run.{NoLaterItem, PastGrew, WordsGrew}
 use Rattle.dr_machine.specs.World.{World, items_received, no_value, opening_world}
 use Rattle.dr_machine.specs.Writes.{at}
@@ -24,20 +24,19 @@ use Rattle.dr_machine.specs.Events.{member_of, step_of}
 use Rattle.dr_rows.specs.Words.{own, seen}
 use Rattle.dr_faithful.proofs.Acts.{beside_letters, append_keeps, append_past, beat_keeps, deliver_keeps, deliver_past, end_keeps, mark_grew, mark_keeps, publish_grew, publish_keeps, report_keeps, report_past}
 use Rattle.dr_faithful.proofs.Begin.{begun}
-use Rattle.dr_faithful.proofs.Beside.{in_view}
+use Rattle.dr_faithful.proofs.Beside.{beats_late, in_view}
 use Rattle.dr_faithful.proofs.Finishes.{enter_grew, enter_past, finish_grew, finish_keeps, finish_past, join_keeps, joined_is}
 use Rattle.dr_faithful.proofs.Copies.{look_grew, look_keeps, push_grew, push_keeps}
 use Rattle.dr_faithful.proofs.Pieces.{sent_item, tag_of_piece}
 use Rattle.dr_faithful.proofs.Receipts.{receive_grew, receive_keeps, receive_past}
 use Rattle.dr_faithful.proofs.Puts.{may_message, may_null, put_grew, put_keeps, put_past}
-use Rattle.dr_faithful.proofs.Suspicions.{may_name, promise_least, suspect_grew, suspect_keeps, suspicions_told}
+use Rattle.dr_faithful.proofs.Suspicions.{may_name, suspect_grew, suspect_keeps}
 use Rattle.dr_faithful.proofs.Votes.{accept_grew, accept_keeps, commit_keeps, vote_keeps, vote_past}
 use Rattle.dr_faithful.proofs.Stamps.{stamp_grew, stamp_keeps, stamp_past}
 use Rattle.dr_faithful.proofs.Pasts.{past_on, past_same, same_past}
 use Rattle.dr_faithful.specs.Faithful.{AllGoOn, Faithful}
-use Rattle.dr_faithful.specs.Tells.{SuspicionsTold, TellsPiece, Views, item_named, item_sent, part_column}
+use Rattle.dr_faithful.specs.Tells.{TellsPiece, Views, item_named, item_sent, part_column}
 use Rattle.dr_words.proofs.Order.{HasGrown_same, HasGrown_trans}
-use Rattle.dr_words.specs.Masks.{IsLeastOf}
 use Rattle.dr_words.specs.Packing.{ring_tag}
 
 -- what holds of a member that has committed a value holds of the value that it takes
@@ -76,10 +75,20 @@ act_stays g w m acts.Finish = rises_at w.past.view m
 act_stays g w m acts.Beat = le_refl (w.past.view m)
 act_stays g w m a = le_refl (w.past.view m)
 
+-- only members of the roster without an end take steps
+pub step_alive : (g : Group) (w : World) (m : ℕ) (s : Step) → CanTake g w m s → IsRunning g w m
+step_alive g w m (Do acts.Beat) can = can.alive
+step_alive g w m (Do (acts.Crash end)) can = can.alive
+step_alive g w m (Do acts.Propose) can = can.alive
+step_alive g w m (Do acts.Accept) can = can.alive
+step_alive g w m (Do a) can = can.may.alive
+step_alive g w m s can = can.may.alive
+
 pub step_keeps : (g : Group) (V : Views) (w : World) (m : ℕ) (s : Step) → IsGroup g → AllGoOn g V w
     → CanTake g w m s → Faithful g V w → Faithful g V (effect_of g w m s)
 step_keeps g V w m (Do a) is well can f = stamp_keeps g V (does g w m a) m (w.past.view m)
-    (act_stays g w m a) (act_keeps g V w m a is well can f)
+    (act_stays g w m a) (beats_late g V w m f (step_alive g w m (Do a) can).present)
+    (act_keeps g V w m a is well can f)
 step_keeps g V w m (Look i c) is well can f = look_keeps g V w m i c f
 step_keeps g V w m (Push j c) is well can f = push_keeps g V w m j c f
 step_keeps g V w m Append is well can f = append_keeps g V w m f
@@ -98,16 +107,6 @@ faithful_keeps g V w e is well can f = step_keeps g V w (member_of e) (step_of e
 pub faithful_begins : (g : Group) (V : Views) → IsGroup g → V 0 ≡ g.opening.members
     → ((v m : ℕ) → has (V v) m ≡ true → m < roster g) → Faithful g V (opening_world g)
 faithful_begins = begun
-
--- ---- suspicions
-
--- every word tells whom its owner suspects, what is final, and for whose proposal it waits
-pub all_told : (g : Group) (V : Views) (w : World) → Faithful g V w → SuspicionsTold g w
-all_told = suspicions_told
-
-pub waits_for : (g : Group) (V : Views) (w : World) (m : ℕ) → IsGroup g → Faithful g V w
-    → w.suspects m ≢ 0 → IsLeastOf (unsuspected_of w m) (w.promise m)
-waits_for = promise_least
 
 -- ---- growth
 

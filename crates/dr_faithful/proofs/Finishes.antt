@@ -25,7 +25,7 @@ use Rattle.dr_faithful.proofs.Beside.{in_view}
 use Rattle.dr_faithful.proofs.OwnWords.{IsPlain, accepts_word, counts_word, delivered_word, form_word, old_later, own_grown, suspicions_word}
 use Rattle.dr_faithful.proofs.Pasts.{past_same, prefix_on, prefix_refl, prefix_short, tells_later, tells_logged, tells_nothing}
 use Rattle.dr_faithful.proofs.Writes.{at_both, at_case, at_three, at₃_case, at₃_column, at₃_member, at₃_view}
-use Rattle.dr_faithful.specs.Faithful.{AreAccepts, AreCounts, AreDelivered, AreSuspicions, Faithful, GoesOnWell, HaveStayed, IsClosed, StandsOnLogs, IsWaiting, JoinsWell, Numbers}
+use Rattle.dr_faithful.specs.Faithful.{AreAccepts, AreCounts, AreDelivered, AreSuspicions, Faithful, GoesOnWell, HaveStayed, IsClosed, IsLateBeat, StandsOnLogs, IsWaiting, JoinsWell, Numbers}
 use Rattle.dr_faithful.specs.Tells.{Tells, Views, item_sent}
 use Rattle.dr_words.proofs.Bits.{has_zero}
 use Rattle.dr_words.proofs.Forms.{form_zero, form_free, grown_zero}
@@ -34,7 +34,7 @@ use Rattle.dr_words.proofs.Order.{HasGrown_refl}
 use Rattle.dr_words.proofs.Accepts.{accept_within}
 use Rattle.dr_words.specs.Accepts.{part_of}
 use Rattle.dr_words.specs.Rewrites.{is_accept_of}
-use Rattle.dr_words.specs.declared.column.TheConstants.{BEAT_COLUMN, LOGGED_COLUMN, RECEIVED_COLUMN, SUSPECTED_COLUMN}
+use Rattle.dr_words.specs.declared.column.TheConstants.{LOGGED_COLUMN, RECEIVED_COLUMN, SUSPECTED_COLUMN}
 use Rattle.dr_words.specs.Columns.{recv_column}
 use Rattle.dr_words.specs.Form.{IsInForm}
 use Rattle.dr_words.specs.Grown.{HasGrown}
@@ -168,6 +168,8 @@ enter_keeps g V w m to members history is well f = record {
         (λ u next there. f.views.own m ∙ ap V (well.back u next there));
     present = at_case (λ k b. has g.opening.members k ≡ true → has (V b) k ≡ true) w.past.view m to
         (λ k d. f.views.present k) (λ l. well.inside);
+    outside = at_case (λ k b. has (V b) k ≡ false → b ≡ 0) w.past.view m to (λ k d. f.views.outside k)
+        (λ out. absurd (cc (out, well.inside)));
     within = f.views.within;
   };
   items = record {
@@ -272,6 +274,8 @@ enter_keeps g V w m to members history is well f = record {
     held = λ a i. at_both
         (λ k (next b : ℕ). has (V b) i ≡ true → next ≤ own i b RECEIVED_COLUMN) w.next
         w.past.view m 0 to (λ k. delivered.held k i) (λ h. omega arith) a;
+    none = at_both (λ k (next b : ℕ). has (V b) k ≡ false → next ≡ 0) w.next w.past.view m 0 to
+        f.delivered.none (λ out. refl);
   };
   fresh = record {
     unwritten = at_case (λ k b. (v c : ℕ) → b < v → own k v c ≡ 0) w.past.view m to
@@ -279,8 +283,8 @@ enter_keeps g V w m to members history is well f = record {
         ∙ f.fresh.unwritten k v c l)
         (λ v c l. at₃_view w.past.own m to LOGGED_COLUMN _ m v c (omega (arith, l))
         ∙ f.fresh.unwritten m v c (omega (arith, l, well.later)));
-    outside = at₃_case (λ i v c z. has (V v) i ≡ false → c ≢ BEAT_COLUMN → z ≡ 0) w.past.own m to LOGGED_COLUMN
-        (length (w.past.log m)) f.fresh.outside (λ out d. absurd (cc (out, well.inside)));
+    outside = at₃_case (λ i v c z. has (V v) i ≡ false → z ≢ 0 → IsLateBeat g i v c) w.past.own m to LOGGED_COLUMN
+        (length (w.past.log m)) f.fresh.outside (λ out some. absurd (cc (out, well.inside)));
     empty = at_case (λ k b. (v s : ℕ) → b < v → w.past.count k v s ≡ 0) w.past.view m to
         (λ k d v s l. f.fresh.empty k v s l) (λ v s l. f.fresh.empty m v s (omega (arith, l, well.later)));
   };
@@ -388,7 +392,8 @@ left_closed g V w m wedged f = record {
 stays_in : (a b : Bool) → a ≡ true → b ≡ false → (if b then not a else a) ≡ true
 stays_in a b e d = rw (e, d) refl
 
-last_or_before : (v u : ℕ) → v < u + 1 → (v < u) ⊎ (v ≡ u)
+-- what is before the next one is the last one, or before it
+pub last_or_before : (v u : ℕ) → v < u + 1 → (v < u) ⊎ (v ≡ u)
 last_or_before v u l = grind (arith, l)
 
 -- and it stays, so it goes on well

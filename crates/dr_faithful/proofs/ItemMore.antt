@@ -461,9 +461,10 @@ gain_keeps g V w m s x row sent is may f = record {
   delivered = record {
     held = λ a i h. le_trans (f.delivered.held a i h)
         (own_gained g V w m s x row sent is may f i (w.past.view a) 2).number;
+    none = f.delivered.none;
   };
-  fresh = fresh_counted V w.past.view _ w.past.count m (w.past.view m) _ (le_refl (w.past.view m))
-      (fresh_written V w.past.view w.past.own w.past.count m (w.past.view m) _ (le_refl (w.past.view m))
+  fresh = fresh_counted g V w.past.view _ w.past.count m (w.past.view m) _ (le_refl (w.past.view m))
+      (fresh_written g V w.past.view w.past.own w.past.count m (w.past.view m) _ (le_refl (w.past.view m))
       may.inside f.fresh);
   closed = closed_written g V w.past.view w.past.own m _ f.closed;
   old = old_later g w.past.view w.past.own (gained w m s x row sent).past.own w.table w.seen

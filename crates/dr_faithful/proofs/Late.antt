@@ -72,7 +72,7 @@ backed_now g V us w f y = record {
 -- ---- one step
 
 -- no act writes the table, but for its stamp
-does_table : (g : Group) (w : World) (m : ℕ) (a : Act) → (does g w m a).table ≡ w.table
+pub does_table : (g : Group) (w : World) (m : ℕ) (a : Act) → (does g w m a).table ≡ w.table
 does_table g w m acts.Finish = refl
 does_table g w m a = refl
 

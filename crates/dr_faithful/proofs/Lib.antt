@@ -19,3 +19,4 @@ pub mod Votes
 pub mod Finishes
 pub mod Faithfulness
 pub mod Late
+mod Outside

@@ -6,7 +6,7 @@ use Rattle.dr_machine.specs.Group.{Group, roster}
 use Rattle.dr_machine.specs.Writes.{at₃, at, at₂}
 use Rattle.dr_faithful.proofs.Writes.{at₃_case, at₃_column, at_other, at₂_case}
 use Rattle.dr_machine.specs.World.{Table}
-use Rattle.dr_faithful.specs.Faithful.{AreAccepts, AreCounts, AreDelivered, AreInForm, AreOld, AreSuspicions, Numbers, AreClosed, AreFresh, IsClosed}
+use Rattle.dr_faithful.specs.Faithful.{AreAccepts, AreCounts, AreDelivered, AreInForm, AreOld, AreSuspicions, Numbers, AreClosed, AreFresh, IsClosed, IsLateBeat}
 use Rattle.dr_faithful.specs.Tells.{Views}
 use Rattle.dr_words.proofs.Order.{HasGrown_refl, HasGrown_trans}
 use Rattle.dr_words.proofs.Accepts.{accept_within}
@@ -82,6 +82,7 @@ pub delivered_word : (g : Group) (V : Views) (view next : ℕ → ℕ) (own : Nu
     → IsPlain c → AreDelivered V view next own → AreDelivered V view next (at₃ own m v c x)
 delivered_word g V view next own m v c x plain f = record {
   held = λ i j h. rw (at₃_column own m v c x j (view i) 2 (λ e. plain.1 (sym e))) (f.held i j h);
+  none = f.none;
 }
 
 -- what is written in a view that the member has come to leaves later views as they are
@@ -90,23 +91,26 @@ later_view : {A : Type 0} (f : ℕ → ℕ → A) (view : ℕ → ℕ) (m v : �
 later_view f view m v x l i u less = grind (arith, l, less)
 
 -- own words of such a view, of which it is a member
-pub fresh_written : (V : Views) (view : ℕ → ℕ) (own count : Numbers) (m v : ℕ) (row : ℕ → ℕ) → v ≤ view m
-    → has (V v) m ≡ true → AreFresh V view own count → AreFresh V view (at₂ own m v row) count
-fresh_written V view own count m v row l inside f = record {
+pub fresh_written : (g : Group) (V : Views) (view : ℕ → ℕ) (own count : Numbers) (m v : ℕ) (row : ℕ → ℕ)
+    → v ≤ view m → has (V v) m ≡ true → AreFresh g V view own count
+    → AreFresh g V view (at₂ own m v row) count
+fresh_written g V view own count m v row l inside f = record {
   unwritten = λ i u c less. ap (λ (r : ℕ → ℕ). r c) (later_view own view m v row l i u less)
       ∙ f.unwritten i u c less;
-  outside = λ i u c. at₂_case (λ i u r. has (V u) i ≡ false → c ≢ BEAT_COLUMN → r c ≡ 0) own m v row
-      (λ i u. f.outside i u c) (λ out d. absurd (cc (inside, out))) i u;
+  outside = λ i u c. at₂_case (λ i u r. has (V u) i ≡ false → r c ≢ 0 → IsLateBeat g i u c) own m v row
+      (λ i u. f.outside i u c) (λ out some. absurd (cc (inside, out))) i u;
   empty = f.empty;
 }
 
--- and its beat, of which it may be none
-pub fresh_stamped : (V : Views) (view : ℕ → ℕ) (own count : Numbers) (m v x : ℕ) → v ≤ view m
-    → AreFresh V view own count → AreFresh V view (at₃ own m v BEAT_COLUMN x) count
-fresh_stamped V view own count m v x l f = record {
+-- and its beat, where it may be none of its view as it is late
+pub fresh_stamped : (g : Group) (V : Views) (view : ℕ → ℕ) (own count : Numbers) (m v x : ℕ) → v ≤ view m
+    → (has (V v) m ≡ false → IsLateBeat g m v BEAT_COLUMN)
+    → AreFresh g V view own count → AreFresh g V view (at₃ own m v BEAT_COLUMN x) count
+fresh_stamped g V view own count m v x l late f = record {
   unwritten = λ i u c less. ap (λ (r : ℕ → ℕ). r c)
       (later_view own view m v (at (own m v) BEAT_COLUMN x) l i u less) ∙ f.unwritten i u c less;
-  outside = λ i u c out d. at₃_column own m v BEAT_COLUMN x i u c d ∙ f.outside i u c out d;
+  outside = at₃_case (λ i u c z. has (V u) i ≡ false → z ≢ 0 → IsLateBeat g i u c) own m v BEAT_COLUMN x
+      f.outside (λ out some. late out);
   empty = f.empty;
 }
 
@@ -148,9 +152,9 @@ closed_stamped g V view own m v x f = at₂_case
     (at (own m v) BEAT_COLUMN x) f (λ l inside. closed_beat g V v m (own m v) x (f m v l inside))
 
 -- and counts
-pub fresh_counted : (V : Views) (view : ℕ → ℕ) (own count : Numbers) (m v : ℕ) (counts : ℕ → ℕ)
-    → v ≤ view m → AreFresh V view own count → AreFresh V view own (at₂ count m v counts)
-fresh_counted V view own count m v counts l f = record {
+pub fresh_counted : (g : Group) (V : Views) (view : ℕ → ℕ) (own count : Numbers) (m v : ℕ) (counts : ℕ → ℕ)
+    → v ≤ view m → AreFresh g V view own count → AreFresh g V view own (at₂ count m v counts)
+fresh_counted g V view own count m v counts l f = record {
   unwritten = f.unwritten;
   outside = f.outside;
   empty = λ i u s less. ap (λ (r : ℕ → ℕ). r s) (later_view count view m v counts l i u less)

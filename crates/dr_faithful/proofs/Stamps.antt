@@ -1,5 +1,6 @@
 -- An act stamps the beat word, and its cell in the own copy: the members stay faithful, and the words grow.
-use Rattle.std.proofs.Common.{arith, inl, le_of_eq, le_refl, refl, subst, sym, ℕ, ◌<◌, ◌^◌, ◌≡◌, ◌≢◌, ◌≤◌}
+use Rattle.std.proofs.Common.{arith, false, inl, le_of_eq, le_refl, refl, subst, sym, ℕ, ◌<◌, ◌^◌, ◌≡◌, ◌≢◌, ◌≤◌}
+use Rattle.dr_history.specs.Members.{has}
 use Rattle.dr_machine.specs.Effects.{one_more, stamped_in}
 use Rattle.dr_machine.specs.Group.{Group, roster}
 use Rattle.dr_machine.specs.Run.{PastGrew, WordsGrew}
@@ -8,7 +9,7 @@ use Rattle.dr_machine.specs.Writes.{at₃, at₄}
 use Rattle.dr_faithful.proofs.OwnWords.{IsPlain, accepts_word, counts_word, delivered_word, form_word, old_later, own_grown, suspicions_word, closed_stamped, fresh_stamped}
 use Rattle.dr_faithful.proofs.Pasts.{past_same, tells_beat, tells_later}
 use Rattle.dr_faithful.proofs.Writes.{at_case, at_same, at₃_case, at₄_case}
-use Rattle.dr_faithful.specs.Faithful.{AreOld, Faithful}
+use Rattle.dr_faithful.specs.Faithful.{AreOld, Faithful, IsLateBeat}
 use Rattle.dr_faithful.specs.Tells.{Tells, Views}
 use Rattle.dr_words.proofs.Order.{HasGrown_refl, HasGrown_same, HasGrown_trans}
 use Rattle.dr_words.proofs.Forms.{form_free, grown_free}
@@ -89,9 +90,10 @@ stamp_old g V w m b f = record {
     acts = one_more 64 (w.past.acts m)
 
 -- the beat word tells of it
-pub stamp_keeps : (g : Group) (V : Views) (w : World) (m b : ℕ) → b ≤ w.past.view m → Faithful g V w
+pub stamp_keeps : (g : Group) (V : Views) (w : World) (m b : ℕ) → b ≤ w.past.view m
+    → (has (V b) m ≡ false → IsLateBeat g m b BEAT_COLUMN) → Faithful g V w
     → Faithful g V (stamped_in w m b)
-stamp_keeps g V w m b come f = record {
+stamp_keeps g V w m b come late f = record {
   beginning = f.beginning;
   views = f.views;
   items = f.items;
@@ -112,13 +114,14 @@ stamp_keeps g V w m b come f = record {
     seen = λ a i k. tells_later g V w.past past i (w.past.view a) k (w.seen a i k) grew (f.words.seen a i k);
   };
   logs = record {
-    bounded = λ i. grind (arith, f.logs.bounded i, rises (w.past.acts i) 0);
+    bounded = at_case (λ i n. n < 2 ^ 64) w.past.acts m acts (λ i d. f.logs.bounded i)
+        (rises (w.past.acts m) 0 (omega arith) (f.logs.bounded m)).1;
     front = f.logs.front;
     safe = f.logs.safe;
     small = f.logs.small;
   };
   delivered = delivered_word g V w.past.view w.next w.past.own m b BEAT_COLUMN acts plain f.delivered;
-  fresh = fresh_stamped V w.past.view w.past.own w.past.count m b acts come f.fresh;
+  fresh = fresh_stamped g V w.past.view w.past.own w.past.count m b acts come late f.fresh;
   closed = closed_stamped g V w.past.view w.past.own m b acts f.closed;
   old = stamp_old g V w m b f;
   form = record {

@@ -11,7 +11,7 @@ use Rattle.dr_machine.specs.Run.{PastGrew, WordsGrew}
 use Rattle.dr_machine.specs.World.{Past, World, own_word}
 use Rattle.dr_machine.specs.Writes.{at, at₂}
 use Rattle.dr_machine.proofs.Presence.{in_roster}
-use Rattle.dr_faithful.proofs.Beside.{in_view}
+use Rattle.dr_faithful.proofs.Beside.{in_view, none_outside}
 use Rattle.dr_faithful.proofs.OwnWords.{closed_written, fresh_written, old_later}
 use Rattle.dr_faithful.proofs.Pasts.{same_past, tells_later, tells_recv, tells_accept, tells_suspected}
 use Rattle.dr_faithful.proofs.Writes.{at_case, at_other, at_same, at₂_case, at₂_read}
@@ -111,6 +111,9 @@ suspecting g V w m j is can f = record {
       in_view g V w m f can.may.inside,
     ))
 
+itself_or : (j : ℕ) (b : Bool) → (j == j || b) ≡ true
+itself_or j b = grind arith
+
 -- somebody is named now
 pub mask_some : (g : Group) (V : Views) (w : World) (m j : ℕ) → IsGroup g → j < roster g
     → Faithful g V w → mask_after w m j ≢ 0
@@ -119,11 +122,8 @@ mask_some g V w m j is l f none = absurd (cc (
   none,
   has_with_member (w.suspects m) j j
       (in_roster_small 16 (w.suspects m) (λ i h. le_trans (named_in_roster g V w m is f i h) is.most_members))
-      (le_trans l is.most_members) ∙ one_is j (has (w.suspects m) j),
+      (le_trans l is.most_members) ∙ itself_or j (has (w.suspects m) j),
 ))
-  where
-    one_is : (j : ℕ) (b : Bool) → (j == j || b) ≡ true
-    one_is j b = grind arith
 
 -- whom a member may name is of the roster
 pub namable_within : (g : Group) (V : Views) (w : World) (m j : ℕ) → IsGroup g → IsNamable g w m j
@@ -373,8 +373,9 @@ suspect_keeps g V w m j is can f = record {
     held = λ a i h. rw (plain_kept w.past.own (roster g) (w.members m) (mask_after w m j)
         (promise_after w m j) m (w.past.view m) i (w.past.view a) RECEIVED_COLUMN (omega arith)
         (omega arith)) (f.delivered.held a i h);
+    none = f.delivered.none;
   };
-  fresh = fresh_written V w.past.view w.past.own w.past.count m (w.past.view m) (row_after g w m j)
+  fresh = fresh_written g V w.past.view w.past.own w.past.count m (w.past.view m) (row_after g w m j)
       (le_refl (w.past.view m)) (in_view g V w m f can.may.inside) f.fresh;
   closed = closed_written g V w.past.view w.past.own m (row_after g w m j) f.closed;
   old = old_later g w.past.view w.past.own (suspects g w m j).past.own w.table w.seen
@@ -395,20 +396,20 @@ suspect_keeps g V w m j is can f = record {
 
 -- ---- what is told of suspicions
 
+before_or_behind : (v u : ℕ) → (v < u) ⊎ ((v ≡ u) ⊎ (u < v))
+before_or_behind v u = grind arith
+
 -- an own word with a final count is that of a member that suspects somebody there
 final_wedged : (g : Group) (V : Views) (w : World) (i v s : ℕ) → Faithful g V w → s < roster g
     → is_final (w.past.own i v (recv_column s)) ≡ true → w.past.own i v SUSPECTED_COLUMN ≢ 0
-final_wedged g V w i v s f l final none = by (which v (w.past.view i))
+final_wedged g V w i v s f l final none = by (before_or_behind v (w.past.view i))
   where
-    which : (v u : ℕ) → (v < u) ⊎ ((v ≡ u) ⊎ (u < v))
-    which v u = grind arith
-
     by : (v < w.past.view i) ⊎ ((v ≡ w.past.view i) ⊎ (w.past.view i < v)) → ⊥
     by (inl left) = inside (has (V v) i) refl left
       where
         inside : (b : Bool) → has (V v) i ≡ b → v < w.past.view i → ⊥
         inside true here left = (f.closed i v left here).wedged none
-        inside false out left = absurd (cc (final, f.fresh.outside i v (recv_column s) out (omega arith)))
+        inside false out left = absurd (cc (final, none_outside g V w i v (recv_column s) f out (omega arith)))
     by (inr (inl same)) =
         let here : w.suspects i ≡ 0 = sym (f.suspicions.told i)
         ∙ ap (λ u. w.past.own i u SUSPECTED_COLUMN) (sym same) ∙ none in

@@ -392,8 +392,9 @@ accept_keeps g V w m x is inside e f = record {
   delivered = record {
     held = λ a i h. rw (plain_after g w m i (w.past.view a) RECEIVED_COLUMN (omega arith))
         (f.delivered.held a i h);
+    none = f.delivered.none;
   };
-  fresh = fresh_written V w.past.view w.past.own w.past.count m (w.past.view m) (accepted_row g w m)
+  fresh = fresh_written g V w.past.view w.past.own w.past.count m (w.past.view m) (accepted_row g w m)
       (le_refl (w.past.view m)) (in_view g V w m f inside) f.fresh;
   closed = closed_written g V w.past.view w.past.own m (accepted_row g w m) f.closed;
   old = old_later g w.past.view w.past.own (accepts g w m).past.own w.table w.seen

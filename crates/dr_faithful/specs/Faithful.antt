@@ -6,7 +6,7 @@ use Rattle.dr_entry.specs.declared.entry.Entry.{Entry}
 use Rattle.dr_entry.specs.declared.entry.Item.{Item}
 use Rattle.dr_entry.specs.declared.record.Value.{Value}
 use Rattle.dr_entry.specs.declared.record.Vote.{Vote}
-use Rattle.dr_history.specs.Order.{IsNewIn, MayJoin, messages_from}
+use Rattle.dr_history.specs.Order.{IsLateIn, IsNewIn, MayJoin, messages_from}
 use Rattle.dr_history.specs.Members.{has, members_of}
 use Rattle.dr_history.specs.Places.{front_of}
 use Rattle.dr_history.specs.History.{IsPrefixOf, Sent, last_view, messages_of, up_to_view}
@@ -37,13 +37,14 @@ Items = ℕ → ℕ → ℕ → Item
 pub record IsBeginning (g : Group) : Type 0 where
   pub all : (m : ℕ) → has g.opening.members m ≡ true → IsPresent g m
 
--- each member has a view of the roster, and is in it, but for a late one that hasn't joined. Where it was in the
--- one that it came from, that is the one of the number before, and the other way round
+-- each member has a view of the roster, and is in it, but for a late one that hasn't joined, which has the first.
+-- Where it was in the one that it came from, that is the one of the number before, and the other way round
 pub record AreInViews (g : Group) (V : Views) (view members came_from : ℕ → ℕ) : Type 0 where
   pub own : (m : ℕ) → members m ≡ V (view m)
   pub came : (m : ℕ) → has (came_from m) m ≡ true → (u : ℕ) × (view m ≡ u + 1) × (came_from m ≡ V u)
   pub back : (m u : ℕ) → view m ≡ u + 1 → has (V u) m ≡ true → came_from m ≡ V u
   pub present : (m : ℕ) → has g.opening.members m ≡ true → has (V (view m)) m ≡ true
+  pub outside : (m : ℕ) → has (V (view m)) m ≡ false → view m ≡ 0
   pub within : (v m : ℕ) → has (V v) m ≡ true → m < roster g
 
 -- the items that members have are those that their senders have put
@@ -130,17 +131,28 @@ pub record AreLogs (g : Group) (V : Views) (view : ℕ → ℕ) (acts durable : 
   pub safe : (m : ℕ) → IsPresent g m → StandsOnLogs g V log (history m) m (view m) (durable m)
   pub small : (m : ℕ) → durable m < 2 ^ 64
 
--- a member has delivered only places that every member of its view holds
+-- a member has delivered only places that every member of its view holds, and none where it isn't in its view
 pub record AreDelivered (V : Views) (view next : ℕ → ℕ) (own : Numbers) : Type 0 where
   pub held : (m i : ℕ) → has (V (view m)) i ≡ true → next m
       ≤ own i (view m) RECEIVED_COLUMN
+  pub none : (m : ℕ) → has (V (view m)) m ≡ false → next m ≡ 0
+
+-- the beat of a late member, in the bank of the first view
+pub record IsLateBeat (g : Group) (m v c : ℕ) : Type 0 where
+  pub bank : v ≡ 0
+  pub column : c ≡ BEAT_COLUMN
+  pub late : IsLateIn g.opening m
 
 -- in a view that it has not come to, a member has written no word and has no items, and in one of which it is
--- no member, none but its beat
-pub record AreFresh (V : Views) (view : ℕ → ℕ) (own count : Numbers) : Type 0 where
+-- no member, no word but the beat of a late one
+pub record AreFresh (g : Group) (V : Views) (view : ℕ → ℕ) (own count : Numbers) : Type 0 where
   pub unwritten : (m v c : ℕ) → view m < v → own m v c ≡ 0
-  pub outside : (m v c : ℕ) → has (V v) m ≡ false → c ≢ BEAT_COLUMN → own m v c ≡ 0
+  pub outside : (m v c : ℕ) → has (V v) m ≡ false → own m v c ≢ 0 → IsLateBeat g m v c
   pub empty : (m v s : ℕ) → view m < v → count m v s ≡ 0
+
+-- in no copy but its own stands a word of a member that is none of the view
+abbrev pub HasNoOutsiders : Views → Table → Type 0
+HasNoOutsiders V table = (v j i c : ℕ) → j ≢ i → has (V v) i ≡ false → table v j i c ≡ 0
 
 -- a word in the table is an older one of its owner, and a seen word an older one of the table
 pub record AreOld (g : Group) (view : ℕ → ℕ) (own : Numbers) (table : Table)
@@ -214,7 +226,7 @@ pub record Faithful (g : Group) (V : Views) (w : World) : Type 0 where
   pub words : WordsTell g V w
   pub logs : AreLogs g V w.past.view w.past.acts w.past.durable w.past.log w.past.history
   pub delivered : AreDelivered V w.past.view w.next w.past.own
-  pub fresh : AreFresh V w.past.view w.past.own w.past.count
+  pub fresh : AreFresh g V w.past.view w.past.own w.past.count
   pub closed : AreClosed g V w.past.view w.past.own
   pub old : AreOld g w.past.view w.past.own w.table w.seen
   pub form : AreInForm g w.past.own w.table w.seen

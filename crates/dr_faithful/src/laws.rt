@@ -7,7 +7,7 @@ ghost use Rattle.dr_machine.specs.Guards.{unsuspected_of};
 ghost use Rattle.dr_machine.specs.World.{Table, World, opening_world};
 ghost use Rattle.dr_machine.specs.Acts.{Guard, effect};
 ghost use Rattle.dr_machine.specs.Run.{HaveArrived, NoLaterItem, PastGrew, WordsGrew, with_table};
-ghost use Rattle.dr_faithful.specs.Faithful.{AllGoOn, Faithful};
+ghost use Rattle.dr_faithful.specs.Faithful.{AllGoOn, Faithful, HasNoOutsiders};
 ghost use Rattle.dr_faithful.specs.Late.{AreBacked};
 ghost use Rattle.dr_faithful.specs.Tells.{SuspicionsTold, Views};
 ghost use Rattle.dr_words.specs.Masks.{IsLeastOf};
@@ -33,6 +33,14 @@ pub fn late_words_do_no_harm()
         → Faithful g V w → HaveArrived (w ∷ before) w table → AreBacked g V before w
         → Faithful g V (with_table w table) × AreBacked g V (w ∷ before) (with_table w table)
         × WordsGrew g w (with_table w table) }
+{}
+
+/// No event brings a word of a member that is none of the view to another copy than its own. (A word that arrives
+/// late may be any that its owner had, also one that it brought to nobody: so this is said of events alone.)
+pub fn outsiders_stay_home()
+    ensures begins { (g : Group) (V : Views) → HasNoOutsiders V (opening_world g).table }
+    ensures keeps { (g : Group) (V : Views) (w : World) (e : Event) → Guard g w e → Faithful g V w
+        → HasNoOutsiders V w.table → HasNoOutsiders V (effect g w e).table }
 {}
 
 /// Where the members are faithful each word tells truly whom its owner suspects, which of its counts are

@@ -497,7 +497,7 @@ outside_history : (g : Group) (p : Program) (m : ℕ) (r : Running) → IsThere 
 outside_history g p m r is outside =
     let y = known_of g p m r is in
     sym (history_is g p m r is)
-    ∙ outside-history g y.values (world g p) m y.chosen.faithful y.chosen.outside y.chosen.laid
+    ∙ outside-history g y.values (world g p) m y.chosen.faithful y.chosen.laid
     (within g p m r is) (none_of_it g p m r is outside)
     ∙ head-first g.opening (world g p).past.sent (endings_by g.opening y.values)
 

@@ -71,27 +71,7 @@ endless-known g values w y = record {
   voting = y.voting;
   ballots = y.ballots;
   wedged = y.wedged;
-  outside = y.outside;
-  letters = record {
-    letters = λ j l e. let t = y.letters.letters j l e in (
-      record {
-        view = t.0.view;
-        giver = t.0.giver;
-        within = t.0.within;
-        come = t.0.come;
-        is = t.0.is;
-        member = t.0.member;
-        new = t.0.new;
-        from = t.0.from;
-        next = t.0.next;
-        was = t.0.was;
-        stays = t.0.stays;
-        least = t.0.least;
-      },
-      t.1,
-    );
-    given = y.letters.given;
-  };
+  letters = y.letters;
 }
 
 -- the world in which a member has logged a vote that it may log

@@ -18,6 +18,7 @@ use Rattle.dr_machine.specs.Acts.{CanDo, CanTake, effect_of}
 use Rattle.dr_program.specs.Acts.{may, taken}
 use Rattle.dr_entry.specs.declared.record.Vote.{Vote}
 use Rattle.dr_machine.specs.Guards.{CanFinish, CanJoin, IsInView, IsRunning, IsFault, MayChoose, MayTurn}
+use Rattle.dr_faithful.proofs.Faithfulness.{step_alive}
 use Rattle.dr_entry.specs.declared.entry.Entry.{Entry}
 use Rattle.dr_history.specs.Order.{messages_from}
 use Rattle.dr_machine.specs.declared.event.Act.{Act}
@@ -253,15 +254,6 @@ taken_guard g rs table m r (steps.Push j c) is unended = with_letter (step_guard
 taken_guard g rs table m r steps.Append is unended = with_letter (step_guard g rs table m r steps.Append is unended tt)
 taken_guard g rs table m r (steps.LogVote v) is unended = with_letter (step_guard g rs table m r (steps.LogVote v) is unended tt)
 taken_guard g rs table m r (steps.Welcome j) is unended = with_letter (step_guard g rs table m r (steps.Welcome j) is unended tt)
-
--- only members of the roster without an end take steps
-pub step_alive : (g : Group) (w : World) (m : ℕ) (s : Step) → CanTake g w m s → IsRunning g w m
-step_alive g w m (steps.Do acts.Beat) can = can.alive
-step_alive g w m (steps.Do (acts.Crash end)) can = can.alive
-step_alive g w m (steps.Do acts.Propose) can = can.alive
-step_alive g w m (steps.Do acts.Accept) can = can.alive
-step_alive g w m (steps.Do a) can = can.may.alive
-step_alive g w m s can = can.may.alive
 
 running_test : (o : Option End) → (not (is_some o) ≡ true) ↔ (o ≡ None)
 running_test None = (λ e. refl, λ e. refl)

@@ -33,7 +33,7 @@ use Rattle.dr_room.proofs.Bounds.{greatest_at, history_below}
 record IsFor (g : Group) (rs : List (Option Replica)) (table : Shared) (m : ℕ) (r : Replica)
     (letter : List Entry) : Type 0 where
   pub known : Known g (world_of g rs table)
-  pub is : IsLetter g known.values (world_of g rs table) m letter
+  pub is : IsLetter g known.values (world_of g rs table).past m letter
   pub within : m < roster g
   pub held : (world_of g rs table).past.history m ≡ r.history
   pub begins : IsPrefixOf ((world_of g rs table).past.history m) letter
@@ -46,7 +46,7 @@ is_for g rs table m r letter member reached outside found = record {
   is = t;
   within = within;
   held = ap (λ h. h.history) (held_of g rs table m r member.there);
-  begins = letter-begins g y.values w m letter member.group y.chosen.faithful y.chosen.outside y.chosen.laid within
+  begins = letter-begins g y.values w m letter member.group y.chosen.faithful y.chosen.laid within
       (ap (λ k. has k m) (members_are g rs table m r member)
       ∙ ap (has r.members) (sym member.of.number) ∙ outside) t;
 }
@@ -57,7 +57,7 @@ is_for g rs table m r letter member reached outside found = record {
     y : Known g (world_of g rs table)
     y = known g (world_of g rs table) member.group reached
 
-    t : IsLetter g y.values (world_of g rs table) m letter
+    t : IsLetter g y.values (world_of g rs table).past m letter
     t = (y.chosen.letters.letters m letter found).0
 
     within : m < roster g
@@ -116,7 +116,7 @@ letter_fits g rs table m r letter member reached outside found = record {
     y : Known g (world_of g rs table)
     y = x.known
 
-    t : IsLetter g y.values (world_of g rs table) m letter
+    t : IsLetter g y.values (world_of g rs table).past m letter
     t = x.is
 
     of : IsOf g m r

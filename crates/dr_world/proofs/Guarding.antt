@@ -17,7 +17,8 @@ use Rattle.dr_program.specs.Reading.{letters_of}
 use Rattle.dr_program.specs.Replica.{Replica, is_inside}
 use Rattle.dr_program.specs.Steps.{HasLetter, IsNoJoin, allows, may_take, stepped_over}
 use Rattle.dr_refine.specs.Programs.{IsMember}
-use Rattle.dr_refine.proofs.Tests.{step_alive, step_test}
+use Rattle.dr_faithful.proofs.Faithfulness.{step_alive}
+use Rattle.dr_refine.proofs.Tests.{step_test}
 use Rattle.dr_room.proofs.Bounds.{has_room}
 use Rattle.dr_world.specs.Held.{Held, its_group, its_world, shared_of, IsHeld}
 use Rattle.dr_world.specs.Steps.{finds_letter, may_come, stepped_with}

@@ -38,7 +38,7 @@ letter_late g w j letter is reached there =
     y : Known g w
     y = known g w is reached
 
-    t : IsLetter g y.values w j letter
+    t : IsLetter g y.values w.past j letter
     t = (y.chosen.letters.letters j letter there).0
 
     present : has g.opening.present j ≡ true

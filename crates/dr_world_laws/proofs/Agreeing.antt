@@ -46,14 +46,14 @@ may-reach g values w m is y l = record {
     ended = λ u less. (y.laid.left m u l less).ended;
     goes = λ u less. goes-any g values w u is y.faithful y.laid.historic;
   };
-  held = held-next g (views_by g values) w m y.faithful y.outside l;
+  held = held-next g (views_by g values) w m y.faithful;
 }
 
 -- and where another member has come to a later view, it has passed no place that is cut off
 pub is-kept : (g : Group) (values : Values) (w : World) (m k : ℕ) → IsGroup g → Known g values w
     → m < roster g → k < roster g
     → IsUncut g.opening (endings_by g.opening values) (w.past.view m) (w.next m) (w.past.view k)
-is-kept g values w m k is y l r less = place-kept g values w m is y.faithful y.outside l (λ s there.
+is-kept g values w m k is y l r less = place-kept g values w m is y.faithful (λ s there.
     let t = (y.laid.left k (w.past.view m) r less).least s there in (t.0, t.1, t.3))
 
 pub in-order : (g : Group) (values : Values) (w : World) (m : ℕ) → IsGroup g → Known g values w

@@ -162,7 +162,7 @@ join_back g values w m v is y can after k = by (cases_eq k m)
     out = ap (λ x. has x m) (sym (y.faithful.views.own m)) ∙ can.outside
 
     zero : w.past.view m ≡ 0
-    zero = (y.outside m (in_roster g m is can.may.alive.present) out).0
+    zero = y.faithful.views.outside m out
 
     none : (c : Option Value) → w.committed m ≡ c → c ≡ None
     none None e = refl

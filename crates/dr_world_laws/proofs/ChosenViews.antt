@@ -25,7 +25,6 @@ use Rattle.dr_machine.specs.Run.{PastGrew, WordsGrew}
 use Rattle.dr_machine.specs.World.{World}
 use Rattle.dr_faithful.specs.Chosen.{Values, come_of, endings_by, members_by, views_by}
 use Rattle.dr_faithful.specs.Faithful.{Faithful, HaveStayed}
-use Rattle.dr_world_laws.proofs.Items.{AreOutside}
 use Rattle.dr_world_laws.specs.Historic.{HasEndedSafely}
 
 -- ---- members
@@ -401,14 +400,14 @@ place-kept_in g values w m is f here least = (front_is (map taken ms) some).grea
 
 -- nobody has delivered a place of it that is cut off
 pub place-kept : (g : Group) (values : Values) (w : World) (m : ℕ) → IsGroup g
-    → Faithful g (views_by g values) w → AreOutside g (views_by g values) w → m < roster g
+    → Faithful g (views_by g values) w
     → ((s : ℕ) → has (views_by g values (w.past.view m)) s ≡ true
     → (j : ℕ) × (has (views_by g values (w.past.view m)) j ≡ true)
     × (w.past.count j (w.past.view m) s ≤ slice_index (values (w.past.view m)).trim s))
     → w.next m ≤ front_of (counts_taken g.opening (endings_by g.opening values) (w.past.view m))
-place-kept g values w m is f out l least = by (has (views_by g values (w.past.view m)) m) refl
+place-kept g values w m is f least = by (has (views_by g values (w.past.view m)) m) refl
   where
     by : (b : Bool) → has (views_by g values (w.past.view m)) m ≡ b
         → w.next m ≤ front_of (counts_taken g.opening (endings_by g.opening values) (w.past.view m))
     by true here = place-kept_in g values w m is f here least
-    by false none = let zero = (out m l none).1 in omega (arith, zero)
+    by false none = let zero = f.delivered.none m none in omega (arith, zero)

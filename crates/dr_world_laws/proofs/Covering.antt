@@ -30,7 +30,7 @@ pub delivered_within : (g : Group) (values : Values) (w : World) (m k : ℕ) (x 
     → Known g values w → AreChosen values w → m < roster g → w.committed k ≡ Some x
     → w.past.view m ≡ w.past.view k
     → w.next m ≤ front_of (counts_taken g.opening (endings_by g.opening values) (w.past.view m))
-delivered_within g values w m k x is y chosen l e same = place-kept g values w m is y.faithful y.outside l (λ s there.
+delivered_within g values w m k x is y chosen l e same = place-kept g values w m is y.faithful (λ s there.
     let t = (safe g values w k x y e).least s (sym (member s) ∙ there) in (
       t.0,
       member t.0 ∙ t.1,
@@ -141,7 +141,7 @@ covered g values w v b is y voted = record {
     delivered m l here = subst (λ u. IsPrefixOf (w.past.history m) (head_by g values w u
         ++ merge g.opening w.past.sent (view_in g.opening (endings_by g.opening values) u)
         (counts_taken g.opening (endings_by g.opening values) u))) here
-        (front_part g values w m y l (place-kept g values w m is y.faithful y.outside l (λ s there.
+        (front_part g values w m y l (place-kept g values w m is y.faithful (λ s there.
         subst (λ u. (j : ℕ) × (has (views_by g values u) j ≡ true)
         × (w.past.count j u s ≤ slice_index (values u).trim s)) (sym here)
         (least s (subst (λ u. has (views_by g values u) s ≡ true) here there)))))

@@ -26,13 +26,13 @@ use Rattle.dr_machine.specs.Group.{Group, IsGroup, banks, late_members, roster}
 use Rattle.dr_machine.specs.Guards.{CanFinish}
 use Rattle.dr_machine.specs.World.{World, view_members}
 use Rattle.dr_faithful.proofs.Beside.{in_view}
-use Rattle.dr_faithful.proofs.Finishes.{no_items}
+use Rattle.dr_faithful.proofs.Finishes.{last_or_before, no_items}
 use Rattle.dr_faithful.specs.Chosen.{AreChosen, Values, endings_by, views_by}
 use Rattle.dr_faithful.specs.Faithful.{Faithful, GoesOnWell}
 use Rattle.dr_world_laws.specs.Historic.{AreLaid, Historic, HasEndedSafely, head_by, view_numbered}
 use Rattle.dr_world_laws.proofs.ChosenViews.{Changes, ending-next, next-follows, next-majority, next-newcomers, next-roster, next-stayed, place-kept, views-cases, views-come, views-within}
 use Rattle.dr_world_laws.proofs.Safety.{IsSafe}
-use Rattle.dr_world_laws.proofs.Items.{AreOutside, IsReceived, entries-next, item-here}
+use Rattle.dr_world_laws.proofs.Items.{IsReceived, entries-next, item-here}
 
 -- a member of a view is of the roster
 of_roster : (g : Group) (values : Values) (v s : ℕ) → IsGroup g
@@ -210,17 +210,17 @@ rest-place g values w m x is f h y q history held next =
 
 -- the history of a member that ends its view is the head of the next one
 pub finished-head : (g : Group) (values : Values) (w : World) (m : ℕ) (x : Value) → IsGroup g
-    → Faithful g (views_by g values) w → AreOutside g (views_by g values) w → Historic g values w
+    → Faithful g (views_by g values) w → Historic g values w
     → Finishes g values w m x
     → finished_history g w m x ≡ head_by g values w (w.past.view m + 1)
-finished-head g values w m x is f out h y =
+finished-head g values w m x is f h y =
     ap (λ cs. fold (with_place w m) (w.past.history m) (rest_places cs (w.next m)) ++ last) counts
     ∙ ap (λ es. fold (with_place w m) es (rest_places taken (w.next m)) ++ last) (h.history m y.within)
     ∙ ap (λ es. es ++ last) (rest-merged g.opening w.past.sent (head_by g values w v) view
     (λ s. slice_index (values v).trim s) (w.next m) (with_place w m) (goes-any g values w v is f h)
     (view-distinct (head_by g values w v) view
     (head-ends g.opening w.past.sent (endings_by g.opening values) v))
-    (place-kept g values w m is f out y.within least) (rest-place g values w m x is f h y))
+    (place-kept g values w m is f least) (rest-place g values w m x is f h y))
     ∙ ap (λ mask. (head_by g values w v ++ merge g.opening w.past.sent view taken)
     ++ View g.opening.age (v + 1) mask ∷ []) remain
     ∙ sym (head-next g.opening w.past.sent (endings_by g.opening values) v)
@@ -270,14 +270,14 @@ head-few g values w s v history is f laid ended same =
 
 -- and goes on well: the head is in order, so it holds no more messages than the script
 pub goes-on_well : (g : Group) (values : Values) (w : World) (m : ℕ) (x : Value) → IsGroup g
-    → Faithful g (views_by g values) w → AreOutside g (views_by g values) w → AreLaid g values w
+    → Faithful g (views_by g values) w → AreLaid g values w
     → Finishes g values w m x → GoesOnWell g (views_by g values) w m x
-goes-on_well g values w m x is f out laid y = record {
+goes-on_well g values w m x is f laid y = record {
   wedged = y.safe.wedged;
   next = sym (next-is g values w m x is f y);
   stayed = next-stayed g values v (changes g values w m x y.chosen y.safe);
   few = head-few g values w m (v + 1) (finished_history g w m x) is f laid
-      (λ u l. ended u (last_or_before u v l)) (finished-head g values w m x is f out laid.historic y);
+      (λ u l. ended u (last_or_before u v l)) (finished-head g values w m x is f laid.historic y);
 }
   where
     v : ℕ
@@ -288,6 +288,3 @@ goes-on_well g values w m x is f out laid y = record {
     ended u (inl less) = (laid.left m u y.within less).ended
     ended u (inr same) = subst (ViewHasEnded g.opening w.past.sent (endings_by g.opening values)) (sym same)
         (leaves g values w m x is f y).ended
-
-    last_or_before : (u n : ℕ) → u < n + 1 → (u < n) ⊎ (u ≡ n)
-    last_or_before u n l = grind (arith, l)

@@ -19,6 +19,7 @@ use Rattle.dr_machine.specs.Writes.{at}
 use Rattle.dr_machine.specs.Run.{IsReachedWhere}
 use Rattle.dr_machine.specs.World.{World, item_at_place}
 use Rattle.dr_faithful.proofs.Faithfulness.{faithful_begins, faithful_keeps}
+use Rattle.dr_faithful.proofs.Writes.{at_both}
 use Rattle.dr_faithful.proofs.Late.{arrived_keeps, backed_arrived, backed_begins, backed_event}
 use Rattle.dr_faithful.specs.Late.{AreBacked}
 use Rattle.dr_faithful.specs.Faithful.{AllGoOn, Faithful}
@@ -81,12 +82,13 @@ step_keeps g w m s can calm f u = record {
         (w.past.history m
         ++ entries_of (w.past.history m) (sender_at w m (w.next m)) (item_at_place w m (w.next m))) k)
         ≤ length (first_entries g.opening) + at w.next m (w.next m + 1) k
-    delivered k = grind (
-      arith,
-      u.short k,
-      length-append (w.past.history m) new,
-      one_entry (w.past.history m) (sender_at w m (w.next m)) (item_at_place w m (w.next m)),
-    )
+    delivered = at_both (λ k h n. length h ≤ length (first_entries g.opening) + n) w.past.history w.next m
+        (w.past.history m ++ new) (w.next m + 1) u.short (omega (
+          arith,
+          u.short m,
+          length-append (w.past.history m) new,
+          one_entry (w.past.history m) (sender_at w m (w.next m)) (item_at_place w m (w.next m)),
+        ))
 
     went : ((k : ℕ) → (effect_of g w m s).base k ≡ length (messages_from k g.opening.start))
         × ((k : ℕ) → length ((effect_of g w m s).past.history k)

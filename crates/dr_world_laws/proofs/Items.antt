@@ -14,18 +14,12 @@ use Rattle.dr_history_laws.specs.Laid.{HeldBelow, entry_at}
 use Rattle.dr_history_laws.proofs.SendingLemmas.{HeldBelow-front, held_member}
 use Rattle.dr_history_laws.proofs.Members.{member-has}
 use Rattle.dr_history_laws.proofs.Indices.{item_at-of_parts}
-use Rattle.dr_machine.specs.Group.{Group, roster}
+use Rattle.dr_machine.specs.Group.{Group}
 use Rattle.dr_machine.specs.World.{World, item_at_place, own_word}
 use Rattle.dr_machine.specs.Effects.{entries_of, sender_at}
 use Rattle.dr_faithful.specs.Faithful.{Faithful}
 use Rattle.dr_faithful.specs.Tells.{Views, item_named}
 use Rattle.dr_world_laws.specs.Historic.{view_numbered}
-
--- a member that is none of its view, as it is late and hasn't joined, has the first view, and has delivered
--- nothing behind it
-abbrev pub AreOutside : Group → Views → World → Type 0
-AreOutside g V w = (m : ℕ) → m < roster g → has (V (w.past.view m)) m ≡ false
-    → (w.past.view m ≡ 0) × (w.next m ≡ 0)
 
 -- every place below the next one of a member holds a sent item
 held-in : (g : Group) (V : Views) (w : World) (m : ℕ) → Faithful g V w → has (V (w.past.view m)) m ≡ true
@@ -41,14 +35,14 @@ held-in g V w m f here = HeldBelow-front w.past.sent (view_numbered g V v) (w.pa
     v : ℕ
     v = w.past.view m
 
-pub held-next : (g : Group) (V : Views) (w : World) (m : ℕ) → Faithful g V w → AreOutside g V w → m < roster g
+pub held-next : (g : Group) (V : Views) (w : World) (m : ℕ) → Faithful g V w
     → HeldBelow w.past.sent (view_numbered g V (w.past.view m)) (w.next m)
-held-next g V w m f out l = by (has (V (w.past.view m)) m) refl
+held-next g V w m f = by (has (V (w.past.view m)) m) refl
   where
     by : (b : Bool) → has (V (w.past.view m)) m ≡ b
         → HeldBelow w.past.sent (view_numbered g V (w.past.view m)) (w.next m)
     by true here = held-in g V w m f here
-    by false none = let zero = (out m l none).1 in λ q less. absurd (omega (arith, zero, less))
+    by false none = let zero = f.delivered.none m none in λ q less. absurd (omega (arith, zero, less))
 
 -- the place p holds an item of s, and m has it as s put it
 pub record IsReceived (g : Group) (V : Views) (w : World) (m p : ℕ) : Type 0 where

@@ -1,6 +1,6 @@
 -- A late member that joins comes to the head of its first view, and goes on well; and whom a member may wish for
 -- is in no view so far.
-use Rattle.std.proofs.Common.{List, [], ◌≡◌, ap, ap₂, arith, false, length, refl, subst, sym, true, ℕ, ◌+◌, ◌<◌, ◌∙◌}
+use Rattle.std.proofs.Common.{List, [], ◌≡◌, ap, ap₂, arith, false, length, refl, subst, sym, true, ℕ, ◌<◌, ◌∙◌}
 use Rattle.std.proofs.lemmas.List.{nil_from_length}
 use Rattle.dr_entry.specs.declared.entry.Entry.{Entry}
 use Rattle.dr_history.specs.History.{IsPrefixOf, last_view, up_to_view}
@@ -9,25 +9,19 @@ use Rattle.dr_history.specs.Order.{IsNewIn, MayJoin}
 use Rattle.dr_history_laws.specs.Courses.{course}
 use Rattle.dr_history_laws.proofs.Courses.{course-head}
 use Rattle.dr_history_laws.proofs.Heads.{head_view}
-use Rattle.dr_machine.proofs.Events.{progress_after}
 use Rattle.dr_machine.proofs.Presence.{in_roster}
-use Rattle.dr_machine.specs.Acts.{CanTake, effect_of}
-use Rattle.dr_machine.specs.declared.step.Step.{Step}
 use Rattle.dr_machine.specs.Group.{Group, IsGroup, IsPresent, roster}
-use Rattle.dr_machine.specs.Guards.{CanFinish, CanJoin}
+use Rattle.dr_machine.specs.Guards.{CanJoin}
 use Rattle.dr_machine.specs.World.{World}
 use Rattle.dr_words.specs.Columns.{recv_column}
-use Rattle.dr_faithful.proofs.Beside.{in_view}
-use Rattle.dr_faithful.proofs.Finishes.{joined_is}
-use Rattle.dr_faithful.proofs.Writes.{at_both, at_case}
+use Rattle.dr_faithful.proofs.Beside.{none_outside}
 use Rattle.dr_faithful.specs.Chosen.{Values, endings_by, views_by}
-use Rattle.dr_faithful.specs.Faithful.{AllGoOn, Faithful, JoinsWell}
+use Rattle.dr_faithful.specs.Faithful.{Faithful, JoinsWell}
 use Rattle.dr_faithful.specs.Tells.{Views}
 use Rattle.dr_world_laws.specs.Historic.{AreLaid, Historic, head_by}
-use Rattle.dr_world_laws.proofs.ChosenViews.{views-first, views-stays}
-use Rattle.dr_world_laws.proofs.Finishing.{Finishes, head-few}
+use Rattle.dr_world_laws.proofs.ChosenViews.{views-first}
+use Rattle.dr_world_laws.proofs.Finishing.{head-few}
 use Rattle.dr_world_laws.proofs.Holding.{head-later, view-there}
-use Rattle.dr_world_laws.proofs.Items.{AreOutside}
 use Rattle.dr_world_laws.proofs.Letters.{IsLetter, letter-behind}
 
 -- ---- a wish
@@ -46,21 +40,22 @@ wishes-new g values w m j is h there may = record {
 
 -- the last View of the letter is that of the view
 pub letter-view : (g : Group) (values : Values) (w : World) (j : ℕ) (l : List Entry)
-    → (t : IsLetter g values w j l) → last_view (0, 0) l ≡ (t.view, views_by g values t.view)
+    → (t : IsLetter g values w.past j l) → last_view (0, 0) l ≡ (t.view, views_by g values t.view)
 letter-view g values w j l t = ap (last_view (0, 0)) t.is
     ∙ head_view g.opening w.past.sent (endings_by g.opening values) t.view (0, 0)
 
 pub letter-number : (g : Group) (values : Values) (w : World) (j : ℕ) (l : List Entry)
-    → (t : IsLetter g values w j l) → (last_view (0, 0) l).0 ≡ t.view
+    → (t : IsLetter g values w.past j l) → (last_view (0, 0) l).0 ≡ t.view
 letter-number g values w j l t = ap (λ x. x.0) (letter-view g values w j l t)
 
 -- whoever is none of its view has the history of the opening
 pub outside-history : (g : Group) (values : Values) (w : World) (m : ℕ) → Faithful g (views_by g values) w
-    → AreOutside g (views_by g values) w → AreLaid g values w → m < roster g → has (w.members m) m ≡ false
+    → AreLaid g values w → m < roster g → has (w.members m) m ≡ false
     → w.past.history m ≡ head_by g values w 0
-outside-history g values w m f out laid l outside =
-    let zero = out m l (ap (λ k. has k m) (sym (f.views.own m)) ∙ outside) in
-    laid.historic.history m l ∙ ap₂ (course g.opening w.past.sent (endings_by g.opening values)) zero.0 zero.1
+outside-history g values w m f laid l outside =
+    let out = ap (λ k. has k m) (sym (f.views.own m)) ∙ outside in
+    laid.historic.history m l ∙ ap₂ (course g.opening w.past.sent (endings_by g.opening values))
+    (f.views.outside m out) (f.delivered.none m out)
     ∙ course-head g.opening w.past.sent (endings_by g.opening values) 0
 
 -- and it has put nothing
@@ -70,36 +65,36 @@ outside-sent g V w m f l outside = nil_from_length (w.past.sent m (w.past.view m
   arith,
   f.sent.all m (w.past.view m),
   f.counts.recv m (w.past.view m) m l,
-  f.fresh.outside m (w.past.view m) (recv_column m) (ap (λ k. has k m) (sym (f.views.own m)) ∙ outside)
+  none_outside g V w m (w.past.view m) (recv_column m) f (ap (λ k. has k m) (sym (f.views.own m)) ∙ outside)
       (omega arith),
 ))
 
 -- the letter goes on from what its member has, which is none of its view yet
 pub letter-begins : (g : Group) (values : Values) (w : World) (m : ℕ) (letter : List Entry) → IsGroup g
-    → Faithful g (views_by g values) w → AreOutside g (views_by g values) w → AreLaid g values w → m < roster g
-    → has (w.members m) m ≡ false → IsLetter g values w m letter → IsPrefixOf (w.past.history m) letter
-letter-begins g values w m letter is f out laid l outside t =
-    subst (λ es. IsPrefixOf es letter) (sym (outside-history g values w m f out laid l outside))
+    → Faithful g (views_by g values) w → AreLaid g values w → m < roster g
+    → has (w.members m) m ≡ false → IsLetter g values w.past m letter → IsPrefixOf (w.past.history m) letter
+letter-begins g values w m letter is f laid l outside t =
+    subst (λ es. IsPrefixOf es letter) (sym (outside-history g values w m f laid l outside))
     (subst (IsPrefixOf (head_by g values w 0)) (sym t.is)
     (head-later g values w 0 t.view (omega (arith, t.next))))
 
 pub joins-well : (g : Group) (values : Values) (w : World) (m : ℕ) → IsGroup g
-    → Faithful g (views_by g values) w → AreOutside g (views_by g values) w → AreLaid g values w
-    → (can : CanJoin g w m) → IsLetter g values w m can.letter
+    → Faithful g (views_by g values) w → AreLaid g values w
+    → (can : CanJoin g w m) → IsLetter g values w.past m can.letter
     → JoinsWell g (views_by g values) w m (last_view (0, 0) can.letter).0 (last_view (0, 0) can.letter).1
     can.letter
-joins-well g values w m is f out laid can t =
+joins-well g values w m is f laid can t =
     subst (λ x. JoinsWell g (views_by g values) w m x.0 x.1 can.letter)
     (sym (letter-view g values w m can.letter t)) (record {
-      later = omega (arith, zero.0, later);
+      later = omega (arith, zero, later);
       next = refl;
       inside = t.member;
       first = t.new;
-      stayed = λ i h early. subst (λ v. has (views_by g values v) i ≡ true) (sym zero.0)
+      stayed = λ i h early. subst (λ v. has (views_by g values v) i ≡ true) (sym zero)
           (ap (λ k. has k i) (views-first g values) ∙ early);
-      begins = letter-begins g values w m can.letter is f out laid l can.outside t;
+      begins = letter-begins g values w m can.letter is f laid l can.outside t;
       behind = subst (λ es. length es < length (up_to_view can.letter))
-          (sym (outside-history g values w m f out laid l can.outside)) (letter-behind g values w m can.letter t);
+          (sym (outside-history g values w m f laid l can.outside)) (letter-behind g values w m can.letter t);
       few = head-few g values w m t.view can.letter is f laid
           (λ u less. (laid.left t.giver u t.within (omega (arith, less, t.come))).ended) t.is;
     })
@@ -107,43 +102,13 @@ joins-well g values w m is f out laid can t =
     l : m < roster g
     l = in_roster g m is can.may.alive.present
 
-    zero : (w.past.view m ≡ 0) × (w.next m ≡ 0)
-    zero = out m l (ap (λ k. has k m) (sym (f.views.own m)) ∙ can.outside)
+    zero : w.past.view m ≡ 0
+    zero = f.views.outside m (ap (λ k. has k m) (sym (f.views.own m)) ∙ can.outside)
 
     later : 0 < t.view
     later = omega (arith, t.next)
 
 -- its history is that head
-pub joins-head : (g : Group) (values : Values) (w : World) (m : ℕ) (l : List Entry) → IsLetter g values w m l
+pub joins-head : (g : Group) (values : Values) (w : World) (m : ℕ) (l : List Entry) → IsLetter g values w.past m l
     → l ≡ head_by g values w (last_view (0, 0) l).0
 joins-head g values w m l t = t.is ∙ ap (λ x. head_by g values w x.0) (sym (letter-view g values w m l t))
-
--- ---- who is none of its view
-
--- stays so but for a join: nobody else acts, and whoever goes on stays
-pub outside-stay : (g : Group) (values : Values) (w : World) (m : ℕ) (s : Step) → IsGroup g
-    → Faithful g (views_by g values) w → AllGoOn g (views_by g values) w
-    → ((can : CanFinish g w m) → Finishes g values w m can.value) → CanTake g w m s
-    → AreOutside g (views_by g values) w → AreOutside g (views_by g values) (effect_of g w m s)
-outside-stay g values w m s is f well ends can out = progress_after g w m s (λ x. (k : ℕ) → k < roster g
-    → has (views_by g values (x.view k)) k ≡ false → (x.view k ≡ 0) × (x.next k ≡ 0)) can (record {
-      puts_item = λ name may. out;
-      delivers_place = λ can. at_case
-          (λ k p. k < roster g → has (views_by g values (w.past.view k)) k ≡ false
-          → (w.past.view k ≡ 0) × (p ≡ 0)) w.next m (w.next m + 1) (λ k d. out k)
-          (λ l none. absurd (cc (none, in_view g (views_by g values) w m f can.may.inside)));
-      knows_more = λ can. out;
-      goes_on = λ can. at_both
-          (λ k v p. k < roster g → has (views_by g values v) k ≡ false → (v ≡ 0) × (p ≡ 0)) w.past.view w.next m
-          (w.past.view m + 1) 0 out (λ l none. absurd (cc (none, next can)));
-      joins = λ can. joined_is w m can.letter (λ u. (k : ℕ) → k < roster g
-          → has (views_by g values (u.past.view k)) k ≡ false → (u.past.view k ≡ 0) × (u.next k ≡ 0)) can.given
-          (at_both (λ k v p. k < roster g → has (views_by g values v) k ≡ false → (v ≡ 0) × (p ≡ 0))
-          w.past.view w.next m (last_view (0, 0) can.letter).0 0 out
-          (λ l none. absurd (cc (none, (well.join m can).inside))));
-      stays = out;
-    })
-  where
-    next : CanFinish g w m → has (views_by g values (w.past.view m + 1)) m ≡ true
-    next can =
-        let y = ends can in views-stays g values (w.past.view m) m is y.inside y.stays

@@ -7,7 +7,7 @@ use Rattle.dr_entry.specs.declared.entry.Entry.{Entry}
 use Rattle.dr_history.specs.History.{IsPrefixOf, last_view, up_to_view}
 use Rattle.dr_history.specs.Members.{has, members_of}
 use Rattle.dr_history.specs.Order.{IsNewIn}
-use Rattle.dr_history_laws.specs.Courses.{ViewHasEnded}
+use Rattle.dr_history_laws.specs.Courses.{ViewHasEnded, head_of}
 use Rattle.dr_history_laws.proofs.Courses.{course-head, head-steady}
 use Rattle.dr_history_laws.proofs.Heads.{course_up_to, head_view}
 use Rattle.dr_history_laws.proofs.Members.{member-has}
@@ -18,7 +18,7 @@ use Rattle.dr_machine.specs.declared.step.Step.{Step}
 use Rattle.dr_machine.specs.Group.{Group, IsGroup, roster}
 use Rattle.dr_machine.specs.Guards.{CanWelcome}
 use Rattle.dr_machine.specs.Run.{PastGrew}
-use Rattle.dr_machine.specs.World.{World}
+use Rattle.dr_machine.specs.World.{Past, World}
 use Rattle.dr_machine.specs.Writes.{at}
 use Rattle.dr_machine.specs.Effects.{welcomes}
 use Rattle.dr_words.proofs.Bits.{has_zero}
@@ -33,12 +33,12 @@ use Rattle.dr_world_laws.proofs.ChosenViews.{ending-next}
 use Rattle.dr_world_laws.proofs.Holding.{head-later}
 
 -- the letter for member j is the head of a view that somebody has come to, the first one that j is in
-pub record IsLetter (g : Group) (values : Values) (w : World) (j : ℕ) (letter : List Entry) : Type 0 where
+pub record IsLetter (g : Group) (values : Values) (past : Past) (j : ℕ) (letter : List Entry) : Type 0 where
   pub view : ℕ
   pub giver : ℕ
   pub within : giver < roster g
-  pub come : view ≤ w.past.view giver
-  pub is : letter ≡ head_by g values w view
+  pub come : view ≤ past.view giver
+  pub is : letter ≡ head_of g.opening past.sent (endings_by g.opening values) view
   pub member : has (views_by g values view) j ≡ true
   pub new : (u : ℕ) → u < view → has (views_by g values u) j ≡ false
   -- and the least of those that stayed gave it
@@ -50,7 +50,7 @@ pub record IsLetter (g : Group) (values : Values) (w : World) (j : ℕ) (letter 
 
 -- its View stands behind all that every history begins with
 pub letter-behind : (g : Group) (values : Values) (w : World) (j : ℕ) (letter : List Entry)
-    → IsLetter g values w j letter → length (head_by g values w 0) < length (up_to_view letter)
+    → IsLetter g values w.past j letter → length (head_by g values w 0) < length (up_to_view letter)
 letter-behind g values w j letter t = rw whole (by begins.0 begins.1)
   where
     begins : IsPrefixOf (head_by g values w 0) letter
@@ -75,12 +75,12 @@ letter-behind g values w j letter t = rw whole (by begins.0 begins.1)
     by (e ∷ rest) more = omega (arith, ap length more, length-append (head_by g values w 0) (e ∷ rest))
 
 -- so are these letters
-abbrev pub AreHeads : Group → Values → World → (ℕ → Option (List Entry)) → Type 0
-AreHeads g values w letter = (j : ℕ) (l : List Entry) → letter j ≡ Some l → IsLetter g values w j l
+abbrev pub AreHeads : Group → Values → Past → (ℕ → Option (List Entry)) → Type 0
+AreHeads g values past letter = (j : ℕ) (l : List Entry) → letter j ≡ Some l → IsLetter g values past j l
 
 -- a letter stays so
 letter-on : (g : Group) (values : Values) (w after : World) (j : ℕ) (l : List Entry) → AreLaid g values w
-    → PastGrew w.past after.past → IsLetter g values w j l → IsLetter g values after j l
+    → PastGrew w.past after.past → IsLetter g values w.past j l → IsLetter g values after.past j l
 letter-on g values w after j l laid grew t = record {
   view = t.view;
   giver = t.giver;
@@ -132,7 +132,7 @@ comes-new g values w m j is f laid can u less =
 -- what m gives is one
 given-letter : (g : Group) (values : Values) (w : World) (m j : ℕ) → IsGroup g
     → Faithful g (views_by g values) w → AreLaid g values w → CanWelcome g w m j
-    → IsLetter g values w j (up_to_view (w.past.history m))
+    → IsLetter g values w.past j (up_to_view (w.past.history m))
 given-letter g values w m j is f laid can = record {
   view = w.past.view m;
   giver = m;
@@ -164,14 +164,14 @@ IsKept view given giver v j = (has (given giver) j ≡ true) ⊎ (v < view giver
 
 -- each letter is the head of such a view, and its giver keeps that it has given it; and who has given one has
 -- not lost it
-pub record AreGiven (g : Group) (values : Values) (w : World) (p : Letters) : Type 0 where
+pub record AreGiven (g : Group) (values : Values) (past : Past) (p : Letters) : Type 0 where
   pub letters : (j : ℕ) (l : List Entry) → p.letter j ≡ Some l
-      → (t : IsLetter g values w j l) × IsKept p.view p.given t.giver t.view j
+      → (t : IsLetter g values past j l) × IsKept p.view p.given t.giver t.view j
   pub given : (m j : ℕ) → has (p.given m) j ≡ true → (l : List Entry) × (p.letter j ≡ Some l)
 
-pub are-heads : (g : Group) (values : Values) (w : World) (p : Letters) → AreGiven g values w p
-    → AreHeads g values w p.letter
-are-heads g values w p y j l e = (y.letters j l e).0
+pub are-heads : (g : Group) (values : Values) (past : Past) (p : Letters) → AreGiven g values past p
+    → AreHeads g values past p.letter
+are-heads g values past p y j l e = (y.letters j l e).0
 
 -- who goes on in a later view
 kept-on : (view given : ℕ → ℕ) (m to giver v j : ℕ) → view m < to → v ≤ view giver → IsKept view given giver v j
@@ -229,18 +229,18 @@ given-more given letter m n x old k j t = elim (cases_eq j n) [
 
 -- so it stays
 gives : (g : Group) (values : Values) (w : World) (m i : ℕ) → IsGroup g → Faithful g (views_by g values) w
-    → AreLaid g values w → CanWelcome g w m i → AreGiven g values w (letters w)
-    → AreGiven g values w (letters (welcomes w m i))
+    → AreLaid g values w → CanWelcome g w m i → AreGiven g values w.past (letters w)
+    → AreGiven g values w.past (letters (welcomes w m i))
 unfolding given-letter
 gives g values w m i is f laid can old = record {
   letters = at_case (λ k (r : Option (List Entry)). (l : List Entry) → r ≡ Some l
-      → (t : IsLetter g values w k l) × IsKept w.past.view more t.giver t.view k) w.letter i
+      → (t : IsLetter g values w.past k l) × IsKept w.past.view more t.giver t.view k) w.letter i
       (Some (up_to_view (w.past.history m)))
       (λ k d l e. let t = old.letters k l e in (
         t.0,
         kept-more w.past.view w.given m i t.0.giver t.0.view k (small t.0.view k t.0.member) t.1,
       ))
-      (λ l e. subst (λ es. (t : IsLetter g values w i es) × IsKept w.past.view more t.giver t.view i)
+      (λ l e. subst (λ es. (t : IsLetter g values w.past i es) × IsKept w.past.view more t.giver t.view i)
       (same_Some (up_to_view (w.past.history m)) l e) (
         given-letter g values w m i is f laid can,
         inl (ap (λ x. has x i) (at_same w.given m (with_member (w.given m) i))
@@ -257,8 +257,8 @@ gives g values w m i is f laid can old = record {
     small v k there = omega (arith, f.views.within v k there, is.most_members)
 
 goes : (g : Group) (values : Values) (w : World) (m to : ℕ) → w.past.view m < to
-    → AreGiven g values w (letters w)
-    → AreGiven g values w (record { view = at w.past.view m to; given = at w.given m 0; letter = w.letter })
+    → AreGiven g values w.past (letters w)
+    → AreGiven g values w.past (record { view = at w.past.view m to; given = at w.given m 0; letter = w.letter })
 goes g values w m to later old = record {
   letters = λ j l e. let t = old.letters j l e in
       (t.0, kept-on w.past.view w.given m to t.0.giver t.0.view j later t.0.come t.1);
@@ -269,8 +269,8 @@ goes g values w m to later old = record {
 pub letters-stay : (g : Group) (values : Values) (w : World) (m : ℕ) (s : Step) → IsGroup g
     → Faithful g (views_by g values) w → AllGoOn g (views_by g values) w → AreLaid g values w
     → PastGrew w.past (effect_of g w m s).past
-    → CanTake g w m s → AreGiven g values w (letters w)
-    → AreGiven g values (effect_of g w m s) (letters (effect_of g w m s))
+    → CanTake g w m s → AreGiven g values w.past (letters w)
+    → AreGiven g values (effect_of g w m s).past (letters (effect_of g w m s))
 unfolding letter-on
 letters-stay g values w m s is f well laid grew can old = record {
   letters = λ j l e. let t = now.letters j l e in
@@ -278,18 +278,18 @@ letters-stay g values w m s is f well laid grew can old = record {
   given = now.given;
 }
   where
-    now : AreGiven g values w (letters (effect_of g w m s))
-    now = given_after g w m s (AreGiven g values w) can (record {
+    now : AreGiven g values w.past (letters (effect_of g w m s))
+    now = given_after g w m s (AreGiven g values w.past) can (record {
       gives = λ i may. gives g values w m i is f laid may old;
       goes_on = λ may. goes g values w m (w.past.view m + 1) (omega arith) old;
-      joins = λ may. joined_is w m may.letter (λ u. AreGiven g values w (letters u)) may.given
+      joins = λ may. joined_is w m may.letter (λ u. AreGiven g values w.past (letters u)) may.given
           (goes g values w m (last_view (0, 0) may.letter).0 (well.join m may).later old);
       stays = old;
     })
 
 -- a member gives no second letter, nor does another
 pub gives-once : (g : Group) (values : Values) (w : World) (m j : ℕ) → IsGroup g
-    → Faithful g (views_by g values) w → AreLaid g values w → AreGiven g values w (letters w)
+    → Faithful g (views_by g values) w → AreLaid g values w → AreGiven g values w.past (letters w)
     → CanWelcome g w m j → w.letter j ≡ None
 gives-once g values w m j is f laid y can = by (w.letter j) refl
   where
@@ -300,7 +300,7 @@ gives-once g values w m j is f laid y can = by (w.letter j) refl
     there = ap (λ k. has k j) (sym (f.views.own m)) ∙ can.newcomer
 
     -- it is the same view
-    same-view : (l : List Entry) (t : IsLetter g values w j l)
+    same-view : (l : List Entry) (t : IsLetter g values w.past j l)
         → (t.view < w.past.view m) ⊎ (w.past.view m ≤ t.view)
         → (w.past.view m < t.view) ⊎ (t.view ≤ w.past.view m) → t.view ≡ w.past.view m
     same-view l t (inl less) b = absurd (cc (t.member, comes-new g values w m j is f laid can t.view less))

@@ -49,12 +49,12 @@ use Rattle.dr_world_laws.proofs.ByValues.{AreVotedFor}
 use Rattle.dr_world_laws.specs.Historic.{AreLaid, HasEndedSafely, head_by, view_numbered}
 use Rattle.dr_world_laws.proofs.ChosenViews.{left-steady, views-first, views-within}
 use Rattle.dr_world_laws.proofs.Finishing.{Finishes, finished-head, finishes, goes-any, goes-on_well, leaves}
-use Rattle.dr_world_laws.proofs.Joining.{joins-head, joins-well, letter-number, outside-stay, wishes-new}
+use Rattle.dr_world_laws.proofs.Joining.{joins-head, joins-well, letter-number, wishes-new}
 use Rattle.dr_world_laws.proofs.Letters.{AreGiven, AreHeads, are-heads, letters-stay}
 use Rattle.dr_world_laws.proofs.Completion.{Complete, shows_own, event_completes}
 use Rattle.dr_world_laws.proofs.Histories.{AddsEntry, AreReady, added, event_keeps}
 use Rattle.dr_world_laws.proofs.Safety.{IsSafe, safe-value, wedged_stay}
-use Rattle.dr_world_laws.proofs.Items.{AreOutside, IsReceived, entries-next, held-next, item-received}
+use Rattle.dr_world_laws.proofs.Items.{IsReceived, entries-next, held-next, item-received}
 
 -- what is known of a world that is reached by chosen values
 pub record Known (g : Group) (values : Values) (w : World) : Type 0 where
@@ -64,8 +64,7 @@ pub record Known (g : Group) (values : Values) (w : World) : Type 0 where
   pub voting : Voting g (views_by g values) w
   pub ballots : AreVotedFor g values w
   pub wedged : (m : ℕ) (x : Value) → w.committed m ≡ Some x → w.suspects m ≢ 0
-  pub outside : AreOutside g (views_by g values) w
-  pub letters : AreGiven g values w (letters w)
+  pub letters : AreGiven g values w.past (letters w)
 
 -- so a value that somebody has committed is safe
 pub safe : (g : Group) (values : Values) (w : World) (m : ℕ) (x : Value) → Known g values w
@@ -83,9 +82,9 @@ may-end g values w m is y chosen can =
 pub all-go_on : (g : Group) (values : Values) (w : World) → IsGroup g → Known g values w
     → AreChosen values w → AllGoOn g (views_by g values) w
 all-go_on g values w is y chosen = record {
-  finish = λ m can. goes-on_well g values w m can.value is y.faithful y.outside y.laid
+  finish = λ m can. goes-on_well g values w m can.value is y.faithful y.laid
       (may-end g values w m is y chosen can);
-  join = λ m can. joins-well g values w m is y.faithful y.outside y.laid can
+  join = λ m can. joins-well g values w m is y.faithful y.laid can
       (y.letters.letters m can.letter can.given).0;
   wish = λ m j there may. wishes-new g values w m j is y.laid.historic there may;
 }
@@ -166,7 +165,7 @@ done-delivers_none g values w m is y can l e =
 
 -- a view that is left after a step was left before it, or is the one that the step ends
 left_or_ended : (g : Group) (values : Values) (w : World) (m : ℕ) (s : Step) (k v : ℕ)
-    → AreHeads g values w w.letter → CanTake g w m s
+    → AreHeads g values w.past w.letter → CanTake g w m s
     → v < (effect_of g w m s).past.view k → HasLeft g w v k ⊎ (CanFinish g w k × (v ≡ w.past.view k))
 left_or_ended g values w m s k v letters can = standing_after g w m s
     (λ x. v < x.view k → HasLeft g w v k ⊎ (CanFinish g w k × (v ≡ w.past.view k))) can (record {
@@ -221,7 +220,7 @@ all-left : (g : Group) (values : Values) (w : World) (e : Event) → IsGroup g �
     → Guard g w e → Known g values w → (k v : ℕ) → k < roster g → v < (effect g w e).past.view k
     → HasEndedSafely g values w v
 all-left g values w e is chosen can y k v l less =
-    by (left_or_ended g values w (member_of e) (step_of e) k v (are-heads g values w (letters w) y.letters) can less)
+    by (left_or_ended g values w (member_of e) (step_of e) k v (are-heads g values w.past (letters w) y.letters) can less)
   where
     by : HasLeft g w v k ⊎ (CanFinish g w k × (v ≡ w.past.view k)) → HasEndedSafely g values w v
     by (inl (inl before)) = y.laid.left k v l before
@@ -258,7 +257,6 @@ begins g values is = record {
   voting = voting_begins g (views_by g values);
   ballots = λ m v l. absurd (omega (arith, l));
   wedged = λ m x e. absurd (none-some x e);
-  outside = λ m l out. (refl, refl);
   letters = record {
     letters = λ j l e. absurd (none-some l e);
     given = λ m j t. absurd (cc (has_zero j, t));
@@ -284,10 +282,8 @@ event-known g values w e is chosen can y = record {
   ballots = λ k v less. ballots-stay g values w (effect g w e) v
       (past_on_event g (views_by g values) w e is well can y.faithful)
       (voted-for g values w k v chosen y.voting y.ballots
-      (left_or_ended g values w (member_of e) (step_of e) k v (are-heads g values w (letters w) y.letters) can less));
+      (left_or_ended g values w (member_of e) (step_of e) k v (are-heads g values w.past (letters w) y.letters) can less));
   wedged = wedged_stay g (views_by g values) w (member_of e) (step_of e) is can y.faithful y.wedged;
-  outside = outside-stay g values w (member_of e) (step_of e) is y.faithful well
-      (λ can. may-end g values w (member_of e) is y chosen can) can y.outside;
   letters = letters-stay g values w (member_of e) (step_of e) is y.faithful well y.laid
       (past_on_event g (views_by g values) w e is well can y.faithful) can y.letters;
 }
@@ -302,10 +298,10 @@ event-known g values w e is chosen can y = record {
     ready = record {
       present = λ m there. in_roster g m is there;
       ended = λ m v l less. (y.laid.left m v l less).ended;
-      held = λ m l. held-next g (views_by g values) w m y.faithful y.outside l;
+      held = λ m l. held-next g (views_by g values) w m y.faithful;
       adds = λ m d. adds-entry g values w m is y d;
       goes = λ u. goes-any g values w u is y.faithful y.laid.historic;
-      comes = λ m can. finished-head g values w m can.value is y.faithful y.outside y.laid.historic
+      comes = λ m can. finished-head g values w m can.value is y.faithful y.laid.historic
           (may-end g values w m is y chosen can);
       joins = λ m can. joins-head g values w m can.letter (y.letters.letters m can.letter can.given).0;
     }
@@ -351,27 +347,7 @@ arrived-known g values us w table come y = record {
     voting = voted.0;
     ballots = y.world.ballots;
     wedged = y.world.wedged;
-    outside = y.world.outside;
-    letters = record {
-      letters = λ j l e. let y = y.world.letters.letters j l e in let t = y.0 in (
-        record {
-          view = t.view;
-          giver = t.giver;
-          within = t.within;
-          come = t.come;
-          is = t.is;
-          member = t.member;
-          new = t.new;
-          from = t.from;
-          next = t.next;
-          was = t.was;
-          stays = t.stays;
-          least = t.least;
-        },
-        y.1,
-      );
-      given = y.world.letters.given;
-    };
+    letters = y.world.letters;
   };
   backed = backed_arrived g (views_by g values) us w table y.world.faithful come y.backed;
   votes = voted.1;

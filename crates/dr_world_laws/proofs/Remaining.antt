@@ -122,7 +122,7 @@ pub held-first : (g : Group) (values : Values) (w : World) (m : ℕ) → Known g
     → w.past.view m ≡ 0 → HeldBelow w.past.sent (first_view g.opening) (w.next m)
 held-first g values w m y l first = subst (λ v. HeldBelow w.past.sent v (w.next m)) (view-first g values)
     (subst (λ n. HeldBelow w.past.sent (view_numbered g (views_by g values) n) (w.next m)) first
-    (held-next g (views_by g values) w m y.faithful y.outside l))
+    (held-next g (views_by g values) w m y.faithful))
 
 -- ---- what each member has put in the first view
 

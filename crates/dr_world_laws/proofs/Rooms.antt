@@ -26,7 +26,7 @@ view-below g values w m is y l = by (has (views_by g values (w.past.view m)) m) 
       views-few g values (w.past.view m) is (λ u less. left-changes g values w m u y less),
       some_member (views_by g values (w.past.view m)) m (omega (arith, l, is.most_members)) here,
     )
-    by false out = omega (arith, (y.outside m l out).0, is.some_member)
+    by false out = omega (arith, y.faithful.views.outside m out, is.some_member)
 
 -- a history has the first entries, a View for each view that was left, and no more messages than the script
 pub history-short : (g : Group) (values : Values) (w : World) (m most : ℕ) → IsGroup g → Known g values w

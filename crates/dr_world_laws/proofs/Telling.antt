@@ -89,7 +89,7 @@ head-for g w j l is y e = record {
   gave = (y.chosen.letters.letters j l e).1;
 }
   where
-    t : IsLetter g y.values w j l
+    t : IsLetter g y.values w.past j l
     t = (y.chosen.letters.letters j l e).0
 
     h : (before : List Entry) × (head_by g y.values w t.view

@@ -25,9 +25,10 @@ use Rattle.dr_machine.specs.Run.{ComesNext, IsReached, NoLaterItem, PastGrew, Wa
 use Rattle.dr_machine.specs.Sending.{IsPut}
 use Rattle.dr_machine.specs.Votes.{HasLogged, IsOf, MajorityHas}
 use Rattle.dr_machine.specs.World.{World}
-use Rattle.dr_faithful.proofs.Faithfulness.{all_told, none_later, past_on_event, waits_for, words_on}
+use Rattle.dr_faithful.proofs.Faithfulness.{none_later, past_on_event, words_on}
 use Rattle.dr_faithful.proofs.Late.{arrived_grew}
 use Rattle.dr_faithful.proofs.Pasts.{past_on, past_same}
+use Rattle.dr_faithful.proofs.Suspicions.{promise_least, suspicions_told}
 use Rattle.dr_faithful.specs.Chosen.{AreChosen, Values, endings_by, views_by}
 use Rattle.dr_faithful.specs.Faithful.{AllGoOn, Faithful}
 use Rattle.dr_faithful.specs.Tells.{SuspicionsTold}
@@ -88,11 +89,11 @@ pub all_go_on : (g : Group) (w : World) → IsGroup g → (y : Known g w) → Al
 all_go_on g w is y = worlds.all-go_on g y.values w is y.chosen y.by.now
 
 pub told : (g : Group) (w : World) → IsGroup g → Known g w → SuspicionsTold g w
-told g w is y = all_told g (views_by g y.values) w y.chosen.faithful
+told g w is y = suspicions_told g (views_by g y.values) w y.chosen.faithful
 
 pub waits : (g : Group) (w : World) (m : ℕ) → IsGroup g → Known g w → m < roster g → w.suspects m ≢ 0
     → IsLeastOf (unsuspected_of w m) (w.promise m)
-waits g w m is y l some = waits_for g (views_by g y.values) w m is y.chosen.faithful some
+waits g w m is y l some = promise_least g (views_by g y.values) w m is y.chosen.faithful some
 
 -- the words grow at every event, and so does all else that only grows
 pub words_grew : (g : Group) (w : World) (e : Event) → IsGroup g → Known g w → Guard g w e
