@@ -1,12 +1,9 @@
--- Disks behind a crash: fit ones stay fit, and a run goes on from what was logged.
-use Rattle.std.proofs.Common.{◌≡◌, ◌⊎◌, inl, inr, ⊎_elim, refl, sym, ap, ◌∙◌, subst, ℕ, zero, suc, ◌<◌, ◌≤◌, false, arith, List, [], ◌∷◌, ◌++◌, append-nil, length, length-append, take, take_at, Contains}
+-- A run behind a crash begins with what was logged.
+use Rattle.std.proofs.Common.{◌≡◌, ◌⊎◌, inl, inr, ⊎_elim, refl, sym, ap, ◌∙◌, subst, ℕ, ◌<◌, ◌≤◌, true, false, arith, List, [], ◌∷◌, ◌++◌, append-nil, length, length-append, take, take_at, Contains}
 use Rattle.std.specs.Prelude.{IfSome, IsSomeAnd, IsTrue, Option, None, Some, option_map, slice_get}
 use Rattle.std.proofs.lemmas.List.{nil_from_length}
 use Rattle.std.proofs.lemmas.Option.{none-some, same_Some, slice_get_within}
-use Rattle.dr_disk.specs.Calls.{State}
 use Rattle.dr_disk.specs.Disk.{Told, content_of, state_of}
-use Rattle.dr_disk.specs.Images.{AllImages, IsImage, IsLeft}
-use Rattle.dr_disk.proofs.Images.{image_at_rest}
 use Rattle.dr_entry.specs.declared.end.AgeEnd.{AgeEnd}
 use Rattle.dr_entry.specs.declared.end.MemberEnd.{MemberEnd}
 use Rattle.dr_entry.specs.declared.entry.Entry.{Entry}
@@ -29,128 +26,84 @@ use Rattle.dr_program.proofs.Present.{present_map, present_within}
 use Rattle.dr_quorum.specs.Handing.{handed_by}
 use Rattle.dr_quorum_laws.proofs.LastViews.{last-view, view-come, view-late}
 use Rattle.dr_quorum_laws.proofs.Lists.{prefix-in}
-use Rattle.dr_restart.specs.Choosing.{AreOfHolders, AreOfNobody, EndsInAge, Handed}
+use Rattle.dr_restart.specs.Choosing.{AreOfHolders, AreOfNobody, EndsInAge, Handed, IsChosenStart, of_set}
 use Rattle.dr_restart.specs.declared.lists.LogLists.{LogLists}
 use Rattle.dr_restart.specs.declared.start.Start.{Start}
-use Rattle.dr_restart.specs.Groups.{first_group_of}
+use Rattle.dr_restart.specs.Groups.{first_group_of, group_of}
 use Rattle.dr_script.specs.declared.script.Script.{Script}
 use Rattle.dr_yard.specs.Yards.{AllTell, YardState}
 use Rattle.dr_ages.specs.declared.mode.Mode.{Mode}
 use Rattle.dr_ages.specs.declared.part.Part.{Part}
 use Rattle.dr_ages.specs.declared.stop.Stop.{Stop}
-use Rattle.dr_ages.specs.Ages.{IsAgeOf, start_of}
+use Rattle.dr_ages.specs.Ages.{IsAgeOf, over_of, start_of}
 use Rattle.dr_ages.specs.Crashed.{HaveCrashed, IsLeftOver}
-use Rattle.dr_ages.specs.Fit.{AreChosen, AreFit, IsReadable, MayLeave}
 use Rattle.dr_ages.specs.Found.{AreFound, ReadsAs}
 use Rattle.dr_ages.specs.Runs.{HaveLogged, IsRunOf, with_these}
-use Rattle.dr_ages.proofs.Keeping.{there_found}
-
--- what is left of a disk behind a crash is the image that it left
-left_over : (old new : Told) (image : List ℕ) → (over : IsLeftOver old new) → IsImage (state_of new) image
-    → image ≡ over.image
-left_over old new image over is =
-    image_at_rest over.image image (subst (λ (s : State). IsImage s image) over.rests is)
-
-pub crashed_fit : (script : Script) (before after : YardState) → AreFit script before
-    → HaveCrashed script.members before after → AreFit script after
-crashed_fit script before after fit crashed = record {
-  readable = λ m l. readable (before.told m) (after.told m) (crashed m l) (fit.readable m l);
-  accepted = λ lists chosen. fit.accepted lists (record {
-    all = chosen.all;
-    each = λ m es at.
-        left (before.told m) (after.told m) es
-        (crashed m (omega (arith, slice_get_within lists m es at, chosen.all))) (chosen.each m es at);
-  });
-}
-  where
-    readable : (o now : Option Told) → IsSomeAnd o (λ old. IsSomeAnd now (IsLeftOver old))
-        → IsSomeAnd o (λ t. AllImages (state_of t) IsReadable)
-        → IsSomeAnd now (λ t. AllImages (state_of t) IsReadable)
-    readable None now over is = absurd over
-    readable (Some t) None over is = absurd over
-    readable (Some t) (Some u) over is = λ image here.
-        subst IsReadable (sym (left_over t u image over here)) (is over.image over.is)
-
-    left : (o now : Option Told) (es : List Entry) → IsSomeAnd o (λ old. IsSomeAnd now (IsLeftOver old))
-        → IsSomeAnd now (MayLeave es) → IsSomeAnd o (MayLeave es)
-    left None now es over may = absurd over
-    left (Some t) None es over may = absurd over
-    left (Some t) (Some u) es over may = record {
-      image = over.image;
-      is = over.is;
-      content = may.content;
-      stands = subst (λ (image : List ℕ). StandFor image may.content) (left_over t u may.image over may.is)
-          may.stands;
-      entries = may.entries;
-    }
+use Rattle.dr_ages.proofs.Keeping.{there_found, ended_over, image_entries, left_begins}
+use Rattle.dr_disk.specs.Images.{IsLeft}
+use Rattle.dr_kept.proofs.Chosen.{few}
+use Rattle.dr_kept.proofs.Lasting.{since_behind}
+use Rattle.dr_machine.specs.Group.{Group, IsPresent}
+use Rattle.dr_machine.specs.World.{World}
+use Rattle.dr_opening.proofs.Trying.{chosen_by, in_set}
+use Rattle.dr_program.specs.Program.{Program, member_end}
+use Rattle.dr_program.specs.Reading.{world}
+use Rattle.dr_program.specs.Replica.{Replica}
+use Rattle.dr_quorum_laws.specs.Holding.{IsOpenedTry}
+use Rattle.dr_quorum_laws.proofs.ByMessages.{start-by-messages}
+use Rattle.dr_quorum_laws.proofs.Grown.{opened-cases}
+use Rattle.dr_quorum_laws.proofs.Handing.{Since, log-of_set}
+use Rattle.dr_quorum_laws.proofs.Lasting.{on-start, try_by}
+use Rattle.dr_quorum_laws.proofs.Tried.{tried-held}
+use Rattle.dr_restart.specs.declared.lists.Attempt.{Attempt}
+use Rattle.dr_restart.specs.Left.{entries_on_logs}
+use Rattle.dr_restart.specs.Trying.{IsTry}
+use Rattle.dr_restart.proofs.Listed.{listed}
+use Rattle.dr_script.specs.Ranges.{HasRanges}
+use Rattle.dr_ages.specs.Fit.{AreChosen, AreInStep, AreReadable, MayLeave}
+use Rattle.dr_ages.specs.Left.{HasLeft}
+use Rattle.dr_ages.specs.Tried.{AreOfTry, AreTried}
+use Rattle.dr_ages.proofs.InStep.{crashed_step}
+use Rattle.dr_ages.proofs.Lasting.{HadBefore, LastOverFit, crashed_chosen, crashed_readable, crashed_some, had_at, had_before, left_logs, left_over, readable_tell}
+use Rattle.dr_ages.proofs.Votes.{EndsSo}
 
 -- ---- logs of which a crash left one image each
 
--- lists of so many elements, one by one
-pick : {A : Type 0} (P : ℕ → A → Type 0) (n : ℕ) → ((m : ℕ) → m < n → (x : A) × P m x)
-    → (xs : List A) × (length xs ≡ n) × ((m : ℕ) (x : A) → slice_get xs m ≡ Some x → P m x)
-pick P zero each = ([], refl, λ m x at. absurd (none-some x at))
-pick {A} P (suc n) each =
-    let x = each 0 (omega arith) in
-    let rest = pick (λ m. P (suc m)) n (λ m l. each (suc m) (omega (arith, l))) in
-    (x.0 ∷ rest.0, ap suc rest.1, λ m y at. by m y x.0 x.1 rest.0 rest.2 at)
-  where
-    by : (m : ℕ) (y x : A) → P 0 x → (xs : List A) → ((i : ℕ) (z : A) → slice_get xs i ≡ Some z → P (suc i) z)
-        → slice_get (x ∷ xs) m ≡ Some y → P m y
-    by zero y x is xs others at = subst (P 0) (same_Some x y at) is
-    by (suc i) y x is xs others at = others i y at
-
--- what a log has of which a crash left an image: where the next run reads it, what it reads
-record LeftSo (mid : Option Told) (o : Option OnLog) (es : List Entry) : Type 0 where
-  may : IsSomeAnd mid (MayLeave es)
-  read : (c : OnLog) → o ≡ Some c → es ≡ c.entries
-
-left_so : (mid after : Option Told) (o : Option OnLog) → IsSomeAnd mid (λ old. IsSomeAnd after (IsLeftOver old))
-    → IsSomeAnd mid (λ t. AllImages (state_of t) IsReadable)
-    → ((c : OnLog) → o ≡ Some c → IfSome after (ReadsAs c)) → (es : List Entry) × LeftSo mid o es
-left_so None after o over is reads = absurd over
-left_so (Some t) None o over is reads = absurd over
-left_so (Some t) (Some u) o over is reads =
-    let c = is over.image over.is in (
-      c.0.entries,
-      record {
-        may = record { image = over.image; is = over.is; content = c.0; stands = c.1; entries = refl };
-        read = λ d at.
-            let r = reads d at in
-            let bytes : content_of u ≡ over.image = left_over t u (content_of u) over r.image in
-            ap (λ (x : OnLog). x.entries) (content_once over.image c.0 d c.1
-            (subst (λ (image : List ℕ). StandFor image d) bytes r.stands));
-      },
-    )
-
--- so of any two logs that are found behind a crash of fit disks one is a first part of the other
+-- where disks were in step, of any two logs that are found behind a crash one is a first part of the other
 found_along : (script : Script) (missing : ℕ) (mid after : YardState) (contents : List (Option OnLog)) (i j : ℕ)
-    (f g : OnLog) → AreFit script mid → HaveCrashed script.members mid after
+    (f g : OnLog) → AreInStep script mid → HaveCrashed script.members mid after
     → AreFound script.members missing after contents → content_at contents i ≡ Some f
     → content_at contents j ≡ Some g → AreAlong f.entries g.entries
-found_along script missing mid after contents i j f g fit crashed found at_f at_g =
-    let all = pick (λ m. LeftSo (mid.told m) (content_at contents m)) script.members
-    (λ m l. left_so (mid.told m) (after.told m) (content_at contents m) (crashed m l) (fit.readable m l)
-    (λ c at. (found.each m c at).reads)) in
-    let chosen : AreChosen script.members mid all.0 =
-    record { all = all.1; each = λ m es at. (all.2 m es at).may } in
-    let along = (fit.accepted all.0 chosen).along in
-    let one = slice_get-some all.0 i (omega (arith, present_within contents i f at_f, found.all, all.1)) in
-    let other = slice_get-some all.0 j (omega (arith, present_within contents j g at_g, found.all, all.1)) in
-    subst (λ es. AreAlong es g.entries) ((all.2 i one.0 one.1).read f at_f)
-    (subst (AreAlong one.0) ((all.2 j other.0 other.1).read g at_g)
-    (by all.0 along one.0 other.0 one.1 other.1 (apart i j)))
+found_along script missing mid after contents i j f g step crashed found at_f at_g =
+    by (now.accepted h.olds h.chosen).along (apart i j)
   where
+    now : AreInStep script after
+    now = crashed_step script mid after step crashed
+
+    some : (logs : List LogLists) × AreChosen script.members after logs
+    some = crashed_some script.members mid after step.readable crashed
+
+    h : HadBefore script.members after contents some.0
+    h = had_before script.members missing after after contents some.0
+        (readable_tell script.members after now.readable) found (λ m l none. refl) some.1
+
     apart : (i j : ℕ) → (i < j) ⊎ ((i ≡ j) ⊎ (j < i))
     apart i j = grind arith
 
-    by : (lists : List (List Entry)) → AreAllAlong lists → (x y : List Entry) → slice_get lists i ≡ Some x
-        → slice_get lists j ≡ Some y → (i < j) ⊎ ((i ≡ j) ⊎ (j < i)) → AreAlong x y
-    by lists along x y at_x at_y (inl less) = along i j x y less at_x at_y
-    by lists along x y at_x at_y (inr (inl same)) =
-        inl ([], append-nil x ∙ same_Some x y (sym at_x ∙ ap (slice_get lists) same ∙ at_y))
-    by lists along x y at_x at_y (inr (inr more)) = ⊎_elim
-        (λ p. inr p) (λ p. inl p) (along j i y x more at_y at_x)
+    at : (k : ℕ) (c : OnLog) → content_at contents k ≡ Some c
+        → slice_get (entries_on_logs h.olds) k ≡ Some c.entries
+    at k c here = listed h.olds k (as_lists c) (h.among k c here)
+
+    by : AreAllAlong (entries_on_logs h.olds) → (i < j) ⊎ ((i ≡ j) ⊎ (j < i)) → AreAlong f.entries g.entries
+    by along (inl less) = along i j f.entries g.entries less (at i f at_f) (at j g at_g)
+    by along (inr (inl same)) =
+        inl (
+          [],
+          append-nil f.entries
+              ∙ same_Some f.entries g.entries (sym (at i f at_f) ∙ ap (slice_get (entries_on_logs h.olds)) same ∙ at j g at_g),
+        )
+    by along (inr (inr more)) = ⊎_elim
+        (λ p. inr p) (λ p. inl p) (along j i g.entries f.entries more (at j g at_g) (at i f at_f))
 
 -- ---- the start that is chosen of them
 
@@ -239,16 +192,16 @@ reads_on (Some t) (Some u) logged c over left reads =
 pub logged_begins : (script : Script) (part other : Part) (mode : Mode) (nth : ℕ) (ages earlier : List AgeEnd)
     (age : AgeEnd) (m : ℕ) (e : MemberEnd) (mid after end : YardState) (next : AgeEnd) → HaveLogged part.missing ages mid
     → ages ≡ earlier ++ age ∷ [] → slice_get age.members m ≡ Some e → m < script.members → has part.missing m ≡ false
-    → has other.missing m ≡ false → AreFit script mid → HaveCrashed script.members mid after
+    → has other.missing m ≡ false → AreInStep script mid → HaveCrashed script.members mid after
     → IsAgeOf script other mode nth after end next → IsPrefixOf (take e.logged e.history) next.start
-logged_begins script part other mode nth ages earlier age m e mid after end next logged is at l there here fit
+logged_begins script part other mode nth ages earlier age m e mid after end next logged is at l there here step
     crashed opens =
     let c = there_found script.members other.missing after opens.contents m opens.found l here in
     prefix_then (take e.logged e.history) c.0.entries next.start
     (reads_on (mid.told m) (after.told m) (take e.logged e.history) c.0 (crashed m l)
     (logged earlier age m e is at there) (opens.found.each m c.0 c.1).reads)
     (front_of_start (first_group_of script).opening opens.contents (start_of script other next) m c.0 opens.starts
-    (λ i j f g at_f at_g. found_along script other.missing mid after opens.contents i j f g fit crashed opens.found at_f at_g)
+    (λ i j f g at_f at_g. found_along script other.missing mid after opens.contents i j f g step crashed opens.found at_f at_g)
     c.1)
 
 -- a run over disks that tell behind it had such disks before it
@@ -257,3 +210,175 @@ pub told_before : (script : Script) (part : Part) (mode : Mode) (before mid : Ya
     → AllTell script.members before
 told_before script part mode before mid ages stop run tell m l =
     subst IsTrue (sym (run.passes m).tells) (tell m l)
+
+-- ---- whichever logs the two runs miss
+
+-- what a crash leaves of a disk begins with what no crash would have lost
+left_on : (o : Option Told) (logged : List Entry) (log : LogLists) → IsLeft o (LosesNone (with_these logged))
+    → IsSomeAnd o (MayLeave log) → IsPrefixOf logged log.entries
+left_on None logged log left may = absurd may
+left_on (Some t) logged log left may =
+    let none = left may.image may.is in
+    let is : none.content ≡ may.content =
+    content_once may.image none.content may.content none.stands may.stands in (
+      none.has.more_entries,
+      sym none.has.entries ∙ ap (λ (d : OnLog). d.entries) is
+          ∙ ap (λ (l : LogLists). l.entries) may.lists,
+    )
+
+-- and with all that its member has logged
+left_logged : (o : Option Told) (r : Replica) (base : OnLog) (log : LogLists) → HasLeft o r base
+    → IsSomeAnd o (MayLeave log) → IsPrefixOf (take r.logged r.history) log.entries
+left_logged None r base log left may = absurd may
+left_logged (Some t) r base log left may =
+    subst (λ (l : LogLists). IsPrefixOf (take r.logged r.history) l.entries) may.lists
+    (left_begins (take r.logged r.history) (member_end r) may.content.entries ([], append-nil _)
+    (image_entries t may.image r may.content base may.is may.stands left))
+
+-- two runs, the one behind a crash of the other, over fit disks; and what a member had logged in the last age of the
+-- first one
+pub record GoOn (script : Script) (part apart : Part) (mid after : YardState) (age next : AgeEnd) (m : ℕ) (e : MemberEnd)
+    : Type 0 where
+  pub ranges : HasRanges script
+  pub last : YardState
+  pub first : LastOverFit script part last age
+  pub tried : (last ≡ mid) ⊎ AreTried script part.missing last mid
+  pub logged : IsLeft (mid.told m) (LosesNone (with_these (take e.logged e.history)))
+  pub readable : AreReadable script.members mid
+  pub crashed : HaveCrashed script.members mid after
+  pub mode : Mode
+  pub nth : ℕ
+  pub end : YardState
+  pub opens : IsAgeOf script apart mode nth after end next
+  pub at : slice_get age.members m ≡ Some e
+  pub there : has part.missing m ≡ false
+  pub here : has apart.missing m ≡ false
+
+pub logged_goes_on : (script : Script) (part apart : Part) (mid after : YardState) (age next : AgeEnd) (m : ℕ)
+    (e : MemberEnd) → GoOn script part apart mid after age next m e → IsPrefixOf (take e.logged e.history) next.start
+logged_goes_on script part apart mid after age next m e k = by k.tried
+  where
+    es : List Entry
+    es = take e.logged e.history
+
+    start : Start
+    start = start_of script part age
+
+    g : Group
+    g = group_of script start
+
+    l : m < script.members
+    l = omega (arith, slice_get_within age.members m e k.at, k.first.is.roster)
+
+    -- what the second run finds, of all members
+    some : (logs : List LogLists) × AreChosen script.members after logs
+    some = crashed_some script.members mid after k.readable k.crashed
+
+    h : HadBefore script.members after k.opens.contents some.0
+    h = had_before script.members apart.missing after after k.opens.contents some.0
+        (readable_tell script.members after (crashed_readable script.members mid after k.readable k.crashed))
+        k.opens.found (λ m l none. refl) some.1
+
+    lists : List LogLists
+    lists = h.olds
+
+    now : AreChosen script.members mid lists
+    now = crashed_chosen script.members mid after lists k.crashed h.chosen
+
+    second : Start
+    second = start_of script apart next
+
+    choice : IsChosenStart (group_of script start).opening (of_set lists second.present) second
+    choice = start-by-messages (first_group_of script).opening g.opening (of_set lists second.present) second refl
+        (chosen_by (first_group_of script).opening k.opens.contents lists second k.opens.starts
+        (few script k.ranges.group) h.among)
+
+    c : (c : OnLog) × (content_at k.opens.contents m ≡ Some c)
+    c = there_found script.members apart.missing after k.opens.contents m k.opens.found l k.here
+
+    -- the log of the member
+    log : (log : LogLists) × (slice_get lists m ≡ Some log)
+    log = (as_lists c.0, h.among m c.0 c.1)
+
+    handed : of_set lists second.present m ≡ Some log.0
+    handed = log-of_set lists second.present m log.0
+        (in_set (first_group_of script).opening k.opens.contents second m c.0 k.opens.starts
+        (few script k.ranges.group) c.1) log.1
+
+    on : IsPrefixOf (take e.logged e.history) log.0.entries
+    on = left_on (mid.told m) es log.0 k.logged (now.each m log.0 log.1)
+
+    -- what was left of all by the first run
+    over : Program
+    over = over_of k.first.mode script start k.first.nth age k.first.is.run
+
+    w : World
+    w = world g over
+
+    present : IsPresent (group_of script (start_of script part age)) m
+    present =
+        let d = there_found script.members part.missing k.first.before k.first.is.contents m k.first.is.found l k.there in
+        in_set (first_group_of script).opening k.first.is.contents start m d.0 k.first.is.starts
+        (few script k.ranges.group) d.1
+
+    since : (olds : List LogLists) → AreChosen script.members k.last olds → Since g w olds [] olds
+    since olds chosen =
+        let f = k.first in
+        let had = had_at script part f.mode f.nth f.before k.last age olds
+        (readable_tell script.members f.before f.fit.readable) f.is chosen in
+        since_behind script start f.nth over [] had.olds olds
+        (left_logs script part f.mode f.nth f.before k.last age olds k.ranges f.is chosen had)
+        (f.fit.lasting had.olds had.chosen)
+
+    -- where nothing came to them
+    same : (olds : List LogLists) → AreChosen script.members k.last olds → lists ≡ olds
+        → IsPrefixOf (take e.logged e.history) next.start
+    same olds chosen is = on-start g w olds lists [] second.present m second log.0 es
+        (subst (λ (x : List LogLists). Since g w olds [] x) (sym is) (since olds chosen)) choice present handed on
+        (λ try opened. absurd (none-some try opened.1))
+
+    -- where a try did
+    more : (olds : List LogLists) → AreChosen script.members k.last olds → AreOfTry script part.missing olds lists
+        → IsPrefixOf (take e.logged e.history) next.start
+    more olds chosen (try, is, all) = on-start g w olds lists (try ∷ []) second.present m second log.0 es
+        (record {
+          group = s.group;
+          known = s.known;
+          part = s.part;
+          majority = s.majority;
+          left = s.left;
+          held = tried-held g w olds olds lists [] try s mine;
+        }) choice present handed on (λ one opened. begins one (opened-cases [] try one opened))
+      where
+        s : Since (group_of script (start_of script part age)) w olds [] olds
+        s = since olds chosen
+
+        mine : IsTry (group_of script (start_of script part age)).opening olds lists try
+        mine = try_by (first_group_of script).opening g.opening olds lists try refl is
+
+        old : (log : LogLists) × (slice_get olds m ≡ Some log)
+        old = slice_get-some olds m (omega (arith, l, chosen.all))
+
+        x : EndsSo over m e
+        x = ended_over script part k.first.mode k.first.nth k.first.before k.last age k.first.is m e k.at k.there
+
+        -- its start has it
+        had : IsPrefixOf (take e.logged e.history) try.start.entries
+        had = on-start g w olds olds [] try.set m try.start old.0 es s mine.choice present
+            (log-of_set olds try.set m old.0 (all m l k.there) old.1)
+            (subst (λ (end : MemberEnd). IsPrefixOf (take end.logged end.history) old.0.entries) x.is
+            (left_logged (k.last.told m) x.r.replica (k.first.is.begun m) old.0 (k.first.is.left m x.r x.at)
+            (chosen.each m old.0 old.1)))
+            (λ one opened. absurd (none-some one opened.1))
+
+        begins : (one : Attempt) → IsOpenedTry [] one ⊎ ((try ≡ one) × (one.opened ≡ true))
+            → IsPrefixOf (take e.logged e.history) one.start.entries
+        begins one (inl opened) = absurd (none-some one opened.1)
+        begins one (inr (is_it, opened)) =
+            subst (λ (a : Attempt). IsPrefixOf (take e.logged e.history) a.start.entries) is_it had
+
+    by : (k.last ≡ mid) ⊎ AreTried script part.missing k.last mid → IsPrefixOf (take e.logged e.history) next.start
+    by (inl is) = same lists (subst (λ (y : YardState). AreChosen script.members y lists) (sym is) now) refl
+    by (inr tried) =
+        let t = tried.tried lists now in
+        ⊎_elim (λ is. same t.0 t.1 is) (λ is. more t.0 t.1 is) t.2

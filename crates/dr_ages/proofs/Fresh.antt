@@ -69,7 +69,7 @@ use Rattle.dr_ages.specs.Left.{HasLeft, with_logged}
 use Rattle.dr_ages.specs.Stops.{AreOpenBelow, AreRefusedFor, HasStopped, HaveVotesBelow, IsOutside, IsTooFull}
 use Rattle.dr_opening.proofs.Choosing.{chosen_group}
 use Rattle.dr_ages.proofs.Chain.{tell_on}
-use Rattle.dr_ages.proofs.Fit.{age_leaves_good}
+use Rattle.dr_ages.proofs.InStep.{age_leaves_good}
 use Rattle.dr_ages.proofs.Good.{IsGood, empty_found, empty_good, found_of, found_whole, good_never}
 use Rattle.dr_ages.proofs.Keeping.{IsBehind, age_next, behind, ended_over, image_entries, left_begins}
 use Rattle.dr_ages.proofs.Reading.{found_read, read_once}

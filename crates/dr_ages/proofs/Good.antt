@@ -138,7 +138,7 @@ listed_found n yard contents m es found at =
     )
 
 -- as they are handed in, they are those of all members
-handed_whole : (n : ℕ) (yard : YardState) (contents : List (Option OnLog)) → AreFound n 0 yard contents
+pub handed_whole : (n : ℕ) (yard : YardState) (contents : List (Option OnLog)) → AreFound n 0 yard contents
     → handed_by (all_as_lists contents) ≡ of_set (lists_with contents) (2 ^ n - 1)
 handed_whole n yard contents found = fun_ext λ m. ⊎_elim
     (λ (l : m < n).
@@ -188,21 +188,23 @@ pub record IsGood (script : Script) (yard : YardState) : Type 0 where
       → AreAccepted script (entries_on_logs (lists_with contents))
   pub whole : (m at : ℕ) → m < script.members → IfSome (yard.told m) (ReadsDamaged at) → ⊥
 
--- so their logs are never refused
-pub good_never : (script : Script) (part : Part) (last after : YardState) (s : Stop) → HasGroupRanges script
-    → NamesNobody script.members part.missing → IsGood script last → HasStopped script part last after s → IsBadLogs s
-    → ⊥
-good_never script part last after s ranges none good stopped bad = by s stopped bad
+-- disks of which none is damaged, and whose logs are refused only as no number is left
+pub pass_never : (script : Script) (part : Part) (last after : YardState) (s : Stop)
+    → NamesNobody script.members part.missing
+    → ((contents : List (Option OnLog)) (why : Refusal) → AreFound script.members 0 last contents
+    → AreRefusedFor script why contents → why ≡ Refusal.AgesUsedUp)
+    → ((m at : ℕ) → m < script.members → IfSome (last.told m) (ReadsDamaged at) → ⊥)
+    → HasStopped script part last after s → IsBadLogs s → ⊥
+pass_never script part last after s none pass whole stopped bad = by s stopped bad
   where
     other : (why : Refusal) → (found : (contents : List (Option OnLog))
         × AreFound script.members part.missing last contents × AreRefusedFor script why contents)
         → why ≡ Refusal.AgesUsedUp
     other why found =
-        let all = found_whole script.members part.missing last found.0 none found.1 in
-        accepted_pass script last found.0 why ranges all (good.accepted found.0 all) found.2
+        pass found.0 why (found_whole script.members part.missing last found.0 none found.1) found.2
 
     by : (s : Stop) → HasStopped script part last after s → IsBadLogs s → ⊥
-    by (Damaged m at) stopped bad = good.whole m at stopped.below stopped.damaged
+    by (Damaged m at) stopped bad = whole m at stopped.below stopped.damaged
     by (Disagree a b p) stopped bad =
         absurd (let same : Refusal.Disagree a b p ≡ Refusal.AgesUsedUp = other (Refusal.Disagree a b p) stopped in cc)
     by (Foreign m p) stopped bad =
@@ -213,6 +215,15 @@ good_never script part last after s ranges none good stopped bad = by s stopped 
     by (DiskFault m) stopped bad = bad
     by (LogFull m len) stopped bad = bad
     by AgesUsedUp stopped bad = bad
+
+-- so the logs of good ones are never refused
+pub good_never : (script : Script) (part : Part) (last after : YardState) (s : Stop) → HasGroupRanges script
+    → NamesNobody script.members part.missing → IsGood script last → HasStopped script part last after s → IsBadLogs s
+    → ⊥
+good_never script part last after s ranges none good stopped bad = pass_never script part last after s none
+    (λ contents why found refused.
+    accepted_pass script last contents why ranges found (good.accepted contents found) refused)
+    good.whole stopped bad
 
 -- ---- empty disks
 

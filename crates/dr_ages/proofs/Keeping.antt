@@ -334,7 +334,7 @@ keeps_next script part start a b ranges tell r =
     r.second.starts)
 
 -- a later start begins with an earlier one
-grows : (script : Script) (part : Part) (start : YardState) (a b : AgeEnd) → HasRanges script
+pub grows : (script : Script) (part : Part) (start : YardState) (a b : AgeEnd) → HasRanges script
     → AllTell script.members start → AreBeside script part start a b → IsPrefixOf a.start b.start
 grows script part start a b ranges tell r =
     prefix_then a.start (first_entries (opening_of script part a)) b.start (_ ∷ [], refl)

@@ -2,12 +2,14 @@ mod Backs
 pub mod Chain
 mod Completing
 mod Crashes
-mod Fit
+mod InStep
+mod Lasting
 pub mod Fresh
 pub mod Good
 pub mod Keeping
 mod Loans
 mod Opening
+mod Outliving
 mod Played
 pub mod Prompt
 mod Reading
@@ -16,5 +18,6 @@ mod Runs
 mod Short
 mod Staying
 mod Stopping
+mod Tried
 mod Votes
 mod Watching

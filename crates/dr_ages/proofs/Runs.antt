@@ -32,16 +32,18 @@ use Rattle.dr_ages.specs.declared.part.Part.{Part}
 use Rattle.dr_ages.specs.declared.stop.Stop.{Stop}
 use Rattle.dr_ages.specs.declared.stop.Stop.TheVariants.{OutOfMemory, DiskFault, LogFull, Damaged, Disagree, Foreign, NoQuorum, AgesUsedUp}
 use Rattle.dr_ages.specs.Ages.{AreAges, IsAgeOf, NamesNobody, start_of, starts_of}
-use Rattle.dr_ages.specs.Fit.{AreFit}
+use Rattle.dr_ages.specs.Fit.{AreFit, AreInStep}
 use Rattle.dr_ages.specs.Found.{AreFound, AreRoomy}
 use Rattle.dr_ages.specs.Left.{HasLeft, with_logged}
 use Rattle.dr_ages.specs.Passing.{AllBeginWith, AreKeptSince, AreUntouched, PassOn}
-use Rattle.dr_ages.specs.Runs.{HaveEndedWith, HasFinished, HaveLogged, IsFitRun, IsFreshRun, IsKeptRun, IsRoomyRun, IsRunOf, with_these}
+use Rattle.dr_ages.specs.Runs.{HaveEndedWith, HasFinished, HaveLogged, IsFitRun, IsFreshRun, IsKeptRun, IsRoomyRun, IsRunInStep, IsRunOf, with_these}
+use Rattle.dr_ages.specs.Tried.{AreTried}
 use Rattle.dr_ages.specs.Stops.{AreChosenIn, HasKept, HasStopped, IsBadLogs, IsOutside}
 use Rattle.dr_ages.proofs.Chain.{ages_pass, ends_with, kept_passes, last_age, passes_none, passes_on, tell_behind}
-use Rattle.dr_ages.proofs.Fit.{age_fit, fit_good, fit_never, fit_tell}
 use Rattle.dr_ages.proofs.Fresh.{IsRoomyAt, fresh_first, fresh_start, roomy_ages, roomy_first, roomy_last, roomy_lasts, roomy_numbers, roomy_stop}
 use Rattle.dr_ages.proofs.Good.{age_never, found_whole}
+use Rattle.dr_ages.proofs.InStep.{age_step, step_good, step_never, tried_step}
+use Rattle.dr_ages.proofs.Lasting.{ages_lasting, fit_never, readable_tell, tried_lasting}
 use Rattle.dr_ages.proofs.Keeping.{are_kept, behind, ended_over, logged_first, told_there}
 use Rattle.dr_ages.proofs.Refusals.{refused_run}
 use Rattle.dr_ages.proofs.Staying.{left_so}
@@ -64,10 +66,10 @@ abbrev pub IsKeptBy : Script → ℕ → YardState → YardState → List (List 
 IsKeptBy script missing last after chosen stop =
     (k : HasKept script missing last after stop) × (k.starts ≡ chosen)
 
--- and it has left fit disks fit, where none is missing, unless memory was wanting
-abbrev pub StaysFit : Script → ℕ → YardState → YardState → Stop → Type 0
-StaysFit script missing last after stop =
-    stop ≢ OutOfMemory → NamesNobody script.members missing → AreFit script last → AreFit script after
+-- and what it has left on disks that told is as before, or a try, unless memory was wanting
+abbrev pub IsTriedBy : Script → ℕ → YardState → YardState → Stop → Type 0
+IsTriedBy script missing last after stop =
+    AllTell script.members last → stop ≢ OutOfMemory → AreTried script missing last after
 
 few_ages : (script : Script) (part : Part) (last after : YardState) (chosen : List (List Entry)) (ages : List AgeEnd)
     (stop : Option Stop) → HasRanges script → HasFinished script part last after chosen ages stop
@@ -114,8 +116,9 @@ fresh_run script part mode before ages last after chosen stop ranges are end non
 roomy_run : (script : Script) (part : Part) (mode : Mode) (before : YardState) (ages : List AgeEnd)
     (last after : YardState) (chosen : List (List Entry)) (stop : Option Stop) → HasRanges script
     → AreAges script part mode 0 before ages last → HasFinished script part last after chosen ages stop
-    → NamesNobody script.members part.missing → AreFit script before → AreRoomy script before → IsRoomyRun ages stop
-roomy_run script part mode before ages last after chosen stop ranges are end none fit roomy = record {
+    → NamesNobody script.members part.missing → AreInStep script before → AreRoomy script before
+    → IsRoomyRun ages stop
+roomy_run script part mode before ages last after chosen stop ranges are end none step roomy = record {
   roomy = λ i d l. (each ages are end i (get_or ages i d) (slice_get-get_or ages i d l)).1;
   stopped = stopped stop ages are end;
 }
@@ -124,7 +127,7 @@ roomy_run script part mode before ages last after chosen stop ranges are end non
         → IsChosenOf (first_group_of script).opening contents start
         → IsRoomyAt script 536870912 start.age 0 before
     begins contents start found is =
-        roomy_first script before contents start ranges (fit_tell script before fit) (fit_good script before fit) roomy
+        roomy_first script before contents start ranges (readable_tell script.members before step.readable) (step_good script before step) roomy
         (found_whole script.members part.missing before contents none found) is
 
     numbers : (contents : List (Option OnLog)) (start : Start) → AreFound script.members part.missing before contents
@@ -150,10 +153,10 @@ roomy_run script part mode before ages last after chosen stop ranges are end non
         roomy_stop script part 536870912 is.start.age 0 before after (LogFull m len) ranges none (omega arith)
         (omega arith) (omega (arith, numbers is.contents is.start is.found is.chosen, ranges.some_age))
         (begins is.contents is.start is.found is.chosen) is
-    early (Damaged m at) is = fit_never script part before after (Damaged m at) ranges.group none fit is tt
-    early (Disagree a b p) is = fit_never script part before after (Disagree a b p) ranges.group none fit is tt
-    early (Foreign m p) is = fit_never script part before after (Foreign m p) ranges.group none fit is tt
-    early (NoQuorum v h n) is = fit_never script part before after (NoQuorum v h n) ranges.group none fit is tt
+    early (Damaged m at) is = step_never script part before after (Damaged m at) ranges.group none step is tt
+    early (Disagree a b p) is = step_never script part before after (Disagree a b p) ranges.group none step is tt
+    early (Foreign m p) is = step_never script part before after (Foreign m p) ranges.group none step is tt
+    early (NoQuorum v h n) is = step_never script part before after (NoQuorum v h n) ranges.group none step is tt
     early AgesUsedUp is = absurd (roomy_lasts script before is.0 ranges roomy
         (found_whole script.members part.missing before is.0 none is.1) is.2)
 
@@ -304,39 +307,66 @@ voted_kept script part mode before ages last after chosen stop ranges are end te
     (told_there script part mode nth start last age ranges is m r at))
     (left_has (last.told m) r.replica (is.begun m) logged (has_itself logged) (is.left m r at)))
 
--- ---- fit disks stay fit
+-- ---- fit disks stay fit, and those in step stay so
 
-fit_last : (script : Script) (part : Part) (mode : Mode) (before : YardState) (ages : List AgeEnd) (last : YardState)
-    → HasRanges script → NamesNobody script.members part.missing → AreAges script part mode 0 before ages last
-    → AreFit script before → AreFit script last
-fit_last script part mode before [] last ranges none are fit = subst (AreFit script) are fit
-fit_last script part mode before (one ∷ ages) last ranges none are fit =
-    let r = last_age script part mode 0 before one ages last are in
-    age_fit script part r.mode r.nth r.before last r.age ranges none r.is
-    (tell_behind script part mode 0 before (one ∷ ages) last are (fit_tell script before fit))
+tried_run : (script : Script) (part : Part) (mode : Mode) (before : YardState) (ages : List AgeEnd)
+    (last after : YardState) (stop : Option Stop) → AreAges script part mode 0 before ages last
+    → IfSome stop (IsTriedBy script part.missing last after) → AllTell script.members before
+    → IfSome stop (λ s. s ≢ OutOfMemory → AreTried script part.missing last after)
+tried_run script part mode before ages last after None are tried tell = tt
+tried_run script part mode before ages last after (Some stop) are tried tell =
+    tried (tell_behind script part mode 0 before ages last are tell)
 
 fit_run : (script : Script) (part : Part) (mode : Mode) (before : YardState) (ages : List AgeEnd)
     (last after : YardState) (chosen : List (List Entry)) (stop : Option Stop) → HasRanges script
     → AreAges script part mode 0 before ages last → HasFinished script part last after chosen ages stop
-    → IfSome stop (StaysFit script part.missing last after) → NamesNobody script.members part.missing
-    → AreFit script before → IsFitRun script after stop
-fit_run script part mode before ages last after chosen None ranges are end stays none fit = record {
-  never = tt;
-  fit = λ other. subst (AreFit script) end.1 (fit_last script part mode before ages last ranges none are fit);
+    → IfSome stop (IsTriedBy script part.missing last after) → AreFit script before
+    → IsFitRun script part after stop
+fit_run script part mode before ages last after chosen None ranges are end tried fit = record {
+  never = λ none. tt;
+  fit = λ other. subst (AreFit script) end.1 (ages_lasting script part mode 0 before ages last [] ranges are fit);
 }
-fit_run script part mode before ages last after chosen (Some stop) ranges are end stays none fit =
-    let now = fit_last script part mode before ages last ranges none are fit in
+fit_run script part mode before ages last after chosen (Some stop) ranges are end tried fit =
+    let now = ages_lasting script part mode 0 before ages last [] ranges are fit in
     record {
-      never = fit_never script part last after stop ranges.group none now end.1;
-      fit = λ other. stays (λ same. other (ap Some same)) none now;
+      never = λ none. fit_never script part last after stop ranges.group none now end.1;
+      fit = λ other. tried_lasting script part.missing last after []
+          (tried (readable_tell script.members last now.readable) (λ same. other (ap Some same))) now;
+    }
+
+step_last : (script : Script) (part : Part) (mode : Mode) (before : YardState) (ages : List AgeEnd) (last : YardState)
+    → HasRanges script → NamesNobody script.members part.missing → AreAges script part mode 0 before ages last
+    → AreInStep script before → AreInStep script last
+step_last script part mode before [] last ranges none are step = subst (AreInStep script) are step
+step_last script part mode before (one ∷ ages) last ranges none are step =
+    let r = last_age script part mode 0 before one ages last are in
+    age_step script part r.mode r.nth r.before last r.age ranges none r.is
+    (tell_behind script part mode 0 before (one ∷ ages) last are
+    (readable_tell script.members before step.readable))
+
+step_run : (script : Script) (part : Part) (mode : Mode) (before : YardState) (ages : List AgeEnd)
+    (last after : YardState) (chosen : List (List Entry)) (stop : Option Stop) → HasRanges script
+    → AreAges script part mode 0 before ages last → HasFinished script part last after chosen ages stop
+    → IfSome stop (IsTriedBy script part.missing last after) → NamesNobody script.members part.missing
+    → AreInStep script before → IsRunInStep script after stop
+step_run script part mode before ages last after chosen None ranges are end tried none step = record {
+  never = tt;
+  in_step = λ other. subst (AreInStep script) end.1 (step_last script part mode before ages last ranges none are step);
+}
+step_run script part mode before ages last after chosen (Some stop) ranges are end tried none step =
+    let now = step_last script part mode before ages last ranges none are step in
+    record {
+      never = step_never script part last after stop ranges.group none now end.1;
+      in_step = λ other. tried_step script part.missing last after ranges.group none
+          (tried (readable_tell script.members last now.readable) (λ same. other (ap Some same))) now;
     }
 
 pub a_run : (script : Script) (part : Part) (mode : Mode) (before : YardState) (ages : List AgeEnd)
     (last after : YardState) (stop : Option Stop) (chosen : List (List Entry)) → HasRanges script
     → AreAges script part mode 0 before ages last → HasFinished script part last after chosen ages stop
-    → IfSome stop (IsKeptBy script part.missing last after chosen) → IfSome stop (StaysFit script part.missing last after)
+    → IfSome stop (IsKeptBy script part.missing last after chosen) → IfSome stop (IsTriedBy script part.missing last after)
     → IsRunOf script part mode before after ages stop
-a_run script part mode before ages last after stop chosen ranges are end kept fit = record {
+a_run script part mode before ages last after stop chosen ranges are end kept tried = record {
   last = last;
   course = are;
   chosen = chosen;
@@ -350,7 +380,9 @@ a_run script part mode before ages last after stop chosen ranges are end kept fi
   since = kept_run script part mode before ages last after chosen stop ranges are end kept;
   logged = logged_kept script part mode before ages last after chosen stop ranges are end;
   voted = voted_kept script part mode before ages last after chosen stop ranges are end;
-  fit = fit_run script part mode before ages last after chosen stop ranges are end fit;
+  tried = tried_run script part mode before ages last after stop are tried;
+  fit = fit_run script part mode before ages last after chosen stop ranges are end tried;
+  in_step = step_run script part mode before ages last after chosen stop ranges are end tried;
   roomy = roomy_run script part mode before ages last after chosen stop ranges are end;
   refused = λ tell. refused_run script part mode before ages last after chosen stop ranges are end
       (never script part mode before ages last after chosen stop ranges are end tell) tell;

@@ -7,6 +7,8 @@ pub mod Lent
 pub mod Left
 pub mod Ages
 pub mod Fit
+pub mod Tried
+pub mod Lasting
 pub mod Crashed
 pub mod Refused
 pub mod Runs

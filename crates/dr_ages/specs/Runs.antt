@@ -19,11 +19,12 @@ use Rattle.dr_ages.specs.declared.part.Part.{Part}
 use Rattle.dr_ages.specs.declared.stop.Stop.{Stop}
 use Rattle.dr_ages.specs.declared.stop.Stop.TheVariants.{OutOfMemory, AgesUsedUp}
 use Rattle.dr_ages.specs.Ages.{AreAges, IsAgeOf, NamesNobody, opening_of, over_of, start_of, starts_of}
-use Rattle.dr_ages.specs.Fit.{AreFit}
+use Rattle.dr_ages.specs.Fit.{AreFit, AreInStep}
 use Rattle.dr_ages.specs.Found.{AreRoomy}
 use Rattle.dr_ages.specs.Left.{with_logged}
 use Rattle.dr_ages.specs.Passing.{AreKeptSince, AreUntouched, PassOn}
 use Rattle.dr_ages.specs.Refused.{IsRefusal}
+use Rattle.dr_ages.specs.Tried.{AreTried}
 use Rattle.dr_ages.specs.Stops.{AreChosenIn, HasMounted, HasStopped, IsBadLogs, IsOfLogs, IsOutside, NamesFaults}
 
 -- each age keeps the one before it, and begins with all that a member of any earlier one knew to be durable
@@ -42,13 +43,19 @@ pub record IsFreshRun (ages : List AgeEnd) (stop : Option Stop) : Type 0 where
   pub roomy : All (λ (age : AgeEnd). NoneFull age.members) ages
   pub stopped : IfSome stop IsOutside
 
--- a run over fit disks: no log is refused, but where no age is left, and unless memory was wanting the disks
--- are fit behind it
-pub record IsFitRun (script : Script) (after : YardState) (stop : Option Stop) : Type 0 where
-  pub never : IfSome stop (λ s. IsBadLogs s → ⊥)
+-- a run over fit disks: where none is missing no log is refused, but where no age is left, and unless memory was
+-- wanting the disks are fit behind it
+pub record IsFitRun (script : Script) (part : Part) (after : YardState) (stop : Option Stop) : Type 0 where
+  pub never : NamesNobody script.members part.missing → IfSome stop (λ s. IsBadLogs s → ⊥)
   pub fit : stop ≢ Some OutOfMemory → AreFit script after
 
--- a run over fit disks whose logs leave room for it: no log is full, and what ends the run before its last
+-- a run over disks in step: no log is refused, but where no age is left, and unless memory was wanting the disks
+-- are in step behind it
+pub record IsRunInStep (script : Script) (after : YardState) (stop : Option Stop) : Type 0 where
+  pub never : IfSome stop (λ s. IsBadLogs s → ⊥)
+  pub in_step : stop ≢ Some OutOfMemory → AreInStep script after
+
+-- a run over disks in step whose logs leave room for it: no log is full, and what ends the run before its last
 -- age is want of memory or a disk
 pub record IsRoomyRun (ages : List AgeEnd) (stop : Option Stop) : Type 0 where
   pub roomy : All (λ (age : AgeEnd). NoneFull age.members) ages
@@ -130,10 +137,14 @@ pub record IsRunOf (script : Script) (part : Part) (mode : Mode) (before after :
   pub since : IsKeptRun script part.missing (starts_of ages ++ chosen) before after ages stop
   pub logged : AllTell script.members before → HaveLogged part.missing ages after
   pub voted : AllTell script.members before → HaveEndedWith script part mode ages last after
-  -- and fit disks stay fit, where none is missing
-  pub fit : NamesNobody script.members part.missing → AreFit script before → IsFitRun script after stop
+  -- unless memory was wanting, what the opening that ended it has left on the disks is as before, or a try
+  pub tried : AllTell script.members before
+      → IfSome stop (λ s. s ≢ OutOfMemory → AreTried script part.missing last after)
+  -- fit disks stay fit, and those in step stay so, where none is missing
+  pub fit : AreFit script before → IsFitRun script part after stop
+  pub in_step : NamesNobody script.members part.missing → AreInStep script before → IsRunInStep script after stop
   -- all their ages are opened, where the logs leave room for them, unless memory is wanting or a disk fails
-  pub roomy : NamesNobody script.members part.missing → AreFit script before → AreRoomy script before
+  pub roomy : NamesNobody script.members part.missing → AreInStep script before → AreRoomy script before
       → IsRoomyRun ages stop
   -- and logs are refused for what is wrong with them, and for nothing else
   pub refused : AllTell script.members before → IsRightlyRefused script part.missing before ages stop

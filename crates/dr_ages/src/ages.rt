@@ -14,13 +14,13 @@ ghost use Rattle.dr_program_laws.specs.Trusting.{NoneLeft, SuspectsNobody};
 ghost use Rattle.dr_restart.specs.Groups.{group_of};
 ghost use Rattle.dr_restart.specs.Setups.{crashes_of};
 ghost use Rattle.dr_script.specs.Ranges.{HasRanges};
-ghost use Rattle.dr_yard.specs.Yards.{YardState, state_by};
-ghost use Rattle.dr_ages.specs.Ages.{HaveSomebodyPrompt, IsAgeOf, IsPlayed, NamesNobody, over_of, start_of};
-ghost use Rattle.dr_ages.specs.Fit.{AreFit};
+ghost use Rattle.dr_yard.specs.Yards.{AllTell, YardState, state_by};
+ghost use Rattle.dr_ages.specs.Ages.{HaveSomebodyPrompt, IsAgeOf, IsPlayed, over_of, start_of};
 ghost use Rattle.dr_ages.specs.Lent.{AreAllBut, AreMounted, with_logs};
 ghost use Rattle.dr_ages.specs.Opened.{AreLater, HaveGoneOn};
 ghost use Rattle.dr_ages.specs.Runs.{IsRunOf};
 ghost use Rattle.dr_ages.specs.Stops.{HasKept, HasStopped, IsBehindMounts, NamesFaults};
+ghost use Rattle.dr_ages.specs.Tried.{AreTried};
 ghost use Rattle.dr_ages.specs.Watched.{AreWatched, HasSeen};
 ghost use Rattle.dr_ages.specs.declared.mode.Mode.TheVariants.{Sim};
 ghost use Rattle.dr_ages.specs.declared.stop.Stop.TheVariants as stops;
@@ -159,10 +159,9 @@ fn run_age<R: Threads + Sync, Y: Yard, P: Pace + Sync, W: Watcher>(
         (state_by Y.told Y.faults yard.old) (state_by Y.told Y.faults yard.new)) }
     ensures kept { IfErr result (HasKept script.now part.now.missing (state_by Y.told Y.faults yard.old)
         (state_by Y.told Y.faults yard.new)) }
-    ensures fit { IfErr result (λ stop. stop ≢ stops.OutOfMemory
-        → NamesNobody script.now.members part.now.missing
-        → AreFit script.now (state_by Y.told Y.faults yard.old)
-        → AreFit script.now (state_by Y.told Y.faults yard.new)) }
+    ensures tried { IfErr result (λ stop. AllTell script.now.members (state_by Y.told Y.faults yard.old)
+        → stop ≢ stops.OutOfMemory → AreTried script.now part.now.missing
+        (state_by Y.told Y.faults yard.old) (state_by Y.told Y.faults yard.new)) }
     ensures names { IfErr result (λ stop. NamesFaults stop (state_by Y.told Y.faults yard.old)
         (state_by Y.told Y.faults yard.new)) }
     ensures watched { IfOk result (λ age. HasSeen W.opens W.sees W.closes mode script.now
@@ -202,9 +201,9 @@ fn run_over<R: Threads + Sync, D: Disk, P: Pace + Sync, W: Watcher>(
         → IsAgeOf script.now part.now mode nth before (with_logs D.told D.faults before result.1.items) age) }
     ensures stopped { IfErr result.0 (λ stop. (before : YardState) → AreMounted D.told D.faults before logs.items
         → HasStopped script.now part.now before (with_logs D.told D.faults before result.1.items) stop) }
-    ensures fit { IfErr result.0 (λ stop. (before : YardState) → AreMounted D.told D.faults before logs.items
-        → stop ≢ stops.OutOfMemory → AreAllBut 0 logs.items → AreFit script.now before
-        → AreFit script.now (with_logs D.told D.faults before result.1.items)) }
+    ensures tried { IfErr result.0 (λ stop. (before : YardState) → AreMounted D.told D.faults before logs.items
+        → AllTell script.now.members before → stop ≢ stops.OutOfMemory
+        → AreTried script.now part.now.missing before (with_logs D.told D.faults before result.1.items)) }
     ensures names { IfErr result.0 (λ stop. (before : YardState)
         → AreMounted D.told D.faults before logs.items
         → NamesFaults stop before (with_logs D.told D.faults before result.1.items)) }

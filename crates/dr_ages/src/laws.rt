@@ -1,18 +1,22 @@
 //! Laws of ages, and of the disks that they leave.
-ghost use Rattle.std.specs.Prelude.{◌≡◌, ◌<◌, ℕ, false, List, [], ◌∷◌, ◌++◌, Option, Some, IsSomeAnd, slice_get, take};
+ghost use Rattle.std.specs.Prelude.{◌≡◌, ◌≢◌, ◌<◌, ℕ, false, List, [], ◌∷◌, ◌++◌, Option, Some, IsSomeAnd, slice_get, take};
 ghost use Rattle.dr_age.specs.Logged.{NoneStopped};
 ghost use Rattle.dr_complete.specs.Time.{HasTime};
 ghost use Rattle.dr_disk.specs.Calls.{at_rest};
 ghost use Rattle.dr_disk.specs.Disk.{state_of};
 ghost use Rattle.dr_entry.specs.declared.end.AgeEnd.{AgeEnd};
 ghost use Rattle.dr_entry.specs.declared.end.MemberEnd.{MemberEnd};
+ghost use Rattle.dr_entry.specs.declared.entry.Entry.{Entry};
 ghost use Rattle.dr_history.specs.History.{IsPrefixOf};
 ghost use Rattle.dr_history.specs.Members.{has};
 ghost use Rattle.dr_history.specs.Soundness.{IsNobodyLate};
 ghost use Rattle.dr_log_bytes.specs.Content.{OnLog};
 ghost use Rattle.dr_machine.specs.Group.{AllPresent, IsGroup};
+ghost use Rattle.dr_machine.specs.World.{World};
 ghost use Rattle.dr_opening.specs.Tries.{content_at};
 ghost use Rattle.dr_program_laws.specs.Ended.{AreComplete};
+ghost use Rattle.dr_quorum_laws.specs.Lasting.{HoldSinceAge};
+ghost use Rattle.dr_restart.specs.declared.lists.LogLists.{LogLists};
 ghost use Rattle.dr_restart.specs.declared.start.Start.{Start};
 ghost use Rattle.dr_restart.specs.Groups.{group_of};
 ghost use Rattle.dr_script.specs.declared.script.Script.{Script};
@@ -22,9 +26,11 @@ ghost use Rattle.dr_yard.specs.Yards.{YardState};
 ghost use Rattle.dr_ages.specs.declared.mode.Mode.{Mode};
 ghost use Rattle.dr_ages.specs.declared.part.Part.{Part};
 ghost use Rattle.dr_ages.specs.declared.stop.Stop.{Stop};
-ghost use Rattle.dr_ages.specs.Ages.{IsAgeOf, NamesNobody};
+ghost use Rattle.dr_ages.specs.declared.stop.Stop.TheVariants.{OutOfMemory};
+ghost use Rattle.dr_ages.specs.Ages.{IsAgeOf, NamesNobody, start_of};
 ghost use Rattle.dr_ages.specs.Crashed.{HaveCrashed};
-ghost use Rattle.dr_ages.specs.Fit.{AreFit};
+ghost use Rattle.dr_ages.specs.Fit.{AreChosen, AreFit, AreInStep, AreLastingOn};
+ghost use Rattle.dr_ages.specs.Lasting.{HasEndedIn};
 ghost use Rattle.dr_ages.specs.Runs.{IsRunOf};
 
 /// In a simulated age of a script that gives its members time enough, from which nobody is absent, in which nobody
@@ -36,33 +42,72 @@ pub fn timely_ages_complete()
         → AreComplete (group_of script start).opening age.members }
 {}
 
-/// Disks that were never written are fit for every script. And fit disks are fit behind a crash, whichever of
-/// their images it leaves.
+/// Disks that were never written are fit for every script, and in step. And behind a crash fit disks are fit, and those
+/// in step are in step, whichever of their images it leaves.
 pub fn fit_disks_outlive_crashes()
     ensures begins { (script : Script) (yard : YardState)
         → ((m : ℕ) → m < script.members → IsSomeAnd (yard.told m) (λ t. state_of t ≡ at_rest []))
-        → AreFit script yard }
+        → AreFit script yard × AreInStep script yard }
     ensures keeps { (script : Script) (before after : YardState) → AreFit script before
         → HaveCrashed script.members before after → AreFit script after }
+    ensures in_step { (script : Script) (before after : YardState) → AreInStep script before
+        → HaveCrashed script.members before after → AreInStep script after }
 {}
 
-/// A run over disks that a crash has left, behind another run of the script that has left them fit, begins with all
-/// that any member had logged in the last age of that one, where its log is missing in neither.
+/// What lasts on the disks of a script lasts behind each run of it, whichever logs this one misses, unless memory was
+/// wanting; so does all that a member of one of its ages knew to be durable; and it lasts behind a crash, whatever
+/// this leaves. There each start of a run, whichever logs that one misses, begins with what lasts. So whatever
+/// somebody knew to be durable is kept through any list of runs and crashes. For the logs hold since the last age.
+pub fn durable_entries_outlive_runs()
+    ensures lasts { (script : Script) (part : Part) (mode : Mode) (before after : YardState) (ages : List AgeEnd)
+        (stop : Option Stop) (es : List Entry) → HasRanges script → AreLastingOn script es before
+        → IsRunOf script part mode before after ages stop → stop ≢ Some OutOfMemory
+        → AreLastingOn script es after }
+    ensures durable { (script : Script) (part : Part) (mode : Mode) (before after : YardState)
+        (ages : List AgeEnd) (stop : Option Stop) (i m : ℕ) (age : AgeEnd) (e : MemberEnd) → HasRanges script
+        → AreFit script before → IsRunOf script part mode before after ages stop → stop ≢ Some OutOfMemory
+        → slice_get ages i ≡ Some age → slice_get age.members m ≡ Some e
+        → AreLastingOn script (take e.durable e.history) after }
+    ensures crashed { (script : Script) (before after : YardState) (es : List Entry)
+        → AreLastingOn script es before → HaveCrashed script.members before after → AreLastingOn script es after }
+    ensures begins { (script : Script) (part : Part) (mode : Mode) (mid before after : YardState)
+        (ages : List AgeEnd) (stop : Option Stop) (es : List Entry) (i : ℕ) (age : AgeEnd) → HasRanges script
+        → AreLastingOn script es mid → HaveCrashed script.members mid before
+        → IsRunOf script part mode before after ages stop → slice_get ages i ≡ Some age
+        → IsPrefixOf es age.start }
+    ensures since { (script : Script) (part : Part) (mode : Mode) (before after : YardState)
+        (earlier : List AgeEnd) (age : AgeEnd) (stop : Option Stop) → HasRanges script → AreFit script before
+        → IsRunOf script part mode before after (earlier ++ age ∷ []) stop → stop ≢ Some OutOfMemory
+        → (w : World) × HasEndedIn part age w
+        × ((logs : List LogLists) → AreChosen script.members after logs
+        → HoldSinceAge script (start_of script part age) w logs) }
+{}
+
+/// A run over disks that a crash has left, behind another run of the script, begins with all that any member had
+/// logged in the last age of that one, where its log is missing in neither: if that one has left them in step; or if
+/// it was a run over fit disks, in which memory wasn't wanting.
 pub fn runs_outlive_crashes()
-    ensures { (script : Script) (part apart : Part) (mode other : Mode) (before mid after end : YardState)
+    ensures in_step { (script : Script) (part apart : Part) (mode other : Mode) (before mid after end : YardState)
         (earlier ages : List AgeEnd) (age next : AgeEnd) (stop ends : Option Stop) (m : ℕ) (e : MemberEnd)
         → IsRunOf script part mode before mid (earlier ++ age ∷ []) stop
         → slice_get age.members m ≡ Some e → m < script.members → has part.missing m ≡ false
-        → has apart.missing m ≡ false → AreFit script mid → HaveCrashed script.members mid after
+        → has apart.missing m ≡ false → AreInStep script mid → HaveCrashed script.members mid after
+        → IsRunOf script apart other after end (next ∷ ages) ends
+        → IsPrefixOf (take e.logged e.history) next.start }
+    ensures fit { (script : Script) (part apart : Part) (mode other : Mode) (before mid after end : YardState)
+        (earlier ages : List AgeEnd) (age next : AgeEnd) (stop ends : Option Stop) (m : ℕ) (e : MemberEnd)
+        → HasRanges script → AreFit script before → IsRunOf script part mode before mid (earlier ++ age ∷ []) stop
+        → stop ≢ Some OutOfMemory → slice_get age.members m ≡ Some e → has part.missing m ≡ false
+        → has apart.missing m ≡ false → HaveCrashed script.members mid after
         → IsRunOf script apart other after end (next ∷ ages) ends
         → IsPrefixOf (take e.logged e.history) next.start }
 {}
 
-/// Over fit disks of which none is missing an age starts with all that is on the logs: each is a front of its
+/// Over disks in step of which none is missing an age starts with all that is on the logs: each is a front of its
 /// start.
-pub fn fit_ages_start_with_all()
+pub fn ages_in_step_start_with_all()
     ensures { (script : Script) (part : Part) (mode : Mode) (nth : ℕ) (before after : YardState) (age : AgeEnd)
-        (m : ℕ) (c : OnLog) → HasRanges script → NamesNobody script.members part.missing → AreFit script before
+        (m : ℕ) (c : OnLog) → HasRanges script → NamesNobody script.members part.missing → AreInStep script before
         → (is : IsAgeOf script part mode nth before after age) → content_at is.contents m ≡ Some c
         → IsPrefixOf c.entries age.start }
 {}

@@ -10,7 +10,8 @@ mod stop;
 
 pub use ages::{AgesEnd, run_ages, watch_ages};
 pub use laws::{
-    fit_ages_start_with_all, fit_disks_outlive_crashes, runs_outlive_crashes, timely_ages_complete,
+    ages_in_step_start_with_all, durable_entries_outlive_runs, fit_disks_outlive_crashes,
+    runs_outlive_crashes, timely_ages_complete,
 };
 pub use lending::LOG_LIMIT;
 pub use mode::Mode;

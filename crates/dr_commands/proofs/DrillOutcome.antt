@@ -26,6 +26,7 @@ played_so number yard o text played = record {
   untrusting = played.untrusting;
   told = played.told;
   fit = played.fit;
+  in_step = played.in_step;
   complete = played.complete;
 }
 

@@ -47,6 +47,7 @@ stores key version yard o text (Reads script) is (inl (played, report)) = (
     untrusting = played.untrusting;
     told = played.told;
     fit = played.fit;
+    in_step = played.in_step;
     complete = played.complete;
   },
   ap bodies.Text is,

@@ -114,11 +114,11 @@ next_of_set script start next after ranges chosen =
 
 -- ---- the accounts of the members that were there
 
-record IsAccountOf (g : Group) (p : Program) (m : ℕ) : Type 0 where
-  history : (accounts_of (map end_at p.members) m).history ≡ (world g p).past.history m
-  durable : (accounts_of (map end_at p.members) m).durable ≡ (world g p).past.durable m
+pub record IsAccountOf (g : Group) (p : Program) (m : ℕ) : Type 0 where
+  pub history : (accounts_of (map end_at p.members) m).history ≡ (world g p).past.history m
+  pub durable : (accounts_of (map end_at p.members) m).durable ≡ (world g p).past.durable m
 
-account_of : (script : Script) (start : Start) (p : Program) (m : ℕ) → IsKnownAge script start p
+pub account_of : (script : Script) (start : Start) (p : Program) (m : ℕ) → IsKnownAge script start p
     → IsPresent (group_of script start) m → IsAccountOf (group_of script start) p m
 account_of script start p m k present = record {
   history = ap (λ o. option_map_or (λ (e : MemberEnd). e.history) o []) end

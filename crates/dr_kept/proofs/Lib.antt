@@ -5,3 +5,4 @@ pub mod Leaving
 pub mod Behind
 pub mod Following
 pub mod Returning
+pub mod Lasting

@@ -1,5 +1,6 @@
 //! Laws of ages that come one after the other.
-ghost use Rattle.std.specs.Prelude.{◌≡◌, ◌≤◌, ◌+◌, [], ℕ, false, length, List, map, Option, slice_get, Some};
+ghost use Rattle.std.specs.Prelude.{◌≡◌, ◌≤◌, ◌+◌, [], ℕ, false, length, List, map, Option, slice_get, Some, take};
+ghost use Rattle.dr_entry.specs.declared.entry.Entry.{Entry};
 ghost use Rattle.dr_history.specs.Agreement.{accounts_of};
 ghost use Rattle.dr_history.specs.History.{IsPrefixOf};
 ghost use Rattle.dr_history.specs.Members.{has};
@@ -25,8 +26,10 @@ ghost use Rattle.dr_script.specs.Ranges.{HasGroupRanges};
 ghost use Rattle.dr_words.specs.Masks.{IsMajorityOf};
 ghost use Rattle.dr_quorum.specs.Handing.{handed_by};
 ghost use Rattle.dr_quorum_laws.specs.Holding.{AreSoundTries, HaveNoLaterVotes, HoldSince};
+ghost use Rattle.dr_quorum_laws.specs.Lasting.{AreLasting, HoldSinceAge};
 ghost use Rattle.dr_opening.specs.Lists.{all_as_lists};
 ghost use Rattle.dr_opening.specs.Tries.{AreAmong, IsChosenOf};
+ghost use Rattle.dr_kept.specs.Lasting.{HasLeftLogs};
 ghost use Rattle.dr_kept.specs.Leaving.{AreLeftFrom, IsAgeOfChoice};
 
 /// An age that began with what was chosen of some logs is one of a group, in a world that is reached, and more
@@ -60,6 +63,26 @@ pub fn ages_leave_what_holds()
         → ((m : ℕ) → has try.set m ≡ false → slice_get logs m ≡ slice_get opened m)
         → AreLeft (group_of script try.start) (world (group_of script try.start) p) logs
         × HoldSince (group_of script try.start) (world (group_of script try.start) p) logs [] logs }
+{}
+
+/// An age of a script that opened on logs on which entries lasted, whichever others were missing, has begun with these.
+/// Wherever its members stop, the logs hold since it; the entries still last, and so does what any member of it knew to
+/// be durable.
+pub fn ages_keep_what_lasts()
+    ensures begins { (script : Script) (start : Start) (nth : ℕ) (p : Program) (es : List Entry)
+        (before logs : List LogLists) → HasLeftLogs script start nth p before logs → AreLasting script es before
+        → IsPrefixOf es start.entries }
+    ensures since { (script : Script) (start : Start) (nth : ℕ) (p : Program) (es : List Entry)
+        (before logs : List LogLists) → HasLeftLogs script start nth p before logs → AreLasting script es before
+        → HoldSinceAge script start (world (group_of script start) p) logs }
+    ensures lasts { (script : Script) (start : Start) (nth : ℕ) (p : Program) (es : List Entry)
+        (before logs : List LogLists) → HasLeftLogs script start nth p before logs → AreLasting script es before
+        → AreLasting script es logs }
+    ensures durable { (script : Script) (start : Start) (nth : ℕ) (p : Program) (es : List Entry)
+        (before logs : List LogLists) (m : ℕ) → HasLeftLogs script start nth p before logs
+        → AreLasting script es before → IsPresent (group_of script start) m
+        → AreLasting script (take (accounts_of (map end_at p.members) m).durable
+        (accounts_of (map end_at p.members) m).history) logs }
 {}
 
 /// Where the same logs are there again behind an age, the next one keeps what it has delivered durably, begins with

@@ -6,4 +6,7 @@
 
 mod laws;
 
-pub use laws::{ages_leave_what_holds, kept_from_age_to_age, later_ages_lack_a_number_alone};
+pub use laws::{
+    ages_keep_what_lasts, ages_leave_what_holds, kept_from_age_to_age,
+    later_ages_lack_a_number_alone,
+};

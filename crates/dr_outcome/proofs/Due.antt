@@ -10,7 +10,7 @@ use Rattle.dr_ages.specs.declared.stop.Stop.{Stop}
 use Rattle.dr_ages.specs.declared.stop.Stop.TheVariants.{OutOfMemory}
 use Rattle.dr_ages.specs.Ages.{AreAges, HaveSomebodyPrompt, NamesNobody}
 use Rattle.dr_ages.specs.declared.part.Part.{Part}
-use Rattle.dr_ages.specs.Fit.{AreFit}
+use Rattle.dr_ages.specs.Fit.{AreFit, AreInStep}
 use Rattle.dr_complete.specs.Time.{HasTime}
 use Rattle.dr_entry.specs.declared.end.AgeEnd.{AgeEnd}
 use Rattle.dr_intake.specs.Reading.{refusal_in}
@@ -254,12 +254,23 @@ tells_disks mode (Some folder) part script before after ages stop (Some line) ru
 stays_fit : (mode : Mode) (folder : Option InFolder) (part : Part) (script : Script) (before after : YardState)
     (ages : List AgeEnd) (stop : Option Stop) (last : Option Last)
     → HasRun mode folder part script before after ages stop → last ≡ last_of ages stop
-    → NamesNobody script.members part.missing → AreFit script before → IfSome last (λ line. AreFit script after)
-stays_fit mode folder part script before after ages stop None run is all fit = tt
-stays_fit mode (Some name) part script before after ages stop (Some line) run is all fit =
-    (run.fit all fit).fit (not_wanting ages stop line (sym is))
-stays_fit mode None part script before after ages stop (Some line) run is all fit =
+    → AreFit script before → IfSome last (λ line. AreFit script after)
+stays_fit mode folder part script before after ages stop None run is fit = tt
+stays_fit mode (Some name) part script before after ages stop (Some line) run is fit =
+    (run.fit fit).fit (not_wanting ages stop line (sym is))
+stays_fit mode None part script before after ages stop (Some line) run is fit =
     subst (AreFit script) (sym run.0) fit
+
+stays_in_step : (mode : Mode) (folder : Option InFolder) (part : Part) (script : Script) (before after : YardState)
+    (ages : List AgeEnd) (stop : Option Stop) (last : Option Last)
+    → HasRun mode folder part script before after ages stop → last ≡ last_of ages stop
+    → NamesNobody script.members part.missing → AreInStep script before
+    → IfSome last (λ line. AreInStep script after)
+stays_in_step mode folder part script before after ages stop None run is all step = tt
+stays_in_step mode (Some name) part script before after ages stop (Some line) run is all step =
+    (run.in_step all step).in_step (not_wanting ages stop line (sym is))
+stays_in_step mode None part script before after ages stop (Some line) run is all step =
+    subst (AreInStep script) (sym run.0) step
 
 -- a run that has room for all its ages
 room_for_all : (folder : Option InFolder) (script : Script) (before after : YardState)
@@ -301,8 +312,9 @@ has_played play script before after o ranges prompt run line = record {
       untimely_by play script before after o.ages o.stop run sim all none (sym line ∙ is);
   untrusting = λ is. untrusting_by play script before after o.ages o.stop run (sym line ∙ is);
   told = tells_disks play.mode play.folder (part_in play) script before after o.ages o.stop o.last run line;
-  fit = λ all fit. stays_fit play.mode play.folder (part_in play) script before after o.ages o.stop o.last run line
-      (all_there play.folder script all) fit;
+  fit = λ fit. stays_fit play.mode play.folder (part_in play) script before after o.ages o.stop o.last run line fit;
+  in_step = λ all step. stays_in_step play.mode play.folder (part_in play) script before after o.ages o.stop o.last run
+      line (all_there play.folder script all) step;
   complete = λ room. all_ages play script before after o.ages o.stop o.last run line room;
 }
 

@@ -13,7 +13,7 @@ use Rattle.dr_ages.specs.declared.stop.Stop.{Stop}
 use Rattle.dr_ages.specs.declared.stop.Stop.TheVariants as stops
 use Rattle.dr_ages.specs.Ages.{AreAges, NamesNobody, opening_of, taking_part}
 use Rattle.dr_ages.specs.declared.part.Part.{Part}
-use Rattle.dr_ages.specs.Fit.{AreFit}
+use Rattle.dr_ages.specs.Fit.{AreInStep}
 use Rattle.dr_ages.specs.Found.{AreRoomy}
 use Rattle.dr_ages.specs.Runs.{HasFinished, IsFreshRun, IsRoomyRun, IsRunOf}
 use Rattle.dr_ages.specs.Stops.{IsOutside, NamesFaults}
@@ -383,16 +383,16 @@ none_full ages roomy =
     (λ k d within. list_any_none (λ (m : MemberEnd). is_of LogFull m.end) (get_or ages k d).members
     (λ j e below. unfull (get_or (get_or ages k d).members j e).end (roomy k d within j e below)))
 
--- fit disks that leave room, of which no call fails
+-- disks in step that leave room, of which no call fails
 pub whole_run : (script : Script) (part : Part) (mode : Mode) (before after : YardState) (ages : List AgeEnd) (stop : Option Stop)
     → IsRunOf script part mode before after ages stop → NamesNobody script.members part.missing
-    → AreFit script before → AreRoomy script before
+    → AreInStep script before → AreRoomy script before
     → ((m : ℕ) → m < script.members → Rose (before.faults m) (after.faults m) → ⊥) → is_memory stop ≡ false
     → IsWhole script ages stop
-whole_run script part mode before after ages stop run all fit roomy calm ample = by stop refl
+whole_run script part mode before after ages stop run all step roomy calm ample = by stop refl
   where
     r : IsRoomyRun ages stop
-    r = run.roomy all fit roomy
+    r = run.roomy all step roomy
 
     low : (m : ℕ) → before.faults m ≤ run.last.faults m
     low m = later script part mode 0 before run.last ages run.course m

@@ -6,7 +6,7 @@ use Rattle.dr_ages.specs.declared.mode.Mode.{Mode}
 use Rattle.dr_ages.specs.declared.mode.Mode.TheVariants.{Sim}
 use Rattle.dr_ages.specs.declared.part.Part.{Part}
 use Rattle.dr_ages.specs.declared.stop.Stop.{Stop}
-use Rattle.dr_ages.specs.Fit.{AreFit}
+use Rattle.dr_ages.specs.Fit.{AreFit, AreInStep}
 use Rattle.dr_ages.specs.Found.{AreRoomy}
 use Rattle.dr_ages.specs.Runs.{IsRunOf}
 use Rattle.dr_complete.specs.Time.{HasTime}
@@ -75,10 +75,10 @@ HasAllLogs (Some folder) script = NamesNobody script.members folder.missing
 HasAllLogs None script = ⊤
 
 -- a run of the script has room for all its ages: over disks in memory, or over disks of the yard of which none
--- is missing, which are fit and leave room, and of which no call failed
+-- is missing, which are in step and leave room, and of which no call failed
 abbrev pub LeavesRoom : Option InFolder → Script → YardState → YardState → Type 0
 LeavesRoom (Some folder) script before after = NamesNobody script.members folder.missing
-    × AreFit script before × AreRoomy script before
+    × AreInStep script before × AreRoomy script before
     × ((m : ℕ) → m < script.members → Rose (before.faults m) (after.faults m) → ⊥)
 LeavesRoom None script before after = ⊤
 
@@ -107,9 +107,11 @@ pub record HasPlayed (play : Playing) (script : Script) (before after : YardStat
   pub untrusting : o.last ≡ Some lasts.NoMajority → SuspectsNobody script → ⊥
   -- a disk that failed is told
   pub told : TellsDisks before after o.last
-  -- unless memory was wanting fit disks of which none is missing stay fit, and a run that has room for all its ages
-  -- has them
-  pub fit : HasAllLogs play.folder script → AreFit script before → IfSome o.last (λ line. AreFit script after)
+  -- unless memory was wanting fit disks stay fit, those in step of which none is missing stay so, and a run that has
+  -- room for all its ages has them
+  pub fit : AreFit script before → IfSome o.last (λ line. AreFit script after)
+  pub in_step : HasAllLogs play.folder script → AreInStep script before
+      → IfSome o.last (λ line. AreInStep script after)
   pub complete : LeavesRoom play.folder script before after
       → IfSome o.last (λ line. (length o.ages ≡ script.ages) × Contains (0 ∷ 8 ∷ 9 ∷ []) (status_of line))
 

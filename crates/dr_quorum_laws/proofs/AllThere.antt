@@ -20,7 +20,7 @@ use Rattle.std.proofs.lemmas.Nat.Bits.{bit_at_above}
 use Rattle.dr_restart.specs.declared.lists.LogLists.{LogLists}
 use Rattle.dr_restart.specs.Choosing.{AreFirst, Handed, HasQuorum, IsLastAge, handed_of, highest, names_next, next_on_path, next_votes, of_set, on_path}
 use Rattle.dr_restart.specs.Left.{entries_on_logs}
-use Rattle.dr_restart.specs.Refusing.{HaveNothingForeign, IsRefusedFor, Refusal}
+use Rattle.dr_restart.specs.Refusing.{AreHoldersAlong, HaveNothingForeign, IsRefusedFor, Refusal}
 use Rattle.dr_restart.specs.Refusing.Refusal.{AgesUsedUp, Disagree, Foreign, NoQuorum}
 use Rattle.dr_restart.proofs.Listed.{listed}
 use Rattle.dr_words.proofs.Bits.{has_ones, has_zero}
@@ -258,14 +258,16 @@ apart i j = grind arith
 some_is : (o : Option LogLists) (log : LogLists) → o ≡ Some log → is_some o ≡ true
 some_is o log e = ap is_some e
 
-pub all-pass : (o : Opening) (logs : List LogLists) (set : ℕ) (why : Refusal) → 1 ≤ length o.messages
+-- where of any two holders one is a front of the other
+pub holders-pass : (o : Opening) (logs : List LogLists) (set : ℕ) (why : Refusal) → 1 ≤ length o.messages
     → length o.messages ≤ 16 → length logs ≡ length o.messages
     → ((m : ℕ) → m < length logs → has set m ≡ true)
     → ((m : ℕ) (log : LogLists) → slice_get logs m ≡ Some log → AllStand o log.entries)
-    → AreAllAlong (entries_on_logs logs) → IsRefusedFor o (of_set logs set) why → why ≡ AgesUsedUp
-all-pass o logs set why least most long all stand along = returned-pass o h why most (record {
+    → ((age : ℕ) → IsLastAge (of_set logs set) age → AreHoldersAlong (of_set logs set) age)
+    → IsRefusedFor o (of_set logs set) why → why ≡ AgesUsedUp
+holders-pass o logs set why least most long all stand along = returned-pass o h why most (record {
   enough = (sound, all-handed h (λ m. m < n) (whole_roster o) given (some-of n (whole_roster o) most roster));
-  along = λ age last f g x y. two f g x.0 y.0 (here x.0 f x.1 x.2 x.4) (here y.0 g y.1 y.2 y.4) (apart x.0 y.0);
+  along = along;
   first = λ age first m last of there. given m (first-within age first of m there);
   named = λ age k m log x last at c same l e. given m l;
 })
@@ -296,6 +298,18 @@ all-pass o logs set why least most long all stand along = returned-pass o h why 
       where
         k : (i : ℕ) × (slice_get log.entries i ≡ Some (View age 0 first))
         k = read-in log.entries (View age 0 first) (subst (λ l. Contains l (View age 0 first)) same c)
+
+-- or of any two logs
+pub all-pass : (o : Opening) (logs : List LogLists) (set : ℕ) (why : Refusal) → 1 ≤ length o.messages
+    → length o.messages ≤ 16 → length logs ≡ length o.messages
+    → ((m : ℕ) → m < length logs → has set m ≡ true)
+    → ((m : ℕ) (log : LogLists) → slice_get logs m ≡ Some log → AllStand o log.entries)
+    → AreAllAlong (entries_on_logs logs) → IsRefusedFor o (of_set logs set) why → why ≡ AgesUsedUp
+all-pass o logs set why least most long all stand along = holders-pass o logs set why least most long all stand
+    (λ age last f g x y. two f g x.0 y.0 (here x.0 f x.1 x.2 x.4) (here y.0 g y.1 y.2 y.4) (apart x.0 y.0))
+  where
+    h : Handed
+    h = of_set logs set
 
     here : (m : ℕ) (es : List Entry) (log : LogLists) → h m ≡ Some log → es ≡ log.entries
         → slice_get (entries_on_logs logs) m ≡ Some es

@@ -24,7 +24,7 @@ use Rattle.dr_quorum_laws.proofs.Chosen.{chosen-keeps}
 use Rattle.dr_quorum_laws.proofs.Handing.{Since}
 
 -- who is there is of the roster
-present-part : (g : Group) → IsGroup g → IsPartOf g.opening.present (whole_roster g.opening)
+pub present-part : (g : Group) → IsGroup g → IsPartOf g.opening.present (whole_roster g.opening)
 present-part g is i there = has_ones (roster g) i ∙ by (in_roster g i is there)
   where
     by : i < roster g → nat_lt i (roster g) ≡ true

@@ -1,4 +1,5 @@
 pub mod AllThere
+pub mod Alone
 pub mod Beginning
 pub mod ByMessages
 pub mod Chosen
@@ -7,6 +8,7 @@ pub mod Extra
 pub mod Grown
 pub mod Handing
 pub mod Keeping
+pub mod Lasting
 pub mod LastViews
 pub mod Lists
 pub mod Longest

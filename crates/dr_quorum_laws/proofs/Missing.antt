@@ -41,7 +41,7 @@ try-sound o before after tries try sounds t k one at = by (slice_get-push_cases 
 -- ---- what holds may stand
 
 -- a list around one of its elements
-around : {X : Type 0} (xs : List X) (k : ℕ) (x : X) → slice_get xs k ≡ Some x
+pub around : {X : Type 0} (xs : List X) (k : ℕ) (x : X) → slice_get xs k ≡ Some x
     → xs ≡ take k xs ++ x ∷ drop (k + 1) xs
 around xs k x at = sym (take-append-drop (k + 1) xs)
     ∙ (ap (λ l. l ++ drop (k + 1) xs) (take-next xs k x at) ∙ append_assoc (take k xs) (x ∷ []) (drop (k + 1) xs))

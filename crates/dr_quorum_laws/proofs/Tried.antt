@@ -47,7 +47,7 @@ durable-in g w choice logs tries s es keeps k d there l =
 -- ---- how the entries of a log have grown
 
 -- the first ones of a start, and maybe its View
-front_case : (start : Start) (es : List Entry) → IsPrefixOf es (start.entries ++ first_view_of start ∷ [])
+pub front_case : (start : Start) (es : List Entry) → IsPrefixOf es (start.entries ++ first_view_of start ∷ [])
     → IsPrefixOf es start.entries ⊎ (es ≡ start.entries ++ first_view_of start ∷ [])
 front_case start es p = by (prefix-split es start.entries (first_view_of start ∷ []) p)
   where
@@ -308,7 +308,7 @@ kept-before g w history tries try one k old new (inr (l, same)) =
     (subst (λ (a : Attempt). KeepsDurable g w history tries a.start.entries) same new)
 
 -- what is so of each try before and of the new one is so of each
-each-try : (P : Attempt → Type 0) (tries : List Attempt) (try one : Attempt) (k : ℕ)
+pub each-try : (P : Attempt → Type 0) (tries : List Attempt) (try one : Attempt) (k : ℕ)
     → ((k : ℕ) (one : Attempt) → slice_get tries k ≡ Some one → P one) → P try
     → ((k < length tries) × (slice_get tries k ≡ Some one)) ⊎ ((k ≡ length tries) × (try ≡ one)) → P one
 each-try P tries try one k old new (inl (l, at)) = old k one at

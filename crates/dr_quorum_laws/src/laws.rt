@@ -4,6 +4,7 @@ ghost use Rattle.dr_entry.specs.declared.entry.Entry.{Entry};
 ghost use Rattle.dr_entry.specs.declared.record.Value.{Value};
 ghost use Rattle.dr_entry.specs.declared.record.Vote.{Vote};
 ghost use Rattle.dr_history.specs.declared.opening.Opening.{Opening};
+ghost use Rattle.dr_history.specs.History.{IsPrefixOf};
 ghost use Rattle.dr_history.specs.Members.{has};
 ghost use Rattle.dr_history.specs.Restarting.{AllStand, AreAllAlong, IsLongest, Kept};
 ghost use Rattle.dr_history.specs.Soundness.{Sound, whole_roster};
@@ -26,6 +27,7 @@ ghost use Rattle.dr_vote_laws.specs.Voting.{HaveVotedFor};
 ghost use Rattle.dr_words.specs.Masks.{IsMajorityOf};
 ghost use Rattle.dr_world_laws.specs.Views.{HasView};
 ghost use Rattle.dr_quorum_laws.specs.Holding.{AreSoundTries, HaveNoLaterVotes, HoldSince, IsKeptBy, IsLongestHistory};
+ghost use Rattle.dr_quorum_laws.specs.Lasting.{AreDurableIn, AreLasting};
 ghost use Rattle.dr_quorum_laws.specs.Returning.{HaveReturned};
 
 use dr_restart::{Attempt, LogLists, Start};
@@ -197,4 +199,36 @@ pub fn missing_logs_are_of_earlier_ages()
         → AreSoundTries (group_of script start).opening tries → HaveNoLaterVotes start.age before
         → IsTry (group_of script start).opening before after try → has try.set m ≡ false
         → slice_get after m ≡ Some log → IsLeftByOther (group_of script try.start) log }
+{}
+
+/// Nothing lasts on empty logs. What lasts on logs does so through any try to open an age, and the start that is
+/// chosen of some of them, whichever others are missing, begins with it; then they are such as a member leaves that
+/// isn't there in that age. Behind an age all lasts that some member knew to be durable, and its start is. And all
+/// logs of a script, on which something lasts, are refused only where no age is left.
+pub fn durable_entries_last()
+    ensures empty { (script : ScriptOf) (logs : List LogListsOf) → length logs ≡ script.members
+        → ((m : ℕ) (log : LogListsOf) → slice_get logs m ≡ Some log → (log.entries ≡ []) × (log.votes ≡ []))
+        → AreLasting script [] logs }
+    ensures tried { (script : ScriptOf) (es : List Entry) (before after : List LogListsOf) (try : AttemptOf)
+        → AreLasting script es before → IsTry (first_group_of script).opening before after try
+        → AreLasting script es after }
+    ensures kept { (script : ScriptOf) (es : List Entry) (logs : List LogListsOf) (set : ℕ) (start : StartOf)
+        → AreLasting script es logs → IsChosenStart (first_group_of script).opening (of_set logs set) start
+        → IsPrefixOf es start.entries }
+    ensures others { (script : ScriptOf) (es : List Entry) (logs : List LogListsOf) (set : ℕ) (start : StartOf)
+        (m : ℕ) (log : LogListsOf) → AreLasting script es logs
+        → IsChosenStart (first_group_of script).opening (of_set logs set) start
+        → slice_get logs m ≡ Some log → IsLeftByOther (group_of script start) log }
+    ensures left { (script : ScriptOf) (start : StartOf) (w : World) (es : List Entry) (logs : List LogListsOf)
+        → IsGroup (group_of script start) → IsReached (group_of script start) w
+        → IsMajorityOf start.present (whole_roster (group_of script start).opening)
+        → AreLeft (group_of script start) w logs → AreDurableIn (group_of script start) w es
+        → AreLasting script es logs }
+    ensures begun { (script : ScriptOf) (start : StartOf) (w : World) (es : List Entry)
+        → IsGroup (group_of script start) → IsReached (group_of script start) w
+        → IsMajorityOf start.present (whole_roster (group_of script start).opening)
+        → IsPrefixOf es start.entries → AreDurableIn (group_of script start) w es }
+    ensures refused { (script : ScriptOf) (es : List Entry) (logs : List LogListsOf) (set : ℕ) (why : Refusal)
+        → HasGroupRanges script → AreLasting script es logs → ((m : ℕ) → m < length logs → has set m ≡ true)
+        → IsRefusedFor (first_group_of script).opening (of_set logs set) why → why ≡ AgesUsedUp }
 {}

@@ -9,20 +9,19 @@ use Rattle.dr_log.specs.State.{LogState}
 use Rattle.dr_logged.specs.Served.{HaveSamePlaces}
 use Rattle.dr_opening.specs.Lists.{contents_of, log_of}
 use Rattle.dr_script.specs.declared.script.Script.{Script}
-use Rattle.dr_words.proofs.Bits.{has_zero}
 use Rattle.dr_yard.specs.Yards.{YardState, state_by}
-use Rattle.dr_ages.specs.Ages.{IsAgeOf, NamesNobody}
-use Rattle.dr_ages.specs.Fit.{AreFit}
+use Rattle.dr_ages.specs.Ages.{IsAgeOf}
 use Rattle.dr_ages.specs.Lent.{AreAllBut, AreMounted, with_logs}
 use Rattle.dr_ages.specs.Opened.{AreChosenOf}
 use Rattle.dr_ages.specs.Passing.{AreUntouched, GoesOn}
 use Rattle.dr_ages.specs.Stops.{AreChosenIn, HasStopped, NamesFaults}
+use Rattle.dr_ages.specs.Tried.{AreTried}
 use Rattle.dr_ages.proofs.Backs.{AreAllBack, after_is, faults_at, faults_none, kept_back, later_back, log_at, missing_at, none_at, passed_back, place_past, same_places, stays_none, told_none, was_none}
 use Rattle.dr_ages.proofs.Chain.{none_kept}
-use Rattle.dr_ages.proofs.Fit.{mounted_fit}
 use Rattle.dr_ages.proofs.Loans.{are_found, lent_later, refused_mounted, refused_names, refused_stop, stopped_mounted}
 use Rattle.dr_ages.proofs.Opening.{on_still}
 use Rattle.dr_ages.proofs.Staying.{on_alike}
+use Rattle.dr_ages.proofs.Tried.{mounted_tried}
 use Rattle.dr_ages.proofs.ages.run_age.Given.{Over}
 use Rattle.dr_ages.proofs.ages.run_age.Goals as goal
 use Rattle.dr_ages.proofs.ages.run_age.Goals.{After-give_all_back, in-Ok-mount_all, in-Err}
@@ -85,12 +84,6 @@ chosen_in : {D : Type 0} (tells : D → Option Told) (faults : D → ℕ) (scrip
 chosen_in tells faults script missing before logs starts mounted but all (inl none) = inl none
 chosen_in tells faults script missing before logs starts mounted but all (inr is) =
     inr (contents_of logs, are_found tells faults missing before logs script.members mounted but all, is)
-
--- where none is missing all logs are there
-all_there : {D : Type 0} (n missing : ℕ) (logs : List (Option (LogState D))) → AreAllBut missing logs
-    → length logs ≡ n → NamesNobody n missing → AreAllBut 0 logs
-all_there n missing logs but all none m l =
-    but m l ∙ ap not (none m (omega (arith, l, all)) ∙ sym (has_zero m))
 
 -- the logs that the age ended with are back
 back : (g : Over) (c : After-give_all_back g) (logs : Logs g) → c.match-mount_all.ended.1.items ≡ logs
@@ -211,21 +204,19 @@ pub returns-in_default-clause-kept : goal.returns-in_default-clause-kept
 returns-in_default-clause-kept g c =
     none_kept c.args.script.now c.args.part.now.missing (state_by g.Y.Yard.told g.Y.Yard.faults c.args.yard.now)
 
-pub returns-clause-fit : goal.returns-clause-fit
-returns-clause-fit g c = elim c.match-mount_all.branch [
+pub returns-clause-tried : goal.returns-clause-tried
+returns-clause-tried g c = elim c.match-mount_all.branch [
   | in-Ok-mount_all w ↦
       let is = whole_yard g c w.run_over.result.1.items (rw w.ended-is refl) w.run_over.ensures.places
       w.in-Ok-mount_all.ensures.all w.in-Ok-mount_all.ensures.rest in
-      let logs : Logs g = c.mount_all.new.logs.items in
       rw w.ended-is (IfErr-weaker w.run_over.result.0 _ _
-      (λ stop so other none fit. subst (λ (y : YardState). AreFit c.args.script.now y) is
-      (so (before g c) c.mount_all.ensures.mounted other
-      (all_there c.args.script.now.members c.args.part.now.missing logs c.mount_all.ensures.places
-      w.in-Ok-mount_all.ensures.all none) fit)) w.run_over.ensures.fit)
+      (λ stop so tell other.
+      subst (λ (y : YardState). AreTried c.args.script.now c.args.part.now.missing (before g c) y) is
+      (so (before g c) c.mount_all.ensures.mounted tell other)) w.run_over.ensures.tried)
   | in-Err w ↦
       let logs : Logs g = c.mount_all.new.logs.items in
-      rw w.ended-is (λ other none fit. mounted_fit g.Y.Store.Disk.told g.Y.Store.Disk.faults c.args.script.now
-      (before g c) (mid g c) (after g c) logs fit c.mount_all.ensures.mounted c.mount_all.ensures.on
+      rw w.ended-is (λ tell other. mounted_tried g.Y.Store.Disk.told g.Y.Store.Disk.faults c.args.script.now
+      c.args.part.now.missing (before g c) (mid g c) (after g c) logs c.mount_all.ensures.mounted c.mount_all.ensures.on
       (back g c logs (rw w.ended-is refl)))
 ]
 

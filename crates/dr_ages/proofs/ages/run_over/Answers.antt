@@ -11,18 +11,18 @@ use Rattle.dr_restart.specs.declared.start.Start.{Start}
 use Rattle.dr_restart.specs.Groups.{first_group_of, group_of}
 use Rattle.dr_ages.specs.declared.stop.Stop.{Stop}
 use Rattle.dr_ages.specs.Ages.{over_of}
-use Rattle.dr_ages.specs.Fit.{AreFit}
 use Rattle.dr_ages.specs.Lent.{with_logs}
 use Rattle.dr_ages.specs.Opened.{AreLater, HaveGoneOn}
 use Rattle.dr_ages.specs.Stops.{HasStopped, IsBehindMounts, NamesFaults}
+use Rattle.dr_ages.specs.Tried.{AreTried}
 use Rattle.dr_ages.specs.Watched.{HasSeen}
 use Rattle.dr_ages.proofs.Backs.{places_then}
-use Rattle.dr_ages.proofs.Fit.{why_fit}
 use Rattle.dr_ages.proofs.Loans.{contents_there}
 use Rattle.dr_ages.proofs.Opening.{are_opened, gone_on, opened_on, opened_places, why_places}
 use Rattle.dr_ages.proofs.Played.{is_age, later_on, ok_at, same_start, somebody_prompt}
 use Rattle.dr_ages.proofs.Staying.{later_by_all}
 use Rattle.dr_ages.proofs.Stopping.{why_behind, why_names, why_stops}
+use Rattle.dr_ages.proofs.Tried.{why_tried}
 use Rattle.dr_ages.proofs.ages.run_over.Given.{Over}
 use Rattle.dr_ages.proofs.ages.run_over.Goals as goal
 use Rattle.dr_ages.proofs.ages.run_over.Goals.{After-of_unopened, After-play_age-ended}
@@ -113,14 +113,15 @@ returns-in-Err-clause-places g c =
     (why_places g.D.Disk.told g.D.Disk.faults c.args.script.now c.args.part.now.late c.args.logs.items c.open_age.new.logs
     c.in-Err.why (why g c))
 
-pub returns-in-Err-clause-fit : goal.returns-in-Err-clause-fit
-returns-in-Err-clause-fit g c before mounted unlike but fit =
+pub returns-in-Err-clause-tried : goal.returns-in-Err-clause-tried
+returns-in-Err-clause-tried g c before mounted tell unlike =
     let told = g.D.Disk.told in
     let faults = g.D.Disk.faults in
-    subst (λ (l : Logs g). AreFit c.args.script.now (with_logs told faults before l))
+    let missing = c.args.part.now.missing in
+    subst (λ (l : Logs g). AreTried c.args.script.now missing before (with_logs told faults before l))
     (sym (with_items_is c.args.logs c.open_age.new.logs (as_many g c ∙ c.as_mut_slice.ensures.len)))
-    (why_fit told faults c.args.script.now c.args.part.now.late before c.args.logs.items c.open_age.new.logs c.in-Err.why
-    c.requires.ranges.group c.requires.all but fit mounted (why g c))
+    (why_tried told faults c.args.script.now missing c.args.part.now.late before c.args.logs.items c.open_age.new.logs
+    c.in-Err.why c.requires.ranges.group c.requires.all c.requires.places tell mounted (why g c))
 
 -- ---- an age that was played
 

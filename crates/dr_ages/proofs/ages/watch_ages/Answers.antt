@@ -44,7 +44,7 @@ returns-in_default-clause-run g c =
     (sym (c.of.ensures ∙ c.new.ensures.items))
     (a_run c.args.script.now part c.args.mode before [] before before (Some OutOfMemory) kept.starts
     c.requires.ranges refl (omega (arith, c.requires.ranges.some_age), tt, kept.chosen, kept.passes, tt) (kept, refl)
-    (λ other none fit. fit))
+    (λ tell other. absurd (other refl)))
 
 pub returns-in-Err-clause-run : goal.returns-in-Err-clause-run
 returns-in-Err-clause-run g c =
@@ -63,7 +63,7 @@ returns-in-Err-clause-run g c =
       c.in-Err.ensures.kept.passes,
       c.in-Err.ensures.names,
     )
-    (c.in-Err.ensures.kept, refl) c.in-Err.ensures.fit)
+    (c.in-Err.ensures.kept, refl) c.in-Err.ensures.tried)
 
 pub returns-clause-run : goal.returns-clause-run
 returns-clause-run g c =
