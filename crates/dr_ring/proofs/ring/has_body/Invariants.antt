@@ -1,4 +1,4 @@
-use Rattle.std.proofs.Common.{◌≡◌, ◌+◌, ◌-◌, ◌≤◌, ℕ, true, map}
+use Rattle.std.proofs.Common.{◌≡◌, ◌+◌, ◌-◌, ◌≤◌, true, map}
 use Rattle.std.specs.List.{list_all, range_with_len}
 use Rattle.dr_rows.specs.Words.{seen}
 use Rattle.dr_ring.specs.Slots.{is_of}

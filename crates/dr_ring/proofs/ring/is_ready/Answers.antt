@@ -1,4 +1,4 @@
-use Rattle.std.proofs.Common.{◌≡◌, true, sym, ap, ap₂, ◌∙◌}
+use Rattle.std.proofs.Common.{◌≡◌, sym, ap, ap₂, ◌∙◌}
 use Rattle.dr_words.specs.Columns.{head_column}
 use Rattle.dr_ring.specs.Slots.{is_of, slot_column}
 use Rattle.dr_ring.proofs.Marked.{rest_in_row}
