@@ -1,4 +1,12 @@
 //! Runs ages one after the other.
+//!
+//! What a crash leaves of a disk once an age has ended stands in the contract of each age. Behind a run that
+//! a stop ended it is said by what has not been lost (`PassOn`), since a log may have got all of a start
+//! before another one was refused, or the vote for the age alone. An opening may cut entries off that the
+//! start lacks, so what is kept is said of what all starts have that were chosen since; votes stay. A log's
+//! length as a run begins bounds its votes, and what was cut off it; what an age adds is bounded by start and
+//! script, and an opening adds 14 bytes at most besides, for an upgrade, a vote for the age and a cut: so
+//! 536,870,912 bytes leave room for all ages of a run.
 ghost use Rattle.std.specs.Prelude.{◌≡◌, ◌≢◌, ◌<◌, ℕ, [], Some, IfErr, IfOk, OnErr, false, length};
 ghost use Rattle.dr_age.specs.Logged.{AreAmple, AreOpened, HaveCome, NoneFull, NoneStopped};
 ghost use Rattle.dr_complete.specs.Time.{HasTime};

@@ -1,4 +1,7 @@
 //! The logs of a yard's disks.
+//!
+//! Logs are borrowed and mounted one by one, by ascending number: a disk is asked for once the log before it
+//! was mounted, and that of a missing member never.
 ghost use Rattle.std.specs.Prelude.{◌≡◌, ◌≢◌, ◌<◌, ◌≤◌, ℕ, None, false, true, is_some, not, length, vec_capacity, OnOk, OnErr, IfOk, IfErr, IfSome};
 ghost use Rattle.dr_entry.specs.declared.limits.TheConstants.{MAX_MEMBERS};
 ghost use Rattle.dr_history.specs.Members.{has};

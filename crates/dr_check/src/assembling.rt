@@ -1,4 +1,6 @@
 //! Makes a report of its lines, from the last one on.
+//!
+//! What has been read is what stands behind, so each step is one of an induction over lines.
 ghost use Rattle.std.specs.Prelude.{◌≡◌, ◌++◌, ◌∷◌, [], IfOk, OnOk, reverse, map, true, false};
 ghost use Rattle.dr_check.specs.Course.{with_start, put_line, read_from};
 

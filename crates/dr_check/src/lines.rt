@@ -1,4 +1,6 @@
 //! Reads a line of a report's text: the fields are read, the line is printed anew, and compared.
+//!
+//! So only one direction has to be shown of each field.
 ghost use Rattle.std.specs.Prelude.{◌≡◌, ◌↔◌, ◌+◌, ◌<◌, ◌≤◌, length, codes, slice_index, ◌^◌, ◌++◌, ℕ, IsTrue, IfOk, IfSome, OnOk, Some, List, string_bytes};
 ghost use Rattle.dr_entry.specs.declared.entry.Entry.TheVariants.{View, Msg};
 ghost use Rattle.dr_entry.specs.declared.end.End.{End as EndOf};

@@ -1,3 +1,14 @@
+//! The top call of `derecho`.
+//!
+//! The contract says in one clause what a call came to (`Course`): one outcome that goes with the bytes that
+//! were read, the ages, what ended the run, what is said of them and the last line. As clauses of their own
+//! each would have its own script over a source that doesn't tell; so what is said of turns that were too
+//! few, or of a suspicion as a cause, is said of the script that was read (`HasPlayed`). What is certain of
+//! the ages stands in `IsRunOf`, once.
+//!
+//! With the status 10 ages and stop are those of the run, if there was one; only nothing was written. Words
+//! that are no text are handed in as an empty list, so the usage line is written; this tells of `sim` and
+//! `run` alone, without `--missing` and `--late`, and `docs/USER.md` of all.
 ghost use Rattle.std.specs.Prelude.{◌≡◌, ◌<◌, ◌⊎◌, ◌++◌, ℕ, [], ◌∷◌, Contains, IfOk, IsTrue, Some, false, is_some, string_bytes};
 ghost use Rattle.dr_entry.specs.declared.limits.TheConstants.{MAX_MEMBERS};
 ghost use Rattle.dr_intake.specs.Status.{WroteText, status_of};

@@ -4,6 +4,10 @@
 //! That a member has nothing left to do at the end of its turn comes from `dr_turn_laws`, and that one that
 //! is done holds everything from `dr_world_laws`; this crate shows how far each round brings the members on.
 //! `docs/PROOFS.md` shows how.
+//!
+//! `HasTime` names each condition on a script as a field: no faults, lockstep, turns; that nobody is missing
+//! or late is asked of the start. Patience is none: in lockstep nobody waits as long as a script may say.
+//! Four turns a message and eight more is what users are told; three and three are proved to do.
 #![tactic(auto)]
 
 mod laws;

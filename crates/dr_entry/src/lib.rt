@@ -3,6 +3,9 @@
 //!
 //! Contracts see [`Seq`] as the list of its elements, [`Text`] as the list of its bytes and
 //! [`Message`] as the list of its bytes. No call of this crate takes memory.
+//!
+//! A message is an array of 64 bytes and a length, and no vector: it is copied as it stands, nothing is
+//! cleared first, and an entry takes 76 bytes.
 #![tactic(auto)]
 
 mod end;

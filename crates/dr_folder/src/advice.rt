@@ -1,4 +1,10 @@
 //! Which log may be moved away where logs are bad.
+//!
+//! Only the one log without which the others make a start is ever advised to be moved, where all others are
+//! there, have entries, and end at their closed gate: if one log alone is bad it is that one, and what is
+//! durable stands on two at least. Where a view of the last age had one member alone this isn't known. Where
+//! a second log would do as well either may be the bad one, and none is named; of two bad logs nothing like
+//! it is known.
 
 ghost use Rattle.std.specs.Prelude.{◌≡◌, ◌↔◌, ◌<◌, if◌then◌else◌, IfOk, IsTrue, MatchOption, length};
 ghost use Rattle.std.specs.List.{list_all};

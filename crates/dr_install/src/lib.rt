@@ -2,6 +2,9 @@
 //! it sends, and the letter for who comes into the view with it.
 //!
 //! No call of this crate takes memory.
+//!
+//! `next_view` doesn't ask that somebody stays, and somebody leaves or comes: whoever has committed the value
+//! knows it.
 #![tactic(auto)]
 
 ghost use Rattle.std.specs.Prelude.{◌≡◌, ◌+◌, ◌^◌, ◌<◌, ◌≤◌, [], ◌∷◌, length, take, if◌then◌else◌};

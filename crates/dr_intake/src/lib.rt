@@ -1,5 +1,9 @@
 //! What the programs share that read a script: their words, how a script is read from a source or refused,
 //! what they answer, and the statuses that they end with.
+//!
+//! All programs answer by one form (`IsAnswer`): the words ask for a command or none, the source was read or
+//! failed, memory was wanting, or the command did what it does. A program gives its commands and what each
+//! does.
 #![tactic(auto)]
 
 mod answer;

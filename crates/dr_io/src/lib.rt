@@ -3,6 +3,8 @@
 //! Each object has as a meaning a count of faults that never falls. A call answers [`Failed`] only
 //! where the count rose in that call. An object over memory also tells which bytes it has left or
 //! holds; one over a file or a terminal does not.
+//!
+//! A read or a write that a signal interrupts is tried again, and is no fault.
 #![tactic(auto)]
 
 mod failed;

@@ -2,6 +2,11 @@
 //!
 //! The laws of `dr_quorum_laws` speak of worlds and of lists. Here they are told of a script's program, as it ended,
 //! and of what is on logs, one place for each member.
+//!
+//! What an age leaves (`LeavesSo`) is told by how its member stands at its end, and by what its log was open
+//! with: what it has logged, or with one record besides. That the same logs are there behind an age
+//! (`AreLeftFrom`) holds in one run; of other sets `ages_leave_what_holds` tells what is left, and the laws
+//! of tries go on from there.
 #![tactic(auto)]
 
 mod laws;

@@ -1,4 +1,7 @@
 //! What words write: numbers in decimal, keys in hexadecimal, lists of members, and options.
+//!
+//! An option is read by one function in both spellings, `--NAME VALUE` and `--NAME=VALUE`. A value that is a
+//! word of its own doesn't begin with a dash, so a forgotten one isn't taken from the next option.
 #![tactic(auto)]
 
 mod keys;

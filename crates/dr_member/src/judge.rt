@@ -1,4 +1,10 @@
 //! What a member judges, once it has looked at the others.
+//!
+//! A member judges by one part of its turn, which names the first judgement that comes up and is done again
+//! until none does. A suspicion more only takes away from what the earlier ones find, so this is the same as
+//! going through them in turn. A script's suspicions come in its order, by the first that may come. News of a
+//! row is compared behind the last look at it, as its beat is looked at once a turn; the counts are judged
+//! behind all looks, and go on where there is no patience, which only says who is overdue.
 ghost use Rattle.std.specs.Prelude.{◌≡◌};
 ghost use Rattle.dr_program.specs.declared.place.Place.{Place};
 ghost use Rattle.dr_program.specs.Acts.{may};

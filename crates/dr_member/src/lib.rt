@@ -3,6 +3,11 @@
 //! A member says what it does next, its next *deed*; whoever runs it does that to the group's table,
 //! to the member's log or with a letter, and tells the member. Contracts see a [`Member`] as the running
 //! member of the definitions.
+//!
+//! What is due at a place is an enum (`Due`) with the kind of a step and its act, and not a vote's value: a
+//! step with a value is large, and would be made and copied at every act. Where an attribute says so
+//! functions are inlined by hand: a deed's kind is then known where it is done, and acts, which are seldom,
+//! stay out of the loop.
 #![tactic(auto)]
 
 mod acts;

@@ -1,4 +1,10 @@
 //! What a run in threads calls, and the pace of the program.
+//!
+//! The program's pace goes on to back off until its `Backoff` is completed, as the last steps of one yield.
+//! One that only spins lets a member use up its turns while the thread that it waits for has no processor: on
+//! a busy machine members ended as `spent` after a million turns, where with this one they were done. Every
+//! turn counts, also one in which nothing is new: were such turns free, a member that waits for one that
+//! crashed would never end.
 
 use crossbeam_utils::Backoff;
 

@@ -1,3 +1,9 @@
+//! The turn of a member: its parts, in their order.
+//!
+//! A turn is data: what comes after what, the number of places and the bound on deeds left follow from the
+//! list, so a further part is a line of it. The list is code and definition in one; a law (`turn_law`) has
+//! its parts by name, in their order, so a change of the code alone is refused. It is a static, since a
+//! constant table would be built anew on the stack at each use.
 use dr_machine::Act;
 
 /// A part of a turn: one deed, or one for each member, or one for each member and column.

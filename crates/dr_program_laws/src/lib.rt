@@ -3,6 +3,14 @@
 //!
 //! That histories agree comes from `dr_world_laws`, for every world that is reached; this crate says it of
 //! the ends of a program's members. `docs/PROOFS.md` shows how.
+//!
+//! It says so of every list of deeds, so a schedule brings no proof but that it takes deeds. How a member
+//! ended by suspicion says what an end can show: another that names it, a mask with it that is no majority,
+//! or the number of the next view; no end shows a value, so that a committed one names it is a law of worlds
+//! (`exclusion_ends_members`). A group in which nobody has a reason to suspect anybody (`IsCalm`,
+//! `SuspectsNobody`) is one in which nobody is suspected; with a patience of three turns or more (`IsAtEase`,
+//! `IsLenient`) so it is in lockstep. What a done member holds is told by script and start alone
+//! (`remaining`). Laws of whole turns are `dr_turn_laws`: only completeness needs them.
 #![tactic(auto)]
 
 ghost use Rattle.std.specs.Prelude.{◌≡◌, ℕ, ◌<◌, ◌≤◌, All, Contains, List, [], ◌∷◌, length, map, max, slice_index, slice_set, Some, Option};

@@ -1,5 +1,12 @@
 //! Chooses what the next age starts with, by the logs that are handed in, though others may be missing. What is
 //! chosen keeps what was durable, also through any list of tries to open an age.
+//!
+//! `choose` takes lists, and no logs: what stands on a log is lent where it stands ([`BorrowedLists`]), and
+//! of all entries only those of the start are copied. One place is one member's; a missing log has none
+//! there. Each log that ends in the last age is compared with the longest of them; only where one is none of
+//! its fronts the pairs are gone through. It makes all who are there members of the first view; `dr_opening`
+//! takes the late ones out. Why logs are refused is a type of the definitions, each reason where the checks
+//! before it have passed; a `ChooseFault` is such a reason, or want of memory.
 #![tactic(auto)]
 
 mod ages;

@@ -1,3 +1,7 @@
+//! Members take whole turns, round after round.
+//!
+//! A turn runs over one member and the table alone. Its contract says what the turn is in every sound program
+//! in which the member may stand there, so the loop holds one member, and looks it up once a turn.
 ghost use Rattle.dr_program.specs.Presence.{present_at};
 ghost use Rattle.std.specs.Prelude.{◌<◌, List, length, Option, false, ◌≡◌};
 ghost use Rattle.std.specs.List.{range_with_len};

@@ -1,3 +1,11 @@
+//! Members take single deeds, as a generator chooses.
+//!
+//! A deed answers whether its member has ended, so looks and pushes, which are most and end nobody, ask
+//! nothing. What is due to a member that goes on is a call of its own (`due_deed`). How many go on is asked
+//! once until one ends, and the generator's constants are its fields, so that a compiler holds them. Members
+//! and words are slices, so where they begin is read once; a log is handed on as its place, where an append
+//! alone looks whether there is one; a number is struck off the list in a function of its own. So a deed
+//! keeps neither the number nor its place in the list at hand. Together these are a fifth of a seeded run.
 ghost use Rattle.std.specs.Prelude.{◌≡◌, ◌+◌, ◌<◌, ◌≤◌, ℕ, List, false, length, Option};
 ghost use Rattle.std.specs.List.{remove};
 ghost use Rattle.dr_machine.specs.Group.{Group};

@@ -1,4 +1,14 @@
 //! Watchers of simulated ages.
+//!
+//! A watcher is told before a deed, since what it does is read off the member and the table then
+//! (`next_step`); behind it the step would have to be guessed from two states. The loops know nothing of what
+//! it does with it: it says by a relation what becomes of it, and contracts tie the relations to the moves of
+//! the run, so there is one loop, with one proof, whether anybody watches or not.
+//!
+//! In a sweep nobody can be told between two deeds, so a member sweeps only before a watcher that takes note
+//! of none. Such a one promises that its relation holds with it unchanged, whatever the deed; so contracts
+//! are the same for both, and `sim` pays nothing for a watcher that it doesn't have. Threads have none: which
+//! deeds they took is written down nowhere.
 ghost use Rattle.std.specs.Prelude.{◌≡◌, ◌≤◌, ℕ, List, None, Option, Some, false, length};
 ghost use Rattle.dr_program.specs.Presence.{present_at};
 ghost use Rattle.dr_member.specs.Deeds.{table_size};

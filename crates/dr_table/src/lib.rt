@@ -5,6 +5,18 @@
 //! A rule holds between any two steps, whoever takes them: the words and the letters, with the members of all
 //! hands, are a program that the members have come to by some deeds from the beginning of their age. So
 //! whatever order the threads made, it is one of the orders of which the laws of programs speak.
+//!
+//! The rule names the members that were dealt. They are told to the table when it is made, and stand in
+//! proofs alone from then on; so the program from which deeds are counted is never read back out of members
+//! that run. A hand may be ahead of its seat by appends, which touch no word; they are counted with the next
+//! step of their member. There is never more than one, but the definition allows any number, so no law on
+//! what follows an append is needed.
+//!
+//! A step carries the place in the hand and the member there, and makes of the seat's list that list with one
+//! member replaced. A push and an act are one kind, a store. What a look tells is a word that a program of
+//! the group, in a reached world, has there: from this follow the member's condition on looks and that its
+//! next record is valid. A join of two hands looks at a word once more than it must: so it learns that it has
+//! no more members than the roster, its list has room, and a join can't fail.
 #![tactic(auto)]
 
 mod access;

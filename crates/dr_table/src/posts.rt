@@ -1,4 +1,15 @@
 //! The steps by which a letter is given and taken.
+//!
+//! A letter is a list, which no step on a word could carry; so it goes through a slot, one for each late
+//! member, and behind the banks is a word for each of the roster, so that none is found by a rank. The
+//! welcomer alone stores its first two numbers, the late member the last two: whoever has stored an odd one
+//! has the slot to itself, and nobody waits for it. The list lies there from the deal on, with room for the
+//! longest history, so to give one takes no memory. To take the slot, and to see that a letter is there, are
+//! no deeds; the deed is the store that puts the slot back.
+//!
+//! A welcomer that ends before it gives leaves the slot as it was dealt: no deed ends half way. The late
+//! member finds nothing for the rest of its turns, and joins no other view: the others have it in theirs, and
+//! suspect it or wait. A second welcomer would give the same letter, but two might give one at once.
 ghost use Rattle.std.specs.Prelude.{◌≡◌, ◌+◌, ◌<◌, ℕ, ◌∷◌, ◌==◌, true, IfSome, None, Some, [], option_map};
 ghost use Rattle.dr_form.specs.Letters.{IsFitting};
 ghost use Rattle.dr_history.specs.History.{up_to_view};

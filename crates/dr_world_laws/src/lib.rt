@@ -5,6 +5,12 @@
 //! are for one value from `dr_vote_laws`, and what holds of histories laid out by places from
 //! `dr_history_laws`; this crate ties them together.
 //! `docs/PROOFS.md` shows how.
+//!
+//! The values of views are a prophecy: one list of values for a whole run, named from outside, so the members
+//! of each view are one function in all invariants. Which they are is found by the induction, and changed
+//! where a value is first committed. What is said of votes and trims are laws of worlds, and no calls that
+//! take a script and events: a law says it of every reached world at once, and there is nothing that a call
+//! could compute.
 #![tactic(auto)]
 
 ghost use Rattle.std.specs.Prelude.{◌≡◌, ◌≢◌, ◌⊎◌, ℕ, ◌*◌, ◌+◌, ◌<◌, ◌≤◌, true, false, List, [], ◌∷◌, ◌++◌, All, Contains, length, None, Some};

@@ -1,4 +1,13 @@
 //! A yard whose disks are files of a folder.
+//!
+//! A folder that isn't there is not made: the fault is that of the first member's disk. A file that isn't
+//! there is. A path stands in an array of as many bytes as the system takes, so a lend takes no memory that
+//! might be refused, and a longer one is a fault. A file is locked while it is lent, so no other run writes
+//! into it, and no other member is lent the same; where a process ends, however it does, the system takes the
+//! lock back. Between two ages files are free: a run that comes then goes on from sound logs, and the earlier
+//! one ends by a fault. All take files in ascending order and give them back from the last, so whoever has
+//! the first gets the others. A folder is synced where a file of it is empty, not only where it was made: a
+//! run that was stopped in between may have left one whose name isn't safe.
 
 ghost use Rattle.std.specs.Prelude.{◌≡◌, ◌<◌, false, ℕ, slice_index_or, IfSome, if◌then◌else◌, ◌++◌, ◌∷◌, []};
 ghost use Rattle.std.specs.Path.{slash, with_separator};

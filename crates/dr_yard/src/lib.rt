@@ -1,4 +1,6 @@
 //! Yards: where the disks of a group's members are kept while no age runs; and disks that are files.
+//!
+//! Yards have a crate apart from `dr_io`, which is below everything, since they lend disks.
 #![tactic(auto)]
 
 mod calm_yard;

@@ -1,4 +1,10 @@
 //! Rows taken whole, over a table at which nobody else looks.
+//!
+//! In a simulation in lockstep that nobody watches no other member comes between two deeds of a row. So these
+//! go over its words as slices, taken once, with no call for each: after a store through a reference the
+//! compiler must load again what it had in registers. What `Rows` makes of a row is the fold of its single
+//! looks or pushes, and these are so many deeds one after the other (`LeadsTo`). In a turn in which a member
+//! crashes it takes one push at a time, since the crash comes between two.
 ghost use Rattle.std.specs.Prelude.{◌≡◌, ◌<◌, ◌≤◌, ℕ, None, length, true};
 ghost use Rattle.dr_member.specs.Alone.{LeadsTo, SeesAlong};
 ghost use Rattle.dr_member.specs.Deeds.{is_look, is_push, table_size};

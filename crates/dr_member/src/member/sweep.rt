@@ -2,6 +2,18 @@
 //!
 //! Most deeds of a member are looks and pushes. A sweep takes those of a row without writing down the
 //! member's place at each of them, which a member that is asked for each deed must.
+//!
+//! In between it is no `Member`, since its place is stale: contracts see it as `Standing`, which has the
+//! place that counts. The loop stands here, where the fields are open, and a table comes to it by the trait
+//! `Access`, so this crate knows nothing of threads. What such a table and a member come to is a relation of
+//! its own choice that each step keeps, and then a whole row keeps it. By a seed another member may take the
+//! next deed, so there each is taken by itself.
+//!
+//! A member sweeps a ring once a turn: where it comes to a row whose items it may receive, it asks once which
+//! of the next are there, as many as a ring has slots, and keeps the answer as a mask, which moves up with
+//! each receive. The mask goes with the place and not with the replica, since elsewhere nothing is asked of
+//! it; contracts don't see it. What saves is that an item of which this is known is taken without a test of
+//! its tags (`dr_ring::taken`).
 ghost use Rattle.std.specs.Prelude.{◌≡◌, ◌<◌, ℕ, true};
 ghost use Rattle.dr_member.specs.Deeds.{is_look, is_push, table_size};
 ghost use Rattle.dr_program.specs.declared.deed.Deed.TheVariants.{Look, Push};
