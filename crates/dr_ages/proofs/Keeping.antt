@@ -89,36 +89,35 @@ image_entries t image r c found is reads left = by left
     ]
 
 -- what an image stands for is what its member may leave
-pub image_leaves : (t : Told) (image : List ℕ) (r : Replica) (c base : OnLog) → IsImage (state_of t) image
-    → StandFor image c → HasLeft (Some t) r base → LeavesSo base r c
+pub image_leaves : (t : Told) (image : List ℕ) (r : Running) (c base : OnLog) → IsImage (state_of t) image
+    → StandFor image c → HasLeft (Some t) r.replica base → LeavesSo base r c
 image_leaves t image r c base is reads left = by left
   where
-    just : StandFor image (with_logged base r) → LeavesSo base r c
+    just : StandFor image (with_logged base r.replica) → LeavesSo base r c
     just s =
-        let same = content_once image c (with_logged base r) reads s in
+        let same = content_once image c (with_logged base r.replica) reads s in
         inl (record {
           entries = ap (λ (d : OnLog). d.entries) same;
           votes = ap (λ (d : OnLog). d.votes) same;
           age_votes = ap (λ (d : OnLog). d.age_votes) same;
         })
 
-    by : HasLeft (Some t) r base → LeavesSo base r c
+    by : HasLeft (Some t) r.replica base → LeavesSo base r c
     by (inl safe) = just (safe image is)
     by (inr broken) = elim (broken.left image is) [
       | inl before ↦ just before
       | inr after ↦ inr (record {
-        failed = broken.failed;
         next = broken.next;
-        due = broken.due;
-        before = with_logged base r;
+        begun = inr (inr broken.failed, broken.due);
+        before = with_logged base r.replica;
         logged = record { entries = refl; votes = refl; age_votes = refl };
-        is = content_once image c (with_record broken.next (with_logged base r)) reads after;
+        is = content_once image c (with_record broken.next (with_logged base r.replica)) reads after;
       })
     ]
 
 -- and so is what a read gives
-read_leaves : (o : Option Told) (r : Replica) (c base : OnLog) → IsTrue (is_some o) → IfSome o (ReadsAs c)
-    → HasLeft o r base → LeavesSo base r c
+read_leaves : (o : Option Told) (r : Running) (c base : OnLog) → IsTrue (is_some o) → IfSome o (ReadsAs c)
+    → HasLeft o r.replica base → LeavesSo base r c
 read_leaves None r c base some reads left = absurd (cc)
 read_leaves (Some t) r c base some reads left = image_leaves t (content_of t) r c base reads.image reads.stands left
 
@@ -261,7 +260,7 @@ left_from script part yard age contents b = record {
         on = first.1;
         base = b.is.begun m;
         opened = b.is.begins m first.0 first.1;
-        leaves = read_leaves (yard.told m) x.r.replica c (b.is.begun m) (b.tell m l) (b.found.each m c at).reads
+        leaves = read_leaves (yard.told m) x.r c (b.is.begun m) (b.tell m l) (b.found.each m c at).reads
             (b.is.left m x.r x.at);
       };
 }

@@ -1,7 +1,7 @@
 -- What is known of an age that began with what was chosen of some logs.
 use Rattle.std.proofs.Common.{◌≡◌, refl, ap, sym, ◌∙◌, subst, ℕ, ◌<◌, ◌≤◌, arith, true, false, List, length, map}
 use Rattle.std.specs.Prelude.{Option, None, Some, is_some, option_map}
-use Rattle.dr_entry.specs.declared.end.End.TheVariants.{DiskFault}
+use Rattle.dr_entry.specs.declared.record.Record.{Record}
 use Rattle.dr_history.specs.Members.{has}
 use Rattle.dr_history.specs.Soundness.{whole_roster}
 use Rattle.dr_log_bytes.specs.Content.{OnLog}
@@ -28,17 +28,17 @@ use Rattle.dr_opening.specs.Tries.{content_at}
 use Rattle.dr_opening.proofs.Choosing.{chosen_group}
 use Rattle.dr_opening.proofs.Lists.{handed_is}
 use Rattle.dr_opening.proofs.Trying.{in_set, out_of_set}
-use Rattle.dr_kept.specs.Leaving.{AreLeftFrom, IsAgeOfChoice}
-use Rattle.dr_kept.proofs.Waiting.{idle_end}
+use Rattle.dr_kept.specs.Leaving.{AreLeftFrom, HasBegunAppend, IsAgeOfChoice}
+use Rattle.dr_kept.proofs.Waiting.{idle_append}
 
--- its group, its program and its world; more than half of the roster is there, and no vote waits of who has ended
--- by a disk
+-- its group, its program and its world; more than half of the roster is there, and no vote waits of a member
+-- an append of which has begun
 pub record IsKnownAge (script : Script) (start : Start) (p : Program) : Type 0 where
   pub group : IsGroup (group_of script start)
   pub form : IsProgram (group_of script start) p
   pub known : Known (group_of script start) (world (group_of script start) p)
   pub majority : IsMajorityOf start.present (whole_roster (group_of script start).opening)
-  pub idle : (m : ℕ) (r : Running) → present_at p.members m ≡ Some r → r.replica.end ≡ Some DiskFault
+  pub idle : (m : ℕ) (r : Running) (next : Record) → present_at p.members m ≡ Some r → HasBegunAppend r next
       → r.replica.pending ≡ None
 
 pub known_age : (script : Script) (start : Start) (nth : ℕ) (found : List (Option OnLog)) (p : Program)
@@ -50,7 +50,8 @@ known_age script start nth found p ranges some is = record {
   known = known g (world g p) group kept.1;
   majority = subst (λ mask. IsMajorityOf mask (whole_roster g.opening))
       (sym is.chosen.chosen.present) is.chosen.chosen.quorum;
-  idle = λ m r there over. idle_end g script.turns is.begins.0 p m r group some are ran there over;
+  idle = λ m r next there begun. idle_append g script.turns is.begins.0 p m r next group some are ran there
+      (kept.0.form m r there) begun;
 }
   where
     g : Group

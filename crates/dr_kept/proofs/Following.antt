@@ -255,7 +255,8 @@ ages_within script start nth found after p m a c ranges is k left at = by
       arith,
       voted x (Contains-append_cases l.first.age_votes (age_vote_of start ∷ []) x
           (subst (λ votes. Contains votes x)
-          (age_votes_stay l.base l.member.replica c l.leaves ∙ base_age_votes start l.first l.base l.opened) h)),
+          (age_votes_stay l.base l.member c (k.form.form m l.member l.there) l.leaves
+          ∙ base_age_votes start l.first l.base l.opened) h)),
       e,
     )
 

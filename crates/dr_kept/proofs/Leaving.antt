@@ -10,13 +10,14 @@ use Rattle.dr_entry.specs.declared.record.Record.TheVariants as records
 use Rattle.dr_entry.specs.declared.record.Vote.{Vote}
 use Rattle.dr_history.specs.History.{IsPrefixOf}
 use Rattle.dr_log_bytes.specs.Content.{OnLog, with_record}
-use Rattle.dr_logged.specs.Served.{IsDueVote, IsRecordDue}
 use Rattle.dr_machine.specs.Group.{Group}
 use Rattle.dr_machine.specs.World.{World}
 use Rattle.dr_program.proofs.Holdings.{Holding, held, held_of, holding_of}
+use Rattle.dr_program.specs.Form.{IsRunningMember}
 use Rattle.dr_program.specs.Program.{Program}
 use Rattle.dr_program.specs.Reading.{table_of, world}
 use Rattle.dr_program.specs.Replica.{Replica}
+use Rattle.dr_program.specs.Running.{Running}
 use Rattle.dr_restart.specs.declared.lists.LogLists.{LogLists}
 use Rattle.dr_restart.specs.declared.start.Start.{Start}
 use Rattle.dr_restart.specs.Groups.{group_of}
@@ -30,7 +31,8 @@ use Rattle.dr_opening.proofs.Lists.{voted_lists}
 use Rattle.dr_opening.proofs.Ways.{rising_keeps, rising_votes}
 use Rattle.dr_kept.specs.Leaving.{HasJustLogged, IsAgeOfChoice, IsLeftAt, LeavesSo}
 use Rattle.dr_kept.proofs.Chosen.{IsKnownAge, age_above, member_at, replica_at, replicas_of}
-use Rattle.dr_kept.proofs.Voting.{due_may}
+use Rattle.dr_kept.proofs.Appending.{MayCome, may_come}
+use Rattle.dr_kept.proofs.Voting.{vote_may}
 
 -- ---- filters that pass all, and none
 
@@ -72,7 +74,7 @@ none_later age olds own votes is before now x c =
     by (inl h) = omega (arith, before x h)
     by (inr h) = omega (arith, now x h)
 
--- ---- the record that is due
+-- ---- the record that may come
 
 -- with the next entry of the history behind so many
 pub entry_more : (history : List Entry) (n : ℕ) (e : Entry) → slice_get history n ≡ Some e
@@ -87,18 +89,20 @@ entry_more history n e due = (
         ∙ sym (take_more history n e (slice_get_within history n e due))
 
 -- it is no age vote, so these are as they were
-next_age_votes : (r : Replica) (next : Record) (c : OnLog) → IsRecordDue r next
+next_age_votes : (r : Replica) (next : Record) (c : OnLog) → MayCome r next
     → (with_record next c).age_votes ≡ c.age_votes
-next_age_votes r (records.Entry e) c due = refl
-next_age_votes r (records.Vote v) c due = refl
-next_age_votes r (records.AgeVote v) c due = absurd due
-next_age_votes r (records.Cut keep) c due = absurd due
-next_age_votes r records.Upgrade c due = absurd due
+next_age_votes r (records.Entry e) c may = refl
+next_age_votes r (records.Vote v) c may = refl
+next_age_votes r (records.AgeVote v) c may = absurd may
+next_age_votes r (records.Cut keep) c may = absurd may
+next_age_votes r records.Upgrade c may = absurd may
 
-pub age_votes_stay : (base : OnLog) (r : Replica) (c : OnLog) → LeavesSo base r c → c.age_votes ≡ base.age_votes
-age_votes_stay base r c (inl just) = just.age_votes
-age_votes_stay base r c (inr begun) =
-    ap (λ (d : OnLog). d.age_votes) begun.is ∙ next_age_votes r begun.next begun.before begun.due
+pub age_votes_stay : (base : OnLog) (r : Running) (c : OnLog) → IsRunningMember r → LeavesSo base r c
+    → c.age_votes ≡ base.age_votes
+age_votes_stay base r c form (inl just) = just.age_votes
+age_votes_stay base r c form (inr begun) =
+    ap (λ (d : OnLog). d.age_votes) begun.is
+    ∙ next_age_votes r.replica begun.next begun.before (may_come r begun.next form begun.begun)
     ∙ begun.logged.age_votes
 
 -- ---- what an opening leaves of the votes
@@ -176,11 +180,11 @@ left_by_member script start nth found p m c is k l = by l.leaves
       votes = none_later start.age l.base.votes r.votes d.votes j.votes olds own;
     }
 
-    vote : (v : Vote) (d : OnLog) → HasJustLogged l.base l.member.replica d → IsDueVote l.member.replica v
+    vote : (v : Vote) (d : OnLog) → HasJustLogged l.base l.member.replica d
         → MayLogVote (group_of script start) (world (group_of script start) p) m v
         → IsLeftByMember (group_of script start) (world (group_of script start) p) m
         (as_lists (with_record (records.Vote v) d))
-    vote v d j due may = record {
+    vote v d j may = record {
       left = inr (inr (
         v,
         j.entries ∙ sym log,
@@ -206,19 +210,22 @@ left_by_member script start nth found p m c is k l = by l.leaves
             either (inr new) = last (in-cases v x [] new)
 
     next_is : (next : Record) (d : OnLog) → HasJustLogged l.base l.member.replica d
-        → IsRecordDue l.member.replica next → l.member.replica.pending ≡ None
+        → MayCome l.member.replica next → l.member.replica.pending ≡ None
         → IsLeftByMember (group_of script start) (world (group_of script start) p) m
         (as_lists (with_record next d))
-    next_is (records.Entry e) d j due idle = entry e d j due
-    next_is (records.Vote v) d j due idle = vote v d j due
-        (due_may g (replicas_of p) (table_of p) m r v (member_at g p m l.member k.group k.form l.there) idle due)
-    next_is (records.AgeVote v) d j due idle = absurd due
-    next_is (records.Cut keep) d j due idle = absurd due
-    next_is records.Upgrade d j due idle = absurd due
+    next_is (records.Entry e) d j may idle = entry e d j may
+    next_is (records.Vote v) d j may idle = vote v d j
+        (subst (MayLogVote g w m) (sym may.2) (vote_may g (replicas_of p) (table_of p) m r may.0
+        (member_at g p m l.member k.group k.form l.there) idle may.1))
+    next_is (records.AgeVote v) d j may idle = absurd may
+    next_is (records.Cut keep) d j may idle = absurd may
+    next_is records.Upgrade d j may idle = absurd may
 
-    by : LeavesSo l.base l.member.replica c
+    by : LeavesSo l.base l.member c
         → IsLeftByMember (group_of script start) (world (group_of script start) p) m (as_lists c)
     by (inl j) = just j
     by (inr b) =
         subst (λ (d : OnLog). IsLeftByMember (group_of script start) (world (group_of script start) p) m (as_lists d))
-        (sym b.is) (next_is b.next b.before b.logged b.due (k.idle m l.member l.there b.failed))
+        (sym b.is) (next_is b.next b.before b.logged
+        (may_come l.member b.next (k.form.form m l.member l.there) b.begun)
+        (k.idle m l.member b.next l.there b.begun))

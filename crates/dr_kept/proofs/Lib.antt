@@ -1,3 +1,4 @@
+pub mod Appending
 pub mod Waiting
 pub mod Voting
 pub mod Chosen

@@ -1,11 +1,9 @@
--- The vote that a member has due, whose end is left out of account, may come.
-use Rattle.std.proofs.Common.{◌≡◌, refl, sym, ap, ◌∙◌, subst, ℕ, arith, List}
+-- A vote that a member may cast, whose end is left out of account, may come.
+use Rattle.std.proofs.Common.{◌≡◌, refl, sym, ap, ◌∙◌, subst, ℕ, arith, true, List}
 use Rattle.std.specs.Prelude.{Option, None, Some}
 use Rattle.std.proofs.lemmas.Bool.{and_parts}
 use Rattle.dr_entry.specs.declared.record.Value.{Value}
-use Rattle.dr_entry.specs.declared.record.Vote.{Vote}
 use Rattle.dr_form.proofs.Beside.{beside_form}
-use Rattle.dr_logged.specs.Served.{IsDueVote}
 use Rattle.dr_machine.specs.Effects.{vote_for}
 use Rattle.dr_machine.specs.Group.{Group}
 use Rattle.dr_machine.specs.Guards.{CanLogVote}
@@ -18,7 +16,7 @@ use Rattle.dr_program.proofs.Voting.{wedged_inside}
 use Rattle.dr_program.specs.Form.{HasForm, IsOf}
 use Rattle.dr_program.specs.Presence.{present_at, with_present}
 use Rattle.dr_program.specs.Reading.{Shared, world_of}
-use Rattle.dr_program.specs.Replica.{Replica, is_wedged, value_due, vote_of}
+use Rattle.dr_program.specs.Replica.{Replica, is_wedged, may_vote, vote_of}
 use Rattle.dr_refine.specs.Programs.{IsMember}
 use Rattle.dr_refine.proofs.Votes.{vote_guard}
 use Rattle.dr_restart.specs.Left.{MayLogVote, without_ends}
@@ -108,14 +106,15 @@ vote_is g rs table m r v is =
       value = v;
     }
 
-pub due_may : (g : Group) (rs : List (Option Replica)) (table : Shared) (m : ℕ) (r : Replica) (x : Vote)
-    → IsMember g rs table m r → r.pending ≡ None → IsDueVote r x → MayLogVote g (world_of g rs table) m x
-due_may g rs table m r x is idle due = (
-  value_due r,
-  ends_aside g (world_of g rs table) m (value_due r)
-      (subst (λ (w : World). CanLogVote g w m (value_due r)) (unended_world g rs table m r is.there)
-      ((vote_guard g (with_present rs m (unended r)) table m (unended r) (value_due r)
+pub vote_may : (g : Group) (rs : List (Option Replica)) (table : Shared) (m : ℕ) (r : Replica) (v : Value)
+    → IsMember g rs table m r → r.pending ≡ None → may_vote r v ≡ true
+    → MayLogVote g (world_of g rs table) m (vote_of r v)
+vote_may g rs table m r v is idle may = (
+  v,
+  ends_aside g (world_of g rs table) m v
+      (subst (λ (w : World). CanLogVote g w m v) (unended_world g rs table m r is.there)
+      ((vote_guard g (with_present rs m (unended r)) table m (unended r) v
       (unended_member g rs table m r is)
-      (refl, idle, wedged_inside r is.form (and_parts (is_wedged r) _ due.may).0)).0 due.may)),
-  due.is ∙ vote_is g rs table m r (value_due r) is,
+      (refl, idle, wedged_inside r is.form (and_parts (is_wedged r) _ may).0)).0 may)),
+  vote_is g rs table m r v is,
 )

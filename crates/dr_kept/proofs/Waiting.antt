@@ -1,12 +1,15 @@
--- Where an append of a member has failed, no vote of it waits to be acted on, also as it has ended by that.
+-- Where an append of a member has begun, or has failed, no vote of it waits to be acted on, also as it has ended
+-- by that.
 use Rattle.std.proofs.Common.{◌≡◌, refl, sym, ap, ◌∙◌, subst, inl, inr, ℕ, ◌≤◌, false, List, []}
 use Rattle.std.specs.Prelude.{Option, None, Some, is_some, option_map}
 use Rattle.dr_entry.specs.declared.entry.Entry.{Entry}
 use Rattle.std.proofs.lemmas.Option.{same_Some}
 use Rattle.dr_entry.specs.declared.end.End.{End}
 use Rattle.dr_entry.specs.declared.end.End.TheVariants.{DiskFault}
+use Rattle.dr_entry.specs.declared.record.Record.{Record}
 use Rattle.dr_machine.specs.Group.{Group, IsGroup}
 use Rattle.dr_program.specs.declared.outcome.LogWhy.{LogWhy}
+use Rattle.dr_program.specs.declared.outcome.LogWhy.TheVariants as whys
 use Rattle.dr_program.specs.declared.place.Part.{Part}
 use Rattle.dr_program.specs.declared.setup.Setup.{Setup}
 use Rattle.dr_program.specs.Form.{IsRunningMember}
@@ -25,6 +28,8 @@ use Rattle.dr_program_laws.specs.Failing.{AreFailing, EndsBy, IsFailing, has_log
 use Rattle.dr_program_laws.proofs.Failing.{all_fail, move_fails}
 use Rattle.dr_program_laws.proofs.Keeping.{begun_reached, take_leaves}
 use Rattle.dr_program_laws.proofs.Programs.{ran_keeps, replaced_either}
+use Rattle.dr_kept.specs.Leaving.{HasBegunAppend, HasDiskFailed}
+use Rattle.dr_kept.proofs.Appending.{append_next}
 
 -- no vote waits where an append has failed
 abbrev IsIdleFailed : Running → Type 0
@@ -116,18 +121,27 @@ all_idle g turns setups p group some are (es, is) =
     (λ q e form both. (move_fails g q e form both.0, move_idle q e g form both.0 both.1))
     (begun_failing g turns setups group some are, begun_idle g setups))
 
--- no vote of a member waits that has ended by its disk
-pub idle_end : (g : Group) (turns : ℕ) (setups : List (Option Setup)) (p : Program) (m : ℕ) (r : Running)
-    → IsGroup g → 1 ≤ turns → AreSetups g turns setups → IsRanFrom (begun_program g setups) p
-    → present_at p.members m ≡ Some r → r.replica.end ≡ Some DiskFault → r.replica.pending ≡ None
-idle_end g turns setups p m r group some are ran there over = by r.failed refl
+-- no vote of a member waits an append of which has begun
+pub idle_append : (g : Group) (turns : ℕ) (setups : List (Option Setup)) (p : Program) (m : ℕ) (r : Running)
+    (next : Record) → IsGroup g → 1 ≤ turns → AreSetups g turns setups → IsRanFrom (begun_program g setups) p
+    → present_at p.members m ≡ Some r → IsRunningMember r → HasBegunAppend r next → r.replica.pending ≡ None
+idle_append g turns setups p m r next group some are ran there form = by
   where
     both : AreFailing p × AreIdleFailed p
     both = all_idle g turns setups p group some are ran
 
-    none_so : has_log_end r.replica.end ≡ false → r.replica.pending ≡ None
-    none_so well = absurd (let e = sym (ap has_log_end over) ∙ well in cc (e))
+    -- who has ended by its disk
+    none_so : r.replica.end ≡ Some DiskFault → has_log_end r.replica.end ≡ false → r.replica.pending ≡ None
+    none_so over well = absurd (let e = sym (ap has_log_end over) ∙ well in cc (e))
 
-    by : (o : Option LogWhy) → r.failed ≡ o → r.replica.pending ≡ None
-    by None unfailed = none_so ((both.0 m r there).well unfailed)
-    by (Some why) failed = both.1 m r there why failed
+    ended : r.replica.end ≡ Some DiskFault → (o : Option LogWhy) → r.failed ≡ o → r.replica.pending ≡ None
+    ended over None unfailed = none_so over ((both.0 m r there).well unfailed)
+    ended over (Some why) failed = both.1 m r there why failed
+
+    failed_so : HasDiskFailed r → r.replica.pending ≡ None
+    failed_so (inl failed) = both.1 m r there whys.DiskFault failed
+    failed_so (inr over) = ended over r.failed refl
+
+    by : HasBegunAppend r next → r.replica.pending ≡ None
+    by (inl due) = idle_at r (part_of r.place) r.place.row r.place.column (append_next r next due) form.free
+    by (inr had) = failed_so had.0

@@ -4,10 +4,12 @@ use Rattle.dr_entry.specs.declared.end.End.TheVariants.{DiskFault}
 use Rattle.dr_entry.specs.declared.record.Record.{Record}
 use Rattle.dr_log_bytes.specs.Content.{OnLog, with_record}
 use Rattle.dr_logged.specs.Served.{IsRecordDue}
+use Rattle.dr_program.specs.declared.deed.Deed.TheVariants as deeds
+use Rattle.dr_program.specs.declared.outcome.LogWhy.TheVariants as whys
 use Rattle.dr_program.specs.Presence.{present_at}
 use Rattle.dr_program.specs.Program.{IsRanFrom, Program}
 use Rattle.dr_program.specs.Replica.{Replica}
-use Rattle.dr_program.specs.Running.{Running}
+use Rattle.dr_program.specs.Running.{Running, next_deed}
 use Rattle.dr_restart.specs.declared.start.Start.{Start}
 use Rattle.dr_restart.specs.Groups.{first_group_of}
 use Rattle.dr_restart.specs.Setups.{IsBegun}
@@ -15,25 +17,34 @@ use Rattle.dr_script.specs.declared.script.Script.{Script}
 use Rattle.dr_opening.specs.Contents.{IsOpenFor, voted_for}
 use Rattle.dr_opening.specs.Tries.{IsChosenOf, content_at}
 
--- on a log that was open with `base` stands just what its member has logged, which stands so at its end: the
+-- on a log that was open with `base` stands just what its member, which stands so, has logged: the
 -- first entries of its history, and its votes behind those that were there
 pub record HasJustLogged (base : OnLog) (r : Replica) (c : OnLog) : Type 0 where
   pub entries : c.entries ≡ take r.logged r.history
   pub votes : c.votes ≡ base.votes ++ r.votes
   pub age_votes : c.age_votes ≡ base.age_votes
 
--- its disk failed, and the record that the member has due stands there besides
-pub record HasBegunNext (base : OnLog) (r : Replica) (c : OnLog) : Type 0 where
-  pub failed : r.end ≡ Some DiskFault
+-- the disk of the member failed in an append, and the member has ended by that or is to
+abbrev pub HasDiskFailed : Running → Type 0
+HasDiskFailed r = (r.failed ≡ Some whys.DiskFault) ⊎ (r.replica.end ≡ Some DiskFault)
+
+-- An append of this record has begun: it is the next deed of the member, and a stop breaks it off; or the
+-- member had the record due, and its disk failed in it.
+abbrev pub HasBegunAppend : Running → Record → Type 0
+HasBegunAppend r next =
+    (next_deed r ≡ deeds.Append next) ⊎ (HasDiskFailed r × IsRecordDue r.replica next)
+
+-- an append has begun, and its record stands there besides
+pub record HasBegunNext (base : OnLog) (r : Running) (c : OnLog) : Type 0 where
   pub next : Record
-  pub due : IsRecordDue r next
+  pub begun : HasBegunAppend r next
   pub before : OnLog
-  pub logged : HasJustLogged base r before
+  pub logged : HasJustLogged base r.replica before
   pub is : c ≡ with_record next before
 
--- a member that stands so at its end may leave this on a log that was open with `base`
-abbrev pub LeavesSo : OnLog → Replica → OnLog → Type 0
-LeavesSo base r c = HasJustLogged base r c ⊎ HasBegunNext base r c
+-- a member that stands so, as it ended or was stopped, may leave this on a log that was open with `base`
+abbrev pub LeavesSo : OnLog → Running → OnLog → Type 0
+LeavesSo base r c = HasJustLogged base r.replica c ⊎ HasBegunNext base r c
 
 -- The age of a script that is number nth of a run began with what was chosen of the logs that were there, on which
 -- this was found, and its program has come so far by some deeds.
@@ -52,7 +63,7 @@ pub record IsLeftAt (start : Start) (found : List (Option OnLog)) (p : Program) 
   pub on : content_at found m ≡ Some first
   pub base : OnLog
   pub opened : IsOpenFor start (voted_for start first) base
-  pub leaves : LeavesSo base member.replica c
+  pub leaves : LeavesSo base member c
 
 -- behind the age the same logs are there as before it, and on each of them is what its member may leave
 pub record AreLeftFrom (start : Start) (found : List (Option OnLog)) (p : Program) (after : List (Option OnLog))
