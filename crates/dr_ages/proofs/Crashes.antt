@@ -3,7 +3,7 @@ use Rattle.std.proofs.Common.{◌≡◌, ◌⊎◌, inl, inr, ⊎_elim, refl, sy
 use Rattle.std.specs.Prelude.{IfSome, IsSomeAnd, IsTrue, Option, None, Some, option_map, slice_get}
 use Rattle.std.proofs.lemmas.List.{nil_from_length}
 use Rattle.std.proofs.lemmas.Option.{none-some, same_Some, slice_get_within}
-use Rattle.dr_disk.specs.Disk.{Told, content_of, state_of}
+use Rattle.dr_disk.specs.Disk.{Told, content_of}
 use Rattle.dr_entry.specs.declared.end.AgeEnd.{AgeEnd}
 use Rattle.dr_entry.specs.declared.end.MemberEnd.{MemberEnd}
 use Rattle.dr_entry.specs.declared.entry.Entry.{Entry}
@@ -22,7 +22,7 @@ use Rattle.dr_log_bytes.specs.Grammar.{StandFor}
 use Rattle.dr_log_bytes.proofs.Meaning.{content_once}
 use Rattle.dr_opening.specs.Lists.{all_as_lists, as_lists}
 use Rattle.dr_opening.specs.Tries.{IsChosenOf, content_at}
-use Rattle.dr_program.proofs.Present.{present_map, present_within}
+use Rattle.dr_program.proofs.Present.{present_map}
 use Rattle.dr_quorum.specs.Handing.{handed_by}
 use Rattle.dr_quorum_laws.proofs.LastViews.{last-view, view-come, view-late}
 use Rattle.dr_quorum_laws.proofs.Lists.{prefix-in}

@@ -1,12 +1,11 @@
 -- Disks whose logs are in step, whatever a crash has left of them: they stay so, where none is missing.
 use Rattle.std.proofs.Common.{◌≡◌, ◌⊎◌, refl, sym, ap, ◌∙◌, subst, ℕ, ◌-◌, ◌^◌, ◌<◌, ◌≤◌, true, inl, inr, arith, List, [], length}
 use Rattle.std.specs.Option.{option_map_or}
-use Rattle.std.specs.Prelude.{not, take, IfSome, IsSomeAnd, IsTrue, Option, None, Some, is_some, slice_get}
+use Rattle.std.specs.Prelude.{not, take, IsSomeAnd, Option, None, Some, is_some, slice_get}
 use Rattle.std.proofs.lemmas.List.{length-map}
 use Rattle.std.proofs.lemmas.Option.{same_Some, slice_get_within}
-use Rattle.dr_disk.specs.Disk.{Told, content_of, state_of}
+use Rattle.dr_disk.specs.Disk.{Told, state_of}
 use Rattle.dr_disk.specs.Calls.{at_rest}
-use Rattle.dr_disk.specs.Images.{AllImages, Goes, IsImage, IsLeft}
 use Rattle.dr_entry.specs.declared.end.AgeEnd.{AgeEnd}
 use Rattle.dr_entry.specs.declared.end.MemberEnd.{MemberEnd}
 use Rattle.dr_entry.specs.declared.entry.Entry.{Entry}
@@ -30,7 +29,7 @@ use Rattle.dr_restart.specs.declared.lists.LogLists.{LogLists}
 use Rattle.dr_restart.specs.declared.start.Start.{Start}
 use Rattle.dr_restart.specs.Groups.{first_group_of, group_of}
 use Rattle.dr_restart.specs.Left.{entries_on_logs}
-use Rattle.dr_restart.specs.Trying.{MayBeBroughtUp, first_view_of}
+use Rattle.dr_restart.specs.Trying.{first_view_of}
 use Rattle.dr_script.specs.declared.script.Script.{Script}
 use Rattle.dr_script.specs.Ranges.{HasGroupRanges, HasRanges}
 use Rattle.dr_yard.specs.Yards.{AllTell, YardState}
@@ -52,7 +51,7 @@ use Rattle.dr_ages.specs.Fit.{AreChosen, AreInStep, MayLeave}
 use Rattle.dr_ages.specs.Tried.{AreOfTry, AreTried}
 use Rattle.dr_ages.proofs.Good.{IsGood, good_never, readable_behind, undamaged}
 use Rattle.dr_ages.proofs.Lasting.{blank_lists, blank_readable, crashed_chosen, crashed_readable, found_chosen, readable_tell}
-use Rattle.dr_ages.specs.Found.{AreFound, ReadsAs}
+use Rattle.dr_ages.specs.Found.{AreFound}
 use Rattle.dr_ages.specs.Left.{HasLeft}
 use Rattle.dr_ages.specs.Stops.{HasStopped, IsBadLogs}
 use Rattle.dr_ages.proofs.Keeping.{ended_over, image_entries, left_part}

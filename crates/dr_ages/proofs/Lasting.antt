@@ -1,5 +1,5 @@
 -- What lasts on the disks of a yard lasts through ages, openings that stop, and crashes.
-use Rattle.std.proofs.Common.{◌≡◌, ◌⊎◌, refl, sym, ap, ◌∙◌, subst, ⊎_elim, ℕ, zero, suc, ◌+◌, ◌-◌, ◌^◌, ◌<◌, ◌≤◌, inl, inr, arith, le_refl, not, Bool, true, false, List, [], ◌∷◌, ◌++◌, append-nil, length, map, take}
+use Rattle.std.proofs.Common.{◌≡◌, ◌⊎◌, refl, sym, ap, ◌∙◌, subst, ℕ, zero, suc, ◌+◌, ◌-◌, ◌^◌, ◌<◌, ◌≤◌, inl, inr, arith, le_refl, not, Bool, true, false, List, [], ◌∷◌, ◌++◌, length, map, take}
 use Rattle.std.specs.Option.{option_map_or}
 use Rattle.std.specs.Prelude.{IfSome, IsSomeAnd, IsTrue, Option, None, Some, is_some, nat_lt, slice_get}
 use Rattle.std.proofs.lemmas.Bool.{cases_lt}
@@ -15,13 +15,12 @@ use Rattle.dr_entry.specs.declared.end.MemberEnd.{MemberEnd}
 use Rattle.dr_entry.specs.declared.entry.Entry.{Entry}
 use Rattle.dr_history.specs.History.{IsPrefixOf}
 use Rattle.dr_history.specs.Members.{has}
-use Rattle.dr_history_laws.proofs.Keeping.{prefix_then}
 use Rattle.dr_history_laws.proofs.Lists.{slice_get-some}
 use Rattle.dr_kept.specs.Lasting.{HasLeftLogs}
 use Rattle.dr_kept.specs.Leaving.{IsLeftAt}
 use Rattle.dr_kept.proofs.Chosen.{few}
 use Rattle.dr_kept.proofs.Following.{among_lists, lists_with, nothing_on}
-use Rattle.dr_kept.proofs.Lasting.{durable_lasts, start_has, still_lasts}
+use Rattle.dr_kept.proofs.Lasting.{durable_lasts, still_lasts}
 use Rattle.dr_log.specs.Standing.{KeepsRecords}
 use Rattle.dr_log_bytes.specs.Content.{OnLog, empty_of}
 use Rattle.dr_log_bytes.specs.Grammar.{StandFor}
@@ -30,13 +29,13 @@ use Rattle.dr_opening.specs.Lists.{as_lists}
 use Rattle.dr_opening.specs.Tries.{AreAmong, content_at}
 use Rattle.dr_opening.proofs.Lists.{within_places}
 use Rattle.dr_opening.proofs.Trying.{chosen_by}
-use Rattle.dr_program.specs.Program.{Program, absent_end, end_at}
+use Rattle.dr_program.specs.Program.{Program, end_at}
 use Rattle.dr_program.proofs.Present.{slice_present}
 use Rattle.dr_quorum_laws.specs.Lasting.{AreLasting}
 use Rattle.dr_quorum_laws.proofs.Lasting.{last-kept, last-pass, last-tried, none-last}
 use Rattle.dr_restart.specs.declared.lists.LogLists.{LogLists}
 use Rattle.dr_restart.specs.declared.start.Start.{Start}
-use Rattle.dr_restart.specs.Groups.{first_group_of, group_of}
+use Rattle.dr_restart.specs.Groups.{first_group_of}
 use Rattle.dr_restart.specs.Refusing.{IsRefusedFor, Refusal}
 use Rattle.dr_script.specs.declared.script.Script.{Script}
 use Rattle.dr_script.specs.Ranges.{HasGroupRanges, HasRanges}
