@@ -144,7 +144,9 @@ impl Hand {
         member.given();
     }
 
-    /// The late member at a place takes its letter, which is its next deed, where one is there for it.
+    /// The late member at a place takes its letter, which is its next deed, where one is there for it: exactly
+    /// where the word behind the table that it reads for that is 2. (Another hand may write this word at any
+    /// moment, so that this stands in the rule of the step, `Peeks`. The contract says what may be found.)
     pub fn take(&mut self, board: &Board, i: usize)
         requires board { self.old.table ≡ board.now.table }
         requires there { is_some (present_at self.old.members i) ≡ true }
