@@ -1,5 +1,5 @@
 -- Ages that came one after the other.
-use Rattle.std.proofs.Common.{◌≡◌, refl, sym, ap, ◌∙◌, subst, inl, ℕ, zero, suc, ◌+◌, le_refl, arith, List, [], ◌∷◌, ◌++◌, drop, length}
+use Rattle.std.proofs.Common.{◌≡◌, refl, sym, ap, ◌∙◌, subst, inl, ℕ, ◌≤◌, zero, suc, ◌+◌, le_refl, arith, List, [], ◌∷◌, ◌++◌, drop, length}
 use Rattle.std.specs.Prelude.{IsTrue, Some, slice_get}
 use Rattle.std.proofs.lemmas.Option.{same_Some}
 use Rattle.dr_entry.specs.declared.end.AgeEnd.{AgeEnd}
@@ -11,7 +11,7 @@ use Rattle.dr_ages.specs.declared.part.Part.{Part}
 use Rattle.dr_ages.specs.Ages.{AreAges, IsAgeOf, starts_of}
 use Rattle.dr_ages.specs.declared.stop.Stop.TheVariants.{OutOfMemory}
 use Rattle.dr_ages.specs.Passing.{AreKeptSince, PassOn}
-use Rattle.dr_ages.specs.Stops.{HasKept}
+use Rattle.dr_ages.specs.Stops.{AreMountedBelow, HasKept}
 use Rattle.dr_ages.proofs.Staying.{alike_same, kept_on, on_same, on_then}
 
 -- ---- how yards pass
@@ -56,15 +56,28 @@ unmounted members missing starts yard = record {
       (alike_same (yard.told m) (yard.told m) (yard.faults m) (yard.faults m) refl (le_refl (yard.faults m))).moments;
 }
 
-pub none_kept : (script : Script) (missing : ℕ) (yard : YardState) → HasKept script missing yard yard OutOfMemory
-none_kept script missing yard = record {
+pub none_below : (missing : ℕ) (yard : YardState) → AreMountedBelow 0 missing yard yard
+none_below missing yard = record {
+  contents = [];
+  found = record {
+    all = refl;
+    there = λ m l. absurd (omega (arith, l));
+    each = λ m c at. absurd (cc (at));
+  };
+  safe = λ m c at. absurd (cc (at));
+  above = λ m past. refl;
+}
+
+pub none_kept : (script : Script) (missing : ℕ) (yard : YardState) → 1 ≤ script.members
+    → HasKept script missing yard yard OutOfMemory
+none_kept script missing yard some = record {
   mounted = 0;
   starts = [];
   chosen = inl refl;
   since = unmounted script.members missing [] yard;
   passes = passes_none yard;
   untouched = λ m gone. (refl, refl);
-  count = tt;
+  count = inl (some, none_below missing yard);
 }
 
 -- what an age has kept is kept while its disks go on

@@ -7,6 +7,7 @@ mod Lasting
 pub mod Fresh
 pub mod Good
 pub mod Keeping
+mod Lacking
 mod Loans
 mod Opening
 mod Outliving

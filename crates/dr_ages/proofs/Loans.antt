@@ -6,7 +6,7 @@ use Rattle.std.proofs.lemmas.List.{length-map}
 use Rattle.std.proofs.lemmas.Option.{same_Some}
 use Rattle.dr_disk.specs.Calls.{Sync}
 use Rattle.dr_disk.specs.Disk.{Told, added, content_of}
-use Rattle.dr_disk.specs.Images.{Goes, ReadsAnImage}
+use Rattle.dr_disk.specs.Images.{Goes, IsLeft, ReadsAnImage}
 use Rattle.dr_entry.specs.declared.entry.Entry.{Entry}
 use Rattle.dr_history.specs.Members.{has}
 use Rattle.dr_io.specs.Faults.{Rose}
@@ -31,8 +31,8 @@ use Rattle.dr_ages.specs.Found.{AreFound, ReadsAs, WasFound}
 use Rattle.dr_ages.specs.Lent.{AreAllBut, AreLent, AreMounted, IsMounted, WasRefused, WereRefused}
 use Rattle.dr_ages.specs.Opened.{AreLater}
 use Rattle.dr_ages.specs.Passing.{AreKeptSince}
-use Rattle.dr_ages.specs.Stops.{HasMounted, HasStopped, IsBehindMounts, NamesFaults, ReadsDamaged, in_mount}
-use Rattle.dr_ages.proofs.Backs.{place_new, place_other, place_past, was_there}
+use Rattle.dr_ages.specs.Stops.{AreMountedBelow, HasMounted, HasStopped, IsBehindMounts, NamesFaults, ReadsDamaged, in_mount}
+use Rattle.dr_ages.proofs.Backs.{AreAllBack, place_new, place_other, place_past, told_at, told_none, was_there}
 
 -- ---- one place more
 
@@ -213,15 +213,15 @@ pub was_refused : (member : ℕ) (told now : Option Told) (before after : ℕ) (
     → ((at : ℕ) → why ≡ whys.Damaged at → IfSome told ReadsAnImage)
     → ((at : ℕ) → why ≡ whys.Damaged at → IfSome told (λ t. IsDamaged (content_of t) at))
     → ((at : ℕ) → why ≡ whys.Damaged at → now ≡ added Sync told)
-    → ((at : ℕ) → why ≡ whys.Damaged at → after ≡ before)
+    → (why ≢ whys.DiskFault → after ≡ before)
     → WasRefused member told now before after stop
 was_refused member told now before after whys.OutOfMemory stop memory disk bytes rose image damaged kept calm =
-    subst (WasRefused member told now before after) (sym (memory refl)) tt
+    subst (WasRefused member told now before after) (sym (memory refl)) (calm (λ e. absurd (cc (e))))
 was_refused member told now before after whys.DiskFault stop memory disk bytes rose image damaged kept calm =
     subst (WasRefused member told now before after) (sym (disk refl)) (refl, rose refl)
 was_refused member told now before after (whys.Damaged at) stop memory disk bytes rose image damaged kept calm =
     subst (WasRefused member told now before after) (sym (bytes at refl))
-    (refl, both told (image at refl) (damaged at refl), kept at refl, calm at refl)
+    (refl, both told (image at refl) (damaged at refl), kept at refl, calm (λ e. absurd (cc (e))))
   where
     both : (o : Option Told) → IfSome o ReadsAnImage → IfSome o (λ t. IsDamaged (content_of t) at)
         → IfSome o (ReadsDamaged at)
@@ -235,8 +235,15 @@ pub were_refused : {D : Type 0} (tells : D → Option Told) (faults : D → ℕ)
     → ((j : ℕ) → k < j → (after.told j ≡ before.told j) × (after.faults j ≡ before.faults j))
     → WasRefused k (mid.told k) (after.told k) (mid.faults k) (after.faults k) stop
     → WereRefused n missing (length logs) before after stop
-were_refused tells faults missing n k before mid after logs OutOfMemory below there are but count told same above is =
-    tt
+were_refused tells faults missing n k before mid after logs OutOfMemory below there are but count told same
+    above is = (
+      omega (arith, below, count),
+      λ j l. (above j (omega (arith, l, count))).0,
+      λ j l. ⊎_elim
+          (λ (e : j ≡ k). ap after.faults e ∙ (is ∙ same) ∙ ap before.faults (sym e))
+          (λ (apart : j ≢ k). (above j (omega (arith, l, count, apart))).1)
+          (cases_eq j k),
+    )
 were_refused tells faults missing n k before mid after logs (DiskFault m) below there are but count told same above
     is = (
       is.0 ∙ sym count,
@@ -299,24 +306,45 @@ refused_stop script part k before mid after (Foreign m p) later back since is = 
 refused_stop script part k before mid after (NoQuorum v h n) later back since is = absurd is
 refused_stop script part k before mid after AgesUsedUp later back since is = absurd is
 
--- so many were mounted then
-pub refused_mounted : (n missing k : ℕ) (before after : YardState) (stop : Stop)
-    → WereRefused n missing k before after stop → HasMounted n k stop
-refused_mounted n missing k before after OutOfMemory is = tt
-refused_mounted n missing k before after (DiskFault m) is = inl (sym is.0)
-refused_mounted n missing k before after (Damaged m at) is = sym is.0
-refused_mounted n missing k before after stop is = absurd is
+-- so many were mounted then, and are back
+pub refused_mounted : (n missing k : ℕ) (before mid after : YardState) (stop : Stop)
+    → (((m : ℕ) → k < m → mid.told m ≡ before.told m) → AreMountedBelow k missing before after)
+    → WereRefused n missing k before mid stop → HasMounted n missing before after k stop
+refused_mounted n missing k before mid after OutOfMemory back is = inl (is.0, back is.1)
+refused_mounted n missing k before mid after (DiskFault m) back is = inl (sym is.0)
+refused_mounted n missing k before mid after (Damaged m at) back is = sym is.0
+refused_mounted n missing k before mid after stop back is = absurd is
 
 -- and all where what stopped the opening came later
-pub stopped_mounted : (n k : ℕ) (stop : Stop) → k ≡ n → IsBehindMounts stop → HasMounted n k stop
-stopped_mounted n k OutOfMemory all is = tt
-stopped_mounted n k (DiskFault m) all is = inr all
-stopped_mounted n k (Damaged m at) all is = absurd is
-stopped_mounted n k (LogFull m len) all is = all
-stopped_mounted n k (Disagree a b p) all is = all
-stopped_mounted n k (Foreign m p) all is = all
-stopped_mounted n k (NoQuorum v h need) all is = all
-stopped_mounted n k AgesUsedUp all is = all
+pub stopped_mounted : (n missing : ℕ) (before after : YardState) (k : ℕ) (stop : Stop) → k ≡ n
+    → IsBehindMounts stop → HasMounted n missing before after k stop
+stopped_mounted n missing before after k OutOfMemory all is = inr all
+stopped_mounted n missing before after k (DiskFault m) all is = inr all
+stopped_mounted n missing before after k (Damaged m at) all is = absurd is
+stopped_mounted n missing before after k (LogFull m len) all is = all
+stopped_mounted n missing before after k (Disagree a b p) all is = all
+stopped_mounted n missing before after k (Foreign m p) all is = all
+stopped_mounted n missing before after k (NoQuorum v h need) all is = all
+stopped_mounted n missing before after k AgesUsedUp all is = all
+
+-- logs that were mounted, and are back on their disks
+pub mounted_below : {D : Type 0} (tells : D → Option Told) (faults : D → ℕ) (missing : ℕ)
+    (before mid after : YardState) (logs : List (Option (LogState D))) → AreMounted tells faults before logs
+    → AreAllBut missing logs → AreAllBack tells faults mid after logs
+    → ((m : ℕ) → length logs < m → mid.told m ≡ before.told m)
+    → AreMountedBelow (length logs) missing before after
+mounted_below {D} tells faults missing before mid after logs mounted but back above = record {
+  contents = contents_of logs;
+  found = are_found tells faults missing before logs (length logs) mounted but refl;
+  safe = λ m c at.
+      let log = log_of_content logs m c at in
+      subst (λ (o : Option Told). IsLeft o (λ image. StandFor image c))
+      (sym ((back m).0 ∙ told_at tells faults mid logs m log.0 log.1))
+      (subst (λ (d : OnLog). IsLeft (tells log.0.disk) (λ image. StandFor image d)) log.2
+      (mounted m log.0 log.1).safe);
+  above = λ m past. (back m).0
+      ∙ (told_none tells faults mid logs m (place_past logs m (omega (arith, past))) ∙ above m past);
+}
 
 -- ---- whose calls failed
 

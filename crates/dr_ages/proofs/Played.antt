@@ -1,7 +1,8 @@
 -- An age that was run over logs that were mounted and opened for it.
-use Rattle.std.proofs.Common.{◌≡◌, ◌≢◌, ◌⊎◌, ◌↔◌, refl, sym, ap, ◌∙◌, subst, ℕ, ◌+◌, ◌-◌, ◌^◌, ◌<◌, ◌≤◌, ◌&&◌, nat_lt, not, inl, inr, arith, le_refl, Bool, true, false, true≢false, List, [], ◌∷◌, ◌++◌, length, length-append, take, drop, drop_at}
+use Rattle.std.proofs.Common.{◌≡◌, ◌≢◌, ◌⊎◌, ◌↔◌, refl, sym, ap, ◌∙◌, subst, ℕ, ◌+◌, ◌-◌, ◌^◌, ◌<◌, ◌≤◌, ◌&&◌, nat_lt, not, inl, inr, arith, le_refl, le_trans, Bool, true, false, true≢false, List, [], ◌∷◌, ◌++◌, length, length-append, take, drop, drop_at}
 use Rattle.std.specs.Prelude.{IfOk, OnErr, Option, None, Some, Result, Ok, Err, is_some, option_map, slice_get, unwrap_or}
 use Rattle.std.specs.Option.{option_map_or}
+use Rattle.std.proofs.Math.Nat.{max-le}
 use Rattle.std.proofs.lemmas.Bool.{cases_Bool}
 use Rattle.std.proofs.lemmas.Bool.Decides.{nat_tests}
 use Rattle.std.proofs.lemmas.Option.{same_Some, slice_get_within}
@@ -170,6 +171,11 @@ later_by_run told faults script start nth age mode olds news ranges group opened
 pub ok_at : {X E : Type 0} (P : X → Type 0) (result : Result X E) (x : X) → result ≡ Ok x → IfOk result P → P x
 ok_at P result x is so = subst (λ r. IfOk r P) is so
 
+-- and what holds where there is none
+pub err_at : {X E : Type 0} (P : Type 0) (result : Result X E) (error : E) → result ≡ Err error → OnErr result P
+    → P
+err_at P result error is so = subst (λ r. OnErr r P) is so
+
 -- an age that ran, or that had no memory to begin
 pub later_by_result : {D E : Type 0} (tells : D → Option Told) (faults : D → ℕ) (script : Script) (start : Start)
     (nth : ℕ) (mode : Mode) (olds news : List (Option (LogState D)))
@@ -182,6 +188,14 @@ later_by_result tells faults script start nth mode olds news (Ok age) ranges gro
     later_by_run tells faults script start nth age mode olds news ranges group opened ran
 later_by_result tells faults script start nth mode olds news (Err error) ranges group opened ran kept calm =
     later_by_calm tells faults olds news kept calm
+
+-- a simulated age that had no memory to begin has left all as it was
+pub still_by_result : {D E : Type 0} (tells : D → Option Told) (faults : D → ℕ) (mode : Mode)
+    (olds news : List (Option (LogState D))) (result : Result AgeEnd E)
+    → OnErr result (AreAsBefore olds news) → OnErr result (AreCalm tells faults olds news)
+    → OnErr result (mode ≡ Sim → AreAsBefore olds news × AreCalm tells faults olds news)
+still_by_result tells faults mode olds news (Ok age) kept calm = tt
+still_by_result tells faults mode olds news (Err error) kept calm = λ simulated. (kept, calm)
 
 pub later_on : {D : Type 0} (tells : D → Option Told) (faults : D → ℕ) (starts : List (List Entry))
     (olds mids news : List (Option (LogState D)))
@@ -375,18 +389,18 @@ together_some P (Some x) (Some new) old is both =
     (new, refl, subst (λ y. P y new) (same_Some x old is) both)
 
 -- a log, and a log that it was as its age began
-record IsOpenLog {D : Type 0} (tells : D → Option Told) (faults : D → ℕ) (start : Start) (yard : YardState)
-    (olds mids : List (Option (LogState D))) (m : ℕ) : Type 0 where
-  old : LogState D
-  voted : LogState D
-  mid : LogState D
-  from : log_of olds m ≡ Some old
-  by : log_of mids m ≡ Some mid
-  mounted : IsMounted tells faults (yard.told m) (yard.faults m) old
-  vote : GotVote tells faults start old voted
-  begun : GotStart tells faults start voted mid
+pub record IsOpenLog {D : Type 0} (tells : D → Option Told) (faults : D → ℕ) (start : Start)
+    (yard : YardState) (olds mids : List (Option (LogState D))) (m : ℕ) : Type 0 where
+  pub old : LogState D
+  pub voted : LogState D
+  pub mid : LogState D
+  pub from : log_of olds m ≡ Some old
+  pub by : log_of mids m ≡ Some mid
+  pub mounted : IsMounted tells faults (yard.told m) (yard.faults m) old
+  pub vote : GotVote tells faults start old voted
+  pub begun : GotStart tells faults start voted mid
 
-open_log : {D : Type 0} (tells : D → Option Told) (faults : D → ℕ) (start : Start) (yard : YardState)
+pub open_log : {D : Type 0} (tells : D → Option Told) (faults : D → ℕ) (start : Start) (yard : YardState)
     (olds mids : List (Option (LogState D))) (m : ℕ) (old : LogState D) → AreMounted tells faults yard olds
     → WereOpened tells faults start olds mids → log_of olds m ≡ Some old
     → IsOpenLog tells faults start yard olds mids m
@@ -408,7 +422,7 @@ open_log tells faults start yard olds mids m old mounted (votes, first, next) fr
     }
 
 -- it is open for the age
-is_open : {D : Type 0} (tells : D → Option Told) (faults : D → ℕ) (start : Start) (yard : YardState)
+pub is_open : {D : Type 0} (tells : D → Option Told) (faults : D → ℕ) (start : Start) (yard : YardState)
     (olds mids : List (Option (LogState D))) (m : ℕ) (x : IsOpenLog tells faults start yard olds mids m)
     → IsOpenFor start (voted_for start x.old.content) x.mid.content
 is_open tells faults start yard olds mids m x =
@@ -450,6 +464,7 @@ record LeavesSo (g : Group) (found : OnLog) (told : Option Told) (r : Replica) :
   few : IsMemberOf g r
   left : HasLeft told r found
   full : (len : ℕ) → r.end ≡ Some (ends.LogFull len) → IsFullAt r found len
+  within : (with_logged found r).length ≤ 2147483648
 
 -- what is on the log of each member
 abbrev pub content_on : {D : Type 0} → List (Option (LogState D)) → ℕ → OnLog
@@ -494,6 +509,7 @@ is_age {D} tells faults script part mode nth before start olds mids news age w =
   opened = λ m e at there. subst (λ (s : Start). IsPrefixOf (first_entries (group_of script s).opening)
       (take e.logged e.history)) same (opened m e at there);
   left = λ m r at. (ran.1 m r at).left;
+  within = λ m r at. (ran.1 m r at).within;
   failed = failed;
   calm = calm;
   full = λ m r at. (ran.1 m r at).full;
@@ -638,6 +654,17 @@ is_age {D} tells faults script part mode nth before start olds mids news age w =
     limit : (m : ℕ) (y : IsOpenLog tells faults start before olds mids m) → y.mid.limit ≡ 2147483648
     limit m y = y.begun.limit ∙ y.vote.0.limit ∙ y.mounted.limit
 
+    -- it was within its limit as it opened, and no append has gone over it
+    within : (m : ℕ) (r : Running) → present_at over.members m ≡ Some r
+        → (with_logged (content_on mids m) r.replica).length ≤ 2147483648
+    within m r at =
+        let x = one m r at in
+        let y = x.open_one in
+        subst (λ (c : OnLog). c.length ≤ 2147483648) (content m r at)
+        (le_trans x.come.within (max-le
+        (omega (arith, x.come.limit, limit m y))
+        (omega (arith, y.begun.within, y.vote.0.limit, y.mounted.limit))))
+
     full : (m : ℕ) (r : Running) → present_at over.members m ≡ Some r → (len : ℕ)
         → r.replica.end ≡ Some (ends.LogFull len) → IsFullAt r.replica (content_on mids m) len
     full m r at len end =
@@ -667,6 +694,7 @@ is_age {D} tells faults script part mode nth before start olds mids news age w =
             few = few_cast mode script start nth age w.ranges group w.run m r at;
             left = left m r at;
             full = full m r at;
+            within = within m r at;
           },
         )
 

@@ -34,11 +34,12 @@ use Rattle.dr_ages.specs.declared.stop.Stop.TheVariants.{OutOfMemory, DiskFault,
 use Rattle.dr_ages.specs.Ages.{AreAges, IsAgeOf, NamesNobody, start_of, starts_of}
 use Rattle.dr_ages.specs.Fit.{AreFit, AreInStep}
 use Rattle.dr_ages.specs.Found.{AreFound, AreRoomy}
+use Rattle.dr_ages.specs.Lacking.{LackedMemory}
 use Rattle.dr_ages.specs.Left.{HasLeft, with_logged}
 use Rattle.dr_ages.specs.Passing.{AllBeginWith, AreKeptSince, AreUntouched, PassOn}
 use Rattle.dr_ages.specs.Runs.{HaveEndedWith, HasFinished, HaveLogged, IsFitRun, IsFreshRun, IsKeptRun, IsRoomyRun, IsRunInStep, IsRunOf, with_these}
 use Rattle.dr_ages.specs.Tried.{AreTried}
-use Rattle.dr_ages.specs.Stops.{AreChosenIn, HasKept, HasStopped, IsBadLogs, IsOutside}
+use Rattle.dr_ages.specs.Stops.{AreChosenIn, HasKept, HasMounted, HasStopped, IsBadLogs, IsOutside}
 use Rattle.dr_ages.proofs.Chain.{ages_pass, ends_with, kept_passes, last_age, passes_none, passes_on, tell_behind}
 use Rattle.dr_ages.proofs.Fresh.{IsRoomyAt, fresh_first, fresh_start, roomy_ages, roomy_first, roomy_last, roomy_lasts, roomy_numbers, roomy_stop}
 use Rattle.dr_ages.proofs.Good.{age_never, found_whole}
@@ -188,7 +189,9 @@ kept_run script part mode before [] last after chosen (Some stop) ranges are end
       (subst (λ (y : YardState). AreKeptSince script.members part.missing kept.0.mounted kept.0.starts y after) (sym are)
       kept.0.since);
   all = λ some. absurd (some refl);
-  count = λ none. kept.0.count;
+  count = λ none.
+      subst (λ (y : YardState). HasMounted script.members part.missing y after kept.0.mounted stop)
+      (sym are) kept.0.count;
 }
 kept_run script part mode before (age ∷ ages) last after chosen stop ranges are end kept = record {
   mounted = script.members;
@@ -365,12 +368,14 @@ pub a_run : (script : Script) (part : Part) (mode : Mode) (before : YardState) (
     (last after : YardState) (stop : Option Stop) (chosen : List (List Entry)) → HasRanges script
     → AreAges script part mode 0 before ages last → HasFinished script part last after chosen ages stop
     → IfSome stop (IsKeptBy script part.missing last after chosen) → IfSome stop (IsTriedBy script part.missing last after)
+    → (stop ≡ Some OutOfMemory → LackedMemory script part mode last after)
     → IsRunOf script part mode before after ages stop
-a_run script part mode before ages last after stop chosen ranges are end kept tried = record {
+a_run script part mode before ages last after stop chosen ranges are end kept tried lacked = record {
   last = last;
   course = are;
   chosen = chosen;
   finish = end;
+  lacked = lacked;
   passes = passes_on (starts_of ages) chosen before last after (ages_pass script part mode 0 before ages last are)
       (last_passes script part last after chosen ages stop end);
   untouched = run_untouched script part mode before ages last after chosen stop are end kept;

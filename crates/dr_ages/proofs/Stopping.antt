@@ -1,8 +1,9 @@
 -- Why the opening of an age stopped.
-use Rattle.std.proofs.Common.{◌≡◌, refl, sym, ap, ◌∙◌, subst, inl, inr, ℕ, ◌<◌, arith, le_refl, List, [], ◌∷◌, length}
+use Rattle.std.proofs.Common.{◌≡◌, refl, sym, ap, ◌∙◌, subst, inl, inr, ℕ, ◌<◌, ◌≤◌, arith, le_refl, List, [], ◌∷◌, length}
 use Rattle.std.specs.Prelude.{◌⊎◌, Option, None, Some}
 use Rattle.dr_disk.specs.Disk.{Told}
 use Rattle.dr_disk.specs.Images.{IsLeft}
+use Rattle.dr_entry.specs.declared.entry.Entry.{Entry}
 use Rattle.dr_io.specs.Faults.{Rose}
 use Rattle.dr_log.specs.State.{LogState}
 use Rattle.dr_log_bytes.specs.Content.{OnLog}
@@ -26,9 +27,13 @@ use Rattle.dr_restart.specs.Groups.{first_group_of}
 use Rattle.dr_script.specs.declared.script.Script.{Script}
 use Rattle.dr_words.specs.Masks.{without}
 use Rattle.dr_yard.specs.Yards.{YardState}
+use Rattle.dr_ages.specs.declared.mode.Mode.{Mode}
 use Rattle.dr_ages.specs.declared.part.Part.{Part}
+use Rattle.dr_ages.specs.declared.stop.Stop.TheVariants.{OutOfMemory}
 use Rattle.dr_ages.specs.Found.{AreFound}
-use Rattle.dr_ages.specs.Lent.{AreAllBut, AreMounted, with_logs}
+use Rattle.dr_ages.specs.Lacking.{LackedMemory, to_append}
+use Rattle.dr_ages.specs.Lent.{AreAllBut, AreMounted, IsMounted, with_logs}
+use Rattle.dr_ages.specs.Opened.{AreLater}
 use Rattle.dr_ages.specs.Passing.{AreKeptSince}
 use Rattle.dr_ages.specs.Stops.{AreOpenBelow, HasStopped, HaveVotesBelow, IsBehindMounts, IsStuckIn, NamesFaults, in_opening}
 use Rattle.dr_ages.specs.Telling.{stop_at, stop_of, stop_of_choice}
@@ -68,6 +73,14 @@ left_at {D} tells faults before news m new c here same safe =
     subst (λ (o : Option Told). IsLeft o (λ image. StandFor image c)) (sym (told_at tells faults before news m new here))
     (subst (λ (d : OnLog). IsLeft (tells new.disk) (λ image. StandFor image d)) same safe)
 
+-- with the vote a log is within its limit
+voted_within : {D : Type 0} (tells : D → Option Told) (faults : D → ℕ) (before : YardState) (start : Start)
+    (old new : LogState D) (m : ℕ) (c : OnLog) → IsMounted tells faults (before.told m) (before.faults m) old
+    → old.content ≡ c → GotVote tells faults start old new → (voted_for start c).length ≤ 2147483648
+voted_within tells faults before start old new m c is same got =
+    subst (λ (d : OnLog). d.length ≤ 2147483648) (got.0.content ∙ ap (voted_for start) same)
+    (omega (arith, got.0.within, is.limit))
+
 -- in the first phase
 votes_below : {D : Type 0} (tells : D → Option Told) (faults : D → ℕ) (script : Script) (part : Part)
     (before : YardState) (start : Start) (olds news : List (Option (LogState D))) (k : ℕ) (why : CatchFault)
@@ -82,6 +95,12 @@ votes_below {D} tells faults script part before start olds news k why on stop = 
       olds news k m old.0 new.0 stop l old.1 new.1 in
       left_at tells faults before news m new.0 (voted_for start c) new.1
       (got.0.content ∙ ap (voted_for start) old.2) got.0.well.safe;
+  within = λ m c l at.
+      let old = log_of_content olds m c at in
+      let new = stays_there olds news m old.0 places old.1 in
+      voted_within tells faults before start old.0 new.0 m c (on.mounted m old.0 old.1) old.2
+      (below_stop (GotVote tells faults start) (λ old new. LacksVote tells faults start old new why)
+      olds news k m old.0 new.0 stop l old.1 new.1);
   above = λ m c l at.
       let old = log_of_content olds m c at in
       left_at tells faults before news m old.0 c (stop.others m l ∙ old.1) old.2 (on.mounted m old.0 old.1).safe;
@@ -109,6 +128,7 @@ open_below {D} tells faults script part before start olds mids news k why on vot
         new.0.content,
         subst (λ (v : OnLog). IsOpenFor start v new.0.content) (got.0.content ∙ ap (voted_for start) old.2)
             came.content,
+        omega (arith, came.within, got.0.limit, (on.mounted m old.0 old.1).limit),
         left_at tells faults before news m new.0 new.0.content new.1 refl came.well.safe,
       );
   above = λ m c l at.
@@ -117,6 +137,11 @@ open_below {D} tells faults script part before start olds mids news k why on vot
       let got = in_come (GotVote tells faults start) olds mids m old.0 mid.0 voted old.1 mid.1 in
       left_at tells faults before news m mid.0 (voted_for start c) (stop.others m l ∙ mid.1)
       (got.0.content ∙ ap (voted_for start) old.2) got.0.well.safe;
+  within = λ m c at.
+      let old = log_of_content olds m c at in
+      let mid = come_mid (GotVote tells faults start) olds mids m old.0 voted old.1 in
+      voted_within tells faults before start old.0 mid.0 m c (on.mounted m old.0 old.1) old.2
+      (in_come (GotVote tells faults start) olds mids m old.0 mid.0 voted old.1 mid.1);
 }
   where
     places : HaveSamePlaces mids news
@@ -205,20 +230,30 @@ is_stuck tells faults script part before start olds news k why At on s at = reco
 }
 
 -- the disks are kept since they were mounted
+pub since_opened : {D : Type 0} (tells : D → Option Told) (faults : D → ℕ) (script : Script) (part : Part)
+    (before : YardState) (starts : List (List Entry)) (olds news : List (Option (LogState D)))
+    → length olds ≡ script.members → AreMounted tells faults before olds → AreAllBut part.missing olds
+    → AreLater tells faults starts olds news → HaveSamePlaces olds news
+    → AreKeptSince script.members part.missing script.members starts before
+    (with_logs tells faults before news)
+since_opened tells faults script part before starts olds news all mounted but later places =
+    subst (λ (n : ℕ). AreKeptSince script.members part.missing n starts before
+    (with_logs tells faults before news)) all
+    (kept_back tells faults script.members part.missing starts before before
+    (with_logs tells faults before news) olds news mounted but later places
+    (λ m none. alike_same (before.told m) (before.told m) (before.faults m) (before.faults m) refl
+    (le_refl (before.faults m))) (λ m. (refl, refl)))
+
+-- also where the opening stopped
 since_mounted : {D : Type 0} (tells : D → Option Told) (faults : D → ℕ) (script : Script) (part : Part)
     (before : YardState) (start : Start) (olds news : List (Option (LogState D))) (fault : OpenFault)
     → IsOpeningOn tells faults script part before start olds → WereNotOpened tells faults start olds news fault
     → AreKeptSince script.members part.missing script.members (start.entries ∷ []) before
     (with_logs tells faults before news)
 since_mounted tells faults script part before start olds news fault on stopped =
-    subst (λ (n : ℕ). AreKeptSince script.members part.missing n (start.entries ∷ []) before
-    (with_logs tells faults before news)) on.all
-    (kept_back tells faults script.members part.missing (start.entries ∷ []) before before
-    (with_logs tells faults before news) olds news on.mounted on.but
+    since_opened tells faults script part before (start.entries ∷ []) olds news on.all on.mounted on.but
     (unopened_on tells faults start olds news fault stopped)
     (unopened_places tells faults start olds news fault stopped)
-    (λ m none. alike_same (before.told m) (before.told m) (before.faults m) (before.faults m) refl
-    (le_refl (before.faults m))) (λ m. (refl, refl)))
 
 open_stops : {D : Type 0} (tells : D → Option Told) (faults : D → ℕ) (script : Script) (part : Part)
     (before : YardState) (start : Start) (olds news : List (Option (LogState D))) (k : ℕ) (why : CatchFault)
@@ -329,6 +364,29 @@ why_names {D} tells faults script late before olds news (Unchosen fault) mounted
     ∙ counts_still tells faults before olds mounted m)
 why_names tells faults script late before olds news (Unfinished fault) mounted is =
     open_names tells faults before is.0 olds news fault.member fault.why mounted is.3
+
+-- ---- an append for which there was no memory
+
+-- it found a log so, and the log is so still
+pub lacked_append : {D : Type 0} (tells : D → Option Told) (faults : D → ℕ) (script : Script) (part : Part)
+    (mode : Mode) (before : YardState) (start : Start) (olds news : List (Option (LogState D))) (k : ℕ)
+    (why : CatchFault) → IsOpeningOn tells faults script part before start olds
+    → WereNotOpened tells faults start olds news (record { member = k; why = why })
+    → stop_at k why ≡ OutOfMemory → LackedMemory script part mode before (with_logs tells faults before news)
+unfolding is_stuck
+lacked_append tells faults script part mode before start olds news k catches.OutOfMemory on stopped same =
+    let fault : OpenFault = record { member = k; why = catches.OutOfMemory } in
+    let s = stuck_at tells faults script part before start olds news fault on stopped in
+    to_append k (is_stuck tells faults script part before start olds news k catches.OutOfMemory
+    (λ now next. IsLeft ((with_logs tells faults before news).told k) (λ image. StandFor image now)) on s
+    (left_at tells faults before news k s.new s.new.content s.here refl s.reason.safe))
+    (since_mounted tells faults script part before start olds news fault on stopped)
+    (λ m. calm_at tells faults before start olds news fault m on.mounted stopped
+    (λ at old new next is. is.calm))
+lacked_append tells faults script part mode before start olds news k catches.DiskFault on stopped same =
+    absurd (cc (same))
+lacked_append tells faults script part mode before start olds news k (catches.LogFull len) on stopped same =
+    absurd (cc (same))
 
 -- ---- all disks were mounted
 

@@ -1,7 +1,7 @@
 -- What an opening that stopped leaves on the disks of a yard is as before, or a try.
-use Rattle.std.proofs.Common.{◌≡◌, ◌⊎◌, refl, sym, ap, ◌∙◌, subst, inl, inr, ℕ, ◌<◌, ◌≤◌, Bool, true, false, arith, le_refl, List, length}
+use Rattle.std.proofs.Common.{◌≡◌, ◌⊎◌, refl, sym, ap, ◌∙◌, subst, inl, inr, ℕ, ◌<◌, arith, le_refl, List, length}
 use Rattle.std.specs.Prelude.{IsSomeAnd, IsTrue, Option, None, Some, is_some, option_map, slice_get}
-use Rattle.std.proofs.lemmas.Option.{none-some, slice_get_within}
+use Rattle.std.proofs.lemmas.Option.{none-some}
 use Rattle.dr_disk.specs.Disk.{Told, state_of}
 use Rattle.dr_disk.specs.Images.{AllImages, Goes, IsLeft}
 use Rattle.dr_history.specs.declared.opening.Opening.{Opening}
@@ -10,15 +10,13 @@ use Rattle.dr_history_laws.proofs.Lists.{slice_get-some}
 use Rattle.dr_kept.proofs.Chosen.{few}
 use Rattle.dr_log.specs.Standing.{KeepsRecords}
 use Rattle.dr_log.specs.State.{LogState}
-use Rattle.dr_log_bytes.specs.Content.{OnLog}
-use Rattle.dr_log_bytes.specs.Grammar.{StandFor}
 use Rattle.dr_opening.specs.declared.age.NotOpened.{NotOpened}
 use Rattle.dr_opening.specs.declared.age.NotOpened.TheVariants.{Unchosen, Unfinished}
 use Rattle.dr_opening.specs.declared.opening.OpenFault.{OpenFault}
 use Rattle.dr_opening.specs.Contents.{IsRising, IsVoting, StandSo, voted_for}
 use Rattle.dr_opening.specs.Lists.{contents_of, log_of}
 use Rattle.dr_opening.specs.Logs.{WereNotOpened}
-use Rattle.dr_opening.specs.Tries.{AreLeftOn, AreSafe, CameSo, HasStoppedSo, IsChosenOf, IsLeftOn, content_at, try_of}
+use Rattle.dr_opening.specs.Tries.{AreLeftOn, AreSafe, HasStoppedSo, IsChosenOf, IsLeftOn, content_at, try_of}
 use Rattle.dr_opening.specs.Unopened.{IsWhyUnopened}
 use Rattle.dr_opening.proofs.Crashing.{AreSo, left_so_far, so_stopped, so_voting}
 use Rattle.dr_opening.proofs.Lists.{content_is}
@@ -28,15 +26,14 @@ use Rattle.dr_program.proofs.Present.{present_within}
 use Rattle.dr_restart.specs.declared.lists.LogLists.{LogLists}
 use Rattle.dr_restart.specs.declared.start.Start.{Start}
 use Rattle.dr_restart.specs.Groups.{first_group_of}
-use Rattle.dr_restart.specs.Trying.{IsTry}
 use Rattle.dr_script.specs.declared.script.Script.{Script}
 use Rattle.dr_script.specs.Ranges.{HasGroupRanges}
 use Rattle.dr_yard.specs.Yards.{AllTell, YardState}
-use Rattle.dr_ages.specs.Fit.{AreChosen, AreReadable, IsReadable, MayLeave}
+use Rattle.dr_ages.specs.Fit.{AreChosen, IsReadable, MayLeave}
 use Rattle.dr_ages.specs.Lent.{AreAllBut, AreMounted, IsAlike, with_logs}
-use Rattle.dr_ages.specs.Tried.{AreOfTry, AreTried}
-use Rattle.dr_ages.proofs.Backs.{AreAllBack, alike_back, log_at, stays_none, stays_there, told_at, told_none, was_none}
-use Rattle.dr_ages.proofs.Lasting.{HadBefore, alike_chosen, alike_readable, had_before, readable_tell}
+use Rattle.dr_ages.specs.Tried.{AreTried}
+use Rattle.dr_ages.proofs.Backs.{AreAllBack, alike_back, log_at, stays_none, told_at, told_none, was_none}
+use Rattle.dr_ages.proofs.Lasting.{HadBefore, alike_chosen, alike_readable, had_before}
 use Rattle.dr_ages.proofs.Loans.{are_found, content_at_log}
 use Rattle.dr_ages.proofs.Opening.{unopened_on, unopened_places}
 use Rattle.dr_ages.proofs.Staying.{alike_same, goes_tells, left_so}

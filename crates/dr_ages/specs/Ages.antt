@@ -34,7 +34,7 @@ use Rattle.dr_ages.specs.declared.mode.Mode.{Mode}
 use Rattle.dr_ages.specs.declared.mode.Mode.TheVariants.{Sim, Run}
 use Rattle.dr_ages.specs.declared.part.Part.{Part}
 use Rattle.dr_ages.specs.Found.{AreFew, AreFound}
-use Rattle.dr_ages.specs.Left.{HasLeft, IsFullAt}
+use Rattle.dr_ages.specs.Left.{HasLeft, IsFullAt, with_logged}
 use Rattle.dr_ages.specs.Passing.{AreKeptSince, AreUntouched, PassOn}
 
 -- who takes part in the ages of a run: the members of the roster, but for the missing
@@ -122,6 +122,9 @@ pub record IsAgeOf (script : Script) (part : Part) (mode : Mode) (nth : ℕ) (be
   -- whatever a crash leaves of each disk is what its member may leave, behind what stood there as the age began
   pub left : (m : ℕ) → AtMember (over_of mode script (start_of script part age) nth age run) m
       (λ r. HasLeft (after.told m) r.replica (begun m))
+  -- no log is longer than a log may be
+  pub within : (m : ℕ) → AtMember (over_of mode script (start_of script part age) nth age run) m
+      (λ r. (with_logged (begun m) r.replica).length ≤ 2147483648)
   -- who ends by its disk has one that failed, no call of another disk did, and who ends by a full log has one
   pub failed : (m : ℕ) (e : MemberEnd) → slice_get age.members m ≡ Some e → e.end ≡ DiskFault
       → Rose (before.faults m) (after.faults m)

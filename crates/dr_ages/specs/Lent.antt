@@ -1,5 +1,5 @@
 -- The disks of a yard that are lent, and the logs on them.
-use Rattle.std.specs.Prelude.{◌≡◌, ⊤, ℕ, ◌<◌, ◌≤◌, Bool, not, false, List, length, Option, Some, IfSome, is_some}
+use Rattle.std.specs.Prelude.{◌≡◌, ℕ, ◌<◌, ◌≤◌, Bool, not, false, List, length, Option, Some, IfSome, is_some}
 use Rattle.std.specs.Option.{option_map_or}
 use Rattle.dr_disk.specs.Calls.{Sync}
 use Rattle.dr_disk.specs.Disk.{Told, added}
@@ -69,7 +69,7 @@ with_logs {D} tells faults yard logs = record {
 -- why the log of a member was not mounted, from a disk that told so and tells so now, while the count of its
 -- faults went so
 abbrev pub WasRefused : ℕ → Option Told → Option Told → ℕ → ℕ → Stop → Type 0
-WasRefused member told now before after OutOfMemory = ⊤
+WasRefused member told now before after OutOfMemory = after ≡ before
 WasRefused member told now before after (DiskFault m) = (m ≡ member) × Rose before after
 WasRefused member told now before after (Damaged m at) =
     (m ≡ member) × IfSome told (ReadsDamaged at) × (now ≡ added Sync told) × (after ≡ before)
@@ -87,7 +87,8 @@ pub record IsKeptBack (n missing : ℕ) (before after : YardState) (member : ℕ
 
 -- why the logs of the first n members that are not missing were not all mounted, but those of the first k
 abbrev pub WereRefused : ℕ → ℕ → ℕ → YardState → YardState → Stop → Type 0
-WereRefused n missing k before after OutOfMemory = ⊤
+WereRefused n missing k before after OutOfMemory = (k < n) × ((j : ℕ) → k < j → after.told j ≡ before.told j)
+    × ((j : ℕ) → k ≤ j → after.faults j ≡ before.faults j)
 WereRefused n missing k before after (DiskFault m) = (m ≡ k) × IsKeptBack n missing before after m
 WereRefused n missing k before after (Damaged m at) = (m ≡ k) × HasDamaged n missing before after m at
     × ((j : ℕ) → k ≤ j → after.faults j ≡ before.faults j)

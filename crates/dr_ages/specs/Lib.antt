@@ -2,6 +2,7 @@ pub mod Found
 pub mod Passing
 pub mod Opened
 pub mod Stops
+pub mod Lacking
 pub mod Telling
 pub mod Lent
 pub mod Left

@@ -21,6 +21,7 @@ use Rattle.dr_ages.specs.declared.stop.Stop.TheVariants.{OutOfMemory, AgesUsedUp
 use Rattle.dr_ages.specs.Ages.{AreAges, IsAgeOf, NamesNobody, opening_of, over_of, start_of, starts_of}
 use Rattle.dr_ages.specs.Fit.{AreFit, AreInStep}
 use Rattle.dr_ages.specs.Found.{AreRoomy}
+use Rattle.dr_ages.specs.Lacking.{LackedMemory}
 use Rattle.dr_ages.specs.Left.{with_logged}
 use Rattle.dr_ages.specs.Passing.{AreKeptSince, AreUntouched, PassOn}
 use Rattle.dr_ages.specs.Refused.{IsRefusal}
@@ -85,7 +86,7 @@ pub record IsKeptRun (script : Script) (missing : ℕ) (starts : List (List Entr
   pub mounted : ℕ
   pub since : AreKeptSince script.members missing mounted starts before after
   pub all : ages ≢ [] → mounted ≡ script.members
-  pub count : ages ≡ [] → IfSome stop (HasMounted script.members mounted)
+  pub count : ages ≡ [] → IfSome stop (HasMounted script.members missing before after mounted)
 
 -- a log of these entries
 abbrev pub with_these : List Entry → OnLog
@@ -125,6 +126,8 @@ pub record IsRunOf (script : Script) (part : Part) (mode : Mode) (before after :
   -- the entries of the start that was chosen of what was found behind the last age, where one was
   pub chosen : List (List Entry)
   pub finish : HasFinished script part last after chosen ages stop
+  -- where memory was wanting, how far that opening had come
+  pub lacked : stop ≡ Some OutOfMemory → LackedMemory script part mode last after
   -- whatever ended it, no disk has lost anything but entries that one of the starts lacks, and those of the missing
   -- are as they were
   pub passes : PassOn (starts_of ages ++ chosen) before after

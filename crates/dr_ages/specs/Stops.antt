@@ -1,5 +1,5 @@
 -- Why an age of a run was not opened.
-use Rattle.std.specs.Prelude.{◌≡◌, ◌≢◌, ◌⊎◌, ⊤, ℕ, ◌<◌, false, List, [], ◌∷◌, Option, Some, IfSome}
+use Rattle.std.specs.Prelude.{◌≡◌, ◌≢◌, ◌⊎◌, ⊤, ℕ, ◌<◌, ◌≤◌, false, List, [], ◌∷◌, Option, Some, IfSome}
 use Rattle.dr_disk.specs.Calls.{Sync}
 use Rattle.dr_disk.specs.Disk.{Told, added, content_of}
 use Rattle.dr_disk.specs.Images.{IsLeft, ReadsAnImage}
@@ -37,23 +37,27 @@ AreRefusedFor script why contents =
 
 -- ---- a log that was refused what an age needs
 
--- whatever a crash leaves of the logs of the members below this one has the age vote, and that of each one above
--- it what was found
+-- whatever a crash leaves of the logs of the members below this one has the age vote, within the limit of a log,
+-- and that of each one above it what was found
 pub record HaveVotesBelow (start : Start) (contents : List (Option OnLog)) (after : YardState) (member : ℕ)
     : Type 0 where
   pub below : (m : ℕ) (c : OnLog) → m < member → content_at contents m ≡ Some c
       → IsLeft (after.told m) (λ image. StandFor image (voted_for start c))
+  pub within : (m : ℕ) (c : OnLog) → m < member → content_at contents m ≡ Some c
+      → (voted_for start c).length ≤ 2147483648
   pub above : (m : ℕ) (c : OnLog) → member < m → content_at contents m ≡ Some c
       → IsLeft (after.told m) (λ image. StandFor image c)
 
 -- whatever a crash leaves of the logs of the members below this one has all that the age begins with, and that of
--- each one above it has the age vote
+-- each one above it has the age vote, within the limit of a log
 pub record AreOpenBelow (start : Start) (contents : List (Option OnLog)) (after : YardState) (member : ℕ)
     : Type 0 where
   pub below : (m : ℕ) (c : OnLog) → m < member → content_at contents m ≡ Some c
-      → (d : OnLog) × IsOpenFor start (voted_for start c) d × IsLeft (after.told m) (λ image. StandFor image d)
+      → (d : OnLog) × IsOpenFor start (voted_for start c) d × (d.length ≤ 2147483648)
+      × IsLeft (after.told m) (λ image. StandFor image d)
   pub above : (m : ℕ) (c : OnLog) → member < m → content_at contents m ≡ Some c
       → IsLeft (after.told m) (λ image. StandFor image (voted_for start c))
+  pub within : (m : ℕ) (c : OnLog) → content_at contents m ≡ Some c → (voted_for start c).length ≤ 2147483648
 
 -- An append of the opening was refused to the log of a member, when `now` stood on it, and it was to come to
 -- `next`: in the first phase, or in the second.
@@ -115,7 +119,23 @@ pub record HasDamaged (n missing : ℕ) (before after : YardState) (member at : 
   pub contents : List (Option OnLog)
   pub found : AreFound member missing before contents
 
--- why the next age was not opened, over disks that were so before and are so now
+-- ---- where an opening stops
+
+-- no call of a disk failed
+abbrev pub HaveNotFailed : YardState → YardState → Type 0
+HaveNotFailed before after = (m : ℕ) → after.faults m ≡ before.faults m
+
+-- the logs of the members below k were mounted, but for the missing: whatever a crash leaves of them is as it
+-- was found; and the disks above that of k are as before
+pub record AreMountedBelow (k missing : ℕ) (before after : YardState) : Type 0 where
+  pub contents : List (Option OnLog)
+  pub found : AreFound k missing before contents
+  pub safe : (m : ℕ) (c : OnLog) → content_at contents m ≡ Some c
+      → IsLeft (after.told m) (λ image. StandFor image c)
+  pub above : (m : ℕ) → k < m → after.told m ≡ before.told m
+
+-- Why the next age was not opened, over disks that were so before and are so now. How far it had come when
+-- memory was wanting goes by the mode of the run, and is said apart.
 abbrev pub HasStopped : Script → Part → YardState → YardState → Stop → Type 0
 HasStopped script part before after OutOfMemory = ⊤
 HasStopped script part before after (DiskFault member) = HasFailed script part before after member
@@ -132,11 +152,11 @@ HasStopped script part before after AgesUsedUp =
     AreFoundSo script part.missing before (AreRefusedFor script Refusal.AgesUsedUp)
 
 -- which disks' calls failed in an opening that stopped so: that of the member which the stop names, and no
--- other. Nothing is said where memory was wanting.
+-- other. Where memory was wanting that is said apart too.
 abbrev pub NamesFaults : Stop → YardState → YardState → Type 0
 NamesFaults OutOfMemory before after = ⊤
 NamesFaults (DiskFault member) before after = (m : ℕ) → m ≢ member → after.faults m ≡ before.faults m
-NamesFaults stop before after = (m : ℕ) → after.faults m ≡ before.faults m
+NamesFaults stop before after = HaveNotFailed before after
 
 -- a stop at logs that are not those of one group, or of which too many are missing
 abbrev pub IsBadLogs : Stop → Type 0
@@ -156,12 +176,14 @@ IsOfLogs AgesUsedUp = ⊤
 IsOfLogs stop = ⊥
 
 -- the disks of so many of n members were mounted in an opening that stopped so, but for the missing: those below
--- one that was damaged, or that failed as it was to be mounted, and all where their logs were compared
-abbrev pub HasMounted : ℕ → ℕ → Stop → Type 0
-HasMounted n mounted OutOfMemory = ⊤
-HasMounted n mounted (DiskFault member) = (mounted ≡ member) ⊎ (mounted ≡ n)
-HasMounted n mounted (Damaged member at) = mounted ≡ member
-HasMounted n mounted stop = mounted ≡ n
+-- one that was damaged, or that failed as it was to be mounted, or for which there was no memory; and all
+-- where their logs were compared
+abbrev pub HasMounted : ℕ → ℕ → YardState → YardState → ℕ → Stop → Type 0
+HasMounted n missing before after mounted OutOfMemory =
+    ((mounted < n) × AreMountedBelow mounted missing before after) ⊎ (mounted ≡ n)
+HasMounted n missing before after mounted (DiskFault member) = (mounted ≡ member) ⊎ (mounted ≡ n)
+HasMounted n missing before after mounted (Damaged member at) = mounted ≡ member
+HasMounted n missing before after mounted stop = mounted ≡ n
 
 -- a stop that comes once all disks are mounted
 abbrev pub IsBehindMounts : Stop → Type 0
@@ -182,7 +204,7 @@ pub record HasKept (script : Script) (missing : ℕ) (before after : YardState) 
   pub since : AreKeptSince script.members missing mounted starts before after
   pub passes : PassOn starts before after
   pub untouched : AreUntouched missing before after
-  pub count : HasMounted script.members mounted stop
+  pub count : HasMounted script.members missing before after mounted stop
 
 -- a stop for want of memory, or by a disk
 abbrev pub IsOutside : Stop → Type 0

@@ -8,7 +8,7 @@
 //! script, and an opening adds 14 bytes at most besides, for an upgrade, a vote for the age and a cut: so
 //! 536,870,912 bytes leave room for all ages of a run.
 ghost use Rattle.std.specs.Prelude.{◌≡◌, ◌≢◌, ◌<◌, ℕ, [], Some, IfErr, IfOk, OnErr, false, length};
-ghost use Rattle.dr_age.specs.Logged.{AreAmple, AreOpened, HaveCome, NoneFull, NoneStopped};
+ghost use Rattle.dr_age.specs.Logged.{AreAmple, AreAsBefore, AreCalm, AreOpened, HaveCome, NoneFull, NoneStopped};
 ghost use Rattle.dr_complete.specs.Time.{HasTime};
 ghost use Rattle.dr_entry.specs.declared.limits.TheConstants.{MAX_MEMBERS};
 ghost use Rattle.dr_history.specs.Agreement.{EndsAgreed};
@@ -24,6 +24,7 @@ ghost use Rattle.dr_restart.specs.Setups.{crashes_of};
 ghost use Rattle.dr_script.specs.Ranges.{HasRanges};
 ghost use Rattle.dr_yard.specs.Yards.{AllTell, YardState, state_by};
 ghost use Rattle.dr_ages.specs.Ages.{HaveSomebodyPrompt, IsAgeOf, IsPlayed, over_of, start_of};
+ghost use Rattle.dr_ages.specs.Lacking.{LackedMemory};
 ghost use Rattle.dr_ages.specs.Lent.{AreAllBut, AreMounted, with_logs};
 ghost use Rattle.dr_ages.specs.Opened.{AreLater, HaveGoneOn};
 ghost use Rattle.dr_ages.specs.Runs.{IsRunOf};
@@ -165,6 +166,8 @@ fn run_age<R: Threads + Sync, Y: Yard, P: Pace + Sync, W: Watcher>(
         (state_by Y.told Y.faults yard.old) (state_by Y.told Y.faults yard.new)) }
     ensures stopped { IfErr result (HasStopped script.now part.now
         (state_by Y.told Y.faults yard.old) (state_by Y.told Y.faults yard.new)) }
+    ensures lacked { IfErr result (λ stop. stop ≡ stops.OutOfMemory → LackedMemory script.now part.now mode
+        (state_by Y.told Y.faults yard.old) (state_by Y.told Y.faults yard.new)) }
     ensures kept { IfErr result (HasKept script.now part.now.missing (state_by Y.told Y.faults yard.old)
         (state_by Y.told Y.faults yard.new)) }
     ensures tried { IfErr result (λ stop. AllTell script.now.members (state_by Y.told Y.faults yard.old)
@@ -209,6 +212,9 @@ fn run_over<R: Threads + Sync, D: Disk, P: Pace + Sync, W: Watcher>(
         → IsAgeOf script.now part.now mode nth before (with_logs D.told D.faults before result.1.items) age) }
     ensures stopped { IfErr result.0 (λ stop. (before : YardState) → AreMounted D.told D.faults before logs.items
         → HasStopped script.now part.now before (with_logs D.told D.faults before result.1.items) stop) }
+    ensures lacked { IfErr result.0 (λ stop. (before : YardState)
+        → AreMounted D.told D.faults before logs.items → stop ≡ stops.OutOfMemory
+        → LackedMemory script.now part.now mode before (with_logs D.told D.faults before result.1.items)) }
     ensures tried { IfErr result.0 (λ stop. (before : YardState) → AreMounted D.told D.faults before logs.items
         → AllTell script.now.members before → stop ≢ stops.OutOfMemory
         → AreTried script.now part.now.missing before (with_logs D.told D.faults before result.1.items)) }
@@ -265,6 +271,8 @@ fn play_age<R: Threads + Sync, D: Disk, P: Pace + Sync, W: Watcher>(
         → NoneFull age.members) }
     ensures members { IfOk result.0 (λ age. length age.members ≡ length logs.items) }
     ensures later { AreLater D.told D.faults [] logs.items result.1.items }
+    ensures still { OnErr result.0 (mode ≡ Sim → AreAsBefore logs.items result.1.items
+        × AreCalm D.told D.faults logs.items result.1.items) }
     ensures places { HaveSamePlaces logs.items result.1.items }
     ensures watched { IfOk result.0 (HasSeen W.opens W.sees W.closes mode script.now start.now nth
         watcher.old watcher.new) }

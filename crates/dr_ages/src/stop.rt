@@ -3,8 +3,8 @@
 //! A stop is told behind the ages that ran; with several faults the first in the order of the ages is named,
 //! and within an age one as it opened before an end. It names one disk (`NamesFaults`): where an age isn't
 //! opened no call of another has failed, and in an age each member that a disk has ended has its own end.
-//! Where memory was wanting it names none, and in threads the age is thrown away with the ends that it had;
-//! before the first age had ended nothing is said then of how many logs had been mounted.
+//! Where memory was wanting it names none, and how far the opening had come is told apart (`LackedMemory`); in
+//! threads an age that had begun is thrown away with the ends that it had.
 ghost use Rattle.std.specs.Prelude.{◌≡◌, ℕ};
 ghost use Rattle.dr_log.specs.declared.fault.MountWhy.TheVariants as whys;
 ghost use Rattle.dr_ages.specs.declared.stop.Stop.TheVariants as stops;

@@ -1,7 +1,8 @@
-use Rattle.std.proofs.Common.{refl, ◌∙◌, sym, subst, List, [], Option}
+use Rattle.std.proofs.Common.{◌≡◌, refl, ◌∙◌, sym, subst, List, [], Option}
+use Rattle.std.specs.Prelude.{OnErr}
 use Rattle.std.proofs.lemmas.List.{with_items_is}
 use Rattle.std.proofs.lemmas.Result.{IfOk-weaker}
-use Rattle.dr_age.specs.Logged.{AreAmple, AreOpened}
+use Rattle.dr_age.specs.Logged.{AreAmple, AreAsBefore, AreCalm, AreOpened}
 use Rattle.dr_log.specs.State.{LogState}
 use Rattle.dr_logged.specs.Served.{HaveSamePlaces}
 use Rattle.dr_restart.specs.Groups.{group_of}
@@ -10,7 +11,7 @@ use Rattle.dr_ages.specs.declared.mode.Mode.TheVariants.{Sim, Run}
 use Rattle.dr_ages.specs.Opened.{AreLater}
 use Rattle.dr_ages.specs.Watched.{HasSeen}
 use Rattle.dr_ages.proofs.Completing.{complete_by_time}
-use Rattle.dr_ages.proofs.Played.{RanWith, later_by_longer, later_by_result, later_by_run}
+use Rattle.dr_ages.proofs.Played.{RanWith, later_by_longer, later_by_result, later_by_run, still_by_result}
 use Rattle.dr_ages.proofs.ages.play_age.Goals as goal
 
 pub returns-in-Sim-clause-run : goal.returns-in-Sim-clause-run
@@ -77,6 +78,23 @@ returns-in-Sim-clause-later g c =
     (later_by_result told faults c.args.script.now c.args.start.now c.args.nth Sim c.as_mut_slice.result.now
     c.watch_age.new.logs c.watch_age.result c.requires.ranges c.requires.group opened c.watch_age.ensures.logged
     c.watch_age.ensures.kept c.watch_age.ensures.calm))
+
+pub returns-in-Sim-clause-still : goal.returns-in-Sim-clause-still
+returns-in-Sim-clause-still g c =
+    let told = g.D.Disk.told in
+    let faults = g.D.Disk.faults in
+    let items = with_items_is c.args.logs c.watch_age.new.logs
+    (c.watch_age.ensures.places.all ∙ c.as_mut_slice.ensures.len) in
+    subst (λ (l : List (Option (LogState g.row.D.Denot))). OnErr c.watch_age.result (c.args.mode ≡ Sim
+    → AreAsBefore c.args.logs.items l × AreCalm told faults c.args.logs.items l)) (sym items)
+    (subst (λ (l : List (Option (LogState g.row.D.Denot))). OnErr c.watch_age.result (c.args.mode ≡ Sim
+    → AreAsBefore l c.watch_age.new.logs × AreCalm told faults l c.watch_age.new.logs))
+    c.as_mut_slice.ensures.value
+    (still_by_result told faults c.args.mode c.as_mut_slice.result.now c.watch_age.new.logs c.watch_age.result
+    c.watch_age.ensures.kept c.watch_age.ensures.calm))
+
+pub returns-in-Err-clause-still : goal.returns-in-Err-clause-still
+returns-in-Err-clause-still g c simulated = absurd (cc (simulated, c.in-Run.is))
 
 pub returns-in-Sim-clause-places : goal.returns-in-Sim-clause-places
 returns-in-Sim-clause-places g c =

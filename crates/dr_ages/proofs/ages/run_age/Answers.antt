@@ -1,4 +1,4 @@
-use Rattle.std.proofs.Common.{◌≡◌, ◌⊎◌, ◌∙◌, refl, sym, ap, subst, ⊎_elim, inl, inr, ℕ, ◌<◌, ◌≤◌, Bool, true, false, List, [], length, arith}
+use Rattle.std.proofs.Common.{◌≡◌, ◌⊎◌, ◌∙◌, refl, subst, ⊎_elim, inl, inr, ℕ, ◌<◌, ◌≤◌, Bool, true, false, List, [], length, arith}
 use Rattle.std.specs.Prelude.{not, Option, None}
 use Rattle.std.proofs.lemmas.Bool.{cases_lt}
 use Rattle.std.proofs.lemmas.Result.{IfErr-weaker, IfOk-weaker}
@@ -11,6 +11,7 @@ use Rattle.dr_opening.specs.Lists.{contents_of, log_of}
 use Rattle.dr_script.specs.declared.script.Script.{Script}
 use Rattle.dr_yard.specs.Yards.{YardState, state_by}
 use Rattle.dr_ages.specs.Ages.{IsAgeOf}
+use Rattle.dr_ages.specs.Lacking.{LackedMemory}
 use Rattle.dr_ages.specs.Lent.{AreAllBut, AreMounted, with_logs}
 use Rattle.dr_ages.specs.Opened.{AreChosenOf}
 use Rattle.dr_ages.specs.Passing.{AreUntouched, GoesOn}
@@ -18,7 +19,8 @@ use Rattle.dr_ages.specs.Stops.{AreChosenIn, HasStopped, NamesFaults}
 use Rattle.dr_ages.specs.Tried.{AreTried}
 use Rattle.dr_ages.proofs.Backs.{AreAllBack, after_is, faults_at, faults_none, kept_back, later_back, log_at, missing_at, none_at, passed_back, place_past, same_places, stays_none, told_none, was_none}
 use Rattle.dr_ages.proofs.Chain.{none_kept}
-use Rattle.dr_ages.proofs.Loans.{are_found, lent_later, refused_mounted, refused_names, refused_stop, stopped_mounted}
+use Rattle.dr_ages.proofs.Lacking.{lacked_first, lacked_mount}
+use Rattle.dr_ages.proofs.Loans.{are_found, lent_later, mounted_below, refused_mounted, refused_names, refused_stop, stopped_mounted}
 use Rattle.dr_ages.proofs.Opening.{on_still}
 use Rattle.dr_ages.proofs.Staying.{on_alike}
 use Rattle.dr_ages.proofs.Tried.{mounted_tried}
@@ -106,6 +108,22 @@ whole_yard g c news same places all rest = after_is g.Y.Store.Disk.told g.Y.Stor
     (was_none c.mount_all.new.logs.items news m places none))
     (back g c news same)
 
+-- of a disk below the one that was refused none failed
+low : (g : Over) (c : After-give_all_back g) (m : ℕ) → m < length c.mount_all.new.logs.items
+    → (b : Bool) → has c.args.part.now.missing m ≡ b
+    → AreAllBack g.Y.Store.Disk.told g.Y.Store.Disk.faults (mid g c) (after g c) c.mount_all.new.logs.items
+    → (after g c).faults m ≡ (before g c).faults m
+low g c m l true gone are_back =
+    let logs : Logs g = c.mount_all.new.logs.items in
+    (are_back m).1 ∙ (faults_none g.Y.Store.Disk.told g.Y.Store.Disk.faults (mid g c) logs m
+    (none_at c.args.part.now.missing logs m c.mount_all.ensures.places gone)
+    ∙ (c.mount_all.ensures.untouched m gone).1)
+low g c m l false there are_back =
+    let logs : Logs g = c.mount_all.new.logs.items in
+    let log = log_at c.args.part.now.missing logs m c.mount_all.ensures.places l there in
+    (are_back m).1 ∙ (faults_at g.Y.Store.Disk.told g.Y.Store.Disk.faults (mid g c) logs m log.0 log.1
+    ∙ (c.mount_all.ensures.mounted m log.0 log.1).calm)
+
 -- the disks of the members whose logs were not mounted go on
 on : (g : Over) (c : After-give_all_back g) (starts : List (List Entry)) (m : ℕ)
     → log_of c.mount_all.new.logs.items m ≡ None
@@ -175,7 +193,8 @@ returns-clause-kept g c = elim c.match-mount_all.branch [
             c.mount_all.ensures.mounted w.run_over.ensures.later.2 w.run_over.ensures.places (on g c starts) are_back;
         untouched = untouched_back told faults missing (before g c) (mid g c) (after g c) olds news
             c.mount_all.ensures.places w.run_over.ensures.places c.mount_all.ensures.untouched are_back;
-        count = stopped_mounted script.members (length olds) stop w.in-Ok-mount_all.ensures.all so;
+        count = stopped_mounted script.members missing (before g c) (after g c) (length olds) stop
+            w.in-Ok-mount_all.ensures.all so;
       }) w.run_over.ensures.behind)
   | in-Err w ↦
       let told = g.Y.Store.Disk.told in
@@ -195,14 +214,50 @@ returns-clause-kept g c = elim c.match-mount_all.branch [
             c.mount_all.ensures.mounted (on_still told faults [] logs) (same_places logs) (on g c []) are_back;
         untouched = untouched_back told faults missing (before g c) (mid g c) (after g c) logs logs
             c.mount_all.ensures.places (same_places logs) c.mount_all.ensures.untouched are_back;
-        count = refused_mounted members missing (length logs) (before g c) (mid g c) w.in-Err.stop
-            w.in-Err.ensures.stopped;
+        count = refused_mounted members missing (length logs) (before g c) (mid g c) (after g c) w.in-Err.stop
+            (mounted_below told faults missing (before g c) (mid g c) (after g c) logs
+            c.mount_all.ensures.mounted c.mount_all.ensures.places are_back) w.in-Err.ensures.stopped;
       })
 ]
+
+-- how far it had come where memory was wanting
+pub returns-clause-lacked : goal.returns-clause-lacked
+returns-clause-lacked g c = elim c.match-mount_all.branch [
+  | in-Ok-mount_all w ↦
+      let is = whole_yard g c w.run_over.result.1.items (rw w.ended-is refl) w.run_over.ensures.places
+      w.in-Ok-mount_all.ensures.all w.in-Ok-mount_all.ensures.rest in
+      rw w.ended-is (IfErr-weaker w.run_over.result.0 _ _
+      (λ stop so same. subst (λ (y : YardState).
+      LackedMemory c.args.script.now c.args.part.now c.args.mode (before g c) y) is
+      (so (before g c) c.mount_all.ensures.mounted same))
+      w.run_over.ensures.lacked)
+  | in-Err w ↦
+      let told = g.Y.Store.Disk.told in
+      let faults = g.Y.Store.Disk.faults in
+      let missing = c.args.part.now.missing in
+      let logs : Logs g = c.mount_all.new.logs.items in
+      let are_back = back g c logs (rw w.ended-is refl) in
+      rw w.ended-is (lacked_mount c.args.script.now c.args.part.now c.args.mode (length logs) (before g c)
+      (mid g c) (after g c) w.in-Err.stop
+      (mounted_below told faults missing (before g c) (mid g c) (after g c) logs c.mount_all.ensures.mounted
+      c.mount_all.ensures.places are_back)
+      (kept_back told faults c.args.script.now.members missing [] (before g c) (mid g c) (after g c)
+      logs logs c.mount_all.ensures.mounted c.mount_all.ensures.places (on_still told faults [] logs)
+      (same_places logs) c.mount_all.ensures.on are_back)
+      (λ m l. low g c m l (has missing m) refl are_back)
+      (λ m past. (are_back m).1 ∙ faults_none told faults (mid g c) logs m (place_past logs m past))
+      w.in-Err.ensures.stopped)
+]
+
+pub returns-in_default-clause-lacked : goal.returns-in_default-clause-lacked
+returns-in_default-clause-lacked g c same =
+    lacked_first c.args.script.now c.args.part.now c.args.mode
+    (state_by g.Y.Yard.told g.Y.Yard.faults c.args.yard.now) c.requires.ranges.group.some_member
 
 pub returns-in_default-clause-kept : goal.returns-in_default-clause-kept
 returns-in_default-clause-kept g c =
     none_kept c.args.script.now c.args.part.now.missing (state_by g.Y.Yard.told g.Y.Yard.faults c.args.yard.now)
+    c.requires.ranges.group.some_member
 
 pub returns-clause-tried : goal.returns-clause-tried
 returns-clause-tried g c = elim c.match-mount_all.branch [
@@ -240,22 +295,6 @@ returns-clause-names g c = elim c.match-mount_all.branch [
       (λ m past. (are_back m).1 ∙ faults_none told faults (mid g c) logs m (place_past logs m past))
       w.in-Err.ensures.stopped)
 ]
-  where
-    -- of a disk below the one that was refused none failed
-    low : (g : Over) (c : After-give_all_back g) (m : ℕ) → m < length c.mount_all.new.logs.items
-        → (b : Bool) → has c.args.part.now.missing m ≡ b
-        → AreAllBack g.Y.Store.Disk.told g.Y.Store.Disk.faults (mid g c) (after g c) c.mount_all.new.logs.items
-        → (after g c).faults m ≡ (before g c).faults m
-    low g c m l true gone are_back =
-        let logs : Logs g = c.mount_all.new.logs.items in
-        (are_back m).1 ∙ (faults_none g.Y.Store.Disk.told g.Y.Store.Disk.faults (mid g c) logs m
-        (none_at c.args.part.now.missing logs m c.mount_all.ensures.places gone)
-        ∙ (c.mount_all.ensures.untouched m gone).1)
-    low g c m l false there are_back =
-        let logs : Logs g = c.mount_all.new.logs.items in
-        let log = log_at c.args.part.now.missing logs m c.mount_all.ensures.places l there in
-        (are_back m).1 ∙ (faults_at g.Y.Store.Disk.told g.Y.Store.Disk.faults (mid g c) logs m log.0 log.1
-        ∙ (c.mount_all.ensures.mounted m log.0 log.1).calm)
 
 pub returns-clause-watched : goal.returns-clause-watched
 returns-clause-watched g c = elim c.match-mount_all.branch [

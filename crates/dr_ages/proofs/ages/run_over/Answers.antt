@@ -1,6 +1,7 @@
 use Rattle.std.proofs.Common.{◌≡◌, ◌<◌, ◌∙◌, refl, sym, ap, subst, inr, length, ℕ, List, [], ◌∷◌, Option}
+use Rattle.std.specs.Prelude.{OnErr}
 use Rattle.std.proofs.lemmas.List.{with_items_is}
-use Rattle.dr_age.specs.Logged.{AreAmple, AreOpened, HaveCome}
+use Rattle.dr_age.specs.Logged.{AreAmple, AreAsBefore, AreCalm, AreOpened, HaveCome}
 use Rattle.dr_log.specs.State.{LogState}
 use Rattle.dr_logged.specs.Served.{HaveSamePlaces}
 use Rattle.dr_opening.specs.Lists.{SomebodyPrompt, contents_of, log_of}
@@ -9,17 +10,20 @@ use Rattle.dr_opening.specs.Tries.{IsChosenOf}
 use Rattle.dr_opening.specs.Unopened.{IsWhyUnopened}
 use Rattle.dr_restart.specs.declared.start.Start.{Start}
 use Rattle.dr_restart.specs.Groups.{first_group_of, group_of}
+use Rattle.dr_ages.specs.declared.mode.Mode.TheVariants.{Sim}
 use Rattle.dr_ages.specs.declared.stop.Stop.{Stop}
 use Rattle.dr_ages.specs.Ages.{over_of}
+use Rattle.dr_ages.specs.Lacking.{LackedMemory}
 use Rattle.dr_ages.specs.Lent.{with_logs}
 use Rattle.dr_ages.specs.Opened.{AreLater, HaveGoneOn}
 use Rattle.dr_ages.specs.Stops.{HasStopped, IsBehindMounts, NamesFaults}
 use Rattle.dr_ages.specs.Tried.{AreTried}
 use Rattle.dr_ages.specs.Watched.{HasSeen}
 use Rattle.dr_ages.proofs.Backs.{places_then}
+use Rattle.dr_ages.proofs.Lacking.{lacked_age, lacked_opening}
 use Rattle.dr_ages.proofs.Loans.{contents_there}
 use Rattle.dr_ages.proofs.Opening.{are_opened, gone_on, opened_on, opened_places, why_places}
-use Rattle.dr_ages.proofs.Played.{is_age, later_on, ok_at, same_start, somebody_prompt}
+use Rattle.dr_ages.proofs.Played.{err_at, is_age, later_on, ok_at, same_start, somebody_prompt}
 use Rattle.dr_ages.proofs.Staying.{later_by_all}
 use Rattle.dr_ages.proofs.Stopping.{why_behind, why_names, why_stops}
 use Rattle.dr_ages.proofs.Tried.{why_tried}
@@ -81,6 +85,17 @@ returns-in-Err-clause-stopped g c before mounted =
     (sym c.of_unopened.ensures)
     (why_stops told faults script c.args.part.now before c.args.logs.items c.open_age.new.logs c.in-Err.why c.requires.all
     mounted c.requires.places (why g c)))
+
+pub returns-in-Err-clause-lacked : goal.returns-in-Err-clause-lacked
+returns-in-Err-clause-lacked g c before mounted same =
+    let told = g.D.Disk.told in
+    let faults = g.D.Disk.faults in
+    let script = c.args.script.now in
+    subst (λ (l : Logs g).
+    LackedMemory script c.args.part.now c.args.mode before (with_logs told faults before l))
+    (sym (with_items_is c.args.logs c.open_age.new.logs (as_many g c ∙ c.as_mut_slice.ensures.len)))
+    (lacked_opening told faults script c.args.part.now c.args.mode before c.args.logs.items
+    c.open_age.new.logs c.in-Err.why c.requires.all mounted c.requires.places (why g c) (sym c.of_unopened.ensures ∙ same))
 
 pub returns-in-Err-clause-names : goal.returns-in-Err-clause-names
 returns-in-Err-clause-names g c before mounted =
@@ -235,3 +250,28 @@ returns-in-Ok-ended-clause-places g c =
 
 pub returns-clause-places : goal.returns-clause-places
 returns-clause-places g c = same_places g (goal.at.returns-clause-places g c).After-play_age-ended
+
+-- no end of it is told, as memory was wanting
+pub returns-clause-lacked : goal.returns-clause-lacked
+returns-clause-lacked g c before mounted same =
+    let told = g.D.Disk.told in
+    let faults = g.D.Disk.faults in
+    let script = c.args.script.now in
+    let start = c.in-Ok.start in
+    let olds : Logs g = c.args.logs.items in
+    let mids : Logs g = c.open_age.new.logs in
+    let news : Logs g = c.play_age-ended.result.1.items in
+    let a = (goal.at.returns-clause-lacked g c).After-play_age-ended in
+    let items = with_items_is c.args.logs mids (same_logs g a ∙ c.as_mut_slice.ensures.len) in
+    lacked_age told faults script c.args.part.now c.args.mode before start olds mids news (record {
+      all = c.requires.all;
+      mounted = mounted;
+      but = c.requires.places;
+      chosen = chosen g a;
+      members = c.in-Ok.ensures.members;
+    }) (began g a)
+    (subst (λ (l : Logs g). AreLater told faults [] l news) items c.play_age-ended.ensures.later)
+    (subst (λ (l : Logs g). HaveSamePlaces l news) items c.play_age-ended.ensures.places)
+    (err_at _ c.play_age-ended.result.0 _ c.in-Err-ended.is
+    (subst (λ (l : Logs g). OnErr c.play_age-ended.result.0 (c.args.mode ≡ Sim
+    → AreAsBefore l news × AreCalm told faults l news)) items c.play_age-ended.ensures.still))

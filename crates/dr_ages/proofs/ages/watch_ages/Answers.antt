@@ -1,5 +1,6 @@
 use Rattle.std.proofs.Common.{◌≡◌, ◌∙◌, refl, sym, ap, subst, arith, rules, List, [], ◌∷◌, ◌++◌, length, length-append}
 use Rattle.std.specs.Prelude.{None, Some}
+use Rattle.std.proofs.lemmas.Option.{same_Some}
 use Rattle.dr_entry.specs.declared.end.AgeEnd.{AgeEnd}
 use Rattle.dr_yard.specs.Yards.{YardState, state_by}
 use Rattle.dr_ages.specs.declared.stop.Stop.TheVariants.{OutOfMemory}
@@ -7,6 +8,7 @@ use Rattle.dr_ages.specs.Ages.{AreAges}
 use Rattle.dr_ages.specs.Runs.{IsRunOf}
 use Rattle.dr_ages.specs.Watched.{AreWatched}
 use Rattle.dr_ages.proofs.Chain.{ages_more, none_kept}
+use Rattle.dr_ages.proofs.Lacking.{lacked_first}
 use Rattle.dr_ages.proofs.Runs.{a_run}
 use Rattle.dr_ages.proofs.Watching.{watched_more}
 use Rattle.dr_ages.proofs.ages.watch_ages.Goals as goal
@@ -38,13 +40,14 @@ pub returns-in_default-clause-run : goal.returns-in_default-clause-run
 returns-in_default-clause-run g c =
     let part = c.args.part.now in
     let before : YardState = state_by g.Y.Yard.told g.Y.Yard.faults c.args.yard.now in
-    let kept = none_kept c.args.script.now part.missing before in
+    let kept = none_kept c.args.script.now part.missing before c.requires.ranges.group.some_member in
     subst (λ (ages : List AgeEnd).
     IsRunOf c.args.script.now part c.args.mode before before ages (Some OutOfMemory))
     (sym (c.of.ensures ∙ c.new.ensures.items))
     (a_run c.args.script.now part c.args.mode before [] before before (Some OutOfMemory) kept.starts
     c.requires.ranges refl (omega (arith, c.requires.ranges.some_age), tt, kept.chosen, kept.passes, tt) (kept, refl)
-    (λ tell other. absurd (other refl)))
+    (λ tell other. absurd (other refl))
+    (λ same. lacked_first c.args.script.now part c.args.mode before c.requires.ranges.group.some_member))
 
 pub returns-in-Err-clause-run : goal.returns-in-Err-clause-run
 returns-in-Err-clause-run g c =
@@ -63,7 +66,8 @@ returns-in-Err-clause-run g c =
       c.in-Err.ensures.kept.passes,
       c.in-Err.ensures.names,
     )
-    (c.in-Err.ensures.kept, refl) c.in-Err.ensures.tried)
+    (c.in-Err.ensures.kept, refl) c.in-Err.ensures.tried
+    (λ same. c.in-Err.ensures.lacked (same_Some c.in-Err.stop OutOfMemory same)))
 
 pub returns-clause-run : goal.returns-clause-run
 returns-clause-run g c =
@@ -74,7 +78,8 @@ returns-clause-run g c =
     (sym c.of-2.ensures)
     (a_run c.args.script.now part c.args.mode before c.loop-nth.ages.items last last None [] c.requires.ranges
     c.loop-nth.invariant.3
-    (omega (arith, c.loop-nth.invariant.0, c.loop-nth-test.false, c.loop-nth.auto.nth-end), refl, refl) tt tt)
+    (omega (arith, c.loop-nth.invariant.0, c.loop-nth-test.false, c.loop-nth.auto.nth-end), refl, refl) tt tt
+    (λ same. absurd (cc (same))))
 
 pub returns-in_default-clause-watched : goal.returns-in_default-clause-watched
 returns-in_default-clause-watched g c =

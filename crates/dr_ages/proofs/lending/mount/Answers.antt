@@ -27,7 +27,7 @@ returns-in-Err-clause-stopped g c =
     (c.in-Err.ensures.damaged at e))
     (λ at e. c.give_back.ensures.told
     ∙ (c.in-Err.ensures.left_damaged at e ∙ ap (added Sync) c.in-Ok.ensures.told))
-    (λ at e. c.give_back.ensures.counted ∙ (c.in-Err.ensures.calm_err (λ d. absurd (cc (e, d)))
+    (λ other. c.give_back.ensures.counted ∙ (c.in-Err.ensures.calm_err other
     ∙ (c.in-Ok.ensures.count ∙ c.in-Ok.ensures.cause.calm)))
 
 pub returns-in-Ok-mount-clause-mounted : goal.returns-in-Ok-mount-clause-mounted
