@@ -1,5 +1,4 @@
-//! Judges the report of a run that somebody hands in: whether its text is one, and the first thing that is wrong
-//! with it.
+//! Judges the report of a run that somebody hands in.
 //!
 //! A [`Report`] has the values of a report's text. [`judge`] finds the first flaw of one, clause by clause:
 //! the definitions in `specs/` say what each clause is.

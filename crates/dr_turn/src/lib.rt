@@ -1,4 +1,4 @@
-//! The theory of turns: the search for the next place, and the bound on the deeds that are left.
+//! The theory of turns.
 #![tactic(auto)]
 
 mod laws;
