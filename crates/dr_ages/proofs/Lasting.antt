@@ -269,7 +269,7 @@ left_logs script part mode nth before yard age logs ranges is chosen h = record 
         on = at;
         base = is.begun m;
         opened = is.begins m first at;
-        leaves = image_leaves t may.image x.r.replica may.content (is.begun m) may.is may.stands left;
+        leaves = image_leaves t may.image x.r may.content (is.begun m) may.is may.stands left;
       },
       here ∙ ap Some (sym may.lists),
     )
