@@ -6,11 +6,14 @@ use Rattle.std.specs.declared.alloc.Global.{Global}
 use Rattle.dr_io.specs.Faults.{Rose}
 use Rattle.dr_io.specs.Sink.{Gains}
 use Rattle.dr_io.specs.Source.{Loses}
-use Rattle.dr_script.specs.Reading.{Reading, reading_of}
+use Rattle.dr_script.specs.declared.script.Script.{Script}
+use Rattle.dr_script.specs.Reading.{Reading, Reads}
 use Rattle.dr_text.specs.declared.last.Last.{Last}
 use Rattle.dr_text.specs.declared.last.Last.TheVariants as lasts
 use Rattle.dr_text.specs.Report.{last_text}
-use Rattle.dr_intake.specs.Reading.{WasRead}
+use Rattle.dr_intake.specs.declared.call.Unread.{Unread}
+use Rattle.dr_intake.specs.declared.call.Unread.TheVariants as reasons
+use Rattle.dr_intake.specs.Reading.{WasRead, refusal_in}
 use Rattle.dr_intake.specs.Status.{WroteText, status_of}
 
 -- what was read for a command: what was left, as far as a script goes, or nothing, where it does not read
@@ -60,21 +63,31 @@ abbrev pub ToldBy : (Said → Type 0) → Option (List ℕ) → Option (List ℕ
 ToldBy Is held holds fell falls status =
     ((status ≡ 10) × Gains held holds []) ⊎ WroteAnswer Is held holds fell falls status
 
--- ---- programs that take no words, and say something of what their source has
+-- ---- calls that say something of what their source has
+
+-- what such a call has to say, by what its words ask for and by what it says of what was read
+abbrev pub IsCallAnswer : {C : Type 0} → List ℕ → (C → List ℕ → Said → Type 0) → Option C → Option (List ℕ)
+    → Option (List ℕ) → ℕ → ℕ → Said → Type 0
+IsCallAnswer usage_text Says asked =
+    IsAnswer (λ command. true) (λ line said. IsSomeAnd line (λ l. IsLine usage_text l said)) Says asked
+
+-- the last line of such a call that reads nothing: none where memory was wanting
+abbrev pub unread_line : Unread → Option Last
+unread_line reasons.Usage = Some lasts.Usage
+unread_line reasons.SourceFault = Some lasts.SourceFault
+unread_line reasons.OutOfMemory = None
+
+-- why it does
+abbrev pub IsUnread : {C : Type 0} → Option C → Option (List ℕ) → Option (List ℕ) → ℕ → ℕ → Unread → Type 0
+IsUnread asked = IsAnswer (λ command. true) (λ line why. line ≡ unread_line why) (λ command bytes why. ⊥) asked
+
+-- what is said of what was read: this of a script, and of a text that is none the line by which it is refused
+abbrev pub SaysOf : (Script → Said → Type 0) → Reading → Said → Type 0
+SaysOf Says (Reads script) said = Says script said
+SaysOf Says refused said =
+    IsSomeAnd (refusal_in refused) (λ line. (said.0 ≡ last_text line) × (said.1 ≡ status_of line))
 
 -- the one command that no words ask for
 abbrev pub wordless : List (String Global) → Option ⊤
 wordless [] = Some tt
 wordless (word ∷ words) = None
-
--- what such a call has to say, by what it says of what was read
-abbrev pub IsAnswerBy : List ℕ → (Reading → List ℕ → ℕ → Type 0) → List (String Global) → Option (List ℕ)
-    → Option (List ℕ) → ℕ → ℕ → Said → Type 0
-IsAnswerBy usage_text Says words =
-    IsAnswer (λ command. true) (λ line said. IsSomeAnd line (λ l. IsLine usage_text l said))
-    (λ command bytes said. Says (reading_of bytes) said.0 said.1) (wordless words)
-
--- what it says where no script is read
-abbrev pub IsUnread : List ℕ → List (String Global) → Option (List ℕ) → Option (List ℕ) → ℕ → ℕ → Said
-    → Type 0
-IsUnread usage_text = IsAnswerBy usage_text (λ reading text status. ⊥)

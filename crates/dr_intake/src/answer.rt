@@ -1,14 +1,12 @@
-ghost use Rattle.std.specs.Prelude.{◌≡◌, ◌⊎◌, [], Some, IfOk, IsErrOf, string_bytes};
+ghost use Rattle.std.specs.Prelude.{◌≡◌, ◌⊎◌, [], IfErr, IfOk, IsSomeAnd, string_bytes};
+ghost use Rattle.dr_io.specs.Sink.{Gains};
 ghost use Rattle.dr_text.specs.Report.{last_text};
-ghost use Rattle.dr_intake.specs.declared.answer.Answer.{Answer as AnswerOf};
-ghost use Rattle.dr_intake.specs.Answer.{IsUnread};
-ghost use Rattle.dr_intake.specs.Reading.{WasRead};
+ghost use Rattle.dr_intake.specs.Answer.{IsLine, unread_line};
 ghost use Rattle.dr_intake.specs.Status.{WroteText, status_of};
 
-use crate::reading::{ReadFault, read_all};
-use crate::script::READ_LIMIT;
-use crate::status::{USAGE, WRITE_FAULT, status_of};
-use dr_io::{Sink, Source};
+use crate::call::Unread;
+use crate::status::{OUT_OF_MEMORY, USAGE, WRITE_FAULT, status_of};
+use dr_io::Sink;
 use dr_text::{Last, push_last, write_all};
 use std::alloc::{AllocError, Global};
 
@@ -37,6 +35,51 @@ impl Answer {
         })
     }
 
+    /// How a program is called.
+    ///
+    /// # Errors
+    ///
+    /// Want of memory alone.
+    pub fn of_usage(alloc: Global, usage: &str) -> Result<Answer, AllocError>
+        ensures { IfOk result (λ a. IsLine usage.now Last.Usage (string_bytes a.text, a.status)) }
+    {
+        Ok(Answer {
+            text: String::from_str(alloc, usage)?,
+            status: USAGE,
+        })
+    }
+
+    /// What is to be said of a call that reads nothing.
+    ///
+    /// # Errors
+    ///
+    /// Want of memory alone, of which also the call may tell.
+    pub fn of_unread(alloc: Global, usage: &str, why: Unread) -> Result<Answer, AllocError>
+        ensures { IfOk result (λ a. IsSomeAnd (unread_line why)
+            (λ l. IsLine usage.now l (string_bytes a.text, a.status))) }
+    {
+        match why {
+            Unread::Usage => Answer::of_usage(alloc, usage),
+            Unread::SourceFault => Answer::of_line(alloc, &Last::SourceFault),
+            Unread::OutOfMemory => Err(AllocError),
+        }
+    }
+
+    /// The last line by which a text is refused that is no script.
+    ///
+    /// # Errors
+    ///
+    /// Want of memory alone: also where there is no line.
+    pub fn of_refusal(alloc: Global, line: Option<Last>) -> Result<Answer, AllocError>
+        ensures { IfOk result (λ a. IsSomeAnd line
+            (λ l. (string_bytes a.text ≡ last_text l) × (a.status ≡ status_of l))) }
+    {
+        match line {
+            Some(line) => Answer::of_line(alloc, &line),
+            None => Err(AllocError),
+        }
+    }
+
     /// Writes the text, and answers the status with which the program ends then.
     pub fn write<K: Sink>(&self, sink: &mut K) -> u8
         ensures wrote { WroteText (K.held sink.old) (K.held sink.new)
@@ -52,39 +95,17 @@ impl Answer {
     }
 }
 
-/// The bytes of a script, of a call that takes no words.
-///
-/// # Errors
-///
-/// The answer to words, which is how the program is called, and to a source that failed; none where memory was
-/// wanting.
-pub fn bytes_or_answer<S: Source>(
-    alloc: Global,
-    usage: &str,
-    words: &[String],
-    source: &mut S,
-) -> Result<Vec<u8>, Option<Answer>>
-    ensures wordless { IfOk result (λ _. words.now ≡ []) }
-    ensures bytes { IfOk result (λ v. WasRead (S.left source.old) (S.left source.new) v.items) }
-    ensures calm { IfOk result (λ _. S.faults source.new ≡ S.faults source.old) }
-    ensures answer { (a : AnswerOf) → IsErrOf result (Some a) → IsUnread usage.now words.now
-        (S.left source.old) (S.left source.new) (S.faults source.old) (S.faults source.new)
-        (string_bytes a.text, a.status) }
-    ensures told { (a : AnswerOf) → IsErrOf result (Some a)
-        → (S.faults source.new ≡ S.faults source.old) ⊎ (a.status ≡ 4) }
+/// Writes what is to be said, and answers the status with which the program ends then: where memory was wanting
+/// nothing is said.
+pub fn tell<K: Sink>(answer: Result<Answer, AllocError>, sink: &mut K) -> u8
+    ensures wrote { IfOk answer (λ a. WroteText (K.held sink.old) (K.held sink.new)
+        (K.faults sink.old) (K.faults sink.new) result a.status (string_bytes a.text)) }
+    ensures wanting { IfErr answer (λ _. (result ≡ 10) × Gains (K.held sink.old) (K.held sink.new) []) }
+    // No fault is hidden.
+    ensures told { (K.faults sink.new ≡ K.faults sink.old) ⊎ (result ≡ 5) }
 {
-    if !words.is_empty() {
-        return match String::from_str(alloc, usage) {
-            Ok(text) => Err(Some(Answer {
-                text,
-                status: USAGE,
-            })),
-            Err(_) => Err(None),
-        };
-    }
-    match read_all(alloc, source, READ_LIMIT) {
-        Ok(bytes) => Ok(bytes),
-        Err(ReadFault::Failed) => Err(Answer::of_line(alloc, &Last::SourceFault).ok()),
-        Err(ReadFault::OutOfMemory) => Err(None),
+    match answer {
+        Ok(answer) => answer.write(sink),
+        Err(_) => OUT_OF_MEMORY,
     }
 }

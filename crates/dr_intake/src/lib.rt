@@ -7,12 +7,14 @@
 #![tactic(auto)]
 
 mod answer;
+mod call;
 mod reading;
 mod script;
 mod status;
 mod words;
 
-pub use answer::{Answer, bytes_or_answer};
+pub use answer::{Answer, tell};
+pub use call::{Unread, read_for, wordless};
 pub use reading::{ReadFault, read_all};
 pub use script::{READ_LIMIT, script_or_refusal};
 pub use status::{

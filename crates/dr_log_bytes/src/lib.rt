@@ -3,7 +3,7 @@
 //! A log is eight bytes, then for each record a gate byte 1 and the record, then a closed gate. Its entries are
 //! made by the records in order: an entry is appended, and a cut keeps the first ones. This crate knows no disk.
 //!
-//! `derecho_log` reads logs by it. What is on a log (`OnLog`) is its entries, votes and votes for ages, each
+//! `derecho_tools log` reads by it. What is on a log (`OnLog`) is its entries, votes and votes for ages, each
 //! kind a list of its own, its format and its length; records make it one after the other, so the order
 //! between kinds is on the disk alone. An entry that was cut is on the log no more, though its bytes are: so
 //! the length is what the records make, and no less than that of what is there (`least_length`, also over a

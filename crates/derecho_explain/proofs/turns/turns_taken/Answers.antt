@@ -1,9 +1,0 @@
-use Rattle.dr_complete.specs.Enough.{turns_enough}
-use Rattle.derecho_explain.specs.Turns.{calm_group}
-use Rattle.derecho_explain.proofs.Calm.{taken_by}
-use Rattle.derecho_explain.proofs.turns.turns_taken.Goals as goal
-
-pub returns : goal.returns
-returns c =
-    taken_by c.fewest.result (calm_group c.args.script) c.calm_script-calm.result (turns_enough c.args.script)
-    c.calm_script-calm.ensures.calm c.fewest.ensures

@@ -1,5 +1,0 @@
-use Rattle.derecho_log.proofs.Lines.{few_enough}
-use Rattle.derecho_log.proofs.text.answer_for.Goals as goal
-
-pub returns : goal.returns
-returns c = few_enough c.log_text.result c.args.bytes.now c.if-bytes-gt-LONGEST_LOG.false c.log_text.ensures

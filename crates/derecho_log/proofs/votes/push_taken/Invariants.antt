@@ -1,9 +1,0 @@
-use Rattle.std.proofs.Common.{◌≡◌, ◌++◌, string_bytes, take}
-use Rattle.std.specs.List.{enumerate_from, flat_map}
-use Rattle.derecho_log.specs.Text.{taken_text}
-use Rattle.derecho_log.proofs.votes.push_taken.Given as goal
-
-abbrev pub invariant-loop-number : goal.invariant-loop-number
-invariant-loop-number l =
-    string_bytes l.out ≡ string_bytes l.initial.out
-    ++ flat_map (λ t. taken_text t.0 t.1) (enumerate_from 0 (take l.number l.counts))

@@ -1,7 +1,0 @@
-use Rattle.std.proofs.Common.{◌≡◌, ◌++◌, string_bytes, take}
-use Rattle.derecho_summary.specs.Summary.{ages_text}
-use Rattle.derecho_summary.proofs.ages.push_ages.Given as goal
-
-abbrev pub invariant-loop-nth : goal.invariant-loop-nth
-invariant-loop-nth l =
-    string_bytes l.out ≡ string_bytes l.initial.out ++ ages_text l.script (take l.nth l.ages)

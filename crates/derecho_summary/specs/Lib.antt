@@ -1,4 +1,0 @@
-pub mod Words
-pub mod Summary
-pub mod Object
-pub mod Answer

@@ -1,7 +1,0 @@
-mod Counting
-mod Seeds
-mod Simulating
-mod Whole
-mod Answers
-mod Keeping
-mod Calls

@@ -1,7 +1,0 @@
-use Rattle.std.proofs.Common.{◌≡◌, ◌++◌, string_bytes, take}
-use Rattle.derecho_sweep.specs.Outcomes.{members_endings}
-use Rattle.derecho_sweep.proofs.outcomes.push_members.Given as goal
-
-abbrev pub invariant-loop-number : goal.invariant-loop-number
-invariant-loop-number l =
-    string_bytes l.out ≡ string_bytes l.initial.out ++ members_endings (take l.number l.members)

@@ -1,6 +1,0 @@
-use Rattle.std.proofs.Common.{◌≡◌, take}
-use Rattle.derecho_sweep.specs.Parts.{kept}
-use Rattle.derecho_sweep.proofs.parts.kept_faults.Given as goal
-
-abbrev pub invariant-loop-index : goal.invariant-loop-index
-invariant-loop-index l = l.out.items ≡ kept l.keeps (take l.index l.faults)

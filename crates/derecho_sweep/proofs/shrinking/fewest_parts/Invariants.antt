@@ -1,8 +1,0 @@
-use Rattle.derecho_sweep.specs.Shrinking.{EndsSoWith}
-use Rattle.derecho_sweep.proofs.shrinking.fewest_parts.Given as goal
-
-abbrev pub invariant-loop-halvings : goal.invariant-loop-halvings
-invariant-loop-halvings g l = EndsSoWith l.script l.wanted l.keeps.items
-
-abbrev pub invariant-loop : goal.invariant-loop
-invariant-loop g l = EndsSoWith l.script l.wanted l.keeps.items

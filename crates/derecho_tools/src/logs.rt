@@ -1,0 +1,53 @@
+use dr_intake::{DONE, READ_FAULT, USAGE};
+use dr_io::{InputSource, OutputSink};
+use dr_text::write_all;
+use dr_tools::print_log;
+use std::alloc::Global;
+use std::fs::File;
+use std::io::{self, Read};
+
+/// How logs are printed.
+pub(crate) const LOG_USAGE: &str = "usage: derecho_tools log FILE..\n";
+
+/// Prints the logs in these files, one behind the other, and answers the first status that isn't that of a log.
+/// Without a file it says on standard error how it is called.
+pub(crate) fn print_logs(rt: &HostRuntime, alloc: Global, names: &[String]) -> u8 {
+    if names.is_empty() {
+        let _ = write_all(&mut OutputSink::new(rt.stderr()), LOG_USAGE.as_bytes());
+        return USAGE;
+    }
+    let mut first = DONE;
+    for name in names {
+        let name = name.as_str();
+        if names.len() > 1 {
+            let _ = println!(rt; "{name:?}:");
+        }
+        let status = print_one(rt, alloc, name);
+        if first == DONE {
+            first = status;
+        }
+    }
+    first
+}
+
+/// Prints the log in a file; where it can't be read standard error tells why.
+fn print_one(rt: &HostRuntime, alloc: Global, name: &str) -> u8 {
+    let mut sink = OutputSink::new(rt.stdout());
+    let status = match File::open(rt, name) {
+        Ok(file) => print_log(alloc, &mut InputSource::new(file), &mut sink),
+        Err(_) => READ_FAULT,
+    };
+    if status == READ_FAULT {
+        let _ = match read_one(rt, name) {
+            Ok(_) => eprintln!(rt; "derecho_tools: {name:?} can't be read"),
+            Err(error) => eprintln!(rt; "derecho_tools: {name:?} can't be read: {error}"),
+        };
+    }
+    status
+}
+
+/// Reads a byte of a file that couldn't be read, so that the error tells why.
+fn read_one(rt: &HostRuntime, name: &str) -> io::Result<usize> {
+    let mut byte = [0u8];
+    File::open(rt, name)?.read(&mut byte)
+}

@@ -1,0 +1,118 @@
+-- Groups without faults, in lockstep, by how many turns they have.
+use Rattle.std.proofs.Common.{◌≡◌, ◌∙◌, ap, refl, sym, subst, ℕ, zero, suc, ◌+◌, ◌-◌, ◌*◌, ◌^◌, ◌<◌, ◌≤◌, true, arith, List, [], ◌∷◌, ◌&&◌, length, map, slice_get, Option, Some, Result, Ok, Err, IfOk}
+use Rattle.std.specs.List.{list_all}
+use Rattle.std.proofs.lemmas.List.{length-map}
+use Rattle.std.proofs.lemmas.List.Elements.{All-nil}
+use Rattle.std.specs.declared.alloc.AllocError.{AllocError}
+use Rattle.dr_age.proofs.Lasting.{none_stopped}
+use Rattle.dr_age.specs.Logged.{AreAmple, AreOpened, HaveCome, NoneFull, NoneStopped}
+use Rattle.dr_complete.specs.Enough.{turns_enough}
+use Rattle.dr_complete.specs.Time.{HasTime}
+use Rattle.dr_complete.proofs.Enough.{enough_is_time, longest_within}
+use Rattle.dr_disk.specs.Disk.{Told}
+use Rattle.dr_entry.specs.declared.end.AgeEnd.{AgeEnd}
+use Rattle.dr_entry.specs.declared.end.End.TheVariants.{Done}
+use Rattle.dr_entry.specs.declared.end.MemberEnd.{MemberEnd}
+use Rattle.dr_entry.specs.declared.limits.TheConstants.{MAX_MESSAGES}
+use Rattle.dr_log.specs.State.{LogState}
+use Rattle.dr_logged.specs.Served.{HaveSamePlaces}
+use Rattle.dr_machine.proofs.Presence.{is_present}
+use Rattle.dr_machine.specs.Group.{AllPresent, IsPresent}
+use Rattle.dr_program.proofs.Present.{present_within}
+use Rattle.dr_program.specs.Presence.{present_at}
+use Rattle.dr_program.specs.Program.{end_at}
+use Rattle.dr_restart.specs.declared.start.Start.{Start}
+use Rattle.dr_restart.specs.Groups.{first_group_of, first_start_of, group_of}
+use Rattle.dr_script.specs.declared.script.Script.{Script}
+use Rattle.dr_script.specs.Ranges.{HasFaultRanges, HasRanges}
+use Rattle.dr_sim.specs.Simulated.{IsSimulated}
+use Rattle.dr_tools.specs.Turns.{IsFirstAge, TakesTurns, calm_group, is_done, with_turns}
+
+-- there are few turns
+pub few_turns : (s : Script) → HasRanges s → turns_enough s ≤ 4 * MAX_MESSAGES + 8
+few_turns s ranges = omega (arith, longest_within MAX_MESSAGES 0 s.messages (omega arith) ranges.group.few)
+
+pub calm_ranges : (s : Script) → HasRanges s → HasRanges (with_turns (calm_group s) (turns_enough s))
+calm_ranges s ranges = record {
+  group = record {
+    some_member = ranges.group.some_member;
+    most_members = ranges.group.most_members;
+    some_slot = ranges.group.some_slot;
+    most_slots = ranges.group.most_slots;
+    lists = ranges.group.lists;
+    few = ranges.group.few;
+    short = ranges.group.short;
+    bytes = ranges.group.bytes;
+  };
+  some_turn = omega arith;
+  most_turns = omega (arith, few_turns s ranges);
+  patience = ranges.patience;
+  some_age = ranges.some_age;
+  most_ages = ranges.most_ages;
+  few_faults = omega arith;
+  faults = All-nil (HasFaultRanges (with_turns (calm_group s) (turns_enough s)));
+}
+
+-- with turns enough it has the time to end
+pub calm_time : (s : Script) → HasRanges s → HasTime (with_turns (calm_group s) (turns_enough s))
+calm_time s ranges =
+    (enough_is_time (with_turns (calm_group s) (turns_enough s)) (calm_ranges s ranges).group refl refl).1
+    (omega arith)
+
+-- members that all end as done
+pub all_done : (members : List MemberEnd)
+    → ((m : ℕ) (e : MemberEnd) → slice_get members m ≡ Some e → e.end ≡ Done)
+    → list_all (λ (m : MemberEnd). is_done m.end) members ≡ true
+all_done [] each = refl
+all_done (e ∷ es) each =
+    ap (λ b. b && list_all (λ (m : MemberEnd). is_done m.end) es) (ap is_done (each zero e refl))
+    ∙ all_done es (λ m x at. each (suc m) x at)
+
+-- how many turns a group takes doesn't depend on how many it has
+pub taken_by : {E : Type 0} (r : Result ℕ E) (s calm : Script) (turns : ℕ) → calm ≡ with_turns s turns
+    → IfOk r (TakesTurns calm) → IfOk r (TakesTurns s)
+taken_by (Ok n) s calm turns is takes =
+    let t = subst (λ (c : Script). TakesTurns c n) is takes in
+    record { enough = t.enough; fewer = t.fewer }
+taken_by (Err e) s calm turns is takes = tt
+
+-- nobody is absent in the first age of a script
+pub all_present : (script : Script) → length script.messages ≡ script.members → AllPresent (first_group_of script)
+all_present script lists = ap (λ n. 2 ^ n - 1) (sym lists)
+
+-- the first age, over the logs of all members, which have room, and are on disks that count no fault
+module _ {D : Type 0} (told : D → Option Told) (faults : D → ℕ) (never : (disk : D) → faults disk ≡ 0)
+    (script : Script) (start : Start) (first : start ≡ first_start_of script)
+    (lists : length script.messages ≡ script.members) (bases logs : List (Option (LogState D)))
+    (opened : AreOpened (group_of script start) bases) (places : HaveSamePlaces bases logs)
+    (ample : AreAmple (group_of script start) bases) where
+  -- each member has one
+  log_there : (m : ℕ) → m < length bases → (base : LogState D) × (present_at bases m ≡ Some base)
+  log_there m below = opened.there m (omega (arith, below, opened.all))
+      (subst (λ (s : Start). IsPresent (group_of script s) m) (sym first)
+      (is_present (first_group_of script) m (all_present script lists) (omega (arith, below, opened.all))))
+
+  simulated : (age : AgeEnd) → IsSimulated script start 0 age → length age.members ≡ length bases
+      → (is : IsSimulated script start 0 age) × HaveCome told faults bases logs is.over.members
+      → (AreAmple (group_of script start) bases → NoneFull age.members) → IsFirstAge script age
+  simulated age run members (is, come) room = record {
+    run = subst (λ s. IsSimulated script s 0 age) first run;
+    stored = subst NoneStopped (sym ends) (none_stopped told faults never bases logs is.over
+        (λ m r member. log_there m (omega (arith, present_within is.over.members m r member, as_many))) places
+        come (subst NoneFull ends (room ample)));
+  }
+    where
+      ends : age.members ≡ map end_at is.over.members
+      ends = ap (λ (a : AgeEnd). a.members) is.told
+
+      as_many : length is.over.members ≡ length bases
+      as_many = sym (length-map is.over.members end_at) ∙ ap length (sym ends) ∙ members
+
+  pub first_if : (r : Result AgeEnd AllocError) → IfOk r (λ age. IsSimulated script start 0 age)
+      → IfOk r (λ (age : AgeEnd). length age.members ≡ length bases)
+      → IfOk r (λ (age : AgeEnd). (is : IsSimulated script start 0 age)
+      × HaveCome told faults bases logs is.over.members)
+      → IfOk r (λ (age : AgeEnd). AreAmple (group_of script start) bases → NoneFull age.members)
+      → IfOk r (IsFirstAge script)
+  first_if (Err why) run members come room = tt
+  first_if (Ok age) run members come room = simulated age run members come room

@@ -1,0 +1,249 @@
+-- What is told of a run, by what its watcher was told.
+use Rattle.std.specs.declared.alloc.Global.{Global}
+use Rattle.dr_tools.specs.TraceWords.{asked_by}
+use Rattle.std.proofs.Common.{MatchOption, String, ◌≡◌, ℕ, ◌+◌, List, [], ◌∷◌, ◌++◌, Option, Some, None, length, refl, sym, ap, subst, append-nil, append_assoc, ◌⊎◌, inl, inr}
+use Rattle.std.proofs.lemmas.Option.{none-some}
+use Rattle.dr_ages.specs.declared.mode.Mode.TheVariants.{Sim}
+use Rattle.dr_ages.specs.Watched.{AreWatched}
+use Rattle.dr_entry.specs.declared.end.AgeEnd.{AgeEnd}
+use Rattle.dr_program.specs.Presence.{present_at}
+use Rattle.dr_program.specs.Program.{Move, Program, step_of}
+use Rattle.dr_program.specs.Running.{Running}
+use Rattle.dr_restart.specs.declared.start.Start.{Start}
+use Rattle.dr_script.specs.declared.script.Script.{Script}
+use Rattle.dr_seeing.specs.Lines.{age_line, line_of}
+use Rattle.dr_seeing.specs.Output.{HasTold, Tells, TellsSome, Written}
+use Rattle.dr_seeing.proofs.Outputs.{tells_both}
+use Rattle.dr_sim.specs.Watched.{WasTold}
+use Rattle.dr_ages.specs.declared.part.Part.{Part}
+use Rattle.dr_ages.specs.declared.stop.Stop.{Stop}
+use Rattle.dr_intake.specs.declared.call.Unread.{Unread}
+use Rattle.dr_intake.specs.Answer.{IsLine, IsUnread, unread_line}
+use Rattle.dr_intake.proofs.Answers.{unread_alone}
+use Rattle.dr_intake.specs.Reading.{refusal_in}
+use Rattle.dr_outcome.specs.Last.{last_of}
+use Rattle.dr_outcome.specs.Outcome.{IsMemoryRun}
+use Rattle.dr_script.specs.Reading.{Reading, NotJson, Reads, TooLong, Wrong, reading_of}
+use Rattle.dr_text.specs.declared.last.Last.{Last}
+use Rattle.dr_tools.specs.declared.tracing.words.Asked.{Asked}
+use Rattle.dr_tools.specs.declared.tracing.words.Form.{Form}
+use Rattle.dr_tools.specs.declared.tracing.words.Form.TheVariants.{Chart, Lines, Picture}
+use Rattle.dr_tools.specs.Trace.{AreLines, IsRunTold, IsToldOf, IsTraceAnswer, IsTracedFor, IsWanting, Wrote, WroteOne, deed_line, end_status, ending, moves_text, picture_ending, trace_usage, traced_end_line}
+
+-- what `Lines` does as it is told of an age, of a deed and of the end
+abbrev pub Opens : Written → Start → Written → Type 0
+Opens old start new = Tells (age_line start.age (length start.entries)) old new
+
+abbrev pub Sees : Written → Running → List ℕ → Written → Type 0
+Sees old member table new = Tells (line_of member table) old new
+
+abbrev pub Closes : Written → List (Option Running) → List ℕ → Written → Type 0
+Closes old members table new = Tells [] old new
+
+-- nothing more is told where nothing changes
+tells_same : (old new : Written) → old ≡ new → Tells [] old new
+tells_same old new same = λ held fell before told.
+    subst (λ (l : List ℕ). HasTold held fell l new) (sym (append-nil before))
+    (subst (λ (w : Written). HasTold held fell before w) same told)
+
+-- the lines of all moves are told
+moves_told : (p : Program) (es : List Move) (old new : Written) → WasTold Sees p es old new
+    → Tells (moves_text p es) old new
+moves_told p [] old new same = tells_same old new same
+moves_told p (e ∷ es) old new was =
+    let line : deed_line p.table (present_at p.members e.member) ≡ line_of was.0 p.table =
+    ap (deed_line p.table) was.2 in
+    tells_both (deed_line p.table (present_at p.members e.member)) (moves_text (step_of p e) es) old was.1 new
+    (subst (λ (l : List ℕ). Tells l old was.1) (sym line) was.3)
+    (moves_told (step_of p e) es was.1 new was.4)
+
+-- these ages have lines, which are told
+pub record HaveLines (script : Script) (part : Part) (nth : ℕ) (ages : List AgeEnd) (old new : Written) : Type 0 where
+  pub text : List ℕ
+  pub lines : AreLines script part nth ages text
+  pub tells : Tells text old new
+
+pub lines_told : (script : Script) (part : Part) (nth : ℕ) (ages : List AgeEnd) (old new : Written)
+    → AreWatched Opens Sees Closes Sim script part nth ages old new → HaveLines script part nth ages old new
+lines_told script part nth [] old new same = record {
+  text = [];
+  lines = refl;
+  tells = tells_same old new (sym same);
+}
+lines_told script part nth (age ∷ ages) old new was =
+    let next = was.0 in
+    let seen = was.1 in
+    let rest = lines_told script part (nth + 1) ages next new was.2 in
+    let head = age_line age.age (length age.start) in
+    let moves = moves_text seen.is.begun seen.is.run.moves in
+    let told : Tells (head ++ moves) old seen.ended =
+    tells_both head moves old seen.opened seen.ended seen.opening
+    (moves_told seen.is.begun seen.is.run.moves seen.opened seen.ended seen.moves) in
+    let all : Tells (head ++ moves) old next =
+    subst (λ (l : List ℕ). Tells l old next) (append-nil (head ++ moves))
+    (tells_both (head ++ moves) [] old seen.ended next told seen.closing) in
+    record {
+      text = (head ++ moves) ++ rest.text;
+      lines = (seen.is, rest.text, rest.lines, refl);
+      tells = tells_both (head ++ moves) rest.text old next new all rest.tells;
+    }
+
+-- ---- what is told of a chart
+
+abbrev pub OpensSome : Written → Start → Written → Type 0
+OpensSome old start new = TellsSome old new
+
+abbrev pub SeesSome : Written → Running → List ℕ → Written → Type 0
+SeesSome old member table new = TellsSome old new
+
+abbrev pub ClosesSome : Written → List (Option Running) → List ℕ → Written → Type 0
+ClosesSome old members table new = TellsSome old new
+
+some_both : (old now new : Written) → TellsSome old now → TellsSome now new → TellsSome old new
+some_both old now new a b = (a.0 ++ b.0, tells_both a.0 b.0 old now new a.1 b.1)
+
+some_moves : (p : Program) (es : List Move) (old new : Written) → WasTold SeesSome p es old new
+    → TellsSome old new
+some_moves p [] old new same = ([], tells_same old new same)
+some_moves p (e ∷ es) old new was =
+    some_both old was.1 new was.3 (some_moves (step_of p e) es was.1 new was.4)
+
+pub some_told : (script : Script) (part : Part) (nth : ℕ) (ages : List AgeEnd) (old new : Written)
+    → AreWatched OpensSome SeesSome ClosesSome Sim script part nth ages old new → TellsSome old new
+some_told script part nth [] old new same = ([], tells_same old new (sym same))
+some_told script part nth (age ∷ ages) old new was =
+    let seen = was.1 in
+    some_both old was.0 new
+    (some_both old seen.opened was.0 seen.opening
+    (some_both seen.opened seen.ended was.0
+    (some_moves seen.is.begun seen.is.run.moves seen.opened seen.ended seen.moves) seen.closing))
+    (some_told script part (nth + 1) ages was.0 new was.2)
+
+-- what is told of a call that reads nothing
+pub unread_traced : (words : List (String Global)) (old new : Option (List ℕ)) (failed fails : ℕ) (why : Unread)
+    (text : List ℕ) (due : ℕ) → IsUnread (asked_by words) old new failed fails why
+    → MatchOption (unread_line why) (IsWanting text due) (λ l. IsLine trace_usage l (text, due))
+    → IsTraceAnswer words old new failed fails (text, due)
+unread_traced words old new failed fails why text due unread alone =
+    unread_alone (λ line said. MatchOption line (IsWanting said.0 said.1) (λ l. IsLine trace_usage l said))
+    (λ asked bytes said. IsTracedFor asked (reading_of bytes) said.0 said.1) (asked_by words) old new failed fails why
+    (text, due) unread alone
+
+-- ---- what was written of a run
+
+-- nothing was run as memory was wanting, or this is the run
+abbrev pub HasRun : Script → Part → List AgeEnd → Option Stop → Option Last → Type 0
+HasRun script part ages stop last =
+    ((ages ≡ []) × (stop ≡ None) × (last ≡ None))
+    ⊎ (IsMemoryRun script part Sim ages stop × (last ≡ last_of ages stop))
+
+-- whatever is told, it is written with the last line behind it
+abbrev pub Writes : Option (List ℕ) → Option (List ℕ) → ℕ → ℕ → ℕ → Option Last → Written → Type 0
+Writes held holds fell falls status last now =
+    (text : List ℕ) → HasTold held fell text now
+    → Wrote held holds fell falls status (end_status last) (text ++ traced_end_line last)
+
+wanting_wrote : (form : Form) (script : Script) (part : Part) (last : Option Last) (held holds : Option (List ℕ))
+    (fell falls status : ℕ) → last ≡ None
+    → Wrote held holds fell falls status (end_status last) ([] ++ traced_end_line last)
+    → WroteOne (IsRunTold form script part) held holds fell falls status
+wanting_wrote form script part last held holds fell falls status none wrote = record {
+  text = traced_end_line last;
+  due = end_status last;
+  is = inl (ap traced_end_line none, ap end_status none);
+  wrote = wrote;
+}
+
+run_wrote : (form : Form) (script : Script) (part : Part) (ages : List AgeEnd) (stop : Option Stop) (last : Option Last)
+    (held holds : Option (List ℕ)) (fell falls status : ℕ) (told : List ℕ)
+    → IsMemoryRun script part Sim ages stop
+    → last ≡ last_of ages stop → IsToldOf form script part ages told
+    → Wrote held holds fell falls status (end_status last) (told ++ ending form last)
+    → WroteOne (IsRunTold form script part) held holds fell falls status
+run_wrote form script part ages stop last held holds fell falls status told run is tells wrote = record {
+  text = told ++ ending form last;
+  due = end_status last;
+  is = inr (record {
+    ages = ages;
+    stop = stop;
+    run = run;
+    told = told;
+    tells = tells;
+    whole = ap (λ (l : Option Last). told ++ ending form l) is;
+    status = ap end_status is;
+  });
+  wrote = wrote;
+}
+
+pub lines_wrote : (script : Script) (part : Part) (ages : List AgeEnd) (stop : Option Stop) (last : Option Last)
+    (held holds : Option (List ℕ)) (fell falls status : ℕ) (old new : Written) → HasRun script part ages stop last
+    → AreWatched Opens Sees Closes Sim script part 0 ages old new → HasTold held fell [] old
+    → Writes held holds fell falls status last new
+    → WroteOne (IsRunTold Lines script part) held holds fell falls status
+lines_wrote script part ages stop last held holds fell falls status old new (inl none) watched told writes =
+    let same : new ≡ old =
+    subst (λ (l : List AgeEnd). AreWatched Opens Sees Closes Sim script part 0 l old new) none.0 watched in
+    wanting_wrote Lines script part last held holds fell falls status none.2
+    (writes [] (subst (λ (w : Written). HasTold held fell [] w) (sym same) told))
+lines_wrote script part ages stop last held holds fell falls status old new (inr ran) watched told writes =
+    let lines = lines_told script part 0 ages old new watched in
+    run_wrote Lines script part ages stop last held holds fell falls status lines.text ran.0 ran.1 lines.lines
+    (writes lines.text (lines.tells held fell [] told))
+
+pub chart_wrote : (script : Script) (part : Part) (ages : List AgeEnd) (stop : Option Stop) (last : Option Last)
+    (held holds : Option (List ℕ)) (fell falls status : ℕ) (old new : Written) → HasRun script part ages stop last
+    → AreWatched OpensSome SeesSome ClosesSome Sim script part 0 ages old new → HasTold held fell [] old
+    → Writes held holds fell falls status last new
+    → WroteOne (IsRunTold Chart script part) held holds fell falls status
+chart_wrote script part ages stop last held holds fell falls status old new (inl none) watched told writes =
+    let same : new ≡ old =
+    subst (λ (l : List AgeEnd). AreWatched OpensSome SeesSome ClosesSome Sim script part 0 l old new) none.0
+    watched in
+    wanting_wrote Chart script part last held holds fell falls status none.2
+    (writes [] (subst (λ (w : Written). HasTold held fell [] w) (sym same) told))
+chart_wrote script part ages stop last held holds fell falls status old new (inr ran) watched told writes =
+    let some = some_told script part 0 ages old new watched in
+    run_wrote Chart script part ages stop last held holds fell falls status some.0 ran.0 ran.1 tt
+    (writes some.0 (some.1 held fell [] told))
+
+-- what is drawn, the last line and what closes a picture are told one behind the other
+pub hung : (drawn line closing : List ℕ) (held : Option (List ℕ)) (fell : ℕ) (old first then new : Written)
+    → HasTold held fell [] old → Tells drawn old first → Tells line first then → Tells closing then new
+    → HasTold held fell (drawn ++ (line ++ closing)) new
+hung drawn line closing held fell old first then new told a b c =
+    subst (λ (l : List ℕ). HasTold held fell l new) (append_assoc drawn line closing)
+    (c held fell (drawn ++ line) (b held fell drawn (a held fell [] told)))
+
+-- a picture was written, with the last line in it
+pub picture_wrote : (from to : ℕ) (script : Script) (part : Part) (ages : List AgeEnd) (stop : Option Stop) (last : Last)
+    (held holds : Option (List ℕ)) (fell falls status : ℕ) (told : List ℕ)
+    → HasRun script part ages stop (Some last)
+    → Wrote held holds fell falls status (end_status (Some last)) (told ++ picture_ending (Some last))
+    → WroteOne (IsRunTold (Picture from to) script part) held holds fell falls status
+picture_wrote from to script part ages stop last held holds fell falls status told (inl none) wrote =
+    absurd (none-some last (sym none.2))
+picture_wrote from to script part ages stop last held holds fell falls status told (inr ran) wrote =
+    run_wrote (Picture from to) script part ages stop (Some last) held holds fell falls status told ran.0 ran.1 tt wrote
+
+-- what was written of a text that is no script
+pub refused_wrote : (asked : Asked) (r : Reading) (line : Option Last) (held holds : Option (List ℕ))
+    (fell falls status : ℕ) → ((l : Last) → line ≡ Some l → refusal_in r ≡ Some l)
+    → Wrote held holds fell falls status (end_status line) ([] ++ traced_end_line line)
+    → WroteOne (IsTracedFor asked r) held holds fell falls status
+refused_wrote asked r line held holds fell falls status refusal wrote = record {
+  text = traced_end_line line;
+  due = end_status line;
+  is = by r line refusal;
+  wrote = wrote;
+}
+  where
+    by : (x : Reading) (o : Option Last) → ((l : Last) → o ≡ Some l → refusal_in x ≡ Some l)
+        → IsTracedFor asked x (traced_end_line o) (end_status o)
+    by TooLong None is = inl (refl, refl)
+    by NotJson None is = inl (refl, refl)
+    by (Wrong rule path) None is = inl (refl, refl)
+    by (Reads script) None is = inl (inl (refl, refl))
+    by TooLong (Some l) is = inr (ap traced_end_line (sym (is l refl)), ap end_status (sym (is l refl)))
+    by NotJson (Some l) is = inr (ap traced_end_line (sym (is l refl)), ap end_status (sym (is l refl)))
+    by (Wrong rule path) (Some l) is = inr (ap traced_end_line (sym (is l refl)), ap end_status (sym (is l refl)))
+    by (Reads script) (Some l) is = absurd (none-some l (is l refl))

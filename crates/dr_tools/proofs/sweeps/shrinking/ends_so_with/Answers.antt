@@ -1,0 +1,10 @@
+use Rattle.std.proofs.Common.{IfOk, subst}
+use Rattle.dr_json.specs.Json.{script_json}
+use Rattle.dr_script.specs.declared.script.Script.{Script}
+use Rattle.dr_tools.specs.Outcomes.{TextEndsSo}
+use Rattle.dr_tools.proofs.sweeps.shrinking.ends_so_with.Goals as goal
+
+pub returns : goal.returns
+returns g c =
+    subst (λ (s : Script). IfOk c.whole_ends_so.result (TextEndsSo (script_json s) c.args.wanted.now))
+    c.in_ok-fewer.ensures c.whole_ends_so.ensures

@@ -1,0 +1,16 @@
+use Rattle.std.proofs.Common.{Bool, List, subst}
+use Rattle.dr_json.specs.Json.{script_json}
+use Rattle.dr_tools.specs.Outcomes.{TextEndsSo}
+use Rattle.dr_tools.specs.Parts.{kept_parts}
+use Rattle.dr_tools.specs.Shrinking.{EndsSoWith}
+use Rattle.dr_tools.proofs.sweeps.shrinking.without_piece.Goals as goal
+
+pub returns-then-ends_so : goal.returns-then-ends_so
+returns-then-ends_so g c =
+    subst (λ (keeps : List Bool). EndsSoWith c.args.script.now c.args.wanted.now keeps)
+    c.as_slice-4.ensures.value
+    (subst (TextEndsSo (script_json (kept_parts c.as_slice-4.result.now c.args.script.now)) c.args.wanted.now)
+    c.if-ends_so.true c.in_ok-ends_so.ensures)
+
+pub returns : goal.returns
+returns g c = c.requires

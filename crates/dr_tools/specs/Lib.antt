@@ -1,0 +1,17 @@
+pub mod SummaryWords
+pub mod Summary
+pub mod Object
+pub mod SummaryAnswer
+pub mod TraceWords
+pub mod Trace
+pub mod Turns
+pub mod Explained
+pub mod SweepWords
+pub mod Outcomes
+pub mod Rows
+pub mod Parts
+pub mod Shrinking
+pub mod SweepAnswer
+pub mod LogText
+pub mod LogPrinted
+pub mod Folder
