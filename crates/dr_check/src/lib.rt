@@ -1,4 +1,5 @@
-//! Judges the report of a run that somebody hands in.
+//! Judges the report of a run that somebody hands in: whether its text is one, and the first thing that is wrong
+//! with it.
 //!
 //! A [`Report`] has the values of a report's text. [`judge`] finds the first flaw of one, clause by clause:
 //! the definitions in `specs/` say what each clause is.

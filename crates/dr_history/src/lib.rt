@@ -1,6 +1,6 @@
-//! What it means for the histories of a group to be right.
+//! The definitions of histories: what it means for those of a group to be right.
 //!
-//! The definitions stand in `specs/`: the members of a mask, round-robin places, fronts and merges,
+//! They stand in `specs/`: the members of a mask, round-robin places, fronts and merges,
 //! histories in order, and agreement. They know no words, counters, ballots or turns. `dr_oracle` has
 //! slow programs that compute them.
 //!

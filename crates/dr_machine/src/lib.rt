@@ -1,6 +1,7 @@
-//! The machine that a group is: its world, the events that change it, and what a run of them is.
+//! The definitions of the machine that a group is: its world, the events that change it, and what a run of
+//! them is.
 //!
-//! The definitions stand in `specs/`, in the order in which `docs/GROUP.md` explains them. They are
+//! They stand in `specs/`, in the order in which `docs/GROUP.md` explains them. They are
 //! what has to be read to know what is proved of a group; the crates above hold to them. This crate
 //! has no code but the events, with the member and the step of each, and laws of runs and guards.
 //!

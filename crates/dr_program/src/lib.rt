@@ -1,7 +1,7 @@
-//! The members of a group as they run: what one has and has seen, its turn and its next deed, and
-//! the program that they are over the words of one table.
+//! The definitions of the members of a group as they run: what one has and has seen, its turn and its next
+//! deed, and the program that they are over the words of one table.
 //!
-//! The definitions stand in `specs/`. They say in the terms of one member what `dr_machine` says of
+//! They stand in `specs/`, and say in the terms of one member what `dr_machine` says of
 //! the whole world; `dr_refine` proves that the two are the same. This crate has no code but the
 //! plain types that the definitions name, the order of a turn, and laws of programs.
 //!

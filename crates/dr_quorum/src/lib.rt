@@ -1,5 +1,5 @@
-//! Chooses what the next age starts with, by the logs that are handed in, though others may be missing. What is
-//! chosen keeps what was durable, also through any list of tries to open an age.
+//! Chooses what the next age starts with, by the logs that are handed in, though others may be missing, or says
+//! why they make none. What is chosen keeps what was durable, also through any list of tries to open an age.
 //!
 //! `choose` takes lists, and no logs: what stands on a log is lent where it stands ([`BorrowedLists`]), and
 //! of all entries only those of the start are copied. One place is one member's; a missing log has none

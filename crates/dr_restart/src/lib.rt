@@ -1,4 +1,5 @@
-//! How an age of a group begins: what it starts with, and what its members are told.
+//! How an age of a group begins: what it starts with, where logs are missing too, or why it doesn't, and what its
+//! members are told.
 //!
 //! What may stand in a start, what a restart is and what an age keeps are definitions over lists of entries
 //! and votes, which know no logs and no disks; so choosing and bringing up have crates of their own above,

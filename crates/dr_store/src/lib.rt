@@ -1,5 +1,5 @@
-//! A replicated versioned store. The messages of a history are commands on a map from keys to values; the
-//! store keeps what they made of it at each version, and forgets old versions when it is told to.
+//! A versioned store: what the messages of a history, as commands on a map from keys to values, have made of it
+//! at each version. Old versions are forgotten when it is told to.
 //!
 //! A message whose first byte is hexadecimal 50 puts a value: its second byte is the length of the key, 1 to
 //! 62, and behind it come the key and the value. One whose first byte is hexadecimal 44 removes a key: its

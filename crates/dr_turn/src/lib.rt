@@ -1,4 +1,4 @@
-//! The theory of turns.
+//! The theory of turns: the search for the next place, and the bound on the deeds that are left.
 #![tactic(auto)]
 
 mod laws;
