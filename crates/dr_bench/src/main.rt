@@ -1,11 +1,12 @@
 //! Does one kind of work many times over, so that a clock outside can tell its speed: the work of a member
-//! on its words, that of a log, or the report of a large age.
+//! on its words, that of a log, the report of a large age, or a whole group, by its schedule or in threads.
 #![tactic(auto)]
 
 mod ages;
 mod bytes;
 mod counter;
 mod group;
+mod groups;
 mod logs;
 mod looks;
 mod made;
@@ -23,7 +24,7 @@ use made::report_again;
 use std::alloc::{AllocError, Global};
 use std::io;
 use std::process::ExitCode;
-use words::{Kind, Logging, Task, Work, read_task};
+use words::{Kind, Logging, Task, Work, read_words, task_of};
 
 const USAGE: &str =
     "usage: dr_bench looks|puts|readies|stores ROUNDS, or append|mount calm|bytes RECORDS ROUNDS, \
@@ -31,7 +32,13 @@ const USAGE: &str =
 
 fn main(rt: HostRuntime) -> io::Result<ExitCode> {
     let alloc = rt.alloc();
-    match read_task(&rt)? {
+    let words = read_words(&rt)?;
+    if let Some((first, more)) = words.split_first() {
+        if first.as_str() == "groups" {
+            return groups::groups(&rt, &rt, more);
+        }
+    }
+    match task_of(&words) {
         Some(Task::Calls { work, rounds }) => print(&rt, called(alloc, work, rounds)?),
         Some(
             Task::Logs {
@@ -43,7 +50,7 @@ fn main(rt: HostRuntime) -> io::Result<ExitCode> {
         ) => print(&rt, logged(alloc, logging, kind, records, rounds)?),
         Some(Task::Report { messages, rounds }) => report(&rt, messages, rounds),
         None => {
-            println!(rt; "{USAGE}")?;
+            println!(rt; "{USAGE}, or {}", groups::USAGE)?;
             Ok(ExitCode::from(2))
         }
     }

@@ -53,16 +53,17 @@ pub enum Task {
     },
 }
 
-/// The task in the words behind the program's name; `None` where they are none.
-pub fn read_task(rt: &(impl Env + AllocGlobal)) -> io::Result<Option<Task>> {
+/// The words behind the program's name.
+pub fn read_words(rt: &(impl Env + AllocGlobal)) -> io::Result<Vec<String>> {
     let mut words = Vec::new(rt.alloc());
     for word in env::args(rt)?.skip(1) {
         words.push(word)?;
     }
-    Ok(task_of(&words))
+    Ok(words)
 }
 
-fn task_of(words: &[String]) -> Option<Task> {
+/// The task in these words; `None` where they are none.
+pub fn task_of(words: &[String]) -> Option<Task> {
     match words {
         [work, rounds] => Some(Task::Calls {
             work: work_of(work.as_str())?,

@@ -65,6 +65,15 @@ impl<T: Timer, K: Sink> Progress<T, K> {
         }
     }
 
+    /// The sink, with all that was said.
+    pub fn into_sink(self) -> K
+    where
+        T: Drop,
+        ensures { K.held result ≡ self.held }
+    {
+        self.sink
+    }
+
     /// A run begins, in whose ages each member takes at most so many turns.
     pub(crate) fn begin(&mut self, turns: u32)
         ensures { Begins turns self.old self.new }
@@ -130,6 +139,3 @@ impl<T: Timer, K: Sink> Progress<T, K> {
         }
     }
 }
-
-#[cfg(test)]
-mod tests;

@@ -1,6 +1,7 @@
 //! Tests of runs whose disks stop or fail, at each of their calls in turn, of calls whose source, sink or disks
 //! fail, or whose threads wait for one another, of ages that the log of a member stops, of files that are cut or
-//! have become shorter, and of the script of a drill.
+//! have become shorter, of the script of a drill, and of
+//! when something is said of a run.
 #![tactic(auto)]
 
 #[cfg(test)]
@@ -11,6 +12,8 @@ mod faults;
 mod files;
 #[cfg(test)]
 mod meetings;
+#[cfg(test)]
+mod progress;
 #[cfg(test)]
 mod runs;
 #[cfg(test)]

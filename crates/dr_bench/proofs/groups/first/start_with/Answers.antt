@@ -2,8 +2,8 @@ use Rattle.std.proofs.Common.{◌-◌, refl, sym, subst, arith}
 use Rattle.dr_machine.specs.Group.{IsGroup}
 use Rattle.dr_restart.specs.declared.start.Start.{Start}
 use Rattle.dr_restart.specs.Groups.{group_of}
-use Rattle.dr_bench_groups.proofs.Late.{late_group}
-use Rattle.dr_bench_groups.proofs.first.start_with.Goals as goal
+use Rattle.dr_bench.proofs.Late.{late_group}
+use Rattle.dr_bench.proofs.groups.first.start_with.Goals as goal
 
 pub returns-clause-start : goal.returns-clause-start
 returns-clause-start c = rw (c.first_start-start.ensures.start, c.bits.ensures, c.all.ensures.bits) refl

@@ -1,6 +1,6 @@
 -- The groups that can be run.
 use Rattle.std.specs.Prelude.{ℕ, ◌*◌, ◌-◌, ◌<◌, ◌≤◌}
-use Rattle.dr_bench_groups.specs.declared.members.Group.{Group}
+use Rattle.dr_bench.specs.declared.groups.members.Group.{Group}
 
 -- a group within the bounds of a script, of which a minority is suspected, and not everybody late
 pub record IsBounded (g : Group) : Type 0 where

@@ -1,9 +1,8 @@
 //! When something is said of a run, and what.
-use crate::line::BLANK;
-use crate::{Progress, SteppedTimer, watch_with_progress};
 use dr_ages::Part;
 use dr_io::MemorySink;
 use dr_outcome::are_all_late;
+use dr_progress::{Progress, SteppedTimer, watch_with_progress};
 use dr_script::read_script;
 use dr_sim::Unwatched;
 use std::alloc::Global;
@@ -16,6 +15,9 @@ use std::thread::Threads;
 const STUCK: &[u8] =
     br#"{"members":3,"window":1,"turns":1000,"patience":0,"ages":1,"messages":[[],["a"],[]],
   "faults":[{"age":0,"member":0,"crash":[1,0]}],"schedule":"lockstep"}"#;
+
+/// Blanks the line that stands on a terminal.
+const BLANK: &str = "\r                                             \r";
 
 /// Checks in which turns something is said of the run, where each reading of the timer is so much later than
 /// the one before, up to the first that fails, and that no line is left behind it.
@@ -42,7 +44,7 @@ fn check<R: Threads + Sync + Abort>(
     if !turns.is_empty() {
         wanted.push_str(BLANK)?;
     }
-    assert_eq!(rt; progress.sink.bytes(), wanted.as_bytes());
+    assert_eq!(rt; progress.into_sink().bytes(), wanted.as_bytes());
     Ok(())
 }
 

@@ -1,6 +1,6 @@
 //! What came of a run in threads.
 
-use crate::members::mixed;
+use crate::groups::members::mixed;
 use dr_entry::{AgeEnd, End, Entry, MemberEnd};
 
 /// How many members ended as done, how many have the history of the first one, how many entries all

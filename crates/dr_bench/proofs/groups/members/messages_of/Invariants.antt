@@ -1,5 +1,5 @@
 use Rattle.std.proofs.Common.{◌≡◌, ◌<◌, ◌≤◌, All, length}
-use Rattle.dr_bench_groups.proofs.members.messages_of.Given as goal
+use Rattle.dr_bench.proofs.groups.members.messages_of.Given as goal
 
 abbrev pub invariant-loop-index : goal.invariant-loop-index
 invariant-loop-index l = record {

@@ -2,9 +2,9 @@ ghost use Rattle.std.specs.Prelude.{◌≡◌, ℕ, ◌+◌, ◌<◌, ◌≤◌,
 ghost use Rattle.dr_script.specs.declared.script.Fault.{Fault};
 ghost use Rattle.dr_script.specs.declared.script.What.TheVariants.{Suspect};
 ghost use Rattle.dr_script.specs.Ranges.{HasRanges};
-ghost use Rattle.dr_bench_groups.specs.Groups.{IsBounded, first_suspected};
+ghost use Rattle.dr_bench.specs.Groups.{IsBounded, first_suspected};
 
-use crate::first::start_with;
+use crate::groups::first::start_with;
 use dr_disk::CalmDisk;
 use dr_entry::{AgeEnd, Entry, MAX_MESSAGE_LENGTH, MemberEnd, Message, Seq, Vote};
 use dr_fresh::logs_of;

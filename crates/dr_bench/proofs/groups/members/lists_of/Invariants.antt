@@ -1,5 +1,5 @@
 use Rattle.std.proofs.Common.{◌≡◌, ℕ, ◌<◌, ◌≤◌, [], All, length, slice_index_or}
-use Rattle.dr_bench_groups.proofs.members.lists_of.Given as goal
+use Rattle.dr_bench.proofs.groups.members.lists_of.Given as goal
 
 abbrev pub invariant-loop-me : goal.invariant-loop-me
 invariant-loop-me l = record {

@@ -1,9 +1,7 @@
 //! What the program was told to do.
-use crate::members::{Group, MEMBERS, TURNS};
+use crate::groups::members::{Group, MEMBERS, TURNS};
 use dr_entry::MAX_MESSAGE_LENGTH;
 use dr_script::Schedule;
-use std::rt::Env;
-use std::{env, io};
 
 /// The seed of seeded groups.
 const SEED: u64 = 7;
@@ -33,16 +31,8 @@ pub enum Task {
     Threads(Group, Mode, bool),
 }
 
-/// The task in the words behind the program's name; `None` where they are none.
-pub fn read_task(rt: &(impl Env + AllocGlobal)) -> io::Result<Option<Task>> {
-    let mut words = Vec::new(rt.alloc());
-    for word in env::args(rt)?.skip(1) {
-        words.push(word)?;
-    }
-    Ok(task_of(&words))
-}
-
-fn task_of(words: &[String]) -> Option<Task> {
+/// The task in these words; `None` where they are none.
+pub fn task_of(words: &[String]) -> Option<Task> {
     let (first, more) = words.split_first()?;
     match first.as_str() {
         "lockstep" => Some(Task::Scheduled(group_of(Schedule::Lockstep, more)?)),

@@ -1,6 +1,4 @@
-//! Runs a group, by its schedule or in threads, so that a clock outside can tell its speed.
-#![tactic(auto)]
-
+//! Runs a group, by its schedule or in threads.
 ghost use Rattle.dr_script.specs.Ranges.{HasRanges};
 
 mod ends;
@@ -22,23 +20,28 @@ use std::io;
 use std::process::ExitCode;
 use std::thread::Threads;
 use std::time::Clock;
-use task::{Mode, Task, read_task};
+use task::{Mode, Task, task_of};
 
-fn main(rt: HostRuntime) -> io::Result<ExitCode> {
-    match read_task(&rt)? {
-        Some(Task::Scheduled(group)) => by_schedule(&rt, group),
+/// How a group is told, behind the program's name.
+pub const USAGE: &str =
+    "groups lockstep|seeded MESSAGES [SENDERS [SUSPECTED [TURNS [MEMBERS [FROM [LATE]]]]]], \
+    or groups MEMBERS MESSAGES SIZE sim|free|spin|yield [times]";
+
+/// Runs the group that these words tell, and prints what came of it, or how such a group is told.
+pub fn groups<R: Threads + Clock + Sync>(
+    rt: &HostRuntime,
+    threads: &R,
+    words: &[String],
+) -> io::Result<ExitCode> {
+    match task_of(words) {
+        Some(Task::Scheduled(group)) => by_schedule(rt, group),
         Some(Task::Threads(group, mode, has_times)) => {
             let script = script_of(rt.alloc(), bounded(group))?;
-            let (age, sums) = ended(&rt, rt.alloc(), mode, has_times, &script)?;
-            print_ends(&rt, &age, sums)
+            let (age, sums) = ended(threads, rt.alloc(), mode, has_times, &script)?;
+            print_ends(rt, &age, sums)
         }
         None => {
-            println!(rt;
-                "usage: dr_bench_groups lockstep|seeded MESSAGES [SENDERS [SUSPECTED [TURNS [MEMBERS [FROM [LATE]]]]]]"
-            )?;
-            println!(rt;
-                "    or dr_bench_groups MEMBERS MESSAGES SIZE sim|free|spin|yield [times]"
-            )?;
+            println!(rt; "usage: dr_bench {USAGE}")?;
             Ok(ExitCode::from(2))
         }
     }
