@@ -1,6 +1,6 @@
 -- An age begins as the program of its script, sound and in the world as the age opens.
-use Rattle.std.proofs.Common.{◌≡◌, sym, ap, ◌∙◌, ℕ, ◌+◌, ◌≤◌, List, [], ◌∷◌, ◌++◌, length, replicate}
-use Rattle.std.proofs.lemmas.List.{map-append}
+use Rattle.std.proofs.Common.{◌≡◌, sym, ap, ◌∙◌, ℕ, ◌+◌, ◌≤◌, List, [], ◌∷◌, ◌++◌, length, replicate, refl}
+use Rattle.std.proofs.lemmas.List.{map-append, length-map}
 use Rattle.dr_entry.specs.declared.entry.Entry.{Entry}
 use Rattle.dr_script.specs.declared.script.Script.{Script}
 use Rattle.dr_words.specs.Layout.{words_of}
@@ -8,6 +8,8 @@ use Rattle.std.specs.Prelude.{None, Option, Some, option_map}
 use Rattle.dr_machine.specs.Group.{IsGroup, banks}
 use Rattle.dr_program.specs.Running.{Running, begun_running}
 use Rattle.dr_program.specs.Program.{Program}
+use Rattle.dr_program.specs.Presence.{present_at}
+use Rattle.dr_program.specs.Form.{IsRunningMember}
 use Rattle.dr_program_laws.proofs.Schedules.{age_begins_reached, begun_program_of}
 use Rattle.dr_restart.specs.declared.start.Start.{Start}
 use Rattle.dr_restart.specs.Groups.{group_of}
@@ -65,3 +67,18 @@ begun_is_sound script start nth p group some lists begins = record {
   form = begun_program_of script start nth p group lists some begins;
   reached = age_begins_reached script start nth p group lists begins;
 }
+
+-- a member that has begun is in form
+pub begun_forms : (script : Script) (start : Start) (nth : ℕ) (members : List (Option Running))
+    → IsGroup (group_of script start) → 1 ≤ script.turns → length script.messages ≡ script.members
+    → HaveBegun script start nth script.members members
+    → (m : ℕ) (r : Running) → present_at members m ≡ Some r → IsRunningMember r
+begun_forms script start nth members group some lists begun m r there =
+    (begun_is_sound script start nth _ group some lists
+    (is_begun script start nth members _ _ begun lists refl refl)).form.form m r there
+
+-- so they are as many
+pub as_many_begun : (script : Script) (start : Start) (nth : ℕ) (members : List (Option Running))
+    → HaveBegun script start nth script.members members → length members ≡ script.members
+as_many_begun script start nth members begun =
+    ap length begun.begun ∙ length-map begun.setups (option_map begun_running) ∙ begun.are.all

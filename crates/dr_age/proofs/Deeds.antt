@@ -1,32 +1,46 @@
 -- What the next deed of a member says of the step that is due to it.
-use Rattle.std.proofs.Common.{◌≡◌, refl, ap, subst, ℕ, false, true, List, [], length, slice_index, ltb-true}
-use Rattle.std.specs.Prelude.{All, Option, None, Some, slice_set}
-use Rattle.std.proofs.lemmas.Bool.{and_parts}
+use Rattle.std.proofs.Common.{◌≡◌, refl, ap, subst, ℕ, false, true, List, [], length, slice_index, ◌||◌, ◌∙◌, zero, suc, ◌≤◌, sym}
+use Rattle.std.specs.Prelude.{Option, None, Some, slice_set, is_some, slice_index_or}
 use Rattle.dr_entry.specs.declared.end.End.{End}
 use Rattle.dr_entry.specs.declared.entry.Entry.{Entry}
-use Rattle.dr_entry.specs.declared.entry.Entry.TheVariants.{View}
-use Rattle.dr_entry.specs.Spelling.{IsValid, IsValidEntry}
 use Rattle.dr_entry.specs.declared.record.Record.{Record}
+use Rattle.dr_disk.specs.Disk.{Told}
+use Rattle.dr_history.specs.History.{up_to_view}
+use Rattle.dr_log.specs.State.{LogState}
 use Rattle.dr_machine.specs.declared.event.Act.{Act}
 use Rattle.dr_machine.specs.declared.step.Step.{Step}
 use Rattle.dr_machine.specs.declared.step.Step.TheVariants.{Do, Append, Join, LogVote, Welcome}
+use Rattle.dr_machine.specs.Acts.{CanTake}
+use Rattle.dr_machine.specs.Group.{Group}
+use Rattle.dr_machine.specs.Guards.{CanWelcome}
 use Rattle.dr_program.specs.declared.deed.Deed.{Deed}
 use Rattle.dr_program.specs.declared.deed.Deed.TheVariants as deeds
 use Rattle.dr_program.specs.declared.outcome.Outcome.{Outcome}
-use Rattle.dr_program.specs.Form.{HasForm, IsRunningMember}
-use Rattle.dr_program.specs.Program.{after_deed, appended_as}
-use Rattle.dr_entry.specs.declared.record.Value.{Value}
-use Rattle.dr_program.specs.Replica.{Replica, is_inside, may_append, may_vote, vote_of}
+use Rattle.dr_program.specs.Form.{IsRunningMember}
+use Rattle.dr_program.specs.Program.{after_deed, next_sight, IsRanFrom, Program, ran, comes_to, letter_for, ok, step_of}
 use Rattle.dr_program.specs.Running.{Running, after_step, crashes_now, deed, deed_of, next_deed, next_step, settled, step_at, took_letter}
-use Rattle.dr_program.specs.Turn.{part_of}
+use Rattle.dr_program.specs.Turn.{part_of, is_beat}
 use Rattle.dr_program.specs.declared.place.Part.{Part}
 use Rattle.dr_program.specs.declared.place.Part.TheVariants as parts
 use Rattle.dr_program.proofs.StepsAt.{append_either, push_either, vote_either}
-use Rattle.dr_program.proofs.Voting.{vote_room, vote_valid, votes_for}
 use Rattle.dr_program.proofs.Waiting.{append_free}
-use Rattle.dr_program.specs.Steps.{IsAppend, allows, sight, stepped, stored, stored_letters, IsNoJoin}
-use Rattle.dr_refine.proofs.Deeds.{due_allowed}
-use Rattle.dr_logged.specs.Appended.{IsAppendDue, MayLog, is_append, record_due, record_of}
+use Rattle.dr_program.specs.Steps.{IsAppend, sight, stored, stored_letters, IsNoJoin}
+use Rattle.dr_program.proofs.RunningPrograms.{after_take}
+use Rattle.dr_program.proofs.Present.{present_set, MayGet}
+use Rattle.dr_program.specs.declared.outcome.Outcome.TheVariants as outcomes
+use Rattle.dr_program.specs.Presence.{present_at, with_present}
+use Rattle.dr_program.specs.Reading.{letters_of, step_by, step_due, world}
+use Rattle.dr_refine.proofs.Deeds.{due_allowed, deed_ran, deed_is_step, step_is}
+use Rattle.dr_logged.specs.Appended.{IsAppendDue, is_append, record_due, record_of}
+use Rattle.dr_logged.proofs.Appends.{may_log, IsPlain, IsSweeping}
+use Rattle.dr_logged.proofs.Serving.{other_ready, logged_on, other_served}
+use Rattle.dr_logged.specs.Served.{IsReady, HasServed}
+use Rattle.dr_member.proofs.Deeds.{no_beat}
+use Rattle.dr_member.specs.Deeds.{is_look, is_push}
+use Rattle.dr_member.specs.Alone.{IsAtSweep, LeadsTo}
+use Rattle.dr_program_laws.proofs.Letters.{letters_are}
+use Rattle.dr_program_laws.proofs.Keeping.{move_kept}
+use Rattle.dr_age.specs.Sound.{IsSound}
 
 -- ---- a step, by its deed
 
@@ -114,24 +128,6 @@ any_outcome word letter o r (LogVote v) other no_join = absurd (cc)
 any_outcome word letter o r Join other no_join = absurd no_join
 any_outcome word letter o r s other no_join = refl
 
--- a take goes by the letter
-pub after_take : (word : ℕ) (letter : Option (List Entry)) (o : Outcome) (r : Running) (s : Step) → s ≡ Join
-    → after_deed word letter o r s ≡ settled (took_letter letter r)
-after_take word letter o r s is = ap (after_deed word letter o r) is
-
--- an append is done by how it goes
-pub after_append : (word : ℕ) (letter : Option (List Entry)) (o : Outcome) (r : Running) (s : Step)
-    → IsAppend s → after_deed word letter o r s ≡ appended_as o r
-after_append word letter o r Append is = refl
-after_append word letter o r (LogVote v) is = refl
-after_append word letter o r s is = absurd is
-
--- and it ends nobody
-pub unended_append : (word : ℕ) (r : Replica) (s : Step) → IsAppend s → (stepped word r s).end ≡ r.end
-unended_append word r Append is = refl
-unended_append word r (LogVote v) is = refl
-unended_append word r s is = absurd is
-
 -- ---- which step is due
 
 pub at_look : (r : Running) (index : ℕ) → next_deed r ≡ deeds.Look index → is_append (next_step r) ≡ false
@@ -152,27 +148,6 @@ at_give r j is = (deed_tells [] r (deeds.Give j) is).says
 pub at_take : (r : Running) → next_deed r ≡ deeds.Take → next_step r ≡ Join
 at_take r is = (deed_tells [] r deeds.Take is).says
 
--- an append that is allowed is of the next entry, which is there, or of a vote
-may_log : (r : Running) (s : Step) → HasForm r.replica → IsAppend s → allows r.replica s ≡ true
-    → r.replica.pending ≡ None → MayLog r s
-may_log r Append form is both free = ltb-true r.replica.logged (length r.replica.history)
-    (and_parts (is_inside r.replica) (may_append r.replica) both).1
-may_log r (LogVote v) form is both free =
-    let may = (and_parts (is_inside r.replica) (may_vote r.replica v) both).1 in record {
-      may = subst (λ (x : Value). may_vote r.replica x ≡ true) (votes_for r.replica v may) may;
-      is = ap (vote_of r.replica) (votes_for r.replica v may);
-      valid = vote_valid r.replica v form may;
-      few = vote_room r.replica v form free may;
-    }
-may_log r s form is may free = absurd is
-
--- and its record is valid where the entries of the member's history are
-pub valid_due : (r : Running) (s : Step) → All IsValidEntry r.replica.history → MayLog r s
-    → IsValid (record_of r s)
-valid_due r Append valid may = valid r.replica.logged (View 0 0 0) may
-valid_due r (LogVote v) valid may = may.valid
-valid_due r s valid may = absurd may
-
 pub at_append : (r : Running) (due : Record) → IsRunningMember r → next_deed r ≡ deeds.Append due
     → IsAppendDue r × (due ≡ record_due r)
 at_append r due form is =
@@ -183,4 +158,134 @@ at_append r due form is =
         room = form.replica.room;
       },
       t.says.1,
+    )
+
+is_plain : (r : Running) (d : Deed) → next_deed r ≡ d → (is_look d || is_push d) ≡ true
+    → IsPlain r (next_step r)
+is_plain r (deeds.Look index) next due =
+    let t = deed_tells [] r (deeds.Look index) next in
+    record { other = at_look r index next; no_join = t.says.no_join; posts = t.says.posts }
+is_plain r (deeds.Push index word) next due =
+    let t = deed_tells [] r (deeds.Push index word) next in
+    record { other = at_push r index word next; no_join = t.says.no_join; posts = t.says.posts }
+is_plain r d next due = absurd (cc)
+
+pub at_sweep : (r : Running) → IsAtSweep r → IsSweeping r
+at_sweep r due = by r.replica.end refl due
+  where
+    by : (o : Option End) → r.replica.end ≡ o → (is_look (deed r o) || is_push (deed r o)) ≡ true
+        → IsSweeping r
+    by (Some end) e kind = absurd (cc)
+    by None e kind = record {
+      none = e;
+      other = (is_plain r (next_deed r) refl due).other;
+      no_join = (is_plain r (next_deed r) refl due).no_join;
+      posts = (is_plain r (next_deed r) refl due).posts;
+      amid = ap (λ o. is_some o || is_beat (part_of r.place)) e
+          ∙ no_beat r (part_of r.place) r.place.row r.place.column kind;
+    }
+
+-- a log stays ready for its member
+pub swept_ready : {D : Type 0} (log : LogState D) (n : ℕ) (words : List ℕ) (r : Running) (cells : List ℕ)
+    (q : Running) → LeadsTo n words r cells q → IsReady log r → IsReady log q
+swept_ready log zero words r cells q (same, is) ready = subst (IsReady log) is ready
+swept_ready log (suc n) words r cells q (due, rest) ready =
+    swept_ready log n _ _ cells q rest
+    (other_ready log (next_sight words r) r (at_sweep r due).other ready)
+
+-- and has served it
+pub swept_served : {D : Type 0} (told : D → Option Told) (faults : D → ℕ) (base log : LogState D) (n : ℕ)
+    (words : List ℕ) (r : Running) (cells : List ℕ) (q : Running) → LeadsTo n words r cells q
+    → r.replica.logged ≤ length r.replica.history
+    → HasServed told faults base log r → HasServed told faults base log q
+swept_served told faults base log zero words r cells q (same, is) within served =
+    subst (HasServed told faults base log) is served
+swept_served told faults base log (suc n) words r cells q (due, rest) within served =
+    let other = (at_sweep r due).other in
+    swept_served told faults base log n _ _ cells q rest (logged_on (next_sight words r) r other within)
+    (other_served told faults base log (next_sight words r) r other (at_sweep r due).none within served)
+
+-- a letter is given
+pub give_ran : (begun : Program) (words : List ℕ) (letters : List (Option (List Entry)))
+    (members : List (Option Running))
+    (m j : ℕ) (r : Running) → present_at members m ≡ Some r → next_deed r ≡ deeds.Give j
+    → IsRanFrom begun (record { members = members; table = words; letters = letters })
+    → IsRanFrom begun (record {
+      members = with_present members m (after_step 0 r);
+      table = words;
+      letters = slice_set letters j (Some (up_to_view r.replica.history));
+    })
+give_ran begun words letters members m j r there next ran =
+    let t = deed_tells words r (deeds.Give j) next in
+    subst (λ ls. IsRanFrom begun (record { members = with_present members m (after_step 0 r); table = words; letters = ls }))
+    (ap (stored_letters letters r.replica) t.says)
+    (subst (λ ws. IsRanFrom begun (record {
+      members = with_present members m (after_step 0 r);
+      table = ws;
+      letters = stored_letters letters r.replica (next_step r);
+    })) (ap (stored words r.replica) t.says)
+    (subst (λ x. IsRanFrom begun (record {
+      members = with_present members m x;
+      table = stored words r.replica (next_step r);
+      letters = stored_letters letters r.replica (next_step r);
+    }))
+    (ap (λ s. after_deed (sight words r.replica s) (slice_index_or letters m None) outcomes.Ok r s) t.says)
+    (deed_ran begun words letters members m outcomes.Ok r there t.none ran)))
+
+-- a letter is taken, where one is there
+pub take_ran : (begun : Program) (words : List ℕ) (letters : List (Option (List Entry)))
+    (members : List (Option Running))
+    (m : ℕ) (r : Running) (letter : Option (List Entry)) → present_at members m ≡ Some r → next_deed r ≡ deeds.Take
+    → letters_of letters m ≡ letter
+    → IsRanFrom begun (record { members = members; table = words; letters = letters })
+    → IsRanFrom begun (record {
+      members = with_present members m (settled (took_letter letter r));
+      table = words;
+      letters = letters;
+    })
+take_ran begun words letters members m r letter there next found ran =
+    let t = deed_tells words r deeds.Take next in
+    subst (λ ls. IsRanFrom begun (record {
+      members = with_present members m (settled (took_letter letter r));
+      table = words;
+      letters = ls;
+    }))
+    (ap (stored_letters letters r.replica) t.says)
+    (subst (λ ws. IsRanFrom begun (record {
+      members = with_present members m (settled (took_letter letter r));
+      table = ws;
+      letters = stored_letters letters r.replica (next_step r);
+    })) (ap (stored words r.replica) t.says)
+    (subst (λ x. IsRanFrom begun (record {
+      members = with_present members m x;
+      table = stored words r.replica (next_step r);
+      letters = stored_letters letters r.replica (next_step r);
+    }))
+    (after_take (next_sight words r) (slice_index_or letters m None) outcomes.Ok r (next_step r) t.says
+    ∙ ap (λ o. settled (took_letter o r)) found)
+    (deed_ran begun words letters members m outcomes.Ok r there t.none ran)))
+
+-- a member of the program that is to give a letter may do so
+pub can_welcome : (g : Group) (p : Program) (m j : ℕ) (r : Running) → IsSound g p → present_at p.members m ≡ Some r
+    → next_deed r ≡ deeds.Give j → CanWelcome g (world g p) m j
+can_welcome g p m j r is there next =
+    let t = deed_tells [] r (deeds.Give j) next in
+    let named : step_by (letter_for p m) r outcomes.Ok ≡ Some (next_step r) =
+    ap (λ o. comes_to (letter_for p m) (step_due r o) outcomes.Ok) t.none
+    ∙ ap (λ s. comes_to (letter_for p m) (Some s) outcomes.Ok) t.says ∙ sym (ap (λ s. Some s) t.says) in
+    subst (CanTake g (world g p) m) t.says
+    (deed_is_step g p (record { member = m; outcome = outcomes.Ok }) r (next_step r) is.group is.form
+    (letters_are g p is.group is.form is.reached) there named).0
+
+-- the program once it is given
+pub given_after : (g : Group) (p : Program) (m j : ℕ) (r : Running) → IsSound g p → present_at p.members m ≡ Some r
+    → next_deed r ≡ deeds.Give j → MayGet g p.letters j
+    → IsSound g (step_of p (ok m)) × (letter_for (step_of p (ok m)) j ≡ Some (up_to_view r.replica.history))
+given_after g p m j r is there next may =
+    let kept = move_kept g p (ok m) is.group is.form is.reached in
+    let t = deed_tells [] r (deeds.Give j) next in (
+      record { group = is.group; form = kept.0; reached = kept.1 },
+      ap (λ (k : Program). letter_for k j) (step_is p (ok m) r there t.none)
+          ∙ ap (λ s. present_at (stored_letters p.letters r.replica s) j) t.says
+          ∙ present_set p.letters j (up_to_view r.replica.history) may.within,
     )

@@ -1,47 +1,45 @@
 -- The logs of an age: how they begin, and what has come of them where all members have ended.
-use Rattle.std.proofs.Common.{◌≡◌, refl, sym, ap, ◌∙◌, subst, inl, inr, ℕ, ◌+◌, ◌*◌, ◌<◌, ◌≤◌, false, List, [], ◌∷◌, ◌++◌, length, map, drop, drop_at, take, true, true≢false, arith, le_of_eq, le_refl, le_trans, length-append, length-take}
+use Rattle.std.proofs.Common.{◌≡◌, refl, sym, ap, ◌∙◌, subst, inl, inr, ℕ, ◌+◌, ◌*◌, ◌<◌, ◌≤◌, false, List, [], length, map, drop, drop_at, take, true≢false, arith, le_of_eq, le_refl, le_trans, length-append, length-take}
 use Rattle.std.proofs.Math.Nat.{mul-le-mul}
 use Rattle.std.proofs.lemmas.List.{length-map}
 use Rattle.std.specs.Prelude.{All, IsTrue, Option, None, Some, is_some, option_map, slice_get, slice_index_or, unwrap_or}
-use Rattle.std.proofs.lemmas.Option.{get_or_from_slice_get, same_Some, slice_get-get_or, slice_get_within}
+use Rattle.std.proofs.lemmas.Option.{slice_get-get_or, slice_get_within}
 use Rattle.std.proofs.lemmas.List.Elements.{All-drop, All-take}
-use Rattle.std.proofs.lemmas.List.Sums.{sum_by-le}
 use Rattle.dr_disk.specs.Disk.{Told}
 use Rattle.dr_entry.specs.declared.end.End.{End}
 use Rattle.dr_entry.specs.declared.end.End.TheVariants as ends
 use Rattle.dr_entry.specs.declared.end.MemberEnd.{MemberEnd}
 use Rattle.dr_entry.specs.declared.entry.Entry.{Entry}
-use Rattle.dr_entry.specs.declared.entry.Entry.TheVariants.{View}
 use Rattle.dr_entry.specs.declared.limits.TheConstants.{MAX_MEMBERS, MAX_MESSAGES}
 use Rattle.dr_entry.specs.declared.record.Record.{Record}
 use Rattle.dr_entry.specs.declared.record.Record.TheVariants as records
 use Rattle.dr_entry.specs.declared.record.Vote.{Vote}
-use Rattle.dr_entry.specs.Spelling.{IsValidEntry, vote_spelling}
-use Rattle.dr_entry.proofs.Trims.{counts_length}
-use Rattle.dr_history.specs.Order.{first_entries}
+use Rattle.dr_entry.specs.Spelling.{IsValidEntry}
+use Rattle.dr_entry.proofs.Records.{short_block}
+use Rattle.dr_entry.proofs.ListParts.{each_at}
+use Rattle.dr_entry.proofs.Trims.{short_vote}
 use Rattle.dr_log.specs.State.{LogState}
-use Rattle.dr_log.specs.Standing.{votes_length}
-use Rattle.dr_log.proofs.Growing.{short_block, short_log_length}
+use Rattle.dr_log.proofs.Growing.{short_log_length}
 use Rattle.dr_log_bytes.specs.Content.{block_length}
-use Rattle.dr_machine.specs.Group.{Group, IsGroup, IsPresent, banks, roster}
+use Rattle.dr_machine.specs.Group.{Group, IsPresent, banks, roster}
 use Rattle.dr_program.specs.declared.outcome.LogWhy.{LogWhy}
 use Rattle.dr_program.specs.declared.outcome.LogWhy.TheVariants as whys
 use Rattle.dr_program.specs.declared.setup.Setup.{Setup}
-use Rattle.dr_program.specs.Program.{AllEnded, AreSetups, IsRanFrom, IsSetup, Program, begun_program, end_at, end_of}
+use Rattle.dr_program.specs.Program.{AllEnded, AreSetups, Program, begun_program, end_at, end_of}
 use Rattle.dr_program.specs.Reading.{table_of, world}
 use Rattle.dr_program.specs.Running.{Running, begun_running, end_by}
 use Rattle.dr_program.proofs.Holdings.{held_of}
 use Rattle.dr_program.proofs.Voting.{votes_within}
 use Rattle.dr_program_laws.specs.Ended.{is_log_end}
 use Rattle.dr_program_laws.specs.Failing.{AreFailing, IsFailing, has_log_end}
-use Rattle.dr_program_laws.proofs.Failing.{all_fail}
 use Rattle.dr_program_laws.proofs.Worlds.{all_ends}
 use Rattle.dr_restart.specs.declared.start.Start.{Start}
 use Rattle.dr_restart.specs.Groups.{group_of}
 use Rattle.dr_restart.specs.Setups.{IsBegun}
 use Rattle.dr_restart.proofs.Setups.{are_setups}
 use Rattle.dr_script.specs.declared.script.Script.{Script}
-use Rattle.dr_room.proofs.Bounds.{history_below}
+use Rattle.dr_log.proofs.Standing.{short_votes}
+use Rattle.dr_program_laws.proofs.Bounds.{history_below}
 use Rattle.dr_refine.proofs.Deeds.{program_member, replicas}
 use Rattle.dr_world_laws.proofs.Messages.{valid_history}
 use Rattle.dr_world_laws.proofs.Worlds.{holds_messages, known}
@@ -51,55 +49,11 @@ use Rattle.dr_age.specs.Logged.{AreAmple, AreOpened, HaveCome, IsAmple, IsNotFul
 use Rattle.dr_age.specs.Sound.{IsSound}
 use Rattle.dr_age.proofs.Sound.{history_there}
 use Rattle.dr_program.specs.Presence.{present_at}
-use Rattle.dr_program.proofs.Present.{present_within, ended_there, present_map}
+use Rattle.dr_program.proofs.Present.{present_within, ended_there, begun_fresh}
+use Rattle.dr_program.proofs.RunningPrograms.{IsFresh}
+use Rattle.dr_logged.proofs.Served.{same_there}
 
 -- ---- the beginning
-
--- what is there is something
-some_there : {A : Type 0} (o : Option A) → is_some o ≡ true → (x : A) × (o ≡ Some x)
-some_there None e = absurd (cc)
-some_there (Some x) e = (x, refl)
-
--- a log at the place of one that was there
-pub same_there : {D : Type 0} (olds news : List (Option (LogState D))) (m : ℕ) (old : LogState D)
-    → HaveSamePlaces olds news → present_at olds m ≡ Some old
-    → (new : LogState D) × (present_at news m ≡ Some new)
-same_there olds news m old places there = some_there (present_at news m) (places.each m ∙ ap is_some there)
-
--- what a member has as its age opens
-pub record IsFresh (g : Group) (r : Running) : Type 0 where
-  pub history : r.replica.history ≡ first_entries g.opening
-  pub logged : r.replica.logged ≡ length r.replica.history
-  pub votes : r.replica.votes ≡ []
-  pub none : r.failed ≡ None
-
-fresh : (g : Group) (limit m : ℕ) (s : Setup) → IsSetup g limit m s → IsFresh g (begun_running s)
-fresh g limit m s is = record {
-  history = λ z. is.start z ++ View (is.age z) 0 (is.view z) ∷ [];
-  logged = refl;
-  votes = refl;
-  none = refl;
-}
-
-pub begun_fresh : (g : Group) (limit : ℕ) (setups : List (Option Setup)) (m : ℕ) (r : Running)
-    → AreSetups g limit setups
-    → present_at (begun_program g setups).members m ≡ Some r → IsPresent g m × IsFresh g r
-begun_fresh g limit setups m r are there = by (present_at setups m) refl
-    (sym (present_map begun_running setups m) ∙ there)
-  where
-    by : (o : Option Setup) → present_at setups m ≡ o → option_map begun_running o ≡ Some r
-        → IsPresent g m × IsFresh g r
-    by None e at = absurd (cc)
-    by (Some s) e at = (
-      (are.each m s e).present,
-      subst (IsFresh g) (same_Some (begun_running s) r at) (fresh g limit m s (are.each m s e)),
-    )
-
--- an element that stands at a number is so where each is
-pub each_at : {A : Type 0} (P : A → Type 0) (xs : List A) (m : ℕ) (x : A) → All P xs
-    → slice_get xs m ≡ Some x → P x
-each_at P xs m x all there = subst P (get_or_from_slice_get xs m x x there)
-    (all m x (slice_get_within xs m x there))
 
 -- logs that got room are ready for their members, which have begun
 ready_begins : {D : Type 0} (told : D → Option Told) (count : D → ℕ) (g : Group) (limit : ℕ)
@@ -202,22 +156,6 @@ have_come {D} told count g bases logs p over = λ m base log r from there at.
     (over.served m base log r from there at).come
 
 -- ---- ample logs
-
--- a vote has a short block
-short_vote : (v : Vote) → v.members ≤ MAX_MEMBERS → 1 + length (vote_spelling v) ≤ 73
-short_vote v few = omega (
-  arith,
-  few,
-  counts_length (take v.members v.value.trim),
-  length-take v.members v.value.trim,
-)
-
-pub short_votes : (vs : List Vote) → All (λ (v : Vote). v.members ≤ MAX_MEMBERS) vs
-    → votes_length vs ≤ 73 * length vs
-short_votes vs few =
-    let votes = sum_by-le (λ (v : Vote). 1 + length (vote_spelling v)) 73 vs
-    (λ k d l. short_vote (slice_index_or vs k d) (few k d l)) in
-    omega (arith, votes)
 
 -- the votes of a member in the program's world
 votes_there : (g : Group) (p : Program) (m : ℕ) (r : Running) → IsSound g p
@@ -357,14 +295,6 @@ none_full {D} told count g bases logs p over ample = all_ends (λ (e : MemberEnd
         (over.served m base.0 log.0 r base.1 log.1 there)
 
 -- ---- a program that ran from the beginning of an age
-
--- its members end by their appends
-pub all_failing : (script : Script) (start : Start) (nth : ℕ) (begun p : Program)
-    → IsGroup (group_of script start) → length script.messages ≡ script.members → 1 ≤ script.turns → IsBegun script start nth begun
-    → IsRanFrom begun p → AreFailing p
-all_failing script start nth begun p group lists some (setups, are, is) ran = λ m r there.
-    all_fail (group_of script start) script.turns setups p m r group some
-    (are_setups script start nth setups lists are) (subst (λ b. IsRanFrom b p) is ran) there
 
 -- its logs, once they have room, are ready for its members
 pub ready_with : {D : Type 0} (told : D → Option Told) (count : D → ℕ) (script : Script)

@@ -5,16 +5,17 @@ use Rattle.dr_disk.specs.Disk.{Told}
 use Rattle.dr_entry.specs.declared.end.End.{End}
 use Rattle.dr_entry.specs.declared.end.End.TheVariants as ends
 use Rattle.dr_entry.specs.declared.end.MemberEnd.{MemberEnd}
+use Rattle.dr_entry.proofs.ListParts.{each_at}
 use Rattle.dr_log.specs.State.{LogState}
 use Rattle.dr_logged.specs.Served.{HasCome, HaveSamePlaces, WentSo}
 use Rattle.dr_program.specs.declared.outcome.LogWhy.{LogWhy}
 use Rattle.dr_program.specs.declared.outcome.LogWhy.TheVariants as whys
 use Rattle.dr_program.specs.Program.{Program, end_at, end_of}
 use Rattle.dr_program_laws.proofs.Worlds.{all_ends, end_told}
-use Rattle.dr_age.proofs.Ends.{each_at, same_there}
 use Rattle.dr_program.specs.Presence.{present_at}
 use Rattle.dr_program.specs.Replica.{Replica}
 use Rattle.dr_program.specs.Running.{Running}
+use Rattle.dr_logged.proofs.Served.{same_there}
 use Rattle.dr_age.specs.Logged.{HaveCome, IsNotFull, NoneFull, NoneStopped, why_ended}
 
 -- a member that neither a fault nor a full log ended was not ended by its log

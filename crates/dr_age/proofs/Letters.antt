@@ -1,19 +1,11 @@
 -- Where nobody is late, no letter is given or taken; and who has given one in its view, there is one.
-use Rattle.std.proofs.Common.{◌≡◌, refl, sym, ap, ◌∙◌, subst, inl, inr, ◌⊎◌, Contains, ℕ, ◌+◌, true, List, [], arith}
+use Rattle.std.proofs.Common.{◌≡◌, refl, sym, ap, ◌∙◌, subst, ℕ, true, List, []}
 use Rattle.std.specs.Prelude.{Some}
-use Rattle.std.proofs.lemmas.Option.{slice_get-get_or}
 use Rattle.dr_entry.specs.declared.entry.Entry.{Entry}
-use Rattle.dr_faithful.specs.Chosen.{endings_by, views_by}
-use Rattle.dr_faithful.specs.Faithful.{Faithful}
-use Rattle.dr_history.specs.Members.{has, members_of}
-use Rattle.dr_history.specs.Order.{IsLateIn, IsNewIn}
+use Rattle.dr_history.specs.Members.{has}
 use Rattle.dr_history.specs.Soundness.{IsNobodyLate}
-use Rattle.dr_history_laws.proofs.Members.{member-has}
-use Rattle.dr_history_laws.specs.Courses.{ViewHasEnded}
-use Rattle.dr_machine.proofs.Presence.{in_roster, late_in}
-use Rattle.dr_machine.specs.Group.{Group, IsGroup}
-use Rattle.dr_machine.specs.Guards.{CanWelcome}
-use Rattle.dr_machine.specs.World.{World}
+use Rattle.dr_machine.proofs.Presence.{late_in}
+use Rattle.dr_machine.specs.Group.{Group}
 use Rattle.dr_program.proofs.Holdings.{held_of}
 use Rattle.dr_program.specs.declared.deed.Deed.{Deed}
 use Rattle.dr_program.specs.declared.deed.Deed.TheVariants as deeds
@@ -24,43 +16,13 @@ use Rattle.dr_program.specs.Reading.{step_by, step_due, table_of, world}
 use Rattle.dr_program.specs.Replica.{me}
 use Rattle.dr_program.specs.Running.{Running, next_deed, next_step}
 use Rattle.dr_refine.proofs.Deeds.{deed_is_step, due_allowed, program_member, replicas}
-use Rattle.dr_room.proofs.Letters.{letters_are}
-use Rattle.dr_world_laws.proofs.ChosenViews.{ending-next}
-use Rattle.dr_world_laws.proofs.Worlds.{Known, known}
+use Rattle.dr_program_laws.proofs.Letters.{letters_are}
+use Rattle.dr_world_laws.proofs.Worlds.{known, newcomer_late}
 use Rattle.dr_age.specs.Sound.{IsOfNoLetter, IsSound}
 use Rattle.dr_age.proofs.Deeds.{deed_tells, IsTold}
 use Rattle.dr_machine.specs.Acts.{CanTake}
+use Rattle.dr_machine.proofs.Groups.{nobody}
 use Rattle.dr_program.proofs.Runs.{joins_outside}
-
--- nobody is late where all that are there are in the first view
-nobody : (g : Group) (m : ℕ) → IsNobodyLate g.opening → IsLateIn g.opening m → ⊥
-nobody g m none late = cc (ap (λ mask. has mask m) none ∙ late.0, late.1)
-
--- a newcomer of a view is late
-newcomer_late : (g : Group) (w : World) (m j : ℕ) → IsGroup g → Known g w → CanWelcome g w m j
-    → IsLateIn g.opening j
-newcomer_late g w m j is y can = fresh (ended.newcomers j next)
-  where
-    f : Faithful g (views_by g y.values) w
-    f = y.chosen.faithful
-
-    was : (u : ℕ) × (w.past.view m ≡ u + 1) × (w.came_from m ≡ views_by g y.values u)
-    was = f.views.came m can.welcomer
-
-    ended : ViewHasEnded g.opening w.past.sent (endings_by g.opening y.values) was.0
-    ended = (y.chosen.laid.left m was.0 (in_roster g m is can.may.alive.present) (omega (arith, was.1))).ended
-
-    next : has (endings_by g.opening y.values was.0).next j ≡ true
-    next = ap (λ k. has k j) (ending-next g y.values was.0) ∙ subst (λ v. has (views_by g y.values v) j ≡ true) was.1
-        (ap (λ k. has k j) (sym (f.views.own m)) ∙ can.newcomer)
-
-    fresh : Contains (members_of (views_by g y.values was.0)) j
-        ⊎ IsNewIn g.opening (views_by g y.values) was.0 j → IsLateIn g.opening j
-    fresh (inl c) =
-        let there : has (views_by g y.values was.0) j ≡ true = member-has (views_by g y.values was.0) c.0 j
-        (slice_get-get_or (members_of (views_by g y.values was.0)) c.0 j c.1 ∙ ap Some c.2) in
-        absurd (cc (there, ap (λ k. has k j) (sym was.2) ∙ can.new))
-    fresh (inr new) = new.late
 
 -- no letter is given
 no_give : (g : Group) (p : Program) (m j : ℕ) (r : Running) → IsSound g p → IsNobodyLate g.opening

@@ -4,3 +4,4 @@ pub mod Ends
 pub mod Sound
 pub mod Lasting
 pub mod Letters
+pub mod LoggedMembers

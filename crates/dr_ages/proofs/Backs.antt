@@ -1,9 +1,8 @@
 -- Yards whose disks are back under the logs that stand on them.
-use Rattle.std.proofs.Common.{◌≡◌, ◌≢◌, refl, sym, ap, ◌∙◌, subst, ⊎_elim, ℕ, ◌+◌, ◌<◌, ◌≤◌, ◌⊎◌, inl, inr, le_refl, arith, Bool, true, false, List, [], ◌∷◌, ◌++◌, length, length-append}
-use Rattle.std.specs.Prelude.{Option, None, Some, is_some}
+use Rattle.std.proofs.Common.{◌≡◌, ◌≢◌, refl, sym, ap, ◌∙◌, subst, ℕ, ◌+◌, ◌<◌, ◌≤◌, ◌⊎◌, inl, inr, le_refl, arith, Bool, true, false, List, [], ◌∷◌, ◌++◌, length, length-append}
+use Rattle.std.specs.Prelude.{Option, None, Some}
 use Rattle.std.specs.Option.{option_map_or}
-use Rattle.std.proofs.lemmas.Bool.{cases_eq, cases_lt}
-use Rattle.std.proofs.lemmas.List.{get_or_append_left, get_or_past, get_or_push}
+use Rattle.std.proofs.lemmas.Bool.{cases_eq}
 use Rattle.dr_disk.specs.Disk.{Told}
 use Rattle.dr_disk.specs.Images.{Goes}
 use Rattle.dr_entry.specs.declared.entry.Entry.{Entry}
@@ -12,53 +11,17 @@ use Rattle.dr_log.specs.Standing.{KeepsRecords}
 use Rattle.dr_log.specs.State.{LogState}
 use Rattle.dr_logged.specs.Served.{HaveSamePlaces}
 use Rattle.dr_opening.specs.Lists.{log_of}
-use Rattle.dr_program.specs.Presence.{present_at}
-use Rattle.dr_program.proofs.Present.{present_within}
+use Rattle.dr_program.proofs.Present.{present_within, place_before, place_new}
 use Rattle.dr_yard.specs.Yards.{YardState}
+use Rattle.dr_yard.proofs.YardStates.{same_yard}
+use Rattle.dr_program.proofs.Programs.{place_past}
+use Rattle.dr_opening.proofs.Lists.{stays_none, was_there, was_none, stays_there}
 use Rattle.dr_ages.specs.Lent.{AreAllBut, AreMounted, IsAlike, with_logs}
 use Rattle.dr_ages.specs.Opened.{AreLater}
 use Rattle.dr_ages.specs.Passing.{AreKeptSince, AreUntouched, GoesOn, IsKeptSince, PassOn}
 use Rattle.dr_ages.proofs.Staying.{kept_since, on_since}
 
 -- ---- places
-
--- where one of two is there both are
-pub both_there : {X Y : Type 0} (o : Option X) (p : Option Y) (x : X) → is_some o ≡ is_some p → o ≡ Some x
-    → (y : Y) × (p ≡ Some y)
-both_there o None x same at = absurd (cc (same, ap (λ q. is_some q) at))
-both_there o (Some y) x same at = (y, refl)
-
-pub neither_there : {X Y : Type 0} (o : Option X) (p : Option Y) → is_some o ≡ is_some p → o ≡ None → p ≡ None
-neither_there o None same at = refl
-neither_there o (Some y) same at = absurd (cc (same, ap (λ q. is_some q) at))
-
--- the log that was there is there
-pub was_there : {D : Type 0} (olds news : List (Option (LogState D))) (m : ℕ) (new : LogState D)
-    → HaveSamePlaces olds news → log_of news m ≡ Some new → (old : LogState D) × (log_of olds m ≡ Some old)
-was_there olds news m new places at = both_there (log_of news m) (log_of olds m) new (places.each m) at
-
-pub stays_there : {D : Type 0} (olds news : List (Option (LogState D))) (m : ℕ) (old : LogState D)
-    → HaveSamePlaces olds news → log_of olds m ≡ Some old → (new : LogState D) × (log_of news m ≡ Some new)
-stays_there olds news m old places at =
-    both_there (log_of olds m) (log_of news m) old (sym (places.each m)) at
-
-pub was_none : {D : Type 0} (olds news : List (Option (LogState D))) (m : ℕ)
-    → HaveSamePlaces olds news → log_of news m ≡ None → log_of olds m ≡ None
-was_none olds news m places at = neither_there (log_of news m) (log_of olds m) (places.each m) at
-
-pub stays_none : {D : Type 0} (olds news : List (Option (LogState D))) (m : ℕ)
-    → HaveSamePlaces olds news → log_of olds m ≡ None → log_of news m ≡ None
-stays_none olds news m places at = neither_there (log_of olds m) (log_of news m) (sym (places.each m)) at
-
-pub same_places : {D : Type 0} (logs : List (Option (LogState D))) → HaveSamePlaces logs logs
-same_places logs = record { all = refl; each = λ m. refl }
-
-pub places_then : {D : Type 0} (a b c : List (Option (LogState D))) → HaveSamePlaces a b → HaveSamePlaces b c
-    → HaveSamePlaces a c
-places_then a b c first next = record {
-  all = next.all ∙ first.all;
-  each = λ m. next.each m ∙ first.each m;
-}
 
 -- the log of a member that is not missing is there, and no other
 pub log_at : {D : Type 0} (missing : ℕ) (logs : List (Option (LogState D))) (m : ℕ) → AreAllBut missing logs
@@ -93,33 +56,7 @@ none_at {D} missing logs m but gone = by (log_of logs m) refl
     by None at = at
     by (Some log) at = absurd (cc (not_missing missing logs m log but at, gone))
 
--- a place more at the end
-pub place_before : {X : Type 0} (xs : List (Option X)) (x : Option X) (m : ℕ) → m < length xs
-    → present_at (xs ++ x ∷ []) m ≡ present_at xs m
-place_before xs x m l = get_or_append_left xs (x ∷ []) None m l
-
-pub place_new : {X : Type 0} (xs : List (Option X)) (x : Option X) (m : ℕ) → length xs ≡ m
-    → present_at (xs ++ x ∷ []) m ≡ x
-place_new xs x m at = get_or_push xs x None m at
-
-pub place_past : {X : Type 0} (xs : List (Option X)) (m : ℕ) → length xs ≤ m → present_at xs m ≡ None
-place_past xs m past = get_or_past xs m None past
-
--- the others stay
-pub place_other : {X : Type 0} (xs : List (Option X)) (x : Option X) (m : ℕ) → m ≢ length xs
-    → present_at (xs ++ x ∷ []) m ≡ present_at xs m
-place_other xs x m apart = ⊎_elim
-    (λ (l : m < length xs). place_before xs x m l)
-    (λ (g : length xs ≤ m). place_past (xs ++ x ∷ []) m (omega (arith, g, apart, length-append xs (x ∷ [])))
-    ∙ sym (place_past xs m g))
-    (cases_lt m (length xs))
-
 -- ---- what is told of disks under logs
-
--- yards that tell the same are in one state
-pub same_yard : (one other : YardState) → ((m : ℕ) → one.told m ≡ other.told m)
-    → ((m : ℕ) → one.faults m ≡ other.faults m) → one ≡ other
-same_yard one other told faults = λ i. record { told = λ m. told m i; faults = λ m. faults m i }
 
 -- what is told of a disk under a log
 pub told_at : {D : Type 0} (tells : D → Option Told) (faults : D → ℕ) (yard : YardState)

@@ -1,32 +1,23 @@
 -- A run behind a crash begins with what was logged.
-use Rattle.std.proofs.Common.{◌≡◌, ◌⊎◌, inl, inr, ⊎_elim, refl, sym, ap, ◌∙◌, subst, ℕ, ◌<◌, ◌≤◌, true, false, arith, List, [], ◌∷◌, ◌++◌, append-nil, length, length-append, take, take_at, Contains}
-use Rattle.std.specs.Prelude.{IfSome, IsSomeAnd, IsTrue, Option, None, Some, option_map, slice_get}
-use Rattle.std.proofs.lemmas.List.{nil_from_length}
+use Rattle.std.proofs.Common.{◌≡◌, ◌⊎◌, inl, inr, ⊎_elim, refl, sym, ap, ◌∙◌, subst, ℕ, ◌<◌, true, false, arith, List, [], ◌∷◌, ◌++◌, append-nil, take}
+use Rattle.std.specs.Prelude.{IfSome, IsSomeAnd, IsTrue, Option, None, Some, slice_get}
 use Rattle.std.proofs.lemmas.Option.{none-some, same_Some, slice_get_within}
 use Rattle.dr_disk.specs.Disk.{Told, content_of}
 use Rattle.dr_entry.specs.declared.end.AgeEnd.{AgeEnd}
 use Rattle.dr_entry.specs.declared.end.MemberEnd.{MemberEnd}
 use Rattle.dr_entry.specs.declared.entry.Entry.{Entry}
-use Rattle.dr_entry.specs.declared.entry.Entry.TheVariants.{View, Msg}
-use Rattle.dr_history.specs.declared.opening.Opening.{Opening}
-use Rattle.dr_history.specs.History.{GroupView, IsPrefixOf, view_of}
+use Rattle.dr_history.specs.History.{IsPrefixOf}
 use Rattle.dr_history.specs.Members.{has}
-use Rattle.dr_history.specs.Restarting.{AllStand, AreAllAlong, AreAlong}
-use Rattle.dr_history.proofs.Following.{view_of-nil}
+use Rattle.dr_history.specs.Restarting.{AreAllAlong, AreAlong}
 use Rattle.dr_history_laws.proofs.Keeping.{prefix_then}
 use Rattle.dr_history_laws.proofs.Lists.{slice_get-some}
-use Rattle.dr_history_laws.proofs.Stood.{age_below}
 use Rattle.dr_log.specs.Standing.{LosesNone}
 use Rattle.dr_log_bytes.specs.Content.{OnLog}
 use Rattle.dr_log_bytes.specs.Grammar.{StandFor}
 use Rattle.dr_log_bytes.proofs.Meaning.{content_once}
-use Rattle.dr_opening.specs.Lists.{all_as_lists, as_lists}
-use Rattle.dr_opening.specs.Tries.{IsChosenOf, content_at}
-use Rattle.dr_program.proofs.Present.{present_map}
-use Rattle.dr_quorum.specs.Handing.{handed_by}
-use Rattle.dr_quorum_laws.proofs.LastViews.{last-view, view-come, view-late}
-use Rattle.dr_quorum_laws.proofs.Lists.{prefix-in}
-use Rattle.dr_restart.specs.Choosing.{AreOfHolders, AreOfNobody, EndsInAge, Handed, IsChosenStart, of_set}
+use Rattle.dr_opening.specs.Lists.{as_lists}
+use Rattle.dr_opening.specs.Tries.{content_at}
+use Rattle.dr_restart.specs.Choosing.{IsChosenStart, of_set}
 use Rattle.dr_restart.specs.declared.lists.LogLists.{LogLists}
 use Rattle.dr_restart.specs.declared.start.Start.{Start}
 use Rattle.dr_restart.specs.Groups.{first_group_of, group_of}
@@ -39,7 +30,7 @@ use Rattle.dr_ages.specs.Ages.{IsAgeOf, over_of, start_of}
 use Rattle.dr_ages.specs.Crashed.{HaveCrashed, IsLeftOver}
 use Rattle.dr_ages.specs.Found.{AreFound, ReadsAs}
 use Rattle.dr_ages.specs.Runs.{HaveLogged, IsRunOf, with_these}
-use Rattle.dr_ages.proofs.Keeping.{there_found, ended_over, image_entries, left_begins}
+use Rattle.dr_ages.proofs.Keeping.{there_found, ended_over, image_entries}
 use Rattle.dr_disk.specs.Images.{IsLeft}
 use Rattle.dr_kept.proofs.Chosen.{few}
 use Rattle.dr_kept.proofs.Lasting.{since_behind}
@@ -60,6 +51,8 @@ use Rattle.dr_restart.specs.Left.{entries_on_logs}
 use Rattle.dr_restart.specs.Trying.{IsTry}
 use Rattle.dr_restart.proofs.Listed.{listed}
 use Rattle.dr_script.specs.Ranges.{HasRanges}
+use Rattle.dr_age.proofs.LoggedMembers.{left_begins}
+use Rattle.dr_kept.proofs.Crashes.{front_of_start}
 use Rattle.dr_ages.specs.Fit.{AreChosen, AreInStep, AreReadable, MayLeave}
 use Rattle.dr_ages.specs.Left.{HasLeft}
 use Rattle.dr_ages.specs.Tried.{AreOfTry, AreTried}
@@ -106,74 +99,6 @@ found_along script missing mid after contents i j f g step crashed found at_f at
         (λ p. inr p) (λ p. inl p) (along j i g.entries f.entries more (at j g at_g) (at i f at_f))
 
 -- ---- the start that is chosen of them
-
--- a log without a View has nothing
-nothing_without : (o : Opening) (es : List Entry) → AllStand o es → view_of es ≡ None → es ≡ []
-nothing_without o [] stand none = refl
-nothing_without o (View a n m ∷ es) stand none =
-    let last = age_below o (View a n m ∷ es) stand 0 a n m refl in absurd (none-some last.0 (sym none ∙ last.1))
-nothing_without o (Msg s i b ∷ es) stand none = absurd (subst (λ z. IsSomeAnd z (λ v. Contains v.members s))
-    (ap view_of (take_at [] (Msg s i b ∷ es) 0 refl) ∙ view_of-nil) (stand 0 (Msg s i b) refl).0)
-
--- what goes on from a list ends in a view that is no earlier
-ends_later : (o : Opening) (f g : List Entry) (v : GroupView) → AllStand o g → IsPrefixOf f g
-    → view_of f ≡ Some v → (u : GroupView) × (view_of g ≡ Some u) × (v.age ≤ u.age)
-ends_later o f g v stand p e =
-    let last = last-view f v e in
-    let there = prefix-in f g (View v.age v.number last.0) p last.1 in
-    let t = view-come o g v.age v.number last.0 stand there in
-    (t.0, t.1, view-late o g v.age v.number last.0 t.0 stand there t.1)
-
--- of two lists, one of which goes on from the other and is no longer
-no_longer : (xs ys : List Entry) → IsPrefixOf xs ys → length ys ≤ length xs → IsPrefixOf ys xs
-no_longer xs ys p short =
-    let none : p.0 ≡ [] = nil_from_length p.0 (omega (arith, short, ap length p.1, length-append xs p.0)) in
-    ([], append-nil ys ∙ sym p.1 ∙ ap (λ r. xs ++ r) none ∙ append-nil xs)
-
--- each log that is handed in is a first part of it
-front_of_start : (o : Opening) (contents : List (Option OnLog)) (start : Start) (m : ℕ) (c : OnLog)
-    → IsChosenOf o contents start
-    → ((i j : ℕ) (f g : OnLog) → content_at contents i ≡ Some f → content_at contents j ≡ Some g
-    → AreAlong f.entries g.entries)
-    → content_at contents m ≡ Some c → IsPrefixOf c.entries start.entries
-front_of_start o contents start m c is along at = by is.chosen.entries
-  where
-    h : Handed
-    h = handed_by (all_as_lists contents)
-
-    here : h m ≡ Some (as_lists c)
-    here = present_map as_lists contents m ∙ ap (option_map as_lists) at
-
-    -- what is on a log that is handed in
-    on : (k : ℕ) (log : LogLists) → h k ≡ Some log → (d : OnLog) × (content_at contents k ≡ Some d) × (as_lists d ≡ log)
-    on k log there = of (content_at contents k) refl (sym (present_map as_lists contents k) ∙ there)
-      where
-        of : (z : Option OnLog) → content_at contents k ≡ z → option_map as_lists z ≡ Some log
-            → (d : OnLog) × (content_at contents k ≡ Some d) × (as_lists d ≡ log)
-        of None none made = absurd (none-some log made)
-        of (Some d) some made = (d, some, same_Some (as_lists d) log made)
-
-    longer : AreOfHolders o h start.entries → IsPrefixOf start.entries c.entries → IsPrefixOf c.entries start.entries
-    longer held p =
-        let end = held.held.3 in
-        let u = ends_later o start.entries c.entries end.0 (is.chosen.sound m (as_lists c) here) p
-        (ap view_of held.held.4 ∙ end.1) in
-        let most = held.last.greatest m u.0.age (as_lists c) here (u.0, u.1, refl) in
-        let same : u.0.age ≡ held.age = omega (arith, u.2, most, end.2) in
-        no_longer start.entries c.entries p
-        (held.longest c.entries (m, as_lists c, here, subst (EndsInAge (as_lists c)) same (u.0, u.1, refl), refl))
-
-    by : AreOfHolders o h start.entries ⊎ AreOfNobody h start.entries → IsPrefixOf c.entries start.entries
-    by (inl held) =
-        let d = on held.held.0 held.held.1 held.held.2 in
-        let same : d.0.entries ≡ start.entries = ap (λ (l : LogLists). l.entries) d.2 ∙ sym held.held.4 in
-        ⊎_elim (λ p. subst (IsPrefixOf c.entries) same p)
-        (λ p. longer held (subst (λ es. IsPrefixOf es c.entries) same p))
-        (along m held.held.0 c d.0 at d.1)
-    by (inr nobody) =
-        let none = nothing_without o c.entries (is.chosen.sound m (as_lists c) here)
-        (nobody.nobody m (as_lists c) here) in
-        (start.entries, ap (λ es. es ++ start.entries) none)
 
 -- what a disk reads behind a crash begins with what no crash would have lost
 reads_on : (o now : Option Told) (logged : List Entry) (c : OnLog)

@@ -7,7 +7,6 @@ use Rattle.std.proofs.lemmas.List.Elements.{All-drop}
 use Rattle.std.proofs.lemmas.List.Sums.{sum_by_push}
 use Rattle.std.proofs.lemmas.Nat.{mul-le}
 use Rattle.std.proofs.lemmas.Option.{same_Some, slice_get_within}
-use Rattle.dr_age.proofs.Ends.{short_votes}
 use Rattle.dr_age.specs.Logged.{NoneFull}
 use Rattle.dr_disk.specs.Disk.{Told, content_of, state_of}
 use Rattle.dr_disk.specs.Images.{IsImage}
@@ -20,31 +19,30 @@ use Rattle.dr_entry.specs.declared.record.Record.{Record}
 use Rattle.dr_entry.specs.declared.record.Record.TheVariants as records
 use Rattle.dr_entry.specs.declared.record.Vote.{Vote}
 use Rattle.dr_entry.specs.Spelling.{IsValidVote, entry_spelling, vote_spelling}
+use Rattle.dr_entry.proofs.ListPlaces.{within_places}
 use Rattle.dr_history.specs.History.{IsPrefixOf}
 use Rattle.dr_history.specs.Order.{first_entries}
+use Rattle.dr_history.proofs.Histories.{part_of_opened}
+use Rattle.dr_history.proofs.Bits.{has_zero}
 use Rattle.dr_history_laws.proofs.Lists.{slice_get-some}
-use Rattle.dr_kept.proofs.Following.{among_lists, handed_there, lists_with}
+use Rattle.dr_kept.proofs.Following.{among_lists, lists_with, on_found}
 use Rattle.dr_log.specs.Standing.{entries_length, votes_length}
 use Rattle.dr_log.proofs.Growing.{entries_length-append}
-use Rattle.dr_log_bytes.specs.Content.{OnLog, empty_of, with_record}
+use Rattle.dr_log_bytes.specs.Content.{OnLog, with_record}
 use Rattle.dr_log_bytes.specs.Grammar.{StandFor}
 use Rattle.dr_log_bytes.proofs.Meaning.{content_once}
 use Rattle.dr_logged.specs.Served.{IsRecordDue}
 use Rattle.dr_machine.specs.Group.{Group, IsGroup, banks, roster}
 use Rattle.dr_opening.specs.Accepted.{AreAccepted}
-use Rattle.dr_opening.specs.CatchingUp.{opened_with}
-use Rattle.dr_opening.specs.Contents.{IsCutFor, IsOpenFor, IsRisingStep, IsVoteStep, voted_for}
+use Rattle.dr_opening.specs.Contents.{IsRisingStep, IsVoteStep, voted_for}
 use Rattle.dr_opening.specs.Lists.{all_as_lists, as_lists}
 use Rattle.dr_opening.specs.Tries.{IsChosenOf, content_at}
-use Rattle.dr_opening.proofs.Catching.{part_of_opened}
-use Rattle.dr_opening.proofs.Lists.{handed_is, voted_lists, within_places}
 use Rattle.dr_opening.proofs.Trying.{chosen_by}
 use Rattle.dr_opening.proofs.Ways.{open_entries}
-use Rattle.dr_opening.proofs.Whole.{all_in_set, entries_among, front_of_longest}
+use Rattle.dr_opening.proofs.Whole.{all_in_set, entries_among}
 use Rattle.dr_program.specs.Program.{member_end}
 use Rattle.dr_program.specs.Replica.{Replica}
 use Rattle.dr_quorum.specs.Handing.{handed_by}
-use Rattle.dr_quorum_laws.proofs.Lists.{in-nothing}
 use Rattle.dr_quorum_laws.proofs.Longest.{longest-chosen}
 use Rattle.dr_quorum_laws.proofs.Refusals.{one-start}
 use Rattle.dr_restart.specs.declared.lists.LogLists.{LogLists}
@@ -53,12 +51,13 @@ use Rattle.dr_restart.specs.Choosing.{AreOfHolders, AreOfNobody, HasAge, IsChose
 use Rattle.dr_restart.specs.Groups.{first_group_of, group_of}
 use Rattle.dr_restart.specs.Left.{entries_on_logs}
 use Rattle.dr_restart.specs.Refusing.{Refusal}
-use Rattle.dr_restart.specs.Trying.{age_vote_of}
 use Rattle.dr_script.specs.declared.script.Script.{Script}
 use Rattle.dr_script.specs.Ranges.{HasGroupRanges, HasRanges}
-use Rattle.dr_words.proofs.Bits.{has_zero}
+use Rattle.dr_history_laws.proofs.Keeping.{front_of_longest}
+use Rattle.dr_log.proofs.Standing.{short_votes}
 use Rattle.dr_yard.specs.Yards.{AllTell, AreEmpty, YardState}
 use Rattle.dr_world_laws.proofs.Finishing.{banks-small}
+use Rattle.dr_age.proofs.LoggedMembers.{left_begins}
 use Rattle.dr_ages.specs.declared.mode.Mode.{Mode}
 use Rattle.dr_ages.specs.declared.part.Part.{Part}
 use Rattle.dr_ages.specs.declared.stop.Stop.{Stop}
@@ -68,13 +67,15 @@ use Rattle.dr_ages.specs.Found.{AreFew, AreFound, AreRoomy, ReadsAs}
 use Rattle.dr_ages.specs.Left.{HasLeft, with_logged}
 use Rattle.dr_ages.specs.Stops.{AreOpenBelow, AreRefusedFor, HasStopped, HaveVotesBelow, IsOutside, IsTooFull}
 use Rattle.dr_opening.proofs.Choosing.{chosen_group}
+use Rattle.dr_opening.proofs.Contents.{next_long}
+use Rattle.dr_opening.proofs.Lists.{ageless, open_uncut}
 use Rattle.dr_ages.proofs.Chain.{tell_on}
 use Rattle.dr_ages.proofs.InStep.{age_leaves_good}
 use Rattle.dr_ages.proofs.Good.{IsGood, empty_found, empty_good, found_of, found_whole, good_never}
-use Rattle.dr_ages.proofs.Keeping.{IsBehind, age_next, behind, ended_over, image_entries, left_begins}
+use Rattle.dr_ages.proofs.Keeping.{IsBehind, age_next, behind, ended_over, image_entries}
 use Rattle.dr_ages.proofs.Reading.{found_read, read_once}
 use Rattle.dr_ages.proofs.Refusals.{refused_after}
-use Rattle.dr_ages.proofs.Short.{found_short, next_long, opened_short, voted_long}
+use Rattle.dr_ages.proofs.Short.{found_short, opened_short}
 use Rattle.dr_ages.proofs.Votes.{found_valid}
 
 -- ---- what an age brings to a log
@@ -206,28 +207,6 @@ uncut script yard contents start m c ranges found accepted chosen at =
         many : length (lists_with contents) ≡ length contents
         many = length-map contents (λ (o : Option OnLog). option_map_or as_lists o (record { entries = []; votes = []; age_votes = [] }))
 
--- so it takes what it lacks of all that the age begins with, a vote and an upgrade at most
-open_uncut : (start : Start) (c now : OnLog) → IsPrefixOf c.entries start.entries
-    → IsOpenFor start (voted_for start c) now
-    → now.length ≤ c.length + 8 + entries_length (drop (length c.entries) (opened_with start start.members))
-open_uncut start c now part (cut, is, same) = by is
-  where
-    voted : (voted_for start c).entries ≡ c.entries
-    voted = ap (λ (l : LogLists). l.entries) (voted_lists (age_vote_of start) c)
-
-    by : IsCutFor start (voted_for start c) cut
-        → now.length ≤ c.length + 8 + entries_length (drop (length c.entries) (opened_with start start.members))
-    by (inl (front, as_voted)) = omega (
-      arith,
-      ap (λ (x : OnLog). x.length) same,
-      ap (λ (x : OnLog). x.length) as_voted,
-      ap (λ (x : OnLog). entries_length (drop (length x.entries) (opened_with start start.members))) as_voted,
-      ap (λ (es : List Entry). entries_length (drop (length es) (opened_with start start.members))) voted,
-      voted_long start c,
-    )
-    by (inr (keep, due, as_cut)) =
-        absurd (due.beside (subst (λ (es : List Entry). IsPrefixOf es start.entries) (sym voted) part))
-
 -- ---- disks behind so many ages from the first
 
 -- The logs of disks behind k ages: but for their entries no more bytes than at first, and what these ages bring, and
@@ -241,21 +220,6 @@ pub record IsRoomyAt (script : Script) (bytes first k : ℕ) (yard : YardState) 
       → IsChosenOf (first_group_of script).opening contents start → start.age ≡ first + k
   pub last : (contents : List (Option OnLog)) → AreFound script.members 0 yard contents
       → AreRefusedFor script Refusal.AgesUsedUp contents → 2 ^ 16 ≤ first + k
-
--- no age is on an empty log
-ageless : (c : OnLog) (age : ℕ) → c ≡ empty_of true → HasAge (as_lists c) age → ⊥
-ageless c age empty has = by (subst (λ (d : OnLog). HasAge (as_lists d) age) empty has)
-  where
-    by : HasAge (as_lists (empty_of true)) age → ⊥
-    by (inl (number, members, there)) = in-nothing (View age number members) there
-    by (inr (inl (x, there, same))) = in-nothing x there
-    by (inr (inr (x, there, same))) = in-nothing x there
-
--- an age that is on a log that was handed in is on one that was found
-on_found : (contents : List (Option OnLog)) (m : ℕ) (log : LogLists)
-    → handed_by (all_as_lists contents) m ≡ Some log
-    → (c : OnLog) × (content_at contents m ≡ Some c) × (as_lists c ≡ log)
-on_found contents m log at = handed_there contents m log (sym (handed_is contents m) ∙ at)
 
 -- empty ones
 pub fresh_first : (script : Script) (yard : YardState) → AreEmpty script.members yard → IsRoomyAt script 9 0 0 yard

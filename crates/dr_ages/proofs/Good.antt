@@ -10,10 +10,13 @@ use Rattle.dr_disk.specs.Disk.{Told, content_of, state_of}
 use Rattle.dr_disk.specs.Images.{AllImages}
 use Rattle.dr_entry.specs.declared.end.AgeEnd.{AgeEnd}
 use Rattle.dr_entry.specs.declared.entry.Entry.{Entry}
+use Rattle.dr_entry.proofs.ListPlaces.{within_places}
 use Rattle.dr_history.specs.Members.{has}
+use Rattle.dr_history.proofs.Bits.{has_ones, has_zero}
+use Rattle.dr_history.specs.Restarting.{AllStand}
 use Rattle.dr_history_laws.proofs.Lists.{slice_get-some}
 use Rattle.dr_kept.proofs.Chosen.{some_there}
-use Rattle.dr_kept.proofs.Following.{among_lists, lists_with}
+use Rattle.dr_kept.proofs.Following.{among_lists, lists_with, handed_there}
 use Rattle.dr_log_bytes.specs.Content.{OnLog, empty_of, with_record}
 use Rattle.dr_log_bytes.specs.Grammar.{StandFor}
 use Rattle.dr_log_bytes.proofs.Meaning.{stands_or_damaged}
@@ -21,7 +24,7 @@ use Rattle.dr_opening.specs.Accepted.{AreAccepted}
 use Rattle.dr_opening.specs.Lists.{all_as_lists, as_lists}
 use Rattle.dr_opening.specs.Tries.{content_at}
 use Rattle.dr_opening.proofs.Accepting.{none_accepted}
-use Rattle.dr_opening.proofs.Lists.{handed_is, within_places}
+use Rattle.dr_opening.proofs.Lists.{handed_is}
 use Rattle.dr_program.specs.Replica.{Replica}
 use Rattle.dr_quorum.specs.Handing.{handed_by}
 use Rattle.dr_quorum_laws.proofs.AllThere.{all-pass}
@@ -32,7 +35,6 @@ use Rattle.dr_restart.specs.Left.{entries_on_logs}
 use Rattle.dr_restart.specs.Refusing.{IsRefusedFor, Refusal}
 use Rattle.dr_script.specs.declared.script.Script.{Script}
 use Rattle.dr_script.specs.Ranges.{HasGroupRanges, HasRanges}
-use Rattle.dr_words.proofs.Bits.{has_ones, has_zero}
 use Rattle.dr_yard.specs.Yards.{AllTell, AreEmpty, YardState}
 use Rattle.dr_ages.specs.declared.mode.Mode.{Mode}
 use Rattle.dr_ages.specs.declared.part.Part.{Part}
@@ -256,3 +258,15 @@ empty_good script yard empty = record {
     none : (o : Option Told) (at : ℕ) → IsSomeAnd o (λ t. content_of t ≡ []) → IfSome o (ReadsDamaged at) → ⊥
     none None at is reads = is
     none (Some t) at is reads = absurd (omega (arith, reads.damaged.0, ap length is))
+
+-- what stands on logs that are never refused may stand there
+pub stands_there : (script : Script) (yard : YardState) (contents : List (Option OnLog)) → IsGood script yard
+    → AreFound script.members 0 yard contents → (m : ℕ) (log : LogLists)
+    → handed_by (all_as_lists contents) m ≡ Some log → AllStand (first_group_of script).opening log.entries
+stands_there script yard contents good found m log at =
+    let there = handed_there contents m log (sym (handed_is contents m) ∙ at) in
+    let list : slice_get (lists_with contents) m ≡ Some log =
+    among_lists contents m there.0 there.1 ∙ ap Some there.2 in
+    (good.accepted contents found).sound m log.entries
+    (slice_get-map (λ (l : LogLists). l.entries) (lists_with contents) m
+    ∙ ap (option_map (λ (l : LogLists). l.entries)) list)

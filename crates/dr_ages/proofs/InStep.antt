@@ -1,29 +1,25 @@
 -- Disks whose logs are in step, whatever a crash has left of them: they stay so, where none is missing.
-use Rattle.std.proofs.Common.{◌≡◌, ◌⊎◌, refl, sym, ap, ◌∙◌, subst, ℕ, ◌-◌, ◌^◌, ◌<◌, ◌≤◌, true, inl, inr, arith, List, [], length}
+use Rattle.std.proofs.Common.{◌≡◌, ◌⊎◌, sym, ap, ◌∙◌, subst, ℕ, ◌-◌, ◌^◌, ◌<◌, ◌≤◌, true, inl, inr, arith, List, [], length}
 use Rattle.std.specs.Option.{option_map_or}
-use Rattle.std.specs.Prelude.{not, take, IsSomeAnd, Option, None, Some, is_some, slice_get}
+use Rattle.std.specs.Prelude.{not, IsSomeAnd, Option, None, Some, is_some, slice_get}
 use Rattle.std.proofs.lemmas.List.{length-map}
-use Rattle.std.proofs.lemmas.Option.{same_Some, slice_get_within}
+use Rattle.std.proofs.lemmas.Option.{slice_get_within}
 use Rattle.dr_disk.specs.Disk.{Told, state_of}
 use Rattle.dr_disk.specs.Calls.{at_rest}
 use Rattle.dr_entry.specs.declared.end.AgeEnd.{AgeEnd}
 use Rattle.dr_entry.specs.declared.end.MemberEnd.{MemberEnd}
 use Rattle.dr_entry.specs.declared.entry.Entry.{Entry}
-use Rattle.dr_history.specs.History.{IsPrefixOf, Sent}
+use Rattle.dr_history.specs.History.{IsPrefixOf}
 use Rattle.dr_history_laws.proofs.Lists.{slice_get-some}
-use Rattle.dr_history_laws.proofs.Openings.{InOrder-first}
-use Rattle.dr_history_laws.proofs.Parts.{both_along}
-use Rattle.dr_history_laws.proofs.Standing.{history-stands, part-stands, stands-by}
 use Rattle.dr_logged.specs.Left.{IsLeftOf}
 use Rattle.dr_machine.specs.Group.{IsGroup}
-use Rattle.dr_opening.specs.Accepted.{AreAccepted, judged_by}
+use Rattle.dr_opening.specs.Accepted.{AreAccepted}
 use Rattle.dr_opening.specs.CatchingUp.{opened_with}
-use Rattle.dr_opening.proofs.Accepting.{AreFirstPartsOf, ended_accepted, none_accepted}
-use Rattle.dr_opening.proofs.Catching.{part_of_opened}
+use Rattle.dr_opening.proofs.Accepting.{ended_accepted, none_accepted}
 use Rattle.dr_opening.specs.Tries.{IsChosenOf, content_at}
 use Rattle.dr_opening.proofs.Choosing.{chosen_group}
 use Rattle.dr_opening.proofs.Trying.{chosen_by}
-use Rattle.dr_opening.proofs.Whole.{all_in_set, entries_among, front_of_longest}
+use Rattle.dr_opening.proofs.Whole.{all_in_set, entries_among}
 use Rattle.dr_quorum_laws.proofs.Longest.{longest-chosen}
 use Rattle.dr_restart.specs.declared.lists.LogLists.{LogLists}
 use Rattle.dr_restart.specs.declared.start.Start.{Start}
@@ -38,14 +34,18 @@ use Rattle.dr_ages.specs.declared.part.Part.{Part}
 use Rattle.dr_ages.specs.declared.stop.Stop.{Stop}
 use Rattle.dr_ages.specs.Ages.{IsAgeOf, NamesNobody, over_of, start_of}
 use Rattle.dr_history.specs.declared.opening.Opening.{Opening}
+use Rattle.dr_history.proofs.Histories.{AreFirstPartsOf, part_of_opened}
+use Rattle.dr_history.proofs.Bits.{has_zero}
 use Rattle.dr_kept.proofs.Following.{among_lists, lists_with, nothing_on}
 use Rattle.dr_log_bytes.specs.Content.{OnLog}
+use Rattle.dr_history_laws.proofs.Keeping.{front_of_longest}
 use Rattle.dr_opening.specs.Lists.{as_lists}
 use Rattle.dr_quorum_laws.proofs.Grown.{IsBroughtUp, entries-case, old-log}
 use Rattle.dr_quorum_laws.proofs.Sounding.{choice-group}
 use Rattle.dr_restart.specs.Choosing.{of_set}
-use Rattle.dr_restart.proofs.Listed.{listed}
-use Rattle.dr_words.proofs.Bits.{has_zero}
+use Rattle.dr_restart.proofs.Listed.{listed, log-listed}
+use Rattle.dr_logged.proofs.Rooms.{left_part}
+use Rattle.dr_opening.proofs.Accepted.{fronts_accepted}
 use Rattle.dr_ages.specs.Crashed.{HaveCrashed}
 use Rattle.dr_ages.specs.Fit.{AreChosen, AreInStep, MayLeave}
 use Rattle.dr_ages.specs.Tried.{AreOfTry, AreTried}
@@ -54,7 +54,7 @@ use Rattle.dr_ages.proofs.Lasting.{blank_lists, blank_readable, crashed_chosen, 
 use Rattle.dr_ages.specs.Found.{AreFound}
 use Rattle.dr_ages.specs.Left.{HasLeft}
 use Rattle.dr_ages.specs.Stops.{HasStopped, IsBadLogs}
-use Rattle.dr_ages.proofs.Keeping.{ended_over, image_entries, left_part}
+use Rattle.dr_ages.proofs.Keeping.{ended_over, image_entries}
 use Rattle.dr_ages.proofs.Played.{all_take_part}
 use Rattle.dr_ages.proofs.Votes.{EndsSo}
 
@@ -74,17 +74,6 @@ pub step_never : (script : Script) (part : Part) (before after : YardState) (s :
 step_never script part before after s ranges none step is bad =
     good_never script part before after s ranges none (step_good script before step) is bad
 
--- the log of which these are the entries
-log_with : (logs : List LogLists) (m : ℕ) (es : List Entry) → slice_get (entries_on_logs logs) m ≡ Some es
-    → (log : LogLists) × (slice_get logs m ≡ Some log) × (log.entries ≡ es)
-log_with logs m es at =
-    let log = slice_get-some logs m (omega (
-      arith,
-      slice_get_within (entries_on_logs logs) m es at,
-      length-map logs (λ (log : LogLists). log.entries),
-    )) in
-    (log.0, log.1, same_Some log.0.entries es (sym (listed logs m log.0 log.1) ∙ at))
-
 -- ---- empty disks
 
 -- disks that have never been written are in step
@@ -94,7 +83,7 @@ pub blank_step : (script : Script) (yard : YardState)
 blank_step script yard blank = record {
   readable = blank_readable script.members yard blank;
   accepted = λ logs chosen. none_accepted script (entries_on_logs logs) (λ m es at.
-      let log = log_with logs m es at in
+      let log = log-listed logs m es at in
       sym log.2 ∙ ap (λ (l : LogLists). l.entries) (blank_lists script.members yard logs m log.0 blank chosen log.1));
 }
 
@@ -127,7 +116,7 @@ age_step script part mode nth before yard age ranges none is tell = record {
     parts : (logs : List LogLists) → AreChosen script.members yard logs
         → AreFirstPartsOf age.members (entries_on_logs logs)
     parts logs chosen m es at =
-        let log = log_with logs m es at in
+        let log = log-listed logs m es at in
         let below : m < script.members = omega (arith, slice_get_within logs m log.0 log.1, chosen.all) in
         let e = slice_get-some age.members m (omega (arith, below, is.roster)) in
         let x = ended_over script part mode nth before yard age is m e.0 e.1 (none m below) in (
@@ -146,23 +135,6 @@ age_leaves_good script part mode nth before yard age ranges none is tell =
     step_good script yard (age_step script part mode nth before yard age ranges none is tell)
 
 -- ---- logs on the way to a start
-
--- first parts of what every history of an age begins with are accepted
-fronts_accepted : (script : Script) (start : Start) (now : List (List Entry)) → IsGroup (group_of script start)
-    → ((m : ℕ) (es : List Entry) → slice_get now m ≡ Some es → IsPrefixOf es (opened_with start start.members))
-    → AreAccepted script now
-fronts_accepted script start now group part = record {
-  sound = λ m es at i e here.
-      stands-by (group_of script start).opening (judged_by script) (take i es) e refl
-      (part-stands (group_of script start).opening es (opened_with start start.members) (part m es at)
-      (history-stands (group_of script start).opening none_sent (opened_with start start.members) group.sound
-      (InOrder-first (group_of script start).opening none_sent group.sound)) i e here);
-  along = λ a b g h less at_a at_b.
-      both_along g h (opened_with start start.members) (part a g at_a) (part b h at_b);
-}
-  where
-    none_sent : Sent
-    none_sent s v = []
 
 -- where all logs are there and accepted, each is a first part of the start that is chosen of them
 pub whole_front : (script : Script) (yard : YardState) (contents : List (Option OnLog)) (start : Start) (m : ℕ)
@@ -229,7 +201,7 @@ tried_step script missing before after ranges none tried step = record {
         parts : (m : ℕ) (es : List Entry) → slice_get (entries_on_logs logs) m ≡ Some es
             → IsPrefixOf es (opened_with try.start try.start.members)
         parts m es at =
-            let log = log_with logs m es at in
+            let log = log-listed logs m es at in
             let old = old-log (first_group_of script) olds logs try is m log.0 log.1 in
             subst (λ es. IsPrefixOf es (opened_with try.start try.start.members)) log.2
             (part m old.0 log.0 old.1 (entries-case (first_group_of script) olds logs try is m old.0 log.0 old.1 log.1))

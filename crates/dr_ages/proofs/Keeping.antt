@@ -1,7 +1,6 @@
 -- What an age leaves is what the next one finds; so nothing durable is lost.
 use Rattle.std.proofs.Common.{◌≡◌, ◌⊎◌, refl, sym, ap, ◌∙◌, subst, ⊎_elim, ℕ, zero, suc, ◌+◌, ◌-◌, ◌<◌, ◌≤◌, inl, inr, arith, Bool, true, false, not, List, [], ◌∷◌, ◌++◌, take, drop, append-nil}
 use Rattle.std.specs.Prelude.{IfSome, IsTrue, Option, None, Some, is_some, slice_get}
-use Rattle.std.specs.Option.{option_map_or}
 use Rattle.std.proofs.lemmas.Bool.{cases_lt}
 use Rattle.std.proofs.lemmas.List.{get_or_past, take-append-drop, take_more}
 use Rattle.std.proofs.lemmas.Option.{get_or_from_slice_get, slice_get_within}
@@ -12,11 +11,13 @@ use Rattle.dr_entry.specs.declared.end.MemberEnd.{MemberEnd}
 use Rattle.dr_entry.specs.declared.entry.Entry.{Entry}
 use Rattle.dr_entry.specs.declared.record.Record.{Record}
 use Rattle.dr_entry.specs.declared.record.Record.TheVariants as records
+use Rattle.dr_entry.proofs.ListPlaces.{within_places}
 use Rattle.dr_history.specs.Agreement.{accounts_of}
 use Rattle.dr_history.specs.History.{IsPrefixOf}
 use Rattle.dr_history.specs.Members.{has}
 use Rattle.dr_history.specs.Order.{first_entries}
 use Rattle.dr_history.specs.Restarting.{Kept}
+use Rattle.dr_history.proofs.Histories.{durable_by}
 use Rattle.dr_history_laws.proofs.Keeping.{prefix_then}
 use Rattle.dr_history_laws.proofs.Lists.{slice_get-some}
 use Rattle.dr_kept.specs.Leaving.{AreLeftFrom, IsAgeOfChoice, LeavesSo}
@@ -29,7 +30,6 @@ use Rattle.dr_log_bytes.proofs.Meaning.{content_once}
 use Rattle.dr_logged.specs.Left.{IsLeftOf}
 use Rattle.dr_logged.specs.Served.{IsRecordDue}
 use Rattle.dr_opening.specs.Tries.{IsChosenOf, content_at}
-use Rattle.dr_opening.proofs.Lists.{within_places}
 use Rattle.dr_program.specs.Program.{Program, member_end}
 use Rattle.dr_program.specs.Presence.{present_at}
 use Rattle.dr_program.specs.Replica.{Replica}
@@ -39,6 +39,7 @@ use Rattle.dr_restart.specs.Groups.{first_group_of}
 use Rattle.dr_script.specs.declared.script.Script.{Script}
 use Rattle.dr_script.specs.Ranges.{HasRanges}
 use Rattle.dr_yard.specs.Yards.{AllTell, YardState}
+use Rattle.dr_age.proofs.LoggedMembers.{left_begins}
 use Rattle.dr_ages.specs.declared.mode.Mode.{Mode}
 use Rattle.dr_ages.specs.declared.part.Part.{Part}
 use Rattle.dr_ages.specs.Ages.{AreAges, IsAgeOf, opening_of, over_of, start_of}
@@ -120,24 +121,6 @@ read_leaves : (o : Option Told) (r : Running) (c base : OnLog) → IsTrue (is_so
     → HasLeft o r.replica base → LeavesSo base r c
 read_leaves None r c base some reads left = absurd (cc)
 read_leaves (Some t) r c base some reads left = image_leaves t (content_of t) r c base reads.image reads.stands left
-
--- it is a part of the history
-pub left_part : (e : MemberEnd) (es : List Entry) → IsLeftOf e.history e.logged es → IsPrefixOf es e.history
-left_part e es (inl same) = (
-  drop e.logged e.history,
-  ap (λ (l : List Entry). l ++ drop e.logged e.history) same ∙ take-append-drop e.logged e.history,
-)
-left_part e es (inr more) = more.2
-
--- and has all that is logged
-pub left_begins : (first : List Entry) (e : MemberEnd) (es : List Entry) → IsPrefixOf first (take e.logged e.history)
-    → IsLeftOf e.history e.logged es → IsPrefixOf first es
-left_begins first e es begins left =
-    prefix_then first (take e.logged e.history) es begins (by left)
-  where
-    by : IsLeftOf e.history e.logged es → IsPrefixOf (take e.logged e.history) es
-    by (inl same) = ([], append-nil (take e.logged e.history) ∙ sym same)
-    by (inr more) = (more.0 ∷ [], sym more.1)
 
 -- ---- the disks that an age leaves
 
@@ -342,14 +325,6 @@ grows script part start a b ranges tell r =
     (of_choice script part r.mode r.nth r.before r.mid a r.first)
     (left_from script part r.mid a r.second.contents (behind_first script part start a b ranges tell r))
     r.second.starts)
-
--- what a member knew to be durable, by its account
-durable_by : (ends : List MemberEnd) (m : ℕ) (e : MemberEnd) (start : List Entry) → slice_get ends m ≡ Some e
-    → IsPrefixOf (take (accounts_of ends m).durable (accounts_of ends m).history) start
-    → IsPrefixOf (take e.durable e.history) start
-durable_by ends m e start at kept =
-    subst (λ (end : Option MemberEnd). IsPrefixOf (take (option_map_or (λ (e : MemberEnd). e.durable) end 0)
-    (option_map_or (λ (e : MemberEnd). e.history) end [])) start) at kept
 
 pub are_kept : (script : Script) (part : Part) (mode : Mode) (before : YardState) (ages : List AgeEnd)
     (last : YardState) → HasRanges script → AreAges script part mode 0 before ages last

@@ -10,6 +10,7 @@ use Rattle.dr_disk.specs.Disk.{Told}
 use Rattle.dr_disk.specs.Images.{IsLeft}
 use Rattle.dr_disk.proofs.Moments.{Goes-last}
 use Rattle.dr_entry.specs.declared.entry.Entry.{Entry}
+use Rattle.dr_disk.proofs.Images.{left_so}
 use Rattle.dr_history.specs.History.{IsPrefixOf}
 use Rattle.dr_log.specs.Standing.{LosesNone}
 use Rattle.dr_log.specs.State.{LogState}
@@ -26,6 +27,9 @@ use Rattle.dr_opening.specs.Unopened.{IsWhyUnopened}
 use Rattle.dr_restart.specs.declared.start.Start.{Start}
 use Rattle.dr_script.specs.declared.script.Script.{Script}
 use Rattle.dr_yard.specs.Yards.{YardState}
+use Rattle.dr_logged.proofs.Served.{places_both, places_same}
+use Rattle.dr_opening.proofs.Lists.{stays_there, was_there, log_of_content}
+use Rattle.dr_opening.proofs.Logs.{opened_places}
 use Rattle.dr_ages.specs.declared.mode.Mode.{Mode}
 use Rattle.dr_ages.specs.declared.mode.Mode.TheVariants.{Sim, Run}
 use Rattle.dr_ages.specs.declared.part.Part.{Part}
@@ -37,12 +41,12 @@ use Rattle.dr_ages.specs.Opened.{AreLater}
 use Rattle.dr_ages.specs.Passing.{AreKeptSince}
 use Rattle.dr_ages.specs.Stops.{AreMountedBelow}
 use Rattle.dr_ages.specs.Telling.{stop_of}
-use Rattle.dr_ages.proofs.Backs.{counts_still, places_then, same_places, stays_there, told_at, was_there}
+use Rattle.dr_ages.proofs.Backs.{counts_still, told_at}
 use Rattle.dr_ages.proofs.Chain.{none_below, unmounted}
-use Rattle.dr_ages.proofs.Loans.{are_found, log_of_content, mounted_below}
-use Rattle.dr_ages.proofs.Opening.{on_still, opened_on, opened_places}
+use Rattle.dr_ages.proofs.Loans.{are_found, mounted_below}
+use Rattle.dr_ages.proofs.Opening.{on_still, opened_on}
 use Rattle.dr_ages.proofs.Played.{is_open, later_on, open_log}
-use Rattle.dr_ages.proofs.Staying.{later_by_all, left_so}
+use Rattle.dr_ages.proofs.Staying.{later_by_all}
 use Rattle.dr_ages.proofs.Stopping.{IsOpeningOn, lacked_append, since_opened}
 
 -- ---- before all logs were mounted
@@ -83,7 +87,7 @@ lacked_choice tells faults script part mode before logs all mounted but = to_cho
     (mounted_below tells faults part.missing before before (with_logs tells faults before logs) logs mounted
     but (λ m. (refl, refl)) (λ m past. refl)))
     (since_opened tells faults script part before [] logs logs all mounted but (on_still tells faults [] logs)
-    (same_places logs))
+    (places_same logs))
     (counts_still tells faults before logs mounted)
 
 pub lacked_opening : {D : Type 0} (tells : D → Option Told) (faults : D → ℕ) (script : Script) (part : Part)
@@ -148,7 +152,7 @@ lacked_age {D} tells faults script part mode before start olds mids news on open
           (opened_on tells faults start olds mids opened)
           (λ m old new there here. later_by_all tells faults (start.entries ∷ []) old new
           (later m old new there here)))
-          (places_then olds mids news began places);
+          (places_both olds mids news began places);
       calm = λ simulated m. calm simulated m (log_of news m) refl;
     })
   where

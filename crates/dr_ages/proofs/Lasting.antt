@@ -8,13 +8,15 @@ use Rattle.std.proofs.lemmas.Option.{none-some, same_Some, slice_get_past, slice
 use Rattle.dr_disk.specs.Disk.{Told, content_of, state_of}
 use Rattle.dr_disk.specs.Calls.{State, at_rest}
 use Rattle.dr_disk.specs.Images.{AllImages, Goes, IsImage}
-use Rattle.dr_disk.proofs.Images.{image_at_rest}
+use Rattle.dr_disk.proofs.Images.{image_at_rest, empty_image}
 use Rattle.dr_disk.proofs.Moments.{Went-last}
 use Rattle.dr_entry.specs.declared.end.AgeEnd.{AgeEnd}
 use Rattle.dr_entry.specs.declared.end.MemberEnd.{MemberEnd}
 use Rattle.dr_entry.specs.declared.entry.Entry.{Entry}
+use Rattle.dr_entry.proofs.ListPlaces.{within_places, pick}
 use Rattle.dr_history.specs.History.{IsPrefixOf}
 use Rattle.dr_history.specs.Members.{has}
+use Rattle.dr_history.proofs.Bits.{has_ones}
 use Rattle.dr_history_laws.proofs.Lists.{slice_get-some}
 use Rattle.dr_kept.specs.Lasting.{HasLeftLogs}
 use Rattle.dr_kept.specs.Leaving.{IsLeftAt}
@@ -25,9 +27,9 @@ use Rattle.dr_log.specs.Standing.{KeepsRecords}
 use Rattle.dr_log_bytes.specs.Content.{OnLog, empty_of}
 use Rattle.dr_log_bytes.specs.Grammar.{StandFor}
 use Rattle.dr_log_bytes.proofs.Meaning.{content_once}
+use Rattle.dr_log_bytes.proofs.Grammars.{stands_empty}
 use Rattle.dr_opening.specs.Lists.{as_lists}
 use Rattle.dr_opening.specs.Tries.{AreAmong, content_at}
-use Rattle.dr_opening.proofs.Lists.{within_places}
 use Rattle.dr_opening.proofs.Trying.{chosen_by}
 use Rattle.dr_program.specs.Program.{Program, end_at}
 use Rattle.dr_program.proofs.Present.{slice_present}
@@ -39,7 +41,6 @@ use Rattle.dr_restart.specs.Groups.{first_group_of}
 use Rattle.dr_restart.specs.Refusing.{IsRefusedFor, Refusal}
 use Rattle.dr_script.specs.declared.script.Script.{Script}
 use Rattle.dr_script.specs.Ranges.{HasGroupRanges, HasRanges}
-use Rattle.dr_words.proofs.Bits.{has_ones}
 use Rattle.dr_yard.specs.Yards.{AllTell, YardState}
 use Rattle.dr_ages.specs.declared.mode.Mode.{Mode}
 use Rattle.dr_ages.specs.declared.part.Part.{Part}
@@ -57,20 +58,6 @@ use Rattle.dr_ages.proofs.Keeping.{ended_over, found_there, image_leaves, of_cho
 use Rattle.dr_ages.proofs.Votes.{EndsSo, told_by}
 
 -- ---- what crashes may leave
-
--- lists of so many elements, one by one
-pub pick : {A : Type 0} (P : ℕ → A → Type 0) (n : ℕ) → ((m : ℕ) → m < n → (x : A) × P m x)
-    → (xs : List A) × (length xs ≡ n) × ((m : ℕ) (x : A) → slice_get xs m ≡ Some x → P m x)
-pick P zero each = ([], refl, λ m x at. absurd (none-some x at))
-pick {A} P (suc n) each =
-    let x = each 0 (omega arith) in
-    let rest = pick (λ m. P (suc m)) n (λ m l. each (suc m) (omega (arith, l))) in
-    (x.0 ∷ rest.0, ap suc rest.1, λ m y at. by m y x.0 x.1 rest.0 rest.2 at)
-  where
-    by : (m : ℕ) (y x : A) → P 0 x → (xs : List A) → ((i : ℕ) (z : A) → slice_get xs i ≡ Some z → P (suc i) z)
-        → slice_get (x ∷ xs) m ≡ Some y → P m y
-    by zero y x is xs others at = subst (P 0) (same_Some x y at) is
-    by (suc i) y x is xs others at = others i y at
 
 pub readable_tell : (n : ℕ) (yard : YardState) → AreReadable n yard → AllTell n yard
 readable_tell n yard readable m l = by (yard.told m) (readable m l)
@@ -580,12 +567,6 @@ fit_never script part before after s ranges none fit is bad = pass_never script 
     (λ m at l reads. undamaged (before.told m) at (fit.readable m l) reads) is bad
 
 -- ---- disks that were never written
-
-stands_empty : (image : List ℕ) → image ≡ [] → StandFor image (empty_of true)
-stands_empty image is = inl (omega (arith, ap length is), refl)
-
-empty_image : (t : Told) (image : List ℕ) → state_of t ≡ at_rest [] → IsImage (state_of t) image → image ≡ []
-empty_image t image rest is = image_at_rest [] image (subst (λ s. IsImage s image) rest is)
 
 pub blank_readable : (n : ℕ) (yard : YardState)
     → ((m : ℕ) → m < n → IsSomeAnd (yard.told m) (λ t. state_of t ≡ at_rest [])) → AreReadable n yard

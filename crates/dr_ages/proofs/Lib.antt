@@ -15,10 +15,11 @@ mod Played
 pub mod Prompt
 mod Reading
 mod Refusals
-mod Runs
+pub mod Runs
 mod Short
 mod Staying
 mod Stopping
 mod Tried
 mod Votes
 mod Watching
+pub mod Parts

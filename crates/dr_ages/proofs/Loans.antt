@@ -1,9 +1,7 @@
 -- The disks of a yard that are lent, with one more, and the logs on them.
 use Rattle.std.proofs.Common.{◌≡◌, ◌≢◌, refl, sym, ap, ◌∙◌, subst, ⊎_elim, inl, inr, ℕ, ◌+◌, ◌<◌, ◌≤◌, le_trans, Bool, false, List, [], ◌∷◌, ◌++◌, length, arith, length-append}
-use Rattle.std.specs.Prelude.{IfSome, not, Option, None, Some, is_some, option_map}
+use Rattle.std.specs.Prelude.{IfSome, not, Option, None, Some, is_some}
 use Rattle.std.proofs.lemmas.Bool.{cases_eq, cases_lt}
-use Rattle.std.proofs.lemmas.List.{length-map}
-use Rattle.std.proofs.lemmas.Option.{same_Some}
 use Rattle.dr_disk.specs.Calls.{Sync}
 use Rattle.dr_disk.specs.Disk.{Told, added, content_of}
 use Rattle.dr_disk.specs.Images.{Goes, IsLeft, ReadsAnImage}
@@ -19,11 +17,12 @@ use Rattle.dr_log_bytes.specs.Content.{OnLog}
 use Rattle.dr_log_bytes.specs.Grammar.{IsDamaged, StandFor}
 use Rattle.dr_logged.specs.Served.{HaveSamePlaces, IsSafe}
 use Rattle.dr_opening.specs.Lists.{contents_of, log_of}
-use Rattle.dr_opening.specs.Tries.{content_at}
-use Rattle.dr_opening.proofs.Lists.{content_is}
-use Rattle.dr_program.proofs.Present.{present_within}
+use Rattle.dr_program.proofs.Present.{present_within, place_new}
 use Rattle.dr_script.specs.declared.script.Script.{Script}
 use Rattle.dr_yard.specs.Yards.{YardState}
+use Rattle.dr_program.proofs.Received.{place_other}
+use Rattle.dr_program.proofs.Programs.{place_past}
+use Rattle.dr_opening.proofs.Lists.{was_there, log_of_content, contents_count, contents_there}
 use Rattle.dr_ages.specs.declared.part.Part.{Part}
 use Rattle.dr_ages.specs.declared.stop.Stop.{Stop}
 use Rattle.dr_ages.specs.declared.stop.Stop.TheVariants.{OutOfMemory, DiskFault, LogFull, Damaged, Disagree, Foreign, NoQuorum, AgesUsedUp}
@@ -32,7 +31,7 @@ use Rattle.dr_ages.specs.Lent.{AreAllBut, AreLent, AreMounted, IsMounted, WasRef
 use Rattle.dr_ages.specs.Opened.{AreLater}
 use Rattle.dr_ages.specs.Passing.{AreKeptSince}
 use Rattle.dr_ages.specs.Stops.{AreMountedBelow, HasMounted, HasStopped, IsBehindMounts, NamesFaults, ReadsDamaged, in_mount}
-use Rattle.dr_ages.proofs.Backs.{AreAllBack, place_new, place_other, place_past, told_at, told_none, was_there}
+use Rattle.dr_ages.proofs.Backs.{AreAllBack, told_at, told_none}
 
 -- ---- one place more
 
@@ -159,38 +158,6 @@ lent_later is_lent yard_faults tells faults starts yard olds news are later plac
 }
 
 -- ---- what was found on them
-
--- what is on a log that is there
-pub content_at_log : {D : Type 0} (logs : List (Option (LogState D))) (m : ℕ) (log : LogState D)
-    → log_of logs m ≡ Some log → content_at (contents_of logs) m ≡ Some log.content
-content_at_log {D} logs m log at =
-    content_is logs m ∙ ap (option_map (λ (log : LogState D). log.content)) at
-
-pub log_of_content : {D : Type 0} (logs : List (Option (LogState D))) (m : ℕ) (c : OnLog)
-    → content_at (contents_of logs) m ≡ Some c
-    → (log : LogState D) × (log_of logs m ≡ Some log) × (log.content ≡ c)
-log_of_content {D} logs m c at = by (log_of logs m) refl (sym (content_is logs m) ∙ at)
-  where
-    by : (o : Option (LogState D)) → log_of logs m ≡ o
-        → option_map (λ (log : LogState D). log.content) o ≡ Some c
-        → (log : LogState D) × (log_of logs m ≡ Some log) × (log.content ≡ c)
-    by None here same = absurd (cc)
-    by (Some log) here same = (log, here, same_Some log.content c same)
-
-pub content_none : {D : Type 0} (logs : List (Option (LogState D))) (m : ℕ) → log_of logs m ≡ None
-    → content_at (contents_of logs) m ≡ None
-content_none {D} logs m at = content_is logs m ∙ ap (option_map (λ (log : LogState D). log.content)) at
-
-pub contents_count : {D : Type 0} (logs : List (Option (LogState D))) → length (contents_of logs) ≡ length logs
-contents_count {D} logs = length-map logs (option_map (λ (log : LogState D). log.content))
-
-pub contents_there : {D : Type 0} (logs : List (Option (LogState D))) (m : ℕ)
-    → is_some (content_at (contents_of logs) m) ≡ is_some (log_of logs m)
-contents_there {D} logs m = ap (λ (o : Option OnLog). is_some o) (content_is logs m) ∙ by (log_of logs m)
-  where
-    by : (o : Option (LogState D)) → is_some (option_map (λ (log : LogState D). log.content) o) ≡ is_some o
-    by None = refl
-    by (Some log) = refl
 
 pub are_found : {D : Type 0} (tells : D → Option Told) (faults : D → ℕ) (missing : ℕ) (before : YardState)
     (logs : List (Option (LogState D))) (n : ℕ) → AreMounted tells faults before logs → AreAllBut missing logs

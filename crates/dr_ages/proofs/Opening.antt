@@ -1,17 +1,16 @@
 -- Logs on which an age was opened, or on which its opening stopped.
-use Rattle.std.proofs.Common.{◌≡◌, refl, sym, ap, ◌∙◌, subst, ⊎_elim, inl, inr, ℕ, ◌<◌, ◌≤◌, arith, List, [], ◌∷◌, length}
-use Rattle.std.specs.Prelude.{Option, None, Some, is_some}
-use Rattle.std.proofs.lemmas.Bool.{cases_eq, cases_lt}
+use Rattle.std.proofs.Common.{◌≡◌, refl, sym, ◌∙◌, subst, inl, inr, ℕ, ◌≤◌, arith, List, [], ◌∷◌, length}
+use Rattle.std.specs.Prelude.{Option, None, Some}
 use Rattle.std.proofs.lemmas.Option.{same_Some}
 use Rattle.dr_age.specs.Logged.{AreOpened, IsOpened}
 use Rattle.dr_disk.specs.Disk.{Told}
 use Rattle.dr_disk.specs.Images.{Goes}
 use Rattle.dr_entry.specs.declared.entry.Entry.{Entry}
-use Rattle.dr_history.specs.History.{IsPrefixOf}
+use Rattle.dr_disk.proofs.Moments.{goes_so, goes_both}
+use Rattle.dr_disk.proofs.DiskCalls.{goes_tells}
 use Rattle.dr_history.specs.Members.{has}
-use Rattle.dr_log.specs.Standing.{HasAllOf, LosesNone}
+use Rattle.dr_log.specs.Standing.{LosesNone}
 use Rattle.dr_log.specs.State.{LogState}
-use Rattle.dr_log.proofs.Ordinary.{none_lost}
 use Rattle.dr_log_bytes.specs.Content.{OnLog}
 use Rattle.dr_logged.specs.Served.{HaveSamePlaces}
 use Rattle.dr_machine.specs.Group.{IsPresent}
@@ -19,49 +18,25 @@ use Rattle.dr_opening.specs.declared.age.NotOpened.{NotOpened}
 use Rattle.dr_opening.specs.declared.age.NotOpened.TheVariants.{Unchosen, Unfinished}
 use Rattle.dr_opening.specs.declared.catching_up.CatchFault.{CatchFault}
 use Rattle.dr_opening.specs.declared.opening.OpenFault.{OpenFault}
-use Rattle.dr_opening.specs.Contents.{IsRising, IsRisingStep, IsVoteStep, IsVoting, StandSo, voted_for}
+use Rattle.dr_opening.specs.Contents.{IsRising, IsVoting, StandSo}
 use Rattle.dr_opening.specs.Lists.{contents_of, log_of}
-use Rattle.dr_opening.specs.Logs.{ComeBelow, GotStart, GotVote, LacksStart, LacksVote, StopAt, Together, WereNotOpened, WereOpened}
+use Rattle.dr_opening.specs.Logs.{ComeBelow, GotStart, GotVote, LacksStart, LacksVote, Together, WereNotOpened, WereOpened}
 use Rattle.dr_opening.specs.Tries.{IsChosenOf}
 use Rattle.dr_opening.specs.Unopened.{IsWhyUnopened}
-use Rattle.dr_opening.proofs.Losing.{rising_has_all, voting_has_all}
-use Rattle.dr_opening.proofs.Steps.{goes_so}
+use Rattle.dr_opening.proofs.Losing.{rising_has_all, voting_has_all, voting_loses_none, rising_loses_none}
 use Rattle.dr_opening.proofs.Trying.{in_set, out_of_set}
 use Rattle.dr_opening.proofs.Ways.{open_entries}
 use Rattle.dr_program.proofs.Present.{present_within}
 use Rattle.dr_restart.specs.declared.start.Start.{Start}
 use Rattle.dr_restart.specs.Groups.{first_group_of, group_of}
 use Rattle.dr_script.specs.declared.script.Script.{Script}
+use Rattle.dr_opening.proofs.Lists.{stays_there, was_there, content_at_log, content_none}
+use Rattle.dr_opening.proofs.Contents.{step_voting, step_rising}
+use Rattle.dr_opening.proofs.Logs.{all_raised, in_stop, opened_places}
 use Rattle.dr_ages.specs.Opened.{AreLater, HaveGoneOn, IsLater}
-use Rattle.dr_ages.proofs.Backs.{places_then, same_places, stays_there, was_there}
-use Rattle.dr_ages.proofs.Loans.{content_at_log, content_none}
-use Rattle.dr_ages.proofs.Staying.{goes_tells, goes_then, later_same, of_one_start}
+use Rattle.dr_ages.proofs.Staying.{later_same, of_one_start}
 
 -- ---- one log
-
--- what a crash leaves on the way to an open log has all that it and the start have in common
-voting_loses_none : (start : Start) (first c : OnLog) (image : List ℕ) → HasAllOf first c
-    → StandSo (IsVoting start c) image → LosesNone first image
-voting_loses_none start first c image has (now, way, stands) =
-    none_lost first now image (voting_has_all start first c now has way) stands
-
-rising_loses_none : (start : Start) (first c voted : OnLog) (image : List ℕ) → voted ≡ voted_for start c
-    → HasAllOf first c → IsPrefixOf first.entries start.entries → StandSo (IsRising start voted) image
-    → LosesNone first image
-rising_loses_none start first c voted image same has part (now, way, stands) =
-    none_lost first now image (rising_has_all start first c now has part
-    (subst (λ (v : OnLog). IsRising start v now) same way)) stands
-
--- what stands on a log as an append of the first phase is refused
-step_voting : (start : Start) (c now next : OnLog) → IsVoteStep start c now next → IsVoting start c now
-step_voting start c now next (inl (old, same, is)) = inl same
-step_voting start c now next (inr (same, is)) = inr (inl same)
-
--- and of the second
-step_rising : (start : Start) (voted now next : OnLog) → IsRisingStep start voted now next
-    → IsRising start voted now
-step_rising start voted now next (inl (keep, due, same, is)) = inl same
-step_rising start voted now next (inr (cut, is)) = inr (inl cut)
 
 -- a log in the first phase has gone on
 voting_later : {D : Type 0} (told : D → Option Told) (faults : D → ℕ) (start : Start) (old new : LogState D)
@@ -101,7 +76,7 @@ rising_later told faults start old mid new got way moments later = record {
       ∙ goes_tells (told mid.disk) (told new.disk) (λ s. StandSo (IsRising start mid.content)) moments;
   later = omega (arith, voted.later, later);
   stays = λ first all has left.
-      goes_then (told old.disk) (told mid.disk) (told new.disk) (LosesNone first) (voted.stays first all has left)
+      goes_both (told old.disk) (told mid.disk) (told new.disk) (LosesNone first) (voted.stays first all has left)
       (goes_so (told mid.disk) (told new.disk) (StandSo (IsRising start mid.content)) (LosesNone first)
       (λ image so. rising_loses_none start first old.content mid.content image got.0.content has
       (of_one_start first.entries start.entries all) so) moments);
@@ -135,24 +110,6 @@ in_come {D} P olds news m old new come there here =
     (subst (λ (o : Option (LogState D)). Together P o (log_of news m)) there
     (come.below m (present_within olds m old there)))
 
--- where one is there both are
-together_places : {D : Type 0} (P : LogState D → LogState D → Type 0) (o p : Option (LogState D))
-    → Together P o p → is_some p ≡ is_some o
-together_places P None None come = refl
-together_places P None (Some new) come = absurd come
-together_places P (Some old) None come = absurd come
-together_places P (Some old) (Some new) come = refl
-
-pub come_places : {D : Type 0} (P : LogState D → LogState D → Type 0) (olds news : List (Option (LogState D)))
-    → ComeBelow P olds news (length olds) → HaveSamePlaces olds news
-come_places {D} P olds news come = record {
-  all = come.all;
-  each = λ m. ⊎_elim
-      (λ (l : m < length olds). together_places P (log_of olds m) (log_of news m) (come.below m l))
-      (λ (g : length olds ≤ m). ap (λ (o : Option (LogState D)). is_some o) (come.others m g))
-      (cases_lt m (length olds));
-}
-
 -- the log that is there between
 pub come_mid : {D : Type 0} (P : LogState D → LogState D → Type 0) (olds mids : List (Option (LogState D)))
     (m : ℕ) (old : LogState D) → ComeBelow P olds mids (length olds) → log_of olds m ≡ Some old
@@ -165,73 +122,6 @@ come_mid {D} P olds mids m old come there = by (log_of mids m) refl
         → (mid : LogState D) × (log_of mids m ≡ Some mid)
     by None at come = absurd (subst (Together P (Some old)) at come)
     by (Some mid) at come = (mid, at)
-
--- a log in each of the three places
-pub in_stop : {D : Type 0} (P Q : LogState D → LogState D → Type 0) (R : Type 0)
-    (olds news : List (Option (LogState D))) (k m : ℕ) (old new : LogState D) → StopAt P Q olds news k
-    → log_of olds m ≡ Some old → log_of news m ≡ Some new → (m < k → P old new → R) → (m ≡ k → Q old new → R)
-    → (k < m → new ≡ old → R) → R
-in_stop {D} P Q R olds news k m old new stop there here by_p by_q by_same = ⊎_elim
-    (λ (l : m < k). by_p l (subst (λ (o : Option (LogState D)). Together P (Some old) o) here
-    (subst (λ (o : Option (LogState D)). Together P o (log_of news m)) there (stop.below m l))))
-    (λ (g : k ≤ m). elim (cases_eq m k) [
-      | inl same ↦
-          let one : stop.stop.0 ≡ old =
-          same_Some stop.stop.0 old (sym stop.stop.2 ∙ (ap (log_of olds) (sym same) ∙ there)) in
-          let other : stop.stop.1 ≡ new =
-          same_Some stop.stop.1 new (sym stop.stop.3 ∙ (ap (log_of news) (sym same) ∙ here)) in
-          by_q same (subst (λ (x : LogState D). Q x new) one (subst (Q stop.stop.0) other stop.stop.4))
-      | inr apart ↦
-          let l : k < m = omega (arith, g, apart) in
-          by_same l (same_Some new old (sym here ∙ (stop.others m l ∙ there)))
-    ])
-    (cases_lt m k)
-
-pub below_stop : {D : Type 0} (P Q : LogState D → LogState D → Type 0) (olds news : List (Option (LogState D)))
-    (k m : ℕ) (old new : LogState D) → StopAt P Q olds news k → m < k → log_of olds m ≡ Some old
-    → log_of news m ≡ Some new → P old new
-below_stop {D} P Q olds news k m old new stop l there here =
-    subst (λ (o : Option (LogState D)). Together P (Some old) o) here
-    (subst (λ (o : Option (LogState D)). Together P o (log_of news m)) there (stop.below m l))
-
-pub stop_places : {D : Type 0} (P Q : LogState D → LogState D → Type 0) (olds news : List (Option (LogState D)))
-    (k : ℕ) → StopAt P Q olds news k → HaveSamePlaces olds news
-stop_places {D} P Q olds news k stop = record {
-  all = stop.all;
-  each = λ m. ⊎_elim
-      (λ (l : m < k). together_places P (log_of olds m) (log_of news m) (stop.below m l))
-      (λ (g : k ≤ m). elim (cases_eq m k) [
-        | inl same ↦
-            ap (λ (o : Option (LogState D)). is_some o) (ap (log_of news) same ∙ stop.stop.3)
-            ∙ ap (λ (o : Option (LogState D)). is_some o) (sym (ap (log_of olds) same ∙ stop.stop.2))
-        | inr apart ↦ ap (λ (o : Option (LogState D)). is_some o) (stop.others m (omega (arith, g, apart)))
-      ])
-      (cases_lt m k);
-}
-
--- those of the second phase are as many as of the first
-pub all_raised : {D : Type 0} (told : D → Option Told) (faults : D → ℕ) (start : Start)
-    (olds mids news : List (Option (LogState D))) → length mids ≡ length olds
-    → ComeBelow (GotStart told faults start) mids news (length olds)
-    → ComeBelow (GotStart told faults start) mids news (length mids)
-all_raised told faults start olds mids news all = subst (ComeBelow (GotStart told faults start) mids news) (sym all)
-
-pub opened_places : {D : Type 0} (told : D → Option Told) (faults : D → ℕ) (start : Start)
-    (olds news : List (Option (LogState D))) → WereOpened told faults start olds news → HaveSamePlaces olds news
-opened_places told faults start olds news (mids, voted, raised) =
-    places_then olds mids news (come_places (GotVote told faults start) olds mids voted)
-    (come_places (GotStart told faults start) mids news (all_raised told faults start olds mids news voted.all raised))
-
-pub unopened_places : {D : Type 0} (told : D → Option Told) (faults : D → ℕ) (start : Start)
-    (olds news : List (Option (LogState D))) (fault : OpenFault) → WereNotOpened told faults start olds news fault
-    → HaveSamePlaces olds news
-unopened_places told faults start olds news fault (inl stop) =
-    stop_places (GotVote told faults start) (λ old new. LacksVote told faults start old new fault.why) olds news
-    fault.member stop
-unopened_places told faults start olds news fault (inr (mids, voted, stop)) =
-    places_then olds mids news (come_places (GotVote told faults start) olds mids voted)
-    (stop_places (GotStart told faults start) (λ old new. LacksStart told faults start old new fault.why) mids news
-    fault.member stop)
 
 -- ---- they have gone on
 
@@ -284,14 +174,6 @@ gone_on told faults script late olds news (Unfinished fault) is = (
   inr (is.0, is.1, refl),
   unopened_on told faults is.0 olds news fault is.3,
 )
-
-pub why_places : {D : Type 0} (told : D → Option Told) (faults : D → ℕ) (script : Script) (late : ℕ)
-    (olds news : List (Option (LogState D))) (why : NotOpened) → IsWhyUnopened told faults script late olds news why
-    → HaveSamePlaces olds news
-why_places told faults script late olds news (Unchosen fault) is =
-    subst (HaveSamePlaces olds) (sym is.1) (same_places olds)
-why_places told faults script late olds news (Unfinished fault) is =
-    unopened_places told faults is.0 olds news fault is.3
 
 -- ---- the age begins on them
 

@@ -1,6 +1,6 @@
 -- An age that was run over logs that were mounted and opened for it.
 use Rattle.std.proofs.Common.{◌≡◌, ◌≢◌, ◌⊎◌, ◌↔◌, refl, sym, ap, ◌∙◌, subst, ℕ, ◌+◌, ◌-◌, ◌^◌, ◌<◌, ◌≤◌, ◌&&◌, nat_lt, not, inl, inr, arith, le_refl, le_trans, Bool, true, false, true≢false, List, [], ◌∷◌, ◌++◌, length, length-append, take, drop, drop_at}
-use Rattle.std.specs.Prelude.{IfOk, OnErr, Option, None, Some, Result, Ok, Err, is_some, option_map, slice_get, unwrap_or}
+use Rattle.std.specs.Prelude.{IfOk, OnErr, Option, None, Some, Result, Ok, Err, is_some, slice_get, unwrap_or}
 use Rattle.std.specs.Option.{option_map_or}
 use Rattle.std.proofs.Math.Nat.{max-le}
 use Rattle.std.proofs.lemmas.Bool.{cases_Bool}
@@ -17,7 +17,7 @@ use Rattle.dr_entry.specs.declared.end.MemberEnd.{MemberEnd}
 use Rattle.dr_entry.specs.declared.entry.Entry.{Entry}
 use Rattle.dr_entry.specs.declared.entry.Entry.TheVariants.{View}
 use Rattle.dr_entry.specs.declared.record.Record.{Record}
-use Rattle.dr_history.specs.declared.opening.Opening.{Opening}
+use Rattle.dr_entry.proofs.OptionFacts.{some_map}
 use Rattle.dr_history.specs.Agreement.{EndsAgreed}
 use Rattle.dr_history.specs.History.{IsPrefixOf}
 use Rattle.dr_history.specs.Soundness.{IsNobodyLate}
@@ -25,6 +25,11 @@ use Rattle.dr_history.specs.Members.{has}
 use Rattle.dr_history.specs.Order.{first_entries}
 use Rattle.dr_history_laws.proofs.Lists.{slice_get-some}
 use Rattle.dr_io.specs.Faults.{Rose}
+use Rattle.dr_io.proofs.KnownLemmas.{rose_since}
+use Rattle.dr_disk.proofs.DiskCalls.{goes_tells}
+use Rattle.dr_disk.proofs.Images.{lasts_goes}
+use Rattle.dr_history.proofs.Bits.{has_ones}
+use Rattle.dr_history.proofs.Masks.{same_masks}
 use Rattle.dr_log.proofs.Ordinary.{has_through, less_lost}
 use Rattle.dr_log.specs.Standing.{HasAllOf, IsBeforeOrAfter, LosesNone, entries_length, votes_length}
 use Rattle.dr_log.specs.State.{LogState}
@@ -37,20 +42,18 @@ use Rattle.dr_machine.proofs.Presence.{in_roster}
 use Rattle.dr_opening.specs.CatchingUp.{opened_with}
 use Rattle.dr_opening.specs.Contents.{IsOpenFor, voted_for}
 use Rattle.dr_opening.specs.Lists.{SomebodyPrompt, all_as_lists, as_lists, contents_of, log_of}
-use Rattle.dr_opening.specs.Logs.{GotStart, GotVote, Together, WereOpened}
+use Rattle.dr_opening.specs.Logs.{GotStart, GotVote, WereOpened}
 use Rattle.dr_opening.specs.Tries.{IsChosenOf, content_at}
-use Rattle.dr_opening.proofs.Catching.{rose_since}
 use Rattle.dr_opening.proofs.Choosing.{chosen_group}
 use Rattle.dr_opening.proofs.Ways.{open_entries}
 use Rattle.dr_program.proofs.Present.{present_map, present_within}
 use Rattle.dr_program.specs.declared.outcome.LogWhy.{LogWhy}
-use Rattle.dr_program.specs.declared.setup.CrashPoint.{CrashPoint}
 use Rattle.dr_program.specs.declared.outcome.LogWhy.TheVariants as logs
 use Rattle.dr_program.specs.Presence.{present_at}
 use Rattle.dr_program.specs.Program.{Program, end_of}
 use Rattle.dr_program.specs.Replica.{Replica}
 use Rattle.dr_program.specs.Running.{Running}
-use Rattle.dr_program_laws.specs.Ended.{AreComplete, HasEnded, HasReason, HaveEnded, IsLeftOut, is_log_end}
+use Rattle.dr_program_laws.specs.Ended.{AreComplete, HaveEnded}
 use Rattle.dr_program_laws.specs.Trusting.{NoneLeft, SuspectsNobody}
 use Rattle.dr_quorum.specs.Handing.{handed_by}
 use Rattle.dr_restart.specs.Choosing.{handed_of}
@@ -61,11 +64,16 @@ use Rattle.dr_script.specs.declared.script.Script.{Script}
 use Rattle.dr_script.specs.Ranges.{HasRanges}
 use Rattle.dr_age.specs.Logged.{AreAmple, AreAsBefore, AreCalm, AreOpened, HaveCome, NoneFull, NoneStopped, why_ended}
 use Rattle.dr_threads.specs.Logs.{AreLonger}
-use Rattle.dr_words.proofs.Bits.{has_ones}
 use Rattle.dr_words.specs.Masks.{without}
 use Rattle.dr_world_laws.proofs.Finishing.{banks-small}
-use Rattle.dr_words.proofs.Masks.{has_mask_of, same_masks}
+use Rattle.dr_words.proofs.Masks.{has_mask_of}
 use Rattle.dr_yard.specs.Yards.{YardState}
+use Rattle.dr_logged.proofs.Served.{places_both}
+use Rattle.dr_program_laws.proofs.Endings.{not_away}
+use Rattle.dr_age.proofs.LoggedMembers.{ended_by_disk}
+use Rattle.dr_opening.proofs.Lists.{stays_there, was_there, content_at_log, contents_there, log_of_content}
+use Rattle.dr_opening.proofs.Logs.{opened_places, together_some}
+use Rattle.dr_opening.proofs.Contents.{open_long}
 use Rattle.dr_ages.specs.declared.mode.Mode.{Mode}
 use Rattle.dr_ages.specs.declared.mode.Mode.TheVariants.{Sim}
 use Rattle.dr_ages.specs.declared.part.Part.{Part}
@@ -75,11 +83,11 @@ use Rattle.dr_ages.specs.Left.{HasLeft, IsFullAt, with_logged}
 use Rattle.dr_ages.specs.Lent.{AreAllBut, AreMounted, IsMounted, with_logs}
 use Rattle.dr_ages.specs.Opened.{AreLater, IsLater}
 use Rattle.dr_ages.specs.Passing.{AreKeptSince, PassOn}
-use Rattle.dr_ages.proofs.Backs.{faults_at, kept_back, log_at, not_missing, passed_with, places_then, stays_there, told_at, untouched_with, was_there}
-use Rattle.dr_ages.proofs.Loans.{are_found, content_at_log, contents_there, log_of_content}
-use Rattle.dr_ages.proofs.Opening.{are_opened, opened_on, opened_places}
-use Rattle.dr_ages.proofs.Short.{found_short, open_long, opened_short}
-use Rattle.dr_ages.proofs.Staying.{alike_same, goes_tells, lasts_goes, later_by_all, later_then, on_same}
+use Rattle.dr_ages.proofs.Backs.{faults_at, kept_back, log_at, not_missing, passed_with, told_at, untouched_with}
+use Rattle.dr_ages.proofs.Loans.{are_found}
+use Rattle.dr_ages.proofs.Opening.{are_opened, opened_on}
+use Rattle.dr_ages.proofs.Short.{found_short, opened_short}
+use Rattle.dr_ages.proofs.Staying.{alike_same, later_by_all, later_then, on_same}
 use Rattle.dr_ages.proofs.Votes.{EndsSo, few_cast, member_over, over_form, told_by}
 
 -- ---- the logs go on
@@ -167,15 +175,6 @@ later_by_run told faults script start nth age mode olds news ranges group opened
     later_by_come told faults olds news (over_of mode script start nth age ran.0).members
     (λ m old there. stands_over mode script start nth age ranges group ran.0 m (opened.each m old there).0) ran.1
 
--- what holds of the value of an answer
-pub ok_at : {X E : Type 0} (P : X → Type 0) (result : Result X E) (x : X) → result ≡ Ok x → IfOk result P → P x
-ok_at P result x is so = subst (λ r. IfOk r P) is so
-
--- and what holds where there is none
-pub err_at : {X E : Type 0} (P : Type 0) (result : Result X E) (error : E) → result ≡ Err error → OnErr result P
-    → P
-err_at P result error is so = subst (λ r. OnErr r P) is so
-
 -- an age that ran, or that had no memory to begin
 pub later_by_result : {D E : Type 0} (tells : D → Option Told) (faults : D → ℕ) (script : Script) (start : Start)
     (nth : ℕ) (mode : Mode) (olds news : List (Option (LogState D)))
@@ -206,18 +205,6 @@ later_on tells faults starts olds mids news places first next m old new there he
     later_then tells faults starts old mid.0 new (first m old mid.0 there mid.1) (next m mid.0 new mid.1 here)
 
 -- ---- what is left on a disk
-
--- whom a disk ended
-by_disk : (end : End) → why_ended end ≡ Some logs.DiskFault → end ≡ ends.DiskFault
-by_disk ends.DiskFault e = refl
-by_disk (ends.LogFull len) e = absurd (cc)
-by_disk end e = absurd (cc)
-
--- who has ended by a disk has ended
-ended_by_disk : (o : Option End) → why_ended (unwrap_or o ends.Done) ≡ Some logs.DiskFault
-    → o ≡ Some ends.DiskFault
-ended_by_disk None e = absurd (cc)
-ended_by_disk (Some end) e = ap Some (by_disk end e)
 
 left_by : {D : Type 0} (tells : D → Option Told) (faults : D → ℕ) (base log : LogState D) (r : Running)
     (found : OnLog) → HasCome tells faults base log r.replica (why_ended (end_of r).end)
@@ -258,10 +245,6 @@ content_of_come {D} tells faults base new r why come = λ i. record {
     long = omega (arith, come.long, ap entries_length rest)
 
 -- ---- who takes part
-
-some_map : {X Y : Type 0} (f : X → Y) (o : Option X) → is_some (option_map f o) ≡ is_some o
-some_map f None = refl
-some_map f (Some x) = refl
 
 -- the members whose logs are handed in are those that are not missing
 handed_are : (script : Script) (missing : ℕ) (contents : List (Option OnLog))
@@ -380,14 +363,6 @@ same_start mode script part contents start nth age lists there starts late run =
     present : start.present ≡ taking_part script part.missing
     present = starts.chosen.present ∙ handed_are script part.missing contents lists there
 
--- what came of a log that was there
-together_some : {D : Type 0} (P : LogState D → LogState D → Type 0) (o p : Option (LogState D)) (old : LogState D)
-    → o ≡ Some old → Together P o p → (new : LogState D) × (p ≡ Some new) × P old new
-together_some P None p old is both = absurd (cc is)
-together_some P (Some x) None old is both = absurd both
-together_some P (Some x) (Some new) old is both =
-    (new, refl, subst (λ y. P y new) (same_Some x old is) both)
-
 -- a log, and a log that it was as its age began
 pub record IsOpenLog {D : Type 0} (tells : D → Option Told) (faults : D → ℕ) (start : Start)
     (yard : YardState) (olds mids : List (Option (LogState D))) (m : ℕ) : Type 0 where
@@ -475,18 +450,6 @@ content_here : {D : Type 0} (logs : List (Option (LogState D))) (m : ℕ) (log :
 content_here {D} logs m log there =
     ap (λ (o : Option (LogState D)). option_map_or (λ (log : LogState D). log.content) o (empty_of true)) there
 
--- nobody that is there ends as one that is absent
-not_away : (o : Opening) (all : List MemberEnd) (limit m : ℕ) (points : List CrashPoint) (e : MemberEnd)
-    → HasEnded o all limit m points e → e.end ≡ ends.Absent → ⊥
-not_away o all limit m points e ended away = by ended.reason
-  where
-    by : HasReason o all ended.number ended.members limit m points e → ⊥
-    by (inl done) = absurd (cc (done.whole.end, away))
-    by (inr (inl spent)) = absurd (cc (spent.end, away))
-    by (inr (inr (inl crashed))) = absurd (cc (crashed.end, away))
-    by (inr (inr (inr (inl by_log)))) = true≢false (sym by_log.end ∙ ap is_log_end away)
-    by (inr (inr (inr (inr left)))) = subst (IsLeftOut o all ended.number ended.members m) away left.end
-
 pub is_age : {D : Type 0} (tells : D → Option Told) (faults : D → ℕ) (script : Script) (part : Part) (mode : Mode)
     (nth : ℕ) (before : YardState) (start : Start) (olds mids news : List (Option (LogState D))) (age : AgeEnd)
     → WasPlayed tells faults script part mode nth before start olds mids news age
@@ -547,7 +510,7 @@ is_age {D} tells faults script part mode nth before start olds mids news age w =
     began = opened_places tells faults start olds mids w.began
 
     places : HaveSamePlaces olds news
-    places = places_then olds mids news began w.places
+    places = places_both olds mids news began w.places
 
     opens : AreOpened (group_of script start) mids
     opens = are_opened tells faults script start olds mids w.ranges.group.lists w.ranges.group.most_members w.all

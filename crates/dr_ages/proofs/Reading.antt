@@ -2,13 +2,13 @@
 use Rattle.std.proofs.Common.{◌≡◌, refl, sym, ap, ◌∙◌, ℕ, arith, true, false, not, List, Option, None, Some}
 use Rattle.std.specs.Prelude.{IfSome, IsSomeAnd, IsTrue, is_some}
 use Rattle.std.proofs.lemmas.List.{ext_get_or}
+use Rattle.dr_entry.proofs.ListPlaces.{within_places}
 use Rattle.dr_disk.specs.Disk.{Told, content_of}
 use Rattle.dr_history.specs.Members.{has}
 use Rattle.dr_log_bytes.specs.Content.{OnLog}
 use Rattle.dr_log_bytes.specs.Grammar.{StandFor}
-use Rattle.dr_log_bytes.proofs.Meaning.{content_once}
+use Rattle.dr_log.proofs.Standing.{one_read}
 use Rattle.dr_opening.specs.Tries.{content_at}
-use Rattle.dr_opening.proofs.Lists.{within_places}
 use Rattle.dr_yard.specs.Yards.{AllTell, YardState}
 use Rattle.dr_ages.specs.Found.{AreFound, ReadsAs}
 use Rattle.dr_ages.specs.Refused.{AreRead}
@@ -27,11 +27,6 @@ found_read n missing yard contents tell found = record {
         → IsSomeAnd o (λ t. StandFor (content_of t) c)
     by None c some reads = absurd (cc)
     by (Some t) c some reads = reads.stands
-
-one_read : (o : Option Told) (c d : OnLog) → IsSomeAnd o (λ t. StandFor (content_of t) c)
-    → IsSomeAnd o (λ t. StandFor (content_of t) d) → c ≡ d
-one_read None c d a b = absurd a
-one_read (Some t) c d a b = content_once (content_of t) c d a b
 
 pub read_once : (n missing : ℕ) (yard : YardState) (xs ys : List (Option OnLog)) → AreRead n missing yard xs
     → AreRead n missing yard ys → xs ≡ ys

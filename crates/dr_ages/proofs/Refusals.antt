@@ -1,5 +1,5 @@
 -- For what the logs of a run are refused.
-use Rattle.std.proofs.Common.{◌≡◌, ◌≢◌, ◌⊎◌, refl, sym, ap, ◌∙◌, subst, inl, inr, ℕ, ◌<◌, ◌≤◌, arith, not, List, [], ◌∷◌, ◌++◌, length}
+use Rattle.std.proofs.Common.{◌≡◌, ◌≢◌, ◌⊎◌, refl, sym, ap, ◌∙◌, subst, inl, inr, ℕ, ◌<◌, arith, not, List, [], ◌∷◌, ◌++◌, length}
 use Rattle.std.specs.Prelude.{IfSome, IsSomeAnd, IsTrue, Option, None, Some, is_some}
 use Rattle.dr_disk.specs.Disk.{Told, content_of}
 use Rattle.dr_entry.specs.declared.end.AgeEnd.{AgeEnd}
@@ -7,8 +7,7 @@ use Rattle.dr_entry.specs.declared.entry.Entry.{Entry}
 use Rattle.dr_kept.proofs.Chosen.{some_there}
 use Rattle.dr_kept.proofs.Returning.{refused_behind}
 use Rattle.dr_log_bytes.specs.Content.{OnLog}
-use Rattle.dr_log_bytes.specs.Grammar.{IsDamaged, StandFor}
-use Rattle.dr_log_bytes.proofs.Meaning.{damaged_once, stands_or_damaged}
+use Rattle.dr_log_bytes.specs.Grammar.{IsDamaged}
 use Rattle.dr_opening.specs.Lists.{all_as_lists}
 use Rattle.dr_opening.specs.Tries.{IsChosenOf, content_at}
 use Rattle.dr_quorum.specs.Handing.{handed_by}
@@ -18,7 +17,9 @@ use Rattle.dr_restart.specs.Groups.{first_group_of}
 use Rattle.dr_restart.specs.Refusing.{Refusal}
 use Rattle.dr_script.specs.declared.script.Script.{Script}
 use Rattle.dr_script.specs.Ranges.{HasRanges}
+use Rattle.dr_log.proofs.Standing.{readable, one_place}
 use Rattle.dr_yard.specs.Yards.{AllTell, YardState}
+use Rattle.dr_yard.proofs.YardStates.{fewer_tell}
 use Rattle.dr_ages.specs.declared.mode.Mode.{Mode}
 use Rattle.dr_ages.specs.declared.part.Part.{Part}
 use Rattle.dr_ages.specs.declared.stop.Stop.{Stop}
@@ -33,9 +34,6 @@ use Rattle.dr_ages.proofs.Keeping.{IsBehind, age_next, behind, left_from, of_cho
 use Rattle.dr_ages.proofs.Reading.{found_read, read_once}
 
 -- ---- what was found is refused as it reads
-
-fewer_tell : (m n : ℕ) (yard : YardState) → m ≤ n → AllTell n yard → AllTell m yard
-fewer_tell m n yard few tell k l = tell k (omega (arith, few, l))
 
 -- logs that are found so read so
 found_so : (script : Script) (missing : ℕ) (before : YardState) (why : Refusal) → AllTell script.members before
@@ -110,22 +108,11 @@ sorted script missing yard OutOfMemory is = absurd is
 sorted script missing yard (DiskFault m) is = absurd is
 sorted script missing yard (LogFull m len) is = absurd is
 
--- a disk that reads as a log is not damaged
-readable : (o : Option Told) (c : OnLog) (at : ℕ) → IsSomeAnd o (λ t. StandFor (content_of t) c)
-    → IsSomeAnd o (λ t. IsDamaged (content_of t) at) → ⊥
-readable None c at stands damaged = stands
-readable (Some t) c at stands damaged = stands_or_damaged (content_of t) c at stands damaged
-
 read_undamaged : (n k missing : ℕ) (yard : YardState) (contents : List (Option OnLog)) (m at : ℕ)
     → AreRead k missing yard contents → m < k → IsFirstDamaged n missing yard m at → ⊥
 read_undamaged n k missing yard contents m at read l is =
     let c = some_there (content_at contents m) (read.there m l ∙ ap not is.there) in
     readable (yard.told m) c.0 at (read.each m c.0 c.1) is.damaged
-
-one_place : (o : Option Told) (at to : ℕ) → IsSomeAnd o (λ t. IsDamaged (content_of t) at)
-    → IsSomeAnd o (λ t. IsDamaged (content_of t) to) → at ≡ to
-one_place None at to a b = absurd a
-one_place (Some t) at to a b = damaged_once (content_of t) at to a b
 
 one_damaged : (n missing : ℕ) (yard : YardState) (m at k to : ℕ) → IsFirstDamaged n missing yard m at
     → IsFirstDamaged n missing yard k to → (m ≡ k) × (at ≡ to)

@@ -1,8 +1,9 @@
 -- Ages that came one after the other are a run.
-use Rattle.std.proofs.Common.{◌≡◌, ◌≢◌, refl, sym, ap, ◌∙◌, subst, inl, inr, ℕ, ◌+◌, ◌^◌, ◌≤◌, arith, false, List, [], ◌∷◌, ◌++◌, append-nil, length, take, get_or}
+use Rattle.std.proofs.Common.{◌≡◌, ◌≢◌, refl, sym, ap, ◌∙◌, subst, inl, inr, ℕ, ◌+◌, ◌^◌, ◌≤◌, arith, false, List, [], ◌∷◌, ◌++◌, append-nil, length, take, get_or, ◌-◌, ◌<◌, ◌&&◌, not, true}
 use Rattle.std.specs.Prelude.{IfSome, Option, None, Some, slice_get}
 use Rattle.std.proofs.lemmas.List.Elements.{All-cons, All-nil}
 use Rattle.std.proofs.lemmas.Option.{slice_get-get_or, slice_get_within}
+use Rattle.std.proofs.lemmas.Bool.Decides.{nat_tests}
 use Rattle.dr_age.specs.Logged.{NoneFull}
 use Rattle.dr_disk.specs.Disk.{Told}
 use Rattle.dr_disk.specs.Images.{IsLeft}
@@ -10,15 +11,14 @@ use Rattle.dr_disk.proofs.Moments.{Goes-last}
 use Rattle.dr_entry.specs.declared.end.AgeEnd.{AgeEnd}
 use Rattle.dr_entry.specs.declared.end.MemberEnd.{MemberEnd}
 use Rattle.dr_entry.specs.declared.entry.Entry.{Entry}
-use Rattle.dr_entry.specs.declared.record.Record.{Record}
-use Rattle.dr_entry.specs.declared.record.Record.TheVariants as records
+use Rattle.dr_disk.proofs.Images.{left_so}
 use Rattle.dr_history.specs.Members.{has}
 use Rattle.dr_log.specs.Standing.{HasAllOf, IsBeforeOrAfter, LosesNone}
 use Rattle.dr_history.specs.History.{IsPrefixOf}
-use Rattle.dr_log.proofs.Ordinary.{IsOrdinary, has_itself, none_lost, none_lost_by}
+use Rattle.dr_history.proofs.Bits.{has_zero, has_ones}
+use Rattle.dr_log.proofs.Ordinary.{has_itself, none_lost, none_lost_by}
 use Rattle.dr_log_bytes.specs.Content.{OnLog}
 use Rattle.dr_log_bytes.specs.Grammar.{StandFor}
-use Rattle.dr_logged.specs.Served.{IsRecordDue}
 use Rattle.dr_opening.specs.Tries.{IsChosenOf}
 use Rattle.dr_program.specs.Program.{end_of}
 use Rattle.dr_program.specs.Replica.{Replica}
@@ -27,11 +27,13 @@ use Rattle.dr_restart.specs.Groups.{first_group_of}
 use Rattle.dr_script.specs.declared.script.Script.{Script}
 use Rattle.dr_script.specs.Ranges.{HasRanges}
 use Rattle.dr_yard.specs.Yards.{AllTell, AreEmpty, YardState}
+use Rattle.dr_words.proofs.Masks.{has_mask_of}
+use Rattle.dr_logged.proofs.Served.{ordinary_due}
 use Rattle.dr_ages.specs.declared.mode.Mode.{Mode}
 use Rattle.dr_ages.specs.declared.part.Part.{Part}
 use Rattle.dr_ages.specs.declared.stop.Stop.{Stop}
 use Rattle.dr_ages.specs.declared.stop.Stop.TheVariants.{OutOfMemory, DiskFault, LogFull, Damaged, Disagree, Foreign, NoQuorum, AgesUsedUp}
-use Rattle.dr_ages.specs.Ages.{AreAges, IsAgeOf, NamesNobody, start_of, starts_of}
+use Rattle.dr_ages.specs.Ages.{AreAges, IsAgeOf, NamesNobody, start_of, starts_of, all_but, taking_part}
 use Rattle.dr_ages.specs.Fit.{AreFit, AreInStep}
 use Rattle.dr_ages.specs.Found.{AreFound, AreRoomy}
 use Rattle.dr_ages.specs.Lacking.{LackedMemory}
@@ -47,8 +49,8 @@ use Rattle.dr_ages.proofs.InStep.{age_step, step_good, step_never, tried_step}
 use Rattle.dr_ages.proofs.Lasting.{ages_lasting, fit_never, readable_tell, tried_lasting}
 use Rattle.dr_ages.proofs.Keeping.{are_kept, behind, ended_over, logged_first, told_there}
 use Rattle.dr_ages.proofs.Refusals.{refused_run}
-use Rattle.dr_ages.proofs.Staying.{left_so}
 use Rattle.dr_ages.proofs.Votes.{age_told}
+use Rattle.dr_ages.specs.declared.mode.Mode.TheVariants.{Run}
 
 -- what an age leaves is not refused
 never : (script : Script) (part : Part) (mode : Mode) (before : YardState) (ages : List AgeEnd)
@@ -247,14 +249,6 @@ chosen_has script part mode nth before last after age chosen ages (Some stop) m 
         (behind script part mode nth before last age ranges is tell contents found) of.1 at there)
         (All-nil (λ (start : List Entry). IsPrefixOf (take e.logged e.history) start)))
 
--- what stands on a log has been kept by whatever the member may leave of it
-ordinary_due : (r : Replica) (next : Record) → IsRecordDue r next → IsOrdinary next
-ordinary_due r (records.Entry x) due = tt
-ordinary_due r (records.Vote v) due = tt
-ordinary_due r (records.AgeVote v) due = absurd due
-ordinary_due r (records.Cut keep) due = absurd due
-ordinary_due r records.Upgrade due = absurd due
-
 left_has : (o : Option Told) (r : Replica) (base first : OnLog) → HasAllOf first (with_logged base r)
     → HasLeft o r base → IsLeft o (LosesNone first)
 left_has o r base first has left = by left
@@ -392,3 +386,28 @@ a_run script part mode before ages last after stop chosen ranges are end kept tr
   refused = λ tell. refused_run script part mode before ages last after chosen stop ranges are end
       (never script part mode before ages last after chosen stop ranges are end tell) tell;
 }
+
+-- no log is missing
+pub none_lacks : (n : ℕ) → NamesNobody n 0
+none_lacks n m below = has_zero m
+
+pub one_age : (script : Script) (before after : YardState) (ages : List AgeEnd) (age : AgeEnd)
+    → IsRunOf script (all_but 0) Run before after ages None → ages ≡ age ∷ []
+    → IsAgeOf script (all_but 0) Run 0 before after age
+one_age script before after ages age run is =
+    let one = subst (λ (l : List AgeEnd). AreAges script (all_but 0) Run 0 before l run.last) is run.course in
+    subst (λ (y : YardState). IsAgeOf script (all_but 0) Run 0 before y age) (one.2 ∙ run.finish.1) one.1
+
+-- who is not missing takes part
+pub there_takes_part : (script : Script) (missing m : ℕ) → script.members ≤ 16 → m < script.members
+    → has missing m ≡ false → has (taking_part script missing) m ≡ true
+there_takes_part script missing m few below there =
+    grind (
+      arith,
+      nat_tests,
+      has_mask_of (λ k. has (2 ^ script.members - 1) k && not (has missing k)) m,
+      has_ones script.members m,
+      below,
+      few,
+      there,
+    )

@@ -1,20 +1,21 @@
 -- What no crash would have lost of a disk none would lose later on.
-use Rattle.std.proofs.Common.{◌≡◌, refl, sym, ◌∙◌, subst, ℕ, ◌≤◌, false, arith, le_refl, List, [], ◌∷◌, ◌++◌}
+use Rattle.std.proofs.Common.{◌≡◌, refl, sym, ◌∙◌, subst, ℕ, ◌≤◌, arith, le_refl, List, [], ◌∷◌, ◌++◌}
 use Rattle.std.specs.Prelude.{IfSome, Option, None, Some, is_some}
 use Rattle.std.proofs.lemmas.List.Elements.{All-cons, All-head, All-nil, All-tail}
-use Rattle.dr_disk.specs.Calls.{Call, State, run}
-use Rattle.dr_disk.specs.Disk.{Told, Calls, Now, content_of, state_of}
-use Rattle.dr_disk.specs.Images.{AllImages, During, Goes, IsLeft, Lasts, LastsDuring}
-use Rattle.dr_disk.proofs.Moments.{Goes-last, Went-weaken, goes_on, stays_at}
+use Rattle.dr_disk.specs.Disk.{Told, content_of, state_of}
+use Rattle.dr_disk.specs.Images.{AllImages, Goes, IsLeft}
+use Rattle.dr_disk.proofs.Moments.{Goes-last, stays_at, goes_both}
 use Rattle.dr_entry.specs.declared.entry.Entry.{Entry}
+use Rattle.dr_disk.proofs.DiskCalls.{goes_tells}
+use Rattle.dr_disk.proofs.Images.{silent}
 use Rattle.dr_history.specs.History.{IsPrefixOf}
 use Rattle.dr_log.specs.Standing.{HasAllOf, KeepsRecords, LosesNone, StandAlike}
 use Rattle.dr_log.specs.State.{LogState}
-use Rattle.dr_log.proofs.Ordinary.{has_itself, less_lost, none_lost}
 use Rattle.dr_log_bytes.specs.Content.{OnLog}
-use Rattle.dr_log_bytes.specs.Grammar.{StandFor}
 use Rattle.dr_log_bytes.proofs.Meaning.{content_once}
-use Rattle.dr_logged.specs.Served.{IsSafe}
+use Rattle.dr_log.proofs.Standing.{loses_alike, alike_goes}
+use Rattle.dr_log.proofs.Ordinary.{left_less}
+use Rattle.dr_logged.proofs.Served.{safe_kept}
 use Rattle.dr_ages.specs.Found.{ReadsAs}
 use Rattle.dr_ages.specs.Lent.{IsAlike, IsMounted}
 use Rattle.dr_ages.specs.Opened.{IsLater}
@@ -44,77 +45,10 @@ of_one_start es start all = All-head (begins_with es) start [] all
 
 -- ---- bytes
 
--- bytes that stand for the same have lost the same
-loses_alike : (c : OnLog) (first second : List ℕ) → StandAlike first second → LosesNone c first
-    → LosesNone c second
-loses_alike c first second alike none = record {
-  content = none.content;
-  stands = (alike none.content).0 none.stands;
-  has = none.has;
-}
-
 unread_alike : (first second : List ℕ) → StandAlike first second → IsUnreadable first → IsUnreadable second
 unread_alike first second alike none c stands = none c ((alike c).1 stands)
 
 -- ---- disks
-
--- what holds of all that a crash may leave, and what follows from it
-pub left_so : (o : Option Told) (P Q : List ℕ → Type 0) → ((image : List ℕ) → P image → Q image) → IsLeft o P
-    → IsLeft o Q
-left_so None P Q more left = tt
-left_so (Some t) P Q more left = λ image is. more image (left image is)
-
--- what goes so from one moment to another tells at both, or at neither
-pub goes_tells : (before after : Option Told) (P : State → List ℕ → Type 0) → Goes before after P
-    → is_some before ≡ is_some after
-goes_tells None None P goes = refl
-goes_tells None (Some t) P goes = absurd goes
-goes_tells (Some t) None P goes = absurd goes
-goes_tells (Some s) (Some t) P goes = refl
-
--- two spans of time are one
-pub goes_then : (before mid after : Option Told) (P : List ℕ → Type 0) → Goes before mid (λ s. P)
-    → Goes mid after (λ s. P) → Goes before after (λ s. P)
-goes_then before mid after P first next =
-    goes_on before mid after (λ s. P) (λ s. P) (λ s. P) (λ t image told here. here)
-    (λ t u image told then here. here) first next
-
--- whatever is asked holds of a disk that doesn't tell
-silent : (now : Option Told) (P : List ℕ → Type 0) → false ≡ is_some now → Goes None now (λ s. P)
-silent None P same = tt
-silent (Some t) P same = absurd (cc)
-
--- what lasts during some calls, and each image has before them, each has at each moment of them
-lasts_during : (s : State) (calls : List Call) (P : List ℕ → Type 0) → LastsDuring s calls P → AllImages s P
-    → During s calls P
-lasts_during s [] P lasts here = here
-lasts_during s (call ∷ calls) P lasts here = lasts.0 here
-
-pub lasts_goes : (before after : Option Told) (P : List ℕ → Type 0) → Lasts before after P → IsLeft before P
-    → Goes before after (λ s. P)
-lasts_goes None None P lasts here = tt
-lasts_goes None (Some after) P lasts here = absurd lasts
-lasts_goes (Some before) None P lasts here = absurd lasts
-lasts_goes (Some (Calls before)) (Some (Calls after)) P lasts here = record {
-  more = lasts.more;
-  grown = lasts.grown;
-  each = lasts_during (run before) lasts.more P lasts.each here;
-}
-lasts_goes (Some (Calls before)) (Some (Now after)) P lasts here = absurd lasts
-lasts_goes (Some (Now before)) (Some (Calls after)) P lasts here = absurd lasts
-lasts_goes (Some (Now before)) (Some (Now after)) P lasts here = lasts here
-
--- what each image had, and those that stand alike share, each has while a crash leaves what it might have left
--- before
-alike_goes : (told now : Option Told) (P : List ℕ → Type 0)
-    → ((first second : List ℕ) → StandAlike first second → P first → P second) → Goes told now KeepsRecords
-    → IsLeft told P → Goes told now (λ s. P)
-alike_goes None None P more goes left = tt
-alike_goes None (Some now) P more goes left = absurd goes
-alike_goes (Some told) None P more goes left = absurd goes
-alike_goes (Some told) (Some now) P more goes left =
-    Went-weaken told now (KeepsRecords (state_of told)) P
-    (λ image k. more k.before image k.alike (left k.before k.was)) goes
 
 -- ---- a disk goes on
 
@@ -153,11 +87,11 @@ on_then xs ys a b c k m n first next = record {
   later = omega (arith, first.later, next.later);
   stays = λ x all left.
       let one = first.stays x (first_starts x.entries xs ys all) left in
-      goes_then a b c (LosesNone x) one
+      goes_both a b c (LosesNone x) one
       (next.stays x (other_starts x.entries xs ys all) (Goes-last a b (LosesNone x) one));
   unread = λ left.
       let one = first.unread left in
-      goes_then a b c IsUnreadable one (next.unread (Goes-last a b IsUnreadable one));
+      goes_both a b c IsUnreadable one (next.unread (Goes-last a b IsUnreadable one));
 }
 
 -- ---- a log goes on
@@ -181,7 +115,7 @@ later_then told faults starts a b c first next = record {
   later = omega (arith, first.later, next.later);
   stays = λ x all has left.
       let one = first.stays x all has left in
-      goes_then (told a.disk) (told b.disk) (told c.disk) (LosesNone x) one
+      goes_both (told a.disk) (told b.disk) (told c.disk) (LosesNone x) one
       (next.stays x all (first.has x all has) (Goes-last (told a.disk) (told b.disk) (LosesNone x) one));
 }
 
@@ -219,7 +153,7 @@ on_since {D} tells faults starts told count old new is later = record {
     kept c all None alike found left mid = silent (tells new.disk) (LosesNone c) alike
     kept c all (Some t) alike found left mid =
         let none = left (content_of t) found.image in
-        goes_then (Some t) (tells old.disk) (tells new.disk) (LosesNone c) mid
+        goes_both (Some t) (tells old.disk) (tells new.disk) (LosesNone c) mid
         (later.stays c all
         (subst (HasAllOf c) (content_once (content_of t) none.content old.content none.stands found.stands) none.has)
         (Goes-last (Some t) (tells old.disk) (LosesNone c) mid))
@@ -232,19 +166,6 @@ on_since {D} tells faults starts told count old new is later = record {
         absurd (left (content_of t) found.image old.content found.stands)
 
 -- ---- a disk is kept since it was mounted
-
--- what is safe on a log has not been lost
-pub safe_kept : {D : Type 0} (tells : D → Option Told) (log : LogState D) → IsSafe tells log
-    → IsLeft (tells log.disk) (LosesNone log.content)
-safe_kept tells log safe =
-    left_so (tells log.disk) (λ image. StandFor image log.content) (LosesNone log.content)
-    (λ image is. none_lost log.content log.content image (has_itself log.content) is) safe
-
--- what has lost none of this has lost none of what this has
-pub left_less : (o : Option Told) (first c : OnLog) → HasAllOf first c → IsLeft o (LosesNone c)
-    → IsLeft o (LosesNone first)
-left_less o first c has left =
-    left_so o (LosesNone c) (LosesNone first) (λ image is. less_lost first c image has is) left
 
 pub kept_since : {D : Type 0} (tells : D → Option Told) (faults : D → ℕ) (starts : List (List Entry))
     (told : Option Told) (count : ℕ) (old new : LogState D) → IsMounted tells faults told count old
@@ -267,6 +188,6 @@ kept_on xs ys a b c m n kept on = record {
   by = kept.by;
   since = λ first has all.
       let one = kept.since first has (first_starts first.entries xs ys all) in
-      goes_then kept.mounted b c (LosesNone first) one
+      goes_both kept.mounted b c (LosesNone first) one
       (on.stays first (other_starts first.entries xs ys all) (Goes-last kept.mounted b (LosesNone first) one));
 }

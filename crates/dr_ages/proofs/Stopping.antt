@@ -27,6 +27,8 @@ use Rattle.dr_restart.specs.Groups.{first_group_of}
 use Rattle.dr_script.specs.declared.script.Script.{Script}
 use Rattle.dr_words.specs.Masks.{without}
 use Rattle.dr_yard.specs.Yards.{YardState}
+use Rattle.dr_opening.proofs.Lists.{stays_there, was_there, content_at_log, log_of_content}
+use Rattle.dr_opening.proofs.Logs.{below_stop, come_places, in_stop, stop_places, unopened_places}
 use Rattle.dr_ages.specs.declared.mode.Mode.{Mode}
 use Rattle.dr_ages.specs.declared.part.Part.{Part}
 use Rattle.dr_ages.specs.declared.stop.Stop.TheVariants.{OutOfMemory}
@@ -37,9 +39,9 @@ use Rattle.dr_ages.specs.Opened.{AreLater}
 use Rattle.dr_ages.specs.Passing.{AreKeptSince}
 use Rattle.dr_ages.specs.Stops.{AreOpenBelow, HasStopped, HaveVotesBelow, IsBehindMounts, IsStuckIn, NamesFaults, in_opening}
 use Rattle.dr_ages.specs.Telling.{stop_at, stop_of, stop_of_choice}
-use Rattle.dr_ages.proofs.Backs.{counts_still, faults_at, faults_none, kept_back, not_missing, stays_there, told_at, was_there}
-use Rattle.dr_ages.proofs.Loans.{are_found, content_at_log, log_of_content, names_none}
-use Rattle.dr_ages.proofs.Opening.{below_stop, come_mid, come_places, in_come, in_stop, stop_places, unopened_on, unopened_places}
+use Rattle.dr_ages.proofs.Backs.{counts_still, faults_at, faults_none, kept_back, not_missing, told_at}
+use Rattle.dr_ages.proofs.Loans.{are_found, names_none}
+use Rattle.dr_ages.proofs.Opening.{come_mid, in_come, unopened_on}
 use Rattle.dr_ages.proofs.Staying.{alike_same}
 
 -- ---- logs that make no start

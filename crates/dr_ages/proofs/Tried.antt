@@ -1,9 +1,10 @@
 -- What an opening that stopped leaves on the disks of a yard is as before, or a try.
-use Rattle.std.proofs.Common.{◌≡◌, ◌⊎◌, refl, sym, ap, ◌∙◌, subst, inl, inr, ℕ, ◌<◌, arith, le_refl, List, length}
-use Rattle.std.specs.Prelude.{IsSomeAnd, IsTrue, Option, None, Some, is_some, option_map, slice_get}
-use Rattle.std.proofs.lemmas.Option.{none-some}
+use Rattle.std.proofs.Common.{◌≡◌, refl, sym, ◌∙◌, subst, inl, inr, ℕ, ◌<◌, arith, le_refl, List, length}
+use Rattle.std.specs.Prelude.{IsSomeAnd, IsTrue, Option, None, Some, is_some, slice_get}
 use Rattle.dr_disk.specs.Disk.{Told, state_of}
 use Rattle.dr_disk.specs.Images.{AllImages, Goes, IsLeft}
+use Rattle.dr_disk.proofs.DiskCalls.{goes_tells}
+use Rattle.dr_disk.proofs.Images.{left_so}
 use Rattle.dr_history.specs.declared.opening.Opening.{Opening}
 use Rattle.dr_history.specs.Members.{has}
 use Rattle.dr_history_laws.proofs.Lists.{slice_get-some}
@@ -16,10 +17,9 @@ use Rattle.dr_opening.specs.declared.opening.OpenFault.{OpenFault}
 use Rattle.dr_opening.specs.Contents.{IsRising, IsVoting, StandSo, voted_for}
 use Rattle.dr_opening.specs.Lists.{contents_of, log_of}
 use Rattle.dr_opening.specs.Logs.{WereNotOpened}
-use Rattle.dr_opening.specs.Tries.{AreLeftOn, AreSafe, HasStoppedSo, IsChosenOf, IsLeftOn, content_at, try_of}
+use Rattle.dr_opening.specs.Tries.{AreLeftOn, HasStoppedSo, IsChosenOf, IsLeftOn, try_of}
 use Rattle.dr_opening.specs.Unopened.{IsWhyUnopened}
-use Rattle.dr_opening.proofs.Crashing.{AreSo, left_so_far, so_stopped, so_voting}
-use Rattle.dr_opening.proofs.Lists.{content_is}
+use Rattle.dr_opening.proofs.Crashing.{left_so_far, AreOnWay, on_way}
 use Rattle.dr_opening.proofs.Trying.{in_set, some_try}
 use Rattle.dr_logged.specs.Served.{HaveSamePlaces}
 use Rattle.dr_program.proofs.Present.{present_within}
@@ -29,14 +29,16 @@ use Rattle.dr_restart.specs.Groups.{first_group_of}
 use Rattle.dr_script.specs.declared.script.Script.{Script}
 use Rattle.dr_script.specs.Ranges.{HasGroupRanges}
 use Rattle.dr_yard.specs.Yards.{AllTell, YardState}
+use Rattle.dr_opening.proofs.Lists.{stays_none, was_none, content_at_log, no_log, content_none}
+use Rattle.dr_opening.proofs.Logs.{unopened_places}
 use Rattle.dr_ages.specs.Fit.{AreChosen, IsReadable, MayLeave}
 use Rattle.dr_ages.specs.Lent.{AreAllBut, AreMounted, IsAlike, with_logs}
 use Rattle.dr_ages.specs.Tried.{AreTried}
-use Rattle.dr_ages.proofs.Backs.{AreAllBack, alike_back, log_at, stays_none, told_at, told_none, was_none}
+use Rattle.dr_ages.proofs.Backs.{AreAllBack, alike_back, log_at, told_at, told_none}
 use Rattle.dr_ages.proofs.Lasting.{HadBefore, alike_chosen, alike_readable, had_before}
-use Rattle.dr_ages.proofs.Loans.{are_found, content_at_log}
-use Rattle.dr_ages.proofs.Opening.{unopened_on, unopened_places}
-use Rattle.dr_ages.proofs.Staying.{alike_same, goes_tells, left_so}
+use Rattle.dr_ages.proofs.Loans.{are_found}
+use Rattle.dr_ages.proofs.Opening.{unopened_on}
+use Rattle.dr_ages.proofs.Staying.{alike_same}
 
 -- ---- nothing came to any disk
 
@@ -69,32 +71,6 @@ record IsUnopened {D : Type 0} (tells : D → Option Told) (faults : D → ℕ) 
   mounted : AreMounted tells faults before olds
   chosen : IsChosenOf (first_group_of script).opening (contents_of olds) start
   stopped : WereNotOpened tells faults start olds news fault
-
--- where nothing is on a log there is none
-no_log : {D : Type 0} (logs : List (Option (LogState D))) (m : ℕ) → content_at (contents_of logs) m ≡ None
-    → log_of logs m ≡ None
-no_log {D} logs m none = by (log_of logs m) refl
-  where
-    by : (o : Option (LogState D)) → log_of logs m ≡ o → log_of logs m ≡ None
-    by None at = at
-    by (Some log) at = absurd (none-some log.content (sym none ∙ content_at_log logs m log at))
-
-no_content : {D : Type 0} (logs : List (Option (LogState D))) (m : ℕ) → log_of logs m ≡ None
-    → content_at (contents_of logs) m ≡ None
-no_content {D} logs m none = content_is logs m ∙ ap (option_map (λ (log : LogState D). log.content)) none
-
--- what came of each log: it is in the first phase, or in the second
-abbrev AreOnWay : {D : Type 0} (tells : D → Option Told) (start : Start) (olds news : List (Option (LogState D))) → Type 0
-AreOnWay tells start olds news = AreSo tells (IsVoting start) olds news
-    ⊎ AreSo tells (λ c now. IsRising start (voted_for start c) now) olds news
-
-on_way : {D : Type 0} (tells : D → Option Told) (faults : D → ℕ) (start : Start)
-    (olds news : List (Option (LogState D))) (fault : OpenFault) → AreSafe tells olds
-    → WereNotOpened tells faults start olds news fault → AreOnWay tells start olds news
-on_way tells faults start olds news fault safe (inl stop) =
-    inl (so_voting tells faults start olds news fault.member fault.why safe stop)
-on_way tells faults start olds news fault safe (inr (mids, voted, stop)) =
-    inr (so_stopped tells faults start olds mids news fault.member fault.why voted stop)
 
 unopened_tried : {D : Type 0} (tells : D → Option Told) (faults : D → ℕ) (script : Script) (missing : ℕ)
     (before : YardState) (start : Start) (olds news : List (Option (LogState D))) (fault : OpenFault)
@@ -149,7 +125,7 @@ unopened_tried {D} tells faults script missing before start olds news fault u = 
             on log (tells log.disk) x.0 refl (subst (λ (t : Option Told). IsSomeAnd t (MayLeave x.0))
                 (told_at tells faults before news m log at) (chosen.each m x.0 x.1)),
           );
-      others = λ m none. h.others m (no_content olds m (was_none olds news m places none));
+      others = λ m none. h.others m (content_none olds m (was_none olds news m places none));
     }
       where
         on : (log : LogState D) (t : Option Told) (x : LogLists) → tells log.disk ≡ t → IsSomeAnd t (MayLeave x)

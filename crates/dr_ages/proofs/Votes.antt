@@ -1,17 +1,14 @@
 -- The votes that are found on disks, and those that the members of an age cast.
-use Rattle.std.proofs.Common.{◌≡◌, ◌⊎◌, refl, sym, ap, ◌∙◌, subst, ℕ, ◌<◌, inl, inr, arith, List, [], ◌∷◌}
+use Rattle.std.proofs.Common.{◌≡◌, ◌⊎◌, refl, sym, ap, ◌∙◌, subst, ℕ, ◌<◌, inl, inr, arith, List}
 use Rattle.std.specs.Prelude.{All, IfSome, IsTrue, Option, None, Some, is_some, option_map, slice_get}
 use Rattle.std.proofs.lemmas.Option.{same_Some, slice_get-map}
-use Rattle.std.proofs.lemmas.List.Elements.{All-append, All-cons, All-nil}
 use Rattle.std.proofs.lemmas.Nat.{mul-le}
 use Rattle.dr_disk.specs.Disk.{Told, content_of}
 use Rattle.dr_entry.specs.declared.end.AgeEnd.{AgeEnd}
 use Rattle.dr_entry.specs.declared.end.MemberEnd.{MemberEnd}
-use Rattle.dr_entry.specs.declared.record.Record.{Record}
-use Rattle.dr_entry.specs.declared.record.Record.TheVariants as records
-use Rattle.dr_entry.specs.Spelling.{IsValid, IsValidVote}
-use Rattle.dr_log_bytes.specs.Content.{OnLog, content_after, empty_of, with_record}
-use Rattle.dr_log_bytes.specs.Grammar.{AreSpelled, StandFor}
+use Rattle.dr_entry.specs.Spelling.{IsValidVote}
+use Rattle.dr_log_bytes.specs.Content.{OnLog}
+use Rattle.dr_log_bytes.proofs.Grammars.{stands_valid}
 use Rattle.dr_machine.specs.Group.{IsGroup, banks, roster}
 use Rattle.dr_logged.specs.Served.{AtMember}
 use Rattle.dr_opening.specs.Tries.{content_at}
@@ -36,25 +33,6 @@ use Rattle.dr_ages.specs.Ages.{IsMemberOf, IsPlayed, over_of}
 use Rattle.dr_ages.specs.Found.{AreFound, ReadsAs}
 
 -- ---- votes that are found are valid
-
--- records that are valid bring valid votes
-made_valid : (rs : List Record) (c : OnLog) → AreSpelled rs → All IsValidVote c.votes
-    → All IsValidVote (content_after c rs).votes
-made_valid [] c are so_far = so_far
-made_valid (r ∷ rs) c are so_far = made_valid rs (with_record r c) are.1 (more r are.0.0)
-  where
-    more : (r : Record) → IsValid r → All IsValidVote (with_record r c).votes
-    more (records.Entry entry) valid = so_far
-    more (records.Vote vote) valid =
-        All-append IsValidVote c.votes (vote ∷ []) so_far (All-cons IsValidVote vote [] valid (All-nil IsValidVote))
-    more (records.AgeVote vote) valid = so_far
-    more (records.Cut keep) valid = so_far
-    more records.Upgrade valid = so_far
-
-stands_valid : (bytes : List ℕ) (c : OnLog) → StandFor bytes c → All IsValidVote c.votes
-stands_valid bytes c (inl few) = subst (λ (d : OnLog). All IsValidVote d.votes) (sym few.1) (All-nil IsValidVote)
-stands_valid bytes c (inr more) = subst (λ (d : OnLog). All IsValidVote d.votes) more.1.content
-    (made_valid more.1.records (empty_of more.1.newer) more.1.log.spelled (All-nil IsValidVote))
 
 pub found_valid : (n missing : ℕ) (yard : YardState) (contents : List (Option OnLog)) (m : ℕ) (c : OnLog)
     → AllTell n yard → AreFound n missing yard contents → m < n → content_at contents m ≡ Some c

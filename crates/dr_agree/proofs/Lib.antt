@@ -1,3 +1,1 @@
 mod Certain
-mod Durable
-mod Runs

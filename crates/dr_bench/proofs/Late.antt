@@ -5,9 +5,9 @@ use Rattle.std.proofs.lemmas.Nat.{pow_pos}
 use Rattle.dr_script.specs.declared.script.Script.{Script}
 use Rattle.dr_script.specs.Ranges.{HasGroupRanges}
 use Rattle.dr_history.specs.Members.{has}
+use Rattle.dr_history.proofs.Bits.{has_ones}
 use Rattle.dr_machine.specs.Group.{IsGroup}
 use Rattle.dr_restart.specs.Groups.{first_group_of, first_start_of, group_of}
-use Rattle.dr_words.proofs.Bits.{has_ones}
 
 -- the first so many members are some, where they are not none
 above_ones : (n : ℕ) → 1 ≤ n → 0 < 2 ^ n - 1

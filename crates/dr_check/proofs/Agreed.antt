@@ -1,16 +1,18 @@
 -- An age whose members agree, by what its ends tell.
-use Rattle.std.proofs.Common.{◌≡◌, refl, sym, ap, ◌∙◌, subst, inl, inr, ℕ, zero, suc, ◌^◌, ◌<◌, ◌≤◌, nat_lt, Bool, cond, not, w16, pow_mono, arith, true, false, List, [], ◌∷◌, length, take, All, Contains, Some, slice_get}
+use Rattle.std.proofs.Common.{◌≡◌, refl, sym, ap, ◌∙◌, subst, ℕ, ◌^◌, ◌<◌, ◌≤◌, nat_lt, not, w16, pow_mono, arith, true, false, List, [], length, take, All, Contains, Some, slice_get}
 use Rattle.std.specs.Prelude.{None, Option, find, option_and_then}
 use Rattle.std.specs.Int.{trailing_zeros}
 use Rattle.std.specs.Option.{option_map_or}
-use Rattle.std.proofs.lemmas.Bool.{and_from, and_parts, cases_Bool}
+use Rattle.std.proofs.lemmas.Bool.{and_from, and_parts}
 use Rattle.std.proofs.lemmas.Bool.Decides.{nat_tests}
 use Rattle.std.proofs.lemmas.List.{length-take}
-use Rattle.std.proofs.lemmas.Option.{none-some, same_Some, slice_get_within}
+use Rattle.std.proofs.lemmas.Option.{slice_get_within}
 use Rattle.dr_entry.specs.declared.end.AgeEnd.{AgeEnd}
 use Rattle.dr_entry.specs.declared.end.MemberEnd.{MemberEnd}
 use Rattle.dr_entry.specs.declared.entry.Entry.{Entry}
 use Rattle.dr_entry.specs.declared.entry.Entry.TheVariants.{View}
+use Rattle.dr_entry.proofs.BoolFacts.{not_so}
+use Rattle.dr_entry.proofs.Ends.{first_found}
 use Rattle.dr_history.specs.declared.opening.Opening.{Opening}
 use Rattle.dr_history.specs.Agreement.{EndsAgreed, accounts_of, sent_by}
 use Rattle.dr_history.specs.History.{view_of}
@@ -18,20 +20,16 @@ use Rattle.dr_history.specs.Members.{has, members_of}
 use Rattle.dr_history.specs.Order.{InOrder}
 use Rattle.dr_history.specs.Restarting.{AllStand}
 use Rattle.dr_history.specs.Soundness.{IsNobodyLate, IsPresentIn, Sound}
+use Rattle.dr_history.proofs.Histories.{history_of}
 use Rattle.dr_history_laws.proofs.Standing.{history-stands}
 use Rattle.dr_script.specs.declared.script.Script.{Script}
 use Rattle.dr_script.specs.Ranges.{HasGroupRanges}
+use Rattle.dr_history_laws.proofs.Lists.{first_at}
 use Rattle.dr_text.specs.Report.{is_absent}
 use Rattle.dr_words.proofs.Masks.{has_mask_of, in_roster_small}
 use Rattle.dr_words.proofs.Ranks.{least_member}
 use Rattle.dr_words.specs.Masks.{mask_of}
-use Rattle.dr_check.proofs.LastViews.{first_at}
 use Rattle.dr_check.specs.Values.{IsAgreed, mask_named, told_members, told_opening, took_part}
-
--- what fails where it doesn't hold
-pub not_so : (b : Bool) → not b ≡ true → b ≡ false
-not_so false is = refl
-not_so true is = absurd (cc is)
 
 -- whoever took part has an end, and not that of an absent member
 pub end_there : (script : Script) (a : AgeEnd) (s : ℕ) → IsPresentIn (told_opening script a) s
@@ -57,27 +55,6 @@ took_here es i e few at took =
     has_mask_of (took_part es) i
     ∙ and_from (nat_lt i 16) (took_part es i) (grind (arith, nat_tests, slice_get_within es i e at, few))
     (ap (λ z. option_map_or (λ (x : MemberEnd). not (is_absent x.end)) z false) at ∙ ap not took)
-
--- whose history this is
-pub history_of : (a : AgeEnd) (i : ℕ) (e : MemberEnd) → slice_get a.members i ≡ Some e
-    → (accounts_of a.members i).history ≡ e.history
-history_of a i e at = ap (λ z. option_map_or (λ (e : MemberEnd). e.history) z []) at
-
--- where some end passes, the first that does is found
-first_found : (p : MemberEnd → Bool) (es : List MemberEnd) (s : ℕ) (e : MemberEnd) → slice_get es s ≡ Some e
-    → p e ≡ true
-    → (i : ℕ) × (f : MemberEnd) × (slice_get es i ≡ Some f) × (p f ≡ true) × (find p es ≡ Some f)
-first_found p [] s e at passes = absurd (none-some e at)
-first_found p (x ∷ es) zero e at passes = (zero, x, refl, is, ap (λ b. cond b (Some x) (find p es)) is)
-  where
-    is : p x ≡ true
-    is = ap p (same_Some x e at) ∙ passes
-first_found p (x ∷ es) (suc s) e at passes = elim (cases_Bool (p x)) [
-  | inl here ↦ (zero, x, refl, here, ap (λ b. cond b (Some x) (find p es)) here)
-  | inr past ↦
-      let f = first_found p es s e at passes in
-      (suc f.0, f.1, f.2, f.3, ap (λ b. cond b (Some x) (find p es)) past ∙ f.4)
-]
 
 -- An age whose members agree by an opening opened as its ends tell: somebody took part, and View 0 stands
 -- right behind the start in the history of each who did.

@@ -1,5 +1,5 @@
 -- Lines that may come up to a last one are those of a report.
-use Rattle.std.proofs.Common.{◌≡◌, ◌⊎◌, inl, inr, refl, sym, ap, ◌∙◌, subst, ℕ, zero, suc, ◌+◌, ◌-◌, ◌<◌, ◌≤◌, arith, Bool, true, false, List, [], ◌∷◌, ◌++◌, length, map, drop, All, Some, append_assoc, length-append}
+use Rattle.std.proofs.Common.{◌≡◌, ◌⊎◌, inl, inr, refl, sym, ap, ◌∙◌, subst, ℕ, suc, ◌+◌, ◌-◌, ◌<◌, ◌≤◌, arith, Bool, true, false, List, [], ◌∷◌, ◌++◌, length, map, drop, All, Some, append_assoc, length-append}
 use Rattle.std.specs.Prelude.{if◌then◌else◌}
 use Rattle.std.specs.List.{flat_map}
 use Rattle.std.proofs.lemmas.Bool.{false≢true}
@@ -7,6 +7,7 @@ use Rattle.std.proofs.lemmas.List.{length-map}
 use Rattle.std.proofs.lemmas.List.Elements.{All-nil, All-cons, All-head, All-tail}
 use Rattle.std.proofs.lemmas.Option.{none-some, same_Some}
 use Rattle.dr_entry.specs.declared.entry.Entry.{Entry}
+use Rattle.dr_entry.proofs.Entries.{drop_start, drop_none, empty}
 use Rattle.dr_check.specs.declared.course.Course.{Course}
 use Rattle.dr_check.specs.declared.line.Line.{Line}
 use Rattle.dr_check.specs.declared.line.Line.TheVariants.{Age, Present, Absent, Entry as EntryLine, Last}
@@ -36,14 +37,6 @@ IsOwn m = (m.present ≡ true) ⊎ ((m.present ≡ false) × (m.history ≡ []) 
 abbrev pub OwnFrom : ℕ → List ReportMember → Type 0
 OwnFrom line [] = Unit {0}
 OwnFrom line (m ∷ ms) = (m.line ≡ line) × OwnFrom (line + (1 + length m.history)) ms
-
-drop_start : (start own : List Entry) → drop (length start) (start ++ own) ≡ own
-drop_start [] own = refl
-drop_start (e ∷ start) own = drop_start start own
-
-pub drop_none : (n : ℕ) → drop {A = Entry} n [] ≡ []
-drop_none zero = refl
-drop_none (suc n) = refl
 
 behind_there : (start : List Entry) (m : ReportMember) → m.present ≡ true
     → with_start start m ≡ record m { history = start ++ m.history }
@@ -119,10 +112,6 @@ length_own start number m ms = omega (
   length-append (own_head start number m ∷ entry_lines m.history) (own_lines start (number + 1) ms),
   length-map m.history (λ e. EntryLine e),
 )
-
-pub empty : (es : List Entry) → length es ≡ 0 → [] ≡ es
-empty [] none = refl
-empty (e ∷ es) none = absurd (omega (arith, none))
 
 -- ---- what was read closes what was to come
 

@@ -3,6 +3,7 @@ use Rattle.std.proofs.Common.{◌≡◌, inl, inr, refl, sym, ap, ◌∙◌, ℕ
 use Rattle.std.specs.List.{flat_map}
 use Rattle.std.proofs.lemmas.List.Elements.{All-head, All-tail}
 use Rattle.dr_entry.specs.declared.entry.Entry.{Entry}
+use Rattle.dr_entry.proofs.Entries.{drop_none}
 use Rattle.dr_check.specs.declared.course.Course.{Course}
 use Rattle.dr_check.specs.declared.line.Line.{Line}
 use Rattle.dr_check.specs.declared.line.Line.TheVariants.{Age, Entry as EntryLine, Last}
@@ -11,7 +12,6 @@ use Rattle.dr_check.specs.declared.report.ReportAge.{ReportAge}
 use Rattle.dr_check.specs.declared.report.ReportMember.{ReportMember}
 use Rattle.dr_check.specs.Course.{course_after, beginning, next_course}
 use Rattle.dr_check.specs.Grammar.{HasStart, IsWholeAge, age_lines, member_head, member_lines, members_lines, report_lines}
-use Rattle.dr_check.proofs.Closing.{drop_none}
 use Rattle.dr_check.proofs.Accepting.{after_next, next_age, next_left, next_member}
 
 -- not ended

@@ -4,7 +4,12 @@ use Rattle.std.specs.Prelude.{option_and_then}
 use Rattle.std.specs.List.{AllZip, concat, flat_map}
 use Rattle.std.proofs.lemmas.Bool.{cases_lt, false≢true}
 use Rattle.std.proofs.lemmas.Option.{none-some, same_Some}
+use Rattle.dr_entry.proofs.Entries.{empty, filler}
+use Rattle.dr_entry.proofs.ListFacts.{AreFed, IsFed, whole_part, no_members, zip_long, fed_both, zip_push}
+use Rattle.dr_entry.proofs.PlainFacts.{last_fed}
+use Rattle.dr_entry.proofs.ListPlaces.{zip_at, zip_to, slice_get-append}
 use Rattle.dr_text.specs.Report.{entry_text}
+use Rattle.dr_text.proofs.Reports.{filler_fed}
 use Rattle.dr_check.specs.declared.course.Course.{Course}
 use Rattle.dr_check.specs.declared.line.Line.{Line}
 use Rattle.dr_check.specs.declared.line.Line.TheVariants.{Absent, Age, Entry as EntryLine, Last, Present}
@@ -15,17 +20,12 @@ use Rattle.dr_check.specs.Grammar.{AgesFrom, IsNoReportAt, IsReport, age_lines, 
 use Rattle.dr_check.specs.Lines.{IsLineText, absent_text, lines_of}
 use Rattle.dr_check.specs.Progress.{AreWhole, HasRead, IsOnly}
 use Rattle.dr_check.proofs.Accepting.{Comes, absent_comes, after_append, after_first, after_next, member_comes, next_age, next_comes, next_left, next_member}
-use Rattle.dr_check.proofs.Closing.{closes, empty, entry_lines, own_lines}
+use Rattle.dr_check.proofs.Closing.{closes, entry_lines, own_lines}
 use Rattle.dr_check.proofs.Coming.{report_comes}
-use Rattle.dr_check.proofs.Feeds.{AreFed, AreParts, IsFed, lines_fed, lines_none, parts_of, whole_part}
-use Rattle.dr_check.proofs.Printed.{absent_fed, absent_line, filler, filler_fed, filler_line, last_fed, last_line, line_ends}
-use Rattle.dr_check.proofs.Zips.{zip_at, zip_to}
+use Rattle.dr_check.proofs.Feeds.{AreParts, lines_fed, lines_none, parts_of}
+use Rattle.dr_check.proofs.Printed.{absent_fed, absent_line, filler_line, last_line, line_ends}
 
 -- ---- whole texts
-
-pub no_members : {A : Type 0} (xs : List A) → length xs ≡ 0 → xs ≡ []
-no_members [] none = refl
-no_members (x ∷ xs) none = absurd (omega (arith, none))
 
 -- the report that whole lines are
 pub report_of : (members : ℕ) (text : List ℕ) (found : List Line) → AreWhole members text found
@@ -133,13 +133,6 @@ zip_lines [] (b ∷ done) zip = absurd zip
 zip_lines (l ∷ found) [] zip = absurd zip
 zip_lines (l ∷ found) (b ∷ done) zip = (zip.0.0, zip_lines found done zip.1)
 
-zip_long : {A B : Type 0} (R : A → B → Type 0) (xs : List A) (ys : List B) → AllZip R xs ys
-    → length xs ≡ length ys
-zip_long R [] [] zip = refl
-zip_long R [] (y ∷ ys) zip = absurd zip
-zip_long R (x ∷ xs) [] zip = absurd zip
-zip_long R (x ∷ xs) (y ∷ ys) zip = omega (arith, zip_long R xs ys zip.1)
-
 zip_both : (xs us : List Line) (ys vs : List (List ℕ)) → AllZip IsLineText xs ys → AllZip IsLineText us vs
     → AllZip IsLineText (xs ++ us) (ys ++ vs)
 zip_both [] us [] vs zip other = other
@@ -156,10 +149,6 @@ done_fed [] (b ∷ done) rest zip parts = absurd zip
 done_fed (l ∷ found) [] rest zip parts = absurd zip
 done_fed (l ∷ found) (b ∷ done) rest zip parts =
     (whole_part b parts.0 (line_ends l b zip.0.0), done_fed found done rest zip.1 parts.1)
-
-fed_both : (xs ys : List (List ℕ)) → AreFed xs → AreFed ys → AreFed (xs ++ ys)
-fed_both [] ys one other = other
-fed_both (x ∷ xs) ys one other = (one.0, fed_both xs ys one.1 other)
 
 -- whatever has these lines has them as these
 same_found : (found xs : List Line) (done ys : List (List ℕ)) → AllZip IsOnly found done
@@ -181,19 +170,6 @@ same_found (l ∷ found) (x ∷ xs) (b ∷ done) (y ∷ ys) only zip same =
 after_none : (members : ℕ) (c : Course) → course_after members c [] ≡ Some c
 unfolding course_after
 after_none members c = refl
-
--- the first of what stands behind some
-seam : {A : Type 0} (xs ys : List A) → slice_get (xs ++ ys) (length xs) ≡ slice_get ys 0
-seam [] ys = refl
-seam (x ∷ xs) ys = seam xs ys
-
-zip_push : {A B : Type 0} (R : A → B → Type 0) (xs : List A) (ys : List B) (x : A) (y : B) → AllZip R xs ys
-    → R x y
-    → AllZip R (xs ++ x ∷ []) (ys ++ y ∷ [])
-zip_push R [] [] x y zip one = (one, tt)
-zip_push R [] (w ∷ ys) x y zip one = absurd zip
-zip_push R (z ∷ xs) [] x y zip one = absurd zip
-zip_push R (z ∷ xs) (w ∷ ys) x y zip one = (zip.0, zip_push R xs ys x y zip.1 one)
 
 -- no more members come than there are
 next_within : (members : ℕ) (c d : Course) (l : Line) → c.member ≤ members → next_course members c l ≡ Some d
@@ -284,7 +260,7 @@ module _ (members : ℕ) (text rest : List ℕ) (found : List Line) (c : Course)
   next_is : slice_get (lines_of text) (length found) ≡ slice_get (lines_of rest) 0
   next_is =
       ap (λ ls. slice_get ls (length found)) read.parts
-      ∙ (ap (slice_get (read.done ++ lines_of rest)) long ∙ seam read.done (lines_of rest))
+      ∙ (ap (slice_get (read.done ++ lines_of rest)) long ∙ slice_get-append read.done (lines_of rest))
 
   -- the next line is none
   pub no_line : (b : List ℕ) → slice_get (lines_of rest) 0 ≡ Some b → ((l : Line) → IsLineText l b → ⊥)
@@ -311,7 +287,7 @@ module _ (members : ℕ) (text rest : List ℕ) (found : List Line) (c : Course)
         (there ∙ (next_is ∙ at)) in
         let on = goes_on other r is same in
         let first : slice_get on.0 0 ≡ Some l =
-        sym (seam found on.0) ∙ (ap (λ ls. slice_get ls (length found)) (sym on.1)
+        sym (slice_get-append found on.0) ∙ (ap (λ ls. slice_get ls (length found)) (sym on.1)
         ∙ (m.1 ∙ ap Some (only.1 m.0 m.2))) in
         refused on.0 on.2.0 first (on.2.1, on.2.2);
   }
@@ -353,7 +329,7 @@ module _ (members : ℕ) (text rest : List ℕ) (found : List Line) (c : Course)
           ∙ comes.1))
       refused other r is out (x ∷ others) parts d comes =
           let here : slice_get (report_lines r) (length found) ≡ Some x =
-          ap (λ ls. slice_get ls (length found)) parts ∙ seam found (x ∷ others) in
+          ap (λ ls. slice_get ls (length found)) parts ∙ slice_get-append found (x ∷ others) in
           let b = zip_to IsLineText (report_lines r) (lines_of other) is.lines (length found) x here in
           none-some b.0 (sym out ∙ b.1)
 

@@ -1,33 +1,11 @@
 -- Lines of a text, each up to its line feed.
-use Rattle.std.proofs.Common.{◌≡◌, ◌⊎◌, inl, inr, refl, sym, ap, ◌∙◌, subst, ℕ, ◌==◌, ◌&&◌, not, arith, ◌+◌, ◌<◌, ◌≤◌, Bool, true, false, List, [], ◌∷◌, ◌++◌, append_assoc, length, take, drop, get_or, take-append-drop}
+use Rattle.std.proofs.Common.{◌≡◌, inl, inr, refl, sym, ap, ◌∙◌, ℕ, ◌==◌, not, arith, ◌+◌, ◌<◌, ◌≤◌, Bool, true, false, List, [], ◌∷◌, ◌++◌, append_assoc, length, take, drop, get_or, take-append-drop}
 use Rattle.std.specs.List.{concat}
-use Rattle.std.proofs.lemmas.Bool.{and_parts, eqb-true, false≢true, ne_eqb}
+use Rattle.std.proofs.lemmas.Bool.{and_parts, eqb-true}
 use Rattle.std.proofs.lemmas.List.{drop_all, take_all, take_more}
+use Rattle.dr_entry.proofs.ListFacts.{is_free, AreFed, IsPart}
+use Rattle.dr_entry.proofs.NumberFacts.{not_feed}
 use Rattle.dr_check.specs.Lines.{begin_with, lines_of}
-
--- no line feed is among the bytes
-abbrev pub is_free : List ℕ → Bool
-is_free [] = true
-is_free (byte ∷ bytes) = not (byte == 10) && is_free bytes
-
--- one stands at their end alone
-abbrev pub IsFed : List ℕ → Type 0
-IsFed line = (body : List ℕ) × (is_free body ≡ true) × (line ≡ body ++ 10 ∷ [])
-
-abbrev pub AreFed : List (List ℕ) → Type 0
-AreFed [] = Unit {0}
-AreFed (line ∷ lines) = IsFed line × AreFed lines
-
--- one stands at their end
-abbrev pub EndsFed : List ℕ → Type 0
-EndsFed line = (body : List ℕ) × (line ≡ body ++ 10 ∷ [])
-
-not_feed : (byte : ℕ) → not (byte == 10) ≡ true → (byte == 10) ≡ false
-not_feed byte h = by (byte == 10) refl
-  where
-    by : (b : Bool) → (byte == 10) ≡ b → (byte == 10) ≡ false
-    by true is = absurd (false≢true (sym (ap not is) ∙ h))
-    by false is = is
 
 -- the line up to the first line feed
 pub lines_front : (body rest : List ℕ) → is_free body ≡ true
@@ -61,10 +39,6 @@ lines_fed (line ∷ lines) rest fed =
     ap lines_of parts ∙ (lines_front body text fed.0.1
     ∙ (ap (λ xs. xs ∷ lines_of text) (sym fed.0.2) ∙ ap (λ ls. line ∷ ls) (lines_fed lines rest fed.1)))
 
--- each line of a text has no line feed but at its end
-abbrev pub IsPart : List ℕ → Type 0
-IsPart line = IsFed line ⊎ (is_free line ≡ true)
-
 abbrev pub AreParts : List (List ℕ) → Type 0
 AreParts [] = Unit {0}
 AreParts (line ∷ lines) = IsPart line × AreParts lines
@@ -87,38 +61,9 @@ parts_of (byte ∷ bytes) = by (parts_of bytes) (byte == 10) refl
     by rest true is = rw is (inl ([], refl, ap (λ (n : ℕ). n ∷ []) (eqb-true byte 10 is)), rest)
     by rest false is = rw is (begin_part byte (lines_of bytes) is rest)
 
--- what has one at its end is a whole line
-free_append : (xs ys : List ℕ) → is_free (xs ++ ys) ≡ true → is_free ys ≡ true
-free_append [] ys free = free
-free_append (x ∷ xs) ys free =
-    let parts = and_parts (not (x == 10)) (is_free (xs ++ ys)) free in free_append xs ys parts.1
-
-pub whole_part : (line : List ℕ) → IsPart line → EndsFed line → IsFed line
-whole_part line (inl fed) ends = fed
-whole_part line (inr free) ends =
-    absurd (false≢true (free_append ends.0 (10 ∷ []) (ap is_free (sym ends.1) ∙ free)))
-
--- free bytes behind free bytes are free
-pub free_both : (xs ys : List ℕ) → is_free xs ≡ true → is_free ys ≡ true → is_free (xs ++ ys) ≡ true
-free_both [] ys one other = other
-free_both (x ∷ xs) ys one other =
-    let parts = and_parts (not (x == 10)) (is_free xs) one in rw (parts.0, free_both xs ys parts.1 other) refl
-
--- bytes in front of bytes that end so
-pub ends_behind : (xs ys : List ℕ) → EndsFed ys → EndsFed (xs ++ ys)
-ends_behind xs ys ends = (xs ++ ends.0, ap (λ zs. xs ++ zs) ends.1 ∙ sym (append_assoc xs ends.0 (10 ∷ [])))
-
 pub lines_none : lines_of [] ≡ []
 unfolding lines_of
 lines_none = refl
-
--- one byte more that is none
-pub free_more : (bytes : List ℕ) (i : ℕ) → i < length bytes → (get_or bytes i 0 ≡ 10 → ⊥)
-    → is_free (take i bytes) ≡ true → is_free (take (i + 1) bytes) ≡ true
-free_more bytes i within other free =
-    let last : is_free (get_or bytes i 0 ∷ []) ≡ true = rw (ne_eqb (get_or bytes i 0) 10 other) refl in
-    subst (λ (xs : List ℕ). is_free xs ≡ true) (sym (take_more bytes i 0 within))
-    (free_both (take i bytes) (get_or bytes i 0 ∷ []) free last)
 
 -- the first line, by where its line feed is
 pub line_at : (bytes : List ℕ) (i : ℕ) → i < length bytes → get_or bytes i 0 ≡ 10

@@ -9,22 +9,22 @@ use Rattle.dr_entry.specs.declared.end.MemberEnd.{MemberEnd}
 use Rattle.dr_entry.specs.declared.entry.Entry.{Entry}
 use Rattle.dr_entry.specs.declared.entry.Entry.TheVariants.{View, Msg}
 use Rattle.dr_entry.specs.declared.limits.TheConstants.{MAX_MESSAGE_LENGTH}
+use Rattle.dr_entry.proofs.ListPlaces.{all_from_places}
 use Rattle.dr_history.specs.declared.opening.Opening.{Opening}
 use Rattle.dr_history.specs.Agreement.{accounts_of, sent_by}
 use Rattle.dr_history.specs.History.{GroupView, messages_of, view_of}
 use Rattle.dr_history.specs.Order.{InOrder}
 use Rattle.dr_history.specs.Restarting.{AllStand, next_age}
 use Rattle.dr_history_laws.proofs.Lengths.{stood-short}
-use Rattle.dr_history_laws.proofs.Stood.{age_below, small_number, some_of, view_below}
+use Rattle.dr_history_laws.proofs.Stood.{age_below, small_number, some_of, view_below, view_age}
 use Rattle.dr_script.specs.declared.script.Script.{Script}
 use Rattle.dr_script.specs.Ranges.{HasGroupRanges}
+use Rattle.dr_history_laws.proofs.Lists.{first_at, all_at}
 use Rattle.dr_words.proofs.Masks.{in_roster_small}
 use Rattle.dr_check.specs.Lines.{EndFits, EntryFits, IsLong}
 use Rattle.dr_check.specs.Values.{HasSmallNumbers, IsAgreed, IsTellable, IsTellableAge, TellsNothing, TellsPart, told_opening}
 use Rattle.dr_check.proofs.Agreed.{durable_within, order, stand}
 use Rattle.dr_check.proofs.Telling.{not_absent}
-use Rattle.dr_check.proofs.LastViews.{first_at, view_age}
-use Rattle.dr_check.proofs.Places.{all_at, all_from_places}
 
 -- no list of lists of at most so many is longer
 few_at : (lists : List (List (List ℕ))) (s n : ℕ) → All (λ messages. length messages ≤ n) lists

@@ -1,8 +1,10 @@
 -- Reports that keep every clause have no flaw, and what is printed of agreed ages is one.
 use Rattle.std.proofs.Common.{inl, inr, ℕ, List, All}
 use Rattle.dr_entry.specs.declared.end.AgeEnd.{AgeEnd}
+use Rattle.dr_entry.proofs.ListPlaces.{all_from_places}
 use Rattle.dr_script.specs.declared.script.Script.{Script}
 use Rattle.dr_script.specs.Ranges.{HasGroupRanges}
+use Rattle.dr_history_laws.proofs.Lists.{all_at}
 use Rattle.dr_text.specs.declared.last.Clause.{Clause}
 use Rattle.dr_text.specs.declared.last.Last.{Last}
 use Rattle.dr_text.specs.Report.{report_text}
@@ -16,7 +18,6 @@ use Rattle.dr_check.specs.Lines.{LastFits}
 use Rattle.dr_check.specs.Values.{HasSmallNumbers, IsAgreed, IsTellableAge, KeepEachOther}
 use Rattle.dr_check.proofs.Fitting.{agreed_fit}
 use Rattle.dr_check.proofs.Passes.{passes}
-use Rattle.dr_check.proofs.Places.{all_at, all_from_places}
 use Rattle.dr_check.proofs.Telling.{told}
 
 -- a member that keeps a clause doesn't break it

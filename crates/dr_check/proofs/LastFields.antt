@@ -1,6 +1,6 @@
 -- Last lines, and their fields.
-use Rattle.std.proofs.Common.{◌≡◌, inl, inr, sym, ap, ◌∙◌, ℕ, ◌<◌, ◌^◌, arith, List, [], ◌∷◌, ◌++◌, codes, Bool}
-use Rattle.std.specs.Prelude.{◌↔◌, IsTrue, IfOk, None, Result, Some, Ok, Err}
+use Rattle.std.proofs.Common.{◌≡◌, inl, inr, sym, ap, ◌∙◌, ℕ, ◌<◌, ◌^◌, arith, List, [], ◌∷◌, ◌++◌, codes}
+use Rattle.std.specs.Prelude.{None, Some}
 use Rattle.std.specs.Fmt.{decimal}
 use Rattle.dr_text.specs.Report.{last_text}
 use Rattle.dr_text.specs.declared.last.Last.{Last}
@@ -9,12 +9,6 @@ use Rattle.dr_check.specs.Fields.{fields}
 use Rattle.dr_check.specs.Lasts.{IsLastLine, TellsOfLogs}
 use Rattle.dr_check.specs.Lines.{LastFits}
 use Rattle.dr_check.proofs.Splitting.{last_field, next_field, plain_decimal}
-
--- one test stands for another
-pub iff_ok : (E A B : Type 0) (r : Result Bool E) → (A → B) → (B → A) → IfOk r (λ yes. IsTrue yes ↔ A)
-    → IfOk r (λ yes. IsTrue yes ↔ B)
-iff_ok E A B (Ok r) to from is = (λ t. to (is.0 t), λ b. is.1 (from b))
-iff_ok E A B (Err e) to from is = is
 
 pub disk_fields : (member : ℕ) → member < 16
     → fields (last_text (lasts.DiskFault member))

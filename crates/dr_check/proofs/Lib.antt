@@ -1,10 +1,7 @@
 pub mod Loops
 pub mod Passing
-pub mod Named
 pub mod Order
 pub mod Roster
-pub mod Zips
-pub mod LastViews
 pub mod Agreed
 pub mod Fitting
 pub mod Flawless
@@ -19,10 +16,8 @@ pub mod Reversing
 pub mod Splitting
 pub mod LineFields
 pub mod LastFields
-pub mod Hexes
-pub mod MaskNumbers
-pub mod Places
 pub mod OneLine
 pub mod OneReport
 pub mod RightReports
 pub mod Telling
+pub mod Values

@@ -1,11 +1,11 @@
 -- The fields of each line.
-use Rattle.std.proofs.Common.{◌≡◌, ◌≢◌, ◌⊎◌, inl, inr, refl, sym, ap, ◌∙◌, subst, ℕ, suc, ◌+◌, ◌<◌, ◌^◌, arith, List, [], ◌∷◌, ◌++◌, codes, length, get_or, Bool, true, false}
-use Rattle.std.specs.Bool.{then_some}
+use Rattle.std.proofs.Common.{◌≡◌, ◌≢◌, ◌⊎◌, inl, inr, refl, sym, ap, ◌∙◌, subst, ℕ, suc, ◌+◌, ◌<◌, ◌^◌, arith, List, [], ◌∷◌, ◌++◌, codes, length, get_or}
 use Rattle.std.specs.Prelude.{Option, None, Some, IfSome}
 use Rattle.std.specs.Fmt.{decimal}
 use Rattle.dr_entry.specs.declared.end.End.{End}
 use Rattle.dr_entry.specs.declared.end.End.TheVariants.{Done, Crashed, Suspected, Excluded, NoMajority, DiskFault, LogFull, Spent, Absent as AbsentEnd}
 use Rattle.dr_entry.specs.declared.entry.Entry.TheVariants.{View, Msg}
+use Rattle.dr_entry.proofs.ListFacts.{get_or_behind, first_of}
 use Rattle.dr_text.specs.Report.{end_text, entry_text, last_text, mask_text, message_text}
 use Rattle.dr_check.specs.declared.ends.EndKind.{EndKind}
 use Rattle.dr_check.specs.declared.ends.EndKind.TheVariants as kinds
@@ -171,12 +171,6 @@ told_end r e k rest word fits of_r of_e same is =
     ∙ told_number e rest word (number_of r) fits same
     (subst (λ (j : EndKind). NumberIs j (number_of r) word) of_e is))
 
-get_or_behind : (xs rest : List (List ℕ)) (k : ℕ) → get_or (xs ++ rest) (length xs + k) [] ≡ get_or rest k []
-get_or_behind [] rest k = let e : length {A = List ℕ} [] + k ≡ k = omega arith in ap (λ n. get_or rest n []) e
-get_or_behind (x ∷ xs) rest k =
-    let e : length (x ∷ xs) + k ≡ suc (length xs + k) = omega arith in
-    ap (λ n. get_or (x ∷ (xs ++ rest)) n []) e ∙ get_or_behind xs rest k
-
 -- the numbers stand behind the end
 pub number_behind : (a b : List ℕ) (e : End) (rest : List (List ℕ)) (k : ℕ)
     → get_or (a ∷ b ∷ (end_fields e ++ rest)) (2 + length (end_fields e) + k) [] ≡ get_or rest k []
@@ -194,12 +188,6 @@ pub chosen_some : (l : Line) (text bytes : List ℕ) (r : Option Line) → IsLin
 chosen_some l text bytes None is found = found
 chosen_some l text bytes (Some m) is found =
     subst (IsLineText m) found.1 (subst (λ (k : Line). IsLineText k text) (sym found.0) is)
-
--- what holds of a value that is there where a test passes
-pub some_where : {A : Type 0} (P : A → Type 0) (b : Bool) (x : A) (r : Option A) → r ≡ then_some b x
-    → (b ≡ true → P x) → IfSome r P
-some_where P true x r is holds = subst (λ o. IfSome o P) (sym is) (holds refl)
-some_where P false x r is holds = subst (λ o. IfSome o P) (sym is) tt
 
 -- a field of bytes that are a text
 pub field_of : (bytes text : List ℕ) (fs : List (List ℕ)) (k : ℕ) → bytes ≡ text → fields text ≡ fs
@@ -240,9 +228,6 @@ Leads (Present member history logged durable) byte = byte ≡ 109
 Leads (Absent member) byte = byte ≡ 109
 Leads (EntryLine e) byte = byte ≡ 32
 Leads LastLine byte = (byte ≢ 97) × (byte ≢ 109) × (byte ≢ 32)
-
-first_of : (bytes text : List ℕ) → bytes ≡ text → get_or bytes 0 0 ≡ get_or text 0 0
-first_of bytes text is = ap (λ b. get_or b 0 0) is
 
 last_leads : (bytes : List ℕ) (last : Last) → LastFits last → bytes ≡ last_text last
     → Leads LastLine (get_or bytes 0 0)

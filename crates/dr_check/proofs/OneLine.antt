@@ -1,65 +1,25 @@
 -- Bytes are one line at most.
-use Rattle.std.proofs.Common.{◌≡◌, refl, sym, ap, ◌∙◌, ℕ, ◌+◌, ◌<◌, ◌^◌, ◌==◌, arith, All, Ok, List, [], ◌∷◌, codes, length, take, drop, get_or}
+use Rattle.std.proofs.Common.{◌≡◌, refl, sym, ap, ◌∙◌, ℕ, ◌+◌, arith, List, codes, length, get_or}
 use Rattle.std.specs.Fmt.{decimal}
-use Rattle.std.specs.List.{position_or_len}
-use Rattle.std.proofs.lemmas.Fmt.{decimal_injective}
-use Rattle.std.proofs.lemmas.List.Elements.{All-head, All-tail, Contains-get_or}
-use Rattle.hex.specs.Hex.{decode_of}
-use Rattle.dr_entry.specs.Messages.{IsMessage}
 use Rattle.dr_entry.specs.declared.entry.Entry.{Entry}
 use Rattle.dr_entry.specs.declared.entry.Entry.TheVariants.{View, Msg}
+use Rattle.dr_entry.proofs.ListFacts.{same_number}
 use Rattle.dr_history.specs.Members.{members_of}
-use Rattle.dr_history_laws.proofs.Members.{members_of-lt}
-use Rattle.dr_text.specs.Report.{entry_text, mask_text, message_text}
+use Rattle.dr_history_laws.proofs.Members.{same_joined, low}
+use Rattle.dr_text.specs.Report.{entry_text, mask_text}
+use Rattle.dr_text.proofs.Hex.{same_message}
+use Rattle.dr_words.proofs.Masks.{with_all, with_all_members}
 use Rattle.dr_check.specs.declared.line.Line.{Line}
 use Rattle.dr_check.specs.declared.line.Line.TheVariants.{Age, Present, Absent, Entry as EntryLine, Last}
 use Rattle.dr_check.specs.Fields.{end_fields, field, kind_of, kind_of_end, width_of}
 use Rattle.dr_check.specs.Lines.{EntryFits, IsLineText, IsMask, absent_text, age_start_text, present_text}
-use Rattle.dr_check.proofs.Hexes.{decoded}
 use Rattle.dr_check.proofs.LineFields.{absent_fields, absent_word, age_fields, field_of, leads, message_fields, number_behind, numbers_fields, present_fields, present_word, told_kind, told_width, view_fields, word_first}
-use Rattle.dr_check.proofs.MaskNumbers.{joined_none, number_first, with_all, with_all_members}
-use Rattle.dr_check.proofs.Splitting.{joined}
-
-same_number : (m n : ℕ) → m < 2 ^ 64 → n < 2 ^ 64 → (word : List ℕ) → word ≡ decimal m → word ≡ decimal n
-    → m ≡ n
-same_number m n small few word one other = decimal_injective m n small few (sym one ∙ other)
-
--- numbers with commas between them
-same_joined : (xs ys : List ℕ) → All (λ m. m < 16) xs → All (λ m. m < 16) ys → joined xs ≡ joined ys → xs ≡ ys
-same_joined [] ys xs_low low same = sym (joined_none ys low (sym (ap length same)))
-same_joined (x ∷ xs) [] low ys_low same = joined_none (x ∷ xs) low (ap length same)
-same_joined (x ∷ xs) (y ∷ ys) x_low y_low same =
-    let lx = All-head (λ m. m < 16) x xs x_low in
-    let ly = All-head (λ m. m < 16) y ys y_low in
-    let one = number_first x xs lx in
-    let other = number_first y ys ly in
-    let head : x ≡ y =
-    decimal_injective x y (omega (arith, lx)) (omega (arith, ly))
-    (sym one.0 ∙ (ap (λ t. take (position_or_len (λ b. b == 44) t) t) same ∙ other.0)) in
-    let tail : xs ≡ ys =
-    same_joined xs ys (All-tail (λ m. m < 16) x xs x_low) (All-tail (λ m. m < 16) y ys y_low)
-    (sym one.1 ∙ (ap (λ t. drop (position_or_len (λ b. b == 44) t + 1) t) same ∙ other.1)) in
-    ap (λ (n : ℕ). n ∷ xs) head ∙ ap (λ ns. y ∷ ns) tail
-
-low : (mask : ℕ) → All (λ m. m < 16) (members_of mask)
-low mask k d within = members_of-lt mask (get_or (members_of mask) k d)
-    (Contains-get_or (members_of mask) k d within)
 
 same_mask : (m n : ℕ) → IsMask m → IsMask n → mask_text m ≡ mask_text n → m ≡ n
 same_mask m n is also same =
     sym (with_all_members m is.0 (low m))
     ∙ (ap (with_all 0) (same_joined (members_of m) (members_of n) (low m) (low n) same)
     ∙ with_all_members n also.0 (low n))
-
-same_message : (b c : List ℕ) → IsMessage b → IsMessage c → message_text b ≡ message_text c → b ≡ c
-same_message [] [] is also same = refl
-same_message [] (y ∷ c) is also same =
-    let bad : decode_of (codes "-") ≡ Ok (y ∷ c) = ap decode_of same ∙ decoded (y ∷ c) also in absurd (cc)
-same_message (x ∷ b) [] is also same =
-    let bad : decode_of (codes "-") ≡ Ok (x ∷ b) = ap decode_of (sym same) ∙ decoded (x ∷ b) is in absurd (cc)
-same_message (x ∷ b) (y ∷ c) is also same =
-    let good : Ok (x ∷ b) ≡ Ok (y ∷ c) =
-    sym (decoded (x ∷ b) is) ∙ (ap decode_of same ∙ decoded (y ∷ c) also) in cc
 
 same_entry : (d e : Entry) → EntryFits d → EntryFits e → entry_text d ≡ entry_text e → d ≡ e
 same_entry (View a n m) (View b o k) fits also same =

@@ -1,10 +1,10 @@
 -- A text is one report at most: its values are those of its lines.
-use Rattle.std.proofs.Common.{◌≡◌, inl, inr, refl, sym, ap, ◌∙◌, subst, ℕ, zero, suc, ◌+◌, arith, All, Bool, true, false, List, [], ◌∷◌, ◌++◌, length, map, drop, append_assoc}
+use Rattle.std.proofs.Common.{◌≡◌, inl, inr, refl, sym, ap, ◌∙◌, subst, ℕ, ◌+◌, arith, All, Bool, true, false, List, [], ◌∷◌, ◌++◌, length, map, drop, append_assoc}
 use Rattle.std.specs.List.{AllZip, flat_map}
-use Rattle.std.proofs.lemmas.List.{drop_at}
 use Rattle.std.proofs.lemmas.List.Elements.{All-head, All-tail}
 use Rattle.dr_entry.specs.declared.entry.Entry.{Entry}
-use Rattle.dr_history.specs.History.{IsPrefixOf}
+use Rattle.dr_entry.proofs.Entries.{length_behind}
+use Rattle.dr_history.proofs.Histories.{behind_start}
 use Rattle.dr_check.specs.declared.line.Line.{Line}
 use Rattle.dr_check.specs.declared.line.Line.TheVariants.{Age, Present, Absent, Entry as EntryLine, Last}
 use Rattle.dr_check.specs.declared.report.Report.{Report}
@@ -31,19 +31,6 @@ same_entries (x ∷ xs) (y ∷ ys) us vs long same =
     let tail : entries xs ++ us ≡ entries ys ++ vs = cc in
     let rest = same_entries xs ys us vs (omega (arith, long)) tail in
     (ap (λ (z : Entry). z ∷ xs) one ∙ ap (λ zs. y ∷ zs) rest.0, rest.1)
-
--- a history behind the start it begins with
-behind_start : (start h : List Entry) → IsPrefixOf start h → h ≡ start ++ drop (length start) h
-behind_start start h is =
-    sym is.1 ∙ ap (λ xs. start ++ xs) (sym (drop_at start is.0 (length start) refl)
-    ∙ ap (drop (length start)) is.1)
-
-length_behind : (n : ℕ) (g h : List Entry) → length g ≡ length h → length (drop n g) ≡ length (drop n h)
-length_behind zero g h same = same
-length_behind (suc n) [] [] same = refl
-length_behind (suc n) [] (y ∷ h) same = absurd (omega (arith, same))
-length_behind (suc n) (x ∷ g) [] same = absurd (omega (arith, same))
-length_behind (suc n) (x ∷ g) (y ∷ h) same = length_behind n g h (omega (arith, same))
 
 -- members with the same values are the same
 equal_members : (m o : ReportMember) → m.line ≡ o.line → m.present ≡ o.present → m.history ≡ o.history

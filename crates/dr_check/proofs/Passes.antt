@@ -10,19 +10,23 @@ use Rattle.dr_entry.specs.declared.end.AgeEnd.{AgeEnd}
 use Rattle.dr_entry.specs.declared.end.MemberEnd.{MemberEnd}
 use Rattle.dr_entry.specs.declared.entry.Entry.{Entry}
 use Rattle.dr_entry.specs.declared.entry.Entry.TheVariants.{View, Msg}
+use Rattle.dr_entry.proofs.BoolFacts.{not_so}
+use Rattle.dr_entry.proofs.ListPlaces.{all_from_places, any_at, at_any, behind_at, zip_at, zip_to}
+use Rattle.dr_entry.proofs.OptionFacts.{if_some}
 use Rattle.dr_history.specs.Agreement.{accounts_of, sent_by}
 use Rattle.dr_history.specs.History.{GroupView, IsPrefixOf, view_of}
 use Rattle.dr_history.specs.Members.{has, members_of}
 use Rattle.dr_history.specs.Order.{IsLateIn, IsSucceededBy, MayJoin}
 use Rattle.dr_history.specs.Restarting.{Kept}
 use Rattle.dr_history.specs.Soundness.{IsNobodyLate, IsPresentIn, MayStand}
-use Rattle.dr_history_laws.proofs.Lists.{Contains-slice_get, slice_get-prefix}
-use Rattle.dr_history_laws.proofs.Members.{member-has}
+use Rattle.dr_history.proofs.Masks.{same_masks}
+use Rattle.dr_history.proofs.Histories.{history_of}
+use Rattle.dr_history_laws.proofs.Lists.{Contains-slice_get, first_at, all_at, all_below, same_at}
+use Rattle.dr_history_laws.proofs.Members.{member-has, in_mask, all_members}
 use Rattle.dr_history_laws.proofs.Stood.{named_below, some_of}
 use Rattle.dr_script.specs.declared.script.Script.{Script}
 use Rattle.dr_script.specs.Ranges.{HasGroupRanges}
 use Rattle.dr_text.specs.Report.{is_absent}
-use Rattle.dr_words.proofs.Masks.{same_masks}
 use Rattle.dr_words.specs.Masks.{mask_of}
 use Rattle.dr_text.specs.declared.last.Clause.{Clause}
 use Rattle.dr_text.specs.declared.last.Clause.TheVariants as clauses
@@ -33,17 +37,8 @@ use Rattle.dr_check.specs.Clauses.{AgeItself, MemberItself, EntryItself, AreLogg
 use Rattle.dr_check.specs.Firsts.{AllKeep}
 use Rattle.dr_check.specs.Flaws.{IsRight, own_entries}
 use Rattle.dr_check.specs.Values.{KeepEachOther, HasAge, HasMember, HasValues, IsAgreed, told_members, told_opening, took_part}
-use Rattle.dr_check.proofs.Agreed.{end_there, history_of, is_here, knows, not_so, order, stand}
+use Rattle.dr_check.proofs.Agreed.{end_there, is_here, knows, order, stand}
 use Rattle.dr_check.proofs.Roster.{may_start}
-use Rattle.dr_check.proofs.LastViews.{first_at}
-use Rattle.dr_check.proofs.Places.{all_at, all_below, all_from_places, any_at, at_any, if_some}
-use Rattle.dr_check.proofs.Zips.{behind_at, zip_at, zip_to}
-
--- two entries at a place, where one list is a prefix of the other, are the same
-same_at : (g h : List Entry) (i : ℕ) (x y : Entry) → IsPrefixOf g h ⊎ IsPrefixOf h g → slice_get g i ≡ Some x
-    → slice_get h i ≡ Some y → x ≡ y
-same_at g h i x y (inl p) in_g in_h = same_Some x y (sym (slice_get-prefix g h i x p in_g) ∙ in_h)
-same_at g h i x y (inr p) in_g in_h = same_Some x y (sym in_g ∙ slice_get-prefix h g i y p in_h)
 
 -- a message that may stand keeps what is said of messages
 message_keeps : (script : Script) (a : AgeEnd) (before : List Entry) (e : Entry)
@@ -55,17 +50,6 @@ message_keeps script a before (Msg s k b) stands = stands
 -- who took part in an age
 abbrev mask_there : AgeEnd → ℕ
 mask_there a = mask_of (took_part a.members)
-
--- whoever is among the members of a mask is in it
-in_mask : (mask s : ℕ) → Contains (members_of mask) s → has mask s ≡ true
-in_mask mask s named =
-    member-has mask named.0 s (slice_get-get_or (members_of mask) named.0 s named.1 ∙ ap Some named.2)
-
--- what holds of whoever is in a mask holds of its members
-all_members : (mask : ℕ) (P : ℕ → Type 0) → ((s : ℕ) → has mask s ≡ true → P s) → All P (members_of mask)
-all_members mask P each k d within =
-    let s = get_or (members_of mask) k d in
-    each s (member-has mask k s (slice_get-get_or (members_of mask) k d within))
 
 -- a member of a report took part exactly where the end does that it has the values of
 there_was : (e : MemberEnd) (m : ReportMember) → HasMember e m → m.present ≡ true → is_absent e.end ≡ false

@@ -1,10 +1,11 @@
 -- What is known of the entries that were read, one entry later.
-use Rattle.std.proofs.Common.{◌≡◌, ◌≢◌, ap, sym, ◌∙◌, subst, ℕ, ◌+◌, ◌-◌, ◌^◌, ◌%◌, ◌<◌, ◌≤◌, ⊎_elim, arith, Bool, cond, true, false, List, [], ◌∷◌, ◌++◌, length, filter, Some, set, get_or, length-append}
+use Rattle.std.proofs.Common.{◌≡◌, ◌≢◌, ap, sym, ◌∙◌, subst, ℕ, ◌+◌, ◌-◌, ◌^◌, ◌%◌, ◌<◌, ◌≤◌, ⊎_elim, arith, List, [], ◌∷◌, ◌++◌, length, Some, set, get_or, length-append}
 use Rattle.std.specs.Prelude.{Option}
 use Rattle.std.proofs.lemmas.Bool.{cases_eq, ne_eqb}
 use Rattle.std.proofs.lemmas.List.{get_or-set_same, get_or-set_other, length-set}
 use Rattle.dr_entry.specs.declared.entry.Entry.{Entry}
 use Rattle.dr_entry.specs.declared.entry.Entry.TheVariants.{View, Msg}
+use Rattle.dr_entry.proofs.ListParts.{filter_few}
 use Rattle.dr_history.specs.Members.{members_of}
 use Rattle.dr_history.specs.History.{GroupView}
 use Rattle.dr_history.specs.Order.{messages_from}
@@ -12,16 +13,6 @@ use Rattle.dr_history.proofs.ViewLemmas.{view_of-View, view_of-Msg}
 use Rattle.dr_history.proofs.NumberedLemmas.{messages_from-View, messages_from-Msg, messages_from-other}
 use Rattle.dr_check.specs.declared.past.Past.{Past}
 use Rattle.dr_check.specs.Past.{IsPast}
-
--- a filter keeps no more than there is
-pub filter_few : {A : Type 0} (p : A → Bool) (xs : List A) → length (filter p xs) ≤ length xs
-filter_few p [] = omega arith
-filter_few p (x ∷ xs) = by (p x) (filter_few p xs)
-  where
-    by : (b : Bool) → length (filter p xs) ≤ length xs
-        → length (cond b (x ∷ filter p xs) (filter p xs)) ≤ length (x ∷ xs)
-    by true few = omega (arith, few)
-    by false few = omega (arith, few)
 
 -- a View
 pub past_View : (read : List Entry) (past : Past) (a n m : ℕ) → IsPast read past

@@ -1,37 +1,17 @@
 -- Each line ends with its line feed, and some lines as they are printed.
-use Rattle.std.proofs.Common.{◌≡◌, refl, sym, ap, ◌∙◌, subst, ℕ, zero, suc, ◌<◌, ◌&&◌, inl, inr, arith, Bool, true, List, [], ◌∷◌, ◌++◌, codes, append_assoc, append-nil}
-use Rattle.std.specs.Fmt.{decimal, digits}
-use Rattle.std.specs.List.{concat}
-use Rattle.std.proofs.lemmas.Bool.{and_parts, cases_lt}
-use Rattle.dr_entry.specs.declared.entry.Entry.{Entry}
-use Rattle.dr_entry.specs.declared.entry.Entry.TheVariants.{View, Msg}
+use Rattle.std.proofs.Common.{◌≡◌, refl, sym, ap, ◌∙◌, subst, ℕ, ◌<◌, arith, List, [], ◌∷◌, ◌++◌, codes, append_assoc}
+use Rattle.std.specs.Fmt.{decimal}
+use Rattle.dr_entry.proofs.ListFacts.{EndsFed, IsFed, free_both, ends_concat}
+use Rattle.dr_entry.proofs.PlainFacts.{feed}
+use Rattle.dr_entry.proofs.Entries.{filler}
+use Rattle.dr_entry.proofs.Texts.{free_number}
 use Rattle.dr_text.specs.declared.last.Last.{Last}
 use Rattle.dr_text.specs.declared.last.Last.TheVariants as lasts
-use Rattle.dr_text.specs.Report.{end_text, entry_text, last_text, mask_text, message_text, whole_text}
+use Rattle.dr_text.specs.Report.{end_text, entry_text, last_text, whole_text}
+use Rattle.dr_text.proofs.Reports.{entry_ends}
 use Rattle.dr_check.specs.declared.line.Line.{Line}
 use Rattle.dr_check.specs.declared.line.Line.TheVariants as lines
 use Rattle.dr_check.specs.Lines.{IsLineText, LastFits, absent_text}
-use Rattle.dr_check.proofs.Feeds.{EndsFed, IsFed, ends_behind, free_both, is_free}
-
--- a text of parts ends as its last part does
-abbrev last_part : List ℕ → List (List ℕ) → List ℕ
-last_part x [] = x
-last_part x (y ∷ ys) = last_part y ys
-
-ends_concat : (x : List ℕ) (xs : List (List ℕ)) → EndsFed (last_part x xs) → EndsFed (concat (x ∷ xs))
-ends_concat x [] ends = subst EndsFed (sym (append-nil x)) ends
-ends_concat x (y ∷ ys) ends = ends_behind x (concat (y ∷ ys)) (ends_concat y ys ends)
-
-feed : EndsFed (codes "\n")
-feed = ([], refl)
-
-entry_ends : (e : Entry) → EndsFed (entry_text e)
-entry_ends (View age number members) =
-    ends_concat (codes "  view ")
-    (decimal age ∷ codes " " ∷ decimal number ∷ codes " " ∷ mask_text members ∷ codes "\n" ∷ []) feed
-entry_ends (Msg sender index bytes) =
-    ends_concat (codes "  msg ")
-    (decimal sender ∷ codes " " ∷ decimal index ∷ codes " " ∷ message_text bytes ∷ codes "\n" ∷ []) feed
 
 last_ends : (l : Last) → LastFits l → EndsFed (last_text l)
 last_ends lasts.Done fits = (codes "ok", refl)
@@ -83,10 +63,6 @@ line_ends (lines.Absent member) bytes is =
 line_ends (lines.Entry e) bytes is = subst EndsFed (sym is.1) (entry_ends e)
 line_ends lines.Last bytes is = subst EndsFed (sym is.2) (last_ends is.0 is.1)
 
--- a first message without bytes
-abbrev pub filler : Entry
-filler = Msg 0 0 []
-
 pub filler_line : IsLineText (lines.Entry filler) (entry_text filler)
 filler_line = (
   (
@@ -101,34 +77,8 @@ filler_line = (
   refl,
 )
 
-pub filler_fed : IsFed (entry_text filler)
-unfolding digits
-filler_fed = (codes "  msg 0 0 -", refl, refl)
-
 pub last_line : IsLineText lines.Last (codes "ok\n")
 last_line = (lasts.Done, tt, refl)
-
-pub last_fed : IsFed (codes "ok\n")
-last_fed = (codes "ok", refl, refl)
-
--- the first n numbers have no line feed
-abbrev are_free : ℕ → Bool
-are_free zero = true
-are_free (suc n) = is_free (decimal n) && are_free n
-
-free_below : (n d : ℕ) → are_free n ≡ true → d < n → is_free (decimal d) ≡ true
-free_below zero d h below = absurd (omega (arith, below))
-free_below (suc n) d h below =
-    let parts = and_parts (is_free (decimal n)) (are_free n) h in
-    elim (cases_lt d n) [
-      | inl less ↦ free_below n d parts.1 less
-      | inr top ↦ let e : d ≡ n = omega (arith, below, top) in rw e parts.0
-    ]
-
--- so have those of members
-free_number : (n : ℕ) → n < 16 → is_free (decimal n) ≡ true
-unfolding digits
-free_number n l = free_below 16 n refl l
 
 pub absent_line : (n : ℕ) → n < 16 → IsLineText (lines.Absent n) (absent_text n)
 absent_line n l = (l, refl)

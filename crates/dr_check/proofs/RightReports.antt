@@ -6,6 +6,7 @@ use Rattle.std.proofs.lemmas.List.{take_all}
 use Rattle.std.proofs.lemmas.Option.{none-some, same_Some, slice_get_within}
 use Rattle.dr_entry.specs.declared.entry.Entry.{Entry}
 use Rattle.dr_entry.specs.declared.entry.Entry.TheVariants.{View, Msg}
+use Rattle.dr_entry.proofs.ListPlaces.{all_from_places, at_any, at_behind}
 use Rattle.dr_history.specs.declared.opening.Opening.{Opening}
 use Rattle.dr_history.specs.Agreement.{SamePast}
 use Rattle.dr_history.specs.History.{GroupView, IsPrefixOf, view_of}
@@ -13,7 +14,8 @@ use Rattle.dr_history.specs.Members.{members_of}
 use Rattle.dr_history.specs.Order.{messages_from}
 use Rattle.dr_history.specs.Restarting.{AreAlong}
 use Rattle.dr_history.proofs.NumberedLemmas.{messages_from-View}
-use Rattle.dr_history_laws.proofs.Lists.{IsSomeAnd-at, slice_get-prefix, slice_get-some, slice_get-take, take-next, take-prefix}
+use Rattle.dr_history.proofs.Histories.{along, turned_past}
+use Rattle.dr_history_laws.proofs.Lists.{IsSomeAnd-at, slice_get-prefix, slice_get-some, slice_get-take, take-next, take-prefix, all_at}
 use Rattle.dr_history_laws.proofs.Pushing.{numbered-push}
 use Rattle.dr_history_laws.proofs.Views.{IsLater, View-once, ViewsRise}
 use Rattle.dr_script.specs.declared.script.Script.{Script}
@@ -26,23 +28,6 @@ use Rattle.dr_check.specs.Agreeing.{AreAgreed, HasPart, IsKeptBy, IsOnLogs, IsOr
 use Rattle.dr_check.specs.Clauses.{AreLogged, Continues, EntryItself, HasDelivered, HasSame, IsDurableView, IsFirstView, IsKeptIn, KeepsAge, KeepsBytes, KeepsDurable, KeepsIndex, KeepsSender, KeepsStart, KeepsView, MayComeNext, MayStart, MemberItself, TakesPart, logged_by}
 use Rattle.dr_check.specs.Flaws.{IsRight}
 use Rattle.dr_check.specs.Grammar.{HasStart, IsWholeAge}
-use Rattle.dr_check.proofs.Places.{all_at, all_from_places, at_any}
-use Rattle.dr_check.proofs.Zips.{at_behind}
-
--- lists that have the same elements wherever both have one
-along : {A : Type 0} (g h : List A)
-    → ((k : ℕ) (x y : A) → slice_get g k ≡ Some x → slice_get h k ≡ Some y → x ≡ y)
-    → IsPrefixOf g h ⊎ IsPrefixOf h g
-along [] h same = inl (h, refl)
-along (x ∷ g) [] same = inr (x ∷ g, refl)
-along {A} (x ∷ g) (y ∷ h) same = by (along g h (λ k a b at to. same (suc k) a b at to))
-  where
-    head : x ≡ y
-    head = same 0 x y refl refl
-
-    by : IsPrefixOf g h ⊎ IsPrefixOf h g → IsPrefixOf (x ∷ g) (y ∷ h) ⊎ IsPrefixOf (y ∷ h) (x ∷ g)
-    by (inl p) = inl (p.0, ap (λ (z : A). z ∷ (g ++ p.0)) head ∙ ap (λ zs. y ∷ zs) p.1)
-    by (inr p) = inr (p.0, ap (λ (z : A). z ∷ (h ++ p.0)) (sym head) ∙ ap (λ zs. x ∷ zs) p.1)
 
 -- where the Views rise, a View that also stands in a front part has its past there
 past_in_front : (g h : List Entry) → ViewsRise 0 h → IsPrefixOf g h → SamePast g h
@@ -56,10 +41,6 @@ past_in_front g h rise pre i j age number m n at_i at_j =
       sym (take-prefix g h i pre (omega (arith, slice_get_within g i (View age number m) at_i)))
           ∙ ap (λ k. take k h) place,
     )
-
-turned_past : (g h : List Entry) → SamePast g h → SamePast h g
-turned_past g h same i j age number m n at_i at_j =
-    let r = same j i age number n m at_j at_i in (sym r.0, sym r.1)
 
 -- an opening with the script's messages
 abbrev opened : Script → Opening

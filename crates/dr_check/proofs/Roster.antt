@@ -8,12 +8,12 @@ use Rattle.dr_history.specs.Members.{has, members_of}
 use Rattle.dr_history.specs.Restarting.{AllStand}
 use Rattle.dr_history.specs.Soundness.{MayStand}
 use Rattle.dr_history.specs.Order.{AreOfRoster, ContinuesAge}
+use Rattle.dr_history.proofs.Bits.{has_zero}
+use Rattle.dr_history.proofs.Masks.{same_masks}
 use Rattle.dr_history_laws.proofs.Lists.{IsSomeAnd-more}
 use Rattle.dr_history_laws.proofs.Members.{has-member}
 use Rattle.dr_history_laws.proofs.Stood.{named_below}
 use Rattle.dr_script.specs.declared.script.Script.{Script}
-use Rattle.dr_words.proofs.Bits.{has_zero}
-use Rattle.dr_words.proofs.Masks.{same_masks}
 use Rattle.dr_check.specs.Clauses.{Continues, MayStart}
 
 -- what may stand on a log may stand in a start

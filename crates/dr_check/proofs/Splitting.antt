@@ -1,13 +1,15 @@
 -- Fields, one by one.
-use Rattle.std.proofs.Common.{◌≡◌, ◌⊎◌, inl, inr, refl, sym, ap, ◌∙◌, subst, ℕ, zero, suc, ◌+◌, ◌<◌, ◌≤◌, ◌/◌, ◌%◌, ◌^◌, nat_lt, codes, arith, Bool, true, false, List, [], ◌∷◌, ◌++◌, All, length, take, drop, get_or}
+use Rattle.std.proofs.Common.{◌≡◌, ◌⊎◌, inl, inr, refl, sym, ap, ◌∙◌, ℕ, suc, ◌+◌, ◌<◌, ◌≤◌, ◌/◌, ◌%◌, ◌^◌, codes, arith, false, List, [], ◌∷◌, ◌++◌, All, length, take, drop, get_or}
 use Rattle.std.specs.Fmt.{decimal, digit_glyph}
-use Rattle.std.specs.List.{flat_map, join_by, position_or_len}
+use Rattle.std.specs.List.{flat_map, position_or_len}
 use Rattle.std.proofs.lemmas.Fmt.{decimal_by_steps}
 use Rattle.std.proofs.lemmas.Bool.{cases_lt}
 use Rattle.std.proofs.lemmas.List.{drop_all, take_all}
 use Rattle.std.proofs.lemmas.List.Elements.{All-append, All-cons, All-head, All-nil, All-tail, Contains-get_or}
 use Rattle.std.proofs.lemmas.List.Splits.{slice_split_first, slice_split_none, slice_split_at}
 use Rattle.std.proofs.lemmas.List.Sums.{fails_before_first}
+use Rattle.dr_entry.proofs.ListFacts.{none_at, joined}
+use Rattle.dr_entry.proofs.NumberFacts.{glyph_high}
 use Rattle.dr_history.specs.Members.{members_of}
 use Rattle.dr_history_laws.proofs.Members.{members_of-lt}
 use Rattle.dr_text.specs.Report.{hex_text, mask_text, message_text}
@@ -33,10 +35,6 @@ field_first bytes = by (split bytes)
     by (inr past) = ap (λ fs. get_or fs 0 []) (alone bytes past)
         ∙ sym (take_all (position_or_len is_end bytes) bytes past)
 
-none_at : (k : ℕ) → get_or {A = List ℕ} ([] ∷ []) k [] ≡ []
-none_at zero = refl
-none_at (suc k) = refl
-
 -- those behind it
 pub field_behind : (bytes : List ℕ) (k : ℕ)
     → field bytes (suc k) ≡ field (drop (position_or_len is_end bytes + 1) bytes) k
@@ -49,17 +47,6 @@ field_behind bytes k = by (split bytes)
         let none = drop_all (position_or_len is_end bytes + 1) bytes (omega (arith, past)) in
         ap (λ fs. get_or fs (suc k) []) (alone bytes past)
         ∙ (sym (none_at k) ∙ ap (λ bs. field bs k) (sym none))
-
--- none of one more passes
-pub none_more : (p : ℕ → Bool) (bytes : List ℕ) (i : ℕ) → ((k : ℕ) → k < i → p (get_or bytes k 0) ≡ false)
-    → p (get_or bytes i 0) ≡ false → (k : ℕ) → k < i + 1 → p (get_or bytes k 0) ≡ false
-none_more p bytes i before here k less = by (cases_lt k i)
-  where
-    by : (k < i) ⊎ (i ≤ k) → p (get_or bytes k 0) ≡ false
-    by (inl below) = before k below
-    by (inr above) =
-        let e : i ≡ k = omega (arith, above, less) in
-        subst (λ (j : ℕ). p (get_or bytes j 0) ≡ false) e here
 
 -- no byte ends a field
 abbrev pub IsPlain : List ℕ → Type 0
@@ -86,14 +73,6 @@ plain_decimal n small =
     (λ n ds least before. All-append (λ b. is_end b ≡ false) ds ((48 + n % 10) ∷ []) before
     (plain_digit (48 + n % 10) (omega arith))) n small
 
--- and hexadecimal digits
-glyph_high : (d : ℕ) → 33 ≤ digit_glyph false d
-glyph_high d = by (cases_lt d 10)
-  where
-    by : (d < 10) ⊎ (10 ≤ d) → 33 ≤ digit_glyph false d
-    by (inl less) = let e : nat_lt d 10 ≡ true = grind (arith, less) in rw e (omega arith)
-    by (inr more) = let e : nat_lt d 10 ≡ false = grind (arith, more) in rw e (omega arith)
-
 pub plain_hex : (bytes : List ℕ) → IsPlain (flat_map hex_text bytes)
 plain_hex [] = All-nil (λ b. is_end b ≡ false)
 plain_hex (byte ∷ bytes) =
@@ -105,10 +84,6 @@ plain_hex (byte ∷ bytes) =
 pub plain_message : (bytes : List ℕ) → IsPlain (message_text bytes)
 plain_message [] = plain_digit 45 (omega arith)
 plain_message (byte ∷ bytes) = plain_hex (byte ∷ bytes)
-
--- and numbers with commas between them
-abbrev pub joined : List ℕ → List ℕ
-joined ms = join_by decimal (codes ",") ms
 
 more_plain : (ms : List ℕ) → All (λ m. m < 16) ms → IsPlain (flat_map (λ m. codes "," ++ decimal m) ms)
 more_plain [] small = All-nil (λ b. is_end b ≡ false)

@@ -11,9 +11,11 @@ use Rattle.dr_entry.specs.declared.end.End.TheVariants.{Done, Crashed, Suspected
 use Rattle.dr_entry.specs.declared.end.MemberEnd.{MemberEnd}
 use Rattle.dr_entry.specs.declared.entry.Entry.{Entry}
 use Rattle.dr_entry.specs.declared.entry.Entry.TheVariants.{View, Msg}
+use Rattle.dr_entry.proofs.ListFacts.{AreFed, IsFed, free_both, is_free, fed_parts}
 use Rattle.dr_text.specs.declared.last.Last.{Last}
 use Rattle.dr_text.specs.declared.last.Last.TheVariants as lasts
 use Rattle.dr_text.specs.Report.{age_head, age_text, end_text, entry_text, is_absent, last_text, mask_text, member_line, member_text, message_text, report_text, whole_text}
+use Rattle.dr_text.proofs.Reports.{entries_text}
 use Rattle.dr_check.specs.declared.line.Line.{Line}
 use Rattle.dr_check.specs.declared.line.Line.TheVariants as lines
 use Rattle.dr_check.specs.declared.report.Report.{Report}
@@ -23,7 +25,7 @@ use Rattle.dr_check.specs.Fields.{is_end}
 use Rattle.dr_check.specs.Grammar.{AgesFrom, HasStart, IsReport, IsWholeAge, MembersFrom, age_lines, member_head, members_lines, report_lines}
 use Rattle.dr_check.specs.Lines.{EndFits, EntryFits, IsLineText, LastFits, absent_text, age_start_text, lines_of, present_text}
 use Rattle.dr_check.specs.Values.{HasAge, HasMember, HasValues, IsTellable, IsTellableAge}
-use Rattle.dr_check.proofs.Feeds.{AreFed, IsFed, free_both, is_free, lines_fed, lines_none}
+use Rattle.dr_check.proofs.Feeds.{lines_fed, lines_none}
 use Rattle.dr_check.proofs.Printed.{absent_fed}
 use Rattle.dr_check.proofs.Splitting.{IsPlain, plain_decimal, plain_mask, plain_message}
 
@@ -40,20 +42,6 @@ plain_free (b ∷ bytes) plain =
         let e : b ≡ 10 = eqb-true b 10 is in
         let ends : is_end 10 ≡ false = ap is_end (sym e) ∙ other in absurd (false≢true (sym ends))
     by false is rest other = rw (is, rest) refl
-
-abbrev AreFree : List (List ℕ) → Type 0
-AreFree [] = Unit {0}
-AreFree (x ∷ xs) = (is_free x ≡ true) × AreFree xs
-
--- parts before a line feed
-fed_parts : (xs : List (List ℕ)) → AreFree xs → IsFed (concat (xs ++ (10 ∷ []) ∷ []))
-fed_parts [] free = ([], refl, refl)
-fed_parts (x ∷ xs) free =
-    let rest = fed_parts xs free.1 in (
-      x ++ rest.0,
-      free_both x rest.0 free.0 rest.1,
-      ap (λ ys. x ++ ys) rest.2 ∙ sym (append_assoc x rest.0 (10 ∷ [])),
-    )
 
 number_free : (n : ℕ) → n < 2 ^ 64 → is_free (decimal n) ≡ true
 number_free n small = plain_free (decimal n) (plain_decimal n small)
@@ -223,10 +211,6 @@ entries_printed (e ∷ es) fit =
     let head = All-head EntryFits e es fit in
     one_printed (lines.Entry e) (map (λ e. lines.Entry e) es) (entry_text e) (map entry_text es) (head, refl)
     (entry_fed e head) (entries_printed es (All-tail EntryFits e es fit))
-
-entries_text : (es : List Entry) → concat (map entry_text es) ≡ flat_map entry_text es
-entries_text [] = refl
-entries_text (e ∷ es) = ap (λ z. entry_text e ++ z) (entries_text es)
 
 fit_behind : (n : ℕ) (es : List Entry) → All EntryFits es → All EntryFits (drop n es)
 fit_behind zero es fit = fit

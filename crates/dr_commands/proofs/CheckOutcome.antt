@@ -1,5 +1,5 @@
 -- What a check comes to.
-use Rattle.std.proofs.Common.{◌⊎◌, inl, inr, refl, sym, subst, arith, ℕ, List, Contains, Option, None, Some}
+use Rattle.std.proofs.Common.{◌⊎◌, inl, inr, refl, sym, subst, ℕ, List, Contains, Option, None, Some}
 use Rattle.std.specs.Prelude.{IfSome}
 use Rattle.dr_intake.specs.Status.{status_of}
 use Rattle.dr_outcome.specs.declared.outcome.Outcome.{Outcome}
@@ -7,14 +7,9 @@ use Rattle.dr_outcome.specs.Outcome.{HasDone, SaysOnly, unrun, unrun_ends}
 use Rattle.dr_outcome.proofs.Due.{same_tells}
 use Rattle.dr_text.specs.declared.last.Last.{Last}
 use Rattle.dr_yard.specs.Yards.{YardState}
+use Rattle.dr_outcome.proofs.Kinds.{is_unrun}
 use Rattle.dr_commands.specs.Check.{Checks, IsChecked, check_ends}
-use Rattle.dr_commands.proofs.CheckStatuses.{IsEnd, checked_ends, is_known}
-
--- it is one of those behind which nothing was run
-is_unrun : (n : ℕ) → IsEnd n → Contains unrun_ends n
-is_unrun n (inl is) = (0, omega arith, sym is)
-is_unrun n (inr (inl is)) = (2, omega arith, sym is)
-is_unrun n (inr (inr is)) = (4, omega arith, sym is)
+use Rattle.dr_commands.proofs.CheckStatuses.{checked_ends, is_known}
 
 -- memory was wanting, or what is said is due
 pub check_done : (bytes : List ℕ) (yard : YardState) (o : Outcome) (line : Option Last)

@@ -1,20 +1,17 @@
 -- With which statuses a check ends.
-use Rattle.std.proofs.Common.{◌≡◌, ◌⊎◌, inl, inr, refl, sym, subst, arith, ℕ, ◌≤◌, ◌<◌, List, Contains, length, Some, None, Option}
+use Rattle.std.proofs.Common.{◌⊎◌, inl, inr, refl, sym, arith, ℕ, ◌≤◌, ◌<◌, List, Contains, length, Some, None, Option}
 use Rattle.std.specs.Prelude.{IfSome}
 use Rattle.std.proofs.lemmas.Bool.{cases_lt}
-use Rattle.std.proofs.lemmas.Option.{same_Some}
 use Rattle.serde_json.specs.Data.{Data}
+use Rattle.dr_entry.proofs.NumberFacts.{IsEnd}
 use Rattle.dr_intake.specs.Status.{status_of}
 use Rattle.dr_script.specs.declared.script.Script.{Script}
 use Rattle.dr_script.specs.Json.{json_of}
 use Rattle.dr_script.specs.Reading.{NotJson, Reading, Reads, TooLong, Wrong, reading_of}
 use Rattle.dr_text.specs.declared.last.Last.{Last}
 use Rattle.dr_text.specs.declared.last.Last.TheVariants as lasts
+use Rattle.dr_outcome.proofs.Kinds.{refused_ends, same_end}
 use Rattle.dr_commands.specs.Check.{IsChecked, IsVerdict, SaysOfScript, SaysOfStrings, SaysOfValue, check_ends, handed_in}
-
--- one of the statuses 0, 3 and 13
-abbrev pub IsEnd : ℕ → Type 0
-IsEnd n = (n ≡ 0) ⊎ ((n ≡ 3) ⊎ (n ≡ 13))
 
 verdict_ends : (script : Script) (text : List ℕ) (last : Last) → IsVerdict script text last
     → IsEnd (status_of last)
@@ -40,13 +37,6 @@ verdict_ends script text (lasts.NoShard shards members) is = absurd is
 verdict_ends script text (lasts.ManyAges ages) is = absurd is
 verdict_ends script text (lasts.Crosses fault) is = absurd is
 verdict_ends script text lasts.NotCheck is = absurd is
-
--- a last line that is this one ends as it does
-same_end : (known last : Last) → last ≡ known → IsEnd (status_of known) → IsEnd (status_of last)
-same_end known last is ends = subst (λ (l : Last). IsEnd (status_of l)) (sym is) ends
-
-refused_ends : (known last : Last) → Some known ≡ Some last → IsEnd (status_of known) → IsEnd (status_of last)
-refused_ends known last is ends = same_end known last (sym (same_Some known last is)) ends
 
 script_ends : (r : Reading) (text : List ℕ) (last : Last) → SaysOfScript r text last → IsEnd (status_of last)
 script_ends (Reads script) text last is = verdict_ends script text last is

@@ -1,28 +1,27 @@
 -- Why the status of a call is what it is, and what its clauses say in each case.
-use Rattle.std.proofs.Common.{◌≡◌, ◌⊎◌, refl, sym, ap, ap₂, ◌∙◌, subst, inl, inr, ℕ, zero, suc, ◌<◌, ◌≤◌, Bool, true, false, true≢false, IsTrue, arith, List, [], ◌∷◌, Contains, Option, None, Some, IfSome, is_some, if◌then◌else◌, String}
-use Rattle.std.specs.Prelude.{MatchOption, ⊤}
-use Rattle.std.proofs.lemmas.List.{append_cancel_right}
+use Rattle.std.proofs.Common.{◌≡◌, ◌⊎◌, refl, sym, ap, ◌∙◌, subst, inl, inr, ℕ, ◌<◌, Bool, true, false, true≢false, IsTrue, arith, List, [], ◌∷◌, Contains, Option, None, Some, IfSome, is_some, if◌then◌else◌, String}
+use Rattle.std.specs.Prelude.{MatchOption}
 use Rattle.std.proofs.lemmas.Option.{same_Some}
-use Rattle.dr_ages.specs.declared.stop.Stop.{Stop}
-use Rattle.dr_entry.specs.declared.end.AgeEnd.{AgeEnd}
 use Rattle.std.specs.declared.alloc.Global.{Global}
+use Rattle.dr_entry.proofs.ListParts.{contains_more, in_early}
+use Rattle.dr_entry.proofs.NumberFacts.{IsEarly, IsUnrun, late, not_unrun}
+use Rattle.dr_entry.proofs.Bits.{lacks}
 use Rattle.dr_intake.specs.Answer.{WasReadFor, done, no_memory, no_source, usage}
 use Rattle.dr_intake.specs.Reading.{WasRead}
 use Rattle.dr_intake.specs.Status.{status_of}
 use Rattle.dr_io.specs.Faults.{Rose}
 use Rattle.dr_io.specs.Sink.{Gains}
-use Rattle.dr_script.specs.declared.script.Script.{Script}
-use Rattle.dr_script.specs.Reading.{NotJson, Reading, Reads, TooLong, Wrong, reading_of}
+use Rattle.dr_script.specs.Reading.{Reading, Reads, reading_of}
 use Rattle.dr_text.specs.declared.last.Last.{Last}
 use Rattle.dr_text.specs.declared.last.Last.TheVariants as lasts
 use Rattle.dr_yard.specs.Yards.{YardState}
+use Rattle.dr_intake.proofs.Intakes.{same_read}
 use Rattle.dr_outcome.specs.declared.last.Kind.TheVariants.{DiskFault, LogFull, NoMajority, Spent}
 use Rattle.dr_outcome.specs.declared.outcome.Outcome.{Outcome}
-use Rattle.dr_outcome.specs.Last.{first_end, first_told, last_by, last_of, refusal_of, some_end, some_so}
-use Rattle.dr_outcome.specs.Outcome.{AreAllLate, HasDone, OfScript, Plays, TellsDisks, WasPlayedOrNot, by_run, outcome_text, unrun, unrun_ends}
-use Rattle.dr_outcome.specs.Playing.{Playing, part_in}
-use Rattle.dr_outcome.proofs.Lasts.{end_so, refusal_status, told_so}
-use Rattle.dr_outcome.proofs.Due.{contains_more, line_behind, run_lasts}
+use Rattle.dr_outcome.specs.Last.{refusal_of, some_end, some_so}
+use Rattle.dr_outcome.specs.Outcome.{HasDone, OfScript, Plays, TellsDisks, WasPlayedOrNot, by_run, outcome_text, unrun, unrun_ends}
+use Rattle.dr_outcome.proofs.Kinds.{IsQuiet, Rank, quiet, usage_or_not, ranked, unplayed}
+use Rattle.dr_outcome.proofs.Due.{late_reading, run_rank}
 use Rattle.dr_commands.specs.declared.words.Command.{Command}
 use Rattle.dr_commands.specs.declared.words.Command.TheVariants.{Check, Drill, Live, Play, Shards, Store}
 use Rattle.dr_commands.specs.Outcome.{AsksLate, Course, Does, Exactly, IsWritten, WroteOrNot}
@@ -42,36 +41,6 @@ pub record Call : Type 0 where
 abbrev pub IsCourse : Call → Type 0
 IsCourse c = Course c.words c.old c.new c.failed c.fails c.before c.after c.outcome
 
--- nothing that a status tells has come
-pub record IsQuiet (o : Outcome) : Type 0 where
-  pub disk : some_so DiskFault o.ages o.stop ≡ false
-  pub logs : is_some (refusal_of o.stop) ≡ false
-  pub full : some_so LogFull o.ages o.stop ≡ false
-  pub turns : some_end Spent o.ages ≡ false
-  pub split : some_end NoMajority o.ages ≡ false
-
--- the status behind the ages of a run, by the first of these that has come
-pub data Rank (o : Outcome) (status : ℕ) : Type 0 where
-  by_disk : status ≡ 6 → some_so DiskFault o.ages o.stop ≡ true → Rank o status
-  by_logs : status ≡ 7 → some_so DiskFault o.ages o.stop ≡ false → is_some (refusal_of o.stop) ≡ true
-      → Rank o status
-  by_full : status ≡ 11 → some_so DiskFault o.ages o.stop ≡ false → is_some (refusal_of o.stop) ≡ false
-      → some_so LogFull o.ages o.stop ≡ true → Rank o status
-  by_turns : status ≡ 8 → some_so DiskFault o.ages o.stop ≡ false → is_some (refusal_of o.stop) ≡ false
-      → some_so LogFull o.ages o.stop ≡ false → some_end Spent o.ages ≡ true → Rank o status
-  by_split : status ≡ 9 → some_so DiskFault o.ages o.stop ≡ false → is_some (refusal_of o.stop) ≡ false
-      → some_so LogFull o.ages o.stop ≡ false → some_end Spent o.ages ≡ false
-      → some_end NoMajority o.ages ≡ true → Rank o status
-  by_none : status ≡ 0 → IsQuiet o → Rank o status
-
--- the status comes before all others
-abbrev IsEarly : ℕ → Type 0
-IsEarly status = (status ≡ 10) ⊎ (status ≡ 5)
-
--- the status of a last line behind which nothing was run, but for the usage
-abbrev IsUnrun : ℕ → Type 0
-IsUnrun status = Contains (0 ∷ 3 ∷ 12 ∷ 13 ∷ []) status
-
 -- why the status is what it is
 pub data Standing (c : Call) (status : ℕ) : Type 0 where
   early : IsEarly status → Standing c status
@@ -84,15 +53,6 @@ pub data Standing (c : Call) (status : ℕ) : Type 0 where
       → Standing c status
   has_not : (k : Command) → asked_by c.words ≡ Some k → Contains (ends_of k) status → IsUnrun status
       → IsQuiet c.outcome → Standing c status
-
-quiet : (o : Outcome) → o.ages ≡ [] → o.stop ≡ None → IsQuiet o
-quiet o none unstopped = record {
-  disk = ap₂ (some_so DiskFault) none unstopped;
-  logs = ap (λ stop. is_some (refusal_of stop)) unstopped;
-  full = ap₂ (some_so LogFull) none unstopped;
-  turns = ap (some_end Spent) none;
-  split = ap (some_end NoMajority) none;
-}
 
 -- the status behind what was written, of a last line, and of none
 status_by : (held holds : Option (List ℕ)) (fell falls status due : ℕ) (text : List ℕ)
@@ -119,103 +79,7 @@ pub unsaid : (held holds : Option (List ℕ)) (fell falls status : ℕ) (o : Out
 unsaid held holds fell falls status o wrote is =
     inl (subst (Writes held holds fell falls status o) is wrote).0
 
--- the first of what a status tells decides
-rank_by : (o : Outcome) (status : ℕ) (disk : Option ℕ) (logs : Option Last) (full turns split : Option ℕ)
-    → first_told DiskFault o.ages o.stop ≡ disk → refusal_of o.stop ≡ logs
-    → first_told LogFull o.ages o.stop ≡ full → first_end Spent o.ages ≡ turns
-    → first_end NoMajority o.ages ≡ split
-    → status ≡ status_of (last_by disk logs full turns split) → Rank o status
-rank_by o status (Some m) logs full turns split d l f t p is =
-    by_disk is (sym (told_so DiskFault o.ages o.stop) ∙ ap is_some d)
-rank_by o status None (Some line) full turns split d l f t p is =
-    by_logs (is ∙ refusal_status o.stop line l) (sym (told_so DiskFault o.ages o.stop) ∙ ap is_some d)
-    (ap is_some l)
-rank_by o status None None (Some m) turns split d l f t p is =
-    by_full is (sym (told_so DiskFault o.ages o.stop) ∙ ap is_some d) (ap is_some l)
-    (sym (told_so LogFull o.ages o.stop) ∙ ap is_some f)
-rank_by o status None None None (Some m) split d l f t p is =
-    by_turns is (sym (told_so DiskFault o.ages o.stop) ∙ ap is_some d) (ap is_some l)
-    (sym (told_so LogFull o.ages o.stop) ∙ ap is_some f) (sym (end_so Spent o.ages) ∙ ap is_some t)
-rank_by o status None None None None (Some m) d l f t p is =
-    by_split is (sym (told_so DiskFault o.ages o.stop) ∙ ap is_some d) (ap is_some l)
-    (sym (told_so LogFull o.ages o.stop) ∙ ap is_some f) (sym (end_so Spent o.ages) ∙ ap is_some t)
-    (sym (end_so NoMajority o.ages) ∙ ap is_some p)
-rank_by o status None None None None None d l f t p is = by_none is (record {
-  disk = sym (told_so DiskFault o.ages o.stop) ∙ ap is_some d;
-  logs = ap is_some l;
-  full = sym (told_so LogFull o.ages o.stop) ∙ ap is_some f;
-  turns = sym (end_so Spent o.ages) ∙ ap is_some t;
-  split = sym (end_so NoMajority o.ages) ∙ ap is_some p;
-})
-
--- the status behind the ages of a run
-run_rank : (o : Outcome) (status : ℕ) (line : Last) → last_of o.ages o.stop ≡ Some line
-    → status ≡ status_of line → Rank o status
-run_rank o status line is due =
-    rank_by o status (first_told DiskFault o.ages o.stop) (refusal_of o.stop)
-    (first_told LogFull o.ages o.stop)
-    (first_end Spent o.ages) (first_end NoMajority o.ages) refl refl refl refl refl
-    (due ∙ sym (ap status_of (line_behind o.ages o.stop line is).1))
-
 -- ---- the usage
-
--- a number that is not in a list
-abbrev Lacks : ℕ → List ℕ → Type 0
-Lacks n [] = ⊤
-Lacks n (e ∷ es) = (e ≡ n → ⊥) × Lacks n es
-
-lacks : (n : ℕ) (es : List ℕ) → Lacks n es → Contains es n → ⊥
-lacks n [] none (i, below, is) = omega (arith, below)
-lacks n (e ∷ es) none (zero, below, is) = none.0 is
-lacks n (e ∷ es) none (suc i, below, is) = lacks n es none.1 (i, omega (arith, below), is)
-
--- a status that tells of no run is that of the usage or another
-usage_or_not : (status : ℕ) → Contains unrun_ends status → (status ≡ 2) ⊎ IsUnrun status
-usage_or_not status (zero, below, is) = inr (0, omega arith, is)
-usage_or_not status (suc zero, below, is) = inl (sym is)
-usage_or_not status (suc (suc i), below, is) = inr (suc i, omega (arith, below), is)
-
--- the usage tells of no ages
-run_lacks_usage : (ages : List AgeEnd) (stop : Option Stop) (line : Last) → last_of ages stop ≡ Some line
-    → status_of line ≡ 2 → ⊥
-run_lacks_usage ages stop line is two =
-    lacks 2 (0 ∷ 6 ∷ 7 ∷ 8 ∷ 9 ∷ 11 ∷ []) (
-      λ e. omega (arith, e),
-      (
-        λ e. omega (arith, e),
-        (
-          λ e. omega (arith, e),
-          (
-            λ e. omega (arith, e),
-            (λ e. omega (arith, e), (λ e. omega (arith, e), tt)),
-          ),
-        ),
-      ),
-    )
-    (subst (Contains (0 ∷ 6 ∷ 7 ∷ 8 ∷ 9 ∷ 11 ∷ [])) two (run_lasts ages stop line is))
-
--- what is refused as no script has another status
-other_line : (known line : Last) (last : Option Last) → status_of known ≡ 3 → last ≡ Some known → last ≡ Some line
-    → status_of line ≡ 2 → ⊥
-other_line known line last three was is two =
-    omega (arith, three, two, ap status_of (same_Some known line (sym was ∙ is)))
-
--- where a script that was to be played comes to the usage all who take part are late
-abbrev IsLateReading : Playing → Reading → Type 0
-IsLateReading play r = (script : Script) × (r ≡ Reads script) × AreAllLate script (part_in play)
-
-late_reading : (play : Playing) (before after : YardState) (o : Outcome) (line : Last) (r : Reading)
-    → OfScript (λ script result. WasPlayedOrNot play script before after result) r before after o
-    → o.last ≡ Some line → status_of line ≡ 2 → IsLateReading play r
-late_reading play before after o line TooLong says is two =
-    absurd (other_line lasts.TooLong line o.last refl says.line is two)
-late_reading play before after o line NotJson says is two =
-    absurd (other_line lasts.NotJson line o.last refl says.line is two)
-late_reading play before after o line (Wrong rule path) says is two =
-    absurd (other_line (lasts.Rule rule path) line o.last refl says.line is two)
-late_reading play before after o line (Reads script) (inl played) is two =
-    absurd (run_lacks_usage o.ages o.stop line (sym played.0.line ∙ is) two)
-late_reading play before after o line (Reads script) (inr unplayed) is two = (script, refl, unplayed.0)
 
 -- so it is where the last line of any command is the usage: no other one has that status
 late_asked : (c : Call) (k : Command) (bytes : List ℕ) (line : Last) → asked_by c.words ≡ Some k
@@ -329,41 +193,6 @@ disk_told_of c held holds fell falls status course wrote = elim course [
       ]
     ]
 
--- a status behind which nothing was run is no other
-unrun_status : (status : ℕ) → IsUnrun status → ((status ≡ 0) ⊎ (status ≡ 3)) ⊎ (12 ≤ status)
-unrun_status status (zero, below, is) = inl (inl (sym is))
-unrun_status status (suc zero, below, is) = inl (inr (sym is))
-unrun_status status (suc (suc zero), below, is) = inr (omega (arith, is))
-unrun_status status (suc (suc (suc zero)), below, is) = inr (omega (arith, is))
-unrun_status status (suc (suc (suc (suc i))), below, is) = absurd (omega (arith, below))
-
--- so it is none of those that tell of words, of a source and of a run
-not_unrun : (status : ℕ) → IsUnrun status → (status ≡ 0 → ⊥) → (status ≡ 3 → ⊥) → status < 12 → ⊥
-not_unrun status is zeroth third low = elim (unrun_status status is) [
-  | inl few ↦ elim few [ inl e ↦ zeroth e | inr e ↦ third e ]
-  | inr high ↦ omega (arith, low, high)
-]
-
-in_early : (rest : List ℕ) (status : ℕ) → IsEarly status → Contains (10 ∷ 5 ∷ rest) status
-in_early rest status (inl is) = (0, omega arith, sym is)
-in_early rest status (inr is) = (1, omega arith, sym is)
-
--- the status is not an early one
-late : (due status : ℕ) → status ≡ due → (due ≡ 10 → ⊥) → (due ≡ 5 → ⊥) → IsEarly status → ⊥
-late due status is ten five (inl e) = ten (sym is ∙ e)
-late due status is ten five (inr e) = five (sym is ∙ e)
-
--- a status behind the ages is none of those without ages
-ranked : (o : Outcome) (status : ℕ) → Rank o status → 1 ≤ status → status ≤ 5 → ⊥
-ranked o status rank low high = elim rank [
-  | by_disk e disk ↦ omega (arith, high, e)
-  | by_logs e disk logs ↦ omega (arith, high, e)
-  | by_full e disk logs full ↦ omega (arith, high, e)
-  | by_turns e disk logs full turns ↦ omega (arith, high, e)
-  | by_split e disk logs full turns split ↦ omega (arith, high, e)
-  | by_none e calm ↦ omega (arith, low, e)
-]
-
 -- a high status tells of a run
 rank_of : (c : Call) (due status : ℕ) → status ≡ due → 5 < due → due < 12 → (due ≡ 10 → ⊥) → Standing c status
     → Rank c.outcome status
@@ -416,22 +245,6 @@ usage_told_of {c} {status} standing other = elim standing [
   | has_run k asked known rank ↦ absurd (other (ap is_some asked))
   | has_not k asked known few calm ↦ absurd (other (ap is_some asked))
 ]
-
--- of a source that tells what it has left the same bytes were read
-same_read : (old new : Option (List ℕ)) (one other : List ℕ) → IsTrue (is_some old) → WasRead old new one
-    → WasRead old new other → one ≡ other
-same_read None new one other tells was is = absurd (true≢false (sym tells))
-same_read (Some left) None one other tells was is = absurd was.lost
-same_read (Some left) (Some rest) one other tells was is =
-    append_cancel_right one other rest (sym was.lost ∙ is.lost)
-
--- a script in which all are late who take part was not played
-unplayed : (play : Playing) (script : Script) (before after : YardState) (o : Outcome)
-    → AreAllLate script (part_in play) → WasPlayedOrNot play script before after o → o.last ≡ Some lasts.Usage
-unplayed play script before after o late (inl played) =
-    let k = played.0.prompt late.some.0 late.some.1 late.some.2 in
-    absurd (true≢false (sym (late.all k.0 k.1 k.2) ∙ k.3))
-unplayed play script before after o late (inr says) = says.1.line
 
 pub late_told_of : (c : Call) (held holds : Option (List ℕ)) (fell falls status : ℕ) → IsCourse c
     → WroteOrNot held holds fell falls status c.outcome → IsTrue (is_some c.old) → AsksLate c.words c.old c.new

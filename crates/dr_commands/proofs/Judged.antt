@@ -1,6 +1,7 @@
 -- What is printed of a script that was played is judged right.
-use Rattle.std.proofs.Common.{◌≡◌, ◌⊎◌, refl, sym, ◌∙◌, subst, inl, inr, ℕ, arith, List, Option, None, Some}
+use Rattle.std.proofs.Common.{◌≡◌, refl, sym, ◌∙◌, subst, inl, inr, ℕ, arith, List, Option, None, Some}
 use Rattle.std.proofs.lemmas.Option.{none-some, same_Some}
+use Rattle.dr_entry.proofs.NumberFacts.{IsRunEnd, apart, not_early}
 use Rattle.dr_intake.specs.Answer.{WasReadFor, done, no_memory, no_source, usage}
 use Rattle.dr_intake.specs.Status.{status_of}
 use Rattle.dr_io.specs.Sink.{Gains}
@@ -14,14 +15,6 @@ use Rattle.dr_commands.specs.Outcome.{Does, IsWritten, WasJudgedRight, WroteOrNo
 use Rattle.dr_commands.specs.Words.{asked_by, reads}
 use Rattle.dr_commands.proofs.Course.{Call, IsCourse, Writes, unsaid}
 use Rattle.dr_commands.proofs.PlayedRight.{plays_right}
-use Rattle.dr_commands.proofs.RunsRight.{IsRunEnd, apart}
-
--- the status is not one that comes before all others
-not_early : (status : ℕ) → IsRunEnd status → (status ≡ 10) ⊎ (status ≡ 5) → ⊥
-not_early status end (inl is) =
-    apart 10 status (λ e. omega (arith, e)) (λ e. omega (arith, e)) (λ e. omega (arith, e)) is end
-not_early status end (inr is) =
-    apart 5 status (λ e. omega (arith, e)) (λ e. omega (arith, e)) (λ e. omega (arith, e)) is end
 
 -- the whole text was written, with the status of its last line
 written : (held holds : Option (List ℕ)) (fell falls status : ℕ) (o : Outcome) (line : Last)

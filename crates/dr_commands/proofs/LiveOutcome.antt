@@ -1,16 +1,16 @@
 -- What comes of a script that is run live, and of its last line.
 use Rattle.std.proofs.Common.{◌≡◌, refl, sym, ap, ◌∙◌, subst, inl, inr, ℕ, zero, suc, arith, List, [], ◌∷◌, Contains, Option, None, Some, IfSome}
+use Rattle.dr_entry.proofs.ListParts.{contains_more}
 use Rattle.dr_intake.specs.Status.{status_of}
 use Rattle.dr_outcome.specs.declared.outcome.Outcome.{Outcome}
 use Rattle.dr_outcome.specs.Last.{last_of}
 use Rattle.dr_outcome.specs.Outcome.{HasDone, SaysOnly, by_run, unrun, unrun_ends}
-use Rattle.dr_outcome.proofs.Due.{EndsIn, contains_more, same_tells, script_ends}
+use Rattle.dr_outcome.proofs.Due.{EndsIn, same_tells, script_ends, live_lasts}
 use Rattle.dr_script.specs.declared.script.Script.{Script}
 use Rattle.dr_script.specs.Reading.{reading_of}
 use Rattle.dr_text.specs.declared.last.Last.{Last}
 use Rattle.dr_yard.specs.Yards.{YardState}
 use Rattle.dr_commands.specs.Live.{HasRunLive, OfPlan, RunsLive, live_ends, refused_plan}
-use Rattle.dr_commands.proofs.LiveLasts.{live_lasts}
 
 refused_ends : (yard : YardState) (o : Outcome) → SaysOnly (Some refused_plan) yard yard o → EndsIn live_ends o
 refused_ends yard o says = (

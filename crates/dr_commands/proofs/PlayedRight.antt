@@ -1,6 +1,6 @@
 -- What is printed of a script that was played is judged right.
 use Rattle.std.proofs.Common.{◌≡◌, ◌↔◌, inl, inr, refl, sym, ap, ◌∙◌, subst, ℕ, arith, List, ◌++◌, Option, None, Some}
-use Rattle.std.proofs.lemmas.Option.{same_Some}
+use Rattle.dr_entry.proofs.NumberFacts.{IsRunEnd}
 use Rattle.dr_ages.specs.declared.part.Part.{Part}
 use Rattle.dr_check.proofs.Flawless.{unflawed}
 use Rattle.dr_check.proofs.OneReport.{one_report}
@@ -11,7 +11,7 @@ use Rattle.dr_intake.specs.Status.{status_of}
 use Rattle.dr_outcome.specs.declared.outcome.Body.TheVariants as bodies
 use Rattle.dr_outcome.specs.declared.outcome.Body.{Body}
 use Rattle.dr_outcome.specs.declared.outcome.Outcome.{Outcome}
-use Rattle.dr_outcome.specs.Outcome.{HasPlayed, HasRun, OfScript, Plays, SaysOnly, WasPlayedOrNot, body_text, outcome_text}
+use Rattle.dr_outcome.specs.Outcome.{HasPlayed, HasRun, OfScript, Plays, WasPlayedOrNot, body_text, outcome_text}
 use Rattle.dr_outcome.specs.Playing.{InFolder, Playing, part_in}
 use Rattle.dr_script.specs.declared.script.Script.{Script}
 use Rattle.dr_script.specs.Json.{json_of}
@@ -20,8 +20,10 @@ use Rattle.dr_text.specs.declared.last.Last.{Last}
 use Rattle.dr_text.specs.declared.last.Last.TheVariants as lasts
 use Rattle.dr_text.specs.Report.{last_text, report_text}
 use Rattle.dr_yard.specs.Yards.{YardState, empty_yard}
+use Rattle.dr_outcome.proofs.Kinds.{refused}
+use Rattle.dr_outcome.proofs.KindsFurther.{unplayed}
 use Rattle.dr_commands.specs.Check.{DisksTell, HandsIn, IsChecked, IsJudgedRight, IsVerdict, SaysOfScript, SaysOfStrings, SaysOfValue}
-use Rattle.dr_commands.proofs.RunsRight.{IsRunEnd, apart, run_right}
+use Rattle.dr_commands.proofs.RunsRight.{run_right}
 
 -- ---- one verdict
 
@@ -76,19 +78,6 @@ played_right play script before after o last played report is end tell =
     by None run tell =
         run_right script part play.mode empty_yard run.1.after o.ages o.stop last played.ranges (λ m below. refl)
         run.1.run (sym played.line ∙ is) end
-
--- where nothing is run the status is another
-refused : (known last : Last) (before after : YardState) (o : Outcome) → status_of known ≡ 3
-    → SaysOnly (Some known) before after o → o.last ≡ Some last → IsRunEnd (status_of last) → ⊥
-refused known last before after o three says is end =
-    apart 3 (status_of last) (λ e. omega (arith, e)) (λ e. omega (arith, e)) (λ e. omega (arith, e))
-    (ap status_of (same_Some last known (sym is ∙ says.line)) ∙ three) end
-
-unplayed : (last : Last) (before after : YardState) (o : Outcome) → SaysOnly (Some lasts.Usage) before after o
-    → o.last ≡ Some last → IsRunEnd (status_of last) → ⊥
-unplayed last before after o says is end =
-    apart 2 (status_of last) (λ e. omega (arith, e)) (λ e. omega (arith, e)) (λ e. omega (arith, e))
-    (ap status_of (same_Some last lasts.Usage (sym is ∙ says.line))) end
 
 reading_right : (play : Playing) (before after : YardState) (o : Outcome) (last : Last) (r : Reading)
     → OfScript (λ script result. WasPlayedOrNot play script before after result) r before after o → o.last ≡ Some last → IsRunEnd (status_of last)

@@ -1,71 +1,54 @@
 -- The report of a run whose last line has status 0, 8 or 9 is right.
-use Rattle.std.proofs.Common.{◌≡◌, ◌≢◌, ◌⊎◌, ◌↔◌, refl, sym, ap, ◌∙◌, subst, inl, inr, ℕ, zero, suc, ◌+◌, ◌-◌, ◌^◌, ◌<◌, ◌≤◌, ◌&&◌, nat_lt, Bool, not, true, false, true≢false, pow_mono, arith, List, [], ◌∷◌, All, Contains, Option, None, Some, is_some, length, slice_get}
-use Rattle.std.specs.Option.{option_map_or}
-use Rattle.std.specs.List.{list_any}
+use Rattle.std.proofs.Common.{◌≡◌, ◌≢◌, ◌⊎◌, refl, sym, ap, ◌∙◌, subst, inl, inr, ℕ, suc, ◌+◌, ◌-◌, ◌^◌, ◌<◌, ◌≤◌, ◌&&◌, nat_lt, not, true, false, true≢false, pow_mono, arith, List, [], All, Option, None, Some, is_some, length, slice_get}
 use Rattle.std.proofs.lemmas.Bool.{cases_Bool, or_parts}
-use Rattle.std.proofs.lemmas.Bool.Decides.{nat_tests}
-use Rattle.std.proofs.lemmas.List.Elements.{All-cons, All-nil}
-use Rattle.std.proofs.lemmas.List.Folds.{list_any_at}
-use Rattle.std.proofs.lemmas.Option.{get_or_from_slice_get, same_Some, slice_get_cases, slice_get_within}
-use Rattle.dr_ages.specs.Ages.{AreAges, IsAgeOf, opening_of, start_of, taking_part}
+use Rattle.std.proofs.lemmas.Option.{same_Some}
+use Rattle.dr_ages.specs.Ages.{IsAgeOf, opening_of, taking_part}
 use Rattle.dr_ages.specs.Runs.{AreKept, IsRunOf}
 use Rattle.dr_ages.specs.declared.mode.Mode.{Mode}
 use Rattle.dr_ages.specs.declared.part.Part.{Part}
 use Rattle.dr_ages.specs.declared.stop.Stop.{Stop}
 use Rattle.dr_check.proofs.Agreed.{end_there, is_here, order, told_as_opened}
 use Rattle.dr_check.proofs.Flawless.{printed_right}
-use Rattle.dr_check.proofs.Places.{all_at, all_from_places}
 use Rattle.dr_check.specs.Lines.{EndFits, LastFits}
 use Rattle.dr_check.specs.Values.{HasSmallNumbers, IsAgreed, KeepEachOther, TellsNothing, told_opening, took_part}
 use Rattle.dr_entry.specs.declared.end.AgeEnd.{AgeEnd}
 use Rattle.dr_entry.specs.declared.end.End.{End}
 use Rattle.dr_entry.specs.declared.end.End.TheVariants as ends
 use Rattle.dr_entry.specs.declared.end.MemberEnd.{MemberEnd}
+use Rattle.dr_entry.proofs.ListPlaces.{all_from_places}
+use Rattle.dr_entry.proofs.NumberFacts.{IsRunEnd, apart}
 use Rattle.dr_history.specs.declared.opening.Opening.{Opening}
 use Rattle.dr_history.specs.Agreement.{EndsAgreed, accounts_of, sent_by}
 use Rattle.dr_history.specs.History.{GroupView}
 use Rattle.dr_history.specs.Members.{has, members_of}
 use Rattle.dr_history.specs.Restarting.{Kept}
 use Rattle.dr_history.specs.Soundness.{IsPresentIn, Sound}
+use Rattle.dr_history.proofs.Bits.{has_zero}
+use Rattle.dr_history.proofs.Masks.{same_masks}
 use Rattle.dr_intake.specs.Status.{status_of}
-use Rattle.dr_machine.specs.Group.{IsGroup}
-use Rattle.dr_opening.proofs.Choosing.{chosen_group}
 use Rattle.dr_outcome.proofs.Due.{line_behind}
 use Rattle.dr_outcome.proofs.Lasts.{refusal_status, told_so}
 use Rattle.dr_outcome.specs.declared.last.Kind.TheVariants.{DiskFault, LogFull, NoMajority, Spent}
 use Rattle.dr_outcome.specs.Last.{first_end, first_told, is_of, last_by, last_of, refusal_of, some_end, stopped_by}
 use Rattle.dr_program.specs.Program.{absent_end}
 use Rattle.dr_program_laws.specs.Ended.{HasEnded, HasReason, IsLeftOut, is_log_end}
-use Rattle.dr_restart.specs.Groups.{group_of}
 use Rattle.dr_restart.specs.Setups.{crashes_of}
 use Rattle.dr_script.specs.declared.script.Script.{Script}
 use Rattle.dr_script.specs.Ranges.{HasRanges}
+use Rattle.dr_history_laws.proofs.Lists.{all_at}
+use Rattle.dr_history_laws.proofs.Members.{low_number}
 use Rattle.dr_text.specs.declared.last.Last.{Last}
 use Rattle.dr_text.specs.declared.last.Last.TheVariants as lasts
 use Rattle.dr_text.specs.Report.{is_absent, report_text}
-use Rattle.dr_words.proofs.Bits.{has_ones, has_zero}
-use Rattle.dr_words.proofs.Masks.{has_mask_of, in_roster_small, same_masks}
+use Rattle.dr_words.proofs.Masks.{has_mask_of, in_roster_small}
 use Rattle.dr_words.specs.Masks.{mask_of}
 use Rattle.dr_yard.specs.Yards.{AllTell, YardState}
+use Rattle.dr_check.proofs.Values.{took}
+use Rattle.dr_ages.proofs.Parts.{its_group, all_ages}
+use Rattle.dr_outcome.proofs.Kinds.{none_full}
 use Rattle.dr_commands.specs.Check.{IsVerdict}
-use Rattle.dr_commands.proofs.Succession.{low_number}
 
 -- ---- the last line
-
--- one of the statuses 0, 8 and 9
-abbrev pub IsRunEnd : ℕ → Type 0
-IsRunEnd n = (n ≡ 0) ⊎ ((n ≡ 8) ⊎ (n ≡ 9))
-
-pub run_end : (n : ℕ) → Contains (0 ∷ 8 ∷ 9 ∷ []) n → IsRunEnd n
-run_end n (zero, below, is) = inl (sym is)
-run_end n (suc zero, below, is) = inr (inl (sym is))
-run_end n (suc (suc zero), below, is) = inr (inr (sym is))
-run_end n (suc (suc (suc i)), below, is) = absurd (omega (arith, below))
-
-pub apart : (known n : ℕ) → known ≢ 0 → known ≢ 8 → known ≢ 9 → n ≡ known → IsRunEnd n → ⊥
-apart known n zeroth eighth ninth same (inl is) = zeroth (sym same ∙ is)
-apart known n zeroth eighth ninth same (inr (inl is)) = eighth (sym same ∙ is)
-apart known n zeroth eighth ninth same (inr (inr is)) = ninth (sym same ∙ is)
 
 -- a last line with one of them tells of no full log, and is one of a report
 fits_by : (disk : Option ℕ) (logs : Option Last) (full turns split : Option ℕ) (line : Last)
@@ -96,23 +79,6 @@ last_fits ages stop line is end =
     )
 
 -- ---- the ends of members
-
--- where no member of any age ended by a full log none did
-none_full : (ages : List AgeEnd) (i : ℕ) (age : AgeEnd) (m : ℕ) (e : MemberEnd) → some_end LogFull ages ≡ false
-    → slice_get ages i ≡ Some age → slice_get age.members m ≡ Some e → is_of LogFull e.end ≡ false
-none_full ages i age m e none at there = elim (cases_Bool (is_of LogFull e.end)) [
-  | inl full ↦
-      let here : list_any (λ (x : MemberEnd). is_of LogFull x.end) age.members ≡ true =
-      list_any_at (λ (x : MemberEnd). is_of LogFull x.end) age.members m e
-      (slice_get_within age.members m e there)
-      (ap (λ (x : MemberEnd). is_of LogFull x.end) (get_or_from_slice_get age.members m e e there) ∙ full) in
-      absurd (true≢false (sym (list_any_at
-      (λ (x : AgeEnd). list_any (λ (y : MemberEnd). is_of LogFull y.end) x.members) ages i age
-      (slice_get_within ages i age at)
-      (ap (λ (x : AgeEnd). list_any (λ (y : MemberEnd). is_of LogFull y.end) x.members)
-      (get_or_from_slice_get ages i age age at) ∙ here)) ∙ none))
-  | inr other ↦ other
-]
 
 -- the end of a member that was left out
 left_fits : (o : Opening) (all : List MemberEnd) (number members m : ℕ) (end : End) → length o.messages ≤ 16
@@ -176,53 +142,6 @@ end_fits script a nth m e ranges good here took ended other = by ended.reason
 
 -- ---- who took part
 
-is_end : (end : End) → is_absent end ≡ true → end ≡ ends.Absent
-is_end ends.Absent is = refl
-is_end ends.Done is = absurd (true≢false (sym is))
-is_end ends.Crashed is = absurd (true≢false (sym is))
-is_end ends.DiskFault is = absurd (true≢false (sym is))
-is_end (ends.Suspected by) is = absurd (true≢false (sym is))
-is_end (ends.Excluded view) is = absurd (true≢false (sym is))
-is_end (ends.NoMajority mask) is = absurd (true≢false (sym is))
-is_end (ends.LogFull len) is = absurd (true≢false (sym is))
-is_end (ends.Spent turns) is = absurd (true≢false (sym is))
-
--- who is absent exactly where something else is so
-as_absent : (end : End) (b : Bool) → (end ≡ ends.Absent) ↔ (b ≡ true) → is_absent end ≡ b
-as_absent end true same = ap is_absent (same.1 refl)
-as_absent end false same = elim (cases_Bool (is_absent end)) [
-  | inl away ↦ absurd (true≢false (sym (same.0 (is_end end away))))
-  | inr there ↦ there
-]
-
--- the members that took part, by the ends of an age, are those that are not missing
-took : (members missing i : ℕ) (es : List MemberEnd) → length es ≡ members
-    → ((m : ℕ) (e : MemberEnd) → slice_get es m ≡ Some e → (e.end ≡ ends.Absent) ↔ (has missing m ≡ true))
-    → took_part es i ≡ (has (2 ^ members - 1) i && not (has missing i))
-took members missing i es all away = by (slice_get es i) refl
-  where
-    by : (z : Option MemberEnd) → slice_get es i ≡ z
-        → took_part es i ≡ (has (2 ^ members - 1) i && not (has missing i))
-    by None none =
-        let past : nat_lt i members ≡ false = elim (slice_get_cases es i).1 [
-          | inl found ↦ absurd (cc (found.2, none))
-          | inr behind ↦ grind (arith, nat_tests, behind.0, all)
-        ] in
-        ap (λ z. option_map_or (λ (e : MemberEnd). not (is_absent e.end)) z false) none
-        ∙ sym (ap (λ b. b && not (has missing i)) (has_ones members i ∙ past))
-    by (Some e) some =
-        let below : nat_lt i members ≡ true = grind (arith, nat_tests, slice_get_within es i e some, all) in
-        ap (λ z. option_map_or (λ (e : MemberEnd). not (is_absent e.end)) z false) some
-        ∙ ap not (as_absent e.end (has missing i) (away i e some))
-        ∙ sym (ap (λ b. b && not (has missing i)) (has_ones members i ∙ below))
-
--- the group of an age
-its_group : (script : Script) (part : Part) (mode : Mode) (nth : ℕ) (before after : YardState) (age : AgeEnd)
-    → HasRanges script → IsAgeOf script part mode nth before after age
-    → IsGroup (group_of script (start_of script part age))
-its_group script part mode nth before after age ranges is =
-    chosen_group script is.contents (start_of script part age) ranges.group is.starts
-
 -- an age opened as its ends tell
 opened_as_told : (script : Script) (part : Part) (mode : Mode) (nth : ℕ) (before after : YardState) (age : AgeEnd)
     → HasRanges script → IsAgeOf script part mode nth before after age
@@ -239,18 +158,6 @@ opened_as_told script part mode nth before after age ranges is =
         ∙ sym (has_mask_of (λ k. has (2 ^ script.members - 1) k && not (has part.missing k)) i))
 
 -- ---- the ages of a run
-
--- what holds of each age of a run holds of all
-all_ages : (P : AgeEnd → Type 0) (script : Script) (part : Part) (mode : Mode)
-    → ((nth : ℕ) (before after : YardState) (age : AgeEnd) → IsAgeOf script part mode nth before after age
-    → P age)
-    → (nth : ℕ) (before after : YardState) (ages : List AgeEnd)
-    → AreAges script part mode nth before ages after
-    → All P ages
-all_ages P script part mode each nth before after [] are = All-nil P
-all_ages P script part mode each nth before after (age ∷ ages) (between, is, rest) =
-    All-cons P age ages (each nth before between age is)
-    (all_ages P script part mode each (nth + 1) between after ages rest)
 
 agreed_age : (script : Script) (part : Part) (mode : Mode) (nth : ℕ) (before after : YardState) (age : AgeEnd)
     → HasRanges script → IsAgeOf script part mode nth before after age → IsAgreed script age

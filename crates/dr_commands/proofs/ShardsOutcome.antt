@@ -1,11 +1,12 @@
 -- What comes of the shards of a script, and of its last line.
 use Rattle.std.proofs.Common.{◌≡◌, refl, sym, ap, ◌∙◌, subst, ℕ, arith, List, [], ◌∷◌, Contains, Option, None, Some, IfSome}
+use Rattle.dr_entry.proofs.ListParts.{contains_more}
 use Rattle.dr_intake.specs.Status.{status_of}
 use Rattle.dr_outcome.specs.declared.outcome.Outcome.{Outcome}
 use Rattle.dr_outcome.specs.Last.{last_of}
 use Rattle.dr_outcome.specs.Outcome.{HasDone, SaysOnly, by_run, unrun, unrun_ends}
 use Rattle.dr_outcome.specs.Playing.{ends_over}
-use Rattle.dr_outcome.proofs.Due.{EndsIn, contains_more, same_tells, script_ends}
+use Rattle.dr_outcome.proofs.Due.{EndsIn, same_tells, script_ends}
 use Rattle.dr_script.specs.declared.script.Script.{Script}
 use Rattle.dr_script.specs.Reading.{reading_of}
 use Rattle.dr_shards.specs.declared.fault.LayFault.{LayFault}
@@ -13,6 +14,7 @@ use Rattle.dr_shards.specs.declared.fault.LayFault.TheVariants.{Crosses, ManyAge
 use Rattle.dr_shards.specs.Layout.{lay_refusal, layout}
 use Rattle.dr_text.specs.declared.last.Last.{Last}
 use Rattle.dr_yard.specs.Yards.{YardState}
+use Rattle.dr_intake.proofs.Intakes.{among}
 use Rattle.dr_commands.specs.declared.shards.sharding.Sharding.{Sharding}
 use Rattle.dr_commands.specs.Shards.{HasRunShards, OfLayout, RunsShards, refused_layout, shards_ends}
 use Rattle.dr_commands.proofs.ShardsLasts.{shard_lasts}
@@ -23,12 +25,6 @@ twelve OutOfMemory = tt
 twelve (NoShard shards members) = refl
 twelve (ManyAges ages) = refl
 twelve (Crosses fault) = refl
-
--- so it is among these statuses
-among : (ends : List ℕ) (last : Option Last) → ((status : ℕ) → status ≡ 12 → Contains ends status)
-    → IfSome last (λ line. status_of line ≡ 12) → IfSome last (λ line. Contains ends (status_of line))
-among ends None each is = tt
-among ends (Some line) each is = each (status_of line) is
 
 refused_ends : (yard : YardState) (o : Outcome) (fault : LayFault)
     → SaysOnly (refused_layout fault) yard yard o → EndsIn (12 ∷ ends_over None) o

@@ -2,17 +2,16 @@
 use Rattle.std.proofs.Common.{◌≡◌, ◌⊎◌, ap, inl, inr, refl, ℕ, List, ◌∙◌, Option, None}
 use Rattle.dr_outcome.specs.declared.outcome.Body.TheVariants as bodies
 use Rattle.dr_outcome.specs.declared.outcome.Outcome.{Outcome}
-use Rattle.dr_outcome.specs.Outcome.{HasDone, HasPlayed, IsDue, OfScript, Plays, SaysOnly, WasPlayedOrNot, by_run, unrun}
-use Rattle.dr_outcome.proofs.Due.{none_late, whenever}
+use Rattle.dr_outcome.specs.Outcome.{HasDone, HasPlayed, OfScript, Plays, SaysOnly, WasPlayedOrNot}
+use Rattle.dr_outcome.proofs.Due.{none_late}
 use Rattle.dr_outcome.specs.Playing.{part_in, play_ends, simulated}
 use Rattle.dr_script.specs.Reading.{NotJson, Reading, Reads, TooLong, Wrong, reading_of}
 use Rattle.dr_text.specs.declared.last.Last.{Last}
+use Rattle.dr_text.proofs.Reports.{whenever}
 use Rattle.dr_yard.specs.Yards.{YardState}
+use Rattle.dr_outcome.proofs.Kinds.{saying, due}
 use Rattle.dr_commands.specs.Store.{Stores, store_ends}
 use Rattle.dr_commands.specs.StoreLines.{last_values_text}
-
-abbrev saying : Outcome → List ℕ → Outcome
-saying o text = record o { body = bodies.Text text }
 
 -- without ages there are no values
 alone : (key : List ℕ) (version : ℕ) (yard : YardState) (o : Outcome) (text : List ℕ) (last : Option Last)
@@ -52,9 +51,6 @@ stores key version yard o text (Reads script) is (inl (played, report)) = (
   },
   ap bodies.Text is,
 )
-
-due : (o : Outcome) (text : List ℕ) → IsDue o → IsDue (saying o text)
-due o text is = elim is [ by_run told ↦ by_run told | unrun none unstopped tells ↦ unrun none unstopped tells ]
 
 pub values_said : (key : List ℕ) (version : ℕ) (bytes : List ℕ) (yard : YardState) (o : Outcome)
     (text : List ℕ) → text ≡ last_values_text key version o.ages

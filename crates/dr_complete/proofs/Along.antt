@@ -6,6 +6,7 @@ use Rattle.dr_history.specs.History.{messages_in, messages_of}
 use Rattle.dr_history.specs.Members.{has, members_of}
 use Rattle.dr_history.specs.Order.{messages_from}
 use Rattle.dr_history.specs.Places.{front_of}
+use Rattle.dr_history.proofs.Histories.{messages_within}
 use Rattle.dr_words.specs.declared.column.TheConstants.{BEAT_COLUMN, DONE_COLUMN, LOGGED_COLUMN, RECEIVED_COLUMN}
 use Rattle.dr_words.specs.Columns.{recv_column}
 use Rattle.dr_words.specs.Packing.{recv_count}
@@ -25,7 +26,6 @@ use Rattle.dr_turn_laws.specs.Wants.{IsLeft}
 use Rattle.dr_complete.proofs.Come.{HasCome, Rests, Room, come_less, come_more, come_none}
 use Rattle.dr_faithful.proofs.Shown.{done_is_one}
 use Rattle.dr_complete.proofs.Firsts.{IsFirst, count_first, members_are, of_members, of_roster, own_first, start_first, told}
-use Rattle.dr_machine.proofs.Sending.{messages_within}
 use Rattle.dr_world_laws.proofs.SentItems.{all_put}
 use Rattle.dr_complete.proofs.Takes.{takes_all}
 use Rattle.dr_complete.proofs.Whole.{IsPastAll, PutAll, front_past, holds_all, members_first, round_le}

@@ -1,11 +1,12 @@
 -- How many turns are enough, by the longest list of messages.
 use Rattle.std.proofs.Common.{◌≡◌, ◌↔◌, ℕ, ◌+◌, ◌*◌, ◌≤◌, List, [], ◌∷◌, length, map, fold, max, All, arith}
 use Rattle.std.proofs.lemmas.List.Elements.{All-nil, All-cons, All-head, All-tail}
+use Rattle.dr_entry.specs.declared.limits.TheConstants.{MAX_MESSAGES}
 use Rattle.dr_complete.specs.Enough.{turns_enough}
 use Rattle.dr_complete.specs.Time.{HasTime}
 use Rattle.dr_script.specs.declared.script.Script.{Script}
 use Rattle.dr_script.specs.declared.script.Schedule.TheVariants.{Lockstep}
-use Rattle.dr_script.specs.Ranges.{HasGroupRanges}
+use Rattle.dr_script.specs.Ranges.{HasGroupRanges, HasRanges}
 
 -- a list of messages is no longer than a bound, or has time enough
 abbrev Fits : ℕ → List (List ℕ) → Type 0
@@ -59,3 +60,7 @@ enough_is_time s ranges faultless lockstep = (
     turns = (each_has s.turns 0 s.messages enough).1;
   },
 )
+
+-- there are few turns
+pub few_turns : (s : Script) → HasRanges s → turns_enough s ≤ 4 * MAX_MESSAGES + 8
+few_turns s ranges = omega (arith, longest_within MAX_MESSAGES 0 s.messages (omega arith) ranges.group.few)

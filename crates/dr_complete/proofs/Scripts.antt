@@ -10,13 +10,13 @@ use Rattle.dr_program.specs.declared.setup.Setup.{Setup}
 use Rattle.dr_restart.specs.declared.start.Start.{Start}
 use Rattle.dr_restart.specs.Groups.{group_of}
 use Rattle.dr_restart.specs.Setups.{AreSetupsOf, IsBegun, crashes_of, suspicions_of}
-use Rattle.dr_restart.proofs.Groups.{few_at}
 use Rattle.dr_restart.proofs.Setups.{are_setups}
 use Rattle.dr_script.specs.declared.script.Script.{Script}
 use Rattle.dr_script.specs.Ranges.{HasRanges}
 use Rattle.dr_complete.specs.Time.{AllLenient, HasTime}
 use Rattle.dr_complete.proofs.Completeness.{completes}
 use Rattle.std.specs.Prelude.{Option}
+use Rattle.dr_entry.proofs.Bits.{few_at}
 
 -- its setups suspect nobody, and have its patience
 lenient_setups : (script : Script) (start : Start) (nth : ℕ) (setups : List (Option Setup)) → HasRanges script

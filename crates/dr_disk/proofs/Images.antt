@@ -1,9 +1,13 @@
 -- What the images of a disk are: at rest, after a write, and what a read gives among them.
-use Rattle.std.proofs.Common.{◌≡◌, ℕ, ◌+◌, ◌-◌, ◌<◌, ◌≤◌, min, max, List, [], ◌∷◌, ◌++◌, length, get_or, take, drop, ◌⊎◌, inl, inr, ⊎_elim, refl, sym, ap, ◌∙◌, arith, length-append, length-drop, length-take}
+use Rattle.std.proofs.Common.{◌≡◌, ℕ, ◌+◌, ◌-◌, ◌<◌, ◌≤◌, min, max, List, [], ◌∷◌, ◌++◌, length, get_or, take, drop, ◌⊎◌, inl, inr, ⊎_elim, refl, sym, ap, ◌∙◌, arith, length-append, length-drop, length-take, Option, Some, None, IfSome, subst, false}
 use Rattle.std.proofs.lemmas.Bool.{cases_lt}
 use Rattle.std.proofs.lemmas.List.{ext_get_or, get_or-take, get_or-drop, get_or_append_left, get_or-append_right, length-take-le, drop_more, take-append-drop}
+use Rattle.std.specs.Prelude.{is_some}
 use Rattle.dr_disk.specs.Calls.{Call, Write, FailedWrite, Cut, FailedCut, Sync, State, at_rest, written, step, run_from, run, content_after}
-use Rattle.dr_disk.specs.Images.{IsImage}
+use Rattle.dr_disk.specs.Images.{IsImage, AllImages, IsLeft, ReadsAnImage, Goes, During, LastsDuring, Lasts}
+use Rattle.dr_disk.proofs.Moments.{state-after}
+use Rattle.dr_disk.proofs.DiskCalls.{reaches_less}
+use Rattle.dr_disk.specs.Disk.{Told, content_of, after, added, state_of, Calls, Now}
 
 -- at rest there is one image
 pub image_at_rest : (bytes image : List ℕ) → IsImage (at_rest bytes) image → image ≡ bytes
@@ -238,3 +242,77 @@ part_of_failed_cut s to more image part is = record {
   stays = λ i l free. is.stays i (omega (arith, l, part)) free
       ∙ cut_before s.content more i (omega (arith, l, part));
 }
+
+-- what a write that failed leaves, one that was done might leave too
+pub fault_image : (s : State) (at : ℕ) (bytes image : List ℕ) → at ≤ length s.content
+    → s.least ≤ length s.content
+    → IsImage (step s (FailedWrite at (length bytes))) image → IsImage (step s (Write at bytes)) image
+fault_image s at bytes image inside least is = record {
+  no_shorter = is.no_shorter;
+  no_longer = is.no_longer;
+  stays = λ i l free. is.stays i l free ∙ sym (⊎_elim
+      (λ (h : i < min s.first at). written_before s.content at bytes i (omega (arith, h, l, least, inside)))
+      (λ (h : max s.behind (at + length bytes) ≤ i). written_behind s.content at bytes i inside (omega (arith, h)))
+      free);
+}
+
+-- once bytes are written, the disk reaches to their end
+pub reaches_written : (told new : Option Told) (at n : ℕ) (bytes : List ℕ) → new ≡ added (Write at bytes) told
+    → n ≡ length bytes → IfSome told (λ t. at ≤ length (content_of t))
+    → IfSome new (λ t. at + n ≤ length (content_of t))
+reaches_written None new at n bytes is long inside = subst (λ (o : Option Told).
+    IfSome o (λ t. at + n ≤ length (content_of t))) (sym is) tt
+reaches_written (Some told) new at n bytes is long inside =
+    let now = ap (λ (s : State). length s.content) (state-after told (Write at bytes)) in
+    let far : at + n ≤ length (content_of (after (Write at bytes) told)) =
+    omega (arith, now, long, length-written (content_of told) at bytes inside) in
+    subst (λ (o : Option Told). IfSome o (λ t. at + n ≤ length (content_of t))) (sym is) far
+
+-- once bytes are written, the disk reaches to where they begin
+pub reaches_before : (told new : Option Told) (at : ℕ) (bytes : List ℕ) → new ≡ added (Write at bytes) told
+    → IfSome told (λ t. at ≤ length (content_of t)) → IfSome new (λ t. at - 1 ≤ length (content_of t))
+reaches_before told new at bytes is inside =
+    reaches_less new (at + length bytes) (at - 1) (omega arith)
+    (reaches_written told new at (length bytes) bytes is refl inside)
+
+pub rest_stands : (P : List ℕ → Type 0) (bytes : List ℕ) → P bytes → AllImages (at_rest bytes) P
+rest_stands P bytes here image is = subst P (sym (image_at_rest bytes image is)) here
+
+-- what holds of each image holds of what a read gives
+pub of_content : (told : Option Told) (t : Told) (P : List ℕ → Type 0) → IsLeft told P → told ≡ Some t
+    → ReadsAnImage t → P (content_of t)
+of_content told t P left is reads = subst (λ (o : Option Told). IsLeft o P) is left (content_of t) reads
+
+pub empty_image : (t : Told) (image : List ℕ) → state_of t ≡ at_rest [] → IsImage (state_of t) image → image ≡ []
+empty_image t image rest is = image_at_rest [] image (subst (λ s. IsImage s image) rest is)
+
+-- what holds of all that a crash may leave, and what follows from it
+pub left_so : (o : Option Told) (P Q : List ℕ → Type 0) → ((image : List ℕ) → P image → Q image) → IsLeft o P
+    → IsLeft o Q
+left_so None P Q more left = tt
+left_so (Some t) P Q more left = λ image is. more image (left image is)
+
+-- whatever is asked holds of a disk that doesn't tell
+pub silent : (now : Option Told) (P : List ℕ → Type 0) → false ≡ is_some now → Goes None now (λ s. P)
+silent None P same = tt
+silent (Some t) P same = absurd (cc)
+
+-- what lasts during some calls, and each image has before them, each has at each moment of them
+lasts_during : (s : State) (calls : List Call) (P : List ℕ → Type 0) → LastsDuring s calls P → AllImages s P
+    → During s calls P
+lasts_during s [] P lasts here = here
+lasts_during s (call ∷ calls) P lasts here = lasts.0 here
+
+pub lasts_goes : (before after : Option Told) (P : List ℕ → Type 0) → Lasts before after P → IsLeft before P
+    → Goes before after (λ s. P)
+lasts_goes None None P lasts here = tt
+lasts_goes None (Some after) P lasts here = absurd lasts
+lasts_goes (Some before) None P lasts here = absurd lasts
+lasts_goes (Some (Calls before)) (Some (Calls after)) P lasts here = record {
+  more = lasts.more;
+  grown = lasts.grown;
+  each = lasts_during (run before) lasts.more P lasts.each here;
+}
+lasts_goes (Some (Calls before)) (Some (Now after)) P lasts here = absurd lasts
+lasts_goes (Some (Now before)) (Some (Calls after)) P lasts here = absurd lasts
+lasts_goes (Some (Now before)) (Some (Now after)) P lasts here = lasts here

@@ -3,3 +3,4 @@ pub mod Moments
 pub mod Images
 mod Filling
 pub mod Ranges
+pub mod DiskCalls

@@ -1,7 +1,7 @@
 -- How calls follow one another, and how what is known of each moment goes on.
-use Rattle.std.proofs.Common.{◌≡◌, ℕ, List, [], ◌∷◌, ◌++◌, Option, Some, None, IfSome, refl, sym, ap, subst, ◌∙◌, append_assoc, append-nil}
-use Rattle.dr_disk.specs.Calls.{Call, State, step, run_from, run}
-use Rattle.dr_disk.specs.Disk.{Told, Calls, Now, state_of, after}
+use Rattle.std.proofs.Common.{◌≡◌, ℕ, List, [], ◌∷◌, ◌++◌, Option, Some, None, IfSome, refl, sym, ap, subst, ◌∙◌, append_assoc, append-nil, ◌-◌, ◌≤◌, length, arith}
+use Rattle.dr_disk.specs.Calls.{Call, State, step, run_from, run, Sync}
+use Rattle.dr_disk.specs.Disk.{Told, Calls, Now, state_of, after, content_of, added}
 use Rattle.dr_disk.specs.Images.{AllImages, During, WentBy, Went, Goes, IsLeft, LastsDuring, LastsBy, LastsFrom, Lasts}
 
 -- calls behind others begin where these end
@@ -224,3 +224,43 @@ lasts_then (Some before) (Some mid) (Some after) P first next = lasts_from_both 
 pub lasts_still : (told : Option Told) (P : List ℕ → Type 0) → Lasts told told P
 lasts_still None P = tt
 lasts_still (Some told) P = lasts_by told [] P tt
+
+-- a sync leaves it as long as it was
+pub reaches_synced : (told new : Option Told) (far at : ℕ) → new ≡ added Sync told → at ≤ far
+    → IfSome told (λ t. far ≤ length (content_of t)) → IfSome new (λ t. at ≤ length (content_of t))
+reaches_synced None new far at is less reaches = subst (λ (o : Option Told).
+    IfSome o (λ t. at ≤ length (content_of t))) (sym is) tt
+reaches_synced (Some told) new far at is less reaches =
+    let now = ap (λ (s : State). length s.content) (state-after told Sync) in
+    let long : at ≤ length (content_of (after Sync told)) = omega (arith, now, less, reaches) in
+    subst (λ (o : Option Told). IfSome o (λ t. at ≤ length (content_of t))) (sym is) long
+
+-- what a read gives after one call more
+pub content-after : (told : Told) (call : Call) → content_of (after call told) ≡
+    (step (state_of told) call).content
+content-after told call = ap (λ (s : State). s.content) (state-after told call)
+
+pub synced_content : (t : Told) → content_of (after Sync t) ≡ content_of t
+synced_content t = content-after t Sync
+
+pub length_told : (told : Option Told) (n : ℕ) → IfSome (added Sync told)
+    (λ t. n ≡ length (content_of t)) → n ≤ 9
+    → IfSome told (λ t. length (content_of t) ≤ 9)
+length_told None n long small = tt
+length_told (Some t) n long small = omega (arith, long, small, ap length (synced_content t))
+
+-- and after these calls
+pub content-after_all : (told : Told) (calls : List Call) → content_of (after_all calls told) ≡
+    (run_from (state_of told) calls).content
+content-after_all told calls = ap (λ (s : State). s.content) (state-after_all told calls)
+
+-- two spans of time are one
+pub goes_both : (before mid after : Option Told) (P : List ℕ → Type 0) → Goes before mid (λ s. P)
+    → Goes mid after (λ s. P) → Goes before after (λ s. P)
+goes_both before mid after P first next =
+    goes_on before mid after (λ s. P) (λ s. P) (λ s. P) (λ t image told here. here)
+    (λ t u image told then here. here) first next
+
+pub goes_so : (before after : Option Told) (P Q : List ℕ → Type 0) → ((image : List ℕ) → P image → Q image)
+    → Goes before after (λ s. P) → Goes before after (λ s. Q)
+goes_so before after P Q f goes = Goes-weaken before after (λ s. P) (λ s. Q) (λ s. f) goes

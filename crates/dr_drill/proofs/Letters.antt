@@ -3,11 +3,10 @@ use Rattle.std.proofs.Common.{◌≡◌, ℕ, zero, suc, ◌+◌, ◌*◌, ◌<�
 use Rattle.std.proofs.lemmas.List.FromFn.{fill_by_all, map-range_with_len_more}
 use Rattle.std.specs.Prelude.{map}
 use Rattle.std.specs.List.{range_with_len}
+use Rattle.dr_entry.proofs.NumberFacts.{moved}
+use Rattle.dr_entry.proofs.ListFacts.{same_map}
 use Rattle.dr_program.specs.Schedule.{choice_of, next_state}
 use Rattle.dr_drill.specs.Drill.{letter, message, messages_of_member, state_after}
-
-pub moved : {X : Type 0} (f : ℕ → X) (a b : ℕ) → a ≡ b → f a ≡ f b
-moved f a b is = ap f is
 
 -- the states go on from each
 pub state_after-add : (x a b : ℕ) → state_after (state_after x a) b ≡ state_after x (a + b)
@@ -35,16 +34,6 @@ state_after-none x = refl
 pub letter-add : (x a n : ℕ) → letter (state_after x a) n ≡ letter x (a + n)
 unfolding letter
 letter-add x a n = ap (λ s. 97 + choice_of (next_state s) 26) (state_after-add x a n)
-
--- two lists of values alike
-same_map : {X : Type 0} (f g : ℕ → X) (a b n : ℕ) → ((k : ℕ) → f (a + k) ≡ g (b + k))
-    → map f (range_with_len a n) ≡ map g (range_with_len b n)
-same_map f g a b zero same = refl
-same_map f g a b (suc n) same =
-    let here = moved f a (a + 0) (omega arith) ∙ same 0 ∙ moved g (b + 0) b (omega arith) in
-    let rest = same_map f g (a + 1) (b + 1) n (λ k. moved f (a + 1 + k) (a + (k + 1)) (omega arith)
-    ∙ same (k + 1) ∙ moved g (b + (k + 1)) (b + 1 + k) (omega arith)) in
-    λ i. here i ∷ rest i
 
 pub message-add : (x k j : ℕ) → message (state_after x (32 * k)) j ≡ message x (k + j)
 unfolding message

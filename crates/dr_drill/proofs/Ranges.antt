@@ -1,20 +1,13 @@
 -- A drill keeps the rules of a script.
-use Rattle.std.proofs.Common.{◌≡◌, ℕ, ◌+◌, ◌*◌, ◌<◌, ◌≤◌, List, [], ◌∷◌, length, refl, sym, subst, arith, inr}
+use Rattle.std.proofs.Common.{◌≡◌, ℕ, ◌*◌, ◌<◌, ◌≤◌, List, [], ◌∷◌, length, arith, inr}
 use Rattle.std.proofs.lemmas.List.Elements.{All-cons}
-use Rattle.std.proofs.lemmas.List.FromFn.{get_or-map-range_with_len, length-map-range_with_len}
-use Rattle.std.specs.Prelude.{All, map}
-use Rattle.std.specs.List.{range_with_len}
+use Rattle.std.proofs.lemmas.List.FromFn.{length-map-range_with_len}
+use Rattle.std.specs.Prelude.{All}
 use Rattle.dr_entry.specs.declared.limits.TheConstants.{MAX_MESSAGE_LENGTH, MAX_MESSAGES}
+use Rattle.dr_entry.proofs.ListParts.{all_map}
 use Rattle.dr_script.specs.Ranges.{HasFaultRanges, HasRanges}
 use Rattle.dr_drill.specs.Drill.{early_crash, drill, letter, message, messages_of_member}
 use Rattle.dr_drill.proofs.Letters.{letter-most}
-
--- what is true of each value
-all_map : {X : Type 0} (f : ℕ → X) (P : X → Type 0) → ((k : ℕ) → P (f k)) → (a n : ℕ)
-    → All P (map f (range_with_len a n))
-all_map f P holds a n k d within =
-    subst P (sym (get_or-map-range_with_len f a n k (a + k) d (omega (arith, length-map-range_with_len f a n))
-    refl)) (holds (a + k))
 
 letters : (seed k : ℕ) → All (λ byte. byte < 256) (message seed k)
 unfolding message

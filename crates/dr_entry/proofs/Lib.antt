@@ -1,3 +1,16 @@
 pub mod Trims
 pub mod Fields
 pub mod RoundTrip
+pub mod ListFacts
+pub mod ListPlaces
+pub mod ListParts
+pub mod BoolFacts
+pub mod Ends
+pub mod OptionFacts
+pub mod NumberFacts
+pub mod PlainFacts
+pub mod Records
+pub mod Texts
+pub mod Entries
+pub mod Bits
+pub mod Items

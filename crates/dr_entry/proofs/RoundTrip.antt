@@ -541,3 +541,20 @@ accepted bytes result fits is r n = (
       is ∙ ap decoded parts ∙ decoded_again r (drop n bytes) s.valid s.fits
       ∙ ap (λ (m : ℕ). ok (r, m)) (sym s.count),
 )
+
+-- spellings with whatever behind them are those of one record
+pub one_record : (r s : Record) (x y : List ℕ) → IsValid r → Fits r → IsValid s → Fits s
+    → spelling r ++ x ≡ spelling s ++ y → r ≡ s
+one_record r s x y vr fr vs fs same =
+    let first = decoded_again r x vr fr in
+    let second = decoded_again s y vs fs in
+    let alike : ◌≡◌ {A = Result (Record × ℕ) DecodeFault} (Ok (r, length (spelling r)))
+    (Ok (s, length (spelling s))) = sym first ∙ ap decoded same ∙ second in
+    let pairs : ◌≡◌ {A = Record × ℕ} (r, length (spelling r)) (s, length (spelling s)) = cc in
+    ap (λ (x : Record × ℕ). x.0) pairs
+
+-- bytes begin with the spelling of one record
+pub one_spelled : (bytes : List ℕ) (r s : Record) (n m : ℕ) → Spells bytes r n → Spells bytes s m → r ≡ s
+one_spelled bytes r s n m a b = one_record r s (drop n bytes) (drop m bytes) a.valid a.fits b.valid b.fits
+    (ap (λ (l : List ℕ). l ++ drop n bytes) (sym a.front) ∙ take-append-drop n bytes
+    ∙ sym (ap (λ (l : List ℕ). l ++ drop m bytes) (sym b.front) ∙ take-append-drop m bytes))

@@ -9,6 +9,7 @@ use Rattle.dr_entry.specs.declared.reading.DecodeFault.TheVariants.{Short}
 use Rattle.dr_entry.specs.declared.record.Vote.{Vote}
 use Rattle.dr_entry.specs.Spelling.{vote_spelling}
 use Rattle.dr_entry.specs.Grammar.{Field, free, number_at, first_fault, trim_fields, trims_at}
+use Rattle.dr_entry.specs.declared.limits.TheConstants.{MAX_MEMBERS}
 
 -- the fields of the trims from i on
 abbrev pub trims_left : ℕ → ℕ → List Field
@@ -87,6 +88,15 @@ vote_length v places few = omega (
   length-append (3 ∷ to_be_bytes w16 v.age ++ v.view ∷ v.ballot
       ∷ to_be_bytes w16 v.value.leavers)
       (v.members ∷ flat_map (to_be_bytes w32) (take v.members v.value.trim)),
+  counts_length (take v.members v.value.trim),
+  length-take v.members v.value.trim,
+)
+
+-- a vote has a short block
+pub short_vote : (v : Vote) → v.members ≤ MAX_MEMBERS → 1 + length (vote_spelling v) ≤ 73
+short_vote v few = omega (
+  arith,
+  few,
   counts_length (take v.members v.value.trim),
   length-take v.members v.value.trim,
 )

@@ -4,7 +4,7 @@ use Rattle.std.specs.Prelude.{◌-◌, None, Option, Some, drop, slice_index_or,
 use Rattle.std.proofs.lemmas.List.Elements.{All-contains_itself, All-drop, All-push, All-take, All-weaker, Contains-append_left, Contains-append_right, Contains-push}
 use Rattle.std.proofs.lemmas.List.{get_or_default}
 use Rattle.dr_age.specs.Sound.{IsSound}
-use Rattle.dr_age.proofs.Deeds.{after_append, any_outcome, deed_tells}
+use Rattle.dr_age.proofs.Deeds.{any_outcome, deed_tells}
 use Rattle.dr_entry.specs.declared.record.Record.{Record}
 use Rattle.dr_logged.specs.Appended.{is_append}
 use Rattle.dr_machine.specs.Group.{Group}
@@ -27,6 +27,7 @@ use Rattle.dr_program_laws.proofs.Keeping.{move_kept, sees}
 use Rattle.dr_program_laws.specs.Carried.{IsCarried}
 use Rattle.dr_refine.proofs.Deeds.{append_gives, append_stores, step_is}
 use Rattle.dr_words.specs.Layout.{words_of}
+use Rattle.dr_program.proofs.Programs.{after_append}
 use Rattle.dr_examples.specs.Led.{LettersByNumber, over}
 
 -- the member that was read stands there

@@ -15,6 +15,7 @@ use Rattle.dr_history.specs.Order.{first_entries, messages_from}
 use Rattle.dr_history.specs.Places.{first, front_of}
 use Rattle.dr_history.specs.Soundness.{Sound}
 use Rattle.dr_history.specs.declared.opening.Opening.{Opening}
+use Rattle.dr_history.proofs.Bits.{has_zero}
 use Rattle.dr_history_laws.proofs.Lengths.{start-short}
 use Rattle.dr_machine.proofs.Presence.{is_there}
 use Rattle.dr_machine.specs.Group.{Group, IsGroup, roster}
@@ -24,7 +25,6 @@ use Rattle.dr_faithful.specs.Faithful.{Faithful}
 use Rattle.dr_faithful.specs.Tells.{Tells, Views, WordsTell}
 use Rattle.dr_words.proofs.Accepts.{accept_within}
 use Rattle.dr_words.specs.declared.column.TheConstants.{LOGGED_COLUMN}
-use Rattle.dr_words.proofs.Bits.{has_zero}
 use Rattle.dr_words.specs.Accepts.{part_of}
 use Rattle.dr_words.specs.Columns.{head_column, leavers_column, recv_column, trim_column}
 use Rattle.dr_words.specs.Form.{IsInForm}

@@ -10,7 +10,7 @@ use Rattle.dr_history.specs.History.{last_view}
 use Rattle.dr_history.specs.Members.{has}
 use Rattle.dr_machine.specs.Acts.{CanDo, CanTake, Guard, does, effect, effect_of}
 use Rattle.dr_machine.specs.Effects.{appends, logs_vote, puts, stamped, finishes, finishes_by, stamped_in, welcomes}
-use Rattle.dr_machine.specs.Group.{Group, IsGroup, roster}
+use Rattle.dr_machine.specs.Group.{Group, IsGroup, roster, IsPresent}
 use Rattle.dr_machine.specs.Guards.{IsInView, IsOther, IsRunning, next_index}
 use Rattle.dr_machine.specs.Run.{NoLaterItem, PastGrew, WordsGrew}
 use Rattle.dr_machine.specs.World.{World, items_received, no_value, opening_world}
@@ -38,6 +38,7 @@ use Rattle.dr_faithful.specs.Faithful.{AllGoOn, Faithful}
 use Rattle.dr_faithful.specs.Tells.{TellsPiece, Views, item_named, item_sent, part_column}
 use Rattle.dr_words.proofs.Order.{HasGrown_same, HasGrown_trans}
 use Rattle.dr_words.specs.Packing.{ring_tag}
+use Rattle.dr_machine.proofs.Presence.{in_roster}
 
 -- what holds of a member that has committed a value holds of the value that it takes
 pub committed_is : (w : World) (m : ℕ) (x : Value) (P : World → Type 0) (g : Group)
@@ -258,3 +259,10 @@ none_later g V w is f m s part l other p =
       later_tag g V w m s part _ is f l other
           ((f.words.seen m s column).ring (items_received w m s % g.window) part slot p refl),
     )
+
+-- only members that are there have events, and these are of the roster
+pub of_present : (g : Group) (w : World) (e : Event) → Guard g w e → IsPresent g (member_of e)
+of_present g w e can = (step_alive g w (member_of e) (step_of e) can).present
+
+pub of_roster : (g : Group) (w : World) (e : Event) → IsGroup g → Guard g w e → member_of e < roster g
+of_roster g w e is can = in_roster g (member_of e) is (of_present g w e can)

@@ -13,6 +13,7 @@ use Rattle.dr_history.specs.History.{IsPrefixOf, last_view, messages_of, up_to_v
 use Rattle.dr_history.specs.Members.{has}
 use Rattle.dr_history.specs.Order.{IsNewIn, messages_from}
 use Rattle.dr_history.specs.Places.{rest_places}
+use Rattle.dr_history.proofs.Bits.{has_zero}
 use Rattle.dr_machine.specs.Effects.{counts_by, enters, entries_of, finished_history, finishes_by, joins, sender_at, with_place}
 use Rattle.dr_machine.specs.Group.{Group, IsGroup, IsPresent, roster}
 use Rattle.dr_machine.specs.Guards.{MayChoose}
@@ -27,7 +28,6 @@ use Rattle.dr_faithful.proofs.Pasts.{past_same, prefix_on, prefix_refl, prefix_s
 use Rattle.dr_faithful.proofs.Writes.{at_both, at_case, at_three, at₃_case, at₃_column, at₃_member, at₃_view}
 use Rattle.dr_faithful.specs.Faithful.{AreAccepts, AreCounts, AreDelivered, AreSuspicions, Faithful, GoesOnWell, HaveStayed, IsClosed, IsLateBeat, StandsOnLogs, IsWaiting, JoinsWell, Numbers}
 use Rattle.dr_faithful.specs.Tells.{Tells, Views, item_sent}
-use Rattle.dr_words.proofs.Bits.{has_zero}
 use Rattle.dr_words.proofs.Forms.{form_zero, form_free, grown_zero}
 use Rattle.dr_words.proofs.Masks.{has_next_members}
 use Rattle.dr_words.proofs.Order.{HasGrown_refl}

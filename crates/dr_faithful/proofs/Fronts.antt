@@ -5,8 +5,8 @@ use Rattle.std.proofs.lemmas.Option.{slice_get_within}
 use Rattle.dr_history.proofs.Fronts.{front_more}
 use Rattle.dr_history.specs.Members.{has, members_below, members_of}
 use Rattle.dr_history.specs.Places.{front_of}
+use Rattle.dr_history.proofs.Ranks.{at_rank_of}
 use Rattle.dr_machine.specs.Writes.{at}
-use Rattle.dr_words.proofs.Ranks.{at_rank_of}
 
 -- a member's view has members
 pub some_members : (mask m : ℕ) → m < 16 → has mask m ≡ true → 0 < length (members_of mask)

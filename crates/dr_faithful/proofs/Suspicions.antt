@@ -4,6 +4,7 @@ use Rattle.std.proofs.lemmas.Bool.{cases_eq}
 use Rattle.dr_entry.specs.declared.record.Vote.{Vote}
 use Rattle.dr_history.specs.Members.{has}
 use Rattle.dr_history.specs.Order.{IsNewIn}
+use Rattle.dr_history.proofs.Bits.{has_zero}
 use Rattle.dr_machine.specs.Effects.{suspects}
 use Rattle.dr_machine.specs.Group.{Group, IsGroup, roster}
 use Rattle.dr_machine.specs.Guards.{CanSuspect, IsNamable, IsOther, MayChoose, unsuspected_of}
@@ -17,7 +18,6 @@ use Rattle.dr_faithful.proofs.Pasts.{same_past, tells_later, tells_recv, tells_a
 use Rattle.dr_faithful.proofs.Writes.{at_case, at_other, at_same, at₂_case, at₂_read}
 use Rattle.dr_faithful.specs.Faithful.{AllGoOn, AreAccepts, AreCounts, AreSuspicions, Faithful, IsWaiting, Numbers}
 use Rattle.dr_faithful.specs.Tells.{SuspicionsTold, Tells, TellsSuspicion, Views, WordsTell}
-use Rattle.dr_words.proofs.Bits.{has_zero}
 use Rattle.dr_words.proofs.Masks.{IsSuspecting, has_with_member, has_without_mask, in_roster_small, least_of_is, left_rises, left_within, more_grows, more_has, more_named, more_trusted, without_small}
 use Rattle.dr_words.proofs.Order.{HasGrown_refl, HasGrown_trans}
 use Rattle.dr_words.proofs.Rewrites.{recv_within, wedged_by, wedged_count, wedged_final, wedged_grown, wedged_in_form, wedged_promise, wedged_rest, wedged_tag, wedged_value}

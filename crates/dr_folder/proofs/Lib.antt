@@ -1,6 +1,5 @@
 mod Advising
 mod Fronts
 mod Refusing
-mod Saying
 mod Taking
 mod Reading

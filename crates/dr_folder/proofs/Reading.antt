@@ -4,6 +4,7 @@ use Rattle.std.specs.Prelude.{IsSomeAnd, None, Option, Some, is_some}
 use Rattle.dr_ages.specs.declared.stop.Stop.TheVariants as stops
 use Rattle.dr_ages.specs.Refused.{AreRead, IsFirstDamaged, IsRefusal}
 use Rattle.dr_disk.specs.Disk.{Told, content_of}
+use Rattle.dr_history.proofs.Bits.{has_zero}
 use Rattle.dr_folder.specs.Held.{HoldFiles, IsDiskOf}
 use Rattle.dr_folder.specs.declared.file.LogFile.{LogFile}
 use Rattle.dr_folder.specs.declared.file.LogFile.TheVariants.{Missing, Unread, Bytes}
@@ -15,7 +16,6 @@ use Rattle.dr_restart.specs.declared.start.Start.{Start}
 use Rattle.dr_restart.specs.Groups.{first_group_of}
 use Rattle.dr_script.specs.declared.script.Script.{Script}
 use Rattle.dr_text.specs.declared.last.Last.TheVariants as lasts
-use Rattle.dr_words.proofs.Bits.{has_zero}
 use Rattle.dr_yard.specs.Yards.{YardState}
 
 -- a disk reads as the log that its file is taken for

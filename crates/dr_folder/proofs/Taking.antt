@@ -1,13 +1,12 @@
 -- What is known of each file of a folder, by member, as one more is looked at, and of files of which one is put
 -- back.
-use Rattle.std.proofs.Common.{◌≡◌, ◌⊎◌, inl, inr, sym, ap, ◌∙◌, subst, arith, ℕ, ◌+◌, ◌<◌, ◌≤◌, true, List, [], ◌∷◌, ◌++◌, length, get_or, length-append, Option, None, Some, is_some}
-use Rattle.std.specs.Prelude.{option_map, slice_get, slice_index_or, slice_set}
-use Rattle.std.proofs.lemmas.Bool.{cases_lt}
-use Rattle.std.proofs.lemmas.List.{get_or_append_left, get_or_push, map-append, set-get_or, set-set}
+use Rattle.std.proofs.Common.{◌≡◌, ◌⊎◌, inl, inr, sym, ap, ◌∙◌, subst, arith, ℕ, ◌+◌, ◌<◌, true, List, [], ◌∷◌, ◌++◌, length, get_or, length-append, Option, Some, is_some}
+use Rattle.std.specs.Prelude.{option_map, slice_get, slice_set}
+use Rattle.std.proofs.lemmas.List.{map-append, set-get_or, set-set}
 use Rattle.std.proofs.lemmas.Option.{same_Some}
+use Rattle.dr_entry.proofs.ListPlaces.{within_places, pushed_cases}
 use Rattle.dr_log.specs.State.{LogState}
 use Rattle.dr_log_bytes.specs.Content.{OnLog}
-use Rattle.dr_opening.proofs.Lists.{within_places}
 use Rattle.dr_opening.specs.Lists.{contents_of}
 use Rattle.dr_opening.specs.Tries.{content_at}
 use Rattle.dr_folder.specs.declared.file.LogFile.{LogFile}
@@ -19,20 +18,6 @@ use Rattle.dr_folder.specs.Surveys.{IsSurvey}
 pub record AreFirstSurveys (n : ℕ) (files : List LogFile) (surveys : List Survey) : Type 0 where
   pub count : length surveys ≡ n
   pub each : (m : ℕ) (survey : Survey) → slice_get surveys m ≡ Some survey → IsSurvey (file_in files m) survey
-
--- what is in each place of a list, one of which was put behind it
-pushed_cases : {X : Type 0} (xs : List (Option X)) (y : Option X) (m n : ℕ) → length xs ≡ n → m < n + 1
-    → ((m < n) × (slice_index_or (xs ++ y ∷ []) m None ≡ slice_index_or xs m None))
-    ⊎ ((m ≡ n) × (slice_index_or (xs ++ y ∷ []) m None ≡ y))
-pushed_cases xs y m n long below = by (cases_lt m n)
-  where
-    by : (m < n) ⊎ (n ≤ m)
-        → ((m < n) × (slice_index_or (xs ++ y ∷ []) m None ≡ slice_index_or xs m None))
-        ⊎ ((m ≡ n) × (slice_index_or (xs ++ y ∷ []) m None ≡ y))
-    by (inl less) = inl (less, get_or_append_left xs (y ∷ []) None m (omega (arith, less, long)))
-    by (inr more) =
-        let same : n ≡ m = omega (arith, below, more) in
-        inr (sym same, get_or_push xs y None m (long ∙ same))
 
 -- one more file is taken for a log
 pub taken_more : (n : ℕ) (files : List LogFile) (contents : List (Option OnLog)) (c : OnLog)

@@ -1,11 +1,12 @@
 -- What it makes of a replica that it votes, accepts a value or commits one: its words have grown, and it
 -- keeps its form.
-use Rattle.std.proofs.Common.{◌≡◌, ℕ, ◌+◌, ◌*◌, ◌^◌, ◌<◌, ◌≤◌, ◌⊎◌, inl, inr, true, false, List, [], ◌∷◌, ◌++◌, length, Option, None, Some, unwrap_or, refl, sym, ap, subst, ◌∙◌, arith}
+use Rattle.std.proofs.Common.{◌≡◌, ℕ, ◌+◌, ◌*◌, ◌^◌, ◌<◌, ◌≤◌, ◌⊎◌, inl, inr, true, false, List, [], ◌∷◌, ◌++◌, length, Option, None, Some, unwrap_or, refl, sym, ap, subst, ◌∙◌, arith, is_some}
 use Rattle.std.proofs.lemmas.Bool.{and_parts}
 use Rattle.std.proofs.lemmas.List.{length_push}
 use Rattle.std.proofs.lemmas.Option.{same_Some}
 use Rattle.dr_entry.specs.declared.record.Value.{Value}
 use Rattle.dr_entry.specs.declared.record.Vote.{Vote}
+use Rattle.dr_entry.proofs.NumberFacts.{same_number}
 use Rattle.dr_rows.proofs.Rewrites.{IsWords-rewritten, own_rewritten}
 use Rattle.dr_rows.specs.Words.{own, rewritten}
 use Rattle.dr_words.proofs.Accepts.{FitsWords, accept_within, leavers_accept}
@@ -19,10 +20,10 @@ use Rattle.dr_words.specs.declared.column.TheConstants.{BEAT_COLUMN, LOGGED_COLU
 use Rattle.dr_ring.specs.Slots.{slot_column}
 use Rattle.dr_machine.specs.World.{no_vote}
 use Rattle.dr_program.proofs.Voting.{promise_within, vote_due, wedged_inside}
-use Rattle.dr_program.proofs.OwnWords.{same_number}
 use Rattle.dr_form.proofs.Beside.{beside_form}
 use Rattle.dr_program.specs.Form.{HasForm, IsVoteDue, waiting}
-use Rattle.dr_program.specs.Replica.{Replica, accepted, decided, is_inside, is_others, is_own, is_wedged, may_vote, me, promise, vote_of, voted}
+use Rattle.dr_program.specs.Replica.{Replica, accepted, decided, is_inside, is_others, is_own, is_wedged, may_vote, me, promise, vote_of, voted, least_seen}
+use Rattle.dr_program.proofs.Least.{grown_received}
 
 -- ---- what is noted beside the words
 
@@ -206,3 +207,16 @@ own_waits me (Some x) e = (x, refl)
 pub others_wait : (me : ℕ) (o : Option Vote) → is_others me o ≡ true → (x : Vote) × (o ≡ Some x)
 others_wait me None e = absurd (cc e)
 others_wait me (Some x) e = (x, refl)
+
+-- where one's own vote waits, or another's, one does
+pub own_is_there : (me : ℕ) (o : Option Vote) → is_own me o ≡ true → is_some o ≡ true
+own_is_there me o e = let x = own_waits me o e in ap is_some x.1
+
+pub others_is_there : (me : ℕ) (o : Option Vote) → is_others me o ≡ true → is_some o ≡ true
+others_is_there me o e = let x = others_wait me o e in ap is_some x.1
+
+-- nor where a value is accepted
+pub accepted_received : (r : Replica) (x : Vote) → HasForm r → r.pending ≡ Some x
+    → least_seen r RECEIVED_COLUMN ≤ least_seen (accepted r) RECEIVED_COLUMN
+accepted_received r x form e =
+    grown_received r (accepted r) r.rows.frozen r.rows.frozen refl (accepted_grown r x form e)

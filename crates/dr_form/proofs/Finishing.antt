@@ -7,28 +7,32 @@ use Rattle.std.proofs.Math.Nat.{suc-mul}
 use Rattle.dr_entry.specs.declared.entry.Entry.{Entry}
 use Rattle.dr_entry.specs.declared.record.Value.{Value}
 use Rattle.dr_entry.specs.declared.record.Vote.{Vote}
+use Rattle.dr_entry.proofs.ListPlaces.{copy_at}
+use Rattle.dr_entry.proofs.NumberFacts.{other_number}
 use Rattle.dr_history.specs.Members.{has}
 use Rattle.dr_history.specs.History.{last_view}
 use Rattle.dr_form.specs.Letters.{IsFitting}
 use Rattle.dr_history.specs.Order.{messages_from}
+use Rattle.dr_history.proofs.Places.{front_of_none}
+use Rattle.dr_history.proofs.Bits.{has_zero}
+use Rattle.dr_history.proofs.Masks.{has_within}
 use Rattle.dr_machine.specs.World.{no_value}
 use Rattle.dr_program.specs.Form.{HasForm, waiting}
 use Rattle.dr_program.specs.Replica.{LeftView, Replica, count, entered, finished, finished_by, finished_history, gave, greatest, is_inside, joined, left_now, may_end, may_finish, me, nothing_left, members_in_view}
 use Rattle.dr_program.proofs.Finishing.{finished_more}
-use Rattle.dr_program.proofs.Opening.{copy_at, first_own}
-use Rattle.dr_program.proofs.OpeningForm.{first_in_form, front_of_none, no_part}
-use Rattle.dr_program.proofs.OwnWords.{other_number}
+use Rattle.dr_program.proofs.Opening.{first_own}
 use Rattle.dr_program.proofs.Voting.{promise_within}
 use Rattle.dr_words.proofs.Accepts.{accept_within}
 use Rattle.dr_ring.specs.Slots.{slot_column}
 use Rattle.dr_rows.specs.Words.{begun, own}
 use Rattle.dr_rows.proofs.WordsLemmas.{IsFresh-begun, IsWords-begun, IsWords-looked}
-use Rattle.dr_words.proofs.Bits.{has_zero}
-use Rattle.dr_words.proofs.Masks.{has_next_members, has_within, next_members_within, with_member_small}
+use Rattle.dr_words.proofs.Masks.{has_next_members, next_members_within, with_member_small}
 use Rattle.dr_words.specs.Masks.{IsInRoster, next_members}
 use Rattle.dr_words.specs.Columns.{recv_column}
 use Rattle.dr_words.specs.Packing.{accept_promise, accept_tag, accept_value, recv_word}
 use Rattle.dr_words.specs.declared.column.TheConstants.{LOGGED_COLUMN, RECEIVED_COLUMN, SUSPECTED_COLUMN}
+use Rattle.dr_words.proofs.Layouts.{first_in_form}
+use Rattle.dr_machine.proofs.Worlds.{no_part}
 
 -- where no vote waits, none does
 pub none_waits : (pending : Option Vote) → not (is_some pending) ≡ true → pending ≡ None

@@ -1,18 +1,23 @@
 -- One item more of a member: its count, the front, and the own words that follow.
-use Rattle.std.proofs.Common.{◌≡◌, ◌≢◌, ℕ, ◌<◌, ◌≤◌, inl, inr, false, List, length, map, get_or, set, slice_index, sym, subst, ◌∙◌, arith}
+use Rattle.std.proofs.Common.{◌≡◌, ◌≢◌, ℕ, ◌<◌, ◌≤◌, inl, inr, false, List, length, map, get_or, set, slice_index, sym, subst, ◌∙◌, arith, ◌+◌, ◌*◌, le_refl, le_trans}
 use Rattle.std.proofs.lemmas.Bool.{cases_eq}
 use Rattle.std.proofs.lemmas.Bool.Decides.{nat_tests}
 use Rattle.std.proofs.lemmas.List.{get_or-set_same, get_or-set_other, get_or-map, length-map}
+use Rattle.std.proofs.Math.Nat.{suc-mul}
+use Rattle.std.proofs.lemmas.Nat.{mul-le}
+use Rattle.dr_entry.specs.declared.entry.Item.{Item}
+use Rattle.dr_entry.specs.declared.entry.Item.TheVariants.{Null}
 use Rattle.dr_history.specs.Places.{front_of}
 use Rattle.dr_history.proofs.Fronts.{front_more}
 use Rattle.dr_rows.specs.Words.{Words, own, with_own}
+use Rattle.dr_rows.proofs.Grids.{own_left}
 use Rattle.dr_words.specs.declared.column.TheConstants.{RECEIVED_COLUMN}
 use Rattle.dr_words.specs.Columns.{recv_column}
 use Rattle.dr_words.specs.Grown.{HasGrown, Grown}
 use Rattle.dr_words.specs.Packing.{recv_word}
 use Rattle.dr_words.proofs.Order.{Grown_trans}
 use Rattle.dr_words.proofs.Forms.{form_free, form_recv, grown_free, grown_recv}
-use Rattle.dr_words.proofs.Tables.{IsTable, table_set, own_written, own_left, set_grown}
+use Rattle.dr_words.proofs.Tables.{IsTable, table_set, own_written, set_grown}
 
 -- no count falls
 pub counts_rise : (counts : List ℕ) (s c j : ℕ) → s < length counts → get_or counts s 0 ≤ c
@@ -98,3 +103,18 @@ shown_grown n window w s old count front t within small is more rises =
     (form_recv n s (recv_word count false) within (omega arith)))
     (omega arith) (grown_free n RECEIVED_COLUMN (own mid RECEIVED_COLUMN) front
     (inl (omega arith, omega arith)) (omega (arith, left, rises))))
+
+-- behind the items of all members there are nulls with an item more too
+pub nulls_after : (counts : List ℕ) (items : List Item) (roster s c : ℕ) (item : Item) → s < length counts
+    → s < roster → get_or counts s 0 ≤ c
+    → ((k : ℕ) → ((j : ℕ) → get_or counts j 0 * roster ≤ k) → get_or items k Null ≡ Null)
+    → (k : ℕ) → ((j : ℕ) → get_or (set counts s (c + 1)) j 0 * roster ≤ k)
+    → get_or (set items (c * roster + s) item) k Null ≡ Null
+nulls_after counts items roster s c item there within le nulls k behind =
+    let mine = behind s in
+    let new = get_or-set_same counts s (c + 1) 0 there in
+    let past : (c + 1) * roster ≤ k = rw new at mine in
+    get_or-set_other items (c * roster + s) k item Null
+    (λ e. absurd (omega (arith, past, e, suc-mul c roster)))
+    ∙ nulls k (λ j. le_trans (mul-le (get_or counts j 0) roster (get_or (set counts s (c + 1)) j 0) roster
+    (counts_rise counts s (c + 1) j there (omega (arith, le))) (le_refl roster)) (behind j))

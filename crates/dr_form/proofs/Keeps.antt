@@ -1,5 +1,5 @@
 -- Each act of a replica keeps its form, and its words grow.
-use Rattle.std.proofs.Common.{◌≡◌, ◌≢◌, ℕ, ◌+◌, ◌*◌, ◌^◌, ◌<◌, ◌≤◌, ◌⊎◌, inl, inr, true, suc, List, [], ◌∷◌, ◌++◌, length, map, get_or, set, slice_index, Option, Some, is_some, unwrap_or, not, nat_lt, ◌&&◌, ◌==◌, length-append, refl, sym, ap, subst, ◌∙◌, arith, false}
+use Rattle.std.proofs.Common.{◌≡◌, ◌≢◌, ℕ, ◌+◌, ◌*◌, ◌^◌, ◌<◌, ◌≤◌, ◌⊎◌, inl, inr, true, suc, List, [], ◌∷◌, ◌++◌, length, map, get_or, set, slice_index, Option, Some, is_some, unwrap_or, not, nat_lt, ◌&&◌, ◌==◌, length-append, refl, sym, ap, subst, ◌∙◌, arith, false, zero, Bool, le_trans}
 use Rattle.std.specs.List.{list_any}
 use Rattle.std.proofs.lemmas.Bool.{cases_eq, cases_lt, and_parts, ltb-true, eqb-false, not-true, or_cases}
 use Rattle.std.proofs.lemmas.Bool.Decides.{nat_tests}
@@ -13,39 +13,46 @@ use Rattle.dr_entry.specs.declared.end.End.{End}
 use Rattle.dr_entry.specs.declared.end.SentItem.{SentItem}
 use Rattle.dr_entry.specs.declared.end.SentItem.TheVariants as sent_items
 use Rattle.dr_entry.specs.declared.end.SentItem.TheVariants.{Index}
+use Rattle.dr_entry.proofs.ListPlaces.{count_max}
 use Rattle.dr_history.specs.Members.{has}
 use Rattle.dr_history.specs.History.{messages_in}
 use Rattle.dr_history.specs.Places.{front_of}
-use Rattle.dr_history.proofs.Fronts.{count_max}
+use Rattle.dr_history.proofs.Histories.{messages_within}
+use Rattle.dr_history.proofs.Ranks.{some_member}
 use Rattle.dr_ring.specs.Slots.{slot_column, IsFree, is_free, with_item}
 use Rattle.dr_ring.proofs.Freedom.{IsFree-from_test}
 use Rattle.dr_words.specs.Masks.{IsInRoster}
 use Rattle.dr_rows.specs.Words as rows
-use Rattle.dr_rows.specs.Words.{Words, own, seen, with_own}
+use Rattle.dr_rows.specs.Words.{Words, own, seen, with_own, changed}
 use Rattle.dr_rows.proofs.WordsLemmas.{IsWords-pushed}
+use Rattle.dr_rows.proofs.Grids.{own_left, own_seen, with_word-column}
+use Rattle.dr_rows.proofs.Along.{push_is, push_is_none}
+use Rattle.dr_rows.specs.Along.{Pushes, pushed_along, with_push}
 use Rattle.dr_words.specs.Rewrites.{is_accept_of}
 use Rattle.dr_words.specs.declared.column.TheConstants.{BEAT_COLUMN, SUSPECTED_COLUMN, RECEIVED_COLUMN, LOGGED_COLUMN, DONE_COLUMN}
 use Rattle.dr_words.specs.Columns.{columns_of, recv_column}
 use Rattle.dr_words.specs.Form.{IsInForm}
 use Rattle.dr_words.specs.Grown.{HasGrown, Grown}
 use Rattle.dr_words.specs.Packing.{accept_promise, accept_tag, accept_value, recv_word, ring_tag}
-use Rattle.dr_words.proofs.Order.{Grown_trans}
+use Rattle.dr_words.proofs.Order.{Grown_trans, Grown_refl}
 use Rattle.dr_machine.specs.declared.step.Step.TheVariants.{Do}
 use Rattle.dr_program.specs.Acts.{done, may, taken}
 use Rattle.dr_program.specs.Steps as steps
-use Rattle.dr_machine.proofs.Sending.{messages_within, next_message, next_null, only_messages}
+use Rattle.dr_machine.proofs.Sending.{next_message, next_null, only_messages}
 use Rattle.dr_machine.specs.Sending.{IsPut}
 use Rattle.dr_machine.specs.Effects.{one_more, entries_of}
 use Rattle.dr_machine.specs.declared.event.Act.{Act}
 use Rattle.dr_machine.specs.declared.event.Act.TheVariants as acts
 use Rattle.dr_program.specs.Replica.{Replica, me, count, greatest, members_in_view, is_inside, is_other, is_others, is_own, is_wedged, may_finish, may_suspect, least_seen, sender_of_place, item_of_place, may_append, may_deliver, is_behind, may_receive, may_send, may_null, ready_item, next_index, gained, acted, beaten, ended, reported, appended, delivered, published, marked, looked, pushed, put, received, suspected, accepted, decided}
 use Rattle.dr_program.specs.Form.{HasForm}
-use Rattle.dr_words.proofs.Ranks.{some_member}
 use Rattle.dr_words.proofs.Accepts.{accept_within}
 use Rattle.dr_words.proofs.Forms.{form_done, form_free, grown_done, grown_free}
-use Rattle.dr_words.proofs.Tables.{IsTable, table_looked, table_set, own_written, own_left, own_seen, looked_grown, set_grown}
+use Rattle.dr_words.proofs.Tables.{IsTable, table_looked, table_set, own_written, looked_grown, set_grown}
 use Rattle.dr_form.specs.Puts.{MayPut}
 use Rattle.dr_ring.proofs.OwnPuts.{table_put, put_left, put_tags, put_grown}
+use Rattle.dr_program.proofs.Replicas.{MayLook, looked_on}
+use Rattle.dr_program.proofs.Least.{grown_received, unstamped}
+use Rattle.dr_program.specs.Steps.{NoWordFell}
 use Rattle.dr_form.proofs.Accepting.{accepted_form, accepted_grown, decided_form, others_wait, own_waits}
 use Rattle.dr_form.proofs.Beside.{beside_form}
 use Rattle.dr_form.proofs.Finishing.{finished_form, none_waits}
@@ -697,3 +704,64 @@ taken_grown r a f m same = acted_grown r f
 pub taken_other : (r : Replica) (a : Act) → (a ≡ acts.Finish → ⊥) → taken r a ≡ acted (done r a)
 taken_other r acts.Finish other = absurd (other refl)
 taken_other r a other = refl
+
+-- it is in form, and no word fell
+pub looks_keep : (r : Replica) (i : ℕ) (table : List ℕ) (first from m : ℕ) → MayLook r i table first from m
+    → HasForm (looked_on r i table first from m) × NoWordFell r (looked_on r i table first from m)
+looks_keep r i table first from zero may =
+    (may.form, Grown_refl r.roster r.rows.words r.rows.frozen)
+looks_keep r i table first from (suc m) may =
+    let rest = looks_keep one i table first (from + 1) m after in (
+      rest.0,
+      Grown_trans r.roster r.rows.words one.rows.words (looked_on r i table first from (suc m)).rows.words
+          r.rows.frozen one.rows.frozen (looked_on r i table first from (suc m)).rows.frozen
+          (looked_rises r i from word may.form may.other may.unsuspected (omega (arith, may.within))
+          (may.grown from (omega arith) (omega arith))) rest.1,
+    )
+  where
+    word : ℕ
+    word = slice_index table (first + from)
+
+    one : Replica
+    one = looked r i from word
+
+    after : MayLook one i table first (from + 1) m
+    after = record {
+      form = looked_keeps r i from word may.form may.other (omega (arith, may.within))
+          (may.in_form from (omega arith) (omega arith));
+      other = may.other;
+      unsuspected = may.unsuspected;
+      within = omega (arith, may.within);
+      in_form = λ c l h. may.in_form c (omega (arith, l)) (omega (arith, h));
+      grown = λ c l h. subst (λ x. HasGrown r.roster c x (slice_index table (first + c)))
+          (sym (with_word-column r.rows.words i from word i c (λ e. absurd (omega (arith, l, e)))))
+          (may.grown c (omega (arith, l)) (omega (arith, h)));
+    }
+
+-- a replica stays in form by the pushes of a row
+pub pushes_keep : (r : Replica) (j first : ℕ) (s : Pushes) (from m : ℕ) → j < r.roster
+    → HasForm (record r { rows = s.words })
+    → HasForm (record r { rows = (pushed_along j first s from m).words })
+pushes_keep r j first s from zero within form = form
+pushes_keep r j first s from (suc m) within form =
+    pushes_keep r j first (with_push j first s from) (from + 1) m within (by (changed s.words j from) refl)
+  where
+    by : (b : Bool) → changed s.words j from ≡ b → HasForm (record r { rows = (with_push j first s from).words })
+    by true e = subst (λ (x : Pushes). HasForm (record r { rows = x.words })) (sym (push_is j first s from e))
+        (pushed_keeps (record r { rows = s.words }) j from form within)
+    by false e = subst (λ (x : Pushes). HasForm (record r { rows = x.words }))
+        (sym (push_is_none j first s from e)) form
+
+-- it doesn't fall where an item is put or received
+pub put_received : (r : Replica) (name : SentItem) (item : Item) → HasForm r → is_inside r ≡ true
+    → MayPut r name item
+    → least_seen r RECEIVED_COLUMN ≤ least_seen (put r name item) RECEIVED_COLUMN
+put_received r name item form inside may =
+    le_trans (grown_received r (acted (put r name item)) r.rows.frozen (acted (put r name item)).rows.frozen
+    refl (put_rises r name item form inside may)) (unstamped (put r name item))
+
+pub received_received : (r : Replica) (s : ℕ) → HasForm r → is_inside r ≡ true → may_receive r s ≡ true
+    → least_seen r RECEIVED_COLUMN ≤ least_seen (received r s) RECEIVED_COLUMN
+received_received r s form inside may =
+    le_trans (grown_received r (acted (received r s)) r.rows.frozen (acted (received r s)).rows.frozen
+    refl (received_grown r s form inside may)) (unstamped (received r s))

@@ -19,7 +19,8 @@ use Rattle.dr_words.specs.Rewrites.{is_accept_of, is_recv_of, wedged_word}
 use Rattle.dr_ring.specs.Slots.{slot_column}
 use Rattle.dr_program.proofs.Suspecting.{suspecting}
 use Rattle.dr_program.specs.Form.{HasForm}
-use Rattle.dr_program.specs.Replica.{Replica, count, is_inside, is_wedged, may_suspect, me, promise, suspected}
+use Rattle.dr_program.specs.Replica.{Replica, count, is_inside, is_wedged, may_suspect, me, promise, suspected, least_seen}
+use Rattle.dr_program.proofs.Least.{grown_received}
 
 -- ---- the masks
 
@@ -189,3 +190,10 @@ pub recv_small : (r : Replica) → HasForm r → (c : ℕ) → is_recv_of r.rost
 recv_small r f c is =
     let at = recv_within r.roster r.members c is in
     (f.words (me r) c).recv (c - 5) (omega (arith, f.members, at)) (omega (arith, at))
+
+-- nor where a member is suspected
+pub suspected_received : (r : Replica) (j : ℕ) → HasForm r → is_inside r ≡ true → may_suspect r j ≡ true
+    → least_seen r RECEIVED_COLUMN ≤ least_seen (suspected r j) RECEIVED_COLUMN
+suspected_received r j form inside may =
+    grown_received r (suspected r j) r.rows.frozen (suspected r j).rows.frozen refl
+    (suspected_grown r j form inside may)

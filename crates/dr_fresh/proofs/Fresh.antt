@@ -1,6 +1,6 @@
 -- What is mounted without a record and with one, damaged bytes are some, a group has members, and each that is
 -- there has a fresh log.
-use Rattle.std.proofs.Common.{◌≡◌, refl, ap, sym, subst, ◌∙◌, true, false, inl, inr, ℕ, ◌<◌, arith, List, [], ◌∷◌, ◌++◌, length, length-append, Option, None, Some, IfSome, ◌≢◌}
+use Rattle.std.proofs.Common.{◌≡◌, refl, ap, sym, subst, ◌∙◌, true, false, inl, inr, ℕ, ◌<◌, arith, List, [], ◌∷◌, ◌++◌, length, length-append, Option, None, Some, IfSome}
 use Rattle.std.proofs.lemmas.Bool.{cases_lt}
 use Rattle.std.proofs.lemmas.List.{get_or_append_left, get_or_push}
 use Rattle.dr_age.specs.Logged.{AreAmple, AreOpened}
@@ -10,9 +10,9 @@ use Rattle.dr_fresh.specs.Fresh.{HasNoRecord, HaveLimit, IsEmpty, IsFresh, IsFre
 use Rattle.dr_history.specs.Members.{has}
 use Rattle.dr_log.specs.State.{LogState}
 use Rattle.dr_log_bytes.specs.Content.{OnLog, empty_of}
-use Rattle.dr_log_bytes.specs.Grammar.{IsDamaged, StandFor}
+use Rattle.dr_log_bytes.specs.Grammar.{StandFor}
 use Rattle.dr_machine.proofs.Presence.{late_few}
-use Rattle.dr_machine.specs.Group.{Group, IsGroup, roster}
+use Rattle.dr_machine.specs.Group.{IsGroup, roster}
 use Rattle.dr_program.specs.Presence.{present_at}
 use Rattle.dr_program.proofs.Present.{present_within}
 use Rattle.dr_restart.specs.Groups.{group_of}
@@ -36,24 +36,6 @@ pub without_record : (told : Option Told) (c : OnLog) → c ≡ empty_of c.newer
     → IfSome told (λ t. StandFor (content_of t) c) → IfSome told HasNoRecord
 without_record None c same stands = tt
 without_record (Some t) c same stands = (c.newer, subst (StandFor (content_of t)) same stands)
-
--- any other log from some bytes
-pub record_used : (told : Option Told) (c : OnLog) → c ≢ empty_of c.newer
-    → IfSome told (λ t. StandFor (content_of t) c) → IfSome told (λ t. content_of t ≢ [])
-record_used None c other stands = tt
-record_used (Some t) c other (inl (short, same)) =
-    absurd (other (same ∙ ap empty_of (sym (ap (λ (d : OnLog). d.newer) same))))
-record_used (Some t) c other (inr (long, log)) = λ none. omega (arith, long, ap length none)
-
--- bytes that are damaged are some
-pub damaged_used : (told : Option Told) (at : ℕ) → IfSome told (λ t. IsDamaged (content_of t) at)
-    → IfSome told (λ t. content_of t ≢ [])
-damaged_used None at damaged = tt
-damaged_used (Some t) at damaged = λ none. omega (arith, damaged.0, ap length none)
-
--- a group has members in its first view
-pub some_members : (g : Group) → IsGroup g → 0 < g.opening.members
-some_members g group = group.sound.members.some
 
 -- ---- the logs of all
 

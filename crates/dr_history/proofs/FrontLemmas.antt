@@ -1,6 +1,8 @@
 -- The front of the counts, told by the places that hold an item.
-use Rattle.std.proofs.Common.{◌≡◌, ℕ, ◌+◌, ◌/◌, ◌%◌, ◌<◌, ◌≤◌, ◌⊎◌, inl, inr, Bool, true, false, List, length, slice_index, nat_lt, arith, le_trans, sym, subst, refl}
-use Rattle.std.proofs.lemmas.Nat.{mod_below}
+use Rattle.std.proofs.Common.{◌≡◌, ℕ, ◌+◌, ◌/◌, ◌%◌, ◌<◌, ◌≤◌, ◌⊎◌, inl, inr, Bool, true, false, List, length, slice_index, nat_lt, arith, le_trans, sym, subst, refl, ◌*◌}
+use Rattle.std.proofs.lemmas.Nat.{mod_below, div-mul-add, mod-mul-add}
+use Rattle.std.specs.List.{IsFirstBest}
+use Rattle.dr_entry.proofs.NumberFacts.{before_place}
 use Rattle.dr_history.specs.Places.{place_of, is_held, AllHeldBelow, IsFront}
 use Rattle.dr_history.proofs.PlaceLemmas.{place_of-div, place_of-mod, place_of-split}
 
@@ -88,3 +90,24 @@ IsFront-least counts front some held gap = record {
     by p all (inr above) =
         let h : is_held counts front ≡ true = is_held-below counts p front some all above in
         absurd (cc)
+
+-- the place of the first item that is missing
+pub IsFront-first_least : (counts : List ℕ) (rank : ℕ) → 0 < length counts
+    → IsFirstBest nat_lt counts (length counts) rank
+    → IsFront counts (slice_index counts rank * length counts + rank)
+IsFront-first_least counts rank some best =
+    IsFront-least counts _ some (λ p below. by p
+    (before_place (length counts) (slice_index counts rank) rank p best.0 below)) gap
+  where
+    gap : is_held counts (slice_index counts rank * length counts + rank) ≡ false
+    gap = rw (
+      div-mul-add (slice_index counts rank) (length counts) rank best.0,
+      mod-mul-add (slice_index counts rank) (length counts) rank best.0,
+    ) (grind arith)
+
+    by : (p : ℕ) → (p / length counts < slice_index counts rank)
+        ⊎ ((p / length counts ≡ slice_index counts rank) × (p % length counts < rank))
+        → is_held counts p ≡ true
+    by p (inl earlier) = let least = best.1 (p % length counts) 0 (mod_below p (length counts) some) in
+        grind (arith, least)
+    by p (inr (same, lower)) = let more = best.2 (p % length counts) 0 lower in grind (arith, more)

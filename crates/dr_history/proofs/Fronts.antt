@@ -1,8 +1,13 @@
 -- The front of counts as the first place that holds no item.
-use Rattle.std.proofs.Common.{◌≡◌, ℕ, zero, suc, ◌+◌, ◌*◌, ◌/◌, ◌%◌, ◌<◌, ◌≤◌, Bool, true, false, not, max, cond, ◌==◌, List, [], ◌∷◌, length, fold, slice_index, nat_lt, refl, sym, subst, arith, le_refl, mod-lt}
+use Rattle.std.proofs.Common.{◌≡◌, ℕ, zero, suc, ◌+◌, ◌*◌, ◌/◌, ◌%◌, ◌<◌, ◌≤◌, Bool, true, false, not, max, cond, ◌==◌, List, [], length, fold, slice_index, nat_lt, refl, sym, subst, arith, mod-lt, ap, get_or}
 use Rattle.std.proofs.Math.Nat.{mul-div_cancel_left}
-use Rattle.dr_history.specs.Places.{is_held, IsFront, first, front_of}
-use Rattle.dr_history.proofs.FrontLemmas.{IsFront-least, IsFront-monotone, IsFront-only}
+use Rattle.std.specs.Option.{option_map_or}
+use Rattle.std.proofs.lemmas.Option.{slice_get-get_or}
+use Rattle.dr_entry.proofs.ListPlaces.{count_max}
+use Rattle.dr_entry.specs.declared.end.MemberEnd.{MemberEnd}
+use Rattle.dr_history.specs.Places.{is_held, IsFront, first, front_of, AllHeldBelow}
+use Rattle.dr_history.proofs.FrontLemmas.{IsFront-least, IsFront-monotone, IsFront-only, is_held-below}
+use Rattle.dr_history.specs.Agreement.{accounts_of}
 
 -- the first number that passes, of k from n on, is at most n + k
 pub first_within : (p : ℕ → Bool) (n k : ℕ) → first p n k ≤ n + k
@@ -42,17 +47,6 @@ first_found p n (suc k) h = by (p n) refl h (first_found p (suc n) k)
         → p (cond (p n) n (first p (suc n) k)) ≡ true
     by true e g r = rw e e
     by false e g r = let g' = rw e at g in rw e (r (omega (arith, g')))
-
-fold_max : (xs : List ℕ) (a : ℕ) → a ≤ fold max a xs
-fold_max [] a = le_refl a
-fold_max (x ∷ xs) a = let h : max a x ≤ fold max (max a x) xs = fold_max xs (max a x) in omega arith
-
--- a count is at most the greatest
-pub count_max : (xs : List ℕ) (a i : ℕ) → i < length xs → slice_index xs i ≤ fold max a xs
-count_max [] a i l = absurd (omega arith)
-count_max (x ∷ xs) a zero l = let h : max a x ≤ fold max (max a x) xs = fold_max xs (max a x) in
-    omega arith
-count_max (x ∷ xs) a (suc i) l = count_max xs (max a x) i (omega arith)
 
 -- every place below the front holds an item
 pub front_held : (counts : List ℕ) (p : ℕ) → p < front_of counts → is_held counts p ≡ true
@@ -120,3 +114,21 @@ front_more old new some same more =
 pub front_only : (counts : List ℕ) (f : ℕ) → 0 < length counts → IsFront counts f → f
     ≡ front_of counts
 front_only counts f some is = IsFront-only counts f (front_of counts) is (front_is counts some)
+
+-- what the accounts of members say of the histories
+pub history_of : (members : List MemberEnd) (i : ℕ) (d : MemberEnd) → i < length members
+    → (accounts_of members i).history ≡ (get_or members i d).history
+history_of members i d within =
+    ap (λ o. option_map_or (λ (e : MemberEnd). e.history) o []) (slice_get-get_or members i d within)
+
+pub front_within : (counts : List ℕ) → front_of counts ≤ length counts * fold max 0 counts
+unfolding front_of
+front_within counts = let l =
+    first_within (λ p. not (is_held counts p)) 0 (length counts * fold max 0 counts) in omega (arith, l)
+
+-- the first place that isn't held is the front
+pub front_reached : (counts : List ℕ) (p : ℕ) → 0 < length counts → AllHeldBelow counts p
+    → is_held counts p ≡ false → p ≡ front_of counts
+front_reached counts p some all gap =
+    front_only counts p some (IsFront-least counts p some
+    (λ q below. is_held-below counts p q some all below) gap)

@@ -1,9 +1,10 @@
 -- Letters: the entries up to the last View, and what that View says.
-use Rattle.std.proofs.Common.{◌≡◌, ◌∙◌, ap, refl, ℕ, List, [], ◌∷◌, ◌++◌, Option, None, Some, filter_map}
+use Rattle.std.proofs.Common.{◌≡◌, ◌∙◌, ap, refl, ℕ, List, [], ◌∷◌, ◌++◌, Option, None, Some, filter_map, sym, Bool, true, false, ◌+◌, if◌then◌else◌, take}
 use Rattle.std.specs.Prelude.{⊤}
 use Rattle.dr_entry.specs.declared.entry.Entry.{Entry}
 use Rattle.dr_entry.specs.declared.entry.Entry.TheVariants.{View, Msg}
 use Rattle.dr_history.specs.History.{before_some, last_view, up_to_view}
+use Rattle.dr_history.proofs.Histories.{up_to_view-none, up_to_view-View, up_to_view-Msg, up_to_view-stays}
 
 -- the entry is a message, and no View
 abbrev pub IsMessage : Entry → Type 0
@@ -43,3 +44,21 @@ unfolding last_view
 last_view-last [] x a n m = refl
 last_view-last (View b k l ∷ h) x a n m = last_view-last h (k, l) a n m
 last_view-last (Msg s i b ∷ h) x a n m = last_view-last h x a n m
+
+-- an entry that is a View brings all of them, and another none
+pub up_to_view-more : (h : List Entry) (e : Entry) (b : Bool) → up_to_view (e ∷ []) ≡ (if b then e ∷ [] else [])
+    → up_to_view (h ++ e ∷ []) ≡ (if b then h ++ e ∷ [] else up_to_view h)
+up_to_view-more h (View a n m) true is = up_to_view-last h [] a n m up_to_view-none
+up_to_view-more h (View a n m) false is = absurd (cc (sym (up_to_view-View a n m) ∙ is))
+up_to_view-more h (Msg s i b) true is = absurd (cc (sym (up_to_view-Msg s i b) ∙ is))
+up_to_view-more h (Msg s i b) false is = up_to_view-stays h s i b
+
+-- where the entries up to the last View end, an entry more behind them
+pub end_more : (es : List Entry) (k end next : ℕ) (e : Entry) (b : Bool)
+    → take (k + 1) es ≡ take k es ++ e ∷ [] → up_to_view (e ∷ []) ≡ (if b then e ∷ [] else [])
+    → take end es ≡ up_to_view (take k es) → next ≡ (if b then k + 1 else end)
+    → take next es ≡ up_to_view (take (k + 1) es)
+end_more es k end next e true on is here at =
+    rw (at, on) (sym (up_to_view-more (take k es) e true is))
+end_more es k end next e false on is here at =
+    rw (at, on) (here ∙ sym (up_to_view-more (take k es) e false is))

@@ -1,30 +1,15 @@
 -- The place of a message in a view, by its sender's rank and its number among the sender's items.
-use Rattle.std.proofs.Common.{◌≡◌, ◌≢◌, ℕ, ◌<◌, ◌==◌, Bool, true, false, length, take, All, slice_get, None, Some, option_map, option_and_then, refl, ap, arith}
+use Rattle.std.proofs.Common.{◌≡◌, ◌≢◌, ℕ, ◌<◌, ◌==◌, Bool, length, take, All, slice_get, None, Some, option_map, option_and_then, refl, ap, arith}
 use Rattle.std.specs.List.{position}
 use Rattle.std.proofs.lemmas.List.{get_or-take, length-take-le}
 use Rattle.std.proofs.lemmas.Option.{slice_get_within, get_or_from_slice_get}
-use Rattle.std.proofs.lemmas.Bool.{ne_eqb, eq-eqb}
 use mathlib.Core.Path.{fun_ext}
 use Rattle.dr_entry.specs.declared.end.SentItem.{SentItem}
 use Rattle.dr_entry.specs.declared.end.SentItem.TheVariants.{Null, Index}
+use Rattle.dr_entry.proofs.ListPlaces.{position_found, position_none}
+use Rattle.dr_entry.proofs.Ends.{is_message, is_message-other, is_message-same}
 use Rattle.dr_history.specs.Places.{place_of}
 use Rattle.dr_history.specs.History.{GroupView, Sent, place_in}
-use Rattle.dr_history.proofs.ListLemmas.{position_found, position_none}
-
--- whether an item is the message with this index
-is_message : ℕ → SentItem → Bool
-is_message i Null = false
-is_message i (Index j) = j == i
-
-is_message-other : (i : ℕ) (item : SentItem) → item ≢ Index i → is_message i item ≡ false
-unfolding is_message
-is_message-other i Null apart = refl
-is_message-other i (Index j) apart = ne_eqb j i (λ e. apart (ap Index e))
-
-is_message-same : (i : ℕ) (item : SentItem) → item ≡ Index i → is_message i item ≡ true
-unfolding is_message
-is_message-same i Null e = absurd (cc)
-is_message-same i (Index j) e = eq-eqb j i (cc)
 
 place_in_is : (sent : Sent) (v : GroupView) (s index : ℕ)
     → place_in sent v s index ≡ option_and_then

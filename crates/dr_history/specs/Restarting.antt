@@ -2,7 +2,7 @@
 use Rattle.std.specs.Prelude.{◌≡◌, ℕ, ◌+◌, ◌<◌, ◌≤◌, ◌⊎◌, List, [], ◌∷◌, ◌++◌, length, take, slice_get, Option, None, Some}
 use Rattle.dr_entry.specs.declared.entry.Entry.{Entry}
 use Rattle.dr_history.specs.declared.opening.Opening.{Opening}
-use Rattle.dr_history.specs.History.{IsPrefixOf, GroupView, view_of}
+use Rattle.dr_history.specs.History.{IsPrefixOf, GroupView}
 use Rattle.dr_history.specs.Agreement.{Account, Accounts}
 use Rattle.dr_history.specs.Soundness.{IsPresentIn, MayStand}
 
@@ -49,27 +49,9 @@ abbrev pub AreAllAlong : List (List Entry) → Type 0
 AreAllAlong lists = (a b : ℕ) (g h : List Entry) → a < b → slice_get lists a ≡ Some g
     → slice_get lists b ≡ Some h → AreAlong g h
 
--- the first of them with an entry that may not stand, and where
-pub record IsFirstForeign (o : Opening) (lists : List (List Entry)) (member place : ℕ) : Type 0 where
-  pub before : (m : ℕ) (es : List Entry) → m < member → slice_get lists m ≡ Some es → AllStand o es
-  pub entries : List Entry
-  pub here : slice_get lists member ≡ Some entries
-  pub foreign : IsForeignAt o entries place
-
 -- the pair of numbers a and b, with a below b, comes before another: by the greater number, then by the less
 abbrev pub IsEarlierPair : ℕ → ℕ → ℕ → ℕ → Type 0
 IsEarlierPair i j a b = (i < j) × ((j < b) ⊎ ((j ≡ b) × (i < a)))
-
--- the first two of them that differ, and where
-pub record IsFirstDisagreement (lists : List (List Entry)) (a b place : ℕ) : Type 0 where
-  pub below : a < b
-  pub before : (i j : ℕ) (g h : List Entry) → IsEarlierPair i j a b → slice_get lists i ≡ Some g
-      → slice_get lists j ≡ Some h → AreAlong g h
-  pub one : List Entry
-  pub other : List Entry
-  pub in_a : slice_get lists a ≡ Some one
-  pub in_b : slice_get lists b ≡ Some other
-  pub differ : DifferAt one other place
 
 -- the number of the age after one whose last view this is
 abbrev pub next_age : Option GroupView → ℕ
@@ -94,11 +76,3 @@ pub record Kept (o : Opening) (accounts : Accounts) (next : Opening) : Type 0 wh
   pub delivered : (i : ℕ) × IsPresentIn o i × IsPrefixOf next.start (accounts i).history
   pub durable : (i : ℕ) → IsPresentIn o i
       → IsPrefixOf (take (accounts i).durable (accounts i).history) next.start
-
--- what the logs of all members make the next age start with: the longest of them, and the age after that of
--- its last view
-pub record IsRestart (o : Opening) (lists : List (List Entry)) (age : ℕ) (es : List Entry) : Type 0 where
-  pub sound : AreSound o lists
-  pub along : AreAllAlong lists
-  pub longest : IsLongest lists es
-  pub next : age ≡ next_age (view_of es)

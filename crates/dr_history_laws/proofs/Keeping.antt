@@ -1,7 +1,8 @@
 -- An age that starts with the longest of the logs that the members of another leave.
-use Rattle.std.proofs.Common.{◌≡◌, refl, ap, sym, ◌∙◌, ◌⊎◌, inl, inr, subst, ℕ, ◌+◌, ◌-◌, ◌<◌, ◌≤◌, arith, List, [], ◌∷◌, ◌++◌, length, take, drop, Some, slice_get, append_assoc, length-append, take_at, length-take}
+use Rattle.std.proofs.Common.{◌≡◌, refl, ap, sym, ◌∙◌, ◌⊎◌, inl, inr, subst, ℕ, ◌+◌, ◌-◌, ◌<◌, ◌≤◌, arith, List, [], ◌∷◌, ◌++◌, length, take, drop, Some, slice_get, append_assoc, length-append, take_at, length-take, append-nil, ⊎_elim}
 use Rattle.std.proofs.lemmas.List.{take-append-drop, take_all}
-use Rattle.std.proofs.lemmas.Option.{slice_get_within}
+use Rattle.std.proofs.lemmas.Option.{slice_get_within, same_Some}
+use Rattle.std.proofs.lemmas.Bool.{cases_lt, cases_eq}
 use Rattle.dr_entry.specs.declared.entry.Entry.{Entry}
 use Rattle.dr_entry.specs.declared.entry.Entry.TheVariants.{View}
 use Rattle.dr_history.specs.declared.opening.Opening.{Opening}
@@ -10,8 +11,9 @@ use Rattle.dr_history.specs.History.{IsPrefixOf, GroupView, view_of}
 use Rattle.dr_history.specs.Order.{first_entries}
 use Rattle.dr_history.specs.Agreement.{Account, Accounts, Agreed}
 use Rattle.dr_history.specs.Soundness.{IsPresentIn, Sound}
-use Rattle.dr_history.specs.Restarting.{AreLeftBy, IsLeftBy, IsLongest, Kept}
+use Rattle.dr_history.specs.Restarting.{AreLeftBy, IsLeftBy, IsLongest, Kept, AreAlong, AreAllAlong}
 use Rattle.dr_history.proofs.ViewLemmas.{view_of-View}
+use Rattle.dr_history.proofs.Restarts.{turned}
 use Rattle.dr_history_laws.proofs.Lists.{slice_get-seam, slice_get-prefix, take-next, take-prefix}
 use Rattle.dr_history_laws.proofs.Views.{ViewsRise-standing, view-after}
 
@@ -128,3 +130,45 @@ sound_later o next sound begins =
   where
     by : (a b c n m : ℕ) → (a < b) ⊎ ((a ≡ b) × (n ≤ m)) → b < c → a < c
     by a b c n m h l = grind arith
+
+-- a list that is along another, and no longer, is its front
+pub front_of : (x l : List Entry) → AreAlong x l → length x ≤ length l → IsPrefixOf x l
+front_of x l (inl p) short = p
+front_of x l (inr q) short = prefix_beside x l x ([], append-nil x) q short
+
+-- two that are along a list that is longer than both are along one another
+pub along_by_longest : (x y l : List Entry) → AreAlong x l → AreAlong y l → length x ≤ length l
+    → length y ≤ length l → AreAlong x y
+along_by_longest x y l p q short shorter = ⊎_elim
+    (λ (k : length x < length y). inl
+    (prefix_beside x y l (front_of x l p short) (front_of y l q shorter) (omega (arith, k))))
+    (λ (k : length y ≤ length x). inr
+    (prefix_beside y x l (front_of y l q shorter) (front_of x l p short) k))
+    (cases_lt (length x) (length y))
+
+-- of lists that are all along each is a front of the longest
+pub front_of_longest : (lists : List (List Entry)) (longest es : List Entry) (m : ℕ) → AreAllAlong lists
+    → IsLongest lists longest → slice_get lists m ≡ Some es → IsPrefixOf es longest
+front_of_longest lists longest es m along long at = ⊎_elim
+    (λ (l : m < long.place).
+    front_of es longest (along m long.place es longest l at long.one) (long.longest m es at))
+    (λ (g : long.place ≤ m). elim (cases_eq m long.place) [
+      | inl same ↦ front_of es longest (inl ([], append-nil es ∙ same_there same)) (long.longest m es at)
+      | inr other ↦ front_of es longest
+          (turned longest es (along long.place m longest es (omega (arith, g, other)) long.one at))
+          (long.longest m es at)
+    ])
+    (cases_lt m long.place)
+  where
+    same_there : m ≡ long.place → es ≡ longest
+    same_there same = same_Some es longest (sym at ∙ ap (slice_get lists) same ∙ long.one)
+
+pub both_ways : {X : Type 0} (xs ys : List X) → IsPrefixOf xs ys → IsPrefixOf ys xs → xs ≡ ys
+both_ways {X} xs ys p q =
+    let none : length p.0 ≡ 0 =
+    omega (arith, prefix_shorter ys xs q, ap length p.1, length-append xs p.0) in
+    by p.0 p.1 none
+  where
+    by : (rest : List X) → xs ++ rest ≡ ys → length rest ≡ 0 → xs ≡ ys
+    by [] e none = sym (append-nil xs) ∙ e
+    by (x ∷ rest) e none = absurd (omega (arith, none))

@@ -1,11 +1,19 @@
 -- Elements of lists by their positions, prefixes, and what an option holds.
-use Rattle.std.proofs.Common.{◌≡◌, refl, ap, sym, ◌∙◌, ◌⊎◌, inl, inr, subst, ℕ, zero, suc, ◌+◌, ◌<◌, ◌≤◌, arith, Bool, true, nat_lt, List, [], ◌∷◌, ◌++◌, length, take, get_or, Contains, Option, None, Some, slice_get, option_map, option_and_then, IsSome, IsSomeAnd, length-append}
+use Rattle.std.proofs.Common.{◌≡◌, refl, ap, sym, ◌∙◌, ◌⊎◌, inl, inr, subst, ℕ, zero, suc, ◌+◌, ◌<◌, ◌≤◌, arith, Bool, true, nat_lt, List, [], ◌∷◌, ◌++◌, length, take, get_or, Contains, Option, None, Some, slice_get, option_map, option_and_then, IsSome, IsSomeAnd, length-append, append_assoc, All, drop, take-append-drop, ◌-◌, true≢false}
 use Rattle.std.specs.List.{position, position_or_len}
 use Rattle.std.proofs.lemmas.List.{take_more, take-append-le, get_or_append_left}
 use Rattle.std.proofs.lemmas.List.Sums.{fails_before_first, passes_at_first}
-use Rattle.std.proofs.lemmas.Option.{none-some, same_Some, cond_some, slice_get_within, get_or_from_slice_get}
-use Rattle.dr_history.specs.History.{IsPrefixOf}
-use Rattle.dr_history.proofs.ListLemmas.{position_found}
+use Rattle.std.proofs.lemmas.Option.{none-some, same_Some, cond_some, slice_get_within, get_or_from_slice_get, slice_get-get_or}
+use Rattle.std.proofs.lemmas.List.Elements.{All-contains}
+use Rattle.dr_entry.proofs.ListPlaces.{position_found, all_from_places}
+use Rattle.dr_entry.specs.declared.entry.Entry.{Entry}
+use Rattle.dr_entry.specs.declared.entry.Entry.TheVariants.{View, Msg}
+use Rattle.dr_history.specs.History.{IsPrefixOf, Sent}
+use Rattle.dr_history.proofs.Histories.{IsFew}
+use Rattle.dr_history.proofs.ViewLemmas.{view_of-View, view_of-Msg}
+use Rattle.dr_history.specs.declared.opening.Opening.{Opening}
+use Rattle.dr_history.specs.Order.{InOrder, IsInNoView, first_entries}
+use Rattle.dr_history.specs.Members.{has}
 
 -- an element of the front part
 pub slice_get-left : {X : Type 0} (xs ys : List X) (i : ℕ) → i < length xs → slice_get (xs ++ ys) i
@@ -121,3 +129,66 @@ pair-parts {A} {B} f (Some c) a b e = by (f c) refl e
         let first : c ≡ a = ap (λ t. t.0) same in
         let second : y ≡ b = ap (λ t. t.1) same in
         (ap Some first, ap f (sym first) ∙ (is ∙ ap Some second))
+
+-- View 0 stands behind the start
+pub first_at : (o : Opening) (sent : Sent) (h : List Entry) → InOrder o sent h
+    → slice_get h (length o.start) ≡ Some (View o.age 0 o.members)
+first_at o sent h order =
+    ap (λ (es : List Entry). slice_get es (length o.start)) (sym order.begins.1
+    ∙ append_assoc o.start (View o.age 0 o.members ∷ []) order.begins.0)
+    ∙ slice_get-seam o.start (View o.age 0 o.members) order.begins.0
+
+-- two entries at a place, where one list is a prefix of the other, are the same
+pub same_at : (g h : List Entry) (i : ℕ) (x y : Entry) → IsPrefixOf g h ⊎ IsPrefixOf h g → slice_get g i ≡ Some x
+    → slice_get h i ≡ Some y → x ≡ y
+same_at g h i x y (inl p) in_g in_h = same_Some x y (sym (slice_get-prefix g h i x p in_g) ∙ in_h)
+same_at g h i x y (inr p) in_g in_h = same_Some x y (sym in_g ∙ slice_get-prefix h g i y p in_h)
+
+-- what holds of all elements holds of the one at a place
+pub all_at : {A : Type 0} (P : A → Type 0) (xs : List A) (i : ℕ) (x : A) → All P xs → slice_get xs i ≡ Some x
+    → P x
+all_at P xs i x all at = All-contains P xs x all (Contains-slice_get xs i x at)
+
+-- of the first ones too
+pub all_below : {A : Type 0} (P : A → Type 0) (xs : List A) (n : ℕ)
+    → ((i : ℕ) (x : A) → slice_get xs i ≡ Some x → P x) → All P (take n xs)
+all_below P xs n each =
+    all_from_places P (take n xs)
+    (λ i x at. each i x (slice_get-prefix (take n xs) xs i x (drop n xs, take-append-drop n xs) at))
+
+-- what a history holds it holds one entry later
+held : (es : List Entry) (e x : Entry) → Contains es x → Contains (es ++ e ∷ []) x
+held es e x there = Contains-slice_get (es ++ e ∷ []) there.0 x
+    (slice_get-left es (e ∷ []) there.0 there.1 ∙ (slice_get-get_or es there.0 x there.1 ∙ ap Some there.2))
+
+-- who is in no view one entry later is in none
+pub free_before : (age : ℕ) (es : List Entry) (e : Entry) (s : ℕ) → IsInNoView age (es ++ e ∷ []) s
+    → IsInNoView age es s
+free_before age es e s free number members there =
+    free number members (held es e (View age number members) there)
+
+-- so it is in the first view
+pub few_first : (o : Opening) → IsFew o (first_entries o)
+few_first o = record {
+  number = 0;
+  mask = o.members;
+  named = has o.members;
+  view = view_of-View o.start o.age 0 o.members;
+  holds = λ s there. there;
+  met = λ s there free. true≢false (sym there ∙ free 0 o.members
+      (Contains-slice_get (first_entries o) (length o.start) (View o.age 0 o.members)
+      (slice_get-seam o.start (View o.age 0 o.members) [])));
+  few = omega arith;
+}
+
+-- behind a message too
+pub few_Msg : (o : Opening) (es : List Entry) (s j : ℕ) (b : List ℕ) → IsFew o es → IsFew o (es ++ Msg s j b ∷ [])
+few_Msg o es s j b f = record {
+  number = f.number;
+  mask = f.mask;
+  named = f.named;
+  view = view_of-Msg es s j b ∙ f.view;
+  holds = f.holds;
+  met = λ n there free. f.met n there (free_before o.age es (Msg s j b) n free);
+  few = f.few;
+}

@@ -8,11 +8,11 @@ use Rattle.std.proofs.lemmas.Option.{slice_get_past, slice_get_within, get_or_fr
 use Rattle.dr_entry.specs.declared.entry.Entry.{Entry}
 use Rattle.dr_entry.specs.declared.end.SentItem.{SentItem}
 use Rattle.dr_entry.specs.declared.end.SentItem.TheVariants.{Null, Index}
+use Rattle.dr_entry.proofs.ListPlaces.{count_max}
 use Rattle.dr_history.specs.declared.opening.Opening.{Opening}
 use Rattle.dr_history.specs.Places.{is_held, held_places}
 use Rattle.dr_history.specs.History.{IsPrefixOf, GroupView, Sent, entry_of, item_at, merge}
 use Rattle.dr_history.specs.Order.{messages_from}
-use Rattle.dr_history.proofs.Fronts.{count_max}
 use Rattle.dr_history.proofs.NumberedLemmas.{messages_from-append}
 use Rattle.dr_history_laws.specs.Laid.{laid, entry_at, GoesOn, HoldsAll, counts_sent}
 use Rattle.dr_history_laws.proofs.Lists.{Contains-slice_get}

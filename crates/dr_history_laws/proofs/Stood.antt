@@ -1,19 +1,20 @@
 -- The views of entries that may stand, and the numbers of their entries.
-use Rattle.std.proofs.Common.{◌≡◌, refl, ap, sym, ◌∙◌, subst, ℕ, zero, suc, ◌+◌, ◌-◌, ◌^◌, ◌<◌, ◌≤◌, inl, inr, arith, List, [], ◌∷◌, ◌++◌, All, Option, None, Some, length, take, get_or, slice_get}
+use Rattle.std.proofs.Common.{◌≡◌, refl, ap, sym, ◌∙◌, subst, ℕ, zero, suc, ◌+◌, ◌-◌, ◌^◌, ◌<◌, ◌≤◌, inl, inr, arith, List, [], ◌∷◌, ◌++◌, All, Option, None, Some, length, take, get_or, slice_get, ◌⊎◌, take_at, Contains}
 use Rattle.std.specs.Prelude.{IsSomeAnd}
 use Rattle.std.proofs.lemmas.List.{take_all}
 use Rattle.std.proofs.lemmas.Option.{none-some, same_Some, slice_get-get_or, slice_get_within}
+use Rattle.std.proofs.lemmas.Bool.{cases_lt}
 use Rattle.dr_entry.specs.declared.entry.Entry.{Entry}
 use Rattle.dr_entry.specs.declared.entry.Entry.TheVariants.{View, Msg}
 use Rattle.dr_history.specs.declared.opening.Opening.{Opening}
-use Rattle.dr_history.specs.History.{GroupView, view_of}
+use Rattle.dr_history.specs.History.{GroupView, view_of, Sent}
 use Rattle.dr_history.specs.Members.{has, members_of}
 use Rattle.dr_history.specs.Restarting.{AllStand}
 use Rattle.dr_history.specs.Soundness.{MayStand}
-use Rattle.dr_history.specs.Order.{AreOfRoster, ContinuesAge}
+use Rattle.dr_history.specs.Order.{AreOfRoster, ContinuesAge, InOrder, IsSucceededBy}
 use Rattle.dr_history.proofs.Following.{view_of-nil}
 use Rattle.dr_history.proofs.ViewLemmas.{view_of-View, view_of-Msg}
-use Rattle.dr_history_laws.proofs.Lists.{slice_get-some, take-next}
+use Rattle.dr_history_laws.proofs.Lists.{slice_get-some, take-next, first_at}
 use Rattle.dr_history_laws.proofs.Members.{member-has}
 
 -- what an option has
@@ -134,3 +135,46 @@ age_below o es stand i a k m at =
       ap view_of (sym (take_all (length es) es (omega arith)) ∙ sym (ap (λ (j : ℕ). take j es) more)) ∙ last.1,
       last.2,
     )
+
+-- behind the start a history is in views of the age
+pub view_age : (o : Opening) (sent : Sent) (h : List Entry) → InOrder o sent h → (i : ℕ) → length o.start < i
+    → i ≤ length h → (v : GroupView) → view_of (take i h) ≡ Some v → v.age ≡ o.age
+view_age o sent h order zero behind within v is = absurd (omega (arith, behind))
+view_age o sent h order (suc i) behind within v is =
+    by (λ less u was. view_age o sent h order i less (omega (arith, within)) u was)
+    (cases_lt (length o.start) i)
+  where
+    there : (e : Entry) × (slice_get h i ≡ Some e)
+    there = slice_get-some h i (omega (arith, within))
+
+    more : (e : Entry) → slice_get h i ≡ Some e → take (suc i) h ≡ take i h ++ e ∷ []
+    more e at = let next : suc i ≡ i + 1 = omega arith in ap (λ (j : ℕ). take j h) next ∙ take-next h i e at
+
+    at_View : (a k m : ℕ) → slice_get h i ≡ Some (View a k m) → a ≡ v.age
+    at_View a k m at =
+        ap (λ (w : GroupView). w.age)
+        (same_Some (record { age = a; number = k; members = members_of m }) v
+        (sym (view_of-View (take i h) a k m) ∙ (ap view_of (sym (more (View a k m) at)) ∙ is)))
+
+    later : ((u : GroupView) → view_of (take i h) ≡ Some u → u.age ≡ o.age) → length o.start < i
+        → (e : Entry) → slice_get h i ≡ Some e → v.age ≡ o.age
+    later before less (View a k m) at =
+        let u = some_of (λ w. IsSucceededBy o (take i h) w a k m) (view_of (take i h)) (order.views i a k m less at) in
+        sym (at_View a k m at) ∙ (u.2.follows.same_age ∙ before u.0 u.1)
+    later before less (Msg s k b) at =
+        before v (sym (view_of-Msg (take i h) s k b) ∙ (ap view_of (sym (more (Msg s k b) at)) ∙ is))
+
+    by : (length o.start < i → (u : GroupView) → view_of (take i h) ≡ Some u → u.age ≡ o.age)
+        → (length o.start < i) ⊎ (i ≤ length o.start) → v.age ≡ o.age
+    by before (inl less) = later (before less) less there.0 there.1
+    by before (inr most) =
+        let e : i ≡ length o.start = omega (arith, behind, most) in
+        sym (at_View o.age 0 o.members (ap (slice_get h) e ∙ first_at o sent h order))
+
+-- a log without a View has nothing
+pub nothing_without : (o : Opening) (es : List Entry) → AllStand o es → view_of es ≡ None → es ≡ []
+nothing_without o [] stand none = refl
+nothing_without o (View a n m ∷ es) stand none =
+    let last = age_below o (View a n m ∷ es) stand 0 a n m refl in absurd (none-some last.0 (sym none ∙ last.1))
+nothing_without o (Msg s i b ∷ es) stand none = absurd (subst (λ z. IsSomeAnd z (λ v. Contains v.members s))
+    (ap view_of (take_at [] (Msg s i b ∷ es) 0 refl) ∙ view_of-nil) (stand 0 (Msg s i b) refl).0)

@@ -2,7 +2,6 @@
 use Rattle.std.proofs.Common.{◌≡◌, ◌⊎◌, ◌∙◌, inl, inr, refl, sym, ap, subst, arith, true, ℕ, List, [], ◌∷◌, Contains, Option, None, Some, Result, Ok, Err, IfErr, IfOk, IsSomeAnd, option_map, string_bytes}
 use Rattle.std.proofs.lemmas.Option.{none-some, same_Some}
 use Rattle.dr_io.specs.Sink.{Gains}
-use Rattle.dr_io.specs.Source.{Loses}
 use Rattle.dr_script.specs.declared.script.Script.{Script}
 use Rattle.dr_script.specs.Reading.{NotJson, Reading, Reads, TooLong, Wrong}
 use Rattle.dr_text.specs.declared.last.Last.{Last}
@@ -14,11 +13,6 @@ use Rattle.dr_intake.specs.declared.call.Unread.TheVariants as reasons
 use Rattle.dr_intake.specs.Answer.{IsAnswer, IsCallAnswer, IsLine, IsUnread, Said, SaysOf, ToldBy, done, unread_line, no_memory, no_source, usage}
 use Rattle.dr_intake.specs.Reading.{WasRead, refusal_in}
 use Rattle.dr_intake.specs.Status.{WroteText, status_of}
-
--- a source that is not read
-pub loses_nothing : (left : Option (List ℕ)) → Loses left left []
-loses_nothing None = tt
-loses_nothing (Some left) = refl
 
 -- ---- what is said of a call
 

@@ -1,7 +1,13 @@
 -- How what is known of a source's or a sink's bytes goes on from call to call.
-use Rattle.std.proofs.Common.{ℕ, List, ◌++◌, Option, Some, None, refl, sym, ap, ◌∙◌, append_assoc}
+use Rattle.std.proofs.Common.{ℕ, List, ◌++◌, Option, Some, None, refl, sym, ap, ◌∙◌, append_assoc, ◌≡◌, ◌+◌, ◌-◌, length, take, drop, subst, arith, length-drop, [], ◌≤◌, le_trans}
 use Rattle.std.specs.Io.KnownBytes.{Keeps, Consumes, Appends}
+use Rattle.std.proofs.Math.Seq.{take-add}
+use Rattle.std.proofs.lemmas.List.{take_all}
+use Rattle.std.specs.Prelude.{◌^◌}
+use Rattle.std.proofs.Math.Nat.{le-min, min-le_left, min-le_right}
 use Rattle.dr_io.specs.Sink.{Gains}
+use Rattle.dr_io.specs.Source.{Loses}
+use Rattle.dr_io.specs.Faults.{Rose}
 
 -- two writes gain what they gain together
 pub gains_more : (old now new : Option (List ℕ)) (first next : List ℕ) → Gains old now first
@@ -41,3 +47,29 @@ appends_behind None now new bytes p q = tt
 appends_behind (Some xs) None new bytes p q = absurd p
 appends_behind (Some xs) (Some ys) None bytes p q = absurd q
 appends_behind (Some xs) (Some ys) (Some zs) bytes p q = q ∙ ap (λ l. l ++ bytes) p
+
+-- the next bytes of the text, written behind its front part, make a longer front part
+pub gains_front : (old now new : Option (List ℕ)) (text : List ℕ) (at n : ℕ)
+    → Gains old now (take at text)
+    → Gains now new (take n (take (length text - at) (drop at text))) → Gains old new (take (at + n) text)
+gains_front old now new text at n first next =
+    let rest : take (length text - at) (drop at text)
+    ≡ drop at text = take_all (length text - at) (drop at text)
+    (omega (arith, length-drop {A = ℕ})) in
+    let P : List ℕ → Type 0 = λ bytes. Gains old new bytes in
+    let Q : List ℕ → Type 0 = λ bytes. Gains now new (take n bytes) in
+    subst P (sym (take-add at n text))
+    (gains_more old now new (take at text) (take n (drop at text)) first (subst Q rest next))
+
+-- a source that is not read
+pub loses_nothing : (left : Option (List ℕ)) → Loses left left []
+loses_nothing None = tt
+loses_nothing (Some left) = refl
+
+-- a count that rose from a later value rose from an earlier one
+pub rose_since : (base old new : ℕ) → base ≤ old → Rose old new → Rose base new
+rose_since base old new later rose =
+    le_trans (le-min (omega (arith, min-le_left (base + 1) (2 ^ 64 - 1), later)) (min-le_right _ _)) rose
+
+pub rose_between : (a b c d : ℕ) → a ≤ b → Rose b c → c ≤ d → Rose a d
+rose_between a b c d low rose high = omega (arith, low, rose, high)

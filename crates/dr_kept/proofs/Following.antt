@@ -297,3 +297,9 @@ next_number script start next nth found after p ranges some is left chosen = by 
           later,
           e,
         )
+
+-- an age that is on a log that was handed in is on one that was found
+pub on_found : (contents : List (Option OnLog)) (m : ℕ) (log : LogLists)
+    → handed_by (all_as_lists contents) m ≡ Some log
+    → (c : OnLog) × (content_at contents m ≡ Some c) × (as_lists c ≡ log)
+on_found contents m log at = handed_there contents m log (sym (handed_is contents m) ∙ at)

@@ -7,3 +7,4 @@ pub mod Behind
 pub mod Following
 pub mod Returning
 pub mod Lasting
+pub mod Crashes

@@ -11,7 +11,7 @@ use Rattle.dr_history.specs.History.{IsPrefixOf}
 use Rattle.dr_history.specs.Members.{has}
 use Rattle.dr_history.specs.Restarting.{AllStand, AreAlong}
 use Rattle.dr_history.specs.Soundness.{whole_roster}
-use Rattle.dr_history_laws.proofs.Keeping.{prefix_beside, prefix_then}
+use Rattle.dr_history_laws.proofs.Keeping.{prefix_beside, prefix_then, front_of}
 use Rattle.dr_history_laws.proofs.Standing.{part-stands}
 use Rattle.dr_log_bytes.specs.Content.{OnLog}
 use Rattle.dr_machine.proofs.Presence.{is_there}
@@ -29,7 +29,6 @@ use Rattle.dr_script.specs.declared.script.Script.{Script}
 use Rattle.dr_script.specs.Ranges.{HasGroupRanges}
 use Rattle.dr_words.specs.Masks.{IsMajorityOf, mask_of}
 use Rattle.dr_quorum.specs.Handing.{handed_by}
-use Rattle.dr_quorum.proofs.Along.{front_of}
 use Rattle.dr_quorum_laws.specs.Returning.{HasHandedIn, HaveReturned}
 use Rattle.dr_quorum_laws.proofs.AllThere.{returned-pass}
 use Rattle.dr_quorum_laws.proofs.ByMessages.{refused-by-messages}

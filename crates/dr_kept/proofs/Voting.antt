@@ -3,6 +3,7 @@ use Rattle.std.proofs.Common.{◌≡◌, refl, sym, ap, ◌∙◌, subst, ℕ, a
 use Rattle.std.specs.Prelude.{Option, None, Some}
 use Rattle.std.proofs.lemmas.Bool.{and_parts}
 use Rattle.dr_entry.specs.declared.record.Value.{Value}
+use Rattle.dr_entry.proofs.NumberFacts.{other_number, same_number}
 use Rattle.dr_form.proofs.Beside.{beside_form}
 use Rattle.dr_machine.specs.Effects.{vote_for}
 use Rattle.dr_machine.specs.Group.{Group}
@@ -10,7 +11,6 @@ use Rattle.dr_machine.specs.Guards.{CanLogVote}
 use Rattle.dr_machine.specs.World.{World}
 use Rattle.dr_machine.specs.Writes.{at}
 use Rattle.dr_program.proofs.Holdings.{Holding, changed_world, held, held_of, holding_of}
-use Rattle.dr_program.proofs.OwnWords.{other_number, same_number}
 use Rattle.dr_program.proofs.Present.{present_set, present_within}
 use Rattle.dr_program.proofs.Voting.{wedged_inside}
 use Rattle.dr_program.specs.Form.{HasForm, IsOf}

@@ -1,2 +1,1 @@
 mod Highest
-mod Tagged

@@ -1,14 +1,14 @@
 -- The ages of a live group, from the first on.
 use Rattle.std.proofs.Common.{◌≡◌, refl, sym, ap, ◌∙◌, subst, ℕ, zero, suc, ◌+◌, ◌<◌, ◌≤◌, arith, le_trans, le_refl, List, [], ◌∷◌, ◌++◌, length, Some, slice_get}
-use Rattle.std.specs.Prelude.{All, None, Option}
+use Rattle.std.specs.Prelude.{All, Option}
 use Rattle.std.proofs.Math.Path.{fun_ext}
 use Rattle.std.proofs.lemmas.List.Elements.{All-append, All-cons, All-head, All-nil, All-tail}
 use Rattle.std.proofs.lemmas.Option.{same_Some}
 use Rattle.dr_age.specs.Logged.{NoneFull}
 use Rattle.dr_ages.proofs.Fresh.{IsRoomyAt, fresh_first, fresh_start, roomy_ages, roomy_next, roomy_stop}
 use Rattle.dr_ages.proofs.Keeping.{IsBehind, behind, left_from, of_choice, over_behind}
-use Rattle.dr_ages.specs.Ages.{AreAges, IsAgeOf, NamesNobody, all_but, opening_of, start_of}
-use Rattle.dr_ages.specs.Runs.{HasFinished, IsRunOf}
+use Rattle.dr_ages.specs.Ages.{AreAges, IsAgeOf, all_but, opening_of, start_of}
+use Rattle.dr_ages.specs.Runs.{HasFinished}
 use Rattle.dr_ages.specs.Stops.{HasStopped, IsOutside}
 use Rattle.dr_ages.specs.declared.mode.Mode.TheVariants.{Run}
 use Rattle.dr_ages.specs.declared.stop.Stop.{Stop}
@@ -25,9 +25,9 @@ use Rattle.dr_script.specs.declared.script.Script.{Script}
 use Rattle.dr_script.specs.Ranges.{HasRanges}
 use Rattle.dr_senders.proofs.Growth.{grown_same}
 use Rattle.dr_senders.specs.Senders.{HaveGrown, Lists}
-use Rattle.dr_words.proofs.Bits.{has_zero}
 use Rattle.dr_yard.specs.Places.{place_told}
 use Rattle.dr_yard.specs.Yards.{YardState, empty_yard}
+use Rattle.dr_ages.proofs.Runs.{none_lacks}
 use Rattle.dr_live.specs.Live.{AreGrowing, AreLiveAges, AreReadyFor, AreUnderWay, AreUpTo, BeginsAnew, KeepEachOther, OpensAlways, calm_yard, plan_with}
 use Rattle.dr_live.proofs.Choosing.{chosen_before}
 use Rattle.dr_live.proofs.Growing.{growing_last, growing_more, growing_one, growing_tail, roomy_grown}
@@ -50,10 +50,6 @@ range_at plan [] i lists fit at = absurd (cc)
 range_at plan (l ∷ taken) zero lists fit at =
     subst (λ (x : Lists). HasRanges (plan_with plan x)) (same_Some l lists at) (range_head plan l taken fit)
 range_at plan (l ∷ taken) (suc i) lists fit at = range_at plan taken i lists (range_tail plan l taken fit) at
-
--- no log is missing
-pub none_lacks : (n : ℕ) → NamesNobody n 0
-none_lacks n m below = has_zero m
 
 -- the logs of the disks have room, with the messages of the first of these lists
 abbrev pub HaveRoom : Script → List Lists → ℕ → YardState → Type 0
@@ -346,10 +342,3 @@ ready_next plan lists ages yard up = record {
 }
 
 -- ---- the one age of a run
-
-pub one_age : (script : Script) (before after : YardState) (ages : List AgeEnd) (age : AgeEnd)
-    → IsRunOf script (all_but 0) Run before after ages None → ages ≡ age ∷ []
-    → IsAgeOf script (all_but 0) Run 0 before after age
-one_age script before after ages age run is =
-    let one = subst (λ (l : List AgeEnd). AreAges script (all_but 0) Run 0 before l run.last) is run.course in
-    subst (λ (y : YardState). IsAgeOf script (all_but 0) Run 0 before y age) (one.2 ∙ run.finish.1) one.1

@@ -1,33 +1,32 @@
 -- What the members of a live group deliver, and how they end.
-use Rattle.std.proofs.Common.{◌≡◌, refl, sym, ap, ◌∙◌, subst, ℕ, ◌+◌, ◌-◌, ◌^◌, ◌<◌, ◌≤◌, ◌&&◌, ◌⊎◌, inl, inr, arith, not, true, false, List, [], ◌∷◌, ◌++◌, append-nil, get_or, length, length-append, map, Some, slice_get}
+use Rattle.std.proofs.Common.{◌≡◌, refl, sym, ap, ◌∙◌, subst, ℕ, ◌+◌, ◌-◌, ◌<◌, ◌≤◌, ◌⊎◌, inl, inr, arith, true, false, List, [], ◌∷◌, ◌++◌, get_or, length, length-append, map, Some, slice_get}
 use Rattle.std.specs.Prelude.{All, None, Option}
 use Rattle.std.specs.List.{enumerate_from}
 use Rattle.std.specs.Option.{option_map_or}
 use Rattle.std.proofs.lemmas.Bool.{cases_lt}
-use Rattle.std.proofs.lemmas.Bool.Decides.{nat_tests}
 use Rattle.std.proofs.lemmas.List.{get_or_past}
-use Rattle.std.proofs.lemmas.List.Elements.{All-nil}
+use Rattle.std.proofs.lemmas.List.Elements.{All-nil, All-cons}
 use Rattle.std.proofs.lemmas.Option.{get_or_from_slice_get, slice_get-get_or, slice_get_within}
-use Rattle.dr_age.specs.Logged.{IsNotFull, NoneFull, NoneStopped, why_ended}
+use Rattle.dr_age.specs.Logged.{NoneFull, NoneStopped}
 use Rattle.dr_ages.proofs.Fresh.{roomy_ages}
 use Rattle.dr_ages.proofs.Prompt.{nobody_late}
-use Rattle.dr_ages.specs.Ages.{AreAges, all_but, opening_of, taking_part}
+use Rattle.dr_ages.specs.Ages.{AreAges, all_but, opening_of}
 use Rattle.dr_ages.specs.declared.mode.Mode.TheVariants.{Run}
 use Rattle.dr_entry.specs.declared.end.AgeEnd.{AgeEnd}
-use Rattle.dr_entry.specs.declared.end.End.{End}
 use Rattle.dr_entry.specs.declared.end.End.TheVariants as ends
 use Rattle.dr_entry.specs.declared.end.MemberEnd.{MemberEnd}
 use Rattle.dr_entry.specs.declared.entry.Entry.{Entry}
 use Rattle.dr_entry.specs.declared.entry.Entry.TheVariants.{Msg}
+use Rattle.dr_entry.specs.declared.limits.TheConstants.{MAX_MEMBERS}
 use Rattle.dr_history.specs.declared.opening.Opening.{Opening}
 use Rattle.dr_history.specs.History.{IsPrefixOf}
 use Rattle.dr_history.specs.Members.{has}
 use Rattle.dr_history.specs.Order.{IsLateIn, messages_from, numbered_messages}
 use Rattle.dr_history.specs.Soundness.{IsPresentIn}
-use Rattle.dr_history_laws.proofs.Keeping.{prefix_shorter, prefix_then}
+use Rattle.dr_history.proofs.Bits.{has_zero}
+use Rattle.dr_history_laws.proofs.Keeping.{prefix_then, both_ways}
 use Rattle.dr_history_laws.proofs.Lists.{slice_get-seam, slice_get-some}
-use Rattle.dr_program.specs.declared.setup.CrashPoint.{CrashPoint}
-use Rattle.dr_program_laws.specs.Ended.{HasEnded, HasReason, IsLeftOut, IsWhole, is_log_end}
+use Rattle.dr_program_laws.specs.Ended.{HasEnded, IsWhole}
 use Rattle.dr_program_laws.specs.Trusting.{NoneLeft}
 use Rattle.dr_restart.specs.Groups.{first_group_of}
 use Rattle.dr_restart.specs.Setups.{crashes_of, suspicion_in}
@@ -35,25 +34,16 @@ use Rattle.dr_script.specs.declared.script.Fault.{Fault}
 use Rattle.dr_script.specs.declared.script.Script.{Script}
 use Rattle.dr_script.specs.Ranges.{HasGroupRanges, HasRanges}
 use Rattle.dr_senders.specs.Senders.{HaveGrown, Lists}
-use Rattle.dr_words.proofs.Bits.{has_ones, has_zero}
-use Rattle.dr_words.proofs.Masks.{has_mask_of}
 use Rattle.dr_yard.specs.Yards.{YardState, empty_yard}
-use Rattle.dr_live.specs.Live.{AreUnderWay, AreUpTo, DeliversAll, DeliversPushed, EndAsDone, IsLastOf, HasLived, IsLivePlan, plan_with, pushed_by}
-use Rattle.dr_live.proofs.Course.{IsLiveAge, age_at, as_many, first_age, keep_each_other, none_lacks, range_at}
-use Rattle.dr_live.proofs.Growing.{grown_to_last, numbered_grown}
+use Rattle.dr_senders.proofs.Growth.{numbered_grown}
+use Rattle.dr_program_laws.proofs.Endings.{done_whole}
+use Rattle.dr_age.proofs.LoggedMembers.{unstopped}
+use Rattle.dr_ages.proofs.Runs.{none_lacks, there_takes_part}
+use Rattle.dr_live.specs.Live.{AreUnderWay, AreUpTo, DeliversAll, DeliversPushed, EndAsDone, IsLastOf, HasLived, IsLivePlan, plan_with, pushed_by, AreLiveAges}
+use Rattle.dr_live.proofs.Course.{IsLiveAge, age_at, as_many, first_age, keep_each_other, range_at}
+use Rattle.dr_live.proofs.Growing.{grown_to_last}
 
 -- ---- ends
-
-unstopped : (e : End) → IsNotFull e → (e ≡ ends.DiskFault → ⊥) → why_ended e ≡ None
-unstopped ends.Done room safe = refl
-unstopped ends.Crashed room safe = refl
-unstopped (ends.Suspected by) room safe = refl
-unstopped (ends.Excluded view) room safe = refl
-unstopped (ends.NoMajority mask) room safe = refl
-unstopped ends.DiskFault room safe = absurd (safe refl)
-unstopped (ends.LogFull len) room safe = absurd room
-unstopped (ends.Spent turns) room safe = refl
-unstopped ends.Absent room safe = refl
 
 -- no log of a live group stops a member
 pub live_stored : (plan : Script) (k : ℕ) (lists : Lists) (last : YardState) (age : AgeEnd)
@@ -81,20 +71,6 @@ live_trusting plan k lists last age is live = live.is.trusting (record {
 })
 
 -- ---- what is delivered
-
--- who is not missing takes part
-there_takes_part : (script : Script) (missing m : ℕ) → script.members ≤ 16 → m < script.members
-    → has missing m ≡ false → has (taking_part script missing) m ≡ true
-there_takes_part script missing m few below there =
-    grind (
-      arith,
-      nat_tests,
-      has_mask_of (λ k. has (2 ^ script.members - 1) k && not (has missing k)) m,
-      has_ones script.members m,
-      below,
-      few,
-      there,
-    )
 
 -- each member takes part
 takes_part : (plan : Script) (k : ℕ) (lists : Lists) (last : YardState) (age : AgeEnd) (m : ℕ) (e : MemberEnd)
@@ -126,30 +102,6 @@ live_delivers plan k lists pushed last age ranges grown live m d within s =
     (numbered_in plan k lists last age m e s ranges live (slice_get-get_or age.members m d within))
     (numbered_grown (opening_of (plan_with plan lists) (all_but 0) age)
     (first_group_of (plan_with plan pushed)).opening s grown)
-
--- who is done has all messages of the members of its view
-done_whole : (o : Opening) (members : List MemberEnd) (number view limit m : ℕ) (points : List CrashPoint)
-    (e : MemberEnd) → e.end ≡ ends.Done → HasReason o members number view limit m points e
-    → IsWhole o members number view e
-done_whole o members number view limit m points e done (inl is) = is.whole
-done_whole o members number view limit m points e done (inr (inl spent)) =
-    let other : ends.Spent limit ≡ ends.Done = sym spent.end ∙ done in absurd (cc)
-done_whole o members number view limit m points e done (inr (inr (inl crashed))) =
-    let other : ends.Crashed ≡ ends.Done = sym crashed.end ∙ done in absurd (cc)
-done_whole o members number view limit m points e done (inr (inr (inr (inl logged)))) =
-    let other : false ≡ true = sym (ap is_log_end done) ∙ logged.end in absurd (cc)
-done_whole o members number view limit m points e done (inr (inr (inr (inr left)))) =
-    absurd (subst (IsLeftOut o members number view m) done left.end)
-
-both_ways : {X : Type 0} (xs ys : List X) → IsPrefixOf xs ys → IsPrefixOf ys xs → xs ≡ ys
-both_ways {X} xs ys p q =
-    let none : length p.0 ≡ 0 =
-    omega (arith, prefix_shorter ys xs q, ap length p.1, length-append xs p.0) in
-    by p.0 p.1 none
-  where
-    by : (rest : List X) → xs ++ rest ≡ ys → length rest ≡ 0 → xs ≡ ys
-    by [] e none = sym (append-nil xs) ∙ e
-    by (x ∷ rest) e none = absurd (omega (arith, none))
 
 -- where all are done all have all messages
 pub live_whole : (plan : Script) (k : ℕ) (lists : Lists) (last : YardState) (age : AgeEnd)
@@ -285,3 +237,20 @@ lived plan rounds pushed ages last is few count up = record {
 
     ends : IsLastOf pushed all
     ends = ends_in up.taken pushed
+
+-- each age has as many members as the plan
+few_live : (plan : Script) (before after : YardState) (taken : List (List (List (List ℕ)))) (ages : List AgeEnd)
+    → plan.members ≤ MAX_MEMBERS → AreLiveAges plan before taken ages after
+    → All (λ (age : AgeEnd). length age.members ≤ MAX_MEMBERS) ages
+few_live plan before after [] [] few are = All-nil (λ (age : AgeEnd). length age.members ≤ MAX_MEMBERS)
+few_live plan before after [] (age ∷ ages) few are = absurd are
+few_live plan before after (lists ∷ taken) [] few are = absurd are
+few_live plan before after (lists ∷ taken) (age ∷ ages) few (between, is, rest) =
+    All-cons (λ (age : AgeEnd). length age.members ≤ MAX_MEMBERS) age ages (omega (arith, is.roster, few))
+    (few_live plan between after taken ages few rest)
+
+pub all_few : (plan : Script) (rounds : ℕ) (pushed : List (List (List ℕ))) (ages : List AgeEnd) → IsLivePlan plan
+    → HasLived plan rounds pushed ages → All (λ (age : AgeEnd). length age.members ≤ MAX_MEMBERS) ages
+all_few plan rounds pushed ages live lived =
+    few_live plan empty_yard lived.live.after lived.live.taken ages live.ranges.group.most_members
+    lived.live.way.course

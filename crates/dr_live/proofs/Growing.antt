@@ -1,26 +1,17 @@
 -- Messages that have grown: what stood stands, and what was accepted is.
-use Rattle.std.proofs.Common.{◌≡◌, refl, sym, ap, ◌∙◌, subst, ℕ, zero, suc, ◌+◌, ◌-◌, ◌<◌, ◌≤◌, ◌⊎◌, inl, inr, arith, List, [], ◌∷◌, ◌++◌, length, length-append, map, take, Some, slice_get}
-use Rattle.std.specs.Prelude.{All, slice_index_or}
-use Rattle.std.specs.List.{enumerate_from}
-use Rattle.std.proofs.lemmas.Bool.{cases_lt}
-use Rattle.std.proofs.lemmas.List.{get_or_past, map-append}
+use Rattle.std.proofs.Common.{◌≡◌, sym, ap, ◌∙◌, subst, ℕ, zero, suc, ◌+◌, ◌-◌, ◌<◌, ◌≤◌, ◌⊎◌, inl, inr, arith, List, [], ◌∷◌, ◌++◌, length, length-append, take, Some, slice_get}
+use Rattle.std.specs.Prelude.{All}
 use Rattle.std.proofs.lemmas.List.Elements.{All-nil}
-use Rattle.std.proofs.lemmas.Option.{same_Some, slice_get-get_or, slice_get_within}
+use Rattle.std.proofs.lemmas.Option.{same_Some, slice_get_within}
 use Rattle.dr_ages.proofs.Fresh.{IsRoomyAt}
 use Rattle.dr_ages.proofs.Good.{IsGood}
-use Rattle.dr_entry.specs.declared.entry.Entry.{Entry}
-use Rattle.dr_entry.specs.declared.entry.Entry.TheVariants.{View, Msg}
 use Rattle.dr_entry.specs.declared.limits.TheConstants.{MAX_MESSAGES}
 use Rattle.dr_entry.specs.Messages.{IsMessage}
 use Rattle.dr_opening.specs.Accepted.{judged_by}
-use Rattle.dr_history.specs.declared.opening.Opening.{Opening}
-use Rattle.dr_history.specs.History.{IsPrefixOf, messages_of}
-use Rattle.dr_history.specs.Order.{numbered_messages}
-use Rattle.dr_history.specs.Soundness.{MayStand}
-use Rattle.dr_history_laws.proofs.Lists.{slice_get-left, slice_get-prefix, slice_get-push_cases, slice_get-seam, slice_get-some}
+use Rattle.dr_history_laws.proofs.Lists.{slice_get-left, slice_get-push_cases, slice_get-seam, slice_get-some}
 use Rattle.dr_script.specs.declared.script.Script.{Script}
 use Rattle.dr_script.specs.Ranges.{HasFaultRanges, HasRanges}
-use Rattle.dr_senders.proofs.Growth.{grown_at, grown_length, grown_same, grown_then}
+use Rattle.dr_senders.proofs.Growth.{grown_length, grown_same, grown_then, stands_grown}
 use Rattle.dr_senders.specs.Senders.{HaveGrown, Lists}
 use Rattle.dr_yard.specs.Yards.{YardState}
 use Rattle.dr_live.specs.Live.{AreGrowing, IsLastOf, IsLivePlan, plan_with}
@@ -28,56 +19,7 @@ use Rattle.dr_live.proofs.Choosing.{chosen_before, used_before}
 
 -- ---- growth
 
--- the messages of one sender
-pub grown_list : (old new : Lists) (s : ℕ) → HaveGrown old new
-    → IsPrefixOf (slice_index_or old s []) (slice_index_or new s [])
-grown_list old new s grown = by (cases_lt s (length old))
-  where
-    by : (s < length old) ⊎ (length old ≤ s) → IsPrefixOf (slice_index_or old s []) (slice_index_or new s [])
-    by (inl l) =
-        grown_at old new s (slice_index_or old s []) (slice_index_or new s []) grown (slice_get-get_or old s [] l)
-        (slice_get-get_or new s [] (omega (arith, l, grown_length old new grown)))
-    by (inr past) = (
-      slice_index_or new s [],
-      ap (λ (l : List (List ℕ)). l ++ slice_index_or new s []) (get_or_past old s [] past),
-    )
-
--- as entries
-numbered_on : (n : ℕ) (xs rest : List (List ℕ)) → (more : List (ℕ × List ℕ))
-    × (enumerate_from n xs ++ more ≡ enumerate_from n (xs ++ rest))
-numbered_on n [] rest = (enumerate_from n rest, refl)
-numbered_on n (x ∷ xs) rest =
-    let r = numbered_on (n + 1) xs rest in
-    (r.0, ap (λ (l : List (ℕ × List ℕ)). (n, x) ∷ l) r.1)
-
-pub numbered_grown : (o other : Opening) (s : ℕ) → HaveGrown o.messages other.messages
-    → IsPrefixOf (numbered_messages o s) (numbered_messages other s)
-numbered_grown o other s grown =
-    let entry : ℕ × List ℕ → Entry = λ t. Msg s t.0 t.1 in
-    let p = grown_list o.messages other.messages s grown in
-    let r = numbered_on 0 (messages_of o s) p.0 in (
-      map entry r.0,
-      sym (map-append entry (enumerate_from 0 (messages_of o s)) r.0)
-          ∙ (ap (map entry) r.1 ∙ ap (λ (l : List (List ℕ)). map entry (enumerate_from 0 l)) p.1),
-    )
-
 -- ---- what stands
-
-stands_grown : (o other : Opening) (es : List Entry) (e : Entry) → HaveGrown o.messages other.messages
-    → MayStand o es e → MayStand other es e
-stands_grown o other es (View age number members) grown (of, stands) = (
-  record {
-    some = of.some;
-    within = λ m there. omega (arith, of.within m there, grown_length o.messages other.messages grown);
-  },
-  stands,
-)
-stands_grown o other es (Msg s index bytes) grown is = (
-  is.0,
-  is.1,
-  slice_get-prefix (messages_of o s) (messages_of other s) index bytes
-      (grown_list o.messages other.messages s grown) is.2,
-)
 
 good_grown : (plan : Script) (old new : Lists) (yard : YardState) → HaveGrown old new
     → IsGood (plan_with plan old) yard → IsGood (plan_with plan new) yard

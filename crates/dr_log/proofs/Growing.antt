@@ -1,32 +1,19 @@
 -- What more records are to what is on a log and to its length, and that a log stands for what its records make.
-use Rattle.std.proofs.Common.{◌≡◌, ℕ, ◌+◌, ◌*◌, ◌<◌, ◌≤◌, ◌⊎◌, Bool, true, false, List, All, [], ◌∷◌, ◌++◌, length, take, drop, inl, inr, refl, sym, ap, subst, ◌∙◌, append_assoc, append-nil, arith, length-append, length-take}
-use Rattle.std.proofs.lemmas.Bool.{cases_lt}
+use Rattle.std.proofs.Common.{◌≡◌, ℕ, ◌+◌, ◌*◌, ◌≤◌, Bool, List, All, [], ◌∷◌, ◌++◌, length, take, drop, refl, sym, ap, subst, ◌∙◌, append_assoc, append-nil, arith, length-append, length-take}
 use Rattle.std.proofs.lemmas.List.{take-append-drop}
 use Rattle.std.proofs.lemmas.List.Sums.{sum_by-append, sum_by-cons, sum_by-le, sum_by_push}
 use Rattle.dr_entry.specs.declared.entry.Entry.{Entry}
-use Rattle.dr_entry.specs.declared.entry.Entry.TheVariants.{View, Msg}
-use Rattle.dr_entry.specs.declared.record.AgeVote.{AgeVote}
 use Rattle.dr_entry.specs.declared.record.Record.{Record}
 use Rattle.dr_entry.specs.declared.record.Record.TheVariants as records
 use Rattle.dr_entry.specs.declared.record.Vote.{Vote}
-use Rattle.dr_entry.specs.Spelling.{IsValidEntry, spelling, entry_spelling, vote_spelling}
+use Rattle.dr_entry.specs.Spelling.{IsValidEntry, entry_spelling, vote_spelling}
+use Rattle.dr_entry.proofs.Records.{short_block, no_age_votes}
 use Rattle.dr_log.specs.Standing.{as_records, entries_length, least_length, log_length, votes_length, with_entries}
 use Rattle.dr_log.specs.State.{as_entry, as_other, as_vote}
 use Rattle.dr_log_bytes.specs.Content.{ArePlaced, OnLog, block_length, content_after, empty_of, with_record}
-use Rattle.dr_log_bytes.specs.Grammar.{IsLog, IsLogOf, StandFor, blocks, magic_of}
-use Rattle.dr_log_bytes.proofs.Reading.{length-magic}
+use Rattle.dr_log_bytes.specs.Grammar.{IsLogOf}
 
 -- ---- what more records make
-
-pub content-append : (c : OnLog) (rs ss : List Record)
-    → content_after c (rs ++ ss) ≡ content_after (content_after c rs) ss
-content-append c [] ss = refl
-content-append c (r ∷ rs) ss = content-append (with_record r c) rs ss
-
-pub placed-append : (c : OnLog) (rs ss : List Record) → ArePlaced c rs → ArePlaced (content_after c rs) ss
-    → ArePlaced c (rs ++ ss)
-placed-append c [] ss all more = more
-placed-append c (r ∷ rs) ss all more = (all.0, placed-append (with_record r c) rs ss all.1 more)
 
 -- entries stand behind the others, and may stand anywhere
 pub content-entries : (c : OnLog) (es : List Entry) → content_after c (as_records es) ≡ with_entries es c
@@ -75,11 +62,6 @@ one_kind (records.Cut keep) = refl
 one_kind records.Upgrade = refl
 
 -- ---- how long a log is
-
--- an entry has a short block
-pub short_block : (e : Entry) → IsValidEntry e → 1 + length (entry_spelling e) ≤ 72
-short_block (View age number members) valid = omega arith
-short_block (Msg sender index bytes) valid = omega (arith, valid.1)
 
 -- so has each of a log of entries
 pub short_log_length : (es : List Entry) → All IsValidEntry es → log_length es [] ≤ 9 + 72 * length es
@@ -131,10 +113,6 @@ no_votes : (vs : List Vote) → votes_length vs ≤ 0 → vs ≡ []
 no_votes [] none = refl
 no_votes (v ∷ vs) none = absurd (omega (arith, none, sum_by-cons (λ (x : Vote). 1 + length (vote_spelling x)) v vs))
 
-no_age_votes : (vs : List AgeVote) → length vs ≤ 0 → vs ≡ []
-no_age_votes [] none = refl
-no_age_votes (v ∷ vs) none = absurd (omega (arith, none))
-
 pub nothing_on : (c : OnLog) → least_length c ≤ c.length → c.length ≡ 9 → c ≡ empty_of c.newer
 nothing_on c least short =
     let entries = no_entries c.entries (omega (arith, least, short)) in
@@ -149,45 +127,3 @@ nothing_on c least short =
     }
 
 -- ---- a log stands for its records
-
--- a log that is not of the newer format has more than nine bytes, so that it is not taken for a new one
-abbrev pub IsWhole : Bool → List ℕ → Type 0
-IsWhole newer bytes = newer ≡ false → 9 < length bytes
-
-short_log : (n : Bool) (rs : List Record) (bytes : List ℕ) → IsLog bytes n rs → length bytes ≤ 9 → rs ≡ []
-short_log n [] bytes is short = refl
-short_log n (r ∷ rs) bytes is short =
-    absurd (omega (
-      arith,
-      short,
-      ap length is.parts,
-      length-append (magic_of n) (blocks (r ∷ rs) ++ (is.gate ∷ is.rest)),
-      length-magic n,
-      length-append (spelling r) (blocks rs),
-      length-append (spelling r ++ blocks rs) (is.gate ∷ is.rest),
-    ))
-
--- one with a record is no short one
-pub long_log : (n : Bool) (rs : List Record) (bytes : List ℕ) → IsLog bytes n rs → 0 < length rs
-    → IsWhole n bytes
-long_log n rs bytes is some older = by (cases_lt 9 (length bytes))
-  where
-    by : (9 < length bytes) ⊎ (length bytes ≤ 9) → 9 < length bytes
-    by (inl l) = l
-    by (inr l) = absurd (omega (arith, ap length (short_log n rs bytes is l), some))
-
-pub log_stands : (bytes : List ℕ) (n : Bool) (rs : List Record) (c : OnLog) → IsLog bytes n rs
-    → IsWhole n bytes → content_after (empty_of n) rs ≡ c → StandFor bytes c
-log_stands bytes n rs c is whole same = by (cases_lt 9 (length bytes))
-  where
-    newer : (b : Bool) → n ≡ b → length bytes ≤ 9 → n ≡ true
-    newer true e l = e
-    newer false e l = absurd (omega (arith, whole e, l))
-
-    by : (9 < length bytes) ⊎ (length bytes ≤ 9) → StandFor bytes c
-    by (inl l) = inr (l, record { newer = n; records = rs; log = is; content = same })
-    by (inr l) = inl (
-      l,
-      sym same ∙ ap (content_after (empty_of n)) (short_log n rs bytes is l)
-          ∙ ap empty_of (newer n refl l),
-    )

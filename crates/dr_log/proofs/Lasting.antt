@@ -1,21 +1,20 @@
 -- What no crash loses at one moment of an append no crash loses later on.
-use Rattle.std.proofs.Common.{◌≡◌, ℕ, ◌≤◌, ◌⊎◌, Bool, List, [], ◌∷◌, ◌++◌, length, inl, inr, refl, sym, ap, subst, ◌∙◌, append_assoc, arith}
+use Rattle.std.proofs.Common.{◌≡◌, ℕ, ◌≤◌, Bool, List, [], ◌∷◌, ◌++◌, length, inl, inr, refl, sym, ap, subst, ◌∙◌, append_assoc, arith}
 use Rattle.std.specs.Prelude.{⊤}
 use Rattle.dr_entry.specs.declared.entry.Entry.{Entry}
 use Rattle.dr_entry.specs.declared.record.Record.{Record}
+use Rattle.dr_entry.proofs.ListFacts.{IsWhole}
 use Rattle.dr_disk.specs.Calls.{Call, Write, State, at_rest, step}
 use Rattle.dr_disk.specs.Images.{IsImage, During, LastsDuring}
 use Rattle.dr_disk.proofs.Images.{unwritten_image}
 use Rattle.dr_disk.proofs.Moments.{During-weaken}
 use Rattle.dr_log.specs.Standing.{HasAllOf, LosesNone, as_records, with_entries}
-use Rattle.dr_log.proofs.Growing.{IsWhole, content-entries, log_stands}
+use Rattle.dr_log.proofs.Growing.{content-entries}
 use Rattle.dr_log_bytes.specs.Content.{OnLog, content_after, empty_of}
 use Rattle.dr_log_bytes.specs.Grammar.{IsLog, StandFor}
 use Rattle.dr_log_bytes.proofs.Meaning.{content_once}
-
--- bytes stand for what was on the log, or for that with all of the new records
-abbrev pub HasNoneOrAll : OnLog → List Record → List ℕ → Type 0
-HasNoneOrAll c news bytes = StandFor bytes c ⊎ StandFor bytes (content_after c news)
+use Rattle.dr_log_bytes.proofs.Reading.{log_stands}
+use Rattle.dr_log_bytes.proofs.Grammars.{HasNoneOrAll}
 
 -- what was on the log is on it with the new records too
 abbrev pub TakesNothing : OnLog → OnLog → List Record → Type 0

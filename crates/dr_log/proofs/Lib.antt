@@ -6,3 +6,4 @@ pub mod Mounting
 pub mod Groups
 pub mod Voting
 pub mod Ordinary
+pub mod Standing

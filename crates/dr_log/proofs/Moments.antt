@@ -1,77 +1,25 @@
 -- What a crash leaves at each moment of an append of records behind one gate.
-use Rattle.std.proofs.Common.{◌≡◌, ◌≢◌, ℕ, Bool, ◌+◌, ◌<◌, ◌≤◌, List, [], ◌∷◌, ◌++◌, length, get_or, take, drop, Option, Some, inl, inr, ⊎_elim, refl, sym, ap, subst, ◌∙◌, append_assoc, append-nil, arith, length-append, take_at, drop_at}
+use Rattle.std.proofs.Common.{◌≡◌, ◌≢◌, ℕ, Bool, ◌+◌, ◌<◌, ◌≤◌, List, [], ◌∷◌, ◌++◌, length, get_or, take, drop, Option, Some, inl, inr, ⊎_elim, sym, ap, subst, ◌∙◌, append_assoc, append-nil, arith, length-append, take_at, drop_at}
 use Rattle.std.proofs.lemmas.Bool.{cases_eq}
-use Rattle.std.proofs.lemmas.List.{take-take, take-append-drop, length-take-le, get_or-take, get_or_at, drop_more}
+use Rattle.std.proofs.lemmas.List.{length-take-le}
 use Rattle.dr_entry.specs.declared.record.Record.{Record}
 use Rattle.dr_entry.specs.Spelling.{spelling}
+use Rattle.dr_entry.proofs.ListFacts.{IsWhole}
 use Rattle.dr_disk.specs.Calls.{Call, Write, FailedWrite, Cut, FailedCut, Sync, State, at_rest, written, step, run_from}
 use Rattle.dr_disk.specs.Disk.{Told, after}
 use Rattle.dr_disk.specs.Images.{AllImages, During}
-use Rattle.dr_disk.proofs.Images.{image_at_rest, Torn, torn_by_write, torn_front, torn_byte, length-written}
+use Rattle.dr_disk.proofs.Images.{Torn, torn_by_write, torn_front, torn_byte, length-written, fault_image, rest_stands}
 use Rattle.dr_disk.proofs.Moments.{after_all}
+use Rattle.dr_disk.proofs.DiskCalls.{step_on}
 use Rattle.dr_log.specs.Grouping.{StopsAmong, gate_of, opening, writes}
-use Rattle.dr_log.proofs.Growing.{IsWhole, content-append, log_stands, long_log, placed-append}
-use Rattle.dr_log.proofs.Groups.{blocks-append, bytes_are, bytes_of, fault_image, spelled-append, step_on}
-use Rattle.dr_log.proofs.Lasting.{HasNoneOrAll, Witness, Witnessed, rest_witness, unwritten_witness}
-use Rattle.dr_log_bytes.specs.Content.{ArePlaced, OnLog, block_length, content_after, empty_of}
-use Rattle.dr_log_bytes.specs.Grammar.{AreSpelled, IsLog, blocks, magic_of}
-use Rattle.dr_log_bytes.proofs.Reading.{length-magic}
-
--- what the records of a log make
-abbrev pub made_by : Bool → List Record → OnLog
-made_by f rs = content_after (empty_of f) rs
+use Rattle.dr_log.proofs.Groups.{bytes_are, bytes_of}
+use Rattle.dr_log.proofs.Lasting.{Witness, Witnessed, rest_witness, unwritten_witness}
+use Rattle.dr_log_bytes.specs.Content.{OnLog, block_length}
+use Rattle.dr_log_bytes.specs.Grammar.{IsLog, blocks, magic_of}
+use Rattle.dr_log_bytes.proofs.Reading.{long_log, gate_inside, same_front, front_is, before_stands, after_stands, begins}
+use Rattle.dr_log_bytes.proofs.Moments.{Stands, Behind, opened_log, made_by}
 
 -- ---- a log and what stands behind its gate
-
-front_length : (f : Bool) (rs : List Record) (q : ℕ) → q ≡ 8 + length (blocks rs)
-    → length (magic_of f ++ blocks rs) ≡ q
-front_length f rs q gate = omega (arith, gate, length-append (magic_of f) (blocks rs), length-magic f)
-
-parts_of : (bytes : List ℕ) (f : Bool) (rs : List Record) → (log : IsLog bytes f rs)
-    → bytes ≡ (magic_of f ++ blocks rs) ++ (log.gate ∷ log.rest)
-parts_of bytes f rs log = log.parts ∙ sym (append_assoc (magic_of f) (blocks rs) (log.gate ∷ log.rest))
-
--- what stands before the closed gate of a log, which is at q
-front_is : (bytes : List ℕ) (f : Bool) (rs : List Record) (q : ℕ) → IsLog bytes f rs
-    → q ≡ 8 + length (blocks rs) → take q bytes ≡ magic_of f ++ blocks rs
-front_is bytes f rs q log gate = ap (take q) (parts_of bytes f rs log) ∙ take_at (magic_of f ++ blocks rs)
-    (log.gate ∷ log.rest) q (front_length f rs q gate)
-
--- the gate itself
-gate_is : (bytes : List ℕ) (f : Bool) (rs : List Record) (q : ℕ) → IsLog bytes f rs
-    → q ≡ 8 + length (blocks rs) → get_or bytes q 0 ≢ 1
-gate_is bytes f rs q log gate e =
-    log.closed (sym (ap (λ (l : List ℕ). get_or l q 0) (parts_of bytes f rs log)
-    ∙ get_or_at (magic_of f ++ blocks rs) log.gate log.rest 0 q (front_length f rs q gate)) ∙ e)
-
--- the gate is inside
-pub gate_inside : (bytes : List ℕ) (f : Bool) (rs : List Record) (q : ℕ) → IsLog bytes f rs
-    → q ≡ 8 + length (blocks rs) → q < length bytes
-gate_inside bytes f rs q log gate = omega (
-  arith,
-  front_length f rs q gate,
-  ap length (parts_of bytes f rs log),
-  length-append (magic_of f ++ blocks rs) (log.gate ∷ log.rest),
-)
-
--- bytes that are the same up to the gate, with it, are a log of the same records
-same_front : (old bytes : List ℕ) (f : Bool) (rs : List Record) (q : ℕ) → IsLog old f rs
-    → q ≡ 8 + length (blocks rs) → q < length bytes → take (q + 1) bytes ≡ take (q + 1) old
-    → IsLog bytes f rs
-same_front old bytes f rs q log gate inside same = record {
-  spelled = log.spelled;
-  placed = log.placed;
-  gate = get_or bytes q 0;
-  closed = λ e. gate_is old f rs q log gate (sym (get_or-take (q + 1) old q 0 (omega arith))
-      ∙ sym (ap (λ (l : List ℕ). get_or l q 0) same) ∙ get_or-take (q + 1) bytes q 0 (omega arith)
-      ∙ e);
-  rest = drop (q + 1) bytes;
-  parts = sym (take-append-drop q bytes)
-      ∙ ap (λ (l : List ℕ). l ++ drop q bytes) (sym (take-take q (q + 1) bytes (omega arith))
-      ∙ ap (take q) same ∙ take-take q (q + 1) old (omega arith) ∙ front_is old f rs q log gate)
-      ∙ ap (λ (l : List ℕ). (magic_of f ++ blocks rs) ++ l) (drop_more bytes q 0 inside)
-      ∙ append_assoc (magic_of f) (blocks rs) (get_or bytes q 0 ∷ drop (q + 1) bytes);
-}
 
 -- behind the gate anything may stand
 torn_behind : (old image : List ℕ) (f : Bool) (rs : List Record) (q p n : ℕ) → IsLog old f rs
@@ -201,59 +149,6 @@ written_is old x f rs q p log whole gate place =
     } in
     subst (λ (n : ℕ). IsWritten (written old n x) f rs q x) (sym place) so
 
--- what images of a log stand for, where these records are new
-abbrev pub Stands : Bool → List Record → List Record → List ℕ → Type 0
-Stands f rs news bytes = HasNoneOrAll (made_by f rs) news bytes
-
-before_stands : (bytes : List ℕ) (f : Bool) (rs news : List Record) → IsLog bytes f rs → IsWhole f bytes
-    → Stands f rs news bytes
-before_stands bytes f rs news log whole = inl (log_stands bytes f rs (made_by f rs) log whole refl)
-
-after_stands : (bytes : List ℕ) (f : Bool) (rs news : List Record) → 0 < length news
-    → IsLog bytes f (rs ++ news) → Stands f rs news bytes
-after_stands bytes f rs news some log =
-    inr (log_stands bytes f (rs ++ news) (content_after (made_by f rs) news) log
-    (long_log f (rs ++ news) bytes log (omega (arith, length-append rs news, some)))
-    (content-append (empty_of f) rs news))
-
-rest_stands : (P : List ℕ → Type 0) (bytes : List ℕ) → P bytes → AllImages (at_rest bytes) P
-rest_stands P bytes here image is = subst P (sym (image_at_rest bytes image is)) here
-
--- what a group stands behind
-pub record Behind (old : List ℕ) (f : Bool) (rs : List Record) (q p : ℕ) (news : List Record) : Type 0 where
-  pub log : IsLog old f rs
-  pub whole : IsWhole f old
-  pub gate : q ≡ 8 + length (blocks rs)
-  pub place : p ≡ q + 1
-  pub some : 0 < length news
-  pub fit : AreSpelled news
-  pub placed : ArePlaced (made_by f rs) news
-
--- with the gate open they are a log with the new records
-group_log : (bytes tail x : List ℕ) (f : Bool) (rs news : List Record) → AreSpelled rs
-    → ArePlaced (empty_of f) rs → AreSpelled news → ArePlaced (made_by f rs) news
-    → 1 ∷ x ≡ blocks news ++ 0 ∷ []
-    → bytes ≡ (magic_of f ++ blocks rs) ++ (1 ∷ (x ++ tail)) → IsLog bytes f (rs ++ news)
-group_log bytes tail x f rs news spelled stood fit placed are is = record {
-  spelled = spelled-append rs news spelled fit;
-  placed = placed-append (empty_of f) rs news stood placed;
-  gate = 0;
-  closed = λ e. absurd (omega (arith, e));
-  rest = tail;
-  parts = is ∙ ap (λ (l : List ℕ). (magic_of f ++ blocks rs) ++ (l ++ tail)) are
-      ∙ ap (λ (l : List ℕ). (magic_of f ++ blocks rs) ++ l) (append_assoc (blocks news) (0 ∷ []) tail)
-      ∙ append_assoc (magic_of f) (blocks rs) (blocks news ++ (0 ∷ tail))
-      ∙ ap (λ (l : List ℕ). magic_of f ++ l) (sym (append_assoc (blocks rs) (blocks news) (0 ∷ tail)))
-      ∙ ap (λ (l : List ℕ). magic_of f ++ (l ++ (0 ∷ tail))) (sym (blocks-append rs news));
-}
-
--- the same behind a log
-opened_log : (old bytes tail x : List ℕ) (f : Bool) (rs : List Record) (q p : ℕ) (news : List Record)
-    → Behind old f rs q p news → 1 ∷ x ≡ blocks news ++ 0 ∷ []
-    → bytes ≡ (magic_of f ++ blocks rs) ++ (1 ∷ (x ++ tail)) → IsLog bytes f (rs ++ news)
-opened_log old bytes tail x f rs q p news b are is =
-    group_log bytes tail x f rs news b.log.spelled b.log.placed b.fit b.placed are is
-
 -- while the gate is torn
 gate_stands : (old bytes image x : List ℕ) (f : Bool) (rs : List Record) (q p : ℕ) (news : List Record)
     → Behind old f rs q p news → IsWritten bytes f rs q x → 1 ∷ x ≡ blocks news ++ 0 ∷ []
@@ -279,10 +174,6 @@ gate_stands old bytes image x f rs q p news b is are torn =
 
 abbrev pub GoesFine : Bool → List Record → List Record → State → List Call → Type 0
 GoesFine f rs news s calls = Fine (Stands f rs news) (made_by f rs) s calls
-
-begins : (old : List ℕ) (f : Bool) (rs : List Record) (q p : ℕ) (news : List Record) → Behind old f rs q p news
-    → p ≤ length old
-begins old f rs q p news b = omega (arith, gate_inside old f rs q b.log b.gate, b.place)
 
 -- while some of it is written
 part_fine : (old x : List ℕ) (f : Bool) (rs : List Record) (q p : ℕ) (news : List Record)

@@ -3,16 +3,17 @@ use Rattle.std.proofs.Common.{◌≡◌, true, false, ℕ, ◌<◌, ◌≤◌, L
 use Rattle.dr_entry.specs.declared.record.Record.{Record}
 use Rattle.dr_disk.specs.Calls.{Call, Write, FailedWrite, Cut, FailedCut, Sync, State, at_rest, run_from}
 use Rattle.dr_disk.specs.Disk.{Told, state_of, content_of, after, added}
-use Rattle.dr_disk.specs.Images.{IsImage, AllImages, During, Went, Goes, ReadsAnImage}
+use Rattle.dr_disk.specs.Images.{IsImage, During, Went, Goes, ReadsAnImage}
 use Rattle.dr_disk.proofs.Images.{image_at_rest}
-use Rattle.dr_disk.proofs.Moments.{after_all, state-after, state-after_all, During-weaken, went_by, Went-still}
+use Rattle.dr_disk.proofs.Moments.{after_all, state-after, state-after_all, During-weaken, went_by, Went-still, synced_content, length_told}
+use Rattle.dr_disk.proofs.DiskCalls.{short_state}
 use Rattle.dr_log.specs.Standing.{KeepsRecords}
 use Rattle.dr_log.specs.Appending.{IsMounted, made, StopsMaking}
 use Rattle.dr_log.specs.Kept.{IsSettled}
-use Rattle.dr_log.proofs.Growing.{log_stands}
 use Rattle.dr_log_bytes.specs.Content.{OnLog, empty_of}
 use Rattle.dr_log_bytes.specs.Grammar.{IsDamaged, IsLog, IsLogOf, IsNoLog, StandFor, newer_magic}
-use Rattle.dr_log.proofs.Told.{content-after}
+use Rattle.dr_log_bytes.proofs.Reading.{log_stands}
+use Rattle.dr_log_bytes.proofs.Grammars.{short_alike, empty_log}
 
 abbrev Keeps : Option Told → Option Told → Type 0
 Keeps told new = Goes told new KeepsRecords
@@ -49,9 +50,6 @@ synced_keeps (Some t) new is reads =
     (same_image (state_of t), λ image. reads_alike (state_of t) image reads))
 
 -- ---- a log that is there
-
-synced_content : (t : Told) → content_of (after Sync t) ≡ content_of t
-synced_content t = content-after t Sync
 
 pub found_settled : (told mid : Option Told) (bytes : List ℕ) (c : OnLog) (n : ℕ) → mid ≡ added Sync told
     → IfSome mid (λ t. n ≡ length (content_of t)) → 9 < n → IfSome mid (λ t. bytes ≡ content_of t)
@@ -102,12 +100,6 @@ found_damaged (Some t) mid bytes n at is long more reads none =
 
 -- ---- a log that is made
 
--- bytes that are short stand for a new log
-short_alike : (first second : List ℕ) → length first ≤ 9 → length second ≤ 9 → (c : OnLog)
-    → StandFor first c → StandFor second c
-short_alike first second a b c (inl here) = inl (b, here.1)
-short_alike first second a b c (inr here) = absurd (omega (arith, a, here.0))
-
 short_keeps : (s : State) → IsImage s s.content → length s.content ≤ 9 → (image : List ℕ)
     → length image ≤ 9 → KeepsRecords s image
 short_keeps s reads short image here = record {
@@ -126,12 +118,6 @@ short_went t more reads short each = went_by t (Sync ∷ more) (KeepsRecords (st
       (λ image. length image ≤ 9) (KeepsRecords (state_of t)) (short_keeps (state_of t) reads short) each,
 )
 
-abbrev Short : State → Type 0
-Short s = AllImages s (λ image. length image ≤ 9)
-
-short_state : (s : State) → s.greatest ≤ 9 → Short s
-short_state s small image is = omega (arith, small, is.no_longer)
-
 -- all calls of making a log on a short disk
 made_short : (c : List ℕ) → length c ≤ 9
     → During (at_rest c) (Cut 0 ∷ Write 0 newer_magic ∷ Sync ∷ Write 8
@@ -146,12 +132,6 @@ made_short c l = (
     ),
   ),
 )
-
-length_told : (told : Option Told) (n : ℕ) → IfSome (added Sync told)
-    (λ t. n ≡ length (content_of t)) → n ≤ 9
-    → IfSome told (λ t. length (content_of t) ≤ 9)
-length_told None n long small = tt
-length_told (Some t) n long small = omega (arith, long, small, ap length (synced_content t))
 
 pub made_keeps : (told new : Option Told) (n : ℕ) → IfSome (added Sync told)
     (λ t. n ≡ length (content_of t)) → n ≤ 9 → IfSome told ReadsAnImage
@@ -231,16 +211,6 @@ pub made_records : (told : Option Told) (n : ℕ) → IfSome (added Sync told)
     (λ t. n ≡ length (content_of t)) → n ≤ 9 → IfSome told (λ t. StandFor (content_of t) (empty_of true))
 made_records None n long small = tt
 made_records (Some t) n long small = inl (length_told (Some t) n long small, refl)
-
-empty_log : IsLog (newer_magic ++ (0 ∷ [])) true []
-empty_log = record {
-  spelled = tt;
-  placed = tt;
-  gate = 0;
-  closed = λ e. absurd (omega (arith, e));
-  rest = [];
-  parts = refl;
-}
 
 made_run : (s : State)
     → run_from s (Cut 0 ∷ Write 0 newer_magic ∷ Sync ∷ Write 8 (0 ∷ []) ∷ Sync ∷ [])

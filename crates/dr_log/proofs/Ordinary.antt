@@ -1,30 +1,20 @@
 -- Entries and votes may stand behind any records, take nothing away, and take a spare of their kind.
 use Rattle.std.proofs.Common.{◌≡◌, ℕ, List, [], ◌∷◌, ◌++◌, inl, inr, refl, ap, ◌∙◌, append_assoc, append-nil, sym}
-use Rattle.std.specs.Prelude.{⊤}
+use Rattle.std.specs.Prelude.{Option}
 use Rattle.dr_entry.specs.declared.entry.Entry.{Entry}
 use Rattle.dr_entry.specs.declared.record.AgeVote.{AgeVote}
 use Rattle.dr_entry.specs.declared.record.Record.{Record}
 use Rattle.dr_entry.specs.declared.record.Record.TheVariants as records
 use Rattle.dr_entry.specs.declared.record.Vote.{Vote}
+use Rattle.dr_entry.proofs.Records.{IsOrdinary}
+use Rattle.dr_disk.proofs.Moments.{goes_on}
+use Rattle.dr_disk.proofs.Images.{left_so}
+use Rattle.dr_disk.specs.Disk.{Told}
+use Rattle.dr_disk.specs.Images.{Goes, IsLeft}
 use Rattle.dr_log.specs.Standing.{HasAllOf, IsBeforeOrAfter, LosesNone}
-use Rattle.dr_log.specs.State.{as_other}
-use Rattle.dr_log_bytes.specs.Content.{IsPlaced, OnLog, with_record}
+use Rattle.dr_log.specs.State.{as_other, LogState}
+use Rattle.dr_log_bytes.specs.Content.{OnLog, with_record}
 use Rattle.dr_log_bytes.specs.Grammar.{StandFor}
-
--- the record is an entry or a vote
-abbrev pub IsOrdinary : Record → Type 0
-IsOrdinary (records.Entry entry) = ⊤
-IsOrdinary (records.Vote vote) = ⊤
-IsOrdinary (records.AgeVote vote) = ⊥
-IsOrdinary (records.Cut keep) = ⊥
-IsOrdinary records.Upgrade = ⊥
-
-pub ordinary_placed : (r : Record) (c : OnLog) → IsOrdinary r → IsPlaced c r
-ordinary_placed (records.Entry entry) c is = tt
-ordinary_placed (records.Vote vote) c is = tt
-ordinary_placed (records.AgeVote vote) c is = absurd is
-ordinary_placed (records.Cut keep) c is = absurd is
-ordinary_placed records.Upgrade c is = absurd is
 
 pub ordinary_spare : (r : Record) → IsOrdinary r → as_other r ≡ 0
 ordinary_spare (records.Entry entry) is = refl
@@ -32,20 +22,6 @@ ordinary_spare (records.Vote vote) is = refl
 ordinary_spare (records.AgeVote vote) is = absurd is
 ordinary_spare (records.Cut keep) is = absurd is
 ordinary_spare records.Upgrade is = absurd is
-
-pub ordinary_age_votes : (r : Record) (c : OnLog) → IsOrdinary r → (with_record r c).age_votes ≡ c.age_votes
-ordinary_age_votes (records.Entry entry) c is = refl
-ordinary_age_votes (records.Vote vote) c is = refl
-ordinary_age_votes (records.AgeVote vote) c is = absurd is
-ordinary_age_votes (records.Cut keep) c is = absurd is
-ordinary_age_votes records.Upgrade c is = absurd is
-
-pub ordinary_newer : (r : Record) (c : OnLog) → IsOrdinary r → (with_record r c).newer ≡ c.newer
-ordinary_newer (records.Entry entry) c is = refl
-ordinary_newer (records.Vote vote) c is = refl
-ordinary_newer (records.AgeVote vote) c is = absurd is
-ordinary_newer (records.Cut keep) c is = absurd is
-ordinary_newer records.Upgrade c is = absurd is
 
 -- what is on a log has all of itself
 pub has_itself : (c : OnLog) → HasAllOf c c
@@ -112,3 +88,21 @@ none_lost_by first c r bytes ordinary has (inr is) =
 pub less_lost : (a b : OnLog) (bytes : List ℕ) → HasAllOf a b → LosesNone b bytes → LosesNone a bytes
 less_lost a b bytes has loses =
     none_lost a loses.content bytes (has_through a b loses.content has loses.has) loses.stands
+
+pub moments_on : {D : Type 0} (told : D → Option Told) (base log new : LogState D) (r : Record) → IsOrdinary r
+    → HasAllOf base.content log.content
+    → Goes (told base.disk) (told log.disk) (λ calls. LosesNone base.content)
+    → Goes (told log.disk) (told new.disk) (λ calls. IsBeforeOrAfter log.content r)
+    → Goes (told base.disk) (told new.disk) (λ calls. LosesNone base.content)
+moments_on told base log new r ordinary has first next =
+    goes_on (told base.disk) (told log.disk) (told new.disk) (λ calls. LosesNone base.content)
+    (λ calls. IsBeforeOrAfter log.content r) (λ calls. LosesNone base.content)
+    (λ calls image at is. is)
+    (λ calls more image at there is. none_lost_by base.content log.content r image ordinary has is)
+    first next
+
+-- what has lost none of this has lost none of what this has
+pub left_less : (o : Option Told) (first c : OnLog) → HasAllOf first c → IsLeft o (LosesNone c)
+    → IsLeft o (LosesNone first)
+left_less o first c has left =
+    left_so o (LosesNone c) (LosesNone first) (λ image is. less_lost first c image has is) left

@@ -3,32 +3,25 @@
 use Rattle.std.proofs.Common.{◌≡◌, ℕ, ◌+◌, ◌-◌, ◌<◌, ◌≤◌, List, [], ◌∷◌, ◌++◌, length, Option, Some, None, IfSome, inl, inr, refl, sym, ap, subst, ◌∙◌, arith}
 use Rattle.dr_entry.specs.declared.entry.Entry.{Entry}
 use Rattle.dr_entry.specs.declared.record.Record.{Record}
-use Rattle.dr_disk.specs.Calls.{Call, Write, FailedWrite, Cut, FailedCut, Sync, State, at_rest, written, step, run_from}
+use Rattle.dr_entry.proofs.ListFacts.{IsWhole}
+use Rattle.dr_disk.specs.Calls.{Call, Write, FailedWrite, Cut, FailedCut, Sync, State, at_rest, written, run_from}
 use Rattle.dr_disk.specs.Disk.{Told, state_of, content_of, after, added}
 use Rattle.dr_disk.specs.Images.{IsImage, AllImages, During, Goes, IsLeft, LastsDuring, Lasts}
 use Rattle.dr_disk.proofs.Images.{image_at_rest}
-use Rattle.dr_disk.proofs.Moments.{after_all, state-after, state-after_all, Goes-weaken, went_by, Went-still, lasts_by}
+use Rattle.dr_disk.proofs.Moments.{after_all, state-after_all, Goes-weaken, went_by, Went-still, lasts_by, content-after_all}
 use Rattle.dr_log.specs.Grouping.{StopsAmong, added_all, group}
 use Rattle.dr_log.specs.Standing.{IsNoneOrAll, LosesNone, as_records, with_entries}
 use Rattle.dr_log.specs.Appending.{staged}
 use Rattle.dr_log.specs.Kept.{IsSettled}
-use Rattle.dr_log.proofs.Growing.{IsWhole, content-append, content-entries, log_stands}
+use Rattle.dr_log.proofs.Growing.{content-entries}
 use Rattle.dr_log.proofs.Groups.{bytes_of}
-use Rattle.dr_log.proofs.Lasting.{HasNoneOrAll, TakesNothing, Witnessed, lasts_during}
-use Rattle.dr_log.proofs.Moments.{Behind, Stands, fine_during, fine_seen, gate_inside, group_fine, group_is, group_whole, made_by, run_group, stopped}
+use Rattle.dr_log.proofs.Lasting.{TakesNothing, Witnessed, lasts_during}
+use Rattle.dr_log.proofs.Moments.{fine_during, fine_seen, group_fine, group_is, group_whole, run_group, stopped}
 use Rattle.dr_log_bytes.specs.Content.{ArePlaced, OnLog, content_after, empty_of}
 use Rattle.dr_log_bytes.specs.Grammar.{AreSpelled, IsLog, StandFor, blocks, newer_magic}
-use Rattle.dr_log_bytes.proofs.Reading.{length-after}
-
--- what a read gives after one call more
-pub content-after : (told : Told) (call : Call) → content_of (after call told) ≡
-    (step (state_of told) call).content
-content-after told call = ap (λ (s : State). s.content) (state-after told call)
-
--- and after these calls
-pub content-after_all : (told : Told) (calls : List Call) → content_of (after_all calls told) ≡
-    (run_from (state_of told) calls).content
-content-after_all told calls = ap (λ (s : State). s.content) (state-after_all told calls)
+use Rattle.dr_log_bytes.proofs.Reading.{length-after, log_stands, gate_inside}
+use Rattle.dr_log_bytes.proofs.Grammars.{content-append, HasNoneOrAll}
+use Rattle.dr_log_bytes.proofs.Moments.{Behind, Stands, made_by}
 
 -- once the magic is written over a disk that was cut, the disk reaches to its end
 pub reaches_magic : (told new : Option Told) → new ≡ staged 0 newer_magic (added (Cut 0) told)

@@ -1,2 +1,4 @@
 pub mod Meaning
 pub mod Reading
+pub mod Grammars
+pub mod Moments

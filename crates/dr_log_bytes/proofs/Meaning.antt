@@ -1,11 +1,8 @@
 -- Bytes stand for one thing, or are damaged at one place.
-use Rattle.std.proofs.Common.{◌≡◌, ◌≢◌, ℕ, ◌+◌, Bool, true, false, get_or, subst, List, [], ◌∷◌, ◌++◌, length, take, drop, Result, Ok, inl, inr, refl, sym, ap, ◌∙◌, append_assoc, arith, take_at, drop_at}
+use Rattle.std.proofs.Common.{◌≡◌, ◌≢◌, ℕ, ◌+◌, Bool, true, false, get_or, subst, List, [], ◌∷◌, ◌++◌, length, take, drop, inl, inr, refl, sym, ap, ◌∙◌, append_assoc, arith, take_at, drop_at}
 use Rattle.dr_entry.specs.declared.record.Record.{Record}
-use Rattle.dr_entry.specs.declared.reading.DecodeFault.{DecodeFault}
-use Rattle.std.proofs.lemmas.List.{take-append-drop}
-use Rattle.dr_entry.specs.Spelling.{IsValid, Fits, Spells, spelling}
-use Rattle.dr_entry.specs.Grammar.{decoded}
-use Rattle.dr_entry.proofs.RoundTrip.{decoded_again}
+use Rattle.dr_entry.specs.Spelling.{IsValid, Fits, spelling}
+use Rattle.dr_entry.proofs.RoundTrip.{one_record}
 use Rattle.dr_log_bytes.specs.Content.{ArePlaced, IsPlaced, OnLog, content_after, empty_of, with_record}
 use Rattle.dr_log_bytes.specs.Grammar.{blocks, AreSpelled, IsLog, IsLogOf, StandFor, IsBroken, BreaksAt, IsNoLog, IsDamaged, magic_of}
 
@@ -29,17 +26,6 @@ broken_ends c (gate ∷ rest) broken r more valid fits placed is =
       count = refl;
       front = ap (take (length (spelling r))) behind ∙ take_at (spelling r) more (length (spelling r)) refl;
     }) placed
-
--- spellings with whatever behind them are those of one record
-one_record : (r s : Record) (x y : List ℕ) → IsValid r → Fits r → IsValid s → Fits s
-    → spelling r ++ x ≡ spelling s ++ y → r ≡ s
-one_record r s x y vr fr vs fs same =
-    let first = decoded_again r x vr fr in
-    let second = decoded_again s y vs fs in
-    let alike : ◌≡◌ {A = Result (Record × ℕ) DecodeFault} (Ok (r, length (spelling r)))
-    (Ok (s, length (spelling s))) = sym first ∙ ap decoded same ∙ second in
-    let pairs : ◌≡◌ {A = Record × ℕ} (r, length (spelling r)) (s, length (spelling s)) = cc in
-    ap (λ (x : Record × ℕ). x.0) pairs
 
 -- Blocks are told apart: what they end with is one and the same too.
 pub one_log : (c : OnLog) (rs ss : List Record) (x y : List ℕ) → AreSpelled rs → AreSpelled ss
@@ -157,9 +143,3 @@ log_or_none bytes n rs at a (inr b) =
 pub stands_or_damaged : (bytes : List ℕ) (c : OnLog) (at : ℕ) → StandFor bytes c → IsDamaged bytes at → ⊥
 stands_or_damaged bytes c at (inl a) b = omega (arith, a.0, b.0)
 stands_or_damaged bytes c at (inr a) b = log_or_none bytes a.1.newer a.1.records at a.1.log b.1
-
--- bytes begin with the spelling of one record
-pub one_spelled : (bytes : List ℕ) (r s : Record) (n m : ℕ) → Spells bytes r n → Spells bytes s m → r ≡ s
-one_spelled bytes r s n m a b = one_record r s (drop n bytes) (drop m bytes) a.valid a.fits b.valid b.fits
-    (ap (λ (l : List ℕ). l ++ drop n bytes) (sym a.front) ∙ take-append-drop n bytes
-    ∙ sym (ap (λ (l : List ℕ). l ++ drop m bytes) (sym b.front) ∙ take-append-drop m bytes))

@@ -1,15 +1,19 @@
 -- How the reading of a log's bytes goes on from record to record, and how it ends.
-use Rattle.std.proofs.Common.{◌≡◌, ◌≢◌, ⊎_elim, ℕ, ◌+◌, ◌-◌, ◌<◌, ◌≤◌, Bool, true, false, List, [], ◌∷◌, ◌++◌, length, get_or, take, drop, refl, sym, ap, ◌∙◌, subst, append_assoc, append-nil, arith, length-append, length-drop, length-take}
-use Rattle.std.proofs.lemmas.List.{drop-drop, take-append-drop, drop_more, take_all}
+use Rattle.std.proofs.Common.{◌≡◌, ◌≢◌, ⊎_elim, ℕ, ◌+◌, ◌-◌, ◌<◌, ◌≤◌, Bool, true, false, List, [], ◌∷◌, ◌++◌, length, get_or, take, drop, refl, sym, ap, ◌∙◌, subst, append_assoc, append-nil, arith, length-append, length-drop, length-take, ◌⊎◌, inl, inr, take_at}
+use Rattle.std.proofs.lemmas.List.{drop-drop, take-append-drop, drop_more, get_or_at, take-take, get_or-take}
+use Rattle.std.proofs.lemmas.Bool.{cases_lt}
 use Rattle.dr_entry.specs.declared.record.Record.{Record}
 use Rattle.dr_entry.specs.Spelling.{Fits, IsValid, Spells, spelling}
-use Rattle.dr_entry.proofs.RoundTrip.{decoded_again}
+use Rattle.dr_entry.proofs.RoundTrip.{decoded_again, one_spelled}
+use Rattle.dr_entry.proofs.ListFacts.{gate_first, IsWhole}
+use Rattle.dr_entry.specs.declared.record.Record.TheVariants as records
 use Rattle.dr_log_bytes.specs.declared.block.Block.TheVariants as found
 use Rattle.dr_log_bytes.specs.Blocks.{HasNoRecord, IsBlockAt}
 use Rattle.dr_log_bytes.specs.Content.{ArePlaced, IsPlaced, OnLog, block_length, content_after, empty_of, with_record}
-use Rattle.dr_log_bytes.specs.Grammar.{AreSpelled, BreaksAt, IsBroken, IsLog, IsLogOf, blocks, magic_of}
+use Rattle.dr_log_bytes.specs.Grammar.{AreSpelled, BreaksAt, IsBroken, IsLog, IsLogOf, blocks, magic_of, StandFor}
 use Rattle.dr_log_bytes.specs.Parsed.{IsParsed, IsReadTo}
-use Rattle.dr_log_bytes.proofs.Meaning.{one_spelled}
+use Rattle.dr_log_bytes.proofs.Grammars.{parts_of, content-append}
+use Rattle.dr_log_bytes.proofs.Moments.{made_by, Stands, Behind}
 
 -- ---- one record more
 
@@ -56,12 +60,6 @@ placed-added c [] r all placed = (placed, tt)
 placed-added c (s ∷ rs) r all placed = (all.0, placed-added (with_record s c) rs r all.1 placed)
 
 -- ---- reading
-
--- the gate and what stands behind it
-gate_first : (bytes : List ℕ) (at gate : ℕ) → at < length bytes → get_or bytes at 0 ≡ gate
-    → drop at bytes ≡ gate ∷ drop (at + 1) bytes
-gate_first bytes at gate inside is = drop_more bytes at 0 inside
-    ∙ ap (λ (g : ℕ). g ∷ drop (at + 1) bytes) is
 
 pub length-magic : (newer : Bool) → length (magic_of newer) ≡ 8
 length-magic true = refl
@@ -128,15 +126,6 @@ closed_read bytes newer rs at is (inside, closed) = record {
       (gate_first bytes at (get_or bytes at 0) inside refl);
 }
 
-pub found_parsed : (bytes : List ℕ) (c : OnLog) (at : ℕ)
-    → IsParsed bytes c at → IsBlockAt bytes at found.Closed → IsLogOf bytes c
-found_parsed bytes c at is block = record {
-  newer = is.newer;
-  records = is.records;
-  log = closed_read bytes is.newer is.records at is.read block;
-  content = is.content;
-}
-
 -- where the next record stands the log that is read so far would end
 pub length_parsed : (bytes : List ℕ) (c : OnLog) (at : ℕ) → IsParsed bytes c at → c.length ≡ at + 1
 length_parsed bytes c at is = omega (
@@ -197,6 +186,101 @@ pub broken_behind : (bytes : List ℕ) (at : ℕ) → at < length bytes → get_
 broken_behind bytes at inside gate none =
     subst HasNoRecord (sym (gate_first bytes at 1 inside gate)) (refl, none)
 
--- the bytes from a place on, as the code takes them
-pub rest_is : (bytes : List ℕ) (k : ℕ) → take (length bytes - k) (drop k bytes) ≡ drop k bytes
-rest_is bytes k = take_all (length bytes - k) (drop k bytes) (omega (arith, length-drop k bytes))
+short_log : (n : Bool) (rs : List Record) (bytes : List ℕ) → IsLog bytes n rs → length bytes ≤ 9 → rs ≡ []
+short_log n [] bytes is short = refl
+short_log n (r ∷ rs) bytes is short =
+    absurd (omega (
+      arith,
+      short,
+      ap length is.parts,
+      length-append (magic_of n) (blocks (r ∷ rs) ++ (is.gate ∷ is.rest)),
+      length-magic n,
+      length-append (spelling r) (blocks rs),
+      length-append (spelling r ++ blocks rs) (is.gate ∷ is.rest),
+    ))
+
+-- one with a record is no short one
+pub long_log : (n : Bool) (rs : List Record) (bytes : List ℕ) → IsLog bytes n rs → 0 < length rs
+    → IsWhole n bytes
+long_log n rs bytes is some older = by (cases_lt 9 (length bytes))
+  where
+    by : (9 < length bytes) ⊎ (length bytes ≤ 9) → 9 < length bytes
+    by (inl l) = l
+    by (inr l) = absurd (omega (arith, ap length (short_log n rs bytes is l), some))
+
+pub log_stands : (bytes : List ℕ) (n : Bool) (rs : List Record) (c : OnLog) → IsLog bytes n rs
+    → IsWhole n bytes → content_after (empty_of n) rs ≡ c → StandFor bytes c
+log_stands bytes n rs c is whole same = by (cases_lt 9 (length bytes))
+  where
+    newer : (b : Bool) → n ≡ b → length bytes ≤ 9 → n ≡ true
+    newer true e l = e
+    newer false e l = absurd (omega (arith, whole e, l))
+
+    by : (9 < length bytes) ⊎ (length bytes ≤ 9) → StandFor bytes c
+    by (inl l) = inr (l, record { newer = n; records = rs; log = is; content = same })
+    by (inr l) = inl (
+      l,
+      sym same ∙ ap (content_after (empty_of n)) (short_log n rs bytes is l)
+          ∙ ap empty_of (newer n refl l),
+    )
+
+front_length : (f : Bool) (rs : List Record) (q : ℕ) → q ≡ 8 + length (blocks rs)
+    → length (magic_of f ++ blocks rs) ≡ q
+front_length f rs q gate = omega (arith, gate, length-append (magic_of f) (blocks rs), length-magic f)
+
+-- what stands before the closed gate of a log, which is at q
+pub front_is : (bytes : List ℕ) (f : Bool) (rs : List Record) (q : ℕ) → IsLog bytes f rs
+    → q ≡ 8 + length (blocks rs) → take q bytes ≡ magic_of f ++ blocks rs
+front_is bytes f rs q log gate = ap (take q) (parts_of bytes f rs log) ∙ take_at (magic_of f ++ blocks rs)
+    (log.gate ∷ log.rest) q (front_length f rs q gate)
+
+-- the gate itself
+gate_is : (bytes : List ℕ) (f : Bool) (rs : List Record) (q : ℕ) → IsLog bytes f rs
+    → q ≡ 8 + length (blocks rs) → get_or bytes q 0 ≢ 1
+gate_is bytes f rs q log gate e =
+    log.closed (sym (ap (λ (l : List ℕ). get_or l q 0) (parts_of bytes f rs log)
+    ∙ get_or_at (magic_of f ++ blocks rs) log.gate log.rest 0 q (front_length f rs q gate)) ∙ e)
+
+-- the gate is inside
+pub gate_inside : (bytes : List ℕ) (f : Bool) (rs : List Record) (q : ℕ) → IsLog bytes f rs
+    → q ≡ 8 + length (blocks rs) → q < length bytes
+gate_inside bytes f rs q log gate = omega (
+  arith,
+  front_length f rs q gate,
+  ap length (parts_of bytes f rs log),
+  length-append (magic_of f ++ blocks rs) (log.gate ∷ log.rest),
+)
+
+-- bytes that are the same up to the gate, with it, are a log of the same records
+pub same_front : (old bytes : List ℕ) (f : Bool) (rs : List Record) (q : ℕ) → IsLog old f rs
+    → q ≡ 8 + length (blocks rs) → q < length bytes → take (q + 1) bytes ≡ take (q + 1) old
+    → IsLog bytes f rs
+same_front old bytes f rs q log gate inside same = record {
+  spelled = log.spelled;
+  placed = log.placed;
+  gate = get_or bytes q 0;
+  closed = λ e. gate_is old f rs q log gate (sym (get_or-take (q + 1) old q 0 (omega arith))
+      ∙ sym (ap (λ (l : List ℕ). get_or l q 0) same) ∙ get_or-take (q + 1) bytes q 0 (omega arith)
+      ∙ e);
+  rest = drop (q + 1) bytes;
+  parts = sym (take-append-drop q bytes)
+      ∙ ap (λ (l : List ℕ). l ++ drop q bytes) (sym (take-take q (q + 1) bytes (omega arith))
+      ∙ ap (take q) same ∙ take-take q (q + 1) old (omega arith) ∙ front_is old f rs q log gate)
+      ∙ ap (λ (l : List ℕ). (magic_of f ++ blocks rs) ++ l) (drop_more bytes q 0 inside)
+      ∙ append_assoc (magic_of f) (blocks rs) (get_or bytes q 0 ∷ drop (q + 1) bytes);
+}
+
+pub before_stands : (bytes : List ℕ) (f : Bool) (rs news : List Record) → IsLog bytes f rs → IsWhole f bytes
+    → Stands f rs news bytes
+before_stands bytes f rs news log whole = inl (log_stands bytes f rs (made_by f rs) log whole refl)
+
+pub after_stands : (bytes : List ℕ) (f : Bool) (rs news : List Record) → 0 < length news
+    → IsLog bytes f (rs ++ news) → Stands f rs news bytes
+after_stands bytes f rs news some log =
+    inr (log_stands bytes f (rs ++ news) (content_after (made_by f rs) news) log
+    (long_log f (rs ++ news) bytes log (omega (arith, length-append rs news, some)))
+    (content-append (empty_of f) rs news))
+
+pub begins : (old : List ℕ) (f : Bool) (rs : List Record) (q p : ℕ) (news : List Record) → Behind old f rs q p news
+    → p ≤ length old
+begins old f rs q p news b = omega (arith, gate_inside old f rs q b.log b.gate, b.place)

@@ -1,18 +1,32 @@
 -- What an append to a log has come to for its member.
-use Rattle.std.proofs.Common.{◌≡◌, refl, sym, subst, ℕ, ◌+◌, ◌<◌, ◌≤◌, arith}
-use Rattle.std.specs.Prelude.{Option, Err, IsErrOf}
+use Rattle.std.proofs.Common.{◌≡◌, refl, sym, subst, ℕ, ◌+◌, ◌<◌, ◌≤◌, arith, ap, true, length, ltb-true, false, List}
+use Rattle.std.specs.Prelude.{Option, Err, IsErrOf, None, All, Some}
+use Rattle.std.proofs.lemmas.Bool.{and_parts}
 use Rattle.dr_disk.specs.Disk.{Told}
 use Rattle.dr_entry.specs.declared.record.Record.{Record}
+use Rattle.dr_entry.proofs.Records.{IsOrdinary}
+use Rattle.dr_entry.specs.declared.record.Value.{Value}
+use Rattle.dr_entry.specs.declared.entry.Entry.TheVariants.{View}
+use Rattle.dr_entry.specs.Spelling.{IsValid, IsValidEntry}
+use Rattle.dr_entry.specs.declared.entry.Entry.{Entry}
 use Rattle.dr_io.specs.Faults.{Rose}
 use Rattle.dr_log.specs.declared.fault.LogFault.{LogFault}
 use Rattle.dr_log.specs.declared.fault.LogFault.TheVariants as faults
 use Rattle.dr_disk.specs.Images.{Goes, Lasts}
 use Rattle.dr_log.specs.Standing.{HasAllOf, IsBeforeOrAfter, LosesNone}
 use Rattle.dr_log.specs.State.{KeepsLimit, LogState, appended, as_entry, as_other, as_vote, broken_off as log_broken_off}
-use Rattle.dr_log.proofs.Ordinary.{IsOrdinary, ordinary_keeps, ordinary_placed, ordinary_spare}
+use Rattle.dr_log.proofs.Ordinary.{ordinary_keeps, ordinary_spare}
 use Rattle.dr_log_bytes.specs.Content.{IsPlaced, OnLog, block_length, with_record}
+use Rattle.dr_log_bytes.proofs.Grammars.{ordinary_placed}
+use Rattle.dr_machine.specs.declared.step.Step.{Step}
+use Rattle.dr_machine.specs.declared.step.Step.TheVariants.{Append, LogVote}
 use Rattle.dr_program.specs.Running.{Running, broken_off, next_step}
-use Rattle.dr_logged.specs.Appended.{HasAppended, IsAppendDue, record_due, why_of}
+use Rattle.dr_program.proofs.Voting.{vote_room, vote_valid, votes_for}
+use Rattle.dr_program.specs.Form.{HasForm}
+use Rattle.dr_program.specs.Replica.{is_inside, may_append, may_vote, vote_of}
+use Rattle.dr_program.specs.Steps.{IsAppend, allows, IsNoJoin, stored_letters}
+use Rattle.dr_program.specs.Schedule.{is_between_turns}
+use Rattle.dr_logged.specs.Appended.{HasAppended, IsAppendDue, record_due, why_of, MayLog, record_of, is_append}
 use Rattle.dr_logged.specs.Served.{HasServed, IsReady, IsSafe, LosesNothing}
 use Rattle.dr_logged.proofs.Serving.{failed_served, full_served, ordinary_record, spares, unfailed}
 
@@ -87,3 +101,38 @@ pub has_place : {D : Type 0} (log : LogState D) (r : Running) (due : Record) →
 has_place log r due same =
     let ordinary = ordinary_due r due same in
     (omega (arith, ordinary_spare due ordinary), ordinary_placed due log.content ordinary)
+
+-- an append that is allowed is of the next entry, which is there, or of a vote
+pub may_log : (r : Running) (s : Step) → HasForm r.replica → IsAppend s → allows r.replica s ≡ true
+    → r.replica.pending ≡ None → MayLog r s
+may_log r Append form is both free = ltb-true r.replica.logged (length r.replica.history)
+    (and_parts (is_inside r.replica) (may_append r.replica) both).1
+may_log r (LogVote v) form is both free =
+    let may = (and_parts (is_inside r.replica) (may_vote r.replica v) both).1 in record {
+      may = subst (λ (x : Value). may_vote r.replica x ≡ true) (votes_for r.replica v may) may;
+      is = ap (vote_of r.replica) (votes_for r.replica v may);
+      valid = vote_valid r.replica v form may;
+      few = vote_room r.replica v form free may;
+    }
+may_log r s form is may free = absurd is
+
+-- and its record is valid where the entries of the member's history are
+pub valid_due : (r : Running) (s : Step) → All IsValidEntry r.replica.history → MayLog r s
+    → IsValid (record_of r s)
+valid_due r Append valid may = valid r.replica.logged (View 0 0 0) may
+valid_due r (LogVote v) valid may = may.valid
+valid_due r s valid may = absurd may
+
+-- the deed is no append, no take, and gives no letter
+pub record IsPlain (r : Running) (s : Step) : Type 0 where
+  pub other : is_append s ≡ false
+  pub no_join : IsNoJoin s
+  pub posts : (letters : List (Option (List Entry))) → stored_letters letters r.replica s ≡ letters
+
+-- so it has not ended, appends nothing, and stands amid its turn
+pub record IsSweeping (r : Running) : Type 0 where
+  pub none : r.replica.end ≡ None
+  pub other : is_append (next_step r) ≡ false
+  pub no_join : IsNoJoin (next_step r)
+  pub posts : (letters : List (Option (List Entry))) → stored_letters letters r.replica (next_step r) ≡ letters
+  pub amid : is_between_turns (Some r) ≡ false

@@ -1,12 +1,13 @@
 -- What a mount finds of a log that its member has left.
-use Rattle.std.proofs.Common.{◌≡◌, sym, ap, ◌∙◌, subst, ℕ, ◌+◌, inl, inr, List, [], ◌∷◌, ◌++◌, take, drop, Option, Some, None}
+use Rattle.std.proofs.Common.{◌≡◌, sym, ap, ◌∙◌, ℕ, ◌+◌, inl, inr, List, [], ◌∷◌, ◌++◌, take, drop, Option, Some, None}
 use Rattle.std.proofs.lemmas.Option.{get_or_from_slice_get, slice_get_within}
 use Rattle.std.proofs.lemmas.List.{take_more, take-append-drop}
 use Rattle.dr_disk.specs.Disk.{Told, content_of}
-use Rattle.dr_disk.specs.Images.{IsLeft, ReadsAnImage}
+use Rattle.dr_disk.specs.Images.{ReadsAnImage}
 use Rattle.dr_entry.specs.declared.entry.Entry.{Entry}
 use Rattle.dr_entry.specs.declared.record.Record.{Record}
 use Rattle.dr_entry.specs.declared.record.Record.TheVariants as records
+use Rattle.dr_disk.proofs.Images.{of_content}
 use Rattle.dr_log.specs.Standing.{IsBeforeOrAfter}
 use Rattle.dr_log.specs.State.{LogState}
 use Rattle.dr_log_bytes.specs.Content.{OnLog, with_record}
@@ -17,11 +18,6 @@ use Rattle.dr_program.specs.declared.outcome.LogWhy.TheVariants as whys
 use Rattle.dr_program.specs.Replica.{Replica}
 use Rattle.dr_logged.specs.Served.{HasCome, IsRecordDue}
 use Rattle.dr_logged.specs.Left.{IsLeftOf}
-
--- what holds of each image holds of what a read gives
-of_content : (told : Option Told) (t : Told) (P : List ℕ → Type 0) → IsLeft told P → told ≡ Some t
-    → ReadsAnImage t → P (content_of t)
-of_content told t P left is reads = subst (λ (o : Option Told). IsLeft o P) is left (content_of t) reads
 
 pub left_log : {D : Type 0} (told : D → Option Told) (faults : D → ℕ) (base log : LogState D)
     (r : Replica) (found : OnLog) (why : Option LogWhy) (t : Told)

@@ -3,3 +3,4 @@ pub mod Leaving
 pub mod Appends
 pub mod Rooms
 pub mod Dues
+pub mod Served

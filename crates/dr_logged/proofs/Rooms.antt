@@ -1,11 +1,17 @@
 -- Room on the log of a member.
-use Rattle.std.proofs.Common.{◌≡◌, sym, ap, ◌∙◌, ℕ, ◌*◌, ◌-◌, max, false, length, arith}
+use Rattle.std.proofs.Common.{◌≡◌, sym, ap, ◌∙◌, ℕ, ◌*◌, ◌-◌, max, false, length, arith, ◌<◌, List, ◌+◌, inl, inr, ◌++◌, drop}
 use Rattle.std.proofs.Math.Nat.{le-max_right}
-use Rattle.std.specs.Prelude.{Option}
+use Rattle.std.specs.Prelude.{Option, None, slice_set}
+use Rattle.std.proofs.lemmas.List.{get_or-set_same, get_or-set_other, take-append-drop}
+use Rattle.dr_entry.specs.declared.end.MemberEnd.{MemberEnd}
+use Rattle.dr_entry.specs.declared.entry.Entry.{Entry}
 use Rattle.dr_disk.specs.Disk.{Told}
+use Rattle.dr_history.specs.History.{IsPrefixOf}
 use Rattle.dr_log.specs.State.{LogState}
 use Rattle.dr_program.specs.Running.{Running}
+use Rattle.dr_program.specs.Presence.{present_at}
 use Rattle.dr_logged.specs.Served.{IsRoomy, IsSafe}
+use Rattle.dr_logged.specs.Left.{IsLeftOf}
 
 -- a log that got room for what a member may still append
 pub roomy : {D : Type 0} (told : D → Option Told) (count : D → ℕ) (r : Running) (old new : LogState D)
@@ -32,3 +38,20 @@ roomy {D} told count r old new n k is are made tells calm safe = record {
   calm = calm;
   safe = safe;
 }
+
+-- what stands at place k once it was set, and at the others
+pub here_set : {D : Type 0} (news : List (Option (LogState D))) (k : ℕ) (new : Option (LogState D)) → k < length news
+    → present_at (slice_set news k new) k ≡ new
+here_set news k new within = get_or-set_same news k new None within
+
+pub others_set : {D : Type 0} (news : List (Option (LogState D))) (m k : ℕ) (new : Option (LogState D))
+    → (m ≡ k → ⊥) → present_at (slice_set news k new) m ≡ present_at news m
+others_set news m k new other = get_or-set_other news k m new None other
+
+-- it is a part of the history
+pub left_part : (e : MemberEnd) (es : List Entry) → IsLeftOf e.history e.logged es → IsPrefixOf es e.history
+left_part e es (inl same) = (
+  drop e.logged e.history,
+  ap (λ (l : List Entry). l ++ drop e.logged e.history) same ∙ take-append-drop e.logged e.history,
+)
+left_part e es (inr more) = more.2

@@ -1,47 +1,44 @@
 -- Each deed of a member leaves its log ready and served.
-use Rattle.std.proofs.Common.{◌≡◌, ◌≢◌, refl, sym, ap, ◌∙◌, subst, ℕ, ◌+◌, ◌*◌, ◌-◌, ◌<◌, ◌≤◌, max, false, List, [], ◌∷◌, ◌++◌, length, take, drop, append-nil, append_assoc, le_refl, le_trans, arith}
-use Rattle.std.specs.Prelude.{Option, None, Some, slice_index_or, unwrap_or}
-use Rattle.std.specs.Prelude.{◌^◌}
-use Rattle.std.proofs.Math.Nat.{le-min, le-max_left, le-max_right, min-le_left, min-le_right}
+use Rattle.std.proofs.Common.{◌≡◌, ◌≢◌, refl, sym, ap, ◌∙◌, subst, ℕ, ◌+◌, ◌*◌, ◌-◌, ◌<◌, ◌≤◌, max, false, List, [], ◌∷◌, ◌++◌, length, take, drop, append-nil, append_assoc, le_refl, le_trans, arith, length-append}
+use Rattle.std.specs.Prelude.{Option, None, Some, slice_index_or}
+use Rattle.std.proofs.Math.Nat.{le-max_left, le-max_right}
 use Rattle.std.proofs.lemmas.List.Sums.{sum_by_push}
 use Rattle.dr_entry.specs.Spelling.{entry_spelling, vote_spelling}
 use Rattle.std.proofs.lemmas.Option.{same_Some, slice_get-get_or}
 use Rattle.std.proofs.lemmas.List.{length_push, take-append-drop, take-append-le, take_all, take_more}
-use Rattle.std.proofs.Math.Seq.{take-append_seam}
 use Rattle.dr_entry.specs.declared.entry.Entry.{Entry}
 use Rattle.dr_entry.specs.declared.entry.Entry.TheVariants.{View}
 use Rattle.dr_entry.specs.declared.record.Record.{Record}
 use Rattle.dr_entry.specs.declared.record.Vote.{Vote}
 use Rattle.dr_entry.specs.declared.record.Record.TheVariants as records
+use Rattle.dr_entry.proofs.Records.{IsOrdinary}
+use Rattle.dr_entry.proofs.OptionFacts.{none_or_some}
 use Rattle.dr_disk.specs.Disk.{Told}
 use Rattle.dr_disk.specs.Images.{Goes, IsLeft}
-use Rattle.dr_disk.proofs.Moments.{Goes-last, goes_on, lasts_still, lasts_then, stays_at}
+use Rattle.dr_disk.proofs.Moments.{Goes-last, lasts_still, lasts_then, stays_at}
 use Rattle.dr_io.specs.Faults.{Rose}
+use Rattle.dr_io.proofs.KnownLemmas.{rose_since}
 use Rattle.dr_log.specs.Standing.{HasAllOf, IsBeforeOrAfter, LosesNone, entries_length, votes_length}
 use Rattle.dr_log.specs.State.{LogState, appended, as_entry, as_vote, broken_off as log_broken_off}
-use Rattle.dr_log.proofs.Ordinary.{IsOrdinary, has_itself, none_lost, none_lost_by, ordinary_age_votes, ordinary_newer}
+use Rattle.dr_log.proofs.Ordinary.{has_itself, none_lost, moments_on}
 use Rattle.dr_log_bytes.specs.Content.{OnLog, block_length, with_record}
 use Rattle.dr_log_bytes.specs.Grammar.{StandFor}
-use Rattle.dr_machine.specs.declared.event.Act.{Act}
-use Rattle.dr_program.specs.Acts.{taken}
+use Rattle.dr_log_bytes.proofs.Grammars.{ordinary_age_votes, ordinary_newer}
 use Rattle.dr_machine.specs.declared.step.Step.{Step}
 use Rattle.dr_machine.specs.declared.step.Step.TheVariants.{Append, LogVote}
-use Rattle.dr_machine.specs.World.{no_value}
-use Rattle.dr_program.proofs.Finishing.{finished_more}
 use Rattle.dr_program.proofs.Fixed.{Told as ToldReplica, step_told}
-use Rattle.dr_program.proofs.StepsAt.{push_either}
-use Rattle.dr_program.specs.declared.place.Part.{Part}
-use Rattle.dr_program.specs.declared.place.Part.TheVariants as parts
 use Rattle.dr_program.specs.declared.outcome.LogWhy.{LogWhy}
 use Rattle.dr_program.specs.declared.outcome.LogWhy.TheVariants as whys
-use Rattle.dr_program.specs.Replica.{Replica, acted, finished, vote_of}
-use Rattle.dr_program.specs.Running.{Running, after_step, append_or_end, broken_off, columns, crashes_now, end_by, members, next_step, settled, step_at, took, took_letter, AsksForLetter}
+use Rattle.dr_program.specs.Replica.{Replica, vote_of}
+use Rattle.dr_program.specs.Running.{Running, after_step, append_or_end, broken_off, end_by, next_step, settled, took_letter, AsksForLetter}
 use Rattle.dr_program.specs.Steps.{IsAppend, stepped}
-use Rattle.dr_program.specs.Turn.{part_of, places_in}
+use Rattle.dr_program.specs.Turn.{part_of}
 use Rattle.dr_program.specs.declared.place.Place.{Place}
-use Rattle.dr_program.specs.declared.place.TheConstants.{TURN}
-use Rattle.dr_turn.proofs.Failing.{append_at}
-use Rattle.dr_turn.proofs.Search.{settle_only}
+use Rattle.dr_program.proofs.Finishing.{begins_so}
+use Rattle.dr_program.proofs.RunningPrograms.{took_failed}
+use Rattle.dr_program.proofs.StepsAt.{ends_at}
+use Rattle.dr_turn.proofs.Search.{settled_same, settled_took}
+use Rattle.dr_turn.proofs.Failing.{none_failed}
 use Rattle.dr_logged.specs.Appended.{IsAppendDue, MayLog, is_append, record_due, record_of}
 use Rattle.dr_logged.specs.Served.{EndsNext, HasCome, HasServed, IsReady, IsRecordDue, IsRoomy, IsSafe, LetterGoesOn, LosesNothing, WentSo}
 use Rattle.dr_logged.proofs.Dues.{due_still}
@@ -55,17 +52,6 @@ pub record Grows (r q : Replica) : Type 0 where
   pub logged : q.logged ≡ r.logged
   pub votes : q.votes ≡ r.votes
 
--- the history begins as before: at the end of a view too
-begins_so : (r : Replica) (a : Act) → take (length r.history) (taken r a).history ≡ r.history
-begins_so r a = grind (arith, itself, take-append_seam {A = Entry}, ended)
-  where
-    itself : (h : List Entry) → take (length h) h ≡ h
-    itself h = take_all (length h) h (le_refl _)
-
-    ended : take (length r.history) (finished (acted r)).history ≡ r.history
-    ended = let all = finished_more (acted r) (unwrap_or r.committed no_value) in
-        ap (take (length r.history)) all.1 ∙ take-append_seam r.history all.0
-
 pub grows : (word : ℕ) (r : Replica) (s : Step) → is_append s ≡ false → Grows r (stepped word r s)
 grows word r s other = record {
   more = drop (length r.history) (stepped word r s).history;
@@ -75,14 +61,6 @@ grows word r s other = record {
   logged = grind (arith, other);
   votes = grind (arith, other);
 }
-
--- the search changes nothing but the place
-pub settled_same : (word : ℕ) (r : Running)
-    → after_step word r ≡ record (took word r (next_step r)) { place = (after_step word r).place }
-settled_same word r = settle_only (places_in (members r') (columns r') TURN) r'
-  where
-    r' : Running
-    r' = took word r (next_step r)
 
 -- ---- the log of a member that doesn't append
 
@@ -126,10 +104,6 @@ due_on word r None e ends none next some due = absurd (some refl)
 due_on word r (Some why) e ends none next some due =
     subst (λ s. IsRecordDue (stepped word r.replica s) next) (sym (ends why e none))
     (due_still r.replica (end_by why) next due)
-
--- nothing is none and some
-none_or_some : {X : Type 0} (o : Option X) (x : X) → o ≡ None → o ≡ Some x → ⊥
-none_or_some o x none some = cc (none, some)
 
 -- a member that has found its next place
 found_place : {D : Type 0} (told : D → Option Told) (faults : D → ℕ) (base log : LogState D) (word : ℕ)
@@ -185,22 +159,11 @@ took_grows None r on = record {
 }
 took_grows (Some letter) r on = record { more = on.0; history = on.1; logged = refl; votes = refl }
 
-took_failed : (letter : Option (List Entry)) (r : Running) → (took_letter letter r).failed ≡ r.failed
-took_failed None r = refl
-took_failed (Some letter) r = refl
-
 took_ready : {D : Type 0} (log : LogState D) (letter : Option (List Entry)) (r : Running) → IsReady log r
     → IsReady log (took_letter letter r)
 took_ready log None r ready = record { whole = ready.whole; spare = ready.spare; votes = ready.votes }
 took_ready log (Some letter) r ready =
     record { whole = ready.whole; spare = ready.spare; votes = ready.votes }
-
-settled_took : (letter : Option (List Entry)) (r : Running) → settled (took_letter letter r)
-    ≡ record (took_letter letter r) { place = (settled (took_letter letter r)).place }
-settled_took letter r = settle_only (places_in (members r') (columns r') TURN) r'
-  where
-    r' : Running
-    r' = took_letter letter r
 
 -- no append of a member that takes has failed
 takes_well : (r : Running) (why : Option LogWhy) → r.failed ≡ why → EndsNext r → AsksForLetter r → why ≡ None
@@ -234,10 +197,6 @@ took_stays_ready log letter r ready =
 
 -- ---- an append
 
--- the step is an append only where none has failed
-pub none_failed : (r : Running) → IsAppend (next_step r) → r.failed ≡ None
-none_failed r is = (append_at r (part_of r.place) r.place.row r.place.column is).1
-
 is_logged : (r : Running) (s : Step) → MayLog r s → IsAppend s
 is_logged r Append may = tt
 is_logged r (LogVote v) may = tt
@@ -251,15 +210,6 @@ pub next_is : (r : Running) (s : Step) → MayLog r s → IsRecordDue r.replica 
 next_is r Append may = slice_get-get_or r.replica.history r.replica.logged (View 0 0 0) may
 next_is r (LogVote v) may = may
 next_is r s may = absurd may
-
--- a member whose append fails ends by that
-ends_at : (why : LogWhy) (r : Running) (part : Part) (i c : ℕ) → IsAppend (step_at r part i c)
-    → step_at (broken_off why r) part i c ≡ append_or_end (Some why)
-ends_at why r parts.Append i c due = refl
-ends_at why r parts.Vote i c due = refl
-ends_at why r parts.Push i c due =
-    absurd (push_either (λ s. IsAppend s → ⊥) (crashes_now r) i c (λ x. x) (λ x. x) due)
-ends_at why r part i c due = absurd due
 
 ends_next : (why : LogWhy) (r : Running) → MayLog r (next_step r) → EndsNext (broken_off why r)
 ends_next why r may reason failed none =
@@ -283,27 +233,10 @@ has_base told faults base log r why come = record {
   age_votes = come.age_votes ∙ sym (append-nil base.content.age_votes);
 }
 
-moments_on : {D : Type 0} (told : D → Option Told) (base log new : LogState D) (r : Record) → IsOrdinary r
-    → HasAllOf base.content log.content
-    → Goes (told base.disk) (told log.disk) (λ calls. LosesNone base.content)
-    → Goes (told log.disk) (told new.disk) (λ calls. IsBeforeOrAfter log.content r)
-    → Goes (told base.disk) (told new.disk) (λ calls. LosesNone base.content)
-moments_on told base log new r ordinary has first next =
-    goes_on (told base.disk) (told log.disk) (told new.disk) (λ calls. LosesNone base.content)
-    (λ calls. IsBeforeOrAfter log.content r) (λ calls. LosesNone base.content)
-    (λ calls image at is. is)
-    (λ calls more image at there is. none_lost_by base.content log.content r image ordinary has is)
-    first next
-
 lasting_on : {D : Type 0} (told : D → Option Told) (base log new : LogState D)
     → LosesNothing told base log → LosesNothing told log new → LosesNothing told base new
 lasting_on told base log new before behind = λ first.
     lasts_then (told base.disk) (told log.disk) (told new.disk) (LosesNone first) (before first) (behind first)
-
--- a count that rose from a later value rose from an earlier one
-rose_since : (base old new : ℕ) → base ≤ old → Rose old new → Rose base new
-rose_since base old new later rose =
-    le_trans (le-min (omega (arith, min-le_left (base + 1) (2 ^ 64 - 1), later)) (min-le_right _ _)) rose
 
 -- what an append that went well has come to, by its record and by what the member has logged then
 record Put {D : Type 0} (told : D → Option Told) (faults : D → ℕ) (base log new : LogState D)
@@ -621,3 +554,13 @@ begins {D} told faults old new r roomy whole has all empty none = (
       calm = λ unbroken. roomy.calm;
       later = omega (arith, roomy.calm);
     }
+
+-- no more is logged than there is, as before
+pub logged_on : (word : ℕ) (r : Running) → is_append (next_step r) ≡ false
+    → r.replica.logged ≤ length r.replica.history
+    → (after_step word r).replica.logged ≤ length (after_step word r).replica.history
+logged_on word r other within =
+    let g = grows word r.replica (next_step r) other in
+    subst (λ (x : Replica). x.logged ≤ length x.history)
+    (sym (ap (λ (x : Running). x.replica) (settled_same word r)))
+    (omega (arith, within, g.logged, ap length g.history, length-append r.replica.history g.more))

@@ -4,3 +4,5 @@ pub mod Presence
 pub mod Events
 pub mod Ends
 pub mod Voting
+pub mod Groups
+pub mod Worlds

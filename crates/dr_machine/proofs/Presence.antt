@@ -3,10 +3,10 @@ use Rattle.std.proofs.Common.{◌≡◌, refl, ap, sym, ◌∙◌, length, ℕ, 
 use Rattle.dr_entry.specs.declared.limits.TheConstants.{MAX_MEMBERS}
 use Rattle.dr_history.specs.Members.{has, members_of}
 use Rattle.dr_history.specs.Order.{IsLateIn}
+use Rattle.dr_history.proofs.Bits.{has_ones}
+use Rattle.dr_history.proofs.MemberLemmas.{few_members}
 use Rattle.dr_machine.specs.Group.{AllPresent, Group, IsGroup, IsPresent, late_members, roster}
-use Rattle.dr_words.proofs.Bits.{has_ones}
 use Rattle.dr_words.proofs.Masks.{has_without_mask, in_roster_small}
-use Rattle.dr_words.proofs.Ranks.{few_members}
 
 -- who is there is of the roster
 pub in_roster : (g : Group) (m : ℕ) → IsGroup g → IsPresent g m → m < roster g

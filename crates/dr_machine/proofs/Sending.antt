@@ -1,36 +1,13 @@
 -- What a member puts in a view: what stands behind what it has put.
-use Rattle.std.proofs.Common.{List, Some, [], ap, arith, inl, inr, length, refl, slice_get, suc, sym, zero, ℕ, ◌++◌, ◌+◌, ◌<◌, ◌∙◌, ◌∷◌, ◌≡◌, ◌≢◌, ◌≤◌, ◌⊎◌}
+use Rattle.std.proofs.Common.{List, Some, [], ap, arith, inl, inr, length, slice_get, sym, ℕ, ◌++◌, ◌+◌, ◌<◌, ◌∙◌, ◌∷◌, ◌≡◌, ◌≢◌, ◌≤◌, ◌⊎◌}
 use Rattle.std.proofs.lemmas.Bool.{cases_eq, cases_lt}
-use Rattle.std.proofs.lemmas.List.{append-nil, length_push}
-use Rattle.std.proofs.lemmas.List.Elements.{filter-append}
-use Rattle.std.proofs.lemmas.List.Sums.{count_by-le-length, length-filter}
+use Rattle.std.proofs.lemmas.List.{length_push}
 use Rattle.dr_entry.specs.declared.end.SentItem.{SentItem}
 use Rattle.dr_entry.specs.declared.end.SentItem.TheVariants.{Index, Null}
+use Rattle.dr_entry.proofs.ListPlaces.{get_next, get_before}
 use Rattle.dr_history.specs.History.{messages_in}
+use Rattle.dr_history.proofs.Histories.{messages_within, messages_next, messages_null}
 use Rattle.dr_machine.specs.Sending.{IsPut}
-
-messages_next : (items : List SentItem) (i : ℕ) → messages_in (items ++ Index i ∷ [])
-    ≡ messages_in items + 1
-messages_next items i = rw (filter-append _ items (Index i ∷ [])) (length_push _ _)
-
--- a null is no message
-pub messages_null : (items : List SentItem) → messages_in (items ++ Null ∷ []) ≡ messages_in items
-messages_null items = rw (filter-append _ items (Null ∷ [])) (ap length (append-nil _))
-
--- no more of the items are messages than there are
-pub messages_within : (items : List SentItem) → messages_in items ≤ length items
-messages_within items = rw (length-filter _ items) (count_by-le-length _ items)
-
-get_next : {A : Type 0} (xs : List A) (x : A) (k : ℕ) → (k ≡ length xs)
-    → slice_get (xs ++ x ∷ []) k ≡ Some x
-get_next [] x k e = rw e refl
-get_next (y ∷ xs) x k e = rw e (get_next xs x (length xs) refl)
-
-get_before : {A : Type 0} (xs : List A) (x : A) (k : ℕ) → k < length xs → slice_get (xs ++ x ∷ []) k
-    ≡ slice_get xs k
-get_before [] x k l = absurd (omega arith)
-get_before (y ∷ xs) x zero l = refl
-get_before (y ∷ xs) x (suc k) l = get_before xs x k (omega arith)
 
 -- where a message is left, nothing but messages was put
 pub only_messages : (first total : ℕ) (items : List SentItem) → IsPut first total items

@@ -1,6 +1,7 @@
 -- A member along a row that it takes whole: one deed after the other.
-use Rattle.std.proofs.Common.{◌≡◌, refl, sym, ap, ◌∙◌, subst, ℕ, zero, suc, ◌+◌, ◌-◌, ◌<◌, ◌≤◌, ◌||◌, Bool, true, false, List, length, min, ◌^◌, slice_index, slice_set, Option, None, Some, is_some, inl, inr, arith}
+use Rattle.std.proofs.Common.{◌≡◌, refl, sym, ap, ◌∙◌, subst, ℕ, zero, suc, ◌+◌, ◌-◌, ◌<◌, ◌≤◌, ◌||◌, Bool, true, false, List, length, min, ◌^◌, slice_index, slice_set, None, Some, inl, inr, arith}
 use Rattle.std.proofs.lemmas.Bool.{and_parts, cases_lt}
+use Rattle.dr_entry.proofs.NumberFacts.{untrue}
 use Rattle.dr_rows.specs.Along.{Pushes, looked_along, pushed_along, with_push}
 use Rattle.dr_rows.specs.Words as words
 use Rattle.dr_rows.specs.Words.{changed, own, seen}
@@ -24,8 +25,11 @@ use Rattle.dr_program.specs.declared.place.Place.{Place}
 use Rattle.dr_machine.specs.declared.step.Step.TheVariants as steps
 use Rattle.dr_machine.specs.Effects.{one_more}
 use Rattle.dr_suspect.specs.Waits.{Waits, compared}
+use Rattle.dr_machine.proofs.Worlds.{raised, raised_by}
+use Rattle.dr_program.proofs.Replicas.{may_look, IsLookOf}
 use Rattle.dr_turn.specs.Search.{IsUnderway}
 use Rattle.dr_turn.specs.Work.{IsStill, deeds_left}
+use Rattle.dr_turn.proofs.Works.{IsAnswer}
 use Rattle.dr_member.specs.declared.bases.Bases.{Bases}
 use Rattle.dr_member.specs.declared.fate.Fate.{Fate}
 use Rattle.dr_member.specs.Fate.{IsTimely, is_push_now}
@@ -35,12 +39,11 @@ use Rattle.dr_member.specs.Alone.{IsAtSweep, LeadsTo, SeesAlong}
 use Rattle.dr_member.specs.Deeds.{is_look, is_push, table_size}
 use Rattle.dr_member.specs.declared.member.Member.TheInside.{Inside}
 use Rattle.dr_member.specs.Inside.{IsInsideMember, member_inside}
-use Rattle.dr_member.proofs.Answers.{IsAnswer}
 use Rattle.dr_member.proofs.Crashes.{some_at_push}
-use Rattle.dr_member.proofs.Dues.{at_look, may_look, push_due}
+use Rattle.dr_member.proofs.Dues.{at_look, push_due}
 use Rattle.dr_member.proofs.Indices.{columns_after, look_at, push_at}
 use Rattle.dr_member.proofs.Moves.{IsLooked, IsPushed, IsWaited, counted, look_left, looked_inside, looked_row_timely, push_left, pushed_behind, pushed_inside, pushed_timely, waited}
-use Rattle.dr_member.proofs.Sweeps.{IsLookOf, IsOnRow, look_index, look_on, look_takes, looks_begin, looks_end, push_index, push_on, pushes_begin, pushes_end, saw, stale_in, untrue, was_waited, wrote}
+use Rattle.dr_member.proofs.Sweeps.{IsOnRow, look_index, look_on, look_takes, looks_begin, looks_end, push_index, push_on, pushes_begin, pushes_end, saw, stale_in, was_waited, wrote}
 
 -- one deed more
 pub leads_more : (n : ℕ) (words : List ℕ) (r : Running) (cells : List ℕ) (q : Running) (next : List ℕ)
@@ -318,16 +321,6 @@ pub record IsPushing (table : List ℕ) (from : Running) (first : ℕ) (a : Insi
   pub due : is_push (next_deed from) ≡ true
   pub begins : first ≡ index_in from.replica a.place.row (me from.replica) 0
   pub safe : a.fate.crash ≡ None
-
--- a number of pushes, so many more
-unfoldable pub raised : ℕ → ℕ → ℕ
-raised zero pushes = pushes
-raised (suc n) pushes = one_more 32 (raised n pushes)
-
-pub raised_by : (n pushes : ℕ) → raised (suc n) pushes ≡ min (pushes + (n + 1)) (2 ^ 32 - 1)
-unfolding raised
-raised_by zero pushes = omega arith
-raised_by (suc n) pushes = omega (arith, raised_by n pushes)
 
 -- the columns below this one were pushed where they had changed, of which this one was the last
 pub record PushedTo (table : List ℕ) (from : Running) (first : ℕ) (a : Inside) (s : Pushes) (column : ℕ) :
@@ -678,11 +671,6 @@ push_stores words from first a view inside is begins =
     ≡ slice_set words (first + a.place.column) (own a.replica.rows a.place.column)) view
     (ap (stored words a.replica) step
     ∙ ap (λ i. slice_set words i (own a.replica.rows a.place.column)) (omega (arith, start)))
-
--- no crash comes in this turn
-pub no_crash : (o : Option ℕ) → is_some o ≡ false → o ≡ None
-no_crash None e = refl
-no_crash (Some push) e = absurd (cc)
 
 -- ---- what its callers know
 

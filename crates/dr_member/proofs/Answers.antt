@@ -1,25 +1,23 @@
 -- What a running member is after a deed, in the terms of the code's fields.
-use Rattle.std.proofs.Common.{◌≡◌, refl, sym, ap, ◌∙◌, subst, ℕ, ◌^◌, ◌<◌, ◌≤◌, ◌==◌, ◌&&◌, ◌||◌, Bool, true, false, arith}
-use Rattle.std.specs.Prelude.{None, is_some}
+use Rattle.std.proofs.Common.{◌≡◌, refl, sym, ap, ◌∙◌, subst, ℕ, ◌^◌, ◌<◌, ◌≤◌, ◌==◌, Bool, true, false, arith}
+use Rattle.std.specs.Prelude.{None}
 use Rattle.std.proofs.lemmas.Bool.Decides.{nat_tests}
 use Rattle.dr_rows.specs.Words.{changed}
 use Rattle.dr_words.specs.Columns.{columns_of}
 use Rattle.dr_machine.specs.declared.step.Step.{Step}
 use Rattle.dr_program.specs.declared.place.Part.TheVariants as parts
 use Rattle.dr_program.specs.declared.place.Place.{Place}
-use Rattle.dr_program.specs.Replica.{Replica, is_inside, is_other}
-use Rattle.dr_program.specs.Steps.{NoWordFell, allows, has_cell, stepped}
+use Rattle.dr_program.specs.Replica.{Replica}
+use Rattle.dr_program.specs.Steps.{NoWordFell, stepped}
 use Rattle.dr_program.specs.Turn.{columns_in, part_of}
-use Rattle.dr_program.specs.Running.{Running, members, columns, applies, crashes_now, goes, push_or_crash, pushes_after, settled, step_at, took, next_step, after_step, waits_after}
+use Rattle.dr_program.specs.Running.{Running, members, columns, goes, pushes_after, settled, took, next_step, after_step, waits_after}
 use Rattle.dr_program.specs.Form.{HasForm, IsRunningMember}
 use Rattle.dr_turn.specs.Search.{IsUnderway}
 use Rattle.dr_turn.specs.Work.{IsAfterDeed}
 use Rattle.dr_turn.proofs.Deeds.{deed_done, deeds_keep}
-use Rattle.dr_turn.proofs.Search.{applies_at}
-use Rattle.dr_turn.proofs.Staying.{settled_here, stops_due}
+use Rattle.dr_turn.proofs.Works.{IsAnswer}
 use Rattle.dr_member.specs.declared.fate.Fate.{Fate}
 use Rattle.dr_member.specs.Search.{standing}
-use Rattle.dr_member.proofs.Dues.{may_look}
 use Rattle.dr_member.proofs.Passing.{from_column, from_here, passes, pushes_idle}
 
 -- the fate is that of r after a step, which saw this word
@@ -75,12 +73,6 @@ is_done word r q fate from t =
     (deed_done word r t.running t.fits t.none (subst HasForm t.replica t.form)
     (subst (λ (x : Replica). x.view ≡ r.replica.view → NoWordFell r.replica x) t.replica t.grown))
 
--- what a running member is after a deed, once it has settled
-pub record IsAnswer (word : ℕ) (r x : Running) : Type 0 where
-  pub after : x ≡ after_step word r
-  pub form : IsRunningMember x
-  pub done : IsAfterDeed r x
-
 pub is_answer : (word : ℕ) (r : Running) (q : Replica) (fate : Fate) (from place : Place)
     → IsTaken word r q fate from
     → standing q fate place ≡ settled (standing q fate from) → IsAnswer word r (standing q fate place)
@@ -95,51 +87,7 @@ is_answer word r q fate from place t searched =
       done = subst (IsAfterDeed r) (sym same) kept.1;
     }
 
--- the same of what contracts see of the member before
-pub answer_at : (word : ℕ) (r now x : Running) → r ≡ now → IsAnswer word r x → IsAnswer word now x
-answer_at word r now x view a = subst (λ (y : Running). IsAnswer word y x) view a
-
 -- ---- where the search stays
-
--- there is something to do at a look that is allowed
-pub together : (a b : Bool) → a ≡ true → b ≡ true → (a && b) ≡ true
-together true b d e = e
-together false b d e = absurd (cc d)
-
-pub look_applies : (r : Running) (p : Place) → part_of p ≡ parts.Look → is_inside r.replica ≡ true
-    → may_look r.replica p.row p.column ≡ true → applies r p ≡ true
-look_applies r p at inside may =
-    ap (λ x. applies_at r x p.row p.column) at
-    ∙ together (is_inside r.replica) (may_look r.replica p.row p.column) inside may
-
--- and at the push of a changed word to it, be it a push or a crash
-both : (a b d : Bool) → a ≡ true → b ≡ true → d ≡ true → ((a && b) && d) ≡ true
-both true true d e f h = h
-both false b d e f h = absurd (cc)
-both true false d e f h = absurd (cc)
-
-pub push_applies : (r : Running) (p : Place) → part_of p ≡ parts.Push → is_other r.replica p.row
-    ≡ true
-    → (is_inside r.replica || crashes_now r) ≡ true
-    → changed r.replica.rows p.row p.column ≡ true
-    → has_cell r.replica p.row p.column ≡ true → applies r p ≡ true
-push_applies r p at other may word cell =
-    ap (λ x. applies_at r x p.row p.column) at
-    ∙ both (is_other r.replica p.row) (changed r.replica.rows p.row p.column)
-    (allows r.replica (step_at r parts.Push p.row p.column)) other word (by (crashes_now r) may)
-  where
-    either : (a : Bool) → (a || false) ≡ true → a ≡ true
-    either true e = refl
-    either false e = absurd (cc e)
-
-    by : (b : Bool) → (is_inside r.replica || b) ≡ true
-        → allows r.replica (push_or_crash b p.row p.column) ≡ true
-    by true e = refl
-    by false e = together (is_inside r.replica) (has_cell r.replica p.row p.column)
-        (either (is_inside r.replica) e) cell
-
-pub stays : (r : Running) → applies r r.place ≡ true → r ≡ settled r
-stays r due = sym (settled_here r (stops_due (is_some r.replica.end) (applies r r.place) due))
 
 -- the search from a column of the pushes to a member goes by those of unchanged words
 pub pushes_searched : (q : Replica) (fate : Fate) (p : Place) (c t : ℕ) → part_of p ≡ parts.Push

@@ -3,15 +3,13 @@ use Rattle.std.proofs.Common.{◌≡◌, refl, sym, ap, ◌∙◌, ℕ, ◌≤�
 use Rattle.std.specs.Prelude.{Option, Some, None, is_some}
 use Rattle.std.specs.List.{list_any}
 use Rattle.std.proofs.lemmas.Bool.Decides.{nat_tests}
+use Rattle.dr_entry.proofs.BoolFacts.{or_no}
+use Rattle.dr_entry.proofs.NumberFacts.{lesser_is}
 use Rattle.dr_program.specs.declared.setup.CrashPoint.{CrashPoint}
 use Rattle.dr_program.specs.Running.{is_at_push, is_in_turn}
 use Rattle.dr_machine.specs.Effects.{one_more}
 use Rattle.dr_member.specs.declared.fate.Fate.{Fate}
 use Rattle.dr_member.specs.Fate.{IsTimely, is_push_now, lesser, with_point}
-
-or_no : (a : Bool) → a ≡ (a || false)
-or_no true = refl
-or_no false = refl
 
 -- ---- some point names the turn
 
@@ -52,14 +50,6 @@ ahead : (turn now : ℕ) (points : List CrashPoint) (first : Option ℕ)
 ahead turn now [] first a = a
 ahead turn now (c ∷ cs) first a =
     ahead_one (c.turn == turn) first c.push now (ahead turn now cs (with_point turn first c) a)
-
-lesser_is : (now p q : ℕ) → now ≤ min p q → (min p q == now) ≡ ((p == now) || (q == now))
-lesser_is now p q h = by (p == now) (q == now) refl refl
-  where
-    by : (x y : Bool) → (p == now) ≡ x → (q == now) ≡ y → (min p q == now) ≡ (x || y)
-    by true y e f = grind (arith, nat_tests, e, h)
-    by false true e f = grind (arith, nat_tests, f, h)
-    by false false e f = grind (arith, nat_tests, e, f, h)
 
 at_push_more : (b : Bool) (first : Option ℕ) (push now : ℕ) (rest : Bool)
     → IsAhead now (if b then Some (lesser first push) else first)

@@ -1,36 +1,27 @@
 -- What is due to a running member, by the kind of its next deed.
-use Rattle.std.proofs.Common.{◌≡◌, ◌≢◌, ◌⊎◌, inl, inr, refl, subst, sym, ap, ◌∙◌, ℕ, ◌+◌, ◌<◌, ◌≤◌, ◌==◌, ◌&&◌, ◌||◌, if◌then◌else◌, Bool, true, false, nat_lt, arith}
-use Rattle.std.specs.Prelude.{Option, Some, None, slice_get}
-use Rattle.std.proofs.lemmas.Bool.{and_parts, ltb-true}
-use Rattle.std.proofs.lemmas.Bool.Decides.{nat_tests}
-use Rattle.std.proofs.lemmas.Option.{get_or_from_slice_get}
+use Rattle.std.proofs.Common.{◌≡◌, ◌≢◌, ◌⊎◌, inl, inr, refl, subst, sym, ap, ◌∙◌, ℕ, Bool, true, false}
+use Rattle.std.specs.Prelude.{Option, Some, None}
+use Rattle.std.proofs.lemmas.Bool.{and_parts}
 use Rattle.dr_entry.specs.declared.end.End.{End}
-use Rattle.dr_entry.specs.declared.entry.Entry.{Entry}
-use Rattle.dr_entry.specs.declared.entry.Entry.TheVariants.{View}
-use Rattle.dr_entry.specs.declared.record.Record.TheVariants as records
 use Rattle.dr_entry.specs.declared.record.Value.{Value}
-use Rattle.dr_entry.specs.declared.record.Vote.{Vote}
 use Rattle.dr_machine.specs.declared.event.Act.{Act}
 use Rattle.dr_machine.specs.declared.step.Step.{Step}
 use Rattle.dr_machine.specs.declared.step.Step.TheVariants as steps
-use Rattle.dr_program.specs.declared.deed.Deed.{Deed}
-use Rattle.dr_program.specs.declared.deed.Deed.TheVariants as deeds
 use Rattle.dr_program.specs.declared.outcome.LogWhy.{LogWhy}
 use Rattle.dr_program.specs.declared.place.Part.{Part}
 use Rattle.dr_program.specs.declared.place.Part.TheVariants as parts
 use Rattle.dr_program.specs.declared.place.Place.{Place}
-use Rattle.dr_rows.specs.Words as rows
-use Rattle.dr_suspect.specs.Waits.{compared}
 use Rattle.dr_machine.specs.Effects.{one_more}
-use Rattle.dr_program.specs.Replica.{Replica, appended, gave, is_inside, is_other, is_wedged, looked, may_give, may_vote, pushed, value_due, vote_of, voted}
-use Rattle.dr_program.specs.Steps.{IsAppend, allows, allows_inside, has_cell, is_outside_step, stepped}
+use Rattle.dr_program.specs.Replica.{appended, gave, is_inside, is_wedged, may_give, may_vote, pushed, value_due, voted}
+use Rattle.dr_program.specs.Steps.{IsAppend, has_cell, is_outside_step, stepped}
 use Rattle.dr_program.specs.Turn.{part_of}
-use Rattle.dr_program.specs.Running.{AsksForLetter, Running, append_or_end, asks, columns, crashes_now, deed, deed_of, members, next_deed, next_step, push_or_crash, pushes_after, step_at, vote_or_end, waits_after}
+use Rattle.dr_program.specs.Running.{AsksForLetter, Running, append_or_end, crashes_now, deed, deed_of, next_deed, next_step, push_or_crash, pushes_after, step_at, vote_or_end, waits_after}
 use Rattle.dr_program.specs.Reading.{step_due, step_of_member}
 use Rattle.dr_program.specs.Sight.{IsSeenNext, MaySee}
 use Rattle.dr_program.specs.Form.{IsRunningMember}
 use Rattle.dr_program.proofs.Waiting.{append_free}
 use Rattle.dr_program.proofs.StepsAt.{append_either, push_either, vote_either}
+use Rattle.dr_program.proofs.RunningPrograms.{IsCellOf, deed_due, is_cell, allowed_inside, in_view}
 use Rattle.dr_turn.proofs.Takes.{taking}
 use Rattle.dr_member.specs.declared.search.Due.{Due}
 use Rattle.dr_member.specs.declared.search.Due.TheVariants as dues
@@ -38,17 +29,6 @@ use Rattle.dr_member.specs.Deeds.{is_act, is_append, is_give, is_look, is_push, 
 use Rattle.dr_member.specs.Search.{step_by}
 
 -- ---- the kind of a deed
-
--- a deed of a kind that rest is not is one of a member without an end
-pub deed_due : (kind : Deed → Bool) → ((end : End) → kind (deeds.Rest end) ≡ false) → (r : Running)
-    → kind (next_deed r) ≡ true
-    → (r.replica.end ≡ None) × (kind (deed_of r (next_step r)) ≡ true)
-deed_due kind rests r e = by r.replica.end refl e
-  where
-    by : (o : Option End) → r.replica.end ≡ o → kind (deed r o) ≡ true → (r.replica.end ≡ None)
-        × (kind (deed_of r (next_step r)) ≡ true)
-    by None none e = (none, e)
-    by (Some end) none e = absurd (cc (rests end, e))
 
 push_part : (r : Running) (part : Part) (i c : ℕ) → is_push (deed_of r (step_at r part i c)) ≡ true
     → (part ≡ parts.Push) × (crashes_now r ≡ false)
@@ -96,139 +76,6 @@ append_part r parts.Push i c e =
 append_part r part i c e = absurd (cc)
 
 -- ---- what is known where a deed of a kind is due
-
--- another member's row and a column, where the step is a look or a push
-pub record IsCellOf (r : Running) (i c : ℕ) : Type 0 where
-  pub row : i < members r
-  pub other : is_other r.replica i ≡ true
-  pub column : c < columns r
-
--- a cell that the replica has is one of the member's
-pub is_cell : (r : Running) (i c : ℕ) → has_cell r.replica i c ≡ true → IsCellOf r i c
-is_cell r i c e =
-    let first = and_parts (nat_lt i r.replica.roster) (is_other r.replica i && nat_lt c (columns r)) e in
-    let rest = and_parts (is_other r.replica i) (nat_lt c (columns r)) first.1 in
-    record {
-      row = ltb-true i r.replica.roster first.0;
-      other = rest.0;
-      column =
-          ltb-true c (columns r) rest.1;
-    }
-
--- what is due is allowed
-pub allowed : (r : Running) → IsRunningMember r → r.replica.end ≡ None → (s : Step) → next_step r
-    ≡ s
-    → allows r.replica s ≡ true
-allowed r m none s is =
-    ap (allows r.replica) (sym is)
-    ∙ (and_parts (asks r (part_of r.place) r.place.row r.place.column) (allows r.replica (next_step r))
-    (m.due none)).1
-
--- so it is where the member is in its view, and it is there, where nobody may take the step outside
-pub allowed_inside : (r : Running) → IsRunningMember r → r.replica.end ≡ None → (s : Step)
-    → next_step r ≡ s
-    → allows_inside r.replica s ≡ true
-allowed_inside r m none s is =
-    (and_parts (is_outside_step s || is_inside r.replica) (allows_inside r.replica s)
-    (allowed r m none s is)).1
-
-pub in_view : (r : Running) → IsRunningMember r → r.replica.end ≡ None → (s : Step) → next_step r ≡ s
-    → is_outside_step s ≡ false → is_inside r.replica ≡ true
-in_view r m none s is =
-    either (is_outside_step s) (is_inside r.replica)
-    (and_parts (is_outside_step s || is_inside r.replica) (allows_inside r.replica s)
-    (allowed r m none s is)).0
-  where
-    either : (a b : Bool) → (a || b) ≡ true → a ≡ false → b ≡ true
-    either true b e f = absurd (cc f)
-    either false b e f = e
-
--- a replica in its view may look at this cell
-abbrev pub may_look : Replica → ℕ → ℕ → Bool
-may_look r i c = allows_inside r (steps.Look i c)
-
--- within a row it goes on waiting as before, and with the last column it has waited a turn more
-waits_stay : (word : ℕ) (r : Running) (i c : ℕ) → c + 1 < columns r
-    → r.waits ≡ waits_after word r (steps.Look i c)
-waits_stay word r i c within = by (c + 1 == columns r) (grind (arith, nat_tests, within))
-  where
-    by : (b : Bool) → b ≡ false
-        → r.waits ≡ (if b then compared r.waits (rows.looked r.replica.rows i c word) i
-        else r.waits)
-    by true e = absurd (cc)
-    by false e = refl
-
-waits_turn : (word : ℕ) (r : Running) (i c : ℕ) → c < columns r → columns r ≤ c + 1
-    → compared r.waits (rows.looked r.replica.rows i c word) i
-    ≡ waits_after word r (steps.Look i c)
-waits_turn word r i c within past = by (c + 1 == columns r) (grind (arith, nat_tests, within, past))
-  where
-    by : (b : Bool) → b ≡ true
-        → compared r.waits (rows.looked r.replica.rows i c word) i
-        ≡ (if b then compared r.waits (rows.looked r.replica.rows i c word) i
-        else r.waits)
-    by true e = refl
-    by false e = absurd (cc)
-
--- the next deed is a look at this word
-pub record IsLookDue (r : Running) (word : ℕ) : Type 0 where
-  pub none : r.replica.end ≡ None
-  pub at : part_of r.place ≡ parts.Look
-  pub inside : is_inside r.replica ≡ true
-  pub may : may_look r.replica r.place.row r.place.column ≡ true
-  pub cell : IsCellOf r r.place.row r.place.column
-  pub seen : IsSeenNext r r.place.row r.place.column word
-  -- what it makes of the replica, of the pushes and, within the row and with its last column, of the waits
-  pub step : stepped word r.replica (next_step r) ≡ looked r.replica r.place.row r.place.column word
-  pub pushes : r.pushes ≡ pushes_after r.pushes (next_step r)
-  pub within : r.place.column + 1 < columns r → r.waits ≡ waits_after word r (next_step r)
-  pub past : columns r ≤ r.place.column + 1
-      → compared r.waits (rows.looked r.replica.rows r.place.row r.place.column word) r.place.row
-      ≡ waits_after word r (next_step r)
-
-look_part : (r : Running) (part : Part) (i c word : ℕ) → MaySee r (Some (step_at r part i c)) word
-    → (part ≡ parts.Look) × IsSeenNext r i c word
-look_part r parts.Look i c word may = (refl, may)
-look_part r parts.Push i c word may =
-    absurd (push_either (λ s. MaySee r (Some s) word → ⊥) (crashes_now r) i c (λ x. x) (λ x. x) may)
-look_part r parts.Append i c word may =
-    absurd (append_either (λ s. MaySee r (Some s) word → ⊥) r.failed (λ x. x) (λ why x. x) may)
-look_part r parts.Vote i c word may =
-    absurd (vote_either (λ s. MaySee r (Some s) word → ⊥) r.failed _ (λ x. x) (λ why x. x) may)
-look_part r parts.Receive i c word may = absurd may
-look_part r part i c word may = absurd may
-
--- a running member that may see a word has a look at it due
-pub look_due : (r : Running) (word : ℕ) → IsRunningMember r → MaySee r (step_of_member r) word
-    → IsLookDue r word
-look_due r word m may = by r.replica.end refl may
-  where
-    due : r.replica.end ≡ None → MaySee r (Some (next_step r)) word → IsLookDue r word
-    due none see =
-        let at = look_part r (part_of r.place) r.place.row r.place.column word see in
-        let step : next_step r ≡ steps.Look r.place.row r.place.column =
-        ap (λ x. step_at r x r.place.row r.place.column) at.0 in
-        let may = allowed_inside r m none (steps.Look r.place.row r.place.column) step in
-        let cell = is_cell r r.place.row r.place.column
-        (and_parts _ (has_cell r.replica r.place.row r.place.column) may).1 in
-        record {
-          none = none;
-          at = at.0;
-          inside = in_view r m none (steps.Look r.place.row r.place.column) step refl;
-          may = may;
-          cell = cell;
-          seen = at.1;
-          step = ap (stepped word r.replica) step;
-          pushes = ap (pushes_after r.pushes) (sym step);
-          within = λ inner. waits_stay word r r.place.row r.place.column inner
-              ∙ ap (waits_after word r) (sym step);
-          past = λ outer. waits_turn word r r.place.row r.place.column cell.column outer
-              ∙ ap (waits_after word r) (sym step);
-        }
-
-    by : (o : Option End) → r.replica.end ≡ o → MaySee r (step_due r o) word → IsLookDue r word
-    by None none may = due none may
-    by (Some end) none may = absurd may
 
 -- the member is at a look, whatever it sees
 pub record IsAtLook (r : Running) : Type 0 where
@@ -425,32 +272,7 @@ take_due r m e =
     record { unended = due.0; due = ap (λ x. step_at r x r.place.row r.place.column) at } in
     let is = taking r m asking in record { asking = asking; at = at; outside = is.outside; free = is.idle }
 
--- without an end the next deed is that of the next step
-pub next_without_end : (r : Running) → r.replica.end ≡ None → next_deed r ≡ deed_of r (next_step r)
-next_without_end r none = ap (deed r) none
-
--- the next deed is to append this entry, or this vote
-pub entry_deed : (r : Running) (entry : Entry) → r.replica.end ≡ None → steps.Append ≡ next_step r
-    → slice_get r.replica.history r.replica.logged ≡ Some entry
-    → deeds.Append (records.Entry entry) ≡ next_deed r
-entry_deed r entry none step there =
-    ap (λ e. deeds.Append (records.Entry e))
-    (sym (get_or_from_slice_get r.replica.history r.replica.logged entry (View 0 0 0) there))
-    ∙ ap (deed_of r) step ∙ ap (deed r) (sym none)
-
-pub vote_deed : (r : Running) (vote : Vote) → r.replica.end ≡ None
-    → steps.LogVote (value_due r.replica) ≡ next_step r → vote ≡ vote_of r.replica (value_due r.replica)
-    → deeds.Append (records.Vote vote) ≡ next_deed r
-vote_deed r vote none step is =
-    ap (λ v. deeds.Append (records.Vote v)) is ∙ ap (deed_of r) step ∙ ap (deed r) (sym none)
-
 -- ---- what is due at a place
-
--- a step that an append has failed for or hasn't, by what it is in either case
-pub unless_failed : (f : Option LogWhy → Step) (o : Option LogWhy) (s : Step) → (o ≡ None → s ≡ f None)
-    → ((why : LogWhy) → o ≡ Some why → s ≡ f (Some why)) → s ≡ f o
-unless_failed f None s none some = none refl
-unless_failed f (Some why) s none some = some why refl
 
 -- the step of an act that is due, and the act of such a step
 pub step_is : (s : Step) (d : Due) (p : Place) (v : Value) (a : Act) → step_by d p v ≡ s → d ≡ dues.Act a

@@ -1,12 +1,9 @@
 -- The numbers by which a member finds words of the table: the indices that they give, and that deeds within a
 -- view keep them.
-use Rattle.std.proofs.Common.{◌≡◌, sym, ap, subst, ◌∙◌, ℕ, ◌+◌, ◌*◌, ◌^◌, ◌<◌, ◌≤◌, List, length, set, slice_index, inl, inr, arith}
-use Rattle.std.proofs.lemmas.Bool.{cases_lt}
-use Rattle.std.proofs.lemmas.List.{get_or-set_other, get_or-set_same, length-set}
-use Rattle.std.proofs.lemmas.Nat.{mul-le}
+use Rattle.std.proofs.Common.{◌≡◌, sym, ap, subst, ◌∙◌, ℕ, ◌+◌, ◌^◌, ◌<◌, ◌≤◌, List, slice_index, arith}
 use Rattle.dr_words.specs.Columns.{columns_of}
-use Rattle.dr_words.specs.Layout.{word_index_of}
-use Rattle.dr_words.proofs.Places.{word_index_within}
+use Rattle.dr_words.proofs.Places.{word_index_within, below}
+use Rattle.dr_words.proofs.Layouts.{behind_first, AreNoted}
 use Rattle.dr_program.specs.Replica.{Replica, me}
 use Rattle.dr_program.specs.Running.{Running, members, columns}
 use Rattle.dr_program.specs.Steps.{index_in}
@@ -18,20 +15,6 @@ use Rattle.dr_member.specs.Deeds.{table_size}
 use Rattle.dr_member.specs.Inside.{IsInsideMember, member_inside}
 
 -- ---- the indices
-
--- an index of a table, below the greatest that there is
-below : (n w v copy row column : ℕ) → n ≤ 16 → w ≤ 8 → v < 2 ^ 8 → copy < n → row < n
-    → column < columns_of n w
-    → word_index_of n w v copy row column < 2 ^ 64
-below n w v copy row column few slots small p q r =
-    let within = word_index_within n w 256 v copy row column (omega arith) p q r in
-    let banks = mul-le (256 * n) n 4096 16 (omega arith) few in
-    let table = mul-le (256 * n * n) (columns_of n w) 65536 174 banks (omega arith) in
-    omega (arith, within, table)
-
--- a word stands so many columns behind the first of its row
-behind_first : (n w v copy row c : ℕ) → word_index_of n w v copy row 0 + c ≡ word_index_of n w v copy row c
-behind_first n w v copy row c = omega arith
 
 -- a sum is the index of a word of the member's bank
 pub record IsIndex (r : Running) (sum copy row column : ℕ) : Type 0 where
@@ -86,40 +69,6 @@ push_at now a j c view is row column =
     ∙ behind_first a.replica.roster a.replica.window a.replica.view j (me a.replica) c)
 
 -- ---- the beginning
-
--- the first words of the rows of some members are noted
-pub record AreNoted (n w v m others : ℕ) (mine theirs : List ℕ) : Type 0 where
-  pub long_looks : length mine ≡ 16
-  pub long_pushes : length theirs ≡ 16
-  pub looks : (i : ℕ) → i < others → slice_index mine i ≡ word_index_of n w v m i 0
-  pub pushes : (j : ℕ) → j < others → slice_index theirs j ≡ word_index_of n w v j m 0
-
--- one more number in a list
-one_more : (list : List ℕ) (f : ℕ → ℕ) (k x : ℕ) → k < length list → x ≡ f k
-    → ((i : ℕ) → i < k → slice_index list i ≡ f i) → (i : ℕ) → i < k + 1
-    → slice_index (set list k x) i ≡ f i
-one_more list f k x within is before i lt = elim (cases_lt i k) [
-  | inl early ↦ get_or-set_other list k i x 0 (λ e. absurd (omega (arith, early, e))) ∙ before i early
-  | inr late ↦
-      let here : i ≡ k = omega (arith, lt, late) in
-      ap (λ (j : ℕ). slice_index (set list k x) j) here ∙ get_or-set_same list k x 0 within ∙ is
-      ∙ ap f (sym here)
-]
-
--- and those of one more, which stand at its number
-pub noted_more : (n w v m k i j x y : ℕ) (mine theirs : List ℕ) → k < 16 → AreNoted n w v m k mine theirs
-    → i ≡ k → j ≡ k → x ≡ word_index_of n w v m k 0 → y ≡ word_index_of n w v k m 0
-    → AreNoted n w v m (k + 1) (set mine i x) (set theirs j y)
-noted_more n w v m k i j x y mine theirs few before here there is also =
-    subst (λ (s : ℕ × ℕ). AreNoted n w v m (k + 1) (set mine s.0 x) (set theirs s.1 y))
-    (λ z. (sym here z, sym there z)) (record {
-      long_looks = length-set mine k x ∙ before.long_looks;
-      long_pushes = length-set theirs k y ∙ before.long_pushes;
-      looks = one_more mine (λ i. word_index_of n w v m i 0) k x (omega (arith, few, before.long_looks)) is
-          before.looks;
-      pushes = one_more theirs (λ j. word_index_of n w v j m 0) k y (omega (arith, few, before.long_pushes))
-          also before.pushes;
-    })
 
 -- bases made of the replica's sizes are the replica's
 pub made : (r : Replica) (n w v m k others : ℕ) (looks pushes : List ℕ) → n ≡ r.roster → w ≡ r.window

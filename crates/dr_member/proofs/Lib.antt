@@ -12,3 +12,4 @@ mod Letters
 mod Sweeps
 pub mod Alone
 mod Fates
+pub mod Deeds

@@ -1,5 +1,5 @@
 -- What a running member is after each kind of deed, in the terms of the code's fields.
-use Rattle.std.proofs.Common.{◌≡◌, ◌≢◌, refl, sym, ap, ◌∙◌, subst, ℕ, ◌+◌, ◌^◌, ◌<◌, ◌≤◌, ◌&&◌, ◌||◌, Bool, true, false, nat_lt, arith}
+use Rattle.std.proofs.Common.{◌≡◌, ◌≢◌, refl, sym, ap, ◌∙◌, subst, ℕ, ◌+◌, ◌^◌, ◌<◌, ◌≤◌, ◌||◌, true, false, nat_lt, arith}
 use Rattle.std.proofs.lemmas.Bool.Decides.{nat_tests}
 use Rattle.dr_rows.specs.Words.{changed, own}
 use Rattle.dr_suspect.specs.Waits.{Waits, compared}
@@ -14,17 +14,25 @@ use Rattle.dr_program.specs.declared.place.Part.{Part}
 use Rattle.dr_program.specs.declared.place.Part.TheVariants as parts
 use Rattle.dr_program.specs.declared.place.Place.{Place}
 use Rattle.std.specs.Prelude.{None}
+use Rattle.dr_entry.proofs.BoolFacts.{together}
 use Rattle.dr_program.specs.Acts.{is_outside_act, may, taken}
 use Rattle.dr_program.specs.Replica.{Replica, appended, is_inside, is_other, looked, pushed}
 use Rattle.dr_program.specs.Steps.{NoWordFell, allows, has_cell, is_free, stepped}
-use Rattle.dr_program.specs.Turn.{IsIn, after, columns_in, part_of, rows_in}
+use Rattle.dr_program.specs.Turn.{after, columns_in, part_of}
 use Rattle.dr_program.specs.Running.{Running, applies, crashes_now, goes, next_deed, next_step, settled}
 use Rattle.dr_program.specs.Reading.{step_of_member}
 use Rattle.dr_program.specs.Sight.{MaySee}
 use Rattle.dr_program.specs.Form.{HasForm, IsRunningMember}
 use Rattle.dr_program.proofs.Waiting.{free_step}
+use Rattle.dr_program.proofs.RunningPrograms.{IsLookDue, allowed, allowed_inside, deed_due}
+use Rattle.dr_program.proofs.StepsAt.{look_due}
+use Rattle.dr_program.proofs.Replicas.{may_look, cell_test}
+use Rattle.dr_program.proofs.Parts.{begin}
 use Rattle.dr_turn.specs.Search.{IsUnderway}
-use Rattle.dr_turn.proofs.Order.{all_below}
+use Rattle.dr_turn.proofs.Works.{IsAnswer, answer_at}
+use Rattle.dr_turn.proofs.Search.{look_applies, push_applies}
+use Rattle.dr_turn.proofs.Staying.{stays}
+use Rattle.dr_turn.proofs.Order.{append_next}
 use Rattle.dr_member.specs.declared.fate.Fate.{Fate}
 use Rattle.dr_member.specs.declared.member.Member.TheInside.{Inside}
 use Rattle.dr_member.specs.Deeds.{is_act, is_append, is_push}
@@ -33,25 +41,13 @@ use Rattle.dr_member.specs.Inside.{IsInsideMember, member_inside}
 use Rattle.dr_member.specs.Ready.{KeepsReady}
 use Rattle.dr_member.specs.Search.{next_row, standing}
 use Rattle.dr_member.proofs.Fates.{IsFateBy, fate_told}
-use Rattle.dr_member.proofs.Answers.{IsAnswer, IsFateAfter, IsTaken, answer_at, fate_stays, is_answer, is_done, look_applies, push_applies, pushes_searched, stays, together}
+use Rattle.dr_member.proofs.Answers.{IsFateAfter, IsTaken, fate_stays, is_answer, is_done, pushes_searched}
 use Rattle.dr_member.proofs.Crashes.{some_at_push, timely_push}
-use Rattle.dr_member.proofs.Dues.{IsEntryDue, IsLookDue, IsPushDue, IsVoteDue, allowed, allowed_inside, append_due, append_inside, deed_due, entry_due, look_due, may_look, push_due, vote_due}
+use Rattle.dr_member.proofs.Dues.{IsEntryDue, IsPushDue, IsVoteDue, append_due, append_inside, entry_due, push_due, vote_due}
 use Rattle.dr_member.proofs.Indices.{bases_stay, footing}
-use Rattle.dr_member.proofs.Passing.{begin, from_behind, from_column, from_here, only_place, part_number}
+use Rattle.dr_member.proofs.Passing.{from_behind, from_column, from_here}
 
 -- ---- rows
-
-all_three : (a b d : Bool) → a ≡ true → b ≡ true → d ≡ true → (a && (b && d)) ≡ true
-all_three true true d e f h = h
-all_three false b d e f h = absurd (cc)
-all_three true false d e f h = absurd (cc)
-
-pub cell_test : (replica : Replica) (i c : ℕ) → i < replica.roster → is_other replica i ≡ true
-    → c < columns_of replica.roster replica.window → has_cell replica i c ≡ true
-cell_test replica i c row other column =
-    all_three (nat_lt i replica.roster) (is_other replica i)
-    (nat_lt c (columns_of replica.roster replica.window)) (grind (arith, nat_tests, row)) other
-    (grind (arith, nat_tests, column))
 
 -- the place behind a look or a push
 behind : (replica q : Replica) (p : Place) (part : Part) → part_of p ≡ part → q.roster
@@ -463,17 +459,6 @@ append_taken word now a q from view is append after form grown place =
       place = place;
       told = fate_stays word a.replica a.fate a.place (next_step (member_inside a)) due.pushes (due.waits word);
     }
-
--- a part is that of appends
-abbrev is_append_part : Part → Bool
-is_append_part parts.Append = true
-is_append_part part = false
-
--- behind the place of an append is that where the log is published
-append_next : (n k : ℕ) (p : Place) → IsIn n k p → part_of p ≡ parts.Append → after n k p ≡ begin 8
-unfolding all_below
-append_next n k p is at = ap (after n k) (only_place n k 7 p is (ap (rows_in n) at) (ap (columns_in k) at)
-    (part_number is_append_part 7 p refl is.part (ap is_append_part at)))
 
 -- with one entry more on its log, it has that to publish
 publishes : (r q : Replica) (fate : Fate) → HasForm r → is_inside r ≡ true → q ≡ appended r

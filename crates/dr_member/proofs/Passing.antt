@@ -1,50 +1,20 @@
 -- What the search may pass over at once.
-use Rattle.std.proofs.Common.{◌≡◌, refl, subst, ap, ◌∙◌, ℕ, zero, suc, ◌+◌, ◌-◌, ◌<◌, ◌≤◌, ◌==◌, ◌&&◌, ◌||◌, not, Bool, true, false, if◌then◌else◌, nat_lt, length, le_refl, sym, arith}
-use Rattle.std.specs.Prelude.{None, is_some, slice_index_or}
+use Rattle.std.proofs.Common.{◌≡◌, refl, subst, ap, ◌∙◌, ℕ, zero, suc, ◌+◌, ◌-◌, ◌<◌, ◌≤◌, ◌==◌, ◌&&◌, ◌||◌, Bool, true, false, if◌then◌else◌, nat_lt, le_refl, sym, arith}
+use Rattle.std.specs.Prelude.{None, is_some}
 use Rattle.std.proofs.lemmas.Bool.Decides.{nat_tests}
+use Rattle.dr_entry.proofs.BoolFacts.{neither}
 use Rattle.dr_rows.specs.Words.{changed}
-use Rattle.dr_program.specs.declared.place.Part.{Part}
 use Rattle.dr_program.specs.declared.place.Part.TheVariants as parts
 use Rattle.dr_program.specs.declared.place.Place.{Place}
-use Rattle.dr_program.specs.declared.place.TheConstants.{TURN}
-use Rattle.dr_program.specs.Turn.{IsIn, columns_in, part_of, places_in, rows_in, turn_begins}
+use Rattle.dr_program.specs.Turn.{columns_in, part_of}
 use Rattle.dr_program.specs.Replica.{Replica, is_inside, is_other}
-use Rattle.dr_program.specs.Running.{Running, members, columns, applies, crashes_now, moved, push_or_crash, settled, step_at}
+use Rattle.dr_program.specs.Running.{Running, members, columns, applies, crashes_now, push_or_crash, settled, step_at}
 use Rattle.dr_program.specs.Steps.{allows, has_cell}
-use Rattle.dr_turn.specs.Search.{IsUnderway, left}
-use Rattle.dr_turn.proofs.Order.{all_below, each_below, left_falls, left_small}
-use Rattle.dr_turn.proofs.Search.{applies_at, applies_from, idle_part, part_before, underway_idle}
-use Rattle.dr_turn.proofs.Staying.{settle_enough, settle_on, settled_here, stops_due, stops_not}
+use Rattle.dr_turn.specs.Search.{IsUnderway}
+use Rattle.dr_turn.proofs.Search.{applies_at, applies_from, GoesBy, goes_far}
+use Rattle.dr_turn.proofs.Staying.{settled_here, stops_due, goes_on}
 use Rattle.dr_member.specs.declared.fate.Fate.{Fate}
 use Rattle.dr_member.specs.Search.{IsFirstDue, IsIdleTo, next_row, standing}
-
--- the search from r goes by x, which stands later in the turn
-pub record GoesBy (r x : Running) : Type 0 where
-  pub same : settled x ≡ settled r
-  pub underway : IsUnderway x
-  pub later : left (members x) (columns x) x.place < left (members r) (columns r) r.place
-
--- the search goes by the next place
-pub goes_on : (r : Running) → IsUnderway r → r.replica.end ≡ None → applies r r.place ≡ false
-    → GoesBy r (moved r)
-goes_on r u none e =
-    let most = places_in (members r) (columns r) TURN in
-    let small = left_small (members r) (columns r) r.place u.place in record {
-      same = settle_on most r (stops_not r.replica.end (applies r r.place) none e)
-          ∙ settle_enough (suc most) most r u (omega (arith, small)) small;
-      underway = underway_idle r u e;
-      later = left_falls (members r) (columns r) r.place u.place
-          (part_before (members r) (columns r) r.place u.place (idle_part r r.place e));
-    }
-
--- what the search goes by on its way from y it goes by from r
-pub goes_far : (r x y : Running) → GoesBy r x → GoesBy x y → GoesBy r y
-goes_far r x y a b = record {
-  same = b.same ∙ a.same;
-  underway = b.underway;
-  later =
-      omega (arith, a.later, b.later);
-}
 
 -- the place of this column in the row, or what comes after the row where it has no such column
 abbrev pub from_column : ℕ → ℕ → Place → ℕ → Place
@@ -137,11 +107,6 @@ first_found r c u none f = by (c == r.place.column) refl
         (sym (from_here (members r) (columns r) r.place c f.within))
         ∙ far.same
 
--- the pushes to a member of words that are unchanged
-neither : (a b d : Bool) → b ≡ false → ((a && b) && d) ≡ false
-neither true b d e = ap (λ x. x && d) e
-neither false b d e = refl
-
 -- a column whose word did not change has nothing to push
 pub pushes_idle : (replica : Replica) (fate : Fate) (p : Place) (c : ℕ) → part_of p ≡ parts.Push
     → changed replica.rows p.row c ≡ false
@@ -178,41 +143,4 @@ pushes_nothing replica fate p c at neither_one =
     by false true is e = absurd (cc e)
     by false false is e = ap (λ x. x && has_cell replica p.row c) is
 
--- a test that fails at a number more, where it fails below it
-pub none_more : (test : ℕ → Bool) (from n : ℕ)
-    → ((x : ℕ) → from ≤ x → x < n → test x ≡ false) → test n ≡ false
-    → (x : ℕ) → from ≤ x → x < n + 1 → test x ≡ false
-none_more test from n below at x above within = by (x == n) refl
-  where
-    by : (b : Bool) → (x == n) ≡ b → test x ≡ false
-    by true e = ap test (grind (arith, nat_tests)) ∙ at
-    by false e = below x above (grind (arith, nat_tests, within))
-
 -- ---- parts with one place
-
--- the first place of a part
-abbrev pub begin : ℕ → Place
-begin i = record { part = i; row = 0; column = 0 }
-
--- a part with one place has none but its first
-pub only_place : (n k i : ℕ) (p : Place) → IsIn n k p → rows_in n (part_of p) ≡ 1
-    → columns_in k (part_of p) ≡ 1 → p.part ≡ i → p ≡ begin i
-only_place n k i p is rows columns number =
-    let row : p.row ≡ 0 = omega (arith, is.row, rows) in
-    let column : p.column ≡ 0 = omega (arith, is.column, columns) in
-    λ z. record { part = number z; row = row z; column = column z }
-
--- where one test implies another, and passes, the other does
-implied : (a b : Bool) → (not a || b) ≡ true → a ≡ true → b ≡ true
-implied true b t e = t
-implied false b t e = absurd (cc e)
-
--- a part that the turn has at one number alone has this number
-pub part_number : (test : Part → Bool) (i : ℕ) (p : Place)
-    → all_below (length TURN) (λ j. not (test (slice_index_or TURN j turn_begins)) || (j == i)) ≡ true
-    → p.part < length TURN → test (part_of p) ≡ true → p.part ≡ i
-part_number test i p alone within e =
-    let same = implied _ _
-    (each_below (length TURN) p.part (λ j. not (test (slice_index_or TURN j turn_begins)) || (j == i))
-    alone within) e in
-    grind (arith, nat_tests, same)

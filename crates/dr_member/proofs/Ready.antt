@@ -1,108 +1,39 @@
 -- Which of the next items of another member are there: the mask behind each deed.
-use Rattle.std.proofs.Common.{◌≡◌, ◌≢◌, refl, sym, ap, ◌∙◌, subst, inl, inr, ℕ, ◌+◌, ◌-◌, ◌*◌, ◌/◌, ◌<◌, ◌≤◌, ◌==◌, ◌&&◌, ◌↔◌, not, Bool, true, false, if◌then◌else◌, nat_lt, length, bit_and, map, slice_index, slice_set, arith}
-use Rattle.std.specs.Prelude.{is_some, slice_index_or}
+use Rattle.std.proofs.Common.{◌≡◌, ◌≢◌, sym, ap, ◌∙◌, subst, inl, inr, ℕ, ◌+◌, ◌-◌, ◌*◌, ◌/◌, ◌<◌, ◌≤◌, ◌==◌, ◌&&◌, ◌↔◌, not, true, false, nat_lt, bit_and, arith}
+use Rattle.std.specs.Prelude.{is_some}
 use Rattle.std.specs.Int.{bit_at}
 use Rattle.std.proofs.lemmas.Bool.{and_parts, cases_lt, eq-eqb, eqb-true}
 use Rattle.std.proofs.lemmas.Bool.Decides.{nat_tests}
 use Rattle.std.proofs.lemmas.List.{get_or-set_same}
 use Rattle.std.proofs.lemmas.Nat.Bits.{and_pow, bit_at-suc}
-use Rattle.dr_rows.specs.Words.{Words, seen, with_own}
-use Rattle.dr_ring.specs.Slots.{IsReady, slot_column, slot_of}
-use Rattle.dr_ring.proofs.Readiness.{not_yet, ready_test, same_test}
-use Rattle.dr_history.specs.Members.{members_of}
-use Rattle.dr_history.specs.Places.{front_of}
-use Rattle.dr_words.specs.declared.column.TheConstants.{BEAT_COLUMN, RECEIVED_COLUMN}
-use Rattle.dr_words.specs.Columns.{columns_of, recv_column}
-use Rattle.dr_words.specs.Packing.{recv_word}
-use Rattle.dr_machine.specs.Effects.{one_more}
+use Rattle.dr_entry.proofs.BoolFacts.{same_test, order}
+use Rattle.dr_ring.specs.Slots.{IsReady, slot_of}
+use Rattle.dr_ring.proofs.Readiness.{not_yet, ready_test}
+use Rattle.dr_words.specs.Columns.{columns_of}
 use Rattle.dr_machine.specs.declared.event.Act.{Act}
 use Rattle.dr_machine.specs.declared.event.Act.TheVariants as acts
 use Rattle.dr_machine.specs.declared.step.Step.TheVariants.{Do}
 use Rattle.dr_program.specs.declared.place.Part.{Part}
 use Rattle.dr_program.specs.declared.place.Part.TheVariants as parts
 use Rattle.dr_program.specs.declared.place.Place.{Place}
-use Rattle.dr_program.specs.declared.place.TheConstants.{TURN}
 use Rattle.dr_program.specs.Acts.{may, taken}
 use Rattle.dr_program.specs.Form.{HasForm}
 use Rattle.dr_program.specs.Replica.{Replica, acted, count, greatest, is_other, is_wedged, may_receive, me, ready_item, received}
 use Rattle.dr_program.specs.Running.{goes, next_step, step_at}
-use Rattle.dr_program.specs.Turn.{IsIn, after, part_of, turn_begins}
-use Rattle.dr_program.proofs.OwnWords.{seen_with}
-use Rattle.dr_turn.proofs.Order.{all_below, each_below}
+use Rattle.dr_program.specs.Turn.{IsIn, after, part_of}
+use Rattle.dr_program.proofs.Parts.{is_receive}
+use Rattle.dr_program.proofs.Replicas.{slots_stay}
+use Rattle.dr_turn.proofs.Works.{goes_receives}
 use Rattle.dr_member.specs.declared.member.Member.TheInside.{Inside}
 use Rattle.dr_member.specs.Inside.{IsInsideMember, member_inside}
 use Rattle.dr_member.specs.Ready.{KeepsReady, TellsReady}
 
 -- ---- where items are received
 
-abbrev is_receive : Part → Bool
-is_receive parts.Receive = true
-is_receive part = false
-
 -- elsewhere in the turn nothing is kept
 pub elsewhere : (q : Replica) (p : Place) (part : Part) (ready : ℕ) → part_of p ≡ part
     → is_receive part ≡ false → KeepsReady q p ready
 elsewhere q p part ready at other here = absurd (cc (ap is_receive here, ap is_receive at ∙ other))
-
--- the deeds of a part behind which the next place comes
-abbrev is_left : Part → Bool
-is_left parts.Look = true
-is_left parts.Append = true
-is_left parts.Vote = true
-is_left parts.Push = true
-is_left (parts.Do acts.Beat) = true
-is_left part = false
-
-abbrev is_publish : Part → Bool
-is_publish (parts.Do acts.Publish) = true
-is_publish part = false
-
--- the number of the part that comes after one
-abbrev next_part : ℕ → ℕ
-next_part i = if nat_lt (i + 1) (length TURN) then i + 1 else 0
-
-not_both : (a b : Bool) → not (a && b) ≡ true → a ≡ true → b ≡ true → ⊥
-not_both true true e f h = cc e
-not_both false b e f h = cc f
-not_both true false e f h = cc h
-
--- none of those parts is followed by the one where items are received
-after_receives : (n k : ℕ) (p : Place) → IsIn n k p → is_left (part_of p) ≡ true
-    → part_of (after n k p) ≡ parts.Receive → part_of p ≡ parts.Receive
-unfolding all_below
-after_receives n k p is left at = by _ _ at
-  where
-    by : (b d : Bool)
-        → part_of (if b then record p { column = p.column + 1 }
-        else (if d then record p { row = p.row + 1; column = 0 }
-        else record { part = next_part p.part; row = 0; column = 0 })) ≡ parts.Receive
-        → part_of p ≡ parts.Receive
-    by true d e = e
-    by false true e = e
-    by false false e = absurd (not_both _ _
-        (each_below (length TURN) p.part (λ j. not (is_left (slice_index_or TURN j turn_begins)
-        && is_receive (slice_index_or TURN (next_part j) turn_begins))) refl is.part)
-        left (ap is_receive e))
-
--- so where a deed leaves the member where items are received, it was such a receive
-pub goes_receives : (n k : ℕ) (p : Place) → IsIn n k p → part_of (goes n k (part_of p) p) ≡ parts.Receive
-    → part_of p ≡ parts.Receive
-unfolding all_below
-goes_receives n k p is at = by (part_of p) refl at
-  where
-    by : (x : Part) → part_of p ≡ x → part_of (goes n k x p) ≡ parts.Receive → part_of p ≡ parts.Receive
-    by parts.Look e at = after_receives n k p is (ap is_left e) at
-    by parts.Append e at = after_receives n k p is (ap is_left e) at
-    by parts.Vote e at = after_receives n k p is (ap is_left e) at
-    by parts.Push e at = after_receives n k p is (ap is_left e) at
-    by (parts.Do acts.Beat) e at = after_receives n k p is (ap is_left e) at
-    by (parts.Do acts.Publish) e at = absurd (not_both _ _
-        (each_below (length TURN) p.part (λ j. not (is_publish (slice_index_or TURN j turn_begins)
-        && is_receive (slice_index_or TURN (j - 1) turn_begins))) refl is.part)
-        (ap is_publish e) (ap is_receive at))
-    by (parts.Do a) e at = at
-    by parts.Take e at = absurd (cc at)
-    by x e at = at
 
 -- behind a deed of another part nothing is kept
 pub gone_elsewhere : (n k : ℕ) (q : Replica) (p from : Place) (part : Part) (ready : ℕ) → IsIn n k p
@@ -113,15 +44,6 @@ gone_elsewhere n k q p from part ready is at other gone here =
     absurd (cc (ap is_receive back, ap is_receive at ∙ other))
 
 -- ---- what the mask says
-
-order : (w t o b i : Bool) → (o ≡ true → b ≡ i) → ((w && (t && o)) && b) ≡ (w && (o && (i && t)))
-order false t o b i e = refl
-order true true true b true e = e refl
-order true true true b false e = e refl
-order true false true b true e = refl
-order true false true b false e = refl
-order true true false b i e = refl
-order true false false b i e = refl
 
 -- its lowest bit tells whether the next item is there
 low_bit : (r : Replica) (s mask : ℕ) → 1 ≤ r.window → TellsReady r s mask
@@ -147,20 +69,6 @@ receives_by r p mask form at keeps =
     (λ other. low_bit r p.row mask form.some_slot (keeps at other))
 
 -- ---- behind a receive
-
--- an act's own words leave the slots of the others
-slots_stay : (r : Replica) (s n : ℕ) → s ≢ me r
-    → slot_of r.window (acted (received r s)).rows s n ≡ slot_of r.window r.rows s n
-slots_stay r s n other = λ z part. words (slot_column r.rows.members r.window n + part) z
-  where
-    one : Words
-    one = with_own r.rows (recv_column s) (recv_word (count r s + 1) false)
-
-    words : (c : ℕ) → seen (acted (received r s)).rows s c ≡ seen r.rows s c
-    words c = seen_with (received r s).rows BEAT_COLUMN (one_more 64 r.acts) s c other
-        ∙ (seen_with one RECEIVED_COLUMN
-        (front_of (map (slice_index (slice_set r.counts s (count r s + 1))) (members_of r.members))) s c other
-        ∙ seen_with r.rows (recv_column s) (recv_word (count r s + 1) false) s c other)
 
 -- the next items move up
 received_tells : (r : Replica) (s mask : ℕ) → HasForm r → s < r.roster → s ≢ me r

@@ -1,11 +1,9 @@
 -- A member along a row of its looks or of its pushes, in the terms of the code's fields.
-use Rattle.std.proofs.Common.{◌≡◌, refl, sym, ap, ◌∙◌, subst, ℕ, ◌+◌, ◌<◌, ◌≤◌, ◌&&◌, Bool, true, false, not, arith}
-use Rattle.std.specs.Prelude.{None}
-use Rattle.dr_rows.specs.Words.{changed, own, seen}
+use Rattle.std.proofs.Common.{◌≡◌, refl, sym, ap, ◌∙◌, subst, ℕ, ◌+◌, ◌<◌, ◌≤◌, true, false, arith}
+use Rattle.dr_rows.specs.Words.{changed, own}
 use Rattle.dr_suspect.specs.Waits.{Waits, compared}
 use Rattle.dr_words.specs.Columns.{columns_of}
-use Rattle.dr_words.specs.Form.{IsInForm}
-use Rattle.dr_words.specs.Grown.{Grown, HasGrown}
+use Rattle.dr_words.specs.Grown.{Grown}
 use Rattle.dr_words.proofs.Order.{Grown_refl, Grown_trans}
 use Rattle.dr_machine.specs.Effects.{one_more}
 use Rattle.dr_program.specs.declared.deed.Deed.{Deed}
@@ -14,19 +12,23 @@ use Rattle.dr_program.specs.declared.place.Part.TheVariants as parts
 use Rattle.dr_program.specs.declared.place.Place.{Place}
 use Rattle.dr_program.specs.Form.{HasForm}
 use Rattle.dr_program.specs.Reading.{step_of_member}
-use Rattle.dr_program.specs.Replica.{Replica, is_other, looked, me, pushed}
-use Rattle.dr_program.specs.Running.{Running, crashes_now, deed, deed_of, next_deed, push_or_crash, settled, step_at}
+use Rattle.dr_program.specs.Replica.{Replica, looked, me, pushed}
+use Rattle.dr_program.specs.Running.{Running, crashes_now, next_deed, settled}
 use Rattle.dr_program.specs.Sight.{MaySee}
 use Rattle.dr_program.specs.Steps.{NoWordFell, index_in}
 use Rattle.dr_program.specs.Turn.{IsIn, columns_in, part_of, rows_in}
+use Rattle.dr_program.proofs.StepsAt.{look_due}
+use Rattle.dr_program.proofs.RunningPrograms.{look_deed, push_deed}
+use Rattle.dr_program.proofs.Parts.{same_look, same_push}
+use Rattle.dr_program.proofs.Replicas.{IsLookOf}
 use Rattle.dr_turn.specs.Work.{IsStill, deeds_left}
+use Rattle.dr_turn.proofs.Works.{IsAnswer}
 use Rattle.dr_member.specs.Deeds.{is_look, is_push}
 use Rattle.dr_member.specs.declared.member.Member.TheInside.{Inside}
 use Rattle.dr_member.specs.Inside.{IsInsideMember, member_inside}
 use Rattle.dr_member.specs.Ready.{KeepsReady}
 use Rattle.dr_member.specs.Search.{next_row, standing}
-use Rattle.dr_member.proofs.Answers.{IsAnswer}
-use Rattle.dr_member.proofs.Dues.{at_look, look_due, may_look, push_due}
+use Rattle.dr_member.proofs.Dues.{at_look, push_due}
 use Rattle.dr_member.proofs.Indices.{IsIndex, columns_after, is_index, me_within}
 use Rattle.dr_member.proofs.Ready.{elsewhere}
 use Rattle.dr_member.proofs.Moves.{IsLooked, IsPushed, IsWaited, counted, inside_after, is_looked, is_pushed, looked_past, looked_row_timely, looked_within, pushed_timely, pushed_within, stays_timely, waited}
@@ -86,26 +88,6 @@ module _ (d : Deed) (from : Running) (a : Inside) (is : IsOnRow d from a) where
 
 -- ---- the deed that is due
 
--- at a look, and at a push before which the member doesn't crash
-look_deed : (r : Running) → r.replica.end ≡ None → part_of r.place ≡ parts.Look
-    → next_deed r ≡ deeds.Look (index_in r.replica (me r.replica) r.place.row r.place.column)
-look_deed r none at =
-    ap (deed r) none ∙ ap (λ part. deed_of r (step_at r part r.place.row r.place.column)) at
-
-push_deed : (r : Running) → r.replica.end ≡ None → part_of r.place ≡ parts.Push → crashes_now r ≡ false
-    → next_deed r ≡ deeds.Push (index_in r.replica r.place.row (me r.replica) r.place.column)
-    (own r.replica.rows r.place.column)
-push_deed r none at later =
-    ap (deed r) none ∙ ap (λ part. deed_of r (step_at r part r.place.row r.place.column)) at
-    ∙ ap (λ b. deed_of r (push_or_crash b r.place.row r.place.column)) later
-
--- deeds that are one name one index
-same_look : (x y : ℕ) → deeds.Look x ≡ deeds.Look y → x ≡ y
-same_look x y e = cc
-
-same_push : (x y v w : ℕ) → deeds.Push x v ≡ deeds.Push y w → x ≡ y
-same_push x y v w e = cc
-
 -- ---- as a row begins
 
 -- the deed that is due names the index of the row's first word, and so many words more
@@ -149,14 +131,6 @@ push_index from a sum word is =
     is.inside.bases.small at.cell.row (me_within a is.inside) at.cell.column
     (same_push _ _ _ _ (sym is.due ∙ push_deed (member_inside a) at.none at.at at.later))
 
--- what its replica asks of a look at a word in a row and a column
-pub record IsLookOf (r : Replica) (i c word : ℕ) : Type 0 where
-  pub row : i < r.roster
-  pub other : is_other r i ≡ true
-  pub may : may_look r i c ≡ true
-  pub in_form : IsInForm r.roster c word
-  pub grown : HasGrown r.roster c (seen r.rows i c) word
-
 -- a word that the member may see is such a one
 pub look_takes : (a : Inside) (row word : ℕ) → IsInsideMember a
     → MaySee (member_inside a) (step_of_member (member_inside a)) word → a.place.row ≡ row
@@ -170,16 +144,6 @@ look_takes a row word is may same =
       in_form = due.seen.form;
       grown = due.seen.grown;
     })
-
--- so the row isn't suspected
-pub untrue : (a b : Bool) → (not a && b) ≡ true → a ≡ false
-untrue true b e = absurd (cc)
-untrue false b e = refl
-
--- the row of a look, or of a push, is one of its roster, behind it as well
-pub look_row_stays : (r q : Replica) (i c word : ℕ) → IsLookOf r i c word → q ≡ looked r i c word
-    → i < q.roster
-look_row_stays r q i c word is after = subst (λ (x : Replica). i < x.roster) (sym after) is.row
 
 pub push_row_stays : (from : Running) (a : Inside) (q : Replica) (row sum word : ℕ)
     → IsOnRow (deeds.Push sum word) from a → a.place.row ≡ row → q ≡ pushed a.replica row a.place.column

@@ -113,7 +113,7 @@ impl Member {
 
     /// What the member, which has not ended, does next. An index in it is one of the table's.
     #[inline(always)]
-    #[tactic(auto, using(crate::proofs::Dues::next_without_end))]
+    #[tactic(auto, using(dr_program::proofs::RunningPrograms::next_without_end))]
     pub fn due_deed(&self) -> Deed
         requires going { self.now.replica.end ≡ None }
         ensures deed { result ≡ next_deed self.now }

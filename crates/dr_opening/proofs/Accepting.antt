@@ -1,19 +1,18 @@
 -- Logs that an age has left, and logs without entries, are accepted.
-use Rattle.std.proofs.Common.{◌≡◌, refl, subst, ap, inl, ℕ, sym, arith, List, [], ◌++◌, length}
-use Rattle.std.specs.Prelude.{Option, Some, slice_get}
-use Rattle.std.specs.Option.{option_map_or}
+use Rattle.std.proofs.Common.{◌≡◌, refl, ap, inl, ℕ, arith, List, [], ◌++◌, length}
+use Rattle.std.specs.Prelude.{Some, slice_get}
 use Rattle.std.proofs.lemmas.Option.{slice_get_within}
 use Rattle.dr_entry.specs.declared.end.MemberEnd.{MemberEnd}
 use Rattle.dr_entry.specs.declared.entry.Entry.{Entry}
-use Rattle.dr_history.specs.History.{IsPrefixOf}
 use Rattle.dr_history.specs.Agreement.{EndsAgreed, accounts_of}
+use Rattle.dr_history.proofs.Histories.{AreFirstPartsOf}
 use Rattle.dr_history_laws.specs.Parts.{AreFirstParts}
 use Rattle.dr_history_laws.proofs.Parts.{parts_all_along, parts_sound}
 use Rattle.dr_machine.specs.Group.{AllPresent, IsGroup, roster}
-use Rattle.dr_machine.proofs.Presence.{is_present}
 use Rattle.dr_restart.specs.declared.start.Start.{Start}
 use Rattle.dr_restart.specs.Groups.{group_of}
 use Rattle.dr_script.specs.declared.script.Script.{Script}
+use Rattle.dr_quorum_laws.proofs.Sounding.{first_parts}
 use Rattle.dr_opening.specs.Accepted.{AreAccepted, judged_by}
 
 pub none_accepted : (script : Script) (lists : List (List Entry))
@@ -22,24 +21,6 @@ none_accepted script lists none = record {
   sound = λ m es at i e here. absurd (omega (arith, slice_get_within es i e here, ap length (none m es at)));
   along = λ a b g h l at_a at_b. inl (h, ap (λ (xs : List Entry). xs ++ h) (none a g at_a));
 }
-
--- each of the lists is the first part of the history of a member that ended so
-abbrev pub AreFirstPartsOf : List MemberEnd → List (List Entry) → Type 0
-AreFirstPartsOf ends lists = (m : ℕ) (es : List Entry) → slice_get lists m ≡ Some es
-    → (i : ℕ) × (e : MemberEnd) × (slice_get ends i ≡ Some e) × IsPrefixOf es e.history
-
--- first parts of the histories of its members, by their accounts
-first_parts : (script : Script) (start : Start) (ends : List MemberEnd) (lists : List (List Entry))
-    → AllPresent (group_of script start) → length ends ≡ roster (group_of script start)
-    → AreFirstPartsOf ends lists → AreFirstParts (group_of script start).opening (accounts_of ends) lists
-first_parts script start ends lists present all parts m es at =
-    let part = parts m es at in (
-      part.0,
-      is_present (group_of script start) part.0 present
-          (omega (arith, slice_get_within ends part.0 part.1 part.2, all)),
-      subst (λ (end : Option MemberEnd).
-          IsPrefixOf es (option_map_or (λ (e : MemberEnd). e.history) end [])) (sym part.2) part.3,
-    )
 
 pub ended_accepted : (script : Script) (start : Start) (ends : List MemberEnd) (lists : List (List Entry))
     → IsGroup (group_of script start) → AllPresent (group_of script start)

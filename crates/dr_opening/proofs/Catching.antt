@@ -1,15 +1,11 @@
 -- What comes of a log that is brought up to a start.
-use Rattle.std.proofs.Common.{◌≡◌, refl, ap, sym, ◌∙◌, subst, ℕ, ◌+◌, ◌-◌, ◌≤◌, inl, le_trans, arith, List, [], ◌∷◌, ◌++◌, length, take, drop, Option, Some, None, append_assoc, drop_at, false}
-use Rattle.std.specs.Prelude.{◌≢◌, ◌^◌, IfSome, IsErrOf, Err}
-use Rattle.std.proofs.Math.Nat.{le-min, min-le_left, min-le_right}
-use Rattle.std.proofs.lemmas.List.{take_rest}
+use Rattle.std.proofs.Common.{◌≡◌, refl, ap, sym, ◌∙◌, subst, ℕ, ◌+◌, ◌≤◌, inl, arith, List, ◌++◌, Option, Some, None, false}
+use Rattle.std.specs.Prelude.{◌≢◌, IfSome, IsErrOf, Err}
 use Rattle.dr_entry.specs.declared.entry.Entry.{Entry}
 use Rattle.dr_disk.specs.Disk.{Told, state_of}
 use Rattle.dr_disk.specs.Calls.{State}
 use Rattle.dr_disk.specs.Images.{AllImages, Goes, IsLeft}
 use Rattle.dr_disk.proofs.Moments.{stays_at}
-use Rattle.dr_history.specs.History.{IsPrefixOf}
-use Rattle.dr_io.specs.Faults.{Rose}
 use Rattle.dr_log.specs.declared.fault.LogFault.{LogFault}
 use Rattle.dr_log.specs.declared.fault.LogFault.TheVariants as logs
 use Rattle.dr_opening.specs.declared.catching_up.CatchFault.{CatchFault}
@@ -168,34 +164,3 @@ full_by T old log size logs.DiskFault answer long limit keeps disk over =
     rw (disk refl) (omega (arith, keeps, long, limit))
 full_by T old log size (logs.LogFull len) answer long limit keeps disk over =
     rw (over len refl) (keeps.0 ∙ long, omega (arith, keeps.1, long, limit))
-
--- a count that rose from a later value rose from an earlier one
-pub rose_since : (base old new : ℕ) → base ≤ old → Rose old new → Rose base new
-rose_since base old new later rose =
-    le_trans (le-min (omega (arith, min-le_left (base + 1) (2 ^ 64 - 1), later)) (min-le_right _ _)) rose
-
--- a part of the start is a part of what the age begins with
-pub part_of_opened : (es start : List Entry) (v : Entry) → IsPrefixOf es start
-    → IsPrefixOf es (start ++ v ∷ [])
-part_of_opened es start v part =
-    (part.0 ++ v ∷ [], sym (append_assoc es part.0 (v ∷ [])) ∙ ap (λ (l : List Entry). l ++ v ∷ []) part.1)
-
--- what a log lacks of a start, by a slice of it
-pub lacking : (es start have entries : List Entry) → IsPrefixOf es start → have ≡ es → entries ≡ start
-    → es ++ take (length entries - length have) (drop (length have) entries) ≡ start
-lacking es start have entries part mine whole =
-    let rest : take (length start - length es) (drop (length es) start) ≡ part.0 =
-    take_rest start (length es) ∙ ap (drop (length es)) (sym part.1) ∙ drop_at es part.0 (length es) refl in
-    ap (λ (l : List Entry). es ++ take (length entries - length l) (drop (length l) entries)) mine
-    ∙ ap (λ (l : List Entry). es ++ take (length l - length es) (drop (length es) l)) whole
-    ∙ ap (λ (l : List Entry). es ++ l) rest ∙ part.1
-
-pub lacking_all : (es rest start : List Entry) (v w : Entry) → es ++ rest ≡ start → v ≡ w
-    → es ++ (rest ++ v ∷ []) ≡ start ++ w ∷ []
-lacking_all es rest start v w is same =
-    sym (append_assoc es rest (v ∷ [])) ∙ ap (λ (l : List Entry). l ++ v ∷ []) is
-    ∙ ap (λ (x : Entry). start ++ x ∷ []) same
-
--- so what it lacks of all that the age begins with
-pub lacked_is : (es rest whole : List Entry) → es ++ rest ≡ whole → rest ≡ drop (length es) whole
-lacked_is es rest whole all = sym (drop_at es rest (length es) refl) ∙ ap (drop (length es)) all

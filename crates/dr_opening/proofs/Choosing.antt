@@ -3,9 +3,11 @@ use Rattle.std.proofs.Common.{◌≡◌, ap, sym, ◌∙◌, subst, refl, ℕ, �
 use Rattle.std.specs.Prelude.{option_map}
 use Rattle.std.proofs.lemmas.List.{length-map}
 use Rattle.std.proofs.lemmas.Option.{none-some}
+use Rattle.dr_entry.proofs.ListPlaces.{within_places}
 use Rattle.dr_history.specs.declared.opening.Opening.{Opening}
 use Rattle.dr_history.specs.Members.{has}
 use Rattle.dr_history.specs.Soundness.{whole_roster}
+use Rattle.dr_history.proofs.Bits.{has_zero}
 use Rattle.dr_history_laws.proofs.Lengths.{start-short}
 use Rattle.dr_log.specs.State.{LogState}
 use Rattle.dr_log_bytes.specs.Content.{OnLog}
@@ -19,12 +21,11 @@ use Rattle.dr_restart.specs.declared.start.Start.{Start}
 use Rattle.dr_restart.specs.Groups.{first_group_of, group_of}
 use Rattle.dr_script.specs.declared.script.Script.{Script}
 use Rattle.dr_script.specs.Ranges.{HasGroupRanges}
-use Rattle.dr_words.proofs.Bits.{has_zero}
 use Rattle.dr_words.proofs.Masks.{has_mask_of}
 use Rattle.dr_words.specs.Masks.{without}
 use Rattle.dr_opening.specs.Lists.{SomebodyPrompt, all_as_lists, as_lists, contents_of, log_of}
 use Rattle.dr_opening.specs.Tries.{IsChosenOf, content_at}
-use Rattle.dr_opening.proofs.Lists.{content_is, handed_is, within_places}
+use Rattle.dr_opening.proofs.Lists.{content_is, handed_is}
 use Rattle.dr_opening.proofs.Trying.{in_set}
 
 pub chosen_group : (script : Script) (contents : List (Option OnLog)) (start : Start) → HasGroupRanges script

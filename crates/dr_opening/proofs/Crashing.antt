@@ -1,8 +1,9 @@
 -- What a crash leaves of logs on which an age was opened, or on which its opening stopped.
-use Rattle.std.proofs.Common.{◌≡◌, refl, ap, sym, ◌∙◌, subst, inl, inr, ⊎_elim, ℕ, ◌<◌, ◌≤◌, arith, List, length, Option, None, Some}
-use Rattle.std.specs.Prelude.{option_map, slice_get}
+use Rattle.std.proofs.Common.{◌≡◌, refl, ap, sym, ◌∙◌, subst, inl, inr, ⊎_elim, ℕ, ◌<◌, ◌≤◌, arith, List, length, Option, None, Some, ◌⊎◌}
+use Rattle.std.specs.Prelude.{slice_get}
 use Rattle.std.proofs.lemmas.Bool.{cases_eq, cases_lt}
 use Rattle.std.proofs.lemmas.Option.{same_Some}
+use Rattle.dr_entry.proofs.ListPlaces.{within_places}
 use Rattle.dr_disk.specs.Disk.{Told, state_of}
 use Rattle.dr_disk.specs.Images.{AllImages, IsLeft}
 use Rattle.dr_disk.proofs.Moments.{Goes-last}
@@ -10,16 +11,18 @@ use Rattle.dr_log.specs.State.{LogState}
 use Rattle.dr_log_bytes.specs.Content.{OnLog}
 use Rattle.dr_log_bytes.specs.Grammar.{StandFor}
 use Rattle.dr_log_bytes.proofs.Meaning.{content_once}
+use Rattle.dr_log.proofs.Standing.{voted_newer, content_there, no_content}
 use Rattle.dr_restart.specs.declared.lists.LogLists.{LogLists}
 use Rattle.dr_restart.specs.declared.start.Start.{Start}
 use Rattle.dr_restart.specs.Trying.{age_vote_of}
 use Rattle.dr_opening.specs.Contents.{IsRising, IsVoting, StandSo, voted_for}
 use Rattle.dr_opening.specs.Lists.{as_lists, contents_of, log_of}
-use Rattle.dr_opening.specs.Logs.{ComeBelow, GotStart, GotVote, IsReadyToRise, LacksStart, LacksVote, StopAt, Together, WereOpened}
+use Rattle.dr_opening.specs.Logs.{ComeBelow, GotStart, GotVote, IsReadyToRise, LacksStart, LacksVote, StopAt, Together, WereOpened, WereNotOpened}
 use Rattle.dr_opening.specs.Tries.{AreLeftOn, AreSafe, CameSo, IsLeftOn}
 use Rattle.dr_opening.specs.declared.catching_up.CatchFault.{CatchFault}
-use Rattle.dr_opening.proofs.Lists.{content_is, voted_newer, within_places}
+use Rattle.dr_opening.proofs.Lists.{content_is}
 use Rattle.dr_opening.proofs.Placing.{came_from, came_to, none_to}
+use Rattle.dr_opening.specs.declared.opening.OpenFault.{OpenFault}
 
 -- what is so of each log by its number: where there was one there is one, and each image of it stands for what is so
 pub record AreSo {D : Type 0} (told : D → Option Told) (P : OnLog → OnLog → Type 0)
@@ -27,18 +30,6 @@ pub record AreSo {D : Type 0} (told : D → Option Told) (P : OnLog → OnLog �
   pub each : (m : ℕ) (old : LogState D) → log_of olds m ≡ Some old
       → (new : LogState D) × (log_of news m ≡ Some new) × IsLeft (told new.disk) (StandSo (P old.content))
   pub none : (m : ℕ) → log_of olds m ≡ None → log_of news m ≡ None
-
--- the content of a log that is there
-content_there : {D : Type 0} (o : Option (LogState D)) (c : OnLog)
-    → option_map (λ (log : LogState D). log.content) o ≡ Some c
-    → (log : LogState D) × (o ≡ Some log) × (log.content ≡ c)
-content_there None c same = absurd (cc)
-content_there (Some log) c same = (log, refl, same_Some log.content c same)
-
-no_content : {D : Type 0} (o : Option (LogState D)) → option_map (λ (log : LogState D). log.content) o ≡ None
-    → o ≡ None
-no_content None same = refl
-no_content (Some log) same = absurd (cc)
 
 -- lists that an image gives are of what is so
 so_left : {D : Type 0} (told : D → Option Told) (P : OnLog → Type 0) (new : LogState D) (lists : LogLists)
@@ -219,3 +210,16 @@ so_stopped {D} told faults start olds mids news k why voted stop =
       none = λ m at. stop_none (GotStart told faults start)
           (λ old new. LacksStart told faults start old new why) mids news k m stop at;
     })
+
+-- what came of each log: it is in the first phase, or in the second
+abbrev pub AreOnWay : {D : Type 0} (tells : D → Option Told) (start : Start) (olds news : List (Option (LogState D))) → Type 0
+AreOnWay tells start olds news = AreSo tells (IsVoting start) olds news
+    ⊎ AreSo tells (λ c now. IsRising start (voted_for start c) now) olds news
+
+pub on_way : {D : Type 0} (tells : D → Option Told) (faults : D → ℕ) (start : Start)
+    (olds news : List (Option (LogState D))) (fault : OpenFault) → AreSafe tells olds
+    → WereNotOpened tells faults start olds news fault → AreOnWay tells start olds news
+on_way tells faults start olds news fault safe (inl stop) =
+    inl (so_voting tells faults start olds news fault.member fault.why safe stop)
+on_way tells faults start olds news fault safe (inr (mids, voted, stop)) =
+    inr (so_stopped tells faults start olds mids news fault.member fault.why voted stop)

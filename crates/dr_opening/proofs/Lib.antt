@@ -13,3 +13,6 @@ mod Voting
 mod Rising
 pub mod Accepting
 pub mod Catching
+pub mod Contents
+pub mod Accepted
+pub mod Logs

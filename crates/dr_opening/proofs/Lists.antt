@@ -1,27 +1,33 @@
 -- What is on logs by member, and as lists.
-use Rattle.std.proofs.Common.{◌≡◌, refl, ap, sym, ◌∙◌, ⊎_elim, ℕ, ◌<◌, ◌≤◌, arith, Bool, true, false, List, [], ◌∷◌, ◌++◌, length, map, take, ◌+◌, get_or, Option, None, Some}
-use Rattle.std.specs.Prelude.{if◌then◌else◌, option_map, slice_index_or}
-use Rattle.std.proofs.lemmas.Bool.{cases_lt}
-use Rattle.std.proofs.lemmas.List.{get_or-map, get_or_past, get_or_read_under, length-map, take_more}
+use Rattle.std.proofs.Common.{◌≡◌, refl, ap, sym, ◌∙◌, ℕ, ◌<◌, ◌≤◌, arith, Bool, true, false, List, [], ◌∷◌, ◌++◌, length, take, ◌+◌, get_or, Option, None, Some, subst, inl, inr, drop}
+use Rattle.std.specs.Prelude.{if◌then◌else◌, option_map, is_some}
+use Rattle.std.proofs.lemmas.List.{get_or_read_under, length-map, take_more}
+use Rattle.std.proofs.lemmas.Option.{same_Some, none-some}
 use Rattle.dr_entry.specs.declared.record.AgeVote.{AgeVote}
 use Rattle.dr_entry.specs.declared.record.Record.TheVariants as records
-use Rattle.dr_log.specs.Standing.{in_newer_format, with_age_vote}
+use Rattle.dr_entry.proofs.ListPlaces.{mapped_at}
+use Rattle.dr_entry.proofs.OptionFacts.{both_there, neither_there}
+use Rattle.dr_entry.specs.declared.entry.Entry.{Entry}
+use Rattle.dr_entry.specs.declared.entry.Entry.TheVariants.{View}
+use Rattle.dr_history.specs.History.{IsPrefixOf}
+use Rattle.dr_log.specs.Standing.{in_newer_format, with_age_vote, entries_length}
 use Rattle.dr_log.specs.State.{LogState}
-use Rattle.dr_log_bytes.specs.Content.{OnLog, with_record}
+use Rattle.dr_log_bytes.specs.Content.{OnLog, with_record, empty_of}
+use Rattle.dr_script.specs.declared.script.Script.{Script}
+use Rattle.dr_script.specs.Ranges.{HasGroupRanges}
 use Rattle.dr_restart.specs.declared.lists.LogLists.{LogLists}
+use Rattle.dr_restart.specs.declared.start.Start.{Start}
+use Rattle.dr_restart.specs.Trying.{age_vote_of}
+use Rattle.dr_restart.specs.Choosing.{HasAge, IsChosenStart}
+use Rattle.dr_restart.specs.Groups.{first_group_of}
+use Rattle.dr_logged.specs.Served.{HaveSamePlaces}
+use Rattle.dr_quorum_laws.proofs.Lists.{in-nothing}
 use Rattle.dr_quorum.specs.Handing.{handed_by}
 use Rattle.dr_opening.specs.Lists.{all_as_lists, as_lists, contents_of, log_of}
-use Rattle.dr_opening.specs.Tries.{content_at}
-
--- what is in a place of a list that was gone through
-pub mapped_at : {X Y : Type 0} (f : X → Y) (xs : List (Option X)) (m : ℕ)
-    → slice_index_or (map (option_map f) xs) m None ≡ option_map f (slice_index_or xs m None)
-mapped_at {X} {Y} f xs m = ⊎_elim
-    (λ (l : m < length xs). get_or-map (option_map f) xs m None None l)
-    (λ (g : length xs ≤ m). get_or_past (map (option_map f) xs) m None
-    (omega (arith, g, length-map xs (option_map f)))
-    ∙ ap (option_map f) (sym (get_or_past xs m None g)))
-    (cases_lt m (length xs))
+use Rattle.dr_opening.specs.Tries.{content_at, IsChosenOf}
+use Rattle.dr_opening.proofs.Contents.{voted_long}
+use Rattle.dr_opening.specs.CatchingUp.{opened_with}
+use Rattle.dr_opening.specs.Contents.{IsCutFor, IsOpenFor, voted_for}
 
 pub handed_is : (contents : List (Option OnLog)) (m : ℕ)
     → handed_by (all_as_lists contents) m ≡ option_map as_lists (content_at contents m)
@@ -30,14 +36,6 @@ handed_is contents m = mapped_at as_lists contents m
 pub content_is : {D : Type 0} (logs : List (Option (LogState D))) (m : ℕ)
     → content_at (contents_of logs) m ≡ option_map (λ log. log.content) (log_of logs m)
 content_is {D} logs m = mapped_at (λ (log : LogState D). log.content) logs m
-
--- a place that is not empty is one of the list
-pub within_places : {X : Type 0} (xs : List (Option X)) (m : ℕ) (x : X) → slice_index_or xs m None ≡ Some x
-    → m < length xs
-within_places xs m x at = ⊎_elim
-    (λ (l : m < length xs). l)
-    (λ (g : length xs ≤ m). absurd (let e = sym (get_or_past xs m None g) ∙ at in cc))
-    (cases_lt m (length xs))
 
 -- one list more
 pub next_listed : {D : Type 0} (logs : List (Option (LogState D))) (i : ℕ) (x : Option (LogState D))
@@ -79,11 +77,105 @@ pub voted_lists : (vote : AgeVote) (c : OnLog)
     → as_lists (with_age_vote vote c) ≡ with_vote_more vote (as_lists c)
 voted_lists vote c = voted_either vote c c.newer
 
--- and the log is one of the newer format
-newer_either : (c : OnLog) (b : Bool) → c.newer ≡ b
-    → (if b then c else with_record records.Upgrade c).newer ≡ true
-newer_either c true same = same
-newer_either c false same = refl
+-- the log that was there is there
+pub was_there : {D : Type 0} (olds news : List (Option (LogState D))) (m : ℕ) (new : LogState D)
+    → HaveSamePlaces olds news → log_of news m ≡ Some new → (old : LogState D) × (log_of olds m ≡ Some old)
+was_there olds news m new places at = both_there (log_of news m) (log_of olds m) new (places.each m) at
 
-pub voted_newer : (vote : AgeVote) (c : OnLog) → (with_age_vote vote c).newer ≡ true
-voted_newer vote c = newer_either c c.newer refl
+pub stays_there : {D : Type 0} (olds news : List (Option (LogState D))) (m : ℕ) (old : LogState D)
+    → HaveSamePlaces olds news → log_of olds m ≡ Some old → (new : LogState D) × (log_of news m ≡ Some new)
+stays_there olds news m old places at =
+    both_there (log_of olds m) (log_of news m) old (sym (places.each m)) at
+
+pub was_none : {D : Type 0} (olds news : List (Option (LogState D))) (m : ℕ)
+    → HaveSamePlaces olds news → log_of news m ≡ None → log_of olds m ≡ None
+was_none olds news m places at = neither_there (log_of news m) (log_of olds m) (places.each m) at
+
+pub stays_none : {D : Type 0} (olds news : List (Option (LogState D))) (m : ℕ)
+    → HaveSamePlaces olds news → log_of olds m ≡ None → log_of news m ≡ None
+stays_none olds news m places at = neither_there (log_of olds m) (log_of news m) (sym (places.each m)) at
+
+-- so it takes what it lacks of all that the age begins with, a vote and an upgrade at most
+pub open_uncut : (start : Start) (c now : OnLog) → IsPrefixOf c.entries start.entries
+    → IsOpenFor start (voted_for start c) now
+    → now.length ≤ c.length + 8 + entries_length (drop (length c.entries) (opened_with start start.members))
+open_uncut start c now part (cut, is, same) = by is
+  where
+    voted : (voted_for start c).entries ≡ c.entries
+    voted = ap (λ (l : LogLists). l.entries) (voted_lists (age_vote_of start) c)
+
+    by : IsCutFor start (voted_for start c) cut
+        → now.length ≤ c.length + 8 + entries_length (drop (length c.entries) (opened_with start start.members))
+    by (inl (front, as_voted)) = omega (
+      arith,
+      ap (λ (x : OnLog). x.length) same,
+      ap (λ (x : OnLog). x.length) as_voted,
+      ap (λ (x : OnLog). entries_length (drop (length x.entries) (opened_with start start.members))) as_voted,
+      ap (λ (es : List Entry). entries_length (drop (length es) (opened_with start start.members))) voted,
+      voted_long start c,
+    )
+    by (inr (keep, due, as_cut)) =
+        absurd (due.beside (subst (λ (es : List Entry). IsPrefixOf es start.entries) (sym voted) part))
+
+-- no age is on an empty log
+pub ageless : (c : OnLog) (age : ℕ) → c ≡ empty_of true → HasAge (as_lists c) age → ⊥
+ageless c age empty has = by (subst (λ (d : OnLog). HasAge (as_lists d) age) empty has)
+  where
+    by : HasAge (as_lists (empty_of true)) age → ⊥
+    by (inl (number, members, there)) = in-nothing (View age number members) there
+    by (inr (inl (x, there, same))) = in-nothing x there
+    by (inr (inr (x, there, same))) = in-nothing x there
+
+-- what is on a log that is there
+pub content_at_log : {D : Type 0} (logs : List (Option (LogState D))) (m : ℕ) (log : LogState D)
+    → log_of logs m ≡ Some log → content_at (contents_of logs) m ≡ Some log.content
+content_at_log {D} logs m log at =
+    content_is logs m ∙ ap (option_map (λ (log : LogState D). log.content)) at
+
+pub log_of_content : {D : Type 0} (logs : List (Option (LogState D))) (m : ℕ) (c : OnLog)
+    → content_at (contents_of logs) m ≡ Some c
+    → (log : LogState D) × (log_of logs m ≡ Some log) × (log.content ≡ c)
+log_of_content {D} logs m c at = by (log_of logs m) refl (sym (content_is logs m) ∙ at)
+  where
+    by : (o : Option (LogState D)) → log_of logs m ≡ o
+        → option_map (λ (log : LogState D). log.content) o ≡ Some c
+        → (log : LogState D) × (log_of logs m ≡ Some log) × (log.content ≡ c)
+    by None here same = absurd (cc)
+    by (Some log) here same = (log, here, same_Some log.content c same)
+
+pub content_none : {D : Type 0} (logs : List (Option (LogState D))) (m : ℕ) → log_of logs m ≡ None
+    → content_at (contents_of logs) m ≡ None
+content_none {D} logs m at = content_is logs m ∙ ap (option_map (λ (log : LogState D). log.content)) at
+
+pub contents_count : {D : Type 0} (logs : List (Option (LogState D))) → length (contents_of logs) ≡ length logs
+contents_count {D} logs = length-map logs (option_map (λ (log : LogState D). log.content))
+
+pub contents_there : {D : Type 0} (logs : List (Option (LogState D))) (m : ℕ)
+    → is_some (content_at (contents_of logs) m) ≡ is_some (log_of logs m)
+contents_there {D} logs m = ap (λ (o : Option OnLog). is_some o) (content_is logs m) ∙ by (log_of logs m)
+  where
+    by : (o : Option (LogState D)) → is_some (option_map (λ (log : LogState D). log.content) o) ≡ is_some o
+    by None = refl
+    by (Some log) = refl
+
+-- where nothing is on a log there is none
+pub no_log : {D : Type 0} (logs : List (Option (LogState D))) (m : ℕ) → content_at (contents_of logs) m ≡ None
+    → log_of logs m ≡ None
+no_log {D} logs m none = by (log_of logs m) refl
+  where
+    by : (o : Option (LogState D)) → log_of logs m ≡ o → log_of logs m ≡ None
+    by None at = at
+    by (Some log) at = absurd (none-some log.content (sym none ∙ content_at_log logs m log at))
+
+-- and the start, where one is
+pub chosen_told : {D : Type 0} (script : Script) (logs : List (Option (LogState D)))
+    (lists : List (Option LogLists)) (start : Start) → HasGroupRanges script → length logs ≡ script.members
+    → lists ≡ all_as_lists (contents_of logs)
+    → IsChosenStart (first_group_of script).opening (handed_by lists) start
+    → IsChosenOf (first_group_of script).opening (contents_of logs) start
+chosen_told {D} script logs lists start ranges all same chosen = record {
+  all = length-map logs (option_map (λ (log : LogState D). log.content)) ∙ (all ∙ sym ranges.lists);
+  chosen = subst
+      (λ (ls : List (Option LogLists)). IsChosenStart (first_group_of script).opening (handed_by ls) start) same
+      chosen;
+}

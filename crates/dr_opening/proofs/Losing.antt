@@ -1,13 +1,15 @@
 -- What an opening loses of no log: its votes, and the entries that it has in common with the start.
-use Rattle.std.proofs.Common.{◌≡◌, ap, sym, ◌∙◌, inl, inr, ◌⊎◌, [], ◌∷◌, ◌++◌, append_assoc}
+use Rattle.std.proofs.Common.{◌≡◌, ap, sym, ◌∙◌, inl, inr, ◌⊎◌, [], ◌∷◌, ◌++◌, append_assoc, ℕ, List, subst}
 use Rattle.dr_entry.specs.declared.record.AgeVote.{AgeVote}
 use Rattle.dr_history.specs.History.{IsPrefixOf}
-use Rattle.dr_log.specs.Standing.{HasAllOf}
+use Rattle.dr_history.specs.Members.{has}
+use Rattle.dr_log.specs.Standing.{HasAllOf, LosesNone}
 use Rattle.dr_log_bytes.specs.Content.{OnLog}
+use Rattle.dr_log.proofs.Ordinary.{none_lost}
 use Rattle.dr_restart.specs.declared.lists.LogLists.{LogLists}
 use Rattle.dr_restart.specs.declared.start.Start.{Start}
 use Rattle.dr_restart.specs.Trying.{MayBeBroughtUp, age_vote_of}
-use Rattle.dr_opening.specs.Contents.{IsRising, IsVoting, voted_for}
+use Rattle.dr_opening.specs.Contents.{IsRising, IsVoting, voted_for, StandSo}
 use Rattle.dr_opening.specs.Lists.{as_lists}
 use Rattle.dr_opening.proofs.Lists.{voted_lists, with_vote_more}
 use Rattle.dr_opening.proofs.Ways.{rising_by, rising_votes, voting_lists}
@@ -68,3 +70,16 @@ rising_has_all start first c now has of_start way =
       votes = those.votes ∙ voted.votes;
       age_votes = those.age_votes ∙ voted.age_votes;
     }
+
+-- what a crash leaves on the way to an open log has all that it and the start have in common
+pub voting_loses_none : (start : Start) (first c : OnLog) (image : List ℕ) → HasAllOf first c
+    → StandSo (IsVoting start c) image → LosesNone first image
+voting_loses_none start first c image has (now, way, stands) =
+    none_lost first now image (voting_has_all start first c now has way) stands
+
+pub rising_loses_none : (start : Start) (first c voted : OnLog) (image : List ℕ) → voted ≡ voted_for start c
+    → HasAllOf first c → IsPrefixOf first.entries start.entries → StandSo (IsRising start voted) image
+    → LosesNone first image
+rising_loses_none start first c voted image same has part (now, way, stands) =
+    none_lost first now image (rising_has_all start first c now has part
+    (subst (λ (v : OnLog). IsRising start v now) same way)) stands

@@ -2,6 +2,7 @@
 use Rattle.std.proofs.Common.{◌≡◌, subst, ℕ, ◌≤◌, arith, Bool, true, List, length, Option, Some}
 use Rattle.std.specs.Prelude.{Err, IfErr, Ok, OnErr, OnOk, Result, option_map}
 use Rattle.std.proofs.lemmas.List.{length-map}
+use Rattle.dr_entry.proofs.ListPlaces.{within_places}
 use Rattle.dr_disk.specs.Disk.{Told}
 use Rattle.dr_history.specs.declared.opening.Opening.{Opening}
 use Rattle.dr_log.specs.State.{LogState}
@@ -15,7 +16,6 @@ use Rattle.dr_opening.specs.Contents.{IsRising, IsVoting, voted_for}
 use Rattle.dr_opening.specs.Lists.{contents_of, log_of}
 use Rattle.dr_opening.specs.Logs.{ComeBelow, GotStart, GotVote, LacksStart, LacksVote, StopAt, Together, WereOpened}
 use Rattle.dr_opening.specs.Tries.{AreAmong, AreLeftOn, AreSafe, IsChosenOf, try_of}
-use Rattle.dr_opening.proofs.Lists.{within_places}
 use Rattle.dr_opening.proofs.Placing.{came_from}
 use Rattle.dr_opening.proofs.Ways.{open_entries}
 use Rattle.dr_opening.proofs.Crashing.{AreSo, left_so_far, so_opened, so_stopped, so_voting}

@@ -3,15 +3,10 @@ use Rattle.std.proofs.Common.{◌≡◌, refl, sym, ◌∙◌, subst, inl, inr, 
 use Rattle.std.specs.Prelude.{Err, IfErr, Ok, Result, slice_set}
 use Rattle.std.proofs.lemmas.Bool.{cases_eq}
 use Rattle.std.proofs.lemmas.List.{get_or-set_other, get_or-set_same}
-use Rattle.std.proofs.lemmas.Option.{same_Some, slice_get-get_or}
+use Rattle.dr_entry.proofs.ListFacts.{same_under}
 use Rattle.dr_log.specs.State.{LogState}
 use Rattle.dr_opening.specs.Lists.{log_of}
 use Rattle.dr_opening.specs.Logs.{BothThere, ComeBelow, StopAt, Together}
-
--- what is read does not go by what is read past the end
-pub same_under : {X : Type 0} (xs : List X) (i : ℕ) (d e : X) → i < length xs → get_or xs i d ≡ get_or xs i e
-same_under xs i d e l =
-    same_Some (get_or xs i d) (get_or xs i e) (sym (slice_get-get_or xs i d l) ∙ slice_get-get_or xs i e l)
 
 -- before the first
 pub none_come : {D : Type 0} (P : LogState D → LogState D → Type 0) (logs : List (Option (LogState D)))

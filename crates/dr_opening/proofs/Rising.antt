@@ -5,7 +5,7 @@ use Rattle.std.specs.Prelude.{◌≢◌, Err, IfErr, IfSome, IsErrOf, Ok, OnErr,
 use Rattle.dr_entry.specs.declared.record.Record.TheVariants as records
 use Rattle.dr_disk.specs.Disk.{Told, state_of}
 use Rattle.dr_disk.specs.Images.{AllImages, Goes, IsLeft}
-use Rattle.dr_disk.proofs.Moments.{Goes-last, stays_at}
+use Rattle.dr_disk.proofs.Moments.{Goes-last, stays_at, goes_both, goes_so}
 use Rattle.dr_io.specs.Faults.{Rose}
 use Rattle.dr_log.specs.declared.fault.LogFault.{LogFault}
 use Rattle.dr_log.specs.declared.fault.LogFault.TheVariants as logs
@@ -20,7 +20,7 @@ use Rattle.dr_opening.specs.Contents.{IsCutFor, IsRising, IsRisingStep, StandSo,
 use Rattle.dr_opening.specs.Logs.{Explains, GotStart, IsReadyToRise, LacksStart}
 use Rattle.dr_opening.specs.declared.catching_up.CatchFault.TheVariants.{DiskFault, LogFull, OutOfMemory}
 use Rattle.dr_opening.specs.declared.catching_up.CatchFault.{CatchFault}
-use Rattle.dr_opening.proofs.Steps.{IsFrom, goes_both, goes_so, stuck_by}
+use Rattle.dr_opening.proofs.Steps.{IsFrom, stuck_by}
 
 -- a log that is ready is one from which an append is made
 ready_from : {D : Type 0} (told : D → Option Told) (faults : D → ℕ) (log : LogState D) → IsReadyToRise told log

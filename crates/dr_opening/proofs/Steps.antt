@@ -1,10 +1,10 @@
 -- An append that an opening makes, or is refused.
-use Rattle.std.proofs.Common.{◌≡◌, refl, ap, sym, ◌∙◌, subst, ◌⊎◌, ℕ, arith, List, Option}
+use Rattle.std.proofs.Common.{◌≡◌, refl, ap, sym, ◌∙◌, subst, ◌⊎◌, ℕ, arith, Option}
 use Rattle.std.specs.Prelude.{Err}
 use Rattle.dr_entry.specs.declared.record.Record.{Record}
 use Rattle.dr_disk.specs.Disk.{Told}
 use Rattle.dr_disk.specs.Images.{Goes, IsLeft}
-use Rattle.dr_disk.proofs.Moments.{Goes-last, Goes-weaken, goes_on}
+use Rattle.dr_disk.proofs.Moments.{Goes-last}
 use Rattle.dr_io.specs.Faults.{Rose}
 use Rattle.dr_log.specs.declared.fault.LogFault.{LogFault}
 use Rattle.dr_log.specs.declared.fault.LogFault.TheVariants as logs
@@ -17,17 +17,6 @@ use Rattle.dr_opening.specs.Contents.{StandSo}
 use Rattle.dr_opening.specs.Logs.{Explains, HasStuck, IsWell}
 use Rattle.dr_opening.specs.declared.catching_up.CatchFault.TheVariants.{DiskFault, LogFull}
 use Rattle.dr_opening.specs.declared.catching_up.CatchFault.{CatchFault}
-
--- two spans of time are one
-pub goes_both : (before mid after : Option Told) (P : List ℕ → Type 0) → Goes before mid (λ s. P)
-    → Goes mid after (λ s. P) → Goes before after (λ s. P)
-goes_both before mid after P first next =
-    goes_on before mid after (λ s. P) (λ s. P) (λ s. P) (λ t image told here. here)
-    (λ t u image told then here. here) first next
-
-pub goes_so : (before after : Option Told) (P Q : List ℕ → Type 0) → ((image : List ℕ) → P image → Q image)
-    → Goes before after (λ s. P) → Goes before after (λ s. Q)
-goes_so before after P Q f goes = Goes-weaken before after (λ s. P) (λ s. Q) (λ s. f) goes
 
 -- a log from which an append is made: it is well since `old`
 pub record IsFrom {D : Type 0} (told : D → Option Told) (faults : D → ℕ) (old log : LogState D) : Type 0 where

@@ -5,9 +5,11 @@ use Rattle.std.specs.Prelude.{if◌then◌else◌, is_some, option_map, slice_ge
 use Rattle.std.proofs.lemmas.Bool.{cases_lt}
 use Rattle.std.proofs.lemmas.Option.{same_Some}
 use Rattle.dr_entry.specs.declared.record.AgeVote.{AgeVote}
+use Rattle.dr_entry.proofs.ListPlaces.{within_places}
 use Rattle.dr_history.specs.declared.opening.Opening.{Opening}
 use Rattle.dr_history.specs.Members.{has}
 use Rattle.dr_history.specs.Soundness.{whole_roster}
+use Rattle.dr_history.proofs.Bits.{has_ones}
 use Rattle.dr_log_bytes.specs.Content.{OnLog}
 use Rattle.dr_restart.specs.declared.lists.Attempt.{Attempt}
 use Rattle.dr_restart.specs.declared.lists.LogLists.{LogLists}
@@ -15,12 +17,11 @@ use Rattle.dr_restart.specs.declared.start.Start.{Start}
 use Rattle.dr_restart.specs.Choosing.{Handed, IsChosenStart, of_set}
 use Rattle.dr_restart.specs.Trying.{HaveAgeVote, IsTry, MayBeBroughtUp, MayHaveAgeVote, age_vote_of}
 use Rattle.dr_quorum.specs.Handing.{handed_by}
-use Rattle.dr_words.proofs.Bits.{has_ones}
 use Rattle.dr_words.proofs.Masks.{has_mask_of}
 use Rattle.dr_opening.specs.Contents.{IsRising, IsVoting, voted_for}
 use Rattle.dr_opening.specs.Lists.{all_as_lists, as_lists}
 use Rattle.dr_opening.specs.Tries.{AreAmong, CameSo, HasStoppedSo, IsChosenOf, IsToldBy, content_at, try_of}
-use Rattle.dr_opening.proofs.Lists.{handed_is, within_places}
+use Rattle.dr_opening.proofs.Lists.{handed_is}
 use Rattle.dr_opening.proofs.Ways.{KeepsVotes, rising_brought, rising_has, rising_keeps, voted_has, voting_brought, voting_keeps, voting_lists, voting_waits}
 
 -- ---- who is in the set

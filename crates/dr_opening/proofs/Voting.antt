@@ -5,7 +5,7 @@ use Rattle.std.specs.Prelude.{Err, IfSome, IsOk, Ok, Result}
 use Rattle.dr_entry.specs.declared.record.Record.TheVariants as records
 use Rattle.dr_disk.specs.Disk.{Told, state_of}
 use Rattle.dr_disk.specs.Images.{AllImages, Goes, IsLeft}
-use Rattle.dr_disk.proofs.Moments.{stays_at}
+use Rattle.dr_disk.proofs.Moments.{stays_at, goes_so}
 use Rattle.dr_log.specs.declared.fault.LogFault.{LogFault}
 use Rattle.dr_log.specs.declared.fault.LogFault.TheVariants as logs
 use Rattle.dr_log.specs.Standing.{MayBeVoted, in_newer_format}
@@ -22,7 +22,7 @@ use Rattle.dr_opening.specs.Logs.{GotVote, LacksVote}
 use Rattle.dr_opening.specs.declared.catching_up.CatchFault.TheVariants.{DiskFault, LogFull, OutOfMemory}
 use Rattle.dr_opening.specs.declared.catching_up.CatchFault.{CatchFault}
 use Rattle.dr_opening.proofs.Catching.{GotRoom}
-use Rattle.dr_opening.proofs.Steps.{IsFrom, goes_so, stuck_by}
+use Rattle.dr_opening.proofs.Steps.{IsFrom, stuck_by}
 
 -- what a vote may leave is of the first phase
 voting_by : (start : Start) (c : OnLog) (image : List ℕ) → MayBeVoted c (age_vote_of start) image

@@ -1,9 +1,9 @@
 -- What the phases of an opening keep of what was on a log, and what they bring.
-use Rattle.std.proofs.Common.{◌≡◌, refl, ap, sym, ◌∙◌, subst, inl, inr, ◌⊎◌, List, [], ◌∷◌, ◌++◌, length, drop, append-nil, drop_at, Contains}
+use Rattle.std.proofs.Common.{◌≡◌, refl, ap, sym, ◌∙◌, subst, inl, inr, ◌⊎◌, [], ◌∷◌, append-nil, Contains}
 use Rattle.std.proofs.lemmas.List.Elements.{Contains-append_left, Contains-push}
-use Rattle.dr_entry.specs.declared.entry.Entry.{Entry}
 use Rattle.dr_entry.specs.declared.record.AgeVote.{AgeVote}
 use Rattle.dr_history.specs.History.{IsPrefixOf}
+use Rattle.dr_history.proofs.Histories.{part_of_opened, filled}
 use Rattle.dr_log_bytes.specs.Content.{OnLog}
 use Rattle.dr_restart.specs.declared.lists.LogLists.{LogLists}
 use Rattle.dr_restart.specs.declared.start.Start.{Start}
@@ -11,7 +11,6 @@ use Rattle.dr_restart.specs.Trying.{BeginsWithCommon, MayBeBroughtUp, MayHaveAge
 use Rattle.dr_opening.specs.CatchingUp.{opened_with}
 use Rattle.dr_opening.specs.Contents.{IsCutFor, IsOpenFor, IsRising, IsVoting, voted_for}
 use Rattle.dr_opening.specs.Lists.{as_lists}
-use Rattle.dr_opening.proofs.Catching.{part_of_opened}
 use Rattle.dr_opening.proofs.Lists.{newer_lists, voted_lists, with_vote_more}
 
 -- the votes stay, and no age vote goes
@@ -128,11 +127,6 @@ cut_part start voted now (inl (part, same)) =
 cut_part start voted now (inr (keep, due, same)) =
     subst (λ (c : OnLog). IsPrefixOf c.entries start.entries
     × BeginsWithCommon voted.entries start.entries c.entries) (sym same) (due.common.of_other, due.common.longest)
-
--- a list that has what it lacks of another is that one
-filled : (es whole : List Entry) → IsPrefixOf es whole → es ++ drop (length es) whole ≡ whole
-filled es whole part =
-    ap (λ l. es ++ drop (length es) l) (sym part.1) ∙ ap (λ l. es ++ l) (drop_at es part.0 (length es) refl) ∙ part.1
 
 -- the entries of a log that is open are all that the age begins with
 pub open_entries : (start : Start) (voted now : OnLog) → IsOpenFor start voted now

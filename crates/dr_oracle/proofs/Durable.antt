@@ -1,60 +1,14 @@
 -- What a member knows to be durable, by the view that it is in and by a view that its history holds.
-use Rattle.std.proofs.Common.{◌≡◌, ◌⊎◌, inl, inr, sym, ap, ◌∙◌, subst, ℕ, suc, ◌≤◌, Bool, Decides, All, Contains, List, [], ◌∷◌, length, Option, None, Some, arith}
-use Rattle.std.proofs.lemmas.Option.{none-some, same_Some}
+use Rattle.std.proofs.Common.{◌≡◌, sym, ap, ◌∙◌, subst, ℕ, ◌≤◌, Bool, Decides, All, Contains, List, length, Some}
+use Rattle.std.proofs.lemmas.Option.{same_Some}
 use Rattle.dr_entry.specs.declared.entry.Entry.{Entry}
-use Rattle.dr_entry.specs.declared.entry.Entry.TheVariants.{View, Msg}
 use Rattle.dr_history.specs.declared.opening.Opening.{Opening}
 use Rattle.dr_history.specs.Agreement.{Accounts, KnowsDurable}
-use Rattle.dr_history.specs.History.{GroupView, view_after, view_of}
+use Rattle.dr_history.specs.History.{GroupView, view_of}
 use Rattle.dr_history.specs.Members.{members_of}
 use Rattle.dr_history.specs.Soundness.{IsNobodyLate}
+use Rattle.dr_history.proofs.Histories.{last_among}
 use Rattle.dr_oracle.specs.Agreeing.{IsInLoggedView}
-
--- a view is that of a View among the entries
-record IsAmong (es : List Entry) (v : GroupView) : Type 0 where
-  mask : ℕ
-  view : Contains es (View v.age v.number mask)
-  members : members_of mask ≡ v.members
-
--- and of one entry more
-later : (e : Entry) (es : List Entry) (v : GroupView) → IsAmong es v → IsAmong (e ∷ es) v
-later e es v a = record {
-  mask = a.mask;
-  view = (suc a.view.0, omega (arith, a.view.1), a.view.2);
-  members = a.members;
-}
-
--- the view after some entries was there before, or is among them
-among : (u : Option GroupView) (es : List Entry) (v : GroupView) → view_after u es ≡ Some v
-    → (u ≡ Some v) ⊎ IsAmong es v
-unfolding view_after
-among u [] v is = inl is
-among u (View a n m ∷ es) v is =
-    by (among (Some (record { age = a; number = n; members = members_of m })) es v is)
-  where
-    by : (Some (record { age = a; number = n; members = members_of m }) ≡ Some v) ⊎ IsAmong es v
-        → (u ≡ Some v) ⊎ IsAmong (View a n m ∷ es) v
-    by (inl e) =
-        let same : record { age = a; number = n; members = members_of m } ≡ v = same_Some _ v e in
-        inr (record {
-          mask = m;
-          view = (0, omega arith, ap (λ (w : GroupView). View w.age w.number m) same);
-          members = ap (λ (w : GroupView). w.members) same;
-        })
-    by (inr found) = inr (later (View a n m) es v found)
-among u (Msg s k b ∷ es) v is = by (among u es v is)
-  where
-    by : (u ≡ Some v) ⊎ IsAmong es v → (u ≡ Some v) ⊎ IsAmong (Msg s k b ∷ es) v
-    by (inl e) = inl e
-    by (inr found) = inr (later (Msg s k b) es v found)
-
--- so the view that a history is in is among its entries
-last_among : (h : List Entry) (v : GroupView) → view_of h ≡ Some v → IsAmong h v
-last_among h v is = by (among None h v is)
-  where
-    by : (None ≡ Some v) ⊎ IsAmong h v → IsAmong h v
-    by (inl e) = absurd (none-some v e)
-    by (inr found) = found
 
 -- whether a history is in a logged view of the age with the member is decided by its last view
 pub last_decides : (accounts : Accounts) (age durable i : ℕ) (h : List Entry) (v : GroupView) (b : Bool)

@@ -1,5 +1,3 @@
 mod Durable
 mod Endings
-mod Lists
-mod Numbers
 mod Orders

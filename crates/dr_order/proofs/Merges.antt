@@ -1,66 +1,11 @@
 -- Places that hold an item: none after a round without one, and the list of all of them.
-use Rattle.std.proofs.Common.{◌≡◌, ℕ, zero, suc, ◌+◌, ◌-◌, ◌*◌, ◌/◌, ◌%◌, ◌^◌, ◌<◌, ◌≤◌, ◌⊎◌, inl, inr, Bool, true, false, cond, List, [], ◌∷◌, None, Some, length, slice_index, max, fold, filter, arith, le_refl, sym, subst, refl}
+use Rattle.std.proofs.Common.{◌≡◌, ℕ, zero, suc, ◌+◌, ◌-◌, ◌*◌, ◌<◌, ◌≤◌, ◌⊎◌, inl, inr, Bool, true, false, cond, List, [], ◌∷◌, None, Some, length, max, fold, filter, arith, le_refl, sym, subst, refl, ap}
 use Rattle.std.specs.List.{range_with_len}
-use Rattle.std.specs.List.Sorted.{IsStrictlyIncreasing}
-use Rattle.std.proofs.lemmas.List.FromFn.{length-range_with_len, get_or-range_with_len}
-use Rattle.std.proofs.lemmas.List.Kept.{IsStrictlyIncreasing-filter}
-use Rattle.std.proofs.lemmas.Nat.{mod_below, div-add-mod', le-div}
-use Rattle.std.proofs.Math.Nat.{add-mul-div_right, add-mul-mod_self_right, mul_comm}
+use Rattle.std.proofs.Math.Nat.{mul_comm}
+use Rattle.dr_entry.proofs.ListPlaces.{count_max}
 use Rattle.dr_history.specs.Places.{is_held, held_places, rest_places}
-use Rattle.dr_history.proofs.Fronts.{count_max}
+use Rattle.dr_history.proofs.Places.{not_held_above}
 use Rattle.dr_order.specs.Merge.{IsNextHeld, AreTaken}
-
--- where a place isn't held, the same rank's place some rounds later isn't
-not_held_later : (counts : List ℕ) (p rounds : ℕ) → 0 < length counts → is_held counts p ≡ false
-    → is_held counts (p + rounds * length counts) ≡ false
-not_held_later counts p rounds some h =
-    rw (
-      add-mul-div_right p rounds {z = length counts} some,
-      add-mul-mod_self_right p rounds (length counts),
-    ) (grind (arith, h))
-
--- where no place of a round is held, none after it is
-not_held_after_round : (counts : List ℕ) (from : ℕ) → 0 < length counts
-    → ((p : ℕ) → from ≤ p → p < from + length counts → is_held counts p ≡ false)
-    → (p : ℕ) → from ≤ p → is_held counts p ≡ false
-not_held_after_round counts from some round p after =
-    let n = length counts in
-    let early : ℕ = from + (p - from) % n in
-    let less : (p - from) % n < n = mod_below (p - from) n some in
-    let split : (p - from) / n * n + (p - from) % n ≡ p - from = div-add-mod' (p - from) n in
-    let same : early + (p - from) / n * n ≡ p = omega arith in
-    let gap : is_held counts early ≡ false = round early (omega arith) (omega arith) in
-    subst (λ (q : ℕ). is_held counts q ≡ false) same
-    (not_held_later counts early ((p - from) / n) some gap)
-
--- a place whose item number is at least every count isn't held
-not_held_above : (counts : List ℕ) (bound p : ℕ) → 0 < length counts
-    → ((rank : ℕ) → rank < length counts → slice_index counts rank ≤ bound)
-    → bound * length counts ≤ p → is_held counts p ≡ false
-not_held_above counts bound p some most above =
-    let number : bound ≤ p / length counts = le-div bound p (length counts) some above in
-    let count = most (p % length counts) (mod_below p (length counts) some) in
-    grind (arith, number, count)
-
--- where no place of a round is held, as far as the round goes within 64 bits, no later place is
-pub not_held_after : (counts : List ℕ) (from end : ℕ) → 0 < length counts → length counts ≤ 16
-    → ((rank : ℕ) → slice_index counts rank < 2 ^ 32)
-    → (from + length counts ≤ end) ⊎ (2 ^ 64 - 1 ≤ end)
-    → ((p : ℕ) → from ≤ p → p < end → is_held counts p ≡ false)
-    → (p : ℕ) → from ≤ p → is_held counts p ≡ false
-not_held_after counts from end some few fit far round =
-    not_held_after_round counts from some (λ p after within. by p after within far (below_or_not p))
-  where
-    below_or_not : (p : ℕ) → (p < end) ⊎ (end ≤ p)
-    below_or_not p = grind arith
-
-    by : (p : ℕ) → from ≤ p → p < from + length counts
-        → (from + length counts ≤ end) ⊎ (2 ^ 64 - 1 ≤ end)
-        → (p < end) ⊎ (end ≤ p) → is_held counts p ≡ false
-    by p after within far (inl below) = round p after below
-    by p after within (inl whole) (inr above) = absurd (omega arith)
-    by p after within (inr top) (inr above) =
-        not_held_above counts (2 ^ 32) p some (λ rank h. omega (arith, fit rank)) (omega arith)
 
 -- where the first place isn't held, it may be left out
 taken_after : (counts : List ℕ) (from : ℕ) (ps : List ℕ) → is_held counts from ≡ false
@@ -192,16 +137,7 @@ pub rest_places-none : (counts : List ℕ) (from : ℕ) → 0 < length counts
     → IsNextHeld counts from None → rest_places counts from ≡ []
 rest_places-none counts from some none = sym ((AreTaken-rest_places counts [] from some).0 none)
 
--- a range rises
-IsStrictlyIncreasing-range_with_len : (from len : ℕ) → IsStrictlyIncreasing (range_with_len from len)
-IsStrictlyIncreasing-range_with_len from len k within =
-    let next : k + 1 < len = omega (arith, length-range_with_len from len) in
-    rw (get_or-range_with_len from len k 0 (omega arith), get_or-range_with_len from len (k + 1) 0 next)
-    (omega arith)
-
--- the held places rise
-pub IsStrictlyIncreasing-held_places : (counts : List ℕ) → IsStrictlyIncreasing (held_places counts)
-unfolding held_places
-IsStrictlyIncreasing-held_places counts =
-    IsStrictlyIncreasing-filter (is_held counts) _
-    (IsStrictlyIncreasing-range_with_len 0 (length counts * fold max 0 counts))
+-- each place that is taken leaves fewer
+pub fewer_left : (trims : List ℕ) (from p : ℕ) → 0 < length trims → IsNextHeld trims from (Some p)
+    → length (rest_places trims (p + 1)) < length (rest_places trims from)
+fewer_left trims from p some next = omega (arith, ap length (rest_places-next trims from p some next))

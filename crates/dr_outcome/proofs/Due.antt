@@ -1,7 +1,7 @@
 -- What is certain of a script that was played, and of its last line.
-use Rattle.std.proofs.Common.{◌≡◌, ◌≢◌, ◌⊎◌, refl, sym, ap, ap₂, ◌∙◌, subst, inl, inr, ℕ, zero, suc, ◌&&◌, not, nat_lt, is_none, MatchBool, true, false, true≢false, arith, List, [], ◌∷◌, length, Contains, Option, None, Some, IfSome, is_some, if◌then◌else◌}
+use Rattle.std.proofs.Common.{◌≡◌, ◌≢◌, ◌⊎◌, refl, sym, ap, ap₂, ◌∙◌, subst, inl, inr, ℕ, zero, suc, ◌&&◌, not, nat_lt, is_none, MatchBool, true, false, true≢false, arith, List, [], ◌∷◌, length, Contains, Option, None, Some, IfSome, is_some, if◌then◌else◌, All}
 use Rattle.std.specs.Prelude.{MatchOption}
-use Rattle.std.proofs.lemmas.Bool.{cases_Bool, or_parts}
+use Rattle.std.proofs.lemmas.Bool.{cases_Bool, or_parts, or_from}
 use Rattle.std.proofs.lemmas.Bool.Decides.{nat_tests}
 use Rattle.std.proofs.lemmas.Option.{none-some, same_Some}
 use Rattle.dr_ages.specs.declared.mode.Mode.{Mode}
@@ -13,26 +13,32 @@ use Rattle.dr_ages.specs.declared.part.Part.{Part}
 use Rattle.dr_ages.specs.Fit.{AreFit, AreInStep}
 use Rattle.dr_complete.specs.Time.{HasTime}
 use Rattle.dr_entry.specs.declared.end.AgeEnd.{AgeEnd}
+use Rattle.dr_entry.proofs.ListParts.{contains_more}
+use Rattle.dr_entry.proofs.Bits.{lacks}
 use Rattle.dr_intake.specs.Reading.{refusal_in}
 use Rattle.dr_intake.specs.Status.{status_of}
-use Rattle.dr_program_laws.specs.Trusting.{SuspectsNobody}
+use Rattle.dr_program_laws.specs.Trusting.{SuspectsNobody, NoneLeft}
 use Rattle.dr_script.specs.declared.script.Script.{Script}
 use Rattle.dr_script.specs.Ranges.{HasRanges}
 use Rattle.dr_script.specs.Reading.{NotJson, Reading, Reads, TooLong, Wrong, reading_of}
 use Rattle.dr_text.specs.declared.last.Last.{Last}
 use Rattle.dr_text.specs.declared.last.Last.TheVariants as lasts
 use Rattle.dr_history.specs.Members.{has}
-use Rattle.dr_words.proofs.Bits.{has_zero}
+use Rattle.dr_history.proofs.Bits.{has_zero}
+use Rattle.dr_text.proofs.Reports.{whenever}
 use Rattle.dr_words.specs.Masks.{IsLeastOf}
 use Rattle.dr_yard.specs.Yards.{YardState, empty_yard}
+use Rattle.dr_intake.proofs.Intakes.{other_line}
+use Rattle.dr_age.specs.Logged.{NoneStopped}
 use Rattle.dr_outcome.specs.declared.last.Kind.TheVariants.{DiskFault, LogFull, NoMajority, Spent}
 use Rattle.dr_outcome.specs.declared.outcome.Body.TheVariants as bodies
 use Rattle.dr_outcome.specs.declared.outcome.Outcome.{Outcome}
 use Rattle.dr_outcome.specs.Last.{first_end, first_told, is_memory, last_by, last_of, refusal_of, some_end, some_so, stopped_by}
 use Rattle.dr_outcome.specs.Outcome.{AreAllLate, HasAllLogs, HasDone, HasPlayed, HasRun, IsDue, IsMemoryRun, LeavesRoom, NoneFailed, OfScript, Plays, SaysOnly, TellsDisks, WasPlayedOrNot, body_text, by_run, unrun, unrun_ends}
 use Rattle.dr_outcome.specs.Playing.{InFolder, Playing, ends_over, missing_of, part_in, play_ends, with_usage}
-use Rattle.dr_outcome.proofs.Lasts.{end_so, refusal_status, told_so}
+use Rattle.dr_outcome.proofs.Lasts.{end_so, refusal_status, told_so, rank_by}
 use Rattle.dr_outcome.proofs.Runs.{IsWhole, calm_run, none_spent, none_split, part_lasts, whole_in_memory, whole_lasts, whole_run}
+use Rattle.dr_outcome.proofs.Kinds.{Rank, IsLateReading, unplayed, by_no_disk, by_no_full_log, by_no_split, none_so, by_turns}
 
 -- the ages of a run, over whatever disks
 ages_of : (mode : Mode) (folder : Option InFolder) (part : Part) (script : Script) (before after : YardState)
@@ -78,11 +84,6 @@ pub none_late : (script : Script) (part : Part) → part.late ≡ 0 → AreAllLa
 none_late script part none late =
     true≢false (sym (late.all late.some.0 late.some.1 late.some.2)
     ∙ (ap (λ mask. has mask late.some.0) none ∙ has_zero late.some.0))
-
--- what holds anyway holds of each last line
-pub whenever : {P : Type 0} (last : Option Last) → P → IfSome last (λ line. P)
-whenever None is = tt
-whenever (Some line) is = is
 
 -- nothing is said but a last line
 pub says_only : (last : Option Last) (yard : YardState) (o : Outcome) → o.ages ≡ [] → o.stop ≡ None
@@ -339,10 +340,6 @@ memory_played mode late script yard o ranges prompt body (inr ran) =
 abbrev pub EndsIn : List ℕ → Outcome → Type 0
 EndsIn ends o = IsDue o × IfSome o.last (λ line. Contains ends (status_of line))
 
-pub contains_more : (end : ℕ) (ends : List ℕ) (status : ℕ) → Contains ends status
-    → Contains (end ∷ ends) status
-contains_more end ends status (i, below, is) = (suc i, omega (arith, below), is)
-
 one_more : (end : ℕ) (ends : List ℕ) (last : Option Last)
     → IfSome last (λ line. Contains ends (status_of line))
     → IfSome last (λ line. Contains (end ∷ ends) (status_of line))
@@ -474,3 +471,58 @@ refused_of Of before after o (Some l) NotJson refusal says =
 refused_of Of before after o (Some l) (Wrong rule path) refusal says =
     inr (as_said before after o (Some l) (refusal_in (Wrong rule path)) (sym (refusal l refl)) says)
 refused_of Of before after o (Some l) (Reads script) refusal says = absurd (none-some l (refusal l refl))
+
+-- the status behind the ages of a run
+pub run_rank : (o : Outcome) (status : ℕ) (line : Last) → last_of o.ages o.stop ≡ Some line
+    → status ≡ status_of line → Rank o status
+run_rank o status line is due =
+    rank_by o status (first_told DiskFault o.ages o.stop) (refusal_of o.stop)
+    (first_told LogFull o.ages o.stop)
+    (first_end Spent o.ages) (first_end NoMajority o.ages) refl refl refl refl refl
+    (due ∙ sym (ap status_of (line_behind o.ages o.stop line is).1))
+
+-- the usage tells of no ages
+run_lacks_usage : (ages : List AgeEnd) (stop : Option Stop) (line : Last) → last_of ages stop ≡ Some line
+    → status_of line ≡ 2 → ⊥
+run_lacks_usage ages stop line is two =
+    lacks 2 (0 ∷ 6 ∷ 7 ∷ 8 ∷ 9 ∷ 11 ∷ []) (
+      λ e. omega (arith, e),
+      (
+        λ e. omega (arith, e),
+        (
+          λ e. omega (arith, e),
+          (
+            λ e. omega (arith, e),
+            (λ e. omega (arith, e), (λ e. omega (arith, e), tt)),
+          ),
+        ),
+      ),
+    )
+    (subst (Contains (0 ∷ 6 ∷ 7 ∷ 8 ∷ 9 ∷ 11 ∷ [])) two (run_lasts ages stop line is))
+
+pub late_reading : (play : Playing) (before after : YardState) (o : Outcome) (line : Last) (r : Reading)
+    → OfScript (λ script result. WasPlayedOrNot play script before after result) r before after o
+    → o.last ≡ Some line → status_of line ≡ 2 → IsLateReading play r
+late_reading play before after o line TooLong says is two =
+    absurd (other_line lasts.TooLong line o.last refl says.line is two)
+late_reading play before after o line NotJson says is two =
+    absurd (other_line lasts.NotJson line o.last refl says.line is two)
+late_reading play before after o line (Wrong rule path) says is two =
+    absurd (other_line (lasts.Rule rule path) line o.last refl says.line is two)
+late_reading play before after o line (Reads script) (inl played) is two =
+    absurd (run_lacks_usage o.ages o.stop line (sym played.0.line ∙ is) two)
+late_reading play before after o line (Reads script) (inr unplayed) is two = (script, refl, unplayed.0)
+
+-- the last line tells of nothing but turns
+pub live_lasts : (ages : List AgeEnd) (line : Last) → All (λ (age : AgeEnd). NoneStopped age.members) ages
+    → All (λ (age : AgeEnd). NoneLeft age.members) ages → last_of ages None ≡ Some line
+    → Contains (0 ∷ 8 ∷ []) (status_of line)
+live_lasts ages line stored calm is =
+    by_turns (first_told DiskFault ages None) (refusal_of None) (first_told LogFull ages None)
+    (first_end Spent ages) (first_end NoMajority ages) line
+    (told_so DiskFault ages None
+    ∙ or_from (some_end DiskFault ages) false (none_so DiskFault by_no_disk ages stored calm) refl)
+    refl
+    (told_so LogFull ages None
+    ∙ or_from (some_end LogFull ages) false (none_so LogFull by_no_full_log ages stored calm) refl)
+    (end_so NoMajority ages ∙ none_so NoMajority by_no_split ages stored calm) (line_behind ages None line is).1

@@ -1,17 +1,15 @@
 -- What is certain of the ends and of the stop of a run.
-use Rattle.std.proofs.Common.{◌≡◌, ◌≢◌, ◌⊎◌, refl, sym, ap, subst, ◌∙◌, inl, inr, ℕ, ◌+◌, ◌-◌, ◌^◌, ◌<◌, ◌≤◌, ◌&&◌, nat_lt, not, Bool, true, false, true≢false, arith, List, [], ◌∷◌, length, slice_get, get_or, All, Contains, Option, None, Some, is_some, IfSome, if◌then◌else◌}
+use Rattle.std.proofs.Common.{◌≡◌, ◌≢◌, refl, sym, ap, subst, ◌∙◌, inl, inr, ℕ, ◌+◌, ◌-◌, ◌<◌, ◌≤◌, Bool, true, false, true≢false, arith, List, [], ◌∷◌, length, slice_get, get_or, All, Contains, Option, None, Some, is_some, IfSome, if◌then◌else◌}
 use Rattle.std.specs.List.{list_any}
 use Rattle.std.proofs.Math.Path.{fun_ext}
-use Rattle.std.proofs.lemmas.Bool.{cases_Bool, cases_lt, or_from, or_parts}
-use Rattle.std.proofs.lemmas.Bool.Decides.{nat_tests}
-use Rattle.std.proofs.lemmas.List.Elements.{All-cons, All-nil}
-use Rattle.std.proofs.lemmas.List.Folds.{list_any_at, list_any_none}
+use Rattle.std.proofs.lemmas.Bool.{cases_Bool, or_from, or_parts}
+use Rattle.std.proofs.lemmas.List.Folds.{list_any_none}
 use Rattle.std.proofs.lemmas.Option.{none-some, same_Some, slice_get-get_or, slice_get_within}
 use Rattle.dr_ages.specs.declared.mode.Mode.{Mode}
 use Rattle.dr_ages.specs.declared.mode.Mode.TheVariants.{Sim}
 use Rattle.dr_ages.specs.declared.stop.Stop.{Stop}
 use Rattle.dr_ages.specs.declared.stop.Stop.TheVariants as stops
-use Rattle.dr_ages.specs.Ages.{AreAges, NamesNobody, opening_of, taking_part}
+use Rattle.dr_ages.specs.Ages.{AreAges, NamesNobody, opening_of}
 use Rattle.dr_ages.specs.declared.part.Part.{Part}
 use Rattle.dr_ages.specs.Fit.{AreInStep}
 use Rattle.dr_ages.specs.Found.{AreRoomy}
@@ -24,23 +22,20 @@ use Rattle.dr_entry.specs.declared.end.AgeEnd.{AgeEnd}
 use Rattle.dr_entry.specs.declared.end.End.{End}
 use Rattle.dr_entry.specs.declared.end.End.TheVariants as ends
 use Rattle.dr_entry.specs.declared.end.MemberEnd.{MemberEnd}
-use Rattle.dr_entry.specs.declared.limits.TheConstants.{MAX_MEMBERS}
+use Rattle.dr_entry.proofs.ListFacts.{none_of}
 use Rattle.dr_history.specs.declared.opening.Opening.{Opening}
-use Rattle.dr_history.specs.Members.{has}
-use Rattle.dr_history.specs.Soundness.{IsNobodyLate}
 use Rattle.dr_program_laws.specs.Ended.{AreComplete}
 use Rattle.dr_program_laws.specs.Trusting.{NoneLeft, SuspectsNobody, is_left_out}
 use Rattle.dr_script.specs.declared.script.Script.{Script}
 use Rattle.dr_age.specs.Logged.{IsNotFull, NoneFull, why_ended}
 use Rattle.dr_io.specs.Faults.{Rose}
-use Rattle.dr_words.proofs.Bits.{has_ones}
-use Rattle.dr_words.proofs.Masks.{has_mask_of, same_masks}
-use Rattle.dr_words.specs.Masks.{without}
+use Rattle.dr_io.proofs.KnownLemmas.{rose_between}
 use Rattle.dr_yard.specs.Yards.{YardState, empty_yard}
 use Rattle.dr_outcome.specs.declared.last.Kind.{Kind}
 use Rattle.dr_outcome.specs.declared.last.Kind.TheVariants.{DiskFault, LogFull, NoMajority, Spent}
 use Rattle.dr_intake.specs.Status.{status_of}
 use Rattle.dr_text.specs.declared.last.Last.{Last}
+use Rattle.dr_ages.proofs.Parts.{later, nobody_late}
 use Rattle.dr_outcome.specs.Last.{first_end, first_told, is_memory, is_of, last_by, last_of, refusal_of, some_end, some_so, stopped_by}
 use Rattle.dr_outcome.specs.Outcome.{IsMemoryRun}
 use Rattle.dr_outcome.proofs.Lasts.{told_so}
@@ -48,22 +43,6 @@ use Rattle.dr_outcome.proofs.Lasts.{told_so}
 -- whether some of these members ended so
 abbrev some_of : Kind → List MemberEnd → Bool
 some_of kind members = list_any (λ (m : MemberEnd). is_of kind m.end) members
-
--- every age has as many members as the script
-pub few_members : (script : Script) (part : Part) (mode : Mode) (nth : ℕ) (before after : YardState) (ages : List AgeEnd)
-    → script.members ≤ MAX_MEMBERS → AreAges script part mode nth before ages after
-    → All (λ (age : AgeEnd). length age.members ≤ MAX_MEMBERS) ages
-few_members script part mode nth before after [] few are = All-nil (λ (age : AgeEnd). length age.members ≤ MAX_MEMBERS)
-few_members script part mode nth before after (age ∷ ages) few (between, is, rest) =
-    All-cons (λ (age : AgeEnd). length age.members ≤ MAX_MEMBERS) age ages (omega (arith, is.roster, few))
-    (few_members script part mode (nth + 1) between after ages few rest)
-
--- no count of faults falls
-later : (script : Script) (part : Part) (mode : Mode) (nth : ℕ) (before after : YardState) (ages : List AgeEnd)
-    → AreAges script part mode nth before ages after → (m : ℕ) → before.faults m ≤ after.faults m
-later script part mode nth before after [] are m = omega (arith, ap (λ (yard : YardState). yard.faults m) are)
-later script part mode nth before after (age ∷ ages) (between, is, rest) m =
-    omega (arith, (is.passes m).later, later script part mode (nth + 1) between after ages rest m)
 
 disk_fault_is : (e : End) → is_of DiskFault e ≡ true → e ≡ ends.DiskFault
 disk_fault_is ends.Done is = absurd (true≢false (sym is))
@@ -96,14 +75,6 @@ none_failed script part mode nth before after (age ∷ ages) (between, is, rest)
           | inr other ↦ other
         ]
 
--- a test that no element passes fails at each
-none_of : {X : Type 0} (p : X → Bool) (xs : List X) (k : ℕ) (d : X) → list_any p xs ≡ false → k < length xs
-    → p (get_or xs k d) ≡ false
-none_of p xs k d none within = elim (cases_Bool (p (get_or xs k d))) [
-  | inl is ↦ absurd (true≢false (sym (list_any_at p xs k d within is) ∙ none))
-  | inr other ↦ other
-]
-
 unstopped : (e : End) → is_of DiskFault e ≡ false → is_of LogFull e ≡ false → why_ended e ≡ None
 unstopped ends.Done failed full = refl
 unstopped ends.Crashed failed full = refl
@@ -120,32 +91,6 @@ none_spends : (o : Opening) (members : List MemberEnd) → AreComplete o members
 none_spends o members complete = list_any_none (λ (m : MemberEnd). is_of Spent m.end) members
     (λ k d within.
     ap (is_of Spent) (complete k (get_or members k d) (slice_get-get_or members k d within)).end)
-
--- where nobody of the roster is late nobody is in an age
-nobody_late : (script : Script) (part : Part) (age : AgeEnd) → NamesNobody script.members part.late
-    → IsNobodyLate (opening_of script part age)
-nobody_late script part age none =
-    same_masks (without there part.late) there
-    (λ i. has_mask_of (λ k. has there k && not (has part.late k)) i ∙ by i (cases_lt i script.members))
-  where
-    there : ℕ
-    there = taking_part script part.missing
-
-    by : (i : ℕ) → (i < script.members) ⊎ (script.members ≤ i)
-        → (nat_lt i 16 && (has there i && not (has part.late i))) ≡ has there i
-    by i (inl low) = grind (
-      arith,
-      nat_tests,
-      none i low,
-      has_mask_of (λ k. has (2 ^ script.members - 1) k && not (has part.missing k)) i,
-    )
-    by i (inr high) = grind (
-      arith,
-      nat_tests,
-      high,
-      has_ones script.members i,
-      has_mask_of (λ k. has (2 ^ script.members - 1) k && not (has part.missing k)) i,
-    )
 
 -- with time enough, and unless a log ends one, no member spends its turns
 pub none_spent : (script : Script) (part : Part) (mode : Mode) (nth : ℕ) (before after : YardState) (ages : List AgeEnd)
@@ -283,9 +228,6 @@ memory_has_room script part mode ages stop all in_memory =
     (unstopped_by_full stop ages run)
 
 -- ---- what disks count
-
-rose_between : (a b c d : ℕ) → a ≤ b → Rose b c → c ≤ d → Rose a d
-rose_between a b c d low rose high = omega (arith, low, rose, high)
 
 -- where no count of faults rose no disk has ended a member
 none_rose : (script : Script) (part : Part) (mode : Mode) (nth : ℕ) (first : ℕ → ℕ) (before after : YardState)

@@ -1,15 +1,7 @@
 -- How the layers of a sheet come into the text of a picture.
-use Rattle.std.proofs.Common.{◌≡◌, ◌∙◌, ℕ, List, [], ◌∷◌, ◌++◌, ap, append-nil, append_assoc, refl, subst, sym}
-use Rattle.std.specs.List.{concat}
+use Rattle.std.proofs.Common.{◌≡◌, ◌∙◌, ℕ, List, ◌++◌, ap, append-nil, append_assoc, subst, sym}
 use Rattle.dr_history.specs.History.{IsPrefixOf}
 use Rattle.dr_picture.specs.Sheet.{Drawn, IsDrawnIn, layers_text}
-
--- five texts, each appended behind what the one before it left
-pub five_behind : (front a b c d e one two three four five : List ℕ) → one ≡ front ++ a → two ≡ one ++ b
-    → three ≡ two ++ c → four ≡ three ++ d → five ≡ four ++ e
-    → five ≡ front ++ concat (a ∷ b ∷ c ∷ d ∷ e ∷ [])
-five_behind front a b c d e one two three four five is1 is2 is3 is4 is5 =
-    simp (is5, is4, is3, is2, is1, append_assoc, append-nil) refl
 
 -- a head, the layers and all else make a picture
 pub shows : (d : Drawn) (old one two new : List ℕ) → IsPrefixOf old one → two ≡ one ++ layers_text d

@@ -1,12 +1,18 @@
 -- The history of a member that ends its view.
-use Rattle.std.proofs.Common.{◌≡◌, sym, ap, ◌∙◌, ℕ, ◌+◌, List, [], ◌∷◌, ◌++◌, append-nil, append_assoc, map, fold, slice_index}
+use Rattle.std.proofs.Common.{◌≡◌, sym, ap, ◌∙◌, ℕ, ◌+◌, List, [], ◌∷◌, ◌++◌, append-nil, append_assoc, map, fold, slice_index, ◌-◌, length, take, le_refl, arith}
+use Rattle.std.specs.Prelude.{unwrap_or}
+use Rattle.std.proofs.lemmas.List.{take_all}
+use Rattle.std.proofs.Math.Seq.{take-append_seam}
 use Rattle.dr_entry.specs.declared.entry.Entry.{Entry}
 use Rattle.dr_entry.specs.declared.entry.Entry.TheVariants.{View}
 use Rattle.dr_entry.specs.declared.record.Value.{Value}
 use Rattle.dr_history.specs.Places.{rest_places}
 use Rattle.dr_machine.specs.Effects.{entries_of}
 use Rattle.dr_words.specs.Masks.{next_members}
-use Rattle.dr_program.specs.Replica.{Replica, finished_history, item_of_place, members_in_view, sender_of_place, with_place}
+use Rattle.dr_machine.specs.declared.event.Act.{Act}
+use Rattle.dr_machine.specs.World.{no_value}
+use Rattle.dr_program.specs.Replica.{Replica, finished_history, item_of_place, members_in_view, sender_of_place, with_place, acted, finished}
+use Rattle.dr_program.specs.Acts.{taken}
 
 -- places add to a history
 rest_more : (r : Replica) (history : List Entry) (ps : List ℕ)
@@ -25,3 +31,14 @@ finished_more r x =
     let rest = rest_more r r.history
     (rest_places (map (λ s. slice_index x.trim s) (members_in_view r)) r.next) in
     (rest.0 ++ last, ap (λ es. es ++ last) rest.1 ∙ append_assoc r.history rest.0 last)
+
+-- the history begins as before: at the end of a view too
+pub begins_so : (r : Replica) (a : Act) → take (length r.history) (taken r a).history ≡ r.history
+begins_so r a = grind (arith, itself, take-append_seam {A = Entry}, ended)
+  where
+    itself : (h : List Entry) → take (length h) h ≡ h
+    itself h = take_all (length h) h (le_refl _)
+
+    ended : take (length r.history) (finished (acted r)).history ≡ r.history
+    ended = let all = finished_more (acted r) (unwrap_or r.committed no_value) in
+        ap (take (length r.history)) all.1 ∙ take-append_seam r.history all.0

@@ -1,11 +1,13 @@
 -- What no step changes of a replica.
 use Rattle.dr_entry.specs.declared.entry.Entry.{Entry}
 use Rattle.std.proofs.Common.{◌≡◌, refl, ap, sym, subst, ◌∙◌, ℕ, ◌+◌, ◌*◌, ◌<◌, List, length, slice_index, arith}
+use Rattle.std.specs.Prelude.{Option, None, Some}
 use Rattle.dr_machine.specs.declared.step.Step.{Step}
 use Rattle.dr_machine.specs.Group.{Group, banks, roster}
 use Rattle.dr_program.specs.Replica.{Replica, greatest, joined, me}
 use Rattle.dr_program.specs.Steps.{stepped}
 use Rattle.dr_program.specs.Form.{IsOf}
+use Rattle.dr_program.specs.Running.{Running, took_letter}
 
 -- what a replica was told as its age opened
 pub record Told : Type 0 where
@@ -55,3 +57,7 @@ of_told g m r q same of = record {
   room = subst (λ (t : Told). length g.opening.start + banks g + greatest t.totals * roster g < t.room)
       (sym same) of.room;
 }
+
+pub took_told : (letter : Option (List Entry)) (r : Running) → told (took_letter letter r).replica ≡ told r.replica
+took_told None r = refl
+took_told (Some letter) r = join_told r.replica letter

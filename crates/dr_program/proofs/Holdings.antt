@@ -1,10 +1,8 @@
 -- The world by members: what it has of each of them, and the table.
-use Rattle.std.proofs.Common.{◌≡◌, ◌≢◌, refl, sym, ap, ◌∙◌, ℕ, ◌<◌, ◌==◌, inl, inr, List, length, if◌then◌else◌, arith}
+use Rattle.std.proofs.Common.{◌≡◌, ◌≢◌, refl, sym, ◌∙◌, ℕ, ◌<◌, ◌==◌, inl, inr, List, length, if◌then◌else◌}
 use Rattle.std.proofs.Math.Path.{fun_ext}
-use Rattle.std.specs.Prelude.{Option, Some, None, slice_get, slice_set, take, nat_lt}
-use Rattle.std.proofs.lemmas.Bool.{cases_eq, cases_lt}
-use Rattle.std.proofs.lemmas.List.{get_or-set_same, get_or-set_other, length-set}
-use Rattle.std.proofs.lemmas.Option.{slice_get-get_or, slice_get_past}
+use Rattle.std.specs.Prelude.{Option, Some, None, take, nat_lt}
+use Rattle.std.proofs.lemmas.Bool.{cases_eq}
 use Rattle.dr_entry.specs.declared.entry.Entry.{Entry}
 use Rattle.dr_entry.specs.declared.entry.Item.{Item}
 use Rattle.dr_entry.specs.declared.entry.Item.TheVariants.{Null}
@@ -159,23 +157,6 @@ held_past g rs table m e = rw e refl
 pub held_same : (g : Group) (rs qs : List (Option Replica)) (table cells : Shared) (m : ℕ)
     → present_at rs m ≡ present_at qs m → held (world_of g rs table) m ≡ held (world_of g qs cells) m
 held_same g rs qs table cells m e = rw e refl
-
--- the replica that was set, and the others
-pub replica_set : {X : Type 0} (rs : List X) (m : ℕ) (r : X) → m < length rs
-    → slice_get (slice_set rs m r) m ≡ Some r
-replica_set rs m r within =
-    slice_get-get_or (slice_set rs m r) m r (omega (arith, length-set rs m r, within))
-    ∙ ap Some (get_or-set_same rs m r r within)
-
--- and the others stay
-pub replica_kept : {X : Type 0} (rs : List X) (m k : ℕ) (r : X) → k ≢ m
-    → slice_get (slice_set rs m r) k ≡ slice_get rs k
-replica_kept rs m k r other = elim (cases_lt k (length rs)) [
-  | inl within ↦ slice_get-get_or (slice_set rs m r) k r (omega (arith, length-set rs m r))
-      ∙ ap Some (get_or-set_other rs m k r r other) ∙ sym (slice_get-get_or rs k r within)
-  | inr past ↦ slice_get_past (slice_set rs m r) k (omega (arith, length-set rs m r))
-      ∙ sym (slice_get_past rs k past)
-]
 
 -- the world after a change of member m alone, that leaves of it what stands in `after`
 pub record Changes (w v : World) (m : ℕ) (after : Holding) : Type 0 where

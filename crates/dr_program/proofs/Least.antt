@@ -1,41 +1,29 @@
 -- The least word of a column over the rows of a view.
-use Rattle.std.proofs.Common.{◌≡◌, sym, subst, ℕ, zero, suc, ◌-◌, ◌^◌, ◌<◌, ◌≤◌, ◌*◌, not, true, max, min, fold, List, [], ◌∷◌, length, map, slice_index, arith, le_refl, le_trans}
-use Rattle.std.proofs.Math.Nat.{min-le_left, mul-le-mul}
+use Rattle.std.proofs.Common.{◌≡◌, sym, subst, ℕ, zero, suc, ◌-◌, ◌^◌, ◌<◌, ◌≤◌, not, true, min, fold, List, length, map, slice_index, arith, le_refl, le_trans, ◌+◌, nat_lt, Bool, ◌≢◌, refl, le_of_eq, false, ◌∙◌, Option, None, Some}
+use Rattle.std.proofs.Math.Nat.{mul-le-mul}
 use Rattle.std.proofs.lemmas.List.{get_or_read, length-map}
 use Rattle.std.proofs.lemmas.Option.{slice_get-get_or}
-use Rattle.dr_history.proofs.Fronts.{first_within}
+use Rattle.std.proofs.lemmas.Bool.{and_parts, ltb-true, true≢false}
+use Rattle.std.proofs.lemmas.Bool.Decides.{nat_tests}
+use Rattle.std.specs.Prelude.{IfNone, IfSome}
+use Rattle.dr_entry.proofs.ListFacts.{fold_max_within, at_most, rises_each}
+use Rattle.dr_entry.proofs.ListPlaces.{at_most_each, above_each}
 use Rattle.dr_history.proofs.MemberLemmas.{length_members_below}
 use Rattle.dr_history.specs.Members.{has, members_below, members_of}
-use Rattle.dr_history.specs.Places.{front_of, is_held}
+use Rattle.dr_history.specs.Places.{front_of}
+use Rattle.dr_history.proofs.Fronts.{front_within}
 use Rattle.dr_history_laws.proofs.Members.{has-member, member-has}
-use Rattle.dr_program.proofs.OpeningForm.{fold_max_within}
-use Rattle.dr_program.specs.Replica.{Replica, count, least_seen, members_in_view}
-use Rattle.dr_rows.specs.Words.{seen}
+use Rattle.dr_program.specs.Replica.{Replica, count, least_seen, members_in_view, may_deliver, acted}
+use Rattle.dr_rows.specs.Words.{seen, with_own}
+use Rattle.dr_rows.proofs.Grids.{with_word-column}
+use Rattle.dr_words.specs.declared.column.TheConstants.{RECEIVED_COLUMN, BEAT_COLUMN}
+use Rattle.dr_words.specs.Grown.{Grown}
+use Rattle.dr_machine.specs.Effects.{one_more}
+use Rattle.dr_program.proofs.Received.{few_members}
+use Rattle.dr_program.specs.Replica as replica
+use Rattle.dr_program.specs.Form.{HasForm}
 
 -- ---- the least of a list, and a bound
-
-at_most : (top : ℕ) (xs : List ℕ) → fold min top xs ≤ top
-at_most top [] = le_refl top
-at_most top (x ∷ xs) = le_trans (at_most (min top x) xs) (min-le_left top x)
-
-at_most_each : (f : ℕ → ℕ) (xs : List ℕ) (top i : ℕ) → i < length xs
-    → fold min top (map f xs) ≤ f (slice_index xs i)
-at_most_each f [] top i l = absurd (omega arith)
-at_most_each f (x ∷ xs) top zero l = omega (arith, at_most (min top (f x)) (map f xs))
-at_most_each f (x ∷ xs) top (suc i) l = at_most_each f xs (min top (f x)) i (omega arith)
-
-above_each : (x top : ℕ) (f : ℕ → ℕ) (xs : List ℕ) → x < top
-    → ((i : ℕ) → i < length xs → x < f (slice_index xs i)) → x < fold min top (map f xs)
-above_each x top f [] l each = l
-above_each x top f (y ∷ ys) l each =
-    above_each x (min top (f y)) f ys (omega (arith, l, each 0 (omega arith)))
-    (λ i below. each (suc i) (omega (arith, below)))
-
-rises_each : (low high : ℕ) (f g : ℕ → ℕ) (xs : List ℕ) → low ≤ high
-    → ((i : ℕ) → f i ≤ g i) → fold min low (map f xs) ≤ fold min high (map g xs)
-rises_each low high f g [] l rise = l
-rises_each low high f g (x ∷ xs) l rise =
-    rises_each (min low (f x)) (min high (g x)) f g xs (omega (arith, l, rise x)) rise
 
 -- ---- the least word
 
@@ -72,11 +60,6 @@ least_rises r q c same rise =
 
 -- ---- the received word
 
-front_within : (counts : List ℕ) → front_of counts ≤ length counts * fold max 0 counts
-unfolding front_of
-front_within counts = let l =
-    first_within (λ p. not (is_held counts p)) 0 (length counts * fold max 0 counts) in omega (arith, l)
-
 -- the front of all items has a small number
 pub received_small : (r : Replica) → ((s : ℕ) → count r s ≤ 4096)
     → front_of (map (slice_index r.counts) (members_in_view r)) ≤ 65536
@@ -88,3 +71,61 @@ received_small r bounded =
     le_trans (front_within counts)
     (mul-le-mul len (fold_max_within (slice_index r.counts) (members_below r.members 16) 0 4096
     (omega arith) bounded))
+
+-- a place that may be delivered is before the own front
+pub next_held : (r : Replica) → HasForm r → replica.is_inside r ≡ true → may_deliver r ≡ true
+    → (r.next < front_of (map (slice_index r.counts) (replica.members_in_view r))) × (r.next + 1 < 2 ^ 64)
+next_held r f inside may =
+    let seen_by_all : r.next < least_seen r RECEIVED_COLUMN =
+    ltb-true r.next (least_seen r RECEIVED_COLUMN)
+    (and_parts (nat_lt r.next (least_seen r RECEIVED_COLUMN)) (nat_lt (length r.history) r.room)
+    (and_parts (not (replica.is_wedged r)) _ may).1).0 in
+    let mine = least_of r RECEIVED_COLUMN (replica.me r) (omega (arith, f.rows.present, f.rows.few)) inside
+    in (
+      omega (arith, seen_by_all, mine, f.received),
+      omega (arith, seen_by_all, least_fits r RECEIVED_COLUMN),
+    )
+
+-- where no word falls, it doesn't
+pub grown_received : (r q : Replica) (old new : List Bool) → q.members ≡ r.members
+    → Grown r.roster r.rows.words q.rows.words old new
+    → least_seen r RECEIVED_COLUMN ≤ least_seen q RECEIVED_COLUMN
+grown_received r q old new same grown =
+    least_rises r q RECEIVED_COLUMN same (λ i. (grown.words i RECEIVED_COLUMN).number)
+
+-- nor by an own word of another column
+pub other_received : (r : Replica) (c word : ℕ) → RECEIVED_COLUMN ≢ c
+    → least_seen r RECEIVED_COLUMN ≤ least_seen (record r { rows = with_own r.rows c word }) RECEIVED_COLUMN
+other_received r c word apart =
+    least_rises r (record r { rows = with_own r.rows c word }) RECEIVED_COLUMN refl
+    (λ i. le_of_eq (sym (with_word-column r.rows.words r.rows.me c word i RECEIVED_COLUMN apart)))
+
+-- a stamp doesn't raise it
+pub unstamped : (r : Replica) → least_seen (acted r) RECEIVED_COLUMN ≤ least_seen r RECEIVED_COLUMN
+unstamped r =
+    least_rises (acted r) r RECEIVED_COLUMN refl
+    (λ i. le_of_eq (with_word-column r.rows.words r.rows.me BEAT_COLUMN (one_more 64 r.acts) i RECEIVED_COLUMN
+    (λ e. absurd (omega arith))))
+
+-- no least word is above the greatest number of 64 bits
+pub none_above : (r : Replica) (c x : ℕ) → 2 ^ 64 - 1 ≤ x → nat_lt x (least_seen r c) ≡ false
+none_above r c x high = let least = least_fits r c in grind (arith, nat_tests, high, least)
+
+-- the least word of the view's members is the least that is seen
+pub least_by : (r : Replica) (c : ℕ) (o : Option ℕ) (x : ℕ) → HasForm r
+    → IfSome o (λ least. (i : ℕ) → has r.members i ≡ true → least ≤ seen r.rows i c)
+    → IfSome o (λ least. (i : ℕ) × (has r.members i ≡ true) × (least ≡ seen r.rows i c))
+    → IfNone o ((i : ℕ) → has r.members i ≡ false)
+    → (o ≡ None → x ≡ 2 ^ 64 - 1)
+    → ((least : ℕ) → o ≡ Some least → (x ≡ least) × (least < 2 ^ 64)) → x ≡ least_seen r c
+least_by r c None x form below among none greatest is =
+    let low = below_least_seen r c (2 ^ 64 - 2) (omega arith) (λ i member. absurd (true≢false (sym member ∙ none i))) in
+    omega (arith, greatest refl, low, least_fits r c)
+least_by r c (Some zero) x form below among none greatest is =
+    let high = least_of r c among.0 (few_members r among.0 form among.1) among.1 in
+    omega (arith, (is zero refl).0, high, among.2)
+least_by r c (Some (suc least)) x form below among none greatest is =
+    let high = least_of r c among.0 (few_members r among.0 form among.1) among.1 in
+    let low = below_least_seen r c least (omega (arith, (is (suc least) refl).1))
+    (λ i member. omega (arith, below i member)) in
+    omega (arith, (is (suc least) refl).0, high, among.2, low)

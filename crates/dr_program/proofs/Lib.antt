@@ -2,7 +2,6 @@ pub mod Present
 pub mod Runs
 pub mod Fixed
 pub mod Holdings
-pub mod OwnWords
 pub mod Opening
 pub mod OpeningForm
 pub mod Least
@@ -12,3 +11,9 @@ pub mod Sent
 pub mod Finishing
 pub mod Waiting
 pub mod StepsAt
+pub mod Parts
+pub mod Replicas
+pub mod RunningPrograms
+pub mod Programs
+pub mod Received
+pub mod Schedules

@@ -1,25 +1,28 @@
 -- A program as its age opens.
-use Rattle.std.proofs.Common.{◌≡◌, refl, ap, ◌∙◌, ℕ, zero, suc, ◌+◌, ◌*◌, ◌<◌, ◌≤◌, ◌==◌, ◌&&◌, if◌then◌else◌, inl, inr, List, [], ◌∷◌, length, replicate, map, arith}
+use Rattle.std.proofs.Common.{◌≡◌, refl, ap, ◌∙◌, ℕ, zero, suc, ◌+◌, ◌*◌, ◌<◌, ◌≤◌, ◌==◌, ◌&&◌, if◌then◌else◌, List, [], ◌∷◌, length, replicate, map, arith, sym}
 use Rattle.std.proofs.Math.Path.{fun_ext}
 use Rattle.std.proofs.Math.Seq.{take-length}
-use Rattle.std.specs.Prelude.{Bool, Option, Some, None, nat_lt, slice_index_or, option_map}
+use Rattle.std.specs.Prelude.{Bool, Option, Some, None, nat_lt, option_map}
 use Rattle.std.specs.List.{range_with_len}
-use Rattle.std.proofs.lemmas.Bool.{cases_lt, cases_eq}
 use Rattle.std.proofs.lemmas.Bool.Decides.{nat_tests}
-use Rattle.std.proofs.lemmas.List.{get_or-replicate, get_or_past, length-replicate}
 use Rattle.dr_entry.specs.declared.entry.Item.TheVariants.{Null}
+use Rattle.dr_entry.proofs.BoolFacts.{both_same}
+use Rattle.dr_entry.proofs.ListPlaces.{copy_at}
 use Rattle.dr_history.specs.History.{messages_of}
 use Rattle.dr_history.specs.Members.{has}
 use Rattle.dr_history.specs.Order.{first_entries}
-use Rattle.dr_rows.specs.Words.{Words, begun, own, seen, with_own}
+use Rattle.dr_rows.specs.Words.{begun, own, seen}
 use Rattle.dr_rows.proofs.WordsLemmas.{IsWords-begun, IsFresh-begun}
+use Rattle.dr_rows.proofs.Grids.{own_with}
 use Rattle.dr_words.specs.declared.column.TheConstants.{LOGGED_COLUMN}
 use Rattle.dr_words.specs.declared.shape.Shape.{Shape}
 use Rattle.dr_words.specs.Columns.{columns_of}
 use Rattle.dr_words.specs.Layout.{words_of, word_index_of}
+use Rattle.dr_words.proofs.Layouts.{first_rows, first_seen}
 use Rattle.dr_program.specs.declared.setup.Setup.{Setup}
 use Rattle.dr_machine.specs.Group.{Group, IsGroup, banks, late_members, roster, columns}
 use Rattle.dr_machine.specs.World.{opening_world}
+use Rattle.dr_machine.proofs.Groups.{IsShape, wide}
 use Rattle.dr_program.specs.Replica.{Replica, begun_replica}
 use Rattle.dr_program.specs.Running.{Running, begun_running}
 use Rattle.dr_program.specs.Program.{IsSetup, AreSetups, begun_program}
@@ -27,7 +30,8 @@ use Rattle.dr_program.specs.Presence.{present_at}
 use Rattle.dr_program.proofs.Present.{present_within}
 use Rattle.dr_program.specs.Reading.{Shared, table_of, world, world_of, word_of}
 use Rattle.dr_program.proofs.Holdings.{held, holding_of, held_of, held_past, same_worlds}
-use Rattle.dr_program.proofs.OwnWords.{both_same, own_with, seen_with, same_number, other_number}
+use Rattle.dr_program.proofs.RunningPrograms.{replicas_begun}
+use Rattle.dr_program.proofs.Replicas.{shared_at}
 
 -- ---- the setup of a member, with what another one says of faults
 
@@ -65,29 +69,11 @@ setup_is g limit m s is = λ z. record {
   suspicions = s.suspicions;
 }
 
--- the shape is the group's
-pub record IsShape (g : Group) (shape : Shape) : Type 0 where
-  pub members : shape.members ≡ roster g
-  pub window : shape.window ≡ g.window
-  pub banks : shape.banks ≡ banks g
-
 -- and so is its shape
 pub shape_is : (g : Group) (limit m : ℕ) (s : Setup) → IsSetup g limit m s → IsShape g s.shape
 shape_is g limit m s is = record { members = is.members; window = is.window; banks = is.banks }
 
 -- ---- the world
-
--- every element of a list of copies is the copy, also past its end
-pub copy_at : {X : Type 0} (n : ℕ) (x : X) (i : ℕ) → slice_index_or (replicate n x) i x ≡ x
-copy_at n x i =
-    elim (cases_lt i n) [
-      | inl within ↦ get_or-replicate n i x x within
-      | inr past ↦ get_or_past (replicate n x) i x (omega (arith, length-replicate n x))
-    ]
-
--- the rows as the age opens
-abbrev pub first_rows : ℕ → ℕ → ℕ → ℕ → Words
-first_rows n k m logged = with_own (begun n k m) LOGGED_COLUMN logged
 
 -- the own words as the age opens
 pub first_own : (n k m logged c : ℕ) → n ≤ 16 → k ≤ 1024 → m < n → LOGGED_COLUMN < k
@@ -95,24 +81,6 @@ pub first_own : (n k m logged c : ℕ) → n ≤ 16 → k ≤ 1024 → m < n →
 first_own n k m logged c few narrow within wide =
     own_with (begun n k m) LOGGED_COLUMN logged c (IsWords-begun n k m few narrow within) wide
     ∙ ap (λ x. if c == LOGGED_COLUMN then logged else x) ((IsFresh-begun n k m).zero m c)
-
-pub first_seen : (n k m logged i c : ℕ) → (if i == m then 0 else seen (first_rows n k m logged) i c) ≡ 0
-first_seen n k m logged i c =
-    elim (cases_eq i m) [
-      | inl same ↦ rw (same, same_number m) refl
-      | inr other ↦ rw (other_number i m other)
-          (seen_with (begun n k m) LOGGED_COLUMN logged i c other ∙ (IsFresh-begun n k m).zero i c)
-    ]
-
--- the width of rows of a group
-pub wide : (g : Group) (shape : Shape) → IsGroup g → IsShape g shape → (shape.members ≤ 16)
-    × (LOGGED_COLUMN < columns_of shape.members shape.window)
-    × (columns_of shape.members shape.window ≤ 1024)
-wide g shape is of = (
-  omega (arith, is.most_members, of.members),
-  omega arith,
-  omega (arith, is.most_members, is.most_slots, of.members, of.window),
-)
 
 -- how many entries a member's own word says as the age opens
 abbrev first_logged : Group → ℕ → ℕ
@@ -200,3 +168,10 @@ begins_at_the_opening g limit setups is are =
     (λ m. begun_member g limit setups (table_of (begun_program g setups)) m is are)
     (empty_table g (words_of (roster g) g.window (banks g)))
     (fun_ext λ m. copy_at (roster g) None m)
+
+-- their world is the opening's
+pub begun_world : (g : Group) (limit : ℕ) (setups : List (Option Setup)) → IsGroup g → AreSetups g limit setups
+    → world_of g (map (option_map begun_replica) setups) (shared_at g) ≡ opening_world g
+begun_world g limit setups is are =
+    ap (λ rs. world_of g rs (shared_at g)) (sym (replicas_begun setups))
+    ∙ begins_at_the_opening g limit setups is are

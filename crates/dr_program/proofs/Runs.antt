@@ -1,5 +1,5 @@
 -- Programs that take deeds one after the other.
-use Rattle.std.proofs.Common.{◌≡◌, ◌⊎◌, inl, inr, refl, sym, subst, ℕ, true, false, List, [], ◌∷◌, ◌++◌}
+use Rattle.std.proofs.Common.{◌≡◌, ◌⊎◌, inl, inr, refl, sym, subst, ℕ, true, false, List, [], ◌∷◌, ◌++◌, ◌∙◌, ◌+◌}
 use Rattle.std.specs.Prelude.{Option, None, Some}
 use Rattle.std.proofs.lemmas.Bool.{not-true}
 use Rattle.std.proofs.lemmas.Option.{same_Some}
@@ -13,6 +13,7 @@ use Rattle.dr_program.specs.Replica.{Replica, is_inside}
 use Rattle.dr_program.specs.Steps.{IsAppend, IsNoJoin, allows, sight}
 use Rattle.dr_program.specs.Running.{Running, after_step, broken_off, settled, took_letter}
 use Rattle.dr_program.specs.Program.{Program, Move, after_deed, comes_to, step_of, ran}
+use Rattle.dr_program.proofs.Programs.{ran_one}
 
 -- a program may take more deeds after others
 pub ran_on : (p : Program) (a b : List Move) → ran p (a ++ b) ≡ ran (ran p a) b
@@ -95,3 +96,7 @@ joins_outside r s join may = not-true (is_inside r) (subst (λ x. allows r x ≡
 pub inside_no_join : (r : Replica) (s : Step) → is_inside r ≡ true → allows r s ≡ true → IsNoJoin s
 inside_no_join r Join inside may = absurd (cc (not-true (is_inside r) may, inside))
 inside_no_join r s inside may = tt
+
+-- one move more
+pub ran_more : (p : Program) (es : List Move) (e : Move) → ran p (es ++ e ∷ []) ≡ step_of (ran p es) e
+ran_more p es e = ran_on p es (e ∷ []) ∙ ran_one (ran p es) e

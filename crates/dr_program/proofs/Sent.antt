@@ -3,11 +3,11 @@ use Rattle.std.proofs.Common.{List, [], ◌∷◌, ◌++◌, ap, arith, inl, inr
 use Rattle.std.proofs.lemmas.Bool.{cases_eq, cases_lt}
 use Rattle.std.proofs.lemmas.List.{get_or_past}
 use Rattle.dr_entry.specs.declared.end.ViewSent.{ViewSent}
+use Rattle.dr_entry.proofs.NumberFacts.{same_number, other_number}
 use Rattle.dr_history.specs.History.{items_in}
 use Rattle.dr_program.specs.Program.{member_end, sent_before}
 use Rattle.dr_program.specs.Reading.{in_view, left_in}
 use Rattle.dr_program.specs.Replica.{LeftView, Replica, nothing_left}
-use Rattle.dr_program.proofs.OwnWords.{same_number, other_number}
 
 -- the list says of each view that it has left what it keeps of it
 sent_at : (ls : List LeftView) (from k : ℕ) (rest : List ViewSent) → k < length ls

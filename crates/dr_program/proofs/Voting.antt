@@ -1,20 +1,25 @@
 -- Votes of a replica: which value it votes for, that accept words hold it, and that its votes are few.
-use Rattle.std.proofs.Common.{◌≡◌, ◌↔◌, refl, sym, ap, ◌∙◌, subst, ℕ, suc, suc-mul, mul-le-mul_right, ◌+◌, ◌*◌, ◌^◌, ◌<◌, ◌≤◌, ◌==◌, ◌||◌, ◌⊎◌, inl, inr, not, Bool, true, false, List, [], ◌∷◌, length, slice_index, arith}
-use Rattle.std.specs.Prelude.{Option, Some, None, is_some}
+use Rattle.std.proofs.Common.{◌≡◌, ◌↔◌, refl, sym, ap, ◌∙◌, subst, ℕ, suc, suc-mul, mul-le-mul_right, ◌+◌, ◌*◌, ◌^◌, ◌<◌, ◌≤◌, ◌==◌, ◌||◌, ◌⊎◌, inl, inr, not, Bool, true, false, List, [], ◌∷◌, length, slice_index, arith, ◌&&◌, nat_lt}
+use Rattle.std.specs.Prelude.{Option, Some, None, is_some, nat_eq}
 use Rattle.std.specs.List.{list_all, range_with_len}
 use Rattle.std.proofs.lemmas.Bool.{and_from, and_parts, cases_lt, eq-eqb, eqb-true}
 use Rattle.std.proofs.lemmas.List.{get_or_past}
 use Rattle.std.proofs.lemmas.List.FromFn.{get_or-range_with_len}
 use Rattle.std.proofs.lemmas.List.Folds.{list_all_at}
+use Rattle.std.specs.Cmp.Lexicographic.{other_text, same_text}
+use lib.Pointwise.{pointwise}
+use Rattle.std.proofs.lemmas.Bool.Decides.{nat_tests}
 use Rattle.dr_entry.specs.declared.record.Value.{Value}
 use Rattle.dr_entry.specs.declared.record.Vote.{Vote}
 use Rattle.dr_entry.specs.Spelling.{IsValidVote}
+use Rattle.dr_entry.proofs.Records.{same_value}
+use Rattle.dr_entry.proofs.BoolFacts.{same_test, untrue, no_letter}
 use Rattle.dr_history.specs.Members.{has}
+use Rattle.dr_history.proofs.Bits.{has_zero}
 use Rattle.dr_rows.specs.Words.{seen}
 use Rattle.dr_words.proofs.Choices.{accept_test, proposal_is, proposal_long, propose_test, trims_long}
 use Rattle.dr_words.proofs.Choices as choices
 use Rattle.dr_words.proofs.Masks.{has_without_mask, in_roster_small}
-use Rattle.dr_words.proofs.Values.{same_value}
 use Rattle.dr_words.proofs.Accepts.{leavers_accept}
 use Rattle.dr_words.specs.Accepts.{Shows, promise_of, tag_of, trim_word}
 use Rattle.dr_words.specs.Changes.{IsFirstValue, IsLeastReceived, IsProposal}
@@ -24,7 +29,7 @@ use Rattle.dr_words.specs.Form.{IsInForm}
 use Rattle.dr_words.specs.Masks.{without}
 use Rattle.dr_words.specs.Packing.{accept_value}
 use Rattle.dr_program.specs.Form.{HasForm, IsVoteDue, waiting}
-use Rattle.dr_program.specs.Replica.{Replica, is_value, is_wedged, may_accept, may_append, may_propose, may_vote, me, promise, value_due, vote_of, is_inside}
+use Rattle.dr_program.specs.Replica.{Replica, is_value, is_wedged, may_accept, may_append, may_propose, may_vote, me, promise, value_due, vote_of, is_inside, is_welcomer, may_give}
 
 -- ---- the value
 
@@ -283,3 +288,45 @@ vote_valid r v f e =
         → slice_index v.trim s ≡ 0
     by fits s past true h = absurd (omega (arith, f.roster s h, past))
     by fits s past false h = fits.others s h
+
+-- a value that is compared with the one that is due
+pub value_compared : (r : Replica) (u : Value) (b : Bool)
+    → b ≡ ((u.leavers == (value_due r).leavers) && pointwise nat_eq u.trim (value_due r).trim)
+    → b ≡ is_value u (value_due r)
+value_compared r u b told = same_test b (is_value u due) to from
+  where
+    due : Value
+    due = value_due r
+
+    to : b ≡ true → is_value u due ≡ true
+    to e =
+        let two = and_parts (u.leavers == due.leavers) _ (sym told ∙ e) in
+        let leavers : u.leavers ≡ due.leavers = eqb-true u.leavers due.leavers two.0 in
+        let trim : u.trim ≡ due.trim = same_text u.trim due.trim (sym two.1) in
+        (value_test u due (value_long r)).1 (λ z. record { leavers = leavers z; trim = trim z })
+
+    trims : (t : Bool) → pointwise nat_eq u.trim due.trim ≡ t → u.trim ≡ due.trim
+        → pointwise nat_eq u.trim due.trim ≡ true
+    trims true e same = e
+    trims false e same = absurd (other_text u.trim due.trim (sym e) same)
+
+    from : is_value u due ≡ true → b ≡ true
+    from e =
+        let same : u ≡ due = (value_test u due (value_long r)).0 e in
+        told ∙ and_from _ _ (eq-eqb u.leavers due.leavers (ap (λ (v : Value). v.leavers) same))
+        (trims (pointwise nat_eq u.trim due.trim) refl (ap (λ (v : Value). v.trim) same))
+
+pub no_vote_told : (r : Replica) (v : Value) → may_vote r (value_due r) ≡ false → may_vote r v ≡ false
+no_vote_told r v none = untrue (may_vote r v) (λ e.
+    let due : may_vote r (value_due r) ≡ true =
+    subst (λ (x : Value). may_vote r x ≡ true) (votes_for r v e) e in
+    absurd (cc (none, due)))
+
+-- where all of its view were in the one before, it has no letter to give
+pub no_letters : (q : Replica) → HasForm q → (without q.members q.came_from == 0) ≡ true
+    → (j : ℕ) → may_give q j ≡ false
+no_letters q form all j =
+    let nobody : without q.members q.came_from ≡ 0 = grind (arith, nat_tests, all) in
+    no_letter (nat_lt j q.roster) (is_welcomer q) (has q.members j) (has q.came_from j) (has q.given j)
+    (sym (has_without_mask q.members q.came_from j (view_small q form)) ∙ ap (λ mask. has mask j) nobody
+    ∙ has_zero j)

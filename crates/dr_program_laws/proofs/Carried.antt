@@ -25,7 +25,7 @@ use Rattle.dr_refine.proofs.Guards.{other_within}
 use Rattle.dr_refine.proofs.Members.{fits, inside}
 use Rattle.dr_refine.proofs.Tests.{cell_test}
 use Rattle.dr_refine.specs.Programs.{IsMember, IsProgram}
-use Rattle.dr_room.proofs.Letters.{letters_are}
+use Rattle.dr_program_laws.proofs.Letters.{letters_are}
 use Rattle.dr_program_laws.proofs.Keeping.{move_kept}
 use Rattle.dr_program_laws.proofs.Nets.{come_follows, missed_kept, own_now, way_stays}
 use Rattle.dr_program_laws.specs.Carried.{IsCarried, WasSent}

@@ -9,6 +9,7 @@ use Rattle.dr_entry.specs.declared.end.End.{End}
 use Rattle.dr_entry.specs.declared.end.End.TheVariants as ends
 use Rattle.dr_entry.specs.declared.end.MemberEnd.{MemberEnd}
 use Rattle.dr_entry.specs.declared.end.SentItem.{SentItem}
+use Rattle.dr_entry.proofs.NumberFacts.{same_number}
 use Rattle.dr_faithful.specs.Chosen.{endings_by, views_by}
 use Rattle.dr_faithful.specs.Faithful.{StandsOnLogs}
 use Rattle.dr_history.specs.Agreement.{EndsAgreed}
@@ -33,7 +34,6 @@ use Rattle.dr_program.proofs.Present.{ended_there, slice_present}
 use Rattle.dr_program.specs.Program.{Program, AllEnded, AreSetups, IsRanFrom, absent_end, begun_program, end_at, end_of, member_end, sent_before}
 use Rattle.dr_machine.proofs.Presence.{in_roster}
 use Rattle.dr_program.specs.Net.{IsRanOverNet}
-use Rattle.dr_program.proofs.OwnWords.{same_number}
 use Rattle.dr_program.specs.Reading.{left_in, world}
 use Rattle.dr_machine.specs.Run.{IsReached}
 use Rattle.dr_refine.specs.Programs.{IsProgram}

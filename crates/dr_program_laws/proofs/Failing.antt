@@ -1,9 +1,10 @@
 -- A failed append ends its member.
-use Rattle.std.proofs.Common.{◌≡◌, refl, sym, ap, ◌∙◌, subst, inl, inr, ℕ, ◌≤◌, Bool, true, false, List, arith}
+use Rattle.std.proofs.Common.{◌≡◌, refl, sym, ap, ◌∙◌, subst, inl, inr, ℕ, ◌≤◌, Bool, true, false, List, arith, length}
 use Rattle.std.specs.Prelude.{Option, None, Some, is_some, option_map}
 use Rattle.std.proofs.lemmas.Option.{same_Some}
 use Rattle.dr_entry.specs.declared.end.End.{End}
 use Rattle.dr_entry.specs.declared.entry.Entry.{Entry}
+use Rattle.dr_script.specs.declared.script.Script.{Script}
 use Rattle.dr_machine.specs.declared.event.Act.{Act}
 use Rattle.dr_machine.specs.Group.{Group, IsGroup}
 use Rattle.dr_program.specs.declared.outcome.LogWhy.{LogWhy}
@@ -31,6 +32,10 @@ use Rattle.dr_program_laws.proofs.Nets.{net_keeps}
 use Rattle.dr_program_laws.proofs.Programs.{ran_keeps, replaced_either}
 use Rattle.dr_program.specs.Presence.{present_at}
 use Rattle.dr_program.proofs.Present.{present_map}
+use Rattle.dr_restart.proofs.Setups.{are_setups}
+use Rattle.dr_restart.specs.declared.start.Start.{Start}
+use Rattle.dr_restart.specs.Groups.{group_of}
+use Rattle.dr_restart.specs.Setups.{IsBegun}
 
 -- ---- one deed
 
@@ -177,3 +182,11 @@ pub net_fails : (g : Group) (turns : ℕ) (setups : List (Option Setup)) (p : Pr
 net_fails g turns setups p group some are (before, way) =
     net_keeps g turns setups AreFailing group some are (λ q e form run all. move_fails g q e form all)
     (λ q table letters all. all) (λ q m r form all. missed_fails q m r all) (begun_fails g setups) before p way
+
+-- its members end by their appends
+pub all_failing : (script : Script) (start : Start) (nth : ℕ) (begun p : Program)
+    → IsGroup (group_of script start) → length script.messages ≡ script.members → 1 ≤ script.turns → IsBegun script start nth begun
+    → IsRanFrom begun p → AreFailing p
+all_failing script start nth begun p group lists some (setups, are, is) ran = λ m r there.
+    all_fail (group_of script start) script.turns setups p m r group some
+    (are_setups script start nth setups lists are) (subst (λ b. IsRanFrom b p) is ran) there

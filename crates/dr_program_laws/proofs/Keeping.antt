@@ -25,7 +25,7 @@ use Rattle.dr_refine.proofs.Deeds.{due_allowed, step_events, step_reached}
 use Rattle.dr_refine.proofs.Steps.{begun_is_program, step_kept}
 use Rattle.dr_form.proofs.Finishing.{joined_form}
 use Rattle.dr_form.proofs.Steps.{stepped_form}
-use Rattle.dr_room.proofs.Letters.{letters_are, letters_have_room}
+use Rattle.dr_program_laws.proofs.Letters.{letters_are, letters_have_room}
 use Rattle.dr_turn.proofs.Deeds.{deeds_keep_form}
 use Rattle.dr_turn.proofs.Failing.{failed_form}
 use Rattle.dr_turn.proofs.Search.{settle_only}

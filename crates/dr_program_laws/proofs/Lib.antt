@@ -13,3 +13,7 @@ pub mod Schedules
 pub mod Trusting
 pub mod Patience
 pub mod Failing
+pub mod Lists
+pub mod Endings
+pub mod Bounds
+pub mod Letters

@@ -24,7 +24,7 @@ use Rattle.dr_refine.proofs.Deeds.{deed_is_step, missed_stays, step_follows}
 use Rattle.dr_refine.proofs.Steps.{begun_is_program, of_settled, replaced_program}
 use Rattle.dr_refine.proofs.Tables.{table_written, word_inside}
 use Rattle.dr_refine.specs.Programs.{AreLetters, IsProgram}
-use Rattle.dr_room.proofs.Letters.{letters_are}
+use Rattle.dr_program_laws.proofs.Letters.{letters_are}
 use Rattle.dr_turn.proofs.Takes.{takes_keep_form}
 use Rattle.dr_program_laws.proofs.Keeping.{move_kept}
 use Rattle.dr_program_laws.proofs.Worlds.{of_there}

@@ -30,7 +30,7 @@ use Rattle.dr_program.proofs.Runs.{after_either, joins_outside}
 use Rattle.dr_refine.specs.Programs.{IsProgram}
 use Rattle.dr_refine.proofs.Deeds.{due_allowed, rest_changes_nothing, step_is, step_reached}
 use Rattle.dr_refine.proofs.Steps.{begun_is_program}
-use Rattle.dr_room.proofs.Letters.{letters_are}
+use Rattle.dr_program_laws.proofs.Letters.{letters_are}
 use Rattle.dr_turn.proofs.Search.{settle_only}
 use Rattle.dr_turn.proofs.Tasks.{ends_view}
 use Rattle.dr_program_laws.proofs.Keeping.{begun_reached, next_form, take_leaves}

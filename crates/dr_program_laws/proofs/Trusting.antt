@@ -40,7 +40,7 @@ use Rattle.dr_refine.specs.Programs.{IsProgram}
 use Rattle.dr_refine.proofs.Deeds.{due_allowed, program_member, replicas, rest_changes_nothing, step_is, step_reached}
 use Rattle.dr_refine.proofs.Guards.{seen_is}
 use Rattle.dr_refine.proofs.Steps.{begun_is_program}
-use Rattle.dr_room.proofs.Letters.{letters_are}
+use Rattle.dr_program_laws.proofs.Letters.{letters_are}
 use Rattle.dr_restart.specs.declared.start.Start.{Start}
 use Rattle.dr_restart.specs.Groups.{group_of}
 use Rattle.dr_restart.specs.Setups.{AreSetupsOf, IsBegun, suspicion_in, suspicion_of}
@@ -55,11 +55,11 @@ use Rattle.dr_suspect.specs.Waits.{is_late, is_overdue, turns_without_news}
 use Rattle.dr_turn.proofs.Parts.{has_verdict, is_judge, is_verdict, no_verdict}
 use Rattle.dr_turn.proofs.Search.{settle_only}
 use Rattle.dr_turn.proofs.Tasks.{ends_view, view_stays}
-use Rattle.dr_words.proofs.Bits.{has_zero}
 use Rattle.dr_words.proofs.Masks.{has_without_mask}
 use Rattle.dr_words.specs.declared.column.TheConstants.{SUSPECTED_COLUMN}
 use Rattle.dr_world_laws.proofs.Worlds.{Known, faithful, known, quiet}
 use Rattle.dr_history.specs.Members.{has}
+use Rattle.dr_history.proofs.Bits.{has_zero}
 use Rattle.dr_program_laws.specs.Trusting.{AreAtEase, AreTrusting, IsAtEase, IsCalm, IsPatient, IsTrusting, MayWait, NoneLeft, SuspectsNobody, has_been_left, is_left_out, to_come, AllCalm}
 use Rattle.dr_program_laws.proofs.Patience.{patient_on, patient_take}
 use Rattle.dr_program_laws.proofs.Keeping.{begun_reached}

@@ -10,7 +10,8 @@
 //! (`exclusion_ends_members`). A group in which nobody has a reason to suspect anybody (`IsCalm`,
 //! `SuspectsNobody`) is one in which nobody is suspected; with a patience of three turns or more (`IsAtEase`,
 //! `IsLenient`) so it is in lockstep. What a done member holds is told by script and start alone
-//! (`remaining`). Laws of whole turns are `dr_turn_laws`: only completeness needs them.
+//! (`remaining`). A history stays within what the script gives, so that each replica has the room that its steps
+//! ask for (`room_is_there`). Laws of whole turns are `dr_turn_laws`: only completeness needs them.
 #![tactic(auto)]
 
 ghost use Rattle.std.specs.Prelude.{◌≡◌, ℕ, ◌<◌, ◌≤◌, All, Contains, List, [], ◌∷◌, length, map, max, slice_index, slice_set, Some, Option};
@@ -42,6 +43,10 @@ ghost use Rattle.dr_program_laws.specs.Ended.{HaveEnded};
 ghost use Rattle.dr_program_laws.specs.Failing.{AreFailing, IsFailing};
 ghost use Rattle.dr_program_laws.specs.Trusting.{AllCalm, AreAtEase, AreTrusting, NoneLeft, SuspectsNobody};
 ghost use Rattle.dr_program.specs.Presence.{present_at};
+
+mod room;
+
+pub use room::{histories_are_bounded, letters_fit, room_is_there};
 
 /// Deeds keep a program: whatever deeds its members have taken, and in whatever order, it is one of its
 /// group still, in a world that some events lead to. A look then finds a word that its member may see.

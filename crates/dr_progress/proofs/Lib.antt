@@ -1,2 +1,1 @@
-mod Saying
 mod Besides

@@ -1,17 +1,18 @@
 -- The logs of a list by number, the holders of an age, and the longest of them.
-use Rattle.std.proofs.Common.{◌≡◌, ap, sym, ◌∙◌, subst, ℕ, ◌+◌, ◌<◌, ◌≤◌, ◌⊎◌, inl, inr, arith, Bool, false, Decides, List, [], ◌∷◌, length, Option, None, Some}
-use Rattle.std.proofs.lemmas.Bool.{cases_lt, false≢true}
+use Rattle.std.proofs.Common.{◌≡◌, sym, ◌∙◌, subst, ℕ, ◌+◌, ◌<◌, ◌≤◌, ◌⊎◌, inl, inr, arith, List, [], length, Option, None, Some}
+use Rattle.std.proofs.lemmas.Bool.{cases_lt}
 use Rattle.std.proofs.lemmas.List.{append-nil, get_or_past}
-use Rattle.std.proofs.lemmas.Option.{none-some, same_Some}
+use Rattle.std.proofs.lemmas.Option.{none-some}
 use Rattle.dr_entry.specs.declared.entry.Entry.{Entry}
-use Rattle.dr_history.specs.History.{GroupView, view_after, view_of}
 use Rattle.dr_history.specs.Restarting.{AreAlong}
+use Rattle.dr_history.proofs.Restarts.{turned}
+use Rattle.dr_history_laws.proofs.Keeping.{along_by_longest}
 use Rattle.dr_restart.specs.declared.lists.LogLists.{LogLists}
-use Rattle.dr_restart.specs.Choosing.{AreOnHolder, EndsInAge, Handed}
+use Rattle.dr_restart.specs.Choosing.{AreOnHolder, Handed}
 use Rattle.dr_restart.specs.Refusing.{AreHoldersAlong, IsFirstSplit, IsHeldBy}
+use Rattle.dr_restart.proofs.Choosing.{held_some, IsLongestBelow, by_holder, one_held}
 use Rattle.dr_quorum.specs.Comparing.{AreAlongBelow, IsFirstApart}
 use Rattle.dr_quorum.specs.Handing.{handed_by}
-use Rattle.dr_quorum.proofs.Along.{along_by_longest, turned}
 
 -- a log that was handed in has a place in the list
 pub handed_within : (lists : List (Option LogLists)) (m : ℕ) (log : LogLists) → handed_by lists m ≡ Some log
@@ -26,90 +27,7 @@ pub held_within : (lists : List (Option LogLists)) (age m : ℕ) (es : List Entr
     → IsHeldBy (handed_by lists) age m es → m < length lists
 held_within lists age m es x = handed_within lists m x.0 x.1
 
--- a holder has one list
-pub one_held : (h : Handed) (age m : ℕ) (f g : List Entry) → IsHeldBy h age m f → IsHeldBy h age m g → f ≡ g
-one_held h age m f g x y =
-    x.3 ∙ (ap (λ (log : LogLists). log.entries) (same_Some x.0 y.0 (sym x.1 ∙ y.1)) ∙ sym y.3)
-
--- and it has a View
-no_view : (v : GroupView) → view_of [] ≡ Some v → ⊥
-unfolding view_after
-no_view v e = none-some v e
-
-pub held_some : (h : Handed) (age m : ℕ) (es : List Entry) → IsHeldBy h age m es → 0 < length es
-held_some h age m [] x = absurd (no_view x.2.0 (ap view_of x.3 ∙ x.2.1))
-held_some h age m (e ∷ es) x = omega arith
-
-pub on_holder : (h : Handed) (age m : ℕ) (es : List Entry) → IsHeldBy h age m es → AreOnHolder h age es
-on_holder h age m es x = (m, x.0, x.1, x.2, x.3)
-
-pub by_holder : (h : Handed) (age : ℕ) (es : List Entry) → AreOnHolder h age es → (m : ℕ) × IsHeldBy h age m es
-by_holder h age es x = (x.0, (x.1, x.2, x.3, x.4))
-
--- whether a log ends in an age, by its last View
-pub ends_where : (log : LogLists) (age : ℕ) (v : GroupView) (r : Bool) → Some v ≡ view_of log.entries
-    → Decides r (v.age ≡ age) → Decides r (EndsInAge log age)
-ends_where log age v r e d = (
-  λ t. (v, sym e, d.0 t),
-  λ x. d.1 (ap (λ (u : GroupView). u.age) (same_Some v x.0 (e ∙ x.1)) ∙ x.2),
-)
-
-pub ends_nowhere : (log : LogLists) (age : ℕ) → None ≡ view_of log.entries → Decides false (EndsInAge log age)
-ends_nowhere log age e = (λ t. absurd (false≢true t), λ x. absurd (none-some x.0 (e ∙ x.1)))
-
 -- ---- the longest
-
--- among the first m members this one has so many entries, and no holder has more
-pub record IsLongestBelow (h : Handed) (age m best most : ℕ) : Type 0 where
-  pub held : 0 < most → (es : List Entry) × IsHeldBy h age best es × (length es ≡ most)
-  pub longest : (i : ℕ) (f : List Entry) → i < m → IsHeldBy h age i f → length f ≤ most
-
-pub none_longest : (h : Handed) (age : ℕ) → IsLongestBelow h age 0 0 0
-none_longest h age = record {
-  held = λ l. absurd (omega (arith, l));
-  longest = λ i f l x. absurd (omega (arith, l));
-}
-
--- one member more, which has so many entries if it is a holder
-longest_more : (h : Handed) (age m best most len : ℕ) → IsLongestBelow h age m best most
-    → ((f : List Entry) → IsHeldBy h age m f → len ≡ length f)
-    → (0 < len → (es : List Entry) × IsHeldBy h age m es) → most < len → IsLongestBelow h age (m + 1) m len
-longest_more h age m best most len old is some more = record {
-  held = λ l. let t = some l in (t.0, t.1, sym (is t.0 t.1));
-  longest = λ i f l x. by i f x (cases_lt i m) l;
-}
-  where
-    by : (i : ℕ) (f : List Entry) → IsHeldBy h age i f → (i < m) ⊎ (m ≤ i) → i < m + 1 → length f ≤ len
-    by i f x (inl l) k = omega (arith, old.longest i f l x, more)
-    by i f x (inr l) k =
-        let same : i ≡ m = omega (arith, l, k) in
-        omega (arith, is f (subst (λ j. IsHeldBy h age j f) same x))
-
-longest_other : (h : Handed) (age m best most len : ℕ) → IsLongestBelow h age m best most
-    → ((f : List Entry) → IsHeldBy h age m f → len ≡ length f) → len ≤ most
-    → IsLongestBelow h age (m + 1) best most
-longest_other h age m best most len old is less = record {
-  held = old.held;
-  longest = λ i f l x. by i f x (cases_lt i m) l;
-}
-  where
-    by : (i : ℕ) (f : List Entry) → IsHeldBy h age i f → (i < m) ⊎ (m ≤ i) → i < m + 1 → length f ≤ most
-    by i f x (inl l) k = old.longest i f l x
-    by i f x (inr l) k =
-        let same : i ≡ m = omega (arith, l, k) in
-        omega (arith, is f (subst (λ j. IsHeldBy h age j f) same x), less)
-
-pub longest_step : (h : Handed) (age m best most len next now : ℕ) → IsLongestBelow h age m best most
-    → ((f : List Entry) → IsHeldBy h age m f → len ≡ length f)
-    → (0 < len → (es : List Entry) × IsHeldBy h age m es)
-    → ((next ≡ m) × (now ≡ len) × (most < len)) ⊎ ((next ≡ best) × (now ≡ most) × (len ≤ most))
-    → IsLongestBelow h age (m + 1) next now
-longest_step h age m best most len next now old is some (inl (e, f, l)) =
-    subst (λ n. IsLongestBelow h age (m + 1) n now) (sym e)
-    (subst (IsLongestBelow h age (m + 1) m) (sym f) (longest_more h age m best most len old is some l))
-longest_step h age m best most len next now old is some (inr (e, f, l)) =
-    subst (λ n. IsLongestBelow h age (m + 1) n now) (sym e)
-    (subst (IsLongestBelow h age (m + 1) best) (sym f) (longest_other h age m best most len old is l))
 
 pub longest_all : (lists : List (Option LogLists)) (age m best most i : ℕ) (f : List Entry)
     → IsLongestBelow (handed_by lists) age m best most → length lists ≤ m → IsHeldBy (handed_by lists) age i f

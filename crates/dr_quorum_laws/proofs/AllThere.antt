@@ -17,14 +17,15 @@ use Rattle.dr_history_laws.proofs.Lists.{slice_get-some}
 use Rattle.dr_history_laws.proofs.Members.{has-member}
 use Rattle.std.proofs.lemmas.Bool.{cases_lt}
 use Rattle.std.proofs.lemmas.Nat.Bits.{bit_at_above}
+use Rattle.dr_history.proofs.Bits.{has_ones, has_zero}
+use Rattle.dr_history.proofs.Masks.{same_masks}
 use Rattle.dr_restart.specs.declared.lists.LogLists.{LogLists}
 use Rattle.dr_restart.specs.Choosing.{AreFirst, Handed, HasQuorum, IsLastAge, handed_of, highest, names_next, next_on_path, next_votes, of_set, on_path}
 use Rattle.dr_restart.specs.Left.{entries_on_logs}
 use Rattle.dr_restart.specs.Refusing.{AreHoldersAlong, HaveNothingForeign, IsRefusedFor, Refusal}
 use Rattle.dr_restart.specs.Refusing.Refusal.{AgesUsedUp, Disagree, Foreign, NoQuorum}
 use Rattle.dr_restart.proofs.Listed.{listed}
-use Rattle.dr_words.proofs.Bits.{has_ones, has_zero}
-use Rattle.dr_words.proofs.Masks.{has_mask_of, has_next_members, mask_of_small, next_members_small, next_members_within, same_masks}
+use Rattle.dr_words.proofs.Masks.{has_mask_of, has_next_members, mask_of_small, next_members_small, next_members_within}
 use Rattle.dr_words.specs.Masks.{mask_of, next_members, without}
 use Rattle.dr_quorum_laws.specs.Returning.{HasHandedIn, HaveReturned}
 use Rattle.dr_quorum_laws.proofs.Handing.{log-of_set, set-log}

@@ -6,6 +6,7 @@ use Rattle.dr_history.specs.declared.opening.Opening.{Opening}
 use Rattle.dr_history.specs.History.{IsPrefixOf}
 use Rattle.dr_history.specs.Restarting.{Kept}
 use Rattle.dr_history.specs.Soundness.{whole_roster}
+use Rattle.dr_history.proofs.Bits.{has_ones}
 use Rattle.dr_machine.proofs.Presence.{in_roster}
 use Rattle.dr_machine.specs.Group.{Group, IsGroup, roster}
 use Rattle.dr_machine.specs.Run.{accounts_in}
@@ -14,7 +15,6 @@ use Rattle.dr_restart.specs.declared.lists.Attempt.{Attempt}
 use Rattle.dr_restart.specs.declared.lists.LogLists.{LogLists}
 use Rattle.dr_restart.specs.declared.start.Start.{Start}
 use Rattle.dr_restart.specs.Choosing.{IsChosenStart, of_set}
-use Rattle.dr_words.proofs.Bits.{has_ones}
 use Rattle.dr_words.specs.Masks.{IsMajorityOf, IsPartOf}
 use Rattle.dr_world_laws.proofs.Worlds.{Known}
 use Rattle.dr_quorum_laws.specs.Holding.{AreTheirViews, HoldSince, IsKeptBy, IsLongestHistory}

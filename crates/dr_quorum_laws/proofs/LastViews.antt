@@ -5,14 +5,14 @@ use Rattle.std.proofs.lemmas.Option.{none-some, same_Some, slice_get-get_or}
 use Rattle.dr_entry.specs.declared.entry.Entry.{Entry}
 use Rattle.dr_entry.specs.declared.entry.Entry.TheVariants.{View, Msg}
 use Rattle.dr_history.specs.declared.opening.Opening.{Opening}
-use Rattle.dr_history.specs.History.{GroupView, view_after, view_of}
+use Rattle.dr_history.specs.History.{GroupView, view_after, view_of, IsPrefixOf}
 use Rattle.dr_history.specs.Members.{members_of}
 use Rattle.dr_history.specs.Restarting.{AllStand}
 use Rattle.dr_history.specs.Soundness.{Sound}
 use Rattle.dr_history.proofs.ViewLemmas.{view_of-View}
 use Rattle.dr_history_laws.proofs.Lists.{take-next}
 use Rattle.dr_history_laws.proofs.Views.{HasCome, ViewsRise, ViewsRise-standing, view-after}
-use Rattle.dr_quorum_laws.proofs.Lists.{in-head, in-tail}
+use Rattle.dr_quorum_laws.proofs.Lists.{in-head, in-tail, prefix-in}
 
 -- the view of a list is that of a View on it, or was there before
 last_from : (u : Option GroupView) (es : List Entry) (v : GroupView) → view_after u es ≡ Some v
@@ -94,3 +94,12 @@ start-earlier o a n m sound c =
     by : (v : GroupView) → HasCome a n v → v.age < o.age → a < o.age
     by v (inl l) less = omega (arith, l, less)
     by v (inr t) less = omega (arith, t.0, less)
+
+-- what goes on from a list ends in a view that is no earlier
+pub ends_later : (o : Opening) (f g : List Entry) (v : GroupView) → AllStand o g → IsPrefixOf f g
+    → view_of f ≡ Some v → (u : GroupView) × (view_of g ≡ Some u) × (v.age ≤ u.age)
+ends_later o f g v stand p e =
+    let last = last-view f v e in
+    let there = prefix-in f g (View v.age v.number last.0) p last.1 in
+    let t = view-come o g v.age v.number last.0 stand there in
+    (t.0, t.1, view-late o g v.age v.number last.0 t.0 stand there t.1)

@@ -271,18 +271,6 @@ last-tried script es before after try (inl (start, w, h, durable)) t =
 last-tried script es before after try (inr (tries, h, all, none)) t =
     inr (tries ++ try ∷ [], alone-tried (first_group_of script) tries before after try h t, t.places ∙ all, none)
 
--- less lasts with more
-pub last-less : (script : Script) (less es : List Entry) (logs : List LogLists) → IsPrefixOf less es
-    → AreLasting script es logs → AreLasting script less logs
-last-less script less es logs p (inl (start, w, h, (m, there, durable))) =
-    inl (start, w, h, (m, there, prefix_then less es (take (w.past.durable m) (w.past.history m)) p durable))
-last-less script less es logs p (inr (tries, h, all, none)) =
-    inr (tries, h, all, nothing less (subst (IsPrefixOf less) none p))
-  where
-    nothing : (less : List Entry) → IsPrefixOf less [] → less ≡ []
-    nothing [] p = refl
-    nothing (x ∷ less) p = absurd (omega (arith, ap length p.1))
-
 -- the start that is chosen of some of the logs begins with it
 pub last-kept : (script : Script) (es : List Entry) (logs : List LogLists) (set : ℕ) (start : Start)
     → AreLasting script es logs → IsChosenStart (first_group_of script).opening (of_set logs set) start

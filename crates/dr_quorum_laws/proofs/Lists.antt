@@ -1,12 +1,17 @@
 -- Elements of lists, prefixes, and the vote of the highest ballot.
-use Rattle.std.proofs.Common.{◌≡◌, refl, ap, sym, ◌∙◌, ◌⊎◌, inl, inr, subst, ℕ, zero, suc, ◌<◌, ◌≤◌, arith, Bool, true, false, nat_lt, if◌then◌else◌, List, [], ◌∷◌, ◌++◌, filter, Contains, Option, None, Some, slice_get, append_assoc, append-nil}
+use Rattle.std.proofs.Common.{◌≡◌, refl, ap, sym, ◌∙◌, ◌⊎◌, inl, inr, subst, ℕ, zero, suc, ◌<◌, ◌≤◌, arith, Bool, true, false, nat_lt, if◌then◌else◌, List, [], ◌∷◌, ◌++◌, filter, Contains, Option, None, Some, slice_get, append_assoc, append-nil, length}
 use Rattle.std.specs.List.{flat_map}
 use Rattle.std.specs.Option.{option_map_or}
 use Rattle.std.proofs.lemmas.List.Elements.{All-contains, All-contains_itself, All-filter, Contains-append_cases, Contains-append_left, Contains-append_right, filter_passes}
 use Rattle.std.proofs.lemmas.Option.{none-some, same_Some, slice_get-get_or, slice_get_within, get_or_from_slice_get}
 use Rattle.dr_entry.specs.declared.record.Vote.{Vote}
+use Rattle.dr_entry.specs.declared.entry.Entry.{Entry}
+use Rattle.dr_entry.specs.declared.entry.Entry.TheVariants.{View}
 use Rattle.dr_history.specs.History.{IsPrefixOf}
-use Rattle.dr_restart.specs.Choosing.{highest}
+use Rattle.dr_history.specs.declared.opening.Opening.{Opening}
+use Rattle.dr_history_laws.proofs.Keeping.{front_of}
+use Rattle.dr_restart.specs.Choosing.{highest, AreFirst, AreOfHolders, AreOnHolder, Handed, IsLastAge}
+use Rattle.dr_restart.specs.Refusing.{AreHoldersAlong, HasPath}
 
 -- ---- elements
 
@@ -215,3 +220,21 @@ highest-is (x ∷ xs) z c = by (λ h. highest-is xs z h) (highest xs) refl (in-c
         let r = rest h in
         let one : r.0 ≡ y = same_Some r.0 y (sym r.1 ∙ e) in
         rw e (two y (inr (subst (λ (v : Vote). z.ballot ≤ v.ballot) one r.2)) (nat_lt x.ballot y.ballot) refl)
+
+-- the longest entries of a holder are chosen
+pub of_holders : (o : Opening) (h : Handed) (age : ℕ) (es : List Entry) → IsLastAge h age
+    → AreHoldersAlong h age → AreOnHolder h age es
+    → ((f : List Entry) → AreOnHolder h age f → length f ≤ length es)
+    → ((first : ℕ) → Contains es (View age 0 first) → HasPath (length o.messages) h age first)
+    → AreOfHolders o h es
+of_holders o h age es last along held longest path = record {
+  age = age;
+  last = last;
+  along = along;
+  path = λ first v members is e. path first (there first is) v members e;
+  held = held;
+  longest = longest;
+}
+  where
+    there : (first : ℕ) → AreFirst h age first → Contains es (View age 0 first)
+    there first (f, on, c) = prefix-in f es (View age 0 first) (front_of f es (along f es on held) (longest f on)) c

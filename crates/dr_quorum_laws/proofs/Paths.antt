@@ -6,6 +6,8 @@ use Rattle.dr_entry.specs.declared.record.Vote.{Vote}
 use Rattle.dr_faithful.specs.Chosen.{views_by}
 use Rattle.dr_history.specs.Members.{has, members_of}
 use Rattle.dr_history.specs.Order.{IsNewIn}
+use Rattle.dr_history.proofs.Bits.{has_ones, has_zero}
+use Rattle.dr_history.proofs.Masks.{same_masks}
 use Rattle.dr_history_laws.proofs.Members.{has-member, member-has}
 use Rattle.dr_machine.proofs.Presence.{in_roster}
 use Rattle.dr_machine.specs.Group.{Group, IsGroup, IsPresent, roster}
@@ -16,9 +18,8 @@ use Rattle.dr_restart.specs.declared.lists.LogLists.{LogLists}
 use Rattle.dr_restart.specs.Choosing.{HasQuorum, Handed, highest, names_next, next_on_path, next_votes, of_set, on_path}
 use Rattle.dr_vote_laws.proofs.Cuts.{vote_cut}
 use Rattle.dr_vote_laws.specs.Voting.{HaveVotedFor, IsCut}
-use Rattle.dr_words.proofs.Bits.{has_ones, has_zero}
 use Rattle.dr_words.proofs.Majorities.{majorities_meet_lem}
-use Rattle.dr_words.proofs.Masks.{has_mask_of, has_next_members, same_masks}
+use Rattle.dr_words.proofs.Masks.{has_mask_of, has_next_members}
 use Rattle.dr_words.specs.Masks.{next_members, without}
 use Rattle.dr_world_laws.proofs.ChosenViews.{views-within}
 use Rattle.dr_world_laws.proofs.HeldViews.{view-is}

@@ -278,3 +278,19 @@ one-refusal o h AgesUsedUp (NoQuorum (Some u) c d) x y =
     absurd (path-no (length o.messages) h y.1 y.1 y.4 u c d y.2 y.5 y.6 y.2 (x.1 y.1 y.2).1)
 one-refusal o h AgesUsedUp (Disagree i j q) x y = absurd (split-no h y.1 y.1 i j q y.2 y.3 y.2 (x.1 y.1 y.2).0)
 one-refusal o h AgesUsedUp AgesUsedUp x y = refl
+
+-- where the path holds of one View 0 of the age on these entries, it holds of each
+pub path_of_all : (o : Opening) (h : Handed) (age first : ℕ) (es : List Entry)
+    → AllStand o es → Contains es (View age 0 first) → HasPath (length o.messages) h age first
+    → (other : ℕ) → Contains es (View age 0 other) → HasPath (length o.messages) h age other
+path_of_all o h age first es stand c path other d =
+    subst (HasPath (length o.messages) h age) (one-view es age 0 first other (ViewsRise-standing o es stand) c d) path
+
+-- what was chosen has passed, whichever age is the last
+pub passed : (o : Opening) (h : Handed) (es : List Entry) → AreOfHolders o h es ⊎ AreOfNobody h es
+    → (age : ℕ) → IsLastAge h age
+    → AreHoldersAlong h age × ((first : ℕ) → AreFirst h age first → HasPath (length o.messages) h age first)
+passed o h es (inl x) age last =
+    subst (λ a. AreHoldersAlong h a × ((first : ℕ) → AreFirst h a first → HasPath (length o.messages) h a first))
+    (one-last h x.age age x.last last) (x.along, λ first is v members e. x.path first v members is e)
+passed o h es (inr x) age last = absurd (no-last h es age x last)

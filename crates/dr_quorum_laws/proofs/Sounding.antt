@@ -1,24 +1,33 @@
 -- A start that logs make is one that an age may start with.
-use Rattle.std.proofs.Common.{◌≡◌, refl, ap, sym, ◌∙◌, ◌⊎◌, inl, inr, subst, ℕ, ◌<◌, nat_lt, arith, true, length, Contains, slice_get}
-use Rattle.std.proofs.lemmas.Option.{none-some}
+use Rattle.std.proofs.Common.{◌≡◌, refl, ap, sym, ◌∙◌, ◌⊎◌, inl, inr, subst, ℕ, ◌<◌, nat_lt, arith, true, length, Contains, slice_get, ◌^◌, List, All, take, get_or, []}
+use Rattle.std.proofs.lemmas.Option.{none-some, slice_get-get_or, slice_get_within}
 use Rattle.dr_entry.specs.declared.entry.Entry.TheVariants.{View}
 use Rattle.dr_history.specs.declared.opening.Opening.{Opening}
-use Rattle.dr_history.specs.History.{GroupView, view_of}
+use Rattle.dr_history.specs.History.{GroupView, view_of, IsPrefixOf}
 use Rattle.dr_history.specs.Members.{has}
 use Rattle.dr_history.specs.Restarting.{AllStand}
 use Rattle.dr_history.specs.Soundness.{Sound, whole_roster}
 use Rattle.dr_history_laws.proofs.Standing.{all-by}
-use Rattle.std.specs.Prelude.{Some}
+use Rattle.std.specs.Prelude.{Some, Option}
+use Rattle.std.specs.Option.{option_map_or}
+use Rattle.dr_entry.specs.declared.entry.Entry.{Entry}
+use Rattle.dr_entry.specs.Spelling.{IsValidEntry}
+use Rattle.dr_entry.specs.declared.end.MemberEnd.{MemberEnd}
+use Rattle.dr_history.proofs.Bits.{has_ones, has_zero}
+use Rattle.dr_history.proofs.Histories.{AreFirstPartsOf}
+use Rattle.dr_history.specs.Agreement.{accounts_of}
 use Rattle.dr_restart.specs.declared.lists.LogLists.{LogLists}
 use Rattle.dr_restart.specs.declared.start.Start.{Start}
-use Rattle.dr_restart.specs.Choosing.{AreOfHolders, AreOfNobody, Handed, HasQuorum, IsChosenStart, handed_of}
+use Rattle.dr_restart.specs.Choosing.{AreOfHolders, AreOfNobody, Handed, HasQuorum, IsChosenStart, handed_of, IsAgeAfter}
 use Rattle.dr_restart.specs.Trying.{opened_by}
-use Rattle.dr_restart.proofs.Groups.{first_group}
+use Rattle.dr_restart.proofs.Groups.{first_group, valid_entry}
 use Rattle.dr_restart.specs.Groups.{first_group_of, group_of}
-use Rattle.dr_machine.specs.Group.{IsGroup}
+use Rattle.dr_machine.specs.Group.{IsGroup, AllPresent, roster}
 use Rattle.dr_script.specs.declared.script.Script.{Script}
 use Rattle.dr_script.specs.Ranges.{HasGroupRanges}
-use Rattle.dr_words.proofs.Bits.{has_ones, has_zero}
+use Rattle.dr_history_laws.specs.Parts.{AreFirstParts}
+use Rattle.dr_machine.proofs.Presence.{is_present}
+use Rattle.dr_restart.specs.Refusing.{AreEnough}
 use Rattle.dr_quorum_laws.proofs.Handing.{handed-part, quorum-meets}
 use Rattle.dr_quorum_laws.proofs.LastViews.{last-view}
 
@@ -94,3 +103,39 @@ choice-group script h start ranges c = record {
   where
     first : IsGroup (first_group_of script)
     first = first_group script ranges
+
+-- a start is chosen that has what the steps have found
+pub chosen_start : (o : Opening) (h : Handed) (start : Start) (es : List Entry) → AreEnough o h
+    → AreOfHolders o h es ⊎ AreOfNobody h es → start.entries ≡ es → IsAgeAfter h start.age
+    → start.age < 2 ^ 16 → start.present ≡ handed_of h (whole_roster o) → start.members ≡ start.present
+    → IsChosenStart o h start
+chosen_start o h start es enough chosen same age left present members = record {
+  sound = enough.0;
+  quorum = enough.1;
+  entries = subst (λ x. AreOfHolders o h x ⊎ AreOfNobody h x) (sym same) chosen;
+  age = age;
+  left = left;
+  present = present;
+  members = λ m there. subst (λ mask. has mask m ≡ true) members there;
+  some = subst (λ mask. 0 < mask) (sym (members ∙ present)) (handed-some o h enough.1);
+}
+
+pub chosen_valid : (script : Script) (h : Handed) (start : Start) → HasGroupRanges script
+    → IsChosenStart (first_group_of script).opening h start → All IsValidEntry start.entries
+chosen_valid script h start ranges c i d l =
+    valid_entry script start (take i start.entries) (get_or start.entries i d) ranges
+    ((choice-sound (first_group_of script).opening h start c).entries i (get_or start.entries i d)
+    (slice_get-get_or start.entries i d l))
+
+-- first parts of the histories of its members, by their accounts
+pub first_parts : (script : Script) (start : Start) (ends : List MemberEnd) (lists : List (List Entry))
+    → AllPresent (group_of script start) → length ends ≡ roster (group_of script start)
+    → AreFirstPartsOf ends lists → AreFirstParts (group_of script start).opening (accounts_of ends) lists
+first_parts script start ends lists present all parts m es at =
+    let part = parts m es at in (
+      part.0,
+      is_present (group_of script start) part.0 present
+          (omega (arith, slice_get_within ends part.0 part.1 part.2, all)),
+      subst (λ (end : Option MemberEnd).
+          IsPrefixOf es (option_map_or (λ (e : MemberEnd). e.history) end [])) (sym part.2) part.3,
+    )

@@ -9,6 +9,7 @@ use Rattle.dr_entry.specs.declared.entry.Entry.{Entry}
 use Rattle.dr_entry.specs.declared.entry.Item.{Item}
 use Rattle.dr_entry.specs.declared.entry.Item.TheVariants.{Null}
 use Rattle.dr_entry.specs.declared.end.End.{End}
+use Rattle.dr_entry.proofs.NumberFacts.{same_number, other_number}
 use Rattle.dr_history.specs.Members.{members_of}
 use Rattle.dr_words.specs.declared.column.TheConstants.{LOGGED_COLUMN, DONE_COLUMN}
 use Rattle.dr_machine.specs.Group.{Group, roster}
@@ -18,7 +19,6 @@ use Rattle.dr_machine.specs.Effects.{one_more, entries_of, stamped, beats, deliv
 use Rattle.dr_program.specs.Replica.{Replica, item_of_place, sender_of_place, least_seen, acted, beaten, delivered, appended, published, reported, marked, ended}
 use Rattle.dr_program.specs.Reading.{Shared, world_of}
 use Rattle.dr_program.proofs.Holdings.{Holding, held, holding_of, held_of, Changes}
-use Rattle.dr_program.proofs.OwnWords.{same_number, other_number}
 use Rattle.dr_refine.specs.Programs.{IsMember, acted_table}
 use Rattle.dr_refine.proofs.Members.{fits, fits_own, replaced, own_world, then_acted, shown_word}
 use Rattle.dr_refine.proofs.Views.{member_below}

@@ -1,6 +1,6 @@
 -- The next deed of a running member is a step of the machine.
-use Rattle.std.proofs.Common.{◌≡◌, refl, sym, ap, ◌∙◌, subst, ℕ, zero, suc, ◌||◌, Bool, true, false, ◌⊎◌, inl, inr, if◌then◌else◌, List, [], ◌∷◌, map, arith}
-use Rattle.std.specs.Prelude.{Option, Some, None, is_some, option_map, slice_set}
+use Rattle.std.proofs.Common.{◌≡◌, refl, sym, ap, ◌∙◌, subst, ℕ, zero, suc, ◌||◌, Bool, true, false, ◌⊎◌, inl, inr, if◌then◌else◌, List, [], ◌∷◌, map, arith, ◌++◌, ◌≤◌}
+use Rattle.std.specs.Prelude.{Option, Some, None, is_some, option_map, slice_set, slice_index_or}
 use Rattle.std.proofs.lemmas.List.{set-get_or}
 use Rattle.dr_program.proofs.Present.{present_map}
 use Rattle.std.proofs.lemmas.Bool.{and_from, and_parts}
@@ -19,7 +19,7 @@ use Rattle.dr_program.specs.declared.outcome.Outcome.{Outcome}
 use Rattle.dr_program.specs.Steps.{allows, sight, stored, stored_letters, IsAppend, IsNoJoin}
 use Rattle.dr_program.specs.Running.{Running, after_step, applies, asks, moved, next_step, settle, settled, took, took_letter, AsksForLetter}
 use Rattle.dr_program.specs.Turn.{part_of}
-use Rattle.dr_program.specs.Program.{Program, Move, after_deed, comes_to, letter_for, moved_by, next_sight, step_of, went}
+use Rattle.dr_program.specs.Program.{Program, Move, after_deed, comes_to, letter_for, moved_by, next_sight, step_of, went, IsRanFrom, ran, appended_as}
 use Rattle.dr_program.specs.Net.{FindsNone}
 use Rattle.dr_program.specs.Reading.{Shared, step_by, step_due, table_of, world, world_of}
 use Rattle.dr_program.proofs.Waiting.{free_step}
@@ -29,7 +29,9 @@ use Rattle.dr_refine.specs.Programs.{AreLetters, IsMember, IsProgram, stored_in}
 use Rattle.dr_refine.proofs.Joins.{join_effect}
 use Rattle.dr_refine.proofs.Tests.{step_effect, step_guard, taken_guard, has_letter}
 use Rattle.dr_program.specs.Presence.{present_at, with_present}
-use Rattle.dr_program.proofs.Runs.{came_to, comes_to_none, joins_outside}
+use Rattle.dr_program.proofs.Runs.{came_to, comes_to_none, joins_outside, ran_on}
+use Rattle.dr_program.proofs.Replicas.{step_later}
+use Rattle.dr_program.specs.declared.outcome.Outcome.TheVariants as outcomes
 
 -- ---- on to the next place
 
@@ -327,3 +329,36 @@ step_events g p e group is letters come = by (step_comes g p e group is letters)
     by (inl event) =
         events_more g (world g p) (world g (step_of p e)) event.0 come (inl (event.1, event.2))
     by (inr same) = subst (ComesOfEvents g) (sym same) come
+
+-- the table stays at an append
+pub table_at : (table : List ℕ) (r : Running) → IsAppend (next_step r)
+    → table ≡ stored table r.replica (next_step r)
+table_at table r is = sym (append_stores table r.replica (next_step r) is)
+
+-- one deed more
+pub deed_ran : (begun : Program) (words : List ℕ) (letters : List (Option (List Entry))) (members : List (Option Running)) (m : ℕ) (o : Outcome)
+    (r : Running) → present_at members m ≡ Some r → r.replica.end ≡ None
+    → IsRanFrom begun (record { members = members; table = words; letters = letters })
+    → IsRanFrom begun (record {
+      members = with_present members m
+          (after_deed (next_sight words r) (slice_index_or letters m None) o r (next_step r));
+      table = stored words r.replica (next_step r);
+      letters = stored_letters letters r.replica (next_step r);
+    })
+unfolding ran
+deed_ran begun words letters members m o r there none (es, is) = (
+  es ++ e ∷ [],
+  sym (ran_on begun es (e ∷ []) ∙ ap (λ p. step_of p e) (sym is)
+      ∙ step_is (record { members = members; table = words; letters = letters }) e r there none),
+)
+  where
+    e : Move
+    e = record { member = m; outcome = o }
+
+pub after_later : (word : ℕ) (r : Running) → r.replica.view ≤ (after_step word r).replica.view
+after_later word r = subst (λ (q : Replica). r.replica.view ≤ q.view)
+    (sym (settle_replica _ (took word r (next_step r)))) (step_later word r.replica (next_step r))
+
+pub appended_later : (o : Outcome) (r : Running) → r.replica.view ≤ (appended_as o r).replica.view
+appended_later outcomes.Ok r = after_later 0 r
+appended_later (outcomes.Failed why) r = omega arith

@@ -12,13 +12,18 @@ use Rattle.dr_entry.specs.declared.entry.Entry.TheVariants.{View}
 use Rattle.dr_entry.specs.declared.entry.Item.{Item}
 use Rattle.dr_entry.specs.declared.entry.Item.TheVariants.{Null}
 use Rattle.dr_entry.specs.declared.record.Value.{Value}
+use Rattle.dr_entry.proofs.ListPlaces.{copy_at}
+use Rattle.dr_entry.proofs.BoolFacts.{both_same}
+use Rattle.dr_entry.proofs.NumberFacts.{same_number, other_number}
 use Rattle.dr_history.specs.Members.{has, members_of}
 use Rattle.dr_history.specs.Order.{messages_from}
 use Rattle.dr_history.specs.Places.{rest_places}
+use Rattle.dr_history.proofs.Tests.{all_members}
 use Rattle.dr_rows.specs.Words.{Words, begun, own, with_own}
 use Rattle.dr_words.specs.declared.column.TheConstants.{BEAT_COLUMN, LOGGED_COLUMN}
 use Rattle.dr_words.specs.Masks.{IsInRoster, next_members}
-use Rattle.dr_words.proofs.Tests.{all_members, each_member}
+use Rattle.dr_words.proofs.Tests.{each_member}
+use Rattle.dr_words.proofs.Layouts.{first_seen}
 use Rattle.dr_machine.specs.Writes.{at₂, at₃}
 use Rattle.dr_machine.specs.Group.{Group, roster}
 use Rattle.dr_machine.specs.Guards.{CanFinish}
@@ -29,8 +34,7 @@ use Rattle.dr_program.specs.Replica.{LeftView, Replica, me, acted, count, finish
 use Rattle.dr_program.specs.Reading.{Shared, kept_word, world_of}
 use Rattle.dr_program.proofs.Finishing.{finished_more}
 use Rattle.dr_program.proofs.Holdings.{Holding, held, holding_of, held_of, Changes}
-use Rattle.dr_program.proofs.Opening.{copy_at, first_own, first_seen}
-use Rattle.dr_program.proofs.OwnWords.{both_same, same_number, other_number}
+use Rattle.dr_program.proofs.Opening.{first_own}
 use Rattle.dr_faithful.proofs.Writes.{at_same}
 use Rattle.dr_refine.specs.Programs.{IsMember, acted_table}
 use Rattle.dr_refine.proofs.Acts.{item_shown}

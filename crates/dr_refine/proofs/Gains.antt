@@ -8,9 +8,11 @@ use Rattle.std.proofs.lemmas.List.{get_or-set_same, get_or-set_other}
 use Rattle.std.proofs.lemmas.Nat.{mul-add-lt, same_from_place}
 use Rattle.dr_entry.specs.declared.entry.Item.{Item}
 use Rattle.dr_entry.specs.declared.entry.Item.TheVariants.{Null}
+use Rattle.dr_entry.proofs.NumberFacts.{same_number, other_number}
 use Rattle.dr_history.specs.Members.{members_of}
 use Rattle.dr_history.specs.Places.{front_of}
 use Rattle.dr_rows.specs.Words.{Words, IsWords, own, with_own}
+use Rattle.dr_rows.proofs.Grids.{own_with}
 use Rattle.dr_words.specs.declared.column.TheConstants.{RECEIVED_COLUMN}
 use Rattle.dr_words.specs.Columns.{recv_column}
 use Rattle.dr_words.specs.Packing.{recv_word}
@@ -21,7 +23,6 @@ use Rattle.dr_machine.specs.Effects.{gains}
 use Rattle.dr_program.specs.Replica.{Replica, count, item, gained, greatest, members_in_view}
 use Rattle.dr_program.specs.Reading.{Shared, kept_count, kept_word, world_of}
 use Rattle.dr_program.proofs.Holdings.{Holding, held, holding_of, Changes}
-use Rattle.dr_program.proofs.OwnWords.{same_number, other_number, own_with}
 use Rattle.dr_refine.proofs.Members.{Fits, fits_own, replaced, seen_kept}
 use Rattle.dr_program.specs.Presence.{present_at, with_present}
 

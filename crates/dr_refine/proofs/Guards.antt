@@ -11,9 +11,11 @@ use Rattle.std.proofs.lemmas.List.Folds.{list_any_at}
 use Rattle.dr_entry.specs.declared.end.End.{End}
 use Rattle.dr_entry.specs.declared.end.End.TheVariants.{Done, Suspected, Excluded, NoMajority}
 use Rattle.dr_entry.specs.declared.record.Value.{Value}
+use Rattle.dr_entry.proofs.NumberFacts.{same_number, other_number}
 use Rattle.dr_history.specs.Members.{has, members_of}
 use Rattle.dr_history.specs.History.{messages_in}
 use Rattle.dr_history.specs.Order.{MayJoin, messages_from}
+use Rattle.dr_history.proofs.Tests.{all_members}
 use Rattle.dr_ring.specs.Slots.{IsFree, is_free, IsReady, slot_of, slot_column}
 use Rattle.dr_ring.proofs.Freedom.{is_free-true, IsFree-from_test}
 use Rattle.dr_ring.proofs.Readiness.{ready_test}
@@ -31,10 +33,9 @@ use Rattle.dr_program.specs.Replica.{Replica, me, is_inside, is_other, count, gr
 use Rattle.dr_program.specs.Reading.{Shared, world_of}
 use Rattle.dr_program.proofs.Holdings.{Holding, held_of}
 use Rattle.dr_program.proofs.Least.{received_small}
-use Rattle.dr_program.proofs.OwnWords.{same_number, other_number}
 use Rattle.dr_refine.specs.Programs.{IsMember}
 use Rattle.dr_refine.proofs.Members.{inside, shown_seen, own_shown}
-use Rattle.dr_words.proofs.Tests.{all_members, each_member}
+use Rattle.dr_words.proofs.Tests.{each_member}
 use Rattle.dr_refine.proofs.Views.{below_least}
 use Rattle.dr_refine.proofs.Wishes.{late_test, silent_test}
 

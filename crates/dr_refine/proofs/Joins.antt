@@ -8,6 +8,9 @@ use Rattle.std.proofs.lemmas.List.{get_or-set_other, get_or-set_same, get_or_pas
 use Rattle.dr_entry.specs.declared.entry.Entry.{Entry}
 use Rattle.dr_entry.specs.declared.entry.Item.{Item}
 use Rattle.dr_entry.specs.declared.entry.Item.TheVariants.{Null}
+use Rattle.dr_entry.proofs.ListPlaces.{copy_at}
+use Rattle.dr_entry.proofs.BoolFacts.{both_same}
+use Rattle.dr_entry.proofs.NumberFacts.{same_number, other_number}
 use Rattle.dr_history.specs.Members.{has}
 use Rattle.dr_history.specs.History.{last_view, up_to_view}
 use Rattle.dr_history.specs.Order.{messages_from}
@@ -15,6 +18,7 @@ use Rattle.dr_rows.specs.Words.{begun, own, with_own}
 use Rattle.dr_words.specs.declared.column.TheConstants.{LOGGED_COLUMN}
 use Rattle.dr_words.specs.Masks.{IsLeastOf, least_of, mask_of, with_member}
 use Rattle.dr_words.proofs.Masks.{has_mask_of, least_of_is, mask_of_small}
+use Rattle.dr_words.proofs.Layouts.{first_seen}
 use Rattle.dr_machine.specs.Writes.{at, at₂}
 use Rattle.dr_machine.specs.Group.{Group, roster}
 use Rattle.dr_machine.specs.Guards.{CanWelcome}
@@ -24,8 +28,7 @@ use Rattle.dr_program.specs.Replica.{LeftView, Replica, me, count, gave, is_insi
 use Rattle.dr_program.specs.Reading.{Shared, kept_word, letters_of, world_of}
 use Rattle.dr_program.specs.Presence.{present_at, with_present}
 use Rattle.dr_program.proofs.Holdings.{Holding, held, holding_of, held_of, Changes}
-use Rattle.dr_program.proofs.Opening.{copy_at, first_own, first_seen}
-use Rattle.dr_program.proofs.OwnWords.{both_same, same_number, other_number}
+use Rattle.dr_program.proofs.Opening.{first_own}
 use Rattle.dr_refine.specs.Programs.{IsLetterFor, IsMember}
 use Rattle.dr_refine.proofs.Guards.{IsIdle, may_choose, members_are}
 use Rattle.dr_refine.proofs.Members.{Fits, fits, replaced}

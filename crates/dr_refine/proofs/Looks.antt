@@ -3,6 +3,7 @@ use Rattle.std.proofs.Common.{◌≡◌, ◌≢◌, refl, sym, ap, ◌∙◌, �
 use Rattle.std.proofs.Math.Path.{fun_ext}
 use Rattle.std.specs.Prelude.{Option}
 use Rattle.std.proofs.lemmas.Bool.{cases_eq}
+use Rattle.dr_entry.proofs.NumberFacts.{same_number, other_number}
 use Rattle.dr_rows.specs.Words as rows
 use Rattle.dr_rows.specs.Words.{Words, IsWords, own, seen}
 use Rattle.dr_rows.proofs.Grids.{with_word-same, with_word-row, with_word-column}
@@ -14,7 +15,6 @@ use Rattle.dr_machine.specs.Effects.{looks, pushes}
 use Rattle.dr_program.specs.Replica.{Replica, is_other, looked, pushed}
 use Rattle.dr_program.specs.Reading.{Shared, world_of, word_of, in_view, kept_word}
 use Rattle.dr_program.proofs.Holdings.{Holding, held, holding_of, held_of, Changes}
-use Rattle.dr_program.proofs.OwnWords.{same_number, other_number}
 use Rattle.dr_refine.specs.Programs.{IsMember, with_table_word}
 use Rattle.dr_refine.proofs.Tables.{table_written, word_inside}
 use Rattle.dr_refine.proofs.Members.{fits, inside, replaced}

@@ -3,8 +3,10 @@ use Rattle.std.proofs.Common.{◌≡◌, refl, sym, ap, ◌∙◌, ℕ, ◌<◌,
 use Rattle.std.proofs.Math.Path.{fun_ext}
 use Rattle.std.specs.Prelude.{Some, Option}
 use Rattle.std.proofs.lemmas.Bool.{cases_eq}
+use Rattle.dr_entry.proofs.NumberFacts.{same_number, other_number}
 use Rattle.dr_rows.specs.Words.{Words, IsWords, own, seen, with_own}
 use Rattle.dr_rows.proofs.WordsLemmas.{IsWords-looked}
+use Rattle.dr_rows.proofs.Grids.{own_with, seen_with}
 use Rattle.dr_words.specs.declared.column.TheConstants.{BEAT_COLUMN}
 use Rattle.dr_machine.specs.Writes.{at₂, at₄}
 use Rattle.dr_machine.specs.Group.{Group, banks, roster, columns}
@@ -14,7 +16,6 @@ use Rattle.dr_machine.specs.Effects.{one_more, stamped}
 use Rattle.dr_program.specs.Replica.{Replica, me, acted}
 use Rattle.dr_program.specs.Reading.{Shared, letters_of, world_of, word_of, in_view, kept_word}
 use Rattle.dr_program.proofs.Holdings.{Holding, held, holding_of, held_of, Changes, changed_world}
-use Rattle.dr_program.proofs.OwnWords.{same_number, other_number, own_with, seen_with}
 use Rattle.dr_refine.specs.Programs.{IsMember, IsTable, acted_table}
 use Rattle.dr_refine.proofs.Tables.{table_written}
 use Rattle.dr_program.specs.Presence.{present_at, with_present}

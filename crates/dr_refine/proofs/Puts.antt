@@ -14,7 +14,8 @@ use Rattle.dr_entry.specs.declared.entry.Item.TheVariants.{Null, Text}
 use Rattle.dr_entry.specs.declared.end.SentItem.{SentItem}
 use Rattle.dr_entry.specs.declared.end.SentItem.TheVariants as sent_items
 use Rattle.dr_entry.specs.declared.end.SentItem.TheVariants.{Index}
-use Rattle.dr_history.proofs.Fronts.{count_max}
+use Rattle.dr_entry.proofs.ListPlaces.{count_max}
+use Rattle.dr_entry.proofs.NumberFacts.{same_number, other_number}
 use Rattle.dr_ring.specs.Pieces.{pieces, body_piece}
 use Rattle.dr_ring.specs.Slots.{slot_column, written, with_pieces, with_item, item_in, is_free}
 use Rattle.dr_ring.proofs.Writes.{HasSlot, HasSlot-from, own_set, own_left, other_rows}
@@ -31,7 +32,6 @@ use Rattle.dr_machine.specs.Effects.{stamped, gains, puts, sends, nulls, receive
 use Rattle.dr_program.specs.Replica.{Replica, me, count, item, gained, received, put, sent, nulled, greatest, next_index, ready_item, is_other, is_behind, is_wedged, may_send, may_null, may_receive, acted}
 use Rattle.dr_program.specs.Reading.{Shared, kept_word, left_in, world_of}
 use Rattle.dr_program.proofs.Holdings.{Holding, held, holding_of, Changes}
-use Rattle.dr_program.proofs.OwnWords.{same_number, other_number}
 use Rattle.dr_refine.specs.Programs.{IsMember, acted_table}
 use Rattle.dr_refine.proofs.Members.{Fits, fits, replaced, then_acted}
 use Rattle.dr_refine.proofs.Gains.{MayGain, fits_gained, gained_world, row_written, own_here, count_here}

@@ -15,7 +15,6 @@ use Rattle.dr_machine.specs.Effects.{stamped, suspects}
 use Rattle.dr_program.specs.Replica.{Replica, acted, is_inside, may_suspect, suspected}
 use Rattle.dr_program.specs.Reading.{Shared, kept_word, world_of}
 use Rattle.dr_program.proofs.Holdings.{Holding, held, holding_of, Changes}
-use Rattle.dr_program.proofs.OwnWords.{same_number, other_number}
 use Rattle.dr_program.proofs.Suspecting.{suspecting}
 use Rattle.dr_refine.specs.Programs.{IsMember, acted_table}
 use Rattle.dr_refine.proofs.Members.{Fits, fits, replaced, then_acted}
@@ -23,6 +22,7 @@ use Rattle.dr_refine.proofs.Gains.{row_written, own_here}
 use Rattle.dr_program.specs.Presence.{with_present}
 use Rattle.dr_program.proofs.Present.{present_within}
 use Rattle.std.specs.Prelude.{Option}
+use Rattle.dr_entry.proofs.NumberFacts.{same_number, other_number}
 
 -- what a member has once it suspects j too, where these were its own words in its view
 abbrev suspect_from : Group → ℕ → Holding → (ℕ → ℕ) → Holding

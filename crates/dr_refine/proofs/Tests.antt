@@ -41,6 +41,7 @@ use Rattle.dr_refine.proofs.Looks.{look_effect, push_effect}
 use Rattle.dr_refine.proofs.Suspects.{suspect_effect}
 use Rattle.dr_refine.proofs.Puts.{null_effect, send_effect, receive_effect}
 use Rattle.dr_program.specs.Presence.{with_present}
+use Rattle.dr_refine.proofs.Tables.{word_inside}
 
 -- a running member has no end
 pub alive : (g : Group) (rs : List (Option Replica)) (table : Shared) (m : ℕ) (r : Replica)
@@ -388,3 +389,14 @@ pub letters_then : (letters : List (Option (List Entry))) (r : Replica) (s : Ste
     → ((j : ℕ) × (s ≡ steps.Welcome j)) ⊎ ((given_to s ≡ None) × (stored_letters letters r s ≡ letters))
 letters_then letters r (steps.Welcome j) = inl (j, refl)
 letters_then letters r s = inr (refl, refl)
+
+-- the word that a look finds is the one in the world
+pub word_is : (g : Group) (rs : List (Option Replica)) (table : Shared) (m : ℕ) (r : Replica) (i c : ℕ)
+    → IsMember g rs table m r → m < roster g → i < roster g → c < columns g
+    → (world_of g rs table).table ((world_of g rs table).past.view m) m i c ≡ found table.words r i c
+word_is g rs table m r i c is member row column =
+    let w : World = world_of g rs table in
+    let view : w.past.view m ≡ r.view = ap (λ x. x.view) (held_of g rs table m r is.there) in
+    ap (λ v. w.table v m i c) view
+    ∙ word_inside g table.words r.view m i c (omega (arith, is.form.bank, is.of.banks)) member row column
+    ∙ sym (found_is g rs table m r i c is)

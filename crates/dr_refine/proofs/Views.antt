@@ -4,8 +4,8 @@ use Rattle.std.specs.List.{list_all}
 use Rattle.std.proofs.lemmas.Bool.{and_parts}
 use Rattle.std.proofs.lemmas.Bool.Decides.{nat_tests}
 use Rattle.dr_history.specs.Members.{members_of}
+use Rattle.dr_history.proofs.Tests.{all_members}
 use Rattle.dr_words.specs.Masks.{IsInRoster}
-use Rattle.dr_words.proofs.Tests.{all_members}
 
 -- a number is below the least exactly where it is below all
 pub below_least : (x top : ℕ) (f : ℕ → ℕ) (xs : List ℕ) → nat_lt x (fold min top (map f xs))

@@ -6,6 +6,7 @@ use Rattle.std.proofs.lemmas.Bool.{and_from, and_parts, cases_eq, eq-eqb, eqb-tr
 use Rattle.std.proofs.lemmas.List.{length-take-le}
 use Rattle.dr_entry.specs.declared.record.Value.{Value}
 use Rattle.dr_entry.specs.declared.record.Vote.{Vote}
+use Rattle.dr_entry.proofs.NumberFacts.{same_number, other_number}
 use Rattle.dr_history.specs.Members.{has}
 use Rattle.dr_rows.specs.Words.{own, seen}
 use Rattle.dr_rows.proofs.Rewrites.{IsWords-rewritten, own_rewritten_all, seen_rewritten}
@@ -28,7 +29,6 @@ use Rattle.dr_program.specs.Replica.{Replica, accepted, acted, decided, is_insid
 use Rattle.dr_program.specs.Replica as replicas
 use Rattle.dr_program.specs.Reading.{Shared, kept_word, world_of}
 use Rattle.dr_program.proofs.Holdings.{Changes, Holding, held, held_of, holding_of}
-use Rattle.dr_program.proofs.OwnWords.{same_number, other_number}
 use Rattle.dr_program.proofs.Voting.{value_long, value_test}
 use Rattle.dr_refine.specs.Programs.{IsMember, acted_table}
 use Rattle.dr_refine.proofs.Gains.{own_here, row_written}

@@ -1,12 +1,8 @@
 -- What the tests and values of a change of the view tell of a replica, by where it stands.
-use Rattle.std.proofs.Common.{◌≡◌, refl, sym, ap, subst, ◌∙◌, ℕ, ◌==◌, ◌||◌, ◌&&◌, not, Bool, true, false, Option, None, Some, is_some, length}
-use Rattle.std.specs.Prelude.{MatchOption, nat_eq, ◌↔◌}
-use Rattle.std.proofs.lemmas.Bool.{and_from, and_parts, eq-eqb, eqb-true}
-use Rattle.std.specs.Cmp.Lexicographic.{other_text, same_text}
-use lib.Pointwise.{pointwise}
+use Rattle.std.proofs.Common.{◌≡◌, refl, sym, subst, ◌∙◌, ℕ, Bool, true, false, Option, None, Some, is_some, length}
+use Rattle.std.specs.Prelude.{MatchOption, ◌↔◌}
 use Rattle.dr_entry.specs.declared.record.Value.{Value}
-use Rattle.dr_entry.specs.declared.record.Vote.{Vote}
-use Rattle.dr_form.proofs.Accepting.{others_wait, own_waits}
+use Rattle.dr_entry.proofs.BoolFacts.{untrue}
 use Rattle.dr_lead.specs.Accepts as lead_accepts
 use Rattle.dr_lead.specs.Changes as lead
 use Rattle.dr_lead.specs.Standings.{IsStanding}
@@ -18,10 +14,9 @@ use Rattle.dr_words.specs.Accepts.{Shows, promise_of, trim_word}
 use Rattle.dr_words.specs.Changes.{IsProposal, MayAccept, MayPropose}
 use Rattle.dr_words.specs.Packing.{accept_value}
 use Rattle.dr_words.specs.Choices.{proposal, shown_value}
-use Rattle.dr_program.proofs.Voting.{self_left, value_long, value_test, view_small, votes_for}
+use Rattle.dr_program.proofs.Voting.{self_left, view_small}
 use Rattle.dr_program.specs.Form.{HasForm}
-use Rattle.dr_replica.proofs.Received.{same_truth}
-use Rattle.dr_program.specs.Replica.{Replica, is_inside, is_others, is_own, is_value, is_wedged, may_accept, may_append, may_propose, may_vote, me, value_due}
+use Rattle.dr_program.specs.Replica.{Replica, is_inside, may_accept, may_propose, me, value_due}
 
 -- it stands as the replica says, its history logged
 pub record StandsAs (r : Replica) (s : Standing) : Type 0 where
@@ -53,11 +48,6 @@ to_standing r s P f is p =
     (subst (λ (k : ℕ). P r.roster k s.suspects s.me) (sym is.members)
     (subst (λ (k : ℕ). P r.roster r.members k s.me) (sym is.suspects)
     (subst (λ (k : ℕ). P r.roster r.members r.suspects k) (sym is.form.me) p)))
-
--- a test that isn't passed
-untrue : (b : Bool) → (b ≡ true → ⊥) → b ≡ false
-untrue true never = absurd (never refl)
-untrue false never = refl
 
 -- the relations at the replica's rows
 abbrev ToPropose : Replica → ℕ → ℕ → ℕ → ℕ → Type 0
@@ -147,59 +137,4 @@ accepts r s v f is none shows long =
 
 -- ---- votes
 
--- a value that is compared with the one that is due
-pub value_compared : (r : Replica) (u : Value) (b : Bool)
-    → b ≡ ((u.leavers == (value_due r).leavers) && pointwise nat_eq u.trim (value_due r).trim)
-    → b ≡ is_value u (value_due r)
-value_compared r u b told = same_truth b (is_value u due) to from
-  where
-    due : Value
-    due = value_due r
-
-    to : b ≡ true → is_value u due ≡ true
-    to e =
-        let two = and_parts (u.leavers == due.leavers) _ (sym told ∙ e) in
-        let leavers : u.leavers ≡ due.leavers = eqb-true u.leavers due.leavers two.0 in
-        let trim : u.trim ≡ due.trim = same_text u.trim due.trim (sym two.1) in
-        (value_test u due (value_long r)).1 (λ z. record { leavers = leavers z; trim = trim z })
-
-    trims : (t : Bool) → pointwise nat_eq u.trim due.trim ≡ t → u.trim ≡ due.trim
-        → pointwise nat_eq u.trim due.trim ≡ true
-    trims true e same = e
-    trims false e same = absurd (other_text u.trim due.trim (sym e) same)
-
-    from : is_value u due ≡ true → b ≡ true
-    from e =
-        let same : u ≡ due = (value_test u due (value_long r)).0 e in
-        told ∙ and_from _ _ (eq-eqb u.leavers due.leavers (ap (λ (v : Value). v.leavers) same))
-        (trims (pointwise nat_eq u.trim due.trim) refl (ap (λ (v : Value). v.trim) same))
-
--- where a vote is due, it may vote for the value that is due alone
-all_true : (a b c d x : Bool) → a ≡ true → b ≡ true → c ≡ true → d ≡ true
-    → (a && (b && (c && (d && x)))) ≡ x
-all_true a b c d x p q r s = rw (p, q, r, s) refl
-
-pub vote_told : (r : Replica) (v : Value) → may_vote r (value_due r) ≡ true
-    → may_vote r v ≡ is_value v (value_due r)
-vote_told r v e =
-    let a = and_parts (is_wedged r) _ e in
-    let b = and_parts (not (is_some r.committed)) _ a.1 in
-    let c = and_parts (not (may_append r)) _ b.1 in
-    let d = and_parts (may_propose r || may_accept r) (is_value (value_due r) (value_due r)) c.1 in
-    all_true (is_wedged r) (not (is_some r.committed)) (not (may_append r)) (may_propose r || may_accept r)
-    (is_value v (value_due r)) a.0 b.0 c.0 d.0
-
-pub no_vote_told : (r : Replica) (v : Value) → may_vote r (value_due r) ≡ false → may_vote r v ≡ false
-no_vote_told r v none = untrue (may_vote r v) (λ e.
-    let due : may_vote r (value_due r) ≡ true =
-    subst (λ (x : Value). may_vote r x ≡ true) (votes_for r v e) e in
-    absurd (cc (none, due)))
-
 -- ---- the vote that waits
-
--- where one's own vote waits, or another's, one does
-pub own_is_there : (me : ℕ) (o : Option Vote) → is_own me o ≡ true → is_some o ≡ true
-own_is_there me o e = let x = own_waits me o e in ap is_some x.1
-
-pub others_is_there : (me : ℕ) (o : Option Vote) → is_others me o ≡ true → is_some o ≡ true
-others_is_there me o e = let x = others_wait me o e in ap is_some x.1

@@ -12,11 +12,12 @@ use Rattle.dr_program.specs.Replica.{Replica, with_place}
 use Rattle.dr_replica.specs.Inside.{IsInsideReplica}
 use Rattle.dr_replica.specs.Inside.{replica_inside as replica_of}
 use Rattle.dr_replica.specs.declared.replica.Replica.TheInside.{Inside}
-use Rattle.dr_replica.proofs.Histories.{few_messages}
 use Rattle.dr_entry.specs.declared.entry.Entry.{Entry}
+use Rattle.dr_entry.proofs.NumberFacts.{fits_by_own}
 use Rattle.dr_history.specs.Members.{members_of}
 use Rattle.dr_history.specs.Order.{messages_from}
 use Rattle.dr_history.specs.Places.{rest_places}
+use Rattle.dr_history.proofs.Orders.{few_messages}
 use Rattle.dr_machine.specs.Effects.{entries_of}
 use Rattle.dr_order.specs.Merge.{IsNextHeld}
 use Rattle.dr_order.proofs.Merges.{rest_places-next, rest_places-none}
@@ -49,11 +50,6 @@ items_lengthen h es (p ∷ ps) =
 pub merged_longer : (h : Held) (es : List Entry) (trims : List ℕ) (from : ℕ)
     → length es ≤ length (merged_from h es trims from)
 merged_longer h es trims from = items_lengthen h es (rest_places trims from)
-
--- each place that is taken leaves fewer
-pub fewer_left : (trims : List ℕ) (from p : ℕ) → 0 < length trims → IsNextHeld trims from (Some p)
-    → length (rest_places trims (p + 1)) < length (rest_places trims from)
-fewer_left trims from p some next = omega (arith, ap length (rest_places-next trims from p some next))
 
 -- a history is told by its parts
 pub history_is : (h g : Kept) (es : List Entry) → h.roster ≡ g.roster → h.entries ≡ es → h.room ≡ g.room
@@ -189,10 +185,6 @@ pub fits_is : (a : Inside) (now : Replica) (trim : List ℕ) → replica_of a �
     (length a.messages.items + 1)) ≡ fits now (merged now trim)
 fits_is a now trim same inside = ap (λ (es : List Entry). fits (replica_of a) es) (merged_same a trim inside)
     ∙ ap (λ (r : Replica). fits r (merged r trim)) same
-
--- where there is room for the entries, it turns on the messages
-fits_by_own : (a b m n : ℕ) → a < m → nat_le b n ≡ (nat_lt a m && nat_lt b (n + 1))
-fits_by_own a b m n l = grind (arith, l)
 
 pub fits_told : (a : Inside) (now : Replica) (trim : List ℕ) (entries own k me : ℕ) → replica_of a ≡ now
     → IsInsideReplica a → me ≡ a.rows.me → k ≡ length a.messages.items → entries < a.history.room

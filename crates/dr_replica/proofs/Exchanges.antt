@@ -1,20 +1,18 @@
 -- The fields after an item was taken or put.
-use Rattle.std.proofs.Common.{◌≡◌, ℕ, ◌+◌, ◌*◌, ◌<◌, ◌≤◌, true, false, not, is_some, List, [], ◌∷◌, ◌++◌, length, map, get_or, set, slice_index, slice_index_or, Option, Some, unwrap_or, sym, ap, subst, ◌∙◌, arith, le_trans}
+use Rattle.std.proofs.Common.{◌≡◌, ℕ, ◌+◌, ◌*◌, ◌<◌, ◌≤◌, false, List, [], ◌∷◌, ◌++◌, length, map, get_or, set, slice_index, slice_index_or, Option, Some, unwrap_or, sym, ap, subst, ◌∙◌, arith, le_trans}
 use Rattle.std.specs.Prelude.{vec_capacity}
-use Rattle.std.proofs.lemmas.Bool.{and_parts}
 use Rattle.std.proofs.lemmas.List.{get_or-set_same, get_or_read}
 use Rattle.dr_entry.specs.declared.entry.Item.{Item}
 use Rattle.dr_entry.specs.declared.entry.Item.TheVariants.{Null, Text}
 use Rattle.dr_entry.specs.declared.end.SentItem.{SentItem}
 use Rattle.dr_history.specs.Members.{members_of}
 use Rattle.dr_history.specs.Places.{front_of}
-use Rattle.dr_ring.specs.Slots.{IsReady, item_in, slot_of, with_item}
-use Rattle.dr_ring.proofs.Readiness.{ready_test}
+use Rattle.dr_ring.specs.Slots.{item_in, slot_of, with_item}
 use Rattle.dr_rows.specs.Words.{Words, own}
 use Rattle.dr_words.specs.declared.column.TheConstants.{RECEIVED_COLUMN}
 use Rattle.dr_words.specs.Columns.{recv_column}
 use Rattle.dr_words.specs.Packing.{recv_word}
-use Rattle.dr_program.specs.Replica.{Replica, me, count, greatest, least_seen, next_index, ready_item, gained, is_other, is_wedged, may_receive, put, received}
+use Rattle.dr_program.specs.Replica.{Replica, me, count, greatest, least_seen, next_index, ready_item, gained, put, received}
 use Rattle.dr_program.specs.Form.{HasForm}
 use Rattle.dr_replica.specs.Items.{Held, front, taken}
 use Rattle.dr_replica.specs.Inside.{IsInsideReplica, replica_inside}
@@ -71,14 +69,6 @@ gained_after a rows w t s item puts inside within took after =
     }) inside.roster
 
 -- ---- what was taken
-
--- the words that the next item of a sender needs are there, where it may be taken
-pub item_waits : (r : Replica) (s : ℕ) → may_receive r s ≡ true
-    → IsReady (count r s) (slot_of r.window r.rows s (count r s))
-item_waits r s may =
-    let other = and_parts (is_other r s) _ (and_parts (not (is_wedged r)) _ may).1 in
-    (ready_test (count r s) (slot_of r.window r.rows s (count r s))).0
-    (and_parts (is_some (ready_item r s)) _ other.1).0
 
 -- these fields are those of the replica that has received the sender's next item
 pub received_after : (a : Inside) (w : Words) (t : Held) (s k : ℕ) (item : Item)

@@ -1,6 +1,5 @@
 -- The fields keep their invariant.
-use Rattle.std.proofs.Common.{◌≡◌, ◌≢◌, ℕ, ◌+◌, ◌*◌, ◌/◌, ◌%◌, ◌^◌, ◌<◌, ◌≤◌, Bool, true, not, nat_lt, map, slice_index, slice_index_or, List, ◌++◌, [], ◌∷◌, length, Option, None, unwrap_or, refl, sym, ap, subst, ◌∙◌, arith, le_trans}
-use Rattle.std.proofs.lemmas.Bool.{and_parts, ltb-true}
+use Rattle.std.proofs.Common.{◌≡◌, ◌≢◌, ℕ, ◌+◌, ◌*◌, ◌/◌, ◌%◌, ◌^◌, ◌<◌, ◌≤◌, true, map, slice_index, slice_index_or, List, ◌++◌, [], ◌∷◌, length, Option, None, unwrap_or, refl, sym, ap, subst, ◌∙◌, arith, le_trans}
 use Rattle.dr_entry.specs.declared.end.End.{End}
 use Rattle.dr_entry.specs.declared.entry.Item.{Item}
 use Rattle.dr_entry.specs.declared.entry.Item.TheVariants.{Null}
@@ -8,29 +7,28 @@ use Rattle.dr_history.specs.Places.{front_of}
 use Rattle.dr_rows.specs.Words.{Words, rewritten}
 use Rattle.dr_words.specs.Rewrites.{accepted_word, wedged_word}
 use Rattle.dr_words.specs.declared.column.TheConstants.{RECEIVED_COLUMN}
-use Rattle.dr_words.specs.Grown.{Grown}
 use Rattle.dr_machine.specs.Effects.{entries_of}
 use Rattle.dr_program.specs.Replica as replica
 use Rattle.dr_program.specs.Replica.{Replica, delivered, least_seen, may_deliver, may_suspect, suspected, suspicion_of, accepted, vote_of, voted}
 use Rattle.dr_program.specs.Form.{HasForm}
-use Rattle.std.proofs.lemmas.Option.{get_or_from_slice_get}
-use Rattle.std.specs.Prelude.{IsSome, MatchOption, Some, false, slice_get, vec_capacity}
+use Rattle.std.specs.Prelude.{Some, slice_get, vec_capacity}
 use Rattle.dr_entry.specs.declared.record.Value.{Value}
 use Rattle.dr_entry.specs.declared.record.Vote.{Vote}
 use Rattle.dr_machine.specs.World.{no_vote}
-use Rattle.dr_form.proofs.Accepting.{accepted_form, decided_form}
-use Rattle.dr_history.specs.Members.{has, members_of}
+use Rattle.dr_form.proofs.Accepting.{accepted_form, decided_form, accepted_received}
+use Rattle.dr_history.specs.Members.{members_of}
 use Rattle.dr_rows.specs.Words.{with_frozen, with_own}
 use Rattle.dr_words.specs.Masks as masks
 use Rattle.dr_words.specs.Masks.{with_member, without}
+use Rattle.dr_words.proofs.Masks.{least_read}
 use Rattle.dr_suspect.specs.Suspicion.{Suspicion}
-use Rattle.dr_replica.proofs.Received.{accepted_received, other_received, suspected_received}
-use Rattle.dr_form.proofs.Wedging.{suspected_form}
+use Rattle.dr_program.proofs.Least.{other_received, next_held}
+use Rattle.dr_program.proofs.Replicas.{may_of}
+use Rattle.dr_form.proofs.Wedging.{suspected_form, suspected_received}
 use Rattle.dr_replica.specs.Items as items
 use Rattle.dr_replica.specs.Items.{Held}
 use Rattle.dr_replica.specs.History as histories
 use Rattle.dr_replica.specs.History.{Kept}
-use Rattle.dr_program.proofs.Least.{least_fits, least_of}
 use Rattle.dr_replica.specs.Inside.{IsInsideReplica, replica_inside}
 use Rattle.dr_replica.specs.Spots.{IsSpot}
 use Rattle.dr_replica.specs.declared.spot.Spot.{Spot}
@@ -102,23 +100,6 @@ word_kept a rows column word acts inside after other form =
     ≤ least_seen (record (replica_inside a) { rows = w }) RECEIVED_COLUMN) (sym after)
     (other_received (replica_inside a) column word other))
 
--- what holds of the value that the fields mean
-pub form_to : (new q : Replica) → new ≡ q → HasForm q → HasForm new
-form_to new q to form = subst HasForm (sym to) form
-
--- words that grew in the views have grown in the replicas
-pub grown_to : (old new v q : Replica) → v ≡ old → new ≡ q
-    → Grown v.roster v.rows.words q.rows.words v.rows.frozen q.rows.frozen
-    → Grown old.roster old.rows.words new.rows.words old.rows.frozen new.rows.frozen
-grown_to old new v q from to grown =
-    subst (λ (o : Replica). Grown o.roster o.rows.words new.rows.words o.rows.frozen new.rows.frozen) from
-    (subst (λ (n : Replica). Grown v.roster v.rows.words n.rows.words v.rows.frozen n.rows.frozen)
-    (sym to) grown)
-
--- what the replica may do, its view may do
-pub may_of : (f : Replica → Bool) (v now : Replica) → v ≡ now → f now ≡ true → f v ≡ true
-may_of f v now same may = ap f same ∙ may
-
 -- a value that is committed leaves the fields in good order
 pub decided_kept : (a : Inside) → IsInsideReplica a → IsInsideReplica (record a { committed = Some a.value })
 decided_kept a inside = record {
@@ -144,20 +125,6 @@ decided_kept a inside = record {
 -- the next place to deliver is a spot of the view's members
 pub next_is_spot : (a : Inside) → IsInsideReplica a → IsSpot (length a.items.members) a.next
 next_is_spot a inside = subst (λ (ms : List ℕ). IsSpot (length ms) a.next) (sym inside.members) inside.next
-
--- a place that may be delivered is before the own front
-next_held : (r : Replica) → HasForm r → replica.is_inside r ≡ true → may_deliver r ≡ true
-    → (r.next < front_of (map (slice_index r.counts) (replica.members_in_view r))) × (r.next + 1 < 2 ^ 64)
-next_held r f inside may =
-    let seen_by_all : r.next < least_seen r RECEIVED_COLUMN =
-    ltb-true r.next (least_seen r RECEIVED_COLUMN)
-    (and_parts (nat_lt r.next (least_seen r RECEIVED_COLUMN)) (nat_lt (length r.history) r.room)
-    (and_parts (not (replica.is_wedged r)) _ may).1).0 in
-    let mine = least_of r RECEIVED_COLUMN (replica.me r) (omega (arith, f.rows.present, f.rows.few)) inside
-    in (
-      omega (arith, seen_by_all, mine, f.received),
-      omega (arith, seen_by_all, least_fits r RECEIVED_COLUMN),
-    )
 
 -- a member that may deliver has its next place below the front, and can count one more
 pub next_before : (a : Inside) (now : Replica) → replica_inside a ≡ now → IsInsideReplica a → may_deliver now
@@ -198,17 +165,6 @@ delivered_after a n h s item inside sender what after next =
     }) which
 
 -- ---- suspicion
-
--- a mask with a member has a least one
-pub somebody : (o : Option ℕ) (mask i : ℕ) → MatchOption o ((k : ℕ) → has mask k ≡ false) (masks.IsLeastOf mask)
-    → has mask i ≡ true → IsSome o
-somebody None mask i least there = absurd (cc (least i, there))
-somebody (Some m) mask i least there = refl
-
--- the least member of a mask, as it is read
-pub least_read : (mask p : ℕ) → slice_get (members_of mask) 0 ≡ Some p → p ≡ masks.least_of mask
-unfolding masks.least_of
-least_read mask p there = sym (get_or_from_slice_get (members_of mask) 0 p 0 there)
 
 -- whom it then promises to accept from
 pub voter_read : (a : Inside) (s : Suspicion) (m p rest : ℕ) → IsInsideReplica a

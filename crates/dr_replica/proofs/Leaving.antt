@@ -1,5 +1,5 @@
 -- How a member goes on in a later view, and what one that may end its view has room for.
-use Rattle.std.proofs.Common.{◌≡◌, ℕ, ◌+◌, ◌<◌, ◌≤◌, Bool, true, false, not, nat_lt, List, [], ◌∷◌, ◌++◌, length, map, Option, None, Some, refl, sym, ap, subst, ◌∙◌, arith, length-append}
+use Rattle.std.proofs.Common.{◌≡◌, ℕ, ◌+◌, ◌<◌, ◌≤◌, true, not, nat_lt, List, [], ◌∷◌, ◌++◌, length, map, Option, None, Some, refl, sym, ap, subst, ◌∙◌, arith, length-append}
 use Rattle.std.specs.Prelude.{All, option_to_list, unwrap_or, vec_capacity}
 use Rattle.std.proofs.lemmas.List.Elements.{All-pop}
 use Rattle.std.proofs.lemmas.Bool.{and_parts, ltb-true}
@@ -15,20 +15,20 @@ use Rattle.dr_rows.specs.Words.{Words, begun, with_own}
 use Rattle.dr_suspect.specs.Suspicion.{Suspicion, trusting}
 use Rattle.dr_words.specs.declared.column.TheConstants.{LOGGED_COLUMN}
 use Rattle.dr_trim.specs.Trims.{trims_by_rank}
-use Rattle.dr_words.specs.Masks.{IsInRoster, next_members}
+use Rattle.dr_words.specs.Masks.{next_members}
 use Rattle.dr_replica.specs.History.{Kept}
 use Rattle.dr_replica.specs.Items.{Held, none_held}
 use Rattle.dr_replica.specs.Inside.{IsInsideReplica, replica_inside}
 use Rattle.dr_replica.specs.Lefts.{HasRoom, IsSpare, left_of}
 use Rattle.dr_replica.specs.declared.left.Left.{Left}
 use Rattle.dr_words.specs.Columns.{columns_of}
+use Rattle.dr_program.proofs.Replicas.{entered_some}
 use Rattle.dr_replica.specs.Spots.{first_spot}
 use Rattle.dr_replica.specs.declared.spot.Spot.{Spot}
 use Rattle.dr_replica.specs.Rests.{has_taken, merged, merged_from}
 use Rattle.dr_replica.specs.declared.replica.Replica.TheInside.{Inside}
 use Rattle.dr_replica.proofs.Delivering.{merged_same}
 use Rattle.dr_form.proofs.Finishing.{finished_form}
-use Rattle.dr_words.proofs.Ranks.{some_member}
 use Rattle.dr_replica.proofs.Openings.{AreReserved}
 use Rattle.dr_replica.proofs.Spots.{first_is_spot}
 
@@ -115,19 +115,6 @@ entered_view a b view members entries kept inside l =
     let end = l.end in let age = l.age in let tag = l.tag in let value = l.value in
     let committed = l.committed in let pending = l.pending in let votes = l.votes in
     cc
-
--- in a later view that a replica goes on in with its form there is somebody, each of the roster, and itself
-pub entered_some : (r : Replica) (view members : ℕ) (entries : List Entry) (kept : List LeftView) → 0 < view
-    → HasForm (entered r view members entries kept)
-    → (0 < length (members_of members)) × IsInRoster r.roster members
-entered_some r view members entries kept later f = (
-  some_member members (me r) (omega (arith, f.rows.present, f.rows.few)) (by (has members (me r)) refl),
-  f.roster,
-)
-  where
-    by : (b : Bool) → has members (me r) ≡ b → has members (me r) ≡ true
-    by true e = e
-    by false e = absurd (omega (arith, later, (f.outside e).first))
 
 -- the fields keep their invariant, where the replica keeps its form
 pub entered_inside : (a b : Inside) (view members : ℕ) (entries : List Entry) (kept : List LeftView)

@@ -1,44 +1,14 @@
 -- What is emptied as a view is left, and how its end tells of all views.
-use Rattle.std.proofs.Common.{◌≡◌, ℕ, zero, suc, ◌+◌, ◌<◌, List, [], ◌∷◌, ◌++◌, length, length-append, append-nil, map, replicate, get_or, refl, sym, ap, ◌∙◌, arith}
-use Rattle.std.specs.Prelude.{unwrap_or}
+use Rattle.std.proofs.Common.{◌≡◌, ℕ, ◌+◌, ◌<◌, List, [], ◌∷◌, ◌++◌, length, length-append, append-nil, map, sym, ap, ◌∙◌, arith}
 use Rattle.std.proofs.lemmas.List.{length-map, map-append}
 use Rattle.dr_replica.specs.Lefts.{left_of}
 use Rattle.dr_replica.specs.declared.left.Left.{Left}
-use Rattle.dr_entry.specs.declared.end.End.{End}
-use Rattle.dr_entry.specs.declared.end.End.TheVariants.{Done}
-use Rattle.dr_entry.specs.declared.entry.Entry.{Entry}
-use Rattle.dr_entry.specs.declared.entry.Item.{Item}
-use Rattle.dr_entry.specs.declared.entry.Item.TheVariants.{Null}
 use Rattle.dr_entry.specs.declared.end.SentItem.{SentItem}
 use Rattle.dr_entry.specs.declared.end.ViewSent.{ViewSent}
-use Rattle.dr_program.specs.Program.{member_end, sent_before}
+use Rattle.dr_program.specs.Program.{sent_before}
 use Rattle.dr_program.specs.Form.{HasForm}
-use Rattle.dr_program.specs.Replica.{LeftView, Replica}
-
--- items that are each a null are as many nulls
-pub all_null : (items : List Item) (n : ℕ) → length items ≡ n
-    → ((k : ℕ) → k < n → get_or items k Null ≡ Null) → items ≡ replicate n Null
-all_null [] zero e all = refl
-all_null [] (suc n) e all = absurd (omega (arith, e))
-all_null (x ∷ items) zero e all = absurd (omega (arith, e))
-all_null (x ∷ items) (suc n) e all =
-    let first : x ≡ Null = all 0 (omega arith) in
-    let rest = all_null items n (omega (arith, e)) (λ k l. all (suc k) (omega (arith, l))) in
-    cc (first, rest)
-
--- there is a list of what was put for each view that was left, and for one view more there is one more
-pub sent_before_long : (v : ℕ) (ls : List LeftView) → length (sent_before v ls) ≡ length ls
-sent_before_long v [] = refl
-sent_before_long v (l ∷ ls) = omega (arith, sent_before_long (v + 1) ls)
-
-pub sent_before_more : (v : ℕ) (ls : List LeftView) (l : LeftView)
-    → sent_before v (ls ++ l ∷ []) ≡ sent_before v ls
-    ++ record { number = v + length ls; items = l.sent } ∷ []
-sent_before_more v [] l = ap (λ (n : ℕ). record { number = n; items = l.sent } ∷ []) (omega arith)
-sent_before_more v (k ∷ ls) l =
-    ap (λ (x : List ViewSent). record { number = v; items = k.sent } ∷ x) (sent_before_more (v + 1) ls l)
-    ∙ ap (λ (n : ℕ). record { number = v; items = k.sent }
-    ∷ (sent_before (v + 1) ls ++ record { number = n; items = l.sent } ∷ [])) (omega arith)
+use Rattle.dr_program.specs.Replica.{Replica}
+use Rattle.dr_program.proofs.Programs.{sent_before_long, sent_before_more}
 
 -- a member's lists are put together view by view, each with its number
 pub put_before : (sent : List ViewSent) (given : List Left) (l : Left) (n : ℕ) (items : List SentItem)
@@ -83,17 +53,3 @@ put_all sent given [] r told all none form =
     ∙ ap (λ (ls : List Left). sent_before 0 (map left_of ls)) (sym (append-nil given))
     ∙ ap (sent_before 0) all in
     (same, (omega (arith, ap length same, sent_before_long 0 r.left, form.left), form.bank))
-
--- a member's end is told by its parts
-pub end_told : (r : Replica) (end : End) (sent : List ViewSent) (history : List Entry)
-    → end ≡ unwrap_or r.end Done → sent ≡ sent_before 0 r.left
-    ++ record { number = r.view; items = r.sent } ∷ []
-    → history ≡ r.history → record {
-      end = end;
-      turns = r.turns;
-      sent = sent;
-      history = history;
-      logged = r.logged;
-      durable = r.durable;
-    } ≡ member_end r
-end_told r end sent history how what which = cc

@@ -10,5 +10,4 @@ pub mod Openings
 pub mod Choosing
 pub mod Lefts
 pub mod Leaving
-pub mod Along
 mod Joining

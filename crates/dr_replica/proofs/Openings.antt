@@ -1,5 +1,5 @@
 -- The fields of a replica as its age opens.
-use Rattle.std.proofs.Common.{◌≡◌, ℕ, zero, suc, ◌+◌, ◌*◌, ◌^◌, ◌<◌, ◌≤◌, Bool, true, false, [], List, length, None, refl, sym, ap, subst, ◌∙◌, arith}
+use Rattle.std.proofs.Common.{◌≡◌, ℕ, ◌+◌, ◌*◌, ◌≤◌, [], List, length, None, refl, sym, ap, subst, ◌∙◌, arith}
 use Rattle.std.specs.Prelude.{All, if◌then◌else◌, map, vec_capacity}
 use Rattle.dr_replica.specs.Lefts.{IsSpare, left_of}
 use Rattle.dr_entry.specs.declared.entry.Entry.{Entry}
@@ -14,7 +14,7 @@ use Rattle.dr_machine.specs.World.{no_value}
 use Rattle.dr_program.specs.declared.setup.Setup.{Setup}
 use Rattle.dr_program.specs.Replica.{begun_replica, first_entries_of, greatest}
 use Rattle.dr_program.specs.Form.{CanBegin, HasForm}
-use Rattle.dr_program.proofs.OpeningForm.{begun_in_form, greatest_within, product_within}
+use Rattle.dr_program.proofs.OpeningForm.{begun_in_form, someone}
 use Rattle.dr_replica.specs.Items.{Held, none_held}
 use Rattle.dr_replica.specs.History.{Kept}
 use Rattle.dr_replica.specs.Inside.{IsInsideReplica, replica_inside}
@@ -22,39 +22,6 @@ use Rattle.dr_replica.specs.declared.replica.Replica.TheInside.{Inside}
 use Rattle.dr_replica.specs.Spots.{first_spot}
 use Rattle.dr_replica.specs.declared.spot.Spot.{Spot}
 use Rattle.dr_replica.proofs.Spots.{first_is_spot}
-use Rattle.dr_words.specs.Masks.{IsInRoster}
-use Rattle.dr_words.proofs.Bits.{has_zero}
-use Rattle.dr_words.proofs.Masks.{same_masks}
-use Rattle.dr_words.proofs.Ranks.{few_members, some_member}
-
--- the ranges of what is taken
-pub few_messages_each : (s : Setup) → CanBegin s → greatest s.totals ≤ 4096
-few_messages_each s can = greatest_within s.totals 0 4096 (omega arith) can.few
-
--- the history of a member that can begin, with all messages and a View for each bank, has fewer
--- than 2 ^ 32 entries
-pub small_room : (s : Setup) (most : ℕ) → CanBegin s → most ≡ greatest s.totals
-    → length s.start + s.shape.banks + most * s.shape.members + 1 < 2 ^ 32
-small_room s most can is =
-    let few : most ≤ 4096 = omega (arith, is, few_messages_each s can) in
-    let product = product_within most s.shape.members few s.shape.most_members in
-    omega (arith, product, can.start, can.banks, few_members s.late, s.shape.most_members)
-
--- a mask that isn't 0 has a member
-some_of : (mask n : ℕ) → IsInRoster n mask → n ≤ 16 → 0 < mask → 0 < length (members_of mask)
-some_of mask n within few some = by (length (members_of mask)) refl
-  where
-    none : length (members_of mask) ≡ 0 → (i : ℕ) (b : Bool) → has mask i ≡ b → has mask i ≡ has 0 i
-    none e i true t = absurd (omega (arith, e, some_member mask i (omega (arith, within i t, few)) t))
-    none e i false t = t ∙ sym (has_zero i)
-
-    by : (k : ℕ) → length (members_of mask) ≡ k → 0 < length (members_of mask)
-    by zero e = absurd (omega (arith, some, same_masks mask 0 (λ i. none e i (has mask i) refl)))
-    by (suc k) e = omega (arith, e)
-
--- somebody is in the first view
-pub someone : (s : Setup) → CanBegin s → 0 < length (members_of s.members)
-someone s can = some_of s.members s.shape.members can.roster s.shape.most_members can.some
 
 -- the fields, as they were made
 pub record AreBegun (a : Inside) (s : Setup) (fresh : Words) (top : ℕ) : Type 0 where

@@ -1,19 +1,21 @@
 -- The items by place, and their front.
-use Rattle.std.proofs.Common.{◌≡◌, ℕ, ◌+◌, ◌*◌, ◌/◌, ◌%◌, ◌^◌, ◌<◌, ◌≤◌, inl, inr, true, false, nat_lt, List, length, replicate, map, get_or, set, slice_index, slice_index_or, sym, ap, subst, ◌∙◌, arith, le_refl, le_trans}
+use Rattle.std.proofs.Common.{◌≡◌, ℕ, ◌+◌, ◌*◌, ◌/◌, ◌%◌, ◌<◌, ◌≤◌, inl, inr, true, nat_lt, List, length, replicate, map, get_or, set, slice_index, slice_index_or, sym, ap, subst, ◌∙◌, arith, le_refl, le_trans}
 use Rattle.std.proofs.lemmas.Bool.{cases_lt, ltb-true}
-use Rattle.std.proofs.lemmas.List.{get_or-map, get_or-replicate, get_or-set_other, get_or-set_same, get_or_past, get_or_read, length-map, length-replicate}
-use Rattle.std.proofs.Math.Nat.{suc-mul}
-use Rattle.std.proofs.lemmas.Nat.{div-add-mod', mod_below, mul-le, mul-add-lt}
+use Rattle.std.proofs.lemmas.List.{get_or-map, get_or-replicate, get_or_past, get_or_read, length-map, length-replicate}
+use Rattle.std.proofs.lemmas.Nat.{mod_below, mul-le, mul-add-lt}
 use Rattle.dr_entry.specs.declared.entry.Item.{Item}
 use Rattle.dr_entry.specs.declared.entry.Item.TheVariants.{Null}
+use Rattle.dr_entry.proofs.ListPlaces.{greatest_within}
+use Rattle.dr_entry.proofs.Items.{all_null}
 use Rattle.dr_history.specs.Members.{members_of}
 use Rattle.dr_words.specs.Masks.{IsInRoster}
-use Rattle.dr_program.proofs.OpeningForm.{front_of_none, greatest_within}
 use Rattle.dr_program.specs.Replica.{greatest}
-use Rattle.dr_words.proofs.Ranks.{few_members, roster_members}
-use Rattle.dr_history.specs.Places.{place_of, is_held, AllHeldBelow, front_of}
-use Rattle.dr_history.proofs.Fronts.{count_max, front_is, front_only}
-use Rattle.dr_history.proofs.FrontLemmas.{IsFront-least, is_held-below}
+use Rattle.dr_words.proofs.Ranks.{roster_members}
+use Rattle.dr_history.specs.Places.{place_of, is_held, AllHeldBelow}
+use Rattle.dr_history.proofs.Fronts.{front_is}
+use Rattle.dr_history.proofs.Places.{front_of_none, held_item}
+use Rattle.dr_history.proofs.MemberLemmas.{few_members}
+use Rattle.dr_program.proofs.Replicas.{greatest_most}
 use Rattle.dr_replica.specs.Items.{Held, IsHeld, counts_of, front, none_held, sender_held_at, item_held_at}
 use Rattle.dr_replica.specs.Inside.{AreItems, held_of}
 use Rattle.dr_replica.specs.Rests.{AreWithin}
@@ -22,29 +24,6 @@ use Rattle.dr_replica.specs.Spots.{IsSpot, first_spot}
 use Rattle.dr_replica.specs.declared.spot.Spot.{Spot}
 use Rattle.dr_replica.proofs.Spots.{first_is_spot, spot_number, spot_rank}
 use Rattle.dr_form.proofs.Gains.{counts_rise}
-use Rattle.dr_replica.proofs.Lefts.{all_null}
-
-below_product : (p n q : ℕ) → 0 < n → p / n < q → p < n * q
-below_product p n q some h =
-    let parts = div-add-mod' p n in
-    let rest = mod_below p n some in
-    let whole : n * (p / n + 1) ≤ n * q = mul-le n (p / n + 1) n q (le_refl n) (omega arith) in
-    omega (arith, parts, rest, whole)
-
--- a place that is held is one of an item that its member has
-held_item : (counts members : List ℕ) (p : ℕ) → 0 < length members
-    → is_held (map (slice_index counts) members) p ≡ true
-    → p / length members < get_or counts (get_or members (p % length members) 0) 0
-held_item counts members p some held =
-    let long = length-map members (slice_index counts) in
-    let there : p / length (map (slice_index counts) members)
-    < get_or (map (slice_index counts) members) (p % length (map (slice_index counts) members)) 0 =
-    ltb-true _ _ held in
-    let at : p / length members < get_or (map (slice_index counts) members) (p % length members) 0 =
-    subst (λ (n : ℕ). p / n < get_or (map (slice_index counts) members) (p % n) 0) long there in
-    let which = get_or-map (slice_index counts) members (p % length members) 0 0
-    (mod_below p (length members) some) in
-    omega (arith, at, which)
 
 -- a place that trims take has its item
 pub trims_held : (h : Held) (trims : List ℕ) (p : ℕ) → AreWithin h trims → is_held trims p ≡ true
@@ -70,22 +49,6 @@ held_read counts members s m c is at count =
     subst (λ (n : ℕ). nat_lt s.number c
     ≡ nat_lt (s.place / n) (get_or (map (slice_index counts) members) (s.place % n) 0))
     (sym (length-map members (slice_index counts))) test
-
--- so it isn't beyond all items
-pub held_small : (counts members : List ℕ) (p : ℕ) → 0 < length members
-    → ((i : ℕ) → get_or counts i 0 < 2 ^ 32)
-    → is_held (map (slice_index counts) members) p ≡ true → p < length members * 2 ^ 32
-held_small counts members p some small held =
-    let item = held_item counts members p some held in
-    let fits = small (get_or members (p % length members) 0) in
-    below_product p (length members) (2 ^ 32) some (omega (arith, item, fits))
-
--- the first place that isn't held is the front
-pub front_reached : (counts : List ℕ) (p : ℕ) → 0 < length counts → AllHeldBelow counts p
-    → is_held counts p ≡ false → p ≡ front_of counts
-front_reached counts p some all gap =
-    front_only counts p some (IsFront-least counts p some
-    (λ q below. is_held-below counts p q some all below) gap)
 
 -- an item that is held has its place
 item_within : (h : Held) (p : ℕ) → IsHeld h → is_held (counts_of h) p ≡ true
@@ -134,13 +97,6 @@ item_read a now p k r s x same are before number roster sender read =
     (sender ∙ ap (λ (h : Held). sender_held_at h p) (sym same)))
     ∙ ap (λ (h : Held). item_held_at h p) same
 
--- no number is above the greatest
-pub greatest_most : (xs : List ℕ) (i : ℕ) → get_or xs i 0 ≤ greatest xs
-greatest_most xs i = elim (cases_lt i (length xs)) [
-  | inl within ↦ count_max xs 0 i within
-  | inr past ↦ omega (arith, get_or_past xs i 0 past)
-]
-
 -- the places up to that of the greatest count are there, and from it on there are nulls
 pub used_within : (a : Inside) → AreItems a → greatest a.counts.items * a.roster ≤ length a.items.items
 used_within a are =
@@ -156,21 +112,6 @@ pub nulls_past : (a : Inside) (k : ℕ) → AreItems a → greatest a.counts.ite
 nulls_past a k are past = are.nulls k (λ s. le_trans
     (mul-le (get_or a.counts.items s 0) a.roster (greatest a.counts.items) a.roster
     (greatest_most a.counts.items s) (le_refl a.roster)) past)
-
--- behind the items of all members there are nulls with an item more too
-pub nulls_after : (counts : List ℕ) (items : List Item) (roster s c : ℕ) (item : Item) → s < length counts
-    → s < roster → get_or counts s 0 ≤ c
-    → ((k : ℕ) → ((j : ℕ) → get_or counts j 0 * roster ≤ k) → get_or items k Null ≡ Null)
-    → (k : ℕ) → ((j : ℕ) → get_or (set counts s (c + 1)) j 0 * roster ≤ k)
-    → get_or (set items (c * roster + s) item) k Null ≡ Null
-nulls_after counts items roster s c item there within le nulls k behind =
-    let mine = behind s in
-    let new = get_or-set_same counts s (c + 1) 0 there in
-    let past : (c + 1) * roster ≤ k = rw new at mine in
-    get_or-set_other items (c * roster + s) k item Null
-    (λ e. absurd (omega (arith, past, e, suc-mul c roster)))
-    ∙ nulls k (λ j. le_trans (mul-le (get_or counts j 0) roster (get_or (set counts s (c + 1)) j 0) roster
-    (counts_rise counts s (c + 1) j there (omega (arith, le))) (le_refl roster)) (behind j))
 
 -- the counts stay above the old front
 still_held : (h : Held) (s : ℕ) → IsHeld h → s < h.roster

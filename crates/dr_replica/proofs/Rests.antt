@@ -1,6 +1,5 @@
 -- What a trim has left, walked spot by spot.
-use Rattle.std.proofs.Common.{◌≡◌, ℕ, ◌+◌, ◌*◌, ◌<◌, ◌≤◌, nat_lt, inl, inr, false, List, length, slice_index, ap, ◌∙◌, arith, le_refl}
-use Rattle.std.proofs.lemmas.Bool.{cases_eq}
+use Rattle.std.proofs.Common.{◌≡◌, ℕ, ◌+◌, ◌*◌, ◌<◌, ◌≤◌, nat_lt, List, length, slice_index, arith, le_refl}
 use Rattle.std.proofs.lemmas.Nat.{mul-le}
 use Rattle.std.proofs.Math.Nat.{mul_comm, suc-mul}
 use Rattle.dr_history.specs.Places.{is_held}
@@ -21,12 +20,3 @@ taken_small ranks most s is low =
     let whole : (s.number + 1) * ranks ≤ most * ranks =
     mul-le (s.number + 1) ranks most ranks (omega (arith, low)) (le_refl ranks) in
     omega (arith, whole, is.place, is.rank, suc-mul s.number ranks, mul_comm most ranks)
-
--- what isn't taken before a place or at it isn't before the next one
-pub none_to : (trims : List ℕ) (from p : ℕ)
-    → ((q : ℕ) → from ≤ q → q < p → is_held trims q ≡ false) → is_held trims p ≡ false
-    → (q : ℕ) → from ≤ q → q < p + 1 → is_held trims q ≡ false
-none_to trims from p before here q after below = elim (cases_eq q p) [
-  | inl same ↦ ap (is_held trims) same ∙ here
-  | inr other ↦ before q after (omega (arith, below, other))
-]

@@ -1,5 +1,5 @@
 pub mod Groups
 pub mod Listed
 pub mod Setups
-mod Totals
 mod Unique
+pub mod Choosing

@@ -1,42 +1,22 @@
 -- The setups of a script's members, and that they are those of its group.
-use Rattle.std.proofs.Common.{◌≡◌, ◌⊎◌, inl, inr, refl, sym, ap, ◌∙◌, subst, ℕ, zero, suc, ◌+◌, ◌<◌, ◌≤◌, List, [], ◌∷◌, ◌++◌, length, length-append, arith}
+use Rattle.std.proofs.Common.{◌≡◌, ◌⊎◌, inl, inr, refl, sym, ap, ◌∙◌, subst, ℕ, ◌+◌, ◌<◌, ◌≤◌, List, [], ◌∷◌, ◌++◌, length, length-append, arith}
 use Rattle.std.specs.Prelude.{None, Option, Some}
 use Rattle.std.proofs.lemmas.Bool.{cases_lt}
-use Rattle.std.proofs.lemmas.List.{get_or_append_left, get_or_push}
 use Rattle.std.proofs.lemmas.Option.{same_Some}
 use Rattle.dr_machine.specs.Group.{IsPresent}
-use Rattle.dr_program.proofs.Present.{present_within}
 use Rattle.dr_program.specs.Presence.{present_at}
 use Rattle.dr_script.specs.declared.script.Script.{Script}
 use Rattle.dr_program.specs.declared.setup.Setup.{Setup}
-use Rattle.dr_program.specs.Program.{AreSetups}
+use Rattle.dr_program.specs.Program.{AreSetups, Program, begun_program}
+use Rattle.dr_program.proofs.Present.{each_more, still_there, last_there}
 use Rattle.dr_restart.specs.declared.start.Start.{Start}
 use Rattle.dr_restart.specs.Groups.{group_of}
-use Rattle.dr_restart.specs.Setups.{AreFirstSetupsOf, AreSetupsOf, IsSetupOf}
+use Rattle.dr_restart.specs.Setups.{AreFirstSetupsOf, AreSetupsOf, IsSetupOf, IsBegun}
 
 -- no setups are the first none of an age
 pub none : (script : Script) (start : Start) (nth : ℕ) → AreFirstSetupsOf script start nth 0 []
 none script start nth = record
     { all = refl; each = λ m s there. absurd (cc); there = λ m below. absurd (omega (arith, below)) }
-
--- one place more: the others are as before
-each_more : (P : ℕ → Setup → Type 0) (xs : List (Option Setup)) (o : Option Setup)
-    → ((m : ℕ) (s : Setup) → present_at xs m ≡ Some s → P m s)
-    → ((s : Setup) → o ≡ Some s → P (length xs) s)
-    → (m : ℕ) (s : Setup) → present_at (xs ++ o ∷ []) m ≡ Some s → P m s
-each_more P [] o old new zero s e = new s e
-each_more P [] o old new (suc m) s e = absurd (cc)
-each_more P (x ∷ xs) o old new zero s e = old zero s e
-each_more P (x ∷ xs) o old new (suc m) s e = each_more (λ k. P (suc k)) xs o (λ k. old (suc k)) new m s e
-
-still_there : (xs : List (Option Setup)) (o : Option Setup) (m : ℕ) (s : Setup) → present_at xs m ≡ Some s
-    → present_at (xs ++ o ∷ []) m ≡ Some s
-still_there xs o m s there =
-    get_or_append_left xs (o ∷ []) None m (present_within xs m s there) ∙ there
-
-last_there : (xs : List (Option Setup)) (o : Option Setup) (n : ℕ) → length xs ≡ n
-    → present_at (xs ++ o ∷ []) n ≡ o
-last_there xs o n long = get_or_push xs o None n long
 
 -- the places of the first n, and one more
 one_more : (script : Script) (start : Start) (nth n : ℕ) (setups : List (Option Setup)) (o : Option Setup)
@@ -84,3 +64,14 @@ are_setups script start nth setups lists are = record {
   each = λ m s there. (are.each m s there).setup;
   there = λ m below here. are.there m (omega (arith, below, lists)) here;
 }
+
+-- a script, a start and a number leave one list of setups
+abbrev pub AreOne : Type 0
+AreOne = (script : Script) (start : Start) (nth : ℕ) (setups others : List (Option Setup))
+    → AreSetupsOf script start nth setups → AreSetupsOf script start nth others → setups ≡ others
+
+-- so they leave one program to begin with
+pub begun_same : AreOne → (script : Script) (start : Start) (nth : ℕ) (p q : Program) → IsBegun script start nth p
+    → IsBegun script start nth q → p ≡ q
+begun_same same script start nth p q (setups, are, is) (setups', are', is') =
+    is ∙ ap (begun_program (group_of script start)) (same script start nth setups setups' are are') ∙ sym is'

@@ -1,53 +1,16 @@
 -- A script, a start and the number of an age leave no choice: there is one list of setups.
-use Rattle.std.proofs.Common.{◌≡◌, refl, sym, ap, ◌∙◌, subst, ℕ, ◌<◌, ◌≤◌, List, arith}
+use Rattle.std.proofs.Common.{◌≡◌, refl, sym, ap, ◌∙◌, ℕ, ◌<◌, List, arith}
 use Rattle.std.specs.Prelude.{None, Option, Some}
 use Rattle.std.proofs.lemmas.List.{ext_get_or}
 use Rattle.dr_program.specs.Presence.{present_at}
-use Rattle.std.specs.Coded.{le_prop}
-use Rattle.dr_words.specs.declared.shape.Shape.{Shape}
 use Rattle.dr_script.specs.declared.script.Script.{Script}
+use Rattle.dr_words.proofs.Unique.{same_shape}
 use Rattle.dr_program.specs.declared.setup.Setup.{Setup}
 use Rattle.dr_machine.specs.Group.{Group}
 use Rattle.dr_program.proofs.Opening.{setup_is, setup_of}
 use Rattle.dr_restart.specs.declared.start.Start.{Start}
 use Rattle.dr_restart.specs.Groups.{group_of}
 use Rattle.dr_restart.specs.Setups.{AreSetupsOf, IsSetupOf}
-
--- two shapes with the same numbers
-same_shape : (a b : Shape) → a.members ≡ b.members → a.window ≡ b.window → a.banks ≡ b.banks
-    → a ≡ b
-same_shape a b members window banks = subst
-    (λ n. (p : 1 ≤ n) (q : n ≤ 16) → a
-    ≡ record {
-      members = n;
-      window = b.window;
-      banks = b.banks;
-      some_member = p;
-      most_members = q;
-      some_slot = b.some_slot;
-      most_slots = b.most_slots;
-    })
-    members (λ p q. subst
-    (λ n. (s : 1 ≤ n) (t : n ≤ 8) → a
-    ≡ record {
-      members = a.members;
-      window = n;
-      banks = b.banks;
-      some_member = p;
-      most_members = q;
-      some_slot = s;
-      most_slots = t;
-    })
-    window (λ s t. λ z. record {
-      members = a.members;
-      window = a.window;
-      banks = banks z;
-      some_member = le_prop a.some_member p z;
-      most_members = le_prop a.most_members q z;
-      some_slot = le_prop a.some_slot s z;
-      most_slots = le_prop a.most_slots t z;
-    }) b.some_slot b.most_slots)
-    b.some_member b.most_members
 
 same_setup : (script : Script) (start : Start) (nth m : ℕ) (s t : Setup)
     → IsSetupOf script start nth m s → IsSetupOf script start nth m t → s ≡ t

@@ -1,13 +1,14 @@
 -- What is read from a slot of which some words have come.
-use Rattle.std.proofs.Common.{◌≡◌, ℕ, zero, suc, ◌+◌, ◌^◌, ◌<◌, ◌≤◌, ◌⊎◌, inl, inr, Bool, true, false, cond, List, [], ◌∷◌, length, get_or, map, Option, Some, None, refl, sym, ap, ◌∙◌, arith}
+use Rattle.std.proofs.Common.{◌≡◌, ℕ, suc, ◌+◌, ◌^◌, ◌<◌, ◌≤◌, Bool, true, false, cond, length, get_or, map, Option, Some, None, refl, sym, ap, ◌∙◌, arith}
 use Rattle.std.specs.List.{list_all, range_with_len}
-use Rattle.std.proofs.lemmas.Bool.{and_parts}
 use Rattle.std.proofs.lemmas.Bool.Decides.{nat_tests}
 use Rattle.dr_entry.specs.declared.entry.Item.{Item}
+use Rattle.dr_entry.proofs.ListFacts.{first_words, same_tests}
+use Rattle.dr_entry.proofs.NumberFacts.{tests_all}
 use Rattle.dr_words.specs.Packing.{ring_word, ring_tag, ring_low}
+use Rattle.dr_words.proofs.Packed.{low_word, same_pieces}
 use Rattle.dr_ring.specs.Pieces.{head_piece, body_pieces, pieces, item_of}
 use Rattle.dr_ring.specs.Slots.{is_of, item_in}
-use Rattle.dr_ring.proofs.Bodies.{first_words}
 use Rattle.dr_ring.proofs.Items.{IsItem, item_of-pieces, body_len-pieces, head_is_head, head_fits, piece_fits}
 
 -- the words that have come hold the pieces of item k, and the others are of earlier items
@@ -20,49 +21,8 @@ pub record HasCome (k : ℕ) (item : Item) (slot : ℕ → ℕ) (come : ℕ → 
 of_word : (k word low : ℕ) → low < 2 ^ 32 → word ≡ ring_word k low → is_of k word ≡ true
 of_word k word low fits e = let tag : ring_tag word ≡ k + 1 = omega (arith, e) in grind (arith, nat_tests)
 
-low_word : (k word low : ℕ) → low < 2 ^ 32 → word ≡ ring_word k low → ring_low word ≡ low
-low_word k word low fits e = omega (arith, e)
-
 not_of : (k word : ℕ) → ring_tag word ≤ k → is_of k word ≡ false
 not_of k word tag = grind (arith, nat_tests)
-
--- two tests that agree on a range
-same_tests : (p q : ℕ → Bool) (slot : ℕ → ℕ) (n a : ℕ)
-    → ((i : ℕ) → a ≤ i → i < a + n → p (slot i) ≡ q i)
-    → list_all p (map slot (range_with_len a n)) ≡ list_all q (range_with_len a n)
-same_tests p q slot zero a same = refl
-same_tests p q slot (suc n) a same =
-    let first = same a (omega arith) (omega arith) in
-    let others = same_tests p q slot n (a + 1) (λ i from to. same i (omega arith) (omega arith)) in
-    rw (first, others) refl
-
-first_or_later : (a i : ℕ) → a ≤ i → (i ≡ a) ⊎ (a + 1 ≤ i)
-first_or_later a i from = grind arith
-
-tests_all : (q : ℕ → Bool) (n a : ℕ) → list_all q (range_with_len a n) ≡ true → (i : ℕ)
-    → a ≤ i → i < a + n → q i ≡ true
-tests_all q zero a all i from to = absurd (omega arith)
-tests_all q (suc n) a all i from to =
-    let both = and_parts (q a) _ all in
-    elim (first_or_later a i from) [
-      | inl first ↦ ap q first ∙ both.0
-      | inr later ↦
-          tests_all q n (a + 1) both.1 i later (omega arith)
-    ]
-
--- the pieces that a range of words holds
-same_pieces : (slot : ℕ → ℕ) (list : List ℕ) (a : ℕ)
-    → ((i : ℕ) → i < length list → ring_low (slot (a + i)) ≡ get_or list i 0)
-    → map ring_low (map slot (range_with_len a (length list))) ≡ list
-same_pieces slot [] a same = refl
-same_pieces slot (x ∷ list) a same =
-    let place : a + 0 ≡ a = omega arith in
-    let first : ring_low (slot a) ≡ x = ap (λ (i : ℕ). ring_low (slot i)) (sym place)
-    ∙ same 0 (omega arith) in
-    let others = same_pieces slot list (a + 1)
-    (λ i lt. let next : a + 1 + i ≡ a + suc i = omega arith in
-    ap (λ (j : ℕ). ring_low (slot j)) next ∙ same (suc i) (omega arith)) in
-    rw (first, others) refl
 
 abbrev some : Item → Option Item
 some x = Some x

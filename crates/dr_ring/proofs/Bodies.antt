@@ -1,41 +1,15 @@
 -- The words of a body, one after the other.
-use Rattle.std.proofs.Common.{◌≡◌, ℕ, ◌+◌, ◌*◌, ◌%◌, ◌<◌, ◌≤◌, Bool, true, false, List, [], ◌∷◌, ◌++◌, length, take, map, refl, sym, ap, ◌∙◌, arith}
+use Rattle.std.proofs.Common.{◌≡◌, ℕ, ◌+◌, ◌*◌, ◌%◌, ◌≤◌, List, [], ◌++◌, length, take, map, sym, ap, ◌∙◌, arith}
 use borrow.Rule.Slice.PartMut.{put_mid}
-use Rattle.std.specs.List.{list_all, range_with_len}
 use Rattle.std.specs.Int.{w32, to_be_bytes}
 use Rattle.std.proofs.lemmas.List.{flat_map_more, map_push}
-use Rattle.std.proofs.lemmas.List.Folds.{list_all-append, list_all_at}
-use Rattle.std.proofs.lemmas.List.FromFn.{length-map-range_with_len, get_or-map-range_with_len, map-range_with_len_more}
 use Rattle.std.proofs.lemmas.Slice.{take-put_mid}
+use Rattle.dr_entry.proofs.ListFacts.{first_words, words_more}
 use Rattle.dr_words.specs.Columns.{body_column}
 use Rattle.dr_words.specs.Packing.{ring_low}
 use Rattle.dr_rows.specs.Words.{Words, seen}
 use Rattle.dr_ring.specs.Pieces.{bytes_of}
 use Rattle.dr_ring.specs.Slots.{slot_column, slot_of}
-
--- the words of the first parts of a body
-abbrev pub first_words : (ℕ → ℕ) → ℕ → List ℕ
-first_words slot n = map slot (range_with_len 1 n)
-
--- the first words of a body, with one part more
-words_more : (slot : ℕ → ℕ) (n : ℕ)
-    → first_words slot (n + 1) ≡ first_words slot n ++ slot (1 + n) ∷ []
-words_more slot n = map-range_with_len_more slot 1 n (1 + n) refl
-
--- one word more passes
-pub passes_more : (p : ℕ → Bool) (slot : ℕ → ℕ) (n : ℕ)
-    → list_all p (first_words slot n) ≡ true → p (slot (1 + n)) ≡ true
-    → list_all p (first_words slot (n + 1)) ≡ true
-passes_more p slot n all one =
-    ap (list_all p) (words_more slot n) ∙ list_all-append p (first_words slot n) (slot (1 + n) ∷ [])
-    ∙ rw (all, one) refl
-
--- one that doesn't is enough
-pub passes_not : (p : ℕ → Bool) (slot : ℕ → ℕ) (n i : ℕ) → i < n
-    → p (slot (1 + i)) ≡ false → list_all p (first_words slot n) ≡ false
-passes_not p slot n i lt one =
-    list_all_at p (first_words slot n) i 0 (omega (arith, length-map-range_with_len slot 1 n))
-    (ap p (get_or-map-range_with_len slot 1 n i (1 + i) 0 lt refl) ∙ one)
 
 -- the bytes of one word more were written
 pub bytes_more : (slot : ℕ → ℕ) (n len : ℕ) (bytes written : List ℕ) → 4 * n ≤ length bytes

@@ -3,9 +3,10 @@ use Rattle.std.proofs.Common.{◌≡◌, ◌≢◌, ℕ, ◌-◌, ◌≤◌, Boo
 use Rattle.std.specs.List.{list_all}
 use Rattle.std.proofs.lemmas.Bool.Decides.{nat_tests}
 use Rattle.dr_history.specs.Members.{has, members_of}
+use Rattle.dr_history.proofs.Tests.{all_members}
 use Rattle.dr_words.specs.Masks.{IsInRoster}
 use Rattle.dr_words.specs.Counts.{count_of}
-use Rattle.dr_words.proofs.Tests.{all_members, each_member}
+use Rattle.dr_words.proofs.Tests.{each_member}
 use Rattle.dr_rows.specs.Words.{Words, row_of}
 use Rattle.dr_ring.specs.Slots.{IsFree, is_free}
 

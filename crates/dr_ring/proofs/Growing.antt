@@ -1,58 +1,18 @@
 -- The words of a member that puts an item grow, and stay in form.
-use Rattle.std.proofs.Common.{◌≡◌, ℕ, ◌+◌, ◌-◌, ◌<◌, ◌≤◌, ◌⊎◌, inl, inr, true, false, List, length, get_or, sym, ap, subst, arith}
-use Rattle.std.proofs.lemmas.Bool.{cases_eq, cases_lt}
+use Rattle.std.proofs.Common.{◌≡◌, ℕ, ◌+◌, ◌<◌, ◌≤◌, inl, inr, true, false, List, length, get_or, sym, ap, subst, arith}
+use Rattle.std.proofs.lemmas.Bool.{cases_eq}
+use Rattle.dr_entry.proofs.NumberFacts.{InOrOut, in_or_out}
 use Rattle.dr_words.specs.declared.column.TheConstants.{PIECES}
-use Rattle.dr_words.specs.Columns.{head_column}
-use Rattle.dr_words.specs.Form.{IsInForm, IsAcceptColumn, AllInForm}
+use Rattle.dr_words.specs.Form.{IsInForm, AllInForm}
 use Rattle.dr_words.specs.Grown.{HasGrown, Grown}
-use Rattle.dr_words.specs.Packing.{ring_word, ring_tag}
+use Rattle.dr_words.specs.Packing.{ring_tag}
 use Rattle.dr_words.proofs.Order.{HasGrown_same}
 use Rattle.dr_rows.specs.Words.{Words, IsWords, row_of, word_at}
+use Rattle.dr_words.proofs.Packed.{ring_grows}
+use Rattle.dr_words.proofs.Columns.{ring_grown}
+use Rattle.dr_words.proofs.Forms.{ring_in_form}
 use Rattle.dr_ring.specs.Slots.{slot_column, slot_of, with_pieces}
 use Rattle.dr_ring.proofs.Writes.{HasSlot, own_set, own_left, other_rows}
-
--- the column is in the slot, or it isn't
-abbrev InOrOut : ℕ → ℕ → ℕ → Type 0
-InOrOut first n c = ((part : ℕ) × (part < n) × (first + part ≡ c))
-    ⊎ ((c < first) ⊎ (first + n ≤ c))
-
-in_or_out : (first n c : ℕ) → InOrOut first n c
-in_or_out first n c =
-    elim (cases_lt c first) [
-      | inl before ↦ inr (inl before)
-      | inr from ↦ elim (cases_lt c (first + n))
-          [ inl within ↦ inl (c - first, omega arith, omega arith) | inr behind ↦ inr (inr behind) ]
-    ]
-
--- a ring word of item k is no smaller than any word of an earlier item
-pub ring_grows : (k word low : ℕ) → ring_tag word ≤ k → word ≤ ring_word k low
-ring_grows k word low tag = omega (arith, tag)
-
--- a greater word of a ring's column has grown
-ring_grown : (members column old new : ℕ) → head_column members 0 ≤ column → old ≤ new
-    → HasGrown members column old new
-ring_grown members column old new ring le = record {
-  number = le;
-  suspected = λ e. absurd (omega arith);
-  final = λ s lt e f. absurd (omega arith);
-}
-
--- any word of a ring's column is in form
-ring_in_form : (members column word : ℕ) → head_column members 0 ≤ column
-    → IsInForm members column word
-ring_in_form members column word ring = record {
-  suspected = λ e. absurd (omega arith);
-  done = λ e. absurd (omega arith);
-  recv = λ s lt e. absurd (omega arith);
-  promise = λ a. absurd (apart a);
-  tag = λ a. absurd (apart a);
-  leavers = λ e. absurd (omega arith);
-  trim = λ s lt e. absurd (omega arith);
-}
-  where
-    apart : IsAcceptColumn members column → ⊥
-    apart (inl e) = absurd (omega arith)
-    apart (inr t) = absurd (omega (arith, t.1, t.2))
 
 -- the rows grow where pieces of item k are written over words of earlier items
 pub pieces_grow : (window : ℕ) (w : Words) (k : ℕ) (list : List ℕ) → HasSlot window w k

@@ -1,12 +1,9 @@
 -- The heads of a ring's next items: their columns, their mask, and whether they are all of nulls.
-use Rattle.std.proofs.Common.{◌≡◌, ◌↔◌, ℕ, ◌+◌, ◌-◌, ◌/◌, ◌%◌, ◌^◌, ◌<◌, ◌≤◌, ◌⊎◌, inl, inr, List, get_or, length, set, bit_and, sym, ap, ap₂, ◌∙◌, below_more, arith}
+use Rattle.std.proofs.Common.{◌≡◌, ◌↔◌, ℕ, ◌+◌, ◌-◌, ◌%◌, ◌^◌, ◌<◌, ◌≤◌, ◌⊎◌, inl, inr, bit_and, sym, ap, ap₂, ◌∙◌, below_more, arith}
 use native.Mathlib.Nat.{mod-add-mod, mod-eq_of_lt, mod_self}
-use Rattle.std.specs.Int.{bit_at}
 use Rattle.std.specs.Int.Bits.{and_self}
 use Rattle.std.proofs.lemmas.Bool.{cases_lt}
-use Rattle.std.proofs.lemmas.List.{get_or-set_other, get_or-set_same}
-use Rattle.std.proofs.lemmas.Nat.{and_le_l, and_le_r, div-add-mod', mod_below, pow_pos}
-use Rattle.std.proofs.lemmas.Nat.Bits.{bit_at_above, bit_at_cat_low, same_from_bits}
+use Rattle.std.proofs.lemmas.Nat.{and_le_l, and_le_r, mod_below}
 use Rattle.dr_words.specs.declared.column.TheConstants.{PIECES}
 use Rattle.dr_words.specs.Columns.{head_column}
 use Rattle.dr_ring.specs.Pieces.{null_mark}
@@ -39,26 +36,6 @@ head_next members window k column some here other =
         absurd (other (here ∙ ap (head_column members) last))
 
 -- ---- masks
-
--- a mask without bits from k on is below 2 ^ k
-pub few_bits : (mask k : ℕ) → ((i : ℕ) → k ≤ i → bit_at mask i ≡ 0) → mask < 2 ^ k
-few_bits mask k clear =
-    let low : mask % 2 ^ k < 2 ^ k = mod_below mask (2 ^ k) (pow_pos k) in
-    let same : mask ≡ mask % 2 ^ k = same_from_bits mask (mask % 2 ^ k) (λ i. by i low (cases_lt i k)) in
-    omega (arith, same, low)
-  where
-    by : (i : ℕ) → mask % 2 ^ k < 2 ^ k → (i < k) ⊎ (k ≤ i) → bit_at mask i ≡ bit_at (mask % 2 ^ k) i
-    by i low (inl l) = ap (λ (m : ℕ). bit_at m i) (sym (div-add-mod' mask (2 ^ k)))
-        ∙ bit_at_cat_low (mask / 2 ^ k) k (mask % 2 ^ k) i l
-    by i low (inr g) = clear i g ∙ sym (bit_at_above (mask % 2 ^ k) k i low g)
-
--- a list of which one place more is filled
-pub filled_more : (list : List ℕ) (at i v : ℕ) (of : ℕ → ℕ) → at ≡ i → i < length list → v ≡ of i
-    → ((j : ℕ) → j < i → get_or list j 0 ≡ of j)
-    → (j : ℕ) → j < i + 1 → get_or (set list at v) j 0 ≡ of j
-filled_more list at i v of here within new before =
-    below_more _ _ (λ j l. get_or-set_other list at j v 0 (omega (arith, here, l)) ∙ before j l)
-    (ap (λ (n : ℕ). get_or (set list n v) i 0) here ∙ get_or-set_same list i v 0 within ∙ new)
 
 -- ---- nulls
 

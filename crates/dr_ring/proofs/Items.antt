@@ -1,70 +1,19 @@
 -- An item is what its pieces say.
-use Rattle.std.proofs.Common.{◌≡◌, ℕ, zero, suc, ◌+◌, ◌-◌, ◌*◌, ◌/◌, ◌%◌, ◌^◌, ◌<◌, ◌≤◌, inl, inr, true, false, ◌==◌, List, [], ◌∷◌, ◌++◌, length, get_or, take, drop, map, refl, sym, ap, ◌∙◌, arith, length-drop}
+use Rattle.std.proofs.Common.{◌≡◌, ℕ, zero, suc, ◌+◌, ◌-◌, ◌*◌, ◌^◌, ◌<◌, ◌≤◌, inl, inr, true, false, ◌==◌, List, [], ◌++◌, length, get_or, take, drop, map, refl, sym, ap, ◌∙◌, arith, length-drop}
 use Rattle.std.specs.List.{range_with_len}
-use Rattle.std.specs.Int.{w32, div_ceil, from_be_bytes, to_be_bytes}
+use Rattle.std.specs.Int.{w32, div_ceil, to_be_bytes}
 use Rattle.std.proofs.lemmas.Bool.{cases_lt}
 use Rattle.std.proofs.lemmas.Bool.Decides.{nat_tests}
-use Rattle.std.proofs.lemmas.List.{drop-drop, drop_all, get_or-drop, get_or_past}
+use Rattle.std.proofs.lemmas.List.{drop-drop, drop_all, get_or_past}
 use Rattle.std.proofs.lemmas.List.FromFn.{length-map-range_with_len, get_or-map-range_with_len}
 use Rattle.dr_words.specs.declared.column.TheConstants.{PIECES}
 use Rattle.dr_entry.specs.declared.limits.TheConstants.{MAX_MESSAGE_LENGTH}
 use Rattle.dr_entry.specs.declared.entry.Item.{Item}
 use Rattle.dr_entry.specs.declared.entry.Item.TheVariants.{Null, Text}
 use Rattle.dr_entry.proofs.Fields.{IsBytes, number_below_4}
+use Rattle.dr_entry.proofs.ListPlaces.{bytes_back}
+use Rattle.dr_entry.proofs.ListFacts.{IsBytes-drop}
 use Rattle.dr_ring.specs.Pieces.{null_mark, is_head, body_len, body_piece, head_piece, body_pieces, pieces, bytes_of, item_of}
-
--- a number of four bytes
-abbrev four : ℕ → ℕ → ℕ → ℕ → ℕ
-four a b c d = a * 16777216 + b * 65536 + c * 256 + d
-
-byte_0 : (a b c d : ℕ) → a < 256 → b < 256 → c < 256 → d < 256
-    → four a b c d / 16777216 % 256 ≡ a
-byte_0 a b c d p q r s = omega arith
-
-byte_1 : (a b c d : ℕ) → a < 256 → b < 256 → c < 256 → d < 256 → four a b c d / 65536 % 256 ≡ b
-byte_1 a b c d p q r s = omega arith
-
-byte_2 : (a b c d : ℕ) → a < 256 → b < 256 → c < 256 → d < 256 → four a b c d / 256 % 256 ≡ c
-byte_2 a b c d p q r s = omega arith
-
-byte_3 : (a b c d : ℕ) → a < 256 → b < 256 → c < 256 → d < 256 → four a b c d % 256 ≡ d
-byte_3 a b c d p q r s = omega arith
-
-zero_fits : 0 < 256
-zero_fits = omega arith
-
--- four bytes, or fewer at the end, are those of their number
-bytes_back : (bytes rest : List ℕ) → IsBytes bytes → take (length bytes - 4) rest ≡ drop 4 bytes
-    → take (length bytes) (to_be_bytes w32 (from_be_bytes w32 bytes) ++ rest) ≡ bytes
-bytes_back [] rest fits e = refl
-bytes_back (a ∷ []) rest fits e =
-    ap (λ (x : ℕ). x ∷ []) (byte_0 a 0 0 0 (fits 0) zero_fits zero_fits zero_fits)
-bytes_back (a ∷ b ∷ []) rest fits e =
-    ap (λ (x : ℕ). x ∷ four a b 0 0 / 65536 % 256 ∷ [])
-    (byte_0 a b 0 0 (fits 0) (fits 1) zero_fits zero_fits)
-    ∙ ap (λ (x : ℕ). a ∷ x ∷ []) (byte_1 a b 0 0 (fits 0) (fits 1) zero_fits zero_fits)
-bytes_back (a ∷ b ∷ c ∷ []) rest fits e =
-    ap (λ (x : ℕ). x ∷ four a b c 0 / 65536 % 256 ∷ four a b c 0 / 256 % 256 ∷ [])
-    (byte_0 a b c 0 (fits 0) (fits 1) (fits 2) zero_fits)
-    ∙ ap (λ (x : ℕ). a ∷ x ∷ four a b c 0 / 256 % 256 ∷ [])
-    (byte_1 a b c 0 (fits 0) (fits 1) (fits 2) zero_fits)
-    ∙ ap (λ (x : ℕ). a ∷ b ∷ x ∷ []) (byte_2 a b c 0 (fits 0) (fits 1) (fits 2) zero_fits)
-bytes_back (a ∷ b ∷ c ∷ d ∷ bytes) rest fits e =
-    let n = four a b c d in
-    let left : length (a ∷ b ∷ c ∷ d ∷ bytes) - 4 ≡ length bytes = omega arith in
-    let end : take (length bytes) rest ≡ bytes = ap (λ (m : ℕ). take m rest) (sym left) ∙ e in
-    ap (λ (x : ℕ). x ∷ n / 65536 % 256 ∷ n / 256 % 256 ∷ n % 256 ∷ take (length bytes) rest)
-    (byte_0 a b c d (fits 0) (fits 1) (fits 2) (fits 3))
-    ∙ ap (λ (x : ℕ). a ∷ x ∷ n / 256 % 256 ∷ n % 256 ∷ take (length bytes) rest)
-    (byte_1 a b c d (fits 0) (fits 1) (fits 2) (fits 3))
-    ∙ ap (λ (x : ℕ). a ∷ b ∷ x ∷ n % 256 ∷ take (length bytes) rest)
-    (byte_2 a b c d (fits 0) (fits 1) (fits 2) (fits 3))
-    ∙ ap (λ (x : ℕ). a ∷ b ∷ c ∷ x ∷ take (length bytes) rest)
-    (byte_3 a b c d (fits 0) (fits 1) (fits 2) (fits 3))
-    ∙ ap (λ (xs : List ℕ). a ∷ b ∷ c ∷ d ∷ xs) end
-
-IsBytes-drop : (n : ℕ) (bytes : List ℕ) → IsBytes bytes → IsBytes (drop n bytes)
-IsBytes-drop n bytes fits i = rw get_or-drop (fits (n + i))
 
 -- the pieces of a body from part i on hold the bytes from there on
 text_back : (n i : ℕ) (bytes : List ℕ) → IsBytes bytes → length bytes ≤ 4 * (i + n)

@@ -1,9 +1,10 @@
 -- What a member sees of an item that another has put.
-use Rattle.std.proofs.Common.{◌≡◌, ◌≢◌, ℕ, ◌+◌, ◌<◌, ◌≤◌, Bool, true, false, cond, ◌||◌, ◌==◌, List, [], ◌∷◌, length, get_or, Some, None, refl, sym, ap, subst, ◌∙◌, arith}
+use Rattle.std.proofs.Common.{◌≡◌, ◌≢◌, ℕ, ◌+◌, ◌<◌, ◌≤◌, Bool, true, false, cond, ◌==◌, List, [], ◌∷◌, length, get_or, Some, None, refl, sym, ap, subst, ◌∙◌, arith}
 use Rattle.std.specs.List.{list_any}
 use Rattle.std.proofs.lemmas.Bool.Decides.{nat_tests}
 use Rattle.dr_words.specs.declared.column.TheConstants.{PIECES}
 use Rattle.dr_entry.specs.declared.entry.Item.{Item}
+use Rattle.dr_entry.proofs.NumberFacts.{merged}
 use Rattle.dr_words.specs.Packing.{ring_word, ring_tag}
 use Rattle.dr_rows.specs.Words.{Words, IsGrid, looked, own, word_at, with_word}
 use Rattle.dr_rows.proofs.Grids.{with_word-same, with_word-column, IsGrid-with_word}
@@ -33,13 +34,6 @@ one_look window w me k column p v part grid present at room lt = by (p == part) 
         let other : p ≢ part = grind (arith, nat_tests) in
         rw e (with_word-column w.words me column v me (slot_column w.members window k + part)
         (omega (arith, at)))
-
-merged : (one some : Bool) (x v y : ℕ) → (one ≡ true → v ≡ x)
-    → cond some x (cond one v y) ≡ cond (one || some) x y
-merged true true x v y same = refl
-merged true false x v y same = same refl
-merged false true x v y same = refl
-merged false false x v y same = refl
 
 -- a part that was looked at is as the owner has it, and another is as before
 looks_slot : (window : ℕ) (owner : Words) (k : ℕ) (parts : List ℕ) (w : Words) (part : ℕ)

@@ -1,24 +1,18 @@
 -- What masks of tags tell of words: those of heads, and those of a block of a body.
-use Rattle.std.proofs.Common.{◌≡◌, ◌↔◌, ℕ, zero, suc, ◌+◌, ◌-◌, ◌^◌, ◌<◌, ◌≤◌, ◌⊎◌, inl, inr, EachIndex, Bool, true, false, cond, ◌&&◌, nat_eq, List, [], ◌∷◌, get_or, length, IsTrue, Some, None, is_some, refl, sym, ap, subst, ◌∙◌, arith}
+use Rattle.std.proofs.Common.{◌≡◌, ◌↔◌, ℕ, zero, suc, ◌+◌, ◌<◌, ◌≤◌, EachIndex, Bool, true, ◌&&◌, nat_eq, [], ◌∷◌, get_or, IsTrue, refl, sym, ap, ◌∙◌, arith}
 use Rattle.std.specs.Int.{bit_at}
 use Rattle.std.specs.List.{list_all}
-use Rattle.std.proofs.lemmas.Bool.{cases_lt}
 use Rattle.std.proofs.lemmas.Bool.Decides.{nat_tests}
-use Rattle.std.proofs.lemmas.Nat.Bits.{bit_at_ones, bit_at_ones_above, same_from_bits}
-use Rattle.dr_entry.specs.declared.entry.Item.{Item}
+use Rattle.dr_entry.proofs.ListFacts.{first_words}
+use Rattle.dr_entry.proofs.Items.{some_rest}
+use Rattle.dr_entry.proofs.Bits.{all_marked}
 use Rattle.dr_words.specs.Packing.{ring_tag, ring_low}
 use Rattle.dr_rows.specs.Words.{Words, seen}
 use Rattle.dr_ring.specs.Pieces.{is_head, body_len}
 use Rattle.dr_ring.specs.Slots.{IsReady, is_of, slot_column, slot_of}
-use Rattle.dr_ring.proofs.Bodies.{first_words}
-use Rattle.dr_ring.proofs.Readiness.{all_pass, each_passes, of_tag, ready_value, tag_of}
+use Rattle.dr_ring.proofs.Readiness.{of_tag, ready_value, tag_of}
 
 -- ---- heads
-
-some_rest : (a b : Bool) (x : Item) → a ≡ true → is_some (cond (a && b) (Some x) None) ≡ b
-some_rest true true x e = refl
-some_rest true false x e = refl
-some_rest false b x e = absurd (cc)
 
 -- what is asked of the words of an item beside the tag of its head
 abbrev is_whole : (ℕ → ℕ) → ℕ → Bool
@@ -60,21 +54,6 @@ no_head window w row k none here = none (of_tag k (slot_of window w row k 0) her
 
 -- ---- blocks
 
--- a mask of words that equal a number has all its bits exactly where each word does
-pub all_marked : (n : ℕ) (tags : List ℕ) (mask to : ℕ) → length tags ≡ n
-    → EachIndex tags (λ i. (bit_at mask i ≡ 1) ↔ (get_or tags i 0 ≡ to))
-    → ((i : ℕ) → length tags ≤ i → bit_at mask i ≡ 0)
-    → (mask ≡ 2 ^ n - 1) ↔ ((i : ℕ) → i < n → get_or tags i 0 ≡ to)
-all_marked n tags mask to long set clear = (
-  λ e i l. (set i (omega (arith, l, long))).0 (ap (λ (m : ℕ). bit_at m i) e ∙ bit_at_ones n i l),
-  λ each. same_from_bits mask (2 ^ n - 1) (λ i. by i each (cases_lt i n)),
-)
-  where
-    by : (i : ℕ) → ((j : ℕ) → j < n → get_or tags j 0 ≡ to) → (i < n) ⊎ (n ≤ i)
-        → bit_at mask i ≡ bit_at (2 ^ n - 1) i
-    by i each (inl l) = (set i (omega (arith, l, long))).1 (each i l) ∙ sym (bit_at_ones n i l)
-    by i each (inr g) = clear i (omega (arith, g, long)) ∙ sym (bit_at_ones_above n i g)
-
 -- the mask of the tags of four words is full exactly where each word is of item k
 pub block_full : (k mask a b c d to : ℕ) (word : ℕ → ℕ) → a ≡ ring_tag (word 0)
     → b ≡ ring_tag (word 1) → c ≡ ring_tag (word 2) → d ≡ ring_tag (word 3) → to ≡ k + 1
@@ -95,28 +74,3 @@ block_full k mask a b c d to word first second third fourth same set clear =
     at (suc (suc zero)) l = third
     at (suc (suc (suc zero))) l = fourth
     at (suc (suc (suc (suc i)))) l = absurd (omega (arith, l))
-
--- a block more of a body passes
-pub block_passes : (p : ℕ → Bool) (slot : ℕ → ℕ) (n : ℕ) → list_all p (first_words slot n) ≡ true
-    → ((i : ℕ) → i < 4 → p (slot (1 + n + i)) ≡ true) → list_all p (first_words slot (n + 4)) ≡ true
-block_passes p slot n all each = all_pass p slot (n + 4) (λ part l. by part l (cases_lt part n))
-  where
-    by : (part : ℕ) → part < n + 4 → (part < n) ⊎ (n ≤ part) → p (slot (1 + part)) ≡ true
-    by part l (inl before) = each_passes p slot n part all before
-    by part l (inr behind) = let place : 1 + n + (part - n) ≡ 1 + part = omega (arith, behind) in
-        subst (λ (m : ℕ). p (slot m) ≡ true) place (each (part - n) (omega (arith, behind, l)))
-
--- where not each word of a block does, not all of the body do
-pub block_fails : (p : ℕ → Bool) (slot : ℕ → ℕ) (n count : ℕ) (block : Bool) → n + 4 ≤ count
-    → block ≡ false → (((i : ℕ) → i < 4 → p (slot (1 + n + i)) ≡ true) → IsTrue block)
-    → list_all p (first_words slot count) ≡ false
-block_fails p slot n count block room missing test = by (list_all p (first_words slot count)) refl
-  where
-    by : (b : Bool) → list_all p (first_words slot count) ≡ b → list_all p (first_words slot count) ≡ false
-    by false e = e
-    by true e = absurd (cc (missing, test each))
-      where
-        each : (i : ℕ) → i < 4 → p (slot (1 + n + i)) ≡ true
-        each i l = let place : 1 + (n + i) ≡ 1 + n + i = omega arith in
-            subst (λ (m : ℕ). p (slot m) ≡ true) place
-            (each_passes p slot count (n + i) e (omega (arith, l, room)))

@@ -10,12 +10,14 @@ use Rattle.dr_words.specs.Form.{AllInForm}
 use Rattle.dr_words.specs.Grown.{Grown}
 use Rattle.dr_words.specs.Packing.{ring_word, ring_tag}
 use Rattle.dr_rows.specs.Words.{Words, IsWords, own, seen, with_own}
+use Rattle.dr_rows.proofs.RowWords.{IsWords-before}
+use Rattle.dr_words.proofs.Packed.{ring_grows}
 use Rattle.dr_ring.specs.Pieces.{pieces, body_piece}
 use Rattle.dr_ring.specs.Slots.{slot_column, slot_of, with_pieces, with_item}
 use Rattle.dr_ring.specs.Arrival.{Arrives}
 use Rattle.dr_ring.proofs.Items.{IsItem, few_pieces}
-use Rattle.dr_ring.proofs.Writes.{HasSlot, HasSlot-from, IsWords-before, pieces_none, pieces_more, own_left}
-use Rattle.dr_ring.proofs.Growing.{ring_grows, pieces_grow, pieces_in_form}
+use Rattle.dr_ring.proofs.Writes.{HasSlot, HasSlot-from, pieces_none, pieces_more, own_left}
+use Rattle.dr_ring.proofs.Growing.{pieces_grow, pieces_in_form}
 use Rattle.dr_ring.proofs.Looks.{item_arrives}
 
 -- the rows in which an item is put

@@ -1,37 +1,17 @@
 -- The test whether an item can be read.
-use Rattle.std.proofs.Common.{◌≡◌, ℕ, zero, suc, ◌+◌, ◌<◌, ◌≤◌, Bool, true, false, cond, ◌&&◌, nat_le, ◌⊎◌, inl, inr, ◌↔◌, Option, Some, None, IsSome, IsTrue, is_some, refl, sym, ap, subst, ◌∙◌, add-one, arith, ◌*◌, ◌%◌, ◌^◌, bit_or, below_more, w16, map}
+use Rattle.std.proofs.Common.{◌≡◌, ℕ, ◌+◌, ◌≤◌, Bool, true, false, nat_le, ◌⊎◌, inl, inr, ◌↔◌, Some, IsSome, IsTrue, is_some, refl, sym, ap, subst, ◌∙◌, arith, ◌%◌, map}
 use Rattle.std.specs.List.{list_all}
-use Rattle.std.specs.Int.{bit_at}
 use Rattle.std.proofs.lemmas.Bool.Decides.{nat_tests}
-use Rattle.std.proofs.lemmas.Nat.Bits.{bit_at_set_other, bit_at_set_same}
 use Rattle.dr_entry.specs.declared.limits.TheConstants.{MAX_MESSAGE_LENGTH}
-use Rattle.dr_entry.specs.declared.entry.Item.{Item}
 use native.Mathlib.Nat.{add-mod_left}
+use Rattle.dr_entry.proofs.ListFacts.{first_words}
+use Rattle.dr_entry.proofs.OptionFacts.{all_pass, each_passes, some_tested}
+use Rattle.dr_entry.proofs.Items.{some_three}
 use Rattle.dr_rows.specs.Words.{Words, seen}
 use Rattle.dr_words.specs.Columns.{head_column}
 use Rattle.dr_words.specs.Packing.{ring_tag, ring_low}
 use Rattle.dr_ring.specs.Pieces.{null_mark, is_head, body_len, item_of}
 use Rattle.dr_ring.specs.Slots.{IsReady, is_of, item_in, slot_of}
-use Rattle.dr_ring.proofs.Bodies.{first_words, passes_more, passes_not}
-
--- where all first words of a body pass a test, each of them does
-pub each_passes : (p : ℕ → Bool) (slot : ℕ → ℕ) (n part : ℕ)
-    → list_all p (first_words slot n) ≡ true → part < n → p (slot (1 + part)) ≡ true
-each_passes p slot n part all lt = by (p (slot (1 + part))) refl
-  where
-    by : (b : Bool) → p (slot (1 + part)) ≡ b → p (slot (1 + part)) ≡ true
-    by true e = e
-    by false e = absurd (cc (sym all ∙ passes_not p slot n part lt e))
-
--- where each of the first words of a body passes a test, all do
-pub all_pass : (p : ℕ → Bool) (slot : ℕ → ℕ) (n : ℕ)
-    → ((part : ℕ) → part < n → p (slot (1 + part)) ≡ true)
-    → list_all p (first_words slot n) ≡ true
-all_pass p slot zero each = refl
-all_pass p slot (suc n) each =
-    ap (λ (m : ℕ). list_all p (first_words slot m)) (sym (add-one n))
-    ∙ passes_more p slot n (all_pass p slot n (λ part lt. each part (omega arith)))
-    (each n (omega arith))
 
 pub tag_of : (k word : ℕ) → is_of k word ≡ true → ring_tag word ≡ k + 1
 tag_of k word e = grind (arith, nat_tests)
@@ -50,13 +30,6 @@ head_of low e = by (nat_le low MAX_MESSAGE_LENGTH) refl
 of_head : (low : ℕ) → (low ≤ MAX_MESSAGE_LENGTH) ⊎ (low ≡ null_mark) → is_head low ≡ true
 of_head low (inl short) = grind (arith, nat_tests)
 of_head low (inr null) = grind (arith, nat_tests)
-
-some_three : (a b c : Bool) (x : Item) → IsSome (cond (a && (b && c)) (Some x) None)
-    → (a ≡ true) × (b ≡ true) × (c ≡ true)
-some_three true true true x s = (refl, refl, refl)
-some_three true true false x s = absurd (cc)
-some_three true false c x s = absurd (cc)
-some_three false b c x s = absurd (cc)
 
 -- an item that is there is what its pieces say
 pub item_there : (k : ℕ) (slot : ℕ → ℕ) → IsReady k slot
@@ -84,10 +57,6 @@ ready_test k slot = (
   λ r. ap is_some (item_there k slot r),
 )
 
-some_tested : {A : Type 0} (o : Option A) (P : Type 0) → (IsSome o ↔ P) → IsTrue (is_some o) ↔ P
-some_tested None P t = t
-some_tested (Some x) P t = t
-
 -- the same, as a test
 pub ready_value : (k : ℕ) (slot : ℕ → ℕ) (ready : Bool) → ready ≡ is_some (item_in k slot)
     → IsTrue ready ↔ IsReady k slot
@@ -106,31 +75,3 @@ not_yet window w row k some here there =
     absurd (omega (arith, here.head, there.head, ap ring_tag head, some))
 
 -- ---- by a mask
-
-pub same_test : (a b : Bool) → (a ≡ true → b ≡ true) → (b ≡ true → a ≡ true) → a ≡ b
-same_test true b to back = sym (to refl)
-same_test false true to back = back refl
-same_test false false to back = refl
-
--- the mask of the items that are there, item by item
-pub record Marks (is : ℕ → Type 0) (mask i : ℕ) : Type 0 where
-  pub set : (j : ℕ) → j < i → (bit_at mask j ≡ 1) ↔ is j
-  pub clear : (j : ℕ) → i ≤ j → bit_at mask j ≡ 0
-
-pub one_marked : (is : ℕ → Type 0) (mask i : ℕ) → i < 16 → is i → Marks is mask i
-    → Marks is (bit_or mask (1 * 2 ^ i % 2 ^ 16)) (i + 1)
-one_marked is mask i within here before = record {
-  set = below_more _ _
-      (λ j h. let e = bit_at_set_other w16 mask i within j (omega arith) in
-      (λ g. (before.set j h).0 (sym e ∙ g), λ g. e ∙ (before.set j h).1 g))
-      (let e = bit_at_set_same w16 mask i within in (λ _. here, λ _. e));
-  clear = λ j h. bit_at_set_other w16 mask i within j (omega arith) ∙ before.clear j (omega arith);
-}
-
-pub one_unmarked : (is : ℕ → Type 0) (mask i : ℕ) → (is i → ⊥) → Marks is mask i
-    → Marks is mask (i + 1)
-one_unmarked is mask i missing before = record {
-  set = below_more _ _ before.set
-      (let e = before.clear i (omega arith) in (λ h. absurd (omega (arith, h, e)), λ h. absurd (missing h)));
-  clear = λ j h. before.clear j (omega arith);
-}

@@ -1,8 +1,8 @@
 -- The own row with the pieces of an item.
-use Rattle.std.proofs.Common.{◌≡◌, ◌≢◌, ℕ, ◌+◌, ◌-◌, ◌%◌, ◌<◌, ◌≤◌, ◌⊎◌, inl, inr, List, [], ◌∷◌, ◌++◌, length, get_or, set, take, drop, map, sym, ap, ◌∙◌, add-zero, append_assoc, arith, length-append, length-take, length-set, set-set}
-use Rattle.std.proofs.lemmas.Bool.{cases_eq}
-use Rattle.std.proofs.lemmas.List.{append-nil, take-append-drop, drop_more, set_at, length_push, get_or-set_same, get_or-set_other, get_or_default, set-get_or, get_or_append_left, get_or-append_right, get_or-take, get_or-drop, get_or-map, map_push, length-map}
+use Rattle.std.proofs.Common.{◌≡◌, ◌≢◌, ℕ, ◌+◌, ◌-◌, ◌%◌, ◌<◌, ◌≤◌, ◌⊎◌, inl, inr, List, [], ◌∷◌, ◌++◌, length, get_or, set, take, drop, map, sym, ap, ◌∙◌, add-zero, append_assoc, arith, length-take, set-set}
+use Rattle.std.proofs.lemmas.List.{append-nil, take-append-drop, drop_more, set_at, length_push, get_or-set_same, get_or-set_other, set-get_or, get_or_append_left, get_or-append_right, get_or-take, get_or-drop, get_or-map, map_push, length-map}
 use Rattle.std.proofs.lemmas.Nat.{mod_below}
+use Rattle.dr_entry.proofs.ListFacts.{written_length}
 use Rattle.dr_words.specs.declared.column.TheConstants.{PIECES}
 use Rattle.dr_words.specs.Columns.{columns_of}
 use Rattle.dr_words.specs.Packing.{ring_word}
@@ -10,11 +10,6 @@ use Rattle.dr_rows.specs.Words.{Words, IsWords, row_of, seen, with_own}
 use Rattle.dr_ring.specs.Slots.{slot_column, written, with_pieces}
 
 -- ---- a row
-
-written_length : (row : List ℕ) (column : ℕ) (words : List ℕ) → column ≤ length row
-    → length (take column row ++ words) ≡ column + length words
-written_length row column words within =
-    omega (arith, length-append (take column row) words, length-take column row)
 
 written_none : (row : List ℕ) (column : ℕ) → written row column [] ≡ row
 written_none row column =
@@ -143,38 +138,6 @@ other_rows window w k list row other =
     (written (row_of w.words w.me) (slot_column w.members window k) (map (ring_word k) list)) [] other
 
 -- ---- the form of the words from before
-
--- words that have their form after an own word is written had it before
-pub IsWords-before : (w : Words) (c v : ℕ) → IsWords (with_own w c v) → IsWords w
-IsWords-before w c v form = record {
-  few = form.few;
-  narrow = form.narrow;
-  present = form.present;
-  rows = record { height = height; width = width };
-  pushes = form.pushes;
-  marks = form.marks;
-  alive = form.alive;
-}
-  where
-    new : List ℕ
-    new = set (row_of w.words w.me) c v
-
-    height : length w.words ≡ w.members
-    height = sym (length-set w.words w.me new) ∙ form.rows.height
-
-    width : (i : ℕ) (d : List ℕ) → i < length w.words → length (get_or w.words i d) ≡ w.columns
-    width i d lt =
-        let there : i < length (set w.words w.me new) = omega (arith, length-set w.words w.me new) in
-        elim (cases_eq i w.me) [
-          | inl same ↦
-              let mine : w.me < length w.words = omega arith in
-              rw same (ap length (get_or_default w.words w.me d [] mine)
-              ∙ sym (length-set (row_of w.words w.me) c v)
-              ∙ sym (ap length (get_or-set_same w.words w.me new d mine))
-              ∙ form.rows.width w.me d (omega (arith, length-set w.words w.me new)))
-          | inr other ↦ sym (ap length (get_or-set_other w.words w.me i new d other))
-              ∙ form.rows.width i d there
-        ]
 
 -- in words with the columns of a window, each item has its slot in the own row
 pub HasSlot-from : (window : ℕ) (w : Words) (k : ℕ) → IsWords w → 1 ≤ window

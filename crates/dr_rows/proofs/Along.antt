@@ -1,25 +1,15 @@
 -- Rows taken whole, column by column, in the vectors of `Rows`.
-use Rattle.std.proofs.Common.{◌≡◌, ◌≢◌, ℕ, zero, suc, ◌+◌, ◌*◌, ◌<◌, ◌≤◌, ◌==◌, Bool, not, false, true, List, fold, length, set, slice_index, slice_set, refl, sym, ap, ap₂, subst, ◌∙◌, rules, arith, le_trans}
-use Rattle.std.specs.List.{range_with_len}
+use Rattle.std.proofs.Common.{◌≡◌, ◌≢◌, ℕ, zero, suc, ◌+◌, ◌*◌, ◌<◌, ◌≤◌, ◌==◌, Bool, not, false, true, List, length, set, slice_index, slice_set, refl, sym, ap, ap₂, subst, ◌∙◌, rules, arith, le_trans}
 use Rattle.dr_rows.specs.Along.{Pushes, looked_along, pushed_along, with_look, with_push}
 use Rattle.dr_rows.specs.Growth.{RowsGrew}
 use Rattle.std.specs.Vec.{with_items}
 use Rattle.std.proofs.lemmas.List.{with_items_is}
+use Rattle.dr_entry.proofs.NumberFacts.{fold_range_more}
 use Rattle.dr_rows.specs.Inside.{IsInsideRows, by_column, by_row, rows_at, rows_inside}
 use Rattle.dr_rows.specs.declared.rows.Rows.TheInside.{Inside}
 use Rattle.dr_rows.specs.Words.{Words, IsWords, changed, is_frozen, looked, own, pushed, row_of, seen, with_word}
 use Rattle.dr_rows.proofs.Grids.{with_word-column, with_word-row}
 use Rattle.dr_rows.proofs.FlatRows.{IsLayout-by_column, IsLayout-by_row, rows_at-set, word_at-rows_at}
-
--- a fold over one number more of a range
-pub fold_range_more : {A : Type 0} (f : A → ℕ → A) (a : A) (from m j : ℕ) → from + m ≡ j
-    → fold f a (range_with_len from (m + 1)) ≡ f (fold f a (range_with_len from m)) j
-fold_range_more f a from zero j e = ap (f a) (omega (arith, e))
-fold_range_more f a from (suc m) j e =
-    ap (λ n. fold f a (range_with_len from n)) next ∙ fold_range_more f (f a from) (from + 1) m j (omega (arith, e))
-  where
-    next : suc m + 1 ≡ suc (m + 1)
-    next = omega arith
 
 -- ---- what the vectors mean while one of them is lent
 

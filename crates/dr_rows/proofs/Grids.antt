@@ -1,10 +1,11 @@
 -- Rows of words as a grid: what stands at each place, also after a write.
-use Rattle.std.proofs.Common.{◌≡◌, ◌≢◌, ℕ, ◌<◌, ◌⊎◌, inl, inr, List, [], length, get_or, set, replicate, sym, ap, ◌∙◌, arith}
+use Rattle.std.proofs.Common.{◌≡◌, ◌≢◌, ℕ, ◌<◌, ◌⊎◌, inl, inr, List, [], length, get_or, set, replicate, sym, ap, ◌∙◌, arith, slice_index, ◌==◌, if◌then◌else◌}
 use Rattle.std.proofs.lemmas.Bool.{cases_eq, cases_lt}
 use Rattle.std.proofs.lemmas.Grind.{common_steps, same_number_lists}
 use Rattle.std.proofs.lemmas.List.{get_or-set_same, get_or-set_other, get_or_default, length-set, length-replicate, same_lists, set_past}
 use Rattle.std.proofs.lemmas.List.Elements.{All-set, All-replicate}
-use Rattle.dr_rows.specs.Words.{IsGrid, row_of, word_at, with_word, zeros}
+use Rattle.dr_entry.proofs.NumberFacts.{same_number, other_number}
+use Rattle.dr_rows.specs.Words.{IsGrid, row_of, word_at, with_word, zeros, Words, own, with_own, looked, seen, IsWords}
 
 -- two grids with the same words are one
 pub same_grids : (n k : ℕ) (xs ys : List (List ℕ)) → IsGrid n k xs → IsGrid n k ys
@@ -77,3 +78,40 @@ IsGrid-zeros n k = record {
   height = length-replicate n (replicate k 0);
   width = All-replicate (λ row. length row ≡ k) n (replicate k 0) (length-replicate k 0);
 }
+
+-- a word is as before the write, or is the one that was written to its column
+pub written_either : (n k : ℕ) (rows : List (List ℕ)) (i c v j d : ℕ) → IsGrid n k rows → i < n
+    → c < k
+    → (word_at (with_word rows i c v) j d ≡ word_at rows j d)
+    ⊎ ((j ≡ i) × (d ≡ c) × (word_at (with_word rows i c v) j d ≡ v))
+written_either n k rows i c v j d grid h g =
+    elim (cases_eq d c) [
+      | inr apart ↦ inl (with_word-column rows i c v j d apart)
+      | inl same ↦ elim (cases_eq j i) [
+        | inr apart ↦ inl (ap (λ row. get_or row d 0) (with_word-row rows i c v j apart))
+        | inl here ↦ let there = with_word-same n k rows i c v grid h g in inr (here, same, cc)
+      ]
+    ]
+
+-- setting an own word leaves the others
+pub own_left : (w : Words) (c v d : ℕ) → d ≢ c → own (with_own w c v) d ≡ own w d
+own_left w c v d apart = with_word-column w.words w.me c v w.me d apart
+
+-- a look at another row leaves the own words
+pub own_seen : (w : Words) (i c v d : ℕ) → i ≢ w.me → own (looked w i c v) d ≡ own w d
+own_seen w i c v d other = ap (λ (row : List ℕ). get_or row d 0)
+    (with_word-row w.words i c v w.me (λ e. other (sym e)))
+
+-- the words of the other rows stay
+pub seen_with : (w : Words) (c v i d : ℕ) → i ≢ w.me → seen (with_own w c v) i d ≡ seen w i d
+seen_with w c v i d other = ap (λ row. slice_index row d) (with_word-row w.words w.me c v i other)
+
+-- the own words with one of them written
+pub own_with : (w : Words) (c v d : ℕ) → IsWords w → c < w.columns → own (with_own w c v) d
+    ≡ (if d == c then v else own w d)
+own_with w c v d form within =
+    elim (cases_eq d c) [
+      | inl same ↦ rw (same, same_number c)
+          (with_word-same w.members w.columns w.words w.me c v form.rows form.present within)
+      | inr other ↦ rw (other_number d c other) (with_word-column w.words w.me c v w.me d other)
+    ]

@@ -1,11 +1,12 @@
 -- Own words of which each is made of the one before: what stands in them, and a loop that makes them one by
 -- one.
-use Rattle.std.proofs.Common.{◌≡◌, ◌≢◌, ℕ, ◌+◌, ◌<◌, ◌≤◌, ◌⊎◌, inl, inr, true, false, List, [], ◌∷◌, length, map, get_or, set, zero, suc, refl, sym, ap, ◌∙◌, ◌||◌, ◌==◌, arith}
+use Rattle.std.proofs.Common.{◌≡◌, ◌≢◌, ℕ, ◌+◌, ◌<◌, ◌≤◌, ◌⊎◌, inl, inr, true, false, List, [], length, map, get_or, set, refl, sym, ap, ◌∙◌, ◌||◌, ◌==◌, arith}
 use Rattle.std.specs.List.{range_with_len}
 use Rattle.std.proofs.lemmas.Bool.{cases_eq, cases_lt}
 use Rattle.std.proofs.lemmas.List.{length-set, get_or-set_same, get_or-set_other, get_or_past, set-get_or}
 use Rattle.std.proofs.lemmas.List.Elements.{All-set}
 use Rattle.std.proofs.lemmas.List.FromFn.{fill_by_all, get_or-map-range_with_len, length-map-range_with_len}
+use Rattle.dr_entry.proofs.ListFacts.{set_over}
 use Rattle.dr_rows.specs.Words.{Words, IsWords, is_frozen, own, rewritten, row_of, seen, with_frozen, with_own, word_at}
 use Rattle.dr_rows.proofs.Grids.{with_word-same, with_word-column}
 
@@ -114,11 +115,6 @@ pub record IsRewrittenTo (old new : Words) (make : ℕ → ℕ → ℕ) (column 
 -- a row put back, and a row put over another
 set_back : (rows : List (List ℕ)) (i : ℕ) → i < length rows → rows ≡ set rows i (row_of rows i)
 set_back rows i within = sym (set-get_or rows i [])
-
-set_over : (rows : List (List ℕ)) (i : ℕ) (x y : List ℕ) → set (set rows i x) i y ≡ set rows i y
-set_over [] i x y = refl
-set_over (r ∷ rows) zero x y = refl
-set_over (r ∷ rows) (suc i) x y = ap (λ (rest : List (List ℕ)). r ∷ rest) (set_over rows i x y)
 
 -- before the first column that is made anew
 pub rewritten_none : (w : Words) (make : ℕ → ℕ → ℕ) (from : ℕ) → IsWords w

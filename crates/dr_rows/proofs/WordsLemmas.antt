@@ -3,6 +3,7 @@ use Rattle.std.proofs.Common.{◌≡◌, ℕ, ◌<◌, ◌≤◌, [], false, get
 use Rattle.std.proofs.lemmas.Bool.{cases_lt}
 use Rattle.std.proofs.lemmas.Bool.Decides.{nat_tests}
 use Rattle.std.proofs.lemmas.List.{get_or-replicate, get_or_past, length-replicate}
+use Rattle.dr_entry.proofs.ListFacts.{copy_at}
 use Rattle.dr_rows.specs.Words.{Words, IsWords, begun, looked, pushed, own, word_at, zeros}
 use Rattle.dr_rows.specs.Growth.{IsFresh}
 use Rattle.dr_rows.proofs.Grids.{IsGrid-with_word, IsGrid-zeros}
@@ -42,14 +43,6 @@ IsWords-pushed w j c form within = record {
   marks = form.marks;
   alive = form.alive;
 }
-
--- a copy stands at each place of a list of copies, and past its end where it is the default
-copy_at : {X : Type 0} (n : ℕ) (x : X) (i : ℕ) → get_or (replicate n x) i x ≡ x
-copy_at n x i =
-    elim (cases_lt i n) [
-      | inl within ↦ get_or-replicate n i x x within
-      | inr past ↦ get_or_past (replicate n x) i x (omega (arith, length-replicate n x))
-    ]
 
 -- all words of rows of zeros are 0
 word_at-zeros : (n k i c : ℕ) → word_at (zeros n k) i c ≡ 0

@@ -1,8 +1,6 @@
 -- Walking the places that the elements of a list give.
 use Rattle.std.proofs.Common.{◌≡◌, ℕ, ◌+◌, ◌<◌, zero, suc, List, [], ◌∷◌, ◌++◌, length, get_or, take, map, Option, Some, None, refl, sym, ◌∙◌, subst, arith, Bool, true, false}
-use Rattle.std.specs.List.{All, filter_map}
-use Rattle.std.proofs.lemmas.List.Elements.{All-append, All-cons, filter_map-append}
-use Rattle.std.proofs.lemmas.List.{take_more, length-take-le, map-append}
+use Rattle.std.proofs.lemmas.List.{take_more, length-take-le}
 use Rattle.dr_script.specs.declared.place.Place.{Place}
 use Rattle.dr_script.specs.declared.place.Broken.{Broken}
 use Rattle.dr_script.specs.Places.{each_from, each, unless, broken_at, or_else}
@@ -104,22 +102,3 @@ pub unless_broken : (rule : ℕ) (test : Bool) (place : Place) → test ≡ fals
     → broken_at rule (unless test place) ≡ Some (record { rule = rule; place = place })
 unless_broken rule true place is = absurd cc
 unless_broken rule false place is = refl
-
--- one more element gives something
-pub filter_map_more : {A B C : Type 0} (h : B → Option C) (g : A → B) (xs : List A) (i : ℕ) (x : A)
-    (y : C) → i < length xs → x ≡ get_or xs i x → h (g x) ≡ Some y
-    → filter_map h (map g (take (i + 1) xs)) ≡ filter_map h (map g (take i xs)) ++ y ∷ []
-filter_map_more h g xs i x y inside is here =
-    rw (take_more xs i x inside, ← is, map-append, filter_map-append, here) refl
-
--- one more element of two maps
-pub map_more : {A B C : Type 0} (h : B → C) (g : A → B) (xs : List A) (i : ℕ) (x : A) → i
-    < length xs → x ≡ get_or xs i x → map h (map g (take (i + 1) xs)) ≡ map h (map g (take i xs))
-    ++ h (g x) ∷ []
-map_more h g xs i x inside is = rw (take_more xs i x inside, ← is, map-append, map-append) refl
-
--- one more element has what all have
-pub all_more : {A : Type 0} (P : A → Type 0) (xs : List A) (x : A) → All P xs → P x
-    → All P (xs ++ x ∷ [])
-all_more P xs x before here =
-    All-append P xs (x ∷ []) before (All-cons P x [] here (λ k d inside. absurd (omega arith)))

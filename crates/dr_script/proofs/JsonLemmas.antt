@@ -1,8 +1,7 @@
 -- Which value of JSON bytes are, and the elements and keys of its arrays and objects.
-use Rattle.std.proofs.Common.{◌≡◌, ℕ, Bool, true, false, cond, List, [], ◌∷◌, Option, Some, None, refl, ap, String, string_bytes, ◌&&◌, map}
-use Rattle.std.specs.Prelude.{◌||◌}
+use Rattle.std.proofs.Common.{◌≡◌, ℕ, Bool, true, false, cond, List, [], ◌∷◌, Option, Some, None, refl, ap, String, string_bytes, ◌&&◌, suc, length}
 use Rattle.std.specs.declared.alloc.Global.{Global}
-use Rattle.std.specs.List.{list_all, list_any}
+use Rattle.std.specs.List.{list_all}
 use Rattle.std.specs.Map.{keys_of}
 use Rattle.std.specs.Str.{IsUtf8, is_utf8}
 use Rattle.std.proofs.lemmas.Str.{is_utf8-from_IsUtf8, IsUtf8-from_is_utf8}
@@ -39,8 +38,8 @@ pub all_keys : (test : List ℕ → Bool) (entries : List (String Global × Valu
 all_keys test [] = refl
 all_keys test (e ∷ entries) = ap (λ rest. test (string_bytes e.0) && rest) (all_keys test entries)
 
--- some image passes a test exactly where some element does so by its image
-pub list_any_map : {A B : Type 0} (test : B → Bool) (f : A → B) (xs : List A)
-    → list_any test (map f xs) ≡ list_any (λ x. test (f x)) xs
-list_any_map test f [] = refl
-list_any_map test f (x ∷ xs) = ap (λ rest. test (f x) || rest) (list_any_map test f xs)
+-- an object has as many keys as the map that holds it
+pub count_of_keys : (entries : List (String Global × Value))
+    → length (keys (members_view entries)) ≡ length entries
+count_of_keys [] = refl
+count_of_keys (e ∷ entries) = ap suc (count_of_keys entries)

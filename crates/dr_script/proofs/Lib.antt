@@ -1,6 +1,7 @@
 mod EachLemmas
-mod JsonLemmas
+pub mod JsonLemmas
 mod MessageLemmas
 mod RangeLemmas
 mod RuleLemmas
 mod StopLemmas
+pub mod Ranges

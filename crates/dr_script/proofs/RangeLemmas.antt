@@ -1,7 +1,7 @@
 -- The ranges of a script that keeps all rules.
-use Rattle.std.proofs.Common.{◌≡◌, ◌≢◌, ◌⊎◌, inl, inr, ℕ, ◌+◌, ◌<◌, ◌≤◌, suc, Bool, true, false, not, List, [], ◌∷◌, length, Option, Some, None, refl, sym, ◌∙◌, subst, arith}
-use Rattle.std.specs.Prelude.{◌==◌, ◌&&◌, ◌||◌, if◌then◌else◌, codes, nat_le, nat_lt, is_some, option_and_then, unwrap_or}
-use Rattle.std.specs.List.{All, filter_map, cons_option}
+use Rattle.std.proofs.Common.{◌≡◌, ◌≢◌, ◌⊎◌, inl, inr, ℕ, ◌+◌, ◌<◌, ◌≤◌, Bool, true, false, not, List, [], ◌∷◌, length, Option, Some, None, refl, sym, ◌∙◌, subst, arith}
+use Rattle.std.specs.Prelude.{◌==◌, ◌&&◌, ◌||◌, if◌then◌else◌, codes, nat_le, nat_lt, is_some, unwrap_or}
+use Rattle.std.specs.List.{All, filter_map}
 use Rattle.std.proofs.lemmas.Bool.{leb-true, ltb-true, eqb-true}
 use Rattle.std.proofs.lemmas.List.{length-map}
 use Rattle.std.proofs.lemmas.List.Elements.{All-cons}
@@ -9,6 +9,11 @@ use Rattle.dr_script.specs.declared.place.Place.{Place}
 use Rattle.dr_script.specs.declared.place.Place.TheVariants as places
 use Rattle.serde_json.specs.Data.{Data}
 use Rattle.serde_json.specs.Find.{get, as_str}
+use Rattle.dr_entry.proofs.BoolFacts.{both, either}
+use Rattle.dr_entry.proofs.OptionFacts.{then_some, there}
+use Rattle.dr_entry.proofs.NumberFacts.{not_same}
+use Rattle.dr_entry.proofs.ListParts.{nothing, all_filter_map}
+use Rattle.dr_entry.proofs.ListFacts.{length_filter_map}
 use Rattle.dr_script.specs.declared.script.Script.{Script}
 use Rattle.dr_script.specs.declared.script.Fault.{Fault}
 use Rattle.dr_script.specs.declared.script.What.{What}
@@ -21,14 +26,6 @@ use Rattle.dr_script.specs.Reading.{messages_in, script_of}
 use Rattle.dr_script.specs.Ranges.{HasRanges, HasFaultRanges, HasWhatRanges}
 use Rattle.dr_script.proofs.EachLemmas.{broken_at_append, neither}
 
-both : (a b : Bool) → (a && b) ≡ true → (a ≡ true) × (b ≡ true)
-both true b is = (refl, is)
-both false b is = absurd cc
-
-either : (a b : Bool) → (a || b) ≡ true → (a ≡ true) ⊎ (b ≡ true)
-either true b is = inl refl
-either false b is = inr is
-
 kept : (rule : ℕ) (test : Bool) (place : Place) → broken_at rule (unless test place) ≡ None → test
     ≡ true
 kept rule true place is = refl
@@ -39,18 +36,6 @@ only_if_some : {A : Type 0} (P : A → Type 0) (test : Bool) (x y : A) → (test
     → only_if test x ≡ Some y → P y
 only_if_some P true x y holds is = let same : x ≡ y = cc in subst P same (holds refl)
 only_if_some P false x y holds is = absurd cc
-
--- what holds of all that a second step gives
-then_some : {A B : Type 0} (P : B → Type 0) (f : A → Option B) (o : Option A) (y : B)
-    → ((x : A) → o ≡ Some x → f x ≡ Some y → P y) → option_and_then f o ≡ Some y → P y
-then_some P f None y holds is = absurd cc
-then_some P f (Some x) y holds is = holds x refl is
-
--- what holds of a value that is there
-there : {A : Type 0} (P : A → Type 0) (o : Option A) (d : A) → ((x : A) → o ≡ Some x → P x)
-    → is_some o ≡ true → P (unwrap_or o d)
-there P None d holds is = absurd cc
-there P (Some x) d holds is = holds x refl
 
 within_some : (low high n m : ℕ) → within low high n ≡ Some m → (low ≤ m) × (m ≤ high)
 within_some low high n m is =
@@ -110,9 +95,6 @@ abbrev HasWhat : Sizes → ℕ → What → Type 0
 HasWhat sizes member (Crash turn push) = (1 ≤ turn) × (turn ≤ sizes.turns) × (push ≤ 65535)
 HasWhat sizes member (Suspect turn other) = (1 ≤ turn) × (turn ≤ sizes.turns)
     × (other < sizes.members) × (other ≢ member)
-
-not_same : (m n : ℕ) → not (m == n) ≡ true → m ≢ n
-not_same m n passed = λ same. grind arith
 
 crash_some : (sizes : Sizes) (member : ℕ) (d : Data) (what : What) → crash_of sizes d ≡ Some what
     → HasWhat sizes member what
@@ -179,31 +161,6 @@ fault_some sizes d fault is =
       member = number_below_some (codes "member") sizes.members d member members;
       what = what_some (is_some (get (codes "crash") d)) sizes member d what whats;
     })) last) more) is
-
-nothing : {A : Type 0} (P : A → Type 0) → All P []
-nothing P = λ k d inside. absurd (omega arith)
-
-all_cons_option : {A : Type 0} (P : A → Type 0) (o : Option A) (xs : List A)
-    → ((x : A) → o ≡ Some x → P x) → All P xs → All P (cons_option o xs)
-all_cons_option P None xs here all = all
-all_cons_option P (Some x) xs here all = All-cons P x xs (here x refl) all
-
-length_cons_option : {A : Type 0} (o : Option A) (xs : List A) → length (cons_option o xs)
-    ≤ suc (length xs)
-length_cons_option None xs = omega arith
-length_cons_option (Some x) xs = omega arith
-
-all_filter_map : {A B : Type 0} (P : B → Type 0) (f : A → Option B)
-    → ((x : A) (y : B) → f x ≡ Some y → P y) → (xs : List A) → All P (filter_map f xs)
-all_filter_map P f each [] = nothing P
-all_filter_map P f each (x ∷ xs) =
-    all_cons_option P (f x) (filter_map f xs) (each x) (all_filter_map P f each xs)
-
-length_filter_map : {A B : Type 0} (f : A → Option B) (xs : List A) → length (filter_map f xs)
-    ≤ length xs
-length_filter_map f [] = omega arith
-length_filter_map f (x ∷ xs) = let rest = length_filter_map f xs in
-    let one = length_cons_option (f x) (filter_map f xs) in omega arith
 
 short_lists : (n : ℕ) (lists : List Data)
     → broken_at 9 (each_from n (λ member list. unless (is_short list) (places.Texts member)) lists)

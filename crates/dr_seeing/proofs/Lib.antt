@@ -1,2 +1,2 @@
 pub mod Outputs
-mod Dues
+pub mod Traces

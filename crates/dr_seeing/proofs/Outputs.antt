@@ -1,5 +1,5 @@
 -- How a text comes that is told piece by piece.
-use Rattle.std.proofs.Common.{◌≡◌, ℕ, List, [], ◌++◌, length, take, Option, None, Some, is_some, true, sym, subst, ap, ◌∙◌, refl, arith, append_assoc, append-nil, length-append}
+use Rattle.std.proofs.Common.{◌≡◌, ℕ, List, [], ◌++◌, length, take, Option, None, Some, is_some, true, sym, subst, ap, ◌∙◌, refl, arith, append_assoc, append-nil, length-append, ◌+◌}
 use Rattle.std.proofs.Math.Seq.{take-append_seam}
 use Rattle.std.proofs.lemmas.Bool.{false≢true}
 use Rattle.dr_io.specs.Faults.{Rose}
@@ -8,7 +8,7 @@ use Rattle.dr_text.specs.Writing.{WroteFront}
 use Rattle.dr_text.proofs.Sinks.{front_behind, front_longer}
 use Rattle.dr_seeing.specs.declared.output.Trouble.{Trouble}
 use Rattle.dr_seeing.specs.declared.output.Trouble.TheVariants as troubles
-use Rattle.dr_seeing.specs.Output.{HasTold, IsUnderway, Tells, WasBrokenOff, WasWrittenSoFar, Written}
+use Rattle.dr_seeing.specs.Output.{HasTold, IsUnderway, Tells, WasBrokenOff, WasWrittenSoFar, Written, TellsSome}
 
 -- a text that was told in full before stays told in front of more
 stopped_longer : (t : Trouble) (held : Option (List ℕ)) (fell : ℕ) (text more : List ℕ) (now : Written)
@@ -100,3 +100,6 @@ pub settled_wanting : (text : List ℕ) (before old new : Written) → before.tr
     → new.trouble ≡ Some troubles.Memory → Tells text before new
 settled_wanting text before old new none same calm held fell wanting =
     tells_wanting text before new none wanting (held ∙ sym same) (fell ∙ sym calm)
+
+pub some_both : (old now new : Written) → TellsSome old now → TellsSome now new → TellsSome old new
+some_both old now new a b = (a.0 ++ b.0, tells_both a.0 b.0 old now new a.1 b.1)

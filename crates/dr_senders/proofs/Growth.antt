@@ -1,11 +1,20 @@
 -- Lists that have grown.
-use Rattle.std.proofs.Common.{◌≡◌, refl, sym, ap, ◌∙◌, ℕ, zero, suc, ◌<◌, arith, List, [], ◌∷◌, ◌++◌, append-nil, get_or, length, map, set, Some, slice_get, subst}
-use Rattle.std.proofs.lemmas.List.{get_or-map, length-map, map-append}
+use Rattle.std.proofs.Common.{◌≡◌, refl, sym, ap, ◌∙◌, ℕ, zero, suc, ◌<◌, arith, List, [], ◌∷◌, ◌++◌, append-nil, get_or, length, map, set, Some, slice_get, subst, ◌+◌, ◌-◌, ◌≤◌, ◌⊎◌, inl, inr}
+use Rattle.std.proofs.lemmas.List.{map-append, get_or_past}
 use Rattle.std.proofs.lemmas.List.Elements.{AllZip-push}
-use Rattle.std.proofs.lemmas.Option.{same_Some}
-use Rattle.std.specs.Prelude.{All}
-use Rattle.dr_history.specs.History.{IsPrefixOf}
+use Rattle.std.proofs.lemmas.Option.{same_Some, slice_get-get_or}
+use Rattle.std.specs.Prelude.{slice_index_or}
+use Rattle.std.proofs.lemmas.Bool.{cases_lt}
+use Rattle.std.specs.List.{enumerate_from}
+use Rattle.dr_entry.proofs.ListFacts.{unmoved_set, numbered_on}
+use Rattle.dr_entry.specs.declared.entry.Entry.{Entry}
+use Rattle.dr_entry.specs.declared.entry.Entry.TheVariants.{Msg, View}
+use Rattle.dr_history.specs.History.{IsPrefixOf, messages_of}
+use Rattle.dr_history.specs.declared.opening.Opening.{Opening}
+use Rattle.dr_history.specs.Order.{numbered_messages}
+use Rattle.dr_history.specs.Soundness.{MayStand}
 use Rattle.dr_history_laws.proofs.Keeping.{prefix_then}
+use Rattle.dr_history_laws.proofs.Lists.{slice_get-prefix}
 use Rattle.dr_senders.specs.Pushing.{given_by}
 use Rattle.dr_senders.specs.Senders.{HaveGrown, Lists, given_in, taken_in}
 use Rattle.dr_senders.specs.declared.sender.Sender.{Sender}
@@ -48,13 +57,6 @@ grown_set f (o ∷ old) (x ∷ xs) zero y d l grown more = (prefix_then o (f x) 
 grown_set f (o ∷ old) (x ∷ xs) (suc m) y d l grown more =
     (grown.0, grown_set f old xs m y d (omega (arith, l)) grown.1 more)
 
--- what does not change where an element does
-pub unmoved_set : {X Y : Type 0} (f : X → Y) (xs : List X) (m : ℕ) (y d : X) → m < length xs
-    → f y ≡ f (get_or xs m d) → map f (set xs m y) ≡ map f xs
-unmoved_set f [] m y d l same = absurd (omega (arith, l))
-unmoved_set f (x ∷ xs) zero y d l same = ap (λ z. z ∷ map f xs) same
-unmoved_set f (x ∷ xs) (suc m) y d l same = ap (λ zs. f x ∷ zs) (unmoved_set f xs m y d (omega (arith, l)) same)
-
 -- one of the senders has taken more, and its app gives what it gave
 pub given_set : {A : Type 0} (left : A → List (List ℕ)) (old xs : List (Sender A)) (m : ℕ) (y d : Sender A)
     → m < length xs → given_by left y.pushing ≡ given_by left (get_or xs m d).pushing
@@ -84,8 +86,43 @@ taken_push xs s lists list grown more =
     (AllZip-push (λ (before after : List (List ℕ)). IsPrefixOf before after) (taken_in xs) lists
     s.inbox.messages.items list grown more)
 
--- what holds of what each element gives
-pub each_of_map : {X Y : Type 0} (P : Y → Type 0) (f : X → Y) (xs : List X) → All P (map f xs)
-    → All (λ x. P (f x)) xs
-each_of_map P f xs all k d within =
-    subst P (get_or-map f xs k d (f d) within) (all k (f d) (rw (length-map xs f) within))
+-- the messages of one sender
+pub grown_list : (old new : Lists) (s : ℕ) → HaveGrown old new
+    → IsPrefixOf (slice_index_or old s []) (slice_index_or new s [])
+grown_list old new s grown = by (cases_lt s (length old))
+  where
+    by : (s < length old) ⊎ (length old ≤ s) → IsPrefixOf (slice_index_or old s []) (slice_index_or new s [])
+    by (inl l) =
+        grown_at old new s (slice_index_or old s []) (slice_index_or new s []) grown (slice_get-get_or old s [] l)
+        (slice_get-get_or new s [] (omega (arith, l, grown_length old new grown)))
+    by (inr past) = (
+      slice_index_or new s [],
+      ap (λ (l : List (List ℕ)). l ++ slice_index_or new s []) (get_or_past old s [] past),
+    )
+
+pub numbered_grown : (o other : Opening) (s : ℕ) → HaveGrown o.messages other.messages
+    → IsPrefixOf (numbered_messages o s) (numbered_messages other s)
+numbered_grown o other s grown =
+    let entry : ℕ × List ℕ → Entry = λ t. Msg s t.0 t.1 in
+    let p = grown_list o.messages other.messages s grown in
+    let r = numbered_on 0 (messages_of o s) p.0 in (
+      map entry r.0,
+      sym (map-append entry (enumerate_from 0 (messages_of o s)) r.0)
+          ∙ (ap (map entry) r.1 ∙ ap (λ (l : List (List ℕ)). map entry (enumerate_from 0 l)) p.1),
+    )
+
+pub stands_grown : (o other : Opening) (es : List Entry) (e : Entry) → HaveGrown o.messages other.messages
+    → MayStand o es e → MayStand other es e
+stands_grown o other es (View age number members) grown (of, stands) = (
+  record {
+    some = of.some;
+    within = λ m there. omega (arith, of.within m there, grown_length o.messages other.messages grown);
+  },
+  stands,
+)
+stands_grown o other es (Msg s index bytes) grown is = (
+  is.0,
+  is.1,
+  slice_get-prefix (messages_of o s) (messages_of other s) index bytes
+      (grown_list o.messages other.messages s grown) is.2,
+)

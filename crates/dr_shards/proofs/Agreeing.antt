@@ -1,8 +1,9 @@
 -- Scripts that agree on a shard give it one script, and so one age.
-use Rattle.std.proofs.Common.{◌≡◌, ℕ, suc, ◌/◌, ◌<◌, Bool, true, false, cond, List, [], ◌∷◌, length, refl, ap, sym, subst, ◌∙◌, arith}
-use Rattle.std.specs.Prelude.{All, None, Some, filter, filter_map, map, slice_index_or}
+use Rattle.std.proofs.Common.{◌≡◌, ℕ, ◌/◌, ◌<◌, Bool, true, false, cond, List, [], ◌∷◌, length, refl, ap, sym, subst, ◌∙◌, arith}
+use Rattle.std.specs.Prelude.{None, Some, filter, filter_map, map, slice_index_or}
 use Rattle.std.specs.List.{cons_option}
 use Rattle.dr_entry.specs.declared.end.AgeEnd.{AgeEnd}
+use Rattle.dr_entry.proofs.ListParts.{map_alike}
 use Rattle.dr_restart.specs.Groups.{first_start_of, group_of}
 use Rattle.dr_restart.specs.declared.start.Start.{Start}
 use Rattle.dr_restart.proofs.Groups.{first_group}
@@ -37,12 +38,6 @@ module _ (shards k : ℕ) where
   own_faults (f ∷ faults) =
       one_fault f (record f { member = f.member / shards; what = renumbered shards f.what })
       (of_members faults) faults (own_faults faults) (is_of_shard shards k f.member) refl refl
-
-map_alike : {X Y : Type 0} (f g : X → Y) (xs : List X) → All (λ x. f x ≡ g x) xs → map f xs ≡ map g xs
-map_alike f g [] all = refl
-map_alike f g (x ∷ xs) all =
-    ap (λ y. y ∷ map f xs) (all 0 x (omega arith))
-    ∙ ap (λ ys. g x ∷ ys) (map_alike f g xs (λ k d within. all (suc k) d (omega (arith, within))))
 
 pub same_shard : (one other : Script) (shards k : ℕ) → lay_refusal one shards ≡ None
     → lay_refusal other shards ≡ None → AgreeOn shards k one other

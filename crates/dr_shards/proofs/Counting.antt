@@ -1,23 +1,22 @@
 -- How many members a shard has.
-use Rattle.std.proofs.Common.{◌≡◌, ℕ, zero, suc, ◌+◌, ◌-◌, ◌*◌, ◌/◌, ◌%◌, ◌<◌, ◌≤◌, Bool, true, false, cond, ltb, [], ◌∷◌, ◌++◌, length, refl, ap, sym, ◌∙◌, arith}
-use Rattle.std.specs.Prelude.{filter}
+use Rattle.std.proofs.Common.{◌≡◌, ℕ, zero, suc, ◌+◌, ◌-◌, ◌/◌, ◌%◌, ◌<◌, ◌≤◌, Bool, true, false, cond, ltb, [], ◌∷◌, ◌++◌, length, refl, ap, sym, ◌∙◌, arith, List, All, if◌then◌else◌, append_assoc, ap₂}
+use Rattle.std.specs.Prelude.{filter, codes}
 use Rattle.std.specs.List.{range_with_len}
-use Rattle.std.proofs.Math.Nat.{add-div_right, add-mod_right, div-add-mod, div-eq_of_lt}
+use Rattle.std.proofs.Math.Nat.{add-div_right, add-mod_right, div-eq_of_lt}
 use Rattle.std.proofs.lemmas.Bool.{eq-eqb, ltb-true, ltb-false}
-use Rattle.std.proofs.lemmas.List.{length-append}
-use Rattle.std.proofs.lemmas.List.Elements.{filter-append}
+use Rattle.std.proofs.lemmas.List.{length-append, append-nil}
+use Rattle.std.proofs.lemmas.List.Elements.{filter-append, All-cons, All-nil, All-head, All-tail}
+use Rattle.std.specs.Fmt.{decimal}
+use Rattle.dr_entry.proofs.NumberFacts.{moved, one_more_most, wider}
+use Rattle.dr_entry.proofs.ListPlaces.{range_more}
+use Rattle.dr_entry.proofs.ListFacts.{commas, has_none, one_more, longer, commas_more}
+use Rattle.dr_entry.specs.declared.end.AgeEnd.{AgeEnd}
+use Rattle.dr_entry.specs.declared.limits.TheConstants.{MAX_MEMBERS}
+use Rattle.dr_script.specs.declared.script.Script.{Script}
+use Rattle.dr_script.specs.Ranges.{HasRanges}
 use Rattle.dr_shards.specs.Layout.{is_of_shard, shard_members}
-
-moved : {X : Type 0} (f : ℕ → X) (a b : ℕ) → a ≡ b → f a ≡ f b
-moved f a b is = ap f is
-
-range_more : (a n : ℕ) → range_with_len a (n + 1) ≡ range_with_len a n ++ (a + n) ∷ []
-range_more a zero = moved (range_with_len a) (zero + 1) 1 (omega arith)
-    ∙ moved (λ x. x ∷ []) a (a + zero) (omega arith)
-range_more a (suc n) =
-    moved (range_with_len a) (suc n + 1) (suc (n + 1)) (omega arith)
-    ∙ ap (λ xs. a ∷ xs) (range_more (a + 1) n
-    ∙ moved (λ x. range_with_len (a + 1) n ++ x ∷ []) (a + 1 + n) (a + suc n) (omega arith))
+use Rattle.dr_shards.specs.declared.run.ShardMode.{ShardMode}
+use Rattle.dr_shards.specs.Shards.{AreShardAges}
 
 -- one more member of the roster, of the shard or not
 pub members_more : (shards k n : ℕ)
@@ -45,19 +44,11 @@ pub counted : (shards k n : ℕ)
 counted shards k n = moved (λ m. length (shard_members shards k m)) (suc n) (n + 1) (omega arith)
     ∙ count_more shards k n
 
-one_more_most : (b : Bool) (a c n : ℕ) → a ≡ c + cond b 1 0 → c ≤ n → a ≤ suc n
-one_more_most true a c n e most = omega (arith, e, most)
-one_more_most false a c n e most = omega (arith, e, most)
-
 -- a shard has no more members than there are
 pub count_most : (shards k n : ℕ) → length (shard_members shards k n) ≤ n
 count_most shards k zero = omega arith
 count_most shards k (suc n) = one_more_most (is_of_shard shards k n) _ (length (shard_members shards k n)) n
     (counted shards k n) (count_most shards k n)
-
-wider : (b : Bool) (a c q : ℕ) → a ≡ c + cond b 1 0 → q < c → q < a
-wider true a c q e less = omega (arith, e, less)
-wider false a c q e less = omega (arith, e, less)
 
 -- each of its members has a number below their count
 pub count_above : (shards k n i : ℕ) → 0 < shards → i < n → i % shards ≡ k
@@ -94,8 +85,45 @@ count_above shards k (suc n) i some below is =
           ] refl
     ] refl
 
--- two members of a shard with the same number are one
-pub same_number : (shards a b : ℕ) → a % shards ≡ b % shards → a / shards ≡ b / shards → a ≡ b
-same_number shards a b rest whole =
-    sym (div-add-mod a shards) ∙ ap (λ q. shards * q + a % shards) whole
-    ∙ ap (λ r. shards * (b / shards) + r) rest ∙ div-add-mod b shards
+-- each age has as many members as the script of its shard
+pub few_members : (mode : ShardMode) (scripts : List Script) (ages : List AgeEnd)
+    → All (λ (s : Script). HasRanges s × (s.ages ≡ 1)) scripts → AreShardAges mode scripts ages
+    → All (λ (age : AgeEnd). length age.members ≤ MAX_MEMBERS) ages
+few_members mode [] ages ranges are = rw are (All-nil (λ (age : AgeEnd). length age.members ≤ MAX_MEMBERS))
+few_members mode (s ∷ scripts) [] ranges are = absurd are
+few_members mode (s ∷ scripts) (age ∷ ages) ranges (is, rest) =
+    let first = All-head (λ (s : Script). HasRanges s × (s.ages ≡ 1)) s scripts ranges in
+    All-cons (λ (a : AgeEnd). length a.members ≤ MAX_MEMBERS) age ages
+    (omega (arith, is.roster, first.0.group.most_members))
+    (few_members mode scripts ages
+    (All-tail (λ (s : Script). HasRanges s × (s.ages ≡ 1)) s scripts ranges) rest)
+
+-- the members of shard k below n
+abbrev pub listed : ℕ → ℕ → ℕ → List ℕ
+listed shards k n = commas (shard_members shards k n)
+
+-- a member of the shard comes behind the others
+pub taken : (shards k n : ℕ) (first : Bool) (old now new : List ℕ) → is_of_shard shards k n ≡ true
+    → (first ≡ has_none (shard_members shards k n)) × (now ≡ old ++ listed shards k n)
+    → new ≡ now ++ (if first then [] else codes ",") ++ decimal n
+    → (false ≡ has_none (shard_members shards k (n + 1))) × (new ≡ old ++ listed shards k (n + 1))
+taken shards k n first old now new is before after =
+    let ns = shard_members shards k n in
+    let more : shard_members shards k (n + 1) ≡ ns ++ n ∷ [] =
+    members_more shards k n ∙ ap (λ b. ns ++ cond b (n ∷ []) []) is in (
+      sym (ap has_none more ∙ longer ns n),
+      after ∙ append_assoc now (if first then [] else codes ",") (decimal n)
+          ∙ ap₂ (λ a b. a ++ one_more b n) before.1 before.0
+          ∙ append_assoc old (commas ns) (one_more (has_none ns) n)
+          ∙ ap (λ l. old ++ l) (sym (ap commas more ∙ commas_more ns n)),
+    )
+
+-- another one doesn't
+pub passed_over : (shards k n : ℕ) (first : Bool) (old now : List ℕ) → is_of_shard shards k n ≡ false
+    → (first ≡ has_none (shard_members shards k n)) × (now ≡ old ++ listed shards k n)
+    → (first ≡ has_none (shard_members shards k (n + 1))) × (now ≡ old ++ listed shards k (n + 1))
+passed_over shards k n first old now other before =
+    let ns = shard_members shards k n in
+    let same : ns ≡ shard_members shards k (n + 1) =
+    sym (members_more shards k n ∙ ap (λ b. ns ++ cond b (n ∷ []) []) other ∙ append-nil ns) in
+    (before.0 ∙ ap has_none same, before.1 ∙ ap (λ l. old ++ commas l) same)

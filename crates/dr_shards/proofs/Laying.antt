@@ -1,5 +1,5 @@
 -- The script of a shard keeps the rules of a script.
-use Rattle.std.proofs.Common.{◌≡◌, ℕ, zero, suc, ◌+◌, ◌/◌, ◌%◌, ◌<◌, ◌≤◌, Bool, true, false, cond, not, eqb, ltb, ◌++◌, List, [], ◌∷◌, length, refl, ap, sym, subst, ◌∙◌, arith}
+use Rattle.std.proofs.Common.{◌≡◌, ℕ, suc, ◌+◌, ◌/◌, ◌%◌, ◌<◌, ◌≤◌, Bool, true, false, cond, not, eqb, ltb, ◌++◌, List, [], ◌∷◌, length, refl, ap, sym, subst, ◌∙◌, arith}
 use Rattle.std.specs.Prelude.{All, None, Some, filter_map, map, slice_index_or, position}
 use Rattle.std.specs.List.{cons_option, position_or_len}
 use Rattle.std.specs.Option.{option_map}
@@ -10,6 +10,10 @@ use Rattle.std.proofs.lemmas.List.FromFn.{get_or-map-range_with_len, length-map-
 use Rattle.std.proofs.lemmas.Option.{same_Some}
 use Rattle.std.proofs.lemmas.List.Elements.{All-cons}
 use Rattle.dr_entry.specs.declared.limits.TheConstants.{MAX_MESSAGE_LENGTH, MAX_MESSAGES}
+use Rattle.dr_entry.proofs.OptionFacts.{same_number}
+use Rattle.dr_entry.proofs.ListPlaces.{any_or}
+use Rattle.dr_entry.proofs.Bits.{all_map}
+use Rattle.dr_entry.proofs.ListParts.{none_passes}
 use Rattle.dr_script.specs.Ranges.{HasFaultRanges, HasRanges, HasWhatRanges}
 use Rattle.dr_script.specs.declared.script.Fault.{Fault}
 use Rattle.dr_script.specs.declared.script.Script.{Script}
@@ -17,18 +21,7 @@ use Rattle.dr_script.specs.declared.script.What.{What}
 use Rattle.dr_script.specs.declared.script.What.TheVariants.{Crash, Suspect}
 use Rattle.dr_shards.specs.declared.fault.LayFault.TheVariants.{Crosses, ManyAges, NoShard}
 use Rattle.dr_shards.specs.Layout.{crosses, crosses_by, shard_fault, is_of_shard, layout, shard_members, shard_messages, lay_refusal, renumbered, shard_of}
-use Rattle.dr_shards.proofs.Counting.{count_above, count_most, members_more, same_number}
-
--- what is true of each element, and of none
-any_or : {X : Type 0} (P : List X → Type 0) (xs : List (List X)) (m : ℕ) → All P xs → P []
-    → P (slice_index_or xs m [])
-any_or P [] m all none = none
-any_or P (x ∷ xs) zero all none = all 0 [] (omega arith)
-any_or P (x ∷ xs) (suc m) all none = any_or P xs m (λ k d within. all (suc k) d (omega arith)) none
-
-all_map : {X Y : Type 0} (f : X → Y) (P : Y → Type 0) → ((x : X) → P (f x)) → (xs : List X) → All P (map f xs)
-all_map f P holds [] = λ k d within. absurd (omega (arith, within))
-all_map f P holds (x ∷ xs) = All-cons P (f x) (map f xs) (holds x) (all_map f P holds xs)
+use Rattle.dr_shards.proofs.Counting.{count_above, count_most, members_more}
 
 -- no suspicion crosses shards
 abbrev pub NoneCross : ℕ → List Fault → Type 0
@@ -132,17 +125,6 @@ module _ (script : Script) (ranges : HasRanges script) (shards k : ℕ) (some : 
     faults = all_found shards k (HasFaultRanges script) (HasFaultRanges (shard_of script shards k))
         fault_ranges script.faults ranges.faults apart;
   }
-
--- where no element passes, none was found
-none_passes : {X : Type 0} (p : X → Bool) (xs : List X) → length xs ≤ position_or_len p xs
-    → All (λ x. p x ≡ false) xs
-none_passes p [] all = λ k d within. absurd (omega (arith, within))
-none_passes p (x ∷ xs) all =
-    elim (p x) as (λ b. p x ≡ b → suc (length xs) ≤ cond (not b) (1 + position_or_len p xs) 0
-    → All (λ y. p y ≡ false) (x ∷ xs)) [
-      | true ↦ λ _ few. absurd (omega (arith, few))
-      | false ↦ λ fails more. All-cons (λ y. p y ≡ false) x xs fails (none_passes p xs (omega (arith, more)))
-    ] refl all
 
 -- a script that is laid out has enough members, one age, and no suspicion that crosses shards
 pub record LaysOut (script : Script) (shards : ℕ) : Type 0 where

@@ -1,23 +1,13 @@
 -- The number of a member in its shard.
-use Rattle.std.proofs.Common.{◌≡◌, ℕ, zero, suc, ◌+◌, ◌-◌, ◌*◌, ◌/◌, ◌%◌, ◌<◌, ◌≤◌, true, false, cond, eqb, ltb, [], ◌∷◌, ◌++◌, length, refl, ap, sym, subst, ◌∙◌, arith}
+use Rattle.std.proofs.Common.{◌≡◌, ℕ, zero, suc, ◌+◌, ◌-◌, ◌*◌, ◌/◌, ◌%◌, ◌<◌, true, false, cond, eqb, ltb, [], ◌∷◌, ◌++◌, length, refl, ap, sym, subst, ◌∙◌, arith}
 use Rattle.std.specs.Prelude.{Some, slice_get}
 use Rattle.std.proofs.Math.Nat.{mod-lt}
 use Rattle.std.proofs.lemmas.Bool.{eq-eqb, ltb-true, ltb-false}
 use Rattle.std.proofs.lemmas.Nat.{div-add-mod', mod-mul-add}
+use Rattle.dr_entry.proofs.NumberFacts.{one_below, last_one, none_below}
 use Rattle.dr_history_laws.proofs.Lists.{slice_get-left, slice_get-seam}
 use Rattle.dr_shards.specs.Layout.{is_of_shard, shard_members}
 use Rattle.dr_shards.proofs.Counting.{count_above, counted, members_more}
-
--- one more below r + 1 is one below r, or r itself
-one_below : (k r : ℕ) → cond (ltb k r) 1 0 + cond (eqb r k) 1 0 ≡ cond (ltb k (suc r)) 1 0
-one_below k r = grind arith
-
--- below the last of all, or the last of all
-last_one : (k shards : ℕ) → k < shards → cond (ltb k (shards - 1)) 1 0 + cond (eqb (shards - 1) k) 1 0 ≡ 1
-last_one k shards small = grind (arith, small)
-
-none_below : (k r : ℕ) → r ≤ k → 0 + cond (ltb k r) 1 0 ≡ 0
-none_below k r least = grind (arith, least)
 
 -- of each full row of shards every shard has one member, and of a row begun those that it has come past
 counted_by_rows : (shards k n q r : ℕ) → k < shards → r < shards → n ≡ q * shards + r

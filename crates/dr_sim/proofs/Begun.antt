@@ -1,30 +1,15 @@
 -- The lists for letters, as an age opens.
-use Rattle.std.proofs.Common.{◌≡◌, refl, ap, ℕ, ◌≤◌, List, length, arith}
+use Rattle.std.proofs.Common.{◌≡◌, ap, ℕ, ◌≤◌, List, length, arith}
 use Rattle.std.specs.Prelude.{Option, Some}
 use Rattle.dr_entry.specs.declared.entry.Entry.{Entry}
-use Rattle.dr_age.specs.Begun.{HaveBegun}
 use Rattle.dr_age.specs.Sound.{IsSound}
 use Rattle.dr_history.specs.Members.{members_of}
-use Rattle.dr_machine.specs.Group.{Group, IsGroup, late_members}
+use Rattle.dr_machine.specs.Group.{Group, late_members}
 use Rattle.dr_program.specs.Presence.{present_at}
 use Rattle.dr_program.specs.Running.{Running}
-use Rattle.dr_program.specs.Form.{IsRunningMember}
-use Rattle.dr_age.proofs.Beginning.{begun_is_sound, is_begun}
-use Rattle.dr_restart.specs.Groups.{group_of}
-use Rattle.dr_restart.specs.declared.start.Start.{Start}
-use Rattle.dr_script.specs.declared.script.Script.{Script}
 use Rattle.dr_world.specs.Posts.{PostsOf}
 use Rattle.dr_sim.specs.Lists.{HasSpare, HaveSpares}
 use Rattle.dr_sim.specs.Sound.{program_over}
-
--- a member that has begun is in form
-pub begun_forms : (script : Script) (start : Start) (nth : ℕ) (members : List (Option Running))
-    → IsGroup (group_of script start) → 1 ≤ script.turns → length script.messages ≡ script.members
-    → HaveBegun script start nth script.members members
-    → (m : ℕ) (r : Running) → present_at members m ≡ Some r → IsRunningMember r
-begun_forms script start nth members group some lists begun m r there =
-    (begun_is_sound script start nth _ group some lists
-    (is_begun script start nth members _ _ begun lists refl refl)).form.form m r there
 
 -- no letter is there yet, and a list for each late member
 pub begun_lists : (g : Group) (members : List (Option Running)) (words : List ℕ)

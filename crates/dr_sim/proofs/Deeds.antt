@@ -1,26 +1,24 @@
 -- What the next deed of a member makes of it and of the table.
-use Rattle.std.proofs.Common.{◌≡◌, refl, sym, ap, ◌∙◌, subst, ℕ, false, List, slice_index}
-use Rattle.std.specs.Prelude.{None, Option, Some, is_some, slice_set}
+use Rattle.std.proofs.Common.{◌≡◌, sym, ap, ◌∙◌, subst, ℕ, false, List, slice_index}
+use Rattle.std.specs.Prelude.{None, Option, Some, slice_set}
 use Rattle.dr_entry.specs.declared.entry.Entry.{Entry}
 use Rattle.dr_history.specs.History.{up_to_view}
 use Rattle.dr_entry.specs.declared.record.Record.{Record}
-use Rattle.dr_machine.specs.declared.step.Step.{Step}
-use Rattle.dr_machine.specs.declared.step.Step.TheVariants.{Do}
-use Rattle.dr_program.specs.declared.deed.Deed.{Deed}
 use Rattle.dr_program.specs.declared.deed.Deed.TheVariants as deeds
 use Rattle.dr_program.specs.declared.outcome.LogWhy.{LogWhy}
 use Rattle.dr_program.specs.declared.outcome.Outcome.TheVariants.{Failed, Ok}
 use Rattle.dr_program.specs.Program.{after_deed, next_sight}
 use Rattle.dr_program.specs.Reading.{step_due, step_of_member}
-use Rattle.dr_program.specs.Running.{Running, after_step, broken_off, deed, deed_of, next_deed, next_step, settled, took_letter}
+use Rattle.dr_program.specs.Running.{Running, after_step, broken_off, next_deed, next_step, settled, took_letter}
 use Rattle.dr_program.specs.Sight.{MaySee}
-use Rattle.dr_program.specs.Steps.{IsAppend, IsNoJoin, stored, stored_letters}
+use Rattle.dr_program.specs.Steps.{IsNoJoin, stored, stored_letters}
+use Rattle.dr_program.proofs.Programs.{after_append}
+use Rattle.dr_program.proofs.RunningPrograms.{after_take}
 use Rattle.dr_logged.specs.Appended.{is_append}
-use Rattle.dr_logged.proofs.Serving.{none_failed, settled_same}
-use Rattle.dr_member.specs.Deeds.{is_act}
-use Rattle.dr_turn.proofs.Parts.{end_stays, is_final}
-use Rattle.dr_age.proofs.Deeds.{IsStoreAt, after_append, after_take, any_outcome, deed_tells}
-use Rattle.dr_refine.proofs.Deeds.{append_gives, append_stores}
+use Rattle.dr_age.proofs.Deeds.{IsStoreAt, any_outcome, deed_tells}
+use Rattle.dr_refine.proofs.Deeds.{append_gives, table_at}
+use Rattle.dr_turn.proofs.Failing.{none_failed}
+use Rattle.dr_turn.proofs.Search.{settled_same}
 use Rattle.dr_sim.specs.Deeds.{IsTaken, SeesWell, outcome_by, own_letter, posted, stores, went_so}
 
 -- ---- a look
@@ -34,18 +32,6 @@ look_seen table r index well is =
     (well t.says.row t.says.column (ap (step_due r) t.none ∙ ap Some t.says.look))
 
 -- ---- a deed that is no act
-
-only_acts_are_final : (r : Running) (s : Step) → is_act (deed_of r s) ≡ false → is_final s ≡ false
-only_acts_are_final r (Do a) other = absurd (cc)
-only_acts_are_final r s other = refl
-
--- it leaves the member without an end
-pub stays_going : (word : ℕ) (r x : Running) (d : Deed) → next_deed r ≡ d → is_act d ≡ false
-    → r.replica.end ≡ None → x ≡ after_step word r → is_some x.replica.end ≡ false
-stays_going word r x d is other none after =
-    let step = only_acts_are_final r (next_step r) (ap is_act (sym (ap (deed r) none) ∙ is) ∙ other) in
-    ap (λ (y : Running). is_some y.replica.end) (after ∙ settled_same word r)
-    ∙ ap is_some (end_stays word r.replica (next_step r) step ∙ none)
 
 -- ---- what a deed makes of the member and the table
 
@@ -103,11 +89,6 @@ pub act_taken : (table : List ℕ) (posts : List (Option (List Entry))) (r : Run
     → IsTaken table posts r cells posts x
 act_taken table posts r index word cells x is = let t = deed_tells table r (deeds.Act index word) is in
     store_taken table posts r index word cells x t.none t.says
-
--- the table stays at an append
-table_at : (table : List ℕ) (r : Running) → IsAppend (next_step r)
-    → table ≡ stored table r.replica (next_step r)
-table_at table r is = sym (append_stores table r.replica (next_step r) is)
 
 -- a member at an append takes it where it goes well
 pub append_taken : (table : List ℕ) (posts : List (Option (List Entry))) (r : Running) (due : Record) (x : Running)

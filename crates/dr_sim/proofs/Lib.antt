@@ -1,4 +1,3 @@
-mod Ranges
 mod Deeds
 mod Steps
 mod Outcomes
@@ -13,3 +12,4 @@ mod Sweeps
 mod Choices
 pub mod Courses
 pub mod Repeats
+pub mod Simulations

@@ -1,6 +1,6 @@
 -- The letters and the lists for them: what a sound program's member finds, and what its deed leaves.
 use Rattle.std.proofs.Common.{◌≡◌, refl, sym, ap, ◌∙◌, subst, ℕ, ◌+◌, ◌<◌, ◌≤◌, false, List, length, inl, inr, arith}
-use Rattle.std.specs.Prelude.{IfSome, Option, None, Some, option_map, slice_set}
+use Rattle.std.specs.Prelude.{IfSome, Option, None, Some, slice_set}
 use Rattle.std.proofs.lemmas.Bool.{cases_eq}
 use Rattle.std.proofs.lemmas.Option.{same_Some}
 use Rattle.dr_entry.specs.declared.entry.Entry.{Entry}
@@ -8,38 +8,35 @@ use Rattle.dr_form.specs.Letters.{IsFitting}
 use Rattle.dr_history.specs.History.{up_to_view}
 use Rattle.dr_history.specs.Members.{members_of}
 use Rattle.dr_logged.specs.Served.{LetterGoesOn}
-use Rattle.dr_logged.proofs.Serving.{settled_same}
 use Rattle.dr_machine.specs.Acts.{CanTake}
 use Rattle.dr_machine.specs.Group.{Group, late_members, roster}
 use Rattle.dr_machine.specs.Guards.{CanWelcome}
 use Rattle.dr_program.specs.declared.deed.Deed.TheVariants as deeds
-use Rattle.dr_program.specs.declared.outcome.Outcome.{Outcome}
 use Rattle.dr_program.specs.declared.outcome.Outcome.TheVariants.{Ok}
 use Rattle.dr_program.specs.Presence.{present_at, with_present}
-use Rattle.dr_program.specs.Program.{Program, after_deed, next_sight, step_of, letter_for}
+use Rattle.dr_program.specs.Program.{Program, next_sight, step_of, letter_for}
 use Rattle.dr_program.specs.Reading.{letters_of, world}
 use Rattle.dr_program.specs.Replica.{Replica, is_inside}
-use Rattle.dr_program.specs.Running.{AsksForLetter, Running, after_step, columns, deed, deed_of, members, next_deed, next_step, settled, took_letter}
-use Rattle.dr_program.specs.Turn.{places_in}
-use Rattle.dr_program.specs.declared.place.TheConstants.{TURN}
+use Rattle.dr_program.specs.Running.{AsksForLetter, Running, after_step, deed, deed_of, next_deed, next_step, settled}
 use Rattle.dr_program.specs.Steps.{IsNoJoin, stored_letters}
-use Rattle.dr_program.proofs.Fixed.{Told, join_told, step_told, told}
-use Rattle.dr_program.proofs.Present.{present_kept, present_set, present_within}
-use Rattle.dr_program.proofs.Runs.{after_either}
-use Rattle.dr_refine.proofs.Deeds.{deed_step, settle_replica, step_is}
+use Rattle.dr_program.proofs.Fixed.{Told, told}
+use Rattle.dr_program.proofs.Present.{present_kept, present_set, present_within, MayGet}
+use Rattle.dr_refine.proofs.Deeds.{deed_step, step_is}
 use Rattle.dr_refine.proofs.Tests.{given_welcome}
-use Rattle.dr_room.proofs.Letters.{letters_are, letters_have_room}
+use Rattle.dr_program_laws.proofs.Letters.{letters_are, letters_have_room, may_get}
 use Rattle.dr_turn.proofs.Takes.{taking}
 use Rattle.dr_world.specs.Posts.{PostsOf, count_filled}
 use Rattle.dr_world.specs.Steps.{posts_after}
-use Rattle.dr_world.proofs.Letters.{MayGet, enough_after, list_left, may_get}
+use Rattle.dr_world.proofs.Letters.{enough_after, list_left}
 use Rattle.dr_age.specs.Sound.{IsSound}
 use Rattle.dr_age.proofs.Deeds.{any_outcome, at_give, at_take}
 use Rattle.dr_logged.specs.Appended.{is_append}
+use Rattle.dr_program_laws.proofs.Lists.{deed_told}
+use Rattle.dr_age.proofs.Sound.{move_sound}
 use Rattle.dr_sim.specs.Deeds.{IsTaken, outcome_by, own_letter, went_so}
 use Rattle.dr_sim.specs.Lists.{FindsLists, HasSpare, HaveSpares}
 use Rattle.dr_sim.specs.Sound.{IsAmong, move, with_member}
-use Rattle.dr_sim.proofs.Steps.{move_sound, own_there}
+use Rattle.dr_sim.proofs.Steps.{own_there}
 
 -- ---- what a member finds
 
@@ -109,27 +106,7 @@ finds_lists g p m r cells posts is none lists = record {
         (record { unended = none; due = at_take r takes })
         (sym (own_there g p m r is.sound is.there) ∙ ap (λ ls. own_letter ls r) is.letters)
 
--- what is so of a letter that was read is so of the one that is there
-pub some_read : {A B : Type 0} (f : A → B) (P : B → Type 0) (o : Option A) (q : Option B) → option_map f o ≡ q
-    → IfSome q P → IfSome o (λ x. P (f x))
-some_read f P None q e h = tt
-some_read f P (Some x) q e h = subst (λ o. IfSome o P) (sym e) h
-
 -- ---- what its deed leaves
-
-took_told : (letter : Option (List Entry)) (r : Running) → told (took_letter letter r).replica ≡ told r.replica
-took_told None r = refl
-took_told (Some letter) r = join_told r.replica letter
-
-pub deed_told : (table : List ℕ) (letter : Option (List Entry)) (o : Outcome) (r : Running)
-    → told (after_deed (next_sight table r) letter o r (next_step r)).replica ≡ told r.replica
-deed_told table letter o r =
-    after_either (λ x. told x.replica ≡ told r.replica) table letter o r (next_step r)
-    (ap (λ (x : Running). told x.replica) (settled_same (next_sight table r) r)
-    ∙ step_told (next_sight table r) r.replica (next_step r))
-    (λ why due. refl)
-    (λ due. ap told (settle_replica (places_in (members (took_letter letter r)) (columns (took_letter letter r)) TURN)
-    (took_letter letter r)) ∙ took_told letter r)
 
 pub taken_told : (words : List ℕ) (posts : List (Option (List Entry))) (r : Running) (cells : List ℕ)
     (mails : List (Option (List Entry))) (x : Running) → r.replica.end ≡ None

@@ -1,15 +1,13 @@
 -- The logs of a program, where one member and its log go on.
-use Rattle.std.proofs.Common.{◌≡◌, refl, sym, ap, ◌∙◌, subst, inl, inr, ℕ, ◌<◌, List, length, length-set, get_or}
-use Rattle.std.specs.Prelude.{Option, Some, None, is_some, slice_set}
+use Rattle.std.proofs.Common.{◌≡◌, sym, ap, ◌∙◌, subst, inl, inr, ℕ, ◌<◌, List, length, length-set}
+use Rattle.std.specs.Prelude.{Option, Some, None, slice_set}
 use Rattle.std.proofs.lemmas.Bool.{cases_eq}
-use Rattle.std.proofs.lemmas.List.{get_or-set_same, get_or-set_other, get_or_default}
+use Rattle.std.proofs.lemmas.List.{get_or-set_same, get_or-set_other}
 use Rattle.std.proofs.lemmas.Option.{same_Some}
 use Rattle.dr_disk.specs.Disk.{Told}
 use Rattle.dr_log.specs.State.{LogState}
-use Rattle.dr_machine.specs.Group.{Group}
 use Rattle.dr_program.specs.Program.{Program}
-use Rattle.dr_logged.specs.Served.{AreReady, AtMember, HaveSamePlaces, HaveServed, IsReady}
-use Rattle.dr_age.specs.Sound.{IsSound}
+use Rattle.dr_logged.specs.Served.{AreReady, AtMember, HaveServed, IsReady}
 use Rattle.dr_sim.specs.Places.{HasServedAt, IsReadyAt}
 use Rattle.dr_sim.specs.Sound.{AreOthers}
 use Rattle.dr_program.specs.Presence.{present_at}
@@ -55,30 +53,4 @@ served_on told count bases logs place p q m others within at served = λ k base 
           (sym (others k other) ∙ member)
     ]
 
--- sound programs of one group have as many members
-pub as_many : (g : Group) (p q : Program) → IsSound g p → IsSound g q → length q.members ≡ length p.members
-as_many g p q is sound = sound.form.all ∙ sym is.form.all
-
 -- ---- the same places
-
-pub places_same : {D : Type 0} (logs : List (Option (LogState D))) → HaveSamePlaces logs logs
-places_same logs = record { all = refl; each = λ k. refl }
-
-pub places_both : {D : Type 0} (logs mids news : List (Option (LogState D))) → HaveSamePlaces logs mids
-    → HaveSamePlaces mids news → HaveSamePlaces logs news
-places_both logs mids news one other =
-    record { all = other.all ∙ one.all; each = λ k. other.each k ∙ one.each k }
-
--- what comes to a place that has a log as the one before it
-pub places_on : {D : Type 0} (logs : List (Option (LogState D))) (m : ℕ) (x new : Option (LogState D))
-    → m < length logs → is_some new ≡ is_some (get_or logs m x)
-    → HaveSamePlaces logs (slice_set logs m new)
-places_on logs m x new within same = record {
-  all = length-set logs m new;
-  each = λ k. elim (cases_eq k m) [
-    | inl here ↦ ap (λ n. is_some (present_at (slice_set logs m new) n)) here
-        ∙ ap is_some (get_or-set_same logs m new None within) ∙ same
-        ∙ ap is_some (get_or_default logs m x None within) ∙ ap (λ n. is_some (present_at logs n)) (sym here)
-    | inr other ↦ ap is_some (get_or-set_other logs m k new None other)
-  ];
-}

@@ -39,11 +39,6 @@ pub served_took : {D : Type 0} (told : D → Option Told) (faults : D → ℕ) (
 served_took told faults base place letter r asks within on served = λ log at.
     took_served told faults base log letter r asks within on (served log at)
 
--- what stands at a number, however it is read there
-pub place_is : {X : Type 0} (xs : List (Option X)) (m : ℕ) (x y : Option X) → m < length xs
-    → get_or xs m x ≡ y → present_at xs m ≡ y
-place_is xs m x y within read = get_or_default xs m None x within ∙ read
-
 -- each member's log is ready at the place that is read at its number, and has served it
 pub ready_at : {D : Type 0} (logs : List (Option (LogState D))) (members : List (Option Running)) (m : ℕ)
     (x : Option (LogState D)) (r : Running) → AreReady logs members → present_at members m ≡ Some r

@@ -1,49 +1,18 @@
 -- Room on the logs of members, made one after the other.
-use Rattle.std.proofs.Common.{◌≡◌, refl, sym, ap, ◌∙◌, subst, inl, inr, ℕ, ◌+◌, ◌<◌, ◌≤◌, List, length, length-set, le_refl, get_or, arith}
-use Rattle.std.specs.Prelude.{Err, Ok, OnErr, OnOk, Option, None, Result, Some, is_some, slice_set}
-use Rattle.std.specs.declared.alloc.AllocError.{AllocError}
+use Rattle.std.proofs.Common.{◌≡◌, refl, sym, ap, ◌∙◌, subst, inl, inr, ℕ, ◌+◌, ◌<◌, List, length, length-set, le_refl, get_or, arith}
+use Rattle.std.specs.Prelude.{Option, None, Some, is_some, slice_set}
 use Rattle.std.proofs.lemmas.Bool.{cases_eq}
-use Rattle.std.proofs.lemmas.List.{get_or-set_other, get_or-set_same, get_or_default}
+use Rattle.std.proofs.lemmas.List.{get_or_default}
 use Rattle.std.proofs.lemmas.Option.{same_Some}
 use Rattle.dr_disk.specs.Disk.{Told}
 use Rattle.dr_log.specs.State.{LogState}
 use Rattle.dr_program.specs.Presence.{present_at}
 use Rattle.dr_program.specs.Running.{Running}
 use Rattle.dr_logged.specs.Served.{HaveSamePlaces, IsRoomy}
+use Rattle.dr_logged.proofs.Rooms.{here_set, others_set}
 use Rattle.dr_age.specs.Logged.{AreAsBefore, AreCalm, IsAsBefore}
+use Rattle.dr_age.proofs.LoggedMembers.{HasMadeRoom}
 use Rattle.dr_sim.specs.Rooms.{GotRoomAt, StaysAt}
-
--- the logs below k got room, and the others are as they were
-pub record HasMadeRoom {D : Type 0} (told : D → Option Told) (count : D → ℕ) (members : List (Option Running))
-    (olds news : List (Option (LogState D))) (k : ℕ) : Type 0 where
-  pub made : (m : ℕ) (r : Running) (old new : LogState D) → m < k → present_at members m ≡ Some r
-      → present_at olds m ≡ Some old → present_at news m ≡ Some new → IsRoomy told count r old new
-  pub others : (m : ℕ) → k ≤ m → present_at news m ≡ present_at olds m
-  pub places : HaveSamePlaces olds news
-  pub same : AreAsBefore olds news
-  pub calm : AreCalm told count olds news
-
--- before the first
-pub none_made : {D : Type 0} (told : D → Option Told) (count : D → ℕ) (members : List (Option Running))
-    (logs : List (Option (LogState D))) → HasMadeRoom told count members logs logs 0
-none_made told count members logs = record {
-  made = λ m r old new below member there here. absurd (omega (arith, below));
-  others = λ m above. refl;
-  places = record { all = refl; each = λ m. refl };
-  same = λ m old new there here. subst (λ x. IsAsBefore old x) (same_Some old new (sym there ∙ here)) refl;
-  calm = λ m old new there here.
-      let is = same_Some new old (sym here ∙ there) in
-      (ap (λ x. told x.disk) is, ap (λ x. count x.disk) is);
-}
-
--- what stands at place k once it was set, and at the others
-here_set : {D : Type 0} (news : List (Option (LogState D))) (k : ℕ) (new : Option (LogState D)) → k < length news
-    → present_at (slice_set news k new) k ≡ new
-here_set news k new within = get_or-set_same news k new None within
-
-others_set : {D : Type 0} (news : List (Option (LogState D))) (m k : ℕ) (new : Option (LogState D))
-    → (m ≡ k → ⊥) → present_at (slice_set news k new) m ≡ present_at news m
-others_set news m k new other = get_or-set_other news k m new None other
 
 -- a place that stays as it was, in the place of one
 pub stays_set : {D : Type 0} (told : D → Option Told) (count : D → ℕ) (olds news : List (Option (LogState D)))
@@ -144,18 +113,6 @@ no_member_there told count member old new none = λ r x y there from to. absurd 
 pub no_log_there : {D : Type 0} (told : D → Option Told) (count : D → ℕ) (member : Option Running)
     (old new : Option (LogState D)) → old ≡ None → GotRoomAt told count member old new
 no_log_there told count member old new none = λ r x y there from to. absurd (cc (none, from))
-
--- what room is made for leaves what is on the log, whether there was memory or not
-pub reserve_keeps : {D : Type 0} (result : Result (Unit {0}) AllocError) (old new more less : LogState D)
-    → more.content ≡ old.content → less.content ≡ old.content → OnOk result (new ≡ more)
-    → OnErr result (new ≡ less) → IsAsBefore old new
-reserve_keeps {D} (Ok u) old new more less kept lost ok err = ap (λ (l : LogState D). l.content) ok ∙ kept
-reserve_keeps {D} (Err e) old new more less kept lost ok err = ap (λ (l : LogState D). l.content) err ∙ lost
-
--- what follows where there was memory
-pub on_ok : (A B : Type 0) (result : Result (Unit {0}) AllocError) → (A → B) → OnOk result A → OnOk result B
-on_ok A B (Ok u) so ok = so ok
-on_ok A B (Err e) so ok = tt
 
 -- a log in the place of one
 pub log_stays : {D : Type 0} (told : D → Option Told) (count : D → ℕ) (place : Option (LogState D))

@@ -1,34 +1,26 @@
 -- A member of a sound program takes its next deed.
 use Rattle.std.proofs.lemmas.List.{get_or_read}
-use Rattle.std.proofs.Common.{◌≡◌, refl, sym, ap, ◌∙◌, subst, inl, inr, ◌⊎◌, ℕ, ◌<◌, ◌≤◌, false, List, length, get_or, arith}
+use Rattle.std.proofs.Common.{◌≡◌, refl, sym, ap, ◌∙◌, subst, inl, inr, ◌⊎◌, ℕ, ◌<◌, false, List, length, get_or, arith}
 use Rattle.std.specs.Prelude.{Option, Some, None}
 use Rattle.std.proofs.lemmas.List.Sums.{sum_by-set}
-use Rattle.std.proofs.lemmas.Option.{same_Some}
-use Rattle.dr_words.specs.Layout.{words_of}
 use Rattle.dr_machine.specs.Group.{Group}
-use Rattle.dr_program.specs.Form.{IsRunningMember}
 use Rattle.dr_program.specs.Running.{Running, next_step}
 use Rattle.dr_program.specs.declared.outcome.LogWhy.{LogWhy}
 use Rattle.dr_program.specs.declared.outcome.Outcome.{Outcome}
 use Rattle.dr_program.specs.declared.outcome.Outcome.TheVariants.{Ok}
 use Rattle.dr_entry.specs.declared.entry.Entry.{Entry}
-use Rattle.dr_program.specs.Program.{Move, Program, after_deed, has_ended, letter_for, next_sight, step_of}
+use Rattle.dr_program.specs.Program.{Program, after_deed, has_ended, letter_for, next_sight, step_of}
 use Rattle.dr_program.specs.Reading.{letters_of}
 use Rattle.dr_refine.proofs.Deeds.{step_is}
-use Rattle.dr_program_laws.proofs.Keeping.{move_kept, sees}
-use Rattle.dr_member.specs.Deeds.{table_size}
+use Rattle.dr_program_laws.proofs.Keeping.{sees}
 use Rattle.dr_turn.specs.Work.{deeds_left}
 use Rattle.dr_sim.specs.Deeds.{IsTaken, SeesWell, outcome_by, own_letter, posted, stores, went_so}
 use Rattle.dr_sim.specs.Simulated.{SomeFailed}
 use Rattle.dr_age.specs.Sound.{IsSound}
 use Rattle.dr_sim.specs.Sound.{IsAmong, TookDeed, move, left_at, program_over}
 use Rattle.dr_program.specs.Presence.{present_at, with_present}
-use Rattle.dr_program.proofs.Present.{present_within, present_set}
-
--- a sound program stays one over each move
-pub move_sound : (g : Group) (p : Program) (e : Move) → IsSound g p → IsSound g (step_of p e)
-move_sound g p e is = let kept = move_kept g p e is.group is.form is.reached in
-    record { group = is.group; form = kept.0; reached = kept.1 }
+use Rattle.dr_program.proofs.Present.{present_within, present_set, going_within}
+use Rattle.dr_age.proofs.Sound.{move_sound}
 
 -- member m took its next deed, and the program stays sound
 pub record HasStepped (g : Group) (p : Program) (m : ℕ) (q : Program) : Type 0 where
@@ -96,21 +88,6 @@ pub sees_well : (g : Group) (p : Program) (m : ℕ) (r : Running) → IsSound g 
     ≡ Some r → SeesWell p.table r
 sees_well g p m r is there = λ i c due. sees g p m r i c is.group is.form is.reached there due
 
--- a member that has not ended is one of the program
-pub going_within : (rs : List (Option Running)) (m : ℕ) → has_ended (present_at rs m) ≡ false → m < length rs
-going_within rs m going = by (present_at rs m) refl going
-  where
-    by : (o : Option Running) → present_at rs m ≡ o → has_ended o ≡ false → m < length rs
-    by None e not = absurd (cc)
-    by (Some r) e not = present_within rs m r e
-
--- the table has all words that the member may name
-pub whole_table : (g : Group) (p : Program) (m : ℕ) (r : Running) → IsSound g p
-    → present_at p.members m ≡ Some r → table_size r ≡ length p.table
-whole_table g p m r is there =
-    let of = is.form.of m r there in
-    (λ z. words_of (of.members z) (of.window z) (of.banks z)) ∙ sym is.form.table
-
 -- so there is one at its number
 pub going_there : (rs : List (Option Running)) (cells : List ℕ)
     (posts : List (Option (List Entry))) (now : Program) (m : ℕ) → program_over rs cells posts ≡ now
@@ -159,23 +136,3 @@ among_read g rs cells words posts now m o r is sound going read some same = reco
   table = sym (same ∙ ap (λ (v : Program). v.table) is);
   letters = sym (ap (λ (v : Program). v.letters) is);
 }
-
--- what is so of the member that was put at a number is so of the one that stands there
-pub at_set : (P : Running → Type 0) (rs : List (Option Running)) (m : ℕ) (x r : Running) → m < length rs → P x
-    → present_at (with_present rs m x) m ≡ Some r → P r
-at_set P rs m x r within is there = subst P (same_Some x r (sym (present_set rs m x within) ∙ there)) is
-
--- all members of a sound program are in form
-pub all_in_form : (g : Group) (p : Program) (rs : List (Option Running)) → IsSound g p → rs ≡ p.members
-    → (m : ℕ) (r : Running) → present_at rs m ≡ Some r → IsRunningMember r
-all_in_form g p rs is same m r there = is.form.form m r (ap (λ xs. present_at xs m) (sym same) ∙ there)
-
--- and the table has all words that they may name
-pub all_within : (g : Group) (p : Program) (rs : List (Option Running)) (cells : List ℕ) → IsSound g p
-    → rs ≡ p.members → cells ≡ p.table
-    → (m : ℕ) (r : Running) → present_at rs m ≡ Some r → table_size r ≤ length cells
-all_within g p rs cells is same words m r there = omega (
-  arith,
-  whole_table g p m r is (ap (λ xs. present_at xs m) (sym same) ∙ there),
-  ap length words,
-)

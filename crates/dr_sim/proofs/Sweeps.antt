@@ -1,34 +1,23 @@
 -- Sweeps: what comes of a program, and of a log, by looks and pushes of one member.
-use Rattle.std.proofs.Common.{◌≡◌, refl, sym, ap, ◌∙◌, subst, inl, inr, ℕ, zero, suc, ◌<◌, ◌≤◌, true, false, ◌||◌, List, [], length, length-append, le_of_eq, arith}
-use Rattle.std.specs.Prelude.{Option, None, Some, is_some}
+use Rattle.std.proofs.Common.{◌≡◌, refl, sym, ap, ◌∙◌, subst, inl, inr, ℕ, zero, suc, ◌<◌, ◌≤◌, true, false, List, length, le_of_eq, arith}
+use Rattle.std.specs.Prelude.{Option, None, Some}
 use Rattle.std.proofs.lemmas.List.Sums.{sum_by-set}
 use Rattle.dr_disk.specs.Disk.{Told}
-use Rattle.dr_entry.specs.declared.end.End.{End}
 use Rattle.dr_log.specs.State.{LogState}
-use Rattle.dr_logged.specs.Appended.{is_append}
-use Rattle.dr_logged.specs.Served.{HasServed, IsReady}
-use Rattle.dr_logged.proofs.Serving.{grows, other_ready, other_served, settled_same}
 use Rattle.dr_machine.specs.Group.{Group}
 use Rattle.dr_member.specs.Alone.{IsAtSweep, LeadsTo, SeesAlong}
-use Rattle.dr_member.specs.Deeds.{is_look, is_push, table_size}
+use Rattle.dr_member.specs.Deeds.{table_size}
 use Rattle.dr_member.proofs.Alone.{look_step}
-use Rattle.dr_program.specs.declared.deed.Deed.{Deed}
-use Rattle.dr_program.specs.declared.deed.Deed.TheVariants as deeds
-use Rattle.dr_program.specs.declared.place.Part.{Part}
-use Rattle.dr_program.specs.declared.place.Part.TheVariants as parts
 use Rattle.dr_program.specs.Program.{Move, Program, next_sight}
-use Rattle.dr_program.specs.Replica.{Replica}
 use Rattle.dr_program.specs.Reading.{step_of_member}
-use Rattle.dr_program.specs.Running.{Running, after_step, deed, deed_of, next_deed, next_step, step_at}
+use Rattle.dr_program.specs.Running.{Running, after_step, next_step}
 use Rattle.dr_program.specs.Sight.{MaySee}
 use Rattle.dr_program.specs.Schedule.{IsTurn, is_between_turns}
-use Rattle.dr_program.specs.Steps.{IsNoJoin, stored, stored_letters}
-use Rattle.dr_machine.specs.declared.step.Step.{Step}
+use Rattle.dr_program.specs.Steps.{stored}
 use Rattle.dr_entry.specs.declared.entry.Entry.{Entry}
-use Rattle.dr_program.specs.Turn.{is_beat, part_of}
+use Rattle.dr_entry.proofs.ListPlaces.{set_twice}
 use Rattle.dr_turn.specs.Work.{deeds_left}
 use Rattle.dr_age.specs.Sound.{IsSound}
-use Rattle.dr_age.proofs.Deeds.{at_look, at_push, deed_tells}
 use Rattle.dr_sim.specs.Deeds.{IsTaken}
 use Rattle.dr_world.specs.Posts.{PostsOf}
 use Rattle.dr_sim.specs.Lists.{HasSpare}
@@ -39,57 +28,15 @@ use Rattle.dr_sim.specs.Sweeps.{HasGoneOn}
 use Rattle.dr_sim.specs.Watched.{TakesNoNote, WasTold}
 use Rattle.dr_sim.proofs.Deeds.{other_taken}
 use Rattle.dr_sim.proofs.Lists.{lists_still, taken_told}
-use Rattle.dr_sim.proofs.Steps.{HasStepped, sees_well, stepped, whole_table}
-use Rattle.dr_sim.proofs.Turns.{HasTurn, IsInTurn, IsUnderWay, more_moves, set_twice, stands, turn_ends, turn_goes_on}
+use Rattle.dr_sim.proofs.Steps.{HasStepped, sees_well, stepped}
+use Rattle.dr_sim.proofs.Turns.{HasTurn, IsInTurn, IsUnderWay, more_moves, stands, turn_ends, turn_goes_on}
 use Rattle.dr_program.specs.Presence.{present_at, with_present}
 use Rattle.dr_program.proofs.Present.{present_within, present_set}
+use Rattle.dr_logged.proofs.Appends.{IsSweeping}
+use Rattle.dr_age.proofs.Sound.{whole_table}
+use Rattle.dr_age.proofs.Deeds.{at_sweep, swept_ready, swept_served}
 
 -- ---- a member at a look or a push
-
--- the deed is no append, no take, and gives no letter
-record IsPlain (r : Running) (s : Step) : Type 0 where
-  pub other : is_append s ≡ false
-  pub no_join : IsNoJoin s
-  pub posts : (letters : List (Option (List Entry))) → stored_letters letters r.replica s ≡ letters
-
-is_plain : (r : Running) (d : Deed) → next_deed r ≡ d → (is_look d || is_push d) ≡ true
-    → IsPlain r (next_step r)
-is_plain r (deeds.Look index) next due =
-    let t = deed_tells [] r (deeds.Look index) next in
-    record { other = at_look r index next; no_join = t.says.no_join; posts = t.says.posts }
-is_plain r (deeds.Push index word) next due =
-    let t = deed_tells [] r (deeds.Push index word) next in
-    record { other = at_push r index word next; no_join = t.says.no_join; posts = t.says.posts }
-is_plain r d next due = absurd (cc)
-
--- nor does it begin a turn
-no_beat : (r : Running) (p : Part) (i c : ℕ) → let d = deed_of r (step_at r p i c) in
-    (is_look d || is_push d) ≡ true → is_beat p ≡ false
-no_beat r (parts.Do a) i c due = absurd (cc)
-no_beat r p i c due = refl
-
--- so it has not ended, appends nothing, and stands amid its turn
-pub record IsSweeping (r : Running) : Type 0 where
-  pub none : r.replica.end ≡ None
-  pub other : is_append (next_step r) ≡ false
-  pub no_join : IsNoJoin (next_step r)
-  pub posts : (letters : List (Option (List Entry))) → stored_letters letters r.replica (next_step r) ≡ letters
-  pub amid : is_between_turns (Some r) ≡ false
-
-pub at_sweep : (r : Running) → IsAtSweep r → IsSweeping r
-at_sweep r due = by r.replica.end refl due
-  where
-    by : (o : Option End) → r.replica.end ≡ o → (is_look (deed r o) || is_push (deed r o)) ≡ true
-        → IsSweeping r
-    by (Some end) e kind = absurd (cc)
-    by None e kind = record {
-      none = e;
-      other = (is_plain r (next_deed r) refl due).other;
-      no_join = (is_plain r (next_deed r) refl due).no_join;
-      posts = (is_plain r (next_deed r) refl due).posts;
-      amid = ap (λ o. is_some o || is_beat (part_of r.place)) e
-          ∙ no_beat r (part_of r.place) r.place.row r.place.column kind;
-    }
 
 -- what its next deed makes of it and of the table
 pub swept_taken : (words : List ℕ) (posts : List (Option (List Entry))) (r : Running) → IsSweeping r
@@ -281,36 +228,6 @@ way_on {W} {sees} {old} {mid} new g p m r x y table cells next letters posts mai
         (gone_sweeping sees old mid idle g p m within posts n cells x next y here (at_sweep x due).amid taken))
 
 -- ---- logs
-
--- a log stays ready for its member
-swept_ready : {D : Type 0} (log : LogState D) (n : ℕ) (words : List ℕ) (r : Running) (cells : List ℕ)
-    (q : Running) → LeadsTo n words r cells q → IsReady log r → IsReady log q
-swept_ready log zero words r cells q (same, is) ready = subst (IsReady log) is ready
-swept_ready log (suc n) words r cells q (due, rest) ready =
-    swept_ready log n _ _ cells q rest
-    (other_ready log (next_sight words r) r (at_sweep r due).other ready)
-
--- no more is logged than there is, as before
-logged_on : (word : ℕ) (r : Running) → is_append (next_step r) ≡ false
-    → r.replica.logged ≤ length r.replica.history
-    → (after_step word r).replica.logged ≤ length (after_step word r).replica.history
-logged_on word r other within =
-    let g = grows word r.replica (next_step r) other in
-    subst (λ (x : Replica). x.logged ≤ length x.history)
-    (sym (ap (λ (x : Running). x.replica) (settled_same word r)))
-    (omega (arith, within, g.logged, ap length g.history, length-append r.replica.history g.more))
-
--- and has served it
-swept_served : {D : Type 0} (told : D → Option Told) (faults : D → ℕ) (base log : LogState D) (n : ℕ)
-    (words : List ℕ) (r : Running) (cells : List ℕ) (q : Running) → LeadsTo n words r cells q
-    → r.replica.logged ≤ length r.replica.history
-    → HasServed told faults base log r → HasServed told faults base log q
-swept_served told faults base log zero words r cells q (same, is) within served =
-    subst (HasServed told faults base log) is served
-swept_served told faults base log (suc n) words r cells q (due, rest) within served =
-    let other = (at_sweep r due).other in
-    swept_served told faults base log n _ _ cells q rest (logged_on (next_sight words r) r other within)
-    (other_served told faults base log (next_sight words r) r other (at_sweep r due).none within served)
 
 -- so it is where looks and pushes have led it
 pub come_ready : {D : Type 0} (place : Option (LogState D)) (words : List ℕ) (r : Running) (cells : List ℕ)

@@ -1,18 +1,17 @@
 -- Runs in lockstep: turns, rounds, and what goes on.
-use Rattle.std.proofs.Common.{◌≡◌, refl, sym, ap, ◌∙◌, subst, inl, inr, ◌⊎◌, ℕ, zero, suc, ◌+◌, ◌<◌, ◌≤◌, Bool, true, false, ◌||◌, List, [], ◌∷◌, ◌++◌, length, take, append-nil, le_refl, arith}
-use Rattle.std.specs.Prelude.{All, Option, None, Some, is_some, slice_index_or, slice_set}
+use Rattle.std.proofs.Common.{◌≡◌, refl, sym, ap, ◌∙◌, subst, inl, inr, ◌⊎◌, ℕ, suc, ◌+◌, ◌<◌, ◌≤◌, Bool, true, false, List, [], ◌∷◌, ◌++◌, length, take, le_refl, arith}
+use Rattle.std.specs.Prelude.{All, Option, Some}
 use Rattle.std.specs.List.{range_with_len}
-use Rattle.std.proofs.lemmas.List.{append_assoc, length_push, set-get_or, take-append-le, take_all}
+use Rattle.std.proofs.lemmas.List.{length_push, take-append-le, take_all}
 use Rattle.std.proofs.lemmas.List.Elements.{All-append, All-nil}
-use Rattle.dr_entry.specs.declared.end.End.{End}
 use Rattle.dr_entry.specs.declared.entry.Entry.{Entry}
+use Rattle.dr_entry.proofs.ListFacts.{count_more}
 use Rattle.dr_machine.specs.Group.{Group}
 use Rattle.dr_program.specs.declared.outcome.Outcome.TheVariants as outcomes
 use Rattle.dr_program.specs.Schedule.{is_between_turns, IsTurn, Rounds, TakeTurns, TakesTurn}
 use Rattle.dr_program.specs.Program.{AllEnded, Move, Program, ran, step_of, has_ended}
 use Rattle.dr_program.specs.Running.{Running}
-use Rattle.dr_program.specs.Turn.{is_beat, part_of}
-use Rattle.dr_program.proofs.Runs.{ran_on}
+use Rattle.dr_program.proofs.Runs.{ran_on, ran_more}
 use Rattle.dr_program_laws.proofs.Schedules.{turns_taken}
 use Rattle.dr_program.specs.declared.outcome.Outcome.{Outcome}
 use Rattle.dr_script.specs.declared.script.Schedule.TheVariants.{Lockstep}
@@ -20,27 +19,15 @@ use Rattle.dr_sim.specs.Simulated.{HasRun, SomeFailed, WentWell}
 use Rattle.dr_age.specs.Sound.{IsSound}
 use Rattle.dr_sim.specs.Sound.{IsAmong, TookTurn, TookTurns, all_left, move, program_over, with_member}
 use Rattle.dr_sim.proofs.Outcomes.{none_well, well_both, well_one}
-use Rattle.dr_sim.proofs.Ranges.{count_more}
 use Rattle.dr_sim.specs.Watched.{WasTold}
 use Rattle.dr_sim.proofs.Steps.{took}
 use Rattle.dr_sim.proofs.Tellings.{told_both, told_more}
-use Rattle.dr_program.specs.Presence.{present_at, with_present}
-use Rattle.dr_program.proofs.Present.{present_within, present_set, all_ended}
+use Rattle.dr_program.specs.Presence.{present_at}
+use Rattle.dr_program.proofs.Present.{present_within, present_set, set_itself, each_ended}
+use Rattle.dr_program.proofs.Programs.{ran_none, one, ran_one, took_turn}
+use Rattle.dr_program.proofs.Schedules.{turns_more, rounds_more}
 
 -- ---- a turn
-
-pub ran_one : (q : Program) (e : Move) → ran q (e ∷ []) ≡ step_of q e
-unfolding ran
-ran_one q e = refl
-
--- one move more
-pub ran_more : (p : Program) (es : List Move) (e : Move) → ran p (es ++ e ∷ []) ≡ step_of (ran p es) e
-ran_more p es e = ran_on p es (e ∷ []) ∙ ran_one (ran p es) e
-
--- no moves leave a program as it is
-pub ran_none : (p : Program) → p ≡ ran p []
-unfolding ran
-ran_none p = refl
 
 -- member m is amid a turn, or has begun none: these moves of it, of which the watcher was told
 pub record IsInTurn {W : Type 0} (sees : W → Running → List ℕ → W → Type 0) (old new : W) (m : ℕ)
@@ -69,13 +56,6 @@ turn_begins sees w m p = record {
 abbrev pub more_moves : {W : Type 0} {sees : W → Running → List ℕ → W → Type 0} {old new : W} (m : ℕ)
     (o : Outcome) (begun p : Program) → IsInTurn sees old new m begun p → List Move
 more_moves m o begun p is = is.moves ++ move m o ∷ []
-
-one : (P : Move → Type 0) (e : Move) → P e → All P (e ∷ [])
-one P e h = by
-  where
-    by : (k : ℕ) (d : Move) → k < 1 → P (slice_index_or (e ∷ []) k d)
-    by zero d within = h
-    by (suc k) d within = absurd (omega arith)
 
 more_own : {W : Type 0} {sees : W → Running → List ℕ → W → Type 0} {old new : W} (m : ℕ)
     (o : Outcome) (begun p : Program) (is : IsInTurn sees old new m begun p)
@@ -167,16 +147,6 @@ turn_goes_on new m o begun p q r is step well amid there seen = record {
 
 -- ---- a turn of a member alone
 
-pub set_twice : {A : Type 0} (xs : List A) (i : ℕ) (a b : A) → slice_set (slice_set xs i a) i b
-    ≡ slice_set xs i b
-set_twice [] i a b = refl
-set_twice (x ∷ xs) zero a b = refl
-set_twice (x ∷ xs) (suc i) a b = ap (λ ys. x ∷ ys) (set_twice xs i a b)
-
-set_itself : {A : Type 0} (xs : List (Option A)) (m : ℕ) (x : A) → present_at xs m ≡ Some x
-    → with_present xs m x ≡ xs
-set_itself xs m x there = ap (λ o. slice_set xs m o) (sym there) ∙ set-get_or xs m None
-
 -- the program in which the member has gone so far
 pub record IsUnderWay {W : Type 0} (sees : W → Running → List ℕ → W → Type 0) (old new : W) (g : Group)
     (p : Program) (m : ℕ) (q : Program) : Type 0 where
@@ -219,50 +189,7 @@ abbrev pub HasTurn : {W : Type 0} → (W → Running → List ℕ → W → Type
     → Program → Type 0
 HasTurn sees old new g p m q = (took : TookTurn g p m q) × WasTold sees p took.moves old new
 
--- a member amid its turn has not ended
-pub amid_goes : (r : Running) → is_between_turns (Some r) ≡ false → is_some r.replica.end ≡ false
-amid_goes r amid = by (is_some r.replica.end) amid
-  where
-    by : (b : Bool) → (b || is_beat (part_of r.place)) ≡ false → b ≡ false
-    by true e = absurd (cc)
-    by false e = refl
-
--- a member that does not show an end has none
-pub going_none : (r : Running) → is_some r.replica.end ≡ false → r.replica.end ≡ None
-going_none r going = by r.replica.end going
-  where
-    by : (o : Option End) → is_some o ≡ false → o ≡ None
-    by None e = refl
-    by (Some end) e = absurd (cc)
-
 -- ---- a round
-
-turns_more : (ms : List ℕ) (m : ℕ) (p : Program) (es : List Move) (q : Program) (turn : List Move)
-    (r : Program) → TakeTurns ms p es q → TakesTurn m q turn r
-    → TakeTurns (ms ++ m ∷ []) p (es ++ turn) r
-turns_more [] m p es q turn r (none, same) last = (
-  turn,
-  [],
-  r,
-  ap (λ xs. xs ++ turn) none
-      ∙ sym (append-nil turn),
-  subst (λ (x : Program). TakesTurn m x turn r) same last,
-  (refl, refl),
-)
-turns_more (k ∷ ks) m p es q turn r (first, rest, mid, both, taken, more) last = (
-  first,
-  rest ++ turn,
-  mid,
-  ap (λ xs. xs ++ turn) both
-      ∙ append_assoc first rest turn,
-  taken,
-  turns_more ks m mid rest q turn r more last,
-)
-
--- where a turn leads to
-took_turn : (m : ℕ) (p q : Program) (turn : List Move) → TakesTurn m p turn q → q ≡ ran p turn
-took_turn m p q turn (inl (ended, none, same)) = same ∙ ran_none p ∙ ap (ran p) (sym none)
-took_turn m p q turn (inr (going, is)) = is.taken
 
 -- these members each took their turn, in this order, and the watcher was told of it
 abbrev pub HasTurns : {W : Type 0} → (W → Running → List ℕ → W → Type 0) → W → W → List ℕ → Program → Program
@@ -345,12 +272,6 @@ round_goes_on {W} {sees} {old} {mid} new g m begun p q is going (took, told) = r
     by (inr fewer) = omega (arith, took.falls, fewer)
     by (inl (same, each)) = omega (arith, took.falls, ap all_left same)
 
--- where each member has ended, all have
-pub each_ended : (p : Program)
-    → ((k : ℕ) → k < length p.members → has_ended (present_at p.members k) ≡ true) → AllEnded p
-each_ended p each = all_ended p (λ m r there.
-    sym (ap has_ended there) ∙ each m (present_within p.members m r there))
-
 -- a round in which not all had ended leaves less to do
 pub round_ends : {W : Type 0} {sees : W → Running → List ℕ → W → Type 0} {old new : W} (g : Group) (m : ℕ)
     (begun p : Program) → IsInRound sees old new g m begun p → m ≡ length begun.members → ¬ AllEnded begun
@@ -363,29 +284,6 @@ round_ends g m begun p is all someone = by is.falls
     by (inl (same, each)) = absurd (someone (each_ended begun (λ k within. each k (omega arith))))
 
 -- ---- the run
-
-rounds_more : (k : ℕ) (p : Program) (es : List Move) (q : Program) (round : List Move) (r : Program)
-    → Rounds k p es q
-    → TakeTurns (range_with_len 0 (length q.members)) q round r → Rounds (suc k) p (es ++ round) r
-rounds_more zero p es q round r (none, same) last = (
-  round,
-  [],
-  r,
-  ap (λ xs. xs ++ round) none
-      ∙ sym (append-nil round),
-  subst
-      (λ (x : Program). TakeTurns (range_with_len 0 (length x.members)) x round r) same last,
-  (refl, refl),
-)
-rounds_more (suc k) p es q round r (first, rest, mid, both, taken, more) last = (
-  first,
-  rest ++ round,
-  mid,
-  ap (λ xs. xs ++ round) both
-      ∙ append_assoc first rest round,
-  taken,
-  rounds_more k mid rest q round r more last,
-)
 
 -- so many rounds have been run, by these moves, of which the watcher was told
 pub record HasRounds {W : Type 0} (sees : W → Running → List ℕ → W → Type 0) (old new : W)

@@ -10,10 +10,13 @@ use Rattle.std.specs.Option.{unwrap_or}
 use Rattle.std.specs.Ordering.{is_eq}
 use Rattle.std.specs.declared.alloc.Global.{Global}
 use Rattle.std.specs.declared.cmp.Ordering.TheVariants.{Less}
+use Rattle.dr_entry.proofs.ListFacts.{by_bytes, is_key}
+use Rattle.dr_entry.proofs.PlainFacts.{same_key}
+use Rattle.dr_entry.proofs.BoolFacts.{equal}
 use Rattle.dr_store.specs.declared.changes.Change.{Change}
 use Rattle.dr_store.specs.Stock.{value_by}
 use Rattle.dr_store.specs.Tables.{KeyTable, IsInOrder, changes_of}
-use Rattle.dr_store.proofs.Tables.{by_bytes, same_key, equal, is_key, changes_found}
+use Rattle.dr_store.proofs.Tables.{changes_found}
 
 -- of the changes of a key those were dropped that no version from this one on needs
 pub record Thinned (below : ℕ) (old new : List Change) : Type 0 where

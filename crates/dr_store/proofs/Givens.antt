@@ -1,9 +1,10 @@
 -- What the changes of a key give at a version: the last of those up to it decides.
 use Rattle.std.proofs.Common.{◌≡◌, ℕ, zero, suc, ◌+◌, ◌-◌, ◌≤◌, ◌<◌, true, false, cond, leb, List, [], ◌∷◌, ◌++◌, length, get_or, drop, fold, refl, ap, subst, sym, ◌∙◌, arith, get_or-drop, length-drop}
 use Rattle.std.proofs.lemmas.Bool.{leb-true, le-leb}
-use Rattle.std.specs.Prelude.{Option, None, Some, is_some}
+use Rattle.std.specs.Prelude.{Option, None, is_some}
 use Rattle.std.specs.List.{AllWithin}
 use Rattle.std.specs.List.Sorted.{IsPartitionPoint}
+use Rattle.dr_entry.proofs.ListFacts.{no_value}
 use Rattle.dr_store.specs.declared.changes.Change.{Change}
 use Rattle.dr_store.specs.Stock.{value_by}
 
@@ -88,10 +89,6 @@ pub counted : (v : ℕ) (cs : List Change) (n : ℕ) (d : Change) → n ≤ leng
     → IsPartitionPoint (λ c. leb c.version v ≡ true) (λ c. leb c.version v ≡ false) cs n
     → leb (get_or cs (n - 1) d).version v ≡ true
 counted v cs n d few some parted = parted.0 (n - 1) d (omega arith) (omega arith)
-
-no_value : (x : Option (List ℕ)) → is_some x ≡ false → x ≡ None
-no_value None is = refl
-no_value (Some x) is = absurd (cc is)
 
 -- what is left where the last of the first n changes gives no value, and no version needs it
 pub given-behind_counted : (below v : ℕ) (cs : List Change) (n : ℕ) (d : Change) → below ≤ v → n ≤ length cs

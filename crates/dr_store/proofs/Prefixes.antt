@@ -1,53 +1,17 @@
 -- The keys that begin with a prefix stand together: at the first one that is not below it, and those behind.
-use Rattle.std.proofs.Common.{◌≡◌, ℕ, ◌<◌, Bool, true, false, cond, eqb, ◌&&◌, List, [], ◌∷◌, ◌++◌, refl, ap, sym, subst, ◌∙◌, arith, append-nil, append_assoc}
+use Rattle.std.proofs.Common.{◌≡◌, ℕ, Bool, true, false, cond, ◌&&◌, List, [], ◌∷◌, ◌++◌, refl, ap, sym, subst, ◌∙◌, append-nil, append_assoc}
 use Rattle.std.specs.Prelude.{Option, None, Some, filter, filter_map, nat_eq, option_map, Vec}
-use Rattle.std.proofs.lemmas.Bool.{eqb-true, eq-eqb}
-use Rattle.std.specs.Cmp.{nat_cmp_is, ranked, tied_itself, nat_cmp_total}
 use Rattle.std.specs.List.{AllByRecursion, cons_option, starts_with}
 use Rattle.std.specs.List.Sorted.{IsStrictlySortedBy}
 use Rattle.std.specs.Map.{keys_of}
-use Rattle.std.specs.Ordering.{nat_cmp, is_le, ordering_then}
+use Rattle.std.specs.Ordering.{is_le}
 use Rattle.std.specs.declared.alloc.Global.{Global}
-use Rattle.std.specs.declared.cmp.Ordering.TheVariants.{Less, Equal, Greater}
+use Rattle.std.specs.declared.cmp.Ordering.TheVariants.{Less}
+use Rattle.dr_entry.proofs.ListFacts.{by_bytes, below_not, begins-between}
+use Rattle.dr_entry.proofs.BoolFacts.{and_true}
 use Rattle.dr_store.specs.declared.changes.Change.{Change}
 use Rattle.dr_store.specs.Stock.{found_at, value_by}
 use Rattle.dr_store.specs.Tables.{KeyTable, listed}
-use Rattle.dr_store.proofs.Tables.{by_bytes}
-
-both_true : (a b : Bool) → a && b ≡ true → (a ≡ true) × (b ≡ true)
-both_true true b e = (refl, e)
-both_true false b e = absurd (cc e)
-
--- a key that begins with a prefix is not below it
-pub begins-le : (p k : List ℕ) → starts_with nat_eq k p ≡ true → is_le (by_bytes p k) ≡ true
-begins-le [] [] e = refl
-begins-le [] (x ∷ k) e = refl
-begins-le (y ∷ p) [] e = absurd (cc e)
-begins-le (y ∷ p) (x ∷ k) e =
-    let parts = both_true (eqb y x) (starts_with nat_eq k p) e in
-    ap (λ r. is_le (ordering_then r (by_bytes p k))) (ap (nat_cmp y) (sym (eqb-true y x parts.0))
-    ∙ tied_itself nat_cmp_total y) ∙ begins-le p k parts.1
-
--- a key between a prefix and one that begins with it begins with it too
-pub begins-between : (p k l : List ℕ) → is_le (by_bytes p k) ≡ true → by_bytes k l ≡ Less
-    → starts_with nat_eq l p ≡ true → starts_with nat_eq k p ≡ true
-begins-between [] k l low up e = refl
-begins-between (y ∷ p) [] l low up e = absurd (cc low)
-begins-between (y ∷ p) (x ∷ k) [] low up e = absurd (cc e)
-begins-between (y ∷ p) (x ∷ k) (z ∷ l) low up e =
-    let parts = both_true (eqb y z) (starts_with nat_eq l p) e in
-    let same : y ≡ z = eqb-true y z parts.0 in
-    elim (nat_cmp y x) as (λ r. nat_cmp y x ≡ r → is_le (ordering_then r (by_bytes p k)) ≡ true
-    → (eqb y x && starts_with nat_eq k p) ≡ true) [
-      | Less ↦ λ c _.
-          let below : y < x = ranked y x Less (sym c) in
-          absurd (cc (ap (λ r. ordering_then r (by_bytes k l)) (nat_cmp_is x z Greater (omega arith)) ∙ up))
-      | Equal ↦ λ c at.
-          let is : y ≡ x = ranked y x Equal (sym c) in
-          let rest = ap (λ r. ordering_then r (by_bytes k l)) (nat_cmp_is x z Equal (sym is ∙ same)) ∙ up in
-          ap (λ b. b && starts_with nat_eq k p) (eq-eqb y x is) ∙ begins-between p k l at rest parts.1
-      | Greater ↦ λ c at. absurd (cc at)
-    ] refl low
 
 -- what a scan finds among the entries that are not below the prefix
 abbrev pub from_prefix : List ℕ → KeyTable → KeyTable
@@ -57,13 +21,6 @@ from_prefix p es = filter (λ e. is_le (by_bytes p e.0.items)) es
 not_found : (p : List ℕ) (v : ℕ) (e : List ℕ × List Change) → starts_with nat_eq e.0 p ≡ false
     → found_at p v e ≡ None
 not_found p v e apart = ap (λ b. cond b (option_map (λ value. (e.0, value)) (value_by v e.1)) None) apart
-
-below_not : (p k : List ℕ) → is_le (by_bytes p k) ≡ false → starts_with nat_eq k p ≡ false
-below_not p k below = elim (starts_with nat_eq k p) as (λ b. starts_with nat_eq k p ≡ b → b ≡ false) [
-  | true ↦
-      λ e. absurd (cc (sym (begins-le p k e) ∙ below))
-  | false ↦ λ _. refl
-] refl
 
 -- below the prefix nothing is found
 pub found_from : (p : List ℕ) (v : ℕ) (es : KeyTable)
@@ -137,10 +94,6 @@ IsFrom-from_prefix p (e ∷ es) sorted =
       | true ↦ λ low. record { sorted = (still_above p e.0 es sorted.0, rest.sorted); low = (low, rest.low) }
       | false ↦ λ _. rest
     ] refl
-
-and_true : (b : Bool) → b && true ≡ b
-and_true true = refl
-and_true false = refl
 
 -- what a range from the prefix on gives
 pub ranged : (p : List ℕ) (es : KeyTable)

@@ -1,18 +1,20 @@
 -- What a scan finds is what stands in the contents.
-use Rattle.std.proofs.Common.{◌≡◌, ℕ, Bool, true, false, cond, ◌&&◌, T, List, [], ◌∷◌, refl, ap, sym, ◌∙◌}
+use Rattle.std.proofs.Common.{◌≡◌, ℕ, Bool, true, false, cond, List, [], ◌∷◌, refl, ap, sym, ◌∙◌}
 use Rattle.std.specs.Prelude.{Option, None, Some, filter, filter_map, nat_eq, option_map}
 use Rattle.std.specs.Cmp.Lexicographic.{nat_list_cmp_total}
 use Rattle.std.specs.FinMap as maps
 use Rattle.std.specs.FinMap.Entries.{below_all, is_sorted-where_key, find-where_key, same_entries}
 use Rattle.std.specs.List.{cons_option, starts_with}
 use Rattle.std.specs.Option.{unwrap_or}
-use Rattle.std.specs.Ordering.{is_eq, is_lt}
-use Rattle.std.specs.declared.cmp.Ordering.{Ordering}
-use Rattle.std.specs.declared.cmp.Ordering.TheVariants.{Less, Equal, Greater}
+use Rattle.std.specs.Ordering.{is_eq}
+use Rattle.std.specs.declared.cmp.Ordering.TheVariants.{Equal}
+use Rattle.dr_entry.proofs.ListFacts.{by_bytes}
+use Rattle.dr_entry.proofs.PlainFacts.{same_key}
+use Rattle.dr_entry.proofs.NumberFacts.{both}
+use Rattle.dr_entry.proofs.BoolFacts.{holds, equal, first, second, not_equal, true_of}
 use Rattle.dr_store.specs.declared.changes.Change.{Change}
 use Rattle.dr_store.specs.Commands.{Contents}
 use Rattle.dr_store.specs.Stock.{Stock, begun_with, found_at, value_by, value_at, values_at}
-use Rattle.dr_store.proofs.Tables.{by_bytes, same_key, both, holds, equal}
 
 -- a key with its value at a version
 with_value : ℕ → List ℕ × List Change → Option (List ℕ × List ℕ)
@@ -46,14 +48,6 @@ found_valued prefix v (e ∷ es) =
     taken true x xs ys same = ap (λ rest. x ∷ rest) same
     taken false x xs ys same = same
 
-first : (a b : Bool) → a && b ≡ true → a ≡ true
-first true b e = refl
-first false b e = e
-
-second : (a b : Bool) → a && b ≡ true → b ≡ true
-second true b e = e
-second false b e = absurd (cc e)
-
 below_valued : (v : ℕ) (k : List ℕ) (es : List (List ℕ × List Change)) → below_all by_bytes k es ≡ true
     → below_all by_bytes k (valued v es) ≡ true
 unfolding with_value
@@ -79,11 +73,6 @@ sorted_valued v (e ∷ es) sorted =
       | None ↦ rest
       | Some x ↦ both _ _ (holds (below_valued v e.0 es (first _ _ sorted))) (holds rest)
     ]
-
-not_equal : (r : Ordering) → is_lt r ≡ true → is_eq r ≡ false
-not_equal Less e = refl
-not_equal Equal e = absurd (cc e)
-not_equal Greater e = refl
 
 find_below : (q : List ℕ) (es : List (List ℕ × List Change)) → below_all by_bytes q es ≡ true
     → maps.find by_bytes q es ≡ None
@@ -118,10 +107,6 @@ find_valued v q (e ∷ es) sorted =
             | Some x ↦ ap (λ b. cond b (Some x) (maps.find by_bytes q (valued v es))) apart ∙ rest
           ]
     ] refl
-
-true_of : (b : Bool) → T b → b ≡ true
-true_of true h = refl
-true_of false h = absurd h
 
 -- what a store finds is what stands in contents that give the same values
 pub values_in : (s : Stock) (prefix : List ℕ) (v : ℕ) (m : Contents)

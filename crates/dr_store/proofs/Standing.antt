@@ -1,8 +1,8 @@
 -- A store stands for what was applied to it.
-use Rattle.std.proofs.Common.{◌≡◌, ℕ, suc, ◌+◌, ◌≤◌, Bool, true, false, cond, leb, ltb, List, [], ◌∷◌, ◌++◌, length, take, fold, refl, ap, sym, subst, ◌∙◌, arith}
+use Rattle.std.proofs.Common.{◌≡◌, ℕ, suc, ◌+◌, ◌≤◌, Bool, true, false, cond, ltb, List, [], ◌∷◌, ◌++◌, length, take, fold, refl, ap, sym, subst, ◌∙◌, arith}
 use Rattle.std.proofs.lemmas.List.{take-append-le, take_all, length-append}
 use Rattle.std.proofs.lemmas.List.Sums.{fold-append}
-use Rattle.std.proofs.lemmas.Bool.{le-leb, leb-true, leb-false, ltb-false}
+use Rattle.std.proofs.lemmas.Bool.{le-leb, ltb-false}
 use Rattle.std.proofs.lemmas.List.Elements.{All-push}
 use Rattle.std.specs.Prelude.{Option, None, Some, All}
 use Rattle.std.specs.Cmp.Lexicographic.{nat_list_cmp_total}
@@ -11,13 +11,16 @@ use Rattle.std.specs.Option.{unwrap_or}
 use Rattle.std.specs.Ordering.{is_eq}
 use Rattle.dr_entry.specs.declared.entry.Entry.{Entry}
 use Rattle.dr_entry.specs.declared.entry.Entry.TheVariants.{View, Msg}
+use Rattle.dr_entry.proofs.ListFacts.{by_bytes}
+use Rattle.dr_entry.proofs.PlainFacts.{same_key}
+use Rattle.dr_entry.proofs.BoolFacts.{equal, alike}
+use Rattle.dr_entry.proofs.NumberFacts.{by_version, lt-leb-false}
 use Rattle.dr_store.specs.declared.changes.Change.{Change}
 use Rattle.dr_store.specs.declared.fault.AtFault.TheVariants.{Ahead, Forgotten}
 use Rattle.dr_store.specs.Commands.{Contents, StoreCommand, after_command, command_in, contents, messages}
 use Rattle.dr_store.specs.Stock.{ChangesByKey, Stock, HasNothingLater, IsStoreOf, changes_at, value_by, refusal_at, value_at}
 use Rattle.dr_store.specs.Tables.{with_change, with_command}
 use Rattle.dr_store.proofs.Givens.{turned, given-push}
-use Rattle.dr_store.proofs.Tables.{by_bytes, same_key, equal}
 
 pub messages_append : (g h : List Entry) → messages (g ++ h) ≡ messages g ++ messages h
 messages_append [] h = refl
@@ -92,27 +95,6 @@ stands-view s h a n m stands = record {
 counts : (h : List Entry) (s i : ℕ) (b : List ℕ)
     → length (messages (h ++ Msg s i b ∷ [])) ≡ length (messages h) + 1
 counts h s i b = ap length (messages_append h (Msg s i b ∷ [])) ∙ length-append (messages h) (b ∷ [])
-
--- a version up to the next one is an earlier one or the next
-by_version : {P : Type 0} (v n : ℕ) → v ≤ n + 1 → (v ≤ n → P) → (v ≡ n + 1 → P) → P
-by_version {P} v n high old new =
-    elim (leb v n) as (λ b. leb v n ≡ b → P) [
-      | true ↦ λ t. old (leb-true v n t)
-      | false ↦ λ f. new (omega (arith, leb-false v n f))
-    ] refl
-
--- a choice of two alike
-alike : {A : Type 0} (b : Bool) (x : A) → cond b x x ≡ x
-alike true x = refl
-alike false x = refl
-
--- a greater version isn't up to a smaller one
-lt-leb-false : (v n : ℕ) → v ≤ n → leb (n + 1) v ≡ false
-lt-leb-false v n less = elim (leb (n + 1) v) as (λ b. leb (n + 1) v ≡ b → b ≡ false) [
-  | true ↦
-      λ t. absurd (omega (arith, leb-true (n + 1) v t))
-  | false ↦ λ _. refl
-] refl
 
 -- what the changes give where one more came or not
 branches : (b : Bool) (v : ℕ) (cs : List Change) (c : Change)

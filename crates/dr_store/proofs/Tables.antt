@@ -1,41 +1,24 @@
 -- How a store reads and writes its table.
-use Rattle.std.proofs.Common.{◌≡◌, ℕ, Bool, true, false, cond, T, List, [], ◌∷◌, ◌&&◌, refl, ap, subst, sym, ◌∙◌}
+use Rattle.std.proofs.Common.{◌≡◌, ℕ, true, false, cond, List, [], ◌∷◌, refl, ap, sym, ◌∙◌}
 use Rattle.std.specs.Prelude.{Option, Some, Vec, is_some}
 use Rattle.std.specs.Option.{unwrap_or}
-use Rattle.std.specs.Cmp.{tied_itself}
-use Rattle.std.specs.Cmp.Lexicographic.{slice_cmp, nat_list_cmp_total}
+use Rattle.std.specs.Cmp.Lexicographic.{nat_list_cmp_total}
 use Rattle.std.specs.FinMap as maps
 use Rattle.std.specs.FinMap.Entries.{below_all, by_order}
 use Rattle.std.specs.List.{AllByRecursion}
 use Rattle.std.specs.List.Sorted.{IsStrictlySortedBy}
 use Rattle.std.specs.Map.{keys_of, lookup, set_value}
 use Rattle.std.specs.BTreeMap.{insert_entry}
-use Rattle.std.specs.Ordering.{match_ordering, nat_cmp, is_eq, is_lt}
+use Rattle.std.specs.Ordering.{match_ordering, is_eq, is_lt}
 use Rattle.std.specs.declared.alloc.Global.{Global}
-use Rattle.std.specs.declared.cmp.Ordering.{Ordering}
 use Rattle.std.specs.declared.cmp.Ordering.TheVariants.{Less, Equal, Greater}
+use Rattle.dr_entry.proofs.ListFacts.{by_bytes, is_key}
+use Rattle.dr_entry.proofs.NumberFacts.{both}
+use Rattle.dr_entry.proofs.BoolFacts.{holds, equal, shadowed, swapped}
+use Rattle.dr_entry.proofs.PlainFacts.{same_key}
+use Rattle.dr_entry.proofs.ListPlaces.{apart_by}
 use Rattle.dr_store.specs.declared.changes.Change.{Change}
 use Rattle.dr_store.specs.Tables.{KeyTable, listed, IsInOrder, changes_of}
-
--- the order of keys
-abbrev pub by_bytes : List ℕ → List ℕ → Ordering
-by_bytes = slice_cmp nat_cmp
-
--- keys that tie are equal
-pub same_key : maps.IsAntisymmetric by_bytes
-same_key = maps.slice_cmp-IsAntisymmetric maps.nat_cmp-IsAntisymmetric
-
--- the test of a key
-abbrev pub is_key : List ℕ → Vec ℕ Global → Bool
-is_key q k = is_eq (by_bytes q k.items)
-
-pub both : (a b : Bool) → T a → T b → a && b ≡ true
-both true true p q = refl
-both true false p q = absurd q
-both false b p q = absurd p
-
-pub holds : {b : Bool} → b ≡ true → T b
-holds e = subst T (sym e) tt
 
 below_all_listed : (k : Vec ℕ Global) (es : KeyTable)
     → AllByRecursion (λ (y : Vec ℕ Global). by_bytes k.items y.items ≡ Less) (keys_of es)
@@ -60,30 +43,6 @@ find_listed q (e ∷ es) = ap (cond (is_key q e.0) (Some e.1)) (find_listed q es
 pub get_listed : (es : KeyTable) (q : List ℕ) → IsInOrder es
     → maps.get (changes_of es) q ≡ lookup (is_key q) es
 get_listed es q sorted = maps.get-from_sorted by_bytes (listed es) q (holds sorted) ∙ find_listed q es
-
-pub equal : (r : Ordering) → is_eq r ≡ true → r ≡ Equal
-equal Less e = absurd (cc e)
-equal Equal e = refl
-equal Greater e = absurd (cc e)
-
--- a test that is repeated
-shadowed : {A : Type 0} (b : Bool) (x y z : A) → cond b x z ≡ cond b x (cond b y z)
-shadowed true x y z = refl
-shadowed false x y z = refl
-
--- two tests of which at most one passes
-swapped : {A : Type 0} (a b : Bool) (x y z : A) → (a ≡ true → b ≡ true → ⊥)
-    → cond a x (cond b y z) ≡ cond b y (cond a x z)
-swapped true true x y z apart = absurd (apart refl refl)
-swapped true false x y z apart = refl
-swapped false b x y z apart = refl
-
--- a key that passes the test of another key passes no test that that one fails
-apart_by : (q k : List ℕ) (e : Vec ℕ Global) → is_key k e ≡ false → is_key q e ≡ true
-    → is_eq (by_bytes q k) ≡ true → ⊥
-apart_by q k e differs at_e at_k =
-    let k_is_e = sym (same_key q k (equal _ at_k)) ∙ same_key q e.items (equal _ at_e) in
-    cc (sym (ap (λ x. is_eq (by_bytes k x)) k_is_e ∙ differs) ∙ ap is_eq (tied_itself nat_list_cmp_total k))
 
 module _ (k q : List ℕ) (w : List Change) where
   -- what is found once the changes of a key were written

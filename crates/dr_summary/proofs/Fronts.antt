@@ -1,26 +1,20 @@
 -- Members that agree have fronts of the longest history.
-use Rattle.std.proofs.Common.{◌≡◌, refl, sym, ap, ◌∙◌, inl, inr, ℕ, suc, ◌<◌, ◌≤◌, ◌⊎◌, List, [], ◌∷◌, ◌++◌, length, get_or, All, nat_lt, if◌then◌else◌, arith, append-nil, length-append, subst}
-use Rattle.std.specs.Option.{option_map_or}
+use Rattle.std.proofs.Common.{◌≡◌, refl, sym, ap, ◌∙◌, inl, inr, ℕ, suc, ◌<◌, ◌≤◌, ◌⊎◌, List, [], ◌∷◌, length, get_or, All, nat_lt, if◌then◌else◌, arith, subst}
 use Rattle.std.proofs.lemmas.Bool.{cases_Bool, ltb-true, ltb-false}
 use Rattle.std.proofs.lemmas.List.{nil_from_length}
 use Rattle.std.proofs.lemmas.List.Elements.{All-cons, All-nil}
 use Rattle.std.proofs.lemmas.Option.{slice_get-get_or}
 use Rattle.dr_entry.specs.declared.entry.Entry.{Entry}
 use Rattle.dr_entry.specs.declared.end.MemberEnd.{MemberEnd}
+use Rattle.dr_entry.proofs.Entries.{as_empty}
 use Rattle.dr_history.specs.declared.opening.Opening.{Opening}
 use Rattle.dr_history.specs.Agreement.{accounts_of}
 use Rattle.dr_history.specs.History.{IsPrefixOf}
 use Rattle.dr_history.specs.Soundness.{IsPresentIn}
+use Rattle.dr_history.proofs.Histories.{shorter_begins, empty_begins}
+use Rattle.dr_history.proofs.Fronts.{history_of}
 use Rattle.dr_summary.specs.Summary.{HaveAgreed}
 use Rattle.dr_summary.specs.Histories.{longer, longest, longest_from}
-
--- of two lists one of which begins the other, the one that isn't longer begins it
-shorter_begins : {A : Type 0} (xs ys : List A) → IsPrefixOf xs ys ⊎ IsPrefixOf ys xs → length xs ≤ length ys
-    → IsPrefixOf xs ys
-shorter_begins xs ys (inl is) l = is
-shorter_begins xs ys (inr is) l =
-    let none : is.0 ≡ [] = nil_from_length is.0 (omega (arith, length-append ys is.0, ap length is.1, l)) in
-    ([], append-nil xs ∙ sym is.1 ∙ ap (λ r. ys ++ r) none ∙ append-nil ys)
 
 -- the longer of two is no shorter than either
 longer_is_long : (h : List Entry) (m : MemberEnd) → (length h ≤ length (longer h m)) × (length m.history ≤ length (longer h m))
@@ -33,12 +27,6 @@ longer_is_long h m = elim (cases_Bool (nat_lt (length h) (length m.history))) [
 pub longest_is_long : (h : List Entry) (members : List MemberEnd) → length h ≤ length (longest_from h members)
 longest_is_long h [] = omega arith
 longest_is_long h (m ∷ ms) = omega (arith, (longer_is_long h m).0, longest_is_long (longer h m) ms)
-
--- what the accounts of members say of the histories
-history_of : (members : List MemberEnd) (i : ℕ) (d : MemberEnd) → i < length members
-    → (accounts_of members i).history ≡ (get_or members i d).history
-history_of members i d within =
-    ap (λ o. option_map_or (λ (e : MemberEnd). e.history) o []) (slice_get-get_or members i d within)
 
 -- the longest is one of them
 is_one_of : (h : List Entry) (members : List MemberEnd)
@@ -79,14 +67,6 @@ one_begins o members k i d agreed here there below within short =
     other (subst (λ (h : List Entry). IsPrefixOf h (accounts_of members i).history
     ⊎ IsPrefixOf (accounts_of members i).history h) own alike))
     short
-
--- no history begins every other
-empty_begins : (h g : List Entry) → h ≡ [] → IsPrefixOf h g
-empty_begins h g none = (g, ap (λ x. x ++ g) none)
-
--- what is no longer than no history is none
-as_empty : (h g l : List Entry) → g ≡ [] → l ≡ g → length h ≤ length l → h ≡ []
-as_empty h g l none same short = nil_from_length h (omega (arith, short, ap length same, ap length none))
 
 pub fronts_of_longest : (o : Opening) (members : List MemberEnd) → HaveAgreed o members
     → All (λ (m : MemberEnd). IsPrefixOf m.history (longest members)) members

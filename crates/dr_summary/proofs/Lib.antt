@@ -1,4 +1,3 @@
 pub mod Texts
 pub mod Fronts
 pub mod Stretch
-pub mod Widths

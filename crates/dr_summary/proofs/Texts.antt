@@ -57,14 +57,3 @@ notes_pushed (Ok value) script nth a h fs ms old x y new is faults members first
     ∙ ap (λ l. old ++ (undelivered_text (undelivered script (longest a.members))
     ++ (faults_text script.faults nth l ++ ends_text script.turns l))) members
 notes_pushed (Err fault) script nth a h fs ms old x y new is faults members first second third = tt
-
--- a text that goes on by two pieces, and by three
-pub pushed_on : {T E : Type 0} (r : Result T E) (old a new p q : List ℕ) → a ≡ old ++ p
-    → OnOk r (new ≡ a ++ q) → OnOk r (new ≡ old ++ (p ++ q))
-pushed_on (Ok value) old a new p q first last = last ∙ ap (λ l. l ++ q) first ∙ append_assoc old p q
-pushed_on (Err fault) old a new p q first last = tt
-
-pub pushed_thrice : {T E : Type 0} (r : Result T E) (old a b new p q s : List ℕ) → a ≡ old ++ p → b ≡ a ++ q
-    → OnOk r (new ≡ b ++ s) → OnOk r (new ≡ old ++ (p ++ (q ++ s)))
-pushed_thrice r old a b new p q s first second last =
-    pushed_on r old a new p (q ++ s) first (pushed_on r a b new q s second last)

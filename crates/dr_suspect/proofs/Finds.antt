@@ -1,25 +1,8 @@
 -- The least number that passes a test is what a search from 0 on finds.
-use Rattle.std.proofs.Common.{◌≡◌, ℕ, zero, suc, ◌+◌, ◌<◌, ◌≤◌, Bool, true, false, inl, inr, Option, None, Some, is_some, refl, sym, ap, arith}
-use Rattle.std.proofs.lemmas.Bool.{cases_eq}
-use Rattle.std.specs.List.{find, range_with_len}
+use Rattle.std.proofs.Common.{◌≡◌, ℕ, ◌<◌, Bool, true, false, Option, None, Some, is_some, refl, sym, ap, arith}
 use Rattle.std.specs.Option.{option_and_then}
+use Rattle.dr_entry.proofs.OptionFacts.{found_from, missing_from}
 use Rattle.dr_suspect.specs.Answers.{least_where}
-
--- a search from a on, over n numbers
-found_from : (test : ℕ → Bool) (a n i : ℕ) → a ≤ i → i < a + n → test i ≡ true
-    → ((k : ℕ) → k < i → test k ≡ false) → find test (range_with_len a n) ≡ Some i
-found_from test a zero i low high passes least = absurd (omega arith)
-found_from test a (suc n) i low high passes least = elim (cases_eq a i) [
-  | inl e ↦ let here : test a ≡ true = cc in rw here (ap Some e)
-  | inr d ↦ let past : test a ≡ false = least a (omega arith) in
-      rw past (found_from test (a + 1) n i (omega arith) (omega arith) passes least)
-]
-
-missing_from : (test : ℕ → Bool) (a n : ℕ) → ((k : ℕ) → k < a + n → test k ≡ false)
-    → find test (range_with_len a n) ≡ None
-missing_from test a zero none = refl
-missing_from test a (suc n) none = let past : test a ≡ false = none a (omega arith) in
-    rw past (missing_from test (a + 1) n (λ k l. none k (omega arith)))
 
 pub least_found : (test : ℕ → Bool) (i : ℕ) → i < 16 → test i ≡ true
     → ((k : ℕ) → k < i → test k ≡ false) → Some i ≡ least_where test

@@ -1,3 +1,1 @@
 mod Finds
-mod Naming
-mod Unsuspected

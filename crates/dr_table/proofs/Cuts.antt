@@ -1,48 +1,22 @@
 -- Cutting a hand in two, and putting two together, keep the rule.
-use Rattle.std.proofs.Common.{◌≡◌, refl, sym, ap, ◌∙◌, subst, ℕ, List, [], ◌∷◌, ◌++◌, length, length-append, take, drop, inl, inr, arith}
+use Rattle.std.proofs.Common.{◌≡◌, refl, sym, ap, ◌∙◌, subst, ℕ, List, [], ◌∷◌, ◌++◌, length, take, drop, inl, inr}
 use Rattle.std.specs.Prelude.{slice_get, slice_set, sum_by, Option, None, Some}
-use Rattle.std.proofs.lemmas.List.Sums.{sum_by-append, sum_by-cons, sum_by-set}
-use Rattle.std.proofs.lemmas.Option.{get_or_from_slice_get, slice_get_within}
+use Rattle.std.proofs.lemmas.Option.{slice_get_within}
 use Rattle.atomic_table.specs.Table.{Splits, Joins}
 use Rattle.dr_history_laws.proofs.Lists.{slice_get-left, slice_get-push_cases}
 use Rattle.dr_entry.specs.declared.entry.Entry.{Entry}
 use Rattle.dr_machine.specs.Group.{Group}
-use Rattle.dr_program.proofs.Holdings.{replica_kept}
 use Rattle.dr_program.specs.Running.{Running}
 use Rattle.dr_table.specs.declared.rule.View.{View}
 use Rattle.dr_table.specs.Rule.{HasSuchProgram, Stands, hands}
 use Rattle.dr_table.specs.Slots.{HaveSlots, Slot}
-use Rattle.dr_table.proofs.Errands.{further_same, slots_stay}
-use Rattle.dr_table.proofs.Lists.{by_table, parts_long}
+use Rattle.dr_table.proofs.Errands.{slots_stay}
 use Rattle.dr_table.proofs.Places.{stands_cut, stands_joined}
 use Rattle.dr_table.proofs.Posting.{free}
 use Rattle.dr_table.proofs.Seats.{hands_behind, hands_get, hands_set}
 use mathlib.Core.Option.{Option as Maybe}
-
--- the seats keep as many places
-places_cut : {X : Type 0} (views : List (List X)) (id at : ℕ) (v : List X) → slice_get views id ≡ Some v
-    → sum_by length (slice_set views id (take at v) ++ drop at v ∷ []) ≡ sum_by length views
-places_cut views id at v is = omega (
-  arith,
-  sum_by-append length (slice_set views id (take at v)) (drop at v ∷ []),
-  sum_by-cons length (drop at v) [],
-  sum_by-set length views id (take at v) v (slice_get_within views id v is),
-  ap length (get_or_from_slice_get views id v v is),
-  parts_long at v,
-)
-
-places_joined : {X : Type 0} (views : List (List X)) (id : ℕ) (v : List X) (other : ℕ) (w : List X)
-    → slice_get views id ≡ Some v → slice_get (slice_set views id (v ++ w)) other ≡ Some w
-    → sum_by length (slice_set (slice_set views id (v ++ w)) other []) ≡ sum_by length views
-places_joined views id v other w is there =
-    let both = slice_set views id (v ++ w) in omega (
-      arith,
-      sum_by-set length views id (v ++ w) v (slice_get_within views id v is),
-      ap length (get_or_from_slice_get views id v v is),
-      length-append v w,
-      sum_by-set length both other [] w (slice_get_within both other w there),
-      ap length (get_or_from_slice_get both other w w there),
-    )
+use Rattle.dr_entry.proofs.ListPlaces.{replica_kept, by_table, places_cut, places_joined}
+use Rattle.dr_program.proofs.Present.{further_same}
 
 -- a seat more that is about nothing
 slots_more : (g : Group) (members : List (Option Running)) (letters : List (Option (List Entry))) (most : ℕ)

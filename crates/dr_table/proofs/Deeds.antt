@@ -1,30 +1,24 @@
 -- Deeds that store, appends, and which program a deed makes.
-use Rattle.std.proofs.Common.{◌≡◌, refl, sym, ap, ◌∙◌, subst, ℕ, true, List, [], ◌∷◌, ◌++◌, set-set}
-use Rattle.std.specs.Prelude.{None, Some, Option, slice_index_or, slice_set}
+use Rattle.std.proofs.Common.{◌≡◌, refl, sym, ap, ◌∙◌, subst, ℕ, List, [], ◌∷◌, set-set}
+use Rattle.std.specs.Prelude.{None, Some, Option, slice_index_or}
 use Rattle.dr_entry.specs.declared.entry.Entry.{Entry}
-use Rattle.dr_member.specs.Deeds.{is_append}
 use Rattle.dr_program.specs.declared.deed.Deed.{Deed}
 use Rattle.dr_program.specs.declared.deed.Deed.TheVariants as deeds
 use Rattle.dr_program.specs.declared.outcome.Outcome.{Outcome}
 use Rattle.dr_program.specs.declared.outcome.Outcome.TheVariants as outcomes
-use Rattle.dr_program.specs.Program.{IsRanFrom, Move, Program, after_deed, appended_as, next_sight, ran, step_of}
+use Rattle.dr_program.specs.Program.{IsRanFrom, Program, after_deed, appended_as, next_sight, ran}
 use Rattle.dr_program.specs.Running.{Running, after_step, next_deed, next_step, settled, took, took_letter}
-use Rattle.dr_program.specs.Steps.{IsAppend, sight, stepped, stored, stored_letters}
+use Rattle.dr_program.specs.Steps.{stored, stored_letters}
 use Rattle.dr_program.proofs.Fixed.{Told, join_told, told, step_told}
-use Rattle.dr_program.proofs.Runs.{ran_on}
-use Rattle.dr_refine.proofs.Deeds.{append_gives, append_stores, settle_replica, step_is}
-use Rattle.dr_age.proofs.Deeds.{IsStoreAt, after_append, after_take, deed_tells}
-use Rattle.dr_history.specs.History.{up_to_view}
-use Rattle.dr_machine.specs.declared.step.Step.{Step}
-use Rattle.dr_machine.specs.declared.step.Step.TheVariants.{Append, LogVote}
-use Rattle.dr_program.specs.Reading.{letters_of}
-use Rattle.dr_program.specs.Replica.{Replica}
+use Rattle.dr_refine.proofs.Deeds.{append_gives, append_stores, settle_replica, deed_ran}
+use Rattle.dr_age.proofs.Deeds.{IsStoreAt, deed_tells}
 use Rattle.dr_table.specs.Rule.{number}
 use Rattle.dr_table.specs.Deeds.{IsStore}
 use Rattle.dr_table.specs.Steps.{HasAppended}
-use Rattle.dr_table.proofs.Lists.{again}
 use Rattle.dr_program.specs.Presence.{present_at, with_present}
-use Rattle.dr_program.proofs.Present.{present_within, present_set}
+use Rattle.dr_program.proofs.Present.{present_within, present_set, set_itself}
+use Rattle.dr_program.proofs.Programs.{after_append}
+use Rattle.dr_age.proofs.LoggedMembers.{appended_given, append_due}
 
 -- ---- a step, by its deed
 
@@ -50,15 +44,6 @@ stores words r index word is = by (next_deed r) refl is
     by (deeds.Act i w) e is = let t = deed_tells words r (deeds.Act i w) e in at i w t.none t.says is
     by d e is = absurd is
 
--- a member whose next deed is an append is due to append
-pub append_due : (r : Running) → is_append (next_deed r) ≡ true → (r.replica.end ≡ None)
-    × IsAppend (next_step r)
-append_due r due = by (next_deed r) refl due
-  where
-    by : (d : Deed) → next_deed r ≡ d → is_append d ≡ true → (r.replica.end ≡ None) × IsAppend (next_step r)
-    by (deeds.Append x) next due = let t = deed_tells [] r (deeds.Append x) next in (t.none, t.says.0)
-    by d next due = absurd (cc)
-
 -- ---- what a member was told stays
 
 pub after_told : (word : ℕ) (r : Running) → told (after_step word r).replica ≡ told r.replica
@@ -81,19 +66,6 @@ pub appends_told : (os : List Outcome) (r q : Running) → HasAppended os r q
 appends_told [] r q same = ap (λ (x : Running). told x.replica) (sym same)
 appends_told (o ∷ os) r q (due, more) = appends_told os (appended_as o r) q more ∙ appended_told o r
 
--- and appends give no letter
-appended_given : (o : Outcome) (r : Running) → is_append (next_deed r) ≡ true
-    → (appended_as o r).replica.given ≡ r.replica.given
-appended_given (outcomes.Failed why) r due = refl
-appended_given outcomes.Ok r due =
-    ap (λ (q : Replica). q.given) (settle_replica _ (took 0 r (next_step r)))
-    ∙ by (next_step r) (append_due r due).1
-  where
-    by : (s : Step) → IsAppend s → (stepped 0 r.replica s).given ≡ r.replica.given
-    by Append is = refl
-    by (LogVote v) is = refl
-    by s is = absurd is
-
 pub appends_given : (os : List Outcome) (r q : Running) → HasAppended os r q
     → q.replica.given ≡ r.replica.given
 appends_given [] r q same = ap (λ (x : Running). x.replica.given) (sym same)
@@ -104,26 +76,6 @@ same_number r x same = ap (λ (t : Told). t.number) same
 
 -- ---- programs
 
--- one deed more
-pub deed_ran : (begun : Program) (words : List ℕ) (letters : List (Option (List Entry))) (members : List (Option Running)) (m : ℕ) (o : Outcome)
-    (r : Running) → present_at members m ≡ Some r → r.replica.end ≡ None
-    → IsRanFrom begun (record { members = members; table = words; letters = letters })
-    → IsRanFrom begun (record {
-      members = with_present members m
-          (after_deed (next_sight words r) (slice_index_or letters m None) o r (next_step r));
-      table = stored words r.replica (next_step r);
-      letters = stored_letters letters r.replica (next_step r);
-    })
-unfolding ran
-deed_ran begun words letters members m o r there none (es, is) = (
-  es ++ e ∷ [],
-  sym (ran_on begun es (e ∷ []) ∙ ap (λ p. step_of p e) (sym is)
-      ∙ step_is (record { members = members; table = words; letters = letters }) e r there none),
-)
-  where
-    e : Move
-    e = record { member = m; outcome = o }
-
 -- appends, one after the other
 pub appends_ran : (begun : Program) (words : List ℕ) (letters : List (Option (List Entry))) (os : List Outcome) (members : List (Option Running)) (m : ℕ)
     (r q : Running) → HasAppended os r q → present_at members m ≡ Some r
@@ -131,7 +83,7 @@ pub appends_ran : (begun : Program) (words : List ℕ) (letters : List (Option (
     → IsRanFrom begun (record { members = with_present members m q; table = words; letters = letters })
 appends_ran begun words letters [] members m r q same there ran =
     subst (λ x. IsRanFrom begun (record { members = with_present members m x; table = words; letters = letters })) same
-    (subst (λ l. IsRanFrom begun (record { members = l; table = words; letters = letters })) (sym (again members m r there))
+    (subst (λ l. IsRanFrom begun (record { members = l; table = words; letters = letters })) (sym (set_itself members m r there))
     ran)
 appends_ran begun words letters (o ∷ os) members m r q (due, more) there ran =
     let (none, step) = append_due r due in
@@ -178,63 +130,3 @@ deeds_ran begun words cells letters os members m r q x more there none to stores
       letters = stored_letters letters q.replica (next_step q);
     })) to
     (deed_ran begun words letters (with_present members m q) m outcomes.Ok q here none caught))))
-
--- a letter is given
-pub give_ran : (begun : Program) (words : List ℕ) (letters : List (Option (List Entry)))
-    (members : List (Option Running))
-    (m j : ℕ) (r : Running) → present_at members m ≡ Some r → next_deed r ≡ deeds.Give j
-    → IsRanFrom begun (record { members = members; table = words; letters = letters })
-    → IsRanFrom begun (record {
-      members = with_present members m (after_step 0 r);
-      table = words;
-      letters = slice_set letters j (Some (up_to_view r.replica.history));
-    })
-give_ran begun words letters members m j r there next ran =
-    let t = deed_tells words r (deeds.Give j) next in
-    subst (λ ls. IsRanFrom begun (record { members = with_present members m (after_step 0 r); table = words; letters = ls }))
-    (ap (stored_letters letters r.replica) t.says)
-    (subst (λ ws. IsRanFrom begun (record {
-      members = with_present members m (after_step 0 r);
-      table = ws;
-      letters = stored_letters letters r.replica (next_step r);
-    })) (ap (stored words r.replica) t.says)
-    (subst (λ x. IsRanFrom begun (record {
-      members = with_present members m x;
-      table = stored words r.replica (next_step r);
-      letters = stored_letters letters r.replica (next_step r);
-    }))
-    (ap (λ s. after_deed (sight words r.replica s) (slice_index_or letters m None) outcomes.Ok r s) t.says)
-    (deed_ran begun words letters members m outcomes.Ok r there t.none ran)))
-
--- a letter is taken, where one is there
-pub take_ran : (begun : Program) (words : List ℕ) (letters : List (Option (List Entry)))
-    (members : List (Option Running))
-    (m : ℕ) (r : Running) (letter : Option (List Entry)) → present_at members m ≡ Some r → next_deed r ≡ deeds.Take
-    → letters_of letters m ≡ letter
-    → IsRanFrom begun (record { members = members; table = words; letters = letters })
-    → IsRanFrom begun (record {
-      members = with_present members m (settled (took_letter letter r));
-      table = words;
-      letters = letters;
-    })
-take_ran begun words letters members m r letter there next found ran =
-    let t = deed_tells words r deeds.Take next in
-    subst (λ ls. IsRanFrom begun (record {
-      members = with_present members m (settled (took_letter letter r));
-      table = words;
-      letters = ls;
-    }))
-    (ap (stored_letters letters r.replica) t.says)
-    (subst (λ ws. IsRanFrom begun (record {
-      members = with_present members m (settled (took_letter letter r));
-      table = ws;
-      letters = stored_letters letters r.replica (next_step r);
-    })) (ap (stored words r.replica) t.says)
-    (subst (λ x. IsRanFrom begun (record {
-      members = with_present members m x;
-      table = stored words r.replica (next_step r);
-      letters = stored_letters letters r.replica (next_step r);
-    }))
-    (after_take (next_sight words r) (slice_index_or letters m None) outcomes.Ok r (next_step r) t.says
-    ∙ ap (λ o. settled (took_letter o r)) found)
-    (deed_ran begun words letters members m outcomes.Ok r there t.none ran)))

@@ -1,5 +1,5 @@
 -- How words, slots and errands stand after a step of one seat.
-use Rattle.std.proofs.Common.{◌≡◌, ◌≢◌, ◌⊎◌, inl, inr, refl, sym, ap, ◌∙◌, subst, ℕ, ◌<◌, ◌≤◌, true, false, true≢false, List, slice_index, length, arith}
+use Rattle.std.proofs.Common.{◌≡◌, ◌≢◌, ◌⊎◌, inl, inr, sym, ap, ◌∙◌, subst, ℕ, ◌<◌, true, false, true≢false, List, slice_index, length, arith}
 use Rattle.std.specs.Prelude.{Option, None, Some, slice_get, slice_set}
 use Rattle.std.proofs.lemmas.Bool.{cases_eq}
 use Rattle.std.proofs.lemmas.List.{get_or-set_other, get_or-set_same}
@@ -7,37 +7,16 @@ use Rattle.std.proofs.lemmas.Option.{same_Some, slice_get_within}
 use Rattle.dr_entry.specs.declared.entry.Entry.{Entry}
 use Rattle.dr_history.specs.Members.{has}
 use Rattle.dr_machine.specs.Group.{Group, late_members}
-use Rattle.dr_program.proofs.Holdings.{replica_kept, replica_set}
-use Rattle.dr_program.specs.Presence.{present_at, with_present}
+use Rattle.dr_program.specs.Presence.{present_at}
 use Rattle.dr_program.specs.Reading.{letters_of}
 use Rattle.dr_program.specs.Running.{Running}
 use Rattle.dr_table.specs.declared.rule.Errand.{Errand}
 use Rattle.dr_table.specs.declared.rule.View.{View}
 use Rattle.dr_table.specs.Slots.{HaveSlots, IsAbout, IsPosted, Slot, slot_number}
-use Rattle.dr_table.proofs.Lists.{at_set, place_set}
 use mathlib.Core.Option.{Option as Maybe}
 use lib.ListN.{get_elem?}
-
--- each member there was there before, in no later view, with as much room
-abbrev pub AreFurther : List (Option Running) → List (Option Running) → Type 0
-AreFurther members after = (m : ℕ) (x : Running) → present_at after m ≡ Some x → (r : Running)
-    × (present_at members m ≡ Some r) × (r.replica.view ≤ x.replica.view) × (x.replica.room ≡ r.replica.room)
-
-pub further_same : (members : List (Option Running)) → AreFurther members members
-further_same members m x there = (x, there, omega arith, refl)
-
-pub further_set : (members : List (Option Running)) (m : ℕ) (r x : Running) → present_at members m ≡ Some r
-    → r.replica.view ≤ x.replica.view → x.replica.room ≡ r.replica.room
-    → AreFurther members (with_present members m x)
-further_set members m r x there later room k y stands = elim (place_set members m k x y stands) [
-  | inl here ↦ (
-    r,
-    ap (present_at members) here.0 ∙ there,
-    subst (λ (z : Running). r.replica.view ≤ z.replica.view) here.1 later,
-    subst (λ (z : Running). z.replica.room ≡ r.replica.room) here.1 room,
-  )
-  | inr other ↦ (y, other.1, omega arith, refl)
-]
+use Rattle.dr_entry.proofs.ListPlaces.{replica_kept, replica_set, at_set}
+use Rattle.dr_program.proofs.Present.{AreFurther}
 
 -- ---- no word and no slot changes
 

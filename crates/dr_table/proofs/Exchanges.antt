@@ -19,9 +19,9 @@ use Rattle.dr_table.specs.Rule.{HasSuchProgram, number}
 use Rattle.dr_table.specs.Slots.{Slot, slot_number}
 use Rattle.dr_table.specs.Steps.{Fetched, HasFetched, Homed, IsAhead, Opened, Peeked, Returned, busy, idle}
 use Rattle.dr_table.proofs.Keeping.{Caught, catch_up, no_errand, no_slots, went_on}
-use Rattle.dr_table.proofs.Lists.{behind_read, by_table}
 use Rattle.dr_table.proofs.Posting.{about, fetched, free, homed, kept, missed, no_letter, noticed, opened, returned, sized, sound, stood}
 use mathlib.Core.Option.{Option as Maybe, none}
+use Rattle.dr_entry.proofs.ListPlaces.{behind_read, by_table}
 
 -- a seat that caught up and is about something now
 errand_on : (dealt : List (Option Running)) (words : List ℕ) (homes : List (Maybe Slot)) (views : List View) (id : ℕ)

@@ -1,5 +1,5 @@
 -- What is known of the members of a hand, as it is dealt, and as hands are cut and put together.
-use Rattle.std.proofs.Common.{◌≡◌, ◌⊎◌, inl, inr, refl, sym, ap, ◌∙◌, subst, ℕ, zero, suc, ◌+◌, ◌-◌, ◌<◌, ◌≤◌, Bool, true, false, true≢false, List, [], ◌∷◌, ◌++◌, get_or, length, map, length-append, length-drop, length-set, length-take, take, drop, replicate, arith}
+use Rattle.std.proofs.Common.{◌≡◌, ◌⊎◌, inl, inr, refl, sym, ap, ◌∙◌, subst, ℕ, zero, suc, ◌+◌, ◌-◌, ◌<◌, ◌≤◌, true, List, [], ◌∷◌, ◌++◌, get_or, length, map, length-append, length-drop, length-set, length-take, take, drop, replicate, arith}
 use Rattle.std.specs.Prelude.{All, None, Some, is_some, option_map, Option, Vec, slice_get, slice_index, ◌^◌}
 use Rattle.std.specs.declared.alloc.Global.{Global}
 use Rattle.std.proofs.lemmas.Bool.{cases_eq, cases_lt}
@@ -7,67 +7,44 @@ use Rattle.std.proofs.lemmas.List.{get_or_default, get_or_past, length-map, leng
 use Rattle.std.proofs.lemmas.List.Sums.{sum_by-cons}
 use Rattle.std.proofs.lemmas.Option.{same_Some, slice_get_within}
 use Rattle.dr_entry.specs.declared.entry.Entry.{Entry}
-use Rattle.dr_history.specs.Members.{has, members_of}
-use Rattle.dr_history.specs.Order.{AreOfRoster}
+use Rattle.dr_history.specs.Members.{members_of}
 use Rattle.dr_machine.proofs.Presence.{in_roster, late_in}
 use Rattle.dr_machine.specs.Group.{banks, late_members, roster}
 use Rattle.dr_member.specs.Deeds.{is_append, table_size}
 use Rattle.dr_program.specs.Form.{IsRunningMember}
 use Rattle.dr_program.specs.Reading.{letters_of}
 use Rattle.dr_program.specs.declared.outcome.Outcome.{Outcome}
-use Rattle.dr_program.specs.declared.outcome.Outcome.TheVariants as outcomes
 use Rattle.dr_program.specs.Presence.{present_at, with_present}
-use Rattle.dr_program.specs.Program.{IsRanFrom, Program, appended_as, begun_program, ran}
-use Rattle.dr_program.specs.Running.{Running, begun_running, next_deed, next_step}
-use Rattle.dr_program.proofs.Present.{present_kept, present_map, present_set, present_within}
+use Rattle.dr_program.specs.Program.{Program, appended_as, begun_program, ran}
+use Rattle.dr_program.specs.Running.{Running, begun_running, next_deed}
+use Rattle.dr_program.proofs.Present.{present_kept, present_map, present_set, present_within, place_append, place_drop, place_front, place_past, place_set, place_take, same_places, take_place, none_read}
 use Rattle.dr_program_laws.proofs.Keeping.{begun_reached}
 use Rattle.dr_refine.specs.Programs.{IsProgram}
-use Rattle.dr_refine.proofs.Deeds.{settle_replica}
 use Rattle.dr_refine.proofs.Steps.{begun_is_program}
 use Rattle.dr_words.specs.Layout.{words_of}
 use Rattle.dr_words.specs.Columns.{columns_of}
-use Rattle.dr_words.proofs.Bits.{has_zero}
-use Rattle.dr_words.proofs.Masks.{same_masks}
 use Rattle.dr_words.proofs.Places.{word_index_within}
-use Rattle.dr_words.proofs.Ranks.{at_rank_of, few_members}
 use Rattle.dr_table.specs.Cards.{AreAtEnd, AreOf, AreReached, Cards, IsAtEnd, opened}
 use Rattle.dr_table.specs.declared.rule.Errand.{Errand}
 use Rattle.dr_table.specs.declared.rule.View.{View}
 use Rattle.dr_table.specs.Slots.{HaveSlots, IsBlankList, IsBlankSlot, IsPosted, Slot, slot_number}
 use Rattle.dr_table.specs.Rule.{Found, HasSuchProgram, IsDealt, no_posts, number}
 use Rattle.dr_table.specs.Steps.{AreAhead, HasAppended, IsAhead}
-use Rattle.dr_age.proofs.Deeds.{unended_append}
-use Rattle.dr_table.proofs.Deeds.{append_due, appends_given}
+use Rattle.dr_table.proofs.Deeds.{appends_given}
 use Rattle.dr_table.proofs.Posting.{free}
-use Rattle.dr_table.proofs.Words.{words_small}
 use Rattle.atomic_table.proofs.Lists.{at_index, at_map}
 use mathlib.Core.Option.{some}
 use lib.ListN.{get_elem?}
-use Rattle.dr_table.proofs.Lists.{filled_by, place_append, place_drop, place_front, place_past, place_set, place_take, same_places, take_place}
+use Rattle.dr_entry.proofs.OptionFacts.{some_there}
+use Rattle.dr_entry.proofs.ListPlaces.{no_trim}
+use Rattle.dr_history.proofs.Ranks.{at_rank_of}
+use Rattle.dr_history.proofs.MemberLemmas.{few_members}
+use Rattle.dr_history.proofs.Orders.{some_of}
+use Rattle.dr_words.proofs.Layouts.{words_small}
+use Rattle.dr_program.proofs.Programs.{none_ran}
+use Rattle.dr_age.proofs.LoggedMembers.{append_stays}
 
 -- ---- what is so of each member
-
-abbrev pub Each : (Running → Type 0) → List (Option Running) → Type 0
-Each P rs = (k : ℕ) (r : Running) → present_at rs k ≡ Some r → P r
-
-pub each_set : (P : Running → Type 0) (rs : List (Option Running)) (at : ℕ) (x : Running) → P x → Each P rs
-    → Each P (with_present rs at x)
-each_set P rs at x is each k r there = elim (place_set rs at k x r there) [
-  | inl here ↦ subst P here.1 is
-  | inr other ↦ each k r other.1
-]
-
-pub each_take : (P : Running → Type 0) (n : ℕ) (rs : List (Option Running)) → Each P rs → Each P (take n rs)
-each_take P n rs each k r there = each k r (place_take n rs k r there).1
-
-pub each_drop : (P : Running → Type 0) (n : ℕ) (rs : List (Option Running)) → Each P rs → Each P (drop n rs)
-each_drop P n rs each k r there = each (n + k) r (sym (place_drop n rs k) ∙ there)
-
-pub each_append : (P : Running → Type 0) (rs qs : List (Option Running)) → Each P rs → Each P qs → Each P (rs ++ qs)
-each_append P rs qs each too k r there = elim (place_append rs qs k r there) [
-  | inl first ↦ each k r first
-  | inr second ↦ too _ r second.1
-]
 
 -- ---- what the seat knows of them
 
@@ -105,7 +82,7 @@ ahead_set v rs at x y (os, so) are = record {
 pub seat_has : (v rs : List (Option Running)) (at : ℕ) (q : Running) → AreAhead v rs → present_at rs at ≡ Some q
     → (r : Running) × (present_at v at ≡ Some r) × IsAhead r q
 seat_has v rs at q are here =
-    let (r, there) = filled_by (present_at v at) (sym (are.places at) ∙ ap is_some here) in
+    let (r, there) = some_there (present_at v at) (sym (are.places at) ∙ ap is_some here) in
     (r, there, are.each at r q there here)
 
 -- and where one of them is known as it is in the hand, those that have given the same letters
@@ -190,14 +167,6 @@ ahead_append v rs w qs are too = record {
     ]
   ];
 }
-
--- an append ends nobody
-append_stays : (o : Outcome) (r : Running) → is_append (next_deed r) ≡ true
-    → (appended_as o r).replica.end ≡ None
-append_stays (outcomes.Failed why) r due = (append_due r due).0
-append_stays outcomes.Ok r due =
-    let (none, step) = append_due r due in
-    ap (λ q. q.end) (settle_replica _ _) ∙ unended_append 0 r.replica (next_step r) step ∙ none
 
 -- a member that has ended is as the seat knows it
 ended_same : (os : List Outcome) (r q : Running) → HasAppended os r q → IsAtEnd q → r ≡ q
@@ -284,30 +253,6 @@ dealt_small dealt d = words_small (roster d.group) d.group.window (banks d.group
 pub dealt_few : (dealt : List (Option Running)) (d : IsDealt dealt) → length dealt ≡ roster d.group
 dealt_few dealt d = ap length d.begun ∙ length-map d.setups (option_map begun_running) ∙ d.are.all
 
--- a mask of some members has one
-some_of : (n mask : ℕ) → AreOfRoster n mask → (m : ℕ) × (has mask m ≡ true)
-some_of n mask of = elim (search n) [
-  | inl found ↦ found
-  | inr none ↦ absurd (omega (arith, of.some, same_masks mask 0 (λ m. out none m (has mask m) refl)))
-]
-  where
-    search : (k : ℕ) → ((m : ℕ) × (has mask m ≡ true)) ⊎ ((m : ℕ) → m < k → has mask m ≡ false)
-    search zero = inr (λ m below. absurd (omega arith))
-    search (suc k) = by (has mask k) refl (search k)
-      where
-        by : (b : Bool) → has mask k ≡ b → ((m : ℕ) × (has mask m ≡ true)) ⊎ ((m : ℕ) → m < k → has mask m ≡ false)
-            → ((m : ℕ) × (has mask m ≡ true)) ⊎ ((m : ℕ) → m < suc k → has mask m ≡ false)
-        by true e rest = inl (k, e)
-        by false e (inl found) = inl found
-        by false e (inr none) = inr (λ m below. elim (cases_eq m k) [
-          | inl here ↦ ap (has mask) here ∙ e
-          | inr other ↦ none m (omega arith)
-        ])
-
-    out : ((m : ℕ) → m < n → has mask m ≡ false) → (m : ℕ) (b : Bool) → has mask m ≡ b → has mask m ≡ has 0 m
-    out none m false e = e ∙ sym (has_zero m)
-    out none m true e = absurd (true≢false (sym e ∙ none m (of.within m e)))
-
 -- somebody is dealt
 pub dealt_some : (dealt : List (Option Running)) (d : IsDealt dealt) → (k : ℕ) × (r : Running)
     × (present_at dealt k ≡ Some r)
@@ -346,22 +291,6 @@ dealt_opened dealt d words same = λ z. record {
   letters = replicate (dealt_few dealt d z) None;
 }
 
--- no deeds
-none_ran : (begun p : Program) → p ≡ begun → IsRanFrom begun p
-unfolding ran
-none_ran begun p same = ([], same)
-
--- a list of zeros, and one of nothing
-zeros_read : (n i : ℕ) → slice_index (replicate n 0) i ≡ 0
-zeros_read zero i = refl
-zeros_read (suc n) zero = refl
-zeros_read (suc n) (suc i) = zeros_read n i
-
-none_read : {X : Type 0} (n i : ℕ) → ◌≡◌ {A = Option X} (present_at (replicate n None) i) None
-none_read zero i = refl
-none_read (suc n) zero = refl
-none_read (suc n) (suc i) = none_read n i
-
 -- what is in a slot of blank lists
 blank_there : (room : ℕ) (slots : List Slot) (i : ℕ) → i < length slots → All (IsBlankSlot room) slots
     → (list : Vec Entry Global) × (get_elem? (map some slots) i ≡ some (some (Some list))) × IsBlankList room list
@@ -391,7 +320,7 @@ slots_dealt dealt d n room slots are = record {
       let rank = at_rank_of (late_members d.group) j
       (omega (arith, in_roster d.group j d.is (late_in d.group j d.is late).0, d.is.most_members)) late in
       subst (λ word. IsPosted room word (get_elem? (map some slots) (slot_number (late_members d.group) j))
-      (letters_of (no_posts dealt) j)) (sym (zeros_read n j))
+      (letters_of (no_posts dealt) j)) (sym (no_trim n j))
       (record {
         yet = λ below. none_read (length dealt) j;
         there = λ two. absurd (omega (arith, two));
@@ -407,10 +336,10 @@ slots_dealt dealt d n room slots are = record {
         away = λ out. absurd (neither out);
         last = omega arith;
       });
-  others = λ j no. zeros_read n j;
+  others = λ j no. no_trim n j;
   abouts = λ s u e at busy. absurd (first s u e at busy);
-  out = λ j out. absurd (neither (which (slice_index (replicate n 0) j) (zeros_read n j) out));
-  joined = λ j r four there. absurd (omega (arith, zeros_read n j, four));
+  out = λ j out. absurd (neither (which (slice_index (replicate n 0) j) (no_trim n j) out));
+  joined = λ j r four there. absurd (omega (arith, no_trim n j, four));
   room = are.room;
 }
   where

@@ -1,5 +1,5 @@
 -- What a seat holds while it is about a letter, and what is known of the member that gives or takes it.
-use Rattle.std.proofs.Common.{◌≡◌, inl, inr, refl, sym, ap, ◌∙◌, ℕ, ◌+◌, ◌<◌, ◌≤◌, Bool, true, ne_eqb, List, [], ◌∷◌, arith}
+use Rattle.std.proofs.Common.{◌≡◌, inl, inr, sym, ap, ◌∙◌, ℕ, ◌+◌, ◌<◌, ◌≤◌, Bool, true, ne_eqb, List, [], ◌∷◌, arith}
 use Rattle.std.specs.Prelude.{IfSome, Option, None, Some, Vec, option_map, ◌^◌, ◌==◌}
 use Rattle.std.specs.declared.alloc.Global.{Global}
 use Rattle.std.proofs.lemmas.Option.{same_Some}
@@ -7,9 +7,9 @@ use Rattle.atomic_table.specs.Table.{Me, rest}
 use Rattle.dr_age.proofs.Deeds.{deed_tells}
 use Rattle.dr_entry.specs.declared.entry.Entry.{Entry}
 use Rattle.dr_history.specs.Members.{has}
+use Rattle.dr_history.proofs.MemberLemmas.{few_members}
 use Rattle.dr_machine.specs.Group.{Group, late_members, roster}
-use Rattle.dr_member.specs.Deeds.{is_take, table_size}
-use Rattle.dr_program.specs.declared.deed.Deed.{Deed}
+use Rattle.dr_member.specs.Deeds.{table_size}
 use Rattle.dr_program.specs.declared.deed.Deed.TheVariants as deeds
 use Rattle.dr_program.specs.Form.{IsOf}
 use Rattle.dr_program.specs.Presence.{present_at, with_present}
@@ -17,9 +17,9 @@ use Rattle.dr_program.specs.Program.{Program}
 use Rattle.dr_program.specs.Replica.{me}
 use Rattle.dr_program.specs.Running.{Running, next_deed}
 use Rattle.dr_form.specs.Letters.{IsFitting}
-use Rattle.dr_room.proofs.Letters.{letters_have_room}
+use Rattle.dr_program_laws.proofs.Letters.{letters_have_room}
 use Rattle.dr_turn.proofs.Takes.{taking}
-use Rattle.dr_words.proofs.Ranks.{few_members}
+use Rattle.dr_words.proofs.Layouts.{words_small}
 use Rattle.dr_table.specs.Cards.{board_size}
 use Rattle.dr_table.specs.declared.rule.Errand.{Errand}
 use Rattle.dr_table.specs.declared.rule.View.{View}
@@ -27,7 +27,6 @@ use Rattle.dr_table.specs.Rule.{number}
 use Rattle.dr_table.specs.Slots.{Slot, slot_number}
 use Rattle.dr_table.specs.Steps.{IsLetterAt, IsOfProgram, IsReachedMember, MayTake, Peeked, busy}
 use Rattle.dr_table.proofs.Welcoming.{newcomer}
-use Rattle.dr_table.proofs.Words.{words_small}
 
 -- ---- what a seat holds
 
@@ -133,8 +132,3 @@ pub fits_list : (P : List Entry → Type 0) (o : Slot) → IfSome (option_map (�
     → IfSome o (λ (l : Vec Entry Global). P l.items)
 fits_list P None fits = tt
 fits_list P (Some l) fits = fits
-
--- the deed is a take
-pub a_take : (d : Deed) → is_take d ≡ true → d ≡ deeds.Take
-a_take deeds.Take is = refl
-a_take d is = absurd (cc is)

@@ -16,21 +16,22 @@ use Rattle.dr_program.specs.Running.{Running, after_step, next_deed, next_step, 
 use Rattle.dr_program.specs.Sight.{MaySee}
 use Rattle.dr_program.specs.Steps.{sight, stored}
 use Rattle.dr_program_laws.proofs.Keeping.{move_kept, sees}
-use Rattle.dr_refine.proofs.Deeds.{step_is}
-use Rattle.dr_age.proofs.Deeds.{after_append, after_take, any_outcome, at_look, deed_tells}
+use Rattle.dr_refine.proofs.Deeds.{step_is, after_later}
+use Rattle.dr_age.proofs.Deeds.{any_outcome, at_look, deed_tells}
 use Rattle.dr_table.specs.declared.rule.View.{View}
 use Rattle.dr_table.specs.Deeds.{IsStore}
 use Rattle.dr_table.specs.Rule.{HasSuchProgram, number}
 use Rattle.dr_table.specs.Slots.{Slot}
 use Rattle.dr_table.specs.Steps.{IsAhead, IsOfProgram, IsReachedMember, Looked, MayFind, MayTake, Stored, idle}
-use Rattle.dr_table.proofs.Deeds.{after_told, append_due, appended_told, deeds_ran, same_number, stores, took_told}
-use Rattle.dr_table.proofs.Later.{after_later}
-use Rattle.dr_table.proofs.Lists.{by_table, front_read, front_set}
+use Rattle.dr_table.proofs.Deeds.{after_told, appended_told, deeds_ran, same_number, stores, took_told}
 use Rattle.dr_table.proofs.Posting.{caught_up, free, kept, member_on, sized, sound, stood}
 use Rattle.dr_program.specs.Presence.{present_at, with_present}
-use Rattle.dr_program.proofs.Holdings.{replica_set}
 use Rattle.dr_program.proofs.Present.{present_within, present_set}
 use mathlib.Core.Option.{Option as Maybe}
+use Rattle.dr_entry.proofs.ListPlaces.{by_table, front_read, front_set, replica_set}
+use Rattle.dr_program.proofs.Programs.{after_append}
+use Rattle.dr_program.proofs.RunningPrograms.{after_take}
+use Rattle.dr_age.proofs.LoggedMembers.{append_due}
 
 -- ---- members of programs that are reached
 

@@ -1,5 +1,3 @@
-pub mod Lists
-pub mod Words
 pub mod Places
 pub mod Deeds
 pub mod Later
@@ -15,3 +13,4 @@ pub mod Room
 pub mod Hands
 pub mod Members
 pub mod Sweeps
+pub mod Cards

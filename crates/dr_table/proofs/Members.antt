@@ -22,11 +22,10 @@ use Rattle.dr_table.specs.Inside.{IsInsideHand, cards_of}
 use Rattle.dr_table.specs.Rule.{number}
 use Rattle.dr_table.specs.Steps.{AreAhead, FindsLetter, IsAhead, IsReachedMember, idle}
 use Rattle.dr_table.proofs.Deeds.{appended_told}
-use Rattle.dr_table.proofs.Hands.{ahead_more, ahead_set, each_set, seat_gave}
+use Rattle.dr_table.proofs.Hands.{ahead_more, ahead_set, seat_gave}
 use Rattle.dr_table.proofs.Keeping.{append_reached}
-use Rattle.dr_table.proofs.Lists.{filled_within}
 use Rattle.dr_program.specs.Presence.{present_at, with_present}
-use Rattle.dr_program.proofs.Present.{present_within, present_set}
+use Rattle.dr_program.proofs.Present.{present_within, present_set, each_set, filled_within}
 
 -- member m stands at this place of a hand
 pub record StandsAt (h : Inside) (hand : Cards) (at : ℕ) (m : Running) : Type 0 where

@@ -1,15 +1,15 @@
 -- Where members stand after one of them changes, after a hand is cut in two, and after two are put together.
-use Rattle.std.proofs.Common.{◌≡◌, ◌≢◌, ◌⊎◌, inl, inr, refl, sym, ap, ◌∙◌, ℕ, ◌+◌, ◌-◌, ◌≤◌, List, [], ◌∷◌, ◌++◌, length, take, drop, length-set, arith, eq-eqb, ne_eqb, lt-ltb, le-ltb, eqb, ltb, cond}
+use Rattle.std.proofs.Common.{◌≡◌, ◌≢◌, ◌⊎◌, inl, inr, refl, sym, ap, ◌∙◌, ℕ, ◌+◌, ◌-◌, ◌≤◌, List, [], ◌∷◌, ◌++◌, length, take, drop, length-set, arith, eq-eqb, ne_eqb, lt-ltb, le-ltb}
 use Rattle.std.specs.Prelude.{Some, slice_get, slice_set, Option}
 use Rattle.std.proofs.lemmas.Bool.{cases_eq, cases_lt}
 use Rattle.std.proofs.lemmas.Option.{same_Some, slice_get_within}
+use Rattle.dr_entry.proofs.ListPlaces.{replica_kept, replica_set, at_set}
+use Rattle.dr_entry.proofs.NumberFacts.{cut_back}
 use Rattle.dr_history_laws.proofs.Lists.{slice_get-left, slice_get-push_cases, slice_get-seam}
-use Rattle.dr_program.proofs.Holdings.{replica_kept, replica_set}
 use Rattle.dr_program.specs.Running.{Running}
 use Rattle.dr_table.specs.Rule.{Found, Stands, number}
-use Rattle.dr_table.proofs.Lists.{at_set, place_append, place_behind, place_drop, place_front, place_set, place_take, take_place}
 use Rattle.dr_program.specs.Presence.{present_at, with_present}
-use Rattle.dr_program.proofs.Present.{present_within, present_set, present_kept}
+use Rattle.dr_program.proofs.Present.{present_within, present_set, present_kept, place_append, place_behind, place_drop, place_front, place_set, place_take, take_place}
 
 -- ---- one member changes
 
@@ -130,10 +130,6 @@ stands_moved views views' members back way on h = record {
       let (t, b, g) = on s a r f in (t, b, r, g, named);
 }
 
--- a hand is cut at a place, and a new seat has what stands from there on
-cut_back : ℕ → ℕ → ℕ → ℕ → ℕ → ℕ × ℕ
-cut_back id at n s a = cond (eqb s id) (cond (ltb a at) (id, a) (n, a - at)) (s, a)
-
 pub stands_cut : (views : List (List (Option Running))) (members : List (Option Running)) (id at : ℕ) (v : List (Option Running))
     → slice_get views id ≡ Some v → Stands views members
     → Stands (slice_set views id (take at v) ++ drop at v ∷ []) members
@@ -207,16 +203,12 @@ stands_cut views members id at v is h =
       )
     ]
 
--- a hand takes the members of another one behind its own
-joined_back : ℕ → ℕ → ℕ → ℕ → ℕ → ℕ × ℕ
-joined_back id other n s a = cond (eqb s other) (id, n + a) (s, a)
-
 pub stands_joined : (views : List (List (Option Running))) (members : List (Option Running)) (id : ℕ) (v : List (Option Running))
     (other : ℕ) (w : List (Option Running)) → slice_get views id ≡ Some v → other ≢ id → slice_get views other ≡ Some w
     → Stands views members → Stands (slice_set (slice_set views id (v ++ w)) other []) members
-unfolding joined_back
+unfolding cut_back
 stands_joined views members id v other w is apart there h =
-    stands_moved views after members (joined_back id other (length v)) way on h
+    stands_moved views after members (cut_back id other (length v)) way on h
   where
     both : List (List (Option Running))
     both = slice_set views id (v ++ w)
@@ -225,7 +217,7 @@ stands_joined views members id v other w is apart there h =
     after = slice_set both other []
 
     way : (s a : ℕ) (r : Running) → Found after s a r
-        → (t b : ℕ) × Found views t b r × (joined_back id other (length v) t b ≡ (s, a))
+        → (t b : ℕ) × Found views t b r × (cut_back id other (length v) t b ≡ (s, a))
     way s a r (u, at, stands) = elim (at_set both other s [] u at) [
       | inl spent ↦ absurd (cc (ap (λ l. present_at l a) spent.1 ∙ stands))
       | inr old ↦ elim (at_set views id s (v ++ w) u old.1) [

@@ -6,7 +6,7 @@ use Rattle.std.proofs.lemmas.Bool.{cases_lt}
 use Rattle.std.proofs.lemmas.List.{get_or-set_same}
 use Rattle.std.proofs.lemmas.Option.{same_Some}
 use Rattle.atomic_table.proofs.Lists.{set_else, set_here}
-use Rattle.dr_age.proofs.Deeds.{deed_tells}
+use Rattle.dr_age.proofs.Deeds.{deed_tells, give_ran, take_ran}
 use Rattle.dr_age.specs.Sound.{IsSound}
 use Rattle.dr_entry.specs.declared.entry.Entry.{Entry}
 use Rattle.dr_history.specs.History.{up_to_view}
@@ -15,7 +15,7 @@ use Rattle.dr_machine.specs.Group.{Group, IsGroup, late_members}
 use Rattle.dr_machine.proofs.Presence.{in_roster, late_in}
 use Rattle.dr_member.specs.Deeds.{table_size}
 use Rattle.dr_program.proofs.Fixed.{Told, join_told, told}
-use Rattle.dr_program.proofs.Present.{present_kept, present_set, present_within}
+use Rattle.dr_program.proofs.Present.{present_kept, present_set, present_within, further_same, further_set}
 use Rattle.dr_program.specs.declared.deed.Deed.TheVariants as deeds
 use Rattle.dr_program.specs.declared.outcome.Outcome.{Outcome}
 use Rattle.dr_program.specs.Form.{IsOf}
@@ -25,26 +25,27 @@ use Rattle.dr_program.specs.Reading.{letters_of}
 use Rattle.dr_program.specs.Replica.{Replica, joined}
 use Rattle.dr_program.specs.Running.{Running, after_step, next_deed, settled, took_letter}
 use Rattle.dr_program_laws.proofs.Keeping.{deeds_kept}
-use Rattle.dr_refine.proofs.Deeds.{settle_replica}
+use Rattle.dr_refine.proofs.Deeds.{settle_replica, after_later}
 use Rattle.dr_refine.specs.Programs.{IsLetterFor}
-use Rattle.dr_room.proofs.Letters.{letters_are}
+use Rattle.dr_program_laws.proofs.Letters.{letters_are}
 use Rattle.dr_turn.proofs.Takes.{IsTaking, taking}
-use Rattle.dr_words.proofs.Ranks.{at_rank_of}
 use Rattle.dr_words.specs.Layout.{words_of}
 use Rattle.dr_table.specs.declared.rule.Errand.{Errand}
 use Rattle.dr_table.specs.declared.rule.View.{View}
 use Rattle.dr_table.specs.Rule.{HasSuchProgram, Stands, hands, number}
 use Rattle.dr_table.specs.Slots.{HaveSlots, IsAbout, IsBlankList, IsPosted, Slot, slot_number}
 use Rattle.dr_table.specs.Steps.{HasAppended}
-use Rattle.dr_table.proofs.Deeds.{after_told, appends_ran, appends_told, give_ran, same_number, take_ran}
-use Rattle.dr_table.proofs.Errands.{SlotChange, further_same, further_set, slots_changed, slots_stay}
-use Rattle.dr_table.proofs.Later.{after_later, appends_later}
-use Rattle.dr_table.proofs.Lists.{behind_set, slot_within, sum_again}
+use Rattle.dr_table.proofs.Deeds.{after_told, appends_ran, appends_told, same_number}
+use Rattle.dr_table.proofs.Errands.{SlotChange, slots_changed, slots_stay}
+use Rattle.dr_table.proofs.Later.{appends_later}
 use Rattle.dr_table.proofs.Places.{stands_set}
 use Rattle.dr_table.proofs.Seats.{hands_get, hands_same, hands_set}
 use Rattle.dr_table.proofs.Welcoming.{IsNewcomer, newcomer, one_welcomer}
 use mathlib.Core.Option.{Option as Maybe, some, none}
 use lib.ListN.{get_elem?}
+use Rattle.dr_entry.proofs.ListPlaces.{behind_set, slot_within, sum_again}
+use Rattle.dr_entry.proofs.NumberFacts.{below_two}
+use Rattle.dr_history.proofs.Ranks.{at_rank_of}
 
 -- ---- slots
 
@@ -70,19 +71,6 @@ slot_here : (homes : List (Maybe Slot)) (slot at : ℕ) (old : Maybe Slot) (home
     → get_elem? homes at ≡ some old → get_elem? (slice_set homes slot home) at ≡ some home
 slot_here homes slot at old home same there = ap (get_elem? (slice_set homes slot home)) (sym same)
     ∙ set_here homes slot home (subst (λ n. n < length homes) (sym same) (slot_within homes at old there))
-
--- a number up to 4 that is none of 2, 3 and 4
-below_two : (n : ℕ) → n ≤ 4 → n ≢ 2 → n ≢ 3 → n ≢ 4 → n < 2
-below_two n least two three four = elim (cases_lt n 2) [
-  | inl below ↦ below
-  | inr past ↦ elim (cases_lt n 3) [
-    | inl here ↦ absurd (two (omega (arith, past, here)))
-    | inr more ↦ elim (cases_lt n 4) [
-      | inl here ↦ absurd (three (omega (arith, more, here)))
-      | inr most ↦ absurd (four (omega (arith, most, least)))
-    ]
-  ]
-]
 
 -- ---- the program of the rule
 

@@ -8,17 +8,17 @@ use Rattle.atomic_table.specs.Table.{keeps, Allows, Me}
 use Rattle.dr_machine.specs.Group.{roster}
 use Rattle.dr_program.specs.Presence.{present_at}
 use Rattle.dr_program.specs.Running.{Running, begun_running}
-use Rattle.dr_program.proofs.Present.{present_map, present_within}
+use Rattle.dr_program.proofs.Present.{present_map, present_within, same_places}
 use Rattle.dr_refine.specs.Programs.{IsProgram}
 use Rattle.dr_table.specs.Cards.{AreSame}
 use Rattle.dr_table.specs.declared.rule.View.{View}
 use Rattle.dr_table.specs.Rule.{HasSuchProgram, hands, number}
 use Rattle.dr_table.specs.Slots.{Slot}
 use Rattle.dr_table.proofs.Hands.{dealt_few, dealt_number}
-use Rattle.dr_table.proofs.Lists.{by_table, same_places, set_again}
 use Rattle.dr_table.proofs.Posting.{kept, sound}
 use Rattle.dr_table.proofs.Seats.{hands_get}
 use mathlib.Core.Option.{Option as Maybe}
+use Rattle.dr_entry.proofs.ListPlaces.{by_table, set_again}
 
 few : (dealt : List (Option Running)) (words : List ℕ) (homes : List (Maybe Slot)) (views : List View) (id : ℕ)
     (v : View) → slice_get views id ≡ Some v → HasSuchProgram dealt words homes views

@@ -2,9 +2,9 @@
 use Rattle.std.proofs.Common.{◌≡◌, refl, ap, ◌∙◌, ℕ, zero, suc, List, [], ◌∷◌, ◌++◌}
 use Rattle.std.specs.Prelude.{Some, option_map, slice_get, slice_set}
 use Rattle.std.proofs.lemmas.Option.{slice_get-map}
+use Rattle.dr_entry.proofs.ListPlaces.{set_again}
 use Rattle.dr_table.specs.declared.rule.View.{View}
 use Rattle.dr_table.specs.Rule.{hands}
-use Rattle.dr_table.proofs.Lists.{set_again}
 
 pub hands_get : (views : List View) (id : ℕ) (v : View) → slice_get views id ≡ Some v
     → slice_get (hands views) id ≡ Some v.members

@@ -1,6 +1,6 @@
 -- Sweeps: what a hand knows as one begins, as it goes on, and as it ends.
 use Rattle.std.proofs.Common.{◌≡◌, refl, sym, ap, ◌∙◌, subst, ℕ, ◌+◌, List, [], ◌∷◌, ◌++◌, set-set}
-use Rattle.std.specs.Prelude.{Option, Some, vec_capacity}
+use Rattle.std.specs.Prelude.{Option, Some, vec_capacity, None}
 use Rattle.dr_program.specs.declared.deed.Deed.TheVariants as deeds
 use Rattle.dr_program.specs.Running.{Running, after_step, next_deed}
 use Rattle.dr_program.proofs.Fixed.{Told, told}
@@ -13,10 +13,11 @@ use Rattle.dr_table.specs.Steps.{IsReachedMember, MayFind, idle}
 use Rattle.dr_table.specs.Sweeps.{HasComeBySweep, HasSwept, HasTaken, IsSwept}
 use Rattle.dr_table.proofs.Deeds.{after_told, stores}
 use Rattle.dr_table.proofs.Hands.{seat_has}
-use Rattle.dr_table.proofs.Lists.{again}
 use Rattle.dr_table.proofs.Members.{StandsAt, only, stepped_inside}
 use Rattle.dr_program.specs.Presence.{present_at, with_present}
-use Rattle.dr_program.proofs.Present.{present_within, present_set}
+use Rattle.dr_program.proofs.Present.{present_within, present_set, set_itself}
+use Rattle.dr_program.specs.declared.deed.Deed.{Deed}
+use Rattle.dr_age.proofs.Deeds.{deed_tells}
 
 -- one deed more
 taken_more : (words : List ℕ) (word : ℕ) (r q : Running) → HasTaken words r q → IsSwept (next_deed q)
@@ -39,7 +40,7 @@ come_begins {h} {hand} {at} {m} s =
     let (r, there, ahead) = seat_has h.seat.me.0.members h.members.items at m s.is.ahead s.here in
     record {
       taken = ([], refl);
-      seat = (r, ahead, there, sym (again h.seat.me.0.members at r there));
+      seat = (r, ahead, there, sym (set_itself h.seat.me.0.members at r there));
       reached = s.is.reached at m s.here;
       of = s.is.of at m s.here;
     }
@@ -102,3 +103,12 @@ went_sweeping {at = at} x s (words, taken) r stands = (
   subst (λ q. HasTaken words q x) (only s stands) taken,
   λ k. with_present (s.items k) at x,
 )
+
+-- and is for a member that has not ended
+pub swept_going : (r : Running) → IsSwept (next_deed r) → r.replica.end ≡ None
+swept_going r swept = by (next_deed r) refl swept
+  where
+    by : (d : Deed) → next_deed r ≡ d → IsSwept d → r.replica.end ≡ None
+    by (deeds.Look index) next swept = (deed_tells [] r (deeds.Look index) next).none
+    by (deeds.Push index word) next swept = (deed_tells [] r (deeds.Push index word) next).none
+    by d next swept = absurd swept

@@ -1,57 +1,28 @@
 -- Who gives a letter: it is for a late member for which there is none yet, and nobody else is to give it.
-use Rattle.std.proofs.Common.{◌≡◌, inl, inr, refl, sym, ap, ◌∙◌, subst, ℕ, ◌<◌, true, [], arith}
+use Rattle.std.proofs.Common.{◌≡◌, inl, inr, refl, ap, ◌∙◌, ℕ, ◌<◌, true, [], arith}
 use Rattle.std.specs.Prelude.{None, Some}
 use Rattle.std.proofs.lemmas.Bool.{cases_eq}
-use Rattle.dr_age.proofs.Deeds.{deed_tells}
+use Rattle.dr_age.proofs.Deeds.{deed_tells, can_welcome, given_after}
 use Rattle.dr_age.specs.Sound.{IsSound}
 use Rattle.dr_history.specs.History.{up_to_view}
 use Rattle.dr_history.specs.Members.{has}
-use Rattle.dr_machine.specs.Acts.{CanTake}
 use Rattle.dr_machine.specs.Group.{Group, late_members, roster}
-use Rattle.dr_machine.specs.Guards.{CanWelcome}
-use Rattle.dr_program.proofs.Present.{present_kept, present_set}
+use Rattle.dr_program.proofs.Present.{present_kept, MayGet}
 use Rattle.dr_program.specs.declared.deed.Deed.TheVariants as deeds
 use Rattle.dr_program.specs.declared.outcome.Outcome.TheVariants as outcomes
 use Rattle.dr_program.specs.Presence.{present_at}
-use Rattle.dr_program.specs.Program.{Program, after_deed, comes_to, letter_for, next_sight, ok, step_of}
-use Rattle.dr_program.specs.Reading.{step_by, step_due, world}
+use Rattle.dr_program.specs.Program.{Program, after_deed, letter_for, next_sight, ok, step_of}
+use Rattle.dr_program.specs.Reading.{world}
 use Rattle.dr_program.specs.Running.{Running, next_deed, next_step}
-use Rattle.dr_program.specs.Steps.{stored_letters}
-use Rattle.dr_program_laws.proofs.Keeping.{move_kept}
-use Rattle.dr_refine.proofs.Deeds.{deed_is_step, step_is}
-use Rattle.dr_room.proofs.Letters.{letters_are}
-use Rattle.dr_world.proofs.Letters.{MayGet, letter_late, may_get}
-
--- a member of the program that is to give a letter may do so
-can_welcome : (g : Group) (p : Program) (m j : ℕ) (r : Running) → IsSound g p → present_at p.members m ≡ Some r
-    → next_deed r ≡ deeds.Give j → CanWelcome g (world g p) m j
-can_welcome g p m j r is there next =
-    let t = deed_tells [] r (deeds.Give j) next in
-    let named : step_by (letter_for p m) r outcomes.Ok ≡ Some (next_step r) =
-    ap (λ o. comes_to (letter_for p m) (step_due r o) outcomes.Ok) t.none
-    ∙ ap (λ s. comes_to (letter_for p m) (Some s) outcomes.Ok) t.says ∙ sym (ap (λ s. Some s) t.says) in
-    subst (CanTake g (world g p) m) t.says
-    (deed_is_step g p (record { member = m; outcome = outcomes.Ok }) r (next_step r) is.group is.form
-    (letters_are g p is.group is.form is.reached) there named).0
+use Rattle.dr_refine.proofs.Deeds.{step_is}
+use Rattle.dr_program_laws.proofs.Letters.{may_get}
+use Rattle.dr_world.proofs.Letters.{letter_late}
 
 -- the letter is for a late member of the roster, for which there is none yet
 pub record IsNewcomer (g : Group) (p : Program) (j : ℕ) : Type 0 where
   pub late : has (late_members g) j ≡ true
   pub within : j < roster g
   pub none : letter_for p j ≡ None
-
--- the program once it is given
-given_after : (g : Group) (p : Program) (m j : ℕ) (r : Running) → IsSound g p → present_at p.members m ≡ Some r
-    → next_deed r ≡ deeds.Give j → MayGet g p.letters j
-    → IsSound g (step_of p (ok m)) × (letter_for (step_of p (ok m)) j ≡ Some (up_to_view r.replica.history))
-given_after g p m j r is there next may =
-    let kept = move_kept g p (ok m) is.group is.form is.reached in
-    let t = deed_tells [] r (deeds.Give j) next in (
-      record { group = is.group; form = kept.0; reached = kept.1 },
-      ap (λ (k : Program). letter_for k j) (step_is p (ok m) r there t.none)
-          ∙ ap (λ s. present_at (stored_letters p.letters r.replica s) j) t.says
-          ∙ present_set p.letters j (up_to_view r.replica.history) may.within,
-    )
 
 pub newcomer : (g : Group) (p : Program) (m j : ℕ) (r : Running) → IsSound g p → present_at p.members m ≡ Some r
     → next_deed r ≡ deeds.Give j → IsNewcomer g p j

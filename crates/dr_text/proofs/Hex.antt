@@ -1,14 +1,17 @@
 -- The kit's words for hexadecimal text, and those of the report.
-use Rattle.std.proofs.Common.{◌≡◌, ℕ, zero, suc, ◌+◌, ◌*◌, ◌/◌, ◌%◌, ◌<◌, ◌==◌, nat_lt, ◌&&◌, Bool, true, inl, inr, false, List, [], ◌∷◌, ◌++◌, append_assoc, length, set, take, slice_index, refl, sym, ap, ap₂, ◌∙◌, arith}
+use Rattle.std.proofs.Common.{◌≡◌, ℕ, zero, suc, ◌+◌, ◌*◌, ◌/◌, ◌%◌, ◌<◌, ◌==◌, ◌&&◌, Bool, true, inl, inr, false, List, [], ◌∷◌, ◌++◌, append_assoc, length, set, take, slice_index, refl, sym, ap, ap₂, ◌∙◌, arith, Ok, codes, Err}
 use Rattle.std.proofs.lemmas.List.{flat_map_more, length-set, take_more, take_more_set}
 use Rattle.std.specs.Fmt.{digit_glyph}
 use Rattle.std.specs.List.{flat_map}
 use Rattle.std.specs.Str.{IsAscii}
-use Rattle.std.proofs.lemmas.Bool.{and_parts, cases_lt, eqb-true, ltb-true}
-use Rattle.std.proofs.lemmas.Str.Ascii.{IsAscii-nil, IsAscii-cons}
-use Rattle.hex.specs.Hex.{IsBytes, encode_with, encode_lower, lower_digits}
-use Rattle.hex.proofs.HexLemmas.{IsAscii-encode_with}
-use Rattle.dr_text.specs.Report.{hex_text}
+use Rattle.std.proofs.lemmas.Bool.{and_parts, cases_lt, eqb-true}
+use Rattle.hex.specs.Hex.{IsBytes, encode_with, encode_lower, lower_digits, decode_of}
+use Rattle.hex.proofs.HexLemmas.{IsAscii-encode_with, decode_of-encode_lower}
+use Rattle.hex.specs.declared.error.FromHexError.{FromHexError}
+use Rattle.dr_entry.proofs.Texts.{ascii_from_all}
+use Rattle.dr_entry.specs.Messages.{IsMessage}
+use Rattle.dr_text.specs.Report.{hex_text, message_text}
+use Rattle.dr_text.proofs.Hexes.{are_bytes}
 
 -- the first n of the kit's digits are those of the report
 abbrev same_digits : ℕ → Bool
@@ -38,18 +41,6 @@ encoded_text (b ∷ rest) h =
     let low_digit = same_digit 16 (b % 16) refl (omega arith) in
     rw (high_digit, low_digit, encoded_text rest (λ i. h (suc i))) refl
 
--- whether each of the bytes is below 128
-abbrev all_ascii : List ℕ → Bool
-all_ascii [] = true
-all_ascii (b ∷ bs) = nat_lt b 128 && all_ascii bs
-
--- bytes below 128 are ASCII
-ascii_from_all : (bs : List ℕ) → all_ascii bs ≡ true → IsAscii bs
-ascii_from_all [] h = IsAscii-nil
-ascii_from_all (b ∷ bs) h =
-    let parts = and_parts (nat_lt b 128) (all_ascii bs) h in
-    IsAscii-cons b bs (ltb-true b 128 parts.0) (ascii_from_all bs parts.1)
-
 -- the kit's hexadecimal text is ASCII
 pub encoded_ascii : (bytes : List ℕ) → IsAscii (encode_lower bytes)
 encoded_ascii bytes = IsAscii-encode_with lower_digits bytes (ascii_from_all lower_digits refl)
@@ -70,3 +61,34 @@ two_more into bytes i h l long within high low so =
   where
     two : 2 * (i + 1) ≡ 2 * i + 1 + 1
     two = omega arith
+
+pub decoded : (bytes : List ℕ) → IsMessage bytes → decode_of (flat_map hex_text bytes) ≡ Ok bytes
+decoded bytes is =
+    ap decode_of (sym (encoded_text bytes (are_bytes bytes is)))
+    ∙ decode_of-encode_lower bytes (are_bytes bytes is)
+
+-- what was decoded of the text of a message is the message
+pub ok_message : (bytes items word : List ℕ) → IsMessage bytes → word ≡ message_text bytes
+    → decode_of word ≡ Ok items
+    → items ≡ bytes
+ok_message [] items word is same ok =
+    let bad : decode_of word ≡ decode_of (codes "-") = ap decode_of same in absurd (cc)
+ok_message (b ∷ bs) items word is same ok =
+    let good : Ok items ≡ Ok (b ∷ bs) = sym ok ∙ (ap decode_of same ∙ decoded (b ∷ bs) is) in cc
+
+-- and where nothing was, it is empty
+pub err_message : (bytes word : List ℕ) (e : FromHexError) → IsMessage bytes → word ≡ message_text bytes
+    → decode_of word ≡ Err e → [] ≡ bytes
+err_message [] word e is same err = refl
+err_message (b ∷ bs) word e is same err =
+    let good : decode_of word ≡ Ok (b ∷ bs) = ap decode_of same ∙ decoded (b ∷ bs) is in absurd (cc)
+
+pub same_message : (b c : List ℕ) → IsMessage b → IsMessage c → message_text b ≡ message_text c → b ≡ c
+same_message [] [] is also same = refl
+same_message [] (y ∷ c) is also same =
+    let bad : decode_of (codes "-") ≡ Ok (y ∷ c) = ap decode_of same ∙ decoded (y ∷ c) also in absurd (cc)
+same_message (x ∷ b) [] is also same =
+    let bad : decode_of (codes "-") ≡ Ok (x ∷ b) = ap decode_of (sym same) ∙ decoded (x ∷ b) is in absurd (cc)
+same_message (x ∷ b) (y ∷ c) is also same =
+    let good : Ok (x ∷ b) ≡ Ok (y ∷ c) =
+    sym (decoded (x ∷ b) is) ∙ (ap decode_of same ∙ decoded (y ∷ c) also) in cc

@@ -1,6 +1,6 @@
-mod Hex
-mod Bounds
-pub mod Numbers
+pub mod Hex
 mod Lines
 pub mod Texts
 pub mod Sinks
+pub mod Hexes
+pub mod Reports

@@ -1,35 +1,15 @@
 -- Printing one line more, and the text of the first lines.
-use Rattle.std.proofs.Common.{◌≡◌, ℕ, ◌+◌, ◌≤◌, ◌<◌, ◌⊎◌, inl, inr, List, [], ◌∷◌, ◌++◌, length, take, drop, get_or, refl, sym, ap, ◌∙◌, arith, subst}
+use Rattle.std.proofs.Common.{◌≡◌, ℕ, ◌+◌, ◌≤◌, ◌<◌, List, [], ◌∷◌, ◌++◌, length, take, get_or, refl, sym, ap, ◌∙◌, arith}
 use Rattle.std.specs.List.{flat_map}
-use Rattle.std.proofs.Math.Seq.{take-append_seam, take-length, get_or-append_seam}
+use Rattle.std.proofs.Math.Seq.{take-length, get_or-append_seam}
 use Rattle.std.proofs.Math.ListN.{get_or-append}
-use Rattle.std.proofs.lemmas.Bool.{cases_lt}
 use Rattle.std.proofs.lemmas.List.{length-append}
 use Rattle.std.proofs.lemmas.Grind.{get_or_default_zero}
 use Rattle.dr_entry.specs.declared.entry.Entry.{Entry}
+use Rattle.dr_entry.proofs.ListFacts.{text_more, first_text}
+use Rattle.dr_entry.proofs.NumberFacts.{up_to_none, up_to_more}
 use Rattle.dr_text.specs.Report.{entry_text}
 use Rattle.dr_text.specs.Printed.{ArePrinted, lines}
-use Rattle.dr_text.proofs.Texts.{text_parts, text_more}
-
--- the text of the first elements begins the text of all
-first_text : {A B : Type 0} (f : A → List B) (xs : List A) (n : ℕ)
-    → take (length (flat_map f (take n xs))) (flat_map f xs) ≡ flat_map f (take n xs)
-first_text f xs n =
-    ap (take (length (flat_map f (take n xs)))) (text_parts f xs n)
-    ∙ take-append_seam (flat_map f (take n xs)) (flat_map f (drop n xs))
-
--- what holds up to n and at the next number holds up to it
-up_to_more : (P : ℕ → Type 0) (n : ℕ)
-    → ((i : ℕ) → i ≤ n → P i) → P (n + 1) → (i : ℕ) → i ≤ n + 1 → P i
-up_to_more P n before next i within = up_to_cases (cases_lt i (n + 1))
-  where
-    up_to_cases : (i < n + 1) ⊎ (n + 1 ≤ i) → P i
-    up_to_cases (inl below) = before i (omega arith)
-    up_to_cases (inr above) = let e : n + 1 ≡ i = omega arith in subst P e next
-
--- what holds at 0 holds up to 0
-up_to_none : (P : ℕ → Type 0) → P 0 → (i : ℕ) → i ≤ 0 → P i
-up_to_none P first i within = let e : 0 ≡ i = omega arith in subst P e first
 
 -- an end where the lines of the first i entries end
 abbrev IsEnd : List Entry → List ℕ → ℕ → Type 0

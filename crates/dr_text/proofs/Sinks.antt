@@ -1,13 +1,13 @@
 -- How far the writing of a text has come.
-use Rattle.std.proofs.Common.{◌≡◌, ℕ, ◌+◌, ◌-◌, ◌≤◌, ◌<◌, List, ◌++◌, length, take, drop, get_or, Option, sym, subst, ap, ◌∙◌, arith, length-drop, length-append, Result, Ok, Err, OnErr}
+use Rattle.std.proofs.Common.{◌≡◌, ℕ, ◌+◌, ◌-◌, ◌≤◌, ◌<◌, List, ◌++◌, length, take, drop, get_or, Option, sym, subst, ap, ◌∙◌, arith, length-append}
 use Rattle.std.specs.List.{concat, flat_map}
-use Rattle.std.proofs.Math.Seq.{take-add, take-append-add}
-use Rattle.std.proofs.lemmas.List.{take_all, take-append-le}
+use Rattle.std.proofs.Math.Seq.{take-append-add}
+use Rattle.std.proofs.lemmas.List.{take-append-le}
 use Rattle.std.proofs.lemmas.List.Concat.{concat_is}
+use Rattle.dr_entry.proofs.ListFacts.{text_parts, text_more}
 use Rattle.dr_io.specs.Sink.{Gains}
 use Rattle.dr_io.proofs.KnownLemmas.{gains_more}
 use Rattle.dr_text.specs.Writing.{WroteFront}
-use Rattle.dr_text.proofs.Texts.{text_parts, text_more}
 
 -- this text was written so far, and no call failed
 pub record HasWritten (old new : Option (List ℕ)) (before after : ℕ) (text : List ℕ) : Type 0 where
@@ -20,19 +20,6 @@ pub record WritesSoFar (old new : Option (List ℕ)) (before after : ℕ) (text 
   pub gained : Gains old new (take at text)
   pub within : at ≤ length text
   pub calm : after ≡ before
-
--- the next bytes of the text, written behind its front part, make a longer front part
-pub gains_front : (old now new : Option (List ℕ)) (text : List ℕ) (at n : ℕ)
-    → Gains old now (take at text)
-    → Gains now new (take n (take (length text - at) (drop at text))) → Gains old new (take (at + n) text)
-gains_front old now new text at n first next =
-    let rest : take (length text - at) (drop at text)
-    ≡ drop at text = take_all (length text - at) (drop at text)
-    (omega (arith, length-drop {A = ℕ})) in
-    let P : List ℕ → Type 0 = λ bytes. Gains old new bytes in
-    let Q : List ℕ → Type 0 = λ bytes. Gains now new (take n bytes) in
-    subst P (sym (take-add at n text))
-    (gains_more old now new (take at text) (take n (drop at text)) first (subst Q rest next))
 
 -- a front part of a text is one of a longer text
 pub front_longer : (old new : Option (List ℕ)) (text more : List ℕ)
@@ -75,8 +62,3 @@ front_of_texts xs i x old now new below is gained front =
     subst (WroteFront old new) (sym (concat_is xs))
     (front_of_list (λ x. x) xs i x old now new below is
     (subst (Gains old now) (concat_is (take i xs)) gained) front)
-
--- what is known anyway
-pub on_err_anyway : {T E P : Type 0} (r : Result T E) → P → OnErr r P
-on_err_anyway (Ok value) p = tt
-on_err_anyway (Err fault) p = p

@@ -1,10 +1,11 @@
 -- The answers of two halves are the answer of both.
-use Rattle.std.proofs.Common.{◌≡◌, refl, sym, ap, ◌∙◌, subst, inl, inr, ◌⊎◌, ℕ, zero, suc, ◌+◌, List, [], ◌∷◌, ◌++◌, ◌-◌, length, length-append, length-take, map, min, take, drop, le_refl, arith}
-use Rattle.std.specs.Prelude.{None, Option, Some, Result, Ok, Err, Vec, is_some, option_map}
+use Rattle.std.proofs.Common.{◌≡◌, refl, sym, ap, ◌∙◌, subst, inl, inr, ℕ, ◌+◌, List, [], ◌++◌, ◌-◌, length, length-take, map, min, take, drop, le_refl}
+use Rattle.std.specs.Prelude.{None, Option, Result, Ok, Err, Vec, is_some, option_map}
 use Rattle.std.specs.declared.alloc.AllocError.{AllocError}
 use Rattle.std.specs.declared.alloc.Global.{Global}
 use Rattle.std.proofs.lemmas.List.{get_or-drop, length-drop, map-append}
 use Rattle.std.proofs.lemmas.Option.{same_Some}
+use Rattle.dr_entry.proofs.OptionFacts.{some_there}
 use Rattle.dr_disk.proofs.Moments.{lasts_still}
 use Rattle.dr_disk.specs.Disk.{Told}
 use Rattle.dr_log.specs.Standing.{LosesNone}
@@ -18,59 +19,12 @@ use Rattle.dr_table.specs.Rule.{number}
 use Rattle.dr_threads.specs.Answers.{IsHandAnswer, logs_of}
 use Rattle.dr_threads.specs.Course.{HaveRun}
 use Rattle.dr_threads.specs.Logs.{AreFor, AreLonger, IsLonger}
-use Rattle.dr_threads.proofs.Runs.{as_filled, as_many, some_at}
 use Rattle.dr_program.specs.Presence.{present_at}
+use Rattle.dr_program.proofs.Present.{pairs, triples, at_first, filled_first}
+use Rattle.dr_logged.proofs.Served.{places_behind}
+use Rattle.dr_table.proofs.Cards.{as_filled, as_many, ended_behind}
 
 -- ---- lists of one length
-
--- what stands at one place of two lists, each of two parts, stands so in the first parts or in the second
-pairs : {X Y : Type 0} (xs us : List (Option X)) (ys vs : List (Option Y)) (k : ℕ) (x : X) (y : Y)
-    → length xs ≡ length ys → present_at (xs ++ us) k ≡ Some x → present_at (ys ++ vs) k ≡ Some y
-    → ((present_at xs k ≡ Some x) × (present_at ys k ≡ Some y))
-    ⊎ ((j : ℕ) × (present_at us j ≡ Some x) × (present_at vs j ≡ Some y))
-pairs [] us [] vs k x y e a b = inr (k, a, b)
-pairs [] us (z ∷ zs) vs k x y e a b = absurd (omega arith)
-pairs (w ∷ ws) us [] vs k x y e a b = absurd (omega arith)
-pairs (w ∷ ws) us (z ∷ zs) vs zero x y e a b = inl (a, b)
-pairs (w ∷ ws) us (z ∷ zs) vs (suc k) x y e a b = pairs ws us zs vs k x y (omega arith) a b
-
-triples : {X Y : Type 0} (xs us ys vs : List (Option X)) (rs qs : List (Option Y)) (k : ℕ) (x y : X) (r : Y)
-    → length xs ≡ length ys → length xs ≡ length rs → present_at (xs ++ us) k ≡ Some x
-    → present_at (ys ++ vs) k ≡ Some y → present_at (rs ++ qs) k ≡ Some r
-    → ((present_at xs k ≡ Some x) × (present_at ys k ≡ Some y) × (present_at rs k ≡ Some r))
-    ⊎ ((j : ℕ) × (present_at us j ≡ Some x) × (present_at vs j ≡ Some y) × (present_at qs j ≡ Some r))
-triples [] us [] vs [] qs k x y r e f a b c = inr (k, a, b, c)
-triples [] us (z ∷ zs) vs rs qs k x y r e f a b c = absurd (omega arith)
-triples [] us [] vs (t ∷ ts) qs k x y r e f a b c = absurd (omega arith)
-triples (w ∷ ws) us [] vs rs qs k x y r e f a b c = absurd (omega arith)
-triples (w ∷ ws) us (z ∷ zs) vs [] qs k x y r e f a b c = absurd (omega arith)
-triples (w ∷ ws) us (z ∷ zs) vs (t ∷ ts) qs zero x y r e f a b c = inl (a, b, c)
-triples (w ∷ ws) us (z ∷ zs) vs (t ∷ ts) qs (suc k) x y r e f a b c =
-    triples ws us zs vs ts qs k x y r (omega arith) (omega arith) a b c
-
--- the same places are filled, one list behind the other
-filled_behind : {X : Type 0} (xs us ys vs : List (Option X)) → length ys ≡ length xs
-    → ((k : ℕ) → is_some (present_at ys k) ≡ is_some (present_at xs k))
-    → ((k : ℕ) → is_some (present_at vs k) ≡ is_some (present_at us k))
-    → (k : ℕ) → is_some (present_at (ys ++ vs) k) ≡ is_some (present_at (xs ++ us) k)
-filled_behind [] us [] vs e a b k = b k
-filled_behind [] us (z ∷ zs) vs e a b k = absurd (omega arith)
-filled_behind (w ∷ ws) us [] vs e a b k = absurd (omega arith)
-filled_behind (w ∷ ws) us (z ∷ zs) vs e a b zero = a zero
-filled_behind (w ∷ ws) us (z ∷ zs) vs e a b (suc k) =
-    filled_behind ws us zs vs (omega arith) (λ j. a (suc j)) b k
-
-places_behind : {D : Type 0} (logs more news newer : List (Option (LogState D))) → HaveSamePlaces logs news
-    → HaveSamePlaces more newer → HaveSamePlaces (logs ++ more) (news ++ newer)
-places_behind logs more news newer a b = record {
-  all = length-append news newer ∙ (λ z. a.all z + b.all z) ∙ sym (length-append logs more);
-  each = filled_behind logs more news newer a.all a.each b.each;
-}
-
-ended_behind : (rs qs : List (Option Running)) → AreAtEnd rs → AreAtEnd qs → AreAtEnd (rs ++ qs)
-ended_behind [] qs a b k r there = b k r there
-ended_behind (x ∷ rs) qs a b zero r there = a zero r there
-ended_behind (x ∷ rs) qs a b (suc k) r there = ended_behind rs qs (λ j. a (suc j)) b k r there
 
 -- ---- answers
 
@@ -119,7 +73,7 @@ module _ {D : Type 0} (told : D → Option Told) (faults : D → ℕ) where
   answer_longer table before logs (Ok r) there h = record {
     places = h.places;
     each = λ k old new from to.
-        let (x, member) = some_at (present_at r.0.members k)
+        let (x, member) = some_there (present_at r.0.members k)
         (as_filled before r.0.members k h.over.same ∙ sym (there k) ∙ ap is_some from) in
         let come = h.served k old new x from to member in
         record {
@@ -169,25 +123,6 @@ module _ {D : Type 0} (told : D → Option Told) (faults : D → ℕ) where
   }
 
 -- ---- the two halves of logs and members
-
--- what stands at a place of the first places stands there
-at_first : {X : Type 0} (n : ℕ) (xs : List (Option X)) (k : ℕ) (x : X) → present_at (take n xs) k ≡ Some x
-    → present_at xs k ≡ Some x
-at_first zero xs k x there = absurd (cc)
-at_first (suc n) [] k x there = there
-at_first (suc n) (y ∷ ys) zero x there = there
-at_first (suc n) (y ∷ ys) (suc k) x there = at_first n ys k x there
-
-filled_first : {X Y : Type 0} (n : ℕ) (xs : List (Option X)) (ys : List (Option Y)) → length xs ≡ length ys
-    → ((k : ℕ) → is_some (present_at xs k) ≡ is_some (present_at ys k))
-    → (k : ℕ) → is_some (present_at (take n xs) k) ≡ is_some (present_at (take n ys) k)
-filled_first zero xs ys e same k = refl
-filled_first (suc n) [] [] e same k = refl
-filled_first (suc n) [] (z ∷ zs) e same k = absurd (omega arith)
-filled_first (suc n) (w ∷ ws) [] e same k = absurd (omega arith)
-filled_first (suc n) (w ∷ ws) (z ∷ zs) e same zero = same zero
-filled_first (suc n) (w ∷ ws) (z ∷ zs) e same (suc k) =
-    filled_first n ws zs (omega arith) (λ j. same (suc j)) k
 
 pub for_take : {D : Type 0} (n : ℕ) (logs : List (Option (LogState D))) (members : List (Option Running))
     → AreFor logs members → AreFor (take n logs) (take n members)

@@ -1,15 +1,13 @@
 -- The run of one member: its log before, and behind it.
-use Rattle.std.proofs.Common.{◌≡◌, refl, sym, ap, ◌∙◌, subst, inl, inr, ℕ, ◌*◌, ◌-◌, max, not, true, false, List, length, length-set, get_or, true≢false, arith}
-use Rattle.std.specs.Prelude.{None, Option, Some, is_some}
-use Rattle.std.proofs.lemmas.Bool.{cases_eq}
-use Rattle.std.proofs.lemmas.List.{get_or_default}
-use Rattle.std.proofs.lemmas.Option.{same_Some}
+use Rattle.std.proofs.Common.{◌≡◌, refl, sym, ap, ◌∙◌, subst, inl, ℕ, ◌*◌, ◌-◌, max, not, true, false, List, length, arith}
+use Rattle.std.specs.Prelude.{Option, Some, is_some}
+use Rattle.dr_entry.proofs.OptionFacts.{none_at}
 use Rattle.dr_disk.proofs.Moments.{lasts_still}
 use Rattle.dr_disk.specs.Disk.{Told}
 use Rattle.dr_log.specs.Standing.{HasAllOf, LosesNone}
 use Rattle.dr_log.specs.State.{LogState}
 use Rattle.dr_log.proofs.Ordinary.{has_itself}
-use Rattle.dr_logged.specs.Served.{HasServed, HaveSamePlaces, IsReady, IsSafe}
+use Rattle.dr_logged.specs.Served.{HasServed, IsReady, IsSafe}
 use Rattle.dr_logged.proofs.Serving.{begins}
 use Rattle.dr_program.specs.Running.{Running}
 use Rattle.dr_logged.proofs.Rooms.{roomy}
@@ -17,52 +15,8 @@ use Rattle.dr_table.specs.Cards.{Cards, DealtTable}
 use Rattle.dr_threads.specs.Course.{HasGone, HaveRun, IsEndOf}
 use Rattle.dr_threads.specs.Logs.{AreFor, AreLonger, IsLonger}
 use Rattle.dr_program.specs.Presence.{present_at, with_present}
-use Rattle.dr_program.proofs.Present.{present_kept, present_set, present_within}
-
--- the one place of a list
-only : {X : Type 0} (xs : List (Option X)) (k : ℕ) (x : X) → length xs ≡ 1 → present_at xs k ≡ Some x → k ≡ 0
-only xs k x one there = omega (arith, present_within xs k x there, one)
-
--- the log that is read at the one place stands there
-pub first_log : {D : Type 0} (logs : List (Option (LogState D))) (x : Option (LogState D)) (log : LogState D)
-    → length logs ≡ 1 → x ≡ get_or logs 0 x → x ≡ Some log → present_at logs 0 ≡ Some log
-first_log logs x log one read is = get_or_default logs 0 None x (omega (arith, one)) ∙ sym read ∙ is
-
--- and it is a log where one stands there
-pub some_log : {D : Type 0} (logs : List (Option (LogState D))) (x : Option (LogState D)) → length logs ≡ 1
-    → is_some (present_at logs 0) ≡ true → x ≡ get_or logs 0 x → x ≡ None → ⊥
-some_log logs x one there read none = true≢false
-    (sym there ∙ ap is_some (get_or_default logs 0 None x (omega (arith, one)) ∙ sym read ∙ none))
-
--- where nothing is there is none
-none_at : {X : Type 0} (o : Option X) → not (is_some o) ≡ true → o ≡ None
-none_at None is = refl
-none_at (Some x) is = absurd (cc)
-
--- the log at the one place, as it was and as it is now
-first_was : {D : Type 0} (logs : List (Option (LogState D))) (old was : LogState D) (k : ℕ) → length logs ≡ 1
-    → present_at logs 0 ≡ Some old → present_at logs k ≡ Some was → old ≡ was
-first_was logs old was k one there from =
-    same_Some old was (sym there ∙ ap (present_at logs) (sym (only logs k was one from)) ∙ from)
-
-first_now : {D : Type 0} (logs : List (Option (LogState D))) (new now : LogState D) (k : ℕ) → length logs ≡ 1
-    → present_at (with_present logs 0 new) k ≡ Some now → new ≡ now
-first_now logs new now k one to =
-    first_was (with_present logs 0 new) new now k (length-set logs 0 (Some new) ∙ one)
-    (present_set logs 0 new (omega (arith, one))) to
-
--- where a log was put in place of one the same places are filled
-put_places : {D : Type 0} (logs : List (Option (LogState D))) (old new : LogState D) (m : ℕ)
-    → present_at logs m ≡ Some old → HaveSamePlaces logs (with_present logs m new)
-put_places logs old new m there = record {
-  all = length-set logs m (Some new);
-  each = λ k. elim (cases_eq k m) [
-    | inl here ↦ ap (λ i. is_some (present_at (with_present logs m new) i)) here
-        ∙ ap is_some (present_set logs m new (present_within logs m old there)) ∙ sym (ap is_some there)
-        ∙ sym (ap (λ i. is_some (present_at logs i)) here)
-    | inr other ↦ ap is_some (present_kept logs m k new other)
-  ];
-}
+use Rattle.dr_program.proofs.Present.{only}
+use Rattle.dr_logged.proofs.Served.{first_was, first_now, put_places}
 
 module _ {D : Type 0} (told : D → Option Told) (faults : D → ℕ) where
   -- the log got room for all that its member may append: it is ready, and has served it so far

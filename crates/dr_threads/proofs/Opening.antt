@@ -6,7 +6,7 @@ use Rattle.dr_disk.specs.Disk.{Told}
 use Rattle.dr_log.specs.State.{LogState}
 use Rattle.dr_logged.specs.Served.{HaveSamePlaces, HaveServed}
 use Rattle.dr_machine.specs.Group.{IsGroup, IsPresent}
-use Rattle.dr_program.proofs.Present.{all_ended, present_map, present_within}
+use Rattle.dr_program.proofs.Present.{all_ended, present_map, present_within, begun_fresh}
 use Rattle.dr_program.specs.Presence.{present_at}
 use Rattle.dr_program.specs.Program.{AreSetups, IsRanFrom, Program, begun_program}
 use Rattle.dr_program.specs.Running.{Running, begun_running}
@@ -16,9 +16,11 @@ use Rattle.dr_restart.specs.Groups.{group_of}
 use Rattle.dr_restart.specs.Setups.{IsBegun}
 use Rattle.dr_restart.proofs.Setups.{are_setups}
 use Rattle.dr_script.specs.declared.script.Script.{Script}
+use Rattle.dr_program.proofs.RunningPrograms.{IsFresh}
+use Rattle.dr_program_laws.proofs.Failing.{all_failing}
 use Rattle.dr_age.specs.Logged.{AreOpened}
 use Rattle.dr_age.specs.Begun.{HaveBegun}
-use Rattle.dr_age.proofs.Ends.{IsFresh, IsOver, all_failing, begun_fresh}
+use Rattle.dr_age.proofs.Ends.{IsOver}
 use Rattle.dr_table.specs.Cards.{AreAtEnd}
 use Rattle.dr_table.specs.Rule.{IsDealt}
 use Rattle.dr_threads.specs.Logs.{AreFor}
@@ -36,12 +38,6 @@ is_dealt script start nth members group lists some begun = record {
   are = are_setups script start nth begun.setups lists begun.are;
   begun = begun.begun;
 }
-
--- so they are as many
-pub as_many_begun : (script : Script) (start : Start) (nth : ℕ) (members : List (Option Running))
-    → HaveBegun script start nth script.members members → length members ≡ script.members
-as_many_begun script start nth members begun =
-    ap length begun.begun ∙ length-map begun.setups (option_map begun_running) ∙ begun.are.all
 
 -- logs that are opened are for them
 pub are_for : {D : Type 0} (script : Script) (start : Start) (nth : ℕ) (members : List (Option Running))

@@ -1,38 +1,22 @@
 -- The members of each age of a run agree.
-use Rattle.std.proofs.Common.{◌≡◌, ◌⊎◌, ◌∙◌, inl, inr, sym, ap, true≢false, ℕ, ◌+◌, List, [], ◌∷◌, Option, Some, slice_get}
-use Rattle.std.proofs.lemmas.Bool.{cases_Bool}
+use Rattle.std.proofs.Common.{ℕ, ◌+◌, List, [], ◌∷◌, Option}
 use Rattle.std.proofs.lemmas.List.Elements.{All-cons, All-nil}
 use Rattle.dr_ages.specs.declared.mode.Mode.{Mode}
 use Rattle.dr_ages.specs.declared.part.Part.{Part}
 use Rattle.dr_ages.specs.declared.stop.Stop.{Stop}
-use Rattle.dr_ages.specs.Ages.{AreAges, IsAgeOf, opening_of}
+use Rattle.dr_ages.specs.Ages.{AreAges, opening_of}
 use Rattle.dr_entry.specs.declared.end.AgeEnd.{AgeEnd}
-use Rattle.dr_entry.specs.declared.end.MemberEnd.{MemberEnd}
 use Rattle.dr_history.specs.declared.opening.Opening.{Opening}
-use Rattle.dr_history.specs.Members.{has}
-use Rattle.dr_history.specs.Soundness.{IsPresentIn}
 use Rattle.dr_outcome.specs.Outcome.{IsMemoryRun}
-use Rattle.dr_program.specs.Program.{absent_end}
 use Rattle.dr_script.specs.declared.script.Script.{Script}
 use Rattle.dr_summary.specs.Summary.{HaveAgreed}
 use Rattle.dr_yard.specs.Yards.{YardState, empty_yard}
+use Rattle.dr_ages.proofs.Parts.{part_or_none}
 use Rattle.dr_tools.specs.Summary.{AreAgreed}
 
 -- those of an age do, whatever it opened with
 abbrev IsAgreed : AgeEnd → Type 0
 IsAgreed age = (o : Opening) × HaveAgreed o age.members
-
--- whoever is absent has no history
-part_or_none : (script : Script) (part : Part) (mode : Mode) (nth : ℕ) (before after : YardState) (age : AgeEnd)
-    (i : ℕ) (e : MemberEnd) → IsAgeOf script part mode nth before after age → slice_get age.members i ≡ Some e
-    → IsPresentIn (opening_of script part age) i ⊎ (e.history ≡ [])
-part_or_none script part mode nth before after age i e is at =
-    elim (cases_Bool (has (opening_of script part age).present i)) [
-      | inl here ↦ inl here
-      | inr away ↦
-          let none : e ≡ absent_end = is.ended.absent i e at (λ here. true≢false (sym here ∙ away)) in
-          inr (ap (λ (x : MemberEnd). x.history) none)
-    ]
 
 agreed_ages : (script : Script) (part : Part) (mode : Mode) (nth : ℕ) (before after : YardState)
     (ages : List AgeEnd) → AreAges script part mode nth before ages after → AreAgreed ages

@@ -1,5 +1,5 @@
 -- Groups without faults, in lockstep, by how many turns they have.
-use Rattle.std.proofs.Common.{◌≡◌, ◌∙◌, ap, refl, sym, subst, ℕ, zero, suc, ◌+◌, ◌-◌, ◌*◌, ◌^◌, ◌<◌, ◌≤◌, true, arith, List, [], ◌∷◌, ◌&&◌, length, map, slice_get, Option, Some, Result, Ok, Err, IfOk}
+use Rattle.std.proofs.Common.{◌≡◌, ◌∙◌, ap, refl, sym, subst, ℕ, zero, suc, ◌-◌, ◌<◌, true, arith, List, [], ◌∷◌, ◌&&◌, length, map, slice_get, Option, Some, Result, Ok, Err, IfOk}
 use Rattle.std.specs.List.{list_all}
 use Rattle.std.proofs.lemmas.List.{length-map}
 use Rattle.std.proofs.lemmas.List.Elements.{All-nil}
@@ -8,16 +8,15 @@ use Rattle.dr_age.proofs.Lasting.{none_stopped}
 use Rattle.dr_age.specs.Logged.{AreAmple, AreOpened, HaveCome, NoneFull, NoneStopped}
 use Rattle.dr_complete.specs.Enough.{turns_enough}
 use Rattle.dr_complete.specs.Time.{HasTime}
-use Rattle.dr_complete.proofs.Enough.{enough_is_time, longest_within}
+use Rattle.dr_complete.proofs.Enough.{enough_is_time, few_turns}
 use Rattle.dr_disk.specs.Disk.{Told}
 use Rattle.dr_entry.specs.declared.end.AgeEnd.{AgeEnd}
 use Rattle.dr_entry.specs.declared.end.End.TheVariants.{Done}
 use Rattle.dr_entry.specs.declared.end.MemberEnd.{MemberEnd}
-use Rattle.dr_entry.specs.declared.limits.TheConstants.{MAX_MESSAGES}
 use Rattle.dr_log.specs.State.{LogState}
 use Rattle.dr_logged.specs.Served.{HaveSamePlaces}
 use Rattle.dr_machine.proofs.Presence.{is_present}
-use Rattle.dr_machine.specs.Group.{AllPresent, IsPresent}
+use Rattle.dr_machine.specs.Group.{IsPresent}
 use Rattle.dr_program.proofs.Present.{present_within}
 use Rattle.dr_program.specs.Presence.{present_at}
 use Rattle.dr_program.specs.Program.{end_at}
@@ -25,12 +24,9 @@ use Rattle.dr_restart.specs.declared.start.Start.{Start}
 use Rattle.dr_restart.specs.Groups.{first_group_of, first_start_of, group_of}
 use Rattle.dr_script.specs.declared.script.Script.{Script}
 use Rattle.dr_script.specs.Ranges.{HasFaultRanges, HasRanges}
+use Rattle.dr_restart.proofs.Groups.{all_present}
 use Rattle.dr_sim.specs.Simulated.{IsSimulated}
 use Rattle.dr_tools.specs.Turns.{IsFirstAge, TakesTurns, calm_group, is_done, with_turns}
-
--- there are few turns
-pub few_turns : (s : Script) → HasRanges s → turns_enough s ≤ 4 * MAX_MESSAGES + 8
-few_turns s ranges = omega (arith, longest_within MAX_MESSAGES 0 s.messages (omega arith) ranges.group.few)
 
 pub calm_ranges : (s : Script) → HasRanges s → HasRanges (with_turns (calm_group s) (turns_enough s))
 calm_ranges s ranges = record {
@@ -75,10 +71,6 @@ taken_by (Ok n) s calm turns is takes =
     let t = subst (λ (c : Script). TakesTurns c n) is takes in
     record { enough = t.enough; fewer = t.fewer }
 taken_by (Err e) s calm turns is takes = tt
-
--- nobody is absent in the first age of a script
-pub all_present : (script : Script) → length script.messages ≡ script.members → AllPresent (first_group_of script)
-all_present script lists = ap (λ n. 2 ^ n - 1) (sym lists)
 
 -- the first age, over the logs of all members, which have room, and are on disks that count no fault
 module _ {D : Type 0} (told : D → Option Told) (faults : D → ℕ) (never : (disk : D) → faults disk ≡ 0)

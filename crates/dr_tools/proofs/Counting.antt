@@ -1,5 +1,5 @@
 -- Counting one run more.
-use Rattle.std.proofs.Common.{◌≡◌, ◌⊎◌, ◌∙◌, inl, inr, refl, sym, ap, subst, ℕ, zero, suc, ◌+◌, ◌<◌, ◌≤◌, arith, Bool, true, false, true≢false, add-zero, if◌then◌else◌, List, [], ◌∷◌, ◌++◌, All, AllPairs, Option, None, Some, bytes_eq, get_or, length, map, position, set}
+use Rattle.std.proofs.Common.{◌≡◌, ◌⊎◌, ◌∙◌, inl, inr, refl, sym, ap, subst, ℕ, zero, suc, ◌+◌, ◌<◌, ◌≤◌, arith, Bool, true, false, add-zero, if◌then◌else◌, List, [], ◌∷◌, ◌++◌, All, AllPairs, Option, None, Some, bytes_eq, get_or, length, map, position, set}
 use Rattle.std.specs.List.{position_or_len}
 use Rattle.std.specs.Option.{option_or}
 use Rattle.std.proofs.lemmas.Bool.{cases_Bool, cases_lt}
@@ -8,7 +8,7 @@ use Rattle.std.proofs.lemmas.List.{get_or_append_left, get_or_push, length_push}
 use Rattle.std.proofs.lemmas.List.Elements.{All-nil, All-cons, All-head, All-tail}
 use Rattle.std.proofs.lemmas.List.Quantifiers.{all_pairs_push, position-Some}
 use Rattle.std.proofs.lemmas.List.Sums.{fails_before_first}
-use Rattle.std.proofs.lemmas.Slice.Eq.{bytes_eq-Decides}
+use Rattle.dr_entry.proofs.ListFacts.{same_line, other_line}
 use Rattle.dr_tools.specs.declared.sweeps.rows.Row.{Row}
 use Rattle.dr_tools.specs.Outcomes.{ComesTo, by_seed}
 use Rattle.dr_tools.specs.Rows.{AreRows, HaveOutcomes, IsTally, count_in, first_in, first_seed, row_line, times, with_run}
@@ -58,16 +58,6 @@ run_missing seed line rows is =
     (λ k less. fails_before_first test rows k (new seed line) (omega (arith, all, less)))
 
 -- ---- what the rows tell
-
-same_line : (xs ys : List ℕ) → bytes_eq xs ys ≡ true → xs ≡ ys
-same_line xs ys is = (bytes_eq-Decides xs ys).0 is
-
--- what is different stays so the other way round
-other_line : (xs ys : List ℕ) → bytes_eq xs ys ≡ false → bytes_eq ys xs ≡ false
-other_line xs ys is = elim (cases_Bool (bytes_eq ys xs)) [
-  | inl same ↦ absurd (true≢false (sym ((bytes_eq-Decides xs ys).1 (sym (same_line ys xs same))) ∙ is))
-  | inr other ↦ other
-]
 
 pub count_more : (seed : ℕ) (line l : List ℕ) (rows : List Row)
     → count_in l (with_run seed line rows) ≡ count_in l rows + (if bytes_eq line l then 1 else 0)

@@ -1,5 +1,5 @@
 -- What is said of a text, by what is read of it.
-use Rattle.std.proofs.Common.{◌≡◌, ◌∙◌, sym, ap, subst, ℕ, List, [], ◌++◌, Some, Result, Ok, Err, IfOk, string_bytes, append_assoc}
+use Rattle.std.proofs.Common.{◌≡◌, ◌∙◌, sym, ap, subst, ℕ, List, ◌++◌, Some, Result, Ok, Err, IfOk, string_bytes, append_assoc}
 use Rattle.std.proofs.lemmas.Option.{none-some, same_Some}
 use Rattle.dr_complete.specs.Enough.{most_messages}
 use Rattle.dr_intake.specs.Reading.{refusal_in}
@@ -64,9 +64,3 @@ pub refused_if : {E : Type 0} (answer : Result Answer E) (r : Reading) (line : L
     → IfOk answer (λ a. IsAnswerFor r (string_bytes a.text) a.status)
 refused_if (Ok a) r line is begins due = refused_answer r line (string_bytes a.text) a.status is begins due
 refused_if (Err e) r line is begins due = tt
-
--- three pieces, one behind the other
-pub three_told : (start a b new p q r : List ℕ) → start ≡ [] → a ≡ start ++ p → b ≡ a ++ q → new ≡ b ++ r
-    → new ≡ (p ++ q) ++ r
-three_told start a b new p q r none first second third =
-    third ∙ ap (λ l. l ++ r) (second ∙ ap (λ l. l ++ q) (first ∙ ap (λ l. l ++ p) none))

@@ -1,6 +1,6 @@
 -- One part more of those that stay.
 use Rattle.std.proofs.Common.{◌≡◌, subst, ℕ, ◌+◌, ◌<◌, Bool, if◌then◌else◌, List, [], ◌∷◌, ◌++◌, get_or, length, take}
-use Rattle.dr_text.proofs.Numbers.{numbered_texts_more}
+use Rattle.dr_entry.proofs.ListFacts.{numbered_texts_more}
 use Rattle.dr_tools.specs.Parts.{kept, stays}
 
 pub kept_more : {A : Type 0} (keeps : List Bool) (xs : List A) (i : ℕ) (keep : Bool) (x : A) (now new : List A)

@@ -1,24 +1,16 @@
 -- What is certain of a script that was simulated.
-use Rattle.std.proofs.Common.{◌≡◌, ◌⊎◌, ◌∙◌, inl, inr, refl, sym, subst, ℕ, Bool, false, List, None, Some}
+use Rattle.std.proofs.Common.{◌≡◌, ◌⊎◌, refl, sym, subst, ℕ, Bool, false, List, None, Some}
 use Rattle.std.proofs.lemmas.Option.{none-some}
-use Rattle.dr_ages.specs.declared.mode.Mode.TheVariants.{Sim}
 use Rattle.dr_intake.specs.Reading.{refusal_in}
 use Rattle.dr_outcome.specs.declared.outcome.Outcome.{Outcome}
-use Rattle.dr_outcome.specs.Last.{last_of}
-use Rattle.dr_outcome.specs.Outcome.{HasPlayed, IsRunInMemory, SaysOnly}
+use Rattle.dr_outcome.specs.Outcome.{HasPlayed, SaysOnly}
 use Rattle.dr_outcome.specs.Playing.{simulated}
 use Rattle.dr_script.specs.declared.script.Script.{Script}
 use Rattle.dr_script.specs.Reading.{Reading, TooLong, NotJson, Wrong, Reads}
 use Rattle.dr_text.specs.declared.last.Last.{Last}
 use Rattle.dr_yard.specs.Yards.{empty_yard}
+use Rattle.dr_outcome.proofs.Kinds.{simulated_run}
 use Rattle.dr_tools.specs.Outcomes.{ComesTo, EndsSo, ReadsSo, is_wanted, outcome_line}
-
--- where there is a last line the script was run over empty disks, and the line is that of the run
-simulated_run : (script : Script) (o : Outcome) (line : Last)
-    → SaysOnly None empty_yard empty_yard o ⊎ HasPlayed simulated script empty_yard empty_yard o
-    → o.last ≡ Some line → IsRunInMemory script Sim o.ages o.stop × (last_of o.ages o.stop ≡ Some line)
-simulated_run script o line (inl wanting) is = absurd (none-some line (sym wanting.line ∙ is))
-simulated_run script o line (inr played) is = (played.run.1, sym played.line ∙ is)
 
 -- a script comes to the outcome that its run has
 pub comes_to : (script : Script) (o : Outcome) (last : Last) (line : List ℕ)

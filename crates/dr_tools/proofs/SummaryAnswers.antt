@@ -1,34 +1,21 @@
 -- What is said of a text, by what is read of it, and with which status.
-use Rattle.std.proofs.Common.{◌≡◌, ◌⊎◌, ◌∙◌, inl, inr, refl, sym, ap, subst, ℕ, zero, suc, List, Option, Some, None, [], ◌∷◌, Contains, String, Result, Ok, Err, IfOk, map, string_bytes, arith}
-use Rattle.std.proofs.lemmas.Option.{none-some}
+use Rattle.std.proofs.Common.{inl, inr, refl, sym, ap, subst, ℕ, List, Option, [], String, Result, Ok, Err, IfOk, map, string_bytes, arith}
 use Rattle.std.specs.declared.alloc.Global.{Global}
+use Rattle.dr_entry.proofs.NumberFacts.{IsKnown}
+use Rattle.dr_entry.proofs.ListParts.{run_known}
+use Rattle.dr_history.proofs.Bits.{has_zero}
 use Rattle.dr_ages.specs.declared.mode.Mode.TheVariants.{Sim}
-use Rattle.dr_ages.specs.declared.stop.Stop.{Stop}
-use Rattle.dr_entry.specs.declared.end.AgeEnd.{AgeEnd}
 use Rattle.dr_intake.specs.declared.answer.Answer.{Answer}
 use Rattle.dr_intake.specs.Answer.{IsLine, Said, done, no_memory, no_source, usage}
 use Rattle.dr_intake.specs.Status.{WroteText, status_of}
-use Rattle.dr_ages.specs.declared.part.Part.{Part}
 use Rattle.dr_outcome.proofs.Runs.{part_lasts}
-use Rattle.dr_outcome.specs.Last.{last_of}
-use Rattle.dr_outcome.specs.Outcome.{AreAllLate, IsMemoryRun}
+use Rattle.dr_outcome.specs.Outcome.{AreAllLate}
 use Rattle.dr_ages.specs.Ages.{all_with}
-use Rattle.dr_words.proofs.Bits.{has_zero}
 use Rattle.dr_script.specs.declared.script.Script.{Script}
 use Rattle.dr_script.specs.Reading.{Reading, TooLong, NotJson, Wrong, Reads, reading_of}
-use Rattle.dr_text.specs.declared.last.Last.{Last}
 use Rattle.dr_text.specs.declared.last.Last.TheVariants as lasts
 use Rattle.dr_tools.specs.SummaryAnswer.{IsAnswerFor, IsRunAnswer, IsScriptAnswer, IsSummaryAnswer, SummaryTold, summary_usage}
 use Rattle.dr_tools.specs.declared.summary.words.Asked.{Asked}
-
--- the run behind a last line
-pub run_behind : (script : Script) (part : Part) (ages : List AgeEnd) (stop : Option Stop) (last : Option Last) (line : Last)
-    → ((ages ≡ []) × (stop ≡ None) × (last ≡ None))
-    ⊎ (IsMemoryRun script part Sim ages stop × (last ≡ last_of ages stop))
-    → last ≡ Some line → IsMemoryRun script part Sim ages stop × (last_of ages stop ≡ Some line)
-run_behind script part ages stop last line (inl (none, unstopped, silent)) is =
-    absurd (none-some line (sym silent ∙ is))
-run_behind script part ages stop last line (inr (run, told)) is = (run, sym told ∙ is)
 
 -- what is said of a script, where there was memory for it: of its run, or how it is called
 pub run_if : {E : Type 0} (answer : Result Answer E) (k : Asked) (s : Script)
@@ -42,16 +29,6 @@ pub unrun_if : {E : Type 0} (answer : Result Answer E) (k : Asked) (s : Script) 
     → IfOk answer (λ a. IsScriptAnswer k s (string_bytes a.text, a.status))
 unrun_if (Ok a) k s all said = inr (record { all = all; usage = said.0; due = said.1 })
 unrun_if (Err e) k s all said = tt
-
--- the status of each call is one of these
-abbrev IsKnown : ℕ → Type 0
-IsKnown status = Contains (0 ∷ 2 ∷ 3 ∷ 4 ∷ 5 ∷ 8 ∷ 9 ∷ 10 ∷ []) status
-
-run_known : (status : ℕ) → Contains (0 ∷ 8 ∷ 9 ∷ []) status → IsKnown status
-run_known status (zero, below, is) = (0, omega arith, is)
-run_known status (suc zero, below, is) = (5, omega arith, is)
-run_known status (suc (suc zero), below, is) = (6, omega arith, is)
-run_known status (suc (suc (suc i)), below, is) = absurd (omega (arith, below))
 
 answer_known : (k : Asked) (r : Reading) (said : Said) → IsAnswerFor k r said → IsKnown said.1
 answer_known k TooLong said is = (2, omega arith, sym is.1)

@@ -3,6 +3,8 @@ use Rattle.std.proofs.Common.{◌≡◌, ◌⊎◌, inl, inr, refl, sym, subst, 
 use Rattle.dr_ages.specs.declared.mode.Mode.TheVariants.{Sim}
 use Rattle.dr_ages.specs.declared.stop.Stop.{Stop}
 use Rattle.dr_entry.specs.declared.end.AgeEnd.{AgeEnd}
+use Rattle.dr_entry.proofs.OptionFacts.{IsKnown, wanting_known}
+use Rattle.dr_history.proofs.Bits.{has_zero}
 use Rattle.dr_intake.specs.Status.{WroteText}
 use Rattle.dr_outcome.proofs.Runs.{part_lasts}
 use Rattle.dr_outcome.specs.Last.{last_of}
@@ -14,14 +16,6 @@ use Rattle.dr_text.specs.declared.last.Last.{Last}
 use Rattle.dr_text.specs.Writing.{WroteFront}
 use Rattle.dr_tools.specs.Trace.{IsTracedFor, Wrote, end_status}
 use Rattle.dr_tools.specs.declared.tracing.words.Asked.{Asked}
-use Rattle.dr_words.proofs.Bits.{has_zero}
-
--- the status of each call is one of these
-abbrev pub IsKnown : ℕ → Type 0
-IsKnown status = Contains (0 ∷ 2 ∷ 3 ∷ 4 ∷ 5 ∷ 8 ∷ 9 ∷ 10 ∷ []) status
-
-wanting_known : (status : ℕ) → status ≡ 10 → IsKnown status
-wanting_known status is = (7, omega arith, sym is)
 
 last_known : (script : Script) (late : ℕ) (ages : List AgeEnd) (stop : Option Stop) (last : Option Last)
     → IsMemoryRun script (all_with late) Sim ages stop → last_of ages stop ≡ last → IsKnown (end_status last)

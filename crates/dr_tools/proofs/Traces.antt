@@ -1,7 +1,7 @@
 -- What is told of a run, by what its watcher was told.
 use Rattle.std.specs.declared.alloc.Global.{Global}
 use Rattle.dr_tools.specs.TraceWords.{asked_by}
-use Rattle.std.proofs.Common.{MatchOption, String, ◌≡◌, ℕ, ◌+◌, List, [], ◌∷◌, ◌++◌, Option, Some, None, length, refl, sym, ap, subst, append-nil, append_assoc, ◌⊎◌, inl, inr}
+use Rattle.std.proofs.Common.{MatchOption, String, ◌≡◌, ℕ, ◌+◌, List, [], ◌∷◌, ◌++◌, Option, Some, None, length, refl, sym, ap, subst, append-nil, ◌⊎◌, inl, inr}
 use Rattle.std.proofs.lemmas.Option.{none-some}
 use Rattle.dr_ages.specs.declared.mode.Mode.TheVariants.{Sim}
 use Rattle.dr_ages.specs.Watched.{AreWatched}
@@ -13,7 +13,7 @@ use Rattle.dr_restart.specs.declared.start.Start.{Start}
 use Rattle.dr_script.specs.declared.script.Script.{Script}
 use Rattle.dr_seeing.specs.Lines.{age_line, line_of}
 use Rattle.dr_seeing.specs.Output.{HasTold, Tells, TellsSome, Written}
-use Rattle.dr_seeing.proofs.Outputs.{tells_both}
+use Rattle.dr_seeing.proofs.Outputs.{tells_both, some_both}
 use Rattle.dr_sim.specs.Watched.{WasTold}
 use Rattle.dr_ages.specs.declared.part.Part.{Part}
 use Rattle.dr_ages.specs.declared.stop.Stop.{Stop}
@@ -25,6 +25,7 @@ use Rattle.dr_outcome.specs.Last.{last_of}
 use Rattle.dr_outcome.specs.Outcome.{IsMemoryRun}
 use Rattle.dr_script.specs.Reading.{Reading, NotJson, Reads, TooLong, Wrong, reading_of}
 use Rattle.dr_text.specs.declared.last.Last.{Last}
+use Rattle.dr_seeing.proofs.Traces.{tells_same}
 use Rattle.dr_tools.specs.declared.tracing.words.Asked.{Asked}
 use Rattle.dr_tools.specs.declared.tracing.words.Form.{Form}
 use Rattle.dr_tools.specs.declared.tracing.words.Form.TheVariants.{Chart, Lines, Picture}
@@ -39,12 +40,6 @@ Sees old member table new = Tells (line_of member table) old new
 
 abbrev pub Closes : Written → List (Option Running) → List ℕ → Written → Type 0
 Closes old members table new = Tells [] old new
-
--- nothing more is told where nothing changes
-tells_same : (old new : Written) → old ≡ new → Tells [] old new
-tells_same old new same = λ held fell before told.
-    subst (λ (l : List ℕ). HasTold held fell l new) (sym (append-nil before))
-    (subst (λ (w : Written). HasTold held fell before w) same told)
 
 -- the lines of all moves are told
 moves_told : (p : Program) (es : List Move) (old new : Written) → WasTold Sees p es old new
@@ -98,9 +93,6 @@ SeesSome old member table new = TellsSome old new
 
 abbrev pub ClosesSome : Written → List (Option Running) → List ℕ → Written → Type 0
 ClosesSome old members table new = TellsSome old new
-
-some_both : (old now new : Written) → TellsSome old now → TellsSome now new → TellsSome old new
-some_both old now new a b = (a.0 ++ b.0, tells_both a.0 b.0 old now new a.1 b.1)
 
 some_moves : (p : Program) (es : List Move) (old new : Written) → WasTold SeesSome p es old new
     → TellsSome old new
@@ -205,14 +197,6 @@ chart_wrote script part ages stop last held holds fell falls status old new (inr
     let some = some_told script part 0 ages old new watched in
     run_wrote Chart script part ages stop last held holds fell falls status some.0 ran.0 ran.1 tt
     (writes some.0 (some.1 held fell [] told))
-
--- what is drawn, the last line and what closes a picture are told one behind the other
-pub hung : (drawn line closing : List ℕ) (held : Option (List ℕ)) (fell : ℕ) (old first then new : Written)
-    → HasTold held fell [] old → Tells drawn old first → Tells line first then → Tells closing then new
-    → HasTold held fell (drawn ++ (line ++ closing)) new
-hung drawn line closing held fell old first then new told a b c =
-    subst (λ (l : List ℕ). HasTold held fell l new) (append_assoc drawn line closing)
-    (c held fell (drawn ++ line) (b held fell drawn (a held fell [] told)))
 
 -- a picture was written, with the last line in it
 pub picture_wrote : (from to : ℕ) (script : Script) (part : Part) (ages : List AgeEnd) (stop : Option Stop) (last : Last)

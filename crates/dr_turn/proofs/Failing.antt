@@ -82,3 +82,7 @@ failed_done why r m none e = record {
 
     fewer : left_to (broken_off why r) None < left_to r None
     fewer = omega (arith, unfailed)
+
+-- the step is an append only where none has failed
+pub none_failed : (r : Running) → IsAppend (next_step r) → r.failed ≡ None
+none_failed r is = (append_at r (part_of r.place) r.place.row r.place.column is).1

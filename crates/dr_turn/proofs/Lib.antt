@@ -7,3 +7,4 @@ pub mod Deeds
 pub mod Failing
 pub mod Parts
 pub mod Takes
+pub mod Works

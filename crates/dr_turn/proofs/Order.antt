@@ -9,6 +9,7 @@ use Rattle.dr_program.specs.declared.place.Part.TheVariants as parts
 use Rattle.dr_program.specs.declared.place.Place.{Place}
 use Rattle.dr_program.specs.declared.place.TheConstants.{TURN}
 use Rattle.dr_program.specs.Turn.{after, columns_in, is_beat, IsIn, part_of, places_in, rows_in, turn_begins, turn_ends}
+use Rattle.dr_program.proofs.Parts.{is_give, give_to, is_append_part, begin, only_place, is_vote}
 use Rattle.dr_turn.specs.Search.{left}
 
 -- the places of a part
@@ -245,3 +246,33 @@ follows here next all i l e =
     (implied _ _ (each_below (length TURN) i (λ j. not (here (slice_index_or TURN j turn_begins))
     || (nat_lt (j + 1) (length TURN) && next (slice_index_or TURN (j + 1) turn_begins))) all l) e) in
     (grind (arith, nat_tests, both.0), both.1)
+
+-- a part that the turn has at one number alone has this number
+pub part_number : (test : Part → Bool) (i : ℕ) (p : Place)
+    → all_below (length TURN) (λ j. not (test (slice_index_or TURN j turn_begins)) || (j == i)) ≡ true
+    → p.part < length TURN → test (part_of p) ≡ true → p.part ≡ i
+part_number test i p alone within e =
+    let same = implied _ _
+    (each_below (length TURN) p.part (λ j. not (test (slice_index_or TURN j turn_begins)) || (j == i))
+    alone within) e in
+    grind (arith, nat_tests, same)
+
+-- a place of the letters' part is that of some member
+pub give_place : (n k : ℕ) (p : Place) → IsIn n k p → part_of p ≡ parts.Give → p ≡ give_to p.row
+unfolding all_below
+give_place n k p is at =
+    let number : p.part ≡ 20 = part_number is_give 20 p refl is.part (ap is_give at) in
+    let column : p.column ≡ 0 = omega (arith, is.column, ap (columns_in k) at) in
+    λ z. record { part = number z; row = p.row; column = column z }
+
+-- behind the place of an append is that where the log is published
+pub append_next : (n k : ℕ) (p : Place) → IsIn n k p → part_of p ≡ parts.Append → after n k p ≡ begin 8
+unfolding all_below
+append_next n k p is at = ap (after n k) (only_place n k 7 p is (ap (rows_in n) at) (ap (columns_in k) at)
+    (part_number is_append_part 7 p refl is.part (ap is_append_part at)))
+
+-- a place of the vote's part is its first
+pub vote_place : (n k : ℕ) (p : Place) → IsIn n k p → part_of p ≡ parts.Vote → p ≡ begin 11
+unfolding all_below
+vote_place n k p is at = only_place n k 11 p is (ap (rows_in n) at) (ap (columns_in k) at)
+    (part_number is_vote 11 p refl is.part (ap is_vote at))

@@ -1,16 +1,28 @@
 -- The search along the order of a turn.
-use Rattle.std.proofs.Common.{◌≡◌, refl, sym, ap, ◌∙◌, ℕ, zero, suc, ◌+◌, ◌-◌, ◌<◌, ◌≤◌, ◌==◌, ◌&&◌, ◌||◌, Bool, true, false, if◌then◌else◌, length, le_refl, le_trans, arith}
+use Rattle.std.proofs.Common.{◌≡◌, refl, sym, ap, ◌∙◌, ℕ, zero, suc, ◌+◌, ◌-◌, ◌<◌, ◌≤◌, ◌==◌, ◌&&◌, ◌||◌, Bool, true, false, if◌then◌else◌, length, le_refl, le_trans, arith, List}
 use Rattle.std.specs.Prelude.{Option, Some, None, is_some, slice_index_or}
 use Rattle.std.proofs.lemmas.Bool.Decides.{nat_tests}
 use Rattle.dr_entry.specs.declared.end.End.{End}
+use Rattle.dr_entry.proofs.BoolFacts.{together, first_out}
+use Rattle.dr_entry.proofs.ListFacts.{both}
+use Rattle.dr_entry.specs.declared.entry.Entry.{Entry}
+use Rattle.dr_rows.specs.Words.{changed}
 use Rattle.dr_program.specs.declared.place.Part.{Part}
 use Rattle.dr_program.specs.declared.place.Part.TheVariants as parts
 use Rattle.dr_program.specs.declared.place.Place.{Place}
 use Rattle.dr_program.specs.declared.place.TheConstants.{TURN}
 use Rattle.dr_program.specs.Turn.{after, is_beat, IsIn, part_of, places_in, turn_begins}
-use Rattle.dr_program.specs.Running.{Running, WaitsAt, members, columns, asks, step_at, applies, moved, settle, settled}
-use Rattle.dr_program.specs.Steps.{allows}
+use Rattle.dr_program.specs.Running.{Running, WaitsAt, members, columns, asks, step_at, applies, moved, settle, settled, after_step, next_step, took, took_letter, crashes_now, push_or_crash}
+use Rattle.dr_program.specs.Steps.{allows, has_cell}
 use Rattle.dr_program.specs.Form.{HasForm, IsRunningMember}
+use Rattle.dr_program.proofs.Replicas.{may_look}
+use Rattle.dr_program.proofs.RunningPrograms.{judge_allowed}
+use Rattle.dr_program.proofs.Parts.{is_inner}
+use Rattle.dr_program.proofs.Runs.{after_either}
+use Rattle.dr_program.specs.Replica.{is_inside, is_other}
+use Rattle.dr_program.specs.declared.outcome.LogWhy.{LogWhy}
+use Rattle.dr_program.specs.declared.outcome.Outcome.{Outcome}
+use Rattle.dr_program.specs.Program.{after_deed, next_sight}
 use Rattle.dr_turn.specs.Search.{left, IsUnderway, Passed, here, on}
 use Rattle.dr_turn.specs.Work.{left_to, deeds_left, may_fail, work}
 use Rattle.dr_turn.proofs.Fewer.{no_more_here}
@@ -212,3 +224,84 @@ settle_less (suc f) r u = by (is_some r.replica.end || applies r r.place) refl (
     by false e s =
         le_trans (s (underway_idle r u (idle _ _ e)))
         (less_left r r.replica.end (omega (arith, falls r u (idle_part r r.place (idle _ _ e)))))
+
+-- the search changes nothing but the place
+pub settled_same : (word : ℕ) (r : Running)
+    → after_step word r ≡ record (took word r (next_step r)) { place = (after_step word r).place }
+settled_same word r = settle_only (places_in (members r') (columns r') TURN) r'
+  where
+    r' : Running
+    r' = took word r (next_step r)
+
+pub settled_took : (letter : Option (List Entry)) (r : Running) → settled (took_letter letter r)
+    ≡ record (took_letter letter r) { place = (settled (took_letter letter r)).place }
+settled_took letter r = settle_only (places_in (members r') (columns r') TURN) r'
+  where
+    r' : Running
+    r' = took_letter letter r
+
+pub look_applies : (r : Running) (p : Place) → part_of p ≡ parts.Look → is_inside r.replica ≡ true
+    → may_look r.replica p.row p.column ≡ true → applies r p ≡ true
+look_applies r p at inside may =
+    ap (λ x. applies_at r x p.row p.column) at
+    ∙ together (is_inside r.replica) (may_look r.replica p.row p.column) inside may
+
+pub push_applies : (r : Running) (p : Place) → part_of p ≡ parts.Push → is_other r.replica p.row
+    ≡ true
+    → (is_inside r.replica || crashes_now r) ≡ true
+    → changed r.replica.rows p.row p.column ≡ true
+    → has_cell r.replica p.row p.column ≡ true → applies r p ≡ true
+push_applies r p at other may word cell =
+    ap (λ x. applies_at r x p.row p.column) at
+    ∙ both (is_other r.replica p.row) (changed r.replica.rows p.row p.column)
+    (allows r.replica (step_at r parts.Push p.row p.column)) other word (by (crashes_now r) may)
+  where
+    either : (a : Bool) → (a || false) ≡ true → a ≡ true
+    either true e = refl
+    either false e = absurd (cc e)
+
+    by : (b : Bool) → (is_inside r.replica || b) ≡ true
+        → allows r.replica (push_or_crash b p.row p.column) ≡ true
+    by true e = refl
+    by false e = together (is_inside r.replica) (has_cell r.replica p.row p.column)
+        (either (is_inside r.replica) e) cell
+
+pub idle_outside : (r : Running) (part : Part) (i c : ℕ) → is_inside r.replica ≡ false → is_inner part ≡ true
+    → false ≡ applies_at r part i c
+idle_outside r parts.Look i c out e = first_out (is_inside r.replica) _ out
+idle_outside r parts.Judge i c out e = first_out (is_inside r.replica) _ out ∙ sym (judge_allowed r)
+idle_outside r parts.Receive i c out e = first_out (is_inside r.replica) _ out
+idle_outside r parts.Excluded i c out e = first_out (is_inside r.replica) _ out
+idle_outside r parts.Done i c out e = first_out (is_inside r.replica) _ out
+idle_outside r parts.Give i c out e = first_out (is_inside r.replica) _ out
+idle_outside r part i c out e = absurd (cc e)
+
+-- the search from r goes by x, which stands later in the turn
+pub record GoesBy (r x : Running) : Type 0 where
+  pub same : settled x ≡ settled r
+  pub underway : IsUnderway x
+  pub later : left (members x) (columns x) x.place < left (members r) (columns r) r.place
+
+-- what the search goes by on its way from y it goes by from r
+pub goes_far : (r x y : Running) → GoesBy r x → GoesBy x y → GoesBy r y
+goes_far r x y a b = record {
+  same = b.same ∙ a.same;
+  underway = b.underway;
+  later =
+      omega (arith, a.later, b.later);
+}
+
+-- a member whose append has failed stays one
+pub still_failed : (table : List ℕ) (letter : Option (List Entry)) (o : Outcome) (r : Running) (why : LogWhy)
+    → r.failed ≡ Some why
+    → (next : LogWhy) × ((after_deed (next_sight table r) letter o r (next_step r)).failed ≡ Some next)
+still_failed table letter o r why at =
+    after_either (λ x. (next : LogWhy) × (x.failed ≡ Some next)) table letter o r (next_step r)
+    (why, ap (λ (x : Running). x.failed) (settled_same (next_sight table r) r) ∙ at)
+    (λ next due. (next, refl))
+    (λ due. (why, took_same letter ∙ at))
+  where
+    took_same : (l : Option (List Entry)) → (settled (took_letter l r)).failed ≡ r.failed
+    took_same None = ap (λ (x : Running). x.failed) (settle_only (places_in (members r) (columns r) TURN) (took_letter None r))
+    took_same (Some l) = ap (λ (x : Running). x.failed)
+        (settle_only (places_in (members (took_letter (Some l) r)) (columns (took_letter (Some l) r)) TURN) (took_letter (Some l) r))

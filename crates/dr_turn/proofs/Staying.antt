@@ -1,13 +1,13 @@
 -- Where the search stays, and how many steps are enough for it.
-use Rattle.std.proofs.Common.{◌≡◌, refl, ℕ, zero, suc, ◌<◌, ◌≤◌, ◌||◌, Bool, true, false, if◌then◌else◌, arith}
+use Rattle.std.proofs.Common.{◌≡◌, refl, ℕ, zero, suc, ◌<◌, ◌≤◌, ◌||◌, Bool, true, false, if◌then◌else◌, arith, sym, ◌∙◌}
 use Rattle.std.specs.Prelude.{Option, Some, None, is_some}
 use Rattle.dr_entry.specs.declared.end.End.{End}
 use Rattle.dr_program.specs.declared.place.TheConstants.{TURN}
 use Rattle.dr_program.specs.Turn.{places_in}
 use Rattle.dr_program.specs.Running.{Running, members, columns, applies, moved, settle, settled}
 use Rattle.dr_turn.specs.Search.{left, IsUnderway}
-use Rattle.dr_turn.proofs.Order.{left_falls, left_some}
-use Rattle.dr_turn.proofs.Search.{idle, idle_part, part_before, underway_idle}
+use Rattle.dr_turn.proofs.Order.{left_falls, left_some, left_small}
+use Rattle.dr_turn.proofs.Search.{idle, idle_part, part_before, underway_idle, GoesBy}
 
 -- the member has ended, or there is something to do where it stands
 abbrev pub stops : Running → Bool
@@ -76,3 +76,19 @@ settle_enough (suc f) (suc g) r u a b = by (stops r) refl (settle_enough f g (mo
         (part_before (members r) (columns r) r.place u.place
         (idle_part r r.place (idle (is_some r.replica.end) (applies r r.place) e))) in
         s (underway_idle r u (idle _ _ e)) (omega (arith, falls)) (omega (arith, falls))
+
+pub stays : (r : Running) → applies r r.place ≡ true → r ≡ settled r
+stays r due = sym (settled_here r (stops_due (is_some r.replica.end) (applies r r.place) due))
+
+-- the search goes by the next place
+pub goes_on : (r : Running) → IsUnderway r → r.replica.end ≡ None → applies r r.place ≡ false
+    → GoesBy r (moved r)
+goes_on r u none e =
+    let most = places_in (members r) (columns r) TURN in
+    let small = left_small (members r) (columns r) r.place u.place in record {
+      same = settle_on most r (stops_not r.replica.end (applies r r.place) none e)
+          ∙ settle_enough (suc most) most r u (omega (arith, small)) small;
+      underway = underway_idle r u e;
+      later = left_falls (members r) (columns r) r.place u.place
+          (part_before (members r) (columns r) r.place u.place (idle_part r r.place e));
+    }

@@ -7,6 +7,7 @@ use Rattle.dr_entry.specs.declared.end.End.{End}
 use Rattle.dr_entry.specs.declared.entry.Entry.{Entry}
 use Rattle.dr_entry.specs.declared.end.End.TheVariants as ends
 use Rattle.dr_history.specs.Members.{has}
+use Rattle.dr_history.proofs.Bits.{has_zero}
 use Rattle.dr_machine.specs.Acts.{does, effect_of, CanTake}
 use Rattle.dr_machine.specs.Effects.{one_more, stamped, with_own}
 use Rattle.dr_machine.specs.Group.{Group, columns, roster}
@@ -16,7 +17,6 @@ use Rattle.dr_machine.specs.declared.event.Act.{Act}
 use Rattle.dr_machine.specs.declared.event.Act.TheVariants as acts
 use Rattle.dr_machine.specs.declared.step.Step.{Step}
 use Rattle.dr_machine.specs.declared.step.Step.TheVariants as steps
-use Rattle.dr_program.proofs.Opening.{first_rows}
 use Rattle.dr_program.specs.Acts.{taken}
 use Rattle.dr_program.specs.Form.{HasForm}
 use Rattle.dr_program.specs.Replica.{Replica}
@@ -39,8 +39,8 @@ use Rattle.dr_turn.proofs.Order.{all_below, each_below}
 use Rattle.dr_turn.proofs.Parts.{is_publish, lowers, numbered}
 use Rattle.dr_turn.proofs.Tasks.{ends_view}
 use Rattle.dr_program_laws.proofs.Quiet.{is_passed}
-use Rattle.dr_words.proofs.Bits.{has_zero}
 use Rattle.dr_words.specs.declared.column.TheConstants.{BEAT_COLUMN, DONE_COLUMN, LOGGED_COLUMN, RECEIVED_COLUMN}
+use Rattle.dr_words.proofs.Layouts.{first_rows}
 use Rattle.dr_turn_laws.proofs.Leaving.{Stays, apart_by, differs, done_own, end_kept, gained_other, nulled_left, own_other, publish_own, published_own, row_other, shows_own, still_room, to_take}
 
 -- ---- what a step asks is its guard, but for what every choice asks

@@ -3,6 +3,7 @@ use Rattle.std.proofs.Common.{◌≡◌, refl, ap, ◌∙◌, subst, inl, inr, �
 use Rattle.std.proofs.Math.Nat.{min-eq_left, mul-le-mul}
 use Rattle.std.proofs.lemmas.Bool.{cases_lt}
 use Rattle.std.proofs.lemmas.List.{get_or-map, get_or_past, length-map, length-take}
+use Rattle.dr_entry.proofs.ListPlaces.{greatest_within}
 use Rattle.dr_history.specs.Members.{has}
 use Rattle.dr_history.specs.Places.{front_of, is_held}
 use Rattle.dr_history.proofs.Fronts.{first_within}
@@ -19,7 +20,6 @@ use Rattle.dr_program.specs.Replica.{Replica, greatest, members_in_view}
 use Rattle.dr_program.specs.Running.{Running, step_at}
 use Rattle.dr_program.specs.Turn.{part_of, turn_begins}
 use Rattle.dr_program.proofs.Holdings.{held_of}
-use Rattle.dr_program.proofs.OpeningForm.{greatest_within}
 use Rattle.dr_refine.proofs.Deeds.{replicas}
 use Rattle.dr_refine.proofs.Members.{own_shown}
 use Rattle.dr_turn.specs.Work.{ballots_left, commit_left, items_left, letters_left, log_left, mark_left, places_left, refill, reports_left, sum_of, trust_left, views_left, work}

@@ -7,7 +7,7 @@ use Rattle.dr_entry.specs.declared.end.SentItem.{SentItem}
 use Rattle.dr_entry.specs.declared.end.SentItem.TheVariants.{Null}
 use Rattle.dr_history.specs.History.{messages_in, messages_of}
 use Rattle.dr_history.specs.Members.{has}
-use Rattle.dr_machine.proofs.Sending.{messages_null}
+use Rattle.dr_history.proofs.Histories.{messages_null}
 use Rattle.dr_machine.specs.Effects.{ends, nulls, one_more, receives, stamped, stamped_in, with_own}
 use Rattle.dr_machine.specs.Group.{Group}
 use Rattle.dr_machine.specs.Guards.{HasRoom, IsOther, seen_slot}

@@ -25,7 +25,7 @@ use Rattle.dr_refine.proofs.Deeds.{program_member, replicas}
 use Rattle.dr_refine.proofs.Guards as guards
 use Rattle.dr_refine.proofs.Members.{own_shown}
 use Rattle.dr_refine.proofs.Tests.{step_guard}
-use Rattle.dr_room.proofs.Bounds.{has_room}
+use Rattle.dr_program_laws.proofs.Bounds.{has_room}
 use Rattle.dr_rows.specs.Words.{changed, last_pushed, own}
 use Rattle.dr_turn.specs.Search.{Passed, here, on}
 use Rattle.dr_turn.proofs.Failing.{may_end}

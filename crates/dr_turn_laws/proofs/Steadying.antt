@@ -31,7 +31,7 @@ use Rattle.dr_program.specs.declared.place.Part.TheVariants as parts
 use Rattle.dr_program.specs.Steps.{IsAppend, stepped, stored, stored_letters, IsNoJoin}
 use Rattle.dr_program.proofs.Fixed.{Told, step_told}
 use Rattle.dr_program.proofs.Holdings.{held_of}
-use Rattle.dr_program.proofs.Opening.{begins_at_the_opening, first_rows}
+use Rattle.dr_program.proofs.Opening.{begins_at_the_opening}
 use Rattle.dr_program.proofs.Runs.{after_either, after_ok, inside_no_join}
 use Rattle.dr_program.proofs.StepsAt.{append_either, push_either, vote_either}
 use Rattle.dr_program_laws.proofs.Keeping.{begun_reached, move_kept}
@@ -48,6 +48,7 @@ use Rattle.dr_turn.proofs.Search.{beat_test, settle_only}
 use Rattle.dr_turn.proofs.Tasks.{ends_view, view_stays}
 use Rattle.dr_words.specs.declared.column.TheConstants.{BEAT_COLUMN}
 use Rattle.dr_words.specs.Columns.{columns_of}
+use Rattle.dr_words.proofs.Layouts.{first_rows}
 use Rattle.dr_world_laws.proofs.Worlds.{faithful, known}
 use Rattle.dr_turn_laws.specs.Steady.{HasRooms, HasWorked, IsSteady, all_work}
 use Rattle.dr_turn.proofs.Parts.{taken_pushed, verdict_no_beat, verdict_of}

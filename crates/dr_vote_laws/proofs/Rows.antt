@@ -3,6 +3,7 @@ use Rattle.std.proofs.Common.{Bool, Some, ap, arith, false, inl, inr, length, re
 use Rattle.std.proofs.lemmas.Bool.{cases_eq}
 use Rattle.dr_entry.specs.declared.limits.TheConstants.{MAX_MEMBERS}
 use Rattle.dr_entry.specs.declared.record.Value.{Value}
+use Rattle.dr_entry.proofs.Records.{same_value}
 use Rattle.dr_history.specs.Members.{has}
 use Rattle.dr_machine.specs.Group.{Group, roster}
 use Rattle.dr_machine.specs.Guards.{CanLogVote}
@@ -16,7 +17,6 @@ use Rattle.dr_vote_laws.proofs.Accepting.{shown_tells}
 use Rattle.dr_vote_laws.specs.Tells.{TellsVote, tag_in}
 use Rattle.dr_vote_laws.specs.Voting.{IsValueOf, Voting}
 use Rattle.dr_words.proofs.Order.{HasGrown_refl, HasGrown_trans}
-use Rattle.dr_words.proofs.Values.{same_value}
 use Rattle.dr_words.proofs.Accepts.{leavers_accept, part_leavers, part_trim, trim_accept}
 use Rattle.dr_words.specs.Accepts.{Shows, part_of}
 use Rattle.dr_words.specs.Columns.{leavers_column, trim_column}

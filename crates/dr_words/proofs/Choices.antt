@@ -1,123 +1,29 @@
 -- The functions that compute tests and values are the definitions of when rows allow a vote, and of which.
-use Rattle.std.proofs.Common.{◌≡◌, ◌≢◌, ◌↔◌, ℕ, zero, suc, ◌+◌, ◌^◌, ◌<◌, ◌≤◌, ◌==◌, ◌&&◌, not, nat_lt, Bool, true, false, refl, sym, ap, ◌∙◌, ◌⊎◌, inl, inr, subst, arith, List, [], ◌∷◌, ◌++◌, append-nil, length, map, fold, min, max, slice_index, if◌then◌else◌}
+use Rattle.std.proofs.Common.{◌≡◌, ◌≢◌, ◌↔◌, ℕ, ◌+◌, ◌^◌, ◌<◌, ◌≤◌, ◌==◌, ◌&&◌, not, nat_lt, Bool, true, false, refl, sym, ap, ◌∙◌, ◌⊎◌, inl, inr, subst, arith, length, map, fold, min, max, slice_index, if◌then◌else◌}
 use Rattle.std.proofs.lemmas.Bool.{and_from, and_parts, cases_eq, cases_lt, eqb-true}
 use Rattle.std.proofs.lemmas.Bool.Decides.{nat_tests}
-use Rattle.std.proofs.lemmas.List.{get_or_past, map-append}
+use Rattle.std.proofs.lemmas.List.{get_or_past}
 use Rattle.std.proofs.lemmas.List.FromFn.{get_or-map-range_with_len, length-map-range_with_len}
-use Rattle.std.proofs.lemmas.List.Sums.{fold-append}
 use Rattle.dr_entry.specs.declared.record.Value.{Value}
-use Rattle.dr_history.specs.Members.{has, members_below, members_of}
-use Rattle.dr_words.proofs.Masks.{has_above, has_mask_of, least_of_is, mask_of_small}
-use Rattle.dr_words.proofs.Tests.{all_members, each_member}
+use Rattle.dr_entry.proofs.NumberFacts.{equal_test, other_test}
+use Rattle.dr_history.specs.Members.{has, members_of}
+use Rattle.dr_history.proofs.Histories.{none_above}
+use Rattle.dr_history.proofs.Tests.{all_members}
+use Rattle.dr_history.proofs.Choices.{min_below, IsFound, min_found, small_member, max_above, max_found}
+use Rattle.dr_words.proofs.Masks.{has_mask_of, least_of_is, mask_of_small}
+use Rattle.dr_words.proofs.Tests.{each_member}
 use Rattle.dr_words.specs.Accepts.{AllPromise, AllTag, Shown, Shows, promise_of, tag_of, trim_word}
 use Rattle.dr_words.specs.Changes.{AllFinal, IsFirstValue, IsHighest, IsLeastReceived, IsProposal, MayAccept, MayCommit, MayPropose, received, tagged_members}
 use Rattle.dr_words.specs.Choices.{all_final, all_of, all_promise, all_tag, first_value, highest_row, highest_tag, is_majority, least_received, may_accept, may_commit, may_propose, proposal, shown_value, trims_of}
 use Rattle.dr_words.specs.Columns.{recv_column}
 use Rattle.dr_words.specs.Masks.{IsLeastOf, IsMajorityOf, least_of, mask_of, without}
-use Rattle.dr_words.specs.Packing.{accept_promise, accept_tag, accept_value, is_final}
+use Rattle.dr_words.specs.Packing.{accept_promise, accept_tag, accept_value, is_final, recv_count}
+use Rattle.dr_words.proofs.Columns.{AreAlike}
+use Rattle.dr_words.specs.Choices as choices
 
 -- ---- the least and the greatest over the members of a mask
 
-one_min : (f : ℕ → ℕ) (a n : ℕ) (ms : List ℕ) (there : Bool)
-    → fold min a (map f (ms ++ (if there then n ∷ [] else [])))
-    ≡ (if there then min (fold min a (map f ms)) (f n) else fold min a (map f ms))
-one_min f a n ms true = ap (fold min a) (map-append f ms (n ∷ []))
-    ∙ fold-append min a (map f ms) (f n ∷ [])
-one_min f a n ms false = ap (λ l. fold min a (map f l)) (append-nil ms)
-
-one_max : (f : ℕ → ℕ) (a n : ℕ) (ms : List ℕ) (there : Bool)
-    → fold max a (map f (ms ++ (if there then n ∷ [] else [])))
-    ≡ (if there then max (fold max a (map f ms)) (f n) else fold max a (map f ms))
-one_max f a n ms true = ap (fold max a) (map-append f ms (n ∷ []))
-    ∙ fold-append max a (map f ms) (f n ∷ [])
-one_max f a n ms false = ap (λ l. fold max a (map f l)) (append-nil ms)
-
-last_or_below : (i n : ℕ) → i < suc n → (i ≡ n) ⊎ (i < n)
-last_or_below i n l = grind arith
-
-min_below : (f : ℕ → ℕ) (mask a i n : ℕ) → i < n → has mask i ≡ true
-    → fold min a (map f (members_below mask n)) ≤ f i
-unfolding members_below
-min_below f mask a i zero l h = absurd (omega arith)
-min_below f mask a i (suc n) l h =
-    rw (one_min f a n (members_below mask n) (has mask n))
-    (by (has mask n) refl (last_or_below i n l) (λ m. min_below f mask a i n m h))
-  where
-    by : (b : Bool) → has mask n ≡ b → (i ≡ n) ⊎ (i < n)
-        → (i < n → fold min a (map f (members_below mask n)) ≤ f i)
-        → (if b then min (fold min a (map f (members_below mask n))) (f n) else fold min a
-        (map f (members_below mask n))) ≤ f i
-    by true e (inl same) rest = rw same (omega arith)
-    by true e (inr lt) rest = omega (arith, rest lt)
-    by false e (inl same) rest = absurd (cc (sym e ∙ ap (has mask) (sym same) ∙ h))
-    by false e (inr lt) rest = rest lt
-
-max_above : (f : ℕ → ℕ) (mask a i n : ℕ) → i < n → has mask i ≡ true
-    → f i ≤ fold max a (map f (members_below mask n))
-unfolding members_below
-max_above f mask a i zero l h = absurd (omega arith)
-max_above f mask a i (suc n) l h =
-    rw (one_max f a n (members_below mask n) (has mask n))
-    (by (has mask n) refl (last_or_below i n l) (λ m. max_above f mask a i n m h))
-  where
-    by : (b : Bool) → has mask n ≡ b → (i ≡ n) ⊎ (i < n)
-        → (i < n → f i ≤ fold max a (map f (members_below mask n)))
-        → f i ≤ (if b then max (fold max a (map f (members_below mask n))) (f n) else fold max a
-        (map f (members_below mask n)))
-    by true e (inl same) rest = rw same (omega arith)
-    by true e (inr lt) rest = omega (arith, rest lt)
-    by false e (inl same) rest = absurd (cc (sym e ∙ ap (has mask) (sym same) ∙ h))
-    by false e (inr lt) rest = rest lt
-
--- it is that of some member, or what it begins with
-abbrev IsFound : (ℕ → ℕ) → ℕ → ℕ → ℕ → Type 0
-IsFound f mask a x = (x ≡ a) ⊎ ((i : ℕ) × (has mask i ≡ true) × (x ≡ f i))
-
-min_found : (f : ℕ → ℕ) (mask a n : ℕ) → IsFound f mask a (fold min a (map f (members_below mask n)))
-unfolding members_below
-min_found f mask a zero = inl refl
-min_found f mask a (suc n) =
-    subst (IsFound f mask a) (sym (one_min f a n (members_below mask n) (has mask n)))
-    (by (has mask n) refl (fold min a (map f (members_below mask n))) (min_found f mask a n))
-  where
-    less : (x : ℕ) → has mask n ≡ true → IsFound f mask a x → (x < f n) ⊎ (f n ≤ x)
-        → IsFound f mask a (min x (f n))
-    less x e found (inl l) = let same : x ≡ min x (f n) = omega (arith, l) in
-        subst (IsFound f mask a) same found
-    less x e found (inr l) = inr (n, e, omega (arith, l))
-
-    by : (b : Bool) → has mask n ≡ b → (x : ℕ) → IsFound f mask a x
-        → IsFound f mask a (if b then min x (f n) else x)
-    by true e x found = less x e found (cases_lt x (f n))
-    by false e x found = found
-
-max_found : (f : ℕ → ℕ) (mask a n : ℕ) → IsFound f mask a (fold max a (map f (members_below mask n)))
-unfolding members_below
-max_found f mask a zero = inl refl
-max_found f mask a (suc n) =
-    subst (IsFound f mask a) (sym (one_max f a n (members_below mask n) (has mask n)))
-    (by (has mask n) refl (fold max a (map f (members_below mask n))) (max_found f mask a n))
-  where
-    more : (x : ℕ) → has mask n ≡ true → IsFound f mask a x → (x < f n) ⊎ (f n ≤ x)
-        → IsFound f mask a (max x (f n))
-    more x e found (inl l) = inr (n, e, omega (arith, l))
-    more x e found (inr l) = let same : x ≡ max x (f n) = omega (arith, l) in
-        subst (IsFound f mask a) same found
-
-    by : (b : Bool) → has mask n ≡ b → (x : ℕ) → IsFound f mask a x
-        → IsFound f mask a (if b then max x (f n) else x)
-    by true e x found = more x e found (cases_lt x (f n))
-    by false e x found = found
-
 -- ---- values
-
--- a mask of 16 bits has no member above
-small_member : (mask i : ℕ) → mask < 2 ^ 16 → has mask i ≡ true → i < 16
-small_member mask i small h = by (cases_lt i 16)
-  where
-    by : (i < 16) ⊎ (16 ≤ i) → i < 16
-    by (inl l) = l
-    by (inr g) = absurd (cc (h, has_above mask i small g))
 
 trim_is : (members : ℕ) (trim : ℕ → ℕ) (s : ℕ) → members < 2 ^ 16
     → slice_index (trims_of members trim) s ≡ (if has members s then trim s else 0)
@@ -129,7 +35,7 @@ trim_is members trim s small = by (cases_lt s 16)
     by : (s < 16) ⊎ (16 ≤ s) → slice_index (trims_of members trim) s ≡ at s
     by (inl l) = get_or-map-range_with_len at 0 16 s s 0 l (omega arith)
     by (inr g) = get_or_past (trims_of members trim) s 0 (omega (arith, g, length-map-range_with_len at 0 16))
-        ∙ sym (ap (λ (b : Bool). if b then trim s else 0) (has_above members s small g))
+        ∙ sym (ap (λ (b : Bool). if b then trim s else 0) (none_above members s small g))
 
 trim_member : (members : ℕ) (trim : ℕ → ℕ) (s : ℕ) → members < 2 ^ 16 → has members s ≡ true
     → slice_index (trims_of members trim) s ≡ trim s
@@ -258,12 +164,6 @@ proposal_is n rows members suspects j small there = by (cases_eq (highest_tag n 
 
 -- ---- tests
 
-equal_test : (a b : ℕ) → ((a == b) ≡ true) ↔ (a ≡ b)
-equal_test a b = (λ e. eqb-true a b e, λ e. grind (arith, nat_tests, e))
-
-other_test : (a b : ℕ) → (not (a == b) ≡ true) ↔ (a ≢ b)
-other_test a b = (λ e q. absurd (grind (arith, nat_tests, e, q)), λ d. grind (arith, nat_tests, d))
-
 pub majority_test : (mask all : ℕ) → (is_majority mask all ≡ true) ↔ IsMajorityOf mask all
 majority_test mask all = (λ e. grind (arith, nat_tests, e), λ l. grind (arith, nat_tests, l))
 
@@ -382,3 +282,55 @@ proposal_long n rows members suspects = by (highest_tag n rows of == 0) refl
         rw e refl in
         ap (λ (v : Value). length v.trim) same
         ∙ trims_long members (λ s. accept_value (trim_word n rows (highest_row n rows of) s))
+
+pub propose_alike : (n : ℕ) (f g : Shown) (members suspects me : ℕ) → AreAlike n f g
+    → choices.may_propose n f members suspects me ≡ choices.may_propose n g members suspects me
+propose_alike n f g members suspects me a = λ z. not (accept_tag (a.leavers me z) == me + 1)
+    && ((accept_promise (a.leavers me z) == me)
+    && (is_majority (without members suspects) members
+    && (all_of (without members suspects) (λ i. all_of members (λ s. is_final (a.counts i s z)))
+    && all_of (without members suspects) (λ i. (accept_promise (a.leavers i z) == me)
+    && all_of members (λ s. accept_promise (a.trims i s z) == me)))))
+
+pub accept_alike : (n : ℕ) (f g : Shown) (members suspects me : ℕ) → AreAlike n f g
+    → choices.may_accept n f members suspects me ≡ choices.may_accept n g members suspects me
+accept_alike n f g members suspects me a = λ z.
+    not (accept_tag (a.leavers me z) == accept_promise (a.leavers me z) + 1)
+    && (not (accept_promise (a.leavers me z) == me)
+    && (has (without members suspects) (accept_promise (a.leavers me z))
+    && ((accept_tag (a.leavers (accept_promise (a.leavers me z)) z) == accept_promise (a.leavers me z) + 1)
+    && all_of members (λ s. accept_tag (a.trims (accept_promise (a.leavers me z)) s z)
+    == accept_promise (a.leavers me z) + 1))))
+
+pub shown_alike : (n : ℕ) (f g : Shown) (members i : ℕ) → AreAlike n f g
+    → choices.shown_value n f members i ≡ choices.shown_value n g members i
+shown_alike n f g members i a = λ z. record {
+  leavers = accept_value (a.leavers i z);
+  trim = trims_of members (λ s. accept_value (a.trims i s z));
+}
+
+first_alike : (n : ℕ) (f g : Shown) (members suspects : ℕ) → AreAlike n f g
+    → choices.first_value f members suspects ≡ choices.first_value g members suspects
+first_alike n f g members suspects a = λ z. record {
+  leavers = suspects;
+  trim = trims_of members (λ s. fold min (recv_count (a.counts (least_of (without members suspects)) s z))
+      (map (λ i. recv_count (a.counts i s z)) (members_of (without members suspects))));
+}
+
+highest_alike : (n : ℕ) (f g : Shown) (of : ℕ) → AreAlike n f g
+    → choices.highest_tag n f of ≡ choices.highest_tag n g of
+highest_alike n f g of a = λ z. fold max 0 (map (λ i. accept_tag (a.leavers i z)) (members_of of))
+
+row_alike : (n : ℕ) (f g : Shown) (of : ℕ) → AreAlike n f g
+    → choices.highest_row n f of ≡ choices.highest_row n g of
+row_alike n f g of a = λ z.
+    least_of (mask_of (λ i. has of i && (accept_tag (a.leavers i z) == highest_alike n f g of a z)))
+
+pub proposal_alike : (n : ℕ) (f g : Shown) (members suspects : ℕ) → AreAlike n f g
+    → choices.proposal n f members suspects ≡ choices.proposal n g members suspects
+proposal_alike n f g members suspects a =
+    (λ z. if highest_alike n f g (without members suspects) a z == 0 then first_alike n f g members suspects a z
+    else choices.shown_value n f members (row_alike n f g (without members suspects) a z))
+    ∙ ap (λ (x : Value). if choices.highest_tag n g (without members suspects) == 0
+    then choices.first_value g members suspects else x)
+    (shown_alike n f g members (choices.highest_row n g (without members suspects)) a)

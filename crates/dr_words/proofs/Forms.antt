@@ -1,12 +1,14 @@
 -- Words that are in form, and words that have grown.
-use Rattle.std.proofs.Common.{◌≡◌, ◌≢◌, ℕ, ◌^◌, ◌<◌, ◌≤◌, ◌⊎◌, inl, inr, false, arith}
+use Rattle.std.proofs.Common.{◌≡◌, ◌≢◌, ℕ, ◌^◌, ◌<◌, ◌≤◌, ◌⊎◌, inl, inr, false, arith, refl, le_trans, List, ◌+◌}
 use Rattle.std.proofs.lemmas.Nat.{pow_pos}
-use Rattle.dr_words.proofs.Bits.{has_zero}
-use Rattle.dr_words.specs.declared.column.TheConstants.{DONE_COLUMN, SUSPECTED_COLUMN}
+use Rattle.std.proofs.Math.Pow.{pow_mono}
+use Rattle.dr_history.proofs.Bits.{has_zero}
+use Rattle.dr_words.specs.declared.column.TheConstants.{DONE_COLUMN, SUSPECTED_COLUMN, LOGGED_COLUMN}
 use Rattle.dr_words.specs.Columns.{head_column, recv_column}
-use Rattle.dr_words.specs.Form.{IsAcceptColumn, IsInForm}
+use Rattle.dr_words.specs.Form.{IsAcceptColumn, IsInForm, AllInForm}
 use Rattle.dr_words.specs.Grown.{HasGrown}
 use Rattle.dr_words.specs.Packing.{is_final}
+use Rattle.dr_words.specs.Rows.{word_at}
 
 -- ---- form
 
@@ -118,3 +120,40 @@ grown_recv n s old new free rises =
       suspected = λ e. absurd (omega arith);
       final = λ i l e f. absurd (cc (f, free));
     }
+
+-- a suspected word has 16 bits
+pub suspected_small : (n : ℕ) (rows : List (List ℕ)) → AllInForm n rows → n ≤ 16 → (i : ℕ)
+    → word_at rows i SUSPECTED_COLUMN < 2 ^ 16
+suspected_small n rows form l i = le_trans ((form i SUSPECTED_COLUMN).suspected refl) (pow_mono l)
+
+-- any word of a ring's column is in form
+pub ring_in_form : (members column word : ℕ) → head_column members 0 ≤ column
+    → IsInForm members column word
+ring_in_form members column word ring = record {
+  suspected = λ e. absurd (omega arith);
+  done = λ e. absurd (omega arith);
+  recv = λ s lt e. absurd (omega arith);
+  promise = λ a. absurd (apart a);
+  tag = λ a. absurd (apart a);
+  leavers = λ e. absurd (omega arith);
+  trim = λ s lt e. absurd (omega arith);
+}
+  where
+    apart : IsAcceptColumn members column → ⊥
+    apart (inl e) = absurd (omega arith)
+    apart (inr t) = absurd (omega (arith, t.1, t.2))
+
+pub logged_in_form : (n x : ℕ) → IsInForm n LOGGED_COLUMN x
+logged_in_form n x = record {
+  suspected = λ e. absurd (omega (arith, e));
+  done = λ e. absurd (omega (arith, e));
+  recv = λ s l e. absurd (omega (arith, e));
+  promise = λ is. absurd (no_accept is);
+  tag = λ is. absurd (no_accept is);
+  leavers = λ e. absurd (omega (arith, e));
+  trim = λ s l e. absurd (omega (arith, e));
+}
+  where
+    no_accept : (LOGGED_COLUMN ≡ 5 + n) ⊎ ((s : ℕ) × (s < n) × (LOGGED_COLUMN ≡ 6 + n + s)) → ⊥
+    no_accept (inl e) = absurd (omega (arith, e))
+    no_accept (inr t) = absurd (omega (arith, t.2))

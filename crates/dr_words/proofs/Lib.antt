@@ -1,4 +1,3 @@
-pub mod Bits
 pub mod Ranks
 pub mod Majorities
 pub mod Masks
@@ -12,3 +11,7 @@ pub mod Rewrites
 pub mod Tables
 pub mod Values
 pub mod Choices
+pub mod Columns
+pub mod Packed
+pub mod Layouts
+pub mod Unique

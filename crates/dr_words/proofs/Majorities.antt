@@ -1,13 +1,9 @@
 -- Two majorities of a mask share a member.
 use Rattle.std.proofs.Common.{◌≡◌, ℕ, zero, suc, ◌+◌, ◌<◌, ◌≤◌, true, false, Bool, refl, ◌⊎◌, inl, inr, arith, length, if◌then◌else◌}
 use Rattle.dr_history.specs.Members.{has, members_below, members_of}
-use Rattle.dr_words.proofs.Ranks.{length-members_below_suc}
+use Rattle.dr_history.proofs.Ranks.{length-members_below_suc}
+use Rattle.dr_history.proofs.Masks.{none}
 use Rattle.dr_words.specs.Masks.{IsPartOf, IsMajorityOf}
-
-none : (all one other : ℕ) → length (members_below one 0) + length (members_below other 0)
-    ≤ length (members_below all 0)
-unfolding members_below
-none all one other = omega arith
 
 -- below a number, two parts of a mask share a member or have together no more members than the mask
 meet_below : (all one other n : ℕ) → IsPartOf one all → IsPartOf other all

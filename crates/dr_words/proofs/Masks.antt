@@ -1,61 +1,35 @@
 -- Masks of the members that pass a test.
-use Rattle.std.proofs.Common.{◌≡◌, ◌≢◌, ℕ, zero, suc, ◌+◌, ◌-◌, ◌*◌, ◌/◌, ◌%◌, ◌^◌, ◌<◌, ◌≤◌, ◌==◌, ◌&&◌, ◌||◌, not, nat_lt, Bool, true, false, sym, ap, ◌∙◌, ◌⊎◌, inl, inr, if◌then◌else◌, w16, bit_and, bit_or, bit_xor, arith, List, [], ◌∷◌, slice_get, slice_index, Some}
+use Rattle.std.proofs.Common.{◌≡◌, ◌≢◌, ℕ, zero, suc, ◌+◌, ◌-◌, ◌*◌, ◌/◌, ◌%◌, ◌^◌, ◌<◌, ◌≤◌, ◌==◌, ◌&&◌, ◌||◌, not, nat_lt, Bool, true, false, sym, ap, ◌∙◌, ◌⊎◌, inl, inr, if◌then◌else◌, w16, bit_and, bit_or, bit_xor, arith, List, [], ◌∷◌, slice_get, Some, refl, All, map, le_trans, subst, IsTrue, ◌↔◌, length, Option, None, unwrap_or, Decides}
 use Rattle.std.specs.Int.{bit_at, trailing_zeros}
-use Rattle.std.proofs.lemmas.Bool.{cases_eq, cases_lt}
+use Rattle.std.proofs.lemmas.Bool.{cases_eq, cases_lt, and_from, and_parts}
 use Rattle.std.proofs.lemmas.Nat.{and_le_l, or_lt, mod_below, pow_pos, xor_of_16}
-use Rattle.std.proofs.lemmas.Nat.Bits.{bit_at-lt, bit_at_above, bit_at_cat_low, bit_at_cat_high, same_from_bits}
-use Rattle.dr_history.specs.Members.{has, members_of}
-use Rattle.dr_words.proofs.Bits.{has_zero, has_with, has_without, has_xor}
+use Rattle.std.proofs.lemmas.Nat.Bits.{bit_at-lt, bit_at_above, bit_at_cat_low, same_from_bits}
+use Rattle.std.proofs.lemmas.List.Elements.{All-head, All-tail, All-contains}
+use Rattle.std.specs.List.{Contains, Any, count_by}
+use Rattle.std.specs.Prelude.{IsSome, MatchOption}
+use Rattle.std.proofs.lemmas.Option.{get_or_from_slice_get}
+use Rattle.std.proofs.lemmas.Bool.Decides.{nat_tests}
+use Rattle.dr_entry.proofs.NumberFacts.{more_small}
+use Rattle.dr_entry.proofs.ListPlaces.{index_of_get}
+use Rattle.dr_entry.proofs.ListFacts.{among}
+use Rattle.dr_entry.proofs.BoolFacts.{or_false, and_false}
+use Rattle.dr_history.specs.Members.{has, members_of, members_below}
+use Rattle.dr_history.proofs.Bits.{has_zero, has_with, has_without, has_xor, has_ones}
+use Rattle.dr_history.proofs.Ranks.{first_member, count_below, some_member}
+use Rattle.dr_history.proofs.Masks.{has_below_suc, same_masks, some_number, among_below, has_within}
+use Rattle.dr_history.proofs.Histories.{none_above}
+use Rattle.dr_history.proofs.Tests.{contains_word, all_words, some_word}
+use Rattle.dr_history.specs.Order.{AreOfRoster}
+use Rattle.dr_rows.specs.Words.{Words, seen}
 use Rattle.dr_words.proofs.Order.{IsPartOf-le}
-use Rattle.dr_words.proofs.Ranks.{first_member, least_member}
+use Rattle.dr_words.proofs.Ranks.{least_member}
 use Rattle.dr_words.specs.Masks.{IsInRoster, IsLeastOf, IsPartOf, least_of, mask_below, mask_of, next_members, with_member, without}
-
--- a bit more, 2 ^ n or 0, on top of a number below 2 ^ n
-double : (n : ℕ) → 2 ^ suc n ≡ 2 ^ n + 2 ^ n
-double n = omega arith
-
-more_small : (m n : ℕ) (t : Bool) → m < 2 ^ n → m + (if t then 2 ^ n else 0) < 2 ^ suc n
-more_small m n true small = omega (arith, double n)
-more_small m n false small = omega (arith, double n)
-
-more_low : (m n i : ℕ) (t : Bool) → i < n → has (m + (if t then 2 ^ n else 0)) i ≡ has m i
-more_low m n i true lt =
-    let e : m + 2 ^ n ≡ 1 * 2 ^ n + m = omega arith in
-    ap (λ (x : ℕ). has x i) e ∙ ap (λ (x : ℕ). x == 1) (bit_at_cat_low 1 n m i lt)
-more_low m n i false lt =
-    let e : m + 0 ≡ m = omega arith in
-    ap (λ (x : ℕ). has x i) e
-
-more_top : (m n : ℕ) (t : Bool) → m < 2 ^ n → has (m + (if t then 2 ^ n else 0)) n ≡ t
-more_top m n true small =
-    let e : m + 2 ^ n ≡ 1 * 2 ^ n + m = omega arith in
-    let z : n - n ≡ 0 = omega arith in
-    let one : bit_at (m + 2 ^ n) n ≡ 1 =
-    ap (λ (x : ℕ). bit_at x n) e ∙ bit_at_cat_high 1 n m n small (omega arith)
-    ∙ ap (λ (x : ℕ). bit_at 1 x) z in
-    ap (λ (x : ℕ). x == 1) one
-more_top m n false small =
-    let e : m + 0 ≡ m = omega arith in
-    ap (λ (x : ℕ). has x n) e ∙ grind (arith, bit_at_above m n n small (omega arith))
+use Rattle.dr_words.specs.Masks as masks
 
 below_small : (test : ℕ → Bool) (n : ℕ) → mask_below test n < 2 ^ n
 unfolding mask_below
 below_small test zero = omega arith
 below_small test (suc n) = more_small (mask_below test n) n (test n) (below_small test n)
-
-has_below_suc : (test : ℕ → Bool) (m n i : ℕ) → m < 2 ^ n → has m i ≡ (nat_lt i n && test i)
-    → has (m + (if test n then 2 ^ n else 0)) i ≡ (nat_lt i (suc n) && test i)
-has_below_suc test m n i small rest = by (cases_lt i n) (cases_lt n i)
-  where
-    by : (i < n) ⊎ (n ≤ i) → (n < i) ⊎ (i ≤ n)
-        → has (m + (if test n then 2 ^ n else 0)) i ≡ (nat_lt i (suc n) && test i)
-    by (inl l) q = more_low m n i (test n) l ∙ rest ∙ grind arith
-    by (inr g) (inl l) =
-        grind
-        (arith, bit_at_above (m + (if test n then 2 ^ n else 0)) (suc n) i (more_small m n (test n) small) l)
-    by (inr g) (inr h) =
-        let e : i ≡ n = omega arith in
-        rw e (more_top m n (test n) small ∙ grind arith)
 
 has_below : (test : ℕ → Bool) (n i : ℕ) → has (mask_below test n) i ≡ (nat_lt i n && test i)
 unfolding mask_below
@@ -72,25 +46,6 @@ pub mask_of_small : (test : ℕ → Bool) → mask_of test < 2 ^ 16
 unfolding mask_of
 mask_of_small test = below_small test 16
 
--- masks with the same members are one
-pub same_masks : (a b : ℕ) → ((i : ℕ) → has a i ≡ has b i) → a ≡ b
-same_masks a b same = same_from_bits a b (λ i. grind (arith, same i, bit_at-lt a i, bit_at-lt b i))
-
--- nobody above is in a mask of 16 bits
-pub has_above : (mask i : ℕ) → mask < 2 ^ 16 → 16 ≤ i → has mask i ≡ false
-has_above mask i small above = grind (arith, bit_at_above mask 16 i small above)
-
--- who is in a mask of so many bits has a number below it
-pub has_within : (mask n i : ℕ) → mask < 2 ^ n → has mask i ≡ true → i < n
-has_within mask n i small there = by (cases_lt i n)
-  where
-    by : (i < n) ⊎ (n ≤ i) → i < n
-    by (inl l) = l
-    by (inr above) = absurd (cc (there, none))
-      where
-        none : has mask i ≡ false
-        none = grind (arith, bit_at_above mask n i small above)
-
 -- a mask of 16 bits whose members are those that pass a test is the one of the test
 pub is_mask_of : (test : ℕ → Bool) (mask : ℕ) → mask < 2 ^ 16
     → ((i : ℕ) → i < 16 → has mask i ≡ test i) → mask ≡ mask_of test
@@ -98,7 +53,7 @@ is_mask_of test mask small same = same_masks mask (mask_of test) (λ i. by i (ca
   where
     by : (i : ℕ) → (i < 16) ⊎ (16 ≤ i) → has mask i ≡ has (mask_of test) i
     by i (inl l) = same i l ∙ sym (has_mask_of test i ∙ grind arith)
-    by i (inr g) = has_above mask i small g ∙ sym (has_mask_of test i ∙ grind arith)
+    by i (inr g) = none_above mask i small g ∙ sym (has_mask_of test i ∙ grind arith)
 
 -- one member more
 pub has_with_member : (mask n i : ℕ) → mask < 2 ^ 16 → n < 16
@@ -107,7 +62,7 @@ has_with_member mask n i small within = has_mask_of (λ i. i == n || has mask i)
   where
     by : (i < 16) ⊎ (16 ≤ i) → (nat_lt i 16 && (i == n || has mask i)) ≡ (i == n || has mask i)
     by (inl l) = grind arith
-    by (inr g) = grind (arith, has_above mask i small g)
+    by (inr g) = grind (arith, none_above mask i small g)
 
 pub with_member_small : (mask n : ℕ) → with_member mask n < 2 ^ 16
 with_member_small mask n = mask_of_small (λ i. i == n || has mask i)
@@ -142,7 +97,7 @@ has_without_mask mask other i small = has_mask_of (λ i. has mask i && not (has 
     by : (i < 16) ⊎ (16 ≤ i)
         → (nat_lt i 16 && (has mask i && not (has other i))) ≡ (has mask i && not (has other i))
     by (inl l) = grind arith
-    by (inr g) = grind (arith, has_above mask i small g)
+    by (inr g) = grind (arith, none_above mask i small g)
 
 pub without_small : (mask other : ℕ) → without mask other < 2 ^ 16
 without_small mask other = mask_of_small (λ i. has mask i && not (has other i))
@@ -186,20 +141,6 @@ in_roster_small n mask within =
         let e : mask ≡ mask / 2 ^ n * 2 ^ n + mask % 2 ^ n = omega (arith, pow_pos n) in
         ap (λ (x : ℕ). bit_at x i) e ∙ bit_at_cat_low (mask / 2 ^ n) n (mask % 2 ^ n) i l
     by i (inr g) = grind (arith, bit_at_above (mask % 2 ^ n) n i low g, within i, bit_at-lt mask i)
-
--- the least member of a mask that has one
-some_number : (mask n : ℕ) → has mask n ≡ true → 0 < mask
-some_number mask n there = by (cases_lt 0 mask)
-  where
-    by : (0 < mask) ⊎ (mask ≤ 0) → 0 < mask
-    by (inl l) = l
-    by (inr g) =
-        let e : mask ≡ 0 = omega arith in
-        absurd (cc (there, ap (λ (x : ℕ). has x n) e, has_zero n))
-
-index_of_get : (xs : List ℕ) (x : ℕ) → slice_get xs 0 ≡ Some x → slice_index xs 0 ≡ x
-index_of_get [] x e = absurd (cc)
-index_of_get (y ∷ ys) x e = cc
 
 pub least_of_is : (mask n : ℕ) → mask < 2 ^ 16 → has mask n ≡ true → IsLeastOf mask (least_of mask)
 unfolding least_of
@@ -305,3 +246,207 @@ left_rises {members = members} {suspects = suspects} {me = me} {other = other} s
           there,
           more_has s i,
         )
+
+-- the numbers put into a mask, one by one
+abbrev pub with_all : ℕ → List ℕ → ℕ
+with_all mask [] = mask
+with_all mask (m ∷ ms) = with_all (with_member mask m) ms
+
+has_with_all : (mask : ℕ) (ms : List ℕ) (i : ℕ) → mask < 2 ^ 16 → All (λ m. m < 16) ms
+    → has (with_all mask ms) i ≡ (among ms i || has mask i)
+has_with_all mask [] i small low = refl
+has_with_all mask (m ∷ ms) i small low =
+    has_with_all (with_member mask m) ms i (with_member_small mask m) (All-tail (λ m. m < 16) m ms low)
+    ∙ (ap (λ b. among ms i || b) (has_with_member mask m i small (All-head (λ m. m < 16) m ms low))
+    ∙ turn (among ms i) (i == m) (has mask i))
+  where
+    turn : (a b c : Bool) → (a || (b || c)) ≡ ((b || a) || c)
+    turn true true c = refl
+    turn true false c = refl
+    turn false true c = refl
+    turn false false c = refl
+
+pub with_all_members : (mask : ℕ) → mask < 2 ^ 16 → All (λ m. m < 16) (members_of mask)
+    → with_all 0 (members_of mask) ≡ mask
+unfolding members_of
+with_all_members mask small low = same_masks (with_all 0 (members_of mask)) mask (λ i. by i (cases_lt i 16))
+  where
+    zero_has : (i : ℕ) → has 0 i ≡ false
+    zero_has i = has_zero i
+
+    all : (i : ℕ) → has (with_all 0 (members_of mask)) i ≡ (nat_lt i 16 && has mask i)
+    all i = has_with_all 0 (members_of mask) i (omega arith) low
+        ∙ (ap (λ b. among (members_of mask) i || b) (zero_has i)
+        ∙ (or_false (among (members_of mask) i) ∙ among_below mask 16 i))
+
+    by : (i : ℕ) → (i < 16) ⊎ (16 ≤ i) → has (with_all 0 (members_of mask)) i ≡ has mask i
+    by i (inl less) = let e : nat_lt i 16 ≡ true = grind (arith, less) in all i ∙ rw e refl
+    by i (inr more) = all i ∙ (rw (none_above mask i small more) (and_false (nat_lt i 16))
+        ∙ sym (none_above mask i small more))
+
+member_word : (f : ℕ → ℕ) (m n i : ℕ) → IsInRoster n m → n ≤ 16 → has m i ≡ true
+    → Contains (map f (members_of m)) (f i)
+unfolding members_of
+member_word f m n i r l e = contains_word f m 16 i (le_trans (r i e) l) e
+
+-- what holds of all words of the list holds of each member's word
+pub each_word : (P : ℕ → Type 0) (f : ℕ → ℕ) (m n : ℕ) → IsInRoster n m → n ≤ 16
+    → All P (map f (members_of m)) → (i : ℕ) → has m i ≡ true → P (f i)
+each_word P f m n r l h i e = All-contains P (map f (members_of m)) (f i) h (member_word f m n i r l e)
+
+-- a test of all words of the list tells what holds of each member's word
+pub each_iff : (P : ℕ → Type 0) (f : ℕ → ℕ) (m n : ℕ) (words : List ℕ) (b : Bool)
+    → words ≡ map f (members_of m) → IsInRoster n m → n ≤ 16
+    → (IsTrue b ↔ All P words) → (IsTrue b ↔ ((i : ℕ) → has m i ≡ true → P (f i)))
+each_iff P f m n words b e r l h = (
+  λ t. each_word P f m n r l (subst (All P) e (h.0 t)),
+  λ g. h.1 (subst (All P) (sym e) (all_words P f m g)),
+)
+
+-- a test of some word of the list tells what holds of some member's word
+pub some_iff : (P : ℕ → Type 0) (f : ℕ → ℕ) (m n : ℕ) (words : List ℕ) (b : Bool)
+    → words ≡ map f (members_of m) → IsInRoster n m → n ≤ 16
+    → (IsTrue b ↔ Any P words) → (IsTrue b ↔ ((i : ℕ) × (has m i ≡ true) × P (f i)))
+some_iff P f m n words b e r l h =
+    (λ t. to (subst (Any P) e (h.0 t)), λ g. h.1 (subst (Any P) (sym e) (back g)))
+  where
+    to : Any P (map f (members_of m)) → (i : ℕ) × (has m i ≡ true) × P (f i)
+    to a = let w = some_word f m a.1 (a.0, a.2, a.3) in (w.0, w.1, subst P w.2 a.4)
+
+    back : (i : ℕ) × (has m i ≡ true) × P (f i) → Any P (map f (members_of m))
+    back g = let c = member_word f m n g.0 r l g.1 in (c.0, f g.0, c.1, c.2, g.2)
+
+-- where the list is empty nobody is in the mask
+pub no_member : (f : ℕ → ℕ) (m n : ℕ) (words : List ℕ) → words ≡ map f (members_of m)
+    → IsInRoster n m → n ≤ 16 → length words ≡ 0
+    → (i : ℕ) → has m i ≡ false
+no_member f m n words e r l z i = by (has m i) refl
+  where
+    by : (b : Bool) → has m i ≡ b → has m i ≡ false
+    by true h = let c = member_word f m n i r l h in let k : c.0 < length words = rw e c.1 in
+        absurd (omega arith)
+    by false h = h
+
+-- a test of all words of a column
+pub column_iff : (P : ℕ → Type 0) (rows : Words) (m : ℕ) (words : List ℕ) (column k : ℕ) (b : Bool)
+    → words ≡ map (λ i. seen rows i column) (members_of m) → column ≡ k
+    → IsInRoster rows.members m → rows.members ≤ 16
+    → (IsTrue b ↔ All P words) → (IsTrue b ↔ ((i : ℕ) → has m i ≡ true → P (seen rows i k)))
+column_iff P rows m words column k b e c r l h =
+    each_iff P (λ i. seen rows i k) m rows.members words b
+    (e ∙ ap (λ (x : ℕ). map (λ i. seen rows i x) (members_of m)) c) r l h
+
+pub count_tagged : (p : ℕ → Bool) (m : ℕ)
+    → length (members_of (mask_of (λ i. has m i && p i))) ≡ count_by p (members_of m)
+unfolding members_of
+count_tagged p m = count_below p m (mask_of (λ i. has m i && p i)) 16
+    (λ i l. has_mask_of (λ j. has m j && p j) i ∙ grind (arith, l))
+
+-- a mask with a member has a least one
+pub somebody : (o : Option ℕ) (mask i : ℕ) → MatchOption o ((k : ℕ) → has mask k ≡ false) (masks.IsLeastOf mask)
+    → has mask i ≡ true → IsSome o
+somebody None mask i least there = absurd (cc (least i, there))
+somebody (Some m) mask i least there = refl
+
+-- the least member of a mask, as it is read
+pub least_read : (mask p : ℕ) → slice_get (members_of mask) 0 ≡ Some p → p ≡ masks.least_of mask
+unfolding masks.least_of
+least_read mask p there = sym (get_or_from_slice_get (members_of mask) 0 p 0 there)
+
+-- the members of both views
+abbrev pub both_of : ℕ → ℕ → ℕ
+both_of before after = mask_of (λ i. has before i && has after i)
+
+both_has : (before after i : ℕ) → i < 16 → has (both_of before after) i ≡ (has before i && has after i)
+both_has before after i l = has_mask_of (λ k. has before k && has after k) i ∙ grind (arith, l)
+
+least_of_nobody : least_of 0 ≡ 0
+unfolding least_of members_of members_below
+least_of_nobody = refl
+
+-- the least of them, or 0, is what the answer of the search for the welcomer tells
+pub welcomer_is : (before after : ℕ) (o : Option ℕ) → after < 2 ^ 16
+    → (o ≡ None → (i : ℕ) → has before i ≡ true → has after i ≡ false)
+    → ((m : ℕ) → o ≡ Some m → (has before m ≡ true) × (has after m ≡ true))
+    → ((m i : ℕ) → o ≡ Some m → has before i ≡ true → has after i ≡ true → m ≤ i)
+    → unwrap_or o 0 ≡ least_of (both_of before after)
+welcomer_is before after None small none both least =
+    sym (ap least_of (same_masks (both_of before after) 0 (λ i. nobody i (has (both_of before after) i) refl))
+    ∙ least_of_nobody)
+  where
+    nobody : (i : ℕ) (b : Bool) → has (both_of before after) i ≡ b → has (both_of before after) i ≡ has 0 i
+    nobody i false e = e ∙ sym (has_zero i)
+    nobody i true e =
+        let low : i < 16 = has_within (both_of before after) 16 i (mask_of_small _) e in
+        let two = and_parts (has before i) (has after i) (sym (both_has before after i low) ∙ e) in
+        absurd (cc (two.1, none refl i two.0))
+welcomer_is before after (Some m) small none both least =
+    let there = both m refl in
+    let low : m < 16 = has_within after 16 m small there.1 in
+    let is = least_of_is (both_of before after) m (mask_of_small _)
+    (both_has before after m low ∙ and_from _ _ there.0 there.1) in
+    let two = and_parts (has before (least_of (both_of before after))) (has after (least_of (both_of before after)))
+    (sym (both_has before after (least_of (both_of before after)) is.number) ∙ is.member) in
+    omega (
+      arith,
+      is.least m (both_has before after m low ∙ and_from _ _ there.0 there.1),
+      least m (least_of (both_of before after)) refl two.0 two.1,
+    )
+
+-- a mask that isn't 0 has a member
+pub some_of : (mask n : ℕ) → IsInRoster n mask → n ≤ 16 → 0 < mask → 0 < length (members_of mask)
+some_of mask n within few some = by (length (members_of mask)) refl
+  where
+    none : length (members_of mask) ≡ 0 → (i : ℕ) (b : Bool) → has mask i ≡ b → has mask i ≡ has 0 i
+    none e i true t = absurd (omega (arith, e, some_member mask i (omega (arith, within i t, few)) t))
+    none e i false t = t ∙ sym (has_zero i)
+
+    by : (k : ℕ) → length (members_of mask) ≡ k → 0 < length (members_of mask)
+    by zero e = absurd (omega (arith, some, same_masks mask 0 (λ i. none e i (has mask i) refl)))
+    by (suc k) e = omega (arith, e)
+
+-- a mask that is not 0 has some members of the roster alone where none is left without those
+pub roster_decides : (all mask n : ℕ) → mask < 2 ^ 16 → all ≡ n → mask ≢ 0
+    → Decides (without mask (2 ^ n - 1) == 0) (AreOfRoster all mask)
+roster_decides all mask n small roster some = (
+  λ t. record { some = omega (arith, some); within = λ s h. inside s h (zero_is t) },
+  λ r. is_zero (same_masks (without mask (2 ^ n - 1)) 0 (λ i. none i r)),
+)
+  where
+    zero_is : (without mask (2 ^ n - 1) == 0) ≡ true → without mask (2 ^ n - 1) ≡ 0
+    zero_is t = grind (arith, t)
+
+    is_zero : without mask (2 ^ n - 1) ≡ 0 → (without mask (2 ^ n - 1) == 0) ≡ true
+    is_zero e = grind (arith, e)
+
+    inside : (s : ℕ) → has mask s ≡ true → without mask (2 ^ n - 1) ≡ 0 → s < all
+    inside s h e = grind (
+      arith,
+      h,
+      has_without_mask mask (2 ^ n - 1) s small,
+      ap (λ x. has x s) e,
+      has_zero s,
+      has_ones n s,
+      roster,
+    )
+
+    none : (i : ℕ) → AreOfRoster all mask → has (without mask (2 ^ n - 1)) i ≡ has 0 i
+    none i r = by (has mask i) refl
+      where
+        by : (b : Bool) → has mask i ≡ b → has (without mask (2 ^ n - 1)) i ≡ has 0 i
+        by false e = grind (arith, e, has_without_mask mask (2 ^ n - 1) i small, has_zero i)
+        by true e = grind (
+          arith,
+          e,
+          r.within i e,
+          roster,
+          has_without_mask mask (2 ^ n - 1) i small,
+          has_ones n i,
+          has_zero i,
+        )
+
+-- all that are left of a mask where nobody is taken out
+pub without-nobody : (test : ℕ → Bool) (mask : ℕ) → mask ≡ mask_of test → without mask 0 ≡ mask
+without-nobody test mask is = subst (λ (m : ℕ). without m 0 ≡ m) (sym is)
+    (same_masks (without (mask_of test) 0) (mask_of test) (λ i.
+    has_mask_of (λ k. has (mask_of test) k && not (has 0 k)) i ∙ grind (arith, nat_tests, has_zero i, has_mask_of test i)))

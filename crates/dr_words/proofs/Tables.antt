@@ -1,8 +1,7 @@
 -- The words of a member as it writes its own: what a write changes, and what it leaves.
-use Rattle.std.proofs.Common.{◌≡◌, ◌≢◌, ℕ, ◌<◌, ◌⊎◌, inl, inr, Bool, false, List, get_or, sym, ap, subst, arith}
-use Rattle.std.proofs.lemmas.Bool.{cases_eq}
+use Rattle.std.proofs.Common.{◌≡◌, ℕ, ◌<◌, inl, inr, Bool, false, List, get_or, sym, ap, subst, arith}
 use Rattle.dr_rows.specs.Words.{Words, IsWords, IsGrid, looked, own, seen, with_own, with_word, word_at, is_frozen}
-use Rattle.dr_rows.proofs.Grids.{with_word-same, with_word-row, with_word-column}
+use Rattle.dr_rows.proofs.Grids.{with_word-same, with_word-row, written_either}
 use Rattle.dr_rows.proofs.WordsLemmas.{IsWords-looked}
 use Rattle.dr_words.specs.Columns.{columns_of}
 use Rattle.dr_words.specs.Form.{IsInForm, AllInForm}
@@ -10,20 +9,6 @@ use Rattle.dr_words.specs.Grown.{HasGrown, Grown}
 use Rattle.dr_words.proofs.Order.{HasGrown_refl}
 
 -- ---- a write
-
--- a word is as before the write, or is the one that was written to its column
-written_either : (n k : ℕ) (rows : List (List ℕ)) (i c v j d : ℕ) → IsGrid n k rows → i < n
-    → c < k
-    → (word_at (with_word rows i c v) j d ≡ word_at rows j d)
-    ⊎ ((j ≡ i) × (d ≡ c) × (word_at (with_word rows i c v) j d ≡ v))
-written_either n k rows i c v j d grid h g =
-    elim (cases_eq d c) [
-      | inr apart ↦ inl (with_word-column rows i c v j d apart)
-      | inl same ↦ elim (cases_eq j i) [
-        | inr apart ↦ inl (ap (λ row. get_or row d 0) (with_word-row rows i c v j apart))
-        | inl here ↦ let there = with_word-same n k rows i c v grid h g in inr (here, same, cc)
-      ]
-    ]
 
 written_in_form : (n k m : ℕ) (rows : List (List ℕ)) (i c v : ℕ) → IsGrid n k rows → i < n
     → c < k → AllInForm m rows → IsInForm m c v → AllInForm m (with_word rows i c v)
@@ -82,15 +67,6 @@ pub own_written : (n window : ℕ) (w : Words) (c v : ℕ) → IsTable n window 
     < columns_of n window → own (with_own w c v) c ≡ v
 own_written n window w c v t column =
     with_word-same w.members w.columns w.words w.me c v t.rows.rows t.rows.present (omega (arith, t.columns))
-
--- setting an own word leaves the others
-pub own_left : (w : Words) (c v d : ℕ) → d ≢ c → own (with_own w c v) d ≡ own w d
-own_left w c v d apart = with_word-column w.words w.me c v w.me d apart
-
--- a look at another row leaves the own words
-pub own_seen : (w : Words) (i c v d : ℕ) → i ≢ w.me → own (looked w i c v) d ≡ own w d
-own_seen w i c v d other = ap (λ (row : List ℕ). get_or row d 0)
-    (with_word-row w.words i c v w.me (λ e. other (sym e)))
 
 -- they grow where the word of a row that isn't frozen does
 pub looked_grown : (n window : ℕ) (w : Words) (i c v : ℕ) → IsTable n window w → i < n → c

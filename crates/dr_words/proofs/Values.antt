@@ -1,20 +1,10 @@
 -- Values by their parts: a row shows one value, and rows give one to propose.
-use Rattle.std.proofs.Common.{◌≡◌, ℕ, Bool, true, false, sym, ap, ◌∙◌, inl, inr, refl, subst, arith, List, length, slice_index}
-use Rattle.std.proofs.lemmas.List.{ext_get_or}
+use Rattle.std.proofs.Common.{◌≡◌, ℕ, Bool, true, false, sym, ◌∙◌, inl, inr, refl, subst, arith, length, slice_index}
 use Rattle.dr_entry.specs.declared.record.Value.{Value}
+use Rattle.dr_entry.proofs.Records.{same_value}
 use Rattle.dr_history.specs.Members.{has}
 use Rattle.dr_words.specs.Accepts.{Shown, Shows, tag_of}
 use Rattle.dr_words.specs.Changes.{IsFirstValue, IsHighest, IsLeastReceived, IsProposal}
-
-abbrev value_with : ℕ → List ℕ → Value
-value_with leavers trim = record { leavers = leavers; trim = trim }
-
--- values with the same leavers and the same trims are one
-pub same_value : (u v : Value) → length u.trim ≡ length v.trim → u.leavers ≡ v.leavers
-    → ((s : ℕ) → slice_index u.trim s ≡ slice_index v.trim s) → u ≡ v
-same_value u v long leavers trims =
-    let same : u.trim ≡ v.trim = ext_get_or 0 u.trim v.trim long (λ s l. trims s) in
-    ap (λ (l : ℕ). value_with l u.trim) leavers ∙ ap (value_with v.leavers) same
 
 -- a row shows one value
 pub shows_once : (n : ℕ) (rows : Shown) (members i : ℕ) (u v : Value) → length u.trim ≡ length v.trim

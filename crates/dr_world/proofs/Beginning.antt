@@ -1,19 +1,14 @@
 -- Replicas that have begun are the group's as its age opens.
-use Rattle.std.proofs.Common.{◌≡◌, refl, sym, ap, ◌∙◌, subst, ℕ, ◌+◌, ◌<◌, List, [], ◌∷◌, ◌++◌, map, replicate, arith}
+use Rattle.std.proofs.Common.{◌≡◌, sym, ap, ◌∙◌, subst, ℕ, ◌+◌, List, [], ◌∷◌, ◌++◌, map, replicate}
 use Rattle.std.specs.Prelude.{Option, Some, None, option_map}
 use Rattle.std.proofs.lemmas.List.{length-map, length-replicate, map-append}
-use Rattle.std.proofs.lemmas.Option.{same_Some}
 use Rattle.dr_program.specs.declared.setup.Setup.{Setup}
 use Rattle.dr_machine.specs.Group.{Group, IsGroup, roster, banks}
 use Rattle.dr_machine.specs.World.{opening_world}
 use Rattle.dr_program.specs.Replica.{Replica, begun_replica}
-use Rattle.dr_program.specs.Running.{Running, begun_running}
-use Rattle.dr_program.specs.Program.{AreSetups, IsSetup}
+use Rattle.dr_program.specs.Program.{AreSetups}
 use Rattle.dr_entry.specs.declared.entry.Entry.{Entry}
-use Rattle.dr_program.specs.Reading.{Shared, world_of}
 use Rattle.dr_program.specs.Form.{HasForm, IsOf}
-use Rattle.dr_program.proofs.Opening.{begins_at_the_opening}
-use Rattle.dr_program.proofs.OpeningForm.{begins_in_form}
 use Rattle.dr_script.specs.declared.script.Script.{Script}
 use Rattle.dr_restart.specs.declared.start.Start.{Start}
 use Rattle.dr_restart.specs.Groups.{group_of}
@@ -21,48 +16,11 @@ use Rattle.dr_words.specs.Layout.{words_of}
 use Rattle.dr_world.specs.Held.{Held, AreMembers, IsHeld, its_world}
 use Rattle.dr_restart.proofs.Setups.{absent, are_setups, more, none}
 use Rattle.dr_world.specs.Begun.{HasReplica, HaveBegun}
-use Rattle.dr_program.specs.Presence.{present_at}
-use Rattle.dr_program.proofs.Present.{present_map, present_within}
+use Rattle.dr_program.proofs.Present.{present_map}
+use Rattle.dr_program.proofs.OpeningForm.{begins, begun_at}
+use Rattle.dr_program.proofs.Opening.{begun_world}
 
 -- ---- the replicas that begin
-
--- the same setup with another limit of turns, of which a replica knows nothing
-with_one_turn : (g : Group) (limit m : ℕ) (s : Setup) → IsSetup g limit m s
-    → IsSetup g 1 m (record s { turns = 1 })
-with_one_turn g limit m s is = record {
-  present = is.present;
-  members = is.members;
-  window = is.window;
-  banks = is.banks;
-  me = is.me;
-  age = is.age;
-  view = is.view;
-  turns = refl;
-  start = is.start;
-  messages = is.messages;
-  totals = is.totals;
-  late = is.late;
-}
-
-begins : (g : Group) (limit m : ℕ) (s : Setup) → IsGroup g → IsSetup g limit m s → m < roster g
-    → HasForm (begun_replica s) × IsOf g m (begun_replica s)
-begins g limit m s is setup within =
-    let begun = begins_in_form g 1 m (record s { turns = 1 }) is (omega arith)
-    (with_one_turn g limit m s setup) in
-    (begun.0.replica, begun.1)
-
--- each replica has begun with the setup of its number
-begun_at : (g : Group) (limit : ℕ) (setups : List (Option Setup)) → AreSetups g limit setups
-    → (P : Replica → Type 0) (m : ℕ) (r : Replica)
-    → present_at (map (option_map begun_replica) setups) m ≡ Some r
-    → ((s : Setup) → IsSetup g limit m s → m < roster g → P (begun_replica s)) → P r
-begun_at g limit setups are P m r there begins =
-    by (present_at setups m) refl (sym (present_map begun_replica setups m) ∙ there)
-  where
-    by : (o : Option Setup) → present_at setups m ≡ o → option_map begun_replica o ≡ Some r → P r
-    by None e is = absurd (cc)
-    by (Some s) e is = subst P (same_Some (begun_replica s) r is)
-        (begins s (are.each m s e) (omega (arith, present_within setups m s e, are.all)))
 
 -- replicas that have begun are the members of the group
 pub begun_members : (g : Group) (limit : ℕ) (setups : List (Option Setup)) → IsGroup g
@@ -78,27 +36,6 @@ begun_members g limit setups is are = record {
   of = λ m r there. begun_at g limit setups are (IsOf g m) m r there
       (λ s setup within. (begins g limit m s is setup within).1);
 }
-
-replicas_begun : (setups : List (Option Setup))
-    → map (option_map (λ (x : Running). x.replica)) (map (option_map begun_running) setups)
-    ≡ map (option_map begun_replica) setups
-replicas_begun [] = refl
-replicas_begun (None ∷ setups) = ap (λ rs. None ∷ rs) (replicas_begun setups)
-replicas_begun (Some s ∷ setups) = ap (λ rs. Some (begun_replica s) ∷ rs) (replicas_begun setups)
-
--- what the members share as a group opens: a table of zeros, and no letters
-abbrev shared_at : Group → Shared
-shared_at g = record {
-  words = replicate (words_of (roster g) g.window (banks g)) 0;
-  letters = replicate (roster g) None;
-}
-
--- their world is the opening's
-begun_world : (g : Group) (limit : ℕ) (setups : List (Option Setup)) → IsGroup g → AreSetups g limit setups
-    → world_of g (map (option_map begun_replica) setups) (shared_at g) ≡ opening_world g
-begun_world g limit setups is are =
-    ap (λ rs. world_of g rs (shared_at g)) (sym (replicas_begun setups))
-    ∙ begins_at_the_opening g limit setups is are
 
 -- ---- one by one
 

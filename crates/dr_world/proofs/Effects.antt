@@ -21,7 +21,6 @@ use Rattle.dr_machine.specs.Run.{IsReached}
 use Rattle.dr_program.specs.Replica.{Replica, is_inside, is_other}
 use Rattle.dr_program.specs.Steps.{has_cell, allows, found, stored, stored_letters}
 use Rattle.dr_program.specs.Reading.{Shared, letters_of, world_of}
-use Rattle.dr_program.proofs.Holdings.{held_of}
 use Rattle.dr_program.proofs.Runs.{joins_outside}
 use Rattle.dr_faithful.specs.Faithful.{Faithful}
 use Rattle.dr_faithful.specs.Chosen.{views_by}
@@ -30,8 +29,8 @@ use Rattle.dr_refine.specs.Programs.{IsMember, stored_in}
 use Rattle.dr_refine.proofs.Joins.{join_effect}
 use Rattle.dr_refine.proofs.Tables.{word_inside}
 use Rattle.dr_refine.proofs.Guards.{other_member, other_within, seen_is}
-use Rattle.dr_refine.proofs.Tests.{found_is, step_effect, cell_test}
-use Rattle.dr_room.proofs.Letters.{letter_goes_on}
+use Rattle.dr_refine.proofs.Tests.{step_effect, cell_test, word_is}
+use Rattle.dr_program_laws.proofs.Letters.{letter_goes_on}
 use Rattle.dr_world.specs.Held.{Held, its_group, its_world, shared_of, IsHeld}
 use Rattle.dr_world.specs.Steps.{IsSight, finds_letter, joined_by, stepped_with}
 use Rattle.dr_world.proofs.Guarding.{is_member, join_or_not}
@@ -94,17 +93,6 @@ take_effect h e r is there may finds =
     (is_member h (member_of e) r is there) (events_reached (its_group h) (its_world h) is.events) may finds
 
 -- ---- looks
-
--- the word that a look finds is the one in the world
-word_is : (g : Group) (rs : List (Option Replica)) (table : Shared) (m : ℕ) (r : Replica) (i c : ℕ)
-    → IsMember g rs table m r → m < roster g → i < roster g → c < columns g
-    → (world_of g rs table).table ((world_of g rs table).past.view m) m i c ≡ found table.words r i c
-word_is g rs table m r i c is member row column =
-    let w : World = world_of g rs table in
-    let view : w.past.view m ≡ r.view = ap (λ x. x.view) (held_of g rs table m r is.there) in
-    ap (λ v. w.table v m i c) view
-    ∙ word_inside g table.words r.view m i c (omega (arith, is.form.bank, is.of.banks)) member row column
-    ∙ sym (found_is g rs table m r i c is)
 
 -- the word that stands at the index of a cell, in the bank of the view of its member
 pub word_there : (h : Held) (m v i c : ℕ) → v ≡ (its_world h).past.view m → v < banks (its_group h)

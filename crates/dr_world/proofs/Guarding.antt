@@ -1,6 +1,6 @@
 -- The test of an event at the replica of its member is the guard of that event, in every world that is
 -- reached.
-use Rattle.std.proofs.Common.{◌≡◌, ◌⊎◌, inl, inr, ◌↔◌, refl, ℕ, ◌<◌, true, false, not, Bool, List}
+use Rattle.std.proofs.Common.{◌≡◌, ◌⊎◌, inl, inr, ◌↔◌, refl, ℕ, true, false, not, Bool, List}
 use Rattle.std.specs.Prelude.{None, Option, Some}
 use Rattle.std.proofs.lemmas.Bool.{and_from, and_parts}
 use Rattle.dr_entry.specs.declared.entry.Entry.{Entry}
@@ -8,18 +8,14 @@ use Rattle.dr_machine.specs.declared.event.Event.{Event}
 use Rattle.dr_machine.specs.declared.step.Step.{Step}
 use Rattle.dr_machine.specs.declared.step.Step.TheVariants.{Join}
 use Rattle.dr_machine.specs.Events.{member_of, step_of}
-use Rattle.dr_machine.proofs.Presence.{in_roster}
 use Rattle.dr_machine.proofs.Runs.{events_reached}
-use Rattle.dr_machine.specs.Group.{Group, IsGroup, IsPresent, roster}
-use Rattle.dr_machine.specs.World.{World}
 use Rattle.dr_machine.specs.Acts.{Guard}
 use Rattle.dr_program.specs.Reading.{letters_of}
 use Rattle.dr_program.specs.Replica.{Replica, is_inside}
 use Rattle.dr_program.specs.Steps.{HasLetter, IsNoJoin, allows, may_take, stepped_over}
 use Rattle.dr_refine.specs.Programs.{IsMember}
-use Rattle.dr_faithful.proofs.Faithfulness.{step_alive}
 use Rattle.dr_refine.proofs.Tests.{step_test}
-use Rattle.dr_room.proofs.Bounds.{has_room}
+use Rattle.dr_program_laws.proofs.Bounds.{has_room}
 use Rattle.dr_world.specs.Held.{Held, its_group, its_world, shared_of, IsHeld}
 use Rattle.dr_world.specs.Steps.{finds_letter, may_come, stepped_with}
 use Rattle.dr_program.specs.Presence.{present_at}
@@ -71,10 +67,3 @@ take_test h e r is there =
             (events_reached (its_group h) (its_world h) is.events) can,
       ) in and_from (may_take r (step_of e)) _ test.0 (letter.1 test.1),
     )
-
--- only members that are there have events, and these are of the roster
-pub of_present : (g : Group) (w : World) (e : Event) → Guard g w e → IsPresent g (member_of e)
-of_present g w e can = (step_alive g w (member_of e) (step_of e) can).present
-
-pub of_roster : (g : Group) (w : World) (e : Event) → IsGroup g → Guard g w e → member_of e < roster g
-of_roster g w e is can = in_roster g (member_of e) is (of_present g w e can)

@@ -7,20 +7,20 @@ use Rattle.std.proofs.lemmas.List.Sums.{count_by_more_no, count_by_more_yes, sum
 use Rattle.dr_entry.specs.declared.entry.Entry.{Entry}
 use Rattle.dr_history.specs.History.{up_to_view}
 use Rattle.dr_history.specs.Members.{has, members_below, members_of}
+use Rattle.dr_history.proofs.Ranks.{length-members_below_suc}
 use Rattle.dr_machine.specs.declared.step.Step.{Step}
 use Rattle.dr_machine.specs.Group.{Group, IsGroup, late_members, roster}
-use Rattle.dr_machine.specs.Guards.{CanWelcome}
 use Rattle.dr_machine.specs.Run.{IsReached}
 use Rattle.dr_machine.specs.World.{World}
 use Rattle.dr_words.proofs.Masks.{has_without_mask, in_roster_small}
-use Rattle.dr_words.proofs.Ranks.{length-members_below_suc}
 use Rattle.dr_program.specs.Presence.{present_at}
 use Rattle.dr_program.specs.Reading.{letters_of}
 use Rattle.dr_program.specs.Replica.{Replica}
 use Rattle.dr_program.specs.Steps.{given_to, stored_letters}
+use Rattle.dr_program.proofs.Present.{MayGet}
 use Rattle.dr_refine.proofs.Tests.{letters_then}
 use Rattle.dr_world_laws.proofs.ChosenViews.{views-first, views-there}
-use Rattle.dr_world_laws.proofs.Letters.{IsLetter, gives-once}
+use Rattle.dr_world_laws.proofs.Letters.{IsLetter}
 use Rattle.dr_world_laws.proofs.Worlds.{Known, known}
 use Rattle.dr_world.specs.Posts.{count_filled}
 use Rattle.dr_world.specs.Steps.{lists_left}
@@ -142,25 +142,6 @@ letters_few g w letters is reached long are =
     (λ k x e. letter_late g w k x is reached (ap (λ f. f k) are ∙ e))
 
 -- ---- the lists that are left
-
--- where j may be given a letter, none is there for it, and it is of the roster
-pub record MayGet (g : Group) (letters : List (Option (List Entry))) (j : ℕ) : Type 0 where
-  pub none : present_at letters j ≡ None
-  pub within : j < length letters
-
-pub may_get : (g : Group) (w : World) (letters : List (Option (List Entry))) (m j : ℕ) → IsGroup g → IsReached g w
-    → length letters ≡ roster g → w.letter ≡ letters_of letters → CanWelcome g w m j → MayGet g letters j
-may_get g w letters m j is reached long are can =
-    let y : Known g w = known g w is reached in record {
-      none = ap (λ f. f j) (sym are)
-          ∙ gives-once g y.values w m j is y.chosen.faithful y.chosen.laid y.chosen.letters can;
-      within = omega (
-        arith,
-        long,
-        y.chosen.faithful.views.within (w.past.view m) j
-            (ap (λ k. has k j) (sym (y.chosen.faithful.views.own m)) ∙ can.newcomer),
-      );
-    }
 
 -- so a list is left for it, where after the welcome the letters are those of a reached world
 pub list_left : (g : Group) (after : World) (letters : List (Option (List Entry))) (j left : ℕ) (x : List Entry)

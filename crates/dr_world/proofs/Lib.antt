@@ -3,3 +3,4 @@ pub mod Guarding
 pub mod Effects
 pub mod Beginning
 pub mod Taking
+pub mod Holding

@@ -1,9 +1,8 @@
 -- What is held stays the members of the group, in a world that is reached.
-use Rattle.std.proofs.Common.{◌≡◌, ◌≢◌, refl, sym, ap, ◌∙◌, subst, ℕ, ◌+◌, ◌<◌, ◌≤◌, ◌⊎◌, inl, inr, true, false, not, List, [], ◌∷◌, length, take, get_or, arith}
-use Rattle.std.specs.Prelude.{IfSome, None, Some, is_some, Option}
+use Rattle.std.proofs.Common.{◌≡◌, ◌≢◌, refl, sym, ap, ◌∙◌, subst, ℕ, ◌+◌, ◌<◌, ◌≤◌, ◌⊎◌, inl, inr, true, false, List, [], ◌∷◌, length, take, get_or, arith}
+use Rattle.std.specs.Prelude.{IfSome, None, Some, Option}
 use Rattle.std.proofs.lemmas.Bool.{and_from, and_parts, cases_eq}
-use Rattle.std.proofs.lemmas.List.{get_or_read_under, length-set, take_more}
-use Rattle.std.proofs.lemmas.Option.{same_Some}
+use Rattle.std.proofs.lemmas.List.{length-set, take_more}
 use Rattle.dr_entry.specs.declared.entry.Entry.{Entry}
 use Rattle.dr_form.specs.Letters.{IsFitting}
 use Rattle.dr_history.specs.History.{up_to_view}
@@ -19,22 +18,24 @@ use Rattle.dr_machine.specs.Run.{ComesOfEvents, Happens, Run, WordsGrew}
 use Rattle.dr_program.specs.Replica.{Replica, is_inside, me}
 use Rattle.dr_program.specs.Form.{HasForm, IsOf}
 use Rattle.dr_machine.proofs.Runs.{events_more, events_reached, run_on}
+use Rattle.dr_faithful.proofs.Faithfulness.{of_present, of_roster}
 use Rattle.dr_program.proofs.Fixed.{Told, join_told, told, step_told, of_told}
 use Rattle.dr_program.proofs.Runs.{joins_outside}
 use Rattle.dr_world_laws.proofs.Worlds.{known, words_grew}
 use Rattle.dr_refine.proofs.Steps.{posts_length, stored_length}
 use Rattle.dr_refine.proofs.Tests.{given_welcome}
-use Rattle.dr_room.proofs.Letters.{letter_fits}
+use Rattle.dr_program_laws.proofs.Letters.{letter_fits, may_get}
 use Rattle.dr_world.specs.Held.{Held, its_group, its_world, shared_of, AreMembers, IsHeld}
 use Rattle.dr_program.specs.Reading.{letters_of}
-use Rattle.dr_program.specs.Steps.{allows, given_to, is_free, may_take, sight, stored, stored_letters}
+use Rattle.dr_program.specs.Steps.{allows, given_to, may_take, sight, stored, stored_letters}
 use Rattle.dr_world.specs.Posts.{HasLists, PostsOf, count_filled}
 use Rattle.dr_world.specs.Steps.{IsReadyFor, finds_letter, joined_by, may_come, posts_after, stepped_with}
-use Rattle.dr_world.proofs.Guarding.{is_member, join_or_not, take_test, of_present, of_roster}
+use Rattle.dr_world.proofs.Guarding.{is_member, join_or_not, take_test}
 use Rattle.dr_world.proofs.Effects.{after, in_sight, take_effect}
-use Rattle.dr_world.proofs.Letters.{MayGet, enough_after, list_left, may_get}
+use Rattle.dr_world.proofs.Letters.{enough_after, list_left}
 use Rattle.dr_program.specs.Presence.{present_at, with_present}
-use Rattle.dr_program.proofs.Present.{present_within, present_set, present_kept}
+use Rattle.dr_program.proofs.Present.{present_within, present_set, present_kept, MayGet, set_cases}
+use Rattle.dr_program.proofs.Replicas.{allowed, place_at}
 
 -- ---- what no event changes of a replica
 
@@ -51,18 +52,6 @@ with_told letter table r s = elim (join_or_not s) [
     by (Some es) = join_told r es
 
 -- ---- the members
-
-set_cases : (rs : List (Option Replica)) (m k : ℕ) (q x : Replica) → m < length rs
-    → present_at (with_present rs m q) k ≡ Some x
-    → ((k ≡ m) × (q ≡ x)) ⊎ (present_at rs k ≡ Some x)
-set_cases rs m k q x within there = elim (cases_eq k m) [
-  | inl same ↦ inl (
-    same,
-    same_Some q x (sym (present_set rs m q within) ∙ ap (present_at (with_present rs m q)) (sym same)
-        ∙ there),
-  )
-  | inr other ↦ inr (sym (present_kept rs m k q other) ∙ there)
-]
 
 members_kept : (g : Group) (rs : List (Option Replica)) (m : ℕ) (r q : Replica) → AreMembers g rs
     → present_at rs m ≡ Some r → HasForm q → told q ≡ told r
@@ -102,10 +91,6 @@ pub record MayHappen (h : Held) (e : Event) (r : Replica) : Type 0 where
   pub there : present_at h.replicas (member_of e) ≡ Some r
   pub may : may_take r (step_of e) ≡ true
   pub finds : finds_letter (letters_of h.letters (member_of e)) (step_of e) ≡ true
-
--- a step that may be taken is allowed
-allowed : (r : Replica) (s : Step) → may_take r s ≡ true → allows r s ≡ true
-allowed r s may = (and_parts (is_free r s) (allows r s) (and_parts (not (is_some r.end)) _ may).1).1
 
 -- it happens
 happens_guard : (h : Held) (e : Event) (r : Replica) → MayHappen h e r → Guard (its_group h) (its_world h) e
@@ -255,11 +240,6 @@ refused_event h now e same not_now =
     inr (subst (λ (v : Held). ¬ Guard (its_group v) (its_world v) e) same not_now, refl)
 
 -- ---- as the program finds them
-
--- the place that is read at a number
-pub place_at : (rs : List (Option Replica)) (m n : ℕ) (o : Option Replica) → n ≡ length rs
-    → m < n → o ≡ get_or rs m o → present_at rs m ≡ o
-place_at rs m n o long within read = sym (get_or_read_under rs m n o None read within long)
 
 -- a step that may come there is one of a replica that stands there
 pub may_stand : (h : Held) (m n : ℕ) (e : Event) (first then : Option Replica) (letter : Option (List Entry))

@@ -9,13 +9,15 @@ use Rattle.dr_history.specs.Members.{has, members_below, members_of}
 use Rattle.dr_history.specs.Order.{AreOfRoster, ContinuesAge, IsNewIn}
 use Rattle.dr_history.specs.Places.{AllHeldBelow, front_of, place_of}
 use Rattle.dr_history.proofs.Fronts.{front_is}
+use Rattle.dr_history.proofs.Bits.{has_zero}
+use Rattle.dr_history.proofs.Histories.{none_above}
+use Rattle.dr_history.proofs.Masks.{same_masks}
+use Rattle.dr_history.proofs.Ranks.{length-members_below_suc, some_member}
 use Rattle.dr_history_laws.specs.Courses.{counts_taken, view_in}
 use Rattle.dr_history_laws.proofs.Courses.{ended-steady, members-first, members-next}
 use Rattle.dr_history_laws.proofs.Lists.{slice_get-some}
 use Rattle.dr_history_laws.proofs.Members.{has-member, member-has}
-use Rattle.dr_words.proofs.Bits.{has_zero}
-use Rattle.dr_words.proofs.Masks.{has_above, has_mask_of, has_next_members, in_roster_small, mask_of_small, next_members_small, same_masks}
-use Rattle.dr_words.proofs.Ranks.{length-members_below_suc, some_member}
+use Rattle.dr_words.proofs.Masks.{has_mask_of, has_next_members, in_roster_small, mask_of_small, next_members_small}
 use Rattle.dr_machine.proofs.Presence.{in_roster}
 use Rattle.dr_words.specs.Columns.{recv_column}
 use Rattle.dr_words.specs.Masks.{IsMajorityOf, IsPartOf, next_members}
@@ -185,8 +187,8 @@ views-come g values v is c = same_masks (views_by g values (v + 1))
         ∙ beyond i (has g.opening.present i) _ away
         ∙ sym (has_next_members (views_by g values v) (values v).leavers i small
         ∙ rw (out i away (has (values v).leavers i) refl, gone i away (has (views_by g values v) i) refl) refl)
-    by i (inr above) p e = has_above (views_by g values (v + 1)) i (views-small g values (v + 1) is) above
-        ∙ sym (has_above (next_members (views_by g values v) (values v).leavers) i
+    by i (inr above) p e = none_above (views_by g values (v + 1)) i (views-small g values (v + 1) is) above
+        ∙ sym (none_above (next_members (views_by g values v) (values v).leavers) i
         (next_members_small (views_by g values v) (values v).leavers) above)
 
 -- the members of a mask are no more than those members of another that pass a test, where each is one

@@ -6,10 +6,10 @@ use Rattle.std.proofs.lemmas.List.FromFn.{length-range_with_len}
 use Rattle.dr_entry.specs.declared.record.Value.{Value}
 use Rattle.dr_history.specs.Members.{has, members_below, members_of}
 use Rattle.dr_history.specs.Order.{IsNewIn}
+use Rattle.dr_history.proofs.Bits.{has_ones}
+use Rattle.dr_history.proofs.Ranks.{length-members_below_suc, some_member}
 use Rattle.dr_history_laws.proofs.Members.{members_of-ones}
-use Rattle.dr_words.proofs.Bits.{has_ones}
 use Rattle.dr_words.proofs.Masks.{has_without_mask, in_roster_small, without_small}
-use Rattle.dr_words.proofs.Ranks.{length-members_below_suc, some_member}
 use Rattle.dr_words.specs.Masks.{without}
 use Rattle.dr_machine.specs.Group.{Group, IsGroup, banks, late_members, roster}
 use Rattle.dr_machine.specs.Guards.{CanFinish, MayChoose}

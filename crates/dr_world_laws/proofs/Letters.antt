@@ -7,6 +7,7 @@ use Rattle.dr_entry.specs.declared.entry.Entry.{Entry}
 use Rattle.dr_history.specs.History.{IsPrefixOf, last_view, up_to_view}
 use Rattle.dr_history.specs.Members.{has, members_of}
 use Rattle.dr_history.specs.Order.{IsNewIn}
+use Rattle.dr_history.proofs.Bits.{has_zero}
 use Rattle.dr_history_laws.specs.Courses.{ViewHasEnded, head_of}
 use Rattle.dr_history_laws.proofs.Courses.{course-head, head-steady}
 use Rattle.dr_history_laws.proofs.Heads.{course_up_to, head_view}
@@ -21,7 +22,6 @@ use Rattle.dr_machine.specs.Run.{PastGrew}
 use Rattle.dr_machine.specs.World.{Past, World}
 use Rattle.dr_machine.specs.Writes.{at}
 use Rattle.dr_machine.specs.Effects.{welcomes}
-use Rattle.dr_words.proofs.Bits.{has_zero}
 use Rattle.dr_words.proofs.Masks.{has_mask_of}
 use Rattle.dr_words.specs.Masks.{with_member}
 use Rattle.dr_faithful.proofs.Finishes.{joined_is}

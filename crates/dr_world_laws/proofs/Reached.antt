@@ -11,6 +11,7 @@ use Rattle.dr_history.specs.Members.{has}
 use Rattle.dr_history.specs.History.{GroupView, item_at, last_view, messages_of}
 use Rattle.dr_history.specs.Order.{messages_from}
 use Rattle.dr_history.proofs.NumberedLemmas.{messages_from-View}
+use Rattle.dr_history.proofs.Bits.{has_zero}
 use Rattle.dr_words.specs.declared.column.TheConstants.{RECEIVED_COLUMN, DONE_COLUMN}
 use Rattle.dr_history_laws.specs.Laid.{GoesOn}
 use Rattle.dr_history_laws.proofs.Counting.{index-next}
@@ -19,7 +20,6 @@ use Rattle.dr_history_laws.proofs.Lists.{Contains-slice_get}
 use Rattle.dr_history_laws.proofs.Courses.{course-head, head-ends, head-first}
 use Rattle.dr_history_laws.proofs.Members.{view-distinct}
 use Rattle.dr_history_laws.proofs.SendingLemmas.{GoesOn-none}
-use Rattle.dr_words.proofs.Bits.{has_zero}
 use Rattle.dr_machine.specs.declared.event.Event.{Event}
 use Rattle.dr_machine.specs.Group.{Group, IsGroup, roster}
 use Rattle.dr_machine.specs.Guards.{CanDeliver, CanFinish, CanJoin}

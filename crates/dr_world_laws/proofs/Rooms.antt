@@ -4,9 +4,9 @@ use Rattle.std.proofs.lemmas.Option.{slice_get-get_or}
 use Rattle.dr_history.specs.History.{messages_of}
 use Rattle.dr_history.specs.Members.{has, members_of}
 use Rattle.dr_history.specs.Order.{first_entries}
+use Rattle.dr_history.proofs.Ranks.{some_member}
 use Rattle.dr_history_laws.proofs.Members.{member-has}
 use Rattle.dr_history_laws.proofs.Sizes.{short-course}
-use Rattle.dr_words.proofs.Ranks.{some_member}
 use Rattle.dr_machine.specs.Group.{Group, IsGroup, banks, roster}
 use Rattle.dr_machine.specs.World.{World}
 use Rattle.dr_faithful.specs.Chosen.{Values, endings_by, views_by}

@@ -6,7 +6,7 @@ use Rattle.std.proofs.lemmas.List.FromFn.{length-map-range_with_len}
 use Rattle.std.proofs.lemmas.Option.{slice_get-get_or, slice_get_within}
 use Rattle.dr_entry.specs.declared.end.SentItem.{SentItem}
 use Rattle.dr_entry.specs.declared.end.SentItem.TheVariants.{Index}
-use Rattle.dr_history.proofs.Fronts.{count_max}
+use Rattle.dr_entry.proofs.ListPlaces.{count_max}
 use Rattle.dr_history.proofs.NumberedLemmas.{length-numbered_messages, messages_from-append}
 use Rattle.dr_history.specs.declared.opening.Opening.{Opening}
 use Rattle.dr_history.specs.History.{GroupView, IsPrefixOf, messages_in}

@@ -1,30 +1,34 @@
 -- What is known of every world that is reached.
-use Rattle.std.proofs.Common.{[], ◌∷◌, ◌⊎◌, Contains, List, None, refl, inl, inr, arith, ap, length, map, slice_index, subst, sym, false, ℕ, ◌++◌, ◌<◌, ◌∙◌, ◌≡◌, ◌≢◌, ◌≤◌, Some}
+use Rattle.std.proofs.Common.{[], ◌∷◌, ◌⊎◌, Contains, List, None, refl, inl, inr, arith, ap, length, map, slice_index, subst, sym, false, ℕ, ◌++◌, ◌<◌, ◌∙◌, ◌≡◌, ◌≢◌, ◌≤◌, Some, ◌+◌, true}
 use Rattle.std.proofs.lemmas.List.Elements.{All-tail}
+use Rattle.std.proofs.lemmas.Option.{slice_get-get_or}
 use Rattle.dr_entry.specs.declared.end.End.TheVariants.{Done}
 use Rattle.dr_entry.specs.declared.record.Value.{Value}
 use Rattle.dr_entry.specs.declared.record.Vote.{Vote}
 use Rattle.dr_history.specs.History.{messages_of}
 use Rattle.dr_history.specs.Members.{has, members_of}
-use Rattle.dr_history.specs.Order.{InOrder, first_entries, messages_from}
+use Rattle.dr_history.specs.Order.{InOrder, first_entries, messages_from, IsLateIn, IsNewIn}
 use Rattle.dr_history.specs.Places.{front_of}
 use Rattle.dr_history.specs.Agreement.{Accounts, Agreed}
-use Rattle.dr_history_laws.specs.Courses.{counts_taken}
+use Rattle.dr_history_laws.specs.Courses.{counts_taken, ViewHasEnded}
 use Rattle.dr_history_laws.specs.Laid.{GoesOn, first_view, laid}
 use Rattle.dr_history_laws.proofs.Courses.{head-first}
 use Rattle.dr_history_laws.specs.Remaining.{remaining}
+use Rattle.dr_history_laws.proofs.Members.{member-has}
+use Rattle.dr_history_laws.proofs.Keeping.{prefix_shorter}
 use Rattle.dr_words.specs.Masks.{IsLeastOf}
 use Rattle.dr_machine.specs.Acts.{Guard, effect}
 use Rattle.dr_machine.specs.declared.event.Event.{Event}
 use Rattle.dr_machine.specs.Effects.{counts_by}
 use Rattle.dr_machine.specs.Events.{member_of, step_of}
-use Rattle.dr_machine.specs.Group.{Group, IsGroup, roster}
-use Rattle.dr_machine.specs.Guards.{CanFinish, HoldsAll, MayChoose, unsuspected_of}
+use Rattle.dr_machine.specs.Group.{Group, IsGroup, roster, IsPresent}
+use Rattle.dr_machine.specs.Guards.{CanFinish, HoldsAll, MayChoose, unsuspected_of, CanWelcome}
 use Rattle.dr_machine.proofs.Runs.{by_way, last_or_before, reached}
 use Rattle.dr_machine.specs.Run.{ComesNext, IsReached, NoLaterItem, PastGrew, Way, WordsGrew, WorldAgreed}
 use Rattle.dr_machine.specs.Sending.{IsPut}
 use Rattle.dr_machine.specs.Votes.{HasLogged, IsOf, MajorityHas}
 use Rattle.dr_machine.specs.World.{World}
+use Rattle.dr_machine.proofs.Presence.{in_roster}
 use Rattle.dr_faithful.proofs.Faithfulness.{none_later, past_on_event, words_on}
 use Rattle.dr_faithful.proofs.Late.{arrived_grew}
 use Rattle.dr_faithful.proofs.Pasts.{past_on, past_same}
@@ -51,6 +55,7 @@ use Rattle.dr_world_laws.proofs.Messages as messages
 use Rattle.dr_world_laws.proofs.Once.{same-views, voted-since}
 use Rattle.dr_world_laws.proofs.Reached as worlds
 use Rattle.dr_world_laws.proofs.Remaining as remainders
+use Rattle.dr_world_laws.proofs.ChosenViews.{ending-next}
 
 -- a world that is reached, and values by which it is
 pub record Known (g : Group) (w : World) : Type 0 where
@@ -281,3 +286,40 @@ quiet g w m is r = reached g AreQuiet
     (λ u e run can y. let t = known g u is run in
     step_quiet g (views_by g t.values) u (member_of e) (step_of e) is (faithful g u t) can y)
     (λ u table y. y) (λ k calm. (refl, refl)) w r m
+
+-- a newcomer of a view is late
+pub newcomer_late : (g : Group) (w : World) (m j : ℕ) → IsGroup g → Known g w → CanWelcome g w m j
+    → IsLateIn g.opening j
+newcomer_late g w m j is y can = fresh (ended.newcomers j next)
+  where
+    f : Faithful g (views_by g y.values) w
+    f = y.chosen.faithful
+
+    was : (u : ℕ) × (w.past.view m ≡ u + 1) × (w.came_from m ≡ views_by g y.values u)
+    was = f.views.came m can.welcomer
+
+    ended : ViewHasEnded g.opening w.past.sent (endings_by g.opening y.values) was.0
+    ended = (y.chosen.laid.left m was.0 (in_roster g m is can.may.alive.present) (omega (arith, was.1))).ended
+
+    next : has (endings_by g.opening y.values was.0).next j ≡ true
+    next = ap (λ k. has k j) (ending-next g y.values was.0) ∙ subst (λ v. has (views_by g y.values v) j ≡ true) was.1
+        (ap (λ k. has k j) (sym (f.views.own m)) ∙ can.newcomer)
+
+    fresh : Contains (members_of (views_by g y.values was.0)) j
+        ⊎ IsNewIn g.opening (views_by g y.values) was.0 j → IsLateIn g.opening j
+    fresh (inl c) =
+        let there : has (views_by g y.values was.0) j ≡ true = member-has (views_by g y.values was.0) c.0 j
+        (slice_get-get_or (members_of (views_by g y.values was.0)) c.0 j c.1 ∙ ap Some c.2) in
+        absurd (cc (there, ap (λ k. has k j) (sym was.2) ∙ can.new))
+    fresh (inr new) = new.late
+
+-- a member has delivered all that it knows to be durable
+pub durable_delivered : (g : Group) (w : World) (m : ℕ) → IsGroup g → IsReached g w → IsPresent g m
+    → w.past.durable m ≤ length (w.past.history m)
+durable_delivered g w m is reached there =
+    let agrees = agreed g w is (known g w is reached) in
+    omega (
+      arith,
+      (agrees.durable m there).own,
+      prefix_shorter (w.past.log m) (w.past.history m) (agrees.logged m there),
+    )

@@ -14,7 +14,7 @@ use std::alloc::Global;
 /// # Errors
 ///
 /// That they are no JSON; no line where memory was wanting.
-#[tactic(auto, using(crate::proofs::Spelling::json_of_text, crate::proofs::Spelling::json_of_none))]
+#[tactic(auto, using(dr_script::proofs::JsonLemmas::json_of_text, dr_script::proofs::JsonLemmas::json_of_none))]
 pub(crate) fn value_of(alloc: Global, bytes: &[u8]) -> Result<Value, Option<Last>>
     ensures ok { IfOk result (λ v. json_of bytes.now ≡ Some (view v)) }
     ensures not_json { IsErrOf result (Some NotJson) → json_of bytes.now ≡ None }
@@ -41,7 +41,7 @@ pub(crate) fn handed_in(value: &Value) -> Option<(&str, &str)>
 }
 
 /// Whether a value is an object with two keys.
-#[tactic(auto, using(crate::proofs::Spelling::count_of_keys))]
+#[tactic(auto, using(dr_script::proofs::JsonLemmas::count_of_keys))]
 fn has_two_keys(value: &Value) -> bool
     ensures { result ≡ has_two_keys (view value.now) }
 {

@@ -1,4 +1,4 @@
-use Rattle.dr_order.proofs.Fronts.{IsFront-first_least}
+use Rattle.dr_history.proofs.FrontLemmas.{IsFront-first_least}
 use Rattle.dr_order.proofs.front.Goals as goal
 
 pub returns : goal.returns

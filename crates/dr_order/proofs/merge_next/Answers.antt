@@ -1,5 +1,5 @@
 use Rattle.std.proofs.Common.{arith}
-use Rattle.dr_order.proofs.Merges.{not_held_after}
+use Rattle.dr_history.proofs.Places.{not_held_after}
 use Rattle.dr_order.proofs.merge_next.Goals as goal
 
 pub returns : goal.returns

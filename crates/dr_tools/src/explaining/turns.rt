@@ -54,7 +54,7 @@ pub(crate) fn turns_taken(alloc: Global, script: Script) -> Result<u32, AllocErr
 }
 
 /// The script without its faults, in lockstep, with turns enough.
-#[tactic(auto, using(crate::proofs::Calm::few_turns))]
+#[tactic(auto, using(dr_complete::proofs::Enough::few_turns))]
 fn calm_script(alloc: Global, script: Script) -> Script
     requires { HasRanges script }
     ensures calm { result ≡ with_turns (calm_group script) (turns_enough script) }

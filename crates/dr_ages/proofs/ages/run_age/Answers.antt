@@ -10,6 +10,9 @@ use Rattle.dr_logged.specs.Served.{HaveSamePlaces}
 use Rattle.dr_opening.specs.Lists.{contents_of, log_of}
 use Rattle.dr_script.specs.declared.script.Script.{Script}
 use Rattle.dr_yard.specs.Yards.{YardState, state_by}
+use Rattle.dr_program.proofs.Programs.{place_past}
+use Rattle.dr_logged.proofs.Served.{places_same}
+use Rattle.dr_opening.proofs.Lists.{stays_none, was_none}
 use Rattle.dr_ages.specs.Ages.{IsAgeOf}
 use Rattle.dr_ages.specs.Lacking.{LackedMemory}
 use Rattle.dr_ages.specs.Lent.{AreAllBut, AreMounted, with_logs}
@@ -17,7 +20,7 @@ use Rattle.dr_ages.specs.Opened.{AreChosenOf}
 use Rattle.dr_ages.specs.Passing.{AreUntouched, GoesOn}
 use Rattle.dr_ages.specs.Stops.{AreChosenIn, HasStopped, NamesFaults}
 use Rattle.dr_ages.specs.Tried.{AreTried}
-use Rattle.dr_ages.proofs.Backs.{AreAllBack, after_is, faults_at, faults_none, kept_back, later_back, log_at, missing_at, none_at, passed_back, place_past, same_places, stays_none, told_none, was_none}
+use Rattle.dr_ages.proofs.Backs.{AreAllBack, after_is, faults_at, faults_none, kept_back, later_back, log_at, missing_at, none_at, passed_back, told_none}
 use Rattle.dr_ages.proofs.Chain.{none_kept}
 use Rattle.dr_ages.proofs.Lacking.{lacked_first, lacked_mount}
 use Rattle.dr_ages.proofs.Loans.{are_found, lent_later, mounted_below, refused_mounted, refused_names, refused_stop, stopped_mounted}
@@ -165,7 +168,7 @@ returns-clause-stopped g c = elim c.match-mount_all.branch [
       (λ m past. (are_back m).0 ∙ told_none told faults (mid g c) logs m (place_past logs m past))
       (kept_back told faults c.args.script.now.members c.args.part.now.missing [] (before g c) (mid g c) (after g c)
       logs logs c.mount_all.ensures.mounted c.mount_all.ensures.places (on_still told faults [] logs)
-      (same_places logs) c.mount_all.ensures.on are_back)
+      (places_same logs) c.mount_all.ensures.on are_back)
       w.in-Err.ensures.stopped)
 ]
 
@@ -209,11 +212,11 @@ returns-clause-kept g c = elim c.match-mount_all.branch [
         chosen = inl refl;
         since = kept_back told faults members missing [] (before g c) (mid g c)
             (after g c) logs logs c.mount_all.ensures.mounted c.mount_all.ensures.places
-            (on_still told faults [] logs) (same_places logs) c.mount_all.ensures.on are_back;
+            (on_still told faults [] logs) (places_same logs) c.mount_all.ensures.on are_back;
         passes = passed_back told faults [] (before g c) (mid g c) (after g c) logs logs
-            c.mount_all.ensures.mounted (on_still told faults [] logs) (same_places logs) (on g c []) are_back;
+            c.mount_all.ensures.mounted (on_still told faults [] logs) (places_same logs) (on g c []) are_back;
         untouched = untouched_back told faults missing (before g c) (mid g c) (after g c) logs logs
-            c.mount_all.ensures.places (same_places logs) c.mount_all.ensures.untouched are_back;
+            c.mount_all.ensures.places (places_same logs) c.mount_all.ensures.untouched are_back;
         count = refused_mounted members missing (length logs) (before g c) (mid g c) (after g c) w.in-Err.stop
             (mounted_below told faults missing (before g c) (mid g c) (after g c) logs
             c.mount_all.ensures.mounted c.mount_all.ensures.places are_back) w.in-Err.ensures.stopped;
@@ -243,7 +246,7 @@ returns-clause-lacked g c = elim c.match-mount_all.branch [
       c.mount_all.ensures.places are_back)
       (kept_back told faults c.args.script.now.members missing [] (before g c) (mid g c) (after g c)
       logs logs c.mount_all.ensures.mounted c.mount_all.ensures.places (on_still told faults [] logs)
-      (same_places logs) c.mount_all.ensures.on are_back)
+      (places_same logs) c.mount_all.ensures.on are_back)
       (λ m l. low g c m l (has missing m) refl are_back)
       (λ m past. (are_back m).1 ∙ faults_none told faults (mid g c) logs m (place_past logs m past))
       w.in-Err.ensures.stopped)

@@ -1,6 +1,7 @@
 use Rattle.std.proofs.Common.{◌≡◌, ◌<◌, ◌∙◌, refl, sym, ap, subst, inr, length, ℕ, List, [], ◌∷◌, Option}
 use Rattle.std.specs.Prelude.{OnErr}
 use Rattle.std.proofs.lemmas.List.{with_items_is}
+use Rattle.dr_entry.proofs.OptionFacts.{err_at, ok_at}
 use Rattle.dr_age.specs.Logged.{AreAmple, AreAsBefore, AreCalm, AreOpened, HaveCome}
 use Rattle.dr_log.specs.State.{LogState}
 use Rattle.dr_logged.specs.Served.{HaveSamePlaces}
@@ -10,6 +11,9 @@ use Rattle.dr_opening.specs.Tries.{IsChosenOf}
 use Rattle.dr_opening.specs.Unopened.{IsWhyUnopened}
 use Rattle.dr_restart.specs.declared.start.Start.{Start}
 use Rattle.dr_restart.specs.Groups.{first_group_of, group_of}
+use Rattle.dr_logged.proofs.Served.{places_both}
+use Rattle.dr_opening.proofs.Lists.{contents_there}
+use Rattle.dr_opening.proofs.Logs.{opened_places, why_places}
 use Rattle.dr_ages.specs.declared.mode.Mode.TheVariants.{Sim}
 use Rattle.dr_ages.specs.declared.stop.Stop.{Stop}
 use Rattle.dr_ages.specs.Ages.{over_of}
@@ -19,11 +23,9 @@ use Rattle.dr_ages.specs.Opened.{AreLater, HaveGoneOn}
 use Rattle.dr_ages.specs.Stops.{HasStopped, IsBehindMounts, NamesFaults}
 use Rattle.dr_ages.specs.Tried.{AreTried}
 use Rattle.dr_ages.specs.Watched.{HasSeen}
-use Rattle.dr_ages.proofs.Backs.{places_then}
 use Rattle.dr_ages.proofs.Lacking.{lacked_age, lacked_opening}
-use Rattle.dr_ages.proofs.Loans.{contents_there}
-use Rattle.dr_ages.proofs.Opening.{are_opened, gone_on, opened_on, opened_places, why_places}
-use Rattle.dr_ages.proofs.Played.{err_at, is_age, later_on, ok_at, same_start, somebody_prompt}
+use Rattle.dr_ages.proofs.Opening.{are_opened, gone_on, opened_on}
+use Rattle.dr_ages.proofs.Played.{is_age, later_on, same_start, somebody_prompt}
 use Rattle.dr_ages.proofs.Staying.{later_by_all}
 use Rattle.dr_ages.proofs.Stopping.{why_behind, why_names, why_stops}
 use Rattle.dr_ages.proofs.Tried.{why_tried}
@@ -234,7 +236,7 @@ same_places : (g : Over) (c : After-play_age-ended g)
     → HaveSamePlaces c.args.logs.items c.play_age-ended.result.1.items
 same_places g c =
     let same = with_items_is c.args.logs c.open_age.new.logs (same_logs g c ∙ c.as_mut_slice.ensures.len) in
-    places_then c.args.logs.items c.open_age.new.logs c.play_age-ended.result.1.items
+    places_both c.args.logs.items c.open_age.new.logs c.play_age-ended.result.1.items
     (opened_places g.D.Disk.told g.D.Disk.faults c.in-Ok.start c.args.logs.items c.open_age.new.logs (began g c))
     (subst (λ (l : Logs g). HaveSamePlaces l c.play_age-ended.result.1.items) same c.play_age-ended.ensures.places)
 

@@ -4,7 +4,8 @@ use Rattle.std.specs.Option.{option_map_or}
 use Rattle.dr_log.specs.State.{LogState}
 use Rattle.dr_opening.specs.Lists.{log_of}
 use Rattle.dr_yard.specs.Yards.{state_by}
-use Rattle.dr_ages.proofs.Backs.{one_more_back, place_new}
+use Rattle.dr_program.proofs.Present.{place_new}
+use Rattle.dr_ages.proofs.Backs.{one_more_back}
 use Rattle.dr_ages.proofs.Loans.{lent_less}
 use Rattle.dr_ages.proofs.lending.give_all_back.Goals as goal
 

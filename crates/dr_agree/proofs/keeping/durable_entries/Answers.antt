@@ -1,8 +1,8 @@
 use Rattle.std.proofs.Common.{sym, arith}
 use Rattle.std.proofs.lemmas.List.{length-take-le}
 use Rattle.dr_machine.proofs.Runs.{events_reached}
+use Rattle.dr_world_laws.proofs.Worlds.{durable_delivered}
 use Rattle.dr_world.specs.Held.{its_group, its_world}
-use Rattle.dr_agree.proofs.Durable.{durable_delivered}
 use Rattle.dr_agree.proofs.keeping.durable_entries.Goals as goal
 
 pub slice_bounds-result-end : goal.slice_bounds-result-end

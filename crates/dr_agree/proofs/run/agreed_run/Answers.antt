@@ -3,8 +3,8 @@ use Rattle.dr_machine.proofs.Runs.{run_reached}
 use Rattle.dr_restart.specs.Groups.{group_of}
 use Rattle.dr_world.specs.Held.{its_world}
 use Rattle.dr_world_laws.proofs.Worlds.{Known, agreed, known, no_later}
+use Rattle.dr_world.proofs.Holding.{from_opening}
 use Rattle.dr_agree.proofs.Certain.{done_hold_all, views_agreed, whole_are_one}
-use Rattle.dr_agree.proofs.Runs.{from_opening}
 use Rattle.dr_agree.proofs.run.agreed_run.Goals as goal
 
 pub returns : goal.returns

@@ -1,6 +1,6 @@
 use Rattle.std.proofs.Common.{◌==◌, sym, ◌∙◌, arith, length}
 use Rattle.std.proofs.lemmas.List.Sums.{position_or_len_is}
-use Rattle.dr_check.proofs.Splitting.{none_more}
+use Rattle.dr_entry.proofs.ListFacts.{none_more}
 use Rattle.dr_check.proofs.fields.comma_at.Goals as goal
 
 pub returns-then-is_comma-clause-first : goal.returns-then-is_comma-clause-first

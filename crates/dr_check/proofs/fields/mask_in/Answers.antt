@@ -2,11 +2,12 @@ use Rattle.std.proofs.Common.{◌≡◌, ◌+◌, ◌<◌, ◌==◌, sym, ap, �
 use Rattle.std.specs.List.{position_or_len}
 use Rattle.std.proofs.lemmas.Bool.{eqb-true, false≢true}
 use Rattle.std.proofs.lemmas.List.Elements.{All-head, All-tail, Contains-get_or}
+use Rattle.dr_entry.proofs.Bits.{joined_none}
+use Rattle.dr_entry.proofs.ListFacts.{number_first, joined}
 use Rattle.dr_history.specs.Members.{members_of}
 use Rattle.dr_history_laws.proofs.Members.{members_of-lt}
 use Rattle.dr_words.specs.Masks.{with_member}
-use Rattle.dr_check.proofs.MaskNumbers.{joined_none, number_first, with_all, with_all_members}
-use Rattle.dr_check.proofs.Splitting.{joined}
+use Rattle.dr_words.proofs.Masks.{with_all, with_all_members}
 use Rattle.dr_check.proofs.fields.mask_in.Goals as goal
 
 pub loop-rest-init : goal.loop-rest-init

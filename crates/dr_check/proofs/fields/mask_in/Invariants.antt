@@ -1,6 +1,6 @@
 use Rattle.std.proofs.Common.{◌≡◌, ◌<◌, All, List, ℕ, length}
-use Rattle.dr_check.proofs.MaskNumbers.{with_all}
-use Rattle.dr_check.proofs.Splitting.{joined}
+use Rattle.dr_entry.proofs.ListFacts.{joined}
+use Rattle.dr_words.proofs.Masks.{with_all}
 use Rattle.dr_check.proofs.fields.mask_in.Given as goal
 
 abbrev pub invariant-loop-rest : goal.invariant-loop-rest

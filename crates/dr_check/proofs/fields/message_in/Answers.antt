@@ -2,7 +2,7 @@ use Rattle.std.proofs.Common.{◌≡◌, ◌⊎◌, inl, inr, ap, ◌∙◌, ari
 use Rattle.std.proofs.lemmas.Bool.Decides.{not_from_Decides}
 use Rattle.hex.specs.Hex.{decode_of}
 use Rattle.hex.specs.declared.error.FromHexError.TheVariants.{OutOfMemory}
-use Rattle.dr_check.proofs.Hexes.{err_message, ok_message}
+use Rattle.dr_text.proofs.Hex.{err_message, ok_message}
 use Rattle.dr_check.proofs.fields.message_in.Goals as goal
 
 pub returns-in-Ok-clause-value : goal.returns-in-Ok-clause-value

@@ -1,11 +1,12 @@
 use Rattle.std.proofs.Common.{◌≡◌, sym, ◌∙◌, subst}
 use Rattle.std.specs.Prelude.{IfNone, IfSome}
 use Rattle.std.proofs.lemmas.Option.{same_Some}
+use Rattle.dr_entry.proofs.ListPlaces.{read_at}
+use Rattle.dr_entry.proofs.OptionFacts.{none_keeps, some_breaks}
 use Rattle.dr_check.specs.declared.report.ReportAge.{ReportAge}
 use Rattle.dr_check.specs.Clauses.{AgeItself}
 use Rattle.dr_check.specs.Flaws.{MemberKeeps, MemberBreaks}
 use Rattle.dr_check.specs.Firsts.{AllKeep, FirstBreaks}
-use Rattle.dr_check.proofs.Loops.{read_at, none_keeps, some_breaks}
 use Rattle.dr_check.proofs.judging.breach_of_age.Goals as goal
 
 pub returns-clause-none : goal.returns-clause-none

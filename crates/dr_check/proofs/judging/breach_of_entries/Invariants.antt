@@ -1,7 +1,7 @@
 use Rattle.std.proofs.Common.{◌-◌, length, take}
+use Rattle.dr_entry.proofs.ListFacts.{KeepBelow}
 use Rattle.dr_check.specs.Flaws.{EntryKeeps, own_entries}
 use Rattle.dr_check.specs.Past.{IsPast}
-use Rattle.dr_check.proofs.Loops.{KeepBelow}
 use Rattle.dr_check.proofs.judging.breach_of_entries.Given as goal
 
 abbrev pub invariant-loop-at : goal.invariant-loop-at

@@ -1,8 +1,9 @@
 use Rattle.std.proofs.Common.{◌+◌, ◌<◌, ◌≤◌, ap, subst, refl, length, arith, Option, ℕ}
 use Rattle.std.specs.Prelude.{IfNone, IfSome}
+use Rattle.dr_entry.proofs.ListPlaces.{below_more}
 use Rattle.dr_history_laws.proofs.Lists.{slice_get-some}
 use Rattle.dr_check.specs.Flaws.{MemberKeeps, MemberBreaks}
-use Rattle.dr_check.proofs.Loops.{below_more, below_all, first_breaks}
+use Rattle.dr_check.proofs.Loops.{below_all, first_breaks}
 use Rattle.dr_check.proofs.judging.breach_of_members.Goals as goal
 
 pub returns-in-Some-clause-some : goal.returns-in-Some-clause-some

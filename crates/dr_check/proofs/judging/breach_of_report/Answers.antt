@@ -1,9 +1,10 @@
 use Rattle.std.proofs.Common.{◌≡◌, ◌+◌, ◌<◌, ◌≤◌, Some, slice_get, ap, ◌∙◌, subst, refl, length, arith, Option, ℕ, List}
 use Rattle.std.specs.Prelude.{IfNone, IfSome}
+use Rattle.dr_entry.proofs.ListPlaces.{below_more}
 use Rattle.dr_history_laws.proofs.Lists.{slice_get-some}
 use Rattle.dr_check.specs.declared.report.ReportAge.{ReportAge}
 use Rattle.dr_check.specs.Flaws.{AgeKeeps, AgeBreaks}
-use Rattle.dr_check.proofs.Loops.{below_more, below_all, first_breaks}
+use Rattle.dr_check.proofs.Loops.{below_all, first_breaks}
 use Rattle.dr_check.proofs.judging.breach_of_report.Goals as goal
 
 pub returns-in-Some-clause-some : goal.returns-in-Some-clause-some

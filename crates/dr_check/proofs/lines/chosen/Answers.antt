@@ -2,8 +2,8 @@ use Rattle.std.proofs.Common.{◌≡◌, ap, sym, ◌∙◌, refl}
 use Rattle.std.specs.Bool.{then_some}
 use Rattle.std.proofs.lemmas.Bool.Decides.{Decides-eqb}
 use Rattle.std.proofs.lemmas.Slice.Eq.{slice_eq-Decides}
+use Rattle.dr_entry.proofs.ListFacts.{some_where}
 use Rattle.dr_check.specs.declared.line.Line.{Line}
-use Rattle.dr_check.proofs.LineFields.{some_where}
 use Rattle.dr_check.proofs.lines.chosen.Goals as goal
 
 pub returns-clause-some : goal.returns-clause-some

@@ -1,9 +1,10 @@
 use Rattle.std.proofs.Common.{◌≡◌, ◌<◌, sym, ap, ◌∙◌, arith, ℕ}
+use Rattle.dr_entry.proofs.OptionFacts.{iff_ok}
 use Rattle.dr_text.specs.Report.{last_text}
 use Rattle.dr_text.specs.declared.last.Last.TheVariants.{Disagree}
 use Rattle.dr_check.specs.Lasts.{TellsDisagreement}
 use Rattle.dr_check.proofs.LineFields.{field_of}
-use Rattle.dr_check.proofs.LastFields.{iff_ok, disagree_fields}
+use Rattle.dr_check.proofs.LastFields.{disagree_fields}
 use Rattle.dr_check.proofs.lines.is_disagreement.Goals as goal
 
 pub returns-then-a-ge16 : goal.returns-then-a-ge16

@@ -1,9 +1,10 @@
 use Rattle.std.proofs.Common.{◌≡◌, ◌<◌, sym, ◌∙◌, subst, arith, ℕ}
+use Rattle.dr_entry.proofs.OptionFacts.{iff_ok}
 use Rattle.dr_text.specs.Report.{last_text}
 use Rattle.dr_text.specs.declared.last.Last.TheVariants.{DiskFault}
 use Rattle.dr_check.specs.Lasts.{TellsDiskFault}
 use Rattle.dr_check.proofs.LineFields.{field_of}
-use Rattle.dr_check.proofs.LastFields.{iff_ok, disk_fields}
+use Rattle.dr_check.proofs.LastFields.{disk_fields}
 use Rattle.dr_check.proofs.lines.is_disk_fault.Goals as goal
 
 pub returns : goal.returns

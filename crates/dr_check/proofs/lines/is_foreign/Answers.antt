@@ -1,9 +1,10 @@
 use Rattle.std.proofs.Common.{◌≡◌, ◌<◌, sym, ap, ◌∙◌, subst, arith, ℕ}
+use Rattle.dr_entry.proofs.OptionFacts.{iff_ok}
 use Rattle.dr_text.specs.Report.{last_text}
 use Rattle.dr_text.specs.declared.last.Last.TheVariants.{Foreign}
 use Rattle.dr_check.specs.Lasts.{TellsForeign}
 use Rattle.dr_check.proofs.LineFields.{field_of}
-use Rattle.dr_check.proofs.LastFields.{iff_ok, foreign_fields}
+use Rattle.dr_check.proofs.LastFields.{foreign_fields}
 use Rattle.dr_check.proofs.lines.is_foreign.Goals as goal
 
 pub returns : goal.returns

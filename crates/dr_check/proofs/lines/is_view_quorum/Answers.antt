@@ -1,9 +1,10 @@
 use Rattle.std.proofs.Common.{◌≡◌, sym, ap, ◌∙◌, ℕ, Some}
+use Rattle.dr_entry.proofs.OptionFacts.{iff_ok}
 use Rattle.dr_text.specs.Report.{last_text}
 use Rattle.dr_text.specs.declared.last.Last.TheVariants.{NoQuorum}
 use Rattle.dr_check.specs.Lasts.{TellsViewQuorum}
 use Rattle.dr_check.proofs.LineFields.{field_of}
-use Rattle.dr_check.proofs.LastFields.{iff_ok, quorum_fields}
+use Rattle.dr_check.proofs.LastFields.{quorum_fields}
 use Rattle.dr_check.proofs.lines.is_view_quorum.Goals as goal
 
 pub returns : goal.returns

@@ -1,10 +1,10 @@
 use Rattle.std.proofs.Common.{ap, ◌∙◌}
 use Rattle.std.specs.Bool.{then_some}
+use Rattle.dr_entry.proofs.ListFacts.{some_where}
 use Rattle.dr_check.specs.declared.line.Line.{Line}
 use Rattle.dr_check.specs.declared.line.Line.TheVariants.{Last}
 use Rattle.dr_check.specs.Lines.{IsLineText}
 use Rattle.dr_check.proofs.LastFields.{last_of, of_last}
-use Rattle.dr_check.proofs.LineFields.{some_where}
 use Rattle.dr_check.proofs.lines.read_last.Goals as goal
 
 pub returns-clause-some : goal.returns-clause-some

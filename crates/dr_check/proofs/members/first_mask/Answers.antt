@@ -1,8 +1,8 @@
 use Rattle.std.proofs.Common.{◌≡◌, None, slice_get, length, sym, ap, ◌∙◌, arith}
 use Rattle.std.proofs.lemmas.Grind.{common_steps}
 use Rattle.std.proofs.lemmas.Option.{gets}
+use Rattle.dr_history.proofs.Masks.{nobody}
 use Rattle.dr_check.specs.Clauses.{members_named}
-use Rattle.dr_check.proofs.Named.{nobody}
 use Rattle.dr_check.proofs.members.first_mask.Goals as goal
 
 pub returns-in-None : goal.returns-in-None

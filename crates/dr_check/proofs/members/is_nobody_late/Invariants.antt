@@ -1,6 +1,6 @@
 use Rattle.std.proofs.Common.{◌≡◌, Contains, true}
+use Rattle.dr_entry.proofs.ListFacts.{KeepBelow}
 use Rattle.dr_check.specs.Clauses.{first_members}
-use Rattle.dr_check.proofs.Loops.{KeepBelow}
 use Rattle.dr_check.proofs.members.is_nobody_late.Given as goal
 
 abbrev pub invariant-loop-s : goal.invariant-loop-s

@@ -1,4 +1,4 @@
-use Rattle.dr_check.proofs.Named.{nobody}
+use Rattle.dr_history.proofs.Masks.{nobody}
 use Rattle.dr_check.proofs.members.mask_of.Goals as goal
 
 pub returns-in-Msg : goal.returns-in-Msg

@@ -1,4 +1,5 @@
-use Rattle.dr_check.proofs.Feeds.{free_more, line_alone, line_at}
+use Rattle.dr_entry.proofs.ListFacts.{free_more}
+use Rattle.dr_check.proofs.Feeds.{line_alone, line_at}
 use Rattle.dr_check.proofs.reading.line_end.Goals as goal
 
 pub returns-then-bytes-at-eq10-clause-first : goal.returns-then-bytes-at-eq10-clause-first

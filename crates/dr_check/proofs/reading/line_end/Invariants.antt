@@ -1,5 +1,5 @@
 use Rattle.std.proofs.Common.{◌≡◌, take, true}
-use Rattle.dr_check.proofs.Feeds.{is_free}
+use Rattle.dr_entry.proofs.ListFacts.{is_free}
 use Rattle.dr_check.proofs.reading.line_end.Given as goal
 
 abbrev pub invariant-loop-at : goal.invariant-loop-at

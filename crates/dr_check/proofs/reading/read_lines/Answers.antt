@@ -1,13 +1,14 @@
 use Rattle.std.proofs.Common.{◌≡◌, ◌+◌, ◌∷◌, sym, ap, ◌∙◌, arith, subst, length, List, Some, None, ◌⊎◌, slice_get, drop}
 use Rattle.std.specs.Prelude.{Option, IfNone, IfSome}
 use Rattle.std.proofs.lemmas.Bool.{eqb-true}
+use Rattle.dr_entry.proofs.ListFacts.{no_members}
 use Rattle.dr_check.specs.declared.course.Course.{Course}
 use Rattle.dr_check.specs.declared.line.Line.{Line}
 use Rattle.dr_check.specs.Course.{beginning, next_course}
 use Rattle.dr_check.specs.Grammar.{IsNoReportAt}
 use Rattle.dr_check.specs.Lines.{IsLineText, lines_of}
 use Rattle.dr_check.specs.Progress.{HasRead, IsOnly}
-use Rattle.dr_check.proofs.Ending.{all_read, no_end, no_members, none_read, one_more, stops}
+use Rattle.dr_check.proofs.Ending.{all_read, no_end, none_read, one_more, stops}
 use Rattle.dr_check.proofs.reading.read_lines.Goals as goal
 
 pub loop-rest-init : goal.loop-rest-init

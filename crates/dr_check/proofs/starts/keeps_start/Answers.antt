@@ -1,10 +1,11 @@
 use Rattle.std.proofs.Common.{◌≡◌, ◌+◌, ◌≤◌, Some, take, slice_get, sym, ap, ◌∙◌, subst, arith, refl, List, length}
 use Rattle.std.proofs.lemmas.List.{take_all}
 use Rattle.dr_entry.specs.declared.entry.Entry.{Entry}
+use Rattle.dr_entry.proofs.ListPlaces.{below_more, read_at}
 use Rattle.dr_history.specs.History.{view_of}
 use Rattle.dr_check.specs.Clauses.{MayStart}
 use Rattle.dr_check.specs.Past.{IsPast}
-use Rattle.dr_check.proofs.Loops.{below_more, below_all, read_at}
+use Rattle.dr_check.proofs.Loops.{below_all}
 use Rattle.dr_check.proofs.starts.keeps_start.Goals as goal
 
 pub loop-at-preserved : goal.loop-at-preserved

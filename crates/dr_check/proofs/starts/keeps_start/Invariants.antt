@@ -1,7 +1,7 @@
 use Rattle.std.proofs.Common.{take}
+use Rattle.dr_entry.proofs.ListFacts.{KeepBelow}
 use Rattle.dr_check.specs.Clauses.{MayStart}
 use Rattle.dr_check.specs.Past.{IsPast}
-use Rattle.dr_check.proofs.Loops.{KeepBelow}
 use Rattle.dr_check.proofs.starts.keeps_start.Given as goal
 
 abbrev pub invariant-loop-at : goal.invariant-loop-at

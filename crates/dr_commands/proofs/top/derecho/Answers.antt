@@ -1,13 +1,13 @@
 -- The clauses say in each case what the course of the call and what was written of it say.
 use Rattle.std.proofs.Common.{List, ℕ, String, inl, inr, refl}
 use Rattle.std.specs.declared.alloc.Global.{Global}
+use Rattle.dr_entry.proofs.ListParts.{run_end}
 use Rattle.dr_text.specs.declared.last.Last.TheVariants.{SourceFault}
 use Rattle.dr_yard.specs.Yards.{state_by}
 use Rattle.dr_outcome.specs.declared.outcome.Outcome.{Outcome}
 use Rattle.dr_commands.specs.Outcome.{WroteOrNot}
 use Rattle.dr_commands.proofs.Course.{Call, IsCourse, Standing, disk_fault_of, disk_told_of, fault_told, late_told_of, log_full_of, logs_refused_of, no_majority_of, read_fault_of, standing_of, status_known, unfinished_of, usage_of, usage_told_of}
 use Rattle.dr_commands.proofs.Judged.{judged_so}
-use Rattle.dr_commands.proofs.RunsRight.{run_end}
 use Rattle.dr_commands.proofs.top.derecho.Given as given
 use Rattle.dr_commands.proofs.top.derecho.Goals as goal
 

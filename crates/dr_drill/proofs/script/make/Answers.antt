@@ -1,9 +1,10 @@
 use Rattle.std.proofs.Common.{◌≡◌, ◌+◌, ◌*◌, ◌++◌, ◌∷◌, [], ap, sym, subst, ◌∙◌, arith, rules}
+use Rattle.dr_entry.proofs.NumberFacts.{moved}
 use Rattle.dr_script.specs.Ranges.{HasRanges}
 use Rattle.dr_script.specs.declared.script.Script.{Script}
 use Rattle.dr_script.specs.declared.script.Schedule.TheVariants.{Lockstep}
 use Rattle.dr_drill.specs.Drill.{drill, messages_of_member, state_after}
-use Rattle.dr_drill.proofs.Letters.{messages_more, moved, state_after-none, state_more}
+use Rattle.dr_drill.proofs.Letters.{messages_more, state_after-none, state_more}
 use Rattle.dr_drill.proofs.Ranges.{drill_ranges}
 use Rattle.dr_drill.proofs.script.make.Goals as goal
 

@@ -1,8 +1,9 @@
 use Rattle.std.proofs.Common.{◌≡◌, ◌+◌, ◌<◌, ap, subst, ◌∙◌, arith, get_or, length, set, refl, length-set}
 use Rattle.std.specs.Prelude.{MatchOption}
 use Rattle.std.proofs.lemmas.List.Edits.{fill_by_more}
+use Rattle.dr_entry.proofs.NumberFacts.{moved}
 use Rattle.dr_drill.specs.Drill.{letter}
-use Rattle.dr_drill.proofs.Letters.{letter-add, message_filled, moved, state_after-none, state_one}
+use Rattle.dr_drill.proofs.Letters.{letter-add, message_filled, state_after-none, state_one}
 use Rattle.dr_drill.proofs.script.message.Goals as goal
 
 pub loop-i-init : goal.loop-i-init

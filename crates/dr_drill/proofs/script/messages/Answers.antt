@@ -1,8 +1,9 @@
 use Rattle.std.proofs.Common.{◌+◌, ◌*◌, ◌++◌, ◌∷◌, [], ap, sym, ◌∙◌, arith}
 use Rattle.std.specs.Prelude.{map}
 use Rattle.std.specs.List.{range_with_len}
+use Rattle.dr_entry.proofs.NumberFacts.{moved}
 use Rattle.dr_drill.specs.Drill.{message, state_after}
-use Rattle.dr_drill.proofs.Letters.{message_more, messages_whole, moved, state_after-none, state_more}
+use Rattle.dr_drill.proofs.Letters.{message_more, messages_whole, state_after-none, state_more}
 use Rattle.dr_drill.proofs.script.messages.Goals as goal
 
 pub loop-init : goal.loop-init

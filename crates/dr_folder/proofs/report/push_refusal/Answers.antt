@@ -1,6 +1,6 @@
 use Rattle.std.proofs.Common.{codes, string_bytes}
+use Rattle.dr_entry.proofs.ListFacts.{both_appended}
 use Rattle.dr_text.specs.Report.{last_text}
-use Rattle.dr_folder.proofs.Saying.{both_appended}
 use Rattle.dr_folder.proofs.report.push_refusal.Goals as goal
 
 pub returns : goal.returns

@@ -1,7 +1,8 @@
 use Rattle.std.proofs.Common.{ap, arith, length, length-append, [], ◌∷◌}
+use Rattle.dr_machine.proofs.Groups.{some_members}
 use Rattle.dr_restart.specs.Groups.{group_of}
 use Rattle.dr_fresh.specs.declared.logs.TheConstants.{LOG_LIMIT}
-use Rattle.dr_fresh.proofs.Fresh.{fresh_ample, fresh_limit, fresh_more, fresh_opened, none_fresh, some_members}
+use Rattle.dr_fresh.proofs.Fresh.{fresh_ample, fresh_limit, fresh_more, fresh_opened, none_fresh}
 use Rattle.dr_fresh.proofs.logs.logs_of.Goals as goal
 
 pub loop-member-init : goal.loop-member-init

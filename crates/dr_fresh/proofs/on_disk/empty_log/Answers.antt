@@ -1,6 +1,7 @@
 use Rattle.std.proofs.Common.{◌≡◌, ◌≢◌, rules}
 use Rattle.dr_log_bytes.specs.Content.{empty_of}
-use Rattle.dr_fresh.proofs.Fresh.{damaged_used, empty_log, record_used, without_record}
+use Rattle.dr_log.proofs.Standing.{damaged_used, record_used}
+use Rattle.dr_fresh.proofs.Fresh.{empty_log, without_record}
 use Rattle.dr_fresh.proofs.on_disk.empty_log.Goals as goal
 use Rattle.dr_fresh.proofs.on_disk.empty_log.Goals.{in-OutOfMemory, in-DiskFault, in-Damaged}
 

@@ -1,5 +1,5 @@
 use Rattle.std.proofs.Common.{sym}
-use Rattle.dr_history.proofs.LoopLemmas.{take_read}
+use Rattle.dr_entry.proofs.ListPlaces.{take_read}
 use Rattle.dr_history.proofs.ViewLemmas.{view_of-View, view_of-Msg}
 use Rattle.dr_history.proofs.Following.{view_of-nil}
 use Rattle.dr_history.proofs.view.view_of.Goals as goal

@@ -1,7 +1,7 @@
 use Rattle.std.proofs.Common.{refl, rules}
 use Rattle.dr_io.specs.Faults.{Rose}
+use Rattle.dr_io.proofs.KnownLemmas.{loses_nothing}
 use Rattle.dr_intake.specs.Answer.{no_memory, no_source, usage}
-use Rattle.dr_intake.proofs.Answers.{loses_nothing}
 use Rattle.dr_intake.proofs.call.read_for.Goals as goal
 
 pub returns-in_default-clause-unread : goal.returns-in_default-clause-unread

@@ -1,6 +1,6 @@
 use Rattle.std.proofs.Common.{codes, string_bytes}
+use Rattle.dr_entry.proofs.ListFacts.{if_pushed, pushed_thrice}
 use Rattle.dr_json.specs.Json.{faults_json}
-use Rattle.dr_json.proofs.Pieces.{if_pushed, pushed_thrice}
 use Rattle.dr_json.proofs.script.push_faults_line.Goals as goal
 
 pub returns : goal.returns

@@ -1,6 +1,6 @@
 use Rattle.std.proofs.Common.{string_bytes, arith}
+use Rattle.dr_entry.proofs.ListFacts.{numbered_texts_more}
 use Rattle.dr_json.specs.Json.{element_json}
-use Rattle.dr_text.proofs.Numbers.{numbered_texts_more}
 use Rattle.dr_json.proofs.script.push_messages.Goals as goal
 
 pub loop-index-preserved : goal.loop-index-preserved

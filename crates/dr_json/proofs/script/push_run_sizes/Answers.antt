@@ -1,6 +1,6 @@
 use Rattle.std.proofs.Common.{codes, string_bytes}
+use Rattle.dr_entry.proofs.ListFacts.{pushed_thrice}
 use Rattle.dr_json.specs.Json.{size_json}
-use Rattle.dr_json.proofs.Pieces.{pushed_thrice}
 use Rattle.dr_json.proofs.script.push_run_sizes.Goals as goal
 
 pub returns : goal.returns

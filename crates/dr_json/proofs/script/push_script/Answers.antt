@@ -1,6 +1,6 @@
 use Rattle.std.proofs.Common.{string_bytes}
+use Rattle.dr_entry.proofs.ListFacts.{pushed_thrice}
 use Rattle.dr_json.specs.Json.{schedule_line, script_head, script_lists}
-use Rattle.dr_json.proofs.Pieces.{pushed_thrice}
 use Rattle.dr_json.proofs.script.push_script.Goals as goal
 
 pub returns : goal.returns

@@ -1,6 +1,6 @@
 use Rattle.std.proofs.Common.{◌≡◌, ◌∙◌, ◌++◌, OnOk, ap, string_bytes, subst}
+use Rattle.dr_entry.proofs.ListFacts.{pushed_on}
 use Rattle.dr_json.specs.Json.{faults_line, messages_line}
-use Rattle.dr_json.proofs.Pieces.{pushed_on}
 use Rattle.dr_json.proofs.script.push_script_lists.Goals as goal
 
 pub returns : goal.returns

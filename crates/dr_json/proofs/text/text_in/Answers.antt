@@ -1,5 +1,5 @@
 use Rattle.std.proofs.lemmas.Str.{is_utf8-from_IsUtf8}
-use Rattle.dr_json.proofs.Utf8.{no_text}
+use Rattle.dr_entry.proofs.Texts.{no_text}
 use Rattle.dr_json.proofs.text.text_in.Goals as goal
 
 pub returns-in-Ok : goal.returns-in-Ok

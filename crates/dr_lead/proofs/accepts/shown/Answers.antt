@@ -1,7 +1,7 @@
 use Rattle.std.proofs.Common.{◌≡◌, ℕ, sym, ◌∙◌}
+use Rattle.dr_history.proofs.Histories.{filled_more, filled_past}
 use Rattle.dr_words.specs.Packing.{accept_value}
 use Rattle.dr_lead.specs.Accepts.{trim_word}
-use Rattle.dr_trim.proofs.Filled.{filled_more, filled_past}
 use Rattle.dr_lead.proofs.accepts.shown.Goals as goal
 use Rattle.dr_lead.proofs.accepts.shown.Goals.{then-has, else-has}
 

@@ -1,7 +1,7 @@
 use Rattle.std.proofs.Common.{◌≡◌}
+use Rattle.dr_history.proofs.Tests.{IsFilledTo}
 use Rattle.dr_words.specs.Packing.{accept_value}
 use Rattle.dr_lead.specs.Accepts.{trim_word}
-use Rattle.dr_trim.proofs.Filled.{IsFilledTo}
 use Rattle.dr_lead.proofs.accepts.shown.Given as goal
 
 abbrev pub invariant-loop-sender : goal.invariant-loop-sender

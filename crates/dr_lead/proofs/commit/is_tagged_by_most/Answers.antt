@@ -1,13 +1,15 @@
 use Rattle.std.proofs.Common.{◌≡◌, ◌==◌, ◌<◌, ◌≤◌, ◌*◌, ℕ, Bool, List, length, map, take, sym, ap, ap₂, ◌∙◌, arith}
 use Rattle.std.specs.List.{count_by}
 use Rattle.std.proofs.lemmas.Bool.{lt-ltb, ltb-true}
+use Rattle.dr_entry.proofs.ListParts.{count_by-map}
+use Rattle.dr_entry.proofs.ListFacts.{made_of}
 use Rattle.dr_history.specs.Members.{members_of}
 use Rattle.dr_rows.specs.Words.{seen}
 use Rattle.dr_words.specs.Columns.{leavers_column}
 use Rattle.dr_words.specs.Packing.{accept_tag}
+use Rattle.dr_words.proofs.Masks.{count_tagged}
 use Rattle.dr_lead.specs.Accepts.{tag_of}
 use Rattle.dr_lead.specs.Changes.{tagged_members}
-use Rattle.dr_lead.proofs.Tagged.{count_by-map, count_tagged, made_of}
 use Rattle.dr_lead.proofs.commit.is_tagged_by_most.Goals as goal
 
 pub returns : goal.returns

@@ -6,8 +6,8 @@ use Rattle.dr_ages.specs.declared.part.Part.{Part}
 use Rattle.dr_ages.specs.declared.stop.Stop.{Stop}
 use Rattle.dr_ages.specs.declared.stop.Stop.TheVariants.{OutOfMemory}
 use Rattle.dr_ages.proofs.Prompt.{all_prompt}
+use Rattle.dr_ages.proofs.Runs.{one_age}
 use Rattle.dr_live.specs.Live.{calm_yard}
-use Rattle.dr_live.proofs.Course.{one_age}
 use Rattle.dr_live.proofs.group.run_one.Goals as goal
 
 pub run_ages-ages-requires-clause-some : goal.run_ages-ages-requires-clause-some

@@ -1,5 +1,5 @@
 use Rattle.std.proofs.Common.{◌+◌, ◌-◌, arith}
-use Rattle.dr_log.proofs.Groups.{reaches_less}
+use Rattle.dr_disk.proofs.DiskCalls.{reaches_less}
 use Rattle.dr_log.proofs.appending.put_group.Goals as goal
 
 pub open_gate-requires-clause-inside : goal.open_gate-requires-clause-inside

@@ -1,4 +1,5 @@
-use Rattle.dr_log.proofs.Growing.{short_block, short_log_length}
+use Rattle.dr_entry.proofs.Records.{short_block}
+use Rattle.dr_log.proofs.Growing.{short_log_length}
 use Rattle.dr_log.proofs.laws.blocks_are_short.Goals as goal
 
 pub returns-clause-block : goal.returns-clause-block

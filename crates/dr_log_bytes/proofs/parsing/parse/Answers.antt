@@ -1,7 +1,7 @@
 use Rattle.std.proofs.Common.{rules, ◌≡◌, ◌+◌, ◌<◌, ◌^◌, ℕ, inr, subst, true, arith}
 use Rattle.dr_log_bytes.specs.Content.{IsPlaced, block_length, with_record}
 use Rattle.dr_log_bytes.specs.Grammar.{IsNoLog}
-use Rattle.dr_log_bytes.proofs.Reading.{found_parsed, length_parsed, misplaced_read, next_parsed, record_inside}
+use Rattle.dr_log_bytes.proofs.Reading.{length_parsed, misplaced_read, next_parsed, record_inside}
 use Rattle.dr_log_bytes.proofs.parsing.parse.Goals as goal
 
 pub returns-then-not-may_take-clause-damaged : goal.returns-then-not-may_take-clause-damaged

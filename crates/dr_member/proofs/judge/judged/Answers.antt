@@ -1,6 +1,6 @@
 use Rattle.std.proofs.Common.{◌∙◌}
+use Rattle.dr_program.proofs.RunningPrograms.{judged_as}
 use Rattle.dr_member.specs.Search.{standing}
-use Rattle.dr_member.proofs.Judging.{judged_as}
 use Rattle.dr_member.proofs.judge.judged.Goals as goal
 
 pub returns : goal.returns

@@ -1,8 +1,8 @@
 use Rattle.std.proofs.Common.{refl, sym, ap, ◌∙◌}
 use Rattle.std.specs.Prelude.{Some}
 use Rattle.dr_program.specs.Acts.{may}
+use Rattle.dr_program.proofs.RunningPrograms.{judged_as, unjudged}
 use Rattle.dr_member.specs.Search.{standing}
-use Rattle.dr_member.proofs.Judging.{judged_as, unjudged}
 use Rattle.dr_member.proofs.judge.may_judge.Goals as goal
 
 pub returns-in-Some : goal.returns-in-Some

@@ -9,8 +9,8 @@ use Rattle.dr_program.specs.Turn.{part_of, rows_in}
 use Rattle.dr_member.proofs.Ready.{receives_by}
 use Rattle.std.proofs.Math.Bool.{and-true}
 use Rattle.dr_program.specs.Running.{crashes_in_turn, judged}
+use Rattle.dr_program.proofs.Replicas.{all_allowed}
 use Rattle.dr_turn.proofs.Search.{applies_at}
-use Rattle.dr_member.proofs.Judging.{all_allowed}
 use Rattle.dr_member.specs.Search.{standing}
 use Rattle.dr_member.proofs.search.applies_inside.Goals as goal
 

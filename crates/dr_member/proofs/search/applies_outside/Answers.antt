@@ -2,8 +2,9 @@ use Rattle.std.proofs.Common.{◌&&◌, sym, ap, ◌∙◌}
 use Rattle.std.proofs.Math.Bool.{and-true}
 use Rattle.dr_program.specs.Running.{crashes_in_turn, crashes_now, push_or_crash}
 use Rattle.dr_program.specs.Steps.{allows}
-use Rattle.dr_turn.proofs.Search.{applies_at}
-use Rattle.dr_member.proofs.Judging.{crash_alone, idle_outside, inner_part}
+use Rattle.dr_program.proofs.RunningPrograms.{crash_alone}
+use Rattle.dr_program.proofs.Parts.{inner_part}
+use Rattle.dr_turn.proofs.Search.{applies_at, idle_outside}
 use Rattle.dr_member.specs.Search.{standing}
 use Rattle.dr_member.proofs.search.applies_outside.Goals as goal
 

@@ -2,9 +2,9 @@ use Rattle.std.proofs.Common.{◌≡◌, sym, ap, ◌∙◌, true, false}
 use Rattle.dr_machine.specs.declared.step.Step.TheVariants.{Do}
 use Rattle.dr_program.specs.Replica.{value_due}
 use Rattle.dr_program.specs.Running.{append_or_end, crashes_now, push_or_crash, step_at, vote_or_end}
+use Rattle.dr_program.proofs.Parts.{unless_failed}
 use Rattle.dr_member.specs.declared.search.Due.{Due}
 use Rattle.dr_member.specs.Search.{standing, step_by}
-use Rattle.dr_member.proofs.Dues.{unless_failed}
 use Rattle.dr_member.proofs.search.due_at.Goals as goal
 
 pub returns-in-Push : goal.returns-in-Push

@@ -3,9 +3,9 @@ use Rattle.dr_words.specs.Columns.{columns_of}
 use Rattle.dr_program.specs.declared.place.Part.{Part}
 use Rattle.dr_program.specs.Replica.{is_other}
 use Rattle.dr_program.specs.Turn.{columns_in, rows_in}
+use Rattle.dr_program.proofs.Replicas.{cell_test}
+use Rattle.dr_turn.proofs.Search.{push_applies}
 use Rattle.dr_member.specs.Search.{standing}
-use Rattle.dr_member.proofs.Answers.{push_applies}
-use Rattle.dr_member.proofs.Moves.{cell_test}
 use Rattle.dr_member.proofs.Passing.{pushes_idle, pushes_nobody, pushes_nothing}
 use Rattle.dr_member.proofs.search.first_push.Goals as goal
 

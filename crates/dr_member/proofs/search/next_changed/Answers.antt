@@ -1,6 +1,6 @@
 use Rattle.std.proofs.Common.{sym, ◌∙◌, arith}
+use Rattle.dr_entry.proofs.NumberFacts.{none_more}
 use Rattle.dr_rows.specs.Words.{changed}
-use Rattle.dr_member.proofs.Passing.{none_more}
 use Rattle.dr_member.proofs.search.next_changed.Goals as goal
 
 pub loop-column-preserved : goal.loop-column-preserved

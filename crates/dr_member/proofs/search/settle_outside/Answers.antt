@@ -1,7 +1,8 @@
 use Rattle.std.proofs.Common.{sym, ◌∙◌, subst}
 use Rattle.dr_program.specs.declared.place.Place.{Place}
+use Rattle.dr_turn.proofs.Search.{GoesBy}
 use Rattle.dr_member.specs.Search.{standing}
-use Rattle.dr_member.proofs.Passing.{GoesBy, first_found, row_passed}
+use Rattle.dr_member.proofs.Passing.{first_found, row_passed}
 use Rattle.dr_member.proofs.search.settle_outside.Goals as goal
 
 goes : (c : goal.After-enter_row)

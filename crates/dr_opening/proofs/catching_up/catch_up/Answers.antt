@@ -4,12 +4,14 @@ use Rattle.std.proofs.lemmas.List.Elements.{All-drop, All-take}
 use Rattle.dr_entry.specs.declared.entry.Entry.{Entry}
 use Rattle.dr_entry.specs.declared.entry.Entry.TheVariants.{View}
 use Rattle.dr_entry.specs.Spelling.{IsValidEntry}
+use Rattle.dr_entry.proofs.Entries.{lacked_is, lacking_all}
 use Rattle.dr_io.specs.Faults.{Rose}
+use Rattle.dr_history.proofs.Histories.{lacking}
 use Rattle.dr_log.specs.Standing.{entries_length}
 use Rattle.dr_log.specs.State.{LogState}
 use Rattle.dr_opening.specs.declared.catching_up.CatchFault.TheVariants.{OutOfMemory}
 use Rattle.dr_opening.specs.CatchingUp.{FitsOrIsFull, lacked, opened_with}
-use Rattle.dr_opening.proofs.Catching.{GotRoom, caught_all, full_alone, full_by, lacked_is, lacking, lacking_all, left_alone, stayed_still, stopped_stayed, told_disk}
+use Rattle.dr_opening.proofs.Catching.{GotRoom, caught_all, full_alone, full_by, left_alone, stayed_still, stopped_stayed, told_disk}
 use Rattle.dr_opening.proofs.catching_up.catch_up.Given.{Over}
 use Rattle.dr_opening.proofs.catching_up.catch_up.Goals as goal
 

@@ -1,8 +1,8 @@
 use Rattle.std.proofs.Common.{List, subst, sym}
 use Rattle.dr_entry.specs.declared.entry.Entry.{Entry}
+use Rattle.dr_entry.proofs.BoolFacts.{refuted}
 use Rattle.dr_history.specs.Agreement.{accounts_of}
 use Rattle.dr_oracle.specs.Agreeing.{AreConsistent}
-use Rattle.dr_history.proofs.LoopLemmas.{refuted}
 use Rattle.dr_oracle.proofs.agreement.agrees.Goals as goal
 
 pub returns-else-is_consistent_with_all : goal.returns-else-is_consistent_with_all

@@ -1,6 +1,6 @@
 use Rattle.std.proofs.Common.{◌≡◌, ◌≤◌, ℕ, Some, All, Contains, Decides, List, length, sym, ◌∙◌, subst}
 use Rattle.std.proofs.lemmas.Bool.{eqb-true}
-use Rattle.dr_history.proofs.LoopLemmas.{contains_is}
+use Rattle.dr_entry.proofs.ListParts.{contains_is}
 use Rattle.dr_history.specs.Agreement.{accounts_of}
 use Rattle.dr_history.specs.History.{view_of}
 use Rattle.dr_oracle.proofs.Durable.{last_decides}

@@ -1,6 +1,6 @@
 use Rattle.std.proofs.Common.{ℕ, Some, None, append-nil, get_or, ap, sym, ◌∙◌}
 use Rattle.std.proofs.lemmas.List.{get_or_default}
-use Rattle.dr_oracle.proofs.Lists.{filter_map_more}
+use Rattle.dr_entry.proofs.ListPlaces.{filter_map_more}
 use Rattle.dr_oracle.proofs.delivery.merge.Goals as goal
 use Rattle.dr_oracle.proofs.delivery.merge.Goals.{in-Some+in_ok-push, in_default}
 

@@ -2,10 +2,10 @@ use Rattle.std.proofs.Common.{◌≡◌, ◌++◌, ℕ, List, slice_get, Some, i
 use Rattle.std.proofs.lemmas.Option.{same_Some, slice_get_read, slice_get_within}
 use Rattle.dr_entry.specs.declared.entry.Entry.{Entry}
 use Rattle.dr_entry.specs.declared.entry.Entry.TheVariants.{Msg}
+use Rattle.dr_entry.proofs.BoolFacts.{refuted}
 use Rattle.dr_history.specs.History.{IsPrefixOf}
 use Rattle.dr_history.specs.Order.{messages_from, numbered_messages}
-use Rattle.dr_history.proofs.LoopLemmas.{refuted}
-use Rattle.dr_oracle.proofs.Numbers.{has_message_or_not}
+use Rattle.dr_history.proofs.Orders.{has_message_or_not}
 use Rattle.dr_oracle.proofs.order.all_are_numbered.Goals as goal
 
 pub returns-then-not-is_numbered : goal.returns-then-not-is_numbered

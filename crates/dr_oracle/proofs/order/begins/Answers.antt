@@ -4,7 +4,7 @@ use Rattle.std.proofs.lemmas.Option.{gets}
 use Rattle.dr_entry.specs.declared.entry.Entry.{Entry}
 use Rattle.dr_entry.specs.declared.entry.Entry.TheVariants.{View}
 use Rattle.dr_history.specs.History.{IsPrefixOf}
-use Rattle.dr_oracle.proofs.Orders.{begins_decides}
+use Rattle.dr_history.proofs.Histories.{begins_decides}
 use Rattle.dr_oracle.proofs.order.begins.Goals as goal
 
 pub returns-then-eq : goal.returns-then-eq

@@ -1,8 +1,7 @@
 use Rattle.std.proofs.Common.{◌≡◌, Decides, List, length, inl, inr, ap}
 use Rattle.dr_entry.specs.declared.entry.Entry.{Entry}
+use Rattle.dr_entry.proofs.BoolFacts.{refuted, both_decide, same_decides}
 use Rattle.dr_history.specs.History.{sent_of}
-use Rattle.dr_history.proofs.LoopLemmas.{refuted}
-use Rattle.dr_oracle.proofs.Lists.{both_decide, same_decides}
 use Rattle.dr_oracle.proofs.Orders.{FrontParts, InOrder-from_parts, parts_from_InOrder}
 use Rattle.dr_oracle.proofs.order.in_order.Goals as goal
 use Rattle.dr_oracle.proofs.order.in_order.Goals.{Joined-views_are_in_order, then-views_are_in_order, else-views_are_in_order}

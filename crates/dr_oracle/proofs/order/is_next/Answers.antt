@@ -4,7 +4,7 @@ use Rattle.std.proofs.lemmas.Bool.Decides.{Decides-eqb}
 use Rattle.std.proofs.lemmas.Grind.{common_steps}
 use Rattle.std.proofs.lemmas.Option.{gets, none-some, same_Some}
 use Rattle.std.proofs.lemmas.Slice.Eq.{slice_eq-Decides}
-use Rattle.dr_history.proofs.LoopLemmas.{refuted}
+use Rattle.dr_entry.proofs.BoolFacts.{refuted}
 use Rattle.dr_oracle.proofs.order.is_next.Goals as goal
 
 pub returns-then-eq : goal.returns-then-eq

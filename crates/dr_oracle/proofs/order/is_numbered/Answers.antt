@@ -3,10 +3,10 @@ use Rattle.std.proofs.lemmas.List.{take_all}
 use Rattle.std.proofs.lemmas.Option.{slice_get_within}
 use Rattle.dr_entry.specs.declared.entry.Entry.{Entry}
 use Rattle.dr_entry.specs.declared.entry.Entry.TheVariants.{Msg}
+use Rattle.dr_entry.proofs.BoolFacts.{refuted}
 use Rattle.dr_history.specs.History.{messages_of}
 use Rattle.dr_history.specs.Order.{messages_from, numbered_messages}
-use Rattle.dr_history.proofs.LoopLemmas.{refuted}
-use Rattle.dr_oracle.proofs.Numbers.{numbered_here, numbered_step}
+use Rattle.dr_history.proofs.NumberedLemmas.{numbered_here, numbered_step}
 use Rattle.dr_oracle.proofs.order.is_numbered.Goals as goal
 
 pub returns-then-not-is_next : goal.returns-then-not-is_next

@@ -1,7 +1,7 @@
 use Rattle.std.proofs.Common.{refl, arith, below_more}
+use Rattle.dr_entry.proofs.BoolFacts.{refuted}
 use Rattle.dr_history.specs.History.{sent_of}
-use Rattle.dr_history.proofs.LoopLemmas.{refuted}
-use Rattle.dr_oracle.proofs.Orders.{place_at-within}
+use Rattle.dr_history.proofs.Histories.{place_at-within}
 use Rattle.dr_oracle.proofs.order.last_view_is_whole.Goals as goal
 use Rattle.dr_oracle.proofs.order.last_view_is_whole.Goals.{else-start-i-via-then-start-i+else-not-whole_below, else-start-i-via-else-start-i}
 

@@ -1,5 +1,5 @@
 use Rattle.std.proofs.Common.{inl}
-use Rattle.dr_oracle.proofs.Lists.{both_decide}
+use Rattle.dr_entry.proofs.BoolFacts.{both_decide}
 use Rattle.dr_oracle.proofs.order.messages_are_whole.Goals as goal
 
 pub returns-then-all_are_numbered : goal.returns-then-all_are_numbered

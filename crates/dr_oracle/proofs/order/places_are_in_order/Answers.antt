@@ -1,5 +1,5 @@
 use Rattle.std.proofs.Common.{inl}
-use Rattle.dr_oracle.proofs.Lists.{both_decide}
+use Rattle.dr_entry.proofs.BoolFacts.{both_decide}
 use Rattle.dr_oracle.proofs.order.places_are_in_order.Goals as goal
 
 pub returns-then-messages_are_placed : goal.returns-then-messages_are_placed

@@ -1,7 +1,7 @@
 use Rattle.std.proofs.Common.{refl, arith}
+use Rattle.dr_entry.proofs.BoolFacts.{refuted}
 use Rattle.dr_history.specs.History.{sent_of}
-use Rattle.dr_history.proofs.LoopLemmas.{refuted}
-use Rattle.dr_oracle.proofs.Orders.{place_at-within}
+use Rattle.dr_history.proofs.Histories.{place_at-within}
 use Rattle.dr_oracle.proofs.order.places_rise.Goals as goal
 
 pub returns-then-not-rises : goal.returns-then-not-rises

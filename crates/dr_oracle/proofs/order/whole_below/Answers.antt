@@ -1,7 +1,7 @@
 use Rattle.std.proofs.Common.{◌≡◌, length, take, Some, sym, ap, ◌∙◌, le_refl}
 use Rattle.std.proofs.lemmas.List.{take_all}
+use Rattle.dr_entry.proofs.BoolFacts.{refuted}
 use Rattle.dr_history.specs.History.{sent_of, view_of, place_at}
-use Rattle.dr_history.proofs.LoopLemmas.{refuted}
 use Rattle.dr_oracle.proofs.order.whole_below.Goals as goal
 
 pub returns-then-not-holds_delivered : goal.returns-then-not-holds_delivered

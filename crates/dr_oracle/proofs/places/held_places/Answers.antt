@@ -1,8 +1,8 @@
 use Rattle.std.proofs.Common.{◌≡◌, ℕ, ◌*◌, true, false, max, fold, length, filter, arith, subst, ap, ◌∙◌}
 use Rattle.std.specs.List.{range_with_len}
 use Rattle.std.proofs.lemmas.Grind.{common_steps}
+use Rattle.dr_entry.proofs.ListParts.{filter_range_more}
 use Rattle.dr_history.specs.Places.{is_held, held_places}
-use Rattle.dr_oracle.proofs.Lists.{filter_range_more}
 use Rattle.dr_oracle.proofs.places.held_places.Goals as goal
 use Rattle.dr_oracle.proofs.places.held_places.Goals.{then-is_held+in_ok-push, else-is_held}
 

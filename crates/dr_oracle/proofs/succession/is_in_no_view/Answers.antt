@@ -1,6 +1,6 @@
 use Rattle.std.proofs.Common.{Some, refl, sym, ap, ◌∙◌, arith, below_more}
 use Rattle.std.proofs.lemmas.Option.{get_or_from_slice_get, same_Some, slice_get-get_or, slice_get_read}
-use Rattle.dr_history.proofs.LoopLemmas.{refuted}
+use Rattle.dr_entry.proofs.BoolFacts.{refuted}
 use Rattle.dr_oracle.proofs.succession.is_in_no_view.Goals as goal
 
 pub returns-then-not-spares : goal.returns-then-not-spares

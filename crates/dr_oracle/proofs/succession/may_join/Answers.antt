@@ -1,5 +1,5 @@
 use Rattle.std.proofs.Common.{inl}
-use Rattle.dr_oracle.proofs.Lists.{both_decide}
+use Rattle.dr_entry.proofs.BoolFacts.{both_decide}
 use Rattle.dr_oracle.proofs.succession.may_join.Goals as goal
 
 pub returns-then-is_late : goal.returns-then-is_late

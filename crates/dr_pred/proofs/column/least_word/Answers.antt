@@ -2,8 +2,9 @@ use Rattle.std.proofs.Common.{◌≡◌, ◌≤◌, ℕ, List, map, take, length
 use Rattle.std.specs.List.{All, Contains}
 use Rattle.std.proofs.lemmas.List.{length-map}
 use Rattle.dr_history.specs.Members.{members_of}
+use Rattle.dr_history.proofs.Tests.{by_bits, some_word}
 use Rattle.dr_rows.specs.Words.{seen}
-use Rattle.dr_pred.proofs.Gathered.{by_bits, each_word, no_member, some_word}
+use Rattle.dr_words.proofs.Masks.{each_word, no_member}
 use Rattle.dr_pred.proofs.column.least_word.Goals as goal
 
 pub returns-then-count-eq0-clause-none : goal.returns-then-count-eq0-clause-none

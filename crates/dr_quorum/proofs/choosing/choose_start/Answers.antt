@@ -1,6 +1,7 @@
 use Rattle.dr_restart.specs.Groups.{first_group_of}
+use Rattle.dr_quorum_laws.proofs.Refusals.{passed}
 use Rattle.dr_quorum.specs.Handing.{handed_by}
-use Rattle.dr_quorum.proofs.Choices.{passed, told_memory}
+use Rattle.dr_quorum.proofs.Choices.{told_memory}
 use Rattle.dr_quorum.proofs.choosing.choose_start.Goals as goal
 
 pub returns-in-Some-clause-refused : goal.returns-in-Some-clause-refused

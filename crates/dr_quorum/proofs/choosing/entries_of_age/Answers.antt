@@ -1,7 +1,8 @@
 use Rattle.std.proofs.Common.{inl}
 use Rattle.dr_restart.specs.Groups.{first_group_of}
+use Rattle.dr_restart.proofs.Choosing.{holder_stands, longest_on}
+use Rattle.dr_quorum_laws.proofs.Lists.{of_holders}
 use Rattle.dr_quorum.specs.Handing.{handed_by}
-use Rattle.dr_quorum.proofs.Choices.{holder_stands, longest_on, of_holders}
 use Rattle.dr_quorum.proofs.choosing.entries_of_age.Goals as goal
 
 pub find_split-requires : goal.find_split-requires

@@ -1,11 +1,11 @@
 use Rattle.std.proofs.Common.{subst, List}
 use Rattle.std.proofs.lemmas.Option.{IfSome_then}
 use Rattle.dr_entry.specs.declared.entry.Entry.{Entry}
+use Rattle.dr_entry.proofs.OptionFacts.{IfNone_then}
 use Rattle.dr_restart.specs.Refusing.{IsHeldBy}
+use Rattle.dr_restart.proofs.Choosing.{one_held}
 use Rattle.dr_quorum.specs.Comparing.{AreAlongBelow}
 use Rattle.dr_quorum.specs.Handing.{handed_by}
-use Rattle.dr_quorum.proofs.Holding.{one_held}
-use Rattle.dr_quorum.proofs.Options.{IfNone_then}
 use Rattle.dr_quorum.proofs.comparing.apart_from.Goals as goal
 
 pub returns-in-Some-clause-none : goal.returns-in-Some-clause-none

@@ -1,6 +1,7 @@
 use Rattle.std.proofs.Common.{◌<◌, arith, length, rules, sym, ap, ◌∙◌, Some}
 use Rattle.std.proofs.lemmas.Option.{slice_get-get_or}
-use Rattle.dr_quorum.proofs.Along.{along_if_same, same_more}
+use Rattle.dr_entry.proofs.Entries.{same_more}
+use Rattle.dr_history.proofs.Restarts.{along_if_same}
 use Rattle.dr_quorum.proofs.comparing.first_difference.Goals as goal
 
 pub returns-then-not-is_same-clause-some : goal.returns-then-not-is_same-clause-some

@@ -1,7 +1,7 @@
 use Rattle.std.proofs.Common.{◌≡◌, ◌==◌, ℕ, ap, ◌∙◌, subst, Decides}
 use Rattle.std.proofs.lemmas.Bool.Decides.{Decides-eqb}
 use Rattle.dr_history.specs.History.{view_of}
-use Rattle.dr_quorum.proofs.Holding.{ends_nowhere, ends_where}
+use Rattle.dr_restart.proofs.Choosing.{ends_nowhere, ends_where}
 use Rattle.dr_quorum.proofs.holders.ends_in.Goals as goal
 
 pub returns-in-Some : goal.returns-in-Some

@@ -1,11 +1,11 @@
 use Rattle.std.proofs.Common.{sym, ◌∙◌, subst, List}
 use Rattle.std.proofs.lemmas.Option.{IfSome_then, none-some, same_Some}
 use Rattle.dr_entry.specs.declared.entry.Entry.{Entry}
+use Rattle.dr_entry.proofs.OptionFacts.{IfNone_then}
 use Rattle.dr_restart.specs.declared.lists.LogLists.{LogLists}
 use Rattle.dr_restart.specs.Choosing.{EndsInAge}
 use Rattle.dr_restart.specs.Refusing.{IsHeldBy}
 use Rattle.dr_quorum.specs.Handing.{handed_by}
-use Rattle.dr_quorum.proofs.Options.{IfNone_then}
 use Rattle.dr_quorum.proofs.holders.held.Goals as goal
 
 pub returns-in-Some-clause-some : goal.returns-in-Some-clause-some

@@ -1,6 +1,6 @@
 use Rattle.std.proofs.Common.{ap, length}
+use Rattle.dr_restart.proofs.Choosing.{one_held}
 use Rattle.dr_quorum.specs.Handing.{handed_by}
-use Rattle.dr_quorum.proofs.Holding.{one_held}
 use Rattle.dr_quorum.proofs.holders.held_length.Goals as goal
 
 pub returns-in-Some-clause-held : goal.returns-in-Some-clause-held

@@ -1,6 +1,7 @@
 use Rattle.std.proofs.Common.{inl, inr}
+use Rattle.dr_restart.proofs.Choosing.{longest_step, none_longest}
 use Rattle.dr_quorum.specs.Handing.{handed_by}
-use Rattle.dr_quorum.proofs.Holding.{longest_all, longest_step, none_longest}
+use Rattle.dr_quorum.proofs.Holding.{longest_all}
 use Rattle.dr_quorum.proofs.holders.longest.Goals as goal
 use Rattle.dr_quorum.proofs.holders.longest.Goals.{then-most-len, else-most-len}
 

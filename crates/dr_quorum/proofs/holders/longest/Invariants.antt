@@ -1,5 +1,5 @@
+use Rattle.dr_restart.proofs.Choosing.{IsLongestBelow}
 use Rattle.dr_quorum.specs.Handing.{handed_by}
-use Rattle.dr_quorum.proofs.Holding.{IsLongestBelow}
 use Rattle.dr_quorum.proofs.holders.longest.Given as goal
 
 abbrev pub invariant-loop-m : goal.invariant-loop-m

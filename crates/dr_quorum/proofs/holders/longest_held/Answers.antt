@@ -1,6 +1,6 @@
 use Rattle.std.proofs.Common.{ap, length, arith}
+use Rattle.dr_restart.proofs.Choosing.{on_holder, one_held}
 use Rattle.dr_quorum.specs.Handing.{handed_by}
-use Rattle.dr_quorum.proofs.Holding.{on_holder, one_held}
 use Rattle.dr_quorum.proofs.holders.longest_held.Goals as goal
 
 pub returns-in-Some : goal.returns-in-Some

@@ -1,11 +1,11 @@
 use Rattle.std.proofs.Common.{sym, subst, ℕ, length, Contains}
 use Rattle.std.proofs.lemmas.Option.{IfSome_then}
 use Rattle.dr_entry.specs.declared.entry.Entry.TheVariants.{View}
+use Rattle.dr_entry.proofs.OptionFacts.{IfNone_then}
 use Rattle.dr_restart.specs.Refusing.{HasPath, LacksPath}
 use Rattle.dr_restart.specs.Groups.{first_group_of}
+use Rattle.dr_quorum_laws.proofs.Refusals.{path_of_all}
 use Rattle.dr_quorum.specs.Handing.{handed_by}
-use Rattle.dr_quorum.proofs.Choices.{path_of_all}
-use Rattle.dr_quorum.proofs.Options.{IfNone_then}
 use Rattle.dr_quorum.proofs.path.find_short_view.Goals as goal
 
 pub returns-in-Some-clause-none : goal.returns-in-Some-clause-none

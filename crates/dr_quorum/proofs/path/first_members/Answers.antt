@@ -1,5 +1,5 @@
 use Rattle.dr_entry.specs.declared.entry.Entry.TheVariants.{View}
-use Rattle.dr_quorum.proofs.Firsts.{first_there, no_first, no_first_more, none_first}
+use Rattle.dr_entry.proofs.Entries.{first_there, no_first, no_first_more, none_first}
 use Rattle.dr_quorum.proofs.path.first_members.Goals as goal
 
 pub loop-entry-init : goal.loop-entry-init

@@ -4,8 +4,8 @@ use Rattle.std.proofs.lemmas.Option.{slice_get-get_or}
 use Rattle.dr_entry.specs.declared.entry.Entry.{Entry}
 use Rattle.dr_entry.specs.declared.entry.Entry.TheVariants.{View, Msg}
 use Rattle.dr_history.specs.History.{GroupView}
+use Rattle.dr_script.proofs.Ranges.{sender_small, index_small}
 use Rattle.dr_quorum.specs.Reading.{IsRead}
-use Rattle.dr_quorum.proofs.Stands.{sender_small, index_small}
 use Rattle.dr_quorum.proofs.Walks.{read-View, read-Msg}
 use Rattle.dr_quorum.proofs.reading.note.Goals as goal
 

@@ -1,6 +1,6 @@
 use Rattle.std.proofs.Common.{◌≡◌, ◌≢◌, ◌-◌, ◌^◌, length, rules}
 use Rattle.dr_words.specs.Masks.{without}
-use Rattle.dr_quorum.proofs.Masks.{roster_decides}
+use Rattle.dr_words.proofs.Masks.{roster_decides}
 use Rattle.dr_quorum.proofs.standing.is_of_roster.Goals as goal
 
 pub returns-then-members-ne0 : goal.returns-then-members-ne0

@@ -1,8 +1,8 @@
 use Rattle.std.proofs.Common.{ap, not, rules, tests, true, false, ◌≡◌}
 use Rattle.std.specs.Str.{chars}
 use Rattle.std.proofs.lemmas.Iterator.{YieldsList-from_chars, cases_from_any}
+use Rattle.dr_entry.proofs.ListFacts.{found_any}
 use Rattle.dr_quote.specs.Quote.{is_hidden}
-use Rattle.dr_quote.proofs.Texts.{found_any}
 use Rattle.dr_quote.proofs.quoting.is_clear.Goals as goal
 
 pub returns : goal.returns

@@ -1,7 +1,7 @@
 use Rattle.std.proofs.Common.{◌≡◌, ◌++◌, OnOk, codes, rules, string_bytes, subst, sym}
 use Rattle.std.proofs.lemmas.Str.{IsUtf8-from_ascii}
+use Rattle.dr_entry.proofs.ListFacts.{three_pushed}
 use Rattle.dr_quote.proofs.Plain.{plain_ascii, plain_message}
-use Rattle.dr_quote.proofs.Texts.{three_pushed}
 use Rattle.dr_quote.proofs.quoting.push_plain.Goals as goal
 
 pub from_utf8_unchecked-requires : goal.from_utf8_unchecked-requires

@@ -2,7 +2,8 @@ use Rattle.std.proofs.Common.{◌≡◌, ◌+◌, ◌++◌, ◌∷◌, [], List,
 use Rattle.std.proofs.lemmas.List.{take_all, take_more}
 use Rattle.dr_entry.specs.declared.entry.Entry.{Entry}
 use Rattle.dr_history.specs.Order.{messages_from}
-use Rattle.dr_replica.proofs.Histories.{few_messages, counted_message, passed_message, counted_view}
+use Rattle.dr_history.proofs.Orders.{few_messages}
+use Rattle.dr_history.proofs.NumberedLemmas.{counted_message, passed_message, counted_view}
 use Rattle.dr_replica.proofs.history.count_messages.Goals.{in-Msg+then-sender-counts, in-Msg+else-sender-counts, in_default}
 use Rattle.dr_replica.proofs.history.count_messages.Goals as goal
 

@@ -2,7 +2,8 @@ use Rattle.std.proofs.Common.{sym, subst, ◌∙◌, arith, map, slice_index}
 use Rattle.std.proofs.lemmas.List.{length-map}
 use Rattle.dr_history.specs.Places.{AllHeldBelow}
 use Rattle.dr_history.proofs.FrontLemmas.{AllHeldBelow-more}
-use Rattle.dr_replica.proofs.Places.{held_small, front_reached}
+use Rattle.dr_history.proofs.Places.{held_small}
+use Rattle.dr_history.proofs.Fronts.{front_reached}
 use Rattle.dr_replica.proofs.items.front_from.Goals as goal
 
 pub step-requires-clause-small : goal.step-requires-clause-small

@@ -1,6 +1,7 @@
 use Rattle.std.proofs.Common.{ap, ◌∙◌, [], length, arith, length-set}
 use Rattle.std.proofs.lemmas.List.{get_or_default}
-use Rattle.dr_restart.proofs.Totals.{counted_more, rest_more, all_counted}
+use Rattle.dr_entry.proofs.ListPlaces.{counted_more, all_counted}
+use Rattle.dr_entry.proofs.ListFacts.{rest_more}
 use Rattle.dr_restart.proofs.setup.totals_of.Goals as goal
 
 pub loop-i-preserved : goal.loop-i-preserved

@@ -1,9 +1,8 @@
 use Rattle.std.proofs.Common.{◌≡◌, ◌+◌, ℕ, true, false, ap, sym, subst, ◌∙◌, rules, arith}
 use Rattle.std.specs.Int.{div_ceil}
+use Rattle.dr_entry.proofs.OptionFacts.{passes_more, passes_not, block_fails, block_passes}
 use Rattle.dr_rows.specs.Words.{seen}
 use Rattle.dr_ring.specs.Slots.{is_of}
-use Rattle.dr_ring.proofs.Bodies.{passes_more, passes_not}
-use Rattle.dr_ring.proofs.Marked.{block_fails, block_passes}
 use Rattle.dr_ring.proofs.ring.has_body.Goals as goal
 
 pub returns-then-not-is_block_of : goal.returns-then-not-is_block_of

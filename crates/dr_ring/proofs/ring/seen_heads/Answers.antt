@@ -1,9 +1,10 @@
 use Rattle.std.proofs.Common.{◌≡◌, ◌+◌, ◌-◌, ◌<◌, ℕ, ap, sym, ◌∙◌, rules, arith}
 use Rattle.std.proofs.lemmas.List.{get_or-set_other}
+use Rattle.dr_entry.proofs.ListFacts.{filled_more}
 use Rattle.dr_words.specs.Packing.{ring_low, ring_tag}
 use Rattle.dr_rows.specs.Words.{seen}
 use Rattle.dr_ring.specs.Slots.{slot_column, slot_of}
-use Rattle.dr_ring.proofs.Heads.{filled_more, nulls_more}
+use Rattle.dr_ring.proofs.Heads.{nulls_more}
 use Rattle.dr_ring.proofs.ring.seen_heads.Goals as goal
 
 pub loop-i-preserved : goal.loop-i-preserved

@@ -1,10 +1,10 @@
 use Rattle.std.proofs.Common.{◌≡◌, ◌+◌, ◌<◌, ℕ, subst, sym, ap, ◌∙◌, arith, get_or}
 use Rattle.std.proofs.lemmas.Bool.{true≢false}
 use Rattle.std.proofs.lemmas.Nat.Bits.{shr_and_one}
+use Rattle.dr_entry.proofs.Bits.{few_bits, Marks, one_marked}
+use Rattle.dr_entry.proofs.OptionFacts.{one_unmarked}
 use Rattle.dr_ring.specs.Slots.{IsReady, slot_column, slot_of}
-use Rattle.dr_ring.proofs.Heads.{few_bits}
 use Rattle.dr_ring.proofs.Marked.{no_head, rest_behind}
-use Rattle.dr_ring.proofs.Readiness.{Marks, one_marked, one_unmarked}
 use Rattle.dr_ring.proofs.ring.sweep.Goals as goal
 use Rattle.dr_ring.proofs.ring.sweep.Goals.{then-heads-i-eq1+then-has_rest, else-heads-i-eq1, else-heads-i-eq1-via-then-heads-i-eq1+else-has_rest, else-heads-i-eq1-via-else-heads-i-eq1}
 

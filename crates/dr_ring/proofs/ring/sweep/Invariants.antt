@@ -1,6 +1,6 @@
 use Rattle.std.proofs.Common.{◌+◌}
+use Rattle.dr_entry.proofs.Bits.{Marks}
 use Rattle.dr_ring.specs.Slots.{IsReady, slot_of}
-use Rattle.dr_ring.proofs.Readiness.{Marks}
 use Rattle.dr_ring.proofs.ring.sweep.Given as goal
 
 abbrev pub invariant-loop-i : goal.invariant-loop-i

@@ -1,11 +1,13 @@
 use Rattle.std.proofs.Common.{◌≡◌, ◌++◌, ◌∙◌, [], ◌∷◌, ap, sym, Some, rules, tests, arith}
 use Rattle.std.specs.Prelude.{is_some}
 use Rattle.serde_json.specs.View.{view}
+use Rattle.dr_entry.proofs.ListFacts.{filter_map_more}
+use Rattle.dr_entry.proofs.OptionFacts.{ok_or_err}
 use Rattle.dr_script.specs.declared.place.Place.TheVariants.{Fault}
 use Rattle.dr_script.specs.Places.{unless}
 use Rattle.dr_script.specs.Rules.{fault_of}
-use Rattle.dr_script.proofs.EachLemmas.{each_more, each_stops, unless_kept, unless_broken, filter_map_more}
-use Rattle.dr_script.proofs.StopLemmas.{rule_of, ok_or_err}
+use Rattle.dr_script.proofs.EachLemmas.{each_more, each_stops, unless_kept, unless_broken}
+use Rattle.dr_script.proofs.StopLemmas.{rule_of}
 use Rattle.dr_script.proofs.faults.faults_in.Goals as goal
 
 pub returns-in_err-fault-clause-broken : goal.returns-in_err-fault-clause-broken

@@ -2,7 +2,7 @@ use Rattle.std.proofs.Common.{rules, tests, sym, ◌∙◌}
 use Rattle.std.specs.Str.{bytes_eq}
 use Rattle.std.proofs.lemmas.Iterator.{YieldsList-from_slice}
 use Rattle.std.proofs.lemmas.Iterator.Search.{any_from_yields_List}
-use Rattle.dr_script.proofs.JsonLemmas.{list_any_map}
+use Rattle.dr_entry.proofs.ListFacts.{list_any_map}
 use Rattle.dr_script.proofs.json.is_among.Goals as goal
 
 pub returns : goal.returns

@@ -1,11 +1,13 @@
 use Rattle.std.proofs.Common.{◌≡◌, ◌<◌, ◌++◌, ◌∙◌, [], ◌∷◌, ap, sym, subst, Some, None, map, take, arith}
 use Rattle.std.specs.List.{All, filter_map}
 use Rattle.serde_json.specs.View.{view}
+use Rattle.dr_entry.proofs.ListFacts.{map_more}
+use Rattle.dr_entry.proofs.ListParts.{all_more}
 use Rattle.dr_script.specs.Json.{elements_of}
 use Rattle.dr_script.specs.Places.{broken_at}
 use Rattle.dr_script.specs.Rules.{text_of, member_breaks}
 use Rattle.dr_script.specs.Reading.{messages_in}
-use Rattle.dr_script.proofs.EachLemmas.{each_more, each_stops, map_more, all_more}
+use Rattle.dr_script.proofs.EachLemmas.{each_more, each_stops}
 use Rattle.dr_script.proofs.StopLemmas.{handed_on}
 use Rattle.dr_script.proofs.messages.lists_in.Goals as goal
 

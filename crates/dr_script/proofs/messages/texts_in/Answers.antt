@@ -2,11 +2,14 @@ use Rattle.std.proofs.Common.{◌≡◌, ◌<◌, ◌++◌, ◌∙◌, [], ◌�
 use Rattle.std.specs.Prelude.{is_some}
 use Rattle.std.specs.List.{All}
 use Rattle.serde_json.specs.View.{view}
+use Rattle.dr_entry.proofs.ListFacts.{filter_map_more}
+use Rattle.dr_entry.proofs.ListParts.{all_more}
+use Rattle.dr_entry.proofs.OptionFacts.{ok_or_err, if_some_at}
 use Rattle.dr_script.specs.declared.place.Place.TheVariants.{Text}
 use Rattle.dr_script.specs.Places.{unless}
 use Rattle.dr_script.specs.Rules.{text_of}
-use Rattle.dr_script.proofs.EachLemmas.{each_more, each_stops, unless_kept, unless_broken, filter_map_more, all_more}
-use Rattle.dr_script.proofs.StopLemmas.{rule_of, ok_or_err, if_some_at}
+use Rattle.dr_script.proofs.EachLemmas.{each_more, each_stops, unless_kept, unless_broken}
+use Rattle.dr_script.proofs.StopLemmas.{rule_of}
 use Rattle.dr_script.proofs.messages.texts_in.Goals as goal
 
 pub returns-in_err-message-clause-broken : goal.returns-in_err-message-clause-broken

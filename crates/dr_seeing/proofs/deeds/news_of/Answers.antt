@@ -1,4 +1,4 @@
-use Rattle.dr_seeing.proofs.Dues.{act_may}
+use Rattle.dr_program.proofs.RunningPrograms.{act_may}
 use Rattle.dr_seeing.proofs.deeds.news_of.Goals as goal
 
 pub news_of_act-requires : goal.news_of_act-requires

@@ -1,4 +1,4 @@
-use Rattle.dr_seeing.proofs.Dues.{act_may}
+use Rattle.dr_program.proofs.RunningPrograms.{act_may}
 use Rattle.dr_seeing.proofs.deeds.push_line.Goals as goal
 
 pub push_done-requires : goal.push_done-requires

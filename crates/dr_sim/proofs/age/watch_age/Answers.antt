@@ -10,11 +10,12 @@ use Rattle.dr_program_laws.proofs.Worlds.{ends_agreed}
 use Rattle.dr_history.specs.Agreement.{EndsAgreed}
 use Rattle.dr_restart.specs.Groups.{group_of}
 use Rattle.dr_restart.specs.Setups.{crashes_of}
+use Rattle.dr_logged.proofs.Served.{places_both, places_same}
+use Rattle.dr_program_laws.proofs.Failing.{all_failing}
 use Rattle.dr_age.specs.Logged.{NoneFull}
 use Rattle.dr_sim.specs.Simulated.{IsSimulated}
 use Rattle.dr_sim.proofs.Courses.{schedule_ran, schedule_ends}
-use Rattle.dr_sim.proofs.Logs.{places_both, places_same}
-use Rattle.dr_age.proofs.Ends.{IsOver, all_failing, have_come, none_full, ready_with}
+use Rattle.dr_age.proofs.Ends.{IsOver, have_come, none_full, ready_with}
 use Rattle.dr_sim.proofs.age.watch_age.Given.{Over}
 use Rattle.dr_sim.proofs.age.watch_age.Goals as goal
 

@@ -1,5 +1,6 @@
 use Rattle.std.proofs.Common.{refl, sym, ap, ◌∙◌, subst}
 use Rattle.dr_logged.specs.Appended.{is_append}
+use Rattle.dr_member.proofs.Deeds.{stays_going}
 use Rattle.dr_sim.specs.Deeds.{own_letter}
 use Rattle.dr_sim.specs.Places.{HasServedAt, IsReadyAt}
 use Rattle.dr_world.specs.Posts.{PostsOf}
@@ -7,7 +8,7 @@ use Rattle.dr_world.specs.Steps.{posts_after}
 use Rattle.dr_age.proofs.Deeds.{at_act, at_give, at_look, at_push, at_take}
 use Rattle.dr_sim.proofs.Lists.{lists_after, lists_still, taken_told}
 use Rattle.dr_sim.proofs.Places.{ready_still, ready_took, served_still, served_took}
-use Rattle.dr_sim.proofs.Deeds.{act_taken, give_taken, look_seen, look_taken, push_taken, stays_going, take_taken}
+use Rattle.dr_sim.proofs.Deeds.{act_taken, give_taken, look_seen, look_taken, push_taken, take_taken}
 use Rattle.dr_sim.proofs.deed.take.Goals as goal
 
 pub looked-requires : goal.looked-requires

@@ -1,9 +1,9 @@
 use Rattle.std.proofs.Common.{sym, ap, ◌∙◌, subst}
+use Rattle.dr_entry.proofs.OptionFacts.{some_read}
 use Rattle.dr_form.specs.Letters.{IsFitting}
 use Rattle.dr_member.specs.Deeds.{is_take}
 use Rattle.dr_program.specs.Reading.{letters_of}
 use Rattle.dr_program.specs.Running.{settled, took_letter}
-use Rattle.dr_sim.proofs.Lists.{some_read}
 use Rattle.dr_sim.proofs.deed.take_letter.Goals as goal
 
 pub taken-requires-clause-due : goal.taken-requires-clause-due

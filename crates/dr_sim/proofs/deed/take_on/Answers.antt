@@ -1,12 +1,12 @@
 use Rattle.std.proofs.Common.{refl, sym, ap, ◌∙◌, subst, inr, ◌||◌, ◌≤◌, ℕ, List, length, arith}
 use Rattle.std.proofs.lemmas.List.{with_items_is}
+use Rattle.dr_program.proofs.RunningPrograms.{going_none}
 use Rattle.dr_member.specs.Alone.{LeadsTo, SeesAlong}
 use Rattle.dr_member.specs.Deeds.{is_look, is_push, table_size}
 use Rattle.dr_age.proofs.Sound.{appends_well}
 use Rattle.dr_sim.specs.Deeds.{SeesWell}
 use Rattle.dr_sim.proofs.Steps.{sees_well}
 use Rattle.dr_sim.proofs.Lists.{finds_lists}
-use Rattle.dr_sim.proofs.Turns.{going_none}
 use Rattle.dr_sim.proofs.Sweeps.{come_lists, come_ready, come_served, sees_along, somewhere_logged, whole_words}
 use Rattle.dr_sim.proofs.deed.take_on.Goals as goal
 

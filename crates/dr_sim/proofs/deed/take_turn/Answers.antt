@@ -1,6 +1,8 @@
 use Rattle.std.proofs.Common.{refl, sym, ◌∙◌}
+use Rattle.dr_program.proofs.Schedules.{amid_goes}
+use Rattle.dr_program.proofs.RunningPrograms.{going_none}
 use Rattle.dr_sim.proofs.Sweeps.{way_on}
-use Rattle.dr_sim.proofs.Turns.{amid_goes, going_none, way_among, way_begins}
+use Rattle.dr_sim.proofs.Turns.{way_among, way_begins}
 use Rattle.dr_sim.proofs.deed.take_turn.Goals as goal
 
 pub loop-init : goal.loop-init

@@ -4,8 +4,8 @@ use Rattle.std.proofs.lemmas.List.{get_or_read}
 use Rattle.arrayvec.specs.ArrayVec.{ArrayVec}
 use Rattle.dr_program.specs.Presence.{present_at}
 use Rattle.dr_program.specs.Program.{has_ended}
+use Rattle.dr_program.proofs.Programs.{found_one, found_none}
 use Rattle.dr_sim.specs.Sound.{program_over}
-use Rattle.dr_sim.proofs.Choices.{found_one, found_none}
 use Rattle.dr_sim.proofs.seeded.going.Goals as goal
 use Rattle.dr_sim.proofs.seeded.going.Goals.{then-not-has_ended, else-not-has_ended}
 

@@ -2,8 +2,8 @@ use Rattle.std.proofs.Common.{◌≡◌, ◌≤◌, ℕ, List, length}
 use Rattle.std.specs.Prelude.{Option}
 use Rattle.dr_entry.specs.declared.entry.Entry.{Entry}
 use Rattle.std.specs.List.{range_with_len, filter}
+use Rattle.dr_program.proofs.Programs.{goes}
 use Rattle.dr_sim.specs.Sound.{program_over}
-use Rattle.dr_sim.proofs.Choices.{goes}
 use Rattle.dr_sim.proofs.seeded.going.Given as goal
 
 abbrev pub invariant-loop-m : goal.invariant-loop-m

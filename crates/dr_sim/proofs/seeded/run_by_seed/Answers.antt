@@ -1,9 +1,12 @@
 use Rattle.std.proofs.Common.{rules, sym, ap, ◌∙◌, ◌==◌, length}
 use Rattle.std.specs.List.{remove}
-use Rattle.dr_sim.proofs.Logs.{places_both, places_same}
-use Rattle.dr_sim.proofs.Choices.{chosen_again, chosen_place, going_on, count_none, nothing_chosen, one_has_ended, picked, seeded, count_some}
+use Rattle.dr_entry.proofs.NumberFacts.{count_none, count_some}
+use Rattle.dr_program.proofs.Schedules.{chosen_place}
+use Rattle.dr_program.proofs.Programs.{picked}
+use Rattle.dr_program.proofs.Present.{going_within}
+use Rattle.dr_logged.proofs.Served.{places_both, places_same}
+use Rattle.dr_sim.proofs.Choices.{chosen_again, going_on, nothing_chosen, one_has_ended, seeded}
 use Rattle.dr_sim.specs.Sound.{program_over}
-use Rattle.dr_sim.proofs.Steps.{going_within}
 use Rattle.dr_sim.proofs.seeded.run_by_seed.Goals as goal
 
 pub members-init : goal.members-init

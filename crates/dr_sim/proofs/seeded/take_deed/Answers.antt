@@ -1,20 +1,21 @@
 use Rattle.std.proofs.Common.{rules, refl, sym, ap, ◌∙◌, subst, le_of_eq, length, length-set, ◌<◌, arith}
 use Rattle.std.specs.Prelude.{Some, slice_set}
 use Rattle.std.proofs.lemmas.Option.{same_Some}
-use Rattle.dr_age.proofs.Sound.{appends_well}
+use Rattle.dr_age.proofs.Sound.{appends_well, whole_table}
 use Rattle.dr_logged.specs.Served.{AreReady, HaveServed}
 use Rattle.dr_program.specs.Presence.{present_at, with_present}
 use Rattle.dr_program.specs.Program.{has_ended}
 use Rattle.dr_program.specs.Running.{Running}
 use Rattle.dr_program.proofs.Fixed.{Told}
-use Rattle.dr_program.proofs.Present.{present_kept, present_set}
+use Rattle.dr_program.proofs.Present.{present_kept, present_set, place_is, at_set}
+use Rattle.dr_program.proofs.RunningPrograms.{going_none}
+use Rattle.dr_logged.proofs.Served.{places_on}
 use Rattle.dr_sim.specs.Places.{HasServedAt, IsReadyAt}
 use Rattle.dr_sim.specs.Sound.{program_over}
 use Rattle.dr_sim.proofs.Lists.{finds_lists, lists_on, taken_told}
-use Rattle.dr_sim.proofs.Logs.{places_on, ready_on, served_on}
-use Rattle.dr_sim.proofs.Places.{place_is, ready_at, same_place, served_at}
-use Rattle.dr_sim.proofs.Steps.{at_set, sees_well, took, whole_table}
-use Rattle.dr_sim.proofs.Turns.{going_none}
+use Rattle.dr_sim.proofs.Logs.{ready_on, served_on}
+use Rattle.dr_sim.proofs.Places.{ready_at, same_place, served_at}
+use Rattle.dr_sim.proofs.Steps.{sees_well, took}
 use Rattle.dr_sim.proofs.seeded.take_deed.Goals as goal
 
 pub unreachable-requires : goal.unreachable-requires

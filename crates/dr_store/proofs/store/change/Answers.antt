@@ -6,9 +6,10 @@ use Rattle.std.proofs.Common.{ℕ, ◌≤◌, ◌∷◌, [], ◌++◌, ap, sym, 
 use Rattle.std.specs.Prelude.{All, Some, Vec, is_some}
 use Rattle.std.specs.FinMap as maps
 use Rattle.std.specs.Option.{unwrap_or}
+use Rattle.dr_entry.proofs.ListFacts.{is_key, by_bytes}
 use Rattle.dr_store.specs.declared.changes.Change.{Change}
 use Rattle.dr_store.specs.Tables.{changes_of}
-use Rattle.dr_store.proofs.Tables.{get_listed, sorted_listed, map_written, map_inserted, is_key, by_bytes}
+use Rattle.dr_store.proofs.Tables.{get_listed, sorted_listed, map_written, map_inserted}
 use Rattle.dr_store.proofs.store.change.Goals as goal
 
 pub push-requires : goal.push-requires

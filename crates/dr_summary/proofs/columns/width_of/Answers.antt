@@ -1,7 +1,7 @@
 use Rattle.std.proofs.Common.{length, refl}
 use Rattle.std.proofs.lemmas.Iterator.{YieldsList-from_chars}
 use Rattle.std.proofs.lemmas.Iterator.Consumers.{count_from_yields_List}
-use Rattle.dr_summary.proofs.Widths.{ascii_width}
+use Rattle.dr_entry.proofs.Texts.{ascii_width}
 use Rattle.dr_summary.proofs.columns.width_of.Goals as goal
 
 pub returns-then-is_ascii : goal.returns-then-is_ascii

@@ -1,5 +1,5 @@
 use Rattle.std.proofs.Common.{string_bytes, arith}
-use Rattle.dr_text.proofs.Numbers.{numbered_texts_more}
+use Rattle.dr_entry.proofs.ListFacts.{numbered_texts_more}
 use Rattle.dr_summary.specs.Notes.{end_line}
 use Rattle.dr_summary.proofs.ends.push_ends.Goals as goal
 

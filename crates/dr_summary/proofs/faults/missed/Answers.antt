@@ -1,5 +1,5 @@
 use Rattle.std.proofs.Common.{[], arith, rules}
-use Rattle.dr_text.proofs.Numbers.{numbered_texts_more}
+use Rattle.dr_entry.proofs.ListFacts.{numbered_texts_more}
 use Rattle.dr_summary.specs.Notes.{missed_in}
 use Rattle.dr_summary.proofs.faults.missed.Goals as goal
 

@@ -1,5 +1,5 @@
 use Rattle.std.proofs.Common.{string_bytes, arith, rules}
-use Rattle.dr_text.proofs.Numbers.{numbered_texts_more}
+use Rattle.dr_entry.proofs.ListFacts.{numbered_texts_more}
 use Rattle.dr_summary.specs.Notes.{fault_in}
 use Rattle.dr_summary.proofs.faults.push_faults.Goals as goal
 

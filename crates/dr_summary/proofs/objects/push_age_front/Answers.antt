@@ -1,6 +1,6 @@
 use Rattle.std.proofs.Common.{string_bytes}
+use Rattle.dr_entry.proofs.ListFacts.{pushed_thrice}
 use Rattle.dr_summary.specs.Objects.{age_entries, age_members, line_before}
-use Rattle.dr_summary.proofs.Texts.{pushed_thrice}
 use Rattle.dr_summary.proofs.objects.push_age_front.Goals as goal
 
 pub returns : goal.returns

@@ -1,7 +1,7 @@
 use Rattle.std.proofs.Common.{◌≡◌, ◌++◌, OnOk, rules, string_bytes, subst}
+use Rattle.dr_entry.proofs.ListFacts.{pushed_on}
 use Rattle.dr_summary.specs.Histories.{longest}
 use Rattle.dr_summary.specs.Objects.{age_back, age_front}
-use Rattle.dr_summary.proofs.Texts.{pushed_on}
 use Rattle.dr_summary.proofs.objects.push_age_object.Goals as goal
 
 pub returns : goal.returns

@@ -1,6 +1,6 @@
 use Rattle.std.proofs.Common.{codes, string_bytes}
+use Rattle.dr_entry.proofs.ListFacts.{three_pushed}
 use Rattle.dr_json.specs.Json.{json_text}
-use Rattle.dr_quote.proofs.Texts.{three_pushed}
 use Rattle.dr_summary.specs.Objects.{message_head}
 use Rattle.dr_summary.proofs.objects.push_msg.Goals as goal
 

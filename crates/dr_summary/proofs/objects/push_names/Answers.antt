@@ -1,5 +1,5 @@
 use Rattle.std.proofs.Common.{string_bytes, arith, rules}
-use Rattle.dr_text.proofs.Numbers.{numbered_texts_more}
+use Rattle.dr_entry.proofs.ListFacts.{numbered_texts_more}
 use Rattle.dr_summary.specs.Objects.{name_array}
 use Rattle.dr_summary.proofs.objects.push_names.Goals as goal
 

@@ -1,7 +1,7 @@
 use Rattle.std.proofs.Common.{codes, string_bytes}
+use Rattle.dr_entry.proofs.ListFacts.{pushed_thrice}
 use Rattle.dr_text.specs.Report.{mask_text}
 use Rattle.dr_summary.specs.Objects.{view_tail}
-use Rattle.dr_summary.proofs.Texts.{pushed_thrice}
 use Rattle.dr_summary.proofs.objects.push_view.Goals as goal
 
 pub returns : goal.returns

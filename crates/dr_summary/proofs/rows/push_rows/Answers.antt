@@ -1,6 +1,6 @@
 use Rattle.std.proofs.Common.{◌∷◌, [], ◌+◌, ◌++◌, ◌∙◌, ap, arith, codes, string_bytes, sym}
 use Rattle.std.specs.List.{concat}
-use Rattle.dr_text.proofs.Numbers.{numbered_texts_more}
+use Rattle.dr_entry.proofs.ListFacts.{numbered_texts_more}
 use Rattle.dr_summary.specs.Table.{in_column, label_text, row_text}
 use Rattle.dr_summary.proofs.rows.push_rows.Goals as goal
 

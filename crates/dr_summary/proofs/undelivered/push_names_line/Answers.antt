@@ -1,6 +1,6 @@
 use Rattle.std.proofs.Common.{codes, string_bytes}
+use Rattle.dr_entry.proofs.ListFacts.{three_pushed}
 use Rattle.dr_summary.specs.Notes.{named_text}
-use Rattle.dr_quote.proofs.Texts.{three_pushed}
 use Rattle.dr_summary.proofs.undelivered.push_names_line.Goals as goal
 
 pub returns : goal.returns

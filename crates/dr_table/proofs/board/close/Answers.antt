@@ -1,10 +1,10 @@
 use Rattle.std.proofs.Common.{◌≡◌, refl, sym, ap, ◌∙◌, subst, length, map}
 use Rattle.std.specs.Prelude.{Some, option_map, slice_get}
+use Rattle.dr_entry.proofs.ListPlaces.{by_table}
 use Rattle.dr_program.specs.Program.{IsRanFrom, Program, begun_program}
 use Rattle.dr_table.specs.Cards.{AreAtEnd, AreSame, Cards}
 use Rattle.dr_table.specs.Rule.{hands, number}
 use Rattle.dr_table.proofs.Hands.{board_opened, seat_knows}
-use Rattle.dr_table.proofs.Lists.{by_table}
 use Rattle.dr_table.proofs.Room.{whole}
 use Rattle.dr_table.proofs.Seats.{hands_get}
 use Rattle.dr_table.proofs.board.close.Goals as goal

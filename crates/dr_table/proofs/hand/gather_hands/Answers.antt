@@ -4,6 +4,7 @@ use Rattle.std.specs.Prelude.{vec_capacity, Option}
 use Rattle.atomic_table.specs.Seated.{TableId}
 use Rattle.atomic_table.specs.Table.{Me}
 use Rattle.dr_program.specs.Running.{Running}
+use Rattle.dr_program.proofs.Present.{each_append}
 use Rattle.dr_table.specs.Cards.{AreOf, AreReached, Cards, DealtTable, board_size}
 use Rattle.dr_table.specs.declared.rule.View.{View}
 use Rattle.dr_table.specs.Slots.{Slot}
@@ -12,7 +13,7 @@ use Rattle.dr_table.proofs.Cuts.{join_allowed}
 use Rattle.dr_table.proofs.Keeping.{no_errand, no_slots}
 use Rattle.dr_table.proofs.Members.{idle_is}
 use Rattle.dr_table.proofs.Posting.{free}
-use Rattle.dr_table.proofs.Hands.{ahead_append, both_fit, each_append}
+use Rattle.dr_table.proofs.Hands.{ahead_append, both_fit}
 use Rattle.dr_table.proofs.hand.gather_hands.Goals as goal
 use Rattle.dr_table.proofs.hand.gather_hands.Goals.{After-append}
 

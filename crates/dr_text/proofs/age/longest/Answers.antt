@@ -1,7 +1,7 @@
 use Rattle.std.proofs.Common.{◌≤◌, All, drop, length, subst, arith}
 use Rattle.std.proofs.lemmas.List.{take_all}
 use Rattle.dr_entry.specs.declared.end.MemberEnd.{MemberEnd}
-use Rattle.dr_text.proofs.Bounds.{most_more}
+use Rattle.dr_entry.proofs.ListParts.{most_more}
 use Rattle.dr_text.proofs.age.longest.Goals.{then-own-longest, else-own-longest}
 use Rattle.dr_text.proofs.age.longest.Goals as goal
 

@@ -1,8 +1,9 @@
 use Rattle.std.proofs.Common.{◌≡◌, ◌++◌, ◌∙◌, [], take, drop, sym, ap, refl, string_bytes}
 use Rattle.std.specs.List.{flat_map}
+use Rattle.dr_entry.proofs.ListFacts.{lines_more, text_parts}
 use Rattle.dr_text.specs.Report.{entry_text, member_line}
 use Rattle.dr_text.specs.Pieces.{pieces_text}
-use Rattle.dr_text.proofs.Texts.{lines_more, piece_more, text_parts}
+use Rattle.dr_text.proofs.Texts.{piece_more}
 use Rattle.dr_text.proofs.age.push_member.Goals as goal
 
 pub returns : goal.returns

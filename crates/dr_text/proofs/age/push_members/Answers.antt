@@ -1,7 +1,7 @@
 use Rattle.std.proofs.Common.{string_bytes, arith}
+use Rattle.dr_entry.proofs.ListFacts.{numbered_texts_more}
 use Rattle.dr_text.specs.Pieces.{pieces_text}
 use Rattle.dr_text.specs.Report.{member_text}
-use Rattle.dr_text.proofs.Numbers.{numbered_texts_more}
 use Rattle.dr_text.proofs.age.push_members.Goals as goal
 
 pub loop-number-preserved : goal.loop-number-preserved

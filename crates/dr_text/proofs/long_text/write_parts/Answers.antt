@@ -1,9 +1,10 @@
 use Rattle.std.proofs.Common.{◌∙◌, sym, subst, take}
 use Rattle.std.specs.List.{concat}
+use Rattle.dr_entry.proofs.OptionFacts.{on_err_anyway}
+use Rattle.dr_entry.proofs.ListFacts.{concat_more}
 use Rattle.dr_io.specs.Sink.{Gains}
 use Rattle.dr_io.proofs.KnownLemmas.{gains_more}
-use Rattle.dr_text.proofs.Sinks.{front_of_texts, on_err_anyway}
-use Rattle.dr_text.proofs.Texts.{concat_more}
+use Rattle.dr_text.proofs.Sinks.{front_of_texts}
 use Rattle.dr_text.proofs.long_text.write_parts.Goals as goal
 
 pub returns-in_err-write_to-clause-err : goal.returns-in_err-write_to-clause-err

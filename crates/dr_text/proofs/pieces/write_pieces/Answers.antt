@@ -1,5 +1,6 @@
+use Rattle.dr_entry.proofs.OptionFacts.{on_err_anyway}
 use Rattle.dr_text.specs.Pieces.{piece_text}
-use Rattle.dr_text.proofs.Sinks.{front_of_list, on_err_anyway}
+use Rattle.dr_text.proofs.Sinks.{front_of_list}
 use Rattle.dr_text.proofs.pieces.write_pieces.Goals as goal
 
 pub returns-in_err-write_piece-clause-err : goal.returns-in_err-write_piece-clause-err

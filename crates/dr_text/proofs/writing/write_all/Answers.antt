@@ -1,5 +1,5 @@
 use Rattle.std.proofs.Common.{◌∙◌, arith, length-drop, length-take}
-use Rattle.dr_text.proofs.Sinks.{gains_front}
+use Rattle.dr_io.proofs.KnownLemmas.{gains_front}
 use Rattle.dr_text.proofs.writing.write_all.Goals as goal
 
 pub loop-at-preserved : goal.loop-at-preserved

@@ -2,7 +2,8 @@ use Rattle.std.proofs.Common.{sym, ap, ◌∙◌, subst}
 use Rattle.std.specs.Prelude.{is_some}
 use Rattle.std.proofs.lemmas.Option.{same_Some}
 use Rattle.dr_logged.specs.Served.{HasServed, IsReady}
-use Rattle.dr_threads.proofs.Ones.{first_log, none_run, opened_ready, reserve_longer, run_served, some_log}
+use Rattle.dr_logged.proofs.Served.{first_log, some_log}
+use Rattle.dr_threads.proofs.Ones.{none_run, opened_ready, reserve_longer, run_served}
 use Rattle.dr_threads.proofs.age.run_one.Goals as goal
 
 pub returns-then-is_empty_at-clause-run : goal.returns-then-is_empty_at-clause-run

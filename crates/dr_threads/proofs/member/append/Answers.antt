@@ -5,7 +5,8 @@ use Rattle.dr_program.specs.Running.{after_step, broken_off}
 use Rattle.dr_logged.proofs.Appends.{did_append, did_fail, has_place, has_spares}
 use Rattle.dr_age.proofs.Deeds.{at_append}
 use Rattle.dr_table.proofs.Deeds.{after_told, same_number}
-use Rattle.dr_threads.proofs.Runs.{gone_by, reached_form, reached_well}
+use Rattle.dr_table.proofs.Cards.{reached_form}
+use Rattle.dr_threads.proofs.Runs.{gone_by, reached_well}
 use Rattle.dr_threads.proofs.member.append.Goals as goal
 
 pub append-requires-clause-valid : goal.append-requires-clause-valid

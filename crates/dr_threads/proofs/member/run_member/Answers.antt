@@ -1,5 +1,6 @@
 use Rattle.std.proofs.Common.{ap, not, ◌∙◌}
-use Rattle.dr_threads.proofs.Runs.{as_filled, as_many, ended_by, gone_more, left_falls, one_ended}
+use Rattle.dr_table.proofs.Cards.{as_filled, as_many, ended_by, left_falls, one_ended}
+use Rattle.dr_threads.proofs.Runs.{gone_more}
 use Rattle.dr_threads.proofs.member.run_member.Goals as goal
 
 pub loop-hand-preserved-then-is_between_turns : goal.loop-hand-preserved-then-is_between_turns

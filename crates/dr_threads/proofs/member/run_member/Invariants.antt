@@ -1,8 +1,8 @@
 use Rattle.std.proofs.Common.{◌≡◌, true}
 use Rattle.std.specs.Prelude.{is_some}
 use Rattle.dr_program.specs.Presence.{present_at}
+use Rattle.dr_turn.proofs.Works.{left_to}
 use Rattle.dr_threads.specs.Course.{HasGone}
-use Rattle.dr_threads.proofs.Runs.{left_to}
 use Rattle.dr_threads.proofs.member.run_member.Given as goal
 
 abbrev pub invariant-loop-hand : goal.invariant-loop-hand

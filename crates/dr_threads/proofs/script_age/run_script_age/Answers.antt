@@ -14,11 +14,12 @@ use Rattle.dr_restart.specs.Groups.{group_of}
 use Rattle.dr_restart.specs.Setups.{crashes_of}
 use Rattle.dr_age.specs.Logged.{NoneFull}
 use Rattle.dr_age.proofs.Ends.{have_come, none_full}
+use Rattle.dr_age.proofs.Beginning.{as_many_begun}
 use Rattle.dr_table.specs.Cards.{AreAtEnd, opened}
+use Rattle.dr_table.proofs.Cards.{as_many}
 use Rattle.dr_threads.specs.Logs.{AreFor}
 use Rattle.dr_threads.proofs.Halves.{same_longer}
-use Rattle.dr_threads.proofs.Opening.{IsAgeOver, age_over, are_for, as_many_begun, is_dealt}
-use Rattle.dr_threads.proofs.Runs.{as_many}
+use Rattle.dr_threads.proofs.Opening.{IsAgeOver, age_over, are_for, is_dealt}
 use Rattle.dr_threads.proofs.script_age.run_script_age.Given.{Over}
 use Rattle.dr_threads.proofs.script_age.run_script_age.Goals as goal
 

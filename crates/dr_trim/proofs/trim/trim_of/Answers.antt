@@ -1,6 +1,6 @@
 use Rattle.std.proofs.Common.{sym, ◌∙◌}
+use Rattle.dr_history.proofs.Histories.{filled_more, filled_past}
 use Rattle.dr_trim.specs.Trims.{IsLeastReceived}
-use Rattle.dr_trim.proofs.Filled.{filled_more, filled_past}
 use Rattle.dr_trim.proofs.trim.trim_of.Goals as goal
 use Rattle.dr_trim.proofs.trim.trim_of.Goals.{then-has, else-has}
 

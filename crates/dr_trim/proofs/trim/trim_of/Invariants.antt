@@ -1,5 +1,5 @@
+use Rattle.dr_history.proofs.Tests.{IsFilledTo}
 use Rattle.dr_trim.specs.Trims.{IsLeastReceived}
-use Rattle.dr_trim.proofs.Filled.{IsFilledTo}
 use Rattle.dr_trim.proofs.trim.trim_of.Given as goal
 
 abbrev pub invariant-loop-sender : goal.invariant-loop-sender

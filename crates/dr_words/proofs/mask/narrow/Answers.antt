@@ -1,5 +1,5 @@
 use Rattle.std.proofs.Common.{arith}
-use Rattle.dr_words.proofs.Ranks.{ones_low, ones_halves, ones_split}
+use Rattle.dr_entry.proofs.NumberFacts.{ones_low, ones_halves, ones_split}
 use Rattle.dr_words.proofs.mask.narrow.Goals as goal
 
 pub returns-then-rank-low-clause-rank : goal.returns-then-rank-low-clause-rank

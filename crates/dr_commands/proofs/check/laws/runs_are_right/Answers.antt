@@ -1,4 +1,5 @@
-use Rattle.dr_commands.proofs.RunsRight.{run_end, run_right}
+use Rattle.dr_entry.proofs.ListParts.{run_end}
+use Rattle.dr_commands.proofs.RunsRight.{run_right}
 use Rattle.dr_intake.specs.Status.{status_of}
 use Rattle.dr_commands.proofs.check.laws.runs_are_right.Goals as goal
 

@@ -1,6 +1,6 @@
 use Rattle.std.proofs.Common.{string_bytes, arith}
+use Rattle.dr_entry.proofs.ListFacts.{numbered_texts_more}
 use Rattle.dr_text.specs.Report.{member_line}
-use Rattle.dr_text.proofs.Numbers.{numbered_texts_more}
 use Rattle.dr_commands.proofs.drill.lines.push_end_lines.Goals as goal
 
 pub loop-number-preserved : goal.loop-number-preserved

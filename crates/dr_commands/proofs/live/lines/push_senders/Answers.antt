@@ -1,6 +1,6 @@
 use Rattle.std.proofs.Common.{arith, length, string_bytes}
+use Rattle.dr_entry.proofs.ListFacts.{numbered_texts_more}
 use Rattle.dr_history.specs.Order.{messages_from}
-use Rattle.dr_text.proofs.Numbers.{numbered_texts_more}
 use Rattle.dr_commands.specs.LiveLines.{sender_line}
 use Rattle.dr_commands.proofs.live.lines.push_senders.Goals as goal
 

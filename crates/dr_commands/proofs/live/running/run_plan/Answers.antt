@@ -1,7 +1,7 @@
 use Rattle.std.proofs.Common.{◌≤◌, All, length, subst, sym}
 use Rattle.dr_entry.specs.declared.end.AgeEnd.{AgeEnd}
 use Rattle.dr_entry.specs.declared.limits.TheConstants.{MAX_MEMBERS}
-use Rattle.dr_commands.proofs.LiveLasts.{all_few}
+use Rattle.dr_live.proofs.Delivering.{all_few}
 use Rattle.dr_commands.proofs.live.running.run_plan.Goals as goal
 
 pub last_of-last-requires : goal.last_of-last-requires

@@ -1,5 +1,5 @@
 use Rattle.std.proofs.Common.{◌∙◌, string_bytes, sym}
-use Rattle.dr_commands.proofs.ShardsMembers.{passed_over, taken}
+use Rattle.dr_shards.proofs.Counting.{passed_over, taken}
 use Rattle.dr_commands.proofs.shards.lines.push_members.Goals.{else-is_of_shard, then-is_of_shard+in_ok-push_number}
 use Rattle.dr_commands.proofs.shards.lines.push_members.Goals as goal
 

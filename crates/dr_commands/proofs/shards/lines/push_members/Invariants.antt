@@ -1,6 +1,7 @@
 use Rattle.std.proofs.Common.{◌≡◌, ◌++◌, string_bytes}
+use Rattle.dr_entry.proofs.ListFacts.{has_none}
 use Rattle.dr_shards.specs.Layout.{shard_members}
-use Rattle.dr_commands.proofs.ShardsMembers.{has_none, listed}
+use Rattle.dr_shards.proofs.Counting.{listed}
 use Rattle.dr_commands.proofs.shards.lines.push_members.Given as goal
 
 abbrev pub invariant-loop-member : goal.invariant-loop-member

@@ -1,6 +1,6 @@
 use Rattle.std.proofs.Common.{◌++◌, [], arith}
+use Rattle.dr_entry.proofs.ListFacts.{numbered_texts_more}
 use Rattle.dr_commands.specs.ShardsLines.{shard_line}
-use Rattle.dr_text.proofs.Numbers.{numbered_texts_more}
 use Rattle.dr_text.specs.Report.{age_text}
 use Rattle.dr_commands.proofs.shards.lines.shards_text.Goals as goal
 

@@ -1,6 +1,6 @@
 use Rattle.std.proofs.Common.{string_bytes, arith, ap, ◌++◌, ◌∙◌}
+use Rattle.dr_entry.proofs.ListFacts.{numbered_texts_more}
 use Rattle.dr_commands.specs.StoreLines.{value_line}
-use Rattle.dr_text.proofs.Numbers.{numbered_texts_more}
 use Rattle.dr_commands.proofs.store.values.push_members.Goals as goal
 
 pub loop-number-preserved : goal.loop-number-preserved

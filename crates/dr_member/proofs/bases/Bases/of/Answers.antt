@@ -1,5 +1,6 @@
 use Rattle.std.proofs.Common.{arith}
-use Rattle.dr_member.proofs.Indices.{made, noted_more}
+use Rattle.dr_words.proofs.Layouts.{noted_more}
+use Rattle.dr_member.proofs.Indices.{made}
 use Rattle.dr_member.proofs.bases.Bases.of.Goals as goal
 
 pub loop-other-preserved : goal.loop-other-preserved

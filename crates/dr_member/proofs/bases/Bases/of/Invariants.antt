@@ -1,4 +1,4 @@
-use Rattle.dr_member.proofs.Indices.{AreNoted}
+use Rattle.dr_words.proofs.Layouts.{AreNoted}
 use Rattle.dr_member.proofs.bases.Bases.of.Given as goal
 
 abbrev pub invariant-loop-other : goal.invariant-loop-other

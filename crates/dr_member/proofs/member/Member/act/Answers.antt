@@ -3,11 +3,12 @@ use Rattle.dr_words.specs.Columns.{columns_of}
 use Rattle.dr_machine.specs.declared.step.Step.TheVariants.{Do}
 use Rattle.dr_program.specs.Turn.{part_of}
 use Rattle.dr_program.specs.Running.{goes, next_step}
+use Rattle.dr_turn.proofs.Works.{IsAnswer, answer_at}
 use Rattle.dr_member.specs.Inside.{member_inside}
 use Rattle.dr_member.specs.Fate.{IsTimely}
 use Rattle.dr_member.specs.Search.{standing}
 use Rattle.dr_member.proofs.Fates.{IsFateBy}
-use Rattle.dr_member.proofs.Answers.{IsAnswer, IsFateAfter, IsTaken, answer_at, is_answer, is_done}
+use Rattle.dr_member.proofs.Answers.{IsFateAfter, IsTaken, is_answer, is_done}
 use Rattle.dr_member.proofs.Ready.{act_keeps}
 use Rattle.dr_member.proofs.Moves.{act_allowed, act_free, act_in_view, act_may, act_taken, act_told}
 use Rattle.dr_member.proofs.member.Member.act.Goals as goal

@@ -2,9 +2,9 @@ use Rattle.std.proofs.Common.{◌≡◌, ap, sym, ◌∙◌}
 use Rattle.std.specs.Prelude.{None}
 use Rattle.dr_program.specs.Replica.{value_due, vote_of}
 use Rattle.dr_program.specs.Running.{Running, next_deed}
+use Rattle.dr_program.proofs.RunningPrograms.{entry_deed, vote_deed}
 use Rattle.dr_member.specs.Inside.{member_inside}
 use Rattle.dr_member.specs.Search.{step_by}
-use Rattle.dr_member.proofs.Dues.{entry_deed, vote_deed}
 use Rattle.dr_member.proofs.member.Member.due_deed.Goals as goal
 
 pub returns-in-Append-clause-deed : goal.returns-in-Append-clause-deed

@@ -3,10 +3,10 @@ use Rattle.dr_words.specs.Columns.{columns_of}
 use Rattle.dr_program.specs.Turn.{part_of}
 use Rattle.dr_program.specs.Running.{Running, goes}
 use Rattle.dr_program.specs.declared.place.Part.TheVariants as parts
+use Rattle.dr_turn.proofs.Works.{IsAnswer}
 use Rattle.dr_member.proofs.Dues.{entry_due}
 use Rattle.dr_member.proofs.Ready.{gone_elsewhere}
 use Rattle.dr_member.specs.Search.{standing}
-use Rattle.dr_member.proofs.Answers.{IsAnswer}
 use Rattle.dr_member.proofs.Moves.{entry_answer, inside_after, stays_timely}
 use Rattle.dr_member.proofs.member.Member.entry_appended.Goals as goal
 

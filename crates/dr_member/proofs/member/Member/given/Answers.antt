@@ -3,9 +3,10 @@ use Rattle.dr_words.specs.Columns.{columns_of}
 use Rattle.dr_program.specs.Turn.{part_of}
 use Rattle.dr_program.specs.Running.{goes}
 use Rattle.dr_program.specs.declared.place.Part.TheVariants as parts
+use Rattle.dr_turn.proofs.Works.{IsAnswer, answer_at}
 use Rattle.dr_member.specs.Inside.{member_inside}
 use Rattle.dr_member.specs.Search.{standing}
-use Rattle.dr_member.proofs.Answers.{IsAnswer, IsTaken, answer_at, is_answer, is_done}
+use Rattle.dr_member.proofs.Answers.{IsTaken, is_answer, is_done}
 use Rattle.dr_member.proofs.Joins.{give_due_at, give_taken}
 use Rattle.dr_member.proofs.Moves.{inside_after, stays_timely}
 use Rattle.dr_member.proofs.Ready.{gone_elsewhere}

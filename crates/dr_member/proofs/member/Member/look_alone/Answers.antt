@@ -1,7 +1,7 @@
 use Rattle.std.proofs.Common.{arith}
+use Rattle.dr_entry.proofs.NumberFacts.{untrue}
 use Rattle.dr_member.proofs.Alone.{AsksOfLooks, HasComeAlone, IsBehindRow, IsLooking, columns_here, looks_asked, looks_done, looks_fit}
 use Rattle.dr_member.proofs.Moves.{waited}
-use Rattle.dr_member.proofs.Sweeps.{untrue}
 use Rattle.dr_member.proofs.member.Member.look_alone.Goals as goal
 
 looking : (c : goal.After-look_row-arg-1)

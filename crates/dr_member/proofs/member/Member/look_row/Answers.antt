@@ -1,8 +1,10 @@
 use Rattle.std.proofs.Common.{◌+◌, ◌<◌, refl, sym, ap, subst, arith}
+use Rattle.dr_entry.proofs.NumberFacts.{untrue}
 use Rattle.dr_program.specs.Replica.{Replica}
+use Rattle.dr_program.proofs.Replicas.{look_row_stays}
 use Rattle.dr_member.specs.Inside.{member_inside}
 use Rattle.dr_member.proofs.Moves.{IsLooked, look_left, looked_inside, looked_row_timely, waited}
-use Rattle.dr_member.proofs.Sweeps.{HasLeft, at_column, look_index, look_on, look_row_stays, look_takes, looks_begin, looks_end, saw, stale_in, untrue, was_waited}
+use Rattle.dr_member.proofs.Sweeps.{HasLeft, at_column, look_index, look_on, look_takes, looks_begin, looks_end, saw, stale_in, was_waited}
 use Rattle.dr_member.proofs.member.Member.look_row.Given.{Over}
 use Rattle.dr_member.proofs.member.Member.look_row.Goals as goal
 use Rattle.dr_member.proofs.member.Member.look_row.Goals.{After-look}

@@ -1,10 +1,10 @@
 use Rattle.std.proofs.Common.{refl, ◌+◌, ◌<◌, arith}
 use Rattle.dr_words.specs.Columns.{columns_of}
 use Rattle.dr_member.specs.Search.{standing}
-use Rattle.dr_member.proofs.Answers.{IsAnswer}
 use Rattle.dr_member.proofs.Indices.{columns_after}
 use Rattle.dr_member.proofs.Ready.{elsewhere}
 use Rattle.dr_program.specs.declared.place.Part.TheVariants as parts
+use Rattle.dr_turn.proofs.Works.{IsAnswer}
 use Rattle.dr_member.proofs.Moves.{IsLooked, IsWaited, inside_after, is_looked, look_due_at, look_left, looked_inside, looked_past, looked_row_timely, looked_within, stays_timely, waited}
 use Rattle.dr_member.proofs.member.Member.looked.Goals as goal
 

@@ -1,6 +1,7 @@
 use Rattle.std.proofs.Common.{◌+◌, ◌-◌, ◌^◌, min, sym, ap, subst, ◌∙◌, slice_set, arith}
+use Rattle.dr_entry.proofs.OptionFacts.{no_crash}
 use Rattle.dr_program.specs.Program.{next_sight}
-use Rattle.dr_member.proofs.Alone.{HasComeAlone, columns_here, no_crash, push_stores, push_sweeps, pushes_done, pushes_fit}
+use Rattle.dr_member.proofs.Alone.{HasComeAlone, columns_here, push_stores, push_sweeps, pushes_done, pushes_fit}
 use Rattle.dr_member.proofs.Moves.{counted}
 use Rattle.dr_member.proofs.member.Member.push_alone.Goals as goal
 

@@ -4,10 +4,10 @@ use Rattle.dr_words.specs.Columns.{columns_of}
 use Rattle.dr_program.specs.declared.deed.Deed.TheVariants.{Push}
 use Rattle.dr_member.specs.Inside.{member_inside}
 use Rattle.dr_member.specs.Search.{standing}
-use Rattle.dr_member.proofs.Answers.{IsAnswer}
 use Rattle.dr_member.proofs.Indices.{columns_after}
 use Rattle.dr_member.proofs.Ready.{elsewhere}
 use Rattle.dr_program.specs.declared.place.Part.TheVariants as parts
+use Rattle.dr_turn.proofs.Works.{IsAnswer}
 use Rattle.dr_member.proofs.Moves.{IsPushed, counted, push_left, pushed_behind, pushed_inside, pushed_timely, pushed_within}
 use Rattle.dr_member.proofs.Sweeps.{HasLeft, IsOnRow, at_column, push_index, push_on, push_row_stays, pushed_from, pushes_begin, pushes_end, wrote}
 use Rattle.dr_member.proofs.member.Member.push_row.Given.{Over}

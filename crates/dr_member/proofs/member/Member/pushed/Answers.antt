@@ -1,10 +1,10 @@
 use Rattle.std.proofs.Common.{refl, ℕ, ◌<◌, ◌≤◌, arith}
 use Rattle.dr_words.specs.Columns.{columns_of}
 use Rattle.dr_member.specs.Search.{standing}
-use Rattle.dr_member.proofs.Answers.{IsAnswer}
 use Rattle.dr_member.proofs.Indices.{columns_after}
 use Rattle.dr_member.proofs.Ready.{elsewhere}
 use Rattle.dr_program.specs.declared.place.Part.TheVariants as parts
+use Rattle.dr_turn.proofs.Works.{IsAnswer}
 use Rattle.dr_member.proofs.Moves.{IsPushed, counted, inside_after, is_pushed, push_left, pushed_behind, pushed_inside, pushed_timely, pushed_within}
 use Rattle.dr_member.proofs.member.Member.pushed.Goals as goal
 

@@ -1,8 +1,8 @@
 use Rattle.std.proofs.Common.{◌≡◌, ◌++◌, OnOk, codes, string_bytes, subst}
 use Rattle.std.proofs.lemmas.Result.{on_ok_weaker}
+use Rattle.dr_entry.proofs.ListFacts.{five_behind}
 use Rattle.dr_picture.specs.Marks.{layer_text}
 use Rattle.dr_picture.specs.Sheet.{Drawn, layers_text}
-use Rattle.dr_picture.proofs.Layers.{five_behind}
 use Rattle.dr_picture.proofs.sheet.Sheet.push_layers.Goals as goal
 
 pub returns : goal.returns

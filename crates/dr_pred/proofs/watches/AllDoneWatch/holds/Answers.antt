@@ -1,7 +1,8 @@
 use Rattle.std.proofs.Common.{◌≡◌}
+use Rattle.dr_history.proofs.Tests.{by_bits}
 use Rattle.dr_words.specs.declared.column.TheConstants.{DONE_COLUMN}
 use Rattle.dr_rows.specs.Words.{seen}
-use Rattle.dr_pred.proofs.Gathered.{by_bits, each_iff}
+use Rattle.dr_words.proofs.Masks.{each_iff}
 use Rattle.dr_pred.proofs.watches.AllDoneWatch.holds.Goals as goal
 
 pub returns : goal.returns

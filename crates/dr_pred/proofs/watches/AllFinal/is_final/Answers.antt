@@ -1,9 +1,10 @@
 use Rattle.std.proofs.Common.{◌≡◌, ◌<◌, ◌^◌, ℕ, true, sym, subst, arith}
 use Rattle.std.specs.List.{All}
+use Rattle.dr_history.proofs.Tests.{all_words, by_bits}
 use Rattle.dr_words.specs.Packing.{is_final}
 use Rattle.dr_rows.specs.Words.{seen}
-use Rattle.dr_pred.proofs.Forms.{recv_small}
-use Rattle.dr_pred.proofs.Gathered.{all_words, by_bits, column_iff}
+use Rattle.dr_words.proofs.Columns.{recv_small}
+use Rattle.dr_words.proofs.Masks.{column_iff}
 use Rattle.dr_pred.proofs.watches.AllFinal.is_final.Goals as goal
 
 pub all_final-requires : goal.all_final-requires

@@ -1,6 +1,7 @@
 use Rattle.std.proofs.Common.{◌≤◌, refl, arith}
+use Rattle.dr_history.proofs.Tests.{by_bits}
 use Rattle.dr_words.specs.Packing.{accept_promise}
-use Rattle.dr_pred.proofs.Gathered.{by_bits, column_iff}
+use Rattle.dr_words.proofs.Masks.{column_iff}
 use Rattle.dr_pred.proofs.watches.PromisedAt.is_promised.Goals as goal
 
 pub returns : goal.returns

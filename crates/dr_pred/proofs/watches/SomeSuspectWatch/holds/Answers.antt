@@ -1,10 +1,11 @@
 use Rattle.std.proofs.Common.{◌≡◌, ◌<◌, ◌^◌, ℕ, true, subst, sym}
 use Rattle.std.specs.List.{All}
 use Rattle.dr_history.specs.Members.{has}
+use Rattle.dr_history.proofs.Tests.{all_words, by_bits}
 use Rattle.dr_words.specs.declared.column.TheConstants.{SUSPECTED_COLUMN}
 use Rattle.dr_rows.specs.Words.{seen}
-use Rattle.dr_pred.proofs.Forms.{suspected_small}
-use Rattle.dr_pred.proofs.Gathered.{all_words, by_bits, some_iff}
+use Rattle.dr_words.proofs.Forms.{suspected_small}
+use Rattle.dr_words.proofs.Masks.{some_iff}
 use Rattle.dr_pred.proofs.watches.SomeSuspectWatch.holds.Goals as goal
 
 pub any_suspects-requires-clause-masks : goal.any_suspects-requires-clause-masks

@@ -1,8 +1,8 @@
 use Rattle.std.proofs.Common.{◌≡◌, ap, inr, rules, subst, true, List, ℕ, Option}
 use Rattle.dr_progress.specs.Progress.{Standing}
 use Rattle.dr_text.specs.Writing.{WroteFront}
+use Rattle.dr_text.proofs.Reports.{wrote_some}
 use Rattle.dr_progress.specs.declared.line.TheConstants.{BLANK}
-use Rattle.dr_progress.proofs.Saying.{wrote_some}
 use Rattle.dr_progress.proofs.progress.Progress.end.Goals as goal
 
 pub returns-then-self : goal.returns-then-self

@@ -1,6 +1,6 @@
 use Rattle.std.proofs.Common.{◌≡◌, ◌+◌, ℕ, IfSome, rules, subst}
+use Rattle.dr_entry.proofs.OptionFacts.{next_due}
 use Rattle.dr_io.specs.Sink.{Gains}
-use Rattle.dr_progress.proofs.Saying.{next_due}
 use Rattle.dr_progress.proofs.progress.Progress.say.Goals as goal
 
 pub returns-in-Ok-write_all-clause-next : goal.returns-in-Ok-write_all-clause-next

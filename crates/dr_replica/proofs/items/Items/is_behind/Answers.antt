@@ -3,14 +3,14 @@ use Rattle.std.specs.List.{Any, list_any}
 use Rattle.std.proofs.lemmas.Bool.{ltb-true}
 use Rattle.std.proofs.lemmas.Bool.Decides.{nat_tests}
 use Rattle.std.proofs.lemmas.List.Folds.{Any-from_list_any, list_any-from_Any}
+use Rattle.dr_entry.proofs.BoolFacts.{same_test}
 use Rattle.dr_replica.specs.Items.{Held}
-use Rattle.dr_replica.proofs.Received.{same_truth}
 use Rattle.dr_replica.proofs.items.Items.is_behind.Goals as goal
 
 -- the test of a list of numbers, told by its elements
 test_is : (b : Bool) (k : ℕ) (xs : List ℕ) → (b ≡ true) ↔ Any (λ x. k < x) xs
     → b ≡ list_any (nat_lt k) xs
-test_is b k xs told = same_truth b (list_any (nat_lt k) xs)
+test_is b k xs told = same_test b (list_any (nat_lt k) xs)
     (λ e. let x = told.0 e in
     list_any-from_Any (nat_lt k) xs (x.0, x.1, x.2, x.3, grind (arith, nat_tests, x.4)))
     (λ e. let x = Any-from_list_any (nat_lt k) xs e in

@@ -1,8 +1,9 @@
 use Rattle.std.proofs.Common.{rules, ◌<◌, length, sym, subst, arith}
 use Rattle.std.proofs.lemmas.Grind.{common_steps}
 use Rattle.std.proofs.lemmas.List.{get_or_read}
+use Rattle.dr_form.proofs.Gains.{nulls_after}
 use Rattle.dr_replica.specs.Items.{Held}
-use Rattle.dr_replica.proofs.Places.{nulls_after, taken_above}
+use Rattle.dr_replica.proofs.Places.{taken_above}
 use Rattle.dr_replica.proofs.items.Items.take.Goals as goal
 
 pub front_from-self-inside-requires-clause-held : goal.front_from-self-inside-requires-clause-held

@@ -5,9 +5,10 @@ use Rattle.dr_words.specs.Columns.{columns_of}
 use Rattle.dr_replica.specs.Lefts.{IsSpare}
 use Rattle.dr_rows.specs.Words.{begun, with_own}
 use Rattle.dr_program.specs.Form.{HasForm}
-use Rattle.dr_program.proofs.OpeningForm.{begun_in_form}
+use Rattle.dr_program.proofs.OpeningForm.{begun_in_form, someone}
+use Rattle.dr_program.proofs.Replicas.{few_messages_each, small_room}
 use Rattle.dr_replica.specs.declared.replica.Replica.TheInside.{Inside}
-use Rattle.dr_replica.proofs.Openings.{AreBegun, AreReserved, few_messages_each, small_room, someone, begun_view, begun_inside}
+use Rattle.dr_replica.proofs.Openings.{AreBegun, AreReserved, begun_view, begun_inside}
 use Rattle.dr_replica.proofs.replica.Replica.begin.Goals as goal
 use Rattle.dr_replica.proofs.replica.Replica.begin.Goals.{After-no_value, else-has, then-has}
 

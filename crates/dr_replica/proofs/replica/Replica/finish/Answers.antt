@@ -16,8 +16,9 @@ use Rattle.dr_replica.specs.Inside.{replica_inside}
 use Rattle.dr_replica.specs.Lefts.{left_of}
 use Rattle.std.specs.Prelude.{vec_capacity}
 use Rattle.std.proofs.lemmas.List.{map-append}
+use Rattle.dr_program.proofs.Replicas.{entered_some}
 use Rattle.dr_replica.proofs.Delivering.{taken_within}
-use Rattle.dr_replica.proofs.Leaving.{AreLeft, AreTaken, ended_entries, ended_views, entered_inside, entered_some, left_after, left_form, may_leave, spare_taken}
+use Rattle.dr_replica.proofs.Leaving.{AreLeft, AreTaken, ended_entries, ended_views, entered_inside, left_after, left_form, may_leave, spare_taken}
 use Rattle.dr_replica.proofs.replica.Replica.finish.Goals as goal
 
 pub deliver_rest-requires-clause-room : goal.deliver_rest-requires-clause-room

@@ -1,8 +1,9 @@
 use Rattle.std.proofs.Common.{◌<◌, ℕ, List, length, ap, ◌∙◌, arith}
+use Rattle.dr_order.proofs.Merges.{fewer_left}
 use Rattle.dr_program.specs.Replica.{Replica}
 use Rattle.dr_trim.specs.Trims.{trims_by_rank}
 use Rattle.dr_replica.specs.Rests.{has_taken}
-use Rattle.dr_replica.proofs.Delivering.{counted_all, counted_few, counted_more, fewer_left, fits_is, fits_told, taken_within}
+use Rattle.dr_replica.proofs.Delivering.{counted_all, counted_few, counted_more, fits_is, fits_told, taken_within}
 use Rattle.dr_replica.proofs.Places.{trims_held}
 use Rattle.dr_replica.proofs.replica.Replica.has_room_for.Goals as goal
 

@@ -3,10 +3,11 @@ use Rattle.dr_entry.specs.declared.end.SentItem.{SentItem}
 use Rattle.dr_entry.specs.declared.end.ViewSent.{ViewSent}
 use Rattle.dr_program.specs.Program.{member_end, sent_before}
 use Rattle.dr_program.specs.Replica.{Replica}
+use Rattle.dr_program.proofs.Programs.{end_told}
 use Rattle.dr_replica.specs.Inside.{replica_inside}
 use Rattle.dr_replica.specs.Lefts.{left_of}
 use Rattle.dr_replica.specs.declared.left.Left.{Left}
-use Rattle.dr_replica.proofs.Lefts.{end_told, put_all, put_before, put_few}
+use Rattle.dr_replica.proofs.Lefts.{put_all, put_before, put_few}
 use Rattle.dr_replica.proofs.replica.Replica.into_end.Goals as goal
 
 pub overflow_cast-len : goal.overflow_cast-len

@@ -2,9 +2,9 @@ use Rattle.std.proofs.Common.{◌≡◌, ◌==◌, ◌&&◌, true, false, sym, a
 use Rattle.dr_history.specs.Members.{has}
 use Rattle.dr_program.proofs.Voting.{view_small}
 use Rattle.dr_program.specs.Replica.{is_welcomer}
-use Rattle.dr_replica.proofs.Joining.{both_of, welcomer_is}
 use Rattle.dr_replica.specs.Inside.{replica_inside}
 use Rattle.dr_words.specs.Masks.{least_of}
+use Rattle.dr_words.proofs.Masks.{both_of, welcomer_is}
 use Rattle.dr_replica.proofs.replica.Replica.is_welcomer.Goals as goal
 
 pub returns-then-has : goal.returns-then-has

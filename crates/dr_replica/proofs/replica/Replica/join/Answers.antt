@@ -9,12 +9,13 @@ use Rattle.dr_words.specs.Columns.{columns_of}
 use Rattle.dr_words.specs.declared.column.TheConstants.{LOGGED_COLUMN}
 use Rattle.dr_program.specs.Form.{HasForm}
 use Rattle.dr_program.specs.Replica.{LeftView, Replica, greatest, joined, nothing_left}
+use Rattle.dr_program.proofs.Replicas.{entered_some}
 use Rattle.dr_replica.specs.Inside.{replica_inside}
 use Rattle.dr_replica.specs.Items.{none_held}
 use Rattle.dr_replica.specs.Lefts.{left_of}
 use Rattle.dr_replica.specs.declared.left.Left.{Left}
 use Rattle.dr_replica.proofs.Joining.{AreJoined, MayJoin, join_form, may_join, skipped_views}
-use Rattle.dr_replica.proofs.Leaving.{AreTaken, entered_inside, entered_some, entered_view, spare_taken}
+use Rattle.dr_replica.proofs.Leaving.{AreTaken, entered_inside, entered_view, spare_taken}
 use Rattle.dr_replica.proofs.replica.Replica.join.Goals as goal
 
 pub take_letter-requires : goal.take_letter-requires

@@ -1,7 +1,7 @@
 use Rattle.std.proofs.Common.{◌&&◌, not, sym, ap, ◌∙◌}
+use Rattle.dr_entry.proofs.BoolFacts.{newcomer_test}
 use Rattle.dr_history.specs.Members.{has}
 use Rattle.dr_program.specs.Replica.{Replica}
-use Rattle.dr_replica.proofs.Joining.{newcomer_test}
 use Rattle.dr_replica.proofs.replica.Replica.lacks_letter.Goals as goal
 
 pub returns-then-has : goal.returns-then-has

@@ -1,7 +1,7 @@
 use Rattle.std.proofs.Common.{◌≡◌, ℕ, Option, ap, ◌∙◌, subst, arith}
 use Rattle.std.specs.Option.{unwrap_or}
 use Rattle.dr_program.specs.Replica.{Replica, least_seen}
-use Rattle.dr_replica.proofs.Received.{least_by}
+use Rattle.dr_program.proofs.Least.{least_by}
 use Rattle.dr_replica.specs.Inside.{replica_inside}
 use Rattle.dr_replica.proofs.replica.Replica.least_seen.Goals as goal
 

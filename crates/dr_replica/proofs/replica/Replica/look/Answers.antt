@@ -5,12 +5,13 @@ use Rattle.dr_words.specs.Columns.{columns_of}
 use Rattle.dr_words.specs.Form.{IsInForm}
 use Rattle.dr_words.specs.Grown.{Grown, HasGrown}
 use Rattle.dr_words.specs.declared.column.TheConstants.{RECEIVED_COLUMN}
-use Rattle.dr_replica.proofs.Received.{grown_received}
 use Rattle.dr_program.specs.Replica.{Replica, is_other, least_seen, looked}
 use Rattle.dr_program.specs.Form.{HasForm}
+use Rattle.dr_program.proofs.Least.{grown_received}
+use Rattle.dr_program.proofs.Replicas.{grown_to}
 use Rattle.dr_replica.specs.Inside.{replica_inside}
 use Rattle.dr_form.proofs.Keeps.{looked_keeps, looked_rises}
-use Rattle.dr_replica.proofs.Insides.{state_kept, grown_to}
+use Rattle.dr_replica.proofs.Insides.{state_kept}
 use Rattle.dr_replica.proofs.replica.Replica.look.Goals as goal
 
 there : (c : goal.After-look) → replica_inside (record c.self.inside { rows = c.look.new.self })

@@ -5,11 +5,12 @@ use Rattle.dr_rows.proofs.Along.{looked_stays}
 use Rattle.dr_words.specs.Form.{IsInForm}
 use Rattle.dr_words.specs.Grown.{HasGrown}
 use Rattle.dr_words.specs.declared.column.TheConstants.{RECEIVED_COLUMN}
-use Rattle.dr_replica.proofs.Along.{MayLook, looked_on, looks_keep}
-use Rattle.dr_replica.proofs.Received.{grown_received}
 use Rattle.dr_program.specs.Replica.{Replica, is_other, least_seen}
 use Rattle.dr_program.specs.Form.{HasForm}
 use Rattle.dr_program.specs.Steps.{NoWordFell}
+use Rattle.dr_program.proofs.Replicas.{MayLook, looked_on}
+use Rattle.dr_program.proofs.Least.{grown_received}
+use Rattle.dr_form.proofs.Keeps.{looks_keep}
 use Rattle.dr_replica.specs.Inside.{replica_inside}
 use Rattle.dr_replica.proofs.Insides.{state_kept}
 use Rattle.dr_replica.proofs.replica.Replica.look_row.Goals as goal

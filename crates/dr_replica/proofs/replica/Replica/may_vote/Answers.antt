@@ -2,7 +2,8 @@ use Rattle.std.proofs.Common.{◌==◌, ◌&&◌, sym, ap, ◌∙◌}
 use Rattle.std.specs.Prelude.{nat_eq}
 use lib.Pointwise.{pointwise}
 use Rattle.dr_entry.specs.declared.record.Value.{Value}
-use Rattle.dr_replica.proofs.Choosing.{no_vote_told, value_compared, vote_told}
+use Rattle.dr_program.proofs.Voting.{no_vote_told, value_compared}
+use Rattle.dr_program.proofs.Replicas.{vote_told}
 use Rattle.dr_replica.proofs.replica.Replica.may_vote.Goals as goal
 
 pub returns-then-votes : goal.returns-then-votes

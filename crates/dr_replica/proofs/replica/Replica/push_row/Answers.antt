@@ -3,11 +3,12 @@ use Rattle.dr_rows.specs.Along.{Pushes, pushed_along}
 use Rattle.dr_rows.specs.Words.{Words}
 use Rattle.dr_rows.proofs.Along.{pushed_stays}
 use Rattle.dr_words.specs.declared.column.TheConstants.{RECEIVED_COLUMN}
-use Rattle.dr_replica.proofs.Along.{pushes_grow, pushes_keep}
-use Rattle.dr_replica.proofs.Received.{grown_received}
 use Rattle.dr_program.specs.Replica.{Replica, least_seen}
 use Rattle.dr_program.specs.Form.{HasForm}
 use Rattle.dr_program.specs.Steps.{NoWordFell}
+use Rattle.dr_program.proofs.Replicas.{pushes_grow}
+use Rattle.dr_program.proofs.Least.{grown_received}
+use Rattle.dr_form.proofs.Keeps.{pushes_keep}
 use Rattle.dr_replica.specs.Inside.{replica_inside}
 use Rattle.dr_replica.proofs.Insides.{state_kept}
 use Rattle.dr_replica.proofs.replica.Replica.push_row.Goals as goal

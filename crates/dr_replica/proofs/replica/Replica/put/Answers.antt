@@ -4,8 +4,7 @@ use Rattle.dr_program.specs.Replica.{Replica, is_inside, least_seen, put}
 use Rattle.dr_ring.specs.Slots.{IsFree}
 use Rattle.dr_replica.specs.Inside.{replica_inside}
 use Rattle.dr_form.specs.Puts.{MayPut}
-use Rattle.dr_form.proofs.Keeps.{put_form}
-use Rattle.dr_replica.proofs.Received.{put_received}
+use Rattle.dr_form.proofs.Keeps.{put_form, put_received}
 use Rattle.dr_words.specs.declared.column.TheConstants.{RECEIVED_COLUMN}
 use Rattle.dr_replica.proofs.Exchanges.{WasPut, items_kept, put_after, put_shows, room_left}
 use Rattle.dr_replica.proofs.replica.Replica.put.Goals as goal

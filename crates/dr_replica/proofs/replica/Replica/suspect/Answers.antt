@@ -5,8 +5,10 @@ use Rattle.dr_rows.specs.Words.{own}
 use Rattle.dr_program.specs.Replica.{Replica, is_inside, may_suspect, suspected}
 use Rattle.dr_words.specs.Masks.{least_of, without}
 use Rattle.dr_words.specs.Rewrites.{wedged_word}
+use Rattle.dr_words.proofs.Masks.{somebody}
+use Rattle.dr_program.proofs.Replicas.{may_of}
 use Rattle.dr_replica.specs.Inside.{replica_inside}
-use Rattle.dr_replica.proofs.Insides.{may_of, somebody, suspected_after, suspected_kept, voter_read}
+use Rattle.dr_replica.proofs.Insides.{suspected_after, suspected_kept, voter_read}
 use Rattle.dr_form.proofs.Wedging.{recv_small, suspected_rises}
 use Rattle.dr_replica.proofs.replica.Replica.suspect.Goals as goal
 

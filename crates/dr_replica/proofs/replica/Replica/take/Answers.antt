@@ -1,8 +1,8 @@
 use Rattle.std.proofs.Common.{◌≡◌, refl, sym, ap, ◌∙◌}
 use Rattle.dr_program.specs.Acts.{taken}
 use Rattle.dr_program.specs.Replica.{Replica, acted}
+use Rattle.dr_program.proofs.Replicas.{form_to, grown_to}
 use Rattle.dr_form.proofs.Keeps.{taken_grown, taken_keeps, taken_other}
-use Rattle.dr_replica.proofs.Insides.{form_to, grown_to}
 use Rattle.dr_replica.proofs.replica.Replica.take.Goals as goal
 use Rattle.dr_replica.proofs.replica.Replica.take.Goals.{After-stamp}
 

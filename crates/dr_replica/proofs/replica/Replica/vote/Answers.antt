@@ -3,8 +3,9 @@ use Rattle.std.specs.Prelude.{vec_capacity}
 use Rattle.dr_program.proofs.Voting.{vote_room}
 use Rattle.dr_program.specs.Form.{HasForm}
 use Rattle.dr_program.specs.Replica.{Replica, may_vote, voted}
+use Rattle.dr_program.proofs.Replicas.{may_of}
 use Rattle.dr_form.proofs.Accepting.{voted_form}
-use Rattle.dr_replica.proofs.Insides.{may_of, voted_after, votes_kept}
+use Rattle.dr_replica.proofs.Insides.{voted_after, votes_kept}
 use Rattle.dr_replica.specs.Inside.{replica_inside}
 use Rattle.dr_replica.proofs.replica.Replica.vote.Goals as goal
 

@@ -1,10 +1,11 @@
 use Rattle.std.proofs.Common.{◌≡◌, ◌+◌, ◌<◌, ℕ, ◌++◌, length, List, sym, ap, ◌∙◌, arith}
 use Rattle.dr_entry.specs.declared.entry.Entry.{Entry}
 use Rattle.dr_entry.specs.declared.entry.Item.{Item}
+use Rattle.dr_order.proofs.Merges.{fewer_left}
 use Rattle.dr_machine.specs.Effects.{entries_of}
 use Rattle.dr_replica.specs.History.{Kept}
 use Rattle.dr_replica.specs.Items.{sender_held_at}
-use Rattle.dr_replica.proofs.Delivering.{fewer_left, history_is, merged_longer, next_merged, none_merged}
+use Rattle.dr_replica.proofs.Delivering.{history_is, merged_longer, next_merged, none_merged}
 use Rattle.dr_replica.specs.Rests.{merged_from, with_item}
 use Rattle.dr_replica.proofs.replica.finish.deliver_rest.Goals as goal
 

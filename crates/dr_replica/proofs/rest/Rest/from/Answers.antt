@@ -1,8 +1,8 @@
 use Rattle.std.proofs.Common.{ℕ, length, slice_index, sym, ap, subst, ◌∙◌}
 use Rattle.std.proofs.lemmas.List.{length-map}
 use Rattle.dr_history.specs.Members.{members_of}
+use Rattle.dr_program.proofs.Replicas.{greatest_most}
 use Rattle.dr_replica.specs.Spots.{IsSpot}
-use Rattle.dr_replica.proofs.Places.{greatest_most}
 use Rattle.dr_replica.proofs.rest.Rest.from.Goals as goal
 
 pub invariant_of-result : goal.invariant_of-result

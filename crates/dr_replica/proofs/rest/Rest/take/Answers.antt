@@ -1,6 +1,7 @@
 use Rattle.std.proofs.Common.{◌≡◌, ℕ, ◌<◌, ◌^◌, length, sym, ap, subst, ◌∙◌, arith, nat_lt, slice_index, true, false, List, Some}
+use Rattle.dr_history.proofs.Places.{none_to}
 use Rattle.dr_order.specs.Merge.{IsNextHeld}
-use Rattle.dr_replica.proofs.Rests.{none_to, taken_read, taken_small}
+use Rattle.dr_replica.proofs.Rests.{taken_read, taken_small}
 use Rattle.dr_replica.proofs.rest.Rest.take.Goals as goal
 
 pub step-requires-clause-small : goal.step-requires-clause-small

@@ -1,6 +1,6 @@
 use Rattle.std.proofs.Common.{◌≤◌, ap, sym, subst, All, List, ℕ, length}
 use Rattle.dr_entry.specs.declared.limits.TheConstants.{MAX_MESSAGES}
-use Rattle.dr_senders.proofs.Growth.{each_of_map}
+use Rattle.dr_entry.proofs.ListParts.{each_of_map}
 use Rattle.dr_senders.specs.Pushing.{given_by}
 use Rattle.dr_senders.specs.Senders.{Lists, SendersState}
 use Rattle.dr_senders.specs.declared.sender.Sender.{Sender}

@@ -1,10 +1,10 @@
 use Rattle.std.proofs.Common.{rules, sym, ap, ◌∙◌}
-use Rattle.dr_age.proofs.Beginning.{is_begun, begun_is_sound}
+use Rattle.dr_age.proofs.Beginning.{is_begun, begun_is_sound, begun_forms}
 use Rattle.dr_age.specs.Sound.{IsSound}
 use Rattle.dr_program.specs.Presence.{present_at}
 use Rattle.dr_restart.specs.Groups.{group_of}
 use Rattle.dr_sim.specs.Sound.{program_over}
-use Rattle.dr_sim.proofs.Begun.{begun_forms, begun_lists}
+use Rattle.dr_sim.proofs.Begun.{begun_lists}
 use Rattle.dr_sim.proofs.simulation.Simulation.begin.Goals as goal
 
 pub no_posts-requires : goal.no_posts-requires

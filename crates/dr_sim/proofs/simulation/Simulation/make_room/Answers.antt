@@ -1,6 +1,7 @@
 use Rattle.std.proofs.Common.{arith}
 use Rattle.dr_program.proofs.Present.{present_within}
-use Rattle.dr_sim.proofs.Rooms.{none_made, one_more_made, stays_set}
+use Rattle.dr_age.proofs.LoggedMembers.{none_made}
+use Rattle.dr_sim.proofs.Rooms.{one_more_made, stays_set}
 use Rattle.dr_sim.proofs.Steps.{place_read}
 use Rattle.dr_sim.proofs.simulation.Simulation.make_room.Goals as goal
 

@@ -1,6 +1,6 @@
 use Rattle.std.proofs.Common.{rules, sym, ◌∙◌, ◌≡◌, length, subst, arith}
 use Rattle.std.specs.List.{range_with_len}
-use Rattle.dr_sim.proofs.Logs.{places_both, places_same}
+use Rattle.dr_logged.proofs.Served.{places_both, places_same}
 use Rattle.dr_sim.proofs.Turns.{HasTurns, round_begins, round_ends, round_goes_on, round_passes}
 use Rattle.dr_sim.proofs.simulation.Simulation.take_round.Goals as goal
 use Rattle.dr_sim.proofs.simulation.Simulation.take_round.Goals.{then-not-has_ended, else-not-has_ended}

@@ -1,14 +1,14 @@
 use Rattle.std.proofs.Common.{refl, sym, ap, ◌∙◌, subst, List}
 use Rattle.dr_sim.specs.Places.{HasServedAt, IsReadyAt}
 use Rattle.dr_program.specs.Program.{Program, has_ended}
-use Rattle.dr_program.proofs.Present.{present_kept}
+use Rattle.dr_program.proofs.Present.{present_kept, at_set}
 use Rattle.dr_program.specs.Running.{Running}
 use Rattle.dr_age.specs.Sound.{IsSound}
 use Rattle.dr_sim.proofs.Lists.{lists_on, turn_told}
 use Rattle.dr_sim.proofs.Places.{same_place}
 use Rattle.dr_sim.specs.Sound.{program_over}
 use Rattle.dr_sim.proofs.Turns.{HasTurn}
-use Rattle.dr_sim.proofs.Steps.{among_read, at_set, going_there, goes_there}
+use Rattle.dr_sim.proofs.Steps.{among_read, going_there, goes_there}
 use Rattle.dr_sim.proofs.simulation.Simulation.take_turn.Goals as goal
 use Rattle.dr_program.specs.Presence.{present_at, with_present}
 use Rattle.std.specs.Prelude.{Option}

@@ -1,5 +1,7 @@
 use Rattle.std.proofs.Common.{rules}
-use Rattle.dr_sim.proofs.Logs.{as_many, places_on, ready_on, served_on}
+use Rattle.dr_logged.proofs.Served.{places_on}
+use Rattle.dr_age.proofs.Sound.{as_many}
+use Rattle.dr_sim.proofs.Logs.{ready_on, served_on}
 use Rattle.dr_sim.proofs.Places.{ready_at, served_at}
 use Rattle.dr_sim.proofs.simulation.Simulation.take_turn_of.Goals as goal
 

@@ -1,6 +1,6 @@
 use Rattle.std.proofs.Common.{ap, ◌∙◌}
 use Rattle.dr_program.specs.Program.{Program}
-use Rattle.dr_sim.proofs.Steps.{all_in_form, all_within}
+use Rattle.dr_age.proofs.Sound.{all_in_form, all_within}
 use Rattle.dr_sim.proofs.simulation.Simulation.tell_end.Goals as goal
 
 pub close-requires-clause-form : goal.close-requires-clause-form

@@ -1,9 +1,10 @@
 use Rattle.std.proofs.Common.{ap, sym, subst, []}
 use Rattle.std.specs.FinMap as maps
+use Rattle.dr_entry.proofs.ListFacts.{by_bytes}
 use Rattle.dr_store.specs.Stock.{ChangesByKey, HasNothingLater, Stock, IsStoreOf}
 use Rattle.dr_store.specs.Tables.{KeyTable, listed}
 use Rattle.dr_store.proofs.Standing.{kept-new, stands-new}
-use Rattle.dr_store.proofs.Tables.{by_bytes, changes_none}
+use Rattle.dr_store.proofs.Tables.{changes_none}
 use Rattle.dr_store.proofs.store.Store.new.Goals as goal
 
 fresh : ChangesByKey → Stock

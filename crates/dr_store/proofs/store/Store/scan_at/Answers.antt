@@ -2,12 +2,13 @@ use Rattle.std.proofs.Common.{ap, sym, ◌∙◌}
 use Rattle.std.specs.Prelude.{filter_map}
 use Rattle.std.specs.FinMap as maps
 use Rattle.std.specs.Result.{result_err}
+use Rattle.dr_entry.proofs.ListFacts.{by_bytes}
+use Rattle.dr_entry.proofs.BoolFacts.{holds}
 use Rattle.dr_store.specs.Commands.{contents}
 use Rattle.dr_store.specs.Stock.{found_at, values_at}
 use Rattle.dr_store.specs.Tables.{listed}
 use Rattle.dr_store.proofs.Scanning.{values_in}
 use Rattle.dr_store.proofs.Standing.{not_refused}
-use Rattle.dr_store.proofs.Tables.{by_bytes, holds}
 use Rattle.dr_store.proofs.store.Store.scan_at.Goals as goal
 
 pub returns-clause-values : goal.returns-clause-values

@@ -2,11 +2,11 @@ use Rattle.std.proofs.Common.{◌≡◌, ◌⊎◌, inl, inr, sym, subst, ℕ, �
 use Rattle.std.proofs.lemmas.Bool.{cases_lt}
 use Rattle.std.proofs.lemmas.Grind.{common_steps}
 use Rattle.std.specs.List.{list_all}
+use Rattle.dr_entry.proofs.BoolFacts.{naming}
 use Rattle.dr_history.specs.Members.{has}
 use Rattle.dr_suspect.specs.Suspicion.{may_name, names, spreads}
 use Rattle.dr_suspect.specs.Wishes.{is_silent, may_wish}
 use Rattle.dr_suspect.proofs.Finds.{second_found, second_missing}
-use Rattle.dr_suspect.proofs.Naming.{naming}
 use Rattle.dr_suspect.proofs.suspects.Suspects.next_spread.Goals as goal
 use Rattle.dr_suspect.proofs.suspects.Suspects.next_spread.Goals.{then-has+in_default, else-has}
 

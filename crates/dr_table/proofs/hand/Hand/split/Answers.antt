@@ -7,9 +7,10 @@ use Rattle.dr_table.specs.declared.rule.View.{View}
 use Rattle.dr_table.specs.Slots.{Slot}
 use Rattle.dr_table.proofs.Members.{idle_is}
 use Rattle.dr_table.specs.Steps.{AreAhead, IsReachedMember}
-use Rattle.dr_table.proofs.Hands.{ahead_drop, ahead_take, each_drop, each_take}
+use Rattle.dr_table.proofs.Hands.{ahead_drop, ahead_take}
 use Rattle.dr_table.proofs.hand.Hand.split.Goals as goal
 use Rattle.std.specs.Prelude.{Option}
+use Rattle.dr_program.proofs.Present.{each_drop, each_take}
 
 pub invariant_of-result-2 : goal.invariant_of-result-2
 invariant_of-result-2 c =

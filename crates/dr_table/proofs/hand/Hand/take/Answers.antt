@@ -6,12 +6,13 @@ use Rattle.dr_entry.specs.declared.entry.Entry.{Entry}
 use Rattle.dr_form.specs.Letters.{IsFitting}
 use Rattle.dr_program.specs.Presence.{with_present}
 use Rattle.dr_program.specs.Running.{Running, next_deed, settled, took_letter}
+use Rattle.dr_member.proofs.Deeds.{a_take}
 use Rattle.dr_table.specs.Cards.{Cards, DealtTable}
 use Rattle.dr_table.specs.Steps.{FindsLetter, IsReachedMember, MayTake}
 use Rattle.dr_table.proofs.Deeds.{took_told}
 use Rattle.dr_table.proofs.Keeping.{take_reached}
 use Rattle.dr_table.proofs.Hands.{seat_has}
-use Rattle.dr_table.proofs.Holding.{a_take, fits_list, taken_fits}
+use Rattle.dr_table.proofs.Holding.{fits_list, taken_fits}
 use Rattle.dr_table.proofs.Members.{fewer, index_within, lent, never_empty, only, stepped_inside, there, took_so}
 use Rattle.dr_table.proofs.hand.Hand.take.Goals as goal
 

@@ -1,6 +1,6 @@
 use Rattle.std.proofs.Common.{◌++◌, ◌∙◌, ap, sym}
+use Rattle.dr_entry.proofs.ListFacts.{text_more}
 use Rattle.dr_text.specs.Report.{age_text}
-use Rattle.dr_text.proofs.Texts.{text_more}
 use Rattle.dr_text.proofs.long_text.LongText.of_ages.Goals as goal
 
 pub loop-age-preserved : goal.loop-age-preserved

@@ -1,5 +1,5 @@
+use Rattle.dr_entry.proofs.ListFacts.{concat_behind}
 use Rattle.dr_text.specs.Report.{age_text}
-use Rattle.dr_text.proofs.Texts.{concat_behind}
 use Rattle.dr_text.proofs.long_text.LongText.push_age_text.Goals as goal
 
 pub returns : goal.returns

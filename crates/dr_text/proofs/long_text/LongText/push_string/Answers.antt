@@ -1,7 +1,8 @@
 use Rattle.std.proofs.Common.{◌≡◌, ◌++◌, ◌∷◌, [], ◌∙◌, ap, refl, string_bytes}
 use Rattle.std.proofs.lemmas.List.{append-nil}
+use Rattle.dr_entry.proofs.ListFacts.{concat_behind}
 use Rattle.dr_text.specs.declared.pieces.Piece.{Piece}
-use Rattle.dr_text.proofs.Texts.{concat_behind, piece_more}
+use Rattle.dr_text.proofs.Texts.{piece_more}
 use Rattle.dr_text.proofs.long_text.LongText.push_string.Goals as goal
 
 pub returns : goal.returns

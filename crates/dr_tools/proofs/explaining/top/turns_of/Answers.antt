@@ -1,7 +1,7 @@
 use Rattle.std.proofs.Common.{◌≡◌, ◌∙◌, ◌++◌, [], ap, rules, string_bytes}
+use Rattle.dr_entry.proofs.ListFacts.{three_told}
 use Rattle.dr_tools.specs.Explained.{taken_line, turns_line}
 use Rattle.dr_complete.specs.Enough.{most_messages}
-use Rattle.dr_tools.proofs.ExplainLines.{three_told}
 use Rattle.dr_tools.proofs.explaining.top.turns_of.Goals as goal
 
 pub returns : goal.returns

@@ -1,6 +1,6 @@
 use Rattle.std.proofs.Common.{◌<◌, get_or, length, string_bytes, arith}
 use Rattle.std.proofs.lemmas.List.{get_or_default}
-use Rattle.dr_text.proofs.Numbers.{numbered_texts_more}
+use Rattle.dr_entry.proofs.ListFacts.{numbered_texts_more}
 use Rattle.dr_tools.specs.LogText.{taken_text}
 use Rattle.dr_tools.proofs.log.votes.push_taken.Goals as goal
 

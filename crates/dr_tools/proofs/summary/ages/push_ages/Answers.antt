@@ -1,8 +1,8 @@
 use Rattle.std.proofs.Common.{string_bytes, subst, sym, arith}
 use Rattle.dr_entry.specs.declared.end.AgeEnd.{AgeEnd}
+use Rattle.dr_entry.proofs.ListFacts.{numbered_texts_more}
 use Rattle.dr_history.specs.declared.opening.Opening.{Opening}
 use Rattle.dr_summary.specs.Summary.{HaveAgreed, age_text}
-use Rattle.dr_text.proofs.Numbers.{numbered_texts_more}
 use Rattle.dr_tools.proofs.summary.ages.push_ages.Goals as goal
 
 pub push_age-requires : goal.push_age-requires

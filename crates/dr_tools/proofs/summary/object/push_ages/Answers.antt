@@ -1,6 +1,6 @@
 use Rattle.std.proofs.Common.{string_bytes, arith}
+use Rattle.dr_entry.proofs.ListFacts.{numbered_texts_more}
 use Rattle.dr_summary.specs.Objects.{age_object}
-use Rattle.dr_text.proofs.Numbers.{numbered_texts_more}
 use Rattle.dr_tools.proofs.summary.object.push_ages.Goals as goal
 
 pub loop-nth-preserved : goal.loop-nth-preserved

@@ -1,6 +1,6 @@
 use Rattle.std.proofs.Common.{◌≡◌, ◌∙◌, ◌++◌, ap, string_bytes}
+use Rattle.dr_entry.proofs.ListFacts.{pushed_thrice}
 use Rattle.dr_intake.specs.Status.{status_of}
-use Rattle.dr_summary.proofs.Texts.{pushed_thrice}
 use Rattle.dr_tools.specs.Object.{ages_part, enough_part, status_part}
 use Rattle.dr_tools.proofs.summary.object.push_object.Goals as goal
 

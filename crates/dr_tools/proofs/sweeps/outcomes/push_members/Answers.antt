@@ -1,5 +1,5 @@
 use Rattle.std.proofs.Common.{string_bytes, arith}
-use Rattle.dr_text.proofs.Numbers.{numbered_texts_more}
+use Rattle.dr_entry.proofs.ListFacts.{numbered_texts_more}
 use Rattle.dr_tools.specs.Outcomes.{member_ending}
 use Rattle.dr_tools.proofs.sweeps.outcomes.push_members.Goals as goal
 

@@ -1,5 +1,5 @@
 use Rattle.std.proofs.Common.{[], ◌∷◌, arith, if◌then◌else◌, rules}
-use Rattle.dr_text.proofs.Numbers.{numbered_texts_more}
+use Rattle.dr_entry.proofs.ListFacts.{numbered_texts_more}
 use Rattle.dr_tools.specs.Parts.{stays}
 use Rattle.dr_tools.proofs.sweeps.parts.kept_messages.Goals as goal
 

@@ -3,7 +3,7 @@ use Rattle.std.specs.Prelude.{codes}
 use Rattle.dr_text.specs.Report.{last_text}
 use Rattle.dr_tools.specs.Trace.{Wrote, picture_ending}
 use Rattle.std.specs.Prelude.{Some}
-use Rattle.dr_tools.proofs.Traces.{hung}
+use Rattle.dr_seeing.proofs.Traces.{hung}
 use Rattle.dr_tools.proofs.tracing.top.hang.Goals as goal
 
 pub returns : goal.returns

@@ -1,4 +1,5 @@
-use Rattle.dr_words.proofs.Bits.{has_ones, ones_of}
+use Rattle.dr_entry.proofs.NumberFacts.{ones_of}
+use Rattle.dr_history.proofs.Bits.{has_ones}
 use Rattle.dr_words.proofs.mask.Mask.all.Goals as goal
 
 pub returns-clause-members : goal.returns-clause-members

@@ -1,6 +1,6 @@
 use Rattle.std.proofs.Common.{◌≡◌, true, length, arith, ◌∙◌}
 use Rattle.dr_history.specs.Members.{has, members_below}
-use Rattle.dr_words.proofs.Ranks.{at_rank_of, rank_within, one_left, found}
+use Rattle.dr_history.proofs.Ranks.{at_rank_of, rank_within, one_left, found}
 use Rattle.dr_words.proofs.mask.Mask.at_rank.Goals as goal
 
 pub narrow-number-requires-clause-rank : goal.narrow-number-requires-clause-rank

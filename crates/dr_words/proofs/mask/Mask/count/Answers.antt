@@ -1,5 +1,5 @@
 use Rattle.std.proofs.Common.{arith, sym}
-use Rattle.dr_words.proofs.Ranks.{length-members_of}
+use Rattle.dr_history.proofs.Ranks.{length-members_of}
 use Rattle.dr_words.proofs.mask.Mask.count.Goals as goal
 
 pub returns-clause-value : goal.returns-clause-value

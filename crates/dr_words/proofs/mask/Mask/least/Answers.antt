@@ -1,6 +1,7 @@
 use Rattle.std.proofs.Common.{arith, sym}
-use Rattle.dr_words.proofs.Bits.{has_zero}
-use Rattle.dr_words.proofs.Ranks.{first_member, least_member, no_first}
+use Rattle.dr_history.proofs.Bits.{has_zero}
+use Rattle.dr_history.proofs.Ranks.{first_member, no_first}
+use Rattle.dr_words.proofs.Ranks.{least_member}
 use Rattle.dr_words.proofs.mask.Mask.least.Goals as goal
 
 pub returns-then-self-eq0-clause-first : goal.returns-then-self-eq0-clause-first

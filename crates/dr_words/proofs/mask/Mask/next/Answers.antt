@@ -1,5 +1,5 @@
 use Rattle.std.proofs.Common.{arith}
-use Rattle.dr_words.proofs.Bits.{has_xor}
+use Rattle.dr_history.proofs.Bits.{has_xor}
 use Rattle.dr_words.proofs.Masks.{xor_is_next}
 use Rattle.dr_words.proofs.mask.Mask.next.Goals as goal
 

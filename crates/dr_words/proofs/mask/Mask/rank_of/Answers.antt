@@ -1,5 +1,5 @@
 use Rattle.std.proofs.lemmas.Option.{slice_get_within}
-use Rattle.dr_words.proofs.Ranks.{at_rank_of, ones_below}
+use Rattle.dr_history.proofs.Ranks.{at_rank_of, ones_below}
 use Rattle.dr_words.proofs.mask.Mask.rank_of.Goals as goal
 
 pub returns-clause-rank : goal.returns-clause-rank

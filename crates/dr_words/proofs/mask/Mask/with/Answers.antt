@@ -1,6 +1,6 @@
 use Rattle.std.proofs.Common.{arith}
 use Rattle.std.proofs.lemmas.Nat.{le_or_l}
-use Rattle.dr_words.proofs.Bits.{has_with}
+use Rattle.dr_history.proofs.Bits.{has_with}
 use Rattle.dr_words.proofs.Masks.{or_is_with_member}
 use Rattle.dr_words.proofs.mask.Mask.with.Goals as goal
 

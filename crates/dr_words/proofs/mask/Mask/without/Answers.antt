@@ -1,5 +1,5 @@
 use Rattle.std.proofs.Common.{arith}
-use Rattle.dr_words.proofs.Bits.{has_without}
+use Rattle.dr_history.proofs.Bits.{has_without}
 use Rattle.dr_words.proofs.Masks.{and_is_without}
 use Rattle.dr_words.proofs.mask.Mask.without.Goals as goal
 

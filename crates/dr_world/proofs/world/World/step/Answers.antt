@@ -7,12 +7,13 @@ use Rattle.dr_program.specs.Presence.{with_present}
 use Rattle.dr_program.specs.Reading.{letters_of}
 use Rattle.dr_program.specs.Replica.{me}
 use Rattle.dr_program.specs.Steps.{stored}
+use Rattle.dr_program.proofs.Replicas.{place_at}
 use Rattle.dr_refine.proofs.Steps.{stored_length}
 use Rattle.dr_world.specs.Held.{Held, its_group, its_world}
 use Rattle.dr_world.specs.Inside.{held_of}
 use Rattle.dr_world.specs.Posts.{HasLists}
 use Rattle.dr_world.specs.Steps.{IsReadyFor, may_come, stepped_with}
-use Rattle.dr_world.proofs.Taking.{MayHappen, Took, happens_ready, holding, may_stand, may_still, nobody, place_at, refused, refused_event, took}
+use Rattle.dr_world.proofs.Taking.{MayHappen, Took, happens_ready, holding, may_stand, may_still, nobody, refused, refused_event, took}
 use Rattle.dr_world.proofs.world.World.step.Goals as goal
 use Rattle.dr_world.proofs.world.World.step.Goals.{then-m-len-via-then-m-len, then-m-len-via-else-m-len+then-not-may_come}
 

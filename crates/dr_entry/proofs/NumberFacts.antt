@@ -1,0 +1,395 @@
+-- Facts of numbers.
+use Rattle.std.proofs.Common.{◌≡◌, ◌≢◌, ℕ, true, not, arith, ◌+◌, ◌≤◌, false, leb, [], refl, Bool, T, ◌&&◌, ◌*◌, ◌/◌, ◌%◌, ◌<◌, ◌⊎◌, inl, inr, ◌-◌, zero, suc, fold, ap, ◌∙◌, subst, ◌^◌, ◌↔◌, if◌then◌else◌, count_ones, add_comm, lit<, bit_and, sym, nat_lt, cond, ◌||◌, le_refl, min, eqb, ltb, ◌∷◌, Contains}
+use Rattle.std.specs.Prelude.{◌==◌, nat_le}
+use Rattle.std.proofs.lemmas.Bool.{leb-true, leb-false, cases_lt, eqb-true, false≢true, and_parts}
+use Rattle.std.proofs.lemmas.Nat.{div-add-mod', mul-le, mod-pow-add, ones_cat, mod_below, pow_pos, and_mask, one_shl, shr-shr}
+use Rattle.std.specs.List.{range_with_len, list_all}
+use Rattle.std.specs.List.Sorted.{IsStrictlyIncreasing}
+use Rattle.std.proofs.lemmas.List.FromFn.{length-range_with_len, get_or-range_with_len}
+use Rattle.std.proofs.lemmas.Nat.Bits.{ones_shr}
+use Rattle.std.proofs.lemmas.Bool.Decides.{nat_tests}
+use lib.Count.{ones}
+use Rattle.std.specs.Fmt.{digit_glyph}
+use Rattle.std.proofs.Math.Nat.{mul-le-mul}
+
+pub not_same : (m n : ℕ) → not (m == n) ≡ true → m ≢ n
+not_same m n passed = λ same. grind arith
+
+-- a version up to the next one is an earlier one or the next
+pub by_version : {P : Type 0} (v n : ℕ) → v ≤ n + 1 → (v ≤ n → P) → (v ≡ n + 1 → P) → P
+by_version {P} v n high old new =
+    elim (leb v n) as (λ b. leb v n ≡ b → P) [
+      | true ↦ λ t. old (leb-true v n t)
+      | false ↦ λ f. new (omega (arith, leb-false v n f))
+    ] refl
+
+-- a greater version isn't up to a smaller one
+pub lt-leb-false : (v n : ℕ) → v ≤ n → leb (n + 1) v ≡ false
+lt-leb-false v n less = elim (leb (n + 1) v) as (λ b. leb (n + 1) v ≡ b → b ≡ false) [
+  | true ↦
+      λ t. absurd (omega (arith, leb-true (n + 1) v t))
+  | false ↦ λ _. refl
+] refl
+
+pub both : (a b : Bool) → T a → T b → a && b ≡ true
+both true true p q = refl
+both true false p q = absurd q
+both false b p q = absurd p
+
+-- a place before that of an item is in an earlier round, or in the same round at a lower rank
+pub before_place : (n least rank p : ℕ) → rank < n → p < least * n + rank
+    → (p / n < least) ⊎ ((p / n ≡ least) × (p % n < rank))
+before_place n least rank p within below = by cases
+  where
+    cases : (p / n < least) ⊎ ((p / n ≡ least) ⊎ (least < p / n))
+    cases = grind arith
+
+    split : p / n * n + p % n ≡ p
+    split = div-add-mod' p n
+
+    by : (p / n < least) ⊎ ((p / n ≡ least) ⊎ (least < p / n))
+        → (p / n < least) ⊎ ((p / n ≡ least) × (p % n < rank))
+    by (inl earlier) = inl earlier
+    by (inr (inl same)) =
+        let whole : least * n + p % n ≡ p = rw same at split in
+        inr (same, omega (arith, whole))
+    by (inr (inr later)) =
+        let more : (least + 1) * n ≤ p / n * n =
+        mul-le (least + 1) n (p / n) n (omega arith) (omega arith) in
+        absurd (omega (arith, more, split))
+
+-- a range rises
+pub IsStrictlyIncreasing-range_with_len : (from len : ℕ) → IsStrictlyIncreasing (range_with_len from len)
+IsStrictlyIncreasing-range_with_len from len k within =
+    let next : k + 1 < len = omega (arith, length-range_with_len from len) in
+    rw (get_or-range_with_len from len k 0 (omega arith), get_or-range_with_len from len (k + 1) 0 next)
+    (omega arith)
+
+-- a fold over one number more of a range
+pub fold_range_more : {A : Type 0} (f : A → ℕ → A) (a : A) (from m j : ℕ) → from + m ≡ j
+    → fold f a (range_with_len from (m + 1)) ≡ f (fold f a (range_with_len from m)) j
+fold_range_more f a from zero j e = ap (f a) (omega (arith, e))
+fold_range_more f a from (suc m) j e =
+    ap (λ n. fold f a (range_with_len from n)) next ∙ fold_range_more f (f a from) (from + 1) m j (omega (arith, e))
+  where
+    next : suc m + 1 ≡ suc (m + 1)
+    next = omega arith
+
+-- what holds up to n and at the next number holds up to it
+pub up_to_more : (P : ℕ → Type 0) (n : ℕ)
+    → ((i : ℕ) → i ≤ n → P i) → P (n + 1) → (i : ℕ) → i ≤ n + 1 → P i
+up_to_more P n before next i within = up_to_cases (cases_lt i (n + 1))
+  where
+    up_to_cases : (i < n + 1) ⊎ (n + 1 ≤ i) → P i
+    up_to_cases (inl below) = before i (omega arith)
+    up_to_cases (inr above) = let e : n + 1 ≡ i = omega arith in subst P e next
+
+-- what holds at 0 holds up to 0
+pub up_to_none : (P : ℕ → Type 0) → P 0 → (i : ℕ) → i ≤ 0 → P i
+up_to_none P first i within = let e : 0 ≡ i = omega arith in subst P e first
+
+-- the mask of a roster's members is such a run
+pub ones_of : (members : ℕ) → 1 ≤ members → members ≤ 16
+    → 65535 / 2 ^ (16 - members) ≡ 2 ^ members - 1
+ones_of members p q =
+    let e : 16 - (16 - members) ≡ members = omega arith in
+    let l : 16 - members ≤ 16 = omega arith in
+    ones_shr 16 (16 - members) l ∙ ap (λ (x : ℕ). 2 ^ x - 1) e
+
+pub last_or_below : (i n : ℕ) → i < suc n → (i ≡ n) ⊎ (i < n)
+last_or_below i n l = grind arith
+
+pub equal_test : (a b : ℕ) → ((a == b) ≡ true) ↔ (a ≡ b)
+equal_test a b = (λ e. eqb-true a b e, λ e. grind (arith, nat_tests, e))
+
+pub other_test : (a b : ℕ) → (not (a == b) ≡ true) ↔ (a ≢ b)
+other_test a b = (λ e q. absurd (grind (arith, nat_tests, e, q)), λ d. grind (arith, nat_tests, d))
+
+-- a bit more, 2 ^ n or 0, on top of a number below 2 ^ n
+double : (n : ℕ) → 2 ^ suc n ≡ 2 ^ n + 2 ^ n
+double n = omega arith
+
+pub more_small : (m n : ℕ) (t : Bool) → m < 2 ^ n → m + (if t then 2 ^ n else 0) < 2 ^ suc n
+more_small m n true small = omega (arith, double n)
+more_small m n false small = omega (arith, double n)
+
+-- a bit counts for itself
+pub ones_bit : (b : ℕ) → b < 2 → count_ones b ≡ b
+unfolding ones
+ones_bit b l = by (two b l)
+  where
+    two : (n : ℕ) → n < 2 → (n ≡ 0) ⊎ (n ≡ 1)
+    two n h = grind arith
+
+    by : (b ≡ 0) ⊎ (b ≡ 1) → count_ones b ≡ b
+    by (inl e) = rw e refl
+    by (inr e) = rw e refl
+
+-- the low k + j bits are the low k and the j above them
+pub ones_split : (m k j : ℕ) → count_ones (m % 2 ^ (k + j))
+    ≡ count_ones (m % 2 ^ k) + count_ones (m / 2 ^ k % 2 ^ j)
+ones_split m k j =
+    ap (λ (x : ℕ). count_ones (m % 2 ^ x)) (add_comm k j) ∙ ap count_ones (mod-pow-add m j k)
+    ∙ ones_cat k (m / 2 ^ k % 2 ^ j) (m % 2 ^ k) (mod_below m (2 ^ k) (pow_pos k))
+    ∙ add_comm (count_ones (m / 2 ^ k % 2 ^ j)) (count_ones (m % 2 ^ k))
+
+-- bit k counts for itself
+pub ones_one : (m k : ℕ) → count_ones (m / 2 ^ k % 2) ≡ m / 2 ^ k % 2
+ones_one m k = ones_bit (m / 2 ^ k % 2) (mod_below (m / 2 ^ k) 2 (lit< tt))
+
+-- the set bits of the low half, as the code counts them
+pub ones_low : (m from half : ℕ) → half < 16
+    → count_ones (bit_and (m / 2 ^ from) (1 * 2 ^ half % 2 ^ 16 - 1))
+    ≡ count_ones (m / 2 ^ from % 2 ^ half)
+ones_low m from half l = rw (one_shl half 16 l) (ap count_ones (and_mask (m / 2 ^ from) half))
+
+-- the set bits of a span are those of its halves
+pub ones_halves : (m from half : ℕ)
+    → count_ones (m / 2 ^ from % 2 ^ (2 * half))
+    ≡ count_ones (m / 2 ^ from % 2 ^ half) + count_ones (m / 2 ^ (from + half) % 2 ^ half)
+ones_halves m from half =
+    let e : 2 * half ≡ half + half = omega arith in
+    rw e (ones_split (m / 2 ^ from) half half
+    ∙ ap (λ (x : ℕ). count_ones (m / 2 ^ from % 2 ^ half) + count_ones (x % 2 ^ half))
+    (shr-shr m from half))
+
+pub below_or_last : (i n : ℕ) → i < suc n → (i < n) ⊎ (i ≡ n)
+below_or_last i n h = grind arith
+
+pub not_feed : (byte : ℕ) → not (byte == 10) ≡ true → (byte == 10) ≡ false
+not_feed byte h = by (byte == 10) refl
+  where
+    by : (b : Bool) → (byte == 10) ≡ b → (byte == 10) ≡ false
+    by true is = absurd (false≢true (sym (ap not is) ∙ h))
+    by false is = is
+
+pub not_comma : (b : ℕ) → 45 ≤ b → (b == 44) ≡ false
+not_comma b above = grind (arith, above)
+
+-- and hexadecimal digits
+pub glyph_high : (d : ℕ) → 33 ≤ digit_glyph false d
+glyph_high d = by (cases_lt d 10)
+  where
+    by : (d < 10) ⊎ (10 ≤ d) → 33 ≤ digit_glyph false d
+    by (inl less) = let e : nat_lt d 10 ≡ true = grind (arith, less) in rw e (omega arith)
+    by (inr more) = let e : nat_lt d 10 ≡ false = grind (arith, more) in rw e (omega arith)
+
+first_or_later : (a i : ℕ) → a ≤ i → (i ≡ a) ⊎ (a + 1 ≤ i)
+first_or_later a i from = grind arith
+
+pub tests_all : (q : ℕ → Bool) (n a : ℕ) → list_all q (range_with_len a n) ≡ true → (i : ℕ)
+    → a ≤ i → i < a + n → q i ≡ true
+tests_all q zero a all i from to = absurd (omega arith)
+tests_all q (suc n) a all i from to =
+    let both = and_parts (q a) _ all in
+    elim (first_or_later a i from) [
+      | inl first ↦ ap q first ∙ both.0
+      | inr later ↦
+          tests_all q n (a + 1) both.1 i later (omega arith)
+    ]
+
+-- the column is in the slot, or it isn't
+abbrev pub InOrOut : ℕ → ℕ → ℕ → Type 0
+InOrOut first n c = ((part : ℕ) × (part < n) × (first + part ≡ c))
+    ⊎ ((c < first) ⊎ (first + n ≤ c))
+
+pub in_or_out : (first n c : ℕ) → InOrOut first n c
+in_or_out first n c =
+    elim (cases_lt c first) [
+      | inl before ↦ inr (inl before)
+      | inr from ↦ elim (cases_lt c (first + n))
+          [ inl within ↦ inl (c - first, omega arith, omega arith) | inr behind ↦ inr (inr behind) ]
+    ]
+
+-- a number of four bytes
+abbrev pub four : ℕ → ℕ → ℕ → ℕ → ℕ
+four a b c d = a * 16777216 + b * 65536 + c * 256 + d
+
+pub byte_0 : (a b c d : ℕ) → a < 256 → b < 256 → c < 256 → d < 256
+    → four a b c d / 16777216 % 256 ≡ a
+byte_0 a b c d p q r s = omega arith
+
+pub byte_1 : (a b c d : ℕ) → a < 256 → b < 256 → c < 256 → d < 256 → four a b c d / 65536 % 256 ≡ b
+byte_1 a b c d p q r s = omega arith
+
+pub byte_2 : (a b c d : ℕ) → a < 256 → b < 256 → c < 256 → d < 256 → four a b c d / 256 % 256 ≡ c
+byte_2 a b c d p q r s = omega arith
+
+pub byte_3 : (a b c d : ℕ) → a < 256 → b < 256 → c < 256 → d < 256 → four a b c d % 256 ≡ d
+byte_3 a b c d p q r s = omega arith
+
+pub merged : (one some : Bool) (x v y : ℕ) → (one ≡ true → v ≡ x)
+    → cond some x (cond one v y) ≡ cond (one || some) x y
+merged true true x v y same = refl
+merged true false x v y same = same refl
+merged false true x v y same = refl
+merged false false x v y same = refl
+
+-- a test of a number with itself, and with another one
+pub same_number : (n : ℕ) → (n == n) ≡ true
+same_number n = grind arith
+
+-- a test of two numbers that differ
+pub other_number : (n m : ℕ) → n ≢ m → (n == m) ≡ false
+other_number n m other = grind (arith, other)
+
+-- a product of small numbers is small
+pub product_within : (a n : ℕ) → a ≤ 4096 → n ≤ 16 → a * n ≤ 65536
+product_within a n l h = mul-le-mul l h
+
+-- the whole roster has somebody, where there is one
+pub above_whole : (n : ℕ) → 1 ≤ n → 0 < 2 ^ n - 1
+above_whole zero l = absurd (omega (arith, l))
+above_whole (suc n) l = omega (arith, pow_pos n)
+
+-- where there is room for the entries, it turns on the messages
+pub fits_by_own : (a b m n : ℕ) → a < m → nat_le b n ≡ (nat_lt a m && nat_lt b (n + 1))
+fits_by_own a b m n l = grind (arith, l)
+
+pub below_product : (p n q : ℕ) → 0 < n → p / n < q → p < n * q
+below_product p n q some h =
+    let parts = div-add-mod' p n in
+    let rest = mod_below p n some in
+    let whole : n * (p / n + 1) ≤ n * q = mul-le n (p / n + 1) n q (le_refl n) (omega arith) in
+    omega (arith, parts, rest, whole)
+
+pub lesser_is : (now p q : ℕ) → now ≤ min p q → (min p q == now) ≡ ((p == now) || (q == now))
+lesser_is now p q h = by (p == now) (q == now) refl refl
+  where
+    by : (x y : Bool) → (p == now) ≡ x → (q == now) ≡ y → (min p q == now) ≡ (x || y)
+    by true y e f = grind (arith, nat_tests, e, h)
+    by false true e f = grind (arith, nat_tests, f, h)
+    by false false e f = grind (arith, nat_tests, e, f, h)
+
+-- a test that fails at a number more, where it fails below it
+pub none_more : (test : ℕ → Bool) (from n : ℕ)
+    → ((x : ℕ) → from ≤ x → x < n → test x ≡ false) → test n ≡ false
+    → (x : ℕ) → from ≤ x → x < n + 1 → test x ≡ false
+none_more test from n below at x above within = by (x == n) refl
+  where
+    by : (b : Bool) → (x == n) ≡ b → test x ≡ false
+    by true e = ap test (grind (arith, nat_tests)) ∙ at
+    by false e = below x above (grind (arith, nat_tests, within))
+
+-- so the row isn't suspected
+pub untrue : (a b : Bool) → (not a && b) ≡ true → a ≡ false
+untrue true b e = absurd (cc)
+untrue false b e = refl
+
+-- a count that is none, or isn't
+pub count_none : (n : ℕ) → (n == 0) ≡ true → n ≡ 0
+count_none n e = grind (arith, e)
+
+pub count_some : (n : ℕ) → (n == 0) ≡ false → 0 < n
+count_some n e = grind (arith, e)
+
+pub below_some : (x n : ℕ) → 0 < n → x % n < n
+below_some x n some = omega (arith, some)
+
+pub not_less : (a b : ℕ) → (a < b → ⊥) → b ≤ a
+not_less a b impossible = elim (leb b a) as (λ x. leb b a ≡ x → b ≤ a) [
+  | true ↦ λ t. leb-true b a t
+  | false ↦ λ f. absurd (impossible (omega (arith, leb-false b a f)))
+] refl
+
+-- a hand is cut at a place, and a new seat has what stands from there on
+pub cut_back : ℕ → ℕ → ℕ → ℕ → ℕ → ℕ × ℕ
+cut_back id at n s a = cond (eqb s id) (cond (ltb a at) (id, a) (n, a - at)) (s, a)
+
+-- a number up to 4 that is none of 2, 3 and 4
+pub below_two : (n : ℕ) → n ≤ 4 → n ≢ 2 → n ≢ 3 → n ≢ 4 → n < 2
+below_two n least two three four = elim (cases_lt n 2) [
+  | inl below ↦ below
+  | inr past ↦ elim (cases_lt n 3) [
+    | inl here ↦ absurd (two (omega (arith, past, here)))
+    | inr more ↦ elim (cases_lt n 4) [
+      | inl here ↦ absurd (three (omega (arith, more, here)))
+      | inr most ↦ absurd (four (omega (arith, most, least)))
+    ]
+  ]
+]
+
+pub moved : {X : Type 0} (f : ℕ → X) (a b : ℕ) → a ≡ b → f a ≡ f b
+moved f a b is = ap f is
+
+pub one_more_most : (b : Bool) (a c n : ℕ) → a ≡ c + cond b 1 0 → c ≤ n → a ≤ suc n
+one_more_most true a c n e most = omega (arith, e, most)
+one_more_most false a c n e most = omega (arith, e, most)
+
+pub wider : (b : Bool) (a c q : ℕ) → a ≡ c + cond b 1 0 → q < c → q < a
+wider true a c q e less = omega (arith, e, less)
+wider false a c q e less = omega (arith, e, less)
+
+-- one more below r + 1 is one below r, or r itself
+pub one_below : (k r : ℕ) → cond (ltb k r) 1 0 + cond (eqb r k) 1 0 ≡ cond (ltb k (suc r)) 1 0
+one_below k r = grind arith
+
+-- below the last of all, or the last of all
+pub last_one : (k shards : ℕ) → k < shards → cond (ltb k (shards - 1)) 1 0 + cond (eqb (shards - 1) k) 1 0 ≡ 1
+last_one k shards small = grind (arith, small)
+
+pub none_below : (k r : ℕ) → r ≤ k → 0 + cond (ltb k r) 1 0 ≡ 0
+none_below k r least = grind (arith, least)
+
+-- one of the statuses 0, 3 and 13
+abbrev pub IsEnd : ℕ → Type 0
+IsEnd n = (n ≡ 0) ⊎ ((n ≡ 3) ⊎ (n ≡ 13))
+
+-- the status comes before all others
+abbrev pub IsEarly : ℕ → Type 0
+IsEarly status = (status ≡ 10) ⊎ (status ≡ 5)
+
+-- the status of a last line behind which nothing was run, but for the usage
+abbrev pub IsUnrun : ℕ → Type 0
+IsUnrun status = Contains (0 ∷ 3 ∷ 12 ∷ 13 ∷ []) status
+
+-- the status is not an early one
+pub late : (due status : ℕ) → status ≡ due → (due ≡ 10 → ⊥) → (due ≡ 5 → ⊥) → IsEarly status → ⊥
+late due status is ten five (inl e) = ten (sym is ∙ e)
+late due status is ten five (inr e) = five (sym is ∙ e)
+
+-- a status behind which nothing was run is no other
+unrun_status : (status : ℕ) → IsUnrun status → ((status ≡ 0) ⊎ (status ≡ 3)) ⊎ (12 ≤ status)
+unrun_status status (zero, below, is) = inl (inl (sym is))
+unrun_status status (suc zero, below, is) = inl (inr (sym is))
+unrun_status status (suc (suc zero), below, is) = inr (omega (arith, is))
+unrun_status status (suc (suc (suc zero)), below, is) = inr (omega (arith, is))
+unrun_status status (suc (suc (suc (suc i))), below, is) = absurd (omega (arith, below))
+
+-- so it is none of those that tell of words, of a source and of a run
+pub not_unrun : (status : ℕ) → IsUnrun status → (status ≡ 0 → ⊥) → (status ≡ 3 → ⊥) → status < 12 → ⊥
+not_unrun status is zeroth third low = elim (unrun_status status is) [
+  | inl few ↦ elim few [ inl e ↦ zeroth e | inr e ↦ third e ]
+  | inr high ↦ omega (arith, low, high)
+]
+
+-- one of the statuses 0, 8 and 9
+abbrev pub IsRunEnd : ℕ → Type 0
+IsRunEnd n = (n ≡ 0) ⊎ ((n ≡ 8) ⊎ (n ≡ 9))
+
+pub apart : (known n : ℕ) → known ≢ 0 → known ≢ 8 → known ≢ 9 → n ≡ known → IsRunEnd n → ⊥
+apart known n zeroth eighth ninth same (inl is) = zeroth (sym same ∙ is)
+apart known n zeroth eighth ninth same (inr (inl is)) = eighth (sym same ∙ is)
+apart known n zeroth eighth ninth same (inr (inr is)) = ninth (sym same ∙ is)
+
+-- the status is not one that comes before all others
+pub not_early : (status : ℕ) → IsRunEnd status → (status ≡ 10) ⊎ (status ≡ 5) → ⊥
+not_early status end (inl is) =
+    apart 10 status (λ e. omega (arith, e)) (λ e. omega (arith, e)) (λ e. omega (arith, e)) is end
+not_early status end (inr is) =
+    apart 5 status (λ e. omega (arith, e)) (λ e. omega (arith, e)) (λ e. omega (arith, e)) is end
+
+-- whether a view of the age has named it, and whether it is in the last one
+pub phase : Bool → Bool → ℕ
+phase false now = 0
+phase true true = 1
+phase true false = 2
+
+-- how far those with a number below n have come together
+pub total : (ℕ → Bool) → (ℕ → Bool) → ℕ → ℕ
+total named now zero = 0
+total named now (suc n) = total named now n + phase (named n) (now n)
+
+-- the status of each call is one of these
+abbrev pub IsKnown : ℕ → Type 0
+IsKnown status = Contains (0 ∷ 2 ∷ 3 ∷ 4 ∷ 5 ∷ 8 ∷ 9 ∷ 10 ∷ []) status

@@ -1,2 +1,0 @@
-mod Utf8
-mod Pieces

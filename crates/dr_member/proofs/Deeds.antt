@@ -1,0 +1,37 @@
+-- Deeds of a member, and which of them are its last.
+use Rattle.std.proofs.Common.{◌≡◌, refl, false, sym, ap, ◌∙◌, ℕ, true, ◌||◌}
+use Rattle.std.specs.Prelude.{None, is_some}
+use Rattle.dr_machine.specs.declared.step.Step.{Step}
+use Rattle.dr_machine.specs.declared.step.Step.TheVariants.{Do}
+use Rattle.dr_program.specs.Running.{Running, deed_of, after_step, deed, next_deed, next_step, step_at}
+use Rattle.dr_program.specs.declared.deed.Deed.{Deed}
+use Rattle.dr_program.specs.declared.place.Part.{Part}
+use Rattle.dr_program.specs.declared.place.Part.TheVariants as parts
+use Rattle.dr_program.specs.Turn.{is_beat}
+use Rattle.dr_program.specs.declared.deed.Deed.TheVariants as deeds
+use Rattle.dr_turn.proofs.Parts.{is_final, end_stays}
+use Rattle.dr_turn.proofs.Search.{settled_same}
+use Rattle.dr_member.specs.Deeds.{is_act, is_look, is_push, is_take}
+
+only_acts_are_final : (r : Running) (s : Step) → is_act (deed_of r s) ≡ false → is_final s ≡ false
+only_acts_are_final r (Do a) other = absurd (cc)
+only_acts_are_final r s other = refl
+
+-- it leaves the member without an end
+pub stays_going : (word : ℕ) (r x : Running) (d : Deed) → next_deed r ≡ d → is_act d ≡ false
+    → r.replica.end ≡ None → x ≡ after_step word r → is_some x.replica.end ≡ false
+stays_going word r x d is other none after =
+    let step = only_acts_are_final r (next_step r) (ap is_act (sym (ap (deed r) none) ∙ is) ∙ other) in
+    ap (λ (y : Running). is_some y.replica.end) (after ∙ settled_same word r)
+    ∙ ap is_some (end_stays word r.replica (next_step r) step ∙ none)
+
+-- nor does it begin a turn
+pub no_beat : (r : Running) (p : Part) (i c : ℕ) → let d = deed_of r (step_at r p i c) in
+    (is_look d || is_push d) ≡ true → is_beat p ≡ false
+no_beat r (parts.Do a) i c due = absurd (cc)
+no_beat r p i c due = refl
+
+-- the deed is a take
+pub a_take : (d : Deed) → is_take d ≡ true → d ≡ deeds.Take
+a_take deeds.Take is = refl
+a_take d is = absurd (cc is)

@@ -1,8 +1,0 @@
-use Rattle.dr_room.proofs.Bounds.{history_bounded, history_small}
-use Rattle.dr_room.proofs.histories_are_bounded.Goals as goal
-
-pub returns-clause-script : goal.returns-clause-script
-returns-clause-script c = history_bounded
-
-pub returns-clause-limits : goal.returns-clause-limits
-returns-clause-limits c = history_small

@@ -1,0 +1,25 @@
+-- What is read from a slot of which some words have come.
+use Rattle.std.proofs.Common.{◌≡◌, ℕ, ◌^◌, ◌<◌, arith, suc, ◌+◌, List, [], ◌∷◌, length, get_or, map, refl, sym, ap, ◌∙◌, ◌≤◌}
+use Rattle.std.specs.List.{range_with_len}
+use Rattle.dr_words.specs.Packing.{ring_word, ring_low, ring_tag}
+
+pub low_word : (k word low : ℕ) → low < 2 ^ 32 → word ≡ ring_word k low → ring_low word ≡ low
+low_word k word low fits e = omega (arith, e)
+
+-- the pieces that a range of words holds
+pub same_pieces : (slot : ℕ → ℕ) (list : List ℕ) (a : ℕ)
+    → ((i : ℕ) → i < length list → ring_low (slot (a + i)) ≡ get_or list i 0)
+    → map ring_low (map slot (range_with_len a (length list))) ≡ list
+same_pieces slot [] a same = refl
+same_pieces slot (x ∷ list) a same =
+    let place : a + 0 ≡ a = omega arith in
+    let first : ring_low (slot a) ≡ x = ap (λ (i : ℕ). ring_low (slot i)) (sym place)
+    ∙ same 0 (omega arith) in
+    let others = same_pieces slot list (a + 1)
+    (λ i lt. let next : a + 1 + i ≡ a + suc i = omega arith in
+    ap (λ (j : ℕ). ring_low (slot j)) next ∙ same (suc i) (omega arith)) in
+    rw (first, others) refl
+
+-- a ring word of item k is no smaller than any word of an earlier item
+pub ring_grows : (k word low : ℕ) → ring_tag word ≤ k → word ≤ ring_word k low
+ring_grows k word low tag = omega (arith, tag)
