@@ -1,22 +1,29 @@
 -- Logs that stop no member: their disks count no fault, and they have room for all that the age may bring.
-use Rattle.std.proofs.Common.{◌≡◌, refl, subst, ℕ, List, map, arith}
+use Rattle.std.proofs.Common.{◌≡◌, refl, sym, ap, subst, ℕ, ◌<◌, List, length, map, arith}
 use Rattle.std.specs.Prelude.{Option, None, Some}
+use Rattle.std.proofs.lemmas.List.{length-map}
 use Rattle.dr_disk.specs.Disk.{Told}
+use Rattle.dr_entry.specs.declared.end.AgeEnd.{AgeEnd}
 use Rattle.dr_entry.specs.declared.end.End.{End}
-use Rattle.dr_entry.specs.declared.end.End.TheVariants as ends
 use Rattle.dr_entry.specs.declared.end.MemberEnd.{MemberEnd}
 use Rattle.dr_entry.proofs.ListParts.{each_at}
 use Rattle.dr_log.specs.State.{LogState}
-use Rattle.dr_logged.specs.Served.{HasCome, HaveSamePlaces, WentSo}
+use Rattle.dr_logged.specs.Served.{HasCome, WentSo}
+use Rattle.dr_machine.proofs.Presence.{is_present}
+use Rattle.dr_machine.specs.Group.{AllPresent}
 use Rattle.dr_program.specs.declared.outcome.LogWhy.{LogWhy}
-use Rattle.dr_program.specs.declared.outcome.LogWhy.TheVariants as whys
-use Rattle.dr_program.specs.Program.{Program, end_at, end_of}
-use Rattle.dr_program_laws.proofs.Worlds.{all_ends, end_told}
-use Rattle.dr_program.specs.Presence.{present_at}
+use Rattle.dr_program.specs.Program.{Program, age_of, end_at, end_of}
 use Rattle.dr_program.specs.Replica.{Replica}
-use Rattle.dr_program.specs.Running.{Running}
+use Rattle.dr_program.proofs.Present.{present_within}
+use Rattle.dr_program_laws.proofs.Worlds.{all_ends, end_told}
+use Rattle.dr_restart.specs.declared.start.Start.{Start}
+use Rattle.dr_restart.specs.Groups.{group_of}
+use Rattle.dr_script.specs.declared.script.Script.{Script}
 use Rattle.dr_logged.proofs.Served.{same_there}
-use Rattle.dr_age.specs.Logged.{HaveCome, IsNotFull, NoneFull, NoneStopped, why_ended}
+use Rattle.dr_age.specs.Age.{IsAgeOn}
+use Rattle.dr_age.specs.Logged.{AreAmple, AreOpened, IsNotFull, NoneFull, NoneStopped, why_ended}
+use Rattle.dr_entry.specs.declared.end.End.TheVariants as ends
+use Rattle.dr_program.specs.declared.outcome.LogWhy.TheVariants as whys
 
 -- a member that neither a fault nor a full log ended was not ended by its log
 unstopped : (end : End) → IsNotFull end → (why_ended end ≡ Some whys.DiskFault → ⊥) → why_ended end ≡ None
@@ -32,17 +39,33 @@ module _ {D : Type 0} (told : D → Option Told) (count : D → ℕ) (never : (d
       let broke = subst (WentSo told count base log r) fault come.last in
       omega (arith, broke.2.rose, never base.disk, never log.disk)
 
-  pub none_stopped : (bases logs : List (Option (LogState D))) (p : Program)
-      → ((m : ℕ) (r : Running) → present_at p.members m ≡ Some r
-      → (base : LogState D) × (present_at bases m ≡ Some base)) → HaveSamePlaces bases logs
-      → HaveCome told count bases logs p.members → NoneFull (map end_at p.members)
-      → NoneStopped (map end_at p.members)
-  none_stopped bases logs p there places come room =
-      all_ends (λ (e : MemberEnd). why_ended e.end ≡ None) p refl (λ m r member.
-      let base = there m r member in
-      let log = same_there bases logs m base.0 places base.1 in
+  -- the members of an age that nobody is absent from
+  pub none_stopped : (plays : Script → Start → ℕ → AgeEnd → Program → Type 0) (script : Script) (start : Start) (nth : ℕ)
+      (bases logs : List (Option (LogState D))) (age : AgeEnd)
+      → (on : IsAgeOn plays told count script start nth bases logs age)
+      → age ≡ age_of (group_of script start).opening on.played.over → length script.messages ≡ script.members
+      → AllPresent (group_of script start) → AreOpened (group_of script start) bases
+      → AreAmple (group_of script start) bases → NoneStopped age.members
+  none_stopped plays script start nth bases logs age on is lists present opened ample =
+      subst NoneStopped (sym ends) (all_ends (λ (e : MemberEnd). why_ended e.end ≡ None) over refl (λ m r member.
+      let below : m < length script.messages = omega (
+        arith,
+        present_within over.members m r member,
+        length-map over.members end_at,
+        ap length ends,
+        on.played.roster,
+        lists,
+      ) in
+      let base = opened.there m below (is_present (group_of script start) m present below) in
+      let log = same_there bases logs m base.0 on.places base.1 in
       unstopped (end_of r).end
-      (each_at (λ (e : MemberEnd). IsNotFull e.end) (map end_at p.members) m (end_of r) room
-      (end_told p m r member))
+      (each_at (λ (e : MemberEnd). IsNotFull e.end) (map end_at over.members) m (end_of r)
+      (subst NoneFull ends (on.ample ample)) (end_told over m r member))
       (no_fault base.0 log.0 r.replica (why_ended (end_of r).end)
-      (come m base.0 log.0 r base.1 log.1 member)))
+      (on.logged m base.0 log.0 r base.1 log.1 member))))
+    where
+      over : Program
+      over = on.played.over
+
+      ends : age.members ≡ map end_at over.members
+      ends = ap (λ (a : AgeEnd). a.members) is

@@ -1,21 +1,19 @@
--- Where nobody is late, no letter is given or taken; and who has given one in its view, there is one.
-use Rattle.std.proofs.Common.{◌≡◌, refl, sym, ap, ◌∙◌, subst, ℕ, true, List, []}
+-- Where nobody is late, no letter is given or taken.
+use Rattle.std.proofs.Common.{◌≡◌, refl, sym, ap, ◌∙◌, subst, ℕ, true, []}
 use Rattle.std.specs.Prelude.{Some}
-use Rattle.dr_entry.specs.declared.entry.Entry.{Entry}
 use Rattle.dr_history.specs.Members.{has}
 use Rattle.dr_history.specs.Soundness.{IsNobodyLate}
 use Rattle.dr_machine.proofs.Presence.{late_in}
 use Rattle.dr_machine.specs.Group.{Group}
-use Rattle.dr_program.proofs.Holdings.{held_of}
 use Rattle.dr_program.specs.declared.deed.Deed.{Deed}
 use Rattle.dr_program.specs.declared.deed.Deed.TheVariants as deeds
 use Rattle.dr_program.specs.declared.outcome.Outcome.TheVariants as outcomes
 use Rattle.dr_program.specs.Presence.{present_at}
 use Rattle.dr_program.specs.Program.{Program, comes_to, letter_for}
-use Rattle.dr_program.specs.Reading.{step_by, step_due, table_of, world}
+use Rattle.dr_program.specs.Reading.{step_by, step_due, world}
 use Rattle.dr_program.specs.Replica.{me}
 use Rattle.dr_program.specs.Running.{Running, next_deed, next_step}
-use Rattle.dr_refine.proofs.Deeds.{deed_is_step, due_allowed, program_member, replicas}
+use Rattle.dr_refine.proofs.Deeds.{deed_is_step, due_allowed}
 use Rattle.dr_program_laws.proofs.Letters.{letters_are}
 use Rattle.dr_world_laws.proofs.Worlds.{known, newcomer_late}
 use Rattle.dr_age.specs.Sound.{IsOfNoLetter, IsSound}
@@ -63,12 +61,3 @@ deals_with_none g p m r is none there = by (next_deed r) refl
     by (deeds.Give j) e = absurd (no_give g p m j r is none there e)
     by deeds.Take e = absurd (no_take g p m r is none there e)
     by d e = tt
-
--- who has given a letter in its view, there is one
-pub given_there : (g : Group) (p : Program) (m j : ℕ) (r : Running) → IsSound g p
-    → present_at p.members m ≡ Some r → has r.replica.given j ≡ true
-    → (letter : List Entry) × (letter_for p j ≡ Some letter)
-given_there g p m j r is there gave =
-    (known g (world g p) is.group is.reached).chosen.letters.given m j
-    (ap (λ h. has h.given j) (held_of g (replicas p.members) (table_of p) m r.replica
-    (program_member g p m r is.group is.form there).there) ∙ gave)

@@ -4,4 +4,5 @@ pub mod Ends
 pub mod Sound
 pub mod Lasting
 pub mod Letters
+pub mod Playing
 pub mod LoggedMembers

@@ -20,21 +20,19 @@ use Rattle.dr_history_laws.proofs.Lengths.{is_message, stood-told}
 use Rattle.dr_log.specs.State.{LogState}
 use Rattle.dr_log.specs.Standing.{entries_length}
 use Rattle.dr_machine.proofs.Groups.{stood_valid}
-use Rattle.dr_machine.specs.declared.step.Step.{Step}
-use Rattle.dr_machine.specs.declared.step.Step.TheVariants.{Append, LogVote}
+use Rattle.dr_machine.specs.declared.step.Step.TheVariants.{Append}
 use Rattle.dr_machine.specs.Group.{Group, IsGroup}
 use Rattle.dr_program.proofs.Replicas.{unended_append}
 use Rattle.dr_program.specs.Program.{end_of, appended_as}
 use Rattle.dr_program.specs.declared.outcome.LogWhy.{LogWhy}
 use Rattle.dr_program.specs.declared.outcome.LogWhy.TheVariants as whys
-use Rattle.dr_program.specs.Running.{Running, end_by, next_deed, next_step, took}
+use Rattle.dr_program.specs.Running.{Running, end_by, next_deed, next_step}
 use Rattle.dr_program.specs.Presence.{present_at}
 use Rattle.dr_program.specs.declared.deed.Deed.{Deed}
 use Rattle.dr_program.specs.declared.deed.Deed.TheVariants as deeds
-use Rattle.dr_program.specs.Steps.{IsAppend, stepped}
+use Rattle.dr_program.specs.Steps.{IsAppend}
 use Rattle.dr_program.specs.declared.outcome.Outcome.{Outcome}
 use Rattle.dr_program.specs.declared.outcome.Outcome.TheVariants as outcomes
-use Rattle.dr_program.specs.Replica.{Replica}
 use Rattle.dr_program.specs.declared.outcome.LogWhy.TheVariants as logs
 use Rattle.dr_refine.proofs.Deeds.{settle_replica}
 use Rattle.dr_logged.specs.Served.{HaveSamePlaces, IsRoomy}
@@ -94,19 +92,6 @@ append_due r due = by (next_deed r) refl due
     by : (d : Deed) → next_deed r ≡ d → is_append d ≡ true → (r.replica.end ≡ None) × IsAppend (next_step r)
     by (deeds.Append x) next due = let t = deed_tells [] r (deeds.Append x) next in (t.none, t.says.0)
     by d next due = absurd (cc)
-
--- and appends give no letter
-pub appended_given : (o : Outcome) (r : Running) → is_append (next_deed r) ≡ true
-    → (appended_as o r).replica.given ≡ r.replica.given
-appended_given (outcomes.Failed why) r due = refl
-appended_given outcomes.Ok r due =
-    ap (λ (q : Replica). q.given) (settle_replica _ (took 0 r (next_step r)))
-    ∙ by (next_step r) (append_due r due).1
-  where
-    by : (s : Step) → IsAppend s → (stepped 0 r.replica s).given ≡ r.replica.given
-    by Append is = refl
-    by (LogVote v) is = refl
-    by s is = absurd is
 
 -- an append ends nobody
 pub append_stays : (o : Outcome) (r : Running) → is_append (next_deed r) ≡ true

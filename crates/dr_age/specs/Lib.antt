@@ -1,3 +1,4 @@
+pub mod Age
 pub mod Begun
 pub mod Logged
 pub mod Run

@@ -8,10 +8,9 @@ use Rattle.dr_restart.specs.Setups.{IsBegun}
 use Rattle.dr_script.specs.declared.script.Script.{Script}
 
 -- the age is that of the script's program, which begins from the start, with the faults of the age that is
--- number nth of the run, and has taken some deeds, until all its members had ended
-pub record IsRun (script : Script) (start : Start) (nth : ℕ) (age : AgeEnd) : Type 0 where
+-- number nth of the run, and has taken some deeds, until it was over, as all its members had ended
+pub record IsRun (script : Script) (start : Start) (nth : ℕ) (age : AgeEnd) (over : Program) : Type 0 where
   pub begun : Program
-  pub over : Program
   pub begins : IsBegun script start nth begun
   pub ran : IsRanFrom begun over
   pub ended : AllEnded over

@@ -26,7 +26,7 @@ use Rattle.dr_yard.specs.Yards.{AllTell, YardState}
 use Rattle.dr_ages.specs.declared.mode.Mode.{Mode}
 use Rattle.dr_ages.specs.declared.part.Part.{Part}
 use Rattle.dr_ages.specs.declared.stop.Stop.{Stop}
-use Rattle.dr_ages.specs.Ages.{IsAgeOf, over_of, start_of}
+use Rattle.dr_ages.specs.Ages.{IsAgeOf, start_of}
 use Rattle.dr_ages.specs.Crashed.{HaveCrashed, IsLeftOver}
 use Rattle.dr_ages.specs.Found.{AreFound, ReadsAs}
 use Rattle.dr_ages.specs.Runs.{HaveLogged, IsRunOf, with_these}
@@ -193,7 +193,7 @@ logged_goes_on script part apart mid after age next m e k = by k.tried
     g = group_of script start
 
     l : m < script.members
-    l = omega (arith, slice_get_within age.members m e k.at, k.first.is.roster)
+    l = omega (arith, slice_get_within age.members m e k.at, k.first.is.played.roster)
 
     -- what the second run finds, of all members
     some : (logs : List LogLists) × AreChosen script.members after logs
@@ -235,7 +235,7 @@ logged_goes_on script part apart mid after age next m e k = by k.tried
 
     -- what was left of all by the first run
     over : Program
-    over = over_of k.first.mode script start k.first.nth age k.first.is.run
+    over = k.first.is.played.over
 
     w : World
     w = world g over

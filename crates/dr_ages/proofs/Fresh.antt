@@ -337,7 +337,7 @@ roomy_next script part mode bytes first k nth before yard age ranges none roomy 
     few contents found m c at =
         let l : m < script.members = omega (arith, within_places contents m c at, found.all) in
         let old = found_of script.members before is.contents m whole_found l in
-        let e = slice_get-some age.members m (omega (arith, l, is.roster)) in
+        let e = slice_get-some age.members m (omega (arith, l, is.played.roster)) in
         let x = ended_over script part mode nth before yard age is m e.0 e.1 (none m l) in
         let start = start_of script part age in
         let whole = first_entries (opening_of script part age) in

@@ -73,7 +73,7 @@ pub readable_behind : (script : Script) (part : Part) (mode : Mode) (nth : ℕ) 
     → m < script.members → has part.missing m ≡ false
     → IsSomeAnd (yard.told m) (λ t. AllImages (state_of t) IsReadable)
 readable_behind script part mode nth before yard age is tell m l there =
-    let e = slice_get-some age.members m (omega (arith, l, is.roster)) in
+    let e = slice_get-some age.members m (omega (arith, l, is.played.roster)) in
     let x = ended_over script part mode nth before yard age is m e.0 e.1 there in
     left_readable (yard.told m) x.r.replica (is.begun m) (tell m l) (is.left m x.r x.at)
 

@@ -32,7 +32,7 @@ use Rattle.dr_yard.specs.Yards.{AllTell, YardState}
 use Rattle.dr_ages.specs.declared.mode.Mode.{Mode}
 use Rattle.dr_ages.specs.declared.part.Part.{Part}
 use Rattle.dr_ages.specs.declared.stop.Stop.{Stop}
-use Rattle.dr_ages.specs.Ages.{IsAgeOf, NamesNobody, over_of, start_of}
+use Rattle.dr_ages.specs.Ages.{IsAgeOf, NamesNobody, start_of}
 use Rattle.dr_history.specs.declared.opening.Opening.{Opening}
 use Rattle.dr_history.proofs.Histories.{AreFirstPartsOf, part_of_opened}
 use Rattle.dr_history.proofs.Bits.{has_zero}
@@ -97,7 +97,7 @@ age_step script part mode nth before yard age ranges none is tell = record {
   accepted = λ logs chosen.
       ended_accepted script (start_of script part age) age.members (entries_on_logs logs) group
       (all_take_part script part.missing ranges.group.most_members none ∙ ap (λ (n : ℕ). 2 ^ n - 1) (sym ranges.group.lists))
-      is.agreed (is.roster ∙ sym ranges.group.lists) (parts logs chosen);
+      is.played.agreed (is.played.roster ∙ sym ranges.group.lists) (parts logs chosen);
 }
   where
     group : IsGroup (group_of script (start_of script part age))
@@ -105,8 +105,8 @@ age_step script part mode nth before yard age ranges none is tell = record {
 
     -- what is on a log that its member has left has its first entries
     left_of : (o : Option Told) (m : ℕ) (e : MemberEnd) (log : LogLists)
-        → (x : EndsSo (over_of mode script (start_of script part age) nth age is.run) m e)
-        → HasLeft o x.r.replica (is.begun m) → IsSomeAnd o (MayLeave log) → IsLeftOf e.history e.logged log.entries
+        → (x : EndsSo is.played.over m e) → HasLeft o x.r.replica (is.begun m) → IsSomeAnd o (MayLeave log)
+        → IsLeftOf e.history e.logged log.entries
     left_of None m e log x left may = absurd may
     left_of (Some t) m e log x left may =
         subst (λ (end : MemberEnd). IsLeftOf end.history end.logged log.entries) x.is
@@ -118,7 +118,7 @@ age_step script part mode nth before yard age ranges none is tell = record {
     parts logs chosen m es at =
         let log = log-listed logs m es at in
         let below : m < script.members = omega (arith, slice_get_within logs m log.0 log.1, chosen.all) in
-        let e = slice_get-some age.members m (omega (arith, below, is.roster)) in
+        let e = slice_get-some age.members m (omega (arith, below, is.played.roster)) in
         let x = ended_over script part mode nth before yard age is m e.0 e.1 (none m below) in (
           m,
           e.0,

@@ -42,7 +42,7 @@ use Rattle.dr_yard.specs.Yards.{AllTell, YardState}
 use Rattle.dr_age.proofs.LoggedMembers.{left_begins}
 use Rattle.dr_ages.specs.declared.mode.Mode.{Mode}
 use Rattle.dr_ages.specs.declared.part.Part.{Part}
-use Rattle.dr_ages.specs.Ages.{AreAges, IsAgeOf, opening_of, over_of, start_of}
+use Rattle.dr_ages.specs.Ages.{AreAges, IsAgeOf, opening_of, start_of}
 use Rattle.dr_ages.specs.Found.{AreFound, ReadsAs}
 use Rattle.dr_ages.specs.Left.{HasLeft, with_logged}
 use Rattle.dr_ages.specs.Runs.{AreKept}
@@ -127,10 +127,9 @@ read_leaves (Some t) r c base some reads left = image_leaves t (content_of t) r 
 -- the age is one of choice, by its program
 pub of_choice : (script : Script) (part : Part) (mode : Mode) (nth : ℕ) (before yard : YardState) (age : AgeEnd)
     → (is : IsAgeOf script part mode nth before yard age)
-    → IsAgeOfChoice script (start_of script part age) nth is.contents
-    (over_of mode script (start_of script part age) nth age is.run)
+    → IsAgeOfChoice script (start_of script part age) nth is.contents is.played.over
 of_choice script part mode nth before yard age is =
-    let ran = ran_over mode script (start_of script part age) nth age is.run in
+    let ran = ran_over mode script (start_of script part age) nth age is.played in
     record { chosen = is.starts; begun = ran.begun; begins = ran.begins; ran = ran.ran }
 
 -- an age over disks that tell behind it, and what is found on them then
@@ -161,8 +160,7 @@ behind script part mode nth before yard age ranges is tell contents found = reco
 -- the program as it ended
 abbrev pub over_behind : {script : Script} {part : Part} {yard : YardState} {age : AgeEnd}
     {contents : List (Option OnLog)} → IsBehind script part yard age contents → Program
-over_behind {script} {part} {yard} {age} b =
-    over_of b.mode script (start_of script part age) b.nth age b.is.run
+over_behind b = b.is.played.over
 
 -- where something is found the member isn't missing
 pub found_there : (n missing : ℕ) (yard : YardState) (contents : List (Option OnLog)) (m : ℕ) (c : OnLog)
@@ -185,13 +183,12 @@ there_found n missing yard contents m found l there =
 -- how who isn't missing ended
 pub ended_over : (script : Script) (part : Part) (mode : Mode) (nth : ℕ) (before yard : YardState) (age : AgeEnd)
     → (is : IsAgeOf script part mode nth before yard age) → (m : ℕ) (e : MemberEnd)
-    → slice_get age.members m ≡ Some e → has part.missing m ≡ false
-    → EndsSo (over_of mode script (start_of script part age) nth age is.run) m e
+    → slice_get age.members m ≡ Some e → has part.missing m ≡ false → EndsSo is.played.over m e
 ended_over script part mode nth before yard age is m e at there =
-    by (member_over mode script (start_of script part age) nth age is.run m e at)
+    by (member_over mode script (start_of script part age) nth age is.played m e at)
   where
     over : Program
-    over = over_of mode script (start_of script part age) nth age is.run
+    over = is.played.over
 
     by : EndsSo over m e ⊎ LacksSo over m e → EndsSo over m e
     by (inl ends) = ends
@@ -203,11 +200,10 @@ ended_over script part mode nth before yard age is m e at there =
 -- who stands at a place of the program isn't missing
 pub told_there : (script : Script) (part : Part) (mode : Mode) (nth : ℕ) (before yard : YardState) (age : AgeEnd)
     → HasRanges script → (is : IsAgeOf script part mode nth before yard age) → (m : ℕ) (r : Running)
-    → present_at (over_of mode script (start_of script part age) nth age is.run).members m ≡ Some r
-    → has part.missing m ≡ false
+    → present_at is.played.over.members m ≡ Some r → has part.missing m ≡ false
 told_there script part mode nth before yard age ranges is m r at =
     let start = start_of script part age in
-    let over = over_of mode script start nth age is.run in
+    let over = is.played.over in
     let choice = of_choice script part mode nth before yard age is in
     let known = known_age script start nth is.contents over ranges.group ranges.some_turn choice in
     let c = some_there (content_at is.contents m)
@@ -233,7 +229,7 @@ left_from script part yard age contents b = record {
   each = λ m c at.
       let l : m < script.members = omega (arith, within_places contents m c at, b.found.all) in
       let there = found_there script.members part.missing yard contents m c b.found at in
-      let e = slice_get-some age.members m (omega (arith, l, b.is.roster)) in
+      let e = slice_get-some age.members m (omega (arith, l, b.is.played.roster)) in
       let x = ended_over script part b.mode b.nth b.before yard age b.is m e.0 e.1 there in
       let first = there_found script.members part.missing b.before b.is.contents m b.is.found l there in
       record {
@@ -281,7 +277,7 @@ logged_first script part yard age contents next m e b chosen at there =
     (next_has script part yard age contents next m on.0 b chosen on.1)
   where
     l : m < script.members
-    l = omega (arith, slice_get_within age.members m e at, b.is.roster)
+    l = omega (arith, slice_get_within age.members m e at, b.is.played.roster)
 
     x : EndsSo (over_behind b) m e
     x = ended_over script part b.mode b.nth b.before yard age b.is m e at there
@@ -308,9 +304,9 @@ keeps_next : (script : Script) (part : Part) (start : YardState) (a b : AgeEnd) 
     → Kept (opening_of script part a) (accounts_of a.members) (opening_of script part b)
 keeps_next script part start a b ranges tell r =
     subst (λ (ends : List MemberEnd). Kept (opening_of script part a) (accounts_of ends) (opening_of script part b))
-    (sym (ap (λ (x : AgeEnd). x.members) (told_by r.mode script (start_of script part a) r.nth a r.first.run)))
+    (sym (ap (λ (x : AgeEnd). x.members) (told_by r.mode script (start_of script part a) r.nth a r.first.played)))
     (next_keeps script (start_of script part a) (start_of script part b) r.nth r.first.contents r.second.contents
-    (over_of r.mode script (start_of script part a) r.nth a r.first.run) ranges.group ranges.some_turn
+    r.first.played.over ranges.group ranges.some_turn
     (of_choice script part r.mode r.nth r.before r.mid a r.first)
     (left_from script part r.mid a r.second.contents (behind_first script part start a b ranges tell r))
     r.second.starts)
@@ -321,7 +317,7 @@ pub grows : (script : Script) (part : Part) (start : YardState) (a b : AgeEnd) �
 grows script part start a b ranges tell r =
     prefix_then a.start (first_entries (opening_of script part a)) b.start (_ ∷ [], refl)
     (next_begins script (start_of script part a) (start_of script part b) r.nth r.first.contents r.second.contents
-    (over_of r.mode script (start_of script part a) r.nth a r.first.run) ranges.group ranges.some_turn
+    r.first.played.over ranges.group ranges.some_turn
     (of_choice script part r.mode r.nth r.before r.mid a r.first)
     (left_from script part r.mid a r.second.contents (behind_first script part start a b ranges tell r))
     r.second.starts)
@@ -346,7 +342,7 @@ are_kept script part mode before ages last ranges are tell = record {
         durable_by a.members m e b.start there ((keeps_next script part before a b ranges tell r).durable m present)
     one m a b e r there false gone =
         subst (λ (x : MemberEnd). IsPrefixOf (take x.durable x.history) b.start)
-        (sym (r.first.ended.absent m e there (λ present. let no : true ≡ false = sym present ∙ gone in cc)))
+        (sym (r.first.played.ended.absent m e there (λ present. let no : true ≡ false = sym present ∙ gone in cc)))
         (b.start, refl)
 
     ever : (d i j m : ℕ) (a b : AgeEnd) (e : MemberEnd) → j ≡ i + 1 + d → slice_get ages i ≡ Some a

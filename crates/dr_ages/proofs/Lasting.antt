@@ -44,7 +44,7 @@ use Rattle.dr_script.specs.Ranges.{HasGroupRanges, HasRanges}
 use Rattle.dr_yard.specs.Yards.{AllTell, YardState}
 use Rattle.dr_ages.specs.declared.mode.Mode.{Mode}
 use Rattle.dr_ages.specs.declared.part.Part.{Part}
-use Rattle.dr_ages.specs.Ages.{AreAges, IsAgeOf, NamesNobody, over_of, start_of}
+use Rattle.dr_ages.specs.Ages.{AreAges, IsAgeOf, NamesNobody, start_of}
 use Rattle.dr_ages.specs.Crashed.{HaveCrashed, IsLeftOver}
 use Rattle.dr_ages.specs.Fit.{AreChosen, AreFit, AreLastingOn, AreReadable, IsReadable, MayLeave}
 use Rattle.dr_ages.specs.Found.{AreFound, ReadsAs}
@@ -216,8 +216,7 @@ record StandsSo (start : Start) (found : List (Option OnLog)) (p : Program) (log
 pub left_logs : (script : Script) (part : Part) (mode : Mode) (nth : ℕ) (before yard : YardState) (age : AgeEnd)
     (logs : List LogLists) → HasRanges script → (is : IsAgeOf script part mode nth before yard age)
     → AreChosen script.members yard logs → (h : HadBefore script.members before is.contents logs)
-    → HasLeftLogs script (start_of script part age) nth (over_of mode script (start_of script part age) nth age is.run)
-    h.olds logs
+    → HasLeftLogs script (start_of script part age) nth is.played.over h.olds logs
 left_logs script part mode nth before yard age logs ranges is chosen h = record {
   ranges = ranges.group;
   turns = ranges.some_turn;
@@ -239,12 +238,11 @@ left_logs script part mode nth before yard age logs ranges is chosen h = record 
     start = start_of script part age
 
     over : Program
-    over = over_of mode script (start_of script part age) nth age is.run
+    over = is.played.over
 
     stood : (m : ℕ) (first : OnLog) (e : MemberEnd) (log : LogLists) → content_at is.contents m ≡ Some first
-        → (x : EndsSo (over_of mode script (start_of script part age) nth age is.run) m e)
-        → slice_get logs m ≡ Some log → (o : Option Told) → HasLeft o x.r.replica (is.begun m)
-        → IsSomeAnd o (MayLeave log)
+        → (x : EndsSo is.played.over m e) → slice_get logs m ≡ Some log → (o : Option Told)
+        → HasLeft o x.r.replica (is.begun m) → IsSomeAnd o (MayLeave log)
         → (c : OnLog) × IsLeftAt start is.contents over m c × (slice_get logs m ≡ Some (as_lists c))
     stood m first e log at x here None left may = absurd may
     stood m first e log at x here (Some t) left may = (
@@ -269,7 +267,7 @@ left_logs script part mode nth before yard age logs ranges is chosen h = record 
         by None none = (None, record { same = sym (ap is_some none); each = λ c at. absurd (none-some c at) })
         by (Some first) at =
             let there = found_there script.members part.missing before is.contents m first is.found at in
-            let e = slice_get-some age.members m (omega (arith, l, is.roster)) in
+            let e = slice_get-some age.members m (omega (arith, l, is.played.roster)) in
             let x = ended_over script part mode nth before yard age is m e.0 e.1 there in
             let log = slice_get-some logs m (omega (arith, l, chosen.all)) in
             let c = stood m first e.0 log.0 at x log.1 (yard.told m) (is.left m x.r x.at)
@@ -332,8 +330,7 @@ age_lasting script part mode nth before yard age es ranges is last = record {
   lasting = λ logs chosen.
       let h = had_at script part mode nth before yard age logs
       (readable_tell script.members before last.readable) is chosen in
-      still_lasts script (start_of script part age) nth
-      (over_of mode script (start_of script part age) nth age is.run) es h.olds logs
+      still_lasts script (start_of script part age) nth is.played.over es h.olds logs
       (left_logs script part mode nth before yard age logs ranges is chosen h) (last.lasting h.olds h.chosen);
 }
 
@@ -355,11 +352,11 @@ age_durable script part mode nth before yard age m e ranges is fit at = record {
     start = start_of script part age
 
     over : Program
-    over = over_of mode script (start_of script part age) nth age is.run
+    over = is.played.over
 
     end : slice_get (map end_at over.members) m ≡ Some e
     end = sym (ap (λ (a : AgeEnd). slice_get a.members m)
-        (told_by mode script (start_of script part age) nth age is.run)) ∙ at
+        (told_by mode script (start_of script part age) nth age is.played)) ∙ at
 
     by : (logs olds : List LogLists) → HasLeftLogs script start nth over olds logs → AreLasting script [] olds
         → (b : Bool) → has (start_of script part age).present m ≡ b
@@ -370,7 +367,7 @@ age_durable script part mode nth before yard age m e ranges is fit at = record {
         (durable_lasts script start nth over [] olds logs m left last there)
     by logs olds left last false gone =
         subst (λ (x : MemberEnd). AreLasting script (take x.durable x.history) logs)
-        (sym (is.ended.absent m e at (λ present. let no : true ≡ false = sym present ∙ gone in cc)))
+        (sym (is.played.ended.absent m e at (λ present. let no : true ≡ false = sym present ∙ gone in cc)))
         (still_lasts script start nth over [] olds logs left last)
 
 -- ---- the ages of a run

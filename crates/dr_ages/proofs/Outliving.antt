@@ -30,7 +30,7 @@ use Rattle.dr_ages.specs.declared.mode.Mode.{Mode}
 use Rattle.dr_ages.specs.declared.part.Part.{Part}
 use Rattle.dr_ages.specs.declared.stop.Stop.{Stop}
 use Rattle.dr_ages.specs.declared.stop.Stop.TheVariants.{OutOfMemory}
-use Rattle.dr_ages.specs.Ages.{AreAges, over_of, start_of}
+use Rattle.dr_ages.specs.Ages.{AreAges, start_of}
 use Rattle.dr_ages.specs.Crashed.{HaveCrashed}
 use Rattle.dr_ages.specs.Fit.{AreChosen, AreFit, AreLastingOn}
 use Rattle.dr_ages.specs.Lasting.{HasEndedIn}
@@ -134,7 +134,7 @@ run_since script part mode before after earlier age stop ranges fit r other = (w
     g = group_of script start
 
     over : Program
-    over = over_of f.mode script start f.nth age f.is.run
+    over = f.is.played.over
 
     hold : (olds : List LogLists) → AreChosen script.members r.last olds
         → HoldSinceAge script (start_of script part age) (world g over) olds
@@ -168,12 +168,12 @@ run_since script part mode before after earlier age stop ranges fit r other = (w
     )
       where
         end : slice_get (map end_at over.members) m ≡ Some e
-        end = sym (ap (λ (a : AgeEnd). slice_get a.members m) (told_by f.mode script start f.nth age f.is.run)) ∙ at
+        end = sym (ap (λ (a : AgeEnd). slice_get a.members m) (told_by f.mode script start f.nth age f.is.played)) ∙ at
 
         present : IsPresent (group_of script (start_of script part age)) m
         present =
             let d = there_found script.members part.missing f.before f.is.contents m f.is.found
-            (omega (arith, slice_get_within age.members m e at, f.is.roster)) there in
+            (omega (arith, slice_get_within age.members m e at, f.is.played.roster)) there in
             in_set (first_group_of script).opening f.is.contents start m d.0 f.is.starts (few script ranges.group) d.1
 
         account : IsAccountOf (group_of script (start_of script part age)) over m

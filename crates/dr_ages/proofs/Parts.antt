@@ -29,7 +29,7 @@ pub few_members : (script : Script) (part : Part) (mode : Mode) (nth : ℕ) (bef
     → All (λ (age : AgeEnd). length age.members ≤ MAX_MEMBERS) ages
 few_members script part mode nth before after [] few are = All-nil (λ (age : AgeEnd). length age.members ≤ MAX_MEMBERS)
 few_members script part mode nth before after (age ∷ ages) few (between, is, rest) =
-    All-cons (λ (age : AgeEnd). length age.members ≤ MAX_MEMBERS) age ages (omega (arith, is.roster, few))
+    All-cons (λ (age : AgeEnd). length age.members ≤ MAX_MEMBERS) age ages (omega (arith, is.played.roster, few))
     (few_members script part mode (nth + 1) between after ages few rest)
 
 -- no count of faults falls
@@ -92,6 +92,6 @@ part_or_none script part mode nth before after age i e is at =
     elim (cases_Bool (has (opening_of script part age).present i)) [
       | inl here ↦ inl here
       | inr away ↦
-          let none : e ≡ absent_end = is.ended.absent i e at (λ here. true≢false (sym here ∙ away)) in
+          let none : e ≡ absent_end = is.played.ended.absent i e at (λ here. true≢false (sym here ∙ away)) in
           inr (ap (λ (x : MemberEnd). x.history) none)
     ]

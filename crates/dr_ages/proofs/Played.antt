@@ -6,23 +6,18 @@ use Rattle.std.proofs.Math.Nat.{max-le}
 use Rattle.std.proofs.lemmas.Bool.{cases_Bool}
 use Rattle.std.proofs.lemmas.Bool.Decides.{nat_tests}
 use Rattle.std.proofs.lemmas.Option.{same_Some, slice_get_within}
-use Rattle.dr_complete.specs.Time.{HasTime}
 use Rattle.dr_disk.specs.Disk.{Told}
 use Rattle.dr_disk.specs.Images.{Goes, IsLeft}
 use Rattle.dr_disk.proofs.Moments.{Goes-weaken, stays_at}
 use Rattle.dr_entry.specs.declared.end.AgeEnd.{AgeEnd}
 use Rattle.dr_entry.specs.declared.end.End.{End}
-use Rattle.dr_entry.specs.declared.end.End.TheVariants as ends
 use Rattle.dr_entry.specs.declared.end.MemberEnd.{MemberEnd}
 use Rattle.dr_entry.specs.declared.entry.Entry.{Entry}
 use Rattle.dr_entry.specs.declared.entry.Entry.TheVariants.{View}
 use Rattle.dr_entry.specs.declared.record.Record.{Record}
 use Rattle.dr_entry.proofs.OptionFacts.{some_map}
-use Rattle.dr_history.specs.Agreement.{EndsAgreed}
 use Rattle.dr_history.specs.History.{IsPrefixOf}
-use Rattle.dr_history.specs.Soundness.{IsNobodyLate}
 use Rattle.dr_history.specs.Members.{has}
-use Rattle.dr_history.specs.Order.{first_entries}
 use Rattle.dr_history_laws.proofs.Lists.{slice_get-some}
 use Rattle.dr_io.specs.Faults.{Rose}
 use Rattle.dr_io.proofs.KnownLemmas.{rose_since}
@@ -36,8 +31,8 @@ use Rattle.dr_log.specs.State.{LogState}
 use Rattle.dr_log_bytes.specs.Content.{OnLog, block_length, empty_of}
 use Rattle.dr_log_bytes.specs.Grammar.{StandFor}
 use Rattle.dr_logged.proofs.Serving.{has_base}
-use Rattle.dr_logged.specs.Served.{AtMember, BrokeOff, HasCome, HaveSamePlaces, IsFull, IsRecordDue, IsSafe, WentSo}
-use Rattle.dr_machine.specs.Group.{AllPresent, Group, IsGroup, IsPresent}
+use Rattle.dr_logged.specs.Served.{BrokeOff, HasCome, HaveSamePlaces, IsFull, IsRecordDue, IsSafe, WentSo}
+use Rattle.dr_machine.specs.Group.{AllPresent, IsGroup, IsPresent}
 use Rattle.dr_machine.proofs.Presence.{in_roster}
 use Rattle.dr_opening.specs.CatchingUp.{opened_with}
 use Rattle.dr_opening.specs.Contents.{IsOpenFor, voted_for}
@@ -48,13 +43,10 @@ use Rattle.dr_opening.proofs.Choosing.{chosen_group}
 use Rattle.dr_opening.proofs.Ways.{open_entries}
 use Rattle.dr_program.proofs.Present.{present_map, present_within}
 use Rattle.dr_program.specs.declared.outcome.LogWhy.{LogWhy}
-use Rattle.dr_program.specs.declared.outcome.LogWhy.TheVariants as logs
 use Rattle.dr_program.specs.Presence.{present_at}
 use Rattle.dr_program.specs.Program.{Program, end_of}
 use Rattle.dr_program.specs.Replica.{Replica}
 use Rattle.dr_program.specs.Running.{Running}
-use Rattle.dr_program_laws.specs.Ended.{AreComplete, HaveEnded}
-use Rattle.dr_program_laws.specs.Trusting.{NoneLeft, SuspectsNobody}
 use Rattle.dr_quorum.specs.Handing.{handed_by}
 use Rattle.dr_restart.specs.Choosing.{handed_of}
 use Rattle.dr_restart.specs.declared.start.Start.{Start}
@@ -62,13 +54,13 @@ use Rattle.dr_restart.specs.Groups.{first_group_of, group_of}
 use Rattle.dr_restart.specs.Setups.{crashes_of}
 use Rattle.dr_script.specs.declared.script.Script.{Script}
 use Rattle.dr_script.specs.Ranges.{HasRanges}
-use Rattle.dr_age.specs.Logged.{AreAmple, AreAsBefore, AreCalm, AreOpened, HaveCome, NoneFull, NoneStopped, why_ended}
+use Rattle.dr_age.specs.Age.{IsAge, IsAgeOn}
+use Rattle.dr_age.specs.Logged.{AreAmple, AreAsBefore, AreCalm, AreOpened, HaveCome, why_ended}
 use Rattle.dr_threads.specs.Logs.{AreLonger}
 use Rattle.dr_words.specs.Masks.{without}
 use Rattle.dr_world_laws.proofs.Finishing.{banks-small}
 use Rattle.dr_words.proofs.Masks.{has_mask_of}
 use Rattle.dr_yard.specs.Yards.{YardState}
-use Rattle.dr_logged.proofs.Served.{places_both}
 use Rattle.dr_program_laws.proofs.Endings.{not_away}
 use Rattle.dr_age.proofs.LoggedMembers.{ended_by_disk}
 use Rattle.dr_opening.proofs.Lists.{stays_there, was_there, content_at_log, contents_there, log_of_content}
@@ -77,18 +69,23 @@ use Rattle.dr_opening.proofs.Contents.{open_long}
 use Rattle.dr_ages.specs.declared.mode.Mode.{Mode}
 use Rattle.dr_ages.specs.declared.mode.Mode.TheVariants.{Sim}
 use Rattle.dr_ages.specs.declared.part.Part.{Part}
-use Rattle.dr_ages.specs.Ages.{HaveSomebodyPrompt, IsAgeOf, IsMemberOf, IsPlayed, NamesNobody, opening_of, over_of, start_of, taking_part}
+use Rattle.dr_ages.specs.Ages.{HaveSomebodyPrompt, IsAgeFrom, IsAgeOf, IsPlayed, NamesNobody, start_of, taking_part}
 use Rattle.dr_ages.specs.Found.{AreFew}
 use Rattle.dr_ages.specs.Left.{HasLeft, IsFullAt, with_logged}
 use Rattle.dr_ages.specs.Lent.{AreAllBut, AreMounted, IsMounted, with_logs}
 use Rattle.dr_ages.specs.Opened.{AreLater, IsLater}
-use Rattle.dr_ages.specs.Passing.{AreKeptSince, PassOn}
+use Rattle.dr_ages.specs.Passing.{AreKeptSince}
+use Rattle.dr_ages.proofs.Completing.{complete_in}
 use Rattle.dr_ages.proofs.Backs.{faults_at, kept_back, log_at, not_missing, passed_with, told_at, untouched_with}
+use Rattle.dr_logged.proofs.Served.{places_both}
 use Rattle.dr_ages.proofs.Loans.{are_found}
 use Rattle.dr_ages.proofs.Opening.{are_opened, opened_on}
 use Rattle.dr_ages.proofs.Short.{found_short, opened_short}
 use Rattle.dr_ages.proofs.Staying.{alike_same, later_by_all, later_then, on_same}
+use Rattle.dr_ages.proofs.Stopping.{IsOpeningOn}
 use Rattle.dr_ages.proofs.Votes.{EndsSo, few_cast, member_over, over_form, told_by}
+use Rattle.dr_entry.specs.declared.end.End.TheVariants as ends
+use Rattle.dr_program.specs.declared.outcome.LogWhy.TheVariants as logs
 
 -- ---- the logs go on
 
@@ -152,17 +149,10 @@ later_by_longer told faults olds news longer m old new there here =
         Goes-weaken (told old.disk) (told new.disk) (λ s. LosesNone old.content) (λ s. LosesNone first)
         (λ s image. less_lost first old.content image part) goes
 
--- an age ran as its mode says, and its logs have come to what its members tell
-abbrev pub RanWith : {D : Type 0} → (D → Option Told) → (D → ℕ) → Script → Start → ℕ → AgeEnd → Mode
-    → List (Option (LogState D)) → List (Option (LogState D)) → Type 0
-RanWith told faults script start nth age mode olds news = (is : IsPlayed mode script start nth age)
-    × HaveCome told faults olds news (over_of mode script start nth age is).members
-
 -- whoever is there stands in its program
 stands_over : (mode : Mode) (script : Script) (start : Start) (nth : ℕ) (age : AgeEnd) → HasRanges script
-    → IsGroup (group_of script start) → (is : IsPlayed mode script start nth age) → (m : ℕ)
-    → IsPresent (group_of script start) m
-    → (r : Running) × (present_at (over_of mode script start nth age is).members m ≡ Some r)
+    → IsGroup (group_of script start) → (is : IsAge (IsPlayed mode) script start nth age) → (m : ℕ)
+    → IsPresent (group_of script start) m → (r : Running) × (present_at is.over.members m ≡ Some r)
 stands_over mode script start nth age ranges group is m here =
     (over_form mode script start nth age ranges group is).there m
     (in_roster (group_of script start) m group here) here
@@ -170,22 +160,23 @@ stands_over mode script start nth age ranges group is m here =
 pub later_by_run : {D : Type 0} (told : D → Option Told) (faults : D → ℕ) (script : Script) (start : Start)
     (nth : ℕ) (age : AgeEnd) (mode : Mode) (olds news : List (Option (LogState D))) → HasRanges script
     → IsGroup (group_of script start) → AreOpened (group_of script start) olds
-    → RanWith told faults script start nth age mode olds news → AreLater told faults [] olds news
-later_by_run told faults script start nth age mode olds news ranges group opened ran =
-    later_by_come told faults olds news (over_of mode script start nth age ran.0).members
-    (λ m old there. stands_over mode script start nth age ranges group ran.0 m (opened.each m old there).0) ran.1
+    → IsAgeOn (IsPlayed mode) told faults script start nth olds news age → AreLater told faults [] olds news
+later_by_run told faults script start nth age mode olds news ranges group opened is =
+    later_by_come told faults olds news is.played.over.members
+    (λ m old there. stands_over mode script start nth age ranges group is.played m (opened.each m old there).0)
+    is.logged
 
 -- an age that ran, or that had no memory to begin
 pub later_by_result : {D E : Type 0} (tells : D → Option Told) (faults : D → ℕ) (script : Script) (start : Start)
     (nth : ℕ) (mode : Mode) (olds news : List (Option (LogState D)))
     (result : Result AgeEnd E) → HasRanges script → IsGroup (group_of script start)
     → AreOpened (group_of script start) olds
-    → IfOk result (λ age. RanWith tells faults script start nth age mode olds news)
+    → IfOk result (IsAgeOn (IsPlayed mode) tells faults script start nth olds news)
     → OnErr result (AreAsBefore olds news) → OnErr result (AreCalm tells faults olds news)
     → AreLater tells faults [] olds news
-later_by_result tells faults script start nth mode olds news (Ok age) ranges group opened ran kept calm =
-    later_by_run tells faults script start nth age mode olds news ranges group opened ran
-later_by_result tells faults script start nth mode olds news (Err error) ranges group opened ran kept calm =
+later_by_result tells faults script start nth mode olds news (Ok age) ranges group opened is kept calm =
+    later_by_run tells faults script start nth age mode olds news ranges group opened is
+later_by_result tells faults script start nth mode olds news (Err error) ranges group opened is kept calm =
     later_by_calm tells faults olds news kept calm
 
 -- a simulated age that had no memory to begin has left all as it was
@@ -325,39 +316,17 @@ somebody_prompt script part logs m log all but some at =
 
 -- ---- the age
 
--- an age that was run over these logs: as they were mounted, as it began, and as they are
-pub record WasPlayed {D : Type 0} (tells : D → Option Told) (faults : D → ℕ) (script : Script) (part : Part)
-    (mode : Mode) (nth : ℕ) (before : YardState) (start : Start) (olds mids news : List (Option (LogState D)))
-    (age : AgeEnd) : Type 0 where
-  pub ranges : HasRanges script
-  pub all : length olds ≡ script.members
-  pub mounted : AreMounted tells faults before olds
-  pub but : AreAllBut part.missing olds
-  pub starts : IsChosenOf (first_group_of script).opening (contents_of olds) start
-  pub late : start.members ≡ without start.present part.late
-  pub began : WereOpened tells faults start olds mids
-  pub run : IsPlayed mode script start nth age
-  pub come : HaveCome tells faults mids news (over_of mode script start nth age run).members
-  pub agreed : EndsAgreed (group_of script start).opening age.members
-  pub ended : HaveEnded (group_of script start).opening script.turns (crashes_of script.faults nth) age.members
-  pub trusting : SuspectsNobody script → NoneLeft age.members
-  pub complete : AllPresent (group_of script start) → IsNobodyLate (group_of script start).opening → mode ≡ Sim
-      → HasTime script → NoneStopped age.members → AreComplete (group_of script start).opening age.members
-  pub ample : AreAmple (group_of script start) mids → NoneFull age.members
-  pub places : HaveSamePlaces mids news
-  pub members : length age.members ≡ length mids
-
 -- its start is the one that its end tells
 pub same_start : (mode : Mode) (script : Script) (part : Part) (contents : List (Option OnLog)) (start : Start)
     (nth : ℕ) (age : AgeEnd) → length script.messages ≡ script.members
     → ((m : ℕ) → m < script.members → is_some (content_at contents m) ≡ not (has part.missing m))
     → IsChosenOf (first_group_of script).opening contents start → start.members ≡ without start.present part.late
-    → IsPlayed mode script start nth age → start ≡ start_of script part age
-same_start mode script part contents start nth age lists there starts late run = λ i. record {
-  age = sym (ap (λ (a : AgeEnd). a.age) (told_by mode script start nth age run)) i;
+    → IsAge (IsPlayed mode) script start nth age → start ≡ start_of script part age
+same_start mode script part contents start nth age lists there starts late is = λ i. record {
+  age = sym (ap (λ (a : AgeEnd). a.age) (told_by mode script start nth age is)) i;
   members = (late ∙ ap (λ (all : ℕ). without all part.late) present) i;
   present = present i;
-  entries = sym (ap (λ (a : AgeEnd). a.start) (told_by mode script start nth age run)) i;
+  entries = sym (ap (λ (a : AgeEnd). a.start) (told_by mode script start nth age is)) i;
 }
   where
     present : start.present ≡ taking_part script part.missing
@@ -413,33 +382,26 @@ record IsOf {D : Type 0} (tells : D → Option Told) (faults : D → ℕ) (start
 
 is_of : {D : Type 0} (tells : D → Option Told) (faults : D → ℕ) (script : Script) (part : Part) (mode : Mode)
     (nth : ℕ) (before : YardState) (start : Start) (olds mids news : List (Option (LogState D))) (age : AgeEnd)
-    (m : ℕ) (r : Running)
-    → (w : WasPlayed tells faults script part mode nth before start olds mids news age)
+    (m : ℕ) (r : Running) → HasRanges script → IsOpeningOn tells faults script part before start olds
+    → WereOpened tells faults start olds mids
+    → (is : IsAgeOn (IsPlayed mode) tells faults script start nth mids news age)
     → start.present ≡ taking_part script part.missing → IsGroup (group_of script start)
-    → present_at (over_of mode script start nth age w.run).members m ≡ Some r
-    → IsOf tells faults start before olds mids news m r
-is_of tells faults script part mode nth before start olds mids news age m r w present group at =
-    let form = over_form mode script start nth age w.ranges group w.run in
+    → present_at is.played.over.members m ≡ Some r → IsOf tells faults start before olds mids news m r
+is_of tells faults script part mode nth before start olds mids news age m r ranges on opened is present group at =
+    let form = over_form mode script start nth age ranges group is.played in
     let below : m < length olds = omega (
       arith,
-      present_within (over_of mode script start nth age w.run).members m r at,
+      present_within is.played.over.members m r at,
       form.all,
-      w.ranges.group.lists,
-      w.all,
+      ranges.group.lists,
+      on.all,
     ) in
     let gone = takes_part script part.missing m
     (subst (λ mask. has mask m ≡ true) present (form.of m r at).present) in
-    let old = log_at part.missing olds m w.but below gone in
-    let x = open_log tells faults start before olds mids m old.0 w.mounted w.began old.1 in
-    let new = stays_there mids news m x.mid w.places x.by in
-    record { open_one = x; new = new.0; to = new.1; come = w.come m x.mid new.0 r x.by new.1 at }
-
--- what a member of it leaves
-record LeavesSo (g : Group) (found : OnLog) (told : Option Told) (r : Replica) : Type 0 where
-  few : IsMemberOf g r
-  left : HasLeft told r found
-  full : (len : ℕ) → r.end ≡ Some (ends.LogFull len) → IsFullAt r found len
-  within : (with_logged found r).length ≤ 2147483648
+    let old = log_at part.missing olds m on.but below gone in
+    let x = open_log tells faults start before olds mids m old.0 on.mounted opened old.1 in
+    let new = stays_there mids news m x.mid is.places x.by in
+    record { open_one = x; new = new.0; to = new.1; come = is.logged m x.mid new.0 r x.by new.1 at }
 
 -- what is on the log of each member
 abbrev pub content_on : {D : Type 0} → List (Option (LogState D)) → ℕ → OnLog
@@ -452,93 +414,81 @@ content_here {D} logs m log there =
 
 pub is_age : {D : Type 0} (tells : D → Option Told) (faults : D → ℕ) (script : Script) (part : Part) (mode : Mode)
     (nth : ℕ) (before : YardState) (start : Start) (olds mids news : List (Option (LogState D))) (age : AgeEnd)
-    → WasPlayed tells faults script part mode nth before start olds mids news age
+    → HasRanges script → IsOpeningOn tells faults script part before start olds
+    → WereOpened tells faults start olds mids
+    → IsAgeOn (IsPlayed mode) tells faults script start nth mids news age
     → IsAgeOf script part mode nth before (with_logs tells faults before news) age
-is_age {D} tells faults script part mode nth before start olds mids news age w = record {
-  contents = contents_of olds;
-  found = are_found tells faults part.missing before olds script.members w.mounted w.but w.all;
-  starts = subst (IsChosenOf (first_group_of script).opening (contents_of olds)) same w.starts;
-  begun = content_on mids;
-  begins = λ m c at. subst (λ (s : Start). IsOpenFor s (voted_for s c) (content_on mids m)) same (begins m c at);
-  roster = roster;
-  run = ran.0;
-  agreed = subst (λ (s : Start). EndsAgreed (group_of script s).opening age.members) same w.agreed;
-  ended = ended;
-  trusting = w.trusting;
-  complete = λ none. subst (λ (s : Start). IsNobodyLate (group_of script s).opening → mode ≡ Sim → HasTime script
-      → NoneStopped age.members → AreComplete (group_of script s).opening age.members) same (w.complete (whole none));
-  absent = absent;
-  few = λ m r at. (ran.1 m r at).few;
-  opened = λ m e at there. subst (λ (s : Start). IsPrefixOf (first_entries (group_of script s).opening)
-      (take e.logged e.history)) same (opened m e at there);
-  left = λ m r at. (ran.1 m r at).left;
-  within = λ m r at. (ran.1 m r at).within;
-  failed = failed;
-  calm = calm;
-  full = λ m r at. (ran.1 m r at).full;
-  ample = λ few. w.ample (ample few);
-  passes = subst (λ (es : List Entry). PassOn (es ∷ []) before (with_logs tells faults before news))
-      (ap (λ (s : Start). s.entries) same)
-      (passed_with tells faults (start.entries ∷ []) before before olds news w.mounted later places
-      (λ m none. on_same (start.entries ∷ []) (before.told m) (before.told m) (before.faults m) (before.faults m) refl
-      (le_refl (before.faults m))));
-  since = subst (λ (es : List Entry). AreKeptSince script.members part.missing script.members (es ∷ []) before
-      (with_logs tells faults before news)) (ap (λ (s : Start). s.entries) same)
-      (subst (λ (k : ℕ). AreKeptSince script.members part.missing k (start.entries ∷ []) before
-      (with_logs tells faults before news)) w.all
-      (kept_back tells faults script.members part.missing (start.entries ∷ []) before before
-      (with_logs tells faults before news) olds news w.mounted w.but later places
-      (λ m none. alike_same (before.told m) (before.told m) (before.faults m) (before.faults m) refl
-      (le_refl (before.faults m))) (λ m. (refl, refl))));
-  untouched = untouched_with tells faults part.missing before olds news w.but places;
-}
+is_age {D} tells faults script part mode nth before start olds mids news age ranges on were is =
+    subst (λ (s : Start). IsAgeFrom s script part mode nth before (with_logs tells faults before news) age) same
+    (record {
+      contents = contents_of olds;
+      found = are_found tells faults part.missing before olds script.members on.mounted on.but on.all;
+      starts = on.chosen;
+      begun = content_on mids;
+      begins = begins;
+      played = is.played;
+      complete = λ none. complete_in mode script start nth age group ranges is.played (whole none);
+      absent = absent;
+      few = few_cast mode script start nth age ranges group is.played;
+      opened = opened;
+      left = left;
+      within = within;
+      failed = failed;
+      calm = calm;
+      full = full;
+      ample = λ few. is.ample (ample few);
+      passes = passed_with tells faults (start.entries ∷ []) before before olds news on.mounted later places
+          (λ m none. on_same (start.entries ∷ []) (before.told m) (before.told m) (before.faults m) (before.faults m)
+          refl (le_refl (before.faults m)));
+      since = subst (λ (k : ℕ). AreKeptSince script.members part.missing k (start.entries ∷ []) before
+          (with_logs tells faults before news)) on.all
+          (kept_back tells faults script.members part.missing (start.entries ∷ []) before before
+          (with_logs tells faults before news) olds news on.mounted on.but later places
+          (λ m none. alike_same (before.told m) (before.told m) (before.faults m) (before.faults m) refl
+          (le_refl (before.faults m))) (λ m. (refl, refl)));
+      untouched = untouched_with tells faults part.missing before olds news on.but places;
+    })
   where
     group : IsGroup (group_of script start)
-    group = chosen_group script (contents_of olds) start w.ranges.group w.starts
+    group = chosen_group script (contents_of olds) start ranges.group on.chosen
 
     there : (m : ℕ) → m < script.members → is_some (content_at (contents_of olds) m) ≡ not (has part.missing m)
-    there m below = contents_there olds m ∙ w.but m (omega (arith, below, w.all))
+    there m below = contents_there olds m ∙ on.but m (omega (arith, below, on.all))
 
     same : start ≡ start_of script part age
-    same = same_start mode script part (contents_of olds) start nth age w.ranges.group.lists there w.starts w.late
-        w.run
+    same = same_start mode script part (contents_of olds) start nth age ranges.group.lists there on.chosen on.members
+        is.played
 
     present : start.present ≡ taking_part script part.missing
     present = ap (λ (s : Start). s.present) same
 
     began : HaveSamePlaces olds mids
-    began = opened_places tells faults start olds mids w.began
+    began = opened_places tells faults start olds mids were
 
     places : HaveSamePlaces olds news
-    places = places_both olds mids news began w.places
-
-    opens : AreOpened (group_of script start) mids
-    opens = are_opened tells faults script start olds mids w.ranges.group.lists w.ranges.group.most_members w.all
-        w.starts w.began
-
-    roster : length age.members ≡ script.members
-    roster = w.members ∙ (began.all ∙ w.all)
+    places = places_both olds mids news began is.places
 
     over : Program
-    over = over_of mode script start nth age w.run
+    over = is.played.over
 
     -- the logs are later behind it
     later : AreLater tells faults (start.entries ∷ []) olds news
     later = later_on tells faults (start.entries ∷ []) olds mids news began
-        (opened_on tells faults start olds mids w.began)
+        (opened_on tells faults start olds mids were)
         (λ m old new from to. later_by_all tells faults (start.entries ∷ []) old new
-        (later_by_run tells faults script start nth age mode mids news w.ranges group opens (w.run, w.come) m old new
-        from to))
+        (later_by_run tells faults script start nth age mode mids news ranges group
+        (are_opened tells faults script start olds mids ranges.group.lists ranges.group.most_members on.all on.chosen
+        were) is m old new from to))
 
     whole : NamesNobody script.members part.missing → AllPresent (group_of script start)
-    whole none = present ∙ all_take_part script part.missing w.ranges.group.most_members none
-        ∙ ap (λ n. 2 ^ n - 1) (sym w.ranges.group.lists)
+    whole none = present ∙ all_take_part script part.missing ranges.group.most_members none
+        ∙ ap (λ n. 2 ^ n - 1) (sym ranges.group.lists)
 
     begins : (m : ℕ) (c : OnLog) → content_at (contents_of olds) m ≡ Some c
         → IsOpenFor start (voted_for start c) (content_on mids m)
     begins m c at =
         let old = log_of_content olds m c at in
-        let x = open_log tells faults start before olds mids m old.0 w.mounted w.began old.1 in
+        let x = open_log tells faults start before olds mids m old.0 on.mounted were old.1 in
         subst (λ b. IsOpenFor start (voted_for start b) (content_on mids m))
         (ap (λ (l : LogState D). l.content) (same_Some x.old old.0 (sym x.from ∙ old.1)) ∙ old.2)
         (subst (IsOpenFor start (voted_for start x.old.content)) (sym (content_here mids m x.mid x.by))
@@ -547,37 +497,36 @@ is_age {D} tells faults script part mode nth before start olds mids news age w =
     one : (m : ℕ) (r : Running) → present_at over.members m ≡ Some r
         → IsOf tells faults start before olds mids news m r
     one m r at =
-        is_of tells faults script part mode nth before start olds mids news age m r w present group at
+        is_of tells faults script part mode nth before start olds mids news age m r ranges on were is present group at
 
     -- ---- who is absent
 
-    ended : HaveEnded (opening_of script part age) script.turns (crashes_of script.faults nth) age.members
-    ended = subst (λ (s : Start). HaveEnded (group_of script s).opening script.turns
-        (crashes_of script.faults nth) age.members) same w.ended
+    takes : (m : ℕ) → has start.present m ≡ has (taking_part script part.missing) m
+    takes m = ap (λ (mask : ℕ). has mask m) present
 
     below : (m : ℕ) (e : MemberEnd) → slice_get age.members m ≡ Some e → m < script.members
-    below m e at = omega (arith, slice_get_within age.members m e at, roster)
+    below m e at = omega (arith, slice_get_within age.members m e at, is.played.roster)
 
     absent : (m : ℕ) (e : MemberEnd) → slice_get age.members m ≡ Some e
         → (e.end ≡ ends.Absent) ↔ (has part.missing m ≡ true)
     absent m e at = elim (cases_Bool (has part.missing m)) [
       | inl gone ↦ (
         λ away. gone,
-        λ _. ap (λ (x : MemberEnd). x.end) (ended.absent m e at
-            (λ here. true≢false (sym gone ∙ takes_part script part.missing m here))),
+        λ _. ap (λ (x : MemberEnd). x.end) (is.played.ended.absent m e at
+            (λ here. true≢false (sym gone ∙ takes_part script part.missing m (sym (takes m) ∙ here)))),
       )
       | inr stays ↦ (
-        λ away. absurd (not_away (opening_of script part age) age.members script.turns m
+        λ away. absurd (not_away (group_of script start).opening age.members script.turns m
             (crashes_of script.faults nth m) e
-            (ended.each m e at
-            (part_of script part.missing m w.ranges.group.most_members (below m e at) stays)) away),
+            (is.played.ended.each m e at
+            (takes m ∙ part_of script part.missing m ranges.group.most_members (below m e at) stays)) away),
         λ gone. absurd (true≢false (sym gone ∙ stays)),
       )
     ]
 
     -- by how its member ended, where it is not missing
     who : (m : ℕ) (e : MemberEnd) → slice_get age.members m ≡ Some e → e.end ≢ ends.Absent → EndsSo over m e
-    who m e at apart = elim (member_over mode script start nth age w.run m e at) [
+    who m e at apart = elim (member_over mode script start nth age is.played m e at) [
       | inl ends ↦ ends
       | inr lacks ↦ absurd (apart (sym (ap (λ (x : MemberEnd). x.end) lacks.is)))
     ]
@@ -643,24 +592,6 @@ is_age {D} tells faults script part mode nth before start olds mids news age w =
               (x.come.limit ∙ limit m x.open_one) went.2.over;
         }
 
-    -- what holds of its members, by the start that its end tells
-    ran : (is : IsPlayed mode script (start_of script part age) nth age)
-        × ((m : ℕ) → AtMember (over_of mode script (start_of script part age) nth age is) m
-        (λ r. LeavesSo (group_of script (start_of script part age)) (content_on mids m)
-        ((with_logs tells faults before news).told m) r.replica))
-    ran = subst (λ (s : Start). (is : IsPlayed mode script s nth age)
-        × ((m : ℕ) → AtMember (over_of mode script s nth age is) m
-        (λ r. LeavesSo (group_of script s) (content_on mids m) ((with_logs tells faults before news).told m) r.replica)))
-        same (
-          w.run,
-          λ m r at. record {
-            few = few_cast mode script start nth age w.ranges group w.run m r at;
-            left = left m r at;
-            full = full m r at;
-            within = within m r at;
-          },
-        )
-
     -- ---- faults of disks
 
     counted : (m : ℕ) (y : IsOpenLog tells faults start before olds mids m)
@@ -701,12 +632,12 @@ is_age {D} tells faults script part mode nth before start olds mids news age w =
         by None at = refl
         by (Some new) at =
             let old = was_there olds news m new places at in
-            let stays = not_missing part.missing olds m old.0 w.but old.1 in
+            let stays = not_missing part.missing olds m old.0 on.but old.1 in
             let e = slice_get-some age.members m (omega (
               arith,
               present_within olds m old.0 old.1,
-              w.all,
-              roster,
+              on.all,
+              is.played.roster,
             )) in
             let by = who m e.0 e.1 (λ away. true≢false (sym ((absent m e.0 e.1).0 away) ∙ stays)) in
             let x = one m by.r by.at in
@@ -720,7 +651,7 @@ is_age {D} tells faults script part mode nth before start olds mids news age w =
         → AreAmple (group_of script start) mids
     ample few m log there =
         let old = was_there olds mids m log began there in
-        let x = open_log tells faults start before olds mids m old.0 w.mounted w.began old.1 in
+        let x = open_log tells faults start before olds mids m old.0 on.mounted were old.1 in
         let at = content_at_log olds m x.old x.from in
         let is = same_Some log x.mid (sym there ∙ x.by) in
         record {
@@ -734,8 +665,8 @@ is_age {D} tells faults script part mode nth before start olds mids news age w =
             length-append start.entries (View start.age 0 start.members ∷ []),
             open_long start x.old.content x.mid.content (is_open tells faults start before olds mids m x),
             (few m x.old.content at).few,
-            found_short script (contents_of olds) start m x.old.content w.ranges.group w.starts at,
-            opened_short script (contents_of olds) start w.ranges.group w.starts,
+            found_short script (contents_of olds) start m x.old.content ranges.group on.chosen at,
+            opened_short script (contents_of olds) start ranges.group on.chosen,
             limit m x,
             banks-small (group_of script start) group,
             group.most_members,

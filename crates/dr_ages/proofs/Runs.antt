@@ -295,7 +295,7 @@ voted_kept : (script : Script) (part : Part) (mode : Mode) (before : YardState) 
     → AreAges script part mode 0 before ages last → HasFinished script part last after chosen ages stop
     → AllTell script.members before → HaveEndedWith script part mode ages last after
 voted_kept script part mode before ages last after chosen stop ranges are end tell earlier age nth start same is m r at =
-    let x = age_told mode script (start_of script part age) nth age is.run m r at in
+    let x = age_told mode script (start_of script part age) nth age is.played m r at in
     let logged = with_logged (is.begun m) r.replica in
     Goes-last (last.told m) (after.told m) (LosesNone logged)
     ((last_passes script part last after chosen ages stop end m).stays logged

@@ -29,7 +29,8 @@ use Rattle.dr_sim.proofs.Courses.{schedule_ran}
 use Rattle.dr_yard.specs.Yards.{AllTell, YardState}
 use Rattle.dr_ages.specs.declared.mode.Mode.{Mode}
 use Rattle.dr_ages.specs.declared.mode.Mode.TheVariants.{Sim, Run}
-use Rattle.dr_ages.specs.Ages.{IsMemberOf, IsPlayed, over_of}
+use Rattle.dr_age.specs.Age.{IsAge}
+use Rattle.dr_ages.specs.Ages.{IsMemberOf, IsPlayed}
 use Rattle.dr_ages.specs.Found.{AreFound, ReadsAs}
 
 -- ---- votes that are found are valid
@@ -52,30 +53,28 @@ pub record HasRanOver (script : Script) (start : Start) (nth : ℕ) (over : Prog
   pub ran : IsRanFrom begun over
 
 pub ran_over : (mode : Mode) (script : Script) (start : Start) (nth : ℕ) (age : AgeEnd)
-    → (is : IsPlayed mode script start nth age)
-    → HasRanOver script start nth (over_of mode script start nth age is)
+    → (is : IsAge (IsPlayed mode) script start nth age) → HasRanOver script start nth is.over
 ran_over Sim script start nth age is = record {
-  begun = is.begun;
-  begins = is.begins;
-  ran = schedule_ran script.schedule is.begun is.over is.run;
+  begun = is.run.begun;
+  begins = is.run.begins;
+  ran = schedule_ran script.schedule is.run.begun is.over is.run.run;
 }
-ran_over Run script start nth age is = record { begun = is.begun; begins = is.begins; ran = is.ran }
+ran_over Run script start nth age is = record { begun = is.run.begun; begins = is.run.begins; ran = is.run.ran }
 
 -- so it is a program of the group
 pub over_form : (mode : Mode) (script : Script) (start : Start) (nth : ℕ) (age : AgeEnd) → HasRanges script
-    → IsGroup (group_of script start) → (is : IsPlayed mode script start nth age)
-    → IsProgram (group_of script start) (over_of mode script start nth age is)
+    → IsGroup (group_of script start) → (is : IsAge (IsPlayed mode) script start nth age)
+    → IsProgram (group_of script start) is.over
 over_form mode script start nth age ranges group is =
-    let over : Program = over_of mode script start nth age is in
     let r = ran_over mode script start nth age is in
-    (deeds_kept (group_of script start) script.turns r.begins.0 over group ranges.some_turn
+    (deeds_kept (group_of script start) script.turns r.begins.0 is.over group ranges.some_turn
     (are_setups script start nth r.begins.0 ranges.group.lists r.begins.1)
-    (subst (λ (b : Program). IsRanFrom b over) r.begins.2 r.ran)).0
+    (subst (λ (b : Program). IsRanFrom b is.over) r.begins.2 r.ran)).0
 
 -- and a member casts in each view no more votes than the roster has members
 pub few_cast : (mode : Mode) (script : Script) (start : Start) (nth : ℕ) (age : AgeEnd) → HasRanges script
-    → IsGroup (group_of script start) → (is : IsPlayed mode script start nth age) → (m : ℕ)
-    → AtMember (over_of mode script start nth age is) m (λ r. IsMemberOf (group_of script start) r.replica)
+    → IsGroup (group_of script start) → (is : IsAge (IsPlayed mode) script start nth age) → (m : ℕ)
+    → AtMember is.over m (λ r. IsMemberOf (group_of script start) r.replica)
 few_cast mode script start nth age ranges group is m r at = record {
   roster = (form.of m r at).members;
   banks = (form.of m r at).banks;
@@ -87,17 +86,16 @@ few_cast mode script start nth age ranges group is m r at = record {
   );
 }
   where
-    form : IsProgram (group_of script start) (over_of mode script start nth age is)
+    form : IsProgram (group_of script start) is.over
     form = over_form mode script start nth age ranges group is
 
 -- ---- the members of an age
 
 -- its end tells the entries of its start, its number, and how its members ended
 pub told_by : (mode : Mode) (script : Script) (start : Start) (nth : ℕ) (age : AgeEnd)
-    → (is : IsPlayed mode script start nth age)
-    → age ≡ age_of (group_of script start).opening (over_of mode script start nth age is)
-told_by Sim script start nth age is = is.told
-told_by Run script start nth age is = is.told
+    → (is : IsAge (IsPlayed mode) script start nth age) → age ≡ age_of (group_of script start).opening is.over
+told_by Sim script start nth age is = is.run.told
+told_by Run script start nth age is = is.run.told
 
 -- a member of its program, by how it ended
 pub record EndsSo (p : Program) (m : ℕ) (e : MemberEnd) : Type 0 where
@@ -111,14 +109,14 @@ pub record LacksSo (p : Program) (m : ℕ) (e : MemberEnd) : Type 0 where
   pub is : absent_end ≡ e
 
 pub member_over : (mode : Mode) (script : Script) (start : Start) (nth : ℕ) (age : AgeEnd)
-    → (is : IsPlayed mode script start nth age) → (m : ℕ) (e : MemberEnd) → slice_get age.members m ≡ Some e
-    → EndsSo (over_of mode script start nth age is) m e ⊎ LacksSo (over_of mode script start nth age is) m e
+    → (is : IsAge (IsPlayed mode) script start nth age) → (m : ℕ) (e : MemberEnd) → slice_get age.members m ≡ Some e
+    → EndsSo is.over m e ⊎ LacksSo is.over m e
 member_over mode script start nth age is m e at = by (slice_get over.members m) refl
     (sym (slice_get-map end_at over.members m)
     ∙ sym (ap (λ (a : AgeEnd). slice_get a.members m) (told_by mode script start nth age is)) ∙ at)
   where
     over : Program
-    over = over_of mode script start nth age is
+    over = is.over
 
     by : (o : Option (Option Running)) → slice_get over.members m ≡ o → option_map end_at o ≡ Some e
         → EndsSo over m e ⊎ LacksSo over m e
@@ -133,10 +131,8 @@ member_over mode script start nth age is m e at = by (slice_get over.members m) 
 
 -- and it tells of each that stands at a place
 pub age_told : (mode : Mode) (script : Script) (start : Start) (nth : ℕ) (age : AgeEnd)
-    → (is : IsPlayed mode script start nth age) → (m : ℕ) (r : Running)
-    → present_at (over_of mode script start nth age is).members m ≡ Some r
-    → slice_get age.members m ≡ Some (end_of r)
+    → (is : IsAge (IsPlayed mode) script start nth age) → (m : ℕ) (r : Running)
+    → present_at is.over.members m ≡ Some r → slice_get age.members m ≡ Some (end_of r)
 age_told mode script start nth age is m r at =
     ap (λ (a : AgeEnd). slice_get a.members m) (told_by mode script start nth age is)
-    ∙ (slice_get-map end_at (over_of mode script start nth age is).members m
-    ∙ ap (option_map end_at) (present_slice (over_of mode script start nth age is).members m r at))
+    ∙ (slice_get-map end_at is.over.members m ∙ ap (option_map end_at) (present_slice is.over.members m r at))

@@ -6,7 +6,6 @@ use Rattle.dr_entry.specs.declared.end.End.TheVariants.{Absent, DiskFault, LogFu
 use Rattle.dr_entry.specs.declared.end.MemberEnd.{MemberEnd}
 use Rattle.dr_entry.specs.declared.entry.Entry.{Entry}
 use Rattle.dr_history.specs.declared.opening.Opening.{Opening}
-use Rattle.dr_history.specs.Agreement.{EndsAgreed}
 use Rattle.dr_history.specs.History.{IsPrefixOf}
 use Rattle.dr_history.specs.Members.{has}
 use Rattle.dr_history.specs.Order.{first_entries}
@@ -19,12 +18,11 @@ use Rattle.dr_opening.specs.Contents.{IsOpenFor, voted_for}
 use Rattle.dr_opening.specs.Tries.{IsChosenOf, content_at}
 use Rattle.dr_program.specs.Program.{Program}
 use Rattle.dr_program.specs.Replica.{Replica}
-use Rattle.dr_program_laws.specs.Ended.{AreComplete, HaveEnded}
-use Rattle.dr_program_laws.specs.Trusting.{NoneLeft, SuspectsNobody}
+use Rattle.dr_program_laws.specs.Ended.{AreComplete}
 use Rattle.dr_restart.specs.declared.start.Start.{Start}
 use Rattle.dr_restart.specs.Groups.{first_group_of, group_of}
-use Rattle.dr_restart.specs.Setups.{crashes_of}
 use Rattle.dr_script.specs.declared.script.Script.{Script}
+use Rattle.dr_age.specs.Age.{IsAge}
 use Rattle.dr_age.specs.Logged.{NoneFull, NoneStopped}
 use Rattle.dr_age.specs.Run.{IsRun}
 use Rattle.dr_sim.specs.Simulated.{IsSimulated}
@@ -71,17 +69,10 @@ start_of script part age = record {
 abbrev pub opening_of : Script → Part → AgeEnd → Opening
 opening_of script part age = (group_of script (start_of script part age)).opening
 
--- the age is that of the script's program, which begins from the start: a simulated one runs by the script's
--- schedule, and one in threads by some list of deeds
-abbrev pub IsPlayed : Mode → Script → Start → ℕ → AgeEnd → Type 0
-IsPlayed Sim script start nth age = IsSimulated script start nth age
-IsPlayed Run script start nth age = IsRun script start nth age
-
--- the program as such an age ended
-abbrev pub over_of : (mode : Mode) (script : Script) (start : Start) (nth : ℕ) (age : AgeEnd)
-    → IsPlayed mode script start nth age → Program
-over_of Sim script start nth age is = is.over
-over_of Run script start nth age is = is.over
+-- how an age was played: a simulated one runs by the script's schedule, and one in threads by some list of deeds
+abbrev pub IsPlayed : Mode → Script → Start → ℕ → AgeEnd → Program → Type 0
+IsPlayed Sim = IsSimulated
+IsPlayed Run = IsRun
 
 -- a member of a group: it has as many banks for its views as the group, and has cast no more votes than one by the
 -- ballot of each member of the roster in each of them
@@ -90,55 +81,53 @@ pub record IsMemberOf (g : Group) (r : Replica) : Type 0 where
   pub roster : r.roster ≡ roster g
   pub banks : r.banks ≡ banks g
 
--- this is age number nth of a run, from 0, over disks that were so before it and are so behind it, but for those
--- of the missing
-pub record IsAgeOf (script : Script) (part : Part) (mode : Mode) (nth : ℕ) (before after : YardState)
+-- this is age number nth of a run, from 0, from this start, over disks that were so before it and are so behind it, but
+-- for those of the missing
+pub record IsAgeFrom (start : Start) (script : Script) (part : Part) (mode : Mode) (nth : ℕ) (before after : YardState)
     (age : AgeEnd) : Type 0 where
   -- it starts with what is chosen of what is found on the disks
   pub contents : List (Option OnLog)
   pub found : AreFound script.members part.missing before contents
-  pub starts : IsChosenOf (first_group_of script).opening contents (start_of script part age)
+  pub starts : IsChosenOf (first_group_of script).opening contents start
   -- each log gets the age vote, is cut back and brought up to the start
   pub begun : ℕ → OnLog
   pub begins : (m : ℕ) (c : OnLog) → content_at contents m ≡ Some c
-      → IsOpenFor (start_of script part age) (voted_for (start_of script part age) c) (begun m)
+      → IsOpenFor start (voted_for start c) (begun m)
   -- it is the run of the script's program from there on, and its members agree, and end as they should
-  pub roster : length age.members ≡ script.members
-  pub run : IsPlayed mode script (start_of script part age) nth age
-  pub agreed : EndsAgreed (opening_of script part age) age.members
-  pub ended : HaveEnded (opening_of script part age) script.turns (crashes_of script.faults nth) age.members
-  pub trusting : SuspectsNobody script → NoneLeft age.members
-  pub complete : NamesNobody script.members part.missing → IsNobodyLate (opening_of script part age) → mode ≡ Sim
-      → HasTime script → NoneStopped age.members → AreComplete (opening_of script part age) age.members
+  pub played : IsAge (IsPlayed mode) script start nth age
+  pub complete : NamesNobody script.members part.missing → IsNobodyLate (group_of script start).opening → mode ≡ Sim
+      → HasTime script → NoneStopped age.members → AreComplete (group_of script start).opening age.members
   -- exactly the missing are absent
   pub absent : (m : ℕ) (e : MemberEnd) → slice_get age.members m ≡ Some e
       → (e.end ≡ Absent) ↔ (has part.missing m ≡ true)
   -- its members have cast no more votes than they may
-  pub few : (m : ℕ) → AtMember (over_of mode script (start_of script part age) nth age run) m
-      (λ r. IsMemberOf (group_of script (start_of script part age)) r.replica)
+  pub few : (m : ℕ) → AtMember played.over m (λ r. IsMemberOf (group_of script start) r.replica)
   -- each log begins with what every history of the age does
   pub opened : (m : ℕ) (e : MemberEnd) → slice_get age.members m ≡ Some e → has part.missing m ≡ false
-      → IsPrefixOf (first_entries (opening_of script part age)) (take e.logged e.history)
+      → IsPrefixOf (first_entries (group_of script start).opening) (take e.logged e.history)
   -- whatever a crash leaves of each disk is what its member may leave, behind what stood there as the age began
-  pub left : (m : ℕ) → AtMember (over_of mode script (start_of script part age) nth age run) m
-      (λ r. HasLeft (after.told m) r.replica (begun m))
+  pub left : (m : ℕ) → AtMember played.over m (λ r. HasLeft (after.told m) r.replica (begun m))
   -- no log is longer than a log may be
-  pub within : (m : ℕ) → AtMember (over_of mode script (start_of script part age) nth age run) m
-      (λ r. (with_logged (begun m) r.replica).length ≤ 2147483648)
+  pub within : (m : ℕ) → AtMember played.over m (λ r. (with_logged (begun m) r.replica).length ≤ 2147483648)
   -- who ends by its disk has one that failed, no call of another disk did, and who ends by a full log has one
   pub failed : (m : ℕ) (e : MemberEnd) → slice_get age.members m ≡ Some e → e.end ≡ DiskFault
       → Rose (before.faults m) (after.faults m)
   pub calm : (m : ℕ) → ((e : MemberEnd) → slice_get age.members m ≡ Some e → e.end ≢ DiskFault)
       → after.faults m ≡ before.faults m
-  pub full : (m : ℕ) → AtMember (over_of mode script (start_of script part age) nth age run) m
+  pub full : (m : ℕ) → AtMember played.over m
       (λ r. (len : ℕ) → r.replica.end ≡ Some (LogFull len) → IsFullAt r.replica (begun m) len)
   -- logs on which there is little but entries have room for all that an age may bring
   pub ample : ((m : ℕ) (c : OnLog) → content_at contents m ≡ Some c → AreFew c) → NoneFull age.members
   -- no disk has lost anything, nor would a crash have lost what was on one as the age mounted it, but for entries
   -- that the start lacks; and those of the missing are as they were
-  pub passes : PassOn (age.start ∷ []) before after
-  pub since : AreKeptSince script.members part.missing script.members (age.start ∷ []) before after
+  pub passes : PassOn (start.entries ∷ []) before after
+  pub since : AreKeptSince script.members part.missing script.members (start.entries ∷ []) before after
   pub untouched : AreUntouched part.missing before after
+
+-- so it is from the start that its end tells
+abbrev pub IsAgeOf : Script → Part → Mode → ℕ → YardState → YardState → AgeEnd → Type 0
+IsAgeOf script part mode nth before after age =
+    IsAgeFrom (start_of script part age) script part mode nth before after age
 
 -- these ages came one after the other, the first of them as number nth of the run
 abbrev pub AreAges : Script → Part → Mode → ℕ → YardState → List AgeEnd → YardState → Type 0

@@ -18,7 +18,7 @@ use Rattle.dr_ages.specs.declared.mode.Mode.{Mode}
 use Rattle.dr_ages.specs.declared.part.Part.{Part}
 use Rattle.dr_ages.specs.declared.stop.Stop.{Stop}
 use Rattle.dr_ages.specs.declared.stop.Stop.TheVariants.{OutOfMemory, AgesUsedUp}
-use Rattle.dr_ages.specs.Ages.{AreAges, IsAgeOf, NamesNobody, opening_of, over_of, start_of, starts_of}
+use Rattle.dr_ages.specs.Ages.{AreAges, IsAgeOf, NamesNobody, opening_of, starts_of}
 use Rattle.dr_ages.specs.Fit.{AreFit, AreInStep}
 use Rattle.dr_ages.specs.Found.{AreRoomy}
 use Rattle.dr_ages.specs.Lacking.{LackedMemory}
@@ -103,8 +103,7 @@ abbrev pub HaveEndedWith : Script → Part → Mode → List AgeEnd → YardStat
 HaveEndedWith script part mode ages last after = (earlier : List AgeEnd) (age : AgeEnd) (nth : ℕ)
     (before : YardState) → ages ≡ earlier ++ age ∷ []
     → (is : IsAgeOf script part mode nth before last age) → (m : ℕ)
-    → AtMember (over_of mode script (start_of script part age) nth age is.run) m
-    (λ r. IsLeft (after.told m) (LosesNone (with_logged (is.begun m) r.replica)))
+    → AtMember is.played.over m (λ r. IsLeft (after.told m) (LosesNone (with_logged (is.begun m) r.replica)))
 
 -- so many ages ran as the script asks for, or fewer, and this is why the next one was not opened, by which no
 -- disk has lost anything but entries that the start lacks which was chosen then, if one was, and only the one that

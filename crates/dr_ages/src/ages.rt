@@ -8,22 +8,17 @@
 //! script, and an opening adds 14 bytes at most besides, for an upgrade, a vote for the age and a cut: so
 //! 536,870,912 bytes leave room for all ages of a run.
 ghost use Rattle.std.specs.Prelude.{◌≡◌, ◌≢◌, ◌<◌, ℕ, [], Some, IfErr, IfOk, OnErr, false, length};
-ghost use Rattle.dr_age.specs.Logged.{AreAmple, AreAsBefore, AreCalm, AreOpened, HaveCome, NoneFull, NoneStopped};
-ghost use Rattle.dr_complete.specs.Time.{HasTime};
+ghost use Rattle.dr_age.specs.Age.{IsAgeOn};
+ghost use Rattle.dr_age.specs.Logged.{AreAsBefore, AreCalm, AreOpened};
 ghost use Rattle.dr_entry.specs.declared.limits.TheConstants.{MAX_MEMBERS};
-ghost use Rattle.dr_history.specs.Agreement.{EndsAgreed};
-ghost use Rattle.dr_history.specs.Soundness.{IsNobodyLate};
 ghost use Rattle.dr_log.specs.State.{LogState};
 ghost use Rattle.dr_logged.specs.Served.{HaveSamePlaces};
-ghost use Rattle.dr_machine.specs.Group.{AllPresent, IsGroup};
+ghost use Rattle.dr_machine.specs.Group.{IsGroup};
 ghost use Rattle.dr_opening.specs.Lists.{contents_of, log_of};
-ghost use Rattle.dr_program_laws.specs.Ended.{AreComplete, HaveEnded};
-ghost use Rattle.dr_program_laws.specs.Trusting.{NoneLeft, SuspectsNobody};
 ghost use Rattle.dr_restart.specs.Groups.{group_of};
-ghost use Rattle.dr_restart.specs.Setups.{crashes_of};
 ghost use Rattle.dr_script.specs.Ranges.{HasRanges};
 ghost use Rattle.dr_yard.specs.Yards.{AllTell, YardState, state_by};
-ghost use Rattle.dr_ages.specs.Ages.{HaveSomebodyPrompt, IsAgeOf, IsPlayed, over_of, start_of};
+ghost use Rattle.dr_ages.specs.Ages.{HaveSomebodyPrompt, IsAgeOf, IsPlayed, start_of};
 ghost use Rattle.dr_ages.specs.Lacking.{LackedMemory};
 ghost use Rattle.dr_ages.specs.Lent.{AreAllBut, AreMounted, with_logs};
 ghost use Rattle.dr_ages.specs.Opened.{AreLater, HaveGoneOn};
@@ -255,21 +250,8 @@ fn play_age<R: Threads + Sync, D: Disk, P: Pace + Sync, W: Watcher>(
     requires ranges { HasRanges script.now }
     requires group { IsGroup (group_of script.now start.now) }
     requires logs { AreOpened (group_of script.now start.now) logs.items }
-    ensures run { IfOk result.0 (λ age. (is : IsPlayed mode script.now start.now nth age)
-        × HaveCome D.told D.faults logs.items result.1.items
-        (over_of mode script.now start.now nth age is).members) }
-    ensures agreed { IfOk result.0 (λ age.
-        EndsAgreed (group_of script.now start.now).opening age.members) }
-    ensures ended { IfOk result.0 (λ age. HaveEnded (group_of script.now start.now).opening
-        script.now.turns (crashes_of script.now.faults nth) age.members) }
-    ensures trusting { IfOk result.0 (λ age. SuspectsNobody script.now → NoneLeft age.members) }
-    ensures complete { IfOk result.0 (λ age. AllPresent (group_of script.now start.now)
-        → IsNobodyLate (group_of script.now start.now).opening → mode ≡ Sim → HasTime script.now
-        → NoneStopped age.members
-        → AreComplete (group_of script.now start.now).opening age.members) }
-    ensures ample { IfOk result.0 (λ age. AreAmple (group_of script.now start.now) logs.items
-        → NoneFull age.members) }
-    ensures members { IfOk result.0 (λ age. length age.members ≡ length logs.items) }
+    ensures age { IfOk result.0 (IsAgeOn (IsPlayed mode) D.told D.faults script.now start.now nth
+        logs.items result.1.items) }
     ensures later { AreLater D.told D.faults [] logs.items result.1.items }
     ensures still { OnErr result.0 (mode ≡ Sim → AreAsBefore logs.items result.1.items
         × AreCalm D.told D.faults logs.items result.1.items) }

@@ -14,6 +14,7 @@ ghost use Rattle.dr_log_bytes.specs.Content.{OnLog};
 ghost use Rattle.dr_machine.specs.Group.{AllPresent, IsGroup};
 ghost use Rattle.dr_machine.specs.World.{World};
 ghost use Rattle.dr_opening.specs.Tries.{content_at};
+ghost use Rattle.dr_program.specs.Program.{Program};
 ghost use Rattle.dr_program_laws.specs.Ended.{AreComplete};
 ghost use Rattle.dr_quorum_laws.specs.Lasting.{HoldSinceAge};
 ghost use Rattle.dr_restart.specs.declared.lists.LogLists.{LogLists};
@@ -36,9 +37,10 @@ ghost use Rattle.dr_ages.specs.Runs.{IsRunOf};
 /// In a simulated age of a script that gives its members time enough, from which nobody is absent, in which nobody
 /// is late, and of which no log failed, all members are complete.
 pub fn timely_ages_complete()
-    ensures { (script : Script) (start : Start) (nth : ℕ) (age : AgeEnd) → IsGroup (group_of script start)
-        → AllPresent (group_of script start) → IsNobodyLate (group_of script start).opening → HasRanges script
-        → IsSimulated script start nth age → HasTime script → NoneStopped age.members
+    ensures { (script : Script) (start : Start) (nth : ℕ) (age : AgeEnd) (over : Program)
+        → IsGroup (group_of script start) → AllPresent (group_of script start)
+        → IsNobodyLate (group_of script start).opening → HasRanges script
+        → IsSimulated script start nth age over → HasTime script → NoneStopped age.members
         → AreComplete (group_of script start).opening age.members }
 {}
 

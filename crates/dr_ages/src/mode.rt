@@ -1,7 +1,7 @@
 //! Who takes the deeds of an age.
 //!
-//! The mode is a value, and what an age is in each is one definition by cases (`IsPlayed`). All else is said
-//! once, for both; only what needs a schedule is said of `sim` alone.
+//! The mode is a value, and how an age is played in each is one definition by cases (`IsPlayed`). What an age
+//! promises stands once, for both (`IsAge`); only what needs a schedule is said of `sim` alone.
 
 /// How the members of an age come to take their deeds.
 #[derive(Clone, Copy, Debug, PartialEq, Eq)]

@@ -7,7 +7,7 @@ use Rattle.dr_outcome.specs.Outcome.{HasDone, SaysOnly, unrun, unrun_ends}
 use Rattle.dr_outcome.proofs.Due.{same_tells}
 use Rattle.dr_text.specs.declared.last.Last.{Last}
 use Rattle.dr_yard.specs.Yards.{YardState}
-use Rattle.dr_outcome.proofs.Kinds.{is_unrun}
+use Rattle.dr_outcome.proofs.OutcomeKinds.{is_unrun}
 use Rattle.dr_commands.specs.Check.{Checks, IsChecked, check_ends}
 use Rattle.dr_commands.proofs.CheckStatuses.{checked_ends, is_known}
 

@@ -10,7 +10,7 @@ use Rattle.dr_script.specs.Json.{json_of}
 use Rattle.dr_script.specs.Reading.{NotJson, Reading, Reads, TooLong, Wrong, reading_of}
 use Rattle.dr_text.specs.declared.last.Last.{Last}
 use Rattle.dr_text.specs.declared.last.Last.TheVariants as lasts
-use Rattle.dr_outcome.proofs.Kinds.{refused_ends, same_end}
+use Rattle.dr_outcome.proofs.OutcomeKinds.{refused_ends, same_end}
 use Rattle.dr_commands.specs.Check.{IsChecked, IsVerdict, SaysOfScript, SaysOfStrings, SaysOfValue, check_ends, handed_in}
 
 verdict_ends : (script : Script) (text : List ℕ) (last : Last) → IsVerdict script text last

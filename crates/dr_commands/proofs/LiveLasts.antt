@@ -1,5 +1,5 @@
 -- The last of some ages, and the last line behind the ages of a live group.
-use Rattle.std.proofs.Common.{◌≡◌, sym, ap, ◌∙◌, suc, ◌-◌, ◌≤◌, true, arith, List, [], ◌∷◌, length, get_or}
+use Rattle.std.proofs.Common.{◌≡◌, sym, ap, ◌∙◌, suc, ◌-◌, ◌≤◌, arith, List, [], ◌∷◌, length, get_or}
 use Rattle.dr_entry.specs.declared.end.AgeEnd.{AgeEnd}
 use Rattle.dr_summary.specs.Histories.{longest}
 use Rattle.dr_commands.specs.LiveLines.{last_history}

@@ -20,7 +20,7 @@ use Rattle.dr_text.specs.declared.last.Last.{Last}
 use Rattle.dr_text.specs.declared.last.Last.TheVariants as lasts
 use Rattle.dr_text.specs.Report.{last_text, report_text}
 use Rattle.dr_yard.specs.Yards.{YardState, empty_yard}
-use Rattle.dr_outcome.proofs.Kinds.{refused}
+use Rattle.dr_outcome.proofs.OutcomeKinds.{refused}
 use Rattle.dr_outcome.proofs.KindsFurther.{unplayed}
 use Rattle.dr_commands.specs.Check.{DisksTell, HandsIn, IsChecked, IsJudgedRight, IsVerdict, SaysOfScript, SaysOfStrings, SaysOfValue}
 use Rattle.dr_commands.proofs.RunsRight.{run_right}

@@ -45,7 +45,7 @@ use Rattle.dr_words.specs.Masks.{mask_of}
 use Rattle.dr_yard.specs.Yards.{AllTell, YardState}
 use Rattle.dr_check.proofs.Values.{took}
 use Rattle.dr_ages.proofs.Parts.{its_group, all_ages}
-use Rattle.dr_outcome.proofs.Kinds.{none_full}
+use Rattle.dr_outcome.proofs.OutcomeKinds.{none_full}
 use Rattle.dr_commands.specs.Check.{IsVerdict}
 
 -- ---- the last line
@@ -147,14 +147,14 @@ opened_as_told : (script : Script) (part : Part) (mode : Mode) (nth : ℕ) (befo
     → HasRanges script → IsAgeOf script part mode nth before after age
     → told_opening script age ≡ opening_of script part age
 opened_as_told script part mode nth before after age ranges is =
-    told_as_opened script (opening_of script part age) age ranges.group is.roster
+    told_as_opened script (opening_of script part age) age ranges.group is.played.roster
     (ap (λ mask. record (opening_of script part age) { present = mask }) same)
-    (its_group script part mode nth before after age ranges is).sound is.agreed
+    (its_group script part mode nth before after age ranges is).sound is.played.agreed
   where
     same : mask_of (took_part age.members) ≡ taking_part script part.missing
     same = same_masks (mask_of (took_part age.members)) (taking_part script part.missing)
         (λ i. has_mask_of (took_part age.members) i
-        ∙ ap (λ b. nat_lt i 16 && b) (took script.members part.missing i age.members is.roster is.absent)
+        ∙ ap (λ b. nat_lt i 16 && b) (took script.members part.missing i age.members is.played.roster is.absent)
         ∙ sym (has_mask_of (λ k. has (2 ^ script.members - 1) k && not (has part.missing k)) i))
 
 -- ---- the ages of a run
@@ -162,9 +162,9 @@ opened_as_told script part mode nth before after age ranges is =
 agreed_age : (script : Script) (part : Part) (mode : Mode) (nth : ℕ) (before after : YardState) (age : AgeEnd)
     → HasRanges script → IsAgeOf script part mode nth before after age → IsAgreed script age
 agreed_age script part mode nth before after age ranges is = record {
-  all = is.roster;
+  all = is.played.roster;
   sound = subst Sound (sym same) (its_group script part mode nth before after age ranges is).sound;
-  agreed = subst (λ o. EndsAgreed o age.members) (sym same) is.agreed;
+  agreed = subst (λ o. EndsAgreed o age.members) (sym same) is.played.agreed;
 }
   where
     same : told_opening script age ≡ opening_of script part age
@@ -210,14 +210,14 @@ small_age script part mode nth before after age ranges is room = record {
 
     each : (m : ℕ) (e : MemberEnd) → slice_get age.members m ≡ Some e → EndFits e.end ⊎ TellsNothing e
     each m e at = elim (cases_Bool (is_absent e.end)) [
-      | inl away ↦ inr (nothing_told e (is.ended.absent m e at (λ here. not_there m e at away
+      | inl away ↦ inr (nothing_told e (is.played.ended.absent m e at (λ here. not_there m e at away
           (subst (λ o. IsPresentIn o m) (sym same) here))))
       | inr there ↦
           let here : IsPresentIn (opening_of script part age) m =
           subst (λ o. IsPresentIn o m) same (is_here script age ranges.group.most_members good m e at there) in
           let ended = subst
           (λ o. HasEnded o age.members script.turns m (crashes_of script.faults nth m) e) (sym same)
-          (is.ended.each m e at here) in
+          (is.played.ended.each m e at here) in
           inl (end_fits script age nth m e ranges good at there ended (room m e at))
     ]
 

@@ -9,7 +9,7 @@ use Rattle.dr_script.specs.Reading.{NotJson, Reading, Reads, TooLong, Wrong, rea
 use Rattle.dr_text.specs.declared.last.Last.{Last}
 use Rattle.dr_text.proofs.Reports.{whenever}
 use Rattle.dr_yard.specs.Yards.{YardState}
-use Rattle.dr_outcome.proofs.Kinds.{saying, due}
+use Rattle.dr_outcome.proofs.OutcomeKinds.{saying, due}
 use Rattle.dr_commands.specs.Store.{Stores, store_ends}
 use Rattle.dr_commands.specs.StoreLines.{last_values_text}
 

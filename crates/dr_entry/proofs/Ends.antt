@@ -8,7 +8,7 @@ use Rattle.dr_entry.specs.declared.end.SentItem.TheVariants.{Null, Index}
 use Rattle.dr_entry.specs.declared.end.MemberEnd.{MemberEnd}
 
 -- whether an item is the message with this index
-pub is_message : ℕ → SentItem → Bool
+unfoldable pub is_message : ℕ → SentItem → Bool
 is_message i Null = false
 is_message i (Index j) = j == i
 

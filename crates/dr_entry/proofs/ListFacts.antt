@@ -657,3 +657,16 @@ pub three_told : (start a b new p q r : List ℕ) → start ≡ [] → a ≡ sta
     → new ≡ (p ++ q) ++ r
 three_told start a b new p q r none first second third =
     third ∙ ap (λ l. l ++ r) (second ∙ ap (λ l. l ++ q) (first ∙ ap (λ l. l ++ p) none))
+
+-- ---- lists of one element
+
+-- what is before the last of one is nothing
+pub last_one : {X : Type 0} (xs ys : List X) (x : X) → xs ≡ ys ++ x ∷ [] → length xs ≡ 1 → ys ≡ []
+last_one xs [] x is one = refl
+last_one xs (y ∷ ys) x is one = absurd (omega (arith, one, ap length is, length-append ys (x ∷ [])))
+
+-- the one that is read
+pub one_read : {X : Type 0} (xs : List X) (x y : X) → length xs ≡ 1 → x ≡ get_or xs 0 x → x ≡ y → xs ≡ y ∷ []
+one_read [] x y one read is = absurd (omega arith)
+one_read (z ∷ []) x y one read is = ap (λ w. w ∷ []) (sym read ∙ is)
+one_read (z ∷ w ∷ ws) x y one read is = absurd (omega arith)

@@ -122,7 +122,7 @@ any_at P xs i x at holds = (i, x, slice_get_within xs i x at, get_or_from_slice_
 -- and stands at one
 pub at_any : {A : Type 0} (P : A → Type 0) (xs : List A) → Any P xs
     → (i : ℕ) × (x : A) × (slice_get xs i ≡ Some x) × P x
-at_any P xs some = (some.0, some.1, slice_get-get_or xs some.0 some.1 some.2 ∙ ap Some some.3, some.4)
+at_any P xs found = (found.0, found.1, slice_get-get_or xs found.0 found.1 found.2 ∙ ap Some found.3, found.4)
 
 -- each element has one beside it
 pub zip_at : {A B : Type 0} (R : A → B → Type 0) (xs : List A) (ys : List B) → AllZip R xs ys

@@ -293,7 +293,7 @@ not_less a b impossible = elim (leb b a) as (λ x. leb b a ≡ x → b ≤ a) [
 ] refl
 
 -- a hand is cut at a place, and a new seat has what stands from there on
-pub cut_back : ℕ → ℕ → ℕ → ℕ → ℕ → ℕ × ℕ
+unfoldable pub cut_back : ℕ → ℕ → ℕ → ℕ → ℕ → ℕ × ℕ
 cut_back id at n s a = cond (eqb s id) (cond (ltb a at) (id, a) (n, a - at)) (s, a)
 
 -- a number up to 4 that is none of 2, 3 and 4
@@ -380,13 +380,13 @@ not_early status end (inr is) =
     apart 5 status (λ e. omega (arith, e)) (λ e. omega (arith, e)) (λ e. omega (arith, e)) is end
 
 -- whether a view of the age has named it, and whether it is in the last one
-pub phase : Bool → Bool → ℕ
+unfoldable pub phase : Bool → Bool → ℕ
 phase false now = 0
 phase true true = 1
 phase true false = 2
 
 -- how far those with a number below n have come together
-pub total : (ℕ → Bool) → (ℕ → Bool) → ℕ → ℕ
+unfoldable pub total : (ℕ → Bool) → (ℕ → Bool) → ℕ → ℕ
 total named now zero = 0
 total named now (suc n) = total named now n + phase (named n) (now n)
 

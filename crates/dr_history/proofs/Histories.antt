@@ -24,10 +24,10 @@ use Rattle.dr_history.specs.declared.opening.Opening.{Opening}
 use Rattle.dr_history.specs.Order.{IsInNoView}
 
 -- a view is that of a View among the entries
-record IsAmong (es : List Entry) (v : GroupView) : Type 0 where
-  mask : ℕ
-  view : Contains es (View v.age v.number mask)
-  members : members_of mask ≡ v.members
+pub record IsAmong (es : List Entry) (v : GroupView) : Type 0 where
+  pub mask : ℕ
+  pub view : Contains es (View v.age v.number mask)
+  pub members : members_of mask ≡ v.members
 
 -- and of one entry more
 later : (e : Entry) (es : List Entry) (v : GroupView) → IsAmong es v → IsAmong (e ∷ es) v
@@ -335,10 +335,10 @@ total_rises named was now holds comes (suc n) =
 
 -- the number of the view of these entries is no more than its members, and whom a view has named, have come
 pub record IsFew (o : Opening) (es : List Entry) : Type 0 where
-  number : ℕ
-  mask : ℕ
-  named : ℕ → Bool
-  view : view_of es ≡ Some (record { age = o.age; number = number; members = members_of mask })
-  holds : (s : ℕ) → has mask s ≡ true → named s ≡ true
-  met : (s : ℕ) → named s ≡ true → IsInNoView o.age es s → ⊥
-  few : number ≤ total named (has mask) 16
+  pub number : ℕ
+  pub mask : ℕ
+  pub named : ℕ → Bool
+  pub view : view_of es ≡ Some (record { age = o.age; number = number; members = members_of mask })
+  pub holds : (s : ℕ) → has mask s ≡ true → named s ≡ true
+  pub met : (s : ℕ) → named s ≡ true → IsInNoView o.age es s → ⊥
+  pub few : number ≤ total named (has mask) 16

@@ -288,7 +288,7 @@ pair_keeps plan old new a b ranges more r =
     kept : Kept (opening_of first (all_but 0) a) (accounts_of a.members) (opening_of first (all_but 0) b)
     kept = subst (λ (ends : List MemberEnd).
         Kept (opening_of first (all_but 0) a) (accounts_of ends) (opening_of first (all_but 0) b))
-        (sym (ap (λ (x : AgeEnd). x.members) r.first.run.told))
+        (sym (ap (λ (x : AgeEnd). x.members) r.first.played.run.told))
         (next_keeps first (start_of first (all_but 0) a) (start_of first (all_but 0) b) 0 r.first.contents
         r.second.contents (over_behind left) ranges.group ranges.some_turn
         (of_choice first (all_but 0) Run 0 r.before r.mid a r.first)

@@ -64,7 +64,7 @@ live_stored plan k lists last age ranges few calm live m d within =
 
 pub live_trusting : (plan : Script) (k : ℕ) (lists : Lists) (last : YardState) (age : AgeEnd)
     → IsLivePlan plan → IsLiveAge plan k lists last age → NoneLeft age.members
-live_trusting plan k lists last age is live = live.is.trusting (record {
+live_trusting plan k lists last age is live = live.is.played.trusting (record {
   patient = is.patient;
   unscripted = subst (All (λ (f : Fault). suspicion_in f.what ≡ None)) (sym is.no_faults)
       (All-nil (λ (f : Fault). suspicion_in f.what ≡ None));
@@ -78,7 +78,7 @@ takes_part : (plan : Script) (k : ℕ) (lists : Lists) (last : YardState) (age :
     → IsPresentIn (opening_of (plan_with plan lists) (all_but 0) age) m
 takes_part plan k lists last age m e ranges live at =
     there_takes_part (plan_with plan lists) 0 m ranges.most_members
-    (omega (arith, slice_get_within age.members m e at, live.is.roster)) (has_zero m)
+    (omega (arith, slice_get_within age.members m e at, live.is.played.roster)) (has_zero m)
 
 -- a history has first parts of the messages of the age
 numbered_in : (plan : Script) (k : ℕ) (lists : Lists) (last : YardState) (age : AgeEnd) (m : ℕ) (e : MemberEnd)
@@ -90,7 +90,7 @@ numbered_in plan k lists last age m e s ranges live at =
     let there = takes_part plan k lists last age m e ranges live at in
     subst (λ (end : Option MemberEnd).
     IsPrefixOf (messages_from s (option_map_or (λ (x : MemberEnd). x.history) end [])) (numbered_messages o s)) at
-    ((live.is.agreed.agreed.ordered m there).numbered s)
+    ((live.is.played.agreed.agreed.ordered m there).numbered s)
 
 pub live_delivers : (plan : Script) (k : ℕ) (lists pushed : Lists) (last : YardState) (age : AgeEnd)
     → HasGroupRanges (plan_with plan lists) → HaveGrown lists pushed → IsLiveAge plan k lists last age
@@ -127,7 +127,7 @@ live_whole plan k lists last age ranges live done m d within s =
 
     ended_at : (i : ℕ) (x : MemberEnd) (there : slice_get age.members i ≡ Some x)
         → HasEnded o age.members plan.turns i (crashes_of plan.faults 0 i) x
-    ended_at i x there = live.is.ended.each i x there (takes_part plan k lists last age i x ranges live there)
+    ended_at i x there = live.is.played.ended.each i x there (takes_part plan k lists last age i x ranges live there)
 
     whole_at : (i : ℕ) (x : MemberEnd) (there : slice_get age.members i ≡ Some x)
         → IsWhole o age.members (ended_at i x there).number (ended_at i x there).members x
@@ -155,7 +155,7 @@ live_whole plan k lists last age ranges live done m d within s =
     by : (s < length lists) ⊎ (length lists ≤ s)
         → IsPrefixOf (numbered_messages o s) (messages_from s e.history)
     by (inl l) =
-        let x = slice_get-some age.members s (omega (arith, l, ranges.lists, live.is.roster)) in
+        let x = slice_get-some age.members s (omega (arith, l, ranges.lists, live.is.played.roster)) in
         let own = (whole_at s x.0 x.1).whole s (own_at s x.0 x.1) in
         let in_place = slice_get_within age.members s x.0 x.1 in
         let same = get_or_from_slice_get age.members s x.0 x.0 x.1 in
@@ -246,7 +246,7 @@ few_live plan before after [] [] few are = All-nil (λ (age : AgeEnd). length ag
 few_live plan before after [] (age ∷ ages) few are = absurd are
 few_live plan before after (lists ∷ taken) [] few are = absurd are
 few_live plan before after (lists ∷ taken) (age ∷ ages) few (between, is, rest) =
-    All-cons (λ (age : AgeEnd). length age.members ≤ MAX_MEMBERS) age ages (omega (arith, is.roster, few))
+    All-cons (λ (age : AgeEnd). length age.members ≤ MAX_MEMBERS) age ages (omega (arith, is.played.roster, few))
     (few_live plan between after taken ages few rest)
 
 pub all_few : (plan : Script) (rounds : ℕ) (pushed : List (List (List ℕ))) (ages : List AgeEnd) → IsLivePlan plan

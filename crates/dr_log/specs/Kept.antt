@@ -3,6 +3,8 @@ use Rattle.std.specs.Prelude.{◌≡◌, ℕ, ◌+◌, ◌*◌, ◌<◌, ◌≤�
 use Rattle.dr_entry.specs.declared.record.Record.{Record}
 use Rattle.dr_disk.specs.Calls.{at_rest}
 use Rattle.dr_disk.specs.Disk.{Told, state_of, content_of}
+use Rattle.dr_log.specs.declared.spares.Spares.{Spares}
+use Rattle.dr_log.specs.Shelved.{HasPlaces, Shelved}
 use Rattle.dr_log.specs.Standing.{least_length}
 use Rattle.dr_log_bytes.specs.Content.{OnLog, content_after, empty_of}
 use Rattle.dr_log_bytes.specs.Grammar.{IsLog}
@@ -19,13 +21,10 @@ pub record IsSettled (c : OnLog) (t : Told) : Type 0 where
 
 -- the disk is settled where it tells and no append failed, the log is long enough for what is on it, and there is
 -- room for the spares
-pub record IsKept (told : Option Told) (room_calls room_bytes : ℕ) (c : OnLog)
-    (spare_entries spare_votes spare_others places_entries places_votes places_age_votes : ℕ)
+pub record IsKept (told : Option Told) (room_calls room_bytes : ℕ) (held : Shelved) (spares : Spares)
     (failed : Bool) : Type 0 where
-  pub settled : failed ≡ false → IfSome told (IsSettled c)
-  pub long : least_length c ≤ c.length
-  pub calls : 4 * (spare_entries + spare_votes + spare_others) ≤ room_calls
-  pub bytes : 74 * (spare_entries + spare_votes + spare_others) ≤ room_bytes
-  pub entry_places : length c.entries + spare_entries ≤ places_entries
-  pub vote_places : length c.votes + spare_votes ≤ places_votes
-  pub age_vote_places : length c.age_votes + spare_others ≤ places_age_votes
+  pub settled : failed ≡ false → IfSome told (IsSettled held.content)
+  pub long : least_length held.content ≤ held.content.length
+  pub calls : 4 * (spares.entries + spares.votes + spares.others) ≤ room_calls
+  pub bytes : 74 * (spares.entries + spares.votes + spares.others) ≤ room_bytes
+  pub places : HasPlaces held spares

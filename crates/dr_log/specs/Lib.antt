@@ -4,3 +4,4 @@ pub mod Appending
 pub mod Kept
 pub mod Grouping
 pub mod Voting
+pub mod Shelved

@@ -1,6 +1,6 @@
 //! Puts records behind a closed gate, and opens it once for all of them.
 
-ghost use Rattle.std.specs.Prelude.{◌≡◌, ◌+◌, ◌*◌, ◌-◌, ◌≤◌, ◌<◌, ◌++◌, ◌∷◌, [], All, IfSome, IfOk, IsOk, OnOk, OnErr, length, min, ◌^◌, vec_len, vec_capacity};
+ghost use Rattle.std.specs.Prelude.{◌≡◌, ◌+◌, ◌*◌, ◌-◌, ◌≤◌, ◌<◌, ◌++◌, ◌∷◌, [], All, IfSome, IfOk, OnOk, OnErr, length, min, ◌^◌};
 ghost use Rattle.dr_io.specs.Faults.{HasCause};
 ghost use Rattle.dr_disk.specs.Calls.{FailedWrite, Write};
 ghost use Rattle.dr_disk.specs.Disk.{added, content_of};
@@ -14,7 +14,6 @@ use dr_disk::Disk;
 use dr_entry::{Entry, RECORD_ROOM, Record, encode};
 use dr_io::Failed;
 use dr_log_bytes::OPEN;
-use std::alloc::AllocError;
 
 /// Writes the bytes at `at`, right behind a gate, and once they are safe opens it.
 pub(crate) fn put_behind<D: Disk>(disk: &mut D, at: u64, bytes: &[u8]) -> Result<(), Failed>
@@ -130,21 +129,4 @@ fn size_of_entry(entry: &Entry) -> u64
     let mut bytes: ArrayVec<u8, RECORD_ROOM> = ArrayVec::new();
     encode(&Record::Entry(entry.copy()), &mut bytes);
     bytes.len() as u64 + 1
-}
-
-/// Puts entries behind others, where there is room for them.
-pub(crate) fn push_all(
-    first: &[Entry],
-    last: &Entry,
-    entries: &mut Vec<Entry>,
-) -> Result<(), AllocError>
-    ensures entries { OnOk result (entries.new.items ≡ entries.old.items ++ (first.now ++ last.now ∷ [])) }
-    ensures places { vec_capacity entries.old ≤ vec_capacity entries.new }
-    ensures room { (vec_len entries.old + (length first.now + 1) ≤ vec_capacity entries.old) → IsOk result }
-{
-    for i in 0..first.len() {
-        entries.push(first[i].copy())?;
-    }
-    entries.push(last.copy())?;
-    Ok(())
 }

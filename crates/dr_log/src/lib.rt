@@ -34,7 +34,8 @@ mod laws;
 mod log;
 mod making;
 mod opening;
-mod records;
+mod shelves;
+mod spares;
 
 pub use fault::{LogFault, MountFault, MountWhy};
 pub use laws::blocks_are_short;

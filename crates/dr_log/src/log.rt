@@ -16,15 +16,16 @@ ghost use Rattle.dr_log.specs.Voting.{HasVotedAge, WasUpgraded};
 ghost use Rattle.dr_log_bytes.specs.Content.{IsPlaced, OnLog, block_length, empty_of, with_record};
 ghost use Rattle.dr_log_bytes.specs.Grammar.{IsDamaged, StandFor};
 
-use crate::appending::{push_all, put_behind, put_group, size_of};
+use crate::appending::{put_behind, put_group, size_of};
 use crate::fault::{LogFault, MountFault, MountWhy};
 use crate::making::CLOSED;
 use crate::opening::open;
-use crate::records::{sort_in, take_spare};
+use crate::shelves::Shelves;
+use crate::spares::Spares;
 use arrayvec::ArrayVec;
 use dr_disk::Disk;
 use dr_entry::{AgeVote, Entry, RECORD_ROOM, Record, Vote, encode};
-use dr_log_bytes::{Content, EMPTY};
+use dr_log_bytes::EMPTY;
 use std::alloc::{AllocError, Global};
 use std::marker::Model;
 
@@ -34,27 +35,17 @@ const CALLS_OF_APPEND: u64 = 4;
 
 const BYTES_OF_APPEND: u64 = 74;
 
-/// For how many records of the other kinds there always is room: an age vote, an upgrade and a cut.
-const OTHERS: usize = 3;
-
 /// The entries, votes and age votes of a member, on a disk.
 #[derive(Debug, Drop)]
 pub struct Log<D: Disk> {
     disk: D,
-    entries: Vec<Entry>,
-    votes: Vec<Vote>,
-    age_votes: Vec<AgeVote>,
-    newer: bool,
-    len: u64,
+    shelves: Shelves,
     limit: u64,
-    spare_entries: usize,
-    spare_votes: usize,
-    spare_others: usize,
+    spares: Spares,
     failed: bool,
 }
 
 impl<D: Disk> Model for Log<D> {
-    ghost use Rattle.std.specs.Prelude.{vec_capacity};
     ghost use Rattle.dr_log.specs.Kept.{IsKept};
     ghost use Rattle.dr_log.specs.State.{LogState};
 
@@ -62,28 +53,16 @@ impl<D: Disk> Model for Log<D> {
 
     ghost view = { λ a. record {
       disk = a.disk;
-      content = record {
-        entries = a.entries.items;
-        votes = a.votes.items;
-        age_votes = a.age_votes.items;
-        newer = a.newer;
-        length = a.len;
-      };
+      content = a.shelves.content;
       limit = a.limit;
-      spare_entries = a.spare_entries;
-      spare_votes = a.spare_votes;
-      spare_others = a.spare_others;
+      spare_entries = a.spares.entries;
+      spare_votes = a.spares.votes;
+      spare_others = a.spares.others;
       failed = a.failed;
     } };
 
-    ghost invariant = { λ a. IsKept (D.told a.disk) (D.room_calls a.disk) (D.room_bytes a.disk) (record {
-      entries = a.entries.items;
-      votes = a.votes.items;
-      age_votes = a.age_votes.items;
-      newer = a.newer;
-      length = a.len;
-    }) a.spare_entries a.spare_votes a.spare_others
-        (vec_capacity a.entries) (vec_capacity a.votes) (vec_capacity a.age_votes) a.failed };
+    ghost invariant = { λ a. IsKept (D.told a.disk) (D.room_calls a.disk) (D.room_bytes a.disk) a.shelves a.spares
+        a.failed };
 }
 
 impl<D: Disk> Log<D> {
@@ -128,28 +107,13 @@ impl<D: Disk> Log<D> {
     {
         let mut disk = disk;
         match open(alloc, &mut disk) {
-            Ok(found) => {
-                let Content {
-                    entries,
-                    votes,
-                    age_votes,
-                    newer,
-                    len,
-                } = found;
-                Ok(Log {
-                    disk,
-                    entries,
-                    votes,
-                    age_votes,
-                    newer,
-                    len,
-                    limit,
-                    spare_entries: 0,
-                    spare_votes: 0,
-                    spare_others: 0,
-                    failed: false,
-                })
-            }
+            Ok(found) => Ok(Log {
+                disk,
+                shelves: Shelves::of(found),
+                limit,
+                spares: Spares::none(),
+                failed: false,
+            }),
             Err(why) => Err(MountFault { disk, why }),
         }
     }
@@ -174,17 +138,11 @@ impl<D: Disk> Log<D> {
             (λ image. StandFor image self.new.content) }
         ensures faults { D.faults self.new.disk ≡ D.faults self.old.disk }
     {
-        let spare_entries = self.spare_entries.max(entries);
-        let spare_votes = self.spare_votes.max(votes);
-        let spare_others = self.spare_others.max(OTHERS);
-        let (calls, bytes) = room_for(spare_entries, spare_votes, spare_others)?;
-        self.entries.reserve(spare_entries)?;
-        self.votes.reserve(spare_votes)?;
-        self.age_votes.reserve(spare_others)?;
+        let spares = self.spares.at_least(entries, votes);
+        let (calls, bytes) = room_for(spares)?;
+        self.shelves.reserve(spares)?;
         self.disk.reserve(calls, bytes)?;
-        self.spare_entries = spare_entries;
-        self.spare_votes = spare_votes;
-        self.spare_others = spare_others;
+        self.spares = spares;
         Ok(())
     }
 
@@ -226,30 +184,17 @@ impl<D: Disk> Log<D> {
         let mut bytes: ArrayVec<u8, RECORD_ROOM> = ArrayVec::new();
         encode(r, &mut bytes);
         let size = bytes.len() as u64 + 1;
-        if size > self.limit.saturating_sub(self.len) {
-            return Err(LogFault::LogFull { len: self.len });
+        let len = self.shelves.len();
+        if size > self.limit.saturating_sub(len) {
+            return Err(LogFault::LogFull { len });
         }
         bytes.push(CLOSED);
-        take_spare(
-            r,
-            &mut self.spare_entries,
-            &mut self.spare_votes,
-            &mut self.spare_others,
-        );
-        if put_behind(&mut self.disk, self.len, bytes.as_slice()).is_err() {
+        self.spares.spend(r);
+        if put_behind(&mut self.disk, len, bytes.as_slice()).is_err() {
             self.failed = true;
             return Err(LogFault::DiskFault);
         }
-        sort_in(
-            r.copy(),
-            size,
-            &mut self.entries,
-            &mut self.votes,
-            &mut self.age_votes,
-            &mut self.newer,
-            &mut self.len,
-        )
-        .unwrap();
+        self.shelves.take(r.copy(), size);
         Ok(())
     }
 
@@ -291,16 +236,16 @@ impl<D: Disk> Log<D> {
         ensures faults { D.faults self.old.disk ≤ D.faults self.new.disk }
     {
         let size = size_of(first, last);
-        if size > self.limit.saturating_sub(self.len) {
-            return Err(LogFault::LogFull { len: self.len });
+        let len = self.shelves.len();
+        if size > self.limit.saturating_sub(len) {
+            return Err(LogFault::LogFull { len });
         }
-        self.spare_entries -= first.len() + 1;
-        if put_group(&mut self.disk, self.len, first, last).is_err() {
+        self.spares.entries -= first.len() + 1;
+        if put_group(&mut self.disk, len, first, last).is_err() {
             self.failed = true;
             return Err(LogFault::DiskFault);
         }
-        push_all(first, last, &mut self.entries).unwrap();
-        self.len += size;
+        self.shelves.take_all(first, last, size);
         Ok(())
     }
 
@@ -348,7 +293,7 @@ impl<D: Disk> Log<D> {
             (λ s. MayBeUpgraded self.old.content) }
         ensures faults { D.faults self.old.disk ≤ D.faults self.new.disk }
     {
-        if self.newer {
+        if self.shelves.is_newer() {
             return Ok(());
         }
         self.append(&Record::Upgrade)
@@ -358,28 +303,28 @@ impl<D: Disk> Log<D> {
     pub fn entries(&self) -> &[Entry]
         ensures { result.now ≡ self.now.content.entries }
     {
-        self.entries.as_slice()
+        self.shelves.entries()
     }
 
     /// The votes, in order.
     pub fn votes(&self) -> &[Vote]
         ensures { result.now ≡ self.now.content.votes }
     {
-        self.votes.as_slice()
+        self.shelves.votes()
     }
 
     /// The age votes, in order.
     pub fn age_votes(&self) -> &[AgeVote]
         ensures { result.now ≡ self.now.content.age_votes }
     {
-        self.age_votes.as_slice()
+        self.shelves.age_votes()
     }
 
     /// Whether the log is of the newer format, by its first bytes or an upgrade.
     pub fn is_newer(&self) -> bool
         ensures { result ≡ self.now.content.newer }
     {
-        self.newer
+        self.shelves.is_newer()
     }
 
     /// The number of bytes up to the closed gate, with it.
@@ -387,14 +332,14 @@ impl<D: Disk> Log<D> {
         ensures length { result ≡ self.now.content.length }
         ensures least { least_length self.now.content ≤ result }
     {
-        self.len
+        self.shelves.len()
     }
 
     /// Whether no record is on it.
     pub fn is_empty(&self) -> bool
         ensures { IsTrue result ↔ (self.now.content ≡ empty_of self.now.content.newer) }
     {
-        self.len == EMPTY
+        self.shelves.len() == EMPTY
     }
 
     /// Whether an append failed. Then the log takes no further one.
@@ -413,14 +358,14 @@ impl<D: Disk> Log<D> {
 }
 
 /// For how many calls of the disk, and how many bytes, appends of so many records ask.
-fn room_for(entries: usize, votes: usize, others: usize) -> Result<(u64, u64), AllocError>
-    ensures calls { IfOk result (λ room. room.0 ≡ 4 * (entries + votes + others)) }
-    ensures bytes { IfOk result (λ room. room.1 ≡ 74 * (entries + votes + others)) }
+fn room_for(spares: Spares) -> Result<(u64, u64), AllocError>
+    ensures calls { IfOk result (λ room. room.0 ≡ 4 * (spares.entries + spares.votes + spares.others)) }
+    ensures bytes { IfOk result (λ room. room.1 ≡ 74 * (spares.entries + spares.votes + spares.others)) }
 {
-    let both = (entries as u64)
-        .checked_add(votes as u64)
+    let both = (spares.entries as u64)
+        .checked_add(spares.votes as u64)
         .ok_or(AllocError)?;
-    let appends = both.checked_add(others as u64).ok_or(AllocError)?;
+    let appends = both.checked_add(spares.others as u64).ok_or(AllocError)?;
     let bytes = appends.checked_mul(BYTES_OF_APPEND).ok_or(AllocError)?;
     Ok((appends * CALLS_OF_APPEND, bytes))
 }

@@ -3,7 +3,6 @@ use Rattle.std.proofs.Common.{◌≡◌, ap, ◌∙◌, ℕ, List, refl, sym, in
 use Rattle.std.specs.Prelude.{Option, Some, is_some, None, slice_set}
 use Rattle.std.proofs.lemmas.Bool.{cases_eq}
 use Rattle.std.proofs.lemmas.List.{get_or-set_same, get_or-set_other, get_or_default}
-use Rattle.std.proofs.lemmas.Option.{same_Some}
 use Rattle.dr_entry.proofs.OptionFacts.{some_there}
 use Rattle.dr_entry.proofs.Records.{IsOrdinary}
 use Rattle.dr_entry.specs.declared.record.Record.{Record}
@@ -15,7 +14,7 @@ use Rattle.dr_log_bytes.specs.Grammar.{StandFor}
 use Rattle.dr_log.proofs.Ordinary.{has_itself, none_lost}
 use Rattle.dr_log.specs.State.{LogState}
 use Rattle.dr_log.specs.Standing.{LosesNone}
-use Rattle.dr_program.proofs.Present.{filled_behind, only, present_set, present_kept, present_within}
+use Rattle.dr_program.proofs.Present.{filled_behind, present_set, present_kept, present_within}
 use Rattle.dr_program.specs.Presence.{present_at, with_present}
 use Rattle.dr_program.specs.Replica.{Replica}
 use Rattle.dr_logged.specs.Served.{HaveSamePlaces, IsRecordDue, IsSafe}
@@ -55,28 +54,11 @@ places_behind logs more news newer a b = record {
   each = filled_behind logs more news newer a.all a.each b.each;
 }
 
--- the log that is read at the one place stands there
-pub first_log : {D : Type 0} (logs : List (Option (LogState D))) (x : Option (LogState D)) (log : LogState D)
-    → length logs ≡ 1 → x ≡ get_or logs 0 x → x ≡ Some log → present_at logs 0 ≡ Some log
-first_log logs x log one read is = get_or_default logs 0 None x (omega (arith, one)) ∙ sym read ∙ is
-
--- and it is a log where one stands there
+-- a log is read where one stands
 pub some_log : {D : Type 0} (logs : List (Option (LogState D))) (x : Option (LogState D)) → length logs ≡ 1
     → is_some (present_at logs 0) ≡ true → x ≡ get_or logs 0 x → x ≡ None → ⊥
 some_log logs x one there read none = true≢false
     (sym there ∙ ap is_some (get_or_default logs 0 None x (omega (arith, one)) ∙ sym read ∙ none))
-
--- the log at the one place, as it was and as it is now
-pub first_was : {D : Type 0} (logs : List (Option (LogState D))) (old was : LogState D) (k : ℕ) → length logs ≡ 1
-    → present_at logs 0 ≡ Some old → present_at logs k ≡ Some was → old ≡ was
-first_was logs old was k one there from =
-    same_Some old was (sym there ∙ ap (present_at logs) (sym (only logs k was one from)) ∙ from)
-
-pub first_now : {D : Type 0} (logs : List (Option (LogState D))) (new now : LogState D) (k : ℕ) → length logs ≡ 1
-    → present_at (with_present logs 0 new) k ≡ Some now → new ≡ now
-first_now logs new now k one to =
-    first_was (with_present logs 0 new) new now k (length-set logs 0 (Some new) ∙ one)
-    (present_set logs 0 new (omega (arith, one))) to
 
 -- where a log was put in place of one the same places are filled
 pub put_places : {D : Type 0} (logs : List (Option (LogState D))) (old new : LogState D) (m : ℕ)

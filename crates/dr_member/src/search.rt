@@ -20,29 +20,29 @@ use crate::fate::{Fate, end_by};
 use crate::judge::{judged, may_judge};
 use dr_entry::End;
 use dr_machine::{Act, Step};
-use dr_program::{LogWhy, PARTS, Part, Place, TURN, TURN_ENDS};
+use dr_program::{LogWhy, Part, PartName, Place, TURN, TURN_ENDS};
 use dr_replica::Replica;
 use dr_words::Shape;
 
 /// The numbers of the parts of a turn that have the looks and the pushes, of those whose acts come up most, of
 /// the part behind the letters, and of the part before a turn.
-pub(crate) const LOOKS: u8 = 1;
+pub(crate) const LOOKS: u8 = PartName::Look as u8;
 
-pub(crate) const RECEIVES: u8 = 3;
+pub(crate) const RECEIVES: u8 = PartName::Receive as u8;
 
-pub(crate) const SENDS: u8 = 4;
+pub(crate) const SENDS: u8 = PartName::Send as u8;
 
-pub(crate) const DELIVERS: u8 = 6;
+pub(crate) const DELIVERS: u8 = PartName::Deliver as u8;
 
-pub(crate) const PUBLISHES: u8 = 8;
+pub(crate) const PUBLISHES: u8 = PartName::Publish as u8;
 
-pub(crate) const REPORTS: u8 = 9;
+pub(crate) const REPORTS: u8 = PartName::Report as u8;
 
-pub(crate) const PUSHES: u8 = 16;
+pub(crate) const PUSHES: u8 = PartName::Push as u8;
 
-pub(crate) const SPENT: u8 = 21;
+pub(crate) const SPENT: u8 = PartName::Spent as u8;
 
-pub(crate) const BEAT: u8 = PARTS as u8 - 1;
+pub(crate) const BEAT: u8 = PartName::Beat as u8;
 
 /// Goes on to the first place of the turn, from this one on, at which there is something to do. Stays,
 /// where the member has ended. Where nothing of a vote is due, it goes past the parts of votes at once, and where

@@ -1,5 +1,5 @@
 pub mod Lasts
 pub mod Runs
 pub mod Due
-pub mod Kinds
+pub mod OutcomeKinds
 pub mod KindsFurther

@@ -8,7 +8,6 @@ use Rattle.std.proofs.lemmas.Option.{none-some, same_Some, slice_get-get_or, sli
 use Rattle.dr_ages.specs.declared.mode.Mode.{Mode}
 use Rattle.dr_ages.specs.declared.mode.Mode.TheVariants.{Sim}
 use Rattle.dr_ages.specs.declared.stop.Stop.{Stop}
-use Rattle.dr_ages.specs.declared.stop.Stop.TheVariants as stops
 use Rattle.dr_ages.specs.Ages.{AreAges, NamesNobody, opening_of}
 use Rattle.dr_ages.specs.declared.part.Part.{Part}
 use Rattle.dr_ages.specs.Fit.{AreInStep}
@@ -20,7 +19,6 @@ use Rattle.dr_disk.specs.Calls.{at_rest}
 use Rattle.dr_disk.specs.Disk.{Now, Told}
 use Rattle.dr_entry.specs.declared.end.AgeEnd.{AgeEnd}
 use Rattle.dr_entry.specs.declared.end.End.{End}
-use Rattle.dr_entry.specs.declared.end.End.TheVariants as ends
 use Rattle.dr_entry.specs.declared.end.MemberEnd.{MemberEnd}
 use Rattle.dr_entry.proofs.ListFacts.{none_of}
 use Rattle.dr_history.specs.declared.opening.Opening.{Opening}
@@ -39,6 +37,8 @@ use Rattle.dr_ages.proofs.Parts.{later, nobody_late}
 use Rattle.dr_outcome.specs.Last.{first_end, first_told, is_memory, is_of, last_by, last_of, refusal_of, some_end, some_so, stopped_by}
 use Rattle.dr_outcome.specs.Outcome.{IsMemoryRun}
 use Rattle.dr_outcome.proofs.Lasts.{told_so}
+use Rattle.dr_ages.specs.declared.stop.Stop.TheVariants as stops
+use Rattle.dr_entry.specs.declared.end.End.TheVariants as ends
 
 -- whether some of these members ended so
 abbrev some_of : Kind → List MemberEnd → Bool
@@ -131,7 +131,7 @@ pub none_split : (script : Script) (part : Part) (mode : Mode) (nth : ℕ) (befo
 none_split script part mode nth before after [] are trusting = refl
 none_split script part mode nth before after (age ∷ ages) (between, is, rest) trusting =
     or_from (some_of NoMajority age.members) (some_end NoMajority ages)
-    (none_splits age.members (is.trusting trusting))
+    (none_splits age.members (is.played.trusting trusting))
     (none_split script part mode (nth + 1) between after ages rest trusting)
 
 unfull : (e : End) → IsNotFull e → is_of LogFull e ≡ false
@@ -245,7 +245,7 @@ none_rose script part mode nth first before after (age ∷ ages) (between, is, r
         elim (cases_Bool (is_of DiskFault e.end)) [
           | inl failed ↦
               let rose = is.failed k e (slice_get-get_or age.members k d within) (disk_fault_is e.end failed) in
-              absurd (calm k (omega (arith, within, is.roster)) (rose_between (first k) (before.faults k)
+              absurd (calm k (omega (arith, within, is.played.roster)) (rose_between (first k) (before.faults k)
               (between.faults k) (after.faults k) (low k) rose
               (later script part mode (nth + 1) between after ages rest k)))
           | inr other ↦ other

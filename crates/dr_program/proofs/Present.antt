@@ -391,3 +391,16 @@ place_before xs x m l = get_or_append_left xs (x ∷ []) None m l
 pub place_new : {X : Type 0} (xs : List (Option X)) (x : Option X) (m : ℕ) → length xs ≡ m
     → present_at (xs ++ x ∷ []) m ≡ x
 place_new xs x m at = get_or_push xs x None m at
+
+-- in a list of one place, who stands somewhere is that one
+pub only_one : {X : Type 0} (x y : X) (i : ℕ) → present_at (Some x ∷ []) i ≡ Some y → (i ≡ 0) × (x ≡ y)
+only_one x y zero there = (refl, same_Some x y there)
+only_one x y (suc i) there = absurd (cc there)
+
+-- where the place is empty nobody stands
+pub nobody : {X : Type 0} (xs : List (Option X)) (k : ℕ) (x : X) → xs ≡ None ∷ [] → present_at xs k ≡ Some x → ⊥
+nobody xs k x empty there = by k (ap (λ l. present_at l k) (sym empty) ∙ there)
+  where
+    by : (k : ℕ) → present_at (None ∷ []) k ≡ Some x → ⊥
+    by zero there = cc there
+    by (suc k) there = cc there

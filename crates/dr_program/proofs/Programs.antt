@@ -90,7 +90,7 @@ fresh g limit m s is = record {
 }
 
 -- the state of the generator after so many choices
-pub state_after : ℕ → List Move → ℕ
+unfoldable pub state_after : ℕ → List Move → ℕ
 state_after x [] = x
 state_after x (e ∷ es) = state_after (next_state x) es
 

@@ -35,5 +35,5 @@ pub use deed::Deed;
 pub use laws::{deeds_follow_one_another, programs_begin_at_the_opening, turn_law};
 pub use outcome::{LogWhy, Outcome};
 pub use packet::Packet;
-pub use place::{PARTS, Part, Place, TURN, TURN_ENDS};
+pub use place::{PARTS, Part, PartName, Place, TURN, TURN_ENDS};
 pub use setup::{CrashPoint, Setup, Suspicion};

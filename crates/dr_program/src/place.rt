@@ -3,7 +3,8 @@
 //! A turn is data: what comes after what, the number of places and the bound on deeds left follow from the
 //! list, so a further part is a line of it. The list is code and definition in one; a law (`turn_law`) has
 //! its parts by name, in their order, so a change of the code alone is refused. It is a static, since a
-//! constant table would be built anew on the stack at each use.
+//! constant table would be built anew on the stack at each use. `PartName` has the names alone, since only a
+//! name without fields gives a constant its number; so no number of a part is written by hand.
 use dr_machine::Act;
 
 /// A part of a turn: one deed, or one for each member, or one for each member and column.
@@ -38,11 +39,38 @@ pub enum Part {
     Take,
 }
 
+/// The parts of a turn by name, in their order: the number of a part in `TURN` is its number here.
+pub enum PartName {
+    Take,
+    Look,
+    Judge,
+    Receive,
+    Send,
+    Null,
+    Deliver,
+    Append,
+    Publish,
+    Report,
+    Mark,
+    Vote,
+    Propose,
+    Accept,
+    Commit,
+    Excluded,
+    Push,
+    Crash,
+    Done,
+    Finish,
+    Give,
+    Spent,
+    Beat,
+}
+
 /// The number of parts of a turn.
-pub const PARTS: usize = 23;
+pub const PARTS: usize = PartName::Beat as usize + 1;
 
 /// The number of the part with which the end of a turn begins.
-pub const TURN_ENDS: u8 = 17;
+pub const TURN_ENDS: u8 = PartName::Crash as u8;
 
 /// The parts of a turn, in their order. With the last one the next turn begins.
 pub static TURN: [Part; PARTS] = [

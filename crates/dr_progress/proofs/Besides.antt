@@ -146,6 +146,7 @@ beside_watched opens sees closes script part nth (age ∷ ages) old new (next, s
       (
         next.watcher.now,
         record {
+          over = seen.over;
           is = seen.is;
           opened = seen.opened.watcher.now;
           ended = seen.ended.watcher.now;

@@ -64,6 +64,7 @@ fn push_item_wait(
     replica: &Replica,
     members: &[Option<Member>],
 ) -> Result<(), AllocError> {
+    // With its number it tells that it has its form, and so how many columns its rows have.
     let _ = replica.me();
     let place = replica.next_place();
     if replica.own(RECEIVED_COLUMN) > place {
@@ -259,6 +260,7 @@ fn push_step(
 
 /// The tag of what a member has accepted in its view, or 0.
 fn accepted_tag(replica: &Replica) -> u8 {
+    // As in `push_item_wait`.
     let _ = replica.me();
     unpack_accept(replica.own(replica.shape().leavers_column())).1
 }
@@ -388,6 +390,7 @@ fn push_missing(
 ) -> Result<(), AllocError> {
     let column = kind.column();
     let missing = Missing { kind, least };
+    // As in `push_item_wait`.
     let _ = replica.me();
     for number in 0..16u8 {
         if let Some(other) = member_at(members, number) {

@@ -83,5 +83,5 @@ one_age repeat one other shards k ranges below laid laid' agree age again is is'
     = shard_ranges one ranges shards k (omega (arith, below)) below lays.enough lays.apart in
     let too : IsShardAge Sim shard again
     = subst (λ s. IsShardAge Sim s again) (sym (same_shard one other shards k laid laid' agree)) is' in
-    repeat shard (first_start_of shard) 0 kept (first_group shard kept.group) age again is.run too.run
-    is.stored too.stored
+    repeat shard (first_start_of shard) 0 kept (first_group shard kept.group) age again is.played.over
+    too.played.over is.played.run too.played.run is.stored too.stored

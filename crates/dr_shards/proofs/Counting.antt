@@ -94,7 +94,7 @@ few_members mode (s ∷ scripts) [] ranges are = absurd are
 few_members mode (s ∷ scripts) (age ∷ ages) ranges (is, rest) =
     let first = All-head (λ (s : Script). HasRanges s × (s.ages ≡ 1)) s scripts ranges in
     All-cons (λ (a : AgeEnd). length a.members ≤ MAX_MEMBERS) age ages
-    (omega (arith, is.roster, first.0.group.most_members))
+    (omega (arith, is.played.roster, first.0.group.most_members))
     (few_members mode scripts ages
     (All-tail (λ (s : Script). HasRanges s × (s.ages ≡ 1)) s scripts ranges) rest)
 

@@ -1,24 +1,24 @@
 -- What comes of the run of a shard.
-use Rattle.std.specs.Prelude.{◌≡◌, ℕ, List, [], ◌∷◌, All, Contains, length, slice_get, Some}
+use Rattle.std.specs.Prelude.{◌≡◌, ℕ, List, [], ◌∷◌, All, Contains, slice_get, Some}
+use Rattle.dr_age.specs.Age.{IsAge}
 use Rattle.dr_age.specs.Logged.{NoneStopped}
 use Rattle.dr_age.specs.Run.{IsRun}
 use Rattle.dr_entry.specs.declared.end.AgeEnd.{AgeEnd}
 use Rattle.dr_entry.specs.declared.end.MemberEnd.{MemberEnd}
 use Rattle.dr_entry.specs.declared.entry.Entry.TheVariants.{Msg}
-use Rattle.dr_history.specs.Agreement.{EndsAgreed}
 use Rattle.dr_history.specs.History.{messages_of}
-use Rattle.dr_program_laws.specs.Ended.{HaveEnded}
+use Rattle.dr_program.specs.Program.{Program}
+use Rattle.dr_restart.specs.declared.start.Start.{Start}
 use Rattle.dr_restart.specs.Groups.{first_group_of, first_start_of}
-use Rattle.dr_restart.specs.Setups.{crashes_of}
 use Rattle.dr_script.specs.declared.script.Script.{Script}
 use Rattle.dr_shards.specs.declared.run.ShardMode.{ShardMode}
 use Rattle.dr_shards.specs.declared.run.ShardMode.TheVariants.{Sim, Run}
 use Rattle.dr_sim.specs.Simulated.{IsSimulated}
 
--- the age is that of the script's program: by the script's schedule, or by some list of deeds
-abbrev pub IsRunIn : ShardMode → Script → AgeEnd → Type 0
-IsRunIn Sim script age = IsSimulated script (first_start_of script) 0 age
-IsRunIn Run script age = IsRun script (first_start_of script) 0 age
+-- an age is played by the script's schedule, or by some list of deeds
+abbrev pub IsRunIn : ShardMode → Script → Start → ℕ → AgeEnd → Program → Type 0
+IsRunIn Sim = IsSimulated
+IsRunIn Run = IsRun
 
 -- each message that a member delivered is one that the script gives its sender
 abbrev pub DeliversOwn : Script → List MemberEnd → Type 0
@@ -30,10 +30,7 @@ DeliversOwn script ends =
 pub record IsShardAge (mode : ShardMode) (script : Script) (age : AgeEnd) : Type 0 where
   pub number : age.age ≡ 0
   pub start : age.start ≡ []
-  pub roster : length age.members ≡ script.members
-  pub run : IsRunIn mode script age
-  pub agreed : EndsAgreed (first_group_of script).opening age.members
-  pub ended : HaveEnded (first_group_of script).opening script.turns (crashes_of script.faults 0) age.members
+  pub played : IsAge (IsRunIn mode) script (first_start_of script) 0 age
   pub own : DeliversOwn script age.members
   -- a shard's logs stop none of its members
   pub stored : NoneStopped age.members

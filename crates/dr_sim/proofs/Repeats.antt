@@ -101,35 +101,35 @@ runs_same (Seed seed) begun es fs q u one other well well' =
     (subst AllEnded one.ran one.ended) (subst AllEnded other.ran other.ended)) ∙ sym other.ran
 
 -- where no member was ended by its log no append has failed
-no_failed : (script : Script) (start : Start) (nth : ℕ) (age : AgeEnd) → HasRanges script
-    → IsGroup (group_of script start) → (is : IsSimulated script start nth age) → NoneStopped age.members
-    → SomeFailed is.over → ⊥
-no_failed script start nth age ranges group is none (m, r, why, there, failed) =
-    let ran = schedule_ran script.schedule is.begun is.over is.run in
-    let failing = all_failing script start nth is.begun is.over group ranges.group.lists ranges.some_turn
+no_failed : (script : Script) (start : Start) (nth : ℕ) (age : AgeEnd) (over : Program) → HasRanges script
+    → IsGroup (group_of script start) → IsSimulated script start nth age over → NoneStopped age.members
+    → SomeFailed over → ⊥
+no_failed script start nth age over ranges group is none (m, r, why, there, failed) =
+    let ran = schedule_ran script.schedule is.begun over is.run in
+    let failing = all_failing script start nth is.begun over group ranges.group.lists ranges.some_turn
     is.begins ran m r there in
-    let ended = ended_there is.over m r (schedule_ends script.schedule is.begun is.over is.run) there in
+    let ended = ended_there over m r (schedule_ends script.schedule is.begun over is.run) there in
     let end : slice_get age.members m ≡ Some (end_of r)
-    = ap (λ (a : AgeEnd). slice_get a.members m) is.told ∙ end_told is.over m r there in
+    = ap (λ (a : AgeEnd). slice_get a.members m) is.told ∙ end_told over m r there in
     let kept = each_at (λ (e : MemberEnd). why_ended e.end ≡ None) age.members m (end_of r) none end in
     absurd (cc (kept, stopped r why failing failed ended))
 
-all_ok : (script : Script) (start : Start) (nth : ℕ) (age : AgeEnd) → HasRanges script
-    → IsGroup (group_of script start) → (is : IsSimulated script start nth age) → NoneStopped age.members
+all_ok : (script : Script) (start : Start) (nth : ℕ) (age : AgeEnd) (over : Program) → HasRanges script
+    → IsGroup (group_of script start) → (is : IsSimulated script start nth age over) → NoneStopped age.members
     → AllOk is.run.moves
-all_ok script start nth age ranges group is none = elim is.run.well [
+all_ok script start nth age over ranges group is none = elim is.run.well [
   | inl well ↦ well
-  | inr failed ↦ absurd (no_failed script start nth age ranges group is none failed)
+  | inr failed ↦ absurd (no_failed script start nth age over ranges group is none failed)
 ]
 
 pub repeats : AreOne → (script : Script) (start : Start) (nth : ℕ) → HasRanges script
     → IsGroup (group_of script start) → IsRepeated script start nth
-repeats same script start nth ranges group one other is is' none none' =
+repeats same script start nth ranges group one other p q is is' none none' =
     let begun : is.begun ≡ is'.begun
     = begun_same same script start nth is.begun is'.begun is.begins is'.begins in
-    let over : is.over ≡ is'.over
-    = runs_same script.schedule is.begun is.run.moves is'.run.moves is.over is'.over is.run.by
-    (subst (λ b. IsRunBy script.schedule b is'.run.moves is'.over) (sym begun) is'.run.by)
-    (all_ok script start nth one ranges group is none)
-    (all_ok script start nth other ranges group is' none') in
+    let over : p ≡ q
+    = runs_same script.schedule is.begun is.run.moves is'.run.moves p q is.run.by
+    (subst (λ b. IsRunBy script.schedule b is'.run.moves q) (sym begun) is'.run.by)
+    (all_ok script start nth one p ranges group is none)
+    (all_ok script start nth other q ranges group is' none') in
     is.told ∙ ap (age_of (group_of script start).opening) over ∙ sym is'.told

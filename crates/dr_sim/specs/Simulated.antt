@@ -34,10 +34,9 @@ pub record HasRun (schedule : Schedule) (begun p : Program) : Type 0 where
   pub well : WentWell moves p
 
 -- the age is that of the script's program, which begins from the start, with the faults of the age that is
--- number nth of the run, and runs by the script's schedule
-pub record IsSimulated (script : Script) (start : Start) (nth : ℕ) (age : AgeEnd) : Type 0 where
+-- number nth of the run, and runs by the script's schedule until it is over
+pub record IsSimulated (script : Script) (start : Start) (nth : ℕ) (age : AgeEnd) (over : Program) : Type 0 where
   pub begun : Program
-  pub over : Program
   pub begins : IsBegun script start nth begun
   pub run : HasRun script.schedule begun over
   pub told : age ≡ age_of (group_of script start).opening over

@@ -25,9 +25,10 @@ WasTold {W} sees p (e ∷ es) old new =
 pub record IsWatched {W : Type 0} (opens : W → Start → W → Type 0) (sees : W → Running → List ℕ → W → Type 0)
     (closes : W → List (Option Running) → List ℕ → W → Type 0) (script : Script) (start : Start) (nth : ℕ)
     (old new : W) (age : AgeEnd) : Type 0 where
-  pub is : IsSimulated script start nth age
+  pub over : Program
+  pub is : IsSimulated script start nth age over
   pub opened : W
   pub ended : W
   pub opening : opens old start opened
   pub moves : WasTold sees is.begun is.run.moves opened ended
-  pub closing : closes ended is.over.members is.over.table new
+  pub closing : closes ended over.members over.table new

@@ -1,16 +1,13 @@
 //! An age, from its opening to the ends of all members.
 ghost use Rattle.std.specs.Prelude.{◌≡◌, ◌≤◌, IfOk, OnErr, List, [], length, vec_capacity, Option};
-ghost use Rattle.dr_program_laws.specs.Ended.{HaveEnded};
-ghost use Rattle.dr_program_laws.specs.Trusting.{NoneLeft, SuspectsNobody};
-ghost use Rattle.dr_history.specs.Agreement.{EndsAgreed};
 ghost use Rattle.dr_machine.specs.Group.{Group, IsGroup};
 ghost use Rattle.dr_program.specs.Program.{Program, age_of};
 ghost use Rattle.dr_restart.specs.Groups.{group_of};
-ghost use Rattle.dr_restart.specs.Setups.{crashes_of};
 ghost use Rattle.dr_script.specs.Ranges.{HasRanges};
 ghost use Rattle.dr_log.specs.State.{LogState};
 ghost use Rattle.dr_logged.specs.Served.{AreReady, HaveSamePlaces, HaveServed};
-ghost use Rattle.dr_age.specs.Logged.{AreAmple, AreAsBefore, AreCalm, AreOpened, HaveCome, NoneFull};
+ghost use Rattle.dr_age.specs.Age.{IsAgeOn};
+ghost use Rattle.dr_age.specs.Logged.{AreAsBefore, AreCalm, AreOpened};
 ghost use Rattle.dr_sim.specs.Simulated.{HasRun, IsSimulated};
 ghost use Rattle.dr_age.specs.Sound.{IsSound};
 ghost use Rattle.dr_sim.specs.Watched.{IsWatched, WasTold};
@@ -43,22 +40,10 @@ pub fn sim_age<D: Disk>(
     requires ranges { HasRanges script.now }
     requires group { IsGroup (group_of script.now start.now) }
     requires logs { AreOpened (group_of script.now start.now) logs.old }
-    ensures run { IfOk result (λ age. IsSimulated script.now start.now nth age) }
-    ensures agreed { IfOk result (λ age.
-        EndsAgreed (group_of script.now start.now).opening age.members) }
-    ensures ended { IfOk result (λ age. HaveEnded (group_of script.now start.now).opening
-        script.now.turns (crashes_of script.now.faults nth) age.members) }
-    ensures trusting { IfOk result (λ age. SuspectsNobody script.now → NoneLeft age.members) }
-    // What stands on the logs, by how the members stood at the end, and what a crash may have left of them at
-    // any moment.
-    ensures logged { IfOk result (λ age. (is : IsSimulated script.now start.now nth age)
-        × HaveCome D.told D.faults logs.old logs.new is.over.members) }
-    ensures ample { IfOk result (λ age. AreAmple (group_of script.now start.now) logs.old
-        → NoneFull age.members) }
+    ensures age { IfOk result (IsAgeOn IsSimulated D.told D.faults script.now start.now nth logs.old logs.new) }
     ensures kept { OnErr result (AreAsBefore logs.old logs.new) }
     ensures calm { OnErr result (AreCalm D.told D.faults logs.old logs.new) }
     ensures places { HaveSamePlaces logs.old logs.new }
-    ensures members { IfOk result (λ age. length age.members ≡ length logs.old) }
 {
     watch_age(alloc, script, start, nth, logs, &mut Unwatched)
 }
@@ -80,25 +65,13 @@ pub fn watch_age<D: Disk, W: Watcher>(
     requires ranges { HasRanges script.now }
     requires group { IsGroup (group_of script.now start.now) }
     requires logs { AreOpened (group_of script.now start.now) logs.old }
-    ensures run { IfOk result (λ age. IsSimulated script.now start.now nth age) }
-    ensures watched { IfOk result (IsWatched W.opens W.sees W.closes script.now start.now nth
-        watcher.old watcher.new) }
-    ensures untold { OnErr result (watcher.new ≡ watcher.old) }
-    ensures agreed { IfOk result (λ age.
-        EndsAgreed (group_of script.now start.now).opening age.members) }
-    ensures ended { IfOk result (λ age. HaveEnded (group_of script.now start.now).opening
-        script.now.turns (crashes_of script.now.faults nth) age.members) }
-    ensures trusting { IfOk result (λ age. SuspectsNobody script.now → NoneLeft age.members) }
-    // What stands on the logs, by how the members stood at the end, and what a crash may have left of them at
-    // any moment.
-    ensures logged { IfOk result (λ age. (is : IsSimulated script.now start.now nth age)
-        × HaveCome D.told D.faults logs.old logs.new is.over.members) }
-    ensures ample { IfOk result (λ age. AreAmple (group_of script.now start.now) logs.old
-        → NoneFull age.members) }
+    ensures age { IfOk result (IsAgeOn IsSimulated D.told D.faults script.now start.now nth logs.old logs.new) }
     ensures kept { OnErr result (AreAsBefore logs.old logs.new) }
     ensures calm { OnErr result (AreCalm D.told D.faults logs.old logs.new) }
     ensures places { HaveSamePlaces logs.old logs.new }
-    ensures members { IfOk result (λ age. length age.members ≡ length logs.old) }
+    ensures watched { IfOk result (IsWatched W.opens W.sees W.closes script.now start.now nth
+        watcher.old watcher.new) }
+    ensures untold { OnErr result (watcher.new ≡ watcher.old) }
 {
     let entries = copy_entries(alloc, &start.entries)?;
     let ends = Vec::with_capacity(alloc, usize::from(script.members))?;

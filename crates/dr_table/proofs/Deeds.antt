@@ -1,5 +1,5 @@
 -- Deeds that store, appends, and which program a deed makes.
-use Rattle.std.proofs.Common.{◌≡◌, refl, sym, ap, ◌∙◌, subst, ℕ, List, [], ◌∷◌, set-set}
+use Rattle.std.proofs.Common.{◌≡◌, refl, sym, ap, ◌∙◌, subst, ℕ, List, [], ◌∷◌, set-set, ◌<◌, arith}
 use Rattle.std.specs.Prelude.{None, Some, Option, slice_index_or}
 use Rattle.dr_entry.specs.declared.entry.Entry.{Entry}
 use Rattle.dr_program.specs.declared.deed.Deed.{Deed}
@@ -7,18 +7,23 @@ use Rattle.dr_program.specs.declared.deed.Deed.TheVariants as deeds
 use Rattle.dr_program.specs.declared.outcome.Outcome.{Outcome}
 use Rattle.dr_program.specs.declared.outcome.Outcome.TheVariants as outcomes
 use Rattle.dr_program.specs.Program.{IsRanFrom, Program, after_deed, appended_as, next_sight, ran}
-use Rattle.dr_program.specs.Running.{Running, after_step, next_deed, next_step, settled, took, took_letter}
+use Rattle.dr_program.specs.Running.{Running, after_step, next_deed, next_step, settled, took, took_letter, deed, deed_of}
 use Rattle.dr_program.specs.Steps.{stored, stored_letters}
 use Rattle.dr_program.proofs.Fixed.{Told, join_told, told, step_told}
 use Rattle.dr_refine.proofs.Deeds.{append_gives, append_stores, settle_replica, deed_ran}
 use Rattle.dr_age.proofs.Deeds.{IsStoreAt, deed_tells}
 use Rattle.dr_table.specs.Rule.{number}
 use Rattle.dr_table.specs.Deeds.{IsStore}
-use Rattle.dr_table.specs.Steps.{HasAppended}
+use Rattle.dr_table.specs.Steps.{HasAppended, IsReachedMember}
 use Rattle.dr_program.specs.Presence.{present_at, with_present}
 use Rattle.dr_program.proofs.Present.{present_within, present_set, set_itself}
 use Rattle.dr_program.proofs.Programs.{after_append}
-use Rattle.dr_age.proofs.LoggedMembers.{appended_given, append_due}
+use Rattle.dr_age.proofs.LoggedMembers.{append_due}
+use Rattle.dr_member.specs.Deeds.{table_size}
+use Rattle.dr_program.specs.Form.{HasForm}
+use Rattle.dr_words.proofs.Places.{word_index_within}
+use Rattle.dr_machine.specs.declared.step.Step.{Step}
+use Rattle.dr_machine.specs.declared.step.Step.TheVariants.{Do}
 
 -- ---- a step, by its deed
 
@@ -44,6 +49,27 @@ stores words r index word is = by (next_deed r) refl is
     by (deeds.Act i w) e is = let t = deed_tells words r (deeds.Act i w) e in at i w t.none t.says is
     by d e is = absurd is
 
+-- an act of a reached member stores a word of the table
+pub act_within : (r : Running) (index word : ℕ) → IsReachedMember r → next_deed r ≡ deeds.Act index word
+    → index < table_size r
+act_within r index word (g, p, is) next =
+    by (next_step r) (sym (ap (deed r) (deed_tells p.table r (deeds.Act index word) next).none) ∙ next)
+  where
+    form : HasForm r.replica
+    form = (is.sound.form.form (number r) r is.there).replica
+
+    index_of : Deed → ℕ
+    index_of (deeds.Act i w) = i
+    index_of d = 0
+
+    by : (s : Step) → deed_of r s ≡ deeds.Act index word → index < table_size r
+    by (Do a) e =
+        let mine : number r < r.replica.roster = omega (arith, form.rows.present, form.members) in
+        subst (λ i. i < table_size r) (ap index_of e)
+        (word_index_within r.replica.roster r.replica.window r.replica.banks r.replica.view (number r) (number r) 0
+        form.bank mine mine (omega arith))
+    by s e = absurd (cc e)
+
 -- ---- what a member was told stays
 
 pub after_told : (word : ℕ) (r : Running) → told (after_step word r).replica ≡ told r.replica
@@ -65,11 +91,6 @@ pub appends_told : (os : List Outcome) (r q : Running) → HasAppended os r q
     → told q.replica ≡ told r.replica
 appends_told [] r q same = ap (λ (x : Running). told x.replica) (sym same)
 appends_told (o ∷ os) r q (due, more) = appends_told os (appended_as o r) q more ∙ appended_told o r
-
-pub appends_given : (os : List Outcome) (r q : Running) → HasAppended os r q
-    → q.replica.given ≡ r.replica.given
-appends_given [] r q same = ap (λ (x : Running). x.replica.given) (sym same)
-appends_given (o ∷ os) r q (due, more) = appends_given os (appended_as o r) q more ∙ appended_given o r due
 
 pub same_number : (r x : Running) → told x.replica ≡ told r.replica → number x ≡ number r
 same_number r x same = ap (λ (t : Told). t.number) same

@@ -1,190 +1,42 @@
 -- What is known of the members of a hand, as it is dealt, and as hands are cut and put together.
-use Rattle.std.proofs.Common.{◌≡◌, ◌⊎◌, inl, inr, refl, sym, ap, ◌∙◌, subst, ℕ, zero, suc, ◌+◌, ◌-◌, ◌<◌, ◌≤◌, true, List, [], ◌∷◌, ◌++◌, get_or, length, map, length-append, length-drop, length-set, length-take, take, drop, replicate, arith}
-use Rattle.std.specs.Prelude.{All, None, Some, is_some, option_map, Option, Vec, slice_get, slice_index, ◌^◌}
+use Rattle.std.proofs.Common.{◌≡◌, ◌⊎◌, inl, inr, refl, sym, ap, ◌∙◌, subst, ℕ, zero, suc, ◌+◌, ◌-◌, ◌<◌, ◌≤◌, List, [], ◌∷◌, get_or, length, map, replicate, arith}
+use Rattle.std.specs.Prelude.{All, None, Some, option_map, Option, Vec, slice_get, slice_index, ◌^◌}
 use Rattle.std.specs.declared.alloc.Global.{Global}
-use Rattle.std.proofs.lemmas.Bool.{cases_eq, cases_lt}
-use Rattle.std.proofs.lemmas.List.{get_or_default, get_or_past, length-map, length-replicate, replicate-append-replicate}
+use Rattle.std.proofs.lemmas.List.{get_or_default, length-map, length-replicate, replicate-append-replicate}
 use Rattle.std.proofs.lemmas.List.Sums.{sum_by-cons}
 use Rattle.std.proofs.lemmas.Option.{same_Some, slice_get_within}
 use Rattle.dr_entry.specs.declared.entry.Entry.{Entry}
 use Rattle.dr_history.specs.Members.{members_of}
 use Rattle.dr_machine.proofs.Presence.{in_roster, late_in}
 use Rattle.dr_machine.specs.Group.{banks, late_members, roster}
-use Rattle.dr_member.specs.Deeds.{is_append, table_size}
+use Rattle.dr_member.specs.Deeds.{table_size}
 use Rattle.dr_program.specs.Form.{IsRunningMember}
 use Rattle.dr_program.specs.Reading.{letters_of}
-use Rattle.dr_program.specs.declared.outcome.Outcome.{Outcome}
-use Rattle.dr_program.specs.Presence.{present_at, with_present}
-use Rattle.dr_program.specs.Program.{Program, appended_as, begun_program, ran}
-use Rattle.dr_program.specs.Running.{Running, begun_running, next_deed}
-use Rattle.dr_program.proofs.Present.{present_kept, present_map, present_set, present_within, place_append, place_drop, place_front, place_past, place_set, place_take, same_places, take_place, none_read}
+use Rattle.dr_program.specs.Presence.{present_at}
+use Rattle.dr_program.specs.Program.{Program, begun_program, ran}
+use Rattle.dr_program.specs.Running.{Running, begun_running}
+use Rattle.dr_program.proofs.Present.{present_map, none_read}
 use Rattle.dr_program_laws.proofs.Keeping.{begun_reached}
 use Rattle.dr_refine.specs.Programs.{IsProgram}
 use Rattle.dr_refine.proofs.Steps.{begun_is_program}
 use Rattle.dr_words.specs.Layout.{words_of}
 use Rattle.dr_words.specs.Columns.{columns_of}
 use Rattle.dr_words.proofs.Places.{word_index_within}
-use Rattle.dr_table.specs.Cards.{AreAtEnd, AreOf, AreReached, Cards, IsAtEnd, opened}
+use Rattle.dr_table.specs.Cards.{AreOf, AreReached, Cards, opened}
 use Rattle.dr_table.specs.declared.rule.Errand.{Errand}
 use Rattle.dr_table.specs.declared.rule.View.{View}
 use Rattle.dr_table.specs.Slots.{HaveSlots, IsBlankList, IsBlankSlot, IsPosted, Slot, slot_number}
 use Rattle.dr_table.specs.Rule.{Found, HasSuchProgram, IsDealt, no_posts, number}
-use Rattle.dr_table.specs.Steps.{AreAhead, HasAppended, IsAhead}
-use Rattle.dr_table.proofs.Deeds.{appends_given}
 use Rattle.dr_table.proofs.Posting.{free}
 use Rattle.atomic_table.proofs.Lists.{at_index, at_map}
 use mathlib.Core.Option.{some}
 use lib.ListN.{get_elem?}
-use Rattle.dr_entry.proofs.OptionFacts.{some_there}
 use Rattle.dr_entry.proofs.ListPlaces.{no_trim}
 use Rattle.dr_history.proofs.Ranks.{at_rank_of}
 use Rattle.dr_history.proofs.MemberLemmas.{few_members}
 use Rattle.dr_history.proofs.Orders.{some_of}
 use Rattle.dr_words.proofs.Layouts.{words_small}
 use Rattle.dr_program.proofs.Programs.{none_ran}
-use Rattle.dr_age.proofs.LoggedMembers.{append_stays}
-
--- ---- what is so of each member
-
--- ---- what the seat knows of them
-
-pub ahead_set : (v rs : List (Option Running)) (at : ℕ) (x y : Running) → IsAhead x y → AreAhead v rs
-    → AreAhead (with_present v at x) (with_present rs at y)
-ahead_set v rs at x y (os, so) are = record {
-  all = length-set v at (Some x) ∙ are.all ∙ sym (length-set rs at (Some y));
-  places = λ k. elim (cases_eq k at) [
-    | inl same ↦ elim (cases_lt at (length v)) [
-      | inl within ↦
-          let too : at < length rs = omega (arith, are.all, within) in
-          rw same (ap is_some (present_set rs at y too) ∙ sym (ap is_some (present_set v at x within)))
-      | inr past ↦
-          let too : length rs ≤ at = omega (arith, are.all, past) in
-          rw same (ap is_some (get_or_past (with_present rs at y) at None (omega (arith, too, length-set rs at (Some y))))
-          ∙ sym (ap is_some (get_or_past (with_present v at x) at None
-          (omega (arith, past, length-set v at (Some x))))))
-    ]
-    | inr other ↦ ap is_some (present_kept rs at k y other) ∙ are.places k
-        ∙ sym (ap is_some (present_kept v at k x other))
-  ];
-  each = λ k r q there here. elim (place_set v at k x r there) [
-    | inl now ↦ elim (place_set rs at k y q here) [
-      | inl too ↦ (os, subst (λ z. HasAppended os z q) now.1 (subst (HasAppended os x) too.1 so))
-      | inr other ↦ absurd (other.0 now.0)
-    ]
-    | inr apart ↦ elim (place_set rs at k y q here) [
-      | inl now ↦ absurd (apart.0 now.0)
-      | inr too ↦ are.each k r q apart.1 too.1
-    ]
-  ];
-}
-
--- the seat has a member at each place of the hand
-pub seat_has : (v rs : List (Option Running)) (at : ℕ) (q : Running) → AreAhead v rs → present_at rs at ≡ Some q
-    → (r : Running) × (present_at v at ≡ Some r) × IsAhead r q
-seat_has v rs at q are here =
-    let (r, there) = some_there (present_at v at) (sym (are.places at) ∙ ap is_some here) in
-    (r, there, are.each at r q there here)
-
--- and where one of them is known as it is in the hand, those that have given the same letters
-pub seat_gave : (v rs : List (Option Running)) (at k : ℕ) (m q : Running) → AreAhead v rs
-    → present_at rs at ≡ Some m → present_at rs k ≡ Some q
-    → (r : Running) × (present_at (with_present v at m) k ≡ Some r) × (r.replica.given ≡ q.replica.given)
-seat_gave v rs at k m q are here there = elim (cases_eq k at) [
-  | inl same ↦ (
-    m,
-    ap (present_at (with_present v at m)) same
-        ∙ present_set v at m (omega (arith, are.all, present_within rs at m here)),
-    ap (λ (x : Running). x.replica.given) (same_Some m q (sym here ∙ ap (present_at rs) (sym same) ∙ there)),
-  )
-  | inr other ↦
-      let (r, stands, (os, so)) = seat_has v rs k q are there in
-      (r, present_kept v at k m other ∙ stands, sym (appends_given os r q so))
-]
-
-more : (os : List Outcome) (o : Outcome) (r q : Running) → HasAppended os r q → is_append (next_deed q) ≡ true
-    → HasAppended (os ++ o ∷ []) r (appended_as o q)
-more [] o r q same due =
-    (ap (λ x. is_append (next_deed x)) same ∙ due, ap (appended_as o) same)
-more (p ∷ os) o r q (was, rest) due = (was, more os o (appended_as p r) q rest due)
-
--- one of them appends
-pub ahead_more : (v rs : List (Option Running)) (at : ℕ) (q : Running) (o : Outcome) → AreAhead v rs
-    → present_at rs at ≡ Some q → is_append (next_deed q) ≡ true → AreAhead v
-    (with_present rs at (appended_as o q))
-ahead_more v rs at q o are here due = record {
-  all = are.all ∙ sym (length-set rs at (Some (appended_as o q)));
-  places = λ k. elim (cases_eq k at) [
-    | inl same ↦ rw same (ap is_some (present_set rs at (appended_as o q) (present_within rs at q here))
-        ∙ sym (ap is_some here) ∙ are.places at)
-    | inr other ↦ ap is_some (present_kept rs at k (appended_as o q) other) ∙ are.places k
-  ];
-  each = λ k r x there stands. elim (place_set rs at k (appended_as o q) x stands) [
-    | inl now ↦
-        let (os, so) = are.each k r q there (ap (present_at rs) now.0 ∙ here) in
-        (os ++ o ∷ [], subst (HasAppended (os ++ o ∷ []) r) now.1 (more os o r q so due))
-    | inr other ↦ are.each k r x there other.1
-  ];
-}
-
-pub ahead_take : (n : ℕ) (v rs : List (Option Running)) → AreAhead v rs → AreAhead (take n v) (take n rs)
-ahead_take n v rs are = record {
-  all = omega (arith, length-take n v, length-take n rs, are.all);
-  places = λ k. elim (cases_lt k n) [
-    | inl below ↦ ap is_some (take_place n rs k below) ∙ are.places k ∙ sym (ap is_some (take_place n v k below))
-    | inr past ↦ ap is_some (get_or_past (take n rs) k None (omega (arith, past, length-take n rs)))
-        ∙ sym (ap is_some (get_or_past (take n v) k None (omega (arith, past, length-take n v))))
-  ];
-  each = λ k r q there here. are.each k r q (place_take n v k r there).1 (place_take n rs k q here).1;
-}
-
-pub ahead_drop : (n : ℕ) (v rs : List (Option Running)) → AreAhead v rs → AreAhead (drop n v) (drop n rs)
-ahead_drop n v rs are = record {
-  all = omega (arith, length-drop n v, length-drop n rs, are.all);
-  places = λ k. ap is_some (place_drop n rs k) ∙ are.places (n + k) ∙ sym (ap is_some (place_drop n v k));
-  each = λ k r q there here.
-      are.each (n + k) r q (sym (place_drop n v k) ∙ there) (sym (place_drop n rs k) ∙ here);
-}
-
-pub ahead_append : (v rs w qs : List (Option Running)) → AreAhead v rs → AreAhead w qs → AreAhead (v ++ w) (rs ++ qs)
-ahead_append v rs w qs are too = record {
-  all = omega (arith, length-append v w, length-append rs qs, are.all, too.all);
-  places = λ k. elim (cases_lt k (length v)) [
-    | inl within ↦ ap is_some (place_front rs qs k (omega (arith, within, are.all))) ∙ are.places k
-        ∙ sym (ap is_some (place_front v w k within))
-    | inr past ↦ ap is_some (place_past rs qs k (omega (arith, past, are.all)))
-        ∙ ap (λ n. is_some (present_at qs (k - n))) (sym are.all) ∙ too.places (k - length v)
-        ∙ sym (ap is_some (place_past v w k past))
-  ];
-  each = λ k r q there here. elim (place_append v w k r there) [
-    | inl first ↦ elim (place_append rs qs k q here) [
-      | inl also ↦ are.each k r q first also
-      | inr second ↦ absurd (let past = second.0 in omega (arith, past, are.all, present_within v k r first))
-    ]
-    | inr second ↦ elim (place_append rs qs k q here) [
-      | inl first ↦ absurd (let past = second.0 in omega (arith, past, are.all, present_within rs k q first))
-      | inr also ↦ too.each (k - length v) r q second.1
-          (subst (λ n. present_at qs (k - n) ≡ Some q) (sym are.all) also.1)
-    ]
-  ];
-}
-
--- a member that has ended is as the seat knows it
-ended_same : (os : List Outcome) (r q : Running) → HasAppended os r q → IsAtEnd q → r ≡ q
-ended_same [] r q same ended = same
-ended_same (o ∷ os) r q (due, rest) ended = absurd (stays os (appended_as o r) rest (append_stays o r due))
-  where
-    stays : (os : List Outcome) (x : Running) → HasAppended os x q → x.replica.end ≡ None → ⊥
-    stays [] x same none = absurd (cc (
-      ap (λ (y : Running). is_some y.replica.end) (sym same) ∙ ap is_some
-          none,
-      ended,
-    ))
-    stays (p ∷ os) x (due, rest) none = stays os (appended_as p x) rest (append_stays p x due)
-
-pub seat_knows : (v rs : List (Option Running)) → AreAhead v rs → AreAtEnd rs → v ≡ rs
-seat_knows v rs are ended = same_places v rs are.all are.places (λ i r q there here.
-    let (os, so) = are.each i r q there here in
-    ended_same os r q so (ended i q here))
 
 -- ---- members as they are dealt
 
@@ -403,17 +255,3 @@ board_opened inside board is places d are =
     ap opened (sym is)
     ∙ dealt_opened inside.members d (inside.table.id.words - inside.table.places)
     (omega (arith, size, places, dealt_few inside.members d))
-
-pub ahead_same : (v rs : List (Option Running)) → v ≡ rs → AreAhead v rs
-ahead_same v rs same = record {
-  all = ap length same;
-  places = λ k. ap (λ l. is_some (present_at l k)) (sym same);
-  each = λ k r q there here. ([], same_Some r q (sym there ∙ ap (λ l. present_at l k) same ∙ here));
-}
-
--- ---- two hands become one
-
--- their members fit into a room that is enough for all places
-pub both_fit : (v w rs qs : List (Option Running)) (places room : ℕ) → AreAhead v rs → AreAhead w qs
-    → length (v ++ w) ≤ places → places ≤ room → length rs + length qs ≤ room
-both_fit v w rs qs places room a b few have = omega (arith, few, have, length-append v w, a.all, b.all)

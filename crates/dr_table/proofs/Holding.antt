@@ -12,7 +12,6 @@ use Rattle.dr_machine.specs.Group.{Group, late_members, roster}
 use Rattle.dr_member.specs.Deeds.{table_size}
 use Rattle.dr_program.specs.declared.deed.Deed.TheVariants as deeds
 use Rattle.dr_program.specs.Form.{IsOf}
-use Rattle.dr_program.specs.Presence.{present_at, with_present}
 use Rattle.dr_program.specs.Program.{Program}
 use Rattle.dr_program.specs.Replica.{me}
 use Rattle.dr_program.specs.Running.{Running, next_deed}
@@ -45,32 +44,20 @@ first_is l k j x y a b =
     let same : (k, x) ≡ (j, y) = ap (first_or (k, x)) (sym a ∙ b) in ap (λ (z : ℕ × Slot). z.1) same
 
 -- a seat that is about a letter, once this was put into its slot
-pub exchanged : (old new : Me Slot View) (members : List (Option Running)) (e : Errand) (was : ℕ × Slot) (slot : ℕ)
-    (x : Slot) → old ≡ busy members e (was ∷ []) → new ≡ (old.0, (slot, x) ∷ rest old.1)
-    → new ≡ busy members e ((slot, x) ∷ [])
-exchanged old new members e was slot x is to = to ∙ (λ z. ((is z).0, (slot, x) ∷ rest (is z).1))
-
--- it has these members
-pub busy_is : (seat : Me Slot View) (members : List (Option Running)) (e : Errand) (slots : List (ℕ × Slot))
-    → seat ≡ busy members e slots → seat ≡ busy seat.0.members e slots
-busy_is seat members e slots is =
-    is ∙ ap (λ ms. busy ms e slots) (sym (ap (λ (m : Me Slot View). m.0.members) is))
-
-pub members_there : (seat : Me Slot View) (members : List (Option Running)) (e : Errand) (slots : List (ℕ × Slot))
-    (at : ℕ) (r : Running) → seat ≡ busy members e slots → present_at members at ≡ Some r
-    → present_at seat.0.members at ≡ Some r
-members_there seat members e slots at r is there =
-    ap (λ (m : Me Slot View). present_at m.0.members at) is ∙ there
+pub exchanged : (old new : Me Slot View) (r : Running) (e : Errand) (was : ℕ × Slot) (slot : ℕ)
+    (x : Slot) → old ≡ busy r e (was ∷ []) → new ≡ (old.0, (slot, x) ∷ rest old.1)
+    → new ≡ busy r e ((slot, x) ∷ [])
+exchanged old new r e was slot x is to = to ∙ (λ z. ((is z).0, (slot, x) ∷ rest (is z).1))
 
 -- the list that was in a slot
 pub same_list : (o : Slot) (list other : Vec Entry Global) → o ≡ Some list → o ≡ Some other → list ≡ other
 same_list o list other here there = same_Some list other (sym here ∙ there)
 
 -- what a peek has told, by whether it found 2
-pub saw_letter : (e : Errand) (r : Running) (old new : Me Slot View) (found : ℕ) (b : Bool) → b ≡ (found == 2)
-    → b ≡ true → Peeked e r old found new → new ≡ busy (with_present old.0.members e.place r) e []
-saw_letter e r old new found b is hit (inl (two, to)) = to
-saw_letter e r old new found b is hit (inr (other, none, to)) = absurd (cc (is, hit, ne_eqb found 2 other))
+pub saw_letter : (e : Errand) (r : Running) (new : Me Slot View) (found : ℕ) (b : Bool) → b ≡ (found == 2)
+    → b ≡ true → Peeked e r found new → new ≡ busy r e []
+saw_letter e r new found b is hit (inl (two, to)) = to
+saw_letter e r new found b is hit (inr (other, none, to)) = absurd (cc (is, hit, ne_eqb found 2 other))
 
 -- ---- what is known of its member
 

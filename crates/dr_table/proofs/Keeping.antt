@@ -1,5 +1,5 @@
 -- The steps of a hand's members keep the rule, and what they tell.
-use Rattle.std.proofs.Common.{◌≡◌, refl, sym, ap, ◌∙◌, subst, ℕ, ◌<◌, true, [], List, set-set, arith}
+use Rattle.std.proofs.Common.{◌≡◌, refl, sym, ap, ◌∙◌, subst, ℕ, ◌<◌, true, [], ◌∷◌, List, set-set, arith}
 use Rattle.std.specs.Prelude.{None, Some, slice_get, slice_index, slice_index_or, slice_set, Option}
 use Rattle.std.proofs.lemmas.List.{set-get_or}
 use Rattle.std.proofs.lemmas.Option.{slice_get_within}
@@ -22,16 +22,17 @@ use Rattle.dr_table.specs.declared.rule.View.{View}
 use Rattle.dr_table.specs.Deeds.{IsStore}
 use Rattle.dr_table.specs.Rule.{HasSuchProgram, number}
 use Rattle.dr_table.specs.Slots.{Slot}
-use Rattle.dr_table.specs.Steps.{IsAhead, IsOfProgram, IsReachedMember, Looked, MayFind, MayTake, Stored, idle}
+use Rattle.dr_table.specs.Steps.{IsAhead, IsOfProgram, IsReachedMember, Looked, MayFind, MayTake, Stored, alone, idle}
 use Rattle.dr_table.proofs.Deeds.{after_told, appended_told, deeds_ran, same_number, stores, took_told}
-use Rattle.dr_table.proofs.Posting.{caught_up, free, kept, member_on, sized, sound, stood}
+use Rattle.dr_table.proofs.Posting.{caught_up, kept, member_on, one, sized, sound, stood}
 use Rattle.dr_program.specs.Presence.{present_at, with_present}
 use Rattle.dr_program.proofs.Present.{present_within, present_set}
-use mathlib.Core.Option.{Option as Maybe}
-use Rattle.dr_entry.proofs.ListPlaces.{by_table, front_read, front_set, replica_set}
+use mathlib.Core.Option.{Option as Maybe, some}
+use lib.ListN.{get_elem?}
 use Rattle.dr_program.proofs.Programs.{after_append}
 use Rattle.dr_program.proofs.RunningPrograms.{after_take}
 use Rattle.dr_age.proofs.LoggedMembers.{append_due}
+use Rattle.dr_entry.proofs.ListPlaces.{by_table, front_read, front_set, replica_set}
 
 -- ---- members of programs that are reached
 
@@ -113,72 +114,65 @@ find_seen r index word next (g, p, is, found) =
 
 -- ---- the rule
 
--- the rule with the member at a place of a seat's hand as it is, all its appends counted
+-- the rule with a seat's member as it is, all its appends counted
 pub record Caught (dealt : List (Option Running)) (words : List ℕ) (homes : List (Maybe Slot)) (views : List View)
-    (id : ℕ) (hand : List (Option Running)) (at : ℕ) (q : Running) : Type 0 where
-  pub rule : HasSuchProgram dealt words homes (slice_set views id (free (with_present hand at q)))
-  pub is : slice_get (slice_set views id (free (with_present hand at q))) id ≡ Some (free (with_present hand at q))
-  pub here : present_at (with_present hand at q) at ≡ Some q
+    (id : ℕ) (q : Running) : Type 0 where
+  pub rule : HasSuchProgram dealt words homes (slice_set views id (one q))
+  pub is : slice_get (slice_set views id (one q)) id ≡ Some (one q)
   pub there : present_at rule.members (number q) ≡ Some q
 
 pub catch_up : (dealt : List (Option Running)) (words : List ℕ) (homes : List (Maybe Slot)) (views : List View)
-    (id : ℕ) (v : View) (at : ℕ) (r q : Running) → slice_get views id ≡ Some v → v.errand ≡ None
-    → present_at v.members at ≡ Some r → IsAhead r q → HasSuchProgram dealt words homes views
-    → Caught dealt words homes views id v.members at q
-catch_up dealt words homes views id v at r q is none stands (os, more) k =
-    let rule = caught_up k id v at r q os is none stands more in
-    let here = present_set v.members at q (present_within v.members at r stands) in
-    let w = free (with_present v.members at q) in
-    let mine = replica_set views id w (slice_get_within views id v is) in
-    record { rule = rule; is = mine; here = here; there = stood rule id w at q mine here }
+    (id : ℕ) (me : Me Slot View) (r q : Running) → get_elem? views id ≡ some me.0 → me ≡ alone r → IsAhead r q
+    → HasSuchProgram dealt words homes views → Caught dealt words homes views id q
+catch_up dealt words homes views id me r q at only (os, more) k =
+    let is : slice_get views id ≡ Some (one r) =
+    by_table views id me.0 at ∙ ap (λ (m : Me Slot View). Some m.0) only in
+    let rule = caught_up k id r q os is more in
+    let mine = replica_set views id (one q) (slice_get_within views id (one r) is) in
+    record { rule = rule; is = mine; there = stood rule id (one q) q mine refl }
 
 -- the seat has its member further on
 pub went_on : (dealt : List (Option Running)) (words : List ℕ) (homes : List (Maybe Slot)) (views : List View)
-    (id : ℕ) (hand : List (Option Running)) (at : ℕ) (q x : Running)
-    → HasSuchProgram dealt words homes (slice_set (slice_set views id (free (with_present hand at q))) id
-    (free (with_present (with_present hand at q) at x)))
-    → HasSuchProgram dealt words homes (slice_set views id (free (with_present hand at x)))
-went_on dealt words homes views id hand at q x k =
-    subst (λ vs. HasSuchProgram dealt words homes vs)
-    (set-set views id (free (with_present hand at q)) (free (with_present (with_present hand at q) at x))
-    ∙ ap (λ h. slice_set views id (free h)) (set-set hand at (Some q) (Some x))) k
+    (id : ℕ) (q x : Running) → HasSuchProgram dealt words homes (slice_set (slice_set views id (one q)) id (one x))
+    → HasSuchProgram dealt words homes (slice_set views id (one x))
+went_on dealt words homes views id q x =
+    subst (λ vs. HasSuchProgram dealt words homes vs) (set-set views id (one q) (one x))
 
--- a seat about nothing holds no slot
-pub no_errand : (me : Me Slot View) → me ≡ idle me.0.members → me.0.errand ≡ None
-no_errand me is = ap (λ (m : Me Slot View). m.0.errand) is
+-- a seat that is about nothing has these members
+pub idle_is : (me : Me Slot View) (members : List (Option Running)) → me ≡ idle members → me ≡ idle me.0.members
+idle_is me members is = is ∙ ap idle (sym (ap (λ (m : Me Slot View). m.0.members) is))
 
-pub no_slots : (me : Me Slot View) → me ≡ idle me.0.members → me.1 ≡ []
-no_slots me is = ap (λ (m : Me Slot View). m.1) is
+-- it holds no slot
+pub no_errand : (me : Me Slot View) (members : List (Option Running)) → me ≡ idle members → me.0.errand ≡ None
+no_errand me members is = ap (λ (m : Me Slot View). m.0.errand) is
 
-pub look_allowed : (dealt : List (Option Running)) (slots id at index : ℕ) (me : Me Slot View) (r q : Running)
-    → me ≡ idle me.0.members → present_at me.0.members at ≡ Some r → IsAhead r q → next_deed q ≡ deeds.Look index
-    → index < table_size q
+pub no_slots : (me : Me Slot View) (members : List (Option Running)) → me ≡ idle members → me.1 ≡ []
+no_slots me members is = ap (λ (m : Me Slot View). m.1) is
+
+pub look_allowed : (dealt : List (Option Running)) (slots id index : ℕ) (me : Me Slot View) (r q : Running)
+    → me ≡ alone r → IsAhead r q → next_deed q ≡ deeds.Look index → index < table_size q
     → Allows {S = Slot} {V = View} (λ s. HasSuchProgram dealt s.words s.homes s.views) slots id me index (λ n. n)
-    (λ n w. Looked at q me n w)
-look_allowed dealt slots id at index me r q free_seat here ahead next within s k _ is _ =
-    let hand = me.0.members in
-    let c = catch_up dealt s.words s.homes s.views id me.0 at r q (by_table s.views id me.0 is)
-    (no_errand me free_seat) here ahead k in
+    (λ n w. Looked q n w)
+look_allowed dealt slots id index me r q only ahead next within s k _ is _ =
+    let c = catch_up dealt s.words s.homes s.views id me r q is only ahead k in
     let n = slice_index s.words index in
     let x = after_step n q in
     let t = deed_tells c.rule.table q (deeds.Look index) next in
     let read : n ≡ slice_index c.rule.table index = ap (λ ws. slice_index ws index) c.rule.laid
     ∙ front_read c.rule.table c.rule.flags index (omega (arith, within, sized c.rule q c.there)) in
-    let on = member_on c.rule id (free (with_present hand at q)) at q x c.rule.table s.words c.is refl c.here
-    (after_told n q) (after_later n q) c.rule.laid
+    let on = member_on c.rule id q x c.rule.table s.words c.is (after_told n q) (after_later n q) c.rule.laid
     (deeds_ran (begun_program c.rule.opening.group c.rule.opening.setups) c.rule.table c.rule.table c.rule.letters []
     c.rule.members (number q) q q x refl c.there t.none
     (any_outcome (next_sight c.rule.table q) (slice_index_or c.rule.letters (number q) None) outcomes.Ok q
     (next_step q) (at_look q index next) t.says.no_join ∙ ap (λ w. after_step w q) (t.says.sees ∙ sym read))
     (ap (stored c.rule.table q.replica) t.says.look) (t.says.posts c.rule.letters) c.rule.ran) in (
-      free (with_present hand at x),
+      one x,
       keeps,
       tt,
-      subst (λ ws. HasSuchProgram dealt ws s.homes (slice_set s.views id (free (with_present hand at x))))
-          (sym (set-get_or s.words index 0))
-          (went_on dealt s.words s.homes s.views id hand at q x on),
+      subst (λ ws. HasSuchProgram dealt ws s.homes (slice_set s.views id (one x))) (sym (set-get_or s.words index 0))
+          (went_on dealt s.words s.homes s.views id q x on),
       (
-        λ z. (free (with_present hand at x), no_slots me free_seat z),
+        λ z. (one x, no_slots me (Some r ∷ []) only z),
         (
           c.rule.opening.group,
           kept c.rule,
@@ -188,19 +182,16 @@ look_allowed dealt slots id at index me r q free_seat here ahead next within s k
       ),
     )
 
-pub store_allowed : (dealt : List (Option Running)) (slots id at index new : ℕ) (me : Me Slot View)
-    (r q : Running) → me ≡ idle me.0.members → present_at me.0.members at ≡ Some r → IsAhead r q
-    → IsStore index new (next_deed q) → index < table_size q
+pub store_allowed : (dealt : List (Option Running)) (slots id index new : ℕ) (me : Me Slot View)
+    (r q : Running) → me ≡ alone r → IsAhead r q → IsStore index new (next_deed q) → index < table_size q
     → Allows {S = Slot} {V = View} (λ s. HasSuchProgram dealt s.words s.homes s.views) slots id me index (λ _. new)
-    (λ _ w. Stored at q me w)
-store_allowed dealt slots id at index new me r q free_seat here ahead next within s k _ is _ =
-    let hand = me.0.members in
-    let c = catch_up dealt s.words s.homes s.views id me.0 at r q (by_table s.views id me.0 is)
-    (no_errand me free_seat) here ahead k in
+    (λ _ w. Stored q w)
+store_allowed dealt slots id index new me r q only ahead next within s k _ is _ =
+    let c = catch_up dealt s.words s.homes s.views id me r q is only ahead k in
     let x = after_step 0 q in
     let t = stores c.rule.table q index new next in
-    let on = member_on c.rule id (free (with_present hand at q)) at q x (slice_set c.rule.table index new)
-    (slice_set s.words index new) c.is refl c.here (after_told 0 q) (after_later 0 q)
+    let on = member_on c.rule id q x (slice_set c.rule.table index new) (slice_set s.words index new) c.is
+    (after_told 0 q) (after_later 0 q)
     (ap (λ ws. slice_set ws index new) c.rule.laid ∙ front_set c.rule.table c.rule.flags index new
     (omega (arith, within, sized c.rule q c.there)))
     (deeds_ran (begun_program c.rule.opening.group c.rule.opening.setups) c.rule.table
@@ -208,9 +199,9 @@ store_allowed dealt slots id at index new me r q free_seat here ahead next withi
     (any_outcome (next_sight c.rule.table q) (slice_index_or c.rule.letters (number q) None) outcomes.Ok q
     (next_step q) t.says.other t.says.no_join ∙ ap (λ w. after_step w q) t.says.sees) t.says.stores
     (t.says.posts c.rule.letters) c.rule.ran) in (
-      free (with_present hand at x),
+      one x,
       keeps,
       tt,
-      went_on dealt (slice_set s.words index new) s.homes s.views id hand at q x on,
-      λ z. (free (with_present hand at x), no_slots me free_seat z),
+      went_on dealt (slice_set s.words index new) s.homes s.views id q x on,
+      λ z. (one x, no_slots me (Some r ∷ []) only z),
     )

@@ -3,86 +3,63 @@ use Rattle.std.proofs.Common.{◌≡◌, ◌≢◌, ◌⊎◌, inl, inr, refl, s
 use Rattle.std.specs.Prelude.{Some, slice_get, slice_set, Option}
 use Rattle.std.proofs.lemmas.Bool.{cases_eq, cases_lt}
 use Rattle.std.proofs.lemmas.Option.{same_Some, slice_get_within}
-use Rattle.dr_entry.proofs.ListPlaces.{replica_kept, replica_set, at_set}
-use Rattle.dr_entry.proofs.NumberFacts.{cut_back}
 use Rattle.dr_history_laws.proofs.Lists.{slice_get-left, slice_get-push_cases, slice_get-seam}
 use Rattle.dr_program.specs.Running.{Running}
 use Rattle.dr_table.specs.Rule.{Found, Stands, number}
 use Rattle.dr_program.specs.Presence.{present_at, with_present}
-use Rattle.dr_program.proofs.Present.{present_within, present_set, present_kept, place_append, place_behind, place_drop, place_front, place_set, place_take, take_place}
+use Rattle.dr_program.proofs.Present.{present_within, present_set, present_kept, place_append, place_behind, place_drop, place_front, place_take, take_place, only_one}
+use Rattle.dr_entry.proofs.ListPlaces.{replica_kept, replica_set, at_set}
+use Rattle.dr_entry.proofs.NumberFacts.{cut_back}
 
 -- ---- one member changes
 
--- what stands where one member of a hand was replaced: the new one, or what stood there
-found_set : (views : List (List (Option Running))) (id : ℕ) (v : List (Option Running)) (at : ℕ) (x : Running) (s a : ℕ)
-    (r : Running) → slice_get views id ≡ Some v → Found (slice_set views id (with_present v at x)) s a r
-    → ((s ≡ id) × (a ≡ at) × (x ≡ r)) ⊎ (Found views s a r × ((s ≡ id) × (a ≡ at) → ⊥))
-found_set views id v at x s a r is (w, there, stands) = elim (at_set views id s (with_present v at x) w there) [
-  | inl here ↦ elim (place_set v at a x r (ap (λ u. present_at u a) here.1 ∙ stands)) [
-    | inl new ↦ inl (here.0, new.0, new.1)
-    | inr old ↦ inr ((v, ap (slice_get views) here.0 ∙ is, old.1), λ h. old.0 h.1)
-  ]
-  | inr other ↦ inr ((w, other.1, stands), λ h. other.0 h.0)
-]
-
--- the others stand where they stood
-found_kept : (views : List (List (Option Running))) (id : ℕ) (v : List (Option Running)) (at : ℕ) (x : Running) (s a : ℕ)
-    (r : Running) → slice_get views id ≡ Some v → Found views s a r → ((s ≡ id) × (a ≡ at) → ⊥)
-    → Found (slice_set views id (with_present v at x)) s a r
-found_kept views id v at x s a r is (w, there, stands) apart = elim (cases_eq s id) [
-  | inl here ↦ (
-    with_present v at x,
-    ap (slice_get (slice_set views id (with_present v at x))) here
-        ∙ replica_set views id (with_present v at x) (slice_get_within views id v is),
-    present_kept v at a x (λ same. apart (here, same))
-        ∙ ap (λ u. present_at u a) (same_Some v w (sym is ∙ ap (slice_get views) (sym here) ∙ there)) ∙ stands,
-  )
-  | inr other ↦ (w, replica_kept views id s (with_present v at x) other ∙ there, stands)
+-- what stands where the member of a hand of one was replaced: the new one there, or what stood in another hand
+found_set : (views : List (List (Option Running))) (id : ℕ) (x : Running) (s a : ℕ) (q : Running)
+    → Found (slice_set views id (Some x ∷ [])) s a q
+    → ((s ≡ id) × (a ≡ 0) × (x ≡ q)) ⊎ (Found views s a q × (s ≢ id))
+found_set views id x s a q (w, there, stands) = elim (at_set views id s (Some x ∷ []) w there) [
+  | inl here ↦ let one = only_one x q a (ap (λ u. present_at u a) here.1 ∙ stands) in inl (here.0, one.0, one.1)
+  | inr other ↦ inr ((w, other.1, stands), other.0)
 ]
 
 -- the members stand so where one of them is replaced in its hand and in the program
-pub stands_set : (views : List (List (Option Running))) (members : List (Option Running)) (id : ℕ) (v : List (Option Running)) (at : ℕ)
-    (r x : Running) → slice_get views id ≡ Some v → present_at v at ≡ Some r → number x ≡ number r
-    → Stands views members
-    → Stands (slice_set views id (with_present v at x)) (with_present members (number r) x)
-stands_set views members id v at r x is here same h = record { each = each; once = once; all = all }
+pub stands_set : (views : List (List (Option Running))) (members : List (Option Running)) (id : ℕ) (r x : Running)
+    → slice_get views id ≡ Some (Some r ∷ []) → number x ≡ number r → Stands views members
+    → Stands (slice_set views id (Some x ∷ [])) (with_present members (number r) x)
+stands_set views members id r x is same h = record { each = each; once = once; all = all }
   where
     after : List (List (Option Running))
-    after = slice_set views id (with_present v at x)
+    after = slice_set views id (Some x ∷ [])
 
-    mine : Found views id at r
-    mine = (v, is, here)
+    mine : Found views id 0 r
+    mine = (Some r ∷ [], is, refl)
 
-    new : Found after id at x
-    new = (
-      with_present v at x,
-      replica_set views id (with_present v at x) (slice_get_within views id v is),
-      present_set v at x (present_within v at r here),
-    )
+    new : Found after id 0 x
+    new = (Some x ∷ [], replica_set views id (Some x ∷ []) (slice_get_within views id (Some r ∷ []) is), refl)
 
-    other : (s a : ℕ) (q : Running) → Found views s a q → ((s ≡ id) × (a ≡ at) → ⊥) → number q ≢ number r
-    other s a q f apart e = apart (h.once s a id at q r f mine e)
+    other : (s a : ℕ) (q : Running) → s ≢ id → Found views s a q → number q ≢ number r
+    other s a q apart f e = apart (h.once s a id 0 q r f mine e).0
 
     each : (s a : ℕ) (q : Running) → Found after s a q
         → present_at (with_present members (number r) x) (number q) ≡ Some q
-    each s a q f = elim (found_set views id v at x s a q is f) [
+    each s a q f = elim (found_set views id x s a q f) [
       | inl now ↦
           ap (present_at (with_present members (number r) x)) (ap number (sym now.2) ∙ same)
-          ∙ present_set members (number r) x (present_within members (number r) r (h.each id at r mine))
+          ∙ present_set members (number r) x (present_within members (number r) r (h.each id 0 r mine))
           ∙ ap (λ y. Some y) now.2
       | inr old ↦
-          present_kept members (number r) (number q) x (other s a q old.0 old.1) ∙ h.each s a q old.0
+          present_kept members (number r) (number q) x (other s a q old.1 old.0) ∙ h.each s a q old.0
     ]
 
     once : (s a t b : ℕ) (q u : Running) → Found after s a q → Found after t b u → number q ≡ number u
         → (s ≡ t) × (a ≡ b)
-    once s a t b q u f g e = elim (found_set views id v at x s a q is f) [
-      | inl now ↦ elim (found_set views id v at x t b u is g) [
+    once s a t b q u f g e = elim (found_set views id x s a q f) [
+      | inl now ↦ elim (found_set views id x t b u g) [
         | inl too ↦ (now.0 ∙ sym too.0, now.1 ∙ sym too.1)
-        | inr old ↦ absurd (other t b u old.0 old.1 (sym e ∙ ap number (sym now.2) ∙ same))
+        | inr old ↦ absurd (other t b u old.1 old.0 (sym e ∙ ap number (sym now.2) ∙ same))
       ]
-      | inr old ↦ elim (found_set views id v at x t b u is g) [
-        | inl now ↦ absurd (other s a q old.0 old.1 (e ∙ ap number (sym now.2) ∙ same))
+      | inr old ↦ elim (found_set views id x t b u g) [
+        | inl now ↦ absurd (other s a q old.1 old.0 (e ∙ ap number (sym now.2) ∙ same))
         | inr too ↦ h.once s a t b q u old.0 too.0 e
       ]
     ]
@@ -90,23 +67,15 @@ stands_set views members id v at r x is here same h = record { each = each; once
     all : (k : ℕ) (u : Running) → present_at (with_present members (number r) x) k ≡ Some u
         → (s a : ℕ) × (q : Running) × Found after s a q × (number q ≡ k)
     all k u stood = elim (cases_eq k (number r)) [
-      | inl here ↦ (id, at, x, new, same ∙ sym here)
+      | inl here ↦ (id, 0, x, new, same ∙ sym here)
       | inr apart ↦
-          let (s, a, q, f, named) = h.all k u (sym (present_kept members (number r) k x apart) ∙ stood) in (
-            s,
-            a,
-            q,
-            found_kept views id v at x s a q is f (λ places. apart (sym named
-                ∙ ap number (one s a q f places))),
-            named,
-          )
+          let (s, a, q, (w, there, stands), named) =
+          h.all k u (sym (present_kept members (number r) k x apart) ∙ stood) in
+          let kept : s ≢ id = λ at. apart (sym named ∙ ap number (sym (only_one r q a
+          (ap (λ l. present_at l a) (same_Some (Some r ∷ []) w (sym is ∙ ap (slice_get views) (sym at) ∙ there))
+          ∙ stands)).1)) in
+          (s, a, q, (w, replica_kept views id s (Some x ∷ []) kept ∙ there, stands), named)
     ]
-      where
-        one : (s a : ℕ) (q : Running) → Found views s a q → (s ≡ id) × (a ≡ at) → q ≡ r
-        one s a q (w, there, stands) places =
-            same_Some q r (sym stands ∙ ap (λ u. present_at u a)
-            (same_Some w v (sym there ∙ ap (slice_get views) places.0 ∙ is))
-            ∙ ap (present_at v) places.1 ∙ here)
 
 -- ---- members change their places
 

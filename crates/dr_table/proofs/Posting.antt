@@ -1,5 +1,5 @@
 -- A letter is given and taken: each step of that keeps the rule.
-use Rattle.std.proofs.Common.{◌≡◌, ◌≢◌, ◌⊎◌, inl, inr, refl, sym, ap, ◌∙◌, subst, ℕ, ◌+◌, ◌<◌, ◌≤◌, true, List, ◌++◌, length, length-set, slice_index, arith}
+use Rattle.std.proofs.Common.{◌≡◌, ◌≢◌, ◌⊎◌, inl, inr, refl, sym, ap, ◌∙◌, subst, ℕ, ◌+◌, ◌<◌, ◌≤◌, true, List, [], ◌∷◌, ◌++◌, length, length-set, slice_index, arith}
 use Rattle.std.specs.Prelude.{Option, None, Some, Vec, slice_get, slice_set, sum_by}
 use Rattle.std.specs.declared.alloc.Global.{Global}
 use Rattle.std.proofs.lemmas.Bool.{cases_lt}
@@ -78,8 +78,13 @@ slot_here homes slot at old home same there = ap (get_elem? (slice_set homes slo
 abbrev pub free : List (Option Running) → View
 free members = record { members = members; errand = None }
 
-abbrev pub about : List (Option Running) → Errand → View
-about members e = record { members = members; errand = Some e }
+-- one of this member
+abbrev pub one : Running → View
+one r = free (Some r ∷ [])
+
+-- a seat with this member alone that is about this letter
+abbrev pub about : Running → Errand → View
+about r e = record { members = Some r ∷ []; errand = Some e }
 
 module _ {dealt : List (Option Running)} {words : List ℕ} {homes : List (Maybe Slot)} {views : List View}
     (k : HasSuchProgram dealt words homes views) where
@@ -92,17 +97,16 @@ module _ {dealt : List (Option Running)} {words : List ℕ} {homes : List (Maybe
       k.opening.are k.ran in
       record { group = k.opening.is; form = all.0; reached = all.1 }
 
-  pub stood : (id : ℕ) (v : View) (at : ℕ) (r : Running) → slice_get views id ≡ Some v
-      → present_at v.members at ≡ Some r → present_at k.members (number r) ≡ Some r
-  stood id v at r is here = k.stands.each id at r (v.members, hands_get views id v is, here)
+  pub stood : (id : ℕ) (v : View) (r : Running) → slice_get views id ≡ Some v → v.members ≡ Some r ∷ []
+      → present_at k.members (number r) ≡ Some r
+  stood id v r is here = k.stands.each id 0 r (v.members, hands_get views id v is, ap (λ l. present_at l 0) here)
 
-  -- two places at which one member stands are one
-  one_seat : (s id : ℕ) (u v : View) (a b : ℕ) (q r : Running) → slice_get views s ≡ Some u
-      → present_at u.members a ≡ Some q → slice_get views id ≡ Some v → present_at v.members b ≡ Some r
-      → number q ≡ number r → s ≡ id
-  one_seat s id u v a b q r there stands is here same =
-      (k.stands.once s a id b q r (u.members, hands_get views s u there, stands)
-      (v.members, hands_get views id v is, here) same).0
+  -- two seats with one member are one
+  one_seat : (s id : ℕ) (u v : View) (q r : Running) → slice_get views s ≡ Some u → u.members ≡ Some q ∷ []
+      → slice_get views id ≡ Some v → v.members ≡ Some r ∷ [] → number q ≡ number r → s ≡ id
+  one_seat s id u v q r there stands is here same =
+      (k.stands.once s 0 id 0 q r (u.members, hands_get views s u there, ap (λ l. present_at l 0) stands)
+      (v.members, hands_get views id v is, ap (λ l. present_at l 0) here) same).0
 
   pub of_group : (r : Running) → present_at k.members (number r) ≡ Some r → IsOf k.opening.group (number r) r.replica
   of_group r there = sound.form.of (number r) r there
@@ -121,14 +125,14 @@ module _ {dealt : List (Option Running)} {words : List ℕ} {homes : List (Maybe
 
   -- ---- one seat changes
 
-  -- it is about this now, with the same members
-  about_now : (id : ℕ) (v : View) (e : Errand) (cells flags : List ℕ) (shelves : List (Maybe Slot))
-      → slice_get views id ≡ Some v → length flags ≡ length k.flags → cells ≡ k.table ++ flags
-      → HaveSlots k.opening.group k.members k.letters k.most flags shelves
-      (slice_set views id (about v.members e))
-      → HasSuchProgram dealt cells shelves (slice_set views id (about v.members e))
-  about_now id v e cells flags shelves is long laid slots =
-      let same = hands_same views id v (about v.members e) is refl in record {
+  -- it is about this now
+  about_now : (id : ℕ) (v : View) (r : Running) (e : Errand) (cells flags : List ℕ) (shelves : List (Maybe Slot))
+      → slice_get views id ≡ Some v → v.members ≡ Some r ∷ [] → length flags ≡ length k.flags
+      → cells ≡ k.table ++ flags
+      → HaveSlots k.opening.group k.members k.letters k.most flags shelves (slice_set views id (about r e))
+      → HasSuchProgram dealt cells shelves (slice_set views id (about r e))
+  about_now id v r e cells flags shelves is here long laid slots =
+      let same = hands_same views id v (about r e) is (sym here) in record {
         opening = k.opening;
         members = k.members;
         table = k.table;
@@ -143,20 +147,19 @@ module _ {dealt : List (Option Running)} {words : List ℕ} {homes : List (Maybe
         slots = slots;
       }
 
-  -- one of its members has gone on, and it is about nothing
-  member_now : (id : ℕ) (v : View) (at : ℕ) (r x : Running) (table cells flags : List ℕ)
+  -- its member has gone on, and it is about nothing
+  member_now : (id : ℕ) (v : View) (r x : Running) (table cells flags : List ℕ)
       (letters : List (Option (List Entry))) (shelves : List (Maybe Slot))
-      → slice_get views id ≡ Some v → present_at v.members at ≡ Some r → number x ≡ number r
+      → slice_get views id ≡ Some v → v.members ≡ Some r ∷ [] → number x ≡ number r
       → length flags ≡ length k.flags → cells ≡ table ++ flags
       → IsRanFrom (begun_program k.opening.group k.opening.setups)
       (record { members = with_present k.members (number r) x; table = table; letters = letters })
       → HaveSlots k.opening.group (with_present k.members (number r) x) letters k.most flags shelves
-      (slice_set views id (free (with_present v.members at x)))
-      → HasSuchProgram dealt cells shelves (slice_set views id (free (with_present v.members at x)))
-  member_now id v at r x table cells flags letters shelves is here named long laid ran slots =
-      let w = with_present v.members at x in
-      let same = hands_set views id (free w) in
-      let mine = hands_get views id v is in record {
+      (slice_set views id (one x))
+      → HasSuchProgram dealt cells shelves (slice_set views id (one x))
+  member_now id v r x table cells flags letters shelves is here named long laid ran slots =
+      let same = hands_set views id (one x) in
+      let mine = hands_get views id v is ∙ ap Some here in record {
         opening = k.opening;
         members = with_present k.members (number r) x;
         table = table;
@@ -167,68 +170,64 @@ module _ {dealt : List (Option Running)} {words : List ℕ} {homes : List (Maybe
         laid = laid;
         all = long ∙ k.all;
         stands = subst (λ hs. Stands hs (with_present k.members (number r) x)) (sym same)
-            (stands_set (hands views) k.members id v.members at r x mine here named k.stands);
+            (stands_set (hands views) k.members id r x mine named k.stands);
         places = ap (sum_by length) same
-            ∙ sum_again length (hands views) id v.members w mine (length-set v.members at (Some x))
-            ∙ k.places;
+            ∙ sum_again length (hands views) id (Some r ∷ []) (Some x ∷ []) mine refl ∙ k.places;
         slots = slots;
       }
 
   -- no letter and no slot changes
-  pub member_on : (id : ℕ) (v : View) (at : ℕ) (r x : Running) (table cells : List ℕ)
-      → slice_get views id ≡ Some v → v.errand ≡ None → present_at v.members at ≡ Some r
+  pub member_on : (id : ℕ) (r x : Running) (table cells : List ℕ) → slice_get views id ≡ Some (one r)
       → told x.replica ≡ told r.replica → r.replica.view ≤ x.replica.view → cells ≡ table ++ k.flags
       → IsRanFrom (begun_program k.opening.group k.opening.setups)
       (record { members = with_present k.members (number r) x; table = table; letters = k.letters })
-      → HasSuchProgram dealt cells homes (slice_set views id (free (with_present v.members at x)))
-  member_on id v at r x table cells is idle here same later laid ran =
-      member_now id v at r x table cells k.flags k.letters homes is here (same_number r x same) refl laid ran
+      → HasSuchProgram dealt cells homes (slice_set views id (one x))
+  member_on id r x table cells is same later laid ran =
+      member_now id (one r) r x table cells k.flags k.letters homes is refl (same_number r x same) refl laid ran
       (slots_stay k.opening.group k.members (with_present k.members (number r) x) k.letters k.most k.flags homes
-      views id v (free (with_present v.members at x)) is idle
-      (further_set k.members (number r) r x (stood id v at r is here) later (ap (λ (t : Told). t.room) same))
+      views id (one r) (one x) is refl
+      (further_set k.members (number r) r x (stood id (one r) r is refl) later (ap (λ (t : Told). t.room) same))
       (λ e busy. absurd (cc busy)) k.slots)
 
   -- appends since the seat's last step are counted
-  pub caught_up : (id : ℕ) (v : View) (at : ℕ) (r q : Running) (os : List Outcome) → slice_get views id ≡ Some v
-      → v.errand ≡ None → present_at v.members at ≡ Some r → HasAppended os r q
-      → HasSuchProgram dealt words homes (slice_set views id (free (with_present v.members at q)))
-  caught_up id v at r q os is idle here more =
-      member_on id v at r q k.table words is idle here (appends_told os r q more) (appends_later os r q more) k.laid
+  pub caught_up : (id : ℕ) (r q : Running) (os : List Outcome) → slice_get views id ≡ Some (one r)
+      → HasAppended os r q → HasSuchProgram dealt words homes (slice_set views id (one q))
+  caught_up id r q os is more =
+      member_on id r q k.table words is (appends_told os r q more) (appends_later os r q more) k.laid
       (appends_ran (begun_program k.opening.group k.opening.setups) k.table k.letters os k.members (number r) r q
-      more (stood id v at r is here) k.ran)
+      more (stood id (one r) r is refl) k.ran)
 
   -- ---- a letter is given
 
   -- of the seats only this one can be about a letter that its member is to give
-  gives_alone : (id : ℕ) (v : View) (at j : ℕ) (r : Running) → slice_get views id ≡ Some v
-      → present_at v.members at ≡ Some r → next_deed r ≡ deeds.Give j
+  gives_alone : (id : ℕ) (v : View) (j : ℕ) (r : Running) → slice_get views id ≡ Some v → v.members ≡ Some r ∷ []
+      → next_deed r ≡ deeds.Give j
       → (s : ℕ) (u : View) (e : Errand) → slice_get views s ≡ Some u → u.errand ≡ Some e → e.late ≡ j → e.word ≡ 1
       → s ≡ id
-  gives_alone id v at j r is here next s u e there busy named one =
+  gives_alone id v j r is here next s u e there busy named single =
       let (q, stands, due) = (k.slots.abouts s u e there busy).member in
-      one_seat s id u v e.place at q r there stands is here
-      (one_welcomer k.opening.group kept (number r) (number q) j r q sound (stood id v at r is here)
-      (stood s u e.place q there stands) next (due.gives one ∙ ap (λ n. deeds.Give n) named))
+      one_seat s id u v q r there stands is here
+      (one_welcomer k.opening.group kept (number r) (number q) j r q sound (stood id v r is here)
+      (stood s u q there stands) next (due.gives single ∙ ap (λ n. deeds.Give n) named))
 
   -- the word of the late member is still 0
-  unopened : (id : ℕ) (v : View) (at j : ℕ) (r : Running) → slice_get views id ≡ Some v → v.errand ≡ None
-      → present_at v.members at ≡ Some r → next_deed r ≡ deeds.Give j → slice_index k.flags j ≡ 0
-  unopened id v at j r is idle here next = elim (cases_lt (slice_index k.flags j) 1) [
+  unopened : (id j : ℕ) (r : Running) → slice_get views id ≡ Some (one r) → next_deed r ≡ deeds.Give j
+      → slice_index k.flags j ≡ 0
+  unopened id j r is next = elim (cases_lt (slice_index k.flags j) 1) [
     | inl below ↦ omega (arith, below)
     | inr past ↦
-        let one : slice_index k.flags j ≡ 1 = omega (arith, past, few) in
-        let (s, u, e, there, busy, named) = k.slots.out j (inl one) in
-        let mine = gives_alone id v at j r is here next s u e there busy named
-        (sym (k.slots.abouts s u e there busy).word ∙ ap (slice_index k.flags) named ∙ one) in
+        let first : slice_index k.flags j ≡ 1 = omega (arith, past, few) in
+        let (s, u, e, there, busy, named) = k.slots.out j (inl first) in
+        let mine = gives_alone id (one r) j r is refl next s u e there busy named
+        (sym (k.slots.abouts s u e there busy).word ∙ ap (slice_index k.flags) named ∙ first) in
         absurd (cc (
-          idle,
           busy,
-          ap (λ (z : View). z.errand) (same_Some v u (sym is ∙ ap (slice_get views) (sym mine) ∙ there)),
+          ap (λ (z : View). z.errand) (same_Some (one r) u (sym is ∙ ap (slice_get views) (sym mine) ∙ there)),
         ))
   ]
     where
       new : IsNewcomer k.opening.group kept j
-      new = newcomer k.opening.group kept (number r) j r sound (stood id v at r is here) next
+      new = newcomer k.opening.group kept (number r) j r sound (stood id (one r) r is refl) next
 
       few : slice_index k.flags j < 2
       few = elim (cases_lt (slice_index k.flags j) 2) [
@@ -238,24 +237,23 @@ module _ {dealt : List (Option Running)} {words : List ℕ} {homes : List (Maybe
       ]
 
   -- the member takes the slot, with a blank list
-  pub opened : (id : ℕ) (v : View) (e : Errand) (slot index : ℕ) (r : Running) → slice_get views id ≡ Some v
-      → v.errand ≡ None → e.word ≡ 1 → present_at v.members e.place ≡ Some r → next_deed r ≡ deeds.Give e.late
+  pub opened : (id : ℕ) (e : Errand) (slot index : ℕ) (r : Running) → slice_get views id ≡ Some (one r)
+      → e.word ≡ 1 → next_deed r ≡ deeds.Give e.late
       → slot ≡ slot_number r.replica.late e.late → index ≡ table_size r + e.late
       → (list : Vec Entry Global) × (get_elem? homes slot ≡ some (some (Some list)))
       × IsBlankList r.replica.room list
-      × HasSuchProgram dealt (slice_set words index 1) (slice_set homes slot none)
-      (slice_set views id (about v.members e))
-  opened id v e slot index r is idle one here next same_slot same_index = (
+      × HasSuchProgram dealt (slice_set words index 1) (slice_set homes slot none) (slice_set views id (about r e))
+  opened id e slot index r is first next same_slot same_index = (
     list.0,
     ap (get_elem? homes) at_slot ∙ list.1,
     record {
       empty = list.2.empty;
       fits = omega (arith, list.2.fits, k.slots.room (number r) r there);
     },
-    about_now id v e (slice_set words index 1) (slice_set k.flags j 1) (slice_set homes slot none) is
+    about_now id (one r) r e (slice_set words index 1) (slice_set k.flags j 1) (slice_set homes slot none) is refl
         (length-set k.flags j 1) (laid_set r index j 1 there same_index)
         (slots_changed g k.members k.members k.letters k.letters k.most k.flags homes (slice_set homes slot none)
-        views id v (about v.members e) j 1 change k.slots),
+        views id (one r) (about r e) j 1 change k.slots),
   )
     where
       g : Group
@@ -265,7 +263,7 @@ module _ {dealt : List (Option Running)} {words : List ℕ} {homes : List (Maybe
       j = e.late
 
       there : present_at k.members (number r) ≡ Some r
-      there = stood id v e.place r is here
+      there = stood id (one r) r is refl
 
       new : IsNewcomer g kept j
       new = newcomer g kept (number r) j r sound there next
@@ -274,7 +272,7 @@ module _ {dealt : List (Option Running)} {words : List ℕ} {homes : List (Maybe
       at_slot = same_slot ∙ ap (λ mask. slot_number mask j) (of_group r there).late
 
       zero : slice_index k.flags j ≡ 0
-      zero = unopened id v e.place j r is idle here next
+      zero = unopened id j r is next
 
       list : (list : Vec Entry Global) × (get_elem? homes (slot_number (late_members g) j) ≡ some (some (Some list)))
           × IsBlankList k.most list
@@ -284,12 +282,12 @@ module _ {dealt : List (Option Running)} {words : List ℕ} {homes : List (Maybe
       within = omega (arith, k.all, new.within)
 
       change : SlotChange g k.members k.members k.letters k.letters k.most k.flags homes (slice_set homes slot none)
-          views id v (about v.members e) j 1
+          views id (one r) (about r e) j 1
       change = record {
         late = new.late;
         within = within;
         is = is;
-        mine = λ f busy. absurd (cc (idle, busy));
+        mine = λ f busy. absurd (cc busy);
         alone = λ s u f apart at busy same.
             let was = k.slots.abouts s u f at busy in
             let still : f.word ≡ 0 = sym was.word ∙ ap (slice_index k.flags) same ∙ zero in
@@ -306,32 +304,31 @@ module _ {dealt : List (Option Running)} {words : List ℕ} {homes : List (Maybe
           last = omega arith;
         };
         further = further_same k.members;
-        about = λ f busy. subst (IsAbout k.letters (slice_set k.flags j 1) v.members) (same_Some e f busy) (record {
-          word = get_or-set_same k.flags j 1 0 within ∙ sym one;
-          begun = omega (arith, one);
-          member = (r, here, record { gives = λ _. next; takes = λ two. absurd (omega (arith, one, two)) });
-          letter = λ three. absurd (omega (arith, one, three));
+        about = λ f busy. subst (IsAbout k.letters (slice_set k.flags j 1) (Some r ∷ [])) (same_Some e f busy) (record {
+          word = get_or-set_same k.flags j 1 0 within ∙ sym first;
+          begun = omega (arith, first);
+          member = (r, refl, record { gives = λ _. next; takes = λ two. absurd (omega (arith, first, two)) });
+          letter = λ three. absurd (omega (arith, first, three));
         });
         out = λ _. (e, refl, refl);
         joined = λ x four. absurd (omega (arith, four));
       }
 
   -- it puts the slot back, with the letter
-  pub homed : (id : ℕ) (v : View) (e : Errand) (slot index : ℕ) (list : Vec Entry Global) (r : Running)
-      → slice_get views id ≡ Some v → v.errand ≡ Some e → e.word ≡ 1 → present_at v.members e.place ≡ Some r
+  pub homed : (id : ℕ) (e : Errand) (slot index : ℕ) (list : Vec Entry Global) (r : Running)
+      → slice_get views id ≡ Some (about r e) → e.word ≡ 1
       → next_deed r ≡ deeds.Give e.late → slot ≡ slot_number r.replica.late e.late → index ≡ table_size r + e.late
       → list.items ≡ up_to_view r.replica.history
       → HasSuchProgram dealt (slice_set words index 2) (slice_set homes slot (some (Some list)))
-      (slice_set views id (free (with_present v.members e.place (after_step 0 r))))
-  homed id v e slot index list r is busy one here next same_slot same_index items =
-      member_now id v e.place r x k.table (slice_set words index 2) (slice_set k.flags j 2) posts
-      (slice_set homes slot (some (Some list))) is here (same_number r x (after_told 0 r)) (length-set k.flags j 2)
+      (slice_set views id (one (after_step 0 r)))
+  homed id e slot index list r is first next same_slot same_index items =
+      member_now id (about r e) r x k.table (slice_set words index 2) (slice_set k.flags j 2) posts
+      (slice_set homes slot (some (Some list))) is refl (same_number r x (after_told 0 r)) (length-set k.flags j 2)
       (laid_set r index j 2 there same_index)
       (give_ran (begun_program k.opening.group k.opening.setups) k.table k.letters k.members (number r) j r there
       next k.ran)
       (slots_changed g k.members (with_present k.members (number r) x) k.letters posts k.most k.flags homes
-      (slice_set homes slot (some (Some list))) views id v (free (with_present v.members e.place x)) j 2 change
-      k.slots)
+      (slice_set homes slot (some (Some list))) views id (about r e) (one x) j 2 change k.slots)
     where
       g : Group
       g = k.opening.group
@@ -346,7 +343,7 @@ module _ {dealt : List (Option Running)} {words : List ℕ} {homes : List (Maybe
       posts = slice_set k.letters j (Some (up_to_view r.replica.history))
 
       there : present_at k.members (number r) ≡ Some r
-      there = stood id v e.place r is here
+      there = stood id (about r e) r is refl
 
       new : IsNewcomer g kept j
       new = newcomer g kept (number r) j r sound there next
@@ -354,18 +351,18 @@ module _ {dealt : List (Option Running)} {words : List ℕ} {homes : List (Maybe
       at_slot : slot ≡ slot_number (late_members g) j
       at_slot = same_slot ∙ ap (λ mask. slot_number mask j) (of_group r there).late
 
-      first : slice_index k.flags j ≡ 1
-      first = (k.slots.abouts id v e is busy).word ∙ one
+      flag : slice_index k.flags j ≡ 1
+      flag = (k.slots.abouts id (about r e) e is refl).word ∙ first
 
       change : SlotChange g k.members (with_present k.members (number r) x) k.letters posts k.most k.flags homes
-          (slice_set homes slot (some (Some list))) views id v (free (with_present v.members e.place x)) j 2
+          (slice_set homes slot (some (Some list))) views id (about r e) (one x) j 2
       change = record {
         late = new.late;
         within = omega (arith, k.all, new.within);
         is = is;
-        mine = λ f other. ap (λ (z : Errand). z.late) (same_Some f e (sym other ∙ busy));
-        alone = λ s u f apart at other same. apart (gives_alone id v e.place j r is here next s u f at other same
-            (sym (k.slots.abouts s u f at other).word ∙ ap (slice_index k.flags) same ∙ first));
+        mine = λ f other. ap (λ (z : Errand). z.late) (sym (same_Some e f other));
+        alone = λ s u f apart at other same. apart (gives_alone id (about r e) j r is refl next s u f at other same
+            (sym (k.slots.abouts s u f at other).word ∙ ap (slice_index k.flags) same ∙ flag));
         posts_stay = λ i other. present_kept k.letters j i (up_to_view r.replica.history) other;
         homes_stay = λ i late other.
             slot_else g homes slot i j (some (Some list)) k.opening.is at_slot late new.late other;
@@ -376,7 +373,7 @@ module _ {dealt : List (Option Running)} {words : List ℕ} {homes : List (Maybe
           full = λ two. (
             list,
             slot_here homes slot (slot_number (late_members g) j) none (some (Some list)) at_slot
-                ((k.slots.late j new.late).away (inl first)),
+                ((k.slots.late j new.late).away (inl flag)),
             written ∙ ap Some (sym items),
           );
           empty = λ four. absurd (omega (arith, four));
@@ -401,11 +398,10 @@ module _ {dealt : List (Option Running)} {words : List ℕ} {homes : List (Maybe
   -- ---- a letter is taken
 
   -- what is known of a member that is to take its letter
-  pub taker : (id : ℕ) (v : View) (at : ℕ) (r : Running) → slice_get views id ≡ Some v
-      → present_at v.members at ≡ Some r → next_deed r ≡ deeds.Take
-      → IsTaking r × (has (late_members k.opening.group) (number r) ≡ true)
-  taker id v at r is here next =
-      let there = stood id v at r is here in
+  pub taker : (id : ℕ) (v : View) (r : Running) → slice_get views id ≡ Some v → v.members ≡ Some r ∷ []
+      → next_deed r ≡ deeds.Take → IsTaking r × (has (late_members k.opening.group) (number r) ≡ true)
+  taker id v r is here next =
+      let there = stood id v r is here in
       let form = sound.form.form (number r) r there in
       let t = deed_tells k.table r deeds.Take next in
       let takes = taking r form (record { unended = t.none; due = t.says }) in (
@@ -414,22 +410,20 @@ module _ {dealt : List (Option Running)} {words : List ℕ} {homes : List (Maybe
       )
 
   -- of the seats only this one can be about the letter of its member that it saw or has
-  takes_alone : (id : ℕ) (v : View) (at : ℕ) (r : Running) → slice_get views id ≡ Some v
-      → present_at v.members at ≡ Some r
+  takes_alone : (id : ℕ) (v : View) (r : Running) → slice_get views id ≡ Some v → v.members ≡ Some r ∷ []
       → (s : ℕ) (u : View) (e : Errand) → slice_get views s ≡ Some u → u.errand ≡ Some e → e.late ≡ number r
       → 2 ≤ e.word → s ≡ id
-  takes_alone id v at r is here s u e there busy named two =
+  takes_alone id v r is here s u e there busy named two =
       let (q, stands, due) = (k.slots.abouts s u e there busy).member in
-      one_seat s id u v e.place at q r there stands is here ((due.takes two).1 ∙ named)
+      one_seat s id u v q r there stands is here ((due.takes two).1 ∙ named)
 
   -- where the word isn't 2, there is no letter
-  pub no_letter : (id : ℕ) (v : View) (at : ℕ) (r : Running) → slice_get views id ≡ Some v → v.errand ≡ None
-      → present_at v.members at ≡ Some r → next_deed r ≡ deeds.Take → slice_index k.flags (number r) ≢ 2
-      → letters_of k.letters (number r) ≡ None
-  no_letter id v at r is idle here next other = posted.yet few
+  pub no_letter : (id : ℕ) (r : Running) → slice_get views id ≡ Some (one r) → next_deed r ≡ deeds.Take
+      → slice_index k.flags (number r) ≢ 2 → letters_of k.letters (number r) ≡ None
+  no_letter id r is next other = posted.yet few
     where
       take : IsTaking r × (has (late_members k.opening.group) (number r) ≡ true)
-      take = taker id v at r is here next
+      take = taker id (one r) r is refl next
 
       posted : IsPosted k.most (slice_index k.flags (number r))
           (get_elem? homes (slot_number (late_members k.opening.group) (number r))) (letters_of k.letters (number r))
@@ -440,71 +434,67 @@ module _ {dealt : List (Option Running)} {words : List ℕ} {homes : List (Maybe
           let (s, u, e, there, busy, named) = k.slots.out (number r) (inr three) in
           let word : e.word ≡ 3 =
           sym (k.slots.abouts s u e there busy).word ∙ ap (slice_index k.flags) named ∙ three in
-          let mine = takes_alone id v at r is here s u e there busy named (omega (arith, word)) in
+          let mine = takes_alone id (one r) r is refl s u e there busy named (omega (arith, word)) in
           absurd (cc (
-            idle,
             busy,
-            ap (λ (z : View). z.errand) (same_Some v u (sym is ∙ ap (slice_get views) (sym mine) ∙ there)),
+            ap (λ (z : View). z.errand) (same_Some (one r) u (sym is ∙ ap (slice_get views) (sym mine) ∙ there)),
           ))
 
       fourth : slice_index k.flags (number r) ≢ 4
       fourth four =
-          let view = k.slots.joined (number r) r four (stood id v at r is here) in
+          let view = k.slots.joined (number r) r four (stood id (one r) r is refl) in
           absurd (omega (arith, view, take.0.first))
 
       few : slice_index k.flags (number r) < 2
       few = below_two (slice_index k.flags (number r)) posted.last other third fourth
 
   -- it finds none, and its turn ends
-  pub missed : (id : ℕ) (v : View) (at : ℕ) (r : Running) → slice_get views id ≡ Some v → v.errand ≡ None
-      → present_at v.members at ≡ Some r → next_deed r ≡ deeds.Take → letters_of k.letters (number r) ≡ None
-      → HasSuchProgram dealt words homes
-      (slice_set views id (free (with_present v.members at (settled (took_letter None r)))))
-  missed id v at r is idle here next nothing =
+  pub missed : (id : ℕ) (r : Running) → slice_get views id ≡ Some (one r) → next_deed r ≡ deeds.Take
+      → letters_of k.letters (number r) ≡ None
+      → HasSuchProgram dealt words homes (slice_set views id (one (settled (took_letter None r))))
+  missed id r is next nothing =
       let x = settled (took_letter None r) in
       let same : x.replica ≡ r.replica = settle_replica _ (took_letter None r) in
-      member_on id v at r x k.table words is idle here (ap told same)
+      member_on id r x k.table words is (ap told same)
       (subst (λ (q : Replica). r.replica.view ≤ q.view) (sym same) (omega arith)) k.laid
       (take_ran (begun_program k.opening.group k.opening.setups) k.table k.letters k.members (number r) r None
-      (stood id v at r is here) next nothing k.ran)
+      (stood id (one r) r is refl) next nothing k.ran)
 
   -- it sees that the letter is there
-  pub noticed : (id : ℕ) (v : View) (e : Errand) (r : Running) → slice_get views id ≡ Some v → v.errand ≡ None
-      → e.word ≡ 2 → present_at v.members e.place ≡ Some r → next_deed r ≡ deeds.Take → number r ≡ e.late
-      → slice_index k.flags (number r) ≡ 2
-      → HasSuchProgram dealt words homes (slice_set views id (about v.members e))
-  noticed id v e r is idle second here next named two =
-      about_now id v e words k.flags homes is refl k.laid
-      (slots_stay k.opening.group k.members k.members k.letters k.most k.flags homes views id v (about v.members e)
-      is idle (further_same k.members)
-      (λ f busy. subst (IsAbout k.letters k.flags v.members) (same_Some e f busy) (record {
+  pub noticed : (id : ℕ) (e : Errand) (r : Running) → slice_get views id ≡ Some (one r)
+      → e.word ≡ 2 → next_deed r ≡ deeds.Take → number r ≡ e.late → slice_index k.flags (number r) ≡ 2
+      → HasSuchProgram dealt words homes (slice_set views id (about r e))
+  noticed id e r is second next named two =
+      about_now id (one r) r e words k.flags homes is refl refl k.laid
+      (slots_stay k.opening.group k.members k.members k.letters k.most k.flags homes views id (one r) (about r e)
+      is refl (further_same k.members)
+      (λ f busy. subst (IsAbout k.letters k.flags (Some r ∷ [])) (same_Some e f busy) (record {
         word = ap (slice_index k.flags) (sym named) ∙ two ∙ sym second;
         begun = omega (arith, second);
         member = (
           r,
-          here,
-          record { gives = λ one. absurd (omega (arith, second, one)); takes = λ more. (next, named) },
+          refl,
+          record { gives = λ first. absurd (omega (arith, second, first)); takes = λ more. (next, named) },
         );
         letter = λ three. absurd (omega (arith, second, three));
       })) k.slots)
 
   -- it takes the slot, with the letter
-  pub fetched : (id : ℕ) (v : View) (e : Errand) (slot index : ℕ) (r : Running)
-      → slice_get views id ≡ Some v → v.errand ≡ Some e → e.word ≡ 2 → present_at v.members e.place ≡ Some r
-      → next_deed r ≡ deeds.Take → number r ≡ e.late → slot ≡ slot_number r.replica.late e.late
+  pub fetched : (id : ℕ) (e : Errand) (slot index : ℕ) (r : Running) → slice_get views id ≡ Some (about r e)
+      → e.word ≡ 2 → next_deed r ≡ deeds.Take → number r ≡ e.late → slot ≡ slot_number r.replica.late e.late
       → index ≡ table_size r + e.late
       → (list : Vec Entry Global) × (get_elem? homes slot ≡ some (some (Some list)))
       × (letters_of k.letters (number r) ≡ Some list.items)
       × HasSuchProgram dealt (slice_set words index 3) (slice_set homes slot none)
-      (slice_set views id (about v.members (record e { word = 3; letter = list.items })))
-  fetched id v e slot index r is busy two here next named same_slot same_index = (
+      (slice_set views id (about r (record e { word = 3; letter = list.items })))
+  fetched id e slot index r is two next named same_slot same_index = (
     list.0,
     ap (get_elem? homes) at_slot ∙ list.1,
     ap (letters_of k.letters) named ∙ list.2,
-    about_now id v f (slice_set words index 3) (slice_set k.flags j 3) (slice_set homes slot none) is
+    about_now id (about r e) r f (slice_set words index 3) (slice_set k.flags j 3) (slice_set homes slot none) is refl
         (length-set k.flags j 3) (laid_set r index j 3 there same_index)
         (slots_changed g k.members k.members k.letters k.letters k.most k.flags homes (slice_set homes slot none)
-        views id v (about v.members f) j 3 change k.slots),
+        views id (about r e) (about r f) j 3 change k.slots),
   )
     where
       g : Group
@@ -514,16 +504,16 @@ module _ {dealt : List (Option Running)} {words : List ℕ} {homes : List (Maybe
       j = e.late
 
       there : present_at k.members (number r) ≡ Some r
-      there = stood id v e.place r is here
+      there = stood id (about r e) r is refl
 
       late : has (late_members g) j ≡ true
-      late = ap (has (late_members g)) (sym named) ∙ (taker id v e.place r is here next).1
+      late = ap (has (late_members g)) (sym named) ∙ (taker id (about r e) r is refl next).1
 
       at_slot : slot ≡ slot_number (late_members g) j
       at_slot = same_slot ∙ ap (λ mask. slot_number mask j) (of_group r there).late
 
       second : slice_index k.flags j ≡ 2
-      second = (k.slots.abouts id v e is busy).word ∙ two
+      second = (k.slots.abouts id (about r e) e is refl).word ∙ two
 
       list : (list : Vec Entry Global) × (get_elem? homes (slot_number (late_members g) j) ≡ some (some (Some list)))
           × (letters_of k.letters j ≡ Some list.items)
@@ -536,15 +526,15 @@ module _ {dealt : List (Option Running)} {words : List ℕ} {homes : List (Maybe
       within = omega (arith, k.all, in_roster g j k.opening.is (late_in g j k.opening.is late).0)
 
       change : SlotChange g k.members k.members k.letters k.letters k.most k.flags homes (slice_set homes slot none)
-          views id v (about v.members f) j 3
+          views id (about r e) (about r f) j 3
       change = record {
         late = late;
         within = within;
         is = is;
-        mine = λ o other. ap (λ (z : Errand). z.late) (same_Some o e (sym other ∙ busy));
+        mine = λ o other. ap (λ (z : Errand). z.late) (sym (same_Some e o other));
         alone = λ s u o apart at other same.
             let word : o.word ≡ 2 = sym (k.slots.abouts s u o at other).word ∙ ap (slice_index k.flags) same ∙ second in
-            apart (takes_alone id v e.place r is here s u o at other (same ∙ sym named) (omega (arith, word)));
+            apart (takes_alone id (about r e) r is refl s u o at other (same ∙ sym named) (omega (arith, word)));
         posts_stay = λ i other. refl;
         homes_stay = λ i one other. slot_else g homes slot i j none k.opening.is at_slot one late other;
         posted = record {
@@ -557,13 +547,13 @@ module _ {dealt : List (Option Running)} {words : List ℕ} {homes : List (Maybe
           last = omega arith;
         };
         further = further_same k.members;
-        about = λ o busy. subst (IsAbout k.letters (slice_set k.flags j 3) v.members) (same_Some f o busy) (record {
+        about = λ o busy. subst (IsAbout k.letters (slice_set k.flags j 3) (Some r ∷ [])) (same_Some f o busy) (record {
           word = get_or-set_same k.flags j 3 0 within;
           begun = omega arith;
           member = (
             r,
-            here,
-            record { gives = λ one. absurd (omega (arith, one)); takes = λ more. (next, named) },
+            refl,
+            record { gives = λ first. absurd (omega (arith, first)); takes = λ more. (next, named) },
           );
           letter = λ three. list.2;
         });
@@ -572,20 +562,19 @@ module _ {dealt : List (Option Running)} {words : List ℕ} {homes : List (Maybe
       }
 
   -- it puts the slot back, empty, and has joined
-  pub returned : (id : ℕ) (v : View) (e : Errand) (slot index : ℕ) (r : Running)
-      → slice_get views id ≡ Some v → v.errand ≡ Some e → e.word ≡ 3 → present_at v.members e.place ≡ Some r
-      → next_deed r ≡ deeds.Take → number r ≡ e.late → slot ≡ slot_number r.replica.late e.late
+  pub returned : (id : ℕ) (e : Errand) (slot index : ℕ) (r : Running) → slice_get views id ≡ Some (about r e)
+      → e.word ≡ 3 → next_deed r ≡ deeds.Take → number r ≡ e.late → slot ≡ slot_number r.replica.late e.late
       → index ≡ table_size r + e.late
       → HasSuchProgram dealt (slice_set words index 4) (slice_set homes slot (some None))
-      (slice_set views id (free (with_present v.members e.place (settled (took_letter (Some e.letter) r)))))
-  returned id v e slot index r is busy three here next named same_slot same_index =
-      member_now id v e.place r x k.table (slice_set words index 4) (slice_set k.flags j 4) k.letters
-      (slice_set homes slot (some None)) is here (same_number r x same) (length-set k.flags j 4)
+      (slice_set views id (one (settled (took_letter (Some e.letter) r))))
+  returned id e slot index r is three next named same_slot same_index =
+      member_now id (about r e) r x k.table (slice_set words index 4) (slice_set k.flags j 4) k.letters
+      (slice_set homes slot (some None)) is refl (same_number r x same) (length-set k.flags j 4)
       (laid_set r index j 4 there same_index)
       (take_ran (begun_program k.opening.group k.opening.setups) k.table k.letters k.members (number r) r
       (Some e.letter) there next letter k.ran)
       (slots_changed g k.members (with_present k.members (number r) x) k.letters k.letters k.most k.flags homes
-      (slice_set homes slot (some None)) views id v (free (with_present v.members e.place x)) j 4 change k.slots)
+      (slice_set homes slot (some None)) views id (about r e) (one x) j 4 change k.slots)
     where
       g : Group
       g = k.opening.group
@@ -597,10 +586,10 @@ module _ {dealt : List (Option Running)} {words : List ℕ} {homes : List (Maybe
       x = settled (took_letter (Some e.letter) r)
 
       there : present_at k.members (number r) ≡ Some r
-      there = stood id v e.place r is here
+      there = stood id (about r e) r is refl
 
       take : IsTaking r × (has (late_members g) (number r) ≡ true)
-      take = taker id v e.place r is here next
+      take = taker id (about r e) r is refl next
 
       late : has (late_members g) j ≡ true
       late = ap (has (late_members g)) (sym named) ∙ take.1
@@ -609,10 +598,10 @@ module _ {dealt : List (Option Running)} {words : List ℕ} {homes : List (Maybe
       at_slot = same_slot ∙ ap (λ mask. slot_number mask j) (of_group r there).late
 
       third : slice_index k.flags j ≡ 3
-      third = (k.slots.abouts id v e is busy).word ∙ three
+      third = (k.slots.abouts id (about r e) e is refl).word ∙ three
 
       letter : letters_of k.letters (number r) ≡ Some e.letter
-      letter = ap (letters_of k.letters) named ∙ (k.slots.abouts id v e is busy).letter three
+      letter = ap (letters_of k.letters) named ∙ (k.slots.abouts id (about r e) e is refl).letter three
 
       fits : IsLetterFor r.replica e.letter
       fits = letters_are g kept k.opening.is sound.form sound.reached (number r) r e.letter there take.0.outside letter
@@ -627,15 +616,15 @@ module _ {dealt : List (Option Running)} {words : List ℕ} {homes : List (Maybe
       later = subst (λ (q : Replica). 0 < q.view) (sym replica) fits.later
 
       change : SlotChange g k.members (with_present k.members (number r) x) k.letters k.letters k.most k.flags homes
-          (slice_set homes slot (some None)) views id v (free (with_present v.members e.place x)) j 4
+          (slice_set homes slot (some None)) views id (about r e) (one x) j 4
       change = record {
         late = late;
         within = omega (arith, k.all, in_roster g j k.opening.is (late_in g j k.opening.is late).0);
         is = is;
-        mine = λ o other. ap (λ (z : Errand). z.late) (same_Some o e (sym other ∙ busy));
+        mine = λ o other. ap (λ (z : Errand). z.late) (sym (same_Some e o other));
         alone = λ s u o apart at other same.
             let word : o.word ≡ 3 = sym (k.slots.abouts s u o at other).word ∙ ap (slice_index k.flags) same ∙ third in
-            apart (takes_alone id v e.place r is here s u o at other (same ∙ sym named) (omega (arith, word)));
+            apart (takes_alone id (about r e) r is refl s u o at other (same ∙ sym named) (omega (arith, word)));
         posts_stay = λ i other. refl;
         homes_stay = λ i one other. slot_else g homes slot i j (some None) k.opening.is at_slot one late other;
         posted = record {

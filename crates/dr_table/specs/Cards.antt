@@ -1,14 +1,13 @@
 -- What contracts see of boards and hands.
-use Rattle.std.specs.Prelude.{◌≡◌, ◌<◌, ◌+◌, ◌-◌, ℕ, IsTrue, List, is_some, map, replicate, Some, Option, option_map}
+use Rattle.std.specs.Prelude.{◌≡◌, ◌+◌, ◌-◌, ℕ, IsTrue, List, is_some, map, replicate, Some, Option, option_map}
 use Rattle.dr_entry.specs.declared.entry.Entry.{Entry}
 use Rattle.atomic_table.specs.Seated.{TableId}
 use Rattle.dr_member.specs.Deeds.{table_size}
 use Rattle.dr_program.specs.Program.{Program}
-use Rattle.dr_program.specs.Running.{Running, after_step, settled, took_letter}
-use Rattle.dr_turn.specs.Work.{deeds_left}
+use Rattle.dr_program.specs.Running.{Running, settled, took_letter}
 use Rattle.dr_table.specs.Rule.{no_posts, number}
-use Rattle.dr_table.specs.Steps.{FindsLetter, IsReachedMember}
-use Rattle.dr_program.specs.Presence.{present_at, with_present}
+use Rattle.dr_table.specs.Steps.{IsReachedMember, MayTake}
+use Rattle.dr_program.specs.Presence.{present_at}
 
 -- which table it is, and how many places were dealt over it
 pub record DealtTable : Type 0 where
@@ -20,6 +19,11 @@ pub record DealtTable : Type 0 where
 pub record Cards : Type 0 where
   pub table : DealtTable
   pub members : List (Option Running)
+
+-- a table, and a member over its words
+pub record Seated : Type 0 where
+  pub table : DealtTable
+  pub member : Running
 
 -- the program as the age opens: the dealt members, over words that are all 0, without letters. One word more for each
 -- of its places stands behind its table
@@ -38,10 +42,6 @@ board_size r = table_size r + r.replica.roster
 abbrev pub AreOf : ℕ → List (Option Running) → Type 0
 AreOf words members = (k : ℕ) (r : Running) → present_at members k ≡ Some r → board_size r ≡ words
 
--- what is so of the member at this place
-abbrev pub AtPlace : List (Option Running) → ℕ → (Running → Type 0) → Type 0
-AtPlace members at P = (r : Running) → present_at members at ≡ Some r → P r
-
 -- each is a member of a program in a world that is reached
 abbrev pub AreReached : List (Option Running) → Type 0
 AreReached members = (k : ℕ) (r : Running) → present_at members k ≡ Some r → IsReachedMember r
@@ -57,16 +57,6 @@ AreAtEnd members = (k : ℕ) (r : Running) → present_at members k ≡ Some r �
 abbrev pub AreSame : List (Option Running) → List (Option Running) → Type 0
 AreSame before after = map (option_map number) after ≡ map (option_map number) before
 
--- the member at this place of a hand has done what it was due to do, and saw nothing
-abbrev pub HasGoneOn : List (Option Running) → ℕ → List (Option Running) → Type 0
-HasGoneOn old at new = (r : Running) → present_at old at ≡ Some r → new ≡ with_present old at (after_step 0 r)
-
--- the member at this place has taken the letter that it found, or has found none
-abbrev pub HasAskedForLetter : List (Option Running) → ℕ → List (Option Running) → Type 0
-HasAskedForLetter old at new = (r : Running) → present_at old at ≡ Some r → (letter : Option (List Entry))
-    × FindsLetter old r letter × (new ≡ with_present old at (settled (took_letter letter r)))
-
--- it has fewer deeds left to do
-abbrev pub HasFewerLeft : List (Option Running) → ℕ → List (Option Running) → Type 0
-HasFewerLeft old at new = (r q : Running) → present_at old at ≡ Some r → present_at new at ≡ Some q
-    → deeds_left q < deeds_left r
+-- the member has taken the letter that it found, or has found none
+abbrev pub HasAskedForLetter : Running → Running → Type 0
+HasAskedForLetter r q = (letter : Option (List Entry)) × MayTake r letter × (q ≡ settled (took_letter letter r))

@@ -1,5 +1,5 @@
 -- The slots of a table, in which late members get their letters, and the words that go with them.
-use Rattle.std.specs.Prelude.{◌≡◌, ◌⊎◌, ◌<◌, ◌≤◌, ℕ, true, false, List, [], length, slice_get, slice_index, Option, None, Some, Vec, vec_capacity}
+use Rattle.std.specs.Prelude.{◌≡◌, ◌⊎◌, ◌<◌, ◌≤◌, ℕ, true, false, List, [], ◌∷◌, length, slice_get, slice_index, Option, None, Some, Vec, vec_capacity}
 use Rattle.std.specs.declared.alloc.Global.{Global}
 use Rattle.dr_entry.specs.declared.entry.Entry.{Entry}
 use Rattle.dr_history.specs.Members.{has, members_below}
@@ -49,12 +49,13 @@ pub record IsDueFor (r : Running) (e : Errand) : Type 0 where
   pub gives : e.word ≡ 1 → next_deed r ≡ deeds.Give e.late
   pub takes : 2 ≤ e.word → (next_deed r ≡ deeds.Take) × (me r.replica ≡ e.late)
 
--- a seat with these members is about such a letter, where the late members have these letters and words
+-- a seat with these members, which are one, is about such a letter, where the late members have these letters and
+-- words
 pub record IsAbout (letters : List (Option (List Entry))) (flags : List ℕ) (members : List (Option Running))
     (e : Errand) : Type 0 where
   pub word : slice_index flags e.late ≡ e.word
   pub begun : 1 ≤ e.word
-  pub member : (r : Running) × (present_at members e.place ≡ Some r) × IsDueFor r e
+  pub member : (r : Running) × (members ≡ Some r ∷ []) × IsDueFor r e
   pub letter : e.word ≡ 3 → letters_of letters e.late ≡ Some e.letter
 
 -- some seat is about the letter of this member

@@ -1,10 +1,9 @@
 -- What steps make of the members of a seat, and what they tell.
-use Rattle.std.specs.Prelude.{◌≡◌, ◌≢◌, ◌⊎◌, ◌+◌, ◌<◌, ℕ, true, List, [], ◌∷◌, length, None, Some, Option, Vec, is_some}
+use Rattle.std.specs.Prelude.{◌≡◌, ◌≢◌, ◌⊎◌, ◌+◌, ◌<◌, ℕ, true, List, [], ◌∷◌, None, Some, Option, Vec}
 use Rattle.std.specs.declared.alloc.Global.{Global}
 use Rattle.atomic_table.specs.Table.{Me}
 use Rattle.dr_age.specs.Sound.{IsSound}
 use Rattle.dr_entry.specs.declared.entry.Entry.{Entry}
-use Rattle.dr_history.specs.Members.{has}
 use Rattle.dr_machine.specs.Group.{Group}
 use Rattle.dr_machine.specs.World.{no_value}
 use Rattle.dr_member.specs.Deeds.{is_append, table_size}
@@ -15,15 +14,19 @@ use Rattle.dr_table.specs.declared.rule.Errand.{Errand}
 use Rattle.dr_table.specs.declared.rule.View.{View}
 use Rattle.dr_table.specs.Rule.{number}
 use Rattle.dr_table.specs.Slots.{IsBlankList, Slot, slot_number}
-use Rattle.dr_program.specs.Presence.{present_at, with_present}
+use Rattle.dr_program.specs.Presence.{present_at}
 
 -- a seat with these members that is about no letter and holds no slot
 abbrev pub idle : List (Option Running) → Me Slot View
 idle members = (record { members = members; errand = None }, [])
 
--- a seat with these members that is about this letter and holds these slots
-abbrev pub busy : List (Option Running) → Errand → List (ℕ × Slot) → Me Slot View
-busy members e slots = (record { members = members; errand = Some e }, slots)
+-- such a seat with this member alone
+abbrev pub alone : Running → Me Slot View
+alone r = idle (Some r ∷ [])
+
+-- a seat with this member alone that is about this letter and holds these slots
+abbrev pub busy : Running → Errand → List (ℕ × Slot) → Me Slot View
+busy r e slots = (record { members = Some r ∷ []; errand = Some e }, slots)
 
 -- the seat holds the slot of the late member whose letter it is about, with this in it, and nothing else
 abbrev pub holds_slot : Running → Errand → Slot → List (ℕ × Slot)
@@ -52,54 +55,37 @@ MayFind r word = (g : Group) × (p : Program) × IsOfProgram g p r × (next_sigh
 abbrev pub MayTake : Running → Option (List Entry) → Type 0
 MayTake r letter = (g : Group) × (p : Program) × IsOfProgram g p r × (letter_for p (number r) ≡ letter)
 
--- what r finds that asks for its letter, as one of the hand of these members: this letter, or none
-pub record FindsLetter (members : List (Option Running)) (r : Running) (letter : Option (List Entry))
-    : Type 0 where
-  -- some such program has just that for it
-  pub may : MayTake r letter
-  -- there is one, where a member of the hand has given it one, in the view in which that one is
-  pub given : (k : ℕ) (q : Running) → present_at members k ≡ Some q → has q.replica.given (number r) ≡ true
-      → is_some letter ≡ true
+-- the member, now r, has looked at this word
+abbrev pub Looked : Running → ℕ → Me Slot View → Type 0
+Looked r word after = (after ≡ alone (after_step word r)) × MayFind r word
 
--- the member at this place, now r, has looked at this word
-abbrev pub Looked : ℕ → Running → Me Slot View → ℕ → Me Slot View → Type 0
-Looked at r me word after =
-    (after ≡ idle (with_present me.0.members at (after_step word r))) × MayFind r word
-
--- the member at this place, now r, has stored the word of its deed
-abbrev pub Stored : ℕ → Running → Me Slot View → Me Slot View → Type 0
-Stored at r me after = after ≡ idle (with_present me.0.members at (after_step 0 r))
+-- it has stored the word of its deed
+abbrev pub Stored : Running → Me Slot View → Type 0
+Stored r after = after ≡ alone (after_step 0 r)
 
 -- the member, now r, which is to give a letter has taken the slot, with a list into which its history fits
-abbrev pub Opened : Errand → Running → Me Slot View → Me Slot View → Type 0
-Opened e r me after = (list : Vec Entry Global) × IsBlankList r.replica.room list
-    × (after ≡ busy (with_present me.0.members e.place r) e (holds_slot r e (Some list)))
-
--- it has put the slot back, and given the letter
-abbrev pub Homed : Errand → Running → Me Slot View → Me Slot View → Type 0
-Homed e r me after = after ≡ idle (with_present me.0.members e.place (after_step 0 r))
+abbrev pub Opened : Errand → Running → Me Slot View → Type 0
+Opened e r after = (list : Vec Entry Global) × IsBlankList r.replica.room list
+    × (after ≡ busy r e (holds_slot r e (Some list)))
 
 -- the member, now r, which is to take its letter saw that it is there; or that it isn't, which was its take
-abbrev pub Peeked : Errand → Running → Me Slot View → ℕ → Me Slot View → Type 0
-Peeked e r me word after =
-    ((word ≡ 2) × (after ≡ busy (with_present me.0.members e.place r) e []))
-    ⊎ ((word ≢ 2) × FindsLetter (with_present me.0.members e.place r) r None
-    × (after ≡ idle (with_present me.0.members e.place (settled (took_letter None r)))))
+abbrev pub Peeked : Errand → Running → ℕ → Me Slot View → Type 0
+Peeked e r word after = ((word ≡ 2) × (after ≡ busy r e []))
+    ⊎ ((word ≢ 2) × MayTake r None × (after ≡ alone (settled (took_letter None r))))
 
 -- it has taken its slot, with its letter
-abbrev pub Fetched : Errand → Running → Me Slot View → Me Slot View → Type 0
-Fetched e r me after = (list : Vec Entry Global) × MayTake r (Some list.items)
-    × (after ≡ busy me.0.members (record e { word = 3; letter = list.items }) (holds_slot r e (Some list)))
+abbrev pub Fetched : Errand → Running → Me Slot View → Type 0
+Fetched e r after = (list : Vec Entry Global) × MayTake r (Some list.items)
+    × (after ≡ busy r (record e { word = 3; letter = list.items }) (holds_slot r e (Some list)))
 
 -- it has its letter, and nothing is in the slot that it holds
 abbrev pub HasFetched : Errand → Running → Me Slot View → Type 0
 HasFetched e r me = (letter : List Entry)
-    × (me ≡ busy me.0.members (record e { word = 3; letter = letter }) (holds_slot r e None))
+    × (me ≡ busy r (record e { word = 3; letter = letter }) (holds_slot r e None))
 
 -- it has put the slot back, and taken the letter that it has
-abbrev pub Returned : Errand → Running → Me Slot View → Me Slot View → Type 0
-Returned e r me after = (f : Errand) → me.0.errand ≡ Some f
-    → after ≡ idle (with_present me.0.members e.place (settled (took_letter (Some f.letter) r)))
+abbrev pub Returned : Running → Me Slot View → Me Slot View → Type 0
+Returned r me after = (f : Errand) → me.0.errand ≡ Some f → after ≡ alone (settled (took_letter (Some f.letter) r))
 
 -- q is r after these appends
 abbrev pub HasAppended : List Outcome → Running → Running → Type 0
@@ -110,15 +96,9 @@ HasAppended (o ∷ os) r q = (is_append (next_deed r) ≡ true) × HasAppended o
 abbrev pub IsAhead : Running → Running → Type 0
 IsAhead r q = (os : List Outcome) × HasAppended os r q
 
--- so it is place by place
-pub record AreAhead (v members : List (Option Running)) : Type 0 where
-  pub all : length v ≡ length members
-  pub places : (k : ℕ) → is_some (present_at members k) ≡ is_some (present_at v k)
-  pub each : (k : ℕ) (r q : Running) → present_at v k ≡ Some r → present_at members k ≡ Some q → IsAhead r q
-
 -- an errand for seats that are about nothing
 abbrev pub no_errand : Errand
-no_errand = record { place = 0; late = 0; word = 0; letter = [] }
+no_errand = record { late = 0; word = 0; letter = [] }
 
 -- a member for places at which nobody stands
 abbrev pub nobody : Running

@@ -1,11 +1,13 @@
 -- Sweeps: looks and pushes that a member takes one after the other.
-use Rattle.std.specs.Prelude.{◌≡◌, ℕ, List, [], ◌∷◌, Some, Option}
+use Rattle.std.specs.Prelude.{◌≡◌, ℕ, List, [], ◌∷◌}
+use Rattle.atomic_table.specs.Table.{Me}
 use Rattle.dr_program.specs.declared.deed.Deed.{Deed}
 use Rattle.dr_program.specs.declared.deed.Deed.TheVariants as deeds
 use Rattle.dr_program.specs.Running.{Running, after_step, next_deed}
 use Rattle.dr_table.specs.Cards.{board_size}
-use Rattle.dr_table.specs.Steps.{IsAhead, IsReachedMember, MayFind}
-use Rattle.dr_program.specs.Presence.{present_at, with_present}
+use Rattle.dr_table.specs.declared.rule.View.{View}
+use Rattle.dr_table.specs.Slots.{Slot}
+use Rattle.dr_table.specs.Steps.{IsAhead, IsReachedMember, MayFind, alone}
 
 -- the deed is a look or a push
 abbrev pub IsSwept : Deed → Type 0
@@ -18,16 +20,13 @@ abbrev pub HasTaken : List ℕ → Running → Running → Type 0
 HasTaken [] r q = r ≡ q
 HasTaken (word ∷ words) r q = IsSwept (next_deed r) × MayFind r word × HasTaken words (after_step word r) q
 
--- the member at this place of a hand has taken some looks and pushes
-abbrev pub HasSwept : List (Option Running) → ℕ → List (Option Running) → Type 0
-HasSwept old at new = (r : Running) → present_at old at ≡ Some r
-    → (words : List ℕ) × (q : Running) × HasTaken words r q × (new ≡ with_present old at q)
+-- the member has taken some looks and pushes
+abbrev pub HasSwept : Running → Running → Type 0
+HasSwept r q = (words : List ℕ) × HasTaken words r q
 
--- a seat that knew the hand v knows w, and the member at this place, which was `from`, is q now: it has taken
--- some looks and pushes, over a board of so many words
-pub record HasComeBySweep (size : ℕ) (v : List (Option Running)) (from : Running)
-    (w : List (Option Running)) (at : ℕ) (q : Running) : Type 0 where
-  pub taken : (words : List ℕ) × HasTaken words from q
-  pub seat : (r : Running) × IsAhead r q × (present_at w at ≡ Some r) × (w ≡ with_present v at r)
+-- a member that was `from` is q now, by some looks and pushes from this seat, over a board of so many words
+pub record HasComeBySweep (size : ℕ) (from : Running) (me : Me Slot View) (q : Running) : Type 0 where
+  pub taken : HasSwept from q
+  pub seat : (r : Running) × (me ≡ alone r) × IsAhead r q
   pub reached : IsReachedMember q
   pub of : board_size q ≡ size

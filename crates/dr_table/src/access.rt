@@ -9,22 +9,20 @@ use std::marker::Brand;
 
 impl Access<Board> for Seat<Slot, View> {
     ghost use Rattle.std.specs.Prelude.{◌≡◌};
-    ghost use Rattle.dr_table.specs.Steps.{idle};
     ghost use Rattle.dr_table.specs.Sweeps.{HasComeBySweep};
 
     ghost home = { λ seat board. seat.table_id ≡ board.table.id };
 
-    ghost came = { λ first from seat at now.
-        (seat.table_id ≡ first.table_id) × (seat.me ≡ idle seat.me.0.members)
-        × HasComeBySweep seat.table_id.words first.me.0.members from seat.me.0.members at now };
+    ghost came = { λ first from seat _ now.
+        (seat.table_id ≡ first.table_id) × HasComeBySweep seat.table_id.words from seat.me now };
 
     #[inline(always)]
-    fn look(&mut self, board: &Board, at: usize, now: &Standing<'_>, word: usize) -> u64 {
-        look_at::<Brand>(board, self, at, now, word)
+    fn look(&mut self, board: &Board, _at: usize, now: &Standing<'_>, word: usize) -> u64 {
+        look_at::<Brand>(board, self, now, word)
     }
 
     #[inline(always)]
-    fn push(&mut self, board: &Board, at: usize, now: &Standing<'_>, word: usize, new: u64) {
-        store_at::<Brand>(board, self, at, now, word, new);
+    fn push(&mut self, board: &Board, _at: usize, now: &Standing<'_>, word: usize, new: u64) {
+        store_at::<Brand>(board, self, now, word, new);
     }
 }

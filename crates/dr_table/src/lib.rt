@@ -8,15 +8,16 @@
 //!
 //! The rule names the members that were dealt. They are told to the table when it is made, and stand in
 //! proofs alone from then on; so the program from which deeds are counted is never read back out of members
-//! that run. A hand may be ahead of its seat by appends, which touch no word; they are counted with the next
-//! step of their member. There is never more than one, but the definition allows any number, so no law on
-//! what follows an append is needed.
+//! that run. A hand is of members before their first deeds or behind their last ones, and is cut and put
+//! together; a deed is of a seated member, the one of a hand of one. It may be ahead of its seat by appends,
+//! which touch no word; they are counted with its next step. There is never more than one, but the definition
+//! allows any number, so no law on what follows an append is needed.
 //!
-//! A step carries the place in the hand and the member there, and makes of the seat's list that list with one
-//! member replaced. A push and an act are one kind, a store. What a look tells is a word that a program of
-//! the group, in a reached world, has there: from this follow the member's condition on looks and that its
-//! next record is valid. A join of two hands looks at a word once more than it must: so it learns that it has
-//! no more members than the roster, its list has room, and a join can't fail.
+//! A step carries the member as it is: the seat has it alone, so nothing says where it stands in a list. A
+//! push and an act are one kind, a store. What a look tells is a word that a program of the group, in a
+//! reached world, has there: from this follow the member's condition on looks and that its next record is
+//! valid. A join of two hands looks at a word once more than it must: so it learns that it has no more members
+//! than the roster, its list has room, and a join can't fail.
 #![tactic(auto)]
 
 mod access;
@@ -25,6 +26,8 @@ mod hand;
 mod moves;
 mod posts;
 mod rule;
+mod seated;
 
 pub use board::{Board, close, deal};
 pub use hand::{Hand, gather_hands};
+pub use seated::SeatedMember;

@@ -1,61 +1,53 @@
 //! The steps on the table, one for each kind.
-ghost use Rattle.std.specs.Prelude.{◌≡◌, ◌<◌, ◌≤◌, drop, length, Some, take};
+ghost use Rattle.std.specs.Prelude.{◌≡◌, ◌<◌, ◌≤◌, drop, length, take};
 ghost use Rattle.dr_member.specs.Deeds.{table_size};
 ghost use Rattle.dr_program.specs.declared.deed.Deed.TheVariants.{Look};
 ghost use Rattle.dr_program.specs.Running.{Running, next_deed};
 ghost use Rattle.dr_table.specs.Deeds.{IsStore};
-ghost use Rattle.dr_table.specs.Steps.{IsAhead, Looked, Stored, idle};
-ghost use Rattle.dr_program.specs.Presence.{present_at};
+ghost use Rattle.dr_table.specs.Steps.{IsAhead, Looked, Stored, alone, idle};
 
 use crate::board::Board;
-use crate::rule::{Counts, Cuts, Looks, Place, Slot, Stores, View};
+use crate::rule::{Counts, Cuts, Looks, Mover, Place, Slot, Stores, View};
 use atomic_table::Seat;
 use dr_member::Standing;
 
-/// The member at a place of the seat's hand, which may have made appends since the seat's last step,
-/// looks at a word.
+/// The member of a seat, which may have made appends since the seat's last step, looks at a word.
 #[inline(always)]
-pub(crate) fn look_at<J: Place>(
+pub(crate) fn look_at<J: Mover>(
     board: &Board,
     seat: &mut Seat<Slot, View>,
-    i: usize,
     member: &Standing<'_>,
     word: usize,
 ) -> u64
-    requires at { i ≡ J.at }
     requires now { member.now ≡ J.now }
     requires table { seat.old.table_id ≡ board.now.table.id }
-    requires idle { seat.old.me ≡ idle seat.old.me.0.members }
+    requires alone { (r : Running) × (seat.old.me ≡ alone r) × IsAhead r member.now }
     requires word { word < board.now.table.id.words }
     requires within { word < table_size member.now }
-    requires there { (r : Running) × (present_at seat.old.me.0.members i ≡ Some r) × IsAhead r member.now }
     requires deed { next_deed member.now ≡ Look word }
     ensures table { seat.new.table_id ≡ seat.old.table_id }
-    ensures looked { Looked i member.now seat.old.me result seat.new.me }
+    ensures looked { Looked member.now result seat.new.me }
 {
     board.table.shared.load::<Looks<J>>(seat, word)
 }
 
 /// The same for a deed that stores a word.
 #[inline(always)]
-pub(crate) fn store_at<J: Place>(
+pub(crate) fn store_at<J: Mover>(
     board: &Board,
     seat: &mut Seat<Slot, View>,
-    i: usize,
     member: &Standing<'_>,
     word: usize,
     new: u64,
 )
-    requires at { i ≡ J.at }
     requires now { member.now ≡ J.now }
     requires table { seat.old.table_id ≡ board.now.table.id }
-    requires idle { seat.old.me ≡ idle seat.old.me.0.members }
+    requires alone { (r : Running) × (seat.old.me ≡ alone r) × IsAhead r member.now }
     requires word { word < board.now.table.id.words }
     requires within { word < table_size member.now }
-    requires there { (r : Running) × (present_at seat.old.me.0.members i ≡ Some r) × IsAhead r member.now }
     requires deed { IsStore word new (next_deed member.now) }
     ensures table { seat.new.table_id ≡ seat.old.table_id }
-    ensures stored { Stored i member.now seat.old.me seat.new.me }
+    ensures stored { Stored member.now seat.new.me }
 {
     board.table.shared.store::<Stores<J>>(seat, word, new);
 }

@@ -15,12 +15,11 @@ ghost use Rattle.dr_form.specs.Letters.{IsFitting};
 ghost use Rattle.dr_history.specs.History.{up_to_view};
 ghost use Rattle.dr_member.specs.Deeds.{is_take, table_size};
 ghost use Rattle.dr_turn.specs.Work.{deeds_left};
-ghost use Rattle.dr_program.specs.Presence.{present_at, with_present};
 ghost use Rattle.dr_program.specs.Replica.{me};
 ghost use Rattle.dr_program.specs.Running.{Running, after_step, next_deed, settled, took_letter};
 ghost use Rattle.dr_table.specs.Cards.{board_size};
 ghost use Rattle.dr_table.specs.Slots.{IsBlankList, IsDueFor};
-ghost use Rattle.dr_table.specs.Steps.{FindsLetter, HasFetched, IsAhead, IsLetterAt, IsReachedMember, MayTake, Peeked, Returned, busy, idle};
+ghost use Rattle.dr_table.specs.Steps.{HasFetched, IsAhead, IsLetterAt, IsReachedMember, MayTake, Peeked, Returned, alone, busy};
 
 use crate::board::Board;
 use crate::rule::{Fetches, Homes, Opens, Peeks, Posting, Returns, Slot, View};
@@ -28,25 +27,22 @@ use atomic_table::Seat;
 use dr_entry::Entry;
 use dr_member::Member;
 
-/// The member at a place of the seat's hand, which may have made appends since the seat's last step, gives a late
-/// member its letter.
+/// The member of a seat, which may have made appends since the seat's last step, gives a late member its letter.
 pub(crate) fn give_at<J: Posting>(
     board: &Board,
     seat: &mut Seat<Slot, View>,
-    i: usize,
     member: &Member,
     late: u8,
 )
-    requires errand { (J.errand.place ≡ i) × (J.errand.late ≡ late) × (J.errand.word ≡ 1) }
+    requires errand { (J.errand.late ≡ late) × (J.errand.word ≡ 1) }
     requires now { J.now ≡ member.now }
     requires table { seat.old.table_id ≡ board.now.table.id }
-    requires idle { seat.old.me ≡ idle seat.old.me.0.members }
-    requires there { (r : Running) × (present_at seat.old.me.0.members J.errand.place ≡ Some r) × IsAhead r J.now }
+    requires alone { (r : Running) × (seat.old.me ≡ alone r) × IsAhead r J.now }
     requires reached { IsReachedMember J.now }
     requires size { board_size J.now ≡ board.now.table.id.words }
     requires due { IsDueFor J.now J.errand }
     ensures table { seat.new.table_id ≡ seat.old.table_id }
-    ensures given { seat.new.me ≡ idle (with_present seat.old.me.0.members J.errand.place (after_step 0 J.now)) }
+    ensures given { seat.new.me ≡ alone (after_step 0 J.now) }
 {
     let word = member.table_words() + usize::from(late);
     let slot = usize::from(member.late().rank_of(late));
@@ -55,27 +51,23 @@ pub(crate) fn give_at<J: Posting>(
     home_at::<J>(board, seat, word, slot, letter);
 }
 
-/// The late member at a place of the seat's hand, which may have made appends since the seat's last step, takes its
-/// letter, where one is there.
+/// The late member of a seat, which may have made appends since the seat's last step, takes its letter, where one is
+/// there.
 pub(crate) fn take_at<J: Posting>(
     board: &Board,
     seat: &mut Seat<Slot, View>,
-    i: usize,
     member: &Member,
 ) -> Slot
-    requires errand { (J.errand.place ≡ i) × (J.errand.late ≡ me member.now.replica) × (J.errand.word ≡ 2) }
+    requires errand { (J.errand.late ≡ me member.now.replica) × (J.errand.word ≡ 2) }
     requires now { J.now ≡ member.now }
     requires table { seat.old.table_id ≡ board.now.table.id }
-    requires idle { seat.old.me ≡ idle seat.old.me.0.members }
-    requires there { (r : Running) × (present_at seat.old.me.0.members J.errand.place ≡ Some r) × IsAhead r J.now }
+    requires alone { (r : Running) × (seat.old.me ≡ alone r) × IsAhead r J.now }
     requires reached { IsReachedMember J.now }
     requires size { board_size J.now ≡ board.now.table.id.words }
     requires due { IsDueFor J.now J.errand }
     ensures table { seat.new.table_id ≡ seat.old.table_id }
-    ensures finds { FindsLetter (with_present seat.old.me.0.members J.errand.place J.now) J.now
-        (option_map (λ list. list.items) result) }
-    ensures taken { seat.new.me ≡ idle (with_present seat.old.me.0.members J.errand.place
-        (settled (took_letter (option_map (λ list. list.items) result) J.now))) }
+    ensures may { MayTake J.now (option_map (λ list. list.items) result) }
+    ensures taken { seat.new.me ≡ alone (settled (took_letter (option_map (λ list. list.items) result) J.now)) }
 {
     let word = member.table_words() + usize::from(member.me());
     if !peek_at::<J>(board, seat, word) {
@@ -110,13 +102,11 @@ fn open_at<J: Posting>(
     requires first { J.errand.word ≡ 1 }
     requires due { IsDueFor J.now J.errand }
     requires table { seat.old.table_id ≡ board.now.table.id }
-    requires idle { seat.old.me ≡ idle seat.old.me.0.members }
-    requires there { (r : Running) × (present_at seat.old.me.0.members J.errand.place ≡ Some r) × IsAhead r J.now }
+    requires alone { (r : Running) × (seat.old.me ≡ alone r) × IsAhead r J.now }
     requires at { IsLetterAt board.now.table.id.words J.errand J.now word slot }
     ensures table { seat.new.table_id ≡ seat.old.table_id }
     ensures blank { IsBlankList J.now.replica.room result }
-    ensures opened { seat.new.me
-        ≡ busy (with_present seat.old.me.0.members J.errand.place J.now) J.errand ((slot, None) ∷ []) }
+    ensures opened { seat.new.me ≡ busy J.now J.errand ((slot, None) ∷ []) }
 {
     board.table.shared.store::<Opens<J>>(seat, word, 1);
     let Some(list) = board.table.shared.exchange(seat, slot, None) else {
@@ -136,12 +126,11 @@ fn home_at<J: Posting>(
     requires first { J.errand.word ≡ 1 }
     requires due { IsDueFor J.now J.errand }
     requires table { seat.old.table_id ≡ board.now.table.id }
-    requires opened { seat.old.me ≡ busy seat.old.me.0.members J.errand ((slot, None) ∷ []) }
-    requires there { present_at seat.old.me.0.members J.errand.place ≡ Some J.now }
+    requires opened { seat.old.me ≡ busy J.now J.errand ((slot, None) ∷ []) }
     requires at { IsLetterAt board.now.table.id.words J.errand J.now word slot }
     requires letter { letter.items ≡ up_to_view J.now.replica.history }
     ensures table { seat.new.table_id ≡ seat.old.table_id }
-    ensures given { seat.new.me ≡ idle (with_present seat.old.me.0.members J.errand.place (after_step 0 J.now)) }
+    ensures given { seat.new.me ≡ alone (after_step 0 J.now) }
 {
     let _none = board.table.shared.exchange(seat, slot, Some(letter));
     board.table.shared.store::<Homes<J>>(seat, word, 2);
@@ -152,12 +141,11 @@ fn peek_at<J: Posting>(board: &Board, seat: &mut Seat<Slot, View>, word: usize) 
     requires second { J.errand.word ≡ 2 }
     requires due { IsDueFor J.now J.errand }
     requires table { seat.old.table_id ≡ board.now.table.id }
-    requires idle { seat.old.me ≡ idle seat.old.me.0.members }
-    requires there { (r : Running) × (present_at seat.old.me.0.members J.errand.place ≡ Some r) × IsAhead r J.now }
+    requires alone { (r : Running) × (seat.old.me ≡ alone r) × IsAhead r J.now }
     requires word { word ≡ table_size J.now + J.errand.late }
     requires within { word < board.now.table.id.words }
     ensures table { seat.new.table_id ≡ seat.old.table_id }
-    ensures peeked { (found : ℕ) × (result ≡ (found == 2)) × Peeked J.errand J.now seat.old.me found seat.new.me }
+    ensures peeked { (found : ℕ) × (result ≡ (found == 2)) × Peeked J.errand J.now found seat.new.me }
 {
     board.table.shared.load::<Peeks<J>>(seat, word) == 2
 }
@@ -172,13 +160,12 @@ fn fetch_at<J: Posting>(
     requires second { J.errand.word ≡ 2 }
     requires due { IsDueFor J.now J.errand }
     requires table { seat.old.table_id ≡ board.now.table.id }
-    requires seen { seat.old.me ≡ busy seat.old.me.0.members J.errand [] }
-    requires there { present_at seat.old.me.0.members J.errand.place ≡ Some J.now }
+    requires seen { seat.old.me ≡ busy J.now J.errand [] }
     requires at { IsLetterAt board.now.table.id.words J.errand J.now word slot }
     ensures table { seat.new.table_id ≡ seat.old.table_id }
     ensures may { MayTake J.now (Some result.items) }
     ensures fetched { seat.new.me
-        ≡ busy seat.old.me.0.members (record J.errand { word = 3; letter = result.items }) ((slot, None) ∷ []) }
+        ≡ busy J.now (record J.errand { word = 3; letter = result.items }) ((slot, None) ∷ []) }
 {
     board.table.shared.store::<Fetches<J>>(seat, word, 3);
     let Some(letter) = board.table.shared.exchange(seat, slot, None) else {
@@ -193,11 +180,10 @@ fn return_at<J: Posting>(board: &Board, seat: &mut Seat<Slot, View>, word: usize
     requires due { IsDueFor J.now J.errand }
     requires table { seat.old.table_id ≡ board.now.table.id }
     requires fetched { HasFetched J.errand J.now seat.old.me }
-    requires there { present_at seat.old.me.0.members J.errand.place ≡ Some J.now }
     requires word { word ≡ table_size J.now + J.errand.late }
     requires within { word < board.now.table.id.words }
     ensures table { seat.new.table_id ≡ seat.old.table_id }
-    ensures taken { Returned J.errand J.now seat.old.me seat.new.me }
+    ensures taken { Returned J.now seat.old.me seat.new.me }
 {
     board.table.shared.store::<Returns<J>>(seat, word, 4);
 }

@@ -9,8 +9,8 @@ use std::marker::{Brand, PhantomData};
 /// What a slot has at home: a list for the letter of its late member, and nothing once that one has taken it.
 pub type Slot = Option<Vec<Entry>>;
 
-/// What a seat knows: the members of its hand, each at its place, and the letter that it is about, if it is
-/// about one. No value of it is made.
+/// What a seat knows: the members of its hand, each at its place, and the letter that it is about, if it is about
+/// one, for which it has one member alone. No value of it is made.
 pub struct View {
     pub members: LinkedList<Option<Member>>,
     pub errand: Option<Errand>,
@@ -18,8 +18,6 @@ pub struct View {
 
 /// What a seat is about with a letter. No value of it is made.
 pub struct Errand {
-    /// The place of the member that gives or takes the letter.
-    pub place: usize,
     /// The late member whose letter it is.
     pub late: u8,
     /// The number to which the seat has brought that one's word, or which it saw there.
@@ -40,20 +38,26 @@ impl TableRule<Slot, View, Vec<Option<Member>>> for Ruled {
     ghost first = { λ dealt. record { members = dealt.items; errand = None } };
 }
 
-/// A place in a hand or behind it, and the member that stands there. Each step picks it.
+/// A place of a hand, or behind it. A cut and a count pick it.
 pub trait Place {
-    ghost use Rattle.std.specs.Prelude.{ℕ, Option};
-    ghost use Rattle.dr_program.specs.Running.{Running};
+    ghost use Rattle.std.specs.Prelude.{ℕ};
 
     ghost at: { ℕ };
+}
+
+impl Place for Brand {
+    ghost at = { 0 };
+}
+
+/// The member of a seat as it is. Each step on a word picks it.
+pub trait Mover {
+    ghost use Rattle.dr_program.specs.Running.{Running};
 
     ghost now: { Running };
 }
 
-impl Place for Brand {
+impl Mover for Brand {
     ghost use Rattle.dr_table.specs.Steps.{nobody};
-
-    ghost at = { 0 };
 
     ghost now = { nobody };
 }
@@ -78,24 +82,24 @@ impl Posting for Brand {
 
 /// A member looks at a word.
 pub struct Looks<J> {
-    at: PhantomData<J>,
+    mover: PhantomData<J>,
 }
 
-impl<J: Place> Play<Slot, View> for Looks<J> {
+impl<J: Mover> Play<Slot, View> for Looks<J> {
     ghost use Rattle.dr_table.specs.Steps.{Looked};
 
-    ghost then = { λ _ me found after. Looked J.at J.now me found after };
+    ghost then = { λ _ _ found after. Looked J.now found after };
 }
 
 /// A member stores a word: for a push, or for an act.
 pub struct Stores<J> {
-    at: PhantomData<J>,
+    mover: PhantomData<J>,
 }
 
-impl<J: Place> Play<Slot, View> for Stores<J> {
+impl<J: Mover> Play<Slot, View> for Stores<J> {
     ghost use Rattle.dr_table.specs.Steps.{Stored};
 
-    ghost then = { λ _ me _ after. Stored J.at J.now me after };
+    ghost then = { λ _ _ _ after. Stored J.now after };
 }
 
 /// A hand is cut at a place.
@@ -141,7 +145,7 @@ pub struct Opens<J> {
 impl<J: Posting> Play<Slot, View> for Opens<J> {
     ghost use Rattle.dr_table.specs.Steps.{Opened};
 
-    ghost then = { λ _ me _ after. Opened J.errand J.now me after };
+    ghost then = { λ _ _ _ after. Opened J.errand J.now after };
 }
 
 /// It puts the slot back, with the letter.
@@ -150,9 +154,9 @@ pub struct Homes<J> {
 }
 
 impl<J: Posting> Play<Slot, View> for Homes<J> {
-    ghost use Rattle.dr_table.specs.Steps.{Homed};
+    ghost use Rattle.dr_table.specs.Steps.{Stored};
 
-    ghost then = { λ _ me _ after. Homed J.errand J.now me after };
+    ghost then = { λ _ _ _ after. Stored J.now after };
 }
 
 /// A late member looks whether a letter is there for it.
@@ -163,7 +167,7 @@ pub struct Peeks<J> {
 impl<J: Posting> Play<Slot, View> for Peeks<J> {
     ghost use Rattle.dr_table.specs.Steps.{Peeked};
 
-    ghost then = { λ _ me found after. Peeked J.errand J.now me found after };
+    ghost then = { λ _ _ found after. Peeked J.errand J.now found after };
 }
 
 /// It takes its slot, with the letter.
@@ -174,7 +178,7 @@ pub struct Fetches<J> {
 impl<J: Posting> Play<Slot, View> for Fetches<J> {
     ghost use Rattle.dr_table.specs.Steps.{Fetched};
 
-    ghost then = { λ _ me _ after. Fetched J.errand J.now me after };
+    ghost then = { λ _ _ _ after. Fetched J.errand J.now after };
 }
 
 /// It puts the slot back, empty.
@@ -185,5 +189,5 @@ pub struct Returns<J> {
 impl<J: Posting> Play<Slot, View> for Returns<J> {
     ghost use Rattle.dr_table.specs.Steps.{Returned};
 
-    ghost then = { λ _ me _ after. Returned J.errand J.now me after };
+    ghost then = { λ _ me _ after. Returned J.now me after };
 }

@@ -1,5 +1,5 @@
 -- The answers of two halves are the answer of both.
-use Rattle.std.proofs.Common.{◌≡◌, refl, sym, ap, ◌∙◌, subst, inl, inr, ℕ, ◌+◌, List, [], ◌++◌, ◌-◌, length, length-take, map, min, take, drop, le_refl}
+use Rattle.std.proofs.Common.{◌≡◌, refl, sym, ap, ◌∙◌, subst, inl, inr, ℕ, ◌+◌, List, ◌++◌, ◌-◌, length, length-take, map, min, take, drop, le_refl}
 use Rattle.std.specs.Prelude.{None, Option, Result, Ok, Err, Vec, is_some, option_map}
 use Rattle.std.specs.declared.alloc.AllocError.{AllocError}
 use Rattle.std.specs.declared.alloc.Global.{Global}

@@ -1,7 +1,6 @@
 -- The run of one member: its log before, and behind it.
-use Rattle.std.proofs.Common.{◌≡◌, refl, sym, ap, ◌∙◌, subst, inl, ℕ, ◌*◌, ◌-◌, max, not, true, false, List, length, arith}
-use Rattle.std.specs.Prelude.{Option, Some, is_some}
-use Rattle.dr_entry.proofs.OptionFacts.{none_at}
+use Rattle.std.proofs.Common.{◌≡◌, refl, sym, ap, ◌∙◌, subst, inl, ℕ, ◌*◌, ◌-◌, max, false, List, [], ◌∷◌, length, map, arith}
+use Rattle.std.specs.Prelude.{None, Option, Some, option_map}
 use Rattle.dr_disk.proofs.Moments.{lasts_still}
 use Rattle.dr_disk.specs.Disk.{Told}
 use Rattle.dr_log.specs.Standing.{HasAllOf, LosesNone}
@@ -9,20 +8,21 @@ use Rattle.dr_log.specs.State.{LogState}
 use Rattle.dr_log.proofs.Ordinary.{has_itself}
 use Rattle.dr_logged.specs.Served.{HasServed, IsReady, IsSafe}
 use Rattle.dr_logged.proofs.Serving.{begins}
+use Rattle.dr_program.specs.Presence.{present_at}
 use Rattle.dr_program.specs.Running.{Running}
 use Rattle.dr_logged.proofs.Rooms.{roomy}
-use Rattle.dr_table.specs.Cards.{Cards, DealtTable}
-use Rattle.dr_threads.specs.Course.{HasGone, HaveRun, IsEndOf}
-use Rattle.dr_threads.specs.Logs.{AreFor, AreLonger, IsLonger}
-use Rattle.dr_program.specs.Presence.{present_at, with_present}
-use Rattle.dr_program.proofs.Present.{only}
-use Rattle.dr_logged.proofs.Served.{first_was, first_now, put_places}
+use Rattle.dr_table.specs.Cards.{AreAtEnd, Cards, DealtTable, IsAtEnd}
+use Rattle.dr_table.specs.Rule.{number}
+use Rattle.dr_program.proofs.Present.{nobody, only_one}
+use Rattle.dr_logged.proofs.Served.{put_places}
+use Rattle.dr_threads.specs.Course.{HasGone, HaveRun}
+use Rattle.dr_threads.specs.Logs.{AreLonger, IsFor, IsLonger}
+
+-- ---- lists of one place
 
 module _ {D : Type 0} (told : D → Option Told) (faults : D → ℕ) where
   -- the log got room for all that its member may append: it is ready, and has served it so far
-  pub opened_ready : (logs : List (Option (LogState D))) (members : List (Option Running))
-      (old new : LogState D) (r : Running) (n k : ℕ) → AreFor logs members → present_at logs 0 ≡ Some old
-      → present_at members 0 ≡ Some r
+  pub opened_ready : (old new : LogState D) (r : Running) (n k : ℕ) → IsFor old r
       → n ≡ r.replica.room - r.replica.logged
       → k ≡ r.replica.banks * r.replica.roster - length r.replica.votes
       → new ≡ record old {
@@ -33,20 +33,18 @@ module _ {D : Type 0} (told : D → Option Told) (faults : D → ℕ) where
       }
       → told new.disk ≡ told old.disk → faults new.disk ≡ faults old.disk
       → (old.failed ≡ false → IsSafe told new) → HasServed told faults old new r × IsReady new r
-  opened_ready logs members old new r n k are there here left votes made tells calm safe =
-      let is = are.each 0 old r there here in
+  opened_ready old new r n k is left votes made tells calm safe =
       begins told faults old new r (roomy told faults r old new n k left votes made tells calm safe) is.whole
       is.entries is.logged is.votes is.none
 
   -- no room was got
-  pub reserve_longer : (logs : List (Option (LogState D))) (old new : LogState D) → length logs ≡ 1
-      → present_at logs 0 ≡ Some old → new ≡ record old { disk = new.disk } → told new.disk ≡ told old.disk
-      → faults new.disk ≡ faults old.disk → AreLonger told faults logs (with_present logs 0 new)
-  reserve_longer logs old new one there made tells calm = record {
-    places = put_places logs old new 0 there;
+  pub reserve_longer : (old new : LogState D) → new ≡ record old { disk = new.disk } → told new.disk ≡ told old.disk
+      → faults new.disk ≡ faults old.disk → AreLonger told faults (Some old ∷ []) (Some new ∷ [])
+  reserve_longer old new made tells calm = record {
+    places = put_places (Some old ∷ []) old new 0 refl;
     each = λ k was now from to.
-        subst (λ x. IsLonger told faults x now) (first_was logs old was k one there from)
-        (subst (λ x. IsLonger told faults old x) (first_now logs new now k one to) (record {
+        subst (λ x. IsLonger told faults x now) (only_one old was k from).1
+        (subst (λ x. IsLonger told faults old x) (only_one new now k to).1 (record {
           has = subst (HasAllOf old.content) (sym (ap (λ (l : LogState D). l.content) made)) (has_itself old.content);
           moments = inl tells;
           lasting = λ first. rw tells (lasts_still (told old.disk) (LosesNone first));
@@ -55,31 +53,29 @@ module _ {D : Type 0} (told : D → Option Told) (faults : D → ℕ) where
   }
 
   -- the member has run to its end
-  pub run_served : (table : DealtTable) (members : List (Option Running)) (logs : List (Option (LogState D)))
-      (old log new : LogState D) (after : Cards) → length logs ≡ 1 → present_at logs 0 ≡ Some old
-      → IsEndOf table members after → HasGone told faults members log after.members new
-      → ((r : Running) → present_at members 0 ≡ Some r → HasServed told faults old log r)
-      → HaveRun told faults table members logs after (with_present logs 0 new)
-  run_served table members logs old log new after one there over gone served = record {
-    over = over;
-    places = put_places logs old new 0 there;
-    served = λ k base now r from to member.
-        subst (λ x. HasServed told faults x now r) (first_was logs old base k one there from)
-        (subst (λ x. HasServed told faults old x r) (first_now logs new now k one to)
-        (gone.served old served r (ap (present_at after.members) (sym (only logs k base one from)) ∙ member)));
+  pub run_served : (table : DealtTable) (r q : Running) (old log new : LogState D) (after : Cards)
+      → after.table ≡ table → after.members ≡ Some q ∷ [] → IsAtEnd q → HasGone told faults r log q new
+      → HasServed told faults old log r
+      → HaveRun told faults table (Some r ∷ []) (Some old ∷ []) after (Some new ∷ [])
+  run_served table r q old log new after home is ended gone served = record {
+    over = record {
+      home = home;
+      same = ap (map (option_map number)) is ∙ ap (λ n. Some n ∷ []) gone.same;
+      ended = subst AreAtEnd (sym is) (λ k x there. subst IsAtEnd (only_one q x k there).1 ended);
+    };
+    places = put_places (Some old ∷ []) old new 0 refl;
+    served = λ k base now x from to there.
+        subst (λ z. HasServed told faults z now x) (only_one old base k from).1
+        (subst (λ z. HasServed told faults old z x) (only_one new now k to).1
+        (subst (HasServed told faults old new) (only_one q x k (ap (λ l. present_at l k) (sym is) ∙ there)).1
+        (gone.served old served)));
   }
 
-  -- nobody is there: there is no log, and nothing to run
+  -- nobody is there: there is nothing to run
   pub none_run : (table : DealtTable) (hand : Cards) (logs : List (Option (LogState D))) → hand.table ≡ table
-      → length hand.members ≡ 1 → not (is_some (present_at hand.members 0)) ≡ true
-      → HaveRun told faults table hand.members logs hand logs
-  none_run table hand logs home one empty = record {
-    over = record { home = home; same = refl; ended = λ k r there. absurd (nobody k r there) };
+      → hand.members ≡ None ∷ [] → HaveRun told faults table hand.members logs hand logs
+  none_run table hand logs home empty = record {
+    over = record { home = home; same = refl; ended = λ k r there. absurd (nobody hand.members k r empty there) };
     places = record { all = refl; each = λ k. refl };
-    served = λ k base now r from to there. absurd (nobody k r there);
+    served = λ k base now r from to there. absurd (nobody hand.members k r empty there);
   }
-    where
-      nobody : (k : ℕ) (r : Running) → present_at hand.members k ≡ Some r → ⊥
-      nobody k r there =
-          let first = ap (present_at hand.members) (only hand.members k r one there) in
-          absurd (cc (none_at (present_at hand.members 0) empty, there, first))

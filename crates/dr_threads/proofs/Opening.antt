@@ -3,12 +3,13 @@ use Rattle.std.proofs.Common.{◌≡◌, refl, sym, ap, ◌∙◌, subst, ℕ, �
 use Rattle.std.specs.Prelude.{None, Option, Some, is_some, option_map}
 use Rattle.std.proofs.lemmas.List.{length-map}
 use Rattle.dr_disk.specs.Disk.{Told}
+use Rattle.dr_entry.specs.declared.end.AgeEnd.{AgeEnd}
 use Rattle.dr_log.specs.State.{LogState}
 use Rattle.dr_logged.specs.Served.{HaveSamePlaces, HaveServed}
 use Rattle.dr_machine.specs.Group.{IsGroup, IsPresent}
 use Rattle.dr_program.proofs.Present.{all_ended, present_map, present_within, begun_fresh}
 use Rattle.dr_program.specs.Presence.{present_at}
-use Rattle.dr_program.specs.Program.{AreSetups, IsRanFrom, Program, begun_program}
+use Rattle.dr_program.specs.Program.{AllEnded, AreSetups, IsRanFrom, Program, age_of, begun_program}
 use Rattle.dr_program.specs.Running.{Running, begun_running}
 use Rattle.dr_restart.specs.declared.start.Start.{Start}
 use Rattle.dr_program_laws.proofs.Keeping.{deeds_kept}
@@ -16,11 +17,14 @@ use Rattle.dr_restart.specs.Groups.{group_of}
 use Rattle.dr_restart.specs.Setups.{IsBegun}
 use Rattle.dr_restart.proofs.Setups.{are_setups}
 use Rattle.dr_script.specs.declared.script.Script.{Script}
-use Rattle.dr_program.proofs.RunningPrograms.{IsFresh}
-use Rattle.dr_program_laws.proofs.Failing.{all_failing}
+use Rattle.dr_script.specs.Ranges.{HasRanges}
+use Rattle.dr_age.specs.Age.{IsAgeOn}
 use Rattle.dr_age.specs.Logged.{AreOpened}
 use Rattle.dr_age.specs.Begun.{HaveBegun}
-use Rattle.dr_age.proofs.Ends.{IsOver}
+use Rattle.dr_age.specs.Run.{IsRun}
+use Rattle.dr_program.proofs.RunningPrograms.{IsFresh}
+use Rattle.dr_program_laws.proofs.Failing.{all_failing}
+use Rattle.dr_age.proofs.Playing.{age_on}
 use Rattle.dr_table.specs.Cards.{AreAtEnd}
 use Rattle.dr_table.specs.Rule.{IsDealt}
 use Rattle.dr_threads.specs.Logs.{AreFor}
@@ -89,36 +93,27 @@ are_for {D} script start nth members logs lists begun opened = record {
 
 -- ---- the end
 
--- the program of the age, as it began and as it is over
-pub record IsAgeOver {D : Type 0} (told : D → Option Told) (faults : D → ℕ) (script : Script)
-    (start : Start) (nth : ℕ) (bases logs : List (Option (LogState D))) (begun p : Program) : Type 0 where
-  pub begins : IsBegun script start nth begun
-  pub ran : IsRanFrom begun p
-  pub over : IsOver told faults (group_of script start) bases logs p
-
-pub age_over : {D : Type 0} (told : D → Option Told) (faults : D → ℕ) (script : Script) (start : Start)
-    (nth : ℕ) (members : List (Option Running)) (bases logs : List (Option (LogState D))) (begun p : Program)
-    → IsGroup (group_of script start) → length script.messages ≡ script.members → 1 ≤ script.turns
-    → (b : HaveBegun script start nth script.members members)
-    → ((d : IsDealt members) → begun ≡ begun_program d.group d.setups) → IsRanFrom begun p
-    → AreAtEnd p.members
+-- an age in threads whose members have all ended
+pub age_over : {D : Type 0} (told : D → Option Told) (faults : D → ℕ) (script : Script) (start : Start) (nth : ℕ)
+    (members : List (Option Running)) (bases logs : List (Option (LogState D))) (begun p : Program) (age : AgeEnd)
+    → HasRanges script → IsGroup (group_of script start) → HaveBegun script start nth script.members members
+    → ((d : IsDealt members) → begun ≡ begun_program d.group d.setups) → IsRanFrom begun p → AreAtEnd p.members
     → AreOpened (group_of script start) bases → HaveSamePlaces bases logs
-    → HaveServed told faults bases logs p.members → IsAgeOver told faults script start nth bases logs begun p
-age_over told faults script start nth members bases logs begun p group lists some b opens ran ended opened
-    places served =
+    → HaveServed told faults bases logs p.members → age ≡ age_of (group_of script start).opening p
+    → IsAgeOn IsRun told faults script start nth bases logs age
+age_over told faults script start nth members bases logs begun p age ranges group b opens ran at_end opened places
+    served is =
     let same : begun ≡ begun_program (group_of script start) b.setups =
-    opens (is_dealt script start nth members group lists some b) in
+    opens (is_dealt script start nth members group ranges.group.lists ranges.some_turn b) in
     let begins : IsBegun script start nth begun = (b.setups, b.are, same) in
-    let kept = deeds_kept (group_of script start) script.turns b.setups p group some
-    (are_setups script start nth b.setups lists b.are) (subst (λ q. IsRanFrom q p) same ran) in record {
-      begins = begins;
-      ran = ran;
-      over = record {
-        sound = record { group = group; form = kept.0; reached = kept.1 };
-        ended = all_ended p ended;
-        failing = all_failing script start nth begun p group lists some begins ran;
-        opened = opened;
-        places = places;
-        served = served;
-      };
-    }
+    let kept = deeds_kept (group_of script start) script.turns b.setups p group ranges.some_turn
+    (are_setups script start nth b.setups ranges.group.lists b.are) (subst (λ q. IsRanFrom q p) same ran) in
+    let ended : AllEnded p = all_ended p at_end in
+    age_on IsRun told faults script start nth bases logs begun p age ranges begins ran (record {
+      sound = record { group = group; form = kept.0; reached = kept.1 };
+      ended = ended;
+      failing = all_failing script start nth begun p group ranges.group.lists ranges.some_turn begins ran;
+      opened = opened;
+      places = places;
+      served = served;
+    }) is (record { begun = begun; begins = begins; ran = ran; ended = ended; told = is })

@@ -1,12 +1,11 @@
 -- The run of one member, sweep by sweep and deed by deed.
-use Rattle.std.proofs.Common.{◌≡◌, refl, sym, ap, ◌∙◌, subst, ℕ, false, List, [], ◌∷◌, length, map, arith}
-use Rattle.std.specs.Prelude.{Option, None, Some, option_map}
-use Rattle.std.proofs.lemmas.Option.{same_Some}
+use Rattle.std.proofs.Common.{◌≡◌, refl, sym, ◌∙◌, subst, ℕ, false, List, [], ◌∷◌}
+use Rattle.std.specs.Prelude.{Option, None, Some}
 use Rattle.dr_disk.specs.Disk.{Told}
 use Rattle.dr_entry.specs.declared.entry.Entry.{Entry}
 use Rattle.dr_log.specs.State.{LogState}
 use Rattle.dr_logged.specs.Appended.{is_append}
-use Rattle.dr_logged.specs.Served.{AppendsWell, HasServed, IsReady, LetterGoesOn}
+use Rattle.dr_logged.specs.Served.{AppendsWell, LetterGoesOn}
 use Rattle.dr_logged.proofs.Serving.{other_ready, other_served, took_served, took_stays_ready}
 use Rattle.dr_program.specs.declared.deed.Deed.{Deed}
 use Rattle.dr_program.specs.declared.deed.Deed.TheVariants as deeds
@@ -15,13 +14,13 @@ use Rattle.dr_age.proofs.Deeds.{at_look, at_push, at_take, deed_tells}
 use Rattle.dr_age.proofs.Sound.{appends_well}
 use Rattle.dr_program_laws.proofs.Letters.{letters_are}
 use Rattle.dr_turn.proofs.Takes.{taking}
+use Rattle.dr_table.specs.Cards.{HasAskedForLetter}
 use Rattle.dr_table.specs.Rule.{number}
-use Rattle.dr_table.specs.Steps.{FindsLetter, IsReachedMember, MayTake}
+use Rattle.dr_table.specs.Steps.{IsReachedMember, MayTake}
 use Rattle.dr_table.specs.Sweeps.{HasSwept, HasTaken, IsSwept}
 use Rattle.dr_table.proofs.Deeds.{after_told, same_number, took_told}
-use Rattle.dr_table.proofs.Sweeps.{taken_told, swept_going}
 use Rattle.dr_threads.specs.Course.{HasGone}
-use Rattle.dr_program.specs.Presence.{present_at, with_present}
+use Rattle.dr_table.proofs.Sweeps.{swept_going}
 use Rattle.dr_table.proofs.Cards.{reached_form}
 
 -- ---- a member that is reached
@@ -51,82 +50,45 @@ swept_other r swept = by (next_deed r) refl swept
 
 -- ---- going on
 
--- a log stays ready for its member while that takes looks and pushes
-swept_ready : {D : Type 0} (log : LogState D) (words : List ℕ) (r q : Running) → HasTaken words r q
-    → IsReady log r → IsReady log q
-swept_ready log [] r q same ready = subst (IsReady log) same ready
-swept_ready log (word ∷ words) r q (swept, found, rest) ready =
-    swept_ready log words (after_step word r) q rest (other_ready log word r (swept_other r swept) ready)
-
 module _ {D : Type 0} (told : D → Option Told) (faults : D → ℕ) where
-  pub gone_more : (rs qs ps : List (Option Running)) (log new newer : LogState D) → HasGone told faults rs log qs new
-      → HasGone told faults qs new ps newer → HasGone told faults rs log ps newer
-  gone_more rs qs ps log new newer a b = record {
+  -- no deed yet
+  pub gone_none : (r : Running) (log : LogState D) → HasGone told faults r log r log
+  gone_none r log = record { same = refl; ready = λ is. is; served = λ base is. is }
+
+  pub gone_more : (r q p : Running) (log new newer : LogState D) → HasGone told faults r log q new
+      → HasGone told faults q new p newer → HasGone told faults r log p newer
+  gone_more r q p log new newer a b = record {
     same = b.same ∙ a.same;
     ready = λ is. b.ready (a.ready is);
     served = λ base is. b.served base (a.served base is);
   }
 
-  -- the one member is x now
-  pub gone_by : (rs qs : List (Option Running)) (r x : Running) (log new : LogState D) → length rs ≡ 1
-      → present_at rs 0 ≡ Some r → qs ≡ with_present rs 0 x → number x ≡ number r
-      → (IsReady log r → IsReady new x)
-      → ((base : LogState D) → HasServed told faults base log r → HasServed told faults base new x)
-      → HasGone told faults rs log qs new
-  gone_by [] qs r x log new one there to same ready served = absurd (omega arith)
-  gone_by (y ∷ z ∷ zs) qs r x log new one there to same ready served = absurd (omega arith)
-  gone_by (y ∷ []) qs r x log new one there to same ready served = record {
-    same = ap (map (option_map number)) to ∙ ap (λ n. Some n ∷ []) same
-        ∙ sym (ap (λ o. option_map number o ∷ []) there);
-    ready = λ is q here. subst (IsReady new) (now q here) (ready (is r there));
-    served = λ base is q here. subst (HasServed told faults base new) (now q here) (served base (is r there));
-  }
-    where
-      now : (q : Running) → present_at qs 0 ≡ Some q → x ≡ q
-      now q here = same_Some x q (sym (ap (λ l. present_at l 0) to) ∙ here)
-
   -- by a step that is no append
-  pub gone_step : (rs qs : List (Option Running)) (r : Running) (word : ℕ) (log : LogState D) → length rs ≡ 1
-      → present_at rs 0 ≡ Some r → IsReachedMember r → r.replica.end ≡ None → is_append (next_step r) ≡ false
-      → qs ≡ with_present rs 0 (after_step word r) → HasGone told faults rs log qs log
-  gone_step rs qs r word log one there reached none other to =
-      gone_by rs qs r (after_step word r) log log one there to
-      (same_number r (after_step word r) (after_told word r))
-      (other_ready log word r other)
-      (λ base. other_served told faults base log word r other none (reached_form r reached).replica.logged)
+  pub gone_step : (r : Running) (word : ℕ) (log : LogState D) → IsReachedMember r → r.replica.end ≡ None
+      → is_append (next_step r) ≡ false → HasGone told faults r log (after_step word r) log
+  gone_step r word log reached none other = record {
+    same = same_number r (after_step word r) (after_told word r);
+    ready = other_ready log word r other;
+    served = λ base. other_served told faults base log word r other none (reached_form r reached).replica.logged;
+  }
 
   -- by a take
-  pub gone_taking : (rs qs : List (Option Running)) (r : Running) (log : LogState D) → length rs ≡ 1
-      → present_at rs 0 ≡ Some r → IsReachedMember r → r.replica.end ≡ None → next_deed r ≡ deeds.Take
-      → (letter : Option (List Entry)) × FindsLetter rs r letter
-      × (qs ≡ with_present rs 0 (settled (took_letter letter r)))
-      → HasGone told faults rs log qs log
-  gone_taking rs qs r log one there reached none next (letter, finds, to) =
-      gone_by rs qs r (settled (took_letter letter r)) log log one there to
-      (same_number r (settled (took_letter letter r)) (took_told letter r))
-      (took_stays_ready log letter r)
-      (λ base. took_served told faults base log letter r (record { unended = none; due = at_take r next })
-      (reached_form r reached).replica.logged (takes_on r letter next finds.may))
-
-  -- and goes on to have served it
-  swept_served : (base log : LogState D) (words : List ℕ) (r q : Running) → HasTaken words r q
-      → HasServed told faults base log r → HasServed told faults base log q
-  swept_served base log [] r q same served = subst (HasServed told faults base log) same served
-  swept_served base log (word ∷ words) r q (swept, (g, p, is, sees), rest) served =
-      swept_served base log words (after_step word r) q rest
-      (other_served told faults base log word r (swept_other r swept) (swept_going r swept)
-      (reached_form r (g, p, is)).replica.logged served)
+  pub gone_taking : (r q : Running) (log : LogState D) → IsReachedMember r → r.replica.end ≡ None
+      → next_deed r ≡ deeds.Take → HasAskedForLetter r q → HasGone told faults r log q log
+  gone_taking r q log reached none next (letter, may, to) =
+      subst (λ x. HasGone told faults r log x log) (sym to) (record {
+        same = same_number r (settled (took_letter letter r)) (took_told letter r);
+        ready = took_stays_ready log letter r;
+        served = λ base. took_served told faults base log letter r (record { unended = none; due = at_take r next })
+            (reached_form r reached).replica.logged (takes_on r letter next may);
+      })
 
   -- by looks and pushes
-  pub gone_sweeping : (rs qs : List (Option Running)) (r : Running) (log : LogState D) → length rs ≡ 1
-      → present_at rs 0 ≡ Some r → HasSwept rs 0 qs → HasGone told faults rs log qs log
-  gone_sweeping rs qs r log one there swept =
-      let (words, q, taken, to) = swept r there in
-      gone_by rs qs r q log log one there to (same_number r q (taken_told words r q taken))
-      (swept_ready log words r q taken) (λ base. swept_served base log words r q taken)
-
--- ---- the same places
-
--- ---- fewer deeds left
-
--- ---- the end
+  pub gone_sweeping : (r q : Running) (log : LogState D) → HasSwept r q → HasGone told faults r log q log
+  gone_sweeping r q log (words, taken) = by words r taken
+    where
+      by : (words : List ℕ) (r : Running) → HasTaken words r q → HasGone told faults r log q log
+      by [] r same = subst (λ x. HasGone told faults r log x log) same (gone_none r log)
+      by (word ∷ words) r (swept, (g, p, is, sees), rest) =
+          gone_more r (after_step word r) q log log log
+          (gone_step r word log (g, p, is) (swept_going r swept) (swept_other r swept)) (by words (after_step word r) rest)

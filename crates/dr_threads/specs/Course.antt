@@ -4,15 +4,15 @@ use Rattle.dr_disk.specs.Disk.{Told}
 use Rattle.dr_log.specs.State.{LogState}
 use Rattle.dr_logged.specs.Served.{HasServed, HaveSamePlaces, HaveServed, IsReady}
 use Rattle.dr_program.specs.Running.{Running}
-use Rattle.dr_table.specs.Cards.{AreAtEnd, AreSame, AtPlace, Cards, DealtTable}
+use Rattle.dr_table.specs.Cards.{AreAtEnd, AreSame, Cards, DealtTable}
+use Rattle.dr_table.specs.Rule.{number}
 
--- a hand of one member and its log have gone on: it is the same member still, and its log ready and served
-pub record HasGone {D : Type 0} (told : D → Option Told) (faults : D → ℕ) (rs : List (Option Running))
-    (log : LogState D) (qs : List (Option Running)) (new : LogState D) : Type 0 where
-  pub same : AreSame rs qs
-  pub ready : AtPlace rs 0 (IsReady log) → AtPlace qs 0 (IsReady new)
-  pub served : (base : LogState D) → AtPlace rs 0 (HasServed told faults base log)
-      → AtPlace qs 0 (HasServed told faults base new)
+-- a member and its log have gone on: it is the same member still, and its log ready and served
+pub record HasGone {D : Type 0} (told : D → Option Told) (faults : D → ℕ) (r : Running)
+    (log : LogState D) (q : Running) (new : LogState D) : Type 0 where
+  pub same : number q ≡ number r
+  pub ready : IsReady log r → IsReady new q
+  pub served : (base : LogState D) → HasServed told faults base log r → HasServed told faults base new q
 
 -- the members of a hand over this table have run to their ends: it is a hand over this table still, with the
 -- same members in the same order, all of which have ended

@@ -71,18 +71,19 @@ fn run_one<D: Disk, P: Pace>(
     ensures run { IsHandAnswer D.told D.faults board.now.table hand.members logs.items result }
     ensures room { vec_capacity logs ≤ room_of result }
 {
-    if hand.is_empty_at(0) {
-        return Ok((hand, logs));
-    }
-    let member = hand.member(0);
+    let mut seated = match hand.seated() {
+        Ok(seated) => seated,
+        Err(empty) => return Ok((empty, logs)),
+    };
     let Some(log) = &mut logs[0] else {
         unreachable!()
     };
+    let member = seated.member();
     if let Err(error) = log.reserve(member.appends_left(), member.votes_left()) {
         return Err((logs, error));
     }
-    let hand = run_member(board, hand, log, pace);
-    Ok((hand, logs))
+    run_member(board, &mut seated, log, pace);
+    Ok((seated.into_hand(), logs))
 }
 
 /// Cuts a hand of several members, and their logs, in two halves. The first list of logs keeps its room.

@@ -1,15 +1,11 @@
 //! An age in threads, from its opening to the ends of all members.
-ghost use Rattle.std.specs.Prelude.{◌≡◌, MatchResult, IfOk, length, Option};
-ghost use Rattle.dr_history.specs.Agreement.{EndsAgreed};
+ghost use Rattle.std.specs.Prelude.{IfErr, IfOk, Option};
 ghost use Rattle.dr_machine.specs.Group.{IsGroup};
-ghost use Rattle.dr_program_laws.specs.Ended.{HaveEnded};
-ghost use Rattle.dr_program_laws.specs.Trusting.{NoneLeft, SuspectsNobody};
 ghost use Rattle.dr_restart.specs.Groups.{group_of};
-ghost use Rattle.dr_restart.specs.Setups.{crashes_of};
 ghost use Rattle.dr_script.specs.Ranges.{HasRanges};
-ghost use Rattle.dr_age.specs.Logged.{AreAmple, AreOpened, HaveCome, NoneFull};
+ghost use Rattle.dr_age.specs.Age.{IsAgeOn};
+ghost use Rattle.dr_age.specs.Logged.{AreOpened};
 ghost use Rattle.dr_age.specs.Run.{IsRun};
-ghost use Rattle.dr_logged.specs.Served.{HaveSamePlaces};
 ghost use Rattle.dr_threads.specs.Logs.{AreLonger};
 
 use crate::age::run_age;
@@ -44,19 +40,9 @@ pub fn run_script_age<R: Threads + Sync, D: Disk, P: Pace + Sync>(
     requires ranges { HasRanges script.now }
     requires group { IsGroup (group_of script.now start.now) }
     requires logs { AreOpened (group_of script.now start.now) logs.items }
-    ensures run { IfOk result (λ r. IsRun script.now start.now nth r.0) }
-    ensures agreed { IfOk result (λ r. EndsAgreed (group_of script.now start.now).opening r.0.members) }
-    ensures ended { IfOk result (λ r. HaveEnded (group_of script.now start.now).opening
-        script.now.turns (crashes_of script.now.faults nth) r.0.members) }
-    ensures trusting { IfOk result (λ r. SuspectsNobody script.now → NoneLeft r.0.members) }
-    ensures logs { MatchResult result
-        (λ r. (is : IsRun script.now start.now nth r.0)
-        × HaveCome D.told D.faults logs.items r.1.items is.over.members)
-        (λ r. AreLonger D.told D.faults logs.items r.0.items) }
-    ensures ample { IfOk result (λ r. AreAmple (group_of script.now start.now) logs.items
-        → NoneFull r.0.members) }
-    ensures places { IfOk result (λ r. HaveSamePlaces logs.items r.1.items) }
-    ensures members { IfOk result (λ r. length r.0.members ≡ length logs.items) }
+    ensures age { IfOk result (λ r. IsAgeOn IsRun D.told D.faults script.now start.now nth
+        logs.items r.1.items r.0) }
+    ensures logs { IfErr result (λ r. AreLonger D.told D.faults logs.items r.0.items) }
 {
     let Ok(entries) = copy_entries(alloc, &start.entries) else {
         return Err((logs, AllocError));

@@ -26,7 +26,7 @@ agreed_ages script part mode nth before after (age ∷ ages) (between, is, rest)
       opening_of script part age,
       record {
         present = λ i e at. part_or_none script part mode nth before between age i e is at;
-        agreed = is.agreed;
+        agreed = is.played.agreed;
       },
     ) (agreed_ages script part mode (nth + 1) between after ages rest)
 

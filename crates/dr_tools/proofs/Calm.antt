@@ -1,11 +1,10 @@
 -- Groups without faults, in lockstep, by how many turns they have.
-use Rattle.std.proofs.Common.{◌≡◌, ◌∙◌, ap, refl, sym, subst, ℕ, zero, suc, ◌-◌, ◌<◌, true, arith, List, [], ◌∷◌, ◌&&◌, length, map, slice_get, Option, Some, Result, Ok, Err, IfOk}
+use Rattle.std.proofs.Common.{◌≡◌, ◌∙◌, ap, refl, sym, subst, ℕ, zero, suc, ◌-◌, true, arith, List, [], ◌∷◌, ◌&&◌, length, slice_get, Option, Some, Result, Ok, Err, IfOk}
 use Rattle.std.specs.List.{list_all}
-use Rattle.std.proofs.lemmas.List.{length-map}
 use Rattle.std.proofs.lemmas.List.Elements.{All-nil}
-use Rattle.std.specs.declared.alloc.AllocError.{AllocError}
 use Rattle.dr_age.proofs.Lasting.{none_stopped}
-use Rattle.dr_age.specs.Logged.{AreAmple, AreOpened, HaveCome, NoneFull, NoneStopped}
+use Rattle.dr_age.specs.Age.{IsAgeOn}
+use Rattle.dr_age.specs.Logged.{AreAmple, AreOpened}
 use Rattle.dr_complete.specs.Enough.{turns_enough}
 use Rattle.dr_complete.specs.Time.{HasTime}
 use Rattle.dr_complete.proofs.Enough.{enough_is_time, few_turns}
@@ -14,14 +13,9 @@ use Rattle.dr_entry.specs.declared.end.AgeEnd.{AgeEnd}
 use Rattle.dr_entry.specs.declared.end.End.TheVariants.{Done}
 use Rattle.dr_entry.specs.declared.end.MemberEnd.{MemberEnd}
 use Rattle.dr_log.specs.State.{LogState}
-use Rattle.dr_logged.specs.Served.{HaveSamePlaces}
-use Rattle.dr_machine.proofs.Presence.{is_present}
-use Rattle.dr_machine.specs.Group.{IsPresent}
-use Rattle.dr_program.proofs.Present.{present_within}
-use Rattle.dr_program.specs.Presence.{present_at}
-use Rattle.dr_program.specs.Program.{end_at}
+use Rattle.dr_machine.specs.Group.{AllPresent}
 use Rattle.dr_restart.specs.declared.start.Start.{Start}
-use Rattle.dr_restart.specs.Groups.{first_group_of, first_start_of, group_of}
+use Rattle.dr_restart.specs.Groups.{first_start_of, group_of}
 use Rattle.dr_script.specs.declared.script.Script.{Script}
 use Rattle.dr_script.specs.Ranges.{HasFaultRanges, HasRanges}
 use Rattle.dr_restart.proofs.Groups.{all_present}
@@ -73,38 +67,14 @@ taken_by (Ok n) s calm turns is takes =
 taken_by (Err e) s calm turns is takes = tt
 
 -- the first age, over the logs of all members, which have room, and are on disks that count no fault
-module _ {D : Type 0} (told : D → Option Told) (faults : D → ℕ) (never : (disk : D) → faults disk ≡ 0)
-    (script : Script) (start : Start) (first : start ≡ first_start_of script)
-    (lists : length script.messages ≡ script.members) (bases logs : List (Option (LogState D)))
-    (opened : AreOpened (group_of script start) bases) (places : HaveSamePlaces bases logs)
-    (ample : AreAmple (group_of script start) bases) where
-  -- each member has one
-  log_there : (m : ℕ) → m < length bases → (base : LogState D) × (present_at bases m ≡ Some base)
-  log_there m below = opened.there m (omega (arith, below, opened.all))
-      (subst (λ (s : Start). IsPresent (group_of script s) m) (sym first)
-      (is_present (first_group_of script) m (all_present script lists) (omega (arith, below, opened.all))))
-
-  simulated : (age : AgeEnd) → IsSimulated script start 0 age → length age.members ≡ length bases
-      → (is : IsSimulated script start 0 age) × HaveCome told faults bases logs is.over.members
-      → (AreAmple (group_of script start) bases → NoneFull age.members) → IsFirstAge script age
-  simulated age run members (is, come) room = record {
-    run = subst (λ s. IsSimulated script s 0 age) first run;
-    stored = subst NoneStopped (sym ends) (none_stopped told faults never bases logs is.over
-        (λ m r member. log_there m (omega (arith, present_within is.over.members m r member, as_many))) places
-        come (subst NoneFull ends (room ample)));
-  }
-    where
-      ends : age.members ≡ map end_at is.over.members
-      ends = ap (λ (a : AgeEnd). a.members) is.told
-
-      as_many : length is.over.members ≡ length bases
-      as_many = sym (length-map is.over.members end_at) ∙ ap length (sym ends) ∙ members
-
-  pub first_if : (r : Result AgeEnd AllocError) → IfOk r (λ age. IsSimulated script start 0 age)
-      → IfOk r (λ (age : AgeEnd). length age.members ≡ length bases)
-      → IfOk r (λ (age : AgeEnd). (is : IsSimulated script start 0 age)
-      × HaveCome told faults bases logs is.over.members)
-      → IfOk r (λ (age : AgeEnd). AreAmple (group_of script start) bases → NoneFull age.members)
-      → IfOk r (IsFirstAge script)
-  first_if (Err why) run members come room = tt
-  first_if (Ok age) run members come room = simulated age run members come room
+pub first_age : {D : Type 0} (told : D → Option Told) (faults : D → ℕ) → ((disk : D) → faults disk ≡ 0)
+    → (script : Script) (start : Start) → start ≡ first_start_of script
+    → length script.messages ≡ script.members → (bases logs : List (Option (LogState D)))
+    → AreOpened (group_of script start) bases → AreAmple (group_of script start) bases → (age : AgeEnd)
+    → IsAgeOn IsSimulated told faults script start 0 bases logs age → IsFirstAge script age
+first_age told faults never script start first lists bases logs opened ample age on = record {
+  over = on.played.over;
+  run = subst (λ s. IsSimulated script s 0 age on.played.over) first on.played.run;
+  stored = none_stopped told faults never IsSimulated script start 0 bases logs age on on.played.run.told lists
+      (subst (λ (s : Start). AllPresent (group_of script s)) (sym first) (all_present script lists)) opened ample;
+}

@@ -9,7 +9,7 @@ use Rattle.dr_script.specs.declared.script.Script.{Script}
 use Rattle.dr_script.specs.Reading.{Reading, TooLong, NotJson, Wrong, Reads}
 use Rattle.dr_text.specs.declared.last.Last.{Last}
 use Rattle.dr_yard.specs.Yards.{empty_yard}
-use Rattle.dr_outcome.proofs.Kinds.{simulated_run}
+use Rattle.dr_outcome.proofs.OutcomeKinds.{simulated_run}
 use Rattle.dr_tools.specs.Outcomes.{ComesTo, EndsSo, ReadsSo, is_wanted, outcome_line}
 
 -- a script comes to the outcome that its run has

@@ -79,7 +79,7 @@ lines_told script part nth (age ∷ ages) old new was =
     (tells_both (head ++ moves) [] old seen.ended next told seen.closing) in
     record {
       text = (head ++ moves) ++ rest.text;
-      lines = (seen.is, rest.text, rest.lines, refl);
+      lines = (seen.over, seen.is, rest.text, rest.lines, refl);
       tells = tells_both (head ++ moves) rest.text old next new all rest.tells;
     }
 

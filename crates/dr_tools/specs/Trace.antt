@@ -42,7 +42,7 @@ moves_text p (e ∷ es) = deed_line p.table (present_at p.members e.member) ++ m
 abbrev pub AreLines : Script → Part → ℕ → List AgeEnd → List ℕ → Type 0
 AreLines script part nth [] text = text ≡ []
 AreLines script part nth (age ∷ ages) text =
-    (is : IsSimulated script (start_of script part age) nth age) × (rest : List ℕ)
+    (over : Program) × (is : IsSimulated script (start_of script part age) nth age over) × (rest : List ℕ)
     × AreLines script part (nth + 1) ages rest
     × (text ≡ (age_line age.age (length age.start) ++ moves_text is.begun is.run.moves) ++ rest)
 

@@ -6,6 +6,7 @@ use Rattle.dr_entry.specs.declared.end.AgeEnd.{AgeEnd}
 use Rattle.dr_entry.specs.declared.end.End.{End}
 use Rattle.dr_entry.specs.declared.end.End.TheVariants.{Done}
 use Rattle.dr_entry.specs.declared.end.MemberEnd.{MemberEnd}
+use Rattle.dr_program.specs.Program.{Program}
 use Rattle.dr_restart.specs.Groups.{first_start_of}
 use Rattle.dr_script.specs.declared.script.Schedule.TheVariants.{Lockstep}
 use Rattle.dr_script.specs.declared.script.Script.{Script}
@@ -21,7 +22,8 @@ calm_group s = record s { faults = []; schedule = Lockstep }
 
 -- the first age of the script was simulated so, over logs that stopped nobody: so there is no other such age
 pub record IsFirstAge (script : Script) (age : AgeEnd) : Type 0 where
-  pub run : IsSimulated script (first_start_of script) 0 age
+  pub over : Program
+  pub run : IsSimulated script (first_start_of script) 0 age over
   pub stored : NoneStopped age.members
 
 -- whether a member ended as done

@@ -25,9 +25,9 @@ ring_grown members column old new ring le = record {
 
 -- two members' rows show the same of what votes go by
 pub record AreAlike (n : ℕ) (f g : Shown) : Type 0 where
-  leavers : (i : ℕ) → f i (leavers_column n) ≡ g i (leavers_column n)
-  trims : (i s : ℕ) → f i (trim_column n s) ≡ g i (trim_column n s)
-  counts : (i s : ℕ) → f i (recv_column s) ≡ g i (recv_column s)
+  pub leavers : (i : ℕ) → f i (leavers_column n) ≡ g i (leavers_column n)
+  pub trims : (i s : ℕ) → f i (trim_column n s) ≡ g i (trim_column n s)
+  pub counts : (i s : ℕ) → f i (recv_column s) ≡ g i (recv_column s)
 
 -- a beat is none of them
 pub beats_alike : (n : ℕ) (w : Words) (v : ℕ) → AreAlike n (seen (with_own w BEAT_COLUMN v)) (seen w)

@@ -78,18 +78,10 @@ fn most_room(replicas: &[Option<Replica>]) -> usize
     let mut most = 0;
     for place in replicas {
         if let Some(replica) = place {
-            most = most.max(room_of(replica));
+            most = most.max(replica.room());
         }
     }
     most
-}
-
-/// How many entries the history of a replica has room for.
-fn room_of(replica: &Replica) -> usize
-    ensures { result ≡ replica.now.room }
-{
-    let _ = replica.me();
-    replica.appends_left() + replica.logged() as usize
 }
 
 /// The entries that every history of the age begins with.

@@ -88,7 +88,6 @@ fn index_in(replica: &Replica, copy: u8, row: u8, column: usize) -> usize
     ensures index { result ≡ index_in replica.now copy row column }
     ensures within { result < words_of replica.now.roster replica.now.window replica.now.banks }
 {
-    let _ = replica.me();
     replica
         .shape()
         .word_index(replica.view(), copy, row, column)

@@ -75,6 +75,7 @@ impl Replica {
         ensures grown { self.new.view ≡ self.old.view → NoWordFell self.old self.new }
         ensures form { HasForm self.new }
     {
+        // Asked before the fields change: with its number it tells that it has its form, which each act keeps.
         let _ = self.me();
         match act {
             Act::Finish => self.leave(),
@@ -199,6 +200,7 @@ impl Replica {
         ensures after { self.new ≡ finished (acted self.old) }
         ensures form { HasForm self.new }
     {
+        // As in `take`: it has its form before the fields change.
         let _ = self.me();
         self.stamp();
         self.finish();

@@ -53,7 +53,6 @@ impl Replica {
     pub fn least_received(&self) -> u64
         ensures { result ≡ least_seen self.now RECEIVED_COLUMN }
     {
-        let _ = self.me();
         self.least_seen(RECEIVED_COLUMN)
     }
 
@@ -61,7 +60,6 @@ impl Replica {
     pub fn least_logged(&self) -> u64
         ensures { result ≡ least_seen self.now LOGGED_COLUMN }
     {
-        let _ = self.me();
         self.least_seen(LOGGED_COLUMN)
     }
 

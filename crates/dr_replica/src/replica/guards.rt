@@ -8,6 +8,7 @@ ghost use Rattle.dr_suspect.specs.Wishes.{may_wish};
 ghost use Rattle.dr_entry.specs.declared.limits.TheConstants.{MAX_MEMBERS};
 ghost use Rattle.dr_ring.specs.Slots.{IsReady, is_free, slot_of};
 ghost use Rattle.dr_words.specs.declared.column.TheConstants.{RECEIVED_COLUMN};
+ghost use Rattle.dr_words.specs.Columns.{columns_of};
 ghost use Rattle.dr_words.specs.Masks.{without};
 ghost use Rattle.dr_rows.specs.Words.{changed};
 
@@ -303,7 +304,7 @@ impl Replica {
 
     /// The least word of a column over the rows of its view.
     pub(super) fn least_seen(&self, column: usize) -> u64
-        requires { column < self.now.rows.columns }
+        requires { column < columns_of self.now.roster self.now.window }
         ensures { result ≡ least_seen self.now column }
     {
         least_word(&self.rows, self.members, column).unwrap_or(u64::MAX)

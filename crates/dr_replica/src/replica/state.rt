@@ -38,10 +38,11 @@ impl Replica {
         self.shape
     }
 
-    /// The number of its view.
+    /// The number of its view, for which there is a bank.
     #[inline]
     pub fn view(&self) -> u8
-        ensures { result ≡ self.now.view }
+        ensures view { result ≡ self.now.view }
+        ensures bank { result < self.now.banks }
     {
         self.view
     }
@@ -139,6 +140,13 @@ impl Replica {
         ensures { result ≡ self.now.logged }
     {
         self.logged as u64
+    }
+
+    /// How many entries its history has room for.
+    pub fn room(&self) -> usize
+        ensures { result ≡ self.now.room }
+    {
+        self.history.room()
     }
 
     /// How many entries more its log may get in this age.

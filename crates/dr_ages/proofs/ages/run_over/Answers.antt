@@ -1,8 +1,9 @@
 use Rattle.std.proofs.Common.{◌≡◌, ◌<◌, ◌∙◌, refl, sym, ap, subst, inr, length, ℕ, List, [], ◌∷◌, Option}
 use Rattle.std.specs.Prelude.{OnErr}
 use Rattle.std.proofs.lemmas.List.{with_items_is}
+use Rattle.dr_age.specs.Age.{IsAgeOn}
+use Rattle.dr_age.specs.Logged.{AreAsBefore, AreCalm, AreOpened}
 use Rattle.dr_entry.proofs.OptionFacts.{err_at, ok_at}
-use Rattle.dr_age.specs.Logged.{AreAmple, AreAsBefore, AreCalm, AreOpened, HaveCome}
 use Rattle.dr_log.specs.State.{LogState}
 use Rattle.dr_logged.specs.Served.{HaveSamePlaces}
 use Rattle.dr_opening.specs.Lists.{SomebodyPrompt, contents_of, log_of}
@@ -11,27 +12,24 @@ use Rattle.dr_opening.specs.Tries.{IsChosenOf}
 use Rattle.dr_opening.specs.Unopened.{IsWhyUnopened}
 use Rattle.dr_restart.specs.declared.start.Start.{Start}
 use Rattle.dr_restart.specs.Groups.{first_group_of, group_of}
+use Rattle.dr_yard.specs.Yards.{YardState}
 use Rattle.dr_logged.proofs.Served.{places_both}
 use Rattle.dr_opening.proofs.Lists.{contents_there}
 use Rattle.dr_opening.proofs.Logs.{opened_places, why_places}
 use Rattle.dr_ages.specs.declared.mode.Mode.TheVariants.{Sim}
-use Rattle.dr_ages.specs.declared.stop.Stop.{Stop}
-use Rattle.dr_ages.specs.Ages.{over_of}
-use Rattle.dr_ages.specs.Lacking.{LackedMemory}
-use Rattle.dr_ages.specs.Lent.{with_logs}
+use Rattle.dr_ages.specs.Ages.{IsPlayed}
+use Rattle.dr_ages.specs.Lent.{AreMounted}
 use Rattle.dr_ages.specs.Opened.{AreLater, HaveGoneOn}
-use Rattle.dr_ages.specs.Stops.{HasStopped, IsBehindMounts, NamesFaults}
-use Rattle.dr_ages.specs.Tried.{AreTried}
 use Rattle.dr_ages.specs.Watched.{HasSeen}
 use Rattle.dr_ages.proofs.Lacking.{lacked_age, lacked_opening}
 use Rattle.dr_ages.proofs.Opening.{are_opened, gone_on, opened_on}
 use Rattle.dr_ages.proofs.Played.{is_age, later_on, same_start, somebody_prompt}
 use Rattle.dr_ages.proofs.Staying.{later_by_all}
-use Rattle.dr_ages.proofs.Stopping.{why_behind, why_names, why_stops}
+use Rattle.dr_ages.proofs.Stopping.{IsOpeningOn, why_behind, why_names, why_stops}
 use Rattle.dr_ages.proofs.Tried.{why_tried}
 use Rattle.dr_ages.proofs.ages.run_over.Given.{Over}
-use Rattle.dr_ages.proofs.ages.run_over.Goals as goal
 use Rattle.dr_ages.proofs.ages.run_over.Goals.{After-of_unopened, After-play_age-ended}
+use Rattle.dr_ages.proofs.ages.run_over.Goals as goal
 
 pub open_age-requires-clause-whole : goal.open_age-requires-clause-whole
 open_age-requires-clause-whole g c κs h m log at =
@@ -78,67 +76,47 @@ as_many g c = (why_places g.D.Disk.told g.D.Disk.faults c.args.script.now c.args
 
 pub returns-in-Err-clause-stopped : goal.returns-in-Err-clause-stopped
 returns-in-Err-clause-stopped g c before mounted =
-    let told = g.D.Disk.told in
-    let faults = g.D.Disk.faults in
-    let script = c.args.script.now in
-    subst (λ (l : Logs g). HasStopped script c.args.part.now before (with_logs told faults before l) c.of_unopened.result)
-    (sym (with_items_is c.args.logs c.open_age.new.logs (as_many g c ∙ c.as_mut_slice.ensures.len)))
-    (subst (λ (s : Stop). HasStopped script c.args.part.now before (with_logs told faults before c.open_age.new.logs) s)
-    (sym c.of_unopened.ensures)
-    (why_stops told faults script c.args.part.now before c.args.logs.items c.open_age.new.logs c.in-Err.why c.requires.all
-    mounted c.requires.places (why g c)))
+    let items = with_items_is c.args.logs c.open_age.new.logs (as_many g c ∙ c.as_mut_slice.ensures.len) in
+    rw (items, c.of_unopened.ensures)
+    (why_stops g.D.Disk.told g.D.Disk.faults c.args.script.now c.args.part.now before c.args.logs.items
+    c.open_age.new.logs c.in-Err.why c.requires.all mounted c.requires.places (why g c))
 
 pub returns-in-Err-clause-lacked : goal.returns-in-Err-clause-lacked
 returns-in-Err-clause-lacked g c before mounted same =
-    let told = g.D.Disk.told in
-    let faults = g.D.Disk.faults in
-    let script = c.args.script.now in
-    subst (λ (l : Logs g).
-    LackedMemory script c.args.part.now c.args.mode before (with_logs told faults before l))
-    (sym (with_items_is c.args.logs c.open_age.new.logs (as_many g c ∙ c.as_mut_slice.ensures.len)))
-    (lacked_opening told faults script c.args.part.now c.args.mode before c.args.logs.items
-    c.open_age.new.logs c.in-Err.why c.requires.all mounted c.requires.places (why g c) (sym c.of_unopened.ensures ∙ same))
+    let items = with_items_is c.args.logs c.open_age.new.logs (as_many g c ∙ c.as_mut_slice.ensures.len) in
+    rw items
+    (lacked_opening g.D.Disk.told g.D.Disk.faults c.args.script.now c.args.part.now c.args.mode before
+    c.args.logs.items c.open_age.new.logs c.in-Err.why c.requires.all mounted c.requires.places (why g c)
+    (sym c.of_unopened.ensures ∙ same))
 
 pub returns-in-Err-clause-names : goal.returns-in-Err-clause-names
 returns-in-Err-clause-names g c before mounted =
-    let told = g.D.Disk.told in
-    let faults = g.D.Disk.faults in
-    subst (λ (l : Logs g). NamesFaults c.of_unopened.result before (with_logs told faults before l))
-    (sym (with_items_is c.args.logs c.open_age.new.logs (as_many g c ∙ c.as_mut_slice.ensures.len)))
-    (subst (λ (s : Stop). NamesFaults s before (with_logs told faults before c.open_age.new.logs))
-    (sym c.of_unopened.ensures)
-    (why_names told faults c.args.script.now c.args.part.now.late before c.args.logs.items c.open_age.new.logs c.in-Err.why
-    mounted (why g c)))
+    let items = with_items_is c.args.logs c.open_age.new.logs (as_many g c ∙ c.as_mut_slice.ensures.len) in
+    rw (items, c.of_unopened.ensures)
+    (why_names g.D.Disk.told g.D.Disk.faults c.args.script.now c.args.part.now.late before c.args.logs.items
+    c.open_age.new.logs c.in-Err.why mounted (why g c))
 
 pub returns-in-Err-clause-behind : goal.returns-in-Err-clause-behind
-returns-in-Err-clause-behind g c =
-    subst IsBehindMounts (sym c.of_unopened.ensures) (why_behind c.in-Err.why)
+returns-in-Err-clause-behind g c = rw c.of_unopened.ensures (why_behind c.in-Err.why)
 
 pub returns-in-Err-clause-later : goal.returns-in-Err-clause-later
 returns-in-Err-clause-later g c =
-    let told = g.D.Disk.told in
-    let faults = g.D.Disk.faults in
-    let script = c.args.script.now in
-    subst (λ (l : Logs g). HaveGoneOn told faults script (contents_of c.args.logs.items) c.args.logs.items l)
-    (sym (with_items_is c.args.logs c.open_age.new.logs (as_many g c ∙ c.as_mut_slice.ensures.len)))
-    (gone_on told faults script c.args.part.now.late c.args.logs.items c.open_age.new.logs c.in-Err.why (why g c))
+    let items = with_items_is c.args.logs c.open_age.new.logs (as_many g c ∙ c.as_mut_slice.ensures.len) in
+    rw items (gone_on g.D.Disk.told g.D.Disk.faults c.args.script.now c.args.part.now.late c.args.logs.items
+    c.open_age.new.logs c.in-Err.why (why g c))
 
 pub returns-in-Err-clause-places : goal.returns-in-Err-clause-places
 returns-in-Err-clause-places g c =
-    subst (λ (l : Logs g). HaveSamePlaces c.args.logs.items l)
-    (sym (with_items_is c.args.logs c.open_age.new.logs (as_many g c ∙ c.as_mut_slice.ensures.len)))
-    (why_places g.D.Disk.told g.D.Disk.faults c.args.script.now c.args.part.now.late c.args.logs.items c.open_age.new.logs
-    c.in-Err.why (why g c))
+    let items = with_items_is c.args.logs c.open_age.new.logs (as_many g c ∙ c.as_mut_slice.ensures.len) in
+    rw items (why_places g.D.Disk.told g.D.Disk.faults c.args.script.now c.args.part.now.late c.args.logs.items
+    c.open_age.new.logs c.in-Err.why (why g c))
 
 pub returns-in-Err-clause-tried : goal.returns-in-Err-clause-tried
 returns-in-Err-clause-tried g c before mounted tell unlike =
-    let told = g.D.Disk.told in
-    let faults = g.D.Disk.faults in
-    let missing = c.args.part.now.missing in
-    subst (λ (l : Logs g). AreTried c.args.script.now missing before (with_logs told faults before l))
-    (sym (with_items_is c.args.logs c.open_age.new.logs (as_many g c ∙ c.as_mut_slice.ensures.len)))
-    (why_tried told faults c.args.script.now missing c.args.part.now.late before c.args.logs.items c.open_age.new.logs
-    c.in-Err.why c.requires.ranges.group c.requires.all c.requires.places tell mounted (why g c))
+    let items = with_items_is c.args.logs c.open_age.new.logs (as_many g c ∙ c.as_mut_slice.ensures.len) in
+    rw items (why_tried g.D.Disk.told g.D.Disk.faults c.args.script.now c.args.part.now.missing c.args.part.now.late
+    before c.args.logs.items c.open_age.new.logs c.in-Err.why c.requires.ranges.group c.requires.all
+    c.requires.places tell mounted (why g c))
 
 -- ---- an age that was played
 
@@ -160,41 +138,33 @@ same_logs : (g : Over) (c : After-play_age-ended g) → length c.open_age.new.lo
 same_logs g c = (opened_places g.D.Disk.told g.D.Disk.faults c.in-Ok.start c.as_mut_slice.result.now
     c.open_age.new.logs c.in-Ok.ensures.opened).all
 
+-- the opening on them
+on : (g : Over) (c : After-play_age-ended g) (before : YardState)
+    → AreMounted g.D.Disk.told g.D.Disk.faults before c.args.logs.items
+    → IsOpeningOn g.D.Disk.told g.D.Disk.faults c.args.script.now c.args.part.now before c.in-Ok.start c.args.logs.items
+on g c before mounted = record {
+  all = c.requires.all;
+  mounted = mounted;
+  but = c.requires.places;
+  chosen = chosen g c;
+  members = c.in-Ok.ensures.members;
+}
+
 pub returns-in-Ok-ended-clause-age : goal.returns-in-Ok-ended-clause-age
 returns-in-Ok-ended-clause-age g c before mounted =
     let told = g.D.Disk.told in
     let faults = g.D.Disk.faults in
     let script = c.args.script.now in
     let start = c.in-Ok.start in
-    let olds : Logs g = c.args.logs.items in
     let mids : Logs g = c.open_age.new.logs in
     let news : Logs g = c.play_age-ended.result.1.items in
     let a = (goal.at.returns-in-Ok-ended-clause-age g c).After-play_age-ended in
-    let same = with_items_is c.args.logs mids (same_logs g a ∙ c.as_mut_slice.ensures.len) in
-    let ended = c.play_age-ended.result.0 in
     let age = c.in-Ok-ended.age in
-    let is = c.in-Ok-ended.is in
-    let run = ok_at _ ended age is c.play_age-ended.ensures.run in
-    is_age told faults script c.args.part.now c.args.mode c.args.nth before start olds mids news age (record {
-      ranges = c.requires.ranges;
-      all = c.requires.all;
-      mounted = mounted;
-      but = c.requires.places;
-      starts = chosen g a;
-      late = c.in-Ok.ensures.members;
-      began = began g a;
-      run = run.0;
-      come = subst (λ (l : Logs g).
-          HaveCome told faults l news (over_of c.args.mode script start c.args.nth age run.0).members) same run.1;
-      agreed = ok_at _ ended age is c.play_age-ended.ensures.agreed;
-      ended = ok_at _ ended age is c.play_age-ended.ensures.ended;
-      trusting = ok_at _ ended age is c.play_age-ended.ensures.trusting;
-      complete = ok_at _ ended age is c.play_age-ended.ensures.complete;
-      ample = λ all. ok_at _ ended age is c.play_age-ended.ensures.ample
-          (subst (λ (l : Logs g). AreAmple (group_of script start) l) (sym same) all);
-      places = subst (λ (l : Logs g). HaveSamePlaces l news) same c.play_age-ended.ensures.places;
-      members = ok_at _ ended age is c.play_age-ended.ensures.members ∙ ap length same;
-    })
+    is_age told faults script c.args.part.now c.args.mode c.args.nth before start c.args.logs.items mids news age
+    c.requires.ranges (on g a before mounted) (began g a)
+    (subst (λ (l : Logs g). IsAgeOn (IsPlayed c.args.mode) told faults script start c.args.nth l news age)
+    (with_items_is c.args.logs mids (same_logs g a ∙ c.as_mut_slice.ensures.len))
+    (ok_at _ c.play_age-ended.result.0 age c.in-Ok-ended.is c.play_age-ended.ensures.age))
 
 pub returns-in-Ok-ended-clause-watched : goal.returns-in-Ok-ended-clause-watched
 returns-in-Ok-ended-clause-watched g c =
@@ -202,13 +172,13 @@ returns-in-Ok-ended-clause-watched g c =
     let ended = c.play_age-ended.result.0 in
     let age = c.in-Ok-ended.age in
     let a = (goal.at.returns-in-Ok-ended-clause-watched g c).After-play_age-ended in
-    let run = ok_at _ ended age c.in-Ok-ended.is c.play_age-ended.ensures.run in
+    let is = ok_at _ ended age c.in-Ok-ended.is c.play_age-ended.ensures.age in
     subst (λ (start : Start). HasSeen g.W.Watcher.opens g.W.Watcher.sees g.W.Watcher.closes c.args.mode script
     start c.args.nth c.args.watcher.now c.play_age-ended.new.watcher age)
     (same_start c.args.mode script c.args.part.now (contents_of c.args.logs.items) c.in-Ok.start c.args.nth age
     c.requires.ranges.group.lists
     (λ m l. contents_there c.args.logs.items m ∙ c.requires.places m (subst (λ (n : ℕ). m < n) (sym c.requires.all) l))
-    (chosen g a) c.in-Ok.ensures.members run.0)
+    (chosen g a) c.in-Ok.ensures.members is.played)
     (ok_at _ ended age c.in-Ok-ended.is c.play_age-ended.ensures.watched)
 
 -- a log is later behind the opening and the age
@@ -265,13 +235,8 @@ returns-clause-lacked g c before mounted same =
     let news : Logs g = c.play_age-ended.result.1.items in
     let a = (goal.at.returns-clause-lacked g c).After-play_age-ended in
     let items = with_items_is c.args.logs mids (same_logs g a ∙ c.as_mut_slice.ensures.len) in
-    lacked_age told faults script c.args.part.now c.args.mode before start olds mids news (record {
-      all = c.requires.all;
-      mounted = mounted;
-      but = c.requires.places;
-      chosen = chosen g a;
-      members = c.in-Ok.ensures.members;
-    }) (began g a)
+    lacked_age told faults script c.args.part.now c.args.mode before start olds mids news
+    (on g a before mounted) (began g a)
     (subst (λ (l : Logs g). AreLater told faults [] l news) items c.play_age-ended.ensures.later)
     (subst (λ (l : Logs g). HaveSamePlaces l news) items c.play_age-ended.ensures.places)
     (err_at _ c.play_age-ended.result.0 _ c.in-Err-ended.is

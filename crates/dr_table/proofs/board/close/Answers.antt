@@ -1,13 +1,16 @@
 use Rattle.std.proofs.Common.{◌≡◌, refl, sym, ap, ◌∙◌, subst, length, map}
 use Rattle.std.specs.Prelude.{Some, option_map, slice_get}
-use Rattle.dr_entry.proofs.ListPlaces.{by_table}
 use Rattle.dr_program.specs.Program.{IsRanFrom, Program, begun_program}
-use Rattle.dr_table.specs.Cards.{AreAtEnd, AreSame, Cards}
+use Rattle.dr_table.specs.Cards.{AreSame, Cards}
+use Rattle.atomic_table.specs.Table.{Me}
+use Rattle.dr_table.specs.declared.rule.View.{View}
+use Rattle.dr_table.specs.Slots.{Slot}
 use Rattle.dr_table.specs.Rule.{hands, number}
-use Rattle.dr_table.proofs.Hands.{board_opened, seat_knows}
+use Rattle.dr_table.proofs.Hands.{board_opened}
 use Rattle.dr_table.proofs.Room.{whole}
 use Rattle.dr_table.proofs.Seats.{hands_get}
 use Rattle.dr_table.proofs.board.close.Goals as goal
+use Rattle.dr_entry.proofs.ListPlaces.{by_table}
 
 pub returns-clause-ran : goal.returns-clause-ran
 returns-clause-ran c =
@@ -17,11 +20,9 @@ returns-clause-ran c =
     let shared = c.board.inside.table.shared in
     let items = c.hand.inside.members.items in
     let is = ap (λ (w : Cards). w.members) c.hand.view_is in
-    let knows = seat_knows c.hand.inside.seat.me.0.members items c.hand.invariant.ahead
-    (subst AreAtEnd (sym is) c.requires.ended) in
     let mine : slice_get (hands s.views) c.hand.inside.seat.id ≡ Some items =
     hands_get s.views c.hand.inside.seat.id c.hand.inside.seat.me.0
-    (by_table s.views c.hand.inside.seat.id c.hand.inside.seat.me.0 final.1.1) ∙ ap (λ v. Some v) knows in
+    (by_table s.views c.hand.inside.seat.id c.hand.inside.seat.me.0 final.1.1) ∙ ap (λ (m : Me Slot View). Some m.0.members) c.hand.invariant.known in
     let all : AreSame shared.key.items items =
     ap (map (option_map number)) is ∙ c.requires.all ∙ ap (map (option_map number))
     (sym (ap (λ (w : Cards). w.members) c.board.view_is)) in

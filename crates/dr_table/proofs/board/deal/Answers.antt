@@ -8,14 +8,10 @@ use Rattle.dr_words.specs.Layout.{words_of}
 use Rattle.dr_program.specs.Presence.{present_at}
 use Rattle.std.specs.declared.alloc.Global.{Global}
 use Rattle.atomic_table.specs.Seated.{TableId}
-use Rattle.atomic_table.specs.Table.{Me}
 use Rattle.dr_program.specs.Running.{Running}
 use Rattle.dr_table.specs.Cards.{opened}
-use Rattle.dr_table.specs.declared.rule.View.{View}
 use Rattle.dr_table.specs.Rule.{HasSuchProgram, IsDealt}
-use Rattle.dr_table.specs.Slots.{Slot}
-use Rattle.dr_table.proofs.Hands.{ahead_same, dealt_few, dealt_form, dealt_kept, dealt_late, dealt_of, dealt_opened, dealt_reached, dealt_size, dealt_small, dealt_some, dealt_words}
-use Rattle.dr_table.proofs.Members.{idle_is}
+use Rattle.dr_table.proofs.Hands.{dealt_few, dealt_form, dealt_kept, dealt_late, dealt_of, dealt_opened, dealt_reached, dealt_size, dealt_small, dealt_some, dealt_words}
 use Rattle.dr_table.proofs.Posting.{free}
 use Rattle.dr_table.proofs.board.deal.Goals as goal
 use mathlib.Core.Option.{some}
@@ -102,9 +98,7 @@ invariant_of-result-2 c =
     c.first_present-first.ensures c.table_words.ensures (c.len-places.ensures ∙ c.args.members.ok.0)
     c.in-Ok.ensures.ok.0 in
     let words = ap (λ (t : TableId). t.words) c.in-Ok.ensures.ok.2 ∙ size in record {
-      ahead = ahead_same c.in-Ok.seat.me.0.members items (ap (λ (me : Me Slot View). me.0.members)
-          c.in-Ok.ensures.ok.4);
-      idle = idle_is c.in-Ok.seat.me items c.in-Ok.ensures.ok.4;
+      known = c.in-Ok.ensures.ok.4;
       reached = dealt_reached items d;
       of = λ k r there. dealt_of items d k r there ∙ sym words;
       words = omega (arith, words, dealt_words items d);

@@ -1,21 +1,19 @@
-use Rattle.std.proofs.Common.{length, ◌+◌, ◌≤◌, ◌≡◌, ◌<◌, ◌++◌, ℕ, List, sym, ap, ◌∙◌, subst, arith, Result, Ok, Err, IsOk, is_ok, if◌then◌else◌, true≢false}
+use Rattle.std.proofs.Common.{length, length-append, ◌+◌, ◌≤◌, ◌≡◌, ◌<◌, ◌++◌, List, sym, ap, ◌∙◌, subst, arith, Result, Ok, Err, IsOk, is_ok, if◌then◌else◌, true≢false}
 use Rattle.std.specs.declared.alloc.AllocError.{AllocError}
 use Rattle.std.specs.Prelude.{vec_capacity, Option}
 use Rattle.atomic_table.specs.Seated.{TableId}
 use Rattle.atomic_table.specs.Table.{Me}
 use Rattle.dr_program.specs.Running.{Running}
-use Rattle.dr_program.proofs.Present.{each_append}
 use Rattle.dr_table.specs.Cards.{AreOf, AreReached, Cards, DealtTable, board_size}
 use Rattle.dr_table.specs.declared.rule.View.{View}
 use Rattle.dr_table.specs.Slots.{Slot}
-use Rattle.dr_table.specs.Steps.{AreAhead, IsReachedMember, idle}
+use Rattle.dr_table.specs.Steps.{IsReachedMember, idle}
 use Rattle.dr_table.proofs.Cuts.{join_allowed}
 use Rattle.dr_table.proofs.Keeping.{no_errand, no_slots}
-use Rattle.dr_table.proofs.Members.{idle_is}
 use Rattle.dr_table.proofs.Posting.{free}
-use Rattle.dr_table.proofs.Hands.{ahead_append, both_fit}
 use Rattle.dr_table.proofs.hand.gather_hands.Goals as goal
 use Rattle.dr_table.proofs.hand.gather_hands.Goals.{After-append}
+use Rattle.dr_program.proofs.Present.{each_append}
 
 pub join_seat-requires : goal.join_seat-requires
 join_seat-requires c =
@@ -25,10 +23,10 @@ join_seat-requires c =
     let b = ap (λ (w : Cards). w.table.id) c.b.view_is ∙ ap id c.requires.second ∙ home in (
       a,
       b,
-      no_slots c.b.inside.seat.me c.b.invariant.idle,
+      no_slots c.b.inside.seat.me _ c.b.invariant.known,
       subst (λ (t : TableId). 0 < t.words) a c.a.invariant.words,
-      join_allowed _ _ _ _ _ (no_errand c.a.inside.seat.me c.a.invariant.idle)
-          (no_errand c.b.inside.seat.me c.b.invariant.idle),
+      join_allowed _ _ _ _ _ (no_errand c.a.inside.seat.me _ c.a.invariant.known)
+          (no_errand c.b.inside.seat.me _ c.b.invariant.known),
     )
 
 pub count_at-requires-clause-table : goal.count_at-requires-clause-table
@@ -53,17 +51,21 @@ places c = sym (ap (λ (w : Cards). length w.members) c.board.view_is)
     ∙ ap (λ (w : Cards). w.table.places) c.board.view_is ∙ sym (ap (λ (t : DealtTable). t.places) c.requires.first)
     ∙ sym (ap (λ (w : Cards). w.table.places) c.a.view_is)
 
--- there is room for the members of both
+-- the seat has the members of both
+both : (c : After-append)
+    → c.join_seat.new.seat.me ≡ idle (c.a.inside.members.items ++ c.b.inside.members.items)
+both c = c.join_seat.ensures.2
+    ∙ (λ z. (free ((c.a.invariant.known z).0.members ++ (c.b.invariant.known z).0.members), (c.a.invariant.known z).1))
+
+-- there is room for them
 fits : (c : After-append)
     → length c.a.inside.members.items + length c.b.inside.members.items ≤ vec_capacity c.a.inside.members
 fits c =
-    let x = c.a.inside.members in
-    let few : length (c.a.inside.seat.me.0.members ++ c.b.inside.seat.me.0.members) ≤ c.a.inside.places =
-    subst (λ n. length (c.a.inside.seat.me.0.members ++ c.b.inside.seat.me.0.members) ≤ n) (places c)
-    (subst (λ (m : Me Slot View). length m.0.members ≤ length c.args.board.now.members)
-    c.join_seat.ensures.2 c.count_at.ensures.few) in
-    both_fit c.a.inside.seat.me.0.members c.b.inside.seat.me.0.members x.items c.b.inside.members.items c.a.inside.places
-    (vec_capacity x) c.a.invariant.ahead c.b.invariant.ahead few c.a.invariant.room
+    let few : length (c.a.inside.members.items ++ c.b.inside.members.items) ≤ c.a.inside.places =
+    subst (λ n. length (c.a.inside.members.items ++ c.b.inside.members.items) ≤ n) (places c)
+    (subst (λ (m : Me Slot View). length m.0.members ≤ length c.args.board.now.members) (both c)
+    c.count_at.ensures.few) in
+    omega (arith, few, length-append c.a.inside.members.items c.b.inside.members.items, c.a.invariant.room)
 
 both_there : (c : After-append) → IsOk c.append.result
 both_there c = let fit = fits c in c.append.ensures.succeeds
@@ -76,20 +78,12 @@ pub invariant_of-result : goal.invariant_of-result
 invariant_of-result c =
     let x = c.a.inside.members in
     let y = c.b.inside.members in
-    let me : c.count_at.new.seat.me ≡ idle (c.a.inside.seat.me.0.members ++ c.b.inside.seat.me.0.members) =
-    c.count_at.ensures.seat.1 ∙ c.join_seat.ensures.2
-    ∙ ap (λ (l : List (ℕ × Slot)). (free (c.a.inside.seat.me.0.members ++ c.b.inside.seat.me.0.members), l))
-    (no_slots c.a.inside.seat.me c.a.invariant.idle) in
     let items = appended c.append.result c.append.new.self.items x.items y.items c.append.ensures.items
     (both_there (goal.at.invariant_of-result c).After-append) in
     let table = c.count_at.ensures.seat.0 ∙ c.join_seat.ensures.0 in
     let tables = ap (λ (t : DealtTable). t.id) (ap (λ (w : Cards). w.table) c.a.view_is ∙ c.requires.first
     ∙ sym c.requires.second ∙ sym (ap (λ (w : Cards). w.table) c.b.view_is)) in record {
-      ahead = subst (λ (m : Me Slot View). AreAhead m.0.members c.append.new.self.items) (sym me)
-          (subst (AreAhead (c.a.inside.seat.me.0.members ++ c.b.inside.seat.me.0.members)) (sym items)
-          (ahead_append c.a.inside.seat.me.0.members x.items c.b.inside.seat.me.0.members y.items c.a.invariant.ahead
-          c.b.invariant.ahead));
-      idle = idle_is c.count_at.new.seat.me (c.a.inside.seat.me.0.members ++ c.b.inside.seat.me.0.members) me;
+      known = c.count_at.ensures.seat.1 ∙ both (goal.at.invariant_of-result c).After-append ∙ ap idle (sym items);
       reached = subst AreReached (sym items)
           (each_append IsReachedMember x.items y.items c.a.invariant.reached c.b.invariant.reached);
       of = subst (AreOf c.count_at.new.seat.table_id.words) (sym items)

@@ -10,7 +10,7 @@ pub split_seat-requires : goal.split_seat-requires
 split_seat-requires g c = (
   c.requires.table ∙ sym (ap (λ (w : Cards). w.table.id) c.board.view_is),
   subst (λ (w : Cards). 0 < w.table.id.words) (sym c.board.view_is) c.requires.words,
-  cut_allowed _ _ g.J.Place.at _ (no_errand c.args.seat.now.me c.requires.idle),
+  cut_allowed _ _ g.J.Place.at _ (no_errand c.args.seat.now.me _ c.requires.idle),
 )
 
 pub returns-clause-seat : goal.returns-clause-seat
@@ -19,7 +19,7 @@ returns-clause-seat g c = (
   subst (λ n. c.split_seat.new.seat.me ≡ idle (take n c.args.seat.now.me.0.members)) (sym c.requires.at)
       (c.split_seat.ensures.2 ∙ (λ z. (
         free (take g.J.Place.at c.args.seat.now.me.0.members),
-        no_slots c.args.seat.now.me c.requires.idle z,
+        no_slots c.args.seat.now.me c.args.seat.now.me.0.members c.requires.idle z,
       ))),
 )
 

@@ -5,15 +5,13 @@ use Rattle.dr_table.specs.Cards.{Cards}
 use Rattle.dr_table.specs.Steps.{IsAhead}
 use Rattle.dr_table.proofs.Keeping.{look_allowed}
 use Rattle.dr_table.proofs.moves.look_at.Goals as goal
-use Rattle.dr_program.specs.Presence.{present_at}
 
 pub load-requires : goal.load-requires
 load-requires g c =
-    let t = c.requires.there in (
+    let (r, only, ahead) = c.requires.alone in (
       c.requires.table ∙ sym (ap (λ (w : Cards). w.table.id) c.board.view_is),
       subst (λ (w : Cards). c.args.word < w.table.id.words) (sym c.board.view_is) c.requires.word,
-      look_allowed _ _ _ _ _ c.args.seat.now.me t.0 _ c.requires.idle
-          (ap (present_at c.args.seat.now.me.0.members) (sym c.requires.at) ∙ t.1)
-          (subst (IsAhead t.0) c.requires.now t.2) (ap next_deed (sym c.requires.now) ∙ c.requires.deed)
+      look_allowed _ _ _ _ c.args.seat.now.me r _ only (subst (IsAhead r) c.requires.now ahead)
+          (ap next_deed (sym c.requires.now) ∙ c.requires.deed)
           (subst (λ q. c.args.word < table_size q) c.requires.now c.requires.within),
     )

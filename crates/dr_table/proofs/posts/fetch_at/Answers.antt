@@ -16,7 +16,7 @@ store-requires g c = let due = c.requires.due.takes (omega (arith, c.requires.se
   c.requires.table ∙ sym (ap (λ (w : Cards). w.table.id) c.board.view_is),
   subst (λ (w : Cards). c.args.word < w.table.id.words) (sym c.board.view_is) c.requires.at.within,
   fetch_allowed _ _ _ _ c.args.seat.now.me g.J.Posting.errand g.J.Posting.now c.requires.seen
-      c.requires.second c.requires.there due.0 due.1 c.requires.at.word,
+      c.requires.second due.0 due.1 c.requires.at.word,
 )
 
 pub exchange-requires : goal.exchange-requires
@@ -50,6 +50,6 @@ returns-clause-fetched g c =
     let (list, may, is) = c.store.ensures.2 in
     let same = first_is c.store.new.seat.me.1 _ _ _ _ c.exchange.ensures.2 (ap (λ (m : Me Slot View). m.1) is) in
     exchanged c.store.new.seat.me c.exchange.new.seat.me _ _ _ c.args.slot None is c.exchange.ensures.3
-    ∙ ap (λ (l : Vec Entry Global). busy c.args.seat.now.me.0.members
+    ∙ ap (λ (l : Vec Entry Global). busy g.J.Posting.now
     (record g.J.Posting.errand { word = 3; letter = l.items }) ((c.args.slot, None) ∷ []))
     (same_list c.exchange.result list c.in-Some.letter same c.in-Some.is)

@@ -1,54 +1,49 @@
-use Rattle.std.proofs.Common.{◌+◌, ◌≤◌, sym, ap, ◌∙◌, subst, arith, set-set}
-use Rattle.std.specs.Prelude.{Some, vec_capacity}
-use Rattle.atomic_table.specs.Table.{Me}
+use Rattle.std.proofs.Common.{◌+◌, ◌≤◌, sym, ap, ◌∙◌, subst, arith}
+use Rattle.std.specs.Prelude.{vec_capacity}
 use Rattle.dr_history.specs.History.{up_to_view}
 use Rattle.dr_history.specs.Members.{has}
 use Rattle.dr_member.specs.Deeds.{table_size}
-use Rattle.dr_program.proofs.Present.{present_set, present_within}
-use Rattle.dr_program.specs.Presence.{with_present}
-use Rattle.dr_program.specs.Running.{Running, after_step}
-use Rattle.dr_table.specs.declared.rule.View.{View}
-use Rattle.dr_table.specs.Slots.{Slot, slot_number}
-use Rattle.dr_table.specs.Steps.{idle}
-use Rattle.dr_table.proofs.Holding.{busy_is, giver_knows, letter_at, members_there}
+use Rattle.dr_program.specs.Running.{Running}
+use Rattle.dr_table.specs.Slots.{slot_number}
+use Rattle.dr_table.proofs.Holding.{giver_knows, letter_at}
 use Rattle.dr_table.proofs.posts.give_at.Goals as goal
 
 pub overflow_add-word : goal.overflow_add-word
 overflow_add-word g c =
     let k = giver_knows g.J.Posting.now g.J.Posting.errand.late c.requires.reached
-    (c.requires.due.gives c.requires.errand.2) in
+    (c.requires.due.gives c.requires.errand.1) in
     omega (
       arith,
       k.within,
       k.few,
       k.small,
       c.table_words.ensures,
-      c.requires.errand.1,
+      c.requires.errand.0,
       ap table_size c.requires.now,
     )
 
 pub rank_of-requires-clause-number : goal.rank_of-requires-clause-number
 rank_of-requires-clause-number g c =
     let k = giver_knows g.J.Posting.now g.J.Posting.errand.late c.requires.reached
-    (c.requires.due.gives c.requires.errand.2) in
-    omega (arith, k.within, k.few, c.requires.errand.1)
+    (c.requires.due.gives c.requires.errand.1) in
+    omega (arith, k.within, k.few, c.requires.errand.0)
 
 pub rank_of-requires-clause-member : goal.rank_of-requires-clause-member
 rank_of-requires-clause-member g c =
     let k = giver_knows g.J.Posting.now g.J.Posting.errand.late c.requires.reached
-    (c.requires.due.gives c.requires.errand.2) in
-    ap (has c.late.result) (sym c.requires.errand.1)
+    (c.requires.due.gives c.requires.errand.1) in
+    ap (has c.late.result) (sym c.requires.errand.0)
     ∙ ap (λ mask. has mask g.J.Posting.errand.late)
     (c.late.ensures ∙ sym (ap (λ (r : Running). r.replica.late) c.requires.now)) ∙ k.late
 
 pub open_at-letter-requires-clause-first : goal.open_at-letter-requires-clause-first
-open_at-letter-requires-clause-first g c = c.requires.errand.2
+open_at-letter-requires-clause-first g c = c.requires.errand.1
 
 pub open_at-letter-requires-clause-at : goal.open_at-letter-requires-clause-at
 open_at-letter-requires-clause-at g c =
     let k = giver_knows g.J.Posting.now g.J.Posting.errand.late c.requires.reached
-    (c.requires.due.gives c.requires.errand.2) in
-    letter_at _ _ _ _ _ _ _ k c.requires.size c.requires.errand.1 c.requires.now
+    (c.requires.due.gives c.requires.errand.1) in
+    letter_at _ _ _ _ _ _ _ k c.requires.size c.requires.errand.0 c.requires.now
     (λ z. c.table_words.ensures z + c.from.ensures z)
     (c.from-slot.ensures ∙ c.rank_of.ensures.rank ∙ ap (λ mask. slot_number mask c.args.late) c.late.ensures)
 
@@ -58,34 +53,16 @@ letter-requires-clause-room g c =
     c.open_at-letter.ensures.blank.fits
 
 pub home_at-requires-clause-first : goal.home_at-requires-clause-first
-home_at-requires-clause-first g c = c.requires.errand.2
-
-pub home_at-requires-clause-opened : goal.home_at-requires-clause-opened
-home_at-requires-clause-opened g c = busy_is _ _ _ _ c.open_at-letter.ensures.opened
-
-pub home_at-requires-clause-there : goal.home_at-requires-clause-there
-home_at-requires-clause-there g c =
-    let t = c.requires.there in
-    members_there _ _ _ _ _ _ c.open_at-letter.ensures.opened
-    (present_set c.args.seat.now.me.0.members g.J.Posting.errand.place g.J.Posting.now
-    (present_within c.args.seat.now.me.0.members g.J.Posting.errand.place t.0 t.1))
+home_at-requires-clause-first g c = c.requires.errand.1
 
 pub home_at-requires-clause-at : goal.home_at-requires-clause-at
 home_at-requires-clause-at g c =
     let k = giver_knows g.J.Posting.now g.J.Posting.errand.late c.requires.reached
-    (c.requires.due.gives c.requires.errand.2) in
-    letter_at _ _ _ _ _ _ _ k c.requires.size c.requires.errand.1 c.requires.now
+    (c.requires.due.gives c.requires.errand.1) in
+    letter_at _ _ _ _ _ _ _ k c.requires.size c.requires.errand.0 c.requires.now
     (λ z. c.table_words.ensures z + c.from.ensures z)
     (c.from-slot.ensures ∙ c.rank_of.ensures.rank ∙ ap (λ mask. slot_number mask c.args.late) c.late.ensures)
 
 pub home_at-requires-clause-letter : goal.home_at-requires-clause-letter
 home_at-requires-clause-letter g c =
     c.letter.ensures ∙ sym (ap (λ (r : Running). up_to_view r.replica.history) c.requires.now)
-
-pub returns-clause-given : goal.returns-clause-given
-returns-clause-given g c =
-    let at = g.J.Posting.errand.place in
-    let x = after_step 0 g.J.Posting.now in
-    c.home_at.ensures.given
-    ∙ ap (λ (m : Me Slot View). idle (with_present m.0.members at x)) c.open_at-letter.ensures.opened
-    ∙ ap idle (set-set c.args.seat.now.me.0.members at (Some g.J.Posting.now) (Some x))

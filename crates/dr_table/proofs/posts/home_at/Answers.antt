@@ -4,11 +4,8 @@ use Rattle.atomic_table.specs.Table.{Me}
 use Rattle.dr_table.specs.Cards.{Cards}
 use Rattle.dr_table.specs.declared.rule.View.{View}
 use Rattle.dr_table.specs.Slots.{Slot}
-use Rattle.dr_program.specs.Presence.{with_present}
-use Rattle.dr_program.specs.Running.{after_step}
-use Rattle.dr_table.specs.Steps.{idle}
 use Rattle.dr_table.proofs.Exchanges.{home_allowed}
-use Rattle.dr_table.proofs.Holding.{busy_is, exchanged, held, members_there}
+use Rattle.dr_table.proofs.Holding.{exchanged, held}
 use Rattle.dr_table.proofs.posts.home_at.Goals as goal
 
 pub exchange-none-requires : goal.exchange-none-requires
@@ -18,22 +15,11 @@ exchange-none-requires g c = (
 )
 
 pub store-requires : goal.store-requires
-store-requires g c =
-    let is = exchanged c.args.seat.now.me c.exchange-none.new.seat.me _ _ _ c.args.slot (Some c.args.letter)
-    c.requires.opened c.exchange-none.ensures.3 in (
-      c.exchange-none.ensures.0 ∙ c.requires.table ∙ sym (ap (λ (w : Cards). w.table.id) c.board.view_is),
-      subst (λ (w : Cards). c.args.word < w.table.id.words) (sym c.board.view_is) c.requires.at.within,
-      home_allowed _ _ _ _ c.args.slot c.exchange-none.new.seat.me g.J.Posting.errand c.args.letter
-          g.J.Posting.now (busy_is _ _ _ _ is) c.requires.first
-          (members_there _ _ _ _ _ _ is c.requires.there) (c.requires.due.gives c.requires.first)
-          c.requires.at.word c.requires.at.home
-          c.requires.letter,
-    )
-
-pub returns-clause-given : goal.returns-clause-given
-returns-clause-given g c =
-    let is = exchanged c.args.seat.now.me c.exchange-none.new.seat.me _ _ _ c.args.slot (Some c.args.letter)
-    c.requires.opened c.exchange-none.ensures.3 in
-    c.store.ensures.2
-    ∙ ap (λ (m : Me Slot View). idle (with_present m.0.members g.J.Posting.errand.place
-    (after_step 0 g.J.Posting.now))) is
+store-requires g c = (
+  c.exchange-none.ensures.0 ∙ c.requires.table ∙ sym (ap (λ (w : Cards). w.table.id) c.board.view_is),
+  subst (λ (w : Cards). c.args.word < w.table.id.words) (sym c.board.view_is) c.requires.at.within,
+  home_allowed _ _ _ _ c.args.slot c.exchange-none.new.seat.me g.J.Posting.errand c.args.letter g.J.Posting.now
+      (exchanged c.args.seat.now.me c.exchange-none.new.seat.me _ _ _ c.args.slot (Some c.args.letter)
+      c.requires.opened c.exchange-none.ensures.3) c.requires.first (c.requires.due.gives c.requires.first)
+      c.requires.at.word c.requires.at.home c.requires.letter,
+)

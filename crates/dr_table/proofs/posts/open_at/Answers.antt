@@ -10,11 +10,11 @@ use Rattle.dr_table.proofs.posts.open_at.Goals as goal
 
 pub store-requires : goal.store-requires
 store-requires g c =
-    let t = c.requires.there in (
+    let (r, only, ahead) = c.requires.alone in (
       c.requires.table ∙ sym (ap (λ (w : Cards). w.table.id) c.board.view_is),
       subst (λ (w : Cards). c.args.word < w.table.id.words) (sym c.board.view_is) c.requires.at.within,
-      open_allowed _ _ _ _ c.args.seat.now.me g.J.Posting.errand t.0 g.J.Posting.now c.requires.idle
-          c.requires.first t.1 t.2 (c.requires.due.gives c.requires.first) c.requires.at.word,
+      open_allowed _ _ _ _ c.args.seat.now.me g.J.Posting.errand r g.J.Posting.now only c.requires.first ahead
+          (c.requires.due.gives c.requires.first) c.requires.at.word,
     )
 
 pub exchange-requires : goal.exchange-requires

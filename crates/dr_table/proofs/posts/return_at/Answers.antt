@@ -9,5 +9,5 @@ store-requires g c =
       c.requires.table ∙ sym (ap (λ (w : Cards). w.table.id) c.board.view_is),
       subst (λ (w : Cards). c.args.word < w.table.id.words) (sym c.board.view_is) c.requires.within,
       return_allowed _ _ _ _ c.args.seat.now.me g.J.Posting.errand g.J.Posting.now
-          c.requires.fetched c.requires.there due.0 due.1 c.requires.word,
+          c.requires.fetched due.0 due.1 c.requires.word,
     )

@@ -1,21 +1,19 @@
-use Rattle.std.proofs.Common.{◌+◌, ◌∷◌, [], sym, ap, ◌∙◌, subst, arith, set-set}
-use Rattle.std.specs.Prelude.{None, Some}
+use Rattle.std.proofs.Common.{◌+◌, ◌∷◌, [], sym, ap, ◌∙◌, subst, arith}
+use Rattle.std.specs.Prelude.{None}
 use Rattle.atomic_table.specs.Table.{Me}
 use Rattle.dr_history.specs.Members.{has}
 use Rattle.dr_member.specs.Deeds.{table_size}
-use Rattle.dr_program.proofs.Present.{present_set, present_within}
-use Rattle.dr_program.specs.Presence.{with_present}
 use Rattle.dr_program.specs.Replica.{me}
-use Rattle.dr_program.specs.Running.{Running, settled, took_letter}
+use Rattle.dr_program.specs.Running.{Running}
 use Rattle.dr_table.specs.declared.rule.View.{View}
 use Rattle.dr_table.specs.Slots.{Slot, slot_number}
-use Rattle.dr_table.specs.Steps.{busy, idle}
-use Rattle.dr_table.proofs.Holding.{KnowsLate, busy_is, letter_at, members_there, saw_letter, taker_knows}
+use Rattle.dr_table.specs.Steps.{busy}
+use Rattle.dr_table.proofs.Holding.{KnowsLate, letter_at, saw_letter, taker_knows}
 use Rattle.dr_table.proofs.posts.take_at.Goals as goal
 
 pub overflow_add-word : goal.overflow_add-word
 overflow_add-word g c =
-    let due = c.requires.due.takes (omega (arith, c.requires.errand.2)) in
+    let due = c.requires.due.takes (omega (arith, c.requires.errand.1)) in
     let k = subst (KnowsLate g.J.Posting.now) due.1 (taker_knows g.J.Posting.now c.requires.reached due.0) in
     omega (
       arith,
@@ -24,12 +22,12 @@ overflow_add-word g c =
       k.small,
       c.table_words.ensures,
       c.me.ensures,
-      c.requires.errand.1,
+      c.requires.errand.0,
       ap table_size c.requires.now,
     )
 
 pub peek_at-requires-clause-second : goal.peek_at-requires-clause-second
-peek_at-requires-clause-second g c = c.requires.errand.2
+peek_at-requires-clause-second g c = c.requires.errand.1
 
 pub peek_at-requires-clause-word : goal.peek_at-requires-clause-word
 peek_at-requires-clause-word g c =
@@ -37,13 +35,13 @@ peek_at-requires-clause-word g c =
       arith,
       c.table_words.ensures,
       c.me.ensures,
-      c.requires.errand.1,
+      c.requires.errand.0,
       ap table_size c.requires.now,
     )
 
 pub peek_at-requires-clause-within : goal.peek_at-requires-clause-within
 peek_at-requires-clause-within g c =
-    let due = c.requires.due.takes (omega (arith, c.requires.errand.2)) in
+    let due = c.requires.due.takes (omega (arith, c.requires.errand.1)) in
     let k = subst (KnowsLate g.J.Posting.now) due.1 (taker_knows g.J.Posting.now c.requires.reached due.0) in
     omega (
       arith,
@@ -51,71 +49,52 @@ peek_at-requires-clause-within g c =
       c.requires.size,
       c.table_words.ensures,
       c.me.ensures,
-      c.requires.errand.1,
+      c.requires.errand.0,
       ap table_size c.requires.now,
     )
 
 pub rank_of-requires-clause-number : goal.rank_of-requires-clause-number
 rank_of-requires-clause-number g c =
-    let due = c.requires.due.takes (omega (arith, c.requires.errand.2)) in
+    let due = c.requires.due.takes (omega (arith, c.requires.errand.1)) in
     let k = subst (KnowsLate g.J.Posting.now) due.1 (taker_knows g.J.Posting.now c.requires.reached due.0) in
-    omega (arith, k.within, k.few, c.me-2.ensures, c.requires.errand.1)
+    omega (arith, k.within, k.few, c.me-2.ensures, c.requires.errand.0)
 
 pub rank_of-requires-clause-member : goal.rank_of-requires-clause-member
 rank_of-requires-clause-member g c =
-    let due = c.requires.due.takes (omega (arith, c.requires.errand.2)) in
+    let due = c.requires.due.takes (omega (arith, c.requires.errand.1)) in
     let k = subst (KnowsLate g.J.Posting.now) due.1 (taker_knows g.J.Posting.now c.requires.reached due.0) in
-    ap (has c.late.result) (c.me-2.ensures ∙ sym c.requires.errand.1)
+    ap (has c.late.result) (c.me-2.ensures ∙ sym c.requires.errand.0)
     ∙ ap (λ mask. has mask g.J.Posting.errand.late)
     (c.late.ensures ∙ sym (ap (λ (r : Running). r.replica.late) c.requires.now)) ∙ k.late
 
 pub fetch_at-letter-requires-clause-second : goal.fetch_at-letter-requires-clause-second
-fetch_at-letter-requires-clause-second g c = c.requires.errand.2
+fetch_at-letter-requires-clause-second g c = c.requires.errand.1
 
 pub fetch_at-letter-requires-clause-seen : goal.fetch_at-letter-requires-clause-seen
-fetch_at-letter-requires-clause-seen g c = busy_is _ _ _ _ (
-    saw_letter _ _ c.args.seat.now.me c.peek_at.new.seat.me c.peek_at.ensures.peeked.0 c.peek_at.result
-    c.peek_at.ensures.peeked.1 c.if-not-peek_at.false c.peek_at.ensures.peeked.2)
-
-pub fetch_at-letter-requires-clause-there : goal.fetch_at-letter-requires-clause-there
-fetch_at-letter-requires-clause-there g c =
-    let t = c.requires.there in
-    members_there _ _ _ _ _ _ (
-    saw_letter _ _ c.args.seat.now.me c.peek_at.new.seat.me c.peek_at.ensures.peeked.0 c.peek_at.result
-    c.peek_at.ensures.peeked.1 c.if-not-peek_at.false c.peek_at.ensures.peeked.2)
-    (present_set c.args.seat.now.me.0.members g.J.Posting.errand.place g.J.Posting.now
-    (present_within c.args.seat.now.me.0.members g.J.Posting.errand.place t.0 t.1))
+fetch_at-letter-requires-clause-seen g c = saw_letter _ _ c.peek_at.new.seat.me c.peek_at.ensures.peeked.0
+    c.peek_at.result c.peek_at.ensures.peeked.1 c.if-not-peek_at.false c.peek_at.ensures.peeked.2
 
 pub fetch_at-letter-requires-clause-at : goal.fetch_at-letter-requires-clause-at
 fetch_at-letter-requires-clause-at g c =
-    let due = c.requires.due.takes (omega (arith, c.requires.errand.2)) in
+    let due = c.requires.due.takes (omega (arith, c.requires.errand.1)) in
     let k = subst (KnowsLate g.J.Posting.now) due.1 (taker_knows g.J.Posting.now c.requires.reached due.0) in
-    letter_at _ _ _ _ (me c.args.member.now.replica) _ _ k c.requires.size c.requires.errand.1 c.requires.now
+    letter_at _ _ _ _ (me c.args.member.now.replica) _ _ k c.requires.size c.requires.errand.0 c.requires.now
     (λ z. c.table_words.ensures z + (c.from.ensures ∙ c.me.ensures) z)
     (c.from-slot.ensures ∙ c.rank_of.ensures.rank
     ∙ (λ z. slot_number (c.late.ensures z) (c.me-2.ensures z)))
 
 pub return_at-requires-clause-second : goal.return_at-requires-clause-second
-return_at-requires-clause-second g c = c.requires.errand.2
+return_at-requires-clause-second g c = c.requires.errand.1
 
 pub return_at-requires-clause-fetched : goal.return_at-requires-clause-fetched
 return_at-requires-clause-fetched g c = (
   c.fetch_at-letter.result.items,
-  busy_is _ _ _ _ c.fetch_at-letter.ensures.fetched
-      ∙ ap (λ n. busy c.fetch_at-letter.new.seat.me.0.members
+  c.fetch_at-letter.ensures.fetched
+      ∙ ap (λ n. busy g.J.Posting.now
       (record g.J.Posting.errand { word = 3; letter = c.fetch_at-letter.result.items }) ((n, None) ∷ []))
       (c.from-slot.ensures ∙ c.rank_of.ensures.rank ∙ (λ z. slot_number (c.late.ensures z) (c.me-2.ensures z))
-      ∙ sym (λ z. slot_number (c.requires.now z).replica.late (c.requires.errand.1 z))),
+      ∙ sym (λ z. slot_number (c.requires.now z).replica.late (c.requires.errand.0 z))),
 )
-
-pub return_at-requires-clause-there : goal.return_at-requires-clause-there
-return_at-requires-clause-there g c =
-    let t = c.requires.there in
-    members_there _ _ _ _ _ _ c.fetch_at-letter.ensures.fetched (members_there _ _ _ _ _ _ (
-    saw_letter _ _ c.args.seat.now.me c.peek_at.new.seat.me c.peek_at.ensures.peeked.0 c.peek_at.result
-    c.peek_at.ensures.peeked.1 c.if-not-peek_at.false c.peek_at.ensures.peeked.2)
-    (present_set c.args.seat.now.me.0.members g.J.Posting.errand.place g.J.Posting.now
-    (present_within c.args.seat.now.me.0.members g.J.Posting.errand.place t.0 t.1)))
 
 pub return_at-requires-clause-word : goal.return_at-requires-clause-word
 return_at-requires-clause-word g c =
@@ -123,13 +102,13 @@ return_at-requires-clause-word g c =
       arith,
       c.table_words.ensures,
       c.me.ensures,
-      c.requires.errand.1,
+      c.requires.errand.0,
       ap table_size c.requires.now,
     )
 
 pub return_at-requires-clause-within : goal.return_at-requires-clause-within
 return_at-requires-clause-within g c =
-    let due = c.requires.due.takes (omega (arith, c.requires.errand.2)) in
+    let due = c.requires.due.takes (omega (arith, c.requires.errand.1)) in
     let k = subst (KnowsLate g.J.Posting.now) due.1 (taker_knows g.J.Posting.now c.requires.reached due.0) in
     omega (
       arith,
@@ -137,19 +116,11 @@ return_at-requires-clause-within g c =
       c.requires.size,
       c.table_words.ensures,
       c.me.ensures,
-      c.requires.errand.1,
+      c.requires.errand.0,
       ap table_size c.requires.now,
     )
 
 pub returns-clause-taken : goal.returns-clause-taken
-returns-clause-taken g c =
-    let at = g.J.Posting.errand.place in
-    let x = settled (took_letter (Some c.fetch_at-letter.result.items) g.J.Posting.now) in
-    c.return_at.ensures.taken
+returns-clause-taken g c = c.return_at.ensures.taken
     (record g.J.Posting.errand { word = 3; letter = c.fetch_at-letter.result.items })
     (ap (λ (m : Me Slot View). m.0.errand) c.fetch_at-letter.ensures.fetched)
-    ∙ ap (λ (m : Me Slot View). idle (with_present m.0.members at x)) c.fetch_at-letter.ensures.fetched
-    ∙ ap (λ (m : Me Slot View). idle (with_present m.0.members at x)) (
-    saw_letter _ _ c.args.seat.now.me c.peek_at.new.seat.me c.peek_at.ensures.peeked.0 c.peek_at.result
-    c.peek_at.ensures.peeked.1 c.if-not-peek_at.false c.peek_at.ensures.peeked.2)
-    ∙ ap idle (set-set c.args.seat.now.me.0.members at (Some g.J.Posting.now) (Some x))

@@ -1,36 +1,32 @@
-use Rattle.std.proofs.Common.{ap, sym}
+use Rattle.std.proofs.Common.{ap, sym, ◌∙◌, subst}
 use Rattle.dr_age.proofs.Deeds.{at_act, at_give}
 use Rattle.dr_logged.specs.Appended.{is_append}
+use Rattle.dr_program.specs.Running.{next_deed}
+use Rattle.dr_threads.specs.Course.{HasGone}
 use Rattle.dr_threads.proofs.Runs.{gone_step, gone_sweeping, gone_taking}
 use Rattle.dr_threads.proofs.member.take.Goals as goal
 
 pub returns-in-Look-clause-gone : goal.returns-in-Look-clause-gone
-returns-in-Look-clause-gone g c =
-    gone_sweeping _ _ c.args.hand.now.members c.look_row.new.self.members c.member.result.now c.args.log.now
-    c.requires.one c.member.ensures.there c.look_row.ensures.members
+returns-in-Look-clause-gone g c = gone_sweeping _ _ _ _ c.args.log.now c.look_row.ensures.swept
 
 pub returns-in-Push-clause-gone : goal.returns-in-Push-clause-gone
-returns-in-Push-clause-gone g c =
-    gone_sweeping _ _ c.args.hand.now.members c.push_row.new.self.members c.member.result.now c.args.log.now
-    c.requires.one c.member.ensures.there c.push_row.ensures.members
+returns-in-Push-clause-gone g c = gone_sweeping _ _ _ _ c.args.log.now c.push_row.ensures.swept
 
 pub returns-in-Act-clause-gone : goal.returns-in-Act-clause-gone
 returns-in-Act-clause-gone g c =
-    let r = c.member.result.now in
-    gone_step _ _ c.args.hand.now.members c.act.new.self.members r 0 c.args.log.now c.requires.one
-    c.member.ensures.there c.member.ensures.reached (c.requires.going r c.member.ensures.there) (at_act r _ _ (sym c.in-Act.ensures.deed))
-    (c.act.ensures.members r c.member.ensures.there)
+    let r = c.args.seated.now.member in
+    subst (λ q. HasGone g.D.Disk.told g.D.Disk.faults r c.args.log.now q c.args.log.now) (sym c.act.ensures.member)
+    (gone_step _ _ r 0 c.args.log.now c.member.ensures.reached c.requires.going
+    (at_act r _ _ (sym (c.in-Act.ensures.deed ∙ ap next_deed c.member.ensures.member))))
 
 pub returns-in-Give-clause-gone : goal.returns-in-Give-clause-gone
 returns-in-Give-clause-gone g c =
-    let r = c.member.result.now in
-    gone_step _ _ c.args.hand.now.members c.give.new.self.members r 0 c.args.log.now c.requires.one
-    c.member.ensures.there c.member.ensures.reached (c.requires.going r c.member.ensures.there)
-    (ap is_append (at_give r _ (sym c.in-Give.ensures.deed))) (c.give.ensures.members r c.member.ensures.there)
+    let r = c.args.seated.now.member in
+    subst (λ q. HasGone g.D.Disk.told g.D.Disk.faults r c.args.log.now q c.args.log.now) (sym c.give.ensures.member)
+    (gone_step _ _ r 0 c.args.log.now c.member.ensures.reached c.requires.going
+    (ap is_append (at_give r _ (sym (c.in-Give.ensures.deed ∙ ap next_deed c.member.ensures.member)))))
 
 pub returns-in-Take-clause-gone : goal.returns-in-Take-clause-gone
 returns-in-Take-clause-gone g c =
-    let r = c.member.result.now in
-    gone_taking _ _ c.args.hand.now.members c.take.new.self.members r c.args.log.now c.requires.one
-    c.member.ensures.there c.member.ensures.reached (c.requires.going r c.member.ensures.there)
-    (sym c.in-Take.ensures.deed) (c.take.ensures.members r c.member.ensures.there)
+    gone_taking _ _ c.args.seated.now.member _ c.args.log.now c.member.ensures.reached c.requires.going
+    (sym (c.in-Take.ensures.deed ∙ ap next_deed c.member.ensures.member)) c.take.ensures.asked

@@ -1,7 +1,7 @@
-use Rattle.std.proofs.Common.{◌≡◌, ℕ, ◌+◌, ◌≤◌, ◌-◌, List, [], ◌∷◌, ◌++◌, length, false, inl, ap, subst, sym, refl, ◌∙◌, arith, rules}
+use Rattle.std.proofs.Common.{◌≡◌, ℕ, ◌+◌, ◌≤◌, ◌-◌, List, [], ◌∷◌, ◌++◌, length, false, inl, ap, subst, sym, ◌∙◌, arith, rules}
 use Rattle.dr_entry.specs.Spelling.{Fits, IsValid, spelling}
 use Rattle.dr_disk.specs.Calls.{Write}
-use Rattle.dr_disk.specs.Disk.{Told}
+use Rattle.dr_disk.specs.Disk.{Told, content_of}
 use Rattle.dr_disk.specs.Images.{Goes, Lasts}
 use Rattle.dr_disk.proofs.Moments.{lasts_still}
 use Rattle.dr_log.specs.Grouping.{StopsAmong, added_all, group, opening}
@@ -26,7 +26,8 @@ put_behind-requires-clause-inside g c κs h =
     let old = c.self.inside in
     let whole : old.failed ≡ false = ap (λ (s : LogState g.row.D.Denot). s.failed) c.self.view_is
     ∙ c.requires.whole in
-    reaches_end _ (told old.disk) (c.self.invariant.settled whole)
+    subst (λ (n : ℕ). IfSome (told old.disk) (λ t. n ≤ length (content_of t))) (sym c.len-len.ensures)
+    (reaches_end _ (told old.disk) (c.self.invariant.settled whole))
 
 pub returns-then-size-saturating_sub-clause-any_moment :
     goal.returns-then-size-saturating_sub-clause-any_moment
@@ -35,13 +36,7 @@ returns-then-size-saturating_sub-clause-any_moment g c =
     let old = c.self.inside in
     let whole : old.failed ≡ false = ap (λ (s : LogState g.row.D.Denot). s.failed) c.self.view_is
     ∙ c.requires.whole in
-    let before : OnLog = record {
-      entries = old.entries.items;
-      votes = old.votes.items;
-      age_votes = old.age_votes.items;
-      newer = old.newer;
-      length = old.len;
-    } in
+    let before = old.shelves.content in
     subst (λ (s : LogState g.row.D.Denot). Goes (told s.disk) (told s.disk)
     (λ _. IsBeforeOrAfter s.content c.args.r.now)) c.self.view_is
     (still_goes before (told old.disk) (IsBeforeOrAfter before c.args.r.now)
@@ -49,13 +44,7 @@ returns-then-size-saturating_sub-clause-any_moment g c =
 
 -- an append that stops has gone well up to there
 stopped : (g : Over) (c : goal.After-self-1 g)
-    → GoesWell (record {
-      entries = c.self.inside.entries.items;
-      votes = c.self.inside.votes.items;
-      age_votes = c.self.inside.age_votes.items;
-      newer = c.self.inside.newer;
-      length = c.self.inside.len;
-    }) (c.args.r.now ∷ []) (g.D.Disk.told c.self.inside.disk) (g.D.Disk.told c.put_behind.new.disk)
+    → GoesWell c.self.inside.shelves.content (c.args.r.now ∷ []) (g.D.Disk.told c.self.inside.disk) (g.D.Disk.told c.put_behind.new.disk)
 stopped g c =
     let told = g.D.Disk.told in
     let old = c.self.inside in
@@ -64,11 +53,11 @@ stopped g c =
     let bytes : c.as_slice.result.now ≡ block_of c.args.r.now =
     c.as_slice.ensures.value ∙ c.push.ensures.items
     ∙ ap (λ (l : List ℕ). l ++ (0 ∷ [])) c.encode.ensures.spelled in
-    let stops : StopsAmong (Write old.len c.as_slice.result.now ∷ opening (old.len - 1)) (told old.disk)
+    let stops : StopsAmong (Write c.len-len.result c.as_slice.result.now ∷ opening (c.len-len.result - 1)) (told old.disk)
     (told c.put_behind.new.disk) = search rules in
-    group_stops _ (told old.disk) (told c.put_behind.new.disk) old.len (c.args.r.now ∷ [])
+    group_stops _ (told old.disk) (told c.put_behind.new.disk) c.len-len.result (c.args.r.now ∷ [])
     (c.self.invariant.settled whole) (record {
-      long = refl;
+      long = c.len-len.ensures;
       some = omega arith;
       fit = ((c.requires.valid, c.encode.ensures.fits), tt);
       placed = (
@@ -77,7 +66,7 @@ stopped g c =
         tt,
       );
     })
-    (subst (λ (l : List ℕ). StopsAmong (Write old.len l ∷ opening (old.len - 1)) (told old.disk)
+    (subst (λ (l : List ℕ). StopsAmong (Write c.len-len.result l ∷ opening (c.len-len.result - 1)) (told old.disk)
     (told c.put_behind.new.disk)) bytes stops)
 
 pub returns-then-is_err-clause-any_moment : goal.returns-then-is_err-clause-any_moment
@@ -104,31 +93,25 @@ written before after len r bytes same made =
     made ∙ ap (λ (l : List ℕ). added_all (Write len l ∷ opening (len - 1)) before) same
 
 -- the record may come
-comes : (before : OnLog) (r : Record) → IsValid r → Fits r → IsPlaced before r
-    → MayCome before before.length (r ∷ [])
-comes before r valid fits placed =
-    record { long = refl; some = omega arith; fit = ((valid, fits), tt); placed = (placed, tt) }
+comes : (before : OnLog) (len : ℕ) (r : Record) → len ≡ before.length → IsValid r → Fits r → IsPlaced before r
+    → MayCome before len (r ∷ [])
+comes before len r long valid fits placed =
+    record { long = long; some = omega arith; fit = ((valid, fits), tt); placed = (placed, tt) }
 
 pub returns-clause-any_moment : goal.returns-clause-any_moment
 returns-clause-any_moment g c =
     let told = g.D.Disk.told in
     let old = c.self.inside in
     let r = c.args.r.now in
-    let before : OnLog = record {
-      entries = old.entries.items;
-      votes = old.votes.items;
-      age_votes = old.age_votes.items;
-      newer = old.newer;
-      length = old.len;
-    } in
-    let did = written (told old.disk) (told c.put_behind.new.disk) old.len r c.as_slice.result.now
+    let before = old.shelves.content in
+    let did = written (told old.disk) (told c.put_behind.new.disk) c.len-len.result r c.as_slice.result.now
     (c.as_slice.ensures.value ∙ c.push.ensures.items ∙ ap (λ (l : List ℕ). l ++ (0 ∷ [])) c.encode.ensures.spelled)
     (search rules) in
     let whole : old.failed ≡ false = ap (λ (s : LogState g.row.D.Denot). s.failed) c.self.view_is
     ∙ c.requires.whole in
-    let may = comes before r c.requires.valid c.encode.ensures.fits
+    let may = comes before c.len-len.result r c.len-len.ensures c.requires.valid c.encode.ensures.fits
     (subst (λ (s : LogState g.row.D.Denot). IsPlaced s.content r) (sym c.self.view_is) c.requires.placed) in
-    let well = group_goes before (told old.disk) (told c.put_behind.new.disk) old.len (r ∷ [])
+    let well = group_goes before (told old.disk) (told c.put_behind.new.disk) c.len-len.result (r ∷ [])
     (c.self.invariant.settled whole) may did in
     subst (λ (s : LogState g.row.D.Denot). Goes (told s.disk) (told c.put_behind.new.disk)
     (λ _. IsBeforeOrAfter s.content r)) c.self.view_is well.goes
@@ -138,21 +121,15 @@ returns-clause-lasting g c = λ first.
     let told = g.D.Disk.told in
     let old = c.self.inside in
     let r = c.args.r.now in
-    let before : OnLog = record {
-      entries = old.entries.items;
-      votes = old.votes.items;
-      age_votes = old.age_votes.items;
-      newer = old.newer;
-      length = old.len;
-    } in
-    let did = written (told old.disk) (told c.put_behind.new.disk) old.len r c.as_slice.result.now
+    let before = old.shelves.content in
+    let did = written (told old.disk) (told c.put_behind.new.disk) c.len-len.result r c.as_slice.result.now
     (c.as_slice.ensures.value ∙ c.push.ensures.items ∙ ap (λ (l : List ℕ). l ++ (0 ∷ [])) c.encode.ensures.spelled)
     (search rules) in
     let whole : old.failed ≡ false = ap (λ (s : LogState g.row.D.Denot). s.failed) c.self.view_is
     ∙ c.requires.whole in
-    let may = comes before r c.requires.valid c.encode.ensures.fits
+    let may = comes before c.len-len.result r c.len-len.ensures c.requires.valid c.encode.ensures.fits
     (subst (λ (s : LogState g.row.D.Denot). IsPlaced s.content r) (sym c.self.view_is) c.requires.placed) in
-    let well = group_goes before (told old.disk) (told c.put_behind.new.disk) old.len (r ∷ [])
+    let well = group_goes before (told old.disk) (told c.put_behind.new.disk) c.len-len.result (r ∷ [])
     (c.self.invariant.settled whole) may did in
     subst (λ (s : LogState g.row.D.Denot).
     (HasAllOf first s.content → HasAllOf first (with_record r s.content))
@@ -164,30 +141,18 @@ returns-clause-durable g c =
     let told = g.D.Disk.told in
     let old = c.self.inside in
     let r = c.args.r.now in
-    let before : OnLog = record {
-      entries = old.entries.items;
-      votes = old.votes.items;
-      age_votes = old.age_votes.items;
-      newer = old.newer;
-      length = old.len;
-    } in
-    let did = written (told old.disk) (told c.put_behind.new.disk) old.len r c.as_slice.result.now
+    let before = old.shelves.content in
+    let did = written (told old.disk) (told c.put_behind.new.disk) c.len-len.result r c.as_slice.result.now
     (c.as_slice.ensures.value ∙ c.push.ensures.items ∙ ap (λ (l : List ℕ). l ++ (0 ∷ [])) c.encode.ensures.spelled)
     (search rules) in
     let whole : old.failed ≡ false = ap (λ (s : LogState g.row.D.Denot). s.failed) c.self.view_is
     ∙ c.requires.whole in
-    let may = comes before r c.requires.valid c.encode.ensures.fits
+    let may = comes before c.len-len.result r c.len-len.ensures c.requires.valid c.encode.ensures.fits
     (subst (λ (s : LogState g.row.D.Denot). IsPlaced s.content r) (sym c.self.view_is) c.requires.placed) in
-    let after : OnLog = record {
-      entries = c.sort_in.new.entries.items;
-      votes = c.sort_in.new.votes.items;
-      age_votes = c.sort_in.new.age_votes.items;
-      newer = c.sort_in.new.newer;
-      length = c.sort_in.new.len;
-    } in
+    let after = c.take.new.self.content in
     let content : after ≡ with_record r before = search rules in
     let settled : IfSome (told c.put_behind.new.disk) (IsSettled after) =
-    group_settled before after (told old.disk) (told c.put_behind.new.disk) old.len (r ∷ [])
+    group_settled before after (told old.disk) (told c.put_behind.new.disk) c.len-len.result (r ∷ [])
     (c.self.invariant.settled whole) may did content in
     images_told after (told c.put_behind.new.disk) settled
 
@@ -196,47 +161,37 @@ returns-clause-calls g c =
     let told = g.D.Disk.told in
     let old = c.self.inside in
     let r = c.args.r.now in
-    let did = written (told old.disk) (told c.put_behind.new.disk) old.len r c.as_slice.result.now
+    let did = written (told old.disk) (told c.put_behind.new.disk) c.len-len.result r c.as_slice.result.now
     (c.as_slice.ensures.value ∙ c.push.ensures.items ∙ ap (λ (l : List ℕ). l ++ (0 ∷ [])) c.encode.ensures.spelled)
     (search rules) in
     subst (λ (s : LogState g.row.D.Denot). told c.put_behind.new.disk
-    ≡ added_all (group s.content.length (r ∷ [])) (told s.disk)) c.self.view_is did
+    ≡ added_all (group s.content.length (r ∷ [])) (told s.disk)) c.self.view_is
+    (subst (λ (n : ℕ). told c.put_behind.new.disk ≡ added_all (group n (r ∷ [])) (told old.disk)) c.len-len.ensures
+    did)
 
 pub invariant_of-self-2 : goal.invariant_of-self-2
 invariant_of-self-2 g c =
     let told = g.D.Disk.told in
     let old = c.self.inside in
     let r = c.args.r.now in
-    let before : OnLog = record {
-      entries = old.entries.items;
-      votes = old.votes.items;
-      age_votes = old.age_votes.items;
-      newer = old.newer;
-      length = old.len;
-    } in
-    let did = written (told old.disk) (told c.put_behind.new.disk) old.len r c.as_slice.result.now
+    let before = old.shelves.content in
+    let did = written (told old.disk) (told c.put_behind.new.disk) c.len-len.result r c.as_slice.result.now
     (c.as_slice.ensures.value ∙ c.push.ensures.items ∙ ap (λ (l : List ℕ). l ++ (0 ∷ [])) c.encode.ensures.spelled)
     (search rules) in
     let whole : old.failed ≡ false = ap (λ (s : LogState g.row.D.Denot). s.failed) c.self.view_is
     ∙ c.requires.whole in
-    let may = comes before r c.requires.valid c.encode.ensures.fits
+    let may = comes before c.len-len.result r c.len-len.ensures c.requires.valid c.encode.ensures.fits
     (subst (λ (s : LogState g.row.D.Denot). IsPlaced s.content r) (sym c.self.view_is) c.requires.placed) in
-    let after : OnLog = record {
-      entries = c.sort_in.new.entries.items;
-      votes = c.sort_in.new.votes.items;
-      age_votes = c.sort_in.new.age_votes.items;
-      newer = c.sort_in.new.newer;
-      length = c.sort_in.new.len;
-    } in
+    let after = c.take.new.self.content in
     let content : after ≡ with_record r before = search rules in
     let settled : IfSome (told c.put_behind.new.disk) (IsSettled after) =
-    group_settled before after (told old.disk) (told c.put_behind.new.disk) old.len (r ∷ [])
+    group_settled before after (told old.disk) (told c.put_behind.new.disk) c.len-len.result (r ∷ [])
     (c.self.invariant.settled whole) may did content in
-    let spare_entry : as_entry r ≤ old.spare_entries =
+    let spare_entry : as_entry r ≤ old.spares.entries =
     omega (arith, c.requires.spare_entry, ap (λ (s : LogState g.row.D.Denot). s.spare_entries) c.self.view_is) in
-    let spare_vote : as_vote r ≤ old.spare_votes =
+    let spare_vote : as_vote r ≤ old.spares.votes =
     omega (arith, c.requires.spare_vote, ap (λ (s : LogState g.row.D.Denot). s.spare_votes) c.self.view_is) in
-    let spare_other : as_other r ≤ old.spare_others =
+    let spare_other : as_other r ≤ old.spares.others =
     omega (arith, c.requires.spare_other, ap (λ (s : LogState g.row.D.Denot). s.spare_others) c.self.view_is) in
     record {
       settled = λ _. settled;
@@ -246,9 +201,9 @@ invariant_of-self-2 g c =
         arith,
         c.self.invariant.calls,
         c.put_behind.ensures.calls_kept,
-        c.take_spare.ensures.entries,
-        c.take_spare.ensures.votes,
-        c.take_spare.ensures.others,
+        c.spend.ensures.entries,
+        c.spend.ensures.votes,
+        c.spend.ensures.others,
         spare_entry,
         spare_vote,
         spare_other,
@@ -258,9 +213,9 @@ invariant_of-self-2 g c =
         arith,
         c.self.invariant.bytes,
         c.put_behind.ensures.bytes_kept,
-        c.take_spare.ensures.entries,
-        c.take_spare.ensures.votes,
-        c.take_spare.ensures.others,
+        c.spend.ensures.entries,
+        c.spend.ensures.votes,
+        c.spend.ensures.others,
         spare_entry,
         spare_vote,
         spare_other,
@@ -269,31 +224,33 @@ invariant_of-self-2 g c =
         c.push.ensures.len,
         c.encode.ensures.short,
       );
-      entry_places = omega (
-        arith,
-        c.self.invariant.entry_places,
-        ap (λ (x : OnLog). length x.entries) content,
-        length-entries r before,
-        c.take_spare.ensures.entries,
-        spare_entry,
-        c.sort_in.ensures.entry_places,
-      );
-      vote_places = omega (
-        arith,
-        c.self.invariant.vote_places,
-        ap (λ (x : OnLog). length x.votes) content,
-        length-votes r before,
-        c.take_spare.ensures.votes,
-        spare_vote,
-        c.sort_in.ensures.vote_places,
-      );
-      age_vote_places = omega (
-        arith,
-        c.self.invariant.age_vote_places,
-        ap (λ (x : OnLog). length x.age_votes) content,
-        length-age_votes r before,
-        c.take_spare.ensures.others,
-        spare_other,
-        c.sort_in.ensures.age_vote_places,
-      );
+      places = record {
+        entries = omega (
+          arith,
+          c.self.invariant.places.entries,
+          ap (λ (x : OnLog). length x.entries) content,
+          length-entries r before,
+          c.spend.ensures.entries,
+          spare_entry,
+          c.take.ensures.kept.entries,
+        );
+        votes = omega (
+          arith,
+          c.self.invariant.places.votes,
+          ap (λ (x : OnLog). length x.votes) content,
+          length-votes r before,
+          c.spend.ensures.votes,
+          spare_vote,
+          c.take.ensures.kept.votes,
+        );
+        age_votes = omega (
+          arith,
+          c.self.invariant.places.age_votes,
+          ap (λ (x : OnLog). length x.age_votes) content,
+          length-age_votes r before,
+          c.spend.ensures.others,
+          spare_other,
+          c.take.ensures.kept.age_votes,
+        );
+      };
     }

@@ -1,9 +1,9 @@
-use Rattle.std.proofs.Common.{◌≡◌, ◌+◌, ◌≤◌, ◌<◌, ◌^◌, List, [], ◌∷◌, ◌++◌, length, false, inl, refl, IfSome, ap, sym, subst, ◌∙◌, arith, rules, length-append}
-use Rattle.dr_entry.specs.declared.entry.Entry.{Entry}
+use Rattle.std.proofs.Common.{◌≡◌, ℕ, ◌+◌, ◌≤◌, [], ◌∷◌, ◌++◌, length, false, inl, IfSome, ap, sym, subst, ◌∙◌, arith, rules, length-append}
+use Rattle.dr_disk.specs.Disk.{content_of}
 use Rattle.dr_disk.specs.Images.{Goes, Lasts}
 use Rattle.dr_log.specs.Grouping.{StopsAmong, added_all, group}
 use Rattle.dr_log.specs.Kept.{IsSettled}
-use Rattle.dr_log.specs.Standing.{IsNoneOrAll, LosesNone, as_records, entries_length, least_length, with_entries}
+use Rattle.dr_log.specs.Standing.{IsNoneOrAll, LosesNone, as_records, least_length, with_entries}
 use Rattle.dr_log.specs.State.{LogState}
 use Rattle.dr_log.proofs.Groups.{are_spelled, some_records, spelled_more}
 use Rattle.dr_log.proofs.Growing.{content-entries, least_all, placed-entries}
@@ -20,13 +20,7 @@ returns-then-size-saturating_sub-clause-any_moment g c =
     let old = c.self.inside in
     let whole : old.failed ≡ false = ap (λ (s : LogState g.row.D.Denot). s.failed) c.self.view_is
     ∙ c.requires.whole in
-    let before : OnLog = record {
-      entries = old.entries.items;
-      votes = old.votes.items;
-      age_votes = old.age_votes.items;
-      newer = old.newer;
-      length = old.len;
-    } in
+    let before = old.shelves.content in
     subst (λ (s : LogState g.row.D.Denot). Goes (told s.disk) (told s.disk)
     (λ _. IsNoneOrAll s.content (c.args.first.now ++ c.args.last.now ∷ []))) c.self.view_is
     (still_goes before (told old.disk) (IsNoneOrAll before (c.args.first.now ++ c.args.last.now ∷ []))
@@ -38,17 +32,12 @@ put_group-requires-clause-inside g c κs within =
     let old = c.self.inside in
     let whole : old.failed ≡ false = ap (λ (s : LogState g.row.D.Denot). s.failed) c.self.view_is
     ∙ c.requires.whole in
-    reaches_end _ (told old.disk) (c.self.invariant.settled whole)
+    subst (λ (n : ℕ). IfSome (told old.disk) (λ t. n ≤ length (content_of t))) (sym c.len-len.ensures)
+    (reaches_end _ (told old.disk) (c.self.invariant.settled whole))
 
 -- an append that stops has gone well up to there
 stopped : (g : Over) (c : goal.After-self-then-is_err-1 g)
-    → GoesWell (record {
-      entries = c.self.inside.entries.items;
-      votes = c.self.inside.votes.items;
-      age_votes = c.self.inside.age_votes.items;
-      newer = c.self.inside.newer;
-      length = c.self.inside.len;
-    }) (as_records (c.args.first.now ++ c.args.last.now ∷ []))
+    → GoesWell c.self.inside.shelves.content (as_records (c.args.first.now ++ c.args.last.now ∷ []))
     (g.D.Disk.told c.self.inside.disk) (g.D.Disk.told c.put_group.new.disk)
 stopped g c =
     let told = g.D.Disk.told in
@@ -59,11 +48,11 @@ stopped g c =
     ∙ c.requires.whole in
     let spelled = spelled_more first last (are_spelled first c.requires.valid c.size_of-size.ensures.fits)
     c.requires.valid_last c.size_of-size.ensures.fits_last in
-    let stops : StopsAmong (group old.len (as_records (first ++ last ∷ []))) (told old.disk)
+    let stops : StopsAmong (group c.len-len.result (as_records (first ++ last ∷ []))) (told old.disk)
     (told c.put_group.new.disk) = search rules in
-    group_stops _ (told old.disk) (told c.put_group.new.disk) old.len (as_records (first ++ last ∷ []))
+    group_stops _ (told old.disk) (told c.put_group.new.disk) c.len-len.result (as_records (first ++ last ∷ []))
     (c.self.invariant.settled whole) (record {
-      long = refl;
+      long = c.len-len.ensures;
       some = some_records first last;
       fit = spelled;
       placed = placed-entries _ (first ++ last ∷ []);
@@ -83,25 +72,19 @@ returns-then-is_err-clause-lasting g c = λ first.
     ((stopped g c).lasts first (entries_keep first _ (c.args.first.now ++ c.args.last.now ∷ [])))
 
 -- one that does not has written the entries, and opened their gate
-did : (g : Over) (c : goal.After-self-2-1 g) → g.D.Disk.told c.put_group.new.disk
-    ≡ added_all (group c.self.inside.len (as_records (c.args.first.now ++ c.args.last.now ∷ [])))
+did : (g : Over) (c : goal.After-take_all g) → g.D.Disk.told c.put_group.new.disk
+    ≡ added_all (group c.len-len.result (as_records (c.args.first.now ++ c.args.last.now ∷ [])))
     (g.D.Disk.told c.self.inside.disk)
 did g c = search rules
 
-whole : (g : Over) (c : goal.After-self-2-1 g) → c.self.inside.failed ≡ false
+whole : (g : Over) (c : goal.After-take_all g) → c.self.inside.failed ≡ false
 whole g c = ap (λ (s : LogState g.row.D.Denot). s.failed) c.self.view_is ∙ c.requires.whole
 
 -- the entries may come
-may : (g : Over) (c : goal.After-self-2-1 g)
-    → MayCome (record {
-      entries = c.self.inside.entries.items;
-      votes = c.self.inside.votes.items;
-      age_votes = c.self.inside.age_votes.items;
-      newer = c.self.inside.newer;
-      length = c.self.inside.len;
-    }) c.self.inside.len (as_records (c.args.first.now ++ c.args.last.now ∷ []))
+may : (g : Over) (c : goal.After-take_all g)
+    → MayCome c.self.inside.shelves.content c.len-len.result (as_records (c.args.first.now ++ c.args.last.now ∷ []))
 may g c = record {
-  long = refl;
+  long = c.len-len.ensures;
   some = some_records c.args.first.now c.args.last.now;
   fit = spelled_more c.args.first.now c.args.last.now
       (are_spelled c.args.first.now c.requires.valid c.size_of-size.ensures.fits)
@@ -109,79 +92,28 @@ may g c = record {
   placed = placed-entries _ (c.args.first.now ++ c.args.last.now ∷ []);
 }
 
-well : (g : Over) (c : goal.After-self-2-1 g)
-    → GoesWell (record {
-      entries = c.self.inside.entries.items;
-      votes = c.self.inside.votes.items;
-      age_votes = c.self.inside.age_votes.items;
-      newer = c.self.inside.newer;
-      length = c.self.inside.len;
-    }) (as_records (c.args.first.now ++ c.args.last.now ∷ []))
+well : (g : Over) (c : goal.After-take_all g)
+    → GoesWell c.self.inside.shelves.content (as_records (c.args.first.now ++ c.args.last.now ∷ []))
     (g.D.Disk.told c.self.inside.disk) (g.D.Disk.told c.put_group.new.disk)
 well g c =
     let told = g.D.Disk.told in
     let old = c.self.inside in
-    group_goes _ (told old.disk) (told c.put_group.new.disk) old.len
+    group_goes _ (told old.disk) (told c.put_group.new.disk) c.len-len.result
     (as_records (c.args.first.now ++ c.args.last.now ∷ [])) (c.self.invariant.settled (whole g c)) (may g c)
     (did g c)
 
-entries : (g : Over) (c : goal.After-self-2-1 g) → c.push_all.new.entries.items
-    ≡ c.self.inside.entries.items ++ (c.args.first.now ++ c.args.last.now ∷ [])
-entries g c = search rules
-
-longer : (g : Over) (c : goal.After-self-2-1 g) → c.self.inside.len + c.size_of-size.result
-    ≡ c.self.inside.len + entries_length (c.args.first.now ++ c.args.last.now ∷ [])
-longer g c =
-    let old = c.self.inside in
-    let small : old.limit < 2 ^ 64 = omega arith in
-    omega (
-      arith,
-      c.size_of-size.ensures.size,
-      c.if-size-saturating_sub.false,
-      c.saturating_sub.ensures,
-      small,
-    )
-
 -- what is on the log then
-content : (g : Over) (c : goal.After-self-2-1 g)
-    → ◌≡◌ {A = OnLog} (record {
-      entries = c.push_all.new.entries.items;
-      votes = c.self.inside.votes.items;
-      age_votes = c.self.inside.age_votes.items;
-      newer = c.self.inside.newer;
-      length = c.self.inside.len + c.size_of-size.result;
-    })
-    (with_entries (c.args.first.now ++ c.args.last.now ∷ []) (record {
-      entries = c.self.inside.entries.items;
-      votes = c.self.inside.votes.items;
-      age_votes = c.self.inside.age_votes.items;
-      newer = c.self.inside.newer;
-      length = c.self.inside.len;
-    }))
-content g c =
-    let news = entries g c in
-    let long = longer g c in
-    λ i. record {
-      entries = news i;
-      votes = c.self.inside.votes.items;
-      age_votes = c.self.inside.age_votes.items;
-      newer = c.self.inside.newer;
-      length = long i;
-    }
+content : (g : Over) (c : goal.After-take_all g) → c.take_all.new.self.content
+    ≡ with_entries (c.args.first.now ++ c.args.last.now ∷ []) c.self.inside.shelves.content
+content g c = c.take_all.ensures.content
 
 -- and the disk is settled with them
-settled : (g : Over) (c : goal.After-self-2-1 g)
-    → IfSome (g.D.Disk.told c.put_group.new.disk) (IsSettled (record {
-      entries = c.push_all.new.entries.items;
-      votes = c.self.inside.votes.items;
-      age_votes = c.self.inside.age_votes.items;
-      newer = c.self.inside.newer;
-      length = c.self.inside.len + c.size_of-size.result;
-    }))
+settled : (g : Over) (c : goal.After-take_all g)
+    → IfSome (g.D.Disk.told c.put_group.new.disk) (IsSettled c.take_all.new.self.content)
 settled g c =
     let told = g.D.Disk.told in
     let old = c.self.inside in
-    group_settled _ _ (told old.disk) (told c.put_group.new.disk) old.len
+    group_settled _ _ (told old.disk) (told c.put_group.new.disk) c.len-len.result
     (as_records (c.args.first.now ++ c.args.last.now ∷ [])) (c.self.invariant.settled (whole g c)) (may g c)
     (did g c) (content g c ∙ sym (content-entries _ (c.args.first.now ++ c.args.last.now ∷ [])))
 
@@ -206,33 +138,35 @@ invariant_of-self-2 g c =
     let old = c.self.inside in
     let first = c.args.first.now in
     let last = c.args.last.now in
-    let before : OnLog = record {
-      entries = old.entries.items;
-      votes = old.votes.items;
-      age_votes = old.age_votes.items;
-      newer = old.newer;
-      length = old.len;
-    } in
-    let spares : length first + 1 ≤ old.spare_entries = omega (
+    let before = old.shelves.content in
+    let spares : length first + 1 ≤ old.spares.entries = omega (
       arith,
       c.requires.spares,
       ap (λ (s : LogState g.row.D.Denot).
           s.spare_entries) c.self.view_is,
     ) in
-    let more : length c.push_all.new.entries.items ≡ length old.entries.items + (length first + 1) =
+    let more : length c.take_all.new.self.content.entries ≡ length before.entries + (length first + 1) =
     omega (
       arith,
-      ap length (entries g c),
-      length-append old.entries.items (first ++ last ∷ []),
+      ap (λ (x : OnLog). length x.entries) (content g c),
+      length-append before.entries (first ++ last ∷ []),
       length-append first (last ∷ []),
     ) in
+    let places = c.self.invariant.places in
+    let kept = c.take_all.ensures.kept in
+    let votes : length c.take_all.new.self.content.votes ≡ length before.votes =
+    ap (λ (x : OnLog). length x.votes) (content g c) in
+    let age_votes : length c.take_all.new.self.content.age_votes ≡ length before.age_votes =
+    ap (λ (x : OnLog). length x.age_votes) (content g c) in
     record {
       settled = λ _. settled g c;
       long = subst (λ (x : OnLog). least_length x ≤ x.length) (sym (content g c))
           (least_all (first ++ last ∷ []) before c.self.invariant.long);
       calls = omega (arith, c.self.invariant.calls, c.put_group.ensures.calls_kept, spares);
       bytes = omega (arith, c.self.invariant.bytes, c.put_group.ensures.bytes_kept, spares);
-      entry_places = omega (arith, c.self.invariant.entry_places, more, spares, c.push_all.ensures.places);
-      vote_places = c.self.invariant.vote_places;
-      age_vote_places = c.self.invariant.age_vote_places;
+      places = record {
+        entries = omega (arith, places.entries, more, spares, kept.entries);
+        votes = omega (arith, places.votes, votes, kept.votes);
+        age_votes = omega (arith, places.age_votes, age_votes, kept.age_votes);
+      };
     }

@@ -8,5 +8,5 @@ use Rattle.dr_log.proofs.log.Log.mount.Goals as goal
 pub returns-in-Ok-clause-durable : goal.returns-in-Ok-clause-durable
 returns-in-Ok-clause-durable g c =
     subst (λ (x : OnLog). IsLeft (g.D.Disk.told c.open.new.disk) (λ image. StandFor image x))
-    (sym c.found.view_is)
+    (sym c.of.ensures)
     (images_told c.in-Ok.found (g.D.Disk.told c.open.new.disk) c.in-Ok.ensures.settled)

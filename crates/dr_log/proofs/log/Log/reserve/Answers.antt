@@ -19,22 +19,10 @@ pub returns-in_err-reserve-2-clause-safe : goal.returns-in_err-reserve-2-clause-
 returns-in_err-reserve-2-clause-safe g c = λ whole.
     images_still _ _ _ _
     (c.self.invariant.settled (ap (λ (s : LogState g.row.D.Denot). s.failed) c.self.view_is ∙ whole))
-    refl (search rules)
-
-pub returns-in_err-reserve-3-clause-safe : goal.returns-in_err-reserve-3-clause-safe
-returns-in_err-reserve-3-clause-safe g c = λ whole.
-    images_still _ _ _ _
-    (c.self.invariant.settled (ap (λ (s : LogState g.row.D.Denot). s.failed) c.self.view_is ∙ whole))
-    refl (search rules)
-
-pub returns-in_err-reserve-4-clause-safe : goal.returns-in_err-reserve-4-clause-safe
-returns-in_err-reserve-4-clause-safe g c = λ whole.
-    images_still _ _ _ _
-    (c.self.invariant.settled (ap (λ (s : LogState g.row.D.Denot). s.failed) c.self.view_is ∙ whole))
-    c.reserve-4.ensures.told (search rules)
+    c.reserve-2.ensures.told (search rules)
 
 pub returns-clause-safe : goal.returns-clause-safe
 returns-clause-safe g c = λ whole.
     images_still _ _ _ _
     (c.self.invariant.settled (ap (λ (s : LogState g.row.D.Denot). s.failed) c.self.view_is ∙ whole))
-    c.reserve-4.ensures.told (search rules)
+    c.reserve-2.ensures.told (search rules)

@@ -1,37 +1,30 @@
-use Rattle.std.proofs.Common.{◌≡◌, true, false, inl, inr, ap, refl, sym, subst, ◌∙◌, rules}
+use Rattle.std.proofs.Common.{◌≡◌, true, false, inl, inr, ap, refl, subst, ◌∙◌, rules}
 use Rattle.dr_entry.specs.declared.record.Record.TheVariants as records
 use Rattle.dr_disk.specs.Images.{Goes}
 use Rattle.dr_disk.proofs.Moments.{Goes-weaken}
 use Rattle.dr_log.specs.Standing.{IsBeforeOrAfter, MayBeUpgraded}
 use Rattle.dr_log.specs.State.{LogState}
-use Rattle.dr_log_bytes.specs.Content.{OnLog}
 use Rattle.dr_log.proofs.Told.{still_goes}
-use Rattle.dr_log.proofs.Voting.{format_changes, format_stays, maybe_upgraded}
+use Rattle.dr_log.proofs.Voting.{format_stays, maybe_upgraded}
 use Rattle.dr_log.proofs.log.Log.upgrade.Goals as goal
 
-pub returns-then-self-clause-appends : goal.returns-then-self-clause-appends
-returns-then-self-clause-appends g c =
+pub returns-then-is_newer-clause-appends : goal.returns-then-is_newer-clause-appends
+returns-then-is_newer-clause-appends g c =
     let newer : c.args.self.now.content.newer ≡ true = search rules in
     inl (newer, refl, λ e. absurd (cc (e)))
 
-pub returns-then-self-clause-ok : goal.returns-then-self-clause-ok
-returns-then-self-clause-ok g c =
+pub returns-then-is_newer-clause-ok : goal.returns-then-is_newer-clause-ok
+returns-then-is_newer-clause-ok g c =
     let newer : c.args.self.now.content.newer ≡ true = search rules in
     format_stays c.args.self.now.content newer
 
-pub returns-then-self-clause-any_moment : goal.returns-then-self-clause-any_moment
-returns-then-self-clause-any_moment g c =
+pub returns-then-is_newer-clause-any_moment : goal.returns-then-is_newer-clause-any_moment
+returns-then-is_newer-clause-any_moment g c =
     let told = g.D.Disk.told in
     let old = c.self.inside in
     let whole : old.failed ≡ false = ap (λ (s : LogState g.row.D.Denot). s.failed) c.self.view_is
     ∙ c.requires.whole in
-    let content : OnLog = record {
-      entries = old.entries.items;
-      votes = old.votes.items;
-      age_votes = old.age_votes.items;
-      newer = old.newer;
-      length = old.len;
-    } in
+    let content = old.shelves.content in
     subst (λ (s : LogState g.row.D.Denot). Goes (told s.disk) (told s.disk) (λ _. MayBeUpgraded s.content))
     c.self.view_is
     (still_goes content (told old.disk) (MayBeUpgraded content) (c.self.invariant.settled whole)

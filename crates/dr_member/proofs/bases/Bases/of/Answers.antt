@@ -13,5 +13,5 @@ loop-other-preserved c = noted_more c.shape-shape.result.members c.shape-shape.r
 pub returns : goal.returns
 returns c = made c.args.replica.now c.shape-shape.result.members c.shape-shape.result.window
     c.view-view.result c.me-me.result _ c.loop-other.other _ _
-    c.shape-shape.ensures.members c.shape-shape.ensures.window c.view-view.ensures c.me-me.ensures.me
+    c.shape-shape.ensures.members c.shape-shape.ensures.window c.view-view.ensures.view c.me-me.ensures.me
     (omega arith) c.columns.ensures (omega (arith, c.loop-other-test.false)) c.loop-other.invariant

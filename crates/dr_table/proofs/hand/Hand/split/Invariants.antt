@@ -1,5 +1,4 @@
-use Rattle.dr_table.specs.Steps.{nobody}
 use Rattle.dr_table.proofs.hand.Hand.split.Given as goal
 
 abbrev pub ghosts-cut_at : goal.ghosts-cut_at
-ghosts-cut_at a = record { at = a.at; now = nobody }
+ghosts-cut_at a = record { at = a.at }

@@ -3,7 +3,7 @@ use Rattle.dr_ages.specs.declared.mode.Mode.TheVariants.{Sim}
 use Rattle.dr_ages.specs.declared.part.Part.{Part}
 use Rattle.dr_ages.specs.Ages.{HaveSomebodyPrompt}
 use Rattle.dr_outcome.specs.Outcome.{IsMemoryRun}
-use Rattle.dr_outcome.proofs.Kinds.{run_behind}
+use Rattle.dr_outcome.proofs.OutcomeKinds.{run_behind}
 use Rattle.dr_tools.specs.Summary.{AreAgreed}
 use Rattle.dr_tools.proofs.Agreed.{agreed_run}
 use Rattle.dr_tools.proofs.summary.top.answer_to_run.Goals as goal

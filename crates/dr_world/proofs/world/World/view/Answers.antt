@@ -6,4 +6,4 @@ returns-in-Some-clause-bank c =
     let there = c.replica.ensures.replica ∙ c.in-Some.is in
     let form = c.replica.ensures.members.form c.args.m c.in-Some.replica there in
     let of = c.replica.ensures.members.of c.args.m c.in-Some.replica there in
-    omega (arith, form.bank, of.banks, c.view.ensures)
+    omega (arith, form.bank, of.banks, c.view.ensures.view)

@@ -1,4 +1,0 @@
-use Rattle.dr_table.proofs.hand.Hand.act.Given as goal
-
-abbrev pub ghosts-store_at : goal.ghosts-store_at
-ghosts-store_at a = record { at = a.i; now = a.member.now }

@@ -1,0 +1,4 @@
+use Rattle.dr_table.proofs.seated.SeatedMember.act.Given as goal
+
+abbrev pub ghosts-store_at : goal.ghosts-store_at
+ghosts-store_at a = record { now = a.member.now }
