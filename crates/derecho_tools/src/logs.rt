@@ -1,10 +1,10 @@
+use crate::unread::tell_unread;
 use dr_intake::{DONE, READ_FAULT, USAGE};
 use dr_io::{InputSource, OutputSink};
 use dr_text::write_all;
 use dr_tools::print_log;
 use std::alloc::Global;
 use std::fs::File;
-use std::io::{self, Read};
 
 /// How logs are printed.
 pub(crate) const LOG_USAGE: &str = "usage: derecho_tools log FILE..\n";
@@ -38,16 +38,7 @@ fn print_one(rt: &HostRuntime, alloc: Global, name: &str) -> u8 {
         Err(_) => READ_FAULT,
     };
     if status == READ_FAULT {
-        let _ = match read_one(rt, name) {
-            Ok(_) => eprintln!(rt; "derecho_tools: {name:?} can't be read"),
-            Err(error) => eprintln!(rt; "derecho_tools: {name:?} can't be read: {error}"),
-        };
+        tell_unread(rt, name);
     }
     status
-}
-
-/// Reads a byte of a file that couldn't be read, so that the error tells why.
-fn read_one(rt: &HostRuntime, name: &str) -> io::Result<usize> {
-    let mut byte = [0u8];
-    File::open(rt, name)?.read(&mut byte)
 }

@@ -2,10 +2,13 @@
 #![tactic(auto)]
 
 mod logs;
+mod reports;
 mod texts;
 mod tool;
+mod unread;
 
 use crate::logs::print_logs;
+use crate::reports::{JUDGE_USAGE, judge_files};
 use crate::texts::{HELP, USAGE_TEXT, VERSION};
 use crate::tool::Tool;
 use dr_intake::{DONE, OUT_OF_MEMORY, USAGE, WRITE_FAULT, words_of};
@@ -84,6 +87,10 @@ fn look(
         Tool::Trace => trace(threads, alloc, words, &mut source, sink, &mut progress).status,
         Tool::Explain => explain(alloc, words, &mut source, &mut sink),
         Tool::Sweep => sweep(threads, alloc, words, &mut source, &mut sink),
+        Tool::Judge => match words {
+            [script, report] => judge_files(rt, alloc, script.as_str(), report.as_str()),
+            _ => say(rt, JUDGE_USAGE, USAGE),
+        },
         Tool::Log => print_logs(rt, alloc, words),
         Tool::Folder => check_logs(rt, alloc, words, &mut source, &mut sink),
     }

@@ -1,6 +1,6 @@
 /// How the program is called.
 pub(crate) const USAGE_TEXT: &str =
-    "usage: derecho_tools (summary|trace|explain|sweep|log|folder) ..\n";
+    "usage: derecho_tools (summary|trace|explain|sweep|judge|log|folder) ..\n";
 
 /// Which program this is: its version, and the logic that its proofs are of.
 pub(crate) const VERSION: &str = "derecho_tools 1.0, proved by the logic dac8208d650f15bf\n";
@@ -11,6 +11,7 @@ pub(crate) const HELP: &str =
   trace    tells what happens in that run, in order: a chart, lines, or a picture
   explain  says why a script is refused; of one that isn't, how many turns are enough
   sweep    runs a script by many seeds: how the runs end, or a smaller script that ends so
+  judge    says whether the report of a run is right
   log      prints log files, record by record
   folder   reads the logs of a folder, and tells what a run over them would do
 
@@ -38,14 +39,23 @@ for each member.
 
 pub(crate) const EXPLAIN_HELP: &str =
     "\nSays why `derecho` refuses a script. Of one that it runs it tells how many turns are enough, how
-many its group takes, and which faults never come.
+many its group takes, which faults never come, and which say the same as others.
 ";
 
 pub(crate) const SWEEP_HELP: &str =
-    "\nRuns a script by COUNT seeds from FROM on, and counts how the runs end.
+    "\nRuns a script by COUNT seeds from FROM on, or by its own schedule once for each point at which
+member M may crash, and counts how the runs end.
 
-  --shrink OUTCOME  a smaller script that ends so by the first of these seeds by which the whole
-                    one does; an outcome is what stands last in a row
+  --shrink OUTCOME  a smaller script that ends so, of the first of these runs that does; an outcome
+                    is what stands last in a row, or what stands there behind the colon, and blanks
+                    in it don't count
+  --late L          the members that are late: numbers with commas, ascending
+";
+
+pub(crate) const JUDGE_HELP: &str =
+    "\nReads a script and the report of a run of it, each from its file, and says whether the report is
+right. It tells the first flaw and its line, as `derecho check` does; where two histories differ,
+the two entries stand below it, each behind its line.
 ";
 
 pub(crate) const LOG_HELP: &str =

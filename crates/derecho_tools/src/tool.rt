@@ -1,5 +1,8 @@
 use crate::logs::LOG_USAGE;
-use crate::texts::{EXPLAIN_HELP, FOLDER_HELP, LOG_HELP, SUMMARY_HELP, SWEEP_HELP, TRACE_HELP};
+use crate::reports::JUDGE_USAGE;
+use crate::texts::{
+    EXPLAIN_HELP, FOLDER_HELP, JUDGE_HELP, LOG_HELP, SUMMARY_HELP, SWEEP_HELP, TRACE_HELP,
+};
 use dr_tools::{EXPLAIN_USAGE, FOLDER_USAGE, SUMMARY_USAGE, SWEEP_USAGE, TRACE_USAGE};
 
 /// What to look with.
@@ -13,6 +16,8 @@ pub(crate) enum Tool {
     Explain,
     /// How a script ends by many seeds.
     Sweep,
+    /// Whether a report is right.
+    Judge,
     /// The records of log files.
     Log,
     /// What the next run over a folder of logs would do.
@@ -27,6 +32,7 @@ impl Tool {
             "trace" => Some(Tool::Trace),
             "explain" => Some(Tool::Explain),
             "sweep" => Some(Tool::Sweep),
+            "judge" => Some(Tool::Judge),
             "log" => Some(Tool::Log),
             "folder" => Some(Tool::Folder),
             _ => None,
@@ -40,6 +46,7 @@ impl Tool {
             Tool::Trace => TRACE_USAGE,
             Tool::Explain => EXPLAIN_USAGE,
             Tool::Sweep => SWEEP_USAGE,
+            Tool::Judge => JUDGE_USAGE,
             Tool::Log => LOG_USAGE,
             Tool::Folder => FOLDER_USAGE,
         }
@@ -52,6 +59,7 @@ impl Tool {
             Tool::Trace => TRACE_HELP,
             Tool::Explain => EXPLAIN_HELP,
             Tool::Sweep => SWEEP_HELP,
+            Tool::Judge => JUDGE_HELP,
             Tool::Log => LOG_HELP,
             Tool::Folder => FOLDER_HELP,
         }

@@ -33,7 +33,6 @@ use Rattle.dr_program.specs.declared.deed.Deed.TheVariants as deeds
 use Rattle.dr_program.specs.Steps.{IsAppend}
 use Rattle.dr_program.specs.declared.outcome.Outcome.{Outcome}
 use Rattle.dr_program.specs.declared.outcome.Outcome.TheVariants as outcomes
-use Rattle.dr_program.specs.declared.outcome.LogWhy.TheVariants as logs
 use Rattle.dr_refine.proofs.Deeds.{settle_replica}
 use Rattle.dr_logged.specs.Served.{HaveSamePlaces, IsRoomy}
 use Rattle.dr_logged.specs.Left.{IsLeftOf}
@@ -118,13 +117,13 @@ left_begins first e es begins left =
     by (inr more) = (more.0 ∷ [], sym more.1)
 
 -- whom a disk ended
-by_disk : (end : End) → why_ended end ≡ Some logs.DiskFault → end ≡ ends.DiskFault
+by_disk : (end : End) → why_ended end ≡ Some whys.DiskFault → end ≡ ends.DiskFault
 by_disk ends.DiskFault e = refl
 by_disk (ends.LogFull len) e = absurd (cc)
 by_disk end e = absurd (cc)
 
 -- who has ended by a disk has ended
-pub ended_by_disk : (o : Option End) → why_ended (unwrap_or o ends.Done) ≡ Some logs.DiskFault
+pub ended_by_disk : (o : Option End) → why_ended (unwrap_or o ends.Done) ≡ Some whys.DiskFault
     → o ≡ Some ends.DiskFault
 ended_by_disk None e = absurd (cc)
 ended_by_disk (Some end) e = ap Some (by_disk end e)

@@ -1,5 +1,5 @@
 -- Which bytes are a line of a report's text. Each line ends with its line feed.
-use Rattle.std.specs.Prelude.{◌≡◌, ◌≢◌, ⊤, ℕ, IfSome, ◌<◌, ◌^◌, ◌==◌, List, [], ◌∷◌, codes, if◌then◌else◌}
+use Rattle.std.specs.Prelude.{◌≡◌, ◌≢◌, ⊤, ℕ, IfSome, ◌<◌, ◌^◌, ◌==◌, List, [], ◌∷◌, codes, if◌then◌else◌, slice_index}
 use Rattle.std.specs.Fmt.{decimal}
 use Rattle.std.specs.List.{concat}
 use Rattle.dr_entry.specs.Messages.{IsMessage}
@@ -23,6 +23,10 @@ unfoldable pub lines_of : List ℕ → List (List ℕ)
 lines_of [] = []
 lines_of (byte ∷ bytes) =
     if byte == 10 then (byte ∷ []) ∷ lines_of bytes else begin_with byte (lines_of bytes)
+
+-- the bytes begin with the first one of this text
+abbrev pub BeginsAs : List ℕ → List ℕ → Type 0
+BeginsAs bytes text = slice_index bytes 0 ≡ slice_index text 0
 
 -- what a number of a member, of an age, of a view, and others may be
 abbrev pub IsMemberNumber : ℕ → Type 0

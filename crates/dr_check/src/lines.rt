@@ -8,7 +8,7 @@ ghost use Rattle.dr_text.specs.Report.{entry_text, last_text};
 ghost use Rattle.dr_text.specs.declared.last.Last.TheVariants.{NoQuorum};
 ghost use Rattle.dr_check.specs.declared.line.Line.{Line as LineOf};
 ghost use Rattle.dr_check.specs.declared.line.Line.TheVariants.{Age, Present, Absent, Entry as EntryLine, Last as LastLine};
-ghost use Rattle.dr_check.specs.Lines.{EndFits, EntryFits, IsLineText, absent_text, age_start_text, present_text};
+ghost use Rattle.dr_check.specs.Lines.{BeginsAs, EndFits, EntryFits, IsLineText, absent_text, age_start_text, present_text};
 ghost use Rattle.dr_check.specs.Fields.{end_fields};
 ghost use Rattle.dr_check.specs.Lasts.{IsLastLine, IsPlainLast, TellsDamaged, TellsDisagreement, TellsDiskFault, TellsForeign, TellsLogFull, TellsOfLogs, TellsRosterQuorum, TellsViewQuorum};
 
@@ -354,7 +354,7 @@ fn is_absent(word: &[u8]) -> bool
 /// The line of a member.
 fn read_member(alloc: Global, bytes: &[u8]) -> Result<Option<Line>, AllocError>
     ensures some { IfOk result (λ line. IfSome line (λ l. IsLineText l bytes.now)) }
-    ensures only { (l : LineOf) → slice_index bytes.now 0 ≡ 109 → IsLineText l bytes.now
+    ensures only { (l : LineOf) → BeginsAs bytes.now (codes "m") → IsLineText l bytes.now
         → IfOk result (λ line. line ≡ Some l) }
 {
     if is_absent(field(bytes, 2)) {
@@ -367,7 +367,7 @@ fn read_member(alloc: Global, bytes: &[u8]) -> Result<Option<Line>, AllocError>
 /// The line of an entry.
 fn read_entry(alloc: Global, bytes: &[u8]) -> Result<Option<Line>, AllocError>
     ensures some { IfOk result (λ line. IfSome line (λ l. IsLineText l bytes.now)) }
-    ensures only { (l : LineOf) → slice_index bytes.now 0 ≡ 32 → IsLineText l bytes.now
+    ensures only { (l : LineOf) → BeginsAs bytes.now (codes " ") → IsLineText l bytes.now
         → IfOk result (λ line. line ≡ Some l) }
 {
     if byte_at(bytes, 2) == b'v' {

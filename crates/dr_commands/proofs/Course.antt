@@ -20,7 +20,7 @@ use Rattle.dr_outcome.specs.declared.last.Kind.TheVariants.{DiskFault, LogFull, 
 use Rattle.dr_outcome.specs.declared.outcome.Outcome.{Outcome}
 use Rattle.dr_outcome.specs.Last.{refusal_of, some_end, some_so}
 use Rattle.dr_outcome.specs.Outcome.{HasDone, OfScript, Plays, TellsDisks, WasPlayedOrNot, by_run, outcome_text, unrun, unrun_ends}
-use Rattle.dr_outcome.proofs.OutcomeKinds.{IsQuiet, Rank, quiet, usage_or_not, ranked, unplayed}
+use Rattle.dr_outcome.proofs.OutcomeKinds.{IsQuiet, Rank, by_disk, by_logs, by_full, by_turns, by_split, by_none, quiet, usage_or_not, ranked, unplayed}
 use Rattle.dr_outcome.proofs.Due.{late_reading, run_rank}
 use Rattle.dr_commands.specs.declared.words.Command.{Command}
 use Rattle.dr_commands.specs.declared.words.Command.TheVariants.{Check, Drill, Live, Play, Shards, Store}

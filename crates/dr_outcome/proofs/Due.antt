@@ -38,7 +38,7 @@ use Rattle.dr_outcome.specs.Outcome.{AreAllLate, HasAllLogs, HasDone, HasPlayed,
 use Rattle.dr_outcome.specs.Playing.{InFolder, Playing, ends_over, missing_of, part_in, play_ends, with_usage}
 use Rattle.dr_outcome.proofs.Lasts.{end_so, refusal_status, told_so, rank_by}
 use Rattle.dr_outcome.proofs.Runs.{IsWhole, calm_run, none_spent, none_split, part_lasts, whole_in_memory, whole_lasts, whole_run}
-use Rattle.dr_outcome.proofs.OutcomeKinds.{Rank, IsLateReading, unplayed, by_no_disk, by_no_full_log, by_no_split, none_so, by_turns}
+use Rattle.dr_outcome.proofs.OutcomeKinds.{Rank, IsLateReading, unplayed, by_no_disk, by_no_full_log, by_no_split, none_so, turns_or_none}
 
 -- the ages of a run, over whatever disks
 ages_of : (mode : Mode) (folder : Option InFolder) (part : Part) (script : Script) (before after : YardState)
@@ -518,7 +518,7 @@ pub live_lasts : (ages : List AgeEnd) (line : Last) → All (λ (age : AgeEnd). 
     → All (λ (age : AgeEnd). NoneLeft age.members) ages → last_of ages None ≡ Some line
     → Contains (0 ∷ 8 ∷ []) (status_of line)
 live_lasts ages line stored calm is =
-    by_turns (first_told DiskFault ages None) (refusal_of None) (first_told LogFull ages None)
+    turns_or_none (first_told DiskFault ages None) (refusal_of None) (first_told LogFull ages None)
     (first_end Spent ages) (first_end NoMajority ages) line
     (told_so DiskFault ages None
     ∙ or_from (some_end DiskFault ages) false (none_so DiskFault by_no_disk ages stored calm) refl)

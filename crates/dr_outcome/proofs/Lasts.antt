@@ -13,7 +13,7 @@ use Rattle.dr_text.specs.declared.last.Last.{Last}
 use Rattle.dr_outcome.specs.declared.last.Kind.{Kind}
 use Rattle.dr_outcome.specs.Last.{first_end, first_told, is_of, refusal_of, some_end, some_so, stopped_by, last_by}
 use Rattle.dr_intake.specs.Status.{status_of}
-use Rattle.dr_outcome.proofs.OutcomeKinds.{Rank}
+use Rattle.dr_outcome.proofs.OutcomeKinds.{Rank, by_disk, by_logs, by_full, by_turns, by_split, by_none}
 use Rattle.dr_outcome.specs.declared.last.Kind.TheVariants.{DiskFault, LogFull, NoMajority, Spent}
 use Rattle.dr_outcome.specs.declared.outcome.Outcome.{Outcome}
 

@@ -146,15 +146,15 @@ none_so kind each ages stored calm =
     (λ j e below. each (get_or (get_or ages k d).members j e).end (stored k d within j e below)
     (calm k d within j e below)))
 
-pub by_turns : (disk : Option ℕ) (logs : Option Last) (full turns split : Option ℕ) (line : Last)
+pub turns_or_none : (disk : Option ℕ) (logs : Option Last) (full turns split : Option ℕ) (line : Last)
     → is_some disk ≡ false → is_some logs ≡ false → is_some full ≡ false → is_some split ≡ false
     → last_by disk logs full turns split ≡ line → Contains (0 ∷ 8 ∷ []) (status_of line)
-by_turns (Some m) logs full turns split line d l f s said = absurd (true≢false d)
-by_turns None (Some refusal) full turns split line d l f s said = absurd (true≢false l)
-by_turns None None (Some m) turns split line d l f s said = absurd (true≢false f)
-by_turns None None None (Some m) split line d l f s said = (1, omega arith, ap status_of said)
-by_turns None None None None (Some m) line d l f s said = absurd (true≢false s)
-by_turns None None None None None line d l f s said = (0, omega arith, ap status_of said)
+turns_or_none (Some m) logs full turns split line d l f s said = absurd (true≢false d)
+turns_or_none None (Some refusal) full turns split line d l f s said = absurd (true≢false l)
+turns_or_none None None (Some m) turns split line d l f s said = absurd (true≢false f)
+turns_or_none None None None (Some m) split line d l f s said = (1, omega arith, ap status_of said)
+turns_or_none None None None None (Some m) line d l f s said = absurd (true≢false s)
+turns_or_none None None None None None line d l f s said = (0, omega arith, ap status_of said)
 
 -- where nothing is run the status is another
 pub refused : (known last : Last) (before after : YardState) (o : Outcome) → status_of known ≡ 3

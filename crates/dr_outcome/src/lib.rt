@@ -13,6 +13,7 @@ mod playing;
 mod running;
 mod watching;
 
+pub use dr_ages::{Mode, Part};
 pub use last::{Kind, last_of};
 pub use outcome::{Body, Folder, Outcome, Play, without_ages};
 pub use playing::{are_all_late, play_script, play_text, simulate, simulate_text};

@@ -132,17 +132,26 @@ fn push_place(
         place,
         replica.count(sender),
         other.replica().count(sender),
-    )?;
-    push_view(out, replica, other)
+        view_elsewhere(replica, other),
+    )
 }
 
-/// Appends that one is to put the item of a place, or to be seen to, where more are put than taken.
-fn push_puts(out: &mut String, place: u64, taken: u32, put: u32) -> Result<(), AllocError> {
+/// Appends that one is to put the item of a place, or to be seen to, where more are put than taken, and ends
+/// the line.
+fn push_puts(
+    out: &mut String,
+    place: u64,
+    taken: u32,
+    put: u32,
+    elsewhere: Option<u8>,
+) -> Result<(), AllocError> {
     out.push_str(if taken < put { " to be seen to" } else { " to" })?;
     write!(
         out,
         " put what stands at place {place} (taken: {taken}, put: {put}"
-    )
+    )?;
+    push_elsewhere(out, elsewhere)?;
+    out.push_str(")\n")
 }
 
 /// What members are waited for to have.
@@ -323,7 +332,7 @@ fn push_suspicions(
     requires { number < replica.now.roster }
 {
     let me = replica.me();
-    let seen = Mask::of((replica.seen(number, SUSPECTED_COLUMN) & 0xffff) as u16);
+    let seen = Mask::of((replica.seen(number, SUSPECTED_COLUMN) & u64::from(u16::MAX)) as u16);
     let missing = replica.suspects().without(seen);
     if missing.bits() == 0 {
         return Ok(());
@@ -334,8 +343,9 @@ fn push_suspicions(
         named_of(replica, missing),
         named_of(replica, seen),
         named_of(other.replica(), other.replica().suspects()),
+        view_elsewhere(replica, other),
     )?;
-    push_view(out, replica, other)
+    out.push_str("\n")
 }
 
 /// Appends that one is to suspect the same, or to wish for the same, where this is missing.
@@ -344,32 +354,47 @@ fn push_unnamed(
     missing: Named,
     seen: Named,
     has: Named,
+    elsewhere: Option<u8>,
 ) -> Result<(), AllocError> {
     match (missing.suspects, missing.wishes) {
-        (_, 0) => push_suspected(out, seen, has),
-        (0, _) => push_wished(out, seen, has),
+        (_, 0) => push_suspected(out, seen, has, elsewhere),
+        (0, _) => push_wished(out, seen, has, elsewhere),
         _ => {
-            push_suspected(out, seen, has)?;
-            out.push_str(") and")?;
-            push_wished(out, seen, has)
+            push_suspected(out, seen, has, None)?;
+            out.push_str(" and")?;
+            push_wished(out, seen, has, elsewhere)
         }
     }
 }
 
 /// Appends whom one is seen to suspect, and whom it suspects.
-fn push_suspected(out: &mut String, seen: Named, has: Named) -> Result<(), AllocError> {
+fn push_suspected(
+    out: &mut String,
+    seen: Named,
+    has: Named,
+    elsewhere: Option<u8>,
+) -> Result<(), AllocError> {
     out.push_str(" to suspect the same (seen to suspect: ")?;
     push_members(out, seen.suspects)?;
     out.push_str(", suspects: ")?;
-    push_members(out, has.suspects)
+    push_members(out, has.suspects)?;
+    push_elsewhere(out, elsewhere)?;
+    out.push_str(")")
 }
 
 /// Appends for whom one is seen to wish, and for whom it wishes.
-fn push_wished(out: &mut String, seen: Named, has: Named) -> Result<(), AllocError> {
+fn push_wished(
+    out: &mut String,
+    seen: Named,
+    has: Named,
+    elsewhere: Option<u8>,
+) -> Result<(), AllocError> {
     out.push_str(" to wish for the same (seen to wish for: ")?;
     push_members(out, seen.wishes)?;
     out.push_str(", wishes for: ")?;
-    push_members(out, has.wishes)
+    push_members(out, has.wishes)?;
+    push_elsewhere(out, elsewhere)?;
+    out.push_str(")")
 }
 
 /// Appends the members of a mask, or that there are none.
@@ -421,8 +446,13 @@ fn push_wait(
         Kind::Done => out.push_str(" to have everything\n"),
         _ => {
             push_lack(out, missing)?;
-            push_seen(out, replica.view(), seen, has)?;
-            push_view(out, replica, other)
+            push_seen(
+                out,
+                replica.view(),
+                seen,
+                has,
+                view_elsewhere(replica, other),
+            )
         }
     }
 }
@@ -452,27 +482,41 @@ fn push_lacking_entries(out: &mut String, wanted: u64) -> Result<(), AllocError>
     out.push_str(if wanted == 1 { " entry" } else { " entries" })
 }
 
-/// Appends what is seen of one that is waited for, in this view, and what it has.
-fn push_seen(out: &mut String, view: u8, seen: u64, has: u64) -> Result<(), AllocError> {
-    push_seen_in(out, view)?;
-    write!(out, ": {seen}, has: {has}")
+/// Appends what is seen of one that is waited for, in this view, and what it has, and ends the line.
+fn push_seen(
+    out: &mut String,
+    view: u8,
+    seen: u64,
+    has: u64,
+    elsewhere: Option<u8>,
+) -> Result<(), AllocError> {
+    out.push_str(" (seen")?;
+    push_later_view(out, view)?;
+    write!(out, ": {seen}, has: {has}")?;
+    push_elsewhere(out, elsewhere)?;
+    out.push_str(")\n")
 }
 
 /// Appends in which view something is seen: the first one isn't named.
-fn push_seen_in(out: &mut String, view: u8) -> Result<(), AllocError> {
+fn push_later_view(out: &mut String, view: u8) -> Result<(), AllocError> {
     match view {
-        0 => out.push_str(" (seen"),
-        _ => push_number(out, " (seen in view ", u64::from(view)),
+        0 => Ok(()),
+        _ => push_number(out, " in view ", u64::from(view)),
     }
 }
 
-/// Ends a line, with the view that one is in where that is another.
-fn push_view(out: &mut String, replica: &Replica, other: &Member) -> Result<(), AllocError> {
+/// The view that one is in, where that is another.
+fn view_elsewhere(replica: &Replica, other: &Member) -> Option<u8> {
     let view = other.replica().view();
-    if view == replica.view() {
-        return out.push_str(")\n");
+    (view != replica.view()).then_some(view)
+}
+
+/// Appends the view that one is in, where that is another.
+fn push_elsewhere(out: &mut String, elsewhere: Option<u8>) -> Result<(), AllocError> {
+    match elsewhere {
+        None => Ok(()),
+        Some(view) => push_number(out, ", in view ", u64::from(view)),
     }
-    writeln!(out, ", in view {view})")
 }
 
 /// Appends how one that is waited for has ended, where that is not by its turns alone.

@@ -2,15 +2,12 @@
 use Rattle.std.proofs.Common.{zero, suc, ◌+◌, List, [], ◌∷◌, ◌++◌, ◌≡◌, sym, ap, ◌∙◌, length, refl, ℕ, ◌<◌, true, subst, arith, true≢false}
 use Rattle.std.specs.Prelude.{Option, option_map, None, Some, is_some, IsTrue}
 use Rattle.std.proofs.lemmas.List.{length-map}
-use Rattle.std.proofs.lemmas.Option.{same_Some}
-use Rattle.dr_entry.proofs.OptionFacts.{some_there}
 use Rattle.dr_entry.specs.declared.end.End.{End}
-use Rattle.dr_program.proofs.Present.{present_map, present_within}
+use Rattle.dr_program.proofs.Present.{present_map}
 use Rattle.dr_program.specs.Running.{Running}
 use Rattle.dr_program.specs.Form.{IsRunningMember}
 use Rattle.dr_program.specs.Presence.{present_at}
-use Rattle.dr_turn.proofs.Works.{left_to}
-use Rattle.dr_table.specs.Cards.{AreAtEnd, AreSame, HasFewerLeft, IsAtEnd}
+use Rattle.dr_table.specs.Cards.{AreAtEnd, AreSame, IsAtEnd}
 use Rattle.dr_table.specs.Rule.{number}
 use Rattle.dr_table.specs.Steps.{IsReachedMember}
 
@@ -36,21 +33,6 @@ pub as_filled : (rs qs : List (Option Running)) (k : ℕ) → AreSame rs qs
 as_filled rs qs k same = sym (filled (present_at qs k))
     ∙ ap is_some (sym (present_map number qs k) ∙ ap (λ l. present_at l k) same ∙ present_map number rs k)
     ∙ filled (present_at rs k)
-
--- the first member has fewer left
-pub left_falls : (rs qs : List (Option Running)) → is_some (present_at rs 0) ≡ true → AreSame rs qs
-    → HasFewerLeft rs 0 qs → left_to (present_at qs 0) < left_to (present_at rs 0)
-left_falls rs qs there same fewer =
-    let (r, old) = some_there (present_at rs 0) there in
-    let (q, new) = some_there (present_at qs 0) (as_filled rs qs 0 same ∙ there) in
-    rw old (rw new (fewer r q old new))
-
--- the one member has ended
-pub one_ended : (rs : List (Option Running)) (r : Running) → length rs ≡ 1 → present_at rs 0 ≡ Some r → IsAtEnd r
-    → AreAtEnd rs
-one_ended rs r one there ended k q here =
-    let first : k ≡ 0 = omega (arith, present_within rs k q here, one) in
-    subst IsAtEnd (same_Some r q (sym there ∙ ap (present_at rs) (sym first) ∙ here)) ended
 
 -- a member that tells an end has ended
 pub ended_by : (r : Running) (o : Option End) → o ≡ r.replica.end → is_some o ≡ true → IsAtEnd r

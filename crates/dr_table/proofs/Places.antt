@@ -1,5 +1,5 @@
 -- Where members stand after one of them changes, after a hand is cut in two, and after two are put together.
-use Rattle.std.proofs.Common.{◌≡◌, ◌≢◌, ◌⊎◌, inl, inr, refl, sym, ap, ◌∙◌, ℕ, ◌+◌, ◌-◌, ◌≤◌, List, [], ◌∷◌, ◌++◌, length, take, drop, length-set, arith, eq-eqb, ne_eqb, lt-ltb, le-ltb}
+use Rattle.std.proofs.Common.{◌≡◌, ◌≢◌, ◌⊎◌, inl, inr, refl, sym, ap, ◌∙◌, ℕ, ◌+◌, ◌-◌, ◌≤◌, List, [], ◌∷◌, ◌++◌, length, take, drop, length-set, arith, eq-eqb, ne_eqb, lt-ltb, le-ltb, eqb, cond}
 use Rattle.std.specs.Prelude.{Some, slice_get, slice_set, Option}
 use Rattle.std.proofs.lemmas.Bool.{cases_eq, cases_lt}
 use Rattle.std.proofs.lemmas.Option.{same_Some, slice_get_within}
@@ -172,12 +172,15 @@ stands_cut views members id at v is h =
       )
     ]
 
+-- where a place of the two lists was before they were joined
+abbrev joined_back : ℕ → ℕ → ℕ → ℕ → ℕ → ℕ × ℕ
+joined_back id other n s a = cond (eqb s other) (id, n + a) (s, a)
+
 pub stands_joined : (views : List (List (Option Running))) (members : List (Option Running)) (id : ℕ) (v : List (Option Running))
     (other : ℕ) (w : List (Option Running)) → slice_get views id ≡ Some v → other ≢ id → slice_get views other ≡ Some w
     → Stands views members → Stands (slice_set (slice_set views id (v ++ w)) other []) members
-unfolding cut_back
 stands_joined views members id v other w is apart there h =
-    stands_moved views after members (cut_back id other (length v)) way on h
+    stands_moved views after members (joined_back id other (length v)) way on h
   where
     both : List (List (Option Running))
     both = slice_set views id (v ++ w)
@@ -186,7 +189,7 @@ stands_joined views members id v other w is apart there h =
     after = slice_set both other []
 
     way : (s a : ℕ) (r : Running) → Found after s a r
-        → (t b : ℕ) × Found views t b r × (cut_back id other (length v) t b ≡ (s, a))
+        → (t b : ℕ) × Found views t b r × (joined_back id other (length v) t b ≡ (s, a))
     way s a r (u, at, stands) = elim (at_set both other s [] u at) [
       | inl spent ↦ absurd (cc (ap (λ l. present_at l a) spent.1 ∙ stands))
       | inr old ↦ elim (at_set views id s (v ++ w) u old.1) [

@@ -1,7 +1,6 @@
 //! When something is said of a run, and what.
-use dr_ages::Part;
 use dr_io::MemorySink;
-use dr_outcome::are_all_late;
+use dr_outcome::{Part, are_all_late};
 use dr_progress::{Progress, SteppedTimer, watch_with_progress};
 use dr_script::read_script;
 use dr_sim::Unwatched;

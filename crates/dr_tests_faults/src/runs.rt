@@ -3,10 +3,9 @@ ghost use Rattle.std.specs.Prelude.{IfOk, IfErr};
 ghost use Rattle.dr_script.specs.Ranges.{HasRanges};
 ghost use Rattle.dr_yard.specs.Memory.{AreHere};
 
-use dr_ages::Mode;
 use dr_disk::MemoryDisk;
 use dr_intake::script_or_refusal;
-use dr_outcome::{Folder, Outcome, Play, play_script};
+use dr_outcome::{Folder, Mode, Outcome, Play, play_script};
 use dr_pace::SnoozePace;
 use dr_script::Script;
 use dr_words::Mask;

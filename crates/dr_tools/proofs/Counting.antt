@@ -10,7 +10,7 @@ use Rattle.std.proofs.lemmas.List.Quantifiers.{all_pairs_push, position-Some}
 use Rattle.std.proofs.lemmas.List.Sums.{fails_before_first}
 use Rattle.dr_entry.proofs.ListFacts.{same_line, other_line}
 use Rattle.dr_tools.specs.declared.sweeps.rows.Row.{Row}
-use Rattle.dr_tools.specs.Outcomes.{ComesTo, by_seed}
+use Rattle.dr_tools.specs.Outcomes.{ComesTo}
 use Rattle.dr_tools.specs.Rows.{AreRows, HaveOutcomes, IsTally, count_in, first_in, first_seed, row_line, times, with_run}
 use Rattle.dr_script.specs.declared.script.Script.{Script}
 
@@ -182,25 +182,24 @@ rows_more from line lines rows are = record {
       ∙ sym (first_seed_more from line l lines);
 }
 
-outcomes_more : (script : Script) (from n : ℕ) (line : List ℕ) (lines : List (List ℕ))
-    → HaveOutcomes script from n lines → ComesTo (by_seed script (from + n)) line
-    → HaveOutcomes script from (n + 1) (lines ++ line ∷ [])
-outcomes_more script from n line lines have comes = record {
+outcomes_more : (scripts : ℕ → Script) (late n : ℕ) (line : List ℕ) (lines : List (List ℕ))
+    → HaveOutcomes scripts late n lines → ComesTo (scripts n) late line
+    → HaveOutcomes scripts late (n + 1) (lines ++ line ∷ [])
+outcomes_more scripts late n line lines have comes = record {
   many = length_push lines line ∙ ap (λ k. k + 1) have.many;
   each = λ i below. elim (cases_lt i n) [
-    | inl old ↦ subst (ComesTo (by_seed script (from + i)))
+    | inl old ↦ subst (ComesTo (scripts i) late)
         (sym (get_or_append_left lines (line ∷ []) [] i (omega (arith, old, have.many)))) (have.each i old)
     | inr last ↦
         let is : i ≡ n = omega (arith, last, below) in
         let at : get_or (lines ++ line ∷ []) i [] ≡ line =
         get_or_push lines line [] i (have.many ∙ sym is) in
-        subst (ComesTo (by_seed script (from + i))) (sym at)
-        (subst (λ k. ComesTo (by_seed script (from + k)) line) (sym is) comes)
+        subst (ComesTo (scripts i) late) (sym at) (subst (λ k. ComesTo (scripts k) late line) (sym is) comes)
   ];
 }
 
-pub no_rows : (script : Script) (from : ℕ) → IsTally script from 0 []
-no_rows script from = record {
+pub no_rows : (scripts : ℕ → Script) (late from : ℕ) → IsTally scripts late from 0 []
+no_rows scripts late from = record {
   lines = [];
   have = record { many = refl; each = λ i below. absurd (omega (arith, below)) };
   are = record {
@@ -210,12 +209,12 @@ no_rows script from = record {
   };
 }
 
-pub tally_more : (script : Script) (from n : ℕ) (line : List ℕ) (rows : List Row)
-    → IsTally script from n rows → ComesTo (by_seed script (from + n)) line
-    → IsTally script from (n + 1) (with_run (from + n) line rows)
-tally_more script from n line rows tally comes = record {
+pub tally_more : (scripts : ℕ → Script) (late from n : ℕ) (line : List ℕ) (rows : List Row)
+    → IsTally scripts late from n rows → ComesTo (scripts n) late line
+    → IsTally scripts late from (n + 1) (with_run (from + n) line rows)
+tally_more scripts late from n line rows tally comes = record {
   lines = tally.lines ++ line ∷ [];
-  have = outcomes_more script from n line tally.lines tally.have comes;
+  have = outcomes_more scripts late n line tally.lines tally.have comes;
   are = subst (λ k. AreRows from (tally.lines ++ line ∷ []) (with_run (from + k) line rows)) tally.have.many
       (rows_more from line tally.lines rows tally.are);
 }

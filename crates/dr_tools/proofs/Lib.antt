@@ -5,11 +5,15 @@ mod Traces
 pub mod ExplainLines
 mod Calm
 mod Counting
-mod Seeds
+mod Crashes
+mod Forms
+mod Variants
 mod Simulating
 mod Whole
 mod Keeping
-mod SweepCalls
+mod SweepAnswers
 pub mod LogLines
 mod LogAnswers
 mod FolderAnswers
+pub mod Differences
+pub mod JudgeAnswers

@@ -112,14 +112,17 @@ some_told script part nth (age ∷ ages) old new was =
     (some_told script part (nth + 1) ages was.0 new was.2)
 
 -- what is told of a call that reads nothing
-pub unread_traced : (words : List (String Global)) (old new : Option (List ℕ)) (failed fails : ℕ) (why : Unread)
-    (text : List ℕ) (due : ℕ) → IsUnread (asked_by words) old new failed fails why
+pub unread_traced : (words : List (String Global)) (asked : Option Asked) (old new : Option (List ℕ))
+    (failed fails : ℕ) (found why : Unread) (text : List ℕ) (due : ℕ) → asked ≡ asked_by words → found ≡ why
+    → IsUnread asked old new failed fails found
     → MatchOption (unread_line why) (IsWanting text due) (λ l. IsLine trace_usage l (text, due))
     → IsTraceAnswer words old new failed fails (text, due)
-unread_traced words old new failed fails why text due unread alone =
+unread_traced words asked old new failed fails found why text due by same unread alone =
     unread_alone (λ line said. MatchOption line (IsWanting said.0 said.1) (λ l. IsLine trace_usage l said))
     (λ asked bytes said. IsTracedFor asked (reading_of bytes) said.0 said.1) (asked_by words) old new failed fails why
-    (text, due) unread alone
+    (text, due)
+    (subst (λ (a : Option Asked). IsUnread a old new failed fails why) by
+    (subst (λ (w : Unread). IsUnread asked old new failed fails w) same unread)) alone
 
 -- ---- what was written of a run
 

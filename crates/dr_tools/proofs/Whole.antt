@@ -45,16 +45,16 @@ all_parts_kept keeps s all =
     λ i. record s { faults = faults i; messages = lists i }
 
 -- the text of what is left of a script that ends so
-pub smaller_if : {E : Type 0} (r : Result (String Global) E) (script fewer : Script) (wanted : List ℕ)
-    (keeps given : List Bool) → given ≡ keeps → fewer ≡ kept_parts given script → EndsSoWith script wanted keeps
-    → IfOk r (λ text. string_bytes text ≡ script_json fewer)
-    → IfOk r (λ text. IsSmaller script wanted (string_bytes text))
-smaller_if (Ok text) script fewer wanted keeps given same cut ends is =
+pub smaller_if : {E : Type 0} (r : Result (String Global) E) (script fewer : Script) (late : ℕ) (wanted : List ℕ)
+    (keeps given : List Bool) → given ≡ keeps → fewer ≡ kept_parts given script
+    → EndsSoWith script late wanted keeps → IfOk r (λ text. string_bytes text ≡ script_json fewer)
+    → IfOk r (λ text. IsSmaller script late wanted (string_bytes text))
+smaller_if (Ok text) script fewer late wanted keeps given same cut ends is =
     let whole : string_bytes text ≡ script_json (kept_parts keeps script) =
     is ∙ ap script_json (cut ∙ ap (λ (k : List Bool). kept_parts k script) same) in
     record {
       keeps = keeps;
       cut = whole;
-      ends = subst (λ (t : List ℕ). TextEndsSo t wanted true) (sym whole) ends;
+      ends = subst (λ (t : List ℕ). TextEndsSo t late wanted true) (sym whole) ends;
     }
-smaller_if (Err e) script fewer wanted keeps given same cut ends is = tt
+smaller_if (Err e) script fewer late wanted keeps given same cut ends is = tt

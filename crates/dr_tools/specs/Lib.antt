@@ -8,10 +8,15 @@ pub mod Turns
 pub mod Explained
 pub mod SweepWords
 pub mod Outcomes
+pub mod OutcomeForms
 pub mod Rows
 pub mod Parts
+pub mod Crashes
+pub mod Variants
 pub mod Shrinking
 pub mod SweepAnswer
 pub mod LogText
 pub mod LogPrinted
 pub mod Folder
+pub mod Differing
+pub mod Judged

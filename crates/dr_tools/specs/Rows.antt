@@ -1,11 +1,16 @@
 -- The table of outcomes: for each the number of runs that have it, and the first seed.
-use Rattle.std.specs.Prelude.{◌≡◌, ℕ, ◌+◌, ◌<◌, if◌then◌else◌, false, List, [], ◌∷◌, ◌++◌, AllPairs, bytes_eq, codes, get_or, length, map, Option, None, Some}
+use Rattle.std.specs.Prelude.{◌≡◌, ℕ, ◌+◌, ◌<◌, if◌then◌else◌, false, List, [], ◌∷◌, ◌++◌, AllPairs, bytes_eq, codes, get_or, length, map, slice_get, Option, None, Some}
 use Rattle.std.specs.Fmt.{decimal}
 use Rattle.std.specs.List.{concat, flat_map}
+use Rattle.dr_script.specs.declared.script.Fault.{Fault}
 use Rattle.dr_script.specs.declared.script.Script.{Script}
+use Rattle.dr_script.specs.declared.script.What.{What}
+use Rattle.dr_script.specs.declared.script.What.TheVariants.{Crash, Suspect}
 use Rattle.dr_summary.specs.Table.{behind_blanks}
 use Rattle.dr_tools.specs.declared.sweeps.rows.Row.{Row}
-use Rattle.dr_tools.specs.Outcomes.{ComesTo, by_seed}
+use Rattle.dr_tools.specs.declared.sweeps.variants.Variants.{Variants}
+use Rattle.dr_tools.specs.declared.sweeps.variants.Variants.TheVariants.{Crashes, Seeded}
+use Rattle.dr_tools.specs.Outcomes.{ComesTo}
 
 -- how many of these lines are this one
 abbrev pub times : List ℕ → List (List ℕ) → ℕ
@@ -40,15 +45,15 @@ pub record AreRows (from : ℕ) (lines : List (List ℕ)) (rows : List Row) : Ty
   -- a first seed is the least by which a run has it
   pub firsts : (line : List ℕ) → first_in line rows ≡ first_seed from line lines
 
--- the runs of a script by so many seeds from this one on have these outcomes
-pub record HaveOutcomes (script : Script) (from count : ℕ) (lines : List (List ℕ)) : Type 0 where
+-- the runs of so many scripts, in which these members are late, have these outcomes
+pub record HaveOutcomes (scripts : ℕ → Script) (late count : ℕ) (lines : List (List ℕ)) : Type 0 where
   pub many : length lines ≡ count
-  pub each : (i : ℕ) → i < count → ComesTo (by_seed script (from + i)) (get_or lines i [])
+  pub each : (i : ℕ) → i < count → ComesTo (scripts i) late (get_or lines i [])
 
--- the rows of the runs of a script by so many seeds from this one on
-pub record IsTally (script : Script) (from count : ℕ) (rows : List Row) : Type 0 where
+-- the rows of the runs of so many scripts, which are numbered from here on
+pub record IsTally (scripts : ℕ → Script) (late from count : ℕ) (rows : List Row) : Type 0 where
   pub lines : List (List ℕ)
-  pub have : HaveOutcomes script from count lines
+  pub have : HaveOutcomes scripts late count lines
   pub are : AreRows from lines rows
 
 -- the rows with one run more
@@ -57,12 +62,34 @@ with_run seed line [] = record { line = line; count = 1; first = seed } ∷ []
 with_run seed line (r ∷ rs) =
     if bytes_eq r.line line then record r { count = r.count + 1 } ∷ rs else r ∷ with_run seed line rs
 
--- the line of a row, and the table of rows
-abbrev pub outcome_row : Row → List ℕ
-outcome_row r =
-    concat
-    (behind_blanks 5 (decimal r.count) ∷ codes "  " ∷ behind_blanks 10 (decimal r.first) ∷ codes "  "
-    ∷ r.line ∷ [])
+-- the point of a crash, as a row tells it
+abbrev pub point_text : ℕ → What → List ℕ
+point_text age (Crash turn push) =
+    concat (behind_blanks 9 (decimal age) ∷ codes "  " ∷ behind_blanks 7 (decimal turn) ∷ codes "  "
+    ∷ behind_blanks 5 (decimal push) ∷ [])
+point_text age (Suspect turn other) = []
 
-abbrev pub rows_text : List Row → List ℕ
-rows_text rows = codes " runs  first seed  outcome\n" ++ flat_map outcome_row rows
+-- a crash, if there is one
+abbrev pub crash_text : Option Fault → List ℕ
+crash_text None = []
+crash_text (Some fault) = point_text fault.age fault.what
+
+-- the first run of a row: by its seed, or by its crash
+abbrev pub first_text : Variants → ℕ → List ℕ
+first_text (Seeded seeds) first = behind_blanks 10 (decimal first)
+first_text (Crashes faults) first = crash_text (slice_get faults first)
+
+-- the line of a row
+abbrev pub outcome_row : Variants → Row → List ℕ
+outcome_row variants r =
+    concat
+    (behind_blanks 5 (decimal r.count) ∷ codes "  " ∷ first_text variants r.first ∷ codes "  " ∷ r.line ∷ [])
+
+-- the line above the rows
+abbrev pub heading : Variants → List ℕ
+heading (Seeded seeds) = codes " runs  first seed  outcome\n"
+heading (Crashes faults) = codes " runs  first age     turn   push  outcome\n"
+
+-- the table of rows
+abbrev pub rows_text : Variants → List Row → List ℕ
+rows_text variants rows = heading variants ++ flat_map (outcome_row variants) rows

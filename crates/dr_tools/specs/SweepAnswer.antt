@@ -1,41 +1,101 @@
 -- What a call comes to.
-use Rattle.std.specs.Prelude.{◌≡◌, ◌⊎◌, ℕ, List, Option, String, codes, map, string_bytes}
+use Rattle.std.specs.Prelude.{◌≡◌, ◌⊎◌, ℕ, nat_lt, List, length, MatchBool, Option, None, Some, String, codes, map, string_bytes}
 use Rattle.std.specs.declared.alloc.Global.{Global}
+use Rattle.dr_ages.specs.Ages.{all_with}
 use Rattle.dr_intake.specs.Answer.{IsCallAnswer, Said, SaysOf, ToldBy}
+use Rattle.dr_outcome.specs.Outcome.{AreAllLate}
+use Rattle.dr_script.specs.declared.script.Fault.{Fault}
 use Rattle.dr_script.specs.declared.script.Script.{Script}
 use Rattle.dr_script.specs.Reading.{Reading, reading_of}
+use Rattle.dr_text.specs.declared.last.Last.TheVariants as lasts
+use Rattle.dr_text.specs.Report.{last_text}
 use Rattle.dr_tools.specs.declared.sweeps.rows.Row.{Row}
-use Rattle.dr_tools.specs.declared.sweeps.words.Seeds.{Seeds}
+use Rattle.dr_tools.specs.declared.sweeps.variants.Variants.{Variants}
+use Rattle.dr_tools.specs.declared.sweeps.variants.Variants.TheVariants.{Crashes, Seeded}
+use Rattle.dr_tools.specs.declared.sweeps.words.Runs.{Runs}
+use Rattle.dr_tools.specs.declared.sweeps.words.Runs.TheVariants.{ByCrashes, BySeeds}
 use Rattle.dr_tools.specs.declared.sweeps.words.Task.{Task}
-use Rattle.dr_tools.specs.declared.sweeps.words.Task.TheVariants.{Shrink, Sweep}
+use Rattle.dr_tools.specs.Crashes.{AreCrashes}
+use Rattle.dr_tools.specs.OutcomeForms.{is_outcome}
 use Rattle.dr_tools.specs.Rows.{IsTally, rows_text}
 use Rattle.dr_tools.specs.Shrinking.{IsShrunk, NoneEndsSo}
 use Rattle.dr_tools.specs.SweepWords.{task_in}
+use Rattle.dr_tools.specs.Variants.{first_variant, variant, variants_in}
 
--- the text is the table of the runs of a script by these seeds
-pub record IsSweep (script : Script) (seeds : Seeds) (text : List ℕ) : Type 0 where
+-- the text is the table of the runs of these variants of a script in which these members are late
+pub record IsSweep (variants : Variants) (late : ℕ) (script : Script) (text : List ℕ) : Type 0 where
   pub rows : List Row
-  pub tally : IsTally script seeds.from seeds.count rows
-  pub table : text ≡ rows_text rows
+  pub tally : IsTally (variant variants script) late (first_variant variants) (variants_in variants) rows
+  pub table : text ≡ rows_text variants rows
 
--- the text is that of a smaller script, or says that by none of these seeds the script ends so
-abbrev pub IsShrinking : Script → Seeds → List ℕ → List ℕ → ℕ → Type 0
-IsShrinking script seeds line text status =
-    (IsShrunk script seeds line text × (status ≡ 0))
-    ⊎ (NoneEndsSo script seeds line × (text ≡ codes "by none of these seeds\n") × (status ≡ 14))
+-- what is said where none of these runs ends so
+abbrev pub none_text : Variants → List ℕ
+none_text (Seeded seeds) = codes "by none of these seeds\n"
+none_text (Crashes faults) = codes "by none of these crashes\n"
 
--- what is said of a script, and the status
+-- the text is that of a smaller script, or says that by none of these variants the script ends so
+abbrev pub IsShrinking : Variants → ℕ → Script → List ℕ → Said → Type 0
+IsShrinking variants late script line said =
+    (IsShrunk (variant variants script) late (variants_in variants) line said.0 × (said.1 ≡ 0))
+    ⊎ (NoneEndsSo (variant variants script) late (variants_in variants) line
+    × (said.0 ≡ none_text variants) × (said.1 ≡ 14))
+
+-- how it is called, and the status then
+abbrev pub sweep_usage : List ℕ
+sweep_usage = codes "usage: derecho_tools sweep (FROM COUNT|--crashes M) [--shrink OUTCOME] [--late L] < SCRIPT\n"
+
+abbrev pub SaysUsage : Said → Type 0
+SaysUsage said = (said.0 ≡ sweep_usage) × (said.1 ≡ 2)
+
+-- which outcomes there are, and the status then
+abbrev pub outcomes_text : List ℕ
+outcomes_text =
+    codes
+    "refused: no outcome of the script: one is ok, unfinished or no majority; or how each member ends (done, crashed, spent T, suspected J, excluded V, nomajority M,M), with commas between, bars between ages, and behind a colon one of those three\n"
+
+abbrev pub SaysOutcomes : Said → Type 0
+SaysOutcomes said = (said.0 ≡ outcomes_text) × (said.1 ≡ 2)
+
+-- the script has as many faults as a script may have, so that one with a crash more is refused, and the status then
+abbrev pub SaysFull : Said → Type 0
+SaysFull said = (said.0 ≡ last_text (lasts.Rule 11 (codes "/faults"))) × (said.1 ≡ 3)
+
+-- what is said of these variants of a script: their table; or a smaller script that has the outcome that is wanted
+abbrev pub IsSaidOfWanted : Option (List ℕ) → Variants → ℕ → Script → Said → Type 0
+IsSaidOfWanted None variants late script said = IsSweep variants late script said.0 × (said.1 ≡ 0)
+IsSaidOfWanted (Some line) variants late script said = IsShrinking variants late script line said
+
+abbrev pub IsSaidOfVariants : Variants → Task → Script → Said → Type 0
+IsSaidOfVariants variants task script said = IsSaidOfWanted task.wanted variants task.late script said
+
+-- what is said of the crashes of a member of the script, if it is one, at all points at which it may
+abbrev pub IsSaidOfCrashes : ℕ → Task → Script → Said → Type 0
+IsSaidOfCrashes member task script said =
+    MatchBool (nat_lt member script.members)
+    (MatchBool (nat_lt (length script.faults) 256)
+    ((faults : List Fault) × AreCrashes script task.late member faults × IsSaidOfVariants (Crashes faults) task script said)
+    (SaysFull said)) (SaysUsage said)
+
+-- what is said of the runs that are asked for
+abbrev pub IsSaidOfRuns : Runs → Task → Script → Said → Type 0
+IsSaidOfRuns (BySeeds seeds) task script said = IsSaidOfVariants (Seeded seeds) task script said
+IsSaidOfRuns (ByCrashes member) task script said = IsSaidOfCrashes member task script said
+
+-- the same, unless an outcome is wanted that is none of the script
+abbrev pub IsSaidOfOutcome : Option (List ℕ) → Task → Script → Said → Type 0
+IsSaidOfOutcome None task script said = IsSaidOfRuns task.runs task script said
+IsSaidOfOutcome (Some line) task script said =
+    MatchBool (is_outcome script.members script.ages line) (IsSaidOfRuns task.runs task script said)
+    (SaysOutcomes said)
+
+-- what is said of a script, and the status: where all members are late nothing is run
 abbrev pub IsDone : Task → Script → Said → Type 0
-IsDone (Sweep seeds) script said = IsSweep script seeds said.0 × (said.1 ≡ 0)
-IsDone (Shrink seeds line) script said = IsShrinking script seeds line said.0 said.1
+IsDone task script said =
+    (AreAllLate script (all_with task.late) × SaysUsage said) ⊎ IsSaidOfOutcome task.wanted task script said
 
 -- what is said of what was read, and the status
 abbrev pub IsSaidFor : Task → Reading → Said → Type 0
 IsSaidFor task = SaysOf (IsDone task)
-
--- how it is called
-abbrev pub sweep_usage : List ℕ
-sweep_usage = codes "usage: derecho_tools sweep FROM COUNT [--shrink OUTCOME] < SCRIPT\n"
 
 -- what a call has to say, and the status that is due, by its words and by what its source had left and then
 -- has

@@ -3,10 +3,12 @@
 
 mod faults;
 mod found;
+mod hints;
 mod keys;
 mod never;
 mod reasons;
 mod repeats;
+mod shown;
 mod syntax;
 mod top;
 mod turns;

@@ -5,6 +5,7 @@
 
 mod explaining;
 mod folder;
+mod judging;
 mod log;
 mod summary;
 mod sweeps;
@@ -12,6 +13,7 @@ mod tracing;
 
 pub use explaining::{EXPLAIN_USAGE, explain};
 pub use folder::{FOLDER_USAGE, check_logs};
+pub use judging::judge_report;
 pub use log::print_log;
 pub use summary::{SUMMARY_USAGE, summarize};
 pub use sweeps::{SWEEP_USAGE, sweep};

@@ -1,5 +1,8 @@
-//! Simulates a script by many seeds, and tells how the runs end; or finds a smaller script that ends as wanted.
+//! Simulates a script by many seeds, or with each crash of a member, and tells how the runs end; or finds a smaller script that ends as wanted.
 
+mod counting;
+mod crashes;
+mod forms;
 mod outcomes;
 mod parts;
 mod rows;
@@ -7,6 +10,7 @@ mod runs;
 mod shrinking;
 mod sweeping;
 mod top;
+mod variants;
 mod words;
 
 pub use top::{SWEEP_USAGE, sweep};

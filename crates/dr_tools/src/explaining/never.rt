@@ -2,15 +2,56 @@ ghost use Rattle.dr_script.specs.Ranges.{HasRanges};
 
 use dr_complete::turns_enough;
 use dr_script::{Fault, Schedule, Script, What};
-use std::alloc::AllocError;
+use std::alloc::{AllocError, Global};
 use std::fmt::Write;
 
-/// Appends which faults of a script never come.
-pub(crate) fn push_never(out: &mut String, script: &Script) -> Result<(), AllocError>
-    requires { HasRanges script.now }
-{
-    let enough = turns_enough(script);
-    let faults = script.faults.as_slice();
+/// The faults of a script, and what tells when they come.
+#[derive(Drop)]
+pub(crate) struct Plan {
+    faults: Vec<Fault>,
+    schedule: Schedule,
+    /// So many turns are enough for any age in lockstep without faults.
+    enough: usize,
+}
+
+impl Plan {
+    /// The plan of a script.
+    pub(crate) fn of(alloc: Global, script: &Script) -> Result<Plan, AllocError>
+        requires { HasRanges script.now }
+    {
+        let mut faults = Vec::new(alloc);
+        faults.extend_from_slice(script.faults.as_slice())?;
+        Ok(Plan {
+            faults,
+            schedule: script.schedule,
+            enough: turns_enough(script),
+        })
+    }
+
+    /// Whether the schedule is a seed.
+    pub(crate) fn is_seeded(&self) -> bool {
+        matches!(self.schedule, Schedule::Seed(_))
+    }
+
+    /// The turn by which in lockstep the members of an age are done, where all its faults come later and nobody is
+    /// late. The first age takes so many turns without faults.
+    fn done_by(&self, age: u8, taken: u32) -> Option<usize> {
+        if self.schedule != Schedule::Lockstep {
+            None
+        } else if come_later(&self.faults, age, self.enough) {
+            Some(self.enough)
+        } else if age == 0 && come_later(&self.faults, age, taken as usize) {
+            Some(taken as usize)
+        } else {
+            None
+        }
+    }
+}
+
+/// Appends which faults of a plan never come, and which say the same as others, where its group takes so many turns in
+/// lockstep without faults.
+pub(crate) fn push_never(out: &mut String, plan: &Plan, taken: u32) -> Result<(), AllocError> {
+    let faults = plan.faults.as_slice();
     for (index, fault) in faults.iter().enumerate() {
         let member = fault.member;
         if let Some(earlier) = crash_before(faults, index, fault) {
@@ -18,13 +59,13 @@ pub(crate) fn push_never(out: &mut String, script: &Script) -> Result<(), AllocE
                 out,
                 "fault {index} never comes: member {member} has ended by then, by fault {earlier} at the latest"
             )?;
-        } else if script.schedule == Schedule::Lockstep
-            && come_too_late(faults, fault.age, enough)
-        {
+        } else if let Some(turn) = plan.done_by(fault.age, taken) {
             writeln!(
                 out,
-                "fault {index} never comes: in lockstep member {member} is done by turn {enough}"
+                "fault {index} never comes: in lockstep member {member} is done by turn {turn}"
             )?;
+        } else if let Some(same) = faults.iter().take(index).position(|other| other == fault) {
+            writeln!(out, "fault {index} says the same as fault {same}")?;
         }
     }
     Ok(())
@@ -64,13 +105,12 @@ fn is_crash_before(at: usize, other: &Fault, index: usize, fault: &Fault) -> boo
     }
 }
 
-/// Whether all faults of an age come in later turns than are enough: then its members are done before, where nobody
-/// is late.
-fn come_too_late(faults: &[Fault], age: u8, enough: usize) -> bool {
+/// Whether all faults of an age come behind this turn.
+fn come_later(faults: &[Fault], age: u8, turn: usize) -> bool {
     faults
         .iter()
         .filter(|fault| fault.age == age)
-        .all(|fault| turn_of(fault.what) > enough)
+        .all(|fault| turn_of(fault.what) > turn)
 }
 
 fn turn_of(what: What) -> usize {

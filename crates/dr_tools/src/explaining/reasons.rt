@@ -1,13 +1,11 @@
-ghost use Rattle.dr_script.specs.Ranges.{HasRanges};
-
 use crate::explaining::faults::{push_deed, push_form, push_place};
 use crate::explaining::found::Found;
 use crate::explaining::keys::push_keys;
-use crate::explaining::never::push_never;
+use crate::explaining::never::{Plan, push_never};
 use crate::explaining::repeats::push_repeat;
 use crate::explaining::syntax::push_syntax;
 use crate::explaining::values::{push_found, push_value};
-use dr_script::{MAX_SCRIPT, Schedule, Script};
+use dr_script::MAX_SCRIPT;
 use dr_text::Last;
 use serde_json::Value;
 use std::alloc::{AllocError, Global};
@@ -36,17 +34,20 @@ pub(crate) fn reasons_for(alloc: Global, bytes: &[u8], line: &Last) -> Result<St
     Ok(out)
 }
 
-/// What more is to be said of a script.
-pub(crate) fn words_for(alloc: Global, bytes: &[u8], script: &Script) -> Result<String, AllocError>
-    requires { HasRanges script.now }
-{
+/// What more is to be said of a script with this plan, whose group takes so many turns in lockstep without faults.
+pub(crate) fn words_for(
+    alloc: Global,
+    bytes: &[u8],
+    plan: &Plan,
+    taken: u32,
+) -> Result<String, AllocError> {
     let mut out = String::new(alloc);
-    if let Schedule::Seed(_) = script.schedule {
+    if plan.is_seeded() {
         out.push_str(
             "the schedule is a seed: more may be needed, and nothing is proved of how many\n",
         )?;
     }
-    push_never(&mut out, script)?;
+    push_never(&mut out, plan, taken)?;
     push_repeat(alloc, &mut out, bytes)?;
     Ok(out)
 }

@@ -1,4 +1,6 @@
+use crate::explaining::hints::{first_misfit, hint_at};
 use crate::explaining::repeats::{place_of, string_end};
+use crate::explaining::shown::push_shown;
 use serde_json::Error;
 use std::alloc::AllocError;
 use std::fmt::Write;
@@ -10,7 +12,7 @@ const BYTE_ORDER_MARK: [u8; 3] = [0xef, 0xbb, 0xbf];
 /// So deep arrays and objects may stand in one another.
 const MOST_NESTED: usize = 127;
 
-/// Appends where a text is no JSON, or why it isn't read.
+/// Appends where a text is no JSON, or why it isn't read, and what is most likely wrong there.
 pub(crate) fn push_syntax(out: &mut String, bytes: &[u8], error: &Error) -> Result<(), AllocError> {
     if bytes.iter().all(|byte| byte.is_ascii_whitespace()) {
         return out.push_str("the text is empty\n");
@@ -19,28 +21,53 @@ pub(crate) fn push_syntax(out: &mut String, bytes: &[u8], error: &Error) -> Resu
         return out.push_str("the text begins with a byte order mark, which JSON has not\n");
     }
     let fault = (error.line(), error.column());
+    let at = offset_of(bytes, fault).unwrap_or(bytes.len());
     if error.is_eof() {
-        return push_at(out, fault, "the text ends before its value does");
+        return push_at(out, bytes, fault, at, "the text ends before its value does");
     }
-    if let Some(place) = too_deep(bytes).map(|at| place_of(bytes, at)) {
+    if let Some(deep) = too_deep(bytes) {
+        let place = place_of(bytes, deep);
         if place <= fault {
-            return push_at(out, place, "this is nested deeper than 127");
+            return push_at(out, bytes, place, deep, "this is nested deeper than 127");
         }
     }
-    if let Some(at) = half_a_pair(bytes, fault) {
-        return push_at(
-            out,
-            place_of(bytes, at),
-            "half a surrogate pair is no character",
-        );
+    if let Some(half) = half_a_pair(bytes, at) {
+        let what = "half a surrogate pair is no character";
+        return push_at(out, bytes, place_of(bytes, half), half, what);
     }
-    push_at(out, fault, "what stands here is no JSON in UTF-8")
+    // The reader tells of a bracket that closes another one than is open only behind it.
+    match first_misfit(bytes) {
+        Some(misfit) if misfit < at => push_fault(out, bytes, place_of(bytes, misfit), misfit),
+        _ => push_fault(out, bytes, fault, at),
+    }
 }
 
-/// Appends what is to be said of a line and a byte in it.
-fn push_at(out: &mut String, place: (usize, usize), what: &str) -> Result<(), AllocError> {
+/// Appends that a text is no JSON at a line and a byte in it, before which so many stand in the text, and what is most
+/// likely wrong there.
+fn push_fault(
+    out: &mut String,
+    text: &[u8],
+    place: (usize, usize),
+    at: usize,
+) -> Result<(), AllocError> {
+    push_at(out, text, place, at, "what stands here is no JSON in UTF-8")?;
+    match hint_at(text, at) {
+        Some(hint) => writeln!(out, "{hint}"),
+        None => Ok(()),
+    }
+}
+
+/// Appends what is to be said of a line and a byte in it, and shows that byte, before which so many stand in the text.
+fn push_at(
+    out: &mut String,
+    text: &[u8],
+    place: (usize, usize),
+    at: usize,
+    what: &str,
+) -> Result<(), AllocError> {
     let (line, byte) = place;
-    writeln!(out, "line {line}, byte {byte}: {what}")
+    writeln!(out, "line {line}, byte {byte}: {what}")?;
+    push_shown(out, text, at)
 }
 
 /// Where the first array or object begins that is nested deeper than may be.
@@ -60,9 +87,8 @@ fn too_deep(text: &[u8]) -> Option<usize> {
     None
 }
 
-/// Where an escape stands that is half a surrogate pair, in the string that begins at the place of the fault.
-fn half_a_pair(text: &[u8], fault: (usize, usize)) -> Option<usize> {
-    let quote = offset_of(text, fault)?;
+/// Where an escape stands that is half a surrogate pair, in the string that begins at this place.
+fn half_a_pair(text: &[u8], quote: usize) -> Option<usize> {
     if text.get(quote) != Some(&b'"') {
         return None;
     }

@@ -5,6 +5,7 @@ ghost use Rattle.dr_script.specs.Reading.{reading_of};
 ghost use Rattle.dr_text.specs.Report.{last_text};
 ghost use Rattle.dr_tools.specs.Explained.{BeginsWith, ExplainTold, IsAnswerFor, IsExplainAnswer, TellsTurns};
 
+use crate::explaining::never::Plan;
 use crate::explaining::reasons::{reasons_for, words_for};
 use crate::explaining::turns::{push_taken, push_turns, turns_taken};
 use dr_complete::most_messages;
@@ -74,23 +75,15 @@ fn answer_to_script(alloc: Global, bytes: &[u8], script: Script) -> Result<Answe
     ensures turns { IfOk result (λ a. TellsTurns script (string_bytes a.text)) }
     ensures due { IfOk result (λ a. a.status ≡ 0) }
 {
-    let more = words_for(alloc, bytes, &script)?;
-    let text = turns_of(alloc, script, more.as_str())?;
-    Ok(Answer { text, status: DONE })
-}
-
-/// How many turns are enough for a script, and how many it takes, and behind that this text.
-fn turns_of(alloc: Global, script: Script, more: &str) -> Result<String, AllocError>
-    requires { HasRanges script }
-    ensures { IfOk result (λ text. TellsTurns script (string_bytes text)) }
-{
     let mut text = String::new(alloc);
     push_turns(&mut text, &script)?;
     let most = most_messages(&script);
+    let plan = Plan::of(alloc, &script)?;
     let taken = turns_taken(alloc, script)?;
     push_taken(&mut text, most, taken)?;
-    text.push_str(more)?;
-    Ok(text)
+    let more = words_for(alloc, bytes, &plan, taken)?;
+    text.push_str(more.as_str())?;
+    Ok(Answer { text, status: DONE })
 }
 
 /// The last line by which a text is refused, and the reasons.

@@ -1,37 +1,41 @@
-ghost use Rattle.std.specs.Prelude.{◌≡◌, ◌+◌, ◌<◌, ◌^◌, IfOk, MatchOption, string_bytes, true};
+ghost use Rattle.std.specs.Prelude.{◌≡◌, IfOk, MatchOption, string_bytes, true};
 ghost use Rattle.dr_json.specs.Json.{script_json};
 ghost use Rattle.dr_script.specs.Ranges.{HasRanges};
+ghost use Rattle.dr_tools.specs.Variants.{AreSound, variant, variants_in};
 ghost use Rattle.dr_tools.specs.Outcomes.{TextEndsSo};
 ghost use Rattle.dr_tools.specs.Parts.{kept_parts};
 ghost use Rattle.dr_tools.specs.Shrinking.{EndsSoWith, IsShrunk, IsSmaller, NoneEndsSo};
 
 use crate::sweeps::parts::{all_parts, with_parts};
-use crate::sweeps::runs::{set_seed, text_ends_so};
-use crate::sweeps::words::Seeds;
+use crate::sweeps::runs::text_ends_so;
+use crate::sweeps::variants::Variants;
 use dr_json::push_script;
 use dr_script::Script;
+use dr_words::Mask;
 use std::alloc::{AllocError, Global};
 use std::thread::Threads;
 
-/// The text of a smaller script, by the first of these seeds by which the script ends as wanted.
+/// The text of a smaller script, of the first of these variants that ends as wanted where these members are late.
 pub(crate) fn shrunk<R: Threads + Sync>(
     rt: &R,
     alloc: Global,
-    script: Script,
-    seeds: Seeds,
+    script: &Script,
+    variants: &Variants,
+    late: Mask,
     wanted: &str,
 ) -> Result<Option<String>, AllocError>
-    requires ranges { HasRanges script }
-    requires bound { seeds.from + seeds.count < 2 ^ 64 }
-    ensures { IfOk result (λ found. MatchOption found (NoneEndsSo script seeds wanted.now)
-        (λ text. IsShrunk script seeds wanted.now (string_bytes text))) }
+    requires ranges { HasRanges script.now }
+    requires sound { AreSound script.now variants.now }
+    ensures { IfOk result (λ found. MatchOption found
+        (NoneEndsSo (variant variants.now script.now) late (variants_in variants.now) wanted.now)
+        (λ text. IsShrunk (variant variants.now script.now) late (variants_in variants.now) wanted.now
+        (string_bytes text))) }
 {
-    let mut script = script;
-    for index in 0..seeds.count {
-        set_seed(&mut script, seeds.from + index);
-        let ends_so = whole_ends_so(rt, alloc, &script, wanted)?;
+    for number in 0..variants.count() {
+        let varied = variants.script(alloc, script, number)?;
+        let ends_so = whole_ends_so(rt, alloc, &varied, late, wanted)?;
         if ends_so {
-            let text = smaller(rt, alloc, &script, wanted)?;
+            let text = smaller(rt, alloc, &varied, late, wanted)?;
             return Ok(Some(text));
         }
     }
@@ -43,12 +47,13 @@ fn whole_ends_so<R: Threads + Sync>(
     rt: &R,
     alloc: Global,
     script: &Script,
+    late: Mask,
     wanted: &str,
 ) -> Result<bool, AllocError>
-    ensures { IfOk result (TextEndsSo (script_json script.now) wanted.now) }
+    ensures { IfOk result (TextEndsSo (script_json script.now) late wanted.now) }
 {
     let text = text_of(alloc, script)?;
-    text_ends_so(rt, alloc, text.as_str(), wanted)
+    text_ends_so(rt, alloc, text.as_str(), late, wanted)
 }
 
 fn text_of(alloc: Global, script: &Script) -> Result<String, AllocError>
@@ -64,13 +69,14 @@ fn smaller<R: Threads + Sync>(
     rt: &R,
     alloc: Global,
     script: &Script,
+    late: Mask,
     wanted: &str,
 ) -> Result<String, AllocError>
-    requires { TextEndsSo (script_json script.now) wanted.now true }
-    ensures { IfOk result (λ text. IsSmaller script.now wanted.now (string_bytes text)) }
+    requires { TextEndsSo (script_json script.now) late wanted.now true }
+    ensures { IfOk result (λ text. IsSmaller script.now late wanted.now (string_bytes text)) }
 {
     let all = all_parts(alloc, script)?;
-    let keeps = fewest_parts(rt, alloc, script, wanted, all)?;
+    let keeps = fewest_parts(rt, alloc, script, late, wanted, all)?;
     let fewer = with_parts(alloc, script, keeps.as_slice())?;
     text_of(alloc, &fewer)
 }
@@ -80,23 +86,24 @@ fn fewest_parts<R: Threads + Sync>(
     rt: &R,
     alloc: Global,
     script: &Script,
+    late: Mask,
     wanted: &str,
     keeps: Vec<bool>,
 ) -> Result<Vec<bool>, AllocError>
-    requires { EndsSoWith script.now wanted.now keeps.items }
-    ensures { IfOk result (λ v. EndsSoWith script.now wanted.now v.items) }
+    requires { EndsSoWith script.now late wanted.now keeps.items }
+    ensures { IfOk result (λ v. EndsSoWith script.now late wanted.now v.items) }
 {
     let mut keeps = keeps;
     let count = keeps.len();
     for halvings in 0..usize::BITS {
         let length = count >> halvings;
         if length > 1 {
-            keeps = leave_out(rt, alloc, script, wanted, keeps, length)?;
+            keeps = leave_out(rt, alloc, script, late, wanted, keeps, length)?;
         }
     }
     for _ in 0..count {
         let before = kept_count(keeps.as_slice());
-        keeps = leave_out(rt, alloc, script, wanted, keeps, 1)?;
+        keeps = leave_out(rt, alloc, script, late, wanted, keeps, 1)?;
         if kept_count(keeps.as_slice()) == before {
             break;
         }
@@ -114,18 +121,19 @@ fn leave_out<R: Threads + Sync>(
     rt: &R,
     alloc: Global,
     script: &Script,
+    late: Mask,
     wanted: &str,
     keeps: Vec<bool>,
     length: usize,
 ) -> Result<Vec<bool>, AllocError>
-    requires { EndsSoWith script.now wanted.now keeps.items }
-    ensures { IfOk result (λ v. EndsSoWith script.now wanted.now v.items) }
+    requires { EndsSoWith script.now late wanted.now keeps.items }
+    ensures { IfOk result (λ v. EndsSoWith script.now late wanted.now v.items) }
 {
     let mut keeps = keeps;
     let length = length.max(1);
     for piece in 0..keeps.len().div_ceil(length) {
         let start = piece.saturating_mul(length);
-        keeps = without_piece(rt, alloc, script, wanted, keeps, start, length)?;
+        keeps = without_piece(rt, alloc, script, late, wanted, keeps, start, length)?;
     }
     Ok(keeps)
 }
@@ -135,19 +143,20 @@ fn without_piece<R: Threads + Sync>(
     rt: &R,
     alloc: Global,
     script: &Script,
+    late: Mask,
     wanted: &str,
     keeps: Vec<bool>,
     start: usize,
     length: usize,
 ) -> Result<Vec<bool>, AllocError>
-    requires { EndsSoWith script.now wanted.now keeps.items }
-    ensures { IfOk result (λ v. EndsSoWith script.now wanted.now v.items) }
+    requires { EndsSoWith script.now late wanted.now keeps.items }
+    ensures { IfOk result (λ v. EndsSoWith script.now late wanted.now v.items) }
 {
     let fewer = cleared(alloc, keeps.as_slice(), start, length)?;
     if kept_count(fewer.as_slice()) == kept_count(keeps.as_slice()) {
         return Ok(keeps);
     }
-    let ends_so = ends_so_with(rt, alloc, script, wanted, fewer.as_slice())?;
+    let ends_so = ends_so_with(rt, alloc, script, late, wanted, fewer.as_slice())?;
     if ends_so {
         return Ok(fewer);
     }
@@ -174,12 +183,13 @@ fn ends_so_with<R: Threads + Sync>(
     rt: &R,
     alloc: Global,
     script: &Script,
+    late: Mask,
     wanted: &str,
     keeps: &[bool],
 ) -> Result<bool, AllocError>
     ensures { IfOk result
-        (TextEndsSo (script_json (kept_parts keeps.now script.now)) wanted.now) }
+        (TextEndsSo (script_json (kept_parts keeps.now script.now)) late wanted.now) }
 {
     let fewer = with_parts(alloc, script, keeps)?;
-    whole_ends_so(rt, alloc, &fewer, wanted)
+    whole_ends_so(rt, alloc, &fewer, late, wanted)
 }

@@ -1,49 +1,55 @@
-ghost use Rattle.std.specs.Prelude.{◌+◌, ◌<◌, ◌^◌, IfOk, string_bytes};
+ghost use Rattle.std.specs.Prelude.{IfOk, string_bytes};
+ghost use Rattle.dr_ages.specs.Ages.{HaveSomebodyPrompt, all_with};
 ghost use Rattle.dr_script.specs.Ranges.{HasRanges};
 ghost use Rattle.dr_tools.specs.SweepAnswer.{IsSweep};
 ghost use Rattle.dr_tools.specs.Rows.{IsTally};
+ghost use Rattle.dr_tools.specs.Variants.{AreSound, first_variant, variant, variants_in};
 
 use crate::sweeps::rows::{Row, count_run, push_rows};
-use crate::sweeps::runs::{outcome_of, set_seed};
-use crate::sweeps::words::Seeds;
+use crate::sweeps::runs::outcome_of;
+use crate::sweeps::variants::Variants;
 use dr_script::Script;
+use dr_words::Mask;
 use std::alloc::{AllocError, Global};
 use std::thread::Threads;
 
-/// The table of how the runs of a script by these seeds end.
+/// The table of how these variants of a script end where these members are late.
 pub(crate) fn sweep_of<R: Threads + Sync>(
     rt: &R,
     alloc: Global,
-    script: Script,
-    seeds: Seeds,
+    script: &Script,
+    variants: &Variants,
+    late: Mask,
 ) -> Result<String, AllocError>
-    requires ranges { HasRanges script }
-    requires bound { seeds.from + seeds.count < 2 ^ 64 }
-    ensures { IfOk result (λ text. IsSweep script seeds (string_bytes text)) }
+    requires ranges { HasRanges script.now }
+    requires some { HaveSomebodyPrompt script.now (all_with late) }
+    requires sound { AreSound script.now variants.now }
+    ensures { IfOk result (λ text. IsSweep variants.now late script.now (string_bytes text)) }
 {
-    let rows = rows_of(rt, alloc, script, seeds)?;
+    let rows = rows_of(rt, alloc, script, variants, late)?;
     let mut text = String::new(alloc);
-    push_rows(&mut text, rows.as_slice())?;
+    push_rows(&mut text, variants, rows.as_slice())?;
     Ok(text)
 }
 
 fn rows_of<R: Threads + Sync>(
     rt: &R,
     alloc: Global,
-    script: Script,
-    seeds: Seeds,
+    script: &Script,
+    variants: &Variants,
+    late: Mask,
 ) -> Result<Vec<Row>, AllocError>
-    requires ranges { HasRanges script }
-    requires bound { seeds.from + seeds.count < 2 ^ 64 }
-    ensures { IfOk result (λ rows. IsTally script seeds.from seeds.count rows.items) }
+    requires ranges { HasRanges script.now }
+    requires some { HaveSomebodyPrompt script.now (all_with late) }
+    requires sound { AreSound script.now variants.now }
+    ensures { IfOk result (λ rows. IsTally (variant variants.now script.now) late
+        (first_variant variants.now) (variants_in variants.now) rows.items) }
 {
-    let mut script = script;
     let mut rows = Vec::new(alloc);
-    for index in 0..seeds.count {
-        let seed = seeds.from + index;
-        set_seed(&mut script, seed);
-        let line = outcome_of(rt, alloc, &script)?;
-        count_run(&mut rows, seed, line)?;
+    for number in 0..variants.count() {
+        let varied = variants.script(alloc, script, number)?;
+        let line = outcome_of(rt, alloc, &varied, late)?;
+        count_run(&mut rows, variants.row_number(script, number), line)?;
     }
     Ok(rows)
 }

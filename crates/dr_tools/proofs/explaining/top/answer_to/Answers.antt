@@ -1,4 +1,5 @@
-use Rattle.std.proofs.Common.{◌≡◌, ◌∙◌, ℕ, List, IfOk, Option, Some, ⊤, string_bytes, subst, sym}
+use Rattle.std.proofs.Common.{◌≡◌, ◌∙◌, ℕ, List, IfOk, Option, Some, string_bytes, subst, sym}
+use Rattle.std.specs.Prelude.{⊤}
 use Rattle.dr_intake.specs.declared.answer.Answer.{Answer}
 use Rattle.dr_intake.specs.Answer.{IsUnread, wordless}
 use Rattle.dr_intake.proofs.Answers.{done_if, unread_if, unread_told}

@@ -4,8 +4,8 @@ use Rattle.dr_tools.specs.LogText.{IsSaid}
 use Rattle.dr_tools.proofs.LogAnswers.{log_told}
 use Rattle.dr_tools.proofs.log.printing.print_log.Goals as goal
 
-pub returns-in-Ok-clause-printed : goal.returns-in-Ok-clause-printed
-returns-in-Ok-clause-printed g c =
+pub returns-clause-printed : goal.returns-clause-printed
+returns-clause-printed g c =
     log_told c.answer_for.result c.in-Ok.bytes.items (g.S.Source.left c.args.source.now)
     (g.S.Source.left c.read_all.new.source) (g.K.Sink.held c.args.sink.now) (g.K.Sink.held c.tell.new.sink)
     (g.S.Source.faults c.args.source.now) (g.S.Source.faults c.read_all.new.source)

@@ -9,10 +9,10 @@ loop-halvings-init g c = c.requires
 pub loop-halvings-preserved : goal.loop-halvings-preserved
 loop-halvings-preserved g c = elim c.if-length-gt1.branch [
   | then-length-gt1+in_ok-keeps w ↦
-      subst (λ (v : Vec Bool Global). EndsSoWith c.args.script.now c.args.wanted.now v.items) (sym w.keeps-is)
+      subst (λ (v : Vec Bool Global). EndsSoWith c.args.script.now c.args.late c.args.wanted.now v.items) (sym w.keeps-is)
       w.in_ok-keeps.ensures
   | else-length-gt1 w ↦
-      subst (λ (v : Vec Bool Global). EndsSoWith c.args.script.now c.args.wanted.now v.items) (sym w.keeps-is)
+      subst (λ (v : Vec Bool Global). EndsSoWith c.args.script.now c.args.late c.args.wanted.now v.items) (sym w.keeps-is)
       c.loop-halvings.invariant
 ]
 
@@ -25,9 +25,9 @@ loop-preserved g c = c.in_ok-keeps-2.ensures
 pub returns : goal.returns
 returns g c = elim c.loop-test.branch [
   | else-loop-test w ↦
-      subst (λ (v : Vec Bool Global). EndsSoWith c.args.script.now c.args.wanted.now v.items) (sym w.keeps-is)
+      subst (λ (v : Vec Bool Global). EndsSoWith c.args.script.now c.args.late c.args.wanted.now v.items) (sym w.keeps-is)
       c.loop.invariant
   | then-loop-test+in_ok-keeps-2+then-kept_count-before w ↦
-      subst (λ (v : Vec Bool Global). EndsSoWith c.args.script.now c.args.wanted.now v.items) (sym w.keeps-is)
+      subst (λ (v : Vec Bool Global). EndsSoWith c.args.script.now c.args.late c.args.wanted.now v.items) (sym w.keeps-is)
       w.in_ok-keeps-2.ensures
 ]

@@ -1,12 +1,9 @@
-use Rattle.std.proofs.Common.{◌≡◌, ℕ, ◌+◌, ◌<◌, false}
+use Rattle.std.proofs.Common.{ℕ, ◌<◌, false}
 use Rattle.dr_json.specs.Json.{script_json}
-use Rattle.dr_script.specs.Ranges.{HasRanges}
-use Rattle.dr_tools.specs.Outcomes.{TextEndsSo, by_seed}
+use Rattle.dr_tools.specs.Outcomes.{TextEndsSo}
+use Rattle.dr_tools.specs.Variants.{variant}
 use Rattle.dr_tools.proofs.sweeps.shrinking.shrunk.Given as goal
 
-abbrev pub invariant-loop-index : goal.invariant-loop-index
-invariant-loop-index g l =
-    HasRanges l.script
-    × ((seed : ℕ) → by_seed l.script seed ≡ by_seed l.initial.script seed)
-    × ((n : ℕ) → n < l.index
-    → TextEndsSo (script_json (by_seed l.initial.script (l.seeds.from + n))) l.wanted false)
+abbrev pub invariant-loop-number : goal.invariant-loop-number
+invariant-loop-number g l =
+    (n : ℕ) → n < l.number → TextEndsSo (script_json (variant l.variants l.script n)) l.late l.wanted false

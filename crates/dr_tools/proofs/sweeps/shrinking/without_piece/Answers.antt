@@ -7,9 +7,9 @@ use Rattle.dr_tools.proofs.sweeps.shrinking.without_piece.Goals as goal
 
 pub returns-then-ends_so : goal.returns-then-ends_so
 returns-then-ends_so g c =
-    subst (λ (keeps : List Bool). EndsSoWith c.args.script.now c.args.wanted.now keeps)
+    subst (λ (keeps : List Bool). EndsSoWith c.args.script.now c.args.late c.args.wanted.now keeps)
     c.as_slice-4.ensures.value
-    (subst (TextEndsSo (script_json (kept_parts c.as_slice-4.result.now c.args.script.now)) c.args.wanted.now)
+    (subst (TextEndsSo (script_json (kept_parts c.as_slice-4.result.now c.args.script.now)) c.args.late c.args.wanted.now)
     c.if-ends_so.true c.in_ok-ends_so.ensures)
 
 pub returns : goal.returns

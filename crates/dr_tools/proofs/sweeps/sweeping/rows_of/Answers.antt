@@ -1,34 +1,49 @@
-use Rattle.std.proofs.Common.{◌≡◌, ◌∙◌, ◌+◌, ◌≤◌, All, ap, sym, subst, refl}
+use Rattle.std.proofs.Common.{◌≡◌, ◌+◌, ◌≤◌, ◌∙◌, All, ap, arith, sym, subst}
 use Rattle.std.proofs.lemmas.List.Elements.{All-nil}
+use Rattle.dr_ages.specs.Ages.{HaveSomebodyPrompt, all_with}
 use Rattle.dr_script.specs.declared.script.Script.{Script}
 use Rattle.dr_tools.specs.declared.sweeps.rows.Row.{Row}
-use Rattle.dr_tools.specs.Outcomes.{ComesTo, by_seed}
-use Rattle.dr_tools.specs.Rows.{IsTally}
+use Rattle.dr_tools.specs.Outcomes.{ComesTo}
+use Rattle.dr_tools.specs.Rows.{IsTally, with_run}
+use Rattle.dr_tools.specs.Variants.{first_variant, variant, variants_in}
 use Rattle.dr_tools.proofs.Counting.{counts_within, no_rows, tally_more}
+use Rattle.dr_tools.proofs.Variants.{variant_prompt}
 use Rattle.dr_tools.proofs.sweeps.sweeping.rows_of.Goals as goal
 
-pub loop-index-init : goal.loop-index-init
-loop-index-init g c = (
-  c.requires.ranges,
-  λ seed. refl,
-  subst (IsTally c.args.script c.args.seeds.from 0) (sym c.new-rows.ensures.items) (no_rows c.args.script c.args.seeds.from),
-  subst (All (λ (r : Row). r.count ≤ 0)) (sym c.new-rows.ensures.items) (All-nil (λ (r : Row). r.count ≤ 0)),
-)
-
-pub loop-index-preserved : goal.loop-index-preserved
-loop-index-preserved g c =
-    let script = c.args.script in
-    let from = c.args.seeds.from in
-    let n = c.loop-index.index in
-    let inv = c.loop-index.invariant in
-    let here : c.set_seed.new.script ≡ by_seed script (from + n) =
-    c.set_seed.ensures.seeded ∙ inv.1 (from + n) in
-    let comes : ComesTo (by_seed script (from + n)) c.in_ok-line.line =
-    subst (λ (s : Script). ComesTo s c.in_ok-line.line) here c.in_ok-line.ensures in (
-      c.set_seed.ensures.ranges,
-      λ seed. ap (λ (s : Script). by_seed s seed) c.set_seed.ensures.seeded ∙ inv.1 seed,
-      subst (IsTally script from (n + 1)) (sym c.in_ok-count_run.ensures)
-          (tally_more script from n c.in_ok-line.line c.loop-index.rows.items inv.2 comes),
-      subst (All (λ (r : Row). r.count ≤ n + 1)) (sym c.in_ok-count_run.ensures)
-          (counts_within (from + n) n c.in_ok-line.line c.loop-index.rows.items inv.3),
+pub loop-number-init : goal.loop-number-init
+loop-number-init g c =
+    let scripts = variant c.args.variants.now c.args.script.now in
+    let from = first_variant c.args.variants.now in (
+      subst (IsTally scripts c.args.late from 0) (sym c.new-rows.ensures.items) (no_rows scripts c.args.late from),
+      subst (All (λ (r : Row). r.count ≤ 0)) (sym c.new-rows.ensures.items) (All-nil (λ (r : Row). r.count ≤ 0)),
     )
+
+pub outcome_of-requires-clause-some : goal.outcome_of-requires-clause-some
+outcome_of-requires-clause-some g c κs h =
+    subst (λ (s : Script). HaveSomebodyPrompt s (all_with c.args.late)) (sym c.in_ok-varied.ensures.script)
+    (variant_prompt c.args.variants.now c.args.script.now c.loop-number.number (all_with c.args.late) c.requires.some)
+
+pub loop-number-preserved : goal.loop-number-preserved
+loop-number-preserved g c =
+    let scripts = variant c.args.variants.now c.args.script.now in
+    let from = first_variant c.args.variants.now in
+    let late = c.args.late in
+    let n = c.loop-number.number in
+    let line = c.in_ok-line.line in
+    let rows = c.loop-number.rows.items in
+    let counted : c.count_run.new.rows.items ≡ with_run (from + n) line rows =
+    c.in_ok-count_run.ensures ∙ ap (λ k. with_run k line rows) c.row_number.ensures in
+    let comes : ComesTo (scripts n) late line =
+    subst (λ (s : Script). ComesTo s late line) c.in_ok-varied.ensures.script c.in_ok-line.ensures in (
+      subst (IsTally scripts late from (n + 1)) (sym counted)
+          (tally_more scripts late from n line rows c.loop-number.invariant.0 comes),
+      subst (All (λ (r : Row). r.count ≤ n + 1)) (sym counted)
+          (counts_within (from + n) n line rows c.loop-number.invariant.1),
+    )
+
+pub returns : goal.returns
+returns g c =
+    let all : c.loop-number.number ≡ variants_in c.args.variants.now =
+    omega (arith, c.loop-number-test.false, c.loop-number.auto.number-end, c.count-number-end.ensures) in
+    subst (λ n. IsTally (variant c.args.variants.now c.args.script.now) c.args.late
+    (first_variant c.args.variants.now) n c.loop-number.rows.items) all c.loop-number.invariant.0

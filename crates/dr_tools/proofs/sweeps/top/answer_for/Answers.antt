@@ -6,10 +6,10 @@ use Rattle.dr_tools.proofs.sweeps.top.answer_for.Goals as goal
 
 pub returns-in-Ok : goal.returns-in-Ok
 returns-in-Ok g c =
-    script_if (IsDone c.args.task) c.answer_to_script.result (reading_of c.args.bytes.now) c.in-Ok.script
+    script_if (IsDone c.args.task.now) c.answer_to_script.result (reading_of c.args.bytes.now) c.in-Ok.script
     c.in-Ok.ensures.script c.answer_to_script.ensures
 
 pub returns-in-Err : goal.returns-in-Err
 returns-in-Err g c =
-    refused_if (IsDone c.args.task) c.of_refusal.result (reading_of c.args.bytes.now) c.in-Err.line
+    refused_if (IsDone c.args.task.now) c.of_refusal.result (reading_of c.args.bytes.now) c.in-Err.line
     (λ line is. c.in-Err.ensures.refusal line (ap Err is)) c.of_refusal.ensures

@@ -1,17 +1,17 @@
-use Rattle.std.proofs.Common.{◌≡◌, ◌∙◌, ◌+◌, ◌<◌, ◌^◌, ℕ, List, IfOk, IfSome, Option, Some, map, string_bytes, subst, sym}
+use Rattle.std.proofs.Common.{◌≡◌, ◌∙◌, ℕ, List, IfOk, IfSome, Option, Some, map, string_bytes, subst, sym}
 use Rattle.dr_intake.specs.declared.answer.Answer.{Answer}
 use Rattle.dr_intake.specs.Answer.{IsUnread}
 use Rattle.dr_intake.proofs.Answers.{done_if, unread_if, unread_told}
 use Rattle.dr_script.specs.Reading.{reading_of}
 use Rattle.dr_tools.specs.declared.sweeps.words.Task.{Task}
 use Rattle.dr_tools.specs.SweepAnswer.{IsSaidFor, sweep_usage}
-use Rattle.dr_tools.specs.SweepWords.{task_in, tasks_seeds}
+use Rattle.dr_tools.specs.SweepWords.{AreFit, task_in}
 use Rattle.dr_tools.proofs.sweeps.top.answer_to.Goals as goal
 
-pub answer_for-requires : goal.answer_for-requires
-answer_for-requires g c =
-    subst (λ (t : Option Task). IfSome t (λ task. (tasks_seeds task).from + (tasks_seeds task).count < 2 ^ 64))
-    c.in-Ok.ensures.asked c.in_ok-task.ensures.seeds
+pub answer_for-requires-clause-fit : goal.answer_for-requires-clause-fit
+answer_for-requires-clause-fit g c κs h =
+    subst (λ (t : Option Task). IfSome t (λ (task : Task). AreFit task.runs)) c.in-Ok.ensures.asked
+    c.in_ok-task.ensures.fit
 
 pub returns-in-Ok-clause-answer : goal.returns-in-Ok-clause-answer
 returns-in-Ok-clause-answer g c =

@@ -1,12 +1,18 @@
-use Rattle.std.proofs.Common.{ℕ, List, IfOk, string_bytes, subst, sym}
-use Rattle.dr_tools.specs.declared.sweeps.words.Task.{Task}
-use Rattle.dr_tools.specs.SweepAnswer.{IsDone, IsShrinking}
+use Rattle.std.proofs.Common.{inl, inr, subst}
+use Rattle.std.proofs.lemmas.Result.{IfOk-weaker}
+use Rattle.dr_ages.specs.Ages.{HaveSomebodyPrompt}
+use Rattle.dr_ages.specs.declared.part.Part.{Part}
+use Rattle.dr_outcome.specs.Outcome.{AreAllLate}
 use Rattle.dr_tools.proofs.sweeps.top.answer_to_script.Goals as goal
 
-pub returns-in-Shrink : goal.returns-in-Shrink
-returns-in-Shrink g c =
-    subst (λ (t : Task). IfOk c.shrink.result (λ a. IsDone t c.args.script (string_bytes a.text, a.status)))
-    (sym c.in-Shrink.is)
-    (subst (λ (line : List ℕ). IfOk c.shrink.result
-    (λ a. IsShrinking c.args.script c.in-Shrink.seeds line (string_bytes a.text) a.status))
-    c.as_str.ensures c.shrink.ensures)
+pub answer_to_outcome-requires-clause-some : goal.answer_to_outcome-requires-clause-some
+answer_to_outcome-requires-clause-some g c κs h =
+    subst (λ (p : Part). HaveSomebodyPrompt c.args.script.now p) c.with_late.ensures c.if-are_all_late.ensures
+
+pub returns-then-are_all_late : goal.returns-then-are_all_late
+returns-then-are_all_late g c =
+    let all = subst (λ (p : Part). AreAllLate c.args.script.now p) c.with_late.ensures c.if-are_all_late.ensures in
+    IfOk-weaker c.of_usage.result _ _ (λ a said. inl (all, said)) c.of_usage.ensures
+
+pub returns : goal.returns
+returns g c = IfOk-weaker c.answer_to_outcome.result _ _ (λ a said. inr said) c.answer_to_outcome.ensures

@@ -1,10 +1,9 @@
-use Rattle.std.proofs.Common.{arith, ◌≡◌, ◌∙◌, ℕ, List, [], Option, Some, refl, sym, subst}
+use Rattle.std.proofs.Common.{arith, ◌≡◌, ◌∙◌, ℕ, List, [], Some, refl, sym, subst}
 use Rattle.dr_script.specs.Reading.{reading_of}
 use Rattle.dr_text.specs.declared.last.Last.TheVariants as lasts
 use Rattle.dr_text.specs.Report.{last_text}
 use Rattle.dr_intake.specs.declared.call.Unread.TheVariants as reasons
-use Rattle.dr_intake.specs.Answer.{IsUnread, done}
-use Rattle.dr_tools.specs.declared.tracing.words.Asked.{Asked}
+use Rattle.dr_intake.specs.Answer.{done}
 use Rattle.dr_tools.specs.Trace.{IsTracedFor, trace_usage}
 use Rattle.dr_tools.specs.TraceWords.{asked_by}
 use Rattle.dr_tools.proofs.Traces.{unread_traced}
@@ -29,12 +28,10 @@ pub returns-in-Err-Usage-clause-told : goal.returns-in-Err-Usage-clause-told
 returns-in-Err-Usage-clause-told g c = record {
   text = trace_usage;
   due = 2;
-  is = unread_traced c.args.words.now (g.S.Source.left c.args.source.now) (g.S.Source.left c.read_for.new.source)
-      (g.S.Source.faults c.args.source.now) (g.S.Source.faults c.read_for.new.source) reasons.Usage trace_usage 2
-      (subst (λ (asked : Option Asked). IsUnread asked (g.S.Source.left c.args.source.now)
+  is = unread_traced c.args.words.now c.asked_of.result (g.S.Source.left c.args.source.now)
       (g.S.Source.left c.read_for.new.source) (g.S.Source.faults c.args.source.now)
-      (g.S.Source.faults c.read_for.new.source) reasons.Usage) c.asked_of.ensures c.in-Err-Usage.ensures.unread)
-      (refl, refl);
+      (g.S.Source.faults c.read_for.new.source) c.in-Err-Usage.field-0 reasons.Usage trace_usage 2
+      c.asked_of.ensures c.in-Err-Usage.field-0-is c.in-Err-Usage.ensures.unread (refl, refl);
   wrote = c.usage.ensures (g.K.Sink.held c.args.sink) (g.K.Sink.faults c.args.sink) c.new-output.ensures;
 }
 
@@ -42,14 +39,10 @@ pub returns-in-Err-SourceFault-clause-told : goal.returns-in-Err-SourceFault-cla
 returns-in-Err-SourceFault-clause-told g c = record {
   text = last_text lasts.SourceFault;
   due = 4;
-  is = unread_traced c.args.words.now (g.S.Source.left c.args.source.now) (g.S.Source.left c.read_for.new.source)
-      (g.S.Source.faults c.args.source.now) (g.S.Source.faults c.read_for.new.source) reasons.SourceFault
-      (last_text lasts.SourceFault) 4
-      (subst (λ (asked : Option Asked). IsUnread asked (g.S.Source.left c.args.source.now)
+  is = unread_traced c.args.words.now c.asked_of.result (g.S.Source.left c.args.source.now)
       (g.S.Source.left c.read_for.new.source) (g.S.Source.faults c.args.source.now)
-      (g.S.Source.faults c.read_for.new.source) reasons.SourceFault) c.asked_of.ensures
-      c.in-Err-SourceFault.ensures.unread)
-      (refl, refl);
+      (g.S.Source.faults c.read_for.new.source) c.in-Err-SourceFault.field-0 reasons.SourceFault (last_text lasts.SourceFault) 4
+      c.asked_of.ensures c.in-Err-SourceFault.field-0-is c.in-Err-SourceFault.ensures.unread (refl, refl);
   wrote = c.end.ensures.wrote (g.K.Sink.held c.args.sink) (g.K.Sink.faults c.args.sink) [] c.new-output.ensures;
 }
 
@@ -57,13 +50,10 @@ pub returns-in-Err-OutOfMemory-clause-told : goal.returns-in-Err-OutOfMemory-cla
 returns-in-Err-OutOfMemory-clause-told g c = record {
   text = [];
   due = 10;
-  is = unread_traced c.args.words.now (g.S.Source.left c.args.source.now) (g.S.Source.left c.read_for.new.source)
-      (g.S.Source.faults c.args.source.now) (g.S.Source.faults c.read_for.new.source) reasons.OutOfMemory [] 10
-      (subst (λ (asked : Option Asked). IsUnread asked (g.S.Source.left c.args.source.now)
+  is = unread_traced c.args.words.now c.asked_of.result (g.S.Source.left c.args.source.now)
       (g.S.Source.left c.read_for.new.source) (g.S.Source.faults c.args.source.now)
-      (g.S.Source.faults c.read_for.new.source) reasons.OutOfMemory) c.asked_of.ensures
-      c.in-Err-OutOfMemory.ensures.unread)
-      (refl, refl);
+      (g.S.Source.faults c.read_for.new.source) c.in-Err-OutOfMemory.field-0 reasons.OutOfMemory [] 10
+      c.asked_of.ensures c.in-Err-OutOfMemory.field-0-is c.in-Err-OutOfMemory.ensures.unread (refl, refl);
   wrote = c.end-in-Err-OutOfMemory.ensures.wrote (g.K.Sink.held c.args.sink) (g.K.Sink.faults c.args.sink) []
       c.new-output.ensures;
 }
