@@ -1,25 +1,16 @@
 -- Yards whose disks are back under the logs that stand on them.
+use Rattle.std.{specs.{Option.option_map_or, Prelude.{Option, None, Some}}, proofs.lemmas.Bool.cases_eq}
 use Rattle.std.proofs.Common.{◌≡◌, ◌≢◌, refl, sym, ap, ◌∙◌, subst, ℕ, ◌+◌, ◌<◌, ◌≤◌, ◌⊎◌, inl, inr, le_refl, arith, Bool, true, false, List, [], ◌∷◌, ◌++◌, length, length-append}
-use Rattle.std.specs.Prelude.{Option, None, Some}
-use Rattle.std.specs.Option.{option_map_or}
-use Rattle.std.proofs.lemmas.Bool.{cases_eq}
-use Rattle.dr_disk.specs.Disk.{Told}
-use Rattle.dr_disk.specs.Images.{Goes}
+use Rattle.dr_disk.specs.{Disk.Told, Images.Goes}
 use Rattle.dr_entry.specs.declared.entry.Entry.{Entry}
 use Rattle.dr_history.specs.Members.{has}
-use Rattle.dr_log.specs.Standing.{KeepsRecords}
-use Rattle.dr_log.specs.State.{LogState}
-use Rattle.dr_logged.specs.Served.{HaveSamePlaces}
-use Rattle.dr_opening.specs.Lists.{log_of}
-use Rattle.dr_program.proofs.Present.{present_within, place_before, place_new}
-use Rattle.dr_yard.specs.Yards.{YardState}
-use Rattle.dr_yard.proofs.YardStates.{same_yard}
-use Rattle.dr_program.proofs.Programs.{place_past}
-use Rattle.dr_opening.proofs.Lists.{stays_none, was_there, was_none, stays_there}
-use Rattle.dr_ages.specs.Lent.{AreAllBut, AreMounted, IsAlike, with_logs}
-use Rattle.dr_ages.specs.Opened.{AreLater}
-use Rattle.dr_ages.specs.Passing.{AreKeptSince, AreUntouched, GoesOn, IsKeptSince, PassOn}
-use Rattle.dr_ages.proofs.Staying.{kept_since, on_since}
+use Rattle.dr_log.specs.{Standing.KeepsRecords, State.LogState}
+use Rattle.dr_served.specs.Served.{HaveSamePlaces}
+use Rattle.dr_opening.{specs.Lists.log_of, proofs.Lists.{stays_none, was_there, was_none, stays_there}}
+use Rattle.dr_program.proofs.{Present.{present_within, place_before, place_new}, Programs.place_past}
+use Rattle.dr_yard.{specs.Yards.YardState, proofs.YardStates.same_yard}
+use Rattle.dr_ages.{specs.Lent.{AreAllBut, AreMounted, IsAlike, with_logs}, proofs.Staying.{kept_since, on_since}}
+use Rattle.dr_ages.specs.{Opened.AreLater, Passing.{AreKeptSince, AreUntouched, GoesOn, IsKeptSince, PassOn}}
 
 -- ---- places
 
@@ -92,9 +83,8 @@ pub same_rest : {D : Type 0} (tells : D → Option Told) (faults : D → ℕ) (o
     × ((with_logs tells faults one logs).faults m ≡ (with_logs tells faults other logs).faults m)
 same_rest {D} tells faults one other logs m rest = by (log_of logs m) refl
   where
-    by : (o : Option (LogState D)) → log_of logs m ≡ o
-        → (option_map_or (λ (log : LogState D). tells log.disk) o (one.told m)
-        ≡ option_map_or (λ (log : LogState D). tells log.disk) o (other.told m))
+    by : (o : Option (LogState D)) → log_of logs m ≡ o → (option_map_or (λ (log : LogState D). tells log.disk) o
+        (one.told m) ≡ option_map_or (λ (log : LogState D). tells log.disk) o (other.told m))
         × (option_map_or (λ (log : LogState D). faults log.disk) o (one.faults m)
         ≡ option_map_or (λ (log : LogState D). faults log.disk) o (other.faults m))
     by None at = rest at
@@ -123,13 +113,11 @@ untouched_with tells faults missing before olds news but places m gone =
 pub passed_with : {D : Type 0} (tells : D → Option Told) (faults : D → ℕ) (starts : List (List Entry))
     (before yard : YardState) (olds news : List (Option (LogState D))) → AreMounted tells faults before olds
     → AreLater tells faults starts olds news → HaveSamePlaces olds news
-    → ((m : ℕ) → log_of olds m ≡ None
-    → GoesOn starts (before.told m) (before.faults m) (yard.told m) (yard.faults m))
+    → ((m : ℕ) → log_of olds m ≡ None → GoesOn starts (before.told m) (before.faults m) (yard.told m) (yard.faults m))
     → PassOn starts before (with_logs tells faults yard news)
 passed_with {D} tells faults starts before yard olds news mounted later places rest m = by (log_of news m) refl
   where
-    by : (o : Option (LogState D)) → log_of news m ≡ o
-        → GoesOn starts (before.told m) (before.faults m)
+    by : (o : Option (LogState D)) → log_of news m ≡ o → GoesOn starts (before.told m) (before.faults m)
         (option_map_or (λ (log : LogState D). tells log.disk) o (yard.told m))
         (option_map_or (λ (log : LogState D). faults log.disk) o (yard.faults m))
     by None at = rest m (was_none olds news m places at)
@@ -141,28 +129,23 @@ passed_with {D} tells faults starts before yard olds news mounted later places r
 -- the disks of these logs are back in their yard, which is else as it was
 abbrev pub AreAllBack : {D : Type 0} → (D → Option Told) → (D → ℕ) → YardState → YardState
     → List (Option (LogState D)) → Type 0
-AreAllBack {D} tells faults mid after logs =
-    (m : ℕ) → (after.told m ≡ (with_logs tells faults mid logs).told m)
+AreAllBack {D} tells faults mid after logs = (m : ℕ) → (after.told m ≡ (with_logs tells faults mid logs).told m)
     × (after.faults m ≡ (with_logs tells faults mid logs).faults m)
 
 -- what is told behind them, where the disks are back and the others are as they were
 pub after_is : {D : Type 0} (tells : D → Option Told) (faults : D → ℕ) (before mid after : YardState)
     (logs : List (Option (LogState D)))
     → ((m : ℕ) → log_of logs m ≡ None → (mid.told m ≡ before.told m) × (mid.faults m ≡ before.faults m))
-    → AreAllBack tells faults mid after logs
-    → with_logs tells faults before logs ≡ after
-after_is tells faults before mid after logs rest back =
-    same_yard (with_logs tells faults before logs) after
+    → AreAllBack tells faults mid after logs → with_logs tells faults before logs ≡ after
+after_is tells faults before mid after logs rest back = same_yard (with_logs tells faults before logs) after
     (λ m. sym ((back m).0 ∙ (same_rest tells faults mid before logs m (rest m)).0))
     (λ m. sym ((back m).1 ∙ (same_rest tells faults mid before logs m (rest m)).1))
 
 pub passed_back : {D : Type 0} (tells : D → Option Told) (faults : D → ℕ) (starts : List (List Entry))
     (before mid after : YardState) (olds news : List (Option (LogState D))) → AreMounted tells faults before olds
     → AreLater tells faults starts olds news → HaveSamePlaces olds news
-    → ((m : ℕ) → log_of olds m ≡ None
-    → GoesOn starts (before.told m) (before.faults m) (mid.told m) (mid.faults m))
-    → AreAllBack tells faults mid after news
-    → PassOn starts before after
+    → ((m : ℕ) → log_of olds m ≡ None → GoesOn starts (before.told m) (before.faults m) (mid.told m) (mid.faults m))
+    → AreAllBack tells faults mid after news → PassOn starts before after
 passed_back tells faults starts before mid after olds news mounted later places rest back =
     subst (λ (y : YardState). PassOn starts before y)
     (sym (same_yard after (with_logs tells faults mid news) (λ m. (back m).0) (λ m. (back m).1)))
@@ -174,30 +157,25 @@ pub kept_back : {D : Type 0} (tells : D → Option Told) (faults : D → ℕ) (m
     → AreMounted tells faults before olds → AreAllBut missing olds → AreLater tells faults starts olds news
     → HaveSamePlaces olds news
     → ((m : ℕ) → log_of olds m ≡ None → IsAlike (before.told m) (before.faults m) (mid.told m) (mid.faults m))
-    → AreAllBack tells faults mid after news
-    → AreKeptSince members missing (length olds) starts before after
+    → AreAllBack tells faults mid after news → AreKeptSince members missing (length olds) starts before after
 kept_back {D} tells faults members missing starts before mid after olds news mounted but later places rest back =
     record {
       kept = λ m l there.
           let old = log_at missing olds m but l there in
           let new = stays_there olds news m old.0 places old.1 in
-          subst (IsKeptSince starts (before.told m))
-          (sym ((back m).0 ∙ told_at tells faults mid news m new.0 new.1))
+          subst (IsKeptSince starts (before.told m)) (sym ((back m).0 ∙ told_at tells faults mid news m new.0 new.1))
           (kept_since tells faults starts (before.told m) (before.faults m) old.0 new.0 (mounted m old.0 old.1)
           (later m old.0 new.0 old.1 new.1));
-      others = λ m past l.
-          subst (λ (o : Option Told). Goes (before.told m) o KeepsRecords)
+      others = λ m past l. subst (λ (o : Option Told). Goes (before.told m) o KeepsRecords)
           (sym ((back m).0 ∙ told_none tells faults mid news m
-          (stays_none olds news m places (place_past olds m past))))
-          (rest m (place_past olds m past)).moments;
+          (stays_none olds news m places (place_past olds m past)))) (rest m (place_past olds m past)).moments;
     }
 
 -- where the logs are as they were mounted, a crash would leave what it might have left before them
 pub alike_back : {D : Type 0} (tells : D → Option Told) (faults : D → ℕ) (before mid after : YardState)
     (logs : List (Option (LogState D))) → AreMounted tells faults before logs
     → ((m : ℕ) → log_of logs m ≡ None → IsAlike (before.told m) (before.faults m) (mid.told m) (mid.faults m))
-    → AreAllBack tells faults mid after logs
-    → (m : ℕ) → Goes (before.told m) (after.told m) KeepsRecords
+    → AreAllBack tells faults mid after logs → (m : ℕ) → Goes (before.told m) (after.told m) KeepsRecords
 alike_back {D} tells faults before mid after logs mounted rest back m =
     subst (λ (o : Option Told). Goes (before.told m) o KeepsRecords) (sym (back m).0) (by (log_of logs m) refl)
   where
@@ -210,8 +188,7 @@ alike_back {D} tells faults before mid after logs mounted rest back m =
 pub later_back : {D : Type 0} (tells : D → Option Told) (faults : D → ℕ) (mid after : YardState)
     (logs : List (Option (LogState D)))
     → ((m : ℕ) (log : LogState D) → log_of logs m ≡ Some log → mid.faults m ≤ faults log.disk)
-    → AreAllBack tells faults mid after logs
-    → (m : ℕ) → mid.faults m ≤ after.faults m
+    → AreAllBack tells faults mid after logs → (m : ℕ) → mid.faults m ≤ after.faults m
 later_back {D} tells faults mid after logs counted back m =
     subst (λ (n : ℕ). mid.faults m ≤ n) (sym (back m).1) (by (log_of logs m) refl)
   where
@@ -233,8 +210,7 @@ pub record AreBack {D : Type 0} (tells : D → Option Told) (faults : D → ℕ)
 
 pub one_more_back : {D : Type 0} (tells : D → Option Told) (faults : D → ℕ) (first : YardState)
     (all : List (Option (LogState D))) (old new : YardState) (logs rest : List (Option (LogState D)))
-    (place : Option (LogState D))
-    → AreBack tells faults first all old logs → logs ≡ rest ++ place ∷ []
+    (place : Option (LogState D)) → AreBack tells faults first all old logs → logs ≡ rest ++ place ∷ []
     → new.told (length rest) ≡ option_map_or (λ (log : LogState D). tells log.disk) place (old.told (length rest))
     → new.faults (length rest)
     ≡ option_map_or (λ (log : LogState D). faults log.disk) place (old.faults (length rest))
@@ -246,8 +222,7 @@ one_more_back {D} tells faults first all old new logs rest place are parts told 
       ∙ (ap (λ (xs : List (Option (LogState D))). log_of xs m) (sym parts) ∙ are.same m (omega (arith, l, long)));
   rest = λ m l.
       let o = others m (λ e. absurd (omega (arith, l, e))) in
-      let r = are.rest m (omega (arith, l, long)) in
-      (o.0 ∙ r.0, o.1 ∙ r.1);
+      let r = are.rest m (omega (arith, l, long)) in (o.0 ∙ r.0, o.1 ∙ r.1);
   back = λ m past. by m past (cases_eq m (length rest));
 }
   where
@@ -271,18 +246,15 @@ one_more_back {D} tells faults first all old new logs rest place are parts told 
         option_map_or (λ (log : LogState D). tells log.disk) o (first.told (length rest))) (sym here))
 
     count_here : new.faults (length rest) ≡ (with_logs tells faults first all).faults (length rest)
-    count_here = count
-        ∙ (ap (λ (n : ℕ). option_map_or (λ (log : LogState D). faults log.disk) place n) before.1
+    count_here = count ∙ (ap (λ (n : ℕ). option_map_or (λ (log : LogState D). faults log.disk) place n) before.1
         ∙ ap (λ (o : Option (LogState D)).
         option_map_or (λ (log : LogState D). faults log.disk) o (first.faults (length rest))) (sym here))
 
     by : (m : ℕ) → length rest ≤ m → (m ≡ length rest) ⊎ (m ≢ length rest)
         → (new.told m ≡ (with_logs tells faults first all).told m)
         × (new.faults m ≡ (with_logs tells faults first all).faults m)
-    by m past (inl at) =
-        subst (λ (k : ℕ). (new.told k ≡ (with_logs tells faults first all).told k)
+    by m past (inl at) = subst (λ (k : ℕ). (new.told k ≡ (with_logs tells faults first all).told k)
         × (new.faults k ≡ (with_logs tells faults first all).faults k)) (sym at) (told_here, count_here)
     by m past (inr apart) =
         let o = others m apart in
-        let b = are.back m (omega (arith, past, apart, long)) in
-        (o.0 ∙ b.0, o.1 ∙ b.1)
+        let b = are.back m (omega (arith, past, apart, long)) in (o.0 ∙ b.0, o.1 ∙ b.1)

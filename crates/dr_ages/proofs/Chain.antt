@@ -1,18 +1,12 @@
 -- Ages that came one after the other.
+use Rattle.std.{specs.Prelude.{IsTrue, Some, slice_get}, proofs.lemmas.Option.same_Some}
 use Rattle.std.proofs.Common.{◌≡◌, refl, sym, ap, ◌∙◌, subst, inl, ℕ, ◌≤◌, zero, suc, ◌+◌, le_refl, arith, List, [], ◌∷◌, ◌++◌, drop, length}
-use Rattle.std.specs.Prelude.{IsTrue, Some, slice_get}
-use Rattle.std.proofs.lemmas.Option.{same_Some}
-use Rattle.dr_entry.specs.declared.end.AgeEnd.{AgeEnd}
-use Rattle.dr_entry.specs.declared.entry.Entry.{Entry}
+use Rattle.dr_entry.specs.declared.{end.AgeEnd.AgeEnd, entry.Entry.Entry}
 use Rattle.dr_script.specs.declared.script.Script.{Script}
 use Rattle.dr_yard.specs.Yards.{AllTell, YardState}
-use Rattle.dr_ages.specs.declared.mode.Mode.{Mode}
-use Rattle.dr_ages.specs.declared.part.Part.{Part}
-use Rattle.dr_ages.specs.Ages.{AreAges, IsAgeOf, starts_of}
-use Rattle.dr_ages.specs.declared.stop.Stop.TheVariants.{OutOfMemory}
-use Rattle.dr_ages.specs.Passing.{AreKeptSince, PassOn}
-use Rattle.dr_ages.specs.Stops.{AreMountedBelow, HasKept}
-use Rattle.dr_ages.proofs.Staying.{alike_same, kept_on, on_same, on_then}
+use Rattle.dr_ages.{specs.Ages.{AreAges, IsAgeOf, starts_of}, proofs.Staying.{alike_same, kept_on, on_same, on_then}}
+use Rattle.dr_ages.specs.{Passing.{AreKeptSince, PassOn}, declared.{mode.Mode.Mode, part.Part.Part}}
+use Rattle.dr_ages.specs.{Stops.{AreMountedBelow, HasKept}, declared.stop.Stop.TheVariants.OutOfMemory}
 
 -- ---- how yards pass
 
@@ -22,9 +16,8 @@ passes_none yard m =
 
 pub passes_on : (xs ys : List (List Entry)) (before mid after : YardState) → PassOn xs before mid
     → PassOn ys mid after → PassOn (xs ++ ys) before after
-passes_on xs ys before mid after first next m =
-    on_then xs ys (before.told m) (mid.told m) (after.told m) (before.faults m) (mid.faults m) (after.faults m)
-    (first m) (next m)
+passes_on xs ys before mid after first next m = on_then xs ys
+    (before.told m) (mid.told m) (after.told m) (before.faults m) (mid.faults m) (after.faults m) (first m) (next m)
 
 pub tell_on : (n : ℕ) (starts : List (List Entry)) (before after : YardState) → PassOn starts before after
     → AllTell n before → AllTell n after
@@ -34,9 +27,8 @@ pub ages_pass : (script : Script) (part : Part) (mode : Mode) (nth : ℕ) (befor
     (after : YardState) → AreAges script part mode nth before ages after → PassOn (starts_of ages) before after
 ages_pass script part mode nth before [] after are =
     subst (λ (y : YardState). PassOn [] before y) are (passes_none before)
-ages_pass script part mode nth before (age ∷ ages) after are =
-    passes_on (age.start ∷ []) (starts_of ages) before are.0 after are.1.passes
-    (ages_pass script part mode (nth + 1) are.0 ages after are.2)
+ages_pass script part mode nth before (age ∷ ages) after are = passes_on (age.start ∷ [])
+    (starts_of ages) before are.0 after are.1.passes (ages_pass script part mode (nth + 1) are.0 ages after are.2)
 
 -- so disks tell behind them that told before
 pub tell_behind : (script : Script) (part : Part) (mode : Mode) (nth : ℕ) (before : YardState) (ages : List AgeEnd)
@@ -59,11 +51,7 @@ unmounted members missing starts yard = record {
 pub none_below : (missing : ℕ) (yard : YardState) → AreMountedBelow 0 missing yard yard
 none_below missing yard = record {
   contents = [];
-  found = record {
-    all = refl;
-    there = λ m l. absurd (omega (arith, l));
-    each = λ m c at. absurd (cc (at));
-  };
+  found = record { all = refl; there = λ m l. absurd (omega (arith, l)); each = λ m c at. absurd (cc (at)) };
   safe = λ m c at. absurd (cc (at));
   above = λ m past. refl;
 }
@@ -85,9 +73,8 @@ pub kept_passes : (members missing : ℕ) (xs ys : List (List Entry)) (before mi
     → AreKeptSince members missing members xs before mid → PassOn ys mid after
     → AreKeptSince members missing members (xs ++ ys) before after
 kept_passes members missing xs ys before mid after are passes = record {
-  kept = λ m l there.
-      kept_on xs ys (before.told m) (mid.told m) (after.told m) (mid.faults m) (after.faults m) (are.kept m l there)
-      (passes m);
+  kept = λ m l there. kept_on xs ys
+      (before.told m) (mid.told m) (after.told m) (mid.faults m) (after.faults m) (are.kept m l there) (passes m);
   others = λ m past l. absurd (omega (arith, past, l));
 }
 

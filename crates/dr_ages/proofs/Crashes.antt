@@ -1,64 +1,31 @@
 -- A run behind a crash begins with what was logged.
-use Rattle.std.proofs.Common.{◌≡◌, ◌⊎◌, inl, inr, ⊎_elim, refl, sym, ap, ◌∙◌, subst, ℕ, ◌<◌, true, false, arith, List, [], ◌∷◌, ◌++◌, append-nil, take}
 use Rattle.std.specs.Prelude.{IfSome, IsSomeAnd, IsTrue, Option, None, Some, slice_get}
+use Rattle.std.proofs.Common.{◌≡◌, ◌⊎◌, inl, inr, ⊎_elim, refl, sym, ap, ◌∙◌, subst, ℕ, ◌<◌, true, false, arith, List, [], ◌∷◌, ◌++◌, append-nil, take}
 use Rattle.std.proofs.lemmas.Option.{none-some, same_Some, slice_get_within}
-use Rattle.dr_disk.specs.Disk.{Told, content_of}
-use Rattle.dr_entry.specs.declared.end.AgeEnd.{AgeEnd}
-use Rattle.dr_entry.specs.declared.end.MemberEnd.{MemberEnd}
-use Rattle.dr_entry.specs.declared.entry.Entry.{Entry}
-use Rattle.dr_history.specs.History.{IsPrefixOf}
-use Rattle.dr_history.specs.Members.{has}
-use Rattle.dr_history.specs.Restarting.{AreAllAlong, AreAlong}
-use Rattle.dr_history_laws.proofs.Keeping.{prefix_then}
-use Rattle.dr_history_laws.proofs.Lists.{slice_get-some}
+use Rattle.dr_disk.specs.{Disk.{Told, content_of}, Images.IsLeft}
+use Rattle.dr_entry.specs.declared.{end.{AgeEnd.AgeEnd, MemberEnd.MemberEnd}, entry.Entry.Entry}
+use Rattle.dr_history.specs.{History.IsPrefixOf, Members.has, Restarting.{AreAllAlong, AreAlong}}
+use Rattle.dr_history_laws.proofs.{Keeping.prefix_then, Lists.slice_get-some}
 use Rattle.dr_log.specs.Standing.{LosesNone}
-use Rattle.dr_log_bytes.specs.Content.{OnLog}
-use Rattle.dr_log_bytes.specs.Grammar.{StandFor}
-use Rattle.dr_log_bytes.proofs.Meaning.{content_once}
-use Rattle.dr_opening.specs.Lists.{as_lists}
-use Rattle.dr_opening.specs.Tries.{content_at}
-use Rattle.dr_restart.specs.Choosing.{IsChosenStart, of_set}
-use Rattle.dr_restart.specs.declared.lists.LogLists.{LogLists}
-use Rattle.dr_restart.specs.declared.start.Start.{Start}
-use Rattle.dr_restart.specs.Groups.{first_group_of, group_of}
-use Rattle.dr_script.specs.declared.script.Script.{Script}
+use Rattle.dr_log_bytes.{specs.{Content.OnLog, Grammar.StandFor}, proofs.Meaning.content_once}
+use Rattle.dr_opening.{specs.{Lists.as_lists, Tries.content_at}, proofs.Trying.{chosen_by, in_set}}
+use Rattle.dr_restart.specs.{Choosing.{IsChosenStart, of_set}, Groups.{first_group_of, group_of}}
+use Rattle.dr_restart.specs.{Left.entries_on_logs, Trying.IsTry, declared.lists.{Attempt.Attempt, LogLists.LogLists}}
+use Rattle.dr_restart.{specs.declared.start.Start.Start, proofs.Listed.listed}
+use Rattle.dr_script.specs.{Ranges.HasRanges, declared.script.Script.Script}
 use Rattle.dr_yard.specs.Yards.{AllTell, YardState}
-use Rattle.dr_ages.specs.declared.mode.Mode.{Mode}
-use Rattle.dr_ages.specs.declared.part.Part.{Part}
-use Rattle.dr_ages.specs.declared.stop.Stop.{Stop}
-use Rattle.dr_ages.specs.Ages.{IsAgeOf, start_of}
-use Rattle.dr_ages.specs.Crashed.{HaveCrashed, IsLeftOver}
-use Rattle.dr_ages.specs.Found.{AreFound, ReadsAs}
-use Rattle.dr_ages.specs.Runs.{HaveLogged, IsRunOf, with_these}
-use Rattle.dr_ages.proofs.Keeping.{there_found, ended_over, image_entries}
-use Rattle.dr_disk.specs.Images.{IsLeft}
-use Rattle.dr_kept.proofs.Chosen.{few}
-use Rattle.dr_kept.proofs.Lasting.{since_behind}
-use Rattle.dr_machine.specs.Group.{Group, IsPresent}
-use Rattle.dr_machine.specs.World.{World}
-use Rattle.dr_opening.proofs.Trying.{chosen_by, in_set}
-use Rattle.dr_program.specs.Program.{Program, member_end}
-use Rattle.dr_program.specs.Reading.{world}
-use Rattle.dr_program.specs.Replica.{Replica}
-use Rattle.dr_quorum_laws.specs.Holding.{IsOpenedTry}
-use Rattle.dr_quorum_laws.proofs.ByMessages.{start-by-messages}
-use Rattle.dr_quorum_laws.proofs.Grown.{opened-cases}
-use Rattle.dr_quorum_laws.proofs.Handing.{Since, log-of_set}
-use Rattle.dr_quorum_laws.proofs.Lasting.{on-start, try_by}
-use Rattle.dr_quorum_laws.proofs.Tried.{tried-held}
-use Rattle.dr_restart.specs.declared.lists.Attempt.{Attempt}
-use Rattle.dr_restart.specs.Left.{entries_on_logs}
-use Rattle.dr_restart.specs.Trying.{IsTry}
-use Rattle.dr_restart.proofs.Listed.{listed}
-use Rattle.dr_script.specs.Ranges.{HasRanges}
-use Rattle.dr_age.proofs.LoggedMembers.{left_begins}
-use Rattle.dr_kept.proofs.Crashes.{front_of_start}
-use Rattle.dr_ages.specs.Fit.{AreChosen, AreInStep, AreReadable, MayLeave}
-use Rattle.dr_ages.specs.Left.{HasLeft}
-use Rattle.dr_ages.specs.Tried.{AreOfTry, AreTried}
-use Rattle.dr_ages.proofs.InStep.{crashed_step}
+use Rattle.dr_ages.{specs.{Ages.{IsAgeOf, start_of}, declared.{part.Part.Part, stop.Stop.Stop}}, proofs.Votes.EndsSo}
+use Rattle.dr_ages.{specs.Crashed.{HaveCrashed, IsLeftOver}, proofs.Keeping.{there_found, ended_over, image_entries}}
+use Rattle.dr_ages.specs.{Fit.{AreChosen, AreInStep, AreReadable, MayLeave}, Runs.{HaveLogged, IsRunOf, with_these}}
+use Rattle.dr_ages.specs.{Found.{AreFound, ReadsAs}, Tried.{AreOfTry, AreTried}, declared.mode.Mode.Mode}
+use Rattle.dr_ages.{specs.Left.HasLeft, proofs.InStep.crashed_step}
 use Rattle.dr_ages.proofs.Lasting.{HadBefore, LastOverFit, crashed_chosen, crashed_readable, crashed_some, had_at, had_before, left_logs, left_over, readable_tell}
-use Rattle.dr_ages.proofs.Votes.{EndsSo}
+use Rattle.dr_kept.proofs.{Chosen.few, Crashes.front_of_start, Lasting.since_behind}
+use Rattle.dr_machine.specs.{Group.{Group, IsPresent}, World.World}
+use Rattle.dr_program.specs.{Program.{Program, member_end}, Reading.world, Replica.Replica}
+use Rattle.dr_quorum_laws.{specs.Holding.IsOpenedTry, proofs.{ByMessages.start-by-messages, Grown.opened-cases}}
+use Rattle.dr_quorum_laws.proofs.{Handing.{Since, log-of_set}, Lasting.{on-start, try_by}, Tried.tried-held}
+use Rattle.dr_play.proofs.LoggedMembers.{left_begins}
 
 -- ---- logs of which a crash left one image each
 
@@ -83,18 +50,16 @@ found_along script missing mid after contents i j f g step crashed found at_f at
     apart : (i j : ℕ) → (i < j) ⊎ ((i ≡ j) ⊎ (j < i))
     apart i j = grind arith
 
-    at : (k : ℕ) (c : OnLog) → content_at contents k ≡ Some c
-        → slice_get (entries_on_logs h.olds) k ≡ Some c.entries
+    at : (k : ℕ) (c : OnLog) → content_at contents k ≡ Some c → slice_get (entries_on_logs h.olds) k ≡ Some c.entries
     at k c here = listed h.olds k (as_lists c) (h.among k c here)
 
     by : AreAllAlong (entries_on_logs h.olds) → (i < j) ⊎ ((i ≡ j) ⊎ (j < i)) → AreAlong f.entries g.entries
     by along (inl less) = along i j f.entries g.entries less (at i f at_f) (at j g at_g)
-    by along (inr (inl same)) =
-        inl (
-          [],
-          append-nil f.entries
-              ∙ same_Some f.entries g.entries (sym (at i f at_f) ∙ ap (slice_get (entries_on_logs h.olds)) same ∙ at j g at_g),
-        )
+    by along (inr (inl same)) = inl (
+      [],
+      append-nil f.entries
+          ∙ same_Some f.entries g.entries (sym (at i f at_f) ∙ ap (slice_get (entries_on_logs h.olds)) same ∙ at j g at_g),
+    )
     by along (inr (inr more)) = ⊎_elim
         (λ p. inr p) (λ p. inl p) (along j i g.entries f.entries more (at j g at_g) (at i f at_f))
 
@@ -133,8 +98,7 @@ logged_begins script part other mode nth ages earlier age m e mid after end next
 pub told_before : (script : Script) (part : Part) (mode : Mode) (before mid : YardState) (ages : List AgeEnd)
     (stop : Option Stop) → IsRunOf script part mode before mid ages stop → AllTell script.members mid
     → AllTell script.members before
-told_before script part mode before mid ages stop run tell m l =
-    subst IsTrue (sym (run.passes m).tells) (tell m l)
+told_before script part mode before mid ages stop run tell m l = subst IsTrue (sym (run.passes m).tells) (tell m l)
 
 -- ---- whichever logs the two runs miss
 
@@ -144,11 +108,9 @@ left_on : (o : Option Told) (logged : List Entry) (log : LogLists) → IsLeft o 
 left_on None logged log left may = absurd may
 left_on (Some t) logged log left may =
     let none = left may.image may.is in
-    let is : none.content ≡ may.content =
-    content_once may.image none.content may.content none.stands may.stands in (
+    let is : none.content ≡ may.content = content_once may.image none.content may.content none.stands may.stands in (
       none.has.more_entries,
-      sym none.has.entries ∙ ap (λ (d : OnLog). d.entries) is
-          ∙ ap (λ (l : LogLists). l.entries) may.lists,
+      sym none.has.entries ∙ ap (λ (d : OnLog). d.entries) is ∙ ap (λ (l : LogLists). l.entries) may.lists,
     )
 
 -- and with all that its member has logged
@@ -265,15 +227,14 @@ logged_goes_on script part apart mid after age next m e k = by k.tried
     -- where a try did
     more : (olds : List LogLists) → AreChosen script.members k.last olds → AreOfTry script part.missing olds lists
         → IsPrefixOf (take e.logged e.history) next.start
-    more olds chosen (try, is, all) = on-start g w olds lists (try ∷ []) second.present m second log.0 es
-        (record {
-          group = s.group;
-          known = s.known;
-          part = s.part;
-          majority = s.majority;
-          left = s.left;
-          held = tried-held g w olds olds lists [] try s mine;
-        }) choice present handed on (λ one opened. begins one (opened-cases [] try one opened))
+    more olds chosen (try, is, all) = on-start g w olds lists (try ∷ []) second.present m second log.0 es (record {
+      group = s.group;
+      known = s.known;
+      part = s.part;
+      majority = s.majority;
+      left = s.left;
+      held = tried-held g w olds olds lists [] try s mine;
+    }) choice present handed on (λ one opened. begins one (opened-cases [] try one opened))
       where
         s : Since (group_of script (start_of script part age)) w olds [] olds
         s = since olds chosen
@@ -293,8 +254,7 @@ logged_goes_on script part apart mid after age next m e k = by k.tried
             (log-of_set olds try.set m old.0 (all m l k.there) old.1)
             (subst (λ (end : MemberEnd). IsPrefixOf (take end.logged end.history) old.0.entries) x.is
             (left_logged (k.last.told m) x.r.replica (k.first.is.begun m) old.0 (k.first.is.left m x.r x.at)
-            (chosen.each m old.0 old.1)))
-            (λ one opened. absurd (none-some one opened.1))
+            (chosen.each m old.0 old.1))) (λ one opened. absurd (none-some one opened.1))
 
         begins : (one : Attempt) → IsOpenedTry [] one ⊎ ((try ≡ one) × (one.opened ≡ true))
             → IsPrefixOf (take e.logged e.history) one.start.entries
@@ -305,5 +265,4 @@ logged_goes_on script part apart mid after age next m e k = by k.tried
     by : (k.last ≡ mid) ⊎ AreTried script part.missing k.last mid → IsPrefixOf (take e.logged e.history) next.start
     by (inl is) = same lists (subst (λ (y : YardState). AreChosen script.members y lists) (sym is) now) refl
     by (inr tried) =
-        let t = tried.tried lists now in
-        ⊎_elim (λ is. same t.0 t.1 is) (λ is. more t.0 t.1 is) t.2
+        let t = tried.tried lists now in ⊎_elim (λ is. same t.0 t.1 is) (λ is. more t.0 t.1 is) t.2

@@ -1,82 +1,45 @@
 -- Runs whose logs have room for all that they bring, as those over empty disks. None of their logs is missing.
-use Rattle.std.proofs.Common.{◌≡◌, ◌⊎◌, refl, sym, ap, ◌∙◌, subst, inl, inr, ℕ, zero, suc, ◌+◌, ◌*◌, ◌^◌, ◌<◌, ◌≤◌, arith, not, true, List, [], ◌∷◌, ◌++◌, length, length-append, take, drop, drop_at, append_assoc}
-use Rattle.std.specs.Option.{option_map_or}
+use Rattle.std.{specs.Option.option_map_or, proofs.lemmas.List.{Elements.All-drop, Sums.sum_by_push}}
 use Rattle.std.specs.Prelude.{All, IfSome, IsSomeAnd, IsTrue, Option, None, Some, is_some, slice_get}
-use Rattle.std.proofs.lemmas.List.{drop-append-le, length-map}
-use Rattle.std.proofs.lemmas.List.Elements.{All-drop}
-use Rattle.std.proofs.lemmas.List.Sums.{sum_by_push}
-use Rattle.std.proofs.lemmas.Nat.{mul-le}
-use Rattle.std.proofs.lemmas.Option.{same_Some, slice_get_within}
-use Rattle.dr_age.specs.Logged.{NoneFull}
-use Rattle.dr_disk.specs.Disk.{Told, content_of, state_of}
-use Rattle.dr_disk.specs.Images.{IsImage}
-use Rattle.dr_entry.specs.declared.end.AgeEnd.{AgeEnd}
-use Rattle.dr_entry.specs.declared.end.MemberEnd.{MemberEnd}
-use Rattle.dr_entry.specs.declared.entry.Entry.{Entry}
-use Rattle.dr_entry.specs.declared.entry.Entry.TheVariants.{View}
-use Rattle.dr_entry.specs.declared.limits.TheConstants.{MAX_MEMBERS}
-use Rattle.dr_entry.specs.declared.record.Record.{Record}
-use Rattle.dr_entry.specs.declared.record.Record.TheVariants as records
-use Rattle.dr_entry.specs.declared.record.Vote.{Vote}
-use Rattle.dr_entry.specs.Spelling.{IsValidVote, entry_spelling, vote_spelling}
+use Rattle.std.proofs.Common.{◌≡◌, ◌⊎◌, refl, sym, ap, ◌∙◌, subst, inl, inr, ℕ, zero, suc, ◌+◌, ◌*◌, ◌^◌, ◌<◌, ◌≤◌, arith, not, true, List, [], ◌∷◌, ◌++◌, length, length-append, take, drop, drop_at, append_assoc}
+use Rattle.std.proofs.lemmas.{List.{drop-append-le, length-map}, Nat.mul-le, Option.{same_Some, slice_get_within}}
+use Rattle.dr_play.{specs.Logged.NoneFull, proofs.LoggedMembers.left_begins}
+use Rattle.dr_disk.specs.{Disk.{Told, content_of, state_of}, Images.IsImage}
+use Rattle.dr_entry.specs.{Spelling.{IsValidVote, entry_spelling, vote_spelling}, declared.end.AgeEnd.AgeEnd}
+use Rattle.dr_entry.specs.declared.{end.MemberEnd.MemberEnd, entry.Entry.{Entry, TheVariants.View}}
+use Rattle.dr_entry.specs.{declared.limits.TheConstants.MAX_MEMBERS, declared.record.{Record.Record, Vote.Vote}}
 use Rattle.dr_entry.proofs.ListPlaces.{within_places}
-use Rattle.dr_history.specs.History.{IsPrefixOf}
-use Rattle.dr_history.specs.Order.{first_entries}
+use Rattle.dr_entry.specs.declared.record.Record.TheVariants as records
+use Rattle.dr_history.{specs.{History.IsPrefixOf, Order.first_entries}, proofs.Bits.has_zero}
 use Rattle.dr_history.proofs.Histories.{part_of_opened}
-use Rattle.dr_history.proofs.Bits.{has_zero}
-use Rattle.dr_history_laws.proofs.Lists.{slice_get-some}
+use Rattle.dr_history_laws.proofs.{Keeping.front_of_longest, Lists.slice_get-some}
 use Rattle.dr_kept.proofs.Following.{among_lists, lists_with, on_found}
-use Rattle.dr_log.specs.Standing.{entries_length, votes_length}
-use Rattle.dr_log.proofs.Growing.{entries_length-append}
-use Rattle.dr_log_bytes.specs.Content.{OnLog, with_record}
-use Rattle.dr_log_bytes.specs.Grammar.{StandFor}
-use Rattle.dr_log_bytes.proofs.Meaning.{content_once}
-use Rattle.dr_logged.specs.Served.{IsRecordDue}
-use Rattle.dr_machine.specs.Group.{Group, IsGroup, banks, roster}
-use Rattle.dr_opening.specs.Accepted.{AreAccepted}
-use Rattle.dr_opening.specs.Contents.{IsRisingStep, IsVoteStep, voted_for}
-use Rattle.dr_opening.specs.Lists.{all_as_lists, as_lists}
-use Rattle.dr_opening.specs.Tries.{IsChosenOf, content_at}
-use Rattle.dr_opening.proofs.Trying.{chosen_by}
-use Rattle.dr_opening.proofs.Ways.{open_entries}
-use Rattle.dr_opening.proofs.Whole.{all_in_set, entries_among}
-use Rattle.dr_program.specs.Program.{member_end}
-use Rattle.dr_program.specs.Replica.{Replica}
-use Rattle.dr_quorum.specs.Handing.{handed_by}
-use Rattle.dr_quorum_laws.proofs.Longest.{longest-chosen}
-use Rattle.dr_quorum_laws.proofs.Refusals.{one-start}
-use Rattle.dr_restart.specs.declared.lists.LogLists.{LogLists}
-use Rattle.dr_restart.specs.declared.start.Start.{Start}
-use Rattle.dr_restart.specs.Choosing.{AreOfHolders, AreOfNobody, HasAge, IsChosenStart}
-use Rattle.dr_restart.specs.Groups.{first_group_of, group_of}
-use Rattle.dr_restart.specs.Left.{entries_on_logs}
-use Rattle.dr_restart.specs.Refusing.{Refusal}
-use Rattle.dr_script.specs.declared.script.Script.{Script}
-use Rattle.dr_script.specs.Ranges.{HasGroupRanges, HasRanges}
-use Rattle.dr_history_laws.proofs.Keeping.{front_of_longest}
+use Rattle.dr_log.{specs.Standing.{entries_length, votes_length}, proofs.Growing.entries_length-append}
 use Rattle.dr_log.proofs.Standing.{short_votes}
+use Rattle.dr_log_bytes.{specs.{Content.{OnLog, with_record}, Grammar.StandFor}, proofs.Meaning.content_once}
+use Rattle.dr_served.specs.Served.{IsRecordDue}
+use Rattle.dr_machine.specs.Group.{Group, IsGroup, banks, roster}
+use Rattle.dr_opening.specs.{Accepted.AreAccepted, Contents.{IsRisingStep, IsVoteStep, voted_for}}
+use Rattle.dr_opening.specs.{Lists.{all_as_lists, as_lists}, Tries.{IsChosenOf, content_at}}
+use Rattle.dr_opening.proofs.{Choosing.chosen_group, Contents.next_long, Lists.{ageless, open_uncut}}
+use Rattle.dr_opening.proofs.{Trying.chosen_by, Ways.open_entries, Whole.{all_in_set, entries_among}}
+use Rattle.dr_program.specs.{Program.member_end, Replica.Replica}
+use Rattle.dr_quorum.specs.Handing.{handed_by}
+use Rattle.dr_quorum_laws.proofs.{Longest.longest-chosen, Refusals.one-start}
+use Rattle.dr_restart.specs.Choosing.{AreOfHolders, AreOfNobody, HasAge, IsChosenStart}
+use Rattle.dr_restart.specs.{Groups.{first_group_of, group_of}, Left.entries_on_logs, Refusing.Refusal}
+use Rattle.dr_restart.specs.declared.{lists.LogLists.LogLists, start.Start.Start}
+use Rattle.dr_script.specs.{Ranges.{HasGroupRanges, HasRanges}, declared.script.Script.Script}
 use Rattle.dr_yard.specs.Yards.{AllTell, AreEmpty, YardState}
 use Rattle.dr_world_laws.proofs.Finishing.{banks-small}
-use Rattle.dr_age.proofs.LoggedMembers.{left_begins}
-use Rattle.dr_ages.specs.declared.mode.Mode.{Mode}
-use Rattle.dr_ages.specs.declared.part.Part.{Part}
-use Rattle.dr_ages.specs.declared.stop.Stop.{Stop}
-use Rattle.dr_ages.specs.declared.stop.Stop.TheVariants.{OutOfMemory, DiskFault, LogFull, Damaged, Disagree, Foreign, NoQuorum, AgesUsedUp}
 use Rattle.dr_ages.specs.Ages.{AreAges, IsAgeOf, IsMemberOf, NamesNobody, opening_of, start_of}
-use Rattle.dr_ages.specs.Found.{AreFew, AreFound, AreRoomy, ReadsAs}
-use Rattle.dr_ages.specs.Left.{HasLeft, with_logged}
+use Rattle.dr_ages.{specs.Found.{AreFew, AreFound, AreRoomy, ReadsAs}, proofs.Short.{found_short, opened_short}}
+use Rattle.dr_ages.{specs.Left.{HasLeft, with_logged}, proofs.{Reading.{found_read, read_once}, Votes.found_valid}}
 use Rattle.dr_ages.specs.Stops.{AreOpenBelow, AreRefusedFor, HasStopped, HaveVotesBelow, IsOutside, IsTooFull}
-use Rattle.dr_opening.proofs.Choosing.{chosen_group}
-use Rattle.dr_opening.proofs.Contents.{next_long}
-use Rattle.dr_opening.proofs.Lists.{ageless, open_uncut}
-use Rattle.dr_ages.proofs.Chain.{tell_on}
-use Rattle.dr_ages.proofs.InStep.{age_leaves_good}
-use Rattle.dr_ages.proofs.Good.{IsGood, empty_found, empty_good, found_of, found_whole, good_never}
-use Rattle.dr_ages.proofs.Keeping.{IsBehind, age_next, behind, ended_over, image_entries}
-use Rattle.dr_ages.proofs.Reading.{found_read, read_once}
-use Rattle.dr_ages.proofs.Refusals.{refused_after}
-use Rattle.dr_ages.proofs.Short.{found_short, opened_short}
-use Rattle.dr_ages.proofs.Votes.{found_valid}
+use Rattle.dr_ages.{specs.declared.{mode.Mode.Mode, part.Part.Part, stop.Stop.Stop}, proofs.Refusals.refused_after}
+use Rattle.dr_ages.specs.declared.stop.Stop.TheVariants.{OutOfMemory, DiskFault, LogFull, Damaged, Disagree, Foreign, NoQuorum, AgesUsedUp}
+use Rattle.dr_ages.proofs.{Chain.tell_on, Good.{IsGood, empty_found, empty_good, found_of, found_whole, good_never}}
+use Rattle.dr_ages.proofs.{InStep.age_leaves_good, Keeping.{IsBehind, age_next, behind, ended_over, image_entries}}
 
 -- ---- what an age brings to a log
 
@@ -105,9 +68,8 @@ image_few t image g r c base is reads most of begins valid left = by left
     short : (more : List Vote) → c.votes ≡ base.votes ++ more → length more ≤ 2 * MAX_MEMBERS * MAX_MEMBERS
         → votes_length more ≤ 37376
     short more parts less =
-        let behind : All IsValidVote more =
-        subst (All IsValidVote) (ap (drop (length base.votes)) parts
-        ∙ drop_at base.votes more (length base.votes) refl)
+        let behind : All IsValidVote more = subst (All IsValidVote)
+        (ap (drop (length base.votes)) parts ∙ drop_at base.votes more (length base.votes) refl)
         (All-drop IsValidVote (length base.votes) c.votes valid) in
         omega (arith, short_votes more (λ k d l. (behind k d l).members), less)
 
@@ -127,10 +89,9 @@ image_few t image g r c base is reads most of begins valid left = by left
         → HasFewMore base c
     one_more (records.Entry x) due s =
         let all = same_as (with_record (records.Entry x) (with_logged base r)) s in
-        let rest : drop (length base.entries) c.entries ≡ drop (length base.entries) (take r.logged r.history) ++ x ∷ [] =
-        ap (λ (d : OnLog). drop (length base.entries) d.entries) all
-        ∙ drop-append-le (length base.entries) (take r.logged r.history) (x ∷ [])
-        (omega (arith, ap length begins.1, length-append base.entries begins.0)) in
+        let rest : drop (length base.entries) c.entries ≡ drop (length base.entries) (take r.logged r.history) ++ x
+        ∷ [] = ap (λ (d : OnLog). drop (length base.entries) d.entries) all ∙ drop-append-le (length base.entries)
+        (take r.logged r.history) (x ∷ []) (omega (arith, ap length begins.1, length-append base.entries begins.0)) in
         omega (
           arith,
           ap (λ (d : OnLog). d.length) all,
@@ -192,8 +153,7 @@ uncut script yard contents start m c ranges found accepted chosen at =
     front_of_longest (entries_on_logs (lists_with contents)) start.entries c.entries m accepted.along
     (longest-chosen (first_group_of script).opening (lists_with contents) start.present start
     (chosen_by (first_group_of script).opening contents (lists_with contents) start chosen few (among_lists contents))
-    (λ i l. all_in_set (first_group_of script).opening contents start i chosen few (there i l))
-    accepted.along)
+    (λ i l. all_in_set (first_group_of script).opening contents start i chosen few (there i l)) accepted.along)
     (entries_among contents (lists_with contents) m c (among_lists contents) at)
   where
     few : length script.messages ≤ 16
@@ -201,8 +161,7 @@ uncut script yard contents start m c ranges found accepted chosen at =
 
     there : (i : ℕ) → i < length (lists_with contents) → is_some (content_at contents i) ≡ true
     there i l =
-        let c = found_of script.members yard contents i found (omega (arith, l, found.all, many)) in
-        ap is_some c.1
+        let c = found_of script.members yard contents i found (omega (arith, l, found.all, many)) in ap is_some c.1
       where
         many : length (lists_with contents) ≡ length contents
         many = length-map contents (λ (o : Option OnLog). option_map_or as_lists o (record { entries = []; votes = []; age_votes = [] }))
@@ -242,8 +201,7 @@ fresh_first script yard empty = record {
     number : (contents : List (Option OnLog)) (start : Start) → AreFound script.members 0 yard contents
         → IsChosenOf (first_group_of script).opening contents start
         → (start.age ≡ 0) ⊎ ((a : ℕ) × (m : ℕ) × (log : LogLists)
-        × (handed_by (all_as_lists contents) m ≡ Some log) × HasAge log a × (start.age ≡ a + 1))
-        → start.age ≡ 0 + 0
+        × (handed_by (all_as_lists contents) m ≡ Some log) × HasAge log a × (start.age ≡ a + 1)) → start.age ≡ 0 + 0
     number contents start found chosen (inl none) = none
     number contents start found chosen (inr (a, m, log, at, has, same)) =
         let c = on_found contents m log at in
@@ -254,9 +212,8 @@ fresh_first script yard empty = record {
 age_number : (script : Script) (part : Part) (mode : Mode) (bytes first k nth : ℕ) (before yard : YardState)
     (age : AgeEnd) → NamesNobody script.members part.missing → IsRoomyAt script bytes first k before
     → IsAgeOf script part mode nth before yard age → age.age ≡ first + k
-age_number script part mode bytes first k nth before yard age none roomy is =
-    roomy.next is.contents (start_of script part age)
-    (found_whole script.members part.missing before is.contents none is.found) is.starts
+age_number script part mode bytes first k nth before yard age none roomy is = roomy.next is.contents
+    (start_of script part age) (found_whole script.members part.missing before is.contents none is.found) is.starts
 
 -- on each log there is little but entries
 few_at : (script : Script) (bytes first k : ℕ) (yard : YardState) (contents : List (Option OnLog)) (m : ℕ) (c : OnLog)
@@ -269,8 +226,7 @@ few_at script bytes first k yard contents m c roomy short small found at =
 pub fresh_start : (script : Script) (part : Part) (mode : Mode) (nth : ℕ) (before : YardState) (ages : List AgeEnd)
     (last : YardState) (a : AgeEnd) → AreEmpty script.members before
     → AreAges script part mode nth before ages last → slice_get ages 0 ≡ Some a → a.start ≡ []
-fresh_start script part mode nth before [] last a empty are at =
-    absurd (omega (arith, slice_get_within [] 0 a at))
+fresh_start script part mode nth before [] last a empty are at = absurd (omega (arith, slice_get_within [] 0 a at))
 fresh_start script part mode nth before (one ∷ ages) last a empty are at =
     ap (λ (x : AgeEnd). x.start) (sym (same_Some one a at)) ∙ by are.1.starts.chosen.entries
   where
@@ -279,8 +235,7 @@ fresh_start script part mode nth before (one ∷ ages) last a empty are at =
     by (inr nobody) = nobody.none
     by (inl held) =
         let c = on_found are.1.contents held.held.0 held.held.1 held.held.2 in
-        held.held.4 ∙ (sym (ap (λ (l : LogLists). l.entries) c.2)
-        ∙ ap (λ (d : OnLog). d.entries)
+        held.held.4 ∙ (sym (ap (λ (l : LogLists). l.entries) c.2) ∙ ap (λ (d : OnLog). d.entries)
         (empty_found script part.missing before are.1.contents held.held.0 c.0 empty are.1.found c.1))
 
 -- what an age leaves on a log, by what was found on it as the age opened
@@ -363,8 +318,7 @@ roomy_next script part mode bytes first k nth before yard age ranges none roomy 
       where
         parts : (es all : List Entry) → IsPrefixOf es all
             → entries_length es + entries_length (drop (length es) all) ≡ entries_length all
-        parts es all front =
-            ap (λ (rest : List Entry). entries_length es + entries_length rest)
+        parts es all front = ap (λ (rest : List Entry). entries_length es + entries_length rest)
             (ap (drop (length es)) (sym front.1) ∙ drop_at es front.0 (length es) refl)
             ∙ (sym (entries_length-append es front.0) ∙ ap entries_length front.1)
 
@@ -422,8 +376,7 @@ roomy_first script yard contents start ranges tell good roomy found chosen = rec
       absurd (omega (
         arith,
         ranges.some_age,
-        roomy.numbered cs there used.2 65535 c.0 c.1
-            (subst (λ (l : LogLists). HasAge l 65535) (sym c.2) used.5),
+        roomy.numbered cs there used.2 65535 c.0 c.1 (subst (λ (l : LogLists). HasAge l 65535) (sym c.2) used.5),
       ));
 }
 
@@ -433,9 +386,8 @@ pub roomy_numbers : (script : Script) (yard : YardState) (contents : List (Optio
     → IsChosenOf (first_group_of script).opening contents start → start.age + script.ages ≤ 2 ^ 16
 roomy_numbers script yard contents start ranges roomy found chosen = by chosen.chosen.age.next
   where
-    by : (start.age ≡ 0) ⊎ ((a : ℕ) × (m : ℕ) × (log : LogLists)
-        × (handed_by (all_as_lists contents) m ≡ Some log) × HasAge log a × (start.age ≡ a + 1))
-        → start.age + script.ages ≤ 2 ^ 16
+    by : (start.age ≡ 0) ⊎ ((a : ℕ) × (m : ℕ) × (log : LogLists) × (handed_by (all_as_lists contents) m ≡ Some log)
+        × HasAge log a × (start.age ≡ a + 1)) → start.age + script.ages ≤ 2 ^ 16
     by (inl none) = omega (arith, none, ranges.most_ages)
     by (inr (a, m, log, at, has, same)) =
         let c = on_found contents m log at in
@@ -454,8 +406,7 @@ roomy_lasts script yard contents ranges roomy found used =
     omega (
       arith,
       ranges.some_age,
-      roomy.numbered contents found used.2 65535 c.0 c.1
-          (subst (λ (l : LogLists). HasAge l 65535) (sym c.2) used.5),
+      roomy.numbered contents found used.2 65535 c.0 c.1 (subst (λ (l : LogLists). HasAge l 65535) (sym c.2) used.5),
     )
 
 -- ---- no log is full
@@ -474,8 +425,7 @@ full_never script part before after m len ranges is little = omega (
   where
     steps : (IsVoteStep is.start is.content is.now is.next × HaveVotesBelow is.start is.contents after m)
         ⊎ (IsRisingStep is.start (voted_for is.start is.content) is.now is.next
-        × AreOpenBelow is.start is.contents after m)
-        → IsVoteStep is.start is.content is.now is.next
+        × AreOpenBelow is.start is.contents after m) → IsVoteStep is.start is.content is.now is.next
         ⊎ IsRisingStep is.start (voted_for is.start is.content) is.now is.next
     steps (inl voting) = inl voting.0
     steps (inr rising) = inr rising.0
@@ -490,8 +440,7 @@ roomy_stop script part bytes first k last after s ranges none short small number
     by : (s : Stop) → HasStopped script part last after s → IsOutside s
     by OutOfMemory is = tt
     by (DiskFault m) is = tt
-    by (LogFull m len) is =
-        full_never script part last after m len ranges.group is
+    by (LogFull m len) is = full_never script part last after m len ranges.group is
         (few_at script bytes first k last is.contents m is.content roomy short small
         (found_whole script.members part.missing last is.contents none is.found) is.there)
     by (Damaged m at) is = good_never script part last after (Damaged m at) ranges.group none roomy.good is tt

@@ -1,62 +1,32 @@
 -- Disks whose logs are in step, whatever a crash has left of them: they stay so, where none is missing.
+use Rattle.std.specs.{Option.option_map_or, Prelude.{not, IsSomeAnd, Option, None, Some, is_some, slice_get}}
 use Rattle.std.proofs.Common.{◌≡◌, ◌⊎◌, sym, ap, ◌∙◌, subst, ℕ, ◌-◌, ◌^◌, ◌<◌, ◌≤◌, true, inl, inr, arith, List, [], length}
-use Rattle.std.specs.Option.{option_map_or}
-use Rattle.std.specs.Prelude.{not, IsSomeAnd, Option, None, Some, is_some, slice_get}
-use Rattle.std.proofs.lemmas.List.{length-map}
-use Rattle.std.proofs.lemmas.Option.{slice_get_within}
-use Rattle.dr_disk.specs.Disk.{Told, state_of}
-use Rattle.dr_disk.specs.Calls.{at_rest}
-use Rattle.dr_entry.specs.declared.end.AgeEnd.{AgeEnd}
-use Rattle.dr_entry.specs.declared.end.MemberEnd.{MemberEnd}
-use Rattle.dr_entry.specs.declared.entry.Entry.{Entry}
-use Rattle.dr_history.specs.History.{IsPrefixOf}
-use Rattle.dr_history_laws.proofs.Lists.{slice_get-some}
-use Rattle.dr_logged.specs.Left.{IsLeftOf}
-use Rattle.dr_machine.specs.Group.{IsGroup}
-use Rattle.dr_opening.specs.Accepted.{AreAccepted}
-use Rattle.dr_opening.specs.CatchingUp.{opened_with}
-use Rattle.dr_opening.proofs.Accepting.{ended_accepted, none_accepted}
-use Rattle.dr_opening.specs.Tries.{IsChosenOf, content_at}
-use Rattle.dr_opening.proofs.Choosing.{chosen_group}
-use Rattle.dr_opening.proofs.Trying.{chosen_by}
-use Rattle.dr_opening.proofs.Whole.{all_in_set, entries_among}
-use Rattle.dr_quorum_laws.proofs.Longest.{longest-chosen}
-use Rattle.dr_restart.specs.declared.lists.LogLists.{LogLists}
-use Rattle.dr_restart.specs.declared.start.Start.{Start}
-use Rattle.dr_restart.specs.Groups.{first_group_of, group_of}
-use Rattle.dr_restart.specs.Left.{entries_on_logs}
-use Rattle.dr_restart.specs.Trying.{first_view_of}
-use Rattle.dr_script.specs.declared.script.Script.{Script}
-use Rattle.dr_script.specs.Ranges.{HasGroupRanges, HasRanges}
-use Rattle.dr_yard.specs.Yards.{AllTell, YardState}
-use Rattle.dr_ages.specs.declared.mode.Mode.{Mode}
-use Rattle.dr_ages.specs.declared.part.Part.{Part}
-use Rattle.dr_ages.specs.declared.stop.Stop.{Stop}
-use Rattle.dr_ages.specs.Ages.{IsAgeOf, NamesNobody, start_of}
-use Rattle.dr_history.specs.declared.opening.Opening.{Opening}
+use Rattle.std.proofs.lemmas.{List.length-map, Option.slice_get_within}
+use Rattle.dr_disk.specs.{Calls.at_rest, Disk.{Told, state_of}}
+use Rattle.dr_entry.specs.declared.{end.{AgeEnd.AgeEnd, MemberEnd.MemberEnd}, entry.Entry.Entry}
+use Rattle.dr_history.{specs.{History.IsPrefixOf, declared.opening.Opening.Opening}, proofs.Bits.has_zero}
 use Rattle.dr_history.proofs.Histories.{AreFirstPartsOf, part_of_opened}
-use Rattle.dr_history.proofs.Bits.{has_zero}
+use Rattle.dr_history_laws.proofs.{Keeping.front_of_longest, Lists.slice_get-some}
+use Rattle.dr_served.{specs.Left.IsLeftOf, proofs.Rooms.left_part}
+use Rattle.dr_machine.specs.Group.{IsGroup}
+use Rattle.dr_opening.{specs.{Accepted.AreAccepted, CatchingUp.opened_with, Lists.as_lists}, proofs.Trying.chosen_by}
+use Rattle.dr_opening.{specs.Tries.{IsChosenOf, content_at}, proofs.{Accepted.fronts_accepted, Choosing.chosen_group}}
+use Rattle.dr_opening.proofs.{Accepting.{ended_accepted, none_accepted}, Whole.{all_in_set, entries_among}}
+use Rattle.dr_quorum_laws.proofs.{Grown.{IsBroughtUp, entries-case, old-log}, Longest.longest-chosen}
+use Rattle.dr_quorum_laws.proofs.Sounding.{choice-group}
+use Rattle.dr_restart.specs.{Choosing.of_set, Groups.{first_group_of, group_of}, Left.entries_on_logs}
+use Rattle.dr_restart.specs.{Trying.first_view_of, declared.{lists.LogLists.LogLists, start.Start.Start}}
+use Rattle.dr_restart.proofs.Listed.{listed, log-listed}
+use Rattle.dr_script.specs.{Ranges.{HasGroupRanges, HasRanges}, declared.script.Script.Script}
+use Rattle.dr_yard.specs.Yards.{AllTell, YardState}
+use Rattle.dr_ages.specs.{Ages.{IsAgeOf, NamesNobody, start_of}, Fit.{AreChosen, AreInStep, MayLeave}, Found.AreFound}
+use Rattle.dr_ages.specs.{Crashed.HaveCrashed, Left.HasLeft}
+use Rattle.dr_ages.specs.{Stops.{HasStopped, IsBadLogs}, Tried.{AreOfTry, AreTried}, declared.mode.Mode.Mode}
+use Rattle.dr_ages.{specs.declared.{part.Part.Part, stop.Stop.Stop}, proofs.{Played.all_take_part, Votes.EndsSo}}
+use Rattle.dr_ages.proofs.{Good.{IsGood, good_never, readable_behind, undamaged}, Keeping.{ended_over, image_entries}}
+use Rattle.dr_ages.proofs.Lasting.{blank_lists, blank_readable, crashed_chosen, crashed_readable, found_chosen, readable_tell}
 use Rattle.dr_kept.proofs.Following.{among_lists, lists_with, nothing_on}
 use Rattle.dr_log_bytes.specs.Content.{OnLog}
-use Rattle.dr_history_laws.proofs.Keeping.{front_of_longest}
-use Rattle.dr_opening.specs.Lists.{as_lists}
-use Rattle.dr_quorum_laws.proofs.Grown.{IsBroughtUp, entries-case, old-log}
-use Rattle.dr_quorum_laws.proofs.Sounding.{choice-group}
-use Rattle.dr_restart.specs.Choosing.{of_set}
-use Rattle.dr_restart.proofs.Listed.{listed, log-listed}
-use Rattle.dr_logged.proofs.Rooms.{left_part}
-use Rattle.dr_opening.proofs.Accepted.{fronts_accepted}
-use Rattle.dr_ages.specs.Crashed.{HaveCrashed}
-use Rattle.dr_ages.specs.Fit.{AreChosen, AreInStep, MayLeave}
-use Rattle.dr_ages.specs.Tried.{AreOfTry, AreTried}
-use Rattle.dr_ages.proofs.Good.{IsGood, good_never, readable_behind, undamaged}
-use Rattle.dr_ages.proofs.Lasting.{blank_lists, blank_readable, crashed_chosen, crashed_readable, found_chosen, readable_tell}
-use Rattle.dr_ages.specs.Found.{AreFound}
-use Rattle.dr_ages.specs.Left.{HasLeft}
-use Rattle.dr_ages.specs.Stops.{HasStopped, IsBadLogs}
-use Rattle.dr_ages.proofs.Keeping.{ended_over, image_entries}
-use Rattle.dr_ages.proofs.Played.{all_take_part}
-use Rattle.dr_ages.proofs.Votes.{EndsSo}
 
 -- ---- what is found on disks in step
 
@@ -78,8 +48,7 @@ step_never script part before after s ranges none step is bad =
 
 -- disks that have never been written are in step
 pub blank_step : (script : Script) (yard : YardState)
-    → ((m : ℕ) → m < script.members → IsSomeAnd (yard.told m) (λ t. state_of t ≡ at_rest []))
-    → AreInStep script yard
+    → ((m : ℕ) → m < script.members → IsSomeAnd (yard.told m) (λ t. state_of t ≡ at_rest [])) → AreInStep script yard
 blank_step script yard blank = record {
   readable = blank_readable script.members yard blank;
   accepted = λ logs chosen. none_accepted script (entries_on_logs logs) (λ m es at.
@@ -94,8 +63,7 @@ pub age_step : (script : Script) (part : Part) (mode : Mode) (nth : ℕ) (before
     → AllTell script.members yard → AreInStep script yard
 age_step script part mode nth before yard age ranges none is tell = record {
   readable = λ m l. readable_behind script part mode nth before yard age is tell m l (none m l);
-  accepted = λ logs chosen.
-      ended_accepted script (start_of script part age) age.members (entries_on_logs logs) group
+  accepted = λ logs chosen. ended_accepted script (start_of script part age) age.members (entries_on_logs logs) group
       (all_take_part script part.missing ranges.group.most_members none ∙ ap (λ (n : ℕ). 2 ^ n - 1) (sym ranges.group.lists))
       is.played.agreed (is.played.roster ∙ sym ranges.group.lists) (parts logs chosen);
 }
@@ -104,9 +72,8 @@ age_step script part mode nth before yard age ranges none is tell = record {
     group = chosen_group script is.contents (start_of script part age) ranges.group is.starts
 
     -- what is on a log that its member has left has its first entries
-    left_of : (o : Option Told) (m : ℕ) (e : MemberEnd) (log : LogLists)
-        → (x : EndsSo is.played.over m e) → HasLeft o x.r.replica (is.begun m) → IsSomeAnd o (MayLeave log)
-        → IsLeftOf e.history e.logged log.entries
+    left_of : (o : Option Told) (m : ℕ) (e : MemberEnd) (log : LogLists) → (x : EndsSo is.played.over m e)
+        → HasLeft o x.r.replica (is.begun m) → IsSomeAnd o (MayLeave log) → IsLeftOf e.history e.logged log.entries
     left_of None m e log x left may = absurd may
     left_of (Some t) m e log x left may =
         subst (λ (end : MemberEnd). IsLeftOf end.history end.logged log.entries) x.is
@@ -153,8 +120,7 @@ whole_front script yard contents start m c ranges good found chosen at =
       l,
       length-map contents (λ (o : Option OnLog). option_map_or as_lists o nothing_on),
       found.all,
-    )))) along)
-    (entries_among contents (lists_with contents) m c (among_lists contents) at)
+    )))) along) (entries_among contents (lists_with contents) m c (among_lists contents) at)
   where
     there : (i : ℕ) → i < script.members → is_some (content_at contents i) ≡ true
     there i l = found.there i l ∙ ap not (has_zero i)
@@ -178,8 +144,7 @@ tried_step script missing before after ranges none tried step = record {
         → (logs ≡ olds) ⊎ AreOfTry script missing olds logs → AreAccepted script (entries_on_logs logs)
     by logs olds chosen accepted (inl same) =
         subst (λ (l : List LogLists). AreAccepted script (entries_on_logs l)) (sym same) accepted
-    by logs olds chosen accepted (inr (try, is, all)) =
-        fronts_accepted script try.start (entries_on_logs logs)
+    by logs olds chosen accepted (inr (try, is, all)) = fronts_accepted script try.start (entries_on_logs logs)
         (choice-group script (of_set olds try.set) try.start ranges is.choice) parts
       where
         -- each log was a front of the start
@@ -187,15 +152,12 @@ tried_step script missing before after ranges none tried step = record {
         front m old at = front_of_longest (entries_on_logs olds) try.start.entries old.entries m accepted.along
             (longest-chosen o olds try.set try.start is.choice
             (λ i l. let below : i < script.members = omega (arith, l, chosen.all) in all i below (none i below))
-            accepted.along)
-            (listed olds m old at)
+            accepted.along) (listed olds m old at)
 
-        part : (m : ℕ) (old log : LogLists) → slice_get olds m ≡ Some old
-            → (log.entries ≡ old.entries) ⊎ IsBroughtUp try m old log
-            → IsPrefixOf log.entries (opened_with try.start try.start.members)
-        part m old log at (inl same) =
-            subst (λ es. IsPrefixOf es (opened_with try.start try.start.members)) (sym same)
-            (part_of_opened old.entries try.start.entries (first_view_of try.start) (front m old at))
+        part : (m : ℕ) (old log : LogLists) → slice_get olds m ≡ Some old → (log.entries ≡ old.entries)
+            ⊎ IsBroughtUp try m old log → IsPrefixOf log.entries (opened_with try.start try.start.members)
+        part m old log at (inl same) = subst (λ es. IsPrefixOf es (opened_with try.start try.start.members))
+            (sym same) (part_of_opened old.entries try.start.entries (first_view_of try.start) (front m old at))
         part m old log at (inr up) = up.2
 
         parts : (m : ℕ) (es : List Entry) → slice_get (entries_on_logs logs) m ≡ Some es

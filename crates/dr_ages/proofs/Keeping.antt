@@ -1,53 +1,28 @@
 -- What an age leaves is what the next one finds; so nothing durable is lost.
-use Rattle.std.proofs.Common.{◌≡◌, ◌⊎◌, refl, sym, ap, ◌∙◌, subst, ⊎_elim, ℕ, zero, suc, ◌+◌, ◌-◌, ◌<◌, ◌≤◌, inl, inr, arith, Bool, true, false, not, List, [], ◌∷◌, ◌++◌, take, drop, append-nil}
 use Rattle.std.specs.Prelude.{IfSome, IsTrue, Option, None, Some, is_some, slice_get}
-use Rattle.std.proofs.lemmas.Bool.{cases_lt}
-use Rattle.std.proofs.lemmas.List.{get_or_past, take-append-drop, take_more}
+use Rattle.std.proofs.Common.{◌≡◌, ◌⊎◌, refl, sym, ap, ◌∙◌, subst, ⊎_elim, ℕ, zero, suc, ◌+◌, ◌-◌, ◌<◌, ◌≤◌, inl, inr, arith, Bool, true, false, not, List, [], ◌∷◌, ◌++◌, take, drop, append-nil}
+use Rattle.std.proofs.lemmas.{Bool.cases_lt, List.{get_or_past, take-append-drop, take_more}}
 use Rattle.std.proofs.lemmas.Option.{get_or_from_slice_get, slice_get_within}
-use Rattle.dr_disk.specs.Disk.{Told, content_of, state_of}
-use Rattle.dr_disk.specs.Images.{IsImage}
-use Rattle.dr_entry.specs.declared.end.AgeEnd.{AgeEnd}
-use Rattle.dr_entry.specs.declared.end.MemberEnd.{MemberEnd}
-use Rattle.dr_entry.specs.declared.entry.Entry.{Entry}
-use Rattle.dr_entry.specs.declared.record.Record.{Record}
+use Rattle.dr_disk.specs.{Disk.{Told, content_of, state_of}, Images.IsImage}
+use Rattle.dr_entry.specs.declared.{end.{AgeEnd.AgeEnd, MemberEnd.MemberEnd}, entry.Entry.Entry}
+use Rattle.dr_entry.{specs.declared.record.Record.Record, proofs.ListPlaces.within_places}
 use Rattle.dr_entry.specs.declared.record.Record.TheVariants as records
-use Rattle.dr_entry.proofs.ListPlaces.{within_places}
-use Rattle.dr_history.specs.Agreement.{accounts_of}
-use Rattle.dr_history.specs.History.{IsPrefixOf}
-use Rattle.dr_history.specs.Members.{has}
-use Rattle.dr_history.specs.Order.{first_entries}
-use Rattle.dr_history.specs.Restarting.{Kept}
-use Rattle.dr_history.proofs.Histories.{durable_by}
-use Rattle.dr_history_laws.proofs.Keeping.{prefix_then}
-use Rattle.dr_history_laws.proofs.Lists.{slice_get-some}
-use Rattle.dr_kept.specs.Leaving.{AreLeftFrom, IsAgeOfChoice, LeavesSo}
-use Rattle.dr_kept.proofs.Chosen.{has_log, known_age, some_there}
-use Rattle.dr_kept.proofs.Following.{next_begins, next_keeps, next_number}
-use Rattle.dr_kept.proofs.Returning.{next_has_all}
-use Rattle.dr_log_bytes.specs.Content.{OnLog, with_record}
-use Rattle.dr_log_bytes.specs.Grammar.{StandFor}
-use Rattle.dr_log_bytes.proofs.Meaning.{content_once}
-use Rattle.dr_logged.specs.Left.{IsLeftOf}
-use Rattle.dr_logged.specs.Served.{IsRecordDue}
+use Rattle.dr_history.specs.{Agreement.accounts_of, History.IsPrefixOf, Members.has, Order.first_entries}
+use Rattle.dr_history.{specs.Restarting.Kept, proofs.Histories.durable_by}
+use Rattle.dr_history_laws.proofs.{Keeping.prefix_then, Lists.slice_get-some}
+use Rattle.dr_kept.{specs.Leaving.{AreLeftFrom, IsAgeOfChoice, LeavesSo}, proofs.Returning.next_has_all}
+use Rattle.dr_kept.proofs.{Chosen.{has_log, known_age, some_there}, Following.{next_begins, next_keeps, next_number}}
+use Rattle.dr_log_bytes.{specs.{Content.{OnLog, with_record}, Grammar.StandFor}, proofs.Meaning.content_once}
+use Rattle.dr_served.specs.{Left.IsLeftOf, Served.IsRecordDue}
 use Rattle.dr_opening.specs.Tries.{IsChosenOf, content_at}
-use Rattle.dr_program.specs.Program.{Program, member_end}
-use Rattle.dr_program.specs.Presence.{present_at}
-use Rattle.dr_program.specs.Replica.{Replica}
-use Rattle.dr_program.specs.Running.{Running}
-use Rattle.dr_restart.specs.declared.start.Start.{Start}
-use Rattle.dr_restart.specs.Groups.{first_group_of}
-use Rattle.dr_script.specs.declared.script.Script.{Script}
-use Rattle.dr_script.specs.Ranges.{HasRanges}
+use Rattle.dr_program.specs.{Presence.present_at, Program.{Program, member_end}, Replica.Replica, Running.Running}
+use Rattle.dr_restart.specs.{Groups.first_group_of, declared.start.Start.Start}
+use Rattle.dr_script.specs.{Ranges.HasRanges, declared.script.Script.Script}
 use Rattle.dr_yard.specs.Yards.{AllTell, YardState}
-use Rattle.dr_age.proofs.LoggedMembers.{left_begins}
-use Rattle.dr_ages.specs.declared.mode.Mode.{Mode}
-use Rattle.dr_ages.specs.declared.part.Part.{Part}
-use Rattle.dr_ages.specs.Ages.{AreAges, IsAgeOf, opening_of, start_of}
-use Rattle.dr_ages.specs.Found.{AreFound, ReadsAs}
-use Rattle.dr_ages.specs.Left.{HasLeft, with_logged}
-use Rattle.dr_ages.specs.Runs.{AreKept}
-use Rattle.dr_ages.proofs.Chain.{AreBeside, beside}
-use Rattle.dr_ages.proofs.Votes.{EndsSo, LacksSo, member_over, ran_over, told_by}
+use Rattle.dr_play.proofs.LoggedMembers.{left_begins}
+use Rattle.dr_ages.specs.{Ages.{AreAges, IsAgeOf, opening_of, start_of}, Found.{AreFound, ReadsAs}}
+use Rattle.dr_ages.specs.{Left.{HasLeft, with_logged}, Runs.AreKept, declared.{mode.Mode.Mode, part.Part.Part}}
+use Rattle.dr_ages.proofs.{Chain.{AreBeside, beside}, Votes.{EndsSo, LacksSo, member_over, ran_over, told_by}}
 
 -- ---- one disk
 
@@ -165,9 +140,8 @@ over_behind b = b.is.played.over
 -- where something is found the member isn't missing
 pub found_there : (n missing : ℕ) (yard : YardState) (contents : List (Option OnLog)) (m : ℕ) (c : OnLog)
     → AreFound n missing yard contents → content_at contents m ≡ Some c → has missing m ≡ false
-found_there n missing yard contents m c found at =
-    by (has missing m) refl (sym (ap is_some at)
-    ∙ found.there m (omega (arith, within_places contents m c at, found.all)))
+found_there n missing yard contents m c found at = by (has missing m) refl
+    (sym (ap is_some at) ∙ found.there m (omega (arith, within_places contents m c at, found.all)))
   where
     by : (b : Bool) → has missing m ≡ b → true ≡ not (has missing m) → has missing m ≡ false
     by false is there = is
@@ -193,8 +167,7 @@ ended_over script part mode nth before yard age is m e at there =
     by : EndsSo over m e ⊎ LacksSo over m e → EndsSo over m e
     by (inl ends) = ends
     by (inr lacks) = absurd (
-        let no : true ≡ false =
-        sym ((is.absent m e at).0 (ap (λ (x : MemberEnd). x.end) (sym lacks.is))) ∙ there in
+        let no : true ≡ false = sym ((is.absent m e at).0 (ap (λ (x : MemberEnd). x.end) (sym lacks.is))) ∙ there in
         cc)
 
 -- who stands at a place of the program isn't missing
@@ -213,12 +186,9 @@ told_there script part mode nth before yard age ranges is m r at =
 -- the same logs are there
 same_there : (n missing : ℕ) (one other : YardState) (xs ys : List (Option OnLog)) → AreFound n missing one xs
     → AreFound n missing other ys → (m : ℕ) → is_some (content_at xs m) ≡ is_some (content_at ys m)
-same_there n missing one other xs ys first next m = ⊎_elim
-    (λ (l : m < n). first.there m l ∙ sym (next.there m l))
-    (λ (past : n ≤ m). ap is_some
-    (get_or_past xs m None (omega (arith, first.all, past))
-    ∙ sym (get_or_past ys m None (omega (arith, next.all, past)))))
-    (cases_lt m n)
+same_there n missing one other xs ys first next m = ⊎_elim (λ (l : m < n). first.there m l ∙ sym (next.there m l))
+    (λ (past : n ≤ m). ap is_some (get_or_past xs m None (omega (arith, first.all, past))
+    ∙ sym (get_or_past ys m None (omega (arith, next.all, past))))) (cases_lt m n)
 
 pub left_from : (script : Script) (part : Part) (yard : YardState) (age : AgeEnd) (contents : List (Option OnLog))
     → (b : IsBehind script part yard age contents)
@@ -248,20 +218,18 @@ left_from script part yard age contents b = record {
 pub age_next : (script : Script) (part : Part) (yard : YardState) (age : AgeEnd) (contents : List (Option OnLog))
     (next : Start) → (b : IsBehind script part yard age contents)
     → IsChosenOf (first_group_of script).opening contents next → next.age ≡ age.age + 1
-age_next script part yard age contents next b chosen =
-    next_number script (start_of script part age) next b.nth b.is.contents contents (over_behind b) b.ranges.group
-    b.ranges.some_turn (of_choice script part b.mode b.nth b.before yard age b.is)
-    (left_from script part yard age contents b) chosen
+age_next script part yard age contents next b chosen = next_number script
+    (start_of script part age) next b.nth b.is.contents contents (over_behind b) b.ranges.group b.ranges.some_turn
+    (of_choice script part b.mode b.nth b.before yard age b.is) (left_from script part yard age contents b) chosen
 
 -- and what is found is a front of its start
 pub next_has : (script : Script) (part : Part) (yard : YardState) (age : AgeEnd) (contents : List (Option OnLog))
     (next : Start) (m : ℕ) (c : OnLog) → (b : IsBehind script part yard age contents)
     → IsChosenOf (first_group_of script).opening contents next → content_at contents m ≡ Some c
     → IsPrefixOf c.entries next.entries
-next_has script part yard age contents next m c b chosen at =
-    next_has_all script (start_of script part age) next b.nth b.is.contents contents (over_behind b) m c
-    b.ranges.group b.ranges.some_turn (of_choice script part b.mode b.nth b.before yard age b.is)
-    (left_from script part yard age contents b) chosen at
+next_has script part yard age contents next m c b chosen at = next_has_all script
+    (start_of script part age) next b.nth b.is.contents contents (over_behind b) m c b.ranges.group b.ranges.some_turn
+    (of_choice script part b.mode b.nth b.before yard age b.is) (left_from script part yard age contents b) chosen at
 
 -- so the start has all that a member has logged
 pub logged_first : (script : Script) (part : Part) (yard : YardState) (age : AgeEnd) (contents : List (Option OnLog))
@@ -273,8 +241,7 @@ logged_first script part yard age contents next m e b chosen at there =
     (subst (λ (end : MemberEnd). IsPrefixOf (take end.logged end.history) on.0.entries) x.is
     (left_begins (take x.r.replica.logged x.r.replica.history) (member_end x.r.replica) on.0.entries ([], append-nil _)
     (read_entries (yard.told m) x.r.replica on.0 (b.is.begun m) (b.tell m l) (b.found.each m on.0 on.1).reads
-    (b.is.left m x.r x.at))))
-    (next_has script part yard age contents next m on.0 b chosen on.1)
+    (b.is.left m x.r x.at)))) (next_has script part yard age contents next m on.0 b chosen on.1)
   where
     l : m < script.members
     l = omega (arith, slice_get_within age.members m e at, b.is.played.roster)
@@ -306,8 +273,7 @@ keeps_next script part start a b ranges tell r =
     subst (λ (ends : List MemberEnd). Kept (opening_of script part a) (accounts_of ends) (opening_of script part b))
     (sym (ap (λ (x : AgeEnd). x.members) (told_by r.mode script (start_of script part a) r.nth a r.first.played)))
     (next_keeps script (start_of script part a) (start_of script part b) r.nth r.first.contents r.second.contents
-    r.first.played.over ranges.group ranges.some_turn
-    (of_choice script part r.mode r.nth r.before r.mid a r.first)
+    r.first.played.over ranges.group ranges.some_turn (of_choice script part r.mode r.nth r.before r.mid a r.first)
     (left_from script part r.mid a r.second.contents (behind_first script part start a b ranges tell r))
     r.second.starts)
 
@@ -317,8 +283,7 @@ pub grows : (script : Script) (part : Part) (start : YardState) (a b : AgeEnd) �
 grows script part start a b ranges tell r =
     prefix_then a.start (first_entries (opening_of script part a)) b.start (_ ∷ [], refl)
     (next_begins script (start_of script part a) (start_of script part b) r.nth r.first.contents r.second.contents
-    r.first.played.over ranges.group ranges.some_turn
-    (of_choice script part r.mode r.nth r.before r.mid a r.first)
+    r.first.played.over ranges.group ranges.some_turn (of_choice script part r.mode r.nth r.before r.mid a r.first)
     (left_from script part r.mid a r.second.contents (behind_first script part start a b ranges tell r))
     r.second.starts)
 
@@ -340,20 +305,16 @@ are_kept script part mode before ages last ranges are tell = record {
         → IsPrefixOf (take e.durable e.history) b.start
     one m a b e r there true present =
         durable_by a.members m e b.start there ((keeps_next script part before a b ranges tell r).durable m present)
-    one m a b e r there false gone =
-        subst (λ (x : MemberEnd). IsPrefixOf (take x.durable x.history) b.start)
+    one m a b e r there false gone = subst (λ (x : MemberEnd). IsPrefixOf (take x.durable x.history) b.start)
         (sym (r.first.played.ended.absent m e there (λ present. let no : true ≡ false = sym present ∙ gone in cc)))
         (b.start, refl)
 
     ever : (d i j m : ℕ) (a b : AgeEnd) (e : MemberEnd) → j ≡ i + 1 + d → slice_get ages i ≡ Some a
-        → slice_get ages j ≡ Some b → slice_get a.members m ≡ Some e
-        → IsPrefixOf (take e.durable e.history) b.start
-    ever zero i j m a b e far at_a at_b there =
-        one m a b e (pair i a b at_a (ap (slice_get ages) (omega (arith, far)) ∙ at_b)) there
-        (has (opening_of script part a).present m) refl
+        → slice_get ages j ≡ Some b → slice_get a.members m ≡ Some e → IsPrefixOf (take e.durable e.history) b.start
+    ever zero i j m a b e far at_a at_b there = one m a b e (pair i a b at_a
+        (ap (slice_get ages) (omega (arith, far)) ∙ at_b)) there (has (opening_of script part a).present m) refl
     ever (suc d) i j m a b e far at_a at_b there =
         let c = slice_get-some ages (i + 1 + d) (omega (arith, far, slice_get_within ages j b at_b)) in
-        prefix_then (take e.durable e.history) c.0.start b.start
-        (ever d i (i + 1 + d) m a c.0 e refl at_a c.1 there)
+        prefix_then (take e.durable e.history) c.0.start b.start (ever d i (i + 1 + d) m a c.0 e refl at_a c.1 there)
         (grows script part before c.0 b ranges tell
         (pair (i + 1 + d) c.0 b c.1 (ap (slice_get ages) (omega (arith, far)) ∙ at_b)))

@@ -1,53 +1,27 @@
 -- Openings in which memory was wanting.
+use Rattle.std.specs.{Option.option_map_or, Prelude.{Option, None, Some}}
 use Rattle.std.proofs.Common.{◌≡◌, refl, sym, ap, ◌∙◌, subst, inl, inr, ℕ, ◌<◌, ◌≤◌, arith, List, [], ◌∷◌, length}
-use Rattle.std.specs.Prelude.{Option, None, Some}
-use Rattle.std.proofs.lemmas.Bool.{cases_lt}
-use Rattle.std.proofs.lemmas.List.Elements.{All-nil}
-use Rattle.std.proofs.lemmas.Option.{same_Some}
-use Rattle.std.specs.Option.{option_map_or}
-use Rattle.dr_age.specs.Logged.{AreAsBefore, AreCalm}
-use Rattle.dr_disk.specs.Disk.{Told}
-use Rattle.dr_disk.specs.Images.{IsLeft}
-use Rattle.dr_disk.proofs.Moments.{Goes-last}
+use Rattle.std.proofs.lemmas.{Bool.cases_lt, List.Elements.All-nil, Option.same_Some}
+use Rattle.dr_play.specs.Logged.{AreAsBefore, AreCalm}
+use Rattle.dr_disk.{specs.{Disk.Told, Images.IsLeft}, proofs.{Images.left_so, Moments.Goes-last}}
 use Rattle.dr_entry.specs.declared.entry.Entry.{Entry}
-use Rattle.dr_disk.proofs.Images.{left_so}
 use Rattle.dr_history.specs.History.{IsPrefixOf}
-use Rattle.dr_log.specs.Standing.{LosesNone}
-use Rattle.dr_log.specs.State.{LogState}
-use Rattle.dr_log.proofs.Ordinary.{has_itself, none_lost}
-use Rattle.dr_log_bytes.specs.Content.{OnLog}
-use Rattle.dr_log_bytes.specs.Grammar.{StandFor}
-use Rattle.dr_logged.specs.Served.{HaveSamePlaces, IsSafe}
-use Rattle.dr_opening.specs.declared.age.NotOpened.{NotOpened}
-use Rattle.dr_opening.specs.declared.age.NotOpened.TheVariants.{Unchosen, Unfinished}
-use Rattle.dr_opening.specs.Contents.{IsOpenFor, voted_for}
-use Rattle.dr_opening.specs.Lists.{contents_of, log_of}
-use Rattle.dr_opening.specs.Logs.{WereOpened}
-use Rattle.dr_opening.specs.Unopened.{IsWhyUnopened}
+use Rattle.dr_log.{specs.{Standing.LosesNone, State.LogState}, proofs.Ordinary.{has_itself, none_lost}}
+use Rattle.dr_log_bytes.specs.{Content.OnLog, Grammar.StandFor}
+use Rattle.dr_served.{specs.Served.{HaveSamePlaces, IsSafe}, proofs.Served.{places_both, places_same}}
+use Rattle.dr_opening.{specs.Contents.{IsOpenFor, voted_for}, proofs.Lists.{stays_there, was_there, log_of_content}}
+use Rattle.dr_opening.{specs.{Lists.{contents_of, log_of}, Unopened.IsWhyUnopened}, proofs.Logs.opened_places}
+use Rattle.dr_opening.specs.{Logs.WereOpened, declared.age.NotOpened.{NotOpened, TheVariants.{Unchosen, Unfinished}}}
 use Rattle.dr_restart.specs.declared.start.Start.{Start}
 use Rattle.dr_script.specs.declared.script.Script.{Script}
 use Rattle.dr_yard.specs.Yards.{YardState}
-use Rattle.dr_logged.proofs.Served.{places_both, places_same}
-use Rattle.dr_opening.proofs.Lists.{stays_there, was_there, log_of_content}
-use Rattle.dr_opening.proofs.Logs.{opened_places}
-use Rattle.dr_ages.specs.declared.mode.Mode.{Mode}
-use Rattle.dr_ages.specs.declared.mode.Mode.TheVariants.{Sim, Run}
-use Rattle.dr_ages.specs.declared.part.Part.{Part}
-use Rattle.dr_ages.specs.declared.stop.Stop.{Stop}
-use Rattle.dr_ages.specs.declared.stop.Stop.TheVariants.{OutOfMemory, DiskFault, Damaged}
-use Rattle.dr_ages.specs.Lacking.{IsOpenStill, LackedMemory, to_begin, to_choose, to_mount}
-use Rattle.dr_ages.specs.Lent.{AreAllBut, AreMounted, WereRefused, with_logs}
-use Rattle.dr_ages.specs.Opened.{AreLater}
-use Rattle.dr_ages.specs.Passing.{AreKeptSince}
-use Rattle.dr_ages.specs.Stops.{AreMountedBelow}
-use Rattle.dr_ages.specs.Telling.{stop_of}
-use Rattle.dr_ages.proofs.Backs.{counts_still, told_at}
-use Rattle.dr_ages.proofs.Chain.{none_below, unmounted}
-use Rattle.dr_ages.proofs.Loans.{are_found, mounted_below}
-use Rattle.dr_ages.proofs.Opening.{on_still, opened_on}
-use Rattle.dr_ages.proofs.Played.{is_open, later_on, open_log}
-use Rattle.dr_ages.proofs.Staying.{later_by_all}
-use Rattle.dr_ages.proofs.Stopping.{IsOpeningOn, lacked_append, since_opened}
+use Rattle.dr_ages.specs.{Lacking.{IsOpenStill, LackedMemory, to_begin, to_choose, to_mount}, declared.part.Part.Part}
+use Rattle.dr_ages.{specs.Lent.{AreAllBut, AreMounted, WereRefused, with_logs}, proofs.Backs.{counts_still, told_at}}
+use Rattle.dr_ages.specs.{Opened.AreLater, declared.stop.Stop.{Stop, TheVariants.{OutOfMemory, DiskFault, Damaged}}}
+use Rattle.dr_ages.specs.{Passing.AreKeptSince, Stops.AreMountedBelow, Telling.stop_of}
+use Rattle.dr_ages.{specs.declared.mode.Mode.{Mode, TheVariants.{Sim, Run}}, proofs.Loans.{are_found, mounted_below}}
+use Rattle.dr_ages.proofs.{Chain.{none_below, unmounted}, Opening.{on_still, opened_on}, Staying.later_by_all}
+use Rattle.dr_ages.proofs.{Played.{is_open, later_on, open_log}, Stopping.{IsOpeningOn, lacked_append, since_opened}}
 
 -- ---- before all logs were mounted
 
@@ -69,10 +43,8 @@ lacked_mount script part mode k before mid after OutOfMemory back since low high
       | inl l ↦ low m l
       | inr past ↦ high m past ∙ is.2 m past
     ])
-lacked_mount script part mode k before mid after (DiskFault m) back since low high is same =
-    absurd (cc (same))
-lacked_mount script part mode k before mid after (Damaged m at) back since low high is same =
-    absurd (cc (same))
+lacked_mount script part mode k before mid after (DiskFault m) back since low high is same = absurd (cc (same))
+lacked_mount script part mode k before mid after (Damaged m at) back since low high is same = absurd (cc (same))
 lacked_mount script part mode k before mid after stop back since low high is same = absurd is
 
 -- ---- before the age was open
@@ -87,8 +59,7 @@ lacked_choice tells faults script part mode before logs all mounted but = to_cho
     (mounted_below tells faults part.missing before before (with_logs tells faults before logs) logs mounted
     but (λ m. (refl, refl)) (λ m past. refl)))
     (since_opened tells faults script part before [] logs logs all mounted but (on_still tells faults [] logs)
-    (places_same logs))
-    (counts_still tells faults before logs mounted)
+    (places_same logs)) (counts_still tells faults before logs mounted)
 
 pub lacked_opening : {D : Type 0} (tells : D → Option Told) (faults : D → ℕ) (script : Script) (part : Part)
     (mode : Mode) (before : YardState) (olds news : List (Option (LogState D))) (why : NotOpened)
@@ -111,22 +82,19 @@ still_open : {D : Type 0} (tells : D → Option Told) (faults : D → ℕ) (mode
     → log_of news m ≡ Some new → IsSafe tells mid → AreLater tells faults [] mids news
     → (mode ≡ Sim → AreAsBefore mids news × AreCalm tells faults mids news)
     → IsLeft (tells new.disk) (IsOpenStill mode mid.content)
-still_open tells faults Sim mids news m mid new there here safe later still =
-    subst (λ (o : Option Told). IsLeft o (λ image. StandFor image mid.content))
-    (sym ((still refl).1 m mid new there here).0) safe
-still_open tells faults Run mids news m mid new there here safe later still =
-    Goes-last (tells mid.disk) (tells new.disk) (LosesNone mid.content)
-    ((later m mid new there here).stays mid.content
-    (All-nil (λ (start : List Entry). IsPrefixOf mid.content.entries start)) (has_itself mid.content)
-    (left_so (tells mid.disk) (λ image. StandFor image mid.content) (LosesNone mid.content)
+still_open tells faults Sim mids news m mid new there here safe later still = subst (λ (o : Option Told). IsLeft o
+    (λ image. StandFor image mid.content)) (sym ((still refl).1 m mid new there here).0) safe
+still_open tells faults Run mids news m mid new there here safe later still = Goes-last (tells mid.disk)
+    (tells new.disk) (LosesNone mid.content) ((later m mid new there here).stays mid.content
+    (All-nil (λ (start : List Entry). IsPrefixOf mid.content.entries start))
+    (has_itself mid.content) (left_so (tells mid.disk) (λ image. StandFor image mid.content) (LosesNone mid.content)
     (λ image stands. none_lost mid.content mid.content image (has_itself mid.content) stands) safe))
 
-pub lacked_age : {D : Type 0} (tells : D → Option Told) (faults : D → ℕ) (script : Script) (part : Part)
-    (mode : Mode) (before : YardState) (start : Start) (olds mids news : List (Option (LogState D)))
+pub lacked_age : {D : Type 0} (tells : D → Option Told) (faults : D → ℕ) (script : Script)
+    (part : Part) (mode : Mode) (before : YardState) (start : Start) (olds mids news : List (Option (LogState D)))
     → IsOpeningOn tells faults script part before start olds → WereOpened tells faults start olds mids
-    → AreLater tells faults [] mids news → HaveSamePlaces mids news
-    → (mode ≡ Sim → AreAsBefore mids news × AreCalm tells faults mids news)
-    → LackedMemory script part mode before (with_logs tells faults before news)
+    → AreLater tells faults [] mids news → HaveSamePlaces mids news → (mode ≡ Sim → AreAsBefore mids news
+    × AreCalm tells faults mids news) → LackedMemory script part mode before (with_logs tells faults before news)
 lacked_age {D} tells faults script part mode before start olds mids news on opened later places still =
     to_begin (record {
       contents = contents_of olds;
@@ -151,8 +119,7 @@ lacked_age {D} tells faults script part mode before start olds mids news on open
           on.but (later_on tells faults (start.entries ∷ []) olds mids news began
           (opened_on tells faults start olds mids opened)
           (λ m old new there here. later_by_all tells faults (start.entries ∷ []) old new
-          (later m old new there here)))
-          (places_both olds mids news began places);
+          (later m old new there here))) (places_both olds mids news began places);
       calm = λ simulated m. calm simulated m (log_of news m) refl;
     })
   where
@@ -166,6 +133,5 @@ lacked_age {D} tells faults script part mode before start olds mids news on open
         let mid = was_there mids news m new places at in
         let old = was_there olds mids m mid.0 began mid.1 in
         let x = open_log tells faults start before olds mids m old.0 on.mounted opened old.1 in
-        ((still simulated).1 m mid.0 new mid.1 at).1
-        ∙ (ap (λ (l : LogState D). faults l.disk) (same_Some mid.0 x.mid (sym mid.1 ∙ x.by))
-        ∙ (x.begun.well.calm ∙ (x.vote.0.well.calm ∙ x.mounted.calm)))
+        ((still simulated).1 m mid.0 new mid.1 at).1 ∙ (ap (λ (l : LogState D). faults l.disk)
+        (same_Some mid.0 x.mid (sym mid.1 ∙ x.by)) ∙ (x.begun.well.calm ∙ (x.vote.0.well.calm ∙ x.mounted.calm)))

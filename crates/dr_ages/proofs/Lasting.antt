@@ -1,61 +1,32 @@
 -- What lasts on the disks of a yard lasts through ages, openings that stop, and crashes.
-use Rattle.std.proofs.Common.{◌≡◌, ◌⊎◌, refl, sym, ap, ◌∙◌, subst, ℕ, zero, suc, ◌+◌, ◌-◌, ◌^◌, ◌<◌, ◌≤◌, inl, inr, arith, le_refl, not, Bool, true, false, List, [], ◌∷◌, ◌++◌, length, map, take}
-use Rattle.std.specs.Option.{option_map_or}
+use Rattle.std.{specs.Option.option_map_or, proofs.lemmas.List.{get_or_past, length-map}}
 use Rattle.std.specs.Prelude.{IfSome, IsSomeAnd, IsTrue, Option, None, Some, is_some, nat_lt, slice_get}
-use Rattle.std.proofs.lemmas.Bool.{cases_lt}
-use Rattle.std.proofs.lemmas.List.{get_or_past, length-map}
-use Rattle.std.proofs.lemmas.Option.{none-some, same_Some, slice_get_past, slice_get_within}
-use Rattle.dr_disk.specs.Disk.{Told, content_of, state_of}
-use Rattle.dr_disk.specs.Calls.{State, at_rest}
-use Rattle.dr_disk.specs.Images.{AllImages, Goes, IsImage}
-use Rattle.dr_disk.proofs.Images.{image_at_rest, empty_image}
-use Rattle.dr_disk.proofs.Moments.{Went-last}
-use Rattle.dr_entry.specs.declared.end.AgeEnd.{AgeEnd}
-use Rattle.dr_entry.specs.declared.end.MemberEnd.{MemberEnd}
-use Rattle.dr_entry.specs.declared.entry.Entry.{Entry}
+use Rattle.std.proofs.Common.{◌≡◌, ◌⊎◌, refl, sym, ap, ◌∙◌, subst, ℕ, zero, suc, ◌+◌, ◌-◌, ◌^◌, ◌<◌, ◌≤◌, inl, inr, arith, le_refl, not, Bool, true, false, List, [], ◌∷◌, ◌++◌, length, map, take}
+use Rattle.std.proofs.lemmas.{Bool.cases_lt, Option.{none-some, same_Some, slice_get_past, slice_get_within}}
+use Rattle.dr_disk.{specs.{Calls.{State, at_rest}, Images.{AllImages, Goes, IsImage}}, proofs.Moments.Went-last}
+use Rattle.dr_disk.{specs.Disk.{Told, content_of, state_of}, proofs.Images.{image_at_rest, empty_image}}
+use Rattle.dr_entry.specs.declared.{end.{AgeEnd.AgeEnd, MemberEnd.MemberEnd}, entry.Entry.Entry}
 use Rattle.dr_entry.proofs.ListPlaces.{within_places, pick}
-use Rattle.dr_history.specs.History.{IsPrefixOf}
-use Rattle.dr_history.specs.Members.{has}
-use Rattle.dr_history.proofs.Bits.{has_ones}
+use Rattle.dr_history.{specs.{History.IsPrefixOf, Members.has}, proofs.Bits.has_ones}
 use Rattle.dr_history_laws.proofs.Lists.{slice_get-some}
-use Rattle.dr_kept.specs.Lasting.{HasLeftLogs}
-use Rattle.dr_kept.specs.Leaving.{IsLeftAt}
-use Rattle.dr_kept.proofs.Chosen.{few}
-use Rattle.dr_kept.proofs.Following.{among_lists, lists_with, nothing_on}
-use Rattle.dr_kept.proofs.Lasting.{durable_lasts, still_lasts}
+use Rattle.dr_kept.{specs.{Lasting.HasLeftLogs, Leaving.IsLeftAt}, proofs.Chosen.few}
+use Rattle.dr_kept.proofs.{Following.{among_lists, lists_with, nothing_on}, Lasting.{durable_lasts, still_lasts}}
 use Rattle.dr_log.specs.Standing.{KeepsRecords}
-use Rattle.dr_log_bytes.specs.Content.{OnLog, empty_of}
-use Rattle.dr_log_bytes.specs.Grammar.{StandFor}
+use Rattle.dr_log_bytes.{specs.{Content.{OnLog, empty_of}, Grammar.StandFor}, proofs.Grammars.stands_empty}
 use Rattle.dr_log_bytes.proofs.Meaning.{content_once}
-use Rattle.dr_log_bytes.proofs.Grammars.{stands_empty}
-use Rattle.dr_opening.specs.Lists.{as_lists}
-use Rattle.dr_opening.specs.Tries.{AreAmong, content_at}
-use Rattle.dr_opening.proofs.Trying.{chosen_by}
-use Rattle.dr_program.specs.Program.{Program, end_at}
-use Rattle.dr_program.proofs.Present.{slice_present}
-use Rattle.dr_quorum_laws.specs.Lasting.{AreLasting}
-use Rattle.dr_quorum_laws.proofs.Lasting.{last-kept, last-pass, last-tried, none-last}
-use Rattle.dr_restart.specs.declared.lists.LogLists.{LogLists}
-use Rattle.dr_restart.specs.declared.start.Start.{Start}
-use Rattle.dr_restart.specs.Groups.{first_group_of}
-use Rattle.dr_restart.specs.Refusing.{IsRefusedFor, Refusal}
-use Rattle.dr_script.specs.declared.script.Script.{Script}
-use Rattle.dr_script.specs.Ranges.{HasGroupRanges, HasRanges}
+use Rattle.dr_opening.{specs.{Lists.as_lists, Tries.{AreAmong, content_at}}, proofs.Trying.chosen_by}
+use Rattle.dr_program.{specs.Program.{Program, end_at}, proofs.Present.slice_present}
+use Rattle.dr_quorum_laws.{specs.Lasting.AreLasting, proofs.Lasting.{last-kept, last-pass, last-tried, none-last}}
+use Rattle.dr_restart.specs.{Groups.first_group_of, Refusing.{IsRefusedFor, Refusal}}
+use Rattle.dr_restart.specs.declared.{lists.LogLists.LogLists, start.Start.Start}
+use Rattle.dr_script.specs.{Ranges.{HasGroupRanges, HasRanges}, declared.script.Script.Script}
 use Rattle.dr_yard.specs.Yards.{AllTell, YardState}
-use Rattle.dr_ages.specs.declared.mode.Mode.{Mode}
-use Rattle.dr_ages.specs.declared.part.Part.{Part}
-use Rattle.dr_ages.specs.Ages.{AreAges, IsAgeOf, NamesNobody, start_of}
-use Rattle.dr_ages.specs.Crashed.{HaveCrashed, IsLeftOver}
+use Rattle.dr_ages.specs.{Ages.{AreAges, IsAgeOf, NamesNobody, start_of}, Crashed.{HaveCrashed, IsLeftOver}}
 use Rattle.dr_ages.specs.Fit.{AreChosen, AreFit, AreLastingOn, AreReadable, IsReadable, MayLeave}
-use Rattle.dr_ages.specs.Found.{AreFound, ReadsAs}
-use Rattle.dr_ages.specs.Left.{HasLeft}
-use Rattle.dr_ages.specs.declared.stop.Stop.{Stop}
-use Rattle.dr_ages.specs.Stops.{AreRefusedFor, HasStopped, IsBadLogs}
-use Rattle.dr_ages.specs.Tried.{AreTried, AreOfTry}
-use Rattle.dr_ages.proofs.Chain.{tell_on}
-use Rattle.dr_ages.proofs.Good.{found_of, handed_whole, pass_never, readable_behind, undamaged}
-use Rattle.dr_ages.proofs.Keeping.{ended_over, found_there, image_leaves, of_choice}
-use Rattle.dr_ages.proofs.Votes.{EndsSo, told_by}
+use Rattle.dr_ages.specs.{Found.{AreFound, ReadsAs}, Left.HasLeft, Stops.{AreRefusedFor, HasStopped, IsBadLogs}}
+use Rattle.dr_ages.specs.{Tried.{AreTried, AreOfTry}, declared.{mode.Mode.Mode, part.Part.Part, stop.Stop.Stop}}
+use Rattle.dr_ages.proofs.{Chain.tell_on, Good.{found_of, handed_whole, pass_never, readable_behind, undamaged}}
+use Rattle.dr_ages.proofs.{Keeping.{ended_over, found_there, image_leaves, of_choice}, Votes.{EndsSo, told_by}}
 
 -- ---- what crashes may leave
 
@@ -67,9 +38,8 @@ readable_tell n yard readable m l = by (yard.told m) (readable m l)
     by (Some t) is = refl
 
 -- at each moment a crash would have left what it might have left before, as far as records go
-pub alike_readable : (n : ℕ) (before after : YardState)
-    → ((m : ℕ) → m < n → Goes (before.told m) (after.told m) KeepsRecords) → AreReadable n before
-    → AreReadable n after
+pub alike_readable : (n : ℕ) (before after : YardState) → ((m : ℕ) → m < n → Goes (before.told m)
+    (after.told m) KeepsRecords) → AreReadable n before → AreReadable n after
 alike_readable n before after alike readable m l = by (before.told m) (after.told m) (alike m l) (readable m l)
   where
     by : (o now : Option Told) → Goes o now KeepsRecords → IsSomeAnd o (λ t. AllImages (state_of t) IsReadable)
@@ -78,17 +48,14 @@ alike_readable n before after alike readable m l = by (before.told m) (after.tol
     by (Some t) None goes is = absurd goes
     by (Some t) (Some u) goes is = λ image here.
         let k = Went-last t u (KeepsRecords (state_of t)) goes image here in
-        let r = is k.before k.was in
-        (r.0, (k.alike r.0).0 r.1)
+        let r = is k.before k.was in (r.0, (k.alike r.0).0 r.1)
 
-pub alike_chosen : (n : ℕ) (before after : YardState) (logs : List LogLists)
-    → ((m : ℕ) → m < n → Goes (before.told m) (after.told m) KeepsRecords) → AreChosen n after logs
-    → AreChosen n before logs
+pub alike_chosen : (n : ℕ) (before after : YardState) (logs : List LogLists) → ((m : ℕ) → m < n → Goes (before.told m)
+    (after.told m) KeepsRecords) → AreChosen n after logs → AreChosen n before logs
 alike_chosen n before after logs alike chosen = record {
   all = chosen.all;
-  each = λ m log at.
-      by (before.told m) (after.told m) log (alike m (omega (arith, slice_get_within logs m log at, chosen.all)))
-      (chosen.each m log at);
+  each = λ m log at. by (before.told m)
+      (after.told m) log (alike m (omega (arith, slice_get_within logs m log at, chosen.all))) (chosen.each m log at);
 }
   where
     by : (o now : Option Told) (log : LogLists) → Goes o now KeepsRecords → IsSomeAnd now (MayLeave log)
@@ -159,8 +126,7 @@ had_before n missing before after contents logs tell found same chosen = record 
   others = λ m none. others m none (cases_lt m n);
 }
   where
-    one : (m : ℕ) → m < n
-        → (x : LogLists) × HadSo (before.told m) (content_at contents m) (slice_get logs m) x
+    one : (m : ℕ) → m < n → (x : LogLists) × HadSo (before.told m) (content_at contents m) (slice_get logs m) x
     one m l = by (content_at contents m) refl
       where
         by : (o : Option OnLog) → content_at contents m ≡ o
@@ -204,8 +170,7 @@ gone_at n missing yard contents m found l none = by (has missing m) refl
     by : (b : Bool) → has missing m ≡ b → has missing m ≡ true
     by true is = is
     by false is = absurd (
-        let no : false ≡ true = ap is_some (sym none) ∙ found.there m l ∙ ap not is in
-        cc)
+        let no : false ≡ true = ap is_some (sym none) ∙ found.there m l ∙ ap not is in cc)
 
 -- what stands on one log behind it
 record StandsSo (start : Start) (found : List (Option OnLog)) (p : Program) (logs : List LogLists) (m : ℕ)
@@ -289,8 +254,7 @@ left_logs script part mode nth before yard age logs ranges is chosen h = record 
     same m (inl l) =
         let o = slice_get-some all.0 m (omega (arith, l, all.1)) in
         ap is_some (slice_present all.0 m o.0 o.1) ∙ (all.2 m o.0 o.1).same
-    same m (inr past) = ap is_some
-        (get_or_past all.0 m None (omega (arith, all.1, past))
+    same m (inr past) = ap is_some (get_or_past all.0 m None (omega (arith, all.1, past))
         ∙ sym (get_or_past is.contents m None (omega (arith, is.found.all, past))))
 
     at_place : (m : ℕ) (c : OnLog) → content_at all.0 m ≡ Some c
@@ -301,9 +265,8 @@ left_logs script part mode nth before yard age logs ranges is chosen h = record 
 
 -- what crashes may have left as an age opened, by what they may leave behind it
 pub had_at : (script : Script) (part : Part) (mode : Mode) (nth : ℕ) (before yard : YardState) (age : AgeEnd)
-    (logs : List LogLists) → AllTell script.members before
-    → (is : IsAgeOf script part mode nth before yard age) → AreChosen script.members yard logs
-    → HadBefore script.members before is.contents logs
+    (logs : List LogLists) → AllTell script.members before → (is : IsAgeOf script part mode nth before yard age)
+    → AreChosen script.members yard logs → HadBefore script.members before is.contents logs
 had_at script part mode nth before yard age logs tell is chosen =
     had_before script.members part.missing before yard is.contents logs tell is.found
     (λ m l none. (is.untouched m (gone_at script.members part.missing before is.contents m is.found l none)).0) chosen
@@ -337,8 +300,7 @@ age_lasting script part mode nth before yard age es ranges is last = record {
 -- and all that a member of it knew to be durable
 pub age_durable : (script : Script) (part : Part) (mode : Mode) (nth : ℕ) (before yard : YardState) (age : AgeEnd)
     (m : ℕ) (e : MemberEnd) → HasRanges script → IsAgeOf script part mode nth before yard age
-    → AreFit script before → slice_get age.members m ≡ Some e
-    → AreLastingOn script (take e.durable e.history) yard
+    → AreFit script before → slice_get age.members m ≡ Some e → AreLastingOn script (take e.durable e.history) yard
 age_durable script part mode nth before yard age m e ranges is fit at = record {
   readable = age_readable script part mode nth before yard age is fit.readable;
   lasting = λ logs chosen.
@@ -365,8 +327,7 @@ age_durable script part mode nth before yard age m e ranges is fit at = record {
         subst (λ (end : Option MemberEnd). AreLasting script (take (option_map_or (λ (e : MemberEnd). e.durable) end 0)
         (option_map_or (λ (e : MemberEnd). e.history) end [])) logs) end
         (durable_lasts script start nth over [] olds logs m left last there)
-    by logs olds left last false gone =
-        subst (λ (x : MemberEnd). AreLasting script (take x.durable x.history) logs)
+    by logs olds left last false gone = subst (λ (x : MemberEnd). AreLasting script (take x.durable x.history) logs)
         (sym (is.played.ended.absent m e at (λ present. let no : true ≡ false = sym present ∙ gone in cc)))
         (still_lasts script start nth over [] olds logs left last)
 
@@ -449,12 +410,10 @@ left_over old new image over is =
 
 pub crashed_readable : (n : ℕ) (before after : YardState) → AreReadable n before → HaveCrashed n before after
     → AreReadable n after
-crashed_readable n before after readable crashed m l =
-    by (before.told m) (after.told m) (crashed m l) (readable m l)
+crashed_readable n before after readable crashed m l = by (before.told m) (after.told m) (crashed m l) (readable m l)
   where
-    by : (o now : Option Told) → IsSomeAnd o (λ old. IsSomeAnd now (IsLeftOver old))
-        → IsSomeAnd o (λ t. AllImages (state_of t) IsReadable)
-        → IsSomeAnd now (λ t. AllImages (state_of t) IsReadable)
+    by : (o now : Option Told) → IsSomeAnd o (λ old. IsSomeAnd now (IsLeftOver old)) → IsSomeAnd o (λ t. AllImages
+        (state_of t) IsReadable) → IsSomeAnd now (λ t. AllImages (state_of t) IsReadable)
     by None now over is = absurd over
     by (Some t) None over is = absurd over
     by (Some t) (Some u) over is = λ image here.
@@ -464,9 +423,8 @@ pub crashed_chosen : (n : ℕ) (before after : YardState) (logs : List LogLists)
     → AreChosen n after logs → AreChosen n before logs
 crashed_chosen n before after logs crashed chosen = record {
   all = chosen.all;
-  each = λ m log at.
-      by (before.told m) (after.told m) log (crashed m (omega (arith, slice_get_within logs m log at, chosen.all)))
-      (chosen.each m log at);
+  each = λ m log at. by (before.told m) (after.told m) log
+      (crashed m (omega (arith, slice_get_within logs m log at, chosen.all))) (chosen.each m log at);
 }
   where
     by : (o now : Option Told) (log : LogLists) → IsSomeAnd o (λ old. IsSomeAnd now (IsLeftOver old))
@@ -505,8 +463,7 @@ crashed_some n before after readable crashed =
     })
 
     by : (o now : Option Told) → IsSomeAnd o (λ old. IsSomeAnd now (IsLeftOver old))
-        → IsSomeAnd o (λ t. AllImages (state_of t) IsReadable)
-        → (log : LogLists) × IsSomeAnd now (MayLeave log)
+        → IsSomeAnd o (λ t. AllImages (state_of t) IsReadable) → (log : LogLists) × IsSomeAnd now (MayLeave log)
     by None now over is = absurd over
     by (Some t) None over is = absurd over
     by (Some t) (Some u) over is =
@@ -518,8 +475,7 @@ crashed_some n before after readable crashed =
 -- the start of the next age begins with what lasts
 pub next_start_has : (script : Script) (part : Part) (mode : Mode) (nth : ℕ) (mid before yard : YardState)
     (age : AgeEnd) (es : List Entry) → HasGroupRanges script → AreLastingOn script es mid
-    → HaveCrashed script.members mid before → IsAgeOf script part mode nth before yard age
-    → IsPrefixOf es age.start
+    → HaveCrashed script.members mid before → IsAgeOf script part mode nth before yard age → IsPrefixOf es age.start
 next_start_has script part mode nth mid before yard age es ranges last crashed is =
     last-kept script es h.olds start.present start (now.lasting h.olds h.chosen)
     (chosen_by (first_group_of script).opening is.contents h.olds start is.starts (few script ranges) h.among)
@@ -543,10 +499,9 @@ next_start_has script part mode nth mid before yard age es ranges last crashed i
 pub fit_pass : (script : Script) (yard : YardState) (contents : List (Option OnLog)) (why : Refusal)
     → HasGroupRanges script → AreFit script yard → AreFound script.members 0 yard contents
     → AreRefusedFor script why contents → why ≡ Refusal.AgesUsedUp
-fit_pass script yard contents why ranges fit found refused =
-    last-pass script [] (lists_with contents) (2 ^ script.members - 1) why ranges (fit.lasting (lists_with contents) chosen)
-    (λ m l. has_ones script.members m ∙ below m (omega (arith, l, chosen.all)))
-    (subst (λ h. IsRefusedFor (first_group_of script).opening h why)
+fit_pass script yard contents why ranges fit found refused = last-pass script [] (lists_with contents)
+    (2 ^ script.members - 1) why ranges (fit.lasting (lists_with contents) chosen) (λ m l. has_ones script.members m
+    ∙ below m (omega (arith, l, chosen.all))) (subst (λ h. IsRefusedFor (first_group_of script).opening h why)
     (handed_whole script.members yard contents found) refused)
   where
     chosen : AreChosen script.members yard (lists_with contents)
@@ -584,9 +539,8 @@ blank_lists n yard logs m log blank chosen at =
     by : (o : Option Told) → IsSomeAnd o (λ t. state_of t ≡ at_rest []) → IsSomeAnd o (MayLeave log)
         → log ≡ as_lists (empty_of true)
     by None is may = absurd is
-    by (Some t) is may =
-        sym may.lists ∙ ap as_lists (content_once may.image may.content (empty_of true) may.stands
-        (stands_empty may.image (empty_image t may.image is may.is)))
+    by (Some t) is may = sym may.lists ∙ ap as_lists (content_once may.image may.content
+        (empty_of true) may.stands (stands_empty may.image (empty_image t may.image is may.is)))
 
 pub blank_fit : (script : Script) (yard : YardState)
     → ((m : ℕ) → m < script.members → IsSomeAnd (yard.told m) (λ t. state_of t ≡ at_rest [])) → AreFit script yard

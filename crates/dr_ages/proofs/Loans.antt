@@ -1,37 +1,25 @@
 -- The disks of a yard that are lent, with one more, and the logs on them.
+use Rattle.std.{specs.Prelude.{IfSome, not, Option, None, Some, is_some}, proofs.lemmas.Bool.{cases_eq, cases_lt}}
 use Rattle.std.proofs.Common.{◌≡◌, ◌≢◌, refl, sym, ap, ◌∙◌, subst, ⊎_elim, inl, inr, ℕ, ◌+◌, ◌<◌, ◌≤◌, le_trans, Bool, false, List, [], ◌∷◌, ◌++◌, length, arith, length-append}
-use Rattle.std.specs.Prelude.{IfSome, not, Option, None, Some, is_some}
-use Rattle.std.proofs.lemmas.Bool.{cases_eq, cases_lt}
-use Rattle.dr_disk.specs.Calls.{Sync}
-use Rattle.dr_disk.specs.Disk.{Told, added, content_of}
-use Rattle.dr_disk.specs.Images.{Goes, IsLeft, ReadsAnImage}
+use Rattle.dr_disk.specs.{Calls.Sync, Disk.{Told, added, content_of}, Images.{Goes, IsLeft, ReadsAnImage}}
 use Rattle.dr_entry.specs.declared.entry.Entry.{Entry}
 use Rattle.dr_history.specs.Members.{has}
 use Rattle.dr_io.specs.Faults.{Rose}
-use Rattle.dr_log.specs.declared.fault.MountWhy.{MountWhy}
+use Rattle.dr_log.specs.{Standing.{KeepsRecords, least_length}, State.LogState, declared.fault.MountWhy.MountWhy}
 use Rattle.dr_log.specs.declared.fault.MountWhy.TheVariants as whys
 use Rattle.dr_log.specs.Appending as mounts
-use Rattle.dr_log.specs.Standing.{KeepsRecords, least_length}
-use Rattle.dr_log.specs.State.{LogState}
-use Rattle.dr_log_bytes.specs.Content.{OnLog}
-use Rattle.dr_log_bytes.specs.Grammar.{IsDamaged, StandFor}
-use Rattle.dr_logged.specs.Served.{HaveSamePlaces, IsSafe}
+use Rattle.dr_log_bytes.specs.{Content.OnLog, Grammar.{IsDamaged, StandFor}}
+use Rattle.dr_served.specs.Served.{HaveSamePlaces, IsSafe}
 use Rattle.dr_opening.specs.Lists.{contents_of, log_of}
-use Rattle.dr_program.proofs.Present.{present_within, place_new}
+use Rattle.dr_opening.proofs.Lists.{was_there, log_of_content, contents_count, contents_there}
+use Rattle.dr_program.proofs.{Present.{present_within, place_new}, Programs.place_past, Received.place_other}
 use Rattle.dr_script.specs.declared.script.Script.{Script}
 use Rattle.dr_yard.specs.Yards.{YardState}
-use Rattle.dr_program.proofs.Received.{place_other}
-use Rattle.dr_program.proofs.Programs.{place_past}
-use Rattle.dr_opening.proofs.Lists.{was_there, log_of_content, contents_count, contents_there}
-use Rattle.dr_ages.specs.declared.part.Part.{Part}
-use Rattle.dr_ages.specs.declared.stop.Stop.{Stop}
-use Rattle.dr_ages.specs.declared.stop.Stop.TheVariants.{OutOfMemory, DiskFault, LogFull, Damaged, Disagree, Foreign, NoQuorum, AgesUsedUp}
-use Rattle.dr_ages.specs.Found.{AreFound, ReadsAs, WasFound}
-use Rattle.dr_ages.specs.Lent.{AreAllBut, AreLent, AreMounted, IsMounted, WasRefused, WereRefused}
-use Rattle.dr_ages.specs.Opened.{AreLater}
-use Rattle.dr_ages.specs.Passing.{AreKeptSince}
+use Rattle.dr_ages.{specs.Found.{AreFound, ReadsAs, WasFound}, proofs.Backs.{AreAllBack, told_at, told_none}}
+use Rattle.dr_ages.specs.{Lent.{AreAllBut, AreLent, AreMounted, IsMounted, WasRefused, WereRefused}, Opened.AreLater}
+use Rattle.dr_ages.specs.{Passing.AreKeptSince, declared.{part.Part.Part, stop.Stop.Stop}}
 use Rattle.dr_ages.specs.Stops.{AreMountedBelow, HasMounted, HasStopped, IsBehindMounts, NamesFaults, ReadsDamaged, in_mount}
-use Rattle.dr_ages.proofs.Backs.{AreAllBack, told_at, told_none}
+use Rattle.dr_ages.specs.declared.stop.Stop.TheVariants.{OutOfMemory, DiskFault, LogFull, Damaged, Disagree, Foreign, NoQuorum, AgesUsedUp}
 
 -- ---- one place more
 
@@ -44,40 +32,31 @@ pub lent_more : {Y D : Type 0} (is_lent : Y → ℕ → Bool) (yard_faults : Y �
     → AreLent is_lent yard_faults faults new (logs ++ place ∷ [])
 lent_more {Y} {D} is_lent yard_faults faults old new logs place m are at small lent counted others = record {
   few = omega (arith, length-append logs (place ∷ []), at, small);
-  lent = λ k l. ⊎_elim
-      (λ (e : k ≡ m). ap (is_lent new) e ∙ (lent ∙ ap (λ (o : Option (LogState D)). is_some o)
-      (sym (place_new logs place k (at ∙ sym e)))))
-      (λ (apart : k ≢ m). (others k apart).0 ∙ (are.lent k l
-      ∙ ap (λ (o : Option (LogState D)). is_some o)
-      (sym (place_other logs place k (λ e. apart (e ∙ at))))))
-      (cases_eq k m);
-  counted = λ k x here. ⊎_elim
-      (λ (e : k ≡ m).
+  lent = λ k l. ⊎_elim (λ (e : k ≡ m). ap (is_lent new) e
+      ∙ (lent ∙ ap (λ (o : Option (LogState D)). is_some o) (sym (place_new logs place k (at ∙ sym e)))))
+      (λ (apart : k ≢ m). (others k apart).0 ∙ (are.lent k l ∙ ap (λ (o : Option (LogState D)). is_some o)
+      (sym (place_other logs place k (λ e. apart (e ∙ at)))))) (cases_eq k m);
+  counted = λ k x here. ⊎_elim (λ (e : k ≡ m).
       let is : place ≡ Some x = sym (place_new logs place k (at ∙ sym e)) ∙ here in
       subst (λ (j : ℕ). yard_faults new j ≤ faults x.disk) (sym e)
       (subst (λ (o : Option (LogState D)). IfSome o (λ (log : LogState D). yard_faults new m ≤ faults log.disk))
-      is counted))
-      (λ (apart : k ≢ m).
+      is counted)) (λ (apart : k ≢ m).
       let there = are.counted k x (sym (place_other logs place k (λ e. apart (e ∙ at))) ∙ here) in
-      omega (arith, there, (others k apart).1))
-      (cases_eq k m);
+      omega (arith, there, (others k apart).1)) (cases_eq k m);
 }
 
 -- and with the last one given back
 pub lent_less : {Y D : Type 0} (is_lent : Y → ℕ → Bool) (yard_faults : Y → ℕ → ℕ) (faults : D → ℕ)
     (old new : Y) (logs rest : List (Option (LogState D))) (place : Option (LogState D))
-    → AreLent is_lent yard_faults faults old logs → logs ≡ rest ++ place ∷ []
-    → is_lent new (length rest) ≡ false
+    → AreLent is_lent yard_faults faults old logs → logs ≡ rest ++ place ∷ [] → is_lent new (length rest) ≡ false
     → ((k : ℕ) → k ≢ length rest → (is_lent new k ≡ is_lent old k) × (yard_faults new k ≡ yard_faults old k))
     → AreLent is_lent yard_faults faults new rest
 lent_less {Y} {D} is_lent yard_faults faults old new logs rest place are parts here others = record {
   few = omega (arith, are.few, long);
-  lent = λ k l. ⊎_elim
-      (λ (e : k ≡ length rest). ap (is_lent new) e ∙ (here ∙ ap (λ (o : Option (LogState D)). is_some o)
-      (sym (place_past rest k (omega (arith, e))))))
-      (λ (apart : k ≢ length rest). (others k apart).0 ∙ (are.lent k l
-      ∙ ap (λ (o : Option (LogState D)). is_some o) (same k apart)))
-      (cases_eq k (length rest));
+  lent = λ k l. ⊎_elim (λ (e : k ≡ length rest). ap (is_lent new) e
+      ∙ (here ∙ ap (λ (o : Option (LogState D)). is_some o) (sym (place_past rest k (omega (arith, e))))))
+      (λ (apart : k ≢ length rest). (others k apart).0
+      ∙ (are.lent k l ∙ ap (λ (o : Option (LogState D)). is_some o) (same k apart))) (cases_eq k (length rest));
   counted = λ k x at.
       let l : k < length rest = present_within rest k x at in
       let apart : k ≢ length rest = λ e. absurd (omega (arith, l, e)) in
@@ -95,13 +74,11 @@ pub mounted_more : {D : Type 0} (tells : D → Option Told) (faults : D → ℕ)
     (logs : List (Option (LogState D))) (place : Option (LogState D)) (k : ℕ) → AreMounted tells faults before logs
     → length logs ≡ k → IfSome place (IsMounted tells faults (before.told k) (before.faults k))
     → AreMounted tells faults before (logs ++ place ∷ [])
-mounted_more {D} tells faults before logs place k are at is m x here = ⊎_elim
-    (λ (e : m ≡ k).
+mounted_more {D} tells faults before logs place k are at is m x here = ⊎_elim (λ (e : m ≡ k).
     let same : place ≡ Some x = sym (place_new logs place m (at ∙ sym e)) ∙ here in
     subst (λ (j : ℕ). IsMounted tells faults (before.told j) (before.faults j) x) (sym e)
     (subst (λ (o : Option (LogState D)). IfSome o (IsMounted tells faults (before.told k) (before.faults k)))
-    same is))
-    (λ (apart : m ≢ k). are m x (sym (place_other logs place m (λ e. apart (e ∙ at))) ∙ here))
+    same is)) (λ (apart : m ≢ k). are m x (sym (place_other logs place m (λ e. apart (e ∙ at))) ∙ here))
     (cases_eq m k)
 
 -- and none but those of the missing is empty
@@ -111,18 +88,15 @@ pub all_but_more : {D : Type 0} (missing : ℕ) (logs : List (Option (LogState D
 all_but_more {D} missing logs place k but at is m l = ⊎_elim
     (λ (e : m ≡ k). ap (λ (o : Option (LogState D)). is_some o) (place_new logs place m (at ∙ sym e))
     ∙ (is ∙ ap (λ (j : ℕ). not (has missing j)) (sym e)))
-    (λ (apart : m ≢ k). ap (λ (o : Option (LogState D)). is_some o)
-    (place_other logs place m (λ e. apart (e ∙ at)))
-    ∙ but m (omega (arith, l, length-append logs (place ∷ []), apart, at)))
-    (cases_eq m k)
+    (λ (apart : m ≢ k). ap (λ (o : Option (LogState D)). is_some o) (place_other logs place m (λ e. apart (e ∙ at)))
+    ∙ but m (omega (arith, l, length-append logs (place ∷ []), apart, at))) (cases_eq m k)
 
 -- a log that was mounted from a disk that was lent
-pub was_mounted : {D : Type 0} (tells : D → Option Told) (faults : D → ℕ) (told : Option Told) (count : ℕ)
-    (disk : D) (log : LogState D) → tells disk ≡ told → IfSome (tells disk) ReadsAnImage
-    → IfSome (tells disk) (λ t. StandFor (content_of t) log.content) → IsSafe tells log
-    → least_length log.content ≤ log.content.length → log.limit ≡ 2147483648 → log.failed ≡ false
-    → Goes (tells disk) (tells log.disk) KeepsRecords → faults log.disk ≡ count
-    → mounts.IsMounted (tells disk) (tells log.disk) → IsMounted tells faults told count log
+pub was_mounted : {D : Type 0} (tells : D → Option Told) (faults : D → ℕ) (told : Option Told) (count : ℕ) (disk : D)
+    (log : LogState D) → tells disk ≡ told → IfSome (tells disk) ReadsAnImage → IfSome (tells disk) (λ t. StandFor
+    (content_of t) log.content) → IsSafe tells log → least_length log.content ≤ log.content.length
+    → log.limit ≡ 2147483648 → log.failed ≡ false → Goes (tells disk) (tells log.disk) KeepsRecords
+    → faults log.disk ≡ count → mounts.IsMounted (tells disk) (tells log.disk) → IsMounted tells faults told count log
 was_mounted {D} tells faults told count disk log same image stands safe least limit whole goes calm calls = record {
   found = both told (subst (λ (o : Option Told). IfSome o ReadsAnImage) same image)
       (subst (λ (o : Option Told). IfSome o (λ t. StandFor (content_of t) log.content)) same stands);
@@ -138,8 +112,7 @@ was_mounted {D} tells faults told count disk log same image stands safe least li
   calls = subst (λ (o : Option Told). mounts.IsMounted o (tells log.disk)) same calls;
 }
   where
-    both : (o : Option Told) → IfSome o ReadsAnImage
-        → IfSome o (λ t. StandFor (content_of t) log.content)
+    both : (o : Option Told) → IfSome o ReadsAnImage → IfSome o (λ t. StandFor (content_of t) log.content)
         → IfSome o (ReadsAs log.content)
     both None i s = tt
     both (Some t) i s = record { image = i; stands = s }
@@ -175,13 +148,10 @@ are_found {D} tells faults missing before logs n are but count = record {
 
 pub was_refused : (member : ℕ) (told now : Option Told) (before after : ℕ) (why : MountWhy) (stop : Stop)
     → (why ≡ whys.OutOfMemory → stop ≡ OutOfMemory) → (why ≡ whys.DiskFault → stop ≡ DiskFault member)
-    → ((at : ℕ) → why ≡ whys.Damaged at → stop ≡ Damaged member at)
-    → (why ≡ whys.DiskFault → Rose before after)
-    → ((at : ℕ) → why ≡ whys.Damaged at → IfSome told ReadsAnImage)
-    → ((at : ℕ) → why ≡ whys.Damaged at → IfSome told (λ t. IsDamaged (content_of t) at))
-    → ((at : ℕ) → why ≡ whys.Damaged at → now ≡ added Sync told)
-    → (why ≢ whys.DiskFault → after ≡ before)
-    → WasRefused member told now before after stop
+    → ((at : ℕ) → why ≡ whys.Damaged at → stop ≡ Damaged member at) → (why ≡ whys.DiskFault → Rose before after)
+    → ((at : ℕ) → why ≡ whys.Damaged at → IfSome told ReadsAnImage) → ((at : ℕ) → why ≡ whys.Damaged at → IfSome told
+    (λ t. IsDamaged (content_of t) at)) → ((at : ℕ) → why ≡ whys.Damaged at → now ≡ added Sync told)
+    → (why ≢ whys.DiskFault → after ≡ before) → WasRefused member told now before after stop
 was_refused member told now before after whys.OutOfMemory stop memory disk bytes rose image damaged kept calm =
     subst (WasRefused member told now before after) (sym (memory refl)) (calm (λ e. absurd (cc (e))))
 was_refused member told now before after whys.DiskFault stop memory disk bytes rose image damaged kept calm =
@@ -206,10 +176,8 @@ were_refused tells faults missing n k before mid after logs OutOfMemory below th
     above is = (
       omega (arith, below, count),
       λ j l. (above j (omega (arith, l, count))).0,
-      λ j l. ⊎_elim
-          (λ (e : j ≡ k). ap after.faults e ∙ (is ∙ same) ∙ ap before.faults (sym e))
-          (λ (apart : j ≢ k). (above j (omega (arith, l, count, apart))).1)
-          (cases_eq j k),
+      λ j l. ⊎_elim (λ (e : j ≡ k). ap after.faults e ∙ (is ∙ same) ∙ ap before.faults (sym e))
+          (λ (apart : j ≢ k). (above j (omega (arith, l, count, apart))).1) (cases_eq j k),
     )
 were_refused tells faults missing n k before mid after logs (DiskFault m) below there are but count told same above
     is = (
@@ -236,10 +204,8 @@ were_refused tells faults missing n k before mid after logs (Damaged m at) below
         contents = contents_of logs;
         found = are_found tells faults missing before logs m are but (count ∙ sym is.0);
       },
-      λ j l. ⊎_elim
-          (λ (e : j ≡ k). ap after.faults e ∙ (is.3 ∙ same) ∙ ap before.faults (sym e))
-          (λ (apart : j ≢ k). (above j (omega (arith, l, count, apart))).1)
-          (cases_eq j k),
+      λ j l. ⊎_elim (λ (e : j ≡ k). ap after.faults e ∙ (is.3 ∙ same) ∙ ap before.faults (sym e))
+          (λ (apart : j ≢ k). (above j (omega (arith, l, count, apart))).1) (cases_eq j k),
     )
 were_refused tells faults missing n k before mid after logs stop below there are but count told same above is =
     absurd is
@@ -250,15 +216,13 @@ pub refused_stop : (script : Script) (part : Part) (k : ℕ) (before mid after :
     → AreKeptSince script.members part.missing k [] before after
     → WereRefused script.members part.missing k before mid stop → HasStopped script part before after stop
 refused_stop script part k before mid after OutOfMemory later back since is = tt
-refused_stop script part k before mid after (DiskFault m) later back since is =
-    record {
-      below = is.1.below;
-      there = is.1.there;
-      rose = le_trans is.1.rose (later m);
-      at = in_mount is.1.contents is.1.found
-          (λ j l. back j (omega (arith, l, is.0)) ∙ (is.1.above j l).0)
-          (subst (λ (n : ℕ). AreKeptSince script.members part.missing n [] before after) (sym is.0) since);
-    }
+refused_stop script part k before mid after (DiskFault m) later back since is = record {
+  below = is.1.below;
+  there = is.1.there;
+  rose = le_trans is.1.rose (later m);
+  at = in_mount is.1.contents is.1.found (λ j l. back j (omega (arith, l, is.0)) ∙ (is.1.above j l).0)
+      (subst (λ (n : ℕ). AreKeptSince script.members part.missing n [] before after) (sym is.0) since);
+}
 refused_stop script part k before mid after (Damaged m at) later back since is = record {
   below = is.1.below;
   there = is.1.there;
@@ -298,8 +262,7 @@ stopped_mounted n missing before after k AgesUsedUp all is = all
 pub mounted_below : {D : Type 0} (tells : D → Option Told) (faults : D → ℕ) (missing : ℕ)
     (before mid after : YardState) (logs : List (Option (LogState D))) → AreMounted tells faults before logs
     → AreAllBut missing logs → AreAllBack tells faults mid after logs
-    → ((m : ℕ) → length logs < m → mid.told m ≡ before.told m)
-    → AreMountedBelow (length logs) missing before after
+    → ((m : ℕ) → length logs < m → mid.told m ≡ before.told m) → AreMountedBelow (length logs) missing before after
 mounted_below {D} tells faults missing before mid after logs mounted but back above = record {
   contents = contents_of logs;
   found = are_found tells faults missing before logs (length logs) mounted but refl;

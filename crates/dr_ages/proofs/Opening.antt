@@ -1,40 +1,26 @@
 -- Logs on which an age was opened, or on which its opening stopped.
+use Rattle.std.{specs.Prelude.{Option, None, Some}, proofs.lemmas.Option.same_Some}
 use Rattle.std.proofs.Common.{◌≡◌, refl, sym, ◌∙◌, subst, inl, inr, ℕ, ◌≤◌, arith, List, [], ◌∷◌, length}
-use Rattle.std.specs.Prelude.{Option, None, Some}
-use Rattle.std.proofs.lemmas.Option.{same_Some}
-use Rattle.dr_age.specs.Logged.{AreOpened, IsOpened}
-use Rattle.dr_disk.specs.Disk.{Told}
-use Rattle.dr_disk.specs.Images.{Goes}
+use Rattle.dr_play.specs.Logged.{AreOpened, IsOpened}
+use Rattle.dr_disk.{specs.{Disk.Told, Images.Goes}, proofs.{DiskCalls.goes_tells, Moments.{goes_so, goes_both}}}
 use Rattle.dr_entry.specs.declared.entry.Entry.{Entry}
-use Rattle.dr_disk.proofs.Moments.{goes_so, goes_both}
-use Rattle.dr_disk.proofs.DiskCalls.{goes_tells}
 use Rattle.dr_history.specs.Members.{has}
-use Rattle.dr_log.specs.Standing.{LosesNone}
-use Rattle.dr_log.specs.State.{LogState}
+use Rattle.dr_log.specs.{Standing.LosesNone, State.LogState}
 use Rattle.dr_log_bytes.specs.Content.{OnLog}
-use Rattle.dr_logged.specs.Served.{HaveSamePlaces}
+use Rattle.dr_served.specs.Served.{HaveSamePlaces}
 use Rattle.dr_machine.specs.Group.{IsPresent}
-use Rattle.dr_opening.specs.declared.age.NotOpened.{NotOpened}
-use Rattle.dr_opening.specs.declared.age.NotOpened.TheVariants.{Unchosen, Unfinished}
-use Rattle.dr_opening.specs.declared.catching_up.CatchFault.{CatchFault}
-use Rattle.dr_opening.specs.declared.opening.OpenFault.{OpenFault}
-use Rattle.dr_opening.specs.Contents.{IsRising, IsVoting, StandSo}
-use Rattle.dr_opening.specs.Lists.{contents_of, log_of}
+use Rattle.dr_opening.specs.{Contents.{IsRising, IsVoting, StandSo}, declared.catching_up.CatchFault.CatchFault}
+use Rattle.dr_opening.specs.{Lists.{contents_of, log_of}, Unopened.IsWhyUnopened}
 use Rattle.dr_opening.specs.Logs.{ComeBelow, GotStart, GotVote, LacksStart, LacksVote, Together, WereNotOpened, WereOpened}
-use Rattle.dr_opening.specs.Tries.{IsChosenOf}
-use Rattle.dr_opening.specs.Unopened.{IsWhyUnopened}
+use Rattle.dr_opening.{specs.{Tries.IsChosenOf, declared.age.NotOpened.NotOpened}, proofs.Trying.{in_set, out_of_set}}
+use Rattle.dr_opening.specs.declared.{age.NotOpened.TheVariants.{Unchosen, Unfinished}, opening.OpenFault.OpenFault}
+use Rattle.dr_opening.proofs.{Contents.{step_voting, step_rising}, Logs.{all_raised, in_stop, opened_places}}
+use Rattle.dr_opening.proofs.{Lists.{stays_there, was_there, content_at_log, content_none}, Ways.open_entries}
 use Rattle.dr_opening.proofs.Losing.{rising_has_all, voting_has_all, voting_loses_none, rising_loses_none}
-use Rattle.dr_opening.proofs.Trying.{in_set, out_of_set}
-use Rattle.dr_opening.proofs.Ways.{open_entries}
 use Rattle.dr_program.proofs.Present.{present_within}
-use Rattle.dr_restart.specs.declared.start.Start.{Start}
-use Rattle.dr_restart.specs.Groups.{first_group_of, group_of}
+use Rattle.dr_restart.specs.{Groups.{first_group_of, group_of}, declared.start.Start.Start}
 use Rattle.dr_script.specs.declared.script.Script.{Script}
-use Rattle.dr_opening.proofs.Lists.{stays_there, was_there, content_at_log, content_none}
-use Rattle.dr_opening.proofs.Contents.{step_voting, step_rising}
-use Rattle.dr_opening.proofs.Logs.{all_raised, in_stop, opened_places}
-use Rattle.dr_ages.specs.Opened.{AreLater, HaveGoneOn, IsLater}
-use Rattle.dr_ages.proofs.Staying.{later_same, of_one_start}
+use Rattle.dr_ages.{specs.Opened.{AreLater, HaveGoneOn, IsLater}, proofs.Staying.{later_same, of_one_start}}
 
 -- ---- one log
 
@@ -57,11 +43,9 @@ voted_later told faults start old new got =
     voting_later told faults start old new (inr (inr got.0.content)) got.0.moments (omega (arith, got.0.well.calm))
 
 unvoted_later : {D : Type 0} (told : D → Option Told) (faults : D → ℕ) (start : Start) (old new : LogState D)
-    (why : CatchFault) → LacksVote told faults start old new why
-    → IsLater told faults (start.entries ∷ []) old new
-unvoted_later told faults start old new why lacks =
-    voting_later told faults start old new (step_voting start old.content new.content lacks.next lacks.step)
-    lacks.moments lacks.later
+    (why : CatchFault) → LacksVote told faults start old new why → IsLater told faults (start.entries ∷ []) old new
+unvoted_later told faults start old new why lacks = voting_later told faults start old new
+    (step_voting start old.content new.content lacks.next lacks.step) lacks.moments lacks.later
 
 -- and one in the second, which got its vote before
 rising_later : {D : Type 0} (told : D → Option Told) (faults : D → ℕ) (start : Start) (old mid new : LogState D)
@@ -75,10 +59,9 @@ rising_later told faults start old mid new got way moments later = record {
   tells = voted.tells
       ∙ goes_tells (told mid.disk) (told new.disk) (λ s. StandSo (IsRising start mid.content)) moments;
   later = omega (arith, voted.later, later);
-  stays = λ first all has left.
-      goes_both (told old.disk) (told mid.disk) (told new.disk) (LosesNone first) (voted.stays first all has left)
-      (goes_so (told mid.disk) (told new.disk) (StandSo (IsRising start mid.content)) (LosesNone first)
-      (λ image so. rising_loses_none start first old.content mid.content image got.0.content has
+  stays = λ first all has left. goes_both (told old.disk) (told mid.disk) (told new.disk) (LosesNone first)
+      (voted.stays first all has left) (goes_so (told mid.disk) (told new.disk) (StandSo (IsRising start mid.content))
+      (LosesNone first) (λ image so. rising_loses_none start first old.content mid.content image got.0.content has
       (of_one_start first.entries start.entries all) so) moments);
 }
   where
@@ -88,15 +71,13 @@ rising_later told faults start old mid new got way moments later = record {
 open_later : {D : Type 0} (told : D → Option Told) (faults : D → ℕ) (start : Start) (old mid new : LogState D)
     → GotVote told faults start old mid → GotStart told faults start mid new
     → IsLater told faults (start.entries ∷ []) old new
-open_later told faults start old mid new got came =
-    rising_later told faults start old mid new got (inr (inr came.content)) came.moments
-    (omega (arith, came.well.calm))
+open_later told faults start old mid new got came = rising_later told faults start old mid new got
+    (inr (inr came.content)) came.moments (omega (arith, came.well.calm))
 
 unopened_later : {D : Type 0} (told : D → Option Told) (faults : D → ℕ) (start : Start) (old mid new : LogState D)
     (why : CatchFault) → GotVote told faults start old mid → LacksStart told faults start mid new why
     → IsLater told faults (start.entries ∷ []) old new
-unopened_later told faults start old mid new why got lacks =
-    rising_later told faults start old mid new got
+unopened_later told faults start old mid new why got lacks = rising_later told faults start old mid new got
     (step_rising start mid.content new.content lacks.next lacks.step) lacks.moments lacks.later
 
 -- ---- the logs of all members
@@ -105,8 +86,7 @@ unopened_later told faults start old mid new why got lacks =
 pub in_come : {D : Type 0} (P : LogState D → LogState D → Type 0) (olds news : List (Option (LogState D)))
     (m : ℕ) (old new : LogState D) → ComeBelow P olds news (length olds) → log_of olds m ≡ Some old
     → log_of news m ≡ Some new → P old new
-in_come {D} P olds news m old new come there here =
-    subst (λ (o : Option (LogState D)). Together P (Some old) o) here
+in_come {D} P olds news m old new come there here = subst (λ (o : Option (LogState D)). Together P (Some old) o) here
     (subst (λ (o : Option (LogState D)). Together P o (log_of news m)) there
     (come.below m (present_within olds m old there)))
 
@@ -151,9 +131,8 @@ unopened_on {D} told faults start olds news fault (inr (mids, voted, stop)) m ol
     in_stop (GotStart told faults start) (λ old new. LacksStart told faults start old new fault.why)
     (IsLater told faults (start.entries ∷ []) old new) mids news fault.member m mid.0 new stop mid.1 here
     (λ l came. open_later told faults start old mid.0 new got came)
-    (λ at lacks. unopened_later told faults start old mid.0 new fault.why got lacks)
-    (λ l same. subst (IsLater told faults (start.entries ∷ []) old) (sym same)
-    (voted_later told faults start old mid.0 got))
+    (λ at lacks. unopened_later told faults start old mid.0 new fault.why got lacks) (λ l same. subst
+    (IsLater told faults (start.entries ∷ []) old) (sym same) (voted_later told faults start old mid.0 got))
 
 -- logs that are as they were have
 pub on_still : {D : Type 0} (told : D → Option Told) (faults : D → ℕ) (starts : List (List Entry))
@@ -178,9 +157,8 @@ gone_on told faults script late olds news (Unfinished fault) is = (
 -- ---- the age begins on them
 
 pub are_opened : {D : Type 0} (told : D → Option Told) (faults : D → ℕ) (script : Script) (start : Start)
-    (olds news : List (Option (LogState D))) → length script.messages ≡ script.members
-    → script.members ≤ 16 → length olds ≡ script.members
-    → IsChosenOf (first_group_of script).opening (contents_of olds) start
+    (olds news : List (Option (LogState D))) → length script.messages ≡ script.members → script.members ≤ 16
+    → length olds ≡ script.members → IsChosenOf (first_group_of script).opening (contents_of olds) start
     → WereOpened told faults start olds news → AreOpened (group_of script start) news
 are_opened {D} told faults script start olds news lists few all chosen opened = record {
   all = places.all ∙ (all ∙ sym lists);
@@ -203,10 +181,7 @@ are_opened {D} told faults script start olds news lists few all chosen opened = 
         (all_raised told faults start olds opened.0 news opened.1.all opened.2) mid.1 here in (
           in_set (first_group_of script).opening (contents_of olds) start m old.0.content chosen small
               (content_at_log olds m old.0 old.1),
-          record {
-            entries = open_entries start mid.0.content new.content got.content;
-            whole = got.well.unfailed;
-          },
+          record { entries = open_entries start mid.0.content new.content got.content; whole = got.well.unfailed },
         )
 
     there : (m : ℕ) → IsPresent (group_of script start) m → (o : Option (LogState D)) → log_of olds m ≡ o

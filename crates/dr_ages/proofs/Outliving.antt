@@ -1,45 +1,23 @@
 -- Runs keep what lasts on their disks, one after the other, whichever logs are missing.
+use Rattle.std.specs.{Option.option_map_or, Prelude.{IfSome, Option, None, Some, slice_get}}
 use Rattle.std.proofs.Common.{◌≡◌, ◌≢◌, ◌⊎◌, refl, sym, ap, ◌∙◌, subst, inl, inr, ℕ, zero, suc, ◌+◌, arith, List, [], ◌∷◌, ◌++◌, map, take}
-use Rattle.std.specs.Prelude.{IfSome, Option, None, Some, slice_get}
-use Rattle.std.specs.Option.{option_map_or}
 use Rattle.std.proofs.lemmas.Option.{none-some, same_Some, slice_get_within}
-use Rattle.dr_entry.specs.declared.end.AgeEnd.{AgeEnd}
-use Rattle.dr_entry.specs.declared.end.MemberEnd.{MemberEnd}
-use Rattle.dr_entry.specs.declared.entry.Entry.{Entry}
+use Rattle.dr_entry.specs.declared.{end.{AgeEnd.AgeEnd, MemberEnd.MemberEnd}, entry.Entry.Entry}
 use Rattle.dr_history.specs.History.{IsPrefixOf}
-use Rattle.dr_history_laws.proofs.Keeping.{prefix_then}
-use Rattle.dr_history_laws.proofs.Lists.{slice_get-some}
-use Rattle.dr_kept.proofs.Chosen.{few, known_age}
-use Rattle.dr_kept.proofs.Following.{IsAccountOf, account_of}
-use Rattle.dr_kept.proofs.Lasting.{hold_behind}
-use Rattle.dr_machine.specs.Group.{Group, IsPresent}
-use Rattle.dr_machine.specs.World.{World}
+use Rattle.dr_history_laws.proofs.{Keeping.prefix_then, Lists.slice_get-some}
+use Rattle.dr_kept.proofs.{Chosen.{few, known_age}, Following.{IsAccountOf, account_of}, Lasting.hold_behind}
+use Rattle.dr_machine.specs.{Group.{Group, IsPresent}, World.World}
 use Rattle.dr_opening.proofs.Trying.{in_set}
-use Rattle.dr_program.specs.Program.{Program, end_at}
-use Rattle.dr_program.specs.Reading.{world}
-use Rattle.dr_quorum_laws.specs.Lasting.{HoldSinceAge}
-use Rattle.dr_quorum_laws.proofs.Lasting.{since-tried}
-use Rattle.dr_quorum_laws.proofs.Lists.{prefix-itself}
-use Rattle.dr_restart.specs.declared.lists.LogLists.{LogLists}
-use Rattle.dr_restart.specs.declared.start.Start.{Start}
-use Rattle.dr_restart.specs.Groups.{first_group_of, group_of}
-use Rattle.dr_script.specs.declared.script.Script.{Script}
-use Rattle.dr_script.specs.Ranges.{HasRanges}
+use Rattle.dr_program.specs.{Program.{Program, end_at}, Reading.world}
+use Rattle.dr_quorum_laws.{specs.Lasting.HoldSinceAge, proofs.{Lasting.since-tried, Lists.prefix-itself}}
+use Rattle.dr_restart.specs.{Groups.{first_group_of, group_of}, declared.{lists.LogLists.LogLists, start.Start.Start}}
+use Rattle.dr_script.specs.{Ranges.HasRanges, declared.script.Script.Script}
 use Rattle.dr_yard.specs.Yards.{AllTell, YardState}
-use Rattle.dr_ages.specs.declared.mode.Mode.{Mode}
-use Rattle.dr_ages.specs.declared.part.Part.{Part}
-use Rattle.dr_ages.specs.declared.stop.Stop.{Stop}
-use Rattle.dr_ages.specs.declared.stop.Stop.TheVariants.{OutOfMemory}
-use Rattle.dr_ages.specs.Ages.{AreAges, start_of}
-use Rattle.dr_ages.specs.Crashed.{HaveCrashed}
-use Rattle.dr_ages.specs.Fit.{AreChosen, AreFit, AreLastingOn}
-use Rattle.dr_ages.specs.Lasting.{HasEndedIn}
-use Rattle.dr_ages.specs.Runs.{HasFinished, IsRunOf}
-use Rattle.dr_ages.specs.Tried.{AreOfTry, AreTried}
-use Rattle.dr_ages.proofs.Chain.{beside}
-use Rattle.dr_ages.proofs.Keeping.{grows, of_choice, there_found}
+use Rattle.dr_ages.{specs.{Ages.{AreAges, start_of}, Lasting.HasEndedIn}, proofs.{Chain.beside, Votes.told_by}}
+use Rattle.dr_ages.specs.{Crashed.HaveCrashed, Tried.{AreOfTry, AreTried}, declared.{part.Part.Part, stop.Stop.Stop}}
+use Rattle.dr_ages.specs.{Fit.{AreChosen, AreFit, AreLastingOn}, Runs.{HasFinished, IsRunOf}, declared.mode.Mode.Mode}
+use Rattle.dr_ages.{specs.declared.stop.Stop.TheVariants.OutOfMemory, proofs.Keeping.{grows, of_choice, there_found}}
 use Rattle.dr_ages.proofs.Lasting.{LastOverFit, ages_durable, ages_lasting, crashed_lasting, had_at, last_over_fit, left_logs, next_start_has, readable_tell, tried_lasting}
-use Rattle.dr_ages.proofs.Votes.{told_by}
 
 -- ---- what the last opening of a run has left
 
@@ -56,9 +34,8 @@ ended_so script part mode before after ages stop tell r other = by stop r.finish
     by (Some s) end tried other = inr (tried (λ same. other (ap Some same)))
 
 -- so what lasted behind the last age lasts
-pub ended_lasting : (script : Script) (part : Part) (last after : YardState) (es : List Entry)
-    → (last ≡ after) ⊎ AreTried script part.missing last after → AreLastingOn script es last
-    → AreLastingOn script es after
+pub ended_lasting : (script : Script) (part : Part) (last after : YardState) (es : List Entry) → (last ≡ after)
+    ⊎ AreTried script part.missing last after → AreLastingOn script es last → AreLastingOn script es after
 ended_lasting script part last after es (inl same) lasts = subst (AreLastingOn script es) same lasts
 ended_lasting script part last after es (inr tried) lasts =
     tried_lasting script part.missing last after es tried lasts
@@ -116,11 +93,10 @@ run_begins script part mode mid before after ages stop es i age ranges lasts cra
 
 -- ---- since its last age
 
-pub run_since : (script : Script) (part : Part) (mode : Mode) (before after : YardState) (earlier : List AgeEnd)
-    (age : AgeEnd) (stop : Option Stop) → HasRanges script → AreFit script before
+pub run_since : (script : Script) (part : Part) (mode : Mode) (before after : YardState)
+    (earlier : List AgeEnd) (age : AgeEnd) (stop : Option Stop) → HasRanges script → AreFit script before
     → IsRunOf script part mode before after (earlier ++ age ∷ []) stop → stop ≢ Some OutOfMemory
-    → (w : World) × HasEndedIn part age w
-    × ((logs : List LogLists) → AreChosen script.members after logs
+    → (w : World) × HasEndedIn part age w × ((logs : List LogLists) → AreChosen script.members after logs
     → HoldSinceAge script (start_of script part age) w logs)
 run_since script part mode before after earlier age stop ranges fit r other = (world g over, accounts, holds)
   where

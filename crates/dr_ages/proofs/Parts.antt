@@ -1,27 +1,18 @@
 -- Which part of a run was played, and for which group.
 use Rattle.std.proofs.Common.{ℕ, ◌+◌, ◌-◌, ◌≤◌, arith, List, [], ◌∷◌, length, All, ap, ◌≡◌, ◌⊎◌, ◌∙◌, inl, inr, ◌^◌, ◌<◌, ◌&&◌, nat_lt, not, sym, true≢false, Some, slice_get}
-use Rattle.std.proofs.lemmas.List.Elements.{All-cons, All-nil}
-use Rattle.std.proofs.lemmas.Bool.{cases_lt, cases_Bool}
-use Rattle.std.proofs.lemmas.Bool.Decides.{nat_tests}
-use Rattle.dr_entry.specs.declared.end.AgeEnd.{AgeEnd}
-use Rattle.dr_entry.specs.declared.limits.TheConstants.{MAX_MEMBERS}
-use Rattle.dr_entry.specs.declared.end.MemberEnd.{MemberEnd}
-use Rattle.dr_history.proofs.Bits.{has_ones}
+use Rattle.std.proofs.lemmas.{Bool.{cases_lt, cases_Bool, Decides.nat_tests}, List.Elements.{All-cons, All-nil}}
+use Rattle.dr_entry.specs.declared.{end.{AgeEnd.AgeEnd, MemberEnd.MemberEnd}, limits.TheConstants.MAX_MEMBERS}
+use Rattle.dr_history.{specs.{Members.has, Soundness.{IsNobodyLate, IsPresentIn}}, proofs.Bits.has_ones}
 use Rattle.dr_history.proofs.Masks.{same_masks}
-use Rattle.dr_history.specs.Members.{has}
-use Rattle.dr_history.specs.Soundness.{IsNobodyLate, IsPresentIn}
-use Rattle.dr_script.specs.declared.script.Script.{Script}
-use Rattle.dr_script.specs.Ranges.{HasRanges}
+use Rattle.dr_script.specs.{Ranges.HasRanges, declared.script.Script.Script}
 use Rattle.dr_yard.specs.Yards.{YardState}
-use Rattle.dr_words.proofs.Masks.{has_mask_of}
-use Rattle.dr_words.specs.Masks.{without}
+use Rattle.dr_words.{specs.Masks.without, proofs.Masks.has_mask_of}
 use Rattle.dr_machine.specs.Group.{IsGroup}
 use Rattle.dr_program.specs.Program.{absent_end}
 use Rattle.dr_restart.specs.Groups.{group_of}
 use Rattle.dr_opening.proofs.Choosing.{chosen_group}
-use Rattle.dr_ages.specs.declared.mode.Mode.{Mode}
 use Rattle.dr_ages.specs.Ages.{AreAges, NamesNobody, opening_of, taking_part, IsAgeOf, start_of}
-use Rattle.dr_ages.specs.declared.part.Part.{Part}
+use Rattle.dr_ages.specs.declared.{mode.Mode.Mode, part.Part.Part}
 
 -- every age has as many members as the script
 pub few_members : (script : Script) (part : Part) (mode : Mode) (nth : ℕ) (before after : YardState) (ages : List AgeEnd)
@@ -42,8 +33,7 @@ later script part mode nth before after (age ∷ ages) (between, is, rest) m =
 -- where nobody of the roster is late nobody is in an age
 pub nobody_late : (script : Script) (part : Part) (age : AgeEnd) → NamesNobody script.members part.late
     → IsNobodyLate (opening_of script part age)
-nobody_late script part age none =
-    same_masks (without there part.late) there
+nobody_late script part age none = same_masks (without there part.late) there
     (λ i. has_mask_of (λ k. has there k && not (has part.late k)) i ∙ by i (cases_lt i script.members))
   where
     there : ℕ
@@ -73,16 +63,12 @@ its_group script part mode nth before after age ranges is =
     chosen_group script is.contents (start_of script part age) ranges.group is.starts
 
 -- what holds of each age of a run holds of all
-pub all_ages : (P : AgeEnd → Type 0) (script : Script) (part : Part) (mode : Mode)
-    → ((nth : ℕ) (before after : YardState) (age : AgeEnd) → IsAgeOf script part mode nth before after age
-    → P age)
-    → (nth : ℕ) (before after : YardState) (ages : List AgeEnd)
-    → AreAges script part mode nth before ages after
-    → All P ages
+pub all_ages : (P : AgeEnd → Type 0) (script : Script) (part : Part) (mode : Mode) → ((nth : ℕ)
+    (before after : YardState) (age : AgeEnd) → IsAgeOf script part mode nth before after age → P age) → (nth : ℕ)
+    (before after : YardState) (ages : List AgeEnd) → AreAges script part mode nth before ages after → All P ages
 all_ages P script part mode each nth before after [] are = All-nil P
-all_ages P script part mode each nth before after (age ∷ ages) (between, is, rest) =
-    All-cons P age ages (each nth before between age is)
-    (all_ages P script part mode each (nth + 1) between after ages rest)
+all_ages P script part mode each nth before after (age ∷ ages) (between, is, rest) = All-cons P age ages
+    (each nth before between age is) (all_ages P script part mode each (nth + 1) between after ages rest)
 
 -- whoever is absent has no history
 pub part_or_none : (script : Script) (part : Part) (mode : Mode) (nth : ℕ) (before after : YardState) (age : AgeEnd)

@@ -1,89 +1,47 @@
 -- An age that was run over logs that were mounted and opened for it.
-use Rattle.std.proofs.Common.{◌≡◌, ◌≢◌, ◌⊎◌, ◌↔◌, refl, sym, ap, ◌∙◌, subst, ℕ, ◌+◌, ◌-◌, ◌^◌, ◌<◌, ◌≤◌, ◌&&◌, nat_lt, not, inl, inr, arith, le_refl, le_trans, Bool, true, false, true≢false, List, [], ◌∷◌, ◌++◌, length, length-append, take, drop, drop_at}
+use Rattle.std.{specs.Option.option_map_or, proofs.Math.Nat.max-le}
 use Rattle.std.specs.Prelude.{IfOk, OnErr, Option, None, Some, Result, Ok, Err, is_some, slice_get, unwrap_or}
-use Rattle.std.specs.Option.{option_map_or}
-use Rattle.std.proofs.Math.Nat.{max-le}
-use Rattle.std.proofs.lemmas.Bool.{cases_Bool}
-use Rattle.std.proofs.lemmas.Bool.Decides.{nat_tests}
-use Rattle.std.proofs.lemmas.Option.{same_Some, slice_get_within}
-use Rattle.dr_disk.specs.Disk.{Told}
-use Rattle.dr_disk.specs.Images.{Goes, IsLeft}
+use Rattle.std.proofs.Common.{◌≡◌, ◌≢◌, ◌⊎◌, ◌↔◌, refl, sym, ap, ◌∙◌, subst, ℕ, ◌+◌, ◌-◌, ◌^◌, ◌<◌, ◌≤◌, ◌&&◌, nat_lt, not, inl, inr, arith, le_refl, le_trans, Bool, true, false, true≢false, List, [], ◌∷◌, ◌++◌, length, length-append, take, drop, drop_at}
+use Rattle.std.proofs.lemmas.{Bool.{cases_Bool, Decides.nat_tests}, Option.{same_Some, slice_get_within}}
+use Rattle.dr_disk.{specs.{Disk.Told, Images.{Goes, IsLeft}}, proofs.{DiskCalls.goes_tells, Images.lasts_goes}}
 use Rattle.dr_disk.proofs.Moments.{Goes-weaken, stays_at}
-use Rattle.dr_entry.specs.declared.end.AgeEnd.{AgeEnd}
-use Rattle.dr_entry.specs.declared.end.End.{End}
-use Rattle.dr_entry.specs.declared.end.MemberEnd.{MemberEnd}
-use Rattle.dr_entry.specs.declared.entry.Entry.{Entry}
-use Rattle.dr_entry.specs.declared.entry.Entry.TheVariants.{View}
-use Rattle.dr_entry.specs.declared.record.Record.{Record}
-use Rattle.dr_entry.proofs.OptionFacts.{some_map}
-use Rattle.dr_history.specs.History.{IsPrefixOf}
-use Rattle.dr_history.specs.Members.{has}
+use Rattle.dr_entry.specs.declared.{end.{AgeEnd.AgeEnd, MemberEnd.MemberEnd}, entry.Entry.{Entry, TheVariants.View}}
+use Rattle.dr_entry.{specs.{declared.end.End.End, declared.record.Record.Record}, proofs.OptionFacts.some_map}
+use Rattle.dr_history.{specs.{History.IsPrefixOf, Members.has}, proofs.{Bits.has_ones, Masks.same_masks}}
 use Rattle.dr_history_laws.proofs.Lists.{slice_get-some}
-use Rattle.dr_io.specs.Faults.{Rose}
-use Rattle.dr_io.proofs.KnownLemmas.{rose_since}
-use Rattle.dr_disk.proofs.DiskCalls.{goes_tells}
-use Rattle.dr_disk.proofs.Images.{lasts_goes}
-use Rattle.dr_history.proofs.Bits.{has_ones}
-use Rattle.dr_history.proofs.Masks.{same_masks}
-use Rattle.dr_log.proofs.Ordinary.{has_through, less_lost}
+use Rattle.dr_io.{specs.Faults.Rose, proofs.KnownLemmas.rose_since}
 use Rattle.dr_log.specs.Standing.{HasAllOf, IsBeforeOrAfter, LosesNone, entries_length, votes_length}
-use Rattle.dr_log.specs.State.{LogState}
-use Rattle.dr_log_bytes.specs.Content.{OnLog, block_length, empty_of}
-use Rattle.dr_log_bytes.specs.Grammar.{StandFor}
-use Rattle.dr_logged.proofs.Serving.{has_base}
-use Rattle.dr_logged.specs.Served.{BrokeOff, HasCome, HaveSamePlaces, IsFull, IsRecordDue, IsSafe, WentSo}
-use Rattle.dr_machine.specs.Group.{AllPresent, IsGroup, IsPresent}
-use Rattle.dr_machine.proofs.Presence.{in_roster}
-use Rattle.dr_opening.specs.CatchingUp.{opened_with}
-use Rattle.dr_opening.specs.Contents.{IsOpenFor, voted_for}
+use Rattle.dr_log.{specs.State.LogState, proofs.Ordinary.{has_through, less_lost}}
+use Rattle.dr_log_bytes.specs.{Content.{OnLog, block_length, empty_of}, Grammar.StandFor}
+use Rattle.dr_served.specs.Served.{BrokeOff, HasCome, HaveSamePlaces, IsFull, IsRecordDue, IsSafe, WentSo}
+use Rattle.dr_served.proofs.{Served.places_both, Serving.has_base}
+use Rattle.dr_machine.{specs.Group.{AllPresent, IsGroup, IsPresent}, proofs.Presence.in_roster}
+use Rattle.dr_opening.specs.{CatchingUp.opened_with, Contents.{IsOpenFor, voted_for}, Tries.{IsChosenOf, content_at}}
 use Rattle.dr_opening.specs.Lists.{SomebodyPrompt, all_as_lists, as_lists, contents_of, log_of}
-use Rattle.dr_opening.specs.Logs.{GotStart, GotVote, WereOpened}
-use Rattle.dr_opening.specs.Tries.{IsChosenOf, content_at}
-use Rattle.dr_opening.proofs.Choosing.{chosen_group}
-use Rattle.dr_opening.proofs.Ways.{open_entries}
-use Rattle.dr_program.proofs.Present.{present_map, present_within}
-use Rattle.dr_program.specs.declared.outcome.LogWhy.{LogWhy}
-use Rattle.dr_program.specs.Presence.{present_at}
-use Rattle.dr_program.specs.Program.{Program, end_of}
-use Rattle.dr_program.specs.Replica.{Replica}
-use Rattle.dr_program.specs.Running.{Running}
+use Rattle.dr_opening.{specs.Logs.{GotStart, GotVote, WereOpened}, proofs.Logs.{opened_places, together_some}}
+use Rattle.dr_opening.proofs.{Choosing.chosen_group, Contents.open_long, Ways.open_entries}
+use Rattle.dr_opening.proofs.Lists.{stays_there, was_there, content_at_log, contents_there, log_of_content}
+use Rattle.dr_program.specs.{Presence.present_at, Program.{Program, end_of}, Replica.Replica, Running.Running}
+use Rattle.dr_program.{specs.declared.outcome.LogWhy.LogWhy, proofs.Present.{present_map, present_within}}
 use Rattle.dr_quorum.specs.Handing.{handed_by}
-use Rattle.dr_restart.specs.Choosing.{handed_of}
+use Rattle.dr_restart.specs.{Choosing.handed_of, Groups.{first_group_of, group_of}, Setups.crashes_of}
 use Rattle.dr_restart.specs.declared.start.Start.{Start}
-use Rattle.dr_restart.specs.Groups.{first_group_of, group_of}
-use Rattle.dr_restart.specs.Setups.{crashes_of}
-use Rattle.dr_script.specs.declared.script.Script.{Script}
-use Rattle.dr_script.specs.Ranges.{HasRanges}
-use Rattle.dr_age.specs.Age.{IsAge, IsAgeOn}
-use Rattle.dr_age.specs.Logged.{AreAmple, AreAsBefore, AreCalm, AreOpened, HaveCome, why_ended}
+use Rattle.dr_script.specs.{Ranges.HasRanges, declared.script.Script.Script}
+use Rattle.dr_play.{specs.Age.{IsAge, IsAgeOn}, proofs.LoggedMembers.ended_by_disk}
+use Rattle.dr_play.specs.Logged.{AreAmple, AreAsBefore, AreCalm, AreOpened, HaveCome, why_ended}
 use Rattle.dr_threads.specs.Logs.{AreLonger}
-use Rattle.dr_words.specs.Masks.{without}
+use Rattle.dr_words.{specs.Masks.without, proofs.Masks.has_mask_of}
 use Rattle.dr_world_laws.proofs.Finishing.{banks-small}
-use Rattle.dr_words.proofs.Masks.{has_mask_of}
 use Rattle.dr_yard.specs.Yards.{YardState}
 use Rattle.dr_program_laws.proofs.Endings.{not_away}
-use Rattle.dr_age.proofs.LoggedMembers.{ended_by_disk}
-use Rattle.dr_opening.proofs.Lists.{stays_there, was_there, content_at_log, contents_there, log_of_content}
-use Rattle.dr_opening.proofs.Logs.{opened_places, together_some}
-use Rattle.dr_opening.proofs.Contents.{open_long}
-use Rattle.dr_ages.specs.declared.mode.Mode.{Mode}
-use Rattle.dr_ages.specs.declared.mode.Mode.TheVariants.{Sim}
-use Rattle.dr_ages.specs.declared.part.Part.{Part}
 use Rattle.dr_ages.specs.Ages.{HaveSomebodyPrompt, IsAgeFrom, IsAgeOf, IsPlayed, NamesNobody, start_of, taking_part}
-use Rattle.dr_ages.specs.Found.{AreFew}
-use Rattle.dr_ages.specs.Left.{HasLeft, IsFullAt, with_logged}
-use Rattle.dr_ages.specs.Lent.{AreAllBut, AreMounted, IsMounted, with_logs}
-use Rattle.dr_ages.specs.Opened.{AreLater, IsLater}
-use Rattle.dr_ages.specs.Passing.{AreKeptSince}
-use Rattle.dr_ages.proofs.Completing.{complete_in}
+use Rattle.dr_ages.specs.{Found.AreFew, Left.{HasLeft, IsFullAt, with_logged}}
+use Rattle.dr_ages.specs.{Lent.{AreAllBut, AreMounted, IsMounted, with_logs}, Opened.{AreLater, IsLater}}
+use Rattle.dr_ages.specs.{Passing.AreKeptSince, declared.{mode.Mode.{Mode, TheVariants.Sim}, part.Part.Part}}
 use Rattle.dr_ages.proofs.Backs.{faults_at, kept_back, log_at, not_missing, passed_with, told_at, untouched_with}
-use Rattle.dr_logged.proofs.Served.{places_both}
-use Rattle.dr_ages.proofs.Loans.{are_found}
-use Rattle.dr_ages.proofs.Opening.{are_opened, opened_on}
-use Rattle.dr_ages.proofs.Short.{found_short, opened_short}
-use Rattle.dr_ages.proofs.Staying.{alike_same, later_by_all, later_then, on_same}
-use Rattle.dr_ages.proofs.Stopping.{IsOpeningOn}
-use Rattle.dr_ages.proofs.Votes.{EndsSo, few_cast, member_over, over_form, told_by}
+use Rattle.dr_ages.proofs.{Completing.complete_in, Loans.are_found, Opening.{are_opened, opened_on}}
+use Rattle.dr_ages.proofs.{Short.{found_short, opened_short}, Staying.{alike_same, later_by_all, later_then, on_same}}
+use Rattle.dr_ages.proofs.{Stopping.IsOpeningOn, Votes.{EndsSo, few_cast, member_over, over_form, told_by}}
 use Rattle.dr_entry.specs.declared.end.End.TheVariants as ends
 use Rattle.dr_program.specs.declared.outcome.LogWhy.TheVariants as logs
 
@@ -100,9 +58,8 @@ come_on told faults base log r why come = record {
 }
 
 later_by_come : {D : Type 0} (told : D → Option Told) (faults : D → ℕ) (olds news : List (Option (LogState D)))
-    (members : List (Option Running))
-    → ((m : ℕ) (old : LogState D) → log_of olds m ≡ Some old → (r : Running) × (present_at members m ≡ Some r))
-    → HaveCome told faults olds news members → AreLater told faults [] olds news
+    (members : List (Option Running)) → ((m : ℕ) (old : LogState D) → log_of olds m ≡ Some old → (r : Running)
+    × (present_at members m ≡ Some r)) → HaveCome told faults olds news members → AreLater told faults [] olds news
 later_by_come told faults olds news members all come m old new there here =
     let r = all m old there in
     come_on told faults old new r.0.replica (why_ended (end_of r.0).end) (come m old new r.0 there here r.1)
@@ -120,8 +77,7 @@ later_by_calm told faults olds news kept calm m old new there here =
           (sym still.0) (stays_at (told old.disk) (λ s. LosesNone first) left);
     }
 
-pub later_by_longer : {D : Type 0} (told : D → Option Told) (faults : D → ℕ)
-    (olds news : List (Option (LogState D)))
+pub later_by_longer : {D : Type 0} (told : D → Option Told) (faults : D → ℕ) (olds news : List (Option (LogState D)))
     → AreLonger told faults olds news → AreLater told faults [] olds news
 later_by_longer told faults olds news longer m old new there here =
     let is = longer.each m old new there here in
@@ -132,22 +88,18 @@ later_by_longer told faults olds news longer m old new there here =
       stays = λ first all part left. stays first part left is.moments;
     }
   where
-    tells : (told new.disk ≡ told old.disk)
-        ⊎ Goes (told old.disk) (told new.disk) (λ s. LosesNone old.content)
+    tells : (told new.disk ≡ told old.disk) ⊎ Goes (told old.disk) (told new.disk) (λ s. LosesNone old.content)
         → is_some (told old.disk) ≡ is_some (told new.disk)
     tells (inl same) = ap (λ o. is_some o) (sym same)
     tells (inr goes) = goes_tells (told old.disk) (told new.disk) (λ s. LosesNone old.content) goes
 
     stays : (first : OnLog) → HasAllOf first old.content → IsLeft (told old.disk) (LosesNone first)
-        → (told new.disk ≡ told old.disk)
-        ⊎ Goes (told old.disk) (told new.disk) (λ s. LosesNone old.content)
+        → (told new.disk ≡ told old.disk) ⊎ Goes (told old.disk) (told new.disk) (λ s. LosesNone old.content)
         → Goes (told old.disk) (told new.disk) (λ s. LosesNone first)
-    stays first part left (inl same) =
-        subst (λ (o : Option Told). Goes (told old.disk) o (λ s. LosesNone first)) (sym same)
-        (stays_at (told old.disk) (λ s. LosesNone first) left)
-    stays first part left (inr goes) =
-        Goes-weaken (told old.disk) (told new.disk) (λ s. LosesNone old.content) (λ s. LosesNone first)
-        (λ s image. less_lost first old.content image part) goes
+    stays first part left (inl same) = subst (λ (o : Option Told). Goes (told old.disk) o (λ s. LosesNone first))
+        (sym same) (stays_at (told old.disk) (λ s. LosesNone first) left)
+    stays first part left (inr goes) = Goes-weaken (told old.disk) (told new.disk)
+        (λ s. LosesNone old.content) (λ s. LosesNone first) (λ s image. less_lost first old.content image part) goes
 
 -- whoever is there stands in its program
 stands_over : (mode : Mode) (script : Script) (start : Start) (nth : ℕ) (age : AgeEnd) → HasRanges script
@@ -167,13 +119,12 @@ later_by_run told faults script start nth age mode olds news ranges group opened
     is.logged
 
 -- an age that ran, or that had no memory to begin
-pub later_by_result : {D E : Type 0} (tells : D → Option Told) (faults : D → ℕ) (script : Script) (start : Start)
-    (nth : ℕ) (mode : Mode) (olds news : List (Option (LogState D)))
-    (result : Result AgeEnd E) → HasRanges script → IsGroup (group_of script start)
-    → AreOpened (group_of script start) olds
+pub later_by_result : {D E : Type 0} (tells : D → Option Told) (faults : D → ℕ) (script : Script)
+    (start : Start) (nth : ℕ) (mode : Mode) (olds news : List (Option (LogState D))) (result : Result AgeEnd E)
+    → HasRanges script → IsGroup (group_of script start) → AreOpened (group_of script start) olds
     → IfOk result (IsAgeOn (IsPlayed mode) tells faults script start nth olds news)
-    → OnErr result (AreAsBefore olds news) → OnErr result (AreCalm tells faults olds news)
-    → AreLater tells faults [] olds news
+    → OnErr result (AreAsBefore olds news)
+    → OnErr result (AreCalm tells faults olds news) → AreLater tells faults [] olds news
 later_by_result tells faults script start nth mode olds news (Ok age) ranges group opened is kept calm =
     later_by_run tells faults script start nth age mode olds news ranges group opened is
 later_by_result tells faults script start nth mode olds news (Err error) ranges group opened is kept calm =
@@ -188,9 +139,8 @@ still_by_result tells faults mode olds news (Ok age) kept calm = tt
 still_by_result tells faults mode olds news (Err error) kept calm = λ simulated. (kept, calm)
 
 pub later_on : {D : Type 0} (tells : D → Option Told) (faults : D → ℕ) (starts : List (List Entry))
-    (olds mids news : List (Option (LogState D)))
-    → HaveSamePlaces olds mids → AreLater tells faults starts olds mids → AreLater tells faults starts mids news
-    → AreLater tells faults starts olds news
+    (olds mids news : List (Option (LogState D))) → HaveSamePlaces olds mids → AreLater tells faults starts olds mids
+    → AreLater tells faults starts mids news → AreLater tells faults starts olds news
 later_on tells faults starts olds mids news places first next m old new there here =
     let mid = stays_there olds mids m old places there in
     later_then tells faults starts old mid.0 new (first m old mid.0 there mid.1) (next m mid.0 new mid.1 here)
@@ -241,11 +191,9 @@ content_of_come {D} tells faults base new r why come = λ i. record {
 handed_are : (script : Script) (missing : ℕ) (contents : List (Option OnLog))
     → length script.messages ≡ script.members
     → ((m : ℕ) → m < script.members → is_some (content_at contents m) ≡ not (has missing m))
-    → handed_of (handed_by (all_as_lists contents)) (2 ^ length script.messages - 1)
-    ≡ taking_part script missing
-handed_are script missing contents lists there =
-    same_masks (handed_of (handed_by (all_as_lists contents)) (2 ^ length script.messages - 1))
-    (taking_part script missing)
+    → handed_of (handed_by (all_as_lists contents)) (2 ^ length script.messages - 1) ≡ taking_part script missing
+handed_are script missing contents lists there = same_masks (handed_of (handed_by (all_as_lists contents))
+    (2 ^ length script.messages - 1)) (taking_part script missing)
     (λ i. has_mask_of (λ m. has (2 ^ length script.messages - 1) m && is_some (handed_by (all_as_lists contents) m)) i
     ∙ ap (λ b. nat_lt i 16 && b) (each i)
     ∙ sym (has_mask_of (λ m. has (2 ^ script.members - 1) m && not (has missing m)) i))
@@ -264,35 +212,31 @@ handed_are script missing contents lists there =
             let below : i < script.members = grind (arith, nat_tests, sym (has_ones script.members i) ∙ e) in
             ap (λ b. b && is_some (handed_by (all_as_lists contents) i)) (full i ∙ e)
             ∙ ap (λ o. is_some o) (present_map as_lists contents i)
-            ∙ some_map as_lists (content_at contents i) ∙ there i below
-            ∙ sym (ap (λ b. b && not (has missing i)) e)
+            ∙ some_map as_lists (content_at contents i) ∙ there i below ∙ sym (ap (λ b. b && not (has missing i)) e)
         by false e = ap (λ b. b && is_some (handed_by (all_as_lists contents) i)) (full i ∙ e)
             ∙ sym (ap (λ b. b && not (has missing i)) e)
 
 -- who takes part is of the roster, and not missing
-takes_part : (script : Script) (missing m : ℕ) → has (taking_part script missing) m ≡ true
-    → has missing m ≡ false
+takes_part : (script : Script) (missing m : ℕ) → has (taking_part script missing) m ≡ true → has missing m ≡ false
 takes_part script missing m here =
     grind (arith, has_mask_of (λ k. has (2 ^ script.members - 1) k && not (has missing k)) m, here)
 
 part_of : (script : Script) (missing m : ℕ) → script.members ≤ 16 → m < script.members
     → has missing m ≡ false → has (taking_part script missing) m ≡ true
-part_of script missing m few below there =
-    grind (
-      arith,
-      nat_tests,
-      has_mask_of (λ k. has (2 ^ script.members - 1) k && not (has missing k)) m,
-      has_ones script.members m,
-      below,
-      few,
-      there,
-    )
+part_of script missing m few below there = grind (
+  arith,
+  nat_tests,
+  has_mask_of (λ k. has (2 ^ script.members - 1) k && not (has missing k)) m,
+  has_ones script.members m,
+  below,
+  few,
+  there,
+)
 
 -- where none is missing all do
 pub all_take_part : (script : Script) (missing : ℕ) → script.members ≤ 16 → NamesNobody script.members missing
     → taking_part script missing ≡ 2 ^ script.members - 1
-all_take_part script missing few none =
-    same_masks (taking_part script missing) (2 ^ script.members - 1)
+all_take_part script missing few none = same_masks (taking_part script missing) (2 ^ script.members - 1)
     (λ i. by i (has (2 ^ script.members - 1) i) refl)
   where
     by : (i : ℕ) (b : Bool) → has (2 ^ script.members - 1) i ≡ b
@@ -300,9 +244,7 @@ all_take_part script missing few none =
     by i true e =
         let below : i < script.members = grind (arith, nat_tests, sym (has_ones script.members i) ∙ e) in
         part_of script missing i few below (none i below) ∙ sym e
-    by i false e =
-        has_mask_of (λ k. has (2 ^ script.members - 1) k && not (has missing k)) i
-        ∙ grind (arith, e)
+    by i false e = has_mask_of (λ k. has (2 ^ script.members - 1) k && not (has missing k)) i ∙ grind (arith, e)
 
 -- of the logs that are there that of somebody who isn't late is one
 pub somebody_prompt : {D : Type 0} (script : Script) (part : Part) (logs : List (Option (LogState D))) (m : ℕ)
@@ -311,8 +253,7 @@ pub somebody_prompt : {D : Type 0} (script : Script) (part : Part) (logs : List 
 somebody_prompt script part logs m log all but some at =
     let l = present_within logs m log at in
     let k = some m (omega (arith, l, all)) (not_missing part.missing logs m log but at) in
-    let other = log_at part.missing logs k.0 but (omega (arith, k.1, all)) k.2 in
-    (k.0, other.0, other.1, k.3)
+    let other = log_at part.missing logs k.0 but (omega (arith, k.1, all)) k.2 in (k.0, other.0, other.1, k.3)
 
 -- ---- the age
 
@@ -415,8 +356,7 @@ content_here {D} logs m log there =
 pub is_age : {D : Type 0} (tells : D → Option Told) (faults : D → ℕ) (script : Script) (part : Part) (mode : Mode)
     (nth : ℕ) (before : YardState) (start : Start) (olds mids news : List (Option (LogState D))) (age : AgeEnd)
     → HasRanges script → IsOpeningOn tells faults script part before start olds
-    → WereOpened tells faults start olds mids
-    → IsAgeOn (IsPlayed mode) tells faults script start nth mids news age
+    → WereOpened tells faults start olds mids → IsAgeOn (IsPlayed mode) tells faults script start nth mids news age
     → IsAgeOf script part mode nth before (with_logs tells faults before news) age
 is_age {D} tells faults script part mode nth before start olds mids news age ranges on were is =
     subst (λ (s : Start). IsAgeFrom s script part mode nth before (with_logs tells faults before news) age) same
@@ -474,9 +414,8 @@ is_age {D} tells faults script part mode nth before start olds mids news age ran
     -- the logs are later behind it
     later : AreLater tells faults (start.entries ∷ []) olds news
     later = later_on tells faults (start.entries ∷ []) olds mids news began
-        (opened_on tells faults start olds mids were)
-        (λ m old new from to. later_by_all tells faults (start.entries ∷ []) old new
-        (later_by_run tells faults script start nth age mode mids news ranges group
+        (opened_on tells faults start olds mids were) (λ m old new from to. later_by_all tells faults
+        (start.entries ∷ []) old new (later_by_run tells faults script start nth age mode mids news ranges group
         (are_opened tells faults script start olds mids ranges.group.lists ranges.group.most_members on.all on.chosen
         were) is m old new from to))
 
@@ -489,10 +428,9 @@ is_age {D} tells faults script part mode nth before start olds mids news age ran
     begins m c at =
         let old = log_of_content olds m c at in
         let x = open_log tells faults start before olds mids m old.0 on.mounted were old.1 in
-        subst (λ b. IsOpenFor start (voted_for start b) (content_on mids m))
-        (ap (λ (l : LogState D). l.content) (same_Some x.old old.0 (sym x.from ∙ old.1)) ∙ old.2)
-        (subst (IsOpenFor start (voted_for start x.old.content)) (sym (content_here mids m x.mid x.by))
-        (is_open tells faults start before olds mids m x))
+        subst (λ b. IsOpenFor start (voted_for start b) (content_on mids m)) (ap (λ (l : LogState D). l.content)
+        (same_Some x.old old.0 (sym x.from ∙ old.1)) ∙ old.2) (subst (IsOpenFor start (voted_for start x.old.content))
+        (sym (content_here mids m x.mid x.by)) (is_open tells faults start before olds mids m x))
 
     one : (m : ℕ) (r : Running) → present_at over.members m ≡ Some r
         → IsOf tells faults start before olds mids news m r
@@ -541,8 +479,7 @@ is_age {D} tells faults script part mode nth before start olds mids news age ran
           x.come.more.0,
           ap (λ (l : List Entry). l ++ x.come.more.0)
               (sym (open_entries start (voted_for start y.old.content) y.mid.content
-              (is_open tells faults start before olds mids m y)))
-              ∙ (sym x.come.more.1 ∙ x.come.entries),
+              (is_open tells faults start before olds mids m y))) ∙ (sym x.come.more.1 ∙ x.come.entries),
         )
 
     -- ---- what is on a log then
@@ -573,8 +510,7 @@ is_age {D} tells faults script part mode nth before start olds mids news age ran
         let x = one m r at in
         let y = x.open_one in
         subst (λ (c : OnLog). c.length ≤ 2147483648) (content m r at)
-        (le_trans x.come.within (max-le
-        (omega (arith, x.come.limit, limit m y))
+        (le_trans x.come.within (max-le (omega (arith, x.come.limit, limit m y))
         (omega (arith, y.begun.within, y.vote.0.limit, y.mounted.limit))))
 
     full : (m : ℕ) (r : Running) → present_at over.members m ≡ Some r → (len : ℕ)
@@ -588,14 +524,12 @@ is_age {D} tells faults script part mode nth before start olds mids news age ran
           long = went.2.long ∙ ap (λ (c : OnLog). c.length) (content m r at);
           next = went.0;
           due = went.1;
-          over = subst (λ (n : ℕ). n < len + block_length went.0)
-              (x.come.limit ∙ limit m x.open_one) went.2.over;
+          over = subst (λ (n : ℕ). n < len + block_length went.0) (x.come.limit ∙ limit m x.open_one) went.2.over;
         }
 
     -- ---- faults of disks
 
-    counted : (m : ℕ) (y : IsOpenLog tells faults start before olds mids m)
-        → faults y.mid.disk ≡ before.faults m
+    counted : (m : ℕ) (y : IsOpenLog tells faults start before olds mids m) → faults y.mid.disk ≡ before.faults m
     counted m y = y.begun.well.calm ∙ y.vote.0.well.calm ∙ y.mounted.calm
 
     failed : (m : ℕ) (e : MemberEnd) → slice_get age.members m ≡ Some e → e.end ≡ ends.DiskFault

@@ -1,17 +1,14 @@
 -- What disks that tell read as: there is one content for each.
+use Rattle.std.{specs.Prelude.{IfSome, IsSomeAnd, IsTrue, is_some}, proofs.lemmas.List.ext_get_or}
 use Rattle.std.proofs.Common.{◌≡◌, refl, sym, ap, ◌∙◌, ℕ, arith, true, false, not, List, Option, None, Some}
-use Rattle.std.specs.Prelude.{IfSome, IsSomeAnd, IsTrue, is_some}
-use Rattle.std.proofs.lemmas.List.{ext_get_or}
 use Rattle.dr_entry.proofs.ListPlaces.{within_places}
 use Rattle.dr_disk.specs.Disk.{Told, content_of}
 use Rattle.dr_history.specs.Members.{has}
-use Rattle.dr_log_bytes.specs.Content.{OnLog}
-use Rattle.dr_log_bytes.specs.Grammar.{StandFor}
+use Rattle.dr_log_bytes.specs.{Content.OnLog, Grammar.StandFor}
 use Rattle.dr_log.proofs.Standing.{one_read}
 use Rattle.dr_opening.specs.Tries.{content_at}
 use Rattle.dr_yard.specs.Yards.{AllTell, YardState}
-use Rattle.dr_ages.specs.Found.{AreFound, ReadsAs}
-use Rattle.dr_ages.specs.Refused.{AreRead}
+use Rattle.dr_ages.specs.{Found.{AreFound, ReadsAs}, Refused.AreRead}
 
 -- what is found is what is read
 pub found_read : (n missing : ℕ) (yard : YardState) (contents : List (Option OnLog)) → AllTell n yard
@@ -30,9 +27,8 @@ found_read n missing yard contents tell found = record {
 
 pub read_once : (n missing : ℕ) (yard : YardState) (xs ys : List (Option OnLog)) → AreRead n missing yard xs
     → AreRead n missing yard ys → xs ≡ ys
-read_once n missing yard xs ys a b = ext_get_or None xs ys (a.all ∙ sym b.all) (λ i l.
-    by i (content_at xs i) (content_at ys i) refl refl (a.there i (omega (arith, l, a.all)))
-    (b.there i (omega (arith, l, a.all))))
+read_once n missing yard xs ys a b = ext_get_or None xs ys (a.all ∙ sym b.all) (λ i l. by i (content_at xs i)
+    (content_at ys i) refl refl (a.there i (omega (arith, l, a.all))) (b.there i (omega (arith, l, a.all))))
   where
     by : (i : ℕ) (o p : Option OnLog) → content_at xs i ≡ o → content_at ys i ≡ p
         → is_some (content_at xs i) ≡ not (has missing i) → is_some (content_at ys i) ≡ not (has missing i)

@@ -1,37 +1,24 @@
 -- For what the logs of a run are refused.
-use Rattle.std.proofs.Common.{◌≡◌, ◌≢◌, ◌⊎◌, refl, sym, ap, ◌∙◌, subst, inl, inr, ℕ, ◌<◌, arith, not, List, [], ◌∷◌, ◌++◌, length}
 use Rattle.std.specs.Prelude.{IfSome, IsSomeAnd, IsTrue, Option, None, Some, is_some}
+use Rattle.std.proofs.Common.{◌≡◌, ◌≢◌, ◌⊎◌, refl, sym, ap, ◌∙◌, subst, inl, inr, ℕ, ◌<◌, arith, not, List, [], ◌∷◌, ◌++◌, length}
 use Rattle.dr_disk.specs.Disk.{Told, content_of}
-use Rattle.dr_entry.specs.declared.end.AgeEnd.{AgeEnd}
-use Rattle.dr_entry.specs.declared.entry.Entry.{Entry}
-use Rattle.dr_kept.proofs.Chosen.{some_there}
-use Rattle.dr_kept.proofs.Returning.{refused_behind}
-use Rattle.dr_log_bytes.specs.Content.{OnLog}
-use Rattle.dr_log_bytes.specs.Grammar.{IsDamaged}
-use Rattle.dr_opening.specs.Lists.{all_as_lists}
-use Rattle.dr_opening.specs.Tries.{IsChosenOf, content_at}
+use Rattle.dr_entry.specs.declared.{end.AgeEnd.AgeEnd, entry.Entry.Entry}
+use Rattle.dr_kept.proofs.{Chosen.some_there, Returning.refused_behind}
+use Rattle.dr_log_bytes.specs.{Content.OnLog, Grammar.IsDamaged}
+use Rattle.dr_opening.specs.{Lists.all_as_lists, Tries.{IsChosenOf, content_at}}
 use Rattle.dr_quorum.specs.Handing.{handed_by}
 use Rattle.dr_quorum_laws.proofs.Refusals.{no-refusal, one-refusal}
-use Rattle.dr_restart.specs.declared.start.Start.{Start}
-use Rattle.dr_restart.specs.Groups.{first_group_of}
-use Rattle.dr_restart.specs.Refusing.{Refusal}
-use Rattle.dr_script.specs.declared.script.Script.{Script}
-use Rattle.dr_script.specs.Ranges.{HasRanges}
+use Rattle.dr_restart.specs.{Groups.first_group_of, Refusing.Refusal, declared.start.Start.Start}
+use Rattle.dr_script.specs.{Ranges.HasRanges, declared.script.Script.Script}
 use Rattle.dr_log.proofs.Standing.{readable, one_place}
-use Rattle.dr_yard.specs.Yards.{AllTell, YardState}
-use Rattle.dr_yard.proofs.YardStates.{fewer_tell}
-use Rattle.dr_ages.specs.declared.mode.Mode.{Mode}
-use Rattle.dr_ages.specs.declared.part.Part.{Part}
-use Rattle.dr_ages.specs.declared.stop.Stop.{Stop}
-use Rattle.dr_ages.specs.declared.stop.Stop.TheVariants.{OutOfMemory, DiskFault, LogFull, Damaged, Disagree, Foreign, NoQuorum, AgesUsedUp}
-use Rattle.dr_ages.specs.Ages.{AreAges, start_of}
-use Rattle.dr_ages.specs.Found.{AreFound}
-use Rattle.dr_ages.specs.Refused.{AreRead, AreReadSo, IsFirstDamaged, IsRefusal}
-use Rattle.dr_ages.specs.Runs.{HasFinished, IsRightlyRefused, IsStoppedBy}
+use Rattle.dr_yard.{specs.Yards.{AllTell, YardState}, proofs.YardStates.fewer_tell}
+use Rattle.dr_ages.specs.{Ages.{AreAges, start_of}, Found.AreFound}
+use Rattle.dr_ages.specs.{Refused.{AreRead, AreReadSo, IsFirstDamaged, IsRefusal}, declared.mode.Mode.Mode}
+use Rattle.dr_ages.{specs.Runs.{HasFinished, IsRightlyRefused, IsStoppedBy}, proofs.Reading.{found_read, read_once}}
 use Rattle.dr_ages.specs.Stops.{AreRefusedFor, HasStopped, IsBadLogs, IsOfLogs, IsOutside, ReadsDamaged}
-use Rattle.dr_ages.proofs.Chain.{ends_with, tell_behind}
+use Rattle.dr_ages.{specs.declared.{part.Part.Part, stop.Stop.Stop}, proofs.Chain.{ends_with, tell_behind}}
+use Rattle.dr_ages.specs.declared.stop.Stop.TheVariants.{OutOfMemory, DiskFault, LogFull, Damaged, Disagree, Foreign, NoQuorum, AgesUsedUp}
 use Rattle.dr_ages.proofs.Keeping.{IsBehind, age_next, behind, left_from, of_choice, over_behind}
-use Rattle.dr_ages.proofs.Reading.{found_read, read_once}
 
 -- ---- what was found is refused as it reads
 
@@ -39,8 +26,7 @@ use Rattle.dr_ages.proofs.Reading.{found_read, read_once}
 found_so : (script : Script) (missing : ℕ) (before : YardState) (why : Refusal) → AllTell script.members before
     → (is : (contents : List (Option OnLog)) × AreFound script.members missing before contents
     × AreRefusedFor script why contents) → AreReadSo script missing before (AreRefusedFor script why)
-found_so script missing before why tell is =
-    (is.0, found_read script.members missing before is.0 tell is.1, is.2)
+found_so script missing before why tell is = (is.0, found_read script.members missing before is.0 tell is.1, is.2)
 
 pub stop_refusal : (script : Script) (part : Part) (before after : YardState) (s : Stop)
     → AllTell script.members before → HasStopped script part before after s → IsOfLogs s
@@ -140,8 +126,7 @@ one_reason script missing yard xs ys why other a b is has =
 
 pub one_refusal : (script : Script) (missing : ℕ) (yard : YardState) (s t : Stop) → IsRefusal script missing yard s
     → IsRefusal script missing yard t → t ≡ s
-one_refusal script missing yard s t a b =
-    by (sorted script missing yard s a) (sorted script missing yard t b)
+one_refusal script missing yard s t a b = by (sorted script missing yard s a) (sorted script missing yard t b)
   where
     by : ForBytes script missing yard s ⊎ ForLists script missing yard s
         → ForBytes script missing yard t ⊎ ForLists script missing yard t → t ≡ s
@@ -165,10 +150,9 @@ started script missing yard s contents start is read starts = by (sorted script 
     by : ForBytes script missing yard s ⊎ ForLists script missing yard s → ⊥
     by (inl x) = read_undamaged script.members script.members missing yard contents x.member x.at read x.first.below
         x.first
-    by (inr x) = no-refusal (first_group_of script).opening (handed_by (all_as_lists contents)) start x.why
-        starts.chosen
-        (subst (AreRefusedFor script x.why) (read_once script.members missing yard x.contents contents x.read read)
-        x.refused)
+    by (inr x) = no-refusal (first_group_of script).opening
+        (handed_by (all_as_lists contents)) start x.why starts.chosen (subst (AreRefusedFor script x.why)
+        (read_once script.members missing yard x.contents contents x.read read) x.refused)
 
 -- ---- a run
 
@@ -180,18 +164,14 @@ first_stop script part before after s (DiskFault m) tell due is = inr tt
 first_stop script part before after s (LogFull m len) tell due is =
     absurd (started script part.missing before s is.contents is.start due
     (found_read script.members part.missing before is.contents tell is.found) is.chosen)
-first_stop script part before after s (Damaged m at) tell due is =
-    inl (one_refusal script part.missing before s (Damaged m at) due
-    (stop_refusal script part before after (Damaged m at) tell is tt))
-first_stop script part before after s (Disagree a b p) tell due is =
-    inl (one_refusal script part.missing before s (Disagree a b p) due
-    (stop_refusal script part before after (Disagree a b p) tell is tt))
-first_stop script part before after s (Foreign m p) tell due is =
-    inl (one_refusal script part.missing before s (Foreign m p) due
-    (stop_refusal script part before after (Foreign m p) tell is tt))
-first_stop script part before after s (NoQuorum v h n) tell due is =
-    inl (one_refusal script part.missing before s (NoQuorum v h n) due
-    (stop_refusal script part before after (NoQuorum v h n) tell is tt))
+first_stop script part before after s (Damaged m at) tell due is = inl (one_refusal script part.missing before s
+    (Damaged m at) due (stop_refusal script part before after (Damaged m at) tell is tt))
+first_stop script part before after s (Disagree a b p) tell due is = inl (one_refusal script part.missing before s
+    (Disagree a b p) due (stop_refusal script part before after (Disagree a b p) tell is tt))
+first_stop script part before after s (Foreign m p) tell due is = inl (one_refusal script part.missing before s
+    (Foreign m p) due (stop_refusal script part before after (Foreign m p) tell is tt))
+first_stop script part before after s (NoQuorum v h n) tell due is = inl (one_refusal script part.missing before s
+    (NoQuorum v h n) due (stop_refusal script part before after (NoQuorum v h n) tell is tt))
 first_stop script part before after s AgesUsedUp tell due is =
     inl (one_refusal script part.missing before s AgesUsedUp due
     (stop_refusal script part before after AgesUsedUp tell is tt))
@@ -226,10 +206,9 @@ last_stop script part last after AgesUsedUp good next is = inl refl
 pub refused_after : (script : Script) (part : Part) (yard : YardState) (age : AgeEnd) (contents : List (Option OnLog))
     (why : Refusal) → (b : IsBehind script part yard age contents) → AreRefusedFor script why contents
     → (why ≡ Refusal.AgesUsedUp) × (age.age ≡ 65535)
-refused_after script part yard age contents why b refused =
-    refused_behind script (start_of script part age) b.nth b.is.contents contents (over_behind b) why b.ranges.group
-    b.ranges.some_turn (of_choice script part b.mode b.nth b.before yard age b.is)
-    (left_from script part yard age contents b) refused
+refused_after script part yard age contents why b refused = refused_behind script
+    (start_of script part age) b.nth b.is.contents contents (over_behind b) why b.ranges.group b.ranges.some_turn
+    (of_choice script part b.mode b.nth b.before yard age b.is) (left_from script part yard age contents b) refused
 
 pub refused_run : (script : Script) (part : Part) (mode : Mode) (before : YardState) (ages : List AgeEnd)
     (last after : YardState) (chosen : List (List Entry)) (stop : Option Stop) → HasRanges script
@@ -252,8 +231,7 @@ refused_run script part mode before ages last after chosen stop ranges are end g
         → HasFinished script part last after chosen ages stop → ages ≡ []
         → IfSome stop (λ s. IsOfLogs s → IsRefusal script part.missing before s)
     first ages None are end none = tt
-    first [] (Some s) are end none = λ of.
-        stop_refusal script part before after s tell
+    first [] (Some s) are end none = λ of. stop_refusal script part before after s tell
         (subst (λ (y : YardState). HasStopped script part y after s) (sym are) end.1) of
     first (age ∷ ages) (Some s) are end none = absurd (cc)
 
@@ -270,8 +248,7 @@ refused_run script part mode before ages last after chosen stop ranges are end g
         absurd (started script part.missing before s are.1.contents (start_of script part age) is
         (found_read script.members part.missing before are.1.contents tell are.1.found) are.1.starts)
 
-    later : (stop : Option Stop) → IfSome stop (λ s. IsBadLogs s → ⊥)
-        → IfSome stop (λ s. IsOfLogs s → s ≡ AgesUsedUp)
+    later : (stop : Option Stop) → IfSome stop (λ s. IsBadLogs s → ⊥) → IfSome stop (λ s. IsOfLogs s → s ≡ AgesUsedUp)
     later None good = tt
     later (Some s) good = used_up_alone s good
 
@@ -293,9 +270,7 @@ refused_run script part mode before ages last after chosen stop ranges are end g
     no_more earlier age is number None end good = inl end.0
     no_more earlier age is number (Some s) end good =
         let r = ends_with script part mode 0 before ages last earlier age are is in
-        inr (last_stop script part last after s good
-        (λ contents start found starts.
-        omega (
+        inr (last_stop script part last after s good (λ contents start found starts. omega (
           arith,
           age_next script part last age contents start
               (behind script part mode r.0 r.1 last age ranges r.2 tell_last contents found) starts,

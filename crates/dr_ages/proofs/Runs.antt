@@ -1,56 +1,33 @@
 -- Ages that came one after the other are a run.
+use Rattle.std.{specs.Prelude.{IfSome, Option, None, Some, slice_get}, proofs.lemmas.Bool.Decides.nat_tests}
 use Rattle.std.proofs.Common.{◌≡◌, ◌≢◌, refl, sym, ap, ◌∙◌, subst, inl, inr, ℕ, ◌+◌, ◌^◌, ◌≤◌, arith, false, List, [], ◌∷◌, ◌++◌, append-nil, length, take, get_or, ◌-◌, ◌<◌, ◌&&◌, not, true}
-use Rattle.std.specs.Prelude.{IfSome, Option, None, Some, slice_get}
-use Rattle.std.proofs.lemmas.List.Elements.{All-cons, All-nil}
-use Rattle.std.proofs.lemmas.Option.{slice_get-get_or, slice_get_within}
-use Rattle.std.proofs.lemmas.Bool.Decides.{nat_tests}
-use Rattle.dr_age.specs.Logged.{NoneFull}
-use Rattle.dr_disk.specs.Disk.{Told}
-use Rattle.dr_disk.specs.Images.{IsLeft}
-use Rattle.dr_disk.proofs.Moments.{Goes-last}
-use Rattle.dr_entry.specs.declared.end.AgeEnd.{AgeEnd}
-use Rattle.dr_entry.specs.declared.end.MemberEnd.{MemberEnd}
-use Rattle.dr_entry.specs.declared.entry.Entry.{Entry}
-use Rattle.dr_disk.proofs.Images.{left_so}
-use Rattle.dr_history.specs.Members.{has}
+use Rattle.std.proofs.lemmas.{List.Elements.{All-cons, All-nil}, Option.{slice_get-get_or, slice_get_within}}
+use Rattle.dr_play.specs.Logged.{NoneFull}
+use Rattle.dr_disk.{specs.{Disk.Told, Images.IsLeft}, proofs.{Images.left_so, Moments.Goes-last}}
+use Rattle.dr_entry.specs.declared.{end.{AgeEnd.AgeEnd, MemberEnd.MemberEnd}, entry.Entry.Entry}
+use Rattle.dr_history.{specs.{History.IsPrefixOf, Members.has}, proofs.Bits.{has_zero, has_ones}}
 use Rattle.dr_log.specs.Standing.{HasAllOf, IsBeforeOrAfter, LosesNone}
-use Rattle.dr_history.specs.History.{IsPrefixOf}
-use Rattle.dr_history.proofs.Bits.{has_zero, has_ones}
 use Rattle.dr_log.proofs.Ordinary.{has_itself, none_lost, none_lost_by}
-use Rattle.dr_log_bytes.specs.Content.{OnLog}
-use Rattle.dr_log_bytes.specs.Grammar.{StandFor}
+use Rattle.dr_log_bytes.specs.{Content.OnLog, Grammar.StandFor}
 use Rattle.dr_opening.specs.Tries.{IsChosenOf}
-use Rattle.dr_program.specs.Program.{end_of}
-use Rattle.dr_program.specs.Replica.{Replica}
-use Rattle.dr_restart.specs.declared.start.Start.{Start}
-use Rattle.dr_restart.specs.Groups.{first_group_of}
-use Rattle.dr_script.specs.declared.script.Script.{Script}
-use Rattle.dr_script.specs.Ranges.{HasRanges}
+use Rattle.dr_program.specs.{Program.end_of, Replica.Replica}
+use Rattle.dr_restart.specs.{Groups.first_group_of, declared.start.Start.Start}
+use Rattle.dr_script.specs.{Ranges.HasRanges, declared.script.Script.Script}
 use Rattle.dr_yard.specs.Yards.{AllTell, AreEmpty, YardState}
 use Rattle.dr_words.proofs.Masks.{has_mask_of}
-use Rattle.dr_logged.proofs.Served.{ordinary_due}
-use Rattle.dr_ages.specs.declared.mode.Mode.{Mode}
-use Rattle.dr_ages.specs.declared.part.Part.{Part}
-use Rattle.dr_ages.specs.declared.stop.Stop.{Stop}
-use Rattle.dr_ages.specs.declared.stop.Stop.TheVariants.{OutOfMemory, DiskFault, LogFull, Damaged, Disagree, Foreign, NoQuorum, AgesUsedUp}
+use Rattle.dr_served.proofs.Served.{ordinary_due}
 use Rattle.dr_ages.specs.Ages.{AreAges, IsAgeOf, NamesNobody, start_of, starts_of, all_but, taking_part}
-use Rattle.dr_ages.specs.Fit.{AreFit, AreInStep}
-use Rattle.dr_ages.specs.Found.{AreFound, AreRoomy}
-use Rattle.dr_ages.specs.Lacking.{LackedMemory}
-use Rattle.dr_ages.specs.Left.{HasLeft, with_logged}
-use Rattle.dr_ages.specs.Passing.{AllBeginWith, AreKeptSince, AreUntouched, PassOn}
+use Rattle.dr_ages.specs.{Fit.{AreFit, AreInStep}, Lacking.LackedMemory, declared.stop.Stop.Stop}
+use Rattle.dr_ages.specs.{Found.{AreFound, AreRoomy}, declared.{mode.Mode.{Mode, TheVariants.Run}, part.Part.Part}}
+use Rattle.dr_ages.specs.{Left.{HasLeft, with_logged}, Passing.{AllBeginWith, AreKeptSince, AreUntouched, PassOn}}
 use Rattle.dr_ages.specs.Runs.{HaveEndedWith, HasFinished, HaveLogged, IsFitRun, IsFreshRun, IsKeptRun, IsRoomyRun, IsRunInStep, IsRunOf, with_these}
-use Rattle.dr_ages.specs.Tried.{AreTried}
-use Rattle.dr_ages.specs.Stops.{AreChosenIn, HasKept, HasMounted, HasStopped, IsBadLogs, IsOutside}
+use Rattle.dr_ages.specs.{Stops.{AreChosenIn, HasKept, HasMounted, HasStopped, IsBadLogs, IsOutside}, Tried.AreTried}
+use Rattle.dr_ages.specs.declared.stop.Stop.TheVariants.{OutOfMemory, DiskFault, LogFull, Damaged, Disagree, Foreign, NoQuorum, AgesUsedUp}
 use Rattle.dr_ages.proofs.Chain.{ages_pass, ends_with, kept_passes, last_age, passes_none, passes_on, tell_behind}
 use Rattle.dr_ages.proofs.Fresh.{IsRoomyAt, fresh_first, fresh_start, roomy_ages, roomy_first, roomy_last, roomy_lasts, roomy_numbers, roomy_stop}
-use Rattle.dr_ages.proofs.Good.{age_never, found_whole}
-use Rattle.dr_ages.proofs.InStep.{age_step, step_good, step_never, tried_step}
-use Rattle.dr_ages.proofs.Lasting.{ages_lasting, fit_never, readable_tell, tried_lasting}
-use Rattle.dr_ages.proofs.Keeping.{are_kept, behind, ended_over, logged_first, told_there}
-use Rattle.dr_ages.proofs.Refusals.{refused_run}
-use Rattle.dr_ages.proofs.Votes.{age_told}
-use Rattle.dr_ages.specs.declared.mode.Mode.TheVariants.{Run}
+use Rattle.dr_ages.proofs.{Good.{age_never, found_whole}, InStep.{age_step, step_good, step_never, tried_step}}
+use Rattle.dr_ages.proofs.{Keeping.{are_kept, behind, ended_over, logged_first, told_there}, Refusals.refused_run}
+use Rattle.dr_ages.proofs.{Lasting.{ages_lasting, fit_never, readable_tell, tried_lasting}, Votes.age_told}
 
 -- what an age leaves is not refused
 never : (script : Script) (part : Part) (mode : Mode) (before : YardState) (ages : List AgeEnd)
@@ -66,8 +43,7 @@ never script part mode before (one ∷ ages) last after chosen (Some stop) range
 
 -- an opening that stopped has kept what it mounted, but for entries that these starts lack
 abbrev pub IsKeptBy : Script → ℕ → YardState → YardState → List (List Entry) → Stop → Type 0
-IsKeptBy script missing last after chosen stop =
-    (k : HasKept script missing last after stop) × (k.starts ≡ chosen)
+IsKeptBy script missing last after chosen stop = (k : HasKept script missing last after stop) × (k.starts ≡ chosen)
 
 -- and what it has left on disks that told is as before, or a try, unless memory was wanting
 abbrev pub IsTriedBy : Script → ℕ → YardState → YardState → Stop → Type 0
@@ -75,8 +51,7 @@ IsTriedBy script missing last after stop =
     AllTell script.members last → stop ≢ OutOfMemory → AreTried script missing last after
 
 few_ages : (script : Script) (part : Part) (last after : YardState) (chosen : List (List Entry)) (ages : List AgeEnd)
-    (stop : Option Stop) → HasRanges script → HasFinished script part last after chosen ages stop
-    → length ages ≤ 16
+    (stop : Option Stop) → HasRanges script → HasFinished script part last after chosen ages stop → length ages ≤ 16
 few_ages script part last after chosen ages None ranges end = omega (arith, end.0, ranges.most_ages)
 few_ages script part last after chosen ages (Some stop) ranges end = omega (arith, end.0, ranges.most_ages)
 
@@ -104,8 +79,7 @@ fresh_run script part mode before ages last after chosen stop ranges are end non
     begun = fresh_first script before empty
 
     each : (i : ℕ) (age : AgeEnd) → slice_get ages i ≡ Some age → (age.age ≡ 0 + 0 + i) × NoneFull age.members
-    each i age at =
-        roomy_ages script part mode 9 0 0 0 before ages last i age ranges none (omega arith)
+    each i age at = roomy_ages script part mode 9 0 0 0 before ages last i age ranges none (omega arith)
         (omega (arith, few_ages script part last after chosen ages stop ranges end)) begun are at
 
     stopped : (s : Option Stop) → HasFinished script part last after chosen ages s → IfSome s IsOutside
@@ -127,16 +101,14 @@ roomy_run script part mode before ages last after chosen stop ranges are end non
 }
   where
     begins : (contents : List (Option OnLog)) (start : Start) → AreFound script.members part.missing before contents
-        → IsChosenOf (first_group_of script).opening contents start
-        → IsRoomyAt script 536870912 start.age 0 before
+        → IsChosenOf (first_group_of script).opening contents start → IsRoomyAt script 536870912 start.age 0 before
     begins contents start found is =
         roomy_first script before contents start ranges (readable_tell script.members before step.readable) (step_good script before step) roomy
         (found_whole script.members part.missing before contents none found) is
 
     numbers : (contents : List (Option OnLog)) (start : Start) → AreFound script.members part.missing before contents
         → IsChosenOf (first_group_of script).opening contents start → start.age + script.ages ≤ 2 ^ 16
-    numbers contents start found is =
-        roomy_numbers script before contents start ranges roomy
+    numbers contents start found is = roomy_numbers script before contents start ranges roomy
         (found_whole script.members part.missing before contents none found) is
 
     each : (ages : List AgeEnd) → AreAges script part mode 0 before ages last
@@ -166,8 +138,7 @@ roomy_run script part mode before ages last after chosen stop ranges are end non
     stopped : (s : Option Stop) (ages : List AgeEnd) → AreAges script part mode 0 before ages last
         → HasFinished script part last after chosen ages s → IfSome s IsOutside
     stopped None ages are is = tt
-    stopped (Some s) [] are is =
-        early s (subst (λ (y : YardState). HasStopped script part y after s) (sym are) is.1)
+    stopped (Some s) [] are is = early s (subst (λ (y : YardState). HasStopped script part y after s) (sym are) is.1)
     stopped (Some s) (one ∷ ages) are is =
         let few = few_ages script part last after chosen (one ∷ ages) (Some s) ranges is in
         roomy_stop script part 536870912 one.age (0 + length (one ∷ ages)) last after s ranges none (omega arith)
@@ -191,8 +162,7 @@ kept_run script part mode before [] last after chosen (Some stop) ranges are end
       (subst (λ (y : YardState). AreKeptSince script.members part.missing kept.0.mounted kept.0.starts y after) (sym are)
       kept.0.since);
   all = λ some. absurd (some refl);
-  count = λ none.
-      subst (λ (y : YardState). HasMounted script.members part.missing y after kept.0.mounted stop)
+  count = λ none. subst (λ (y : YardState). HasMounted script.members part.missing y after kept.0.mounted stop)
       (sym are) kept.0.count;
 }
 kept_run script part mode before (age ∷ ages) last after chosen stop ranges are end kept = record {
@@ -222,8 +192,7 @@ run_untouched script part mode before ages last after chosen None are end kept m
     subst (AreUntouched part.missing before) end.1 (ages_untouched script part mode 0 before ages last are) m gone
 run_untouched script part mode before ages last after chosen (Some stop) are end kept m gone =
     let one = ages_untouched script part mode 0 before ages last are m gone in
-    let rest = kept.0.untouched m gone in
-    (rest.0 ∙ one.0, rest.1 ∙ one.1)
+    let rest = kept.0.untouched m gone in (rest.0 ∙ one.0, rest.1 ∙ one.1)
 
 -- ---- what was logged in the last age is kept
 
@@ -242,8 +211,7 @@ chosen_has script part mode nth before last after age chosen ages (Some stop) m 
     by : AreChosenIn script part.missing last chosen → AllBeginWith (take e.logged e.history) chosen
     by (inl none) = subst (AllBeginWith (take e.logged e.history)) (sym none)
         (All-nil (λ (start : List Entry). IsPrefixOf (take e.logged e.history) start))
-    by (inr (contents, found, of)) =
-        subst (AllBeginWith (take e.logged e.history)) (sym of.2)
+    by (inr (contents, found, of)) = subst (AllBeginWith (take e.logged e.history)) (sym of.2)
         (All-cons (λ (start : List Entry). IsPrefixOf (take e.logged e.history) start) of.0.entries []
         (logged_first script part last age contents of.0 m e
         (behind script part mode nth before last age ranges is tell contents found) of.1 at there)
@@ -254,11 +222,9 @@ left_has : (o : Option Told) (r : Replica) (base first : OnLog) → HasAllOf fir
 left_has o r base first has left = by left
   where
     by : HasLeft o r base → IsLeft o (LosesNone first)
-    by (inl safe) =
-        left_so o (λ image. StandFor image (with_logged base r)) (LosesNone first)
+    by (inl safe) = left_so o (λ image. StandFor image (with_logged base r)) (LosesNone first)
         (λ image is. none_lost first (with_logged base r) image has is) safe
-    by (inr broken) =
-        left_so o (IsBeforeOrAfter (with_logged base r) broken.next) (LosesNone first)
+    by (inr broken) = left_so o (IsBeforeOrAfter (with_logged base r) broken.next) (LosesNone first)
         (λ image is. none_lost_by first (with_logged base r) broken.next image
         (ordinary_due r broken.next broken.due) has is) broken.left
 
@@ -317,8 +283,7 @@ tried_run script part mode before ages last after (Some stop) are tried tell =
 fit_run : (script : Script) (part : Part) (mode : Mode) (before : YardState) (ages : List AgeEnd)
     (last after : YardState) (chosen : List (List Entry)) (stop : Option Stop) → HasRanges script
     → AreAges script part mode 0 before ages last → HasFinished script part last after chosen ages stop
-    → IfSome stop (IsTriedBy script part.missing last after) → AreFit script before
-    → IsFitRun script part after stop
+    → IfSome stop (IsTriedBy script part.missing last after) → AreFit script before → IsFitRun script part after stop
 fit_run script part mode before ages last after chosen None ranges are end tried fit = record {
   never = λ none. tt;
   fit = λ other. subst (AreFit script) end.1 (ages_lasting script part mode 0 before ages last [] ranges are fit);
@@ -338,8 +303,7 @@ step_last script part mode before [] last ranges none are step = subst (AreInSte
 step_last script part mode before (one ∷ ages) last ranges none are step =
     let r = last_age script part mode 0 before one ages last are in
     age_step script part r.mode r.nth r.before last r.age ranges none r.is
-    (tell_behind script part mode 0 before (one ∷ ages) last are
-    (readable_tell script.members before step.readable))
+    (tell_behind script part mode 0 before (one ∷ ages) last are (readable_tell script.members before step.readable))
 
 step_run : (script : Script) (part : Part) (mode : Mode) (before : YardState) (ages : List AgeEnd)
     (last after : YardState) (chosen : List (List Entry)) (stop : Option Stop) → HasRanges script
@@ -401,13 +365,12 @@ one_age script before after ages age run is =
 -- who is not missing takes part
 pub there_takes_part : (script : Script) (missing m : ℕ) → script.members ≤ 16 → m < script.members
     → has missing m ≡ false → has (taking_part script missing) m ≡ true
-there_takes_part script missing m few below there =
-    grind (
-      arith,
-      nat_tests,
-      has_mask_of (λ k. has (2 ^ script.members - 1) k && not (has missing k)) m,
-      has_ones script.members m,
-      below,
-      few,
-      there,
-    )
+there_takes_part script missing m few below there = grind (
+  arith,
+  nat_tests,
+  has_mask_of (λ k. has (2 ^ script.members - 1) k && not (has missing k)) m,
+  has_ones script.members m,
+  below,
+  few,
+  there,
+)

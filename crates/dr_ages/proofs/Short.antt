@@ -1,31 +1,21 @@
 -- How many bytes logs take that are found, and that are open for an age.
+use Rattle.std.{specs.Prelude.option_map, proofs.lemmas.List.Sums.sum_by-cons}
 use Rattle.std.proofs.Common.{◌≡◌, ◌⊎◌, inl, inr, refl, ap, ◌∙◌, ℕ, ◌+◌, ◌≤◌, arith, List, [], ◌∷◌, length, None, Option, Some}
-use Rattle.std.specs.Prelude.{option_map}
-use Rattle.std.proofs.lemmas.List.Sums.{sum_by-cons}
-use Rattle.dr_entry.specs.declared.entry.Entry.{Entry}
-use Rattle.dr_entry.specs.declared.entry.Entry.TheVariants.{View}
-use Rattle.dr_entry.specs.Spelling.{entry_spelling}
+use Rattle.dr_entry.specs.{Spelling.entry_spelling, declared.entry.Entry.{Entry, TheVariants.View}}
+use Rattle.dr_history.specs.{History.{GroupView, view_of}, Order.first_entries, Restarting.{AllStand, next_age}}
 use Rattle.dr_history.specs.declared.opening.Opening.{Opening}
-use Rattle.dr_history.specs.History.{GroupView, view_of}
-use Rattle.dr_history.specs.Order.{first_entries}
-use Rattle.dr_history.specs.Restarting.{AllStand, next_age}
 use Rattle.dr_history_laws.proofs.Lengths.{start-few, stood-short}
-use Rattle.dr_log.specs.Standing.{entries_length}
-use Rattle.dr_log.proofs.Growing.{entries_length-append}
+use Rattle.dr_log.{specs.Standing.entries_length, proofs.Growing.entries_length-append}
 use Rattle.dr_log_bytes.specs.Content.{OnLog}
 use Rattle.dr_machine.specs.Group.{IsGroup}
-use Rattle.dr_opening.specs.Lists.{all_as_lists, as_lists}
-use Rattle.dr_opening.specs.Tries.{IsChosenOf, content_at}
+use Rattle.dr_opening.specs.{Lists.{all_as_lists, as_lists}, Tries.{IsChosenOf, content_at}}
 use Rattle.dr_opening.proofs.Choosing.{chosen_group}
 use Rattle.dr_program.proofs.Present.{present_map}
 use Rattle.dr_quorum.specs.Handing.{handed_by}
-use Rattle.dr_restart.specs.Choosing.{AreOfHolders, AreOfNobody}
-use Rattle.dr_restart.proofs.Groups.{first_group}
-use Rattle.dr_restart.specs.declared.start.Start.{Start}
-use Rattle.dr_restart.specs.Groups.{first_group_of, group_of}
-use Rattle.dr_script.specs.declared.script.Script.{Script}
-use Rattle.dr_script.specs.Ranges.{HasGroupRanges}
-use Rattle.dr_age.proofs.LoggedMembers.{stood_bytes}
+use Rattle.dr_restart.specs.{Choosing.{AreOfHolders, AreOfNobody}, Groups.{first_group_of, group_of}}
+use Rattle.dr_restart.{specs.declared.start.Start.Start, proofs.Groups.first_group}
+use Rattle.dr_script.specs.{Ranges.HasGroupRanges, declared.script.Script.Script}
+use Rattle.dr_play.proofs.LoggedMembers.{stood_bytes}
 
 -- ---- entries
 

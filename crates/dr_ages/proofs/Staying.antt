@@ -1,24 +1,16 @@
 -- What no crash would have lost of a disk none would lose later on.
-use Rattle.std.proofs.Common.{◌≡◌, refl, sym, ◌∙◌, subst, ℕ, ◌≤◌, arith, le_refl, List, [], ◌∷◌, ◌++◌}
 use Rattle.std.specs.Prelude.{IfSome, Option, None, Some, is_some}
+use Rattle.std.proofs.Common.{◌≡◌, refl, sym, ◌∙◌, subst, ℕ, ◌≤◌, arith, le_refl, List, [], ◌∷◌, ◌++◌}
 use Rattle.std.proofs.lemmas.List.Elements.{All-cons, All-head, All-nil, All-tail}
-use Rattle.dr_disk.specs.Disk.{Told, content_of, state_of}
-use Rattle.dr_disk.specs.Images.{AllImages, Goes, IsLeft}
-use Rattle.dr_disk.proofs.Moments.{Goes-last, stays_at, goes_both}
+use Rattle.dr_disk.specs.{Disk.{Told, content_of, state_of}, Images.{AllImages, Goes, IsLeft}}
+use Rattle.dr_disk.proofs.{DiskCalls.goes_tells, Images.silent, Moments.{Goes-last, stays_at, goes_both}}
 use Rattle.dr_entry.specs.declared.entry.Entry.{Entry}
-use Rattle.dr_disk.proofs.DiskCalls.{goes_tells}
-use Rattle.dr_disk.proofs.Images.{silent}
 use Rattle.dr_history.specs.History.{IsPrefixOf}
-use Rattle.dr_log.specs.Standing.{HasAllOf, KeepsRecords, LosesNone, StandAlike}
-use Rattle.dr_log.specs.State.{LogState}
-use Rattle.dr_log_bytes.specs.Content.{OnLog}
-use Rattle.dr_log_bytes.proofs.Meaning.{content_once}
-use Rattle.dr_log.proofs.Standing.{loses_alike, alike_goes}
-use Rattle.dr_log.proofs.Ordinary.{left_less}
-use Rattle.dr_logged.proofs.Served.{safe_kept}
-use Rattle.dr_ages.specs.Found.{ReadsAs}
-use Rattle.dr_ages.specs.Lent.{IsAlike, IsMounted}
-use Rattle.dr_ages.specs.Opened.{IsLater}
+use Rattle.dr_log.specs.{Standing.{HasAllOf, KeepsRecords, LosesNone, StandAlike}, State.LogState}
+use Rattle.dr_log.proofs.{Ordinary.left_less, Standing.{loses_alike, alike_goes}}
+use Rattle.dr_log_bytes.{specs.Content.OnLog, proofs.Meaning.content_once}
+use Rattle.dr_served.proofs.Served.{safe_kept}
+use Rattle.dr_ages.specs.{Found.ReadsAs, Lent.{IsAlike, IsMounted}, Opened.IsLater}
 use Rattle.dr_ages.specs.Passing.{AllBeginWith, GoesOn, IsKeptSince, IsUnreadable}
 
 -- ---- starts
@@ -29,8 +21,7 @@ begins_with es start = IsPrefixOf es start
 -- the first of some starts, and the others
 pub first_starts : (es : List Entry) (xs ys : List (List Entry)) → AllBeginWith es (xs ++ ys) → AllBeginWith es xs
 first_starts es [] ys all = All-nil (begins_with es)
-first_starts es (x ∷ xs) ys all =
-    All-cons (begins_with es) x xs (All-head (begins_with es) x (xs ++ ys) all)
+first_starts es (x ∷ xs) ys all = All-cons (begins_with es) x xs (All-head (begins_with es) x (xs ++ ys) all)
     (first_starts es xs ys (All-tail (begins_with es) x (xs ++ ys) all))
 
 pub other_starts : (es : List Entry) (xs ys : List (List Entry)) → AllBeginWith es (xs ++ ys) → AllBeginWith es ys
@@ -90,8 +81,7 @@ on_then xs ys a b c k m n first next = record {
       goes_both a b c (LosesNone x) one
       (next.stays x (other_starts x.entries xs ys all) (Goes-last a b (LosesNone x) one));
   unread = λ left.
-      let one = first.unread left in
-      goes_both a b c IsUnreadable one (next.unread (Goes-last a b IsUnreadable one));
+      let one = first.unread left in goes_both a b c IsUnreadable one (next.unread (Goes-last a b IsUnreadable one));
 }
 
 -- ---- a log goes on
@@ -146,24 +136,20 @@ on_since {D} tells faults starts told count old new is later = record {
     same : is_some told ≡ is_some (tells new.disk)
     same = mounted.tells ∙ later.tells
 
-    kept : (c : OnLog) → AllBeginWith c.entries starts → (o : Option Told)
-        → is_some o ≡ is_some (tells new.disk)
+    kept : (c : OnLog) → AllBeginWith c.entries starts → (o : Option Told) → is_some o ≡ is_some (tells new.disk)
         → IfSome o (ReadsAs old.content) → IsLeft o (LosesNone c)
         → Goes o (tells old.disk) (λ s. LosesNone c) → Goes o (tells new.disk) (λ s. LosesNone c)
     kept c all None alike found left mid = silent (tells new.disk) (LosesNone c) alike
     kept c all (Some t) alike found left mid =
         let none = left (content_of t) found.image in
-        goes_both (Some t) (tells old.disk) (tells new.disk) (LosesNone c) mid
-        (later.stays c all
+        goes_both (Some t) (tells old.disk) (tells new.disk) (LosesNone c) mid (later.stays c all
         (subst (HasAllOf c) (content_once (content_of t) none.content old.content none.stands found.stands) none.has)
         (Goes-last (Some t) (tells old.disk) (LosesNone c) mid))
 
     unread : (o : Option Told) → is_some o ≡ is_some (tells new.disk)
-        → IfSome o (ReadsAs old.content) → IsLeft o IsUnreadable
-        → Goes o (tells new.disk) (λ s. IsUnreadable)
+        → IfSome o (ReadsAs old.content) → IsLeft o IsUnreadable → Goes o (tells new.disk) (λ s. IsUnreadable)
     unread None alike found left = silent (tells new.disk) IsUnreadable alike
-    unread (Some t) alike found left =
-        absurd (left (content_of t) found.image old.content found.stands)
+    unread (Some t) alike found left = absurd (left (content_of t) found.image old.content found.stands)
 
 -- ---- a disk is kept since it was mounted
 

@@ -1,48 +1,34 @@
 -- Why the opening of an age stopped.
-use Rattle.std.proofs.Common.{◌≡◌, refl, sym, ap, ◌∙◌, subst, inl, inr, ℕ, ◌<◌, ◌≤◌, arith, le_refl, List, [], ◌∷◌, length}
 use Rattle.std.specs.Prelude.{◌⊎◌, Option, None, Some}
-use Rattle.dr_disk.specs.Disk.{Told}
-use Rattle.dr_disk.specs.Images.{IsLeft}
+use Rattle.std.proofs.Common.{◌≡◌, refl, sym, ap, ◌∙◌, subst, inl, inr, ℕ, ◌<◌, ◌≤◌, arith, le_refl, List, [], ◌∷◌, length}
+use Rattle.dr_disk.specs.{Disk.Told, Images.IsLeft}
 use Rattle.dr_entry.specs.declared.entry.Entry.{Entry}
 use Rattle.dr_io.specs.Faults.{Rose}
 use Rattle.dr_log.specs.State.{LogState}
-use Rattle.dr_log_bytes.specs.Content.{OnLog}
-use Rattle.dr_log_bytes.specs.Grammar.{StandFor}
-use Rattle.dr_logged.specs.Served.{HaveSamePlaces, IsSafe}
-use Rattle.dr_opening.specs.declared.age.NotOpened.{NotOpened}
-use Rattle.dr_opening.specs.declared.age.NotOpened.TheVariants.{Unchosen, Unfinished}
-use Rattle.dr_opening.specs.declared.catching_up.CatchFault.TheVariants as catches
-use Rattle.dr_opening.specs.declared.catching_up.CatchFault.{CatchFault}
-use Rattle.dr_opening.specs.declared.opening.OpenFault.{OpenFault}
-use Rattle.dr_opening.specs.Contents.{IsOpenFor, IsRisingStep, IsVoteStep, voted_for}
-use Rattle.dr_opening.specs.Lists.{contents_of, log_of}
+use Rattle.dr_log_bytes.specs.{Content.OnLog, Grammar.StandFor}
+use Rattle.dr_served.specs.Served.{HaveSamePlaces, IsSafe}
+use Rattle.dr_opening.specs.{Contents.{IsOpenFor, IsRisingStep, IsVoteStep, voted_for}, Lists.{contents_of, log_of}}
 use Rattle.dr_opening.specs.Logs.{ComeBelow, Explains, GotStart, GotVote, LacksStart, LacksVote, StopAt, WereNotOpened}
-use Rattle.dr_opening.specs.Tries.{IsChosenOf}
-use Rattle.dr_opening.specs.Unopened.{IsUnchosen, IsWhyUnopened}
+use Rattle.dr_opening.specs.{Tries.IsChosenOf, Unopened.{IsUnchosen, IsWhyUnopened}, declared.age.NotOpened.NotOpened}
+use Rattle.dr_opening.specs.declared.age.NotOpened.TheVariants.{Unchosen, Unfinished}
+use Rattle.dr_opening.specs.declared.{catching_up.CatchFault.CatchFault, opening.OpenFault.OpenFault}
+use Rattle.dr_opening.proofs.Lists.{stays_there, was_there, content_at_log, log_of_content}
+use Rattle.dr_opening.proofs.Logs.{below_stop, come_places, in_stop, stop_places, unopened_places}
+use Rattle.dr_opening.specs.declared.catching_up.CatchFault.TheVariants as catches
 use Rattle.dr_program.proofs.Present.{present_within}
 use Rattle.dr_quorum.specs.declared.faults.ChooseFault.{ChooseFault}
 use Rattle.dr_quorum.specs.declared.faults.ChooseFault.TheVariants as chooses
-use Rattle.dr_restart.specs.declared.start.Start.{Start}
-use Rattle.dr_restart.specs.Groups.{first_group_of}
+use Rattle.dr_restart.specs.{Groups.first_group_of, declared.start.Start.Start}
 use Rattle.dr_script.specs.declared.script.Script.{Script}
 use Rattle.dr_words.specs.Masks.{without}
 use Rattle.dr_yard.specs.Yards.{YardState}
-use Rattle.dr_opening.proofs.Lists.{stays_there, was_there, content_at_log, log_of_content}
-use Rattle.dr_opening.proofs.Logs.{below_stop, come_places, in_stop, stop_places, unopened_places}
-use Rattle.dr_ages.specs.declared.mode.Mode.{Mode}
-use Rattle.dr_ages.specs.declared.part.Part.{Part}
-use Rattle.dr_ages.specs.declared.stop.Stop.TheVariants.{OutOfMemory}
-use Rattle.dr_ages.specs.Found.{AreFound}
-use Rattle.dr_ages.specs.Lacking.{LackedMemory, to_append}
-use Rattle.dr_ages.specs.Lent.{AreAllBut, AreMounted, IsMounted, with_logs}
-use Rattle.dr_ages.specs.Opened.{AreLater}
-use Rattle.dr_ages.specs.Passing.{AreKeptSince}
+use Rattle.dr_ages.{specs.Found.AreFound, proofs.Staying.alike_same}
+use Rattle.dr_ages.specs.{Lacking.{LackedMemory, to_append}, Lent.{AreAllBut, AreMounted, IsMounted, with_logs}}
+use Rattle.dr_ages.specs.{Opened.AreLater, Passing.AreKeptSince, declared.{mode.Mode.Mode, part.Part.Part}}
 use Rattle.dr_ages.specs.Stops.{AreOpenBelow, HasStopped, HaveVotesBelow, IsBehindMounts, IsStuckIn, NamesFaults, in_opening}
-use Rattle.dr_ages.specs.Telling.{stop_at, stop_of, stop_of_choice}
+use Rattle.dr_ages.specs.{Telling.{stop_at, stop_of, stop_of_choice}, declared.stop.Stop.TheVariants.OutOfMemory}
 use Rattle.dr_ages.proofs.Backs.{counts_still, faults_at, faults_none, kept_back, not_missing, told_at}
-use Rattle.dr_ages.proofs.Loans.{are_found, names_none}
-use Rattle.dr_ages.proofs.Opening.{come_mid, in_come, unopened_on}
-use Rattle.dr_ages.proofs.Staying.{alike_same}
+use Rattle.dr_ages.proofs.{Loans.{are_found, names_none}, Opening.{come_mid, in_come, unopened_on}}
 
 -- ---- logs that make no start
 
@@ -79,9 +65,8 @@ left_at {D} tells faults before news m new c here same safe =
 voted_within : {D : Type 0} (tells : D → Option Told) (faults : D → ℕ) (before : YardState) (start : Start)
     (old new : LogState D) (m : ℕ) (c : OnLog) → IsMounted tells faults (before.told m) (before.faults m) old
     → old.content ≡ c → GotVote tells faults start old new → (voted_for start c).length ≤ 2147483648
-voted_within tells faults before start old new m c is same got =
-    subst (λ (d : OnLog). d.length ≤ 2147483648) (got.0.content ∙ ap (voted_for start) same)
-    (omega (arith, got.0.within, is.limit))
+voted_within tells faults before start old new m c is same got = subst (λ (d : OnLog). d.length ≤ 2147483648)
+    (got.0.content ∙ ap (voted_for start) same) (omega (arith, got.0.within, is.limit))
 
 -- in the first phase
 votes_below : {D : Type 0} (tells : D → Option Told) (faults : D → ℕ) (script : Script) (part : Part)
@@ -163,9 +148,8 @@ record IsStuckAt {D : Type 0} (tells : D → Option Told) (faults : D → ℕ) (
   new : LogState D
   here : log_of news k ≡ Some new
   next : OnLog
-  phase : (IsVoteStep start old.content new.content next
-      × HaveVotesBelow start (contents_of olds) (with_logs tells faults before news) k)
-      ⊎ (IsRisingStep start (voted_for start old.content) new.content next
+  phase : (IsVoteStep start old.content new.content next × HaveVotesBelow start (contents_of olds)
+      (with_logs tells faults before news) k) ⊎ (IsRisingStep start (voted_for start old.content) new.content next
       × AreOpenBelow start (contents_of olds) (with_logs tells faults before news) k)
   reason : Explains tells faults new.content next mid new why
 
@@ -236,8 +220,7 @@ pub since_opened : {D : Type 0} (tells : D → Option Told) (faults : D → ℕ)
     (before : YardState) (starts : List (List Entry)) (olds news : List (Option (LogState D)))
     → length olds ≡ script.members → AreMounted tells faults before olds → AreAllBut part.missing olds
     → AreLater tells faults starts olds news → HaveSamePlaces olds news
-    → AreKeptSince script.members part.missing script.members starts before
-    (with_logs tells faults before news)
+    → AreKeptSince script.members part.missing script.members starts before (with_logs tells faults before news)
 since_opened tells faults script part before starts olds news all mounted but later places =
     subst (λ (n : ℕ). AreKeptSince script.members part.missing n starts before
     (with_logs tells faults before news)) all
@@ -310,8 +293,7 @@ why_stops tells faults script part before olds news (Unfinished fault) all mount
 -- something, and that one did not stay calm
 calm_at : {D : Type 0} (tells : D → Option Told) (faults : D → ℕ) (before : YardState) (start : Start)
     (olds news : List (Option (LogState D))) (fault : OpenFault) (m : ℕ) → AreMounted tells faults before olds
-    → WereNotOpened tells faults start olds news fault
-    → (m ≡ fault.member → (old new : LogState D) (next : OnLog)
+    → WereNotOpened tells faults start olds news fault → (m ≡ fault.member → (old new : LogState D) (next : OnLog)
     → Explains tells faults new.content next old new fault.why → faults new.disk ≡ faults old.disk)
     → (with_logs tells faults before news).faults m ≡ before.faults m
 calm_at {D} tells faults before start olds news fault m mounted stopped quiet = by (log_of news m) refl
@@ -324,8 +306,7 @@ calm_at {D} tells faults before start olds news fault m mounted stopped quiet = 
         let calm = (mounted m old.0 old.1).calm in
         in_stop (GotVote tells faults start) (λ old new. LacksVote tells faults start old new fault.why)
         (faults new.disk ≡ before.faults m) olds news fault.member m old.0 new stop old.1 here
-        (λ l got. got.0.well.calm ∙ calm)
-        (λ at lacks. quiet at old.0 new lacks.next lacks.reason ∙ calm)
+        (λ l got. got.0.well.calm ∙ calm) (λ at lacks. quiet at old.0 new lacks.next lacks.reason ∙ calm)
         (λ l same. ap (λ (x : LogState D). faults x.disk) same ∙ calm)
     at_log new here (inr (mids, voted, stop)) =
         let mid = was_there mids news m new (stop_places (GotStart tells faults start)
@@ -335,8 +316,7 @@ calm_at {D} tells faults before start olds news fault m mounted stopped quiet = 
         let calm : faults mid.0.disk ≡ before.faults m = got.0.well.calm ∙ (mounted m old.0 old.1).calm in
         in_stop (GotStart tells faults start) (λ old new. LacksStart tells faults start old new fault.why)
         (faults new.disk ≡ before.faults m) mids news fault.member m mid.0 new stop mid.1 here
-        (λ l came. came.well.calm ∙ calm)
-        (λ at lacks. quiet at mid.0 new lacks.next lacks.reason ∙ calm)
+        (λ l came. came.well.calm ∙ calm) (λ at lacks. quiet at mid.0 new lacks.next lacks.reason ∙ calm)
         (λ l same. ap (λ (x : LogState D). faults x.disk) same ∙ calm)
 
     by : (o : Option (LogState D)) → log_of news m ≡ o
@@ -383,8 +363,7 @@ lacked_append tells faults script part mode before start olds news k catches.Out
     (λ now next. IsLeft ((with_logs tells faults before news).told k) (λ image. StandFor image now)) on s
     (left_at tells faults before news k s.new s.new.content s.here refl s.reason.safe))
     (since_mounted tells faults script part before start olds news fault on stopped)
-    (λ m. calm_at tells faults before start olds news fault m on.mounted stopped
-    (λ at old new next is. is.calm))
+    (λ m. calm_at tells faults before start olds news fault m on.mounted stopped (λ at old new next is. is.calm))
 lacked_append tells faults script part mode before start olds news k catches.DiskFault on stopped same =
     absurd (cc (same))
 lacked_append tells faults script part mode before start olds news k (catches.LogFull len) on stopped same =

@@ -1,44 +1,27 @@
 -- What an opening that stopped leaves on the disks of a yard is as before, or a try.
-use Rattle.std.proofs.Common.{◌≡◌, refl, sym, ◌∙◌, subst, inl, inr, ℕ, ◌<◌, arith, le_refl, List, length}
 use Rattle.std.specs.Prelude.{IsSomeAnd, IsTrue, Option, None, Some, is_some, slice_get}
-use Rattle.dr_disk.specs.Disk.{Told, state_of}
-use Rattle.dr_disk.specs.Images.{AllImages, Goes, IsLeft}
-use Rattle.dr_disk.proofs.DiskCalls.{goes_tells}
+use Rattle.std.proofs.Common.{◌≡◌, refl, sym, ◌∙◌, subst, inl, inr, ℕ, ◌<◌, arith, le_refl, List, length}
+use Rattle.dr_disk.{specs.{Disk.{Told, state_of}, Images.{AllImages, Goes, IsLeft}}, proofs.DiskCalls.goes_tells}
 use Rattle.dr_disk.proofs.Images.{left_so}
-use Rattle.dr_history.specs.declared.opening.Opening.{Opening}
-use Rattle.dr_history.specs.Members.{has}
+use Rattle.dr_history.specs.{Members.has, declared.opening.Opening.Opening}
 use Rattle.dr_history_laws.proofs.Lists.{slice_get-some}
 use Rattle.dr_kept.proofs.Chosen.{few}
-use Rattle.dr_log.specs.Standing.{KeepsRecords}
-use Rattle.dr_log.specs.State.{LogState}
-use Rattle.dr_opening.specs.declared.age.NotOpened.{NotOpened}
-use Rattle.dr_opening.specs.declared.age.NotOpened.TheVariants.{Unchosen, Unfinished}
-use Rattle.dr_opening.specs.declared.opening.OpenFault.{OpenFault}
-use Rattle.dr_opening.specs.Contents.{IsRising, IsVoting, StandSo, voted_for}
-use Rattle.dr_opening.specs.Lists.{contents_of, log_of}
-use Rattle.dr_opening.specs.Logs.{WereNotOpened}
-use Rattle.dr_opening.specs.Tries.{AreLeftOn, HasStoppedSo, IsChosenOf, IsLeftOn, try_of}
-use Rattle.dr_opening.specs.Unopened.{IsWhyUnopened}
-use Rattle.dr_opening.proofs.Crashing.{left_so_far, AreOnWay, on_way}
-use Rattle.dr_opening.proofs.Trying.{in_set, some_try}
-use Rattle.dr_logged.specs.Served.{HaveSamePlaces}
-use Rattle.dr_program.proofs.Present.{present_within}
-use Rattle.dr_restart.specs.declared.lists.LogLists.{LogLists}
-use Rattle.dr_restart.specs.declared.start.Start.{Start}
-use Rattle.dr_restart.specs.Groups.{first_group_of}
-use Rattle.dr_script.specs.declared.script.Script.{Script}
-use Rattle.dr_script.specs.Ranges.{HasGroupRanges}
-use Rattle.dr_yard.specs.Yards.{AllTell, YardState}
+use Rattle.dr_log.specs.{Standing.KeepsRecords, State.LogState}
+use Rattle.dr_opening.specs.{Contents.{IsRising, IsVoting, StandSo, voted_for}, declared.age.NotOpened.NotOpened}
+use Rattle.dr_opening.{specs.Lists.{contents_of, log_of}, proofs.Crashing.{left_so_far, AreOnWay, on_way}}
+use Rattle.dr_opening.{specs.Logs.WereNotOpened, proofs.{Logs.unopened_places, Trying.{in_set, some_try}}}
+use Rattle.dr_opening.specs.{Tries.{AreLeftOn, HasStoppedSo, IsChosenOf, IsLeftOn, try_of}, Unopened.IsWhyUnopened}
+use Rattle.dr_opening.specs.declared.{age.NotOpened.TheVariants.{Unchosen, Unfinished}, opening.OpenFault.OpenFault}
 use Rattle.dr_opening.proofs.Lists.{stays_none, was_none, content_at_log, no_log, content_none}
-use Rattle.dr_opening.proofs.Logs.{unopened_places}
-use Rattle.dr_ages.specs.Fit.{AreChosen, IsReadable, MayLeave}
-use Rattle.dr_ages.specs.Lent.{AreAllBut, AreMounted, IsAlike, with_logs}
-use Rattle.dr_ages.specs.Tried.{AreTried}
-use Rattle.dr_ages.proofs.Backs.{AreAllBack, alike_back, log_at, told_at, told_none}
-use Rattle.dr_ages.proofs.Lasting.{HadBefore, alike_chosen, alike_readable, had_before}
-use Rattle.dr_ages.proofs.Loans.{are_found}
-use Rattle.dr_ages.proofs.Opening.{unopened_on}
-use Rattle.dr_ages.proofs.Staying.{alike_same}
+use Rattle.dr_served.specs.Served.{HaveSamePlaces}
+use Rattle.dr_program.proofs.Present.{present_within}
+use Rattle.dr_restart.specs.{Groups.first_group_of, declared.{lists.LogLists.LogLists, start.Start.Start}}
+use Rattle.dr_script.specs.{Ranges.HasGroupRanges, declared.script.Script.Script}
+use Rattle.dr_yard.specs.Yards.{AllTell, YardState}
+use Rattle.dr_ages.specs.{Fit.{AreChosen, IsReadable, MayLeave}, Lent.{AreAllBut, AreMounted, IsAlike, with_logs}}
+use Rattle.dr_ages.{specs.Tried.AreTried, proofs.Backs.{AreAllBack, alike_back, log_at, told_at, told_none}}
+use Rattle.dr_ages.proofs.{Lasting.{HadBefore, alike_chosen, alike_readable, had_before}, Loans.are_found}
+use Rattle.dr_ages.proofs.{Opening.unopened_on, Staying.alike_same}
 
 -- ---- nothing came to any disk
 
@@ -155,8 +138,7 @@ unopened_tried {D} tells faults script missing before start olds news fault u = 
         let x = so.each m old at in (
           x.0,
           x.1,
-          left_so (tells x.0.disk) (StandSo (IsVoting start old.content)) IsReadable
-              (λ image is. (is.0, is.2)) x.2,
+          left_so (tells x.0.disk) (StandSo (IsVoting start old.content)) IsReadable (λ image is. (is.0, is.2)) x.2,
         )
     read m old at (inr so) =
         let x = so.each m old at in (
@@ -179,8 +161,7 @@ unopened_tried {D} tells faults script missing before start olds news fault u = 
     reads (Some old) m l at is =
         let x = read m old at way in
         subst (λ (t : Option Told). IsSomeAnd t (λ t. AllImages (state_of t) IsReadable))
-        (sym (told_at tells faults before news m x.0 x.1))
-        (stands (tells x.0.disk)
+        (sym (told_at tells faults before news m x.0 x.1)) (stands (tells x.0.disk)
         (subst IsTrue (goes_tells (before.told m) (tells old.disk) KeepsRecords (u.mounted m old at).on.moments
         ∙ (unopened_on tells faults start olds news fault u.stopped m old x.0 at x.1).tells) (u.tell m l)) x.2)
 

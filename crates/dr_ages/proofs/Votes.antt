@@ -1,37 +1,24 @@
 -- The votes that are found on disks, and those that the members of an age cast.
-use Rattle.std.proofs.Common.{◌≡◌, ◌⊎◌, refl, sym, ap, ◌∙◌, subst, ℕ, ◌<◌, inl, inr, arith, List}
 use Rattle.std.specs.Prelude.{All, IfSome, IsTrue, Option, None, Some, is_some, option_map, slice_get}
+use Rattle.std.proofs.{Common.{◌≡◌, ◌⊎◌, refl, sym, ap, ◌∙◌, subst, ℕ, ◌<◌, inl, inr, arith, List}, lemmas.Nat.mul-le}
 use Rattle.std.proofs.lemmas.Option.{same_Some, slice_get-map}
-use Rattle.std.proofs.lemmas.Nat.{mul-le}
 use Rattle.dr_disk.specs.Disk.{Told, content_of}
-use Rattle.dr_entry.specs.declared.end.AgeEnd.{AgeEnd}
-use Rattle.dr_entry.specs.declared.end.MemberEnd.{MemberEnd}
-use Rattle.dr_entry.specs.Spelling.{IsValidVote}
-use Rattle.dr_log_bytes.specs.Content.{OnLog}
-use Rattle.dr_log_bytes.proofs.Grammars.{stands_valid}
+use Rattle.dr_entry.specs.{Spelling.IsValidVote, declared.end.{AgeEnd.AgeEnd, MemberEnd.MemberEnd}}
+use Rattle.dr_log_bytes.{specs.Content.OnLog, proofs.Grammars.stands_valid}
 use Rattle.dr_machine.specs.Group.{IsGroup, banks, roster}
-use Rattle.dr_logged.specs.Served.{AtMember}
+use Rattle.dr_served.specs.Served.{AtMember}
 use Rattle.dr_opening.specs.Tries.{content_at}
-use Rattle.dr_program.specs.Presence.{present_at}
-use Rattle.dr_program.specs.Program.{IsRanFrom, Program, absent_end, age_of, end_at, end_of}
-use Rattle.dr_program.specs.Running.{Running}
-use Rattle.dr_program.proofs.Present.{present_slice, slice_present}
-use Rattle.dr_program.proofs.Voting.{votes_within}
+use Rattle.dr_program.specs.{Presence.present_at, Program.{IsRanFrom, Program, absent_end, age_of, end_at, end_of}}
+use Rattle.dr_program.{specs.Running.Running, proofs.{Present.{present_slice, slice_present}, Voting.votes_within}}
 use Rattle.dr_program_laws.proofs.Keeping.{deeds_kept}
 use Rattle.dr_refine.specs.Programs.{IsProgram}
-use Rattle.dr_restart.specs.declared.start.Start.{Start}
-use Rattle.dr_restart.specs.Groups.{group_of}
-use Rattle.dr_restart.specs.Setups.{IsBegun}
-use Rattle.dr_restart.proofs.Setups.{are_setups}
-use Rattle.dr_script.specs.declared.script.Script.{Script}
-use Rattle.dr_script.specs.Ranges.{HasRanges}
+use Rattle.dr_restart.{specs.{Groups.group_of, Setups.IsBegun, declared.start.Start.Start}, proofs.Setups.are_setups}
+use Rattle.dr_script.specs.{Ranges.HasRanges, declared.script.Script.Script}
 use Rattle.dr_sim.proofs.Courses.{schedule_ran}
 use Rattle.dr_yard.specs.Yards.{AllTell, YardState}
-use Rattle.dr_ages.specs.declared.mode.Mode.{Mode}
+use Rattle.dr_ages.specs.{Ages.{IsMemberOf, IsPlayed}, Found.{AreFound, ReadsAs}, declared.mode.Mode.Mode}
 use Rattle.dr_ages.specs.declared.mode.Mode.TheVariants.{Sim, Run}
-use Rattle.dr_age.specs.Age.{IsAge}
-use Rattle.dr_ages.specs.Ages.{IsMemberOf, IsPlayed}
-use Rattle.dr_ages.specs.Found.{AreFound, ReadsAs}
+use Rattle.dr_play.specs.Age.{IsAge}
 
 -- ---- votes that are found are valid
 

@@ -4,10 +4,7 @@ use Rattle.dr_entry.specs.declared.end.AgeEnd.{AgeEnd}
 use Rattle.dr_program.specs.Running.{Running}
 use Rattle.dr_restart.specs.declared.start.Start.{Start}
 use Rattle.dr_script.specs.declared.script.Script.{Script}
-use Rattle.dr_ages.specs.declared.mode.Mode.{Mode}
-use Rattle.dr_ages.specs.declared.part.Part.{Part}
-use Rattle.dr_ages.specs.Ages.{start_of}
-use Rattle.dr_ages.specs.Watched.{AreWatched, HasSeen}
+use Rattle.dr_ages.specs.{Ages.start_of, Watched.{AreWatched, HasSeen}, declared.{mode.Mode.Mode, part.Part.Part}}
 
 -- who was told of ages, and then of one more, was told of all
 pub watched_more : {W : Type 0} (opens : W → Start → W → Type 0) (sees : W → Running → List ℕ → W → Type 0)

@@ -1,39 +1,26 @@
 -- The ages of a run.
 use Rattle.std.specs.Prelude.{◌≡◌, ◌≢◌, ℕ, ◌+◌, ◌-◌, ◌*◌, ◌^◌, ◌<◌, ◌≤◌, ◌↔◌, true, false, List, [], ◌∷◌, length, map, slice_get, take, Option, Some}
 use Rattle.dr_complete.specs.Time.{HasTime}
-use Rattle.dr_entry.specs.declared.end.AgeEnd.{AgeEnd}
-use Rattle.dr_entry.specs.declared.end.End.TheVariants.{Absent, DiskFault, LogFull}
-use Rattle.dr_entry.specs.declared.end.MemberEnd.{MemberEnd}
-use Rattle.dr_entry.specs.declared.entry.Entry.{Entry}
+use Rattle.dr_entry.specs.declared.end.{AgeEnd.AgeEnd, End.TheVariants.{Absent, DiskFault, LogFull}}
+use Rattle.dr_entry.specs.declared.{end.MemberEnd.MemberEnd, entry.Entry.Entry}
+use Rattle.dr_history.specs.{History.IsPrefixOf, Members.has, Order.first_entries, Soundness.IsNobodyLate}
 use Rattle.dr_history.specs.declared.opening.Opening.{Opening}
-use Rattle.dr_history.specs.History.{IsPrefixOf}
-use Rattle.dr_history.specs.Members.{has}
-use Rattle.dr_history.specs.Order.{first_entries}
-use Rattle.dr_history.specs.Soundness.{IsNobodyLate}
 use Rattle.dr_io.specs.Faults.{Rose}
 use Rattle.dr_log_bytes.specs.Content.{OnLog}
-use Rattle.dr_logged.specs.Served.{AtMember}
+use Rattle.dr_served.specs.Served.{AtMember}
 use Rattle.dr_machine.specs.Group.{Group, banks, roster}
-use Rattle.dr_opening.specs.Contents.{IsOpenFor, voted_for}
-use Rattle.dr_opening.specs.Tries.{IsChosenOf, content_at}
-use Rattle.dr_program.specs.Program.{Program}
-use Rattle.dr_program.specs.Replica.{Replica}
+use Rattle.dr_opening.specs.{Contents.{IsOpenFor, voted_for}, Tries.{IsChosenOf, content_at}}
+use Rattle.dr_program.specs.{Program.Program, Replica.Replica}
 use Rattle.dr_program_laws.specs.Ended.{AreComplete}
-use Rattle.dr_restart.specs.declared.start.Start.{Start}
-use Rattle.dr_restart.specs.Groups.{first_group_of, group_of}
+use Rattle.dr_restart.specs.{Groups.{first_group_of, group_of}, declared.start.Start.Start}
 use Rattle.dr_script.specs.declared.script.Script.{Script}
-use Rattle.dr_age.specs.Age.{IsAge}
-use Rattle.dr_age.specs.Logged.{NoneFull, NoneStopped}
-use Rattle.dr_age.specs.Run.{IsRun}
+use Rattle.dr_play.specs.{Age.IsAge, Logged.{NoneFull, NoneStopped}, Run.IsRun}
 use Rattle.dr_sim.specs.Simulated.{IsSimulated}
 use Rattle.dr_words.specs.Masks.{without}
 use Rattle.dr_yard.specs.Yards.{YardState}
-use Rattle.dr_ages.specs.declared.mode.Mode.{Mode}
-use Rattle.dr_ages.specs.declared.mode.Mode.TheVariants.{Sim, Run}
-use Rattle.dr_ages.specs.declared.part.Part.{Part}
-use Rattle.dr_ages.specs.Found.{AreFew, AreFound}
-use Rattle.dr_ages.specs.Left.{HasLeft, IsFullAt, with_logged}
-use Rattle.dr_ages.specs.Passing.{AreKeptSince, AreUntouched, PassOn}
+use Rattle.dr_ages.specs.{Found.{AreFew, AreFound}, Left.{HasLeft, IsFullAt, with_logged}}
+use Rattle.dr_ages.specs.{Passing.{AreKeptSince, AreUntouched, PassOn}, declared.mode.Mode.Mode}
+use Rattle.dr_ages.specs.declared.{mode.Mode.TheVariants.{Sim, Run}, part.Part.Part}
 
 -- who takes part in the ages of a run: the members of the roster, but for the missing
 abbrev pub taking_part : Script → ℕ → ℕ

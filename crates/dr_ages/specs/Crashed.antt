@@ -1,8 +1,6 @@
 -- Yards behind a crash.
 use Rattle.std.specs.Prelude.{◌≡◌, ℕ, ◌<◌, List, IsSomeAnd}
-use Rattle.dr_disk.specs.Calls.{at_rest}
-use Rattle.dr_disk.specs.Disk.{Told, state_of}
-use Rattle.dr_disk.specs.Images.{IsImage}
+use Rattle.dr_disk.specs.{Calls.at_rest, Disk.{Told, state_of}, Images.IsImage}
 use Rattle.dr_yard.specs.Yards.{YardState}
 
 -- a disk that told this reads as one of its images, and nothing is pending

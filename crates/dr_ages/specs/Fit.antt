@@ -1,15 +1,11 @@
 -- Disks on which nothing stands but what runs of a script have left, whatever a crash has left of them.
 use Rattle.std.specs.Prelude.{◌≡◌, ℕ, ◌<◌, List, [], length, slice_get, IsSomeAnd, Some}
-use Rattle.dr_disk.specs.Disk.{Told, state_of}
-use Rattle.dr_disk.specs.Images.{AllImages, IsImage}
+use Rattle.dr_disk.specs.{Disk.{Told, state_of}, Images.{AllImages, IsImage}}
 use Rattle.dr_entry.specs.declared.entry.Entry.{Entry}
-use Rattle.dr_opening.specs.Accepted.{AreAccepted}
-use Rattle.dr_log_bytes.specs.Content.{OnLog}
-use Rattle.dr_log_bytes.specs.Grammar.{StandFor}
-use Rattle.dr_opening.specs.Lists.{as_lists}
+use Rattle.dr_opening.specs.{Accepted.AreAccepted, Lists.as_lists}
+use Rattle.dr_log_bytes.specs.{Content.OnLog, Grammar.StandFor}
 use Rattle.dr_quorum_laws.specs.Lasting.{AreLasting}
-use Rattle.dr_restart.specs.declared.lists.LogLists.{LogLists}
-use Rattle.dr_restart.specs.Left.{entries_on_logs}
+use Rattle.dr_restart.specs.{Left.entries_on_logs, declared.lists.LogLists.LogLists}
 use Rattle.dr_script.specs.declared.script.Script.{Script}
 use Rattle.dr_yard.specs.Yards.{YardState}
 

@@ -1,13 +1,10 @@
 -- What is found on the disks of a yard as an age opens.
 use Rattle.std.specs.Prelude.{◌≡◌, ℕ, ◌+◌, ◌<◌, ◌^◌, ◌≤◌, not, List, length, Option, Some, IfSome, is_some}
-use Rattle.dr_disk.specs.Disk.{Told, content_of}
-use Rattle.dr_disk.specs.Images.{ReadsAnImage}
+use Rattle.dr_disk.specs.{Disk.{Told, content_of}, Images.ReadsAnImage}
 use Rattle.dr_history.specs.Members.{has}
 use Rattle.dr_log.specs.Standing.{entries_length, least_length}
-use Rattle.dr_log_bytes.specs.Content.{OnLog}
-use Rattle.dr_log_bytes.specs.Grammar.{StandFor}
-use Rattle.dr_opening.specs.Lists.{as_lists}
-use Rattle.dr_opening.specs.Tries.{content_at}
+use Rattle.dr_log_bytes.specs.{Content.OnLog, Grammar.StandFor}
+use Rattle.dr_opening.specs.{Lists.as_lists, Tries.content_at}
 use Rattle.dr_restart.specs.Choosing.{HasAge}
 use Rattle.dr_script.specs.declared.script.Script.{Script}
 use Rattle.dr_yard.specs.Yards.{YardState}

@@ -2,21 +2,14 @@
 use Rattle.std.specs.Prelude.{◌≡◌, ℕ, ◌<◌, ◌≤◌, List, [], ◌∷◌, Option, Some}
 use Rattle.dr_disk.specs.Images.{IsLeft}
 use Rattle.dr_log.specs.Standing.{LosesNone}
-use Rattle.dr_log_bytes.specs.Content.{OnLog}
-use Rattle.dr_log_bytes.specs.Grammar.{StandFor}
-use Rattle.dr_opening.specs.Contents.{IsOpenFor, voted_for}
-use Rattle.dr_opening.specs.Tries.{IsChosenOf, content_at}
-use Rattle.dr_restart.specs.declared.start.Start.{Start}
-use Rattle.dr_restart.specs.Groups.{first_group_of}
+use Rattle.dr_log_bytes.specs.{Content.OnLog, Grammar.StandFor}
+use Rattle.dr_opening.specs.{Contents.{IsOpenFor, voted_for}, Tries.{IsChosenOf, content_at}}
+use Rattle.dr_restart.specs.{Groups.first_group_of, declared.start.Start.Start}
 use Rattle.dr_script.specs.declared.script.Script.{Script}
 use Rattle.dr_words.specs.Masks.{without}
 use Rattle.dr_yard.specs.Yards.{YardState}
-use Rattle.dr_ages.specs.declared.mode.Mode.{Mode}
-use Rattle.dr_ages.specs.declared.mode.Mode.TheVariants.{Sim, Run}
-use Rattle.dr_ages.specs.declared.part.Part.{Part}
-use Rattle.dr_ages.specs.Found.{AreFound}
-use Rattle.dr_ages.specs.Passing.{AreKeptSince}
-use Rattle.dr_ages.specs.Stops.{AreMountedBelow, HaveNotFailed, IsStuckIn}
+use Rattle.dr_ages.specs.{Found.AreFound, Passing.AreKeptSince, Stops.{AreMountedBelow, HaveNotFailed, IsStuckIn}}
+use Rattle.dr_ages.specs.declared.{mode.Mode.{Mode, TheVariants.{Sim, Run}}, part.Part.Part}
 
 -- An age was opened on a log, and no end of it is told. A simulated one hasn't begun: what a crash leaves stands
 -- for what the log was opened with. In threads some members may have begun: it has all of that, and maybe more.

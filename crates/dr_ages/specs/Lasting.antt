@@ -1,7 +1,6 @@
 -- The world in which an age has ended.
 use Rattle.std.specs.Prelude.{◌≡◌, ℕ, false, Some, slice_get}
-use Rattle.dr_entry.specs.declared.end.AgeEnd.{AgeEnd}
-use Rattle.dr_entry.specs.declared.end.MemberEnd.{MemberEnd}
+use Rattle.dr_entry.specs.declared.end.{AgeEnd.AgeEnd, MemberEnd.MemberEnd}
 use Rattle.dr_history.specs.Members.{has}
 use Rattle.dr_machine.specs.World.{World}
 use Rattle.dr_ages.specs.declared.part.Part.{Part}

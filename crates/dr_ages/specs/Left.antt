@@ -1,13 +1,10 @@
 -- What the members of an age leave on their disks.
 use Rattle.std.specs.Prelude.{◌≡◌, ℕ, ◌+◌, ◌<◌, ◌⊎◌, ◌++◌, length, take, drop, Option, Some}
-use Rattle.dr_disk.specs.Disk.{Told}
-use Rattle.dr_disk.specs.Images.{IsLeft}
-use Rattle.dr_entry.specs.declared.end.End.TheVariants.{DiskFault}
-use Rattle.dr_entry.specs.declared.record.Record.{Record}
+use Rattle.dr_disk.specs.{Disk.Told, Images.IsLeft}
+use Rattle.dr_entry.specs.{declared.end.End.TheVariants.DiskFault, declared.record.Record.Record}
 use Rattle.dr_log.specs.Standing.{IsBeforeOrAfter, entries_length, votes_length}
-use Rattle.dr_log_bytes.specs.Content.{OnLog, block_length}
-use Rattle.dr_log_bytes.specs.Grammar.{StandFor}
-use Rattle.dr_logged.specs.Served.{IsRecordDue}
+use Rattle.dr_log_bytes.specs.{Content.{OnLog, block_length}, Grammar.StandFor}
+use Rattle.dr_served.specs.Served.{IsRecordDue}
 use Rattle.dr_program.specs.Replica.{Replica}
 
 -- what is on a log behind an age, by what stood on it as the age began: the entries that its member has logged, which

@@ -1,24 +1,18 @@
 -- The disks of a yard that are lent, and the logs on them.
-use Rattle.std.specs.Prelude.{◌≡◌, ℕ, ◌<◌, ◌≤◌, Bool, not, false, List, length, Option, Some, IfSome, is_some}
 use Rattle.std.specs.Option.{option_map_or}
-use Rattle.dr_disk.specs.Calls.{Sync}
-use Rattle.dr_disk.specs.Disk.{Told, added}
-use Rattle.dr_disk.specs.Images.{Goes}
+use Rattle.std.specs.Prelude.{◌≡◌, ℕ, ◌<◌, ◌≤◌, Bool, not, false, List, length, Option, Some, IfSome, is_some}
+use Rattle.dr_disk.specs.{Calls.Sync, Disk.{Told, added}, Images.Goes}
 use Rattle.dr_entry.specs.declared.limits.TheConstants.{MAX_MEMBERS}
 use Rattle.dr_history.specs.Members.{has}
 use Rattle.dr_io.specs.Faults.{Rose}
 use Rattle.dr_log.specs.Appending as mounts
-use Rattle.dr_log.specs.Standing.{KeepsRecords}
-use Rattle.dr_log.specs.Standing.{least_length}
-use Rattle.dr_log.specs.State.{LogState}
+use Rattle.dr_log.specs.{Standing.{KeepsRecords, least_length}, State.LogState}
 use Rattle.dr_log_bytes.specs.Content.{OnLog}
-use Rattle.dr_logged.specs.Served.{IsSafe}
+use Rattle.dr_served.specs.Served.{IsSafe}
 use Rattle.dr_opening.specs.Lists.{log_of}
 use Rattle.dr_yard.specs.Yards.{YardState}
-use Rattle.dr_ages.specs.declared.stop.Stop.{Stop}
+use Rattle.dr_ages.specs.{Found.{AreFound, ReadsAs}, Stops.{HasDamaged, ReadsDamaged}, declared.stop.Stop.Stop}
 use Rattle.dr_ages.specs.declared.stop.Stop.TheVariants.{OutOfMemory, DiskFault, Damaged}
-use Rattle.dr_ages.specs.Found.{AreFound, ReadsAs}
-use Rattle.dr_ages.specs.Stops.{HasDamaged, ReadsDamaged}
 
 -- the disks of members are lent that stand under these logs, by number; a disk has counted no fewer faults than
 -- the yard has

@@ -1,15 +1,11 @@
 -- The logs of an age that opens.
 use Rattle.std.specs.Prelude.{◌≡◌, ◌⊎◌, ℕ, ◌≤◌, List, [], ◌∷◌, Option, Some, is_some}
-use Rattle.dr_disk.specs.Disk.{Told}
-use Rattle.dr_disk.specs.Images.{Goes, IsLeft}
+use Rattle.dr_disk.specs.{Disk.Told, Images.{Goes, IsLeft}}
 use Rattle.dr_entry.specs.declared.entry.Entry.{Entry}
-use Rattle.dr_log.specs.Standing.{HasAllOf, LosesNone}
-use Rattle.dr_log.specs.State.{LogState}
+use Rattle.dr_log.specs.{Standing.{HasAllOf, LosesNone}, State.LogState}
 use Rattle.dr_log_bytes.specs.Content.{OnLog}
-use Rattle.dr_opening.specs.Lists.{log_of}
-use Rattle.dr_opening.specs.Tries.{IsChosenOf}
-use Rattle.dr_restart.specs.declared.start.Start.{Start}
-use Rattle.dr_restart.specs.Groups.{first_group_of}
+use Rattle.dr_opening.specs.{Lists.log_of, Tries.IsChosenOf}
+use Rattle.dr_restart.specs.{Groups.first_group_of, declared.start.Start.Start}
 use Rattle.dr_script.specs.declared.script.Script.{Script}
 use Rattle.dr_ages.specs.Passing.{AllBeginWith}
 

@@ -1,14 +1,10 @@
 -- What becomes of the disks of a yard while a run goes on.
 use Rattle.std.specs.Prelude.{◌≡◌, ℕ, ◌<◌, ◌≤◌, All, false, true, List, Option, IfSome, is_some}
-use Rattle.dr_disk.specs.Disk.{Told}
-use Rattle.dr_disk.specs.Images.{Goes, IsLeft}
+use Rattle.dr_disk.specs.{Disk.Told, Images.{Goes, IsLeft}}
 use Rattle.dr_entry.specs.declared.entry.Entry.{Entry}
-use Rattle.dr_history.specs.History.{IsPrefixOf}
-use Rattle.dr_history.specs.Members.{has}
-use Rattle.dr_log.specs.Appending.{IsMounted}
-use Rattle.dr_log.specs.Standing.{HasAllOf, KeepsRecords, LosesNone}
-use Rattle.dr_log_bytes.specs.Content.{OnLog}
-use Rattle.dr_log_bytes.specs.Grammar.{StandFor}
+use Rattle.dr_history.specs.{History.IsPrefixOf, Members.has}
+use Rattle.dr_log.specs.{Appending.IsMounted, Standing.{HasAllOf, KeepsRecords, LosesNone}}
+use Rattle.dr_log_bytes.specs.{Content.OnLog, Grammar.StandFor}
 use Rattle.dr_yard.specs.Yards.{YardState}
 use Rattle.dr_ages.specs.Found.{ReadsAs}
 

@@ -2,15 +2,13 @@
 use Rattle.std.specs.Prelude.{◌≡◌, ℕ, ◌<◌, false, not, List, length, IsSomeAnd, Option, Some, is_some}
 use Rattle.dr_disk.specs.Disk.{content_of}
 use Rattle.dr_history.specs.Members.{has}
-use Rattle.dr_log_bytes.specs.Content.{OnLog}
-use Rattle.dr_log_bytes.specs.Grammar.{IsDamaged, StandFor}
+use Rattle.dr_log_bytes.specs.{Content.OnLog, Grammar.{IsDamaged, StandFor}}
 use Rattle.dr_opening.specs.Tries.{content_at}
 use Rattle.dr_restart.specs.Refusing.{Refusal}
 use Rattle.dr_script.specs.declared.script.Script.{Script}
 use Rattle.dr_yard.specs.Yards.{YardState}
-use Rattle.dr_ages.specs.declared.stop.Stop.{Stop}
+use Rattle.dr_ages.specs.{Stops.AreRefusedFor, declared.stop.Stop.Stop}
 use Rattle.dr_ages.specs.declared.stop.Stop.TheVariants.{OutOfMemory, DiskFault, LogFull, Damaged, Disagree, Foreign, NoQuorum, AgesUsedUp}
-use Rattle.dr_ages.specs.Stops.{AreRefusedFor}
 
 -- the first n disks read as logs with this on them, in a place for each, but for the missing
 pub record AreRead (n missing : ℕ) (yard : YardState) (contents : List (Option OnLog)) : Type 0 where

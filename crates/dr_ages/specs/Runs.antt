@@ -1,32 +1,19 @@
 -- What a run of ages is.
 use Rattle.std.specs.Prelude.{◌≡◌, ◌≢◌, ◌⊎◌, ℕ, ◌+◌, ◌<◌, All, true, false, List, [], ◌∷◌, ◌++◌, length, slice_get, take, Option, None, Some, IfSome, IsSomeAnd}
 use Rattle.dr_disk.specs.Images.{IsLeft}
-use Rattle.dr_entry.specs.declared.end.AgeEnd.{AgeEnd}
-use Rattle.dr_entry.specs.declared.end.MemberEnd.{MemberEnd}
-use Rattle.dr_entry.specs.declared.entry.Entry.{Entry}
-use Rattle.dr_history.specs.Agreement.{accounts_of}
-use Rattle.dr_history.specs.History.{IsPrefixOf}
-use Rattle.dr_history.specs.Members.{has}
-use Rattle.dr_history.specs.Restarting.{Kept}
+use Rattle.dr_entry.specs.declared.{end.{AgeEnd.AgeEnd, MemberEnd.MemberEnd}, entry.Entry.Entry}
+use Rattle.dr_history.specs.{Agreement.accounts_of, History.IsPrefixOf, Members.has, Restarting.Kept}
 use Rattle.dr_log.specs.Standing.{LosesNone, with_entries}
 use Rattle.dr_log_bytes.specs.Content.{OnLog, empty_of}
 use Rattle.dr_script.specs.declared.script.Script.{Script}
-use Rattle.dr_age.specs.Logged.{NoneFull}
-use Rattle.dr_logged.specs.Served.{AtMember}
+use Rattle.dr_play.specs.Logged.{NoneFull}
+use Rattle.dr_served.specs.Served.{AtMember}
 use Rattle.dr_yard.specs.Yards.{AllTell, AreEmpty, YardState}
-use Rattle.dr_ages.specs.declared.mode.Mode.{Mode}
-use Rattle.dr_ages.specs.declared.part.Part.{Part}
-use Rattle.dr_ages.specs.declared.stop.Stop.{Stop}
-use Rattle.dr_ages.specs.declared.stop.Stop.TheVariants.{OutOfMemory, AgesUsedUp}
-use Rattle.dr_ages.specs.Ages.{AreAges, IsAgeOf, NamesNobody, opening_of, starts_of}
-use Rattle.dr_ages.specs.Fit.{AreFit, AreInStep}
-use Rattle.dr_ages.specs.Found.{AreRoomy}
-use Rattle.dr_ages.specs.Lacking.{LackedMemory}
-use Rattle.dr_ages.specs.Left.{with_logged}
-use Rattle.dr_ages.specs.Passing.{AreKeptSince, AreUntouched, PassOn}
-use Rattle.dr_ages.specs.Refused.{IsRefusal}
-use Rattle.dr_ages.specs.Tried.{AreTried}
+use Rattle.dr_ages.specs.{Ages.{AreAges, IsAgeOf, NamesNobody, opening_of, starts_of}, declared.mode.Mode.Mode}
+use Rattle.dr_ages.specs.{Fit.{AreFit, AreInStep}, Lacking.LackedMemory, Passing.{AreKeptSince, AreUntouched, PassOn}}
+use Rattle.dr_ages.specs.{Found.AreRoomy, Left.with_logged, Refused.IsRefusal, Tried.AreTried}
 use Rattle.dr_ages.specs.Stops.{AreChosenIn, HasMounted, HasStopped, IsBadLogs, IsOfLogs, IsOutside, NamesFaults}
+use Rattle.dr_ages.specs.declared.{part.Part.Part, stop.Stop.{Stop, TheVariants.{OutOfMemory, AgesUsedUp}}}
 
 -- each age keeps the one before it, and begins with all that a member of any earlier one knew to be durable
 pub record AreKept (script : Script) (part : Part) (ages : List AgeEnd) : Type 0 where

@@ -1,29 +1,20 @@
 -- Why an age of a run was not opened.
 use Rattle.std.specs.Prelude.{◌≡◌, ◌≢◌, ◌⊎◌, ⊤, ℕ, ◌<◌, ◌≤◌, false, List, [], ◌∷◌, Option, Some, IfSome}
-use Rattle.dr_disk.specs.Calls.{Sync}
-use Rattle.dr_disk.specs.Disk.{Told, added, content_of}
-use Rattle.dr_disk.specs.Images.{IsLeft, ReadsAnImage}
+use Rattle.dr_disk.specs.{Calls.Sync, Disk.{Told, added, content_of}, Images.{IsLeft, ReadsAnImage}}
 use Rattle.dr_entry.specs.declared.entry.Entry.{Entry}
 use Rattle.dr_history.specs.Members.{has}
 use Rattle.dr_io.specs.Faults.{Rose}
-use Rattle.dr_log_bytes.specs.Content.{OnLog}
-use Rattle.dr_log_bytes.specs.Grammar.{IsDamaged, StandFor}
-use Rattle.dr_opening.specs.Contents.{IsOpenFor, IsRisingStep, IsVoteStep, voted_for}
-use Rattle.dr_opening.specs.Lists.{all_as_lists}
+use Rattle.dr_log_bytes.specs.{Content.OnLog, Grammar.{IsDamaged, StandFor}}
+use Rattle.dr_opening.specs.{Contents.{IsOpenFor, IsRisingStep, IsVoteStep, voted_for}, Lists.all_as_lists}
 use Rattle.dr_opening.specs.Tries.{IsChosenOf, content_at}
 use Rattle.dr_quorum.specs.Handing.{handed_by}
-use Rattle.dr_restart.specs.declared.start.Start.{Start}
-use Rattle.dr_restart.specs.Groups.{first_group_of}
-use Rattle.dr_restart.specs.Refusing.{IsRefusedFor, Refusal}
+use Rattle.dr_restart.specs.{Groups.first_group_of, Refusing.{IsRefusedFor, Refusal}, declared.start.Start.Start}
 use Rattle.dr_script.specs.declared.script.Script.{Script}
 use Rattle.dr_words.specs.Masks.{without}
 use Rattle.dr_yard.specs.Yards.{YardState}
-use Rattle.dr_ages.specs.declared.part.Part.{Part}
-use Rattle.dr_ages.specs.declared.stop.Stop.{Stop}
+use Rattle.dr_ages.specs.{Found.AreFound, Opened.AreChosenOf, Passing.{AreKeptSince, AreUntouched, PassOn}}
+use Rattle.dr_ages.specs.declared.{part.Part.Part, stop.Stop.Stop}
 use Rattle.dr_ages.specs.declared.stop.Stop.TheVariants.{OutOfMemory, DiskFault, LogFull, Damaged, Disagree, Foreign, NoQuorum, AgesUsedUp}
-use Rattle.dr_ages.specs.Found.{AreFound}
-use Rattle.dr_ages.specs.Opened.{AreChosenOf}
-use Rattle.dr_ages.specs.Passing.{AreKeptSince, AreUntouched, PassOn}
 
 -- what is found on the logs that are not missing has P
 abbrev pub AreFoundSo : Script → ℕ → YardState → (List (Option OnLog) → Type 0) → Type 0

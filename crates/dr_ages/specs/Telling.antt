@@ -1,9 +1,8 @@
 -- Why a run ends, by why an age was not opened.
 use Rattle.std.specs.Prelude.{ℕ}
-use Rattle.dr_opening.specs.declared.age.NotOpened.{NotOpened}
-use Rattle.dr_opening.specs.declared.age.NotOpened.TheVariants.{Unchosen, Unfinished}
-use Rattle.dr_opening.specs.declared.catching_up.CatchFault.TheVariants as catches
+use Rattle.dr_opening.specs.declared.age.NotOpened.{NotOpened, TheVariants.{Unchosen, Unfinished}}
 use Rattle.dr_opening.specs.declared.catching_up.CatchFault.{CatchFault}
+use Rattle.dr_opening.specs.declared.catching_up.CatchFault.TheVariants as catches
 use Rattle.dr_quorum.specs.declared.faults.ChooseFault.{ChooseFault}
 use Rattle.dr_quorum.specs.declared.faults.ChooseFault.TheVariants as chooses
 use Rattle.dr_ages.specs.declared.stop.Stop.{Stop}

@@ -1,10 +1,7 @@
 -- What an opening that stopped may have left on the disks of a yard.
 use Rattle.std.specs.Prelude.{◌≡◌, ◌⊎◌, ℕ, ◌<◌, true, false, List}
 use Rattle.dr_history.specs.Members.{has}
-use Rattle.dr_restart.specs.declared.lists.Attempt.{Attempt}
-use Rattle.dr_restart.specs.declared.lists.LogLists.{LogLists}
-use Rattle.dr_restart.specs.Groups.{first_group_of}
-use Rattle.dr_restart.specs.Trying.{IsTry}
+use Rattle.dr_restart.specs.{Groups.first_group_of, Trying.IsTry, declared.lists.{Attempt.Attempt, LogLists.LogLists}}
 use Rattle.dr_script.specs.declared.script.Script.{Script}
 use Rattle.dr_yard.specs.Yards.{YardState}
 use Rattle.dr_ages.specs.Fit.{AreChosen, AreReadable}

@@ -5,10 +5,7 @@ use Rattle.dr_program.specs.Running.{Running}
 use Rattle.dr_restart.specs.declared.start.Start.{Start}
 use Rattle.dr_script.specs.declared.script.Script.{Script}
 use Rattle.dr_sim.specs.Watched.{IsWatched}
-use Rattle.dr_ages.specs.declared.mode.Mode.{Mode}
-use Rattle.dr_ages.specs.declared.part.Part.{Part}
-use Rattle.dr_ages.specs.declared.mode.Mode.TheVariants.{Sim, Run}
-use Rattle.dr_ages.specs.Ages.{start_of}
+use Rattle.dr_ages.specs.{Ages.start_of, declared.{mode.Mode.{Mode, TheVariants.{Sim, Run}}, part.Part.Part}}
 
 -- the watcher was told of a simulated age, and nothing of one in threads
 abbrev pub HasSeen : {W : Type 0} → (W → Start → W → Type 0) → (W → Running → List ℕ → W → Type 0)

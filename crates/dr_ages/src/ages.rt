@@ -8,25 +8,19 @@
 //! script, and an opening adds 14 bytes at most besides, for an upgrade, a vote for the age and a cut: so
 //! 536,870,912 bytes leave room for all ages of a run.
 ghost use Rattle.std.specs.Prelude.{◌≡◌, ◌≢◌, ◌<◌, ℕ, [], Some, IfErr, IfOk, OnErr, false, length};
-ghost use Rattle.dr_age.specs.Age.{IsAgeOn};
-ghost use Rattle.dr_age.specs.Logged.{AreAsBefore, AreCalm, AreOpened};
+ghost use Rattle.dr_play.specs.{Age.IsAgeOn, Logged.{AreAsBefore, AreCalm, AreOpened}};
 ghost use Rattle.dr_entry.specs.declared.limits.TheConstants.{MAX_MEMBERS};
 ghost use Rattle.dr_log.specs.State.{LogState};
-ghost use Rattle.dr_logged.specs.Served.{HaveSamePlaces};
+ghost use Rattle.dr_served.specs.Served.{HaveSamePlaces};
 ghost use Rattle.dr_machine.specs.Group.{IsGroup};
 ghost use Rattle.dr_opening.specs.Lists.{contents_of, log_of};
 ghost use Rattle.dr_restart.specs.Groups.{group_of};
 ghost use Rattle.dr_script.specs.Ranges.{HasRanges};
 ghost use Rattle.dr_yard.specs.Yards.{AllTell, YardState, state_by};
-ghost use Rattle.dr_ages.specs.Ages.{HaveSomebodyPrompt, IsAgeOf, IsPlayed, start_of};
-ghost use Rattle.dr_ages.specs.Lacking.{LackedMemory};
-ghost use Rattle.dr_ages.specs.Lent.{AreAllBut, AreMounted, with_logs};
-ghost use Rattle.dr_ages.specs.Opened.{AreLater, HaveGoneOn};
-ghost use Rattle.dr_ages.specs.Runs.{IsRunOf};
-ghost use Rattle.dr_ages.specs.Stops.{HasKept, HasStopped, IsBehindMounts, NamesFaults};
-ghost use Rattle.dr_ages.specs.Tried.{AreTried};
-ghost use Rattle.dr_ages.specs.Watched.{AreWatched, HasSeen};
-ghost use Rattle.dr_ages.specs.declared.mode.Mode.TheVariants.{Sim};
+ghost use Rattle.dr_ages.specs.{Ages.{HaveSomebodyPrompt, IsAgeOf, IsPlayed, start_of}, Lacking.LackedMemory};
+ghost use Rattle.dr_ages.specs.{Lent.{AreAllBut, AreMounted, with_logs}, Opened.{AreLater, HaveGoneOn}, Runs.IsRunOf};
+ghost use Rattle.dr_ages.specs.{Stops.{HasKept, HasStopped, IsBehindMounts, NamesFaults}, Tried.AreTried};
+ghost use Rattle.dr_ages.specs.{Watched.{AreWatched, HasSeen}, declared.mode.Mode.TheVariants.Sim};
 ghost use Rattle.dr_ages.specs.declared.stop.Stop.TheVariants as stops;
 
 use crate::lending::{give_all_back, mount_all};

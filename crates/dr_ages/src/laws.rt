@@ -1,38 +1,23 @@
 //! Laws of ages, and of the disks that they leave.
 ghost use Rattle.std.specs.Prelude.{◌≡◌, ◌≢◌, ◌<◌, ℕ, false, List, [], ◌∷◌, ◌++◌, Option, Some, IsSomeAnd, slice_get, take};
-ghost use Rattle.dr_age.specs.Logged.{NoneStopped};
+ghost use Rattle.dr_play.specs.Logged.{NoneStopped};
 ghost use Rattle.dr_complete.specs.Time.{HasTime};
-ghost use Rattle.dr_disk.specs.Calls.{at_rest};
-ghost use Rattle.dr_disk.specs.Disk.{state_of};
-ghost use Rattle.dr_entry.specs.declared.end.AgeEnd.{AgeEnd};
-ghost use Rattle.dr_entry.specs.declared.end.MemberEnd.{MemberEnd};
-ghost use Rattle.dr_entry.specs.declared.entry.Entry.{Entry};
-ghost use Rattle.dr_history.specs.History.{IsPrefixOf};
-ghost use Rattle.dr_history.specs.Members.{has};
-ghost use Rattle.dr_history.specs.Soundness.{IsNobodyLate};
+ghost use Rattle.dr_disk.specs.{Calls.at_rest, Disk.state_of};
+ghost use Rattle.dr_entry.specs.declared.{end.{AgeEnd.AgeEnd, MemberEnd.MemberEnd}, entry.Entry.Entry};
+ghost use Rattle.dr_history.specs.{History.IsPrefixOf, Members.has, Soundness.IsNobodyLate};
 ghost use Rattle.dr_log_bytes.specs.Content.{OnLog};
-ghost use Rattle.dr_machine.specs.Group.{AllPresent, IsGroup};
-ghost use Rattle.dr_machine.specs.World.{World};
+ghost use Rattle.dr_machine.specs.{Group.{AllPresent, IsGroup}, World.World};
 ghost use Rattle.dr_opening.specs.Tries.{content_at};
 ghost use Rattle.dr_program.specs.Program.{Program};
 ghost use Rattle.dr_program_laws.specs.Ended.{AreComplete};
 ghost use Rattle.dr_quorum_laws.specs.Lasting.{HoldSinceAge};
-ghost use Rattle.dr_restart.specs.declared.lists.LogLists.{LogLists};
-ghost use Rattle.dr_restart.specs.declared.start.Start.{Start};
-ghost use Rattle.dr_restart.specs.Groups.{group_of};
-ghost use Rattle.dr_script.specs.declared.script.Script.{Script};
-ghost use Rattle.dr_script.specs.Ranges.{HasRanges};
+ghost use Rattle.dr_restart.specs.{Groups.group_of, declared.{lists.LogLists.LogLists, start.Start.Start}};
+ghost use Rattle.dr_script.specs.{Ranges.HasRanges, declared.script.Script.Script};
 ghost use Rattle.dr_sim.specs.Simulated.{IsSimulated};
 ghost use Rattle.dr_yard.specs.Yards.{YardState};
-ghost use Rattle.dr_ages.specs.declared.mode.Mode.{Mode};
-ghost use Rattle.dr_ages.specs.declared.part.Part.{Part};
-ghost use Rattle.dr_ages.specs.declared.stop.Stop.{Stop};
-ghost use Rattle.dr_ages.specs.declared.stop.Stop.TheVariants.{OutOfMemory};
-ghost use Rattle.dr_ages.specs.Ages.{IsAgeOf, NamesNobody, start_of};
-ghost use Rattle.dr_ages.specs.Crashed.{HaveCrashed};
-ghost use Rattle.dr_ages.specs.Fit.{AreChosen, AreFit, AreInStep, AreLastingOn};
-ghost use Rattle.dr_ages.specs.Lasting.{HasEndedIn};
-ghost use Rattle.dr_ages.specs.Runs.{IsRunOf};
+ghost use Rattle.dr_ages.specs.{Ages.{IsAgeOf, NamesNobody, start_of}, Crashed.HaveCrashed};
+ghost use Rattle.dr_ages.specs.{Fit.{AreChosen, AreFit, AreInStep, AreLastingOn}, Lasting.HasEndedIn, Runs.IsRunOf};
+ghost use Rattle.dr_ages.specs.declared.{mode.Mode.Mode, part.Part.Part, stop.Stop.{Stop, TheVariants.OutOfMemory}};
 
 /// In a simulated age of a script that gives its members time enough, from which nobody is absent, in which nobody
 /// is late, and of which no log failed, all members are complete.

@@ -1,7 +1,6 @@
 -- What is certain of the views of a world that is reached, and of its members that are done.
 use Rattle.dr_faithful.specs.Chosen.{views_by}
-use Rattle.dr_machine.specs.Group.{Group, IsGroup}
-use Rattle.dr_machine.specs.World.{World}
+use Rattle.dr_machine.specs.{Group.{Group, IsGroup}, World.World}
 use Rattle.dr_world_laws.proofs.Agreeing.{done-lacks-none, done-same}
 use Rattle.dr_world_laws.proofs.Telling.{has-present, has-view, view-ended, view-once, voted-covered}
 use Rattle.dr_world_laws.proofs.Worlds.{Known, done-durable, done-whole, holds-remaining}

@@ -1,14 +1,9 @@
 -- What is certain of the views of a world, and of its members that are done.
 use Rattle.std.specs.Prelude.{◌≡◌, ◌⊎◌, ℕ, ◌+◌, ◌<◌, ◌≤◌, ◌++◌, length, true, Some}
-use Rattle.dr_entry.specs.declared.end.End.TheVariants.{Done}
-use Rattle.dr_entry.specs.declared.record.Value.{Value}
-use Rattle.dr_history.specs.History.{IsPrefixOf}
-use Rattle.dr_history.specs.Members.{has}
-use Rattle.dr_history.specs.Order.{IsLateIn, first_entries, messages_from}
+use Rattle.dr_entry.specs.{declared.end.End.TheVariants.Done, declared.record.Value.Value}
+use Rattle.dr_history.specs.{History.IsPrefixOf, Members.has, Order.{IsLateIn, first_entries, messages_from}}
 use Rattle.dr_history_laws.specs.Remaining.{remaining}
-use Rattle.dr_machine.specs.Group.{Group, roster}
-use Rattle.dr_machine.specs.Guards.{HoldsAll}
-use Rattle.dr_machine.specs.World.{World}
+use Rattle.dr_machine.specs.{Group.{Group, roster}, Guards.HoldsAll, World.World}
 use Rattle.dr_vote_laws.specs.Voting.{HaveVotedFor}
 use Rattle.dr_words.specs.Masks.{next_members}
 use Rattle.dr_world_laws.specs.Views.{HasView, IsCovered}

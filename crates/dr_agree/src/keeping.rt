@@ -1,13 +1,9 @@
 //! Ages that keep what earlier ones have delivered durably.
 ghost use Rattle.std.specs.Prelude.{◌≡◌, ◌↔◌, ◌<◌, IsTrue, take, ℕ};
-ghost use Rattle.dr_history.specs.History.{IsPrefixOf};
-ghost use Rattle.dr_history.specs.Restarting.{AreLeftBy, IsLongest, Kept};
-ghost use Rattle.dr_machine.specs.Group.{IsGroup, IsPresent, roster};
+ghost use Rattle.dr_history.specs.{History.IsPrefixOf, Restarting.{AreLeftBy, IsLongest, Kept}};
+ghost use Rattle.dr_machine.specs.{Group.{IsGroup, IsPresent, roster}, World.{World as WorldOf, opening_world}};
 ghost use Rattle.dr_machine.specs.Run.{ComesOfEvents, IsReached, Run, accounts_in};
-ghost use Rattle.dr_machine.specs.World.{World as WorldOf, opening_world};
-ghost use Rattle.dr_restart.specs.declared.start.Start.{Start as StartOf};
-ghost use Rattle.dr_restart.specs.Groups.{group_of};
-ghost use Rattle.dr_restart.specs.Left.{entries_on_logs};
+ghost use Rattle.dr_restart.specs.{Groups.group_of, Left.entries_on_logs, declared.start.Start.Start as StartOf};
 ghost use Rattle.dr_world.specs.Held.{its_group, its_world};
 
 use dr_entry::Entry;

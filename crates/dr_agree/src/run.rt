@@ -1,8 +1,7 @@
 //! Runs of the executable world, and what is certain of them.
 ghost use Rattle.std.specs.Prelude.{◌≡◌, ◌↔◌, ◌<◌, ◌⊎◌, IfOk, IsTrue};
 ghost use Rattle.dr_history.specs.History.{IsPrefixOf};
-ghost use Rattle.dr_machine.specs.Group.{IsGroup, IsPresent, roster};
-ghost use Rattle.dr_machine.specs.Run.{NoLaterItem, Run, WorldAgreed};
+ghost use Rattle.dr_machine.specs.{Group.{IsGroup, IsPresent, roster}, Run.{NoLaterItem, Run, WorldAgreed}};
 ghost use Rattle.dr_machine.specs.World.{opening_world};
 ghost use Rattle.dr_script.specs.Ranges.{HasGroupRanges};
 ghost use Rattle.dr_restart.specs.Groups.{group_of};

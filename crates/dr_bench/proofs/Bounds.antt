@@ -1,8 +1,7 @@
 -- What looks keep.
 use Rattle.std.proofs.Common.{◌≡◌, ℕ, ◌<◌, ◌≤◌, inl, inr, sym, subst, arith}
 use Rattle.dr_words.specs.declared.shape.Shape.{Shape}
-use Rattle.dr_rows.specs.Words.{Words, IsWords, looked, seen}
-use Rattle.dr_rows.proofs.Grids.{with_word_either}
+use Rattle.dr_rows.{specs.Words.{Words, IsWords, looked, seen}, proofs.Grids.with_word_either}
 use Rattle.dr_bench.specs.Known.{IsOpen, IsUpTo}
 
 -- a look keeps the shape of the rows, with none frozen
@@ -18,8 +17,7 @@ open_looked shape w x i c v known same =
 
 -- a look that sees no word above the bound keeps all words up to it
 pub up_to_looked : (shape : Shape) (word : ℕ) (w x : Words) (i c v : ℕ) → IsUpTo shape word w
-    → x ≡ looked w i c v → IsWords x
-    → i < w.members → c < w.columns → v ≤ word → IsUpTo shape word x
+    → x ≡ looked w i c v → IsWords x → i < w.members → c < w.columns → v ≤ word → IsUpTo shape word x
 up_to_looked shape word w x i c v known same form h g small = record {
   rows = open_looked shape w x i c v known.rows same form;
   most = subst (λ (y : Words). (j d : ℕ) → seen y j d ≤ word) (sym same) (λ j d.

@@ -2,17 +2,11 @@
 use Rattle.std.proofs.Common.{◌≡◌, ◌≢◌, ℕ, ◌+◌, ◌-◌, ◌*◌, ◌^◌, ◌<◌, ◌≤◌, inl, inr, List, length, get_or, refl, le_refl, sym, ap, subst, ◌∙◌, arith}
 use Rattle.std.proofs.lemmas.Bool.{cases_lt}
 use Rattle.dr_entry.specs.declared.entry.Item.{Item}
-use Rattle.dr_words.specs.declared.shape.Shape.{Shape}
-use Rattle.dr_words.specs.Form.{IsInForm, AllInForm}
-use Rattle.dr_words.specs.Packing.{ring_word, ring_tag}
-use Rattle.dr_rows.specs.Words.{Words, IsWords, looked, own}
-use Rattle.dr_rows.proofs.Grids.{with_word-row, with_word_either}
-use Rattle.dr_ring.specs.Pieces.{pieces}
-use Rattle.dr_ring.specs.Slots.{slot_column, with_item}
-use Rattle.dr_ring.proofs.Items.{few_pieces, piece_fits}
+use Rattle.dr_words.specs.{Form.{IsInForm, AllInForm}, Packing.{ring_word, ring_tag}, declared.shape.Shape.Shape}
+use Rattle.dr_rows.{specs.Words.{Words, IsWords, looked, own}, proofs.Grids.{with_word-row, with_word_either}}
+use Rattle.dr_ring.{specs.{Pieces.pieces, Slots.{slot_column, with_item}}, proofs.Items.{few_pieces, piece_fits}}
 use Rattle.dr_ring.proofs.Writes.{HasSlot-from, own_set, own_left}
-use Rattle.dr_bench.specs.Known.{HasPut, IsItem, IsUpTo}
-use Rattle.dr_bench.proofs.Bounds.{up_to_looked}
+use Rattle.dr_bench.{specs.Known.{HasPut, IsItem, IsUpTo}, proofs.Bounds.up_to_looked}
 
 -- ---- before the first put: the others have received all
 
@@ -24,8 +18,7 @@ pub record AreReceived (shape : Shape) (word : ℕ) (w : Words) : Type 0 where
 
 -- another member has received all up to a word that a look sees
 pub received_one : (shape : Shape) (word : ℕ) (w x : Words) (i c : ℕ) → AreReceived shape word w
-    → x ≡ looked w i c word → IsWords x
-    → i < w.members → c < w.columns → i ≢ w.me → IsInForm w.members c word
+    → x ≡ looked w i c word → IsWords x → i < w.members → c < w.columns → i ≢ w.me → IsInForm w.members c word
     → AreReceived shape word x
 received_one shape word w x i c known same =
     subst (λ (y : Words). IsWords y → i < w.members → c < w.columns → i ≢ w.me
@@ -73,8 +66,7 @@ tag_after window w k item c form some columns is before =
     ]
 
 -- after a put the own slots have items up to the one that was put
-pub put_kept : (shape : Shape) (old new : Words) (k : ℕ) (item : Item) → HasPut shape k old
-    → IsItem item
+pub put_kept : (shape : Shape) (old new : Words) (k : ℕ) (item : Item) → HasPut shape k old → IsItem item
     → new ≡ with_item shape.window old k item → IsWords new → AllInForm new.members new.words
     → HasPut shape (k + 1) new
 put_kept shape old new k item known is same =

@@ -1,11 +1,8 @@
 -- A group stays one where some of its members are late.
-use Rattle.std.proofs.Common.{◌≡◌, true, zero, suc, ℕ, ◌-◌, ◌^◌, ◌<◌, ◌≤◌, [], arith}
+use Rattle.std.proofs.{Common.{◌≡◌, true, zero, suc, ℕ, ◌-◌, ◌^◌, ◌<◌, ◌≤◌, [], arith}, lemmas.Nat.pow_pos}
 use Rattle.std.proofs.lemmas.Option.{slice_get_within}
-use Rattle.std.proofs.lemmas.Nat.{pow_pos}
-use Rattle.dr_script.specs.declared.script.Script.{Script}
-use Rattle.dr_script.specs.Ranges.{HasGroupRanges}
-use Rattle.dr_history.specs.Members.{has}
-use Rattle.dr_history.proofs.Bits.{has_ones}
+use Rattle.dr_script.specs.{Ranges.HasGroupRanges, declared.script.Script.Script}
+use Rattle.dr_history.{specs.Members.has, proofs.Bits.has_ones}
 use Rattle.dr_machine.specs.Group.{IsGroup}
 use Rattle.dr_restart.specs.Groups.{first_group_of, first_start_of, group_of}
 
@@ -16,8 +13,7 @@ above_ones (suc n) l = omega (arith, pow_pos n)
 
 -- the first members make a view, and the others may be late
 pub late_group : (script : Script) (k : ℕ) → HasGroupRanges script → IsGroup (first_group_of script)
-    → 1 ≤ k → k ≤ script.members
-    → IsGroup (group_of script (record (first_start_of script) { members = 2 ^ k - 1 }))
+    → 1 ≤ k → k ≤ script.members → IsGroup (group_of script (record (first_start_of script) { members = 2 ^ k - 1 }))
 late_group script k ranges g some most = record {
   some_member = g.some_member;
   most_members = g.most_members;

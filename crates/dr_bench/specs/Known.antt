@@ -1,11 +1,7 @@
 -- What is known of the rows and items while they are measured.
 use Rattle.std.specs.Prelude.{◌≡◌, ℕ, ◌<◌, ◌≤◌, false, length, slice_index}
-use Rattle.dr_entry.specs.declared.entry.Item.{Item}
-use Rattle.dr_entry.specs.declared.entry.Item.TheVariants.{Null, Text}
-use Rattle.dr_words.specs.declared.shape.Shape.{Shape}
-use Rattle.dr_words.specs.Columns.{head_column}
-use Rattle.dr_words.specs.Form.{AllInForm}
-use Rattle.dr_words.specs.Packing.{ring_tag}
+use Rattle.dr_entry.specs.declared.entry.Item.{Item, TheVariants.{Null, Text}}
+use Rattle.dr_words.specs.{Columns.head_column, Form.AllInForm, Packing.ring_tag, declared.shape.Shape.Shape}
 use Rattle.dr_rows.specs.Words.{Words, IsWords, seen, own, is_frozen}
 use Rattle.dr_ring.specs.Slots.{HasShape}
 

@@ -1,6 +1,5 @@
 ghost use Rattle.std.specs.Prelude.{◌≡◌, IfOk};
-ghost use Rattle.dr_text.specs.Report.{report_text};
-ghost use Rattle.dr_text.specs.declared.last.Last.{Last};
+ghost use Rattle.dr_text.specs.{Report.report_text, declared.last.Last.Last};
 
 use crate::counter::Counter;
 use dr_entry::AgeEnd;

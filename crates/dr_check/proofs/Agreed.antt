@@ -1,34 +1,17 @@
 -- An age whose members agree, by what its ends tell.
+use Rattle.std.specs.{Int.trailing_zeros, Option.option_map_or, Prelude.{None, Option, find, option_and_then}}
 use Rattle.std.proofs.Common.{◌≡◌, refl, sym, ap, ◌∙◌, subst, ℕ, ◌^◌, ◌<◌, ◌≤◌, nat_lt, not, w16, pow_mono, arith, true, false, List, [], length, take, All, Contains, Some, slice_get}
-use Rattle.std.specs.Prelude.{None, Option, find, option_and_then}
-use Rattle.std.specs.Int.{trailing_zeros}
-use Rattle.std.specs.Option.{option_map_or}
-use Rattle.std.proofs.lemmas.Bool.{and_from, and_parts}
-use Rattle.std.proofs.lemmas.Bool.Decides.{nat_tests}
-use Rattle.std.proofs.lemmas.List.{length-take}
+use Rattle.std.proofs.lemmas.{Bool.{and_from, and_parts, Decides.nat_tests}, List.length-take}
 use Rattle.std.proofs.lemmas.Option.{slice_get_within}
-use Rattle.dr_entry.specs.declared.end.AgeEnd.{AgeEnd}
-use Rattle.dr_entry.specs.declared.end.MemberEnd.{MemberEnd}
-use Rattle.dr_entry.specs.declared.entry.Entry.{Entry}
-use Rattle.dr_entry.specs.declared.entry.Entry.TheVariants.{View}
-use Rattle.dr_entry.proofs.BoolFacts.{not_so}
-use Rattle.dr_entry.proofs.Ends.{first_found}
-use Rattle.dr_history.specs.declared.opening.Opening.{Opening}
-use Rattle.dr_history.specs.Agreement.{EndsAgreed, accounts_of, sent_by}
-use Rattle.dr_history.specs.History.{view_of}
-use Rattle.dr_history.specs.Members.{has, members_of}
-use Rattle.dr_history.specs.Order.{InOrder}
-use Rattle.dr_history.specs.Restarting.{AllStand}
-use Rattle.dr_history.specs.Soundness.{IsNobodyLate, IsPresentIn, Sound}
-use Rattle.dr_history.proofs.Histories.{history_of}
-use Rattle.dr_history_laws.proofs.Standing.{history-stands}
-use Rattle.dr_script.specs.declared.script.Script.{Script}
-use Rattle.dr_script.specs.Ranges.{HasGroupRanges}
-use Rattle.dr_history_laws.proofs.Lists.{first_at}
+use Rattle.dr_entry.specs.declared.{end.{AgeEnd.AgeEnd, MemberEnd.MemberEnd}, entry.Entry.{Entry, TheVariants.View}}
+use Rattle.dr_entry.proofs.{BoolFacts.not_so, Ends.first_found}
+use Rattle.dr_history.specs.{Agreement.{EndsAgreed, accounts_of, sent_by}, History.view_of, Members.{has, members_of}}
+use Rattle.dr_history.specs.{Order.InOrder, Restarting.AllStand, Soundness.{IsNobodyLate, IsPresentIn, Sound}}
+use Rattle.dr_history.{specs.declared.opening.Opening.Opening, proofs.Histories.history_of}
+use Rattle.dr_history_laws.proofs.{Lists.first_at, Standing.history-stands}
+use Rattle.dr_script.specs.{Ranges.HasGroupRanges, declared.script.Script.Script}
 use Rattle.dr_text.specs.Report.{is_absent}
-use Rattle.dr_words.proofs.Masks.{has_mask_of, in_roster_small}
-use Rattle.dr_words.proofs.Ranks.{least_member}
-use Rattle.dr_words.specs.Masks.{mask_of}
+use Rattle.dr_words.{specs.Masks.mask_of, proofs.{Masks.{has_mask_of, in_roster_small}, Ranks.least_member}}
 use Rattle.dr_check.specs.Values.{IsAgreed, mask_named, told_members, told_opening, took_part}
 
 -- whoever took part has an end, and not that of an absent member
@@ -51,8 +34,7 @@ end_there script a s here = by (slice_get a.members s) refl
 -- and whoever has such an end took part
 took_here : (es : List MemberEnd) (i : ℕ) (e : MemberEnd) → length es ≤ 16 → slice_get es i ≡ Some e
     → is_absent e.end ≡ false → has (mask_of (took_part es)) i ≡ true
-took_here es i e few at took =
-    has_mask_of (took_part es) i
+took_here es i e few at took = has_mask_of (took_part es) i
     ∙ and_from (nat_lt i 16) (took_part es i) (grind (arith, nat_tests, slice_get_within es i e at, few))
     (ap (λ z. option_map_or (λ (x : MemberEnd). not (is_absent x.end)) z false) at ∙ ap not took)
 
@@ -87,18 +69,15 @@ told_as_opened script o a ranges all same sound agreed =
     first = first_found (λ (e : MemberEnd). not (is_absent e.end)) a.members n some.0 some.1 (ap not some.2)
 
     here : IsPresentIn o first.0
-    here = sym (ap (λ m. has m first.0) present)
-        ∙ took_here a.members first.0 first.1 (omega (arith, all, ranges.most_members)) first.2
-        (not_so (is_absent first.1.end) first.3)
+    here = sym (ap (λ m. has m first.0) present) ∙ took_here a.members first.0 first.1
+        (omega (arith, all, ranges.most_members)) first.2 (not_so (is_absent first.1.end) first.3)
 
     order : InOrder o (sent_by (accounts_of a.members)) first.1.history
     order = subst (InOrder o (sent_by (accounts_of a.members))) (history_of a first.0 first.1 first.2)
         (agreed.agreed.ordered first.0 here)
 
     told : told_members a ≡ o.members
-    told =
-        ap (λ z. mask_named (option_and_then (λ (e : MemberEnd). slice_get e.history (length a.start)) z))
-        first.4
+    told = ap (λ z. mask_named (option_and_then (λ (e : MemberEnd). slice_get e.history (length a.start)) z)) first.4
         ∙ ap mask_named (ap (λ (p : Opening). slice_get first.1.history (length p.start)) same
         ∙ first_at o (sent_by (accounts_of a.members)) first.1.history order)
 
@@ -114,14 +93,12 @@ module _ (script : Script) (a : AgeEnd) (few : script.members ≤ 16) (good : Is
 
   pub order : (i : ℕ) (e : MemberEnd) → slice_get a.members i ≡ Some e → is_absent e.end ≡ false
       → InOrder (told_opening script a) (sent_by (accounts_of a.members)) e.history
-  order i e at took =
-      subst (InOrder (told_opening script a) (sent_by (accounts_of a.members))) (history_of a i e at)
+  order i e at took = subst (InOrder (told_opening script a) (sent_by (accounts_of a.members))) (history_of a i e at)
       (good.agreed.agreed.ordered i (is_here i e at took))
 
   pub stand : (i : ℕ) (e : MemberEnd) → slice_get a.members i ≡ Some e → is_absent e.end ≡ false
       → AllStand (told_opening script a) e.history
-  stand i e at took =
-      history-stands (told_opening script a) (sent_by (accounts_of a.members)) e.history good.sound
+  stand i e at took = history-stands (told_opening script a) (sent_by (accounts_of a.members)) e.history good.sound
       (order i e at took)
 
   -- what it knows to be durable is on the log of each member of some view of the age that its history holds, of

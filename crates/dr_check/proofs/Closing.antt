@@ -1,20 +1,12 @@
 -- Lines that may come up to a last one are those of a report.
+use Rattle.std.{specs.{List.flat_map, Prelude.{if◌then◌else◌}}, proofs.lemmas.{Bool.{false≢true}, List.length-map}}
 use Rattle.std.proofs.Common.{◌≡◌, ◌⊎◌, inl, inr, refl, sym, ap, ◌∙◌, subst, ℕ, suc, ◌+◌, ◌-◌, ◌<◌, ◌≤◌, arith, Bool, true, false, List, [], ◌∷◌, ◌++◌, length, map, drop, All, Some, append_assoc, length-append}
-use Rattle.std.specs.Prelude.{if◌then◌else◌}
-use Rattle.std.specs.List.{flat_map}
-use Rattle.std.proofs.lemmas.Bool.{false≢true}
-use Rattle.std.proofs.lemmas.List.{length-map}
-use Rattle.std.proofs.lemmas.List.Elements.{All-nil, All-cons, All-head, All-tail}
-use Rattle.std.proofs.lemmas.Option.{none-some, same_Some}
-use Rattle.dr_entry.specs.declared.entry.Entry.{Entry}
-use Rattle.dr_entry.proofs.Entries.{drop_start, drop_none, empty}
-use Rattle.dr_check.specs.declared.course.Course.{Course}
-use Rattle.dr_check.specs.declared.line.Line.{Line}
-use Rattle.dr_check.specs.declared.line.Line.TheVariants.{Age, Present, Absent, Entry as EntryLine, Last}
-use Rattle.dr_check.specs.declared.report.ReportAge.{ReportAge}
-use Rattle.dr_check.specs.declared.report.ReportMember.{ReportMember}
+use Rattle.std.proofs.lemmas.{List.Elements.{All-nil, All-cons, All-head, All-tail}, Option.{none-some, same_Some}}
+use Rattle.dr_entry.{specs.declared.entry.Entry.Entry, proofs.Entries.{drop_start, drop_none, empty}}
 use Rattle.dr_check.specs.Course.{Read, course_after, with_start, put_line, read_from}
 use Rattle.dr_check.specs.Grammar.{AgesFrom, HasStart, IsWholeAge, MembersFrom, age_lines, member_lines, members_lines}
+use Rattle.dr_check.specs.declared.{course.Course.Course, report.{ReportAge.ReportAge, ReportMember.ReportMember}}
+use Rattle.dr_check.specs.declared.line.Line.{Line, TheVariants.{Age, Present, Absent, Entry as EntryLine, Last}}
 use Rattle.dr_check.proofs.Accepting.{Comes, absent_comes, after_first, member_comes, next_comes, nothing_more}
 
 -- ---- members whose histories lack the start
@@ -28,8 +20,7 @@ own_head start number m =
 
 abbrev pub own_lines : ℕ → ℕ → List ReportMember → List Line
 own_lines start number [] = []
-own_lines start number (m ∷ ms) =
-    (own_head start number m ∷ entry_lines m.history) ++ own_lines start (number + 1) ms
+own_lines start number (m ∷ ms) = (own_head start number m ∷ entry_lines m.history) ++ own_lines start (number + 1) ms
 
 abbrev pub IsOwn : ReportMember → Type 0
 IsOwn m = (m.present ≡ true) ⊎ ((m.present ≡ false) × (m.history ≡ []) × (m.logged ≡ 0) × (m.durable ≡ 0))
@@ -49,18 +40,15 @@ behind_absent start m absent = rw absent refl
 whole_behind : (start : List Entry) (m : ReportMember) → IsOwn m → HasStart start (with_start start m)
 whole_behind start m (inl there) =
     subst (HasStart start) (sym (behind_there start m there)) (inl (there, (m.history, refl)))
-whole_behind start m (inr absent) =
-    subst (HasStart start) (sym (behind_absent start m absent.0)) (inr absent)
+whole_behind start m (inr absent) = subst (HasStart start) (sym (behind_absent start m absent.0)) (inr absent)
 
 lines_behind : (start : List Entry) (number : ℕ) (m : ReportMember) → IsOwn m
     → member_lines (length start) (number, with_start start m)
     ≡ own_head (length start) number m ∷ entry_lines m.history
-lines_behind start number m (inl there) =
-    ap (λ b. member_lines (length start) (number, b)) (behind_there start m there)
-    ∙ rw (there, length-append, drop_start) refl
-lines_behind start number m (inr absent) =
-    ap (λ b. member_lines (length start) (number, b)) (behind_absent start m absent.0)
-    ∙ rw (absent.0, absent.1, drop_none) refl
+lines_behind start number m (inl there) = ap (λ b. member_lines (length start) (number, b))
+    (behind_there start m there) ∙ rw (there, length-append, drop_start) refl
+lines_behind start number m (inr absent) = ap (λ b. member_lines (length start) (number, b))
+    (behind_absent start m absent.0) ∙ rw (absent.0, absent.1, drop_none) refl
 
 line_behind : (start : List Entry) (m : ReportMember) → (with_start start m).line ≡ m.line
 line_behind start m = by m.present refl
@@ -71,26 +59,22 @@ line_behind start m = by m.present refl
 
 length_behind : (start : List Entry) (m : ReportMember) → IsOwn m
     → length (drop (length start) (with_start start m).history) ≡ length m.history
-length_behind start m (inl there) =
-    ap (λ (b : ReportMember). length (drop (length start) b.history)) (behind_there start m there)
-    ∙ ap length (drop_start start m.history)
-length_behind start m (inr absent) =
-    ap (λ (b : ReportMember). length (drop (length start) b.history)) (behind_absent start m absent.0)
-    ∙ rw (absent.1, drop_none) refl
+length_behind start m (inl there) = ap (λ (b : ReportMember). length (drop (length start) b.history))
+    (behind_there start m there) ∙ ap length (drop_start start m.history)
+length_behind start m (inr absent) = ap (λ (b : ReportMember). length (drop (length start) b.history))
+    (behind_absent start m absent.0) ∙ rw (absent.1, drop_none) refl
 
 pub all_whole : (start : List Entry) (ms : List ReportMember) → All IsOwn ms
     → All (HasStart start) (map (with_start start) ms)
 all_whole start [] own = All-nil (HasStart start)
-all_whole start (m ∷ ms) own =
-    All-cons (HasStart start) (with_start start m) (map (with_start start) ms)
+all_whole start (m ∷ ms) own = All-cons (HasStart start) (with_start start m) (map (with_start start) ms)
     (whole_behind start m (All-head IsOwn m ms own)) (all_whole start ms (All-tail IsOwn m ms own))
 
 all_lines : (start : List Entry) (number : ℕ) (ms : List ReportMember) → All IsOwn ms
     → members_lines (length start) number (map (with_start start) ms) ≡ own_lines (length start) number ms
 all_lines start number [] own = refl
-all_lines start number (m ∷ ms) own =
-    ap (λ ls. ls ++ members_lines (length start) (number + 1) (map (with_start start) ms))
-    (lines_behind start number m (All-head IsOwn m ms own))
+all_lines start number (m ∷ ms) own = ap (λ ls. ls ++ members_lines (length start)
+    (number + 1) (map (with_start start) ms)) (lines_behind start number m (All-head IsOwn m ms own))
     ∙ ap (λ ls. (own_head (length start) number m ∷ entry_lines m.history) ++ ls)
     (all_lines start (number + 1) ms (All-tail IsOwn m ms own))
 
@@ -104,8 +88,7 @@ all_from start line (m ∷ ms) own from = (
       (all_from start (line + (1 + length m.history)) ms (All-tail IsOwn m ms own) from.1),
 )
 
-length_own : (start number : ℕ) (m : ReportMember) (ms : List ReportMember)
-    → length (own_lines start number (m ∷ ms))
+length_own : (start number : ℕ) (m : ReportMember) (ms : List ReportMember) → length (own_lines start number (m ∷ ms))
     ≡ (1 + length m.history) + length (own_lines start (number + 1) ms)
 length_own start number m ms = omega (
   arith,
@@ -144,8 +127,7 @@ closes_entry members c n e ls t some rest = record {
 
 -- a member more, with these entries
 closes_member : (members : ℕ) (c : Course) (n : ℕ) (l : Line) (ls : List Line) (t : Read) (m : ReportMember)
-    (left : ℕ)
-    → c.left ≡ 0 → m.line ≡ n → m.history ≡ t.entries → IsOwn m → l ≡ own_head c.start c.member m
+    (left : ℕ) → c.left ≡ 0 → m.line ≡ n → m.history ≡ t.entries → IsOwn m → l ≡ own_head c.start c.member m
     → Closes members (record c { left = left; member = c.member + 1 }) (suc n) ls t
     → Closes members c n (l ∷ ls) (record t { entries = []; members = m ∷ t.members })
 closes_member members c n l ls t m left none at history own is rest = record {
@@ -155,8 +137,7 @@ closes_member members c n l ls t m left none at history own is rest = record {
   own = All-cons IsOwn m t.members own rest.own;
   own_from = (
     omega (arith, at),
-    (let next : suc n + length t.entries ≡ (n + 0) + (1 + length m.history) =
-        omega (arith, ap length history) in
+    (let next : suc n + length t.entries ≡ (n + 0) + (1 + length m.history) = omega (arith, ap length history) in
         subst (λ (k : ℕ). OwnFrom k t.members) next rest.own_from),
   );
   whole = rest.whole;
@@ -174,10 +155,8 @@ closes_member members c n l ls t m left none at history own is rest = record {
     others = own_lines c.start (c.member + 1) t.members
 
     whole_lines : l ∷ ls ≡ own_lines c.start c.member (m ∷ t.members) ++ ages
-    whole_lines =
-        ap (λ (x : Line). x ∷ ls) is
-        ∙ (ap (λ xs. own_head c.start c.member m ∷ xs) (rest.lines
-        ∙ ap (λ es. entry_lines es ++ (others ++ ages)) (sym history))
+    whole_lines = ap (λ (x : Line). x ∷ ls) is ∙ (ap (λ xs. own_head c.start c.member m ∷ xs)
+        (rest.lines ∙ ap (λ es. entry_lines es ++ (others ++ ages)) (sym history))
         ∙ sym (append_assoc (own_head c.start c.member m ∷ entry_lines m.history) others ages))
 
 closes_age : (members : ℕ) (c : Course) (n age start : ℕ) (ls : List Line) (t : Read) → c.left ≡ 0
@@ -191,11 +170,9 @@ closes_age members c n age start ls t none all rest = record {
   own = All-nil IsOwn;
   own_from = tt;
   whole = All-cons (IsWholeAge members) here t.ages (
-    length-map t.members (with_start t.entries)
-        ∙ omega (arith, rest.all),
+    length-map t.members (with_start t.entries) ∙ omega (arith, rest.all),
     all_whole t.entries t.members rest.own,
-  )
-      rest.whole;
+  ) rest.whole;
   from = (
     omega arith,
     (let next : suc n + length t.entries ≡ (n + (0 + 0)) + (1 + length t.entries) = omega arith in
@@ -214,26 +191,21 @@ closes_age members c n age start ls t none all rest = record {
     ages = flat_map age_lines t.ages ++ Last ∷ []
 
     mine : age_lines here ≡ Age age start ∷ (entry_lines t.entries ++ own_lines start 0 t.members)
-    mine =
-        ap (λ ls. Age age (length t.entries) ∷ (entry_lines t.entries ++ ls))
+    mine = ap (λ ls. Age age (length t.entries) ∷ (entry_lines t.entries ++ ls))
         (all_lines t.entries 0 t.members rest.own)
         ∙ ap (λ (k : ℕ). Age age k ∷ (entry_lines t.entries ++ own_lines k 0 t.members)) rest.many
 
     long : length (age_lines here) ≡ 1 + (length t.entries + length (own_lines start 0 t.members))
-    long =
-        ap length mine
-        ∙ omega (
-          arith,
-          length-append (entry_lines t.entries) (own_lines start 0 t.members),
-          length-map t.entries (λ e. EntryLine e),
-        )
+    long = ap length mine ∙ omega (
+      arith,
+      length-append (entry_lines t.entries) (own_lines start 0 t.members),
+      length-map t.entries (λ e. EntryLine e),
+    )
 
     whole_lines : Age age start ∷ ls ≡ (age_lines here ++ flat_map age_lines t.ages) ++ Last ∷ []
-    whole_lines =
-        ap (λ xs. Age age start ∷ xs) (rest.lines
-        ∙ sym (append_assoc (entry_lines t.entries) (own_lines start 0 t.members) ages))
-        ∙ (ap (λ xs. xs ++ ages) (sym mine)
-        ∙ sym (append_assoc (age_lines here) (flat_map age_lines t.ages) (Last ∷ [])))
+    whole_lines = ap (λ xs. Age age start ∷ xs) (rest.lines
+        ∙ sym (append_assoc (entry_lines t.entries) (own_lines start 0 t.members) ages)) ∙ (ap (λ xs. xs ++ ages)
+        (sym mine) ∙ sym (append_assoc (age_lines here) (flat_map age_lines t.ages) (Last ∷ [])))
 
 closes_last : (members : ℕ) (c : Course) (n : ℕ) → c.left ≡ 0 → c.member ≡ members
     → Closes members c n (Last ∷ []) (record { entries = []; members = []; ages = [] })
@@ -290,10 +262,9 @@ closes members (l ∷ ls) n c d within goes is ended =
         let f : Course = record c { member = c.member + 1 } in
         let t = read_from (suc n) ls in
         let below = rest f (omega (arith, less)) goes (so f e comes.1 later) in
-        closes_member members c n (Absent i) ls t
-        (record { line = n; present = false; history = []; logged = 0; durable = 0 }) c.left
-        none refl (empty t.entries (below.many ∙ none)) (inr (refl, refl, refl, refl))
-        (ap (λ (k : ℕ). Absent k) comes.0) below
+        closes_member members c n
+        (Absent i) ls t (record { line = n; present = false; history = []; logged = 0; durable = 0 }) c.left none refl
+        (empty t.entries (below.many ∙ none)) (inr (refl, refl, refl, refl)) (ap (λ (k : ℕ). Absent k) comes.0) below
     step rest (Absent i) e (inr (none, inr (all, w))) later = absurd (none-some e w)
     step rest (Age age start) e (inl (some, w)) later = absurd (none-some e w)
     step rest (Age age start) e (inr (none, inl (less, w))) later = absurd (none-some e w)

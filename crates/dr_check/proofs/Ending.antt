@@ -1,29 +1,19 @@
 -- Where a text is read no further: it is a report, or none at a line.
+use Rattle.std.specs.{List.{AllZip, concat, flat_map}, Prelude.option_and_then}
 use Rattle.std.proofs.Common.{◌≡◌, ◌⊎◌, inl, inr, refl, sym, ap, ◌∙◌, subst, ℕ, zero, suc, ◌+◌, ◌-◌, ◌<◌, ◌≤◌, arith, eqb, Bool, true, false, List, [], ◌∷◌, ◌++◌, codes, length, take, None, Some, slice_get, append_assoc, append-nil, take_at}
-use Rattle.std.specs.Prelude.{option_and_then}
-use Rattle.std.specs.List.{AllZip, concat, flat_map}
-use Rattle.std.proofs.lemmas.Bool.{cases_lt, false≢true}
-use Rattle.std.proofs.lemmas.Option.{none-some, same_Some}
+use Rattle.std.proofs.lemmas.{Bool.{cases_lt, false≢true}, Option.{none-some, same_Some}}
 use Rattle.dr_entry.proofs.Entries.{empty, filler}
 use Rattle.dr_entry.proofs.ListFacts.{AreFed, IsFed, whole_part, no_members, zip_long, fed_both, zip_push}
-use Rattle.dr_entry.proofs.PlainFacts.{last_fed}
-use Rattle.dr_entry.proofs.ListPlaces.{zip_at, zip_to, slice_get-append}
-use Rattle.dr_text.specs.Report.{entry_text}
-use Rattle.dr_text.proofs.Reports.{filler_fed}
-use Rattle.dr_check.specs.declared.course.Course.{Course}
-use Rattle.dr_check.specs.declared.line.Line.{Line}
-use Rattle.dr_check.specs.declared.line.Line.TheVariants.{Absent, Age, Entry as EntryLine, Last, Present}
-use Rattle.dr_check.specs.declared.report.Report.{Report}
-use Rattle.dr_check.specs.declared.report.ReportAge.{ReportAge}
+use Rattle.dr_entry.proofs.{ListPlaces.{zip_at, zip_to, slice_get-append}, PlainFacts.last_fed}
+use Rattle.dr_text.{specs.Report.entry_text, proofs.Reports.filler_fed}
 use Rattle.dr_check.specs.Course.{course_after, beginning, next_course, read_from, member_course}
 use Rattle.dr_check.specs.Grammar.{AgesFrom, IsNoReportAt, IsReport, age_lines, report_lines}
-use Rattle.dr_check.specs.Lines.{IsLineText, absent_text, lines_of}
-use Rattle.dr_check.specs.Progress.{AreWhole, HasRead, IsOnly}
+use Rattle.dr_check.{specs.Lines.{IsLineText, absent_text, lines_of}, proofs.Closing.{closes, entry_lines, own_lines}}
+use Rattle.dr_check.specs.{Progress.{AreWhole, HasRead, IsOnly}, declared.report.{Report.Report, ReportAge.ReportAge}}
+use Rattle.dr_check.{specs.declared.course.Course.Course, proofs.Feeds.{AreParts, lines_fed, lines_none, parts_of}}
+use Rattle.dr_check.specs.declared.line.Line.{Line, TheVariants.{Absent, Age, Entry as EntryLine, Last, Present}}
 use Rattle.dr_check.proofs.Accepting.{Comes, absent_comes, after_append, after_first, after_next, member_comes, next_age, next_comes, next_left, next_member}
-use Rattle.dr_check.proofs.Closing.{closes, entry_lines, own_lines}
-use Rattle.dr_check.proofs.Coming.{report_comes}
-use Rattle.dr_check.proofs.Feeds.{AreParts, lines_fed, lines_none, parts_of}
-use Rattle.dr_check.proofs.Printed.{absent_fed, absent_line, filler_line, last_line, line_ends}
+use Rattle.dr_check.proofs.{Coming.report_comes, Printed.{absent_fed, absent_line, filler_line, last_line, line_ends}}
 
 -- ---- whole texts
 
@@ -32,8 +22,7 @@ pub report_of : (members : ℕ) (text : List ℕ) (found : List Line) → AreWho
     → IsReport members text (record { ages = (read_from 1 found).ages })
 report_of members text found whole =
     let t = read_from 1 found in
-    let c = closes members found 1 (beginning members) whole.course (omega arith) refl whole.come
-    whole.ended in
+    let c = closes members found 1 (beginning members) whole.course (omega arith) refl whole.come whole.ended in
     let no_entries : t.entries ≡ [] = sym (empty t.entries c.many) in
     let nobody : t.members ≡ [] = no_members t.members (omega (arith, c.all)) in
     let ages = flat_map age_lines t.ages ++ Last ∷ [] in
@@ -61,8 +50,7 @@ record Completion (members : ℕ) (c : Course) : Type 0 where
 
 -- a line more in front
 more : (members : ℕ) (c d : Course) (l : Line) (b : List ℕ) → IsLineText l b → IsFed b
-    → next_course members c l ≡ Some d
-    → Completion members d → Completion members c
+    → next_course members c l ≡ Some d → Completion members d → Completion members c
 more members c d l b is fed is_next rest = record {
   lines = l ∷ rest.lines;
   bytes = b ∷ rest.bytes;
@@ -75,28 +63,17 @@ more members c d l b is fed is_next rest = record {
 
 at_end : (members : ℕ) (c : Course) → c.ended ≡ true → Completion members c
 unfolding course_after
-at_end members c ended = record {
-  lines = [];
-  bytes = [];
-  zip = tt;
-  fed = tt;
-  last = c;
-  come = refl;
-  ended = ended;
-}
+at_end members c ended = record { lines = []; bytes = []; zip = tt; fed = tt; last = c; come = refl; ended = ended }
 
 at_age : (members : ℕ) (c : Course) → c.ended ≡ false → c.left ≡ 0 → members ≤ c.member → Completion members c
-at_age members c goes none all =
-    more members c (record c { ended = true }) Last (codes "ok\n") last_line last_fed
+at_age members c goes none all = more members c (record c { ended = true }) Last (codes "ok\n") last_line last_fed
     (next_age members c Last goes none all) (at_end members (record c { ended = true }) refl)
 
-at_member : (members k : ℕ) (c : Course) → members ≤ 16 → c.ended ≡ false → c.left ≡ 0
-    → members ≤ c.member + k
+at_member : (members k : ℕ) (c : Course) → members ≤ 16 → c.ended ≡ false → c.left ≡ 0 → members ≤ c.member + k
     → Completion members c
 at_member members zero c few goes none all = at_age members c goes none (omega (arith, all))
-at_member members (suc k) c few goes none all =
-    by (at_member members k (record c { member = c.member + 1 }) few goes none (omega (arith, all)))
-    (cases_lt c.member members)
+at_member members (suc k) c few goes none all = by (at_member members k
+    (record c { member = c.member + 1 }) few goes none (omega (arith, all))) (cases_lt c.member members)
   where
     by : Completion members (record c { member = c.member + 1 }) → (c.member < members) ⊎ (members ≤ c.member)
         → Completion members c
@@ -113,9 +90,8 @@ at_entry : (members k : ℕ) (c : Course) → members ≤ 16 → c.ended ≡ fal
 at_entry members zero c few goes is = at_member members members c few goes is (omega arith)
 at_entry members (suc k) c few goes is =
     let d : Course = record c { left = c.left - 1 } in
-    more members c d (EntryLine filler) (entry_text filler) filler_line filler_fed
-    (next_left members c (EntryLine filler) goes (omega (arith, is)))
-    (at_entry members k d few goes (omega (arith, is)))
+    more members c d (EntryLine filler) (entry_text filler) filler_line filler_fed (next_left members c
+    (EntryLine filler) goes (omega (arith, is))) (at_entry members k d few goes (omega (arith, is)))
 
 completes : (members : ℕ) (c : Course) → members ≤ 16 → Completion members c
 completes members c few = by c.ended refl
@@ -126,8 +102,7 @@ completes members c few = by c.ended refl
 
 -- ---- lines that were read
 
-zip_lines : (found : List Line) (done : List (List ℕ)) → AllZip IsOnly found done
-    → AllZip IsLineText found done
+zip_lines : (found : List Line) (done : List (List ℕ)) → AllZip IsOnly found done → AllZip IsLineText found done
 zip_lines [] [] zip = tt
 zip_lines [] (b ∷ done) zip = absurd zip
 zip_lines (l ∷ found) [] zip = absurd zip
@@ -141,8 +116,7 @@ zip_both (x ∷ xs) us [] vs zip other = absurd zip
 zip_both (x ∷ xs) us (y ∷ ys) vs zip other = (zip.0, zip_both xs us ys vs zip.1 other)
 
 -- they are whole
-done_fed : (found : List Line) (done rest : List (List ℕ)) → AllZip IsOnly found done
-    → AreParts (done ++ rest)
+done_fed : (found : List Line) (done rest : List (List ℕ)) → AllZip IsOnly found done → AreParts (done ++ rest)
     → AreFed done
 done_fed [] [] rest zip parts = tt
 done_fed [] (b ∷ done) rest zip parts = absurd zip
@@ -151,8 +125,7 @@ done_fed (l ∷ found) (b ∷ done) rest zip parts =
     (whole_part b parts.0 (line_ends l b zip.0.0), done_fed found done rest zip.1 parts.1)
 
 -- whatever has these lines has them as these
-same_found : (found xs : List Line) (done ys : List (List ℕ)) → AllZip IsOnly found done
-    → AllZip IsLineText xs ys
+same_found : (found xs : List Line) (done ys : List (List ℕ)) → AllZip IsOnly found done → AllZip IsLineText xs ys
     → take (length done) ys ≡ done → (others : List Line) × (xs ≡ found ++ others)
 same_found [] xs [] ys only zip same = (xs, refl)
 same_found [] xs (b ∷ done) ys only zip same = absurd only
@@ -190,16 +163,10 @@ next_within members c d l within is = by l (next_comes members c d l is).1
     by (Absent i) (inr (none, inr (all, w))) = absurd (none-some d w)
     by (Age age start) (inl (some, w)) = absurd (none-some d w)
     by (Age age start) (inr (none, inl (less, w))) = absurd (none-some d w)
-    by (Age age start) (inr (none, inr (all, w))) =
-        omega (arith, ap (λ (x : Course). x.member) (same_Some _ d w))
+    by (Age age start) (inr (none, inr (all, w))) = omega (arith, ap (λ (x : Course). x.member) (same_Some _ d w))
     by Last (inl (some, w)) = absurd (none-some d w)
     by Last (inr (none, inl (less, w))) = absurd (none-some d w)
-    by Last (inr (none, inr (all, w))) = omega (
-      arith,
-      within,
-      ap (λ (x : Course). x.member)
-          (same_Some _ d w),
-    )
+    by Last (inr (none, inr (all, w))) = omega (arith, within, ap (λ (x : Course). x.member) (same_Some _ d w))
 
 -- ---- no report
 
@@ -218,10 +185,8 @@ module _ (members : ℕ) (text rest : List ℕ) (found : List Line) (c : Course)
       let ls = read.done ++ fin.bytes in
       let other = concat ls ++ [] in
       let fed = fed_both read.done fin.bytes
-      (done_fed found read.done (lines_of rest) read.lines (subst AreParts read.parts (parts_of text)))
-      fin.fed in
-      let all : lines_of other ≡ ls =
-      lines_fed ls [] fed ∙ (ap (λ zs. ls ++ zs) lines_none ∙ append-nil ls) in
+      (done_fed found read.done (lines_of rest) read.lines (subst AreParts read.parts (parts_of text))) fin.fed in
+      let all : lines_of other ≡ ls = lines_fed ls [] fed ∙ (ap (λ zs. ls ++ zs) lines_none ∙ append-nil ls) in
       let whole : AreWhole members other (found ++ fin.lines) = record {
         lines = subst (λ (zs : List (List ℕ)). AllZip IsLineText (found ++ fin.lines) zs) (sym all)
             (zip_both found fin.lines read.done fin.bytes (zip_lines found read.done read.lines) fin.zip);
@@ -258,8 +223,7 @@ module _ (members : ℕ) (text rest : List ℕ) (found : List Line) (c : Course)
       )
 
   next_is : slice_get (lines_of text) (length found) ≡ slice_get (lines_of rest) 0
-  next_is =
-      ap (λ ls. slice_get ls (length found)) read.parts
+  next_is = ap (λ ls. slice_get ls (length found)) read.parts
       ∙ (ap (slice_get (read.done ++ lines_of rest)) long ∙ slice_get-append read.done (lines_of rest))
 
   -- the next line is none
@@ -286,9 +250,8 @@ module _ (members : ℕ) (text rest : List ℕ) (found : List Line) (c : Course)
         let m = zip_at IsLineText (report_lines r) (lines_of other) is.lines (length found) b
         (there ∙ (next_is ∙ at)) in
         let on = goes_on other r is same in
-        let first : slice_get on.0 0 ≡ Some l =
-        sym (slice_get-append found on.0) ∙ (ap (λ ls. slice_get ls (length found)) (sym on.1)
-        ∙ (m.1 ∙ ap Some (only.1 m.0 m.2))) in
+        let first : slice_get on.0 0 ≡ Some l = sym (slice_get-append found on.0)
+        ∙ (ap (λ ls. slice_get ls (length found)) (sym on.1) ∙ (m.1 ∙ ap Some (only.1 m.0 m.2))) in
         refused on.0 on.2.0 first (on.2.1, on.2.2);
   }
     where
@@ -300,9 +263,8 @@ module _ (members : ℕ) (text rest : List ℕ) (found : List Line) (c : Course)
           none-some e.0 (sym (ap (next_course members c) (same_Some x l first) ∙ stuck) ∙ e.1)
 
   -- either of these
-  pub stops : (b : List ℕ) → slice_get (lines_of rest) 0 ≡ Some b
-      → ((l : Line) → IsLineText l b → ⊥) ⊎ ((l : Line) × IsOnly l b × (next_course members c l ≡ None))
-      → IsNoReportAt members text (length found + 1)
+  pub stops : (b : List ℕ) → slice_get (lines_of rest) 0 ≡ Some b → ((l : Line) → IsLineText l b → ⊥)
+      ⊎ ((l : Line) × IsOnly l b × (next_course members c l ≡ None)) → IsNoReportAt members text (length found + 1)
   stops b at (inl not) = no_line b at not
   stops b at (inr may) = no_next b may.0 at may.1 may.2
 
@@ -320,13 +282,10 @@ module _ (members : ℕ) (text rest : List ℕ) (found : List Line) (c : Course)
   }
     where
       refused : (other : List ℕ) (r : Report) → IsReport members other r
-          → slice_get (lines_of other) (length found) ≡ None → (others : List Line)
-          → report_lines r ≡ found ++ others → (d : Course)
-          → (course_after members c others ≡ Some d) × (d.ended ≡ true) → ⊥
-      refused other r is out [] parts d comes =
-          false≢true (sym goes
-          ∙ (ap (λ (e : Course). e.ended) (same_Some c d (sym (after_none members c) ∙ comes.0))
-          ∙ comes.1))
+          → slice_get (lines_of other) (length found) ≡ None → (others : List Line) → report_lines r ≡ found
+          ++ others → (d : Course) → (course_after members c others ≡ Some d) × (d.ended ≡ true) → ⊥
+      refused other r is out [] parts d comes = false≢true (sym goes
+          ∙ (ap (λ (e : Course). e.ended) (same_Some c d (sym (after_none members c) ∙ comes.0)) ∙ comes.1))
       refused other r is out (x ∷ others) parts d comes =
           let here : slice_get (report_lines r) (length found) ≡ Some x =
           ap (λ ls. slice_get ls (length found)) parts ∙ slice_get-append found (x ∷ others) in
@@ -334,13 +293,11 @@ module _ (members : ℕ) (text rest : List ℕ) (found : List Line) (c : Course)
           none-some b.0 (sym out ∙ b.1)
 
   -- it has come
-  pub one_more : (b : List ℕ) (l : Line) (e : Course) (others : List ℕ)
-      → lines_of rest ≡ b ∷ lines_of others → IsOnly l b → next_course members c l ≡ Some e
-      → HasRead members text others (found ++ l ∷ []) e
+  pub one_more : (b : List ℕ) (l : Line) (e : Course) (others : List ℕ) → lines_of rest ≡ b ∷ lines_of others
+      → IsOnly l b → next_course members c l ≡ Some e → HasRead members text others (found ++ l ∷ []) e
   one_more b l e others parts only is_next = record {
     done = read.done ++ b ∷ [];
-    parts = read.parts ∙ (ap (λ ls. read.done ++ ls) parts
-        ∙ sym (append_assoc read.done (b ∷ []) (lines_of others)));
+    parts = read.parts ∙ (ap (λ ls. read.done ++ ls) parts ∙ sym (append_assoc read.done (b ∷ []) (lines_of others)));
     lines = zip_push IsOnly found read.done l b read.lines only;
     come = after_append members (beginning members) found (l ∷ [])
         ∙ (ap (λ o. option_and_then (λ d. course_after members d (l ∷ [])) o) read.come ∙ one is_next);
@@ -354,8 +311,7 @@ module _ (members : ℕ) (text rest : List ℕ) (found : List Line) (c : Course)
   pub all_read : rest ≡ [] → c.ended ≡ true → AreWhole members text found
   all_read none ended = record {
     lines = subst (λ (ls : List (List ℕ)). AllZip IsLineText found ls)
-        (sym (read.parts ∙ (ap (λ ls. read.done ++ ls) (ap lines_of none ∙ lines_none)
-        ∙ append-nil read.done)))
+        (sym (read.parts ∙ (ap (λ ls. read.done ++ ls) (ap lines_of none ∙ lines_none) ∙ append-nil read.done)))
         (zip_lines found read.done read.lines);
     course = c;
     come = read.come;
@@ -365,13 +321,7 @@ module _ (members : ℕ) (text rest : List ℕ) (found : List Line) (c : Course)
 -- nothing was read yet
 pub none_read : (members : ℕ) (text : List ℕ) → HasRead members text text [] (beginning members)
 unfolding course_after
-none_read members text = record {
-  done = [];
-  parts = refl;
-  lines = tt;
-  come = refl;
-  within = omega arith;
-}
+none_read members text = record { done = []; parts = refl; lines = tt; come = refl; within = omega arith }
 
 -- a report is its ages
 pub same_report : (r : Report) (ages : List ReportAge) → r.ages ≡ ages → r ≡ record { ages = ages }

@@ -1,10 +1,7 @@
 -- Lines of a text, each up to its line feed.
+use Rattle.std.{specs.List.concat, proofs.lemmas.{Bool.{and_parts, eqb-true}, List.{drop_all, take_all, take_more}}}
 use Rattle.std.proofs.Common.{◌≡◌, inl, inr, refl, sym, ap, ◌∙◌, ℕ, ◌==◌, not, arith, ◌+◌, ◌<◌, ◌≤◌, Bool, true, false, List, [], ◌∷◌, ◌++◌, append_assoc, length, take, drop, get_or, take-append-drop}
-use Rattle.std.specs.List.{concat}
-use Rattle.std.proofs.lemmas.Bool.{and_parts, eqb-true}
-use Rattle.std.proofs.lemmas.List.{drop_all, take_all, take_more}
-use Rattle.dr_entry.proofs.ListFacts.{is_free, AreFed, IsPart}
-use Rattle.dr_entry.proofs.NumberFacts.{not_feed}
+use Rattle.dr_entry.proofs.{ListFacts.{is_free, AreFed, IsPart}, NumberFacts.not_feed}
 use Rattle.dr_check.specs.Lines.{begin_with, lines_of}
 
 -- the line up to the first line feed
@@ -33,8 +30,7 @@ lines_fed [] rest fed = refl
 lines_fed (line ∷ lines) rest fed =
     let body = fed.0.0 in
     let text = concat lines ++ rest in
-    let parts : concat (line ∷ lines) ++ rest ≡ body ++ 10 ∷ text =
-    append_assoc line (concat lines) rest
+    let parts : concat (line ∷ lines) ++ rest ≡ body ++ 10 ∷ text = append_assoc line (concat lines) rest
     ∙ (ap (λ xs. xs ++ text) fed.0.2 ∙ append_assoc body (10 ∷ []) text) in
     ap lines_of parts ∙ (lines_front body text fed.0.1
     ∙ (ap (λ xs. xs ∷ lines_of text) (sym fed.0.2) ∙ ap (λ ls. line ∷ ls) (lines_fed lines rest fed.1)))
@@ -66,22 +62,18 @@ unfolding lines_of
 lines_none = refl
 
 -- the first line, by where its line feed is
-pub line_at : (bytes : List ℕ) (i : ℕ) → i < length bytes → get_or bytes i 0 ≡ 10
-    → is_free (take i bytes) ≡ true
+pub line_at : (bytes : List ℕ) (i : ℕ) → i < length bytes → get_or bytes i 0 ≡ 10 → is_free (take i bytes) ≡ true
     → lines_of bytes ≡ take (i + 1) bytes ∷ lines_of (drop (i + 1) bytes)
 line_at bytes i within is free =
     let front : take (i + 1) bytes ≡ take i bytes ++ 10 ∷ [] =
     take_more bytes i 0 within ∙ ap (λ (n : ℕ). take i bytes ++ n ∷ []) is in
-    let parts : bytes ≡ take i bytes ++ 10 ∷ drop (i + 1) bytes =
-    sym (take-append-drop (i + 1) bytes)
-    ∙ (ap (λ xs. xs ++ drop (i + 1) bytes) front ∙ append_assoc (take i bytes) (10 ∷ [])
-    (drop (i + 1) bytes)) in
+    let parts : bytes ≡ take i bytes ++ 10 ∷ drop (i + 1) bytes = sym (take-append-drop (i + 1) bytes)
+    ∙ (ap (λ xs. xs ++ drop (i + 1) bytes) front ∙ append_assoc (take i bytes) (10 ∷ []) (drop (i + 1) bytes)) in
     ap lines_of parts ∙ (lines_front (take i bytes) (drop (i + 1) bytes) free
     ∙ ap (λ xs. xs ∷ lines_of (drop (i + 1) bytes)) (sym front))
 
 -- the only line of a text without one
-pub line_alone : (bytes : List ℕ) (i : ℕ) → 0 < length bytes → length bytes ≤ i
-    → is_free (take i bytes) ≡ true
+pub line_alone : (bytes : List ℕ) (i : ℕ) → 0 < length bytes → length bytes ≤ i → is_free (take i bytes) ≡ true
     → lines_of bytes ≡ take (length bytes) bytes ∷ lines_of (drop (length bytes) bytes)
 line_alone [] i some past free = absurd (omega (arith, some))
 line_alone (byte ∷ bytes) i some past free =

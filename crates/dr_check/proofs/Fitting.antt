@@ -1,30 +1,19 @@
 -- What is printed of ages whose members agree is told by lines.
-use Rattle.std.proofs.Common.{◌≡◌, ◌⊎◌, inl, inr, refl, sym, ap, ◌∙◌, subst, ℕ, zero, suc, ◌+◌, ◌*◌, ◌^◌, ◌<◌, ◌≤◌, arith, List, [], ◌∷◌, length, take, get_or, All, None, Some, slice_get, append_assoc}
 use Rattle.std.specs.Prelude.{Contains, Option}
-use Rattle.std.proofs.lemmas.List.{take_all}
-use Rattle.std.proofs.lemmas.List.Elements.{All-contains, All-head, All-tail}
-use Rattle.std.proofs.lemmas.Option.{slice_get_within}
-use Rattle.dr_entry.specs.declared.end.AgeEnd.{AgeEnd}
-use Rattle.dr_entry.specs.declared.end.MemberEnd.{MemberEnd}
-use Rattle.dr_entry.specs.declared.entry.Entry.{Entry}
-use Rattle.dr_entry.specs.declared.entry.Entry.TheVariants.{View, Msg}
-use Rattle.dr_entry.specs.declared.limits.TheConstants.{MAX_MESSAGE_LENGTH}
+use Rattle.std.proofs.Common.{◌≡◌, ◌⊎◌, inl, inr, refl, sym, ap, ◌∙◌, subst, ℕ, zero, suc, ◌+◌, ◌*◌, ◌^◌, ◌<◌, ◌≤◌, arith, List, [], ◌∷◌, length, take, get_or, All, None, Some, slice_get, append_assoc}
+use Rattle.std.proofs.lemmas.{List.{take_all, Elements.{All-contains, All-head, All-tail}}, Option.slice_get_within}
+use Rattle.dr_entry.specs.declared.{end.{AgeEnd.AgeEnd, MemberEnd.MemberEnd}, entry.Entry.Entry}
+use Rattle.dr_entry.specs.declared.{entry.Entry.TheVariants.{View, Msg}, limits.TheConstants.MAX_MESSAGE_LENGTH}
 use Rattle.dr_entry.proofs.ListPlaces.{all_from_places}
-use Rattle.dr_history.specs.declared.opening.Opening.{Opening}
-use Rattle.dr_history.specs.Agreement.{accounts_of, sent_by}
-use Rattle.dr_history.specs.History.{GroupView, messages_of, view_of}
-use Rattle.dr_history.specs.Order.{InOrder}
-use Rattle.dr_history.specs.Restarting.{AllStand, next_age}
-use Rattle.dr_history_laws.proofs.Lengths.{stood-short}
+use Rattle.dr_history.specs.{Agreement.{accounts_of, sent_by}, History.{GroupView, messages_of, view_of}}
+use Rattle.dr_history.specs.{Order.InOrder, Restarting.{AllStand, next_age}, declared.opening.Opening.Opening}
+use Rattle.dr_history_laws.proofs.{Lengths.stood-short, Lists.{first_at, all_at}}
 use Rattle.dr_history_laws.proofs.Stood.{age_below, small_number, some_of, view_below, view_age}
-use Rattle.dr_script.specs.declared.script.Script.{Script}
-use Rattle.dr_script.specs.Ranges.{HasGroupRanges}
-use Rattle.dr_history_laws.proofs.Lists.{first_at, all_at}
+use Rattle.dr_script.specs.{Ranges.HasGroupRanges, declared.script.Script.Script}
 use Rattle.dr_words.proofs.Masks.{in_roster_small}
 use Rattle.dr_check.specs.Lines.{EndFits, EntryFits, IsLong}
 use Rattle.dr_check.specs.Values.{HasSmallNumbers, IsAgreed, IsTellable, IsTellableAge, TellsNothing, TellsPart, told_opening}
-use Rattle.dr_check.proofs.Agreed.{durable_within, order, stand}
-use Rattle.dr_check.proofs.Telling.{not_absent}
+use Rattle.dr_check.proofs.{Agreed.{durable_within, order, stand}, Telling.not_absent}
 
 -- no list of lists of at most so many is longer
 few_at : (lists : List (List (List ℕ))) (s n : ℕ) → All (λ messages. length messages ≤ n) lists
@@ -116,8 +105,7 @@ agreed_fit script a ranges good small = record {
     part i e at fits = record {
       begins = (
         View a.age 0 (told_opening script a).members ∷ (ordered i e at fits).begins.0,
-        sym (append_assoc a.start (View a.age 0 (told_opening script a).members ∷ [])
-            (ordered i e at fits).begins.0)
+        sym (append_assoc a.start (View a.age 0 (told_opening script a).members ∷ []) (ordered i e at fits).begins.0)
             ∙ (ordered i e at fits).begins.1,
       );
       entries = entries_fit script (told_opening script a) e.history ranges refl (stands i e at fits) last;
@@ -128,11 +116,7 @@ agreed_fit script a ranges good small = record {
         all_at (λ (f : MemberEnd). f.logged ≤ length f.history) a.members i e good.agreed.told at,
         long,
       );
-      durable = omega (
-        arith,
-        durable_within script a ranges.most_members good i e at (not_absent e.end fits),
-        long,
-      );
+      durable = omega (arith, durable_within script a ranges.most_members good i e at (not_absent e.end fits), long);
     }
       where
         -- its last view is of the age
@@ -144,8 +128,7 @@ agreed_fit script a ranges good small = record {
             omega (
               arith,
               view_age (told_opening script a) (sent_by (accounts_of a.members)) h (ordered i e at fits)
-                  (length h) within (omega arith) v
-                  (ap view_of (take_all (length h) h (omega arith)) ∙ is),
+                  (length h) within (omega arith) v (ap view_of (take_all (length h) h (omega arith)) ∙ is),
               small.age,
             )
 

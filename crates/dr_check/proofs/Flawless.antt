@@ -1,24 +1,14 @@
 -- Reports that keep every clause have no flaw, and what is printed of agreed ages is one.
 use Rattle.std.proofs.Common.{inl, inr, ℕ, List, All}
-use Rattle.dr_entry.specs.declared.end.AgeEnd.{AgeEnd}
-use Rattle.dr_entry.proofs.ListPlaces.{all_from_places}
-use Rattle.dr_script.specs.declared.script.Script.{Script}
-use Rattle.dr_script.specs.Ranges.{HasGroupRanges}
+use Rattle.dr_entry.{specs.declared.end.AgeEnd.AgeEnd, proofs.ListPlaces.all_from_places}
+use Rattle.dr_script.specs.{Ranges.HasGroupRanges, declared.script.Script.Script}
 use Rattle.dr_history_laws.proofs.Lists.{all_at}
-use Rattle.dr_text.specs.declared.last.Clause.{Clause}
-use Rattle.dr_text.specs.declared.last.Last.{Last}
-use Rattle.dr_text.specs.Report.{report_text}
-use Rattle.dr_check.specs.declared.flaw.Flaw.{Flaw}
-use Rattle.dr_check.specs.declared.report.Report.{Report}
-use Rattle.dr_check.specs.declared.report.ReportAge.{ReportAge}
-use Rattle.dr_check.specs.declared.report.ReportMember.{ReportMember}
+use Rattle.dr_text.specs.{Report.report_text, declared.last.{Clause.Clause, Last.Last}}
 use Rattle.dr_check.specs.Flaws.{AgeBreaks, AgeKeeps, IsFirstFlaw, IsRight, MemberBreaks, MemberKeeps}
-use Rattle.dr_check.specs.Grammar.{IsReport}
-use Rattle.dr_check.specs.Lines.{LastFits}
-use Rattle.dr_check.specs.Values.{HasSmallNumbers, IsAgreed, IsTellableAge, KeepEachOther}
-use Rattle.dr_check.proofs.Fitting.{agreed_fit}
-use Rattle.dr_check.proofs.Passes.{passes}
-use Rattle.dr_check.proofs.Telling.{told}
+use Rattle.dr_check.specs.{Grammar.IsReport, Lines.LastFits}
+use Rattle.dr_check.specs.{Values.{HasSmallNumbers, IsAgreed, IsTellableAge, KeepEachOther}, declared.flaw.Flaw.Flaw}
+use Rattle.dr_check.specs.declared.report.{Report.Report, ReportAge.ReportAge, ReportMember.ReportMember}
+use Rattle.dr_check.proofs.{Fitting.agreed_fit, Passes.passes, Telling.told}
 
 -- a member that keeps a clause doesn't break it
 member_unbroken : (c : Clause) (script : Script) (a : ReportAge) (n : ℕ) (m : ReportMember) (line : ℕ)
@@ -46,8 +36,7 @@ pub printed_right : (script : Script) (ages : List AgeEnd) (last : Last) → Has
     → All (IsAgreed script) ages → KeepEachOther script ages → All HasSmallNumbers ages → LastFits last
     → (r : Report) × IsReport script.members (report_text ages last) r × IsRight script r
 printed_right script ages last ranges agreed kept small fits =
-    let r = told script.members ages last ranges.most_members
-    (all_from_places (IsTellableAge script.members) ages
+    let r = told script.members ages last ranges.most_members (all_from_places (IsTellableAge script.members) ages
     (λ i a at. agreed_fit script a ranges (all_at (IsAgreed script) ages i a agreed at)
     (all_at HasSmallNumbers ages i a small at))) fits in
     (r.0, r.1, passes script ages r.0 ranges r.2 agreed kept)

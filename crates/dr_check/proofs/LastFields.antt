@@ -1,37 +1,27 @@
 -- Last lines, and their fields.
+use Rattle.std.specs.{Fmt.decimal, Prelude.{None, Some}}
 use Rattle.std.proofs.Common.{◌≡◌, inl, inr, sym, ap, ◌∙◌, ℕ, ◌<◌, ◌^◌, arith, List, [], ◌∷◌, ◌++◌, codes}
-use Rattle.std.specs.Prelude.{None, Some}
-use Rattle.std.specs.Fmt.{decimal}
-use Rattle.dr_text.specs.Report.{last_text}
-use Rattle.dr_text.specs.declared.last.Last.{Last}
+use Rattle.dr_text.specs.{Report.last_text, declared.last.Last.Last}
 use Rattle.dr_text.specs.declared.last.Last.TheVariants as lasts
-use Rattle.dr_check.specs.Fields.{fields}
-use Rattle.dr_check.specs.Lasts.{IsLastLine, TellsOfLogs}
-use Rattle.dr_check.specs.Lines.{LastFits}
+use Rattle.dr_check.specs.{Fields.fields, Lasts.{IsLastLine, TellsOfLogs}, Lines.LastFits}
 use Rattle.dr_check.proofs.Splitting.{last_field, next_field, plain_decimal}
 
-pub disk_fields : (member : ℕ) → member < 16
-    → fields (last_text (lasts.DiskFault member))
+pub disk_fields : (member : ℕ) → member < 16 → fields (last_text (lasts.DiskFault member))
     ≡ codes "fault:" ∷ codes "disk" ∷ codes "of" ∷ codes "member" ∷ decimal member ∷ [] ∷ []
-disk_fields member m =
-    ap (λ fs. codes "fault:" ∷ codes "disk" ∷ codes "of" ∷ codes "member" ∷ fs)
+disk_fields member m = ap (λ fs. codes "fault:" ∷ codes "disk" ∷ codes "of" ∷ codes "member" ∷ fs)
     (last_field (decimal member) [] (plain_decimal member (omega (arith, m))))
 
-pub full_fields : (member : ℕ) → member < 16
-    → fields (last_text (lasts.LogFull member))
+pub full_fields : (member : ℕ) → member < 16 → fields (last_text (lasts.LogFull member))
     ≡ codes "fault:" ∷ codes "log" ∷ codes "full" ∷ codes "of" ∷ codes "member" ∷ decimal member ∷ [] ∷ []
-full_fields member m =
-    ap (λ fs. codes "fault:" ∷ codes "log" ∷ codes "full" ∷ codes "of" ∷ codes "member" ∷ fs)
+full_fields member m = ap (λ fs. codes "fault:" ∷ codes "log" ∷ codes "full" ∷ codes "of" ∷ codes "member" ∷ fs)
     (last_field (decimal member) [] (plain_decimal member (omega (arith, m))))
 
-pub damaged_fields : (member at : ℕ) → member < 16 → at < 2 ^ 64
-    → fields (last_text (lasts.Damaged member at))
+pub damaged_fields : (member at : ℕ) → member < 16 → at < 2 ^ 64 → fields (last_text (lasts.Damaged member at))
     ≡ codes "refused:" ∷ codes "damaged" ∷ codes "log" ∷ codes "of" ∷ codes "member" ∷ decimal member
     ∷ codes "at" ∷ decimal at ∷ [] ∷ []
 damaged_fields member at m a =
     ap (λ fs. codes "refused:" ∷ codes "damaged" ∷ codes "log" ∷ codes "of" ∷ codes "member" ∷ fs)
-    (next_field (decimal member) (codes "at " ++ (decimal at ++ 10 ∷ []))
-    (plain_decimal member (omega (arith, m)))
+    (next_field (decimal member) (codes "at " ++ (decimal at ++ 10 ∷ [])) (plain_decimal member (omega (arith, m)))
     ∙ ap (λ fs. decimal member ∷ codes "at" ∷ fs) (last_field (decimal at) [] (plain_decimal at a)))
 
 pub foreign_fields : (member place : ℕ) → member < 16 → place < 2 ^ 64
@@ -41,23 +31,19 @@ pub foreign_fields : (member place : ℕ) → member < 16 → place < 2 ^ 64
 foreign_fields member place m p =
     ap (λ fs. codes "refused:" ∷ codes "foreign" ∷ codes "log" ∷ codes "of" ∷ codes "member" ∷ fs)
     (next_field (decimal member) (codes "at entry " ++ (decimal place ++ 10 ∷ []))
-    (plain_decimal member (omega (arith, m)))
-    ∙ ap (λ fs. decimal member ∷ codes "at" ∷ codes "entry" ∷ fs)
+    (plain_decimal member (omega (arith, m))) ∙ ap (λ fs. decimal member ∷ codes "at" ∷ codes "entry" ∷ fs)
     (last_field (decimal place) [] (plain_decimal place p)))
 
 pub disagree_fields : (a b place : ℕ) → a < 16 → b < 16 → place < 2 ^ 64
     → fields (last_text (lasts.Disagree a b place))
     ≡ codes "refused:" ∷ codes "logs" ∷ codes "of" ∷ codes "members" ∷ decimal a ∷ codes "and" ∷ decimal b
     ∷ codes "disagree" ∷ codes "at" ∷ codes "entry" ∷ decimal place ∷ [] ∷ []
-disagree_fields a b place x y p =
-    ap (λ fs. codes "refused:" ∷ codes "logs" ∷ codes "of" ∷ codes "members" ∷ fs)
+disagree_fields a b place x y p = ap (λ fs. codes "refused:" ∷ codes "logs" ∷ codes "of" ∷ codes "members" ∷ fs)
     (next_field (decimal a)
     (codes "and " ++ (decimal b ++ (codes " disagree at entry " ++ (decimal place ++ 10 ∷ []))))
-    (plain_decimal a (omega (arith, x)))
-    ∙ ap (λ fs. decimal a ∷ codes "and" ∷ fs)
+    (plain_decimal a (omega (arith, x))) ∙ ap (λ fs. decimal a ∷ codes "and" ∷ fs)
     (next_field (decimal b) (codes "disagree at entry " ++ (decimal place ++ 10 ∷ []))
-    (plain_decimal b (omega (arith, y)))
-    ∙ ap (λ fs. decimal b ∷ codes "disagree" ∷ codes "at" ∷ codes "entry" ∷ fs)
+    (plain_decimal b (omega (arith, y))) ∙ ap (λ fs. decimal b ∷ codes "disagree" ∷ codes "at" ∷ codes "entry" ∷ fs)
     (last_field (decimal place) [] (plain_decimal place p))))
 
 pub roster_fields : (have need : ℕ) → have < 2 ^ 64 → need < 2 ^ 64
@@ -71,14 +57,11 @@ roster_fields have need h n =
 
 pub quorum_fields : (view have need : ℕ) → view < 2 ^ 8 → have < 2 ^ 64 → need < 2 ^ 64
     → fields (last_text (lasts.NoQuorum (Some view) have need))
-    ≡ codes "refused:" ∷ codes "quorum" ∷ codes "of" ∷ codes "view" ∷ decimal view ∷ codes "has"
-    ∷ decimal have
+    ≡ codes "refused:" ∷ codes "quorum" ∷ codes "of" ∷ codes "view" ∷ decimal view ∷ codes "has" ∷ decimal have
     ∷ codes "of" ∷ decimal need ∷ [] ∷ []
-quorum_fields view have need v h n =
-    ap (λ fs. codes "refused:" ∷ codes "quorum" ∷ codes "of" ∷ codes "view" ∷ fs)
+quorum_fields view have need v h n = ap (λ fs. codes "refused:" ∷ codes "quorum" ∷ codes "of" ∷ codes "view" ∷ fs)
     (next_field (decimal view) (codes "has " ++ (decimal have ++ (codes " of " ++ (decimal need ++ 10 ∷ []))))
-    (plain_decimal view (omega (arith, v)))
-    ∙ ap (λ fs. decimal view ∷ codes "has" ∷ fs)
+    (plain_decimal view (omega (arith, v))) ∙ ap (λ fs. decimal view ∷ codes "has" ∷ fs)
     (next_field (decimal have) (codes "of " ++ (decimal need ++ 10 ∷ [])) (plain_decimal have h)
     ∙ ap (λ fs. decimal have ∷ codes "of" ∷ fs) (last_field (decimal need) [] (plain_decimal need n))))
 
@@ -93,8 +76,7 @@ last_of bytes (inr (inl is)) = (lasts.DiskFault is.0, is.1, sym is.2)
 last_of bytes (inr (inr (inl is))) = (lasts.LogFull is.0, is.1, sym is.2)
 last_of bytes (inr (inr (inr (inl is)))) = (lasts.Damaged is.0 is.1, (is.2, is.3), sym is.4)
 last_of bytes (inr (inr (inr (inr (inl is))))) = (lasts.Foreign is.0 is.1, (is.2, is.3), sym is.4)
-last_of bytes (inr (inr (inr (inr (inr (inl is)))))) =
-    (lasts.Disagree is.0 is.1 is.2, (is.3, is.4, is.5), sym is.6)
+last_of bytes (inr (inr (inr (inr (inr (inl is)))))) = (lasts.Disagree is.0 is.1 is.2, (is.3, is.4, is.5), sym is.6)
 last_of bytes (inr (inr (inr (inr (inr (inr (inl is))))))) =
     (lasts.NoQuorum None is.0 is.1, (tt, is.2, is.3), sym is.4)
 last_of bytes (inr (inr (inr (inr (inr (inr (inr is))))))) =

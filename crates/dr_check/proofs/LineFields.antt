@@ -1,21 +1,17 @@
 -- The fields of each line.
+use Rattle.std.specs.{Fmt.decimal, Prelude.{Option, None, Some, IfSome}}
 use Rattle.std.proofs.Common.{◌≡◌, ◌≢◌, ◌⊎◌, inl, inr, refl, sym, ap, ◌∙◌, subst, ℕ, suc, ◌+◌, ◌<◌, ◌^◌, arith, List, [], ◌∷◌, ◌++◌, codes, length, get_or}
-use Rattle.std.specs.Prelude.{Option, None, Some, IfSome}
-use Rattle.std.specs.Fmt.{decimal}
 use Rattle.dr_entry.specs.declared.end.End.{End}
 use Rattle.dr_entry.specs.declared.end.End.TheVariants.{Done, Crashed, Suspected, Excluded, NoMajority, DiskFault, LogFull, Spent, Absent as AbsentEnd}
-use Rattle.dr_entry.specs.declared.entry.Entry.TheVariants.{View, Msg}
-use Rattle.dr_entry.proofs.ListFacts.{get_or_behind, first_of}
-use Rattle.dr_text.specs.Report.{end_text, entry_text, last_text, mask_text, message_text}
-use Rattle.dr_check.specs.declared.ends.EndKind.{EndKind}
-use Rattle.dr_check.specs.declared.ends.EndKind.TheVariants as kinds
-use Rattle.dr_check.specs.declared.line.Line.{Line}
-use Rattle.dr_check.specs.declared.line.Line.TheVariants.{Age, Present, Absent, Entry as EntryLine, Last as LastLine}
-use Rattle.dr_text.specs.declared.last.Last.{Last}
-use Rattle.dr_text.specs.declared.last.Last.TheVariants as lasts
+use Rattle.dr_entry.{specs.declared.entry.Entry.TheVariants.{View, Msg}, proofs.ListFacts.{get_or_behind, first_of}}
+use Rattle.dr_text.specs.{Report.{end_text, entry_text, last_text, mask_text, message_text}, declared.last.Last.Last}
 use Rattle.dr_check.specs.Fields.{NumberIs, end_fields, field, fields, kind_of, kind_of_end, number_of, width_of}
 use Rattle.dr_check.specs.Lines.{EndFits, LastFits, IsLineText, absent_text, age_start_text, present_text}
+use Rattle.dr_check.specs.declared.{ends.EndKind.EndKind, line.Line.Line}
+use Rattle.dr_check.specs.declared.line.Line.TheVariants.{Age, Present, Absent, Entry as EntryLine, Last as LastLine}
 use Rattle.dr_check.proofs.Splitting.{last_field, next_field, plain_decimal, plain_mask, plain_message}
+use Rattle.dr_check.specs.declared.ends.EndKind.TheVariants as kinds
+use Rattle.dr_text.specs.declared.last.Last.TheVariants as lasts
 
 pub age_fields : (age start : ℕ) → age < 2 ^ 16 → start < 2 ^ 64
     → fields (age_start_text age start) ≡ codes "age" ∷ decimal age ∷ codes "start" ∷ decimal start ∷ [] ∷ []
@@ -33,74 +29,59 @@ absent_fields member m =
 pub view_fields : (age number members : ℕ) → age < 2 ^ 16 → number < 2 ^ 8
     → fields (entry_text (View age number members))
     ≡ [] ∷ [] ∷ codes "view" ∷ decimal age ∷ decimal number ∷ mask_text members ∷ [] ∷ []
-view_fields age number members a n =
-    ap (λ fs. [] ∷ [] ∷ codes "view" ∷ fs)
+view_fields age number members a n = ap (λ fs. [] ∷ [] ∷ codes "view" ∷ fs)
     (next_field (decimal age) (decimal number ++ (32 ∷ (mask_text members ++ 10 ∷ [])))
-    (plain_decimal age (omega (arith, a)))
-    ∙ ap (λ fs. decimal age ∷ fs) (next_field (decimal number) (mask_text members ++ 10 ∷ [])
-    (plain_decimal number (omega (arith, n)))
+    (plain_decimal age (omega (arith, a))) ∙ ap (λ fs. decimal age ∷ fs)
+    (next_field (decimal number) (mask_text members ++ 10 ∷ []) (plain_decimal number (omega (arith, n)))
     ∙ ap (λ fs. decimal number ∷ fs) (last_field (mask_text members) [] (plain_mask members))))
 
 pub message_fields : (sender index : ℕ) (bytes : List ℕ) → sender < 16 → index < 2 ^ 32
     → fields (entry_text (Msg sender index bytes))
     ≡ [] ∷ [] ∷ codes "msg" ∷ decimal sender ∷ decimal index ∷ message_text bytes ∷ [] ∷ []
-message_fields sender index bytes s i =
-    ap (λ fs. [] ∷ [] ∷ codes "msg" ∷ fs)
+message_fields sender index bytes s i = ap (λ fs. [] ∷ [] ∷ codes "msg" ∷ fs)
     (next_field (decimal sender) (decimal index ++ (32 ∷ (message_text bytes ++ 10 ∷ [])))
-    (plain_decimal sender (omega (arith, s)))
-    ∙ ap (λ fs. decimal sender ∷ fs) (next_field (decimal index) (message_text bytes ++ 10 ∷ [])
-    (plain_decimal index (omega (arith, i)))
+    (plain_decimal sender (omega (arith, s))) ∙ ap (λ fs. decimal sender ∷ fs)
+    (next_field (decimal index) (message_text bytes ++ 10 ∷ []) (plain_decimal index (omega (arith, i)))
     ∙ ap (λ fs. decimal index ∷ fs) (last_field (message_text bytes) [] (plain_message bytes))))
 
 -- ---- the line of a member
 
 abbrev pub numbers_text : ℕ → ℕ → ℕ → List ℕ
-numbers_text h l d =
-    codes
-    "history " ++ (decimal
-    h ++ (codes " logged " ++ (decimal l ++ (codes " durable " ++ (decimal d ++ 10 ∷ [])))))
+numbers_text h l d = codes
+    "history " ++ (decimal h ++ (codes " logged " ++ (decimal l ++ (codes " durable " ++ (decimal d ++ 10 ∷ [])))))
 
 abbrev pub numbers_fields : ℕ → ℕ → ℕ → List (List ℕ)
 numbers_fields h l d =
     codes "history" ∷ decimal h ∷ codes "logged" ∷ decimal l ∷ codes "durable" ∷ decimal d ∷ [] ∷ []
 
-numbers_are : (h l d : ℕ) → h < 2 ^ 64 → l < 2 ^ 64 → d < 2 ^ 64
-    → fields (numbers_text h l d) ≡ numbers_fields h l d
-numbers_are h l d hs ls ds =
-    ap (λ fs. codes "history" ∷ fs)
+numbers_are : (h l d : ℕ) → h < 2 ^ 64 → l < 2 ^ 64 → d < 2 ^ 64 → fields (numbers_text h l d) ≡ numbers_fields h l d
+numbers_are h l d hs ls ds = ap (λ fs. codes "history" ∷ fs)
     (next_field (decimal h) (codes "logged " ++ (decimal l ++ (codes " durable " ++ (decimal d ++ 10 ∷ []))))
-    (plain_decimal h hs)
-    ∙ ap (λ fs. decimal h ∷ codes "logged" ∷ fs)
+    (plain_decimal h hs) ∙ ap (λ fs. decimal h ∷ codes "logged" ∷ fs)
     (next_field (decimal l) (codes "durable " ++ (decimal d ++ 10 ∷ [])) (plain_decimal l ls)
     ∙ ap (λ fs. decimal l ∷ codes "durable" ∷ fs) (last_field (decimal d) [] (plain_decimal d ds))))
 
-end_are : (e : End) (rest : List ℕ) → EndFits e
-    → fields (end_text e ++ 32 ∷ rest) ≡ end_fields e ++ fields rest
+end_are : (e : End) (rest : List ℕ) → EndFits e → fields (end_text e ++ 32 ∷ rest) ≡ end_fields e ++ fields rest
 end_are Done rest fits = refl
 end_are Crashed rest fits = refl
 end_are (Suspected by) rest fits =
     ap (λ fs. codes "suspected" ∷ fs) (next_field (decimal by) rest (plain_decimal by (omega (arith, fits))))
 end_are (Excluded view) rest fits =
-    ap (λ fs. codes "excluded" ∷ fs) (next_field (decimal view) rest
-    (plain_decimal view (omega (arith, fits))))
+    ap (λ fs. codes "excluded" ∷ fs) (next_field (decimal view) rest (plain_decimal view (omega (arith, fits))))
 end_are (NoMajority mask) rest fits =
     ap (λ fs. codes "nomajority" ∷ fs) (next_field (mask_text mask) rest (plain_mask mask))
 end_are DiskFault rest fits = refl
 end_are (LogFull len) rest fits =
     ap (λ fs. codes "logfull" ∷ fs) (next_field (decimal len) rest (plain_decimal len fits))
 end_are (Spent turns) rest fits =
-    ap (λ fs. codes "spent" ∷ fs) (next_field (decimal turns) rest
-    (plain_decimal turns (omega (arith, fits))))
+    ap (λ fs. codes "spent" ∷ fs) (next_field (decimal turns) rest (plain_decimal turns (omega (arith, fits))))
 end_are AbsentEnd rest fits = absurd fits
 
 pub present_fields : (member : ℕ) (e : End) (h l d : ℕ) → member < 16 → EndFits e → h < 2 ^ 64 → l < 2 ^ 64
-    → d < 2 ^ 64
-    → fields (present_text member e h l d)
+    → d < 2 ^ 64 → fields (present_text member e h l d)
     ≡ codes "member" ∷ decimal member ∷ (end_fields e ++ numbers_fields h l d)
-present_fields member e h l d m fits hs ls ds =
-    ap (λ fs. codes "member" ∷ fs)
-    (next_field (decimal member) (end_text e ++ 32 ∷ numbers_text h l d)
-    (plain_decimal member (omega (arith, m)))
+present_fields member e h l d m fits hs ls ds = ap (λ fs. codes "member" ∷ fs)
+    (next_field (decimal member) (end_text e ++ 32 ∷ numbers_text h l d) (plain_decimal member (omega (arith, m)))
     ∙ ap (λ fs. decimal member ∷ fs) (end_are e (numbers_text h l d) fits
     ∙ ap (λ fs. end_fields e ++ fs) (numbers_are h l d hs ls ds)))
 
@@ -150,8 +131,7 @@ told_width (Spent x) = refl
 told_width AbsentEnd = refl
 
 told_number : (e : End) (rest : List (List ℕ)) (word : List ℕ) (n : ℕ) → EndFits e
-    → word ≡ get_or (end_fields e ++ rest) 1 [] → NumberIs (kind_of_end e) n word
-    → rebuilt (kind_of_end e) n ≡ e
+    → word ≡ get_or (end_fields e ++ rest) 1 [] → NumberIs (kind_of_end e) n word → rebuilt (kind_of_end e) n ≡ e
 told_number Done rest word n fits same is = refl
 told_number Crashed rest word n fits same is = refl
 told_number (Suspected x) rest word n fits same is = ap Suspected (is x (omega (arith, fits)) same)
@@ -163,13 +143,11 @@ told_number (Spent x) rest word n fits same is = ap Spent (is x fits same)
 told_number AbsentEnd rest word n fits same is = refl
 
 -- an end that has the kind and the number that the fields of an end tell
-pub told_end : (r e : End) (k : EndKind) (rest : List (List ℕ)) (word : List ℕ) → EndFits e
-    → kind_of_end r ≡ k
+pub told_end : (r e : End) (k : EndKind) (rest : List (List ℕ)) (word : List ℕ) → EndFits e → kind_of_end r ≡ k
     → k ≡ kind_of_end e → word ≡ get_or (end_fields e ++ rest) 1 [] → NumberIs k (number_of r) word → r ≡ e
-told_end r e k rest word fits of_r of_e same is =
-    sym (rebuilt_end r) ∙ (ap (λ (j : EndKind). rebuilt j (number_of r)) (of_r ∙ of_e)
-    ∙ told_number e rest word (number_of r) fits same
-    (subst (λ (j : EndKind). NumberIs j (number_of r) word) of_e is))
+told_end r e k rest word fits of_r of_e same is = sym (rebuilt_end r)
+    ∙ (ap (λ (j : EndKind). rebuilt j (number_of r)) (of_r ∙ of_e) ∙ told_number e rest word
+    (number_of r) fits same (subst (λ (j : EndKind). NumberIs j (number_of r) word) of_e is))
 
 -- the numbers stand behind the end
 pub number_behind : (a b : List ℕ) (e : End) (rest : List (List ℕ)) (k : ℕ)
@@ -192,12 +170,10 @@ chosen_some l text bytes (Some m) is found =
 -- a field of bytes that are a text
 pub field_of : (bytes text : List ℕ) (fs : List (List ℕ)) (k : ℕ) → bytes ≡ text → fields text ≡ fs
     → field bytes k ≡ get_or fs k []
-field_of bytes text fs k same are =
-    ap (λ b. get_or (fields b) k []) same ∙ ap (λ gs. get_or gs k []) are
+field_of bytes text fs k same are = ap (λ b. get_or (fields b) k []) same ∙ ap (λ gs. get_or gs k []) are
 
 -- an end's word, and what stands behind it
-pub word_first : (e : End) (rest : List (List ℕ)) → get_or (end_fields e ++ rest) 0 [] ≡ get_or
-    (end_fields e) 0 []
+pub word_first : (e : End) (rest : List (List ℕ)) → get_or (end_fields e ++ rest) 0 [] ≡ get_or (end_fields e) 0 []
 word_first Done rest = refl
 word_first Crashed rest = refl
 word_first (Suspected x) rest = refl
@@ -282,15 +258,13 @@ leads (Age age start) bytes is = first_of bytes (age_start_text age start) is.2
 leads (Present member history logged durable) bytes is =
     first_of bytes (present_text member is.4.0 history logged durable) is.4.2
 leads (Absent member) bytes is = first_of bytes (absent_text member) is.1
-leads (EntryLine (View age number members)) bytes is = first_of bytes (entry_text (View age number members))
-    is.1
+leads (EntryLine (View age number members)) bytes is = first_of bytes (entry_text (View age number members)) is.1
 leads (EntryLine (Msg sender index body)) bytes is = first_of bytes (entry_text (Msg sender index body)) is.1
 leads LastLine bytes is = last_leads bytes is.0 is.1 is.2
 
 -- ---- what tells lines of one first letter apart
 
-pub absent_word : (bytes : List ℕ) (member : ℕ) → IsLineText (Absent member) bytes
-    → field bytes 2 ≡ codes "absent"
+pub absent_word : (bytes : List ℕ) (member : ℕ) → IsLineText (Absent member) bytes → field bytes 2 ≡ codes "absent"
 absent_word bytes member is =
     field_of bytes (absent_text member) (codes "member" ∷ decimal member ∷ codes "absent" ∷ [] ∷ []) 2 is.1
     (absent_fields member is.0)
@@ -300,8 +274,7 @@ pub present_word : (bytes : List ℕ) (member h l d : ℕ) → IsLineText (Prese
 present_word bytes member h l d is absent =
     let e = is.4.0 in
     let rest = numbers_fields h l d in
-    let at = field_of bytes (present_text member e h l d) (codes "member" ∷ decimal member
-    ∷ (end_fields e ++ rest)) 2
+    let at = field_of bytes (present_text member e h l d) (codes "member" ∷ decimal member ∷ (end_fields e ++ rest)) 2
     is.4.2 (present_fields member e h l d is.0 is.4.1 is.1 is.2 is.3) in
     not_absent e is.4.1 (sym (word_first e rest) ∙ (sym at ∙ absent))
 

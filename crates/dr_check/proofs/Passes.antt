@@ -1,49 +1,30 @@
 -- A report of ages that agree and are kept breaks no clause.
+use Rattle.std.specs.{List.Any, Option.option_map_or, Prelude.{Option, IfSome, IsSomeAnd}}
 use Rattle.std.proofs.Common.{◌≡◌, ◌⊎◌, inl, inr, refl, sym, ap, ◌∙◌, subst, ℕ, zero, suc, ◌+◌, ◌<◌, ◌≤◌, arith, not, Bool, true, false, true≢false, List, [], length, take, get_or, All, Contains, None, Some, slice_get}
-use Rattle.std.specs.Prelude.{Option, IfSome, IsSomeAnd}
-use Rattle.std.specs.List.{Any}
-use Rattle.std.specs.Option.{option_map_or}
-use Rattle.std.proofs.lemmas.List.{length-take}
-use Rattle.std.proofs.lemmas.List.Elements.{All-weaker}
+use Rattle.std.proofs.lemmas.List.{length-take, Elements.All-weaker}
 use Rattle.std.proofs.lemmas.Option.{same_Some, slice_get-get_or, slice_get_within}
-use Rattle.dr_entry.specs.declared.end.AgeEnd.{AgeEnd}
-use Rattle.dr_entry.specs.declared.end.MemberEnd.{MemberEnd}
-use Rattle.dr_entry.specs.declared.entry.Entry.{Entry}
-use Rattle.dr_entry.specs.declared.entry.Entry.TheVariants.{View, Msg}
-use Rattle.dr_entry.proofs.BoolFacts.{not_so}
-use Rattle.dr_entry.proofs.ListPlaces.{all_from_places, any_at, at_any, behind_at, zip_at, zip_to}
-use Rattle.dr_entry.proofs.OptionFacts.{if_some}
-use Rattle.dr_history.specs.Agreement.{accounts_of, sent_by}
-use Rattle.dr_history.specs.History.{GroupView, IsPrefixOf, view_of}
-use Rattle.dr_history.specs.Members.{has, members_of}
-use Rattle.dr_history.specs.Order.{IsLateIn, IsSucceededBy, MayJoin}
-use Rattle.dr_history.specs.Restarting.{Kept}
-use Rattle.dr_history.specs.Soundness.{IsNobodyLate, IsPresentIn, MayStand}
+use Rattle.dr_entry.specs.declared.{end.{AgeEnd.AgeEnd, MemberEnd.MemberEnd}, entry.Entry.TheVariants.{View, Msg}}
+use Rattle.dr_entry.{specs.declared.entry.Entry.Entry, proofs.OptionFacts.if_some}
+use Rattle.dr_entry.proofs.{BoolFacts.not_so, ListPlaces.{all_from_places, any_at, at_any, behind_at, zip_at, zip_to}}
+use Rattle.dr_history.specs.{Agreement.{accounts_of, sent_by}, History.{GroupView, IsPrefixOf, view_of}}
+use Rattle.dr_history.specs.{Members.{has, members_of}, Order.{IsLateIn, IsSucceededBy, MayJoin}, Restarting.Kept}
+use Rattle.dr_history.{specs.Soundness.{IsNobodyLate, IsPresentIn, MayStand}, proofs.Histories.history_of}
 use Rattle.dr_history.proofs.Masks.{same_masks}
-use Rattle.dr_history.proofs.Histories.{history_of}
 use Rattle.dr_history_laws.proofs.Lists.{Contains-slice_get, first_at, all_at, all_below, same_at}
-use Rattle.dr_history_laws.proofs.Members.{member-has, in_mask, all_members}
-use Rattle.dr_history_laws.proofs.Stood.{named_below, some_of}
-use Rattle.dr_script.specs.declared.script.Script.{Script}
-use Rattle.dr_script.specs.Ranges.{HasGroupRanges}
-use Rattle.dr_text.specs.Report.{is_absent}
+use Rattle.dr_history_laws.proofs.{Members.{member-has, in_mask, all_members}, Stood.{named_below, some_of}}
+use Rattle.dr_script.specs.{Ranges.HasGroupRanges, declared.script.Script.Script}
+use Rattle.dr_text.specs.{Report.is_absent, declared.last.Clause.Clause}
 use Rattle.dr_words.specs.Masks.{mask_of}
-use Rattle.dr_text.specs.declared.last.Clause.{Clause}
 use Rattle.dr_text.specs.declared.last.Clause.TheVariants as clauses
-use Rattle.dr_check.specs.declared.report.Report.{Report}
-use Rattle.dr_check.specs.declared.report.ReportAge.{ReportAge}
-use Rattle.dr_check.specs.declared.report.ReportMember.{ReportMember}
 use Rattle.dr_check.specs.Clauses.{AgeItself, MemberItself, EntryItself, AreLogged, TakesPart, KeepsBytes, KeepsIndex, KeepsPrefix, KeepsSender, HasDelivered, HasSame, IsDurableView, IsKeptIn, log_of, IsLate, Names, WasNamed, first_members, members_named, KeepsStart, KeepsView, KeepsDurable, KeepsAge, MayComeNext, MayStart, IsFirstView, FollowsView, logged_by}
-use Rattle.dr_check.specs.Firsts.{AllKeep}
-use Rattle.dr_check.specs.Flaws.{IsRight, own_entries}
+use Rattle.dr_check.specs.{Firsts.AllKeep, Flaws.{IsRight, own_entries}}
 use Rattle.dr_check.specs.Values.{KeepEachOther, HasAge, HasMember, HasValues, IsAgreed, told_members, told_opening, took_part}
-use Rattle.dr_check.proofs.Agreed.{end_there, is_here, knows, order, stand}
-use Rattle.dr_check.proofs.Roster.{may_start}
+use Rattle.dr_check.specs.declared.report.{Report.Report, ReportAge.ReportAge, ReportMember.ReportMember}
+use Rattle.dr_check.proofs.{Agreed.{end_there, is_here, knows, order, stand}, Roster.may_start}
 
 -- a message that may stand keeps what is said of messages
 message_keeps : (script : Script) (a : AgeEnd) (before : List Entry) (e : Entry)
-    → MayStand (told_opening script a) before e
-    → KeepsSender before e × KeepsIndex before e × KeepsBytes script e
+    → MayStand (told_opening script a) before e → KeepsSender before e × KeepsIndex before e × KeepsBytes script e
 message_keeps script a before (View g k m) stands = (tt, tt, tt)
 message_keeps script a before (Msg s k b) stands = stands
 
@@ -79,8 +60,7 @@ module _ (script : Script) (a : AgeEnd) (ra : ReportAge) (ranges : HasGroupRange
 
   keeps_start : KeepsStart script ra
   keeps_start = record {
-    entries = subst (λ (es : List Entry). AllKeep (λ i e. MayStart script (take i es) e) es)
-        (sym values.start)
+    entries = subst (λ (es : List Entry). AllKeep (λ i e. MayStart script (take i es) e) es) (sym values.start)
         (λ i e at. may_start script (told_opening script a) a.start refl ranges.lists ranges.most_members
         good.sound.entries i e at);
     later = λ v is. subst (λ (n : ℕ). v.age < n) (sym values.age)
@@ -115,11 +95,9 @@ module _ (script : Script) (a : AgeEnd) (ra : ReportAge) (ranges : HasGroupRange
     -- ---- those on an entry
 
     module _ (j : ℕ) (x : Entry) (spot : slice_get e.history j ≡ Some x) where
-      keeps_messages : KeepsSender (take j m.history) x × KeepsIndex (take j m.history) x
-          × KeepsBytes script x
-      keeps_messages =
-          subst (λ (h : List Entry). KeepsSender (take j h) x × KeepsIndex (take j h) x × KeepsBytes script x)
-          (sym same.history)
+      keeps_messages : KeepsSender (take j m.history) x × KeepsIndex (take j m.history) x × KeepsBytes script x
+      keeps_messages = subst (λ (h : List Entry). KeepsSender (take j h) x
+          × KeepsIndex (take j h) x × KeepsBytes script x) (sym same.history)
           (message_keeps script a (take j e.history) x (stand script a few good i e at took j x spot))
 
       is_first : j ≡ length ra.start → IsFirstView ra x
@@ -143,26 +121,21 @@ module _ (script : Script) (a : AgeEnd) (ra : ReportAge) (ranges : HasGroupRange
       )
         where
           unnamed : (x : Entry) → Contains (take j e.history) x → Names ra x s → ⊥
-          unnamed (View g k mask) there (its_age, named) =
-              true≢false (sym (in_mask mask s named)
-              ∙ may.1 k mask (subst (λ (n : ℕ). Contains (take j e.history) (View n k mask))
-              (its_age ∙ values.age) there))
+          unnamed (View g k mask) there (its_age, named) = true≢false (sym (in_mask mask s named) ∙ may.1 k mask
+              (subst (λ (n : ℕ). Contains (take j e.history) (View n k mask)) (its_age ∙ values.age) there))
           unnamed (Msg n k b) there named = named
 
-      comes : (v : GroupView) (s : ℕ)
-          → Contains v.members s ⊎ MayJoin (told_opening script a) (take j e.history) s
+      comes : (v : GroupView) (s : ℕ) → Contains v.members s ⊎ MayJoin (told_opening script a) (take j e.history) s
           → Contains v.members s ⊎ (IsLate ra m s × (WasNamed ra (take j m.history) s → ⊥))
       comes v s (inl stays) = inl stays
       comes v s (inr may) = inr (joins s may)
 
-      goes_on : (y : Entry) → slice_get e.history j ≡ Some y → length ra.start < j
-          → FollowsView script ra m j y
+      goes_on : (y : Entry) → slice_get e.history j ≡ Some y → length ra.start < j → FollowsView script ra m j y
       goes_on (Msg s k b) spot less = tt
       goes_on (View g k mask) spot less =
           let behind : length a.start < j = omega (arith, less, starts) in
           let u = some_of (λ v. IsSucceededBy (told_opening script a) (take j e.history) v g k mask)
-          (view_of (take j e.history))
-          ((order script a few good i e at took).views j g k mask behind spot) in
+          (view_of (take j e.history)) ((order script a few good i e at took).views j g k mask behind spot) in
           let now : view_of (take j m.history) ≡ Some u.0 =
           ap (λ (h : List Entry). view_of (take j h)) same.history ∙ u.1 in
           let next : MayComeNext script ra m j u.0 g k mask = record {
@@ -170,13 +143,11 @@ module _ (script : Script) (a : AgeEnd) (ra : ReportAge) (ranges : HasGroupRange
             next_number = u.2.follows.next_number;
             other = u.2.follows.other;
             roster = subst (λ (n : ℕ). All (λ s. s < n) (members_of mask)) ranges.lists
-                (named_below (told_opening script a) e.history (stand script a few good i e at took) j g k mask
-                spot);
+                (named_below (told_opening script a) e.history (stand script a few good i e at took) j g k mask spot);
             majority = u.2.majority;
             newcomers = λ n d within.
                 let s = get_or (members_of mask) n d in
-                comes u.0 s (u.2.newcomers s
-                (member-has mask n s (slice_get-get_or (members_of mask) n d within)));
+                comes u.0 s (u.2.newcomers s (member-has mask n s (slice_get-get_or (members_of mask) n d within)));
           } in
           subst (λ r. IsSomeAnd r (λ v. MayComeNext script ra m j v g k mask)) (sym now) next
 
@@ -187,9 +158,8 @@ module _ (script : Script) (a : AgeEnd) (ra : ReportAge) (ranges : HasGroupRange
           → (y : Entry) → slice_get other.history j ≡ Some y → y ≡ x
       has_same k other other_at present y y_at =
           let f = end_of k other other_at in
-          let along = good.agreed.agreed.prefix k i
-          (is_here script a few good k f.0 f.1 (there_was f.0 other f.2 present))
-          (is_here script a few good i e at took) in
+          let along = good.agreed.agreed.prefix k i (is_here script a few good k f.0 f.1
+          (there_was f.0 other f.2 present)) (is_here script a few good i e at took) in
           let one : IsPrefixOf f.0.history e.history ⊎ IsPrefixOf e.history f.0.history =
           subst (λ (h : List Entry). IsPrefixOf f.0.history h ⊎ IsPrefixOf h f.0.history) (history_of a i e at)
           (subst (λ (g : List Entry). IsPrefixOf g (accounts_of a.members i).history
@@ -198,10 +168,8 @@ module _ (script : Script) (a : AgeEnd) (ra : ReportAge) (ranges : HasGroupRange
           (subst (λ (h : List Entry). slice_get h j ≡ Some y) f.2.history y_at) spot
 
       keeps_prefix : (n : ℕ) → KeepsPrefix ra n j x
-      keeps_prefix n =
-          all_below (HasSame j x) ra.members n
-          (λ k other other_at present. if_some (slice_get other.history j) (λ y. y ≡ x)
-          (has_same k other other_at present))
+      keeps_prefix n = all_below (HasSame j x) ra.members n (λ k other other_at present. if_some
+          (slice_get other.history j) (λ y. y ≡ x) (has_same k other other_at present))
 
     -- ---- what is durable
 
@@ -240,8 +208,7 @@ module _ (script : Script) (a : AgeEnd) (ra : ReportAge) (ranges : HasGroupRange
         let on_logs : AreLogged ra m (members_of k.1) =
         All-weaker (λ j. e.durable ≤ length (accounts_of a.members j).log) (λ s. m.durable ≤ logged_by ra s)
         (λ s less. omega (arith, less, same.durable, log_short s)) (members_of k.1) k.3 in
-        let told = all_at (λ (f : MemberEnd). f.logged ≤ length f.history) a.members i e good.agreed.told at
-        in
+        let told = all_at (λ (f : MemberEnd). f.logged ≤ length f.history) a.members i e good.agreed.told at in
         record {
           told = omega (arith, told, same.logged, ap length same.history);
           some = any_at (IsDurableView ra m) m.history k.2.0 (View a.age k.0 k.1)
@@ -272,8 +239,7 @@ keeps_age script p a rp ra ranges good before after kept = record {
         let m = zip_to HasMember p.members rp.members before.members i e.0 e.1 in
         any_at (HasDelivered ra) rp.members i m.0 m.1 (
           m.2.present ∙ ap not e.2,
-          subst (λ (h : List Entry). IsPrefixOf ra.start h)
-              (history_of p i e.0 e.1 ∙ sym m.2.history)
+          subst (λ (h : List Entry). IsPrefixOf ra.start h) (history_of p i e.0 e.1 ∙ sym m.2.history)
               (subst (λ (es : List Entry). IsPrefixOf es (accounts_of p.members i).history) (sym after.start)
               kept.delivered.2),
         )
@@ -283,8 +249,7 @@ keeps_age script p a rp ra ranges good before after kept = record {
         let e = end_of script p rp ranges good before i m at in
         let known : (accounts_of p.members i).durable ≡ m.durable =
         ap (λ z. option_map_or (λ (e : MemberEnd). e.durable) z 0) e.1 ∙ sym e.2.durable in
-        let history : (accounts_of p.members i).history ≡ m.history =
-        history_of p i e.0 e.1 ∙ sym e.2.history in
+        let history : (accounts_of p.members i).history ≡ m.history = history_of p i e.0 e.1 ∙ sym e.2.history in
         subst (λ (es : List Entry). IsPrefixOf (take m.durable m.history) es) (sym after.start)
         (subst (λ (h : List Entry). IsPrefixOf (take m.durable h) a.start) history
         (subst (λ (n : ℕ). IsPrefixOf (take n (accounts_of p.members i).history) a.start) known
@@ -310,8 +275,7 @@ passes script ages r ranges values good kept c i ra at = (
     fine : IsAgreed script a.0
     fine = all_at (IsAgreed script) ages i a.0 good a.1
 
-    after : (j : ℕ) → slice_get r.ages (suc j) ≡ Some ra
-        → IfSome (slice_get r.ages j) (λ before. KeepsAge before ra)
+    after : (j : ℕ) → slice_get r.ages (suc j) ≡ Some ra → IfSome (slice_get r.ages j) (λ before. KeepsAge before ra)
     after j here = by (slice_get r.ages j) refl
       where
         by : (z : Option ReportAge) → slice_get r.ages j ≡ z → IfSome z (λ before. KeepsAge before ra)
@@ -345,8 +309,7 @@ passes script ages r ranges values good kept c i ra at = (
     member clauses.Kept n m e at same took = tt
 
     entry : (c : Clause) (n : ℕ) (m : ReportMember) (e : MemberEnd) → slice_get a.0.members n ≡ Some e
-        → HasMember e m → is_absent e.end ≡ false → (k : ℕ) (x : Entry)
-        → slice_get (own_entries ra m) k ≡ Some x
+        → HasMember e m → is_absent e.end ≡ false → (k : ℕ) (x : Entry) → slice_get (own_entries ra m) k ≡ Some x
         → EntryItself c script ra n m (length ra.start + k) x
     entry c n m e at same took k x own = by c
       where

@@ -1,18 +1,12 @@
 -- What is known of the entries that were read, one entry later.
-use Rattle.std.proofs.Common.{◌≡◌, ◌≢◌, ap, sym, ◌∙◌, subst, ℕ, ◌+◌, ◌-◌, ◌^◌, ◌%◌, ◌<◌, ◌≤◌, ⊎_elim, arith, List, [], ◌∷◌, ◌++◌, length, Some, set, get_or, length-append}
 use Rattle.std.specs.Prelude.{Option}
-use Rattle.std.proofs.lemmas.Bool.{cases_eq, ne_eqb}
-use Rattle.std.proofs.lemmas.List.{get_or-set_same, get_or-set_other, length-set}
-use Rattle.dr_entry.specs.declared.entry.Entry.{Entry}
-use Rattle.dr_entry.specs.declared.entry.Entry.TheVariants.{View, Msg}
-use Rattle.dr_entry.proofs.ListParts.{filter_few}
-use Rattle.dr_history.specs.Members.{members_of}
-use Rattle.dr_history.specs.History.{GroupView}
-use Rattle.dr_history.specs.Order.{messages_from}
-use Rattle.dr_history.proofs.ViewLemmas.{view_of-View, view_of-Msg}
+use Rattle.std.proofs.Common.{◌≡◌, ◌≢◌, ap, sym, ◌∙◌, subst, ℕ, ◌+◌, ◌-◌, ◌^◌, ◌%◌, ◌<◌, ◌≤◌, ⊎_elim, arith, List, [], ◌∷◌, ◌++◌, length, Some, set, get_or, length-append}
+use Rattle.std.proofs.lemmas.{Bool.{cases_eq, ne_eqb}, List.{get_or-set_same, get_or-set_other, length-set}}
+use Rattle.dr_entry.{specs.declared.entry.Entry.{Entry, TheVariants.{View, Msg}}, proofs.ListParts.filter_few}
+use Rattle.dr_history.specs.{History.GroupView, Members.members_of, Order.messages_from}
 use Rattle.dr_history.proofs.NumberedLemmas.{messages_from-View, messages_from-Msg, messages_from-other}
-use Rattle.dr_check.specs.declared.past.Past.{Past}
-use Rattle.dr_check.specs.Past.{IsPast}
+use Rattle.dr_history.proofs.ViewLemmas.{view_of-View, view_of-Msg}
+use Rattle.dr_check.specs.{Past.IsPast, declared.past.Past.Past}
 
 -- a View
 pub past_View : (read : List Entry) (past : Past) (a n m : ℕ) → IsPast read past
@@ -27,8 +21,7 @@ past_View read past a n m is = record {
 
 -- a message
 pub past_Msg : (read : List Entry) (past : Past) (s i : ℕ) (b : List ℕ) → length read < 2 ^ 64 - 1 → s < 256
-    → IsPast read past
-    → IsPast (read ++ Msg s i b ∷ [])
+    → IsPast read past → IsPast (read ++ Msg s i b ∷ [])
     (record past { counts = set past.counts s ((get_or past.counts s 0 + 1) % 2 ^ 64) })
 past_Msg read past s i b few small is = record {
   in_view = is.in_view ∙ sym (view_of-Msg read s i b);
@@ -45,8 +38,7 @@ past_Msg read past s i b few small is = record {
     here : get_or (set past.counts s more) s 0 ≡ length (messages_from s (read ++ Msg s i b ∷ []))
     here =
         let few_messages : length (messages_from s read) ≤ length read = filter_few _ read in
-        get_or-set_same past.counts s more 0 (omega (arith, is.places, small))
-        ∙ omega (
+        get_or-set_same past.counts s more 0 (omega (arith, is.places, small)) ∙ omega (
           arith,
           counted,
           few,
@@ -63,11 +55,9 @@ past_Msg read past s i b few small is = record {
     other : (t : ℕ) → t < 256 → t ≢ s → get_or (set past.counts s more) t 0
         ≡ length (messages_from t (read ++ Msg s i b ∷ []))
     other t l apart = get_or-set_other past.counts s t more 0 apart
-        ∙ (is.counted t l ∙ sym (ap length (messages_from-other t read s i b
-        (ne_eqb s t (λ e. apart (sym e))))))
+        ∙ (is.counted t l ∙ sym (ap length (messages_from-other t read s i b (ne_eqb s t (λ e. apart (sym e))))))
 
 -- what is known is the same where its parts are
 pub same_past : (p q : Past) → p.view ≡ q.view → p.counts ≡ q.counts → p ≡ q
-same_past p q view counts =
-    ap (λ (v : Option GroupView). record p { view = v }) view
+same_past p q view counts = ap (λ (v : Option GroupView). record p { view = v }) view
     ∙ ap (λ (ns : List ℕ). record q { counts = ns }) counts

@@ -1,39 +1,26 @@
 -- What follows where every clause is kept.
+use Rattle.std.{specs.Prelude.{IfSome, IsSomeAnd, Option}, proofs.lemmas.List.take_all}
 use Rattle.std.proofs.Common.{◌≡◌, ◌≢◌, ◌⊎◌, inl, inr, refl, sym, ap, ◌∙◌, subst, ℕ, zero, suc, ◌+◌, ◌-◌, ◌<◌, ◌≤◌, arith, List, [], ◌∷◌, ◌++◌, length, take, drop, All, None, Some, slice_get, append-nil, take-append-drop}
-use Rattle.std.specs.Prelude.{IfSome, IsSomeAnd, Option}
-use Rattle.std.proofs.lemmas.Bool.{cases_lt, false≢true}
-use Rattle.std.proofs.lemmas.List.{take_all}
-use Rattle.std.proofs.lemmas.Option.{none-some, same_Some, slice_get_within}
-use Rattle.dr_entry.specs.declared.entry.Entry.{Entry}
-use Rattle.dr_entry.specs.declared.entry.Entry.TheVariants.{View, Msg}
+use Rattle.std.proofs.lemmas.{Bool.{cases_lt, false≢true}, Option.{none-some, same_Some, slice_get_within}}
+use Rattle.dr_entry.specs.declared.entry.Entry.{Entry, TheVariants.{View, Msg}}
 use Rattle.dr_entry.proofs.ListPlaces.{all_from_places, at_any, at_behind}
-use Rattle.dr_history.specs.declared.opening.Opening.{Opening}
-use Rattle.dr_history.specs.Agreement.{SamePast}
-use Rattle.dr_history.specs.History.{GroupView, IsPrefixOf, view_of}
-use Rattle.dr_history.specs.Members.{members_of}
-use Rattle.dr_history.specs.Order.{messages_from}
-use Rattle.dr_history.specs.Restarting.{AreAlong}
-use Rattle.dr_history.proofs.NumberedLemmas.{messages_from-View}
-use Rattle.dr_history.proofs.Histories.{along, turned_past}
+use Rattle.dr_history.specs.{Agreement.SamePast, History.{GroupView, IsPrefixOf, view_of}, Members.members_of}
+use Rattle.dr_history.specs.{Order.messages_from, Restarting.AreAlong, declared.opening.Opening.Opening}
+use Rattle.dr_history.proofs.{Histories.{along, turned_past}, NumberedLemmas.messages_from-View}
 use Rattle.dr_history_laws.proofs.Lists.{IsSomeAnd-at, slice_get-prefix, slice_get-some, slice_get-take, take-next, take-prefix, all_at}
-use Rattle.dr_history_laws.proofs.Pushing.{numbered-push}
-use Rattle.dr_history_laws.proofs.Views.{IsLater, View-once, ViewsRise}
+use Rattle.dr_history_laws.proofs.{Pushing.numbered-push, Views.{IsLater, View-once, ViewsRise}}
 use Rattle.dr_script.specs.declared.script.Script.{Script}
 use Rattle.dr_text.specs.declared.last.Clause.{Clause}
 use Rattle.dr_text.specs.declared.last.Clause.TheVariants as clauses
-use Rattle.dr_check.specs.declared.report.Report.{Report}
-use Rattle.dr_check.specs.declared.report.ReportAge.{ReportAge}
-use Rattle.dr_check.specs.declared.report.ReportMember.{ReportMember}
 use Rattle.dr_check.specs.Agreeing.{AreAgreed, HasPart, IsKeptBy, IsOnLogs, IsOrdered, scripted_messages}
 use Rattle.dr_check.specs.Clauses.{AreLogged, Continues, EntryItself, HasDelivered, HasSame, IsDurableView, IsFirstView, IsKeptIn, KeepsAge, KeepsBytes, KeepsDurable, KeepsIndex, KeepsSender, KeepsStart, KeepsView, MayComeNext, MayStart, MemberItself, TakesPart, logged_by}
-use Rattle.dr_check.specs.Flaws.{IsRight}
-use Rattle.dr_check.specs.Grammar.{HasStart, IsWholeAge}
+use Rattle.dr_check.specs.{Flaws.IsRight, Grammar.{HasStart, IsWholeAge}, declared.report.Report.Report}
+use Rattle.dr_check.specs.declared.report.{ReportAge.ReportAge, ReportMember.ReportMember}
 
 -- where the Views rise, a View that also stands in a front part has its past there
 past_in_front : (g h : List Entry) → ViewsRise 0 h → IsPrefixOf g h → SamePast g h
 past_in_front g h rise pre i j age number m n at_i at_j =
-    let also : slice_get h i ≡ Some (View age number m) = slice_get-prefix g h i (View age number m) pre
-    at_i in
+    let also : slice_get h i ≡ Some (View age number m) = slice_get-prefix g h i (View age number m) pre at_i in
     let place : i ≡ j = View-once h i j age number m n rise also at_j in
     let same : View age number m ≡ View age number n =
     same_Some (View age number m) (View age number n) (sym also ∙ (ap (slice_get h) place ∙ at_j)) in (
@@ -62,8 +49,7 @@ module _ (script : Script) (r : Report) (right : IsRight script r) (nth : ℕ) (
     entry c i e most spot =
         let k = i - length a.start in
         let place : length a.start + k ≡ i = omega (arith, most) in
-        subst (λ (j : ℕ). EntryItself c script a n m j e) place
-        (((right c nth a at).1 n m there.0 there.1).1 k e
+        subst (λ (j : ℕ). EntryItself c script a n m j e) place (((right c nth a at).1 n m there.0 there.1).1 k e
         (at_behind (length a.start) m.history k ∙ (ap (slice_get m.history) place ∙ spot)))
 
     front : IsPrefixOf a.start m.history
@@ -82,8 +68,7 @@ module _ (script : Script) (r : Report) (right : IsRight script r) (nth : ℕ) (
         → MayStart script (take i m.history) e
     started i e less spot =
         let f = slice_get-some a.start i less in
-        let same : f.0 ≡ e = same_Some f.0 e (sym (slice_get-prefix a.start m.history i f.0 front f.1)
-        ∙ spot) in
+        let same : f.0 ≡ e = same_Some f.0 e (sym (slice_get-prefix a.start m.history i f.0 front f.1) ∙ spot) in
         subst (λ (es : List Entry). MayStart script es e) (sym (before i (omega (arith, less))))
         (subst (λ (x : Entry). MayStart script (take i a.start) x) same (starts_well.entries i f.0 f.1))
 
@@ -92,9 +77,8 @@ module _ (script : Script) (r : Report) (right : IsRight script r) (nth : ℕ) (
         × KeepsBytes script (Msg s k b)
     message i s k b spot = by (cases_lt i (length a.start))
       where
-        by : (i < length a.start) ⊎ (length a.start ≤ i)
-            → KeepsSender (take i m.history) (Msg s k b) × KeepsIndex (take i m.history) (Msg s k b)
-            × KeepsBytes script (Msg s k b)
+        by : (i < length a.start) ⊎ (length a.start ≤ i) → KeepsSender (take i m.history) (Msg s k b)
+            × KeepsIndex (take i m.history) (Msg s k b) × KeepsBytes script (Msg s k b)
         by (inl less) = started i (Msg s k b) less spot
         by (inr most) = (
           entry clauses.Sender i (Msg s k b) most spot,
@@ -115,9 +99,8 @@ module _ (script : Script) (r : Report) (right : IsRight script r) (nth : ℕ) (
             first_of : KeepsView script a m (length a.start) x → IsFirstView a x
             first_of view = view.first refl
 
-        by : (x : Entry) → slice_get m.history (length a.start) ≡ Some x → IsFirstView a x
-            → (mask : ℕ) × All (TakesPart a) (members_of mask) × (slice_get m.history (length a.start)
-            ≡ Some (View a.age 0 mask))
+        by : (x : Entry) → slice_get m.history (length a.start) ≡ Some x → IsFirstView a x → (mask : ℕ)
+            × All (TakesPart a) (members_of mask) × (slice_get m.history (length a.start) ≡ Some (View a.age 0 mask))
         by (View g k mask) spot is = (
           mask,
           is.2,
@@ -134,8 +117,7 @@ module _ (script : Script) (r : Report) (right : IsRight script r) (nth : ℕ) (
         next : i + 1 ≡ suc i
         next = omega arith
 
-        more : (e : Entry) → slice_get m.history i ≡ Some e
-            → take i m.history ++ e ∷ [] ≡ take (suc i) m.history
+        more : (e : Entry) → slice_get m.history i ≡ Some e → take i m.history ++ e ∷ [] ≡ take (suc i) m.history
         more e spot = sym (take-next m.history i e spot) ∙ ap (λ k. take k m.history) next
 
         by : (e : Entry) × (slice_get m.history i ≡ Some e)
@@ -156,9 +138,8 @@ module _ (script : Script) (r : Report) (right : IsRight script r) (nth : ℕ) (
         first.1,
         (
           drop (length a.start + 1) m.history,
-          ap (λ xs. xs ++ drop (length a.start + 1) m.history)
-              (ap (λ xs. xs ++ View a.age 0 first.0 ∷ []) (sym (before (length a.start) (omega arith)
-              ∙ take_all (length a.start) a.start (omega arith)))
+          ap (λ xs. xs ++ drop (length a.start + 1) m.history) (ap (λ xs. xs ++ View a.age 0 first.0 ∷ [])
+              (sym (before (length a.start) (omega arith) ∙ take_all (length a.start) a.start (omega arith)))
               ∙ sym (take-next m.history (length a.start) (View a.age 0 first.0) first.2))
               ∙ take-append-drop (length a.start + 1) m.history,
         ),
@@ -166,8 +147,7 @@ module _ (script : Script) (r : Report) (right : IsRight script r) (nth : ℕ) (
       views = λ i age number mask less spot. (entry clauses.View i (View age number mask)
           (omega (arith, less)) spot).later less;
       senders = λ i s index bytes spot. (message i s index bytes spot).0;
-      numbered = λ s. subst (λ (es : List Entry). IsPrefixOf (messages_from s es)
-          (scripted_messages script s))
+      numbered = λ s. subst (λ (es : List Entry). IsPrefixOf (messages_from s es) (scripted_messages script s))
           (take_all (length m.history) m.history (omega arith)) (numbered s (length m.history) (omega arith));
     }
 
@@ -186,17 +166,14 @@ module _ (script : Script) (r : Report) (right : IsRight script r) (nth : ℕ) (
             let here : View a.age 0 first.0 ≡ View age number mask =
             same_Some _ _ (sym first.2 ∙ (ap (slice_get m.history) (sym same) ∙ spot)) in
             let of_age : a.age ≡ age = cc in
-            let start : view_of a.start ≡ Some u =
-            ap view_of (sym (take_all (length a.start) a.start (omega arith))
+            let start : view_of a.start ≡ Some u = ap view_of (sym (take_all (length a.start) a.start (omega arith))
             ∙ (sym (before (length a.start) (omega arith)) ∙ ap (λ k. take k m.history) (sym same))) ∙ is in
-            let older : u.age < a.age = starts_well.later u start in
-            inl (omega (arith, older, of_age))
+            let older : u.age < a.age = starts_well.later u start in inl (omega (arith, older, of_age))
 
         behind : length a.start < i → IsLater u age number
         behind less =
             let comes = IsSomeAnd-at (view_of (take i m.history))
-            (λ v. MayComeNext script a m i v age number mask) u is
-            (ordered.views i age number mask less spot) in
+            (λ v. MayComeNext script a m i v age number mask) u is (ordered.views i age number mask less spot) in
             inr (sym comes.same_age, omega (arith, comes.next_number))
 
         from_start : (length a.start < i) ⊎ (i ≤ length a.start) → length a.start ≤ i → IsLater u age number
@@ -211,10 +188,7 @@ module _ (script : Script) (r : Report) (right : IsRight script r) (nth : ℕ) (
     durable = itself clauses.Durable
 
     on_logs : IsOnLogs a m
-    on_logs = record {
-      some = by some.0 some.1 some.2 some.3;
-      last = λ nobody. last_of (durable.last nobody);
-    }
+    on_logs = record { some = by some.0 some.1 some.2 some.3; last = λ nobody. last_of (durable.last nobody) }
       where
         some : (i : ℕ) × (e : Entry) × (slice_get m.history i ≡ Some e) × IsDurableView a m e
         some = at_any (IsDurableView a m) m.history durable.some
@@ -229,8 +203,7 @@ module _ (script : Script) (r : Report) (right : IsRight script r) (nth : ℕ) (
             → IsSomeAnd (view_of m.history) (λ v. All (λ s. m.durable ≤ logged_by a s) v.members)
         last_of is = more (view_of m.history) is
           where
-            more : (z : Option GroupView) → IsSomeAnd z (λ (v : GroupView). (v.age ≡ a.age)
-                × AreLogged a m v.members)
+            more : (z : Option GroupView) → IsSomeAnd z (λ (v : GroupView). (v.age ≡ a.age) × AreLogged a m v.members)
                 → IsSomeAnd z (λ (v : GroupView). All (λ s. m.durable ≤ logged_by a s) v.members)
             more None is = absurd is
             more (Some v) is = is.1
@@ -247,12 +220,10 @@ module _ (script : Script) (r : Report) (right : IsRight script r) (nth : ℕ) (
           ∙ (sym (slice_get-prefix a.start o.history k f.0 (front j o there) f.1) ∙ in_o)))
       by (inr most) =
           let keeps = entry j o there clauses.Prefix k y most in_o in
-          let has : HasSame k y m = earlier keeps in
-          same (slice_get m.history k) in_m (has here.1)
+          let has : HasSame k y m = earlier keeps in same (slice_get m.history k) in_m (has here.1)
         where
           earlier : All (HasSame k y) (take j a.members) → HasSame k y m
-          earlier all = all_at (HasSame k y) (take j a.members) i m all
-              (slice_get-take j a.members i less ∙ here.0)
+          earlier all = all_at (HasSame k y) (take j a.members) i m all (slice_get-take j a.members i less ∙ here.0)
 
           same : (z : Option Entry) → z ≡ Some x → IfSome z (λ w. w ≡ y) → x ≡ y
           same None is w = absurd (none-some x is)
@@ -295,16 +266,14 @@ module _ (script : Script) (r : Report) (right : IsRight script r) (nth : ℕ) (
 
 pub all_agreed : (script : Script) (r : Report) → IsRight script r → All (IsWholeAge script.members) r.ages
     → All (AreAgreed script) r.ages
-all_agreed script r right whole =
-    all_from_places (AreAgreed script) r.ages
+all_agreed script r right whole = all_from_places (AreAgreed script) r.ages
     (λ i a at. agreed script r right i a at (all_at (IsWholeAge script.members) r.ages i a whole at))
 
 -- and each age keeps the one before it
 pub keeps_before : (script : Script) (r : Report) → IsRight script r → (i : ℕ) (a next : ReportAge)
     → slice_get r.ages i ≡ Some a → slice_get r.ages (suc i) ≡ Some next → IsKeptBy a next
 keeps_before script r right i a next at to =
-    let keeps : KeepsAge a next =
-    by (slice_get r.ages i) at ((right clauses.Kept (suc i) next to).0) in
+    let keeps : KeepsAge a next = by (slice_get r.ages i) at ((right clauses.Kept (suc i) next to).0) in
     let some = at_any (HasDelivered next) a.members keeps.delivered in record {
       later = keeps.later;
       delivered = (some.0, some.1, (some.2, some.3.0), some.3.1);

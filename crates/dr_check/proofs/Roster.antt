@@ -1,18 +1,10 @@
 -- Entries that may stand on a log may stand in a start.
 use Rattle.std.proofs.Common.{◌≡◌, ◌≢◌, refl, Bool, true, false, inl, inr, sym, ap, ◌∙◌, subst, ℕ, ◌+◌, ◌<◌, ◌≤◌, arith, List, [], length, take, All, Some, slice_get, slice_index_or}
-use Rattle.dr_entry.specs.declared.entry.Entry.{Entry}
-use Rattle.dr_entry.specs.declared.entry.Entry.TheVariants.{View, Msg}
-use Rattle.dr_history.specs.declared.opening.Opening.{Opening}
-use Rattle.dr_history.specs.History.{GroupView, view_of}
-use Rattle.dr_history.specs.Members.{has, members_of}
-use Rattle.dr_history.specs.Restarting.{AllStand}
-use Rattle.dr_history.specs.Soundness.{MayStand}
-use Rattle.dr_history.specs.Order.{AreOfRoster, ContinuesAge}
-use Rattle.dr_history.proofs.Bits.{has_zero}
-use Rattle.dr_history.proofs.Masks.{same_masks}
-use Rattle.dr_history_laws.proofs.Lists.{IsSomeAnd-more}
-use Rattle.dr_history_laws.proofs.Members.{has-member}
-use Rattle.dr_history_laws.proofs.Stood.{named_below}
+use Rattle.dr_entry.specs.declared.entry.Entry.{Entry, TheVariants.{View, Msg}}
+use Rattle.dr_history.specs.{History.{GroupView, view_of}, Members.{has, members_of}}
+use Rattle.dr_history.specs.{Order.{AreOfRoster, ContinuesAge}, Restarting.AllStand, Soundness.MayStand}
+use Rattle.dr_history.{specs.declared.opening.Opening.Opening, proofs.{Bits.has_zero, Masks.same_masks}}
+use Rattle.dr_history_laws.proofs.{Lists.IsSomeAnd-more, Members.has-member, Stood.named_below}
 use Rattle.dr_script.specs.declared.script.Script.{Script}
 use Rattle.dr_check.specs.Clauses.{Continues, MayStart}
 
@@ -33,18 +25,15 @@ may_start script o es same many most stand i (View a k m) at = (
         out j false e = e ∙ sym (has_zero j)
         out j true e =
             let c = has-member m j e (omega (arith, of.within j e, many, most)) in
-            let within = c.1 in
-            absurd (omega (arith, within, ap length none))
+            let within = c.1 in absurd (omega (arith, within, ap length none))
 
-    apart : (v : GroupView) → ContinuesAge v a k m
-        → (a ≡ v.age) × (k ≡ v.number + 1) × (members_of m ≢ v.members)
+    apart : (v : GroupView) → ContinuesAge v a k m → (a ≡ v.age) × (k ≡ v.number + 1) × (members_of m ≢ v.members)
     apart v f = (f.same_age, f.next_number, f.other)
 
     continues : MayStand o (take i es) (View a k m) → Continues (view_of (take i es)) a k m
     continues (of, inl opens) = inl (opens.first, opens.later)
-    continues (of, inr goes) =
-        inr (IsSomeAnd-more (view_of (take i es)) (λ v. ContinuesAge v a k m)
-        (λ v. (a ≡ v.age) × (k ≡ v.number + 1) × (members_of m ≢ v.members)) apart goes)
+    continues (of, inr goes) = inr (IsSomeAnd-more (view_of (take i es))
+        (λ v. ContinuesAge v a k m) (λ v. (a ≡ v.age) × (k ≡ v.number + 1) × (members_of m ≢ v.members)) apart goes)
 may_start script o es same many most stand i (Msg s k b) at =
     let stands = stand i (Msg s k b) at in (
       stands.0,

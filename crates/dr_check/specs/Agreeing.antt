@@ -1,16 +1,11 @@
 -- What is known of the ages that a right report tells.
-use Rattle.std.specs.Prelude.{◌≡◌, ℕ, ◌<◌, ◌≤◌, List, [], ◌∷◌, ◌++◌, length, map, take, All, Contains, slice_get, slice_index_or, Some, IsSomeAnd, true}
 use Rattle.std.specs.List.{enumerate_from}
-use Rattle.dr_entry.specs.declared.entry.Entry.{Entry}
-use Rattle.dr_entry.specs.declared.entry.Entry.TheVariants.{View, Msg}
-use Rattle.dr_history.specs.Agreement.{SamePast}
-use Rattle.dr_history.specs.History.{IsPrefixOf, view_of}
-use Rattle.dr_history.specs.Members.{members_of}
-use Rattle.dr_history.specs.Order.{messages_from}
-use Rattle.dr_history.specs.Restarting.{AreAlong}
+use Rattle.std.specs.Prelude.{◌≡◌, ℕ, ◌<◌, ◌≤◌, List, [], ◌∷◌, ◌++◌, length, map, take, All, Contains, slice_get, slice_index_or, Some, IsSomeAnd, true}
+use Rattle.dr_entry.specs.declared.entry.Entry.{Entry, TheVariants.{View, Msg}}
+use Rattle.dr_history.specs.{Agreement.SamePast, History.{IsPrefixOf, view_of}, Members.members_of}
+use Rattle.dr_history.specs.{Order.messages_from, Restarting.AreAlong}
 use Rattle.dr_script.specs.declared.script.Script.{Script}
-use Rattle.dr_check.specs.Clauses.{IsLate, MayComeNext, TakesPart, logged_by}
-use Rattle.dr_check.specs.declared.report.ReportAge.{ReportAge}
+use Rattle.dr_check.specs.{Clauses.{IsLate, MayComeNext, TakesPart, logged_by}, declared.report.ReportAge.ReportAge}
 use Rattle.dr_check.specs.declared.report.ReportMember.{ReportMember}
 
 -- the member with this number took part in the age

@@ -1,18 +1,13 @@
 -- What a report is to keep: each clause as it speaks of an age, of a member or of an entry.
 use Rattle.std.specs.List.{Any}
 use Rattle.std.specs.Prelude.{◌≡◌, ◌≢◌, ◌⊎◌, ⊤, ℕ, zero, suc, ◌+◌, ◌*◌, ◌<◌, ◌≤◌, List, [], length, filter, take, All, Contains, slice_get, slice_index_or, Option, None, Some, IfSome, IsSomeAnd, true}
-use Rattle.dr_entry.specs.declared.entry.Entry.{Entry}
-use Rattle.dr_entry.specs.declared.entry.Entry.TheVariants.{View, Msg}
-use Rattle.dr_history.specs.History.{GroupView, IsPrefixOf, view_of}
-use Rattle.dr_history.specs.Members.{has, members_of}
-use Rattle.dr_history.specs.Order.{messages_from}
+use Rattle.dr_entry.specs.declared.entry.Entry.{Entry, TheVariants.{View, Msg}}
+use Rattle.dr_history.specs.{History.{GroupView, IsPrefixOf, view_of}, Members.{has, members_of}, Order.messages_from}
 use Rattle.dr_history.specs.Soundness.{IsLaterAge}
 use Rattle.dr_script.specs.declared.script.Script.{Script}
 use Rattle.dr_text.specs.declared.last.Clause.{Clause}
 use Rattle.dr_text.specs.declared.last.Clause.TheVariants as clauses
-use Rattle.dr_check.specs.declared.report.ReportAge.{ReportAge}
-use Rattle.dr_check.specs.declared.report.ReportMember.{ReportMember}
-use Rattle.dr_check.specs.Firsts.{AllKeep}
+use Rattle.dr_check.specs.{Firsts.AllKeep, declared.report.{ReportAge.ReportAge, ReportMember.ReportMember}}
 
 -- ---- whoever takes part
 

@@ -2,11 +2,8 @@
 use Rattle.std.specs.Prelude.{ℕ, suc, ◌+◌, ◌-◌, ◌&&◌, ◌==◌, nat_lt, nat_le, List, [], ◌∷◌, ◌++◌, map, Option, None, Some, true, false, if◌then◌else◌}
 use Rattle.std.specs.Prelude.{option_and_then}
 use Rattle.dr_entry.specs.declared.entry.Entry.{Entry}
-use Rattle.dr_check.specs.declared.course.Course.{Course}
-use Rattle.dr_check.specs.declared.line.Line.{Line}
-use Rattle.dr_check.specs.declared.line.Line.TheVariants.{Age, Present, Absent, Entry as EntryLine, Last}
-use Rattle.dr_check.specs.declared.report.ReportAge.{ReportAge}
-use Rattle.dr_check.specs.declared.report.ReportMember.{ReportMember}
+use Rattle.dr_check.specs.declared.{course.Course.Course, report.{ReportAge.ReportAge, ReportMember.ReportMember}}
+use Rattle.dr_check.specs.declared.line.Line.{Line, TheVariants.{Age, Present, Absent, Entry as EntryLine, Last}}
 
 -- an entry may come
 abbrev pub entry_course : Course → Line → Option Course

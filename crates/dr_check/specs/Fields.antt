@@ -1,13 +1,11 @@
 -- The fields of a line: what stands between blanks, up to the line feed.
+use Rattle.std.specs.{Fmt.decimal, List.slice_split}
 use Rattle.std.specs.Prelude.{◌≡◌, ⊤, ℕ, ◌<◌, ◌^◌, ◌==◌, ◌||◌, Bool, List, [], ◌∷◌, length, codes, if◌then◌else◌, slice_index, slice_index_or}
-use Rattle.std.specs.Fmt.{decimal}
-use Rattle.std.specs.List.{slice_split}
 use Rattle.dr_entry.specs.declared.end.End.{End}
 use Rattle.dr_entry.specs.declared.end.End.TheVariants as ends
 use Rattle.dr_text.specs.Report.{mask_text}
-use Rattle.dr_check.specs.declared.ends.EndKind.{EndKind}
+use Rattle.dr_check.specs.{Lines.IsMask, declared.ends.EndKind.EndKind}
 use Rattle.dr_check.specs.declared.ends.EndKind.TheVariants.{Done, Crashed, Suspected, Excluded, NoMajority, DiskFault, LogFull, Spent, Absent}
-use Rattle.dr_check.specs.Lines.{IsMask}
 
 abbrev pub is_end : ℕ → Bool
 is_end byte = (byte == 32) || (byte == 10)

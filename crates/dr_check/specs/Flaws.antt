@@ -5,12 +5,9 @@ use Rattle.dr_entry.specs.declared.entry.Entry.{Entry}
 use Rattle.dr_script.specs.declared.script.Script.{Script}
 use Rattle.dr_text.specs.declared.last.Clause.{Clause}
 use Rattle.dr_text.specs.declared.last.Clause.TheVariants.{Start, View, Sender, Index, Bytes, Prefix, Durable, Kept}
-use Rattle.dr_check.specs.declared.flaw.Flaw.{Flaw}
-use Rattle.dr_check.specs.declared.report.Report.{Report}
-use Rattle.dr_check.specs.declared.report.ReportAge.{ReportAge}
+use Rattle.dr_check.specs.{Clauses.{AgeItself, MemberItself, EntryItself}, Firsts.{AllKeep, FirstBreaks}}
+use Rattle.dr_check.specs.declared.{flaw.Flaw.Flaw, report.{Report.Report, ReportAge.ReportAge}}
 use Rattle.dr_check.specs.declared.report.ReportMember.{ReportMember}
-use Rattle.dr_check.specs.Firsts.{AllKeep, FirstBreaks}
-use Rattle.dr_check.specs.Clauses.{AgeItself, MemberItself, EntryItself}
 
 -- the line of entry k behind the start, in the history of a member; there is no line above the last number
 abbrev pub line_behind : ReportMember → ℕ → ℕ

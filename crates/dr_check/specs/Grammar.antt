@@ -1,14 +1,11 @@
 -- Which texts are reports, of which values, and the first line at which a text is none.
-use Rattle.std.specs.Prelude.{◌≡◌, ⊤, ◌⊎◌, ℕ, ◌+◌, List, [], ◌∷◌, ◌++◌, length, map, take, drop, All, slice_get, true, false, if◌then◌else◌}
 use Rattle.std.specs.List.{AllZip, enumerate_from, flat_map}
+use Rattle.std.specs.Prelude.{◌≡◌, ⊤, ◌⊎◌, ℕ, ◌+◌, List, [], ◌∷◌, ◌++◌, length, map, take, drop, All, slice_get, true, false, if◌then◌else◌}
 use Rattle.dr_entry.specs.declared.entry.Entry.{Entry}
 use Rattle.dr_history.specs.History.{IsPrefixOf}
-use Rattle.dr_check.specs.declared.line.Line.{Line}
+use Rattle.dr_check.specs.{Lines.{IsLineText, lines_of}, declared.{line.Line.Line, report.Report.Report}}
+use Rattle.dr_check.specs.declared.report.{ReportAge.ReportAge, ReportMember.ReportMember}
 use Rattle.dr_check.specs.declared.line.Line.TheVariants as lines
-use Rattle.dr_check.specs.declared.report.Report.{Report}
-use Rattle.dr_check.specs.declared.report.ReportAge.{ReportAge}
-use Rattle.dr_check.specs.declared.report.ReportMember.{ReportMember}
-use Rattle.dr_check.specs.Lines.{IsLineText, lines_of}
 
 -- the line of a member with this number
 abbrev pub member_head : ℕ → ReportMember → Line

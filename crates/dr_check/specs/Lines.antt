@@ -1,15 +1,10 @@
 -- Which bytes are a line of a report's text. Each line ends with its line feed.
+use Rattle.std.specs.{Fmt.decimal, List.concat}
 use Rattle.std.specs.Prelude.{◌≡◌, ◌≢◌, ⊤, ℕ, IfSome, ◌<◌, ◌^◌, ◌==◌, List, [], ◌∷◌, codes, if◌then◌else◌, slice_index}
-use Rattle.std.specs.Fmt.{decimal}
-use Rattle.std.specs.List.{concat}
-use Rattle.dr_entry.specs.Messages.{IsMessage}
-use Rattle.dr_entry.specs.declared.end.End.{End}
-use Rattle.dr_entry.specs.declared.end.End.TheVariants as ends
-use Rattle.dr_entry.specs.declared.entry.Entry.{Entry}
-use Rattle.dr_entry.specs.declared.entry.Entry.TheVariants.{View, Msg}
+use Rattle.dr_entry.specs.{Messages.IsMessage, declared.{end.End.End, entry.Entry.{Entry, TheVariants.{View, Msg}}}}
 use Rattle.dr_entry.specs.declared.limits.TheConstants.{MAX_MEMBERS}
-use Rattle.dr_text.specs.Report.{end_text, entry_text, last_text}
-use Rattle.dr_text.specs.declared.last.Last.{Last}
+use Rattle.dr_entry.specs.declared.end.End.TheVariants as ends
+use Rattle.dr_text.specs.{Report.{end_text, entry_text, last_text}, declared.last.Last.Last}
 use Rattle.dr_text.specs.declared.last.Last.TheVariants as lasts
 use Rattle.dr_check.specs.declared.line.Line.{Line}
 use Rattle.dr_check.specs.declared.line.Line.TheVariants as lines

@@ -1,8 +1,7 @@
 -- What is known of the entries that were read.
 use Rattle.std.specs.Prelude.{◌≡◌, ℕ, ◌<◌, List, length, slice_index_or}
 use Rattle.dr_entry.specs.declared.entry.Entry.{Entry}
-use Rattle.dr_history.specs.History.{view_of}
-use Rattle.dr_history.specs.Order.{messages_from}
+use Rattle.dr_history.specs.{History.view_of, Order.messages_from}
 use Rattle.dr_check.specs.declared.past.Past.{Past}
 
 -- the view that they end in, and how many messages of each sender they have

@@ -1,10 +1,7 @@
 -- How far a text was read.
-use Rattle.std.specs.Prelude.{◌≡◌, ℕ, ◌≤◌, List, ◌++◌, Some, true}
-use Rattle.std.specs.List.{AllZip}
-use Rattle.dr_check.specs.declared.course.Course.{Course}
-use Rattle.dr_check.specs.declared.line.Line.{Line}
-use Rattle.dr_check.specs.Course.{course_after, beginning}
-use Rattle.dr_check.specs.Lines.{IsLineText, lines_of}
+use Rattle.std.specs.{List.AllZip, Prelude.{◌≡◌, ℕ, ◌≤◌, List, ◌++◌, Some, true}}
+use Rattle.dr_check.specs.{Course.{course_after, beginning}, Lines.{IsLineText, lines_of}}
+use Rattle.dr_check.specs.declared.{course.Course.Course, line.Line.Line}
 
 -- bytes are this line, and no other
 abbrev pub IsOnly : Line → List ℕ → Type 0

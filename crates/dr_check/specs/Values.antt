@@ -1,23 +1,14 @@
 -- Reports of ages that have ended.
+use Rattle.std.specs.{List.AllZip, Option.option_map_or}
 use Rattle.std.specs.Prelude.{◌≡◌, ◌⊎◌, ℕ, suc, ◌^◌, ◌<◌, not, Bool, false, List, [], All, find, length, slice_get, Option, None, Some, option_and_then}
-use Rattle.std.specs.List.{AllZip}
-use Rattle.std.specs.Option.{option_map_or}
-use Rattle.dr_entry.specs.declared.end.AgeEnd.{AgeEnd}
-use Rattle.dr_entry.specs.declared.end.End.TheVariants.{Absent}
-use Rattle.dr_entry.specs.declared.end.MemberEnd.{MemberEnd}
-use Rattle.dr_entry.specs.declared.entry.Entry.{Entry}
-use Rattle.dr_entry.specs.declared.entry.Entry.TheVariants.{View, Msg}
-use Rattle.dr_history.specs.declared.opening.Opening.{Opening}
-use Rattle.dr_history.specs.Agreement.{EndsAgreed, accounts_of}
-use Rattle.dr_history.specs.History.{IsPrefixOf}
-use Rattle.dr_history.specs.Restarting.{Kept}
-use Rattle.dr_history.specs.Soundness.{Sound}
+use Rattle.dr_entry.specs.declared.end.{AgeEnd.AgeEnd, End.TheVariants.Absent, MemberEnd.MemberEnd}
+use Rattle.dr_entry.specs.declared.entry.Entry.{Entry, TheVariants.{View, Msg}}
+use Rattle.dr_history.specs.{Agreement.{EndsAgreed, accounts_of}, History.IsPrefixOf, Restarting.Kept}
+use Rattle.dr_history.specs.{Soundness.Sound, declared.opening.Opening.Opening}
 use Rattle.dr_script.specs.declared.script.Script.{Script}
 use Rattle.dr_text.specs.Report.{is_absent}
 use Rattle.dr_words.specs.Masks.{mask_of}
-use Rattle.dr_check.specs.Lines.{EndFits, EntryFits, IsLong}
-use Rattle.dr_check.specs.declared.report.Report.{Report}
-use Rattle.dr_check.specs.declared.report.ReportAge.{ReportAge}
+use Rattle.dr_check.specs.{Lines.{EndFits, EntryFits, IsLong}, declared.report.{Report.Report, ReportAge.ReportAge}}
 use Rattle.dr_check.specs.declared.report.ReportMember.{ReportMember}
 
 -- by the ends of an age, the member with this number took part: it has one, and not that of an absent member

@@ -1,9 +1,8 @@
 //! What is judged of a member itself and of an age itself.
-ghost use Rattle.std.specs.Prelude.{◌≡◌, ◌↔◌, ◌<◌, IsTrue, All, IsSomeAnd, Some, length, slice_get, take};
-ghost use Rattle.std.specs.List.{Any};
+ghost use Rattle.std.specs.{List.Any, Prelude.{◌≡◌, ◌↔◌, ◌<◌, IsTrue, All, IsSomeAnd, Some, length, slice_get, take}};
 ghost use Rattle.dr_history.specs.History.{IsPrefixOf, view_of};
-ghost use Rattle.dr_check.specs.declared.report.ReportAge.{ReportAge as AgeOf};
 ghost use Rattle.dr_check.specs.Clauses.{AgeItself, AreLogged, HasDelivered, IsDurableView, IsKeptIn, KeepsAge, KeepsDurable, MemberItself};
+ghost use Rattle.dr_check.specs.declared.report.ReportAge.{ReportAge as AgeOf};
 
 use crate::members::{are_logged, is_nobody_late};
 use crate::report::{ReportAge, ReportMember};

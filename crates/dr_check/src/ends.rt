@@ -1,7 +1,6 @@
 //! How a member ended, by the fields of its line.
 ghost use Rattle.std.specs.Prelude.{◌≡◌, ◌↔◌, ◌≤◌, IsTrue};
-ghost use Rattle.dr_check.specs.Fields.{NumberIs, kind_of, kind_of_end, number_of, width_of};
-ghost use Rattle.dr_check.specs.Lines.{EndFits};
+ghost use Rattle.dr_check.specs.{Fields.{NumberIs, kind_of, kind_of_end, number_of, width_of}, Lines.EndFits};
 
 use crate::fields::{mask_in, u8_in, u32_in, u64_in};
 use dr_entry::End;

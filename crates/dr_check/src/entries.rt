@@ -1,10 +1,9 @@
 //! What is judged of an entry.
 ghost use Rattle.std.specs.Prelude.{◌≡◌, ◌↔◌, ◌≤◌, IsTrue, length, take};
-ghost use Rattle.dr_check.specs.Clauses.{EntryItself, HasSame, KeepsPrefix};
-ghost use Rattle.dr_check.specs.Past.{IsPast};
+ghost use Rattle.dr_check.specs.{Clauses.{EntryItself, HasSame, KeepsPrefix}, Past.IsPast};
 
 use crate::messages::{keeps_bytes, keeps_index, keeps_sender};
-use crate::place::Place;
+use crate::place::EntryPlace;
 use crate::report::{ReportAge, ReportMember};
 use crate::views::keeps_view;
 use dr_entry::Entry;
@@ -40,7 +39,7 @@ fn keeps_prefix(age: &ReportAge, n: usize, at: usize, entry: &Entry) -> bool
 }
 
 /// Whether the entry at a place in the history of the member `n` keeps a clause.
-pub(crate) fn keeps(clause: Clause, n: usize, place: &Place, entry: &Entry) -> bool
+pub(crate) fn keeps(clause: Clause, n: usize, place: &EntryPlace, entry: &Entry) -> bool
     requires n { n ≤ length place.now.age.now.members }
     requires at { place.now.at ≤ length place.now.member.now.history }
     requires past { IsPast (take place.now.at place.now.member.now.history) place.now.past.now }

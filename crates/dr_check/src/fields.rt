@@ -1,14 +1,11 @@
 //! The fields of a line, and the numbers in them. What is no number is read as 0: whoever asks prints the
 //! line anew, and compares.
+ghost use Rattle.std.specs.{Fmt.decimal, List.position_or_len, Str.IsUtf8};
 ghost use Rattle.std.specs.Prelude.{◌≡◌, ◌≢◌, ◌<◌, ◌≤◌, ◌^◌, ◌+◌, ◌==◌, ◌↔◌, IsTrue, ℕ, length, List, take, drop, slice_index_or, IfOk};
-ghost use Rattle.std.specs.Fmt.{decimal};
-ghost use Rattle.std.specs.List.{position_or_len};
-ghost use Rattle.std.specs.Str.{IsUtf8};
 ghost use Rattle.dr_entry.specs.Messages.{IsMessage};
 ghost use Rattle.dr_text.specs.Report.{mask_text, message_text};
 ghost use Rattle.dr_words.specs.Masks.{with_member};
-ghost use Rattle.dr_check.specs.Fields.{field, is_end};
-ghost use Rattle.dr_check.specs.Lines.{IsMask};
+ghost use Rattle.dr_check.specs.{Fields.{field, is_end}, Lines.IsMask};
 ghost use Rattle.hex.specs.declared.error.FromHexError.TheVariants.{OutOfMemory};
 
 use dr_entry::{MAX_MESSAGE_LENGTH, Message};

@@ -1,15 +1,14 @@
 //! Finds the first flaw of a report.
 ghost use Rattle.std.specs.Prelude.{◌≡◌, ◌<◌, ◌+◌, ◌↔◌, IfSome, IfNone, IsTrue, Some, length, slice_get};
-ghost use Rattle.dr_check.specs.declared.report.ReportAge.{ReportAge as AgeOf};
-ghost use Rattle.dr_check.specs.declared.report.ReportMember.{ReportMember as MemberOf};
 ghost use Rattle.dr_check.specs.Firsts.{AllKeep, FirstBreaks};
 ghost use Rattle.dr_check.specs.Flaws.{AgeBreaks, AgeKeeps, BreaksClause, EntryBreaks, EntryKeeps, IsFirstFlaw, IsRight, KeepsClause, MemberBreaks, MemberKeeps, line_behind, own_entries};
+ghost use Rattle.dr_check.specs.declared.report.{ReportAge.ReportAge as AgeOf, ReportMember.ReportMember as MemberOf};
 
 use crate::ages::{age_keeps, member_keeps};
 use crate::entries::keeps;
 use crate::flaw::Flaw;
 use crate::past::Past;
-use crate::place::Place;
+use crate::place::EntryPlace;
 use crate::report::{Report, ReportAge, ReportMember};
 use dr_script::Script;
 use dr_text::Clause;
@@ -42,7 +41,7 @@ fn breach_of_entries(
     }
     let mut past = Past::of(&history[..start]);
     for at in start..history.len() {
-        let place = Place {
+        let place = EntryPlace {
             script,
             age,
             member,

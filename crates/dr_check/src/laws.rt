@@ -1,18 +1,12 @@
 //! Laws of reports.
 ghost use Rattle.std.specs.Prelude.{◌≡◌, ◌≤◌, suc, All, List, Some, slice_get, ℕ};
 ghost use Rattle.dr_entry.specs.declared.end.AgeEnd.{AgeEnd as AgeEndOf};
-ghost use Rattle.dr_text.specs.Report.{report_text};
-ghost use Rattle.dr_text.specs.declared.last.Last.{Last as LastOf};
-ghost use Rattle.dr_check.specs.declared.flaw.Flaw.{Flaw as FlawOf};
-ghost use Rattle.dr_check.specs.declared.report.Report.{Report as ReportOf};
-ghost use Rattle.dr_check.specs.declared.report.ReportAge.{ReportAge as AgeOf};
-ghost use Rattle.dr_check.specs.Agreeing.{AreAgreed, IsKeptBy};
-ghost use Rattle.dr_check.specs.Flaws.{IsFirstFlaw, IsRight};
-ghost use Rattle.dr_check.specs.Grammar.{IsNoReportAt, IsReport, IsWholeAge};
-ghost use Rattle.dr_check.specs.Lines.{LastFits};
+ghost use Rattle.dr_text.specs.{Report.report_text, declared.last.Last.Last as LastOf};
+ghost use Rattle.dr_check.specs.{Agreeing.{AreAgreed, IsKeptBy}, Flaws.{IsFirstFlaw, IsRight}, Lines.LastFits};
+ghost use Rattle.dr_check.specs.{Grammar.{IsNoReportAt, IsReport, IsWholeAge}, declared.flaw.Flaw.Flaw as FlawOf};
 ghost use Rattle.dr_check.specs.Values.{HasSmallNumbers, HasValues, IsAgreed, IsTellableAge, KeepEachOther};
-ghost use Rattle.dr_script.specs.Ranges.{HasGroupRanges};
-ghost use Rattle.dr_script.specs.declared.script.Script.{Script as ScriptOf};
+ghost use Rattle.dr_check.specs.declared.report.{Report.Report as ReportOf, ReportAge.ReportAge as AgeOf};
+ghost use Rattle.dr_script.specs.{Ranges.HasGroupRanges, declared.script.Script.Script as ScriptOf};
 
 use crate::report::Report;
 use dr_entry::AgeEnd;

@@ -2,15 +2,12 @@
 //!
 //! So only one direction has to be shown of each field.
 ghost use Rattle.std.specs.Prelude.{◌≡◌, ◌↔◌, ◌+◌, ◌<◌, ◌≤◌, length, codes, slice_index, ◌^◌, ◌++◌, ℕ, IsTrue, IfOk, IfSome, OnOk, Some, List, string_bytes};
-ghost use Rattle.dr_entry.specs.declared.entry.Entry.TheVariants.{View, Msg};
-ghost use Rattle.dr_entry.specs.declared.end.End.{End as EndOf};
-ghost use Rattle.dr_text.specs.Report.{entry_text, last_text};
-ghost use Rattle.dr_text.specs.declared.last.Last.TheVariants.{NoQuorum};
-ghost use Rattle.dr_check.specs.declared.line.Line.{Line as LineOf};
-ghost use Rattle.dr_check.specs.declared.line.Line.TheVariants.{Age, Present, Absent, Entry as EntryLine, Last as LastLine};
-ghost use Rattle.dr_check.specs.Lines.{BeginsAs, EndFits, EntryFits, IsLineText, absent_text, age_start_text, present_text};
-ghost use Rattle.dr_check.specs.Fields.{end_fields};
+ghost use Rattle.dr_entry.specs.declared.{end.End.End as EndOf, entry.Entry.TheVariants.{View, Msg}};
+ghost use Rattle.dr_text.specs.{Report.{entry_text, last_text}, declared.last.Last.TheVariants.NoQuorum};
+ghost use Rattle.dr_check.specs.{Fields.end_fields, declared.line.Line.Line as LineOf};
 ghost use Rattle.dr_check.specs.Lasts.{IsLastLine, IsPlainLast, TellsDamaged, TellsDisagreement, TellsDiskFault, TellsForeign, TellsLogFull, TellsOfLogs, TellsRosterQuorum, TellsViewQuorum};
+ghost use Rattle.dr_check.specs.Lines.{BeginsAs, EndFits, EntryFits, IsLineText, absent_text, age_start_text, present_text};
+ghost use Rattle.dr_check.specs.declared.line.Line.TheVariants.{Age, Present, Absent, Entry as EntryLine, Last as LastLine};
 
 use crate::ends::{EndKind, fits_end};
 use crate::fields::{field, mask_in, message_in, u8_in, u16_in, u32_in, u64_in};

@@ -1,8 +1,7 @@
 //! What a message is to keep.
 ghost use Rattle.std.specs.Prelude.{◌≡◌, ◌↔◌, IsTrue, IsSomeAnd, Contains, Some, List, [], slice_get, slice_index_or};
 ghost use Rattle.dr_entry.specs.declared.entry.Entry.{Entry as EntryOf};
-ghost use Rattle.dr_check.specs.Clauses.{KeepsBytes, KeepsIndex, KeepsSender};
-ghost use Rattle.dr_check.specs.Past.{IsPast};
+ghost use Rattle.dr_check.specs.{Clauses.{KeepsBytes, KeepsIndex, KeepsSender}, Past.IsPast};
 
 use crate::past::Past;
 use dr_entry::{Entry, Message};

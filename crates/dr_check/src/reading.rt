@@ -1,12 +1,9 @@
 //! Reads the text of a report, line by line.
 ghost use Rattle.std.specs.Prelude.{◌≡◌, ◌⊎◌, ◌<◌, ◌≤◌, ◌∷◌, ◌++◌, [], ℕ, IfOk, IfSome, IfNone, OnOk, Err, Some, None, length, take, drop};
 ghost use Rattle.dr_script.specs.Ranges.{HasGroupRanges};
+ghost use Rattle.dr_check.specs.{Course.next_course, Grammar.{IsNoReportAt, IsReport}, Lines.{IsLineText, lines_of}};
+ghost use Rattle.dr_check.specs.{Progress.{AreWhole, IsOnly}, declared.line.Line.Line as LineOf};
 ghost use Rattle.dr_check.specs.declared.reading.ParseFault.TheVariants.{NoReport};
-ghost use Rattle.dr_check.specs.declared.line.Line.{Line as LineOf};
-ghost use Rattle.dr_check.specs.Course.{next_course};
-ghost use Rattle.dr_check.specs.Grammar.{IsNoReportAt, IsReport};
-ghost use Rattle.dr_check.specs.Lines.{IsLineText, lines_of};
-ghost use Rattle.dr_check.specs.Progress.{AreWhole, IsOnly};
 
 use crate::assembling::report_of;
 use crate::course::Course;

@@ -1,10 +1,8 @@
 //! What an age may start with.
 ghost use Rattle.std.specs.Prelude.{◌≡◌, ◌≢◌, ◌↔◌, ◌+◌, ◌<◌, IsTrue, List, [], All, IsSomeAnd, length, take};
 ghost use Rattle.dr_entry.specs.declared.entry.Entry.{Entry as EntryOf};
-ghost use Rattle.dr_history.specs.Members.{members_of};
-ghost use Rattle.dr_history.specs.Soundness.{IsLaterAge};
-ghost use Rattle.dr_check.specs.Clauses.{Continues, KeepsStart, MayStart};
-ghost use Rattle.dr_check.specs.Past.{IsPast};
+ghost use Rattle.dr_history.specs.{Members.members_of, Soundness.IsLaterAge};
+ghost use Rattle.dr_check.specs.{Clauses.{Continues, KeepsStart, MayStart}, Past.IsPast};
 
 use crate::members::{are_below, goes_on_from};
 use crate::messages::{keeps_bytes, keeps_index, keeps_sender};

@@ -5,7 +5,7 @@ ghost use Rattle.dr_check.specs.Clauses.{FollowsView, IsFirstView, IsLate, Keeps
 ghost use Rattle.dr_check.specs.Past.{IsPast};
 
 use crate::members::{are_below, goes_on_from, has_majority, is_late, take_part};
-use crate::place::Place;
+use crate::place::EntryPlace;
 use crate::report::ReportAge;
 use dr_entry::Entry;
 use dr_history::{GroupView, members_of};
@@ -50,7 +50,7 @@ fn was_named(age: &ReportAge, entries: &[Entry], s: u8) -> bool
 }
 
 /// Whether a member may be in a View at a place, behind a view of these members.
-fn may_be_in(place: &Place, before: &[u8], s: u8) -> bool
+fn may_be_in(place: &EntryPlace, before: &[u8], s: u8) -> bool
     requires { place.now.at ≤ length place.now.member.now.history }
     ensures { IsTrue result ↔ (Contains before.now s ⊎ (IsLate place.now.age.now place.now.member.now s
         × (WasNamed place.now.age.now (take place.now.at place.now.member.now.history) s → ⊥))) }
@@ -61,7 +61,7 @@ fn may_be_in(place: &Place, before: &[u8], s: u8) -> bool
 }
 
 /// Whether each of these may be in a View at a place, behind a view of other members.
-fn may_all_be_in(place: &Place, before: &[u8], members: &[u8]) -> bool
+fn may_all_be_in(place: &EntryPlace, before: &[u8], members: &[u8]) -> bool
     requires { place.now.at ≤ length place.now.member.now.history }
     ensures { IsTrue result ↔ All (λ s. Contains before.now s
         ⊎ (IsLate place.now.age.now place.now.member.now s
@@ -72,7 +72,7 @@ fn may_all_be_in(place: &Place, before: &[u8], members: &[u8]) -> bool
 }
 
 /// Whether a View at a place may follow a view.
-fn may_come_next(place: &Place, view: &GroupView, age: u16, number: u8, mask: u16) -> bool
+fn may_come_next(place: &EntryPlace, view: &GroupView, age: u16, number: u8, mask: u16) -> bool
     requires { place.now.at ≤ length place.now.member.now.history }
     ensures { IsTrue result ↔ MayComeNext place.now.script.now place.now.age.now place.now.member.now
         place.now.at view.now age number mask }
@@ -91,7 +91,7 @@ fn may_come_next(place: &Place, view: &GroupView, age: u16, number: u8, mask: u1
 }
 
 /// Whether an entry at a place, behind View 0, follows the view before it where it is a View.
-fn follows_view(place: &Place, entry: &Entry) -> bool
+fn follows_view(place: &EntryPlace, entry: &Entry) -> bool
     requires at { place.now.at ≤ length place.now.member.now.history }
     requires past { IsPast (take place.now.at place.now.member.now.history) place.now.past.now }
     ensures { IsTrue result ↔ FollowsView place.now.script.now place.now.age.now place.now.member.now
@@ -111,7 +111,7 @@ fn follows_view(place: &Place, entry: &Entry) -> bool
 }
 
 /// Whether the entry at a place keeps what is said of views.
-pub(crate) fn keeps_view(place: &Place, entry: &Entry) -> bool
+pub(crate) fn keeps_view(place: &EntryPlace, entry: &Entry) -> bool
     requires at { place.now.at ≤ length place.now.member.now.history }
     requires past { IsPast (take place.now.at place.now.member.now.history) place.now.past.now }
     ensures { IsTrue result ↔ KeepsView place.now.script.now place.now.age.now place.now.member.now

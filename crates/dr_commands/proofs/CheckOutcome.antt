@@ -1,15 +1,12 @@
 -- What a check comes to.
-use Rattle.std.proofs.Common.{◌⊎◌, inl, inr, refl, sym, subst, ℕ, List, Contains, Option, None, Some}
 use Rattle.std.specs.Prelude.{IfSome}
+use Rattle.std.proofs.Common.{◌⊎◌, inl, inr, refl, sym, subst, ℕ, List, Contains, Option, None, Some}
 use Rattle.dr_intake.specs.Status.{status_of}
-use Rattle.dr_outcome.specs.declared.outcome.Outcome.{Outcome}
-use Rattle.dr_outcome.specs.Outcome.{HasDone, SaysOnly, unrun, unrun_ends}
-use Rattle.dr_outcome.proofs.Due.{same_tells}
+use Rattle.dr_outcome.specs.{Outcome.{HasDone, SaysOnly, unrun, unrun_ends}, declared.outcome.Outcome.Outcome}
+use Rattle.dr_outcome.proofs.{Due.same_tells, OutcomeKinds.is_unrun}
 use Rattle.dr_text.specs.declared.last.Last.{Last}
 use Rattle.dr_yard.specs.Yards.{YardState}
-use Rattle.dr_outcome.proofs.OutcomeKinds.{is_unrun}
-use Rattle.dr_commands.specs.Check.{Checks, IsChecked, check_ends}
-use Rattle.dr_commands.proofs.CheckStatuses.{checked_ends, is_known}
+use Rattle.dr_commands.{specs.Check.{Checks, IsChecked, check_ends}, proofs.CheckStatuses.{checked_ends, is_known}}
 
 -- memory was wanting, or what is said is due
 pub check_done : (bytes : List ℕ) (yard : YardState) (o : Outcome) (line : Option Last)

@@ -1,20 +1,17 @@
 -- With which statuses a check ends.
+use Rattle.std.{specs.Prelude.IfSome, proofs.lemmas.Bool.cases_lt}
 use Rattle.std.proofs.Common.{◌⊎◌, inl, inr, refl, sym, arith, ℕ, ◌≤◌, ◌<◌, List, Contains, length, Some, None, Option}
-use Rattle.std.specs.Prelude.{IfSome}
-use Rattle.std.proofs.lemmas.Bool.{cases_lt}
 use Rattle.serde_json.specs.Data.{Data}
 use Rattle.dr_entry.proofs.NumberFacts.{IsEnd}
 use Rattle.dr_intake.specs.Status.{status_of}
+use Rattle.dr_script.specs.{Json.json_of, Reading.{NotJson, Reading, Reads, TooLong, Wrong, reading_of}}
 use Rattle.dr_script.specs.declared.script.Script.{Script}
-use Rattle.dr_script.specs.Json.{json_of}
-use Rattle.dr_script.specs.Reading.{NotJson, Reading, Reads, TooLong, Wrong, reading_of}
 use Rattle.dr_text.specs.declared.last.Last.{Last}
 use Rattle.dr_text.specs.declared.last.Last.TheVariants as lasts
 use Rattle.dr_outcome.proofs.OutcomeKinds.{refused_ends, same_end}
 use Rattle.dr_commands.specs.Check.{IsChecked, IsVerdict, SaysOfScript, SaysOfStrings, SaysOfValue, check_ends, handed_in}
 
-verdict_ends : (script : Script) (text : List ℕ) (last : Last) → IsVerdict script text last
-    → IsEnd (status_of last)
+verdict_ends : (script : Script) (text : List ℕ) (last : Last) → IsVerdict script text last → IsEnd (status_of last)
 verdict_ends script text (lasts.NoReport line) is = inr (inl refl)
 verdict_ends script text lasts.Right is = inl refl
 verdict_ends script text (lasts.Wrong clause line) is = inr (inr refl)

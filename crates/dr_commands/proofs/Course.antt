@@ -1,31 +1,23 @@
 -- Why the status of a call is what it is, and what its clauses say in each case.
+use Rattle.std.{specs.{Prelude.MatchOption, declared.alloc.Global.Global}, proofs.lemmas.Option.same_Some}
 use Rattle.std.proofs.Common.{◌≡◌, ◌⊎◌, refl, sym, ap, ◌∙◌, subst, inl, inr, ℕ, ◌<◌, Bool, true, false, true≢false, IsTrue, arith, List, [], ◌∷◌, Contains, Option, None, Some, IfSome, is_some, if◌then◌else◌, String}
-use Rattle.std.specs.Prelude.{MatchOption}
-use Rattle.std.proofs.lemmas.Option.{same_Some}
-use Rattle.std.specs.declared.alloc.Global.{Global}
-use Rattle.dr_entry.proofs.ListParts.{contains_more, in_early}
+use Rattle.dr_entry.proofs.{Bits.lacks, ListParts.{contains_more, in_early}}
 use Rattle.dr_entry.proofs.NumberFacts.{IsEarly, IsUnrun, late, not_unrun}
-use Rattle.dr_entry.proofs.Bits.{lacks}
-use Rattle.dr_intake.specs.Answer.{WasReadFor, done, no_memory, no_source, usage}
-use Rattle.dr_intake.specs.Reading.{WasRead}
-use Rattle.dr_intake.specs.Status.{status_of}
-use Rattle.dr_io.specs.Faults.{Rose}
-use Rattle.dr_io.specs.Sink.{Gains}
+use Rattle.dr_intake.specs.{Answer.{WasReadFor, done, no_memory, no_source, usage}, Reading.WasRead, Status.status_of}
+use Rattle.dr_intake.proofs.Intakes.{same_read}
+use Rattle.dr_io.specs.{Faults.Rose, Sink.Gains}
 use Rattle.dr_script.specs.Reading.{Reading, Reads, reading_of}
 use Rattle.dr_text.specs.declared.last.Last.{Last}
 use Rattle.dr_text.specs.declared.last.Last.TheVariants as lasts
 use Rattle.dr_yard.specs.Yards.{YardState}
-use Rattle.dr_intake.proofs.Intakes.{same_read}
-use Rattle.dr_outcome.specs.declared.last.Kind.TheVariants.{DiskFault, LogFull, NoMajority, Spent}
-use Rattle.dr_outcome.specs.declared.outcome.Outcome.{Outcome}
 use Rattle.dr_outcome.specs.Last.{refusal_of, some_end, some_so}
 use Rattle.dr_outcome.specs.Outcome.{HasDone, OfScript, Plays, TellsDisks, WasPlayedOrNot, by_run, outcome_text, unrun, unrun_ends}
+use Rattle.dr_outcome.specs.declared.last.Kind.TheVariants.{DiskFault, LogFull, NoMajority, Spent}
+use Rattle.dr_outcome.{specs.declared.outcome.Outcome.Outcome, proofs.Due.{late_reading, run_rank}}
 use Rattle.dr_outcome.proofs.OutcomeKinds.{IsQuiet, Rank, by_disk, by_logs, by_full, by_turns, by_split, by_none, quiet, usage_or_not, ranked, unplayed}
-use Rattle.dr_outcome.proofs.Due.{late_reading, run_rank}
-use Rattle.dr_commands.specs.declared.words.Command.{Command}
-use Rattle.dr_commands.specs.declared.words.Command.TheVariants.{Check, Drill, Live, Play, Shards, Store}
 use Rattle.dr_commands.specs.Outcome.{AsksLate, Course, Does, Exactly, IsWritten, WroteOrNot}
 use Rattle.dr_commands.specs.Words.{IsCommand, asked_by, ends_of, reads, statuses_of, told_by}
+use Rattle.dr_commands.specs.declared.words.Command.{Command, TheVariants.{Check, Drill, Live, Play, Shards, Store}}
 
 -- a call: its words, its source and its yard before and after, and what it came to
 pub record Call : Type 0 where
@@ -63,21 +55,17 @@ status_by held holds fell falls status due text (inr (inr part)) = inl (inr part
 
 -- what is written of an outcome with this last line
 abbrev pub Writes : Option (List ℕ) → Option (List ℕ) → ℕ → ℕ → ℕ → Outcome → Option Last → Type 0
-Writes held holds fell falls status o last =
-    MatchOption last ((status ≡ 10) × Gains held holds [])
+Writes held holds fell falls status o last = MatchOption last ((status ≡ 10) × Gains held holds [])
     (λ line. IsWritten held holds fell falls status (status_of line) (outcome_text o line))
 
 pub said : (held holds : Option (List ℕ)) (fell falls status : ℕ) (o : Outcome) (line : Last)
-    → WroteOrNot held holds fell falls status o → o.last ≡ Some line
-    → IsEarly status ⊎ (status ≡ status_of line)
-said held holds fell falls status o line wrote is =
-    status_by held holds fell falls status (status_of line) (outcome_text o line)
-    (subst (Writes held holds fell falls status o) is wrote)
+    → WroteOrNot held holds fell falls status o → o.last ≡ Some line → IsEarly status ⊎ (status ≡ status_of line)
+said held holds fell falls status o line wrote is = status_by held holds fell falls status
+    (status_of line) (outcome_text o line) (subst (Writes held holds fell falls status o) is wrote)
 
 pub unsaid : (held holds : Option (List ℕ)) (fell falls status : ℕ) (o : Outcome)
     → WroteOrNot held holds fell falls status o → o.last ≡ None → IsEarly status
-unsaid held holds fell falls status o wrote is =
-    inl (subst (Writes held holds fell falls status o) is wrote).0
+unsaid held holds fell falls status o wrote is = inl (subst (Writes held holds fell falls status o) is wrote).0
 
 -- ---- the usage
 
@@ -87,32 +75,15 @@ late_asked : (c : Call) (k : Command) (bytes : List ℕ) (line : Last) → asked
     → status_of line ≡ 2 → Contains (ends_of k) 2 → AsksLate c.words c.old c.new
 late_asked c (Play play) bytes line asked was plays is two known =
     let found = late_reading play c.before c.after c.outcome line (reading_of bytes) plays is two in
-    record {
-      play = play;
-      asked = asked;
-      script = found.0;
-      read = (bytes, was, found.1);
-      late = found.2;
-    }
-late_asked c (Store key version) bytes line asked was does is two known =
-    absurd (lacks 2 (3 ∷ 0 ∷ 8 ∷ 9 ∷ [])
+    record { play = play; asked = asked; script = found.0; read = (bytes, was, found.1); late = found.2 }
+late_asked c (Store key version) bytes line asked was does is two known = absurd (lacks 2 (3 ∷ 0 ∷ 8 ∷ 9 ∷ [])
     (λ e. omega (arith, e), (λ e. omega (arith, e), (λ e. omega (arith, e), (λ e. omega (arith, e), tt)))) known)
 late_asked c (Drill number) bytes line asked was does is two known =
     absurd (lacks 2 (0 ∷ 8 ∷ 9 ∷ []) (λ e. omega (arith, e), (λ e. omega (arith, e), (λ e. omega (arith, e), tt))) known)
-late_asked c (Shards sharding) bytes line asked was does is two known =
-    absurd (lacks 2 (3 ∷ 12 ∷ 0 ∷ 8 ∷ 9 ∷ []) (
-      λ e. omega (arith, e),
-      (
-        λ e. omega (arith, e),
-        (
-          λ e. omega (arith, e),
-          (
-            λ e. omega (arith, e),
-            (λ e. omega (arith, e), tt),
-          ),
-        ),
-      ),
-    ) known)
+late_asked c (Shards sharding) bytes line asked was does is two known = absurd (lacks 2 (3 ∷ 12 ∷ 0 ∷ 8 ∷ 9 ∷ []) (
+  λ e. omega (arith, e),
+  (λ e. omega (arith, e), (λ e. omega (arith, e), (λ e. omega (arith, e), (λ e. omega (arith, e), tt)))),
+) known)
 late_asked c (Live rounds) bytes line asked was does is two known =
     absurd (lacks 2 (3 ∷ 0 ∷ 8 ∷ []) (λ e. omega (arith, e), (λ e. omega (arith, e), (λ e. omega (arith, e), tt))) known)
 late_asked c Check bytes line asked was does is two known =
@@ -142,25 +113,22 @@ done_standing c held holds fell falls status k bytes asked was has wrote (Some l
         (subst (λ (l : Option Last). IfSome l (λ x. Contains (ends_of k) (status_of x))) is has.known)
 
     by : status ≡ status_of line → IsQuiet c.outcome → (status ≡ 2) ⊎ IsUnrun status → Standing c status
-    by due calm (inl two) = all_late two k asked (known due)
-        (late_asked c k bytes line asked was has.does is (sym due ∙ two) (subst (Contains (ends_of k)) two (known due)))
-        calm
+    by due calm (inl two) = all_late two k asked (known due) (late_asked c k bytes line asked was has.does is
+        (sym due ∙ two) (subst (Contains (ends_of k)) two (known due))) calm
     by due calm (inr few) = has_not k asked (known due) few calm
 
 -- a call that has been written
 pub standing_of : (c : Call) (held holds : Option (List ℕ)) (fell falls status : ℕ) → IsCourse c
     → WroteOrNot held holds fell falls status c.outcome → Standing c status
 standing_of c held holds fell falls status course wrote = elim course [
-  | usage none kept alone ↦
-      elim (said held holds fell falls status c.outcome _ wrote alone.line) [
-        | inl first ↦ early first
-        | inr due ↦ bad_words due none (quiet c.outcome alone.none alone.unstopped)
-      ]
-  | no_source k asked reading rose alone ↦
-      elim (said held holds fell falls status c.outcome _ wrote alone.line) [
-        | inl first ↦ early first
-        | inr due ↦ bad_source due k asked reading rose (quiet c.outcome alone.none alone.unstopped)
-      ]
+  | usage none kept alone ↦ elim (said held holds fell falls status c.outcome _ wrote alone.line) [
+    | inl first ↦ early first
+    | inr due ↦ bad_words due none (quiet c.outcome alone.none alone.unstopped)
+  ]
+  | no_source k asked reading rose alone ↦ elim (said held holds fell falls status c.outcome _ wrote alone.line) [
+    | inl first ↦ early first
+    | inr due ↦ bad_source due k asked reading rose (quiet c.outcome alone.none alone.unstopped)
+  ]
   | no_memory k asked alone ↦ early (unsaid held holds fell falls status c.outcome wrote alone.line)
   | done k asked bytes was has ↦
       done_standing c held holds fell falls status k bytes asked was has wrote c.outcome.last refl
@@ -172,8 +140,7 @@ pub disk_told_of : (c : Call) (held holds : Option (List ℕ)) (fell falls statu
     → ((m : ℕ) → c.after.faults m ≡ c.before.faults m) ⊎ Contains (6 ∷ 10 ∷ 5 ∷ []) status
 disk_told_of c held holds fell falls status course wrote = elim course [
   | usage none kept alone ↦ inl (λ m. ap (λ (yard : YardState). yard.faults m) alone.untouched)
-  | no_source k asked reading rose alone ↦
-      inl (λ m. ap (λ (yard : YardState). yard.faults m) alone.untouched)
+  | no_source k asked reading rose alone ↦ inl (λ m. ap (λ (yard : YardState). yard.faults m) alone.untouched)
   | no_memory k asked alone ↦ inl (λ m. ap (λ (yard : YardState). yard.faults m) alone.untouched)
   | done k asked bytes was has ↦ by c.outcome.last refl has.told
 ]
@@ -202,15 +169,13 @@ rank_of c due status is above below ten standing = elim standing [
   | all_late e k asked known late calm ↦ absurd (omega (arith, above, is, e))
   | bad_source e k asked reading rose calm ↦ absurd (omega (arith, above, is, e))
   | has_run k asked known rank ↦ rank
-  | has_not k asked known few calm ↦
-      absurd (not_unrun status few (λ e. omega (arith, above, is, e)) (λ e. omega (arith, above, is, e))
-      (omega (arith, is, below)))
+  | has_not k asked known few calm ↦ absurd (not_unrun status few
+      (λ e. omega (arith, above, is, e)) (λ e. omega (arith, above, is, e)) (omega (arith, is, below)))
 ]
 
 -- what has come is told, unless something earlier is
 unless_of : (c : Call) (status due : ℕ) (rest : List ℕ) (test : Bool) → test ≡ true
-    → (IsQuiet c.outcome → test ≡ false)
-    → (Rank c.outcome status → (status ≡ due) ⊎ Contains (10 ∷ 5 ∷ rest) status)
+    → (IsQuiet c.outcome → test ≡ false) → (Rank c.outcome status → (status ≡ due) ⊎ Contains (10 ∷ 5 ∷ rest) status)
     → Standing c status → (status ≡ due) ⊎ Contains (10 ∷ 5 ∷ rest) status
 unless_of c status due rest test came silent ranks standing = elim standing [
   | early e ↦ inr (in_early rest status e)
@@ -228,11 +193,9 @@ usage_of {c} {status} standing is = elim standing [
   | bad_words e none calm ↦ inl (λ known. true≢false (sym known ∙ ap is_some none))
   | all_late e k asked known asks calm ↦ inr asks
   | bad_source e k asked reading rose calm ↦ absurd (omega (arith, is, e))
-  | has_run k asked known rank ↦
-      absurd (ranked c.outcome status rank (omega (arith, is)) (omega (arith, is)))
+  | has_run k asked known rank ↦ absurd (ranked c.outcome status rank (omega (arith, is)) (omega (arith, is)))
   | has_not k asked known few calm ↦
-      absurd (not_unrun status few (λ e. omega (arith, is, e)) (λ e. omega (arith, is, e))
-      (omega (arith, is)))
+      absurd (not_unrun status few (λ e. omega (arith, is, e)) (λ e. omega (arith, is, e)) (omega (arith, is)))
 ]
 
 pub usage_told_of : {c : Call} {status : ℕ} → Standing c status → (IsCommand c.words → ⊥)
@@ -264,10 +227,7 @@ late_told_of c held holds fell falls status course wrote tells asks = elim cours
         → (status ≡ 2) ⊎ Contains (10 ∷ 5 ∷ 4 ∷ []) status
     by line is which = elim (said held holds fell falls status c.outcome line wrote is) [
       | inl first ↦ inr (in_early (4 ∷ []) status first)
-      | inr due ↦ elim which [
-        | inl two ↦ inl (due ∙ two)
-        | inr four ↦ inr (2, omega arith, sym (due ∙ four))
-      ]
+      | inr due ↦ elim which [ inl two ↦ inl (due ∙ two) | inr four ↦ inr (2, omega arith, sym (due ∙ four)) ]
     ]
 
     comes_to : (bytes : List ℕ) → WasRead c.old c.new bytes → Plays asks.play bytes c.before c.after c.outcome
@@ -275,8 +235,7 @@ late_told_of c held holds fell falls status course wrote tells asks = elim cours
     comes_to bytes was plays =
         let read : reading_of bytes ≡ Reads asks.script =
         ap reading_of (same_read c.old c.new bytes asks.read.0 tells was asks.read.1) ∙ asks.read.2 in
-        unplayed asks.play asks.script c.before c.after c.outcome asks.late
-        (subst (λ (r : Reading). OfScript
+        unplayed asks.play asks.script c.before c.after c.outcome asks.late (subst (λ (r : Reading). OfScript
         (λ script result. WasPlayedOrNot asks.play script c.before c.after result) r c.before c.after c.outcome) read
         plays)
 
@@ -291,8 +250,7 @@ disk_fault_of {c} {status} standing = record {
     | by_split e disk logs full turns split ↦ absurd (omega (arith, is, e))
     | by_none e calm ↦ absurd (omega (arith, is, e))
   ];
-  unless = λ came. unless_of c status 6 [] (some_so DiskFault c.outcome.ages c.outcome.stop) came
-      (λ calm. calm.disk)
+  unless = λ came. unless_of c status 6 [] (some_so DiskFault c.outcome.ages c.outcome.stop) came (λ calm. calm.disk)
       (λ rank. elim rank [
         | by_disk e disk ↦ inl e
         | by_logs e disk logs ↦ absurd (true≢false (sym came ∙ disk))
@@ -314,8 +272,7 @@ logs_refused_of {c} {status} standing = record {
     | by_split e disk logs full turns split ↦ absurd (omega (arith, is, e))
     | by_none e calm ↦ absurd (omega (arith, is, e))
   ];
-  unless = λ came. unless_of c status 7 (6 ∷ []) (is_some (refusal_of c.outcome.stop)) came
-      (λ calm. calm.logs)
+  unless = λ came. unless_of c status 7 (6 ∷ []) (is_some (refusal_of c.outcome.stop)) came (λ calm. calm.logs)
       (λ rank. elim rank [
         | by_disk e disk ↦ inr (2, omega arith, sym e)
         | by_logs e disk logs ↦ inl e
@@ -338,8 +295,7 @@ log_full_of {c} {status} standing = record {
     | by_none e calm ↦ absurd (omega (arith, is, e))
   ];
   unless = λ came. unless_of c status 11 (6 ∷ 7 ∷ []) (some_so LogFull c.outcome.ages c.outcome.stop) came
-      (λ calm. calm.full)
-      (λ rank. elim rank [
+      (λ calm. calm.full) (λ rank. elim rank [
         | by_disk e disk ↦ inr (2, omega arith, sym e)
         | by_logs e disk logs ↦ inr (3, omega arith, sym e)
         | by_full e disk logs full ↦ inl e
@@ -360,8 +316,7 @@ unfinished_of {c} {status} standing = record {
     | by_split e disk logs full turns split ↦ absurd (omega (arith, is, e))
     | by_none e calm ↦ absurd (omega (arith, is, e))
   ];
-  unless = λ came. unless_of c status 8 (6 ∷ 7 ∷ 11 ∷ []) (some_end Spent c.outcome.ages) came
-      (λ calm. calm.turns)
+  unless = λ came. unless_of c status 8 (6 ∷ 7 ∷ 11 ∷ []) (some_end Spent c.outcome.ages) came (λ calm. calm.turns)
       (λ rank. elim rank [
         | by_disk e disk ↦ inr (2, omega arith, sym e)
         | by_logs e disk logs ↦ inr (3, omega arith, sym e)
@@ -384,8 +339,7 @@ no_majority_of {c} {status} standing = record {
     | by_none e calm ↦ absurd (omega (arith, is, e))
   ];
   unless = λ came. unless_of c status 9 (6 ∷ 7 ∷ 11 ∷ 8 ∷ []) (some_end NoMajority c.outcome.ages) came
-      (λ calm. calm.split)
-      (λ rank. elim rank [
+      (λ calm. calm.split) (λ rank. elim rank [
         | by_disk e disk ↦ inr (2, omega arith, sym e)
         | by_logs e disk logs ↦ inr (3, omega arith, sym e)
         | by_full e disk logs full ↦ inr (4, omega arith, sym e)
@@ -404,31 +358,25 @@ read_fault_of {c} {status} standing is = elim standing [
   | bad_source e k asked reading rose calm ↦ rose
   | has_run k asked known rank ↦ absurd (ranked c.outcome status rank (omega (arith, is)) (omega (arith, is)))
   | has_not k asked known few calm ↦
-      absurd (not_unrun status few (λ e. omega (arith, is, e)) (λ e. omega (arith, is, e))
-      (omega (arith, is)))
+      absurd (not_unrun status few (λ e. omega (arith, is, e)) (λ e. omega (arith, is, e)) (omega (arith, is)))
 ]
 
 -- the status of each call is one of those that its words allow
 of_command : (k : Command) (asked : Option Command) → asked ≡ Some k → (status : ℕ)
     → Contains (ends_of k) status → Contains (statuses_of asked) status
-of_command k asked is status known =
-    subst (λ a. Contains (statuses_of a) status) (sym is)
-    (contains_more 10 (5 ∷ told_by (Some k)) status
-    (contains_more 5 (told_by (Some k)) status (by (reads k))))
+of_command k asked is status known = subst (λ a. Contains (statuses_of a) status) (sym is)
+    (contains_more 10 (5 ∷ told_by (Some k)) status (contains_more 5 (told_by (Some k)) status (by (reads k))))
   where
     by : (b : Bool) → Contains (if b then 4 ∷ ends_of k else ends_of k) status
     by true = contains_more 4 (ends_of k) status known
     by false = known
 
-pub status_known : {c : Call} {status : ℕ} → Standing c status
-    → Contains (statuses_of (asked_by c.words)) status
+pub status_known : {c : Call} {status : ℕ} → Standing c status → Contains (statuses_of (asked_by c.words)) status
 status_known {c} {status} standing = elim standing [
   | early e ↦ in_early (told_by (asked_by c.words)) status e
-  | bad_words e none calm ↦
-      subst (λ a. Contains (statuses_of a) status) (sym none) (2, omega arith, sym e)
+  | bad_words e none calm ↦ subst (λ a. Contains (statuses_of a) status) (sym none) (2, omega arith, sym e)
   | all_late e k asked known asks calm ↦ of_command k (asked_by c.words) asked status known
-  | bad_source e k asked reading rose calm ↦
-      subst (λ a. Contains (statuses_of a) status) (sym asked)
+  | bad_source e k asked reading rose calm ↦ subst (λ a. Contains (statuses_of a) status) (sym asked)
       (subst (λ (b : Bool). Contains (10 ∷ 5 ∷ (if b then 4 ∷ ends_of k else ends_of k)) status) (sym reading)
       (2, omega arith, sym e))
   | has_run k asked known rank ↦ of_command k (asked_by c.words) asked status known

@@ -2,20 +2,16 @@
 use Rattle.std.proofs.Common.{◌≡◌, ◌⊎◌, ap, inl, inr, ℕ, List, None}
 use Rattle.dr_drill.specs.Drill.{drill}
 use Rattle.dr_outcome.specs.declared.outcome.Body.TheVariants as bodies
-use Rattle.dr_outcome.specs.declared.outcome.Outcome.{Outcome}
-use Rattle.dr_outcome.specs.Outcome.{HasDone, HasPlayed, SaysOnly}
-use Rattle.dr_outcome.proofs.Due.{played_ends}
-use Rattle.dr_outcome.specs.Playing.{simulated}
+use Rattle.dr_outcome.specs.{Outcome.{HasDone, HasPlayed, SaysOnly}, Playing.simulated}
+use Rattle.dr_outcome.{specs.declared.outcome.Outcome.Outcome, proofs.Due.played_ends}
 use Rattle.dr_yard.specs.Yards.{YardState}
-use Rattle.dr_commands.specs.Drill.{Drills, drill_ends}
-use Rattle.dr_commands.specs.DrillLines.{drill_text}
+use Rattle.dr_commands.specs.{Drill.{Drills, drill_ends}, DrillLines.drill_text}
 
 abbrev saying : Outcome → List ℕ → Outcome
 saying o text = record o { body = bodies.Text text }
 
 played_so : (number : ℕ) (yard : YardState) (o : Outcome) (text : List ℕ)
-    → HasPlayed simulated (drill number) yard yard o
-    → HasPlayed simulated (drill number) yard yard (saying o text)
+    → HasPlayed simulated (drill number) yard yard o → HasPlayed simulated (drill number) yard yard (saying o text)
 played_so number yard o text played = record {
   ranges = played.ranges;
   prompt = played.prompt;
@@ -31,10 +27,8 @@ played_so number yard o text played = record {
 }
 
 pub drill_said : (number : ℕ) (bytes : List ℕ) (yard : YardState) (o : Outcome) (text : List ℕ)
-    → text ≡ drill_text number o.ages
-    → SaysOnly None yard yard o ⊎ HasPlayed simulated (drill number) yard yard o
-    → SaysOnly None yard yard (saying o text)
-    ⊎ HasDone (Drills number bytes) drill_ends yard yard (saying o text)
+    → text ≡ drill_text number o.ages → SaysOnly None yard yard o ⊎ HasPlayed simulated (drill number) yard yard o
+    → SaysOnly None yard yard (saying o text) ⊎ HasDone (Drills number bytes) drill_ends yard yard (saying o text)
 drill_said number bytes yard o text is (inl wanting) = inl (record {
   none = wanting.none;
   unstopped = wanting.unstopped;
@@ -45,9 +39,4 @@ drill_said number bytes yard o text is (inl wanting) = inl (record {
 drill_said number bytes yard o text is (inr played) =
     let said = played_so number yard o text played in
     let ends = played_ends simulated (drill number) yard yard (saying o text) said in
-    inr (record {
-      does = (said, ap bodies.Text is);
-      due = ends.0;
-      known = ends.1;
-      told = said.told;
-    })
+    inr (record { does = (said, ap bodies.Text is); due = ends.0; known = ends.1; told = said.told })

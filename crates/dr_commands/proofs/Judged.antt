@@ -2,19 +2,13 @@
 use Rattle.std.proofs.Common.{◌≡◌, refl, sym, ◌∙◌, subst, inl, inr, ℕ, arith, List, Option, None, Some}
 use Rattle.std.proofs.lemmas.Option.{none-some, same_Some}
 use Rattle.dr_entry.proofs.NumberFacts.{IsRunEnd, apart, not_early}
-use Rattle.dr_intake.specs.Answer.{WasReadFor, done, no_memory, no_source, usage}
-use Rattle.dr_intake.specs.Status.{status_of}
+use Rattle.dr_intake.specs.{Answer.{WasReadFor, done, no_memory, no_source, usage}, Status.status_of}
 use Rattle.dr_io.specs.Sink.{Gains}
-use Rattle.dr_outcome.specs.declared.outcome.Outcome.{Outcome}
-use Rattle.dr_outcome.specs.Outcome.{Plays, outcome_text}
-use Rattle.dr_outcome.specs.Playing.{Playing}
+use Rattle.dr_outcome.specs.{Outcome.{Plays, outcome_text}, Playing.Playing, declared.outcome.Outcome.Outcome}
 use Rattle.dr_text.specs.declared.last.Last.{Last}
-use Rattle.dr_commands.specs.declared.words.Command.{Command}
-use Rattle.dr_commands.specs.declared.words.Command.TheVariants.{Play}
-use Rattle.dr_commands.specs.Outcome.{Does, IsWritten, WasJudgedRight, WroteOrNot}
-use Rattle.dr_commands.specs.Words.{asked_by, reads}
-use Rattle.dr_commands.proofs.Course.{Call, IsCourse, Writes, unsaid}
-use Rattle.dr_commands.proofs.PlayedRight.{plays_right}
+use Rattle.dr_commands.specs.{Outcome.{Does, IsWritten, WasJudgedRight, WroteOrNot}, Words.{asked_by, reads}}
+use Rattle.dr_commands.specs.declared.words.Command.{Command, TheVariants.Play}
+use Rattle.dr_commands.proofs.{Course.{Call, IsCourse, Writes, unsaid}, PlayedRight.plays_right}
 
 -- the whole text was written, with the status of its last line
 written : (held holds : Option (List ℕ)) (fell falls status : ℕ) (o : Outcome) (line : Last)

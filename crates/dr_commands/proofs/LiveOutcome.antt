@@ -2,12 +2,9 @@
 use Rattle.std.proofs.Common.{◌≡◌, refl, sym, ap, ◌∙◌, subst, inl, inr, ℕ, zero, suc, arith, List, [], ◌∷◌, Contains, Option, None, Some, IfSome}
 use Rattle.dr_entry.proofs.ListParts.{contains_more}
 use Rattle.dr_intake.specs.Status.{status_of}
-use Rattle.dr_outcome.specs.declared.outcome.Outcome.{Outcome}
-use Rattle.dr_outcome.specs.Last.{last_of}
-use Rattle.dr_outcome.specs.Outcome.{HasDone, SaysOnly, by_run, unrun, unrun_ends}
-use Rattle.dr_outcome.proofs.Due.{EndsIn, same_tells, script_ends, live_lasts}
-use Rattle.dr_script.specs.declared.script.Script.{Script}
-use Rattle.dr_script.specs.Reading.{reading_of}
+use Rattle.dr_outcome.{specs.Last.last_of, proofs.Due.{EndsIn, same_tells, script_ends, live_lasts}}
+use Rattle.dr_outcome.specs.{Outcome.{HasDone, SaysOnly, by_run, unrun, unrun_ends}, declared.outcome.Outcome.Outcome}
+use Rattle.dr_script.specs.{Reading.reading_of, declared.script.Script.Script}
 use Rattle.dr_text.specs.declared.last.Last.{Last}
 use Rattle.dr_yard.specs.Yards.{YardState}
 use Rattle.dr_commands.specs.Live.{HasRunLive, OfPlan, RunsLive, live_ends, refused_plan}
@@ -15,8 +12,7 @@ use Rattle.dr_commands.specs.Live.{HasRunLive, OfPlan, RunsLive, live_ends, refu
 refused_ends : (yard : YardState) (o : Outcome) → SaysOnly (Some refused_plan) yard yard o → EndsIn live_ends o
 refused_ends yard o says = (
   unrun says.none says.unstopped
-      (subst (λ l. IfSome l (λ line. Contains unrun_ends (status_of line))) (sym says.line)
-      (2, omega arith, refl)),
+      (subst (λ l. IfSome l (λ line. Contains unrun_ends (status_of line))) (sym says.line) (2, omega arith, refl)),
   subst (λ l. IfSome l (λ line. Contains live_ends (status_of line))) (sym says.line) (0, omega arith, refl),
 )
 
@@ -53,9 +49,4 @@ pub live_done : (rounds : ℕ) (bytes : List ℕ) (yard : YardState) (o : Outcom
 live_done rounds bytes yard o comes =
     let has = script_ends (λ script result. OfPlan rounds script yard yard result) live_ends yard yard o
     (λ script is. plan_ends rounds script yard o is) (reading_of bytes) comes in
-    record {
-      does = comes;
-      due = has.0;
-      known = once_told o.last has.1;
-      told = same_tells yard yard o.last refl;
-    }
+    record { does = comes; due = has.0; known = once_told o.last has.1; told = same_tells yard yard o.last refl }

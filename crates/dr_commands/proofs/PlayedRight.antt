@@ -2,26 +2,18 @@
 use Rattle.std.proofs.Common.{◌≡◌, ◌↔◌, inl, inr, refl, sym, ap, ◌∙◌, subst, ℕ, arith, List, ◌++◌, Option, None, Some}
 use Rattle.dr_entry.proofs.NumberFacts.{IsRunEnd}
 use Rattle.dr_ages.specs.declared.part.Part.{Part}
-use Rattle.dr_check.proofs.Flawless.{unflawed}
-use Rattle.dr_check.proofs.OneReport.{one_report}
-use Rattle.dr_check.specs.declared.flaw.Flaw.{Flaw}
-use Rattle.dr_check.specs.declared.report.Report.{Report}
-use Rattle.dr_check.specs.Flaws.{IsFirstFlaw}
+use Rattle.dr_check.specs.{Flaws.IsFirstFlaw, declared.{flaw.Flaw.Flaw, report.Report.Report}}
+use Rattle.dr_check.proofs.{Flawless.unflawed, OneReport.one_report}
 use Rattle.dr_intake.specs.Status.{status_of}
 use Rattle.dr_outcome.specs.declared.outcome.Body.TheVariants as bodies
-use Rattle.dr_outcome.specs.declared.outcome.Body.{Body}
-use Rattle.dr_outcome.specs.declared.outcome.Outcome.{Outcome}
 use Rattle.dr_outcome.specs.Outcome.{HasPlayed, HasRun, OfScript, Plays, WasPlayedOrNot, body_text, outcome_text}
-use Rattle.dr_outcome.specs.Playing.{InFolder, Playing, part_in}
+use Rattle.dr_outcome.specs.{Playing.{InFolder, Playing, part_in}, declared.outcome.{Body.Body, Outcome.Outcome}}
+use Rattle.dr_outcome.proofs.{KindsFurther.unplayed, OutcomeKinds.refused}
+use Rattle.dr_script.specs.{Json.json_of, Reading.{NotJson, Reading, Reads, TooLong, Wrong, reading_of}}
 use Rattle.dr_script.specs.declared.script.Script.{Script}
-use Rattle.dr_script.specs.Json.{json_of}
-use Rattle.dr_script.specs.Reading.{NotJson, Reading, Reads, TooLong, Wrong, reading_of}
-use Rattle.dr_text.specs.declared.last.Last.{Last}
+use Rattle.dr_text.specs.{Report.{last_text, report_text}, declared.last.Last.Last}
 use Rattle.dr_text.specs.declared.last.Last.TheVariants as lasts
-use Rattle.dr_text.specs.Report.{last_text, report_text}
 use Rattle.dr_yard.specs.Yards.{YardState, empty_yard}
-use Rattle.dr_outcome.proofs.OutcomeKinds.{refused}
-use Rattle.dr_outcome.proofs.KindsFurther.{unplayed}
 use Rattle.dr_commands.specs.Check.{DisksTell, HandsIn, IsChecked, IsJudgedRight, IsVerdict, SaysOfScript, SaysOfStrings, SaysOfValue}
 use Rattle.dr_commands.proofs.RunsRight.{run_right}
 
@@ -34,8 +26,7 @@ one_verdict script text (lasts.NoReport line) right is = absurd (is.none text ri
 one_verdict script text lasts.Right right is = refl
 one_verdict script text (lasts.Wrong clause line) right is =
     let flaw : Flaw = record { clause = clause; line = line } in
-    absurd (unflawed script right.0 flaw right.2
-    (subst (λ (r : Report). IsFirstFlaw script r flaw)
+    absurd (unflawed script right.0 flaw right.2 (subst (λ (r : Report). IsFirstFlaw script r flaw)
     (one_report script.members text is.0 right.0 is.1 right.1) is.2))
 one_verdict script text lasts.Done right is = absurd is
 one_verdict script text lasts.Usage right is = absurd is
@@ -60,9 +51,8 @@ one_verdict script text lasts.NotCheck right is = absurd is
 -- ---- a script that was played
 
 played_right : (play : Playing) (script : Script) (before after : YardState) (o : Outcome) (last : Last)
-    → HasPlayed play script before after o → o.body ≡ bodies.Report → o.last ≡ Some last
-    → IsRunEnd (status_of last) → DisksTell play.folder script.members before
-    → IsVerdict script (outcome_text o last) lasts.Right
+    → HasPlayed play script before after o → o.body ≡ bodies.Report → o.last ≡ Some last → IsRunEnd (status_of last)
+    → DisksTell play.folder script.members before → IsVerdict script (outcome_text o last) lasts.Right
 played_right play script before after o last played report is end tell =
     subst (λ text. IsVerdict script (text ++ last_text last) lasts.Right)
     (ap (λ (b : Body). body_text b o.ages) (sym report)) (by play.folder played.run tell)
@@ -72,12 +62,10 @@ played_right play script before after o last played report is end tell =
 
     by : (folder : Option InFolder) → HasRun play.mode folder part script before after o.ages o.stop
         → DisksTell folder script.members before → IsVerdict script (report_text o.ages last) lasts.Right
-    by (Some folder) run tell =
-        run_right script part play.mode before after o.ages o.stop last played.ranges tell run (sym played.line ∙ is)
-        end
-    by None run tell =
-        run_right script part play.mode empty_yard run.1.after o.ages o.stop last played.ranges (λ m below. refl)
-        run.1.run (sym played.line ∙ is) end
+    by (Some folder) run tell = run_right script part play.mode before after o.ages o.stop last played.ranges tell run
+        (sym played.line ∙ is) end
+    by None run tell = run_right script part play.mode empty_yard run.1.after o.ages o.stop last played.ranges
+        (λ m below. refl) run.1.run (sym played.line ∙ is) end
 
 reading_right : (play : Playing) (before after : YardState) (o : Outcome) (last : Last) (r : Reading)
     → OfScript (λ script result. WasPlayedOrNot play script before after result) r before after o → o.last ≡ Some last → IsRunEnd (status_of last)

@@ -1,51 +1,30 @@
 -- The report of a run whose last line has status 0, 8 or 9 is right.
 use Rattle.std.proofs.Common.{◌≡◌, ◌≢◌, ◌⊎◌, refl, sym, ap, ◌∙◌, subst, inl, inr, ℕ, suc, ◌+◌, ◌-◌, ◌^◌, ◌<◌, ◌≤◌, ◌&&◌, nat_lt, not, true, false, true≢false, pow_mono, arith, List, [], All, Option, None, Some, is_some, length, slice_get}
-use Rattle.std.proofs.lemmas.Bool.{cases_Bool, or_parts}
-use Rattle.std.proofs.lemmas.Option.{same_Some}
-use Rattle.dr_ages.specs.Ages.{IsAgeOf, opening_of, taking_part}
-use Rattle.dr_ages.specs.Runs.{AreKept, IsRunOf}
-use Rattle.dr_ages.specs.declared.mode.Mode.{Mode}
-use Rattle.dr_ages.specs.declared.part.Part.{Part}
-use Rattle.dr_ages.specs.declared.stop.Stop.{Stop}
-use Rattle.dr_check.proofs.Agreed.{end_there, is_here, order, told_as_opened}
-use Rattle.dr_check.proofs.Flawless.{printed_right}
+use Rattle.std.proofs.lemmas.{Bool.{cases_Bool, or_parts}, Option.same_Some}
+use Rattle.dr_ages.specs.{Ages.{IsAgeOf, opening_of, taking_part}, Runs.{AreKept, IsRunOf}, declared.mode.Mode.Mode}
+use Rattle.dr_ages.{specs.declared.{part.Part.Part, stop.Stop.Stop}, proofs.Parts.{its_group, all_ages}}
 use Rattle.dr_check.specs.Lines.{EndFits, LastFits}
 use Rattle.dr_check.specs.Values.{HasSmallNumbers, IsAgreed, KeepEachOther, TellsNothing, told_opening, took_part}
-use Rattle.dr_entry.specs.declared.end.AgeEnd.{AgeEnd}
-use Rattle.dr_entry.specs.declared.end.End.{End}
+use Rattle.dr_check.proofs.{Agreed.{end_there, is_here, order, told_as_opened}, Flawless.printed_right, Values.took}
+use Rattle.dr_entry.specs.declared.end.{AgeEnd.AgeEnd, End.End, MemberEnd.MemberEnd}
+use Rattle.dr_entry.proofs.{ListPlaces.all_from_places, NumberFacts.{IsRunEnd, apart}}
 use Rattle.dr_entry.specs.declared.end.End.TheVariants as ends
-use Rattle.dr_entry.specs.declared.end.MemberEnd.{MemberEnd}
-use Rattle.dr_entry.proofs.ListPlaces.{all_from_places}
-use Rattle.dr_entry.proofs.NumberFacts.{IsRunEnd, apart}
-use Rattle.dr_history.specs.declared.opening.Opening.{Opening}
-use Rattle.dr_history.specs.Agreement.{EndsAgreed, accounts_of, sent_by}
-use Rattle.dr_history.specs.History.{GroupView}
-use Rattle.dr_history.specs.Members.{has, members_of}
-use Rattle.dr_history.specs.Restarting.{Kept}
-use Rattle.dr_history.specs.Soundness.{IsPresentIn, Sound}
-use Rattle.dr_history.proofs.Bits.{has_zero}
-use Rattle.dr_history.proofs.Masks.{same_masks}
+use Rattle.dr_history.specs.{Agreement.{EndsAgreed, accounts_of, sent_by}, History.GroupView}
+use Rattle.dr_history.specs.{Members.{has, members_of}, Restarting.Kept, Soundness.{IsPresentIn, Sound}}
+use Rattle.dr_history.{specs.declared.opening.Opening.Opening, proofs.{Bits.has_zero, Masks.same_masks}}
 use Rattle.dr_intake.specs.Status.{status_of}
-use Rattle.dr_outcome.proofs.Due.{line_behind}
-use Rattle.dr_outcome.proofs.Lasts.{refusal_status, told_so}
-use Rattle.dr_outcome.specs.declared.last.Kind.TheVariants.{DiskFault, LogFull, NoMajority, Spent}
 use Rattle.dr_outcome.specs.Last.{first_end, first_told, is_of, last_by, last_of, refusal_of, some_end, stopped_by}
+use Rattle.dr_outcome.specs.declared.last.Kind.TheVariants.{DiskFault, LogFull, NoMajority, Spent}
+use Rattle.dr_outcome.proofs.{Due.line_behind, Lasts.{refusal_status, told_so}, OutcomeKinds.none_full}
 use Rattle.dr_program.specs.Program.{absent_end}
 use Rattle.dr_program_laws.specs.Ended.{HasEnded, HasReason, IsLeftOut, is_log_end}
 use Rattle.dr_restart.specs.Setups.{crashes_of}
-use Rattle.dr_script.specs.declared.script.Script.{Script}
-use Rattle.dr_script.specs.Ranges.{HasRanges}
-use Rattle.dr_history_laws.proofs.Lists.{all_at}
-use Rattle.dr_history_laws.proofs.Members.{low_number}
-use Rattle.dr_text.specs.declared.last.Last.{Last}
+use Rattle.dr_script.specs.{Ranges.HasRanges, declared.script.Script.Script}
+use Rattle.dr_history_laws.proofs.{Lists.all_at, Members.low_number}
+use Rattle.dr_text.specs.{Report.{is_absent, report_text}, declared.last.Last.Last}
 use Rattle.dr_text.specs.declared.last.Last.TheVariants as lasts
-use Rattle.dr_text.specs.Report.{is_absent, report_text}
-use Rattle.dr_words.proofs.Masks.{has_mask_of, in_roster_small}
-use Rattle.dr_words.specs.Masks.{mask_of}
+use Rattle.dr_words.{specs.Masks.mask_of, proofs.Masks.{has_mask_of, in_roster_small}}
 use Rattle.dr_yard.specs.Yards.{AllTell, YardState}
-use Rattle.dr_check.proofs.Values.{took}
-use Rattle.dr_ages.proofs.Parts.{its_group, all_ages}
-use Rattle.dr_outcome.proofs.OutcomeKinds.{none_full}
 use Rattle.dr_commands.specs.Check.{IsVerdict}
 
 -- ---- the last line
@@ -54,15 +33,12 @@ use Rattle.dr_commands.specs.Check.{IsVerdict}
 fits_by : (disk : Option ℕ) (logs : Option Last) (full turns split : Option ℕ) (line : Last)
     → ((l : Last) → logs ≡ Some l → status_of l ≡ 7) → last_by disk logs full turns split ≡ line
     → IsRunEnd (status_of line) → (is_some full ≡ false) × LastFits line
-fits_by (Some m) logs full turns split line seven said end =
-    absurd (apart 6 (status_of line) (λ e. omega (arith, e)) (λ e. omega (arith, e)) (λ e. omega (arith, e))
-    (ap status_of (sym said)) end)
-fits_by None (Some l) full turns split line seven said end =
-    absurd (apart 7 (status_of line) (λ e. omega (arith, e)) (λ e. omega (arith, e)) (λ e. omega (arith, e))
-    (ap status_of (sym said) ∙ seven l refl) end)
-fits_by None None (Some m) turns split line seven said end =
-    absurd (apart 11 (status_of line) (λ e. omega (arith, e)) (λ e. omega (arith, e)) (λ e. omega (arith, e))
-    (ap status_of (sym said)) end)
+fits_by (Some m) logs full turns split line seven said end = absurd (apart 6 (status_of line)
+    (λ e. omega (arith, e)) (λ e. omega (arith, e)) (λ e. omega (arith, e)) (ap status_of (sym said)) end)
+fits_by None (Some l) full turns split line seven said end = absurd (apart 7 (status_of line) (λ e. omega (arith, e))
+    (λ e. omega (arith, e)) (λ e. omega (arith, e)) (ap status_of (sym said) ∙ seven l refl) end)
+fits_by None None (Some m) turns split line seven said end = absurd (apart 11 (status_of line)
+    (λ e. omega (arith, e)) (λ e. omega (arith, e)) (λ e. omega (arith, e)) (ap status_of (sym said)) end)
 fits_by None None None (Some m) split line seven said end = (refl, subst LastFits said tt)
 fits_by None None None None (Some m) line seven said end = (refl, subst LastFits said tt)
 fits_by None None None None None line seven said end = (refl, subst LastFits said tt)
@@ -84,8 +60,7 @@ last_fits ages stop line is end =
 left_fits : (o : Opening) (all : List MemberEnd) (number members m : ℕ) (end : End) → length o.messages ≤ 16
     → number ≤ 32 → ((n : ℕ) → has members n ≡ true → n < length o.messages)
     → IsLeftOut o all number members m end → EndFits end
-left_fits o all number members m (ends.Suspected by) few low roster out =
-    omega (arith, roster by out.0, few)
+left_fits o all number members m (ends.Suspected by) few low roster out = omega (arith, roster by out.0, few)
 left_fits o all number members m (ends.NoMajority mask) few low roster out =
     let small = in_roster_small (length o.messages) mask (λ n h. roster n (out.1 n h)) in
     let most : 2 ^ length o.messages ≤ 2 ^ 16 = pow_mono few in (
@@ -132,13 +107,11 @@ end_fits script a nth m e ranges good here took ended other = by ended.reason
         (crashes_of script.faults nth m) e → EndFits e.end
     by (inl done) = subst EndFits (sym done.whole.end) tt
     by (inr (inl spent)) =
-        let small : script.turns < 2 ^ 32 = omega (arith, ranges.most_turns) in
-        subst EndFits (sym spent.end) small
+        let small : script.turns < 2 ^ 32 = omega (arith, ranges.most_turns) in subst EndFits (sym spent.end) small
     by (inr (inr (inl crashed))) = subst EndFits (sym crashed.end) tt
     by (inr (inr (inr (inl by_log)))) = log_fits e.end by_log.end other
     by (inr (inr (inr (inr left)))) =
-        left_fits (told_opening script a) a.members ended.number ended.members m e.end few low ended.roster
-        left.end
+        left_fits (told_opening script a) a.members ended.number ended.members m e.end few low ended.roster left.end
 
 -- ---- who took part
 
@@ -201,12 +174,7 @@ small_age script part mode nth before after age ranges is room = record {
         → IsPresentIn (told_opening script age) m → ⊥
     not_there m e at away here =
         let other = end_there script age m here in
-        absurd (cc (
-          away,
-          other.2,
-          ap (λ (x : MemberEnd). is_absent x.end)
-              (same_Some other.0 e (sym other.1 ∙ at)),
-        ))
+        absurd (cc (away, other.2, ap (λ (x : MemberEnd). is_absent x.end) (same_Some other.0 e (sym other.1 ∙ at))))
 
     each : (m : ℕ) (e : MemberEnd) → slice_get age.members m ≡ Some e → EndFits e.end ⊎ TellsNothing e
     each m e at = elim (cases_Bool (is_absent e.end)) [
@@ -215,8 +183,7 @@ small_age script part mode nth before after age ranges is room = record {
       | inr there ↦
           let here : IsPresentIn (opening_of script part age) m =
           subst (λ o. IsPresentIn o m) same (is_here script age ranges.group.most_members good m e at there) in
-          let ended = subst
-          (λ o. HasEnded o age.members script.turns m (crashes_of script.faults nth m) e) (sym same)
+          let ended = subst (λ o. HasEnded o age.members script.turns m (crashes_of script.faults nth m) e) (sym same)
           (is.played.ended.each m e at here) in
           inl (end_fits script age nth m e ranges good at there ended (room m e at))
     ]
@@ -233,8 +200,7 @@ keep_each_other script part ages kept told i a next at after =
 
 pub run_right : (script : Script) (part : Part) (mode : Mode) (before after : YardState) (ages : List AgeEnd)
     (stop : Option Stop) (last : Last) → HasRanges script → AllTell script.members before
-    → IsRunOf script part mode before after ages stop → last_of ages stop ≡ Some last
-    → IsRunEnd (status_of last)
+    → IsRunOf script part mode before after ages stop → last_of ages stop ≡ Some last → IsRunEnd (status_of last)
     → IsVerdict script (report_text ages last) lasts.Right
 run_right script part mode before after ages stop last ranges tell run is end =
     let fits = last_fits ages stop last is end in
@@ -251,5 +217,4 @@ run_right script part mode before after ages stop last ranges tell run is end =
     ages run.course))
     (all_from_places HasSmallNumbers ages
     (λ i age at. all_at IsSmallUnlessFull ages i age small at
-    (λ m e there. none_full ages i age m e fits.0 at there)))
-    fits.1
+    (λ m e there. none_full ages i age m e fits.0 at there))) fits.1

@@ -4,8 +4,7 @@ use Rattle.dr_entry.specs.declared.end.AgeEnd.{AgeEnd}
 use Rattle.dr_commands.specs.StoreLines.{last_values_text, values_text}
 
 pub last_values : (key : List ℕ) (v : ℕ) (ages : List AgeEnd) (age : AgeEnd) → 1 ≤ length ages
-    → age ≡ get_or ages (length ages - 1) age
-    → last_values_text key v ages ≡ values_text key v age.members
+    → age ≡ get_or ages (length ages - 1) age → last_values_text key v ages ≡ values_text key v age.members
 last_values key v [] age some is = absurd (omega (arith, some))
 last_values key v (a ∷ []) age some is = ap (λ (x : AgeEnd). values_text key v x.members) (sym is)
 last_values key v (a ∷ b ∷ ages) age some is =

@@ -1,9 +1,7 @@
 -- A table of verbs as code holds it finds what the table of their words does.
+use Rattle.std.specs.{List.find, Prelude.bytes_eq}
 use Rattle.std.proofs.Common.{◌≡◌, refl, ℕ, Bool, true, false, if◌then◌else◌, List, [], ◌∷◌, map, Option, Some, option_map, Bor}
-use Rattle.std.specs.Prelude.{bytes_eq}
-use Rattle.std.specs.List.{find}
-use Rattle.dr_commands.specs.declared.words.Verb.{Verb}
-use Rattle.dr_commands.specs.Words.{verb_by}
+use Rattle.dr_commands.specs.{Words.verb_by, declared.words.Verb.Verb}
 
 abbrev pub Held : Type 0
 Held = Bor (List ℕ) × Verb
@@ -21,6 +19,5 @@ either row held found false same = same
 pub verb_found : (table : List Held) (word : List ℕ)
     → option_map (λ row. row.1) (find (λ row. bytes_eq row.0.now word) table) ≡ verb_by (map read table) word
 verb_found [] word = refl
-verb_found (row ∷ rows) word =
-    either row (find (λ r. bytes_eq r.0.now word) rows) (find (λ r. bytes_eq r.0 word) (map read rows))
-    (bytes_eq row.0.now word) (verb_found rows word)
+verb_found (row ∷ rows) word = either row (find (λ r. bytes_eq r.0.now word) rows)
+    (find (λ r. bytes_eq r.0 word) (map read rows)) (bytes_eq row.0.now word) (verb_found rows word)

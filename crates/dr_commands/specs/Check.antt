@@ -1,20 +1,15 @@
 -- What is handed in for a check, and what is said of it.
-use Rattle.std.specs.Prelude.{◌≡◌, ⊤, ℕ, ◌<◌, ◌≤◌, ◌==◌, Bool, false, if◌then◌else◌, List, [], ◌∷◌, length, codes, Option, Some, None, option_map}
 use Rattle.std.specs.Option.{option_map_or}
-use Rattle.serde_json.specs.Data.{Data}
-use Rattle.serde_json.specs.Find.{as_object, as_str, get}
+use Rattle.std.specs.Prelude.{◌≡◌, ⊤, ℕ, ◌<◌, ◌≤◌, ◌==◌, Bool, false, if◌then◌else◌, List, [], ◌∷◌, length, codes, Option, Some, None, option_map}
+use Rattle.serde_json.specs.{Data.Data, Find.{as_object, as_str, get}}
+use Rattle.dr_check.specs.{Flaws.{IsFirstFlaw, IsRight}, Grammar.{IsNoReportAt, IsReport}}
 use Rattle.dr_check.specs.declared.report.Report.{Report}
-use Rattle.dr_check.specs.Flaws.{IsFirstFlaw, IsRight}
-use Rattle.dr_check.specs.Grammar.{IsNoReportAt, IsReport}
 use Rattle.dr_intake.specs.Reading.{refusal_in}
+use Rattle.dr_script.specs.{Json.{◌>>=◌, json_of, keys}, Reading.{Reading, Reads, reading_of}}
 use Rattle.dr_script.specs.declared.script.Script.{Script}
-use Rattle.dr_script.specs.Json.{◌>>=◌, json_of, keys}
-use Rattle.dr_script.specs.Reading.{Reading, Reads, reading_of}
 use Rattle.dr_text.specs.declared.last.Last.{Last}
 use Rattle.dr_text.specs.declared.last.Last.TheVariants as lasts
-use Rattle.dr_outcome.specs.declared.outcome.Outcome.{Outcome}
-use Rattle.dr_outcome.specs.Outcome.{SaysOnly}
-use Rattle.dr_outcome.specs.Playing.{InFolder}
+use Rattle.dr_outcome.specs.{Outcome.SaysOnly, Playing.InFolder, declared.outcome.Outcome.Outcome}
 use Rattle.dr_yard.specs.Yards.{AllTell, YardState}
 
 -- the value is an object with two keys

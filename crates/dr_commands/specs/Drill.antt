@@ -2,9 +2,7 @@
 use Rattle.std.specs.Prelude.{◌≡◌, ℕ, List}
 use Rattle.dr_drill.specs.Drill.{drill}
 use Rattle.dr_outcome.specs.declared.outcome.Body.TheVariants as bodies
-use Rattle.dr_outcome.specs.declared.outcome.Outcome.{Outcome}
-use Rattle.dr_outcome.specs.Outcome.{HasPlayed}
-use Rattle.dr_outcome.specs.Playing.{ends_over, simulated}
+use Rattle.dr_outcome.specs.{Outcome.HasPlayed, Playing.{ends_over, simulated}, declared.outcome.Outcome.Outcome}
 use Rattle.dr_yard.specs.Yards.{YardState}
 use Rattle.dr_commands.specs.DrillLines.{drill_text}
 

@@ -1,10 +1,6 @@
 -- What is said of a drill.
-use Rattle.std.specs.Prelude.{ℕ, List, [], ◌∷◌, ◌++◌, codes}
-use Rattle.std.specs.Fmt.{decimal}
-use Rattle.std.specs.List.{concat, enumerate_from, flat_map}
-use Rattle.dr_entry.specs.declared.end.AgeEnd.{AgeEnd}
-use Rattle.dr_entry.specs.declared.end.MemberEnd.{MemberEnd}
-use Rattle.dr_entry.specs.declared.entry.Entry.{Entry}
+use Rattle.std.specs.{Fmt.decimal, List.{concat, enumerate_from, flat_map}, Prelude.{ℕ, List, [], ◌∷◌, ◌++◌, codes}}
+use Rattle.dr_entry.specs.declared.{end.{AgeEnd.AgeEnd, MemberEnd.MemberEnd}, entry.Entry.Entry}
 use Rattle.dr_entry.specs.declared.entry.Entry.TheVariants.{Msg, View}
 use Rattle.dr_summary.specs.Histories.{longest}
 use Rattle.dr_text.specs.Report.{mask_text, member_line}

@@ -2,11 +2,8 @@
 use Rattle.std.specs.Prelude.{◌≡◌, ◌⊎◌, ℕ, List, [], ◌∷◌, codes, None, Some}
 use Rattle.dr_live.specs.Live.{HasLived, IsLivePlan}
 use Rattle.dr_outcome.specs.declared.outcome.Body.TheVariants as bodies
-use Rattle.dr_outcome.specs.declared.outcome.Outcome.{Outcome}
-use Rattle.dr_outcome.specs.Last.{last_of}
-use Rattle.dr_outcome.specs.Outcome.{OfScript, SaysOnly}
-use Rattle.dr_script.specs.declared.script.Script.{Script}
-use Rattle.dr_script.specs.Reading.{reading_of}
+use Rattle.dr_outcome.specs.{Last.last_of, Outcome.{OfScript, SaysOnly}, declared.outcome.Outcome.Outcome}
+use Rattle.dr_script.specs.{Reading.reading_of, declared.script.Script.Script}
 use Rattle.dr_text.specs.declared.last.Last.{Last}
 use Rattle.dr_text.specs.declared.last.Last.TheVariants as lasts
 use Rattle.dr_yard.specs.Yards.{YardState}

@@ -1,9 +1,6 @@
 -- What is said of senders.
-use Rattle.std.specs.Prelude.{ℕ, List, [], ◌∷◌, length, codes}
-use Rattle.std.specs.Fmt.{decimal}
-use Rattle.std.specs.List.{concat, enumerate_from, flat_map}
-use Rattle.dr_entry.specs.declared.end.AgeEnd.{AgeEnd}
-use Rattle.dr_entry.specs.declared.entry.Entry.{Entry}
+use Rattle.std.specs.{Fmt.decimal, List.{concat, enumerate_from, flat_map}, Prelude.{ℕ, List, [], ◌∷◌, length, codes}}
+use Rattle.dr_entry.specs.declared.{end.AgeEnd.AgeEnd, entry.Entry.Entry}
 use Rattle.dr_history.specs.Order.{messages_from}
 use Rattle.dr_summary.specs.Histories.{longest}
 

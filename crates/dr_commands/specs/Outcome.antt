@@ -1,24 +1,15 @@
 -- What comes of a call: what each command does, the last line, and the status.
 use Rattle.std.specs.Prelude.{◌≡◌, ◌⊎◌, ℕ, List, [], Option, Some, Contains, MatchOption, String}
 use Rattle.std.specs.declared.alloc.Global.{Global}
-use Rattle.dr_intake.specs.Answer.{IsAnswer}
-use Rattle.dr_intake.specs.Reading.{IsScript, WasRead}
-use Rattle.dr_intake.specs.Status.{WroteText, status_of}
+use Rattle.dr_intake.specs.{Answer.IsAnswer, Reading.{IsScript, WasRead}, Status.{WroteText, status_of}}
 use Rattle.dr_io.specs.Sink.{Gains}
 use Rattle.dr_outcome.specs.Outcome.{AreAllLate, HasDone, Plays, SaysOnly, outcome_text}
-use Rattle.dr_outcome.specs.declared.outcome.Outcome.{Outcome}
-use Rattle.dr_outcome.specs.Playing.{InFolder, Playing, part_in}
-use Rattle.dr_script.specs.declared.script.Script.{Script}
-use Rattle.dr_script.specs.Reading.{Reads, reading_of}
+use Rattle.dr_outcome.specs.{Playing.{InFolder, Playing, part_in}, declared.outcome.Outcome.Outcome}
+use Rattle.dr_script.specs.{Reading.{Reads, reading_of}, declared.script.Script.Script}
 use Rattle.dr_yard.specs.Yards.{YardState}
-use Rattle.dr_commands.specs.Check.{Checks, DisksTell, IsJudgedRight}
-use Rattle.dr_commands.specs.Drill.{Drills}
-use Rattle.dr_commands.specs.Live.{RunsLive}
-use Rattle.dr_commands.specs.Shards.{RunsShards}
-use Rattle.dr_commands.specs.Store.{Stores}
-use Rattle.dr_commands.specs.declared.words.Command.{Command}
-use Rattle.dr_commands.specs.declared.words.Command.TheVariants.{Check, Drill, Live, Play, Shards, Store}
-use Rattle.dr_commands.specs.Words.{asked_by, ends_of, reads}
+use Rattle.dr_commands.specs.{Check.{Checks, DisksTell, IsJudgedRight}, Drill.Drills, Live.RunsLive}
+use Rattle.dr_commands.specs.{Shards.RunsShards, Store.Stores, Words.{asked_by, ends_of, reads}}
+use Rattle.dr_commands.specs.declared.words.Command.{Command, TheVariants.{Check, Drill, Live, Play, Shards, Store}}
 
 -- what each command makes of what was read for it, by how the yard was and then is
 abbrev pub Does : Command → List ℕ → YardState → YardState → Outcome → Type 0

@@ -1,6 +1,5 @@
 -- What the words behind `live` ask for.
-use Rattle.std.specs.Prelude.{ℕ, nat_le, if◌then◌else◌, List, [], ◌∷◌, Option, None, Some}
-use Rattle.std.specs.Option.{option_and_then}
+use Rattle.std.specs.{Option.option_and_then, Prelude.{ℕ, nat_le, if◌then◌else◌, List, [], ◌∷◌, Option, None, Some}}
 use Rattle.dr_literals.specs.Literals.{number_word}
 
 -- how many rounds there may be

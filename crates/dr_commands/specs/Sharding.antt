@@ -1,9 +1,8 @@
 -- What the words behind `shards` ask for.
-use Rattle.std.specs.Prelude.{ℕ, ◌&&◌, nat_le, if◌then◌else◌, List, [], ◌∷◌, bytes_eq, codes, Option, None, Some, option_map}
 use Rattle.std.specs.Option.{option_and_then}
+use Rattle.std.specs.Prelude.{ℕ, ◌&&◌, nat_le, if◌then◌else◌, List, [], ◌∷◌, bytes_eq, codes, Option, None, Some, option_map}
 use Rattle.dr_literals.specs.Literals.{number_word}
-use Rattle.dr_shards.specs.declared.run.ShardMode.{ShardMode}
-use Rattle.dr_shards.specs.declared.run.ShardMode.TheVariants.{Run, Sim}
+use Rattle.dr_shards.specs.declared.run.ShardMode.{ShardMode, TheVariants.{Run, Sim}}
 use Rattle.dr_commands.specs.declared.shards.sharding.Sharding.{Sharding}
 
 -- how many shards there may be

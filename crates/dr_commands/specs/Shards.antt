@@ -1,21 +1,15 @@
 -- What comes of the shards of a script.
 use Rattle.std.specs.Prelude.{◌≡◌, ℕ, List, ◌∷◌, Option, None, Some}
 use Rattle.dr_outcome.specs.declared.outcome.Body.TheVariants as bodies
+use Rattle.dr_outcome.specs.{Last.last_of, Outcome.{OfScript, SaysOnly}, Playing.ends_over}
 use Rattle.dr_outcome.specs.declared.outcome.Outcome.{Outcome}
-use Rattle.dr_outcome.specs.Last.{last_of}
-use Rattle.dr_outcome.specs.Outcome.{OfScript, SaysOnly}
-use Rattle.dr_outcome.specs.Playing.{ends_over}
-use Rattle.dr_script.specs.declared.script.Script.{Script}
-use Rattle.dr_script.specs.Reading.{reading_of}
-use Rattle.dr_shards.specs.declared.fault.LayFault.{LayFault}
+use Rattle.dr_script.specs.{Reading.reading_of, declared.script.Script.Script}
+use Rattle.dr_shards.specs.{Layout.{lay_refusal, layout}, Shards.AreShardAges, declared.fault.LayFault.LayFault}
 use Rattle.dr_shards.specs.declared.fault.LayFault.TheVariants.{Crosses, ManyAges, NoShard, OutOfMemory}
-use Rattle.dr_shards.specs.Layout.{lay_refusal, layout}
-use Rattle.dr_shards.specs.Shards.{AreShardAges}
 use Rattle.dr_text.specs.declared.last.Last.{Last}
 use Rattle.dr_text.specs.declared.last.Last.TheVariants as lasts
 use Rattle.dr_yard.specs.Yards.{YardState}
-use Rattle.dr_commands.specs.declared.shards.sharding.Sharding.{Sharding}
-use Rattle.dr_commands.specs.ShardsLines.{shards_text}
+use Rattle.dr_commands.specs.{ShardsLines.shards_text, declared.shards.sharding.Sharding.Sharding}
 
 -- the last line by which a layout is refused: none where memory was wanting
 abbrev pub refused_layout : LayFault → Option Last

@@ -1,7 +1,6 @@
 -- What is said of shards.
+use Rattle.std.specs.{Fmt.decimal, List.{concat, enumerate_from, flat_map, join_by}}
 use Rattle.std.specs.Prelude.{ℕ, List, [], ◌∷◌, ◌++◌, codes}
-use Rattle.std.specs.Fmt.{decimal}
-use Rattle.std.specs.List.{concat, enumerate_from, flat_map, join_by}
 use Rattle.dr_entry.specs.declared.end.AgeEnd.{AgeEnd}
 use Rattle.dr_shards.specs.Layout.{shard_members}
 use Rattle.dr_text.specs.Report.{age_text}

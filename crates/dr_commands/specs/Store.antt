@@ -1,9 +1,8 @@
 -- What comes of the question what the members store.
 use Rattle.std.specs.Prelude.{◌≡◌, ℕ, List}
 use Rattle.dr_outcome.specs.declared.outcome.Body.TheVariants as bodies
+use Rattle.dr_outcome.specs.{Outcome.{HasPlayed, OfScript}, Playing.{play_ends, simulated}}
 use Rattle.dr_outcome.specs.declared.outcome.Outcome.{Outcome}
-use Rattle.dr_outcome.specs.Outcome.{HasPlayed, OfScript}
-use Rattle.dr_outcome.specs.Playing.{play_ends, simulated}
 use Rattle.dr_script.specs.Reading.{reading_of}
 use Rattle.dr_yard.specs.Yards.{YardState}
 use Rattle.dr_commands.specs.StoreLines.{last_values_text}

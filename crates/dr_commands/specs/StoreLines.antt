@@ -1,11 +1,8 @@
 -- What the stores of members say of a key at a version.
+use Rattle.std.specs.{Fmt.decimal, List.{concat, enumerate_from, flat_map}}
 use Rattle.std.specs.Prelude.{ℕ, nat_lt, if◌then◌else◌, List, [], ◌∷◌, ◌++◌, length, Option, None, Some, codes}
 use Rattle.std.specs.FinMap as map
-use Rattle.std.specs.Fmt.{decimal}
-use Rattle.std.specs.List.{concat, enumerate_from, flat_map}
-use Rattle.dr_entry.specs.declared.end.AgeEnd.{AgeEnd}
-use Rattle.dr_entry.specs.declared.end.MemberEnd.{MemberEnd}
-use Rattle.dr_entry.specs.declared.entry.Entry.{Entry}
+use Rattle.dr_entry.specs.declared.{end.{AgeEnd.AgeEnd, MemberEnd.MemberEnd}, entry.Entry.Entry}
 use Rattle.dr_store.specs.Commands.{contents, messages}
 use Rattle.dr_text.specs.Report.{message_text}
 

@@ -1,23 +1,12 @@
 -- What the words of a call ask for.
+use Rattle.std.specs.{List.find, Option.option_and_then, declared.alloc.Global.Global}
 use Rattle.std.specs.Prelude.{ℕ, ◌^◌, ◌==◌, nat_lt, if◌then◌else◌, Bool, true, false, IsTrue, List, [], ◌∷◌, length, take, drop, map, codes, bytes_eq, Option, None, Some, is_some, option_map, String, string_bytes}
-use Rattle.std.specs.List.{find}
-use Rattle.std.specs.Option.{option_and_then}
-use Rattle.std.specs.declared.alloc.Global.{Global}
-use Rattle.dr_ages.specs.declared.mode.Mode.{Mode}
-use Rattle.dr_ages.specs.declared.mode.Mode.TheVariants.{Sim, Run}
-use Rattle.dr_literals.specs.Literals.{key_word, number_word}
-use Rattle.dr_literals.specs.Options.{option_members, option_of}
+use Rattle.dr_ages.specs.declared.mode.Mode.{Mode, TheVariants.{Sim, Run}}
+use Rattle.dr_literals.specs.{Literals.{key_word, number_word}, Options.{option_members, option_of}}
 use Rattle.dr_outcome.specs.Playing.{InFolder, play_ends}
-use Rattle.dr_commands.specs.Check.{check_ends}
-use Rattle.dr_commands.specs.Drill.{drill_ends}
-use Rattle.dr_commands.specs.Live.{live_ends}
-use Rattle.dr_commands.specs.Rounds.{rounds_of}
-use Rattle.dr_commands.specs.Sharding.{sharding_of}
-use Rattle.dr_commands.specs.Shards.{shards_ends}
-use Rattle.dr_commands.specs.Store.{store_ends}
-use Rattle.dr_commands.specs.declared.words.Command.{Command}
-use Rattle.dr_commands.specs.declared.words.Command.TheVariants.{Check, Drill, Live, Play, Shards, Store}
-use Rattle.dr_commands.specs.declared.words.Verb.{Verb}
+use Rattle.dr_commands.specs.{Check.check_ends, Sharding.sharding_of, Shards.shards_ends, declared.words.Verb.Verb}
+use Rattle.dr_commands.specs.{Drill.drill_ends, Live.live_ends, Rounds.rounds_of, Store.store_ends}
+use Rattle.dr_commands.specs.declared.words.Command.{Command, TheVariants.{Check, Drill, Live, Play, Shards, Store}}
 use Rattle.dr_commands.specs.declared.words.Verb.TheVariants as verb
 
 -- ---- commands, by the words behind their verb

@@ -5,8 +5,7 @@ ghost use Rattle.dr_io.specs.Faults.{Rose};
 ghost use Rattle.dr_text.specs.declared.last.Last.TheVariants.{SourceFault};
 ghost use Rattle.dr_yard.specs.Yards.{state_by};
 ghost use Rattle.dr_outcome.specs.Outcome.{HasDone, SaysOnly};
-ghost use Rattle.dr_commands.specs.Outcome.{Course, Does};
-ghost use Rattle.dr_commands.specs.Words.{ends_of, reads};
+ghost use Rattle.dr_commands.specs.{Outcome.{Course, Does}, Words.{ends_of, reads}};
 
 use crate::check::check_report;
 use crate::drill::run_drill;

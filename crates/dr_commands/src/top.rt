@@ -12,17 +12,15 @@
 ghost use Rattle.std.specs.Prelude.{◌≡◌, ◌<◌, ◌⊎◌, ◌++◌, ℕ, [], ◌∷◌, Contains, IfOk, IsTrue, Some, false, is_some, string_bytes};
 ghost use Rattle.dr_entry.specs.declared.limits.TheConstants.{MAX_MEMBERS};
 ghost use Rattle.dr_intake.specs.Status.{WroteText, status_of};
-ghost use Rattle.dr_io.specs.Faults.{Rose};
-ghost use Rattle.dr_io.specs.Sink.{Gains};
+ghost use Rattle.dr_io.specs.{Faults.Rose, Sink.Gains};
 ghost use Rattle.dr_text.specs.Report.{last_text, report_text};
 ghost use Rattle.dr_yard.specs.Yards.{state_by};
+ghost use Rattle.dr_outcome.specs.{Last.{refusal_of, some_end, some_so}, Playing.Playing};
 ghost use Rattle.dr_outcome.specs.declared.last.Kind.TheVariants.{DiskFault, LogFull, NoMajority, Spent};
 ghost use Rattle.dr_outcome.specs.declared.outcome.Outcome.{Outcome as OutcomeOf};
-ghost use Rattle.dr_outcome.specs.Last.{refusal_of, some_end, some_so};
-ghost use Rattle.dr_outcome.specs.Playing.{Playing};
 ghost use Rattle.dr_commands.specs.Outcome.{AsksLate, Course, Exactly, IsWritten, WasJudgedRight, WroteOrNot};
-ghost use Rattle.dr_commands.specs.declared.words.Command.TheVariants.{Play as PlayOf};
 ghost use Rattle.dr_commands.specs.Words.{IsCommand, asked_by, statuses_of};
+ghost use Rattle.dr_commands.specs.declared.words.Command.TheVariants.{Play as PlayOf};
 
 use crate::outcome::outcome_of;
 use dr_ages::Stop;

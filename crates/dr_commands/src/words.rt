@@ -1,5 +1,4 @@
-ghost use Rattle.std.specs.Prelude.{◌≡◌, bytes_eq, map, option_map, string_bytes};
-ghost use Rattle.std.specs.List.{find};
+ghost use Rattle.std.specs.{List.find, Prelude.{◌≡◌, bytes_eq, map, option_map, string_bytes}};
 ghost use Rattle.dr_commands.specs.Words.{asked_at, asked_behind, command_of, drill_of, folder_of, live_of, play_in, play_of, play_over, played, shards_of, store_of, verb_by, verbs, with_no_more};
 
 use crate::live::{Rounds, rounds_of};

@@ -1,31 +1,20 @@
 -- What is known between the turns of a round.
-use Rattle.std.proofs.Common.{List, None, Some, [], ap, sym, true, ℕ, ◌*◌, ◌+◌, ◌<◌, ◌∙◌, ◌≡◌, ◌≢◌, ◌≤◌, ◌⊎◌}
 use Rattle.std.specs.Prelude.{Option, option_map}
+use Rattle.std.proofs.Common.{List, None, Some, [], ap, sym, true, ℕ, ◌*◌, ◌+◌, ◌<◌, ◌∙◌, ◌≡◌, ◌≢◌, ◌≤◌, ◌⊎◌}
 use Rattle.dr_entry.specs.declared.end.End.{End}
 use Rattle.dr_entry.specs.declared.end.End.TheVariants as ends
 use Rattle.dr_words.specs.declared.column.TheConstants.{BEAT_COLUMN, LOGGED_COLUMN}
-use Rattle.dr_machine.proofs.Presence.{is_present}
-use Rattle.dr_machine.specs.Group.{Group, columns, roster}
-use Rattle.dr_machine.specs.World.{World}
-use Rattle.dr_program.proofs.Holdings.{Holding, held, held_same}
-use Rattle.dr_program.specs.Program.{AreSetups, Program}
-use Rattle.dr_program.specs.Reading.{table_of, world}
-use Rattle.dr_program.specs.Running.{Running}
-use Rattle.dr_program.specs.Schedule.{is_between_turns}
-use Rattle.dr_program.specs.declared.setup.Setup.{Setup}
+use Rattle.dr_machine.{specs.{Group.{Group, columns, roster}, World.World}, proofs.Presence.is_present}
+use Rattle.dr_program.specs.{Presence.present_at, Program.{AreSetups, Program}, Reading.{table_of, world}}
+use Rattle.dr_program.specs.{Running.Running, Schedule.is_between_turns, declared.setup.Setup.Setup}
+use Rattle.dr_program.proofs.{Holdings.{Holding, held, held_same}, Present.present_map}
 use Rattle.dr_refine.proofs.Deeds.{replicas}
 use Rattle.dr_suspect.specs.Waits.{beat_of, turns_without_news}
-use Rattle.dr_program_laws.proofs.Programs.{AllStand}
-use Rattle.dr_program_laws.proofs.Trusting.{stay_first}
+use Rattle.dr_program_laws.{specs.Trusting.AreAtEase, proofs.{Programs.AllStand, Trusting.stay_first}}
 use Rattle.dr_world_laws.proofs.Worlds.{known}
 use Rattle.dr_turn_laws.specs.Steady.{IsSteady}
-use Rattle.dr_program_laws.specs.Trusting.{AreAtEase}
-use Rattle.dr_complete.proofs.Along.{IsAlong}
-use Rattle.dr_complete.proofs.Firsts.{IsFirst}
-use Rattle.dr_complete.specs.Reached.{AllShowDone}
+use Rattle.dr_complete.{specs.Reached.AllShowDone, proofs.{Along.IsAlong, Firsts.IsFirst}}
 use Rattle.dr_history_laws.specs.Remaining.{messages_left}
-use Rattle.dr_program.specs.Presence.{present_at}
-use Rattle.dr_program.proofs.Present.{present_map}
 
 -- a member has had r turns, and has come as far as these bring it
 abbrev pub HasGone : Group → ℕ → ℕ → ℕ → Holding → Type 0
@@ -61,8 +50,7 @@ IsAfter x m i = ((x ≤ m) × ((m < i) ⊎ (i < x))) ⊎ ((m < x) × (m < i) × 
 
 -- who has had a turn since has news: its beat has risen, unless it was the first turn
 abbrev pub AreFresh : Group → ℕ → Program → Type 0
-AreFresh g x p = (m i : ℕ) (r : Running) → present_at p.members m ≡ Some r → i < roster g → i ≢ m
-    → IsAfter x m i
+AreFresh g x p = (m i : ℕ) (r : Running) → present_at p.members m ≡ Some r → i < roster g → i ≢ m → IsAfter x m i
     → (turns_without_news r.waits i ≡ 0) ⊎ ((world g p).seen m i BEAT_COLUMN < (world g p).table 0 m i BEAT_COLUMN)
 
 -- the program is between turns: nobody suspects anybody, no append has failed, no member is amid a turn or
@@ -116,6 +104,5 @@ first_of g p steady ease = record {
 pub same_held : (g : Group) (p q : Program) (i : ℕ) → present_at q.members i ≡ present_at p.members i
     → held (world g q) i ≡ held (world g p) i
 same_held g p q i same = held_same g (replicas q.members) (replicas p.members) (table_of q) (table_of p) i
-    (present_map (λ (r : Running). r.replica) q.members i
-    ∙ ap (option_map (λ (r : Running). r.replica)) same
+    (present_map (λ (r : Running). r.replica) q.members i ∙ ap (option_map (λ (r : Running). r.replica)) same
     ∙ sym (present_map (λ (r : Running). r.replica) p.members i))

@@ -15,8 +15,7 @@ pub record HasCome (n : ℕ) (left : ℕ → ℕ) (r m : ℕ) (count : ℕ → �
 -- member m has room for its next item in its window: that is one of the first, or each other member has
 -- received the one that stood in its place
 abbrev pub Room : ℕ → ℕ → (ℕ → ℕ → ℕ) → ℕ → Type 0
-Room n window count m =
-    (count m m < window) ⊎ ((i : ℕ) → i < n → i ≢ m → count m m - window < count i m)
+Room n window count m = (count m m < window) ⊎ ((i : ℕ) → i < n → i ≢ m → count m m - window < count i m)
 
 -- member m has done all that there was to do: it has what the others have put, and has no room for its next
 -- message, nor, if none is left, for a null where somebody is ahead of it
@@ -33,8 +32,7 @@ room_for n window left r m s count some within others l below few = by (cases_lt
   where
     by : (count m m < window) ⊎ (window ≤ count m m) → Room n window count m
     by (inl early) = inl early
-    by (inr late) = inr (λ i h d.
-        (others i h d).has s m (count m m - window) l within (omega arith) (omega arith))
+    by (inr late) = inr (λ i h d. (others i h d).has s m (count m m - window) l within (omega arith) (omega arith))
 
 -- a member that has done all that there was to do has got as far as one round more brings it
 pub come_more : (n window : ℕ) (left : ℕ → ℕ) (r m : ℕ) (count : ℕ → ℕ → ℕ) → 1 ≤ window → m < n
@@ -72,8 +70,7 @@ come_more n window left r m count some within rests others = record { own = own;
       where
         by : (t ≡ m) ⊎ (t ≢ m) → k < count m t
         by (inl same) = rw same (put s k l below (omega arith))
-        by (inr other) =
-            omega (arith, rests.taken t h other, (others t h other).put s k l below (omega arith))
+        by (inr other) = omega (arith, rests.taken t h other, (others t h other).put s k l below (omega arith))
 
 -- no round brings nothing
 pub come_none : (n : ℕ) (left : ℕ → ℕ) (m : ℕ) (count : ℕ → ℕ) → HasCome n left 0 m count

@@ -1,40 +1,26 @@
 -- In lockstep, without crashes, suspicions and failed appends and with turns enough, all members end as done,
 -- with everything.
+use Rattle.std.{specs.Prelude.{IsTrue, Option, is_some, option_map, slice_get}, proofs.lemmas.Bool.Decides.nat_tests}
 use Rattle.std.proofs.Common.{Bool, List, None, Some, [], ap, arith, if◌then◌else◌, inl, inr, map, nat_lt, refl, replicate, slice_index, subst, sym, true, ℕ, ◌&&◌, ◌*◌, ◌+◌, ◌<◌, ◌==◌, ◌^◌, ◌∙◌, ◌≡◌, ◌≤◌, ◌⊎◌}
-use Rattle.std.specs.Prelude.{IsTrue, Option, is_some, option_map, slice_get}
-use Rattle.std.proofs.lemmas.Bool.{cases_lt}
-use Rattle.std.proofs.lemmas.Bool.Decides.{nat_tests}
-use Rattle.std.proofs.lemmas.List.{get_or-replicate, get_or_past, length-map, length-replicate}
+use Rattle.std.proofs.lemmas.{Bool.cases_lt, List.{get_or-replicate, get_or_past, length-map, length-replicate}}
 use Rattle.std.proofs.lemmas.Option.{same_Some, slice_get_within}
-use Rattle.dr_entry.specs.declared.end.End.{End}
+use Rattle.dr_entry.specs.declared.{end.{End.End, MemberEnd.MemberEnd}, limits.TheConstants.MAX_MEMBERS}
 use Rattle.dr_entry.specs.declared.end.End.TheVariants as ends
-use Rattle.dr_entry.specs.declared.end.MemberEnd.{MemberEnd}
-use Rattle.dr_entry.specs.declared.limits.TheConstants.{MAX_MEMBERS}
-use Rattle.dr_history.specs.Soundness.{IsNobodyLate}
+use Rattle.dr_history.specs.{Members.has, Soundness.IsNobodyLate}
 use Rattle.dr_history_laws.specs.Remaining.{messages_left}
 use Rattle.dr_words.specs.declared.column.TheConstants.{BEAT_COLUMN, LOGGED_COLUMN}
-use Rattle.dr_history.specs.Members.{has}
-use Rattle.dr_machine.specs.Group.{AllPresent, Group, IsGroup, roster}
-use Rattle.dr_machine.specs.World.{World, opening_world}
-use Rattle.dr_program.proofs.Opening.{begins_at_the_opening}
+use Rattle.dr_machine.specs.{Group.{AllPresent, Group, IsGroup, roster}, World.{World, opening_world}}
+use Rattle.dr_program.specs.{Presence.present_at, declared.setup.Setup.Setup}
 use Rattle.dr_program.specs.Program.{AllOk, AreSetups, Move, Program, begun_program, end_of, ran, end_at}
-use Rattle.dr_program.specs.Reading.{world}
-use Rattle.dr_program.specs.Running.{Running, begun_running}
-use Rattle.dr_program.specs.Schedule.{IsLockstep, is_between_turns}
-use Rattle.dr_program.specs.declared.setup.Setup.{Setup}
+use Rattle.dr_program.specs.{Reading.world, Running.{Running, begun_running}, Schedule.{IsLockstep, is_between_turns}}
+use Rattle.dr_program.proofs.{Opening.begins_at_the_opening, Present.{present_within, ended_there, present_map}}
 use Rattle.dr_program_laws.proofs.Ending as ending
-use Rattle.dr_program_laws.proofs.Programs.{all_stand}
+use Rattle.dr_program_laws.{specs.{Ended.IsComplete, Trusting.IsAtEase}, proofs.Programs.all_stand}
 use Rattle.dr_program_laws.proofs.Worlds.{of_there, end_told}
-use Rattle.dr_program_laws.specs.Ended.{IsComplete}
-use Rattle.dr_program_laws.specs.Trusting.{IsAtEase}
-use Rattle.dr_complete.specs.Time.{AllLenient, IsLenient}
+use Rattle.dr_complete.{specs.Time.{AllLenient, IsLenient}, proofs.Along.along_none}
+use Rattle.dr_complete.proofs.{Between.{ArePushed, HasWaited, IsBetween, IsUpright, member_at}, Rounds.rounds_keep}
 use Rattle.dr_suspect.specs.Waits.{beat_of, turns_without_news}
 use Rattle.dr_turn_laws.proofs.Steadying.{steady_begins}
-use Rattle.dr_complete.proofs.Along.{along_none}
-use Rattle.dr_complete.proofs.Rounds.{rounds_keep}
-use Rattle.dr_complete.proofs.Between.{ArePushed, HasWaited, IsBetween, IsUpright, member_at}
-use Rattle.dr_program.specs.Presence.{present_at}
-use Rattle.dr_program.proofs.Present.{present_within, ended_there, present_map}
 
 -- ---- the beginning
 
@@ -50,13 +36,11 @@ begins_whole setups m = rw (present_map begun_running setups m) (by (present_at 
 -- and no append has failed
 begins_well : (setups : List (Option Setup)) (m : ℕ) (r : Running)
     → present_at (map (option_map begun_running) setups) m ≡ Some r → r.failed ≡ None
-begins_well setups m r there =
-    by (present_at setups m) (sym (present_map begun_running setups m) ∙ there)
+begins_well setups m r there = by (present_at setups m) (sym (present_map begun_running setups m) ∙ there)
   where
     by : (o : Option Setup) → option_map begun_running o ≡ Some r → r.failed ≡ None
     by None same = absurd (cc)
-    by (Some s) same =
-        sym (ap (λ (x : Running). x.failed) (same_Some (begun_running s) r same))
+    by (Some s) same = sym (ap (λ (x : Running). x.failed) (same_Some (begun_running s) r same))
 
 -- each is one that its setup begins
 began_by : (setups : List (Option Setup)) (m : ℕ) (r : Running)
@@ -66,8 +50,7 @@ began_by setups m r there = by (present_at setups m) refl
   where
     by : (o : Option Setup) → present_at setups m ≡ o
         → (s : Setup) × (present_at setups m ≡ Some s) × (begun_running s ≡ r)
-    by None e = absurd (cc (ap (option_map begun_running) (sym e)
-        ∙ sym (present_map begun_running setups m) ∙ there))
+    by None e = absurd (cc (ap (option_map begun_running) (sym e) ∙ sym (present_map begun_running setups m) ∙ there))
     by (Some s) e = (
       s,
       e,
@@ -94,8 +77,7 @@ zero_at i = by (cases_lt i 16)
 begins_uncounted : (setups : List (Option Setup)) (m : ℕ) (r : Running)
     → present_at (map (option_map begun_running) setups) m ≡ Some r → (i : ℕ) → turns_without_news r.waits i ≡ 0
 begins_uncounted setups m r there i =
-    let t = began_by setups m r there in
-    ap (λ (x : Running). turns_without_news x.waits i) (sym t.2) ∙ zero_at i
+    let t = began_by setups m r there in ap (λ (x : Running). turns_without_news x.waits i) (sym t.2) ∙ zero_at i
 
 begins_easy : (setups : List (Option Setup)) → AllLenient setups
     → (m : ℕ) (r : Running) → present_at (map (option_map begun_running) setups) m ≡ Some r → IsAtEase r
@@ -134,8 +116,7 @@ begins_waiting g setups calm m r there unseen = record {
 
 -- all words are 0 but the logged ones
 begins_pushed : (g : Group) → ArePushed g (opening_world g)
-begins_pushed g i j c a b other inside apart begun =
-    test (has g.opening.members i) c _ (λ e. omega (arith, begun e))
+begins_pushed g i j c a b other inside apart begun = test (has g.opening.members i) c _ (λ e. omega (arith, begun e))
   where
     test : (is_member : Bool) (c x : ℕ) → (c ≡ LOGGED_COLUMN → ⊥)
         → 0 ≡ (if is_member && ((0 == 0) && (c == LOGGED_COLUMN)) then x else 0)
@@ -158,8 +139,7 @@ begins g limit most setups is nobody some small whole are calm = record {
     waits = λ m y there. begins_waiting g setups calm m y there (λ i. ap (λ
         (w : World). w.seen m i BEAT_COLUMN) opens);
   };
-  fresh = λ unended m i y there l d after.
-      inl (begins_uncounted setups m y there i);
+  fresh = λ unended m i y there l d after. inl (begins_uncounted setups m y there i);
   state = inr (record {
     early = omega arith;
     unended = λ i l. ap (λ (w : World). w.end i) opens;

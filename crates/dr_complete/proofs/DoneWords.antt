@@ -1,9 +1,7 @@
 -- Where a member has ended as done, all members of its view show done.
 use Rattle.std.proofs.Common.{Some, ℕ, ◌≡◌}
 use Rattle.dr_entry.specs.declared.end.End.TheVariants as ends
-use Rattle.dr_machine.specs.Group.{Group, IsGroup}
-use Rattle.dr_machine.specs.Run.{IsReached}
-use Rattle.dr_machine.specs.World.{World}
+use Rattle.dr_machine.specs.{Group.{Group, IsGroup}, Run.IsReached, World.World}
 use Rattle.dr_world_laws.proofs.Worlds.{known}
 use Rattle.dr_complete.specs.Reached.{AllShowDone}
 

@@ -1,19 +1,11 @@
 -- The age after one whose members are all complete starts with their whole history, and has nothing left.
+use Rattle.std.{specs.{Option.option_map_or, Prelude.Option}, proofs.lemmas.List.take_all}
 use Rattle.std.proofs.Common.{List, Some, [], ap, arith, inl, inr, length, length-append, slice_get, take, ℕ, ◌++◌, ◌∙◌, ◌∷◌, ◌≡◌}
-use Rattle.std.specs.Option.{option_map_or}
-use Rattle.std.specs.Prelude.{Option}
-use Rattle.std.proofs.lemmas.List.{take_all}
-use Rattle.dr_entry.specs.declared.end.MemberEnd.{MemberEnd}
-use Rattle.dr_entry.specs.declared.entry.Entry.{Entry}
-use Rattle.dr_history.specs.Agreement.{accounts_of}
+use Rattle.dr_entry.specs.declared.{end.MemberEnd.MemberEnd, entry.Entry.Entry}
+use Rattle.dr_history.specs.{Agreement.accounts_of, Order.first_entries, Restarting.{AreLeftBy, IsLeftBy, IsLongest}}
 use Rattle.dr_history.specs.declared.opening.Opening.{Opening}
-use Rattle.dr_history.specs.Order.{first_entries}
-use Rattle.dr_history.specs.Restarting.{AreLeftBy, IsLeftBy, IsLongest}
-use Rattle.dr_history_laws.proofs.Keeping.{prefix_shorter}
-use Rattle.dr_history_laws.proofs.Lists.{slice_get-some}
-use Rattle.dr_history_laws.specs.Remaining.{remaining}
-use Rattle.dr_machine.proofs.Presence.{in_roster}
-use Rattle.dr_machine.specs.Group.{Group, IsGroup, roster}
+use Rattle.dr_history_laws.{specs.Remaining.remaining, proofs.{Keeping.prefix_shorter, Lists.slice_get-some}}
+use Rattle.dr_machine.{specs.Group.{Group, IsGroup, roster}, proofs.Presence.in_roster}
 use Rattle.dr_program_laws.specs.Ended.{AreComplete, IsComplete}
 use Rattle.dr_world_laws.proofs.Wholes.{whole-leaves_none}
 
@@ -23,8 +15,7 @@ left_whole : (o : Opening) (ends : List MemberEnd) (m : ℕ) (e : MemberEnd) (es
 left_whole o ends m e es at complete = by
   where
     log : (accounts_of ends m).log ≡ e.history
-    log = ap (λ (end : Option MemberEnd).
-        option_map_or (λ (e : MemberEnd). take e.logged e.history) end []) at
+    log = ap (λ (end : Option MemberEnd). option_map_or (λ (e : MemberEnd). take e.logged e.history) end []) at
         ∙ take_all e.logged e.history (omega (arith, complete.logged))
 
     history : (accounts_of ends m).history ≡ e.history
@@ -43,9 +34,8 @@ left_whole o ends m e es at complete = by
 
 -- so the longest log has it
 pub starts_whole : (g : Group) (next : Opening) (ends : List MemberEnd) (lists : List (List Entry))
-    → IsGroup g → length ends ≡ roster g → AreComplete g.opening ends
-    → AreLeftBy g.opening (accounts_of ends) lists → IsLongest lists next.start
-    → next.start ≡ first_entries g.opening ++ remaining g.opening
+    → IsGroup g → length ends ≡ roster g → AreComplete g.opening ends → AreLeftBy g.opening (accounts_of ends) lists
+    → IsLongest lists next.start → next.start ≡ first_entries g.opening ++ remaining g.opening
 starts_whole g next ends lists is all complete left longest =
     let here = left.each longest.place next.start longest.one in
     let e = slice_get-some ends longest.place (omega (arith, in_roster g longest.place is here.0, all)) in

@@ -1,33 +1,15 @@
 -- A ring keeps the pieces of each item that was put, until those of a later one stand in their place.
 use Rattle.std.proofs.Common.{List, [], ap, arith, inl, inr, length, slice_index_or, subst, sym, ℕ, ◌++◌, ◌+◌, ◌<◌, ◌∙◌, ◌∷◌, ◌≡◌, ◌≢◌, ◌≤◌, ◌⊎◌}
-use Rattle.std.proofs.Math.Seq.{get_or-append_seam}
-use Rattle.std.proofs.lemmas.Bool.{cases_lt}
-use Rattle.std.proofs.lemmas.List.{length_push}
-use Rattle.dr_entry.specs.declared.end.SentItem.{SentItem}
-use Rattle.dr_entry.specs.declared.end.SentItem.TheVariants.{Null}
-use Rattle.dr_entry.specs.declared.entry.Item.{Item}
-use Rattle.dr_ring.specs.Pieces.{pieces}
-use Rattle.dr_ring.specs.Slots.{slot_column}
-use Rattle.dr_words.specs.Columns.{recv_column}
-use Rattle.dr_words.specs.Packing.{ring_tag}
-use Rattle.dr_machine.proofs.Presence.{in_roster}
-use Rattle.dr_machine.proofs.Runs.{reached}
-use Rattle.dr_machine.specs.Acts.{CanTake, Guard, effect, effect_of}
-use Rattle.dr_machine.specs.Effects.{puts, row_with, stamped}
-use Rattle.dr_machine.specs.Events.{member_of, step_of}
-use Rattle.dr_machine.specs.Group.{Group, IsGroup, roster}
-use Rattle.dr_machine.specs.Guards.{IsRunning}
-use Rattle.dr_machine.specs.Run.{IsReached}
-use Rattle.dr_machine.specs.World.{World, items_received}
-use Rattle.dr_machine.specs.Writes.{at, at₂, at₃}
-use Rattle.dr_machine.specs.declared.event.Event.{Event}
-use Rattle.dr_machine.specs.declared.step.Step.{Step}
-use Rattle.dr_faithful.proofs.Faithfulness.{puts_or_leaves}
-use Rattle.dr_faithful.proofs.Pasts.{item_kept}
-use Rattle.dr_faithful.proofs.Puts.{row_in}
-use Rattle.dr_faithful.proofs.Writes.{at₂_case}
-use Rattle.dr_faithful.specs.Faithful.{Numbers}
-use Rattle.dr_faithful.specs.Tells.{item_named, item_sent}
+use Rattle.std.proofs.{Math.Seq.get_or-append_seam, lemmas.{Bool.cases_lt, List.length_push}}
+use Rattle.dr_entry.specs.declared.{end.SentItem.{SentItem, TheVariants.Null}, entry.Item.Item}
+use Rattle.dr_ring.specs.{Pieces.pieces, Slots.slot_column}
+use Rattle.dr_words.specs.{Columns.recv_column, Packing.ring_tag}
+use Rattle.dr_machine.specs.{Acts.{CanTake, Guard, effect, effect_of}, Effects.{puts, row_with, stamped}}
+use Rattle.dr_machine.specs.{Events.{member_of, step_of}, Group.{Group, IsGroup, roster}, Guards.IsRunning}
+use Rattle.dr_machine.specs.{Run.IsReached, World.{World, items_received}, Writes.{at, at₂, at₃}}
+use Rattle.dr_machine.{specs.declared.{event.Event.Event, step.Step.Step}, proofs.{Presence.in_roster, Runs.reached}}
+use Rattle.dr_faithful.{specs.{Faithful.Numbers, Tells.{item_named, item_sent}}, proofs.Faithfulness.puts_or_leaves}
+use Rattle.dr_faithful.proofs.{Pasts.item_kept, Puts.row_in, Writes.at₂_case}
 use Rattle.dr_world_laws.proofs.Worlds.{Known, known, past_grew, words_grew}
 use Rattle.dr_complete.specs.Reached.{RingsKeep}
 
@@ -35,8 +17,7 @@ use Rattle.dr_complete.specs.Reached.{RingsKeep}
 
 -- they stand in the row, whatever becomes of the recv, received and beat words
 word_put : (own : Numbers) (m v s x y z c : ℕ) (row : ℕ → ℕ) → c ≢ recv_column s → c ≢ 2 → c ≢ 0
-    → at₃ (at₂ (at₂ own m v row) m v (at (at (at₂ own m v row m v) (recv_column s) x) 2 y)) m v 0 z m v c
-    ≡ row c
+    → at₃ (at₂ (at₂ own m v row) m v (at (at (at₂ own m v row m v) (recv_column s) x) 2 y)) m v 0 z m v c ≡ row c
 word_put own m v s x y z c row d e h = grind (arith, d, e, h)
 
 -- the world in which m has put an item of this name
@@ -56,34 +37,29 @@ tag_put g w m part name within needed =
     let row : ℕ → ℕ = row_with (w.past.own m v) from k list in
     subst (λ (z : ℕ). k + 1 ≤ ring_tag z)
     (sym (word_put w.past.own m v m _ _ _ (from + part) row (λ e. omega (arith, e, within))
-    (λ e. omega (arith, e)) (λ e. omega (arith, e)) ∙ row_in (w.past.own m v) from k part list needed))
-    (omega arith)
+    (λ e. omega (arith, e)) (λ e. omega (arith, e)) ∙ row_in (w.past.own m v) from k part list needed)) (omega arith)
 
 -- ---- a step
 
 -- item k was put before the step, or this part of it stands in the ring after it
 abbrev Stands : Group → World → World → ℕ → ℕ → ℕ → ℕ → Type 0
-Stands g w u s v k part =
-    (k < length (w.past.sent s v))
+Stands g w u s v k part = (k < length (w.past.sent s v))
     ⊎ (k + 1 ≤ ring_tag (u.past.own s v (slot_column (roster g) g.window k + part)))
 
 -- an item that is put stands so
 put_stands : (g : Group) (w : World) (m s v k part : ℕ) (name : SentItem) → m < roster g
-    → length (w.past.sent m (w.past.view m)) ≡ items_received w m m
-    → k < length ((with_put g w m name).past.sent s v)
+    → length (w.past.sent m (w.past.view m)) ≡ items_received w m m → k < length ((with_put g w m name).past.sent s v)
     → part < length (pieces (item_sent g (with_put g w m name).past.sent s v k))
     → Stands g w (with_put g w m name) s v k part
 put_stands g w m s v k part name within all =
-    at₂_case (λ a u items. k < length items
-    → part < length (pieces (item_named g a (slice_index_or items k Null)))
+    at₂_case (λ a u items. k < length items → part < length (pieces (item_named g a (slice_index_or items k Null)))
     → Stands g w (with_put g w m name) a u k part) w.past.sent m (w.past.view m) (before ++ name ∷ [])
     (λ a u l needed. inl l) new s v
   where
     before : List SentItem
     before = w.past.sent m (w.past.view m)
 
-    last : k ≡ length before
-        → part < length (pieces (item_named g m (slice_index_or (before ++ name ∷ []) k Null)))
+    last : k ≡ length before → part < length (pieces (item_named g m (slice_index_or (before ++ name ∷ []) k Null)))
         → Stands g w (with_put g w m name) m (w.past.view m) k part
     last e needed =
         let named : slice_index_or (before ++ name ∷ []) k Null ≡ name =
@@ -97,8 +73,7 @@ put_stands g w m s v k part name within all =
         → Stands g w (with_put g w m name) m (w.past.view m) k part
     new l needed = by (cases_lt k (length before))
       where
-        by : (k < length before) ⊎ (length before ≤ k)
-            → Stands g w (with_put g w m name) m (w.past.view m) k part
+        by : (k < length before) ⊎ (length before ≤ k) → Stands g w (with_put g w m name) m (w.past.view m) k part
         by (inl earlier) = inl earlier
         by (inr late) = last (omega (arith, l, late, length_push before name)) needed
 
@@ -112,10 +87,9 @@ step_stands g w m step s v k part is can all l needed = by (puts_or_leaves g w m
   where
     by : ((name : SentItem) × IsRunning g w m × (effect_of g w m step ≡ with_put g w m name))
         ⊎ ((effect_of g w m step).past.sent ≡ w.past.sent) → Stands g w (effect_of g w m step) s v k part
-    by (inl (name, running, same)) =
-        subst (λ (u : World). k < length (u.past.sent s v)
-        → part < length (pieces (item_sent g u.past.sent s v k)) → Stands g w u s v k part) (sym same)
-        (put_stands g w m s v k part name (in_roster g m is running.present) all) l needed
+    by (inl (name, running, same)) = subst (λ (u : World). k < length (u.past.sent s v)
+        → part < length (pieces (item_sent g u.past.sent s v k)) → Stands g w u s v k part)
+        (sym same) (put_stands g w m s v k part name (in_roster g m is running.present) all) l needed
     by (inr same) = inl (subst (λ sent. k < length (sent s v)) same l)
 
 -- ---- every run
@@ -123,9 +97,8 @@ step_stands g w m step s v k part is can all l needed = by (puts_or_leaves g w m
 -- what stands in a ring stays, or makes place for later items
 event_keeps : (g : Group) (w : World) (e : Event) → IsGroup g → IsReached g w → Guard g w e
     → RingsKeep g w.past → RingsKeep g (effect g w e).past
-event_keeps g w e is run can rings s v k part l below needed =
-    by (step_stands g w (member_of e) (step_of e) s v k part is can
-    (y.chosen.faithful.sent.all (member_of e) (w.past.view (member_of e))) below needed)
+event_keeps g w e is run can rings s v k part l below needed = by (step_stands g w (member_of e)
+    (step_of e) s v k part is can (y.chosen.faithful.sent.all (member_of e) (w.past.view (member_of e))) below needed)
   where
     y : Known g w
     y = known g w is run
@@ -143,6 +116,5 @@ event_keeps g w e is run can rings s v k part l below needed =
 
 -- rings keep their items in every world that is reached: words that arrive change no ring of an owner
 pub rings_keep : (g : Group) (w : World) → IsGroup g → IsReached g w → RingsKeep g w.past
-rings_keep g w is r = reached g (λ u. RingsKeep g u.past)
-    (λ u e run can rings. event_keeps g u e is run can rings) (λ u table rings. rings)
-    (λ s v k part l below needed. absurd (omega (arith, below))) w r
+rings_keep g w is r = reached g (λ u. RingsKeep g u.past) (λ u e run can rings. event_keeps g u e is run can rings)
+    (λ u table rings. rings) (λ s v k part l below needed. absurd (omega (arith, below))) w r

@@ -1,32 +1,18 @@
 -- Rounds: each member has its turn, again and again.
+use Rattle.std.{specs.{List.range_with_len, Prelude.{Option, is_some}}, proofs.lemmas.Bool.cases_lt}
 use Rattle.std.proofs.Common.{List, ◌++◌, length, None, Some, ap, arith, inl, inr, refl, subst, sym, true, false, zero, zero-add, suc, ℕ, ◌*◌, ◌+◌, ◌<◌, ◌∙◌, ◌≡◌, ◌≤◌, ◌⊎◌, ◌||◌, Bool}
-use Rattle.std.specs.Prelude.{Option, is_some}
-use Rattle.std.specs.List.{range_with_len}
-use Rattle.std.proofs.Math.Seq.{drop-append_seam, take-append_seam}
-use Rattle.std.proofs.lemmas.Bool.{cases_lt}
-use Rattle.std.proofs.lemmas.List.Elements.{All-drop, All-take}
+use Rattle.std.proofs.{Math.Seq.{drop-append_seam, take-append_seam}, lemmas.List.Elements.{All-drop, All-take}}
 use Rattle.dr_entry.specs.declared.end.End.{End}
-use Rattle.dr_machine.specs.Group.{Group, roster}
-use Rattle.dr_machine.specs.World.{opening_world}
+use Rattle.dr_machine.specs.{Group.{Group, roster}, World.opening_world}
 use Rattle.dr_program.specs.declared.outcome.Outcome.TheVariants as outcomes
-use Rattle.dr_program.specs.Program.{AllOk, Move, Program, has_ended}
-use Rattle.dr_program.specs.Reading.{world}
-use Rattle.dr_program.specs.Running.{Running}
-use Rattle.dr_program.specs.Schedule.{IsTurn, Rounds, TakeTurns, TakesTurn, is_between_turns}
-use Rattle.dr_program.specs.Turn.{is_beat, part_of}
-use Rattle.dr_program.specs.declared.setup.Setup.{Setup}
+use Rattle.dr_program.specs.{Form.IsOf, Presence.present_at, Program.{AllOk, Move, Program, has_ended}, Reading.world}
+use Rattle.dr_program.specs.{Running.Running, Schedule.{IsTurn, Rounds, TakeTurns, TakesTurn, is_between_turns}}
+use Rattle.dr_program.{specs.{Turn.{is_beat, part_of}, declared.setup.Setup.Setup}, proofs.Present.present_within}
 use Rattle.dr_turn.proofs.Search.{beat_test}
-use Rattle.dr_program_laws.proofs.Programs.{AllStand, ran_stands}
-use Rattle.dr_program_laws.proofs.Worlds.{of_there}
-use Rattle.dr_turn_laws.proofs.Turning.{takes_turn}
+use Rattle.dr_program_laws.{specs.Trusting.MayWait, proofs.{Programs.{AllStand, ran_stands}, Worlds.of_there}}
+use Rattle.dr_turn_laws.{specs.Steady.IsSteady, proofs.Turning.takes_turn}
 use Rattle.dr_complete.proofs.Between.{AreFresh, HasWaited, IsAfter, IsBetween, IsFit, IsGoing, ShowDone, first_of, member_at}
-use Rattle.dr_program.specs.Form.{IsOf}
-use Rattle.dr_turn_laws.specs.Steady.{IsSteady}
-use Rattle.dr_program_laws.specs.Trusting.{MayWait}
-use Rattle.dr_complete.proofs.Firsts.{of_roster}
-use Rattle.dr_complete.proofs.Turns.{turn_keeps}
-use Rattle.dr_program.specs.Presence.{present_at}
-use Rattle.dr_program.proofs.Present.{present_within}
+use Rattle.dr_complete.proofs.{Firsts.of_roster, Turns.turn_keeps}
 
 -- ---- moves
 
@@ -66,8 +52,7 @@ may_wait g p x y steady there none waited = by waited.limit
 -- it takes its turn
 takes : (g : Group) (setups : List (Option Setup)) (limit most r x : ℕ) (p : Program) (es : List Move)
     (q : Program) → IsFit g setups limit most → x < roster g → IsBetween g setups most r x p
-    → has_ended (present_at p.members x) ≡ false → AllOk es → IsTurn x p es q
-    → IsBetween g setups most r (x + 1) q
+    → has_ended (present_at p.members x) ≡ false → AllOk es → IsTurn x p es q → IsBetween g setups most r (x + 1) q
 takes g setups limit most r x p es q fit l between going well turn =
     let member = member_at g p x between.paused.steady l in
     let y = member.0 in
@@ -91,8 +76,7 @@ takes g setups limit most r x p es q fit l between going well turn =
 
 -- a member that has ended leaves the program as it is; all show done then
 passes : (g : Group) (setups : List (Option Setup)) (most r x : ℕ) (p : Program) → x < roster g
-    → IsBetween g setups most r x p → has_ended (present_at p.members x) ≡ true
-    → IsBetween g setups most r (x + 1) p
+    → IsBetween g setups most r x p → has_ended (present_at p.members x) ≡ true → IsBetween g setups most r (x + 1) p
 passes g setups most r x p l between over =
     record { paused = between.paused; fresh = fresh; state = state between.state }
   where
@@ -115,13 +99,11 @@ passes g setups most r x p l between over =
 -- ---- a round
 
 -- each member from x on has its turn
-turns_keep : (g : Group) (setups : List (Option Setup)) (limit most r d x : ℕ) (p : Program) (es : List Move)
-    (q : Program) → IsFit g setups limit most → x + d ≡ roster g
-    → IsBetween g setups most r x p → AllOk es → TakeTurns (range_with_len x d) p es q
-    → IsBetween g setups most r (roster g) q
-turns_keep g setups limit most r zero x p es q fit all between well (none, same) =
-    subst (IsBetween g setups most r (roster g)) (sym same)
-    (subst (λ n. IsBetween g setups most r n p) (omega (arith, all)) between)
+turns_keep : (g : Group) (setups : List (Option Setup)) (limit most r d x : ℕ) (p : Program)
+    (es : List Move) (q : Program) → IsFit g setups limit most → x + d ≡ roster g → IsBetween g setups most r x p
+    → AllOk es → TakeTurns (range_with_len x d) p es q → IsBetween g setups most r (roster g) q
+turns_keep g setups limit most r zero x p es q fit all between well (none, same) = subst (IsBetween g setups most r
+    (roster g)) (sym same) (subst (λ n. IsBetween g setups most r n p) (omega (arith, all)) between)
 turns_keep g setups limit most r (suc d) x p es q fit all between well (turn, rest, mid, both, first, more) =
     turns_keep g setups limit most r d (x + 1) mid rest q fit (omega (arith, all)) (by first) parts.1 more
   where
@@ -139,8 +121,7 @@ turns_keep g setups limit most r (suc d) x p es q fit all between well (turn, re
 -- where all members have had their turn, the next round begins, or all show done
 round_over : (g : Group) (setups : List (Option Setup)) (most r : ℕ) (p : Program)
     → IsBetween g setups most r (roster g) p → IsBetween g setups most (r + 1) 0 p
-round_over g setups most r p between =
-    record { paused = between.paused; fresh = fresh; state = state between.state }
+round_over g setups most r p between = record { paused = between.paused; fresh = fresh; state = state between.state }
   where
     fresh : ((i : ℕ) → i < roster g → (world g p).end i ≡ None) → AreFresh g 0 p
     fresh unended m i y there l d after = between.fresh unended m i y there l d (by after)
@@ -183,5 +164,4 @@ rounds_keep g setups limit most (suc k) r p es q fit between well (round, rest, 
     let all = between.paused.steady.program.all in
     let over = turns_keep g setups limit most r (roster g) 0 p round mid fit (zero-add (roster g)) between
     parts.0 (subst (λ n. TakeTurns (range_with_len 0 n) p round mid) all first) in
-    rounds_keep g setups limit most k (r + 1) mid rest q fit (round_over g setups most r mid over) parts.1
-    more
+    rounds_keep g setups limit most k (r + 1) mid rest q fit (round_over g setups most r mid over) parts.1 more

@@ -1,25 +1,17 @@
 -- A member that has seen a sender's ring as it stands, and finds no item ready, has all that was put.
 use Rattle.std.proofs.Common.{ap, arith, inl, inr, length, refl, slice_index, subst, sym, ℕ, ◌%◌, ◌+◌, ◌<◌, ◌∙◌, ◌≡◌, ◌≤◌, ◌⊎◌}
-use Rattle.std.proofs.lemmas.Bool.{cases_lt}
-use Rattle.std.proofs.lemmas.Nat.{mod_below}
-use Rattle.dr_entry.specs.declared.entry.Item.{Item}
-use Rattle.dr_entry.specs.declared.entry.Item.TheVariants.{Null, Text}
+use Rattle.std.proofs.lemmas.{Bool.cases_lt, Nat.mod_below}
+use Rattle.dr_entry.specs.declared.entry.Item.{Item, TheVariants.{Null, Text}}
 use Rattle.dr_history.specs.Members.{has}
+use Rattle.dr_ring.specs.{Pieces.{body_len, body_pieces, head_piece, null_mark, pieces}, Slots.IsReady}
 use Rattle.dr_ring.proofs.Items.{IsItem, body_len-pieces, few_pieces, head_fits}
-use Rattle.dr_ring.specs.Pieces.{body_len, body_pieces, head_piece, null_mark, pieces}
-use Rattle.dr_ring.specs.Slots.{IsReady}
 use Rattle.dr_words.specs.Packing.{ring_low, ring_tag, ring_word}
-use Rattle.dr_machine.specs.Group.{Group, IsGroup, roster}
-use Rattle.dr_machine.specs.Guards.{IsInView, IsOther, seen_slot}
-use Rattle.dr_machine.specs.Run.{IsReached}
+use Rattle.dr_machine.specs.{Group.{Group, IsGroup, roster}, Guards.{IsInView, IsOther, seen_slot}, Run.IsReached}
 use Rattle.dr_machine.specs.World.{World, items_received}
+use Rattle.dr_faithful.specs.{Chosen.views_by, Faithful.Faithful, Tells.{item_sent, part_column}}
 use Rattle.dr_faithful.proofs.Pieces.{piece_of, sent_item}
-use Rattle.dr_faithful.specs.Chosen.{views_by}
-use Rattle.dr_faithful.specs.Faithful.{Faithful}
-use Rattle.dr_faithful.specs.Tells.{item_sent, part_column}
 use Rattle.dr_world_laws.proofs.Worlds.{Known, known, no_later}
-use Rattle.dr_complete.proofs.Rings.{rings_keep}
-use Rattle.dr_complete.specs.Reached.{SeesSlot}
+use Rattle.dr_complete.{specs.Reached.SeesSlot, proofs.Rings.rings_keep}
 
 -- the head of an item is its length, or the mark of a null
 short_or_null : (item : Item) → IsItem item → (head_piece item ≤ 64) ⊎ (head_piece item ≡ null_mark)
@@ -52,8 +44,7 @@ sees_pieces : (g : Group) (w : World) (m s : ℕ) → IsGroup g → IsReached g 
     (seen_slot g w m s (items_received w m s))
 sees_pieces g w m s is run inside other fresh below part needed = (
   tag,
-  (piece_of
-      g (length (w.past.sent s v)) (item_sent g w.past.sent s v) (k % g.window) part
+  (piece_of g (length (w.past.sent s v)) (item_sent g w.past.sent s v) (k % g.window) part
       (seen_slot g w m s k part) k (λ i. sent_item g w.past.sent s v i is)
       ((f.words.seen m s (part_column g (k % g.window) part)).ring (k % g.window) part
       (mod_below k g.window is.some_slot) few refl) tag).1,
@@ -87,8 +78,7 @@ sees_pieces g w m s is run inside other fresh below part needed = (
 
 -- so it has taken all of them
 pub takes_all : (g : Group) (w : World) (m s : ℕ) → IsGroup g → IsReached g w → IsInView w m
-    → IsOther w m s → SeesSlot g w m s
-    → ¬ IsReady (items_received w m s) (seen_slot g w m s (items_received w m s))
+    → IsOther w m s → SeesSlot g w m s → ¬ IsReady (items_received w m s) (seen_slot g w m s (items_received w m s))
     → items_received w m s ≡ w.past.count s (w.past.view m) s
 takes_all g w m s is run inside other fresh none = by (cases_lt (items_received w m s) (length (w.past.sent s v)))
   where

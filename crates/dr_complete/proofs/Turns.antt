@@ -1,37 +1,23 @@
 -- A turn of a member, in a round in which the members below it have had theirs.
+use Rattle.std.{specs.Prelude.{Any, Option}, proofs.lemmas.Bool.{cases_eq, cases_lt, Decides.nat_tests}}
 use Rattle.std.proofs.Common.{Bool, List, None, Some, [], ap, arith, if◌then◌else◌, inl, inr, min, refl, subst, suc, sym, true, false, ℕ, ◌+◌, ◌-◌, ◌^◌, ◌==◌, ◌<◌, ◌∙◌, ◌≡◌, ◌≢◌, ◌≤◌, ◌⊎◌}
-use Rattle.std.specs.Prelude.{Any, Option}
-use Rattle.std.proofs.lemmas.Bool.{cases_eq, cases_lt}
-use Rattle.std.proofs.lemmas.Bool.Decides.{nat_tests}
 use Rattle.dr_entry.specs.declared.end.End.{End}
 use Rattle.dr_entry.specs.declared.end.End.TheVariants as ends
 use Rattle.dr_words.specs.declared.column.TheConstants.{BEAT_COLUMN, DONE_COLUMN, LOGGED_COLUMN}
+use Rattle.dr_machine.specs.{Group.{Group, columns, roster}, World.{World, opening_world, shown}}
 use Rattle.dr_machine.proofs.Presence.{is_present}
-use Rattle.dr_machine.specs.Group.{Group, columns, roster}
-use Rattle.dr_machine.specs.World.{World, opening_world, shown}
-use Rattle.dr_program.proofs.Holdings.{Holding, held}
-use Rattle.dr_program.specs.Program.{Program}
-use Rattle.dr_program.specs.Reading.{world}
-use Rattle.dr_program.specs.Running.{Running}
-use Rattle.dr_program.specs.Schedule.{is_between_turns}
-use Rattle.dr_program.specs.declared.setup.CrashPoint.{CrashPoint}
-use Rattle.dr_program.specs.declared.setup.Setup.{Setup}
-use Rattle.dr_faithful.specs.Chosen.{views_by}
-use Rattle.dr_program_laws.proofs.Programs.{AllStand}
-use Rattle.dr_program_laws.proofs.Standing.{IsProper}
-use Rattle.dr_program_laws.proofs.Worlds.{of_there}
-use Rattle.dr_program_laws.specs.Failing.{has_log_end}
+use Rattle.dr_program.specs.{Presence.present_at, Program.Program, Reading.world, Running.Running}
+use Rattle.dr_program.specs.{Schedule.is_between_turns, declared.setup.{CrashPoint.CrashPoint, Setup.Setup}}
+use Rattle.dr_program.proofs.{Holdings.{Holding, held}, Present.present_within}
+use Rattle.dr_faithful.{specs.Chosen.views_by, proofs.Shown.done_is_one}
+use Rattle.dr_program_laws.{specs.{Failing.has_log_end, Trusting.has_been_left}, proofs.Programs.AllStand}
+use Rattle.dr_program_laws.proofs.{Standing.IsProper, Worlds.of_there}
 use Rattle.dr_turn_laws.specs.Rested.{HasCompared, HasTurned, IsRested}
 use Rattle.dr_suspect.specs.Waits.{beat_of, next_count, turns_without_news}
-use Rattle.dr_program_laws.specs.Trusting.{has_been_left}
-use Rattle.dr_complete.proofs.Between.{AreFresh, ArePushed, HasGone, HasWaited, IsAfter, IsBetween, IsFit, IsGoing, IsUpright, ShowDone, first_of, member_at, same_held}
-use Rattle.dr_complete.proofs.Along.{IsAlong, along_less, along_more, in_view_is, shown_mine, shown_other}
-use Rattle.dr_complete.proofs.DoneWords.{done_shows_all}
-use Rattle.dr_faithful.proofs.Shown.{done_is_one}
-use Rattle.dr_complete.proofs.Firsts.{IsFirst, members_are, of_members, own_first, told}
 use Rattle.dr_complete.specs.Reached.{AllShowDone}
-use Rattle.dr_program.specs.Presence.{present_at}
-use Rattle.dr_program.proofs.Present.{present_within}
+use Rattle.dr_complete.proofs.Along.{IsAlong, along_less, along_more, in_view_is, shown_mine, shown_other}
+use Rattle.dr_complete.proofs.Between.{AreFresh, ArePushed, HasGone, HasWaited, IsAfter, IsBetween, IsFit, IsGoing, IsUpright, ShowDone, first_of, member_at, same_held}
+use Rattle.dr_complete.proofs.{DoneWords.done_shows_all, Firsts.{IsFirst, members_are, of_members, own_first, told}}
 
 -- member x has taken its turn, by which p has become q
 pub record HasTaken (g : Group) (setups : List (Option Setup)) (limit most r x : ℕ) (p q : Program) : Type 0 where
@@ -49,8 +35,7 @@ pub record HasTaken (g : Group) (setups : List (Option Setup)) (limit most r x :
 
 -- the others are as they were
 others_same : {g : Group} {setups : List (Option Setup)} {limit most r x : ℕ} {p q : Program}
-    → HasTaken g setups limit most r x p q → (i : ℕ) → i ≢ x
-    → held (world g q) i ≡ held (world g p) i
+    → HasTaken g setups limit most r x p q → (i : ℕ) → i ≢ x → held (world g q) i ≡ held (world g p) i
 others_same {g = g} {p = p} {q = q} t i other = same_held g p q i (t.turned.others i other)
 
 -- ---- how the member has ended
@@ -76,16 +61,14 @@ proper_end limit turns (Some (ends.NoMajority mask)) proper logs kept = absurd (
 proper_end limit turns (Some (ends.Excluded view)) proper logs kept = absurd (cc)
 proper_end limit turns (Some ends.Absent) proper logs kept = absurd proper
 
-uncrashed : (limit turns : ℕ) (end : Option End) → IsUprightOrSpent limit turns end
-    → end ≢ Some ends.Crashed
+uncrashed : (limit turns : ℕ) (end : Option End) → IsUprightOrSpent limit turns end → end ≢ Some ends.Crashed
 uncrashed limit turns end (inl (inl none)) e = cc
 uncrashed limit turns end (inl (inr is_done)) e = cc
 uncrashed limit turns end (inr spent) e = spent.1 e
 
 -- so it is with the member that has taken its turn
 end_so : {g : Group} {setups : List (Option Setup)} {limit most r x : ℕ} {p q : Program}
-    → HasTaken g setups limit most r x p q
-    → IsUprightOrSpent limit ((world g q).turns x) ((world g q).end x)
+    → HasTaken g setups limit most r x p q → IsUprightOrSpent limit ((world g q).turns x) ((world g q).end x)
 end_so {g = g} {setups = setups} {limit = limit} {x = x} {q = q} t =
     let member = member_at g q x t.turned.steady t.within in
     let setup = t.fit.are.there x t.within (is_present g x t.turned.steady.whole t.within) in
@@ -103,8 +86,7 @@ has_rested {g = g} {limit = limit} {x = x} {q = q} t = by t.turned.rested
   where
     by : ((world g q).end x ≡ Some ends.Crashed) ⊎ IsRested g (world g q) x → IsRested g (world g q) x
     by (inr rested) = rested
-    by (inl crashed) =
-        absurd (uncrashed limit ((world g q).turns x) ((world g q).end x) (end_so t) crashed)
+    by (inl crashed) = absurd (uncrashed limit ((world g q).turns x) ((world g q).end x) (end_so t) crashed)
 
 -- ---- what was pushed
 
@@ -137,24 +119,19 @@ still_pushed {g = g} {x = x} {q = q} t i j c a b other inside apart begun = by (
     w = world g q
 
     by : (i ≡ x) ⊎ (i ≢ x) → (world g q).table 0 j i c ≡ (world g q).past.own i 0 c
-    by (inl e) = rw e (subst (λ (v : ℕ). w.table v j x c ≡ w.past.own x v c)
-        ((first_behind t).view x)
-        ((has_rested t).pushed j c b (λ z. other (z ∙ sym e)) inside
-        (λ z. absurd (apart z))))
+    by (inl e) = rw e (subst (λ (v : ℕ). w.table v j x c ≡ w.past.own x v c) ((first_behind t).view x)
+        ((has_rested t).pushed j c b (λ z. other (z ∙ sym e)) inside (λ z. absurd (apart z))))
     by (inr d) =
         let same = others_same t i d in
-        others_stay t i j c d a b other inside
-        ∙ t.before.paused.pushed i j c a b other inside apart
+        others_stay t i j c d a b other inside ∙ t.before.paused.pushed i j c a b other inside apart
         (λ z. subst (λ (n : ℕ). 1 ≤ n) (ap (λ (h : Holding). h.turns) same) (begun z))
         ∙ ap (λ (h : Holding). h.own 0 c) (sym same)
 
 -- and the member sees them so
 sees_own : {g : Group} {setups : List (Option Setup)} {limit most r x : ℕ} {p q : Program}
-    → HasTaken g setups limit most r x p q → (i c : ℕ) → i < roster g → i ≢ x → c < columns g
-    → c ≢ BEAT_COLUMN → (c ≡ LOGGED_COLUMN → 1 ≤ (world g q).turns i)
-    → (world g q).seen x i c ≡ (world g q).past.own i 0 c
-sees_own {g = g} {x = x} {q = q} t i c a other inside apart begun =
-    (has_rested t).seen i c a other inside
+    → HasTaken g setups limit most r x p q → (i c : ℕ) → i < roster g → i ≢ x → c < columns g → c ≢ BEAT_COLUMN
+    → (c ≡ LOGGED_COLUMN → 1 ≤ (world g q).turns i) → (world g q).seen x i c ≡ (world g q).past.own i 0 c
+sees_own {g = g} {x = x} {q = q} t i c a other inside apart begun = (has_rested t).seen i c a other inside
     ∙ ap (λ v. (world g q).table v x i c) ((first_behind t).view x)
     ∙ still_pushed t i x c a t.within (λ e. other (sym e)) inside apart begun
 
@@ -178,10 +155,8 @@ still_show {g = g} {x = x} {p = p} {q = q} t shows i a = by (cases_eq i x)
 
 -- and the member, which sees them all, has ended as done
 ends_done : {g : Group} {setups : List (Option Setup)} {limit most r x : ℕ} {p q : Program}
-    → HasTaken g setups limit most r x p q → ShowDone g (world g q)
-    → (world g q).end x ≡ Some ends.Done
-ends_done {g = g} {x = x} {q = q} t shows =
-    (has_rested t).done.1
+    → HasTaken g setups limit most r x p q → ShowDone g (world g q) → (world g q).end x ≡ Some ends.Done
+ends_done {g = g} {x = x} {q = q} t shows = (has_rested t).done.1
     (λ i member. by i (cases_eq i x) (in_view_is y x i member))
   where
     y : IsFirst g (world g q)
@@ -190,10 +165,8 @@ ends_done {g = g} {x = x} {q = q} t shows =
     by : (i : ℕ) → (i ≡ x) ⊎ (i ≢ x) → i < roster g → shown (world g q) x i DONE_COLUMN ≡ 1
     by i (inl e) a = shown_mine (world g q) x i DONE_COLUMN 1 e
         (own_first y x DONE_COLUMN ∙ shows x (of_members y x t.within))
-    by i (inr d) a = shown_other (world g q) x i DONE_COLUMN 1 d
-        (sees_own t i DONE_COLUMN a d (omega arith) (λ e. omega (arith, e))
-        (λ e. absurd (omega (arith, e)))
-        ∙ shows i (of_members y i a))
+    by i (inr d) a = shown_other (world g q) x i DONE_COLUMN 1 d (sees_own t i DONE_COLUMN a d
+        (omega arith) (λ e. omega (arith, e)) (λ e. absurd (omega (arith, e))) ∙ shows i (of_members y i a))
 
 -- ---- where nobody has ended
 
@@ -202,8 +175,7 @@ went : {g : Group} {setups : List (Option Setup)} {limit most r x : ℕ} {p q : 
     → HasTaken g setups limit most r x p q → IsGoing g most r x (world g p) → (i : ℕ) → i < roster g
     → i ≢ x → (r ≤ (world g q).turns i) × IsAlong g most r i (held (world g q) i)
 went {g = g} {most = most} {r = r} {x = x} {p = p} t go i a other =
-    subst (λ (h : Holding). (r ≤ h.turns) × IsAlong g most r i h)
-    (sym (others_same t i other)) (by (cases_lt i x))
+    subst (λ (h : Holding). (r ≤ h.turns) × IsAlong g most r i h) (sym (others_same t i other)) (by (cases_lt i x))
   where
     by : (i < x) ⊎ (x ≤ i) → (r ≤ (world g p).turns i) × IsAlong g most r i (held (world g p) i)
     by (inl l) = let gone = go.gone i a l in
@@ -221,8 +193,7 @@ comes_on {g = g} {most = most} {r = r} {x = x} {q = q} t go = (
     member = t.within;
     few = t.fit.few;
     rested = has_rested t;
-    sees = λ i c a other inside apart begun.
-        sees_own t i c a other inside apart
+    sees = λ i c a other inside apart begun. sees_own t i c a other inside apart
         (λ e. omega (arith, begun e, (went t go i a other).0));
     others = λ i a other. (went t go i a other).1;
   }),
@@ -234,20 +205,13 @@ comes_on {g = g} {most = most} {r = r} {x = x} {q = q} t go = (
 -- the member goes on, or has ended as done
 stays_upright : {g : Group} {setups : List (Option Setup)} {limit most r x : ℕ} {p q : Program}
     → HasTaken g setups limit most r x p q → IsUpright ((world g q).end x)
-stays_upright {g = g} {limit = limit} {most = most} {r = r} {x = x} {p = p} {q = q} t =
-    by t.before.state (end_so t)
+stays_upright {g = g} {limit = limit} {most = most} {r = r} {x = x} {p = p} {q = q} t = by t.before.state (end_so t)
   where
     by : ShowDone g (world g p) ⊎ IsGoing g most r x (world g p)
         → IsUprightOrSpent limit ((world g q).turns x) ((world g q).end x) → IsUpright ((world g q).end x)
     by state (inl upright) = upright
     by (inl shows) how = inr (ends_done t (still_show t shows))
-    by (inr go) (inr spent) = absurd (omega (
-      arith,
-      spent.0,
-      (comes_on t go).0,
-      go.early,
-      t.fit.enough,
-    ))
+    by (inr go) (inr spent) = absurd (omega (arith, spent.0, (comes_on t go).0, go.early, t.fit.enough))
 
 -- where it goes on, so do all
 goes_on : {g : Group} {setups : List (Option Setup)} {limit most r x : ℕ} {p q : Program}
@@ -268,8 +232,7 @@ goes_on {g = g} {most = most} {r = r} {x = x} {p = p} {q = q} t go none = record
     unended i a (inl e) = rw e none
     unended i a (inr d) = ap (λ (h : Holding). h.end) (same i d) ∙ go.unended i a
 
-    gone : (i : ℕ) → i < roster g → i < x + 1 → (i ≡ x) ⊎ (i ≢ x)
-        → HasGone g most (r + 1) i (held (world g q) i)
+    gone : (i : ℕ) → i < roster g → i < x + 1 → (i ≡ x) ⊎ (i ≢ x) → HasGone g most (r + 1) i (held (world g q) i)
     gone i a l (inl e) = rw e (comes_on t go)
     gone i a l (inr d) = subst (HasGone g most (r + 1) i) (sym (same i d)) (go.gone i a (omega (arith, l, d)))
 
@@ -298,8 +261,7 @@ newly count last beat (inr less) = by (beat == last) refl
 still_waits : {g : Group} {setups : List (Option Setup)} {limit most r x : ℕ} {p q : Program}
     → HasTaken g setups limit most r x p q → (m : ℕ) (y : Running) → present_at q.members m ≡ Some y
     → HasWaited g (world g q) m y
-still_waits {g = g} {limit = limit} {most = most} {r = r} {x = x} {p = p} {q = q} t m y there =
-    by (cases_eq m x)
+still_waits {g = g} {limit = limit} {most = most} {r = r} {x = x} {p = p} {q = q} t m y there = by (cases_eq m x)
   where
     before : HasWaited g (world g p) x t.start
     before = t.before.paused.waits x t.start t.began
@@ -307,19 +269,16 @@ still_waits {g = g} {limit = limit} {most = most} {r = r} {x = x} {p = p} {q = q
     fresh_there : (i : ℕ) → i < roster g → i ≢ x → IsGoing g most r x (world g p)
         → (turns_without_news t.start.waits i ≡ 0)
         ⊎ ((world g p).seen x i BEAT_COLUMN < (world g p).table 0 x i BEAT_COLUMN)
-    fresh_there i l d go = t.before.fresh go.unended x i t.start t.began l d
-        (inl (omega arith, sides (cases_lt i x)))
+    fresh_there i l d go = t.before.fresh go.unended x i t.start t.began l d (inl (omega arith, sides (cases_lt i x)))
       where
         sides : (i < x) ⊎ (x ≤ i) → (x < i) ⊎ (i < x)
         sides (inl less) = inr less
         sides (inr more) = inl (omega (arith, more, d))
 
     -- what it sees is what stood in the table before
-    sees : (i : ℕ) → i < roster g → i ≢ x
-        → (world g q).seen x i BEAT_COLUMN ≡ (world g p).table 0 x i BEAT_COLUMN
-    sees i l d = (has_rested t).seen i BEAT_COLUMN l d (omega arith)
-        ∙ ap (λ v. (world g q).table v x i BEAT_COLUMN) ((first_behind t).view x)
-        ∙ others_stay t i x BEAT_COLUMN d l t.within (λ e. d (sym e)) (omega arith)
+    sees : (i : ℕ) → i < roster g → i ≢ x → (world g q).seen x i BEAT_COLUMN ≡ (world g p).table 0 x i BEAT_COLUMN
+    sees i l d = (has_rested t).seen i BEAT_COLUMN l d (omega arith) ∙ ap (λ v. (world g q).table v x i BEAT_COLUMN)
+        ((first_behind t).view x) ∙ others_stay t i x BEAT_COLUMN d l t.within (λ e. d (sym e)) (omega arith)
 
     own : (v : Running) → present_at q.members x ≡ Some v → HasWaited g (world g q) x v
     own v here = record {
@@ -334,13 +293,11 @@ still_waits {g = g} {limit = limit} {most = most} {r = r} {x = x} {p = p} {q = q
         compared : (i : ℕ) → i < roster g → i ≢ x
             → HasCompared t.start.waits v.waits i ((world g q).seen x i BEAT_COLUMN)
         compared i l d = t.turned.compared
-            (uncrashed limit ((world g q).turns x) ((world g q).end x)
-            (end_so t)) t.start v t.began here i l d
+            (uncrashed limit ((world g q).turns x) ((world g q).end x) (end_so t)) t.start v t.began here i l d
 
         by_state : (i : ℕ) → i < roster g → i ≢ x → v.replica.end ≡ None
             → ShowDone g (world g p) ⊎ IsGoing g most r x (world g p) → turns_without_news v.waits i ≤ 1
-        by_state i l d none (inl shows) =
-            absurd (cc (end, none, ends_done t (still_show t shows)))
+        by_state i l d none (inl shows) = absurd (cc (end, none, ends_done t (still_show t shows)))
         by_state i l d none (inr go) = omega (
           arith,
           (compared i l d).count,
@@ -360,8 +317,7 @@ still_waits {g = g} {limit = limit} {most = most} {r = r} {x = x} {p = p} {q = q
     by (inr d) =
         let was = t.before.paused.waits m y (member_same t m y d there) in record {
           limit = was.limit;
-          beat = λ i l e. was.beat i l e
-              ∙ sym (ap (λ (h : Holding). h.seen i BEAT_COLUMN) (others_same t m d));
+          beat = λ i l e. was.beat i l e ∙ sym (ap (λ (h : Holding). h.seen i BEAT_COLUMN) (others_same t m d));
           few = was.few;
         }
 
@@ -369,8 +325,7 @@ still_waits {g = g} {limit = limit} {most = most} {r = r} {x = x} {p = p} {q = q
 still_fresh : {g : Group} {setups : List (Option Setup)} {limit most r x : ℕ} {p q : Program}
     → HasTaken g setups limit most r x p q → ((i : ℕ) → i < roster g → (world g q).end i ≡ None)
     → AreFresh g (x + 1) q
-still_fresh {g = g} {x = x} {p = p} {q = q} t unended m i y there l d since =
-    by (cases_eq m x) (cases_eq i x) since
+still_fresh {g = g} {x = x} {p = p} {q = q} t unended m i y there l d since = by (cases_eq m x) (cases_eq i x) since
   where
     going : (k : ℕ) → k < roster g → (world g p).end k ≡ None
     going k a = by_member (cases_eq k x)
@@ -394,8 +349,7 @@ still_fresh {g = g} {x = x} {p = p} {q = q} t unended m i y there l d since =
       t.turned.beats,
       subst (λ v. (world g q).table v m x BEAT_COLUMN ≡ (world g q).past.own x v BEAT_COLUMN)
           ((first_behind t).view x) ((has_rested t).pushed m BEAT_COLUMN
-          (omega (arith, present_within q.members m y there, t.turned.steady.program.all)) other
-          (omega arith)
+          (omega (arith, present_within q.members m y there, t.turned.steady.program.all)) other (omega arith)
           (λ z. unended x t.within)),
     )))
 
@@ -410,8 +364,7 @@ still_fresh {g = g} {x = x} {p = p} {q = q} t unended m i y there l d since =
         earlier : IsAfter (x + 1) m i → IsAfter x m i
         earlier (inl (low, inl less)) = inl (omega (arith, low), inl less)
         earlier (inl (low, inr less)) = inl (omega (arith, low), inr (omega (arith, less, apart)))
-        earlier (inr (low, less, more)) =
-            inr (omega (arith, low, other), less, omega (arith, more, apart))
+        earlier (inr (low, less, more)) = inr (omega (arith, low, other), less, omega (arith, more, apart))
 
         same : (turns_without_news y.waits i ≡ 0)
             ⊎ ((world g p).seen m i BEAT_COLUMN < (world g p).table 0 m i BEAT_COLUMN)
@@ -423,8 +376,7 @@ still_fresh {g = g} {x = x} {p = p} {q = q} t unended m i y there l d since =
           less,
           seen_same other,
           others_stay t i m BEAT_COLUMN apart l
-              (omega (arith, present_within q.members m y there, t.turned.steady.program.all)) (λ e. d
-              (sym e))
+              (omega (arith, present_within q.members m y there, t.turned.steady.program.all)) (λ e. d (sym e))
               (omega arith),
         ))
 

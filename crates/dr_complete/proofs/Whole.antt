@@ -1,28 +1,18 @@
 -- A member whose next place is behind all that the start leaves holds all messages.
-use Rattle.std.proofs.Common.{List, Some, ap, arith, length, length-append, lt_of_mul-lt-mul_right, map, refl, slice_get, subst, suc, suc-mul, sym, take, zero, zero-add, ℕ, ◌*◌, ◌++◌, ◌+◌, ◌<◌, ◌∙◌, ◌≡◌, ◌≤◌}
 use Rattle.std.specs.List.{range_with_len}
+use Rattle.std.proofs.Common.{List, Some, ap, arith, length, length-append, lt_of_mul-lt-mul_right, map, refl, slice_get, subst, suc, suc-mul, sym, take, zero, zero-add, ℕ, ◌*◌, ◌++◌, ◌+◌, ◌<◌, ◌∙◌, ◌≡◌, ◌≤◌}
 use Rattle.std.proofs.lemmas.List.FromFn.{get_or-map-range_with_len, length-map-range_with_len, length-range_with_len}
-use Rattle.dr_entry.specs.declared.entry.Entry.{Entry}
-use Rattle.dr_entry.specs.declared.end.SentItem.TheVariants.{Index}
-use Rattle.dr_history.proofs.Fronts.{front_is}
+use Rattle.dr_entry.specs.declared.{end.SentItem.TheVariants.Index, entry.Entry.Entry}
+use Rattle.dr_history.specs.{History.{GroupView, messages_in, messages_of}, Members.{has, members_of}}
+use Rattle.dr_history.specs.{Order.{first_entries, messages_from, numbered_messages}, Places.{AllHeldBelow, front_of}}
+use Rattle.dr_history.{specs.Soundness.IsNobodyLate, proofs.Fronts.front_is}
 use Rattle.dr_history.proofs.NumberedLemmas.{length-numbered_messages, messages_from-append}
-use Rattle.dr_history.specs.History.{GroupView, messages_in, messages_of}
-use Rattle.dr_history.specs.Members.{has, members_of}
-use Rattle.dr_history.specs.Order.{first_entries, messages_from, numbered_messages}
-use Rattle.dr_history.specs.Places.{AllHeldBelow, front_of}
-use Rattle.dr_history.specs.Soundness.{IsNobodyLate}
-use Rattle.dr_history_laws.proofs.Counting.{Counted, counted}
-use Rattle.dr_history_laws.proofs.Indices.{messages_in-le}
-use Rattle.dr_history_laws.proofs.Members.{view-distinct}
+use Rattle.dr_history_laws.specs.{Laid.{first_view, laid}, Remaining.messages_left}
+use Rattle.dr_history_laws.proofs.{Counting.{Counted, counted}, Indices.messages_in-le, Members.view-distinct}
 use Rattle.dr_history_laws.proofs.Openings.{first-ends, first-members}
-use Rattle.dr_history_laws.specs.Laid.{first_view, laid}
-use Rattle.dr_machine.specs.Group.{AllPresent, Group, IsGroup, roster}
-use Rattle.dr_machine.specs.Guards.{HoldsAll}
-use Rattle.dr_machine.specs.World.{World}
-use Rattle.dr_world_laws.proofs.Remaining.{start_messages}
+use Rattle.dr_machine.specs.{Group.{AllPresent, Group, IsGroup, roster}, Guards.HoldsAll, World.World}
+use Rattle.dr_world_laws.proofs.{Remaining.start_messages, SentItems.{all_put, first_messages, range_at}}
 use Rattle.dr_world_laws.proofs.Worlds.{goes_first, history-first, in-order, put_first}
-use Rattle.dr_world_laws.proofs.SentItems.{all_put, first_messages, range_at}
-use Rattle.dr_history_laws.specs.Remaining.{messages_left}
 use Rattle.dr_complete.proofs.Firsts.{IsFirst, members_are, of_roster}
 
 -- ---- places
@@ -103,14 +93,12 @@ messages_laid g w m s y l within = (
     v = first_view g.opening
 
     c : Counted g.opening w.past.sent (first_view g.opening) s s (w.next m)
-    c = counted g.opening w.past.sent (first_entries g.opening) v s s (w.next m)
-        (goes_first g w y.group y.known)
+    c = counted g.opening w.past.sent (first_entries g.opening) v s s (w.next m) (goes_first g w y.group y.known)
         (view-distinct (first_entries g.opening) v (first-ends g.opening)) (at_rank g s y.group y.nobody y.whole within)
 
 -- the member has all messages that are left to s
 has_left : (g : Group) (w : World) (m s : ℕ) → IsFirst g w → m < roster g → s < roster g
-    → IsPastAll g w m → PutAll g w
-    → length (messages_of g.opening s) ≤ length (messages_from s (w.past.history m))
+    → IsPastAll g w m → PutAll g w → length (messages_of g.opening s) ≤ length (messages_from s (w.past.history m))
 has_left g w m s y l within past put = omega (
   arith,
   laid_so.1,
@@ -151,6 +139,5 @@ holds_all g w m y l past put s member = omega (
     within : s < roster g
     within = of_roster y s (ap (λ mask. has mask s) (sym (members_are y m)) ∙ member)
 
-    numbered : (rest : List Entry)
-        × (messages_from s (w.past.history m) ++ rest ≡ numbered_messages g.opening s)
+    numbered : (rest : List Entry) × (messages_from s (w.past.history m) ++ rest ≡ numbered_messages g.opening s)
     numbered = (in-order g w m y.group y.known l).numbered s

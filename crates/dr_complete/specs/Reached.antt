@@ -2,13 +2,9 @@
 -- done.
 use Rattle.std.specs.Prelude.{◌≡◌, ℕ, ◌+◌, ◌<◌, ◌≤◌, length, true}
 use Rattle.dr_history.specs.Members.{has}
-use Rattle.dr_ring.specs.Pieces.{pieces}
-use Rattle.dr_ring.specs.Slots.{slot_column}
-use Rattle.dr_words.specs.declared.column.TheConstants.{DONE_COLUMN, PIECES}
-use Rattle.dr_words.specs.Packing.{ring_tag}
-use Rattle.dr_machine.specs.Group.{Group, roster}
-use Rattle.dr_machine.specs.Guards.{seen_slot}
-use Rattle.dr_machine.specs.World.{Past, World, items_received}
+use Rattle.dr_ring.specs.{Pieces.pieces, Slots.slot_column}
+use Rattle.dr_words.specs.{Packing.ring_tag, declared.column.TheConstants.{DONE_COLUMN, PIECES}}
+use Rattle.dr_machine.specs.{Group.{Group, roster}, Guards.seen_slot, World.{Past, World, items_received}}
 use Rattle.dr_faithful.specs.Tells.{item_sent}
 
 -- each member's ring has the pieces of every item that it has put, or pieces of later ones in their place

@@ -1,9 +1,7 @@
 -- Scripts and setups whose members come to the end of their work.
 use Rattle.std.specs.Prelude.{◌≡◌, ◌⊎◌, ℕ, ◌+◌, ◌*◌, ◌≤◌, [], All, List, Option, Some, length}
-use Rattle.dr_program.specs.Presence.{present_at}
-use Rattle.dr_program.specs.declared.setup.Setup.{Setup}
-use Rattle.dr_script.specs.declared.script.Script.{Script}
-use Rattle.dr_script.specs.declared.script.Schedule.TheVariants.{Lockstep}
+use Rattle.dr_program.specs.{Presence.present_at, declared.setup.Setup.Setup}
+use Rattle.dr_script.specs.declared.script.{Schedule.TheVariants.Lockstep, Script.Script}
 
 -- a script without faults, in lockstep, gives its members time enough: four turns for each message of
 -- whoever has most, and eight more

@@ -1,31 +1,18 @@
 //! Laws of groups that lose nothing.
 ghost use Rattle.std.specs.Prelude.{◌≡◌, ℕ, ◌+◌, ◌*◌, ◌^◌, ◌<◌, ◌≤◌, ◌++◌, List, [], length, map, slice_get, Some, Option};
-ghost use Rattle.dr_complete.specs.Reached.{AllShowDone, RingsKeep, SeesSlot};
-ghost use Rattle.dr_entry.specs.declared.end.End.TheVariants.{Done};
-ghost use Rattle.dr_entry.specs.declared.end.MemberEnd.{MemberEnd};
-ghost use Rattle.dr_entry.specs.declared.entry.Entry.{Entry};
-ghost use Rattle.dr_history.specs.Agreement.{accounts_of};
-ghost use Rattle.dr_history.specs.declared.opening.Opening.{Opening};
-ghost use Rattle.dr_history.specs.Order.{first_entries};
-ghost use Rattle.dr_history.specs.Soundness.{IsNobodyLate};
-ghost use Rattle.dr_history.specs.Restarting.{AreLeftBy, IsLongest};
+ghost use Rattle.dr_complete.specs.{Reached.{AllShowDone, RingsKeep, SeesSlot}, Time.{AllLenient, HasTime}};
+ghost use Rattle.dr_entry.specs.declared.{end.{End.TheVariants.Done, MemberEnd.MemberEnd}, entry.Entry.Entry};
+ghost use Rattle.dr_history.specs.{Agreement.accounts_of, Order.first_entries, Restarting.{AreLeftBy, IsLongest}};
+ghost use Rattle.dr_history.specs.{Soundness.IsNobodyLate, declared.opening.Opening.Opening};
 ghost use Rattle.dr_history_laws.specs.Remaining.{messages_left, remaining};
-ghost use Rattle.dr_machine.specs.Group.{AllPresent, Group, IsGroup, roster};
-ghost use Rattle.dr_machine.specs.Guards.{IsInView, IsOther, seen_slot};
-ghost use Rattle.dr_machine.specs.Run.{IsReached};
-ghost use Rattle.dr_machine.specs.World.{World, items_received};
-ghost use Rattle.dr_program.specs.declared.setup.Setup.{Setup};
+ghost use Rattle.dr_machine.specs.{Group.{AllPresent, Group, IsGroup, roster}, Guards.{IsInView, IsOther, seen_slot}};
+ghost use Rattle.dr_machine.specs.{Run.IsReached, World.{World, items_received}};
+ghost use Rattle.dr_program.specs.{Presence.present_at, Schedule.IsLockstep, declared.setup.Setup.Setup};
 ghost use Rattle.dr_program.specs.Program.{AllOk, AreSetups, Move, Program, begun_program, end_at};
-ghost use Rattle.dr_program.specs.Schedule.{IsLockstep};
-ghost use Rattle.dr_complete.specs.Time.{AllLenient, HasTime};
 ghost use Rattle.dr_program_laws.specs.Ended.{AreComplete, IsComplete};
-ghost use Rattle.dr_restart.specs.declared.start.Start.{Start};
-ghost use Rattle.dr_restart.specs.Groups.{group_of};
-ghost use Rattle.dr_restart.specs.Setups.{IsBegun};
-ghost use Rattle.dr_script.specs.declared.script.Script.{Script};
-ghost use Rattle.dr_script.specs.Ranges.{HasRanges};
+ghost use Rattle.dr_restart.specs.{Groups.group_of, Setups.IsBegun, declared.start.Start.Start};
+ghost use Rattle.dr_script.specs.{Ranges.HasRanges, declared.script.Script.Script};
 ghost use Rattle.dr_ring.specs.Slots.{IsReady};
-ghost use Rattle.dr_program.specs.Presence.{present_at};
 
 /// In every world that is reached the ring of each member has the pieces of every item that it has put,
 /// or of later ones in their place.

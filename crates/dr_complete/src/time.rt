@@ -1,10 +1,8 @@
 //! How many turns are enough in lockstep.
 ghost use Rattle.std.specs.Prelude.{◌≡◌, ◌↔◌, ◌≤◌, []};
-ghost use Rattle.dr_complete.specs.Enough.{most_messages, turns_enough};
-ghost use Rattle.dr_complete.specs.Time.{HasTime};
+ghost use Rattle.dr_complete.specs.{Enough.{most_messages, turns_enough}, Time.HasTime};
+ghost use Rattle.dr_script.specs.{Ranges.{HasGroupRanges, HasRanges}, declared.script.Schedule.TheVariants.Lockstep};
 ghost use Rattle.dr_script.specs.declared.script.Script.{Script as ScriptOf};
-ghost use Rattle.dr_script.specs.declared.script.Schedule.TheVariants.{Lockstep};
-ghost use Rattle.dr_script.specs.Ranges.{HasGroupRanges, HasRanges};
 
 use dr_script::Script;
 

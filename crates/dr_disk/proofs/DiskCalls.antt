@@ -1,9 +1,7 @@
 -- Calls of a disk that come one behind another, and where they stop.
+use Rattle.std.{specs.Prelude.is_some, proofs.lemmas.List.length-take-le}
 use Rattle.std.proofs.Common.{◌≡◌, ℕ, ◌+◌, ◌-◌, ◌≤◌, List, ◌++◌, length, take, drop, sym, ap, ◌∙◌, append_assoc, arith, length-append, take_at, drop_at, drop-drop, min, max, Option, Some, None, IfSome, refl}
-use Rattle.std.proofs.lemmas.List.{length-take-le}
-use Rattle.std.specs.Prelude.{is_some}
-use Rattle.dr_disk.specs.Calls.{written, Write, at_rest, step, State}
-use Rattle.dr_disk.specs.Disk.{Told, content_of}
+use Rattle.dr_disk.specs.{Calls.{written, Write, at_rest, step, State}, Disk.{Told, content_of}}
 use Rattle.dr_disk.specs.Images.{AllImages, Goes}
 
 written_on : (old x y : List ℕ) (p : ℕ) → p ≤ length old
@@ -16,14 +14,11 @@ written_on old x y p inside =
     let is : written old p x ≡ front ++ rest = sym (append_assoc (take p old) x rest) in
     let skip : drop (p + length x + length y) (front ++ rest) ≡ drop (p + length (x ++ y)) old =
     sym (drop-drop (length y) (p + length x) (front ++ rest))
-    ∙ ap (drop (length y)) (drop_at front rest (p + length x) long)
-    ∙ drop-drop (length y) (p + length x) old
+    ∙ ap (drop (length y)) (drop_at front rest (p + length x) long) ∙ drop-drop (length y) (p + length x) old
     ∙ ap (λ (n : ℕ). drop n old) (omega (arith, length-append x y)) in
-    ap (λ (l : List ℕ). take (p + length x) l ++ (y ++ drop (p + length x + length y) l)) is
-    ∙ ap (λ (l : List ℕ). l ++ (y ++ drop (p + length x + length y) (front ++ rest)))
-    (take_at front rest (p + length x) long)
-    ∙ ap (λ (l : List ℕ). front ++ (y ++ l)) skip
-    ∙ append_assoc (take p old) x (y ++ drop (p + length (x ++ y)) old)
+    ap (λ (l : List ℕ). take (p + length x) l ++ (y ++ drop (p + length x + length y) l)) is ∙ ap (λ (l : List ℕ). l
+    ++ (y ++ drop (p + length x + length y) (front ++ rest))) (take_at front rest (p + length x) long)
+    ∙ ap (λ (l : List ℕ). front ++ (y ++ l)) skip ∙ append_assoc (take p old) x (y ++ drop (p + length (x ++ y)) old)
     ∙ ap (λ (l : List ℕ). take p old ++ l) (sym (append_assoc x y (drop (p + length (x ++ y)) old)))
 
 pub step_on : (old x y : List ℕ) (p : ℕ) → p ≤ length old
@@ -36,13 +31,7 @@ step_on old x y p inside =
     omega (arith, both) in
     let greatest : max (max (length old) (p + length x)) (p + length x + length y)
     ≡ max (length old) (p + length (x ++ y)) = omega (arith, both) in
-    λ i. record {
-      content = content i;
-      first = first i;
-      behind = behind i;
-      least = length old;
-      greatest = greatest i;
-    }
+    λ i. record { content = content i; first = first i; behind = behind i; least = length old; greatest = greatest i }
 
 -- a disk that reaches far reaches less far
 pub reaches_less : (told : Option Told) (far at : ℕ) → at ≤ far

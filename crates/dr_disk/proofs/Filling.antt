@@ -1,15 +1,11 @@
 -- What a crash leaves where all that may have changed is filled with one byte.
 use Rattle.std.proofs.Common.{◌≡◌, ℕ, zero, suc, ◌+◌, ◌<◌, ◌≤◌, min, max, List, [], ◌∷◌, ◌++◌, length, get_or, take, drop, ◌⊎◌, inl, inr, ⊎_elim, refl, sym, ap, ap₂, ◌∙◌, subst, arith, length-drop, length-take}
-use Rattle.std.proofs.lemmas.Bool.{cases_lt}
-use Rattle.std.proofs.lemmas.List.{take_all, drop-drop}
-use Rattle.dr_disk.specs.Calls.{Call, Write, FailedWrite, Cut, FailedCut, Sync, run, written}
-use Rattle.dr_disk.specs.Crashed.{IsFilled, IsReplayed}
-use Rattle.dr_disk.specs.Images.{IsImage}
-use Rattle.dr_disk.specs.Ranges.{IsUntouched, Pending, Range, pend, pend_all, settled}
-use Rattle.dr_disk.specs.declared.kept.Step.{Step}
-use Rattle.dr_disk.specs.declared.kept.Step.TheVariants as steps
-use Rattle.dr_disk.specs.Steps.{bytes_of_step, call_of, calls_of, text_length}
+use Rattle.std.proofs.lemmas.{Bool.cases_lt, List.{take_all, drop-drop}}
+use Rattle.dr_disk.specs.{Calls.{Call, Write, FailedWrite, Cut, FailedCut, Sync, run, written}, Images.IsImage}
+use Rattle.dr_disk.specs.{Crashed.{IsFilled, IsReplayed}, Steps.{bytes_of_step, call_of, calls_of, text_length}}
+use Rattle.dr_disk.specs.{Ranges.{IsUntouched, Pending, Range, pend, pend_all, settled}, declared.kept.Step.Step}
 use Rattle.dr_disk.proofs.Ranges.{image_by_ranges, pend_least}
+use Rattle.dr_disk.specs.declared.kept.Step.TheVariants as steps
 
 -- ---- a range more
 
@@ -24,8 +20,7 @@ outside at to i = grind arith
 pub filled_more : (fill : ℕ) (p : Pending) (at count end : ℕ) (old mid new : List ℕ) → IsFilled fill p old
     → length p.synced ≤ p.disk.greatest → length mid ≡ max (length old) end
     → ((i : ℕ) → i < length old → get_or mid i 0 ≡ get_or old i 0)
-    → ((i : ℕ) → length old ≤ i → i < length mid → get_or mid i 0 ≡ fill)
-    → length new ≡ length mid
+    → ((i : ℕ) → length old ≤ i → i < length mid → get_or mid i 0 ≡ fill) → length new ≡ length mid
     → ((i : ℕ) → (i < at) ⊎ (at + count ≤ i) → get_or new i 0 ≡ get_or mid i 0)
     → ((i : ℕ) → at ≤ i → i < at + count → get_or new i 0 ≡ fill)
     → (q : Pending) → q.synced ≡ p.synced → q.ranges ≡ record { at = at; count = count } ∷ p.ranges
@@ -36,17 +31,14 @@ filled_more fill p at count end old mid new is fits longer kept behind same othe
       stays = λ i l free.
           let both = subst (λ (r : List Range). IsUntouched r i) ranges free in
           let within : i < length p.synced = omega (arith, l, ap length synced) in
-          others i both.0
-          ∙ (kept i (omega (arith, within, fits, is.long))
+          others i both.0 ∙ (kept i (omega (arith, within, fits, is.long))
           ∙ (is.stays i within both.1 ∙ ap (λ (l : List ℕ). get_or l i 0) (sym synced)));
       filled = λ i l not. elim (outside at (at + count) i) [
         | inr within ↦ covered i within.0 within.1
         | inl out ↦ elim (cases_lt i (length old)) [
           | inr past ↦ others i out ∙ behind i past (omega (arith, l, same))
-          | inl below ↦
-              others i out
-              ∙ (kept i below
-              ∙ is.filled i below (λ within free. not (omega (arith, within, ap length synced))
+          | inl below ↦ others i out
+              ∙ (kept i below ∙ is.filled i below (λ within free. not (omega (arith, within, ap length synced))
               (subst (λ (r : List Range). IsUntouched r i) (sym ranges) (out, free))))
         ]
       ];
@@ -56,15 +48,12 @@ filled_more fill p at count end old mid new is fits longer kept behind same othe
 
 -- a write past the end is one at the end
 written_inside : (old : List ℕ) (at : ℕ) (bytes : List ℕ) → written old (min (length old) at) bytes ≡ written old at bytes
-written_inside old at bytes = ⊎_elim
-    (λ (past : length old < at).
+written_inside old at bytes = ⊎_elim (λ (past : length old < at).
     let here : min (length old) at ≡ length old = omega (arith, past) in
-    ap (λ (n : ℕ). written old n bytes) here
-    ∙ ap₂ (λ (front back : List ℕ). front ++ (bytes ++ back))
+    ap (λ (n : ℕ). written old n bytes) here ∙ ap₂ (λ (front back : List ℕ). front ++ (bytes ++ back))
     (take_all (length old) old (omega arith) ∙ sym (take_all at old (omega (arith, past))))
     (no_more (length old + length bytes) (omega arith) ∙ sym (no_more (at + length bytes) (omega (arith, past)))))
-    (λ (inside : at ≤ length old).
-    ap (λ (n : ℕ). written old n bytes) (omega (arith, inside)))
+    (λ (inside : at ≤ length old). ap (λ (n : ℕ). written old n bytes) (omega (arith, inside)))
     (cases_lt (length old) at)
   where
     nothing : (l : List ℕ) → length l ≡ 0 → l ≡ []
@@ -77,16 +66,13 @@ written_inside old at bytes = ⊎_elim
 -- the call of a write step
 pub write_of : (s : Step) (at count : ℕ) (bytes : List ℕ) → s ≡ steps.Write at count → bytes_of_step s ≡ length bytes
     → call_of s bytes ≡ Write at bytes
-write_of s at count bytes is whole =
-    ap (λ (x : Step). call_of x bytes) is
+write_of s at count bytes is whole = ap (λ (x : Step). call_of x bytes) is
     ∙ ap (Write at) (take_all count bytes (omega (arith, ap bytes_of_step (sym is), whole)))
 
 pub replayed_write : (fill : ℕ) (p : Pending) (at inside end : ℕ) (bytes now image mid new : List ℕ)
     → IsReplayed fill p now image → inside ≡ min (length now) at → end ≡ at + length bytes
-    → length mid ≡ max (length image) end
-    → ((i : ℕ) → i < length image → get_or mid i 0 ≡ get_or image i 0)
-    → ((i : ℕ) → length image ≤ i → i < length mid → get_or mid i 0 ≡ fill)
-    → length new ≡ length mid
+    → length mid ≡ max (length image) end → ((i : ℕ) → i < length image → get_or mid i 0 ≡ get_or image i 0)
+    → ((i : ℕ) → length image ≤ i → i < length mid → get_or mid i 0 ≡ fill) → length new ≡ length mid
     → ((i : ℕ) → (i < inside) ⊎ (inside + length bytes ≤ i) → get_or new i 0 ≡ get_or mid i 0)
     → ((i : ℕ) → inside ≤ i → i < inside + length bytes → get_or new i 0 ≡ fill)
     → IsReplayed fill (pend p (Write at bytes)) (written now inside bytes) new
@@ -95,8 +81,7 @@ replayed_write fill p at inside end bytes now image mid new is here far longer k
       ∙ ap (λ (l : List ℕ). written l at bytes) is.read);
   fits = omega (arith, is.fits);
   filled = filled_more fill p inside (length bytes) end image mid new is.filled is.fits longer kept behind same others
-      covered (pend p (Write at bytes)) refl
-      (ap (λ (n : ℕ). range_at n (length bytes) ∷ p.ranges) place)
+      covered (pend p (Write at bytes)) refl (ap (λ (n : ℕ). range_at n (length bytes) ∷ p.ranges) place)
       (ap (max p.disk.greatest) (sym far));
 }
   where
@@ -109,9 +94,7 @@ replayed_write fill p at inside end bytes now image mid new is here far longer k
 calls_more : (xs : List Step) (s : Step) (text : List ℕ)
     → calls_of (xs ++ s ∷ []) text ≡ calls_of xs text ++ call_of s (drop (text_length xs) text) ∷ []
 calls_more [] s text = refl
-calls_more (t ∷ xs) s text =
-    ap (λ (l : List Call). call_of t text ∷ l)
-    (calls_more xs s (drop (bytes_of_step t) text)
+calls_more (t ∷ xs) s text = ap (λ (l : List Call). call_of t text ∷ l) (calls_more xs s (drop (bytes_of_step t) text)
     ∙ ap (λ (l : List ℕ). calls_of xs (drop (bytes_of_step t) text) ++ call_of s l ∷ [])
     (drop-drop (text_length xs) (bytes_of_step t) text ∙ ap (λ (n : ℕ). drop n text) (omega arith)))
 
@@ -146,18 +129,13 @@ none_replayed fill steps text = record {
   done = record {
     read = refl;
     fits = omega arith;
-    filled = record {
-      long = refl;
-      stays = λ i l free. refl;
-      filled = λ i l not. absurd (omega (arith, l));
-    };
+    filled = record { long = refl; stays = λ i l free. refl; filled = λ i l not. absurd (omega (arith, l)) };
   };
 }
 
-pub one_more_replayed : (fill : ℕ) (steps : List Step) (text : List ℕ) (from k : ℕ) (s : Step)
-    (now image now' image' : List ℕ) → IsReplayedTo fill steps text from k now image
-    → take (k + 1) steps ≡ take k steps ++ s ∷ []
-    → ((p : Pending) → IsReplayed fill p now image
+pub one_more_replayed : (fill : ℕ) (steps : List Step) (text : List ℕ)
+    (from k : ℕ) (s : Step) (now image now' image' : List ℕ) → IsReplayedTo fill steps text from k now image
+    → take (k + 1) steps ≡ take k steps ++ s ∷ [] → ((p : Pending) → IsReplayed fill p now image
     → IsReplayed fill (pend p (call_of s (take (bytes_of_step s) (drop from text)))) now' image')
     → IsReplayedTo fill steps text (from + bytes_of_step s) (k + 1) now' image'
 one_more_replayed fill steps text from k s now image now' image' is next more = record {
@@ -165,13 +143,10 @@ one_more_replayed fill steps text from k s now image now' image' is next more = 
   done =
       let p = pend_all (settled []) (calls_of (take k steps) text) in
       let calls : calls_of (take (k + 1) steps) text ≡ calls_of (take k steps) text
-      ++ call_of s (take (bytes_of_step s) (drop from text)) ∷ [] =
-      ap (λ (l : List Step). calls_of l text) next
-      ∙ (calls_more (take k steps) s text
-      ∙ ap (λ (c : Call). calls_of (take k steps) text ++ c ∷ [])
+      ++ call_of s (take (bytes_of_step s) (drop from text)) ∷ [] = ap (λ (l : List Step). calls_of l text) next
+      ∙ (calls_more (take k steps) s text ∙ ap (λ (c : Call). calls_of (take k steps) text ++ c ∷ [])
       (ap (λ (n : ℕ). call_of s (drop n text)) (sym is.ends) ∙ sym (own_bytes s (drop from text)))) in
-      subst (λ (q : Pending). IsReplayed fill q now' image')
-      (sym (ap (pend_all (settled [])) calls
+      subst (λ (q : Pending). IsReplayed fill q now' image') (sym (ap (pend_all (settled [])) calls
       ∙ pend_more (settled []) (calls_of (take k steps) text) (call_of s (take (bytes_of_step s) (drop from text)))))
       (more p is.done);
 }

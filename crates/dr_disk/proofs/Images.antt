@@ -1,13 +1,11 @@
 -- What the images of a disk are: at rest, after a write, and what a read gives among them.
+use Rattle.std.{specs.Prelude.is_some, proofs.lemmas.Bool.cases_lt}
 use Rattle.std.proofs.Common.{◌≡◌, ℕ, ◌+◌, ◌-◌, ◌<◌, ◌≤◌, min, max, List, [], ◌∷◌, ◌++◌, length, get_or, take, drop, ◌⊎◌, inl, inr, ⊎_elim, refl, sym, ap, ◌∙◌, arith, length-append, length-drop, length-take, Option, Some, None, IfSome, subst, false}
-use Rattle.std.proofs.lemmas.Bool.{cases_lt}
 use Rattle.std.proofs.lemmas.List.{ext_get_or, get_or-take, get_or-drop, get_or_append_left, get_or-append_right, length-take-le, drop_more, take-append-drop}
-use Rattle.std.specs.Prelude.{is_some}
 use Rattle.dr_disk.specs.Calls.{Call, Write, FailedWrite, Cut, FailedCut, Sync, State, at_rest, written, step, run_from, run, content_after}
-use Rattle.dr_disk.specs.Images.{IsImage, AllImages, IsLeft, ReadsAnImage, Goes, During, LastsDuring, Lasts}
-use Rattle.dr_disk.proofs.Moments.{state-after}
-use Rattle.dr_disk.proofs.DiskCalls.{reaches_less}
 use Rattle.dr_disk.specs.Disk.{Told, content_of, after, added, state_of, Calls, Now}
+use Rattle.dr_disk.specs.Images.{IsImage, AllImages, IsLeft, ReadsAnImage, Goes, During, LastsDuring, Lasts}
+use Rattle.dr_disk.proofs.{DiskCalls.reaches_less, Moments.state-after}
 
 -- at rest there is one image
 pub image_at_rest : (bytes image : List ℕ) → IsImage (at_rest bytes) image → image ≡ bytes
@@ -19,43 +17,36 @@ image_at_rest bytes image is = ext_get_or 0 image bytes (omega (arith, is.no_sho
 -- the length after a write that begins inside
 pub length-written : (old : List ℕ) (at : ℕ) (bytes : List ℕ) → at ≤ length old
     → length (written old at bytes) ≡ max (length old) (at + length bytes)
-length-written old at bytes l =
-    omega (
-      arith,
-      length-append (take at old) (bytes ++ drop (at + length bytes) old),
-      length-append bytes (drop (at + length bytes) old),
-      length-take at old,
-      length-drop
-          (at + length bytes) old,
-    )
+length-written old at bytes l = omega (
+  arith,
+  length-append (take at old) (bytes ++ drop (at + length bytes) old),
+  length-append bytes (drop (at + length bytes) old),
+  length-take at old,
+  length-drop (at + length bytes) old,
+)
 
 length-written_past : (old : List ℕ) (at : ℕ) (bytes : List ℕ) → length old < at
     → length (written old at bytes) ≡ length old + length bytes
-length-written_past old at bytes l =
-    omega (
-      arith,
-      length-append (take at old) (bytes ++ drop (at + length bytes) old),
-      length-append bytes (drop (at + length bytes) old),
-      length-take at old,
-      length-drop
-          (at + length bytes) old,
-    )
+length-written_past old at bytes l = omega (
+  arith,
+  length-append (take at old) (bytes ++ drop (at + length bytes) old),
+  length-append bytes (drop (at + length bytes) old),
+  length-take at old,
+  length-drop (at + length bytes) old,
+)
 
 -- a write leaves what stands before its range
 pub written_before : (old : List ℕ) (at : ℕ) (bytes : List ℕ) (i : ℕ) → i < min at (length old)
     → get_or (written old at bytes) i 0 ≡ get_or old i 0
-written_before old at bytes i l =
-    get_or_append_left (take at old) (bytes ++ drop (at + length bytes) old) 0 i
+written_before old at bytes i l = get_or_append_left (take at old) (bytes ++ drop (at + length bytes) old) 0 i
     (omega (arith, l, length-take at old)) ∙ get_or-take at old i 0 (omega (arith, l))
 
 -- and what stands behind it
 pub written_behind : (old : List ℕ) (at : ℕ) (bytes : List ℕ) (i : ℕ) → at ≤ length old
     → at + length bytes ≤ i → get_or (written old at bytes) i 0 ≡ get_or old i 0
-written_behind old at bytes i inside l =
-    get_or-append_right (take at old) (bytes ++ drop (at + length bytes) old) at i 0
-    (length-take-le at old inside) (omega (arith, l))
-    ∙ get_or-append_right bytes (drop (at + length bytes) old) (length bytes) (i - at) 0 refl
-    (omega (arith, l))
+written_behind old at bytes i inside l = get_or-append_right (take at old)
+    (bytes ++ drop (at + length bytes) old) at i 0 (length-take-le at old inside) (omega (arith, l))
+    ∙ get_or-append_right bytes (drop (at + length bytes) old) (length bytes) (i - at) 0 refl (omega (arith, l))
     ∙ get_or-drop (at + length bytes) old (i - at - length bytes) 0
     ∙ ap (λ (n : ℕ). get_or old n 0) (omega (arith, l))
 
@@ -65,31 +56,22 @@ pub record IsBetween (s : State) : Type 0 where
   pub greatest : length s.content ≤ s.greatest
 
 between-write : (s : State) (at : ℕ) (bytes : List ℕ) → IsBetween s → IsBetween (step s (Write at bytes))
-between-write s at bytes is = ⊎_elim
-    (λ (past : length s.content < at). record {
-      least = omega (arith, past, is.least, length-written_past s.content at bytes past);
-      greatest = omega (arith, past, is.greatest, length-written_past s.content at bytes past);
-    })
-    (λ (inside : at ≤ length s.content). record {
-      least = omega (arith, inside, is.least, length-written s.content at bytes inside);
-      greatest = omega (arith, inside, is.greatest, length-written s.content at bytes inside);
-    })
-    (cases_lt (length s.content) at)
+between-write s at bytes is = ⊎_elim (λ (past : length s.content < at). record {
+  least = omega (arith, past, is.least, length-written_past s.content at bytes past);
+  greatest = omega (arith, past, is.greatest, length-written_past s.content at bytes past);
+}) (λ (inside : at ≤ length s.content). record {
+  least = omega (arith, inside, is.least, length-written s.content at bytes inside);
+  greatest = omega (arith, inside, is.greatest, length-written s.content at bytes inside);
+}) (cases_lt (length s.content) at)
 
 pub between-step : (s : State) (call : Call) → IsBetween s → IsBetween (step s call)
 between-step s (Write at bytes) is = between-write s at bytes is
-between-step s (FailedWrite at count) is = record {
-  least = is.least;
-  greatest = omega (arith, is.greatest);
-}
+between-step s (FailedWrite at count) is = record { least = is.least; greatest = omega (arith, is.greatest) }
 between-step s (Cut to) is = record {
   least = omega (arith, is.least, length-take to s.content);
   greatest = omega (arith, is.greatest, length-take to s.content);
 }
-between-step s (FailedCut to) is = record {
-  least = omega (arith, is.least);
-  greatest = is.greatest;
-}
+between-step s (FailedCut to) is = record { least = omega (arith, is.least); greatest = is.greatest }
 between-step s Sync is = record { least = omega arith; greatest = omega arith }
 
 pub between-run : (s : State) (calls : List Call) → IsBetween s → IsBetween (run_from s calls)
@@ -108,8 +90,7 @@ reads_image calls =
 pub record Torn (at n : ℕ) (old image : List ℕ) : Type 0 where
   pub no_shorter : length old ≤ length image
   pub no_longer : length image ≤ max (length old) (at + n)
-  pub stays : (i : ℕ) → i < length old → (i < at) ⊎ (at + n ≤ i) → get_or image i 0
-      ≡ get_or old i 0
+  pub stays : (i : ℕ) → i < length old → (i < at) ⊎ (at + n ≤ i) → get_or image i 0 ≡ get_or old i 0
 
 -- what a write inside leaves outside its range
 written_outside : (old : List ℕ) (at : ℕ) (bytes : List ℕ) (i : ℕ) → at ≤ length old
@@ -134,15 +115,12 @@ pub torn_by_write : (old : List ℕ) (at : ℕ) (bytes image : List ℕ) → at 
 torn_by_write old at bytes image inside is = record {
   no_shorter = is.no_shorter;
   no_longer = is.no_longer;
-  stays = λ i l free. is.stays i l
-      (⊎_elim (λ (h : i < at). inl (omega (arith, h, l))) (λ (h : at + length bytes ≤ i).
-      inr (omega (arith, h))) free)
-      ∙ written_outside old at bytes i inside free;
+  stays = λ i l free. is.stays i l (⊎_elim (λ (h : i < at). inl (omega (arith, h, l)))
+      (λ (h : at + length bytes ≤ i). inr (omega (arith, h))) free) ∙ written_outside old at bytes i inside free;
 }
 
 -- what stands before the range is the old
-pub torn_front : (at n : ℕ) (old image : List ℕ) → at ≤ length old → Torn at n old image
-    → take at image ≡ take at old
+pub torn_front : (at n : ℕ) (old image : List ℕ) → at ≤ length old → Torn at n old image → take at image ≡ take at old
 torn_front at n old image inside torn = ext_get_or 0 (take at image) (take at old)
     (omega (arith, length-take at image, length-take at old, inside, torn.no_shorter))
     (λ i l. let below : i < at = omega (arith, l, length-take at image) in
@@ -153,25 +131,14 @@ torn_front at n old image inside torn = ext_get_or 0 (take at image) (take at ol
 pub torn_byte : (at : ℕ) (old image : List ℕ) → at < length old → Torn at 1 old image
     → image ≡ take at old ++ (get_or image at 0 ∷ drop (at + 1) old)
 torn_byte at old image inside torn =
-    let behind : drop (at + 1) image ≡ drop (at + 1) old = ext_get_or 0 (drop (at + 1) image)
-    (drop (at + 1) old)
-    (omega (
-      arith,
-      length-drop (at + 1) image,
-      length-drop (at + 1) old,
-      inside,
-      torn.no_shorter,
-      torn.no_longer,
-    ))
+    let behind : drop (at + 1) image ≡ drop (at + 1) old = ext_get_or 0 (drop (at + 1) image) (drop (at + 1) old)
+    (omega (arith, length-drop (at + 1) image, length-drop (at + 1) old, inside, torn.no_shorter, torn.no_longer))
     (λ i l. get_or-drop (at + 1) image i 0
     ∙ torn.stays (at + 1 + i) (omega (arith, l, length-drop (at + 1) image, inside, torn.no_longer))
-    (inr (omega arith))
-    ∙ sym (get_or-drop (at + 1) old i 0)) in
-    sym (take-append-drop at image)
-    ∙ ap (λ (l : List ℕ). l ++ drop at image) (torn_front at 1 old image (omega (arith, inside)) torn)
-    ∙ ap (λ (l : List ℕ). take at old ++ l)
-    (drop_more image at 0 (omega (arith, inside, torn.no_shorter))
-    ∙ ap (λ (l : List ℕ). get_or image at 0 ∷ l) behind)
+    (inr (omega arith)) ∙ sym (get_or-drop (at + 1) old i 0)) in
+    sym (take-append-drop at image) ∙ ap (λ (l : List ℕ). l ++ drop at image) (torn_front at 1 old image
+    (omega (arith, inside)) torn) ∙ ap (λ (l : List ℕ). take at old ++ l) (drop_more image at 0
+    (omega (arith, inside, torn.no_shorter)) ∙ ap (λ (l : List ℕ). get_or image at 0 ∷ l) behind)
 
 -- ---- calls that are done in part
 
@@ -181,10 +148,8 @@ pub part_of_write : (s : State) (at k : ℕ) (bytes image : List ℕ) → at ≤
 part_of_write s at k bytes image inside is = record {
   no_shorter = is.no_shorter;
   no_longer = omega (arith, is.no_longer, length-take k bytes);
-  stays = λ i l free.
-      is.stays i l (smaller i free)
-      ∙ written_outside s.content at (take k bytes) i inside (outside (length (take k bytes)) i
-      (omega (arith, length-take k bytes)) free)
+  stays = λ i l free. is.stays i l (smaller i free) ∙ written_outside s.content at (take k bytes) i inside
+      (outside (length (take k bytes)) i (omega (arith, length-take k bytes)) free)
       ∙ sym (written_outside s.content at bytes i inside (outside (length bytes) i (omega arith) free));
 }
   where
@@ -199,13 +164,11 @@ part_of_write s at k bytes image inside is = record {
     outside n i l (inr h) = inr (omega (arith, h, l))
 
 pub part_of_failed_write : (s : State) (at k : ℕ) (bytes image : List ℕ) → at ≤ length s.content
-    → IsImage (step s (Write at (take k bytes))) image
-    → IsImage (step s (FailedWrite at (length bytes))) image
+    → IsImage (step s (Write at (take k bytes))) image → IsImage (step s (FailedWrite at (length bytes))) image
 part_of_failed_write s at k bytes image inside is = record {
   no_shorter = is.no_shorter;
   no_longer = omega (arith, is.no_longer, length-take k bytes);
-  stays = λ i l free.
-      is.stays i l (smaller i free)
+  stays = λ i l free. is.stays i l (smaller i free)
       ∙ written_outside s.content at (take k bytes) i inside (outside i free);
 }
   where
@@ -229,8 +192,7 @@ pub part_of_cut : (s : State) (to more : ℕ) (image : List ℕ) → to ≤ more
 part_of_cut s to more image part is = record {
   no_shorter = omega (arith, is.no_shorter, part);
   no_longer = is.no_longer;
-  stays = λ i l free. is.stays i (omega (arith, l, part)) free
-      ∙ cut_before s.content more i (omega (arith, l, part))
+  stays = λ i l free. is.stays i (omega (arith, l, part)) free ∙ cut_before s.content more i (omega (arith, l, part))
       ∙ sym (cut_before s.content to i (omega (arith, l)));
 }
 
@@ -239,13 +201,11 @@ pub part_of_failed_cut : (s : State) (to more : ℕ) (image : List ℕ) → to �
 part_of_failed_cut s to more image part is = record {
   no_shorter = omega (arith, is.no_shorter, part);
   no_longer = is.no_longer;
-  stays = λ i l free. is.stays i (omega (arith, l, part)) free
-      ∙ cut_before s.content more i (omega (arith, l, part));
+  stays = λ i l free. is.stays i (omega (arith, l, part)) free ∙ cut_before s.content more i (omega (arith, l, part));
 }
 
 -- what a write that failed leaves, one that was done might leave too
-pub fault_image : (s : State) (at : ℕ) (bytes image : List ℕ) → at ≤ length s.content
-    → s.least ≤ length s.content
+pub fault_image : (s : State) (at : ℕ) (bytes image : List ℕ) → at ≤ length s.content → s.least ≤ length s.content
     → IsImage (step s (FailedWrite at (length bytes))) image → IsImage (step s (Write at bytes)) image
 fault_image s at bytes image inside least is = record {
   no_shorter = is.no_shorter;
@@ -271,8 +231,7 @@ reaches_written (Some told) new at n bytes is long inside =
 -- once bytes are written, the disk reaches to where they begin
 pub reaches_before : (told new : Option Told) (at : ℕ) (bytes : List ℕ) → new ≡ added (Write at bytes) told
     → IfSome told (λ t. at ≤ length (content_of t)) → IfSome new (λ t. at - 1 ≤ length (content_of t))
-reaches_before told new at bytes is inside =
-    reaches_less new (at + length bytes) (at - 1) (omega arith)
+reaches_before told new at bytes is inside = reaches_less new (at + length bytes) (at - 1) (omega arith)
     (reaches_written told new at (length bytes) bytes is refl inside)
 
 pub rest_stands : (P : List ℕ → Type 0) (bytes : List ℕ) → P bytes → AllImages (at_rest bytes) P

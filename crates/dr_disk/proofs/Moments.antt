@@ -18,8 +18,7 @@ run-added calls call = run_from-append _ calls (call ∷ [])
 pub During-append : (s : State) (first next : List Call) (P : List ℕ → Type 0) → During s first P
     → During (run_from s first) next P → During s (first ++ next) P
 During-append s [] next P here there = there
-During-append s (call ∷ first) next P here there =
-    (here.0, During-append (step s call) first next P here.1 there)
+During-append s (call ∷ first) next P here there = (here.0, During-append (step s call) first next P here.1 there)
 
 -- what follows from a fact of each moment holds of each moment
 pub During-weaken : (s : State) (calls : List Call) (P Q : List ℕ → Type 0)
@@ -65,8 +64,7 @@ now-after_all s (call ∷ more) = now-after_all (step s call) more
 -- what holds of each moment of some calls holds of each that the disk tells
 pub went_by : (told : Told) (more : List Call) (P : List ℕ → Type 0) → During (state_of told) more P
     → Went told (after_all more told) P
-went_by (Calls calls) more P each =
-    subst (λ (t : Told). Went (Calls calls) t P) (sym (calls-after_all calls more))
+went_by (Calls calls) more P each = subst (λ (t : Told). Went (Calls calls) t P) (sym (calls-after_all calls more))
     (record { more = more; grown = refl; each = each })
 went_by (Now s) more P each =
     subst (λ (t : Told). Went (Now s) t P) (sym (now-after_all s more)) (During-last s more P each)
@@ -80,11 +78,9 @@ WentBy-then : (before mid after : List Call) (P : List ℕ → Type 0) → WentB
     → WentBy mid after P → WentBy before after P
 WentBy-then before mid after P first next = record {
   more = first.more ++ next.more;
-  grown = next.grown ∙ ap (λ (l : List Call). l ++ next.more) first.grown
-      ∙ append_assoc before first.more next.more;
-  each = During-append (run before) first.more next.more P first.each
-      (subst (λ (s : State). During s next.more P) (ap run first.grown
-      ∙ run_from-append _ before first.more) next.each);
+  grown = next.grown ∙ ap (λ (l : List Call). l ++ next.more) first.grown ∙ append_assoc before first.more next.more;
+  each = During-append (run before) first.more next.more P first.each (subst (λ (s : State). During s next.more P)
+      (ap run first.grown ∙ run_from-append _ before first.more) next.each);
 }
 
 pub Went-then : (before mid after : Told) (P : List ℕ → Type 0) → Went before mid P
@@ -109,11 +105,9 @@ Went-weaken (Now before) (Calls after) P Q f went = absurd went
 Went-weaken (Now before) (Now after) P Q f went = λ image is. f image (went image is)
 
 -- the last moment is one of them
-pub Went-last : (before after : Told) (P : List ℕ → Type 0) → Went before after P
-    → AllImages (state_of after) P
-Went-last (Calls before) (Calls after) P went =
-    subst (λ (s : State). AllImages s P) (sym (ap run went.grown ∙ run_from-append _ before went.more))
-    (During-last (run before) went.more P went.each)
+pub Went-last : (before after : Told) (P : List ℕ → Type 0) → Went before after P → AllImages (state_of after) P
+Went-last (Calls before) (Calls after) P went = subst (λ (s : State). AllImages s P)
+    (sym (ap run went.grown ∙ run_from-append _ before went.more)) (During-last (run before) went.more P went.each)
 Went-last (Calls before) (Now after) P went = absurd went
 Went-last (Now before) (Calls after) P went = absurd went
 Went-last (Now before) (Now after) P went = went
@@ -121,21 +115,17 @@ Went-last (Now before) (Now after) P went = went
 -- The same of disks that may tell. What is known of a span of time may speak of what the disk was before
 -- it. What follows from what is known of each of two spans holds of the two as one.
 pub goes_on : (before mid after : Option Told) (P Q R : State → List ℕ → Type 0)
-    → ((first : Told) (image : List ℕ) → before ≡ Some first → P (state_of first) image
-    → R (state_of first) image)
+    → ((first : Told) (image : List ℕ) → before ≡ Some first → P (state_of first) image → R (state_of first) image)
     → ((first next : Told) (image : List ℕ) → before ≡ Some first → mid ≡ Some next
-    → Q (state_of next) image → R (state_of first) image)
-    → Goes before mid P → Goes mid after Q → Goes before after R
+    → Q (state_of next) image → R (state_of first) image) → Goes before mid P → Goes mid after Q → Goes before after R
 goes_on None None None P Q R f h first next = tt
 goes_on None None (Some after) P Q R f h first next = absurd next
 goes_on None (Some mid) after P Q R f h first next = absurd first
 goes_on (Some before) None after P Q R f h first next = absurd first
 goes_on (Some before) (Some mid) None P Q R f h first next = absurd next
-goes_on (Some before) (Some mid) (Some after) P Q R f h first next =
-    Went-then before mid after (R (state_of before))
+goes_on (Some before) (Some mid) (Some after) P Q R f h first next = Went-then before mid after (R (state_of before))
     (Went-weaken before mid (P (state_of before)) (R (state_of before)) (λ image. f before image refl) first)
-    (Went-weaken mid after (Q (state_of mid)) (R (state_of before)) (λ image. h before mid image refl refl)
-    next)
+    (Went-weaken mid after (Q (state_of mid)) (R (state_of before)) (λ image. h before mid image refl refl) next)
 
 -- while no call is made, what holds of the present moment holds of each
 pub stays_at : (told : Option Told) (P : State → List ℕ → Type 0)
@@ -145,8 +135,7 @@ stays_at (Some told) P here = Went-still told (P (state_of told)) here
 
 -- what follows from a fact of each moment holds of each moment
 pub Goes-weaken : (before after : Option Told) (P Q : State → List ℕ → Type 0)
-    → ((s : State) (image : List ℕ) → P s image → Q s image) → Goes before after P
-    → Goes before after Q
+    → ((s : State) (image : List ℕ) → P s image → Q s image) → Goes before after P → Goes before after Q
 Goes-weaken None None P Q f goes = tt
 Goes-weaken None (Some after) P Q f goes = absurd goes
 Goes-weaken (Some before) None P Q f goes = absurd goes
@@ -154,8 +143,7 @@ Goes-weaken (Some before) (Some after) P Q f goes = Went-weaken before after (P 
     (Q (state_of before)) (f (state_of before)) goes
 
 -- the last moment is one of them, for what does not speak of before
-pub Goes-last : (before after : Option Told) (P : List ℕ → Type 0) → Goes before after (λ s. P)
-    → IsLeft after P
+pub Goes-last : (before after : Option Told) (P : List ℕ → Type 0) → Goes before after (λ s. P) → IsLeft after P
 Goes-last None None P goes = tt
 Goes-last None (Some after) P goes = absurd goes
 Goes-last (Some before) None P goes = absurd goes
@@ -182,11 +170,9 @@ lasts_during_both s (call ∷ first) next P here there = (
 -- what lasts during some calls lasts through the moments that the disk tells
 pub lasts_by : (told : Told) (more : List Call) (P : List ℕ → Type 0)
     → LastsDuring (state_of told) more P → LastsFrom told (after_all more told) P
-lasts_by (Calls calls) more P each =
-    subst (λ (t : Told). LastsFrom (Calls calls) t P) (sym (calls-after_all calls more))
-    (record { more = more; grown = refl; each = each })
-lasts_by (Now s) more P each =
-    subst (λ (t : Told). LastsFrom (Now s) t P) (sym (now-after_all s more))
+lasts_by (Calls calls) more P each = subst (λ (t : Told). LastsFrom (Calls calls) t P)
+    (sym (calls-after_all calls more)) (record { more = more; grown = refl; each = each })
+lasts_by (Now s) more P each = subst (λ (t : Told). LastsFrom (Now s) t P) (sym (now-after_all s more))
     (λ here. During-last s more P (lasts_on s more P each here))
 
 -- two spans of time are one
@@ -194,8 +180,7 @@ lasts_by_both : (before mid after : List Call) (P : List ℕ → Type 0) → Las
     → LastsBy mid after P → LastsBy before after P
 lasts_by_both before mid after P first next = record {
   more = first.more ++ next.more;
-  grown = next.grown ∙ ap (λ (l : List Call). l ++ next.more) first.grown
-      ∙ append_assoc before first.more next.more;
+  grown = next.grown ∙ ap (λ (l : List Call). l ++ next.more) first.grown ∙ append_assoc before first.more next.more;
   each = lasts_during_both (run before) first.more next.more P first.each
       (subst (λ (s : State). LastsDuring s next.more P) (ap run first.grown
       ∙ run_from-append _ before first.more) next.each);
@@ -203,8 +188,7 @@ lasts_by_both before mid after P first next = record {
 
 lasts_from_both : (before mid after : Told) (P : List ℕ → Type 0) → LastsFrom before mid P
     → LastsFrom mid after P → LastsFrom before after P
-lasts_from_both (Calls before) (Calls mid) (Calls after) P first next =
-    lasts_by_both before mid after P first next
+lasts_from_both (Calls before) (Calls mid) (Calls after) P first next = lasts_by_both before mid after P first next
 lasts_from_both (Calls before) (Calls mid) (Now after) P first next = absurd next
 lasts_from_both (Calls before) (Now mid) after P first next = absurd first
 lasts_from_both (Now before) (Calls mid) after P first next = absurd first
@@ -236,15 +220,13 @@ reaches_synced (Some told) new far at is less reaches =
     subst (λ (o : Option Told). IfSome o (λ t. at ≤ length (content_of t))) (sym is) long
 
 -- what a read gives after one call more
-pub content-after : (told : Told) (call : Call) → content_of (after call told) ≡
-    (step (state_of told) call).content
+pub content-after : (told : Told) (call : Call) → content_of (after call told) ≡ (step (state_of told) call).content
 content-after told call = ap (λ (s : State). s.content) (state-after told call)
 
 pub synced_content : (t : Told) → content_of (after Sync t) ≡ content_of t
 synced_content t = content-after t Sync
 
-pub length_told : (told : Option Told) (n : ℕ) → IfSome (added Sync told)
-    (λ t. n ≡ length (content_of t)) → n ≤ 9
+pub length_told : (told : Option Told) (n : ℕ) → IfSome (added Sync told) (λ t. n ≡ length (content_of t)) → n ≤ 9
     → IfSome told (λ t. length (content_of t) ≤ 9)
 length_told None n long small = tt
 length_told (Some t) n long small = omega (arith, long, small, ap length (synced_content t))
@@ -257,9 +239,8 @@ content-after_all told calls = ap (λ (s : State). s.content) (state-after_all t
 -- two spans of time are one
 pub goes_both : (before mid after : Option Told) (P : List ℕ → Type 0) → Goes before mid (λ s. P)
     → Goes mid after (λ s. P) → Goes before after (λ s. P)
-goes_both before mid after P first next =
-    goes_on before mid after (λ s. P) (λ s. P) (λ s. P) (λ t image told here. here)
-    (λ t u image told then here. here) first next
+goes_both before mid after P first next = goes_on before mid after
+    (λ s. P) (λ s. P) (λ s. P) (λ t image told here. here) (λ t u image told then here. here) first next
 
 pub goes_so : (before after : Option Told) (P Q : List ℕ → Type 0) → ((image : List ℕ) → P image → Q image)
     → Goes before after (λ s. P) → Goes before after (λ s. Q)

@@ -2,8 +2,7 @@
 use Rattle.std.proofs.Common.{◌≡◌, ℕ, ◌+◌, ◌<◌, ◌≤◌, min, List, [], ◌∷◌, length, get_or, ◌⊎◌, inl, inr, refl, subst, sym, ◌∙◌, arith}
 use Rattle.std.proofs.lemmas.List.{get_or-take}
 use Rattle.dr_disk.specs.Calls.{Call, Write, FailedWrite, Cut, FailedCut, Sync, State, written, step, run_from, run}
-use Rattle.dr_disk.specs.Images.{IsImage}
-use Rattle.dr_disk.specs.Ranges.{Pending, settled, pend, pend_all, IsUntouched, IsImageByRanges}
+use Rattle.dr_disk.specs.{Images.IsImage, Ranges.{Pending, settled, pend, pend_all, IsUntouched, IsImageByRanges}}
 use Rattle.dr_disk.proofs.Images.{IsBetween, between-step, written_before, written_behind}
 
 -- a place below the least length, outside of all that was written
@@ -40,8 +39,7 @@ agree-write p at bytes a = record {
     keeps : (i : ℕ) → Outside (step s (Write at bytes)) i
         → get_or (written s.content at bytes) i 0 ≡ get_or s.content i 0
     keeps i (l, inl h) = written_before s.content at bytes i (omega (arith, h, l, a.between.least))
-    keeps i (l, inr h) = written_behind s.content at bytes i (omega (arith, h, l, a.between.least))
-        (omega (arith, h))
+    keeps i (l, inr h) = written_behind s.content at bytes i (omega (arith, h, l, a.between.least)) (omega (arith, h))
 
 agree-failed_write : (p : Pending) (at n : ℕ) → Agree p → Agree (pend p (FailedWrite at n))
 agree-failed_write p at n a = record {
@@ -66,8 +64,7 @@ agree-step p (Cut to) a = record {
   between = between-step p.disk (Cut to) a.between;
   synced = omega (arith, a.synced);
   untouched = λ i out. a.untouched i (omega (arith, out.0), out.1);
-  stays = λ i out. get_or-take to p.disk.content i 0 (omega (arith, out.0))
-      ∙ a.stays i (omega (arith, out.0), out.1);
+  stays = λ i out. get_or-take to p.disk.content i 0 (omega (arith, out.0)) ∙ a.stays i (omega (arith, out.0), out.1);
 }
 agree-step p (FailedCut to) a = record {
   between = between-step p.disk (FailedCut to) a.between;
@@ -99,12 +96,10 @@ settled_agree = record {
 -- no crash leaves less than the least length, which is no more than the greatest
 pub pend_least : (calls : List Call) → (pend_all (settled []) calls).disk.least ≤ (pend_all (settled []) calls).disk.greatest
 pend_least calls =
-    let a = (agree-run (settled []) calls settled_agree).0 in
-    omega (arith, a.between.least, a.between.greatest)
+    let a = (agree-run (settled []) calls settled_agree).0 in omega (arith, a.between.least, a.between.greatest)
 
 -- what a crash leaves by ranges is an image
-pub image_by_ranges : (calls : List Call) (image : List ℕ) → IsImageByRanges calls image
-    → IsImage (run calls) image
+pub image_by_ranges : (calls : List Call) (image : List ℕ) → IsImageByRanges calls image → IsImage (run calls) image
 image_by_ranges calls image left =
     let told = agree-run (settled []) calls (record {
       between = record { least = omega arith; greatest = omega arith };
@@ -117,6 +112,5 @@ image_by_ranges calls image left =
       no_shorter = left.no_shorter;
       no_longer = left.no_longer;
       stays = λ i l free. left.stays i (omega (arith, l, left.no_shorter)) (omega (arith, l, a.synced))
-          (a.untouched i (l, free))
-          ∙ sym (a.stays i (l, free));
+          (a.untouched i (l, free)) ∙ sym (a.stays i (l, free));
     })

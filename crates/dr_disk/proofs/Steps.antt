@@ -2,11 +2,9 @@
 use Rattle.std.proofs.Common.{◌≡◌, ℕ, ◌+◌, ◌≤◌, List, [], ◌∷◌, ◌++◌, length, drop, refl, sym, ap, ap₂, ◌∙◌, append-nil, arith, length-append, length-drop}
 use Rattle.std.proofs.lemmas.List.{take-append-le, drop-append-le}
 use Rattle.dr_disk.specs.Calls.{Call, State, step, run, content_after}
-use Rattle.dr_disk.specs.declared.kept.Step.{Step}
-use Rattle.dr_disk.specs.declared.kept.Step.TheVariants.{Write, FailedWrite, Cut, FailedCut, Sync}
+use Rattle.dr_disk.{specs.Steps.{bytes_of_step, call_of, text_length, calls_of, IsWhole}, proofs.Moments.run-added}
+use Rattle.dr_disk.specs.declared.kept.Step.{Step, TheVariants.{Write, FailedWrite, Cut, FailedCut, Sync}}
 use Rattle.dr_disk.specs.Calls as calls
-use Rattle.dr_disk.specs.Steps.{bytes_of_step, call_of, text_length, calls_of, IsWhole}
-use Rattle.dr_disk.proofs.Moments.{run-added}
 
 -- what stands behind its bytes is nothing to a step
 call_of-append : (s : Step) (text more : List ℕ) → bytes_of_step s ≤ length text
@@ -38,8 +36,7 @@ calls_of-added (t ∷ steps) s text more whole =
 
 -- its calls are one more
 pub calls_after : (steps steps' : List Step) (text text' bytes : List ℕ) (s : Step) (more : List ℕ)
-    → IsWhole steps text bytes
-    → steps' ≡ steps ++ s ∷ [] → text' ≡ text ++ more
+    → IsWhole steps text bytes → steps' ≡ steps ++ s ∷ [] → text' ≡ text ++ more
     → calls_of steps' text' ≡ calls_of steps text ++ call_of s more ∷ []
 calls_after steps steps' text text' bytes s more is pushed extended =
     ap₂ calls_of pushed extended ∙ calls_of-added steps s text more is.whole
@@ -47,8 +44,7 @@ calls_after steps steps' text text' bytes s more is pushed extended =
 -- The record after one step more, whose bytes came behind its text, where the bytes that a read
 -- gives are those that the step leaves.
 pub whole_after : (steps steps' : List Step) (text text' bytes new : List ℕ) (s : Step) (more : List ℕ)
-    → IsWhole steps text bytes → bytes_of_step s ≡ length more
-    → steps' ≡ steps ++ s ∷ [] → text' ≡ text ++ more
+    → IsWhole steps text bytes → bytes_of_step s ≡ length more → steps' ≡ steps ++ s ∷ [] → text' ≡ text ++ more
     → new ≡ (step (run (calls_of steps text)) (call_of s more)).content → IsWhole steps' text' new
 whole_after steps steps' text text' bytes new s more is count pushed extended left = record {
   whole = ap length extended ∙ length-append text more
@@ -60,9 +56,8 @@ whole_after steps steps' text text' bytes new s more is count pushed extended le
 
 -- the same of a step that has no bytes
 pub whole_still : (steps steps' : List Step) (text bytes new : List ℕ) (s : Step)
-    → IsWhole steps text bytes → bytes_of_step s ≡ 0
-    → steps' ≡ steps ++ s ∷ [] → new ≡ (step (run (calls_of steps text)) (call_of s [])).content
-    → IsWhole steps' text new
+    → IsWhole steps text bytes → bytes_of_step s ≡ 0 → steps' ≡ steps
+    ++ s ∷ [] → new ≡ (step (run (calls_of steps text)) (call_of s [])).content → IsWhole steps' text new
 whole_still steps steps' text bytes new s is none pushed left =
     whole_after steps steps' text text bytes new s [] is none pushed (sym (append-nil text)) left
 

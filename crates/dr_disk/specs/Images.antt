@@ -1,7 +1,6 @@
 -- What a crash may leave of a disk, at one moment and at each moment of some calls.
 use Rattle.std.specs.Prelude.{◌≡◌, ℕ, ◌<◌, ◌≤◌, List, [], ◌∷◌, ◌++◌, length, slice_index, Option, Some, None, IfSome, ⊤, ◌⊎◌}
-use Rattle.dr_disk.specs.Calls.{Call, State, step, run}
-use Rattle.dr_disk.specs.Disk.{Told, Calls, Now, state_of, content_of}
+use Rattle.dr_disk.specs.{Calls.{Call, State, step, run}, Disk.{Told, Calls, Now, state_of, content_of}}
 
 -- What a crash may leave: a length that the disk had since the last sync, or any between two of
 -- them. Any bytes may stand from the first place that was written since to the last, and past the least

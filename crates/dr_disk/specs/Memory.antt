@@ -1,8 +1,7 @@
 -- What a disk in memory is to its callers.
 use Rattle.std.specs.Prelude.{ℕ, ◌≤◌, List, Option, IsSomeAnd, ◌⊎◌}
 use Rattle.dr_disk.specs.Calls.{Call, State}
-use Rattle.dr_io.specs.Faults.{count_after}
-use Rattle.dr_io.specs.Plan.{CallPlan, IsPlanned}
+use Rattle.dr_io.specs.{Faults.count_after, Plan.{CallPlan, IsPlanned}}
 
 -- what has become of it, and for how many more bytes there is room
 pub record CalmState : Type 0 where

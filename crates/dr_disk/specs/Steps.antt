@@ -2,8 +2,7 @@
 -- one another.
 use Rattle.std.specs.Prelude.{◌≡◌, ℕ, ◌+◌, List, [], ◌∷◌, length, take, drop}
 use Rattle.dr_disk.specs.Calls as calls
-use Rattle.dr_disk.specs.Calls.{Call, content_after}
-use Rattle.dr_disk.specs.declared.kept.Step.{Step}
+use Rattle.dr_disk.specs.{Calls.{Call, content_after}, declared.kept.Step.Step}
 use Rattle.dr_disk.specs.declared.kept.Step.TheVariants.{Write, FailedWrite, Cut, FailedCut, Sync}
 
 -- how many bytes of the text belong to a step

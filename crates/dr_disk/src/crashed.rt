@@ -1,9 +1,7 @@
 //! What a crash may leave of a disk whose calls are known.
 
 ghost use Rattle.std.specs.Prelude.{◌≡◌, ◌<◌, ◌≤◌, ◌⊎◌, ℕ, OnOk, length, max, slice_index};
-ghost use Rattle.dr_disk.specs.Crashed.{IsReplayed};
-ghost use Rattle.dr_disk.specs.Ranges.{Pending, pend};
-ghost use Rattle.dr_disk.specs.Steps.{bytes_of_step, call_of};
+ghost use Rattle.dr_disk.specs.{Crashed.IsReplayed, Ranges.{Pending, pend}, Steps.{bytes_of_step, call_of}};
 
 use crate::bytes::put;
 use crate::kept::Step;

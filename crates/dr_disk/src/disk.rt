@@ -2,8 +2,7 @@
 
 ghost use Rattle.std.specs.Prelude.{◌≡◌, ◌+◌, ◌≤◌, ℕ, Option, IfOk, IfSome, OnOk, OnErr, length, take, drop};
 ghost use Rattle.dr_io.specs.Faults.{HasCause};
-ghost use Rattle.dr_disk.specs.Calls.{Write, FailedWrite, Cut, FailedCut, Sync};
-ghost use Rattle.dr_disk.specs.Disk.{Told, added, content_of};
+ghost use Rattle.dr_disk.specs.{Calls.{Write, FailedWrite, Cut, FailedCut, Sync}, Disk.{Told, added, content_of}};
 ghost use Rattle.dr_disk.specs.Images.{ReadsAnImage};
 
 use dr_io::Failed;

@@ -1,8 +1,7 @@
 //! The record of a disk's calls, and what a read gives.
 
 ghost use Rattle.std.specs.Prelude.{◌≡◌, ◌+◌, ◌≤◌, [], ◌∷◌, ◌++◌, IfOk, OnOk, length, take, drop};
-ghost use Rattle.dr_disk.specs.Calls.{content_after, Write, FailedWrite, Cut, FailedCut, Sync};
-ghost use Rattle.dr_disk.specs.Crashed.{IsFilled};
+ghost use Rattle.dr_disk.specs.{Calls.{content_after, Write, FailedWrite, Cut, FailedCut, Sync}, Crashed.IsFilled};
 ghost use Rattle.dr_disk.specs.Ranges.{pend_all, settled};
 
 use crate::bytes::{copy_front, put};

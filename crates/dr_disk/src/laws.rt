@@ -2,9 +2,7 @@
 
 ghost use Rattle.std.specs.Prelude.{◌≡◌, ◌≤◌, [], ◌∷◌, ◌++◌, ℕ, List, length, take};
 ghost use Rattle.dr_disk.specs.Calls.{Call, Write, FailedWrite, Cut, FailedCut, Sync, State, step, run, content_after};
-ghost use Rattle.dr_disk.specs.Images.{IsImage};
-ghost use Rattle.dr_disk.specs.Crashed.{IsFilled};
-ghost use Rattle.dr_disk.specs.Ranges.{IsImageByRanges, pend_all, settled};
+ghost use Rattle.dr_disk.specs.{Crashed.IsFilled, Images.IsImage, Ranges.{IsImageByRanges, pend_all, settled}};
 
 /// A law: what a read gives is one of the images that a crash may leave.
 pub fn content_is_an_image()

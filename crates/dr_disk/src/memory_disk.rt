@@ -1,8 +1,7 @@
 //! A disk in memory whose calls fail where they are planned to.
 
 ghost use Rattle.std.specs.Prelude.{◌≡◌, ◌+◌, ◌≤◌, ◌↔◌, [], IfOk, IfSome, IsErr, IsSomeAnd, IsTrue, OnOk, OnErr, length, take, drop};
-ghost use Rattle.dr_io.specs.Faults.{HasCause};
-ghost use Rattle.dr_io.specs.Plan.{plan_after};
+ghost use Rattle.dr_io.specs.{Faults.HasCause, Plan.plan_after};
 
 use crate::disk::Disk;
 use crate::kept::Kept;

@@ -1,10 +1,8 @@
 -- The letters that the generator gives, one after the other.
+use Rattle.std.specs.{List.range_with_len, Prelude.map}
 use Rattle.std.proofs.Common.{◌≡◌, ℕ, zero, suc, ◌+◌, ◌*◌, ◌<◌, ◌/◌, ◌^◌, get_or, mod-lt, List, [], ◌∷◌, ◌++◌, length, refl, ap, sym, ◌∙◌, arith}
 use Rattle.std.proofs.lemmas.List.FromFn.{fill_by_all, map-range_with_len_more}
-use Rattle.std.specs.Prelude.{map}
-use Rattle.std.specs.List.{range_with_len}
-use Rattle.dr_entry.proofs.NumberFacts.{moved}
-use Rattle.dr_entry.proofs.ListFacts.{same_map}
+use Rattle.dr_entry.proofs.{ListFacts.same_map, NumberFacts.moved}
 use Rattle.dr_program.specs.Schedule.{choice_of, next_state}
 use Rattle.dr_drill.specs.Drill.{letter, message, messages_of_member, state_after}
 
@@ -43,8 +41,7 @@ message-add x k j = same_map (letter (state_after x (32 * k))) (letter x) (32 * 
 
 pub messages-add : (x m j : ℕ) → messages_of_member (state_after x (32 * 400 * m)) j ≡ messages_of_member x (m + j)
 unfolding messages_of_member
-messages-add x m j = same_map (message (state_after x (32 * 400 * m))) (message x) (400 * j) (400 * (m + j))
-    400
+messages-add x m j = same_map (message (state_after x (32 * 400 * m))) (message x) (400 * j) (400 * (m + j)) 400
     (λ k. moved (λ n. message (state_after x n) (400 * j + k)) (32 * 400 * m) (32 * (400 * m)) (omega arith)
     ∙ message-add x (400 * m) (400 * j + k)
     ∙ moved (message x) (400 * m + (400 * j + k)) (400 * (m + j) + k) (omega arith))
@@ -63,12 +60,10 @@ unfolding message
 message_filled x bytes long all = fill_by_all (letter x) bytes 32 0 long all
 
 -- one more message
-pub message_more : (x n : ℕ)
-    → map (message x) (range_with_len 0 (n + 1)) ≡ map (message x) (range_with_len 0 n) ++ message
-    (state_after x (32 * n)) 0 ∷ []
-message_more x n = map-range_with_len_more (message x) 0 n n (omega arith)
-    ∙ ap (λ m. map (message x) (range_with_len 0 n) ++ m ∷ []) (moved (message x) n (n + 0) (omega arith)
-    ∙ sym (message-add x n 0))
+pub message_more : (x n : ℕ) → map (message x) (range_with_len 0 (n + 1)) ≡ map (message x) (range_with_len 0 n)
+    ++ message (state_after x (32 * n)) 0 ∷ []
+message_more x n = map-range_with_len_more (message x) 0 n n (omega arith) ∙ ap (λ m. map
+    (message x) (range_with_len 0 n) ++ m ∷ []) (moved (message x) n (n + 0) (omega arith) ∙ sym (message-add x n 0))
 
 pub messages_whole : (x : ℕ) → messages_of_member x 0 ≡ map (message x) (range_with_len 0 400)
 unfolding messages_of_member

@@ -1,18 +1,14 @@
 -- A drill keeps the rules of a script.
-use Rattle.std.proofs.Common.{◌≡◌, ℕ, ◌*◌, ◌<◌, ◌≤◌, List, [], ◌∷◌, length, arith, inr}
-use Rattle.std.proofs.lemmas.List.Elements.{All-cons}
-use Rattle.std.proofs.lemmas.List.FromFn.{length-map-range_with_len}
-use Rattle.std.specs.Prelude.{All}
-use Rattle.dr_entry.specs.declared.limits.TheConstants.{MAX_MESSAGE_LENGTH, MAX_MESSAGES}
-use Rattle.dr_entry.proofs.ListParts.{all_map}
+use Rattle.std.{specs.Prelude.All, proofs.Common.{◌≡◌, ℕ, ◌*◌, ◌<◌, ◌≤◌, List, [], ◌∷◌, length, arith, inr}}
+use Rattle.std.proofs.lemmas.List.{Elements.All-cons, FromFn.length-map-range_with_len}
+use Rattle.dr_entry.{specs.declared.limits.TheConstants.{MAX_MESSAGE_LENGTH, MAX_MESSAGES}, proofs.ListParts.all_map}
 use Rattle.dr_script.specs.Ranges.{HasFaultRanges, HasRanges}
 use Rattle.dr_drill.specs.Drill.{early_crash, drill, letter, message, messages_of_member}
 use Rattle.dr_drill.proofs.Letters.{letter-most}
 
 letters : (seed k : ℕ) → All (λ byte. byte < 256) (message seed k)
 unfolding message
-letters seed k = all_map (letter seed) (λ byte. byte < 256) (λ n. omega (arith, letter-most seed n)) (32 * k)
-    32
+letters seed k = all_map (letter seed) (λ byte. byte < 256) (λ n. omega (arith, letter-most seed n)) (32 * k) 32
 
 long : (seed k : ℕ) → length (message seed k) ≡ 32
 unfolding message
@@ -30,8 +26,7 @@ crashes : (seed member : ℕ) → member < 5 → HasFaultRanges (drill seed) (ea
 crashes seed member below = record {
   age = omega arith;
   member = below;
-  what =
-      (omega arith, omega arith, omega arith);
+  what = (omega arith, omega arith, omega arith);
 }
 
 pub drill_ranges : (seed : ℕ) → HasRanges (drill seed)

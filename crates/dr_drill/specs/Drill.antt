@@ -1,10 +1,7 @@
 -- The script that a number makes.
-use Rattle.std.specs.Prelude.{ℕ, zero, suc, ◌+◌, ◌*◌, List, [], ◌∷◌, map}
-use Rattle.std.specs.List.{range_with_len}
+use Rattle.std.specs.{List.range_with_len, Prelude.{ℕ, zero, suc, ◌+◌, ◌*◌, List, [], ◌∷◌, map}}
 use Rattle.dr_program.specs.Schedule.{choice_of, next_state}
-use Rattle.dr_script.specs.declared.script.Fault.{Fault}
-use Rattle.dr_script.specs.declared.script.Schedule.TheVariants.{Lockstep}
-use Rattle.dr_script.specs.declared.script.Script.{Script}
+use Rattle.dr_script.specs.declared.script.{Fault.Fault, Schedule.TheVariants.Lockstep, Script.Script}
 use Rattle.dr_script.specs.declared.script.What.TheVariants.{Crash}
 
 -- the state of the generator after n choices

@@ -1,14 +1,9 @@
 -- Facts of bits and of lists of marks.
+use Rattle.std.specs.{Fmt.decimal, Int.bit_at, List.{flat_map, filter}, Prelude.map}
 use Rattle.std.proofs.Common.{◌≡◌, refl, ℕ, ◌+◌, ◌<◌, arith, List, [], ◌∷◌, ◌++◌, All, codes, length, length-append, ◌-◌, ◌/◌, ◌%◌, ◌^◌, ◌≤◌, ◌⊎◌, inl, inr, sym, ap, ◌∙◌, ◌↔◌, EachIndex, get_or, ◌*◌, bit_or, below_more, w16, Bool, false, cond, zero, suc, Contains}
-use Rattle.std.specs.Fmt.{decimal}
-use Rattle.std.specs.List.{flat_map, filter}
-use Rattle.std.proofs.lemmas.Fmt.{decimal_nonempty}
-use Rattle.std.proofs.lemmas.List.Elements.{All-head, All-cons}
-use Rattle.std.specs.Int.{bit_at}
-use Rattle.std.proofs.lemmas.Bool.{cases_lt}
+use Rattle.std.proofs.lemmas.{Bool.cases_lt, Fmt.decimal_nonempty, List.Elements.{All-head, All-cons}}
 use Rattle.std.proofs.lemmas.Nat.{div-add-mod', mod_below, pow_pos}
 use Rattle.std.proofs.lemmas.Nat.Bits.{bit_at_above, bit_at_cat_low, same_from_bits, bit_at_ones, bit_at_ones_above, bit_at_set_other, bit_at_set_same}
-use Rattle.std.specs.Prelude.{map}
 use Rattle.dr_entry.proofs.ListFacts.{joined, default_past, Lacks}
 
 -- no number is nothing
@@ -33,15 +28,13 @@ few_bits mask k clear =
 -- a mask of words that equal a number has all its bits exactly where each word does
 pub all_marked : (n : ℕ) (tags : List ℕ) (mask to : ℕ) → length tags ≡ n
     → EachIndex tags (λ i. (bit_at mask i ≡ 1) ↔ (get_or tags i 0 ≡ to))
-    → ((i : ℕ) → length tags ≤ i → bit_at mask i ≡ 0)
-    → (mask ≡ 2 ^ n - 1) ↔ ((i : ℕ) → i < n → get_or tags i 0 ≡ to)
+    → ((i : ℕ) → length tags ≤ i → bit_at mask i ≡ 0) → (mask ≡ 2 ^ n - 1) ↔ ((i : ℕ) → i < n → get_or tags i 0 ≡ to)
 all_marked n tags mask to long set clear = (
   λ e i l. (set i (omega (arith, l, long))).0 (ap (λ (m : ℕ). bit_at m i) e ∙ bit_at_ones n i l),
   λ each. same_from_bits mask (2 ^ n - 1) (λ i. by i each (cases_lt i n)),
 )
   where
-    by : (i : ℕ) → ((j : ℕ) → j < n → get_or tags j 0 ≡ to) → (i < n) ⊎ (n ≤ i)
-        → bit_at mask i ≡ bit_at (2 ^ n - 1) i
+    by : (i : ℕ) → ((j : ℕ) → j < n → get_or tags j 0 ≡ to) → (i < n) ⊎ (n ≤ i) → bit_at mask i ≡ bit_at (2 ^ n - 1) i
     by i each (inl l) = (set i (omega (arith, l, long))).1 (each i l) ∙ sym (bit_at_ones n i l)
     by i each (inr g) = clear i (omega (arith, g, long)) ∙ sym (bit_at_ones_above n i g)
 
@@ -53,8 +46,7 @@ pub record Marks (is : ℕ → Type 0) (mask i : ℕ) : Type 0 where
 pub one_marked : (is : ℕ → Type 0) (mask i : ℕ) → i < 16 → is i → Marks is mask i
     → Marks is (bit_or mask (1 * 2 ^ i % 2 ^ 16)) (i + 1)
 one_marked is mask i within here before = record {
-  set = below_more _ _
-      (λ j h. let e = bit_at_set_other w16 mask i within j (omega arith) in
+  set = below_more _ _ (λ j h. let e = bit_at_set_other w16 mask i within j (omega arith) in
       (λ g. (before.set j h).0 (sym e ∙ g), λ g. e ∙ (before.set j h).1 g))
       (let e = bit_at_set_same w16 mask i within in (λ _. here, λ _. e));
   clear = λ j h. bit_at_set_other w16 mask i within j (omega arith) ∙ before.clear j (omega arith);
@@ -71,8 +63,7 @@ few_at lists s n few = by (cases_lt s (length lists))
 
 pub none_pass : (f : ℕ → Bool) (xs : List ℕ) → ((k : ℕ) → f k ≡ false) → length (filter f xs) ≡ 0
 none_pass f [] none = refl
-none_pass f (x ∷ xs) none = ap (λ b. length (cond b (x ∷ filter f xs) (filter f xs))) (none x)
-    ∙ none_pass f xs none
+none_pass f (x ∷ xs) none = ap (λ b. length (cond b (x ∷ filter f xs) (filter f xs))) (none x) ∙ none_pass f xs none
 
 pub all_map : {X Y : Type 0} (f : X → Y) (P : Y → Type 0) → ((x : X) → P (f x)) → (xs : List X) → All P (map f xs)
 all_map f P holds [] = λ k d within. absurd (omega (arith, within))

@@ -1,9 +1,7 @@
 -- Facts of tests, by their answers.
-use Rattle.std.proofs.Common.{◌≡◌, Bool, true, false, Decides, refl, ◌⊎◌, inl, inr, T, cond, subst, sym, ◌∙◌, not, if◌then◌else◌, ap, ◌≤◌, arith, ◌<◌, true≢false}
-use Rattle.std.specs.Prelude.{◌&&◌, ◌||◌}
-use Rattle.std.specs.Ordering.{is_eq, is_lt}
-use Rattle.std.specs.declared.cmp.Ordering.{Ordering}
+use Rattle.std.specs.{Ordering.{is_eq, is_lt}, Prelude.{◌&&◌, ◌||◌}, declared.cmp.Ordering.Ordering}
 use Rattle.std.specs.declared.cmp.Ordering.TheVariants.{Less, Equal, Greater}
+use Rattle.std.proofs.Common.{◌≡◌, Bool, true, false, Decides, refl, ◌⊎◌, inl, inr, T, cond, subst, sym, ◌∙◌, not, if◌then◌else◌, ap, ◌≤◌, arith, ◌<◌, true≢false}
 use Rattle.dr_entry.proofs.NumberFacts.{phase}
 
 -- where an answer decides a fact, the fact decides it
@@ -79,8 +77,7 @@ both_decide x answer is (inr skipped) = (
 )
 
 -- an answer that is another's decides what that decides
-pub same_decides : {P : Type 0} (answer other : Bool) → answer ≡ other → Decides other P
-    → Decides answer P
+pub same_decides : {P : Type 0} (answer other : Bool) → answer ≡ other → Decides other P → Decides answer P
 same_decides answer other same is = (λ t. is.0 (sym same ∙ t), λ p. same ∙ is.1 p)
 
 -- what fails where it doesn't hold
@@ -102,8 +99,7 @@ same_test false true to back = back refl
 same_test false false to back = refl
 
 -- a member that a row names, which is inside and unnamed, or outside, unnamed and new, may be named next
-pub naming : (named member me suspected late new : Bool)
-    → ((named && (member && (not me && not suspected)))
+pub naming : (named member me suspected late new : Bool) → ((named && (member && (not me && not suspected)))
     || ((named && ((late && not member) && (not me && not suspected))) && new))
     ≡ (named && (not me && ((member || (late && new)) && not suspected)))
 naming false member me suspected late new = refl
@@ -138,8 +134,7 @@ untrue true never = absurd (never refl)
 untrue false never = refl
 
 -- where a vote is due, it may vote for the value that is due alone
-pub all_true : (a b c d x : Bool) → a ≡ true → b ≡ true → c ≡ true → d ≡ true
-    → (a && (b && (c && (d && x)))) ≡ x
+pub all_true : (a b c d x : Bool) → a ≡ true → b ≡ true → c ≡ true → d ≡ true → (a && (b && (c && (d && x)))) ≡ x
 all_true a b c d x p q r s = rw (p, q, r, s) refl
 
 -- who came into the view and has no letter yet, test by test
@@ -194,8 +189,7 @@ order true true false b i e = refl
 order true false false b i e = refl
 
 -- of three tests that pass, each does
-pub calm_parts : (a b d : Bool) → (not a && (not b && not d)) ≡ true
-    → (a ≡ false) × ((b ≡ false) × (d ≡ false))
+pub calm_parts : (a b d : Bool) → (not a && (not b && not d)) ≡ true → (a ≡ false) × ((b ≡ false) × (d ≡ false))
 calm_parts false false false e = (refl, (refl, refl))
 calm_parts true b d e = absurd (cc e)
 calm_parts false true d e = absurd (cc e)
@@ -217,10 +211,8 @@ phase_few true true = let e : 1 ≤ 2 = omega arith in e
 phase_few true false = let e : 2 ≤ 2 = omega arith in e
 
 -- one view on it is as far, or farther where it comes or goes
-pub further : (named was now : Bool) → (was ≡ true → named ≡ true)
-    → (now ≡ true → (was ≡ true) ⊎ (named ≡ false))
-    → (phase named was ≤ phase (now || named) now)
-    × ((now ≡ was) ⊎ (phase named was < phase (now || named) now))
+pub further : (named was now : Bool) → (was ≡ true → named ≡ true) → (now ≡ true → (was ≡ true) ⊎ (named ≡ false))
+    → (phase named was ≤ phase (now || named) now) × ((now ≡ was) ⊎ (phase named was < phase (now || named) now))
 unfolding phase
 further false true now holds comes = absurd (true≢false (sym (holds refl)))
 further false false false holds comes = let e : 0 ≤ 0 = omega arith in (e, inl refl)

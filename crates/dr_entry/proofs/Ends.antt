@@ -1,11 +1,7 @@
 -- What a member sent, and how members ended.
+use Rattle.std.{specs.Prelude.find, proofs.lemmas.{Bool.{ne_eqb, eq-eqb, cases_Bool}, Option.{none-some, same_Some}}}
 use Rattle.std.proofs.Common.{ℕ, ◌==◌, Bool, false, ◌≡◌, ◌≢◌, refl, ap, true, ◌∙◌, inl, inr, zero, suc, cond, List, [], ◌∷◌, Some, slice_get}
-use Rattle.std.proofs.lemmas.Bool.{ne_eqb, eq-eqb, cases_Bool}
-use Rattle.std.specs.Prelude.{find}
-use Rattle.std.proofs.lemmas.Option.{none-some, same_Some}
-use Rattle.dr_entry.specs.declared.end.SentItem.{SentItem}
-use Rattle.dr_entry.specs.declared.end.SentItem.TheVariants.{Null, Index}
-use Rattle.dr_entry.specs.declared.end.MemberEnd.{MemberEnd}
+use Rattle.dr_entry.specs.declared.end.{MemberEnd.MemberEnd, SentItem.{SentItem, TheVariants.{Null, Index}}}
 
 -- whether an item is the message with this index
 unfoldable pub is_message : ℕ → SentItem → Bool
@@ -24,8 +20,7 @@ is_message-same i (Index j) e = eq-eqb j i (cc)
 
 -- where some end passes, the first that does is found
 pub first_found : (p : MemberEnd → Bool) (es : List MemberEnd) (s : ℕ) (e : MemberEnd) → slice_get es s ≡ Some e
-    → p e ≡ true
-    → (i : ℕ) × (f : MemberEnd) × (slice_get es i ≡ Some f) × (p f ≡ true) × (find p es ≡ Some f)
+    → p e ≡ true → (i : ℕ) × (f : MemberEnd) × (slice_get es i ≡ Some f) × (p f ≡ true) × (find p es ≡ Some f)
 first_found p [] s e at passes = absurd (none-some e at)
 first_found p (x ∷ es) zero e at passes = (zero, x, refl, is, ap (λ b. cond b (Some x) (find p es)) is)
   where

@@ -1,9 +1,7 @@
 -- Entries and their messages.
 use Rattle.std.proofs.Common.{◌≡◌, refl, ◌+◌, List, [], ◌∷◌, ◌++◌, length, drop, ℕ, zero, suc, arith, ap, ◌≤◌, sym, ◌∙◌, ◌<◌, take, get_or, Contains, subst, ◌⊎◌, inl, inr, append_assoc, drop_at}
-use Rattle.std.proofs.lemmas.List.{nil_from_length, take_more, take_all, get_or_default}
-use Rattle.std.proofs.lemmas.List.Elements.{Contains-push_cases}
-use Rattle.dr_entry.specs.declared.entry.Entry.{Entry}
-use Rattle.dr_entry.specs.declared.entry.Entry.TheVariants.{Msg, View}
+use Rattle.std.proofs.lemmas.List.{nil_from_length, take_more, take_all, get_or_default, Elements.Contains-push_cases}
+use Rattle.dr_entry.specs.declared.entry.Entry.{Entry, TheVariants.{Msg, View}}
 
 pub drop_start : (start own : List Entry) → drop (length start) (start ++ own) ≡ own
 drop_start [] own = refl
@@ -35,8 +33,7 @@ as_empty h g l none same short = nil_from_length h (omega (arith, short, ap leng
 -- one entry more that is the same in both
 pub same_more : (g h : List Entry) (n : ℕ) (x y : Entry) → n < length g → n < length h
     → x ≡ get_or g n x → y ≡ get_or h n y → x ≡ y → take n g ≡ take n h → take (n + 1) g ≡ take (n + 1) h
-same_more g h n x y lg lh rx ry e same =
-    take_more g n x lg ∙ (ap (λ (xs : List Entry). xs ++ get_or g n x ∷ []) same
+same_more g h n x y lg lh rx ry e same = take_more g n x lg ∙ (ap (λ (xs : List Entry). xs ++ get_or g n x ∷ []) same
     ∙ (ap (λ (z : Entry). take n h ++ z ∷ []) (sym rx ∙ (e ∙ ry)) ∙ sym (take_more h n y lh)))
 
 -- none of the first so many is it
@@ -47,8 +44,7 @@ pub none_first : (age : ℕ) → HasNoFirst age []
 none_first age members c = absurd (omega (arith, c.1))
 
 pub no_first_more : (age : ℕ) (es : List Entry) (i : ℕ) (x : Entry) → i < length es → x ≡ get_or es i x
-    → HasNoFirst age (take i es) → ((members : ℕ) → x ≡ View age 0 members → ⊥)
-    → HasNoFirst age (take (i + 1) es)
+    → HasNoFirst age (take i es) → ((members : ℕ) → x ≡ View age 0 members → ⊥) → HasNoFirst age (take (i + 1) es)
 no_first_more age es i x l read old here members c =
     by (Contains-push_cases (take i es) x (View age 0 members) (subst (λ xs. Contains xs (View age 0 members)) more c))
   where
@@ -59,18 +55,15 @@ no_first_more age es i x l read old here members c =
     by (inl there) = old members there
     by (inr e) = here members e
 
-pub no_first : (age : ℕ) (es : List Entry) (i : ℕ) → length es ≤ i → HasNoFirst age (take i es)
-    → HasNoFirst age es
+pub no_first : (age : ℕ) (es : List Entry) (i : ℕ) → length es ≤ i → HasNoFirst age (take i es) → HasNoFirst age es
 no_first age es i l none = subst (HasNoFirst age) (take_all i es l) none
 
-pub first_there : (es : List Entry) (i : ℕ) (x y : Entry) → i < length es → x ≡ get_or es i x → x ≡ y
-    → Contains es y
+pub first_there : (es : List Entry) (i : ℕ) (x y : Entry) → i < length es → x ≡ get_or es i x → x ≡ y → Contains es y
 first_there es i x y l read e = (i, l, get_or_default es i y x l ∙ (sym read ∙ e))
 
 pub lacking_all : (es rest start : List Entry) (v w : Entry) → es ++ rest ≡ start → v ≡ w
     → es ++ (rest ++ v ∷ []) ≡ start ++ w ∷ []
-lacking_all es rest start v w is same =
-    sym (append_assoc es rest (v ∷ [])) ∙ ap (λ (l : List Entry). l ++ v ∷ []) is
+lacking_all es rest start v w is same = sym (append_assoc es rest (v ∷ [])) ∙ ap (λ (l : List Entry). l ++ v ∷ []) is
     ∙ ap (λ (x : Entry). start ++ x ∷ []) same
 
 -- so what it lacks of all that the age begins with

@@ -1,13 +1,10 @@
 -- The bytes of a field, and fields that are whole and keep their rules.
+use Rattle.std.{specs.Int.{w16, w32, from_be_bytes, to_be_bytes}, proofs.lemmas.Bool.{cases_lt, le-ltb, ltb-false}}
+use Rattle.std.{specs.List.AllByRecursion, proofs.lemmas.Nat.{be_bytes_2, be_bytes_4}}
 use Rattle.std.proofs.Common.{◌≡◌, ℕ, ◌+◌, ◌<◌, ◌≤◌, Bool, true, false, cond, ◌^◌, List, [], ◌∷◌, ◌++◌, length, get_or, take, drop, Option, Some, None, refl, sym, ap, ◌∙◌, inl, inr, arith, length-drop, length-take}
-use Rattle.std.specs.List.{AllByRecursion}
-use Rattle.std.specs.Int.{w16, w32, from_be_bytes, to_be_bytes}
-use Rattle.std.proofs.lemmas.Bool.{cases_lt, le-ltb, ltb-false}
 use Rattle.std.proofs.lemmas.List.{drop-drop, drop_more, take-append-drop, get_or-drop, get_or-take, get_or_past}
-use Rattle.std.proofs.lemmas.Nat.{be_bytes_2, be_bytes_4}
-use Rattle.dr_entry.specs.declared.reading.DecodeFault.{DecodeFault}
+use Rattle.dr_entry.specs.{Grammar.{Field, number_at, first_fault}, declared.reading.DecodeFault.DecodeFault}
 use Rattle.dr_entry.specs.declared.reading.DecodeFault.TheVariants.{Short, BadField}
-use Rattle.dr_entry.specs.Grammar.{Field, number_at, first_fault}
 
 -- each number of the list is a byte
 abbrev pub IsBytes : List ℕ → Type 0
@@ -17,19 +14,17 @@ IsBytes-drop : (n : ℕ) (bytes : List ℕ) → IsBytes bytes → IsBytes (drop 
 IsBytes-drop n bytes fits i = rw get_or-drop (fits (n + i))
 
 IsBytes-take : (n : ℕ) (bytes : List ℕ) → IsBytes bytes → IsBytes (take n bytes)
-IsBytes-take n bytes fits i =
-    elim (cases_lt i n) [
-      | inl lt ↦ rw (get_or-take n bytes i 0 lt) (fits i)
-      | inr le ↦ rw (get_or_past (take n bytes) i 0 (omega (arith, length-take n bytes))) (omega arith)
-    ]
+IsBytes-take n bytes fits i = elim (cases_lt i n) [
+  | inl lt ↦ rw (get_or-take n bytes i 0 lt) (fits i)
+  | inr le ↦ rw (get_or_past (take n bytes) i 0 (omega (arith, length-take n bytes))) (omega arith)
+]
 
 -- the bytes of a number, and what follows it
 front_2 : (bytes : List ℕ) → IsBytes bytes → 2 ≤ length bytes → bytes
     ≡ to_be_bytes w16 (from_be_bytes w16 bytes) ++ drop 2 bytes
 front_2 [] fits long = absurd (omega arith)
 front_2 (a ∷ []) fits long = absurd (omega arith)
-front_2 (a ∷ b ∷ bytes) fits long =
-    ap (λ (front : List ℕ). front ++ bytes)
+front_2 (a ∷ b ∷ bytes) fits long = ap (λ (front : List ℕ). front ++ bytes)
     (sym (be_bytes_2 (a ∷ b ∷ []) _ refl (IsBytes-take 2 (a ∷ b ∷ bytes) fits) refl))
 
 front_4 : (bytes : List ℕ) → IsBytes bytes → 4 ≤ length bytes → bytes
@@ -38,10 +33,8 @@ front_4 [] fits long = absurd (omega arith)
 front_4 (a ∷ []) fits long = absurd (omega arith)
 front_4 (a ∷ b ∷ []) fits long = absurd (omega arith)
 front_4 (a ∷ b ∷ c ∷ []) fits long = absurd (omega arith)
-front_4 (a ∷ b ∷ c ∷ d ∷ bytes) fits long =
-    ap (λ (front : List ℕ). front ++ bytes)
-    (sym (be_bytes_4 (a ∷ b ∷ c ∷ d ∷ []) _ refl
-    (IsBytes-take 4 (a ∷ b ∷ c ∷ d ∷ bytes) fits) refl))
+front_4 (a ∷ b ∷ c ∷ d ∷ bytes) fits long = ap (λ (front : List ℕ). front ++ bytes)
+    (sym (be_bytes_4 (a ∷ b ∷ c ∷ d ∷ []) _ refl (IsBytes-take 4 (a ∷ b ∷ c ∷ d ∷ bytes) fits) refl))
 
 -- from a place inside on, the bytes are the byte there and those behind it
 pub drop-byte : (at : ℕ) (bytes : List ℕ) → at + 1 ≤ length bytes → drop at bytes
@@ -63,8 +56,7 @@ drop-number_4 at bytes fits whole =
     ∙ ap (λ (rest : List ℕ). to_be_bytes w32 (number_at w32 at bytes) ++ rest) (drop-drop 4 at bytes)
 
 -- from a place on, the bytes are the next n and those behind them
-pub drop-bytes : (at n : ℕ) (bytes : List ℕ) → drop at bytes ≡ take n (drop at bytes)
-    ++ drop (at + n) bytes
+pub drop-bytes : (at n : ℕ) (bytes : List ℕ) → drop at bytes ≡ take n (drop at bytes) ++ drop (at + n) bytes
 drop-bytes at n bytes = sym (take-append-drop n (drop at bytes))
     ∙ ap (λ (rest : List ℕ). take n (drop at bytes) ++ rest) (drop-drop n at bytes)
 
@@ -76,8 +68,7 @@ pub record Passes (bytes : List ℕ) (field : Field) : Type 0 where
   pub kept : field.rule bytes ≡ true
 
 tests_pass : (short kept : Bool) (a b : DecodeFault) (next : Option DecodeFault)
-    → cond short (Some a) (cond kept next (Some b)) ≡ None → (short ≡ false) × (kept ≡ true)
-    × (next ≡ None)
+    → cond short (Some a) (cond kept next (Some b)) ≡ None → (short ≡ false) × (kept ≡ true) × (next ≡ None)
 tests_pass true kept a b next e = absurd (cc)
 tests_pass false true a b next e = (refl, refl, e)
 tests_pass false false a b next e = absurd (cc)

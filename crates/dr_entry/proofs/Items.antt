@@ -1,7 +1,6 @@
 -- Items, and which of them are null.
 use Rattle.std.proofs.Common.{◌≡◌, Bool, true, false, cond, ◌&&◌, Some, None, is_some, refl, IsSome, ℕ, zero, suc, ◌<◌, List, [], ◌∷◌, length, replicate, get_or, arith}
-use Rattle.dr_entry.specs.declared.entry.Item.{Item}
-use Rattle.dr_entry.specs.declared.entry.Item.TheVariants.{Null}
+use Rattle.dr_entry.specs.declared.entry.Item.{Item, TheVariants.Null}
 
 pub some_rest : (a b : Bool) (x : Item) → a ≡ true → is_some (cond (a && b) (Some x) None) ≡ b
 some_rest true true x e = refl
@@ -23,5 +22,4 @@ all_null [] (suc n) e all = absurd (omega (arith, e))
 all_null (x ∷ items) zero e all = absurd (omega (arith, e))
 all_null (x ∷ items) (suc n) e all =
     let first : x ≡ Null = all 0 (omega arith) in
-    let rest = all_null items n (omega (arith, e)) (λ k l. all (suc k) (omega (arith, l))) in
-    cc (first, rest)
+    let rest = all_null items n (omega (arith, e)) (λ k l. all (suc k) (omega (arith, l))) in cc (first, rest)

@@ -1,34 +1,20 @@
 -- Facts of lists: their lengths, fronts and rests, folds and maps.
-use Rattle.std.proofs.Common.{ℕ, ◌≤◌, max, List, [], ◌∷◌, fold, arith, le_refl, ◌≡◌, ◌+◌, ◌<◌, length, get_or, drop, ap, ◌∙◌, ◌-◌, take, length-drop, ◌++◌, map, Option, Some, refl, Bool, suc, None, false, true, eqb, sym, ◌&&◌, set, zero, replicate, inl, inr, nat_lt, add-zero, zero-add, append_assoc, Result, Ok, Err, OnOk, is_ok, if◌then◌else◌, min, cond, ◌==◌, not, ◌⊎◌, subst, slice_get, codes, length-append, take_at, drop_at, ◌^◌, below_more, length-take, le_trans, add-one, position, ◌≢◌, true≢false, bytes_eq}
-use Rattle.std.proofs.lemmas.List.{drop_more, take_all, take_more, map-append, get_or-replicate, get_or_past, length-replicate, take-append-drop, length-take-le, append-nil, drop_all, get_or-set_other, get_or-set_same, get_or-drop, get_or-map, get_or-take, length-map}
-use Rattle.std.specs.List.{filter_map, list_any, cons_option, starts_with, flat_map, enumerate_from, concat, AllWithin, HoldsAt, list_all, AllZip, join_by, position_or_len, range_with_len, position_from}
-use Rattle.std.proofs.lemmas.List.Elements.{filter_map-append}
-use Rattle.std.specs.Prelude.{◌||◌, is_some, nat_eq, Vec, IfSome, unwrap_or, ⊤}
-use Rattle.std.specs.Cmp.Lexicographic.{slice_cmp}
-use Rattle.std.specs.Ordering.{nat_cmp, is_le, ordering_then, is_eq}
-use Rattle.std.specs.declared.cmp.Ordering.{Ordering}
-use Rattle.std.proofs.lemmas.Bool.{eqb-true, eq-eqb, cases_lt, and_from, and_parts, false≢true, ne_eqb, cases_Bool}
-use Rattle.std.specs.Cmp.{tied_itself, nat_cmp_total, nat_cmp_is, ranked}
-use Rattle.std.specs.declared.cmp.Ordering.TheVariants.{Less, Equal, Greater}
-use Rattle.std.specs.declared.alloc.Global.{Global}
-use Rattle.std.proofs.lemmas.Grind.{flat_map-append, same_number_lists}
-use Rattle.std.proofs.Math.Seq.{take-append_seam, get_or-append_seam}
-use Rattle.std.proofs.lemmas.List.Concat.{concat_is}
-use Rattle.std.proofs.lemmas.List.Folds.{concat-append, list_any_at, list_any_none}
-use Rattle.std.specs.Bool.{MatchBool, then_some}
-use Rattle.std.proofs.lemmas.List.Sums.{fold-append, position_or_len_is}
+use Rattle.std.{specs.{Bool.{MatchBool, then_some}, Cmp.Lexicographic.slice_cmp}, proofs.Math.Nat.min-le_left}
+use Rattle.std.{specs.Cmp.{tied_itself, nat_cmp_total, nat_cmp_is, ranked}, proofs.lemmas.Slice.Eq.bytes_eq-Decides}
 use Rattle.std.specs.Fmt.{decimal}
-use Rattle.std.proofs.Math.ListN.{get_or-append}
-use Rattle.std.proofs.lemmas.Fmt.{decimal_injective}
-use Rattle.std.proofs.lemmas.List.FromFn.{map-range_with_len_more}
-use Rattle.std.proofs.Math.Nat.{min-le_left}
+use Rattle.std.specs.List.{filter_map, list_any, cons_option, starts_with, flat_map, enumerate_from, concat, AllWithin, HoldsAt, list_all, AllZip, join_by, position_or_len, range_with_len, position_from}
+use Rattle.std.{specs.Ordering.{nat_cmp, is_le, ordering_then, is_eq}, proofs.lemmas.List.Elements.filter_map-append}
+use Rattle.std.specs.{Prelude.{◌||◌, is_some, nat_eq, Vec, IfSome, unwrap_or, ⊤}, declared.cmp.Ordering.Ordering}
+use Rattle.std.{specs.declared.alloc.Global.Global, proofs.{Math.ListN.get_or-append, lemmas.List.Concat.concat_is}}
+use Rattle.std.{specs.declared.cmp.Ordering.TheVariants.{Less, Equal, Greater}, proofs.lemmas.Fmt.decimal_injective}
+use Rattle.std.proofs.Common.{ℕ, ◌≤◌, max, List, [], ◌∷◌, fold, arith, le_refl, ◌≡◌, ◌+◌, ◌<◌, length, get_or, drop, ap, ◌∙◌, ◌-◌, take, length-drop, ◌++◌, map, Option, Some, refl, Bool, suc, None, false, true, eqb, sym, ◌&&◌, set, zero, replicate, inl, inr, nat_lt, add-zero, zero-add, append_assoc, Result, Ok, Err, OnOk, is_ok, if◌then◌else◌, min, cond, ◌==◌, not, ◌⊎◌, subst, slice_get, codes, length-append, take_at, drop_at, ◌^◌, below_more, length-take, le_trans, add-one, position, ◌≢◌, true≢false, bytes_eq}
+use Rattle.std.proofs.{Math.Seq.{take-append_seam, get_or-append_seam}, lemmas.Iterator.Adapters.position_from-zero}
+use Rattle.std.proofs.lemmas.Bool.{eqb-true, eq-eqb, cases_lt, and_from, and_parts, false≢true, ne_eqb, cases_Bool}
+use Rattle.std.proofs.lemmas.{Grind.{flat_map-append, same_number_lists}, List.Sums.{fold-append, position_or_len_is}}
+use Rattle.std.proofs.lemmas.List.{drop_more, take_all, take_more, map-append, get_or-replicate, get_or_past, length-replicate, take-append-drop, length-take-le, append-nil, drop_all, get_or-set_other, get_or-set_same, get_or-drop, get_or-map, get_or-take, length-map}
+use Rattle.std.proofs.lemmas.List.{Folds.{concat-append, list_any_at, list_any_none}, FromFn.map-range_with_len_more}
 use Rattle.std.proofs.lemmas.Option.{slice_get_past, unwrap_or-slice_get, same_Some, slice_get-get_or}
-use Rattle.std.proofs.lemmas.Iterator.Adapters.{position_from-zero}
-use Rattle.std.proofs.lemmas.Slice.Eq.{bytes_eq-Decides}
-use Rattle.dr_entry.proofs.BoolFacts.{both_true}
-use Rattle.dr_entry.proofs.ListParts.{other_decimal}
-use Rattle.dr_entry.proofs.Fields.{IsBytes}
-use Rattle.dr_entry.proofs.NumberFacts.{moved}
+use Rattle.dr_entry.proofs.{BoolFacts.both_true, Fields.IsBytes, ListParts.other_decimal, NumberFacts.moved}
 
 pub fold_max : (xs : List ℕ) (a : ℕ) → a ≤ fold max a xs
 fold_max [] a = le_refl a
@@ -37,8 +23,7 @@ fold_max (x ∷ xs) a = let h : max a x ≤ fold max (max a x) xs = fold_max xs 
 -- the gate and what stands behind it
 pub gate_first : (bytes : List ℕ) (at gate : ℕ) → at < length bytes → get_or bytes at 0 ≡ gate
     → drop at bytes ≡ gate ∷ drop (at + 1) bytes
-gate_first bytes at gate inside is = drop_more bytes at 0 inside
-    ∙ ap (λ (g : ℕ). g ∷ drop (at + 1) bytes) is
+gate_first bytes at gate inside is = drop_more bytes at 0 inside ∙ ap (λ (g : ℕ). g ∷ drop (at + 1) bytes) is
 
 -- the bytes from a place on, as the code takes them
 pub rest_is : (bytes : List ℕ) (k : ℕ) → take (length bytes - k) (drop k bytes) ≡ drop k bytes
@@ -53,8 +38,7 @@ filter_map_more h g xs i x y inside is here =
 
 -- one more element of two maps
 pub map_more : {A B C : Type 0} (h : B → C) (g : A → B) (xs : List A) (i : ℕ) (x : A) → i
-    < length xs → x ≡ get_or xs i x → map h (map g (take (i + 1) xs)) ≡ map h (map g (take i xs))
-    ++ h (g x) ∷ []
+    < length xs → x ≡ get_or xs i x → map h (map g (take (i + 1) xs)) ≡ map h (map g (take i xs)) ++ h (g x) ∷ []
 map_more h g xs i x inside is = rw (take_more xs i x inside, ← is, map-append, map-append) refl
 
 -- some image passes a test exactly where some element does so by its image
@@ -63,13 +47,11 @@ pub list_any_map : {A B : Type 0} (test : B → Bool) (f : A → B) (xs : List A
 list_any_map test f [] = refl
 list_any_map test f (x ∷ xs) = ap (λ rest. test (f x) || rest) (list_any_map test f xs)
 
-length_cons_option : {A : Type 0} (o : Option A) (xs : List A) → length (cons_option o xs)
-    ≤ suc (length xs)
+length_cons_option : {A : Type 0} (o : Option A) (xs : List A) → length (cons_option o xs) ≤ suc (length xs)
 length_cons_option None xs = omega arith
 length_cons_option (Some x) xs = omega arith
 
-pub length_filter_map : {A B : Type 0} (f : A → Option B) (xs : List A) → length (filter_map f xs)
-    ≤ length xs
+pub length_filter_map : {A B : Type 0} (f : A → Option B) (xs : List A) → length (filter_map f xs) ≤ length xs
 length_filter_map f [] = omega arith
 length_filter_map f (x ∷ xs) = let rest = length_filter_map f xs in
     let one = length_cons_option (f x) (filter_map f xs) in omega arith
@@ -115,8 +97,7 @@ begins-between (y ∷ p) (x ∷ k) (z ∷ l) low up e =
 
 pub below_not : (p k : List ℕ) → is_le (by_bytes p k) ≡ false → starts_with nat_eq k p ≡ false
 below_not p k below = elim (starts_with nat_eq k p) as (λ b. starts_with nat_eq k p ≡ b → b ≡ false) [
-  | true ↦
-      λ e. absurd (cc (sym (begins-le p k e) ∙ below))
+  | true ↦ λ e. absurd (cc (sym (begins-le p k e) ∙ below))
   | false ↦ λ _. refl
 ] refl
 
@@ -135,11 +116,10 @@ set_over (r ∷ rows) (suc i) x y = ap (λ (rest : List (List ℕ)). r ∷ rest)
 
 -- a copy stands at each place of a list of copies, and past its end where it is the default
 pub copy_at : {X : Type 0} (n : ℕ) (x : X) (i : ℕ) → get_or (replicate n x) i x ≡ x
-copy_at n x i =
-    elim (cases_lt i n) [
-      | inl within ↦ get_or-replicate n i x x within
-      | inr past ↦ get_or_past (replicate n x) i x (omega (arith, length-replicate n x))
-    ]
+copy_at n x i = elim (cases_lt i n) [
+  | inl within ↦ get_or-replicate n i x x within
+  | inr past ↦ get_or_past (replicate n x) i x (omega (arith, length-replicate n x))
+]
 
 -- whether each of the bytes is below 128
 abbrev pub all_ascii : List ℕ → Bool
@@ -149,14 +129,12 @@ all_ascii (b ∷ bs) = nat_lt b 128 && all_ascii bs
 -- the text of a list is that of its first elements, followed by that of the rest
 pub text_parts : {A B : Type 0} (f : A → List B) (xs : List A) (n : ℕ)
     → flat_map f xs ≡ flat_map f (take n xs) ++ flat_map f (drop n xs)
-text_parts f xs n =
-    ap (flat_map f) (sym (take-append-drop n xs)) ∙ flat_map-append f (take n xs) (drop n xs)
+text_parts f xs n = ap (flat_map f) (sym (take-append-drop n xs)) ∙ flat_map-append f (take n xs) (drop n xs)
 
 -- the text of the first elements begins the text of all
 pub first_text : {A B : Type 0} (f : A → List B) (xs : List A) (n : ℕ)
     → take (length (flat_map f (take n xs))) (flat_map f xs) ≡ flat_map f (take n xs)
-first_text f xs n =
-    ap (take (length (flat_map f (take n xs)))) (text_parts f xs n)
+first_text f xs n = ap (take (length (flat_map f (take n xs)))) (text_parts f xs n)
     ∙ take-append_seam (flat_map f (take n xs)) (flat_map f (drop n xs))
 
 -- the numbers go on behind a list
@@ -169,13 +147,10 @@ numbered_append n (x ∷ xs) ys =
     ap (λ zs. (n, x) ∷ zs) (numbered_append (n + 1) xs ys ∙ on)
 
 -- a text that goes on by the text of one numbered element more
-pub numbered_texts_more : {A B : Type 0} (f : ℕ × A → List B) (xs : List A) (i : ℕ) (x : A)
-    (old now new : List B)
-    → i < length xs → x ≡ get_or xs i x
-    → now ≡ old ++ flat_map f (enumerate_from 0 (take i xs)) → new ≡ now ++ f (i, x)
-    → new ≡ old ++ flat_map f (enumerate_from 0 (take (i + 1) xs))
-numbered_texts_more f xs i x old now new below is before after =
-    rw (after, before, more, append_assoc) refl
+pub numbered_texts_more : {A B : Type 0} (f : ℕ × A → List B) (xs : List A) (i : ℕ) (x : A) (old now new : List B)
+    → i < length xs → x ≡ get_or xs i x → now ≡ old ++ flat_map f (enumerate_from 0 (take i xs))
+    → new ≡ now ++ f (i, x) → new ≡ old ++ flat_map f (enumerate_from 0 (take (i + 1) xs))
+numbered_texts_more f xs i x old now new below is before after = rw (after, before, more, append_assoc) refl
   where
     len : length (take i xs) ≡ i
     len = length-take-le i xs (omega arith)
@@ -183,34 +158,28 @@ numbered_texts_more f xs i x old now new below is before after =
     numbers : enumerate_from 0 (take i xs ++ x ∷ []) ≡ enumerate_from 0 (take i xs) ++ (i, x) ∷ []
     numbers = numbered_append 0 (take i xs) (x ∷ []) ∙ rw (len, zero-add) refl
 
-    more : flat_map f (enumerate_from 0 (take (i + 1) xs))
-        ≡ flat_map f (enumerate_from 0 (take i xs)) ++ f (i, x)
+    more : flat_map f (enumerate_from 0 (take (i + 1) xs)) ≡ flat_map f (enumerate_from 0 (take i xs)) ++ f (i, x)
     more = rw (take_more xs i x below, ← is, numbers, flat_map-append, append-nil) refl
 
 -- the text of one element more
-pub text_more : {A B : Type 0} (f : A → List B) (xs : List A) (i : ℕ) (x : A)
-    → i < length xs → x ≡ get_or xs i x
+pub text_more : {A B : Type 0} (f : A → List B) (xs : List A) (i : ℕ) (x : A) → i < length xs → x ≡ get_or xs i x
     → flat_map f (take (i + 1) xs) ≡ flat_map f (take i xs) ++ f x
-text_more f xs i x below is =
-    rw (take_more xs i x below, flat_map-append, ← is, append-nil) refl
+text_more f xs i x below is = rw (take_more xs i x below, flat_map-append, ← is, append-nil) refl
 
 -- one text more
 pub concat_more : (xs : List (List ℕ)) (i : ℕ) (x : List ℕ) → i < length xs → x ≡ get_or xs i x
     → concat (take (i + 1) xs) ≡ concat (take i xs) ++ x
-concat_more xs i x below is =
-    concat_is (take (i + 1) xs) ∙ text_more (λ x. x) xs i x below is
+concat_more xs i x below is = concat_is (take (i + 1) xs) ∙ text_more (λ x. x) xs i x below is
     ∙ ap (λ l. l ++ x) (sym (concat_is (take i xs)))
 
 -- a text behind the others
 pub concat_behind : (old new : List (List ℕ)) (whole text line : List ℕ)
     → new ≡ old ++ text ∷ [] → concat old ≡ whole → text ≡ line → concat new ≡ whole ++ line
-concat_behind old new whole text line added before is =
-    rw (added, concat-append, before, is, append-nil) refl
+concat_behind old new whole text line added before is = rw (added, concat-append, before, is, append-nil) refl
 
 -- a line and lines, and then more lines
 pub lines_more : (old now new line first rest lines : List ℕ)
-    → now ≡ old ++ (line ++ first) → new ≡ now ++ (rest ++ []) → first ++ rest ≡ lines
-    → new ≡ old ++ (line ++ lines)
+    → now ≡ old ++ (line ++ first) → new ≡ now ++ (rest ++ []) → first ++ rest ≡ lines → new ≡ old ++ (line ++ lines)
 lines_more old now new line first rest lines begun after whole =
     rw (after, begun, ← whole, append-nil, append_assoc, append_assoc) refl
 
@@ -231,10 +200,8 @@ if_pushed (Ok value) b new s last = last
 if_pushed (Err fault) b new s last = tt
 
 -- what a search for an element has found
-pub found_any : (p : ℕ → Bool) (xs : List ℕ) (r : Bool)
-    → MatchBool r ((k : ℕ) × (k < length xs) × HoldsAt (λ x. p x ≡ true) xs k)
-    (AllWithin (λ x. p x ≡ false) xs 0 (length xs))
-    → r ≡ list_any p xs
+pub found_any : (p : ℕ → Bool) (xs : List ℕ) (r : Bool) → MatchBool r ((k : ℕ) × (k < length xs)
+    × HoldsAt (λ x. p x ≡ true) xs k) (AllWithin (λ x. p x ≡ false) xs 0 (length xs)) → r ≡ list_any p xs
 found_any p xs true (k, below, at) = sym (list_any_at p xs k 0 below (at 0))
 found_any p xs false none = sym (list_any_none p xs (λ k d below. none k d (omega arith) below))
 
@@ -255,15 +222,13 @@ unmoved_set f (x ∷ xs) (suc m) y d l same = ap (λ zs. f x ∷ zs) (unmoved_se
 pub one_min : (f : ℕ → ℕ) (a n : ℕ) (ms : List ℕ) (there : Bool)
     → fold min a (map f (ms ++ (if there then n ∷ [] else [])))
     ≡ (if there then min (fold min a (map f ms)) (f n) else fold min a (map f ms))
-one_min f a n ms true = ap (fold min a) (map-append f ms (n ∷ []))
-    ∙ fold-append min a (map f ms) (f n ∷ [])
+one_min f a n ms true = ap (fold min a) (map-append f ms (n ∷ [])) ∙ fold-append min a (map f ms) (f n ∷ [])
 one_min f a n ms false = ap (λ l. fold min a (map f l)) (append-nil ms)
 
 pub one_max : (f : ℕ → ℕ) (a n : ℕ) (ms : List ℕ) (there : Bool)
     → fold max a (map f (ms ++ (if there then n ∷ [] else [])))
     ≡ (if there then max (fold max a (map f ms)) (f n) else fold max a (map f ms))
-one_max f a n ms true = ap (fold max a) (map-append f ms (n ∷ []))
-    ∙ fold-append max a (map f ms) (f n ∷ [])
+one_max f a n ms true = ap (fold max a) (map-append f ms (n ∷ [])) ∙ fold-append max a (map f ms) (f n ∷ [])
 one_max f a n ms false = ap (λ l. fold max a (map f l)) (append-nil ms)
 
 pub one_passes : (p : ℕ → Bool) (there : Bool) (n : ℕ) → (there ≡ true → p n ≡ true)
@@ -305,8 +270,7 @@ fed_both [] ys one other = other
 fed_both (x ∷ xs) ys one other = (one.0, fed_both xs ys one.1 other)
 
 pub zip_push : {A B : Type 0} (R : A → B → Type 0) (xs : List A) (ys : List B) (x : A) (y : B) → AllZip R xs ys
-    → R x y
-    → AllZip R (xs ++ x ∷ []) (ys ++ y ∷ [])
+    → R x y → AllZip R (xs ++ x ∷ []) (ys ++ y ∷ [])
 zip_push R [] [] x y zip one = (one, tt)
 zip_push R [] (w ∷ ys) x y zip one = absurd zip
 zip_push R (z ∷ xs) [] x y zip one = absurd zip
@@ -328,8 +292,7 @@ free_append (x ∷ xs) ys free =
 
 pub whole_part : (line : List ℕ) → IsPart line → EndsFed line → IsFed line
 whole_part line (inl fed) ends = fed
-whole_part line (inr free) ends =
-    absurd (false≢true (free_append ends.0 (10 ∷ []) (ap is_free (sym ends.1) ∙ free)))
+whole_part line (inr free) ends = absurd (false≢true (free_append ends.0 (10 ∷ []) (ap is_free (sym ends.1) ∙ free)))
 
 -- free bytes behind free bytes are free
 pub free_both : (xs ys : List ℕ) → is_free xs ≡ true → is_free ys ≡ true → is_free (xs ++ ys) ≡ true
@@ -393,9 +356,8 @@ number_first y [] less =
     let w = decimal y in
     let other = other_decimal y (omega (arith, less)) in
     let whole : joined (y ∷ []) ≡ w = append-nil w in
-    let at : position_or_len (λ b. b == 44) w ≡ length w =
-    position_or_len_is (λ b. b == 44) w (length w) 0 (omega arith) (λ k l. other k 0 l)
-    (λ l. absurd (omega (arith, l))) in (
+    let at : position_or_len (λ b. b == 44) w ≡ length w = position_or_len_is (λ b. b == 44) w
+    (length w) 0 (omega arith) (λ k l. other k 0 l) (λ l. absurd (omega (arith, l))) in (
       ap (λ t. take (position_or_len (λ b. b == 44) t) t) whole
           ∙ take_all (position_or_len (λ b. b == 44) w) w (omega (arith, at)),
       ap (λ t. drop (position_or_len (λ b. b == 44) t + 1) t) whole
@@ -416,8 +378,7 @@ number_first y (z ∷ zs) less =
           ∙ drop_at (w ++ 44 ∷ []) rest (length w + 1) (length-append w (44 ∷ []))),
     )
 
-pub same_number : (m n : ℕ) → m < 2 ^ 64 → n < 2 ^ 64 → (word : List ℕ) → word ≡ decimal m → word ≡ decimal n
-    → m ≡ n
+pub same_number : (m n : ℕ) → m < 2 ^ 64 → n < 2 ^ 64 → (word : List ℕ) → word ≡ decimal m → word ≡ decimal n → m ≡ n
 same_number m n small few word one other = decimal_injective m n small few (sym one ∙ other)
 
 -- a text of parts ends as its last part does
@@ -441,8 +402,7 @@ none_more p bytes i before here k less = by (cases_lt k i)
     by : (k < i) ⊎ (i ≤ k) → p (get_or bytes k 0) ≡ false
     by (inl below) = before k below
     by (inr above) =
-        let e : i ≡ k = omega (arith, above, less) in
-        subst (λ (j : ℕ). p (get_or bytes j 0) ≡ false) e here
+        let e : i ≡ k = omega (arith, above, less) in subst (λ (j : ℕ). p (get_or bytes j 0) ≡ false) e here
 
 abbrev AreFree : List (List ℕ) → Type 0
 AreFree [] = Unit {0}
@@ -459,8 +419,7 @@ fed_parts (x ∷ xs) free =
     )
 
 -- two tests that agree on a range
-pub same_tests : (p q : ℕ → Bool) (slot : ℕ → ℕ) (n a : ℕ)
-    → ((i : ℕ) → a ≤ i → i < a + n → p (slot i) ≡ q i)
+pub same_tests : (p q : ℕ → Bool) (slot : ℕ → ℕ) (n a : ℕ) → ((i : ℕ) → a ≤ i → i < a + n → p (slot i) ≡ q i)
     → list_all p (map slot (range_with_len a n)) ≡ list_all q (range_with_len a n)
 same_tests p q slot zero a same = refl
 same_tests p q slot (suc n) a same =
@@ -473,14 +432,12 @@ abbrev pub first_words : (ℕ → ℕ) → ℕ → List ℕ
 first_words slot n = map slot (range_with_len 1 n)
 
 -- the first words of a body, with one part more
-pub words_more : (slot : ℕ → ℕ) (n : ℕ)
-    → first_words slot (n + 1) ≡ first_words slot n ++ slot (1 + n) ∷ []
+pub words_more : (slot : ℕ → ℕ) (n : ℕ) → first_words slot (n + 1) ≡ first_words slot n ++ slot (1 + n) ∷ []
 words_more slot n = map-range_with_len_more slot 1 n (1 + n) refl
 
 -- a list of which one place more is filled
 pub filled_more : (list : List ℕ) (at i v : ℕ) (of : ℕ → ℕ) → at ≡ i → i < length list → v ≡ of i
-    → ((j : ℕ) → j < i → get_or list j 0 ≡ of j)
-    → (j : ℕ) → j < i + 1 → get_or (set list at v) j 0 ≡ of j
+    → ((j : ℕ) → j < i → get_or list j 0 ≡ of j) → (j : ℕ) → j < i + 1 → get_or (set list at v) j 0 ≡ of j
 filled_more list at i v of here within new before =
     below_more _ _ (λ j l. get_or-set_other list at j v 0 (omega (arith, here, l)) ∙ before j l)
     (ap (λ (n : ℕ). get_or (set list n v) i 0) here ∙ get_or-set_same list i v 0 within ∙ new)
@@ -490,19 +447,16 @@ IsBytes-drop n bytes fits i = rw get_or-drop (fits (n + i))
 
 pub written_length : (row : List ℕ) (column : ℕ) (words : List ℕ) → column ≤ length row
     → length (take column row ++ words) ≡ column + length words
-written_length row column words within =
-    omega (arith, length-append (take column row) words, length-take column row)
+written_length row column words within = omega (arith, length-append (take column row) words, length-take column row)
 
 -- the front of a list that was made of another, element by element
 pub made_of : (f : ℕ → ℕ) (made from : List ℕ) (n : ℕ) → n ≤ length made → n ≤ length from
     → ((j : ℕ) → j < n → get_or made j 0 ≡ f (get_or from j 0)) → take n made ≡ map f (take n from)
-made_of f made from n long enough each =
-    same_number_lists (take n made) (map f (take n from))
+made_of f made from n long enough each = same_number_lists (take n made) (map f (take n from))
     (length-take-le n made long ∙ sym (length-map (take n from) f ∙ length-take-le n from enough))
     (λ j l. let low : j < n = omega (arith, l, length-take-le n made long) in
-    get_or-take n made j 0 low ∙ each j low
-    ∙ sym (get_or-map f (take n from) j 0 0 (omega (arith, low, length-take-le n from enough))
-    ∙ ap f (get_or-take n from j 0 low)))
+    get_or-take n made j 0 low ∙ each j low ∙ sym (get_or-map f
+    (take n from) j 0 0 (omega (arith, low, length-take-le n from enough)) ∙ ap f (get_or-take n from j 0 low)))
 
 pub at_most : (top : ℕ) (xs : List ℕ) → fold min top xs ≤ top
 at_most top [] = le_refl top
@@ -515,8 +469,7 @@ rises_each low high f g (x ∷ xs) l rise =
     rises_each (min low (f x)) (min high (g x)) f g xs (omega (arith, l, rise x)) rise
 
 -- what is at most the bound has a greatest that is, too
-pub fold_max_within : (f : ℕ → ℕ) (xs : List ℕ) (a b : ℕ) → a ≤ b
-    → ((x : ℕ) → f x ≤ b) → fold max a (map f xs) ≤ b
+pub fold_max_within : (f : ℕ → ℕ) (xs : List ℕ) (a b : ℕ) → a ≤ b → ((x : ℕ) → f x ≤ b) → fold max a (map f xs) ≤ b
 fold_max_within f [] a b l each = l
 fold_max_within f (x ∷ xs) a b l each = fold_max_within f xs (max a (f x)) b (omega (arith, l, each x)) each
 
@@ -546,8 +499,7 @@ same_under xs i d e l =
 
 -- five texts, each appended behind what the one before it left
 pub five_behind : (front a b c d e one two three four five : List ℕ) → one ≡ front ++ a → two ≡ one ++ b
-    → three ≡ two ++ c → four ≡ three ++ d → five ≡ four ++ e
-    → five ≡ front ++ concat (a ∷ b ∷ c ∷ d ∷ e ∷ [])
+    → three ≡ two ++ c → four ≡ three ++ d → five ≡ four ++ e → five ≡ front ++ concat (a ∷ b ∷ c ∷ d ∷ e ∷ [])
 five_behind front a b c d e one two three four five is1 is2 is3 is4 is5 =
     simp (is5, is4, is3, is2, is1, append_assoc, append-nil) refl
 
@@ -590,8 +542,7 @@ pub numbered_on : (n : ℕ) (xs rest : List (List ℕ)) → (more : List (ℕ ×
     × (enumerate_from n xs ++ more ≡ enumerate_from n (xs ++ rest))
 numbered_on n [] rest = (enumerate_from n rest, refl)
 numbered_on n (x ∷ xs) rest =
-    let r = numbered_on (n + 1) xs rest in
-    (r.0, ap (λ (l : List (ℕ × List ℕ)). (n, x) ∷ l) r.1)
+    let r = numbered_on (n + 1) xs rest in (r.0, ap (λ (l : List (ℕ × List ℕ)). (n, x) ∷ l) r.1)
 
 -- a position is found where some element passes
 some_from : {X : Type 0} (p : X → Bool) (xs : List X) (n : ℕ) → is_some (position_from p n xs) ≡ list_any p xs
@@ -636,8 +587,7 @@ longer (y ∷ ys) x = refl
 
 pub commas_more : (ns : List ℕ) (n : ℕ) → commas (ns ++ n ∷ []) ≡ commas ns ++ one_more (has_none ns) n
 commas_more [] n = append-nil (decimal n)
-commas_more (m ∷ ns) n =
-    ap (λ l. decimal m ++ l)
+commas_more (m ∷ ns) n = ap (λ l. decimal m ++ l)
     (flat_map-append (λ y. codes "," ++ decimal y) ns (n ∷ [])
     ∙ ap (λ l. flat_map (λ y. codes "," ++ decimal y) ns ++ l) (append-nil (codes "," ++ decimal n)))
     ∙ sym (append_assoc (decimal m) (flat_map (λ y. codes "," ++ decimal y) ns) (codes "," ++ decimal n))

@@ -1,16 +1,11 @@
 -- Facts of lists: what holds of all elements, of some, or of those that pass a test.
-use Rattle.std.proofs.Common.{◌≡◌, ℕ, Bool, ◌==◌, Contains, Decides, List, ◌+◌, [], ◌∷◌, ◌++◌, arith, Option, Some, None, refl, ◌≤◌, ◌<◌, length, take, get_or, subst, cond, filter, map, false, ◌%◌, ◌^◌, true, ◌&&◌, if◌then◌else◌, sym, ap, ◌∙◌, zero, suc, inl, inr, le_refl, not}
+use Rattle.std.specs.{Fmt.decimal, Prelude.slice_get}
 use Rattle.std.specs.List.{IsAnyAnswer, All, cons_option, filter_map, range_with_len, count_by, position_or_len}
-use Rattle.std.proofs.lemmas.Bool.Decides.{Decides-eqb}
+use Rattle.std.proofs.Common.{◌≡◌, ℕ, Bool, ◌==◌, Contains, Decides, List, ◌+◌, [], ◌∷◌, ◌++◌, arith, Option, Some, None, refl, ◌≤◌, ◌<◌, length, take, get_or, subst, cond, filter, map, false, ◌%◌, ◌^◌, true, ◌&&◌, if◌then◌else◌, sym, ap, ◌∙◌, zero, suc, inl, inr, le_refl, not}
+use Rattle.std.proofs.lemmas.{Bool.{cases_eq, Decides.Decides-eqb}, Fmt.decimal_by_steps, List.Sums.sum_by-cons}
+use Rattle.std.proofs.lemmas.{List.{map-id, get_or-map, length-map}, Option.{get_or_from_slice_get, slice_get_within}}
 use Rattle.std.proofs.lemmas.List.Elements.{contains_decides, Decides-contains, All-append, All-cons, All-more, All-nil}
-use Rattle.std.proofs.lemmas.List.{map-id, get_or-map, length-map}
 use Rattle.std.proofs.lemmas.List.FromFn.{filter_of_map_range_with_len_more, get_or-map-range_with_len, length-map-range_with_len}
-use Rattle.std.specs.Fmt.{decimal}
-use Rattle.std.proofs.lemmas.Fmt.{decimal_by_steps}
-use Rattle.std.proofs.lemmas.List.Sums.{sum_by-cons}
-use Rattle.std.specs.Prelude.{slice_get}
-use Rattle.std.proofs.lemmas.Option.{get_or_from_slice_get, slice_get_within}
-use Rattle.std.proofs.lemmas.Bool.{cases_eq}
 use Rattle.dr_entry.proofs.NumberFacts.{not_comma, IsEarly, IsRunEnd, IsKnown}
 
 -- what `contains` answers of numbers
@@ -19,8 +14,7 @@ pub contains_is : (xs : List ℕ) (x : ℕ) (r : Bool) → IsAnyAnswer (λ y b. 
 contains_is xs x r h = Decides-contains xs x r (contains_decides ◌==◌ Decides-eqb xs x r h)
 
 -- one more element has what all have
-pub all_more : {A : Type 0} (P : A → Type 0) (xs : List A) (x : A) → All P xs → P x
-    → All P (xs ++ x ∷ [])
+pub all_more : {A : Type 0} (P : A → Type 0) (xs : List A) (x : A) → All P xs → P x → All P (xs ++ x ∷ [])
 all_more P xs x before here =
     All-append P xs (x ∷ []) before (All-cons P x [] here (λ k d inside. absurd (omega arith)))
 
@@ -35,13 +29,11 @@ all_cons_option P (Some x) xs here all = All-cons P x xs (here x refl) all
 pub all_filter_map : {A B : Type 0} (P : B → Type 0) (f : A → Option B)
     → ((x : A) (y : B) → f x ≡ Some y → P y) → (xs : List A) → All P (filter_map f xs)
 all_filter_map P f each [] = nothing P
-all_filter_map P f each (x ∷ xs) =
-    all_cons_option P (f x) (filter_map f xs) (each x) (all_filter_map P f each xs)
+all_filter_map P f each (x ∷ xs) = all_cons_option P (f x) (filter_map f xs) (each x) (all_filter_map P f each xs)
 
 -- what is at most a bound is at most a greater one, and so is one element more
 pub most_more : {A : Type 0} (f : A → ℕ) (xs : List A) (i : ℕ) (x : A) (most most' : ℕ)
-    → i < length xs → x ≡ get_or xs i x → All (λ y. f y ≤ most) (take i xs) → most ≤ most'
-    → f x ≤ most'
+    → i < length xs → x ≡ get_or xs i x → All (λ y. f y ≤ most) (take i xs) → most ≤ most' → f x ≤ most'
     → All (λ y. f y ≤ most') (take (i + 1) xs)
 most_more f xs i x most most' below is before grown here =
     All-more (λ y. f y ≤ most') xs i x below earlier (subst (λ y. f y ≤ most') is here)
@@ -51,27 +43,22 @@ most_more f xs i x most most' below is before grown here =
 
 -- the numbers below one more that pass a test
 pub filter_range_more : (p : ℕ → Bool) (len : ℕ)
-    → filter p (range_with_len 0 (len + 1)) ≡ filter p (range_with_len 0 len)
-    ++ cond (p len) (len ∷ []) []
-filter_range_more p len =
-    rw (map-id (range_with_len 0 (len + 1)), map-id (range_with_len 0 len)) at
+    → filter p (range_with_len 0 (len + 1)) ≡ filter p (range_with_len 0 len) ++ cond (p len) (len ∷ []) []
+filter_range_more p len = rw (map-id (range_with_len 0 (len + 1)), map-id (range_with_len 0 len)) at
     (filter_of_map_range_with_len_more p (λ (n : ℕ). n) 0 len len (omega arith))
 
 -- what holds of what each element gives
-pub each_of_map : {X Y : Type 0} (P : Y → Type 0) (f : X → Y) (xs : List X) → All P (map f xs)
-    → All (λ x. P (f x)) xs
+pub each_of_map : {X Y : Type 0} (P : Y → Type 0) (f : X → Y) (xs : List X) → All P (map f xs) → All (λ x. P (f x)) xs
 each_of_map P f xs all k d within =
     subst P (get_or-map f xs k d (f d) within) (all k (f d) (rw (length-map xs f) within))
 
 other_digit : (b : ℕ) → 45 ≤ b → All (λ b. (b == 44) ≡ false) (b ∷ [])
-other_digit b above = All-cons (λ b. (b == 44) ≡ false) b [] (not_comma b above)
-    (All-nil (λ b. (b == 44) ≡ false))
+other_digit b above = All-cons (λ b. (b == 44) ≡ false) b [] (not_comma b above) (All-nil (λ b. (b == 44) ≡ false))
 
 pub other_decimal : (n : ℕ) → n < 2 ^ 64 → All (λ b. (b == 44) ≡ false) (decimal n)
-other_decimal n small =
-    decimal_by_steps (λ n ds. All (λ b. (b == 44) ≡ false) ds) (λ n less. other_digit (48 + n) (omega arith))
-    (λ n ds least before. All-append (λ b. (b == 44) ≡ false) ds ((48 + n % 10) ∷ []) before
-    (other_digit (48 + n % 10) (omega arith))) n small
+other_decimal n small = decimal_by_steps (λ n ds. All (λ b. (b == 44) ≡ false) ds)
+    (λ n less. other_digit (48 + n) (omega arith)) (λ n ds least before. All-append
+    (λ b. (b == 44) ≡ false) ds ((48 + n % 10) ∷ []) before (other_digit (48 + n % 10) (omega arith))) n small
 
 -- a filter keeps no more than there is
 pub filter_few : {A : Type 0} (p : A → Bool) (xs : List A) → length (filter p xs) ≤ length xs
@@ -94,38 +81,30 @@ one p n false kept e = refl
 pub count_by-map : {X : Type 0} (p : ℕ → Bool) (f : X → ℕ) (xs : List X)
     → count_by p (map f xs) ≡ count_by (λ x. p (f x)) xs
 count_by-map p f [] = refl
-count_by-map p f (x ∷ xs) =
-    sum_by-cons (λ y. cond (p y) 1 0) (f x) (map f xs)
-    ∙ ap (λ (n : ℕ). cond (p (f x)) 1 0 + n) (count_by-map p f xs)
-    ∙ sym (sum_by-cons (λ y. cond (p (f y)) 1 0) x xs)
+count_by-map p f (x ∷ xs) = sum_by-cons (λ y. cond (p y) 1 0) (f x) (map f xs)
+    ∙ ap (λ (n : ℕ). cond (p (f x)) 1 0 + n) (count_by-map p f xs) ∙ sym (sum_by-cons (λ y. cond (p (f y)) 1 0) x xs)
 
 -- an element that stands at a number is so where each is
-pub each_at : {A : Type 0} (P : A → Type 0) (xs : List A) (m : ℕ) (x : A) → All P xs
-    → slice_get xs m ≡ Some x → P x
-each_at P xs m x all there = subst P (get_or_from_slice_get xs m x x there)
-    (all m x (slice_get_within xs m x there))
+pub each_at : {A : Type 0} (P : A → Type 0) (xs : List A) (m : ℕ) (x : A) → All P xs → slice_get xs m ≡ Some x → P x
+each_at P xs m x all there = subst P (get_or_from_slice_get xs m x x there) (all m x (slice_get_within xs m x there))
 
 -- where nothing passes, each number of the range fails
 pub none_pass : (p : ℕ → Bool) (a n k : ℕ) → length (filter p (range_with_len a n)) ≡ 0 → a
     ≤ k → k < a + n → p k ≡ false
 none_pass p a zero k none least most = absurd (omega arith)
-none_pass p a (suc n) k none least most =
-    by (p a) refl none (λ e l. none_pass p (a + 1) n k e l (omega arith))
+none_pass p a (suc n) k none least most = by (p a) refl none (λ e l. none_pass p (a + 1) n k e l (omega arith))
   where
     by : (b : Bool) → p a ≡ b → length
         (cond b (a ∷ filter p (range_with_len (a + 1) n)) (filter p (range_with_len (a + 1) n))) ≡ 0
-        → (length (filter p (range_with_len (a + 1) n)) ≡ 0 → a + 1 ≤ k → p k ≡ false) → p k
-        ≡ false
+        → (length (filter p (range_with_len (a + 1) n)) ≡ 0 → a + 1 ≤ k → p k ≡ false) → p k ≡ false
     by true e empty later = absurd (omega arith)
-    by false e empty later = elim (cases_eq k a)
-        [ inl here ↦ ap p here ∙ e | inr other ↦ later empty (omega arith) ]
+    by false e empty later = elim (cases_eq k a) [ inl here ↦ ap p here ∙ e | inr other ↦ later empty (omega arith) ]
 
 -- tests that agree from where the range begins on
 pub agree_above : (p q : ℕ → Bool) (a n : ℕ) → ((k : ℕ) → a ≤ k → q k ≡ p k)
     → filter q (range_with_len a n) ≡ filter p (range_with_len a n)
 agree_above p q a zero same = refl
-agree_above p q a (suc n) same =
-    λ z. cond (same a (le_refl a) z) (a ∷ agree_above p q (a + 1) n later z)
+agree_above p q a (suc n) same = λ z. cond (same a (le_refl a) z) (a ∷ agree_above p q (a + 1) n later z)
     (agree_above p q (a + 1) n later z)
   where
     later : (k : ℕ) → a + 1 ≤ k → q k ≡ p k
@@ -140,23 +119,20 @@ all_map f P holds a n k d within =
 
 pub map_alike : {X Y : Type 0} (f g : X → Y) (xs : List X) → All (λ x. f x ≡ g x) xs → map f xs ≡ map g xs
 map_alike f g [] all = refl
-map_alike f g (x ∷ xs) all =
-    ap (λ y. y ∷ map f xs) (all 0 x (omega arith))
+map_alike f g (x ∷ xs) all = ap (λ y. y ∷ map f xs) (all 0 x (omega arith))
     ∙ ap (λ ys. g x ∷ ys) (map_alike f g xs (λ k d within. all (suc k) d (omega (arith, within))))
 
 -- where no element passes, none was found
 pub none_passes : {X : Type 0} (p : X → Bool) (xs : List X) → length xs ≤ position_or_len p xs
     → All (λ x. p x ≡ false) xs
 none_passes p [] all = λ k d within. absurd (omega (arith, within))
-none_passes p (x ∷ xs) all =
-    elim (p x) as (λ b. p x ≡ b → suc (length xs) ≤ cond (not b) (1 + position_or_len p xs) 0
+none_passes p (x ∷ xs) all = elim (p x) as (λ b. p x ≡ b → suc (length xs) ≤ cond (not b) (1 + position_or_len p xs) 0
     → All (λ y. p y ≡ false) (x ∷ xs)) [
       | true ↦ λ _ few. absurd (omega (arith, few))
       | false ↦ λ fails more. All-cons (λ y. p y ≡ false) x xs fails (none_passes p xs (omega (arith, more)))
     ] refl all
 
-pub contains_more : (end : ℕ) (ends : List ℕ) (status : ℕ) → Contains ends status
-    → Contains (end ∷ ends) status
+pub contains_more : (end : ℕ) (ends : List ℕ) (status : ℕ) → Contains ends status → Contains (end ∷ ends) status
 contains_more end ends status (i, below, is) = (suc i, omega (arith, below), is)
 
 pub in_early : (rest : List ℕ) (status : ℕ) → IsEarly status → Contains (10 ∷ 5 ∷ rest) status

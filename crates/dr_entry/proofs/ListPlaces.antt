@@ -1,28 +1,18 @@
 -- Facts of lists: what stands at which place.
+use Rattle.std.specs.{Cmp.{tied_itself, Lexicographic.nat_list_cmp_total}, Int.{w32, from_be_bytes, to_be_bytes}}
+use Rattle.std.specs.{List.{position, position_or_len, Any, AllZip, range_with_len, filter, remove}, Ordering.is_eq}
+use Rattle.std.specs.{Prelude.{Vec, slice_set, option_map, sum_by}, declared.alloc.Global.Global}
 use Rattle.std.proofs.Common.{ℕ, zero, suc, ◌<◌, ◌≤◌, max, List, [], ◌∷◌, length, fold, slice_index, arith, ◌≡◌, Bool, true, false, slice_index_or, nat_lt, None, Some, ◌+◌, ◌++◌, take, sym, ap, ◌∙◌, refl, Option, filter_map, option_to_list, slice_get, subst, ◌⊎◌, inl, inr, get_or, All, drop, ◌-◌, ◌/◌, ◌%◌, ◌≢◌, min, map, replicate, ⊎_elim, cond, le_refl, length-append}
-use Rattle.std.specs.List.{position, position_or_len, Any, AllZip, range_with_len, filter, remove}
-use Rattle.std.proofs.lemmas.Bool.{cond-true, lt-ltb, cond-false, le-ltb, cases_lt}
-use Rattle.std.proofs.lemmas.List.Sums.{position_or_len_is, sum_by-append, sum_by-cons, sum_by-set}
+use Rattle.std.proofs.{Math.ListN.set, lemmas.Bool.{cond-true, lt-ltb, cond-false, le-ltb, cases_lt}}
 use Rattle.std.proofs.lemmas.List.{take_more, get_or-set_same, length-set, get_or-set_other, get_or-replicate, get_or_past, length-replicate, get_or-map, length-map, get_or_append_left, set-append_left, get_or-append_right, set-append_right, get_or_push}
-use Rattle.std.specs.Prelude.{Vec, slice_set, option_map, sum_by}
-use Rattle.std.specs.Cmp.{tied_itself}
-use Rattle.std.specs.Cmp.Lexicographic.{nat_list_cmp_total}
-use Rattle.std.specs.Ordering.{is_eq}
-use Rattle.std.specs.declared.alloc.Global.{Global}
-use Rattle.std.proofs.lemmas.List.Elements.{filter_map-append}
+use Rattle.std.proofs.lemmas.List.{Edits.fill_by_more, Elements.filter_map-append, FromFn.fill_by_all}
+use Rattle.std.proofs.lemmas.List.Sums.{position_or_len_is, sum_by-append, sum_by-cons, sum_by-set}
 use Rattle.std.proofs.lemmas.Option.{same_Some, slice_get-get_or, get_or_from_slice_get, slice_get_within, none-some, slice_get_past}
-use Rattle.std.specs.Int.{w32, from_be_bytes, to_be_bytes}
-use Rattle.std.proofs.Math.ListN.{set}
-use Rattle.std.proofs.lemmas.List.Edits.{fill_by_more}
-use Rattle.std.proofs.lemmas.List.FromFn.{fill_by_all}
 use mathlib.Core.Option.{some, some-injective, some-ne-none}
 use lib.ListN.{get_elem?}
+use Rattle.dr_entry.proofs.{BoolFacts.equal, Fields.IsBytes, PlainFacts.{same_key, zero_fits}}
 use Rattle.dr_entry.proofs.ListFacts.{fold_max, by_bytes, is_key, KeepBelow, at_most, default_past, parts_long}
-use Rattle.dr_entry.proofs.PlainFacts.{same_key, zero_fits}
-use Rattle.dr_entry.proofs.BoolFacts.{equal}
-use Rattle.dr_entry.proofs.NumberFacts.{four, byte_0, byte_1, byte_2, byte_3, moved}
-use Rattle.dr_entry.proofs.Fields.{IsBytes}
-use Rattle.dr_entry.proofs.ListParts.{agree_above}
+use Rattle.dr_entry.proofs.{ListParts.agree_above, NumberFacts.{four, byte_0, byte_1, byte_2, byte_3, moved}}
 
 -- a count is at most the greatest
 pub count_max : (xs : List ℕ) (a i : ℕ) → i < length xs → slice_index xs i ≤ fold max a xs
@@ -43,8 +33,7 @@ position_found p xs k d within before at =
 pub position_none : {X : Type 0} (p : X → Bool) (xs : List X) (d : X)
     → ((j : ℕ) → j < length xs → p (slice_index_or xs j d) ≡ false) → position p xs ≡ None
 position_none p xs d never =
-    let first : position_or_len p xs
-    ≡ length xs = position_or_len_is p xs (length xs) d (omega arith) never
+    let first : position_or_len p xs ≡ length xs = position_or_len_is p xs (length xs) d (omega arith) never
     (λ l. absurd (omega arith)) in
     rw first (cond-false (nat_lt (length xs) (length xs)) (Some (length xs)) None
     (le-ltb (length xs) (length xs) (omega arith)))
@@ -62,8 +51,7 @@ apart_by q k e differs at_e at_k =
     cc (sym (ap (λ x. is_eq (by_bytes k x)) k_is_e ∙ differs) ∙ ap is_eq (tied_itself nat_list_cmp_total k))
 
 -- what the elements so far give, and the next one
-pub filter_map_more : {X Y : Type 0} (f : X → Option Y) (xs : List X) (i : ℕ) (x : X) (ys : List Y)
-    (o : Option Y)
+pub filter_map_more : {X Y : Type 0} (f : X → Option Y) (xs : List X) (i : ℕ) (x : X) (ys : List Y) (o : Option Y)
     → i < length xs → x ≡ slice_index_or xs i x → f x ≡ o → ys ≡ filter_map f (take i xs)
     → ys ++ option_to_list o ≡ filter_map f (take (i + 1) xs)
 filter_map_more {X} {Y} f xs i x ys o within read is so_far =
@@ -105,8 +93,7 @@ below_more {A} Keeps xs n m y next here keeps before i x below at = by (cases_lt
         subst (λ (k : ℕ). Keeps k x) e (subst (λ (z : A). Keeps n z) one keeps)
 
 -- an element that was read
-pub read_at : {A : Type 0} (xs : List A) (i : ℕ) (x : A) → i < length xs → x ≡ get_or xs i x
-    → slice_get xs i ≡ Some x
+pub read_at : {A : Type 0} (xs : List A) (i : ℕ) (x : A) → i < length xs → x ≡ get_or xs i x → slice_get xs i ≡ Some x
 read_at xs i x within is = slice_get-get_or xs i x within ∙ ap Some (sym is)
 
 -- and what holds at each place holds of all
@@ -115,8 +102,7 @@ pub all_from_places : {A : Type 0} (P : A → Type 0) (xs : List A)
 all_from_places P xs each k d within = each k (get_or xs k d) (slice_get-get_or xs k d within)
 
 -- some element is one at a place
-pub any_at : {A : Type 0} (P : A → Type 0) (xs : List A) (i : ℕ) (x : A) → slice_get xs i ≡ Some x → P x
-    → Any P xs
+pub any_at : {A : Type 0} (P : A → Type 0) (xs : List A) (i : ℕ) (x : A) → slice_get xs i ≡ Some x → P x → Any P xs
 any_at P xs i x at holds = (i, x, slice_get_within xs i x at, get_or_from_slice_get xs i x x at, holds)
 
 -- and stands at one
@@ -125,8 +111,7 @@ pub at_any : {A : Type 0} (P : A → Type 0) (xs : List A) → Any P xs
 at_any P xs found = (found.0, found.1, slice_get-get_or xs found.0 found.1 found.2 ∙ ap Some found.3, found.4)
 
 -- each element has one beside it
-pub zip_at : {A B : Type 0} (R : A → B → Type 0) (xs : List A) (ys : List B) → AllZip R xs ys
-    → (i : ℕ) (y : B)
+pub zip_at : {A B : Type 0} (R : A → B → Type 0) (xs : List A) (ys : List B) → AllZip R xs ys → (i : ℕ) (y : B)
     → slice_get ys i ≡ Some y → (x : A) × (slice_get xs i ≡ Some x) × R x y
 zip_at R [] [] zip i y at = absurd (none-some y at)
 zip_at R [] (z ∷ ys) zip i y at = absurd zip
@@ -135,8 +120,7 @@ zip_at R (x ∷ xs) (z ∷ ys) zip zero y at = (x, refl, subst (R x) (same_Some 
 zip_at R (x ∷ xs) (z ∷ ys) zip (suc i) y at = zip_at R xs ys zip.1 i y at
 
 -- and the other way round
-pub zip_to : {A B : Type 0} (R : A → B → Type 0) (xs : List A) (ys : List B) → AllZip R xs ys
-    → (i : ℕ) (x : A)
+pub zip_to : {A B : Type 0} (R : A → B → Type 0) (xs : List A) (ys : List B) → AllZip R xs ys → (i : ℕ) (x : A)
     → slice_get xs i ≡ Some x → (y : B) × (slice_get ys i ≡ Some y) × R x y
 zip_to R [] [] zip i x at = absurd (none-some x at)
 zip_to R [] (y ∷ ys) zip i x at = absurd zip
@@ -163,34 +147,25 @@ at_behind (suc n) (y ∷ xs) k =
 pub bytes_back : (bytes rest : List ℕ) → IsBytes bytes → take (length bytes - 4) rest ≡ drop 4 bytes
     → take (length bytes) (to_be_bytes w32 (from_be_bytes w32 bytes) ++ rest) ≡ bytes
 bytes_back [] rest fits e = refl
-bytes_back (a ∷ []) rest fits e =
-    ap (λ (x : ℕ). x ∷ []) (byte_0 a 0 0 0 (fits 0) zero_fits zero_fits zero_fits)
-bytes_back (a ∷ b ∷ []) rest fits e =
-    ap (λ (x : ℕ). x ∷ four a b 0 0 / 65536 % 256 ∷ [])
-    (byte_0 a b 0 0 (fits 0) (fits 1) zero_fits zero_fits)
-    ∙ ap (λ (x : ℕ). a ∷ x ∷ []) (byte_1 a b 0 0 (fits 0) (fits 1) zero_fits zero_fits)
-bytes_back (a ∷ b ∷ c ∷ []) rest fits e =
-    ap (λ (x : ℕ). x ∷ four a b c 0 / 65536 % 256 ∷ four a b c 0 / 256 % 256 ∷ [])
-    (byte_0 a b c 0 (fits 0) (fits 1) (fits 2) zero_fits)
-    ∙ ap (λ (x : ℕ). a ∷ x ∷ four a b c 0 / 256 % 256 ∷ [])
-    (byte_1 a b c 0 (fits 0) (fits 1) (fits 2) zero_fits)
+bytes_back (a ∷ []) rest fits e = ap (λ (x : ℕ). x ∷ []) (byte_0 a 0 0 0 (fits 0) zero_fits zero_fits zero_fits)
+bytes_back (a ∷ b ∷ []) rest fits e = ap (λ (x : ℕ). x ∷ four a b 0 0 / 65536 % 256 ∷ []) (byte_0 a b 0 0 (fits 0)
+    (fits 1) zero_fits zero_fits) ∙ ap (λ (x : ℕ). a ∷ x ∷ []) (byte_1 a b 0 0 (fits 0) (fits 1) zero_fits zero_fits)
+bytes_back (a ∷ b ∷ c ∷ []) rest fits e = ap (λ (x : ℕ). x ∷ four a b c 0 / 65536 % 256
+    ∷ four a b c 0 / 256 % 256 ∷ []) (byte_0 a b c 0 (fits 0) (fits 1) (fits 2) zero_fits)
+    ∙ ap (λ (x : ℕ). a ∷ x ∷ four a b c 0 / 256 % 256 ∷ []) (byte_1 a b c 0 (fits 0) (fits 1) (fits 2) zero_fits)
     ∙ ap (λ (x : ℕ). a ∷ b ∷ x ∷ []) (byte_2 a b c 0 (fits 0) (fits 1) (fits 2) zero_fits)
 bytes_back (a ∷ b ∷ c ∷ d ∷ bytes) rest fits e =
     let n = four a b c d in
     let left : length (a ∷ b ∷ c ∷ d ∷ bytes) - 4 ≡ length bytes = omega arith in
     let end : take (length bytes) rest ≡ bytes = ap (λ (m : ℕ). take m rest) (sym left) ∙ e in
     ap (λ (x : ℕ). x ∷ n / 65536 % 256 ∷ n / 256 % 256 ∷ n % 256 ∷ take (length bytes) rest)
-    (byte_0 a b c d (fits 0) (fits 1) (fits 2) (fits 3))
-    ∙ ap (λ (x : ℕ). a ∷ x ∷ n / 256 % 256 ∷ n % 256 ∷ take (length bytes) rest)
-    (byte_1 a b c d (fits 0) (fits 1) (fits 2) (fits 3))
+    (byte_0 a b c d (fits 0) (fits 1) (fits 2) (fits 3)) ∙ ap (λ (x : ℕ). a
+    ∷ x ∷ n / 256 % 256 ∷ n % 256 ∷ take (length bytes) rest) (byte_1 a b c d (fits 0) (fits 1) (fits 2) (fits 3))
     ∙ ap (λ (x : ℕ). a ∷ b ∷ x ∷ n % 256 ∷ take (length bytes) rest)
-    (byte_2 a b c d (fits 0) (fits 1) (fits 2) (fits 3))
-    ∙ ap (λ (x : ℕ). a ∷ b ∷ c ∷ x ∷ take (length bytes) rest)
-    (byte_3 a b c d (fits 0) (fits 1) (fits 2) (fits 3))
-    ∙ ap (λ (xs : List ℕ). a ∷ b ∷ c ∷ d ∷ xs) end
+    (byte_2 a b c d (fits 0) (fits 1) (fits 2) (fits 3)) ∙ ap (λ (x : ℕ). a ∷ b ∷ c ∷ x ∷ take (length bytes) rest)
+    (byte_3 a b c d (fits 0) (fits 1) (fits 2) (fits 3)) ∙ ap (λ (xs : List ℕ). a ∷ b ∷ c ∷ d ∷ xs) end
 
-pub get_next : {A : Type 0} (xs : List A) (x : A) (k : ℕ) → (k ≡ length xs)
-    → slice_get (xs ++ x ∷ []) k ≡ Some x
+pub get_next : {A : Type 0} (xs : List A) (x : A) (k : ℕ) → (k ≡ length xs) → slice_get (xs ++ x ∷ []) k ≡ Some x
 get_next [] x k e = rw e refl
 get_next (y ∷ xs) x k e = rw e (get_next xs x (length xs) refl)
 
@@ -201,10 +176,8 @@ get_before (y ∷ xs) x zero l = refl
 get_before (y ∷ xs) x (suc k) l = get_before xs x k (omega arith)
 
 -- the replica that was set, and the others
-pub replica_set : {X : Type 0} (rs : List X) (m : ℕ) (r : X) → m < length rs
-    → slice_get (slice_set rs m r) m ≡ Some r
-replica_set rs m r within =
-    slice_get-get_or (slice_set rs m r) m r (omega (arith, length-set rs m r, within))
+pub replica_set : {X : Type 0} (rs : List X) (m : ℕ) (r : X) → m < length rs → slice_get (slice_set rs m r) m ≡ Some r
+replica_set rs m r within = slice_get-get_or (slice_set rs m r) m r (omega (arith, length-set rs m r, within))
     ∙ ap Some (get_or-set_same rs m r r within)
 
 -- and the others stay
@@ -213,8 +186,7 @@ pub replica_kept : {X : Type 0} (rs : List X) (m k : ℕ) (r : X) → k ≢ m
 replica_kept rs m k r other = elim (cases_lt k (length rs)) [
   | inl within ↦ slice_get-get_or (slice_set rs m r) k r (omega (arith, length-set rs m r))
       ∙ ap Some (get_or-set_other rs m k r r other) ∙ sym (slice_get-get_or rs k r within)
-  | inr past ↦ slice_get_past (slice_set rs m r) k (omega (arith, length-set rs m r))
-      ∙ sym (slice_get_past rs k past)
+  | inr past ↦ slice_get_past (slice_set rs m r) k (omega (arith, length-set rs m r)) ∙ sym (slice_get_past rs k past)
 ]
 
 pub at_most_each : (f : ℕ → ℕ) (xs : List ℕ) (top i : ℕ) → i < length xs
@@ -226,24 +198,20 @@ at_most_each f (x ∷ xs) top (suc i) l = at_most_each f xs (min top (f x)) i (o
 pub above_each : (x top : ℕ) (f : ℕ → ℕ) (xs : List ℕ) → x < top
     → ((i : ℕ) → i < length xs → x < f (slice_index xs i)) → x < fold min top (map f xs)
 above_each x top f [] l each = l
-above_each x top f (y ∷ ys) l each =
-    above_each x (min top (f y)) f ys (omega (arith, l, each 0 (omega arith)))
+above_each x top f (y ∷ ys) l each = above_each x (min top (f y)) f ys (omega (arith, l, each 0 (omega arith)))
     (λ i below. each (suc i) (omega (arith, below)))
 
 -- every element of a list of copies is the copy, also past its end
 pub copy_at : {X : Type 0} (n : ℕ) (x : X) (i : ℕ) → slice_index_or (replicate n x) i x ≡ x
-copy_at n x i =
-    elim (cases_lt i n) [
-      | inl within ↦ get_or-replicate n i x x within
-      | inr past ↦ get_or_past (replicate n x) i x (omega (arith, length-replicate n x))
-    ]
+copy_at n x i = elim (cases_lt i n) [
+  | inl within ↦ get_or-replicate n i x x within
+  | inr past ↦ get_or_past (replicate n x) i x (omega (arith, length-replicate n x))
+]
 
 -- nothing is greater than what nothing in the list is greater than
-pub greatest_within : (xs : List ℕ) (a b : ℕ) → a ≤ b → ((i : ℕ) → slice_index xs i ≤ b)
-    → fold max a xs ≤ b
+pub greatest_within : (xs : List ℕ) (a b : ℕ) → a ≤ b → ((i : ℕ) → slice_index xs i ≤ b) → fold max a xs ≤ b
 greatest_within [] a b l each = l
-greatest_within (x ∷ xs) a b l each =
-    greatest_within xs (max a x) b (omega (arith, l, each 0)) (λ i. each (suc i))
+greatest_within (x ∷ xs) a b l each = greatest_within xs (max a x) b (omega (arith, l, each 0)) (λ i. each (suc i))
 
 -- no value has parts other than 0
 pub no_trim : (k s : ℕ) → slice_index (replicate k 0) s ≡ 0
@@ -253,8 +221,7 @@ no_trim k s = elim (cases_lt s k) [
 ]
 
 -- what holds of all messages holds of each
-pub each_at : (P : List ℕ → Type 0) (lists : List (List (List ℕ))) (s i : ℕ) (bytes : List ℕ)
-    → All (All P) lists
+pub each_at : (P : List ℕ → Type 0) (lists : List (List (List ℕ))) (s i : ℕ) (bytes : List ℕ) → All (All P) lists
     → slice_get (get_or lists s []) i ≡ Some bytes → P bytes
 each_at P lists s i bytes all e = by (cases_lt s (length lists))
   where
@@ -279,8 +246,7 @@ pub counted_more : (totals : List ℕ) (lists : List (List (List ℕ))) (i x : �
     → ((k : ℕ) → k < i → get_or totals k 0 ≡ length (slice_index_or lists k [])) → (k : ℕ)
     → k < i + 1 → get_or (set totals i x) k 0 ≡ length (slice_index_or lists k [])
 counted_more totals lists i x within is counted =
-    subst (λ y. (k : ℕ) → k < i + 1 → get_or (set totals i y) k 0
-    ≡ length (slice_index_or lists k [])) (sym is)
+    subst (λ y. (k : ℕ) → k < i + 1 → get_or (set totals i y) k 0 ≡ length (slice_index_or lists k [])) (sym is)
     (fill_by_more (λ k. length (slice_index_or lists k [])) totals i 0 within counted)
 
 -- sixteen totals, that count each list and are 0 behind them, are the totals of the lists
@@ -288,46 +254,38 @@ pub all_counted : (totals : List ℕ) (lists : List (List (List ℕ))) → lengt
     → ((k : ℕ) → k < length lists → get_or totals k 0 ≡ length (slice_index_or lists k []))
     → ((k : ℕ) → length lists ≤ k → get_or totals k 0 ≡ 0)
     → totals ≡ map (λ i. length (slice_index_or lists i [])) (range_with_len 0 16)
-all_counted totals lists sixteen counted rest =
-    fill_by_all (λ i. length (slice_index_or lists i [])) totals 16 0 sixteen
-    (λ k within. elim (cases_lt k (length lists)) [
+all_counted totals lists sixteen counted rest = fill_by_all (λ i. length
+    (slice_index_or lists i [])) totals 16 0 sixteen (λ k within. elim (cases_lt k (length lists)) [
       | inl here ↦ counted k here
       | inr past ↦ rest k past ∙ sym (ap length (get_or_past lists k [] past))
     ])
 
 -- one more number in a list
 pub one_more : (list : List ℕ) (f : ℕ → ℕ) (k x : ℕ) → k < length list → x ≡ f k
-    → ((i : ℕ) → i < k → slice_index list i ≡ f i) → (i : ℕ) → i < k + 1
-    → slice_index (set list k x) i ≡ f i
+    → ((i : ℕ) → i < k → slice_index list i ≡ f i) → (i : ℕ) → i < k + 1 → slice_index (set list k x) i ≡ f i
 one_more list f k x within is before i lt = elim (cases_lt i k) [
   | inl early ↦ get_or-set_other list k i x 0 (λ e. absurd (omega (arith, early, e))) ∙ before i early
   | inr late ↦
       let here : i ≡ k = omega (arith, lt, late) in
-      ap (λ (j : ℕ). slice_index (set list k x) j) here ∙ get_or-set_same list k x 0 within ∙ is
-      ∙ ap f (sym here)
+      ap (λ (j : ℕ). slice_index (set list k x) j) here ∙ get_or-set_same list k x 0 within ∙ is ∙ ap f (sym here)
 ]
 
 -- what is in a place of a list that was gone through
 pub mapped_at : {X Y : Type 0} (f : X → Y) (xs : List (Option X)) (m : ℕ)
     → slice_index_or (map (option_map f) xs) m None ≡ option_map f (slice_index_or xs m None)
-mapped_at {X} {Y} f xs m = ⊎_elim
-    (λ (l : m < length xs). get_or-map (option_map f) xs m None None l)
+mapped_at {X} {Y} f xs m = ⊎_elim (λ (l : m < length xs). get_or-map (option_map f) xs m None None l)
     (λ (g : length xs ≤ m). get_or_past (map (option_map f) xs) m None
-    (omega (arith, g, length-map xs (option_map f)))
-    ∙ ap (option_map f) (sym (get_or_past xs m None g)))
+    (omega (arith, g, length-map xs (option_map f))) ∙ ap (option_map f) (sym (get_or_past xs m None g)))
     (cases_lt m (length xs))
 
 -- a place that is not empty is one of the list
 pub within_places : {X : Type 0} (xs : List (Option X)) (m : ℕ) (x : X) → slice_index_or xs m None ≡ Some x
     → m < length xs
-within_places xs m x at = ⊎_elim
-    (λ (l : m < length xs). l)
-    (λ (g : length xs ≤ m). absurd (let e = sym (get_or_past xs m None g) ∙ at in cc))
-    (cases_lt m (length xs))
+within_places xs m x at = ⊎_elim (λ (l : m < length xs). l)
+    (λ (g : length xs ≤ m). absurd (let e = sym (get_or_past xs m None g) ∙ at in cc)) (cases_lt m (length xs))
 
 -- what passes, passes
-pub passes : (p : ℕ → Bool) (xs : List ℕ) (j : ℕ) → j < length (filter p xs)
-    → p (slice_index (filter p xs) j) ≡ true
+pub passes : (p : ℕ → Bool) (xs : List ℕ) (j : ℕ) → j < length (filter p xs) → p (slice_index (filter p xs) j) ≡ true
 passes p [] j within = absurd (omega arith)
 passes p (x ∷ xs) j within = by (p x) refl j within (passes p xs)
   where
@@ -346,55 +304,44 @@ passes_above p a (suc n) j within = by (p a) j within
     (λ i h. let above : a + 1 ≤ slice_index (filter p (range_with_len (a + 1) n)) i =
     passes_above p (a + 1) n i h in omega arith)
   where
-    by : (b : Bool) (i : ℕ) → i < length
-        (cond b (a ∷ filter p (range_with_len (a + 1) n)) (filter p (range_with_len (a + 1) n)))
-        → ((k : ℕ) → k < length (filter p (range_with_len (a + 1) n)) → a
+    by : (b : Bool) (i : ℕ) → i < length (cond b (a ∷ filter p (range_with_len (a + 1) n))
+        (filter p (range_with_len (a + 1) n))) → ((k : ℕ) → k < length (filter p (range_with_len (a + 1) n)) → a
         ≤ slice_index (filter p (range_with_len (a + 1) n)) k)
-        → a ≤ slice_index (cond b (a ∷ filter p (range_with_len (a + 1) n))
-        (filter p (range_with_len (a + 1) n))) i
+        → a ≤ slice_index (cond b (a ∷ filter p (range_with_len (a + 1) n)) (filter p (range_with_len (a + 1) n))) i
     by true zero h above = le_refl a
     by true (suc i) h above = above i (omega arith)
     by false i h above = above i h
 
 -- a test that one of those that passed now fails, and no other: it is taken out
-pub one_fails : (p q : ℕ → Bool) (m a n j : ℕ) → q m ≡ false
-    → ((k : ℕ) → k ≢ m → q k ≡ p k)
+pub one_fails : (p q : ℕ → Bool) (m a n j : ℕ) → q m ≡ false → ((k : ℕ) → k ≢ m → q k ≡ p k)
     → j < length (filter p (range_with_len a n)) → m ≡ slice_index (filter p (range_with_len a n)) j
     → filter q (range_with_len a n) ≡ remove (filter p (range_with_len a n)) j
 one_fails p q m a zero j fails same within at = absurd (omega arith)
 one_fails p q m a (suc n) j fails same within at =
     by (p a) refl j within at (one_fails p q m (a + 1) n) (passes_above p (a + 1) n)
   where
-    by : (b : Bool) → p a ≡ b → (i : ℕ) → i
-        < length (cond b (a ∷ filter p (range_with_len (a + 1) n)) (filter p (range_with_len (a + 1) n)))
-        → m ≡ slice_index (cond b (a ∷ filter p (range_with_len (a + 1) n))
-        (filter p (range_with_len (a + 1) n))) i
-        → ((k : ℕ) → q m ≡ false → ((k : ℕ) → k ≢ m → q k ≡ p k) → k
-        < length (filter p (range_with_len (a + 1) n)) → m
-        ≡ slice_index (filter p (range_with_len (a + 1) n)) k
+    by : (b : Bool) → p a ≡ b → (i : ℕ) → i < length (cond b (a ∷ filter p (range_with_len (a + 1) n))
+        (filter p (range_with_len (a + 1) n))) → m ≡ slice_index (cond b (a ∷ filter p (range_with_len (a + 1) n))
+        (filter p (range_with_len (a + 1) n))) i → ((k : ℕ) → q m ≡ false → ((k : ℕ) → k ≢ m → q k ≡ p k) → k
+        < length (filter p (range_with_len (a + 1) n)) → m ≡ slice_index (filter p (range_with_len (a + 1) n)) k
         → filter q (range_with_len (a + 1) n) ≡ remove (filter p (range_with_len (a + 1) n)) k)
         → ((k : ℕ) → k < length (filter p (range_with_len (a + 1) n)) → a + 1
         ≤ slice_index (filter p (range_with_len (a + 1) n)) k)
         → cond (q a) (a ∷ filter q (range_with_len (a + 1) n)) (filter q (range_with_len (a + 1) n))
-        ≡ remove (cond b (a ∷ filter p (range_with_len (a + 1) n))
-        (filter p (range_with_len (a + 1) n))) i
+        ≡ remove (cond b (a ∷ filter p (range_with_len (a + 1) n)) (filter p (range_with_len (a + 1) n))) i
     by true e zero h here rest above =
         ap (λ b. cond b (a ∷ filter q (range_with_len (a + 1) n)) (filter q (range_with_len (a + 1) n)))
-        (ap q (sym here) ∙ fails)
-        ∙ agree_above p q (a + 1) n (λ k l. same k (λ e. absurd (omega arith)))
+        (ap q (sym here) ∙ fails) ∙ agree_above p q (a + 1) n (λ k l. same k (λ e. absurd (omega arith)))
     by true e (suc i) h here rest above =
         let least : a + 1 ≤ slice_index (filter p (range_with_len (a + 1) n)) i = above i (omega arith) in
         ap (λ b. cond b (a ∷ filter q (range_with_len (a + 1) n)) (filter q (range_with_len (a + 1) n)))
-        (same a (λ e. absurd (omega arith)) ∙ e)
-        ∙ ap (λ xs. a ∷ xs) (rest i fails same (omega arith) here)
+        (same a (λ e. absurd (omega arith)) ∙ e) ∙ ap (λ xs. a ∷ xs) (rest i fails same (omega arith) here)
     by false e i h here rest above =
         let least : a + 1 ≤ slice_index (filter p (range_with_len (a + 1) n)) i = above i h in
         ap (λ b. cond b (a ∷ filter q (range_with_len (a + 1) n)) (filter q (range_with_len (a + 1) n)))
-        (same a (λ e. absurd (omega arith)) ∙ e)
-        ∙ rest i fails same h here
+        (same a (λ e. absurd (omega arith)) ∙ e) ∙ rest i fails same h here
 
-pub set_twice : {A : Type 0} (xs : List A) (i : ℕ) (a b : A) → slice_set (slice_set xs i a) i b
-    ≡ slice_set xs i b
+pub set_twice : {A : Type 0} (xs : List A) (i : ℕ) (a b : A) → slice_set (slice_set xs i a) i b ≡ slice_set xs i b
 set_twice [] i a b = refl
 set_twice (x ∷ xs) zero a b = refl
 set_twice (x ∷ xs) (suc i) a b = ap (λ ys. x ∷ ys) (set_twice xs i a b)
@@ -471,8 +418,7 @@ behind_read xs ys i j is =
     let at : i - length xs ≡ j = omega (arith, is) in
     get_or-append_right xs ys (length xs) i 0 refl (omega (arith, is)) ∙ ap (slice_index ys) at
 
-pub behind_set : (xs ys : List ℕ) (i j x : ℕ) → i ≡ length xs + j
-    → slice_set (xs ++ ys) i x ≡ xs ++ slice_set ys j x
+pub behind_set : (xs ys : List ℕ) (i j x : ℕ) → i ≡ length xs + j → slice_set (xs ++ ys) i x ≡ xs ++ slice_set ys j x
 behind_set xs ys i j x is =
     let at : i - length xs ≡ j = omega (arith, is) in
     set-append_right xs ys (length xs) i x refl (omega (arith, is)) ∙ ap (λ k. xs ++ slice_set ys k x) at
@@ -498,10 +444,8 @@ pick {A} P (suc n) each =
 pub range_more : (a n : ℕ) → range_with_len a (n + 1) ≡ range_with_len a n ++ (a + n) ∷ []
 range_more a zero = moved (range_with_len a) (zero + 1) 1 (omega arith)
     ∙ moved (λ x. x ∷ []) a (a + zero) (omega arith)
-range_more a (suc n) =
-    moved (range_with_len a) (suc n + 1) (suc (n + 1)) (omega arith)
-    ∙ ap (λ xs. a ∷ xs) (range_more (a + 1) n
-    ∙ moved (λ x. range_with_len (a + 1) n ++ x ∷ []) (a + 1 + n) (a + suc n) (omega arith))
+range_more a (suc n) = moved (range_with_len a) (suc n + 1) (suc (n + 1)) (omega arith) ∙ ap (λ xs. a ∷ xs)
+    (range_more (a + 1) n ∙ moved (λ x. range_with_len (a + 1) n ++ x ∷ []) (a + 1 + n) (a + suc n) (omega arith))
 
 -- what is true of each element, and of none
 pub any_or : {X : Type 0} (P : List X → Type 0) (xs : List (List X)) (m : ℕ) → All P xs → P []
@@ -516,10 +460,8 @@ pub pushed_cases : {X : Type 0} (xs : List (Option X)) (y : Option X) (m n : ℕ
     ⊎ ((m ≡ n) × (slice_index_or (xs ++ y ∷ []) m None ≡ y))
 pushed_cases xs y m n long below = by (cases_lt m n)
   where
-    by : (m < n) ⊎ (n ≤ m)
-        → ((m < n) × (slice_index_or (xs ++ y ∷ []) m None ≡ slice_index_or xs m None))
+    by : (m < n) ⊎ (n ≤ m) → ((m < n) × (slice_index_or (xs ++ y ∷ []) m None ≡ slice_index_or xs m None))
         ⊎ ((m ≡ n) × (slice_index_or (xs ++ y ∷ []) m None ≡ y))
     by (inl less) = inl (less, get_or_append_left xs (y ∷ []) None m (omega (arith, less, long)))
     by (inr more) =
-        let same : n ≡ m = omega (arith, below, more) in
-        inr (sym same, get_or_push xs y None m (long ∙ same))
+        let same : n ≡ m = omega (arith, below, more) in inr (sym same, get_or_push xs y None m (long ∙ same))

@@ -1,33 +1,26 @@
 -- Facts of numbers.
+use Rattle.std.{specs.Fmt.digit_glyph, proofs.Math.Nat.mul-le-mul}
+use Rattle.std.specs.{List.{range_with_len, list_all, Sorted.IsStrictlyIncreasing}, Prelude.{◌==◌, nat_le}}
 use Rattle.std.proofs.Common.{◌≡◌, ◌≢◌, ℕ, true, not, arith, ◌+◌, ◌≤◌, false, leb, [], refl, Bool, T, ◌&&◌, ◌*◌, ◌/◌, ◌%◌, ◌<◌, ◌⊎◌, inl, inr, ◌-◌, zero, suc, fold, ap, ◌∙◌, subst, ◌^◌, ◌↔◌, if◌then◌else◌, count_ones, add_comm, lit<, bit_and, sym, nat_lt, cond, ◌||◌, le_refl, min, eqb, ltb, ◌∷◌, Contains}
-use Rattle.std.specs.Prelude.{◌==◌, nat_le}
-use Rattle.std.proofs.lemmas.Bool.{leb-true, leb-false, cases_lt, eqb-true, false≢true, and_parts}
+use Rattle.std.proofs.lemmas.Bool.{leb-true, leb-false, cases_lt, eqb-true, false≢true, and_parts, Decides.nat_tests}
+use Rattle.std.proofs.lemmas.{List.FromFn.{length-range_with_len, get_or-range_with_len}, Nat.Bits.ones_shr}
 use Rattle.std.proofs.lemmas.Nat.{div-add-mod', mul-le, mod-pow-add, ones_cat, mod_below, pow_pos, and_mask, one_shl, shr-shr}
-use Rattle.std.specs.List.{range_with_len, list_all}
-use Rattle.std.specs.List.Sorted.{IsStrictlyIncreasing}
-use Rattle.std.proofs.lemmas.List.FromFn.{length-range_with_len, get_or-range_with_len}
-use Rattle.std.proofs.lemmas.Nat.Bits.{ones_shr}
-use Rattle.std.proofs.lemmas.Bool.Decides.{nat_tests}
 use lib.Count.{ones}
-use Rattle.std.specs.Fmt.{digit_glyph}
-use Rattle.std.proofs.Math.Nat.{mul-le-mul}
 
 pub not_same : (m n : ℕ) → not (m == n) ≡ true → m ≢ n
 not_same m n passed = λ same. grind arith
 
 -- a version up to the next one is an earlier one or the next
 pub by_version : {P : Type 0} (v n : ℕ) → v ≤ n + 1 → (v ≤ n → P) → (v ≡ n + 1 → P) → P
-by_version {P} v n high old new =
-    elim (leb v n) as (λ b. leb v n ≡ b → P) [
-      | true ↦ λ t. old (leb-true v n t)
-      | false ↦ λ f. new (omega (arith, leb-false v n f))
-    ] refl
+by_version {P} v n high old new = elim (leb v n) as (λ b. leb v n ≡ b → P) [
+  | true ↦ λ t. old (leb-true v n t)
+  | false ↦ λ f. new (omega (arith, leb-false v n f))
+] refl
 
 -- a greater version isn't up to a smaller one
 pub lt-leb-false : (v n : ℕ) → v ≤ n → leb (n + 1) v ≡ false
 lt-leb-false v n less = elim (leb (n + 1) v) as (λ b. leb (n + 1) v ≡ b → b ≡ false) [
-  | true ↦
-      λ t. absurd (omega (arith, leb-true (n + 1) v t))
+  | true ↦ λ t. absurd (omega (arith, leb-true (n + 1) v t))
   | false ↦ λ _. refl
 ] refl
 
@@ -47,23 +40,19 @@ before_place n least rank p within below = by cases
     split : p / n * n + p % n ≡ p
     split = div-add-mod' p n
 
-    by : (p / n < least) ⊎ ((p / n ≡ least) ⊎ (least < p / n))
-        → (p / n < least) ⊎ ((p / n ≡ least) × (p % n < rank))
+    by : (p / n < least) ⊎ ((p / n ≡ least) ⊎ (least < p / n)) → (p / n < least) ⊎ ((p / n ≡ least) × (p % n < rank))
     by (inl earlier) = inl earlier
     by (inr (inl same)) =
-        let whole : least * n + p % n ≡ p = rw same at split in
-        inr (same, omega (arith, whole))
+        let whole : least * n + p % n ≡ p = rw same at split in inr (same, omega (arith, whole))
     by (inr (inr later)) =
-        let more : (least + 1) * n ≤ p / n * n =
-        mul-le (least + 1) n (p / n) n (omega arith) (omega arith) in
+        let more : (least + 1) * n ≤ p / n * n = mul-le (least + 1) n (p / n) n (omega arith) (omega arith) in
         absurd (omega (arith, more, split))
 
 -- a range rises
 pub IsStrictlyIncreasing-range_with_len : (from len : ℕ) → IsStrictlyIncreasing (range_with_len from len)
 IsStrictlyIncreasing-range_with_len from len k within =
     let next : k + 1 < len = omega (arith, length-range_with_len from len) in
-    rw (get_or-range_with_len from len k 0 (omega arith), get_or-range_with_len from len (k + 1) 0 next)
-    (omega arith)
+    rw (get_or-range_with_len from len k 0 (omega arith), get_or-range_with_len from len (k + 1) 0 next) (omega arith)
 
 -- a fold over one number more of a range
 pub fold_range_more : {A : Type 0} (f : A → ℕ → A) (a : A) (from m j : ℕ) → from + m ≡ j
@@ -76,8 +65,7 @@ fold_range_more f a from (suc m) j e =
     next = omega arith
 
 -- what holds up to n and at the next number holds up to it
-pub up_to_more : (P : ℕ → Type 0) (n : ℕ)
-    → ((i : ℕ) → i ≤ n → P i) → P (n + 1) → (i : ℕ) → i ≤ n + 1 → P i
+pub up_to_more : (P : ℕ → Type 0) (n : ℕ) → ((i : ℕ) → i ≤ n → P i) → P (n + 1) → (i : ℕ) → i ≤ n + 1 → P i
 up_to_more P n before next i within = up_to_cases (cases_lt i (n + 1))
   where
     up_to_cases : (i < n + 1) ⊎ (n + 1 ≤ i) → P i
@@ -89,12 +77,10 @@ pub up_to_none : (P : ℕ → Type 0) → P 0 → (i : ℕ) → i ≤ 0 → P i
 up_to_none P first i within = let e : 0 ≡ i = omega arith in subst P e first
 
 -- the mask of a roster's members is such a run
-pub ones_of : (members : ℕ) → 1 ≤ members → members ≤ 16
-    → 65535 / 2 ^ (16 - members) ≡ 2 ^ members - 1
+pub ones_of : (members : ℕ) → 1 ≤ members → members ≤ 16 → 65535 / 2 ^ (16 - members) ≡ 2 ^ members - 1
 ones_of members p q =
     let e : 16 - (16 - members) ≡ members = omega arith in
-    let l : 16 - members ≤ 16 = omega arith in
-    ones_shr 16 (16 - members) l ∙ ap (λ (x : ℕ). 2 ^ x - 1) e
+    let l : 16 - members ≤ 16 = omega arith in ones_shr 16 (16 - members) l ∙ ap (λ (x : ℕ). 2 ^ x - 1) e
 
 pub last_or_below : (i n : ℕ) → i < suc n → (i ≡ n) ⊎ (i < n)
 last_or_below i n l = grind arith
@@ -126,10 +112,8 @@ ones_bit b l = by (two b l)
     by (inr e) = rw e refl
 
 -- the low k + j bits are the low k and the j above them
-pub ones_split : (m k j : ℕ) → count_ones (m % 2 ^ (k + j))
-    ≡ count_ones (m % 2 ^ k) + count_ones (m / 2 ^ k % 2 ^ j)
-ones_split m k j =
-    ap (λ (x : ℕ). count_ones (m % 2 ^ x)) (add_comm k j) ∙ ap count_ones (mod-pow-add m j k)
+pub ones_split : (m k j : ℕ) → count_ones (m % 2 ^ (k + j)) ≡ count_ones (m % 2 ^ k) + count_ones (m / 2 ^ k % 2 ^ j)
+ones_split m k j = ap (λ (x : ℕ). count_ones (m % 2 ^ x)) (add_comm k j) ∙ ap count_ones (mod-pow-add m j k)
     ∙ ones_cat k (m / 2 ^ k % 2 ^ j) (m % 2 ^ k) (mod_below m (2 ^ k) (pow_pos k))
     ∙ add_comm (count_ones (m / 2 ^ k % 2 ^ j)) (count_ones (m % 2 ^ k))
 
@@ -138,20 +122,17 @@ pub ones_one : (m k : ℕ) → count_ones (m / 2 ^ k % 2) ≡ m / 2 ^ k % 2
 ones_one m k = ones_bit (m / 2 ^ k % 2) (mod_below (m / 2 ^ k) 2 (lit< tt))
 
 -- the set bits of the low half, as the code counts them
-pub ones_low : (m from half : ℕ) → half < 16
-    → count_ones (bit_and (m / 2 ^ from) (1 * 2 ^ half % 2 ^ 16 - 1))
+pub ones_low : (m from half : ℕ) → half < 16 → count_ones (bit_and (m / 2 ^ from) (1 * 2 ^ half % 2 ^ 16 - 1))
     ≡ count_ones (m / 2 ^ from % 2 ^ half)
 ones_low m from half l = rw (one_shl half 16 l) (ap count_ones (and_mask (m / 2 ^ from) half))
 
 -- the set bits of a span are those of its halves
-pub ones_halves : (m from half : ℕ)
-    → count_ones (m / 2 ^ from % 2 ^ (2 * half))
+pub ones_halves : (m from half : ℕ) → count_ones (m / 2 ^ from % 2 ^ (2 * half))
     ≡ count_ones (m / 2 ^ from % 2 ^ half) + count_ones (m / 2 ^ (from + half) % 2 ^ half)
 ones_halves m from half =
     let e : 2 * half ≡ half + half = omega arith in
     rw e (ones_split (m / 2 ^ from) half half
-    ∙ ap (λ (x : ℕ). count_ones (m / 2 ^ from % 2 ^ half) + count_ones (x % 2 ^ half))
-    (shr-shr m from half))
+    ∙ ap (λ (x : ℕ). count_ones (m / 2 ^ from % 2 ^ half) + count_ones (x % 2 ^ half)) (shr-shr m from half))
 
 pub below_or_last : (i n : ℕ) → i < suc n → (i < n) ⊎ (i ≡ n)
 below_or_last i n h = grind arith
@@ -184,29 +165,25 @@ tests_all q (suc n) a all i from to =
     let both = and_parts (q a) _ all in
     elim (first_or_later a i from) [
       | inl first ↦ ap q first ∙ both.0
-      | inr later ↦
-          tests_all q n (a + 1) both.1 i later (omega arith)
+      | inr later ↦ tests_all q n (a + 1) both.1 i later (omega arith)
     ]
 
 -- the column is in the slot, or it isn't
 abbrev pub InOrOut : ℕ → ℕ → ℕ → Type 0
-InOrOut first n c = ((part : ℕ) × (part < n) × (first + part ≡ c))
-    ⊎ ((c < first) ⊎ (first + n ≤ c))
+InOrOut first n c = ((part : ℕ) × (part < n) × (first + part ≡ c)) ⊎ ((c < first) ⊎ (first + n ≤ c))
 
 pub in_or_out : (first n c : ℕ) → InOrOut first n c
-in_or_out first n c =
-    elim (cases_lt c first) [
-      | inl before ↦ inr (inl before)
-      | inr from ↦ elim (cases_lt c (first + n))
-          [ inl within ↦ inl (c - first, omega arith, omega arith) | inr behind ↦ inr (inr behind) ]
-    ]
+in_or_out first n c = elim (cases_lt c first) [
+  | inl before ↦ inr (inl before)
+  | inr from ↦ elim (cases_lt c (first + n))
+      [ inl within ↦ inl (c - first, omega arith, omega arith) | inr behind ↦ inr (inr behind) ]
+]
 
 -- a number of four bytes
 abbrev pub four : ℕ → ℕ → ℕ → ℕ → ℕ
 four a b c d = a * 16777216 + b * 65536 + c * 256 + d
 
-pub byte_0 : (a b c d : ℕ) → a < 256 → b < 256 → c < 256 → d < 256
-    → four a b c d / 16777216 % 256 ≡ a
+pub byte_0 : (a b c d : ℕ) → a < 256 → b < 256 → c < 256 → d < 256 → four a b c d / 16777216 % 256 ≡ a
 byte_0 a b c d p q r s = omega arith
 
 pub byte_1 : (a b c d : ℕ) → a < 256 → b < 256 → c < 256 → d < 256 → four a b c d / 65536 % 256 ≡ b
@@ -262,8 +239,7 @@ lesser_is now p q h = by (p == now) (q == now) refl refl
     by false false e f = grind (arith, nat_tests, e, f, h)
 
 -- a test that fails at a number more, where it fails below it
-pub none_more : (test : ℕ → Bool) (from n : ℕ)
-    → ((x : ℕ) → from ≤ x → x < n → test x ≡ false) → test n ≡ false
+pub none_more : (test : ℕ → Bool) (from n : ℕ) → ((x : ℕ) → from ≤ x → x < n → test x ≡ false) → test n ≡ false
     → (x : ℕ) → from ≤ x → x < n + 1 → test x ≡ false
 none_more test from n below at x above within = by (x == n) refl
   where

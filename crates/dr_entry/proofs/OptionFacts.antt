@@ -1,17 +1,11 @@
 -- Facts of options and results.
-use Rattle.std.proofs.Common.{◌≡◌, Option, Some, None, refl, true, Err, subst, Result, Ok, OnErr, Bool, ℕ, ◌⊎◌, inr, zero, suc, ◌&&◌, ◌<◌, inl, arith, [], ◌+◌, ◌∷◌, ap, ◌∙◌, false, sym, add-one, ◌-◌, ◌≤◌, IsSome, below_more, not, ◌*◌, ◌/◌, ◌%◌, ◌||◌, Contains}
+use Rattle.std.specs.{Fmt.decimal, List.{list_all, find, range_with_len}, declared.alloc.AllocError.AllocError}
+use Rattle.std.{specs.Option.{ok_or, option_or}, proofs.Math.Nat.div-add-mod}
 use Rattle.std.specs.Prelude.{option_and_then, is_some, unwrap_or, IfSome, ◌↔◌, IsTrue, IfOk, IfNone, option_map, OnOk}
-use Rattle.std.specs.Option.{ok_or, option_or}
-use Rattle.std.specs.Fmt.{decimal}
-use Rattle.std.proofs.lemmas.Bool.{and_parts, cases_lt, cases_eq}
-use Rattle.std.specs.List.{list_all, find, range_with_len}
-use Rattle.std.proofs.lemmas.List.Folds.{list_all-append, list_all_at}
+use Rattle.std.proofs.Common.{◌≡◌, Option, Some, None, refl, true, Err, subst, Result, Ok, OnErr, Bool, ℕ, ◌⊎◌, inr, zero, suc, ◌&&◌, ◌<◌, inl, arith, [], ◌+◌, ◌∷◌, ap, ◌∙◌, false, sym, add-one, ◌-◌, ◌≤◌, IsSome, below_more, not, ◌*◌, ◌/◌, ◌%◌, ◌||◌, Contains}
+use Rattle.std.proofs.lemmas.{Bool.{and_parts, cases_lt, cases_eq}, List.Folds.{list_all-append, list_all_at}}
 use Rattle.std.proofs.lemmas.List.FromFn.{length-map-range_with_len, get_or-map-range_with_len}
-use Rattle.std.specs.declared.alloc.AllocError.{AllocError}
-use Rattle.std.proofs.Math.Nat.{div-add-mod}
-use Rattle.dr_entry.proofs.ListFacts.{is_free, first_words, words_more}
-use Rattle.dr_entry.proofs.Bits.{Marks}
-use Rattle.dr_entry.proofs.BoolFacts.{phase_few}
+use Rattle.dr_entry.proofs.{Bits.Marks, BoolFacts.phase_few, ListFacts.{is_free, first_words, words_more}}
 use Rattle.dr_entry.proofs.NumberFacts.{total}
 
 -- what holds of all that a second step gives
@@ -27,14 +21,12 @@ there P None d holds is = absurd cc
 there P (Some x) d holds is = holds x refl
 
 -- what stands in for nothing
-pub ok_or_err : {A E : Type 0} (o : Option A) (e named : E) → ok_or o e ≡ Err named → (o ≡ None)
-    × (e ≡ named)
+pub ok_or_err : {A E : Type 0} (o : Option A) (e named : E) → ok_or o e ≡ Err named → (o ≡ None) × (e ≡ named)
 ok_or_err None e named is = (refl, cc)
 ok_or_err (Some x) e named is = absurd cc
 
 -- what holds of a value that is there holds of this one
-pub if_some_at : {A : Type 0} (P : A → Type 0) (o : Option A) (x : A) → IfSome o P → o ≡ Some x
-    → P x
+pub if_some_at : {A : Type 0} (P : A → Type 0) (o : Option A) (x : A) → IfSome o P → o ≡ Some x → P x
 if_some_at P None x if is = absurd cc
 if_some_at P (Some y) x if is = let same : y ≡ x = cc in subst P same if
 
@@ -81,11 +73,9 @@ free_below (suc n) d h below =
 
 -- one word more passes
 pub passes_more : (p : ℕ → Bool) (slot : ℕ → ℕ) (n : ℕ)
-    → list_all p (first_words slot n) ≡ true → p (slot (1 + n)) ≡ true
-    → list_all p (first_words slot (n + 1)) ≡ true
-passes_more p slot n all one =
-    ap (list_all p) (words_more slot n) ∙ list_all-append p (first_words slot n) (slot (1 + n) ∷ [])
-    ∙ rw (all, one) refl
+    → list_all p (first_words slot n) ≡ true → p (slot (1 + n)) ≡ true → list_all p (first_words slot (n + 1)) ≡ true
+passes_more p slot n all one = ap (list_all p) (words_more slot n)
+    ∙ list_all-append p (first_words slot n) (slot (1 + n) ∷ []) ∙ rw (all, one) refl
 
 -- one that doesn't is enough
 pub passes_not : (p : ℕ → Bool) (slot : ℕ → ℕ) (n i : ℕ) → i < n
@@ -95,14 +85,11 @@ passes_not p slot n i lt one =
     (ap p (get_or-map-range_with_len slot 1 n i (1 + i) 0 lt refl) ∙ one)
 
 -- where each of the first words of a body passes a test, all do
-pub all_pass : (p : ℕ → Bool) (slot : ℕ → ℕ) (n : ℕ)
-    → ((part : ℕ) → part < n → p (slot (1 + part)) ≡ true)
+pub all_pass : (p : ℕ → Bool) (slot : ℕ → ℕ) (n : ℕ) → ((part : ℕ) → part < n → p (slot (1 + part)) ≡ true)
     → list_all p (first_words slot n) ≡ true
 all_pass p slot zero each = refl
-all_pass p slot (suc n) each =
-    ap (λ (m : ℕ). list_all p (first_words slot m)) (sym (add-one n))
-    ∙ passes_more p slot n (all_pass p slot n (λ part lt. each part (omega arith)))
-    (each n (omega arith))
+all_pass p slot (suc n) each = ap (λ (m : ℕ). list_all p (first_words slot m)) (sym (add-one n))
+    ∙ passes_more p slot n (all_pass p slot n (λ part lt. each part (omega arith))) (each n (omega arith))
 
 -- where all first words of a body pass a test, each of them does
 pub each_passes : (p : ℕ → Bool) (slot : ℕ → ℕ) (n part : ℕ)
@@ -124,9 +111,8 @@ block_passes p slot n all each = all_pass p slot (n + 4) (λ part l. by part l (
         subst (λ (m : ℕ). p (slot m) ≡ true) place (each (part - n) (omega (arith, behind, l)))
 
 -- where not each word of a block does, not all of the body do
-pub block_fails : (p : ℕ → Bool) (slot : ℕ → ℕ) (n count : ℕ) (block : Bool) → n + 4 ≤ count
-    → block ≡ false → (((i : ℕ) → i < 4 → p (slot (1 + n + i)) ≡ true) → IsTrue block)
-    → list_all p (first_words slot count) ≡ false
+pub block_fails : (p : ℕ → Bool) (slot : ℕ → ℕ) (n count : ℕ) (block : Bool) → n + 4 ≤ count → block ≡ false
+    → (((i : ℕ) → i < 4 → p (slot (1 + n + i)) ≡ true) → IsTrue block) → list_all p (first_words slot count) ≡ false
 block_fails p slot n count block room missing test = by (list_all p (first_words slot count)) refl
   where
     by : (b : Bool) → list_all p (first_words slot count) ≡ b → list_all p (first_words slot count) ≡ false
@@ -135,15 +121,13 @@ block_fails p slot n count block room missing test = by (list_all p (first_words
       where
         each : (i : ℕ) → i < 4 → p (slot (1 + n + i)) ≡ true
         each i l = let place : 1 + (n + i) ≡ 1 + n + i = omega arith in
-            subst (λ (m : ℕ). p (slot m) ≡ true) place
-            (each_passes p slot count (n + i) e (omega (arith, l, room)))
+            subst (λ (m : ℕ). p (slot m) ≡ true) place (each_passes p slot count (n + i) e (omega (arith, l, room)))
 
 pub some_tested : {A : Type 0} (o : Option A) (P : Type 0) → (IsSome o ↔ P) → IsTrue (is_some o) ↔ P
 some_tested None P t = t
 some_tested (Some x) P t = t
 
-pub one_unmarked : (is : ℕ → Type 0) (mask i : ℕ) → (is i → ⊥) → Marks is mask i
-    → Marks is mask (i + 1)
+pub one_unmarked : (is : ℕ → Type 0) (mask i : ℕ) → (is i → ⊥) → Marks is mask i → Marks is mask (i + 1)
 one_unmarked is mask i missing before = record {
   set = below_more _ _ before.set
       (let e = before.clear i (omega arith) in (λ h. absurd (omega (arith, h, e)), λ h. absurd (missing h)));
@@ -224,8 +208,7 @@ pub ok_at : {X E : Type 0} (P : X → Type 0) (result : Result X E) (x : X) → 
 ok_at P result x is so = subst (λ r. IfOk r P) is so
 
 -- and what holds where there is none
-pub err_at : {X E : Type 0} (P : Type 0) (result : Result X E) (error : E) → result ≡ Err error → OnErr result P
-    → P
+pub err_at : {X E : Type 0} (P : Type 0) (result : Result X E) (error : E) → result ≡ Err error → OnErr result P → P
 err_at P result error is so = subst (λ r. OnErr r P) is so
 
 pub some_map : {X Y : Type 0} (f : X → Y) (o : Option X) → is_some (option_map f o) ≡ is_some o
@@ -234,8 +217,7 @@ some_map f (Some x) = refl
 
 -- two members of a shard with the same number are one
 pub same_number : (shards a b : ℕ) → a % shards ≡ b % shards → a / shards ≡ b / shards → a ≡ b
-same_number shards a b rest whole =
-    sym (div-add-mod a shards) ∙ ap (λ q. shards * q + a % shards) whole
+same_number shards a b rest whole = sym (div-add-mod a shards) ∙ ap (λ q. shards * q + a % shards) whole
     ∙ ap (λ r. shards * (b / shards) + r) rest ∙ div-add-mod b shards
 
 -- of two answers there is one where there is either

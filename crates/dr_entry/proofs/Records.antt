@@ -1,14 +1,9 @@
 -- Records of logs, and the values of votes.
+use Rattle.std.{specs.Prelude.{⊤}, proofs.lemmas.List.ext_get_or}
 use Rattle.std.proofs.Common.{◌+◌, ◌≤◌, length, arith, ◌≡◌, List, [], ◌∷◌, refl, ℕ, ap, ◌∙◌, slice_index}
-use Rattle.std.specs.Prelude.{⊤}
-use Rattle.std.proofs.lemmas.List.{ext_get_or}
-use Rattle.dr_entry.specs.declared.entry.Entry.{Entry}
-use Rattle.dr_entry.specs.declared.entry.Entry.TheVariants.{View, Msg}
-use Rattle.dr_entry.specs.Spelling.{IsValidEntry, entry_spelling}
-use Rattle.dr_entry.specs.declared.record.AgeVote.{AgeVote}
-use Rattle.dr_entry.specs.declared.record.Record.{Record}
+use Rattle.dr_entry.specs.{Spelling.{IsValidEntry, entry_spelling}, declared.entry.Entry.TheVariants.{View, Msg}}
+use Rattle.dr_entry.specs.{declared.entry.Entry.Entry, declared.record.{AgeVote.AgeVote, Record.Record, Value.Value}}
 use Rattle.dr_entry.specs.declared.record.Record.TheVariants as records
-use Rattle.dr_entry.specs.declared.record.Value.{Value}
 
 -- an entry has a short block
 pub short_block : (e : Entry) → IsValidEntry e → 1 + length (entry_spelling e) ≤ 72

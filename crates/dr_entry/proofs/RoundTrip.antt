@@ -1,25 +1,18 @@
 -- What is decoded is spelled so, and what is spelled so is decoded again.
+use Rattle.std.specs.{Int.{w8, w16, w32, from_be_bytes, to_be_bytes}, List.{flat_map, range_with_len, AllByRecursion}}
 use Rattle.std.proofs.Common.{◌≡◌, ℕ, zero, suc, add-zero, inl, inr, ◌+◌, ◌*◌, ◌-◌, ◌^◌, ◌<◌, ◌≤◌, Bool, true, false, nat_lt, ◌==◌, not, List, [], ◌∷◌, ◌++◌, length, get_or, take, drop, map, replicate, Option, Some, None, Result, Ok, refl, sym, ap, subst, ◌∙◌, ◌↔◌, append_assoc, arith, length-append, length-drop, length-take, slice_index}
-use Rattle.std.specs.List.{flat_map, range_with_len, AllByRecursion}
-use Rattle.std.specs.Int.{w8, w16, w32, from_be_bytes, to_be_bytes}
-use Rattle.std.proofs.Math.Nat.{pow-le-pow_right}
-use Rattle.std.proofs.lemmas.Bool.{cases_lt, lt-ltb, eqb-true}
-use Rattle.std.proofs.lemmas.Bool.Decides.{nat_tests}
+use Rattle.std.proofs.{Math.Nat.pow-le-pow_right, lemmas.Bool.{cases_lt, lt-ltb, eqb-true, Decides.nat_tests}}
 use Rattle.std.proofs.lemmas.List.{drop-drop, take_at, ext_get_or, get_or_append_left, get_or-append_right, get_or-take, get_or-drop, length-replicate, append-nil, nil_from_length, take-append-drop}
 use Rattle.std.proofs.lemmas.List.FromFn.{length-map-range_with_len, get_or-map-range_with_len}
 use Rattle.std.proofs.lemmas.Nat.{from_be_bytes-to_be_bytes_2, from_be_bytes-to_be_bytes_4}
-use Rattle.dr_entry.specs.declared.limits.TheConstants.{MAX_MEMBERS, MAX_MESSAGE_LENGTH}
-use Rattle.dr_entry.specs.declared.entry.Entry.TheVariants.{View, Msg}
-use Rattle.dr_entry.specs.declared.record.Record.{Record}
-use Rattle.dr_entry.specs.declared.record.Record.TheVariants as records
-use Rattle.dr_entry.specs.declared.record.AgeVote.{AgeVote}
-use Rattle.dr_entry.specs.declared.record.Vote.{Vote}
-use Rattle.dr_entry.specs.declared.reading.DecodeFault.{DecodeFault}
-use Rattle.dr_entry.specs.declared.reading.DecodeFault.TheVariants.{BadKind}
-use Rattle.dr_entry.specs.Spelling.{IsValid, IsValidVote, Fits, FitsEntry, FitsVote, entry_spelling, vote_spelling, spelling, Spells}
 use Rattle.dr_entry.specs.Grammar.{number_at, free, first_fault, view_fields, message_fields, vote_fields, view_at, message_at, vote_at, trims_at, unless, vote_of, decoded, age_vote_at, age_vote_fields, cut_at, cut_fields, upgrade_at}
-use Rattle.dr_entry.proofs.Trims.{vote_length}
+use Rattle.dr_entry.specs.Spelling.{IsValid, IsValidVote, Fits, FitsEntry, FitsVote, entry_spelling, vote_spelling, spelling, Spells}
+use Rattle.dr_entry.specs.declared.{entry.Entry.TheVariants.{View, Msg}, reading.DecodeFault.TheVariants.BadKind}
+use Rattle.dr_entry.specs.{declared.limits.TheConstants.{MAX_MEMBERS, MAX_MESSAGE_LENGTH}, declared.record.Vote.Vote}
+use Rattle.dr_entry.specs.{declared.reading.DecodeFault.DecodeFault, declared.record.{AgeVote.AgeVote, Record.Record}}
 use Rattle.dr_entry.proofs.Fields.{IsBytes, drop-byte, drop-number_2, drop-number_4, drop-bytes, Passes, all_pass, no_fault, number_below_2, number_below_4}
+use Rattle.dr_entry.proofs.Trims.{vote_length}
+use Rattle.dr_entry.specs.declared.record.Record.TheVariants as records
 
 abbrev ok : Record × ℕ → Result (Record × ℕ) DecodeFault
 ok x = Ok x
@@ -27,20 +20,17 @@ ok x = Ok x
 -- ---- what is spelled so is decoded again
 
 -- a field with no rule passes where it is whole
-free_passes : (at width : ℕ) (bytes : List ℕ) → at + width ≤ length bytes
-    → Passes bytes (free at width)
+free_passes : (at width : ℕ) (bytes : List ℕ) → at + width ≤ length bytes → Passes bytes (free at width)
 free_passes at width bytes whole = record { whole = whole; kept = refl }
 
-view_again : (age number members : ℕ) (rest : List ℕ) → FitsEntry (View age number members) → 0
-    < members → decoded (entry_spelling (View age number members) ++ rest)
-    ≡ Ok (records.Entry (View age number members), 6)
+view_again : (age number members : ℕ) (rest : List ℕ) → FitsEntry (View age number members) → 0 < members
+    → decoded (entry_spelling (View age number members) ++ rest) ≡ Ok (records.Entry (View age number members), 6)
 view_again age number members rest fits some =
     let bytes = entry_spelling (View age number members) ++ rest in
     let age-is : number_at w16 1 bytes ≡ age = from_be_bytes-to_be_bytes_2 age fits.0 in
     let members-is : number_at w16 4 bytes ≡ members = from_be_bytes-to_be_bytes_2 members fits.2 in
     let kept : not (number_at w16 4 bytes == 0) ≡ true = grind (arith, nat_tests) in
-    let none : first_fault view_fields bytes
-    ≡ None = no_fault view_fields bytes (
+    let none : first_fault view_fields bytes ≡ None = no_fault view_fields bytes (
       free_passes 1 2 bytes (omega arith),
       (free_passes 3 1 bytes (omega arith), (record { whole = omega arith; kept = kept }, tt)),
     ) in
@@ -48,8 +38,7 @@ view_again age number members rest fits some =
     ∙ ap (λ (n : ℕ). ok (records.Entry (View age number n), 6)) members-is)
 
 message_again : (sender index : ℕ) (text rest : List ℕ) → FitsEntry (Msg sender index text) → sender
-    < MAX_MEMBERS → length text ≤ MAX_MESSAGE_LENGTH
-    → decoded (entry_spelling (Msg sender index text) ++ rest)
+    < MAX_MEMBERS → length text ≤ MAX_MESSAGE_LENGTH → decoded (entry_spelling (Msg sender index text) ++ rest)
     ≡ Ok (records.Entry (Msg sender index text), 7 + length text)
 message_again sender index text rest fits known short =
     let bytes = entry_spelling (Msg sender index text) ++ rest in
@@ -75,13 +64,11 @@ age_vote_again vote rest fits some =
     let age-is : number_at w16 1 bytes ≡ vote.age = from_be_bytes-to_be_bytes_2 vote.age fits.0 in
     let members-is : number_at w16 3 bytes ≡ vote.members = from_be_bytes-to_be_bytes_2 vote.members fits.1 in
     let kept : not (number_at w16 3 bytes == 0) ≡ true = grind (arith, nat_tests) in
-    let none : first_fault age_vote_fields bytes
-    ≡ None = no_fault age_vote_fields bytes (
+    let none : first_fault age_vote_fields bytes ≡ None = no_fault age_vote_fields bytes (
       free_passes 1 2 bytes (omega arith),
       (record { whole = omega arith; kept = kept }, tt),
     ) in
-    rw none (ap (λ (n : ℕ). ok
-    (records.AgeVote (record { age = n; members = number_at w16 3 bytes }), 5)) age-is
+    rw none (ap (λ (n : ℕ). ok (records.AgeVote (record { age = n; members = number_at w16 3 bytes }), 5)) age-is
     ∙ ap (λ (n : ℕ). ok (records.AgeVote (record { age = vote.age; members = n }), 5)) members-is)
 
 cut_again : (keep : ℕ) (rest : List ℕ) → keep < 2 ^ 32
@@ -100,38 +87,31 @@ zeros_read zero i = refl
 zeros_read (suc k) zero = refl
 zeros_read (suc k) (suc i) = zeros_read k i
 
-read_len : (n : ℕ) (bytes : List ℕ)
-    → length (map (λ s. number_at w32 (8 + 4 * s) bytes) (range_with_len 0 n)) ≡ n
+read_len : (n : ℕ) (bytes : List ℕ) → length (map (λ s. number_at w32 (8 + 4 * s) bytes) (range_with_len 0 n)) ≡ n
 read_len n bytes = length-map-range_with_len (λ s. number_at w32 (8 + 4 * s) bytes) 0 n
 
 trims_at-past : (n s : ℕ) (bytes : List ℕ) → n ≤ s → get_or (trims_at n bytes) s 0 ≡ 0
-trims_at-past n s bytes past =
-    get_or-append_right (map (λ s. number_at w32 (8 + 4 * s) bytes) (range_with_len 0 n))
+trims_at-past n s bytes past = get_or-append_right (map (λ s. number_at w32 (8 + 4 * s) bytes) (range_with_len 0 n))
     (replicate (16 - n) 0) n s 0 (read_len n bytes) past ∙ zeros_read (16 - n) (s - n)
 
-trims_at-member : (n s : ℕ) (bytes : List ℕ) → s < n → get_or (trims_at n bytes) s 0
-    ≡ number_at w32 (8 + 4 * s) bytes
-trims_at-member n s bytes below =
-    get_or_append_left (map (λ s. number_at w32 (8 + 4 * s) bytes) (range_with_len 0 n))
+trims_at-member : (n s : ℕ) (bytes : List ℕ) → s < n → get_or (trims_at n bytes) s 0 ≡ number_at w32 (8 + 4 * s) bytes
+trims_at-member n s bytes below = get_or_append_left (map (λ s. number_at w32 (8 + 4 * s) bytes) (range_with_len 0 n))
     (replicate (16 - n) 0) 0 s (omega (arith, read_len n bytes))
     ∙ get_or-map-range_with_len (λ s. number_at w32 (8 + 4 * s) bytes) 0 n s s 0 below (omega arith)
 
 trims_at-fits : (n s : ℕ) (bytes : List ℕ) → IsBytes bytes → get_or (trims_at n bytes) s 0 < 2 ^ 32
-trims_at-fits n s bytes fits =
-    elim (cases_lt s n) [
-      | inl below ↦ rw (trims_at-member n s bytes below) (number_below_4 (8 + 4 * s) bytes fits)
-      | inr past ↦ rw (trims_at-past n s bytes past) (omega arith)
-    ]
+trims_at-fits n s bytes fits = elim (cases_lt s n) [
+  | inl below ↦ rw (trims_at-member n s bytes below) (number_below_4 (8 + 4 * s) bytes fits)
+  | inr past ↦ rw (trims_at-past n s bytes past) (omega arith)
+]
 
 length-trims_at : (n : ℕ) (bytes : List ℕ) → n ≤ 16 → length (trims_at n bytes) ≡ 16
-length-trims_at n bytes few =
-    omega (
-      arith,
-      length-append (map (λ s. number_at w32 (8 + 4 * s) bytes) (range_with_len 0 n))
-          (replicate (16 - n) 0),
-      read_len n bytes,
-      length-replicate {A = ℕ} (16 - n) 0,
-    )
+length-trims_at n bytes few = omega (
+  arith,
+  length-append (map (λ s. number_at w32 (8 + 4 * s) bytes) (range_with_len 0 n)) (replicate (16 - n) 0),
+  read_len n bytes,
+  length-replicate {A = ℕ} (16 - n) 0,
+)
 
 -- each count of a list that is spelled is read again
 count_again : (counts rest : List ℕ) (s : ℕ) → s < length counts → get_or counts s 0 < 2 ^ 32
@@ -142,8 +122,7 @@ count_again (count ∷ counts) rest (suc s) lt fits =
     let more : 4 * suc s ≡ 4 + 4 * s = omega arith in
     let bytes = to_be_bytes w32 count ++ (flat_map (to_be_bytes w32) counts ++ rest) in
     let there : drop (4 * s) (flat_map (to_be_bytes w32) counts ++ rest)
-    ≡ drop (4 * suc s) bytes = drop-drop (4 * s) 4 bytes
-    ∙ ap (λ (n : ℕ). drop n bytes) (sym more) in
+    ≡ drop (4 * suc s) bytes = drop-drop (4 * s) 4 bytes ∙ ap (λ (n : ℕ). drop n bytes) (sym more) in
     ap (from_be_bytes w32) (sym there) ∙ count_again counts rest s (omega arith) fits
 
 -- counts of which the first n are spelled, and the others are 0
@@ -151,11 +130,9 @@ trims_again : (n : ℕ) (trim bytes rest : List ℕ) → n ≤ 16 → length tri
     → ((s : ℕ) → get_or trim s 0 < 2 ^ 32) → ((s : ℕ) → n ≤ s → get_or trim s 0 ≡ 0)
     → drop 8 bytes ≡ flat_map (to_be_bytes w32) (take n trim) ++ rest → trims_at n bytes ≡ trim
 trims_again n trim bytes rest few places fits none there =
-    ext_get_or 0 (trims_at n bytes) trim (length-trims_at n bytes few ∙ sym places)
-    (λ i lt. elim (cases_lt i n) [
+    ext_get_or 0 (trims_at n bytes) trim (length-trims_at n bytes few ∙ sym places) (λ i lt. elim (cases_lt i n) [
       | inl below ↦ member i below
-      | inr past ↦
-          trims_at-past n i bytes past ∙ sym (none i past)
+      | inr past ↦ trims_at-past n i bytes past ∙ sym (none i past)
     ])
   where
     member : (i : ℕ) → i < n → get_or (trims_at n bytes) i 0 ≡ get_or trim i 0
@@ -163,8 +140,7 @@ trims_again n trim bytes rest few places fits none there =
         let taken : get_or (take n trim) i 0 ≡ get_or trim i 0 = get_or-take n trim i 0 below in
         trims_at-member n i bytes below
         ∙ ap (from_be_bytes w32) (sym (drop-drop (4 * i) 8 bytes) ∙ ap (drop (4 * i)) there)
-        ∙ count_again (take n trim) rest i (omega (arith, length-take n trim)) (omega (arith, fits i))
-        ∙ taken
+        ∙ count_again (take n trim) rest i (omega (arith, length-take n trim)) (omega (arith, fits i)) ∙ taken
 
 trims_pass : (k i : ℕ) (bytes : List ℕ) → 8 + 4 * (i + k) ≤ length bytes
     → AllByRecursion (Passes bytes) (map (λ s. free (8 + 4 * s) 4) (range_with_len i k))
@@ -196,10 +172,7 @@ vote_none v rest fits valid =
               record { whole = omega arith; kept = grind (arith, nat_tests, valid.members, valid.ballot) },
               (
                 record { whole = omega arith; kept = lt-ltb _ _ valid.ballot },
-                (
-                  record { whole = omega arith; kept = leavers-kept },
-                  trims_pass v.members 0 bytes (omega arith),
-                ),
+                (record { whole = omega arith; kept = leavers-kept }, trims_pass v.members 0 bytes (omega arith)),
               ),
             ),
           ),
@@ -221,36 +194,31 @@ vote_again v rest fits valid =
     valid.trim refl in
     rw (vote_none v rest fits valid) (
     ap (λ (n : ℕ). ok (
-      records.Vote
-          (record {
-            age = n;
-            view = v.view;
-            ballot = v.ballot;
-            members = v.members;
-            value = record { leavers = number_at w16 5 bytes; trim = trims_at v.members bytes };
-          }),
+      records.Vote (record {
+        age = n;
+        view = v.view;
+        ballot = v.ballot;
+        members = v.members;
+        value = record { leavers = number_at w16 5 bytes; trim = trims_at v.members bytes };
+      }),
       8 + 4 * v.members,
-    )) age-is
-    ∙ ap (λ (n : ℕ). ok (
-      records.Vote
-          (record {
-            age = v.age;
-            view = v.view;
-            ballot = v.ballot;
-            members = v.members;
-            value = record { leavers = n; trim = trims_at v.members bytes };
-          }),
+    )) age-is ∙ ap (λ (n : ℕ). ok (
+      records.Vote (record {
+        age = v.age;
+        view = v.view;
+        ballot = v.ballot;
+        members = v.members;
+        value = record { leavers = n; trim = trims_at v.members bytes };
+      }),
       8 + 4 * v.members,
-    )) leavers-is
-    ∙ ap (λ (trim : List ℕ). ok (
-      records.Vote
-          (record {
-            age = v.age;
-            view = v.view;
-            ballot = v.ballot;
-            members = v.members;
-            value = record { leavers = v.value.leavers; trim = trim };
-          }),
+    )) leavers-is ∙ ap (λ (trim : List ℕ). ok (
+      records.Vote (record {
+        age = v.age;
+        view = v.view;
+        ballot = v.ballot;
+        members = v.members;
+        value = record { leavers = v.value.leavers; trim = trim };
+      }),
       8 + 4 * v.members,
     )) trim-is)
 
@@ -270,15 +238,11 @@ view_spelled bytes fits kind none =
     let age = number_at w16 1 bytes in
     let members = number_at w16 4 bytes in
     let e0 : bytes ≡ slice_index bytes 0 ∷ drop 1 bytes = drop-byte 0 bytes (omega arith) in
-    let e1 : drop 1 bytes ≡ to_be_bytes w16 age
-    ++ drop 3 bytes = drop-number_2 1 bytes fits (omega arith) in
+    let e1 : drop 1 bytes ≡ to_be_bytes w16 age ++ drop 3 bytes = drop-number_2 1 bytes fits (omega arith) in
     let e3 : drop 3 bytes ≡ slice_index bytes 3 ∷ drop 4 bytes = drop-byte 3 bytes (omega arith) in
-    let e4 : drop 4 bytes ≡ to_be_bytes w16 members
-    ++ drop 6 bytes = drop-number_2 4 bytes fits (omega arith) in
-    let parts : bytes ≡ spelling (view_at bytes).0 ++ drop 6 bytes =
-    e0 ∙ ap (λ (k : ℕ). k ∷ drop 1 bytes) kind
-    ∙ ap (λ (rest : List ℕ). 1 ∷ rest)
-    (e1 ∙ ap (λ (rest : List ℕ). to_be_bytes w16 age ++ rest)
+    let e4 : drop 4 bytes ≡ to_be_bytes w16 members ++ drop 6 bytes = drop-number_2 4 bytes fits (omega arith) in
+    let parts : bytes ≡ spelling (view_at bytes).0 ++ drop 6 bytes = e0 ∙ ap (λ (k : ℕ). k ∷ drop 1 bytes) kind
+    ∙ ap (λ (rest : List ℕ). 1 ∷ rest) (e1 ∙ ap (λ (rest : List ℕ). to_be_bytes w16 age ++ rest)
     (e3 ∙ ap (λ (rest : List ℕ). slice_index bytes 3 ∷ rest) e4)) in
     record {
       valid = grind (arith, nat_tests, p.1.1.0.kept);
@@ -295,12 +259,9 @@ age_vote_spelled bytes fits kind none =
     let age = number_at w16 1 bytes in
     let members = number_at w16 3 bytes in
     let e0 : bytes ≡ slice_index bytes 0 ∷ drop 1 bytes = drop-byte 0 bytes (omega arith) in
-    let e1 : drop 1 bytes ≡ to_be_bytes w16 age
-    ++ drop 3 bytes = drop-number_2 1 bytes fits (omega arith) in
-    let e3 : drop 3 bytes ≡ to_be_bytes w16 members
-    ++ drop 5 bytes = drop-number_2 3 bytes fits (omega arith) in
-    let parts : bytes ≡ spelling (age_vote_at bytes).0 ++ drop 5 bytes =
-    e0 ∙ ap (λ (k : ℕ). k ∷ drop 1 bytes) kind
+    let e1 : drop 1 bytes ≡ to_be_bytes w16 age ++ drop 3 bytes = drop-number_2 1 bytes fits (omega arith) in
+    let e3 : drop 3 bytes ≡ to_be_bytes w16 members ++ drop 5 bytes = drop-number_2 3 bytes fits (omega arith) in
+    let parts : bytes ≡ spelling (age_vote_at bytes).0 ++ drop 5 bytes = e0 ∙ ap (λ (k : ℕ). k ∷ drop 1 bytes) kind
     ∙ ap (λ (rest : List ℕ). 4 ∷ rest) (e1 ∙ ap (λ (rest : List ℕ). to_be_bytes w16 age ++ rest) e3) in
     record {
       valid = grind (arith, nat_tests, p.1.0.kept);
@@ -316,8 +277,7 @@ cut_spelled bytes fits kind none =
     let long : 5 ≤ length bytes = p.0.whole in
     let keep = number_at w32 1 bytes in
     let e0 : bytes ≡ slice_index bytes 0 ∷ drop 1 bytes = drop-byte 0 bytes (omega arith) in
-    let e1 : drop 1 bytes ≡ to_be_bytes w32 keep
-    ++ drop 5 bytes = drop-number_4 1 bytes fits (omega arith) in
+    let e1 : drop 1 bytes ≡ to_be_bytes w32 keep ++ drop 5 bytes = drop-number_4 1 bytes fits (omega arith) in
     let parts : bytes ≡ spelling (cut_at bytes).0 ++ drop 5 bytes =
     e0 ∙ ap (λ (k : ℕ). k ∷ drop 1 bytes) kind ∙ ap (λ (rest : List ℕ). 5 ∷ rest) e1 in
     record {
@@ -338,18 +298,14 @@ message_spelled bytes fits kind none =
     let text = take len (drop 7 bytes) in
     let e0 : bytes ≡ slice_index bytes 0 ∷ drop 1 bytes = drop-byte 0 bytes (omega arith) in
     let e1 : drop 1 bytes ≡ slice_index bytes 1 ∷ drop 2 bytes = drop-byte 1 bytes (omega arith) in
-    let e2 : drop 2 bytes ≡ to_be_bytes w32 index
-    ++ drop 6 bytes = drop-number_4 2 bytes fits (omega arith) in
+    let e2 : drop 2 bytes ≡ to_be_bytes w32 index ++ drop 6 bytes = drop-number_4 2 bytes fits (omega arith) in
     let e6 : drop 6 bytes ≡ len ∷ drop 7 bytes = drop-byte 6 bytes (omega arith) in
     let e7 : drop 7 bytes ≡ text ++ drop (7 + len) bytes = drop-bytes 7 len bytes in
     let text_len : length text ≡ len = omega (arith, length-take len (drop 7 bytes), length-drop 7 bytes) in
-    let parts : bytes ≡ spelling (message_at bytes).0 ++ drop (7 + len) bytes =
-    e0 ∙ ap (λ (k : ℕ). k ∷ drop 1 bytes) kind
-    ∙ ap (λ (rest : List ℕ). 2 ∷ rest)
-    (e1 ∙ ap (λ (rest : List ℕ). slice_index bytes 1 ∷ rest)
-    (e2 ∙ ap (λ (rest : List ℕ). to_be_bytes w32 index ++ rest)
-    (e6 ∙ ap (λ (k : ℕ). k ∷ drop 7 bytes) (sym text_len)
-    ∙ ap (λ (rest : List ℕ). length text ∷ rest) e7))) in
+    let parts : bytes ≡ spelling (message_at bytes).0
+    ++ drop (7 + len) bytes = e0 ∙ ap (λ (k : ℕ). k ∷ drop 1 bytes) kind ∙ ap (λ (rest : List ℕ). 2 ∷ rest) (e1
+    ∙ ap (λ (rest : List ℕ). slice_index bytes 1 ∷ rest) (e2 ∙ ap (λ (rest : List ℕ). to_be_bytes w32 index ++ rest)
+    (e6 ∙ ap (λ (k : ℕ). k ∷ drop 7 bytes) (sym text_len) ∙ ap (λ (rest : List ℕ). length text ∷ rest) e7))) in
     let count : 7 + len ≡ length (spelling (message_at bytes).0) = omega (arith, text_len) in
     record {
       valid = (
@@ -373,16 +329,13 @@ trims_front (suc k) i bytes fits whole =
     (map (λ s. number_at w32 (8 + 4 * s) bytes) (range_with_len (i + 1) k)) in
     let next : 8 + 4 * i + 4 ≡ 8 + 4 * (i + 1) = omega arith in
     let end : 8 + 4 * (i + 1 + k) ≡ 8 + 4 * (i + suc k) = omega arith in
-    drop-number_4 (8 + 4 * i) bytes fits (omega arith)
-    ∙ ap (λ (at : ℕ). first ++ drop at bytes) next
-    ∙ ap (λ (rest : List ℕ). first ++ rest) (trims_front k (i + 1) bytes fits (omega arith))
-    ∙ ap (λ (at : ℕ). first ++ (others ++ drop at bytes)) end
-    ∙ sym (append_assoc first others (drop (8 + 4 * (i + suc k)) bytes))
+    drop-number_4 (8 + 4 * i) bytes fits (omega arith) ∙ ap (λ (at : ℕ). first ++ drop at bytes) next
+    ∙ ap (λ (rest : List ℕ). first ++ rest) (trims_front k (i + 1) bytes fits (omega arith)) ∙ ap (λ (at : ℕ). first
+    ++ (others ++ drop at bytes)) end ∙ sym (append_assoc first others (drop (8 + 4 * (i + suc k)) bytes))
 
 -- what follows the trims' fields
-trims_whole : (k i : ℕ) (bytes : List ℕ)
-    → AllByRecursion (Passes bytes) (map (λ s. free (8 + 4 * s) 4) (range_with_len i k)) → 8 + 4 * i
-    ≤ length bytes → 8 + 4 * (i + k) ≤ length bytes
+trims_whole : (k i : ℕ) (bytes : List ℕ) → AllByRecursion (Passes bytes) (map (λ s. free (8 + 4 * s) 4)
+    (range_with_len i k)) → 8 + 4 * i ≤ length bytes → 8 + 4 * (i + k) ≤ length bytes
 trims_whole zero i bytes pass whole = omega arith
 trims_whole (suc k) i bytes pass whole = let next : 8 + 4 * (i + 1)
     ≤ length bytes = omega (arith, pass.0.whole) in omega (arith, trims_whole k (i + 1) bytes pass.1 next)
@@ -401,28 +354,20 @@ vote_spelled bytes fits kind none =
     let leavers = number_at w16 5 bytes in
     let read : List ℕ = map (λ s. number_at w32 (8 + 4 * s) bytes) (range_with_len 0 n) in
     let counts : List ℕ = flat_map (to_be_bytes w32) (take n (trims_at n bytes)) in
-    let written : take n (trims_at n bytes)
-    ≡ read = take_at read (replicate (16 - n) 0) n (read_len n bytes) in
+    let written : take n (trims_at n bytes) ≡ read = take_at read (replicate (16 - n) 0) n (read_len n bytes) in
     let e0 : bytes ≡ slice_index bytes 0 ∷ drop 1 bytes = drop-byte 0 bytes (omega arith) in
-    let e1 : drop 1 bytes ≡ to_be_bytes w16 age
-    ++ drop 3 bytes = drop-number_2 1 bytes fits (omega arith) in
+    let e1 : drop 1 bytes ≡ to_be_bytes w16 age ++ drop 3 bytes = drop-number_2 1 bytes fits (omega arith) in
     let e3 : drop 3 bytes ≡ slice_index bytes 3 ∷ drop 4 bytes = drop-byte 3 bytes (omega arith) in
     let e4 : drop 4 bytes ≡ slice_index bytes 4 ∷ drop 5 bytes = drop-byte 4 bytes (omega arith) in
-    let e5 : drop 5 bytes ≡ to_be_bytes w16 leavers
-    ++ drop 7 bytes = drop-number_2 5 bytes fits (omega arith) in
+    let e5 : drop 5 bytes ≡ to_be_bytes w16 leavers ++ drop 7 bytes = drop-number_2 5 bytes fits (omega arith) in
     let e7 : drop 7 bytes ≡ n ∷ drop 8 bytes = drop-byte 7 bytes (omega arith) in
-    let e8 : drop 8 bytes ≡ counts ++ drop (8 + 4 * n) bytes =
-    trims_front n 0 bytes fits whole
+    let e8 : drop 8 bytes ≡ counts ++ drop (8 + 4 * n) bytes = trims_front n 0 bytes fits whole
     ∙ ap (λ (at : ℕ). flat_map (to_be_bytes w32) read ++ drop at bytes) end
     ∙ ap (λ (xs : List ℕ). flat_map (to_be_bytes w32) xs ++ drop (8 + 4 * n) bytes) (sym written) in
-    let parts : bytes ≡ vote_spelling (vote_of bytes) ++ drop (8 + 4 * n) bytes =
-    e0 ∙ ap (λ (k : ℕ). k ∷ drop 1 bytes) kind
-    ∙ ap (λ (rest : List ℕ). 3 ∷ rest)
-    (e1 ∙ ap (λ (rest : List ℕ). to_be_bytes w16 age ++ rest)
-    (e3 ∙ ap (λ (rest : List ℕ). slice_index bytes 3 ∷ rest)
-    (e4 ∙ ap (λ (rest : List ℕ). slice_index bytes 4 ∷ rest)
-    (e5 ∙ ap (λ (rest : List ℕ). to_be_bytes w16 leavers ++ rest)
-    (e7 ∙ ap (λ (rest : List ℕ). n ∷ rest) e8))))) in
+    let parts : bytes ≡ vote_spelling (vote_of bytes) ++ drop (8 + 4 * n) bytes = e0 ∙ ap (λ (k : ℕ). k
+    ∷ drop 1 bytes) kind ∙ ap (λ (rest : List ℕ). 3 ∷ rest) (e1 ∙ ap (λ (rest : List ℕ). to_be_bytes w16 age ++ rest)
+    (e3 ∙ ap (λ (rest : List ℕ). slice_index bytes 3 ∷ rest) (e4 ∙ ap (λ (rest : List ℕ). slice_index bytes 4 ∷ rest)
+    (e5 ∙ ap (λ (rest : List ℕ). to_be_bytes w16 leavers ++ rest) (e7 ∙ ap (λ (rest : List ℕ). n ∷ rest) e8))))) in
     let count : 8 + 4 * n ≡ length (vote_spelling (vote_of bytes)) =
     sym (vote_length (vote_of bytes) (length-trims_at n bytes few) few) in
     record {
@@ -454,20 +399,17 @@ decoded_again (records.Entry (Msg sender index text)) rest valid fits =
     let count : 7 + length text ≡ length (entry_spelling (Msg sender index text)) = omega arith in
     message_again sender index text rest fits valid.0 valid.1
     ∙ ap (λ (n : ℕ). ok (records.Entry (Msg sender index text), n)) count
-decoded_again (records.Vote vote) rest valid fits =
-    vote_again vote rest fits valid
+decoded_again (records.Vote vote) rest valid fits = vote_again vote rest fits valid
     ∙ ap (λ (n : ℕ). ok (records.Vote vote, n)) (sym (vote_length vote fits.places valid.members))
 decoded_again (records.AgeVote vote) rest valid fits = age_vote_again vote rest fits valid
 decoded_again (records.Cut keep) rest valid fits = cut_again keep rest fits
 decoded_again records.Upgrade rest valid fits = refl
 
-unless_ok : (fault : Option DecodeFault) (y x : Record × ℕ) → unless fault y ≡ Ok x
-    → (fault ≡ None) × (y ≡ x)
+unless_ok : (fault : Option DecodeFault) (y x : Record × ℕ) → unless fault y ≡ Ok x → (fault ≡ None) × (y ≡ x)
 unless_ok None y x e = (refl, cc)
 unless_ok (Some fault) y x e = absurd (cc)
 
-decoded_spells : (bytes : List ℕ) (x : Record × ℕ) → IsBytes bytes → decoded bytes ≡ Ok x
-    → Spells bytes x.0 x.1
+decoded_spells : (bytes : List ℕ) (x : Record × ℕ) → IsBytes bytes → decoded bytes ≡ Ok x → Spells bytes x.0 x.1
 decoded_spells [] x fits e = absurd (cc)
 decoded_spells (kind ∷ rest) x fits e =
     by (kind == 1) (kind == 2) (kind == 3) (kind == 4) (kind == 5) (kind == 6) refl refl refl refl refl refl
@@ -497,12 +439,7 @@ decoded_spells (kind ∷ rest) x fits e =
         is _ (cut_spelled bytes fits (eqb-true kind 5 t) u.0) u.1
     by false false false false false true p q r s t v = let u =
         unless_ok None upgrade_at x (rw (p, q, r, s, t, v) at e) in
-        is _ (record {
-          valid = tt;
-          fits = tt;
-          count = refl;
-          front = ap (λ (k : ℕ). k ∷ []) (eqb-true kind 6 v);
-        }) u.1
+        is _ (record { valid = tt; fits = tt; count = refl; front = ap (λ (k : ℕ). k ∷ []) (eqb-true kind 6 v) }) u.1
     by false false false false false false p q r s t v = let u =
         unless_ok (Some (BadKind 0 kind)) upgrade_at x (rw (p, q, r, s, t, v) at e) in absurd (cc (u.0))
 
@@ -516,8 +453,7 @@ ok_is x y e = cc
 pub begins_one : (a b : Record) (rest : List ℕ) → IsValid a → Fits a → IsValid b → Fits b
     → spelling a ≡ spelling b ++ rest → (a ≡ b) × (rest ≡ [])
 begins_one a b rest valid_a fits_a valid_b fits_b e =
-    let one : decoded (spelling a)
-    ≡ Ok (a, length (spelling a)) = ap decoded (sym (append-nil (spelling a)))
+    let one : decoded (spelling a) ≡ Ok (a, length (spelling a)) = ap decoded (sym (append-nil (spelling a)))
     ∙ decoded_again a [] valid_a fits_a in
     let both : ok (a, length (spelling a)) ≡ ok (b, length (spelling b)) = sym one ∙ ap decoded e
     ∙ decoded_again b rest valid_b fits_b in
@@ -538,8 +474,7 @@ accepted bytes result fits is r n = (
   λ s.
       let parts : bytes ≡ spelling r ++ drop n bytes = sym (take-append-drop n bytes)
       ∙ ap (λ (front : List ℕ). front ++ drop n bytes) s.front in
-      is ∙ ap decoded parts ∙ decoded_again r (drop n bytes) s.valid s.fits
-      ∙ ap (λ (m : ℕ). ok (r, m)) (sym s.count),
+      is ∙ ap decoded parts ∙ decoded_again r (drop n bytes) s.valid s.fits ∙ ap (λ (m : ℕ). ok (r, m)) (sym s.count),
 )
 
 -- spellings with whatever behind them are those of one record

@@ -1,13 +1,9 @@
 -- Facts of texts and of their bytes.
+use Rattle.std.specs.{Bool.MatchBool, Fmt.{decimal, digits}, Str.{IsAscii, IsUtf8, is_utf8, IsNotAscii, chars}}
 use Rattle.std.proofs.Common.{◌≡◌, ℕ, nat_lt, true, List, [], ◌∷◌, false, inl, inr, refl, ◌<◌, ◌∙◌, sym, ap, Bool, true≢false, length}
-use Rattle.std.specs.Str.{IsAscii, IsUtf8, is_utf8, IsNotAscii, chars}
-use Rattle.std.proofs.lemmas.Bool.{and_parts, ltb-true, cases_Bool}
+use Rattle.std.proofs.lemmas.{Bool.{and_parts, ltb-true, cases_Bool}, Str.{IsUtf8-from_is_utf8, chars-IsAscii}}
 use Rattle.std.proofs.lemmas.Str.Ascii.{IsAscii-nil, IsAscii-cons}
-use Rattle.std.proofs.lemmas.Str.{IsUtf8-from_is_utf8, chars-IsAscii}
-use Rattle.std.specs.Fmt.{decimal, digits}
-use Rattle.std.specs.Bool.{MatchBool}
-use Rattle.dr_entry.proofs.ListFacts.{all_ascii, is_free}
-use Rattle.dr_entry.proofs.OptionFacts.{free_below}
+use Rattle.dr_entry.proofs.{ListFacts.{all_ascii, is_free}, OptionFacts.free_below}
 
 -- bytes below 128 are ASCII
 pub ascii_from_all : (bs : List ℕ) → all_ascii bs ≡ true → IsAscii bs

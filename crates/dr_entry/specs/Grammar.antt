@@ -1,14 +1,10 @@
 -- The fields of a record in the order in which they are looked at, and the first that is refused.
+use Rattle.std.specs.{Int.{Width, w8, w16, w32, byte_len, from_be_bytes}, List.range_with_len}
 use Rattle.std.specs.Prelude.{ℕ, ◌+◌, ◌*◌, ◌-◌, ◌^◌, Bool, true, not, ◌&&◌, ◌==◌, nat_lt, nat_le, if◌then◌else◌, List, [], ◌∷◌, ◌++◌, length, take, drop, map, replicate, slice_index, Option, Some, None, Result, Ok, Err}
-use Rattle.std.specs.List.{range_with_len}
-use Rattle.std.specs.Int.{Width, w8, w16, w32, byte_len, from_be_bytes}
-use Rattle.dr_entry.specs.declared.entry.Entry.TheVariants.{View, Msg}
-use Rattle.dr_entry.specs.declared.record.Record.{Record}
-use Rattle.dr_entry.specs.declared.record.Record.TheVariants as records
-use Rattle.dr_entry.specs.declared.record.Vote.{Vote}
-use Rattle.dr_entry.specs.declared.reading.DecodeFault.{DecodeFault}
-use Rattle.dr_entry.specs.declared.reading.DecodeFault.TheVariants.{Short, BadKind, BadField}
+use Rattle.dr_entry.specs.{declared.entry.Entry.TheVariants.{View, Msg}, declared.record.{Record.Record, Vote.Vote}}
 use Rattle.dr_entry.specs.declared.limits.TheConstants.{MAX_MEMBERS, MAX_MESSAGE_LENGTH}
+use Rattle.dr_entry.specs.declared.reading.DecodeFault.{DecodeFault, TheVariants.{Short, BadKind, BadField}}
+use Rattle.dr_entry.specs.declared.record.Record.TheVariants as records
 
 -- the number of this width that begins at this place, its greatest byte first
 abbrev pub number_at : Width → ℕ → List ℕ → ℕ

@@ -1,13 +1,9 @@
 -- What a valid record is, and the one spelling of each.
+use Rattle.std.specs.{Int.{w16, w32, to_be_bytes}, List.flat_map}
 use Rattle.std.specs.Prelude.{◌≡◌, ⊤, ℕ, ◌<◌, ◌≤◌, ◌^◌, List, [], ◌∷◌, ◌++◌, length, take, slice_index}
-use Rattle.std.specs.List.{flat_map}
-use Rattle.std.specs.Int.{w16, w32, to_be_bytes}
-use Rattle.dr_entry.specs.declared.entry.Entry.{Entry}
-use Rattle.dr_entry.specs.declared.entry.Entry.TheVariants.{View, Msg}
-use Rattle.dr_entry.specs.declared.record.Record.{Record}
+use Rattle.dr_entry.specs.{declared.entry.Entry.{Entry, TheVariants.{View, Msg}}, declared.record.Record.Record}
+use Rattle.dr_entry.specs.{declared.limits.TheConstants.{MAX_MEMBERS, MAX_MESSAGE_LENGTH}, declared.record.Vote.Vote}
 use Rattle.dr_entry.specs.declared.record.Record.TheVariants as records
-use Rattle.dr_entry.specs.declared.record.Vote.{Vote}
-use Rattle.dr_entry.specs.declared.limits.TheConstants.{MAX_MEMBERS, MAX_MESSAGE_LENGTH}
 
 -- a view has members; a message has a sender of the greatest roster, and not too many bytes
 abbrev pub IsValidEntry : Entry → Type 0

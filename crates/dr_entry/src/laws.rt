@@ -1,6 +1,5 @@
 ghost use Rattle.std.specs.Prelude.{◌≡◌, List, ℕ, [], ◌++◌};
-ghost use Rattle.dr_entry.specs.declared.record.Record.{Record};
-ghost use Rattle.dr_entry.specs.Spelling.{IsValid, Fits, spelling};
+ghost use Rattle.dr_entry.specs.{Spelling.{IsValid, Fits, spelling}, declared.record.Record.Record};
 
 use crate::{MAX_MEMBERS, MAX_MESSAGE_LENGTH, MAX_MESSAGES};
 

@@ -1,8 +1,7 @@
 -- Members that are led over one list of words.
 use Rattle.std.specs.Prelude.{ℕ, List, Option}
 use Rattle.dr_entry.specs.declared.entry.Entry.{Entry}
-use Rattle.dr_program.specs.Program.{Program}
-use Rattle.dr_program.specs.Running.{Running}
+use Rattle.dr_program.specs.{Program.Program, Running.Running}
 
 -- the letters for late members, by number
 abbrev pub LettersByNumber : Type 0

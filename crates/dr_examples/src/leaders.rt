@@ -1,6 +1,6 @@
 //! A second leader, which takes over what the first one has proposed.
 ghost use Rattle.std.specs.Prelude.{◌<◌, length};
-ghost use Rattle.dr_age.specs.Sound.{IsSound};
+ghost use Rattle.dr_play.specs.Sound.{IsSound};
 ghost use Rattle.dr_machine.specs.Group.{Group};
 ghost use Rattle.dr_examples.specs.Led.{LettersByNumber, over};
 

@@ -1,13 +1,13 @@
 //! The members of a group, led deed by deed.
 ghost use Rattle.std.specs.Prelude.{◌<◌, IfOk, None, length, replicate};
-ghost use Rattle.dr_age.specs.Sound.{IsSound};
+ghost use Rattle.dr_play.specs.Sound.{IsSound};
 ghost use Rattle.dr_machine.specs.Group.{Group, IsGroup};
 ghost use Rattle.dr_restart.specs.Groups.{group_of};
 ghost use Rattle.dr_script.specs.Ranges.{HasRanges};
 ghost use Rattle.dr_examples.specs.Led.{LettersByNumber, over};
 
-use dr_age::begun_members;
 use dr_member::{Deed, Member};
+use dr_play::begun_members;
 use dr_restart::{Start, first_start, shape_of};
 use dr_script::{Script, read_script};
 use std::alloc::{AllocError, Global};

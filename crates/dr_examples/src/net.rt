@@ -1,9 +1,8 @@
 //! The members of a group on different machines: a word that one pushes to another is on its way for a while.
 ghost use Rattle.std.specs.Prelude.{◌<◌, All, Contains, List, Option, length};
-ghost use Rattle.dr_age.specs.Sound.{IsSound};
+ghost use Rattle.dr_play.specs.Sound.{IsSound};
 ghost use Rattle.dr_machine.specs.Group.{Group};
-ghost use Rattle.dr_program.specs.declared.packet.Packet.{Packet as PacketOf};
-ghost use Rattle.dr_program.specs.Running.{Running};
+ghost use Rattle.dr_program.specs.{Running.Running, declared.packet.Packet.Packet as PacketOf};
 ghost use Rattle.dr_program_laws.specs.Carried.{IsCarried};
 ghost use Rattle.dr_examples.specs.Led.{LettersByNumber, over};
 

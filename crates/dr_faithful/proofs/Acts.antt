@@ -1,36 +1,22 @@
 -- Acts that put and take no items, before they stamp the beat word: turns, ends, logs, reports, marks and
 -- deliveries.
+use Rattle.std.{specs.Prelude.Option, proofs.lemmas.List.take_all}
 use Rattle.std.proofs.Common.{List, [], ◌∷◌, ap, arith, drop, false, inl, le_of_eq, le_refl, le_trans, length, refl, sym, take, true, ℕ, ◌++◌, ◌+◌, ◌-◌, ◌<◌, ◌^◌, ◌∙◌, ◌≡◌, ◌≤◌}
-use Rattle.std.proofs.lemmas.List.{take_all}
-use Rattle.dr_entry.specs.declared.end.End.{End}
-use Rattle.dr_entry.specs.declared.entry.Entry.{Entry}
-use Rattle.dr_entry.specs.declared.entry.Entry.TheVariants.{Msg, View}
-use Rattle.dr_entry.specs.declared.entry.Item.{Item}
-use Rattle.dr_entry.specs.declared.entry.Item.TheVariants.{Null, Text}
-use Rattle.dr_entry.specs.declared.record.Value.{Value}
-use Rattle.std.specs.Prelude.{Option}
-use Rattle.dr_history.specs.History.{IsPrefixOf, before_some, messages_of, up_to_view}
-use Rattle.dr_history.specs.Members.{has}
+use Rattle.dr_entry.specs.declared.{end.End.End, entry.{Entry.{Entry, TheVariants.{Msg, View}}, Item.Item}}
+use Rattle.dr_entry.specs.{declared.entry.Item.TheVariants.{Null, Text}, declared.record.Value.Value}
+use Rattle.dr_history.specs.{History.{IsPrefixOf, before_some, messages_of, up_to_view}, Members.has}
 use Rattle.dr_history.specs.Order.{messages_from}
 use Rattle.dr_machine.specs.Effects.{appends, beats, delivers, ends, entries_of, least_shown, marks, publishes, reports, sender_at, with_own}
 use Rattle.dr_machine.specs.Group.{Group, IsGroup, IsPresent, roster}
-use Rattle.dr_machine.specs.Guards.{CanDeliver, CanMark, CanReport, IsInView}
-use Rattle.dr_machine.specs.Run.{PastGrew, WordsGrew}
-use Rattle.dr_machine.specs.World.{Past, World, item_at_place, own_word, shown}
-use Rattle.dr_machine.specs.Writes.{at, at₃}
-use Rattle.dr_faithful.proofs.Beside.{in_view, same_own_keeps}
-use Rattle.dr_faithful.proofs.Lists.{least_all, least_most, least_some, prefix_more, prefix_next}
+use Rattle.dr_machine.specs.{Guards.{CanDeliver, CanMark, CanReport, IsInView}, Run.{PastGrew, WordsGrew}}
+use Rattle.dr_machine.specs.{World.{Past, World, item_at_place, own_word, shown}, Writes.{at, at₃}}
+use Rattle.dr_faithful.{specs.Faithful.{Faithful, StandsOnLogs}, proofs.Beside.{in_view, same_own_keeps}}
+use Rattle.dr_faithful.{specs.Tells.{HasAll, Tells, Views}, proofs.Writes.{at_case, at₃_case}}
+use Rattle.dr_faithful.proofs.{Lists.{least_all, least_most, least_some, prefix_more, prefix_next}, Shown.shown_le}
 use Rattle.dr_faithful.proofs.OwnWords.{IsPlain, accepts_word, counts_word, delivered_word, form_word, old_later, own_grown, suspicions_word, closed_written, fresh_written}
 use Rattle.dr_faithful.proofs.Pasts.{past_same, prefix_refl, prefix_short, same_past, tells_done, tells_later, tells_logged, words_later}
-use Rattle.dr_faithful.proofs.Shown.{shown_le}
-use Rattle.dr_faithful.proofs.Writes.{at_case, at₃_case}
-use Rattle.dr_faithful.specs.Faithful.{Faithful, StandsOnLogs}
-use Rattle.dr_faithful.specs.Tells.{HasAll, Tells, Views}
-use Rattle.dr_words.proofs.Order.{HasGrown_refl}
-use Rattle.dr_words.proofs.Forms.{form_done, form_free, grown_done, grown_free}
-use Rattle.dr_words.specs.declared.column.TheConstants.{DONE_COLUMN, LOGGED_COLUMN}
-use Rattle.dr_words.specs.Form.{IsInForm}
-use Rattle.dr_words.specs.Grown.{HasGrown}
+use Rattle.dr_words.specs.{Form.IsInForm, Grown.HasGrown, declared.column.TheConstants.{DONE_COLUMN, LOGGED_COLUMN}}
+use Rattle.dr_words.proofs.{Forms.{form_done, form_free, grown_done, grown_free}, Order.HasGrown_refl}
 
 -- ---- turns and ends
 
@@ -56,8 +42,7 @@ pub beat_keeps : (g : Group) (V : Views) (w : World) (m : ℕ) → Faithful g V 
 beat_keeps g V w m f = beside_keeps g V w (beats w m).turns w.end w.committed f
 
 -- a member ends
-pub end_keeps : (g : Group) (V : Views) (w : World) (m : ℕ) (end : End) → Faithful g V w
-    → Faithful g V (ends w m end)
+pub end_keeps : (g : Group) (V : Views) (w : World) (m : ℕ) (end : End) → Faithful g V w → Faithful g V (ends w m end)
 end_keeps g V w m end f = beside_keeps g V w w.turns (ends w m end).end w.committed f
 
 -- ---- one own word
@@ -84,8 +69,7 @@ word_keeps g V w m c x plain inside grown form told f = record {
   views = f.views;
   items = f.items;
   sent = f.sent;
-  counts = counts_word g V w.past.view w.suspects w.past.own w.past.count m
-      (w.past.view m) c x plain f.counts;
+  counts = counts_word g V w.past.view w.suspects w.past.own w.past.count m (w.past.view m) c x plain f.counts;
   suspicions = suspicions_word g V w.past.view w.suspects w.promise w.past.own m (w.past.view m) c x plain
       f.suspicions;
   accepts = accepts_word g V w.past.view w.promise w.tag w.value w.pending w.past.own m (w.past.view m) c x
@@ -115,13 +99,11 @@ word_keeps g V w m c x plain inside grown form told f = record {
 
 publish_grown : (g : Group) (V : Views) (w : World) (m : ℕ) → Faithful g V w
     → HasGrown (roster g) LOGGED_COLUMN (own_word w m LOGGED_COLUMN) (length (w.past.log m))
-publish_grown g V w m f =
-    grown_free (roster g) LOGGED_COLUMN _ _ (inl (omega arith, omega arith))
+publish_grown g V w m f = grown_free (roster g) LOGGED_COLUMN _ _ (inl (omega arith, omega arith))
     ((f.words.own m (w.past.view m) LOGGED_COLUMN).logged refl)
 
 -- the logged word grows
-pub publish_grew : (g : Group) (V : Views) (w : World) (m : ℕ) → Faithful g V w
-    → WordsGrew g w (publishes w m)
+pub publish_grew : (g : Group) (V : Views) (w : World) (m : ℕ) → Faithful g V w → WordsGrew g w (publishes w m)
 publish_grew g V w m f = word_grew g w m LOGGED_COLUMN (length (w.past.log m)) (publish_grown g V w m f)
 
 -- the logged word tells of the log
@@ -145,18 +127,14 @@ mark_grew g V w m f = word_grew g w m DONE_COLUMN 1 (mark_grown g V w m f)
 -- the done word tells that all is there
 pub mark_keeps : (g : Group) (V : Views) (w : World) (m : ℕ) → CanMark g w m → Faithful g V w
     → Faithful g V (marks w m)
-mark_keeps g V w m can f =
-    word_keeps g V w m DONE_COLUMN 1 (omega arith, omega arith, omega arith) can.may.inside (mark_grown g V w m f)
-    (form_done (roster g) 1 (le_refl 1))
-    (tells_done g V w.past m (w.past.view m) mine) f
+mark_keeps g V w m can f = word_keeps g V w m DONE_COLUMN 1 (omega arith, omega arith, omega arith) can.may.inside
+    (mark_grown g V w m f) (form_done (roster g) 1 (le_refl 1)) (tells_done g V w.past m (w.past.view m) mine) f
   where
     mine : HasAll g (V (w.past.view m)) (take (w.past.durable m) (w.past.history m))
     mine s h =
         let all : take (w.past.durable m) (w.past.history m)
-        ≡ w.past.history m = take_all (w.past.durable m) (w.past.history m)
-        (le_of_eq (sym can.durable)) in
-        rw (all, can.whole s (ap (λ k. has k s) (f.views.own m) ∙ h))
-        (le_refl (length (messages_of g.opening s)))
+        ≡ w.past.history m = take_all (w.past.durable m) (w.past.history m) (le_of_eq (sym can.durable)) in
+        rw (all, can.whole s (ap (λ k. has k s) (f.views.own m) ∙ h)) (le_refl (length (messages_of g.opening s)))
 
 -- ---- the log
 
@@ -177,11 +155,9 @@ append_past w m =
     }
 
 -- and is a front of the history still
-pub append_keeps : (g : Group) (V : Views) (w : World) (m : ℕ) → Faithful g V w
-    → Faithful g V (appends w m)
+pub append_keeps : (g : Group) (V : Views) (w : World) (m : ℕ) → Faithful g V w → Faithful g V (appends w m)
 append_keeps g V w m f = same_own_keeps g V w (appends w m) refl
-    (words_later g V w (appends w m) (append_past w m) refl refl refl refl f.words)
-    (record {
+    (words_later g V w (appends w m) (append_past w m) refl refl refl refl f.words) (record {
       bounded = f.logs.bounded;
       front = at_case (λ i l. IsPrefixOf l (w.past.history i)) w.past.log m (w.past.log m ++ one)
           (λ i d. f.logs.front i) (prefix_next (w.past.log m) (w.past.history m) (f.logs.front m));
@@ -194,9 +170,7 @@ append_keeps g V w m f = same_own_keeps g V w (appends w m) refl
         stayed = λ i h e. le_trans (old.stayed i h e) (longer i);
       };
       small = f.logs.small;
-    })
-    f.delivered
-    f.old f.form f
+    }) f.delivered f.old f.form f
   where
     one : List Entry
     one = take 1 (drop (length (w.past.log m)) (w.past.history m))
@@ -209,8 +183,7 @@ append_keeps g V w m f = same_own_keeps g V w (appends w m) refl
 -- every member of the view shows more than was known to be durable
 report_rises : (g : Group) (V : Views) (w : World) (m : ℕ) → CanReport g w m → Faithful g V w
     → w.past.durable m ≤ least_shown w m LOGGED_COLUMN
-report_rises g V w m can f =
-    least_all (λ i. shown w m i LOGGED_COLUMN) (w.members m) (2 ^ 64 - 1) (w.past.durable m)
+report_rises g V w m can f = least_all (λ i. shown w m i LOGGED_COLUMN) (w.members m) (2 ^ 64 - 1) (w.past.durable m)
     (omega (arith, f.logs.small m)) (λ i h. omega (arith, can.logged i h))
 
 -- more is known to be durable
@@ -233,12 +206,10 @@ report_past g V w m can f =
 pub report_keeps : (g : Group) (V : Views) (w : World) (m : ℕ) → IsGroup g → CanReport g w m
     → Faithful g V w → Faithful g V (reports w m)
 report_keeps g V w m is can f = same_own_keeps g V w (reports w m) refl
-    (words_later g V w (reports w m) (report_past g V w m can f) refl refl refl refl f.words)
-    (record {
+    (words_later g V w (reports w m) (report_past g V w m can f) refl refl refl refl f.words) (record {
       bounded = f.logs.bounded;
       front = f.logs.front;
-      safe = at_case
-          (λ a d. IsPresent g a → StandsOnLogs g V w.past.log (w.past.history a) a (w.past.view a) d)
+      safe = at_case (λ a d. IsPresent g a → StandsOnLogs g V w.past.log (w.past.history a) a (w.past.view a) d)
           w.past.durable m least (λ a d. f.logs.safe a) (λ l. record {
             own = logged m (in_view g V w m f can.may.inside);
             since = w.past.view m;
@@ -249,9 +220,7 @@ report_keeps g V w m is can f = same_own_keeps g V w (reports w m) refl
           });
       small = at_case (λ a d. d < 2 ^ 64) w.past.durable m least (λ a d. f.logs.small a)
           (omega (arith, least_most (λ i. shown w m i LOGGED_COLUMN) (w.members m) (2 ^ 64 - 1)));
-    })
-    f.delivered
-    f.old f.form f
+    }) f.delivered f.old f.form f
   where
     least : ℕ
     least = least_shown w m LOGGED_COLUMN
@@ -261,8 +230,7 @@ report_keeps g V w m is can f = same_own_keeps g V w (reports w m) refl
         let member : has (w.members m) i ≡ true = ap (λ k. has k i) (f.views.own m) ∙ h in
         let few : i < 16 = le_trans (f.views.within (w.past.view m) i h) is.most_members in
         le_trans (least_some (λ k. shown w m k LOGGED_COLUMN) (w.members m) (2 ^ 64 - 1) i few member)
-        (le_trans (shown_le g V w m i LOGGED_COLUMN f)
-        ((f.words.own i (w.past.view m) LOGGED_COLUMN).logged refl))
+        (le_trans (shown_le g V w m i LOGGED_COLUMN f) ((f.words.own i (w.past.view m) LOGGED_COLUMN).logged refl))
 
 -- ---- the next place
 
@@ -274,8 +242,7 @@ up_to_view-same (View a n m ∷ h) es none = ap (λ t. View a n m ∷ t) (up_to_
 up_to_view-same (Msg s i b ∷ h) es none = ap (before_some (Msg s i b)) (up_to_view-same h es none)
 
 -- so the last View stays where an item is delivered
-up_to_view-entries : (h : List Entry) (s : ℕ) (item : Item)
-    → up_to_view (h ++ entries_of h s item) ≡ up_to_view h
+up_to_view-entries : (h : List Entry) (s : ℕ) (item : Item) → up_to_view (h ++ entries_of h s item) ≡ up_to_view h
 unfolding up_to_view
 up_to_view-entries h s Null = up_to_view-same h [] refl
 up_to_view-entries h s (Text bytes) = up_to_view-same h (Msg s (length (messages_from s h)) bytes ∷ []) refl
@@ -301,30 +268,24 @@ deliver_past w m =
 pub deliver_keeps : (g : Group) (V : Views) (w : World) (m : ℕ) → CanDeliver g w m → Faithful g V w
     → Faithful g V (delivers w m)
 deliver_keeps g V w m can f = same_own_keeps g V w (delivers w m) refl
-    (words_later g V w (delivers w m) (deliver_past w m) refl refl refl refl f.words)
-    (record {
+    (words_later g V w (delivers w m) (deliver_past w m) refl refl refl refl f.words) (record {
       bounded = f.logs.bounded;
       front = at_case (λ i l. IsPrefixOf (w.past.log i) l) w.past.history m (w.past.history m ++ new)
           (λ i d. f.logs.front i) (prefix_more (w.past.log m) (w.past.history m) new (f.logs.front m));
-      safe = at_case
-          (λ a h. IsPresent g a → StandsOnLogs g V w.past.log h a (w.past.view a) (w.past.durable a))
+      safe = at_case (λ a h. IsPresent g a → StandsOnLogs g V w.past.log h a (w.past.view a) (w.past.durable a))
           w.past.history m (w.past.history m ++ new) (λ a d. f.logs.safe a) still;
       small = f.logs.small;
-    })
-    (record {
+    }) (record {
       held = λ a i. at_case (λ x n. has (V (w.past.view x)) i ≡ true → n
-          ≤ w.past.own i (w.past.view x) 2) w.next m (w.next m + 1)
-          (λ x d. f.delivered.held x i) (λ h. shows i h) a;
+          ≤ w.past.own i (w.past.view x) 2) w.next m (w.next m + 1) (λ x d. f.delivered.held x i) (λ h. shows i h) a;
       none = at_case (λ x n. has (V (w.past.view x)) x ≡ false → n ≡ 0) w.next m (w.next m + 1)
           (λ x d. f.delivered.none x) (λ out. absurd (cc (out, in_view g V w m f can.may.inside)));
-    })
-    f.old f.form f
+    }) f.old f.form f
   where
     new : List Entry
     new = entries_of (w.past.history m) (sender_at w m (w.next m)) (item_at_place w m (w.next m))
 
-    still : IsPresent g m → StandsOnLogs g V w.past.log (w.past.history m ++ new) m (w.past.view m)
-        (w.past.durable m)
+    still : IsPresent g m → StandsOnLogs g V w.past.log (w.past.history m ++ new) m (w.past.view m) (w.past.durable m)
     still l = let old = f.logs.safe m l in record {
       own = old.own;
       since = old.since;
@@ -335,10 +296,5 @@ deliver_keeps g V w m can f = same_own_keeps g V w (delivers w m) refl
       stayed = old.stayed;
     }
 
-    shows : (i : ℕ) → has (V (w.past.view m)) i ≡ true → w.next m + 1
-        ≤ w.past.own i (w.past.view m) 2
-    shows i h = omega (
-      arith,
-      can.received i (ap (λ k. has k i) (f.views.own m) ∙ h),
-      shown_le g V w m i 2 f,
-    )
+    shows : (i : ℕ) → has (V (w.past.view m)) i ≡ true → w.next m + 1 ≤ w.past.own i (w.past.view m) 2
+    shows i h = omega (arith, can.received i (ap (λ k. has k i) (f.views.own m) ∙ h), shown_le g V w m i 2 f)

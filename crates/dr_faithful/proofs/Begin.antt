@@ -1,34 +1,22 @@
 -- The members are faithful as the age opens.
 use Rattle.std.proofs.Common.{Bool, List, None, Some, [], add-one, ap, append-nil, arith, false, fold, get_or, inl, inr, le_refl, length, length-append, map, max, refl, replicate, slice_get, subst, slice_index, suc, sym, take, true, zero, ℕ, ◌++◌, ◌-◌, ◌<◌, ◌==◌, ◌∙◌, ◌∷◌, ◌≡◌, ◌≢◌, ◌≤◌, ◌⊎◌}
-use Rattle.std.proofs.Math.Nat.{mul-zero}
-use Rattle.std.proofs.lemmas.Bool.{cases_eq, cases_lt, eqb-true}
+use Rattle.std.proofs.{Math.Nat.mul-zero, lemmas.Bool.{cases_eq, cases_lt, eqb-true}}
 use Rattle.std.proofs.lemmas.List.{get_or-replicate, get_or_past, length-replicate, take_all, take_more}
 use Rattle.std.proofs.lemmas.Option.{slice_get_cases, slice_get_within}
+use Rattle.dr_words.specs.{Accepts.part_of, Columns.{head_column, leavers_column, recv_column, trim_column}}
+use Rattle.dr_words.specs.{Form.IsInForm, Packing.{accept_promise, accept_tag, accept_value}}
+use Rattle.dr_words.{specs.declared.column.TheConstants.LOGGED_COLUMN, proofs.Accepts.accept_within}
 use Rattle.dr_words.proofs.Forms.{form_zero, form_free, grown_zero}
-use Rattle.dr_entry.specs.declared.limits.TheConstants.{MAX_MEMBERS}
-use Rattle.dr_entry.specs.declared.entry.Entry.{Entry}
-use Rattle.dr_entry.specs.declared.entry.Entry.TheVariants.{Msg, View}
-use Rattle.dr_history.proofs.NumberedLemmas.{messages_from-Msg, messages_from-View, messages_from-other}
-use Rattle.dr_history.specs.History.{messages_of}
-use Rattle.dr_history.specs.Members.{has, members_of}
-use Rattle.dr_history.specs.Order.{first_entries, messages_from}
-use Rattle.dr_history.specs.Places.{first, front_of}
-use Rattle.dr_history.specs.Soundness.{Sound}
-use Rattle.dr_history.specs.declared.opening.Opening.{Opening}
+use Rattle.dr_entry.specs.declared.{entry.Entry.{Entry, TheVariants.{Msg, View}}, limits.TheConstants.MAX_MEMBERS}
+use Rattle.dr_history.specs.{History.messages_of, Members.{has, members_of}, Order.{first_entries, messages_from}}
+use Rattle.dr_history.specs.{Places.{first, front_of}, Soundness.Sound, declared.opening.Opening.Opening}
 use Rattle.dr_history.proofs.Bits.{has_zero}
+use Rattle.dr_history.proofs.NumberedLemmas.{messages_from-Msg, messages_from-View, messages_from-other}
 use Rattle.dr_history_laws.proofs.Lengths.{start-short}
+use Rattle.dr_machine.specs.{Group.{Group, IsGroup, roster}, World.{no_value, opening_world}}
 use Rattle.dr_machine.proofs.Presence.{is_there}
-use Rattle.dr_machine.specs.Group.{Group, IsGroup, roster}
-use Rattle.dr_machine.specs.World.{no_value, opening_world}
+use Rattle.dr_faithful.specs.{Faithful.Faithful, Tells.{Tells, Views, WordsTell}}
 use Rattle.dr_faithful.proofs.Pasts.{tells_logged, tells_nothing}
-use Rattle.dr_faithful.specs.Faithful.{Faithful}
-use Rattle.dr_faithful.specs.Tells.{Tells, Views, WordsTell}
-use Rattle.dr_words.proofs.Accepts.{accept_within}
-use Rattle.dr_words.specs.declared.column.TheConstants.{LOGGED_COLUMN}
-use Rattle.dr_words.specs.Accepts.{part_of}
-use Rattle.dr_words.specs.Columns.{head_column, leavers_column, recv_column, trim_column}
-use Rattle.dr_words.specs.Form.{IsInForm}
-use Rattle.dr_words.specs.Packing.{accept_promise, accept_tag, accept_value}
 
 -- ---- the messages of the start
 
@@ -39,8 +27,7 @@ start_entries o s zero sound l = omega arith
 start_entries o s (suc k) sound l = by (slice_get_cases o.start k).1 (start_entries o s k sound (omega arith))
   where
     next : (e : Entry) → slice_get o.start k ≡ Some e → length (messages_from s (take k o.start))
-        ≤ length (messages_of o s)
-        → length (messages_from s (take k o.start ++ e ∷ [])) ≤ length (messages_of o s)
+        ≤ length (messages_of o s) → length (messages_from s (take k o.start ++ e ∷ [])) ≤ length (messages_of o s)
     next (View a n m) is before = rw (messages_from-View s (take k o.start) a n m) before
     next (Msg t i b) is before = mine (t == s) refl
       where
@@ -48,19 +35,13 @@ start_entries o s (suc k) sound l = by (slice_get_cases o.start k).1 (start_entr
             → length (messages_from s (take k o.start ++ Msg t i b ∷ [])) ≤ length (messages_of o s)
         mine true same =
             let sender : t ≡ s = eqb-true t s same in
-            let one : messages_from s (take k o.start ++ Msg t i b ∷ [])
-            ≡ messages_from s (take k o.start) ++ Msg s i b ∷ [] =
-            rw sender (messages_from-Msg s (take k o.start) i b) in
+            let one : messages_from s (take k o.start ++ Msg t i b ∷ []) ≡ messages_from s (take k o.start)
+            ++ Msg s i b ∷ [] = rw sender (messages_from-Msg s (take k o.start) i b) in
             let entry = sound.entries k (Msg t i b) is in
             let index : i ≡ length (messages_from s (take k o.start)) = rw (← sender) entry.1 in
             let there : i < length (messages_of o s) =
             rw (← sender) (slice_get_within (messages_of o t) i b entry.2) in
-            rw one (omega (
-              arith,
-              length-append (messages_from s (take k o.start)) (Msg s i b ∷ []),
-              index,
-              there,
-            ))
+            rw one (omega (arith, length-append (messages_from s (take k o.start)) (Msg s i b ∷ []), index, there))
         mine false apart = rw (messages_from-other s (take k o.start) t i b apart) before
 
     by : ((x : Entry) × (k < length o.start) × (slice_get o.start k ≡ Some x)
@@ -71,10 +52,8 @@ start_entries o s (suc k) sound l = by (slice_get_cases o.start k).1 (start_entr
     by (inr t) before = absurd (omega (arith, t.0))
 
 -- a sound start has no more messages of a member than the script
-pub start_messages : (o : Opening) (s : ℕ) → Sound o → length (messages_from s o.start)
-    ≤ length (messages_of o s)
-start_messages o s sound =
-    subst (λ (h : List Entry). length (messages_from s h) ≤ length (messages_of o s))
+pub start_messages : (o : Opening) (s : ℕ) → Sound o → length (messages_from s o.start) ≤ length (messages_of o s)
+start_messages o s sound = subst (λ (h : List Entry). length (messages_from s h) ≤ length (messages_of o s))
     (take_all (length o.start) o.start (le_refl (length o.start)))
     (start_entries o s (length o.start) sound (le_refl (length o.start)))
 
@@ -88,8 +67,7 @@ none_most (m ∷ ms) = none_most ms
 pub front_of_none : (ms : List ℕ) → front_of (map (λ (s : ℕ). 0) ms) ≡ 0
 unfolding front_of first
 front_of_none ms =
-    let ranks : ℕ = length (map {A = ℕ} {B = ℕ} (λ s. 0) ms) in
-    rw (none_most ms) (rw (mul-zero ranks) refl)
+    let ranks : ℕ = length (map {A = ℕ} {B = ℕ} (λ s. 0) ms) in rw (none_most ms) (rw (mul-zero ranks) refl)
 
 -- ---- the opening
 
@@ -98,14 +76,11 @@ own_tells : (g : Group) (V : Views) (i v c : ℕ) → Tells g V (opening_world g
     ((opening_world g).past.own i v c)
 own_tells g V i v c = by (cases_eq c LOGGED_COLUMN)
   where
-    by : (c ≡ LOGGED_COLUMN) ⊎ (c ≢ LOGGED_COLUMN)
-        → Tells g V (opening_world g).past i v c
+    by : (c ≡ LOGGED_COLUMN) ⊎ (c ≢ LOGGED_COLUMN) → Tells g V (opening_world g).past i v c
         ((opening_world g).past.own i v c)
-    by (inl e) = subst (λ k. Tells g V (opening_world g).past i v k
-        ((opening_world g).past.own i v k)) (sym e)
+    by (inl e) = subst (λ k. Tells g V (opening_world g).past i v k ((opening_world g).past.own i v k)) (sym e)
         (tells_logged g V (opening_world g).past i v _ (grind arith))
-    by (inr d) = subst (λ (x : ℕ). Tells g V (opening_world g).past i v c x)
-        (grind arith)
+    by (inr d) = subst (λ (x : ℕ). Tells g V (opening_world g).past i v c x) (grind arith)
         (tells_nothing g V (opening_world g).past i v c)
 
 tell : (g : Group) (V : Views) → WordsTell g V (opening_world g)
@@ -134,9 +109,7 @@ no_part n c = by (cases_eq c (leavers_column n))
 pub begun : (g : Group) (V : Views) → IsGroup g → V 0 ≡ g.opening.members
     → ((v m : ℕ) → has (V v) m ≡ true → m < roster g) → Faithful g V (opening_world g)
 begun g V is opens within = record {
-  beginning = record {
-    all = λ m first. is_there g m is first;
-  };
+  beginning = record { all = λ m first. is_there g m is first };
   views = record {
     own = λ m. sym opens;
     came = λ m e. absurd (grind (arith, has_zero m, e));
@@ -176,8 +149,7 @@ begun g V is opens within = record {
   };
   accepts = record {
     tagged = λ m c is. ap accept_tag (none m c (accept_within (roster g) (V 0) c is));
-    valued = λ m c is. ap accept_value (none m c (accept_within (roster g) (V 0) c is))
-        ∙ sym (no_part (roster g) c);
+    valued = λ m c is. ap accept_value (none m c (accept_within (roster g) (V 0) c is)) ∙ sym (no_part (roster g) c);
     low = λ m. omega arith;
     waits = λ m x e. absurd (cc);
   };
@@ -206,10 +178,7 @@ begun g V is opens within = record {
     empty = λ m v s l. refl;
   };
   closed = λ m v l. absurd (omega (arith, l));
-  old = record {
-    in_table = λ v j i c. grown_zero (roster g) c _;
-    in_seen = λ m i c d. grown_zero (roster g) c _;
-  };
+  old = record { in_table = λ v j i c. grown_zero (roster g) c _; in_seen = λ m i c d. grown_zero (roster g) c _ };
   form = record {
     in_own = λ m v c. own_in_form m v c;
     in_table = λ v j i c. form_zero (roster g) c is.some_member;
@@ -230,5 +199,4 @@ begun g V is opens within = record {
       where
         by : (c ≡ 3) ⊎ (c ≢ 3) → IsInForm (roster g) c ((opening_world g).past.own m v c)
         by (inl e) = form_free (roster g) c _ (inl (omega arith, omega arith))
-        by (inr d) = subst (λ (x : ℕ). IsInForm (roster g) c x) (grind arith)
-            (form_zero (roster g) c is.some_member)
+        by (inr d) = subst (λ (x : ℕ). IsInForm (roster g) c x) (grind arith) (form_zero (roster g) c is.some_member)

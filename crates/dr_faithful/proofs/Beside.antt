@@ -3,9 +3,7 @@ use Rattle.std.proofs.Common.{Bool, false, refl, ◌≡◌, ◌≢◌, ◌⊎◌
 use Rattle.std.proofs.lemmas.Bool.{cases_eq}
 use Rattle.dr_history.specs.Members.{has}
 use Rattle.dr_words.specs.declared.column.TheConstants.{BEAT_COLUMN}
-use Rattle.dr_machine.specs.Group.{Group, IsPresent}
-use Rattle.dr_machine.specs.Guards.{IsInView}
-use Rattle.dr_machine.specs.World.{World}
+use Rattle.dr_machine.specs.{Group.{Group, IsPresent}, Guards.IsInView, World.World}
 use Rattle.dr_faithful.specs.Faithful.{AreDelivered, AreInForm, AreLogs, AreOld, Faithful, IsLateBeat}
 use Rattle.dr_faithful.specs.Tells.{Views, WordsTell}
 

@@ -1,16 +1,9 @@
 -- A look and a push: the words go from the owner to the table, and from there to another member.
 use Rattle.std.proofs.Common.{refl, ℕ, ◌≢◌}
-use Rattle.dr_machine.specs.Effects.{looks, pushes}
-use Rattle.dr_machine.specs.Group.{Group, roster}
-use Rattle.dr_machine.specs.Run.{WordsGrew}
-use Rattle.dr_machine.specs.World.{World, own_word}
-use Rattle.dr_faithful.proofs.Beside.{same_own_keeps}
+use Rattle.dr_machine.specs.{Effects.{looks, pushes}, Group.{Group, roster}, Run.WordsGrew, World.{World, own_word}}
+use Rattle.dr_faithful.{specs.{Faithful.Faithful, Tells.{Tells, Views}}, proofs.Beside.same_own_keeps}
 use Rattle.dr_faithful.proofs.Writes.{at₃_case, at₄_case}
-use Rattle.dr_faithful.specs.Faithful.{Faithful}
-use Rattle.dr_faithful.specs.Tells.{Tells, Views}
-use Rattle.dr_words.proofs.Order.{HasGrown_refl, HasGrown_trans}
-use Rattle.dr_words.specs.Form.{IsInForm}
-use Rattle.dr_words.specs.Grown.{HasGrown}
+use Rattle.dr_words.{specs.{Form.IsInForm, Grown.HasGrown}, proofs.Order.{HasGrown_refl, HasGrown_trans}}
 
 -- a look takes a word of the table
 pub look_grew : (g : Group) (V : Views) (w : World) (m i c : ℕ) → Faithful g V w → i ≢ m
@@ -24,34 +17,25 @@ look_grew g V w m i c f d = record {
 }
 
 -- and that word tells of its owner
-pub look_keeps : (g : Group) (V : Views) (w : World) (m i c : ℕ) → Faithful g V w
-    → Faithful g V (looks w m i c)
-look_keeps g V w m i c f = same_own_keeps g V w (looks w m i c) refl
-    (record {
-      own = f.words.own;
-      table = f.words.table;
-      seen = at₃_case (λ x y z u. Tells g V w.past y (w.past.view x) z u) w.seen m i c
-          (w.table (w.past.view m) m i c)
-          f.words.seen (f.words.table (w.past.view m) m i c);
-    })
-    f.logs f.delivered
-    (record {
-      in_table = f.old.in_table;
-      in_seen = at₃_case (λ x y z u. y ≢ x → HasGrown (roster g) z u (w.table (w.past.view x) x y z))
-          w.seen m i c (w.table (w.past.view m) m i c)
-          f.old.in_seen (λ d. HasGrown_refl (roster g) c (w.table (w.past.view m) m i c));
-    })
-    (record {
-      in_own = f.form.in_own;
-      in_table = f.form.in_table;
-      in_seen = at₃_case (λ x y z u. IsInForm (roster g) z u) w.seen m i c
-          (w.table (w.past.view m) m i c) f.form.in_seen (f.form.in_table (w.past.view m) m i c);
-    })
-    f
+pub look_keeps : (g : Group) (V : Views) (w : World) (m i c : ℕ) → Faithful g V w → Faithful g V (looks w m i c)
+look_keeps g V w m i c f = same_own_keeps g V w (looks w m i c) refl (record {
+  own = f.words.own;
+  table = f.words.table;
+  seen = at₃_case (λ x y z u. Tells g V w.past y (w.past.view x) z u) w.seen m i c (w.table (w.past.view m) m i c)
+      f.words.seen (f.words.table (w.past.view m) m i c);
+}) f.logs f.delivered (record {
+  in_table = f.old.in_table;
+  in_seen = at₃_case (λ x y z u. y ≢ x → HasGrown (roster g) z u (w.table (w.past.view x) x y z)) w.seen m i c
+      (w.table (w.past.view m) m i c) f.old.in_seen (λ d. HasGrown_refl (roster g) c (w.table (w.past.view m) m i c));
+}) (record {
+  in_own = f.form.in_own;
+  in_table = f.form.in_table;
+  in_seen = at₃_case (λ x y z u. IsInForm (roster g) z u) w.seen m i c
+      (w.table (w.past.view m) m i c) f.form.in_seen (f.form.in_table (w.past.view m) m i c);
+}) f
 
 -- a push brings an own word to the table
-pub push_grew : (g : Group) (V : Views) (w : World) (m j c : ℕ) → Faithful g V w
-    → WordsGrew g w (pushes w m j c)
+pub push_grew : (g : Group) (V : Views) (w : World) (m j c : ℕ) → Faithful g V w → WordsGrew g w (pushes w m j c)
 push_grew g V w m j c f = record {
   own = λ a v k. HasGrown_refl (roster g) k (w.past.own a v k);
   table = at₄_case (λ v a i k z. HasGrown (roster g) k (w.table v a i k) z) w.table (w.past.view m) j m c
@@ -61,26 +45,20 @@ push_grew g V w m j c f = record {
 }
 
 -- and that word tells of its owner
-pub push_keeps : (g : Group) (V : Views) (w : World) (m j c : ℕ) → Faithful g V w
-    → Faithful g V (pushes w m j c)
-push_keeps g V w m j c f = same_own_keeps g V w (pushes w m j c) refl
-    (record {
-      own = f.words.own;
-      table = at₄_case (λ v a i k z. Tells g V w.past i v k z) w.table (w.past.view m) j m c (own_word w m c)
-          f.words.table (f.words.own m (w.past.view m) c);
-      seen = f.words.seen;
-    })
-    f.logs f.delivered
-    (record {
-      in_table = at₄_case (λ v a i k z. HasGrown (roster g) k z (w.past.own i v k)) w.table
-          (w.past.view m) j m c (own_word w m c) f.old.in_table (HasGrown_refl (roster g) c (own_word w m c));
-      in_seen = λ a i k d. HasGrown_trans (roster g) k (w.seen a i k) (w.table (w.past.view a) a i k) _
-          (f.old.in_seen a i k d) ((push_grew g V w m j c f).table (w.past.view a) a i k);
-    })
-    (record {
-      in_own = f.form.in_own;
-      in_table = at₄_case (λ v a i k z. IsInForm (roster g) k z) w.table (w.past.view m) j m c
-          (own_word w m c) f.form.in_table (f.form.in_own m (w.past.view m) c);
-      in_seen = f.form.in_seen;
-    })
-    f
+pub push_keeps : (g : Group) (V : Views) (w : World) (m j c : ℕ) → Faithful g V w → Faithful g V (pushes w m j c)
+push_keeps g V w m j c f = same_own_keeps g V w (pushes w m j c) refl (record {
+  own = f.words.own;
+  table = at₄_case (λ v a i k z. Tells g V w.past i v k z) w.table (w.past.view m) j m c (own_word w m c)
+      f.words.table (f.words.own m (w.past.view m) c);
+  seen = f.words.seen;
+}) f.logs f.delivered (record {
+  in_table = at₄_case (λ v a i k z. HasGrown (roster g) k z (w.past.own i v k)) w.table
+      (w.past.view m) j m c (own_word w m c) f.old.in_table (HasGrown_refl (roster g) c (own_word w m c));
+  in_seen = λ a i k d. HasGrown_trans (roster g) k (w.seen a i k) (w.table (w.past.view a) a i k) _
+      (f.old.in_seen a i k d) ((push_grew g V w m j c f).table (w.past.view a) a i k);
+}) (record {
+  in_own = f.form.in_own;
+  in_table = at₄_case (λ v a i k z. IsInForm (roster g) k z) w.table (w.past.view m) j m c
+      (own_word w m c) f.form.in_table (f.form.in_own m (w.past.view m) c);
+  in_seen = f.form.in_seen;
+}) f

@@ -1,6 +1,5 @@
 -- Counts with one item more of a sender at one member.
-use Rattle.std.proofs.Common.{arith, inl, inr, ℕ, ◌+◌, ◌≡◌, ◌≢◌, ◌≤◌, ◌⊎◌}
-use Rattle.std.proofs.lemmas.Bool.{cases_eq}
+use Rattle.std.proofs.{Common.{arith, inl, inr, ℕ, ◌+◌, ◌≡◌, ◌≢◌, ◌≤◌, ◌⊎◌}, lemmas.Bool.cases_eq}
 use Rattle.dr_machine.specs.Writes.{at, at₂}
 use Rattle.dr_faithful.specs.Faithful.{Numbers}
 
@@ -17,8 +16,7 @@ IsMore count m v s a u b = ((a ≡ m) × (u ≡ v) × (b ≡ s)
 pub more_or_same : (count : Numbers) (m v s a u b : ℕ) → IsMore count m v s a u b
 more_or_same count m v s a u b = by (cases_eq a m) (cases_eq u v) (cases_eq b s)
   where
-    by : (a ≡ m) ⊎ (a ≢ m) → (u ≡ v) ⊎ (u ≢ v) → (b ≡ s) ⊎ (b ≢ s)
-        → IsMore count m v s a u b
+    by : (a ≡ m) ⊎ (a ≢ m) → (u ≡ v) ⊎ (u ≢ v) → (b ≡ s) ⊎ (b ≢ s) → IsMore count m v s a u b
     by (inl e) (inl f) (inl h) = inl (e, f, h, grind arith)
     by (inl e) (inl f) (inr d) = inr (grind arith)
     by (inl e) (inr d) h = inr (grind arith)

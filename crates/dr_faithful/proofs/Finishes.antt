@@ -2,44 +2,23 @@
 -- members stay faithful, and the words grow.
 use Rattle.std.proofs.Common.{Bool, not, if◌then◌else◌, List, None, Some, [], ap, arith, false, fold, inl, inr, le_refl, le_trans, length, length-append, unwrap_or, refl, subst, sym, true, ℕ, ◌+◌, ◌<◌, ◌∙◌, ◌∷◌, ◌≡◌, ◌≢◌, ◌≤◌, ◌⊎◌}
 use Rattle.std.proofs.lemmas.Option.{none-some}
-use Rattle.dr_entry.specs.declared.entry.Entry.{Entry}
-use Rattle.dr_entry.specs.declared.entry.Entry.TheVariants.{View}
-use Rattle.dr_entry.specs.declared.entry.Item.TheVariants.{Null}
-use Rattle.dr_entry.specs.declared.end.SentItem.{SentItem}
-use Rattle.dr_entry.specs.declared.record.Value.{Value}
-use Rattle.dr_entry.specs.declared.record.Vote.{Vote}
-use Rattle.dr_history.proofs.Letters.{up_to_view-last}
-use Rattle.dr_history.specs.History.{IsPrefixOf, last_view, messages_of, up_to_view}
-use Rattle.dr_history.specs.Members.{has}
-use Rattle.dr_history.specs.Order.{IsNewIn, messages_from}
-use Rattle.dr_history.specs.Places.{rest_places}
-use Rattle.dr_history.proofs.Bits.{has_zero}
+use Rattle.dr_entry.specs.declared.{end.SentItem.SentItem, entry.Entry.{Entry, TheVariants.View}}
+use Rattle.dr_entry.specs.{declared.entry.Item.TheVariants.Null, declared.record.{Value.Value, Vote.Vote}}
+use Rattle.dr_history.specs.{History.{IsPrefixOf, last_view, messages_of, up_to_view}, Order.{IsNewIn, messages_from}}
+use Rattle.dr_history.{specs.{Members.has, Places.rest_places}, proofs.{Bits.has_zero, Letters.up_to_view-last}}
 use Rattle.dr_machine.specs.Effects.{counts_by, enters, entries_of, finished_history, finishes_by, joins, sender_at, with_place}
-use Rattle.dr_machine.specs.Group.{Group, IsGroup, IsPresent, roster}
-use Rattle.dr_machine.specs.Guards.{MayChoose}
-use Rattle.dr_machine.specs.Run.{PastGrew, WordsGrew}
-use Rattle.dr_machine.specs.Sending.{IsPut}
-use Rattle.dr_machine.specs.World.{Past, World, item_at_place, no_value}
-use Rattle.dr_machine.specs.Writes.{at₂, at₃}
-use Rattle.dr_faithful.proofs.Begin.{no_part}
-use Rattle.dr_faithful.proofs.Beside.{in_view}
+use Rattle.dr_machine.specs.{Group.{Group, IsGroup, IsPresent, roster}, Guards.MayChoose, Run.{PastGrew, WordsGrew}}
+use Rattle.dr_machine.specs.{Sending.IsPut, World.{Past, World, item_at_place, no_value}, Writes.{at₂, at₃}}
+use Rattle.dr_faithful.specs.Faithful.{AreAccepts, AreCounts, AreDelivered, AreSuspicions, Faithful, GoesOnWell, HaveStayed, IsClosed, IsLateBeat, StandsOnLogs, IsWaiting, JoinsWell, Numbers}
+use Rattle.dr_faithful.{specs.Tells.{Tells, Views, item_sent}, proofs.{Begin.no_part, Beside.in_view}}
 use Rattle.dr_faithful.proofs.OwnWords.{IsPlain, accepts_word, counts_word, delivered_word, form_word, old_later, own_grown, suspicions_word}
 use Rattle.dr_faithful.proofs.Pasts.{past_same, prefix_on, prefix_refl, prefix_short, tells_later, tells_logged, tells_nothing}
 use Rattle.dr_faithful.proofs.Writes.{at_both, at_case, at_three, at₃_case, at₃_column, at₃_member, at₃_view}
-use Rattle.dr_faithful.specs.Faithful.{AreAccepts, AreCounts, AreDelivered, AreSuspicions, Faithful, GoesOnWell, HaveStayed, IsClosed, IsLateBeat, StandsOnLogs, IsWaiting, JoinsWell, Numbers}
-use Rattle.dr_faithful.specs.Tells.{Tells, Views, item_sent}
-use Rattle.dr_words.proofs.Forms.{form_zero, form_free, grown_zero}
-use Rattle.dr_words.proofs.Masks.{has_next_members}
-use Rattle.dr_words.proofs.Order.{HasGrown_refl}
-use Rattle.dr_words.proofs.Accepts.{accept_within}
-use Rattle.dr_words.specs.Accepts.{part_of}
-use Rattle.dr_words.specs.Rewrites.{is_accept_of}
+use Rattle.dr_words.specs.{Accepts.part_of, Columns.recv_column, Form.IsInForm, Grown.HasGrown}
+use Rattle.dr_words.{specs.Masks.{least_of, next_members, without}, proofs.Forms.{form_zero, form_free, grown_zero}}
+use Rattle.dr_words.{specs.Packing.{accept_promise, accept_tag, accept_value, is_final}, proofs.Accepts.accept_within}
+use Rattle.dr_words.{specs.Rewrites.is_accept_of, proofs.{Masks.has_next_members, Order.HasGrown_refl}}
 use Rattle.dr_words.specs.declared.column.TheConstants.{LOGGED_COLUMN, RECEIVED_COLUMN, SUSPECTED_COLUMN}
-use Rattle.dr_words.specs.Columns.{recv_column}
-use Rattle.dr_words.specs.Form.{IsInForm}
-use Rattle.dr_words.specs.Grown.{HasGrown}
-use Rattle.dr_words.specs.Masks.{least_of, next_members, without}
-use Rattle.dr_words.specs.Packing.{accept_promise, accept_tag, accept_value, is_final}
 
 -- ---- what only grows
 
@@ -48,17 +27,15 @@ rest_prefix : (w : World) (m : ℕ) (history : List Entry) (ps : List ℕ)
     → IsPrefixOf history (fold (with_place w m) history ps)
 rest_prefix w m history [] = prefix_refl history
 rest_prefix w m history (p ∷ ps) = prefix_on history (with_place w m history p) _
-    (entries_of history (sender_at w m p) (item_at_place w m p), refl)
-    (rest_prefix w m (with_place w m history p) ps)
+    (entries_of history (sender_at w m p) (item_at_place w m p), refl) (rest_prefix w m (with_place w m history p) ps)
 
 -- the history goes on to the next View
 history_goes_on : (g : Group) (w : World) (m : ℕ) (x : Value)
     → IsPrefixOf (w.past.history m) (finished_history g w m x)
 history_goes_on g w m x =
     let ps : List ℕ = rest_places (counts_by w m x) (w.next m) in
-    prefix_on (w.past.history m) (fold (with_place w m) (w.past.history m) ps) _
-    (rest_prefix w m (w.past.history m) ps)
-    (View g.opening.age (w.past.view m + 1) (next_members (w.members m) x.leavers) ∷ [], refl)
+    prefix_on (w.past.history m) (fold (with_place w m) (w.past.history m) ps) _ (rest_prefix w m
+    (w.past.history m) ps) (View g.opening.age (w.past.view m + 1) (next_members (w.members m) x.leavers) ∷ [], refl)
 
 -- which stands behind all that the member had
 history_behind : (g : Group) (w : World) (m : ℕ) (x : Value)
@@ -99,35 +76,29 @@ enter_past w m to members history later goes_on =
 -- ---- the words
 
 -- the logged word is the only one of the new view
-own_fresh : (g : Group) (V : Views) (w : World) (m to : ℕ) → w.past.view m < to → Faithful g V w
-    → (i v c : ℕ) → HasGrown (roster g) c (w.past.own i v c)
-    (at₃ w.past.own m to LOGGED_COLUMN (length (w.past.log m)) i v c)
+own_fresh : (g : Group) (V : Views) (w : World) (m to : ℕ) → w.past.view m < to → Faithful g V w → (i v c : ℕ)
+    → HasGrown (roster g) c (w.past.own i v c) (at₃ w.past.own m to LOGGED_COLUMN (length (w.past.log m)) i v c)
 own_fresh g V w m to later f = own_grown g w.past.own m to LOGGED_COLUMN (length (w.past.log m))
     (subst (λ z. HasGrown (roster g) LOGGED_COLUMN z (length (w.past.log m)))
-    (sym (f.fresh.unwritten m to LOGGED_COLUMN later))
-    (grown_zero (roster g) LOGGED_COLUMN (length (w.past.log m))))
+    (sym (f.fresh.unwritten m to LOGGED_COLUMN later)) (grown_zero (roster g) LOGGED_COLUMN (length (w.past.log m))))
 
 pub enter_grew : (g : Group) (V : Views) (w : World) (m to members : ℕ) (history : List Entry)
     → w.past.view m < to → Faithful g V w → WordsGrew g w (enters w m to members history)
 enter_grew g V w m to members history later f = record {
   own = own_fresh g V w m to later f;
   table = λ v j i c. HasGrown_refl (roster g) c (w.table v j i c);
-  seen = λ a i c. at_both
-      (λ k (b : ℕ) (s : ℕ → ℕ → ℕ). b ≡ w.past.view k → HasGrown (roster g) c (w.seen k i c) (s i c))
-      w.past.view w.seen m to (λ i c. 0)
-      (λ k e. HasGrown_refl (roster g) c (w.seen k i c))
-      (λ e. absurd (omega (arith, later, e))) a;
+  seen = λ a i c. at_both (λ k (b : ℕ) (s : ℕ → ℕ → ℕ). b ≡ w.past.view k → HasGrown (roster g) c
+      (w.seen k i c) (s i c)) w.past.view w.seen m to
+      (λ i c. 0) (λ k e. HasGrown_refl (roster g) c (w.seen k i c)) (λ e. absurd (omega (arith, later, e))) a;
 }
 
 -- ---- the members stay faithful
 
 -- the own row of another member, and that of another view, are as before
-row_member : (f : ℕ → ℕ → ℕ → ℕ) (a b : ℕ) (x : ℕ → ℕ) (i j : ℕ) → i ≢ a
-    → at₂ f a b x i j ≡ f i j
+row_member : (f : ℕ → ℕ → ℕ → ℕ) (a b : ℕ) (x : ℕ → ℕ) (i j : ℕ) → i ≢ a → at₂ f a b x i j ≡ f i j
 row_member f a b x i j d = grind arith
 
-row_view : (f : ℕ → ℕ → ℕ → ℕ) (a b : ℕ) (x : ℕ → ℕ) (i j : ℕ) → j ≢ b
-    → at₂ f a b x i j ≡ f i j
+row_view : (f : ℕ → ℕ → ℕ → ℕ) (a b : ℕ) (x : ℕ → ℕ) (i j : ℕ) → j ≢ b → at₂ f a b x i j ≡ f i j
 row_view f a b x i j d = grind arith
 
 pub no_items : (xs : List SentItem) → length xs ≡ 0 → xs ≡ []
@@ -136,8 +107,7 @@ no_items (x ∷ xs) e = absurd (omega (arith, e))
 
 -- what is known of a member that goes on in a view of these members with a history: it is a later view, in which
 -- it is, its history goes on, and each of its views before that one is closed
-pub record EntersWell (g : Group) (V : Views) (w : World) (m to members : ℕ)
-    (history : List Entry) : Type 0 where
+pub record EntersWell (g : Group) (V : Views) (w : World) (m to members : ℕ) (history : List Entry) : Type 0 where
   pub idle : w.pending m ≡ None
   pub later : w.past.view m < to
   pub next : V to ≡ members
@@ -151,8 +121,7 @@ pub record EntersWell (g : Group) (V : Views) (w : World) (m to members : ℕ)
   pub few : length (messages_from m history) ≤ length (messages_of g.opening m)
 
 pub enter_keeps : (g : Group) (V : Views) (w : World) (m to members : ℕ) (history : List Entry) → IsGroup g
-    → EntersWell g V w m to members history → Faithful g V w
-    → Faithful g V (enters w m to members history)
+    → EntersWell g V w m to members history → Faithful g V w → Faithful g V (enters w m to members history)
 enter_keeps g V w m to members history is well f = record {
   beginning = f.beginning;
   views = record {
@@ -164,8 +133,7 @@ enter_keeps g V w m to members history is well f = record {
           f.views.own m,
         ));
     back = at_both (λ k (a : ℕ) b. (u : ℕ) → b ≡ u + 1 → has (V u) k ≡ true → a ≡ V u) w.came_from
-        w.past.view m (w.members m) to f.views.back
-        (λ u next there. f.views.own m ∙ ap V (well.back u next there));
+        w.past.view m (w.members m) to f.views.back (λ u next there. f.views.own m ∙ ap V (well.back u next there));
     present = at_case (λ k b. has g.opening.members k ≡ true → has (V b) k ≡ true) w.past.view m to
         (λ k d. f.views.present k) (λ l. well.inside);
     outside = at_case (λ k b. has (V b) k ≡ false → b ≡ 0) w.past.view m to (λ k d. f.views.outside k)
@@ -189,8 +157,7 @@ enter_keeps g V w m to members history is well f = record {
     recv = counted.recv;
     unfinished = λ a s l. at_both
         (λ i (mask b : ℕ). mask ≡ 0 → is_final (own i b (recv_column s)) ≡ false) w.suspects w.past.view m 0
-        to (λ i. counted.unfinished i s l)
-        (λ e. rw (blank (recv_column s) (omega arith)) refl) a;
+        to (λ i. counted.unfinished i s l) (λ e. rw (blank (recv_column s) (omega arith)) refl) a;
     received = counted.received;
     few = f.counts.few;
   };
@@ -200,50 +167,37 @@ enter_keeps g V w m to members history is well f = record {
         (λ i. f.suspicions.named i n) (λ h. absurd (cc (h, has_zero n))) a;
     inside = at_both (λ i mask b. mask ≢ 0 → has (V b) i ≡ true) w.suspects w.past.view m 0 to
         f.suspicions.inside (λ d. absurd (d refl));
-    trusted = at_case (λ i mask. has mask i ≡ false) w.suspects m 0 (λ i d. f.suspicions.trusted i)
-        (has_zero m);
+    trusted = at_case (λ i mask. has mask i ≡ false) w.suspects m 0 (λ i d. f.suspicions.trusted i) (has_zero m);
     told = at_both (λ i mask b. own i b SUSPECTED_COLUMN ≡ mask) w.suspects w.past.view m 0
         to suspected.told (blank SUSPECTED_COLUMN (omega arith));
     final = λ a s. at_both
         (λ i (mask b : ℕ). mask ≢ 0 → has (V b) s ≡ true → is_final (own i b (recv_column s)) ≡ true)
-        w.suspects w.past.view m 0 to (λ i. suspected.final i s)
-        (λ d. absurd (d refl)) a;
+        w.suspects w.past.view m 0 to (λ i. suspected.final i s) (λ d. absurd (d refl)) a;
     none = at_both (λ i (mask promise : ℕ). mask ≡ 0 → promise ≡ 0) w.suspects w.promise m 0 0
         f.suspicions.none (λ e. refl);
     least = at_three (λ i (mask promise b : ℕ). mask ≢ 0 → promise ≡ least_of (without (V b) mask))
-        w.suspects w.promise w.past.view m 0 0 to f.suspicions.least
-        (λ d. absurd (d refl));
+        w.suspects w.promise w.past.view m 0 0 to f.suspicions.least (λ d. absurd (d refl));
     accept = λ a c. at_both
         (λ i (promise b : ℕ). is_accept_of (roster g) (V b) c ≡ true → accept_promise (own i b c) ≡ promise)
         w.promise w.past.view m 0 to (λ i. suspected.accept i c)
-        (λ e. rw (blank c (other_column c (accept_within (roster g) (V to) c e).0)) refl)
-        a;
+        (λ e. rw (blank c (other_column c (accept_within (roster g) (V to) c e).0)) refl) a;
   };
   accepts = record {
-    tagged = λ a c. at_both
-        (λ i (tag b : ℕ). is_accept_of (roster g) (V b) c ≡ true → accept_tag (own i b c) ≡ tag) w.tag
-        w.past.view m 0 to (λ i. accepted.tagged i c)
-        (λ e. rw (blank c (other_column c (accept_within (roster g) (V to) c e).0)) refl)
-        a;
-    valued = λ a c. at_both
-        (λ i (y : Value) (b : ℕ). is_accept_of (roster g) (V b) c ≡ true
+    tagged = λ a c. at_both (λ i (tag b : ℕ). is_accept_of
+        (roster g) (V b) c ≡ true → accept_tag (own i b c) ≡ tag) w.tag w.past.view m 0 to (λ i. accepted.tagged i c)
+        (λ e. rw (blank c (other_column c (accept_within (roster g) (V to) c e).0)) refl) a;
+    valued = λ a c. at_both (λ i (y : Value) (b : ℕ). is_accept_of (roster g) (V b) c ≡ true
         → accept_value (own i b c) ≡ part_of (roster g) y c)
         w.value w.past.view m no_value to (λ i. accepted.valued i c)
-        (λ e. rw (blank c (other_column c (accept_within (roster g) (V to) c e).0))
-        (sym (no_part (roster g) c)))
-        a;
-    low = at_both (λ i (tag promise : ℕ). tag ≤ promise + 1) w.tag w.promise m 0 0 f.accepts.low
-        (omega arith);
-    waits = at_both
-        (λ i (promise tag : ℕ). (y : Vote) → w.pending i ≡ Some y → IsWaiting g promise tag y) w.promise
+        (λ e. rw (blank c (other_column c (accept_within (roster g) (V to) c e).0)) (sym (no_part (roster g) c))) a;
+    low = at_both (λ i (tag promise : ℕ). tag ≤ promise + 1) w.tag w.promise m 0 0 f.accepts.low (omega arith);
+    waits = at_both (λ i (promise tag : ℕ). (y : Vote) → w.pending i ≡ Some y → IsWaiting g promise tag y) w.promise
         w.tag m 0 0 f.accepts.waits (λ y e. absurd (none-some y (sym well.idle ∙ e)));
   };
   words = record {
-    own = at₃_case (λ i v k z. Tells g V new i v k z) w.past.own m to LOGGED_COLUMN
-        (length (w.past.log m))
+    own = at₃_case (λ i v k z. Tells g V new i v k z) w.past.own m to LOGGED_COLUMN (length (w.past.log m))
         (λ i v k. later i v k (w.past.own i v k) (f.words.own i v k))
-        (tells_logged g V new m to (length (w.past.log m))
-        (le_refl (length (w.past.log m))));
+        (tells_logged g V new m to (length (w.past.log m)) (le_refl (length (w.past.log m))));
     table = λ v j i k. later i v k (w.table v j i k) (f.words.table v j i k);
     seen = λ a i c. at_both (λ k (b : ℕ) (s : ℕ → ℕ → ℕ). Tells g V new i b c (s i c)) w.past.view w.seen m
         to (λ i c. 0) (λ k. later i (w.past.view k) c (w.seen k i c) (f.words.seen k i c))
@@ -251,8 +205,7 @@ enter_keeps g V w m to members history is well f = record {
   };
   logs = record {
     bounded = f.logs.bounded;
-    front = at_case (λ i h. IsPrefixOf (w.past.log i) h) w.past.history m history
-        (λ i d. f.logs.front i)
+    front = at_case (λ i h. IsPrefixOf (w.past.log i) h) w.past.history m history (λ i d. f.logs.front i)
         (prefix_on (w.past.log m) (w.past.history m) history (f.logs.front m) well.goes_on);
     safe = at_both (λ k b h. IsPresent g k → StandsOnLogs g V w.past.log h k b (w.past.durable k)) w.past.view
         w.past.history m to history f.logs.safe (λ l. let old = f.logs.safe m l in record {
@@ -271,16 +224,14 @@ enter_keeps g V w m to members history is well f = record {
     small = f.logs.small;
   };
   delivered = record {
-    held = λ a i. at_both
-        (λ k (next b : ℕ). has (V b) i ≡ true → next ≤ own i b RECEIVED_COLUMN) w.next
+    held = λ a i. at_both (λ k (next b : ℕ). has (V b) i ≡ true → next ≤ own i b RECEIVED_COLUMN) w.next
         w.past.view m 0 to (λ k. delivered.held k i) (λ h. omega arith) a;
     none = at_both (λ k (next b : ℕ). has (V b) k ≡ false → next ≡ 0) w.next w.past.view m 0 to
         f.delivered.none (λ out. refl);
   };
   fresh = record {
     unwritten = at_case (λ k b. (v c : ℕ) → b < v → own k v c ≡ 0) w.past.view m to
-        (λ k d v c l. at₃_member w.past.own m to LOGGED_COLUMN _ k v c d
-        ∙ f.fresh.unwritten k v c l)
+        (λ k d v c l. at₃_member w.past.own m to LOGGED_COLUMN _ k v c d ∙ f.fresh.unwritten k v c l)
         (λ v c l. at₃_view w.past.own m to LOGGED_COLUMN _ m v c (omega (arith, l))
         ∙ f.fresh.unwritten m v c (omega (arith, l, well.later)));
     outside = at₃_case (λ i v c z. has (V v) i ≡ false → z ≢ 0 → IsLateBeat g i v c) w.past.own m to LOGGED_COLUMN
@@ -288,23 +239,19 @@ enter_keeps g V w m to members history is well f = record {
     empty = at_case (λ k b. (v s : ℕ) → b < v → w.past.count k v s ≡ 0) w.past.view m to
         (λ k d v s l. f.fresh.empty k v s l) (λ v s l. f.fresh.empty m v s (omega (arith, l, well.later)));
   };
-  closed = at_case (λ k b. (v : ℕ) → v < b → has (V v) k ≡ true → IsClosed g V v k (own k v)) w.past.view m
-      to
-      (λ k d v l here. subst (IsClosed g V v k) (sym (row_member w.past.own m to _ k v d))
-      (f.closed k v l here))
+  closed = at_case (λ k b. (v : ℕ) → v < b → has (V v) k ≡ true → IsClosed g V v k (own k v)) w.past.view m to
+      (λ k d v l here. subst (IsClosed g V v k) (sym (row_member w.past.own m to _ k v d)) (f.closed k v l here))
       (λ v l here. subst (IsClosed g V v m)
       (sym (row_view w.past.own m to _ m v (earlier v to l))) (well.closed v l here));
   old = record {
     in_table = (old_later g w.past.view w.past.own own w.table w.seen (own_fresh g V w m to well.later f) f.old).in_table;
     in_seen = λ a i c. at_both
         (λ k (b : ℕ) (s : ℕ → ℕ → ℕ). i ≢ k → HasGrown (roster g) c (s i c) (w.table b k i c)) w.past.view
-        w.seen m to (λ i c. 0) (λ k. f.old.in_seen k i c)
-        (λ d. grown_zero (roster g) c (w.table to m i c)) a;
+        w.seen m to (λ i c. 0) (λ k. f.old.in_seen k i c) (λ d. grown_zero (roster g) c (w.table to m i c)) a;
   };
   form = record {
-    in_own = (form_word g w.past.own w.table w.seen m to LOGGED_COLUMN
-        (length (w.past.log m)) (form_free (roster g) LOGGED_COLUMN _ (inl (omega arith, omega arith)))
-        f.form).in_own;
+    in_own = (form_word g w.past.own w.table w.seen m to LOGGED_COLUMN (length (w.past.log m))
+        (form_free (roster g) LOGGED_COLUMN _ (inl (omega arith, omega arith))) f.form).in_own;
     in_table = f.form.in_table;
     in_seen = at_case (λ k (s : ℕ → ℕ → ℕ). (i c : ℕ) → IsInForm (roster g) c (s i c)) w.seen m
         (λ i c. 0) (λ k d. f.form.in_seen k) (λ i c. form_zero (roster g) c is.some_member);
@@ -326,26 +273,18 @@ enter_keeps g V w m to members history is well f = record {
     earlier : (v u : ℕ) → v < u → v ≢ u
     earlier v u l e = omega (arith, l, e)
 
-    later : (i v c word : ℕ) → Tells g V w.past i v c word
-        → Tells g V (enters w m to members history).past i v c word
+    later : (i v c word : ℕ) → Tells g V w.past i v c word → Tells g V (enters w m to members history).past i v c word
     later i v c word = tells_later g V w.past (enters w m to members history).past i v c word
         (enter_past w m to members history well.later well.goes_on)
 
     -- no other word of the new view is written
-    blank : (c : ℕ) → c ≢ 3
-        → at₃ w.past.own m to LOGGED_COLUMN (length (w.past.log m)) m to c
-        ≡ 0
+    blank : (c : ℕ) → c ≢ 3 → at₃ w.past.own m to LOGGED_COLUMN (length (w.past.log m)) m to c ≡ 0
     blank c d = at₃_column w.past.own m to LOGGED_COLUMN (length (w.past.log m)) m
         to c d ∙ f.fresh.unwritten m to c well.later
 
-    nothing : IsPut (length (messages_from m history)) (length (messages_of g.opening m))
-        (w.past.sent m to)
-    nothing = subst
-        (λ xs. IsPut (length (messages_from m history))
-        (length (messages_of g.opening m)) xs)
-        (sym (no_items (w.past.sent m to) (f.sent.all m to
-        ∙ f.fresh.empty m to m well.later)))
-        (record {
+    nothing : IsPut (length (messages_from m history)) (length (messages_of g.opening m)) (w.past.sent m to)
+    nothing = subst (λ xs. IsPut (length (messages_from m history)) (length (messages_of g.opening m)) xs)
+        (sym (no_items (w.past.sent m to) (f.sent.all m to ∙ f.fresh.empty m to m well.later))) (record {
           index = λ k l. absurd (omega (arith, l));
           left = omega (arith, well.few);
           nulls = λ l. absurd (omega (arith, l));
@@ -366,8 +305,7 @@ enter_keeps g V w m to members history is well f = record {
     accepted = accepts_word g V w.past.view w.promise w.tag w.value w.pending w.past.own m
         to LOGGED_COLUMN (length (w.past.log m)) plain f.accepts
 
-    delivered : AreDelivered V w.past.view w.next
-        (at₃ w.past.own m to LOGGED_COLUMN (length (w.past.log m)))
+    delivered : AreDelivered V w.past.view w.next (at₃ w.past.own m to LOGGED_COLUMN (length (w.past.log m)))
     delivered = delivered_word g V w.past.view w.next w.past.own m to LOGGED_COLUMN
         (length (w.past.log m)) plain f.delivered
 
@@ -424,8 +362,7 @@ finish_enters g V w m x is may stays well f = record {
     closed u (inr same) here = subst (λ v. IsClosed g V v m (w.past.own m v)) (sym same)
         (left_closed g V w m well.wedged f)
 
-pub finish_past : (g : Group) (w : World) (m : ℕ) (x : Value)
-    → PastGrew w.past (finishes_by g w m x).past
+pub finish_past : (g : Group) (w : World) (m : ℕ) (x : Value) → PastGrew w.past (finishes_by g w m x).past
 finish_past g w m x = enter_past w m (w.past.view m + 1) (next_members (w.members m) x.leavers)
     (finished_history g w m x) (omega arith) (history_goes_on g w m x)
 
@@ -435,8 +372,7 @@ finish_grew g V w m x f = enter_grew g V w m (w.past.view m + 1) (next_members (
     (finished_history g w m x) (omega arith) f
 
 pub finish_keeps : (g : Group) (V : Views) (w : World) (m : ℕ) (x : Value) → IsGroup g → MayChoose g w m
-    → has x.leavers m ≡ false → GoesOnWell g V w m x
-    → Faithful g V w → Faithful g V (finishes_by g w m x)
+    → has x.leavers m ≡ false → GoesOnWell g V w m x → Faithful g V w → Faithful g V (finishes_by g w m x)
 finish_keeps g V w m x is may stays well f =
     enter_keeps g V w m (w.past.view m + 1) (next_members (w.members m) x.leavers)
     (finished_history g w m x) is (finish_enters g V w m x is may stays well f) f

@@ -1,22 +1,13 @@
 -- One own word that rises, in a column below those of the counts: what else its member's words tell stays.
 use Rattle.std.proofs.Common.{Option, ap, arith, false, sym, true, ℕ, ◌<◌, ◌∙◌, ◌≡◌, ◌≢◌, ◌≤◌, subst}
-use Rattle.dr_entry.specs.declared.record.Value.{Value}
-use Rattle.dr_entry.specs.declared.record.Vote.{Vote}
-use Rattle.dr_machine.specs.Group.{Group, roster}
-use Rattle.dr_machine.specs.Writes.{at₃, at, at₂}
-use Rattle.dr_faithful.proofs.Writes.{at₃_case, at₃_column, at_other, at₂_case}
-use Rattle.dr_machine.specs.World.{Table}
+use Rattle.dr_entry.specs.declared.record.{Value.Value, Vote.Vote}
+use Rattle.dr_machine.specs.{Group.{Group, roster}, World.Table, Writes.{at₃, at, at₂}}
 use Rattle.dr_faithful.specs.Faithful.{AreAccepts, AreCounts, AreDelivered, AreInForm, AreOld, AreSuspicions, Numbers, AreClosed, AreFresh, IsClosed, IsLateBeat}
-use Rattle.dr_faithful.specs.Tells.{Views}
-use Rattle.dr_words.proofs.Order.{HasGrown_refl, HasGrown_trans}
-use Rattle.dr_words.proofs.Accepts.{accept_within}
-use Rattle.dr_words.specs.Rewrites.{is_accept_of}
+use Rattle.dr_faithful.{specs.Tells.Views, proofs.Writes.{at₃_case, at₃_column, at_other, at₂_case}}
+use Rattle.dr_words.specs.{Columns.recv_column, Form.IsInForm, Grown.HasGrown, Masks.{least_of, without}}
+use Rattle.dr_words.specs.{Packing.{accept_tag, accept_value, accept_promise, is_final}, Rewrites.is_accept_of}
 use Rattle.dr_words.specs.declared.column.TheConstants.{BEAT_COLUMN, RECEIVED_COLUMN, SUSPECTED_COLUMN}
-use Rattle.dr_words.specs.Columns.{recv_column}
-use Rattle.dr_words.specs.Form.{IsInForm}
-use Rattle.dr_words.specs.Grown.{HasGrown}
-use Rattle.dr_words.specs.Packing.{accept_tag, accept_value, accept_promise, is_final}
-use Rattle.dr_words.specs.Masks.{least_of, without}
+use Rattle.dr_words.proofs.{Accepts.accept_within, Order.{HasGrown_refl, HasGrown_trans}}
 use Rattle.dr_history.specs.Members.{has}
 
 -- the columns of the beat, logged and done words
@@ -24,12 +15,10 @@ abbrev pub IsPlain : ℕ → Type 0
 IsPlain c = (c < recv_column 0) × (c ≢ RECEIVED_COLUMN) × (c ≢ SUSPECTED_COLUMN)
 
 -- the counts are told as before
-pub counts_word : (g : Group) (V : Views) (view suspects : ℕ → ℕ) (own count : Numbers)
-    (m v c x : ℕ) → IsPlain c
+pub counts_word : (g : Group) (V : Views) (view suspects : ℕ → ℕ) (own count : Numbers) (m v c x : ℕ) → IsPlain c
     → AreCounts g V view suspects own count → AreCounts g V view suspects (at₃ own m v c x) count
 counts_word g V view suspects own count m v c x plain f = record {
-  recv = λ i u s l. rw (at₃_column own m v c x i u (recv_column s) (omega (arith, plain.0)))
-      (f.recv i u s l);
+  recv = λ i u s l. rw (at₃_column own m v c x i u (recv_column s) (omega (arith, plain.0))) (f.recv i u s l);
   unfinished = λ i s l e. rw (at₃_column own m v c x i (view i) (recv_column s) (omega (arith, plain.0)))
       (f.unfinished i s l e);
   received = λ i u. rw (at₃_column own m v c x i u 2 (λ e. plain.1 (sym e))) (f.received i u);
@@ -38,8 +27,7 @@ counts_word g V view suspects own count m v c x plain f = record {
 
 -- whom a member suspects is told as before
 pub suspicions_word : (g : Group) (V : Views) (view suspects promise : ℕ → ℕ) (own : Numbers)
-    (m v c x : ℕ) → IsPlain c
-    → AreSuspicions g V view suspects promise own
+    (m v c x : ℕ) → IsPlain c → AreSuspicions g V view suspects promise own
     → AreSuspicions g V view suspects promise (at₃ own m v c x)
 suspicions_word g V view suspects promise own m v c x plain f = record {
   named = f.named;
@@ -57,8 +45,7 @@ suspicions_word g V view suspects promise own m v c x plain f = record {
 -- what a member has accepted is told as before, where the accept words are
 pub accepts_same : (g : Group) (V : Views) (view promise tag : ℕ → ℕ) (value : ℕ → Value)
     (pending : ℕ → Option Vote) (own new : Numbers)
-    → ((m c : ℕ) → is_accept_of (roster g) (V (view m)) c ≡ true
-    → new m (view m) c ≡ own m (view m) c)
+    → ((m c : ℕ) → is_accept_of (roster g) (V (view m)) c ≡ true → new m (view m) c ≡ own m (view m) c)
     → AreAccepts g V view promise tag value pending own → AreAccepts g V view promise tag value pending new
 accepts_same g V view promise tag value pending own new same f = record {
   tagged = λ i c is. ap accept_tag (same i c is) ∙ f.tagged i c is;
@@ -68,9 +55,8 @@ accepts_same g V view promise tag value pending own new same f = record {
 }
 
 -- and after a write of a plain word
-pub accepts_word : (g : Group) (V : Views) (view promise tag : ℕ → ℕ) (value : ℕ → Value)
-    (pending : ℕ → Option Vote) (own : Numbers) (m v c x : ℕ) → IsPlain c
-    → AreAccepts g V view promise tag value pending own
+pub accepts_word : (g : Group) (V : Views) (view promise tag : ℕ → ℕ) (value : ℕ → Value) (pending : ℕ → Option Vote)
+    (own : Numbers) (m v c x : ℕ) → IsPlain c → AreAccepts g V view promise tag value pending own
     → AreAccepts g V view promise tag value pending (at₃ own m v c x)
 accepts_word g V view promise tag value pending own m v c x plain =
     accepts_same g V view promise tag value pending own (at₃ own m v c x)
@@ -92,11 +78,9 @@ later_view f view m v x l i u less = grind (arith, l, less)
 
 -- own words of such a view, of which it is a member
 pub fresh_written : (g : Group) (V : Views) (view : ℕ → ℕ) (own count : Numbers) (m v : ℕ) (row : ℕ → ℕ)
-    → v ≤ view m → has (V v) m ≡ true → AreFresh g V view own count
-    → AreFresh g V view (at₂ own m v row) count
+    → v ≤ view m → has (V v) m ≡ true → AreFresh g V view own count → AreFresh g V view (at₂ own m v row) count
 fresh_written g V view own count m v row l inside f = record {
-  unwritten = λ i u c less. ap (λ (r : ℕ → ℕ). r c) (later_view own view m v row l i u less)
-      ∙ f.unwritten i u c less;
+  unwritten = λ i u c less. ap (λ (r : ℕ → ℕ). r c) (later_view own view m v row l i u less) ∙ f.unwritten i u c less;
   outside = λ i u c. at₂_case (λ i u r. has (V u) i ≡ false → r c ≢ 0 → IsLateBeat g i u c) own m v row
       (λ i u. f.outside i u c) (λ out some. absurd (cc (inside, out))) i u;
   empty = f.empty;
@@ -157,15 +141,13 @@ pub fresh_counted : (g : Group) (V : Views) (view : ℕ → ℕ) (own count : Nu
 fresh_counted g V view own count m v counts l f = record {
   unwritten = f.unwritten;
   outside = f.outside;
-  empty = λ i u s less. ap (λ (r : ℕ → ℕ). r s) (later_view count view m v counts l i u less)
-      ∙ f.empty i u s less;
+  empty = λ i u s less. ap (λ (r : ℕ → ℕ). r s) (later_view count view m v counts l i u less) ∙ f.empty i u s less;
 }
 
 -- the own words grow
 pub own_grown : (g : Group) (own : Numbers) (m v c x : ℕ) → HasGrown (roster g) c (own m v c) x
     → (i u k : ℕ) → HasGrown (roster g) k (own i u k) (at₃ own m v c x i u k)
-own_grown g own m v c x grown =
-    at₃_case (λ i u k z. HasGrown (roster g) k (own i u k) z) own m v c x
+own_grown g own m v c x grown = at₃_case (λ i u k z. HasGrown (roster g) k (own i u k) z) own m v c x
     (λ i u k. HasGrown_refl (roster g) k (own i u k)) grown
 
 -- words of the table are older ones of own words that have grown
@@ -179,8 +161,7 @@ old_later g view own new table seen grown f = record {
 }
 
 -- own words stay in form
-pub form_word : (g : Group) (own : Numbers) (table : Table) (seen : Numbers) (m v c x : ℕ)
-    → IsInForm (roster g) c x
+pub form_word : (g : Group) (own : Numbers) (table : Table) (seen : Numbers) (m v c x : ℕ) → IsInForm (roster g) c x
     → AreInForm g own table seen → AreInForm g (at₃ own m v c x) table seen
 form_word g own table seen m v c x form f = record {
   in_own = at₃_case (λ i u k z. IsInForm (roster g) k z) own m v c x f.in_own form;

@@ -1,19 +1,13 @@
 -- What a word of a ring tells, and what stays told as items are added.
+use Rattle.std.specs.{List.{list_all, range_with_len}, Prelude.{◌⊎◌}}
 use Rattle.std.proofs.Common.{List, [], get_or, slice_get, slice_index_or, Bool, None, Some, ap, arith, cond, inl, inr, le_trans, length, refl, slice_index, subst, suc, sym, true, zero, ℕ, ◌+◌, ◌<◌, ◌^◌, ◌∙◌, ◌≡◌, ◌≤◌}
-use Rattle.std.specs.Prelude.{◌⊎◌}
-use Rattle.std.specs.List.{list_all, range_with_len}
-use Rattle.dr_entry.specs.declared.entry.Item.{Item}
-use Rattle.dr_entry.specs.declared.entry.Item.TheVariants.{Text}
-use Rattle.dr_entry.specs.declared.end.SentItem.{SentItem}
+use Rattle.std.proofs.lemmas.{List.get_or_past, Option.{get_or_from_slice_get, slice_get_cases}}
+use Rattle.dr_entry.specs.declared.{end.SentItem.SentItem, entry.Item.{Item, TheVariants.Text}}
 use Rattle.dr_entry.specs.declared.end.SentItem.TheVariants as sent_items
 use Rattle.dr_history.specs.History.{Sent, messages_of}
 use Rattle.dr_machine.specs.Group.{Group, IsGroup}
-use Rattle.std.proofs.lemmas.List.{get_or_past}
-use Rattle.std.proofs.lemmas.Option.{get_or_from_slice_get, slice_get_cases}
-use Rattle.dr_ring.proofs.Arrivals.{item_in-come}
-use Rattle.dr_ring.proofs.Items.{IsItem, body_len-pieces, few_pieces, head_fits, piece_fits}
-use Rattle.dr_ring.specs.Pieces.{body_len, body_pieces, head_piece, pieces}
-use Rattle.dr_ring.specs.Slots.{IsReady, item_in}
+use Rattle.dr_ring.specs.{Pieces.{body_len, body_pieces, head_piece, pieces}, Slots.{IsReady, item_in}}
+use Rattle.dr_ring.proofs.{Arrivals.item_in-come, Items.{IsItem, body_len-pieces, few_pieces, head_fits, piece_fits}}
 use Rattle.dr_faithful.specs.Tells.{IsPiece, TellsPiece, item_named, item_sent}
 use Rattle.dr_words.specs.Packing.{ring_low, ring_tag, ring_word}
 
@@ -26,8 +20,7 @@ named_item g s (sent_items.Index i) is = by (slice_get_cases (messages_of g.open
         × (slice_get (messages_of g.opening s) i ≡ Some x) × (get_or (messages_of g.opening s) i x ≡ x))
         ⊎ ((length (messages_of g.opening s) ≤ i) × (slice_get (messages_of g.opening s) i ≡ None))
         → IsItem (Text (slice_index_or (messages_of g.opening s) i []))
-    by (inl t) = subst (λ b. IsItem (Text b))
-        (sym (get_or_from_slice_get (messages_of g.opening s) i t.0 [] t.2))
+    by (inl t) = subst (λ b. IsItem (Text b)) (sym (get_or_from_slice_get (messages_of g.opening s) i t.0 [] t.2))
         (is.short s i t.0 t.2, is.bytes s i t.0 t.2)
     by (inr t) = subst (λ b. IsItem (Text b)) (sym (get_or_past (messages_of g.opening s) i [] t.0))
         (omega arith, λ k. omega arith)
@@ -56,29 +49,24 @@ piece_tag : (k low : ℕ) → low < 2 ^ 32 → ring_tag (ring_word k low) ≡ k 
 piece_tag k low l = omega arith
 
 -- the tag of a word of an item is one more than the number of the item
-pub tag_of_piece : (g : Group) (total : ℕ) (items : ℕ → Item) (slot part word : ℕ)
-    → ((k : ℕ) → IsItem (items k))
+pub tag_of_piece : (g : Group) (total : ℕ) (items : ℕ → Item) (slot part word : ℕ) → ((k : ℕ) → IsItem (items k))
     → (p : IsPiece g total items slot part word) → ring_tag word ≡ p.number + 1
-tag_of_piece g total items slot part word are p =
-    rw p.made (piece_tag p.number (slice_index (pieces (items p.number)) part)
-    (piece_fits (items p.number) part (are p.number)))
+tag_of_piece g total items slot part word are p = rw p.made (piece_tag p.number
+    (slice_index (pieces (items p.number)) part) (piece_fits (items p.number) part (are p.number)))
 
 -- a word with the tag of item k is a piece of it
-pub piece_of : (g : Group) (total : ℕ) (items : ℕ → Item) (slot part word k : ℕ)
-    → ((i : ℕ) → IsItem (items i))
+pub piece_of : (g : Group) (total : ℕ) (items : ℕ → Item) (slot part word k : ℕ) → ((i : ℕ) → IsItem (items i))
     → TellsPiece g total items slot part word → ring_tag word ≡ k + 1 → (k < total)
     × (word ≡ ring_word k (slice_index (pieces (items k)) part))
 piece_of g total items slot part word k are (inl none) tag = absurd (omega arith)
 piece_of g total items slot part word k are (inr p) tag =
     let number : p.number ≡ k = omega (arith, tag_of_piece g total items slot part word are p) in (
       subst (λ i. i < total) number p.put,
-      p.made
-          ∙ ap (λ i. ring_word i (slice_index (pieces (items i)) part)) number,
+      p.made ∙ ap (λ i. ring_word i (slice_index (pieces (items i)) part)) number,
     )
 
 -- a word is at most one of a later item
-pub piece_le : (g : Group) (total : ℕ) (items : ℕ → Item) (slot part word low : ℕ)
-    → ((i : ℕ) → IsItem (items i))
+pub piece_le : (g : Group) (total : ℕ) (items : ℕ → Item) (slot part word low : ℕ) → ((i : ℕ) → IsItem (items i))
     → TellsPiece g total items slot part word → word ≤ ring_word total low
 piece_le g total items slot part word low are (inl none) = omega arith
 piece_le g total items slot part word low are (inr p) =
@@ -88,8 +76,7 @@ piece_le g total items slot part word low are (inr p) =
 pub ready_item : (k : ℕ) (item : Item) (slot : ℕ → ℕ) → IsItem item → IsReady k slot
     → ((part : ℕ) → part < 17 → ring_tag (slot part) ≡ k + 1 → slot part
     ≡ ring_word k (slice_index (pieces item) part)) → item_in k slot ≡ Some item
-ready_item k item slot is ready words =
-    item_in-come k item slot (λ part. true) is
+ready_item k item slot is ready words = item_in-come k item slot (λ part. true) is
     (record { here = λ part l e. here part l; earlier = λ part l e. absurd (cc e) })
     ∙ ap (λ (b : Bool). cond b (Some item) None) (all_true (length (pieces item)) 0)
   where
@@ -103,14 +90,12 @@ ready_item k item slot is ready words =
     low : ring_low (slot 0) ≡ head_piece item
     low = omega (arith, head, head_fits item is)
 
-    here : (part : ℕ) → part < length (pieces item) → slot part
-        ≡ ring_word k (slice_index (pieces item) part)
+    here : (part : ℕ) → part < length (pieces item) → slot part ≡ ring_word k (slice_index (pieces item) part)
     here zero l = head
     here (suc part) l =
         let body : body_len (ring_low (slot 0)) ≡ length (body_pieces item) = ap body_len low
         ∙ body_len-pieces item is in
         let there : 1 + part ≡ suc part = omega arith in
-        let tag : ring_tag (slot (suc part))
-        ≡ k + 1 = subst (λ i. ring_tag (slot i) ≡ k + 1) there
+        let tag : ring_tag (slot (suc part)) ≡ k + 1 = subst (λ i. ring_tag (slot i) ≡ k + 1) there
         (ready.body part (omega (arith, body))) in
         words (suc part) (omega (arith, few_pieces item is)) tag

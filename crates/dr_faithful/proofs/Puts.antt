@@ -1,39 +1,22 @@
 -- A member puts its next message, or a null: the pieces stand in a free slot.
 use Rattle.std.proofs.Common.{List, [], ap, arith, inl, inr, le_of_eq, le_trans, length, map, refl, slice_index, slice_index_or, subst, sym, true, ℕ, ◌%◌, ◌++◌, ◌+◌, ◌-◌, ◌<◌, ◌∙◌, ◌∷◌, ◌≡◌, ◌≢◌, ◌≤◌, ◌⊎◌}
-use Rattle.std.proofs.lemmas.Bool.{cases_lt}
-use Rattle.std.proofs.Math.Seq.{get_or-append_seam}
-use Rattle.std.proofs.lemmas.List.{length_push}
-use Rattle.std.proofs.lemmas.Nat.{mod_below}
-use Rattle.dr_entry.specs.declared.end.SentItem.{SentItem}
-use Rattle.dr_entry.specs.declared.end.SentItem.TheVariants.{Index, Null}
-use Rattle.dr_entry.specs.declared.entry.Item.{Item}
-use Rattle.dr_history.specs.History.{IsPrefixOf, Sent, messages_of}
-use Rattle.dr_history.specs.Members.{has}
-use Rattle.dr_history.specs.Places.{front_of}
-use Rattle.dr_machine.proofs.Presence.{in_roster}
-use Rattle.dr_machine.proofs.Sending.{next_message, next_null, only_messages}
-use Rattle.dr_machine.specs.Effects.{puts, row_with}
-use Rattle.dr_machine.specs.Group.{Group, IsGroup, IsPresent, roster}
+use Rattle.std.proofs.{Math.Seq.get_or-append_seam, lemmas.{Bool.cases_lt, List.length_push, Nat.mod_below}}
+use Rattle.dr_entry.specs.declared.{end.SentItem.{SentItem, TheVariants.{Index, Null}}, entry.Item.Item}
+use Rattle.dr_history.specs.{History.{IsPrefixOf, Sent, messages_of}, Members.has, Places.front_of}
+use Rattle.dr_machine.specs.{Effects.{puts, row_with}, Group.{Group, IsGroup, IsPresent, roster}}
 use Rattle.dr_machine.specs.Guards.{CanNull, CanSend, HasRoom, IsUnwedged, MayChoose, next_index}
-use Rattle.dr_machine.specs.Run.{PastGrew, WordsGrew}
-use Rattle.dr_machine.specs.World.{World, items_received, own_word, view_members}
-use Rattle.dr_machine.specs.Writes.{at, at₂, at₃}
-use Rattle.dr_ring.proofs.Items.{few_pieces}
-use Rattle.dr_ring.specs.Pieces.{pieces}
-use Rattle.dr_ring.specs.Slots.{slot_column}
-use Rattle.dr_faithful.proofs.Beside.{in_view}
-use Rattle.dr_faithful.proofs.CountMore.{more, new_count}
+use Rattle.dr_machine.specs.{Run.{PastGrew, WordsGrew}, Sending.IsPut}
+use Rattle.dr_machine.specs.{World.{World, items_received, own_word, view_members}, Writes.{at, at₂, at₃}}
+use Rattle.dr_machine.proofs.{Presence.in_roster, Sending.{next_message, next_null, only_messages}}
+use Rattle.dr_ring.{specs.{Pieces.pieces, Slots.slot_column}, proofs.Items.few_pieces}
+use Rattle.dr_faithful.specs.Faithful.{AreSent, Faithful, Numbers}
+use Rattle.dr_faithful.{specs.Tells.{TellsPiece, Views, item_named, item_sent, part_column}, proofs.Beside.in_view}
+use Rattle.dr_faithful.proofs.{CountMore.{more, new_count}, Writes.{at_same, at₂_both, at₂_case, at₂_read, at₂_twice}}
 use Rattle.dr_faithful.proofs.ItemMore.{MayGain, accept_gained, counted_row, gain_grew, gain_keeps, gained, past_gained}
 use Rattle.dr_faithful.proofs.Pasts.{item_kept, prefix_refl, prefix_short}
-use Rattle.dr_faithful.proofs.Pieces.{later, named_item, piece_le, sent_item}
-use Rattle.dr_faithful.proofs.Shown.{seen_le}
-use Rattle.dr_faithful.proofs.Writes.{at_same, at₂_both, at₂_case, at₂_read, at₂_twice}
-use Rattle.dr_machine.specs.Sending.{IsPut}
-use Rattle.dr_faithful.specs.Faithful.{AreSent, Faithful, Numbers}
-use Rattle.dr_faithful.specs.Tells.{TellsPiece, Views, item_named, item_sent, part_column}
+use Rattle.dr_faithful.proofs.{Pieces.{later, named_item, piece_le, sent_item}, Shown.seen_le}
+use Rattle.dr_words.specs.{Columns.{head_column, recv_column}, Packing.{recv_count, ring_word}}
 use Rattle.dr_words.specs.declared.column.TheConstants.{PIECES}
-use Rattle.dr_words.specs.Columns.{head_column, recv_column}
-use Rattle.dr_words.specs.Packing.{recv_count, ring_word}
 
 -- ---- the row
 
@@ -52,8 +35,7 @@ in_item from n c = by (cases_lt c from) (cases_lt c (from + n))
 pub row_in : (row : ℕ → ℕ) (from k part : ℕ) (list : List ℕ) → part < length list
     → row_with row from k list (from + part) ≡ ring_word k (slice_index list part)
 row_in row from k part list l =
-    let there : from + part - from ≡ part = omega arith in
-    rw there (grind (arith, l))
+    let there : from + part - from ≡ part = omega arith in rw there (grind (arith, l))
 
 row_out : (row : ℕ → ℕ) (from k c : ℕ) (list : List ℕ) → (c < from)
     ⊎ (from + length list ≤ c) → row_with row from k list c ≡ row c
@@ -108,8 +90,7 @@ may_message g V w m can f =
     }
 
 -- and one that may put a null may put it
-pub may_null : (g : Group) (V : Views) (w : World) (m : ℕ) → CanNull g w m → Faithful g V w
-    → MayPut g w m Null
+pub may_null : (g : Group) (V : Views) (w : World) (m : ℕ) → CanNull g w m → Faithful g V w → MayPut g w m Null
 may_null g V w m can f =
     let ahead = f.counts.few m (w.past.view m) can.behind.0 in record {
       may = can.may;
@@ -122,41 +103,32 @@ may_null g V w m can f =
 
 puts_is : (g : Group) (w : World) (m : ℕ) (x : SentItem) → puts g w m x (item_named g m x)
     ≡ gained w m m (item_named g m x) (put_row g w m x) (sent_after w m x)
-puts_is g w m x =
-    ap (λ (own : Numbers). record w {
-      past = record w.past {
-        count = more w.past.count m (w.past.view m) m;
-        own = own;
-        sent = sent_after w m x;
-      };
-      item = at₃ w.item m m (items_received w m m) (item_named g m x);
-    }) (row_twice w.past.own m (w.past.view m) (put_row g w m x)
+puts_is g w m x = ap (λ (own : Numbers). record w {
+  past = record w.past { count = more w.past.count m (w.past.view m) m; own = own; sent = sent_after w m x };
+  item = at₃ w.item m m (items_received w m m) (item_named g m x);
+}) (row_twice w.past.own m (w.past.view m) (put_row g w m x)
     (λ row. counted_row row m (items_received w m m)
     (front_of (map (at (w.past.count m (w.past.view m)) m (items_received w m m + 1)) (view_members w m)))))
 
 -- ---- what may be gained
 
 -- what was put stays, and one more element stands behind it
-sent_grew : (w : World) (m : ℕ) (x : SentItem) (a u : ℕ)
-    → IsPrefixOf (w.past.sent a u) (sent_after w m x a u)
+sent_grew : (w : World) (m : ℕ) (x : SentItem) (a u : ℕ) → IsPrefixOf (w.past.sent a u) (sent_after w m x a u)
 sent_grew w m x = at₂_case (λ a u l. IsPrefixOf (w.past.sent a u) l) w.past.sent m (w.past.view m) _
     (λ a u. prefix_refl (w.past.sent a u)) (x ∷ [], refl)
 
 -- the new element names the item
 names_item : (g : Group) (V : Views) (w : World) (m : ℕ) (x : SentItem) (k : ℕ) → Faithful g V w
-    → k ≡ items_received w m m
-    → item_sent g (sent_after w m x) m (w.past.view m) k ≡ item_named g m x
+    → k ≡ items_received w m m → item_sent g (sent_after w m x) m (w.past.view m) k ≡ item_named g m x
 names_item g V w m x k f e =
     let v : ℕ = w.past.view m in
     let before : List SentItem = w.past.sent m v in
-    ap (λ (l : List SentItem). item_named g m (slice_index_or l k Null))
-    (at₂_read w.past.sent m v (before ++ x ∷ []))
+    ap (λ (l : List SentItem). item_named g m (slice_index_or l k Null)) (at₂_read w.past.sent m v (before ++ x ∷ []))
     ∙ ap (λ i. item_named g m (slice_index_or (before ++ x ∷ []) i Null)) (e ∙ sym (f.sent.all m v))
     ∙ ap (item_named g m) (get_or-append_seam before x [] Null)
 
 -- what each member has put is in order
-put_order : (g : Group) (V : Views) (w : World) (m : ℕ) (x : SentItem) → MayPut g w m x
-    → Faithful g V w
+put_order : (g : Group) (V : Views) (w : World) (m : ℕ) (x : SentItem) → MayPut g w m x → Faithful g V w
     → AreSent g w.past.view w.base (sent_after w m x) (more w.past.count m (w.past.view m) m)
 put_order g V w m x can f = record {
   all = λ a u. at₂_both (λ i j l c. length l ≡ c i) w.past.sent w.past.count m v _ _ f.sent.all
@@ -165,8 +137,7 @@ put_order g V w m x can f = record {
   put = λ a. at₂_case (λ i j l. j ≡ w.past.view i
       → IsPut (w.base i) (length (messages_of g.opening i)) l) w.past.sent m v _
       (λ i j e. subst (λ k. IsPut (w.base i) (length (messages_of g.opening i)) (w.past.sent i k)) (sym e)
-      (f.sent.put i))
-      (λ e. can.order) a (w.past.view a) refl;
+      (f.sent.put i)) (λ e. can.order) a (w.past.view a) refl;
 }
   where
     v : ℕ
@@ -180,15 +151,12 @@ few_words : (g : Group) (m : ℕ) (x : SentItem) → IsGroup g → length (piece
 few_words g m x is = few_pieces (item_named g m x) (named_item g m x is)
 
 -- the words of the row rise
-put_high : (g : Group) (V : Views) (w : World) (m : ℕ) (x : SentItem) (c : ℕ) → IsGroup g
-    → Faithful g V w
-    → InItem (slot_from g w m) (length (pieces (item_named g m x))) c → own_word w m c
-    ≤ put_row g w m x c
+put_high : (g : Group) (V : Views) (w : World) (m : ℕ) (x : SentItem) (c : ℕ) → IsGroup g → Faithful g V w
+    → InItem (slot_from g w m) (length (pieces (item_named g m x))) c → own_word w m c ≤ put_row g w m x c
 put_high g V w m x c is f (inr out) =
     le_of_eq (sym (row_out (w.past.own m (w.past.view m)) (slot_from g w m) (items_received w m m) c
     (pieces (item_named g m x)) out))
-put_high g V w m x c is f (inl t) =
-    subst (λ c. own_word w m c ≤ put_row g w m x c) t.2
+put_high g V w m x c is f (inl t) = subst (λ c. own_word w m c ≤ put_row g w m x c) t.2
     (rw (row_in (w.past.own m v) (slot_from g w m) k t.0 (pieces (item_named g m x)) t.1)
     (subst (λ n. own_word w m (slot_from g w m + t.0) ≤ ring_word n low) (f.sent.all m v) less))
   where
@@ -206,19 +174,16 @@ put_high g V w m x c is f (inl t) =
     told = (f.words.own m v (part_column g (k % g.window) t.0)).ring (k % g.window) t.0
         (mod_below k g.window is.some_slot) (le_trans t.1 (few_words g m x is)) refl
 
-    less : own_word w m (slot_from g w m + t.0)
-        ≤ ring_word (length (w.past.sent m (w.past.view m)))
+    less : own_word w m (slot_from g w m + t.0) ≤ ring_word (length (w.past.sent m (w.past.view m)))
         (slice_index (pieces (item_named g m x)) t.0)
     less = piece_le g (length (w.past.sent m v)) (item_sent g w.past.sent m v) (k % g.window) t.0
         (own_word w m (slot_from g w m + t.0)) low (λ i. sent_item g w.past.sent m v i is) told
 
 -- and tell of what was put
 put_ring : (g : Group) (V : Views) (w : World) (m : ℕ) (x : SentItem) (slot part : ℕ) → IsGroup g
-    → MayPut g w m x → Faithful g V w
-    → slot < g.window → part < PIECES
+    → MayPut g w m x → Faithful g V w → slot < g.window → part < PIECES
     → InItem (slot_from g w m) (length (pieces (item_named g m x))) (part_column g slot part)
-    → TellsPiece g (length (sent_after w m x m (w.past.view m)))
-    (item_sent g (sent_after w m x) m (w.past.view m))
+    → TellsPiece g (length (sent_after w m x m (w.past.view m))) (item_sent g (sent_after w m x) m (w.past.view m))
     slot part (put_row g w m x (part_column g slot part))
 put_ring g V w m x slot part is can f l p (inl t) =
     let k : ℕ = items_received w m m in
@@ -238,16 +203,14 @@ put_ring g V w m x slot part is can f l p (inl t) =
       );
       place = there;
       needed = subst (λ (i : Item). part < length (pieces i)) (sym named) (omega (arith, here, t.1));
-      made = ap (put_row g w m x) (sym t.2)
-          ∙ row_in (w.past.own m (w.past.view m)) (slot_from g w m) k t.0 list t.1
+      made = ap (put_row g w m x) (sym t.2) ∙ row_in (w.past.own m (w.past.view m)) (slot_from g w m) k t.0 list t.1
           ∙ ap (λ i. ring_word k (slice_index list i)) (sym here)
           ∙ ap (λ (i : Item). ring_word k (slice_index (pieces i) part)) (sym named);
     })
 put_ring g V w m x slot part is can f l p (inr out) =
     let v : ℕ = w.past.view m in
     let c : ℕ = part_column g slot part in
-    subst (λ z. TellsPiece g (length (sent_after w m x m v)) (item_sent g (sent_after w m x) m v) slot part
-    z)
+    subst (λ z. TellsPiece g (length (sent_after w m x m v)) (item_sent g (sent_after w m x) m v) slot part z)
     (sym (row_out (w.past.own m v) (slot_from g w m) (items_received w m m) c (pieces (item_named g m x)) out))
     (later g (length (w.past.sent m v)) (length (sent_after w m x m v)) (item_sent g w.past.sent m v)
     (item_sent g (sent_after w m x) m v) slot part (own_word w m c)
@@ -268,8 +231,7 @@ put_room g V w m i is present f h d (inr received) =
     omega (arith, shown, old, f.counts.recv i (w.past.view m) m (in_roster g m is present))
 
 -- so the member gains it
-put_gains : (g : Group) (V : Views) (w : World) (m : ℕ) (x : SentItem) → IsGroup g → MayPut g w m x
-    → Faithful g V w
+put_gains : (g : Group) (V : Views) (w : World) (m : ℕ) (x : SentItem) → IsGroup g → MayPut g w m x → Faithful g V w
     → MayGain g V w m m (item_named g m x) (put_row g w m x) (sent_after w m x)
 put_gains g V w m x is can f =
     let from : ℕ = slot_from g w m in
@@ -292,32 +254,25 @@ put_gains g V w m x is can f =
 -- what only grows has grown
 pub put_past : (g : Group) (V : Views) (w : World) (m : ℕ) (x : SentItem) → IsGroup g
     → MayPut g w m x → Faithful g V w → PastGrew w.past (puts g w m x (item_named g m x)).past
-put_past g V w m x is can f =
-    subst (λ (u : World). PastGrew w.past u.past) (sym (puts_is g w m x))
-    (past_gained g V w m m (item_named g m x) (put_row g w m x) (sent_after w m x)
-    (put_gains g V w m x is can f))
+put_past g V w m x is can f = subst (λ (u : World). PastGrew w.past u.past) (sym (puts_is g w m x))
+    (past_gained g V w m m (item_named g m x) (put_row g w m x) (sent_after w m x) (put_gains g V w m x is can f))
 
 -- the words grow
 pub put_grew : (g : Group) (V : Views) (w : World) (m : ℕ) (x : SentItem) → IsGroup g
     → MayPut g w m x → Faithful g V w → WordsGrew g w (puts g w m x (item_named g m x))
-put_grew g V w m x is can f =
-    subst (λ (u : World). WordsGrew g w u) (sym (puts_is g w m x))
-    (gain_grew g V w m m (item_named g m x) (put_row g w m x) (sent_after w m x) is
-    (put_gains g V w m x is can f) f)
+put_grew g V w m x is can f = subst (λ (u : World). WordsGrew g w u) (sym (puts_is g w m x))
+    (gain_grew g V w m m (item_named g m x) (put_row g w m x) (sent_after w m x) is (put_gains g V w m x is can f) f)
 
 -- no accept word is another than before
 pub put_accepts : (g : Group) (V : Views) (w : World) (m : ℕ) (x : SentItem) → IsGroup g → MayPut g w m x
     → Faithful g V w → (i v c : ℕ) → (recv_column (roster g) ≤ c) × (c < head_column (roster g) 0)
     → (puts g w m x (item_named g m x)).past.own i v c ≡ w.past.own i v c
-put_accepts g V w m x is can f i v c between =
-    subst (λ (u : World). u.past.own i v c ≡ w.past.own i v c) (sym (puts_is g w m x))
-    (accept_gained g V w m m (item_named g m x) (put_row g w m x) (sent_after w m x)
-    (put_gains g V w m x is can f) f i v c between)
+put_accepts g V w m x is can f i v c between = subst (λ (u : World). u.past.own i v c ≡ w.past.own i v c)
+    (sym (puts_is g w m x)) (accept_gained g V w m m
+    (item_named g m x) (put_row g w m x) (sent_after w m x) (put_gains g V w m x is can f) f i v c between)
 
 -- and the members stay faithful
 pub put_keeps : (g : Group) (V : Views) (w : World) (m : ℕ) (x : SentItem) → IsGroup g
     → MayPut g w m x → Faithful g V w → Faithful g V (puts g w m x (item_named g m x))
-put_keeps g V w m x is can f =
-    subst (λ (u : World). Faithful g V u) (sym (puts_is g w m x))
-    (gain_keeps g V w m m (item_named g m x) (put_row g w m x) (sent_after w m x) is
-    (put_gains g V w m x is can f) f)
+put_keeps g V w m x is can f = subst (λ (u : World). Faithful g V u) (sym (puts_is g w m x))
+    (gain_keeps g V w m m (item_named g m x) (put_row g w m x) (sent_after w m x) is (put_gains g V w m x is can f) f)

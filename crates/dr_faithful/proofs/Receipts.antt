@@ -1,31 +1,18 @@
 -- Receipts: the item that a member takes is the one that its sender has put.
+use Rattle.std.{specs.Prelude.unwrap_or, proofs.lemmas.Nat.mod_below}
 use Rattle.std.proofs.Common.{Some, ap, arith, inr, le_refl, le_trans, length, refl, slice_index, sym, ℕ, ◌%◌, ◌+◌, ◌<◌, ◌∙◌, ◌≡◌, ◌≤◌}
-use Rattle.std.proofs.lemmas.Nat.{mod_below}
-use Rattle.std.specs.Prelude.{unwrap_or}
-use Rattle.dr_entry.specs.declared.entry.Item.{Item}
-use Rattle.dr_entry.specs.declared.entry.Item.TheVariants.{Null}
+use Rattle.dr_entry.specs.declared.entry.Item.{Item, TheVariants.Null}
 use Rattle.dr_history.specs.Members.{has}
-use Rattle.dr_machine.specs.Effects.{next_item, receives}
-use Rattle.dr_machine.specs.Group.{Group, IsGroup, roster}
-use Rattle.dr_machine.specs.Guards.{CanReceive, seen_slot}
-use Rattle.dr_machine.specs.Run.{PastGrew, WordsGrew}
-use Rattle.dr_machine.specs.World.{World, items_received, own_word}
-use Rattle.dr_ring.proofs.Items.{IsItem}
-use Rattle.dr_ring.specs.Pieces.{pieces}
-use Rattle.dr_ring.specs.Slots.{item_in}
-use Rattle.dr_faithful.proofs.Beside.{in_view}
-use Rattle.dr_faithful.proofs.CountMore.{own_same}
-use Rattle.dr_faithful.proofs.ItemMore.{MayGain, accept_gained, gain_grew, gain_keeps, past_gained}
-use Rattle.dr_faithful.proofs.Pasts.{prefix_refl}
-use Rattle.dr_faithful.proofs.Pieces.{piece_of, ready_item, sent_item}
-use Rattle.dr_faithful.specs.Faithful.{Faithful}
-use Rattle.dr_faithful.specs.Tells.{Views, item_sent, part_column}
-use Rattle.dr_words.specs.Columns.{head_column, recv_column}
-use Rattle.dr_words.specs.Packing.{ring_tag, ring_word}
+use Rattle.dr_machine.specs.{Effects.{next_item, receives}, Guards.{CanReceive, seen_slot}, Run.{PastGrew, WordsGrew}}
+use Rattle.dr_machine.specs.{Group.{Group, IsGroup, roster}, World.{World, items_received, own_word}}
+use Rattle.dr_ring.{specs.{Pieces.pieces, Slots.item_in}, proofs.Items.IsItem}
+use Rattle.dr_faithful.{specs.Faithful.Faithful, proofs.{CountMore.own_same, Pasts.prefix_refl}}
+use Rattle.dr_faithful.{specs.Tells.{Views, item_sent, part_column}, proofs.Pieces.{piece_of, ready_item, sent_item}}
+use Rattle.dr_faithful.proofs.{Beside.in_view, ItemMore.{MayGain, accept_gained, gain_grew, gain_keeps, past_gained}}
+use Rattle.dr_words.specs.{Columns.{head_column, recv_column}, Packing.{ring_tag, ring_word}}
 
 -- the words that were seen of the next item are pieces of it
-receive_words : (g : Group) (V : Views) (w : World) (m s : ℕ) → IsGroup g → CanReceive g w m s
-    → Faithful g V w
+receive_words : (g : Group) (V : Views) (w : World) (m s : ℕ) → IsGroup g → CanReceive g w m s → Faithful g V w
     → (items_received w m s < w.past.count s (w.past.view m) s)
     × (next_item g w m s ≡ item_sent g w.past.sent s (w.past.view m) (items_received w m s))
 receive_words g V w m s is can f =
@@ -55,12 +42,10 @@ receive_words g V w m s is can f =
     head = piece 0 (omega arith) can.ready.head
 
     found : item_in k (seen_slot g w m s k) ≡ Some (items k)
-    found = ready_item k (items k) (seen_slot g w m s k) (are k) can.ready
-        (λ part l tag. (piece part l tag).1)
+    found = ready_item k (items k) (seen_slot g w m s k) (are k) can.ready (λ part l tag. (piece part l tag).1)
 
 -- so it may have that item
-receive_may : (g : Group) (V : Views) (w : World) (m s : ℕ) → IsGroup g → CanReceive g w m s
-    → Faithful g V w
+receive_may : (g : Group) (V : Views) (w : World) (m s : ℕ) → IsGroup g → CanReceive g w m s → Faithful g V w
     → MayGain g V w m s (next_item g w m s) (w.past.own m (w.past.view m)) w.past.sent
 receive_may g V w m s is can f =
     let taken = receive_words g V w m s is can f in
@@ -75,8 +60,7 @@ receive_may g V w m s is can f =
       few = (put.0, le_trans taken.0 put.1);
       low = λ c l. refl;
       high = λ c. le_refl (own_word w m c);
-      ring = λ slot part l p. (f.words.own m (w.past.view m) (part_column g slot part)).ring slot part l p
-          refl;
+      ring = λ slot part l p. (f.words.own m (w.past.view m) (part_column g slot part)).ring slot part l p refl;
       order = record {
         all = λ a v. f.sent.all a v ∙ sym (own_same w.past.count m (w.past.view m) s a v can.sender.other);
         put = f.sent.put;
@@ -86,28 +70,24 @@ receive_may g V w m s is can f =
 -- what only grows has grown
 pub receive_past : (g : Group) (V : Views) (w : World) (m s : ℕ) → IsGroup g → CanReceive g w m s
     → Faithful g V w → PastGrew w.past (receives g w m s).past
-receive_past g V w m s is can f =
-    past_gained g V w m s (next_item g w m s) (w.past.own m (w.past.view m)) w.past.sent
+receive_past g V w m s is can f = past_gained g V w m s (next_item g w m s) (w.past.own m (w.past.view m)) w.past.sent
     (receive_may g V w m s is can f)
 
 -- the words grow
 pub receive_grew : (g : Group) (V : Views) (w : World) (m s : ℕ) → IsGroup g → CanReceive g w m s
     → Faithful g V w → WordsGrew g w (receives g w m s)
-receive_grew g V w m s is can f =
-    gain_grew g V w m s (next_item g w m s) (w.past.own m (w.past.view m)) w.past.sent is
-    (receive_may g V w m s is can f) f
+receive_grew g V w m s is can f = gain_grew g V w m s
+    (next_item g w m s) (w.past.own m (w.past.view m)) w.past.sent is (receive_may g V w m s is can f) f
 
 -- no accept word is another than before
 pub receive_accepts : (g : Group) (V : Views) (w : World) (m s : ℕ) → IsGroup g → CanReceive g w m s
     → Faithful g V w → (i v c : ℕ) → (recv_column (roster g) ≤ c) × (c < head_column (roster g) 0)
     → (receives g w m s).past.own i v c ≡ w.past.own i v c
-receive_accepts g V w m s is can f i v c between =
-    accept_gained g V w m s (next_item g w m s) (w.past.own m (w.past.view m)) w.past.sent
-    (receive_may g V w m s is can f) f i v c between
+receive_accepts g V w m s is can f i v c between = accept_gained g V w m s
+    (next_item g w m s) (w.past.own m (w.past.view m)) w.past.sent (receive_may g V w m s is can f) f i v c between
 
 -- and the members stay faithful
 pub receive_keeps : (g : Group) (V : Views) (w : World) (m s : ℕ) → IsGroup g → CanReceive g w m s
     → Faithful g V w → Faithful g V (receives g w m s)
-receive_keeps g V w m s is can f =
-    gain_keeps g V w m s (next_item g w m s) (w.past.own m (w.past.view m)) w.past.sent is
-    (receive_may g V w m s is can f) f
+receive_keeps g V w m s is can f = gain_keeps g V w m s
+    (next_item g w m s) (w.past.own m (w.past.view m)) w.past.sent is (receive_may g V w m s is can f) f

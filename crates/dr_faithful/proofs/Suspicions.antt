@@ -2,33 +2,22 @@
 use Rattle.std.proofs.Common.{Bool, ◌==◌, ◌||◌, ap, arith, false, inl, inr, le_trans, refl, subst, sym, true, Some, ℕ, ◌+◌, ◌-◌, ◌<◌, ◌^◌, ◌∙◌, ◌≡◌, ◌≢◌, ◌≤◌, ◌⊎◌, le_refl}
 use Rattle.std.proofs.lemmas.Bool.{cases_eq}
 use Rattle.dr_entry.specs.declared.record.Vote.{Vote}
-use Rattle.dr_history.specs.Members.{has}
-use Rattle.dr_history.specs.Order.{IsNewIn}
-use Rattle.dr_history.proofs.Bits.{has_zero}
-use Rattle.dr_machine.specs.Effects.{suspects}
-use Rattle.dr_machine.specs.Group.{Group, IsGroup, roster}
-use Rattle.dr_machine.specs.Guards.{CanSuspect, IsNamable, IsOther, MayChoose, unsuspected_of}
-use Rattle.dr_machine.specs.Run.{PastGrew, WordsGrew}
-use Rattle.dr_machine.specs.World.{Past, World, own_word}
-use Rattle.dr_machine.specs.Writes.{at, at₂}
-use Rattle.dr_machine.proofs.Presence.{in_roster}
-use Rattle.dr_faithful.proofs.Beside.{in_view, none_outside}
-use Rattle.dr_faithful.proofs.OwnWords.{closed_written, fresh_written, old_later}
-use Rattle.dr_faithful.proofs.Pasts.{same_past, tells_later, tells_recv, tells_accept, tells_suspected}
-use Rattle.dr_faithful.proofs.Writes.{at_case, at_other, at_same, at₂_case, at₂_read}
+use Rattle.dr_history.{specs.{Members.has, Order.IsNewIn}, proofs.Bits.has_zero}
+use Rattle.dr_machine.specs.{Effects.suspects, Guards.{CanSuspect, IsNamable, IsOther, MayChoose, unsuspected_of}}
+use Rattle.dr_machine.specs.{Group.{Group, IsGroup, roster}, Run.{PastGrew, WordsGrew}, World.{Past, World, own_word}}
+use Rattle.dr_machine.{specs.Writes.{at, at₂}, proofs.Presence.in_roster}
 use Rattle.dr_faithful.specs.Faithful.{AllGoOn, AreAccepts, AreCounts, AreSuspicions, Faithful, IsWaiting, Numbers}
 use Rattle.dr_faithful.specs.Tells.{SuspicionsTold, Tells, TellsSuspicion, Views, WordsTell}
-use Rattle.dr_words.proofs.Masks.{IsSuspecting, has_with_member, has_without_mask, in_roster_small, least_of_is, left_rises, left_within, more_grows, more_has, more_named, more_trusted, without_small}
-use Rattle.dr_words.proofs.Order.{HasGrown_refl, HasGrown_trans}
-use Rattle.dr_words.proofs.Rewrites.{recv_within, wedged_by, wedged_count, wedged_final, wedged_grown, wedged_in_form, wedged_promise, wedged_rest, wedged_tag, wedged_value}
-use Rattle.dr_words.proofs.Accepts.{accept_within}
-use Rattle.dr_words.specs.Rewrites.{is_accept_of, wedged_word}
-use Rattle.dr_words.specs.declared.column.TheConstants.{RECEIVED_COLUMN, SUSPECTED_COLUMN}
-use Rattle.dr_words.specs.Columns.{recv_column}
-use Rattle.dr_words.specs.Form.{IsInForm}
-use Rattle.dr_words.specs.Grown.{HasGrown}
-use Rattle.dr_words.specs.Masks.{IsInRoster, IsLeastOf, IsPartOf, least_of, with_member, without}
+use Rattle.dr_faithful.proofs.{Beside.{in_view, none_outside}, OwnWords.{closed_written, fresh_written, old_later}}
+use Rattle.dr_faithful.proofs.Pasts.{same_past, tells_later, tells_recv, tells_accept, tells_suspected}
+use Rattle.dr_faithful.proofs.Writes.{at_case, at_other, at_same, at₂_case, at₂_read}
+use Rattle.dr_words.specs.{Columns.recv_column, declared.column.TheConstants.{RECEIVED_COLUMN, SUSPECTED_COLUMN}}
+use Rattle.dr_words.{specs.Form.IsInForm, proofs.Accepts.accept_within}
+use Rattle.dr_words.specs.{Grown.HasGrown, Masks.{IsInRoster, IsLeastOf, IsPartOf, least_of, with_member, without}}
 use Rattle.dr_words.specs.Packing.{accept_promise, accept_tag, accept_value, is_final, recv_count, recv_word}
+use Rattle.dr_words.{specs.Rewrites.{is_accept_of, wedged_word}, proofs.Order.{HasGrown_refl, HasGrown_trans}}
+use Rattle.dr_words.proofs.Masks.{IsSuspecting, has_with_member, has_without_mask, in_roster_small, least_of_is, left_rises, left_within, more_grows, more_has, more_named, more_trusted, without_small}
+use Rattle.dr_words.proofs.Rewrites.{recv_within, wedged_by, wedged_count, wedged_final, wedged_grown, wedged_in_form, wedged_promise, wedged_rest, wedged_tag, wedged_value}
 
 -- ---- the mask and the promise
 
@@ -39,8 +28,7 @@ abbrev pub promise_after : World → ℕ → ℕ → ℕ
 promise_after w m j = least_of (without (w.members m) (mask_after w m j))
 
 abbrev pub row_after : Group → World → ℕ → ℕ → ℕ → ℕ
-row_after g w m j c = wedged_word (roster g) (w.members m) (mask_after w m j) (promise_after w m j) c
-    (own_word w m c)
+row_after g w m j c = wedged_word (roster g) (w.members m) (mask_after w m j) (promise_after w m j) c (own_word w m c)
 
 -- whom a member names is of the roster
 pub named_in_roster : (g : Group) (V : Views) (w : World) (m : ℕ) → IsGroup g → Faithful g V w
@@ -57,10 +45,8 @@ pub mask_small : (g : Group) (V : Views) (w : World) (mask v : ℕ) → IsGroup 
 mask_small g V w mask v is f part =
     in_roster_small 16 mask (λ i h. le_trans (f.views.within v i (part i h)) is.most_members)
 
-pub members_small : (g : Group) (V : Views) (w : World) (m : ℕ) → IsGroup g → Faithful g V w
-    → w.members m < 2 ^ 16
-members_small g V w m is f =
-    rw (f.views.own m) (mask_small g V w (V (w.past.view m)) (w.past.view m) is f (λ i h. h))
+pub members_small : (g : Group) (V : Views) (w : World) (m : ℕ) → IsGroup g → Faithful g V w → w.members m < 2 ^ 16
+members_small g V w m is f = rw (f.views.own m) (mask_small g V w (V (w.past.view m)) (w.past.view m) is f (λ i h. h))
 
 -- j is another member of m's view, or late and in no view so far
 abbrev pub IsKnown : Group → Views → World → ℕ → ℕ → Type 0
@@ -72,13 +58,8 @@ pub record MayName (g : Group) (V : Views) (w : World) (m j : ℕ) : Type 0 wher
   pub known : IsKnown g V w m j
   pub unsuspected : has (w.suspects m) j ≡ false
 
-pub may_name : (g : Group) (V : Views) (w : World) (m j : ℕ) → AllGoOn g V w → CanSuspect g w m j
-    → MayName g V w m j
-may_name g V w m j well can = record {
-  may = can.may;
-  known = by can.namable;
-  unsuspected = can.unsuspected;
-}
+pub may_name : (g : Group) (V : Views) (w : World) (m j : ℕ) → AllGoOn g V w → CanSuspect g w m j → MayName g V w m j
+may_name g V w m j well can = record { may = can.may; known = by can.namable; unsuspected = can.unsuspected }
   where
     by : IsNamable g w m j → IsKnown g V w m j
     by (inl other) = inl other
@@ -139,14 +120,12 @@ promise_rises g V w m j is can f = by (cases_eq (w.suspects m) 0)
   where
     by : (w.suspects m ≡ 0) ⊎ (w.suspects m ≢ 0) → w.promise m ≤ promise_after w m j
     by (inl e) = omega (arith, f.suspicions.none m e)
-    by (inr d) = rw (f.suspicions.least m d, ← f.views.own m)
-        (left_rises (suspecting g V w m j is can f))
+    by (inr d) = rw (f.suspicions.least m d, ← f.views.own m) (left_rises (suspecting g V w m j is can f))
 
 -- ---- the row
 
 -- the received, logged, done and beat words are as before
-pub plain_kept : (own : Numbers) (n members mask promise m v a u c : ℕ) → c < recv_column 0
-    → c ≢ SUSPECTED_COLUMN
+pub plain_kept : (own : Numbers) (n members mask promise m v a u c : ℕ) → c < recv_column 0 → c ≢ SUSPECTED_COLUMN
     → at₂ own m v (λ k. wedged_word n members mask promise k (own m v k)) a u c ≡ own a u c
 plain_kept own n members mask promise m v a u c l d =
     at₂_case (λ a u r. r c ≡ own a u c) own m v (λ k. wedged_word n members mask promise k (own m v k))
@@ -155,18 +134,15 @@ plain_kept own n members mask promise m v a u c l d =
 -- each word of the row has grown
 row_grown : (g : Group) (V : Views) (w : World) (m j : ℕ) → IsGroup g → MayName g V w m j
     → Faithful g V w → (c : ℕ) → HasGrown (roster g) c (own_word w m c) (row_after g w m j c)
-row_grown g V w m j is can f c =
-    wedged_grown (roster g) (w.members m) (mask_after w m j) (promise_after w m j) c (own_word w m c)
-    (λ e. rw (e, f.suspicions.told m) (more_grows (suspecting g V w m j is can f)))
+row_grown g V w m j is can f c = wedged_grown (roster g) (w.members m) (mask_after w m j) (promise_after w m j) c
+    (own_word w m c) (λ e. rw (e, f.suspicions.told m) (more_grows (suspecting g V w m j is can f)))
     (λ a. rw (f.suspicions.accept m c (rw (← f.views.own m) a)) (promise_rises g V w m j is can f))
 
-own_after : (g : Group) (V : Views) (w : World) (m j : ℕ) → IsGroup g → MayName g V w m j
-    → Faithful g V w
+own_after : (g : Group) (V : Views) (w : World) (m j : ℕ) → IsGroup g → MayName g V w m j → Faithful g V w
     → (i v c : ℕ) → HasGrown (roster g) c (w.past.own i v c) ((suspects g w m j).past.own i v c)
-own_after g V w m j is can f =
-    at₂_case (λ i v r. (c : ℕ) → HasGrown (roster g) c (w.past.own i v c) (r c)) w.past.own m
-    (w.past.view m) (row_after g w m j)
-    (λ i v c. HasGrown_refl (roster g) c (w.past.own i v c)) (row_grown g V w m j is can f)
+own_after g V w m j is can f = at₂_case (λ i v r. (c : ℕ) → HasGrown (roster g) c
+    (w.past.own i v c) (r c)) w.past.own m (w.past.view m)
+    (row_after g w m j) (λ i v c. HasGrown_refl (roster g) c (w.past.own i v c)) (row_grown g V w m j is can f)
 
 -- a suspicion is not what only grows
 pub suspect_past : (g : Group) (w : World) (m j : ℕ) → PastGrew w.past (suspects g w m j).past
@@ -183,8 +159,7 @@ suspect_grew g V w m j is can f = record {
 
 -- ---- what the words tell
 
-counts_suspected : (g : Group) (V : Views) (w : World) (m j : ℕ) → IsGroup g → MayName g V w m j
-    → Faithful g V w
+counts_suspected : (g : Group) (V : Views) (w : World) (m j : ℕ) → IsGroup g → MayName g V w m j → Faithful g V w
     → AreCounts g V w.past.view (suspects g w m j).suspects (suspects g w m j).past.own w.past.count
 counts_suspected g V w m j is can f = record {
   recv = λ a u b l. at₂_case (λ i v r. recv_count (r (recv_column b)) ≡ w.past.count i v b) w.past.own m
@@ -203,8 +178,7 @@ counts_suspected g V w m j is can f = record {
 }
 
 -- the own words of the member, and of the others, in their views
-own_here : (g : Group) (w : World) (m j c : ℕ)
-    → (suspects g w m j).past.own m (w.past.view m) c ≡ row_after g w m j c
+own_here : (g : Group) (w : World) (m j c : ℕ) → (suspects g w m j).past.own m (w.past.view m) c ≡ row_after g w m j c
 own_here g w m j c = ap (λ r. r c) (at₂_read w.past.own m (w.past.view m) (row_after g w m j))
 
 own_there : (g : Group) (w : World) (m j i c : ℕ) → i ≢ m
@@ -217,14 +191,11 @@ one_before : (n j : ℕ) (b : Bool) → n ≢ j → (n == j || b) ≡ true → b
 one_before n j b d e = grind (arith, d, e)
 
 -- whom the members suspect, and what they promise
-suspicions_suspected : (g : Group) (V : Views) (w : World) (m j : ℕ) → IsGroup g
-    → MayName g V w m j → Faithful g V w
-    → AreSuspicions g V w.past.view (suspects g w m j).suspects (suspects g w m j).promise
-    (suspects g w m j).past.own
+suspicions_suspected : (g : Group) (V : Views) (w : World) (m j : ℕ) → IsGroup g → MayName g V w m j → Faithful g V w
+    → AreSuspicions g V w.past.view (suspects g w m j).suspects (suspects g w m j).promise (suspects g w m j).past.own
 suspicions_suspected g V w m j is can f = record {
-  named = at_case (λ i k. (n : ℕ) → has k n ≡ true
-      → (has (V (w.past.view i)) n ≡ true) ⊎ IsNewIn g.opening V (w.past.view i) n) w.suspects m mask
-      (λ i d. f.suspicions.named i) (λ n h. named n h (cases_eq n j));
+  named = at_case (λ i k. (n : ℕ) → has k n ≡ true → (has (V (w.past.view i)) n ≡ true) ⊎ IsNewIn g.opening V
+      (w.past.view i) n) w.suspects m mask (λ i d. f.suspicions.named i) (λ n h. named n h (cases_eq n j));
   inside = at_case (λ i k. k ≢ 0 → has (V (w.past.view i)) i ≡ true) w.suspects m mask
       (λ i d. f.suspicions.inside i) (λ d. in_view g V w m f can.may.inside);
   trusted = at_case (λ i k. has k i ≡ false) w.suspects m mask
@@ -259,8 +230,7 @@ suspicions_suspected g V w m j is can f = record {
     told i (inr d) = own_there g w m j i SUSPECTED_COLUMN d ∙ f.suspicions.told i
         ∙ sym (at_other w.suspects m mask i d)
 
-    final : (i s : ℕ) → (i ≡ m) ⊎ (i ≢ m) → (suspects g w m j).suspects i ≢ 0
-        → has (V (w.past.view i)) s ≡ true
+    final : (i s : ℕ) → (i ≡ m) ⊎ (i ≢ m) → (suspects g w m j).suspects i ≢ 0 → has (V (w.past.view i)) s ≡ true
         → is_final ((suspects g w m j).past.own i (w.past.view i) (recv_column s)) ≡ true
     final i s (inl e) some h =
         let view : has (V (w.past.view m)) s ≡ true = rw (← e) h in
@@ -269,15 +239,13 @@ suspicions_suspected g V w m j is can f = record {
     final i s (inr d) some h = rw (own_there g w m j i (recv_column s) d)
         (f.suspicions.final i s (λ e. some (at_other w.suspects m mask i d ∙ e)) h)
 
-    none : (i : ℕ) → (i ≡ m) ⊎ (i ≢ m) → (suspects g w m j).suspects i ≡ 0
-        → (suspects g w m j).promise i ≡ 0
+    none : (i : ℕ) → (i ≡ m) ⊎ (i ≢ m) → (suspects g w m j).suspects i ≡ 0 → (suspects g w m j).promise i ≡ 0
     none i (inl e) zeroed = absurd (mask_some g V w m j is (known_within g V w m j is can.known f) f
         (sym (at_same w.suspects m mask) ∙ ap (suspects g w m j).suspects (sym e) ∙ zeroed))
     none i (inr d) zeroed = at_other w.promise m promise i d
         ∙ f.suspicions.none i (sym (at_other w.suspects m mask i d) ∙ zeroed)
 
-    least : (i : ℕ) → (i ≡ m) ⊎ (i ≢ m) → (suspects g w m j).suspects i ≢ 0
-        → (suspects g w m j).promise i
+    least : (i : ℕ) → (i ≡ m) ⊎ (i ≢ m) → (suspects g w m j).suspects i ≢ 0 → (suspects g w m j).promise i
         ≡ least_of (without (V (w.past.view i)) ((suspects g w m j).suspects i))
     least i (inl e) some = rw (e, at_same w.suspects m mask, ← f.views.own m) (at_same w.promise m promise)
     least i (inr d) some = rw (at_other w.suspects m mask i d) (at_other w.promise m promise i d
@@ -285,17 +253,14 @@ suspicions_suspected g V w m j is can f = record {
 
     accept : (i c : ℕ) → (i ≡ m) ⊎ (i ≢ m) → is_accept_of (roster g) (V (w.past.view i)) c ≡ true
         → accept_promise ((suspects g w m j).past.own i (w.past.view i) c) ≡ (suspects g w m j).promise i
-    accept i c (inl e) a = rw (e, own_here g w m j c)
-        (wedged_promise (roster g) (w.members m) mask promise c _ (rw (f.views.own m, ← e) a)
-        ∙ sym (at_same w.promise m promise))
+    accept i c (inl e) a = rw (e, own_here g w m j c) (wedged_promise (roster g)
+        (w.members m) mask promise c _ (rw (f.views.own m, ← e) a) ∙ sym (at_same w.promise m promise))
     accept i c (inr d) a = ap accept_promise (own_there g w m j i c d) ∙ f.suspicions.accept i c a
         ∙ sym (at_other w.promise m promise i d)
 
 -- what the members have accepted stays, as the promise rises
-accepts_suspected : (g : Group) (V : Views) (w : World) (m j : ℕ) → IsGroup g → MayName g V w m j
-    → Faithful g V w
-    → AreAccepts g V w.past.view (suspects g w m j).promise w.tag w.value w.pending
-    (suspects g w m j).past.own
+accepts_suspected : (g : Group) (V : Views) (w : World) (m j : ℕ) → IsGroup g → MayName g V w m j → Faithful g V w
+    → AreAccepts g V w.past.view (suspects g w m j).promise w.tag w.value w.pending (suspects g w m j).past.own
 accepts_suspected g V w m j is can f = record {
   tagged = λ i c a. tagged i c (cases_eq i m) a ∙ f.accepts.tagged i c a;
   valued = λ i c a. valued i c (cases_eq i m) a ∙ f.accepts.valued i c a;
@@ -324,8 +289,7 @@ accepts_suspected g V w m j is can f = record {
     valued i c (inr d) a = ap accept_value (own_there g w m j i c d)
 
 -- the words tell as before
-words_suspected : (g : Group) (V : Views) (w : World) (m j : ℕ) → Faithful g V w
-    → WordsTell g V (suspects g w m j)
+words_suspected : (g : Group) (V : Views) (w : World) (m j : ℕ) → Faithful g V w → WordsTell g V (suspects g w m j)
 words_suspected g V w m j f = record {
   own = at₂_case (λ i v r. (c : ℕ) → Tells g V new i v c (r c)) w.past.own m (w.past.view m)
       (row_after g w m j) (λ i v c. later i v c (w.past.own i v c) (f.words.own i v c))
@@ -353,8 +317,7 @@ words_suspected g V w m j f = record {
         subst (λ (k : ℕ). Tells g V new m (w.past.view m) k (recv_word (recv_count (own_word w m c)) true))
         (sym there) (tells_recv g V new m (w.past.view m) s (recv_word (recv_count (own_word w m c)) true)
         within (omega (arith, told.recv s within there))))
-        (λ a. tells_accept g V new m (w.past.view m) c _ (accept_within (roster g) (w.members m) c a))
-        told
+        (λ a. tells_accept g V new m (w.past.view m) c _ (accept_within (roster g) (w.members m) c a)) told
 
 -- and the members stay faithful
 pub suspect_keeps : (g : Group) (V : Views) (w : World) (m j : ℕ) → IsGroup g → MayName g V w m j
@@ -370,9 +333,8 @@ suspect_keeps g V w m j is can f = record {
   words = words_suspected g V w m j f;
   logs = f.logs;
   delivered = record {
-    held = λ a i h. rw (plain_kept w.past.own (roster g) (w.members m) (mask_after w m j)
-        (promise_after w m j) m (w.past.view m) i (w.past.view a) RECEIVED_COLUMN (omega arith)
-        (omega arith)) (f.delivered.held a i h);
+    held = λ a i h. rw (plain_kept w.past.own (roster g) (w.members m) (mask_after w m j) (promise_after w m j) m
+        (w.past.view m) i (w.past.view a) RECEIVED_COLUMN (omega arith) (omega arith)) (f.delivered.held a i h);
     none = f.delivered.none;
   };
   fresh = fresh_written g V w.past.view w.past.own w.past.count m (w.past.view m) (row_after g w m j)
@@ -382,9 +344,8 @@ suspect_keeps g V w m j is can f = record {
       (own_after g V w m j is can f) f.old;
   form = record {
     in_own = at₂_case (λ i v r. (c : ℕ) → IsInForm (roster g) c (r c)) w.past.own m (w.past.view m)
-        (row_after g w m j) f.form.in_own
-        (λ c. wedged_in_form (roster g) (w.members m) (mask_after w m j) (promise_after w m j) c
-        (own_word w m c) (in_roster_small (roster g) (mask_after w m j) (more_named s))
+        (row_after g w m j) f.form.in_own (λ c. wedged_in_form (roster g) (w.members m) (mask_after w m j)
+        (promise_after w m j) c (own_word w m c) (in_roster_small (roster g) (mask_after w m j) (more_named s))
         (left_within s) (f.form.in_own m (w.past.view m) c));
     in_table = f.form.in_table;
     in_seen = f.form.in_seen;
@@ -432,8 +393,7 @@ tells_suspicion g V w i v c word f grown = record {
 -- all words do
 pub suspicions_told : (g : Group) (V : Views) (w : World) → Faithful g V w → SuspicionsTold g w
 suspicions_told g V w f = record {
-  own = λ i v c. tells_suspicion g V w i v c (w.past.own i v c) f
-      (HasGrown_refl (roster g) c (w.past.own i v c));
+  own = λ i v c. tells_suspicion g V w i v c (w.past.own i v c) f (HasGrown_refl (roster g) c (w.past.own i v c));
   table = λ v j i c. tells_suspicion g V w i v c _ f (f.old.in_table v j i c);
   seen = λ m i c d. tells_suspicion g V w i (w.past.view m) c (w.seen m i c) f
       (HasGrown_trans (roster g) c (w.seen m i c) (w.table (w.past.view m) m i c) _ (f.old.in_seen m i c d)
@@ -445,8 +405,7 @@ suspicions_told g V w f = record {
 -- a member that suspects somebody waits for the least that it doesn't suspect
 pub promise_least : (g : Group) (V : Views) (w : World) (m : ℕ) → IsGroup g → Faithful g V w
     → w.suspects m ≢ 0 → IsLeastOf (unsuspected_of w m) (w.promise m)
-promise_least g V w m is f some =
-    rw (f.suspicions.least m some, ← f.views.own m)
+promise_least g V w m is f some = rw (f.suspicions.least m some, ← f.views.own m)
     (least_of_is (unsuspected_of w m) m (without_small (w.members m) (w.suspects m))
     (has_without_mask (w.members m) (w.suspects m) m (members_small g V w m is f)
     ∙ grind (arith, ap (λ k. has k m) (f.views.own m) ∙ f.suspicions.inside m some, f.suspicions.trusted m)))

@@ -1,45 +1,28 @@
 -- A member logs a vote, accepts what it has voted for, and commits it: the members stay faithful.
+use Rattle.std.{specs.Prelude.unwrap_or, proofs.lemmas.Bool.cases_eq}
 use Rattle.std.proofs.Common.{Bool, List, None, Some, [], ap, arith, false, inl, inr, le_refl, refl, slice_index, subst, sym, true, ℕ, ◌++◌, ◌+◌, ◌<◌, ◌^◌, ◌∙◌, ◌∷◌, ◌≡◌, ◌≢◌, ◌≤◌, ◌⊎◌}
-use Rattle.std.specs.Prelude.{unwrap_or}
-use Rattle.std.proofs.lemmas.Bool.{cases_eq}
-use Rattle.dr_entry.specs.declared.record.Value.{Value}
-use Rattle.dr_entry.specs.declared.record.Vote.{Vote}
-use Rattle.dr_history.specs.History.{IsPrefixOf}
-use Rattle.dr_history.specs.Members.{has}
-use Rattle.dr_machine.specs.Effects.{accepts, commits, logs_vote, vote_for}
-use Rattle.dr_machine.specs.Group.{Group, IsGroup, roster}
-use Rattle.dr_machine.specs.Guards.{CanLogVote, IsInView, IsToAccept, IsToPropose}
-use Rattle.dr_machine.specs.Run.{PastGrew, WordsGrew}
-use Rattle.dr_machine.specs.World.{Past, World, no_vote, own_word, shown}
-use Rattle.dr_machine.specs.Writes.{at}
-use Rattle.dr_faithful.proofs.Beside.{in_view}
-use Rattle.dr_faithful.proofs.Suspicions.{named_in_roster}
-use Rattle.dr_faithful.proofs.Acts.{beside_keeps}
-use Rattle.dr_faithful.proofs.OwnWords.{closed_written, fresh_written, old_later}
-use Rattle.dr_faithful.proofs.Pasts.{past_same, prefix_refl, same_past, tells_accept, tells_later, words_later}
-use Rattle.dr_faithful.proofs.Shown.{shown_own, shown_seen}
-use Rattle.dr_faithful.proofs.Writes.{at_case, at_other, at_same, at₂_case, at₂_read}
+use Rattle.dr_entry.specs.declared.record.{Value.Value, Vote.Vote}
+use Rattle.dr_history.specs.{History.IsPrefixOf, Members.has}
+use Rattle.dr_machine.specs.{Effects.{accepts, commits, logs_vote, vote_for}, Group.{Group, IsGroup, roster}}
+use Rattle.dr_machine.specs.{Guards.{CanLogVote, IsInView, IsToAccept, IsToPropose}, Run.{PastGrew, WordsGrew}}
+use Rattle.dr_machine.specs.{World.{Past, World, no_vote, own_word, shown}, Writes.at}
 use Rattle.dr_faithful.specs.Faithful.{AreAccepts, AreCounts, AreSuspicions, Faithful, IsWaiting}
-use Rattle.dr_faithful.specs.Tells.{Tells, Views, WordsTell}
-use Rattle.dr_words.proofs.Masks.{in_roster_small}
-use Rattle.dr_words.proofs.Order.{HasGrown_refl}
+use Rattle.dr_faithful.{specs.Tells.{Tells, Views, WordsTell}, proofs.{Acts.beside_keeps, Beside.in_view}}
+use Rattle.dr_faithful.proofs.{OwnWords.{closed_written, fresh_written, old_later}, Suspicions.named_in_roster}
+use Rattle.dr_faithful.proofs.Pasts.{past_same, prefix_refl, same_past, tells_accept, tells_later, words_later}
+use Rattle.dr_faithful.proofs.{Shown.{shown_own, shown_seen}, Writes.{at_case, at_other, at_same, at₂_case, at₂_read}}
+use Rattle.dr_words.specs.{Accepts.{Shows, part_of, promise_of, tag_of}, Changes.{IsFirstValue, IsLeastReceived}}
+use Rattle.dr_words.specs.{Columns.{leavers_column, recv_column, trim_column}, Rewrites.{accepted_word, is_accept_of}}
+use Rattle.dr_words.specs.{Form.IsInForm, Masks.without}
+use Rattle.dr_words.specs.{Grown.HasGrown, declared.column.TheConstants.{RECEIVED_COLUMN, SUSPECTED_COLUMN}}
+use Rattle.dr_words.{specs.Packing.{accept_promise, accept_tag, accept_value}, proofs.Order.HasGrown_refl}
+use Rattle.dr_words.proofs.{Accepts.{FitsWords, accept_within, leavers_accept}, Masks.in_roster_small}
 use Rattle.dr_words.proofs.Rewrites.{accepted_by, accepted_grown, accepted_in_form, accepted_promise, accepted_rest, accepted_tag, accepted_value}
-use Rattle.dr_words.proofs.Accepts.{FitsWords, accept_within, leavers_accept}
-use Rattle.dr_words.specs.Accepts.{Shows, part_of, promise_of, tag_of}
-use Rattle.dr_words.specs.Changes.{IsFirstValue, IsLeastReceived}
-use Rattle.dr_words.specs.Columns.{leavers_column, recv_column, trim_column}
-use Rattle.dr_words.specs.Form.{IsInForm}
-use Rattle.dr_words.specs.Grown.{HasGrown}
-use Rattle.dr_words.specs.Masks.{without}
-use Rattle.dr_words.specs.Packing.{accept_promise, accept_tag, accept_value}
-use Rattle.dr_words.specs.Rewrites.{accepted_word, is_accept_of}
-use Rattle.dr_words.specs.declared.column.TheConstants.{RECEIVED_COLUMN, SUSPECTED_COLUMN}
 
 -- ---- a vote
 
 -- votes only grow
-pub vote_past : (g : Group) (w : World) (m : ℕ) (v : Value)
-    → PastGrew w.past (logs_vote g w m v).past
+pub vote_past : (g : Group) (w : World) (m : ℕ) (v : Value) → PastGrew w.past (logs_vote g w m v).past
 vote_past g w m v =
     let same = past_same w.past in
     let one : List Vote = vote_for g w m v ∷ [] in record {
@@ -60,8 +43,7 @@ pub own_promise : (g : Group) (V : Views) (w : World) (m : ℕ) → Faithful g V
 own_promise g V w m f = ap accept_promise (shown_own w m m (leavers_column (roster g)) refl)
     ∙ f.suspicions.accept m (leavers_column (roster g)) (leavers_accept (roster g) (V (w.past.view m)))
 
-pub own_tag : (g : Group) (V : Views) (w : World) (m : ℕ) → Faithful g V w
-    → tag_of (roster g) (shown w m) m ≡ w.tag m
+pub own_tag : (g : Group) (V : Views) (w : World) (m : ℕ) → Faithful g V w → tag_of (roster g) (shown w m) m ≡ w.tag m
 own_tag g V w m f = ap accept_tag (shown_own w m m (leavers_column (roster g)) refl)
     ∙ f.accepts.tagged m (leavers_column (roster g)) (leavers_accept (roster g) (V (w.past.view m)))
 
@@ -83,14 +65,7 @@ not_yet g V w m v can f = by can.allowed
     low = f.accepts.low m
 
     by : IsToPropose g w m v ⊎ IsToAccept g w m v → w.tag m ≤ w.promise m
-    by (inl t) = omega (
-      arith,
-      t.0.unproposed,
-      t.0.promised,
-      own_promise g V w m f,
-      own_tag g V w m f,
-      low,
-    )
+    by (inl t) = omega (arith, t.0.unproposed, t.0.promised, own_promise g V w m f, own_tag g V w m f, low)
     by (inr t) = omega (arith, t.0.unaccepted, own_promise g V w m f, own_tag g V w m f, low)
 
 -- the leavers and the trims of the value that it votes for
@@ -109,13 +84,11 @@ shown_trims g V w m i v f shows s = by (has (w.members m) s) refl
     by false h = rw (shows.others s h) (omega arith)
 
 first_trims : (g : Group) (V : Views) (w : World) (m : ℕ) (v : Value) → Faithful g V w
-    → IsFirstValue (shown w m) (w.members m) (w.suspects m) v → (s : ℕ)
-    → slice_index v.trim s < 2 ^ 32
+    → IsFirstValue (shown w m) (w.members m) (w.suspects m) v → (s : ℕ) → slice_index v.trim s < 2 ^ 32
 first_trims g V w m v f first s = by (has (w.members m) s) refl
   where
-    least : has (w.members m) s ≡ true
-        → IsLeastReceived (shown w m) (without (w.members m) (w.suspects m)) s (slice_index v.trim s)
-        → slice_index v.trim s < 2 ^ 32
+    least : has (w.members m) s ≡ true → IsLeastReceived (shown w m) (without (w.members m)
+        (w.suspects m)) s (slice_index v.trim s) → slice_index v.trim s < 2 ^ 32
     least h t = omega (
       arith,
       t.found.2,
@@ -176,8 +149,7 @@ vote_keeps g V w m v is can f = record {
 
     waits : (x : Vote) → Some (vote_for g w m v) ≡ Some x → IsWaiting g (w.promise m) (w.tag m) x
     waits x e =
-        let same : vote_for g w m v ≡ x = cc e in
-        subst (λ y. IsWaiting g (w.promise m) (w.tag m) y) same this
+        let same : vote_for g w m v ≡ x = cc e in subst (λ y. IsWaiting g (w.promise m) (w.tag m) y) same this
 
 -- ---- the row
 
@@ -237,24 +209,20 @@ row_grown : (g : Group) (V : Views) (w : World) (m c : ℕ) (x : Vote) → w.pen
 row_grown g V w m c x e f =
     let waits = is_waiting g V w m x e f in
     accepted_grown (roster g) (w.members m) ((vote_waiting w m).ballot + 1) (vote_waiting w m).value c
-    (own_word w m c)
-    (λ a. omega (arith, waits.ballot, waits.above, f.accepts.tagged m c (rw (← f.views.own m) a)))
+    (own_word w m c) (λ a. omega (arith, waits.ballot, waits.above, f.accepts.tagged m c (rw (← f.views.own m) a)))
 
-own_after : (g : Group) (V : Views) (w : World) (m : ℕ) (x : Vote) → w.pending m ≡ Some x
-    → Faithful g V w
+own_after : (g : Group) (V : Views) (w : World) (m : ℕ) (x : Vote) → w.pending m ≡ Some x → Faithful g V w
     → (i v c : ℕ) → HasGrown (roster g) c (w.past.own i v c) ((accepts g w m).past.own i v c)
-own_after g V w m x e f =
-    at₂_case (λ i v r. (c : ℕ) → HasGrown (roster g) c (w.past.own i v c) (r c)) w.past.own m
+own_after g V w m x e f = at₂_case (λ i v r. (c : ℕ) → HasGrown (roster g) c (w.past.own i v c) (r c)) w.past.own m
     (w.past.view m) (accepted_row g w m) (λ i v c. HasGrown_refl (roster g) c (w.past.own i v c))
     (λ c. row_grown g V w m c x e f)
 
 -- columns before the accept words are as before
 pub plain_after : (g : Group) (w : World) (m i v c : ℕ) → c < recv_column (roster g)
     → (accepts g w m).past.own i v c ≡ w.past.own i v c
-plain_after g w m i v c l =
-    at₂_case (λ i v r. r c ≡ w.past.own i v c) w.past.own m (w.past.view m) (accepted_row g w m)
-    (λ i v. refl) (accepted_rest (roster g) (w.members m) ((vote_waiting w m).ballot + 1)
-    (vote_waiting w m).value c (own_word w m c) (inl l)) i v
+plain_after g w m i v c l = at₂_case (λ i v r. r c ≡ w.past.own i v c) w.past.own m
+    (w.past.view m) (accepted_row g w m) (λ i v. refl) (accepted_rest (roster g)
+    (w.members m) ((vote_waiting w m).ballot + 1) (vote_waiting w m).value c (own_word w m c) (inl l)) i v
 
 -- and so are the words of others
 others_after : (g : Group) (w : World) (m i c : ℕ) → i ≢ m
@@ -262,8 +230,7 @@ others_after : (g : Group) (w : World) (m i c : ℕ) → i ≢ m
 others_after g w m i c d = ap (λ r. r (w.past.view i) c)
     (at_other w.past.own m (at (w.past.own m) (w.past.view m) (accepted_row g w m)) i d)
 
-mine_after : (g : Group) (w : World) (m c : ℕ)
-    → (accepts g w m).past.own m (w.past.view m) c ≡ accepted_row g w m c
+mine_after : (g : Group) (w : World) (m c : ℕ) → (accepts g w m).past.own m (w.past.view m) c ≡ accepted_row g w m c
 mine_after g w m c = ap (λ r. r c) (at₂_read w.past.own m (w.past.view m) (accepted_row g w m))
 
 -- an acceptance is not what only grows
@@ -282,9 +249,8 @@ accept_grew g V w m x e f = record {
 -- ---- what the words tell
 
 -- whom a member suspects is told as before
-suspicions_after : (g : Group) (V : Views) (w : World) (m : ℕ) (x : Vote) → IsGroup g
-    → w.pending m ≡ Some x → Faithful g V w
-    → AreSuspicions g V w.past.view w.suspects w.promise (accepts g w m).past.own
+suspicions_after : (g : Group) (V : Views) (w : World) (m : ℕ) (x : Vote) → IsGroup g → w.pending m ≡ Some x
+    → Faithful g V w → AreSuspicions g V w.past.view w.suspects w.promise (accepts g w m).past.own
 suspicions_after g V w m x is e f = record {
   named = f.suspicions.named;
   inside = f.suspicions.inside;
@@ -299,14 +265,12 @@ suspicions_after g V w m x is e f = record {
   where
     accept : (i c : ℕ) → (i ≡ m) ⊎ (i ≢ m) → is_accept_of (roster g) (V (w.past.view i)) c ≡ true
         → accept_promise ((accepts g w m).past.own i (w.past.view i) c) ≡ accept_promise (own_word w i c)
-    accept i c (inl q) a = rw (q, mine_after g w m c)
-        (row_promise g V w m c x is e f (rw (f.views.own m, ← q) a))
+    accept i c (inl q) a = rw (q, mine_after g w m c) (row_promise g V w m c x is e f (rw (f.views.own m, ← q) a))
     accept i c (inr d) a = ap accept_promise (others_after g w m i c d)
 
 -- what the members have accepted
-accepts_after : (g : Group) (V : Views) (w : World) (m : ℕ) (x : Vote) → IsGroup g
-    → w.pending m ≡ Some x → Faithful g V w
-    → AreAccepts g V w.past.view w.promise (accepts g w m).tag (accepts g w m).value
+accepts_after : (g : Group) (V : Views) (w : World) (m : ℕ) (x : Vote) → IsGroup g → w.pending m ≡ Some x
+    → Faithful g V w → AreAccepts g V w.past.view w.promise (accepts g w m).tag (accepts g w m).value
     (accepts g w m).pending (accepts g w m).past.own
 accepts_after g V w m x is e f = record {
   tagged = λ i c a. tagged i c (cases_eq i m) a;
@@ -318,17 +282,14 @@ accepts_after g V w m x is e f = record {
   where
     tagged : (i c : ℕ) → (i ≡ m) ⊎ (i ≢ m) → is_accept_of (roster g) (V (w.past.view i)) c ≡ true
         → accept_tag ((accepts g w m).past.own i (w.past.view i) c) ≡ (accepts g w m).tag i
-    tagged i c (inl q) a = rw (q, mine_after g w m c)
-        (row_tag g V w m c x is e f (rw (f.views.own m, ← q) a)
+    tagged i c (inl q) a = rw (q, mine_after g w m c) (row_tag g V w m c x is e f (rw (f.views.own m, ← q) a)
         ∙ sym (at_same w.tag m ((vote_waiting w m).ballot + 1)))
     tagged i c (inr d) a = ap accept_tag (others_after g w m i c d) ∙ f.accepts.tagged i c a
         ∙ sym (at_other w.tag m ((vote_waiting w m).ballot + 1) i d)
 
     valued : (i c : ℕ) → (i ≡ m) ⊎ (i ≢ m) → is_accept_of (roster g) (V (w.past.view i)) c ≡ true
-        → accept_value ((accepts g w m).past.own i (w.past.view i) c)
-        ≡ part_of (roster g) ((accepts g w m).value i) c
-    valued i c (inl q) a = rw (q, mine_after g w m c)
-        (row_value g V w m c x is e f (rw (f.views.own m, ← q) a)
+        → accept_value ((accepts g w m).past.own i (w.past.view i) c) ≡ part_of (roster g) ((accepts g w m).value i) c
+    valued i c (inl q) a = rw (q, mine_after g w m c) (row_value g V w m c x is e f (rw (f.views.own m, ← q) a)
         ∙ ap (λ y. part_of (roster g) y c) (sym (at_same w.value m (vote_waiting w m).value)))
     valued i c (inr d) a = ap accept_value (others_after g w m i c d) ∙ f.accepts.valued i c a
         ∙ ap (λ y. part_of (roster g) y c) (sym (at_other w.value m (vote_waiting w m).value i d))
@@ -354,8 +315,7 @@ counts_after g V w m f = record {
 }
 
 -- the words tell as before
-words_after : (g : Group) (V : Views) (w : World) (m : ℕ) → Faithful g V w
-    → WordsTell g V (accepts g w m)
+words_after : (g : Group) (V : Views) (w : World) (m : ℕ) → Faithful g V w → WordsTell g V (accepts g w m)
 words_after g V w m f = record {
   own = at₂_case (λ i v r. (c : ℕ) → Tells g V new i v c (r c)) w.past.own m (w.past.view m)
       (accepted_row g w m) (λ i v c. later i v c (w.past.own i v c) (f.words.own i v c))
@@ -390,21 +350,18 @@ accept_keeps g V w m x is inside e f = record {
   words = words_after g V w m f;
   logs = f.logs;
   delivered = record {
-    held = λ a i h. rw (plain_after g w m i (w.past.view a) RECEIVED_COLUMN (omega arith))
-        (f.delivered.held a i h);
+    held = λ a i h. rw (plain_after g w m i (w.past.view a) RECEIVED_COLUMN (omega arith)) (f.delivered.held a i h);
     none = f.delivered.none;
   };
   fresh = fresh_written g V w.past.view w.past.own w.past.count m (w.past.view m) (accepted_row g w m)
       (le_refl (w.past.view m)) (in_view g V w m f inside) f.fresh;
   closed = closed_written g V w.past.view w.past.own m (accepted_row g w m) f.closed;
-  old = old_later g w.past.view w.past.own (accepts g w m).past.own w.table w.seen
-      (own_after g V w m x e f) f.old;
+  old = old_later g w.past.view w.past.own (accepts g w m).past.own w.table w.seen (own_after g V w m x e f) f.old;
   form = record {
     in_own = at₂_case (λ i v r. (c : ℕ) → IsInForm (roster g) c (r c)) w.past.own m (w.past.view m)
         (accepted_row g w m) f.form.in_own
         (λ c. accepted_in_form (roster g) (w.members m) ((vote_waiting w m).ballot + 1)
-        (vote_waiting w m).value c (own_word w m c) (fits g V w m x is e f)
-        (f.form.in_own m (w.past.view m) c));
+        (vote_waiting w m).value c (own_word w m c) (fits g V w m x is e f) (f.form.in_own m (w.past.view m) c));
     in_table = f.form.in_table;
     in_seen = f.form.in_seen;
   };
@@ -413,6 +370,5 @@ accept_keeps g V w m x is inside e f = record {
 -- ---- a commit
 
 -- and nothing of this changes where a value is committed
-pub commit_keeps : (g : Group) (V : Views) (w : World) (m : ℕ) → Faithful g V w
-    → Faithful g V (commits w m)
+pub commit_keeps : (g : Group) (V : Views) (w : World) (m : ℕ) → Faithful g V w → Faithful g V (commits w m)
 commit_keeps g V w m f = beside_keeps g V w w.turns w.end (commits w m).committed f

@@ -1,12 +1,10 @@
 -- With which value each view of an age ends, and what it is for such values to be the ones that are chosen.
 use Rattle.std.specs.Prelude.{◌≡◌, ◌&&◌, ℕ, zero, suc, not, if◌then◌else◌, slice_index, Some}
 use Rattle.dr_entry.specs.declared.record.Value.{Value}
-use Rattle.dr_history.specs.Members.{has}
-use Rattle.dr_history.specs.declared.opening.Opening.{Opening}
+use Rattle.dr_history.specs.{Members.has, declared.opening.Opening.Opening}
 use Rattle.dr_history_laws.specs.Courses.{ViewEnds, members_in}
 use Rattle.dr_words.specs.Masks.{mask_of}
-use Rattle.dr_machine.specs.Group.{Group}
-use Rattle.dr_machine.specs.World.{World}
+use Rattle.dr_machine.specs.{Group.Group, World.World}
 use Rattle.dr_faithful.specs.Tells.{Views}
 
 -- the value with which each view ends, by its number. Of a view that has not ended it says nothing

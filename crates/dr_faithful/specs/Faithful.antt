@@ -2,27 +2,15 @@
 -- its sender put it.
 -- V gives the members of each view, as a mask, by the view's number.
 use Rattle.std.specs.Prelude.{◌≡◌, ◌≢◌, ◌⊎◌, ℕ, ◌+◌, ◌^◌, ◌<◌, ◌≤◌, true, false, List, length, map, slice_index, Option, Some}
-use Rattle.dr_entry.specs.declared.entry.Entry.{Entry}
-use Rattle.dr_entry.specs.declared.entry.Item.{Item}
-use Rattle.dr_entry.specs.declared.record.Value.{Value}
-use Rattle.dr_entry.specs.declared.record.Vote.{Vote}
-use Rattle.dr_history.specs.Order.{IsLateIn, IsNewIn, MayJoin, messages_from}
-use Rattle.dr_history.specs.Members.{has, members_of}
-use Rattle.dr_history.specs.Places.{front_of}
-use Rattle.dr_history.specs.History.{IsPrefixOf, Sent, last_view, messages_of, up_to_view}
-use Rattle.dr_words.specs.Rewrites.{is_accept_of}
+use Rattle.dr_entry.specs.{declared.entry.{Entry.Entry, Item.Item}, declared.record.{Value.Value, Vote.Vote}}
+use Rattle.dr_history.specs.{History.{IsPrefixOf, Sent, last_view, messages_of, up_to_view}, Places.front_of}
+use Rattle.dr_history.specs.{Members.{has, members_of}, Order.{IsLateIn, IsNewIn, MayJoin, messages_from}}
+use Rattle.dr_words.specs.{Accepts.part_of, Packing.{accept_promise, accept_tag, accept_value, recv_count, is_final}}
+use Rattle.dr_words.specs.{Columns.recv_column, Masks.{least_of, next_members, without}, Rewrites.is_accept_of}
+use Rattle.dr_words.specs.{Form.IsInForm, Grown.HasGrown}
 use Rattle.dr_words.specs.declared.column.TheConstants.{BEAT_COLUMN, SUSPECTED_COLUMN, RECEIVED_COLUMN}
-use Rattle.dr_words.specs.Accepts.{part_of}
-use Rattle.dr_words.specs.Columns.{recv_column}
-use Rattle.dr_words.specs.Form.{IsInForm}
-use Rattle.dr_words.specs.Grown.{HasGrown}
-use Rattle.dr_words.specs.Masks.{least_of, next_members, without}
-use Rattle.dr_words.specs.Packing.{accept_promise, accept_tag, accept_value, recv_count, is_final}
-use Rattle.dr_machine.specs.Effects.{finished_history}
-use Rattle.dr_machine.specs.Guards.{CanFinish, CanJoin}
-use Rattle.dr_machine.specs.Group.{Group, IsPresent, roster}
-use Rattle.dr_machine.specs.Sending.{IsPut}
-use Rattle.dr_machine.specs.World.{Table, World}
+use Rattle.dr_machine.specs.{Effects.finished_history, Group.{Group, IsPresent, roster}, Guards.{CanFinish, CanJoin}}
+use Rattle.dr_machine.specs.{Sending.IsPut, World.{Table, World}}
 use Rattle.dr_faithful.specs.Tells.{Views, WordsTell, item_sent}
 
 -- a number for each member, view, and column or sender: own words, and counts

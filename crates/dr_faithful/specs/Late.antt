@@ -1,11 +1,8 @@
 -- What is true of words that are on their way: what they told when they were sent they tell still.
 -- V gives the members of each view, as a mask, by the view's number.
 use Rattle.std.specs.Prelude.{ℕ, ◌≤◌, List}
-use Rattle.dr_words.specs.Form.{IsInForm}
-use Rattle.dr_words.specs.Grown.{HasGrown}
-use Rattle.dr_machine.specs.Group.{Group, roster}
-use Rattle.dr_machine.specs.Run.{MayArrive, WasOwn}
-use Rattle.dr_machine.specs.World.{World}
+use Rattle.dr_words.specs.{Form.IsInForm, Grown.HasGrown}
+use Rattle.dr_machine.specs.{Group.{Group, roster}, Run.{MayArrive, WasOwn}, World.World}
 use Rattle.dr_faithful.specs.Tells.{Tells, Views}
 
 -- each word that was an own one at some of these moments is as true of its owner as the own word is by now

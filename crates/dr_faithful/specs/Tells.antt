@@ -1,23 +1,16 @@
 -- What a word tells of the owner of its row.
 -- V gives the members of each view, as a mask, by the view's number.
 use Rattle.std.specs.Prelude.{◌≡◌, ◌≢◌, ℕ, ◌+◌, ◌%◌, ◌<◌, ◌≤◌, ◌⊎◌, true, List, length, map, take, slice_index, slice_index_or, []}
-use Rattle.dr_entry.specs.declared.entry.Entry.{Entry}
+use Rattle.dr_entry.specs.declared.{end.SentItem.{SentItem, TheVariants.{Null, Index}}, entry.Entry.Entry}
 use Rattle.dr_entry.specs.declared.entry.Item.{Item}
 use Rattle.dr_entry.specs.declared.entry.Item.TheVariants as items
-use Rattle.dr_entry.specs.declared.end.SentItem.{SentItem}
-use Rattle.dr_entry.specs.declared.end.SentItem.TheVariants.{Null, Index}
-use Rattle.dr_history.specs.Members.{has, members_of}
+use Rattle.dr_history.specs.{History.{Sent, messages_of}, Members.{has, members_of}, Order.messages_from}
 use Rattle.dr_history.specs.Places.{front_of}
-use Rattle.dr_history.specs.History.{Sent, messages_of}
-use Rattle.dr_history.specs.Order.{messages_from}
 use Rattle.dr_ring.specs.Pieces.{pieces}
-use Rattle.dr_words.specs.Rewrites.{is_accept_of}
+use Rattle.dr_words.specs.{Columns.{recv_column, head_column}, Masks.IsPartOf}
+use Rattle.dr_words.specs.{Packing.{accept_promise, is_final, ring_word, recv_count}, Rewrites.is_accept_of}
 use Rattle.dr_words.specs.declared.column.TheConstants.{BEAT_COLUMN, SUSPECTED_COLUMN, RECEIVED_COLUMN, LOGGED_COLUMN, DONE_COLUMN, PIECES}
-use Rattle.dr_words.specs.Columns.{recv_column, head_column}
-use Rattle.dr_words.specs.Masks.{IsPartOf}
-use Rattle.dr_words.specs.Packing.{accept_promise, is_final, ring_word, recv_count}
-use Rattle.dr_machine.specs.Group.{Group, roster}
-use Rattle.dr_machine.specs.World.{Past, World, own_word}
+use Rattle.dr_machine.specs.{Group.{Group, roster}, World.{Past, World, own_word}}
 
 -- the members of each view, as a mask, by the view's number
 abbrev pub Views : Type 0

@@ -1,14 +1,10 @@
 //! Laws of the worlds whose members are faithful.
 ghost use Rattle.std.specs.Prelude.{◌≡◌, ◌≢◌, ◌<◌, true, ℕ, List, [], ◌∷◌};
 ghost use Rattle.dr_history.specs.Members.{has};
-ghost use Rattle.dr_machine.specs.declared.event.Event.{Event};
-ghost use Rattle.dr_machine.specs.Group.{Group, IsGroup, roster};
-ghost use Rattle.dr_machine.specs.Guards.{unsuspected_of};
-ghost use Rattle.dr_machine.specs.World.{Table, World, opening_world};
-ghost use Rattle.dr_machine.specs.Acts.{Guard, effect};
+ghost use Rattle.dr_machine.specs.{Acts.{Guard, effect}, Group.{Group, IsGroup, roster}, Guards.unsuspected_of};
 ghost use Rattle.dr_machine.specs.Run.{HaveArrived, NoLaterItem, PastGrew, WordsGrew, with_table};
-ghost use Rattle.dr_faithful.specs.Faithful.{AllGoOn, Faithful, HasNoOutsiders};
-ghost use Rattle.dr_faithful.specs.Late.{AreBacked};
+ghost use Rattle.dr_machine.specs.{World.{Table, World, opening_world}, declared.event.Event.Event};
+ghost use Rattle.dr_faithful.specs.{Faithful.{AllGoOn, Faithful, HasNoOutsiders}, Late.AreBacked};
 ghost use Rattle.dr_faithful.specs.Tells.{SuspicionsTold, Views};
 ghost use Rattle.dr_words.specs.Masks.{IsLeastOf};
 

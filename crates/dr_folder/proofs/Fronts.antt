@@ -2,10 +2,7 @@
 use Rattle.std.proofs.Common.{◌≡◌, inr, sym, subst, ℕ, Bool, false, List, drop}
 use Rattle.dr_entry.specs.declared.record.Record.{Record}
 use Rattle.dr_log_bytes.specs.declared.block.Block.TheVariants as found
-use Rattle.dr_log_bytes.specs.Blocks.{IsBlockAt}
-use Rattle.dr_log_bytes.specs.Content.{IsPlaced, OnLog}
-use Rattle.dr_log_bytes.specs.Grammar.{IsBroken}
-use Rattle.dr_log_bytes.specs.Parsed.{IsParsed}
+use Rattle.dr_log_bytes.specs.{Blocks.IsBlockAt, Content.{IsPlaced, OnLog}, Grammar.IsBroken, Parsed.IsParsed}
 use Rattle.dr_log_bytes.proofs.Reading.{closed_read, misplaced_breaks, no_record}
 use Rattle.dr_folder.specs.Surveys.{HasClosedLog, HasLog}
 
@@ -42,10 +39,9 @@ broken_front bytes c at is broken = inr (record {
 -- the same of what is told of it
 told_front : (bytes : List ℕ) (c told : OnLog) (at place : ℕ) (closed : Bool) → IsParsed bytes c at
     → IsBroken c (drop at bytes) → told ≡ c → place ≡ at → closed ≡ false → HasLog bytes told place closed
-told_front bytes c told at place closed is broken all here shut =
-    subst (λ (b : Bool). HasLog bytes told place b) (sym shut)
-    (subst (λ (k : ℕ). HasLog bytes told k false) (sym here)
-    (subst (λ (d : OnLog). HasLog bytes d at false) (sym all) (broken_front bytes c at is broken)))
+told_front bytes c told at place closed is broken all here shut = subst (λ (b : Bool). HasLog bytes told place b)
+    (sym shut) (subst (λ (k : ℕ). HasLog bytes told k false)
+    (sym here) (subst (λ (d : OnLog). HasLog bytes d at false) (sym all) (broken_front bytes c at is broken)))
 
 -- so at what is no gate, and at a misplaced record
 pub gateless_front : (bytes : List ℕ) (c told : OnLog) (at place : ℕ) (closed : Bool) → IsParsed bytes c at

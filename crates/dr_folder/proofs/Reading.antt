@@ -1,19 +1,16 @@
 -- What disks with the bytes of files read as.
-use Rattle.std.proofs.Common.{◌≡◌, ◌∙◌, inl, inr, sym, ap, subst, ℕ, ◌<◌, List, not}
 use Rattle.std.specs.Prelude.{IsSomeAnd, None, Option, Some, is_some}
+use Rattle.std.proofs.Common.{◌≡◌, ◌∙◌, inl, inr, sym, ap, subst, ℕ, ◌<◌, List, not}
 use Rattle.dr_ages.specs.declared.stop.Stop.TheVariants as stops
 use Rattle.dr_ages.specs.Refused.{AreRead, IsFirstDamaged, IsRefusal}
 use Rattle.dr_disk.specs.Disk.{Told, content_of}
 use Rattle.dr_history.proofs.Bits.{has_zero}
-use Rattle.dr_folder.specs.Held.{HoldFiles, IsDiskOf}
-use Rattle.dr_folder.specs.declared.file.LogFile.{LogFile}
-use Rattle.dr_folder.specs.declared.file.LogFile.TheVariants.{Missing, Unread, Bytes}
 use Rattle.dr_folder.specs.Foretold.{AreTakenFor, IsBarred, IsForetold, IsRefusedBy, IsTakenFor, file_in}
-use Rattle.dr_log_bytes.specs.Content.{OnLog}
-use Rattle.dr_log_bytes.specs.Grammar.{IsDamaged, StandFor}
+use Rattle.dr_folder.specs.{Held.{HoldFiles, IsDiskOf}, declared.file.LogFile.LogFile}
+use Rattle.dr_folder.specs.declared.file.LogFile.TheVariants.{Missing, Unread, Bytes}
+use Rattle.dr_log_bytes.specs.{Content.OnLog, Grammar.{IsDamaged, StandFor}}
 use Rattle.dr_opening.specs.Tries.{IsChosenOf}
-use Rattle.dr_restart.specs.declared.start.Start.{Start}
-use Rattle.dr_restart.specs.Groups.{first_group_of}
+use Rattle.dr_restart.specs.{Groups.first_group_of, declared.start.Start.Start}
 use Rattle.dr_script.specs.declared.script.Script.{Script}
 use Rattle.dr_text.specs.declared.last.Last.TheVariants as lasts
 use Rattle.dr_yard.specs.Yards.{YardState}
@@ -35,28 +32,24 @@ taken_read n files yard contents hold taken = record {
   each = λ m c at. one_read (file_in files m) (yard.told m) c (hold m) (taken.each m c at);
 }
 
-pub start_read : (script : Script) (files : List LogFile) (yard : YardState) (start : Start)
-    → HoldFiles yard files → IsForetold script files start
-    → (contents : List (Option OnLog)) × AreRead script.members 0 yard contents
+pub start_read : (script : Script) (files : List LogFile) (yard : YardState) (start : Start) → HoldFiles yard files
+    → IsForetold script files start → (contents : List (Option OnLog)) × AreRead script.members 0 yard contents
     × IsChosenOf (first_group_of script).opening contents start × (start.members ≡ start.present)
 start_read script files yard start hold is =
     (is.contents, taken_read script.members files yard is.contents hold is.taken, is.starts, is.members)
 
 -- a disk is damaged where its file is
 one_damaged : (file : LogFile) (told : Option Told) (member m at : ℕ) → IsDiskOf file told
-    → IsRefusedBy file member (lasts.Damaged m at)
-    → (m ≡ member) × IsSomeAnd told (λ t. IsDamaged (content_of t) at)
+    → IsRefusedBy file member (lasts.Damaged m at) → (m ≡ member) × IsSomeAnd told (λ t. IsDamaged (content_of t) at)
 one_damaged Missing None member m at disk is = absurd disk
-one_damaged Missing (Some t) member m at same is =
-    (is.0, subst (λ (l : List ℕ). IsDamaged l at) (sym same) is.1)
+one_damaged Missing (Some t) member m at same is = (is.0, subst (λ (l : List ℕ). IsDamaged l at) (sym same) is.1)
 one_damaged (Unread why) told member m at disk is = absurd (cc)
 one_damaged (Bytes bytes) None member m at disk is = absurd disk
 one_damaged (Bytes bytes) (Some t) member m at same is =
     (is.0, subst (λ (l : List ℕ). IsDamaged l at) (sym same) is.1)
 
 pub damaged_read : (script : Script) (files : List LogFile) (yard : YardState) (m at : ℕ)
-    → HoldFiles yard files → IsBarred script files (lasts.Damaged m at)
-    → IsRefusal script 0 yard (stops.Damaged m at)
+    → HoldFiles yard files → IsBarred script files (lasts.Damaged m at) → IsRefusal script 0 yard (stops.Damaged m at)
 damaged_read script files yard m at hold (inl is) =
     let damaged = one_damaged (file_in files is.member) (yard.told is.member) is.member m at (hold is.member)
     is.stops in
@@ -81,8 +74,7 @@ no_shortage Missing member view have need is = is
 no_shortage (Unread why) member view have need is = absurd (cc)
 no_shortage (Bytes bytes) member view have need is = is
 
-no_disagreement : (file : LogFile) (member a b place : ℕ) → IsRefusedBy file member (lasts.Disagree a b place)
-    → ⊥
+no_disagreement : (file : LogFile) (member a b place : ℕ) → IsRefusedBy file member (lasts.Disagree a b place) → ⊥
 no_disagreement Missing member a b place is = is
 no_disagreement (Unread why) member a b place is = absurd (cc)
 no_disagreement (Bytes bytes) member a b place is = is
@@ -92,9 +84,8 @@ no_last_age Missing member is = is
 no_last_age (Unread why) member is = absurd (cc)
 no_last_age (Bytes bytes) member is = is
 
-pub foreign_read : (script : Script) (files : List LogFile) (yard : YardState) (m place : ℕ)
-    → HoldFiles yard files → IsBarred script files (lasts.Foreign m place)
-    → IsRefusal script 0 yard (stops.Foreign m place)
+pub foreign_read : (script : Script) (files : List LogFile) (yard : YardState) (m place : ℕ) → HoldFiles yard files
+    → IsBarred script files (lasts.Foreign m place) → IsRefusal script 0 yard (stops.Foreign m place)
 foreign_read script files yard m place hold (inl is) =
     absurd (no_foreign (file_in files is.member) is.member m place is.stops)
 foreign_read script files yard m place hold (inr is) =
@@ -108,9 +99,8 @@ short_read script files yard view have need hold (inl is) =
 short_read script files yard view have need hold (inr is) =
     (is.0, taken_read script.members files yard is.0 hold is.1, is.2)
 
-pub disagree_read : (script : Script) (files : List LogFile) (yard : YardState) (a b place : ℕ)
-    → HoldFiles yard files → IsBarred script files (lasts.Disagree a b place)
-    → IsRefusal script 0 yard (stops.Disagree a b place)
+pub disagree_read : (script : Script) (files : List LogFile) (yard : YardState) (a b place : ℕ) → HoldFiles yard files
+    → IsBarred script files (lasts.Disagree a b place) → IsRefusal script 0 yard (stops.Disagree a b place)
 disagree_read script files yard a b place hold (inl is) =
     absurd (no_disagreement (file_in files is.member) is.member a b place is.stops)
 disagree_read script files yard a b place hold (inr is) =
@@ -118,7 +108,5 @@ disagree_read script files yard a b place hold (inr is) =
 
 pub used_up_read : (script : Script) (files : List LogFile) (yard : YardState)
     → HoldFiles yard files → IsBarred script files lasts.AgesUsedUp → IsRefusal script 0 yard stops.AgesUsedUp
-used_up_read script files yard hold (inl is) =
-    absurd (no_last_age (file_in files is.member) is.member is.stops)
-used_up_read script files yard hold (inr is) =
-    (is.0, taken_read script.members files yard is.0 hold is.1, is.2)
+used_up_read script files yard hold (inl is) = absurd (no_last_age (file_in files is.member) is.member is.stops)
+used_up_read script files yard hold (inr is) = (is.0, taken_read script.members files yard is.0 hold is.1, is.2)

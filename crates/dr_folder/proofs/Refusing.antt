@@ -1,17 +1,13 @@
 -- By which last line logs are refused, and what start is chosen of them.
-use Rattle.std.proofs.Common.{◌≡◌, subst, List, Option, Some}
-use Rattle.std.specs.Prelude.{IfSome, IsSomeAnd}
+use Rattle.std.{specs.Prelude.{IfSome, IsSomeAnd}, proofs.Common.{◌≡◌, subst, List, Option, Some}}
 use Rattle.dr_log_bytes.specs.Content.{OnLog}
 use Rattle.dr_opening.specs.Lists.{all_as_lists}
+use Rattle.dr_quorum.specs.{Handing.handed_by, Telling.{IsRightlyTold, reason_of}}
 use Rattle.dr_quorum.specs.declared.faults.ChooseFault.{ChooseFault}
-use Rattle.dr_quorum.specs.Handing.{handed_by}
-use Rattle.dr_quorum.specs.Telling.{IsRightlyTold, reason_of}
-use Rattle.dr_restart.specs.declared.lists.LogLists.{LogLists}
-use Rattle.dr_restart.specs.Groups.{first_group_of}
-use Rattle.dr_restart.specs.Refusing.{IsRefusedFor}
+use Rattle.dr_restart.specs.{Groups.first_group_of, Refusing.IsRefusedFor, declared.lists.LogLists.LogLists}
+use Rattle.dr_restart.proofs.Choosing.{reason_told}
 use Rattle.dr_script.specs.declared.script.Script.{Script}
 use Rattle.dr_text.specs.declared.last.Last.{Last}
-use Rattle.dr_restart.proofs.Choosing.{reason_told}
 use Rattle.dr_folder.specs.Foretold.{AreRefusedBy, refused_by}
 
 -- the last line of a run over logs of which no start is chosen

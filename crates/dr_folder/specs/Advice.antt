@@ -1,21 +1,14 @@
 -- Which log may be moved away.
+use Rattle.std.specs.{List.list_all, Option.option_map_or}
 use Rattle.std.specs.Prelude.{◌≡◌, ◌≢◌, ◌⊎◌, ⊤, ℕ, ◌+◌, ◌<◌, ◌≤◌, ◌==◌, ◌||◌, not, nat_lt, Bool, true, false, List, length, slice_get, slice_set, Option, None, Some}
-use Rattle.std.specs.List.{list_all}
-use Rattle.std.specs.Option.{option_map_or}
-use Rattle.dr_entry.specs.declared.entry.Entry.{Entry}
-use Rattle.dr_entry.specs.declared.entry.Entry.TheVariants.{View, Msg}
-use Rattle.dr_history.specs.History.{GroupView, view_of}
-use Rattle.dr_history.specs.Members.{members_of}
+use Rattle.dr_entry.specs.declared.entry.Entry.{Entry, TheVariants.{View, Msg}}
+use Rattle.dr_history.specs.{History.{GroupView, view_of}, Members.members_of}
 use Rattle.dr_restart.specs.declared.start.Start.{Start}
 use Rattle.dr_script.specs.declared.script.Script.{Script}
 use Rattle.dr_text.specs.declared.last.Last.{Last}
-use Rattle.dr_folder.specs.declared.advice.Advice.{Advice}
+use Rattle.dr_folder.specs.{Foretold.{IsBarred, IsForetold}, declared.{advice.Advice.Advice, file.LogFile.LogFile}}
+use Rattle.dr_folder.specs.declared.{file.LogFile.TheVariants.Missing, survey.Survey.{Survey, TheVariants.Log}}
 use Rattle.dr_folder.specs.declared.advice.Advice.TheVariants as advised
-use Rattle.dr_folder.specs.declared.file.LogFile.{LogFile}
-use Rattle.dr_folder.specs.declared.file.LogFile.TheVariants.{Missing}
-use Rattle.dr_folder.specs.declared.survey.Survey.{Survey}
-use Rattle.dr_folder.specs.declared.survey.Survey.TheVariants.{Log}
-use Rattle.dr_folder.specs.Foretold.{IsBarred, IsForetold}
 
 -- a file has a log with entries, and nothing stands behind its closed gate
 abbrev pub IsIntact : Survey → Type 0

@@ -3,11 +3,8 @@ use Rattle.std.specs.Prelude.{List, Result, Ok, Err}
 use Rattle.dr_restart.specs.declared.start.Start.{Start}
 use Rattle.dr_script.specs.declared.script.Script.{Script}
 use Rattle.dr_text.specs.declared.last.Last.{Last}
-use Rattle.dr_folder.specs.declared.checking.FolderCheck.{FolderCheck}
-use Rattle.dr_folder.specs.declared.file.LogFile.{LogFile}
-use Rattle.dr_folder.specs.Advice.{IsAdvice}
-use Rattle.dr_folder.specs.Foretold.{IsBarred, IsForetold}
-use Rattle.dr_folder.specs.Surveys.{AreSurveys}
+use Rattle.dr_folder.specs.{Advice.IsAdvice, Foretold.{IsBarred, IsForetold}, Surveys.AreSurveys}
+use Rattle.dr_folder.specs.declared.{checking.FolderCheck.FolderCheck, file.LogFile.LogFile}
 
 -- the next run over these files starts so, or is refused by this last line
 abbrev pub IsNextRun : Script → List LogFile → Result Start Last → Type 0

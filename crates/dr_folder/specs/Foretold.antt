@@ -1,18 +1,13 @@
 -- What the next run over the files of a folder begins with, or is refused by.
 use Rattle.std.specs.Prelude.{◌≡◌, ◌⊎◌, ℕ, ◌<◌, true, List, [], length, get_or, Option, None, Some, is_some, IsSomeAnd}
-use Rattle.dr_log_bytes.specs.Content.{OnLog}
-use Rattle.dr_log_bytes.specs.Grammar.{IsDamaged, StandFor}
-use Rattle.dr_opening.specs.Lists.{all_as_lists}
-use Rattle.dr_opening.specs.Tries.{IsChosenOf, content_at}
+use Rattle.dr_log_bytes.specs.{Content.OnLog, Grammar.{IsDamaged, StandFor}}
+use Rattle.dr_opening.specs.{Lists.all_as_lists, Tries.{IsChosenOf, content_at}}
 use Rattle.dr_quorum.specs.Handing.{handed_by}
-use Rattle.dr_restart.specs.declared.start.Start.{Start}
-use Rattle.dr_restart.specs.Groups.{first_group_of}
-use Rattle.dr_restart.specs.Refusing.{IsRefusedFor, Refusal}
+use Rattle.dr_restart.specs.{Groups.first_group_of, Refusing.{IsRefusedFor, Refusal}, declared.start.Start.Start}
 use Rattle.dr_script.specs.declared.script.Script.{Script}
 use Rattle.dr_text.specs.declared.last.Last.{Last}
 use Rattle.dr_text.specs.declared.last.Last.TheVariants as lasts
-use Rattle.dr_folder.specs.declared.file.LogFile.{LogFile}
-use Rattle.dr_folder.specs.declared.file.LogFile.TheVariants.{Missing, Unread, Bytes}
+use Rattle.dr_folder.specs.declared.file.LogFile.{LogFile, TheVariants.{Missing, Unread, Bytes}}
 
 -- the file of a member
 abbrev pub file_in : List LogFile → ℕ → LogFile

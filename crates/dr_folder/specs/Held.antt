@@ -1,9 +1,7 @@
 -- Disks that have the bytes of files.
 use Rattle.std.specs.Prelude.{◌≡◌, ⊤, ℕ, List, [], Option, IsSomeAnd}
 use Rattle.dr_disk.specs.Disk.{Told, content_of}
-use Rattle.dr_folder.specs.declared.file.LogFile.{LogFile}
-use Rattle.dr_folder.specs.declared.file.LogFile.TheVariants.{Missing, Unread, Bytes}
-use Rattle.dr_folder.specs.Foretold.{file_in}
+use Rattle.dr_folder.specs.{Foretold.file_in, declared.file.LogFile.{LogFile, TheVariants.{Missing, Unread, Bytes}}}
 use Rattle.dr_yard.specs.Yards.{YardState}
 
 -- a read of the disk gives the bytes of the file; none, where there is no file

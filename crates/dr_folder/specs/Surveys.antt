@@ -2,11 +2,9 @@
 use Rattle.std.specs.Prelude.{◌≡◌, ◌≢◌, ◌⊎◌, ⊤, ℕ, ◌+◌, ◌<◌, ◌≤◌, Bool, true, false, List, length, take, slice_get, Some}
 use Rattle.dr_log_bytes.specs.Content.{OnLog, content_after, empty_of}
 use Rattle.dr_log_bytes.specs.Grammar.{BreaksAt, IsLogOf, blocks, magic_of}
-use Rattle.dr_folder.specs.declared.file.LogFile.{LogFile}
-use Rattle.dr_folder.specs.declared.file.LogFile.TheVariants as files
-use Rattle.dr_folder.specs.Foretold.{file_in}
-use Rattle.dr_folder.specs.declared.survey.Survey.{Survey}
+use Rattle.dr_folder.specs.{Foretold.file_in, declared.{file.LogFile.LogFile, survey.Survey.Survey}}
 use Rattle.dr_folder.specs.declared.survey.Survey.TheVariants.{Missing, Unread, Empty, Log}
+use Rattle.dr_folder.specs.declared.file.LogFile.TheVariants as files
 
 -- bytes are a log on which this is, whose gate is closed at this place
 pub record HasClosedLog (bytes : List ℕ) (c : OnLog) (at : ℕ) : Type 0 where

@@ -1,13 +1,10 @@
 -- What is said of the next run over a folder of logs.
+use Rattle.std.specs.{Fmt.decimal, List.{concat, list_all, list_any}}
 use Rattle.std.specs.Prelude.{◌≡◌, ℕ, Bool, true, false, not, ◌&&◌, if◌then◌else◌, List, [], ◌∷◌, ◌++◌, codes, length, Result, Ok, Err}
-use Rattle.std.specs.Fmt.{decimal}
-use Rattle.std.specs.List.{concat, list_all, list_any}
 use Rattle.dr_intake.specs.Status.{status_of}
 use Rattle.dr_restart.specs.declared.start.Start.{Start}
-use Rattle.dr_text.specs.declared.last.Last.{Last}
-use Rattle.dr_text.specs.Report.{last_text}
-use Rattle.dr_folder.specs.declared.survey.Survey.{Survey}
-use Rattle.dr_folder.specs.declared.survey.Survey.TheVariants.{Missing}
+use Rattle.dr_text.specs.{Report.last_text, declared.last.Last.Last}
+use Rattle.dr_folder.specs.declared.survey.Survey.{Survey, TheVariants.Missing}
 
 -- the age that the next run starts with, and how many entries
 abbrev pub start_line : ℕ → ℕ → List ℕ

@@ -6,11 +6,10 @@
 //! a second log would do as well either may be the bad one, and none is named; of two bad logs nothing like
 //! it is known.
 
-ghost use Rattle.std.specs.Prelude.{◌≡◌, ◌↔◌, ◌<◌, if◌then◌else◌, IfOk, IsTrue, MatchOption, length};
-ghost use Rattle.std.specs.List.{list_all};
+ghost use Rattle.std.specs.{List.list_all, Prelude.{◌≡◌, ◌↔◌, ◌<◌, if◌then◌else◌, IfOk, IsTrue, MatchOption, length}};
 ghost use Rattle.dr_script.specs.Ranges.{HasGroupRanges};
-ghost use Rattle.dr_folder.specs.declared.advice.Advice.TheVariants.{Alone, Away};
 ghost use Rattle.dr_folder.specs.Advice.{AreIntactBut, CanNotGo, IsAdvice, IsIntact, IsNextAway, MakesStartAlone, are_shared, is_shared};
+ghost use Rattle.dr_folder.specs.declared.advice.Advice.TheVariants.{Alone, Away};
 
 use crate::file::LogFile;
 use crate::foretelling::foretell_without;

@@ -1,7 +1,6 @@
 //! What is said behind the verdict: where a start comes from, what is missing, and what may be done.
 
-ghost use Rattle.std.specs.Prelude.{◌≡◌};
-ghost use Rattle.std.specs.List.{list_all, list_any};
+ghost use Rattle.std.specs.{List.{list_all, list_any}, Prelude.{◌≡◌}};
 ghost use Rattle.dr_folder.specs.Told.{is_missing, lack_some};
 
 use crate::advice::{Advice, are_intact_but, are_shared};

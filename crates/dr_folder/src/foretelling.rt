@@ -1,14 +1,13 @@
 //! What the next run over a folder of logs begins with, or is refused by.
 
 ghost use Rattle.std.specs.Prelude.{◌≡◌, ◌<◌, Some, IfOk, IfSome, IsErrOf, IsSomeAnd, length, slice_set};
-ghost use Rattle.dr_opening.specs.Lists.{contents_of};
-ghost use Rattle.dr_opening.specs.Tries.{IsChosenOf};
+ghost use Rattle.dr_opening.specs.{Lists.contents_of, Tries.IsChosenOf};
 ghost use Rattle.dr_restart.specs.Groups.{first_group_of};
 ghost use Rattle.dr_script.specs.Ranges.{HasGroupRanges};
 ghost use Rattle.dr_text.specs.declared.last.Last.{Last as LastOf};
+ghost use Rattle.dr_folder.specs.Foretold.{AreRefusedBy, IsBarred, IsForetold, refused_by};
 ghost use Rattle.dr_folder.specs.declared.file.LogFile.TheVariants.{Missing};
 ghost use Rattle.dr_quorum.specs.Telling.{reason_of};
-ghost use Rattle.dr_folder.specs.Foretold.{AreRefusedBy, IsBarred, IsForetold, refused_by};
 
 use crate::file::LogFile;
 use crate::mounting::mount_files;

@@ -2,16 +2,13 @@
 ghost use Rattle.std.specs.Prelude.{◌≡◌, ℕ, List, Option};
 ghost use Rattle.dr_log_bytes.specs.Content.{OnLog};
 ghost use Rattle.dr_opening.specs.Tries.{IsChosenOf};
-ghost use Rattle.dr_restart.specs.declared.start.Start.{Start};
-ghost use Rattle.dr_restart.specs.Groups.{first_group_of};
+ghost use Rattle.dr_restart.specs.{Groups.first_group_of, declared.start.Start.Start};
 ghost use Rattle.dr_script.specs.declared.script.Script.{Script};
 ghost use Rattle.dr_text.specs.declared.last.Last.TheVariants as lasts;
 ghost use Rattle.dr_yard.specs.Yards.{YardState};
 ghost use Rattle.dr_ages.specs.declared.stop.Stop.TheVariants as stops;
 ghost use Rattle.dr_ages.specs.Refused.{AreRead, IsRefusal};
-ghost use Rattle.dr_folder.specs.Held.{HoldFiles};
-ghost use Rattle.dr_folder.specs.declared.file.LogFile.{LogFile};
-ghost use Rattle.dr_folder.specs.Foretold.{IsBarred, IsForetold};
+ghost use Rattle.dr_folder.specs.{Foretold.{IsBarred, IsForetold}, Held.HoldFiles, declared.file.LogFile.LogFile};
 
 /// A law: where the disks of a yard have the bytes of files, what is foretold of these files is what the contract of
 /// `run_ages` says of a run over the disks in which no log is missing and nobody is late. What the logs read as makes

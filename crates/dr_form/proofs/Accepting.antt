@@ -1,38 +1,28 @@
 -- What it makes of a replica that it votes, accepts a value or commits one: its words have grown, and it
 -- keeps its form.
 use Rattle.std.proofs.Common.{◌≡◌, ℕ, ◌+◌, ◌*◌, ◌^◌, ◌<◌, ◌≤◌, ◌⊎◌, inl, inr, true, false, List, [], ◌∷◌, ◌++◌, length, Option, None, Some, unwrap_or, refl, sym, ap, subst, ◌∙◌, arith, is_some}
-use Rattle.std.proofs.lemmas.Bool.{and_parts}
-use Rattle.std.proofs.lemmas.List.{length_push}
-use Rattle.std.proofs.lemmas.Option.{same_Some}
-use Rattle.dr_entry.specs.declared.record.Value.{Value}
-use Rattle.dr_entry.specs.declared.record.Vote.{Vote}
-use Rattle.dr_entry.proofs.NumberFacts.{same_number}
-use Rattle.dr_rows.proofs.Rewrites.{IsWords-rewritten, own_rewritten}
-use Rattle.dr_rows.specs.Words.{own, rewritten}
-use Rattle.dr_words.proofs.Accepts.{FitsWords, accept_within, leavers_accept}
-use Rattle.dr_words.proofs.Rewrites.{accepted_grown as word_grown, accepted_in_form, accepted_promise, accepted_rest, accepted_tag, accepted_value, rewritten_grown, rewritten_in_form}
-use Rattle.dr_words.specs.Columns.{head_column, leavers_column, recv_column}
-use Rattle.dr_words.specs.Form.{AllInForm}
-use Rattle.dr_words.specs.Grown.{HasGrown, Grown}
-use Rattle.dr_words.specs.Packing.{accept_promise, accept_tag, accept_value}
-use Rattle.dr_words.specs.Rewrites.{accepted_word, is_accept_of}
+use Rattle.std.proofs.lemmas.{Bool.and_parts, List.length_push, Option.same_Some}
+use Rattle.dr_entry.{specs.declared.record.{Value.Value, Vote.Vote}, proofs.NumberFacts.same_number}
+use Rattle.dr_rows.{specs.Words.{own, rewritten}, proofs.Rewrites.{IsWords-rewritten, own_rewritten}}
+use Rattle.dr_words.specs.{Columns.{head_column, leavers_column, recv_column}, Rewrites.{accepted_word, is_accept_of}}
+use Rattle.dr_words.specs.{Form.AllInForm, Packing.{accept_promise, accept_tag, accept_value}}
+use Rattle.dr_words.{specs.Grown.{HasGrown, Grown}, proofs.Accepts.{FitsWords, accept_within, leavers_accept}}
 use Rattle.dr_words.specs.declared.column.TheConstants.{BEAT_COLUMN, LOGGED_COLUMN, RECEIVED_COLUMN, SUSPECTED_COLUMN}
+use Rattle.dr_words.proofs.Rewrites.{accepted_grown as word_grown, accepted_in_form, accepted_promise, accepted_rest, accepted_tag, accepted_value, rewritten_grown, rewritten_in_form}
 use Rattle.dr_ring.specs.Slots.{slot_column}
 use Rattle.dr_machine.specs.World.{no_vote}
-use Rattle.dr_program.proofs.Voting.{promise_within, vote_due, wedged_inside}
-use Rattle.dr_form.proofs.Beside.{beside_form}
 use Rattle.dr_program.specs.Form.{HasForm, IsVoteDue, waiting}
 use Rattle.dr_program.specs.Replica.{Replica, accepted, decided, is_inside, is_others, is_own, is_wedged, may_vote, me, promise, vote_of, voted, least_seen}
-use Rattle.dr_program.proofs.Least.{grown_received}
+use Rattle.dr_program.proofs.{Least.grown_received, Voting.{promise_within, vote_due, wedged_inside}}
+use Rattle.dr_form.proofs.Beside.{beside_form}
 
 -- ---- what is noted beside the words
 
-noted_form : (r : Replica) (committed : Option Value) (pending : Option Vote) (votes : List Vote) → HasForm r
-    → ((x : Vote) → pending ≡ Some x → IsVoteDue r.roster r.tag (promise r) x)
+noted_form : (r : Replica) (committed : Option Value) (pending : Option Vote) (votes : List Vote)
+    → HasForm r → ((x : Vote) → pending ≡ Some x → IsVoteDue r.roster r.tag (promise r) x)
     → length votes ≤ r.view * r.roster + r.tag + waiting pending
-    → ((x : Value) → committed ≡ Some x → x.leavers < 2 ^ r.roster)
-    → (is_inside r ≡ false → (votes ≡ []) × (pending ≡ None))
-    → HasForm (record r { committed = committed; pending = pending; votes = votes })
+    → ((x : Value) → committed ≡ Some x → x.leavers < 2 ^ r.roster) → (is_inside r ≡ false → (votes ≡ [])
+    × (pending ≡ None)) → HasForm (record r { committed = committed; pending = pending; votes = votes })
 noted_form r committed pending votes f waits few decided none = beside_form r r.next r.logged r.durable r.turns r.acts
     r.history r.end committed pending votes f (omega arith) f.logged f.room (omega arith) f.acts waits few decided
     (λ e. ((none e).0, (none e).1, (f.outside e).all))
@@ -51,16 +41,13 @@ decided_form r f = noted_form r (Some r.value) r.pending r.votes f f.waits f.vot
     (λ x e. rw (← same_Some r.value x e) (value_small r f)) (λ e. ((f.outside e).none, (f.outside e).idle))
 
 -- so does a vote, where none waits
-pub voted_form : (r : Replica) (v : Value) → HasForm r → r.pending ≡ None → may_vote r v ≡ true
-    → HasForm (voted r v)
-voted_form r v f none may =
-    noted_form r r.committed (Some (vote_of r v)) (r.votes ++ vote_of r v ∷ []) f waits few f.decided
-    (λ e. absurd (cc (e, wedged_inside r f (and_parts (is_wedged r) _ may).0)))
+pub voted_form : (r : Replica) (v : Value) → HasForm r → r.pending ≡ None → may_vote r v ≡ true → HasForm (voted r v)
+voted_form r v f none may = noted_form r r.committed (Some (vote_of r v)) (r.votes ++ vote_of r v
+    ∷ []) f waits few f.decided (λ e. absurd (cc (e, wedged_inside r f (and_parts (is_wedged r) _ may).0)))
   where
     waits : (x : Vote) → Some (vote_of r v) ≡ Some x → IsVoteDue r.roster r.tag (promise r) x
     waits x e =
-        let same : vote_of r v ≡ x = cc e in
-        subst (IsVoteDue r.roster r.tag (promise r)) same (vote_due r v f may)
+        let same : vote_of r v ≡ x = cc e in subst (IsVoteDue r.roster r.tag (promise r)) same (vote_due r v f may)
 
     few : length (r.votes ++ vote_of r v ∷ []) ≤ r.view * r.roster + r.tag + waiting (Some (vote_of r v))
     few =
@@ -75,8 +62,7 @@ vote_waiting r = unwrap_or r.pending no_vote
 
 pub due_waiting : (r : Replica) (x : Vote) → HasForm r → r.pending ≡ Some x
     → IsVoteDue r.roster r.tag (promise r) (vote_waiting r)
-due_waiting r x f e =
-    subst (λ (o : Option Vote). IsVoteDue r.roster r.tag (promise r) (unwrap_or o no_vote)) (sym e)
+due_waiting r x f e = subst (λ (o : Option Vote). IsVoteDue r.roster r.tag (promise r) (unwrap_or o no_vote)) (sym e)
     (f.waits x e)
 
 -- the words that it then has
@@ -102,29 +88,23 @@ row_accept r c f is = own_rewritten r.rows (anew r) c f.rows
 
 -- the other columns
 row_rest : (r : Replica) (c : ℕ) → HasForm r → c < r.rows.columns
-    → (c < recv_column r.roster) ⊎ (head_column r.roster 0 ≤ c)
-    → own (accepted r).rows c ≡ own r.rows c
-row_rest r c f low outside =
-    own_rewritten r.rows (anew r) c f.rows low
-    ∙ accepted_rest r.roster r.members ((vote_waiting r).ballot + 1) (vote_waiting r).value c
-    (own r.rows c) outside
+    → (c < recv_column r.roster) ⊎ (head_column r.roster 0 ≤ c) → own (accepted r).rows c ≡ own r.rows c
+row_rest r c f low outside = own_rewritten r.rows (anew r) c f.rows low
+    ∙ accepted_rest r.roster r.members ((vote_waiting r).ballot + 1) (vote_waiting r).value c (own r.rows c) outside
 
 -- each word is in form, and has grown
 anew_form : (r : Replica) (x : Vote) → HasForm r → r.pending ≡ Some x
     → AllInForm r.roster (rewritten r.rows (anew r)).words
-anew_form r x f e =
-    rewritten_in_form r.roster r.rows (anew r) f.rows
-    (λ c. accepted_in_form r.roster r.members ((vote_waiting r).ballot + 1) (vote_waiting r).value c
-    (own r.rows c) (fits r x f e) (words (me r) c)) words
+anew_form r x f e = rewritten_in_form r.roster r.rows (anew r) f.rows (λ c. accepted_in_form r.roster r.members
+    ((vote_waiting r).ballot + 1) (vote_waiting r).value c (own r.rows c) (fits r x f e) (words (me r) c)) words
   where
     words : AllInForm r.roster r.rows.words
     words = subst (λ (n : ℕ). AllInForm n r.rows.words) f.members f.words
 
 anew_grown : (r : Replica) (x : Vote) (c : ℕ) → HasForm r → r.pending ≡ Some x
     → HasGrown r.roster c (own r.rows c) (anew r c (own r.rows c))
-anew_grown r x c f e =
-    word_grown r.roster r.members ((vote_waiting r).ballot + 1) (vote_waiting r).value c (own r.rows c)
-    (λ is. omega (arith, f.tagged c is, (due_waiting r x f e).above))
+anew_grown r x c f e = word_grown r.roster r.members ((vote_waiting r).ballot + 1)
+    (vote_waiting r).value c (own r.rows c) (λ is. omega (arith, f.tagged c is, (due_waiting r x f e).above))
 
 -- accepting a value keeps a replica in form
 pub accepted_form : (r : Replica) (x : Vote) → HasForm r → r.pending ≡ Some x → HasForm (accepted r)
@@ -132,8 +112,7 @@ accepted_form r x f e = record {
   rows = IsWords-rewritten r.rows (anew r) f.rows;
   members = f.members;
   columns = f.columns;
-  words = subst (λ (n : ℕ). AllInForm n (rewritten r.rows (anew r)).words) (sym f.members)
-      (anew_form r x f e);
+  words = subst (λ (n : ℕ). AllInForm n (rewritten r.rows (anew r)).words) (sym f.members) (anew_form r x f e);
   some_slot = f.some_slot;
   most_slots = f.most_slots;
   number = f.number;
@@ -154,9 +133,8 @@ accepted_form r x f e = record {
   items = f.items;
   suspected = early SUSPECTED_COLUMN (omega arith) ∙ f.suspected;
   recv = λ s l. early (recv_column s) (omega (arith, l)) ∙ f.recv s l;
-  accept = λ c is. ap accept_promise (row_accept r c f is)
-      ∙ accepted_promise r.roster r.members (vote.ballot + 1) vote.value c (own r.rows c) (fits r x f e) is
-      ∙ f.accept c is;
+  accept = λ c is. ap accept_promise (row_accept r c f is) ∙ accepted_promise r.roster r.members
+      (vote.ballot + 1) vote.value c (own r.rows c) (fits r x f e) is ∙ f.accept c is;
   tagged = λ c is. ap accept_tag (row_accept r c f is)
       ∙ accepted_tag r.roster r.members (vote.ballot + 1) vote.value c (own r.rows c) (fits r x f e) is;
   valued = λ c is. ap accept_value (row_accept r c f is)

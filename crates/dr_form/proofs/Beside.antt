@@ -1,22 +1,16 @@
 -- What of a replica is beside its words and items may count on, and be noted, without them.
 use Rattle.std.proofs.Common.{◌≡◌, ℕ, ◌+◌, ◌*◌, ◌^◌, ◌<◌, ◌≤◌, false, List, [], length, Option, None, Some, arith}
-use Rattle.dr_entry.specs.declared.end.End.{End}
-use Rattle.dr_entry.specs.declared.entry.Entry.{Entry}
-use Rattle.dr_entry.specs.declared.record.Value.{Value}
-use Rattle.dr_entry.specs.declared.record.Vote.{Vote}
-use Rattle.dr_program.specs.Form.{HasForm, IsVoteDue, waiting}
-use Rattle.dr_program.specs.Replica.{Replica, is_inside, promise}
+use Rattle.dr_entry.specs.{declared.{end.End.End, entry.Entry.Entry}, declared.record.{Value.Value, Vote.Vote}}
+use Rattle.dr_program.specs.{Form.{HasForm, IsVoteDue, waiting}, Replica.{Replica, is_inside, promise}}
 
 -- a replica keeps its form where these are within their bounds
 pub beside_form : (r : Replica) (next logged durable turns acts : ℕ) (history : List Entry)
     (end : Option End) (committed : Option Value) (pending : Option Vote) (votes : List Vote) → HasForm r
-    → r.logged ≤ logged → logged ≤ length history → length history ≤ r.room → r.acts ≤ acts
-    → acts < 2 ^ 64
+    → r.logged ≤ logged → logged ≤ length history → length history ≤ r.room → r.acts ≤ acts → acts < 2 ^ 64
     → ((x : Vote) → pending ≡ Some x → IsVoteDue r.roster r.tag (promise r) x)
     → length votes ≤ r.view * r.roster + r.tag + waiting pending
     → ((x : Value) → committed ≡ Some x → x.leavers < 2 ^ r.roster)
-    → (is_inside r ≡ false → (votes ≡ []) × (pending ≡ None) × (logged ≡ length history))
-    → HasForm (record r {
+    → (is_inside r ≡ false → (votes ≡ []) × (pending ≡ None) × (logged ≡ length history)) → HasForm (record r {
       next = next;
       history = history;
       logged = logged;

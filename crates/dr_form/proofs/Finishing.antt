@@ -1,38 +1,22 @@
 -- A replica that ends its view has its form in the next one.
-use Rattle.std.proofs.Common.{◌≡◌, ◌≢◌, ℕ, ◌+◌, ◌-◌, ◌*◌, ◌^◌, ◌<◌, ◌≤◌, Bool, true, false, List, [], ◌∷◌, ◌++◌, replicate, not, None, Some, Option, is_some, unwrap_or, length, length-append, refl, sym, ap, subst, ◌∙◌, arith}
 use Rattle.std.specs.Prelude.{◌&&◌, if◌then◌else◌, nat_lt}
-use Rattle.std.proofs.lemmas.Bool.{and_parts, ltb-true}
-use Rattle.std.proofs.lemmas.List.{length-replicate, length_push}
-use Rattle.std.proofs.Math.Nat.{suc-mul}
-use Rattle.dr_entry.specs.declared.entry.Entry.{Entry}
-use Rattle.dr_entry.specs.declared.record.Value.{Value}
-use Rattle.dr_entry.specs.declared.record.Vote.{Vote}
-use Rattle.dr_entry.proofs.ListPlaces.{copy_at}
-use Rattle.dr_entry.proofs.NumberFacts.{other_number}
-use Rattle.dr_history.specs.Members.{has}
-use Rattle.dr_history.specs.History.{last_view}
+use Rattle.std.proofs.Common.{◌≡◌, ◌≢◌, ℕ, ◌+◌, ◌-◌, ◌*◌, ◌^◌, ◌<◌, ◌≤◌, Bool, true, false, List, [], ◌∷◌, ◌++◌, replicate, not, None, Some, Option, is_some, unwrap_or, length, length-append, refl, sym, ap, subst, ◌∙◌, arith}
+use Rattle.std.proofs.{Math.Nat.suc-mul, lemmas.{Bool.{and_parts, ltb-true}, List.{length-replicate, length_push}}}
+use Rattle.dr_entry.specs.{declared.entry.Entry.Entry, declared.record.{Value.Value, Vote.Vote}}
+use Rattle.dr_entry.proofs.{ListPlaces.copy_at, NumberFacts.other_number}
+use Rattle.dr_history.{specs.{History.last_view, Members.has, Order.messages_from}, proofs.Bits.has_zero}
+use Rattle.dr_history.proofs.{Masks.has_within, Places.front_of_none}
 use Rattle.dr_form.specs.Letters.{IsFitting}
-use Rattle.dr_history.specs.Order.{messages_from}
-use Rattle.dr_history.proofs.Places.{front_of_none}
-use Rattle.dr_history.proofs.Bits.{has_zero}
-use Rattle.dr_history.proofs.Masks.{has_within}
-use Rattle.dr_machine.specs.World.{no_value}
+use Rattle.dr_machine.{specs.World.no_value, proofs.Worlds.no_part}
 use Rattle.dr_program.specs.Form.{HasForm, waiting}
 use Rattle.dr_program.specs.Replica.{LeftView, Replica, count, entered, finished, finished_by, finished_history, gave, greatest, is_inside, joined, left_now, may_end, may_finish, me, nothing_left, members_in_view}
-use Rattle.dr_program.proofs.Finishing.{finished_more}
-use Rattle.dr_program.proofs.Opening.{first_own}
-use Rattle.dr_program.proofs.Voting.{promise_within}
-use Rattle.dr_words.proofs.Accepts.{accept_within}
-use Rattle.dr_ring.specs.Slots.{slot_column}
-use Rattle.dr_rows.specs.Words.{begun, own}
-use Rattle.dr_rows.proofs.WordsLemmas.{IsFresh-begun, IsWords-begun, IsWords-looked}
-use Rattle.dr_words.proofs.Masks.{has_next_members, next_members_within, with_member_small}
-use Rattle.dr_words.specs.Masks.{IsInRoster, next_members}
-use Rattle.dr_words.specs.Columns.{recv_column}
+use Rattle.dr_program.proofs.{Finishing.finished_more, Opening.first_own, Voting.promise_within}
+use Rattle.dr_words.{specs.{Columns.recv_column, Masks.{IsInRoster, next_members}}, proofs.Layouts.first_in_form}
 use Rattle.dr_words.specs.Packing.{accept_promise, accept_tag, accept_value, recv_word}
 use Rattle.dr_words.specs.declared.column.TheConstants.{LOGGED_COLUMN, RECEIVED_COLUMN, SUSPECTED_COLUMN}
-use Rattle.dr_words.proofs.Layouts.{first_in_form}
-use Rattle.dr_machine.proofs.Worlds.{no_part}
+use Rattle.dr_words.proofs.{Accepts.accept_within, Masks.{has_next_members, next_members_within, with_member_small}}
+use Rattle.dr_ring.specs.Slots.{slot_column}
+use Rattle.dr_rows.{specs.Words.{begun, own}, proofs.WordsLemmas.{IsFresh-begun, IsWords-begun, IsWords-looked}}
 
 -- where no vote waits, none does
 pub none_waits : (pending : Option Vote) → not (is_some pending) ≡ true → pending ≡ None
@@ -176,8 +160,7 @@ finished_by_form r x f inside named may none =
     let bank = and_parts (nat_lt (r.view + 1) r.banks) _ stays.1 in
     let there = and_parts _ (nat_lt (length q.history) (r.room + 1) && nat_lt q.base
     (length r.messages + 1)) bank.1 in
-    let fits = and_parts (nat_lt (length q.history) (r.room + 1))
-    (nat_lt q.base (length r.messages + 1)) there.1 in
+    let fits = and_parts (nat_lt (length q.history) (r.room + 1)) (nat_lt q.base (length r.messages + 1)) there.1 in
     let room : length q.history ≤ r.room = omega (arith, ltb-true (length q.history) (r.room + 1) fits.0) in
     let base : q.base ≤ length r.messages = omega (arith, ltb-true q.base (length r.messages + 1) fits.1) in
     let more = finished_more r x in
@@ -220,8 +203,7 @@ finished_form r f inside may none = by r.committed refl may
   where
     by : (o : Option Value) → r.committed ≡ o → may_finish r o ≡ true → HasForm (finished r)
     by None e m = absurd (cc m)
-    by (Some x) e m =
-        subst (λ (o : Option Value). HasForm (finished_by r (unwrap_or o no_value))) (sym e)
+    by (Some x) e m = subst (λ (o : Option Value). HasForm (finished_by r (unwrap_or o no_value))) (sym e)
         (finished_by_form r x f inside (f.decided x e) m none)
 
 -- joining by it keeps a replica in form, where no vote waits

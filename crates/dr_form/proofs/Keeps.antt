@@ -1,72 +1,41 @@
 -- Each act of a replica keeps its form, and its words grow.
+use Rattle.std.{specs.List.list_any, proofs.lemmas.{Bool.Decides.nat_tests, Option.slice_get-get_or}}
 use Rattle.std.proofs.Common.{◌≡◌, ◌≢◌, ℕ, ◌+◌, ◌*◌, ◌^◌, ◌<◌, ◌≤◌, ◌⊎◌, inl, inr, true, suc, List, [], ◌∷◌, ◌++◌, length, map, get_or, set, slice_index, Option, Some, is_some, unwrap_or, not, nat_lt, ◌&&◌, ◌==◌, length-append, refl, sym, ap, subst, ◌∙◌, arith, false, zero, Bool, le_trans}
-use Rattle.std.specs.List.{list_any}
 use Rattle.std.proofs.lemmas.Bool.{cases_eq, cases_lt, and_parts, ltb-true, eqb-false, not-true, or_cases}
-use Rattle.std.proofs.lemmas.Bool.Decides.{nat_tests}
 use Rattle.std.proofs.lemmas.List.{length-set, length_push, get_or-set_same, get_or-set_other, get_or_past}
-use Rattle.std.proofs.lemmas.Option.{slice_get-get_or}
-use Rattle.dr_entry.specs.declared.record.Vote.{Vote}
-use Rattle.dr_entry.specs.declared.entry.Entry.{Entry}
-use Rattle.dr_entry.specs.declared.entry.Item.{Item}
-use Rattle.dr_entry.specs.declared.entry.Item.TheVariants.{Null, Text}
-use Rattle.dr_entry.specs.declared.end.End.{End}
-use Rattle.dr_entry.specs.declared.end.SentItem.{SentItem}
-use Rattle.dr_entry.specs.declared.end.SentItem.TheVariants as sent_items
-use Rattle.dr_entry.specs.declared.end.SentItem.TheVariants.{Index}
+use Rattle.dr_entry.specs.declared.{end.{End.End, SentItem.{SentItem, TheVariants.Index}}, entry.Entry.Entry}
+use Rattle.dr_entry.specs.{declared.entry.Item.{Item, TheVariants.{Null, Text}}, declared.record.Vote.Vote}
 use Rattle.dr_entry.proofs.ListPlaces.{count_max}
-use Rattle.dr_history.specs.Members.{has}
-use Rattle.dr_history.specs.History.{messages_in}
-use Rattle.dr_history.specs.Places.{front_of}
-use Rattle.dr_history.proofs.Histories.{messages_within}
+use Rattle.dr_entry.specs.declared.end.SentItem.TheVariants as sent_items
+use Rattle.dr_history.{specs.{History.messages_in, Members.has, Places.front_of}, proofs.Histories.messages_within}
 use Rattle.dr_history.proofs.Ranks.{some_member}
-use Rattle.dr_ring.specs.Slots.{slot_column, IsFree, is_free, with_item}
-use Rattle.dr_ring.proofs.Freedom.{IsFree-from_test}
-use Rattle.dr_words.specs.Masks.{IsInRoster}
-use Rattle.dr_rows.specs.Words as rows
-use Rattle.dr_rows.specs.Words.{Words, own, seen, with_own, changed}
-use Rattle.dr_rows.proofs.WordsLemmas.{IsWords-pushed}
-use Rattle.dr_rows.proofs.Grids.{own_left, own_seen, with_word-column}
-use Rattle.dr_rows.proofs.Along.{push_is, push_is_none}
-use Rattle.dr_rows.specs.Along.{Pushes, pushed_along, with_push}
-use Rattle.dr_words.specs.Rewrites.{is_accept_of}
-use Rattle.dr_words.specs.declared.column.TheConstants.{BEAT_COLUMN, SUSPECTED_COLUMN, RECEIVED_COLUMN, LOGGED_COLUMN, DONE_COLUMN}
-use Rattle.dr_words.specs.Columns.{columns_of, recv_column}
-use Rattle.dr_words.specs.Form.{IsInForm}
-use Rattle.dr_words.specs.Grown.{HasGrown, Grown}
-use Rattle.dr_words.specs.Packing.{accept_promise, accept_tag, accept_value, recv_word, ring_tag}
-use Rattle.dr_words.proofs.Order.{Grown_trans, Grown_refl}
-use Rattle.dr_machine.specs.declared.step.Step.TheVariants.{Do}
-use Rattle.dr_program.specs.Acts.{done, may, taken}
-use Rattle.dr_program.specs.Steps as steps
-use Rattle.dr_machine.proofs.Sending.{next_message, next_null, only_messages}
-use Rattle.dr_machine.specs.Sending.{IsPut}
-use Rattle.dr_machine.specs.Effects.{one_more, entries_of}
-use Rattle.dr_machine.specs.declared.event.Act.{Act}
-use Rattle.dr_machine.specs.declared.event.Act.TheVariants as acts
-use Rattle.dr_program.specs.Replica.{Replica, me, count, greatest, members_in_view, is_inside, is_other, is_others, is_own, is_wedged, may_finish, may_suspect, least_seen, sender_of_place, item_of_place, may_append, may_deliver, is_behind, may_receive, may_send, may_null, ready_item, next_index, gained, acted, beaten, ended, reported, appended, delivered, published, marked, looked, pushed, put, received, suspected, accepted, decided}
-use Rattle.dr_program.specs.Form.{HasForm}
-use Rattle.dr_words.proofs.Accepts.{accept_within}
-use Rattle.dr_words.proofs.Forms.{form_done, form_free, grown_done, grown_free}
-use Rattle.dr_words.proofs.Tables.{IsTable, table_looked, table_set, own_written, looked_grown, set_grown}
-use Rattle.dr_form.specs.Puts.{MayPut}
+use Rattle.dr_ring.{specs.Slots.{slot_column, IsFree, is_free, with_item}, proofs.Freedom.IsFree-from_test}
 use Rattle.dr_ring.proofs.OwnPuts.{table_put, put_left, put_tags, put_grown}
-use Rattle.dr_program.proofs.Replicas.{MayLook, looked_on}
-use Rattle.dr_program.proofs.Least.{grown_received, unstamped}
-use Rattle.dr_program.specs.Steps.{NoWordFell}
+use Rattle.dr_words.{specs.{Columns.{columns_of, recv_column}, Grown.{HasGrown, Grown}}, proofs.Accepts.accept_within}
+use Rattle.dr_words.specs.{Form.IsInForm, Rewrites.is_accept_of}
+use Rattle.dr_words.specs.{Masks.IsInRoster, Packing.{accept_promise, accept_tag, accept_value, recv_word, ring_tag}}
+use Rattle.dr_words.specs.declared.column.TheConstants.{BEAT_COLUMN, SUSPECTED_COLUMN, RECEIVED_COLUMN, LOGGED_COLUMN, DONE_COLUMN}
+use Rattle.dr_words.proofs.{Forms.{form_done, form_free, grown_done, grown_free}, Order.{Grown_trans, Grown_refl}}
+use Rattle.dr_words.proofs.Tables.{IsTable, table_looked, table_set, own_written, looked_grown, set_grown}
+use Rattle.dr_rows.specs.Words as rows
+use Rattle.dr_rows.specs.{Along.{Pushes, pushed_along, with_push}, Words.{Words, own, seen, with_own, changed}}
+use Rattle.dr_rows.proofs.{Along.{push_is, push_is_none}, Grids.{own_left, own_seen, with_word-column}}
+use Rattle.dr_rows.proofs.WordsLemmas.{IsWords-pushed}
+use Rattle.dr_machine.{specs.Effects.{one_more, entries_of}, proofs.Sending.{next_message, next_null, only_messages}}
+use Rattle.dr_machine.specs.{Sending.IsPut, declared.{event.Act.Act, step.Step.TheVariants.Do}}
+use Rattle.dr_program.specs.{Acts.{done, may, taken}, Steps.NoWordFell}
+use Rattle.dr_program.{specs.Form.HasForm, proofs.{Least.{grown_received, unstamped}, Replicas.{MayLook, looked_on}}}
+use Rattle.dr_program.specs.Replica.{Replica, me, count, greatest, members_in_view, is_inside, is_other, is_others, is_own, is_wedged, may_finish, may_suspect, least_seen, sender_of_place, item_of_place, may_append, may_deliver, is_behind, may_receive, may_send, may_null, ready_item, next_index, gained, acted, beaten, ended, reported, appended, delivered, published, marked, looked, pushed, put, received, suspected, accepted, decided}
+use Rattle.dr_program.specs.Steps as steps
+use Rattle.dr_machine.specs.declared.event.Act.TheVariants as acts
+use Rattle.dr_form.{specs.Puts.MayPut, proofs.Beside.beside_form}
 use Rattle.dr_form.proofs.Accepting.{accepted_form, accepted_grown, decided_form, others_wait, own_waits}
-use Rattle.dr_form.proofs.Beside.{beside_form}
-use Rattle.dr_form.proofs.Finishing.{finished_form, none_waits}
-use Rattle.dr_form.proofs.Wedging.{suspected_form, suspected_grown}
+use Rattle.dr_form.proofs.{Finishing.{finished_form, none_waits}, Wedging.{suspected_form, suspected_grown}}
 use Rattle.dr_form.proofs.Gains.{counts_bounded, front_rises, shown, table_shown, shown_left, shown_recv, shown_received, shown_grown}
 
 -- the rows of a replica in form
 pub table_of : (r : Replica) → HasForm r → IsTable r.roster r.window r.rows
-table_of r f = record {
-  rows = f.rows;
-  members = f.members;
-  columns = f.columns;
-  words = f.words;
-}
+table_of r f = record { rows = f.rows; members = f.members; columns = f.columns; words = f.words }
 
 -- its own number is one of the roster, and so is that of each member of its view
 me_within : (r : Replica) → HasForm r → me r < r.roster
@@ -74,11 +43,9 @@ me_within r f = omega (arith, f.rows.present, f.members)
 
 -- ---- what only counts on
 
-rest_keeps : (r : Replica) (next logged durable turns acts : ℕ) (history : List Entry)
-    (end : Option End) → HasForm r
+rest_keeps : (r : Replica) (next logged durable turns acts : ℕ) (history : List Entry) (end : Option End) → HasForm r
     → r.logged ≤ logged → logged ≤ length history → length history ≤ r.room → r.acts ≤ acts
-    → acts < 2 ^ 64 → (is_inside r ≡ false → logged ≡ length history)
-    → HasForm (record r {
+    → acts < 2 ^ 64 → (is_inside r ≡ false → logged ≡ length history) → HasForm (record r {
       next = next;
       history = history;
       logged = logged;
@@ -126,18 +93,15 @@ words_keep r words sent f w = record {
   bounded = f.bounded;
   few = f.few;
   items = f.items;
-  suspected = w.kept SUSPECTED_COLUMN (λ e. omega arith) (λ e. omega arith) (λ e. omega arith)
-      ∙ f.suspected;
-  recv = λ s lt. w.kept (recv_column s) (λ e. omega arith) (λ e. omega arith) (λ e. omega arith)
-      ∙ f.recv s lt;
+  suspected = w.kept SUSPECTED_COLUMN (λ e. omega arith) (λ e. omega arith) (λ e. omega arith) ∙ f.suspected;
+  recv = λ s lt. w.kept (recv_column s) (λ e. omega arith) (λ e. omega arith) (λ e. omega arith) ∙ f.recv s lt;
   accept = λ c is. ap accept_promise (same c is) ∙ f.accept c is;
   tagged = λ c is. ap accept_tag (same c is) ∙ f.tagged c is;
   valued = λ c is. ap accept_value (same c is) ∙ f.valued c is;
   low = f.low;
   waits = f.waits;
   votes = f.votes;
-  received = w.kept RECEIVED_COLUMN (λ e. omega arith) (λ e. omega arith) (λ e. omega arith)
-      ∙ f.received;
+  received = w.kept RECEIVED_COLUMN (λ e. omega arith) (λ e. omega arith) (λ e. omega arith) ∙ f.received;
   beat = w.beat;
   acts = f.acts;
   published = w.published;
@@ -161,25 +125,22 @@ words_keep r words sent f w = record {
 
 -- an own word of the beat, the logged and the done column
 own_keeps : (r : Replica) (c v : ℕ) → HasForm r → (c ≡ BEAT_COLUMN)
-    ⊎ ((c ≡ LOGGED_COLUMN) ⊎ (c ≡ DONE_COLUMN)) → IsInForm r.roster c v
-    → (c ≡ BEAT_COLUMN → v ≤ r.acts) → (c ≡ LOGGED_COLUMN → v ≤ r.logged)
-    → HasForm (record r { rows = with_own r.rows c v })
-own_keeps r c v f which is beat logged =
-    words_keep r (with_own r.rows c v).words r.rows.sent f record {
-      table = table_set r.roster r.window r.rows c v (table_of r f) low is;
-      kept = λ d p q s. own_left r.rows c v d (λ e. other d p q s e which);
-      beat = elim (cases_eq c BEAT_COLUMN) [
-        | inl same ↦ let new = own_written r.roster r.window r.rows c v (table_of r f) low in
-            subst (λ (x : ℕ). own (with_own r.rows c v) x ≤ r.acts) same (omega (arith, new, beat same))
-        | inr apart ↦ omega (arith, own_left r.rows c v BEAT_COLUMN (λ e. apart (sym e)), f.beat)
-      ];
-      published = elim (cases_eq c LOGGED_COLUMN) [
-        | inl same ↦ let new = own_written r.roster r.window r.rows c v (table_of r f) low in
-            subst (λ (x : ℕ). own (with_own r.rows c v) x ≤ r.logged) same
-            (omega (arith, new, logged same))
-        | inr apart ↦ omega (arith, own_left r.rows c v LOGGED_COLUMN (λ e. apart (sym e)), f.published)
-      ];
-    }
+    ⊎ ((c ≡ LOGGED_COLUMN) ⊎ (c ≡ DONE_COLUMN)) → IsInForm r.roster c v → (c ≡ BEAT_COLUMN → v ≤ r.acts)
+    → (c ≡ LOGGED_COLUMN → v ≤ r.logged) → HasForm (record r { rows = with_own r.rows c v })
+own_keeps r c v f which is beat logged = words_keep r (with_own r.rows c v).words r.rows.sent f record {
+  table = table_set r.roster r.window r.rows c v (table_of r f) low is;
+  kept = λ d p q s. own_left r.rows c v d (λ e. other d p q s e which);
+  beat = elim (cases_eq c BEAT_COLUMN) [
+    | inl same ↦ let new = own_written r.roster r.window r.rows c v (table_of r f) low in
+        subst (λ (x : ℕ). own (with_own r.rows c v) x ≤ r.acts) same (omega (arith, new, beat same))
+    | inr apart ↦ omega (arith, own_left r.rows c v BEAT_COLUMN (λ e. apart (sym e)), f.beat)
+  ];
+  published = elim (cases_eq c LOGGED_COLUMN) [
+    | inl same ↦ let new = own_written r.roster r.window r.rows c v (table_of r f) low in
+        subst (λ (x : ℕ). own (with_own r.rows c v) x ≤ r.logged) same (omega (arith, new, logged same))
+    | inr apart ↦ omega (arith, own_left r.rows c v LOGGED_COLUMN (λ e. apart (sym e)), f.published)
+  ];
+}
   where
     low : c < columns_of r.roster r.window
     low = elim which [ inl e ↦ omega arith | inr (inl e) ↦ omega arith | inr (inr e) ↦ omega arith ]
@@ -198,17 +159,15 @@ acted_keeps r f =
     let acts : ℕ = one_more 64 r.acts in
     let counted = rest_keeps r r.next r.logged r.durable r.turns acts r.history r.end f
     (omega arith) f.logged f.room (omega (arith, f.acts)) (omega arith) (λ e. (f.outside e).all) in
-    own_keeps (record r { acts = acts }) BEAT_COLUMN acts counted (inl refl)
-    (form_free r.roster BEAT_COLUMN acts (inl (omega arith, omega arith)))
-    (λ e. omega arith) (λ e. absurd (omega arith))
+    own_keeps (record r { acts = acts }) BEAT_COLUMN acts counted (inl refl) (form_free r.roster BEAT_COLUMN acts
+    (inl (omega arith, omega arith))) (λ e. omega arith) (λ e. absurd (omega arith))
 
 acted_grown : (r : Replica) → HasForm r
     → Grown r.roster r.rows.words (acted r).rows.words r.rows.frozen (acted r).rows.frozen
 acted_grown r f =
     let acts : ℕ = one_more 64 r.acts in
-    set_grown r.roster r.window r.rows BEAT_COLUMN acts (table_of r f) (omega arith)
-    (grown_free r.roster BEAT_COLUMN (own r.rows BEAT_COLUMN) acts (inl (omega arith, omega arith))
-    (omega (arith, f.beat, f.acts)))
+    set_grown r.roster r.window r.rows BEAT_COLUMN acts (table_of r f) (omega arith) (grown_free r.roster BEAT_COLUMN
+    (own r.rows BEAT_COLUMN) acts (inl (omega arith, omega arith)) (omega (arith, f.beat, f.acts)))
 
 beaten_keeps : (r : Replica) → HasForm r → HasForm (acted (beaten r))
 beaten_keeps r f = acted_keeps (beaten r)
@@ -216,9 +175,8 @@ beaten_keeps r f = acted_keeps (beaten r)
     (omega arith) f.logged f.room (omega arith) f.acts (λ e. (f.outside e).all))
 
 ended_keeps : (r : Replica) (end : End) → HasForm r → HasForm (acted (ended r end))
-ended_keeps r end f = acted_keeps (ended r end)
-    (rest_keeps r r.next r.logged r.durable r.turns r.acts r.history (Some end) f
-    (omega arith) f.logged f.room (omega arith) f.acts (λ e. (f.outside e).all))
+ended_keeps r end f = acted_keeps (ended r end) (rest_keeps r r.next r.logged r.durable r.turns r.acts r.history
+    (Some end) f (omega arith) f.logged f.room (omega arith) f.acts (λ e. (f.outside e).all))
 
 reported_keeps : (r : Replica) → HasForm r → HasForm (acted (reported r))
 reported_keeps r f = acted_keeps (reported r)
@@ -243,8 +201,7 @@ delivered_keeps r f inside may =
     let new : List Entry = entries_of r.history (sender_of_place r r.next) (item_of_place r r.next) in
     let one = one_entry r.history (sender_of_place r r.next) (item_of_place r r.next) in
     let more = length-append r.history new in
-    let room : length r.history < r.room =
-    ltb-true (length r.history) r.room
+    let room : length r.history < r.room = ltb-true (length r.history) r.room
     (and_parts (nat_lt r.next (least_seen r RECEIVED_COLUMN)) (nat_lt (length r.history) r.room)
     (and_parts (not (is_wedged r)) _ may).1).1 in
     acted_keeps (delivered r) (rest_keeps r (r.next + 1) r.logged r.durable r.turns r.acts
@@ -255,9 +212,8 @@ delivered_keeps r f inside may =
 
 -- publishing keeps a replica in form
 pub published_form : (r : Replica) → HasForm r → HasForm (published r)
-published_form r f = own_keeps r LOGGED_COLUMN r.logged f (inr (inl refl))
-    (form_free r.roster LOGGED_COLUMN r.logged (inl (omega arith, omega arith)))
-    (λ e. absurd (omega arith)) (λ e. omega arith)
+published_form r f = own_keeps r LOGGED_COLUMN r.logged f (inr (inl refl)) (form_free r.roster LOGGED_COLUMN r.logged
+    (inl (omega arith, omega arith))) (λ e. absurd (omega arith)) (λ e. omega arith)
 
 -- the act of publishing keeps a replica in form
 pub published_keeps : (r : Replica) → HasForm r → HasForm (acted (published r))
@@ -265,15 +221,12 @@ published_keeps r f = acted_keeps (published r) (published_form r f)
 
 -- no word falls by the act of publishing
 pub published_grown : (r : Replica) → HasForm r
-    → Grown r.roster r.rows.words (acted (published r)).rows.words r.rows.frozen
-    (acted (published r)).rows.frozen
-published_grown r f =
-    Grown_trans r.roster r.rows.words (published r).rows.words
+    → Grown r.roster r.rows.words (acted (published r)).rows.words r.rows.frozen (acted (published r)).rows.frozen
+published_grown r f = Grown_trans r.roster r.rows.words (published r).rows.words
     (acted (published r)).rows.words r.rows.frozen r.rows.frozen r.rows.frozen
     (set_grown r.roster r.window r.rows LOGGED_COLUMN r.logged (table_of r f) (omega arith)
     (grown_free r.roster LOGGED_COLUMN (own r.rows LOGGED_COLUMN) r.logged
-    (inl (omega arith, omega arith)) f.published))
-    (acted_grown (published r) (published_form r f))
+    (inl (omega arith, omega arith)) f.published)) (acted_grown (published r) (published_form r f))
 
 -- marking keeps a replica in form
 pub marked_form : (r : Replica) → HasForm r → HasForm (marked r)
@@ -287,8 +240,7 @@ marked_keeps r f = acted_keeps (marked r) (marked_form r f)
 -- no word falls by the act of marking
 pub marked_grown : (r : Replica) → HasForm r
     → Grown r.roster r.rows.words (acted (marked r)).rows.words r.rows.frozen (acted (marked r)).rows.frozen
-marked_grown r f =
-    Grown_trans r.roster r.rows.words (marked r).rows.words
+marked_grown r f = Grown_trans r.roster r.rows.words (marked r).rows.words
     (acted (marked r)).rows.words r.rows.frozen r.rows.frozen r.rows.frozen
     (set_grown r.roster r.window r.rows DONE_COLUMN 1 (table_of r f) (omega arith)
     (grown_done r.roster (own r.rows DONE_COLUMN) ((f.words (me r) DONE_COLUMN).done refl)))
@@ -317,27 +269,24 @@ looked_keeps r i c v f other column is =
 
 -- no word falls by a look at a word that has grown since it was seen
 pub looked_rises : (r : Replica) (i c v : ℕ) → HasForm r → is_other r i ≡ true
-    → has r.suspects i ≡ false → c < columns_of r.roster r.window
-    → HasGrown r.roster c (seen r.rows i c) v
+    → has r.suspects i ≡ false → c < columns_of r.roster r.window → HasGrown r.roster c (seen r.rows i c) v
     → Grown r.roster r.rows.words (looked r i c v).rows.words r.rows.frozen (looked r i c v).rows.frozen
-looked_rises r i c v f other trusted column grown =
-    looked_grown r.roster r.window r.rows i c v (table_of r f) (other_apart r i f other).1 column
-    (f.frozen i ∙ trusted) grown
+looked_rises r i c v f other trusted column grown = looked_grown r.roster r.window r.rows i c v
+    (table_of r f) (other_apart r i f other).1 column (f.frozen i ∙ trusted) grown
 
 -- a push to a member of the roster keeps a replica in form
 pub pushed_keeps : (r : Replica) (j c : ℕ) → HasForm r → j < r.roster → HasForm (pushed r j c)
-pushed_keeps r j c f within =
-    words_keep r r.rows.words (rows.pushed r.rows j c).sent f record {
-      table = record {
-        rows = IsWords-pushed r.rows j c f.rows (omega (arith, f.members));
-        members = f.members;
-        columns = f.columns;
-        words = f.words;
-      };
-      kept = λ d p q s. refl;
-      beat = f.beat;
-      published = f.published;
-    }
+pushed_keeps r j c f within = words_keep r r.rows.words (rows.pushed r.rows j c).sent f record {
+  table = record {
+    rows = IsWords-pushed r.rows j c f.rows (omega (arith, f.members));
+    members = f.members;
+    columns = f.columns;
+    words = f.words;
+  };
+  kept = λ d p q s. refl;
+  beat = f.beat;
+  published = f.published;
+}
 
 -- ---- an item more
 
@@ -351,9 +300,8 @@ pub record IsPutting (r : Replica) (s : ℕ) (words : List (List ℕ)) (puts : L
   pub table : IsTable r.roster r.window (record r.rows { words = words })
   pub kept : (c : ℕ) → c < 6 + 2 * r.roster → own (record r.rows { words = words }) c ≡ own r.rows c
   -- the ring and what is put are up to the new count
-  pub ring : (k part : ℕ) → part < 17
-      → ring_tag (own (record r.rows { words = words }) (slot_column r.roster r.window k + part))
-      ≤ get_or (set r.counts s (count r s + 1)) (me r) 0
+  pub ring : (k part : ℕ) → part < 17 → ring_tag (own (record r.rows { words = words })
+      (slot_column r.roster r.window k + part)) ≤ get_or (set r.counts s (count r s + 1)) (me r) 0
   pub put : length puts ≡ get_or (set r.counts s (count r s + 1)) (me r) 0
   pub order : IsPut r.base (length r.messages) puts
 
@@ -374,8 +322,7 @@ gained_keeps r s item words puts f p =
     let few : k ≤ 4096 = omega (arith, p.room, f.few) in
     let t = table_shown r.roster r.window w s k front p.table p.sender few in
     let low : (c : ℕ) → c < 6 + 2 * r.roster → c ≢ RECEIVED_COLUMN → c ≢ recv_column s
-    → own (shown w s k front) c ≡ own r.rows c =
-    λ c l a b. shown_left w s k front c a b ∙ p.kept c l in
+    → own (shown w s k front) c ≡ own r.rows c = λ c l a b. shown_left w s k front c a b ∙ p.kept c l in
     let same : (c : ℕ) → is_accept_of r.roster r.members c ≡ true → own (shown w s k front) c ≡ own r.rows c =
     λ c is. let high = accept_within r.roster r.members c is in
     low c (omega (arith, high)) (λ e. omega (arith, high)) (λ e. omega (arith, high, p.sender)) in
@@ -407,8 +354,7 @@ gained_keeps r s item words puts f p =
         | inl same ↦ let set = get_or-set_same r.counts s k 0 within in
             rw (same, set, p.unwedged) (shown_recv r.roster r.window w s k front p.table p.sender)
         | inr other ↦ let kept = get_or-set_other r.counts s j k 0 other in
-            rw kept (low (recv_column j) (omega arith) (λ e. omega arith) (λ e. other (omega arith))
-            ∙ f.recv j l)
+            rw kept (low (recv_column j) (omega arith) (λ e. omega arith) (λ e. other (omega arith)) ∙ f.recv j l)
       ];
       accept = λ c is. ap accept_promise (same c is) ∙ f.accept c is;
       tagged = λ c is. ap accept_tag (same c is) ∙ f.tagged c is;
@@ -419,13 +365,8 @@ gained_keeps r s item words puts f p =
       received = shown_received r.roster r.window w s k front p.table p.sender few;
       beat = omega (arith, low BEAT_COLUMN (omega arith) (λ e. omega arith) (λ e. omega arith), f.beat);
       acts = f.acts;
-      published = omega (
-        arith,
-        low LOGGED_COLUMN (omega arith) (λ e. omega arith) (λ e. omega arith),
-        f.published,
-      );
-      ring = λ i part l. let kept =
-          shown_left w s k front (slot_column r.roster r.window i + part) (λ e. omega arith)
+      published = omega (arith, low LOGGED_COLUMN (omega arith) (λ e. omega arith) (λ e. omega arith), f.published);
+      ring = λ i part l. let kept = shown_left w s k front (slot_column r.roster r.window i + part) (λ e. omega arith)
           (λ e. omega (arith, p.sender)) in rw kept (p.ring i part l);
       messages = f.messages;
       short = f.short;
@@ -438,10 +379,8 @@ gained_keeps r s item words puts f p =
     }
 
 gained_grown : (r : Replica) (s : ℕ) (item : Item) (words : List (List ℕ)) (puts : List SentItem)
-    → HasForm r → is_inside r ≡ true → IsPutting r s words puts
-    → Grown r.roster words (gained
-    (record r { rows = record r.rows { words = words }; sent = puts }) s item).rows.words r.rows.frozen
-    r.rows.frozen
+    → HasForm r → is_inside r ≡ true → IsPutting r s words puts → Grown r.roster words (gained
+    (record r { rows = record r.rows { words = words }; sent = puts }) s item).rows.words r.rows.frozen r.rows.frozen
 gained_grown r s item words puts f inside p =
     let w : Words = record r.rows { words = words } in
     let k : ℕ = count r s + 1 in
@@ -456,12 +395,10 @@ gained_grown r s item words puts f inside p =
 
 -- ---- receiving
 
-receiving : (r : Replica) (s : ℕ) → HasForm r → may_receive r s ≡ true
-    → IsPutting r s r.rows.words r.sent
+receiving : (r : Replica) (s : ℕ) → HasForm r → may_receive r s ≡ true → IsPutting r s r.rows.words r.sent
 receiving r s f may =
     let all = and_parts (not (is_wedged r)) _ may in
-    let parts = and_parts (is_other r s)
-    (is_some (ready_item r s) && nat_lt (count r s) (greatest r.totals)) all.1 in
+    let parts = and_parts (is_other r s) (is_some (ready_item r s) && nat_lt (count r s) (greatest r.totals)) all.1 in
     let apart = other_apart r s f parts.0 in
     let room = ltb-true (count r s) (greatest r.totals)
     (and_parts (is_some (ready_item r s)) (nat_lt (count r s) (greatest r.totals)) parts.1).1 in
@@ -479,22 +416,18 @@ receiving r s f may =
     }
 
 -- receiving an item that may be received keeps a replica in form
-pub received_form : (r : Replica) (s : ℕ) → HasForm r → may_receive r s ≡ true
-    → HasForm (received r s)
+pub received_form : (r : Replica) (s : ℕ) → HasForm r → may_receive r s ≡ true → HasForm (received r s)
 received_form r s f may = gained_keeps r s (unwrap_or (ready_item r s) Null) r.rows.words r.sent f
     (receiving r s f may)
 
 -- the act of receiving keeps a replica in form
-pub received_keeps : (r : Replica) (s : ℕ) → HasForm r → may_receive r s ≡ true
-    → HasForm (acted (received r s))
+pub received_keeps : (r : Replica) (s : ℕ) → HasForm r → may_receive r s ≡ true → HasForm (acted (received r s))
 received_keeps r s f may = acted_keeps (received r s) (received_form r s f may)
 
 -- no word falls by the act of receiving
 pub received_grown : (r : Replica) (s : ℕ) → HasForm r → is_inside r ≡ true → may_receive r s ≡ true
-    → Grown r.roster r.rows.words (acted (received r s)).rows.words r.rows.frozen
-    (acted (received r s)).rows.frozen
-received_grown r s f inside may =
-    Grown_trans r.roster r.rows.words (received r s).rows.words
+    → Grown r.roster r.rows.words (acted (received r s)).rows.words r.rows.frozen (acted (received r s)).rows.frozen
+received_grown r s f inside may = Grown_trans r.roster r.rows.words (received r s).rows.words
     (acted (received r s)).rows.words r.rows.frozen r.rows.frozen r.rows.frozen
     (gained_grown r s (unwrap_or (ready_item r s) Null) r.rows.words r.sent f inside (receiving r s f may))
     (acted_grown (received r s) (received_form r s f may))
@@ -503,11 +436,10 @@ received_grown r s f inside may =
 
 -- nobody has more than the greatest number
 totals_most : (totals : List ℕ) (i : ℕ) → get_or totals i 0 ≤ greatest totals
-totals_most totals i =
-    elim (cases_lt i (length totals)) [
-      | inl within ↦ count_max totals 0 i within
-      | inr past ↦ omega (arith, get_or_past totals i 0 past)
-    ]
+totals_most totals i = elim (cases_lt i (length totals)) [
+  | inl within ↦ count_max totals 0 i within
+  | inr past ↦ omega (arith, get_or_past totals i 0 past)
+]
 
 -- the message that it sends next
 abbrev pub message_to_send : Replica → Item
@@ -518,25 +450,21 @@ pub message_left : (r : Replica) → HasForm r
     → nat_lt (r.base + length r.sent) (length r.messages) ≡ nat_lt (next_index r) (length r.messages)
 message_left r f = elim (cases_lt (messages_in r.sent) (length r.sent)) [
   | inl null ↦ grind (arith, nat_tests, null, f.order.nulls null)
-  | inr all ↦ ap (λ (n : ℕ). nat_lt (r.base + n) (length r.messages))
-      (omega (arith, all, messages_within r.sent))
+  | inr all ↦ ap (λ (n : ℕ). nat_lt (r.base + n) (length r.messages)) (omega (arith, all, messages_within r.sent))
 ]
 
 -- the slot of its next item is free, where the test says so
 slot_free : (r : Replica) → HasForm r → is_free r.window r.rows r.members (count r (me r)) ≡ true
     → IsFree r.window r.rows r.members (count r (me r))
-slot_free r f free =
-    IsFree-from_test r.window r.rows r.members (count r (me r)) f.rows.few
+slot_free r f free = IsFree-from_test r.window r.rows r.members (count r (me r)) f.rows.few
     (subst (λ (n : ℕ). IsInRoster n r.members) (sym f.members) f.roster) free
 
 -- a member that may send may put its next message
-pub sending : (r : Replica) → HasForm r → may_send r ≡ true
-    → MayPut r (Index (next_index r)) (message_to_send r)
+pub sending : (r : Replica) → HasForm r → may_send r ≡ true → MayPut r (Index (next_index r)) (message_to_send r)
 sending r f may =
     let i : ℕ = next_index r in
     let both = and_parts (not (is_wedged r)) _ may in
-    let two = and_parts (nat_lt i (length r.messages))
-    (is_free r.window r.rows r.members (count r (me r))) both.1 in
+    let two = and_parts (nat_lt i (length r.messages)) (is_free r.window r.rows r.members (count r (me r))) both.1 in
     let left : i < length r.messages = ltb-true i (length r.messages) two.0 in
     let there = slice_get-get_or r.messages i [] left in
     let all = only_messages r.base (length r.messages) r.sent f.order left in
@@ -553,13 +481,7 @@ pub index_small : (r : Replica) → HasForm r → may_send r ≡ true → next_i
 index_small r f may =
     let both = and_parts (not (is_wedged r)) _ may in
     let two = and_parts (nat_lt (next_index r) (length r.messages)) _ both.1 in
-    omega (
-      arith,
-      ltb-true (next_index r) (length r.messages) two.0,
-      f.messages,
-      totals_most r.totals (me r),
-      f.few,
-    )
+    omega (arith, ltb-true (next_index r) (length r.messages) two.0, f.messages, totals_most r.totals (me r), f.few)
 
 -- a number above one of the counts is none of the greatest
 behind_some : (k most : ℕ) (counts : List ℕ) → ((s : ℕ) → slice_index counts s ≤ most)
@@ -606,8 +528,7 @@ putting r name item f may =
 -- putting it keeps a replica in form
 pub put_form : (r : Replica) (name : SentItem) (item : Item) → HasForm r → MayPut r name item
     → HasForm (put r name item)
-put_form r name item f may =
-    gained_keeps r (me r) item (with_item r.window r.rows (count r (me r)) item).words
+put_form r name item f may = gained_keeps r (me r) item (with_item r.window r.rows (count r (me r)) item).words
     (r.sent ++ name ∷ []) f (putting r name item f may)
 
 -- and so does the act of putting it
@@ -623,8 +544,7 @@ put_rises r name item f inside may =
     let words : List (List ℕ) = (with_item r.window r.rows (count r (me r)) item).words in
     Grown_trans r.roster r.rows.words (put r name item).rows.words
     (acted (put r name item)).rows.words r.rows.frozen r.rows.frozen r.rows.frozen
-    (Grown_trans r.roster r.rows.words words (put r name item).rows.words r.rows.frozen r.rows.frozen
-    r.rows.frozen
+    (Grown_trans r.roster r.rows.words words (put r name item).rows.words r.rows.frozen r.rows.frozen r.rows.frozen
     (put_grown r.roster r.window r.rows (count r (me r)) item (table_of r f) f.some_slot may.ranges
     (λ part lt. f.ring (count r (me r)) part lt))
     (gained_grown r (me r) item words (r.sent ++ name ∷ []) f inside (putting r name item f may)))
@@ -634,10 +554,8 @@ put_rises r name item f inside may =
 
 -- the act of accepting a value
 accepting_grown : (r : Replica) (x : Vote) → HasForm r → r.pending ≡ Some x
-    → Grown r.roster r.rows.words (acted (accepted r)).rows.words r.rows.frozen
-    (acted (accepted r)).rows.frozen
-accepting_grown r x f e =
-    Grown_trans r.roster r.rows.words (accepted r).rows.words (acted (accepted r)).rows.words
+    → Grown r.roster r.rows.words (acted (accepted r)).rows.words r.rows.frozen (acted (accepted r)).rows.frozen
+accepting_grown r x f e = Grown_trans r.roster r.rows.words (accepted r).rows.words (acted (accepted r)).rows.words
     r.rows.frozen r.rows.frozen r.rows.frozen (accepted_grown r x f e)
     (acted_grown (accepted r) (accepted_form r x f e))
 
@@ -648,9 +566,8 @@ pub taken_keeps : (r : Replica) (a : Act) → HasForm r → steps.allows r (Do a
     → steps.is_free r (Do a) ≡ true → HasForm (taken r a)
 taken_keeps r acts.Beat f m free = beaten_keeps r f
 taken_keeps r (acts.Crash end) f m free = ended_keeps r end f
-taken_keeps r (acts.Receive s) f m free =
-    received_keeps r s f (and_parts (nat_lt s r.roster) (may_receive r s)
-    (and_parts (is_inside r) (nat_lt s r.roster && may_receive r s) m).1).1
+taken_keeps r (acts.Receive s) f m free = received_keeps r s f (and_parts (nat_lt s r.roster)
+    (may_receive r s) (and_parts (is_inside r) (nat_lt s r.roster && may_receive r s) m).1).1
 taken_keeps r acts.Send f m free = put_keeps r _ _ f (sending r f (and_parts (is_inside r) (may_send r) m).1)
 taken_keeps r acts.Null f m free = put_keeps r _ _ f (filling r f (and_parts (is_inside r) (may_null r) m).1)
 taken_keeps r acts.Deliver f m free =
@@ -674,8 +591,7 @@ taken_keeps r acts.Finish f m free =
     finished_form (acted r) (acted_keeps r f) two.0 two.1 (none_waits r.pending free)
 
 -- no word falls by an act that a replica may take, by which it stays in its view
-pub taken_grown : (r : Replica) (a : Act) → HasForm r → steps.allows r (Do a) ≡ true
-    → (taken r a).view ≡ r.view
+pub taken_grown : (r : Replica) (a : Act) → HasForm r → steps.allows r (Do a) ≡ true → (taken r a).view ≡ r.view
     → Grown r.roster r.rows.words (taken r a).rows.words r.rows.frozen (taken r a).rows.frozen
 taken_grown r (acts.Receive s) f m same =
     let two = and_parts (is_inside r) (nat_lt s r.roster && may_receive r s) m in
@@ -708,8 +624,7 @@ taken_other r a other = refl
 -- it is in form, and no word fell
 pub looks_keep : (r : Replica) (i : ℕ) (table : List ℕ) (first from m : ℕ) → MayLook r i table first from m
     → HasForm (looked_on r i table first from m) × NoWordFell r (looked_on r i table first from m)
-looks_keep r i table first from zero may =
-    (may.form, Grown_refl r.roster r.rows.words r.rows.frozen)
+looks_keep r i table first from zero may = (may.form, Grown_refl r.roster r.rows.words r.rows.frozen)
 looks_keep r i table first from (suc m) may =
     let rest = looks_keep one i table first (from + 1) m after in (
       rest.0,
@@ -740,8 +655,7 @@ looks_keep r i table first from (suc m) may =
 
 -- a replica stays in form by the pushes of a row
 pub pushes_keep : (r : Replica) (j first : ℕ) (s : Pushes) (from m : ℕ) → j < r.roster
-    → HasForm (record r { rows = s.words })
-    → HasForm (record r { rows = (pushed_along j first s from m).words })
+    → HasForm (record r { rows = s.words }) → HasForm (record r { rows = (pushed_along j first s from m).words })
 pushes_keep r j first s from zero within form = form
 pushes_keep r j first s from (suc m) within form =
     pushes_keep r j first (with_push j first s from) (from + 1) m within (by (changed s.words j from) refl)
@@ -753,15 +667,12 @@ pushes_keep r j first s from (suc m) within form =
         (sym (push_is_none j first s from e)) form
 
 -- it doesn't fall where an item is put or received
-pub put_received : (r : Replica) (name : SentItem) (item : Item) → HasForm r → is_inside r ≡ true
-    → MayPut r name item
+pub put_received : (r : Replica) (name : SentItem) (item : Item) → HasForm r → is_inside r ≡ true → MayPut r name item
     → least_seen r RECEIVED_COLUMN ≤ least_seen (put r name item) RECEIVED_COLUMN
-put_received r name item form inside may =
-    le_trans (grown_received r (acted (put r name item)) r.rows.frozen (acted (put r name item)).rows.frozen
-    refl (put_rises r name item form inside may)) (unstamped (put r name item))
+put_received r name item form inside may = le_trans (grown_received r (acted (put r name item)) r.rows.frozen
+    (acted (put r name item)).rows.frozen refl (put_rises r name item form inside may)) (unstamped (put r name item))
 
 pub received_received : (r : Replica) (s : ℕ) → HasForm r → is_inside r ≡ true → may_receive r s ≡ true
     → least_seen r RECEIVED_COLUMN ≤ least_seen (received r s) RECEIVED_COLUMN
-received_received r s form inside may =
-    le_trans (grown_received r (acted (received r s)) r.rows.frozen (acted (received r s)).rows.frozen
-    refl (received_grown r s form inside may)) (unstamped (received r s))
+received_received r s form inside may = le_trans (grown_received r (acted (received r s)) r.rows.frozen
+    (acted (received r s)).rows.frozen refl (received_grown r s form inside may)) (unstamped (received r s))

@@ -3,17 +3,11 @@ use Rattle.std.proofs.Common.{◌≡◌, ℕ, ◌<◌, ◌&&◌, not, true, nat_
 use Rattle.std.proofs.lemmas.Bool.{and_parts, ltb-true, not-true}
 use Rattle.dr_history.specs.Members.{has}
 use Rattle.dr_rows.specs.Words.{seen}
-use Rattle.dr_words.specs.Columns.{columns_of}
-use Rattle.dr_words.specs.Form.{IsInForm}
-use Rattle.dr_words.specs.Grown.{HasGrown}
-use Rattle.dr_words.proofs.Order.{Grown_refl}
-use Rattle.dr_machine.specs.declared.step.Step.{Step}
-use Rattle.dr_machine.specs.declared.step.Step.TheVariants.{Append, Do, LogVote, Look, Push, Welcome}
-use Rattle.dr_program.specs.Form.{HasForm}
-use Rattle.dr_program.specs.Replica.{Replica, is_inside, is_other, may_append, may_vote}
+use Rattle.dr_words.{specs.{Columns.columns_of, Form.IsInForm, Grown.HasGrown}, proofs.Order.Grown_refl}
+use Rattle.dr_machine.specs.declared.step.Step.{Step, TheVariants.{Append, Do, LogVote, Look, Push, Welcome}}
+use Rattle.dr_program.specs.{Form.HasForm, Replica.{Replica, is_inside, is_other, may_append, may_vote}}
 use Rattle.dr_program.specs.Steps.{AtLook, NoWordFell, allows, has_cell, is_free, stepped}
-use Rattle.dr_form.proofs.Accepting.{voted_form}
-use Rattle.dr_form.proofs.Finishing.{gave_form, none_waits}
+use Rattle.dr_form.proofs.{Accepting.voted_form, Finishing.{gave_form, none_waits}}
 use Rattle.dr_form.proofs.Keeps.{appended_keeps, looked_keeps, looked_rises, pushed_keeps, taken_grown, taken_keeps}
 
 -- a cell that a step names: another member's row, and a column
@@ -42,8 +36,7 @@ stepped_form word r (Look i c) form may free sees =
     looked_keeps r i c word form at.other at.column (sees i c refl)
 stepped_form word r (Push j c) form may free sees = pushed_keeps r j c form
     (cell r j c (and_parts (is_inside r) (has_cell r j c) may).1).row
-stepped_form word r Append form may free sees = appended_keeps r form
-    (and_parts (is_inside r) (may_append r) may).1
+stepped_form word r Append form may free sees = appended_keeps r form (and_parts (is_inside r) (may_append r) may).1
 stepped_form word r (LogVote v) form may free sees = voted_form r v form (none_waits r.pending free)
     (and_parts (is_inside r) (may_vote r v) may).1
 stepped_form word r (Welcome j) form may free sees = gave_form r j form

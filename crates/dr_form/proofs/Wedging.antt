@@ -1,26 +1,19 @@
 -- What a suspicion makes of a replica: its words have grown, and it keeps its form.
 use Rattle.std.proofs.Common.{◌≡◌, ◌≢◌, ℕ, ◌+◌, ◌-◌, ◌^◌, ◌<◌, ◌≤◌, ◌==◌, ◌&&◌, ◌||◌, ◌⊎◌, inl, inr, not, Bool, true, false, if◌then◌else◌, refl, sym, ap, subst, ◌∙◌, arith}
-use Rattle.std.proofs.lemmas.Bool.{cases_eq}
-use Rattle.std.proofs.lemmas.Bool.Decides.{nat_tests}
+use Rattle.std.proofs.lemmas.Bool.{cases_eq, Decides.nat_tests}
 use Rattle.dr_history.specs.Members.{has}
-use Rattle.dr_rows.proofs.Rewrites.{IsWords-frozen, IsWords-rewritten, frozen_more, own_rewritten}
 use Rattle.dr_rows.specs.Words.{own, rewritten}
-use Rattle.dr_words.proofs.Accepts.{accept_within}
-use Rattle.dr_words.proofs.Masks.{IsSuspecting, in_roster_small, left_rises, left_within, more_grows, more_has, more_named, more_some, more_trusted}
-use Rattle.dr_words.proofs.Order.{Grown_trans}
-use Rattle.dr_words.proofs.Rewrites.{frozen_grown, recv_within, rewritten_grown, rewritten_in_form, wedged_grown, wedged_in_form, wedged_promise, wedged_recv, wedged_rest, wedged_tag, wedged_value}
-use Rattle.dr_words.specs.declared.column.TheConstants.{BEAT_COLUMN, LOGGED_COLUMN, RECEIVED_COLUMN, SUSPECTED_COLUMN}
-use Rattle.dr_words.specs.Columns.{head_column, recv_column}
-use Rattle.dr_words.specs.Form.{AllInForm}
+use Rattle.dr_rows.proofs.Rewrites.{IsWords-frozen, IsWords-rewritten, frozen_more, own_rewritten}
+use Rattle.dr_words.{specs.Columns.{head_column, recv_column}, proofs.{Accepts.accept_within, Order.Grown_trans}}
+use Rattle.dr_words.specs.{Form.AllInForm, Packing.{accept_promise, accept_tag, accept_value, recv_count, recv_word}}
 use Rattle.dr_words.specs.Grown.{HasGrown, Grown}
-use Rattle.dr_words.specs.Masks.{least_of, with_member, without}
-use Rattle.dr_words.specs.Packing.{accept_promise, accept_tag, accept_value, recv_count, recv_word}
-use Rattle.dr_words.specs.Rewrites.{is_accept_of, is_recv_of, wedged_word}
+use Rattle.dr_words.specs.{Masks.{least_of, with_member, without}, Rewrites.{is_accept_of, is_recv_of, wedged_word}}
+use Rattle.dr_words.specs.declared.column.TheConstants.{BEAT_COLUMN, LOGGED_COLUMN, RECEIVED_COLUMN, SUSPECTED_COLUMN}
+use Rattle.dr_words.proofs.Masks.{IsSuspecting, in_roster_small, left_rises, left_within, more_grows, more_has, more_named, more_some, more_trusted}
+use Rattle.dr_words.proofs.Rewrites.{frozen_grown, recv_within, rewritten_grown, rewritten_in_form, wedged_grown, wedged_in_form, wedged_promise, wedged_recv, wedged_rest, wedged_tag, wedged_value}
 use Rattle.dr_ring.specs.Slots.{slot_column}
-use Rattle.dr_program.proofs.Suspecting.{suspecting}
-use Rattle.dr_program.specs.Form.{HasForm}
+use Rattle.dr_program.{specs.Form.HasForm, proofs.{Least.grown_received, Suspecting.suspecting}}
 use Rattle.dr_program.specs.Replica.{Replica, count, is_inside, is_wedged, may_suspect, me, promise, suspected, least_seen}
-use Rattle.dr_program.proofs.Least.{grown_received}
 
 -- ---- the masks
 
@@ -52,11 +45,9 @@ anew r j = wedged_word r.roster r.members (mask_with r j) (voter_of r j)
 -- each is in form, and has grown
 anew_form : (r : Replica) (j : ℕ) → HasForm r → is_inside r ≡ true → may_suspect r j ≡ true
     → AllInForm r.roster (rewritten r.rows (anew r j)).words
-anew_form r j f inside may =
-    rewritten_in_form r.roster r.rows (anew r j) f.rows
+anew_form r j f inside may = rewritten_in_form r.roster r.rows (anew r j) f.rows
     (λ c. wedged_in_form r.roster r.members (mask_with r j) (voter_of r j) c (own r.rows c)
-    (in_roster_small r.roster (mask_with r j) (more_named s)) (left_within s)
-    (words (me r) c)) words
+    (in_roster_small r.roster (mask_with r j) (more_named s)) (left_within s) (words (me r) c)) words
   where
     s : IsSuspecting r.roster r.members r.suspects (me r) j
     s = suspecting r j f inside may
@@ -66,16 +57,14 @@ anew_form r j f inside may =
 
 anew_grown : (r : Replica) (j c : ℕ) → HasForm r → is_inside r ≡ true → may_suspect r j ≡ true
     → HasGrown r.roster c (own r.rows c) (anew r j c (own r.rows c))
-anew_grown r j c f inside may =
-    wedged_grown r.roster r.members (mask_with r j) (voter_of r j) c (own r.rows c)
+anew_grown r j c f inside may = wedged_grown r.roster r.members (mask_with r j) (voter_of r j) c (own r.rows c)
     (λ e. rw (e, f.suspected) (more_grows (suspecting r j f inside may)))
     (λ is. omega (arith, f.accept c is, promise_rises r j f inside may))
 
 -- a count that stays, final where its sender is of the view
 final_recv : (n : ℕ) (wedged member : Bool)
     → (if member then recv_word (recv_count (recv_word n (wedged && member))) true
-    else recv_word n (wedged && member))
-    ≡ recv_word n (true && member)
+    else recv_word n (wedged && member)) ≡ recv_word n (true && member)
 final_recv n true true = omega arith
 final_recv n false true = omega arith
 final_recv n true false = refl
@@ -95,8 +84,7 @@ suspected_form r j f inside may = record {
   trusted = more_trusted s;
   named = more_named s;
   frozen = λ i. frozen_more (rewritten r.rows (anew r j)) j i (IsWords-rewritten r.rows (anew r j) f.rows)
-      (omega (arith, s.within, f.members))
-      ∙ ap (λ (b : Bool). i == j || b) (f.frozen i) ∙ sym (more_has s i);
+      (omega (arith, s.within, f.members)) ∙ ap (λ (b : Bool). i == j || b) (f.frozen i) ∙ sym (more_has s i);
   bank = f.bank;
   left = f.left;
   roster = f.roster;
@@ -159,14 +147,12 @@ suspected_form r j f inside may = record {
         → own (rewritten r.rows (anew r j)) c ≡ anew r j c (own r.rows c)
     accept_now c is = word c (omega (arith, f.columns, accept_within r.roster r.members c is))
 
-    same : (c : ℕ) → c < r.rows.columns → c ≢ SUSPECTED_COLUMN
-        → (c < recv_column 0) ⊎ (head_column r.roster 0 ≤ c)
+    same : (c : ℕ) → c < r.rows.columns → c ≢ SUSPECTED_COLUMN → (c < recv_column 0) ⊎ (head_column r.roster 0 ≤ c)
         → own (rewritten r.rows (anew r j)) c ≡ own r.rows c
     same c low other outside = word c low
         ∙ wedged_rest r.roster r.members (mask_with r j) (voter_of r j) c (own r.rows c) other outside
 
-    early : (c : ℕ) → c < recv_column 0 → c ≢ SUSPECTED_COLUMN
-        → own (rewritten r.rows (anew r j)) c ≡ own r.rows c
+    early : (c : ℕ) → c < recv_column 0 → c ≢ SUSPECTED_COLUMN → own (rewritten r.rows (anew r j)) c ≡ own r.rows c
     early c low other = same c (omega (arith, f.columns, low)) other (inl low)
 
 -- no word falls by it
@@ -178,15 +164,13 @@ pub suspected_grown : (r : Replica) (j : ℕ) → HasForm r → is_inside r ≡ 
     → Grown r.roster r.rows.words (suspected r j).rows.words r.rows.frozen (suspected r j).rows.frozen
 suspected_grown r j f inside may =
     let s = suspecting r j f inside may in
-    Grown_trans r.roster r.rows.words (rewritten r.rows (anew r j)).words (rewritten r.rows (anew r j)).words
-    r.rows.frozen r.rows.frozen (suspected r j).rows.frozen
-    (rewritten_grown r.roster r.rows (anew r j) f.rows (λ c. anew_grown r j c f inside may))
-    (frozen_grown r.roster (rewritten r.rows (anew r j)) j (IsWords-rewritten r.rows (anew r j) f.rows)
-    (omega (arith, s.within, f.members)))
+    Grown_trans r.roster r.rows.words (rewritten r.rows (anew r j)).words
+    (rewritten r.rows (anew r j)).words r.rows.frozen r.rows.frozen (suspected r j).rows.frozen
+    (rewritten_grown r.roster r.rows (anew r j) f.rows (λ c. anew_grown r j c f inside may)) (frozen_grown r.roster
+    (rewritten r.rows (anew r j)) j (IsWords-rewritten r.rows (anew r j) f.rows) (omega (arith, s.within, f.members)))
 
 -- the recv words are small
-pub recv_small : (r : Replica) → HasForm r → (c : ℕ) → is_recv_of r.roster r.members c ≡ true
-    → own r.rows c < 2 ^ 33
+pub recv_small : (r : Replica) → HasForm r → (c : ℕ) → is_recv_of r.roster r.members c ≡ true → own r.rows c < 2 ^ 33
 recv_small r f c is =
     let at = recv_within r.roster r.members c is in
     (f.words (me r) c).recv (c - 5) (omega (arith, f.members, at)) (omega (arith, at))
@@ -194,6 +178,5 @@ recv_small r f c is =
 -- nor where a member is suspected
 pub suspected_received : (r : Replica) (j : ℕ) → HasForm r → is_inside r ≡ true → may_suspect r j ≡ true
     → least_seen r RECEIVED_COLUMN ≤ least_seen (suspected r j) RECEIVED_COLUMN
-suspected_received r j form inside may =
-    grown_received r (suspected r j) r.rows.frozen (suspected r j).rows.frozen refl
-    (suspected_grown r j form inside may)
+suspected_received r j form inside may = grown_received r
+    (suspected r j) r.rows.frozen (suspected r j).rows.frozen refl (suspected_grown r j form inside may)

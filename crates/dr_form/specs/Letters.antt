@@ -1,9 +1,7 @@
 -- Letters by which a member may join.
 use Rattle.std.specs.Prelude.{◌≡◌, ◌<◌, ◌≤◌, true, List, length}
 use Rattle.dr_entry.specs.declared.entry.Entry.{Entry}
-use Rattle.dr_history.specs.History.{last_view}
-use Rattle.dr_history.specs.Members.{has}
-use Rattle.dr_history.specs.Order.{messages_from}
+use Rattle.dr_history.specs.{History.last_view, Members.has, Order.messages_from}
 use Rattle.dr_words.specs.Masks.{IsInRoster}
 use Rattle.dr_program.specs.Replica.{Replica, me}
 

@@ -7,13 +7,11 @@
 ghost use Rattle.std.specs.Prelude.{◌≡◌, ℕ, true, false, List, None};
 ghost use Rattle.dr_entry.specs.declared.entry.Entry.{Entry};
 ghost use Rattle.dr_machine.specs.declared.step.Step.{Step};
-ghost use Rattle.dr_program.specs.Form.{HasForm};
-ghost use Rattle.dr_program.specs.Replica.{Replica, is_inside, joined};
-ghost use Rattle.dr_form.specs.Letters.{IsFitting};
+ghost use Rattle.dr_program.specs.{Form.HasForm, Replica.{Replica, is_inside, joined}};
 ghost use Rattle.dr_program.specs.Steps.{AtLook, NoWordFell, may_take, stepped};
+ghost use Rattle.dr_form.specs.Letters.{IsFitting};
 ghost use Rattle.dr_rows.specs.Words.{seen};
-ghost use Rattle.dr_words.specs.Form.{IsInForm};
-ghost use Rattle.dr_words.specs.Grown.{HasGrown};
+ghost use Rattle.dr_words.specs.{Form.IsInForm, Grown.HasGrown};
 
 /// A step that a member may take keeps the form of its replica, where a look finds a word in form. No word
 /// falls by a step with which the member stays in its view, where a look finds a word that has grown. A member that

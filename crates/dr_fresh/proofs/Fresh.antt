@@ -1,22 +1,17 @@
 -- What is mounted without a record and with one, damaged bytes are some, a group has members, and each that is
 -- there has a fresh log.
 use Rattle.std.proofs.Common.{◌≡◌, refl, ap, sym, subst, ◌∙◌, true, false, inl, inr, ℕ, ◌<◌, arith, List, [], ◌∷◌, ◌++◌, length, length-append, Option, None, Some, IfSome}
-use Rattle.std.proofs.lemmas.Bool.{cases_lt}
-use Rattle.std.proofs.lemmas.List.{get_or_append_left, get_or_push}
-use Rattle.dr_age.specs.Logged.{AreAmple, AreOpened}
+use Rattle.std.proofs.lemmas.{Bool.cases_lt, List.{get_or_append_left, get_or_push}}
+use Rattle.dr_play.specs.Logged.{AreAmple, AreOpened}
 use Rattle.dr_disk.specs.Disk.{Told, content_of}
 use Rattle.dr_entry.specs.declared.entry.Entry.TheVariants.{View}
 use Rattle.dr_fresh.specs.Fresh.{HasNoRecord, HaveLimit, IsEmpty, IsFresh, IsFreshAt}
 use Rattle.dr_history.specs.Members.{has}
 use Rattle.dr_log.specs.State.{LogState}
-use Rattle.dr_log_bytes.specs.Content.{OnLog, empty_of}
-use Rattle.dr_log_bytes.specs.Grammar.{StandFor}
-use Rattle.dr_machine.proofs.Presence.{late_few}
-use Rattle.dr_machine.specs.Group.{IsGroup, roster}
-use Rattle.dr_program.specs.Presence.{present_at}
-use Rattle.dr_program.proofs.Present.{present_within}
-use Rattle.dr_restart.specs.Groups.{group_of}
-use Rattle.dr_restart.specs.declared.start.Start.{Start}
+use Rattle.dr_log_bytes.specs.{Content.{OnLog, empty_of}, Grammar.StandFor}
+use Rattle.dr_machine.{specs.Group.{IsGroup, roster}, proofs.Presence.late_few}
+use Rattle.dr_program.{specs.Presence.present_at, proofs.Present.present_within}
+use Rattle.dr_restart.specs.{Groups.group_of, declared.start.Start.Start}
 use Rattle.dr_script.specs.declared.script.Script.{Script}
 
 -- a log without a record
@@ -57,15 +52,13 @@ fresh_more start most n logs news o long fresh is more m within = elim (cases_lt
       (fresh m (omega (arith, before, long)))
   | inr past ↦
       let here : n ≡ m = omega (arith, past, within, ap length more, length-append logs (o ∷ []), long) in
-      subst (IsFreshAt start most m)
-      (sym (ap (λ l. present_at l m) more ∙ get_or_push logs o None m (long ∙ here)))
+      subst (IsFreshAt start most m) (sym (ap (λ l. present_at l m) more ∙ get_or_push logs o None m (long ∙ here)))
       (subst (λ k. IsFreshAt start most k o) here is)
 ]
 
 -- who has a log is there, and its log is fresh
 fresh_there : {D : Type 0} (start : Start) (most m : ℕ) (logs : List (Option (LogState D))) (log : LogState D)
-    → AllFresh start most logs → present_at logs m ≡ Some log
-    → (has start.present m ≡ true) × IsFresh start most log
+    → AllFresh start most logs → present_at logs m ≡ Some log → (has start.present m ≡ true) × IsFresh start most log
 fresh_there start most m logs log fresh there =
     subst (IsFreshAt start most m) there (fresh m (present_within logs m log there))
 
@@ -83,8 +76,7 @@ fresh_opened {D} script start most logs none long fresh = record {
           whole = is.whole;
         },
       );
-  there = λ m below here.
-      by m here (present_at logs m) refl (fresh m (omega (arith, below, long)));
+  there = λ m below here. by m here (present_at logs m) refl (fresh m (omega (arith, below, long)));
 }
   where
     by : (m : ℕ) → has start.present m ≡ true → (o : Option (LogState D)) → present_at logs m ≡ o

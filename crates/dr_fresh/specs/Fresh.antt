@@ -4,8 +4,7 @@ use Rattle.dr_disk.specs.Disk.{Told, content_of}
 use Rattle.dr_entry.specs.declared.entry.Entry.TheVariants.{View}
 use Rattle.dr_history.specs.Members.{has}
 use Rattle.dr_log.specs.State.{LogState}
-use Rattle.dr_log_bytes.specs.Content.{empty_of}
-use Rattle.dr_log_bytes.specs.Grammar.{StandFor}
+use Rattle.dr_log_bytes.specs.{Content.empty_of, Grammar.StandFor}
 use Rattle.dr_program.specs.Presence.{present_at}
 use Rattle.dr_restart.specs.declared.start.Start.{Start}
 

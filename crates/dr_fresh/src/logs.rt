@@ -2,7 +2,7 @@ ghost use Rattle.std.specs.Prelude.{◌≡◌, ◌<◌, IfOk, []};
 ghost use Rattle.dr_machine.specs.Group.{IsGroup};
 ghost use Rattle.dr_restart.specs.Groups.{group_of};
 ghost use Rattle.dr_script.specs.Ranges.{HasGroupRanges};
-ghost use Rattle.dr_age.specs.Logged.{AreAmple, AreOpened};
+ghost use Rattle.dr_play.specs.Logged.{AreAmple, AreOpened};
 ghost use Rattle.dr_entry.specs.declared.limits.TheConstants.{MAX_MEMBERS};
 ghost use Rattle.dr_fresh.specs.declared.logs.TheConstants.{LOG_LIMIT};
 ghost use Rattle.dr_fresh.specs.Fresh.{HaveLimit, IsFresh, IsFreshAt};

@@ -1,8 +1,7 @@
 -- The members of masks that bit operations make.
+use Rattle.std.{specs.Int.bit_at, proofs.lemmas.Bool.{cases_lt, cases_eq}}
 use Rattle.std.proofs.Common.{◌≡◌, ℕ, ◌-◌, false, arith, ◌^◌, ◌<◌, ◌≤◌, nat_lt, ◌⊎◌, inl, inr, ◌≢◌, ◌*◌, ◌%◌, ◌==◌, ◌||◌, w16, bit_or, not, Bool, refl, if◌then◌else◌, bit_xor, ◌&&◌, bit_and}
 use Rattle.std.proofs.lemmas.Nat.Bits.{bit_at-zero, bit_at_ones, bit_at_ones_above, bit_at_set_same, bit_at_set_other, bit_at-lt, bit_at_xor, bit_at_and, bit_at_not, bit_at_above}
-use Rattle.std.proofs.lemmas.Bool.{cases_lt, cases_eq}
-use Rattle.std.specs.Int.{bit_at}
 use Rattle.dr_history.specs.Members.{has}
 
 -- nobody is in the mask 0
@@ -18,8 +17,7 @@ has_ones k n = by (cases_lt n k)
     by (inr l) = grind (arith, bit_at_ones_above k n l)
 
 -- a bit set adds its member alone
-pub has_with : (m k : ℕ) → k < 16 → (i : ℕ)
-    → has (bit_or m (1 * 2 ^ k % 2 ^ 16)) i ≡ (i == k || has m i)
+pub has_with : (m k : ℕ) → k < 16 → (i : ℕ) → has (bit_or m (1 * 2 ^ k % 2 ^ 16)) i ≡ (i == k || has m i)
 has_with m k l i = by (cases_eq i k)
   where
     by : (i ≡ k) ⊎ (i ≢ k) → has (bit_or m (1 * 2 ^ k % 2 ^ 16)) i ≡ (i == k || has m i)
@@ -40,11 +38,5 @@ pub has_without : (m o : ℕ) → m < 2 ^ 16 → o < 2 ^ 16 → (i : ℕ)
 has_without m o p q i = by (cases_lt i 16)
   where
     by : (i < 16) ⊎ (16 ≤ i) → has (bit_and m (65535 - o)) i ≡ (has m i && not (has o i))
-    by (inl l) = grind (
-      arith,
-      bit_at_and m (65535 - o) i,
-      bit_at_not w16 o i q l,
-      bit_at-lt m i,
-      bit_at-lt o i,
-    )
+    by (inl l) = grind (arith, bit_at_and m (65535 - o) i, bit_at_not w16 o i q l, bit_at-lt m i, bit_at-lt o i)
     by (inr l) = grind (arith, bit_at_and m (65535 - o) i, bit_at_above m 16 i p l)

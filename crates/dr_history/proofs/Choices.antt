@@ -1,21 +1,17 @@
 -- Masks and members by which a vote is allowed.
 use Rattle.std.proofs.Common.{◌≡◌, ℕ, zero, suc, ◌<◌, ◌≤◌, Bool, true, false, refl, sym, ap, ◌∙◌, ◌⊎◌, inl, inr, arith, map, fold, min, if◌then◌else◌, max, subst, ◌^◌}
 use Rattle.std.proofs.lemmas.Bool.{cases_lt}
-use Rattle.dr_entry.proofs.ListFacts.{one_min, one_max}
-use Rattle.dr_entry.proofs.NumberFacts.{last_or_below}
-use Rattle.dr_history.proofs.Histories.{none_above}
-use Rattle.dr_history.specs.Members.{has, members_below}
+use Rattle.dr_entry.proofs.{ListFacts.{one_min, one_max}, NumberFacts.last_or_below}
+use Rattle.dr_history.{specs.Members.{has, members_below}, proofs.Histories.none_above}
 
 pub min_below : (f : ℕ → ℕ) (mask a i n : ℕ) → i < n → has mask i ≡ true
     → fold min a (map f (members_below mask n)) ≤ f i
 unfolding members_below
 min_below f mask a i zero l h = absurd (omega arith)
-min_below f mask a i (suc n) l h =
-    rw (one_min f a n (members_below mask n) (has mask n))
+min_below f mask a i (suc n) l h = rw (one_min f a n (members_below mask n) (has mask n))
     (by (has mask n) refl (last_or_below i n l) (λ m. min_below f mask a i n m h))
   where
-    by : (b : Bool) → has mask n ≡ b → (i ≡ n) ⊎ (i < n)
-        → (i < n → fold min a (map f (members_below mask n)) ≤ f i)
+    by : (b : Bool) → has mask n ≡ b → (i ≡ n) ⊎ (i < n) → (i < n → fold min a (map f (members_below mask n)) ≤ f i)
         → (if b then min (fold min a (map f (members_below mask n))) (f n) else fold min a
         (map f (members_below mask n))) ≤ f i
     by true e (inl same) rest = rw same (omega arith)
@@ -27,12 +23,10 @@ pub max_above : (f : ℕ → ℕ) (mask a i n : ℕ) → i < n → has mask i �
     → f i ≤ fold max a (map f (members_below mask n))
 unfolding members_below
 max_above f mask a i zero l h = absurd (omega arith)
-max_above f mask a i (suc n) l h =
-    rw (one_max f a n (members_below mask n) (has mask n))
+max_above f mask a i (suc n) l h = rw (one_max f a n (members_below mask n) (has mask n))
     (by (has mask n) refl (last_or_below i n l) (λ m. max_above f mask a i n m h))
   where
-    by : (b : Bool) → has mask n ≡ b → (i ≡ n) ⊎ (i < n)
-        → (i < n → f i ≤ fold max a (map f (members_below mask n)))
+    by : (b : Bool) → has mask n ≡ b → (i ≡ n) ⊎ (i < n) → (i < n → f i ≤ fold max a (map f (members_below mask n)))
         → f i ≤ (if b then max (fold max a (map f (members_below mask n))) (f n) else fold max a
         (map f (members_below mask n)))
     by true e (inl same) rest = rw same (omega arith)
@@ -47,36 +41,30 @@ IsFound f mask a x = (x ≡ a) ⊎ ((i : ℕ) × (has mask i ≡ true) × (x ≡
 pub min_found : (f : ℕ → ℕ) (mask a n : ℕ) → IsFound f mask a (fold min a (map f (members_below mask n)))
 unfolding members_below
 min_found f mask a zero = inl refl
-min_found f mask a (suc n) =
-    subst (IsFound f mask a) (sym (one_min f a n (members_below mask n) (has mask n)))
+min_found f mask a (suc n) = subst (IsFound f mask a) (sym (one_min f a n (members_below mask n) (has mask n)))
     (by (has mask n) refl (fold min a (map f (members_below mask n))) (min_found f mask a n))
   where
-    less : (x : ℕ) → has mask n ≡ true → IsFound f mask a x → (x < f n) ⊎ (f n ≤ x)
-        → IsFound f mask a (min x (f n))
+    less : (x : ℕ) → has mask n ≡ true → IsFound f mask a x → (x < f n) ⊎ (f n ≤ x) → IsFound f mask a (min x (f n))
     less x e found (inl l) = let same : x ≡ min x (f n) = omega (arith, l) in
         subst (IsFound f mask a) same found
     less x e found (inr l) = inr (n, e, omega (arith, l))
 
-    by : (b : Bool) → has mask n ≡ b → (x : ℕ) → IsFound f mask a x
-        → IsFound f mask a (if b then min x (f n) else x)
+    by : (b : Bool) → has mask n ≡ b → (x : ℕ) → IsFound f mask a x → IsFound f mask a (if b then min x (f n) else x)
     by true e x found = less x e found (cases_lt x (f n))
     by false e x found = found
 
 pub max_found : (f : ℕ → ℕ) (mask a n : ℕ) → IsFound f mask a (fold max a (map f (members_below mask n)))
 unfolding members_below
 max_found f mask a zero = inl refl
-max_found f mask a (suc n) =
-    subst (IsFound f mask a) (sym (one_max f a n (members_below mask n) (has mask n)))
+max_found f mask a (suc n) = subst (IsFound f mask a) (sym (one_max f a n (members_below mask n) (has mask n)))
     (by (has mask n) refl (fold max a (map f (members_below mask n))) (max_found f mask a n))
   where
-    more : (x : ℕ) → has mask n ≡ true → IsFound f mask a x → (x < f n) ⊎ (f n ≤ x)
-        → IsFound f mask a (max x (f n))
+    more : (x : ℕ) → has mask n ≡ true → IsFound f mask a x → (x < f n) ⊎ (f n ≤ x) → IsFound f mask a (max x (f n))
     more x e found (inl l) = inr (n, e, omega (arith, l))
     more x e found (inr l) = let same : x ≡ max x (f n) = omega (arith, l) in
         subst (IsFound f mask a) same found
 
-    by : (b : Bool) → has mask n ≡ b → (x : ℕ) → IsFound f mask a x
-        → IsFound f mask a (if b then max x (f n) else x)
+    by : (b : Bool) → has mask n ≡ b → (x : ℕ) → IsFound f mask a x → IsFound f mask a (if b then max x (f n) else x)
     by true e x found = more x e found (cases_lt x (f n))
     by false e x found = found
 

@@ -1,13 +1,9 @@
 -- The front of counts as the first place that holds no item.
+use Rattle.std.{specs.Option.option_map_or, proofs.{Math.Nat.mul-div_cancel_left, lemmas.Option.slice_get-get_or}}
 use Rattle.std.proofs.Common.{◌≡◌, ℕ, zero, suc, ◌+◌, ◌*◌, ◌/◌, ◌%◌, ◌<◌, ◌≤◌, Bool, true, false, not, max, cond, ◌==◌, List, [], length, fold, slice_index, nat_lt, refl, sym, subst, arith, mod-lt, ap, get_or}
-use Rattle.std.proofs.Math.Nat.{mul-div_cancel_left}
-use Rattle.std.specs.Option.{option_map_or}
-use Rattle.std.proofs.lemmas.Option.{slice_get-get_or}
-use Rattle.dr_entry.proofs.ListPlaces.{count_max}
-use Rattle.dr_entry.specs.declared.end.MemberEnd.{MemberEnd}
-use Rattle.dr_history.specs.Places.{is_held, IsFront, first, front_of, AllHeldBelow}
+use Rattle.dr_entry.{specs.declared.end.MemberEnd.MemberEnd, proofs.ListPlaces.count_max}
+use Rattle.dr_history.specs.{Agreement.accounts_of, Places.{is_held, IsFront, first, front_of, AllHeldBelow}}
 use Rattle.dr_history.proofs.FrontLemmas.{IsFront-least, IsFront-monotone, IsFront-only, is_held-below}
-use Rattle.dr_history.specs.Agreement.{accounts_of}
 
 -- the first number that passes, of k from n on, is at most n + k
 pub first_within : (p : ℕ → Bool) (n k : ℕ) → first p n k ≤ n + k
@@ -15,8 +11,7 @@ unfolding first
 first_within p n zero = omega arith
 first_within p n (suc k) = by (p n) refl (first_within p (suc n) k)
   where
-    by : (b : Bool) → p n ≡ b → first p (suc n) k ≤ suc n + k → cond (p n) n (first p (suc n) k)
-        ≤ n + suc k
+    by : (b : Bool) → p n ≡ b → first p (suc n) k ≤ suc n + k → cond (p n) n (first p (suc n) k) ≤ n + suc k
     by true e h = rw e (omega arith)
     by false e h = rw e (omega (arith, h))
 
@@ -43,8 +38,7 @@ first_found p n zero h = absurd (omega arith)
 first_found p n (suc k) h = by (p n) refl h (first_found p (suc n) k)
   where
     by : (b : Bool) → p n ≡ b → cond (p n) n (first p (suc n) k) < n + suc k
-        → (first p (suc n) k < suc n + k → p (first p (suc n) k) ≡ true)
-        → p (cond (p n) n (first p (suc n) k)) ≡ true
+        → (first p (suc n) k < suc n + k → p (first p (suc n) k) ≡ true) → p (cond (p n) n (first p (suc n) k)) ≡ true
     by true e g r = rw e e
     by false e g r = let g' = rw e at g in rw e (r (omega (arith, g')))
 
@@ -54,14 +48,12 @@ unfolding front_of
 front_held counts p l = by (is_held counts p) refl
     (first_before (λ q. not (is_held counts q)) 0 (length counts * fold max 0 counts) p (omega arith) l)
   where
-    by : (b : Bool) → is_held counts p ≡ b → not (is_held counts p) ≡ false → is_held counts p
-        ≡ true
+    by : (b : Bool) → is_held counts p ≡ b → not (is_held counts p) ≡ false → is_held counts p ≡ true
     by true e h = e
     by false e h = grind (arith, e, h)
 
 -- the place behind the last round holds none
-top_open : (counts : List ℕ) (m : ℕ) → 0 < length counts
-    → ((i : ℕ) → i < length counts → slice_index counts i ≤ m)
+top_open : (counts : List ℕ) (m : ℕ) → 0 < length counts → ((i : ℕ) → i < length counts → slice_index counts i ≤ m)
     → is_held counts (length counts * m) ≡ false
 top_open counts m l most =
     let round : length counts * m / length counts ≡ m = mul-div_cancel_left m l in
@@ -99,20 +91,16 @@ front_open counts l = by (nat_lt found top) refl
 
 -- this front is the front by its definition
 pub front_is : (counts : List ℕ) → 0 < length counts → IsFront counts (front_of counts)
-front_is counts some = IsFront-least counts (front_of counts) some (front_held counts)
-    (front_open counts some)
+front_is counts some = IsFront-least counts (front_of counts) some (front_held counts) (front_open counts some)
 
 -- where no count falls, the front doesn't fall
 pub front_more : (old new : List ℕ) → 0 < length new → length old ≡ length new
-    → ((i : ℕ) → i < length new → slice_index old i ≤ slice_index new i) → front_of old
-    ≤ front_of new
-front_more old new some same more =
-    IsFront-monotone old new (front_of old) (front_of new) same (λ i l. more i (omega (arith, l, same)))
-    (front_is old (omega (arith, same))) (front_is new some)
+    → ((i : ℕ) → i < length new → slice_index old i ≤ slice_index new i) → front_of old ≤ front_of new
+front_more old new some same more = IsFront-monotone old new (front_of old) (front_of new) same
+    (λ i l. more i (omega (arith, l, same))) (front_is old (omega (arith, same))) (front_is new some)
 
 -- the front by its definition is this one
-pub front_only : (counts : List ℕ) (f : ℕ) → 0 < length counts → IsFront counts f → f
-    ≡ front_of counts
+pub front_only : (counts : List ℕ) (f : ℕ) → 0 < length counts → IsFront counts f → f ≡ front_of counts
 front_only counts f some is = IsFront-only counts f (front_of counts) is (front_is counts some)
 
 -- what the accounts of members say of the histories
@@ -130,5 +118,4 @@ front_within counts = let l =
 pub front_reached : (counts : List ℕ) (p : ℕ) → 0 < length counts → AllHeldBelow counts p
     → is_held counts p ≡ false → p ≡ front_of counts
 front_reached counts p some all gap =
-    front_only counts p some (IsFront-least counts p some
-    (λ q below. is_held-below counts p q some all below) gap)
+    front_only counts p some (IsFront-least counts p some (λ q below. is_held-below counts p q some all below) gap)

@@ -1,27 +1,16 @@
 -- Histories, their fronts, and who is among their members.
-use Rattle.std.proofs.Common.{◌≡◌, ℕ, Contains, List, suc, ◌∷◌, arith, ◌⊎◌, inl, inr, ap, [], Option, Some, None, ◌^◌, ◌<◌, ◌≤◌, true, ◌==◌, false, drop, take, take-append-drop, ◌++◌, length, slice_get, sym, ◌∙◌, append_assoc, Bool, Decides, refl, ◌+◌, append-nil, length-append, slice_index, slice_set, subst, ◌-◌, zero, ◌||◌, if◌then◌else◌}
-use Rattle.std.proofs.lemmas.Option.{same_Some, none-some, slice_get_within}
-use Rattle.std.proofs.lemmas.Nat.Bits.{bit_at_above}
 use Rattle.std.specs.Option.{option_map_or}
+use Rattle.std.proofs.Common.{◌≡◌, ℕ, Contains, List, suc, ◌∷◌, arith, ◌⊎◌, inl, inr, ap, [], Option, Some, None, ◌^◌, ◌<◌, ◌≤◌, true, ◌==◌, false, drop, take, take-append-drop, ◌++◌, length, slice_get, sym, ◌∙◌, append_assoc, Bool, Decides, refl, ◌+◌, append-nil, length-append, slice_index, slice_set, subst, ◌-◌, zero, ◌||◌, if◌then◌else◌}
 use Rattle.std.proofs.lemmas.List.{drop_at, nil_from_length, length_push, get_or-set_same, get_or-set_other, length-set, take_rest}
-use Rattle.std.proofs.lemmas.List.Elements.{filter-append}
-use Rattle.std.proofs.lemmas.List.Sums.{count_by-le-length, length-filter}
-use Rattle.dr_entry.proofs.ListPlaces.{slice_get-append}
-use Rattle.dr_entry.proofs.OptionFacts.{below_or_last}
-use Rattle.dr_entry.proofs.NumberFacts.{phase, total}
-use Rattle.dr_entry.proofs.BoolFacts.{further}
-use Rattle.dr_entry.specs.declared.entry.Entry.{Entry}
-use Rattle.dr_entry.specs.declared.entry.Entry.TheVariants.{View, Msg}
-use Rattle.dr_entry.specs.declared.end.MemberEnd.{MemberEnd}
-use Rattle.dr_entry.specs.declared.end.AgeEnd.{AgeEnd}
-use Rattle.dr_entry.specs.declared.end.SentItem.{SentItem}
-use Rattle.dr_entry.specs.declared.end.SentItem.TheVariants.{Index, Null}
-use Rattle.dr_history.proofs.Tests.{IsFilledTo}
+use Rattle.std.proofs.lemmas.List.{Elements.filter-append, Sums.{count_by-le-length, length-filter}}
+use Rattle.std.proofs.lemmas.{Nat.Bits.bit_at_above, Option.{same_Some, none-some, slice_get_within}}
+use Rattle.dr_entry.specs.declared.end.{AgeEnd.AgeEnd, MemberEnd.MemberEnd, SentItem.SentItem}
+use Rattle.dr_entry.specs.declared.{end.SentItem.TheVariants.{Index, Null}, entry.Entry.Entry}
+use Rattle.dr_entry.{specs.declared.entry.Entry.TheVariants.{View, Msg}, proofs.BoolFacts.further}
+use Rattle.dr_entry.proofs.{ListPlaces.slice_get-append, NumberFacts.{phase, total}, OptionFacts.below_or_last}
+use Rattle.dr_history.{specs.{Agreement.{accounts_of, SamePast}, Order.IsInNoView}, proofs.Tests.IsFilledTo}
 use Rattle.dr_history.specs.History.{GroupView, view_after, view_of, IsPrefixOf, Sent, place_at, up_to_view, last_view, before_some, messages_in}
-use Rattle.dr_history.specs.Members.{members_of, has, members_below}
-use Rattle.dr_history.specs.Agreement.{accounts_of, SamePast}
-use Rattle.dr_history.specs.declared.opening.Opening.{Opening}
-use Rattle.dr_history.specs.Order.{IsInNoView}
+use Rattle.dr_history.specs.{Members.{members_of, has, members_below}, declared.opening.Opening.Opening}
 
 -- a view is that of a View among the entries
 pub record IsAmong (es : List Entry) (v : GroupView) : Type 0 where
@@ -42,8 +31,7 @@ among : (u : Option GroupView) (es : List Entry) (v : GroupView) → view_after 
     → (u ≡ Some v) ⊎ IsAmong es v
 unfolding view_after
 among u [] v is = inl is
-among u (View a n m ∷ es) v is =
-    by (among (Some (record { age = a; number = n; members = members_of m })) es v is)
+among u (View a n m ∷ es) v is = by (among (Some (record { age = a; number = n; members = members_of m })) es v is)
   where
     by : (Some (record { age = a; number = n; members = members_of m }) ≡ Some v) ⊎ IsAmong es v
         → (u ≡ Some v) ⊎ IsAmong (View a n m ∷ es) v
@@ -95,16 +83,13 @@ log_is_front (Some e) = (drop e.logged e.history, take-append-drop e.logged e.hi
 IsPrefixOf-push : {A : Type 0} (xs : List A) (y : A) (ys : List A)
     → IsPrefixOf xs ys → slice_get ys (length xs) ≡ Some y → IsPrefixOf (xs ++ y ∷ []) ys
 IsPrefixOf-push {A} xs y ys p at =
-    by p.0 p.1 (sym (slice_get-append xs p.0)
-    ∙ (ap (λ (zs : List A). slice_get zs (length xs)) p.1 ∙ at))
+    by p.0 p.1 (sym (slice_get-append xs p.0) ∙ (ap (λ (zs : List A). slice_get zs (length xs)) p.1 ∙ at))
   where
-    by : (rest : List A) → xs ++ rest ≡ ys → slice_get rest 0 ≡ Some y
-        → IsPrefixOf (xs ++ y ∷ []) ys
+    by : (rest : List A) → xs ++ rest ≡ ys → slice_get rest 0 ≡ Some y → IsPrefixOf (xs ++ y ∷ []) ys
     by [] e at = absurd (none-some y at)
     by (z ∷ rest) e at = (
       rest,
-      append_assoc xs (y ∷ []) rest
-          ∙ (ap (λ (w : A). xs ++ (w ∷ rest)) (sym (same_Some z y at)) ∙ e),
+      append_assoc xs (y ∷ []) rest ∙ (ap (λ (w : A). xs ++ (w ∷ rest)) (sym (same_Some z y at)) ∙ e),
     )
 
 IsPrefixOf-parts : {A : Type 0} (xs : List A) (y : A) (ys : List A)
@@ -112,8 +97,7 @@ IsPrefixOf-parts : {A : Type 0} (xs : List A) (y : A) (ys : List A)
 IsPrefixOf-parts {A} xs y ys p =
     let e : xs ++ (y ∷ p.0) ≡ ys = sym (append_assoc xs (y ∷ []) p.0) ∙ p.1 in (
       (y ∷ p.0, e),
-      sym (ap (λ (zs : List A). slice_get zs (length xs)) e)
-          ∙ slice_get-append xs (y ∷ p.0),
+      sym (ap (λ (zs : List A). slice_get zs (length xs)) e) ∙ slice_get-append xs (y ∷ p.0),
     )
 
 -- where the next entry is the one that is wanted, the front decides
@@ -126,8 +110,7 @@ begins_decides start first h b at decides = (
 )
 
 -- an entry with a place is one of the history
-pub place_at-within : (sent : Sent) (h : List Entry) (i p : ℕ) → place_at sent h i ≡ Some p
-    → i < length h
+pub place_at-within : (sent : Sent) (h : List Entry) (i p : ℕ) → place_at sent h i ≡ Some p → i < length h
 place_at-within sent h i p at = by (slice_get h i) refl
   where
     by : (o : Option Entry) → slice_get h i ≡ o → i < length h
@@ -142,13 +125,11 @@ history_of a i e at = ap (λ z. option_map_or (λ (e : MemberEnd). e.history) z 
 -- a history behind the start it begins with
 pub behind_start : (start h : List Entry) → IsPrefixOf start h → h ≡ start ++ drop (length start) h
 behind_start start h is =
-    sym is.1 ∙ ap (λ xs. start ++ xs) (sym (drop_at start is.0 (length start) refl)
-    ∙ ap (drop (length start)) is.1)
+    sym is.1 ∙ ap (λ xs. start ++ xs) (sym (drop_at start is.0 (length start) refl) ∙ ap (drop (length start)) is.1)
 
 -- lists that have the same elements wherever both have one
 pub along : {A : Type 0} (g h : List A)
-    → ((k : ℕ) (x y : A) → slice_get g k ≡ Some x → slice_get h k ≡ Some y → x ≡ y)
-    → IsPrefixOf g h ⊎ IsPrefixOf h g
+    → ((k : ℕ) (x y : A) → slice_get g k ≡ Some x → slice_get h k ≡ Some y → x ≡ y) → IsPrefixOf g h ⊎ IsPrefixOf h g
 along [] h same = inl (h, refl)
 along (x ∷ g) [] same = inr (x ∷ g, refl)
 along {A} (x ∷ g) (y ∷ h) same = by (along g h (λ k a b at to. same (suc k) a b at to))
@@ -209,8 +190,7 @@ shorter_begins xs ys (inr is) l =
 pub empty_begins : (h g : List Entry) → h ≡ [] → IsPrefixOf h g
 empty_begins h g none = (g, ap (λ x. x ++ g) none)
 
-pub messages_next : (items : List SentItem) (i : ℕ) → messages_in (items ++ Index i ∷ [])
-    ≡ messages_in items + 1
+pub messages_next : (items : List SentItem) (i : ℕ) → messages_in (items ++ Index i ∷ []) ≡ messages_in items + 1
 messages_next items i = rw (filter-append _ items (Index i ∷ [])) (length_push _ _)
 
 -- a null is no message
@@ -234,8 +214,7 @@ filled_more P of n v xs so within member right = record {
     room = rw so.size within
 
     by : (k : ℕ) → (k < n) ⊎ (k ≡ n) → has of k ≡ true → P k (slice_index (slice_set xs n v) k)
-    by k (inl l) m = subst (P k)
-        (sym (get_or-set_other xs n k v 0 (λ e. absurd (omega arith)))) (so.below k l m)
+    by k (inl l) m = subst (P k) (sym (get_or-set_other xs n k v 0 (λ e. absurd (omega arith)))) (so.below k l m)
     by k (inr e) m = rw e (subst (P n) (sym (get_or-set_same xs n v 0 room)) right)
 
 -- whoever is no member keeps 0
@@ -262,8 +241,7 @@ AreFirstPartsOf ends lists = (m : ℕ) (es : List Entry) → slice_get lists m �
     → (i : ℕ) × (e : MemberEnd) × (slice_get ends i ≡ Some e) × IsPrefixOf es e.history
 
 -- a part of the start is a part of what the age begins with
-pub part_of_opened : (es start : List Entry) (v : Entry) → IsPrefixOf es start
-    → IsPrefixOf es (start ++ v ∷ [])
+pub part_of_opened : (es start : List Entry) (v : Entry) → IsPrefixOf es start → IsPrefixOf es (start ++ v ∷ [])
 part_of_opened es start v part =
     (part.0 ++ v ∷ [], sym (append_assoc es part.0 (v ∷ [])) ∙ ap (λ (l : List Entry). l ++ v ∷ []) part.1)
 
@@ -298,14 +276,12 @@ durable_by ends m e start at kept =
 
 -- one view on they are farther, where there are others in it
 pub total_rises : (named : ℕ → Bool) (was now : ℕ) → ((s : ℕ) → has was s ≡ true → named s ≡ true)
-    → ((s : ℕ) → has now s ≡ true → (has was s ≡ true) ⊎ (named s ≡ false)) → (n : ℕ)
-    → (total named (has was) n ≤ total (λ s. has now s || named s) (has now) n)
-    × ((members_below now n ≡ members_below was n)
+    → ((s : ℕ) → has now s ≡ true → (has was s ≡ true) ⊎ (named s ≡ false)) → (n : ℕ) → (total named
+    (has was) n ≤ total (λ s. has now s || named s) (has now) n) × ((members_below now n ≡ members_below was n)
     ⊎ (total named (has was) n < total (λ s. has now s || named s) (has now) n))
 unfolding members_below total
 total_rises named was now holds comes zero = let e : 0 ≤ 0 = omega arith in (e, inl refl)
-total_rises named was now holds comes (suc n) =
-    by (total_rises named was now holds comes n)
+total_rises named was now holds comes (suc n) = by (total_rises named was now holds comes n)
     (further (named n) (has was n) (has now n) (holds n) (comes n))
   where
     old : ℕ
@@ -321,8 +297,7 @@ total_rises named was now holds comes (suc n) =
     stride = phase (has now n || named n) (has now n)
 
     by : (old ≤ new) × ((members_below now n ≡ members_below was n) ⊎ (old < new))
-        → (step ≤ stride) × ((has now n ≡ has was n) ⊎ (step < stride))
-        → (old + step ≤ new + stride)
+        → (step ≤ stride) × ((has now n ≡ has was n) ⊎ (step < stride)) → (old + step ≤ new + stride)
         × ((members_below now n ++ (if has now n then n ∷ [] else [])
         ≡ members_below was n ++ (if has was n then n ∷ [] else [])) ⊎ (old + step < new + stride))
     by (most, inl same) (more, inl alike) = (

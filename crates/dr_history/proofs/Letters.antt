@@ -1,8 +1,7 @@
 -- Letters: the entries up to the last View, and what that View says.
-use Rattle.std.proofs.Common.{◌≡◌, ◌∙◌, ap, refl, ℕ, List, [], ◌∷◌, ◌++◌, Option, None, Some, filter_map, sym, Bool, true, false, ◌+◌, if◌then◌else◌, take}
 use Rattle.std.specs.Prelude.{⊤}
-use Rattle.dr_entry.specs.declared.entry.Entry.{Entry}
-use Rattle.dr_entry.specs.declared.entry.Entry.TheVariants.{View, Msg}
+use Rattle.std.proofs.Common.{◌≡◌, ◌∙◌, ap, refl, ℕ, List, [], ◌∷◌, ◌++◌, Option, None, Some, filter_map, sym, Bool, true, false, ◌+◌, if◌then◌else◌, take}
+use Rattle.dr_entry.specs.declared.entry.Entry.{Entry, TheVariants.{View, Msg}}
 use Rattle.dr_history.specs.History.{before_some, last_view, up_to_view}
 use Rattle.dr_history.proofs.Histories.{up_to_view-none, up_to_view-View, up_to_view-Msg, up_to_view-stays}
 
@@ -18,8 +17,7 @@ unfolding up_to_view
 up_to_view-messages {X} f [] each = refl
 up_to_view-messages {X} f (x ∷ xs) each = by (f x) refl (up_to_view-messages f xs each)
   where
-    by : (r : Option Entry) → f x ≡ r → up_to_view (filter_map f xs) ≡ []
-        → up_to_view (filter_map f (x ∷ xs)) ≡ []
+    by : (r : Option Entry) → f x ≡ r → up_to_view (filter_map f xs) ≡ [] → up_to_view (filter_map f (x ∷ xs)) ≡ []
     by None e rest = rw e rest
     by (Some (View a n m)) e rest = absurd (each x (View a n m) e)
     by (Some (Msg s i b)) e rest = rw (e, rest) refl
@@ -29,8 +27,7 @@ pub up_to_view-last : (h es : List Entry) (a n m : ℕ) → up_to_view es ≡ []
     → up_to_view (h ++ View a n m ∷ es) ≡ h ++ View a n m ∷ []
 unfolding up_to_view
 up_to_view-last [] es a n m none = ap (λ l. View a n m ∷ l) none
-up_to_view-last (View b k l ∷ h) es a n m none =
-    ap (λ t. View b k l ∷ t) (up_to_view-last h es a n m none)
+up_to_view-last (View b k l ∷ h) es a n m none = ap (λ t. View b k l ∷ t) (up_to_view-last h es a n m none)
 up_to_view-last (Msg s i b ∷ h) es a n m none =
     ap (before_some (Msg s i b)) (up_to_view-last h es a n m none) ∙ kept h
   where
@@ -54,11 +51,8 @@ up_to_view-more h (Msg s i b) true is = absurd (cc (sym (up_to_view-Msg s i b) �
 up_to_view-more h (Msg s i b) false is = up_to_view-stays h s i b
 
 -- where the entries up to the last View end, an entry more behind them
-pub end_more : (es : List Entry) (k end next : ℕ) (e : Entry) (b : Bool)
-    → take (k + 1) es ≡ take k es ++ e ∷ [] → up_to_view (e ∷ []) ≡ (if b then e ∷ [] else [])
-    → take end es ≡ up_to_view (take k es) → next ≡ (if b then k + 1 else end)
-    → take next es ≡ up_to_view (take (k + 1) es)
-end_more es k end next e true on is here at =
-    rw (at, on) (sym (up_to_view-more (take k es) e true is))
-end_more es k end next e false on is here at =
-    rw (at, on) (here ∙ sym (up_to_view-more (take k es) e false is))
+pub end_more : (es : List Entry) (k end next : ℕ) (e : Entry) (b : Bool) → take (k + 1) es ≡ take k es
+    ++ e ∷ [] → up_to_view (e ∷ []) ≡ (if b then e ∷ [] else []) → take end es ≡ up_to_view (take k es)
+    → next ≡ (if b then k + 1 else end) → take next es ≡ up_to_view (take (k + 1) es)
+end_more es k end next e true on is here at = rw (at, on) (sym (up_to_view-more (take k es) e true is))
+end_more es k end next e false on is here at = rw (at, on) (here ∙ sym (up_to_view-more (take k es) e false is))

@@ -1,15 +1,10 @@
 -- Masks of the members that pass a test.
+use Rattle.std.specs.{Int.bit_at, List.filter}
 use Rattle.std.proofs.Common.{ℕ, ◌+◌, ◌≤◌, arith, length, ◌≡◌, ◌*◌, ◌^◌, ◌<◌, ◌==◌, Bool, true, false, ap, ◌∙◌, if◌then◌else◌, ◌-◌, suc, ◌&&◌, nat_lt, ◌⊎◌, inl, inr, ◌≢◌, refl, zero, ◌||◌, [], ◌∷◌, sym}
+use Rattle.std.proofs.lemmas.{Bool.{cases_lt, cases_eq}, List.Elements.filter-append}
 use Rattle.std.proofs.lemmas.Nat.Bits.{bit_at_cat_low, bit_at_above, bit_at_cat_high, bit_at-lt, same_from_bits}
-use Rattle.std.specs.Int.{bit_at}
-use Rattle.std.proofs.lemmas.Bool.{cases_lt, cases_eq}
-use Rattle.std.specs.List.{filter}
-use Rattle.std.proofs.lemmas.List.Elements.{filter-append}
-use Rattle.dr_entry.proofs.NumberFacts.{more_small}
-use Rattle.dr_entry.proofs.ListFacts.{among, among_append}
-use Rattle.dr_entry.proofs.ListParts.{one}
-use Rattle.dr_history.proofs.Bits.{has_zero}
-use Rattle.dr_history.specs.Members.{members_below, has, members_of}
+use Rattle.dr_entry.proofs.{ListFacts.{among, among_append}, ListParts.one, NumberFacts.more_small}
+use Rattle.dr_history.{specs.Members.{members_below, has, members_of}, proofs.Bits.has_zero}
 
 pub none : (all one other : ℕ) → length (members_below one 0) + length (members_below other 0)
     ≤ length (members_below all 0)
@@ -21,15 +16,13 @@ more_low m n i true lt =
     let e : m + 2 ^ n ≡ 1 * 2 ^ n + m = omega arith in
     ap (λ (x : ℕ). has x i) e ∙ ap (λ (x : ℕ). x == 1) (bit_at_cat_low 1 n m i lt)
 more_low m n i false lt =
-    let e : m + 0 ≡ m = omega arith in
-    ap (λ (x : ℕ). has x i) e
+    let e : m + 0 ≡ m = omega arith in ap (λ (x : ℕ). has x i) e
 
 more_top : (m n : ℕ) (t : Bool) → m < 2 ^ n → has (m + (if t then 2 ^ n else 0)) n ≡ t
 more_top m n true small =
     let e : m + 2 ^ n ≡ 1 * 2 ^ n + m = omega arith in
     let z : n - n ≡ 0 = omega arith in
-    let one : bit_at (m + 2 ^ n) n ≡ 1 =
-    ap (λ (x : ℕ). bit_at x n) e ∙ bit_at_cat_high 1 n m n small (omega arith)
+    let one : bit_at (m + 2 ^ n) n ≡ 1 = ap (λ (x : ℕ). bit_at x n) e ∙ bit_at_cat_high 1 n m n small (omega arith)
     ∙ ap (λ (x : ℕ). bit_at 1 x) z in
     ap (λ (x : ℕ). x == 1) one
 more_top m n false small =
@@ -43,12 +36,10 @@ has_below_suc test m n i small rest = by (cases_lt i n) (cases_lt n i)
     by : (i < n) ⊎ (n ≤ i) → (n < i) ⊎ (i ≤ n)
         → has (m + (if test n then 2 ^ n else 0)) i ≡ (nat_lt i (suc n) && test i)
     by (inl l) q = more_low m n i (test n) l ∙ rest ∙ grind arith
-    by (inr g) (inl l) =
-        grind
+    by (inr g) (inl l) = grind
         (arith, bit_at_above (m + (if test n then 2 ^ n else 0)) (suc n) i (more_small m n (test n) small) l)
     by (inr g) (inr h) =
-        let e : i ≡ n = omega arith in
-        rw e (more_top m n (test n) small ∙ grind arith)
+        let e : i ≡ n = omega arith in rw e (more_top m n (test n) small ∙ grind arith)
 
 -- masks with the same members are one
 pub same_masks : (a b : ℕ) → ((i : ℕ) → has a i ≡ has b i) → a ≡ b
@@ -72,14 +63,12 @@ some_number mask n there = by (cases_lt 0 mask)
     by : (0 < mask) ⊎ (mask ≤ 0) → 0 < mask
     by (inl l) = l
     by (inr g) =
-        let e : mask ≡ 0 = omega arith in
-        absurd (cc (there, ap (λ (x : ℕ). has x n) e, has_zero n))
+        let e : mask ≡ 0 = omega arith in absurd (cc (there, ap (λ (x : ℕ). has x n) e, has_zero n))
 
 pub among_below : (mask n i : ℕ) → among (members_below mask n) i ≡ (nat_lt i n && has mask i)
 unfolding members_below
 among_below mask zero i = grind arith
-among_below mask (suc n) i =
-    among_append (members_below mask n) (if has mask n then n ∷ [] else []) i
+among_below mask (suc n) i = among_append (members_below mask n) (if has mask n then n ∷ [] else []) i
     ∙ (ap (λ b. b || among (if has mask n then n ∷ [] else []) i) (among_below mask n i)
     ∙ by (has mask n) refl (cases_eq i n))
   where

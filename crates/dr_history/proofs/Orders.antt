@@ -1,14 +1,9 @@
 -- Messages of one member in a history.
 use Rattle.std.proofs.Common.{◌≡◌, ℕ, suc, ◌==◌, ◌⊎◌, inl, inr, Bool, true, false, List, [], ◌∷◌, slice_get, Some, refl, ap, ◌≤◌, length, arith, ◌<◌, get_or, sym, ◌∙◌, zero, true≢false}
-use Rattle.std.proofs.lemmas.Bool.{eqb-true, cases_eq}
-use Rattle.std.proofs.lemmas.List.{get_or-replicate}
-use Rattle.dr_entry.proofs.ListFacts.{none_counted}
-use Rattle.dr_entry.specs.declared.entry.Entry.{Entry}
-use Rattle.dr_entry.specs.declared.entry.Entry.TheVariants.{View, Msg}
-use Rattle.dr_history.proofs.Bits.{has_zero}
+use Rattle.std.proofs.lemmas.{Bool.{eqb-true, cases_eq}, List.get_or-replicate}
+use Rattle.dr_entry.{specs.declared.entry.Entry.{Entry, TheVariants.{View, Msg}}, proofs.ListFacts.none_counted}
+use Rattle.dr_history.{specs.{Members.has, Order.{messages_from, AreOfRoster}}, proofs.Bits.has_zero}
 use Rattle.dr_history.proofs.Masks.{same_masks}
-use Rattle.dr_history.specs.Order.{messages_from, AreOfRoster}
-use Rattle.dr_history.specs.Members.{has}
 
 -- a sender has no messages in a history, or one at some place
 pub has_message_or_not : (s : ℕ) (h : List Entry)
@@ -16,18 +11,15 @@ pub has_message_or_not : (s : ℕ) (h : List Entry)
 has_message_or_not s [] = inl refl
 has_message_or_not s (View a n m ∷ h) = further (has_message_or_not s h)
   where
-    further : (messages_from s h ≡ [])
-        ⊎ ((k i : ℕ) × (b : List ℕ) × (slice_get h k ≡ Some (Msg s i b)))
+    further : (messages_from s h ≡ []) ⊎ ((k i : ℕ) × (b : List ℕ) × (slice_get h k ≡ Some (Msg s i b)))
         → (messages_from s (View a n m ∷ h) ≡ [])
         ⊎ ((k i : ℕ) × (b : List ℕ) × (slice_get (View a n m ∷ h) k ≡ Some (Msg s i b)))
     further (inl none) = inl none
     further (inr at) = inr (suc at.0, at.1, at.2, at.3)
 has_message_or_not s (Msg sender j c ∷ h) = by (sender == s) refl (has_message_or_not s h)
   where
-    by : (t : Bool) → (sender == s) ≡ t
-        → (messages_from s h ≡ []) ⊎ ((k i : ℕ) × (b : List ℕ)
-        × (slice_get h k ≡ Some (Msg s i b)))
-        → (messages_from s (Msg sender j c ∷ h) ≡ [])
+    by : (t : Bool) → (sender == s) ≡ t → (messages_from s h ≡ []) ⊎ ((k i : ℕ)
+        × (b : List ℕ) × (slice_get h k ≡ Some (Msg s i b))) → (messages_from s (Msg sender j c ∷ h) ≡ [])
         ⊎ ((k i : ℕ) × (b : List ℕ) × (slice_get (Msg sender j c ∷ h) k ≡ Some (Msg s i b)))
     by true same rest = inr (0, j, c, ap (λ (z : ℕ). Some (Msg z j c)) (eqb-true sender s same))
     by false apart (inl none) = inl (rw apart none)

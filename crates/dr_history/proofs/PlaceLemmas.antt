@@ -1,6 +1,5 @@
 -- Places as numbers: a place has one item number and one rank.
-use Rattle.std.proofs.Common.{◌≡◌, ℕ, ◌/◌, ◌%◌, ◌<◌}
-use Rattle.std.proofs.lemmas.Nat.{div-mul-add, mod-mul-add, div-add-mod'}
+use Rattle.std.proofs.{Common.{◌≡◌, ℕ, ◌/◌, ◌%◌, ◌<◌}, lemmas.Nat.{div-mul-add, mod-mul-add, div-add-mod'}}
 use Rattle.dr_history.specs.Places.{place_of}
 
 -- the item number of a place is that of the item

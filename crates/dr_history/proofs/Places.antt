@@ -1,24 +1,19 @@
 -- Places of items, and which of them are held.
+use Rattle.std.{specs.List.Sorted.IsStrictlyIncreasing, proofs.lemmas.Bool.{ltb-true, cases_eq}}
 use Rattle.std.proofs.Common.{◌≡◌, ℕ, ◌+◌, ◌-◌, ◌*◌, ◌<◌, false, List, length, arith, ◌/◌, ◌%◌, ◌≤◌, subst, slice_index, ◌^◌, ◌⊎◌, inl, inr, max, fold, refl, replicate, map, true, get_or, ap, ◌∙◌}
-use Rattle.std.proofs.Math.Nat.{add-mul-div_right, add-mul-mod_self_right}
-use Rattle.std.proofs.lemmas.Nat.{mod_below, div-add-mod', le-div}
-use Rattle.std.specs.List.Sorted.{IsStrictlyIncreasing}
-use Rattle.std.proofs.lemmas.List.Kept.{IsStrictlyIncreasing-filter}
-use Rattle.std.proofs.lemmas.Bool.{ltb-true, cases_eq}
-use Rattle.std.proofs.lemmas.List.{get_or-map, length-map}
+use Rattle.std.proofs.{Math.Nat.{add-mul-div_right, add-mul-mod_self_right}, lemmas.List.{get_or-map, length-map}}
+use Rattle.std.proofs.lemmas.{List.Kept.IsStrictlyIncreasing-filter, Nat.{mod_below, div-add-mod', le-div}}
+use Rattle.dr_entry.proofs.{ListFacts.fold_max_within, ListPlaces.copy_at}
 use Rattle.dr_entry.proofs.NumberFacts.{IsStrictlyIncreasing-range_with_len, below_product}
-use Rattle.dr_entry.proofs.ListFacts.{fold_max_within}
-use Rattle.dr_entry.proofs.ListPlaces.{copy_at}
 use Rattle.dr_history.specs.Places.{is_held, held_places, front_of, first}
 
 -- where a place isn't held, the same rank's place some rounds later isn't
 not_held_later : (counts : List ℕ) (p rounds : ℕ) → 0 < length counts → is_held counts p ≡ false
     → is_held counts (p + rounds * length counts) ≡ false
-not_held_later counts p rounds some h =
-    rw (
-      add-mul-div_right p rounds {z = length counts} some,
-      add-mul-mod_self_right p rounds (length counts),
-    ) (grind (arith, h))
+not_held_later counts p rounds some h = rw (
+  add-mul-div_right p rounds {z = length counts} some,
+  add-mul-mod_self_right p rounds (length counts),
+) (grind (arith, h))
 
 -- where no place of a round is held, none after it is
 not_held_after_round : (counts : List ℕ) (from : ℕ) → 0 < length counts
@@ -31,8 +26,7 @@ not_held_after_round counts from some round p after =
     let split : (p - from) / n * n + (p - from) % n ≡ p - from = div-add-mod' (p - from) n in
     let same : early + (p - from) / n * n ≡ p = omega arith in
     let gap : is_held counts early ≡ false = round early (omega arith) (omega arith) in
-    subst (λ (q : ℕ). is_held counts q ≡ false) same
-    (not_held_later counts early ((p - from) / n) some gap)
+    subst (λ (q : ℕ). is_held counts q ≡ false) same (not_held_later counts early ((p - from) / n) some gap)
 
 -- a place whose item number is at least every count isn't held
 pub not_held_above : (counts : List ℕ) (bound p : ℕ) → 0 < length counts
@@ -40,23 +34,19 @@ pub not_held_above : (counts : List ℕ) (bound p : ℕ) → 0 < length counts
     → bound * length counts ≤ p → is_held counts p ≡ false
 not_held_above counts bound p some most above =
     let number : bound ≤ p / length counts = le-div bound p (length counts) some above in
-    let count = most (p % length counts) (mod_below p (length counts) some) in
-    grind (arith, number, count)
+    let count = most (p % length counts) (mod_below p (length counts) some) in grind (arith, number, count)
 
 -- where no place of a round is held, as far as the round goes within 64 bits, no later place is
 pub not_held_after : (counts : List ℕ) (from end : ℕ) → 0 < length counts → length counts ≤ 16
-    → ((rank : ℕ) → slice_index counts rank < 2 ^ 32)
-    → (from + length counts ≤ end) ⊎ (2 ^ 64 - 1 ≤ end)
-    → ((p : ℕ) → from ≤ p → p < end → is_held counts p ≡ false)
-    → (p : ℕ) → from ≤ p → is_held counts p ≡ false
+    → ((rank : ℕ) → slice_index counts rank < 2 ^ 32) → (from + length counts ≤ end) ⊎ (2 ^ 64 - 1 ≤ end)
+    → ((p : ℕ) → from ≤ p → p < end → is_held counts p ≡ false) → (p : ℕ) → from ≤ p → is_held counts p ≡ false
 not_held_after counts from end some few fit far round =
     not_held_after_round counts from some (λ p after within. by p after within far (below_or_not p))
   where
     below_or_not : (p : ℕ) → (p < end) ⊎ (end ≤ p)
     below_or_not p = grind arith
 
-    by : (p : ℕ) → from ≤ p → p < from + length counts
-        → (from + length counts ≤ end) ⊎ (2 ^ 64 - 1 ≤ end)
+    by : (p : ℕ) → from ≤ p → p < from + length counts → (from + length counts ≤ end) ⊎ (2 ^ 64 - 1 ≤ end)
         → (p < end) ⊎ (end ≤ p) → is_held counts p ≡ false
     by p after within far (inl below) = round p after below
     by p after within (inl whole) (inr above) = absurd (omega arith)
@@ -66,8 +56,7 @@ not_held_after counts from end some few fit far round =
 -- the held places rise
 pub IsStrictlyIncreasing-held_places : (counts : List ℕ) → IsStrictlyIncreasing (held_places counts)
 unfolding held_places
-IsStrictlyIncreasing-held_places counts =
-    IsStrictlyIncreasing-filter (is_held counts) _
+IsStrictlyIncreasing-held_places counts = IsStrictlyIncreasing-filter (is_held counts) _
     (IsStrictlyIncreasing-range_with_len 0 (length counts * fold max 0 counts))
 
 front_of-zeros : (xs : List ℕ) → fold max 0 xs ≡ 0 → front_of xs ≡ 0
@@ -79,11 +68,9 @@ front_of-zeros xs e = rw e (rw (times_zero (length xs)) refl)
 
 -- the front of no items is 0
 pub front_of_none : (n : ℕ) (xs : List ℕ) → front_of (map (slice_index (replicate n 0)) xs) ≡ 0
-front_of_none n xs =
-    front_of-zeros (map (slice_index (replicate n 0)) xs)
+front_of_none n xs = front_of-zeros (map (slice_index (replicate n 0)) xs)
     (zero_within (fold max 0 (map (slice_index (replicate n 0)) xs))
-    (fold_max_within (slice_index (replicate n 0)) xs 0 0 (omega arith)
-    (λ x. omega (arith, copy_at {X = ℕ} n 0 x))))
+    (fold_max_within (slice_index (replicate n 0)) xs 0 0 (omega arith) (λ x. omega (arith, copy_at {X = ℕ} n 0 x))))
   where
     zero_within : (x : ℕ) → x ≤ 0 → x ≡ 0
     zero_within x l = omega (arith, l)
@@ -94,9 +81,8 @@ pub held_item : (counts members : List ℕ) (p : ℕ) → 0 < length members
     → p / length members < get_or counts (get_or members (p % length members) 0) 0
 held_item counts members p some held =
     let long = length-map members (slice_index counts) in
-    let there : p / length (map (slice_index counts) members)
-    < get_or (map (slice_index counts) members) (p % length (map (slice_index counts) members)) 0 =
-    ltb-true _ _ held in
+    let there : p / length (map (slice_index counts) members) < get_or (map (slice_index counts) members)
+    (p % length (map (slice_index counts) members)) 0 = ltb-true _ _ held in
     let at : p / length members < get_or (map (slice_index counts) members) (p % length members) 0 =
     subst (λ (n : ℕ). p / n < get_or (map (slice_index counts) members) (p % n) 0) long there in
     let which = get_or-map (slice_index counts) members (p % length members) 0 0
@@ -104,8 +90,7 @@ held_item counts members p some held =
     omega (arith, at, which)
 
 -- so it isn't beyond all items
-pub held_small : (counts members : List ℕ) (p : ℕ) → 0 < length members
-    → ((i : ℕ) → get_or counts i 0 < 2 ^ 32)
+pub held_small : (counts members : List ℕ) (p : ℕ) → 0 < length members → ((i : ℕ) → get_or counts i 0 < 2 ^ 32)
     → is_held (map (slice_index counts) members) p ≡ true → p < length members * 2 ^ 32
 held_small counts members p some small held =
     let item = held_item counts members p some held in
@@ -113,9 +98,8 @@ held_small counts members p some small held =
     below_product p (length members) (2 ^ 32) some (omega (arith, item, fits))
 
 -- what isn't taken before a place or at it isn't before the next one
-pub none_to : (trims : List ℕ) (from p : ℕ)
-    → ((q : ℕ) → from ≤ q → q < p → is_held trims q ≡ false) → is_held trims p ≡ false
-    → (q : ℕ) → from ≤ q → q < p + 1 → is_held trims q ≡ false
+pub none_to : (trims : List ℕ) (from p : ℕ) → ((q : ℕ) → from ≤ q → q < p → is_held trims q ≡ false)
+    → is_held trims p ≡ false → (q : ℕ) → from ≤ q → q < p + 1 → is_held trims q ≡ false
 none_to trims from p before here q after below = elim (cases_eq q p) [
   | inl same ↦ ap (is_held trims) same ∙ here
   | inr other ↦ before q after (omega (arith, below, other))

@@ -1,20 +1,16 @@
 -- Tests of a mask's members: what they gather, and which of them pass.
-use Rattle.std.proofs.Common.{◌≡◌, refl, ◌∙◌, ℕ, zero, suc, Bool, true, cond, [], ◌∷◌, sym, ap, ◌<◌, inl, inr, arith, List, map, ◌+◌, ◌⊎◌, ◌++◌, if◌then◌else◌, false, append-nil, subst, slice_index_or, length, slice_index}
 use Rattle.std.specs.List.{list_all, Contains, All}
-use Rattle.std.proofs.lemmas.Bool.{and_from, and_parts}
-use Rattle.std.proofs.lemmas.List.Folds.{list_all-append}
-use Rattle.std.proofs.lemmas.List.{map-append}
+use Rattle.std.proofs.Common.{◌≡◌, refl, ◌∙◌, ℕ, zero, suc, Bool, true, cond, [], ◌∷◌, sym, ap, ◌<◌, inl, inr, arith, List, map, ◌+◌, ◌⊎◌, ◌++◌, if◌then◌else◌, false, append-nil, subst, slice_index_or, length, slice_index}
+use Rattle.std.proofs.lemmas.{Bool.{and_from, and_parts}, List.{map-append, Folds.list_all-append}}
 use Rattle.std.proofs.lemmas.List.Elements.{Contains-append_left, Contains-push, Contains-push_cases, Contains-get_or}
-use Rattle.dr_entry.proofs.ListFacts.{one_passes, passes_one}
-use Rattle.dr_entry.proofs.NumberFacts.{below_or_last}
+use Rattle.dr_entry.proofs.{ListFacts.{one_passes, passes_one}, NumberFacts.below_or_last}
 use Rattle.dr_history.specs.Members.{has, members_below, members_of}
 
 all_below : (p : ℕ → Bool) (mask n : ℕ) → ((i : ℕ) → has mask i ≡ true → p i ≡ true)
     → list_all p (members_below mask n) ≡ true
 unfolding members_below
 all_below p mask zero each = refl
-all_below p mask (suc n) each =
-    list_all-append p (members_below mask n) (cond (has mask n) (n ∷ []) [])
+all_below p mask (suc n) each = list_all-append p (members_below mask n) (cond (has mask n) (n ∷ []) [])
     ∙ and_from _ _ (all_below p mask n each) (one_passes p (has mask n) n (each n))
 
 pub each_below : (p : ℕ → Bool) (mask n i : ℕ) → list_all p (members_below mask n) ≡ true → i < n
@@ -22,8 +18,7 @@ pub each_below : (p : ℕ → Bool) (mask n i : ℕ) → list_all p (members_bel
 unfolding members_below
 each_below p mask zero i all lt member = absurd (omega arith)
 each_below p mask (suc n) i all lt member =
-    let two = and_parts _ _ (sym (list_all-append p (members_below mask n) (cond (has mask n) (n ∷ []) []))
-    ∙ all) in
+    let two = and_parts _ _ (sym (list_all-append p (members_below mask n) (cond (has mask n) (n ∷ []) [])) ∙ all) in
     elim (below_or_last i n lt) [
       | inl below ↦ each_below p mask n i two.0 below member
       | inr last ↦ rw last (passes_one p (has mask n) n two.1 (ap (has mask) (sym last) ∙ member))
@@ -40,8 +35,7 @@ pub by_bits : (f : ℕ → ℕ) (bits m : ℕ) (words : List ℕ) → words ≡ 
     → words ≡ map f (members_of m)
 by_bits f bits m words so same = so ∙ ap (λ (n : ℕ). map f (members_of n)) same
 
-pub contains_word : (f : ℕ → ℕ) (m n i : ℕ) → i < n → has m i ≡ true
-    → Contains (map f (members_below m n)) (f i)
+pub contains_word : (f : ℕ → ℕ) (m n i : ℕ) → i < n → has m i ≡ true → Contains (map f (members_below m n)) (f i)
 unfolding members_below
 contains_word f m zero i l h = absurd (omega arith)
 contains_word f m (suc n) i l h = rw map-append (by (last_or_below i n l) (λ p. contains_word f m n i p h))
@@ -55,20 +49,17 @@ contains_word f m (suc n) i l h = rw map-append (by (last_or_below i n l) (λ p.
     by (inr p) rest = Contains-append_left (map f (members_below m n))
         (map f (if has m n then n ∷ [] else [])) (f i) (rest p)
 
-word_of : (f : ℕ → ℕ) (m n x : ℕ) → Contains (map f (members_below m n)) x
-    → (i : ℕ) × (has m i ≡ true) × (x ≡ f i)
+word_of : (f : ℕ → ℕ) (m n x : ℕ) → Contains (map f (members_below m n)) x → (i : ℕ) × (has m i ≡ true) × (x ≡ f i)
 unfolding members_below
 word_of f m zero x h = absurd (omega (arith, h.1))
 word_of f m (suc n) x h = by (has m n) refl (rw map-append at h) (word_of f m n x)
   where
-    by : (b : Bool) → has m n ≡ b
-        → Contains (map f (members_below m n) ++ map f (if has m n then n ∷ [] else [])) x
+    by : (b : Bool) → has m n ≡ b → Contains (map f (members_below m n) ++ map f (if has m n then n ∷ [] else [])) x
         → (Contains (map f (members_below m n)) x → (i : ℕ) × (has m i ≡ true) × (x ≡ f i))
         → (i : ℕ) × (has m i ≡ true) × (x ≡ f i)
     by true e c rest = last (Contains-push_cases (map f (members_below m n)) (f n) x (rw e at c))
       where
-        last : Contains (map f (members_below m n)) x ⊎ (f n ≡ x)
-            → (i : ℕ) × (has m i ≡ true) × (x ≡ f i)
+        last : Contains (map f (members_below m n)) x ⊎ (f n ≡ x) → (i : ℕ) × (has m i ≡ true) × (x ≡ f i)
         last (inl d) = rest d
         last (inr q) = (n, e, sym q)
     by false e c rest = rest (rw append-nil at (rw e at c))
@@ -77,14 +68,12 @@ word_of f m (suc n) x h = by (has m n) refl (rw map-append at h) (word_of f m n 
 pub all_words : (P : ℕ → Type 0) (f : ℕ → ℕ) (m : ℕ)
     → ((i : ℕ) → has m i ≡ true → P (f i)) → All P (map f (members_of m))
 unfolding members_of
-all_words P f m h k d l = let w =
-    word_of f m 16 (slice_index_or (map f (members_below m 16)) k d)
+all_words P f m h k d l = let w = word_of f m 16 (slice_index_or (map f (members_below m 16)) k d)
     (Contains-get_or (map f (members_below m 16)) k d l) in
     subst P (sym w.2) (h w.0 w.1)
 
 -- a word of the list is that of some member
-pub some_word : (f : ℕ → ℕ) (m x : ℕ) → Contains (map f (members_of m)) x
-    → (i : ℕ) × (has m i ≡ true) × (x ≡ f i)
+pub some_word : (f : ℕ → ℕ) (m x : ℕ) → Contains (map f (members_of m)) x → (i : ℕ) × (has m i ≡ true) × (x ≡ f i)
 unfolding members_of
 some_word f m x h = word_of f m 16 x h
 

@@ -1,12 +1,9 @@
 -- The view that a history is in, one entry later.
 use Rattle.std.proofs.Common.{◌≡◌, ℕ, List, [], ◌∷◌, ◌++◌, Option, None, Some, refl}
-use Rattle.dr_entry.specs.declared.entry.Entry.{Entry}
-use Rattle.dr_entry.specs.declared.entry.Entry.TheVariants.{View, Msg}
-use Rattle.dr_history.specs.Members.{members_of}
-use Rattle.dr_history.specs.History.{GroupView, view_after, view_of}
+use Rattle.dr_entry.specs.declared.entry.Entry.{Entry, TheVariants.{View, Msg}}
+use Rattle.dr_history.specs.{History.{GroupView, view_after, view_of}, Members.members_of}
 
-view_after-append : (v : Option GroupView) (g h : List Entry) → view_after v (g ++ h)
-    ≡ view_after (view_after v g) h
+view_after-append : (v : Option GroupView) (g h : List Entry) → view_after v (g ++ h) ≡ view_after (view_after v g) h
 unfolding view_after
 view_after-append v [] h = refl
 view_after-append v (View a n m ∷ g) h =
@@ -20,7 +17,6 @@ unfolding view_after
 view_of-View h a n m = view_after-append None h (View a n m ∷ [])
 
 -- a message leaves it in its view
-pub view_of-Msg : (h : List Entry) (s i : ℕ) (b : List ℕ) → view_of (h ++ Msg s i b ∷ [])
-    ≡ view_of h
+pub view_of-Msg : (h : List Entry) (s i : ℕ) (b : List ℕ) → view_of (h ++ Msg s i b ∷ []) ≡ view_of h
 unfolding view_after
 view_of-Msg h s i b = view_after-append None h (Msg s i b ∷ [])

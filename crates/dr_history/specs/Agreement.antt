@@ -1,15 +1,10 @@
 -- What it is for the members of an age to agree.
-use Rattle.std.specs.Prelude.{◌≡◌, ℕ, ◌≤◌, ◌⊎◌, List, [], length, take, All, Contains, slice_get, Some}
 use Rattle.std.specs.Option.{option_map_or}
-use Rattle.dr_entry.specs.declared.entry.Entry.{Entry}
+use Rattle.std.specs.Prelude.{◌≡◌, ℕ, ◌≤◌, ◌⊎◌, List, [], length, take, All, Contains, slice_get, Some}
+use Rattle.dr_entry.specs.declared.{end.{MemberEnd.MemberEnd, SentItem.SentItem}, entry.Entry.Entry}
 use Rattle.dr_entry.specs.declared.entry.Entry.TheVariants.{View}
-use Rattle.dr_entry.specs.declared.end.SentItem.{SentItem}
-use Rattle.dr_entry.specs.declared.end.MemberEnd.{MemberEnd}
-use Rattle.dr_history.specs.declared.opening.Opening.{Opening}
-use Rattle.dr_history.specs.History.{IsPrefixOf, Sent, sent_of, view_of}
-use Rattle.dr_history.specs.Members.{members_of}
-use Rattle.dr_history.specs.Order.{InOrder}
-use Rattle.dr_history.specs.Soundness.{IsNobodyLate, IsPresentIn}
+use Rattle.dr_history.specs.{History.{IsPrefixOf, Sent, sent_of, view_of}, Members.members_of, Order.InOrder}
+use Rattle.dr_history.specs.{Soundness.{IsNobodyLate, IsPresentIn}, declared.opening.Opening.Opening}
 
 -- what a member has done in an age
 pub record Account : Type 0 where

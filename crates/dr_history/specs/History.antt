@@ -1,15 +1,9 @@
 -- Histories: the entries that a member has delivered, from the first age on.
 use Rattle.std.specs.Prelude.{◌≡◌, ℕ, ◌/◌, ◌%◌, ◌==◌, Bool, true, false, List, [], ◌∷◌, ◌++◌, length, filter, filter_map, take, slice_get, slice_index_or, position, Option, None, Some, option_map, if◌then◌else◌}
 use Rattle.std.specs.Prelude.{option_and_then}
-use Rattle.dr_entry.specs.declared.entry.Entry.{Entry}
-use Rattle.dr_entry.specs.declared.entry.Entry.TheVariants.{View, Msg}
-use Rattle.dr_entry.specs.declared.end.SentItem.{SentItem}
-use Rattle.dr_entry.specs.declared.end.SentItem.TheVariants.{Null, Index}
-use Rattle.dr_entry.specs.declared.end.ViewSent.{ViewSent}
-use Rattle.dr_entry.specs.declared.end.MemberEnd.{MemberEnd}
-use Rattle.dr_history.specs.declared.opening.Opening.{Opening}
-use Rattle.dr_history.specs.Members.{members_of}
-use Rattle.dr_history.specs.Places.{place_of, held_places}
+use Rattle.dr_entry.specs.declared.end.{MemberEnd.MemberEnd, SentItem.{SentItem, TheVariants.{Null, Index}}}
+use Rattle.dr_entry.specs.declared.{end.ViewSent.ViewSent, entry.Entry.{Entry, TheVariants.{View, Msg}}}
+use Rattle.dr_history.specs.{Members.members_of, Places.{place_of, held_places}, declared.opening.Opening.Opening}
 
 -- the first list is the front part of the second, or all of it
 abbrev pub IsPrefixOf : {A : Type 0} → List A → List A → Type 0

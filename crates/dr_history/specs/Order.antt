@@ -1,13 +1,10 @@
 -- What it is for a history to be in order.
-use Rattle.std.specs.Prelude.{◌≡◌, ◌≢◌, ⊤, ℕ, ◌+◌, ◌*◌, ◌^◌, ◌<◌, ◌≤◌, ◌==◌, ◌⊎◌, Bool, true, false, List, [], ◌∷◌, ◌++◌, length, map, filter, take, Contains, slice_get, Some, IsSome, IsSomeAnd}
 use Rattle.std.specs.List.{enumerate_from}
-use Rattle.dr_entry.specs.declared.entry.Entry.{Entry}
+use Rattle.std.specs.Prelude.{◌≡◌, ◌≢◌, ⊤, ℕ, ◌+◌, ◌*◌, ◌^◌, ◌<◌, ◌≤◌, ◌==◌, ◌⊎◌, Bool, true, false, List, [], ◌∷◌, ◌++◌, length, map, filter, take, Contains, slice_get, Some, IsSome, IsSomeAnd}
+use Rattle.dr_entry.specs.declared.{end.SentItem.{SentItem, TheVariants.{Null, Index}}, entry.Entry.Entry}
 use Rattle.dr_entry.specs.declared.entry.Entry.TheVariants.{View, Msg}
-use Rattle.dr_entry.specs.declared.end.SentItem.{SentItem}
-use Rattle.dr_entry.specs.declared.end.SentItem.TheVariants.{Null, Index}
-use Rattle.dr_history.specs.declared.opening.Opening.{Opening}
-use Rattle.dr_history.specs.Members.{has, members_of}
 use Rattle.dr_history.specs.History.{IsPrefixOf, GroupView, view_of, Sent, messages_of, item_at, place_at}
+use Rattle.dr_history.specs.{Members.{has, members_of}, declared.opening.Opening.Opening}
 
 -- what every history of the age begins with: the start, and View 0 of the members with which the age opens
 abbrev pub first_entries : Opening → List Entry

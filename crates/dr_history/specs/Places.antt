@@ -1,7 +1,7 @@
 -- The round robin of a view: item 0 of each member by ascending rank, then item 1 of each, and so on.
 -- A rank is a member's position among the members of the view, and counts are listed by rank.
-use Rattle.std.specs.Prelude.{cond, ℕ, zero, suc, ◌+◌, ◌-◌, ◌*◌, ◌/◌, ◌%◌, ◌<◌, ◌≤◌, Bool, not, nat_lt, max, List, length, slice_index, filter, fold}
 use Rattle.std.specs.List.{range_with_len}
+use Rattle.std.specs.Prelude.{cond, ℕ, zero, suc, ◌+◌, ◌-◌, ◌*◌, ◌/◌, ◌%◌, ◌<◌, ◌≤◌, Bool, not, nat_lt, max, List, length, slice_index, filter, fold}
 
 -- the place of item k of the member of this rank, where the view has so many ranks
 abbrev pub place_of : ℕ → ℕ → ℕ → ℕ

@@ -1,10 +1,8 @@
 -- How one age follows another: what its logs leave, and what the next age may start with.
 use Rattle.std.specs.Prelude.{◌≡◌, ℕ, ◌+◌, ◌<◌, ◌≤◌, ◌⊎◌, List, [], ◌∷◌, ◌++◌, length, take, slice_get, Option, None, Some}
 use Rattle.dr_entry.specs.declared.entry.Entry.{Entry}
-use Rattle.dr_history.specs.declared.opening.Opening.{Opening}
-use Rattle.dr_history.specs.History.{IsPrefixOf, GroupView}
-use Rattle.dr_history.specs.Agreement.{Account, Accounts}
-use Rattle.dr_history.specs.Soundness.{IsPresentIn, MayStand}
+use Rattle.dr_history.specs.{Agreement.{Account, Accounts}, History.{IsPrefixOf, GroupView}}
+use Rattle.dr_history.specs.{Soundness.{IsPresentIn, MayStand}, declared.opening.Opening.Opening}
 
 -- each entry may stand behind those before it
 abbrev pub AllStand : Opening → List Entry → Type 0

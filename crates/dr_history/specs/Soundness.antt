@@ -1,11 +1,8 @@
 -- What an age may start with.
 use Rattle.std.specs.Prelude.{◌≡◌, ℕ, ◌-◌, ◌^◌, ◌<◌, ◌⊎◌, true, List, length, take, Contains, slice_get, Option, Some, IsSomeAnd}
-use Rattle.dr_entry.specs.declared.entry.Entry.{Entry}
-use Rattle.dr_entry.specs.declared.entry.Entry.TheVariants.{View, Msg}
-use Rattle.dr_history.specs.declared.opening.Opening.{Opening}
-use Rattle.dr_history.specs.Members.{has}
-use Rattle.dr_history.specs.History.{GroupView, view_of, messages_of}
-use Rattle.dr_history.specs.Order.{AreOfRoster, ContinuesAge, messages_from}
+use Rattle.dr_entry.specs.declared.entry.Entry.{Entry, TheVariants.{View, Msg}}
+use Rattle.dr_history.specs.{History.{GroupView, view_of, messages_of}, Members.has}
+use Rattle.dr_history.specs.{Order.{AreOfRoster, ContinuesAge, messages_from}, declared.opening.Opening.Opening}
 
 -- the member is there in this age
 abbrev pub IsPresentIn : Opening → ℕ → Type 0

@@ -2,32 +2,21 @@
 -- prefix of the other, and they stay when more is sent.
 use Rattle.std.proofs.Common.{◌≡◌, refl, ap, sym, ◌∙◌, ◌⊎◌, inl, inr, subst, ℕ, zero, suc, ◌+◌, ◌-◌, ◌<◌, ◌≤◌, arith, List, [], ◌∷◌, ◌++◌, length, Contains, Some, false, append-nil, append_assoc, length-append}
 use Rattle.std.proofs.lemmas.List.Elements.{All-contains, Contains-append_cases}
-use Rattle.dr_entry.specs.declared.entry.Entry.{Entry}
-use Rattle.dr_entry.specs.declared.entry.Entry.TheVariants.{View}
-use Rattle.dr_history.specs.declared.opening.Opening.{Opening}
-use Rattle.dr_history.specs.Members.{has}
-use Rattle.dr_history.specs.Places.{front_of}
-use Rattle.dr_history.specs.History.{IsPrefixOf, Sent, merge, view_of}
-use Rattle.dr_history.specs.Order.{IsSucceededBy, InOrder, IsNewIn, MayJoin, first_entries}
-use Rattle.dr_history.specs.Agreement.{SamePast}
-use Rattle.dr_history.specs.Soundness.{Sound}
-use Rattle.dr_history.proofs.Letters.{IsMessage}
-use Rattle.dr_history_laws.specs.Laid.{EndsWithView, HeldBelow, SentMore, laid}
+use Rattle.dr_entry.specs.declared.entry.Entry.{Entry, TheVariants.View}
+use Rattle.dr_history.specs.{Agreement.SamePast, History.{IsPrefixOf, Sent, merge, view_of}, Members.has}
+use Rattle.dr_history.specs.{Order.{IsSucceededBy, InOrder, IsNewIn, MayJoin, first_entries}, Places.front_of}
+use Rattle.dr_history.{specs.{Soundness.Sound, declared.opening.Opening.Opening}, proofs.Letters.IsMessage}
 use Rattle.dr_history_laws.specs.Courses.{ViewEnds, ViewHasEnded, IsUncut, MayCome, MayReach, counts_taken, course, head_of, members_in, view_in}
+use Rattle.dr_history_laws.specs.Laid.{EndsWithView, HeldBelow, SentMore, laid}
 use Rattle.dr_history_laws.proofs.Cutting.{InOrder-next_view, merge-prefix, merge-steady}
-use Rattle.dr_history_laws.proofs.Heads.{head_views, merged_messages}
-use Rattle.dr_history_laws.proofs.LaidLemmas.{laid-none, laid-prefix}
-use Rattle.dr_history_laws.proofs.LooseOrder.{InLooseOrder-from}
-use Rattle.dr_history_laws.proofs.Openings.{InOrder-first, first-ends}
-use Rattle.dr_history_laws.proofs.Ordered.{InOrder-laid, reached}
-use Rattle.dr_history_laws.proofs.Steady.{laid-steady}
-use Rattle.dr_history_laws.proofs.Views.{SamePast-either}
+use Rattle.dr_history_laws.proofs.{Heads.{head_views, merged_messages}, LaidLemmas.{laid-none, laid-prefix}}
+use Rattle.dr_history_laws.proofs.{LooseOrder.InLooseOrder-from, Openings.{InOrder-first, first-ends}}
+use Rattle.dr_history_laws.proofs.{Ordered.{InOrder-laid, reached}, Steady.laid-steady, Views.SamePast-either}
 
 -- ---- heads
 
 -- the head of the first view is what every history begins with
-pub head-first : (o : Opening) (sent : Sent) (endings : ViewEnds) → head_of o sent endings 0
-    ≡ first_entries o
+pub head-first : (o : Opening) (sent : Sent) (endings : ViewEnds) → head_of o sent endings 0 ≡ first_entries o
 unfolding head_of
 head-first o sent endings = refl
 
@@ -47,8 +36,7 @@ pub members-first : (o : Opening) (endings : ViewEnds) → members_in o endings 
 unfolding members_in
 members-first o endings = refl
 
-pub members-next : (o : Opening) (endings : ViewEnds) (v : ℕ) → members_in o endings (v + 1)
-    ≡ (endings v).next
+pub members-next : (o : Opening) (endings : ViewEnds) (v : ℕ) → members_in o endings (v + 1) ≡ (endings v).next
 unfolding members_in
 members-next o endings v = let next : v + 1 ≡ suc v = omega arith in ap (members_in o endings) next
 
@@ -121,39 +109,32 @@ InOrder-head o sent endings zero sound may = InOrder-first o sent sound
 InOrder-head o sent endings (suc v) sound may =
     let next : v + 1 ≡ suc v = omega arith in
     InOrder-next_view o sent (head_of o sent endings v) (view_in o endings v) (endings v).taken o.age
-    (suc v) (endings v).next
-    (InOrder-head o sent endings v sound (may_come-less o sent endings v may))
-    (head-ends o sent endings v) (may.goes v (omega arith))
-    (subst (λ n. IsSucceededBy o
+    (suc v) (endings v).next (InOrder-head o sent endings v sound (may_come-less o sent endings v may))
+    (head-ends o sent endings v) (may.goes v (omega arith)) (subst (λ n. IsSucceededBy o
     (head_of o sent endings v ++ merge o sent (view_in o endings v) (counts_taken o endings v))
-    (view_in o endings v) o.age n (endings v).next) next
-    (goes-on o sent endings v sound (may.ended v (omega arith))))
+    (view_in o endings v) o.age n (endings v).next) next (goes-on o sent endings v sound (may.ended v (omega arith))))
 
 -- and so is what has come to a place
 pub InOrder-course : (o : Opening) (sent : Sent) (endings : ViewEnds) (v p : ℕ) → Sound o
     → MayReach o sent endings v p → InOrder o sent (course o sent endings v p)
-InOrder-course o sent endings v p sound may =
-    InOrder-laid o sent (head_of o sent endings v) (view_in o endings v) p
+InOrder-course o sent endings v p sound may = InOrder-laid o sent (head_of o sent endings v) (view_in o endings v) p
     (InOrder-head o sent endings v sound may.view) (head-ends o sent endings v)
     (may.view.goes v (omega arith)) may.held
 
 -- it is in the view
 pub view-course : (o : Opening) (sent : Sent) (endings : ViewEnds) (v p : ℕ) → Sound o
     → MayCome o sent endings v → view_of (course o sent endings v p) ≡ Some (view_in o endings v)
-view-course o sent endings v p sound may = (reached o sent (head_of o sent endings v)
-    (view_in o endings v) p
+view-course o sent endings v p sound may = (reached o sent (head_of o sent endings v) (view_in o endings v) p
     (InLooseOrder-from o sent (head_of o sent endings v) (InOrder-head o sent endings v sound may))
     (head-ends o sent endings v) (may.goes v (omega arith))).view
 
 -- ---- prefixes
 
 prefix-trans : {A : Type 0} (xs ys zs : List A) → IsPrefixOf xs ys → IsPrefixOf ys zs → IsPrefixOf xs zs
-prefix-trans xs ys zs p q =
-    (p.0 ++ q.0, sym (append_assoc xs p.0 q.0) ∙ (ap (λ es. es ++ q.0) p.1 ∙ q.1))
+prefix-trans xs ys zs p q = (p.0 ++ q.0, sym (append_assoc xs p.0 q.0) ∙ (ap (λ es. es ++ q.0) p.1 ∙ q.1))
 
 -- a place that is not cut off is part of the next head
-prefix-next : (o : Opening) (sent : Sent) (endings : ViewEnds) (v p : ℕ)
-    → p ≤ front_of (counts_taken o endings v)
+prefix-next : (o : Opening) (sent : Sent) (endings : ViewEnds) (v p : ℕ) → p ≤ front_of (counts_taken o endings v)
     → IsPrefixOf (course o sent endings v p) (head_of o sent endings (suc v))
 unfolding head_of
 prefix-next o sent endings v p kept = prefix-trans (course o sent endings v p)
@@ -162,8 +143,7 @@ prefix-next o sent endings v p kept = prefix-trans (course o sent endings v p)
     (View o.age (suc v) (endings v).next ∷ [], refl)
 
 -- and so of every later one
-prefix-head : (o : Opening) (sent : Sent) (endings : ViewEnds) (v p d : ℕ)
-    → p ≤ front_of (counts_taken o endings v)
+prefix-head : (o : Opening) (sent : Sent) (endings : ViewEnds) (v p d : ℕ) → p ≤ front_of (counts_taken o endings v)
     → IsPrefixOf (course o sent endings v p) (head_of o sent endings (suc (v + d)))
 prefix-head o sent endings v p zero kept =
     let same : v + 0 ≡ v = omega arith in
@@ -175,24 +155,20 @@ prefix-head o sent endings v p (suc d) kept =
     (prefix-trans (course o sent endings v p) (head_of o sent endings (suc (v + d)))
     (head_of o sent endings (suc (suc (v + d)))) (prefix-head o sent endings v p d kept)
     (subst (λ es. IsPrefixOf es (head_of o sent endings (suc (suc (v + d)))))
-    (course-head o sent endings (suc (v + d)))
-    (prefix-next o sent endings (suc (v + d)) 0 (omega arith))))
+    (course-head o sent endings (suc (v + d))) (prefix-next o sent endings (suc (v + d)) 0 (omega arith))))
 
 -- so it is a prefix of a history that has come to a later view
 pub prefix-later : (o : Opening) (sent : Sent) (endings : ViewEnds) (v p u q : ℕ) → v < u
-    → p ≤ front_of (counts_taken o endings v)
-    → IsPrefixOf (course o sent endings v p) (course o sent endings u q)
+    → p ≤ front_of (counts_taken o endings v) → IsPrefixOf (course o sent endings v p) (course o sent endings u q)
 prefix-later o sent endings v p u q less kept =
     let place : suc (v + (u - (v + 1))) ≡ u = omega arith in
     prefix-trans (course o sent endings v p) (head_of o sent endings u) (course o sent endings u q)
     (subst (λ n. IsPrefixOf (course o sent endings v p) (head_of o sent endings n)) place
-    (prefix-head o sent endings v p (u - (v + 1)) kept))
-    (laid o sent (view_in o endings u) q, refl)
+    (prefix-head o sent endings v p (u - (v + 1)) kept)) (laid o sent (view_in o endings u) q, refl)
 
 -- of two histories that were not cut off one is a prefix of the other
-pub either-course : (o : Opening) (sent : Sent) (endings : ViewEnds) (v p u q : ℕ)
-    → IsUncut o endings v p u → IsUncut o endings u q v
-    → IsPrefixOf (course o sent endings v p) (course o sent endings u q)
+pub either-course : (o : Opening) (sent : Sent) (endings : ViewEnds) (v p u q : ℕ) → IsUncut o endings v p u
+    → IsUncut o endings u q v → IsPrefixOf (course o sent endings v p) (course o sent endings u q)
     ⊎ IsPrefixOf (course o sent endings u q) (course o sent endings v p)
 either-course o sent endings v p u q kept_v kept_u = by (apart v u)
   where
@@ -202,16 +178,14 @@ either-course o sent endings v p u q kept_v kept_u = by (apart v u)
     either : (p q : ℕ) → (p ≤ q) ⊎ (q ≤ p)
     either p q = grind arith
 
-    here : (u : ℕ) → v ≡ u → (p ≤ q) ⊎ (q ≤ p)
-        → IsPrefixOf (course o sent endings v p) (course o sent endings u q)
+    here : (u : ℕ) → v ≡ u → (p ≤ q) ⊎ (q ≤ p) → IsPrefixOf (course o sent endings v p) (course o sent endings u q)
         ⊎ IsPrefixOf (course o sent endings u q) (course o sent endings v p)
     here u same (inl l) = inl (subst (λ n. IsPrefixOf (course o sent endings v p) (course o sent endings n q))
         same (laid-prefix o sent (head_of o sent endings v) (view_in o endings v) p q l))
     here u same (inr l) = inr (subst (λ n. IsPrefixOf (course o sent endings n q) (course o sent endings v p))
         same (laid-prefix o sent (head_of o sent endings v) (view_in o endings v) q p l))
 
-    by : (v < u) ⊎ ((u < v) ⊎ (v ≡ u))
-        → IsPrefixOf (course o sent endings v p) (course o sent endings u q)
+    by : (v < u) ⊎ ((u < v) ⊎ (v ≡ u)) → IsPrefixOf (course o sent endings v p) (course o sent endings u q)
         ⊎ IsPrefixOf (course o sent endings u q) (course o sent endings v p)
     by (inl less) = inl (prefix-later o sent endings v p u q less (kept_v less))
     by (inr (inl less)) = inr (prefix-later o sent endings u q v p less (kept_u less))
@@ -219,37 +193,30 @@ either-course o sent endings v p u q kept_v kept_u = by (apart v u)
 
 -- and both have the same past at each View
 pub past-course : (o : Opening) (sent : Sent) (endings : ViewEnds) (v p u q : ℕ) → Sound o
-    → MayReach o sent endings v p → MayReach o sent endings u q
-    → IsUncut o endings v p u → IsUncut o endings u q v
+    → MayReach o sent endings v p → MayReach o sent endings u q → IsUncut o endings v p u → IsUncut o endings u q v
     → SamePast (course o sent endings v p) (course o sent endings u q)
-past-course o sent endings v p u q sound may_v may_u kept_v kept_u =
-    SamePast-either o sent (course o sent endings v p) (course o sent endings u q) sound
-    (InOrder-course o sent endings v p sound may_v) (InOrder-course o sent endings u q sound may_u)
-    (either-course o sent endings v p u q kept_v kept_u)
+past-course o sent endings v p u q sound may_v may_u kept_v kept_u = SamePast-either o sent
+    (course o sent endings v p) (course o sent endings u q) sound (InOrder-course o sent endings v p sound may_v)
+    (InOrder-course o sent endings u q sound may_u) (either-course o sent endings v p u q kept_v kept_u)
 
 -- ---- more is sent
 
 -- heads stay
 pub head-steady : (o : Opening) (sent now : Sent) (endings : ViewEnds) (v : ℕ) → SentMore sent now
-    → ((u : ℕ) → u < v → ViewHasEnded o sent endings u)
-    → head_of o now endings v ≡ head_of o sent endings v
+    → ((u : ℕ) → u < v → ViewHasEnded o sent endings u) → head_of o now endings v ≡ head_of o sent endings v
 unfolding head_of
 head-steady o sent now endings zero more ended = refl
-head-steady o sent now endings (suc v) more ended =
-    rw (
-      head-steady o sent now endings v more (λ u l. ended u (omega (arith, l))),
-      merge-steady o sent now (view_in o endings v) (endings v).taken (λ s _. more s v)
-          (ended v (omega arith)).given,
-    ) refl
+head-steady o sent now endings (suc v) more ended = rw (
+  head-steady o sent now endings v more (λ u l. ended u (omega (arith, l))),
+  merge-steady o sent now (view_in o endings v) (endings v).taken (λ s _. more s v) (ended v (omega arith)).given,
+) refl
 
 -- and so does what has come to a place
 pub course-steady : (o : Opening) (sent now : Sent) (endings : ViewEnds) (v p : ℕ) → SentMore sent now
-    → ((u : ℕ) → u < v → ViewHasEnded o sent endings u)
-    → HeldBelow sent (view_in o endings v) p
+    → ((u : ℕ) → u < v → ViewHasEnded o sent endings u) → HeldBelow sent (view_in o endings v) p
     → course o now endings v p ≡ course o sent endings v p
-course-steady o sent now endings v p more ended held =
-    ap (λ es. es ++ laid o now (view_in o endings v) p) (head-steady o sent now endings v more ended)
-    ∙ ap (λ es. head_of o sent endings v ++ es)
+course-steady o sent now endings v p more ended held = ap (λ es. es ++ laid o now (view_in o endings v) p)
+    (head-steady o sent now endings v more ended) ∙ ap (λ es. head_of o sent endings v ++ es)
     (laid-steady o sent now (view_in o endings v) p (λ s _. more s v) held)
 
 -- a view that has ended stays so

@@ -13,8 +13,7 @@ differ_not_along g h p d (inr q) =
     d.apart (same_Some d.one d.other (sym d.in_one ∙ slice_get-prefix h g p d.other q d.in_other))
 
 no_earlier_difference : (g h : List Entry) (p q : ℕ) → DifferAt g h p → DifferAt g h q → p < q → ⊥
-no_earlier_difference g h p q a b l =
-    a.apart (same_Some a.one a.other (sym (slice_get-take q g p l ∙ a.in_one)
+no_earlier_difference g h p q a b l = a.apart (same_Some a.one a.other (sym (slice_get-take q g p l ∙ a.in_one)
     ∙ (ap (λ (xs : List Entry). slice_get xs p) b.same ∙ (slice_get-take q h p l ∙ a.in_other))))
 
 -- and the first place at which they differ is one

@@ -1,29 +1,18 @@
 -- An age that starts with the longest of the logs that the members of another leave.
 use Rattle.std.proofs.Common.{◌≡◌, refl, ap, sym, ◌∙◌, ◌⊎◌, inl, inr, subst, ℕ, ◌+◌, ◌-◌, ◌<◌, ◌≤◌, arith, List, [], ◌∷◌, ◌++◌, length, take, drop, Some, slice_get, append_assoc, length-append, take_at, length-take, append-nil, ⊎_elim}
-use Rattle.std.proofs.lemmas.List.{take-append-drop, take_all}
+use Rattle.std.proofs.lemmas.{Bool.{cases_lt, cases_eq}, List.{take-append-drop, take_all}}
 use Rattle.std.proofs.lemmas.Option.{slice_get_within, same_Some}
-use Rattle.std.proofs.lemmas.Bool.{cases_lt, cases_eq}
-use Rattle.dr_entry.specs.declared.entry.Entry.{Entry}
-use Rattle.dr_entry.specs.declared.entry.Entry.TheVariants.{View}
-use Rattle.dr_history.specs.declared.opening.Opening.{Opening}
-use Rattle.dr_history.specs.Members.{members_of}
-use Rattle.dr_history.specs.History.{IsPrefixOf, GroupView, view_of}
-use Rattle.dr_history.specs.Order.{first_entries}
-use Rattle.dr_history.specs.Agreement.{Account, Accounts, Agreed}
-use Rattle.dr_history.specs.Soundness.{IsPresentIn, Sound}
+use Rattle.dr_entry.specs.declared.entry.Entry.{Entry, TheVariants.View}
+use Rattle.dr_history.specs.{Agreement.{Account, Accounts, Agreed}, History.{IsPrefixOf, GroupView, view_of}}
+use Rattle.dr_history.{specs.Members.members_of, proofs.{Restarts.turned, ViewLemmas.view_of-View}}
+use Rattle.dr_history.specs.{Order.first_entries, Soundness.{IsPresentIn, Sound}, declared.opening.Opening.Opening}
 use Rattle.dr_history.specs.Restarting.{AreLeftBy, IsLeftBy, IsLongest, Kept, AreAlong, AreAllAlong}
-use Rattle.dr_history.proofs.ViewLemmas.{view_of-View}
-use Rattle.dr_history.proofs.Restarts.{turned}
 use Rattle.dr_history_laws.proofs.Lists.{slice_get-seam, slice_get-prefix, take-next, take-prefix}
 use Rattle.dr_history_laws.proofs.Views.{ViewsRise-standing, view-after}
 
 -- a prefix of a prefix is one
-pub prefix_then : {X : Type 0} (xs ys zs : List X) → IsPrefixOf xs ys → IsPrefixOf ys zs
-    → IsPrefixOf xs zs
-prefix_then xs ys zs p q = (
-  p.0 ++ q.0,
-  sym (append_assoc xs p.0 q.0) ∙ (ap (λ l. l ++ q.0) p.1 ∙ q.1),
-)
+pub prefix_then : {X : Type 0} (xs ys zs : List X) → IsPrefixOf xs ys → IsPrefixOf ys zs → IsPrefixOf xs zs
+prefix_then xs ys zs p q = (p.0 ++ q.0, sym (append_assoc xs p.0 q.0) ∙ (ap (λ l. l ++ q.0) p.1 ∙ q.1))
 
 -- of two prefixes of a list the shorter one is a prefix of the other
 pub prefix_beside : {X : Type 0} (xs ys zs : List X) → IsPrefixOf xs zs → IsPrefixOf ys zs
@@ -52,8 +41,7 @@ left_long a log (inr more) = omega (arith, ap length more.1, length-append a.log
 durable_kept : (o : Opening) (accounts : Accounts) (lists : List (List Entry)) (start : List Entry)
     (i : ℕ) → Agreed o accounts → AreLeftBy o accounts lists → IsLongest lists start → IsPresentIn o i
     → IsPrefixOf (take (accounts i).durable (accounts i).history) start
-durable_kept o accounts lists start i agreed left longest present =
-    by (agreed.prefix i longest.place present here.0)
+durable_kept o accounts lists start i agreed left longest present = by (agreed.prefix i longest.place present here.0)
   where
     here : IsPresentIn o longest.place × IsLeftBy (accounts longest.place) start
     here = left.each longest.place start longest.one
@@ -90,9 +78,8 @@ durable_kept o accounts lists start i agreed left longest present =
         (prefix_then start (accounts longest.place).history h delivered p) long
 
 -- so the age keeps it
-pub longest_keeps : (o next : Opening) (accounts : Accounts) (lists : List (List Entry))
-    → Agreed o accounts → AreLeftBy o accounts lists → IsLongest lists next.start → o.age < next.age
-    → Kept o accounts next
+pub longest_keeps : (o next : Opening) (accounts : Accounts) (lists : List (List Entry)) → Agreed o accounts
+    → AreLeftBy o accounts lists → IsLongest lists next.start → o.age < next.age → Kept o accounts next
 longest_keeps o next accounts lists agreed left longest later =
     let here = left.each longest.place next.start longest.one in
     record {
@@ -107,8 +94,7 @@ longest_keeps o next accounts lists agreed left longest later =
 
 -- ---- the age is a later one
 
-pub sound_later : (o next : Opening) → Sound next → IsPrefixOf (first_entries o) next.start
-    → o.age < next.age
+pub sound_later : (o next : Opening) → Sound next → IsPrefixOf (first_entries o) next.start → o.age < next.age
 sound_later o next sound begins =
     let n = length o.start in
     let first = View o.age 0 o.members in
@@ -120,13 +106,11 @@ sound_later o next sound begins =
     ap view_of (take-next next.start n first at) ∙ view_of-View (take n next.start) o.age 0 o.members in
     let d = length next.start - (n + 1) in
     let end : n + 1 + d ≡ length next.start = omega (arith, within) in
-    let r = view-after next.start 0 (n + 1) d view
-    (ViewsRise-standing next next.start sound.entries) (omega arith)
+    let r = view-after next.start 0 (n + 1) d view (ViewsRise-standing next next.start sound.entries) (omega arith)
     (omega (arith, end)) here in
     let last : view_of next.start ≡ Some r.0 = sym (ap view_of
     (ap (λ k. take k next.start) end ∙ take_all (length next.start) next.start (omega arith))) ∙ r.1 in
-    let come = sound.later r.0 last in
-    by o.age r.0.age next.age 0 r.0.number r.2 come
+    let come = sound.later r.0 last in by o.age r.0.age next.age 0 r.0.number r.2 come
   where
     by : (a b c n m : ℕ) → (a < b) ⊎ ((a ≡ b) × (n ≤ m)) → b < c → a < c
     by a b c n m h l = grind arith
@@ -139,34 +123,28 @@ front_of x l (inr q) short = prefix_beside x l x ([], append-nil x) q short
 -- two that are along a list that is longer than both are along one another
 pub along_by_longest : (x y l : List Entry) → AreAlong x l → AreAlong y l → length x ≤ length l
     → length y ≤ length l → AreAlong x y
-along_by_longest x y l p q short shorter = ⊎_elim
-    (λ (k : length x < length y). inl
+along_by_longest x y l p q short shorter = ⊎_elim (λ (k : length x < length y). inl
     (prefix_beside x y l (front_of x l p short) (front_of y l q shorter) (omega (arith, k))))
-    (λ (k : length y ≤ length x). inr
-    (prefix_beside y x l (front_of y l q shorter) (front_of x l p short) k))
+    (λ (k : length y ≤ length x). inr (prefix_beside y x l (front_of y l q shorter) (front_of x l p short) k))
     (cases_lt (length x) (length y))
 
 -- of lists that are all along each is a front of the longest
 pub front_of_longest : (lists : List (List Entry)) (longest es : List Entry) (m : ℕ) → AreAllAlong lists
     → IsLongest lists longest → slice_get lists m ≡ Some es → IsPrefixOf es longest
 front_of_longest lists longest es m along long at = ⊎_elim
-    (λ (l : m < long.place).
-    front_of es longest (along m long.place es longest l at long.one) (long.longest m es at))
+    (λ (l : m < long.place). front_of es longest (along m long.place es longest l at long.one) (long.longest m es at))
     (λ (g : long.place ≤ m). elim (cases_eq m long.place) [
       | inl same ↦ front_of es longest (inl ([], append-nil es ∙ same_there same)) (long.longest m es at)
-      | inr other ↦ front_of es longest
-          (turned longest es (along long.place m longest es (omega (arith, g, other)) long.one at))
-          (long.longest m es at)
-    ])
-    (cases_lt m long.place)
+      | inr other ↦ front_of es longest (turned longest es
+          (along long.place m longest es (omega (arith, g, other)) long.one at)) (long.longest m es at)
+    ]) (cases_lt m long.place)
   where
     same_there : m ≡ long.place → es ≡ longest
     same_there same = same_Some es longest (sym at ∙ ap (slice_get lists) same ∙ long.one)
 
 pub both_ways : {X : Type 0} (xs ys : List X) → IsPrefixOf xs ys → IsPrefixOf ys xs → xs ≡ ys
 both_ways {X} xs ys p q =
-    let none : length p.0 ≡ 0 =
-    omega (arith, prefix_shorter ys xs q, ap length p.1, length-append xs p.0) in
+    let none : length p.0 ≡ 0 = omega (arith, prefix_shorter ys xs q, ap length p.1, length-append xs p.0) in
     by p.0 p.1 none
   where
     by : (rest : List X) → xs ++ rest ≡ ys → length rest ≡ 0 → xs ≡ ys

@@ -1,23 +1,13 @@
 -- Entries that may stand are few, and so is a sound start: each age has at most 256 views, and each member no
 -- more messages than by the script.
 use Rattle.std.proofs.Common.{◌≡◌, refl, ap, sym, ◌∙◌, ◌⊎◌, inl, inr, subst, ℕ, zero, suc, ◌+◌, ◌*◌, ◌-◌, ◌^◌, ◌==◌, ◌<◌, ◌≤◌, arith, Bool, true, false, ne_eqb, List, [], ◌∷◌, ◌++◌, length, take, filter, append-nil, Contains, Option, None, Some, IsSomeAnd, length-append}
-use Rattle.std.proofs.Math.Nat.{suc-mul}
-use Rattle.std.proofs.lemmas.List.{take_all}
-use Rattle.std.proofs.lemmas.List.Elements.{filter-append}
-use Rattle.std.proofs.lemmas.Option.{same_Some}
-use Rattle.dr_entry.specs.declared.entry.Entry.{Entry}
-use Rattle.dr_entry.specs.declared.entry.Entry.TheVariants.{View, Msg}
-use Rattle.dr_history.specs.declared.opening.Opening.{Opening}
-use Rattle.dr_history.specs.Members.{members_of}
-use Rattle.dr_history.specs.History.{GroupView, view_after, view_of, messages_of}
-use Rattle.dr_history.specs.Order.{ContinuesAge, messages_from}
-use Rattle.dr_history.specs.Restarting.{AllStand, next_age}
-use Rattle.dr_history.specs.Soundness.{IsLaterAge, Sound, MayStand}
+use Rattle.std.proofs.{Math.Nat.suc-mul, lemmas.{List.{take_all, Elements.filter-append}, Option.same_Some}}
+use Rattle.dr_entry.specs.declared.entry.Entry.{Entry, TheVariants.{View, Msg}}
+use Rattle.dr_history.specs.{History.{GroupView, view_after, view_of, messages_of}, declared.opening.Opening.Opening}
+use Rattle.dr_history.specs.{Members.members_of, Order.{ContinuesAge, messages_from}, Restarting.{AllStand, next_age}}
+use Rattle.dr_history.{specs.Soundness.{IsLaterAge, Sound, MayStand}, proofs.ViewLemmas.{view_of-View, view_of-Msg}}
 use Rattle.dr_history.proofs.NumberedLemmas.{messages_from-View, messages_from-Msg, messages_from-other, length-numbered_messages}
-use Rattle.dr_history.proofs.ViewLemmas.{view_of-View, view_of-Msg}
-use Rattle.dr_history_laws.proofs.Lists.{slice_get-some, take-next}
-use Rattle.dr_history_laws.proofs.Members.{members_of-lt}
-use Rattle.dr_history_laws.proofs.Openings.{numbered_stood}
+use Rattle.dr_history_laws.proofs.{Lists.{slice_get-some, take-next}, Members.members_of-lt, Openings.numbered_stood}
 
 -- ---- messages
 
@@ -51,8 +41,7 @@ messages_below-Msg (suc n) s h i b l = by (cases l) (messages_below-Msg n s h i 
     cases : s < suc n → (s < n) ⊎ (n ≡ s)
     cases less = grind arith
 
-    by : (s < n) ⊎ (n ≡ s) → (s < n → messages_below n (h ++ Msg s i b ∷ [])
-        ≡ messages_below n h + 1)
+    by : (s < n) ⊎ (n ≡ s) → (s < n → messages_below n (h ++ Msg s i b ∷ []) ≡ messages_below n h + 1)
         → messages_below (suc n) (h ++ Msg s i b ∷ []) ≡ messages_below (suc n) h + 1
     by (inl less) rest =
         let apart : (s == n) ≡ false = ne_eqb s n (λ e. omega (arith, e, less)) in
@@ -67,8 +56,7 @@ pub messages_below-most : (n most : ℕ) (h : List Entry) → ((s : ℕ) → len
     → messages_below n h ≤ n * most
 unfolding messages_below
 messages_below-most zero most h few = omega arith
-messages_below-most (suc n) most h few =
-    omega (arith, messages_below-most n most h few, few n, suc-mul n most)
+messages_below-most (suc n) most h few = omega (arith, messages_below-most n most h few, few n, suc-mul n most)
 
 -- ---- views
 
@@ -114,8 +102,7 @@ IsShort-View h a k m r small more = record {
 }
 
 -- one more message of a member of the view
-IsShort-Msg : (h : List Entry) (s i : ℕ) (b : List ℕ) → IsShort h → s < 16
-    → IsShort (h ++ Msg s i b ∷ [])
+IsShort-Msg : (h : List Entry) (s i : ℕ) (b : List ℕ) → IsShort h → s < 16 → IsShort (h ++ Msg s i b ∷ [])
 IsShort-Msg h s i b r l = record {
   short = rw (view_of-Msg h s i b, messages_below-Msg 16 s h i b l, length-append h (Msg s i b ∷ []))
       (omega (arith, r.short));
@@ -150,15 +137,12 @@ member-below (Some u) s old member = (old u refl).below s member
 -- ---- entries that may stand
 
 -- each entry that may stand behind short entries leaves them short
-IsShort-next : (o : Opening) (h : List Entry) (e : Entry) → IsShort h → MayStand o h e
-    → IsShort (h ++ e ∷ [])
-IsShort-next o h (View a k m) r (members, inl opens) =
-    IsShort-View h a k m r (omega (arith, opens.first))
+IsShort-next : (o : Opening) (h : List Entry) (e : Entry) → IsShort h → MayStand o h e → IsShort (h ++ e ∷ [])
+IsShort-next o h (View a k m) r (members, inl opens) = IsShort-View h a k m r (omega (arith, opens.first))
     (worth-later (view_of h) (view_by a k m) r.views opens.later)
 IsShort-next o h (View a k m) r (members, inr goes) =
     IsShort-View h a k m r (number-small (view_of h) a k m goes) (worth-goes (view_of h) a k m goes)
-IsShort-next o h (Msg s i b) r stands =
-    IsShort-Msg h s i b r (member-below (view_of h) s r.views stands.0)
+IsShort-next o h (Msg s i b) r stands = IsShort-Msg h s i b r (member-below (view_of h) s r.views stands.0)
 
 no_view : (v : GroupView) → view_of [] ≡ Some v → ⊥
 unfolding view_after
@@ -199,9 +183,8 @@ pub stood-told : (o : Opening) (es : List Entry) → AllStand o es
 stood-told o es stand few = omega (arith, (stood-is o es stand).told, stood-messages o es stand few)
 
 -- and at most 256 views of each age up to that of the last one
-pub stood-short : (o : Opening) (es : List Entry) → AllStand o es → 1 ≤ length o.messages
-    → length o.messages ≤ 16 → ((s : ℕ) → length (messages_of o s) ≤ 4096)
-    → length es ≤ 256 * next_age (view_of es) + 16 * 4096
+pub stood-short : (o : Opening) (es : List Entry) → AllStand o es → 1 ≤ length o.messages → length o.messages ≤ 16
+    → ((s : ℕ) → length (messages_of o s) ≤ 4096) → length es ≤ 256 * next_age (view_of es) + 16 * 4096
 unfolding worth
 stood-short o es stand one most few = by (view_of es) refl
   where
@@ -216,8 +199,7 @@ stood-short o es stand one most few = by (view_of es) refl
     by (Some v) e = omega (arith, whole.short, ap worth e, messages, (whole.views v e).small, ap next_age e)
 
 -- of 65,536 ages a sound start has at most so many entries
-pub start-few : (o : Opening) → Sound o → o.age < 2 ^ 16 → 1 ≤ length o.messages
-    → length o.messages ≤ 16
+pub start-few : (o : Opening) → Sound o → o.age < 2 ^ 16 → 1 ≤ length o.messages → length o.messages ≤ 16
     → ((s : ℕ) → length (messages_of o s) ≤ 4096) → length o.start ≤ 16842752
 start-few o sound age one most few = by (view_of o.start) refl
   where
@@ -231,7 +213,6 @@ start-few o sound age one most few = by (view_of o.start) refl
       age,
     )
 
-pub start-short : (o : Opening) → Sound o → o.age < 2 ^ 16 → 1 ≤ length o.messages
-    → length o.messages ≤ 16
+pub start-short : (o : Opening) → Sound o → o.age < 2 ^ 16 → 1 ≤ length o.messages → length o.messages ≤ 16
     → ((s : ℕ) → length (messages_of o s) ≤ 4096) → length o.start < 2 ^ 31
 start-short o sound age one most few = omega (arith, start-few o sound age one most few)

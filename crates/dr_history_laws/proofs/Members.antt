@@ -1,29 +1,18 @@
 -- The members of a view are different numbers, so each has one rank.
+use Rattle.std.{specs.List.{range_with_len, position, position_or_len}, proofs.lemmas.List.take_all}
 use Rattle.std.proofs.Common.{◌≡◌, refl, ap, sym, ◌∙◌, ◌⊎◌, inl, inr, subst, ℕ, zero, suc, ◌+◌, ◌-◌, ◌^◌, ◌==◌, ◌<◌, ◌≤◌, arith, Bool, true, false, List, [], ◌∷◌, ◌++◌, length, get_or, Contains, append-nil, Some, slice_get, if◌then◌else◌, All, take, drop, ◌||◌, true≢false, length-append, take_at}
-use Rattle.std.specs.List.{range_with_len, position, position_or_len}
-use Rattle.std.proofs.lemmas.Bool.{eq-eqb, ne_eqb}
+use Rattle.std.proofs.lemmas.{Bool.{eq-eqb, ne_eqb}, Fmt.decimal_injective, Nat.Bits.{bit_at_ones, bit_at_ones_above}}
 use Rattle.std.proofs.lemmas.List.Elements.{Contains-append_left, Contains-append_right, Contains-get_or, All-head, All-tail}
-use Rattle.std.proofs.lemmas.Nat.Bits.{bit_at_ones, bit_at_ones_above}
 use Rattle.std.proofs.lemmas.Option.{none-some, slice_get-get_or, slice_get_within, get_or_from_slice_get, same_Some}
-use Rattle.std.proofs.lemmas.Fmt.{decimal_injective}
-use Rattle.std.proofs.lemmas.List.{take_all}
-use Rattle.dr_entry.specs.declared.entry.Entry.{Entry}
-use Rattle.dr_entry.proofs.ListPlaces.{position_found}
-use Rattle.dr_entry.proofs.Bits.{joined_none}
-use Rattle.dr_entry.proofs.ListFacts.{number_first, joined}
-use Rattle.dr_entry.proofs.NumberFacts.{total}
+use Rattle.dr_entry.{specs.declared.entry.Entry.{Entry, TheVariants.{View, Msg}}, proofs.Bits.joined_none}
+use Rattle.dr_entry.proofs.{ListFacts.{number_first, joined}, ListPlaces.position_found, NumberFacts.total}
 use Rattle.dr_entry.proofs.OptionFacts.{total_few}
-use Rattle.dr_entry.specs.declared.entry.Entry.TheVariants.{View, Msg}
-use Rattle.dr_history.specs.Members.{has, members_below, members_of}
-use Rattle.dr_history.specs.History.{GroupView, Sent, view_of}
-use Rattle.dr_history.proofs.MemberLemmas.{length_members_below}
-use Rattle.dr_history.proofs.Histories.{total_rises, IsFew}
-use Rattle.dr_history.proofs.ViewLemmas.{view_of-View}
-use Rattle.dr_history.specs.declared.opening.Opening.{Opening}
+use Rattle.dr_history.specs.{History.{GroupView, Sent, view_of}, Members.{has, members_below, members_of}}
 use Rattle.dr_history.specs.Order.{IsInNoView, IsSucceededBy, MayJoin, InOrder, first_entries}
-use Rattle.dr_history_laws.specs.Laid.{EndsWithView}
+use Rattle.dr_history.{specs.declared.opening.Opening.Opening, proofs.Histories.{total_rises, IsFew}}
+use Rattle.dr_history.proofs.{MemberLemmas.length_members_below, ViewLemmas.view_of-View}
+use Rattle.dr_history_laws.{specs.Laid.EndsWithView, proofs.LaidLemmas.range-more}
 use Rattle.dr_history_laws.proofs.Lists.{slice_get-push_cases, free_before, Contains-slice_get, slice_get-seam, few_first, few_Msg, IsSomeAnd-at, slice_get-some, take-next}
-use Rattle.dr_history_laws.proofs.LaidLemmas.{range-more}
 
 -- no number stands twice
 abbrev pub AreDistinct : List ℕ → Type 0
@@ -53,14 +42,10 @@ members_below-lt mask (suc n) i x e = by (has mask n) (members_below-lt mask n i
     by true below e = last (slice_get-push_cases (members_below mask n) n x i e)
       where
         last : ((i < length (members_below mask n)) × (slice_get (members_below mask n) i ≡ Some x))
-            ⊎ ((i ≡ length (members_below mask n)) × (n ≡ x))
-            → x < suc n
+            ⊎ ((i ≡ length (members_below mask n)) × (n ≡ x)) → x < suc n
         last (inl r) = omega (arith, below r.1)
         last (inr r) = omega (arith, r.1)
-    by false below e = omega (
-      arith,
-      below (ap (λ xs. slice_get xs i) (sym (append-nil (members_below mask n))) ∙ e),
-    )
+    by false below e = omega (arith, below (ap (λ xs. slice_get xs i) (sym (append-nil (members_below mask n))) ∙ e))
 
 -- whoever is a member of a mask is below 16
 pub members_of-lt : (mask s : ℕ) → Contains (members_of mask) s → s < 16
@@ -95,10 +80,8 @@ unfolding members_below
 below-has mask zero i x e = absurd (none-some x e)
 below-has mask (suc n) i x e = by (has mask n) refl (below-has mask n i x) e
   where
-    by : (b : Bool) → has mask n ≡ b
-        → (slice_get (members_below mask n) i ≡ Some x → has mask x ≡ true)
-        → slice_get (members_below mask n ++ (if b then n ∷ [] else [])) i ≡ Some x → has mask x
-        ≡ true
+    by : (b : Bool) → has mask n ≡ b → (slice_get (members_below mask n) i ≡ Some x → has mask x ≡ true)
+        → slice_get (members_below mask n ++ (if b then n ∷ [] else [])) i ≡ Some x → has mask x ≡ true
     by true h rest at = last (slice_get-push_cases (members_below mask n) n x i at)
       where
         last : ((i < length (members_below mask n)) × (slice_get (members_below mask n) i ≡ Some x))
@@ -126,8 +109,7 @@ below-contains mask (suc n) x h l = by (cases l) (below-contains mask n x h)
 
     by : (x < n) ⊎ (x ≡ n) → (x < n → Contains (members_below mask n) x)
         → Contains (members_below mask n ++ (if has mask n then n ∷ [] else [])) x
-    by (inl less) rest = Contains-append_left (members_below mask n) (if has mask n then n ∷ [] else []) x
-        (rest less)
+    by (inl less) rest = Contains-append_left (members_below mask n) (if has mask n then n ∷ [] else []) x (rest less)
     by (inr same) rest = Contains-append_right (members_below mask n) (if has mask n then n ∷ [] else []) x
         (subst (λ k. Contains (if has mask n then n ∷ [] else []) k) (sym same)
         (alone (subst (λ k. has mask k ≡ true) same h)))
@@ -144,14 +126,8 @@ view-distinct h v ends = subst AreDistinct ends.members (members_of-distinct end
 -- a member's rank is its position
 pub position-rank : (xs : List ℕ) (rank s : ℕ) → AreDistinct xs → slice_get xs rank ≡ Some s
     → position (λ m. m == s) xs ≡ Some rank
-position-rank xs rank s distinct at =
-    position_found (λ m. m == s) xs rank 0 within
-    (λ j l. ne_eqb (get_or xs j 0) s
-    (λ e. omega (
-      arith,
-      l,
-      distinct j rank s (slice_get-get_or xs j 0 (omega (arith, l, within)) ∙ ap Some e) at,
-    )))
+position-rank xs rank s distinct at = position_found (λ m. m == s) xs rank 0 within (λ j l. ne_eqb (get_or xs j 0) s
+    (λ e. omega (arith, l, distinct j rank s (slice_get-get_or xs j 0 (omega (arith, l, within)) ∙ ap Some e) at)))
     (eq-eqb (get_or xs rank 0) s (get_or_from_slice_get xs rank s 0 at))
   where
     within : rank < length xs
@@ -184,8 +160,7 @@ unfolding members_of
 members_of-ones n l = above_ones n 16 l
 
 pub low : (mask : ℕ) → All (λ m. m < 16) (members_of mask)
-low mask k d within = members_of-lt mask (get_or (members_of mask) k d)
-    (Contains-get_or (members_of mask) k d within)
+low mask k d within = members_of-lt mask (get_or (members_of mask) k d) (Contains-get_or (members_of mask) k d within)
 
 -- numbers with commas between them
 pub same_joined : (xs ys : List ℕ) → All (λ m. m < 16) xs → All (λ m. m < 16) ys → joined xs ≡ joined ys → xs ≡ ys
@@ -196,11 +171,9 @@ same_joined (x ∷ xs) (y ∷ ys) x_low y_low same =
     let ly = All-head (λ m. m < 16) y ys y_low in
     let one = number_first x xs lx in
     let other = number_first y ys ly in
-    let head : x ≡ y =
-    decimal_injective x y (omega (arith, lx)) (omega (arith, ly))
+    let head : x ≡ y = decimal_injective x y (omega (arith, lx)) (omega (arith, ly))
     (sym one.0 ∙ (ap (λ t. take (position_or_len (λ b. b == 44) t) t) same ∙ other.0)) in
-    let tail : xs ≡ ys =
-    same_joined xs ys (All-tail (λ m. m < 16) x xs x_low) (All-tail (λ m. m < 16) y ys y_low)
+    let tail : xs ≡ ys = same_joined xs ys (All-tail (λ m. m < 16) x xs x_low) (All-tail (λ m. m < 16) y ys y_low)
     (sym one.1 ∙ (ap (λ t. drop (position_or_len (λ b. b == 44) t + 1) t) same ∙ other.1)) in
     ap (λ (n : ℕ). n ∷ xs) head ∙ ap (λ ns. y ∷ ns) tail
 
@@ -243,16 +216,14 @@ few_View o es a k m f is = record {
             (slice_get-get_or (members_of f.mask) old.0 s old.1 ∙ ap Some old.2))
         by (inr may) = new (f.named s) refl may.1
 
-    met : (s : ℕ) (b : Bool) → has m s ≡ b → (b || f.named s) ≡ true
-        → IsInNoView o.age (es ++ View a k m ∷ []) s → ⊥
+    met : (s : ℕ) (b : Bool) → has m s ≡ b → (b || f.named s) ≡ true → IsInNoView o.age (es ++ View a k m ∷ []) s → ⊥
     met s true there either free =
         true≢false (sym there ∙ free k m (Contains-slice_get (es ++ View a k m ∷ []) (length es) (View o.age k m)
         (slice_get-seam es (View a k m) [] ∙ ap (λ (n : ℕ). Some (View n k m)) is.follows.same_age)))
     met s false there either free = f.met s either (free_before o.age es (View a k m) s free)
 
-    few : (members_of m ≡ members_of f.mask)
-        ⊎ (total f.named (has f.mask) 16 < total (λ s. has m s || f.named s) (has m) 16)
-        → k ≤ total (λ s. has m s || f.named s) (has m) 16
+    few : (members_of m ≡ members_of f.mask) ⊎ (total f.named (has f.mask) 16 < total (λ s. has m s || f.named s)
+        (has m) 16) → k ≤ total (λ s. has m s || f.named s) (has m) 16
     few (inl same) = absurd (is.follows.other same)
     few (inr less) = omega (arith, less, f.few, is.follows.next_number)
 
@@ -263,14 +234,12 @@ few_behind o sent h zero order l = subst (IsFew o) (sym first) (few_first o)
   where
     first : take (length o.start + 1 + 0) h ≡ first_entries o
     first = ap (λ n. take n h) (same (length o.start) (length (first_entries o))
-        (length-append o.start (View o.age 0 o.members ∷ [])))
-        ∙ ap (take (length (first_entries o))) (sym order.begins.1)
-        ∙ take_at (first_entries o) order.begins.0 (length (first_entries o)) refl
+        (length-append o.start (View o.age 0 o.members ∷ []))) ∙ ap (take (length (first_entries o)))
+        (sym order.begins.1) ∙ take_at (first_entries o) order.begins.0 (length (first_entries o)) refl
       where
         same : (n m : ℕ) → m ≡ n + 1 → n + 1 + 0 ≡ m
         same n m e = omega (arith, e)
-few_behind o sent h (suc d) order l =
-    next (few_behind o sent h d order (omega (arith, l)))
+few_behind o sent h (suc d) order l = next (few_behind o sent h d order (omega (arith, l)))
     (slice_get-some h (length o.start + 1 + d) (omega (arith, l)))
   where
     n : ℕ
@@ -283,12 +252,10 @@ few_behind o sent h (suc d) order l =
         → take (length o.start + 1 + d) h ++ e ∷ [] ≡ take (length o.start + 1 + suc d) h
     more e at = sym (ap (λ (j : ℕ). take j h) place ∙ take-next h n e at)
 
-    next : IsFew o (take (length o.start + 1 + d) h)
-        → (e : Entry) × (slice_get h (length o.start + 1 + d) ≡ Some e)
+    next : IsFew o (take (length o.start + 1 + d) h) → (e : Entry) × (slice_get h (length o.start + 1 + d) ≡ Some e)
         → IsFew o (take (length o.start + 1 + suc d) h)
-    next f (View a k m, at) =
-        subst (IsFew o) (more (View a k m) at) (few_View o (take n h) a k m f
-        (IsSomeAnd-at (view_of (take n h)) (λ v. IsSucceededBy o (take n h) v a k m)
+    next f (View a k m, at) = subst (IsFew o) (more (View a k m) at)
+        (few_View o (take n h) a k m f (IsSomeAnd-at (view_of (take n h)) (λ v. IsSucceededBy o (take n h) v a k m)
         (record { age = o.age; number = f.number; members = members_of f.mask }) f.view
         (order.views n a k m (omega arith) at)))
     next f (Msg s j b, at) = subst (IsFew o) (more (Msg s j b) at) (few_Msg o (take n h) s j b f)

@@ -1,31 +1,20 @@
 -- The merge of all that was sent in a view is what is laid of it, and where all messages are laid it is
 -- what is laid so far.
+use Rattle.std.{specs.List.range_with_len, proofs.lemmas.List.{length-map, get_or-map}}
 use Rattle.std.proofs.Common.{map, le_refl, Contains, append-nil, ◌≡◌, subst, refl, ap, sym, ◌∙◌, ◌⊎◌, inl, inr, ℕ, ◌+◌, ◌-◌, ◌*◌, ◌/◌, ◌%◌, ◌<◌, ◌≤◌, arith, Bool, true, false, nat_lt, max, fold, List, [], ◌∷◌, ◌++◌, length, filter, filter_map, slice_index, Option, None, Some, slice_get, option_and_then, length-append}
-use Rattle.std.specs.List.{range_with_len}
-use Rattle.std.proofs.lemmas.Bool.{cases_lt}
-use Rattle.std.proofs.lemmas.List.{length-map, get_or-map}
-use Rattle.std.proofs.lemmas.Option.{slice_get_past, slice_get_within, get_or_from_slice_get}
-use Rattle.dr_entry.specs.declared.entry.Entry.{Entry}
-use Rattle.dr_entry.specs.declared.end.SentItem.{SentItem}
-use Rattle.dr_entry.specs.declared.end.SentItem.TheVariants.{Null, Index}
+use Rattle.std.proofs.lemmas.{Bool.cases_lt, Option.{slice_get_past, slice_get_within, get_or_from_slice_get}}
+use Rattle.dr_entry.specs.declared.{end.SentItem.{SentItem, TheVariants.{Null, Index}}, entry.Entry.Entry}
 use Rattle.dr_entry.proofs.ListPlaces.{count_max}
-use Rattle.dr_history.specs.declared.opening.Opening.{Opening}
-use Rattle.dr_history.specs.Places.{is_held, held_places}
-use Rattle.dr_history.specs.History.{IsPrefixOf, GroupView, Sent, entry_of, item_at, merge}
-use Rattle.dr_history.specs.Order.{messages_from}
+use Rattle.dr_history.specs.{History.{IsPrefixOf, GroupView, Sent, entry_of, item_at, merge}, Order.messages_from}
+use Rattle.dr_history.specs.{Places.{is_held, held_places}, declared.opening.Opening.Opening}
 use Rattle.dr_history.proofs.NumberedLemmas.{messages_from-append}
-use Rattle.dr_history_laws.specs.Laid.{laid, entry_at, GoesOn, HoldsAll, counts_sent}
-use Rattle.dr_history_laws.proofs.Lists.{Contains-slice_get}
-use Rattle.dr_history_laws.proofs.LaidLemmas.{laid-more, laid-still}
-use Rattle.dr_history_laws.proofs.Members.{AreDistinct}
-use Rattle.dr_history_laws.proofs.Places.{lie_before, rounds-le}
-use Rattle.dr_history_laws.proofs.Indices.{messages_in-le, item_at-parts}
-use Rattle.dr_history_laws.proofs.Counting.{counted}
+use Rattle.dr_history_laws.{specs.Laid.{laid, entry_at, GoesOn, HoldsAll, counts_sent}, proofs.Counting.counted}
+use Rattle.dr_history_laws.proofs.{Indices.{messages_in-le, item_at-parts}, LaidLemmas.{laid-more, laid-still}}
+use Rattle.dr_history_laws.proofs.{Lists.Contains-slice_get, Members.AreDistinct, Places.{lie_before, rounds-le}}
 
 -- what a test leaves out gives nothing
 filter_map-filter : {X Y : Type 0} (f : X → Option Y) (test : X → Bool) (xs : List X)
-    → ((x : X) → test x ≡ false → f x ≡ None)
-    → filter_map f (filter test xs) ≡ filter_map f xs
+    → ((x : X) → test x ≡ false → f x ≡ None) → filter_map f (filter test xs) ≡ filter_map f xs
 filter_map-filter f test [] none = refl
 filter_map-filter {X} {Y} f test (x ∷ xs) none = by (test x) refl (filter_map-filter f test xs none)
   where
@@ -41,22 +30,18 @@ CountsAll sent v counts = (s : ℕ) → Contains v.members s → length (sent s 
 -- the count of a rank
 pub count-rank : (counts : ℕ → ℕ) (ms : List ℕ) (rank s : ℕ) → slice_get ms rank ≡ Some s
     → slice_index (map counts ms) rank ≡ counts s
-count-rank counts ms rank s e =
-    get_or-map counts ms rank 0 0 (slice_get_within ms rank s e)
+count-rank counts ms rank s e = get_or-map counts ms rank 0 0 (slice_get_within ms rank s e)
     ∙ ap counts (get_or_from_slice_get ms rank s 0 e)
 
 -- whether a place is held, by its member
-pub is_held-member : (counts : ℕ → ℕ) (ms : List ℕ) (q s : ℕ) → slice_get ms (q % length ms)
-    ≡ Some s
+pub is_held-member : (counts : ℕ → ℕ) (ms : List ℕ) (q s : ℕ) → slice_get ms (q % length ms) ≡ Some s
     → is_held (map counts ms) q ≡ nat_lt (q / length ms) (counts s)
-is_held-member counts ms q s e =
-    ap (λ n. nat_lt (q / n) (slice_index (map counts ms) (q % n))) (length-map ms counts) ∙
-    ap (nat_lt (q / length ms)) (count-rank counts ms (q % length ms) s e)
+is_held-member counts ms q s e = ap (λ n. nat_lt (q / n) (slice_index (map counts ms) (q % n))) (length-map ms counts)
+    ∙ ap (nat_lt (q / length ms)) (count-rank counts ms (q % length ms) s e)
 
 -- a place that isn't held by such counts has no item
 pub not_held-none : (sent : Sent) (v : GroupView) (counts : ℕ → ℕ) (q : ℕ) → CountsAll sent v counts
-    → is_held (map counts v.members) q ≡ false
-    → item_at sent v q ≡ None
+    → is_held (map counts v.members) q ≡ false → item_at sent v q ≡ None
 not_held-none sent v counts q all gap = by (slice_get v.members (q % length v.members)) refl
   where
     past : (s : ℕ) → slice_get v.members (q % length v.members) ≡ Some s → length (sent s v.number)
@@ -64,8 +49,7 @@ not_held-none sent v counts q all gap = by (slice_get v.members (q % length v.me
     past s e =
         let test : nat_lt (q / length v.members) (counts s)
         ≡ false = sym (is_held-member counts v.members q s e) ∙ gap in
-        let less = all s (Contains-slice_get v.members (q % length v.members) s e) in
-        grind (arith, test, less)
+        let less = all s (Contains-slice_get v.members (q % length v.members) s e) in grind (arith, test, less)
 
     by : (z : Option ℕ) → slice_get v.members (q % length v.members) ≡ z → item_at sent v q ≡ None
     by None e = rw e refl
@@ -79,19 +63,16 @@ abbrev pub top_place : List ℕ → ℕ
 top_place counts = length counts * fold max 0 counts
 
 -- the merge by such counts is what is laid below this place
-pub merge-laid : (o : Opening) (sent : Sent) (v : GroupView) (counts : ℕ → ℕ)
-    → CountsAll sent v counts
+pub merge-laid : (o : Opening) (sent : Sent) (v : GroupView) (counts : ℕ → ℕ) → CountsAll sent v counts
     → merge o sent v (map counts v.members) ≡ laid o sent v (top_place (map counts v.members))
 unfolding held_places laid
-merge-laid o sent v counts all =
-    filter_map-filter (entry_at o sent v) (is_held (map counts v.members))
+merge-laid o sent v counts all = filter_map-filter (entry_at o sent v) (is_held (map counts v.members))
     (range_with_len 0 (top_place (map counts v.members)))
     (λ q gap. ap (option_and_then (λ t. entry_of o t.0 t.1)) (not_held-none sent v counts q all gap))
 
 -- no item stands there or further on
 none_above : (sent : Sent) (v : GroupView) (counts : ℕ → ℕ) (q : ℕ) → CountsAll sent v counts
-    → top_place (map counts v.members) ≤ q
-    → item_at sent v q ≡ None
+    → top_place (map counts v.members) ≤ q → item_at sent v q ≡ None
 none_above sent v counts q all l = by (item_at sent v q) refl
   where
     no : (s : ℕ) (item : SentItem) → item_at sent v q ≡ Some (s, item) → ⊥
@@ -99,8 +80,7 @@ none_above sent v counts q all l = by (item_at sent v q) refl
         let rank = q % length v.members in
         let parts = item_at-parts sent v q s item e in
         let within = slice_get_within v.members rank s parts.0 in
-        let most = count_max (map counts v.members) 0 rank
-        (omega (arith, within, length-map v.members counts)) in
+        let most = count_max (map counts v.members) 0 rank (omega (arith, within, length-map v.members counts)) in
         let rounds : length v.members * fold max 0 (map counts v.members) ≤ q =
         subst (λ n. n * fold max 0 (map counts v.members) ≤ q) (length-map v.members counts) l in
         omega (
@@ -117,20 +97,16 @@ none_above sent v counts q all l = by (item_at sent v q) refl
     by (Some (s, item)) e = absurd (no s item e)
 
 -- so nothing is laid there
-pub laid_past : (o : Opening) (sent : Sent) (v : GroupView) (counts : ℕ → ℕ) (p : ℕ)
-    → CountsAll sent v counts
-    → top_place (map counts v.members) ≤ p → laid o sent v p
-    ≡ laid o sent v (top_place (map counts v.members))
+pub laid_past : (o : Opening) (sent : Sent) (v : GroupView) (counts : ℕ → ℕ) (p : ℕ) → CountsAll sent v counts
+    → top_place (map counts v.members) ≤ p → laid o sent v p ≡ laid o sent v (top_place (map counts v.members))
 laid_past o sent v counts p all l =
     let top : ℕ = top_place (map counts v.members) in
     let place : top + (p - top) ≡ p = omega arith in
-    ap (laid o sent v) (sym place) ∙
-    laid-still o sent v top (p - top)
+    ap (laid o sent v) (sym place) ∙ laid-still o sent v top (p - top)
     (λ q h. ap (option_and_then (λ t. entry_of o t.0 t.1)) (none_above sent v counts q all h))
 
 -- and what is laid below any place is a prefix of what is laid below this one
-pub laid-top : (o : Opening) (sent : Sent) (v : GroupView) (counts : ℕ → ℕ) (p : ℕ)
-    → CountsAll sent v counts
+pub laid-top : (o : Opening) (sent : Sent) (v : GroupView) (counts : ℕ → ℕ) (p : ℕ) → CountsAll sent v counts
     → IsPrefixOf (laid o sent v p) (laid o sent v (top_place (map counts v.members)))
 laid-top o sent v counts p all = by (cases_lt p top)
   where
@@ -144,10 +120,8 @@ laid-top o sent v counts p all = by (cases_lt p top)
     by (inr l) = ([], append-nil (laid o sent v p) ∙ laid_past o sent v counts p all l)
 
 -- where the history has all messages of the members, no message stands further on
-none_left : (o : Opening) (sent : Sent) (before : List Entry) (v : GroupView) (p q : ℕ)
-    → GoesOn o sent before v → AreDistinct v.members
-    → HoldsAll o v (before ++ laid o sent v p) → p ≤ q
-    → entry_at o sent v q ≡ None
+none_left : (o : Opening) (sent : Sent) (before : List Entry) (v : GroupView) (p q : ℕ) → GoesOn o sent before v
+    → AreDistinct v.members → HoldsAll o v (before ++ laid o sent v p) → p ≤ q → entry_at o sent v q ≡ None
 none_left o sent before v p q goes distinct all l = by (item_at sent v q) refl
   where
     message : (s i : ℕ) → item_at sent v q ≡ Some (s, Index i) → ⊥

@@ -1,24 +1,16 @@
 -- A history in order that ends with a View stays in order while the view's places are laid behind it.
 use Rattle.std.proofs.Common.{◌≡◌, refl, ap, sym, ◌∙◌, ◌⊎◌, inl, inr, subst, ℕ, zero, suc, ◌+◌, ◌<◌, ◌≤◌, arith, List, [], ◌∷◌, ◌++◌, length, take, Option, None, Some, slice_get, IsSomeAnd, length-append, append-nil, append_assoc}
-use Rattle.std.proofs.lemmas.Bool.{cases_lt}
-use Rattle.std.proofs.lemmas.List.Elements.{Contains-append_left, Contains-push}
+use Rattle.std.proofs.lemmas.{Bool.cases_lt, List.Elements.{Contains-append_left, Contains-push}}
 use Rattle.std.proofs.lemmas.Option.{none-some, same_Some}
-use Rattle.dr_entry.specs.declared.entry.Entry.{Entry}
+use Rattle.dr_entry.specs.declared.{end.SentItem.{SentItem, TheVariants.{Null, Index}}, entry.Entry.Entry}
 use Rattle.dr_entry.specs.declared.entry.Entry.TheVariants.{View, Msg}
-use Rattle.dr_entry.specs.declared.end.SentItem.{SentItem}
-use Rattle.dr_entry.specs.declared.end.SentItem.TheVariants.{Null, Index}
-use Rattle.dr_history.specs.declared.opening.Opening.{Opening}
-use Rattle.dr_history.specs.History.{GroupView, Sent, view_of, item_at, place_at}
-use Rattle.dr_history.specs.Order.{InOrder, IsDelivered}
-use Rattle.dr_history.proofs.ViewLemmas.{view_of-View, view_of-Msg}
-use Rattle.dr_history_laws.specs.Laid.{laid, HeldBelow, EndsWithView, GoesOn}
-use Rattle.dr_history_laws.proofs.Lists.{slice_get-seam, value_of, IsSomeAnd-more}
-use Rattle.dr_history_laws.proofs.LaidLemmas.{laid-none, laid-absent, laid-null, laid-message}
-use Rattle.dr_history_laws.proofs.Views.{number-before}
-use Rattle.dr_history_laws.proofs.Members.{view-distinct}
-use Rattle.dr_history_laws.proofs.Indices.{place_in-here}
-use Rattle.dr_history_laws.proofs.Counting.{bytes_at, index-next}
+use Rattle.dr_history.specs.{History.{GroupView, Sent, view_of, item_at, place_at}, Order.{InOrder, IsDelivered}}
+use Rattle.dr_history.{specs.declared.opening.Opening.Opening, proofs.ViewLemmas.{view_of-View, view_of-Msg}}
+use Rattle.dr_history_laws.{specs.Laid.{laid, HeldBelow, EndsWithView, GoesOn}, proofs.Indices.place_in-here}
+use Rattle.dr_history_laws.proofs.{Counting.{bytes_at, index-next}, Lists.{slice_get-seam, value_of, IsSomeAnd-more}}
+use Rattle.dr_history_laws.proofs.{LaidLemmas.{laid-none, laid-absent, laid-null, laid-message}, Views.number-before}
 use Rattle.dr_history_laws.proofs.LooseOrder.{place_at-within, InLooseOrder, InLooseOrder-from, InOrder-from, LastViewWhole}
+use Rattle.dr_history_laws.proofs.Members.{view-distinct}
 use Rattle.dr_history_laws.proofs.Pushing.{PlacedBelow, PlacedBelow-push, IsNext, InLooseOrder-push}
 
 -- what was delivered stays so
@@ -31,8 +23,7 @@ IsDelivered-more h more s (Index i) d = (d.0, Contains-append_left h more (Msg s
 abbrev pub DeliveredBelow : Sent → GroupView → List Entry → ℕ → Type 0
 DeliveredBelow sent v h p = (q : ℕ) → q < p → IsSomeAnd (item_at sent v q) (λ t. IsDelivered h t.0 t.1)
 
-DeliveredBelow-more : (sent : Sent) (v : GroupView) (h more : List Entry) (p : ℕ)
-    → DeliveredBelow sent v h p
+DeliveredBelow-more : (sent : Sent) (v : GroupView) (h more : List Entry) (p : ℕ) → DeliveredBelow sent v h p
     → DeliveredBelow sent v (h ++ more) p
 DeliveredBelow-more sent v h more p all q l = IsSomeAnd-more (item_at sent v q) (λ t. IsDelivered h t.0 t.1)
     (λ t. IsDelivered (h ++ more) t.0 t.1) (λ t. IsDelivered-more h more t.0 t.1) (all q l)
@@ -45,20 +36,17 @@ pub record HasReached (o : Opening) (sent : Sent) (v : GroupView) (h : List Entr
 
 -- the view at its View
 view-at_end : (before : List Entry) (v : GroupView) → EndsWithView before v → view_of before ≡ Some v
-view-at_end before v ends =
-    ap view_of ends.ends ∙ (view_of-View ends.before v.age v.number ends.mask ∙
-    ap (λ ms. Some (record { age = v.age; number = v.number; members = ms })) ends.members)
+view-at_end before v ends = ap view_of ends.ends ∙ (view_of-View ends.before v.age v.number ends.mask
+    ∙ ap (λ ms. Some (record { age = v.age; number = v.number; members = ms })) ends.members)
 
 -- the View of the view that a history ends with
 pub last-View : (before : List Entry) (v : GroupView) → (ends : EndsWithView before v)
     → slice_get before (length ends.before) ≡ Some (View v.age v.number ends.mask)
-last-View before v ends =
-    ap (λ es. slice_get es (length ends.before)) ends.ends
+last-View before v ends = ap (λ es. slice_get es (length ends.before)) ends.ends
     ∙ slice_get-seam ends.before (View v.age v.number ends.mask) []
 
 -- an entry with a place stands before it
-pub before-last : (sent : Sent) (before : List Entry) (v : GroupView) (i q : ℕ)
-    → (ends : EndsWithView before v)
+pub before-last : (sent : Sent) (before : List Entry) (v : GroupView) (i q : ℕ) → (ends : EndsWithView before v)
     → place_at sent before i ≡ Some q → i < length ends.before
 before-last sent before v i q ends at = by (cases_lt i (length ends.before))
   where
@@ -80,20 +68,17 @@ before-last sent before v i q ends at = by (cases_lt i (length ends.before))
     by (inr more) =
         let is : i ≡ length ends.before = omega (arith, more, within) in
         absurd (none-some q (sym
-        (ap (place_at sent before) is ∙ no_place (view_of (take (length ends.before) before)) refl)
-        ∙ at))
+        (ap (place_at sent before) is ∙ no_place (view_of (take (length ends.before) before)) refl) ∙ at))
 
 -- so nothing was delivered in a view before its View
-none_before : (o : Opening) (sent : Sent) (before : List Entry) (v : GroupView) (i q : ℕ)
-    → InLooseOrder o sent before
+none_before : (o : Opening) (sent : Sent) (before : List Entry) (v : GroupView) (i q : ℕ) → InLooseOrder o sent before
     → EndsWithView before v → length o.start < i → view_of (take i before) ≡ Some v
     → place_at sent before i ≡ Some q → ⊥
 none_before o sent before v i q order ends after view at =
     let less = before-last sent before v i q ends at in
     omega (
       arith,
-      number-before o sent before i (length ends.before) v.age v.number ends.mask v order after
-          (omega (arith, less))
+      number-before o sent before i (length ends.before) v.age v.number ends.mask v order after (omega (arith, less))
           (last-View before v ends) view,
     )
 
@@ -114,8 +99,7 @@ delivered_next sent v h p s item all e d q l = by (last_or_below p q l)
     by (inr is) = subst (λ j. IsSomeAnd (item_at sent v j) (λ t. IsDelivered h t.0 t.1)) (sym is) here
 
 -- it has come further where nothing is laid
-reached_same : (o : Opening) (sent : Sent) (v : GroupView) (h : List Entry) (p : ℕ)
-    → HasReached o sent v h p
+reached_same : (o : Opening) (sent : Sent) (v : GroupView) (h : List Entry) (p : ℕ) → HasReached o sent v h p
     → HasReached o sent v h (suc p)
 reached_same o sent v h p r = record {
   ordered = r.ordered;
@@ -125,8 +109,7 @@ reached_same o sent v h p r = record {
 
 -- and so by a message with its entry
 reached_message : (o : Opening) (sent : Sent) (v : GroupView) (h : List Entry) (p s i : ℕ) (b : List ℕ)
-    → IsNext o sent v h p s i b
-    → HasReached o sent v h p → HasReached o sent v (h ++ Msg s i b ∷ []) (suc p)
+    → IsNext o sent v h p s i b → HasReached o sent v h p → HasReached o sent v (h ++ Msg s i b ∷ []) (suc p)
 reached_message o sent v h p s i b next r = record {
   ordered = InLooseOrder-push o sent v h p s i b r.ordered next;
   view = view_of-Msg h s i b ∙ r.view;
@@ -135,13 +118,10 @@ reached_message o sent v h p s i b next r = record {
 }
 
 -- so it comes to every place
-pub reached : (o : Opening) (sent : Sent) (before : List Entry) (v : GroupView) (p : ℕ)
-    → InLooseOrder o sent before
+pub reached : (o : Opening) (sent : Sent) (before : List Entry) (v : GroupView) (p : ℕ) → InLooseOrder o sent before
     → EndsWithView before v → GoesOn o sent before v → HasReached o sent v (before ++ laid o sent v p) p
-reached o sent before v zero order ends goes =
-    subst (λ h. HasReached o sent v h 0)
-    (sym (append-nil before) ∙ ap (λ es. before ++ es) (sym (laid-none o sent v)))
-    (record {
+reached o sent before v zero order ends goes = subst (λ h. HasReached o sent v h 0)
+    (sym (append-nil before) ∙ ap (λ es. before ++ es) (sym (laid-none o sent v))) (record {
       ordered = order;
       view = view-at_end before v ends;
       below = λ i q after view at. absurd (none_before o sent before v i q order ends after view at);
@@ -149,62 +129,49 @@ reached o sent before v zero order ends goes =
 reached o sent before v (suc p) order ends goes =
     by (item_at sent v p) refl (reached o sent before v p order ends goes)
   where
-    by : (z : Option (ℕ × SentItem)) → item_at sent v p ≡ z
-        → HasReached o sent v (before ++ laid o sent v p) p
+    by : (z : Option (ℕ × SentItem)) → item_at sent v p ≡ z → HasReached o sent v (before ++ laid o sent v p) p
         → HasReached o sent v (before ++ laid o sent v (suc p)) (suc p)
-    by None e r =
-        subst (λ es. HasReached o sent v (before ++ es) (suc p)) (sym (laid-absent o sent v p e))
+    by None e r = subst (λ es. HasReached o sent v (before ++ es) (suc p)) (sym (laid-absent o sent v p e))
         (reached_same o sent v (before ++ laid o sent v p) p r)
-    by (Some (s, Null)) e r =
-        subst (λ es. HasReached o sent v (before ++ es) (suc p)) (sym (laid-null o sent v p s e))
-        (reached_same o sent v (before ++ laid o sent v p) p r)
+    by (Some (s, Null)) e r = subst (λ es. HasReached o sent v (before ++ es) (suc p))
+        (sym (laid-null o sent v p s e)) (reached_same o sent v (before ++ laid o sent v p) p r)
     by (Some (s, Index i)) e r =
         let b = bytes_at o sent before v p s i goes e in
-        let next : IsNext o sent v (before ++ laid o sent v p) p s i b.0 =
-        record {
+        let next : IsNext o sent v (before ++ laid o sent v p) p s i b.0 = record {
           view = r.view;
           place = place_in-here o sent before v p s i goes (view-distinct before v ends) e;
           above = r.below;
           index = index-next o sent before v p s i goes (view-distinct before v ends) e;
           bytes = b.1;
         } in
-        subst (λ h. HasReached o sent v h (suc p))
-        (append_assoc before (laid o sent v p) (Msg s i b.0 ∷ [])
+        subst (λ h. HasReached o sent v h (suc p)) (append_assoc before (laid o sent v p) (Msg s i b.0 ∷ [])
         ∙ ap (λ es. before ++ es) (sym (laid-message o sent v p s i b.0 e b.1)))
         (reached_message o sent v (before ++ laid o sent v p) p s i b.0 next r)
 
 -- and where the places hold items, these were delivered
 pub delivered : (o : Opening) (sent : Sent) (before : List Entry) (v : GroupView) (p : ℕ)
-    → GoesOn o sent before v → HeldBelow sent v p
-    → DeliveredBelow sent v (before ++ laid o sent v p) p
+    → GoesOn o sent before v → HeldBelow sent v p → DeliveredBelow sent v (before ++ laid o sent v p) p
 delivered o sent before v zero goes held = λ q l. absurd (omega arith)
-delivered o sent before v (suc p) goes held =
-    by (value_of (item_at sent v p) (held p (omega arith)))
+delivered o sent before v (suc p) goes held = by (value_of (item_at sent v p) (held p (omega arith)))
     (delivered o sent before v p goes (λ q l. held q (omega arith)))
   where
-    by : (t : ℕ × SentItem) × (item_at sent v p ≡ Some t)
-        → DeliveredBelow sent v (before ++ laid o sent v p) p
+    by : (t : ℕ × SentItem) × (item_at sent v p ≡ Some t) → DeliveredBelow sent v (before ++ laid o sent v p) p
         → DeliveredBelow sent v (before ++ laid o sent v (suc p)) (suc p)
-    by ((s, Null), e) all =
-        subst (λ es. DeliveredBelow sent v (before ++ es) (suc p)) (sym (laid-null o sent v p s e))
-        (delivered_next sent v (before ++ laid o sent v p) p s Null all e tt)
+    by ((s, Null), e) all = subst (λ es. DeliveredBelow sent v (before ++ es) (suc p))
+        (sym (laid-null o sent v p s e)) (delivered_next sent v (before ++ laid o sent v p) p s Null all e tt)
     by ((s, Index i), e) all =
         let b = bytes_at o sent before v p s i goes e in
         let h : List Entry = before ++ laid o sent v p in
         let more : DeliveredBelow sent v (h ++ Msg s i b.0 ∷ []) (suc p) =
         delivered_next sent v (h ++ Msg s i b.0 ∷ []) p s (Index i)
-        (DeliveredBelow-more sent v h (Msg s i b.0 ∷ []) p all) e
-        (b.0, Contains-push h (Msg s i b.0)) in
-        subst (λ g. DeliveredBelow sent v g (suc p))
-        (append_assoc before (laid o sent v p) (Msg s i b.0 ∷ [])
+        (DeliveredBelow-more sent v h (Msg s i b.0 ∷ []) p all) e (b.0, Contains-push h (Msg s i b.0)) in
+        subst (λ g. DeliveredBelow sent v g (suc p)) (append_assoc before (laid o sent v p) (Msg s i b.0 ∷ [])
         ∙ ap (λ es. before ++ es) (sym (laid-message o sent v p s i b.0 e b.1))) more
 
 -- so it is in order there
-pub InOrder-laid : (o : Opening) (sent : Sent) (before : List Entry) (v : GroupView) (p : ℕ)
-    → InOrder o sent before → EndsWithView before v
-    → GoesOn o sent before v → HeldBelow sent v p → InOrder o sent (before ++ laid o sent v p)
-InOrder-laid o sent before v p order ends goes held =
-    InOrder-from o sent (before ++ laid o sent v p) r.ordered whole
+pub InOrder-laid : (o : Opening) (sent : Sent) (before : List Entry) (v : GroupView) (p : ℕ) → InOrder o sent before
+    → EndsWithView before v → GoesOn o sent before v → HeldBelow sent v p → InOrder o sent (before ++ laid o sent v p)
+InOrder-laid o sent before v p order ends goes held = InOrder-from o sent (before ++ laid o sent v p) r.ordered whole
   where
     r : HasReached o sent v (before ++ laid o sent v p) p
     r = reached o sent before v p (InLooseOrder-from o sent before order) ends goes
@@ -213,6 +180,5 @@ InOrder-laid o sent before v p order ends goes held =
     whole i x q w after before_i last at l =
         let same : v ≡ w = same_Some v w (sym r.view ∙ last) in
         let below : x < p = r.below i x after (before_i ∙ ap Some (sym same)) at in
-        subst (λ u. IsSomeAnd (item_at sent u q) (λ t. IsDelivered (before ++ laid o sent v p) t.0 t.1))
-        same
+        subst (λ u. IsSomeAnd (item_at sent u q) (λ t. IsDelivered (before ++ laid o sent v p) t.0 t.1)) same
         (delivered o sent before v p goes held q (omega (arith, l, below)))

@@ -2,13 +2,9 @@
 -- same script finds no entry in them that may not stand.
 use Rattle.std.proofs.Common.{◌≡◌, ◌⊎◌, inl, inr, ℕ, ◌≤◌, arith, List, length, take}
 use Rattle.dr_entry.specs.declared.entry.Entry.{Entry}
-use Rattle.dr_history.specs.declared.opening.Opening.{Opening}
-use Rattle.dr_history.specs.History.{IsPrefixOf}
-use Rattle.dr_history.specs.Agreement.{Accounts, Agreed, sent_by}
-use Rattle.dr_history.specs.Restarting.{AreAlong, AreAllAlong, AreLeftBy, AreSound}
-use Rattle.dr_history.specs.Soundness.{Sound}
-use Rattle.dr_history_laws.specs.Parts.{AreFirstParts}
-use Rattle.dr_history_laws.proofs.Keeping.{left_part, prefix_beside, prefix_then}
+use Rattle.dr_history.specs.{Agreement.{Accounts, Agreed, sent_by}, Soundness.Sound, declared.opening.Opening.Opening}
+use Rattle.dr_history.specs.{History.IsPrefixOf, Restarting.{AreAlong, AreAllAlong, AreLeftBy, AreSound}}
+use Rattle.dr_history_laws.{specs.Parts.AreFirstParts, proofs.Keeping.{left_part, prefix_beside, prefix_then}}
 use Rattle.dr_history_laws.proofs.Standing.{history-stands, part-stands, stands-by}
 
 -- first parts of a list
@@ -33,8 +29,7 @@ parts_sound o next accounts lists sound agreed parts same m es at i e here =
     let part = parts m es at in
     let h = (accounts part.0).history in
     stands-by o next (take i es) e same
-    (part-stands o es h part.2 (history-stands o (sent_by accounts) h sound
-    (agreed.ordered part.0 part.1)) i e here)
+    (part-stands o es h part.2 (history-stands o (sent_by accounts) h sound (agreed.ordered part.0 part.1)) i e here)
 
 pub parts_all_along : (o : Opening) (accounts : Accounts) (lists : List (List Entry)) → Agreed o accounts
     → AreFirstParts o accounts lists → AreAllAlong lists
@@ -47,5 +42,4 @@ parts_all_along o accounts lists agreed parts a b g h less at_a at_b =
 pub left_parts : (o : Opening) (accounts : Accounts) (lists : List (List Entry)) → Agreed o accounts
     → AreLeftBy o accounts lists → AreFirstParts o accounts lists
 left_parts o accounts lists agreed left m es at =
-    let here = left.each m es at in
-    (m, here.0, left_part (accounts m) es (agreed.logged m here.0) here.1)
+    let here = left.each m es at in (m, here.0, left_part (accounts m) es (agreed.logged m here.0) here.1)

@@ -33,8 +33,7 @@ lie_next n s x k l e b = le_antisymm (le_of_mul-le-mul_right down (omega arith))
     up = omega (arith, div-add-mod' x n, suc-mul (x / n) n)
 
 -- and it adds one
-pub lie_more : (n s x k : ℕ) → s < n → x % n ≡ s → x / n ≡ k → LieBelow n s x k
-    → LieBelow n s (suc x) (suc k)
+pub lie_more : (n s x k : ℕ) → s < n → x % n ≡ s → x / n ≡ k → LieBelow n s x k → LieBelow n s (suc x) (suc k)
 lie_more n s x k l e same b =
     record { low = omega (arith, whole, suc-mul k n); high = omega (arith, whole, suc-mul k n) }
   where

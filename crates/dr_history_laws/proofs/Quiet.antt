@@ -1,19 +1,13 @@
 -- Who is not of a view has no more messages behind it, where it is not late: no later view of its age takes it
 -- in again.
 use Rattle.std.proofs.Common.{◌≡◌, ◌⊎◌, ap, arith, inl, inr, ne_eqb, refl, subst, suc, sym, zero, Contains, List, ℕ, ◌+◌, ◌<◌, ◌∙◌, ◌≤◌, ◌-◌, length, take, slice_get, Some}
-use Rattle.std.proofs.lemmas.List.{take_all}
-use Rattle.std.proofs.lemmas.Option.{slice_get-get_or}
-use Rattle.dr_entry.specs.declared.entry.Entry.{Entry}
-use Rattle.dr_entry.specs.declared.entry.Entry.TheVariants.{View, Msg}
+use Rattle.std.proofs.lemmas.{List.take_all, Option.slice_get-get_or}
+use Rattle.dr_entry.specs.declared.entry.Entry.{Entry, TheVariants.{View, Msg}}
+use Rattle.dr_history.{specs.History.{GroupView, Sent, view_of}, proofs.ViewLemmas.{view_of-Msg, view_of-View}}
+use Rattle.dr_history.specs.{Members.members_of, Order.{IsSucceededBy, InOrder, IsLateIn, MayJoin, messages_from}}
+use Rattle.dr_history.{specs.Soundness.Sound, proofs.NumberedLemmas.{messages_from-View, messages_from-other}}
 use Rattle.dr_history.specs.declared.opening.Opening.{Opening}
-use Rattle.dr_history.specs.History.{GroupView, Sent, view_of}
-use Rattle.dr_history.specs.Members.{members_of}
-use Rattle.dr_history.specs.Order.{IsSucceededBy, InOrder, IsLateIn, MayJoin, messages_from}
-use Rattle.dr_history.specs.Soundness.{Sound}
-use Rattle.dr_history.proofs.NumberedLemmas.{messages_from-View, messages_from-other}
-use Rattle.dr_history.proofs.ViewLemmas.{view_of-Msg, view_of-View}
-use Rattle.dr_history_laws.proofs.Lists.{IsSomeAnd-at, slice_get-some, take-next}
-use Rattle.dr_history_laws.proofs.Members.{member-has}
+use Rattle.dr_history_laws.proofs.{Lists.{IsSomeAnd-at, slice_get-some, take-next}, Members.member-has}
 use Rattle.dr_history_laws.proofs.Standing.{history-stands}
 
 -- s is not of the last view of the first i entries, and these have the messages of s that are given
@@ -33,8 +27,7 @@ quiet-next o sent h s i given (View a k m) sound early order l at q = record {
   absent = λ there. by ((IsSomeAnd-at (view_of (take i h)) (λ v. IsSucceededBy o (take i h) v a k m) q.view q.is
       (order.views i a k m l at)).newcomers s (member-has m there.0 s
       (slice_get-get_or (members_of m) there.0 s there.1 ∙ ap Some there.2)));
-  same = ap (messages_from s) (take-next h i (View a k m) at)
-      ∙ messages_from-View s (take i h) a k m ∙ q.same;
+  same = ap (messages_from s) (take-next h i (View a k m) at) ∙ messages_from-View s (take i h) a k m ∙ q.same;
 }
   where
     by : Contains q.view.members s ⊎ MayJoin o (take i h) s → ⊥
@@ -44,25 +37,21 @@ quiet-next o sent h s i given (Msg t k b) sound early order l at q = record {
   view = q.view;
   is = ap view_of (take-next h i (Msg t k b) at) ∙ view_of-Msg (take i h) t k b ∙ q.is;
   absent = q.absent;
-  same = ap (messages_from s) (take-next h i (Msg t k b) at)
-      ∙ messages_from-other s (take i h) t k b
+  same = ap (messages_from s) (take-next h i (Msg t k b) at) ∙ messages_from-other s (take i h) t k b
       (ne_eqb t s (λ here. q.absent (subst (Contains q.view.members) here
       (IsSomeAnd-at (view_of (take i h)) (λ v. Contains v.members t) q.view q.is
-      (history-stands o sent h sound order i (Msg t k b) at).0))))
-      ∙ q.same;
+      (history-stands o sent h sound order i (Msg t k b) at).0)))) ∙ q.same;
 }
 
-quiet : (o : Opening) (sent : Sent) (h : List Entry) (s i d : ℕ) (given : List Entry) → Sound o
-    → ¬ IsLateIn o s → InOrder o sent h → length o.start < i → i + d ≤ length h → IsQuiet h s i given
-    → IsQuiet h s (i + d) given
+quiet : (o : Opening) (sent : Sent) (h : List Entry) (s i d : ℕ) (given : List Entry) → Sound o → ¬ IsLateIn o s
+    → InOrder o sent h → length o.start < i → i + d ≤ length h → IsQuiet h s i given → IsQuiet h s (i + d) given
 quiet o sent h s i zero given sound early order l within q =
     let same : i + 0 ≡ i = omega arith in subst (λ j. IsQuiet h s j given) (sym same) q
 quiet o sent h s i (suc d) given sound early order l within q =
     let next : i + suc d ≡ i + d + 1 = omega arith in
     let e = slice_get-some h (i + d) (omega (arith, within)) in
-    subst (λ j. IsQuiet h s j given) (sym next)
-    (quiet-next o sent h s (i + d) given e.0 sound early order (omega (arith, l)) e.1
-    (quiet o sent h s i d given sound early order l (omega (arith, within)) q))
+    subst (λ j. IsQuiet h s j given) (sym next) (quiet-next o sent h s (i + d) given e.0 sound early order
+    (omega (arith, l)) e.1 (quiet o sent h s i d given sound early order l (omega (arith, within)) q))
 
 -- behind a front part of a history, of whose view s is none, no message of s stands
 pub no-more : (o : Opening) (sent : Sent) (h : List Entry) (s i : ℕ) (v : GroupView) → Sound o
@@ -70,7 +59,6 @@ pub no-more : (o : Opening) (sent : Sent) (h : List Entry) (s i : ℕ) (v : Grou
     → (Contains v.members s → ⊥) → messages_from s h ≡ messages_from s (take i h)
 no-more o sent h s i v sound early order l within is absent =
     let place : i + (length h - i) ≡ length h = omega (arith, within) in
-    let q = quiet o sent h s i (length h - i) (messages_from s (take i h)) sound early order l
-    (omega (arith, place))
+    let q = quiet o sent h s i (length h - i) (messages_from s (take i h)) sound early order l (omega (arith, place))
     (record { view = v; is = is; absent = absent; same = refl }) in
     ap (messages_from s) (sym (take_all (i + (length h - i)) h (omega (arith, place)))) ∙ q.same

@@ -1,19 +1,14 @@
 -- Each entry of a history in order may stand behind those before it, where the age starts soundly. So a later
 -- age may find a part of such a history on a log.
+use Rattle.std.{specs.List.{position, position_or_len}, proofs.lemmas.{Bool.eqb-true, List.Sums.passes_at_first}}
 use Rattle.std.proofs.Common.{◌≡◌, refl, ap, sym, ◌∙◌, ◌⊎◌, inl, inr, subst, ℕ, ◌+◌, ◌==◌, ◌<◌, arith, nat_lt, List, [], ◌∷◌, ◌++◌, length, take, drop, get_or, Contains, Option, None, Some, slice_get, is_some, slice_index_or, option_and_then, IsSome, IsSomeAnd, append_assoc, take-append-drop, take_at}
-use Rattle.std.specs.List.{position, position_or_len}
-use Rattle.std.proofs.lemmas.Bool.{eqb-true}
-use Rattle.std.proofs.lemmas.List.Sums.{passes_at_first}
 use Rattle.std.proofs.lemmas.Option.{none-some, same_Some, cond_some, slice_get_within, slice_get-get_or, get_or_from_slice_get}
-use Rattle.dr_entry.specs.declared.entry.Entry.{Entry}
-use Rattle.dr_entry.specs.declared.entry.Entry.TheVariants.{View, Msg}
-use Rattle.dr_history.specs.declared.opening.Opening.{Opening}
+use Rattle.dr_entry.specs.declared.entry.Entry.{Entry, TheVariants.{View, Msg}}
 use Rattle.dr_history.specs.History.{IsPrefixOf, GroupView, Sent, view_of, messages_of, place_in, place_of_entry}
 use Rattle.dr_history.specs.Order.{AreOfRoster, ContinuesAge, InOrder, IsSucceededBy, messages_from, numbered_messages}
-use Rattle.dr_history.specs.Restarting.{AllStand}
-use Rattle.dr_history.specs.Soundness.{MayStand, Opens, Sound}
+use Rattle.dr_history.{specs.Restarting.AllStand, proofs.SentLemmas.place_in-no_member}
+use Rattle.dr_history.specs.{Soundness.{MayStand, Opens, Sound}, declared.opening.Opening.Opening}
 use Rattle.dr_history.proofs.NumberedLemmas.{messages_from-append, messages_from-Msg, length-numbered_messages, get_or-numbered_messages}
-use Rattle.dr_history.proofs.SentLemmas.{place_in-no_member}
 use Rattle.dr_history_laws.proofs.Lists.{slice_get-seam, slice_get-some, slice_get-prefix, take-next, take-prefix, value_of}
 
 -- ---- a message
@@ -26,8 +21,7 @@ rank-member xs s rank at =
     let within : position_or_len (λ m. m == s) xs < length xs = grind (arith, found.0) in (
       position_or_len (λ m. m == s) xs,
       within,
-      eqb-true (get_or xs (position_or_len (λ m. m == s) xs) s) s
-          (passes_at_first (λ m. m == s) xs s within),
+      eqb-true (get_or xs (position_or_len (λ m. m == s) xs) s) s (passes_at_first (λ m. m == s) xs s within),
     )
 
 -- whose message has a place in a view is a member of it
@@ -62,26 +56,19 @@ next-message o h i s k b numbered at =
     slice_get-prefix (messages_from s h) (numbered_messages o s) n (Msg s k b) numbered
     (slice_get-prefix (messages_from s (take (i + 1) h)) (messages_from s h) n (Msg s k b) front here) in
     let within : n < length (messages_of o s) =
-    omega (
-      arith,
-      slice_get_within (numbered_messages o s) n (Msg s k b) script,
-      length-numbered_messages o s,
-    ) in
-    let same : Msg s n (get_or (messages_of o s) n []) ≡ Msg s k b =
-    sym (get_or-numbered_messages o s n (View 0 0 0) within)
-    ∙ get_or_from_slice_get (numbered_messages o s) n (Msg s k b) (View 0 0 0) script in
+    omega (arith, slice_get_within (numbered_messages o s) n (Msg s k b) script, length-numbered_messages o s) in
+    let same : Msg s n (get_or (messages_of o s) n []) ≡ Msg s k b = sym (get_or-numbered_messages o s n
+    (View 0 0 0) within) ∙ get_or_from_slice_get (numbered_messages o s) n (Msg s k b) (View 0 0 0) script in
     let index : n ≡ k = cc in
     let bytes : get_or (messages_of o s) n [] ≡ b = cc in (
       sym index,
-      ap (slice_get (messages_of o s)) (sym index)
-          ∙ (slice_get-get_or (messages_of o s) n [] within ∙ ap Some bytes),
+      ap (slice_get (messages_of o s)) (sym index) ∙ (slice_get-get_or (messages_of o s) n [] within ∙ ap Some bytes),
     )
 
 -- ---- histories
 
 -- each entry of a history in order may stand: those of the start, View 0, and those behind it
-pub history-stands : (o : Opening) (sent : Sent) (h : List Entry) → Sound o → InOrder o sent h
-    → AllStand o h
+pub history-stands : (o : Opening) (sent : Sent) (h : List Entry) → Sound o → InOrder o sent h → AllStand o h
 history-stands o sent h sound order i e at = by (apart i (length o.start))
   where
     apart : (i j : ℕ) → (i < j) ⊎ ((i ≡ j) ⊎ (j < i))
@@ -111,20 +98,15 @@ history-stands o sent h sound order i e at = by (apart i (length o.start))
     by : (i < length o.start) ⊎ ((i ≡ length o.start) ⊎ (length o.start < i)) → MayStand o (take i h) e
     by (inl less) =
         let here = slice_get-some o.start i less in
-        let same : here.0 ≡ e = same_Some here.0 e
-        (sym (slice_get-prefix o.start h i here.0 starts here.1) ∙ at) in
+        let same : here.0 ≡ e = same_Some here.0 e (sym (slice_get-prefix o.start h i here.0 starts here.1) ∙ at) in
         subst (λ es. MayStand o es e) (sym (take-prefix o.start h i starts (omega (arith, less))))
         (sound.entries i e (here.1 ∙ ap Some same))
     by (inr (inl is)) =
         let before : take i h ≡ o.start = ap (λ j. take j h) is
         ∙ (ap (take (length o.start)) (sym starts.1) ∙ take_at o.start starts.0 (length o.start) refl) in
         let here : slice_get h i ≡ Some first = ap (slice_get h) is
-        ∙ (ap (λ es. slice_get es (length o.start)) (sym starts.1)
-        ∙ slice_get-seam o.start first order.begins.0) in
-        let opens : MayStand o o.start first = (
-          sound.members,
-          inl (record { later = sound.later; first = refl }),
-        ) in
+        ∙ (ap (λ es. slice_get es (length o.start)) (sym starts.1) ∙ slice_get-seam o.start first order.begins.0) in
+        let opens : MayStand o o.start first = (sound.members, inl (record { later = sound.later; first = refl })) in
         subst (λ es. MayStand o es e) (sym before)
         (subst (MayStand o o.start) (same_Some first e (sym here ∙ at)) opens)
     by (inr (inr more)) = behind e at more
@@ -133,10 +115,8 @@ history-stands o sent h sound order i e at = by (apart i (length o.start))
 
 -- each first part of entries that may stand is such entries
 pub part-stands : (o : Opening) (g h : List Entry) → IsPrefixOf g h → AllStand o h → AllStand o g
-part-stands o g h part all i e at =
-    subst (λ es. MayStand o es e)
-    (take-prefix g h i part (omega (arith, slice_get_within g i e at)))
-    (all i e (slice_get-prefix g h i e part at))
+part-stands o g h part all i e at = subst (λ es. MayStand o es e)
+    (take-prefix g h i part (omega (arith, slice_get_within g i e at))) (all i e (slice_get-prefix g h i e part at))
 
 -- what may stand is judged by the script's messages alone
 pub stands-by : (o p : Opening) (before : List Entry) (e : Entry) → o.messages ≡ p.messages
@@ -144,11 +124,7 @@ pub stands-by : (o p : Opening) (before : List Entry) (e : Entry) → o.messages
 stands-by o p before (View a n m) same (members, stands) = (
   record {
     some = members.some;
-    within = λ s h. omega (
-      arith,
-      members.within s h,
-      ap (λ (lists : List (List (List ℕ))). length lists) same,
-    );
+    within = λ s h. omega (arith, members.within s h, ap (λ (lists : List (List (List ℕ))). length lists) same);
   },
   stands,
 )

@@ -1,21 +1,13 @@
 -- The views of entries that may stand, and the numbers of their entries.
+use Rattle.std.{specs.Prelude.IsSomeAnd, proofs.lemmas.List.take_all}
 use Rattle.std.proofs.Common.{◌≡◌, refl, ap, sym, ◌∙◌, subst, ℕ, zero, suc, ◌+◌, ◌-◌, ◌^◌, ◌<◌, ◌≤◌, inl, inr, arith, List, [], ◌∷◌, ◌++◌, All, Option, None, Some, length, take, get_or, slice_get, ◌⊎◌, take_at, Contains}
-use Rattle.std.specs.Prelude.{IsSomeAnd}
-use Rattle.std.proofs.lemmas.List.{take_all}
-use Rattle.std.proofs.lemmas.Option.{none-some, same_Some, slice_get-get_or, slice_get_within}
-use Rattle.std.proofs.lemmas.Bool.{cases_lt}
-use Rattle.dr_entry.specs.declared.entry.Entry.{Entry}
-use Rattle.dr_entry.specs.declared.entry.Entry.TheVariants.{View, Msg}
-use Rattle.dr_history.specs.declared.opening.Opening.{Opening}
-use Rattle.dr_history.specs.History.{GroupView, view_of, Sent}
-use Rattle.dr_history.specs.Members.{has, members_of}
-use Rattle.dr_history.specs.Restarting.{AllStand}
-use Rattle.dr_history.specs.Soundness.{MayStand}
-use Rattle.dr_history.specs.Order.{AreOfRoster, ContinuesAge, InOrder, IsSucceededBy}
-use Rattle.dr_history.proofs.Following.{view_of-nil}
+use Rattle.std.proofs.lemmas.{Bool.cases_lt, Option.{none-some, same_Some, slice_get-get_or, slice_get_within}}
+use Rattle.dr_entry.specs.declared.entry.Entry.{Entry, TheVariants.{View, Msg}}
+use Rattle.dr_history.specs.{History.{GroupView, view_of, Sent}, Members.{has, members_of}}
+use Rattle.dr_history.specs.{Order.{AreOfRoster, ContinuesAge, InOrder, IsSucceededBy}, Restarting.AllStand}
+use Rattle.dr_history.{specs.{Soundness.MayStand, declared.opening.Opening.Opening}, proofs.Following.view_of-nil}
 use Rattle.dr_history.proofs.ViewLemmas.{view_of-View, view_of-Msg}
-use Rattle.dr_history_laws.proofs.Lists.{slice_get-some, take-next, first_at}
-use Rattle.dr_history_laws.proofs.Members.{member-has}
+use Rattle.dr_history_laws.proofs.{Lists.{slice_get-some, take-next, first_at}, Members.member-has}
 
 -- what an option has
 pub some_of : {X : Type 0} (P : X → Type 0) (r : Option X) → IsSomeAnd r P → (x : X) × (r ≡ Some x) × P x
@@ -48,8 +40,7 @@ each_view P o es stand views (suc i) within v is =
     there = slice_get-some es i (omega (arith, within))
 
     by : ((u : GroupView) → view_of (take i es) ≡ Some u → P u) → (e : Entry) → slice_get es i ≡ Some e → P v
-    by before (View a k m) at =
-        subst P (same_Some (view_told a k m) v (sym (view_behind es i a k m at) ∙ is))
+    by before (View a k m) at = subst P (same_Some (view_told a k m) v (sym (view_behind es i a k m at) ∙ is))
         (views a k m (stand i (View a k m) at).0)
     by before (Msg s k b) at =
         before v (sym (view_of-Msg (take i es) s k b) ∙ (ap view_of (sym (more es i (Msg s k b) at)) ∙ is))
@@ -63,10 +54,8 @@ of_roster_below n m of k d within = of.within (get_or (members_of m) k d)
 
 -- the members of a view are of the roster
 pub view_below : (o : Opening) (es : List Entry) → AllStand o es → (i : ℕ)
-    → i ≤ length es → (v : GroupView) → view_of (take i es) ≡ Some v
-    → All (λ s. s < length o.messages) v.members
-view_below o es stand =
-    each_view (λ v. All (λ s. s < length o.messages) v.members) o es stand
+    → i ≤ length es → (v : GroupView) → view_of (take i es) ≡ Some v → All (λ s. s < length o.messages) v.members
+view_below o es stand = each_view (λ v. All (λ s. s < length o.messages) v.members) o es stand
     (λ a k m of. of_roster_below (length o.messages) m of)
 
 -- so are those of a View
@@ -79,18 +68,15 @@ named_below o es stand i a k m at = of_roster_below (length o.messages) m (stand
 -- a View's number has 8 bits
 pub small_number : (o : Opening) (es : List Entry) (a k m : ℕ) → MayStand o es (View a k m) → k < 2 ^ 8
 small_number o es a k m (of, inl opens) = omega (arith, opens.first)
-small_number o es a k m (of, inr goes) =
-    (some_of (λ v. ContinuesAge v a k m) (view_of es) goes).2.numbers.0
+small_number o es a k m (of, inr goes) = (some_of (λ v. ContinuesAge v a k m) (view_of es) goes).2.numbers.0
 
 -- ---- ages
 
 -- the view of more entries is of no earlier age
-pub age_rises : (o : Opening) (es : List Entry) → AllStand o es → (i n : ℕ) → i + n ≤ length es
-    → (u : GroupView) → view_of (take i es) ≡ Some u
-    → (v : GroupView) × (view_of (take (i + n) es) ≡ Some v) × (u.age ≤ v.age)
+pub age_rises : (o : Opening) (es : List Entry) → AllStand o es → (i n : ℕ) → i + n ≤ length es → (u : GroupView)
+    → view_of (take i es) ≡ Some u → (v : GroupView) × (view_of (take (i + n) es) ≡ Some v) × (u.age ≤ v.age)
 age_rises o es stand i zero within u is =
-    let same : i ≡ i + 0 = omega arith in
-    (u, ap (λ (j : ℕ). view_of (take j es)) (sym same) ∙ is, omega arith)
+    let same : i ≡ i + 0 = omega arith in (u, ap (λ (j : ℕ). view_of (take j es)) (sym same) ∙ is, omega arith)
 age_rises o es stand i (suc n) within u is =
     by there.0 there.1 (age_rises o es stand i n (omega (arith, within)) u is)
   where
@@ -108,9 +94,8 @@ age_rises o es stand i (suc n) within u is =
         let same : v.0 ≡ w = same_Some v.0 w (sym v.1 ∙ was) in
         omega (arith, v.2.same_age, ap (λ (x : GroupView). x.age) same)
 
-    by : (e : Entry) → slice_get es (i + n) ≡ Some e
-        → (w : GroupView) × (view_of (take (i + n) es) ≡ Some w) × (u.age ≤ w.age)
-        → (v : GroupView) × (view_of (take (i + suc n) es) ≡ Some v) × (u.age ≤ v.age)
+    by : (e : Entry) → slice_get es (i + n) ≡ Some e → (w : GroupView) × (view_of (take (i + n) es) ≡ Some w)
+        × (u.age ≤ w.age) → (v : GroupView) × (view_of (take (i + suc n) es) ≡ Some v) × (u.age ≤ v.age)
     by (View a k m) at (w, was, before) = (
       view_told a k m,
       ap (λ (j : ℕ). view_of (take j es)) (sym next) ∙ view_behind es (i + n) a k m at,
@@ -141,8 +126,7 @@ pub view_age : (o : Opening) (sent : Sent) (h : List Entry) → InOrder o sent h
     → i ≤ length h → (v : GroupView) → view_of (take i h) ≡ Some v → v.age ≡ o.age
 view_age o sent h order zero behind within v is = absurd (omega (arith, behind))
 view_age o sent h order (suc i) behind within v is =
-    by (λ less u was. view_age o sent h order i less (omega (arith, within)) u was)
-    (cases_lt (length o.start) i)
+    by (λ less u was. view_age o sent h order i less (omega (arith, within)) u was) (cases_lt (length o.start) i)
   where
     there : (e : Entry) × (slice_get h i ≡ Some e)
     there = slice_get-some h i (omega (arith, within))
@@ -151,8 +135,7 @@ view_age o sent h order (suc i) behind within v is =
     more e at = let next : suc i ≡ i + 1 = omega arith in ap (λ (j : ℕ). take j h) next ∙ take-next h i e at
 
     at_View : (a k m : ℕ) → slice_get h i ≡ Some (View a k m) → a ≡ v.age
-    at_View a k m at =
-        ap (λ (w : GroupView). w.age)
+    at_View a k m at = ap (λ (w : GroupView). w.age)
         (same_Some (record { age = a; number = k; members = members_of m }) v
         (sym (view_of-View (take i h) a k m) ∙ (ap view_of (sym (more (View a k m) at)) ∙ is)))
 

@@ -1,19 +1,13 @@
 -- The Views of a history rise: each is later than the view before it.
 use Rattle.std.proofs.Common.{◌≡◌, refl, ap, sym, ◌∙◌, ◌⊎◌, inl, inr, ℕ, zero, suc, ◌+◌, ◌-◌, ◌<◌, ◌≤◌, arith, le_refl, List, length, take, Some, slice_get}
 use Rattle.std.proofs.lemmas.Option.{same_Some, slice_get_within}
-use Rattle.dr_entry.specs.declared.entry.Entry.{Entry}
-use Rattle.dr_entry.specs.declared.entry.Entry.TheVariants.{View, Msg}
-use Rattle.dr_history.specs.declared.opening.Opening.{Opening}
-use Rattle.dr_history.specs.Members.{members_of}
-use Rattle.dr_history.specs.History.{IsPrefixOf, GroupView, Sent, view_of}
-use Rattle.dr_history.specs.Order.{ContinuesAge, InOrder, IsSucceededBy}
-use Rattle.dr_history.specs.Agreement.{SamePast}
-use Rattle.dr_history.specs.Restarting.{AllStand}
-use Rattle.dr_history.specs.Soundness.{Sound, MayStand}
+use Rattle.dr_entry.specs.declared.entry.Entry.{Entry, TheVariants.{View, Msg}}
+use Rattle.dr_history.specs.{Agreement.SamePast, History.{IsPrefixOf, GroupView, Sent, view_of}, Members.members_of}
+use Rattle.dr_history.specs.{Order.{ContinuesAge, InOrder, IsSucceededBy}, Restarting.AllStand}
+use Rattle.dr_history.specs.{Soundness.{Sound, MayStand}, declared.opening.Opening.Opening}
 use Rattle.dr_history.proofs.ViewLemmas.{view_of-View, view_of-Msg}
 use Rattle.dr_history_laws.proofs.Lists.{slice_get-some, slice_get-prefix, take-next, take-prefix, IsSomeAnd-at}
-use Rattle.dr_history_laws.proofs.LooseOrder.{InLooseOrder}
-use Rattle.dr_history_laws.proofs.Standing.{history-stands}
+use Rattle.dr_history_laws.proofs.{LooseOrder.InLooseOrder, Standing.history-stands}
 
 -- an age and a number are later than those of a view
 abbrev pub IsLater : GroupView → ℕ → ℕ → Type 0
@@ -25,8 +19,7 @@ HasCome age number w = (age < w.age) ⊎ ((age ≡ w.age) × (number ≤ w.numbe
 
 -- each View at or behind `from` is later than the view before it
 abbrev pub ViewsRise : ℕ → List Entry → Type 0
-ViewsRise from h = (i age number members : ℕ) → from ≤ i → slice_get h i
-    ≡ Some (View age number members)
+ViewsRise from h = (i age number members : ℕ) → from ≤ i → slice_get h i ≡ Some (View age number members)
     → (u : GroupView) → view_of (take i h) ≡ Some u → IsLater u age number
 
 come_later : (a n b m c l : ℕ) → (a < b) ⊎ ((a ≡ b) × (n ≤ m)) → (b < c)
@@ -38,13 +31,10 @@ come_on : (a n b m c l : ℕ) → (a < b) ⊎ ((a ≡ b) × (n ≤ m)) → (b < 
 come_on a n b m c l h k = grind arith
 
 -- a view stays or a later one comes
-pub view-after : (h : List Entry) (from i d : ℕ) (u : GroupView) → ViewsRise from h → from ≤ i
-    → i + d ≤ length h
-    → view_of (take i h) ≡ Some u
-    → (w : GroupView) × (view_of (take (i + d) h) ≡ Some w) × HasCome u.age u.number w
+pub view-after : (h : List Entry) (from i d : ℕ) (u : GroupView) → ViewsRise from h → from ≤ i → i + d ≤ length h
+    → view_of (take i h) ≡ Some u → (w : GroupView) × (view_of (take (i + d) h) ≡ Some w) × HasCome u.age u.number w
 view-after h from i zero u rise l within e =
-    let same : i + 0 ≡ i = omega arith in
-    (u, ap (λ j. view_of (take j h)) same ∙ e, inr (refl, le_refl u.number))
+    let same : i + 0 ≡ i = omega arith in (u, ap (λ j. view_of (take j h)) same ∙ e, inr (refl, le_refl u.number))
 view-after h from i (suc d) u rise l within e =
     next (view-after h from i d u rise l (omega arith) e) (slice_get-some h (i + d) (omega arith))
   where
@@ -69,22 +59,18 @@ view-after h from i (suc d) u rise l within e =
 
 -- of two Views the one that stands behind is later
 View-later : (h : List Entry) (from i j a n m b l k : ℕ) → ViewsRise from h → from ≤ i → i < j
-    → slice_get h i ≡ Some (View a n m)
-    → slice_get h j ≡ Some (View b l k)
-    → (a < b) ⊎ ((a ≡ b) × (n < l))
+    → slice_get h i ≡ Some (View a n m) → slice_get h j ≡ Some (View b l k) → (a < b) ⊎ ((a ≡ b) × (n < l))
 View-later h from i j a n m b l k rise from_i less at_i at_j =
     let place : i + 1 + (j - (i + 1)) ≡ j = omega arith in
     let first : view_of (take (i + 1) h) ≡ Some (record { age = a; number = n; members = members_of m }) =
     ap view_of (take-next h i (View a n m) at_i) ∙ view_of-View (take i h) a n m in
-    let r = view-after h from (i + 1) (j - (i + 1))
-    (record { age = a; number = n; members = members_of m }) rise (omega arith)
-    (omega (arith, slice_get_within h j (View b l k) at_j)) first in
+    let r = view-after h from (i + 1) (j - (i + 1)) (record { age = a; number = n; members = members_of m }) rise
+    (omega arith) (omega (arith, slice_get_within h j (View b l k) at_j)) first in
     come_later a n r.0.age r.0.number b l r.2
     (rise j b l k (omega arith) at_j r.0 (ap (λ z. view_of (take z h)) (sym place) ∙ r.1))
 
 -- so a View of an age and a number stands at one position
-pub View-once : (h : List Entry) (i j age number m n : ℕ) → ViewsRise 0 h → slice_get h i
-    ≡ Some (View age number m)
+pub View-once : (h : List Entry) (i j age number m n : ℕ) → ViewsRise 0 h → slice_get h i ≡ Some (View age number m)
     → slice_get h j ≡ Some (View age number n) → i ≡ j
 View-once h i j age number m n rise at_i at_j = by (apart i j)
   where
@@ -105,21 +91,18 @@ ContinuesAge-later u age number members f = inr (sym f.same_age, omega (arith, f
 
 -- the numbers of the views behind View 0 rise
 number_after : (o : Opening) (sent : Sent) (h : List Entry) (i d : ℕ) (u : GroupView)
-    → InLooseOrder o sent h → length o.start < i
-    → i + d ≤ length h → view_of (take i h) ≡ Some u → (w : GroupView)
+    → InLooseOrder o sent h → length o.start < i → i + d ≤ length h → view_of (take i h) ≡ Some u → (w : GroupView)
     × (view_of (take (i + d) h) ≡ Some w) × (u.number ≤ w.number)
 number_after o sent h i zero u order l within e =
-    let same : i + 0 ≡ i = omega arith in
-    (u, ap (λ j. view_of (take j h)) same ∙ e, le_refl u.number)
+    let same : i + 0 ≡ i = omega arith in (u, ap (λ j. view_of (take j h)) same ∙ e, le_refl u.number)
 number_after o sent h i (suc d) u order l within e =
     next (number_after o sent h i d u order l (omega arith) e) (slice_get-some h (i + d) (omega arith))
   where
     place : i + suc d ≡ i + d + 1
     place = omega arith
 
-    next : (w : GroupView) × (view_of (take (i + d) h) ≡ Some w) × (u.number ≤ w.number)
-        → (x : Entry) × (slice_get h (i + d) ≡ Some x)
-        → (w : GroupView) × (view_of (take (i + suc d) h) ≡ Some w) × (u.number ≤ w.number)
+    next : (w : GroupView) × (view_of (take (i + d) h) ≡ Some w) × (u.number ≤ w.number) → (x : Entry) × (slice_get h
+        (i + d) ≡ Some x) → (w : GroupView) × (view_of (take (i + suc d) h) ≡ Some w) × (u.number ≤ w.number)
     next r (View a n m, at) =
         let succeeded = IsSomeAnd-at (view_of (take (i + d) h)) (λ v. IsSucceededBy o (take (i + d) h) v a n m) r.0 r.1
         (order.views (i + d) a n m (omega arith) at) in (
@@ -131,15 +114,13 @@ number_after o sent h i (suc d) u order l within e =
     next r (Msg s j b, at) = (
       r.0,
       ap (λ j. view_of (take j h)) place
-          ∙ (ap view_of (take-next h (i + d) (Msg s j b) at)
-          ∙ (view_of-Msg (take (i + d) h) s j b ∙ r.1)),
+          ∙ (ap view_of (take-next h (i + d) (Msg s j b) at) ∙ (view_of-Msg (take (i + d) h) s j b ∙ r.1)),
       r.2,
     )
 
 -- before a View behind the start the views have smaller numbers
 pub number-before : (o : Opening) (sent : Sent) (h : List Entry) (i j a n m : ℕ) (u : GroupView)
-    → InLooseOrder o sent h
-    → length o.start < i
+    → InLooseOrder o sent h → length o.start < i
     → i ≤ j → slice_get h j ≡ Some (View a n m) → view_of (take i h) ≡ Some u → u.number < n
 number-before o sent h i j a n m u order l less at e =
     let place : i + (j - i) ≡ j = omega arith in
@@ -160,15 +141,13 @@ ViewsRise-standing o es stand i age number members l at u e = by (stand i (View 
         (IsSomeAnd-at (view_of (take i es)) (λ v. ContinuesAge v age number members) u e goes)
 
 -- so they do in a history in order with a sound start
-ViewsRise-sound : (o : Opening) (sent : Sent) (h : List Entry) → Sound o → InOrder o sent h
-    → ViewsRise 0 h
+ViewsRise-sound : (o : Opening) (sent : Sent) (h : List Entry) → Sound o → InOrder o sent h → ViewsRise 0 h
 ViewsRise-sound o sent h sound order = ViewsRise-standing o h (history-stands o sent h sound order)
 
 -- where the Views rise, a View that also stands in a front part has its past there
 SamePast-prefix : (g h : List Entry) → ViewsRise 0 h → IsPrefixOf g h → SamePast g h
 SamePast-prefix g h rise pre i j age number m n at_i at_j =
-    let also : slice_get h i ≡ Some (View age number m) =
-    slice_get-prefix g h i (View age number m) pre at_i in
+    let also : slice_get h i ≡ Some (View age number m) = slice_get-prefix g h i (View age number m) pre at_i in
     let place : i ≡ j = View-once h i j age number m n rise also at_j in
     let same : View age number m ≡ View age number n = same_Some (View age number m) (View age number n)
     (sym also ∙ (ap (slice_get h) place ∙ at_j)) in (
@@ -179,14 +158,11 @@ SamePast-prefix g h rise pre i j age number m n at_i at_j =
 
 SamePast-sym : (g h : List Entry) → SamePast g h → SamePast h g
 SamePast-sym g h same i j age number m n at_i at_j =
-    let r = same j i age number n m at_j at_i in
-    (sym r.0, sym r.1)
+    let r = same j i age number n m at_j at_i in (sym r.0, sym r.1)
 
 -- histories in order with a sound start, one of them a prefix of the other, have the same past at each View
-pub SamePast-either : (o : Opening) (sent : Sent) (g h : List Entry) → Sound o → InOrder o sent g
-    → InOrder o sent h
+pub SamePast-either : (o : Opening) (sent : Sent) (g h : List Entry) → Sound o → InOrder o sent g → InOrder o sent h
     → IsPrefixOf g h ⊎ IsPrefixOf h g → SamePast g h
-SamePast-either o sent g h sound og oh (inl pre) =
-    SamePast-prefix g h (ViewsRise-sound o sent h sound oh) pre
+SamePast-either o sent g h sound og oh (inl pre) = SamePast-prefix g h (ViewsRise-sound o sent h sound oh) pre
 SamePast-either o sent g h sound og oh (inr pre) = SamePast-sym h g
     (SamePast-prefix h g (ViewsRise-sound o sent g sound og) pre)

@@ -1,12 +1,8 @@
 -- How an age goes through its views: what every history holds up to a View, and behind it.
 use Rattle.std.specs.Prelude.{◌≡◌, ℕ, zero, suc, ◌+◌, ◌*◌, ◌<◌, ◌≤◌, ◌⊎◌, true, List, [], ◌∷◌, ◌++◌, length, map, filter, Contains}
-use Rattle.dr_entry.specs.declared.entry.Entry.{Entry}
-use Rattle.dr_entry.specs.declared.entry.Entry.TheVariants.{View}
-use Rattle.dr_history.specs.declared.opening.Opening.{Opening}
-use Rattle.dr_history.specs.Members.{has, members_of}
-use Rattle.dr_history.specs.Places.{front_of}
-use Rattle.dr_history.specs.History.{GroupView, Sent, merge}
-use Rattle.dr_history.specs.Order.{AreOfRoster, ContinuesAge, IsNewIn, first_entries}
+use Rattle.dr_entry.specs.declared.entry.Entry.{Entry, TheVariants.View}
+use Rattle.dr_history.specs.{History.{GroupView, Sent, merge}, Places.front_of, declared.opening.Opening.Opening}
+use Rattle.dr_history.specs.{Members.{has, members_of}, Order.{AreOfRoster, ContinuesAge, IsNewIn, first_entries}}
 use Rattle.dr_history_laws.specs.Laid.{GoesOn, HeldBelow, laid}
 
 -- how a view ends: how many of its first items of each member are delivered in it, and the mask of the next

@@ -1,14 +1,9 @@
 -- What is laid down behind a View: the messages of the view's places, place by place.
-use Rattle.std.specs.Prelude.{◌≡◌, ◌≢◌, ℕ, ◌+◌, ◌<◌, List, [], ◌∷◌, ◌++◌, length, map, take, filter_map, Contains, slice_get, Option, Some, IsSome, option_and_then}
 use Rattle.std.specs.List.{range_with_len}
-use Rattle.dr_entry.specs.declared.entry.Entry.{Entry}
-use Rattle.dr_entry.specs.declared.entry.Entry.TheVariants.{View}
-use Rattle.dr_entry.specs.declared.end.SentItem.{SentItem}
-use Rattle.dr_entry.specs.declared.end.SentItem.TheVariants.{Index}
-use Rattle.dr_history.specs.declared.opening.Opening.{Opening}
-use Rattle.dr_history.specs.Members.{members_of}
+use Rattle.std.specs.Prelude.{◌≡◌, ◌≢◌, ℕ, ◌+◌, ◌<◌, List, [], ◌∷◌, ◌++◌, length, map, take, filter_map, Contains, slice_get, Option, Some, IsSome, option_and_then}
+use Rattle.dr_entry.specs.declared.{end.SentItem.{SentItem, TheVariants.Index}, entry.Entry.{Entry, TheVariants.View}}
 use Rattle.dr_history.specs.History.{IsPrefixOf, GroupView, Sent, messages_of, messages_in, entry_of, item_at}
-use Rattle.dr_history.specs.Order.{messages_from}
+use Rattle.dr_history.specs.{Members.members_of, Order.messages_from, declared.opening.Opening.Opening}
 
 -- the entry of a place of a view: none where a null stands, and none where nothing was sent
 abbrev pub entry_at : Opening → Sent → GroupView → ℕ → Option Entry

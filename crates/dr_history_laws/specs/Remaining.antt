@@ -1,11 +1,8 @@
 -- What the start of an age leaves to be delivered.
-use Rattle.std.specs.Prelude.{ℕ, ◌-◌, List, length, map}
-use Rattle.std.specs.List.{range_with_len}
-use Rattle.dr_entry.specs.declared.entry.Entry.{Entry}
-use Rattle.dr_entry.specs.declared.end.SentItem.TheVariants.{Index}
+use Rattle.std.specs.{List.range_with_len, Prelude.{ℕ, ◌-◌, List, length, map}}
+use Rattle.dr_entry.specs.declared.{end.SentItem.TheVariants.Index, entry.Entry.Entry}
+use Rattle.dr_history.specs.{History.{Sent, merge, messages_of}, Order.messages_from}
 use Rattle.dr_history.specs.declared.opening.Opening.{Opening}
-use Rattle.dr_history.specs.History.{Sent, merge, messages_of}
-use Rattle.dr_history.specs.Order.{messages_from}
 use Rattle.dr_history_laws.specs.Laid.{counts_sent, first_view}
 
 -- how many messages the start leaves to a member

@@ -1,8 +1,7 @@
 //! Laws of what is laid.
 ghost use Rattle.std.specs.Prelude.{◌≡◌, ◌≤◌, ◌+◌, ◌++◌, ℕ, List, option_to_list};
 ghost use Rattle.dr_entry.specs.declared.entry.Entry.{Entry};
-ghost use Rattle.dr_history.specs.declared.opening.Opening.{Opening};
-ghost use Rattle.dr_history.specs.History.{IsPrefixOf, GroupView, Sent, merge};
+ghost use Rattle.dr_history.specs.{History.{IsPrefixOf, GroupView, Sent, merge}, declared.opening.Opening.Opening};
 ghost use Rattle.dr_history_laws.specs.Laid.{entry_at, laid, HeldBelow, EndsWithView, GoesOn, SentMoreIn, HoldsAll, counts_sent};
 
 /// One place more adds its entry, if it has one. So of two histories that have come to different

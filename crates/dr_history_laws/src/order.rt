@@ -1,16 +1,11 @@
 //! Laws of order and agreement.
-ghost use Rattle.std.specs.Prelude.{◌≡◌, ◌*◌, ◌+◌, Contains, ◌<◌, ◌≤◌, ◌⊎◌, ◌++◌, ◌∷◌, ◌^◌, [], ℕ, true, List, fold, length, map, option_to_list, Some};
 ghost use Rattle.std.specs.List.{range_with_len};
-ghost use Rattle.dr_entry.specs.declared.entry.Entry.{Entry};
-ghost use Rattle.dr_entry.specs.declared.end.SentItem.TheVariants.{Index};
-ghost use Rattle.dr_entry.specs.declared.entry.Entry.TheVariants.{View};
-ghost use Rattle.dr_history.specs.declared.opening.Opening.{Opening};
-ghost use Rattle.dr_history.specs.Members.{members_of};
+ghost use Rattle.std.specs.Prelude.{◌≡◌, ◌*◌, ◌+◌, Contains, ◌<◌, ◌≤◌, ◌⊎◌, ◌++◌, ◌∷◌, ◌^◌, [], ℕ, true, List, fold, length, map, option_to_list, Some};
+ghost use Rattle.dr_entry.specs.declared.{end.SentItem.TheVariants.Index, entry.Entry.{Entry, TheVariants.View}};
+ghost use Rattle.dr_history.specs.{Agreement.SamePast, Order.{InOrder, IsSucceededBy, first_entries, messages_from}};
 ghost use Rattle.dr_history.specs.History.{IsPrefixOf, GroupView, Sent, item_at, merge, messages_of, view_of};
-ghost use Rattle.dr_history.specs.Places.{front_of, is_held, rest_places};
-ghost use Rattle.dr_history.specs.Order.{InOrder, IsSucceededBy, first_entries, messages_from};
-ghost use Rattle.dr_history.specs.Agreement.{SamePast};
-ghost use Rattle.dr_history.specs.Soundness.{Sound, whole_roster};
+ghost use Rattle.dr_history.specs.{Members.members_of, Soundness.{Sound, whole_roster}};
+ghost use Rattle.dr_history.specs.{Places.{front_of, is_held, rest_places}, declared.opening.Opening.Opening};
 ghost use Rattle.dr_history_laws.specs.Courses.{ViewEnds, ViewHasEnded, IsUncut, MayCome, MayReach, course, view_in};
 ghost use Rattle.dr_history_laws.specs.Laid.{entry_at, laid, HeldBelow, EndsWithView, GoesOn, SentMore, first_view};
 

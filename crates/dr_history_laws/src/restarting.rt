@@ -1,12 +1,10 @@
 //! Laws of ages that follow one another.
 ghost use Rattle.std.specs.Prelude.{◌≡◌, ◌<◌, ◌≤◌, ◌+◌, ◌*◌, ℕ, List, length, take};
 ghost use Rattle.dr_entry.specs.declared.entry.Entry.{Entry};
-ghost use Rattle.dr_history.specs.declared.opening.Opening.{Opening};
-ghost use Rattle.dr_history.specs.History.{IsPrefixOf, Sent, messages_of, view_of};
+ghost use Rattle.dr_history.specs.{Agreement.{Accounts, Agreed}, History.{IsPrefixOf, Sent, messages_of, view_of}};
 ghost use Rattle.dr_history.specs.Order.{InOrder, first_entries};
-ghost use Rattle.dr_history.specs.Agreement.{Accounts, Agreed};
 ghost use Rattle.dr_history.specs.Restarting.{AllStand, AreAllAlong, AreLeftBy, AreSound, IsLongest, Kept, next_age};
-ghost use Rattle.dr_history.specs.Soundness.{IsPresentIn, Sound};
+ghost use Rattle.dr_history.specs.{Soundness.{IsPresentIn, Sound}, declared.opening.Opening.Opening};
 ghost use Rattle.dr_history_laws.specs.Parts.{AreFirstParts};
 
 /// A later age that starts with the longest of the logs that the members of an age leave keeps what

@@ -1,10 +1,7 @@
 //! Laws of what is sent.
 ghost use Rattle.std.specs.Prelude.{◌≡◌, ◌≤◌, ℕ, List, [], length, map, Contains};
-ghost use Rattle.dr_entry.specs.declared.entry.Entry.{Entry};
-ghost use Rattle.dr_entry.specs.declared.end.SentItem.{SentItem};
-ghost use Rattle.dr_history.specs.declared.opening.Opening.{Opening};
-ghost use Rattle.dr_history.specs.History.{GroupView, Sent};
-ghost use Rattle.dr_history.specs.Places.{front_of};
+ghost use Rattle.dr_entry.specs.declared.{end.SentItem.SentItem, entry.Entry.Entry};
+ghost use Rattle.dr_history.specs.{History.{GroupView, Sent}, Places.front_of, declared.opening.Opening.Opening};
 ghost use Rattle.dr_history_laws.specs.Laid.{HeldBelow, GoesOn, MayBeNext, SendsNext};
 
 /// The messages of a view in which nothing is sent yet go on from every history, and they do so

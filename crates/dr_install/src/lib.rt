@@ -9,8 +9,7 @@
 
 ghost use Rattle.std.specs.Prelude.{◌≡◌, ◌+◌, ◌^◌, ◌<◌, ◌≤◌, [], ◌∷◌, length, take, if◌then◌else◌};
 ghost use Rattle.dr_entry.specs.declared.entry.Entry.TheVariants.{View};
-ghost use Rattle.dr_history.specs.History.{last_view, up_to_view};
-ghost use Rattle.dr_history.specs.Order.{messages_from};
+ghost use Rattle.dr_history.specs.{History.{last_view, up_to_view}, Order.messages_from};
 ghost use Rattle.dr_words.specs.Masks.{next_members};
 
 use dr_entry::{Entry, Value};

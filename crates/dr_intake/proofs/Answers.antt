@@ -2,17 +2,13 @@
 use Rattle.std.proofs.Common.{◌≡◌, ◌⊎◌, ◌∙◌, inl, inr, refl, sym, ap, subst, arith, true, ℕ, List, [], ◌∷◌, Contains, Option, None, Some, Result, Ok, Err, IfErr, IfOk, IsSomeAnd, option_map, string_bytes}
 use Rattle.std.proofs.lemmas.Option.{none-some, same_Some}
 use Rattle.dr_io.specs.Sink.{Gains}
-use Rattle.dr_script.specs.declared.script.Script.{Script}
-use Rattle.dr_script.specs.Reading.{NotJson, Reading, Reads, TooLong, Wrong}
-use Rattle.dr_text.specs.declared.last.Last.{Last}
+use Rattle.dr_script.specs.{Reading.{NotJson, Reading, Reads, TooLong, Wrong}, declared.script.Script.Script}
+use Rattle.dr_text.specs.{Report.last_text, declared.last.Last.Last}
 use Rattle.dr_text.specs.declared.last.Last.TheVariants as lasts
-use Rattle.dr_text.specs.Report.{last_text}
-use Rattle.dr_intake.specs.declared.answer.Answer.{Answer}
-use Rattle.dr_intake.specs.declared.call.Unread.{Unread}
-use Rattle.dr_intake.specs.declared.call.Unread.TheVariants as reasons
 use Rattle.dr_intake.specs.Answer.{IsAnswer, IsCallAnswer, IsLine, IsUnread, Said, SaysOf, ToldBy, done, unread_line, no_memory, no_source, usage}
-use Rattle.dr_intake.specs.Reading.{WasRead, refusal_in}
-use Rattle.dr_intake.specs.Status.{WroteText, status_of}
+use Rattle.dr_intake.specs.{Reading.{WasRead, refusal_in}, Status.{WroteText, status_of}}
+use Rattle.dr_intake.specs.declared.{answer.Answer.Answer, call.Unread.Unread}
+use Rattle.dr_intake.specs.declared.call.Unread.TheVariants as reasons
 
 -- ---- what is said of a call
 
@@ -60,9 +56,8 @@ unread_map f asked old new failed fails why unread = elim unread [
 
 -- a fault of its source is told
 pub unread_told : {E : Type 0} (usage_text : List ℕ) (r : Result Answer E) (why : Unread) (failed fails : ℕ)
-    → (fails ≡ failed) ⊎ (why ≡ reasons.SourceFault)
-    → IfOk r (λ a. IsSomeAnd (unread_line why) (λ l. IsLine usage_text l (string_bytes a.text, a.status)))
-    → IfOk r (λ a. (fails ≡ failed) ⊎ (a.status ≡ 4))
+    → (fails ≡ failed) ⊎ (why ≡ reasons.SourceFault) → IfOk r (λ a. IsSomeAnd (unread_line why)
+    (λ l. IsLine usage_text l (string_bytes a.text, a.status))) → IfOk r (λ a. (fails ≡ failed) ⊎ (a.status ≡ 4))
 unread_told usage_text (Ok a) why failed fails (inl calm) alone = inl calm
 unread_told usage_text (Ok a) why failed fails (inr is) alone =
     inr (subst (λ (w : Unread). IsSomeAnd (unread_line w) (λ l. IsLine usage_text l (string_bytes a.text, a.status))) is
@@ -87,9 +82,8 @@ refused Says TooLong line said is alone =
     subst (λ (l : Last). (said.0 ≡ last_text l) × (said.1 ≡ status_of l)) (sym (same_Some lasts.TooLong line is)) alone
 refused Says NotJson line said is alone =
     subst (λ (l : Last). (said.0 ≡ last_text l) × (said.1 ≡ status_of l)) (sym (same_Some lasts.NotJson line is)) alone
-refused Says (Wrong rule path) line said is alone =
-    subst (λ (l : Last). (said.0 ≡ last_text l) × (said.1 ≡ status_of l))
-    (sym (same_Some (lasts.Rule rule path) line is)) alone
+refused Says (Wrong rule path) line said is alone = subst (λ (l : Last). (said.0 ≡ last_text l)
+    × (said.1 ≡ status_of l)) (sym (same_Some (lasts.Rule rule path) line is)) alone
 refused Says (Reads script) line said is alone = absurd (none-some line is)
 
 pub refused_if : {E : Type 0} (Says : Script → Said → Type 0) (r : Result Answer E) (reading : Reading)

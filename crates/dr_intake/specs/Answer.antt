@@ -3,18 +3,12 @@
 -- makes of what was read for it.
 use Rattle.std.specs.Prelude.{◌≡◌, ◌⊎◌, ⊤, ℕ, Bool, true, false, IsTrue, List, [], ◌∷◌, Option, None, Some, IsSomeAnd, String}
 use Rattle.std.specs.declared.alloc.Global.{Global}
-use Rattle.dr_io.specs.Faults.{Rose}
-use Rattle.dr_io.specs.Sink.{Gains}
-use Rattle.dr_io.specs.Source.{Loses}
-use Rattle.dr_script.specs.declared.script.Script.{Script}
-use Rattle.dr_script.specs.Reading.{Reading, Reads}
-use Rattle.dr_text.specs.declared.last.Last.{Last}
+use Rattle.dr_io.specs.{Faults.Rose, Sink.Gains, Source.Loses}
+use Rattle.dr_script.specs.{Reading.{Reading, Reads}, declared.script.Script.Script}
+use Rattle.dr_text.specs.{Report.last_text, declared.last.Last.Last}
 use Rattle.dr_text.specs.declared.last.Last.TheVariants as lasts
-use Rattle.dr_text.specs.Report.{last_text}
-use Rattle.dr_intake.specs.declared.call.Unread.{Unread}
+use Rattle.dr_intake.specs.{Reading.{WasRead, refusal_in}, Status.{WroteText, status_of}, declared.call.Unread.Unread}
 use Rattle.dr_intake.specs.declared.call.Unread.TheVariants as reasons
-use Rattle.dr_intake.specs.Reading.{WasRead, refusal_in}
-use Rattle.dr_intake.specs.Status.{WroteText, status_of}
 
 -- what was read for a command: what was left, as far as a script goes, or nothing, where it does not read
 abbrev pub WasReadFor : Bool → Option (List ℕ) → Option (List ℕ) → List ℕ → Type 0

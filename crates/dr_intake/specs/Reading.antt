@@ -1,8 +1,8 @@
 -- What is read of a source, and by which line a text that is no script is refused.
 use Rattle.std.specs.Prelude.{◌≡◌, ℕ, ◌<◌, ◌≤◌, List, length, Option, None, Some}
 use Rattle.dr_io.specs.Source.{Loses, IsUsedUp}
-use Rattle.dr_script.specs.declared.script.Script.{Script}
 use Rattle.dr_script.specs.Reading.{Reading, TooLong, NotJson, Wrong, Reads, reading_of}
+use Rattle.dr_script.specs.declared.script.Script.{Script}
 use Rattle.dr_text.specs.declared.last.Last.{Last}
 use Rattle.dr_text.specs.declared.last.Last.TheVariants as lasts
 

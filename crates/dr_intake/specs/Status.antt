@@ -1,10 +1,8 @@
 -- With which status a program ends.
 use Rattle.std.specs.Prelude.{◌≡◌, ◌⊎◌, ℕ, List, Option}
-use Rattle.dr_io.specs.Faults.{Rose}
-use Rattle.dr_io.specs.Sink.{Gains}
-use Rattle.dr_text.specs.declared.last.Last.{Last}
+use Rattle.dr_io.specs.{Faults.Rose, Sink.Gains}
+use Rattle.dr_text.specs.{Writing.WroteFront, declared.last.Last.Last}
 use Rattle.dr_text.specs.declared.last.Last.TheVariants as lasts
-use Rattle.dr_text.specs.Writing.{WroteFront}
 
 -- the status of a last line
 abbrev pub status_of : Last → ℕ

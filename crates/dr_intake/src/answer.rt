@@ -1,8 +1,7 @@
 ghost use Rattle.std.specs.Prelude.{◌≡◌, ◌⊎◌, [], IfErr, IfOk, IsSomeAnd, string_bytes};
 ghost use Rattle.dr_io.specs.Sink.{Gains};
 ghost use Rattle.dr_text.specs.Report.{last_text};
-ghost use Rattle.dr_intake.specs.Answer.{IsLine, unread_line};
-ghost use Rattle.dr_intake.specs.Status.{WroteText, status_of};
+ghost use Rattle.dr_intake.specs.{Answer.{IsLine, unread_line}, Status.{WroteText, status_of}};
 
 use crate::call::Unread;
 use crate::status::{OUT_OF_MEMORY, USAGE, WRITE_FAULT, status_of};

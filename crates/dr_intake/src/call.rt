@@ -1,7 +1,6 @@
 ghost use Rattle.std.specs.Prelude.{◌≡◌, ◌⊎◌, Some, IfErr, IfOk};
+ghost use Rattle.dr_intake.specs.{Answer.{IsUnread, wordless}, Reading.WasRead};
 ghost use Rattle.dr_intake.specs.declared.call.Unread.TheVariants.{SourceFault};
-ghost use Rattle.dr_intake.specs.Answer.{IsUnread, wordless};
-ghost use Rattle.dr_intake.specs.Reading.{WasRead};
 
 use crate::reading::{ReadFault, read_all};
 use crate::script::READ_LIMIT;

@@ -1,6 +1,5 @@
 ghost use Rattle.std.specs.Prelude.{◌≡◌, Some, IfOk, IsErrOf};
-ghost use Rattle.dr_script.specs.Ranges.{HasRanges};
-ghost use Rattle.dr_script.specs.Reading.{Reads, reading_of};
+ghost use Rattle.dr_script.specs.{Ranges.HasRanges, Reading.{Reads, reading_of}};
 ghost use Rattle.dr_text.specs.declared.last.Last.{Last as LastOf};
 ghost use Rattle.dr_intake.specs.Reading.{refusal_in};
 

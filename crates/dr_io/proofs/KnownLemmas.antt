@@ -1,13 +1,8 @@
 -- How what is known of a source's or a sink's bytes goes on from call to call.
+use Rattle.std.specs.{Io.KnownBytes.{Keeps, Consumes, Appends}, Prelude.{◌^◌}}
 use Rattle.std.proofs.Common.{ℕ, List, ◌++◌, Option, Some, None, refl, sym, ap, ◌∙◌, append_assoc, ◌≡◌, ◌+◌, ◌-◌, length, take, drop, subst, arith, length-drop, [], ◌≤◌, le_trans}
-use Rattle.std.specs.Io.KnownBytes.{Keeps, Consumes, Appends}
-use Rattle.std.proofs.Math.Seq.{take-add}
-use Rattle.std.proofs.lemmas.List.{take_all}
-use Rattle.std.specs.Prelude.{◌^◌}
-use Rattle.std.proofs.Math.Nat.{le-min, min-le_left, min-le_right}
-use Rattle.dr_io.specs.Sink.{Gains}
-use Rattle.dr_io.specs.Source.{Loses}
-use Rattle.dr_io.specs.Faults.{Rose}
+use Rattle.std.proofs.{Math.{Nat.{le-min, min-le_left, min-le_right}, Seq.take-add}, lemmas.List.take_all}
+use Rattle.dr_io.specs.{Faults.Rose, Sink.Gains, Source.Loses}
 
 -- two writes gain what they gain together
 pub gains_more : (old now new : Option (List ℕ)) (first next : List ℕ) → Gains old now first
@@ -17,8 +12,7 @@ gains_more None None (Some new) first next p q = absurd q
 gains_more None (Some now) new first next p q = absurd p
 gains_more (Some old) None new first next p q = absurd p
 gains_more (Some old) (Some now) None first next p q = absurd q
-gains_more (Some old) (Some now) (Some new) first next p q = q ∙ ap (λ l. l ++ next) p
-    ∙ append_assoc old first next
+gains_more (Some old) (Some now) (Some new) first next p q = q ∙ ap (λ l. l ++ next) p ∙ append_assoc old first next
 
 -- known bytes stay as they are where nothing happens
 pub keeps_same : (known : Option (List ℕ)) → Keeps known known
@@ -49,12 +43,10 @@ appends_behind (Some xs) (Some ys) None bytes p q = absurd q
 appends_behind (Some xs) (Some ys) (Some zs) bytes p q = q ∙ ap (λ l. l ++ bytes) p
 
 -- the next bytes of the text, written behind its front part, make a longer front part
-pub gains_front : (old now new : Option (List ℕ)) (text : List ℕ) (at n : ℕ)
-    → Gains old now (take at text)
+pub gains_front : (old now new : Option (List ℕ)) (text : List ℕ) (at n : ℕ) → Gains old now (take at text)
     → Gains now new (take n (take (length text - at) (drop at text))) → Gains old new (take (at + n) text)
 gains_front old now new text at n first next =
-    let rest : take (length text - at) (drop at text)
-    ≡ drop at text = take_all (length text - at) (drop at text)
+    let rest : take (length text - at) (drop at text) ≡ drop at text = take_all (length text - at) (drop at text)
     (omega (arith, length-drop {A = ℕ})) in
     let P : List ℕ → Type 0 = λ bytes. Gains old new bytes in
     let Q : List ℕ → Type 0 = λ bytes. Gains now new (take n bytes) in

@@ -1,6 +1,4 @@
-ghost use Rattle.std.specs.Prelude.{◌≡◌, ◌<◌, length};
-ghost use Rattle.std.specs.Io.{ReadsAtMost};
-ghost use Rattle.std.specs.Io.KnownBytes.{ReadConsumes};
+ghost use Rattle.std.specs.{Io.{ReadsAtMost, KnownBytes.ReadConsumes}, Prelude.{◌≡◌, ◌<◌, length}};
 
 use crate::failed::Failed;
 use crate::source::Source;

@@ -1,5 +1,4 @@
-ghost use Rattle.std.specs.Prelude.{◌≡◌, ◌↔◌, ◌<◌, IfOk, IsErr, length, min, take};
-ghost use Rattle.std.specs.Io.{ReadsAtMost};
+ghost use Rattle.std.specs.{Io.ReadsAtMost, Prelude.{◌≡◌, ◌↔◌, ◌<◌, IfOk, IsErr, length, min, take}};
 
 use crate::failed::Failed;
 use crate::plan::Plan;

@@ -1,5 +1,4 @@
-ghost use Rattle.std.specs.Prelude.{◌≡◌, ◌<◌, ◌≤◌, IfOk, length};
-ghost use Rattle.std.specs.Io.KnownBytes.{WriteAppends};
+ghost use Rattle.std.specs.{Io.KnownBytes.WriteAppends, Prelude.{◌≡◌, ◌<◌, ◌≤◌, IfOk, length}};
 
 use crate::failed::Failed;
 use crate::sink::Sink;

@@ -1,6 +1,5 @@
 ghost use Rattle.std.specs.Prelude.{ℕ, ◌<◌, ◌≤◌, List, Option, IfOk, length};
-ghost use Rattle.dr_io.specs.Faults.{HasCause};
-ghost use Rattle.dr_io.specs.Sink.{Writes};
+ghost use Rattle.dr_io.specs.{Faults.HasCause, Sink.Writes};
 
 use crate::failed::Failed;
 

@@ -1,7 +1,5 @@
-ghost use Rattle.std.specs.Prelude.{ℕ, ◌<◌, List, Option, length};
-ghost use Rattle.std.specs.Io.{ReadsAtMost};
-ghost use Rattle.dr_io.specs.Faults.{HasCause};
-ghost use Rattle.dr_io.specs.Source.{Reads};
+ghost use Rattle.std.specs.{Io.ReadsAtMost, Prelude.{ℕ, ◌<◌, List, Option, length}};
+ghost use Rattle.dr_io.specs.{Faults.HasCause, Source.Reads};
 
 use crate::failed::Failed;
 

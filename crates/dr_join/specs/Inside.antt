@@ -1,7 +1,6 @@
 -- How the fields hold what contracts see of lists for letters.
 use Rattle.std.specs.Prelude.{◌≡◌, ◌≤◌, All, [], length, vec_capacity}
-use Rattle.dr_join.specs.declared.letters.Letters.TheInside.{Inside}
-use Rattle.dr_join.specs.Lists.{Spare}
+use Rattle.dr_join.specs.{Lists.Spare, declared.letters.Letters.TheInside.Inside}
 
 abbrev pub spare_of : Inside → Spare
 spare_of a = record { count = length a.lists.items; room = a.room }

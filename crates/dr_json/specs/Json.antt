@@ -1,17 +1,10 @@
 -- Messages and scripts as JSON texts.
-use Rattle.std.specs.Prelude.{ℕ, ◌==◌, if◌then◌else◌, List, [], ◌∷◌, ◌++◌, codes}
-use Rattle.std.specs.Fmt.{decimal}
-use Rattle.std.specs.List.{concat, enumerate_from, flat_map}
-use Rattle.std.specs.Str.{is_utf8}
-use Rattle.dr_script.specs.declared.script.Fault.{Fault}
-use Rattle.dr_script.specs.declared.script.Schedule.{Schedule}
-use Rattle.dr_script.specs.declared.script.Schedule.TheVariants.{Lockstep, Seed}
-use Rattle.dr_script.specs.declared.script.Script.{Script}
-use Rattle.dr_script.specs.declared.script.What.{What}
-use Rattle.dr_script.specs.declared.script.What.TheVariants.{Crash, Suspect}
+use Rattle.std.specs.{Fmt.decimal, List.{concat, enumerate_from, flat_map}}
+use Rattle.std.specs.{Prelude.{ℕ, ◌==◌, if◌then◌else◌, List, [], ◌∷◌, ◌++◌, codes}, Str.is_utf8}
+use Rattle.dr_script.specs.declared.script.{Fault.Fault, Schedule.{Schedule, TheVariants.{Lockstep, Seed}}}
+use Rattle.dr_script.specs.declared.script.{Script.Script, What.{What, TheVariants.{Crash, Suspect}}}
 use Rattle.dr_text.specs.Report.{hex_text}
-use Rattle.serde_json.specs.Data.{string}
-use Rattle.serde_json.specs.Written.{compact_text}
+use Rattle.serde_json.specs.{Data.string, Written.compact_text}
 
 -- the text that a message is: its bytes, or these in hexadecimal, where they are not UTF-8
 abbrev pub shown_text : List ℕ → List ℕ

@@ -1,6 +1,5 @@
+ghost use Rattle.std.specs.{List.flat_map, Str.is_utf8};
 ghost use Rattle.std.specs.Prelude.{◌≡◌, ◌≤◌, ◌++◌, IfOk, MatchOption, OnOk, false, length, string_bytes, true};
-ghost use Rattle.std.specs.List.{flat_map};
-ghost use Rattle.std.specs.Str.{is_utf8};
 ghost use Rattle.dr_text.specs.Report.{hex_text};
 ghost use Rattle.dr_json.specs.Json.{comma_before, json_text, shown_text};
 

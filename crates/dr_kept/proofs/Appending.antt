@@ -1,24 +1,17 @@
 -- A member an append of which has begun: what it may bring.
-use Rattle.std.proofs.Common.{◌≡◌, refl, sym, ap, subst, ◌<◌, arith, true, inl, inr, length}
 use Rattle.std.specs.Prelude.{Option, None, Some, slice_get}
-use Rattle.std.proofs.lemmas.Bool.{and_parts}
-use Rattle.std.proofs.lemmas.Bool.Decides.{nat_tests}
-use Rattle.std.proofs.lemmas.Option.{slice_get-get_or}
-use Rattle.dr_entry.specs.declared.end.End.{End}
-use Rattle.dr_entry.specs.declared.entry.Entry.TheVariants.{View}
-use Rattle.dr_entry.specs.declared.record.Record.{Record}
-use Rattle.dr_entry.specs.declared.record.Record.TheVariants as records
+use Rattle.std.proofs.{Common.{◌≡◌, refl, sym, ap, subst, ◌<◌, arith, true, inl, inr, length}, lemmas.Bool.and_parts}
+use Rattle.std.proofs.lemmas.{Bool.Decides.nat_tests, Option.slice_get-get_or}
+use Rattle.dr_entry.specs.{declared.{end.End.End, entry.Entry.TheVariants.View}, declared.record.Record.Record}
 use Rattle.dr_entry.specs.declared.record.Value.{Value}
-use Rattle.dr_logged.specs.Served.{IsRecordDue, next_record}
+use Rattle.dr_entry.specs.declared.record.Record.TheVariants as records
+use Rattle.dr_served.specs.Served.{IsRecordDue, next_record}
 use Rattle.dr_machine.specs.declared.step.Step.{Step}
 use Rattle.dr_machine.specs.declared.step.Step.TheVariants as steps
-use Rattle.dr_program.specs.declared.deed.Deed.{Deed}
+use Rattle.dr_program.specs.{Form.IsRunningMember, Replica.{Replica, may_append, may_vote, value_due, vote_of}}
+use Rattle.dr_program.specs.{Running.{Running, asks, deed, deed_of, next_deed, next_step}, Steps.{IsAppend, allows}}
+use Rattle.dr_program.specs.{Turn.part_of, declared.deed.Deed.Deed}
 use Rattle.dr_program.specs.declared.deed.Deed.TheVariants as deeds
-use Rattle.dr_program.specs.Form.{IsRunningMember}
-use Rattle.dr_program.specs.Replica.{Replica, may_append, may_vote, value_due, vote_of}
-use Rattle.dr_program.specs.Running.{Running, asks, deed, deed_of, next_deed, next_step}
-use Rattle.dr_program.specs.Steps.{IsAppend, allows}
-use Rattle.dr_program.specs.Turn.{part_of}
 use Rattle.dr_kept.specs.Leaving.{HasBegunAppend}
 
 -- the step is an append of this record
@@ -68,8 +61,7 @@ MayCome r (records.AgeVote x) = ⊥
 MayCome r (records.Cut keep) = ⊥
 MayCome r records.Upgrade = ⊥
 
-pub may_come : (r : Running) (next : Record) → IsRunningMember r → HasBegunAppend r next
-    → MayCome r.replica next
+pub may_come : (r : Running) (next : Record) → IsRunningMember r → HasBegunAppend r next → MayCome r.replica next
 may_come r next form (inl due) = by (next_step r) allowed at.step
   where
     at : IsToAppend r next
@@ -82,8 +74,7 @@ may_come r next form (inl due) = by (next_step r) allowed at.step
     by steps.Append may is =
         let more : r.replica.logged < length r.replica.history =
         grind (arith, nat_tests, (and_parts _ (may_append r.replica) may).1) in
-        subst (MayCome r.replica) (sym is)
-        (slice_get-get_or r.replica.history r.replica.logged (View 0 0 0) more)
+        subst (MayCome r.replica) (sym is) (slice_get-get_or r.replica.history r.replica.logged (View 0 0 0) more)
     by (steps.LogVote v) may is =
         subst (MayCome r.replica) (sym is) (v, (and_parts _ (may_vote r.replica v) may).1, refl)
     by s may is = absurd is

@@ -1,35 +1,22 @@
 -- What is known of an age that began with what was chosen of some logs.
-use Rattle.std.proofs.Common.{◌≡◌, refl, ap, sym, ◌∙◌, subst, ℕ, ◌<◌, ◌≤◌, arith, true, false, List, length, map}
 use Rattle.std.specs.Prelude.{Option, None, Some, is_some, option_map}
+use Rattle.std.proofs.Common.{◌≡◌, refl, ap, sym, ◌∙◌, subst, ℕ, ◌<◌, ◌≤◌, arith, true, false, List, length, map}
 use Rattle.dr_entry.specs.declared.record.Record.{Record}
-use Rattle.dr_history.specs.Members.{has}
-use Rattle.dr_history.specs.Soundness.{whole_roster}
+use Rattle.dr_history.specs.{Members.has, Soundness.whole_roster}
 use Rattle.dr_log_bytes.specs.Content.{OnLog}
-use Rattle.dr_machine.specs.Group.{Group, IsGroup, IsPresent}
-use Rattle.dr_machine.specs.Run.{IsReached}
-use Rattle.dr_program.specs.Presence.{present_at}
-use Rattle.dr_program.specs.Program.{AreSetups, IsRanFrom, Program, begun_program}
-use Rattle.dr_program.specs.Reading.{table_of, world}
-use Rattle.dr_program.specs.Replica.{Replica}
-use Rattle.dr_program.specs.Running.{Running}
-use Rattle.dr_program.proofs.Present.{present_map}
+use Rattle.dr_machine.specs.{Group.{Group, IsGroup, IsPresent}, Run.IsReached}
+use Rattle.dr_program.{specs.{Presence.present_at, Replica.Replica, Running.Running}, proofs.Present.present_map}
+use Rattle.dr_program.specs.{Program.{AreSetups, IsRanFrom, Program, begun_program}, Reading.{table_of, world}}
 use Rattle.dr_program_laws.proofs.Keeping.{deeds_kept}
 use Rattle.dr_refine.specs.Programs.{IsMember, IsProgram}
-use Rattle.dr_restart.specs.declared.start.Start.{Start}
-use Rattle.dr_restart.specs.Choosing.{HasAge}
-use Rattle.dr_restart.specs.Groups.{first_group_of, group_of}
+use Rattle.dr_restart.specs.{Choosing.HasAge, Groups.{first_group_of, group_of}, declared.start.Start.Start}
 use Rattle.dr_restart.proofs.Setups.{are_setups}
-use Rattle.dr_script.specs.declared.script.Script.{Script}
-use Rattle.dr_script.specs.Ranges.{HasGroupRanges}
+use Rattle.dr_script.specs.{Ranges.HasGroupRanges, declared.script.Script.Script}
 use Rattle.dr_words.specs.Masks.{IsMajorityOf}
 use Rattle.dr_world_laws.proofs.Worlds.{Known, known}
-use Rattle.dr_opening.specs.Lists.{as_lists}
-use Rattle.dr_opening.specs.Tries.{content_at}
-use Rattle.dr_opening.proofs.Choosing.{chosen_group}
-use Rattle.dr_opening.proofs.Lists.{handed_is}
+use Rattle.dr_opening.{specs.{Lists.as_lists, Tries.content_at}, proofs.{Choosing.chosen_group, Lists.handed_is}}
 use Rattle.dr_opening.proofs.Trying.{in_set, out_of_set}
-use Rattle.dr_kept.specs.Leaving.{AreLeftFrom, HasBegunAppend, IsAgeOfChoice}
-use Rattle.dr_kept.proofs.Waiting.{idle_append}
+use Rattle.dr_kept.{specs.Leaving.{AreLeftFrom, HasBegunAppend, IsAgeOfChoice}, proofs.Waiting.idle_append}
 
 -- its group, its program and its world; more than half of the roster is there, and no vote waits of a member
 -- an append of which has begun
@@ -42,8 +29,7 @@ pub record IsKnownAge (script : Script) (start : Start) (p : Program) : Type 0 w
       → r.replica.pending ≡ None
 
 pub known_age : (script : Script) (start : Start) (nth : ℕ) (found : List (Option OnLog)) (p : Program)
-    → HasGroupRanges script → 1 ≤ script.turns → IsAgeOfChoice script start nth found p
-    → IsKnownAge script start p
+    → HasGroupRanges script → 1 ≤ script.turns → IsAgeOfChoice script start nth found p → IsKnownAge script start p
 known_age script start nth found p ranges some is = record {
   group = group;
   form = kept.0;
@@ -66,8 +52,7 @@ known_age script start nth found p ranges some is = record {
     ran : IsRanFrom (begun_program (group_of script start) is.begins.0) p
     ran = subst (λ (b : Program). IsRanFrom b p) is.begins.2 is.ran
 
-    kept : IsProgram (group_of script start) p
-        × IsReached (group_of script start) (world (group_of script start) p)
+    kept : IsProgram (group_of script start) p × IsReached (group_of script start) (world (group_of script start) p)
     kept = deeds_kept g script.turns is.begins.0 p group some are ran
 
 -- the roster is small
@@ -130,8 +115,7 @@ replicas_of p = map (option_map (λ (r : Running). r.replica)) p.members
 
 pub replica_at : (p : Program) (m : ℕ) (r : Running) → present_at p.members m ≡ Some r
     → present_at (replicas_of p) m ≡ Some r.replica
-replica_at p m r there =
-    present_map (λ (r : Running). r.replica) p.members m
+replica_at p m r there = present_map (λ (r : Running). r.replica) p.members m
     ∙ ap (option_map (λ (r : Running). r.replica)) there
 
 pub member_at : (g : Group) (p : Program) (m : ℕ) (r : Running) → IsGroup g → IsProgram g p

@@ -1,28 +1,22 @@
 -- A run behind a crash begins with what was logged.
+use Rattle.std.{specs.Prelude.{Option, None, Some, option_map}, proofs.lemmas.Option.{none-some, same_Some}}
 use Rattle.std.proofs.Common.{◌≡◌, ◌⊎◌, inl, inr, ⊎_elim, refl, sym, ap, ◌∙◌, subst, ℕ, arith, List, ◌++◌}
-use Rattle.std.specs.Prelude.{Option, None, Some, option_map}
-use Rattle.std.proofs.lemmas.Option.{none-some, same_Some}
+use Rattle.dr_history.specs.{History.{IsPrefixOf, view_of}, Restarting.AreAlong, declared.opening.Opening.Opening}
 use Rattle.dr_history.proofs.Histories.{no_longer}
-use Rattle.dr_history.specs.declared.opening.Opening.{Opening}
-use Rattle.dr_history.specs.History.{IsPrefixOf, view_of}
-use Rattle.dr_history.specs.Restarting.{AreAlong}
 use Rattle.dr_log_bytes.specs.Content.{OnLog}
 use Rattle.dr_history_laws.proofs.Stood.{nothing_without}
 use Rattle.dr_program.proofs.Present.{present_map}
 use Rattle.dr_restart.specs.Choosing.{AreOfHolders, AreOfNobody, EndsInAge, Handed}
-use Rattle.dr_restart.specs.declared.lists.LogLists.{LogLists}
-use Rattle.dr_restart.specs.declared.start.Start.{Start}
+use Rattle.dr_restart.specs.declared.{lists.LogLists.LogLists, start.Start.Start}
 use Rattle.dr_quorum_laws.proofs.LastViews.{ends_later}
 use Rattle.dr_quorum.specs.Handing.{handed_by}
-use Rattle.dr_opening.specs.Lists.{all_as_lists, as_lists}
-use Rattle.dr_opening.specs.Tries.{IsChosenOf, content_at}
+use Rattle.dr_opening.specs.{Lists.{all_as_lists, as_lists}, Tries.{IsChosenOf, content_at}}
 
 -- each log that is handed in is a first part of it
 pub front_of_start : (o : Opening) (contents : List (Option OnLog)) (start : Start) (m : ℕ) (c : OnLog)
     → IsChosenOf o contents start
     → ((i j : ℕ) (f g : OnLog) → content_at contents i ≡ Some f → content_at contents j ≡ Some g
-    → AreAlong f.entries g.entries)
-    → content_at contents m ≡ Some c → IsPrefixOf c.entries start.entries
+    → AreAlong f.entries g.entries) → content_at contents m ≡ Some c → IsPrefixOf c.entries start.entries
 front_of_start o contents start m c is along at = by is.chosen.entries
   where
     h : Handed
@@ -55,8 +49,7 @@ front_of_start o contents start m c is along at = by is.chosen.entries
         let d = on held.held.0 held.held.1 held.held.2 in
         let same : d.0.entries ≡ start.entries = ap (λ (l : LogLists). l.entries) d.2 ∙ sym held.held.4 in
         ⊎_elim (λ p. subst (IsPrefixOf c.entries) same p)
-        (λ p. longer held (subst (λ es. IsPrefixOf es c.entries) same p))
-        (along m held.held.0 c d.0 at d.1)
+        (λ p. longer held (subst (λ es. IsPrefixOf es c.entries) same p)) (along m held.held.0 c d.0 at d.1)
     by (inr nobody) =
         let none = nothing_without o c.entries (is.chosen.sound m (as_lists c) here)
         (nobody.nobody m (as_lists c) here) in

@@ -1,53 +1,31 @@
 -- The next age keeps what the one before has delivered durably.
+use Rattle.std.specs.{Option.option_map_or, Prelude.{Option, None, Some, option_map, slice_get}}
 use Rattle.std.proofs.Common.{◌≡◌, refl, ap, sym, ◌∙◌, ◌⊎◌, inl, inr, subst, ℕ, ◌+◌, ◌<◌, ◌≤◌, arith, List, [], ◌∷◌, length, map, take, Contains}
-use Rattle.std.specs.Prelude.{Option, None, Some, option_map, slice_get}
-use Rattle.std.specs.Option.{option_map_or}
-use Rattle.std.proofs.lemmas.List.{length-map}
+use Rattle.std.proofs.lemmas.List.{length-map, Elements.Contains-append_cases}
 use Rattle.std.proofs.lemmas.Option.{none-some, same_Some, slice_get-map}
-use Rattle.dr_entry.specs.declared.end.MemberEnd.{MemberEnd}
-use Rattle.dr_entry.specs.declared.entry.Entry.TheVariants.{View}
+use Rattle.dr_entry.specs.declared.{end.MemberEnd.MemberEnd, entry.Entry.TheVariants.View}
 use Rattle.dr_entry.specs.declared.record.AgeVote.{AgeVote}
-use Rattle.dr_history.specs.Agreement.{accounts_of}
-use Rattle.dr_history.specs.History.{IsPrefixOf}
-use Rattle.dr_history.specs.Order.{first_entries}
-use Rattle.dr_history.specs.Restarting.{Kept}
+use Rattle.dr_history.specs.{Agreement.accounts_of, History.IsPrefixOf, Order.first_entries, Restarting.Kept}
 use Rattle.dr_log_bytes.specs.Content.{OnLog}
-use Rattle.dr_machine.proofs.Presence.{in_roster}
-use Rattle.dr_machine.specs.Group.{Group, IsPresent}
-use Rattle.dr_machine.specs.Run.{accounts_in}
-use Rattle.dr_machine.specs.World.{World}
-use Rattle.dr_program.proofs.Holdings.{Holding, held, held_of, holding_of}
+use Rattle.dr_machine.{specs.{Group.{Group, IsPresent}, Run.accounts_in, World.World}, proofs.Presence.in_roster}
+use Rattle.dr_program.specs.{Presence.present_at, Program.{Program, end_at}, Reading.{table_of, world}}
+use Rattle.dr_program.{specs.Running.Running, proofs.Holdings.{Holding, held, held_of, holding_of}}
 use Rattle.dr_program.proofs.Present.{present_slice, slice_present}
-use Rattle.dr_program.specs.Presence.{present_at}
-use Rattle.dr_program.specs.Program.{Program, end_at}
-use Rattle.dr_program.specs.Reading.{table_of, world}
-use Rattle.dr_program.specs.Running.{Running}
-use Rattle.dr_restart.specs.declared.lists.LogLists.{LogLists}
+use Rattle.dr_restart.specs.{Choosing.{HasAge, IsChosenStart, of_set}, Groups.{first_group_of, group_of}}
+use Rattle.dr_restart.specs.{Left.{IsLeftByOther, votes_of_age}, Trying.age_vote_of, declared.lists.LogLists.LogLists}
 use Rattle.dr_restart.specs.declared.start.Start.{Start}
-use Rattle.dr_restart.specs.Choosing.{HasAge, IsChosenStart, of_set}
-use Rattle.dr_restart.specs.Groups.{first_group_of, group_of}
-use Rattle.dr_restart.specs.Left.{IsLeftByOther, votes_of_age}
-use Rattle.dr_restart.specs.Trying.{age_vote_of}
-use Rattle.dr_script.specs.declared.script.Script.{Script}
-use Rattle.dr_script.specs.Ranges.{HasGroupRanges}
+use Rattle.dr_script.specs.{Ranges.HasGroupRanges, declared.script.Script.Script}
 use Rattle.dr_world_laws.proofs.Worlds.{agreed}
-use Rattle.dr_quorum_laws.proofs.ByMessages.{start-by-messages}
-use Rattle.dr_quorum_laws.proofs.Chosen.{chosen-keeps}
-use Rattle.dr_quorum_laws.proofs.Ended.{no-later}
-use Rattle.dr_quorum_laws.proofs.Grown.{first-kept}
-use Rattle.dr_quorum_laws.proofs.Handing.{Since, first-there, left-entries}
-use Rattle.dr_quorum_laws.proofs.Keeping.{choice-keeps, since-left}
+use Rattle.dr_quorum_laws.proofs.{ByMessages.start-by-messages, Chosen.chosen-keeps, Ended.no-later, Grown.first-kept}
+use Rattle.dr_quorum_laws.proofs.{Handing.{Since, first-there, left-entries}, Keeping.{choice-keeps, since-left}}
 use Rattle.dr_quorum_laws.proofs.Lists.{in-cases, in-nothing, prefix-in}
 use Rattle.dr_quorum.specs.Handing.{handed_by}
-use Rattle.dr_opening.specs.Lists.{all_as_lists, as_lists}
-use Rattle.dr_opening.specs.Tries.{AreAmong, IsChosenOf, content_at}
-use Rattle.dr_opening.proofs.Lists.{handed_is}
-use Rattle.dr_opening.proofs.Trying.{chosen_by}
+use Rattle.dr_opening.specs.{Lists.{all_as_lists, as_lists}, Tries.{AreAmong, IsChosenOf, content_at}}
+use Rattle.dr_opening.proofs.{Lists.handed_is, Trying.chosen_by}
 use Rattle.dr_kept.specs.Leaving.{AreLeftFrom, IsAgeOfChoice, IsLeftAt}
 use Rattle.dr_kept.proofs.Behind.{AreLeftByOthers, left_behind}
 use Rattle.dr_kept.proofs.Chosen.{IsKnownAge, age_above, behind_there, few, known_age, replica_at, replicas_of}
 use Rattle.dr_kept.proofs.Leaving.{age_votes_stay, base_age_votes, left_by_member}
-use Rattle.std.proofs.lemmas.List.Elements.{Contains-append_cases}
 
 -- ---- logs of all members: those that are there, and of each other one an empty one
 
@@ -58,8 +36,7 @@ abbrev pub lists_with : List (Option OnLog) → List LogLists
 lists_with contents = map (λ o. option_map_or as_lists o nothing_on) contents
 
 pub among_lists : (contents : List (Option OnLog)) → AreAmong contents (lists_with contents)
-among_lists contents m c at =
-    slice_get-map (λ o. option_map_or as_lists o nothing_on) contents m
+among_lists contents m c at = slice_get-map (λ o. option_map_or as_lists o nothing_on) contents m
     ∙ ap (option_map (λ o. option_map_or as_lists o nothing_on)) (present_slice contents m c at)
 
 nothing_left : (script : Script) (start : Start) → IsLeftByOther (group_of script start) nothing_on
@@ -82,9 +59,8 @@ others_nothing script start nth found after p ranges is left m log absent at = b
         → IsLeftByOther (group_of script start) log
     by None here e = absurd (none-some log
         (ap (option_map (λ o. option_map_or as_lists o nothing_on)) (sym here) ∙ e))
-    by (Some None) here e = subst (IsLeftByOther (group_of script start))
-        (same_Some nothing_on log (ap (option_map (λ o. option_map_or as_lists o nothing_on)) (sym here) ∙ e))
-        (nothing_left script start)
+    by (Some None) here e = subst (IsLeftByOther (group_of script start)) (same_Some nothing_on log
+        (ap (option_map (λ o. option_map_or as_lists o nothing_on)) (sym here) ∙ e)) (nothing_left script start)
     by (Some (Some c)) here e = absurd (absent
         (behind_there script start nth found after p m c ranges is left (slice_present after m (Some c) here)))
 
@@ -94,8 +70,7 @@ pub since_age : (script : Script) (start : Start) (nth : ℕ) (found after : Lis
     → AreLeftFrom start found p after
     → Since (group_of script start) (world (group_of script start) p) (lists_with after) [] (lists_with after)
 since_age script start nth found after p ranges is k left =
-    since-left (group_of script start) (world (group_of script start) p) (lists_with after) k.group k.known
-    k.majority
+    since-left (group_of script start) (world (group_of script start) p) (lists_with after) k.group k.known k.majority
     (left_behind script start nth found after p (lists_with after) ranges is k left long (among_lists after)
     (others_nothing script start nth found after p ranges is left))
   where
@@ -106,11 +81,10 @@ since_age script start nth found after p ranges is k left =
 pub next_of_set : (script : Script) (start next : Start) (after : List (Option OnLog)) → HasGroupRanges script
     → IsChosenOf (first_group_of script).opening after next
     → IsChosenStart (group_of script start).opening (of_set (lists_with after) next.present) next
-next_of_set script start next after ranges chosen =
-    start-by-messages (first_group_of script).opening (group_of script start).opening
-    (of_set (lists_with after) next.present) next refl
-    (chosen_by (first_group_of script).opening after (lists_with after) next chosen (few script ranges)
-    (among_lists after))
+next_of_set script start next after ranges chosen = start-by-messages (first_group_of script).opening
+    (group_of script start).opening
+    (of_set (lists_with after) next.present) next refl (chosen_by (first_group_of script).opening after
+    (lists_with after) next chosen (few script ranges) (among_lists after))
 
 -- ---- the accounts of the members that were there
 
@@ -167,9 +141,8 @@ kept_in script start next nth found after p ranges is k left chosen =
     let since = since_age script start nth found after p ranges is k left in
     let choice = next_of_set script start next after ranges chosen in
     choice-keeps (group_of script start) (world (group_of script start) p) (lists_with after) next.present next
-    (group_of script next).opening since choice refl
-    (chosen-keeps (group_of script start) (world (group_of script start) p) (lists_with after) (lists_with after) []
-    next.present next since choice).later
+    (group_of script next).opening since choice refl (chosen-keeps (group_of script start)
+    (world (group_of script start) p) (lists_with after) (lists_with after) [] next.present next since choice).later
 
 pub next_keeps : (script : Script) (start next : Start) (nth : ℕ) (found after : List (Option OnLog)) (p : Program)
     → HasGroupRanges script → 1 ≤ script.turns → IsAgeOfChoice script start nth found p
@@ -206,8 +179,7 @@ front_at script start nth found after p m c ranges is k left at = record {
   front = (left-entries g w m c.entries (votes_of_age start.age c.votes) ((agreed g w k.group k.known).logged m present)
       (left_by_member script start nth found p m c is k (left.each m c at)).left).1;
   first = first-there g w (lists_with after) (lists_with after) []
-      (since_age script start nth found after p ranges is k left) m (as_lists c) present
-      (among_lists after m c at);
+      (since_age script start nth found after p ranges is k left) m (as_lists c) present (among_lists after m c at);
 }
   where
     g : Group
@@ -246,15 +218,10 @@ ages_within script start nth found after p m a c ranges is k left at = by
     by (inl (number, members, h)) = no-later (group_of script start) (world (group_of script start) p) m a number members
         k.group k.known f.present
         (prefix-in c.entries ((world (group_of script start) p).past.history m) (View a number members) f.front h)
-    by (inr (inl (x, h, e))) = omega (
-      arith,
-      (left_by_member script start nth found p m c is k l).votes x h,
-      e,
-    )
+    by (inr (inl (x, h, e))) = omega (arith, (left_by_member script start nth found p m c is k l).votes x h, e)
     by (inr (inr (x, h, e))) = omega (
       arith,
-      voted x (Contains-append_cases l.first.age_votes (age_vote_of start ∷ []) x
-          (subst (λ votes. Contains votes x)
+      voted x (Contains-append_cases l.first.age_votes (age_vote_of start ∷ []) x (subst (λ votes. Contains votes x)
           (age_votes_stay l.base l.member c (k.form.form m l.member l.there) l.leaves
           ∙ base_age_votes start l.first l.base l.opened) h)),
       e,
@@ -283,10 +250,8 @@ next_number script start next nth found after p ranges some is left chosen = by 
     later : start.age < next.age
     later = (kept_in script start next nth found after p ranges is k left chosen).later
 
-    by : (next.age ≡ 0)
-        ⊎ ((a : ℕ) × (m : ℕ) × (log : LogLists)
-        × (handed_by (all_as_lists after) m ≡ Some log) × HasAge log a × (next.age ≡ a + 1))
-        → next.age ≡ start.age + 1
+    by : (next.age ≡ 0) ⊎ ((a : ℕ) × (m : ℕ) × (log : LogLists) × (handed_by (all_as_lists after) m ≡ Some log)
+        × HasAge log a × (next.age ≡ a + 1)) → next.age ≡ start.age + 1
     by (inl none) = absurd (omega (arith, later, none))
     by (inr (a, m, log, at, has_age, e)) =
         let t = handed_there after m log (sym (handed_is after m) ∙ at) in

@@ -1,46 +1,28 @@
 -- Behind an age lasts what lasted before it, and all that a member of it knew to be durable.
+use Rattle.std.specs.{Option.option_map_or, Prelude.{Option, None, Some, slice_get}}
 use Rattle.std.proofs.Common.{◌≡◌, refl, ap, sym, ◌∙◌, subst, inl, ℕ, ◌≤◌, Bool, true, false, List, [], length, map, take}
-use Rattle.std.specs.Prelude.{Option, None, Some, slice_get}
-use Rattle.std.specs.Option.{option_map_or}
-use Rattle.dr_entry.specs.declared.end.MemberEnd.{MemberEnd}
-use Rattle.dr_entry.specs.declared.entry.Entry.{Entry}
-use Rattle.dr_history.specs.Agreement.{accounts_of}
-use Rattle.dr_history.specs.History.{IsPrefixOf}
-use Rattle.dr_history.specs.Members.{has}
-use Rattle.dr_history.specs.Soundness.{whole_roster}
+use Rattle.dr_entry.specs.declared.{end.MemberEnd.MemberEnd, entry.Entry.Entry}
+use Rattle.dr_history.specs.{Agreement.accounts_of, History.IsPrefixOf, Members.has, Soundness.whole_roster}
 use Rattle.dr_log_bytes.specs.Content.{OnLog}
-use Rattle.dr_machine.specs.Group.{Group, IsGroup, IsPresent}
-use Rattle.dr_machine.specs.Run.{IsReached}
-use Rattle.dr_machine.specs.World.{World}
-use Rattle.dr_program.specs.Program.{Program, end_at}
-use Rattle.dr_program.specs.Reading.{world}
-use Rattle.dr_restart.specs.declared.lists.LogLists.{LogLists}
-use Rattle.dr_restart.specs.declared.start.Start.{Start}
-use Rattle.dr_restart.specs.Choosing.{IsChosenStart, of_set}
-use Rattle.dr_restart.specs.Groups.{first_group_of, group_of}
-use Rattle.dr_restart.specs.Left.{AreLeft, IsLeftByOther}
-use Rattle.dr_script.specs.declared.script.Script.{Script}
-use Rattle.dr_script.specs.Ranges.{HasGroupRanges}
+use Rattle.dr_machine.specs.{Group.{Group, IsGroup, IsPresent}, Run.IsReached, World.World}
+use Rattle.dr_program.specs.{Program.{Program, end_at}, Reading.world}
+use Rattle.dr_restart.specs.{Choosing.{IsChosenStart, of_set}, Groups.{first_group_of, group_of}}
+use Rattle.dr_restart.specs.{Left.{AreLeft, IsLeftByOther}, declared.{lists.LogLists.LogLists, start.Start.Start}}
+use Rattle.dr_script.specs.{Ranges.HasGroupRanges, declared.script.Script.Script}
 use Rattle.dr_words.specs.Masks.{IsMajorityOf}
 use Rattle.dr_world_laws.proofs.Worlds.{known}
-use Rattle.dr_quorum_laws.specs.Lasting.{AreDurableIn, AreLasting, HoldSinceAge}
-use Rattle.dr_quorum_laws.proofs.Lasting.{last-kept, last-others, since-age, start-durable}
-use Rattle.dr_quorum_laws.proofs.Handing.{Since}
-use Rattle.dr_quorum_laws.proofs.Keeping.{since-left}
+use Rattle.dr_quorum_laws.{specs.Lasting.{AreDurableIn, AreLasting, HoldSinceAge}, proofs.Handing.Since}
+use Rattle.dr_quorum_laws.proofs.{Keeping.since-left, Lasting.{last-kept, last-others, since-age, start-durable}}
 use Rattle.dr_quorum_laws.proofs.Lists.{prefix-itself}
-use Rattle.dr_opening.specs.Tries.{content_at}
-use Rattle.dr_opening.proofs.Trying.{chosen_by}
-use Rattle.dr_kept.specs.Lasting.{HasLeftLogs}
-use Rattle.dr_kept.proofs.Behind.{AreLeftByOthers, held_behind, reached_behind}
-use Rattle.dr_kept.proofs.Chosen.{IsKnownAge, few, known_age, with_log}
-use Rattle.dr_kept.proofs.Following.{IsAccountOf, account_of}
+use Rattle.dr_opening.{specs.Tries.content_at, proofs.Trying.chosen_by}
+use Rattle.dr_kept.{specs.Lasting.HasLeftLogs, proofs.Behind.{AreLeftByOthers, held_behind, reached_behind}}
+use Rattle.dr_kept.proofs.{Chosen.{IsKnownAge, few, known_age, with_log}, Following.{IsAccountOf, account_of}}
 
 -- it began with what lasted
 pub start_has : (script : Script) (start : Start) (nth : ℕ) (p : Program) (es : List Entry)
     (before logs : List LogLists) → HasLeftLogs script start nth p before logs → AreLasting script es before
     → IsPrefixOf es start.entries
-start_has script start nth p es before logs a lasting =
-    last-kept script es before start.present start lasting
+start_has script start nth p es before logs a lasting = last-kept script es before start.present start lasting
     (chosen_by (first_group_of script).opening a.found before start a.is.chosen (few script a.ranges) a.among)
 
 -- the age was reached, with more than half of the roster
@@ -103,28 +85,25 @@ still_lasts script start nth p es before logs a lasting =
 -- and so does what a member knew to be durable
 pub durable_lasts : (script : Script) (start : Start) (nth : ℕ) (p : Program) (es : List Entry)
     (before logs : List LogLists) (m : ℕ) → HasLeftLogs script start nth p before logs → AreLasting script es before
-    → IsPresent (group_of script start) m
-    → AreLasting script (take (accounts_of (map end_at p.members) m).durable
+    → IsPresent (group_of script start) m → AreLasting script (take (accounts_of (map end_at p.members) m).durable
     (accounts_of (map end_at p.members) m).history) logs
-durable_lasts script start nth p es before logs m a lasting there =
-    inl (
-      start,
-      world g p,
-      hold_behind script start nth p es before logs a lasting,
-      (
-        m,
-        there,
-        subst (λ n. IsPrefixOf (take n (accounts_of (map end_at p.members) m).history)
-            (take ((world g p).past.durable m) ((world g p).past.history m))) (sym account.durable)
-            (subst (λ h. IsPrefixOf (take ((world g p).past.durable m) h)
-            (take ((world g p).past.durable m) ((world g p).past.history m))) (sym account.history)
-            (prefix-itself (take ((world g p).past.durable m) ((world g p).past.history m)))),
-      ),
-    )
+durable_lasts script start nth p es before logs m a lasting there = inl (
+  start,
+  world g p,
+  hold_behind script start nth p es before logs a lasting,
+  (
+    m,
+    there,
+    subst (λ n. IsPrefixOf (take n (accounts_of (map end_at p.members) m).history)
+        (take ((world g p).past.durable m) ((world g p).past.history m))) (sym account.durable)
+        (subst (λ h. IsPrefixOf (take ((world g p).past.durable m) h)
+        (take ((world g p).past.durable m) ((world g p).past.history m))) (sym account.history)
+        (prefix-itself (take ((world g p).past.durable m) ((world g p).past.history m)))),
+  ),
+)
   where
     g : Group
     g = group_of script start
 
     account : IsAccountOf (group_of script start) p m
-    account = account_of script start p m
-        (known_age script start nth a.found p a.ranges a.turns a.is) there
+    account = account_of script start p m (known_age script start nth a.found p a.ranges a.turns a.is) there

@@ -1,61 +1,40 @@
 -- What a member leaves on its log is what a stop may leave in the world of the program.
+use Rattle.std.{specs.Prelude.{None, slice_get}, proofs.lemmas.Option.{get_or_from_slice_get, slice_get_within}}
 use Rattle.std.proofs.Common.{◌≡◌, refl, ap, sym, ◌∙◌, ◌⊎◌, inl, inr, subst, ℕ, ◌+◌, ◌<◌, ◌≤◌, ◌==◌, arith, Bool, true, false, List, [], ◌∷◌, ◌++◌, append_assoc, filter, take, drop, Contains, Option, Some}
-use Rattle.std.specs.Prelude.{None, slice_get}
-use Rattle.std.proofs.lemmas.List.{take-append-drop, take_more}
-use Rattle.std.proofs.lemmas.List.Elements.{Contains-append_cases, filter-append}
-use Rattle.std.proofs.lemmas.Option.{get_or_from_slice_get, slice_get_within}
-use Rattle.dr_entry.specs.declared.entry.Entry.{Entry}
-use Rattle.dr_entry.specs.declared.record.Record.{Record}
+use Rattle.std.proofs.lemmas.List.{take-append-drop, take_more, Elements.{Contains-append_cases, filter-append}}
+use Rattle.dr_entry.specs.{declared.entry.Entry.Entry, declared.record.{Record.Record, Vote.Vote}}
 use Rattle.dr_entry.specs.declared.record.Record.TheVariants as records
-use Rattle.dr_entry.specs.declared.record.Vote.{Vote}
 use Rattle.dr_history.specs.History.{IsPrefixOf}
 use Rattle.dr_log_bytes.specs.Content.{OnLog, with_record}
-use Rattle.dr_machine.specs.Group.{Group}
-use Rattle.dr_machine.specs.World.{World}
-use Rattle.dr_program.proofs.Holdings.{Holding, held, held_of, holding_of}
-use Rattle.dr_program.specs.Form.{IsRunningMember}
-use Rattle.dr_program.specs.Program.{Program}
-use Rattle.dr_program.specs.Reading.{table_of, world}
-use Rattle.dr_program.specs.Replica.{Replica}
-use Rattle.dr_program.specs.Running.{Running}
-use Rattle.dr_restart.specs.declared.lists.LogLists.{LogLists}
-use Rattle.dr_restart.specs.declared.start.Start.{Start}
-use Rattle.dr_restart.specs.Groups.{group_of}
-use Rattle.dr_restart.specs.Left.{IsLeftByMember, MayLogVote, votes_of_age}
-use Rattle.dr_restart.specs.Trying.{age_vote_of}
+use Rattle.dr_machine.specs.{Group.Group, World.World}
+use Rattle.dr_program.specs.{Form.IsRunningMember, Program.Program, Reading.{table_of, world}, Replica.Replica}
+use Rattle.dr_program.{specs.Running.Running, proofs.Holdings.{Holding, held, held_of, holding_of}}
+use Rattle.dr_restart.specs.{Groups.group_of, Left.{IsLeftByMember, MayLogVote, votes_of_age}, Trying.age_vote_of}
+use Rattle.dr_restart.specs.declared.{lists.LogLists.LogLists, start.Start.Start}
 use Rattle.dr_script.specs.declared.script.Script.{Script}
 use Rattle.dr_quorum_laws.proofs.Lists.{in-cases, in-head, in-nothing, in-tail, read-in}
-use Rattle.dr_opening.specs.Contents.{IsOpenFor, voted_for}
-use Rattle.dr_opening.specs.Lists.{as_lists}
-use Rattle.dr_opening.proofs.Lists.{voted_lists}
+use Rattle.dr_opening.{specs.{Contents.{IsOpenFor, voted_for}, Lists.as_lists}, proofs.Lists.voted_lists}
 use Rattle.dr_opening.proofs.Ways.{rising_keeps, rising_votes}
 use Rattle.dr_kept.specs.Leaving.{HasJustLogged, IsAgeOfChoice, IsLeftAt, LeavesSo}
-use Rattle.dr_kept.proofs.Chosen.{IsKnownAge, age_above, member_at, replica_at, replicas_of}
 use Rattle.dr_kept.proofs.Appending.{MayCome, may_come}
-use Rattle.dr_kept.proofs.Voting.{vote_may}
+use Rattle.dr_kept.proofs.{Chosen.{IsKnownAge, age_above, member_at, replica_at, replicas_of}, Voting.vote_may}
 
 -- ---- filters that pass all, and none
 
-passes_none : {A : Type 0} (p : A → Bool) (xs : List A) → ((x : A) → Contains xs x → p x ≡ false)
-    → filter p xs ≡ []
+passes_none : {A : Type 0} (p : A → Bool) (xs : List A) → ((x : A) → Contains xs x → p x ≡ false) → filter p xs ≡ []
 passes_none p [] none = refl
-passes_none p (x ∷ xs) none =
-    rw (none x (in-head x xs), passes_none p xs (λ y c. none y (in-tail x y xs c))) refl
+passes_none p (x ∷ xs) none = rw (none x (in-head x xs), passes_none p xs (λ y c. none y (in-tail x y xs c))) refl
 
-passes_all : {A : Type 0} (p : A → Bool) (xs : List A) → ((x : A) → Contains xs x → p x ≡ true)
-    → filter p xs ≡ xs
+passes_all : {A : Type 0} (p : A → Bool) (xs : List A) → ((x : A) → Contains xs x → p x ≡ true) → filter p xs ≡ xs
 passes_all p [] all = refl
-passes_all p (x ∷ xs) all =
-    rw (all x (in-head x xs), passes_all p xs (λ y c. all y (in-tail x y xs c))) refl
+passes_all p (x ∷ xs) all = rw (all x (in-head x xs), passes_all p xs (λ y c. all y (in-tail x y xs c))) refl
 
 -- votes of earlier ages, and behind them those of the age
 of_age : (age : ℕ) (olds own : List Vote) → ((x : Vote) → Contains olds x → x.age < age)
     → ((x : Vote) → Contains own x → x.age ≡ age) → votes_of_age age (olds ++ own) ≡ own
-of_age age olds own before now =
-    filter-append (λ (x : Vote). x.age == age) olds own
-    ∙ ap (λ l. l ++ filter (λ (x : Vote). x.age == age) own)
-    (passes_none (λ (x : Vote). x.age == age) olds (λ x c. other x (before x c)))
-    ∙ passes_all (λ (x : Vote). x.age == age) own (λ x c. same x (now x c))
+of_age age olds own before now = filter-append (λ (x : Vote). x.age == age) olds own
+    ∙ ap (λ l. l ++ filter (λ (x : Vote). x.age == age) own) (passes_none (λ (x : Vote). x.age == age) olds
+    (λ x c. other x (before x c))) ∙ passes_all (λ (x : Vote). x.age == age) own (λ x c. same x (now x c))
   where
     other : (x : Vote) → x.age < age → (x.age == age) ≡ false
     other x l = grind (arith, l)
@@ -100,8 +79,7 @@ next_age_votes r records.Upgrade c may = absurd may
 pub age_votes_stay : (base : OnLog) (r : Running) (c : OnLog) → IsRunningMember r → LeavesSo base r c
     → c.age_votes ≡ base.age_votes
 age_votes_stay base r c form (inl just) = just.age_votes
-age_votes_stay base r c form (inr begun) =
-    ap (λ (d : OnLog). d.age_votes) begun.is
+age_votes_stay base r c form (inr begun) = ap (λ (d : OnLog). d.age_votes) begun.is
     ∙ next_age_votes r.replica begun.next begun.before (may_come r begun.next form begun.begun)
     ∙ begun.logged.age_votes
 
@@ -113,15 +91,13 @@ base_votes start first base opened = (rising_keeps start first base (inr (inr op
 
 pub base_age_votes : (start : Start) (first base : OnLog) → IsOpenFor start (voted_for start first) base
     → base.age_votes ≡ first.age_votes ++ age_vote_of start ∷ []
-base_age_votes start first base opened =
-    (rising_votes start (voted_for start first) base (inr (inr opened))).age_votes
-    ∙ ap (λ (l : LogLists). l.age_votes) (voted_lists (age_vote_of start) first)
+base_age_votes start first base opened = (rising_votes start (voted_for start first) base
+    (inr (inr opened))).age_votes ∙ ap (λ (l : LogLists). l.age_votes) (voted_lists (age_vote_of start) first)
 
 -- ---- the log of a member
 
 pub left_by_member : (script : Script) (start : Start) (nth : ℕ) (found : List (Option OnLog)) (p : Program) (m : ℕ)
-    (c : OnLog) → IsAgeOfChoice script start nth found p → IsKnownAge script start p
-    → IsLeftAt start found p m c
+    (c : OnLog) → IsAgeOfChoice script start nth found p → IsKnownAge script start p → IsLeftAt start found p m c
     → IsLeftByMember (group_of script start) (world (group_of script start) p) m (as_lists c)
 left_by_member script start nth found p m c is k l = by l.leaves
   where
@@ -173,8 +149,7 @@ left_by_member script start nth found p m c is k l = by l.leaves
         e,
         ap (λ es. es ++ e ∷ []) (j.entries ∙ sym log),
         subst (IsPrefixOf (d.entries ++ e ∷ [])) (sym history)
-            (subst (λ es. IsPrefixOf (es ++ e ∷ []) r.history) (sym j.entries)
-            (entry_more r.history r.logged e due)),
+            (subst (λ es. IsPrefixOf (es ++ e ∷ []) r.history) (sym j.entries) (entry_more r.history r.logged e due)),
         ap (votes_of_age start.age) j.votes ∙ of_age start.age l.base.votes r.votes olds own ∙ sym cast,
       ));
       votes = none_later start.age l.base.votes r.votes d.votes j.votes olds own;
@@ -211,8 +186,7 @@ left_by_member script start nth found p m c is k l = by l.leaves
 
     next_is : (next : Record) (d : OnLog) → HasJustLogged l.base l.member.replica d
         → MayCome l.member.replica next → l.member.replica.pending ≡ None
-        → IsLeftByMember (group_of script start) (world (group_of script start) p) m
-        (as_lists (with_record next d))
+        → IsLeftByMember (group_of script start) (world (group_of script start) p) m (as_lists (with_record next d))
     next_is (records.Entry e) d j may idle = entry e d j may
     next_is (records.Vote v) d j may idle = vote v d j
         (subst (MayLogVote g w m) (sym may.2) (vote_may g (replicas_of p) (table_of p) m r may.0
@@ -224,8 +198,7 @@ left_by_member script start nth found p m c is k l = by l.leaves
     by : LeavesSo l.base l.member c
         → IsLeftByMember (group_of script start) (world (group_of script start) p) m (as_lists c)
     by (inl j) = just j
-    by (inr b) =
-        subst (λ (d : OnLog). IsLeftByMember (group_of script start) (world (group_of script start) p) m (as_lists d))
-        (sym b.is) (next_is b.next b.before b.logged
-        (may_come l.member b.next (k.form.form m l.member l.there) b.begun)
+    by (inr b) = subst (λ (d : OnLog). IsLeftByMember
+        (group_of script start) (world (group_of script start) p) m (as_lists d)) (sym b.is)
+        (next_is b.next b.before b.logged (may_come l.member b.next (k.form.form m l.member l.there) b.begun)
         (k.idle m l.member b.next l.there b.begun))

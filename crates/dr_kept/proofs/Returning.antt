@@ -1,50 +1,27 @@
 -- What is on the same logs behind an age is refused only where no number is left.
-use Rattle.std.proofs.Common.{◌≡◌, refl, ap, sym, ◌∙◌, ◌⊎◌, inl, inr, subst, ℕ, ◌<◌, ◌≤◌, ◌&&◌, arith, true, List, [], length, Contains}
-use Rattle.std.proofs.Math.Path.{fun_ext}
-use Rattle.std.proofs.lemmas.Bool.{cases_lt}
-use Rattle.std.proofs.lemmas.Option.{none-some}
 use Rattle.std.specs.Prelude.{Option, None, Some, is_some, option_map}
-use Rattle.dr_entry.specs.declared.entry.Entry.{Entry}
-use Rattle.dr_entry.specs.declared.entry.Entry.TheVariants.{View}
-use Rattle.dr_entry.specs.declared.record.Vote.{Vote}
-use Rattle.dr_history.specs.History.{IsPrefixOf}
-use Rattle.dr_history.specs.Members.{has}
-use Rattle.dr_history.specs.Restarting.{AllStand, AreAlong}
-use Rattle.dr_history.specs.Soundness.{whole_roster}
-use Rattle.dr_history_laws.proofs.Keeping.{prefix_beside, prefix_then, front_of}
-use Rattle.dr_history_laws.proofs.Standing.{part-stands}
+use Rattle.std.proofs.Common.{◌≡◌, refl, ap, sym, ◌∙◌, ◌⊎◌, inl, inr, subst, ℕ, ◌<◌, ◌≤◌, ◌&&◌, arith, true, List, [], length, Contains}
+use Rattle.std.proofs.{Math.Path.fun_ext, lemmas.{Bool.cases_lt, Option.none-some}}
+use Rattle.dr_entry.specs.{declared.entry.Entry.{Entry, TheVariants.View}, declared.record.Vote.Vote}
+use Rattle.dr_history.specs.{History.IsPrefixOf, Members.has, Restarting.{AllStand, AreAlong}, Soundness.whole_roster}
+use Rattle.dr_history_laws.proofs.{Keeping.{prefix_beside, prefix_then, front_of}, Standing.part-stands}
 use Rattle.dr_log_bytes.specs.Content.{OnLog}
-use Rattle.dr_machine.proofs.Presence.{is_there}
-use Rattle.dr_machine.specs.Group.{Group, IsPresent}
-use Rattle.dr_machine.specs.World.{World}
-use Rattle.dr_program.specs.Program.{Program}
-use Rattle.dr_program.specs.Reading.{world}
-use Rattle.dr_restart.specs.declared.lists.LogLists.{LogLists}
-use Rattle.dr_restart.specs.declared.start.Start.{Start}
+use Rattle.dr_machine.{specs.{Group.{Group, IsPresent}, World.World}, proofs.Presence.is_there}
+use Rattle.dr_program.specs.{Program.Program, Reading.world}
 use Rattle.dr_restart.specs.Choosing.{AreFirst, AreOfHolders, AreOfNobody, AreOnHolder, EndsInAge, Handed, HasAge, HasQuorum, handed_of}
-use Rattle.dr_restart.specs.Groups.{first_group_of, group_of}
-use Rattle.dr_restart.specs.Refusing.{AreHoldersAlong, HaveNothingForeign, IsRefusedFor, Refusal}
-use Rattle.dr_restart.specs.Refusing.Refusal.{AgesUsedUp}
-use Rattle.dr_script.specs.declared.script.Script.{Script}
-use Rattle.dr_script.specs.Ranges.{HasGroupRanges}
+use Rattle.dr_restart.specs.{Groups.{first_group_of, group_of}, declared.{lists.LogLists.LogLists, start.Start.Start}}
+use Rattle.dr_restart.specs.Refusing.{AreHoldersAlong, HaveNothingForeign, IsRefusedFor, Refusal, Refusal.AgesUsedUp}
+use Rattle.dr_script.specs.{Ranges.HasGroupRanges, declared.script.Script.Script}
 use Rattle.dr_words.specs.Masks.{IsMajorityOf, mask_of}
 use Rattle.dr_quorum.specs.Handing.{handed_by}
-use Rattle.dr_quorum_laws.specs.Returning.{HasHandedIn, HaveReturned}
-use Rattle.dr_quorum_laws.proofs.AllThere.{returned-pass}
-use Rattle.dr_quorum_laws.proofs.ByMessages.{refused-by-messages}
-use Rattle.dr_quorum_laws.proofs.Ended.{first-in, no-later, stands}
-use Rattle.dr_quorum_laws.proofs.Extra.{vote-present}
-use Rattle.dr_quorum_laws.proofs.Handing.{Since, left-vote}
-use Rattle.dr_quorum_laws.proofs.LastViews.{last-view, view-come, view-late}
-use Rattle.dr_quorum_laws.proofs.Lists.{prefix-in}
-use Rattle.dr_quorum_laws.proofs.Refusals.{one-first}
-use Rattle.dr_opening.specs.Lists.{all_as_lists, as_lists}
-use Rattle.dr_opening.specs.Tries.{IsChosenOf, content_at}
-use Rattle.dr_opening.proofs.Lists.{handed_is}
-use Rattle.dr_kept.specs.Leaving.{AreLeftFrom, IsAgeOfChoice}
-use Rattle.dr_kept.proofs.Chosen.{IsKnownAge, few, has_log, known_age}
-use Rattle.dr_kept.proofs.Leaving.{left_by_member}
+use Rattle.dr_quorum_laws.{specs.Returning.{HasHandedIn, HaveReturned}, proofs.AllThere.returned-pass}
+use Rattle.dr_quorum_laws.proofs.{ByMessages.refused-by-messages, Ended.{first-in, no-later, stands}}
+use Rattle.dr_quorum_laws.proofs.{Extra.vote-present, Handing.{Since, left-vote}}
+use Rattle.dr_quorum_laws.proofs.{LastViews.{last-view, view-come, view-late}, Lists.prefix-in, Refusals.one-first}
+use Rattle.dr_opening.{specs.{Lists.{all_as_lists, as_lists}, Tries.{IsChosenOf, content_at}}, proofs.Lists.handed_is}
+use Rattle.dr_kept.{specs.Leaving.{AreLeftFrom, IsAgeOfChoice}, proofs.Chosen.{IsKnownAge, few, has_log, known_age}}
 use Rattle.dr_kept.proofs.Following.{IsFrontAt, ages_within, front_at, handed_there, lists_with, since_age}
+use Rattle.dr_kept.proofs.Leaving.{left_by_member}
 
 -- an age that has ended, and what is on the same logs behind it
 pub record IsBehindAge (script : Script) (start : Start) (nth : ℕ) (found after : List (Option OnLog)) (p : Program)
@@ -110,8 +87,7 @@ quorum_behind script start nth found after p b =
     some_lists (Some c) = refl
 
     is_there_both : (m : ℕ) → is_some (handed_from found m) ≡ is_some (handed_from after m)
-    is_there_both m =
-        ap is_some (handed_is found m) ∙ some_lists (content_at found m) ∙ sym (b.left.same m)
+    is_there_both m = ap is_some (handed_is found m) ∙ some_lists (content_at found m) ∙ sym (b.left.same m)
         ∙ sym (ap is_some (handed_is after m) ∙ some_lists (content_at after m))
 
     same : handed_of (handed_from found) (whole_roster (group_of script start).opening)
@@ -121,11 +97,9 @@ quorum_behind script start nth found after p b =
 -- of any two holders one is a front of the other
 along_behind : (script : Script) (start : Start) (nth : ℕ) (found after : List (Option OnLog)) (p : Program) (age : ℕ)
     → IsBehindAge script start nth found after p → AreHoldersAlong (handed_from after) age
-along_behind script start nth found after p age b f g x y =
-    beside_one f g since.held.history (part f x) (part g y)
+along_behind script start nth found after p age b f g x y = beside_one f g since.held.history (part f x) (part g y)
   where
-    since : Since (group_of script start) (world (group_of script start) p) (lists_with after) []
-        (lists_with after)
+    since : Since (group_of script start) (world (group_of script start) p) (lists_with after) [] (lists_with after)
     since = since_age script start nth found after p b.ranges b.is b.knows b.left
 
     part : (es : List Entry) → AreOnHolder (handed_from after) age es → IsPrefixOf es since.held.history
@@ -185,18 +159,15 @@ first_behind script start nth found after p age first b (es, (m, log, at, ends, 
     t = there_so script start nth found after p m log b at
 
     own : Contains es (View start.age 0 start.members)
-    own = subst (λ l. Contains l (View start.age 0 start.members))
-        (ap (λ (l : LogLists). l.entries) t.is ∙ sym e)
+    own = subst (λ l. Contains l (View start.age 0 start.members)) (ap (λ (l : LogLists). l.entries) t.is ∙ sym e)
         (first-in (group_of script start) t.content.entries t.front.first)
 
 returned : (script : Script) (start : Start) (nth : ℕ) (found after : List (Option OnLog)) (p : Program)
-    → IsBehindAge script start nth found after p
-    → HaveReturned (group_of script start).opening (handed_from after)
+    → IsBehindAge script start nth found after p → HaveReturned (group_of script start).opening (handed_from after)
 returned script start nth found after p b = record {
   enough = (sound_behind script start nth found after p b, quorum_behind script start nth found after p b);
   along = λ age last. along_behind script start nth found after p age b;
-  first = λ age first m last of there. back m
-      (is_there (group_of script start) m b.knows.group
+  first = λ age first m last of there. back m (is_there (group_of script start) m b.knows.group
       (subst (λ mask. has mask m ≡ true) (first_behind script start nth found after p age first b of) there));
   named = λ age k m log x last at c same l named. back m (voted k m log x at c
       (same ∙ age_behind script start nth found after p last.some.0 age last.some.1 b last.some.2 last.some.3) named);
@@ -235,8 +206,7 @@ refused_last script start nth found after p b (enough, path, m, log, at, has_age
 
 pub refused_behind : (script : Script) (start : Start) (nth : ℕ) (found after : List (Option OnLog)) (p : Program)
     (why : Refusal) → HasGroupRanges script → 1 ≤ script.turns → IsAgeOfChoice script start nth found p
-    → AreLeftFrom start found p after
-    → IsRefusedFor (first_group_of script).opening (handed_from after) why
+    → AreLeftFrom start found p after → IsRefusedFor (first_group_of script).opening (handed_from after) why
     → (why ≡ AgesUsedUp) × (start.age ≡ 65535)
 refused_behind script start nth found after p why ranges some is left x = (
   last,
@@ -245,12 +215,7 @@ refused_behind script start nth found after p why ranges some is left x = (
 )
   where
     b : IsBehindAge script start nth found after p
-    b = record {
-      ranges = ranges;
-      is = is;
-      knows = known_age script start nth found p ranges some is;
-      left = left;
-    }
+    b = record { ranges = ranges; is = is; knows = known_age script start nth found p ranges some is; left = left }
 
     refused : IsRefusedFor (group_of script start).opening (handed_from after) why
     refused = refused-by-messages (first_group_of script).opening (group_of script start).opening
@@ -283,12 +248,7 @@ pub next_has_all : (script : Script) (start next : Start) (nth : ℕ) (found aft
 next_has_all script start next nth found after p m c ranges some is left chosen at = by chosen.chosen.entries
   where
     b : IsBehindAge script start nth found after p
-    b = record {
-      ranges = ranges;
-      is = is;
-      knows = known_age script start nth found p ranges some is;
-      left = left;
-    }
+    b = record { ranges = ranges; is = is; knows = known_age script start nth found p ranges some is; left = left }
 
     ends : EndsInAge (as_lists c) start.age
     ends = ends_behind script start nth found after p m c b at
@@ -303,6 +263,5 @@ next_has_all script start next nth found after p m c ranges some is left chosen 
         held.last.some.2 held.last.some.3 in
         let own : AreOnHolder (handed_from after) held.age c.entries =
         (m, as_lists c, handed, (ends.0, ends.1, ends.2 ∙ sym last), refl) in
-        front_of c.entries next.entries (held.along c.entries next.entries own held.held)
-        (held.longest c.entries own)
+        front_of c.entries next.entries (held.along c.entries next.entries own held.held) (held.longest c.entries own)
     by (inr nobody) = absurd (none-some ends.0 (sym (nobody.nobody m (as_lists c) handed) ∙ ends.1))

@@ -1,24 +1,14 @@
 -- A vote that a member may cast, whose end is left out of account, may come.
-use Rattle.std.proofs.Common.{◌≡◌, refl, sym, ap, ◌∙◌, subst, ℕ, arith, true, List}
 use Rattle.std.specs.Prelude.{Option, None, Some}
-use Rattle.std.proofs.lemmas.Bool.{and_parts}
-use Rattle.dr_entry.specs.declared.record.Value.{Value}
-use Rattle.dr_entry.proofs.NumberFacts.{other_number, same_number}
+use Rattle.std.proofs.{Common.{◌≡◌, refl, sym, ap, ◌∙◌, subst, ℕ, arith, true, List}, lemmas.Bool.and_parts}
+use Rattle.dr_entry.{specs.declared.record.Value.Value, proofs.NumberFacts.{other_number, same_number}}
 use Rattle.dr_form.proofs.Beside.{beside_form}
-use Rattle.dr_machine.specs.Effects.{vote_for}
-use Rattle.dr_machine.specs.Group.{Group}
-use Rattle.dr_machine.specs.Guards.{CanLogVote}
-use Rattle.dr_machine.specs.World.{World}
-use Rattle.dr_machine.specs.Writes.{at}
-use Rattle.dr_program.proofs.Holdings.{Holding, changed_world, held, held_of, holding_of}
-use Rattle.dr_program.proofs.Present.{present_set, present_within}
-use Rattle.dr_program.proofs.Voting.{wedged_inside}
-use Rattle.dr_program.specs.Form.{HasForm, IsOf}
-use Rattle.dr_program.specs.Presence.{present_at, with_present}
-use Rattle.dr_program.specs.Reading.{Shared, world_of}
+use Rattle.dr_machine.specs.{Effects.vote_for, Group.Group, Guards.CanLogVote, World.World, Writes.at}
+use Rattle.dr_program.specs.{Form.{HasForm, IsOf}, Presence.{present_at, with_present}, Reading.{Shared, world_of}}
 use Rattle.dr_program.specs.Replica.{Replica, is_wedged, may_vote, vote_of}
-use Rattle.dr_refine.specs.Programs.{IsMember}
-use Rattle.dr_refine.proofs.Votes.{vote_guard}
+use Rattle.dr_program.proofs.Holdings.{Holding, changed_world, held, held_of, holding_of}
+use Rattle.dr_program.proofs.{Present.{present_set, present_within}, Voting.wedged_inside}
+use Rattle.dr_refine.{specs.Programs.IsMember, proofs.Votes.vote_guard}
 use Rattle.dr_restart.specs.Left.{MayLogVote, without_ends}
 
 -- a replica as if its member had no end
@@ -50,8 +40,7 @@ unended_of g m r of = record {
 
 -- the world of the replicas is that world
 unended_world : (g : Group) (rs : List (Option Replica)) (table : Shared) (m : ℕ) (r : Replica)
-    → present_at rs m ≡ Some r
-    → world_of g (with_present rs m (unended r)) table ≡ unended_in (world_of g rs table) m
+    → present_at rs m ≡ Some r → world_of g (with_present rs m (unended r)) table ≡ unended_in (world_of g rs table) m
 unended_world g rs table m r there =
     changed_world g rs table table m (unended r) (unended_in w m) (present_within rs m r there) (record {
       others = λ k other. rw (other_number k m other) refl;
@@ -113,8 +102,7 @@ vote_may g rs table m r v is idle may = (
   v,
   ends_aside g (world_of g rs table) m v
       (subst (λ (w : World). CanLogVote g w m v) (unended_world g rs table m r is.there)
-      ((vote_guard g (with_present rs m (unended r)) table m (unended r) v
-      (unended_member g rs table m r is)
+      ((vote_guard g (with_present rs m (unended r)) table m (unended r) v (unended_member g rs table m r is)
       (refl, idle, wedged_inside r is.form (and_parts (is_wedged r) _ may).0)).0 may)),
   vote_is g rs table m r v is,
 )

@@ -1,35 +1,23 @@
 -- Where an append of a member has begun, or has failed, no vote of it waits to be acted on, also as it has ended
 -- by that.
+use Rattle.std.{specs.Prelude.{Option, None, Some, is_some, option_map}, proofs.lemmas.Option.same_Some}
 use Rattle.std.proofs.Common.{◌≡◌, refl, sym, ap, ◌∙◌, subst, inl, inr, ℕ, ◌≤◌, false, List, []}
-use Rattle.std.specs.Prelude.{Option, None, Some, is_some, option_map}
-use Rattle.dr_entry.specs.declared.entry.Entry.{Entry}
-use Rattle.std.proofs.lemmas.Option.{same_Some}
-use Rattle.dr_entry.specs.declared.end.End.{End}
-use Rattle.dr_entry.specs.declared.end.End.TheVariants.{DiskFault}
+use Rattle.dr_entry.specs.declared.{end.End.{End, TheVariants.DiskFault}, entry.Entry.Entry}
 use Rattle.dr_entry.specs.declared.record.Record.{Record}
 use Rattle.dr_machine.specs.Group.{Group, IsGroup}
-use Rattle.dr_program.specs.declared.outcome.LogWhy.{LogWhy}
-use Rattle.dr_program.specs.declared.outcome.LogWhy.TheVariants as whys
-use Rattle.dr_program.specs.declared.place.Part.{Part}
-use Rattle.dr_program.specs.declared.setup.Setup.{Setup}
-use Rattle.dr_program.specs.Form.{IsRunningMember}
-use Rattle.dr_program.specs.Presence.{present_at}
+use Rattle.dr_program.{specs.{Form.IsRunningMember, Steps.{IsAppend, stepped}}, proofs.Present.present_map}
+use Rattle.dr_program.{specs.Presence.present_at, proofs.Runs.after_either}
 use Rattle.dr_program.specs.Program.{AreSetups, IsRanFrom, Move, Program, after_deed, begun_program, letter_for, moved_by, next_sight, ran, step_of}
 use Rattle.dr_program.specs.Running.{Running, WaitsAt, after_step, begun_running, broken_off, next_step, settled, step_at, took, took_letter}
-use Rattle.dr_program.specs.Steps.{IsAppend, stepped}
-use Rattle.dr_program.specs.Turn.{part_of}
-use Rattle.dr_program.proofs.Present.{present_map}
-use Rattle.dr_program.proofs.Runs.{after_either}
-use Rattle.dr_refine.specs.Programs.{IsProgram}
-use Rattle.dr_refine.proofs.Deeds.{rest_changes_nothing, step_is}
+use Rattle.dr_program.specs.{Turn.part_of, declared.{outcome.LogWhy.LogWhy, place.Part.Part, setup.Setup.Setup}}
+use Rattle.dr_program.specs.declared.outcome.LogWhy.TheVariants as whys
+use Rattle.dr_refine.{specs.Programs.IsProgram, proofs.Deeds.{rest_changes_nothing, step_is}}
 use Rattle.dr_refine.proofs.Steps.{begun_is_program}
 use Rattle.dr_turn.proofs.Search.{settle_only}
 use Rattle.dr_program_laws.specs.Failing.{AreFailing, EndsBy, IsFailing, has_log_end}
-use Rattle.dr_program_laws.proofs.Failing.{all_fail, move_fails}
-use Rattle.dr_program_laws.proofs.Keeping.{begun_reached, take_leaves}
+use Rattle.dr_program_laws.proofs.{Failing.{all_fail, move_fails}, Keeping.{begun_reached, take_leaves}}
 use Rattle.dr_program_laws.proofs.Programs.{ran_keeps, replaced_either}
-use Rattle.dr_kept.specs.Leaving.{HasBegunAppend, HasDiskFailed}
-use Rattle.dr_kept.proofs.Appending.{append_next}
+use Rattle.dr_kept.{specs.Leaving.{HasBegunAppend, HasDiskFailed}, proofs.Appending.append_next}
 
 -- no vote waits where an append has failed
 abbrev IsIdleFailed : Running → Type 0
@@ -43,19 +31,16 @@ idle_at : (r : Running) (part : Part) (i c : ℕ) → IsAppend (step_at r part i
     → r.replica.pending ≡ None
 idle_at r part i c due (inl none) = none
 idle_at r part i c due (inr (inl propose)) = absurd (subst (λ p. IsAppend (step_at r p i c)) propose due)
-idle_at r part i c due (inr (inr (accept, other))) =
-    absurd (subst (λ p. IsAppend (step_at r p i c)) accept due)
+idle_at r part i c due (inr (inr (accept, other))) = absurd (subst (λ p. IsAppend (step_at r p i c)) accept due)
 
 breaks_idle : (why : LogWhy) (r : Running) → IsRunningMember r → IsAppend (next_step r)
     → IsIdleFailed (broken_off why r)
-breaks_idle why r member due reason failed =
-    idle_at r (part_of r.place) r.place.row r.place.column due member.free
+breaks_idle why r member due reason failed = idle_at r (part_of r.place) r.place.row r.place.column due member.free
 
 -- a member whose append has failed ends by it, and no vote comes to wait
 takes_idle : (word : ℕ) (r : Running) → r.replica.end ≡ None → IsFailing r → IsIdleFailed r
     → IsIdleFailed (after_step word r)
-takes_idle word r none is idle why failed =
-    ap (λ (x : Running). x.replica.pending) only ∙ by (is.broken why was)
+takes_idle word r none is idle why failed = ap (λ (x : Running). x.replica.pending) only ∙ by (is.broken why was)
   where
     only : after_step word r ≡ record (took word r (next_step r)) { place = (after_step word r).place }
     only = settle_only _ (took word r (next_step r))
@@ -79,8 +64,7 @@ move_idle p e g is failing all = by (present_at p.members e.member) refl
   where
     at : (r : Running) → present_at p.members e.member ≡ Some r → (o : Option End) → r.replica.end ≡ o
         → AreIdleFailed (step_of p e)
-    at r there (Some x) ended = subst AreIdleFailed
-        (sym (rest_changes_nothing p e r there (ap is_some ended))) all
+    at r there (Some x) ended = subst AreIdleFailed (sym (rest_changes_nothing p e r there (ap is_some ended))) all
     at r there None unended = subst AreIdleFailed (sym (step_is p e r there unended)) (λ m y found.
         elim (replaced_either p.members e.member r
         (after_deed (next_sight p.table r) (letter_for p e.member) e.outcome r (next_step r)) there m y found) [
@@ -114,8 +98,7 @@ begun_failing g turns setups group some are m r there =
 
 all_idle : (g : Group) (turns : ℕ) (setups : List (Option Setup)) (p : Program) → IsGroup g → 1 ≤ turns
     → AreSetups g turns setups → IsRanFrom (begun_program g setups) p → AreFailing p × AreIdleFailed p
-all_idle g turns setups p group some are (es, is) =
-    subst (λ q. AreFailing q × AreIdleFailed q) (sym is)
+all_idle g turns setups p group some are (es, is) = subst (λ q. AreFailing q × AreIdleFailed q) (sym is)
     (ran_keeps g (λ q. AreFailing q × AreIdleFailed q) (begun_program g setups) es group
     (begun_is_program g turns setups group some are) (begun_reached g turns setups group are)
     (λ q e form both. (move_fails g q e form both.0, move_idle q e g form both.0 both.1))

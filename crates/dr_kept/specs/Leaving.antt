@@ -1,21 +1,15 @@
 -- What an age leaves on the logs of its members, by what was on them as it opened.
 use Rattle.std.specs.Prelude.{◌≡◌, ◌⊎◌, ℕ, List, ◌++◌, length, take, Option, Some, is_some}
-use Rattle.dr_entry.specs.declared.end.End.TheVariants.{DiskFault}
-use Rattle.dr_entry.specs.declared.record.Record.{Record}
+use Rattle.dr_entry.specs.{declared.end.End.TheVariants.DiskFault, declared.record.Record.Record}
 use Rattle.dr_log_bytes.specs.Content.{OnLog, with_record}
-use Rattle.dr_logged.specs.Served.{IsRecordDue}
+use Rattle.dr_served.specs.Served.{IsRecordDue}
 use Rattle.dr_program.specs.declared.deed.Deed.TheVariants as deeds
 use Rattle.dr_program.specs.declared.outcome.LogWhy.TheVariants as whys
-use Rattle.dr_program.specs.Presence.{present_at}
-use Rattle.dr_program.specs.Program.{IsRanFrom, Program}
-use Rattle.dr_program.specs.Replica.{Replica}
+use Rattle.dr_program.specs.{Presence.present_at, Program.{IsRanFrom, Program}, Replica.Replica}
 use Rattle.dr_program.specs.Running.{Running, next_deed}
-use Rattle.dr_restart.specs.declared.start.Start.{Start}
-use Rattle.dr_restart.specs.Groups.{first_group_of}
-use Rattle.dr_restart.specs.Setups.{IsBegun}
+use Rattle.dr_restart.specs.{Groups.first_group_of, Setups.IsBegun, declared.start.Start.Start}
 use Rattle.dr_script.specs.declared.script.Script.{Script}
-use Rattle.dr_opening.specs.Contents.{IsOpenFor, voted_for}
-use Rattle.dr_opening.specs.Tries.{IsChosenOf, content_at}
+use Rattle.dr_opening.specs.{Contents.{IsOpenFor, voted_for}, Tries.{IsChosenOf, content_at}}
 
 -- on a log that was open with `base` stands just what its member, which stands so, has logged: the
 -- first entries of its history, and its votes behind those that were there

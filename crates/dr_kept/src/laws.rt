@@ -1,36 +1,21 @@
 //! Laws of ages that come one after the other.
 ghost use Rattle.std.specs.Prelude.{◌≡◌, ◌≤◌, ◌+◌, [], ℕ, false, length, List, map, Option, slice_get, Some, take};
 ghost use Rattle.dr_entry.specs.declared.entry.Entry.{Entry};
-ghost use Rattle.dr_history.specs.Agreement.{accounts_of};
-ghost use Rattle.dr_history.specs.History.{IsPrefixOf};
-ghost use Rattle.dr_history.specs.Members.{has};
-ghost use Rattle.dr_history.specs.Order.{first_entries};
-ghost use Rattle.dr_history.specs.Restarting.{Kept};
-ghost use Rattle.dr_history.specs.Soundness.{whole_roster};
+ghost use Rattle.dr_history.specs.{Agreement.accounts_of, History.IsPrefixOf, Members.has, Order.first_entries};
+ghost use Rattle.dr_history.specs.{Restarting.Kept, Soundness.whole_roster};
 ghost use Rattle.dr_log_bytes.specs.Content.{OnLog};
-ghost use Rattle.dr_machine.specs.Group.{IsGroup, IsPresent};
-ghost use Rattle.dr_machine.specs.Run.{IsReached};
-ghost use Rattle.dr_machine.specs.World.{World};
-ghost use Rattle.dr_program.specs.Program.{Program, end_at};
-ghost use Rattle.dr_program.specs.Reading.{world};
-ghost use Rattle.dr_restart.specs.declared.lists.Attempt.{Attempt};
-ghost use Rattle.dr_restart.specs.declared.lists.LogLists.{LogLists};
-ghost use Rattle.dr_restart.specs.declared.start.Start.{Start};
-ghost use Rattle.dr_restart.specs.Groups.{first_group_of, group_of};
-ghost use Rattle.dr_restart.specs.Left.{AreLeft, IsLeftByOther};
-ghost use Rattle.dr_restart.specs.Refusing.{IsRefusedFor, Refusal};
-ghost use Rattle.dr_restart.specs.Refusing.Refusal.{AgesUsedUp};
-ghost use Rattle.dr_restart.specs.Trying.{IsTry};
-ghost use Rattle.dr_script.specs.declared.script.Script.{Script};
-ghost use Rattle.dr_script.specs.Ranges.{HasGroupRanges};
+ghost use Rattle.dr_machine.specs.{Group.{IsGroup, IsPresent}, Run.IsReached, World.World};
+ghost use Rattle.dr_program.specs.{Program.{Program, end_at}, Reading.world};
+ghost use Rattle.dr_restart.specs.{Groups.{first_group_of, group_of}, Left.{AreLeft, IsLeftByOther}};
+ghost use Rattle.dr_restart.specs.{Refusing.{IsRefusedFor, Refusal, Refusal.AgesUsedUp}, Trying.IsTry};
+ghost use Rattle.dr_restart.specs.declared.{lists.{Attempt.Attempt, LogLists.LogLists}, start.Start.Start};
+ghost use Rattle.dr_script.specs.{Ranges.HasGroupRanges, declared.script.Script.Script};
 ghost use Rattle.dr_words.specs.Masks.{IsMajorityOf};
 ghost use Rattle.dr_quorum.specs.Handing.{handed_by};
 ghost use Rattle.dr_quorum_laws.specs.Holding.{AreSoundTries, HaveNoLaterVotes, HoldSince};
 ghost use Rattle.dr_quorum_laws.specs.Lasting.{AreLasting, HoldSinceAge};
-ghost use Rattle.dr_opening.specs.Lists.{all_as_lists};
-ghost use Rattle.dr_opening.specs.Tries.{AreAmong, IsChosenOf};
-ghost use Rattle.dr_kept.specs.Lasting.{HasLeftLogs};
-ghost use Rattle.dr_kept.specs.Leaving.{AreLeftFrom, IsAgeOfChoice};
+ghost use Rattle.dr_opening.specs.{Lists.all_as_lists, Tries.{AreAmong, IsChosenOf}};
+ghost use Rattle.dr_kept.specs.{Lasting.HasLeftLogs, Leaving.{AreLeftFrom, IsAgeOfChoice}};
 
 /// An age that began with what was chosen of some logs is one of a group, in a world that is reached, and more
 /// than half of the roster is there in it. Wherever its members stop, the logs of all members of the roster are

@@ -4,9 +4,8 @@
 //! to 64. Each takes whole blocks of words at once, and then the rest one by one.
 #![tactic(auto)]
 
+ghost use Rattle.std.specs.{Int.bit_at, Simd.Lanes.{chunk, mask_l}};
 ghost use Rattle.std.specs.Prelude.{◌≡◌, ℕ, ◌+◌, ◌==◌, ◌<◌, ◌≤◌, ◌↔◌, if◌then◌else◌, All, Contains, EachIndex, count_by, length, map, nat_lt, slice_index};
-ghost use Rattle.std.specs.Int.{bit_at};
-ghost use Rattle.std.specs.Simd.Lanes.{chunk, mask_l};
 
 use std::simd::prelude::*;
 

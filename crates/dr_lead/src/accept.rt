@@ -1,7 +1,5 @@
 ghost use Rattle.std.specs.Prelude.{◌↔◌, IsTrue, MatchOption};
-ghost use Rattle.dr_lead.specs.Accepts.{RowShows, promise_of};
-ghost use Rattle.dr_lead.specs.Changes.{MayAccept};
-ghost use Rattle.dr_lead.specs.Standings.{IsStanding};
+ghost use Rattle.dr_lead.specs.{Accepts.{RowShows, promise_of}, Changes.MayAccept, Standings.IsStanding};
 
 use crate::Standing;
 use crate::accepts::{all_tag, promise, shown, tag};

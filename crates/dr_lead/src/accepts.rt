@@ -1,7 +1,6 @@
 //! What the accept words of a row say.
 ghost use Rattle.std.specs.Prelude.{◌≡◌, ◌<◌, ◌↔◌, IsTrue};
-ghost use Rattle.dr_words.specs.Masks.{IsInRoster};
-ghost use Rattle.dr_words.specs.Packing.{accept_value};
+ghost use Rattle.dr_words.specs.{Masks.IsInRoster, Packing.accept_value};
 ghost use Rattle.dr_pred.specs.Group.{IsOfShape};
 ghost use Rattle.dr_lead.specs.Accepts.{AllPromise, AllTag, RowShows, promise_of, tag_of, trim_word};
 

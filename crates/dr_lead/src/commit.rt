@@ -1,8 +1,6 @@
 ghost use Rattle.std.specs.Prelude.{◌↔◌, IsTrue, MatchOption};
 ghost use Rattle.dr_words.specs.Masks.{IsMajorityOf};
-ghost use Rattle.dr_lead.specs.Accepts.{RowShows};
-ghost use Rattle.dr_lead.specs.Changes.{MayCommit, tagged_members};
-ghost use Rattle.dr_lead.specs.Standings.{IsStanding};
+ghost use Rattle.dr_lead.specs.{Accepts.RowShows, Changes.{MayCommit, tagged_members}, Standings.IsStanding};
 
 use crate::Standing;
 use crate::accepts::{shown, tag};

@@ -1,11 +1,9 @@
 ghost use Rattle.std.specs.Prelude.{◌≡◌, ℕ, ◌↔◌, true, IsTrue, MatchOption};
 ghost use Rattle.dr_history.specs.Members.{has};
 ghost use Rattle.dr_words.specs.Masks.{IsInRoster};
-ghost use Rattle.dr_pred.specs.Group.{IsOfShape};
-ghost use Rattle.dr_pred.specs.Watches.{AllCountsFinal};
-ghost use Rattle.dr_lead.specs.Accepts.{AllPromise};
+ghost use Rattle.dr_pred.specs.{Group.IsOfShape, Watches.AllCountsFinal};
+ghost use Rattle.dr_lead.specs.{Accepts.AllPromise, Standings.{IsStanding, unsuspected}};
 ghost use Rattle.dr_lead.specs.Changes.{IsFirstValue, IsHighest, IsProposal, IsUntagged, MayPropose};
-ghost use Rattle.dr_lead.specs.Standings.{IsStanding, unsuspected};
 
 use crate::Standing;
 use crate::accepts::{all_promise, promise, shown, tag};

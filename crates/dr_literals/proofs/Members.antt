@@ -1,7 +1,6 @@
 -- Lists of members, number by number.
+use Rattle.std.specs.{Option.option_and_then, Prelude.{Option, None, Some}}
 use Rattle.std.proofs.Common.{◌≡◌, ℕ, ◌+◌, ◌<◌, ◌≤◌, List, ◌∷◌, length, drop, get_or, ap, sym, ◌∙◌}
-use Rattle.std.specs.Prelude.{Option, None, Some}
-use Rattle.std.specs.Option.{option_and_then}
 use Rattle.std.proofs.lemmas.List.{drop_all, drop_more}
 use Rattle.dr_words.specs.Masks.{with_member}
 use Rattle.dr_literals.specs.Literals.{member_word, with_words}
@@ -10,8 +9,7 @@ use Rattle.dr_literals.specs.Literals.{member_word, with_words}
 by_word : (mask least i : ℕ) (w : List ℕ) (words : List (List ℕ)) (n : Option ℕ) → i < length words
     → w ≡ get_or words i w → n ≡ member_word least w → with_words mask least (drop i words)
     ≡ option_and_then (λ k. with_words (with_member mask k) (k + 1) (drop (i + 1) words)) n
-by_word mask least i w words n within here is =
-    ap (with_words mask least) (drop_more words i w within)
+by_word mask least i w words n within here is = ap (with_words mask least) (drop_more words i w within)
     ∙ ap (λ x. with_words mask least (x ∷ drop (i + 1) words)) (sym here)
     ∙ ap (option_and_then (λ k. with_words (with_member mask k) (k + 1) (drop (i + 1) words))) (sym is)
 
@@ -19,8 +17,7 @@ by_word mask least i w words n within here is =
 pub member_more : (mask more least i n : ℕ) (w : List ℕ) (words : List (List ℕ)) → i < length words
     → w ≡ get_or words i w → Some n ≡ member_word least w → more ≡ with_member mask n
     → with_words mask least (drop i words) ≡ with_words more (n + 1) (drop (i + 1) words)
-member_more mask more least i n w words within here is grown =
-    by_word mask least i w words (Some n) within here is
+member_more mask more least i n w words within here is grown = by_word mask least i w words (Some n) within here is
     ∙ ap (λ k. with_words k (n + 1) (drop (i + 1) words)) (sym grown)
 
 -- a word that writes none leaves no mask

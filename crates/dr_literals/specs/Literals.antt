@@ -1,7 +1,6 @@
 -- What words write: numbers in decimal, keys in hexadecimal, and lists of members.
+use Rattle.std.specs.{List.slice_split, Option.option_and_then}
 use Rattle.std.specs.Prelude.{ℕ, ◌+◌, ◌*◌, ◌-◌, ◌^◌, ◌==◌, ◌&&◌, Bool, true, false, not, nat_le, nat_lt, if◌then◌else◌, List, [], ◌∷◌, length, Option, None, Some}
-use Rattle.std.specs.List.{slice_split}
-use Rattle.std.specs.Option.{option_and_then}
 use Rattle.dr_entry.specs.declared.limits.TheConstants.{MAX_MEMBERS}
 use Rattle.dr_words.specs.Masks.{with_member}
 

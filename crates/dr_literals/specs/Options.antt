@@ -1,6 +1,6 @@
 -- What options write in words.
-use Rattle.std.specs.Prelude.{ℕ, ◌==◌, if◌then◌else◌, List, [], ◌∷◌, length, take, drop, codes, bytes_eq, Option, None, Some, option_map}
 use Rattle.std.specs.Option.{option_and_then}
+use Rattle.std.specs.Prelude.{ℕ, ◌==◌, if◌then◌else◌, List, [], ◌∷◌, length, take, drop, codes, bytes_eq, Option, None, Some, option_map}
 use Rattle.dr_literals.specs.Literals.{mask_word}
 
 -- ---- options, each in two spellings: `--NAME VALUE` and `--NAME=VALUE`

@@ -1,28 +1,20 @@
 -- What an age starts with is chosen whether the messages have grown since or not.
 use Rattle.std.proofs.Common.{◌≡◌, ◌∙◌, subst, ℕ, ◌-◌, ◌^◌, List, length, Option}
-use Rattle.dr_ages.proofs.Good.{IsGood, stands_there}
-use Rattle.dr_ages.specs.Found.{AreFound}
-use Rattle.dr_ages.specs.Stops.{AreRefusedFor}
+use Rattle.dr_ages.{specs.{Found.AreFound, Stops.AreRefusedFor}, proofs.Good.{IsGood, stands_there}}
 use Rattle.dr_log_bytes.specs.Content.{OnLog}
-use Rattle.dr_opening.specs.Lists.{all_as_lists}
-use Rattle.dr_opening.specs.Tries.{IsChosenOf}
+use Rattle.dr_opening.specs.{Lists.all_as_lists, Tries.IsChosenOf}
 use Rattle.dr_quorum.specs.Handing.{handed_by}
-use Rattle.dr_restart.specs.declared.start.Start.{Start}
-use Rattle.dr_restart.specs.Choosing.{Handed, HasQuorum, handed_of}
-use Rattle.dr_restart.specs.Groups.{first_group_of}
-use Rattle.dr_restart.specs.Refusing.{HasPath}
-use Rattle.dr_restart.specs.Refusing.Refusal.{AgesUsedUp}
+use Rattle.dr_restart.specs.{Choosing.{Handed, HasQuorum, handed_of}, Groups.first_group_of, Refusing.HasPath}
+use Rattle.dr_restart.{specs.{Refusing.Refusal.AgesUsedUp, declared.start.Start.Start}, proofs.Choosing.held_beside}
 use Rattle.dr_script.specs.declared.script.Script.{Script}
 use Rattle.dr_senders.specs.Senders.{Lists}
 use Rattle.dr_yard.specs.Yards.{YardState}
-use Rattle.dr_restart.proofs.Choosing.{held_beside}
 use Rattle.dr_live.specs.Live.{plan_with}
 
 -- what is chosen with the messages of one age is chosen with those of the age before, which were fewer
 pub chosen_before : (plan : Script) (old new : Lists) (yard : YardState) (contents : List (Option OnLog))
     (start : Start) → length new ≡ length old → IsGood (plan_with plan old) yard
-    → AreFound plan.members 0 yard contents
-    → IsChosenOf (first_group_of (plan_with plan new)).opening contents start
+    → AreFound plan.members 0 yard contents → IsChosenOf (first_group_of (plan_with plan new)).opening contents start
     → IsChosenOf (first_group_of (plan_with plan old)).opening contents start
 chosen_before plan old new yard contents start same good found is = record {
   all = is.all ∙ same;
@@ -52,8 +44,7 @@ used_before plan old new yard contents same good found used = (
     subst (λ (n : ℕ). HasQuorum h (2 ^ n - 1)) same used.0.1,
   ),
   λ age last.
-      let r = used.1 age last in
-      (r.0, λ first are. subst (λ (n : ℕ). HasPath n h age first) same (r.1 first are)),
+      let r = used.1 age last in (r.0, λ first are. subst (λ (n : ℕ). HasPath n h age first) same (r.1 first are)),
   used.2,
   used.3,
   used.4,

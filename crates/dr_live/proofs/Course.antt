@@ -1,33 +1,20 @@
 -- The ages of a live group, from the first on.
+use Rattle.std.{specs.Prelude.{All, Option}, proofs.Math.Path.fun_ext}
 use Rattle.std.proofs.Common.{◌≡◌, refl, sym, ap, ◌∙◌, subst, ℕ, zero, suc, ◌+◌, ◌<◌, ◌≤◌, arith, le_trans, le_refl, List, [], ◌∷◌, ◌++◌, length, Some, slice_get}
-use Rattle.std.specs.Prelude.{All, Option}
-use Rattle.std.proofs.Math.Path.{fun_ext}
-use Rattle.std.proofs.lemmas.List.Elements.{All-append, All-cons, All-head, All-nil, All-tail}
-use Rattle.std.proofs.lemmas.Option.{same_Some}
-use Rattle.dr_age.specs.Logged.{NoneFull}
-use Rattle.dr_ages.proofs.Fresh.{IsRoomyAt, fresh_first, fresh_start, roomy_ages, roomy_next, roomy_stop}
-use Rattle.dr_ages.proofs.Keeping.{IsBehind, behind, left_from, of_choice, over_behind}
-use Rattle.dr_ages.specs.Ages.{AreAges, IsAgeOf, all_but, opening_of, start_of}
-use Rattle.dr_ages.specs.Runs.{HasFinished}
-use Rattle.dr_ages.specs.Stops.{HasStopped, IsOutside}
-use Rattle.dr_ages.specs.declared.mode.Mode.TheVariants.{Run}
-use Rattle.dr_ages.specs.declared.stop.Stop.{Stop}
+use Rattle.std.proofs.lemmas.{List.Elements.{All-append, All-cons, All-head, All-nil, All-tail}, Option.same_Some}
+use Rattle.dr_play.specs.Logged.{NoneFull}
+use Rattle.dr_ages.specs.{Ages.{AreAges, IsAgeOf, all_but, opening_of, start_of}, Runs.HasFinished}
+use Rattle.dr_ages.specs.{Stops.{HasStopped, IsOutside}, declared.{mode.Mode.TheVariants.Run, stop.Stop.Stop}}
 use Rattle.dr_ages.specs.declared.stop.Stop.TheVariants.{OutOfMemory, DiskFault, LogFull, Damaged, Disagree, Foreign, NoQuorum, AgesUsedUp}
-use Rattle.dr_disk.specs.Calls.{at_rest}
-use Rattle.dr_disk.specs.Disk.{Now, Told}
-use Rattle.dr_disk.specs.Memory.{CalmState}
-use Rattle.dr_entry.specs.declared.end.AgeEnd.{AgeEnd}
-use Rattle.dr_entry.specs.declared.end.MemberEnd.{MemberEnd}
-use Rattle.dr_history.specs.Agreement.{accounts_of}
-use Rattle.dr_history.specs.Restarting.{Kept}
+use Rattle.dr_ages.proofs.Fresh.{IsRoomyAt, fresh_first, fresh_start, roomy_ages, roomy_next, roomy_stop}
+use Rattle.dr_ages.proofs.{Keeping.{IsBehind, behind, left_from, of_choice, over_behind}, Runs.none_lacks}
+use Rattle.dr_disk.specs.{Calls.at_rest, Disk.{Now, Told}, Memory.CalmState}
+use Rattle.dr_entry.specs.declared.end.{AgeEnd.AgeEnd, MemberEnd.MemberEnd}
+use Rattle.dr_history.specs.{Agreement.accounts_of, Restarting.Kept}
 use Rattle.dr_kept.proofs.Following.{next_keeps}
-use Rattle.dr_script.specs.declared.script.Script.{Script}
-use Rattle.dr_script.specs.Ranges.{HasRanges}
-use Rattle.dr_senders.proofs.Growth.{grown_same}
-use Rattle.dr_senders.specs.Senders.{HaveGrown, Lists}
-use Rattle.dr_yard.specs.Places.{place_told}
-use Rattle.dr_yard.specs.Yards.{YardState, empty_yard}
-use Rattle.dr_ages.proofs.Runs.{none_lacks}
+use Rattle.dr_script.specs.{Ranges.HasRanges, declared.script.Script.Script}
+use Rattle.dr_senders.{specs.Senders.{HaveGrown, Lists}, proofs.Growth.grown_same}
+use Rattle.dr_yard.specs.{Places.place_told, Yards.{YardState, empty_yard}}
 use Rattle.dr_live.specs.Live.{AreGrowing, AreLiveAges, AreReadyFor, AreUnderWay, AreUpTo, BeginsAnew, KeepEachOther, OpensAlways, calm_yard, plan_with}
 use Rattle.dr_live.proofs.Choosing.{chosen_before}
 use Rattle.dr_live.proofs.Growing.{growing_last, growing_more, growing_one, growing_tail, roomy_grown}
@@ -61,14 +48,12 @@ pub empty_rooms : (plan : Script) (taken : List Lists) → HaveRoom plan taken 0
 empty_rooms plan taken lists at = fresh_first (plan_with plan lists) empty_yard (λ m l. refl)
 
 -- and those behind one more age
-room_next : (plan : Script) (lists : Lists) (taken : List Lists) (k : ℕ) (before after : YardState)
-    (age : AgeEnd) → HasRanges (plan_with plan lists) → AreGrowing (lists ∷ taken)
-    → HaveRoom plan (lists ∷ taken) k before → IsAgeOf (plan_with plan lists) (all_but 0) Run 0 before after age
-    → HaveRoom plan taken (k + 1) after
-room_next plan lists taken k before after age ranges growing room is next at =
-    roomy_grown plan lists next (k + 1) after (growing 0 lists next refl at)
-    (roomy_next (plan_with plan lists) (all_but 0) Run 9 0 k 0 before after age ranges (none_lacks plan.members)
-    (room lists refl) is)
+room_next : (plan : Script) (lists : Lists) (taken : List Lists) (k : ℕ) (before after : YardState) (age : AgeEnd)
+    → HasRanges (plan_with plan lists) → AreGrowing (lists ∷ taken) → HaveRoom plan (lists ∷ taken) k before
+    → IsAgeOf (plan_with plan lists) (all_but 0) Run 0 before after age → HaveRoom plan taken (k + 1) after
+room_next plan lists taken k before after age ranges growing room is next at = roomy_grown plan lists next
+    (k + 1) after (growing 0 lists next refl at) (roomy_next (plan_with plan lists)
+    (all_but 0) Run 9 0 k 0 before after age ranges (none_lacks plan.members) (room lists refl) is)
 
 -- no fault goes
 pub later_on : (plan : Script) (taken : List Lists) (ages : List AgeEnd) (start after : YardState)
@@ -85,8 +70,7 @@ pub as_many : (plan : Script) (taken : List Lists) (ages : List AgeEnd) (start a
 as_many plan [] [] start after are = refl
 as_many plan [] (age ∷ ages) start after are = absurd are
 as_many plan (lists ∷ taken) [] start after are = absurd are
-as_many plan (lists ∷ taken) (age ∷ ages) start after are =
-    omega (arith, as_many plan taken ages are.0 after are.2)
+as_many plan (lists ∷ taken) (age ∷ ages) start after are = omega (arith, as_many plan taken ages are.0 after are.2)
 
 -- ---- one of them
 
@@ -130,28 +114,23 @@ age_at plan taken ages last i lists age way at there =
 -- ---- the next one
 
 -- the logs have room for it
-room_on : (plan : Script) (taken : List Lists) (ages : List AgeEnd) (start last : YardState) (k : ℕ)
-    (lists : Lists) → AreInRange plan taken → AreGrowing (taken ++ lists ∷ [])
-    → HaveRoom plan (taken ++ lists ∷ []) k start → AreLiveAges plan start taken ages last
-    → IsRoomyAt (plan_with plan lists) 9 0 (k + length ages) last
-room_on plan [] [] start last k lists fit growing room are =
-    subst (IsRoomyAt (plan_with plan lists) 9 0 (k + 0)) are
+room_on : (plan : Script) (taken : List Lists) (ages : List AgeEnd) (start last : YardState) (k : ℕ) (lists : Lists)
+    → AreInRange plan taken → AreGrowing (taken ++ lists ∷ []) → HaveRoom plan (taken ++ lists ∷ []) k start
+    → AreLiveAges plan start taken ages last → IsRoomyAt (plan_with plan lists) 9 0 (k + length ages) last
+room_on plan [] [] start last k lists fit growing room are = subst (IsRoomyAt (plan_with plan lists) 9 0 (k + 0)) are
     (subst (λ (n : ℕ). IsRoomyAt (plan_with plan lists) 9 0 n start) (omega arith) (room lists refl))
 room_on plan [] (age ∷ ages) start last k lists fit growing room are = absurd are
 room_on plan (l ∷ taken) [] start last k lists fit growing room are = absurd are
-room_on plan (l ∷ taken) (age ∷ ages) start last k lists fit growing room are =
-    subst (λ (n : ℕ). IsRoomyAt (plan_with plan lists) 9 0 n last) (omega arith)
-    (room_on plan taken ages are.0 last (k + 1) lists (range_tail plan l taken fit)
-    (growing_tail l (taken ++ lists ∷ []) growing)
-    (room_next plan l (taken ++ lists ∷ []) k start are.0 age (range_head plan l taken fit) growing room are.1)
-    are.2)
+room_on plan (l ∷ taken) (age ∷ ages) start last k lists fit growing room are = subst (λ (n : ℕ). IsRoomyAt
+    (plan_with plan lists) 9 0 n last) (omega arith) (room_on plan taken ages are.0 last
+    (k + 1) lists (range_tail plan l taken fit) (growing_tail l (taken ++ lists ∷ []) growing)
+    (room_next plan l (taken ++ lists ∷ []) k start are.0 age (range_head plan l taken fit) growing room are.1) are.2)
 
 -- so it is opened, unless memory is wanting
 pub opens_always : (plan : Script) (lists : Lists) (ages : List AgeEnd) (yard : YardState)
     → AreReadyFor plan lists ages yard → HasRanges (plan_with plan lists) → plan.ages ≡ 1 → length ages < 16
     → OpensAlways (plan_with plan lists) yard
-opens_always plan lists ages yard ready ranges one few after run stop calm is =
-    by run is.course is.finish
+opens_always plan lists ages yard ready ranges one few after run stop calm is = by run is.course is.finish
   where
     roomy : IsRoomyAt (plan_with plan lists) 9 0 (0 + length ages) yard
     roomy = room_on plan ready.taken ages empty_yard yard 0 lists ready.way.ranges ready.growing
@@ -167,15 +146,13 @@ opens_always plan lists ages yard ready ranges one few after run stop calm is =
     outside (NoQuorum view have need) out stopped = absurd out
     outside AgesUsedUp out stopped = absurd out
 
-    by : (ran : List AgeEnd)
-        → AreAges (plan_with plan lists) (all_but 0) Run 0 yard ran is.last
+    by : (ran : List AgeEnd) → AreAges (plan_with plan lists) (all_but 0) Run 0 yard ran is.last
         → HasFinished (plan_with plan lists) (all_but 0) is.last after is.chosen ran (Some stop) → stop ≡ OutOfMemory
     by [] are end =
         let script = plan_with plan lists in
         let stopped = subst (λ (y : YardState). HasStopped script (all_but 0) y after stop) (sym are) end.1 in
-        outside stop
-        (roomy_stop script (all_but 0) 9 0 (0 + length ages) yard after stop ranges (none_lacks plan.members)
-        (omega arith) (omega (arith, few)) (omega (arith, few)) roomy stopped) stopped
+        outside stop (roomy_stop script (all_but 0) 9 0 (0 + length ages) yard after stop ranges
+        (none_lacks plan.members) (omega arith) (omega (arith, few)) (omega (arith, few)) roomy stopped) stopped
     by (age ∷ more) are end = absurd (omega (arith, end.0, one))
 
 live_more : (plan : Script) (taken : List Lists) (ages : List AgeEnd) (start mid after : YardState)
@@ -212,12 +189,11 @@ pub first_age : (plan : Script) (taken : List Lists) (ages : List AgeEnd) (last 
 first_age plan [] [] last age way few at = absurd (cc)
 first_age plan [] (a ∷ ages) last age way few at = absurd way.course
 first_age plan (lists ∷ taken) [] last age way few at = absurd (cc)
-first_age plan (lists ∷ taken) (a ∷ ages) last age way few at =
-    subst BeginsAnew (same_Some a age at) (record {
-      number = omega (arith, number.0);
-      start = fresh_start (plan_with plan lists) (all_but 0) Run 0 empty_yard (a ∷ []) way.course.0 a (λ m l. refl)
-          one refl;
-    })
+first_age plan (lists ∷ taken) (a ∷ ages) last age way few at = subst BeginsAnew (same_Some a age at) (record {
+  number = omega (arith, number.0);
+  start = fresh_start (plan_with plan lists) (all_but 0) Run 0 empty_yard (a ∷ []) way.course.0 a (λ m l. refl)
+      one refl;
+})
   where
     one : AreAges (plan_with plan lists) (all_but 0) Run 0 empty_yard (a ∷ []) way.course.0
     one = (way.course.0, way.course.1, refl)
@@ -269,13 +245,11 @@ pair_at plan (l ∷ taken) (one ∷ ages) start last k (suc i) a b old new fit g
     pair_at plan taken ages are.0 last (k + 1) i a b old new (range_tail plan l taken fit)
     (growing_tail l taken growing)
     (room_next plan l taken k start are.0 one (range_head plan l taken fit) growing room are.1) are.2 at_a
-    (ap (λ (k : ℕ). slice_get (one ∷ ages) k) e ∙ at_b) at_old
-    (ap (λ (k : ℕ). slice_get (l ∷ taken) k) e ∙ at_new)
+    (ap (λ (k : ℕ). slice_get (one ∷ ages) k) e ∙ at_b) at_old (ap (λ (k : ℕ). slice_get (l ∷ taken) k) e ∙ at_new)
 
 pair_keeps : (plan : Script) (old new : Lists) (a b : AgeEnd) → HasRanges (plan_with plan old)
-    → HasRanges (plan_with plan new) → AreLivePair plan old new a b
-    → Kept (opening_of (plan_with plan old) (all_but 0) a) (accounts_of a.members)
-    (opening_of (plan_with plan new) (all_but 0) b)
+    → HasRanges (plan_with plan new) → AreLivePair plan old new a b → Kept (opening_of (plan_with plan old)
+    (all_but 0) a) (accounts_of a.members) (opening_of (plan_with plan new) (all_but 0) b)
 pair_keeps plan old new a b ranges more r =
     record { later = kept.later; delivered = kept.delivered; durable = kept.durable }
   where
@@ -288,32 +262,28 @@ pair_keeps plan old new a b ranges more r =
     kept : Kept (opening_of first (all_but 0) a) (accounts_of a.members) (opening_of first (all_but 0) b)
     kept = subst (λ (ends : List MemberEnd).
         Kept (opening_of first (all_but 0) a) (accounts_of ends) (opening_of first (all_but 0) b))
-        (sym (ap (λ (x : AgeEnd). x.members) r.first.played.run.told))
-        (next_keeps first (start_of first (all_but 0) a) (start_of first (all_but 0) b) 0 r.first.contents
-        r.second.contents (over_behind left) ranges.group ranges.some_turn
-        (of_choice first (all_but 0) Run 0 r.before r.mid a r.first)
+        (sym (ap (λ (x : AgeEnd). x.members) r.first.played.run.told)) (next_keeps first
+        (start_of first (all_but 0) a) (start_of first (all_but 0) b) 0 r.first.contents r.second.contents
+        (over_behind left) ranges.group ranges.some_turn (of_choice first (all_but 0) Run 0 r.before r.mid a r.first)
         (left_from first (all_but 0) r.mid a r.second.contents left)
         (chosen_before plan old new r.mid r.second.contents (start_of first (all_but 0) b)
         (more.group.lists ∙ sym ranges.group.lists) r.roomy.good r.second.found r.second.starts))
 
 pub keep_each_other : (plan : Script) (taken : List Lists) (ages : List AgeEnd) (last : YardState)
     → AreUnderWay plan taken ages last → KeepEachOther plan taken ages
-keep_each_other plan taken ages last way i a b old new at_a at_b at_old at_new =
-    pair_keeps plan old new a b (range_at plan taken i old way.ranges at_old)
-    (range_at plan taken (i + 1) new way.ranges at_new)
-    (pair_at plan taken ages empty_yard last 0 i a b old new way.ranges way.growing (empty_rooms plan taken)
-    way.course at_a at_b at_old at_new)
+keep_each_other plan taken ages last way i a b old new at_a at_b at_old at_new = pair_keeps plan old new a b
+    (range_at plan taken i old way.ranges at_old) (range_at plan taken (i + 1) new way.ranges at_new)
+    (pair_at plan taken ages empty_yard last 0 i a b old new way.ranges way.growing
+    (empty_rooms plan taken) way.course at_a at_b at_old at_new)
 
 -- ---- before the first one
 
 pub none_yet : (plan : Script) (lists : Lists) (places : List (Option CalmState))
-    → ((m : ℕ) → place_told places m ≡ Some (Now (at_rest [])))
-    → AreReadyFor plan lists [] (calm_yard places)
+    → ((m : ℕ) → place_told places m ≡ Some (Now (at_rest []))) → AreReadyFor plan lists [] (calm_yard places)
 none_yet plan lists places empty = record {
   taken = [];
   way = record {
-    course = ap (λ (told : ℕ → Option Told). record { told = told; faults = λ m. 0 })
-        (fun_ext (λ m. sym (empty m)));
+    course = ap (λ (told : ℕ → Option Told). record { told = told; faults = λ m. 0 }) (fun_ext (λ m. sym (empty m)));
     growing = λ i old new at_old at_new. absurd (cc);
     ranges = All-nil (λ (l : Lists). HasRanges (plan_with plan l));
     calm = λ m. refl;

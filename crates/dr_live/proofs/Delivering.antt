@@ -1,44 +1,22 @@
 -- What the members of a live group deliver, and how they end.
+use Rattle.std.specs.{List.enumerate_from, Option.option_map_or, Prelude.{All, None, Option}}
 use Rattle.std.proofs.Common.{◌≡◌, refl, sym, ap, ◌∙◌, subst, ℕ, ◌+◌, ◌-◌, ◌<◌, ◌≤◌, ◌⊎◌, inl, inr, arith, true, false, List, [], ◌∷◌, ◌++◌, get_or, length, length-append, map, Some, slice_get}
-use Rattle.std.specs.Prelude.{All, None, Option}
-use Rattle.std.specs.List.{enumerate_from}
-use Rattle.std.specs.Option.{option_map_or}
-use Rattle.std.proofs.lemmas.Bool.{cases_lt}
-use Rattle.std.proofs.lemmas.List.{get_or_past}
-use Rattle.std.proofs.lemmas.List.Elements.{All-nil, All-cons}
+use Rattle.std.proofs.lemmas.{Bool.cases_lt, List.{get_or_past, Elements.{All-nil, All-cons}}}
 use Rattle.std.proofs.lemmas.Option.{get_or_from_slice_get, slice_get-get_or, slice_get_within}
-use Rattle.dr_age.specs.Logged.{NoneFull, NoneStopped}
-use Rattle.dr_ages.proofs.Fresh.{roomy_ages}
-use Rattle.dr_ages.proofs.Prompt.{nobody_late}
-use Rattle.dr_ages.specs.Ages.{AreAges, all_but, opening_of}
-use Rattle.dr_ages.specs.declared.mode.Mode.TheVariants.{Run}
-use Rattle.dr_entry.specs.declared.end.AgeEnd.{AgeEnd}
-use Rattle.dr_entry.specs.declared.end.End.TheVariants as ends
-use Rattle.dr_entry.specs.declared.end.MemberEnd.{MemberEnd}
-use Rattle.dr_entry.specs.declared.entry.Entry.{Entry}
-use Rattle.dr_entry.specs.declared.entry.Entry.TheVariants.{Msg}
+use Rattle.dr_play.{specs.Logged.{NoneFull, NoneStopped}, proofs.LoggedMembers.unstopped}
+use Rattle.dr_ages.specs.{Ages.{AreAges, all_but, opening_of}, declared.mode.Mode.TheVariants.Run}
+use Rattle.dr_ages.proofs.{Fresh.roomy_ages, Prompt.nobody_late, Runs.{none_lacks, there_takes_part}}
+use Rattle.dr_entry.specs.declared.{end.{AgeEnd.AgeEnd, MemberEnd.MemberEnd}, entry.Entry.{Entry, TheVariants.Msg}}
 use Rattle.dr_entry.specs.declared.limits.TheConstants.{MAX_MEMBERS}
-use Rattle.dr_history.specs.declared.opening.Opening.{Opening}
-use Rattle.dr_history.specs.History.{IsPrefixOf}
-use Rattle.dr_history.specs.Members.{has}
-use Rattle.dr_history.specs.Order.{IsLateIn, messages_from, numbered_messages}
-use Rattle.dr_history.specs.Soundness.{IsPresentIn}
-use Rattle.dr_history.proofs.Bits.{has_zero}
-use Rattle.dr_history_laws.proofs.Keeping.{prefix_then, both_ways}
-use Rattle.dr_history_laws.proofs.Lists.{slice_get-seam, slice_get-some}
-use Rattle.dr_program_laws.specs.Ended.{HasEnded, IsWhole}
-use Rattle.dr_program_laws.specs.Trusting.{NoneLeft}
-use Rattle.dr_restart.specs.Groups.{first_group_of}
-use Rattle.dr_restart.specs.Setups.{crashes_of, suspicion_in}
-use Rattle.dr_script.specs.declared.script.Fault.{Fault}
-use Rattle.dr_script.specs.declared.script.Script.{Script}
-use Rattle.dr_script.specs.Ranges.{HasGroupRanges, HasRanges}
-use Rattle.dr_senders.specs.Senders.{HaveGrown, Lists}
+use Rattle.dr_entry.specs.declared.end.End.TheVariants as ends
+use Rattle.dr_history.specs.{History.IsPrefixOf, Members.has, Order.{IsLateIn, messages_from, numbered_messages}}
+use Rattle.dr_history.{specs.{Soundness.IsPresentIn, declared.opening.Opening.Opening}, proofs.Bits.has_zero}
+use Rattle.dr_history_laws.proofs.{Keeping.{prefix_then, both_ways}, Lists.{slice_get-seam, slice_get-some}}
+use Rattle.dr_program_laws.{specs.{Ended.{HasEnded, IsWhole}, Trusting.NoneLeft}, proofs.Endings.done_whole}
+use Rattle.dr_restart.specs.{Groups.first_group_of, Setups.{crashes_of, suspicion_in}}
+use Rattle.dr_script.specs.{Ranges.{HasGroupRanges, HasRanges}, declared.script.{Fault.Fault, Script.Script}}
+use Rattle.dr_senders.{specs.Senders.{HaveGrown, Lists}, proofs.Growth.numbered_grown}
 use Rattle.dr_yard.specs.Yards.{YardState, empty_yard}
-use Rattle.dr_senders.proofs.Growth.{numbered_grown}
-use Rattle.dr_program_laws.proofs.Endings.{done_whole}
-use Rattle.dr_age.proofs.LoggedMembers.{unstopped}
-use Rattle.dr_ages.proofs.Runs.{none_lacks, there_takes_part}
 use Rattle.dr_live.specs.Live.{AreUnderWay, AreUpTo, DeliversAll, DeliversPushed, EndAsDone, IsLastOf, HasLived, IsLivePlan, plan_with, pushed_by, AreLiveAges}
 use Rattle.dr_live.proofs.Course.{IsLiveAge, age_at, as_many, first_age, keep_each_other, range_at}
 use Rattle.dr_live.proofs.Growing.{grown_to_last}
@@ -52,8 +30,7 @@ pub live_stored : (plan : Script) (k : ℕ) (lists : Lists) (last : YardState) (
 live_stored plan k lists last age ranges few calm live m d within =
     let e = get_or age.members m d in
     let at : slice_get age.members m ≡ Some e = slice_get-get_or age.members m d within in
-    unstopped e.end (full.1 m d within)
-    (λ broken. omega (arith, live.is.failed m e at broken, live.later m, calm m))
+    unstopped e.end (full.1 m d within) (λ broken. omega (arith, live.is.failed m e at broken, live.later m, calm m))
   where
     one : AreAges (plan_with plan lists) (all_but 0) Run 0 live.before (age ∷ []) live.after
     one = (live.after, live.is, refl)
@@ -76,8 +53,7 @@ live_trusting plan k lists last age is live = live.is.played.trusting (record {
 takes_part : (plan : Script) (k : ℕ) (lists : Lists) (last : YardState) (age : AgeEnd) (m : ℕ) (e : MemberEnd)
     → HasGroupRanges (plan_with plan lists) → IsLiveAge plan k lists last age → slice_get age.members m ≡ Some e
     → IsPresentIn (opening_of (plan_with plan lists) (all_but 0) age) m
-takes_part plan k lists last age m e ranges live at =
-    there_takes_part (plan_with plan lists) 0 m ranges.most_members
+takes_part plan k lists last age m e ranges live at = there_takes_part (plan_with plan lists) 0 m ranges.most_members
     (omega (arith, slice_get_within age.members m e at, live.is.played.roster)) (has_zero m)
 
 -- a history has first parts of the messages of the age
@@ -98,18 +74,16 @@ pub live_delivers : (plan : Script) (k : ℕ) (lists pushed : Lists) (last : Yar
 live_delivers plan k lists pushed last age ranges grown live m d within s =
     let e = get_or age.members m d in
     prefix_then (messages_from s e.history) (numbered_messages (opening_of (plan_with plan lists) (all_but 0) age) s)
-    (pushed_by plan pushed s)
-    (numbered_in plan k lists last age m e s ranges live (slice_get-get_or age.members m d within))
-    (numbered_grown (opening_of (plan_with plan lists) (all_but 0) age)
+    (pushed_by plan pushed s) (numbered_in plan k lists last age m e s ranges live
+    (slice_get-get_or age.members m d within)) (numbered_grown (opening_of (plan_with plan lists) (all_but 0) age)
     (first_group_of (plan_with plan pushed)).opening s grown)
 
 -- where all are done all have all messages
 pub live_whole : (plan : Script) (k : ℕ) (lists : Lists) (last : YardState) (age : AgeEnd)
     → HasGroupRanges (plan_with plan lists) → IsLiveAge plan k lists last age → EndAsDone age.members
     → DeliversAll plan lists age.members
-live_whole plan k lists last age ranges live done m d within s =
-    both_ways (messages_from s e.history) (numbered_messages o s) (numbered_in plan k lists last age m e s ranges live at)
-    (by (cases_lt s (length lists)))
+live_whole plan k lists last age ranges live done m d within s = both_ways (messages_from s e.history)
+    (numbered_messages o s) (numbered_in plan k lists last age m e s ranges live at) (by (cases_lt s (length lists)))
   where
     o : Opening
     o = opening_of (plan_with plan lists) (all_but 0) age
@@ -121,8 +95,7 @@ live_whole plan k lists last age ranges live done m d within s =
     at = slice_get-get_or age.members m d within
 
     end_at : (i : ℕ) (x : MemberEnd) → slice_get age.members i ≡ Some x → x.end ≡ ends.Done
-    end_at i x there =
-        subst (λ (y : MemberEnd). y.end ≡ ends.Done) (get_or_from_slice_get age.members i x x there)
+    end_at i x there = subst (λ (y : MemberEnd). y.end ≡ ends.Done) (get_or_from_slice_get age.members i x x there)
         (done i x (slice_get_within age.members i x there))
 
     ended_at : (i : ℕ) (x : MemberEnd) (there : slice_get age.members i ≡ Some x)
@@ -141,19 +114,16 @@ live_whole plan k lists last age ranges live done m d within s =
         sym late.0 ∙ ap (λ (mask : ℕ). has mask i) (sym (nobody_late (plan_with plan lists) 0 age)) ∙ late.1 in
         cc
 
-    in_view : (i number members : ℕ) → (has members i ≡ true) ⊎ (IsLateIn o i × (number ≡ 0))
-        → has members i ≡ true
+    in_view : (i number members : ℕ) → (has members i ≡ true) ⊎ (IsLateIn o i × (number ≡ 0)) → has members i ≡ true
     in_view i number members (inl own) = own
     in_view i number members (inr late) = absurd (prompt i late.0)
 
     own_at : (i : ℕ) (x : MemberEnd) (there : slice_get age.members i ≡ Some x)
         → has (ended_at i x there).members i ≡ true
     own_at i x there =
-        let ended = ended_at i x there in
-        in_view i ended.number ended.members ended.own
+        let ended = ended_at i x there in in_view i ended.number ended.members ended.own
 
-    by : (s < length lists) ⊎ (length lists ≤ s)
-        → IsPrefixOf (numbered_messages o s) (messages_from s e.history)
+    by : (s < length lists) ⊎ (length lists ≤ s) → IsPrefixOf (numbered_messages o s) (messages_from s e.history)
     by (inl l) =
         let x = slice_get-some age.members s (omega (arith, l, ranges.lists, live.is.played.roster)) in
         let own = (whole_at s x.0 x.1).whole s (own_at s x.0 x.1) in
@@ -163,16 +133,14 @@ live_whole plan k lists last age ranges live done m d within s =
         (subst (λ (y : MemberEnd). IsPrefixOf (messages_from s y.history) (messages_from s e.history)) same
         ((whole_at m e at).lacks_none s (inl (prompt s)) s x.0 in_place))
     by (inr past) =
-        let none : numbered_messages o s ≡ [] =
-        ap (λ (l : List (List ℕ)). map (λ (t : ℕ × List ℕ). Msg s t.0 t.1) (enumerate_from 0 l))
-        (get_or_past lists s [] past) in
+        let none : numbered_messages o s ≡ [] = ap (λ (l : List (List ℕ)). map
+        (λ (t : ℕ × List ℕ). Msg s t.0 t.1) (enumerate_from 0 l)) (get_or_past lists s [] past) in
         (messages_from s e.history, ap (λ (l : List Entry). l ++ messages_from s e.history) none)
 
 -- ---- the ages of a live group
 
 pub all_stored : (plan : Script) (taken : List Lists) (ages : List AgeEnd) (last : YardState)
-    → AreUnderWay plan taken ages last → length ages ≤ 16
-    → All (λ (age : AgeEnd). NoneStopped age.members) ages
+    → AreUnderWay plan taken ages last → length ages ≤ 16 → All (λ (age : AgeEnd). NoneStopped age.members) ages
 all_stored plan taken ages last way few i d l =
     let lists = slice_get-some taken i (omega (arith, l, as_many plan taken ages empty_yard last way.course)) in
     live_stored plan (0 + i) lists.0 last (get_or ages i d) (range_at plan taken i lists.0 way.ranges lists.1)
@@ -210,9 +178,8 @@ ends_in taken pushed n long =
     ap (slice_get (taken ++ pushed ∷ [])) at ∙ slice_get-seam taken pushed []
 
 -- so this comes of it
-pub lived : (plan : Script) (rounds : ℕ) (pushed : Lists) (ages : List AgeEnd) (last : YardState)
-    → IsLivePlan plan → rounds ≤ 15 → length ages ≡ rounds + 1 → AreUpTo plan pushed ages last
-    → HasLived plan rounds pushed ages
+pub lived : (plan : Script) (rounds : ℕ) (pushed : Lists) (ages : List AgeEnd) (last : YardState) → IsLivePlan plan
+    → rounds ≤ 15 → length ages ≡ rounds + 1 → AreUpTo plan pushed ages last → HasLived plan rounds pushed ages
 lived plan rounds pushed ages last is few count up = record {
   count = count;
   first = λ age at. first_age plan all ages last age up.way most at;

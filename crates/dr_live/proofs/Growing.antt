@@ -1,18 +1,13 @@
 -- Messages that have grown: what stood stands, and what was accepted is.
+use Rattle.std.{specs.Prelude.All, proofs.lemmas.{List.Elements.All-nil, Option.{same_Some, slice_get_within}}}
 use Rattle.std.proofs.Common.{◌≡◌, sym, ap, ◌∙◌, subst, ℕ, zero, suc, ◌+◌, ◌-◌, ◌<◌, ◌≤◌, ◌⊎◌, inl, inr, arith, List, [], ◌∷◌, ◌++◌, length, length-append, take, Some, slice_get}
-use Rattle.std.specs.Prelude.{All}
-use Rattle.std.proofs.lemmas.List.Elements.{All-nil}
-use Rattle.std.proofs.lemmas.Option.{same_Some, slice_get_within}
-use Rattle.dr_ages.proofs.Fresh.{IsRoomyAt}
-use Rattle.dr_ages.proofs.Good.{IsGood}
-use Rattle.dr_entry.specs.declared.limits.TheConstants.{MAX_MESSAGES}
-use Rattle.dr_entry.specs.Messages.{IsMessage}
+use Rattle.dr_ages.proofs.{Fresh.IsRoomyAt, Good.IsGood}
+use Rattle.dr_entry.specs.{Messages.IsMessage, declared.limits.TheConstants.MAX_MESSAGES}
 use Rattle.dr_opening.specs.Accepted.{judged_by}
 use Rattle.dr_history_laws.proofs.Lists.{slice_get-left, slice_get-push_cases, slice_get-seam, slice_get-some}
-use Rattle.dr_script.specs.declared.script.Script.{Script}
-use Rattle.dr_script.specs.Ranges.{HasFaultRanges, HasRanges}
-use Rattle.dr_senders.proofs.Growth.{grown_length, grown_same, grown_then, stands_grown}
+use Rattle.dr_script.specs.{Ranges.{HasFaultRanges, HasRanges}, declared.script.Script.Script}
 use Rattle.dr_senders.specs.Senders.{HaveGrown, Lists}
+use Rattle.dr_senders.proofs.Growth.{grown_length, grown_same, grown_then, stands_grown}
 use Rattle.dr_yard.specs.Yards.{YardState}
 use Rattle.dr_live.specs.Live.{AreGrowing, IsLastOf, IsLivePlan, plan_with}
 use Rattle.dr_live.proofs.Choosing.{chosen_before, used_before}
@@ -27,9 +22,8 @@ good_grown plan old new yard grown good = record {
   accepted = λ contents found.
       let are = good.accepted contents found in
       record {
-        sound = λ m es at i e here.
-            stands_grown (judged_by (plan_with plan old)) (judged_by (plan_with plan new)) (take i es) e grown
-            (are.sound m es at i e here);
+        sound = λ m es at i e here. stands_grown (judged_by (plan_with plan old))
+            (judged_by (plan_with plan new)) (take i es) e grown (are.sound m es at i e here);
         along = are.along;
       };
   whole = good.whole;
@@ -72,12 +66,8 @@ growing_last xs x y growing grown i old new at_old at_new = by (slice_get-push_c
 
     by : ((i + 1 < length xs) × (slice_get xs (i + 1) ≡ Some new)) ⊎ ((i + 1 ≡ length xs) × (y ≡ new))
         → HaveGrown old new
-    by (inl (l, e)) =
-        growing i old new (here (omega (arith, l))) (slice_get-left xs (x ∷ []) (i + 1) l ∙ e)
-    by (inr (at, e)) =
-        subst (HaveGrown old) e
-        (grown_then old x y
-        (growing i old x (here (omega (arith, at)))
+    by (inl (l, e)) = growing i old new (here (omega (arith, l))) (slice_get-left xs (x ∷ []) (i + 1) l ∙ e)
+    by (inr (at, e)) = subst (HaveGrown old) e (grown_then old x y (growing i old x (here (omega (arith, at)))
         (ap (slice_get (xs ++ x ∷ [])) at ∙ slice_get-seam xs x [])) grown)
 
 -- or there is one more
@@ -108,11 +98,9 @@ growing_more xs x y growing grown i old new at_old at_new =
 pub grown_to_last : (taken : List Lists) (i : ℕ) (lists last : Lists) → AreGrowing taken
     → slice_get taken i ≡ Some lists → IsLastOf last taken → HaveGrown lists last
 grown_to_last taken i lists last growing at ends =
-    let l = slice_get_within taken i lists at in
-    up (length taken - (i + 1)) i lists (omega (arith, l)) at
+    let l = slice_get_within taken i lists at in up (length taken - (i + 1)) i lists (omega (arith, l)) at
   where
-    up : (d j : ℕ) (here : Lists) → length taken ≡ j + d + 1 → slice_get taken j ≡ Some here
-        → HaveGrown here last
+    up : (d j : ℕ) (here : Lists) → length taken ≡ j + d + 1 → slice_get taken j ≡ Some here → HaveGrown here last
     up zero j here far there =
         subst (HaveGrown here) (same_Some here last (sym there ∙ ends j (omega (arith, far)))) (grown_same here)
     up (suc d) j here far there =

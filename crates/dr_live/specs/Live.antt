@@ -1,27 +1,17 @@
 -- What comes of a group whose messages are pushed while its ages run.
 use Rattle.std.specs.Prelude.{◌≡◌, ℕ, ◌+◌, All, List, [], ◌∷◌, ◌++◌, length, slice_get, Option, Some}
-use Rattle.dr_age.specs.Logged.{NoneStopped}
+use Rattle.dr_play.specs.Logged.{NoneStopped}
 use Rattle.dr_disk.specs.Memory.{CalmState}
-use Rattle.dr_entry.specs.declared.end.AgeEnd.{AgeEnd}
-use Rattle.dr_entry.specs.declared.end.End.TheVariants.{Done}
-use Rattle.dr_entry.specs.declared.end.MemberEnd.{MemberEnd}
-use Rattle.dr_entry.specs.declared.entry.Entry.{Entry}
-use Rattle.dr_history.specs.Agreement.{accounts_of}
-use Rattle.dr_history.specs.History.{IsPrefixOf}
-use Rattle.dr_history.specs.Order.{messages_from, numbered_messages}
+use Rattle.dr_entry.specs.declared.{end.{AgeEnd.AgeEnd, End.TheVariants.Done, MemberEnd.MemberEnd}, entry.Entry.Entry}
+use Rattle.dr_history.specs.{Agreement.accounts_of, History.IsPrefixOf, Order.{messages_from, numbered_messages}}
 use Rattle.dr_history.specs.Restarting.{Kept}
 use Rattle.dr_program_laws.specs.Trusting.{NoneLeft}
 use Rattle.dr_restart.specs.Groups.{first_group_of}
-use Rattle.dr_script.specs.declared.script.Script.{Script}
-use Rattle.dr_script.specs.Ranges.{HasRanges}
+use Rattle.dr_script.specs.{Ranges.HasRanges, declared.script.Script.Script}
 use Rattle.dr_senders.specs.Senders.{HaveGrown, Lists}
-use Rattle.dr_yard.specs.Places.{place_told}
-use Rattle.dr_yard.specs.Yards.{YardState, empty_yard}
-use Rattle.dr_ages.specs.declared.mode.Mode.TheVariants.{Run}
-use Rattle.dr_ages.specs.declared.stop.Stop.{Stop}
-use Rattle.dr_ages.specs.declared.stop.Stop.TheVariants.{OutOfMemory}
-use Rattle.dr_ages.specs.Ages.{IsAgeOf, all_but, opening_of}
-use Rattle.dr_ages.specs.Runs.{IsRunOf}
+use Rattle.dr_yard.specs.{Places.place_told, Yards.{YardState, empty_yard}}
+use Rattle.dr_ages.specs.{Ages.{IsAgeOf, all_but, opening_of}, Runs.IsRunOf, declared.mode.Mode.TheVariants.Run}
+use Rattle.dr_ages.specs.declared.stop.Stop.{Stop, TheVariants.OutOfMemory}
 
 -- a plan for a live group: it has one age, and nobody crashes in it or is suspected
 pub record IsLivePlan (plan : Script) : Type 0 where

@@ -4,8 +4,7 @@ ghost use Rattle.dr_entry.specs.declared.limits.TheConstants.{MAX_MEMBERS};
 ghost use Rattle.dr_ages.specs.Ages.{IsAgeOf, all_but};
 ghost use Rattle.dr_ages.specs.declared.mode.Mode.TheVariants as modes;
 ghost use Rattle.dr_live.specs.Live.{AreReadyFor, AreUpTo, IsLivePlan, OpensAlways, calm_yard, plan_with};
-ghost use Rattle.dr_script.specs.declared.script.Script.{Script as ScriptOf};
-ghost use Rattle.dr_script.specs.Ranges.{HasRanges};
+ghost use Rattle.dr_script.specs.{Ranges.HasRanges, declared.script.Script.Script as ScriptOf};
 ghost use Rattle.dr_senders.specs.Senders.{Lists};
 ghost use Rattle.dr_yard.specs.Places.{place_lent};
 

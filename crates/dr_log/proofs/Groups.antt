@@ -1,11 +1,9 @@
 -- The records and the bytes that are appended behind one gate, and the calls that write them.
 use Rattle.std.proofs.Common.{◌≡◌, ℕ, ◌+◌, ◌<◌, List, [], ◌∷◌, ◌++◌, length, get_or, refl, sym, ap, ◌∙◌, append_assoc, arith, suc}
-use Rattle.dr_entry.specs.declared.entry.Entry.{Entry}
+use Rattle.dr_entry.specs.{Spelling.{IsValidEntry, FitsEntry, spelling}, declared.entry.Entry.Entry}
 use Rattle.dr_entry.specs.declared.record.Record.{Record}
-use Rattle.dr_entry.specs.Spelling.{IsValidEntry, FitsEntry, spelling}
 use Rattle.dr_disk.specs.Calls.{Call}
-use Rattle.dr_log.specs.Grouping.{gate_of, opening, writes}
-use Rattle.dr_log.specs.Standing.{as_records}
+use Rattle.dr_log.specs.{Grouping.{gate_of, opening, writes}, Standing.as_records}
 use Rattle.dr_log_bytes.specs.Grammar.{AreSpelled, blocks}
 
 -- ---- the records and the bytes of a group
@@ -18,10 +16,8 @@ bytes_of (r ∷ rs) = (spelling r ++ gate_of rs ∷ []) ++ bytes_of rs
 -- with that gate these are its blocks, and a closed gate
 pub bytes_are : (rs : List Record) → gate_of rs ∷ bytes_of rs ≡ blocks rs ++ 0 ∷ []
 bytes_are [] = refl
-bytes_are (r ∷ rs) = ap (λ (l : List ℕ). 1 ∷ l)
-    (append_assoc (spelling r) (gate_of rs ∷ []) (bytes_of rs)
-    ∙ ap (λ (l : List ℕ). spelling r ++ l) (bytes_are rs)
-    ∙ sym (append_assoc (spelling r) (blocks rs) (0 ∷ [])))
+bytes_are (r ∷ rs) = ap (λ (l : List ℕ). 1 ∷ l) (append_assoc (spelling r) (gate_of rs ∷ []) (bytes_of rs)
+    ∙ ap (λ (l : List ℕ). spelling r ++ l) (bytes_are rs) ∙ sym (append_assoc (spelling r) (blocks rs) (0 ∷ [])))
 
 -- ---- writes that follow one another
 

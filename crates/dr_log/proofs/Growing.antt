@@ -1,13 +1,9 @@
 -- What more records are to what is on a log and to its length, and that a log stands for what its records make.
 use Rattle.std.proofs.Common.{◌≡◌, ℕ, ◌+◌, ◌*◌, ◌≤◌, Bool, List, All, [], ◌∷◌, ◌++◌, length, take, drop, refl, sym, ap, subst, ◌∙◌, append_assoc, append-nil, arith, length-append, length-take}
-use Rattle.std.proofs.lemmas.List.{take-append-drop}
-use Rattle.std.proofs.lemmas.List.Sums.{sum_by-append, sum_by-cons, sum_by-le, sum_by_push}
-use Rattle.dr_entry.specs.declared.entry.Entry.{Entry}
-use Rattle.dr_entry.specs.declared.record.Record.{Record}
+use Rattle.std.proofs.lemmas.List.{take-append-drop, Sums.{sum_by-append, sum_by-cons, sum_by-le, sum_by_push}}
+use Rattle.dr_entry.specs.{Spelling.{IsValidEntry, entry_spelling, vote_spelling}, declared.entry.Entry.Entry}
+use Rattle.dr_entry.{specs.declared.record.{Record.Record, Vote.Vote}, proofs.Records.{short_block, no_age_votes}}
 use Rattle.dr_entry.specs.declared.record.Record.TheVariants as records
-use Rattle.dr_entry.specs.declared.record.Vote.{Vote}
-use Rattle.dr_entry.specs.Spelling.{IsValidEntry, entry_spelling, vote_spelling}
-use Rattle.dr_entry.proofs.Records.{short_block, no_age_votes}
 use Rattle.dr_log.specs.Standing.{as_records, entries_length, least_length, log_length, votes_length, with_entries}
 use Rattle.dr_log.specs.State.{as_entry, as_other, as_vote}
 use Rattle.dr_log_bytes.specs.Content.{ArePlaced, OnLog, block_length, content_after, empty_of, with_record}
@@ -46,8 +42,7 @@ length-votes (records.AgeVote vote) c = omega arith
 length-votes (records.Cut keep) c = omega arith
 length-votes records.Upgrade c = omega arith
 
-pub length-age_votes : (r : Record) (c : OnLog)
-    → length (with_record r c).age_votes ≤ length c.age_votes + as_other r
+pub length-age_votes : (r : Record) (c : OnLog) → length (with_record r c).age_votes ≤ length c.age_votes + as_other r
 length-age_votes (records.Entry entry) c = omega arith
 length-age_votes (records.Vote vote) c = omega arith
 length-age_votes (records.AgeVote vote) c = omega (arith, length-append c.age_votes (vote ∷ []))
@@ -66,8 +61,7 @@ one_kind records.Upgrade = refl
 -- so has each of a log of entries
 pub short_log_length : (es : List Entry) → All IsValidEntry es → log_length es [] ≤ 9 + 72 * length es
 short_log_length es valid =
-    let few = sum_by-le (λ (e : Entry). 1 + length (entry_spelling e)) 72 es
-    (λ k d l. short_block _ (valid k d l)) in
+    let few = sum_by-le (λ (e : Entry). 1 + length (entry_spelling e)) 72 es (λ k d l. short_block _ (valid k d l)) in
     omega (arith, few)
 
 -- entries more
@@ -84,8 +78,7 @@ least_more (records.Vote vote) c least =
 least_more (records.AgeVote vote) c least = omega (arith, least, length-append c.age_votes (vote ∷ []))
 least_more (records.Cut keep) c least =
     let both = entries_length-append (take keep c.entries) (drop keep c.entries) in
-    let whole = ap entries_length (take-append-drop keep c.entries) in
-    omega (arith, least, both, whole)
+    let whole = ap entries_length (take-append-drop keep c.entries) in omega (arith, least, both, whole)
 least_more records.Upgrade c least = omega (arith, least)
 
 pub least_all : (news : List Entry) (c : OnLog) → least_length c ≤ c.length
@@ -118,12 +111,6 @@ nothing_on c least short =
     let entries = no_entries c.entries (omega (arith, least, short)) in
     let votes = no_votes c.votes (omega (arith, least, short)) in
     let age_votes = no_age_votes c.age_votes (omega (arith, least, short)) in
-    λ i. record {
-      entries = entries i;
-      votes = votes i;
-      age_votes = age_votes i;
-      newer = c.newer;
-      length = short i;
-    }
+    λ i. record { entries = entries i; votes = votes i; age_votes = age_votes i; newer = c.newer; length = short i }
 
 -- ---- a log stands for its records

@@ -1,20 +1,12 @@
 -- What no crash loses at one moment of an append no crash loses later on.
-use Rattle.std.proofs.Common.{◌≡◌, ℕ, ◌≤◌, Bool, List, [], ◌∷◌, ◌++◌, length, inl, inr, refl, sym, ap, subst, ◌∙◌, append_assoc, arith}
 use Rattle.std.specs.Prelude.{⊤}
-use Rattle.dr_entry.specs.declared.entry.Entry.{Entry}
-use Rattle.dr_entry.specs.declared.record.Record.{Record}
-use Rattle.dr_entry.proofs.ListFacts.{IsWhole}
-use Rattle.dr_disk.specs.Calls.{Call, Write, State, at_rest, step}
-use Rattle.dr_disk.specs.Images.{IsImage, During, LastsDuring}
-use Rattle.dr_disk.proofs.Images.{unwritten_image}
-use Rattle.dr_disk.proofs.Moments.{During-weaken}
-use Rattle.dr_log.specs.Standing.{HasAllOf, LosesNone, as_records, with_entries}
-use Rattle.dr_log.proofs.Growing.{content-entries}
-use Rattle.dr_log_bytes.specs.Content.{OnLog, content_after, empty_of}
-use Rattle.dr_log_bytes.specs.Grammar.{IsLog, StandFor}
-use Rattle.dr_log_bytes.proofs.Meaning.{content_once}
-use Rattle.dr_log_bytes.proofs.Reading.{log_stands}
-use Rattle.dr_log_bytes.proofs.Grammars.{HasNoneOrAll}
+use Rattle.std.proofs.Common.{◌≡◌, ℕ, ◌≤◌, Bool, List, [], ◌∷◌, ◌++◌, length, inl, inr, refl, sym, ap, subst, ◌∙◌, append_assoc, arith}
+use Rattle.dr_entry.{specs.{declared.entry.Entry.Entry, declared.record.Record.Record}, proofs.ListFacts.IsWhole}
+use Rattle.dr_disk.specs.{Calls.{Call, Write, State, at_rest, step}, Images.{IsImage, During, LastsDuring}}
+use Rattle.dr_disk.proofs.{Images.unwritten_image, Moments.During-weaken}
+use Rattle.dr_log.{specs.Standing.{HasAllOf, LosesNone, as_records, with_entries}, proofs.Growing.content-entries}
+use Rattle.dr_log_bytes.specs.{Content.{OnLog, content_after, empty_of}, Grammar.{IsLog, StandFor}}
+use Rattle.dr_log_bytes.proofs.{Grammars.HasNoneOrAll, Meaning.content_once, Reading.log_stands}
 
 -- what was on the log is on it with the new records too
 abbrev pub TakesNothing : OnLog → OnLog → List Record → Type 0
@@ -29,8 +21,7 @@ entries_keep first c news has = subst (HasAllOf first) (sym (content-entries c n
       more_entries = has.more_entries ++ news;
       more_votes = has.more_votes;
       more_age_votes = has.more_age_votes;
-      entries = ap (λ (l : List Entry). l ++ news) has.entries
-          ∙ append_assoc first.entries has.more_entries news;
+      entries = ap (λ (l : List Entry). l ++ news) has.entries ∙ append_assoc first.entries has.more_entries news;
       votes = has.votes;
       age_votes = has.age_votes;
     }
@@ -59,14 +50,12 @@ kept_too c first news witness bytes takes stands loses is = by is
     by (inl before) = record { content = c; stands = before; has = has }
     by (inr after) = record { content = content_after c news; stands = after; has = takes has }
 
-pub lasts_during : (c first : OnLog) (news : List Record) (s : State) (calls : List Call)
-    → TakesNothing first c news → During s calls (HasNoneOrAll c news) → Witnessed c s calls
-    → LastsDuring s calls (LosesNone first)
+pub lasts_during : (c first : OnLog) (news : List Record) (s : State) (calls : List Call) → TakesNothing first c news
+    → During s calls (HasNoneOrAll c news) → Witnessed c s calls → LastsDuring s calls (LosesNone first)
 lasts_during c first news s [] takes each seen = tt
 lasts_during c first news s (call ∷ calls) takes each seen = (
   λ all. During-weaken s (call ∷ calls) (HasNoneOrAll c news) (LosesNone first)
-      (λ image. kept_too c first news seen.0.image image takes seen.0.stands
-      (all seen.0.image seen.0.is)) each,
+      (λ image. kept_too c first news seen.0.image image takes seen.0.stands (all seen.0.image seen.0.is)) each,
   lasts_during c first news (step s call) calls takes each.1 seen.1,
 )
 

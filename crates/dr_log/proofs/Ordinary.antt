@@ -1,20 +1,12 @@
 -- Entries and votes may stand behind any records, take nothing away, and take a spare of their kind.
-use Rattle.std.proofs.Common.{◌≡◌, ℕ, List, [], ◌∷◌, ◌++◌, inl, inr, refl, ap, ◌∙◌, append_assoc, append-nil, sym}
 use Rattle.std.specs.Prelude.{Option}
-use Rattle.dr_entry.specs.declared.entry.Entry.{Entry}
-use Rattle.dr_entry.specs.declared.record.AgeVote.{AgeVote}
-use Rattle.dr_entry.specs.declared.record.Record.{Record}
-use Rattle.dr_entry.specs.declared.record.Record.TheVariants as records
-use Rattle.dr_entry.specs.declared.record.Vote.{Vote}
+use Rattle.std.proofs.Common.{◌≡◌, ℕ, List, [], ◌∷◌, ◌++◌, inl, inr, refl, ap, ◌∙◌, append_assoc, append-nil, sym}
+use Rattle.dr_entry.specs.{declared.entry.Entry.Entry, declared.record.{AgeVote.AgeVote, Record.Record, Vote.Vote}}
 use Rattle.dr_entry.proofs.Records.{IsOrdinary}
-use Rattle.dr_disk.proofs.Moments.{goes_on}
-use Rattle.dr_disk.proofs.Images.{left_so}
-use Rattle.dr_disk.specs.Disk.{Told}
-use Rattle.dr_disk.specs.Images.{Goes, IsLeft}
-use Rattle.dr_log.specs.Standing.{HasAllOf, IsBeforeOrAfter, LosesNone}
-use Rattle.dr_log.specs.State.{as_other, LogState}
-use Rattle.dr_log_bytes.specs.Content.{OnLog, with_record}
-use Rattle.dr_log_bytes.specs.Grammar.{StandFor}
+use Rattle.dr_entry.specs.declared.record.Record.TheVariants as records
+use Rattle.dr_disk.{specs.{Disk.Told, Images.{Goes, IsLeft}}, proofs.{Images.left_so, Moments.goes_on}}
+use Rattle.dr_log.specs.{Standing.{HasAllOf, IsBeforeOrAfter, LosesNone}, State.{as_other, LogState}}
+use Rattle.dr_log_bytes.specs.{Content.{OnLog, with_record}, Grammar.StandFor}
 
 pub ordinary_spare : (r : Record) → IsOrdinary r → as_other r ≡ 0
 ordinary_spare (records.Entry entry) is = refl
@@ -90,16 +82,13 @@ less_lost a b bytes has loses =
     none_lost a loses.content bytes (has_through a b loses.content has loses.has) loses.stands
 
 pub moments_on : {D : Type 0} (told : D → Option Told) (base log new : LogState D) (r : Record) → IsOrdinary r
-    → HasAllOf base.content log.content
-    → Goes (told base.disk) (told log.disk) (λ calls. LosesNone base.content)
+    → HasAllOf base.content log.content → Goes (told base.disk) (told log.disk) (λ calls. LosesNone base.content)
     → Goes (told log.disk) (told new.disk) (λ calls. IsBeforeOrAfter log.content r)
     → Goes (told base.disk) (told new.disk) (λ calls. LosesNone base.content)
 moments_on told base log new r ordinary has first next =
     goes_on (told base.disk) (told log.disk) (told new.disk) (λ calls. LosesNone base.content)
-    (λ calls. IsBeforeOrAfter log.content r) (λ calls. LosesNone base.content)
-    (λ calls image at is. is)
-    (λ calls more image at there is. none_lost_by base.content log.content r image ordinary has is)
-    first next
+    (λ calls. IsBeforeOrAfter log.content r) (λ calls. LosesNone base.content) (λ calls image at is. is)
+    (λ calls more image at there is. none_lost_by base.content log.content r image ordinary has is) first next
 
 -- what has lost none of this has lost none of what this has
 pub left_less : (o : Option Told) (first c : OnLog) → HasAllOf first c → IsLeft o (LosesNone c)

@@ -1,26 +1,17 @@
 -- What a log stands for: its content, what is read of it, and what it may lose.
-use Rattle.std.proofs.Common.{◌+◌, ◌*◌, ◌≤◌, List, length, arith, ◌≡◌, refl, Option, None, Some, true, ap, sym, ◌∙◌, inl, inr, [], IfSome, ◌≢◌, ℕ, Bool, false}
 use Rattle.std.specs.Prelude.{All, slice_index_or, option_map, IsSomeAnd}
-use Rattle.std.proofs.lemmas.List.Sums.{sum_by-le}
-use Rattle.std.proofs.lemmas.Option.{same_Some}
-use Rattle.dr_entry.proofs.Trims.{short_vote}
-use Rattle.dr_entry.specs.declared.limits.TheConstants.{MAX_MEMBERS}
-use Rattle.dr_entry.specs.declared.record.Vote.{Vote}
-use Rattle.dr_entry.specs.Spelling.{vote_spelling}
-use Rattle.dr_entry.specs.declared.record.AgeVote.{AgeVote}
+use Rattle.std.proofs.Common.{◌+◌, ◌*◌, ◌≤◌, List, length, arith, ◌≡◌, refl, Option, None, Some, true, ap, sym, ◌∙◌, inl, inr, [], IfSome, ◌≢◌, ℕ, Bool, false}
+use Rattle.std.proofs.lemmas.{List.Sums.sum_by-le, Option.same_Some}
+use Rattle.dr_entry.specs.{Spelling.vote_spelling, declared.limits.TheConstants.MAX_MEMBERS}
+use Rattle.dr_entry.{specs.declared.record.{AgeVote.AgeVote, Vote.Vote}, proofs.Trims.short_vote}
 use Rattle.dr_entry.specs.declared.record.Record.TheVariants as records
-use Rattle.dr_disk.proofs.Moments.{Went-weaken}
-use Rattle.dr_disk.specs.Disk.{Told, content_of, state_of}
-use Rattle.dr_disk.specs.Images.{Goes, IsLeft}
-use Rattle.dr_log_bytes.proofs.Grammars.{newer_either}
-use Rattle.dr_log_bytes.proofs.Meaning.{content_once, stands_or_damaged, damaged_once}
-use Rattle.dr_log_bytes.specs.Content.{OnLog, empty_of, block_length}
-use Rattle.dr_log_bytes.specs.Grammar.{StandFor, IsDamaged}
+use Rattle.dr_disk.{specs.{Disk.{Told, content_of, state_of}, Images.{Goes, IsLeft}}, proofs.Moments.Went-weaken}
+use Rattle.dr_log_bytes.specs.{Content.{OnLog, empty_of, block_length}, Grammar.{StandFor, IsDamaged}}
+use Rattle.dr_log_bytes.proofs.{Grammars.newer_either, Meaning.{content_once, stands_or_damaged, damaged_once}}
 use Rattle.dr_log.specs.Standing.{votes_length, with_age_vote, in_newer_format, LosesNone, StandAlike, KeepsRecords}
 use Rattle.dr_log.specs.State.{LogState}
 
-pub short_votes : (vs : List Vote) → All (λ (v : Vote). v.members ≤ MAX_MEMBERS) vs
-    → votes_length vs ≤ 73 * length vs
+pub short_votes : (vs : List Vote) → All (λ (v : Vote). v.members ≤ MAX_MEMBERS) vs → votes_length vs ≤ 73 * length vs
 short_votes vs few =
     let votes = sum_by-le (λ (v : Vote). 1 + length (vote_spelling v)) 73 vs
     (λ k d l. short_vote (slice_index_or vs k d) (few k d l)) in
@@ -95,6 +86,5 @@ pub alike_goes : (told now : Option Told) (P : List ℕ → Type 0)
 alike_goes None None P more goes left = tt
 alike_goes None (Some now) P more goes left = absurd goes
 alike_goes (Some told) None P more goes left = absurd goes
-alike_goes (Some told) (Some now) P more goes left =
-    Went-weaken told now (KeepsRecords (state_of told)) P
+alike_goes (Some told) (Some now) P more goes left = Went-weaken told now (KeepsRecords (state_of told)) P
     (λ image k. more k.before image k.alike (left k.before k.was)) goes

@@ -1,33 +1,24 @@
 -- What a log's calls make of a disk that may tell: what a crash leaves at each moment, and what the
 -- disk is then.
 use Rattle.std.proofs.Common.{◌≡◌, ℕ, ◌+◌, ◌-◌, ◌<◌, ◌≤◌, List, [], ◌∷◌, ◌++◌, length, Option, Some, None, IfSome, inl, inr, refl, sym, ap, subst, ◌∙◌, arith}
-use Rattle.dr_entry.specs.declared.entry.Entry.{Entry}
-use Rattle.dr_entry.specs.declared.record.Record.{Record}
-use Rattle.dr_entry.proofs.ListFacts.{IsWhole}
+use Rattle.dr_entry.{specs.{declared.entry.Entry.Entry, declared.record.Record.Record}, proofs.ListFacts.IsWhole}
 use Rattle.dr_disk.specs.Calls.{Call, Write, FailedWrite, Cut, FailedCut, Sync, State, at_rest, written, run_from}
-use Rattle.dr_disk.specs.Disk.{Told, state_of, content_of, after, added}
+use Rattle.dr_disk.{specs.Disk.{Told, state_of, content_of, after, added}, proofs.Images.image_at_rest}
 use Rattle.dr_disk.specs.Images.{IsImage, AllImages, During, Goes, IsLeft, LastsDuring, Lasts}
-use Rattle.dr_disk.proofs.Images.{image_at_rest}
 use Rattle.dr_disk.proofs.Moments.{after_all, state-after_all, Goes-weaken, went_by, Went-still, lasts_by, content-after_all}
-use Rattle.dr_log.specs.Grouping.{StopsAmong, added_all, group}
-use Rattle.dr_log.specs.Standing.{IsNoneOrAll, LosesNone, as_records, with_entries}
-use Rattle.dr_log.specs.Appending.{staged}
-use Rattle.dr_log.specs.Kept.{IsSettled}
-use Rattle.dr_log.proofs.Growing.{content-entries}
-use Rattle.dr_log.proofs.Groups.{bytes_of}
-use Rattle.dr_log.proofs.Lasting.{TakesNothing, Witnessed, lasts_during}
+use Rattle.dr_log.specs.{Appending.staged, Grouping.{StopsAmong, added_all, group}, Kept.IsSettled}
+use Rattle.dr_log.{specs.Standing.{IsNoneOrAll, LosesNone, as_records, with_entries}, proofs.Groups.bytes_of}
+use Rattle.dr_log.proofs.{Growing.content-entries, Lasting.{TakesNothing, Witnessed, lasts_during}}
 use Rattle.dr_log.proofs.Moments.{fine_during, fine_seen, group_fine, group_is, group_whole, run_group, stopped}
 use Rattle.dr_log_bytes.specs.Content.{ArePlaced, OnLog, content_after, empty_of}
 use Rattle.dr_log_bytes.specs.Grammar.{AreSpelled, IsLog, StandFor, blocks, newer_magic}
+use Rattle.dr_log_bytes.proofs.{Grammars.{content-append, HasNoneOrAll}, Moments.{Behind, Stands, made_by}}
 use Rattle.dr_log_bytes.proofs.Reading.{length-after, log_stands, gate_inside}
-use Rattle.dr_log_bytes.proofs.Grammars.{content-append, HasNoneOrAll}
-use Rattle.dr_log_bytes.proofs.Moments.{Behind, Stands, made_by}
 
 -- once the magic is written over a disk that was cut, the disk reaches to its end
 pub reaches_magic : (told new : Option Told) → new ≡ staged 0 newer_magic (added (Cut 0) told)
     → IfSome new (λ t. 8 ≤ length (content_of t))
-reaches_magic None new is = subst (λ (o : Option Told).
-    IfSome o (λ t. 8 ≤ length (content_of t))) (sym is) tt
+reaches_magic None new is = subst (λ (o : Option Told). IfSome o (λ t. 8 ≤ length (content_of t))) (sym is) tt
 reaches_magic (Some told) new is =
     let now = content-after_all told (Cut 0 ∷ Write 0 newer_magic ∷ Sync ∷ []) in
     let long : 8 ≤ length (content_of (after_all (Cut 0 ∷ Write 0 newer_magic ∷ Sync ∷ []) told)) =
@@ -43,8 +34,7 @@ settled_content c t is = log_stands (content_of t) is.newer is.records c is.log 
 -- so does each of its images
 pub settled_images : (c : OnLog) (t : Told) → IsSettled c t → AllImages (state_of t) (λ image. StandFor image c)
 settled_images c t is image here =
-    let same = image_at_rest (content_of t) image
-    (subst (λ (s : State). IsImage s image) is.rests here) in
+    let same = image_at_rest (content_of t) image (subst (λ (s : State). IsImage s image) is.rests here) in
     subst (λ (l : List ℕ). StandFor l c) (sym same) (settled_content c t is)
 
 -- the same where it may not tell
@@ -77,11 +67,9 @@ reaches_end c (Some t) is = omega (
 
 -- while no call is made, images stand for what is on the log
 pub still_goes : (c : OnLog) (told : Option Told) (P : List ℕ → Type 0)
-    → IfSome told (IsSettled c) → ((image : List ℕ) → StandFor image c → P image)
-    → Goes told told (λ s. P)
+    → IfSome told (IsSettled c) → ((image : List ℕ) → StandFor image c → P image) → Goes told told (λ s. P)
 still_goes c None P is so = tt
-still_goes c (Some t) P is so =
-    Went-still t P (λ image here. so image (settled_images c t is image here))
+still_goes c (Some t) P is so = Went-still t P (λ image here. so image (settled_images c t is image here))
 
 -- ---- an append
 
@@ -94,8 +82,7 @@ pub record GoesWell (c : OnLog) (news : List Record) (told new : Option Told) : 
 -- so of entries alone
 pub goes_all : (c : OnLog) (news : List Entry) (told new : Option Told)
     → GoesWell c (as_records news) told new → Goes told new (λ s. IsNoneOrAll c news)
-goes_all c news told new is =
-    Goes-weaken told new (λ s. HasNoneOrAll c (as_records news)) (λ s. IsNoneOrAll c news)
+goes_all c news told new is = Goes-weaken told new (λ s. HasNoneOrAll c (as_records news)) (λ s. IsNoneOrAll c news)
     (λ s image here. all image here) is.goes
   where
     all : (image : List ℕ) → HasNoneOrAll c (as_records news) image → IsNoneOrAll c news image
@@ -161,24 +148,19 @@ goes_silent c news = record { goes = tt; lasts = λ first takes. tt }
 
 -- a group that was appended
 pub group_goes : (c : OnLog) (told new : Option Told) (at : ℕ) (news : List Record)
-    → IfSome told (IsSettled c) → MayCome c at news
-    → new ≡ added_all (group at news) told → GoesWell c news told new
+    → IfSome told (IsSettled c) → MayCome c at news → new ≡ added_all (group at news) told → GoesWell c news told new
 group_goes c None new at news is may e =
     subst (GoesWell c news None) (sym (e ∙ added_none (group at news))) (goes_silent c news)
 group_goes c (Some t) new at news is may e =
     let calls = group at news in
     let fine = group_fine (content_of t) is.newer is.records (at - 1) at news (behind c t at news is may) in
-    subst (GoesWell c news (Some t)) (sym (e ∙ added_some calls t))
-    (from_rest c t calls news is
-    (fine_during (Stands is.newer is.records news) (made_by is.newer is.records) (at_rest (content_of t))
-    calls fine)
-    (fine_seen (Stands is.newer is.records news) (made_by is.newer is.records) (at_rest (content_of t))
-    calls fine))
+    subst (GoesWell c news (Some t)) (sym (e ∙ added_some calls t)) (from_rest c t calls news is
+    (fine_during (Stands is.newer is.records news) (made_by is.newer is.records) (at_rest (content_of t)) calls fine)
+    (fine_seen (Stands is.newer is.records news) (made_by is.newer is.records) (at_rest (content_of t)) calls fine))
 
 -- and one that stopped
 pub group_stops : (c : OnLog) (told new : Option Told) (at : ℕ) (news : List Record)
-    → IfSome told (IsSettled c) → MayCome c at news
-    → StopsAmong (group at news) told new → GoesWell c news told new
+    → IfSome told (IsSettled c) → MayCome c at news → StopsAmong (group at news) told new → GoesWell c news told new
 group_stops c None new at news is may stops =
     subst (GoesWell c news None) (sym (silent (group at news) new stops)) (goes_silent c news)
 group_stops c (Some t) new at news is may stops =
@@ -189,9 +171,8 @@ group_stops c (Some t) new at news is may stops =
     subst (GoesWell c news (Some t)) (sym so.is) (from_rest c t so.done news is so.each so.seen)
 
 -- once it was appended, the disk is settled with its records
-pub group_settled : (c d : OnLog) (told new : Option Told) (at : ℕ) (news : List Record)
-    → IfSome told (IsSettled c) → MayCome c at news
-    → new ≡ added_all (group at news) told → d ≡ content_after c news → IfSome new (IsSettled d)
+pub group_settled : (c d : OnLog) (told new : Option Told) (at : ℕ) (news : List Record) → IfSome told (IsSettled c)
+    → MayCome c at news → new ≡ added_all (group at news) told → d ≡ content_after c news → IfSome new (IsSettled d)
 group_settled c d None new at news is may e same =
     subst (λ (o : Option Told). IfSome o (IsSettled d)) (sym (e ∙ added_none (group at news))) tt
 group_settled c d (Some t) new at news is may e same =
@@ -210,7 +191,6 @@ group_settled c d (Some t) new at news is may e same =
       records = rs ++ news;
       log = subst (λ (l : List ℕ). IsLog l f (rs ++ news)) (sym reads) (group_is old f rs (at - 1) at news b);
       whole = subst (IsWhole f) (sym reads) (group_whole old f rs (at - 1) at news b);
-      content = content-append (empty_of f) rs news
-          ∙ ap (λ (x : OnLog). content_after x news) is.content ∙ sym same;
+      content = content-append (empty_of f) rs news ∙ ap (λ (x : OnLog). content_after x news) is.content ∙ sym same;
     } in
     subst (λ (o : Option Told). IfSome o (IsSettled d)) (sym (e ∙ added_some calls t)) settled

@@ -1,11 +1,10 @@
 -- How a log becomes one of the newer format, and what an age vote leaves of it.
-use Rattle.std.proofs.Common.{◌≡◌, ℕ, Bool, true, false, List, inl, inr, refl, sym, subst}
 use Rattle.std.specs.Prelude.{if◌then◌else◌}
+use Rattle.std.proofs.Common.{◌≡◌, ℕ, Bool, true, false, List, inl, inr, refl, sym, subst}
 use Rattle.dr_entry.specs.declared.record.AgeVote.{AgeVote}
 use Rattle.dr_entry.specs.declared.record.Record.TheVariants as records
 use Rattle.dr_log.specs.Standing.{IsBeforeOrAfter, MayBeUpgraded, MayBeVoted, in_newer_format}
-use Rattle.dr_log_bytes.specs.Content.{OnLog, with_record}
-use Rattle.dr_log_bytes.specs.Grammar.{StandFor}
+use Rattle.dr_log_bytes.specs.{Content.{OnLog, with_record}, Grammar.StandFor}
 
 -- one of the newer format is as it is, and one of the older has an upgrade more
 pub format_stays : (c : OnLog) → c.newer ≡ true → c ≡ in_newer_format c

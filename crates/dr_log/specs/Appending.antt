@@ -1,7 +1,6 @@
 -- The calls of a disk by which a log is mounted.
 use Rattle.std.specs.Prelude.{◌≡◌, ℕ, ◌<◌, ◌≤◌, List, [], ◌∷◌, length, Option, IfSome, ◌⊎◌}
-use Rattle.dr_disk.specs.Calls.{Write, FailedWrite, Cut, FailedCut, Sync}
-use Rattle.dr_disk.specs.Disk.{Told, added, content_of}
+use Rattle.dr_disk.specs.{Calls.{Write, FailedWrite, Cut, FailedCut, Sync}, Disk.{Told, added, content_of}}
 use Rattle.dr_log_bytes.specs.Grammar.{newer_magic}
 
 -- these bytes were written at this place, and synced

@@ -1,9 +1,7 @@
 -- The calls of a disk by which a log appends records behind one gate.
 use Rattle.std.specs.Prelude.{◌≡◌, ℕ, ◌+◌, ◌-◌, List, [], ◌∷◌, ◌++◌, length, Option, ◌⊎◌}
-use Rattle.dr_entry.specs.declared.record.Record.{Record}
-use Rattle.dr_entry.specs.Spelling.{spelling}
-use Rattle.dr_disk.specs.Calls.{Call, Write, FailedWrite, Cut, FailedCut, Sync}
-use Rattle.dr_disk.specs.Disk.{Told, added}
+use Rattle.dr_entry.specs.{Spelling.spelling, declared.record.Record.Record}
+use Rattle.dr_disk.specs.{Calls.{Call, Write, FailedWrite, Cut, FailedCut, Sync}, Disk.{Told, added}}
 use Rattle.dr_log_bytes.specs.Content.{block_length}
 
 -- the gate before these records: open, where there are any

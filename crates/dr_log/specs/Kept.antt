@@ -1,13 +1,9 @@
 -- What is true of every log.
 use Rattle.std.specs.Prelude.{◌≡◌, ℕ, ◌+◌, ◌*◌, ◌<◌, ◌≤◌, Bool, false, List, Option, IfSome, length}
 use Rattle.dr_entry.specs.declared.record.Record.{Record}
-use Rattle.dr_disk.specs.Calls.{at_rest}
-use Rattle.dr_disk.specs.Disk.{Told, state_of, content_of}
-use Rattle.dr_log.specs.declared.spares.Spares.{Spares}
-use Rattle.dr_log.specs.Shelved.{HasPlaces, Shelved}
-use Rattle.dr_log.specs.Standing.{least_length}
-use Rattle.dr_log_bytes.specs.Content.{OnLog, content_after, empty_of}
-use Rattle.dr_log_bytes.specs.Grammar.{IsLog}
+use Rattle.dr_disk.specs.{Calls.at_rest, Disk.{Told, state_of, content_of}}
+use Rattle.dr_log.specs.{Shelved.{HasPlaces, Shelved}, Standing.least_length, declared.spares.Spares.Spares}
+use Rattle.dr_log_bytes.specs.{Content.{OnLog, content_after, empty_of}, Grammar.IsLog}
 
 -- the disk is at rest, and reads as a log on which this is
 pub record IsSettled (c : OnLog) (t : Told) : Type 0 where

@@ -1,15 +1,10 @@
 -- What crashes leave of a log, and what they lose of it.
 use Rattle.std.specs.Prelude.{◌≡◌, ℕ, ◌+◌, ◌*◌, if◌then◌else◌, List, ◌++◌, length, map, sum_by, ◌⊎◌, ◌↔◌}
-use Rattle.dr_entry.specs.declared.entry.Entry.{Entry}
-use Rattle.dr_entry.specs.declared.record.AgeVote.{AgeVote}
-use Rattle.dr_entry.specs.declared.record.Record.{Record}
+use Rattle.dr_entry.specs.{Spelling.{entry_spelling, vote_spelling}, declared.entry.Entry.Entry}
+use Rattle.dr_entry.specs.declared.record.{AgeVote.AgeVote, Record.Record, Vote.Vote}
 use Rattle.dr_entry.specs.declared.record.Record.TheVariants as records
-use Rattle.dr_entry.specs.declared.record.Vote.{Vote}
-use Rattle.dr_entry.specs.Spelling.{entry_spelling, vote_spelling}
-use Rattle.dr_disk.specs.Calls.{State}
-use Rattle.dr_disk.specs.Images.{IsImage}
-use Rattle.dr_log_bytes.specs.Content.{OnLog, with_record}
-use Rattle.dr_log_bytes.specs.Grammar.{StandFor}
+use Rattle.dr_disk.specs.{Calls.State, Images.IsImage}
+use Rattle.dr_log_bytes.specs.{Content.{OnLog, with_record}, Grammar.StandFor}
 
 -- these entries as records
 abbrev pub as_records : List Entry → List Record

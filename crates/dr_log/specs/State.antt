@@ -1,11 +1,8 @@
 -- What a log is to its callers, and what an append makes of it.
 use Rattle.std.specs.Prelude.{◌≡◌, ℕ, ◌+◌, ◌-◌, ◌<◌, ◌≤◌, Bool, true, List, length, Result, Ok, Err}
-use Rattle.dr_entry.specs.declared.entry.Entry.{Entry}
-use Rattle.dr_entry.specs.declared.record.Record.{Record}
+use Rattle.dr_entry.specs.{declared.entry.Entry.Entry, declared.record.Record.Record}
 use Rattle.dr_entry.specs.declared.record.Record.TheVariants as records
-use Rattle.dr_log.specs.declared.fault.LogFault.{LogFault}
-use Rattle.dr_log.specs.declared.fault.LogFault.TheVariants.{DiskFault, LogFull}
-use Rattle.dr_log.specs.Standing.{with_entries}
+use Rattle.dr_log.specs.{Standing.with_entries, declared.fault.LogFault.{LogFault, TheVariants.{DiskFault, LogFull}}}
 use Rattle.dr_log_bytes.specs.Content.{OnLog, with_record}
 
 -- the disk, what is on the log, the greatest length that it may have, for how many more entries, votes and other

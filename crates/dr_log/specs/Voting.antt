@@ -1,18 +1,13 @@
 -- What an append has come to, and a vote for an age, which is one append or two.
 use Rattle.std.specs.Prelude.{◌≡◌, ◌⊎◌, ℕ, ◌≤◌, true, false, [], ◌∷◌, Option, Result, OnOk, IsErr, IsErrOf, IsOk}
-use Rattle.dr_entry.specs.declared.record.AgeVote.{AgeVote}
-use Rattle.dr_entry.specs.declared.record.Record.{Record}
+use Rattle.dr_entry.specs.declared.record.{AgeVote.AgeVote, Record.Record}
 use Rattle.dr_entry.specs.declared.record.Record.TheVariants as records
 use Rattle.dr_io.specs.Faults.{Rose}
-use Rattle.dr_disk.specs.Disk.{Told}
-use Rattle.dr_disk.specs.Images.{Goes, IsLeft, Lasts}
-use Rattle.dr_log.specs.declared.fault.LogFault.{LogFault}
+use Rattle.dr_disk.specs.{Disk.Told, Images.{Goes, IsLeft, Lasts}}
+use Rattle.dr_log.specs.{Grouping.{added_all, group}, Standing.{HasAllOf, IsBeforeOrAfter, LosesNone}}
+use Rattle.dr_log.specs.{State.{KeepsLimit, LogState, appended, broken_off}, declared.fault.LogFault.LogFault}
 use Rattle.dr_log.specs.declared.fault.LogFault.TheVariants.{DiskFault, LogFull}
-use Rattle.dr_log.specs.Grouping.{added_all, group}
-use Rattle.dr_log.specs.Standing.{HasAllOf, IsBeforeOrAfter, LosesNone}
-use Rattle.dr_log.specs.State.{KeepsLimit, LogState, appended, broken_off}
-use Rattle.dr_log_bytes.specs.Content.{OnLog, block_length, with_record}
-use Rattle.dr_log_bytes.specs.Grammar.{StandFor}
+use Rattle.dr_log_bytes.specs.{Content.{OnLog, block_length, with_record}, Grammar.StandFor}
 
 -- a record was appended to a log, with this answer: all that an append promises
 pub record WasAppended {D T : Type 0} (told : D → Option Told) (faults : D → ℕ) (old new : LogState D)

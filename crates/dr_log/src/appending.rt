@@ -2,8 +2,7 @@
 
 ghost use Rattle.std.specs.Prelude.{◌≡◌, ◌+◌, ◌*◌, ◌-◌, ◌≤◌, ◌<◌, ◌++◌, ◌∷◌, [], All, IfSome, IfOk, OnOk, OnErr, length, min, ◌^◌};
 ghost use Rattle.dr_io.specs.Faults.{HasCause};
-ghost use Rattle.dr_disk.specs.Calls.{FailedWrite, Write};
-ghost use Rattle.dr_disk.specs.Disk.{added, content_of};
+ghost use Rattle.dr_disk.specs.{Calls.{FailedWrite, Write}, Disk.{added, content_of}};
 ghost use Rattle.dr_entry.specs.Spelling.{FitsEntry, IsValidEntry, entry_spelling};
 ghost use Rattle.dr_log.specs.Grouping.{StopsAmong, added_all, group, opening};
 ghost use Rattle.dr_log.specs.Standing.{as_records, entries_length};

@@ -1,9 +1,8 @@
 //! Laws of how long a log is.
 
 ghost use Rattle.std.specs.Prelude.{◌≤◌, ◌+◌, ◌*◌, List, [], All, length};
-ghost use Rattle.dr_entry.specs.declared.entry.Entry.{Entry};
+ghost use Rattle.dr_entry.specs.{Spelling.{IsValid, IsValidEntry}, declared.entry.Entry.Entry};
 ghost use Rattle.dr_entry.specs.declared.record.Record.TheVariants as records;
-ghost use Rattle.dr_entry.specs.Spelling.{IsValid, IsValidEntry};
 ghost use Rattle.dr_log.specs.Standing.{log_length};
 ghost use Rattle.dr_log_bytes.specs.Content.{block_length};
 

@@ -2,17 +2,13 @@
 
 ghost use Rattle.std.specs.Prelude.{◌≡◌, ◌≢◌, ◌↔◌, ◌+◌, ◌*◌, ◌<◌, ◌≤◌, ◌++◌, [], ◌∷◌, ℕ, List, All, length, max, true, false, IfOk, IfErr, IfSome, IsErrOf, IsTrue, OnOk, OnErr};
 ghost use Rattle.dr_io.specs.Faults.{Rose};
-ghost use Rattle.dr_disk.specs.Calls.{Sync};
-ghost use Rattle.dr_disk.specs.Disk.{added, content_of};
-ghost use Rattle.dr_disk.specs.Images.{Goes, IsLeft, Lasts, ReadsAnImage};
+ghost use Rattle.dr_disk.specs.{Calls.Sync, Disk.{added, content_of}, Images.{Goes, IsLeft, Lasts, ReadsAnImage}};
 ghost use Rattle.dr_entry.specs.Spelling.{IsValid, IsValidEntry};
-ghost use Rattle.dr_log.specs.declared.fault.LogFault.TheVariants.{DiskFault, LogFull};
-ghost use Rattle.dr_log.specs.declared.fault.MountWhy.TheVariants as why;
-ghost use Rattle.dr_log.specs.Appending.{IsMounted};
-ghost use Rattle.dr_log.specs.Grouping.{added_all, group};
+ghost use Rattle.dr_log.specs.{Appending.IsMounted, Voting.{HasVotedAge, WasUpgraded}};
+ghost use Rattle.dr_log.specs.{Grouping.{added_all, group}, declared.fault.LogFault.TheVariants.{DiskFault, LogFull}};
 ghost use Rattle.dr_log.specs.Standing.{HasAllOf, IsBeforeOrAfter, IsNoneOrAll, KeepsRecords, LosesNone, MayBeUpgraded, MayBeVoted, as_records, entries_length, in_newer_format, least_length, with_age_vote};
 ghost use Rattle.dr_log.specs.State.{KeepsLimit, appended, appended_all, as_entry, as_other, as_vote, broken_off, broken_off_all};
-ghost use Rattle.dr_log.specs.Voting.{HasVotedAge, WasUpgraded};
+ghost use Rattle.dr_log.specs.declared.fault.MountWhy.TheVariants as why;
 ghost use Rattle.dr_log_bytes.specs.Content.{IsPlaced, OnLog, block_length, empty_of, with_record};
 ghost use Rattle.dr_log_bytes.specs.Grammar.{IsDamaged, StandFor};
 

@@ -2,13 +2,9 @@
 
 ghost use Rattle.std.specs.Prelude.{◌≡◌, ◌≢◌, ◌≤◌, ℕ, IfOk, IfErr, IfSome, IsErrOf, OnOk, Err, length};
 ghost use Rattle.dr_io.specs.Faults.{Rose, HasCause};
-ghost use Rattle.dr_disk.specs.Calls.{Sync};
-ghost use Rattle.dr_disk.specs.Disk.{added, content_of};
-ghost use Rattle.dr_disk.specs.Images.{Goes, ReadsAnImage};
+ghost use Rattle.dr_disk.specs.{Calls.Sync, Disk.{added, content_of}, Images.{Goes, ReadsAnImage}};
+ghost use Rattle.dr_log.specs.{Appending.IsMounted, Kept.IsSettled, Standing.{KeepsRecords, least_length}};
 ghost use Rattle.dr_log.specs.declared.fault.MountWhy.TheVariants.{DiskFault, Damaged};
-ghost use Rattle.dr_log.specs.Appending.{IsMounted};
-ghost use Rattle.dr_log.specs.Standing.{KeepsRecords, least_length};
-ghost use Rattle.dr_log.specs.Kept.{IsSettled};
 ghost use Rattle.dr_log_bytes.specs.Grammar.{IsDamaged, IsLogOf, IsNoLog, StandFor};
 
 use crate::fault::MountWhy;

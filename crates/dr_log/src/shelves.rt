@@ -1,8 +1,7 @@
 //! What is on a log, each kind in a list of its own, with places for more.
 
 ghost use Rattle.std.specs.Prelude.{◌≡◌, ◌+◌, ◌≤◌, ◌<◌, ◌^◌, ◌++◌, ◌∷◌, [], IsOk, OnOk, length, vec_len, vec_capacity};
-ghost use Rattle.dr_log.specs.Shelved.{HasPlaces, KeepsPlaces};
-ghost use Rattle.dr_log.specs.Standing.{entries_length, with_entries};
+ghost use Rattle.dr_log.specs.{Shelved.{HasPlaces, KeepsPlaces}, Standing.{entries_length, with_entries}};
 ghost use Rattle.dr_log.specs.State.{as_entry, as_other, as_vote};
 ghost use Rattle.dr_log_bytes.specs.Content.{block_length, with_record};
 

@@ -1,18 +1,15 @@
 -- The grammar of a log's bytes, where bytes are appended, and in ordinary logs.
+use Rattle.std.{specs.Prelude.{if◌then◌else◌, All}, proofs.lemmas.List.Elements.{All-append, All-cons, All-nil}}
 use Rattle.std.proofs.Common.{◌≡◌, ℕ, ◌+◌, ◌-◌, List, [], ◌∷◌, ◌++◌, refl, sym, ap, ◌∙◌, append_assoc, ◌⊎◌, Bool, ◌≤◌, length, inl, inr, arith, true, false, subst}
-use Rattle.std.specs.Prelude.{if◌then◌else◌, All}
-use Rattle.std.proofs.lemmas.List.Elements.{All-append, All-cons, All-nil}
+use Rattle.dr_entry.specs.{Spelling.{spelling, IsValid, IsValidVote}, declared.record.Record.Record}
 use Rattle.dr_entry.proofs.Records.{IsOrdinary}
-use Rattle.dr_entry.specs.declared.record.Record.{Record}
-use Rattle.dr_entry.specs.Spelling.{spelling, IsValid, IsValidVote}
 use Rattle.dr_entry.specs.declared.record.Record.TheVariants as records
-use Rattle.dr_log_bytes.specs.Grammar.{blocks, AreSpelled, StandFor, IsLog, magic_of, newer_magic}
 use Rattle.dr_log_bytes.specs.Content.{OnLog, content_after, with_record, ArePlaced, IsPlaced, empty_of}
+use Rattle.dr_log_bytes.specs.Grammar.{blocks, AreSpelled, StandFor, IsLog, magic_of, newer_magic}
 
 pub blocks-append : (rs ss : List Record) → blocks (rs ++ ss) ≡ blocks rs ++ blocks ss
 blocks-append [] ss = refl
-blocks-append (r ∷ rs) ss = ap (λ (l : List ℕ). 1 ∷ l)
-    (ap (λ (l : List ℕ). spelling r ++ l) (blocks-append rs ss)
+blocks-append (r ∷ rs) ss = ap (λ (l : List ℕ). 1 ∷ l) (ap (λ (l : List ℕ). spelling r ++ l) (blocks-append rs ss)
     ∙ sym (append_assoc (spelling r) (blocks rs) (blocks ss)))
 
 pub spelled-append : (rs ss : List Record) → AreSpelled rs → AreSpelled ss → AreSpelled (rs ++ ss)

@@ -1,7 +1,6 @@
 -- Bytes stand for one thing, or are damaged at one place.
 use Rattle.std.proofs.Common.{◌≡◌, ◌≢◌, ℕ, ◌+◌, Bool, true, false, get_or, subst, List, [], ◌∷◌, ◌++◌, length, take, drop, inl, inr, refl, sym, ap, ◌∙◌, append_assoc, arith, take_at, drop_at}
-use Rattle.dr_entry.specs.declared.record.Record.{Record}
-use Rattle.dr_entry.specs.Spelling.{IsValid, Fits, spelling}
+use Rattle.dr_entry.specs.{Spelling.{IsValid, Fits, spelling}, declared.record.Record.Record}
 use Rattle.dr_entry.proofs.RoundTrip.{one_record}
 use Rattle.dr_log_bytes.specs.Content.{ArePlaced, IsPlaced, OnLog, content_after, empty_of, with_record}
 use Rattle.dr_log_bytes.specs.Grammar.{blocks, AreSpelled, IsLog, IsLogOf, StandFor, IsBroken, BreaksAt, IsNoLog, IsDamaged, magic_of}
@@ -32,25 +31,19 @@ pub one_log : (c : OnLog) (rs ss : List Record) (x y : List ℕ) → AreSpelled 
     → ArePlaced c rs → ArePlaced c ss → IsEnd (content_after c rs) x → IsEnd (content_after c ss) y
     → blocks rs ++ x ≡ blocks ss ++ y → (rs ≡ ss) × (x ≡ y)
 one_log c [] [] x y ar ass pr ps ex ey same = (refl, same)
-one_log c [] (s ∷ ss) x y ar ass pr ps ex ey same =
-    absurd (ex s (blocks ss ++ y) ass.0.0 ass.0.1 ps.0 (same ∙ ap (λ (l : List ℕ). 1 ∷ l)
-    (append_assoc (spelling s) (blocks ss) y)))
-one_log c (r ∷ rs) [] x y ar ass pr ps ex ey same =
-    absurd (ey r (blocks rs ++ x) ar.0.0 ar.0.1 pr.0 (sym same ∙ ap (λ (l : List ℕ). 1 ∷ l)
-    (append_assoc (spelling r) (blocks rs) x)))
+one_log c [] (s ∷ ss) x y ar ass pr ps ex ey same = absurd (ex s (blocks ss ++ y) ass.0.0 ass.0.1 ps.0
+    (same ∙ ap (λ (l : List ℕ). 1 ∷ l) (append_assoc (spelling s) (blocks ss) y)))
+one_log c (r ∷ rs) [] x y ar ass pr ps ex ey same = absurd (ey r (blocks rs ++ x) ar.0.0 ar.0.1 pr.0
+    (sym same ∙ ap (λ (l : List ℕ). 1 ∷ l) (append_assoc (spelling r) (blocks rs) x)))
 one_log c (r ∷ rs) (s ∷ ss) x y ar ass pr ps ex ey same =
     let behind : spelling r ++ (blocks rs ++ x) ≡ spelling s ++ (blocks ss ++ y) =
-    sym (append_assoc (spelling r) (blocks rs) x) ∙ ap (drop 1) same ∙ append_assoc (spelling s)
-    (blocks ss) y in
+    sym (append_assoc (spelling r) (blocks rs) x) ∙ ap (drop 1) same ∙ append_assoc (spelling s) (blocks ss) y in
     let one = one_record r s (blocks rs ++ x) (blocks ss ++ y) ar.0.0 ar.0.1 ass.0.0 ass.0.1 behind in
-    let rests : blocks rs ++ x ≡ blocks ss ++ y =
-    sym (drop_at (spelling r) (blocks rs ++ x) (length (spelling r)) refl)
-    ∙ ap (drop (length (spelling r))) behind
-    ∙ drop_at (spelling s) (blocks ss ++ y) (length (spelling r))
-    (ap (λ (t : Record). length (spelling t)) (sym one)) in
-    let others = one_log (with_record r c) rs ss x y ar.1 ass.1 pr.1
-    (subst (λ t. ArePlaced (with_record t c) ss) (sym one) ps.1) ex
-    (subst (λ t. IsEnd (content_after (with_record t c) ss) y) (sym one) ey) rests in
+    let rests : blocks rs ++ x ≡ blocks ss ++ y = sym (drop_at (spelling r)
+    (blocks rs ++ x) (length (spelling r)) refl) ∙ ap (drop (length (spelling r))) behind ∙ drop_at (spelling s)
+    (blocks ss ++ y) (length (spelling r)) (ap (λ (t : Record). length (spelling t)) (sym one)) in
+    let others = one_log (with_record r c) rs ss x y ar.1 ass.1 pr.1 (subst (λ t. ArePlaced (with_record t c) ss)
+    (sym one) ps.1) ex (subst (λ t. IsEnd (content_after (with_record t c) ss) y) (sym one) ey) rests in
     (ap (λ (t : Record). t ∷ rs) one ∙ ap (λ (l : List Record). s ∷ l) others.0, others.1)
 
 -- and so are the formats
@@ -115,19 +108,16 @@ no_log_once bytes at to (inr a) (inl b) =
     absurd (b.0 a.newer (ap (take 8) a.parts ∙ front_magic a.newer (blocks a.records ++ a.rest)))
 no_log_once bytes at to (inr a) (inr b) = breaks_once bytes at to a b
 
-pub damaged_once : (bytes : List ℕ) (at to : ℕ) → IsDamaged bytes at → IsDamaged bytes to → at
-    ≡ to
+pub damaged_once : (bytes : List ℕ) (at to : ℕ) → IsDamaged bytes at → IsDamaged bytes to → at ≡ to
 damaged_once bytes at to a b = no_log_once bytes at to a.1 b.1
 
-gate_of_broken : (c : OnLog) (gate : ℕ) (rest bytes : List ℕ) → gate ∷ rest ≡ bytes → IsBroken c bytes
-    → gate ≡ 1
+gate_of_broken : (c : OnLog) (gate : ℕ) (rest bytes : List ℕ) → gate ∷ rest ≡ bytes → IsBroken c bytes → gate ≡ 1
 gate_of_broken c gate rest [] same broken = absurd cc
 gate_of_broken c gate rest (other ∷ bytes) same broken = let head : gate ≡ other = cc in head ∙ broken.0
 
 -- a log isn't broken
 log_or_none : (bytes : List ℕ) (n : Bool) (rs : List Record) (at : ℕ) → IsLog bytes n rs → IsNoLog bytes at → ⊥
-log_or_none bytes n rs at a (inl b) =
-    b.0 n (ap (take 8) a.parts ∙ front_magic n (blocks rs ++ a.gate ∷ a.rest))
+log_or_none bytes n rs at a (inl b) = b.0 n (ap (take 8) a.parts ∙ front_magic n (blocks rs ++ a.gate ∷ a.rest))
 log_or_none bytes n rs at a (inr b) =
     let same = one_format n b.newer (blocks rs ++ a.gate ∷ a.rest) (blocks b.records ++ b.rest)
     (sym a.parts ∙ b.parts) in

@@ -1,10 +1,9 @@
 -- What a crash leaves at each moment of an append of records behind one gate.
 use Rattle.std.proofs.Common.{Bool, List, ℕ, ◌≡◌, ◌+◌, ◌<◌, length, [], ◌∷◌, ◌++◌, sym, ap, ◌∙◌, append_assoc, arith}
-use Rattle.dr_entry.proofs.ListFacts.{IsWhole}
-use Rattle.dr_entry.specs.declared.record.Record.{Record}
-use Rattle.dr_log_bytes.proofs.Grammars.{HasNoneOrAll, placed-append, blocks-append, spelled-append}
+use Rattle.dr_entry.{specs.declared.record.Record.Record, proofs.ListFacts.IsWhole}
 use Rattle.dr_log_bytes.specs.Content.{OnLog, content_after, empty_of, ArePlaced}
 use Rattle.dr_log_bytes.specs.Grammar.{AreSpelled, IsLog, blocks, magic_of}
+use Rattle.dr_log_bytes.proofs.Grammars.{HasNoneOrAll, placed-append, blocks-append, spelled-append}
 
 -- what the records of a log make
 abbrev pub made_by : Bool → List Record → OnLog
@@ -26,8 +25,7 @@ pub record Behind (old : List ℕ) (f : Bool) (rs : List Record) (q p : ℕ) (ne
 
 -- with the gate open they are a log with the new records
 group_log : (bytes tail x : List ℕ) (f : Bool) (rs news : List Record) → AreSpelled rs
-    → ArePlaced (empty_of f) rs → AreSpelled news → ArePlaced (made_by f rs) news
-    → 1 ∷ x ≡ blocks news ++ 0 ∷ []
+    → ArePlaced (empty_of f) rs → AreSpelled news → ArePlaced (made_by f rs) news → 1 ∷ x ≡ blocks news ++ 0 ∷ []
     → bytes ≡ (magic_of f ++ blocks rs) ++ (1 ∷ (x ++ tail)) → IsLog bytes f (rs ++ news)
 group_log bytes tail x f rs news spelled stood fit placed are is = record {
   spelled = spelled-append rs news spelled fit;

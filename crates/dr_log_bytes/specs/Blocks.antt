@@ -2,8 +2,7 @@
 use Rattle.std.specs.Prelude.{◌≡◌, ◌≢◌, ⊤, ℕ, ◌+◌, ◌<◌, List, [], ◌∷◌, length, drop, slice_index}
 use Rattle.dr_entry.specs.declared.record.Record as records
 use Rattle.dr_entry.specs.Spelling.{Spells}
-use Rattle.dr_log_bytes.specs.declared.block.Block.{Block}
-use Rattle.dr_log_bytes.specs.declared.block.Block.TheVariants.{Record, Closed, Broken}
+use Rattle.dr_log_bytes.specs.declared.block.Block.{Block, TheVariants.{Record, Closed, Broken}}
 
 -- here stands no gate, or an open one with no record behind it
 abbrev pub HasNoRecord : List ℕ → Type 0

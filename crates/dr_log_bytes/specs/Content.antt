@@ -1,11 +1,8 @@
 -- What records make of a log, one after the other, and which of them may stand behind others.
 use Rattle.std.specs.Prelude.{◌≡◌, ⊤, ℕ, ◌+◌, ◌≤◌, Bool, true, false, List, [], ◌∷◌, ◌++◌, length, take}
-use Rattle.dr_entry.specs.declared.entry.Entry.{Entry}
-use Rattle.dr_entry.specs.declared.record.AgeVote.{AgeVote}
-use Rattle.dr_entry.specs.declared.record.Record.{Record}
+use Rattle.dr_entry.specs.{Spelling.spelling, declared.entry.Entry.Entry, declared.record.AgeVote.AgeVote}
+use Rattle.dr_entry.specs.declared.record.{Record.Record, Vote.Vote}
 use Rattle.dr_entry.specs.declared.record.Record.TheVariants as records
-use Rattle.dr_entry.specs.declared.record.Vote.{Vote}
-use Rattle.dr_entry.specs.Spelling.{spelling}
 
 -- what is on a log: its entries, its votes and its age votes, each kind in order, whether it is of the newer
 -- format, so that it may hold age votes and cuts, and its length in bytes up to the closed gate, with it

@@ -1,8 +1,7 @@
 -- The bytes of a log, and what they stand for.
-use Rattle.std.specs.Prelude.{◌≡◌, ◌≢◌, ℕ, ◌+◌, ◌<◌, ◌≤◌, Bool, true, if◌then◌else◌, List, [], ◌∷◌, ◌++◌, length, take, ⊤, ◌⊎◌}
 use Rattle.std.specs.List.{AllByRecursion}
-use Rattle.dr_entry.specs.declared.record.Record.{Record}
-use Rattle.dr_entry.specs.Spelling.{IsValid, Fits, Spells, spelling}
+use Rattle.std.specs.Prelude.{◌≡◌, ◌≢◌, ℕ, ◌+◌, ◌<◌, ◌≤◌, Bool, true, if◌then◌else◌, List, [], ◌∷◌, ◌++◌, length, take, ⊤, ◌⊎◌}
+use Rattle.dr_entry.specs.{Spelling.{IsValid, Fits, Spells, spelling}, declared.record.Record.Record}
 use Rattle.dr_log_bytes.specs.Content.{ArePlaced, IsPlaced, OnLog, content_after, empty_of}
 
 -- DERLOG01 and DERLOG02

@@ -1,9 +1,7 @@
 //! Reads a log's bytes block by block.
 
-ghost use Rattle.std.specs.Prelude.{◌≡◌, ◌≢◌, ◌≤◌, IfNone, IfSome, length, take};
-ghost use Rattle.std.specs.Prelude.{Bool};
-ghost use Rattle.dr_log_bytes.specs.Blocks.{IsBlockAt};
-ghost use Rattle.dr_log_bytes.specs.Grammar.{magic_of};
+ghost use Rattle.std.specs.Prelude.{◌≡◌, ◌≢◌, ◌≤◌, IfNone, IfSome, length, take, Bool};
+ghost use Rattle.dr_log_bytes.specs.{Blocks.IsBlockAt, Grammar.magic_of};
 
 use dr_entry::{Record, decode};
 

@@ -1,8 +1,7 @@
 //! Laws of the bytes of a log.
 ghost use Rattle.std.specs.Prelude.{◌≡◌, ℕ, Bool, List};
 ghost use Rattle.dr_entry.specs.declared.record.Record.{Record};
-ghost use Rattle.dr_log_bytes.specs.Content.{OnLog};
-ghost use Rattle.dr_log_bytes.specs.Grammar.{IsDamaged, IsLog, StandFor};
+ghost use Rattle.dr_log_bytes.specs.{Content.OnLog, Grammar.{IsDamaged, IsLog, StandFor}};
 
 /// A law: bytes stand for one thing at most, are damaged at most at one place, and never both. Those that are a log
 /// are one of one format, and of one list of records.

@@ -1,7 +1,6 @@
 //! Reads a log's bytes.
 ghost use Rattle.std.specs.Prelude.{◌≡◌, IfOk, Err, ℕ};
-ghost use Rattle.dr_log_bytes.specs.declared.parsing.ParseFault.TheVariants.{Damaged};
-ghost use Rattle.dr_log_bytes.specs.Grammar.{IsLogOf, IsNoLog};
+ghost use Rattle.dr_log_bytes.specs.{Grammar.{IsLogOf, IsNoLog}, declared.parsing.ParseFault.TheVariants.Damaged};
 
 use crate::block::{Block, FIRST_GATE, block_at, format_of};
 use crate::content::Content;

@@ -1,16 +1,9 @@
 -- A member that has ended stands as it did, and ended only where that was due, or by a fault.
+use Rattle.std.{specs.Prelude.{None, Option}, proofs.lemmas.{Bool.cases_eq, Option.same_Some}}
 use Rattle.std.proofs.Common.{◌≡◌, ◌≢◌, ◌∙◌, ◌⊎◌, ap, arith, inl, inr, refl, subst, sym, ℕ, Some}
-use Rattle.std.specs.Prelude.{None, Option}
-use Rattle.std.proofs.lemmas.Bool.{cases_eq}
-use Rattle.std.proofs.lemmas.Option.{same_Some}
 use Rattle.dr_entry.specs.declared.end.End.{End}
-use Rattle.dr_machine.proofs.Events.{Standing, standing, standing_after}
-use Rattle.dr_machine.specs.Acts.{CanTake, effect_of}
-use Rattle.dr_machine.specs.declared.step.Step.{Step}
-use Rattle.dr_machine.specs.Group.{Group}
-use Rattle.dr_machine.specs.Guards.{IsDue, IsFault, IsInView}
-use Rattle.dr_machine.specs.World.{World}
-use Rattle.dr_machine.specs.Writes.{at}
+use Rattle.dr_machine.specs.{Acts.{CanTake, effect_of}, Group.Group, Guards.{IsDue, IsFault, IsInView}, World.World}
+use Rattle.dr_machine.{specs.{Writes.at, declared.step.Step.Step}, proofs.Events.{Standing, standing, standing_after}}
 
 -- member k stands as it did
 pub record IsStill (w : World) (x : Standing) (k : ℕ) : Type 0 where
@@ -25,8 +18,7 @@ EndsSo w k end = (w.end k ≡ Some end) ⊎ ((IsInView w k × IsDue w k end) ⊎
 
 -- who has ended so after a step stood before it as it does then, and had ended so or ends so now
 pub ended_so : (g : Group) (w : World) (m : ℕ) (s : Step) (k : ℕ) (end : End) → CanTake g w m s
-    → (effect_of g w m s).end k ≡ Some end
-    → IsStill w (standing (effect_of g w m s)) k × EndsSo w k end
+    → (effect_of g w m s).end k ≡ Some end → IsStill w (standing (effect_of g w m s)) k × EndsSo w k end
 ended_so g w m s k end can = standing_after g w m s
     (λ x. x.end k ≡ Some end → IsStill w x k × EndsSo w k end) can (record {
       goes_on = λ can e. let d = apart can.may.alive.running e in (

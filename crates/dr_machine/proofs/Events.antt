@@ -1,30 +1,20 @@
 -- The event that a step of a member is: of that member, and that step of it. And which few steps change how
 -- the members stand, what they have put and delivered, and who shows done.
-use Rattle.std.proofs.Common.{◌≡◌, ◌∙◌, ◌⊎◌, ap, refl, subst, sym, inl, inr, ℕ, ◌+◌, arith, List, [], ◌∷◌, ◌++◌}
 use Rattle.std.specs.Prelude.{Option, unwrap_or}
-use Rattle.dr_entry.specs.declared.end.End.{End}
-use Rattle.dr_entry.specs.declared.end.SentItem.{SentItem}
-use Rattle.dr_entry.specs.declared.end.SentItem.TheVariants as sent_items
-use Rattle.dr_entry.specs.declared.entry.Entry.{Entry}
-use Rattle.dr_entry.specs.declared.entry.Item.{Item}
+use Rattle.std.proofs.Common.{◌≡◌, ◌∙◌, ◌⊎◌, ap, refl, subst, sym, inl, inr, ℕ, ◌+◌, arith, List, [], ◌∷◌, ◌++◌}
+use Rattle.dr_entry.specs.declared.{end.{End.End, SentItem.SentItem}, entry.{Entry.Entry, Item.Item}}
 use Rattle.dr_entry.specs.declared.record.Value.{Value}
+use Rattle.dr_entry.specs.declared.end.SentItem.TheVariants as sent_items
 use Rattle.dr_history.specs.History.{Sent, last_view}
+use Rattle.dr_words.specs.{Masks.with_member, declared.column.TheConstants.{BEAT_COLUMN, DONE_COLUMN}}
 use Rattle.dr_words.proofs.Rewrites.{accepted_rest, wedged_rest}
-use Rattle.dr_ring.specs.Pieces.{pieces}
-use Rattle.dr_ring.specs.Slots.{slot_column}
-use Rattle.dr_words.specs.declared.column.TheConstants.{BEAT_COLUMN, DONE_COLUMN}
-use Rattle.dr_words.specs.Masks.{with_member}
-use Rattle.dr_machine.specs.Acts.{CanDo, CanTake, does, effect_of}
-use Rattle.dr_machine.specs.declared.event.Act.{Act}
-use Rattle.dr_machine.specs.declared.event.Act.TheVariants as acts
-use Rattle.dr_machine.specs.declared.step.Step.{Step}
-use Rattle.dr_machine.specs.declared.step.Step.TheVariants.{Do, Join, Welcome}
+use Rattle.dr_ring.specs.{Pieces.pieces, Slots.slot_column}
+use Rattle.dr_machine.specs.{Acts.{CanDo, CanTake, does, effect_of}, Events.{event_of, member_of, step_of}}
 use Rattle.dr_machine.specs.Effects.{accepts, commits, delivers, ends, finishes, gains, joins, marks, next_item, one_more, puts, reports, row_with, stamped, stamped_in, suspects, welcomes}
-use Rattle.dr_machine.specs.Events.{event_of, member_of, step_of}
-use Rattle.dr_machine.specs.Group.{Group, roster}
+use Rattle.dr_machine.specs.{Group.{Group, roster}, Writes.{at, at₂}, declared.{event.Act.Act, step.Step.Step}}
 use Rattle.dr_machine.specs.Guards.{CanCommit, CanDeliver, CanFinish, CanJoin, CanMark, CanNull, CanReport, CanSend, CanSuspect, CanWelcome, IsDue, IsFault, IsInView, IsRunning, next_index}
-use Rattle.dr_machine.specs.World.{World, items_received}
-use Rattle.dr_machine.specs.Writes.{at, at₂}
+use Rattle.dr_machine.specs.{World.{World, items_received}, declared.step.Step.TheVariants.{Do, Join, Welcome}}
+use Rattle.dr_machine.specs.declared.event.Act.TheVariants as acts
 
 -- whose event it is
 pub member_of_event : (m : ℕ) (s : Step) → member_of (event_of m s) ≡ m
@@ -110,10 +100,9 @@ IsNextItem g w m sent_items.Null = CanNull g w m
 -- what P has to hold of, to hold of that after any step of m: after those by which it puts an item, delivers
 -- a place, knows more to be durable, goes on in the next view or joins, and of what is so before
 pub record ProgressCases (g : Group) (w : World) (m : ℕ) (P : Progress → Type 0) : Type 0 where
-  pub puts_item : (name : SentItem) → IsNextItem g w m name
-      → P (record (progress w) {
-        sent = at₂ w.past.sent m (w.past.view m) (w.past.sent m (w.past.view m) ++ name ∷ []);
-      })
+  pub puts_item : (name : SentItem) → IsNextItem g w m name → P (record (progress w) {
+    sent = at₂ w.past.sent m (w.past.view m) (w.past.sent m (w.past.view m) ++ name ∷ []);
+  })
   pub delivers_place : CanDeliver g w m → P (progress (delivers w m))
   pub knows_more : CanReport g w m → P (progress (reports w m))
   pub goes_on : CanFinish g w m → P (progress (finishes g w m))
@@ -122,8 +111,7 @@ pub record ProgressCases (g : Group) (w : World) (m : ℕ) (P : Progress → Typ
 
 pub progress_after : (g : Group) (w : World) (m : ℕ) (s : Step) (P : Progress → Type 0) → CanTake g w m s
     → ProgressCases g w m P → P (progress (effect_of g w m s))
-progress_after g w m (Do acts.Send) P can cases =
-    cases.puts_item (sent_items.Index (next_index w m)) (can, refl)
+progress_after g w m (Do acts.Send) P can cases = cases.puts_item (sent_items.Index (next_index w m)) (can, refl)
 progress_after g w m (Do acts.Null) P can cases = cases.puts_item sent_items.Null can
 progress_after g w m (Do acts.Deliver) P can cases = cases.delivers_place can
 progress_after g w m (Do acts.Report) P can cases = cases.knows_more can
@@ -184,16 +172,13 @@ row_same own i u row e k v = grind (arith, e)
 
 stamped_done : (w u : World) (m v : ℕ) → AreDoneAs w u → AreDoneAs w (stamped_in u m v)
 stamped_done w u m v same k i =
-    row_same u.past.own m v (at (u.past.own m v) BEAT_COLUMN (one_more 64 (u.past.acts m))) refl k i
-    ∙ same k i
+    row_same u.past.own m v (at (u.past.own m v) BEAT_COLUMN (one_more 64 (u.past.acts m))) refl k i ∙ same k i
 
 gain_done : (w : World) (m s : ℕ) (item : Item) → AreDoneAs w (gains w m s item)
 gain_done w m s item = row_same w.past.own m (w.past.view m) _ (grind arith)
 
-put_done : (g : Group) (w : World) (m : ℕ) (name : SentItem) (item : Item)
-    → AreDoneAs w (puts g w m name item)
-put_done g w m name item k v =
-    row_same (at₂ w.past.own m (w.past.view m) slot) m (w.past.view m) _ (grind arith) k v
+put_done : (g : Group) (w : World) (m : ℕ) (name : SentItem) (item : Item) → AreDoneAs w (puts g w m name item)
+put_done g w m name item k v = row_same (at₂ w.past.own m (w.past.view m) slot) m (w.past.view m) _ (grind arith) k v
     ∙ row_same w.past.own m (w.past.view m) slot (grind arith) k v
   where
     slot : ℕ → ℕ
@@ -201,9 +186,8 @@ put_done g w m name item k v =
         (items_received w m m) (pieces item)
 
 suspect_done : (g : Group) (w : World) (m j : ℕ) → AreDoneAs w (suspects g w m j)
-suspect_done g w m j = row_same w.past.own m (w.past.view m) _
-    (wedged_rest (roster g) (w.members m) (with_member (w.suspects m) j) _ DONE_COLUMN _ (omega arith)
-    (inl (omega arith)))
+suspect_done g w m j = row_same w.past.own m (w.past.view m) _ (wedged_rest (roster g)
+    (w.members m) (with_member (w.suspects m) j) _ DONE_COLUMN _ (omega arith) (inl (omega arith)))
 
 accept_done : (g : Group) (w : World) (m : ℕ) → AreDoneAs w (accepts g w m)
 accept_done g w m = row_same w.past.own m (w.past.view m) _
@@ -229,10 +213,8 @@ pub marks_or_leaves : (g : Group) (w : World) (m : ℕ) (s : Step) → CanTake g
 marks_or_leaves g w m (Do a) can = by (does_mark g w m a can)
   where
     by : (CanMark g w m × (does g w m a ≡ marks w m)) ⊎ AreDoneAs w (does g w m a)
-        → (CanMark g w m × (effect_of g w m (Do a) ≡ stamped (marks w m) m))
-        ⊎ AreDoneAs w (effect_of g w m (Do a))
+        → (CanMark g w m × (effect_of g w m (Do a) ≡ stamped (marks w m) m)) ⊎ AreDoneAs w (effect_of g w m (Do a))
     by (inl t) = inl (t.0, ap (λ u. stamped_in u m (w.past.view m)) t.1)
     by (inr same) = inr (stamped_done w (does g w m a) m (w.past.view m) same)
-marks_or_leaves g w m Join can =
-    inr (row_same w.past.own m (last_view (0, 0) (unwrap_or (w.letter m) [])).0 _ refl)
+marks_or_leaves g w m Join can = inr (row_same w.past.own m (last_view (0, 0) (unwrap_or (w.letter m) [])).0 _ refl)
 marks_or_leaves g w m s can = inr (λ k v. refl)

@@ -1,28 +1,14 @@
 -- Groups: their members, the first, the late and the present ones.
+use Rattle.std.specs.{List.range_with_len, Prelude.slice_index}
 use Rattle.std.proofs.Common.{◌≡◌, ◌<◌, ◌≤◌, arith, subst, ℕ, ◌-◌, length, sym, ap, ◌∙◌, inl, inr, [], map, ◌^◌, ◌&&◌, not, false, true, ◌||◌, ◌⊎◌, List, take, get_or, All, Some, slice_get}
-use Rattle.std.proofs.Math.Seq.{take-length}
-use Rattle.std.specs.Prelude.{slice_index}
-use Rattle.std.specs.List.{range_with_len}
-use Rattle.std.proofs.lemmas.Bool.{cases_lt}
-use Rattle.std.proofs.lemmas.List.{get_or_past}
-use Rattle.std.proofs.lemmas.List.FromFn.{get_or-map-range_with_len, length-map-range_with_len}
-use Rattle.std.proofs.lemmas.Option.{none-some, slice_get-get_or}
-use Rattle.dr_entry.proofs.OptionFacts.{both}
-use Rattle.dr_entry.proofs.BoolFacts.{one_or_other}
-use Rattle.dr_entry.specs.declared.entry.Entry.{Entry}
-use Rattle.dr_entry.specs.declared.entry.Entry.TheVariants.{View, Msg}
-use Rattle.dr_entry.specs.Spelling.{IsValidEntry}
-use Rattle.dr_history.proofs.NumberedLemmas.{from_before}
-use Rattle.dr_history.specs.History.{messages_of}
-use Rattle.dr_history.specs.Order.{messages_from, IsLateIn}
-use Rattle.dr_history.specs.Members.{has}
-use Rattle.dr_history.specs.Soundness.{IsNobodyLate, MayStand}
-use Rattle.dr_history.specs.Restarting.{AllStand}
-use Rattle.dr_words.proofs.Masks.{in_roster_small, has_without_mask}
-use Rattle.dr_words.specs.declared.shape.Shape.{Shape}
-use Rattle.dr_words.specs.declared.column.TheConstants.{LOGGED_COLUMN}
-use Rattle.dr_words.specs.Columns.{columns_of}
-use Rattle.dr_words.specs.Masks.{IsInRoster}
+use Rattle.std.proofs.{Math.Seq.take-length, lemmas.{Bool.cases_lt, Option.{none-some, slice_get-get_or}}}
+use Rattle.std.proofs.lemmas.List.{get_or_past, FromFn.{get_or-map-range_with_len, length-map-range_with_len}}
+use Rattle.dr_entry.specs.{Spelling.IsValidEntry, declared.entry.Entry.{Entry, TheVariants.{View, Msg}}}
+use Rattle.dr_entry.proofs.{BoolFacts.one_or_other, OptionFacts.both}
+use Rattle.dr_history.specs.{History.messages_of, Members.has, Order.{messages_from, IsLateIn}, Restarting.AllStand}
+use Rattle.dr_history.{specs.Soundness.{IsNobodyLate, MayStand}, proofs.NumberedLemmas.from_before}
+use Rattle.dr_words.specs.{Columns.columns_of, Masks.IsInRoster, declared.column.TheConstants.LOGGED_COLUMN}
+use Rattle.dr_words.{specs.declared.shape.Shape.Shape, proofs.Masks.{in_roster_small, has_without_mask}}
 use Rattle.dr_machine.specs.Group.{Group, banks, roster, IsGroup, late_members, IsPresent}
 
 -- the shape is the group's
@@ -33,8 +19,7 @@ pub record IsShape (g : Group) (shape : Shape) : Type 0 where
 
 -- the width of rows of a group
 pub wide : (g : Group) (shape : Shape) → IsGroup g → IsShape g shape → (shape.members ≤ 16)
-    × (LOGGED_COLUMN < columns_of shape.members shape.window)
-    × (columns_of shape.members shape.window ≤ 1024)
+    × (LOGGED_COLUMN < columns_of shape.members shape.window) × (columns_of shape.members shape.window ≤ 1024)
 wide g shape is of = (
   omega (arith, is.most_members, of.members),
   omega arith,
@@ -43,22 +28,17 @@ wide g shape is of = (
 
 pub base_within : (g : Group) (m : ℕ) → IsGroup g → length (messages_from m g.opening.start)
     ≤ length (messages_of g.opening m)
-base_within g m is =
-    subst (λ es. length (messages_from m es) ≤ length (messages_of g.opening m))
-    (take-length g.opening.start)
-    (from_before g.opening m (length g.opening.start) is.sound (omega arith))
+base_within g m is = subst (λ es. length (messages_from m es) ≤ length (messages_of g.opening m))
+    (take-length g.opening.start) (from_before g.opening m (length g.opening.start) is.sound (omega arith))
 
-pub totals_of : (g : Group) (s : ℕ) → IsGroup g
-    → slice_index (map (λ i. length (messages_of g.opening i)) (range_with_len 0 16)) s
-    ≡ length (messages_of g.opening s)
-totals_of g s is =
-    elim (cases_lt s 16) [
-      | inl within ↦ get_or-map-range_with_len (λ i. length (messages_of g.opening i)) 0 16 s s 0 within
-          (omega arith)
-      | inr past ↦ get_or_past (map (λ i. length (messages_of g.opening i)) (range_with_len 0 16)) s 0
-          (omega (arith, length-map-range_with_len (λ i. length (messages_of g.opening i)) 0 16))
-          ∙ sym (ap length (get_or_past g.opening.messages s [] (omega (arith, is.most_members))))
-    ]
+pub totals_of : (g : Group) (s : ℕ) → IsGroup g → slice_index (map (λ i. length (messages_of g.opening i))
+    (range_with_len 0 16)) s ≡ length (messages_of g.opening s)
+totals_of g s is = elim (cases_lt s 16) [
+  | inl within ↦ get_or-map-range_with_len (λ i. length (messages_of g.opening i)) 0 16 s s 0 within (omega arith)
+  | inr past ↦ get_or_past (map (λ i. length (messages_of g.opening i)) (range_with_len 0 16)) s 0
+      (omega (arith, length-map-range_with_len (λ i. length (messages_of g.opening i)) 0 16))
+      ∙ sym (ap length (get_or_past g.opening.messages s [] (omega (arith, is.most_members))))
+]
 
 -- whoever the age knows is of the roster: who is there, and so who is in the first view, and who is late
 pub first_of_roster : (g : Group) → IsGroup g → IsInRoster (roster g) g.opening.members
@@ -74,8 +54,7 @@ late_is g i is = has_without_mask g.opening.present g.opening.members i (present
 pub late_of_roster : (g : Group) → IsGroup g → IsInRoster (roster g) (late_members g)
 late_of_roster g is i there = is.sound.present i (both _ _ (sym (late_is g i is) ∙ there)).0
 
-pub late_apart : (g : Group) (i : ℕ) → IsGroup g → has (late_members g) i ≡ true
-    → has g.opening.members i ≡ false
+pub late_apart : (g : Group) (i : ℕ) → IsGroup g → has (late_members g) i ≡ true → has g.opening.members i ≡ false
 late_apart g i is there = (both _ _ (sym (late_is g i is) ∙ there)).1
 
 pub first_or_late : (g : Group) (m : ℕ) → IsGroup g → IsPresent g m

@@ -1,9 +1,7 @@
 -- Who is there.
 use Rattle.std.proofs.Common.{◌≡◌, refl, ap, sym, ◌∙◌, length, ℕ, ◌<◌, ◌≤◌, ◌&&◌, not, Bool, true, false, arith}
 use Rattle.dr_entry.specs.declared.limits.TheConstants.{MAX_MEMBERS}
-use Rattle.dr_history.specs.Members.{has, members_of}
-use Rattle.dr_history.specs.Order.{IsLateIn}
-use Rattle.dr_history.proofs.Bits.{has_ones}
+use Rattle.dr_history.{specs.{Members.{has, members_of}, Order.IsLateIn}, proofs.Bits.has_ones}
 use Rattle.dr_history.proofs.MemberLemmas.{few_members}
 use Rattle.dr_machine.specs.Group.{AllPresent, Group, IsGroup, IsPresent, late_members, roster}
 use Rattle.dr_words.proofs.Masks.{has_without_mask, in_roster_small}

@@ -1,11 +1,9 @@
 -- Runs one after another, ways, and the inductions over them.
 use Rattle.std.proofs.Common.{◌≡◌, ◌⊎◌, le_refl, refl, sym, subst, inl, inr, List, [], ◌∷◌, ◌++◌, ℕ, All, Contains, arith}
 use Rattle.std.proofs.lemmas.List.Elements.{All-tail, Contains-append_cases, Contains-append_left, Contains-append_right, Contains-push, Contains-push_cases}
-use Rattle.dr_machine.specs.declared.event.Event.{Event}
-use Rattle.dr_machine.specs.Group.{Group}
-use Rattle.dr_machine.specs.World.{Table, World, opening_world, own_word}
-use Rattle.dr_machine.specs.Acts.{Guard, effect}
+use Rattle.dr_machine.specs.{Acts.{Guard, effect}, Group.Group}
 use Rattle.dr_machine.specs.Run.{ComesNext, ComesOfEvents, Happens, HaveArrived, IsReached, MayArrive, Run, WasOwn, Way, with_table}
+use Rattle.dr_machine.specs.{World.{Table, World, opening_world, own_word}, declared.event.Event.Event}
 
 -- a run may go on where another has ended
 pub run_on : (g : Group) (w mid after : World) (a b : List Event) → Run g w a mid → Run g mid b after
@@ -42,21 +40,18 @@ none_was B v i c word was = absurd (none_before was.0 was.1)
 
 -- what holds of the own words of a world, and of those that were own ones before, holds of all of them
 pub were_all : (us : List World) (w : World) (B : ℕ → ℕ → ℕ → ℕ → Type 0)
-    → ((i c : ℕ) → B (w.past.view i) i c (own_word w i c))
-    → ((v i c word : ℕ) → WasOwn us v i c word → B v i c word)
+    → ((i c : ℕ) → B (w.past.view i) i c (own_word w i c)) → ((v i c word : ℕ) → WasOwn us v i c word → B v i c word)
     → (v i c word : ℕ) → WasOwn (w ∷ us) v i c word → B v i c word
 were_all us w B now before v i c word was = by (last_or_before us w was.0 was.1)
   where
     by : (w ≡ was.0) ⊎ Contains us was.0 → B v i c word
-    by (inl same) = subst (B v i c) was.3
-        (subst (λ n. B n i c (was.0.past.own i n c)) was.2
+    by (inl same) = subst (B v i c) was.3 (subst (λ n. B n i c (was.0.past.own i n c)) was.2
         (subst (λ (x : World). B (x.past.view i) i c (own_word x i c)) same (now i c)))
     by (inr earlier) = before v i c word (was.0, earlier, was.2, was.3)
 
 -- what holds of those and of the words of the table holds of a word that may arrive
-pub arrived : (moments : List World) (w : World) (v i c word : ℕ) (P : ℕ → Type 0)
-    → MayArrive moments w v i c word → ((x : ℕ) → WasOwn moments v i c x → P x)
-    → ((k : ℕ) → P (w.table v k i c)) → P word
+pub arrived : (moments : List World) (w : World) (v i c word : ℕ) (P : ℕ → Type 0) → MayArrive moments w v i c word
+    → ((x : ℕ) → WasOwn moments v i c x → P x) → ((k : ℕ) → P (w.table v k i c)) → P word
 arrived moments w v i c word P (inl was) own table = own word was
 arrived moments w v i c word P (inr (k, same)) own table = subst P same (table k)
 
@@ -64,20 +59,17 @@ arrived moments w v i c word P (inr (k, same)) own table = subst P same (table k
 
 -- what each event keeps on a way, and each arrival of words, holds of each world with the worlds before it,
 -- where of these something is known
-pub by_way : (g : Group) (Q : World → Type 0) (P : List World → World → Type 0)
-    → ((us : List World) (w : World) (e : Event) → Way g us w → All Q (w ∷ us) → Guard g w e → P us w
-    → P (w ∷ us) (effect g w e))
-    → ((us : List World) (w : World) (table : Table) → Way g us w → All Q (w ∷ us)
-    → HaveArrived (w ∷ us) w table → P us w → P (w ∷ us) (with_table w table))
-    → P [] (opening_world g) → (us : List World) (w : World) → Way g us w → All Q us → P us w
+pub by_way : (g : Group) (Q : World → Type 0) (P : List World → World → Type 0) → ((us : List World) (w : World)
+    (e : Event) → Way g us w → All Q (w ∷ us) → Guard g w e → P us w → P (w ∷ us) (effect g w e)) → ((us : List World)
+    (w : World) (table : Table) → Way g us w → All Q (w ∷ us) → HaveArrived (w ∷ us) w table → P us w → P (w ∷ us)
+    (with_table w table)) → P [] (opening_world g) → (us : List World) (w : World) → Way g us w → All Q us → P us w
 by_way g Q P step arrive begun [] w r all = subst (P []) (sym r) begun
 by_way g Q P step arrive begun (u ∷ us) w r all =
     once (by_way g Q P step arrive begun us u r.0 (All-tail Q u us all)) r.1
   where
     once : P us u → ComesNext g us u w → P (u ∷ us) w
     once old (inl (e, can, same)) = subst (P (u ∷ us)) (sym same) (step us u e r.0 all can old)
-    once old (inr (table, come, same)) =
-        subst (P (u ∷ us)) (sym same) (arrive us u table r.0 all come old)
+    once old (inr (table, come, same)) = subst (P (u ∷ us)) (sym same) (arrive us u table r.0 all come old)
 
 -- what each event keeps, and no table changes, holds of every world on a way
 along : (g : Group) (P : World → Type 0)
@@ -93,16 +85,14 @@ along g P step arrive begun (u ∷ us) w r = once (along g P step arrive begun u
 
 -- and so of every world that is reached
 pub reached : (g : Group) (P : World → Type 0)
-    → ((w : World) (e : Event) → IsReached g w → Guard g w e → P w → P (effect g w e))
-    → ((w : World) (table : Table) → P w → P (with_table w table))
-    → P (opening_world g) → (w : World) → IsReached g w → P w
+    → ((w : World) (e : Event) → IsReached g w → Guard g w e → P w → P (effect g w e)) → ((w : World)
+    (table : Table) → P w → P (with_table w table)) → P (opening_world g) → (w : World) → IsReached g w → P w
 reached g P step arrive begun w r = along g P step arrive begun r.0 w r.1
 
 -- ---- ways that go on
 
 -- one event more leads to a reached world, whether it was taken or refused
-pub reached_more : (g : Group) (w after : World) (e : Event) → IsReached g w → Happens g w e after
-    → IsReached g after
+pub reached_more : (g : Group) (w after : World) (e : Event) → IsReached g w → Happens g w e after → IsReached g after
 reached_more g w after e r (inl (can, same)) = (w ∷ r.0, (r.1, inl (e, can, same)))
 reached_more g w after e r (inr (refused, same)) = subst (IsReached g) (sym same) r
 
@@ -113,23 +103,17 @@ stays_next g us w =
 
 -- a run goes on a way, on which the worlds before it stand
 pub run_way : (g : Group) (us : List World) (w after : World) (es : List Event) → Way g us w → Run g w es after
-    → (before : List World) × Way g before after
-    × ((u : World) → Contains (w ∷ us) u → Contains (after ∷ before) u)
-run_way g us w after [] way run =
-    subst (λ x. (before : List World) × Way g before x × ((u : World) → Contains (w ∷ us) u → Contains (x ∷ before) u))
-    (sym run) (us, way, λ u c. c)
-run_way g us w after (e ∷ es) way run =
-    by (λ vs on. run_way g vs run.0 after es on run.2) run.1
+    → (before : List World) × Way g before after × ((u : World) → Contains (w ∷ us) u → Contains (after ∷ before) u)
+run_way g us w after [] way run = subst (λ x. (before : List World)
+    × Way g before x × ((u : World) → Contains (w ∷ us) u → Contains (x ∷ before) u)) (sym run) (us, way, λ u c. c)
+run_way g us w after (e ∷ es) way run = by (λ vs on. run_way g vs run.0 after es on run.2) run.1
   where
-    by : ((vs : List World) → Way g vs run.0
-        → (before : List World) × Way g before after
-        × ((u : World) → Contains (run.0 ∷ vs) u → Contains (after ∷ before) u))
-        → Happens g w e run.0
+    by : ((vs : List World) → Way g vs run.0 → (before : List World) × Way g before after
+        × ((u : World) → Contains (run.0 ∷ vs) u → Contains (after ∷ before) u)) → Happens g w e run.0
         → (before : List World) × Way g before after
         × ((u : World) → Contains (w ∷ us) u → Contains (after ∷ before) u)
     by rest (inl (can, same)) =
-        let t = rest (w ∷ us) (way, inl (e, can, same)) in
-        (t.0, t.1, λ u c. t.2 u (is_before (w ∷ us) run.0 u c))
+        let t = rest (w ∷ us) (way, inl (e, can, same)) in (t.0, t.1, λ u c. t.2 u (is_before (w ∷ us) run.0 u c))
     by rest (inr (refused, same)) =
         let t = rest us (subst (Way g us) (sym same) way) in
         (t.0, t.1, λ u c. t.2 u (subst (λ x. Contains (x ∷ us) u) (sym same) c))

@@ -1,12 +1,9 @@
 -- What a member puts in a view: what stands behind what it has put.
 use Rattle.std.proofs.Common.{List, Some, [], ap, arith, inl, inr, length, slice_get, sym, ℕ, ◌++◌, ◌+◌, ◌<◌, ◌∙◌, ◌∷◌, ◌≡◌, ◌≢◌, ◌≤◌, ◌⊎◌}
-use Rattle.std.proofs.lemmas.Bool.{cases_eq, cases_lt}
-use Rattle.std.proofs.lemmas.List.{length_push}
-use Rattle.dr_entry.specs.declared.end.SentItem.{SentItem}
-use Rattle.dr_entry.specs.declared.end.SentItem.TheVariants.{Index, Null}
+use Rattle.std.proofs.lemmas.{Bool.{cases_eq, cases_lt}, List.length_push}
+use Rattle.dr_entry.specs.declared.end.SentItem.{SentItem, TheVariants.{Index, Null}}
 use Rattle.dr_entry.proofs.ListPlaces.{get_next, get_before}
-use Rattle.dr_history.specs.History.{messages_in}
-use Rattle.dr_history.proofs.Histories.{messages_within, messages_next, messages_null}
+use Rattle.dr_history.{specs.History.messages_in, proofs.Histories.{messages_within, messages_next, messages_null}}
 use Rattle.dr_machine.specs.Sending.{IsPut}
 
 -- where a message is left, nothing but messages was put
@@ -14,18 +11,15 @@ pub only_messages : (first total : ℕ) (items : List SentItem) → IsPut first 
     → first + messages_in items < total → messages_in items ≡ length items
 only_messages first total items put room = by (cases_lt (messages_in items) (length items))
   where
-    by : (messages_in items < length items) ⊎ (length items ≤ messages_in items) → messages_in items
-        ≡ length items
+    by : (messages_in items < length items) ⊎ (length items ≤ messages_in items) → messages_in items ≡ length items
     by (inl null) = absurd (omega (arith, put.nulls null, room))
     by (inr all) = omega (arith, all, messages_within items)
 
 -- what the member has put is in order with its next message
 pub next_message : (first total : ℕ) (items : List SentItem) → IsPut first total items
-    → first + messages_in items < total
-    → IsPut first total (items ++ Index (first + messages_in items) ∷ [])
+    → first + messages_in items < total → IsPut first total (items ++ Index (first + messages_in items) ∷ [])
 next_message first total items put room = record {
-  index = λ k l. index k (rw (← messages_next items (first + messages_in items)) l)
-      (cases_eq k (messages_in items));
+  index = λ k l. index k (rw (← messages_next items (first + messages_in items)) l) (cases_eq k (messages_in items));
   left = omega (arith, room, messages_next items (first + messages_in items));
   nulls = λ l. absurd (omega (
     arith,
@@ -39,15 +33,13 @@ next_message first total items put room = record {
     all : messages_in items ≡ length items
     all = only_messages first total items put room
 
-    index : (k : ℕ) → k < messages_in items + 1 → (k ≡ messages_in items)
-        ⊎ (k ≢ messages_in items)
+    index : (k : ℕ) → k < messages_in items + 1 → (k ≡ messages_in items) ⊎ (k ≢ messages_in items)
         → slice_get (items ++ Index (first + messages_in items) ∷ []) k ≡ Some (Index (first + k))
     index k l (inl e) = get_next items (Index (first + messages_in items)) k (e ∙ all)
         ∙ ap (λ i. Some (Index (first + i))) (sym e)
     index k l (inr d) =
         let earlier : k < messages_in items = omega (arith, l, d) in
-        get_before items (Index (first + messages_in items)) k (omega (arith, earlier, all))
-        ∙ put.index k earlier
+        get_before items (Index (first + messages_in items)) k (omega (arith, earlier, all)) ∙ put.index k earlier
 
 -- and with a null, where no message is left
 pub next_null : (first total : ℕ) (items : List SentItem) → IsPut first total items

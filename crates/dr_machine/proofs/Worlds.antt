@@ -1,11 +1,8 @@
 -- Worlds before and after one member's step.
-use Rattle.std.proofs.Common.{◌≡◌, ℕ, ◌-◌, inl, inr, [], arith, zero, suc, ◌+◌, min, ◌^◌}
-use Rattle.std.proofs.lemmas.Bool.{cases_eq}
+use Rattle.std.proofs.{Common.{◌≡◌, ℕ, ◌-◌, inl, inr, [], arith, zero, suc, ◌+◌, min, ◌^◌}, lemmas.Bool.cases_eq}
 use Rattle.dr_entry.proofs.ListPlaces.{no_trim}
-use Rattle.dr_words.specs.Accepts.{part_of}
-use Rattle.dr_words.specs.Columns.{leavers_column, trim_column}
-use Rattle.dr_machine.specs.World.{no_value}
-use Rattle.dr_machine.specs.Effects.{one_more}
+use Rattle.dr_words.specs.{Accepts.part_of, Columns.{leavers_column, trim_column}}
+use Rattle.dr_machine.specs.{Effects.one_more, World.no_value}
 
 -- nor has the value that nobody votes for
 pub no_part : (n c : ℕ) → part_of n no_value c ≡ 0

@@ -1,15 +1,11 @@
 -- Acts and steps: when each may come, and what it makes of the world.
 use Rattle.std.specs.Prelude.{ℕ}
-use Rattle.dr_machine.specs.declared.event.Act.{Act}
-use Rattle.dr_machine.specs.declared.event.Act.TheVariants as acts
-use Rattle.dr_machine.specs.declared.step.Step.{Step}
-use Rattle.dr_machine.specs.declared.step.Step.TheVariants as steps
-use Rattle.dr_machine.specs.declared.event.Event.{Event}
-use Rattle.dr_machine.specs.Events.{member_of, step_of}
-use Rattle.dr_machine.specs.Group.{Group}
-use Rattle.dr_machine.specs.World.{World}
-use Rattle.dr_machine.specs.Guards.{CanBeat, CanLook, CanPush, CanSend, CanNull, CanReceive, CanDeliver, CanAppend, CanPublish, CanReport, CanMark, CanSuspect, CanLogVote, CanPropose, CanAccept, CanCommit, CanHalt, CanCrash, CanFinish, CanJoin, CanWelcome}
 use Rattle.dr_machine.specs.Effects.{beats, looks, pushes, sends, nulls, receives, delivers, appends, publishes, reports, marks, suspects, logs_vote, accepts, commits, ends, stamped_in, finishes, joins, welcomes}
+use Rattle.dr_machine.specs.{Events.{member_of, step_of}, Group.Group}
+use Rattle.dr_machine.specs.Guards.{CanBeat, CanLook, CanPush, CanSend, CanNull, CanReceive, CanDeliver, CanAppend, CanPublish, CanReport, CanMark, CanSuspect, CanLogVote, CanPropose, CanAccept, CanCommit, CanHalt, CanCrash, CanFinish, CanJoin, CanWelcome}
+use Rattle.dr_machine.specs.{World.World, declared.{event.{Act.Act, Event.Event}, step.Step.Step}}
+use Rattle.dr_machine.specs.declared.event.Act.TheVariants as acts
+use Rattle.dr_machine.specs.declared.step.Step.TheVariants as steps
 
 -- the act may come
 abbrev pub CanDo : Group → World → ℕ → Act → Type 0

@@ -1,30 +1,18 @@
 -- What each event makes of the world.
 use Rattle.std.specs.Prelude.{ℕ, ◌%◌, ◌+◌, ◌-◌, ◌^◌, ◌&&◌, nat_le, nat_lt, min, false, if◌then◌else◌, List, [], ◌∷◌, ◌++◌, length, map, fold, take, drop, slice_index, slice_index_or, unwrap_or, None, Some}
-use Rattle.dr_entry.specs.declared.entry.Entry.{Entry}
-use Rattle.dr_entry.specs.declared.entry.Entry.TheVariants.{View, Msg}
-use Rattle.dr_entry.specs.declared.entry.Item.{Item}
-use Rattle.dr_entry.specs.declared.entry.Item.TheVariants.{Null, Text}
-use Rattle.dr_entry.specs.declared.end.End.{End}
-use Rattle.dr_entry.specs.declared.record.Value.{Value}
-use Rattle.dr_entry.specs.declared.end.SentItem.{SentItem}
+use Rattle.dr_entry.specs.declared.{end.{End.End, SentItem.{SentItem, TheVariants.Index}}, entry.Entry.Entry}
+use Rattle.dr_entry.specs.declared.entry.{Entry.TheVariants.{View, Msg}, Item.{Item, TheVariants.{Null, Text}}}
+use Rattle.dr_entry.specs.declared.record.{Value.Value, Vote.Vote}
 use Rattle.dr_entry.specs.declared.end.SentItem.TheVariants as sent_items
-use Rattle.dr_entry.specs.declared.end.SentItem.TheVariants.{Index}
-use Rattle.dr_entry.specs.declared.record.Vote.{Vote}
+use Rattle.dr_history.specs.{History.{last_view, messages_of, up_to_view}, Order.messages_from}
 use Rattle.dr_history.specs.Places.{front_of, rest_places}
-use Rattle.dr_history.specs.History.{last_view, messages_of, up_to_view}
-use Rattle.dr_history.specs.Order.{messages_from}
-use Rattle.dr_ring.specs.Pieces.{pieces}
-use Rattle.dr_ring.specs.Slots.{slot_column, item_in}
+use Rattle.dr_ring.specs.{Pieces.pieces, Slots.{slot_column, item_in}}
+use Rattle.dr_words.specs.{Columns.recv_column, Masks.{least_of, next_members, with_member, without}}
+use Rattle.dr_words.specs.{Packing.{ring_word, recv_word}, Rewrites.{accepted_word, wedged_word}}
 use Rattle.dr_words.specs.declared.column.TheConstants.{BEAT_COLUMN, RECEIVED_COLUMN, LOGGED_COLUMN, DONE_COLUMN}
-use Rattle.dr_words.specs.Columns.{recv_column}
-use Rattle.dr_words.specs.Masks.{least_of, next_members, with_member, without}
-use Rattle.dr_words.specs.Packing.{ring_word, recv_word}
-use Rattle.dr_words.specs.Rewrites.{accepted_word, wedged_word}
-use Rattle.dr_machine.specs.Writes.{at, at₂, at₃, at₄}
-use Rattle.dr_machine.specs.Group.{Group, roster}
-use Rattle.dr_machine.specs.Votes.{vote_in}
+use Rattle.dr_machine.specs.{Group.{Group, roster}, Guards.{next_index, seen_slot}, Votes.vote_in}
 use Rattle.dr_machine.specs.World.{World, no_vote, own_word, items_received, shown, view_members, item_at_place, no_value}
-use Rattle.dr_machine.specs.Guards.{next_index, seen_slot}
+use Rattle.dr_machine.specs.Writes.{at, at₂, at₃, at₄}
 
 -- one more, and at most the greatest number of so many bits
 abbrev pub one_more : ℕ → ℕ → ℕ

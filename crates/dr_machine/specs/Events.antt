@@ -1,10 +1,9 @@
 -- Events: whose each is, and what it is.
 use Rattle.std.specs.Prelude.{ℕ}
 use Rattle.dr_machine.specs.declared.event.Act.TheVariants as acts
-use Rattle.dr_machine.specs.declared.step.Step.{Step}
-use Rattle.dr_machine.specs.declared.step.Step.TheVariants as steps
-use Rattle.dr_machine.specs.declared.event.Event.{Event}
+use Rattle.dr_machine.specs.declared.{event.Event.Event, step.Step.Step}
 use Rattle.dr_machine.specs.declared.event.Event.TheVariants.{Beat, Look, Push, Send, Null, Receive, Deliver, Append, Publish, Report, Mark, Suspect, LogVote, Propose, Accept, Commit, Halt, Crash, Finish, Welcome, Join}
+use Rattle.dr_machine.specs.declared.step.Step.TheVariants as steps
 
 -- the member that an event is of
 abbrev pub member_of : Event → ℕ

@@ -1,12 +1,9 @@
 -- A group in one age: how the age opens, and the window of its rings.
 use Rattle.std.specs.Prelude.{◌≡◌, ℕ, ◌+◌, ◌^◌, ◌<◌, ◌≤◌, List, length, slice_get, slice_index, Some}
 use Rattle.dr_entry.specs.declared.limits.TheConstants.{MAX_MEMBERS, MAX_MESSAGES, MAX_MESSAGE_LENGTH}
+use Rattle.dr_history.specs.{History.messages_of, Members.members_of, Soundness.{IsPresentIn, Sound, whole_roster}}
 use Rattle.dr_history.specs.declared.opening.Opening.{Opening}
-use Rattle.dr_history.specs.History.{messages_of}
-use Rattle.dr_history.specs.Members.{members_of}
-use Rattle.dr_history.specs.Soundness.{IsPresentIn, Sound, whole_roster}
-use Rattle.dr_words.specs.Columns.{columns_of}
-use Rattle.dr_words.specs.Masks.{without}
+use Rattle.dr_words.specs.{Columns.columns_of, Masks.without}
 
 -- what is fixed for an age: its opening, with the script's messages by member of the roster, and the slots
 -- of a ring

@@ -1,21 +1,13 @@
 -- When each event may come.
 use Rattle.std.specs.Prelude.{◌≡◌, ◌≢◌, ⊤, ℕ, ◌+◌, ◌-◌, ◌<◌, ◌≤◌, ◌⊎◌, true, false, List, length, None, Some, slice_index}
-use Rattle.dr_entry.specs.declared.limits.TheConstants.{MAX_MEMBERS}
-use Rattle.dr_entry.specs.declared.end.End.{End}
-use Rattle.dr_entry.specs.declared.entry.Entry.{Entry}
+use Rattle.dr_entry.specs.{declared.end.End.End, declared.record.Vote.Vote}
 use Rattle.dr_entry.specs.declared.end.End.TheVariants.{Done, Crashed, Suspected, Excluded, NoMajority, DiskFault, LogFull, Spent, Absent}
-use Rattle.dr_entry.specs.declared.record.Value.{Value}
-use Rattle.dr_entry.specs.declared.record.Vote.{Vote}
-use Rattle.dr_history.specs.Members.{has}
-use Rattle.dr_history.specs.History.{messages_of, messages_in}
-use Rattle.dr_history.specs.Order.{MayJoin, messages_from}
+use Rattle.dr_entry.specs.{declared.{entry.Entry.Entry, limits.TheConstants.MAX_MEMBERS}, declared.record.Value.Value}
+use Rattle.dr_history.specs.{History.{messages_of, messages_in}, Members.has, Order.{MayJoin, messages_from}}
 use Rattle.dr_ring.specs.Slots.{slot_column, IsReady}
+use Rattle.dr_words.specs.{Accepts.{Shows, promise_of}, Changes.{IsProposal, MayAccept, MayCommit, MayPropose}}
+use Rattle.dr_words.specs.{Columns.recv_column, Masks.{IsMajorityOf, without}, Packing.recv_count}
 use Rattle.dr_words.specs.declared.column.TheConstants.{SUSPECTED_COLUMN, RECEIVED_COLUMN, LOGGED_COLUMN, DONE_COLUMN}
-use Rattle.dr_words.specs.Accepts.{Shows, promise_of}
-use Rattle.dr_words.specs.Changes.{IsProposal, MayAccept, MayCommit, MayPropose}
-use Rattle.dr_words.specs.Columns.{recv_column}
-use Rattle.dr_words.specs.Masks.{IsMajorityOf, without}
-use Rattle.dr_words.specs.Packing.{recv_count}
 use Rattle.dr_machine.specs.Group.{Group, IsPresent, banks, roster, columns}
 use Rattle.dr_machine.specs.World.{World, own_word, items_received, shown}
 

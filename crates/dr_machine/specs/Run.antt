@@ -1,16 +1,10 @@
 -- Runs: what comes of a list of events, and of events and words that arrive late.
 use Rattle.std.specs.Prelude.{◌≡◌, ◌⊎◌, ℕ, ◌+◌, ◌<◌, ◌≤◌, All, Contains, List, [], ◌∷◌}
-use Rattle.dr_words.specs.declared.column.TheConstants.{PIECES}
-use Rattle.dr_history.specs.Agreement.{Accounts, Agreed}
-use Rattle.dr_history.specs.History.{IsPrefixOf}
+use Rattle.dr_words.specs.{Grown.HasGrown, Packing.ring_tag, declared.column.TheConstants.PIECES}
+use Rattle.dr_history.specs.{Agreement.{Accounts, Agreed}, History.IsPrefixOf}
 use Rattle.dr_ring.specs.Slots.{slot_column}
-use Rattle.dr_words.specs.Grown.{HasGrown}
-use Rattle.dr_words.specs.Packing.{ring_tag}
-use Rattle.dr_machine.specs.declared.event.Event.{Event}
-use Rattle.dr_machine.specs.Group.{Group, roster}
-use Rattle.dr_machine.specs.World.{Past, Table, World, opening_world, items_received}
-use Rattle.dr_machine.specs.Guards.{IsInView, IsOther}
-use Rattle.dr_machine.specs.Acts.{Guard, effect}
+use Rattle.dr_machine.specs.{Acts.{Guard, effect}, Group.{Group, roster}, Guards.{IsInView, IsOther}}
+use Rattle.dr_machine.specs.{World.{Past, Table, World, opening_world, items_received}, declared.event.Event.Event}
 
 -- what happens at an event: its effect where it may come, and else nothing
 abbrev pub Happens : Group → World → Event → World → Type 0

@@ -1,7 +1,6 @@
 -- What a member puts in a view.
 use Rattle.std.specs.Prelude.{◌≡◌, ℕ, ◌+◌, ◌<◌, ◌≤◌, List, length, slice_get, Some}
-use Rattle.dr_entry.specs.declared.end.SentItem.{SentItem}
-use Rattle.dr_entry.specs.declared.end.SentItem.TheVariants.{Index}
+use Rattle.dr_entry.specs.declared.end.SentItem.{SentItem, TheVariants.Index}
 use Rattle.dr_history.specs.History.{messages_in}
 
 -- what a member has put in a view: its messages, one by one from the first one on, and nulls once none is

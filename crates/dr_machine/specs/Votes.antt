@@ -1,7 +1,6 @@
 -- Votes on logs.
 use Rattle.std.specs.Prelude.{◌≡◌, ℕ, List, slice_get, Some, true}
-use Rattle.dr_entry.specs.declared.record.Value.{Value}
-use Rattle.dr_entry.specs.declared.record.Vote.{Vote}
+use Rattle.dr_entry.specs.declared.record.{Value.Value, Vote.Vote}
 use Rattle.dr_history.specs.Members.{has}
 use Rattle.dr_words.specs.Masks.{IsMajorityOf, IsPartOf}
 use Rattle.dr_machine.specs.Group.{Group, roster}

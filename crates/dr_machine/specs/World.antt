@@ -1,16 +1,9 @@
 -- The world: all members of a group in their age, and the words of the table that they share.
 -- Members, rows and copies go by the members' numbers, and what belongs to a view also by the view's number.
 use Rattle.std.specs.Prelude.{ℕ, ◌==◌, ◌&&◌, ◌%◌, ◌/◌, if◌then◌else◌, List, [], length, replicate, slice_index, Option, None}
-use Rattle.dr_entry.specs.declared.limits.TheConstants.{MAX_MEMBERS}
-use Rattle.dr_entry.specs.declared.entry.Entry.{Entry}
-use Rattle.dr_entry.specs.declared.entry.Item.{Item}
-use Rattle.dr_entry.specs.declared.entry.Item.TheVariants.{Null}
-use Rattle.dr_entry.specs.declared.end.End.{End}
-use Rattle.dr_entry.specs.declared.record.Value.{Value}
-use Rattle.dr_entry.specs.declared.record.Vote.{Vote}
-use Rattle.dr_history.specs.Members.{has, members_of}
-use Rattle.dr_history.specs.History.{Sent}
-use Rattle.dr_history.specs.Order.{first_entries, messages_from}
+use Rattle.dr_entry.specs.declared.{end.End.End, entry.{Entry.Entry, Item.{Item, TheVariants.Null}}}
+use Rattle.dr_entry.specs.{declared.limits.TheConstants.MAX_MEMBERS, declared.record.{Value.Value, Vote.Vote}}
+use Rattle.dr_history.specs.{History.Sent, Members.{has, members_of}, Order.{first_entries, messages_from}}
 use Rattle.dr_words.specs.declared.column.TheConstants.{LOGGED_COLUMN}
 use Rattle.dr_machine.specs.Group.{Group}
 

@@ -1,11 +1,8 @@
 //! Laws of runs, and of guards.
 ghost use Rattle.std.specs.Prelude.{◌≡◌, ℕ, List, ◌++◌};
 ghost use Rattle.dr_entry.specs.declared.record.Value.{Value};
-ghost use Rattle.dr_machine.specs.declared.event.Event.{Event};
-ghost use Rattle.dr_machine.specs.Group.{Group};
-ghost use Rattle.dr_machine.specs.Guards.{CanLogVote};
-ghost use Rattle.dr_machine.specs.World.{World, opening_world};
-ghost use Rattle.dr_machine.specs.Run.{IsReached, Run};
+ghost use Rattle.dr_machine.specs.{Group.Group, Guards.CanLogVote, Run.{IsReached, Run}};
+ghost use Rattle.dr_machine.specs.{World.{World, opening_world}, declared.event.Event.Event};
 
 /// A run may go on where another has ended. One from the opening leads to a world that is reached.
 pub fn runs_follow_one_another()

@@ -2,46 +2,27 @@
 use Rattle.std.proofs.Common.{◌≡◌, refl, sym, ap, ◌∙◌, subst, ℕ, zero, suc, ◌+◌, ◌-◌, ◌<◌, ◌≤◌, ◌||◌, Bool, true, false, List, length, min, ◌^◌, slice_index, slice_set, None, Some, inl, inr, arith}
 use Rattle.std.proofs.lemmas.Bool.{and_parts, cases_lt}
 use Rattle.dr_entry.proofs.NumberFacts.{untrue}
-use Rattle.dr_rows.specs.Along.{Pushes, looked_along, pushed_along, with_push}
-use Rattle.dr_rows.specs.Words as words
-use Rattle.dr_rows.specs.Words.{changed, own, seen}
+use Rattle.dr_rows.specs.{Along.{Pushes, looked_along, pushed_along, with_push}, Words.{changed, own, seen}}
 use Rattle.dr_rows.proofs.Along.{looked_more, push_is, push_is_none, pushed_more, seen_behind}
-use Rattle.dr_words.specs.Columns.{columns_of}
-use Rattle.dr_words.specs.Form.{IsInForm}
-use Rattle.dr_words.specs.Grown.{HasGrown}
-use Rattle.dr_words.proofs.Order.{Grown_refl}
+use Rattle.dr_rows.specs.Words as words
+use Rattle.dr_words.{specs.{Columns.columns_of, Form.IsInForm, Grown.HasGrown}, proofs.Order.Grown_refl}
 use Rattle.dr_form.proofs.Keeps.{looked_keeps, looked_rises, pushed_keeps}
 use Rattle.dr_program.specs.declared.deed.Deed.TheVariants as deeds
 use Rattle.dr_program.specs.declared.place.Part.TheVariants as parts
-use Rattle.dr_program.specs.Program.{next_sight}
-use Rattle.dr_program.specs.Reading.{step_due, step_of_member}
+use Rattle.dr_program.specs.{Form.{HasForm, IsRunningMember}, Program.next_sight, Reading.{step_due, step_of_member}}
 use Rattle.dr_program.specs.Replica.{Replica, is_inside, is_other, looked, me, pushed}
-use Rattle.dr_program.specs.Form.{HasForm, IsRunningMember}
 use Rattle.dr_program.specs.Running.{Running, after_step, asks, crashes_now, next_deed, next_step, push_or_crash, settled, step_at}
-use Rattle.dr_program.specs.Sight.{MaySee}
-use Rattle.dr_program.specs.Steps.{NoWordFell, allows, index_in, sight, stored}
-use Rattle.dr_program.specs.Turn.{IsIn, part_of}
-use Rattle.dr_program.specs.declared.place.Place.{Place}
+use Rattle.dr_program.specs.{Sight.MaySee, Steps.{NoWordFell, allows, index_in, sight, stored}, Turn.{IsIn, part_of}}
+use Rattle.dr_program.{specs.declared.place.Place.Place, proofs.Replicas.{may_look, IsLookOf}}
 use Rattle.dr_machine.specs.declared.step.Step.TheVariants as steps
-use Rattle.dr_machine.specs.Effects.{one_more}
+use Rattle.dr_machine.{specs.Effects.one_more, proofs.Worlds.{raised, raised_by}}
 use Rattle.dr_suspect.specs.Waits.{Waits, compared}
-use Rattle.dr_machine.proofs.Worlds.{raised, raised_by}
-use Rattle.dr_program.proofs.Replicas.{may_look, IsLookOf}
-use Rattle.dr_turn.specs.Search.{IsUnderway}
-use Rattle.dr_turn.specs.Work.{IsStill, deeds_left}
-use Rattle.dr_turn.proofs.Works.{IsAnswer}
-use Rattle.dr_member.specs.declared.bases.Bases.{Bases}
-use Rattle.dr_member.specs.declared.fate.Fate.{Fate}
-use Rattle.dr_member.specs.Fate.{IsTimely, is_push_now}
-use Rattle.dr_member.specs.Ready.{KeepsReady}
-use Rattle.dr_member.specs.Search.{next_row, standing}
-use Rattle.dr_member.specs.Alone.{IsAtSweep, LeadsTo, SeesAlong}
-use Rattle.dr_member.specs.Deeds.{is_look, is_push, table_size}
-use Rattle.dr_member.specs.declared.member.Member.TheInside.{Inside}
-use Rattle.dr_member.specs.Inside.{IsInsideMember, member_inside}
-use Rattle.dr_member.proofs.Crashes.{some_at_push}
-use Rattle.dr_member.proofs.Dues.{at_look, push_due}
-use Rattle.dr_member.proofs.Indices.{columns_after, look_at, push_at}
+use Rattle.dr_turn.{specs.{Search.IsUnderway, Work.{IsStill, deeds_left}}, proofs.Works.IsAnswer}
+use Rattle.dr_member.specs.{Alone.{IsAtSweep, LeadsTo, SeesAlong}, Deeds.{is_look, is_push, table_size}}
+use Rattle.dr_member.specs.{Fate.{IsTimely, is_push_now}, Inside.{IsInsideMember, member_inside}, Ready.KeepsReady}
+use Rattle.dr_member.specs.{Search.{next_row, standing}, declared.{bases.Bases.Bases, fate.Fate.Fate}}
+use Rattle.dr_member.{specs.declared.member.Member.TheInside.Inside, proofs.Crashes.some_at_push}
+use Rattle.dr_member.proofs.{Dues.{at_look, push_due}, Indices.{columns_after, look_at, push_at}}
 use Rattle.dr_member.proofs.Moves.{IsLooked, IsPushed, IsWaited, counted, look_left, looked_inside, looked_row_timely, push_left, pushed_behind, pushed_inside, pushed_timely, waited}
 use Rattle.dr_member.proofs.Sweeps.{IsOnRow, look_index, look_on, look_takes, looks_begin, looks_end, push_index, push_on, pushes_begin, pushes_end, saw, stale_in, was_waited, wrote}
 
@@ -97,9 +78,8 @@ module _ (table : List ℕ) (from : Running) (first : ℕ) (b : Inside)
     takes_there : IsLookOf b.replica b.place.row b.place.column (slice_index table (first + b.place.column))
     takes_there = look_takes b b.place.row (slice_index table (first + b.place.column)) on.inside may_there refl
 
-    looked_there : IsLooked b.replica
-        (looked b.replica b.place.row b.place.column (slice_index table (first + b.place.column))) b.fate b.place
-        (slice_index table (first + b.place.column))
+    looked_there : IsLooked b.replica (looked b.replica b.place.row b.place.column
+        (slice_index table (first + b.place.column))) b.fate b.place (slice_index table (first + b.place.column))
     looked_there =
         let at = at_look (member_inside b) on.inside.form (ap is_look on.due) in
         let t = takes_there in
@@ -107,8 +87,7 @@ module _ (table : List ℕ) (from : Running) (first : ℕ) (b : Inside)
         let v = slice_index table (first + b.place.column) in
         saw b (looked b.replica b.place.row b.place.column v) b.place.row v on.inside may_there refl refl
         (looked_keeps b.replica b.place.row b.place.column v form t.other at.cell.column t.in_form)
-        (looked_rises b.replica b.place.row b.place.column v form t.other (untrue _ _ t.may) at.cell.column
-        t.grown)
+        (looked_rises b.replica b.place.row b.place.column v form t.other (untrue _ _ t.may) at.cell.column t.grown)
 
     -- one look more
     looks_on : b.place.column + 1 < b.bases.columns
@@ -128,9 +107,7 @@ module _ (table : List ℕ) (from : Running) (first : ℕ) (b : Inside)
 -- the member behind its looks up to a column
 abbrev pub along : List ℕ → ℕ → Inside → ℕ → ℕ → Inside
 along table first a n column = record a {
-  replica = record a.replica {
-    rows = looked_along a.place.row table first a.replica.rows a.place.column n;
-  };
+  replica = record a.replica { rows = looked_along a.place.row table first a.replica.rows a.place.column n };
   place = record a.place { column = column };
 }
 
@@ -220,8 +197,7 @@ looks_asked table from first a is = record {
         takes_there table from first (along table first a 0 a.place.column) at.on 0 at.lead is.sees
 
     takes : (c : ℕ) → a.place.column ≤ c → c < a.bases.columns
-        → IsLookOf (along table first a (c - a.place.column) c).replica a.place.row c
-        (slice_index table (first + c))
+        → IsLookOf (along table first a (c - a.place.column) c).replica a.place.row c (slice_index table (first + c))
     takes c l h =
         let at = looks_along table from first a (c - a.place.column) c is (omega (arith, l)) h in
         takes_there table from first (along table first a (c - a.place.column) c) at.on (c - a.place.column)
@@ -248,12 +224,10 @@ pub record IsBehindRow (table : List ℕ) (from : Running) (a : Inside) (cells :
       → HasComeAlone table from cells (record a { replica = q; place = p; fate = fate; ready = ready })
 
 pub looks_done : (table : List ℕ) (from : Running) (first : ℕ) (a : Inside) (q : Replica) (w : Waits)
-    → IsLooking table from first a
-    → q ≡ record a.replica {
+    → IsLooking table from first a → q ≡ record a.replica {
       rows = looked_along a.place.row table first a.replica.rows a.place.column
           (a.replica.rows.columns - a.place.column);
-    }
-    → w ≡ compared a.fate.waits q.rows a.place.row → IsBehindRow table from a table q (waited a.fate w)
+    } → w ≡ compared a.fate.waits q.rows a.place.row → IsBehindRow table from a table q (waited a.fate w)
 looks_done table from first a q w is e waits = record {
   place = stale_in a q a.place.column is.inside (ap (λ (r : Replica). r.roster) e)
       (ap (λ (r : Replica). r.window) e) (omega arith);
@@ -299,8 +273,7 @@ looks_done table from first a q w is e waits = record {
 
     after : looked b.replica a.place.row last v ≡ q
     after = ap (λ rows. record a.replica { rows = rows })
-        (sym (looked_more a.place.row table first a.replica.rows a.place.column n last
-        (omega (arith, asked.column))))
+        (sym (looked_more a.place.row table first a.replica.rows a.place.column n last (omega (arith, asked.column))))
         ∙ ap (λ m. record a.replica {
           rows = looked_along a.place.row table first a.replica.rows a.place.column m;
         }) (sym all) ∙ sym e
@@ -352,8 +325,7 @@ module _ (table : List ℕ) (from : Running) (first : ℕ) (a : Inside) (is : Is
   behind_pushed : (q : Replica) (n t : ℕ) → q ≡ record a.replica { rows = s.words }
       → n ≡ one_more 32 to.last.fate.pushes
       → ((x : ℕ) → to.last.place.column + 1 ≤ x → x < t → changed s.words a.place.row x ≡ false)
-      → to.last.place.column + 1 ≤ t → t ≤ a.bases.columns
-      → IsPushed to.last.replica q to.last.fate to.last.place n t
+      → to.last.place.column + 1 ≤ t → t ≤ a.bases.columns → IsPushed to.last.replica q to.last.fate to.last.place n t
   behind_pushed q n t e pushes unchanged above within =
       let b = to.last in
       let due = push_due (member_inside b) to.on.inside.form (ap is_push to.on.due) in
@@ -373,15 +345,13 @@ module _ (table : List ℕ) (from : Running) (first : ℕ) (a : Inside) (is : Is
       ap (λ part. step_at (member_inside b) part b.place.row b.place.column) due.at
       ∙ ap (λ c. push_or_crash c b.place.row b.place.column) due.later
 
-  leads_behind : (x : Running) → IsAnswer 0 (member_inside to.last) x
-      → (n : ℕ) × LeadsTo n table from s.table x
+  leads_behind : (x : Running) → IsAnswer 0 (member_inside to.last) x → (n : ℕ) × LeadsTo n table from s.table x
   leads_behind x answer =
       let b = to.last in
       let (n, lead) = to.lead in (
         n + 1,
         leads_more n table from to.cells (member_inside b) s.table x lead
-            (push_sweeps (member_inside b) (ap is_push to.on.due))
-            (ap (stored to.cells b.replica) step_is
+            (push_sweeps (member_inside b) (ap is_push to.on.due)) (ap (stored to.cells b.replica) step_is
             ∙ ap (λ i. slice_set to.cells i (own b.replica.rows b.place.column))
             (sym (push_index from b _ _ to.on).index) ∙ sym to.stores)
             (ap (λ t. after_step (sight to.cells b.replica t) (member_inside b)) step_is ∙ sym answer.after),
@@ -422,8 +392,7 @@ module _ (table : List ℕ) (from : Running) (first : ℕ) (a : Inside) (is : Is
       let l = behind_pushed (record a.replica { rows = s.words }) n column refl refl to.unchanged to.below
       (omega (arith, within)) in
       let later : crashes_now (standing (record a.replica { rows = s.words }) (counted b.fate n)
-      (record b.place { column = column })) ≡ false =
-      sym (some_at_push (counted b.fate n) a.replica.turns
+      (record b.place { column = column })) ≡ false = sym (some_at_push (counted b.fate n) a.replica.turns
       (pushed_timely b.replica (record a.replica { rows = s.words }) b.fate b.place n column l))
       ∙ ap (is_push_now n) (ap (λ (f : Fate). f.crash) to.fate ∙ is.safe) in
       let on_row = push_on from b (record a.replica { rows = s.words }) first n column to.on l
@@ -475,21 +444,14 @@ module _ (table : List ℕ) (from : Running) (first : ℕ) (a : Inside) (is : Is
         (pushed_timely b.replica q b.fate b.place n column l);
     inside = pushed_inside b.replica q b.fate b.place n column l;
     left = λ p ready settles keeps.
-        let back : standing q (counted b.fate n) p
-        ≡ settled (standing q (counted b.fate n) (next_row q.roster b.place)) =
-        ap (λ f. standing q (counted f n) p) to.fate ∙ settles
-        ∙ (λ z. settled (standing q (counted (sym to.fate z) n) (next_row q.roster (sym to.place z)))) in
+        let back : standing q (counted b.fate n) p ≡ settled (standing q
+        (counted b.fate n) (next_row q.roster b.place)) = ap (λ f. standing q (counted f n) p) to.fate
+        ∙ settles ∙ (λ z. settled (standing q (counted (sym to.fate z) n) (next_row q.roster (sym to.place z)))) in
         let answer = pushed_behind (member_inside b) b.replica q b.fate b.place p n column 0 refl l past back in
         let end = pushes_end from b q p _ _ n column ready to.on l answer keeps in
         let same : record b { replica = q; place = p; fate = counted b.fate n; ready = ready }
         ≡ record a { replica = q; place = p; fate = counted a.fate n; ready = ready } =
-        (λ z. record {
-          replica = q;
-          place = p;
-          fate = counted (to.fate z) n;
-          bases = to.bases z;
-          ready = ready;
-        }) in
+        (λ z. record { replica = q; place = p; fate = counted (to.fate z) n; bases = to.bases z; ready = ready }) in
         subst (HasComeAlone table from s.table) same (record {
           inside = end.inside;
           taken = leads_behind _ answer;
@@ -505,8 +467,7 @@ module _ (table : List ℕ) (from : Running) (first : ℕ) (a : Inside) (is : Is
 
       number : n ≡ one_more 32 b.fate.pushes
       number = pushes ∙ ap (λ k. min (a.fate.pushes + k) (2 ^ 32 - 1)) to.count
-          ∙ sym (raised_by to.before a.fate.pushes)
-          ∙ ap (λ (f : Fate). one_more 32 f.pushes) (sym to.fate)
+          ∙ sym (raised_by to.before a.fate.pushes) ∙ ap (λ (f : Fate). one_more 32 f.pushes) (sym to.fate)
 
       l : IsPushed b.replica q b.fate b.place n column
       l = behind_pushed q n column e number to.unchanged to.below (omega (arith, whole))
@@ -532,8 +493,7 @@ pushed_first table from first a is =
       omega (arith, due.cell.column, columns_here a is.inside),
       subst (λ t. PushedTo table from first a t (a.place.column + 1))
           (sym (push_is a.place.row first (record { words = a.replica.rows; table = table; count = 0 })
-          a.place.column differs))
-          (record {
+          a.place.column differs)) (record {
             last = a;
             cells = table;
             before = 0;
@@ -561,10 +521,8 @@ pushes_along table from first a (suc n) column is e within =
     let s : Pushes = record { words = a.replica.rows; table = table; count = 0 } in
     let c = a.place.column + (n + 1) in
     subst (λ m. PushedTo table from first a (pushed_along a.place.row first s a.place.column m) column) one
-    (subst (PushedTo table from first a _) next
-    (subst (λ t. PushedTo table from first a t (c + 1))
-    (sym (pushed_more a.place.row first s a.place.column (n + 1) c refl))
-    (pushed_next table from first a is _ c
+    (subst (PushedTo table from first a _) next (subst (λ t. PushedTo table from first a t (c + 1))
+    (sym (pushed_more a.place.row first s a.place.column (n + 1) c refl)) (pushed_next table from first a is _ c
     (pushes_along table from first a n c is refl (omega (arith, next, within))) (omega (arith, next, within)))))
   where
     one : n + 1 + 1 ≡ suc n + 1
@@ -611,15 +569,7 @@ looks_fit table from first a is size =
     let last = a.bases.columns - 1 in
     let at = look_at from a a.place.row last is.view is.inside (omega (arith, asked.row, rows))
     (omega (arith, asked.column, columns_here a is.inside, columns)) in
-    omega (
-      arith,
-      at.within,
-      size,
-      is.begins,
-      asked.column,
-      columns_here a is.inside,
-      is.inside.form.replica.columns,
-    )
+    omega (arith, at.within, size, is.begins, asked.column, columns_here a is.inside, is.inside.form.replica.columns)
 
 pub record PushesFit (table : List ℕ) (first : ℕ) (a : Inside) : Type 0 where
   pub column : a.place.column < a.bases.columns
@@ -629,8 +579,7 @@ pub record PushesFit (table : List ℕ) (first : ℕ) (a : Inside) : Type 0 wher
 
 pub pushes_fit : (table : List ℕ) (from : Running) (first : ℕ) (a : Inside) → member_inside a ≡ from → IsInsideMember a
     → is_push (next_deed from) ≡ true → first ≡ index_in from.replica a.place.row (me from.replica) 0
-    → table_size from ≤ length table
-    → PushesFit table first a
+    → table_size from ≤ length table → PushesFit table first a
 pushes_fit table from first a view inside is begins size =
     let due = push_due (member_inside a) inside.form (subst (λ r. is_push (next_deed r) ≡ true) (sym view) is) in
     let columns = ap (λ (r : Running). columns_of r.replica.roster r.replica.window) view in
@@ -667,9 +616,8 @@ push_stores words from first a view inside is begins =
     ∙ ap (λ c. push_or_crash c a.place.row a.place.column) due.later in
     let start : first ≡ index_in a.replica a.place.row (me a.replica) 0 =
     begins ∙ ap (λ (r : Running). index_in r.replica a.place.row (me r.replica) 0) (sym view) in
-    subst (λ (r : Running). stored words r.replica (next_step r)
-    ≡ slice_set words (first + a.place.column) (own a.replica.rows a.place.column)) view
-    (ap (stored words a.replica) step
+    subst (λ (r : Running). stored words r.replica (next_step r) ≡ slice_set words
+    (first + a.place.column) (own a.replica.rows a.place.column)) view (ap (stored words a.replica) step
     ∙ ap (λ i. slice_set words i (own a.replica.rows a.place.column)) (omega (arith, start)))
 
 -- ---- what its callers know
@@ -679,5 +627,4 @@ pub look_step : (r : Running) → IsRunningMember r → is_look (next_deed r) �
     → step_of_member r ≡ Some (steps.Look r.place.row r.place.column)
 look_step r form due =
     let at = at_look r form due in
-    ap (step_due r) at.none
-    ∙ ap (λ part. Some (step_at r part r.place.row r.place.column)) at.at
+    ap (step_due r) at.none ∙ ap (λ part. Some (step_at r part r.place.row r.place.column)) at.at

@@ -1,23 +1,16 @@
 -- What a running member is after a deed, in the terms of the code's fields.
+use Rattle.std.{specs.Prelude.None, proofs.lemmas.Bool.Decides.nat_tests}
 use Rattle.std.proofs.Common.{◌≡◌, refl, sym, ap, ◌∙◌, subst, ℕ, ◌^◌, ◌<◌, ◌≤◌, ◌==◌, Bool, true, false, arith}
-use Rattle.std.specs.Prelude.{None}
-use Rattle.std.proofs.lemmas.Bool.Decides.{nat_tests}
 use Rattle.dr_rows.specs.Words.{changed}
 use Rattle.dr_words.specs.Columns.{columns_of}
 use Rattle.dr_machine.specs.declared.step.Step.{Step}
 use Rattle.dr_program.specs.declared.place.Part.TheVariants as parts
-use Rattle.dr_program.specs.declared.place.Place.{Place}
-use Rattle.dr_program.specs.Replica.{Replica}
-use Rattle.dr_program.specs.Steps.{NoWordFell, stepped}
-use Rattle.dr_program.specs.Turn.{columns_in, part_of}
+use Rattle.dr_program.specs.{Form.{HasForm, IsRunningMember}, Replica.Replica}
 use Rattle.dr_program.specs.Running.{Running, members, columns, goes, pushes_after, settled, took, next_step, after_step, waits_after}
-use Rattle.dr_program.specs.Form.{HasForm, IsRunningMember}
-use Rattle.dr_turn.specs.Search.{IsUnderway}
-use Rattle.dr_turn.specs.Work.{IsAfterDeed}
-use Rattle.dr_turn.proofs.Deeds.{deed_done, deeds_keep}
+use Rattle.dr_program.specs.{Steps.{NoWordFell, stepped}, Turn.{columns_in, part_of}, declared.place.Place.Place}
+use Rattle.dr_turn.{specs.{Search.IsUnderway, Work.IsAfterDeed}, proofs.Deeds.{deed_done, deeds_keep}}
 use Rattle.dr_turn.proofs.Works.{IsAnswer}
-use Rattle.dr_member.specs.declared.fate.Fate.{Fate}
-use Rattle.dr_member.specs.Search.{standing}
+use Rattle.dr_member.specs.{Search.standing, declared.fate.Fate.Fate}
 use Rattle.dr_member.proofs.Passing.{from_column, from_here, passes, pushes_idle}
 
 -- the fate is that of r after a step, which saw this word
@@ -30,8 +23,7 @@ pub record IsFateAfter (word : ℕ) (r : Running) (s : Step) (fate : Fate) : Typ
   pub failed : fate.failed ≡ r.failed
 
 pub fate_stays : (word : ℕ) (replica : Replica) (fate : Fate) (place : Place) (s : Step)
-    → fate.pushes ≡ pushes_after fate.pushes s
-    → fate.waits ≡ waits_after word (standing replica fate place) s
+    → fate.pushes ≡ pushes_after fate.pushes s → fate.waits ≡ waits_after word (standing replica fate place) s
     → IsFateAfter word (standing replica fate place) s fate
 fate_stays word replica fate place s e waits = record {
   limit = refl;
@@ -68,17 +60,14 @@ is_took word r q fate from t = λ z. record {
 
 pub is_done : (word : ℕ) (r : Running) (q : Replica) (fate : Fate) (from : Place)
     → IsTaken word r q fate from → IsAfterDeed r (standing q fate from)
-is_done word r q fate from t =
-    subst (IsAfterDeed r) (sym (is_took word r q fate from t))
+is_done word r q fate from t = subst (IsAfterDeed r) (sym (is_took word r q fate from t))
     (deed_done word r t.running t.fits t.none (subst HasForm t.replica t.form)
     (subst (λ (x : Replica). x.view ≡ r.replica.view → NoWordFell r.replica x) t.replica t.grown))
 
-pub is_answer : (word : ℕ) (r : Running) (q : Replica) (fate : Fate) (from place : Place)
-    → IsTaken word r q fate from
+pub is_answer : (word : ℕ) (r : Running) (q : Replica) (fate : Fate) (from place : Place) → IsTaken word r q fate from
     → standing q fate place ≡ settled (standing q fate from) → IsAnswer word r (standing q fate place)
 is_answer word r q fate from place t searched =
-    let same : standing q fate place ≡ after_step word r = searched
-    ∙ ap settled (is_took word r q fate from t) in
+    let same : standing q fate place ≡ after_step word r = searched ∙ ap settled (is_took word r q fate from t) in
     let kept = deeds_keep word r t.running t.fits t.none (subst HasForm t.replica t.form)
     (subst (λ (x : Replica). x.view ≡ r.replica.view → NoWordFell r.replica x) t.replica t.grown) in
     record {
@@ -90,11 +79,9 @@ is_answer word r q fate from place t searched =
 -- ---- where the search stays
 
 -- the search from a column of the pushes to a member goes by those of unchanged words
-pub pushes_searched : (q : Replica) (fate : Fate) (p : Place) (c t : ℕ) → part_of p ≡ parts.Push
-    → q.end ≡ None
+pub pushes_searched : (q : Replica) (fate : Fate) (p : Place) (c t : ℕ) → part_of p ≡ parts.Push → q.end ≡ None
     → IsUnderway (standing q fate (from_column q.roster (columns_of q.roster q.window) p c))
-    → ((x : ℕ) → c ≤ x → x < t → changed q.rows p.row x ≡ false) → c ≤ t → t
-    ≤ columns_of q.roster q.window
+    → ((x : ℕ) → c ≤ x → x < t → changed q.rows p.row x ≡ false) → c ≤ t → t ≤ columns_of q.roster q.window
     → IsUnderway (standing q fate (from_column q.roster (columns_of q.roster q.window) p t))
     × (settled (standing q fate (from_column q.roster (columns_of q.roster q.window) p t)) ≡ settled
     (standing q fate (from_column q.roster (columns_of q.roster q.window) p c)))
@@ -114,7 +101,6 @@ pushes_searched q fate p c t at none u same above within = by (c == t) refl
         let here : from_column q.roster (columns_of q.roster q.window) p c ≡ record p { column = c } =
         from_here q.roster (columns_of q.roster q.window) p c (omega (arith, all, below, within)) in
         let g = passes (standing q fate (record p { column = c })) t
-        (subst (λ (x : Place). IsUnderway (standing q fate x)) here u) none
-        (λ x l h. pushes_idle q fate (record p { column = c }) x at (same x l h)) below
-        (omega (arith, all, within)) in
+        (subst (λ (x : Place). IsUnderway (standing q fate x)) here u) none (λ x l h. pushes_idle q fate
+        (record p { column = c }) x at (same x l h)) below (omega (arith, all, within)) in
         (g.underway, g.same ∙ ap (λ (x : Place). settled (standing q fate x)) (sym here))

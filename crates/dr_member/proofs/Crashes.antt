@@ -1,15 +1,10 @@
 -- The least push of a turn stands for all crash points of that turn.
+use Rattle.std.{specs.{List.list_any, Prelude.{Option, Some, None, is_some}}, proofs.lemmas.Bool.Decides.nat_tests}
 use Rattle.std.proofs.Common.{◌≡◌, refl, sym, ap, ◌∙◌, ℕ, ◌≤◌, ◌==◌, ◌&&◌, ◌||◌, min, Bool, true, false, if◌then◌else◌, List, [], ◌∷◌, fold, arith}
-use Rattle.std.specs.Prelude.{Option, Some, None, is_some}
-use Rattle.std.specs.List.{list_any}
-use Rattle.std.proofs.lemmas.Bool.Decides.{nat_tests}
-use Rattle.dr_entry.proofs.BoolFacts.{or_no}
-use Rattle.dr_entry.proofs.NumberFacts.{lesser_is}
-use Rattle.dr_program.specs.declared.setup.CrashPoint.{CrashPoint}
-use Rattle.dr_program.specs.Running.{is_at_push, is_in_turn}
+use Rattle.dr_entry.proofs.{BoolFacts.or_no, NumberFacts.lesser_is}
+use Rattle.dr_program.specs.{Running.{is_at_push, is_in_turn}, declared.setup.CrashPoint.CrashPoint}
 use Rattle.dr_machine.specs.Effects.{one_more}
-use Rattle.dr_member.specs.declared.fate.Fate.{Fate}
-use Rattle.dr_member.specs.Fate.{IsTimely, is_push_now, lesser, with_point}
+use Rattle.dr_member.specs.{Fate.{IsTimely, is_push_now, lesser, with_point}, declared.fate.Fate.Fate}
 
 -- ---- some point names the turn
 
@@ -53,12 +48,10 @@ ahead turn now (c ∷ cs) first a =
 
 at_push_more : (b : Bool) (first : Option ℕ) (push now : ℕ) (rest : Bool)
     → IsAhead now (if b then Some (lesser first push) else first)
-    → (is_push_now now
-    (if b then Some (lesser first push) else first) || rest) ≡ (is_push_now now
+    → (is_push_now now (if b then Some (lesser first push) else first) || rest) ≡ (is_push_now now
     first || ((b && (push == now)) || rest))
 at_push_more true None push now rest a = refl
-at_push_more true (Some p) push now rest a =
-    ap (λ x. x || rest) (lesser_is now p push (a (min p push) refl))
+at_push_more true (Some p) push now rest a = ap (λ x. x || rest) (lesser_is now p push (a (min p push) refl))
     ∙ grouped (p == now) (push == now) rest
   where
     grouped : (x y z : Bool) → ((x || y) || z) ≡ (x || (y || z))
@@ -71,29 +64,23 @@ at_push : (turn now : ℕ) (points : List CrashPoint) (first : Option ℕ)
     → is_push_now now (fold (with_point turn) first points) ≡ (is_push_now now first || list_any
     (is_at_push turn now) points)
 at_push turn now [] first a = or_no (is_push_now now first)
-at_push turn now (c ∷ cs) first a =
-    at_push turn now cs (with_point turn first c) a
+at_push turn now (c ∷ cs) first a = at_push turn now cs (with_point turn first c) a
     ∙ at_push_more (c.turn == turn) first c.push now (list_any (is_at_push turn now) cs)
     (ahead turn now cs (with_point turn first c) a)
 
 -- a timely fate crashes at this push exactly where a crash point names turn and push
 pub some_at_push : (fate : Fate) (turn : ℕ) → IsTimely fate turn
     → is_push_now fate.pushes fate.crash ≡ list_any (is_at_push turn fate.pushes) fate.crashes
-some_at_push fate turn t =
-    ap (is_push_now fate.pushes) t.crash
+some_at_push fate turn t = ap (is_push_now fate.pushes) t.crash
     ∙ at_push turn fate.pushes fate.crashes None (λ push e. t.ahead push (t.crash ∙ e))
 
 -- what is kept stays timely over a push before which the member doesn't crash
-pub timely_push : (fate : Fate) (turn : ℕ) → IsTimely fate turn → is_push_now fate.pushes fate.crash
-    ≡ false
+pub timely_push : (fate : Fate) (turn : ℕ) → IsTimely fate turn → is_push_now fate.pushes fate.crash ≡ false
     → IsTimely (record fate { pushes = one_more 32 fate.pushes }) turn
-timely_push fate turn t later =
-    record {
-      crash = t.crash;
-      ahead =
-          λ push e. behind push (t.ahead push e) (ap (is_push_now fate.pushes) (sym e) ∙ later);
-    }
+timely_push fate turn t later = record {
+  crash = t.crash;
+  ahead = λ push e. behind push (t.ahead push e) (ap (is_push_now fate.pushes) (sym e) ∙ later);
+}
   where
-    behind : (push : ℕ) → fate.pushes ≤ push → (push == fate.pushes) ≡ false
-        → one_more 32 fate.pushes ≤ push
+    behind : (push : ℕ) → fate.pushes ≤ push → (push == fate.pushes) ≡ false → one_more 32 fate.pushes ≤ push
     behind push h e = grind (arith, nat_tests, h, e)

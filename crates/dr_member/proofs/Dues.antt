@@ -1,32 +1,21 @@
 -- What is due to a running member, by the kind of its next deed.
+use Rattle.std.{specs.Prelude.{Option, Some, None}, proofs.lemmas.Bool.and_parts}
 use Rattle.std.proofs.Common.{◌≡◌, ◌≢◌, ◌⊎◌, inl, inr, refl, subst, sym, ap, ◌∙◌, ℕ, Bool, true, false}
-use Rattle.std.specs.Prelude.{Option, Some, None}
-use Rattle.std.proofs.lemmas.Bool.{and_parts}
-use Rattle.dr_entry.specs.declared.end.End.{End}
-use Rattle.dr_entry.specs.declared.record.Value.{Value}
-use Rattle.dr_machine.specs.declared.event.Act.{Act}
-use Rattle.dr_machine.specs.declared.step.Step.{Step}
+use Rattle.dr_entry.specs.{declared.end.End.End, declared.record.Value.Value}
+use Rattle.dr_machine.specs.{Effects.one_more, declared.{event.Act.Act, step.Step.Step}}
 use Rattle.dr_machine.specs.declared.step.Step.TheVariants as steps
-use Rattle.dr_program.specs.declared.outcome.LogWhy.{LogWhy}
-use Rattle.dr_program.specs.declared.place.Part.{Part}
-use Rattle.dr_program.specs.declared.place.Part.TheVariants as parts
-use Rattle.dr_program.specs.declared.place.Place.{Place}
-use Rattle.dr_machine.specs.Effects.{one_more}
+use Rattle.dr_program.specs.{Form.IsRunningMember, Reading.{step_due, step_of_member}}
 use Rattle.dr_program.specs.Replica.{appended, gave, is_inside, is_wedged, may_give, may_vote, pushed, value_due, voted}
-use Rattle.dr_program.specs.Steps.{IsAppend, has_cell, is_outside_step, stepped}
-use Rattle.dr_program.specs.Turn.{part_of}
 use Rattle.dr_program.specs.Running.{AsksForLetter, Running, append_or_end, crashes_now, deed, deed_of, next_deed, next_step, push_or_crash, pushes_after, step_at, vote_or_end, waits_after}
-use Rattle.dr_program.specs.Reading.{step_due, step_of_member}
-use Rattle.dr_program.specs.Sight.{IsSeenNext, MaySee}
-use Rattle.dr_program.specs.Form.{IsRunningMember}
-use Rattle.dr_program.proofs.Waiting.{append_free}
-use Rattle.dr_program.proofs.StepsAt.{append_either, push_either, vote_either}
+use Rattle.dr_program.specs.{Sight.{IsSeenNext, MaySee}, Steps.{IsAppend, has_cell, is_outside_step, stepped}}
+use Rattle.dr_program.specs.{Turn.part_of, declared.{outcome.LogWhy.LogWhy, place.{Part.Part, Place.Place}}}
 use Rattle.dr_program.proofs.RunningPrograms.{IsCellOf, deed_due, is_cell, allowed_inside, in_view}
+use Rattle.dr_program.proofs.{StepsAt.{append_either, push_either, vote_either}, Waiting.append_free}
+use Rattle.dr_program.specs.declared.place.Part.TheVariants as parts
 use Rattle.dr_turn.proofs.Takes.{taking}
+use Rattle.dr_member.specs.{Deeds.{is_act, is_append, is_give, is_look, is_push, is_take}, Search.step_by}
 use Rattle.dr_member.specs.declared.search.Due.{Due}
 use Rattle.dr_member.specs.declared.search.Due.TheVariants as dues
-use Rattle.dr_member.specs.Deeds.{is_act, is_append, is_give, is_look, is_push, is_take}
-use Rattle.dr_member.specs.Search.{step_by}
 
 -- ---- the kind of a deed
 
@@ -35,9 +24,7 @@ push_part : (r : Running) (part : Part) (i c : ℕ) → is_push (deed_of r (step
 push_part r parts.Look i c e = absurd (cc)
 push_part r parts.Push i c e = (refl, by (crashes_now r) refl e)
   where
-    by : (b : Bool) → crashes_now r ≡ b
-        → is_push (deed_of r (push_or_crash b i c)) ≡ true
-        → crashes_now r ≡ false
+    by : (b : Bool) → crashes_now r ≡ b → is_push (deed_of r (push_or_crash b i c)) ≡ true → crashes_now r ≡ false
     by true same e = absurd (cc)
     by false same e = same
 push_part r parts.Append i c e =
@@ -66,8 +53,7 @@ append_part r parts.Append i c e = inl (refl, by r.failed refl e)
     by (Some why) none e = absurd (cc)
 append_part r parts.Vote i c e = inr (refl, by r.failed refl e)
   where
-    by : (o : Option LogWhy) → r.failed ≡ o
-        → is_append (deed_of r (vote_or_end o (value_due r.replica))) ≡ true
+    by : (o : Option LogWhy) → r.failed ≡ o → is_append (deed_of r (vote_or_end o (value_due r.replica))) ≡ true
         → vote_or_end r.failed (value_due r.replica) ≡ steps.LogVote (value_due r.replica)
     by None none e = ap (λ o. vote_or_end o (value_due r.replica)) none
     by (Some why) none e = absurd (cc)
@@ -93,8 +79,7 @@ at_look r m e =
     record {
       none = due.0;
       at = at;
-      cell = is_cell r r.place.row r.place.column
-          (and_parts _ (has_cell r.replica r.place.row r.place.column) may).1;
+      cell = is_cell r r.place.row r.place.column (and_parts _ (has_cell r.replica r.place.row r.place.column) may).1;
     }
   where
     sees_part : (r : Running) (part : Part) (i c : ℕ) → is_look (deed_of r (step_at r part i c)) ≡ true
@@ -132,8 +117,7 @@ push_due r m e =
       none = due.0;
       at = at.0;
       inside = in_view r m due.0 (steps.Push r.place.row r.place.column) step refl;
-      cell =
-          is_cell r r.place.row r.place.column
+      cell = is_cell r r.place.row r.place.column
           (allowed_inside r m due.0 (steps.Push r.place.row r.place.column) step);
       later = at.1;
       step = λ word. ap (stepped word r.replica) step;
@@ -152,8 +136,7 @@ pub record IsAppendDue (r : Running) : Type 0 where
 pub append_due : (r : Running) → is_append (next_deed r) ≡ true → IsAppendDue r
 append_due r e =
     let due = deed_due is_append (λ end. refl) r e in
-    let kind = append_kind r (next_step r) due.1 in
-    record { none = due.0; pushes = kind.0; waits = kind.1 }
+    let kind = append_kind r (next_step r) due.1 in record { none = due.0; pushes = kind.0; waits = kind.1 }
 
 -- at the part of the vote it is a vote of a wedged member, and none waits
 pub record IsVoteDue (r : Running) : Type 0 where
@@ -192,18 +175,15 @@ pub record IsEntryDue (r : Running) : Type 0 where
 
 pub entry_due : (r : Running) → is_append (next_deed r) ≡ true → part_of r.place ≢ parts.Vote → IsEntryDue r
 entry_due r e other =
-    elim (append_part r (part_of r.place) r.place.row r.place.column
-    (deed_due is_append (λ end. refl) r e).1) [
+    elim (append_part r (part_of r.place) r.place.row r.place.column (deed_due is_append (λ end. refl) r e).1) [
       | inl t ↦ record { at = t.0; step = λ word. ap (stepped word r.replica) t.1 }
       | inr t ↦ absurd (other t.0)
     ]
 
 -- a member at an append is in its view
-pub append_inside : (r : Running) → IsRunningMember r → is_append (next_deed r) ≡ true
-    → is_inside r.replica ≡ true
+pub append_inside : (r : Running) → IsRunningMember r → is_append (next_deed r) ≡ true → is_inside r.replica ≡ true
 append_inside r m e =
-    let due = deed_due is_append (λ end. refl) r e in
-    in_view r m due.0 (next_step r) refl (by (next_step r) due.1)
+    let due = deed_due is_append (λ end. refl) r e in in_view r m due.0 (next_step r) refl (by (next_step r) due.1)
   where
     by : (s : Step) → is_append (deed_of r s) ≡ true → is_outside_step s ≡ false
     by steps.Append e = refl
@@ -294,8 +274,7 @@ act_step r e = act_kind r (next_step r) (deed_due is_act (λ end. refl) r e).1
 -- ---- a look may see what has grown
 
 look_step : (r : Running) (s : Step) (word : ℕ) → is_look (deed_of r s) ≡ true
-    → ((i c : ℕ) → Some s ≡ Some (steps.Look i c) → IsSeenNext r i c word)
-    → MaySee r (Some s) word
+    → ((i c : ℕ) → Some s ≡ Some (steps.Look i c) → IsSeenNext r i c word) → MaySee r (Some s) word
 look_step r (steps.Look i c) word e seen = seen i c refl
 look_step r (steps.Do a) word e seen = absurd (cc)
 look_step r s word e seen = absurd (cc)
@@ -307,7 +286,6 @@ pub may_see : (r : Running) (word : ℕ) → is_look (next_deed r) ≡ true
 may_see r word e seen = by r.replica.end e seen
   where
     by : (o : Option End) → is_look (deed r o) ≡ true
-        → ((i c : ℕ) → step_due r o ≡ Some (steps.Look i c) → IsSeenNext r i c word)
-        → MaySee r (step_due r o) word
+        → ((i c : ℕ) → step_due r o ≡ Some (steps.Look i c) → IsSeenNext r i c word) → MaySee r (step_due r o) word
     by None e seen = look_step r (next_step r) word e seen
     by (Some end) e seen = absurd (cc)

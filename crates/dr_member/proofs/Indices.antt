@@ -1,18 +1,11 @@
 -- The numbers by which a member finds words of the table: the indices that they give, and that deeds within a
 -- view keep them.
 use Rattle.std.proofs.Common.{◌≡◌, sym, ap, subst, ◌∙◌, ℕ, ◌+◌, ◌^◌, ◌<◌, ◌≤◌, List, slice_index, arith}
-use Rattle.dr_words.specs.Columns.{columns_of}
+use Rattle.dr_words.{specs.Columns.columns_of, proofs.Layouts.{behind_first, AreNoted}}
 use Rattle.dr_words.proofs.Places.{word_index_within, below}
-use Rattle.dr_words.proofs.Layouts.{behind_first, AreNoted}
-use Rattle.dr_program.specs.Replica.{Replica, me}
-use Rattle.dr_program.specs.Running.{Running, members, columns}
-use Rattle.dr_program.specs.Steps.{index_in}
-use Rattle.dr_program.specs.Form.{HasForm}
-use Rattle.dr_member.specs.declared.bases.Bases.{Bases}
-use Rattle.dr_member.specs.declared.member.Member.TheInside.{Inside}
-use Rattle.dr_member.specs.Bases.{AreBases, AreBasesOf}
-use Rattle.dr_member.specs.Deeds.{table_size}
-use Rattle.dr_member.specs.Inside.{IsInsideMember, member_inside}
+use Rattle.dr_program.specs.{Form.HasForm, Replica.{Replica, me}, Running.{Running, members, columns}, Steps.index_in}
+use Rattle.dr_member.specs.{Bases.{AreBases, AreBasesOf}, Deeds.table_size, Inside.{IsInsideMember, member_inside}}
+use Rattle.dr_member.specs.declared.{bases.Bases.Bases, member.Member.TheInside.Inside}
 
 -- ---- the indices
 
@@ -22,9 +15,8 @@ pub record IsIndex (r : Running) (sum copy row column : ℕ) : Type 0 where
   pub within : index_in r.replica copy row column < table_size r
   pub small : sum < 2 ^ 64
 
-pub is_index : (r : Running) (sum copy row column : ℕ) → HasForm r.replica → r.replica.view < 2 ^ 8
-    → copy < members r → row < members r → column < columns r
-    → sum ≡ index_in r.replica copy row column → IsIndex r sum copy row column
+pub is_index : (r : Running) (sum copy row column : ℕ) → HasForm r.replica → r.replica.view < 2 ^ 8 → copy < members r
+    → row < members r → column < columns r → sum ≡ index_in r.replica copy row column → IsIndex r sum copy row column
 is_index r sum copy row column form small p q s e = record {
   index = e;
   within = word_index_within r.replica.roster r.replica.window r.replica.banks r.replica.view copy row
@@ -53,9 +45,8 @@ pub look_at : (now : Running) (a : Inside) (i c : ℕ) → member_inside a ≡ n
     → c < columns now → IsIndex now (slice_index a.bases.looks i + c) (me now.replica) i c
 look_at now a i c view is row column =
     let within : i < a.replica.roster = subst (λ (r : Running). i < members r) (sym view) row in
-    index_at now a (slice_index a.bases.looks i + c) (λ r. me r.replica) (λ r. i) c view is
-    (me_within a is) within column
-    (ap (λ n. n + c) (is.bases.are.looks i within)
+    index_at now a (slice_index a.bases.looks i + c) (λ r. me r.replica)
+    (λ r. i) c view is (me_within a is) within column (ap (λ n. n + c) (is.bases.are.looks i within)
     ∙ behind_first a.replica.roster a.replica.window a.replica.view (me a.replica) i c)
 
 -- a push writes the table at the row's copy of the member's own word
@@ -63,17 +54,15 @@ pub push_at : (now : Running) (a : Inside) (j c : ℕ) → member_inside a ≡ n
     → c < columns now → IsIndex now (slice_index a.bases.pushes j + c) j (me now.replica) c
 push_at now a j c view is row column =
     let within : j < a.replica.roster = subst (λ (r : Running). j < members r) (sym view) row in
-    index_at now a (slice_index a.bases.pushes j + c) (λ r. j) (λ r. me r.replica) c view is
-    within (me_within a is) column
-    (ap (λ n. n + c) (is.bases.are.pushes j within)
+    index_at now a (slice_index a.bases.pushes j + c) (λ r. j)
+    (λ r. me r.replica) c view is within (me_within a is) column (ap (λ n. n + c) (is.bases.are.pushes j within)
     ∙ behind_first a.replica.roster a.replica.window a.replica.view j (me a.replica) c)
 
 -- ---- the beginning
 
 -- bases made of the replica's sizes are the replica's
 pub made : (r : Replica) (n w v m k others : ℕ) (looks pushes : List ℕ) → n ≡ r.roster → w ≡ r.window
-    → v ≡ r.view → m ≡ me r → v < 2 ^ 8 → k ≡ columns_of n w → n ≤ others
-    → AreNoted n w v m others looks pushes
+    → v ≡ r.view → m ≡ me r → v < 2 ^ 8 → k ≡ columns_of n w → n ≤ others → AreNoted n w v m others looks pushes
     → AreBases (record { columns = k; looks = looks; pushes = pushes }) r
 made r n w v m k others looks pushes en ew ev em small columns all noted = record {
   are = subst (λ (s : ℕ × ℕ × ℕ × ℕ). AreBasesOf (record { columns = k; looks = looks; pushes = pushes })
@@ -103,5 +92,4 @@ bases_stay b r q x e stays f =
 -- the kept number of columns is that of such a replica
 pub columns_after : (a : Inside) (q x : Replica) → IsInsideMember a → q ≡ x → footing x ≡ footing a.replica
     → a.bases.columns ≡ columns_of q.roster q.window
-columns_after a q x is e stays =
-    (bases_stay a.bases a.replica q x e stays is.bases).are.columns
+columns_after a q x is e stays = (bases_stay a.bases a.replica q x e stays is.bases).are.columns

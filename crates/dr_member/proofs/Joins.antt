@@ -1,26 +1,17 @@
 -- A letter that a member gives, and the take of a late member, in the terms of the code's fields.
-use Rattle.std.proofs.Common.{◌≡◌, refl, sym, ap, ◌∙◌, subst, ℕ, true, inl}
 use Rattle.std.specs.Prelude.{IfSome, List, None, Option, Some, option_map}
+use Rattle.std.proofs.Common.{◌≡◌, refl, sym, ap, ◌∙◌, subst, ℕ, true, inl}
 use Rattle.dr_entry.specs.declared.entry.Entry.{Entry}
 use Rattle.dr_words.specs.Columns.{columns_of}
 use Rattle.dr_form.specs.Letters.{IsFitting}
-use Rattle.dr_program.specs.declared.place.Place.{Place}
-use Rattle.dr_program.specs.Form.{HasForm, IsRunningMember}
-use Rattle.dr_program.specs.Replica.{Replica, gave}
-use Rattle.dr_program.specs.Running.{Running, goes, next_deed, next_step, settled, took_letter}
-use Rattle.dr_program.specs.Steps.{NoWordFell}
-use Rattle.dr_program.specs.Turn.{part_of, turn_ends}
-use Rattle.dr_turn.specs.Search.{IsUnderway}
-use Rattle.dr_turn.specs.Work.{IsAfterDeed, LeadsOn}
-use Rattle.dr_turn.proofs.Order.{ends_in}
+use Rattle.dr_program.specs.{Form.{HasForm, IsRunningMember}, Replica.{Replica, gave}}
+use Rattle.dr_program.specs.{Running.{Running, goes, next_deed, next_step, settled, took_letter}, Steps.NoWordFell}
+use Rattle.dr_program.specs.{Turn.{part_of, turn_ends}, declared.place.Place.Place}
+use Rattle.dr_turn.{specs.{Search.IsUnderway, Work.{IsAfterDeed, LeadsOn}}, proofs.Order.ends_in}
 use Rattle.dr_turn.proofs.Takes.{takes_done, takes_keep_form}
-use Rattle.dr_member.specs.declared.fate.Fate.{Fate}
-use Rattle.dr_member.specs.declared.member.Member.TheInside.{Inside}
-use Rattle.dr_member.specs.Deeds.{is_give, is_take}
-use Rattle.dr_member.specs.Inside.{IsInsideMember, member_inside}
-use Rattle.dr_member.specs.Search.{standing}
-use Rattle.dr_member.proofs.Answers.{IsTaken, fate_stays}
-use Rattle.dr_member.proofs.Dues.{IsGiveDue, IsTakeDue, give_due, take_due}
+use Rattle.dr_member.specs.{Deeds.{is_give, is_take}, Inside.{IsInsideMember, member_inside}, Search.standing}
+use Rattle.dr_member.specs.declared.{fate.Fate.Fate, member.Member.TheInside.Inside}
+use Rattle.dr_member.proofs.{Answers.{IsTaken, fate_stays}, Dues.{IsGiveDue, IsTakeDue, give_due, take_due}}
 
 -- ---- letters that are given
 
@@ -32,8 +23,7 @@ give_due_at now a view is gives = give_due (member_inside a) is.form
 pub give_taken : (word : ℕ) (now : Running) (a : Inside) (q : Replica) (from : Place)
     → member_inside a ≡ now → IsInsideMember a → is_give (next_deed now) ≡ true
     → q ≡ gave a.replica a.place.row → HasForm q → NoWordFell a.replica q
-    → from ≡ goes a.replica.roster (columns_of a.replica.roster a.replica.window)
-    (part_of a.place) a.place
+    → from ≡ goes a.replica.roster (columns_of a.replica.roster a.replica.window) (part_of a.place) a.place
     → IsTaken word (member_inside a) q a.fate from
 give_taken word now a q from view is gives after form grown place =
     let due = give_due_at now a view is gives in
@@ -69,8 +59,7 @@ pub record HasTakenLetter (letter : Option (List Entry)) (a : Inside) (q : Repli
   pub after : standing q fate turn_ends ≡ took_letter letter (member_inside a)
   pub form : HasForm q
   pub leads : LeadsOn letter
-  pub place : from ≡ goes a.replica.roster (columns_of a.replica.roster a.replica.window)
-      (part_of a.place) a.place
+  pub place : from ≡ goes a.replica.roster (columns_of a.replica.roster a.replica.window) (part_of a.place) a.place
 
 module _ (letter : Option (List Entry)) (a : Inside) (q : Replica) (fate : Fate) (from : Place)
     (t : HasTakenLetter letter a q fate from) where
@@ -132,8 +121,7 @@ pub record IsTakeAnswer (letter : Option (List Entry)) (r x : Running) : Type 0 
 
 pub take_answer : (letter : Option (List Entry)) (now : Running) (a : Inside) (q : Replica) (fate : Fate)
     (from place : Place) → member_inside a ≡ now → HasTakenLetter letter a q fate from
-    → standing q fate place ≡ settled (standing q fate from)
-    → IsTakeAnswer letter now (standing q fate place)
+    → standing q fate place ≡ settled (standing q fate from) → IsTakeAnswer letter now (standing q fate place)
 take_answer letter now a q fate from place view t e =
     subst (λ (r : Running). IsTakeAnswer letter r (standing q fate place)) view (record {
       after = e ∙ ap settled (took_there letter a q fate from t);

@@ -1,7 +1,6 @@
 -- What a member judges, by the code's tests.
+use Rattle.std.specs.{Option.{option_map, option_or}, Prelude.{Option, Some, None}}
 use Rattle.std.proofs.Common.{◌≡◌, refl, ◌∙◌, ℕ}
-use Rattle.std.specs.Prelude.{Option, Some, None}
-use Rattle.std.specs.Option.{option_map, option_or}
 use Rattle.dr_machine.specs.declared.event.Act.{Act}
 use Rattle.dr_machine.specs.declared.event.Act.TheVariants as acts
 use Rattle.dr_program.specs.Running.{Running, judgement, minority, named_by, overdue, scripted, told}
@@ -9,11 +8,9 @@ use Rattle.dr_member.specs.Judge.{suspicion}
 
 -- where no other member names it, it judges whom it suspects, and else its end with too few others
 pub judgement_by : (r : Running) (other : Option ℕ) (few : Option Act) → named_by r.replica ≡ None
-    → suspicion r ≡ other → minority r.replica ≡ few
-    → judgement r ≡ option_or (option_map acts.Suspect other) few
-judgement_by r other few none a b =
-    by _ acts.Suspect (named_by r.replica) (scripted r) (told r.replica) (overdue r) (minority r.replica) none
-    ∙ (λ z. option_or (option_map acts.Suspect (a z)) (b z))
+    → suspicion r ≡ other → minority r.replica ≡ few → judgement r ≡ option_or (option_map acts.Suspect other) few
+judgement_by r other few none a b = by _ acts.Suspect (named_by r.replica) (scripted r)
+    (told r.replica) (overdue r) (minority r.replica) none ∙ (λ z. option_or (option_map acts.Suspect (a z)) (b z))
   where
     by : (f g : ℕ → Act) (named script spread late : Option ℕ) (few : Option Act) → named ≡ None
         → option_or (option_map f named) (option_or (option_map g script)

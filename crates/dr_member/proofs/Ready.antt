@@ -1,32 +1,20 @@
 -- Which of the next items of another member are there: the mask behind each deed.
+use Rattle.std.{specs.{Int.bit_at, Prelude.is_some}, proofs.lemmas.{Bool.Decides.nat_tests, List.get_or-set_same}}
 use Rattle.std.proofs.Common.{◌≡◌, ◌≢◌, sym, ap, ◌∙◌, subst, inl, inr, ℕ, ◌+◌, ◌-◌, ◌*◌, ◌/◌, ◌<◌, ◌≤◌, ◌==◌, ◌&&◌, ◌↔◌, not, true, false, nat_lt, bit_and, arith}
-use Rattle.std.specs.Prelude.{is_some}
-use Rattle.std.specs.Int.{bit_at}
-use Rattle.std.proofs.lemmas.Bool.{and_parts, cases_lt, eq-eqb, eqb-true}
-use Rattle.std.proofs.lemmas.Bool.Decides.{nat_tests}
-use Rattle.std.proofs.lemmas.List.{get_or-set_same}
-use Rattle.std.proofs.lemmas.Nat.Bits.{and_pow, bit_at-suc}
+use Rattle.std.proofs.lemmas.{Bool.{and_parts, cases_lt, eq-eqb, eqb-true}, Nat.Bits.{and_pow, bit_at-suc}}
 use Rattle.dr_entry.proofs.BoolFacts.{same_test, order}
-use Rattle.dr_ring.specs.Slots.{IsReady, slot_of}
-use Rattle.dr_ring.proofs.Readiness.{not_yet, ready_test}
+use Rattle.dr_ring.{specs.Slots.{IsReady, slot_of}, proofs.Readiness.{not_yet, ready_test}}
 use Rattle.dr_words.specs.Columns.{columns_of}
-use Rattle.dr_machine.specs.declared.event.Act.{Act}
+use Rattle.dr_machine.specs.declared.{event.Act.Act, step.Step.TheVariants.Do}
 use Rattle.dr_machine.specs.declared.event.Act.TheVariants as acts
-use Rattle.dr_machine.specs.declared.step.Step.TheVariants.{Do}
-use Rattle.dr_program.specs.declared.place.Part.{Part}
-use Rattle.dr_program.specs.declared.place.Part.TheVariants as parts
-use Rattle.dr_program.specs.declared.place.Place.{Place}
-use Rattle.dr_program.specs.Acts.{may, taken}
-use Rattle.dr_program.specs.Form.{HasForm}
+use Rattle.dr_program.specs.{Acts.{may, taken}, Form.HasForm}
 use Rattle.dr_program.specs.Replica.{Replica, acted, count, greatest, is_other, is_wedged, may_receive, me, ready_item, received}
-use Rattle.dr_program.specs.Running.{goes, next_step, step_at}
-use Rattle.dr_program.specs.Turn.{IsIn, after, part_of}
-use Rattle.dr_program.proofs.Parts.{is_receive}
-use Rattle.dr_program.proofs.Replicas.{slots_stay}
+use Rattle.dr_program.specs.{Running.{goes, next_step, step_at}, Turn.{IsIn, after, part_of}}
+use Rattle.dr_program.{specs.declared.place.{Part.Part, Place.Place}, proofs.{Parts.is_receive, Replicas.slots_stay}}
+use Rattle.dr_program.specs.declared.place.Part.TheVariants as parts
 use Rattle.dr_turn.proofs.Works.{goes_receives}
+use Rattle.dr_member.specs.{Inside.{IsInsideMember, member_inside}, Ready.{KeepsReady, TellsReady}}
 use Rattle.dr_member.specs.declared.member.Member.TheInside.{Inside}
-use Rattle.dr_member.specs.Inside.{IsInsideMember, member_inside}
-use Rattle.dr_member.specs.Ready.{KeepsReady, TellsReady}
 
 -- ---- where items are received
 
@@ -51,22 +39,18 @@ low_bit : (r : Replica) (s mask : ℕ) → 1 ≤ r.window → TellsReady r s mas
 low_bit r s mask some tells =
     let slot = slot_of r.window r.rows s in
     let set : (bit_at mask 0 ≡ 1) ↔ IsReady (count r s) (slot (count r s)) =
-    subst (λ (k : ℕ). (bit_at mask 0 ≡ 1) ↔ IsReady k (slot k)) (omega arith)
-    (tells.set 0 (omega (arith, some))) in
+    subst (λ (k : ℕ). (bit_at mask 0 ≡ 1) ↔ IsReady k (slot k)) (omega arith) (tells.set 0 (omega (arith, some))) in
     let test = ready_test (count r s) (slot (count r s)) in
     let low : bit_and mask 1 ≡ bit_at mask 0 * 1 = and_pow mask 0 in
-    same_test _ _
-    (λ e. test.1 (set.0 (omega (arith, low, eqb-true (bit_and mask 1) 1 e))))
+    same_test _ _ (λ e. test.1 (set.0 (omega (arith, low, eqb-true (bit_and mask 1) 1 e))))
     (λ e. eq-eqb (bit_and mask 1) 1 (omega (arith, low, set.1 (test.0 e))))
 
 -- so it is what the next receive asks
-pub receives_by : (r : Replica) (p : Place) (mask : ℕ) → HasForm r → part_of p ≡ parts.Receive
-    → KeepsReady r p mask
+pub receives_by : (r : Replica) (p : Place) (mask : ℕ) → HasForm r → part_of p ≡ parts.Receive → KeepsReady r p mask
     → ((not (is_wedged r) && (nat_lt (count r p.row) (greatest r.totals) && is_other r p.row))
     && (bit_and mask 1 == 1)) ≡ may_receive r p.row
-receives_by r p mask form at keeps =
-    order (not (is_wedged r)) (nat_lt (count r p.row) (greatest r.totals)) (is_other r p.row) _ _
-    (λ other. low_bit r p.row mask form.some_slot (keeps at other))
+receives_by r p mask form at keeps = order (not (is_wedged r)) (nat_lt (count r p.row) (greatest r.totals))
+    (is_other r p.row) _ _ (λ other. low_bit r p.row mask form.some_slot (keeps at other))
 
 -- ---- behind a receive
 
@@ -118,8 +102,7 @@ act_keeps a q act from ready is due allowed after gone moved here other_now =
     subst (λ (p : Place). TellsReady q p.row ready) (sym there)
     (subst (λ (x : Replica). TellsReady x row ready) (sym (after ∙ ap (taken a.replica) receive))
     (subst (TellsReady (acted (received a.replica row)) row) (sym (moved row receive))
-    (received_tells a.replica row a.ready is.form.replica within apart (waits row may_it)
-    (is.ready at other))))
+    (received_tells a.replica row a.ready is.form.replica within apart (waits row may_it) (is.ready at other))))
   where
     row : ℕ
     row = a.place.row
@@ -156,6 +139,5 @@ act_keeps a q act from ready is due allowed after gone moved here other_now =
 
     waits : (s : ℕ) → may_receive a.replica s ≡ true
         → IsReady (count a.replica s) (slot_of a.replica.window a.replica.rows s (count a.replica s))
-    waits s e = (ready_test (count a.replica s) _).0
-        (and_parts (is_some (ready_item a.replica s)) _ (and_parts (is_other a.replica s) _
-        (and_parts (not (is_wedged a.replica)) _ e).1).1).0
+    waits s e = (ready_test (count a.replica s) _).0 (and_parts (is_some (ready_item a.replica s)) _
+        (and_parts (is_other a.replica s) _ (and_parts (not (is_wedged a.replica)) _ e).1).1).0

@@ -2,36 +2,21 @@
 use Rattle.std.proofs.Common.{◌≡◌, refl, sym, ap, ◌∙◌, subst, ℕ, ◌+◌, ◌<◌, ◌≤◌, true, false, arith}
 use Rattle.dr_rows.specs.Words.{changed, own}
 use Rattle.dr_suspect.specs.Waits.{Waits, compared}
-use Rattle.dr_words.specs.Columns.{columns_of}
-use Rattle.dr_words.specs.Grown.{Grown}
-use Rattle.dr_words.proofs.Order.{Grown_refl, Grown_trans}
+use Rattle.dr_words.{specs.{Columns.columns_of, Grown.Grown}, proofs.Order.{Grown_refl, Grown_trans}}
 use Rattle.dr_machine.specs.Effects.{one_more}
-use Rattle.dr_program.specs.declared.deed.Deed.{Deed}
+use Rattle.dr_program.specs.{Form.HasForm, Reading.step_of_member, Replica.{Replica, looked, me, pushed}}
+use Rattle.dr_program.specs.{Running.{Running, crashes_now, next_deed, settled}, Sight.MaySee}
+use Rattle.dr_program.specs.{Steps.{NoWordFell, index_in}, Turn.{IsIn, columns_in, part_of, rows_in}}
+use Rattle.dr_program.{specs.declared.{deed.Deed.Deed, place.Place.Place}, proofs.Parts.{same_look, same_push}}
+use Rattle.dr_program.proofs.{Replicas.IsLookOf, RunningPrograms.{look_deed, push_deed}, StepsAt.look_due}
 use Rattle.dr_program.specs.declared.deed.Deed.TheVariants as deeds
 use Rattle.dr_program.specs.declared.place.Part.TheVariants as parts
-use Rattle.dr_program.specs.declared.place.Place.{Place}
-use Rattle.dr_program.specs.Form.{HasForm}
-use Rattle.dr_program.specs.Reading.{step_of_member}
-use Rattle.dr_program.specs.Replica.{Replica, looked, me, pushed}
-use Rattle.dr_program.specs.Running.{Running, crashes_now, next_deed, settled}
-use Rattle.dr_program.specs.Sight.{MaySee}
-use Rattle.dr_program.specs.Steps.{NoWordFell, index_in}
-use Rattle.dr_program.specs.Turn.{IsIn, columns_in, part_of, rows_in}
-use Rattle.dr_program.proofs.StepsAt.{look_due}
-use Rattle.dr_program.proofs.RunningPrograms.{look_deed, push_deed}
-use Rattle.dr_program.proofs.Parts.{same_look, same_push}
-use Rattle.dr_program.proofs.Replicas.{IsLookOf}
-use Rattle.dr_turn.specs.Work.{IsStill, deeds_left}
-use Rattle.dr_turn.proofs.Works.{IsAnswer}
-use Rattle.dr_member.specs.Deeds.{is_look, is_push}
-use Rattle.dr_member.specs.declared.member.Member.TheInside.{Inside}
-use Rattle.dr_member.specs.Inside.{IsInsideMember, member_inside}
-use Rattle.dr_member.specs.Ready.{KeepsReady}
-use Rattle.dr_member.specs.Search.{next_row, standing}
-use Rattle.dr_member.proofs.Dues.{at_look, push_due}
-use Rattle.dr_member.proofs.Indices.{IsIndex, columns_after, is_index, me_within}
-use Rattle.dr_member.proofs.Ready.{elsewhere}
+use Rattle.dr_turn.{specs.Work.{IsStill, deeds_left}, proofs.Works.IsAnswer}
+use Rattle.dr_member.specs.{Deeds.{is_look, is_push}, Inside.{IsInsideMember, member_inside}, Ready.KeepsReady}
+use Rattle.dr_member.specs.{Search.{next_row, standing}, declared.member.Member.TheInside.Inside}
+use Rattle.dr_member.proofs.{Dues.{at_look, push_due}, Indices.{IsIndex, columns_after, is_index, me_within}}
 use Rattle.dr_member.proofs.Moves.{IsLooked, IsPushed, IsWaited, counted, inside_after, is_looked, is_pushed, looked_past, looked_row_timely, looked_within, pushed_timely, pushed_within, stays_timely, waited}
+use Rattle.dr_member.proofs.Ready.{elsewhere}
 
 -- the member inside has come from another one, and this deed is due to it
 pub record IsOnRow (d : Deed) (from : Running) (a : Inside) : Type 0 where
@@ -61,11 +46,9 @@ row_begins d from a view is due = subst (λ r. IsOnRow d r a) view (record {
 module _ (d : Deed) (from : Running) (a : Inside) (is : IsOnRow d from a) where
   -- what is so behind one more deed
   row_grown : (q : Replica) → NoWordFell a.replica q → NoWordFell from.replica q
-  row_grown q grown =
-      Grown_trans from.replica.roster from.replica.rows.words a.replica.rows.words q.rows.words
+  row_grown q grown = Grown_trans from.replica.roster from.replica.rows.words a.replica.rows.words q.rows.words
       from.replica.rows.frozen a.replica.rows.frozen q.rows.frozen is.grown
-      (subst (λ n. Grown n a.replica.rows.words q.rows.words a.replica.rows.frozen q.rows.frozen) is.roster
-      grown)
+      (subst (λ n. Grown n a.replica.rows.words q.rows.words a.replica.rows.frozen q.rows.frozen) is.roster grown)
 
   row_falls : (word : ℕ) (x : Running) → IsAnswer word (member_inside a) x → deeds_left x < deeds_left from
   row_falls word x done = let fewer = done.done.fewer in let left = is.left in omega (arith, fewer, left)
@@ -160,10 +143,9 @@ pub saw : (a : Inside) (q : Replica) (row word : ℕ) → IsInsideMember a
 saw a q row word is may same after form grown = is_looked (member_inside a) a q word refl is may
     (after ∙ ap (λ i. looked a.replica i a.place.column word) (sym same)) form grown
 
-pub wrote : (from : Running) (a : Inside) (q : Replica) (row sum word n t : ℕ)
-    → IsOnRow (deeds.Push sum word) from a → a.place.row ≡ row → q ≡ pushed a.replica row a.place.column
-    → HasForm q → NoWordFell a.replica q → n ≡ one_more 32 a.fate.pushes
-    → ((x : ℕ) → a.place.column + 1 ≤ x → x < t → changed q.rows row x ≡ false)
+pub wrote : (from : Running) (a : Inside) (q : Replica) (row sum word n t : ℕ) → IsOnRow (deeds.Push sum word) from a
+    → a.place.row ≡ row → q ≡ pushed a.replica row a.place.column → HasForm q → NoWordFell a.replica q
+    → n ≡ one_more 32 a.fate.pushes → ((x : ℕ) → a.place.column + 1 ≤ x → x < t → changed q.rows row x ≡ false)
     → a.place.column + 1 ≤ t → t ≤ columns_of q.roster q.window → IsPushed a.replica q a.fate a.place n t
 wrote from a q row sum word n t is same after form grown pushes unchanged above within =
     is_pushed (member_inside a) a q n t refl is.inside (ap is_push is.due)
@@ -176,8 +158,7 @@ pub pushed_from : (from : Running) (a : Inside) (q : Replica) (row sum word : �
     → a.place.column + 1 ≤ columns_of q.roster q.window
 pushed_from from a q row sum word is after =
     let within = (push_due (member_inside a) is.inside.form (ap is_push is.due)).cell.column in
-    subst (λ (x : Replica). a.place.column + 1 ≤ columns_of x.roster x.window) (sym after)
-    (omega (arith, within))
+    subst (λ (x : Replica). a.place.column + 1 ≤ columns_of x.roster x.window) (sym after) (omega (arith, within))
 
 -- the place as it was written down, at a column that the member has left behind
 pub stale_in : (a : Inside) (q : Replica) (column : ℕ) → IsInsideMember a → q.roster ≡ a.replica.roster
@@ -190,17 +171,15 @@ stale_in a q column is roster window behind =
       column =
           let within : column < columns_in (columns_of a.replica.roster a.replica.window) (part_of a.place) =
           let inner = in_turn.column in omega (arith, inner, behind) in
-          subst (λ n. column < columns_in n (part_of a.place)) (λ z. columns_of (sym roster z) (sym window z))
-          within;
+          subst (λ n. column < columns_in n (part_of a.place)) (λ z. columns_of (sym roster z) (sym window z)) within;
     }
 
 -- ---- the next column
 
 -- a look leaves a member on the row, where there is a next column
 pub look_on : (from : Running) (a : Inside) (q : Replica) (first word : ℕ)
-    → IsOnRow (deeds.Look (first + a.place.column)) from a
-    → IsLooked a.replica q a.fate a.place word → a.place.column + 1 < a.bases.columns
-    → IsOnRow (deeds.Look (first + (a.place.column + 1))) from
+    → IsOnRow (deeds.Look (first + a.place.column)) from a → IsLooked a.replica q a.fate a.place word
+    → a.place.column + 1 < a.bases.columns → IsOnRow (deeds.Look (first + (a.place.column + 1))) from
     (record a { replica = q; place = record a.place { column = a.place.column + 1 } })
     × IsAnswer word (member_inside a) (standing q a.fate (record a.place { column = a.place.column + 1 }))
 look_on from a q first word is l within = (
@@ -224,27 +203,23 @@ look_on from a q first word is l within = (
     was = same_look _ _ (sym is.due ∙ look_deed (member_inside a) l.due.none l.due.at)
 
     now : index_in q (me q) a.place.row (a.place.column + 1) ≡ first + (a.place.column + 1)
-    now = ap (λ (r : Replica). index_in r (me r) a.place.row (a.place.column + 1)) l.after
-        ∙ omega (arith, was)
+    now = ap (λ (r : Replica). index_in r (me r) a.place.row (a.place.column + 1)) l.after ∙ omega (arith, was)
 
     due : next_deed (member_inside b) ≡ deeds.Look (first + (a.place.column + 1))
-    due = look_deed (member_inside b) (ap (λ (r : Replica). r.end) l.after ∙ l.due.none) l.due.at
-        ∙ ap deeds.Look now
+    due = look_deed (member_inside b) (ap (λ (r : Replica). r.end) l.after ∙ l.due.none) l.due.at ∙ ap deeds.Look now
 
 -- a push leaves it there, where there is a next changed column t and it doesn't crash before that one's push
 pub push_on : (from : Running) (a : Inside) (q : Replica) (first n t : ℕ)
     → IsOnRow (deeds.Push (first + a.place.column) (own a.replica.rows a.place.column)) from a
     → IsPushed a.replica q a.fate a.place n t → t < a.bases.columns
-    → (t < columns_of q.roster q.window → changed q.rows a.place.row t ≡ true)
-    → crashes_now (standing q (counted a.fate n) (record a.place { column = t })) ≡ false
-    → IsOnRow (deeds.Push (first + t) (own q.rows t)) from
+    → (t < columns_of q.roster q.window → changed q.rows a.place.row t ≡ true) → crashes_now (standing q
+    (counted a.fate n) (record a.place { column = t })) ≡ false → IsOnRow (deeds.Push (first + t) (own q.rows t)) from
     (record a { replica = q; fate = counted a.fate n; place = record a.place { column = t } })
     × IsAnswer 0 (member_inside a) (standing q (counted a.fate n) (record a.place { column = t }))
 push_on from a q first n t is l within changes later = (
   row_on (deeds.Push (first + a.place.column) (own a.replica.rows a.place.column)) from a is 0 _ b
       (inside_after a q _ b.fate b.place a.ready is.inside l.after refl answer.form
-      (pushed_timely a.replica q a.fate a.place n t l) refl
-      (elsewhere q b.place parts.Push a.ready l.due.at refl))
+      (pushed_timely a.replica q a.fate a.place n t l) refl (elsewhere q b.place parts.Push a.ready l.due.at refl))
       answer (ap (λ (r : Replica). r.roster) l.after) l.grown due,
   answer,
 )
@@ -289,11 +264,9 @@ was_waited a q row word w is l past same waits = record {
 
 -- after a look at the last column
 pub looks_end : (from : Running) (a : Inside) (q : Replica) (s : Place) (sum word ready : ℕ) (w : Waits)
-    → IsOnRow (deeds.Look sum) from a → IsLooked a.replica q a.fate a.place word
-    → IsWaited q a.fate a.place w
+    → IsOnRow (deeds.Look sum) from a → IsLooked a.replica q a.fate a.place word → IsWaited q a.fate a.place w
     → standing q (waited a.fate w) s ≡ settled (standing q (waited a.fate w) (next_row q.roster a.place))
-    → KeepsReady q s ready
-    → HasLeft word from (member_inside a)
+    → KeepsReady q s ready → HasLeft word from (member_inside a)
     (record a { replica = q; place = s; fate = waited a.fate w; ready = ready })
 looks_end from a q s sum word ready w is l past e keeps =
     let answer : IsAnswer word (member_inside a) (standing q (waited a.fate w) s) =
@@ -310,8 +283,7 @@ looks_end from a q s sum word ready w is l past e keeps =
 pub pushes_end : (from : Running) (a : Inside) (q : Replica) (s : Place) (sum word n t ready : ℕ)
     → IsOnRow (deeds.Push sum word) from a → IsPushed a.replica q a.fate a.place n t
     → IsAnswer 0 (member_inside a) (standing q (counted a.fate n) s) → KeepsReady q s ready
-    → HasLeft 0 from (member_inside a)
-    (record a { replica = q; place = s; fate = counted a.fate n; ready = ready })
+    → HasLeft 0 from (member_inside a) (record a { replica = q; place = s; fate = counted a.fate n; ready = ready })
 pushes_end from a q s sum word n t ready is l answer keeps = record {
   inside = inside_after a q _ (counted a.fate n) s ready is.inside l.after refl answer.form
       (pushed_timely a.replica q a.fate a.place n t l) refl keeps;

@@ -1,10 +1,7 @@
 -- Looks and pushes that a member takes one after the other, over a table at which nobody else looks.
 use Rattle.std.specs.Prelude.{◌≡◌, ◌||◌, ℕ, zero, suc, List, true}
-use Rattle.dr_program.specs.Program.{next_sight}
-use Rattle.dr_program.specs.Reading.{step_of_member}
-use Rattle.dr_program.specs.Running.{Running, after_step, next_deed, next_step}
-use Rattle.dr_program.specs.Sight.{MaySee}
-use Rattle.dr_program.specs.Steps.{stored}
+use Rattle.dr_program.specs.{Program.next_sight, Reading.step_of_member}
+use Rattle.dr_program.specs.{Running.{Running, after_step, next_deed, next_step}, Sight.MaySee, Steps.stored}
 use Rattle.dr_member.specs.Deeds.{is_look, is_push}
 
 -- the next deed of the member is a look or a push

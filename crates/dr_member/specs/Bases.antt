@@ -1,7 +1,6 @@
 -- The numbers by which a member finds words of the table.
 use Rattle.std.specs.Prelude.{◌≡◌, ℕ, ◌^◌, ◌<◌, slice_index}
-use Rattle.dr_words.specs.Columns.{columns_of}
-use Rattle.dr_words.specs.Layout.{word_index_of}
+use Rattle.dr_words.specs.{Columns.columns_of, Layout.word_index_of}
 use Rattle.dr_program.specs.Replica.{Replica, me}
 use Rattle.dr_member.specs.declared.bases.Bases.{Bases}
 

@@ -1,10 +1,8 @@
 -- The deeds that a member may be due to do, and what its callers know of them.
 use Rattle.std.specs.Prelude.{ℕ, ◌<◌, ◌&&◌, Bool, not, true, false, is_some}
 use Rattle.dr_words.specs.Layout.{words_of}
-use Rattle.dr_program.specs.declared.deed.Deed.{Deed}
+use Rattle.dr_program.specs.{Running.Running, Turn.{is_beat, part_of}, declared.deed.Deed.Deed}
 use Rattle.dr_program.specs.declared.deed.Deed.TheVariants as deeds
-use Rattle.dr_program.specs.Running.{Running}
-use Rattle.dr_program.specs.Turn.{is_beat, part_of}
 
 -- the deed is a look, a push, an act, an append, a letter to give, or one to take
 abbrev pub is_look : Deed → Bool

@@ -1,11 +1,7 @@
 -- How the fields of `Member` hold what contracts see of it.
 use Rattle.std.specs.Prelude.{◌^◌, ◌<◌}
-use Rattle.dr_program.specs.Running.{Running}
-use Rattle.dr_program.specs.Form.{IsRunningMember}
-use Rattle.dr_member.specs.Bases.{AreBases}
-use Rattle.dr_member.specs.Fate.{IsTimely}
-use Rattle.dr_member.specs.Ready.{KeepsReady}
-use Rattle.dr_member.specs.Search.{standing}
+use Rattle.dr_program.specs.{Form.IsRunningMember, Running.Running}
+use Rattle.dr_member.specs.{Bases.AreBases, Fate.IsTimely, Ready.KeepsReady, Search.standing}
 use Rattle.dr_member.specs.declared.member.Member.TheInside.{Inside}
 
 abbrev pub member_inside : Inside → Running

@@ -1,10 +1,7 @@
 -- Whom a member suspects or wishes for next.
-use Rattle.std.specs.Prelude.{ℕ, List, Option}
-use Rattle.std.specs.List.{find}
-use Rattle.std.specs.Option.{option_map, option_or}
+use Rattle.std.specs.{List.find, Option.{option_map, option_or}, Prelude.{ℕ, List, Option}}
+use Rattle.dr_program.specs.{Replica.Replica, Running.{Running, is_scripted, overdue, scripted, told}}
 use Rattle.dr_program.specs.declared.setup.Suspicion.{Suspicion}
-use Rattle.dr_program.specs.Replica.{Replica}
-use Rattle.dr_program.specs.Running.{Running, is_scripted, overdue, scripted, told}
 
 -- the first one that these lines of a script have it suspect or wish for
 abbrev pub first_scripted : Replica → List Suspicion → Option ℕ

@@ -1,11 +1,8 @@
 -- Which of the next items of another member are there.
-use Rattle.std.specs.Prelude.{◌≡◌, ℕ, ◌+◌, ◌<◌, ◌≤◌, ◌↔◌, true}
-use Rattle.std.specs.Int.{bit_at}
+use Rattle.std.specs.{Int.bit_at, Prelude.{◌≡◌, ℕ, ◌+◌, ◌<◌, ◌≤◌, ◌↔◌, true}}
 use Rattle.dr_ring.specs.Slots.{IsReady, slot_of}
 use Rattle.dr_program.specs.declared.place.Part.TheVariants as parts
-use Rattle.dr_program.specs.declared.place.Place.{Place}
-use Rattle.dr_program.specs.Replica.{Replica, count, is_other}
-use Rattle.dr_program.specs.Turn.{part_of}
+use Rattle.dr_program.specs.{Replica.{Replica, count, is_other}, Turn.part_of, declared.place.Place.Place}
 
 -- bit i of the mask is set exactly where all words are seen that the item of s needs which is i behind the
 -- next one

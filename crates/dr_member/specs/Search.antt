@@ -3,13 +3,9 @@ use Rattle.std.specs.Prelude.{◌≡◌, ℕ, ◌+◌, ◌<◌, ◌≤◌, nat_l
 use Rattle.dr_entry.specs.declared.record.Value.{Value}
 use Rattle.dr_machine.specs.declared.step.Step.{Step}
 use Rattle.dr_machine.specs.declared.step.Step.TheVariants as steps
-use Rattle.dr_program.specs.declared.place.Place.{Place}
-use Rattle.dr_program.specs.declared.place.TheConstants.{TURN}
-use Rattle.dr_program.specs.Turn.{part_of, rows_in, columns_in}
-use Rattle.dr_program.specs.Replica.{Replica, is_named, is_wedged, me}
-use Rattle.dr_program.specs.Running.{Running, applies, columns}
-use Rattle.dr_member.specs.declared.fate.Fate.{Fate}
-use Rattle.dr_member.specs.declared.search.Due.{Due}
+use Rattle.dr_program.specs.{Replica.{Replica, is_named, is_wedged, me}, Running.{Running, applies, columns}}
+use Rattle.dr_program.specs.{Turn.{part_of, rows_in, columns_in}, declared.place.{Place.Place, TheConstants.TURN}}
+use Rattle.dr_member.specs.{declared.fate.Fate.Fate, declared.search.Due.Due}
 use Rattle.dr_member.specs.declared.search.Due.TheVariants as dues
 
 -- the member with this replica and this fate, at this place

@@ -1,18 +1,10 @@
 //! What an act makes of a member.
 ghost use Rattle.std.specs.Prelude.{◌≡◌, ◌≢◌, ◌/◌, ℕ, IfSome, None, false, option_map, true};
-ghost use Rattle.dr_machine.specs.declared.event.Act.TheVariants.{Beat, Finish, Receive};
-ghost use Rattle.dr_machine.specs.declared.step.Step.TheVariants.{Do};
+ghost use Rattle.dr_machine.specs.declared.{event.Act.TheVariants.{Beat, Finish, Receive}, step.Step.TheVariants.Do};
 ghost use Rattle.dr_form.specs.Letters.{IsFitting};
-ghost use Rattle.dr_program.specs.declared.place.Place.{Place};
-ghost use Rattle.dr_program.specs.Acts.{taken};
-ghost use Rattle.dr_program.specs.Form.{HasForm};
-ghost use Rattle.dr_program.specs.Replica.{is_inside};
-ghost use Rattle.dr_program.specs.Running.{took_letter};
-ghost use Rattle.dr_program.specs.Steps.{NoWordFell, allows, is_free};
-ghost use Rattle.dr_program.specs.Turn.{turn_ends};
-ghost use Rattle.dr_member.specs.Bases.{AreBases};
-ghost use Rattle.dr_member.specs.Fate.{IsTimely, is_of_view, renewed, turned};
-ghost use Rattle.dr_member.specs.Search.{standing};
+ghost use Rattle.dr_program.specs.{Acts.taken, Form.HasForm, Replica.is_inside, Running.took_letter};
+ghost use Rattle.dr_program.specs.{Steps.{NoWordFell, allows, is_free}, Turn.turn_ends, declared.place.Place.Place};
+ghost use Rattle.dr_member.specs.{Bases.AreBases, Fate.{IsTimely, is_of_view, renewed, turned}, Search.standing};
 
 use crate::bases::Bases;
 use crate::fate::Fate;

@@ -1,7 +1,6 @@
 //! What is to become of a member: by its script, and by its log.
 ghost use Rattle.std.specs.Prelude.{◌≡◌, ◌^◌, ◌<◌, None};
-ghost use Rattle.dr_program.specs.declared.place.Place.{Place};
-ghost use Rattle.dr_program.specs.Running.{crashes_in_turn, crashes_now, end_by};
+ghost use Rattle.dr_program.specs.{Running.{crashes_in_turn, crashes_now, end_by}, declared.place.Place.Place};
 ghost use Rattle.dr_member.specs.Fate.{IsTimely, first_push, is_push_now, renewed, turned, with_point};
 ghost use Rattle.dr_member.specs.Search.{standing};
 

@@ -6,11 +6,8 @@
 //! row is compared behind the last look at it, as its beat is looked at once a turn; the counts are judged
 //! behind all looks, and go on where there is no patience, which only says who is overdue.
 ghost use Rattle.std.specs.Prelude.{◌≡◌};
-ghost use Rattle.dr_program.specs.declared.place.Place.{Place};
-ghost use Rattle.dr_program.specs.Acts.{may};
-ghost use Rattle.dr_program.specs.Running.{judged, judgement};
-ghost use Rattle.dr_member.specs.Judge.{first_scripted, suspicion};
-ghost use Rattle.dr_member.specs.Search.{standing};
+ghost use Rattle.dr_program.specs.{Acts.may, Running.{judged, judgement}, declared.place.Place.Place};
+ghost use Rattle.dr_member.specs.{Judge.{first_scripted, suspicion}, Search.standing};
 
 use crate::fate::Fate;
 use dr_entry::End;

@@ -1,9 +1,7 @@
 //! Laws of members.
 ghost use Rattle.std.specs.Prelude.{◌≡◌, ℕ, Some, true};
 ghost use Rattle.dr_machine.specs.declared.step.Step.TheVariants.{Look};
-ghost use Rattle.dr_program.specs.Reading.{step_of_member};
-ghost use Rattle.dr_program.specs.Running.{Running, next_deed};
-ghost use Rattle.dr_program.specs.Sight.{IsSeenNext, MaySee};
+ghost use Rattle.dr_program.specs.{Reading.step_of_member, Running.{Running, next_deed}, Sight.{IsSeenNext, MaySee}};
 ghost use Rattle.dr_member.specs.Deeds.{is_look};
 
 /// A look that is due may see a word that is in form and has grown, where it stands.

@@ -3,18 +3,17 @@ ghost use Rattle.std.specs.Prelude.{length, ◌≡◌, ℕ, ◌<◌, ◌≤◌, 
 ghost use Rattle.dr_program.specs.declared.place.Part.TheVariants as parts;
 ghost use Rattle.dr_program.specs.declared.place.Place.{Place};
 ghost use Rattle.dr_program.specs.declared.place.TheConstants.{TURN};
-ghost use Rattle.dr_machine.specs.declared.event.Act.TheVariants.{Crash};
 ghost use Rattle.dr_program.specs.Replica.{is_inside, value_due};
 ghost use Rattle.dr_program.specs.Running.{applies, crashes_now, end_by, goes, settled, step_of};
 ghost use Rattle.dr_program.specs.Turn.{IsIn, after, columns_in, part_of, rows_in};
 ghost use Rattle.dr_program.specs.Form.{HasForm};
+ghost use Rattle.dr_machine.specs.declared.event.Act.TheVariants.{Crash};
 ghost use Rattle.dr_words.specs.Columns.{columns_of};
 ghost use Rattle.dr_rows.specs.Words.{changed};
 ghost use Rattle.dr_turn.specs.Search.{IsUnderway};
-ghost use Rattle.dr_member.specs.Fate.{IsTimely};
-ghost use Rattle.dr_member.specs.Ready.{KeepsReady};
-ghost use Rattle.dr_member.specs.declared.search.Due.TheVariants as dues;
+ghost use Rattle.dr_member.specs.{Fate.IsTimely, Ready.KeepsReady};
 ghost use Rattle.dr_member.specs.Search.{IsFirstDue, IsIdleTo, is_calm, next_row, standing, step_by};
+ghost use Rattle.dr_member.specs.declared.search.Due.TheVariants as dues;
 
 use crate::fate::{Fate, end_by};
 use crate::judge::{judged, may_judge};

@@ -1,16 +1,11 @@
 -- Logs that an age has left, and logs without entries, are accepted.
-use Rattle.std.proofs.Common.{◌≡◌, refl, ap, inl, ℕ, arith, List, [], ◌++◌, length}
-use Rattle.std.specs.Prelude.{Some, slice_get}
+use Rattle.std.{specs.Prelude.{Some, slice_get}, proofs.Common.{◌≡◌, refl, ap, inl, ℕ, arith, List, [], ◌++◌, length}}
 use Rattle.std.proofs.lemmas.Option.{slice_get_within}
-use Rattle.dr_entry.specs.declared.end.MemberEnd.{MemberEnd}
-use Rattle.dr_entry.specs.declared.entry.Entry.{Entry}
-use Rattle.dr_history.specs.Agreement.{EndsAgreed, accounts_of}
-use Rattle.dr_history.proofs.Histories.{AreFirstPartsOf}
-use Rattle.dr_history_laws.specs.Parts.{AreFirstParts}
-use Rattle.dr_history_laws.proofs.Parts.{parts_all_along, parts_sound}
+use Rattle.dr_entry.specs.declared.{end.MemberEnd.MemberEnd, entry.Entry.Entry}
+use Rattle.dr_history.{specs.Agreement.{EndsAgreed, accounts_of}, proofs.Histories.AreFirstPartsOf}
+use Rattle.dr_history_laws.{specs.Parts.AreFirstParts, proofs.Parts.{parts_all_along, parts_sound}}
 use Rattle.dr_machine.specs.Group.{AllPresent, IsGroup, roster}
-use Rattle.dr_restart.specs.declared.start.Start.{Start}
-use Rattle.dr_restart.specs.Groups.{group_of}
+use Rattle.dr_restart.specs.{Groups.group_of, declared.start.Start.Start}
 use Rattle.dr_script.specs.declared.script.Script.{Script}
 use Rattle.dr_quorum_laws.proofs.Sounding.{first_parts}
 use Rattle.dr_opening.specs.Accepted.{AreAccepted, judged_by}

@@ -1,27 +1,20 @@
 -- What comes of a log that is brought up to a start.
-use Rattle.std.proofs.Common.{◌≡◌, refl, ap, sym, ◌∙◌, subst, ℕ, ◌+◌, ◌≤◌, inl, arith, List, ◌++◌, Option, Some, None, false}
 use Rattle.std.specs.Prelude.{◌≢◌, IfSome, IsErrOf, Err}
+use Rattle.std.proofs.Common.{◌≡◌, refl, ap, sym, ◌∙◌, subst, ℕ, ◌+◌, ◌≤◌, inl, arith, List, ◌++◌, Option, Some, None, false}
 use Rattle.dr_entry.specs.declared.entry.Entry.{Entry}
-use Rattle.dr_disk.specs.Disk.{Told, state_of}
-use Rattle.dr_disk.specs.Calls.{State}
-use Rattle.dr_disk.specs.Images.{AllImages, Goes, IsLeft}
+use Rattle.dr_disk.specs.{Calls.State, Disk.{Told, state_of}, Images.{AllImages, Goes, IsLeft}}
 use Rattle.dr_disk.proofs.Moments.{stays_at}
-use Rattle.dr_log.specs.declared.fault.LogFault.{LogFault}
+use Rattle.dr_log.specs.{Grouping.{added_all, group}, Standing.{IsNoneOrAll, as_records, with_entries}}
+use Rattle.dr_log.specs.{State.{KeepsLimit, LogState, appended_all, broken_off_all}, declared.fault.LogFault.LogFault}
 use Rattle.dr_log.specs.declared.fault.LogFault.TheVariants as logs
-use Rattle.dr_opening.specs.declared.catching_up.CatchFault.{CatchFault}
-use Rattle.dr_opening.specs.declared.catching_up.CatchFault.TheVariants.{DiskFault, LogFull}
-use Rattle.dr_log.specs.Grouping.{added_all, group}
-use Rattle.dr_log.specs.Standing.{IsNoneOrAll, as_records, with_entries}
-use Rattle.dr_log.specs.State.{KeepsLimit, LogState, appended_all, broken_off_all}
-use Rattle.dr_log_bytes.specs.Content.{OnLog}
-use Rattle.dr_log_bytes.specs.Grammar.{StandFor}
-use Rattle.dr_logged.specs.Served.{IsSafe}
 use Rattle.dr_opening.specs.CatchingUp.{FitsOrIsFull, HasCaughtUp, HasStayed, IsLeftAlone, lacked}
+use Rattle.dr_opening.specs.declared.catching_up.CatchFault.{CatchFault, TheVariants.{DiskFault, LogFull}}
+use Rattle.dr_log_bytes.specs.{Content.OnLog, Grammar.StandFor}
+use Rattle.dr_served.specs.Served.{IsSafe}
 
 -- a log that got room, or none, is as before but for its disk and its spares: it tells the same, and what is
 -- on it is safe
-pub record GotRoom {D : Type 0} (told : D → Option Told) (faults : D → ℕ) (old new : LogState D)
-    : Type 0 where
+pub record GotRoom {D : Type 0} (told : D → Option Told) (faults : D → ℕ) (old new : LogState D) : Type 0 where
   pub spare_entries : ℕ
   pub spare_votes : ℕ
   pub spare_others : ℕ
@@ -73,8 +66,7 @@ moments_on : {D : Type 0} (told : D → Option Told) (faults : D → ℕ) (whole
     (old log new : LogState D) → GotRoom told faults old log → news ≡ lacked old whole
     → Goes (told log.disk) (told new.disk) (λ s. IsNoneOrAll log.content news)
     → Goes (told old.disk) (told new.disk) (λ s. IsNoneOrAll old.content (lacked old whole))
-moments_on {D} told faults whole news old log new got is goes =
-    rw (← is, ← got.tells)
+moments_on {D} told faults whole news old log new got is goes = rw (← is, ← got.tells)
     (subst (λ (c : OnLog). Goes (told log.disk) (told new.disk) (λ s. IsNoneOrAll c news))
     (ap (λ (s : LogState D). s.content) got.is) goes)
 
@@ -99,8 +91,7 @@ caught_all {D} told faults whole news old log new got good all is made calls goe
 }
   where
     grown : new.content ≡ with_entries news old.content
-    grown = ap (λ (s : LogState D). s.content) made
-        ∙ ap (λ (s : LogState D). with_entries news s.content) got.is
+    grown = ap (λ (s : LogState D). s.content) made ∙ ap (λ (s : LogState D). with_entries news s.content) got.is
 
     length_is : log.content.length ≡ old.content.length
     length_is = ap (λ (s : LogState D). s.content.length) got.is
@@ -110,9 +101,8 @@ caught_all {D} told faults whole news old log new got good all is made calls goe
 
 -- an append of it that was refused, or failed
 pub stayed_all : {D : Type 0} (told : D → Option Told) (faults : D → ℕ) (whole news : List Entry)
-    (old log new : LogState D) → GotRoom told faults old log → news ≡ lacked old whole
-    → new.content ≡ log.content → new.limit ≡ log.limit
-    → Goes (told log.disk) (told new.disk) (λ s. IsNoneOrAll log.content news)
+    (old log new : LogState D) → GotRoom told faults old log → news ≡ lacked old whole → new.content ≡ log.content
+    → new.limit ≡ log.limit → Goes (told log.disk) (told new.disk) (λ s. IsNoneOrAll log.content news)
     → faults log.disk ≤ faults new.disk → HasStayed told faults whole old new
 stayed_all {D} told faults whole news old log new got is content limit goes later = record {
   content = content ∙ ap (λ (s : LogState D). s.content) got.is;
@@ -123,8 +113,7 @@ stayed_all {D} told faults whole news old log new got is content limit goes late
 
 -- so by the answer
 pub stopped_stayed : {D : Type 0} (T : Type 0) (told : D → Option Told) (faults : D → ℕ) (whole news : List Entry)
-    (old log new : LogState D) (count : ℕ) (why : LogFault) → GotRoom told faults old log
-    → news ≡ lacked old whole
+    (old log new : LogState D) (count : ℕ) (why : LogFault) → GotRoom told faults old log → news ≡ lacked old whole
     → (IsErrOf {T = T} (Err why) logs.DiskFault → new ≡ broken_off_all log count new.disk)
     → ((len : ℕ) → IsErrOf {T = T} (Err why) (logs.LogFull len) → new ≡ log)
     → Goes (told log.disk) (told new.disk) (λ s. IsNoneOrAll log.content news)
@@ -156,8 +145,7 @@ told_disk T (logs.LogFull len) answer over is = let e = over len refl in absurd 
 -- whether the log fits or is full, by that
 pub full_by : {D : Type 0} (T : Type 0) (old log : LogState D) (size : ℕ) (why : LogFault) (answer : CatchFault)
     → log.content.length ≡ old.content.length → log.limit ≡ old.limit
-    → KeepsLimit log.limit log.content.length size {T = T} (Err why)
-    → (why ≡ logs.DiskFault → answer ≡ DiskFault)
+    → KeepsLimit log.limit log.content.length size {T = T} (Err why) → (why ≡ logs.DiskFault → answer ≡ DiskFault)
     → ((len : ℕ) → why ≡ logs.LogFull len → answer ≡ LogFull len)
     → FitsOrIsFull old.limit old.content.length size {T = T} (Err answer)
 full_by T old log size logs.DiskFault answer long limit keeps disk over =

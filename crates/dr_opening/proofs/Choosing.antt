@@ -1,32 +1,21 @@
 -- A start that was chosen is one that an age can open with.
+use Rattle.std.{specs.Prelude.option_map, proofs.lemmas.{List.length-map, Option.none-some}}
 use Rattle.std.proofs.Common.{◌≡◌, ap, sym, ◌∙◌, subst, refl, ℕ, ◌<◌, ◌≤◌, ◌^◌, ◌&&◌, not, nat_lt, arith, true, false, List, length, Option, None, Some}
-use Rattle.std.specs.Prelude.{option_map}
-use Rattle.std.proofs.lemmas.List.{length-map}
-use Rattle.std.proofs.lemmas.Option.{none-some}
 use Rattle.dr_entry.proofs.ListPlaces.{within_places}
-use Rattle.dr_history.specs.declared.opening.Opening.{Opening}
-use Rattle.dr_history.specs.Members.{has}
-use Rattle.dr_history.specs.Soundness.{whole_roster}
+use Rattle.dr_history.specs.{Members.has, Soundness.whole_roster, declared.opening.Opening.Opening}
 use Rattle.dr_history.proofs.Bits.{has_zero}
 use Rattle.dr_history_laws.proofs.Lengths.{start-short}
 use Rattle.dr_log.specs.State.{LogState}
 use Rattle.dr_log_bytes.specs.Content.{OnLog}
 use Rattle.dr_machine.specs.Group.{IsGroup}
 use Rattle.dr_quorum.specs.Handing.{handed_by}
-use Rattle.dr_quorum_laws.proofs.Handing.{quorum-some}
-use Rattle.dr_quorum_laws.proofs.Sounding.{choice-group}
-use Rattle.dr_restart.specs.declared.lists.LogLists.{LogLists}
-use Rattle.dr_restart.specs.Choosing.{IsChosenStart}
-use Rattle.dr_restart.specs.declared.start.Start.{Start}
-use Rattle.dr_restart.specs.Groups.{first_group_of, group_of}
-use Rattle.dr_script.specs.declared.script.Script.{Script}
-use Rattle.dr_script.specs.Ranges.{HasGroupRanges}
-use Rattle.dr_words.proofs.Masks.{has_mask_of}
-use Rattle.dr_words.specs.Masks.{without}
+use Rattle.dr_quorum_laws.proofs.{Handing.quorum-some, Sounding.choice-group}
+use Rattle.dr_restart.specs.{Choosing.IsChosenStart, Groups.{first_group_of, group_of}}
+use Rattle.dr_restart.specs.declared.{lists.LogLists.LogLists, start.Start.Start}
+use Rattle.dr_script.specs.{Ranges.HasGroupRanges, declared.script.Script.Script}
+use Rattle.dr_words.{specs.Masks.without, proofs.Masks.has_mask_of}
 use Rattle.dr_opening.specs.Lists.{SomebodyPrompt, all_as_lists, as_lists, contents_of, log_of}
-use Rattle.dr_opening.specs.Tries.{IsChosenOf, content_at}
-use Rattle.dr_opening.proofs.Lists.{content_is, handed_is}
-use Rattle.dr_opening.proofs.Trying.{in_set}
+use Rattle.dr_opening.{specs.Tries.{IsChosenOf, content_at}, proofs.{Lists.{content_is, handed_is}, Trying.in_set}}
 
 pub chosen_group : (script : Script) (contents : List (Option OnLog)) (start : Start) → HasGroupRanges script
     → IsChosenOf (first_group_of script).opening contents start → IsGroup (group_of script start)
@@ -106,16 +95,14 @@ chosen_without o contents start late k c is few whole at prompt = record {
     some mask h = grind (arith, h, has_zero k)
 
 -- so it is of what was chosen of the lists of logs
-pub chosen_late : {D : Type 0} (script : Script) (logs : List (Option (LogState D)))
-    (lists : List (Option LogLists)) (start : Start) (late mask : ℕ) → HasGroupRanges script
-    → length logs ≡ script.members → lists ≡ all_as_lists (contents_of logs)
-    → IsChosenStart (first_group_of script).opening (handed_by lists) start → start.members ≡ start.present
-    → ((m : ℕ) (log : LogState D) → log_of logs m ≡ Some log → SomebodyPrompt late logs)
-    → mask ≡ without start.members late
+pub chosen_late : {D : Type 0} (script : Script)
+    (logs : List (Option (LogState D))) (lists : List (Option LogLists)) (start : Start) (late mask : ℕ)
+    → HasGroupRanges script → length logs ≡ script.members → lists ≡ all_as_lists (contents_of logs)
+    → IsChosenStart (first_group_of script).opening (handed_by lists) start → start.members ≡ start.present → ((m : ℕ)
+    (log : LogState D) → log_of logs m ≡ Some log → SomebodyPrompt late logs) → mask ≡ without start.members late
     → IsChosenOf (first_group_of script).opening (contents_of logs) (record start { members = mask })
 chosen_late {D} script logs lists start late mask ranges all listed chosen whole prompt is = subst
-    (λ m. IsChosenOf (first_group_of script).opening (contents_of logs) (record start { members = m }))
-    (sym is)
+    (λ m. IsChosenOf (first_group_of script).opening (contents_of logs) (record start { members = m })) (sym is)
     (chosen_without (first_group_of script).opening (contents_of logs) start late there.0 there.1.content so
     (omega (arith, ranges.lists, ranges.most_members)) whole
     (content_is logs there.0 ∙ ap (option_map (λ (log : LogState D). log.content)) there.2) there.3)

@@ -2,13 +2,10 @@
 use Rattle.std.proofs.Common.{◌+◌, ◌≤◌, arith, inl, inr, ap, ◌≡◌, length, take, drop, take-append-drop, ◌⊎◌}
 use Rattle.dr_entry.specs.declared.record.Record.TheVariants as records
 use Rattle.dr_log_bytes.specs.Content.{OnLog, block_length}
-use Rattle.dr_log.proofs.Standing.{newer_long}
-use Rattle.dr_log.proofs.Growing.{entries_length-append}
-use Rattle.dr_log.specs.Standing.{entries_length}
-use Rattle.dr_restart.specs.declared.start.Start.{Start}
-use Rattle.dr_restart.specs.Trying.{age_vote_of}
-use Rattle.dr_opening.specs.Contents.{voted_for, IsVoteStep, IsVoting, IsRising, IsRisingStep, IsCutFor, IsOpenFor}
+use Rattle.dr_log.{specs.Standing.entries_length, proofs.{Growing.entries_length-append, Standing.newer_long}}
+use Rattle.dr_restart.specs.{Trying.age_vote_of, declared.start.Start.Start}
 use Rattle.dr_opening.specs.CatchingUp.{opened_with}
+use Rattle.dr_opening.specs.Contents.{voted_for, IsVoteStep, IsVoting, IsRising, IsRisingStep, IsCutFor, IsOpenFor}
 
 pub voted_long : (start : Start) (c : OnLog) → (voted_for start c).length ≤ c.length + 8
 voted_long start c =

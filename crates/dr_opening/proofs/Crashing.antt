@@ -1,28 +1,16 @@
 -- What a crash leaves of logs on which an age was opened, or on which its opening stopped.
+use Rattle.std.{specs.Prelude.slice_get, proofs.lemmas.{Bool.{cases_eq, cases_lt}, Option.same_Some}}
 use Rattle.std.proofs.Common.{◌≡◌, refl, ap, sym, ◌∙◌, subst, inl, inr, ⊎_elim, ℕ, ◌<◌, ◌≤◌, arith, List, length, Option, None, Some, ◌⊎◌}
-use Rattle.std.specs.Prelude.{slice_get}
-use Rattle.std.proofs.lemmas.Bool.{cases_eq, cases_lt}
-use Rattle.std.proofs.lemmas.Option.{same_Some}
 use Rattle.dr_entry.proofs.ListPlaces.{within_places}
-use Rattle.dr_disk.specs.Disk.{Told, state_of}
-use Rattle.dr_disk.specs.Images.{AllImages, IsLeft}
-use Rattle.dr_disk.proofs.Moments.{Goes-last}
-use Rattle.dr_log.specs.State.{LogState}
-use Rattle.dr_log_bytes.specs.Content.{OnLog}
-use Rattle.dr_log_bytes.specs.Grammar.{StandFor}
-use Rattle.dr_log_bytes.proofs.Meaning.{content_once}
-use Rattle.dr_log.proofs.Standing.{voted_newer, content_there, no_content}
-use Rattle.dr_restart.specs.declared.lists.LogLists.{LogLists}
-use Rattle.dr_restart.specs.declared.start.Start.{Start}
-use Rattle.dr_restart.specs.Trying.{age_vote_of}
-use Rattle.dr_opening.specs.Contents.{IsRising, IsVoting, StandSo, voted_for}
-use Rattle.dr_opening.specs.Lists.{as_lists, contents_of, log_of}
+use Rattle.dr_disk.{specs.{Disk.{Told, state_of}, Images.{AllImages, IsLeft}}, proofs.Moments.Goes-last}
+use Rattle.dr_log.{specs.State.LogState, proofs.Standing.{voted_newer, content_there, no_content}}
+use Rattle.dr_log_bytes.{specs.{Content.OnLog, Grammar.StandFor}, proofs.Meaning.content_once}
+use Rattle.dr_restart.specs.{Trying.age_vote_of, declared.{lists.LogLists.LogLists, start.Start.Start}}
+use Rattle.dr_opening.specs.{Contents.{IsRising, IsVoting, StandSo, voted_for}, Lists.{as_lists, contents_of, log_of}}
 use Rattle.dr_opening.specs.Logs.{ComeBelow, GotStart, GotVote, IsReadyToRise, LacksStart, LacksVote, StopAt, Together, WereOpened, WereNotOpened}
-use Rattle.dr_opening.specs.Tries.{AreLeftOn, AreSafe, CameSo, IsLeftOn}
-use Rattle.dr_opening.specs.declared.catching_up.CatchFault.{CatchFault}
-use Rattle.dr_opening.proofs.Lists.{content_is}
+use Rattle.dr_opening.specs.{Tries.{AreLeftOn, AreSafe, CameSo, IsLeftOn}, declared.catching_up.CatchFault.CatchFault}
+use Rattle.dr_opening.{specs.declared.opening.OpenFault.OpenFault, proofs.Lists.content_is}
 use Rattle.dr_opening.proofs.Placing.{came_from, came_to, none_to}
-use Rattle.dr_opening.specs.declared.opening.OpenFault.{OpenFault}
 
 -- what is so of each log by its number: where there was one there is one, and each image of it stands for what is so
 pub record AreSo {D : Type 0} (told : D → Option Told) (P : OnLog → OnLog → Type 0)
@@ -33,8 +21,7 @@ pub record AreSo {D : Type 0} (told : D → Option Told) (P : OnLog → OnLog �
 
 -- lists that an image gives are of what is so
 so_left : {D : Type 0} (told : D → Option Told) (P : OnLog → Type 0) (new : LogState D) (lists : LogLists)
-    → IsLeft (told new.disk) (StandSo P) → IsLeftOn told new lists
-    → (now : OnLog) × P now × (lists ≡ as_lists now)
+    → IsLeft (told new.disk) (StandSo P) → IsLeftOn told new lists → (now : OnLog) × P now × (lists ≡ as_lists now)
 so_left told P new lists left is =
     let here : AllImages (state_of is.tells) (StandSo P) = subst (λ o. IsLeft o (StandSo P)) is.told_so left in
     let one = here is.image is.left in (
@@ -61,8 +48,7 @@ left_so_far {D} told P olds news before after are left = record {
   each = λ m c at.
       let old = content_there (log_of olds m) c (sym (content_is olds m) ∙ at) in
       let new = are.each m old.0 old.1 in
-      let one = left.each m new.0 new.1 in
-      one_left told P after m c old.0 new.0 one.0 old.2 new.2 one.1 one.2;
+      let one = left.each m new.0 new.1 in one_left told P after m c old.0 new.0 one.0 old.2 new.2 one.1 one.2;
   others = λ m at. left.others m (are.none m (no_content (log_of olds m) (sym (content_is olds m) ∙ at)));
 }
 
@@ -82,10 +68,8 @@ come_there P olds news m old come at = came_to P old (log_of news m)
 
 come_none : {D : Type 0} (P : LogState D → LogState D → Type 0) (olds news : List (Option (LogState D)))
     (m : ℕ) → ComeBelow P olds news (length olds) → log_of olds m ≡ None → log_of news m ≡ None
-come_none P olds news m come at = ⊎_elim
-    (λ (l : m < length olds). none_to P (log_of olds m) (log_of news m) at (come.below m l))
-    (λ (g : length olds ≤ m). come.others m g ∙ at)
-    (cases_lt m (length olds))
+come_none P olds news m come at = ⊎_elim (λ (l : m < length olds). none_to P (log_of olds m)
+    (log_of news m) at (come.below m l)) (λ (g : length olds ≤ m). come.others m g ∙ at) (cases_lt m (length olds))
 
 -- what is so of a log in each of the three places
 stop_there : {D : Type 0} (P Q R : LogState D → LogState D → Type 0) (olds news : List (Option (LogState D)))
@@ -93,11 +77,9 @@ stop_there : {D : Type 0} (P Q R : LogState D → LogState D → Type 0) (olds n
     → ((old new : LogState D) → P old new → R old new) → ((old new : LogState D) → Q old new → R old new)
     → ((x : LogState D) → log_of olds m ≡ Some x → R x x)
     → (new : LogState D) × (log_of news m ≡ Some new) × R old new
-stop_there {D} P Q R olds news k m old stop at by_p by_q by_r = ⊎_elim
-    (λ (l : m < k).
+stop_there {D} P Q R olds news k m old stop at by_p by_q by_r = ⊎_elim (λ (l : m < k).
     let one = came_to P old (log_of news m) (subst (λ o. Together P o (log_of news m)) at (stop.below m l)) in
-    (one.0, one.1, by_p old one.0 one.2))
-    (λ (g : k ≤ m). elim (cases_eq m k) [
+    (one.0, one.1, by_p old one.0 one.2)) (λ (g : k ≤ m). elim (cases_eq m k) [
       | inl same ↦
           let at_k = ap (log_of olds) (sym same) ∙ at in
           let mine : stop.stop.0 ≡ old = same_Some stop.stop.0 old (sym stop.stop.2 ∙ at_k) in (
@@ -106,18 +88,15 @@ stop_there {D} P Q R olds news k m old stop at by_p by_q by_r = ⊎_elim
             subst (λ x. R x stop.stop.1) mine (by_q stop.stop.0 stop.stop.1 stop.stop.4),
           )
       | inr other ↦ (old, stop.others m (omega (arith, g, other)) ∙ at, by_r old at)
-    ])
-    (cases_lt m k)
+    ]) (cases_lt m k)
 
 stop_none : {D : Type 0} (P Q : LogState D → LogState D → Type 0) (olds news : List (Option (LogState D)))
     (k m : ℕ) → StopAt P Q olds news k → log_of olds m ≡ None → log_of news m ≡ None
-stop_none P Q olds news k m stop at = ⊎_elim
-    (λ (l : m < k). none_to P (log_of olds m) (log_of news m) at (stop.below m l))
-    (λ (g : k ≤ m). elim (cases_eq m k) [
+stop_none P Q olds news k m stop at = ⊎_elim (λ (l : m < k). none_to P
+    (log_of olds m) (log_of news m) at (stop.below m l)) (λ (g : k ≤ m). elim (cases_eq m k) [
       | inl same ↦ absurd (let e = sym at ∙ ap (log_of olds) same ∙ stop.stop.2 in cc)
       | inr other ↦ stop.others m (omega (arith, g, other)) ∙ at
-    ])
-    (cases_lt m k)
+    ]) (cases_lt m k)
 
 -- what is safe is one of what may stand there
 safe_so : (o : Option Told) (P : OnLog → Type 0) (c : OnLog) → P c → IsLeft o (λ image. StandFor image c)
@@ -161,10 +140,8 @@ ready_by {D} told faults start olds mids m mid voted at =
 
 -- over logs that have the vote
 so_rising : {D : Type 0} (told : D → Option Told) (faults : D → ℕ) (start : Start)
-    (olds mids news : List (Option (LogState D)))
-    → ComeBelow (GotVote told faults start) olds mids (length olds)
-    → AreSo told (IsRising start) mids news
-    → AreSo told (λ c now. IsRising start (voted_for start c) now) olds news
+    (olds mids news : List (Option (LogState D))) → ComeBelow (GotVote told faults start) olds mids (length olds)
+    → AreSo told (IsRising start) mids news → AreSo told (λ c now. IsRising start (voted_for start c) now) olds news
 so_rising {D} told faults start olds mids news voted are = record {
   each = λ m old at.
       let mid = come_there (GotVote told faults start) olds mids m old voted at in
@@ -200,8 +177,7 @@ pub so_stopped : {D : Type 0} (told : D → Option Told) (faults : D → ℕ) (s
     → AreSo told (λ c now. IsRising start (voted_for start c) now) olds news
 so_stopped {D} told faults start olds mids news k why voted stop =
     so_rising told faults start olds mids news voted (record {
-      each = λ m mid at. stop_there (GotStart told faults start)
-          (λ old new. LacksStart told faults start old new why)
+      each = λ m mid at. stop_there (GotStart told faults start) (λ old new. LacksStart told faults start old new why)
           (λ old new. IsLeft (told new.disk) (StandSo (IsRising start old.content))) mids news k m mid stop at
           (λ a b got. Goes-last (told a.disk) (told b.disk) (StandSo (IsRising start a.content)) got.moments)
           (λ a b stuck. Goes-last (told a.disk) (told b.disk) (StandSo (IsRising start a.content)) stuck.moments)

@@ -1,33 +1,22 @@
 -- What is on logs by member, and as lists.
-use Rattle.std.proofs.Common.{◌≡◌, refl, ap, sym, ◌∙◌, ℕ, ◌<◌, ◌≤◌, arith, Bool, true, false, List, [], ◌∷◌, ◌++◌, length, take, ◌+◌, get_or, Option, None, Some, subst, inl, inr, drop}
 use Rattle.std.specs.Prelude.{if◌then◌else◌, option_map, is_some}
-use Rattle.std.proofs.lemmas.List.{get_or_read_under, length-map, take_more}
-use Rattle.std.proofs.lemmas.Option.{same_Some, none-some}
-use Rattle.dr_entry.specs.declared.record.AgeVote.{AgeVote}
+use Rattle.std.proofs.Common.{◌≡◌, refl, ap, sym, ◌∙◌, ℕ, ◌<◌, ◌≤◌, arith, Bool, true, false, List, [], ◌∷◌, ◌++◌, length, take, ◌+◌, get_or, Option, None, Some, subst, inl, inr, drop}
+use Rattle.std.proofs.lemmas.{List.{get_or_read_under, length-map, take_more}, Option.{same_Some, none-some}}
+use Rattle.dr_entry.specs.{declared.entry.Entry.{Entry, TheVariants.View}, declared.record.AgeVote.AgeVote}
+use Rattle.dr_entry.proofs.{ListPlaces.mapped_at, OptionFacts.{both_there, neither_there}}
 use Rattle.dr_entry.specs.declared.record.Record.TheVariants as records
-use Rattle.dr_entry.proofs.ListPlaces.{mapped_at}
-use Rattle.dr_entry.proofs.OptionFacts.{both_there, neither_there}
-use Rattle.dr_entry.specs.declared.entry.Entry.{Entry}
-use Rattle.dr_entry.specs.declared.entry.Entry.TheVariants.{View}
 use Rattle.dr_history.specs.History.{IsPrefixOf}
-use Rattle.dr_log.specs.Standing.{in_newer_format, with_age_vote, entries_length}
-use Rattle.dr_log.specs.State.{LogState}
+use Rattle.dr_log.specs.{Standing.{in_newer_format, with_age_vote, entries_length}, State.LogState}
 use Rattle.dr_log_bytes.specs.Content.{OnLog, with_record, empty_of}
-use Rattle.dr_script.specs.declared.script.Script.{Script}
-use Rattle.dr_script.specs.Ranges.{HasGroupRanges}
-use Rattle.dr_restart.specs.declared.lists.LogLists.{LogLists}
-use Rattle.dr_restart.specs.declared.start.Start.{Start}
-use Rattle.dr_restart.specs.Trying.{age_vote_of}
-use Rattle.dr_restart.specs.Choosing.{HasAge, IsChosenStart}
-use Rattle.dr_restart.specs.Groups.{first_group_of}
-use Rattle.dr_logged.specs.Served.{HaveSamePlaces}
+use Rattle.dr_script.specs.{Ranges.HasGroupRanges, declared.script.Script.Script}
+use Rattle.dr_restart.specs.{Choosing.{HasAge, IsChosenStart}, Groups.first_group_of, Trying.age_vote_of}
+use Rattle.dr_restart.specs.declared.{lists.LogLists.LogLists, start.Start.Start}
+use Rattle.dr_served.specs.Served.{HaveSamePlaces}
 use Rattle.dr_quorum_laws.proofs.Lists.{in-nothing}
 use Rattle.dr_quorum.specs.Handing.{handed_by}
-use Rattle.dr_opening.specs.Lists.{all_as_lists, as_lists, contents_of, log_of}
-use Rattle.dr_opening.specs.Tries.{content_at, IsChosenOf}
+use Rattle.dr_opening.specs.{CatchingUp.opened_with, Contents.{IsCutFor, IsOpenFor, voted_for}}
+use Rattle.dr_opening.specs.{Lists.{all_as_lists, as_lists, contents_of, log_of}, Tries.{content_at, IsChosenOf}}
 use Rattle.dr_opening.proofs.Contents.{voted_long}
-use Rattle.dr_opening.specs.CatchingUp.{opened_with}
-use Rattle.dr_opening.specs.Contents.{IsCutFor, IsOpenFor, voted_for}
 
 pub handed_is : (contents : List (Option OnLog)) (m : ℕ)
     → handed_by (all_as_lists contents) m ≡ option_map as_lists (content_at contents m)
@@ -38,18 +27,15 @@ pub content_is : {D : Type 0} (logs : List (Option (LogState D))) (m : ℕ)
 content_is {D} logs m = mapped_at (λ (log : LogState D). log.content) logs m
 
 -- one list more
-pub next_listed : {D : Type 0} (logs : List (Option (LogState D))) (i : ℕ) (x : Option (LogState D))
-    → i < length logs → x ≡ get_or logs i x
-    → take (i + 1) (all_as_lists (contents_of logs)) ≡ take i (all_as_lists (contents_of logs))
+pub next_listed : {D : Type 0} (logs : List (Option (LogState D))) (i : ℕ) (x : Option (LogState D)) → i < length logs
+    → x ≡ get_or logs i x → take (i + 1) (all_as_lists (contents_of logs)) ≡ take i (all_as_lists (contents_of logs))
     ++ option_map as_lists (option_map (λ (log : LogState D). log.content) x) ∷ []
-next_listed {D} logs i x within is =
-    take_more (all_as_lists (contents_of logs)) i None (omega (
-      arith,
-      within,
-      length-map logs (option_map (λ (log : LogState D). log.content)),
-      length-map (contents_of logs) (option_map as_lists),
-    ))
-    ∙ ap (λ o. take i (all_as_lists (contents_of logs)) ++ o ∷ [])
+next_listed {D} logs i x within is = take_more (all_as_lists (contents_of logs)) i None (omega (
+  arith,
+  within,
+  length-map logs (option_map (λ (log : LogState D). log.content)),
+  length-map (contents_of logs) (option_map as_lists),
+)) ∙ ap (λ o. take i (all_as_lists (contents_of logs)) ++ o ∷ [])
     (mapped_at as_lists (contents_of logs) i ∙ ap (option_map as_lists)
     (content_is logs i ∙ ap (option_map (λ (log : LogState D). log.content))
     (sym (get_or_read_under logs i (length logs) x None is within refl))))
@@ -67,14 +53,12 @@ newer_lists c = upgraded_lists c c.newer
 abbrev pub with_vote_more : AgeVote → LogLists → LogLists
 with_vote_more vote log = record log { age_votes = log.age_votes ++ vote ∷ [] }
 
-voted_either : (vote : AgeVote) (c : OnLog) (b : Bool)
-    → as_lists (with_record (records.AgeVote vote) (if b then c else with_record records.Upgrade c))
-    ≡ with_vote_more vote (as_lists c)
+voted_either : (vote : AgeVote) (c : OnLog) (b : Bool) → as_lists (with_record (records.AgeVote vote)
+    (if b then c else with_record records.Upgrade c)) ≡ with_vote_more vote (as_lists c)
 voted_either vote c true = refl
 voted_either vote c false = refl
 
-pub voted_lists : (vote : AgeVote) (c : OnLog)
-    → as_lists (with_age_vote vote c) ≡ with_vote_more vote (as_lists c)
+pub voted_lists : (vote : AgeVote) (c : OnLog) → as_lists (with_age_vote vote c) ≡ with_vote_more vote (as_lists c)
 voted_lists vote c = voted_either vote c c.newer
 
 -- the log that was there is there
@@ -84,8 +68,7 @@ was_there olds news m new places at = both_there (log_of news m) (log_of olds m)
 
 pub stays_there : {D : Type 0} (olds news : List (Option (LogState D))) (m : ℕ) (old : LogState D)
     → HaveSamePlaces olds news → log_of olds m ≡ Some old → (new : LogState D) × (log_of news m ≡ Some new)
-stays_there olds news m old places at =
-    both_there (log_of olds m) (log_of news m) old (sym (places.each m)) at
+stays_there olds news m old places at = both_there (log_of olds m) (log_of news m) old (sym (places.each m)) at
 
 pub was_none : {D : Type 0} (olds news : List (Option (LogState D))) (m : ℕ)
     → HaveSamePlaces olds news → log_of news m ≡ None → log_of olds m ≡ None
@@ -129,16 +112,13 @@ ageless c age empty has = by (subst (λ (d : OnLog). HasAge (as_lists d) age) em
 -- what is on a log that is there
 pub content_at_log : {D : Type 0} (logs : List (Option (LogState D))) (m : ℕ) (log : LogState D)
     → log_of logs m ≡ Some log → content_at (contents_of logs) m ≡ Some log.content
-content_at_log {D} logs m log at =
-    content_is logs m ∙ ap (option_map (λ (log : LogState D). log.content)) at
+content_at_log {D} logs m log at = content_is logs m ∙ ap (option_map (λ (log : LogState D). log.content)) at
 
 pub log_of_content : {D : Type 0} (logs : List (Option (LogState D))) (m : ℕ) (c : OnLog)
-    → content_at (contents_of logs) m ≡ Some c
-    → (log : LogState D) × (log_of logs m ≡ Some log) × (log.content ≡ c)
+    → content_at (contents_of logs) m ≡ Some c → (log : LogState D) × (log_of logs m ≡ Some log) × (log.content ≡ c)
 log_of_content {D} logs m c at = by (log_of logs m) refl (sym (content_is logs m) ∙ at)
   where
-    by : (o : Option (LogState D)) → log_of logs m ≡ o
-        → option_map (λ (log : LogState D). log.content) o ≡ Some c
+    by : (o : Option (LogState D)) → log_of logs m ≡ o → option_map (λ (log : LogState D). log.content) o ≡ Some c
         → (log : LogState D) × (log_of logs m ≡ Some log) × (log.content ≡ c)
     by None here same = absurd (cc)
     by (Some log) here same = (log, here, same_Some log.content c same)
@@ -170,12 +150,10 @@ no_log {D} logs m none = by (log_of logs m) refl
 -- and the start, where one is
 pub chosen_told : {D : Type 0} (script : Script) (logs : List (Option (LogState D)))
     (lists : List (Option LogLists)) (start : Start) → HasGroupRanges script → length logs ≡ script.members
-    → lists ≡ all_as_lists (contents_of logs)
-    → IsChosenStart (first_group_of script).opening (handed_by lists) start
+    → lists ≡ all_as_lists (contents_of logs) → IsChosenStart (first_group_of script).opening (handed_by lists) start
     → IsChosenOf (first_group_of script).opening (contents_of logs) start
 chosen_told {D} script logs lists start ranges all same chosen = record {
   all = length-map logs (option_map (λ (log : LogState D). log.content)) ∙ (all ∙ sym ranges.lists);
-  chosen = subst
-      (λ (ls : List (Option LogLists)). IsChosenStart (first_group_of script).opening (handed_by ls) start) same
-      chosen;
+  chosen = subst (λ (ls : List (Option LogLists)). IsChosenStart
+      (first_group_of script).opening (handed_by ls) start) same chosen;
 }

@@ -1,20 +1,15 @@
 -- Logs on which an age was opened, or on which its opening stopped.
-use Rattle.std.proofs.Common.{◌≡◌, refl, ap, ⊎_elim, ◌<◌, ◌≤◌, List, length, sym, ◌∙◌, subst, inl, inr, ℕ, arith, []}
 use Rattle.std.specs.Prelude.{Option, None, Some, is_some}
-use Rattle.std.proofs.lemmas.Bool.{cases_lt, cases_eq}
-use Rattle.std.proofs.lemmas.Option.{same_Some}
+use Rattle.std.proofs.Common.{◌≡◌, refl, ap, ⊎_elim, ◌<◌, ◌≤◌, List, length, sym, ◌∙◌, subst, inl, inr, ℕ, arith, []}
+use Rattle.std.proofs.lemmas.{Bool.{cases_lt, cases_eq}, Option.same_Some}
 use Rattle.dr_disk.specs.Disk.{Told}
 use Rattle.dr_script.specs.declared.script.Script.{Script}
 use Rattle.dr_log.specs.State.{LogState}
 use Rattle.dr_restart.specs.declared.start.Start.{Start}
-use Rattle.dr_logged.proofs.Served.{places_both, places_same}
-use Rattle.dr_logged.specs.Served.{HaveSamePlaces}
+use Rattle.dr_served.{specs.Served.HaveSamePlaces, proofs.Served.{places_both, places_same}}
+use Rattle.dr_opening.specs.{Lists.log_of, Unopened.IsWhyUnopened, declared.age.NotOpened.NotOpened}
 use Rattle.dr_opening.specs.Logs.{Together, ComeBelow, StopAt, GotStart, GotVote, WereOpened, LacksStart, LacksVote, WereNotOpened}
-use Rattle.dr_opening.specs.Lists.{log_of}
-use Rattle.dr_opening.specs.declared.opening.OpenFault.{OpenFault}
-use Rattle.dr_opening.specs.declared.age.NotOpened.{NotOpened}
-use Rattle.dr_opening.specs.declared.age.NotOpened.TheVariants.{Unchosen, Unfinished}
-use Rattle.dr_opening.specs.Unopened.{IsWhyUnopened}
+use Rattle.dr_opening.specs.declared.{age.NotOpened.TheVariants.{Unchosen, Unfinished}, opening.OpenFault.OpenFault}
 
 -- where one is there both are
 together_places : {D : Type 0} (P : LogState D → LogState D → Type 0) (o p : Option (LogState D))
@@ -28,8 +23,7 @@ pub come_places : {D : Type 0} (P : LogState D → LogState D → Type 0) (olds 
     → ComeBelow P olds news (length olds) → HaveSamePlaces olds news
 come_places {D} P olds news come = record {
   all = come.all;
-  each = λ m. ⊎_elim
-      (λ (l : m < length olds). together_places P (log_of olds m) (log_of news m) (come.below m l))
+  each = λ m. ⊎_elim (λ (l : m < length olds). together_places P (log_of olds m) (log_of news m) (come.below m l))
       (λ (g : length olds ≤ m). ap (λ (o : Option (LogState D)). is_some o) (come.others m g))
       (cases_lt m (length olds));
 }
@@ -52,29 +46,24 @@ in_stop {D} P Q R olds news k m old new stop there here by_p by_q by_same = ⊎_
       | inr apart ↦
           let l : k < m = omega (arith, g, apart) in
           by_same l (same_Some new old (sym here ∙ (stop.others m l ∙ there)))
-    ])
-    (cases_lt m k)
+    ]) (cases_lt m k)
 
 pub below_stop : {D : Type 0} (P Q : LogState D → LogState D → Type 0) (olds news : List (Option (LogState D)))
     (k m : ℕ) (old new : LogState D) → StopAt P Q olds news k → m < k → log_of olds m ≡ Some old
     → log_of news m ≡ Some new → P old new
-below_stop {D} P Q olds news k m old new stop l there here =
-    subst (λ (o : Option (LogState D)). Together P (Some old) o) here
-    (subst (λ (o : Option (LogState D)). Together P o (log_of news m)) there (stop.below m l))
+below_stop {D} P Q olds news k m old new stop l there here = subst (λ (o : Option (LogState D)). Together P
+    (Some old) o) here (subst (λ (o : Option (LogState D)). Together P o (log_of news m)) there (stop.below m l))
 
 pub stop_places : {D : Type 0} (P Q : LogState D → LogState D → Type 0) (olds news : List (Option (LogState D)))
     (k : ℕ) → StopAt P Q olds news k → HaveSamePlaces olds news
 stop_places {D} P Q olds news k stop = record {
   all = stop.all;
-  each = λ m. ⊎_elim
-      (λ (l : m < k). together_places P (log_of olds m) (log_of news m) (stop.below m l))
+  each = λ m. ⊎_elim (λ (l : m < k). together_places P (log_of olds m) (log_of news m) (stop.below m l))
       (λ (g : k ≤ m). elim (cases_eq m k) [
-        | inl same ↦
-            ap (λ (o : Option (LogState D)). is_some o) (ap (log_of news) same ∙ stop.stop.3)
+        | inl same ↦ ap (λ (o : Option (LogState D)). is_some o) (ap (log_of news) same ∙ stop.stop.3)
             ∙ ap (λ (o : Option (LogState D)). is_some o) (sym (ap (log_of olds) same ∙ stop.stop.2))
         | inr apart ↦ ap (λ (o : Option (LogState D)). is_some o) (stop.others m (omega (arith, g, apart)))
-      ])
-      (cases_lt m k);
+      ]) (cases_lt m k);
 }
 
 -- those of the second phase are as many as of the first
@@ -93,13 +82,11 @@ opened_places told faults start olds news (mids, voted, raised) =
 pub unopened_places : {D : Type 0} (told : D → Option Told) (faults : D → ℕ) (start : Start)
     (olds news : List (Option (LogState D))) (fault : OpenFault) → WereNotOpened told faults start olds news fault
     → HaveSamePlaces olds news
-unopened_places told faults start olds news fault (inl stop) =
-    stop_places (GotVote told faults start) (λ old new. LacksVote told faults start old new fault.why) olds news
-    fault.member stop
-unopened_places told faults start olds news fault (inr (mids, voted, stop)) =
-    places_both olds mids news (come_places (GotVote told faults start) olds mids voted)
-    (stop_places (GotStart told faults start) (λ old new. LacksStart told faults start old new fault.why) mids news
-    fault.member stop)
+unopened_places told faults start olds news fault (inl stop) = stop_places (GotVote told faults start)
+    (λ old new. LacksVote told faults start old new fault.why) olds news fault.member stop
+unopened_places told faults start olds news fault (inr (mids, voted, stop)) = places_both olds mids news
+    (come_places (GotVote told faults start) olds mids voted) (stop_places (GotStart told faults start)
+    (λ old new. LacksStart told faults start old new fault.why) mids news fault.member stop)
 
 pub why_places : {D : Type 0} (told : D → Option Told) (faults : D → ℕ) (script : Script) (late : ℕ)
     (olds news : List (Option (LogState D))) (why : NotOpened) → IsWhyUnopened told faults script late olds news why
@@ -114,5 +101,4 @@ pub together_some : {D : Type 0} (P : LogState D → LogState D → Type 0) (o p
     → o ≡ Some old → Together P o p → (new : LogState D) × (p ≡ Some new) × P old new
 together_some P None p old is both = absurd (cc is)
 together_some P (Some x) None old is both = absurd both
-together_some P (Some x) (Some new) old is both =
-    (new, refl, subst (λ y. P y new) (same_Some x old is) both)
+together_some P (Some x) (Some new) old is both = (new, refl, subst (λ y. P y new) (same_Some x old is) both)

@@ -1,18 +1,13 @@
 -- What an opening loses of no log: its votes, and the entries that it has in common with the start.
 use Rattle.std.proofs.Common.{◌≡◌, ap, sym, ◌∙◌, inl, inr, ◌⊎◌, [], ◌∷◌, ◌++◌, append_assoc, ℕ, List, subst}
 use Rattle.dr_entry.specs.declared.record.AgeVote.{AgeVote}
-use Rattle.dr_history.specs.History.{IsPrefixOf}
-use Rattle.dr_history.specs.Members.{has}
-use Rattle.dr_log.specs.Standing.{HasAllOf, LosesNone}
+use Rattle.dr_history.specs.{History.IsPrefixOf, Members.has}
+use Rattle.dr_log.{specs.Standing.{HasAllOf, LosesNone}, proofs.Ordinary.none_lost}
 use Rattle.dr_log_bytes.specs.Content.{OnLog}
-use Rattle.dr_log.proofs.Ordinary.{none_lost}
-use Rattle.dr_restart.specs.declared.lists.LogLists.{LogLists}
+use Rattle.dr_restart.specs.{Trying.{MayBeBroughtUp, age_vote_of}, declared.lists.LogLists.LogLists}
 use Rattle.dr_restart.specs.declared.start.Start.{Start}
-use Rattle.dr_restart.specs.Trying.{MayBeBroughtUp, age_vote_of}
-use Rattle.dr_opening.specs.Contents.{IsRising, IsVoting, voted_for, StandSo}
-use Rattle.dr_opening.specs.Lists.{as_lists}
-use Rattle.dr_opening.proofs.Lists.{voted_lists, with_vote_more}
-use Rattle.dr_opening.proofs.Ways.{rising_by, rising_votes, voting_lists}
+use Rattle.dr_opening.specs.{Contents.{IsRising, IsVoting, voted_for, StandSo}, Lists.as_lists}
+use Rattle.dr_opening.proofs.{Lists.{voted_lists, with_vote_more}, Ways.{rising_by, rising_votes, voting_lists}}
 
 -- by lists that are the same
 has_same : (first c now : OnLog) → as_lists now ≡ as_lists c → HasAllOf first c → HasAllOf first now
@@ -48,9 +43,8 @@ voting_has_all start first c now has way = by (voting_lists start c now way)
         (ap as_lists same ∙ voted_lists (age_vote_of start) c) has
 
 -- what is brought up begins with what it and the start had in common
-begins_so : (start : Start) (first voted now : OnLog) → HasAllOf first voted
-    → IsPrefixOf first.entries start.entries → MayBeBroughtUp start voted.entries now.entries
-    → IsPrefixOf first.entries now.entries
+begins_so : (start : Start) (first voted now : OnLog) → HasAllOf first voted → IsPrefixOf first.entries start.entries
+    → MayBeBroughtUp start voted.entries now.entries → IsPrefixOf first.entries now.entries
 begins_so start first voted now has of_start (inl same) = (has.more_entries, sym (same ∙ has.entries))
 begins_so start first voted now has of_start (inr brought) =
     brought.1 first.entries (has.more_entries, sym has.entries) of_start
@@ -80,6 +74,5 @@ voting_loses_none start first c image has (now, way, stands) =
 pub rising_loses_none : (start : Start) (first c voted : OnLog) (image : List ℕ) → voted ≡ voted_for start c
     → HasAllOf first c → IsPrefixOf first.entries start.entries → StandSo (IsRising start voted) image
     → LosesNone first image
-rising_loses_none start first c voted image same has part (now, way, stands) =
-    none_lost first now image (rising_has_all start first c now has part
-    (subst (λ (v : OnLog). IsRising start v now) same way)) stands
+rising_loses_none start first c voted image same has part (now, way, stands) = none_lost first now image
+    (rising_has_all start first c now has part (subst (λ (v : OnLog). IsRising start v now) same way)) stands

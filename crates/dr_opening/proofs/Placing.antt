@@ -1,26 +1,19 @@
 -- Logs by member, some of which have come to something and others are as they were.
-use Rattle.std.proofs.Common.{◌≡◌, refl, sym, ◌∙◌, subst, inl, inr, ℕ, ◌+◌, ◌<◌, le_refl, arith, List, length, length-set, get_or, Option, None, Some}
 use Rattle.std.specs.Prelude.{Err, IfErr, Ok, Result, slice_set}
-use Rattle.std.proofs.lemmas.Bool.{cases_eq}
-use Rattle.std.proofs.lemmas.List.{get_or-set_other, get_or-set_same}
+use Rattle.std.proofs.Common.{◌≡◌, refl, sym, ◌∙◌, subst, inl, inr, ℕ, ◌+◌, ◌<◌, le_refl, arith, List, length, length-set, get_or, Option, None, Some}
+use Rattle.std.proofs.lemmas.{Bool.cases_eq, List.{get_or-set_other, get_or-set_same}}
 use Rattle.dr_entry.proofs.ListFacts.{same_under}
 use Rattle.dr_log.specs.State.{LogState}
-use Rattle.dr_opening.specs.Lists.{log_of}
-use Rattle.dr_opening.specs.Logs.{BothThere, ComeBelow, StopAt, Together}
+use Rattle.dr_opening.specs.{Lists.log_of, Logs.{BothThere, ComeBelow, StopAt, Together}}
 
 -- before the first
 pub none_come : {D : Type 0} (P : LogState D → LogState D → Type 0) (logs : List (Option (LogState D)))
     → ComeBelow P logs logs 0
-none_come P logs = record {
-  all = refl;
-  below = λ m below. absurd (omega (arith, below));
-  others = λ m above. refl;
-}
+none_come P logs = record { all = refl; below = λ m below. absurd (omega (arith, below)); others = λ m above. refl }
 
 -- the next one is as it was
 pub still_there : {D : Type 0} (P : LogState D → LogState D → Type 0) (olds news : List (Option (LogState D)))
-    (k : ℕ) (x : Option (LogState D)) → ComeBelow P olds news k → k < length news
-    → get_or news k x ≡ log_of olds k
+    (k : ℕ) (x : Option (LogState D)) → ComeBelow P olds news k → k < length news → get_or news k x ≡ log_of olds k
 still_there P olds news k x so_far within = same_under news k x None within ∙ so_far.others k (le_refl k)
 
 -- and comes so

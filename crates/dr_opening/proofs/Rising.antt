@@ -1,26 +1,21 @@
 -- A log with the age vote that is cut back and brought up to a start, or is refused one of the two.
+use Rattle.std.specs.Prelude.{◌≢◌, Err, IfErr, IfSome, IsErrOf, Ok, OnErr, OnOk, Result}
 use Rattle.std.proofs.Common.{◌≡◌, refl, ap, sym, ◌∙◌, subst, inl, inr, ◌⊎◌, ℕ, arith, true, List, Option, Some, None}
 use Rattle.std.proofs.lemmas.Bool.{false≢true}
-use Rattle.std.specs.Prelude.{◌≢◌, Err, IfErr, IfSome, IsErrOf, Ok, OnErr, OnOk, Result}
 use Rattle.dr_entry.specs.declared.record.Record.TheVariants as records
-use Rattle.dr_disk.specs.Disk.{Told, state_of}
-use Rattle.dr_disk.specs.Images.{AllImages, Goes, IsLeft}
+use Rattle.dr_disk.specs.{Disk.{Told, state_of}, Images.{AllImages, Goes, IsLeft}}
 use Rattle.dr_disk.proofs.Moments.{Goes-last, stays_at, goes_both, goes_so}
 use Rattle.dr_io.specs.Faults.{Rose}
+use Rattle.dr_log.specs.{Standing.{IsBeforeOrAfter, IsNoneOrAll, entries_length}, State.LogState}
 use Rattle.dr_log.specs.declared.fault.LogFault.{LogFault}
 use Rattle.dr_log.specs.declared.fault.LogFault.TheVariants as logs
-use Rattle.dr_log.specs.Standing.{IsBeforeOrAfter, IsNoneOrAll, entries_length}
-use Rattle.dr_log.specs.State.{LogState}
-use Rattle.dr_log_bytes.specs.Content.{OnLog, with_record}
-use Rattle.dr_log_bytes.specs.Grammar.{StandFor}
+use Rattle.dr_log_bytes.specs.{Content.{OnLog, with_record}, Grammar.StandFor}
 use Rattle.dr_restart.specs.declared.start.Start.{Start}
 use Rattle.dr_opening.specs.CatchingUp.{FitsOrIsFull, HasCaughtUp, HasStayed, IsLeftAlone, lacked, opened_with}
-use Rattle.dr_opening.specs.CuttingBack.{IsCutDue, WasCutBack}
 use Rattle.dr_opening.specs.Contents.{IsCutFor, IsRising, IsRisingStep, StandSo, raised_to}
-use Rattle.dr_opening.specs.Logs.{Explains, GotStart, IsReadyToRise, LacksStart}
+use Rattle.dr_opening.specs.{CuttingBack.{IsCutDue, WasCutBack}, Logs.{Explains, GotStart, IsReadyToRise, LacksStart}}
+use Rattle.dr_opening.{specs.declared.catching_up.CatchFault.CatchFault, proofs.Steps.{IsFrom, stuck_by}}
 use Rattle.dr_opening.specs.declared.catching_up.CatchFault.TheVariants.{DiskFault, LogFull, OutOfMemory}
-use Rattle.dr_opening.specs.declared.catching_up.CatchFault.{CatchFault}
-use Rattle.dr_opening.proofs.Steps.{IsFrom, stuck_by}
 
 -- a log that is ready is one from which an append is made
 ready_from : {D : Type 0} (told : D → Option Told) (faults : D → ℕ) (log : LogState D) → IsReadyToRise told log
@@ -84,42 +79,34 @@ cut_by {D} {T} told faults start old mid x ready (inr (keep, due, did)) = record
 -- it was refused
 pub uncut_by : {D T : Type 0} (told : D → Option Told) (faults : D → ℕ) (start : Start) (old new : LogState D)
     (why : LogFault) (answer : CatchFault) → IsReadyToRise told old
-    → WasCutBack {T = T} told faults start.entries old new (Err why)
-    → (why ≡ logs.DiskFault → answer ≡ DiskFault)
-    → ((len : ℕ) → why ≡ logs.LogFull len → answer ≡ LogFull len)
-    → LacksStart told faults start old new answer
+    → WasCutBack {T = T} told faults start.entries old new (Err why) → (why ≡ logs.DiskFault → answer ≡ DiskFault)
+    → ((len : ℕ) → why ≡ logs.LogFull len → answer ≡ LogFull len) → LacksStart told faults start old new answer
 uncut_by {D} {T} told faults start old new why answer ready (inl (part, same, never)) disk full =
     absurd (false≢true never)
-uncut_by {D} {T} told faults start old new why answer ready (inr (keep, due, did)) disk full =
-    stuck_by T told faults (IsRisingStep start old.content) (IsRising start old.content) old old new
-    (records.Cut keep) why answer did (ready_from told faults old ready) (inl (keep, due, refl, refl))
-    (goes_so (told old.disk) (told new.disk) (IsBeforeOrAfter old.content (records.Cut keep))
-    (StandSo (IsRising start old.content)) (λ image. cutting_by start old.content keep image due) did.any_moment)
-    disk full
+uncut_by {D} {T} told faults start old new why answer ready (inr (keep, due, did)) disk full = stuck_by T told faults
+    (IsRisingStep start old.content) (IsRising start old.content) old old new (records.Cut keep) why answer did
+    (ready_from told faults old ready) (inl (keep, due, refl, refl)) (goes_so (told old.disk)
+    (told new.disk) (IsBeforeOrAfter old.content (records.Cut keep)) (StandSo (IsRising start old.content))
+    (λ image. cutting_by start old.content keep image due) did.any_moment) disk full
 
 -- ---- the entries
 
 -- the moments of both
 moments_both : {D : Type 0} (told : D → Option Told) (faults : D → ℕ) (start : Start) (old mid new : LogState D)
-    → IsCut told faults start old mid
-    → Goes (told mid.disk) (told new.disk)
+    → IsCut told faults start old mid → Goes (told mid.disk) (told new.disk)
     (λ s. IsNoneOrAll mid.content (lacked mid (opened_with start start.members)))
     → Goes (told old.disk) (told new.disk) (λ s. StandSo (IsRising start old.content))
 moments_both told faults start old mid new cut goes =
     goes_both (told old.disk) (told mid.disk) (told new.disk) (StandSo (IsRising start old.content)) cut.moments
-    (goes_so (told mid.disk) (told new.disk)
-    (IsNoneOrAll mid.content (lacked mid (opened_with start start.members)))
-    (StandSo (IsRising start old.content)) (λ image. raising_by start old.content mid.content image cut.content)
-    goes)
+    (goes_so (told mid.disk) (told new.disk) (IsNoneOrAll mid.content (lacked mid (opened_with start start.members)))
+    (StandSo (IsRising start old.content)) (λ image. raising_by start old.content mid.content image cut.content) goes)
 
 -- they were appended
-pub raised_by : {D T : Type 0} (told : D → Option Told) (faults : D → ℕ) (start : Start)
-    (old mid new : LogState D) (x y : T) → IsReadyToRise told old
-    → WasCutBack {T = T} told faults start.entries old mid (Ok x)
+pub raised_by : {D T : Type 0} (told : D → Option Told) (faults : D → ℕ) (start : Start) (old mid new : LogState D)
+    (x y : T) → IsReadyToRise told old → WasCutBack {T = T} told faults start.entries old mid (Ok x)
     → HasCaughtUp told faults (opened_with start start.members) mid new
     → FitsOrIsFull mid.limit mid.content.length (entries_length (lacked mid (opened_with start start.members)))
-    {T = T} (Ok y)
-    → GotStart told faults start old new
+    {T = T} (Ok y) → GotStart told faults start old new
 raised_by {D} {T} told faults start old mid new x y ready back up fits = record {
   content = (mid.content, cut.content, up.content);
   limit = up.limit ∙ cut.from.limit;
@@ -135,12 +122,10 @@ raised_by {D} {T} told faults start old mid new x y ready back up fits = record 
 why_unraised : {D T : Type 0} (told : D → Option Told) (faults : D → ℕ) (start : Start) (old mid new : LogState D)
     (why : CatchFault) → IsCut told faults start old mid
     → HasStayed told faults (opened_with start start.members) mid new
-    → (why ≢ DiskFault → IsLeftAlone told faults mid new)
-    → (IsErrOf {T = T} (Err why) DiskFault → new.failed ≡ true)
+    → (why ≢ DiskFault → IsLeftAlone told faults mid new) → (IsErrOf {T = T} (Err why) DiskFault → new.failed ≡ true)
     → (IsErrOf {T = T} (Err why) DiskFault → Rose (faults mid.disk) (faults new.disk))
     → FitsOrIsFull mid.limit mid.content.length (entries_length (lacked mid (opened_with start start.members)))
-    {T = T} (Err why)
-    → Explains told faults new.content (raised_to start mid.content) old new why
+    {T = T} (Err why) → Explains told faults new.content (raised_to start mid.content) old new why
 why_unraised {D} {T} told faults start old mid new OutOfMemory cut stayed alone failed cause fits =
     let left = alone (λ e. cc) in
     record { unfailed = left.unfailed; safe = left.safe; calm = left.calm ∙ cut.from.well.calm }
@@ -148,9 +133,8 @@ why_unraised {D} {T} told faults start old mid new DiskFault cut stayed alone fa
   failed refl,
   subst (λ n. Rose n (faults new.disk)) cut.from.well.calm (cause refl),
   subst (λ c. IsLeft (told new.disk) (λ image. StandFor image c ⊎ StandFor image (raised_to start mid.content)))
-      (sym stayed.content)
-      (Goes-last (told mid.disk) (told new.disk)
-      (IsNoneOrAll mid.content (lacked mid (opened_with start start.members))) stayed.moments),
+      (sym stayed.content) (Goes-last (told mid.disk)
+      (told new.disk) (IsNoneOrAll mid.content (lacked mid (opened_with start start.members))) stayed.moments),
 )
 why_unraised {D} {T} told faults start old mid new (LogFull len) cut stayed alone failed cause fits =
     let left = alone (λ e. cc) in (
@@ -160,16 +144,13 @@ why_unraised {D} {T} told faults start old mid new (LogFull len) cut stayed alon
     )
 
 -- they were refused
-pub unraised_by : {D T : Type 0} (told : D → Option Told) (faults : D → ℕ) (start : Start)
-    (old mid new : LogState D) (x : T) (why : CatchFault) → IsReadyToRise told old
-    → WasCutBack {T = T} told faults start.entries old mid (Ok x)
+pub unraised_by : {D T : Type 0} (told : D → Option Told) (faults : D → ℕ) (start : Start) (old mid new : LogState D)
+    (x : T) (why : CatchFault) → IsReadyToRise told old → WasCutBack {T = T} told faults start.entries old mid (Ok x)
     → HasStayed told faults (opened_with start start.members) mid new
-    → (why ≢ DiskFault → IsLeftAlone told faults mid new)
-    → (IsErrOf {T = T} (Err why) DiskFault → new.failed ≡ true)
+    → (why ≢ DiskFault → IsLeftAlone told faults mid new) → (IsErrOf {T = T} (Err why) DiskFault → new.failed ≡ true)
     → (IsErrOf {T = T} (Err why) DiskFault → Rose (faults mid.disk) (faults new.disk))
     → FitsOrIsFull mid.limit mid.content.length (entries_length (lacked mid (opened_with start start.members)))
-    {T = T} (Err why)
-    → LacksStart told faults start old new why
+    {T = T} (Err why) → LacksStart told faults start old new why
 unraised_by {D} {T} told faults start old mid new x why ready back stayed alone failed cause fits = record {
   next = raised_to start mid.content;
   step = subst (λ c. IsRisingStep start old.content c (raised_to start mid.content)) (sym stayed.content)
@@ -190,8 +171,7 @@ pub raised_on : {D : Type 0} (T : Type 0) (told : D → Option Told) (faults : D
     → WasCutBack {T = T} told faults start.entries old mid (Ok x) → members ≡ start.members
     → OnOk answer (HasCaughtUp told faults (opened_with start members) mid new)
     → FitsOrIsFull mid.limit mid.content.length (entries_length (lacked mid (opened_with start members)))
-    {T = T} answer
-    → OnOk answer (GotStart told faults start old new)
+    {T = T} answer → OnOk answer (GotStart told faults start old new)
 raised_on {D} T told faults start old mid new x members (Err why) ready back same up fits = tt
 raised_on {D} T told faults start old mid new x members (Ok y) ready back same up fits =
     raised_by told faults start old mid new x y ready back
@@ -207,10 +187,8 @@ pub unraised_on : {D : Type 0} (T : Type 0) (told : D → Option Told) (faults :
     → (IsErrOf answer DiskFault → new.failed ≡ true)
     → (IsErrOf answer DiskFault → Rose (faults mid.disk) (faults new.disk))
     → FitsOrIsFull mid.limit mid.content.length (entries_length (lacked mid (opened_with start members)))
-    {T = T} answer
-    → IfErr answer (LacksStart told faults start old new)
-unraised_on {D} T told faults start old mid new x members (Ok y) ready back same stayed alone failed cause fits =
-    tt
+    {T = T} answer → IfErr answer (LacksStart told faults start old new)
+unraised_on {D} T told faults start old mid new x members (Ok y) ready back same stayed alone failed cause fits = tt
 unraised_on {D} T told faults start old mid new x members (Err why) ready back same stayed alone failed cause fits =
     unraised_by {T = T} told faults start old mid new x why ready back
     (subst (λ k. HasStayed told faults (opened_with start k) mid new) same stayed) alone failed cause

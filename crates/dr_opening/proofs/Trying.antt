@@ -1,25 +1,17 @@
 -- What an opening leaves wherever it stops is what a try leaves.
-use Rattle.std.proofs.Common.{◌≡◌, refl, ap, sym, ◌∙◌, subst, inl, inr, ◌⊎◌, ⊎_elim, ℕ, zero, suc, ◌<◌, ◌≤◌, ◌&&◌, nat_lt, arith, Bool, true, false, List, length, Contains, Option, None, Some}
-use Rattle.std.proofs.Math.Path.{fun_ext}
 use Rattle.std.specs.Prelude.{if◌then◌else◌, is_some, option_map, slice_get}
-use Rattle.std.proofs.lemmas.Bool.{cases_lt}
-use Rattle.std.proofs.lemmas.Option.{same_Some}
-use Rattle.dr_entry.specs.declared.record.AgeVote.{AgeVote}
-use Rattle.dr_entry.proofs.ListPlaces.{within_places}
-use Rattle.dr_history.specs.declared.opening.Opening.{Opening}
-use Rattle.dr_history.specs.Members.{has}
-use Rattle.dr_history.specs.Soundness.{whole_roster}
+use Rattle.std.proofs.Common.{◌≡◌, refl, ap, sym, ◌∙◌, subst, inl, inr, ◌⊎◌, ⊎_elim, ℕ, zero, suc, ◌<◌, ◌≤◌, ◌&&◌, nat_lt, arith, Bool, true, false, List, length, Contains, Option, None, Some}
+use Rattle.std.proofs.{Math.Path.fun_ext, lemmas.{Bool.cases_lt, Option.same_Some}}
+use Rattle.dr_entry.{specs.declared.record.AgeVote.AgeVote, proofs.ListPlaces.within_places}
+use Rattle.dr_history.specs.{Members.has, Soundness.whole_roster, declared.opening.Opening.Opening}
 use Rattle.dr_history.proofs.Bits.{has_ones}
 use Rattle.dr_log_bytes.specs.Content.{OnLog}
-use Rattle.dr_restart.specs.declared.lists.Attempt.{Attempt}
-use Rattle.dr_restart.specs.declared.lists.LogLists.{LogLists}
-use Rattle.dr_restart.specs.declared.start.Start.{Start}
 use Rattle.dr_restart.specs.Choosing.{Handed, IsChosenStart, of_set}
 use Rattle.dr_restart.specs.Trying.{HaveAgeVote, IsTry, MayBeBroughtUp, MayHaveAgeVote, age_vote_of}
+use Rattle.dr_restart.specs.declared.{lists.{Attempt.Attempt, LogLists.LogLists}, start.Start.Start}
 use Rattle.dr_quorum.specs.Handing.{handed_by}
 use Rattle.dr_words.proofs.Masks.{has_mask_of}
-use Rattle.dr_opening.specs.Contents.{IsRising, IsVoting, voted_for}
-use Rattle.dr_opening.specs.Lists.{all_as_lists, as_lists}
+use Rattle.dr_opening.specs.{Contents.{IsRising, IsVoting, voted_for}, Lists.{all_as_lists, as_lists}}
 use Rattle.dr_opening.specs.Tries.{AreAmong, CameSo, HasStoppedSo, IsChosenOf, IsToldBy, content_at, try_of}
 use Rattle.dr_opening.proofs.Lists.{handed_is}
 use Rattle.dr_opening.proofs.Ways.{KeepsVotes, rising_brought, rising_has, rising_keeps, voted_has, voting_brought, voting_keeps, voting_lists, voting_waits}
@@ -30,8 +22,7 @@ use Rattle.dr_opening.proofs.Ways.{KeepsVotes, rising_brought, rising_has, risin
 present_are : (o : Opening) (contents : List (Option OnLog)) (start : Start) (m : ℕ) (b : Bool)
     → IsChosenOf o contents start → length o.messages ≤ 16 → is_some (content_at contents m) ≡ b
     → (b ≡ true → m < length o.messages) → has start.present m ≡ b
-present_are o contents start m b is few there within =
-    ap (λ x. has x m) is.chosen.present
+present_are o contents start m b is few there within = ap (λ x. has x m) is.chosen.present
     ∙ has_mask_of (λ i. has (whole_roster o) i && is_some (handed_by (all_as_lists contents) i)) m
     ∙ by b (ap is_some (handed_is contents m) ∙ same (content_at contents m) ∙ there) within
   where
@@ -48,13 +39,11 @@ present_are o contents start m b is few there within =
 pub in_set : (o : Opening) (contents : List (Option OnLog)) (start : Start) (m : ℕ) (c : OnLog)
     → IsChosenOf o contents start → length o.messages ≤ 16 → content_at contents m ≡ Some c
     → has start.present m ≡ true
-in_set o contents start m c is few at =
-    present_are o contents start m true is few (ap is_some at)
+in_set o contents start m c is few at = present_are o contents start m true is few (ap is_some at)
     (λ e. omega (arith, within_places contents m c at, is.all))
 
-pub out_of_set : (o : Opening) (contents : List (Option OnLog)) (start : Start) (m : ℕ)
-    → IsChosenOf o contents start → length o.messages ≤ 16 → content_at contents m ≡ None
-    → has start.present m ≡ false
+pub out_of_set : (o : Opening) (contents : List (Option OnLog)) (start : Start) (m : ℕ) → IsChosenOf o contents start
+    → length o.messages ≤ 16 → content_at contents m ≡ None → has start.present m ≡ false
 out_of_set o contents start m is few at =
     present_are o contents start m false is few (ap is_some at) (λ e. absurd (cc))
 
@@ -62,14 +51,11 @@ out_of_set o contents start m is few at =
 
 -- a log that was handed in, by the set
 handed_so : (o : Opening) (contents : List (Option OnLog)) (before : List LogLists) (start : Start) (m : ℕ)
-    → IsChosenOf o contents start → length o.messages ≤ 16 → AreAmong contents before
-    → (c : Option OnLog) → content_at contents m ≡ c
-    → handed_by (all_as_lists contents) m ≡ of_set before start.present m
-handed_so o contents before start m is few among (Some c) at =
-    handed_is contents m ∙ ap (option_map as_lists) at
+    → IsChosenOf o contents start → length o.messages ≤ 16 → AreAmong contents before → (c : Option OnLog)
+    → content_at contents m ≡ c → handed_by (all_as_lists contents) m ≡ of_set before start.present m
+handed_so o contents before start m is few among (Some c) at = handed_is contents m ∙ ap (option_map as_lists) at
     ∙ sym (ap (λ b. if b then slice_get before m else None) (in_set o contents start m c is few at) ∙ among m c at)
-handed_so o contents before start m is few among None at =
-    handed_is contents m ∙ ap (option_map as_lists) at
+handed_so o contents before start m is few among None at = handed_is contents m ∙ ap (option_map as_lists) at
     ∙ sym (ap (λ b. if b then slice_get before m else None) (out_of_set o contents start m is few at))
 
 pub chosen_by : (o : Opening) (contents : List (Option OnLog)) (before : List LogLists) (start : Start)
@@ -92,14 +78,12 @@ pub record Knows (P : OnLog → OnLog → Type 0) (o : Opening) (contents : List
 
 -- a log of the set was there, and came to something
 there : (P : OnLog → OnLog → Type 0) (o : Opening) (contents : List (Option OnLog)) (before after : List LogLists)
-    (start : Start) (m : ℕ) → Knows P o contents before after start → has start.present m ≡ true
-    → (c : OnLog) × (now : OnLog) × (content_at contents m ≡ Some c) × P c now
-    × (slice_get after m ≡ Some (as_lists now))
+    (start : Start) (m : ℕ) → Knows P o contents before after start → has start.present m ≡ true → (c : OnLog)
+    × (now : OnLog) × (content_at contents m ≡ Some c) × P c now × (slice_get after m ≡ Some (as_lists now))
 there P o contents before after start m k inside = by (content_at contents m) refl
   where
-    by : (d : Option OnLog) → content_at contents m ≡ d
-        → (c : OnLog) × (now : OnLog) × (content_at contents m ≡ Some c) × P c now
-        × (slice_get after m ≡ Some (as_lists now))
+    by : (d : Option OnLog) → content_at contents m ≡ d → (c : OnLog)
+        × (now : OnLog) × (content_at contents m ≡ Some c) × P c now × (slice_get after m ≡ Some (as_lists now))
     by None at = absurd (let e = sym (out_of_set o contents start m k.is k.few at) ∙ inside in cc)
     by (Some c) at = let one = k.came.each m c at in (c, one.0, at, one.1, one.2)
 
@@ -137,8 +121,7 @@ both_there P o contents before after start m old new k inside was are =
 
 -- the votes of either kind stay
 abbrev Stay : LogLists → LogLists → Type 0
-Stay old new =
-    (new.votes ≡ old.votes) × ((x : AgeVote) → Contains old.age_votes x → Contains new.age_votes x)
+Stay old new = (new.votes ≡ old.votes) × ((x : AgeVote) → Contains old.age_votes x → Contains new.age_votes x)
 
 votes_stay : (P : OnLog → OnLog → Type 0) (o : Opening) (contents : List (Option OnLog))
     (before after : List LogLists) (start : Start) (m : ℕ) (old new : LogLists)
@@ -148,8 +131,7 @@ votes_stay P o contents before after start m old new k keeps was are = by (has s
   where
     by : (b : Bool) → has start.present m ≡ b → Stay old new
     by false outside =
-        let same = same_Some old new
-        (sym was ∙ sym (beside P o contents before after start m k outside) ∙ are) in
+        let same = same_Some old new (sym was ∙ sym (beside P o contents before after start m k outside) ∙ are) in
         subst (Stay old) same (refl, λ x here. here)
     by true inside =
         let two = both_there P o contents before after start m old new k inside was are in
@@ -165,8 +147,7 @@ pub try_made : (P : OnLog → OnLog → Type 0) (o : Opening) (contents : List (
     → ((c now : OnLog) → P c now → MayBeBroughtUp start c.entries now.entries)
     → (opened ≡ false → (c now : OnLog) → P c now → MayHaveAgeVote start (as_lists c) (as_lists now))
     → (opened ≡ true → HaveAgeVote after start.present start)
-    → (opened ≡ false → ¬ HaveAgeVote after start.present start)
-    → IsTry o before after (try_of start opened)
+    → (opened ≡ false → ¬ HaveAgeVote after start.present start) → IsTry o before after (try_of start opened)
 try_made P o contents before after start opened k keeps brought waits have lack = record {
   choice = chosen_by o contents before start k.is k.few k.among;
   set = refl;
@@ -200,10 +181,9 @@ all_rising o contents before after start k m log inside =
 pub tried_rising : (o : Opening) (contents : List (Option OnLog)) (before after : List LogLists) (start : Start)
     → Knows (λ c now. IsRising start (voted_for start c) now) o contents before after start
     → IsTry o before after (try_of start true)
-tried_rising o contents before after start k =
-    try_made (λ c now. IsRising start (voted_for start c) now) o contents before after start true k
-    (rising_keeps start) (rising_brought start) (λ e. absurd (cc))
-    (λ e. all_rising o contents before after start k) (λ e. absurd (cc))
+tried_rising o contents before after start k = try_made (λ c now. IsRising start
+    (voted_for start c) now) o contents before after start true k (rising_keeps start)
+    (rising_brought start) (λ e. absurd (cc)) (λ e. all_rising o contents before after start k) (λ e. absurd (cc))
 
 -- ---- in the first phase
 
@@ -220,32 +200,24 @@ HasOne contents after = (m : ℕ) × (c : OnLog) × (content_at contents m ≡ S
 -- so it is of one more
 next_voted : (contents : List (Option OnLog)) (before after : List LogLists) (start : Start) (n : ℕ)
     → CameSo (IsVoting start) contents before after → HaveVoted contents after start n
-    → (c : Option OnLog) → content_at contents n ≡ c
-    → HaveVoted contents after start (suc n) ⊎ HasOne contents after
+    → (c : Option OnLog) → content_at contents n ≡ c → HaveVoted contents after start (suc n) ⊎ HasOne contents after
 next_voted contents before after start n came all None at = inl (λ m c l here. ⊎_elim
-    (λ (below : m < n). all m c below here)
-    (λ (above : n ≤ m).
+    (λ (below : m < n). all m c below here) (λ (above : n ≤ m).
     let same : m ≡ n = omega (arith, above, l) in
-    absurd (let e = sym at ∙ ap (content_at contents) (sym same) ∙ here in cc))
-    (cases_lt m n))
+    absurd (let e = sym at ∙ ap (content_at contents) (sym same) ∙ here in cc)) (cases_lt m n))
 next_voted contents before after start n came all (Some c) at =
-    let one = came.each n c at in
-    by one.0 one.2 (voting_lists start c one.0 one.1)
+    let one = came.each n c at in by one.0 one.2 (voting_lists start c one.0 one.1)
   where
-    by : (now : OnLog) → slice_get after n ≡ Some (as_lists now)
-        → (as_lists now ≡ as_lists c) ⊎ (now ≡ voted_for start c)
-        → HaveVoted contents after start (suc n) ⊎ HasOne contents after
+    by : (now : OnLog) → slice_get after n ≡ Some (as_lists now) → (as_lists now ≡ as_lists c)
+        ⊎ (now ≡ voted_for start c) → HaveVoted contents after start (suc n) ⊎ HasOne contents after
     by now are (inl same) = inr (n, c, at, are ∙ ap Some same)
-    by now are (inr voted) = inl (λ m d l here. ⊎_elim
-        (λ (below : m < n). all m d below here)
-        (λ (above : n ≤ m).
+    by now are (inr voted) = inl (λ m d l here. ⊎_elim (λ (below : m < n). all m d below here) (λ (above : n ≤ m).
         let same : m ≡ n = omega (arith, above, l) in
         let mine : c ≡ d = same_Some c d (sym at ∙ ap (content_at contents) (sym same) ∙ here) in (
           now,
           ap (slice_get after) same ∙ are,
           voted ∙ ap (voted_for start) mine,
-        ))
-        (cases_lt m n))
+        )) (cases_lt m n))
 
 all_voted : (contents : List (Option OnLog)) (before after : List LogLists) (start : Start)
     → CameSo (IsVoting start) contents before after → (n : ℕ)
@@ -269,8 +241,7 @@ new_vote o contents start m c is at here =
 pub tried_voting : (o : Opening) (contents : List (Option OnLog)) (before after : List LogLists) (start : Start)
     → Knows (IsVoting start) o contents before after start
     → (opened : Bool) × IsTry o before after (try_of start opened)
-tried_voting o contents before after start k =
-    by (all_voted contents before after start k.came (length contents))
+tried_voting o contents before after start k = by (all_voted contents before after start k.came (length contents))
   where
     by : HaveVoted contents after start (length contents) ⊎ HasOne contents after
         → (opened : Bool) × IsTry o before after (try_of start opened)
@@ -280,15 +251,13 @@ tried_voting o contents before after start k =
           (λ e. absurd (cc)) (λ e m log inside.
           let one = there (IsVoting start) o contents before after start m k inside.0 in
           let mine = all m one.0 (within_places contents m one.0 one.2) one.2 in
-          subst (λ (l : LogLists). Contains l.age_votes (age_vote_of start))
-          (same_Some (as_lists mine.0) log (sym mine.1 ∙ inside.1)) (voted_has start one.0 mine.0 mine.2))
-          (λ e. absurd (cc)),
+          subst (λ (l : LogLists). Contains l.age_votes (age_vote_of start)) (same_Some (as_lists mine.0) log
+          (sym mine.1 ∙ inside.1)) (voted_has start one.0 mine.0 mine.2)) (λ e. absurd (cc)),
     )
     by (inr (m, c, at, are)) = (
       false,
       try_made (IsVoting start) o contents before after start false k (voting_keeps start) (voting_brought start)
-          (λ e. voting_waits start) (λ e. absurd (cc)) (λ e have.
-          new_vote o contents start m c k.is at
+          (λ e. voting_waits start) (λ e. absurd (cc)) (λ e have. new_vote o contents start m c k.is at
           (have m (as_lists c) (in_set o contents start m c k.is k.few at, are))),
     )
 

@@ -1,28 +1,19 @@
 -- A log that gets the age vote of a start, or is refused it.
+use Rattle.std.{specs.Prelude.{Err, IfSome, IsOk, Ok, Result}, proofs.lemmas.Bool.{false≢true}}
 use Rattle.std.proofs.Common.{◌≡◌, refl, ap, sym, ◌∙◌, subst, inl, inr, ℕ, ◌+◌, ◌≤◌, arith, Bool, true, false, List, Option, Some, None}
-use Rattle.std.proofs.lemmas.Bool.{false≢true}
-use Rattle.std.specs.Prelude.{Err, IfSome, IsOk, Ok, Result}
 use Rattle.dr_entry.specs.declared.record.Record.TheVariants as records
-use Rattle.dr_disk.specs.Disk.{Told, state_of}
-use Rattle.dr_disk.specs.Images.{AllImages, Goes, IsLeft}
+use Rattle.dr_disk.specs.{Disk.{Told, state_of}, Images.{AllImages, Goes, IsLeft}}
 use Rattle.dr_disk.proofs.Moments.{stays_at, goes_so}
-use Rattle.dr_log.specs.declared.fault.LogFault.{LogFault}
+use Rattle.dr_log.specs.{Standing.{MayBeVoted, in_newer_format}, State.LogState, Voting.{HasVotedAge, WasUpgraded}}
+use Rattle.dr_log.{specs.declared.fault.LogFault.LogFault, proofs.Voting.{format_changes, format_stays}}
 use Rattle.dr_log.specs.declared.fault.LogFault.TheVariants as logs
-use Rattle.dr_log.specs.Standing.{MayBeVoted, in_newer_format}
-use Rattle.dr_log.specs.State.{LogState}
-use Rattle.dr_log.specs.Voting.{HasVotedAge, WasUpgraded}
-use Rattle.dr_log.proofs.Voting.{format_changes, format_stays}
-use Rattle.dr_log_bytes.specs.Content.{OnLog, with_record}
-use Rattle.dr_log_bytes.specs.Grammar.{StandFor}
-use Rattle.dr_logged.specs.Served.{IsSafe}
-use Rattle.dr_restart.specs.declared.start.Start.{Start}
-use Rattle.dr_restart.specs.Trying.{age_vote_of}
-use Rattle.dr_opening.specs.Contents.{IsVoteStep, IsVoting, StandSo, voted_for}
-use Rattle.dr_opening.specs.Logs.{GotVote, LacksVote}
-use Rattle.dr_opening.specs.declared.catching_up.CatchFault.TheVariants.{DiskFault, LogFull, OutOfMemory}
+use Rattle.dr_log_bytes.specs.{Content.{OnLog, with_record}, Grammar.StandFor}
+use Rattle.dr_served.specs.Served.{IsSafe}
+use Rattle.dr_restart.specs.{Trying.age_vote_of, declared.start.Start.Start}
+use Rattle.dr_opening.specs.{Contents.{IsVoteStep, IsVoting, StandSo, voted_for}, Logs.{GotVote, LacksVote}}
 use Rattle.dr_opening.specs.declared.catching_up.CatchFault.{CatchFault}
-use Rattle.dr_opening.proofs.Catching.{GotRoom}
-use Rattle.dr_opening.proofs.Steps.{IsFrom, stuck_by}
+use Rattle.dr_opening.specs.declared.catching_up.CatchFault.TheVariants.{DiskFault, LogFull, OutOfMemory}
+use Rattle.dr_opening.proofs.{Catching.GotRoom, Steps.{IsFrom, stuck_by}}
 
 -- what a vote may leave is of the first phase
 voting_by : (start : Start) (c : OnLog) (image : List ℕ) → MayBeVoted c (age_vote_of start) image
@@ -33,14 +24,12 @@ voting_by start c image (inr is) = (voted_for start c, inr (inr refl), is)
 
 -- the moments of a vote on a log that got room
 moments_by : {D : Type 0} (told : D → Option Told) (faults : D → ℕ) (start : Start) (old log new : LogState D)
-    → GotRoom told faults old log
-    → Goes (told log.disk) (told new.disk) (λ s. MayBeVoted log.content (age_vote_of start))
-    → Goes (told old.disk) (told new.disk) (λ s. StandSo (IsVoting start old.content))
-moments_by {D} told faults start old log new got goes =
-    subst (λ o. Goes o (told new.disk) (λ s. StandSo (IsVoting start old.content))) got.tells
+    → GotRoom told faults old log → Goes (told log.disk) (told new.disk) (λ s. MayBeVoted log.content
+    (age_vote_of start)) → Goes (told old.disk) (told new.disk) (λ s. StandSo (IsVoting start old.content))
+moments_by {D} told faults start old log new got goes = subst (λ o. Goes o
+    (told new.disk) (λ s. StandSo (IsVoting start old.content))) got.tells
     (goes_so (told log.disk) (told new.disk) (MayBeVoted log.content (age_vote_of start))
-    (StandSo (IsVoting start old.content))
-    (λ image is. voting_by start old.content image
+    (StandSo (IsVoting start old.content)) (λ image is. voting_by start old.content image
     (subst (λ c. MayBeVoted c (age_vote_of start) image) (ap (λ (s : LogState D). s.content) got.is) is)) goes)
 
 -- ---- the upgrade
@@ -75,8 +64,7 @@ newer_by {D} {T} told faults old log mid done got whole ok (inl (newer, same, ne
     content = ap (λ (s : LogState D). s.content) same ∙ is
 newer_by {D} {T} told faults old log mid (Err why) got whole ok (inr (older, did)) = absurd (false≢true ok)
 newer_by {D} {T} told faults old log mid (Ok x) got whole ok (inr (older, did)) = record {
-  content = ap (λ (s : LogState D). s.content) did.ok
-      ∙ ap (with_record records.Upgrade) is
+  content = ap (λ (s : LogState D). s.content) did.ok ∙ ap (with_record records.Upgrade) is
       ∙ format_changes old.content (ap (λ (c : OnLog). c.newer) (sym is) ∙ older);
   from = record {
     limit = ap (λ (s : LogState D). s.limit) did.ok ∙ ap (λ (s : LogState D). s.limit) got.is;
@@ -97,11 +85,7 @@ from_room : {D : Type 0} (told : D → Option Told) (faults : D → ℕ) (old lo
     → GotRoom told faults old log → old.failed ≡ false → IsFrom told faults old log
 from_room {D} told faults old log got whole = record {
   limit = ap (λ (s : LogState D). s.limit) got.is;
-  well = record {
-    unfailed = ap (λ (s : LogState D). s.failed) got.is ∙ whole;
-    safe = got.safe;
-    calm = got.calm;
-  };
+  well = record { unfailed = ap (λ (s : LogState D). s.failed) got.is ∙ whole; safe = got.safe; calm = got.calm };
 }
 
 -- ---- the vote
@@ -144,8 +128,7 @@ pub unvoted_by : {D T : Type 0} (told : D → Option Told) (faults : D → ℕ) 
     (old log new : LogState D) (why : LogFault) (answer : CatchFault) → GotRoom told faults old log
     → old.failed ≡ false → HasVotedAge {T = T} told faults log new (age_vote_of start) (Err why)
     → Goes (told log.disk) (told new.disk) (λ s. MayBeVoted log.content (age_vote_of start))
-    → (why ≡ logs.DiskFault → answer ≡ DiskFault)
-    → ((len : ℕ) → why ≡ logs.LogFull len → answer ≡ LogFull len)
+    → (why ≡ logs.DiskFault → answer ≡ DiskFault) → ((len : ℕ) → why ≡ logs.LogFull len → answer ≡ LogFull len)
     → LacksVote told faults start old new answer
 unvoted_by {D} {T} told faults start old log new why answer got whole (inl (mid, done, ok, up, did)) moments disk full =
     stuck_by T told faults (IsVoteStep start old.content) (IsVoting start old.content) old mid new
@@ -158,8 +141,7 @@ unvoted_by {D} {T} told faults start old log new why answer got whole (inl (mid,
 unvoted_by {D} {T} told faults start old log new why answer got whole (inr (err, inl (newer, same, never))) moments
     disk full = absurd (never err)
 unvoted_by {D} {T} told faults start old log new why answer got whole (inr (err, inr (older, did))) moments disk
-    full =
-    stuck_by T told faults (IsVoteStep start old.content) (IsVoting start old.content) old log new
+    full = stuck_by T told faults (IsVoteStep start old.content) (IsVoting start old.content) old log new
     records.Upgrade why answer did (from_room told faults old log got whole)
     (inl (before, is, ap (with_record records.Upgrade) is ∙ format_changes old.content before))
     (moments_by told faults start old log new got moments) disk full
@@ -191,8 +173,7 @@ no_room_for {D} told faults start old new got whole = record {
     is : new.content ≡ old.content
     is = ap (λ (s : LogState D). s.content) got.is
 
-    by : (b : Bool) → old.content.newer ≡ b
-        → (next : OnLog) × IsVoteStep start old.content new.content next
+    by : (b : Bool) → old.content.newer ≡ b → (next : OnLog) × IsVoteStep start old.content new.content next
     by true newer = (voted_for start old.content, inr (is ∙ format_stays old.content newer, refl))
     by false older = (in_newer_format old.content, inl (older, is, refl))
 

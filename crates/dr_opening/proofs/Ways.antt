@@ -2,16 +2,12 @@
 use Rattle.std.proofs.Common.{◌≡◌, refl, ap, sym, ◌∙◌, subst, inl, inr, ◌⊎◌, [], ◌∷◌, append-nil, Contains}
 use Rattle.std.proofs.lemmas.List.Elements.{Contains-append_left, Contains-push}
 use Rattle.dr_entry.specs.declared.record.AgeVote.{AgeVote}
-use Rattle.dr_history.specs.History.{IsPrefixOf}
-use Rattle.dr_history.proofs.Histories.{part_of_opened, filled}
+use Rattle.dr_history.{specs.History.IsPrefixOf, proofs.Histories.{part_of_opened, filled}}
 use Rattle.dr_log_bytes.specs.Content.{OnLog}
-use Rattle.dr_restart.specs.declared.lists.LogLists.{LogLists}
-use Rattle.dr_restart.specs.declared.start.Start.{Start}
 use Rattle.dr_restart.specs.Trying.{BeginsWithCommon, MayBeBroughtUp, MayHaveAgeVote, age_vote_of, first_view_of}
-use Rattle.dr_opening.specs.CatchingUp.{opened_with}
-use Rattle.dr_opening.specs.Contents.{IsCutFor, IsOpenFor, IsRising, IsVoting, voted_for}
-use Rattle.dr_opening.specs.Lists.{as_lists}
-use Rattle.dr_opening.proofs.Lists.{newer_lists, voted_lists, with_vote_more}
+use Rattle.dr_restart.specs.declared.{lists.LogLists.LogLists, start.Start.Start}
+use Rattle.dr_opening.specs.{CatchingUp.opened_with, Contents.{IsCutFor, IsOpenFor, IsRising, IsVoting, voted_for}}
+use Rattle.dr_opening.{specs.Lists.as_lists, proofs.Lists.{newer_lists, voted_lists, with_vote_more}}
 
 -- the votes stay, and no age vote goes
 pub record KeepsVotes (c now : OnLog) : Type 0 where
@@ -65,10 +61,8 @@ voting_brought start c now way = by (voting_lists start c now way)
     by (inr same) = inl (ap (λ (l : LogLists). l.entries) (ap as_lists same ∙ voted_lists (age_vote_of start) c))
 
 -- a log with the vote has it
-pub voted_has : (start : Start) (c now : OnLog) → now ≡ voted_for start c
-    → Contains now.age_votes (age_vote_of start)
-voted_has start c now same =
-    subst (λ l. Contains l (age_vote_of start))
+pub voted_has : (start : Start) (c now : OnLog) → now ≡ voted_for start c → Contains now.age_votes (age_vote_of start)
+voted_has start c now same = subst (λ l. Contains l (age_vote_of start))
     (sym (ap (λ (l : LogLists). l.age_votes) (ap as_lists same ∙ voted_lists (age_vote_of start) c)))
     (Contains-push c.age_votes (age_vote_of start))
 
@@ -105,9 +99,8 @@ rising_votes start voted now (inr (inr (cut, is, same))) =
 -- a log has the vote then too
 pub rising_has : (start : Start) (c now : OnLog) → IsRising start (voted_for start c) now
     → Contains now.age_votes (age_vote_of start)
-rising_has start c now way =
-    subst (λ l. Contains l (age_vote_of start)) (sym (rising_votes start (voted_for start c) now way).age_votes)
-    (voted_has start c (voted_for start c) refl)
+rising_has start c now way = subst (λ l. Contains l (age_vote_of start))
+    (sym (rising_votes start (voted_for start c) now way).age_votes) (voted_has start c (voted_for start c) refl)
 
 pub rising_keeps : (start : Start) (c now : OnLog) → IsRising start (voted_for start c) now → KeepsVotes c now
 rising_keeps start c now way =
@@ -121,18 +114,15 @@ rising_keeps start c now way =
 -- what is cut back is a part of the start, with what it had in common with that
 cut_part : (start : Start) (voted now : OnLog) → IsCutFor start voted now
     → IsPrefixOf now.entries start.entries × BeginsWithCommon voted.entries start.entries now.entries
-cut_part start voted now (inl (part, same)) =
-    subst (λ (c : OnLog). IsPrefixOf c.entries start.entries
+cut_part start voted now (inl (part, same)) = subst (λ (c : OnLog). IsPrefixOf c.entries start.entries
     × BeginsWithCommon voted.entries start.entries c.entries) (sym same) (part, λ front of of_other. of)
-cut_part start voted now (inr (keep, due, same)) =
-    subst (λ (c : OnLog). IsPrefixOf c.entries start.entries
+cut_part start voted now (inr (keep, due, same)) = subst (λ (c : OnLog). IsPrefixOf c.entries start.entries
     × BeginsWithCommon voted.entries start.entries c.entries) (sym same) (due.common.of_other, due.common.longest)
 
 -- the entries of a log that is open are all that the age begins with
 pub open_entries : (start : Start) (voted now : OnLog) → IsOpenFor start voted now
     → now.entries ≡ opened_with start start.members
-open_entries start voted now (cut, is, same) =
-    ap (λ (c : OnLog). c.entries) same
+open_entries start voted now (cut, is, same) = ap (λ (c : OnLog). c.entries) same
     ∙ filled cut.entries (opened_with start start.members)
     (part_of_opened cut.entries start.entries (first_view_of start) (cut_part start voted cut is).0)
 
@@ -151,7 +141,5 @@ rising_by start voted now (inr (inr done)) =
 
 pub rising_brought : (start : Start) (c now : OnLog) → IsRising start (voted_for start c) now
     → MayBeBroughtUp start c.entries now.entries
-rising_brought start c now way =
-    subst (λ es. MayBeBroughtUp start es now.entries)
-    (ap (λ (l : LogLists). l.entries) (voted_lists (age_vote_of start) c))
-    (rising_by start (voted_for start c) now way)
+rising_brought start c now way = subst (λ es. MayBeBroughtUp start es now.entries) (ap (λ (l : LogLists). l.entries)
+    (voted_lists (age_vote_of start) c)) (rising_by start (voted_for start c) now way)

@@ -1,8 +1,7 @@
 -- Which lists of entries logs may have together.
 use Rattle.std.specs.Prelude.{List}
 use Rattle.dr_entry.specs.declared.entry.Entry.{Entry}
-use Rattle.dr_history.specs.declared.opening.Opening.{Opening}
-use Rattle.dr_history.specs.Restarting.{AreAllAlong, AreSound}
+use Rattle.dr_history.specs.{Restarting.{AreAllAlong, AreSound}, declared.opening.Opening.Opening}
 use Rattle.dr_restart.specs.Groups.{first_group_of}
 use Rattle.dr_script.specs.declared.script.Script.{Script}
 

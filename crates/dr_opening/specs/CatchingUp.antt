@@ -1,13 +1,10 @@
 -- What comes of a log that is brought up to a start.
 use Rattle.std.specs.Prelude.{◌≡◌, ⊤, ℕ, ◌+◌, ◌<◌, ◌≤◌, false, List, [], ◌∷◌, ◌++◌, length, drop, Option, Result, Ok, Err}
-use Rattle.dr_entry.specs.declared.entry.Entry.{Entry}
-use Rattle.dr_entry.specs.declared.entry.Entry.TheVariants.{View}
-use Rattle.dr_disk.specs.Disk.{Told}
-use Rattle.dr_disk.specs.Images.{Goes}
-use Rattle.dr_log.specs.Grouping.{added_all, group}
-use Rattle.dr_log.specs.Standing.{IsNoneOrAll, as_records, with_entries}
+use Rattle.dr_entry.specs.declared.entry.Entry.{Entry, TheVariants.View}
+use Rattle.dr_disk.specs.{Disk.Told, Images.Goes}
+use Rattle.dr_log.specs.{Grouping.{added_all, group}, Standing.{IsNoneOrAll, as_records, with_entries}}
 use Rattle.dr_log.specs.State.{LogState}
-use Rattle.dr_logged.specs.Served.{IsSafe}
+use Rattle.dr_served.specs.Served.{IsSafe}
 use Rattle.dr_restart.specs.declared.start.Start.{Start}
 use Rattle.dr_opening.specs.declared.catching_up.CatchFault.{CatchFault}
 use Rattle.dr_opening.specs.declared.catching_up.CatchFault.TheVariants.{OutOfMemory, DiskFault, LogFull}

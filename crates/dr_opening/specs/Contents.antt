@@ -4,12 +4,9 @@ use Rattle.std.specs.Prelude.{◌≡◌, ◌⊎◌, ℕ, false, List, length, dr
 use Rattle.dr_entry.specs.declared.record.Record.TheVariants as records
 use Rattle.dr_history.specs.History.{IsPrefixOf}
 use Rattle.dr_log.specs.Standing.{in_newer_format, with_age_vote, with_entries}
-use Rattle.dr_log_bytes.specs.Content.{OnLog, with_record}
-use Rattle.dr_log_bytes.specs.Grammar.{StandFor}
-use Rattle.dr_restart.specs.declared.start.Start.{Start}
-use Rattle.dr_restart.specs.Trying.{age_vote_of}
-use Rattle.dr_opening.specs.CatchingUp.{opened_with}
-use Rattle.dr_opening.specs.CuttingBack.{IsCutDue}
+use Rattle.dr_log_bytes.specs.{Content.{OnLog, with_record}, Grammar.StandFor}
+use Rattle.dr_restart.specs.{Trying.age_vote_of, declared.start.Start.Start}
+use Rattle.dr_opening.specs.{CatchingUp.opened_with, CuttingBack.IsCutDue}
 
 -- with the age vote of a start, and an upgrade before it where the log was of the older format
 abbrev pub voted_for : Start → OnLog → OnLog

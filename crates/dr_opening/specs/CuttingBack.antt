@@ -4,9 +4,7 @@ use Rattle.dr_disk.specs.Disk.{Told}
 use Rattle.dr_entry.specs.declared.entry.Entry.{Entry}
 use Rattle.dr_entry.specs.declared.record.Record.TheVariants as records
 use Rattle.dr_history.specs.History.{IsPrefixOf}
-use Rattle.dr_log.specs.declared.fault.LogFault.{LogFault}
-use Rattle.dr_log.specs.State.{LogState}
-use Rattle.dr_log.specs.Voting.{WasAppended}
+use Rattle.dr_log.specs.{State.LogState, Voting.WasAppended, declared.fault.LogFault.LogFault}
 use Rattle.dr_log_bytes.specs.Content.{OnLog}
 use Rattle.dr_restart.specs.Trying.{BeginsWithCommon}
 

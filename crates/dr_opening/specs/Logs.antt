@@ -1,18 +1,14 @@
 -- What comes of logs while an age opens on them.
 use Rattle.std.specs.Prelude.{◌≡◌, ◌⊎◌, ⊤, ℕ, ◌<◌, ◌≤◌, true, false, List, length, Option, None, Some}
-use Rattle.dr_disk.specs.Disk.{Told}
-use Rattle.dr_disk.specs.Images.{Goes, IsLeft}
+use Rattle.dr_disk.specs.{Disk.Told, Images.{Goes, IsLeft}}
 use Rattle.dr_io.specs.Faults.{Rose}
 use Rattle.dr_log.specs.State.{LogState}
-use Rattle.dr_log_bytes.specs.Content.{OnLog}
-use Rattle.dr_log_bytes.specs.Grammar.{StandFor}
-use Rattle.dr_logged.specs.Served.{IsSafe}
+use Rattle.dr_log_bytes.specs.{Content.OnLog, Grammar.StandFor}
+use Rattle.dr_served.specs.Served.{IsSafe}
 use Rattle.dr_restart.specs.declared.start.Start.{Start}
-use Rattle.dr_opening.specs.declared.catching_up.CatchFault.TheVariants.{OutOfMemory, DiskFault, LogFull}
-use Rattle.dr_opening.specs.declared.catching_up.CatchFault.{CatchFault}
-use Rattle.dr_opening.specs.declared.opening.OpenFault.{OpenFault}
 use Rattle.dr_opening.specs.Contents.{IsOpenFor, IsRising, IsRisingStep, IsVoteStep, IsVoting, StandSo, voted_for}
-use Rattle.dr_opening.specs.Lists.{log_of}
+use Rattle.dr_opening.specs.{Lists.log_of, declared.{catching_up.CatchFault.CatchFault, opening.OpenFault.OpenFault}}
+use Rattle.dr_opening.specs.declared.catching_up.CatchFault.TheVariants.{OutOfMemory, DiskFault, LogFull}
 
 -- a log is whole, what is on it is safe, and its disk has counted no fault since `old`
 pub record IsWell {D : Type 0} (told : D → Option Told) (faults : D → ℕ) (old new : LogState D) : Type 0 where

@@ -1,20 +1,14 @@
 -- The logs of all members by lists, those that are missing too, before an age opens and where its opening stops.
 use Rattle.std.specs.Prelude.{◌≡◌, ◌⊎◌, ℕ, Bool, true, false, List, length, Option, None, Some, slice_get, slice_index_or}
-use Rattle.dr_disk.specs.Disk.{Told, state_of}
-use Rattle.dr_disk.specs.Images.{IsImage}
+use Rattle.dr_disk.specs.{Disk.{Told, state_of}, Images.IsImage}
 use Rattle.dr_history.specs.declared.opening.Opening.{Opening}
 use Rattle.dr_log.specs.State.{LogState}
-use Rattle.dr_log_bytes.specs.Content.{OnLog}
-use Rattle.dr_log_bytes.specs.Grammar.{StandFor}
-use Rattle.dr_logged.specs.Served.{IsSafe}
-use Rattle.dr_restart.specs.declared.lists.Attempt.{Attempt}
-use Rattle.dr_restart.specs.declared.lists.LogLists.{LogLists}
-use Rattle.dr_restart.specs.declared.start.Start.{Start}
-use Rattle.dr_restart.specs.Choosing.{IsChosenStart}
-use Rattle.dr_restart.specs.Trying.{HaveAgeVote}
+use Rattle.dr_log_bytes.specs.{Content.OnLog, Grammar.StandFor}
+use Rattle.dr_served.specs.Served.{IsSafe}
+use Rattle.dr_restart.specs.{Choosing.IsChosenStart, Trying.HaveAgeVote, declared.lists.Attempt.Attempt}
+use Rattle.dr_restart.specs.declared.{lists.LogLists.LogLists, start.Start.Start}
 use Rattle.dr_quorum.specs.Handing.{handed_by}
-use Rattle.dr_opening.specs.Contents.{IsRising, IsVoting, voted_for}
-use Rattle.dr_opening.specs.Lists.{all_as_lists, as_lists, log_of}
+use Rattle.dr_opening.specs.{Contents.{IsRising, IsVoting, voted_for}, Lists.{all_as_lists, as_lists, log_of}}
 
 -- the try to open the age of a start, on the logs of its members
 abbrev pub try_of : Start → Bool → Attempt

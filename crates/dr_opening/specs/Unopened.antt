@@ -3,18 +3,12 @@ use Rattle.std.specs.Prelude.{◌≡◌, ℕ, List, Option}
 use Rattle.dr_disk.specs.Disk.{Told}
 use Rattle.dr_log.specs.State.{LogState}
 use Rattle.dr_log_bytes.specs.Content.{OnLog}
-use Rattle.dr_quorum.specs.declared.faults.ChooseFault.{ChooseFault}
-use Rattle.dr_quorum.specs.Handing.{handed_by}
-use Rattle.dr_quorum.specs.Telling.{IsRightlyTold}
-use Rattle.dr_restart.specs.declared.start.Start.{Start}
-use Rattle.dr_restart.specs.Groups.{first_group_of}
+use Rattle.dr_quorum.specs.{Handing.handed_by, Telling.IsRightlyTold, declared.faults.ChooseFault.ChooseFault}
+use Rattle.dr_restart.specs.{Groups.first_group_of, declared.start.Start.Start}
 use Rattle.dr_script.specs.declared.script.Script.{Script}
 use Rattle.dr_words.specs.Masks.{without}
-use Rattle.dr_opening.specs.declared.age.NotOpened.{NotOpened}
-use Rattle.dr_opening.specs.declared.age.NotOpened.TheVariants.{Unchosen, Unfinished}
-use Rattle.dr_opening.specs.Lists.{all_as_lists, contents_of}
-use Rattle.dr_opening.specs.Logs.{WereNotOpened}
-use Rattle.dr_opening.specs.Tries.{IsChosenOf}
+use Rattle.dr_opening.specs.{Lists.{all_as_lists, contents_of}, Logs.WereNotOpened, Tries.IsChosenOf}
+use Rattle.dr_opening.specs.declared.age.NotOpened.{NotOpened, TheVariants.{Unchosen, Unfinished}}
 
 -- what is on the logs is refused for this, unless memory was wanting
 abbrev pub IsUnchosen : Script → List (Option OnLog) → ChooseFault → Type 0

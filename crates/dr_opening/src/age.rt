@@ -5,10 +5,8 @@ ghost use Rattle.dr_machine.specs.Group.{IsGroup};
 ghost use Rattle.dr_restart.specs.Groups.{first_group_of, group_of};
 ghost use Rattle.dr_script.specs.Ranges.{HasGroupRanges};
 ghost use Rattle.dr_words.specs.Masks.{without};
-ghost use Rattle.dr_opening.specs.Lists.{SomebodyPrompt, contents_of, log_of};
-ghost use Rattle.dr_opening.specs.Logs.{WereOpened};
+ghost use Rattle.dr_opening.specs.{Lists.{SomebodyPrompt, contents_of, log_of}, Logs.WereOpened, Tries.IsChosenOf};
 ghost use Rattle.dr_opening.specs.Unopened.{IsUnchosen, IsWhyUnopened};
-ghost use Rattle.dr_opening.specs.Tries.{IsChosenOf};
 
 use crate::listing::lists_of;
 use crate::opening::{OpenFault, open_logs};

@@ -3,9 +3,8 @@ ghost use Rattle.std.specs.Prelude.{◌≡◌, ◌≢◌, ◌<◌, ℕ, false, t
 ghost use Rattle.dr_entry.specs.Spelling.{IsValidEntry};
 ghost use Rattle.dr_history.specs.History.{IsPrefixOf};
 ghost use Rattle.dr_io.specs.Faults.{Rose};
-ghost use Rattle.dr_log.specs.declared.fault.LogFault.TheVariants.{DiskFault, LogFull};
+ghost use Rattle.dr_log.specs.{Standing.entries_length, declared.fault.LogFault.TheVariants.{DiskFault, LogFull}};
 ghost use Rattle.dr_opening.specs.declared.catching_up.CatchFault.TheVariants as faults;
-ghost use Rattle.dr_log.specs.Standing.{entries_length};
 ghost use Rattle.dr_opening.specs.CatchingUp.{FitsOrIsFull, HasCaughtUp, HasStayed, IsLeftAlone, lacked, opened_with};
 
 use dr_disk::Disk;

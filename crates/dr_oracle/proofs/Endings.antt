@@ -1,9 +1,7 @@
 -- Members of a mask, and what the ends of an age tell of their logs.
 use Rattle.std.proofs.Common.{◌≡◌, ℕ, ◌≤◌, Bool, true, Decides, All, List, slice_get, length}
 use Rattle.dr_entry.specs.declared.end.MemberEnd.{MemberEnd}
-use Rattle.dr_history.specs.declared.opening.Opening.{Opening}
-use Rattle.dr_history.specs.Members.{has}
-use Rattle.dr_history.specs.Agreement.{EndsAgreed}
+use Rattle.dr_history.specs.{Agreement.EndsAgreed, Members.has, declared.opening.Opening.Opening}
 use Rattle.dr_history.proofs.Histories.{log_is_front}
 use Rattle.dr_oracle.specs.Agreeing.{AgreesWithAll}
 

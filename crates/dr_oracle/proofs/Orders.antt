@@ -1,17 +1,14 @@
 -- What the tests of the parts of an order decide.
 use Rattle.std.proofs.Common.{◌≡◌, ℕ, Bool, true, false, Decides, List, length, take, slice_get, Option, None, Some, IsSomeAnd, sym, subst, ◌∙◌, arith}
 use Rattle.std.proofs.lemmas.Option.{same_Some}
-use Rattle.dr_entry.specs.declared.entry.Entry.{Entry}
-use Rattle.dr_entry.specs.declared.entry.Entry.TheVariants.{View}
-use Rattle.dr_history.specs.declared.opening.Opening.{Opening}
+use Rattle.dr_entry.specs.declared.entry.Entry.{Entry, TheVariants.View}
 use Rattle.dr_history.specs.History.{IsPrefixOf, GroupView, Sent, view_of}
-use Rattle.dr_history.specs.Order.{InOrder, IsSucceededBy, first_entries}
+use Rattle.dr_history.specs.{Order.{InOrder, IsSucceededBy, first_entries}, declared.opening.Opening.Opening}
 use Rattle.dr_oracle.specs.Parts.{AllNumbered, AllPlaced, Follows, LastViewWhole, PlacesRise, ViewsFollow}
 
 -- the test of a View against the view before it decides whether it may succeed that
 pub follows_decides : (o : Opening) (h : List Entry) (i a n m : ℕ) (v : GroupView) (b : Bool)
-    → slice_get h i ≡ Some (View a n m)
-    → view_of (take i h) ≡ Some v → Decides b (IsSucceededBy o (take i h) v a n m)
+    → slice_get h i ≡ Some (View a n m) → view_of (take i h) ≡ Some v → Decides b (IsSucceededBy o (take i h) v a n m)
     → Decides b (Follows o h i)
 follows_decides o h i a n m v b at before decides = (
   λ t age number members there. forward t age number members

@@ -1,13 +1,8 @@
 -- What is asked of one member for all to agree.
 use Rattle.std.specs.Prelude.{◌≡◌, ℕ, ◌≤◌, ◌⊎◌, true, List, length, All, Contains, Some}
-use Rattle.dr_entry.specs.declared.entry.Entry.{Entry}
-use Rattle.dr_entry.specs.declared.entry.Entry.TheVariants.{View}
-use Rattle.dr_entry.specs.declared.end.MemberEnd.{MemberEnd}
-use Rattle.dr_history.specs.declared.opening.Opening.{Opening}
-use Rattle.dr_history.specs.Members.{has, members_of}
-use Rattle.dr_history.specs.History.{IsPrefixOf, sent_of, view_of}
-use Rattle.dr_history.specs.Order.{InOrder}
-use Rattle.dr_history.specs.Agreement.{Accounts, KnowsDurable, SamePast, accounts_of}
+use Rattle.dr_entry.specs.declared.{end.MemberEnd.MemberEnd, entry.Entry.{Entry, TheVariants.View}}
+use Rattle.dr_history.specs.{Agreement.{Accounts, KnowsDurable, SamePast, accounts_of}, Members.{has, members_of}}
+use Rattle.dr_history.specs.{History.{IsPrefixOf, sent_of, view_of}, Order.InOrder, declared.opening.Opening.Opening}
 
 -- two histories may stand side by side
 abbrev pub AreConsistent : List Entry → List Entry → Type 0

@@ -1,10 +1,9 @@
 -- The parts of an order, each behind the first entries of a history and so many others.
 use Rattle.std.specs.Prelude.{◌≡◌, ℕ, ◌<◌, List, take, slice_get, Some, IsSome, IsSomeAnd}
-use Rattle.dr_entry.specs.declared.entry.Entry.{Entry}
-use Rattle.dr_entry.specs.declared.entry.Entry.TheVariants.{View, Msg}
-use Rattle.dr_history.specs.declared.opening.Opening.{Opening}
+use Rattle.dr_entry.specs.declared.entry.Entry.{Entry, TheVariants.{View, Msg}}
 use Rattle.dr_history.specs.History.{IsPrefixOf, GroupView, Sent, view_of, item_at, place_at}
 use Rattle.dr_history.specs.Order.{IsDelivered, IsSucceededBy, messages_from, numbered_messages}
+use Rattle.dr_history.specs.declared.opening.Opening.{Opening}
 
 -- that the View at i is one by which the view before it may be succeeded
 abbrev pub Follows : Opening → List Entry → ℕ → Type 0

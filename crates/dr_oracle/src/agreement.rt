@@ -1,9 +1,6 @@
 ghost use Rattle.std.specs.Prelude.{◌≡◌, ◌<◌, ◌≤◌, ◌↔◌, ℕ, true, All, length, take, slice_get, Some, IsTrue};
-ghost use Rattle.dr_entry.specs.declared.end.MemberEnd.{MemberEnd};
-ghost use Rattle.dr_entry.specs.declared.entry.Entry.{Entry};
-ghost use Rattle.dr_entry.specs.declared.entry.Entry.TheVariants.{View};
-ghost use Rattle.dr_history.specs.Members.{has};
-ghost use Rattle.dr_history.specs.Agreement.{SamePast, KnowsDurable, EndsAgreed, accounts_of};
+ghost use Rattle.dr_entry.specs.declared.{end.MemberEnd.MemberEnd, entry.Entry.{Entry, TheVariants.View}};
+ghost use Rattle.dr_history.specs.{Agreement.{SamePast, KnowsDurable, EndsAgreed, accounts_of}, Members.has};
 ghost use Rattle.dr_oracle.specs.Agreeing.{AreConsistent, AgreesWithAll, HoldsLoggedView, IsInLoggedView, IsLoggedView};
 
 use crate::prefix::same_entries;

@@ -1,8 +1,7 @@
 ghost use Rattle.std.specs.Prelude.{◌≡◌, ◌+◌, ◌*◌, ◌<◌, ◌⊎◌, ◌↔◌, ℕ, true, false, filter, length, Contains, IsTrue};
 ghost use Rattle.dr_entry.specs.declared.entry.Entry.TheVariants.{View};
 ghost use Rattle.dr_entry.specs.declared.limits.TheConstants.{MAX_MEMBERS};
-ghost use Rattle.dr_history.specs.Members.{has};
-ghost use Rattle.dr_history.specs.Order.{AreOfRoster, IsInNoView, IsLateIn, IsSucceededBy, MayJoin};
+ghost use Rattle.dr_history.specs.{Members.has, Order.{AreOfRoster, IsInNoView, IsLateIn, IsSucceededBy, MayJoin}};
 
 use dr_entry::{Entry, MAX_MEMBERS};
 use dr_history::{GroupView, Opening, has};

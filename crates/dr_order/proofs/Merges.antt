@@ -1,10 +1,8 @@
 -- Places that hold an item: none after a round without one, and the list of all of them.
+use Rattle.std.{specs.List.range_with_len, proofs.Math.Nat.mul_comm}
 use Rattle.std.proofs.Common.{◌≡◌, ℕ, zero, suc, ◌+◌, ◌-◌, ◌*◌, ◌<◌, ◌≤◌, ◌⊎◌, inl, inr, Bool, true, false, cond, List, [], ◌∷◌, None, Some, length, max, fold, filter, arith, le_refl, sym, subst, refl, ap}
-use Rattle.std.specs.List.{range_with_len}
-use Rattle.std.proofs.Math.Nat.{mul_comm}
 use Rattle.dr_entry.proofs.ListPlaces.{count_max}
-use Rattle.dr_history.specs.Places.{is_held, held_places, rest_places}
-use Rattle.dr_history.proofs.Places.{not_held_above}
+use Rattle.dr_history.{specs.Places.{is_held, held_places, rest_places}, proofs.Places.not_held_above}
 use Rattle.dr_order.specs.Merge.{IsNextHeld, AreTaken}
 
 -- where the first place isn't held, it may be left out
@@ -30,8 +28,7 @@ taken_before counts from ps gap t = by ps t
     from_or_later : (q : ℕ) → from ≤ q → (from ≡ q) ⊎ (from + 1 ≤ q)
     from_or_later q h = grind arith
 
-    at : (P : ℕ → Type 0) → ((q : ℕ) → from + 1 ≤ q → P q → is_held counts q ≡ false)
-        → (q : ℕ) → P q
+    at : (P : ℕ → Type 0) → ((q : ℕ) → from + 1 ≤ q → P q → is_held counts q ≡ false) → (q : ℕ) → P q
         → (from ≡ q) ⊎ (from + 1 ≤ q) → is_held counts q ≡ false
     at P later q h (inl e) = subst (λ (z : ℕ). is_held counts z ≡ false) e gap
     at P later q h (inr after) = later q after h
@@ -39,31 +36,23 @@ taken_before counts from ps gap t = by ps t
     by : (ps : List ℕ) → AreTaken counts (from + 1) ps → AreTaken counts from ps
     by [] none = λ q after. at (λ _. Unit {0}) (λ z later _. none z later) q tt (from_or_later q after)
     by (p ∷ ps) t = (
-      (
-        omega (arith, t.0.0),
-        t.0.1,
-        λ q after below. at (λ z. z < p) t.0.2 q below (from_or_later q after),
-      ),
+      (omega (arith, t.0.0), t.0.1, λ q after below. at (λ z. z < p) t.0.2 q below (from_or_later q after)),
       t.1,
     )
 
 -- the places that are taken are the held ones of a range behind which no place is held
-taken_is : (counts : List ℕ) (len from : ℕ) (ps : List ℕ)
-    → ((p : ℕ) → from + len ≤ p → is_held counts p ≡ false)
+taken_is : (counts : List ℕ) (len from : ℕ) (ps : List ℕ) → ((p : ℕ) → from + len ≤ p → is_held counts p ≡ false)
     → AreTaken counts from ps → ps ≡ filter (is_held counts) (range_with_len from len)
 taken_is counts zero from [] past t = refl
 taken_is counts zero from (p ∷ ps) past t =
     let gap : is_held counts p ≡ false = past p (omega (arith, t.0.0)) in
-    let held : is_held counts p ≡ true = t.0.1 in
-    absurd (cc)
+    let held : is_held counts p ≡ true = t.0.1 in absurd (cc)
 taken_is counts (suc len) from ps past t =
-    by (λ rest. taken_is counts len (from + 1) rest (λ p above. past p (omega arith)))
-    (is_held counts from) refl ps t
+    by (λ rest. taken_is counts len (from + 1) rest (λ p above. past p (omega arith))) (is_held counts from) refl ps t
   where
-    by : ((rest : List ℕ) → AreTaken counts (from + 1) rest
-        → rest ≡ filter (is_held counts) (range_with_len (from + 1) len))
-        → (b : Bool) → is_held counts from ≡ b → (ps : List ℕ) → AreTaken counts from ps
-        → ps ≡ cond b (from ∷ filter (is_held counts) (range_with_len (from + 1) len))
+    by : ((rest : List ℕ) → AreTaken counts (from + 1) rest → rest ≡ filter (is_held counts)
+        (range_with_len (from + 1) len)) → (b : Bool) → is_held counts from ≡ b → (ps : List ℕ)
+        → AreTaken counts from ps → ps ≡ cond b (from ∷ filter (is_held counts) (range_with_len (from + 1) len))
         (filter (is_held counts) (range_with_len (from + 1) len))
     by rest false e ps t = rest ps (taken_after counts from ps e t)
     by rest true e [] t =
@@ -83,12 +72,10 @@ taken_is counts (suc len) from ps past t =
             let gap : is_held counts from ≡ false = t.2 from (le_refl from) later in absurd (cc)
 
 -- the held places of a range behind which no place is held are those that are taken
-is_taken : (counts : List ℕ) (len from : ℕ)
-    → ((p : ℕ) → from + len ≤ p → is_held counts p ≡ false)
+is_taken : (counts : List ℕ) (len from : ℕ) → ((p : ℕ) → from + len ≤ p → is_held counts p ≡ false)
     → AreTaken counts from (filter (is_held counts) (range_with_len from len))
 is_taken counts zero from past = λ p above. past p (omega arith)
-is_taken counts (suc len) from past =
-    by (filter (is_held counts) (range_with_len (from + 1) len))
+is_taken counts (suc len) from past = by (filter (is_held counts) (range_with_len (from + 1) len))
     (is_taken counts len (from + 1) (λ p above. past p (omega arith))) (is_held counts from) refl
   where
     by : (rest : List ℕ) → AreTaken counts (from + 1) rest → (b : Bool) → is_held counts from ≡ b

@@ -4,8 +4,7 @@
 //! Counts are listed by rank, and say how many items each rank has sent. No call takes memory.
 #![tactic(auto)]
 
-ghost use Rattle.std.specs.List.{IsFirstBest};
-ghost use Rattle.std.specs.List.Sorted.{IsStrictlyIncreasing};
+ghost use Rattle.std.specs.List.{IsFirstBest, Sorted.IsStrictlyIncreasing};
 ghost use Rattle.std.specs.Prelude.{nat_lt, ◌≡◌, ◌<◌, ◌≤◌, ◌^◌, ◌/◌, ◌↔◌, ℕ, List, length, slice_index, IsTrue, Any};
 ghost use Rattle.dr_history.specs.Places.{place_of, IsFront, front_of, is_held, held_places, rest_places};
 ghost use Rattle.dr_order.specs.Merge.{IsNextHeld, AreTaken};

@@ -1,44 +1,31 @@
 -- What is certain of a script that was played, and of its last line.
-use Rattle.std.proofs.Common.{◌≡◌, ◌≢◌, ◌⊎◌, refl, sym, ap, ap₂, ◌∙◌, subst, inl, inr, ℕ, zero, suc, ◌&&◌, not, nat_lt, is_none, MatchBool, true, false, true≢false, arith, List, [], ◌∷◌, length, Contains, Option, None, Some, IfSome, is_some, if◌then◌else◌, All}
 use Rattle.std.specs.Prelude.{MatchOption}
-use Rattle.std.proofs.lemmas.Bool.{cases_Bool, or_parts, or_from}
-use Rattle.std.proofs.lemmas.Bool.Decides.{nat_tests}
-use Rattle.std.proofs.lemmas.Option.{none-some, same_Some}
-use Rattle.dr_ages.specs.declared.mode.Mode.{Mode}
-use Rattle.dr_ages.specs.declared.mode.Mode.TheVariants.{Sim}
-use Rattle.dr_ages.specs.declared.stop.Stop.{Stop}
+use Rattle.std.proofs.Common.{◌≡◌, ◌≢◌, ◌⊎◌, refl, sym, ap, ap₂, ◌∙◌, subst, inl, inr, ℕ, zero, suc, ◌&&◌, not, nat_lt, is_none, MatchBool, true, false, true≢false, arith, List, [], ◌∷◌, length, Contains, Option, None, Some, IfSome, is_some, if◌then◌else◌, All}
+use Rattle.std.proofs.lemmas.{Bool.{cases_Bool, or_parts, or_from, Decides.nat_tests}, Option.{none-some, same_Some}}
+use Rattle.dr_ages.specs.{Ages.{AreAges, HaveSomebodyPrompt, NamesNobody}, Fit.{AreFit, AreInStep}}
+use Rattle.dr_ages.specs.declared.{mode.Mode.{Mode, TheVariants.Sim}, part.Part.Part, stop.Stop.Stop}
 use Rattle.dr_ages.specs.declared.stop.Stop.TheVariants.{OutOfMemory}
-use Rattle.dr_ages.specs.Ages.{AreAges, HaveSomebodyPrompt, NamesNobody}
-use Rattle.dr_ages.specs.declared.part.Part.{Part}
-use Rattle.dr_ages.specs.Fit.{AreFit, AreInStep}
 use Rattle.dr_complete.specs.Time.{HasTime}
-use Rattle.dr_entry.specs.declared.end.AgeEnd.{AgeEnd}
-use Rattle.dr_entry.proofs.ListParts.{contains_more}
-use Rattle.dr_entry.proofs.Bits.{lacks}
-use Rattle.dr_intake.specs.Reading.{refusal_in}
-use Rattle.dr_intake.specs.Status.{status_of}
+use Rattle.dr_entry.{specs.declared.end.AgeEnd.AgeEnd, proofs.{Bits.lacks, ListParts.contains_more}}
+use Rattle.dr_intake.{specs.{Reading.refusal_in, Status.status_of}, proofs.Intakes.other_line}
 use Rattle.dr_program_laws.specs.Trusting.{SuspectsNobody, NoneLeft}
+use Rattle.dr_script.specs.{Ranges.HasRanges, Reading.{NotJson, Reading, Reads, TooLong, Wrong, reading_of}}
 use Rattle.dr_script.specs.declared.script.Script.{Script}
-use Rattle.dr_script.specs.Ranges.{HasRanges}
-use Rattle.dr_script.specs.Reading.{NotJson, Reading, Reads, TooLong, Wrong, reading_of}
-use Rattle.dr_text.specs.declared.last.Last.{Last}
+use Rattle.dr_text.{specs.declared.last.Last.Last, proofs.Reports.whenever}
 use Rattle.dr_text.specs.declared.last.Last.TheVariants as lasts
-use Rattle.dr_history.specs.Members.{has}
-use Rattle.dr_history.proofs.Bits.{has_zero}
-use Rattle.dr_text.proofs.Reports.{whenever}
+use Rattle.dr_history.{specs.Members.has, proofs.Bits.has_zero}
 use Rattle.dr_words.specs.Masks.{IsLeastOf}
 use Rattle.dr_yard.specs.Yards.{YardState, empty_yard}
-use Rattle.dr_intake.proofs.Intakes.{other_line}
-use Rattle.dr_age.specs.Logged.{NoneStopped}
-use Rattle.dr_outcome.specs.declared.last.Kind.TheVariants.{DiskFault, LogFull, NoMajority, Spent}
-use Rattle.dr_outcome.specs.declared.outcome.Body.TheVariants as bodies
-use Rattle.dr_outcome.specs.declared.outcome.Outcome.{Outcome}
+use Rattle.dr_play.specs.Logged.{NoneStopped}
 use Rattle.dr_outcome.specs.Last.{first_end, first_told, is_memory, last_by, last_of, refusal_of, some_end, some_so, stopped_by}
 use Rattle.dr_outcome.specs.Outcome.{AreAllLate, HasAllLogs, HasDone, HasPlayed, HasRun, IsDue, IsMemoryRun, LeavesRoom, NoneFailed, OfScript, Plays, SaysOnly, TellsDisks, WasPlayedOrNot, body_text, by_run, unrun, unrun_ends}
 use Rattle.dr_outcome.specs.Playing.{InFolder, Playing, ends_over, missing_of, part_in, play_ends, with_usage}
+use Rattle.dr_outcome.specs.declared.last.Kind.TheVariants.{DiskFault, LogFull, NoMajority, Spent}
+use Rattle.dr_outcome.specs.declared.outcome.Outcome.{Outcome}
 use Rattle.dr_outcome.proofs.Lasts.{end_so, refusal_status, told_so, rank_by}
-use Rattle.dr_outcome.proofs.Runs.{IsWhole, calm_run, none_spent, none_split, part_lasts, whole_in_memory, whole_lasts, whole_run}
 use Rattle.dr_outcome.proofs.OutcomeKinds.{Rank, IsLateReading, unplayed, by_no_disk, by_no_full_log, by_no_split, none_so, turns_or_none}
+use Rattle.dr_outcome.proofs.Runs.{IsWhole, calm_run, none_spent, none_split, part_lasts, whole_in_memory, whole_lasts, whole_run}
+use Rattle.dr_outcome.specs.declared.outcome.Body.TheVariants as bodies
 
 -- the ages of a run, over whatever disks
 ages_of : (mode : Mode) (folder : Option InFolder) (part : Part) (script : Script) (before after : YardState)
@@ -65,11 +52,7 @@ all_late script part there prompt here soon None first nobody least = λ m below
     let taking : has there m ≡ true = grind (arith, nat_tests, here m, below, taken) in
     absurd (true≢false (sym taking ∙ nobody m))
 all_late script part there prompt here soon (Some k) None some none = record {
-  some = (
-    k,
-    grind (arith, nat_tests, here k, some.member),
-    grind (arith, nat_tests, here k, some.member),
-  );
+  some = (k, grind (arith, nat_tests, here k, some.member), grind (arith, nat_tests, here k, some.member));
   all = λ m below taken. grind (arith, nat_tests, here m, soon m, none m, below, taken);
 }
 all_late script part there prompt here soon (Some k) (Some j) some first = λ m below taken. (
@@ -81,8 +64,7 @@ all_late script part there prompt here soon (Some k) (Some j) some first = λ m 
 
 -- where nobody is late not all are
 pub none_late : (script : Script) (part : Part) → part.late ≡ 0 → AreAllLate script part → ⊥
-none_late script part none late =
-    true≢false (sym (late.all late.some.0 late.some.1 late.some.2)
+none_late script part none late = true≢false (sym (late.all late.some.0 late.some.1 late.some.2)
     ∙ (ap (λ mask. has mask late.some.0) none ∙ has_zero late.some.0))
 
 -- nothing is said but a last line
@@ -159,38 +141,32 @@ split_by None None None None None seven is =
 
 -- the line behind these ages, where memory was not wanting
 abbrev pub line_of : List AgeEnd → Option Stop → Last
-line_of ages stop =
-    last_by (first_told DiskFault ages stop) (refusal_of stop) (first_told LogFull ages stop)
+line_of ages stop = last_by (first_told DiskFault ages stop) (refusal_of stop) (first_told LogFull ages stop)
     (first_end Spent ages) (first_end NoMajority ages)
 
 pub line_behind : (ages : List AgeEnd) (stop : Option Stop) (line : Last) → last_of ages stop ≡ Some line
     → (is_memory stop ≡ false) × (line_of ages stop ≡ line)
 line_behind ages stop line is = elim (cases_Bool (is_memory stop)) [
-  | inl wanting ↦
-      absurd (none-some line (sym (ap (λ b. if b then None else Some (line_of ages stop)) wanting) ∙ is))
+  | inl wanting ↦ absurd (none-some line (sym (ap (λ b. if b then None else Some (line_of ages stop)) wanting) ∙ is))
   | inr ample ↦ (
     ample,
-    same_Some (line_of ages stop) line
-        (sym (ap (λ b. if b then None else Some (line_of ages stop)) ample) ∙ is),
+    same_Some (line_of ages stop) line (sym (ap (λ b. if b then None else Some (line_of ages stop)) ample) ∙ is),
   )
 ]
 
 -- its status is one of these
 pub run_lasts : (ages : List AgeEnd) (stop : Option Stop) (line : Last) → last_of ages stop ≡ Some line
     → Contains (0 ∷ 6 ∷ 7 ∷ 8 ∷ 9 ∷ 11 ∷ []) (status_of line)
-run_lasts ages stop line is =
-    subst (λ (status : ℕ). Contains (0 ∷ 6 ∷ 7 ∷ 8 ∷ 9 ∷ 11 ∷ []) status)
-    (ap status_of (line_behind ages stop line is).1)
-    (known_by (first_told DiskFault ages stop) (refusal_of stop) (first_told LogFull ages stop)
-    (first_end Spent ages) (first_end NoMajority ages) (refusal_status stop))
+run_lasts ages stop line is = subst (λ (status : ℕ). Contains (0 ∷ 6 ∷ 7 ∷ 8 ∷ 9 ∷ 11 ∷ []) status)
+    (ap status_of (line_behind ages stop line is).1) (known_by (first_told DiskFault ages stop) (refusal_of stop)
+    (first_told LogFull ages stop) (first_end Spent ages) (first_end NoMajority ages) (refusal_status stop))
 
 accepts : (ages : List AgeEnd) (stop : Option Stop) (last : Option Last) → last ≡ last_of ages stop
     → IfSome last (λ line. status_of line ≢ 3)
 accepts ages stop None is = tt
-accepts ages stop (Some line) is = λ three.
-    accepted_by (first_told DiskFault ages stop) (refusal_of stop) (first_told LogFull ages stop)
-    (first_end Spent ages) (first_end NoMajority ages) (refusal_status stop)
-    (ap status_of (line_behind ages stop line (sym is)).1 ∙ three)
+accepts ages stop (Some line) is = λ three. accepted_by
+    (first_told DiskFault ages stop) (refusal_of stop) (first_told LogFull ages stop) (first_end Spent ages)
+    (first_end NoMajority ages) (refusal_status stop) (ap status_of (line_behind ages stop line (sym is)).1 ∙ three)
 
 -- ---- a script that was played
 
@@ -214,20 +190,17 @@ untrusting_by : (play : Playing) (script : Script) (before after : YardState) (a
     (stop : Option Stop) → HasRun play.mode play.folder (part_in play) script before after ages stop
     → last_of ages stop ≡ Some lasts.NoMajority → SuspectsNobody script → ⊥
 untrusting_by play script before after ages stop run is trusting =
-    let split : some_end NoMajority ages ≡ true =
-    sym (end_so NoMajority ages)
+    let split : some_end NoMajority ages ≡ true = sym (end_so NoMajority ages)
     ∙ split_by (first_told DiskFault ages stop) (refusal_of stop) (first_told LogFull ages stop)
     (first_end Spent ages) (first_end NoMajority ages) (refusal_status stop)
     (ap status_of (line_behind ages stop lasts.NoMajority is).1) in
     let course = ages_of play.mode play.folder (part_in play) script before after ages stop run in
-    true≢false (sym split ∙ none_split script (part_in play) play.mode 0 course.0 course.1 ages course.2
-    trusting)
+    true≢false (sym split ∙ none_split script (part_in play) play.mode 0 course.0 course.1 ages course.2 trusting)
 
 -- where there is a last line, memory was not wanting
 not_wanting : (ages : List AgeEnd) (stop : Option Stop) (line : Last) → last_of ages stop ≡ Some line
     → stop ≢ Some OutOfMemory
-not_wanting ages stop line is wanting =
-    true≢false (sym (ap is_memory wanting) ∙ (line_behind ages stop line is).0)
+not_wanting ages stop line is wanting = true≢false (sym (ap is_memory wanting) ∙ (line_behind ages stop line is).0)
 
 -- a disk that failed is told
 tells_disks : (mode : Mode) (folder : Option InFolder) (part : Part) (script : Script) (before after : YardState)
@@ -242,10 +215,8 @@ tells_disks mode (Some folder) part script before after ages stop (Some line) ru
     behind : (is_memory stop ≡ false) × (line_of ages stop ≡ line)
     behind = line_behind ages stop line (sym is)
 
-    by : (disk : Option ℕ) → first_told DiskFault ages stop ≡ disk
-        → NoneFailed before after ⊎ (status_of line ≡ 6)
-    by None none =
-        inl (calm_run script part mode before after ages stop run
+    by : (disk : Option ℕ) → first_told DiskFault ages stop ≡ disk → NoneFailed before after ⊎ (status_of line ≡ 6)
+    by None none = inl (calm_run script part mode before after ages stop run
         (sym (told_so DiskFault ages stop) ∙ ap is_some none) behind.0)
     by (Some m) some =
         let named : line_of ages stop ≡ lasts.DiskFault m = ap (λ d. last_by d (refusal_of stop)
@@ -259,14 +230,12 @@ stays_fit : (mode : Mode) (folder : Option InFolder) (part : Part) (script : Scr
 stays_fit mode folder part script before after ages stop None run is fit = tt
 stays_fit mode (Some name) part script before after ages stop (Some line) run is fit =
     (run.fit fit).fit (not_wanting ages stop line (sym is))
-stays_fit mode None part script before after ages stop (Some line) run is fit =
-    subst (AreFit script) (sym run.0) fit
+stays_fit mode None part script before after ages stop (Some line) run is fit = subst (AreFit script) (sym run.0) fit
 
 stays_in_step : (mode : Mode) (folder : Option InFolder) (part : Part) (script : Script) (before after : YardState)
     (ages : List AgeEnd) (stop : Option Stop) (last : Option Last)
     → HasRun mode folder part script before after ages stop → last ≡ last_of ages stop
-    → NamesNobody script.members part.missing → AreInStep script before
-    → IfSome last (λ line. AreInStep script after)
+    → NamesNobody script.members part.missing → AreInStep script before → IfSome last (λ line. AreInStep script after)
 stays_in_step mode folder part script before after ages stop None run is all step = tt
 stays_in_step mode (Some name) part script before after ages stop (Some line) run is all step =
     (run.in_step all step).in_step (not_wanting ages stop line (sym is))
@@ -309,8 +278,7 @@ has_played play script before after o ranges prompt run line = record {
   run = run;
   line = line;
   accepted = accepts o.ages o.stop o.last line;
-  untimely = λ sim all none is.
-      untimely_by play script before after o.ages o.stop run sim all none (sym line ∙ is);
+  untimely = λ sim all none is. untimely_by play script before after o.ages o.stop run sim all none (sym line ∙ is);
   untrusting = λ is. untrusting_by play script before after o.ages o.stop run (sym line ∙ is);
   told = tells_disks play.mode play.folder (part_in play) script before after o.ages o.stop o.last run line;
   fit = λ fit. stays_fit play.mode play.folder (part_in play) script before after o.ages o.stop o.last run line fit;
@@ -340,8 +308,7 @@ memory_played mode late script yard o ranges prompt body (inr ran) =
 abbrev pub EndsIn : List ℕ → Outcome → Type 0
 EndsIn ends o = IsDue o × IfSome o.last (λ line. Contains ends (status_of line))
 
-one_more : (end : ℕ) (ends : List ℕ) (last : Option Last)
-    → IfSome last (λ line. Contains ends (status_of line))
+one_more : (end : ℕ) (ends : List ℕ) (last : Option Last) → IfSome last (λ line. Contains ends (status_of line))
     → IfSome last (λ line. Contains (end ∷ ends) (status_of line))
 one_more end ends None is = tt
 one_more end ends (Some line) is = contains_more end ends (status_of line) is
@@ -349,30 +316,24 @@ one_more end ends (Some line) is = contains_more end ends (status_of line) is
 refused_ends : (ends : List ℕ) (before after : YardState) (o : Outcome) (line : Last) → status_of line ≡ 3
     → SaysOnly (Some line) before after o → EndsIn (3 ∷ ends) o
 refused_ends ends before after o line three says = (
-  unrun says.none says.unstopped
-      (subst (λ l. IfSome l (λ line. Contains unrun_ends (status_of line))) (sym says.line)
-      (2, omega arith, sym three)),
-  subst (λ l. IfSome l (λ line. Contains (3 ∷ ends) (status_of line))) (sym says.line)
-      (0, omega arith, sym three),
+  unrun says.none says.unstopped (subst (λ l. IfSome l (λ line. Contains unrun_ends (status_of line)))
+      (sym says.line) (2, omega arith, sym three)),
+  subst (λ l. IfSome l (λ line. Contains (3 ∷ ends) (status_of line))) (sym says.line) (0, omega arith, sym three),
 )
 
 -- of a text that is to be a script
 pub script_ends : (Of : Script → Outcome → Type 0) (ends : List ℕ) (before after : YardState) (o : Outcome)
     → ((script : Script) → Of script o → EndsIn ends o) → (r : Reading) → OfScript Of r before after o
     → EndsIn (3 ∷ ends) o
-script_ends Of ends before after o each TooLong says =
-    refused_ends ends before after o lasts.TooLong refl says
-script_ends Of ends before after o each NotJson says =
-    refused_ends ends before after o lasts.NotJson refl says
+script_ends Of ends before after o each TooLong says = refused_ends ends before after o lasts.TooLong refl says
+script_ends Of ends before after o each NotJson says = refused_ends ends before after o lasts.NotJson refl says
 script_ends Of ends before after o each (Wrong rule path) says =
     refused_ends ends before after o (lasts.Rule rule path) refl says
 script_ends Of ends before after o each (Reads script) is =
-    let has = each script is in
-    (has.0, one_more 3 ends o.last has.1)
+    let has = each script is in (has.0, one_more 3 ends o.last has.1)
 
 -- where the yard is as it was no disk has failed
-pub same_tells : (before after : YardState) (last : Option Last) → after ≡ before
-    → TellsDisks before after last
+pub same_tells : (before after : YardState) (last : Option Last) → after ≡ before → TellsDisks before after last
 same_tells before after None same = tt
 same_tells before after (Some line) same = inl (λ m. ap (λ (yard : YardState). yard.faults m) same)
 
@@ -402,9 +363,8 @@ played_ends play script before after o played = (
         o.stop → last_of o.ages o.stop ≡ last → IfSome last (λ line. Contains (ends_over folder) (status_of line))
     by_folder None None run is = tt
     by_folder (Some name) None run is = tt
-    by_folder None (Some line) run is =
-        part_lasts script (record { missing = 0; late = play.late }) play.mode o.ages o.stop line (λ m below. has_zero m)
-        run.1 is
+    by_folder None (Some line) run is = part_lasts script
+        (record { missing = 0; late = play.late }) play.mode o.ages o.stop line (λ m below. has_zero m) run.1 is
     by_folder (Some name) (Some line) run is = run_lasts o.ages o.stop line is
 
 -- the statuses of a run are among those of a play, and so is that of the usage where somebody is late
@@ -424,19 +384,16 @@ play_or_not_ends play script before after o (inl played) =
     let ends = played_ends play script before after o played.0 in
     (ends.0, with_usage_more play.late (ends_over play.folder) o.last ends.1)
 play_or_not_ends play script before after o (inr unplayed) = (
-  unrun unplayed.1.none unplayed.1.unstopped
-      (subst (λ l. IfSome l (λ line. Contains unrun_ends (status_of line))) (sym unplayed.1.line)
-      (1, omega arith, refl)),
+  unrun unplayed.1.none unplayed.1.unstopped (subst (λ l. IfSome l (λ line. Contains unrun_ends (status_of line)))
+      (sym unplayed.1.line) (1, omega arith, refl)),
   subst (λ l. IfSome l (λ line. Contains (with_usage play.late (ends_over play.folder)) (status_of line)))
-      (sym unplayed.1.line)
-      (usage_ends play script (ends_over play.folder) play.late refl unplayed.0),
+      (sym unplayed.1.line) (usage_ends play script (ends_over play.folder) play.late refl unplayed.0),
 )
 
 play_or_not_tells : (play : Playing) (script : Script) (before after : YardState) (o : Outcome)
     → WasPlayedOrNot play script before after o → TellsDisks before after o.last
 play_or_not_tells play script before after o (inl played) = played.0.told
-play_or_not_tells play script before after o (inr unplayed) =
-    unrun_tells before after o (Some lasts.Usage) unplayed.1
+play_or_not_tells play script before after o (inr unplayed) = unrun_tells before after o (Some lasts.Usage) unplayed.1
 
 pub play_done : (play : Playing) (bytes : List ℕ) (before after : YardState) (o : Outcome)
     → Plays play bytes before after o → HasDone (Plays play bytes) (play_ends play) before after o
@@ -475,30 +432,20 @@ refused_of Of before after o (Some l) (Reads script) refusal says = absurd (none
 -- the status behind the ages of a run
 pub run_rank : (o : Outcome) (status : ℕ) (line : Last) → last_of o.ages o.stop ≡ Some line
     → status ≡ status_of line → Rank o status
-run_rank o status line is due =
-    rank_by o status (first_told DiskFault o.ages o.stop) (refusal_of o.stop)
-    (first_told LogFull o.ages o.stop)
-    (first_end Spent o.ages) (first_end NoMajority o.ages) refl refl refl refl refl
+run_rank o status line is due = rank_by o status (first_told DiskFault o.ages o.stop) (refusal_of o.stop)
+    (first_told LogFull o.ages o.stop) (first_end Spent o.ages) (first_end NoMajority o.ages) refl refl refl refl refl
     (due ∙ sym (ap status_of (line_behind o.ages o.stop line is).1))
 
 -- the usage tells of no ages
 run_lacks_usage : (ages : List AgeEnd) (stop : Option Stop) (line : Last) → last_of ages stop ≡ Some line
     → status_of line ≡ 2 → ⊥
-run_lacks_usage ages stop line is two =
-    lacks 2 (0 ∷ 6 ∷ 7 ∷ 8 ∷ 9 ∷ 11 ∷ []) (
-      λ e. omega (arith, e),
-      (
-        λ e. omega (arith, e),
-        (
-          λ e. omega (arith, e),
-          (
-            λ e. omega (arith, e),
-            (λ e. omega (arith, e), (λ e. omega (arith, e), tt)),
-          ),
-        ),
-      ),
-    )
-    (subst (Contains (0 ∷ 6 ∷ 7 ∷ 8 ∷ 9 ∷ 11 ∷ [])) two (run_lasts ages stop line is))
+run_lacks_usage ages stop line is two = lacks 2 (0 ∷ 6 ∷ 7 ∷ 8 ∷ 9 ∷ 11 ∷ []) (
+  λ e. omega (arith, e),
+  (
+    λ e. omega (arith, e),
+    (λ e. omega (arith, e), (λ e. omega (arith, e), (λ e. omega (arith, e), (λ e. omega (arith, e), tt)))),
+  ),
+) (subst (Contains (0 ∷ 6 ∷ 7 ∷ 8 ∷ 9 ∷ 11 ∷ [])) two (run_lasts ages stop line is))
 
 pub late_reading : (play : Playing) (before after : YardState) (o : Outcome) (line : Last) (r : Reading)
     → OfScript (λ script result. WasPlayedOrNot play script before after result) r before after o
@@ -517,12 +464,9 @@ late_reading play before after o line (Reads script) (inr unplayed) is two = (sc
 pub live_lasts : (ages : List AgeEnd) (line : Last) → All (λ (age : AgeEnd). NoneStopped age.members) ages
     → All (λ (age : AgeEnd). NoneLeft age.members) ages → last_of ages None ≡ Some line
     → Contains (0 ∷ 8 ∷ []) (status_of line)
-live_lasts ages line stored calm is =
-    turns_or_none (first_told DiskFault ages None) (refusal_of None) (first_told LogFull ages None)
-    (first_end Spent ages) (first_end NoMajority ages) line
-    (told_so DiskFault ages None
-    ∙ or_from (some_end DiskFault ages) false (none_so DiskFault by_no_disk ages stored calm) refl)
-    refl
-    (told_so LogFull ages None
+live_lasts ages line stored calm is = turns_or_none (first_told DiskFault ages None)
+    (refusal_of None) (first_told LogFull ages None) (first_end Spent ages)
+    (first_end NoMajority ages) line (told_so DiskFault ages None ∙ or_from (some_end DiskFault ages) false
+    (none_so DiskFault by_no_disk ages stored calm) refl) refl (told_so LogFull ages None
     ∙ or_from (some_end LogFull ages) false (none_so LogFull by_no_full_log ages stored calm) refl)
     (end_so NoMajority ages ∙ none_so NoMajority by_no_split ages stored calm) (line_behind ages None line is).1

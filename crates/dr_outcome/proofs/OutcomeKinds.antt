@@ -1,31 +1,22 @@
 -- Kinds of outcomes, and the statuses that they end with.
+use Rattle.std.{specs.List.list_any, proofs.lemmas.List.Folds.{list_any_none, list_any_at}}
 use Rattle.std.proofs.Common.{inl, inr, sym, arith, ℕ, Contains, ◌≡◌, subst, Some, false, is_some, true, ap, ap₂, [], None, ◌⊎◌, zero, suc, ◌∙◌, true≢false, ◌≤◌, refl, ◌-◌, List, get_or, All, ◌∷◌, Option, ◌≢◌, slice_get}
-use Rattle.std.proofs.lemmas.Option.{same_Some, none-some, get_or_from_slice_get, slice_get_within}
-use Rattle.std.specs.List.{list_any}
-use Rattle.std.proofs.lemmas.List.Folds.{list_any_none, list_any_at}
-use Rattle.std.proofs.lemmas.Bool.{cases_Bool}
+use Rattle.std.proofs.lemmas.{Bool.cases_Bool, Option.{same_Some, none-some, get_or_from_slice_get, slice_get_within}}
+use Rattle.dr_entry.specs.declared.end.{AgeEnd.AgeEnd, End.End, MemberEnd.MemberEnd}
 use Rattle.dr_entry.proofs.NumberFacts.{IsEnd, IsUnrun, late, IsRunEnd, apart}
-use Rattle.dr_entry.specs.declared.end.End.{End}
 use Rattle.dr_entry.specs.declared.end.End.TheVariants as ends
-use Rattle.dr_entry.specs.declared.end.AgeEnd.{AgeEnd}
-use Rattle.dr_entry.specs.declared.end.MemberEnd.{MemberEnd}
-use Rattle.dr_script.specs.declared.script.Script.{Script}
-use Rattle.dr_script.specs.Reading.{Reading, Reads}
+use Rattle.dr_script.specs.{Reading.{Reading, Reads}, declared.script.Script.Script}
 use Rattle.dr_text.specs.declared.last.Last.{Last}
 use Rattle.dr_text.specs.declared.last.Last.TheVariants as lasts
 use Rattle.dr_yard.specs.Yards.{YardState, empty_yard}
 use Rattle.dr_intake.specs.Status.{status_of}
 use Rattle.dr_program_laws.specs.Trusting.{is_left_out, NoneLeft}
-use Rattle.dr_age.specs.Logged.{why_ended, NoneStopped}
-use Rattle.dr_ages.specs.declared.mode.Mode.TheVariants.{Sim}
-use Rattle.dr_ages.specs.declared.stop.Stop.{Stop}
-use Rattle.dr_ages.specs.declared.part.Part.{Part}
-use Rattle.dr_outcome.specs.Outcome.{unrun_ends, AreAllLate, WasPlayedOrNot, SaysOnly, IsDue, by_run, unrun, HasPlayed, IsRunInMemory, IsMemoryRun}
-use Rattle.dr_outcome.specs.declared.last.Kind.TheVariants.{DiskFault, LogFull, NoMajority, Spent}
-use Rattle.dr_outcome.specs.declared.outcome.Outcome.{Outcome}
+use Rattle.dr_play.specs.Logged.{why_ended, NoneStopped}
+use Rattle.dr_ages.specs.declared.{mode.Mode.TheVariants.Sim, part.Part.Part, stop.Stop.Stop}
 use Rattle.dr_outcome.specs.Last.{refusal_of, some_end, some_so, is_of, last_by, last_of}
-use Rattle.dr_outcome.specs.Playing.{Playing, part_in, simulated}
-use Rattle.dr_outcome.specs.declared.last.Kind.{Kind}
+use Rattle.dr_outcome.specs.Outcome.{unrun_ends, AreAllLate, WasPlayedOrNot, SaysOnly, IsDue, by_run, unrun, HasPlayed, IsRunInMemory, IsMemoryRun}
+use Rattle.dr_outcome.specs.{Playing.{Playing, part_in, simulated}, declared.outcome.Outcome.Outcome}
+use Rattle.dr_outcome.specs.declared.last.Kind.{Kind, TheVariants.{DiskFault, LogFull, NoMajority, Spent}}
 use Rattle.dr_outcome.specs.declared.outcome.Body.TheVariants as bodies
 
 -- it is one of those behind which nothing was run
@@ -52,8 +43,7 @@ pub record IsQuiet (o : Outcome) : Type 0 where
 -- the status behind the ages of a run, by the first of these that has come
 pub data Rank (o : Outcome) (status : ℕ) : Type 0 where
   by_disk : status ≡ 6 → some_so DiskFault o.ages o.stop ≡ true → Rank o status
-  by_logs : status ≡ 7 → some_so DiskFault o.ages o.stop ≡ false → is_some (refusal_of o.stop) ≡ true
-      → Rank o status
+  by_logs : status ≡ 7 → some_so DiskFault o.ages o.stop ≡ false → is_some (refusal_of o.stop) ≡ true → Rank o status
   by_full : status ≡ 11 → some_so DiskFault o.ages o.stop ≡ false → is_some (refusal_of o.stop) ≡ false
       → some_so LogFull o.ages o.stop ≡ true → Rank o status
   by_turns : status ≡ 8 → some_so DiskFault o.ages o.stop ≡ false → is_some (refusal_of o.stop) ≡ false
@@ -136,10 +126,9 @@ by_no_split (ends.Spent turns) is calm = refl
 by_no_split ends.Absent is calm = refl
 
 -- so no member ended so
-pub none_so : (kind : Kind)
-    → ((e : End) → why_ended e ≡ None → is_left_out e ≡ false → is_of kind e ≡ false) → (ages : List AgeEnd)
-    → All (λ (age : AgeEnd). NoneStopped age.members) ages → All (λ (age : AgeEnd). NoneLeft age.members) ages
-    → some_end kind ages ≡ false
+pub none_so : (kind : Kind) → ((e : End) → why_ended e ≡ None → is_left_out e ≡ false → is_of kind e ≡ false)
+    → (ages : List AgeEnd) → All (λ (age : AgeEnd). NoneStopped age.members) ages
+    → All (λ (age : AgeEnd). NoneLeft age.members) ages → some_end kind ages ≡ false
 none_so kind each ages stored calm =
     list_any_none (λ (age : AgeEnd). list_any (λ (m : MemberEnd). is_of kind m.end) age.members) ages
     (λ k d within. list_any_none (λ (m : MemberEnd). is_of kind m.end) (get_or ages k d).members
@@ -159,9 +148,8 @@ turns_or_none None None None None None line d l f s said = (0, omega arith, ap s
 -- where nothing is run the status is another
 pub refused : (known last : Last) (before after : YardState) (o : Outcome) → status_of known ≡ 3
     → SaysOnly (Some known) before after o → o.last ≡ Some last → IsRunEnd (status_of last) → ⊥
-refused known last before after o three says is end =
-    apart 3 (status_of last) (λ e. omega (arith, e)) (λ e. omega (arith, e)) (λ e. omega (arith, e))
-    (ap status_of (same_Some last known (sym is ∙ says.line)) ∙ three) end
+refused known last before after o three says is end = apart 3 (status_of last) (λ e. omega (arith, e)) (λ e. omega
+    (arith, e)) (λ e. omega (arith, e)) (ap status_of (same_Some last known (sym is ∙ says.line)) ∙ three) end
 
 -- where no member of any age ended by a full log none did
 pub none_full : (ages : List AgeEnd) (i : ℕ) (age : AgeEnd) (m : ℕ) (e : MemberEnd) → some_end LogFull ages ≡ false
@@ -169,8 +157,7 @@ pub none_full : (ages : List AgeEnd) (i : ℕ) (age : AgeEnd) (m : ℕ) (e : Mem
 none_full ages i age m e none at there = elim (cases_Bool (is_of LogFull e.end)) [
   | inl full ↦
       let here : list_any (λ (x : MemberEnd). is_of LogFull x.end) age.members ≡ true =
-      list_any_at (λ (x : MemberEnd). is_of LogFull x.end) age.members m e
-      (slice_get_within age.members m e there)
+      list_any_at (λ (x : MemberEnd). is_of LogFull x.end) age.members m e (slice_get_within age.members m e there)
       (ap (λ (x : MemberEnd). is_of LogFull x.end) (get_or_from_slice_get age.members m e e there) ∙ full) in
       absurd (true≢false (sym (list_any_at
       (λ (x : AgeEnd). list_any (λ (y : MemberEnd). is_of LogFull y.end) x.members) ages i age

@@ -1,42 +1,25 @@
 -- What is certain of the ends and of the stop of a run.
+use Rattle.std.{specs.List.list_any, proofs.lemmas.{Bool.{cases_Bool, or_from, or_parts}, List.Folds.list_any_none}}
 use Rattle.std.proofs.Common.{◌≡◌, ◌≢◌, refl, sym, ap, subst, ◌∙◌, inl, inr, ℕ, ◌+◌, ◌-◌, ◌<◌, ◌≤◌, Bool, true, false, true≢false, arith, List, [], ◌∷◌, length, slice_get, get_or, All, Contains, Option, None, Some, is_some, IfSome, if◌then◌else◌}
-use Rattle.std.specs.List.{list_any}
-use Rattle.std.proofs.Math.Path.{fun_ext}
-use Rattle.std.proofs.lemmas.Bool.{cases_Bool, or_from, or_parts}
-use Rattle.std.proofs.lemmas.List.Folds.{list_any_none}
-use Rattle.std.proofs.lemmas.Option.{none-some, same_Some, slice_get-get_or, slice_get_within}
-use Rattle.dr_ages.specs.declared.mode.Mode.{Mode}
-use Rattle.dr_ages.specs.declared.mode.Mode.TheVariants.{Sim}
-use Rattle.dr_ages.specs.declared.stop.Stop.{Stop}
-use Rattle.dr_ages.specs.Ages.{AreAges, NamesNobody, opening_of}
-use Rattle.dr_ages.specs.declared.part.Part.{Part}
-use Rattle.dr_ages.specs.Fit.{AreInStep}
-use Rattle.dr_ages.specs.Found.{AreRoomy}
-use Rattle.dr_ages.specs.Runs.{HasFinished, IsFreshRun, IsRoomyRun, IsRunOf}
-use Rattle.dr_ages.specs.Stops.{IsOutside, NamesFaults}
+use Rattle.std.proofs.{Math.Path.fun_ext, lemmas.Option.{none-some, same_Some, slice_get-get_or, slice_get_within}}
+use Rattle.dr_ages.specs.{Ages.{AreAges, NamesNobody, opening_of}, Fit.AreInStep, Found.AreRoomy}
+use Rattle.dr_ages.specs.{Runs.{HasFinished, IsFreshRun, IsRoomyRun, IsRunOf}, Stops.{IsOutside, NamesFaults}}
+use Rattle.dr_ages.specs.declared.{mode.Mode.{Mode, TheVariants.Sim}, part.Part.Part, stop.Stop.Stop}
+use Rattle.dr_ages.proofs.Parts.{later, nobody_late}
 use Rattle.dr_complete.specs.Time.{HasTime}
-use Rattle.dr_disk.specs.Calls.{at_rest}
-use Rattle.dr_disk.specs.Disk.{Now, Told}
-use Rattle.dr_entry.specs.declared.end.AgeEnd.{AgeEnd}
-use Rattle.dr_entry.specs.declared.end.End.{End}
-use Rattle.dr_entry.specs.declared.end.MemberEnd.{MemberEnd}
-use Rattle.dr_entry.proofs.ListFacts.{none_of}
+use Rattle.dr_disk.specs.{Calls.at_rest, Disk.{Now, Told}}
+use Rattle.dr_entry.{specs.declared.end.{AgeEnd.AgeEnd, End.End, MemberEnd.MemberEnd}, proofs.ListFacts.none_of}
 use Rattle.dr_history.specs.declared.opening.Opening.{Opening}
-use Rattle.dr_program_laws.specs.Ended.{AreComplete}
-use Rattle.dr_program_laws.specs.Trusting.{NoneLeft, SuspectsNobody, is_left_out}
+use Rattle.dr_program_laws.specs.{Ended.AreComplete, Trusting.{NoneLeft, SuspectsNobody, is_left_out}}
 use Rattle.dr_script.specs.declared.script.Script.{Script}
-use Rattle.dr_age.specs.Logged.{IsNotFull, NoneFull, why_ended}
-use Rattle.dr_io.specs.Faults.{Rose}
-use Rattle.dr_io.proofs.KnownLemmas.{rose_between}
+use Rattle.dr_play.specs.Logged.{IsNotFull, NoneFull, why_ended}
+use Rattle.dr_io.{specs.Faults.Rose, proofs.KnownLemmas.rose_between}
 use Rattle.dr_yard.specs.Yards.{YardState, empty_yard}
-use Rattle.dr_outcome.specs.declared.last.Kind.{Kind}
-use Rattle.dr_outcome.specs.declared.last.Kind.TheVariants.{DiskFault, LogFull, NoMajority, Spent}
+use Rattle.dr_outcome.specs.Last.{first_end, first_told, is_memory, is_of, last_by, last_of, refusal_of, some_end, some_so, stopped_by}
+use Rattle.dr_outcome.{specs.Outcome.IsMemoryRun, proofs.Lasts.told_so}
+use Rattle.dr_outcome.specs.declared.last.Kind.{Kind, TheVariants.{DiskFault, LogFull, NoMajority, Spent}}
 use Rattle.dr_intake.specs.Status.{status_of}
 use Rattle.dr_text.specs.declared.last.Last.{Last}
-use Rattle.dr_ages.proofs.Parts.{later, nobody_late}
-use Rattle.dr_outcome.specs.Last.{first_end, first_told, is_memory, is_of, last_by, last_of, refusal_of, some_end, some_so, stopped_by}
-use Rattle.dr_outcome.specs.Outcome.{IsMemoryRun}
-use Rattle.dr_outcome.proofs.Lasts.{told_so}
 use Rattle.dr_ages.specs.declared.stop.Stop.TheVariants as stops
 use Rattle.dr_entry.specs.declared.end.End.TheVariants as ends
 
@@ -89,23 +72,19 @@ unstopped ends.Absent failed full = refl
 -- where all are complete none has spent its turns
 none_spends : (o : Opening) (members : List MemberEnd) → AreComplete o members → some_of Spent members ≡ false
 none_spends o members complete = list_any_none (λ (m : MemberEnd). is_of Spent m.end) members
-    (λ k d within.
-    ap (is_of Spent) (complete k (get_or members k d) (slice_get-get_or members k d within)).end)
+    (λ k d within. ap (is_of Spent) (complete k (get_or members k d) (slice_get-get_or members k d within)).end)
 
 -- with time enough, and unless a log ends one, no member spends its turns
 pub none_spent : (script : Script) (part : Part) (mode : Mode) (nth : ℕ) (before after : YardState) (ages : List AgeEnd)
     → AreAges script part mode nth before ages after → NamesNobody script.members part.missing → NamesNobody script.members part.late → mode ≡ Sim
-    → HasTime script
-    → some_end DiskFault ages ≡ false
-    → some_end LogFull ages ≡ false → some_end Spent ages ≡ false
+    → HasTime script → some_end DiskFault ages ≡ false → some_end LogFull ages ≡ false → some_end Spent ages ≡ false
 none_spent script part mode nth before after [] are all prompt sim time failed full = refl
 none_spent script part mode nth before after (age ∷ ages) (between, is, rest) all prompt sim time failed full =
     let fails = or_parts (some_of DiskFault age.members) (some_end DiskFault ages) failed in
     let fills = or_parts (some_of LogFull age.members) (some_end LogFull ages) full in
-    or_from (some_of Spent age.members) (some_end Spent ages)
-    (none_spends (opening_of script part age) age.members (is.complete all
-    (nobody_late script part age prompt) sim time
-    (λ k d within. unstopped (get_or age.members k d).end
+    or_from (some_of Spent age.members)
+    (some_end Spent ages) (none_spends (opening_of script part age) age.members (is.complete all
+    (nobody_late script part age prompt) sim time (λ k d within. unstopped (get_or age.members k d).end
     (none_of (λ (m : MemberEnd). is_of DiskFault m.end) age.members k d fails.0 within)
     (none_of (λ (m : MemberEnd). is_of LogFull m.end) age.members k d fills.0 within))))
     (none_spent script part mode (nth + 1) between after ages rest all prompt sim time fails.1 fills.1)
@@ -165,11 +144,9 @@ in_memory script part mode ages stop told after empty calm run = record {
 -- over empty disks that count no fault, and where memory is not wanting, no disk ends a run or a member
 pub memory_holds : (script : Script) (part : Part) (mode : Mode) (ages : List AgeEnd) (stop : Option Stop)
     → NamesNobody script.members part.missing → IsMemoryRun script part mode ages stop → is_memory stop ≡ false → some_so DiskFault ages stop ≡ false
-memory_holds script part mode ages None all in_memory ample =
-    or_from (some_end DiskFault ages) false
+memory_holds script part mode ages None all in_memory ample = or_from (some_end DiskFault ages) false
     (none_failed script part mode 0 empty_yard in_memory.run.last ages in_memory.run.course
-    (λ m. ap (λ (yard : YardState). yard.faults m) in_memory.run.finish.1 ∙ in_memory.calm m))
-    refl
+    (λ m. ap (λ (yard : YardState). yard.faults m) in_memory.run.finish.1 ∙ in_memory.calm m)) refl
 memory_holds script part mode ages (Some stops.OutOfMemory) all in_memory ample = absurd (true≢false ample)
 memory_holds script part mode ages (Some (stops.DiskFault member)) all in_memory ample =
     absurd (omega (arith, in_memory.run.finish.1.rose, in_memory.calm member))
@@ -273,9 +250,8 @@ calm_ages script part mode nth before after (age ∷ ages) (between, is, rest) n
     ∙ is.calm m (λ e at. not_failed e.end (none_at age.members m e parts.0 at))
 
 -- and where none has ended the run, unless memory was wanting
-calm_stop : (stop : Stop) (last after : YardState) → NamesFaults stop last after
-    → is_some (stopped_by DiskFault (Some stop)) ≡ false → is_memory (Some stop) ≡ false
-    → (m : ℕ) → after.faults m ≡ last.faults m
+calm_stop : (stop : Stop) (last after : YardState) → NamesFaults stop last after → is_some (stopped_by DiskFault
+    (Some stop)) ≡ false → is_memory (Some stop) ≡ false → (m : ℕ) → after.faults m ≡ last.faults m
 calm_stop stops.OutOfMemory last after names none ample = absurd (true≢false ample)
 calm_stop (stops.DiskFault m) last after names none ample = absurd (true≢false none)
 calm_stop (stops.LogFull m len) last after names none ample = names
@@ -318,19 +294,16 @@ whole_by script ages stop none all disk full = record {
   full = ap (some_so LogFull ages) none ∙ or_from (some_end LogFull ages) false full refl;
 }
 
-none_full : (ages : List AgeEnd) → All (λ (age : AgeEnd). NoneFull age.members) ages
-    → some_end LogFull ages ≡ false
-none_full ages roomy =
-    list_any_none (λ (age : AgeEnd). some_of LogFull age.members) ages
+none_full : (ages : List AgeEnd) → All (λ (age : AgeEnd). NoneFull age.members) ages → some_end LogFull ages ≡ false
+none_full ages roomy = list_any_none (λ (age : AgeEnd). some_of LogFull age.members) ages
     (λ k d within. list_any_none (λ (m : MemberEnd). is_of LogFull m.end) (get_or ages k d).members
     (λ j e below. unfull (get_or (get_or ages k d).members j e).end (roomy k d within j e below)))
 
 -- disks in step that leave room, of which no call fails
-pub whole_run : (script : Script) (part : Part) (mode : Mode) (before after : YardState) (ages : List AgeEnd) (stop : Option Stop)
-    → IsRunOf script part mode before after ages stop → NamesNobody script.members part.missing
-    → AreInStep script before → AreRoomy script before
-    → ((m : ℕ) → m < script.members → Rose (before.faults m) (after.faults m) → ⊥) → is_memory stop ≡ false
-    → IsWhole script ages stop
+pub whole_run : (script : Script) (part : Part) (mode : Mode) (before after : YardState) (ages : List AgeEnd)
+    (stop : Option Stop) → IsRunOf script part mode before after ages stop → NamesNobody script.members part.missing
+    → AreInStep script before → AreRoomy script before → ((m : ℕ) → m < script.members → Rose (before.faults m)
+    (after.faults m) → ⊥) → is_memory stop ≡ false → IsWhole script ages stop
 whole_run script part mode before after ages stop run all step roomy calm ample = by stop refl
   where
     r : IsRoomyRun ages stop
@@ -341,9 +314,8 @@ whole_run script part mode before after ages stop run all step roomy calm ample 
 
     outside : (s : Stop) → stop ≡ Some s → HasFinished script part run.last after run.chosen ages (Some s) → IsOutside s → ⊥
     outside stops.OutOfMemory is end out = true≢false (sym (ap is_memory is) ∙ ample)
-    outside (stops.DiskFault m) is end out =
-        calm m end.1.below (rose_between (before.faults m) (run.last.faults m) (after.faults m) (after.faults m)
-        (low m) end.1.rose (omega arith))
+    outside (stops.DiskFault m) is end out = calm m end.1.below (rose_between (before.faults m)
+        (run.last.faults m) (after.faults m) (after.faults m) (low m) end.1.rose (omega arith))
     outside (stops.LogFull m len) is end out = out
     outside (stops.Damaged m at) is end out = out
     outside (stops.NoQuorum view have need) is end out = out
@@ -396,13 +368,11 @@ by_parts None None None None (Some m) line d l f said = (2, omega arith, ap stat
 by_parts None None None None None line d l f said = (0, omega arith, ap status_of said)
 
 -- so is that behind a run that has all its ages
-pub whole_lasts : (script : Script) (ages : List AgeEnd) (stop : Option Stop) (line : Last)
-    → IsWhole script ages stop → is_memory stop ≡ false → last_of ages stop ≡ Some line
-    → Contains (0 ∷ 8 ∷ 9 ∷ []) (status_of line)
-whole_lasts script ages stop line whole ample is =
-    by_parts (first_told DiskFault ages stop) (refusal_of stop) (first_told LogFull ages stop)
-    (first_end Spent ages) (first_end NoMajority ages) line (told_so DiskFault ages stop ∙ whole.disk) whole.logs
-    (told_so LogFull ages stop ∙ whole.full)
+pub whole_lasts : (script : Script) (ages : List AgeEnd) (stop : Option Stop) (line : Last) → IsWhole script ages stop
+    → is_memory stop ≡ false → last_of ages stop ≡ Some line → Contains (0 ∷ 8 ∷ 9 ∷ []) (status_of line)
+whole_lasts script ages stop line whole ample is = by_parts (first_told DiskFault ages stop)
+    (refusal_of stop) (first_told LogFull ages stop) (first_end Spent ages) (first_end NoMajority ages) line
+    (told_so DiskFault ages stop ∙ whole.disk) whole.logs (told_so LogFull ages stop ∙ whole.full)
     (same_Some told line (sym (ap (λ b. if b then None else Some told) ample) ∙ is))
   where
     told : Last
@@ -415,8 +385,7 @@ pub part_lasts : (script : Script) (part : Part) (mode : Mode) (ages : List AgeE
     → last_of ages stop ≡ Some line → Contains (0 ∷ 8 ∷ 9 ∷ []) (status_of line)
 part_lasts script part mode ages stop line all run is = elim (cases_Bool (is_memory stop)) [
   | inl wanting ↦ absurd (none-some line (sym (ap (λ b. if b then None else Some told) wanting) ∙ is))
-  | inr ample ↦
-      whole_lasts script ages stop line (whole_in_memory script part mode ages stop all run ample) ample is
+  | inr ample ↦ whole_lasts script ages stop line (whole_in_memory script part mode ages stop all run ample) ample is
 ]
   where
     told : Last

@@ -1,33 +1,21 @@
 -- What was run, and what is said of it.
-use Rattle.std.specs.Prelude.{◌≡◌, ◌≢◌, ◌⊎◌, ⊤, ℕ, ◌<◌, true, false, List, [], ◌∷◌, ◌++◌, length, Option, Some, None, Contains, IfSome}
 use Rattle.std.specs.List.{flat_map}
-use Rattle.dr_ages.specs.Ages.{HaveSomebodyPrompt, NamesNobody, all_but}
-use Rattle.dr_ages.specs.declared.mode.Mode.{Mode}
-use Rattle.dr_ages.specs.declared.mode.Mode.TheVariants.{Sim}
-use Rattle.dr_ages.specs.declared.part.Part.{Part}
-use Rattle.dr_ages.specs.declared.stop.Stop.{Stop}
-use Rattle.dr_ages.specs.Fit.{AreFit, AreInStep}
-use Rattle.dr_ages.specs.Found.{AreRoomy}
-use Rattle.dr_ages.specs.Runs.{IsRunOf}
+use Rattle.std.specs.Prelude.{◌≡◌, ◌≢◌, ◌⊎◌, ⊤, ℕ, ◌<◌, true, false, List, [], ◌∷◌, ◌++◌, length, Option, Some, None, Contains, IfSome}
+use Rattle.dr_ages.specs.{Ages.{HaveSomebodyPrompt, NamesNobody, all_but}, Fit.{AreFit, AreInStep}, Found.AreRoomy}
+use Rattle.dr_ages.specs.{Runs.IsRunOf, declared.{mode.Mode.{Mode, TheVariants.Sim}, part.Part.Part, stop.Stop.Stop}}
 use Rattle.dr_complete.specs.Time.{HasTime}
 use Rattle.dr_entry.specs.declared.end.AgeEnd.{AgeEnd}
 use Rattle.dr_history.specs.Members.{has}
-use Rattle.dr_intake.specs.Reading.{refusal_in}
-use Rattle.dr_intake.specs.Status.{status_of}
+use Rattle.dr_intake.specs.{Reading.refusal_in, Status.status_of}
 use Rattle.dr_io.specs.Faults.{Rose}
 use Rattle.dr_program_laws.specs.Trusting.{SuspectsNobody}
-use Rattle.dr_script.specs.declared.script.Script.{Script}
-use Rattle.dr_script.specs.Ranges.{HasRanges}
-use Rattle.dr_script.specs.Reading.{Reading, Reads, reading_of}
-use Rattle.dr_text.specs.declared.last.Last.{Last}
+use Rattle.dr_script.specs.{Ranges.HasRanges, Reading.{Reading, Reads, reading_of}, declared.script.Script.Script}
+use Rattle.dr_text.specs.{Report.{age_text, last_text}, declared.last.Last.Last}
 use Rattle.dr_text.specs.declared.last.Last.TheVariants as lasts
-use Rattle.dr_text.specs.Report.{age_text, last_text}
 use Rattle.dr_yard.specs.Yards.{YardState, empty_yard}
-use Rattle.dr_outcome.specs.Last.{last_of}
-use Rattle.dr_outcome.specs.Playing.{InFolder, Playing, part_in}
-use Rattle.dr_outcome.specs.declared.outcome.Body.{Body}
-use Rattle.dr_outcome.specs.declared.outcome.Body.TheVariants as bodies
+use Rattle.dr_outcome.specs.{Last.last_of, Playing.{InFolder, Playing, part_in}, declared.outcome.Body.Body}
 use Rattle.dr_outcome.specs.declared.outcome.Outcome.{Outcome}
+use Rattle.dr_outcome.specs.declared.outcome.Body.TheVariants as bodies
 
 -- ---- the text of an outcome
 

@@ -1,7 +1,6 @@
 ghost use Rattle.std.specs.Prelude.{◌≡◌, None, []};
 ghost use Rattle.dr_yard.specs.Yards.{YardState};
-ghost use Rattle.dr_outcome.specs.Outcome.{SaysOnly};
-ghost use Rattle.dr_outcome.specs.Playing.{missing_of, part_in};
+ghost use Rattle.dr_outcome.specs.{Outcome.SaysOnly, Playing.{missing_of, part_in}};
 ghost use Rattle.dr_outcome.specs.declared.outcome.Body.TheVariants.{Report};
 
 use dr_ages::{Mode, Part, Stop};

@@ -4,8 +4,7 @@ ghost use Rattle.dr_script.specs.Ranges.{HasRanges};
 ghost use Rattle.dr_yard.specs.Yards.{YardState, state_by};
 ghost use Rattle.dr_ages.specs.Ages.{HaveSomebodyPrompt};
 ghost use Rattle.dr_outcome.specs.Outcome.{AreAllLate, HasDone, HasPlayed, Plays, SaysOnly, WasPlayedOrNot};
-ghost use Rattle.dr_outcome.specs.Playing.{play_ends, simulated};
-ghost use Rattle.dr_outcome.specs.declared.outcome.Body.TheVariants.{Report};
+ghost use Rattle.dr_outcome.specs.{Playing.{play_ends, simulated}, declared.outcome.Body.TheVariants.Report};
 
 use crate::outcome::{Outcome, Play, without_ages};
 use crate::running::{run_in_memory, run_over};

@@ -2,12 +2,9 @@ ghost use Rattle.std.specs.Prelude.{◌≡◌, ◌<◌, ◌⊎◌, ℕ, None, []
 ghost use Rattle.dr_entry.specs.declared.limits.TheConstants.{MAX_MEMBERS};
 ghost use Rattle.dr_script.specs.Ranges.{HasRanges};
 ghost use Rattle.dr_yard.specs.Yards.{state_by};
-ghost use Rattle.dr_ages.specs.Ages.{HaveSomebodyPrompt};
-ghost use Rattle.dr_ages.specs.Runs.{IsRunOf};
-ghost use Rattle.dr_ages.specs.Watched.{AreWatched};
+ghost use Rattle.dr_ages.specs.{Ages.HaveSomebodyPrompt, Runs.IsRunOf, Watched.AreWatched};
 ghost use Rattle.dr_ages.specs.declared.mode.Mode.TheVariants.{Sim};
-ghost use Rattle.dr_outcome.specs.Last.{last_of};
-ghost use Rattle.dr_outcome.specs.Outcome.{IsMemoryRun};
+ghost use Rattle.dr_outcome.specs.{Last.last_of, Outcome.IsMemoryRun};
 
 use crate::last::last_of;
 use crate::outcome::{Body, Outcome, without_ages};

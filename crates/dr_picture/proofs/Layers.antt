@@ -9,8 +9,6 @@ pub shows : (d : Drawn) (old one two new : List ℕ) → IsPrefixOf old one → 
 shows d old one two new head layers foot = (
   head.0,
   subst (λ (l : List ℕ). IsPrefixOf l new)
-      (layers ∙ ap (λ (l : List ℕ). l ++ layers_text d) (sym head.1)
-      ∙ append_assoc old head.0 (layers_text d)
-      ∙ ap (λ (l : List ℕ). old ++ (head.0 ++ l)) (sym (append-nil (layers_text d))))
-      foot,
+      (layers ∙ ap (λ (l : List ℕ). l ++ layers_text d) (sym head.1) ∙ append_assoc old head.0 (layers_text d)
+      ∙ ap (λ (l : List ℕ). old ++ (head.0 ++ l)) (sym (append-nil (layers_text d)))) foot,
 )

@@ -1,9 +1,6 @@
 -- The texts of what is drawn, in the words of SVG.
-use Rattle.std.specs.Prelude.{ℕ, ◌==◌, if◌then◌else◌, List, [], ◌∷◌, codes}
-use Rattle.std.specs.Fmt.{decimal}
-use Rattle.std.specs.List.{concat}
-use Rattle.dr_picture.specs.declared.shapes.Point.{Point}
-use Rattle.dr_picture.specs.declared.shapes.Shape.{Shape}
+use Rattle.std.specs.{Fmt.decimal, List.concat, Prelude.{ℕ, ◌==◌, if◌then◌else◌, List, [], ◌∷◌, codes}}
+use Rattle.dr_picture.specs.declared.shapes.{Point.Point, Shape.Shape}
 use Rattle.dr_picture.specs.declared.shapes.Shape.TheVariants.{Square, HollowSquare, Dot, Bar, Cross, Diamond, HollowDiamond}
 
 -- the outline of a shape around a point

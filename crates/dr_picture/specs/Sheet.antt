@@ -1,6 +1,6 @@
 -- What is drawn on a sheet, and how it grows.
-use Rattle.std.specs.Prelude.{◌≡◌, ◌<◌, ◌≤◌, ℕ, ◌+◌, ◌-◌, ◌*◌, ◌^◌, min, List, [], ◌∷◌, ◌++◌, codes, length, slice_index}
 use Rattle.std.specs.List.{concat}
+use Rattle.std.specs.Prelude.{◌≡◌, ◌<◌, ◌≤◌, ℕ, ◌+◌, ◌-◌, ◌*◌, ◌^◌, min, List, [], ◌∷◌, ◌++◌, codes, length, slice_index}
 use Rattle.dr_history.specs.History.{IsPrefixOf}
 use Rattle.dr_picture.specs.Marks.{heading_text, layer_text, words_text}
 

@@ -1,9 +1,7 @@
 //! What is drawn of a run.
 ghost use Rattle.std.specs.Prelude.{◌≡◌, ◌<◌, ◌++◌, IfOk, None, OnOk, length, string_bytes, vec_len};
-ghost use Rattle.dr_program.specs.Form.{IsRunningMember};
-ghost use Rattle.dr_program.specs.Replica.{me};
-ghost use Rattle.dr_picture.specs.Marks.{heading_text};
-ghost use Rattle.dr_picture.specs.Sheet.{HasDrawn, IsBlank, IsDrawnIn, Keeps, headed};
+ghost use Rattle.dr_program.specs.{Form.IsRunningMember, Replica.me};
+ghost use Rattle.dr_picture.specs.{Marks.heading_text, Sheet.{HasDrawn, IsBlank, IsDrawnIn, Keeps, headed}};
 ghost use Rattle.dr_history.specs.History.{IsPrefixOf};
 
 use crate::bands::Bands;

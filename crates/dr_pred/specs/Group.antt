@@ -1,11 +1,8 @@
 -- The rows that a member of a group holds.
 use Rattle.std.specs.Prelude.{◌≡◌, ℕ, ◌≤◌}
 use Rattle.dr_entry.specs.declared.limits.TheConstants.{MAX_MEMBERS}
+use Rattle.dr_words.specs.{Columns.columns_of, Form.AllInForm, Grown.Grown, Shapes.HasShape}
 use Rattle.dr_words.specs.declared.shape.Shape.{Shape}
-use Rattle.dr_words.specs.Columns.{columns_of}
-use Rattle.dr_words.specs.Form.{AllInForm}
-use Rattle.dr_words.specs.Shapes.{HasShape}
-use Rattle.dr_words.specs.Grown.{Grown}
 use Rattle.dr_rows.specs.Words.{Words}
 
 -- the rows of a group: of 1 to `MAX_MEMBERS` members, with the columns of a window of 1 to 8 slots, and

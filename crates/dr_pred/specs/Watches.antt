@@ -1,9 +1,8 @@
 -- What the watches wait for.
 use Rattle.std.specs.Prelude.{◌≡◌, ℕ, ◌<◌, ◌≤◌, true}
 use Rattle.dr_history.specs.Members.{has}
+use Rattle.dr_words.specs.{Columns.{recv_column, leavers_column, trim_column}, Packing.{is_final, accept_promise}}
 use Rattle.dr_words.specs.declared.column.TheConstants.{SUSPECTED_COLUMN, RECEIVED_COLUMN, LOGGED_COLUMN, DONE_COLUMN}
-use Rattle.dr_words.specs.Columns.{recv_column, leavers_column, trim_column}
-use Rattle.dr_words.specs.Packing.{is_final, accept_promise}
 use Rattle.dr_rows.specs.Words.{Words, seen}
 
 -- every received word of the members is above the place

@@ -1,7 +1,6 @@
 ghost use Rattle.std.specs.Prelude.{◌≡◌, ℕ, ◌^◌, ◌<◌, ◌≤◌, ◌↔◌, true, false, All, Any, IfSome, IfNone, IsTrue};
 ghost use Rattle.dr_history.specs.Members.{has};
-ghost use Rattle.dr_words.specs.Masks.{IsInRoster};
-ghost use Rattle.dr_words.specs.Packing.{is_final, accept_promise};
+ghost use Rattle.dr_words.specs.{Masks.IsInRoster, Packing.{is_final, accept_promise}};
 ghost use Rattle.dr_rows.specs.Words.{seen};
 
 use dr_entry::MAX_MEMBERS;

@@ -1,8 +1,6 @@
 ghost use Rattle.std.specs.Prelude.{◌≡◌, ℕ, ◌<◌, ◌↔◌, true, IsTrue};
 ghost use Rattle.dr_history.specs.Members.{has};
-ghost use Rattle.dr_words.specs.Columns.{recv_column};
-ghost use Rattle.dr_words.specs.Masks.{IsInRoster};
-ghost use Rattle.dr_words.specs.Packing.{is_final};
+ghost use Rattle.dr_words.specs.{Columns.recv_column, Masks.IsInRoster, Packing.is_final};
 ghost use Rattle.dr_rows.specs.Words.{seen};
 
 use crate::Watch;

@@ -1,13 +1,10 @@
 -- What no step changes of a replica.
 use Rattle.dr_entry.specs.declared.entry.Entry.{Entry}
-use Rattle.std.proofs.Common.{◌≡◌, refl, ap, sym, subst, ◌∙◌, ℕ, ◌+◌, ◌*◌, ◌<◌, List, length, slice_index, arith}
 use Rattle.std.specs.Prelude.{Option, None, Some}
-use Rattle.dr_machine.specs.declared.step.Step.{Step}
-use Rattle.dr_machine.specs.Group.{Group, banks, roster}
-use Rattle.dr_program.specs.Replica.{Replica, greatest, joined, me}
+use Rattle.std.proofs.Common.{◌≡◌, refl, ap, sym, subst, ◌∙◌, ℕ, ◌+◌, ◌*◌, ◌<◌, List, length, slice_index, arith}
+use Rattle.dr_machine.specs.{Group.{Group, banks, roster}, declared.step.Step.Step}
+use Rattle.dr_program.specs.{Form.IsOf, Replica.{Replica, greatest, joined, me}, Running.{Running, took_letter}}
 use Rattle.dr_program.specs.Steps.{stepped}
-use Rattle.dr_program.specs.Form.{IsOf}
-use Rattle.dr_program.specs.Running.{Running, took_letter}
 
 -- what a replica was told as its age opened
 pub record Told : Type 0 where

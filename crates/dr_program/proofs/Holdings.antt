@@ -1,22 +1,13 @@
 -- The world by members: what it has of each of them, and the table.
+use Rattle.std.{specs.Prelude.{Option, Some, None, take, nat_lt}, proofs.{Math.Path.fun_ext, lemmas.Bool.cases_eq}}
 use Rattle.std.proofs.Common.{◌≡◌, ◌≢◌, refl, sym, ◌∙◌, ℕ, ◌<◌, ◌==◌, inl, inr, List, length, if◌then◌else◌}
-use Rattle.std.proofs.Math.Path.{fun_ext}
-use Rattle.std.specs.Prelude.{Option, Some, None, take, nat_lt}
-use Rattle.std.proofs.lemmas.Bool.{cases_eq}
-use Rattle.dr_entry.specs.declared.entry.Entry.{Entry}
-use Rattle.dr_entry.specs.declared.entry.Item.{Item}
-use Rattle.dr_entry.specs.declared.entry.Item.TheVariants.{Null}
-use Rattle.dr_entry.specs.declared.end.End.{End}
-use Rattle.dr_entry.specs.declared.end.SentItem.{SentItem}
-use Rattle.dr_entry.specs.declared.record.Value.{Value}
-use Rattle.dr_entry.specs.declared.record.Vote.{Vote}
+use Rattle.dr_entry.specs.declared.{end.{End.End, SentItem.SentItem}, entry.{Entry.Entry, Item.Item}}
+use Rattle.dr_entry.specs.{declared.entry.Item.TheVariants.Null, declared.record.{Value.Value, Vote.Vote}}
 use Rattle.dr_rows.specs.Words.{own, seen}
-use Rattle.dr_machine.specs.Group.{Group, roster}
-use Rattle.dr_machine.specs.World.{World, opening_world}
-use Rattle.dr_program.specs.Replica.{Replica, me, count, item, promise}
+use Rattle.dr_machine.specs.{Group.{Group, roster}, World.{World, opening_world}}
 use Rattle.dr_program.specs.Presence.{present_at, with_present}
-use Rattle.dr_program.proofs.Present.{present_kept, present_set}
 use Rattle.dr_program.specs.Reading.{Shared, letters_of, world_of, word_of, in_view, kept_count, kept_word, left_in}
+use Rattle.dr_program.{specs.Replica.{Replica, me, count, item, promise}, proofs.Present.{present_kept, present_set}}
 
 -- all that the world has of one member
 pub record Holding : Type 0 where
@@ -107,41 +98,38 @@ gathered h table letter = record {
 }
 
 -- worlds in which each member has the same, with the same table and letters, are one
-pub same_worlds : (w v : World) → ((m : ℕ) → held w m ≡ held v m) → w.table ≡ v.table
-    → w.letter ≡ v.letter → w ≡ v
+pub same_worlds : (w v : World) → ((m : ℕ) → held w m ≡ held v m) → w.table ≡ v.table → w.letter ≡ v.letter → w ≡ v
 same_worlds w v members table letter =
-    let holdings : held w ≡ held v = fun_ext members in
-    λ z. gathered (holdings z) (table z) (letter z)
+    let holdings : held w ≡ held v = fun_ext members in λ z. gathered (holdings z) (table z) (letter z)
 
 -- what replica r has
 abbrev pub holding_of : Group → Replica → Holding
-holding_of g r =
-    record {
-      view = r.view;
-      own = λ v c. in_view r v (own r.rows c) (kept_word r v c);
-      count = λ v s. in_view r v (count r s) (kept_count r v s);
-      item = λ s k. if nat_lt s (roster g) then item r s k else Null;
-      sent = λ v. in_view r v r.sent (left_in r v).sent;
-      history = r.history;
-      log = take r.logged r.history;
-      votes = r.votes;
-      durable = r.durable;
-      acts = r.acts;
-      members = r.members;
-      came_from = r.came_from;
-      given = r.given;
-      suspects = r.suspects;
-      promise = promise r;
-      tag = r.tag;
-      value = r.value;
-      committed = r.committed;
-      pending = r.pending;
-      next = r.next;
-      base = r.base;
-      seen = λ i c. if i == me r then 0 else seen r.rows i c;
-      turns = r.turns;
-      end = r.end;
-    }
+holding_of g r = record {
+  view = r.view;
+  own = λ v c. in_view r v (own r.rows c) (kept_word r v c);
+  count = λ v s. in_view r v (count r s) (kept_count r v s);
+  item = λ s k. if nat_lt s (roster g) then item r s k else Null;
+  sent = λ v. in_view r v r.sent (left_in r v).sent;
+  history = r.history;
+  log = take r.logged r.history;
+  votes = r.votes;
+  durable = r.durable;
+  acts = r.acts;
+  members = r.members;
+  came_from = r.came_from;
+  given = r.given;
+  suspects = r.suspects;
+  promise = promise r;
+  tag = r.tag;
+  value = r.value;
+  committed = r.committed;
+  pending = r.pending;
+  next = r.next;
+  base = r.base;
+  seen = λ i c. if i == me r then 0 else seen r.rows i c;
+  turns = r.turns;
+  end = r.end;
+}
 
 -- the world has of a member what its replica has
 pub held_of : (g : Group) (rs : List (Option Replica)) (table : Shared) (m : ℕ) (r : Replica)
@@ -165,13 +153,11 @@ pub record Changes (w v : World) (m : ℕ) (after : Holding) : Type 0 where
 
 -- where one replica is replaced, the world is the one in which it alone is changed
 pub changed_world : (g : Group) (rs : List (Option Replica)) (table cells : Shared) (m : ℕ) (r : Replica)
-    (v : World) → m < length rs
-    → Changes (world_of g rs table) v m (holding_of g r) → word_of g cells.words ≡ v.table
+    (v : World) → m < length rs → Changes (world_of g rs table) v m (holding_of g r) → word_of g cells.words ≡ v.table
     → letters_of cells.letters ≡ v.letter → world_of g (with_present rs m r) cells ≡ v
 changed_world g rs table cells m r v within changes cell letter =
     same_worlds (world_of g (with_present rs m r) cells) v (λ k. elim (cases_eq k m) [
-      | inl same ↦ rw same (held_of g (with_present rs m r) cells m r (present_set rs m r within)
-          ∙ sym changes.here)
+      | inl same ↦ rw same (held_of g (with_present rs m r) cells m r (present_set rs m r within) ∙ sym changes.here)
       | inr other ↦ held_same g (with_present rs m r) rs cells table k (present_kept rs m k r other)
           ∙ sym (changes.others k other)
     ]) cell letter

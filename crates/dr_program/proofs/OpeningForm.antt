@@ -1,38 +1,24 @@
 -- The members of a program as its age opens have their form.
-use Rattle.std.proofs.Common.{◌≡◌, ◌≢◌, refl, sym, ap, ◌∙◌, subst, ℕ, zero, ◌+◌, ◌-◌, ◌*◌, ◌<◌, ◌≤◌, inl, false, true, ◌||◌, Bool, List, [], ◌∷◌, length, map, if◌then◌else◌, arith, length-append}
 use Rattle.std.specs.Prelude.{Option, Some, None, option_map}
-use Rattle.std.proofs.lemmas.List.{length-replicate}
-use Rattle.std.proofs.lemmas.Option.{same_Some}
-use Rattle.dr_entry.specs.declared.entry.Entry.TheVariants.{View}
+use Rattle.std.proofs.Common.{◌≡◌, ◌≢◌, refl, sym, ap, ◌∙◌, subst, ℕ, zero, ◌+◌, ◌-◌, ◌*◌, ◌<◌, ◌≤◌, inl, false, true, ◌||◌, Bool, List, [], ◌∷◌, length, map, if◌then◌else◌, arith, length-append}
+use Rattle.std.proofs.lemmas.{List.length-replicate, Option.same_Some}
+use Rattle.dr_entry.{specs.declared.entry.Entry.TheVariants.View, proofs.ListPlaces.{copy_at, greatest_within}}
 use Rattle.dr_entry.proofs.NumberFacts.{other_number, product_within}
-use Rattle.dr_entry.proofs.ListPlaces.{copy_at, greatest_within}
-use Rattle.dr_history.specs.Members.{has, members_of}
-use Rattle.dr_history.specs.Places.{first}
-use Rattle.dr_history.proofs.Bits.{has_zero}
-use Rattle.dr_history.proofs.MemberLemmas.{few_members}
-use Rattle.dr_history.proofs.Places.{front_of_none}
-use Rattle.dr_rows.specs.Words.{begun, own}
-use Rattle.dr_rows.proofs.WordsLemmas.{IsWords-begun, IsWords-looked, IsFresh-begun}
+use Rattle.dr_history.{specs.{Members.{has, members_of}, Places.first}, proofs.Bits.has_zero}
+use Rattle.dr_history.proofs.{MemberLemmas.few_members, Places.front_of_none}
+use Rattle.dr_rows.{specs.Words.{begun, own}, proofs.WordsLemmas.{IsWords-begun, IsWords-looked, IsFresh-begun}}
+use Rattle.dr_words.{specs.Columns.{columns_of, recv_column}, proofs.{Layouts.first_in_form, Masks.some_of}}
+use Rattle.dr_words.specs.{Packing.{accept_promise, accept_tag, accept_value, recv_word}, declared.shape.Shape.Shape}
 use Rattle.dr_words.specs.declared.column.TheConstants.{LOGGED_COLUMN, RECEIVED_COLUMN, SUSPECTED_COLUMN}
-use Rattle.dr_words.specs.declared.shape.Shape.{Shape}
-use Rattle.dr_words.specs.Columns.{columns_of, recv_column}
-use Rattle.dr_words.specs.Packing.{accept_promise, accept_tag, accept_value, recv_word}
 use Rattle.dr_ring.specs.Slots.{slot_column}
-use Rattle.dr_program.specs.declared.setup.Setup.{Setup}
-use Rattle.dr_history_laws.proofs.Lengths.{start-short}
-use Rattle.dr_words.proofs.Layouts.{first_in_form}
-use Rattle.dr_words.proofs.Masks.{some_of}
-use Rattle.dr_machine.specs.Group.{Group, IsGroup, IsPresent, roster}
-use Rattle.dr_machine.proofs.Groups.{IsShape, base_within, totals_of, first_of_roster, late_of_roster, late_apart, first_or_late}
-use Rattle.dr_machine.proofs.Worlds.{no_part}
+use Rattle.dr_program.specs.{Form.{CanBegin, HasForm, IsOf, IsRunningMember}, declared.setup.Setup.Setup}
+use Rattle.dr_program.specs.{Presence.present_at, Running.begun_running}
+use Rattle.dr_program.{specs.Program.{IsSetup, AreSetups}, proofs.Opening.{first_own, setup_of, setup_is, shape_is}}
 use Rattle.dr_program.specs.Replica.{Replica, begun_replica, first_entries_of, count, greatest, members_in_view}
-use Rattle.dr_program.specs.Running.{begun_running}
-use Rattle.dr_program.specs.Program.{IsSetup, AreSetups}
-use Rattle.dr_program.specs.Form.{CanBegin, HasForm, IsOf, IsRunningMember}
-use Rattle.dr_program.proofs.Opening.{first_own, setup_of, setup_is, shape_is}
-use Rattle.dr_program.proofs.Programs.{with_one_turn}
-use Rattle.dr_program.proofs.Present.{present_map, present_within}
-use Rattle.dr_program.specs.Presence.{present_at}
+use Rattle.dr_program.proofs.{Present.{present_map, present_within}, Programs.with_one_turn}
+use Rattle.dr_history_laws.proofs.Lengths.{start-short}
+use Rattle.dr_machine.{specs.Group.{Group, IsGroup, IsPresent, roster}, proofs.Worlds.no_part}
+use Rattle.dr_machine.proofs.Groups.{IsShape, base_within, totals_of, first_of_roster, late_of_roster, late_apart, first_or_late}
 
 -- ---- the words
 
@@ -156,8 +142,7 @@ setups_can_begin g limit m shape told is of there = record {
 
 -- a member can begin with its setup
 pub can_begin : (g : Group) (limit m : ℕ) (s : Setup) → IsGroup g → IsSetup g limit m s → CanBegin s
-can_begin g limit m s is setup =
-    rw (setup_is g limit m s setup)
+can_begin g limit m s is setup = rw (setup_is g limit m s setup)
     (setups_can_begin g limit m s.shape s is (shape_is g limit m s setup) setup.present)
 
 begun_form : (g : Group) (limit m : ℕ) (shape : Shape) (told : Setup) → IsGroup g → IsShape g shape
@@ -194,8 +179,7 @@ begun_runs g limit m shape told is of there some = record {
 
 -- and begins in form
 pub begins_in_form : (g : Group) (limit m : ℕ) (s : Setup) → IsGroup g → 1 ≤ limit
-    → IsSetup g limit m s → IsRunningMember (begun_running s)
-    × IsOf g m (begun_running s).replica
+    → IsSetup g limit m s → IsRunningMember (begun_running s) × IsOf g m (begun_running s).replica
 begins_in_form g limit m s is some setup =
     let shape = shape_is g limit m s setup in
     rw (setup_is g limit m s setup) (
@@ -210,14 +194,12 @@ someone s can = some_of s.members s.shape.members can.roster s.shape.most_member
 pub begins : (g : Group) (limit m : ℕ) (s : Setup) → IsGroup g → IsSetup g limit m s → m < roster g
     → HasForm (begun_replica s) × IsOf g m (begun_replica s)
 begins g limit m s is setup within =
-    let begun = begins_in_form g 1 m (record s { turns = 1 }) is (omega arith)
-    (with_one_turn g limit m s setup) in
+    let begun = begins_in_form g 1 m (record s { turns = 1 }) is (omega arith) (with_one_turn g limit m s setup) in
     (begun.0.replica, begun.1)
 
 -- each replica has begun with the setup of its number
 pub begun_at : (g : Group) (limit : ℕ) (setups : List (Option Setup)) → AreSetups g limit setups
-    → (P : Replica → Type 0) (m : ℕ) (r : Replica)
-    → present_at (map (option_map begun_replica) setups) m ≡ Some r
+    → (P : Replica → Type 0) (m : ℕ) (r : Replica) → present_at (map (option_map begun_replica) setups) m ≡ Some r
     → ((s : Setup) → IsSetup g limit m s → m < roster g → P (begun_replica s)) → P r
 begun_at g limit setups are P m r there begins =
     by (present_at setups m) refl (sym (present_map begun_replica setups m) ∙ there)

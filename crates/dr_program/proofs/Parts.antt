@@ -1,20 +1,14 @@
 -- Parts of a turn, by what they do.
+use Rattle.std.specs.{Option.{option_map, option_or}, Prelude.{Option, Some, None, unwrap_or, is_some}}
 use Rattle.std.proofs.Common.{◌≡◌, refl, ℕ, if◌then◌else◌, Bool, true, false, ◌⊎◌, inl, inr, ap, arith, ◌+◌, nat_lt, length}
-use Rattle.std.specs.Prelude.{Option, Some, None, unwrap_or, is_some}
-use Rattle.std.specs.Option.{option_map, option_or}
 use Rattle.dr_entry.specs.declared.end.End.{End}
 use Rattle.dr_entry.specs.declared.end.End.TheVariants as ends
 use Rattle.dr_machine.specs.declared.event.Act.TheVariants as acts
 use Rattle.dr_machine.specs.declared.step.Step.{Step}
-use Rattle.dr_program.specs.Acts.{taken, is_outside_act}
-use Rattle.dr_program.specs.Replica.{Replica}
-use Rattle.dr_program.specs.declared.outcome.LogWhy.{LogWhy}
-use Rattle.dr_program.specs.declared.place.Part.{Part}
+use Rattle.dr_program.specs.{Acts.{taken, is_outside_act}, Replica.Replica, Running.columns}
+use Rattle.dr_program.specs.{Turn.{IsIn, columns_in, part_of, rows_in}, declared.outcome.LogWhy.LogWhy}
+use Rattle.dr_program.specs.declared.place.{Part.Part, Place.Place, TheConstants.TURN}
 use Rattle.dr_program.specs.declared.place.Part.TheVariants as parts
-use Rattle.dr_program.specs.declared.place.Place.{Place}
-use Rattle.dr_program.specs.Turn.{IsIn, columns_in, part_of, rows_in}
-use Rattle.dr_program.specs.Running.{columns}
-use Rattle.dr_program.specs.declared.place.TheConstants.{TURN}
 use Rattle.dr_program.specs.declared.deed.Deed.TheVariants as deeds
 
 -- the replica as its member has ended

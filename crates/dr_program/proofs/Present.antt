@@ -1,26 +1,18 @@
 -- What stands at the places of members.
-use Rattle.std.proofs.Common.{◌≡◌, ◌≢◌, ◌⊎◌, refl, ap, ◌∙◌, subst, ℕ, zero, suc, ◌<◌, ◌≤◌, inl, inr, List, [], ◌∷◌, length, map, ◌+◌, ◌++◌, sym, true, Bool, not, false, arith, get_or, true≢false, take, drop, ◌-◌, replicate}
-use Rattle.std.specs.Prelude.{IsTrue, Option, Some, None, is_some, option_map, slice_get, slice_set}
-use Rattle.std.proofs.lemmas.Bool.{cases_lt, cases_eq}
-use Rattle.std.proofs.lemmas.List.{get_or-set_same, get_or-set_other, get_or_default, get_or_past, get_or_append_left, get_or_push, set-get_or, ext_get_or}
-use Rattle.std.proofs.lemmas.Option.{get_or_from_slice_get, slice_get-get_or, same_Some}
 use Rattle.std.specs.List.{range_with_len}
-use Rattle.dr_entry.proofs.ListParts.{none_pass}
-use Rattle.dr_entry.specs.declared.entry.Entry.{Entry}
-use Rattle.dr_entry.specs.declared.end.End.{End}
+use Rattle.std.specs.Prelude.{IsTrue, Option, Some, None, is_some, option_map, slice_get, slice_set}
+use Rattle.std.proofs.Common.{◌≡◌, ◌≢◌, ◌⊎◌, refl, ap, ◌∙◌, subst, ℕ, zero, suc, ◌<◌, ◌≤◌, inl, inr, List, [], ◌∷◌, length, map, ◌+◌, ◌++◌, sym, true, Bool, not, false, arith, get_or, true≢false, take, drop, ◌-◌, replicate}
+use Rattle.std.proofs.lemmas.{Bool.{cases_lt, cases_eq}, Option.{get_or_from_slice_get, slice_get-get_or, same_Some}}
+use Rattle.std.proofs.lemmas.List.{get_or-set_same, get_or-set_other, get_or_default, get_or_past, get_or_append_left, get_or_push, set-get_or, ext_get_or}
+use Rattle.dr_entry.{specs.declared.{end.End.End, entry.Entry.Entry}, proofs.ListParts.none_pass}
 use Rattle.dr_machine.specs.Group.{Group, IsPresent}
-use Rattle.dr_program.specs.Presence.{present_at, with_present}
+use Rattle.dr_program.specs.{Presence.{present_at, with_present}, Running.{Running, begun_running, next_step}}
 use Rattle.dr_program.specs.Program.{AllEnded, Program, has_ended, AreSetups, begun_program, Move, after_deed, letter_for, moved_by, next_sight, step_of, went}
-use Rattle.dr_program.specs.Running.{Running, begun_running, next_step}
-use Rattle.dr_program.proofs.RunningPrograms.{IsFresh}
-use Rattle.dr_program.proofs.Programs.{fresh, goes}
-use Rattle.dr_program.specs.declared.setup.Setup.{Setup}
-use Rattle.dr_program.specs.Replica.{Replica}
-use Rattle.dr_program.specs.Schedule.{going, TakeTurns, Rounds}
+use Rattle.dr_program.specs.{Replica.Replica, Schedule.{going, TakeTurns, Rounds}, declared.setup.Setup.Setup}
+use Rattle.dr_program.proofs.{Programs.{fresh, goes}, RunningPrograms.IsFresh}
 
 -- a member that stands there has a place
-pub present_within : {X : Type 0} (xs : List (Option X)) (m : ℕ) (x : X) → present_at xs m ≡ Some x
-    → m < length xs
+pub present_within : {X : Type 0} (xs : List (Option X)) (m : ℕ) (x : X) → present_at xs m ≡ Some x → m < length xs
 present_within xs m x there = by (cases_lt m (length xs))
   where
     by : (m < length xs) ⊎ (length xs ≤ m) → m < length xs
@@ -71,8 +63,7 @@ all_ended p each k d within = subst (λ (x : Option Running). IsTrue (has_ended 
 
 -- one place more: the others are as before
 pub each_more : (P : ℕ → Setup → Type 0) (xs : List (Option Setup)) (o : Option Setup)
-    → ((m : ℕ) (s : Setup) → present_at xs m ≡ Some s → P m s)
-    → ((s : Setup) → o ≡ Some s → P (length xs) s)
+    → ((m : ℕ) (s : Setup) → present_at xs m ≡ Some s → P m s) → ((s : Setup) → o ≡ Some s → P (length xs) s)
     → (m : ℕ) (s : Setup) → present_at (xs ++ o ∷ []) m ≡ Some s → P m s
 each_more P [] o old new zero s e = new s e
 each_more P [] o old new (suc m) s e = absurd (cc)
@@ -81,8 +72,7 @@ each_more P (x ∷ xs) o old new (suc m) s e = each_more (λ k. P (suc k)) xs o 
 
 pub still_there : (xs : List (Option Setup)) (o : Option Setup) (m : ℕ) (s : Setup) → present_at xs m ≡ Some s
     → present_at (xs ++ o ∷ []) m ≡ Some s
-still_there xs o m s there =
-    get_or_append_left xs (o ∷ []) None m (present_within xs m s there) ∙ there
+still_there xs o m s there = get_or_append_left xs (o ∷ []) None m (present_within xs m s there) ∙ there
 
 pub last_there : (xs : List (Option Setup)) (o : Option Setup) (n : ℕ) → length xs ≡ n
     → present_at (xs ++ o ∷ []) n ≡ o
@@ -94,20 +84,17 @@ pub record MayGet (g : Group) (letters : List (Option (List Entry))) (j : ℕ) :
   pub within : j < length letters
 
 pub set_cases : (rs : List (Option Replica)) (m k : ℕ) (q x : Replica) → m < length rs
-    → present_at (with_present rs m q) k ≡ Some x
-    → ((k ≡ m) × (q ≡ x)) ⊎ (present_at rs k ≡ Some x)
+    → present_at (with_present rs m q) k ≡ Some x → ((k ≡ m) × (q ≡ x)) ⊎ (present_at rs k ≡ Some x)
 set_cases rs m k q x within there = elim (cases_eq k m) [
   | inl same ↦ inl (
     same,
-    same_Some q x (sym (present_set rs m q within) ∙ ap (present_at (with_present rs m q)) (sym same)
-        ∙ there),
+    same_Some q x (sym (present_set rs m q within) ∙ ap (present_at (with_present rs m q)) (sym same) ∙ there),
   )
   | inr other ↦ inr (sym (present_kept rs m k q other) ∙ there)
 ]
 
 pub begun_fresh : (g : Group) (limit : ℕ) (setups : List (Option Setup)) (m : ℕ) (r : Running)
-    → AreSetups g limit setups
-    → present_at (begun_program g setups).members m ≡ Some r → IsPresent g m × IsFresh g r
+    → AreSetups g limit setups → present_at (begun_program g setups).members m ≡ Some r → IsPresent g m × IsFresh g r
 begun_fresh g limit setups m r are there = by (present_at setups m) refl
     (sym (present_map begun_running setups m) ∙ there)
   where
@@ -122,8 +109,7 @@ begun_fresh g limit setups m r are there = by (present_at setups m) refl
 -- where each member has ended, all have
 pub each_ended : (p : Program)
     → ((k : ℕ) → k < length p.members → has_ended (present_at p.members k) ≡ true) → AllEnded p
-each_ended p each = all_ended p (λ m r there.
-    sym (ap has_ended there) ∙ each m (present_within p.members m r there))
+each_ended p each = all_ended p (λ m r there. sym (ap has_ended there) ∙ each m (present_within p.members m r there))
 
 -- where nobody is left to be chosen, all have ended
 pub nobody_goes : (p : Program) → length (going p) ≡ 0 → AllEnded p
@@ -138,8 +124,7 @@ pub others_go : (p : Program) (e : Move) (k : ℕ) → k ≢ e.member → goes (
 others_go p e k other = by (present_at p.members e.member)
   where
     at : (r : Running) (o : Option End) → goes (went p r e o) k ≡ goes p k
-    at r None = ap (λ o. not (has_ended o))
-        (present_kept p.members e.member k
+    at r None = ap (λ o. not (has_ended o)) (present_kept p.members e.member k
         (after_deed (next_sight p.table r) (letter_for p e.member) e.outcome r (next_step r)) other)
     at r (Some end) = refl
 
@@ -161,8 +146,7 @@ ended_at p m all = by (present_at p.members m) refl
     by (Some r) there = ap has_ended there ∙ ended_there p m r all there
 
 -- such a program rests
-rest_turns : (ms : List ℕ) (p : Program) (es : List Move) (q : Program) → AllEnded p → TakeTurns ms p es q
-    → q ≡ p
+rest_turns : (ms : List ℕ) (p : Program) (es : List Move) (q : Program) → AllEnded p → TakeTurns ms p es q → q ≡ p
 rest_turns [] p es q all turns = turns.1
 rest_turns (m ∷ ms) p es q all (turn, rest, mid, both, inl over, more) =
     rest_turns ms mid rest q (subst AllEnded (sym over.2) all) more ∙ over.2
@@ -251,8 +235,7 @@ pub place_drop : {X : Type 0} (n : ℕ) (xs : List (Option X)) (i : ℕ)
 place_drop zero xs i = let same : i ≡ 0 + i = omega arith in ap (present_at xs) same
 place_drop (suc n) [] i = refl
 place_drop (suc n) (y ∷ ys) i =
-    let same : suc (n + i) ≡ suc n + i = omega arith in
-    place_drop n ys i ∙ ap (present_at (y ∷ ys)) same
+    let same : suc (n + i) ≡ suc n + i = omega arith in place_drop n ys i ∙ ap (present_at (y ∷ ys)) same
 
 pub each_drop : (P : Running → Type 0) (n : ℕ) (rs : List (Option Running)) → Each P rs → Each P (drop n rs)
 each_drop P n rs each k r there = each (n + k) r (sym (place_drop n rs k) ∙ there)
@@ -316,8 +299,7 @@ pub same_places : {X : Type 0} (xs ys : List (Option X)) → length xs ≡ lengt
 same_places {X} xs ys long filled same =
     ext_get_or None xs ys long (λ m within. by m (present_at xs m) (present_at ys m) refl refl)
   where
-    by : (m : ℕ) (o q : Option X) → present_at xs m ≡ o → present_at ys m ≡ q
-        → present_at xs m ≡ present_at ys m
+    by : (m : ℕ) (o q : Option X) → present_at xs m ≡ o → present_at ys m ≡ q → present_at xs m ≡ present_at ys m
     by m None None here there = here ∙ sym there
     by m (Some x) (Some y) here there = here ∙ ap Some (same m x y here there) ∙ sym there
     by m (Some x) None here there = absurd (cc (filled m, ap is_some here, ap is_some there))
@@ -357,8 +339,7 @@ filled_behind [] us [] vs e a b k = b k
 filled_behind [] us (z ∷ zs) vs e a b k = absurd (omega arith)
 filled_behind (w ∷ ws) us [] vs e a b k = absurd (omega arith)
 filled_behind (w ∷ ws) us (z ∷ zs) vs e a b zero = a zero
-filled_behind (w ∷ ws) us (z ∷ zs) vs e a b (suc k) =
-    filled_behind ws us zs vs (omega arith) (λ j. a (suc j)) b k
+filled_behind (w ∷ ws) us (z ∷ zs) vs e a b (suc k) = filled_behind ws us zs vs (omega arith) (λ j. a (suc j)) b k
 
 -- what stands at a place of the first places stands there
 pub at_first : {X : Type 0} (n : ℕ) (xs : List (Option X)) (k : ℕ) (x : X) → present_at (take n xs) k ≡ Some x
@@ -376,8 +357,7 @@ filled_first (suc n) [] [] e same k = refl
 filled_first (suc n) [] (z ∷ zs) e same k = absurd (omega arith)
 filled_first (suc n) (w ∷ ws) [] e same k = absurd (omega arith)
 filled_first (suc n) (w ∷ ws) (z ∷ zs) e same zero = same zero
-filled_first (suc n) (w ∷ ws) (z ∷ zs) e same (suc k) =
-    filled_first n ws zs (omega arith) (λ j. same (suc j)) k
+filled_first (suc n) (w ∷ ws) (z ∷ zs) e same (suc k) = filled_first n ws zs (omega arith) (λ j. same (suc j)) k
 
 -- the one place of a list
 pub only : {X : Type 0} (xs : List (Option X)) (k : ℕ) (x : X) → length xs ≡ 1 → present_at xs k ≡ Some x → k ≡ 0

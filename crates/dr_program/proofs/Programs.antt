@@ -1,52 +1,32 @@
 -- Programs of members, and the turns by which they go on.
-use Rattle.std.proofs.Common.{◌≡◌, ℕ, ◌+◌, List, [], ◌∷◌, length, refl, arith, ◌++◌, ap, ◌∙◌, Bool, not, ◌<◌, false, slice_index, cond, sym, true, append-nil, subst, ◌/◌, ◌^◌, zero, suc, inl, inr, ◌≤◌}
+use Rattle.std.{specs.List.{range_with_len, filter}, proofs.lemmas.List.{get_or_past, Elements.filter-append}}
 use Rattle.std.specs.Prelude.{unwrap_or, Option, All, replicate, slice_index_or, None}
-use Rattle.std.specs.List.{range_with_len, filter}
-use Rattle.std.proofs.lemmas.List.Elements.{filter-append}
-use Rattle.std.proofs.lemmas.List.{get_or_past}
-use Rattle.dr_entry.proofs.BoolFacts.{not_so}
-use Rattle.dr_entry.proofs.ListPlaces.{passes}
-use Rattle.dr_entry.proofs.ListFacts.{count_more}
-use Rattle.dr_entry.proofs.NumberFacts.{below_some}
-use Rattle.dr_entry.specs.declared.end.ViewSent.{ViewSent}
-use Rattle.dr_entry.specs.declared.end.End.{End}
-use Rattle.dr_entry.specs.declared.end.End.TheVariants.{Done}
-use Rattle.dr_entry.specs.declared.entry.Entry.{Entry}
-use Rattle.dr_entry.specs.declared.entry.Entry.TheVariants.{View}
-use Rattle.dr_machine.specs.Group.{Group, banks}
-use Rattle.dr_machine.specs.declared.step.Step.{Step}
-use Rattle.dr_machine.specs.declared.step.Step.TheVariants.{Append, LogVote}
-use Rattle.dr_program.proofs.RunningPrograms.{IsFresh}
-use Rattle.dr_program.proofs.Schedules.{IsChoice}
+use Rattle.std.proofs.Common.{◌≡◌, ℕ, ◌+◌, List, [], ◌∷◌, length, refl, arith, ◌++◌, ap, ◌∙◌, Bool, not, ◌<◌, false, slice_index, cond, sym, true, append-nil, subst, ◌/◌, ◌^◌, zero, suc, inl, inr, ◌≤◌}
+use Rattle.dr_entry.specs.declared.{end.{End.{End, TheVariants.Done}, ViewSent.ViewSent}, entry.Entry.Entry}
+use Rattle.dr_entry.{specs.declared.entry.Entry.TheVariants.View, proofs.{BoolFacts.not_so, ListFacts.count_more}}
+use Rattle.dr_entry.proofs.{ListPlaces.passes, NumberFacts.below_some}
+use Rattle.dr_machine.specs.{Group.{Group, banks}, declared.step.Step.{Step, TheVariants.{Append, LogVote}}}
+use Rattle.dr_program.specs.{Presence.present_at, Schedule.{next_state, AreChosen, going, choice_of, TakesTurn}}
 use Rattle.dr_program.specs.Program.{sent_before, member_end, IsSetup, after_deed, appended_as, Move, Program, ran, step_of, has_ended, AllOk, ok, IsRanFrom}
-use Rattle.dr_program.specs.Replica.{LeftView, Replica}
-use Rattle.dr_program.specs.declared.setup.Setup.{Setup}
-use Rattle.dr_program.specs.declared.outcome.Outcome.{Outcome}
-use Rattle.dr_program.specs.Running.{Running, begun_running}
-use Rattle.dr_program.specs.Steps.{IsAppend}
-use Rattle.dr_program.specs.Schedule.{next_state, AreChosen, going, choice_of, TakesTurn}
-use Rattle.dr_program.specs.Presence.{present_at}
-use Rattle.dr_program.specs.declared.outcome.Outcome.TheVariants.{Ok}
+use Rattle.dr_program.{specs.{Replica.{LeftView, Replica}, declared.setup.Setup.Setup}, proofs.Schedules.IsChoice}
+use Rattle.dr_program.specs.{Running.{Running, begun_running}, declared.outcome.Outcome.{Outcome, TheVariants.Ok}}
+use Rattle.dr_program.{specs.Steps.IsAppend, proofs.RunningPrograms.IsFresh}
 
 -- there is a list of what was put for each view that was left, and for one view more there is one more
 pub sent_before_long : (v : ℕ) (ls : List LeftView) → length (sent_before v ls) ≡ length ls
 sent_before_long v [] = refl
 sent_before_long v (l ∷ ls) = omega (arith, sent_before_long (v + 1) ls)
 
-pub sent_before_more : (v : ℕ) (ls : List LeftView) (l : LeftView)
-    → sent_before v (ls ++ l ∷ []) ≡ sent_before v ls
+pub sent_before_more : (v : ℕ) (ls : List LeftView) (l : LeftView) → sent_before v (ls ++ l ∷ []) ≡ sent_before v ls
     ++ record { number = v + length ls; items = l.sent } ∷ []
 sent_before_more v [] l = ap (λ (n : ℕ). record { number = n; items = l.sent } ∷ []) (omega arith)
-sent_before_more v (k ∷ ls) l =
-    ap (λ (x : List ViewSent). record { number = v; items = k.sent } ∷ x) (sent_before_more (v + 1) ls l)
-    ∙ ap (λ (n : ℕ). record { number = v; items = k.sent }
+sent_before_more v (k ∷ ls) l = ap (λ (x : List ViewSent). record { number = v; items = k.sent } ∷ x)
+    (sent_before_more (v + 1) ls l) ∙ ap (λ (n : ℕ). record { number = v; items = k.sent }
     ∷ (sent_before (v + 1) ls ++ record { number = n; items = l.sent } ∷ [])) (omega arith)
 
 -- a member's end is told by its parts
-pub end_told : (r : Replica) (end : End) (sent : List ViewSent) (history : List Entry)
-    → end ≡ unwrap_or r.end Done → sent ≡ sent_before 0 r.left
-    ++ record { number = r.view; items = r.sent } ∷ []
-    → history ≡ r.history → record {
+pub end_told : (r : Replica) (end : End) (sent : List ViewSent) (history : List Entry) → end ≡ unwrap_or r.end Done
+    → sent ≡ sent_before 0 r.left ++ record { number = r.view; items = r.sent } ∷ [] → history ≡ r.history → record {
       end = end;
       turns = r.turns;
       sent = sent;
@@ -94,8 +74,7 @@ unfoldable pub state_after : ℕ → List Move → ℕ
 state_after x [] = x
 state_after x (e ∷ es) = state_after (next_state x) es
 
-pub state_more : (x : ℕ) (es : List Move) (e : Move) → state_after x (es ++ e ∷ [])
-    ≡ next_state (state_after x es)
+pub state_more : (x : ℕ) (es : List Move) (e : Move) → state_after x (es ++ e ∷ []) ≡ next_state (state_after x es)
 unfolding state_after
 state_more x [] e = refl
 state_more x (k ∷ ks) e = state_more (next_state x) ks e
@@ -104,8 +83,7 @@ pub chosen_more : (x : ℕ) (p : Program) (es : List Move) (e : Move) → AreCho
     → IsChoice (state_after x es) (ran p es) e.member → AreChosen x p (es ++ e ∷ [])
 unfolding state_after ran
 chosen_more x p [] e are next = (next.some, next.choice, tt)
-chosen_more x p (k ∷ ks) e are next =
-    (are.0, are.1, chosen_more (next_state x) (step_of p k) ks e are.2 next)
+chosen_more x p (k ∷ ks) e are next = (are.0, are.1, chosen_more (next_state x) (step_of p k) ks e are.2 next)
 
 -- member m goes on
 abbrev pub goes : Program → ℕ → Bool
@@ -119,26 +97,19 @@ chosen_goes p j within = not_so _ (passes (goes p) (range_with_len 0 (length p.m
 -- the list of them, as it is made
 going_more : (p : Program) (m : ℕ) → filter (goes p) (range_with_len 0 (m + 1))
     ≡ filter (goes p) (range_with_len 0 m) ++ cond (goes p m) (m ∷ []) []
-going_more p m = ap (filter (goes p)) (count_more m)
-    ∙ filter-append (goes p) (range_with_len 0 m) (m ∷ [])
+going_more p m = ap (filter (goes p)) (count_more m) ∙ filter-append (goes p) (range_with_len 0 m) (m ∷ [])
 
 -- a member that has not ended is found behind those before it
 pub found_one : (p : Program) (m : ℕ) (xs ys : List ℕ) → xs ≡ filter (goes p) (range_with_len 0 m)
-    → has_ended (present_at p.members m) ≡ false → ys ≡ xs ++ m ∷ []
-    → ys ≡ filter (goes p) (range_with_len 0 (m + 1))
-found_one p m xs ys found going more =
-    more ∙ ap (λ zs. zs ++ m ∷ []) found
-    ∙ sym (going_more p m ∙ ap (λ b. filter (goes p) (range_with_len 0 m)
-    ++ cond (not b) (m ∷ []) []) going)
+    → has_ended (present_at p.members m) ≡ false → ys ≡ xs ++ m ∷ [] → ys ≡ filter (goes p) (range_with_len 0 (m + 1))
+found_one p m xs ys found going more = more ∙ ap (λ zs. zs ++ m ∷ []) found
+    ∙ sym (going_more p m ∙ ap (λ b. filter (goes p) (range_with_len 0 m) ++ cond (not b) (m ∷ []) []) going)
 
 -- a member that has ended is not found
 pub found_none : (p : Program) (m : ℕ) (xs : List ℕ) → xs ≡ filter (goes p) (range_with_len 0 m)
-    → has_ended (present_at p.members m) ≡ true
-    → xs ≡ filter (goes p) (range_with_len 0 (m + 1))
-found_none p m xs found ended =
-    found ∙ sym (append-nil (filter (goes p) (range_with_len 0 m)))
-    ∙ sym (going_more p m ∙ ap (λ b. filter (goes p) (range_with_len 0 m)
-    ++ cond (not b) (m ∷ []) []) ended)
+    → has_ended (present_at p.members m) ≡ true → xs ≡ filter (goes p) (range_with_len 0 (m + 1))
+found_none p m xs found ended = found ∙ sym (append-nil (filter (goes p) (range_with_len 0 m)))
+    ∙ sym (going_more p m ∙ ap (λ b. filter (goes p) (range_with_len 0 m) ++ cond (not b) (m ∷ []) []) ended)
 
 -- the place of the choice in the list of who goes on, and the member there
 pub record IsPicked (x : ℕ) (p : Program) (j m : ℕ) : Type 0 where
@@ -149,15 +120,12 @@ pub record IsPicked (x : ℕ) (p : Program) (j m : ℕ) : Type 0 where
 
 -- a member among those that go on is picked by the next state
 pub picked : (x : ℕ) (p : Program) (xs ys : List ℕ) (n j : ℕ) → xs ≡ going p → ys ≡ xs → n
-    ≡ length xs → 0 < n → j ≡ choice_of (next_state x) n
-    → IsPicked x p j (slice_index ys j)
+    ≡ length xs → 0 < n → j ≡ choice_of (next_state x) n → IsPicked x p j (slice_index ys j)
 picked x p xs ys n j listed same counted left chosen = record {
-  within = subst (λ k. k < length (going p)) (sym place)
-      (below_some (next_state x / 2 ^ 33) (length (going p)) some);
+  within = subst (λ k. k < length (going p)) (sym place) (below_some (next_state x / 2 ^ 33) (length (going p)) some);
   choice = record { some = some; choice = (λ z. slice_index ((same ∙ listed) z) (place z)) };
   place = ap (λ zs. slice_index zs j) (same ∙ listed);
-  goes = subst (λ m. has_ended (present_at p.members m) ≡ false)
-      (sym (ap (λ zs. slice_index zs j) (same ∙ listed)))
+  goes = subst (λ m. has_ended (present_at p.members m) ≡ false) (sym (ap (λ zs. slice_index zs j) (same ∙ listed)))
       (chosen_goes p j (subst (λ k. k < length (going p)) (sym place)
       (below_some (next_state x / 2 ^ 33) (length (going p)) some)));
 }
@@ -190,14 +158,9 @@ pub own_moves : (m : ℕ) (es : List Move) → All (λ (e : Move). e.member ≡ 
     → es ≡ replicate (length es) (ok m)
 own_moves m [] own well = refl
 own_moves m (e ∷ es) own well =
-    let first : e ≡ ok m = λ z. record {
-      member = own 0 e (omega arith) z;
-      outcome =
-          well 0 e (omega arith) z;
-    } in
-    ap (λ (x : Move). x ∷ es) first
-    ∙ ap (λ xs. ok m ∷ xs) (own_moves m es (λ k d within. own (suc k) d (omega arith))
-    (λ k d within. well (suc k) d (omega arith)))
+    let first : e ≡ ok m = λ z. record { member = own 0 e (omega arith) z; outcome = well 0 e (omega arith) z } in
+    ap (λ (x : Move). x ∷ es) first ∙ ap (λ xs. ok m ∷ xs)
+    (own_moves m es (λ k d within. own (suc k) d (omega arith)) (λ k d within. well (suc k) d (omega arith)))
 
 pub ran_one : (q : Program) (e : Move) → ran q (e ∷ []) ≡ step_of q e
 unfolding ran

@@ -1,17 +1,11 @@
 -- A schedule leads to one program where no append fails, so a script and a start lead to one age.
+use Rattle.std.{specs.{List.range_with_len, Prelude.Option}, proofs.lemmas.Bool.cases_lt}
 use Rattle.std.proofs.Common.{◌≡◌, ℕ, ◌<◌, true, arith, ap, not, length, refl, sym, ◌∙◌, subst, suc, List, [], ◌∷◌, ◌≢◌, ⊎_elim, ◌+◌, ◌≤◌, ◌⊎◌, ◌++◌, length-append}
-use Rattle.std.specs.List.{range_with_len}
-use Rattle.std.specs.Prelude.{Option}
-use Rattle.std.proofs.lemmas.Bool.{cases_lt}
 use Rattle.dr_entry.proofs.Bits.{none_pass}
 use Rattle.dr_history.specs.Members.{has}
-use Rattle.dr_program.proofs.Present.{ended_at, place_before}
-use Rattle.dr_program.proofs.Programs.{place_past}
-use Rattle.dr_program.specs.Form.{HasForm}
-use Rattle.dr_program.specs.Replica.{Replica}
-use Rattle.dr_program.specs.Program.{AllEnded, Program, has_ended, AllOk, Move, ran, step_of}
-use Rattle.dr_program.specs.Schedule.{going, AreChosen, next_state}
-use Rattle.dr_program.specs.Presence.{present_at}
+use Rattle.dr_program.{specs.{Form.HasForm, Replica.Replica}, proofs.Programs.place_past}
+use Rattle.dr_program.specs.{Presence.present_at, Program.{AllEnded, Program, has_ended, AllOk, Move, ran, step_of}}
+use Rattle.dr_program.{specs.Schedule.{going, AreChosen, next_state}, proofs.Present.{ended_at, place_before}}
 
 -- a member of the view is one of 16
 pub few_members : (r : Replica) (i : ℕ) → HasForm r → has r.members i ≡ true → i < 16
@@ -25,18 +19,14 @@ pub chosen_same : (x : ℕ) (p : Program) (es fs : List Move) → AreChosen x p 
     → AllOk fs → AllEnded (ran p es) → AllEnded (ran p fs) → es ≡ fs
 unfolding ran
 chosen_same x p [] [] one other well well' ended ended' = refl
-chosen_same x p [] (f ∷ fs) one other well well' ended ended' =
-    absurd (omega (arith, other.0, none_go p ended))
-chosen_same x p (e ∷ es) [] one other well well' ended ended' =
-    absurd (omega (arith, one.0, none_go p ended'))
+chosen_same x p [] (f ∷ fs) one other well well' ended ended' = absurd (omega (arith, other.0, none_go p ended))
+chosen_same x p (e ∷ es) [] one other well well' ended ended' = absurd (omega (arith, one.0, none_go p ended'))
 chosen_same x p (e ∷ es) (f ∷ fs) one other well well' ended ended' =
     let first : e ≡ f = λ z. record {
       member = (one.1 ∙ sym other.1) z;
-      outcome =
-          (well 0 e (omega arith) ∙ sym (well' 0 f (omega arith))) z;
+      outcome = (well 0 e (omega arith) ∙ sym (well' 0 f (omega arith))) z;
     } in
-    let more : es ≡ fs =
-    chosen_same (next_state x) (step_of p e) es fs one.2
+    let more : es ≡ fs = chosen_same (next_state x) (step_of p e) es fs one.2
     (subst (λ (y : Move). AreChosen (next_state x) (step_of p y) fs) (sym first) other.2)
     (λ k d within. well (suc k) d (omega arith)) (λ k d within. well' (suc k) d (omega arith))
     ended (subst (λ (y : Move). AllEnded (ran (step_of p y) fs)) (sym first) ended') in
@@ -45,8 +35,6 @@ chosen_same x p (e ∷ es) (f ∷ fs) one other well well' ended ended' =
 -- the others stay
 pub place_other : {X : Type 0} (xs : List (Option X)) (x : Option X) (m : ℕ) → m ≢ length xs
     → present_at (xs ++ x ∷ []) m ≡ present_at xs m
-place_other xs x m apart = ⊎_elim
-    (λ (l : m < length xs). place_before xs x m l)
+place_other xs x m apart = ⊎_elim (λ (l : m < length xs). place_before xs x m l)
     (λ (g : length xs ≤ m). place_past (xs ++ x ∷ []) m (omega (arith, g, apart, length-append xs (x ∷ [])))
-    ∙ sym (place_past xs m g))
-    (cases_lt m (length xs))
+    ∙ sym (place_past xs m g)) (cases_lt m (length xs))

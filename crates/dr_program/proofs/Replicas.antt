@@ -1,52 +1,29 @@
 -- Replicas: what stays from one step to the next.
-use Rattle.std.proofs.Common.{◌≡◌, ap, ◌∙◌, if◌then◌else◌, ◌&&◌, ◌||◌, not, is_some, ℕ, ◌+◌, ◌<◌, ◌≤◌, true, false, List, slice_index, sym, subst, Bool, length, refl, arith, ◌*◌, ◌^◌, inl, inr, get_or, ◌==◌, nat_lt, ◌≢◌, map, slice_set, ◌⊎◌, replicate}
-use Rattle.std.proofs.lemmas.Bool.{and_parts, cases_lt}
-use Rattle.std.proofs.lemmas.List.{get_or_past, get_or_read_under}
-use Rattle.std.proofs.lemmas.Bool.Decides.{nat_tests}
 use Rattle.std.specs.Prelude.{Option, None}
-use Rattle.dr_entry.proofs.BoolFacts.{all_true, all_three}
-use Rattle.dr_entry.proofs.ListPlaces.{greatest_within, count_max}
+use Rattle.std.proofs.Common.{◌≡◌, ap, ◌∙◌, if◌then◌else◌, ◌&&◌, ◌||◌, not, is_some, ℕ, ◌+◌, ◌<◌, ◌≤◌, true, false, List, slice_index, sym, subst, Bool, length, refl, arith, ◌*◌, ◌^◌, inl, inr, get_or, ◌==◌, nat_lt, ◌≢◌, map, slice_set, ◌⊎◌, replicate}
+use Rattle.std.proofs.lemmas.{Bool.{and_parts, cases_lt, Decides.nat_tests}, List.{get_or_past, get_or_read_under}}
+use Rattle.dr_entry.specs.{declared.{end.End.End, entry.Entry.Entry}, declared.record.{Value.Value, Vote.Vote}}
+use Rattle.dr_entry.proofs.{BoolFacts.{all_true, all_three}, ListPlaces.{greatest_within, count_max}}
 use Rattle.dr_entry.proofs.NumberFacts.{product_within}
-use Rattle.dr_entry.specs.declared.end.End.{End}
-use Rattle.dr_entry.specs.declared.record.Value.{Value}
-use Rattle.dr_entry.specs.declared.entry.Entry.{Entry}
-use Rattle.dr_entry.specs.declared.record.Vote.{Vote}
+use Rattle.dr_history.{specs.{Members.{has, members_of}, Places.front_of}, proofs.MemberLemmas.few_members}
 use Rattle.dr_history.proofs.Ranks.{some_member}
-use Rattle.dr_history.proofs.MemberLemmas.{few_members}
-use Rattle.dr_history.specs.Members.{has, members_of}
-use Rattle.dr_history.specs.Places.{front_of}
-use Rattle.dr_rows.proofs.Along.{pushed_stays}
-use Rattle.dr_rows.proofs.Grids.{seen_with}
-use Rattle.dr_rows.specs.Words.{seen, Words, with_own}
-use Rattle.dr_rows.specs.Along.{looked_along, Pushes, pushed_along}
-use Rattle.dr_words.proofs.Columns.{AreAlike, beats_alike}
-use Rattle.dr_words.proofs.Choices.{propose_alike, accept_alike, shown_alike, proposal_alike}
-use Rattle.dr_words.proofs.Order.{Grown_refl}
+use Rattle.dr_rows.specs.{Along.{looked_along, Pushes, pushed_along}, Words.{seen, Words, with_own}}
+use Rattle.dr_rows.proofs.{Along.pushed_stays, Grids.seen_with}
+use Rattle.dr_words.specs.{Columns.{leavers_column, columns_of, recv_column}, Packing.{accept_promise, recv_word}}
+use Rattle.dr_words.{specs.{Form.IsInForm, Layout.words_of, Masks.IsInRoster}, proofs.Columns.{AreAlike, beats_alike}}
+use Rattle.dr_words.specs.{Grown.{HasGrown, Grown}, declared.column.TheConstants.{BEAT_COLUMN, RECEIVED_COLUMN}}
+use Rattle.dr_words.proofs.{Choices.{propose_alike, accept_alike, shown_alike, proposal_alike}, Order.Grown_refl}
 use Rattle.dr_words.specs.Choices as choices
-use Rattle.dr_words.specs.Columns.{leavers_column, columns_of, recv_column}
-use Rattle.dr_words.specs.Packing.{accept_promise, recv_word}
-use Rattle.dr_words.specs.Form.{IsInForm}
-use Rattle.dr_words.specs.Grown.{HasGrown, Grown}
-use Rattle.dr_words.specs.Masks.{IsInRoster}
-use Rattle.dr_words.specs.declared.column.TheConstants.{BEAT_COLUMN, RECEIVED_COLUMN}
-use Rattle.dr_words.specs.Layout.{words_of}
-use Rattle.dr_ring.proofs.Readiness.{ready_test}
-use Rattle.dr_ring.specs.Slots.{IsReady, slot_of, slot_column}
+use Rattle.dr_ring.{specs.Slots.{IsReady, slot_of, slot_column}, proofs.Readiness.ready_test}
 use Rattle.dr_machine.specs.declared.step.Step.TheVariants as steps
 use Rattle.dr_machine.specs.declared.event.Act.TheVariants as acts
-use Rattle.dr_machine.specs.declared.step.Step.{Step}
-use Rattle.dr_machine.specs.Effects.{one_more}
-use Rattle.dr_machine.specs.Group.{Group, roster, banks}
+use Rattle.dr_machine.specs.{Effects.one_more, Group.{Group, roster, banks}, declared.step.Step.Step}
 use Rattle.dr_machine.specs.declared.step.Step.TheVariants.{Append, LogVote}
-use Rattle.dr_program.proofs.Parts.{crashed}
+use Rattle.dr_program.specs.{Acts.may, Form.{HasForm, CanBegin}, Presence.present_at, Reading.Shared}
 use Rattle.dr_program.specs.Replica.{Replica, may_propose, may_accept, value_due, is_value, is_wedged, may_append, may_vote, is_other, count, ready_item, may_receive, LeftView, entered, me, greatest, is_inside, acted, received, looked, is_others}
-use Rattle.dr_program.specs.Form.{HasForm, CanBegin}
 use Rattle.dr_program.specs.Steps.{NoWordFell, allows_inside, allows, is_outside_step, has_cell, is_free, may_take, IsAppend, stepped}
-use Rattle.dr_program.specs.declared.setup.Setup.{Setup}
-use Rattle.dr_program.specs.Acts.{may}
+use Rattle.dr_program.{specs.declared.setup.Setup.Setup, proofs.Parts.crashed}
 use Rattle.dr_program.specs.declared.place.Part.TheVariants as parts
-use Rattle.dr_program.specs.Reading.{Shared}
-use Rattle.dr_program.specs.Presence.{present_at}
 
 alike : (r : Replica) (end : End) → AreAlike r.roster (seen (crashed r end).rows) (seen r.rows)
 alike r end = beats_alike r.roster r.rows _
@@ -60,14 +37,12 @@ accepts_still r end = accept_alike r.roster (seen (crashed r end).rows) (seen r.
     r.rows.me (alike r end)
 
 pub value_still : (r : Replica) (end : End) → value_due (crashed r end) ≡ value_due r
-value_still r end =
-    (λ z. if proposes_still r end z
-    then proposal_alike r.roster (seen (crashed r end).rows) (seen r.rows) r.members r.suspects (alike r end) z
-    else choices.shown_value r.roster (seen (crashed r end).rows) r.members
-    (accept_promise ((alike r end).leavers r.rows.me z)))
+value_still r end = (λ z. if proposes_still r end z then proposal_alike r.roster
+    (seen (crashed r end).rows) (seen r.rows) r.members r.suspects (alike r end) z else choices.shown_value r.roster
+    (seen (crashed r end).rows) r.members (accept_promise ((alike r end).leavers r.rows.me z)))
     ∙ ap (λ (x : Value). if may_propose r then choices.proposal r.roster (seen r.rows) r.members r.suspects else x)
-    (shown_alike r.roster (seen (crashed r end).rows) (seen r.rows) r.members
-    (accept_promise (seen r.rows r.rows.me (leavers_column r.roster))) (alike r end))
+    (shown_alike r.roster (seen (crashed r end).rows)
+    (seen r.rows) r.members (accept_promise (seen r.rows r.rows.me (leavers_column r.roster))) (alike r end))
 
 pub votes_still : (r : Replica) (end : End)
     → may_vote (crashed r end) (value_due (crashed r end)) ≡ may_vote r (value_due r)
@@ -91,14 +66,12 @@ looked_on r i table first from m = record r { rows = looked_along i table first 
 -- and no word falls
 pub pushes_grow : (r : Replica) (j first : ℕ) (s : Pushes) (from m : ℕ) → s.words ≡ r.rows
     → NoWordFell r (record r { rows = (pushed_along j first s from m).words })
-pushes_grow r j first s from m is =
-    subst (λ (w : Words). Grown r.roster r.rows.words w.words r.rows.frozen w.frozen)
+pushes_grow r j first s from m is = subst (λ (w : Words). Grown r.roster r.rows.words w.words r.rows.frozen w.frozen)
     (sym (pushed_stays j first s from m))
     (subst (λ (w : Words). Grown r.roster r.rows.words w.words r.rows.frozen w.frozen) (sym is)
     (Grown_refl r.roster r.rows.words r.rows.frozen))
 
-pub vote_told : (r : Replica) (v : Value) → may_vote r (value_due r) ≡ true
-    → may_vote r v ≡ is_value v (value_due r)
+pub vote_told : (r : Replica) (v : Value) → may_vote r (value_due r) ≡ true → may_vote r v ≡ is_value v (value_due r)
 vote_told r v e =
     let a = and_parts (is_wedged r) _ e in
     let b = and_parts (not (is_some r.committed)) _ a.1 in
@@ -125,8 +98,7 @@ pub grown_to : (old new v q : Replica) → v ≡ old → new ≡ q
     → Grown old.roster old.rows.words new.rows.words old.rows.frozen new.rows.frozen
 grown_to old new v q from to grown =
     subst (λ (o : Replica). Grown o.roster o.rows.words new.rows.words o.rows.frozen new.rows.frozen) from
-    (subst (λ (n : Replica). Grown v.roster v.rows.words n.rows.words v.rows.frozen n.rows.frozen)
-    (sym to) grown)
+    (subst (λ (n : Replica). Grown v.roster v.rows.words n.rows.words v.rows.frozen n.rows.frozen) (sym to) grown)
 
 -- what the replica may do, its view may do
 pub may_of : (f : Replica → Bool) (v now : Replica) → v ≡ now → f now ≡ true → f v ≡ true
@@ -134,8 +106,7 @@ may_of f v now same may = ap f same ∙ may
 
 -- in a later view that a replica goes on in with its form there is somebody, each of the roster, and itself
 pub entered_some : (r : Replica) (view members : ℕ) (entries : List Entry) (kept : List LeftView) → 0 < view
-    → HasForm (entered r view members entries kept)
-    → (0 < length (members_of members)) × IsInRoster r.roster members
+    → HasForm (entered r view members entries kept) → (0 < length (members_of members)) × IsInRoster r.roster members
 entered_some r view members entries kept later f = (
   some_member members (me r) (omega (arith, f.rows.present, f.rows.few)) (by (has members (me r)) refl),
   f.roster,
@@ -190,8 +161,7 @@ all_allowed r s inside =
 
 pub cell_test : (replica : Replica) (i c : ℕ) → i < replica.roster → is_other replica i ≡ true
     → c < columns_of replica.roster replica.window → has_cell replica i c ≡ true
-cell_test replica i c row other column =
-    all_three (nat_lt i replica.roster) (is_other replica i)
+cell_test replica i c row other column = all_three (nat_lt i replica.roster) (is_other replica i)
     (nat_lt c (columns_of replica.roster replica.window)) (grind (arith, nat_tests, row)) other
     (grind (arith, nat_tests, column))
 
@@ -218,13 +188,11 @@ pub record IsLookOf (r : Replica) (i c word : ℕ) : Type 0 where
   pub grown : HasGrown r.roster c (seen r.rows i c) word
 
 -- the row of a look, or of a push, is one of its roster, behind it as well
-pub look_row_stays : (r q : Replica) (i c word : ℕ) → IsLookOf r i c word → q ≡ looked r i c word
-    → i < q.roster
+pub look_row_stays : (r q : Replica) (i c word : ℕ) → IsLookOf r i c word → q ≡ looked r i c word → i < q.roster
 look_row_stays r q i c word is after = subst (λ (x : Replica). i < x.roster) (sym after) is.row
 
 -- no vote waits before one goes on the log
-pub none_waits : (o : Option Vote) (me : ℕ)
-    → ((o ≡ None) ⊎ ((parts.Vote ≡ parts.Do acts.Propose)
+pub none_waits : (o : Option Vote) (me : ℕ) → ((o ≡ None) ⊎ ((parts.Vote ≡ parts.Do acts.Propose)
     ⊎ ((parts.Vote ≡ parts.Do acts.Accept) × (is_others me o ≡ true)))) → o ≡ None
 none_waits o me (inl none) = none
 none_waits o me (inr (inl e)) = absurd (cc e)

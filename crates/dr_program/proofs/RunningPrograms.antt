@@ -1,40 +1,25 @@
 -- What is due to a running member, by the kind of its next deed.
-use Rattle.std.proofs.Common.{◌≡◌, refl, List, Bool, true, false, ℕ, ◌<◌, ◌&&◌, nat_lt, sym, ap, ◌∙◌, ◌||◌, ◌+◌, ◌==◌, if◌then◌else◌, arith, ◌≤◌, not, subst, [], ◌∷◌, map, length}
 use Rattle.std.specs.Prelude.{Option, None, Some, slice_get, unwrap_or, option_map, is_some}
-use Rattle.std.proofs.lemmas.Bool.{and_parts, ltb-true}
-use Rattle.std.proofs.lemmas.Bool.Decides.{nat_tests}
-use Rattle.std.proofs.lemmas.Option.{get_or_from_slice_get}
-use Rattle.dr_entry.specs.declared.entry.Entry.{Entry}
-use Rattle.dr_entry.specs.declared.end.End.{End}
-use Rattle.dr_entry.specs.declared.entry.Entry.TheVariants.{View}
+use Rattle.std.proofs.Common.{◌≡◌, refl, List, Bool, true, false, ℕ, ◌<◌, ◌&&◌, nat_lt, sym, ap, ◌∙◌, ◌||◌, ◌+◌, ◌==◌, if◌then◌else◌, arith, ◌≤◌, not, subst, [], ◌∷◌, map, length}
+use Rattle.std.proofs.lemmas.{Bool.{and_parts, ltb-true, Decides.nat_tests}, Option.get_or_from_slice_get}
+use Rattle.dr_entry.specs.{declared.{end.End.End, entry.Entry.{Entry, TheVariants.View}}, declared.record.Vote.Vote}
 use Rattle.dr_entry.specs.declared.record.Record.TheVariants as records
-use Rattle.dr_entry.specs.declared.record.Vote.{Vote}
 use Rattle.dr_entry.specs.declared.end.End.TheVariants as ends
 use Rattle.dr_history.specs.Order.{first_entries}
 use Rattle.dr_rows.specs.Words as rows
 use Rattle.dr_rows.specs.Words.{own}
 use Rattle.dr_suspect.specs.Waits.{compared}
-use Rattle.dr_machine.specs.declared.step.Step.{Step}
+use Rattle.dr_machine.specs.{Group.Group, declared.{event.Act.Act, step.Step.{Step, TheVariants.{Do, Join}}}}
 use Rattle.dr_machine.specs.declared.step.Step.TheVariants as steps
-use Rattle.dr_machine.specs.declared.event.Act.{Act}
 use Rattle.dr_machine.specs.declared.event.Act.TheVariants as acts
-use Rattle.dr_machine.specs.declared.step.Step.TheVariants.{Do, Join}
-use Rattle.dr_machine.specs.Group.{Group}
-use Rattle.dr_program.proofs.Replicas.{may_look, itself}
-use Rattle.dr_program.proofs.Parts.{judged_inside}
-use Rattle.dr_program.specs.Running.{Running, took_letter, deed, deed_of, next_deed, next_step, columns, members, asks, waits_after, pushes_after, judged, judgement, named_by, overdue, scripted, told, crashes_now, push_or_crash, step_at, begun_running, settled}
-use Rattle.dr_program.specs.declared.deed.Deed.{Deed}
-use Rattle.dr_program.specs.declared.deed.Deed.TheVariants as deeds
+use Rattle.dr_program.specs.{Acts.{may, is_outside_act}, declared.{outcome.Outcome.Outcome, setup.Setup.Setup}}
+use Rattle.dr_program.{specs.{Form.IsRunningMember, declared.deed.Deed.Deed}, proofs.Replicas.{may_look, itself}}
+use Rattle.dr_program.{specs.{Program.after_deed, Sight.IsSeenNext, Turn.part_of}, proofs.Parts.judged_inside}
 use Rattle.dr_program.specs.Replica.{is_other, is_inside, looked, value_due, vote_of, me, has_majority, is_wedged, unsuspected, Replica, begun_replica}
+use Rattle.dr_program.specs.Running.{Running, took_letter, deed, deed_of, next_deed, next_step, columns, members, asks, waits_after, pushes_after, judged, judgement, named_by, overdue, scripted, told, crashes_now, push_or_crash, step_at, begun_running, settled}
 use Rattle.dr_program.specs.Steps.{has_cell, allows, allows_inside, is_outside_step, stepped, index_in}
-use Rattle.dr_program.specs.Turn.{part_of}
-use Rattle.dr_program.specs.Form.{IsRunningMember}
+use Rattle.dr_program.specs.declared.deed.Deed.TheVariants as deeds
 use Rattle.dr_program.specs.declared.place.Part.TheVariants as parts
-use Rattle.dr_program.specs.Sight.{IsSeenNext}
-use Rattle.dr_program.specs.Acts.{may, is_outside_act}
-use Rattle.dr_program.specs.declared.setup.Setup.{Setup}
-use Rattle.dr_program.specs.declared.outcome.Outcome.{Outcome}
-use Rattle.dr_program.specs.Program.{after_deed}
 
 pub took_failed : (letter : Option (List Entry)) (r : Running) → (took_letter letter r).failed ≡ r.failed
 took_failed None r = refl
@@ -42,8 +27,7 @@ took_failed (Some letter) r = refl
 
 -- a deed of a kind that rest is not is one of a member without an end
 pub deed_due : (kind : Deed → Bool) → ((end : End) → kind (deeds.Rest end) ≡ false) → (r : Running)
-    → kind (next_deed r) ≡ true
-    → (r.replica.end ≡ None) × (kind (deed_of r (next_step r)) ≡ true)
+    → kind (next_deed r) ≡ true → (r.replica.end ≡ None) × (kind (deed_of r (next_step r)) ≡ true)
 deed_due kind rests r e = by r.replica.end refl e
   where
     by : (o : Option End) → r.replica.end ≡ o → kind (deed r o) ≡ true → (r.replica.end ≡ None)
@@ -62,36 +46,25 @@ pub is_cell : (r : Running) (i c : ℕ) → has_cell r.replica i c ≡ true → 
 is_cell r i c e =
     let first = and_parts (nat_lt i r.replica.roster) (is_other r.replica i && nat_lt c (columns r)) e in
     let rest = and_parts (is_other r.replica i) (nat_lt c (columns r)) first.1 in
-    record {
-      row = ltb-true i r.replica.roster first.0;
-      other = rest.0;
-      column =
-          ltb-true c (columns r) rest.1;
-    }
+    record { row = ltb-true i r.replica.roster first.0; other = rest.0; column = ltb-true c (columns r) rest.1 }
 
 -- what is due is allowed
-pub allowed : (r : Running) → IsRunningMember r → r.replica.end ≡ None → (s : Step) → next_step r
-    ≡ s
+pub allowed : (r : Running) → IsRunningMember r → r.replica.end ≡ None → (s : Step) → next_step r ≡ s
     → allows r.replica s ≡ true
-allowed r m none s is =
-    ap (allows r.replica) (sym is)
+allowed r m none s is = ap (allows r.replica) (sym is)
     ∙ (and_parts (asks r (part_of r.place) r.place.row r.place.column) (allows r.replica (next_step r))
     (m.due none)).1
 
 -- so it is where the member is in its view, and it is there, where nobody may take the step outside
-pub allowed_inside : (r : Running) → IsRunningMember r → r.replica.end ≡ None → (s : Step)
-    → next_step r ≡ s
+pub allowed_inside : (r : Running) → IsRunningMember r → r.replica.end ≡ None → (s : Step) → next_step r ≡ s
     → allows_inside r.replica s ≡ true
 allowed_inside r m none s is =
-    (and_parts (is_outside_step s || is_inside r.replica) (allows_inside r.replica s)
-    (allowed r m none s is)).1
+    (and_parts (is_outside_step s || is_inside r.replica) (allows_inside r.replica s) (allowed r m none s is)).1
 
 pub in_view : (r : Running) → IsRunningMember r → r.replica.end ≡ None → (s : Step) → next_step r ≡ s
     → is_outside_step s ≡ false → is_inside r.replica ≡ true
-in_view r m none s is =
-    either (is_outside_step s) (is_inside r.replica)
-    (and_parts (is_outside_step s || is_inside r.replica) (allows_inside r.replica s)
-    (allowed r m none s is)).0
+in_view r m none s is = either (is_outside_step s) (is_inside r.replica)
+    (and_parts (is_outside_step s || is_inside r.replica) (allows_inside r.replica s) (allowed r m none s is)).0
   where
     either : (a b : Bool) → (a || b) ≡ true → a ≡ false → b ≡ true
     either true b e f = absurd (cc f)
@@ -103,20 +76,16 @@ pub waits_stay : (word : ℕ) (r : Running) (i c : ℕ) → c + 1 < columns r
 waits_stay word r i c within = by (c + 1 == columns r) (grind (arith, nat_tests, within))
   where
     by : (b : Bool) → b ≡ false
-        → r.waits ≡ (if b then compared r.waits (rows.looked r.replica.rows i c word) i
-        else r.waits)
+        → r.waits ≡ (if b then compared r.waits (rows.looked r.replica.rows i c word) i else r.waits)
     by true e = absurd (cc)
     by false e = refl
 
 pub waits_turn : (word : ℕ) (r : Running) (i c : ℕ) → c < columns r → columns r ≤ c + 1
-    → compared r.waits (rows.looked r.replica.rows i c word) i
-    ≡ waits_after word r (steps.Look i c)
+    → compared r.waits (rows.looked r.replica.rows i c word) i ≡ waits_after word r (steps.Look i c)
 waits_turn word r i c within past = by (c + 1 == columns r) (grind (arith, nat_tests, within, past))
   where
-    by : (b : Bool) → b ≡ true
-        → compared r.waits (rows.looked r.replica.rows i c word) i
-        ≡ (if b then compared r.waits (rows.looked r.replica.rows i c word) i
-        else r.waits)
+    by : (b : Bool) → b ≡ true → compared r.waits (rows.looked r.replica.rows i c word) i
+        ≡ (if b then compared r.waits (rows.looked r.replica.rows i c word) i else r.waits)
     by true e = refl
     by false e = absurd (cc)
 
@@ -142,16 +111,13 @@ next_without_end r none = ap (deed r) none
 
 -- the next deed is to append this entry, or this vote
 pub entry_deed : (r : Running) (entry : Entry) → r.replica.end ≡ None → steps.Append ≡ next_step r
-    → slice_get r.replica.history r.replica.logged ≡ Some entry
-    → deeds.Append (records.Entry entry) ≡ next_deed r
-entry_deed r entry none step there =
-    ap (λ e. deeds.Append (records.Entry e))
+    → slice_get r.replica.history r.replica.logged ≡ Some entry → deeds.Append (records.Entry entry) ≡ next_deed r
+entry_deed r entry none step there = ap (λ e. deeds.Append (records.Entry e))
     (sym (get_or_from_slice_get r.replica.history r.replica.logged entry (View 0 0 0) there))
     ∙ ap (deed_of r) step ∙ ap (deed r) (sym none)
 
-pub vote_deed : (r : Running) (vote : Vote) → r.replica.end ≡ None
-    → steps.LogVote (value_due r.replica) ≡ next_step r → vote ≡ vote_of r.replica (value_due r.replica)
-    → deeds.Append (records.Vote vote) ≡ next_deed r
+pub vote_deed : (r : Running) (vote : Vote) → r.replica.end ≡ None → steps.LogVote (value_due r.replica) ≡ next_step r
+    → vote ≡ vote_of r.replica (value_due r.replica) → deeds.Append (records.Vote vote) ≡ next_deed r
 vote_deed r vote none step is =
     ap (λ v. deeds.Append (records.Vote v)) is ∙ ap (deed_of r) step ∙ ap (deed r) (sym none)
 
@@ -181,24 +147,20 @@ crash_alone r i c outside = by (crashes_now r)
 -- at a look, and at a push before which the member doesn't crash
 pub look_deed : (r : Running) → r.replica.end ≡ None → part_of r.place ≡ parts.Look
     → next_deed r ≡ deeds.Look (index_in r.replica (me r.replica) r.place.row r.place.column)
-look_deed r none at =
-    ap (deed r) none ∙ ap (λ part. deed_of r (step_at r part r.place.row r.place.column)) at
+look_deed r none at = ap (deed r) none ∙ ap (λ part. deed_of r (step_at r part r.place.row r.place.column)) at
 
 pub push_deed : (r : Running) → r.replica.end ≡ None → part_of r.place ≡ parts.Push → crashes_now r ≡ false
     → next_deed r ≡ deeds.Push (index_in r.replica r.place.row (me r.replica) r.place.column)
     (own r.replica.rows r.place.column)
-push_deed r none at later =
-    ap (deed r) none ∙ ap (λ part. deed_of r (step_at r part r.place.row r.place.column)) at
+push_deed r none at later = ap (deed r) none ∙ ap (λ part. deed_of r (step_at r part r.place.row r.place.column)) at
     ∙ ap (λ b. deed_of r (push_or_crash b r.place.row r.place.column)) later
 
 -- an act that is due may be done, where the member stands
 pub act_may : (r : Running) (q : Replica) (s : Step) (a : Act) → IsRunningMember r → r.replica.end ≡ None
-    → q ≡ r.replica → s ≡ next_step r → s ≡ Do a
-    → ((is_outside_act a || is_inside q) ≡ true) × (may q a ≡ true)
-act_may r q s a m none same due is =
-    subst (λ (x : Replica). ((is_outside_act a || is_inside x) ≡ true) × (may x a ≡ true)) (sym same)
-    (and_parts (is_outside_act a || is_inside r.replica) (may r.replica a)
-    (subst (λ (t : Step). allows r.replica t ≡ true) (sym due ∙ is)
+    → q ≡ r.replica → s ≡ next_step r → s ≡ Do a → ((is_outside_act a || is_inside q) ≡ true) × (may q a ≡ true)
+act_may r q s a m none same due is = subst (λ (x : Replica). ((is_outside_act a || is_inside x) ≡ true)
+    × (may x a ≡ true)) (sym same) (and_parts (is_outside_act a || is_inside r.replica)
+    (may r.replica a) (subst (λ (t : Step). allows r.replica t ≡ true) (sym due ∙ is)
     (and_parts (asks r (part_of r.place) r.place.row r.place.column) (allows r.replica (next_step r))
     (m.due none)).1))
 

@@ -1,23 +1,17 @@
 -- What holds of a step that a part has and of the end in its place holds of whichever of the two is due.
-use Rattle.std.proofs.Common.{◌≡◌, refl, sym, ap, ◌∙◌}
-use Rattle.std.specs.Prelude.{ℕ, Bool, true, false, Option, None, Some}
+use Rattle.std.{specs.Prelude.{ℕ, Bool, true, false, Option, None, Some}, proofs.Common.{◌≡◌, refl, sym, ap, ◌∙◌}}
 use Rattle.std.proofs.lemmas.Bool.{and_parts}
 use Rattle.dr_entry.specs.declared.end.End.TheVariants as ends
-use Rattle.dr_entry.specs.declared.record.Value.{Value}
-use Rattle.dr_entry.specs.declared.end.End.{End}
+use Rattle.dr_entry.specs.{declared.end.End.End, declared.record.Value.Value}
 use Rattle.dr_machine.specs.declared.event.Act.TheVariants as acts
 use Rattle.dr_machine.specs.declared.step.Step.{Step}
 use Rattle.dr_machine.specs.declared.step.Step.TheVariants as steps
-use Rattle.dr_program.specs.declared.outcome.LogWhy.{LogWhy}
+use Rattle.dr_program.specs.{Form.IsRunningMember, Reading.{step_due, step_of_member}}
 use Rattle.dr_program.specs.Running.{append_or_end, end_by, push_or_crash, vote_or_end, Running, broken_off, crashes_now, step_at, next_step, pushes_after, waits_after}
+use Rattle.dr_program.specs.{Sight.{IsSeenNext, MaySee}, Steps.{IsAppend, has_cell, stepped}, Turn.part_of}
+use Rattle.dr_program.specs.declared.{outcome.LogWhy.LogWhy, place.Part.Part}
 use Rattle.dr_program.proofs.RunningPrograms.{is_cell, allowed_inside, in_view, waits_stay, waits_turn, IsLookDue}
-use Rattle.dr_program.specs.declared.place.Part.{Part}
 use Rattle.dr_program.specs.declared.place.Part.TheVariants as parts
-use Rattle.dr_program.specs.Steps.{IsAppend, has_cell, stepped}
-use Rattle.dr_program.specs.Sight.{IsSeenNext, MaySee}
-use Rattle.dr_program.specs.Turn.{part_of}
-use Rattle.dr_program.specs.Reading.{step_due, step_of_member}
-use Rattle.dr_program.specs.Form.{IsRunningMember}
 
 -- an append, or the end by the log
 pub append_either : (P : Step → Type 0) (o : Option LogWhy) → P steps.Append
@@ -59,8 +53,7 @@ look_part r parts.Receive i c word may = absurd may
 look_part r part i c word may = absurd may
 
 -- a running member that may see a word has a look at it due
-pub look_due : (r : Running) (word : ℕ) → IsRunningMember r → MaySee r (step_of_member r) word
-    → IsLookDue r word
+pub look_due : (r : Running) (word : ℕ) → IsRunningMember r → MaySee r (step_of_member r) word → IsLookDue r word
 look_due r word m may = by r.replica.end refl may
   where
     due : r.replica.end ≡ None → MaySee r (Some (next_step r)) word → IsLookDue r word
@@ -80,8 +73,7 @@ look_due r word m may = by r.replica.end refl may
           seen = at.1;
           step = ap (stepped word r.replica) step;
           pushes = ap (pushes_after r.pushes) (sym step);
-          within = λ inner. waits_stay word r r.place.row r.place.column inner
-              ∙ ap (waits_after word r) (sym step);
+          within = λ inner. waits_stay word r r.place.row r.place.column inner ∙ ap (waits_after word r) (sym step);
           past = λ outer. waits_turn word r r.place.row r.place.column cell.column outer
               ∙ ap (waits_after word r) (sym step);
         }

@@ -1,11 +1,9 @@
 -- The masks of a replica that may suspect another member.
 use Rattle.std.proofs.Common.{◌≡◌, ◌==◌, ◌&&◌, ◌||◌, ℕ, not, nat_lt, true, arith}
-use Rattle.std.proofs.lemmas.Bool.Decides.{nat_tests}
-use Rattle.std.proofs.lemmas.Bool.{and_parts, eqb-false, not-true}
+use Rattle.std.proofs.lemmas.Bool.{and_parts, eqb-false, not-true, Decides.nat_tests}
 use Rattle.dr_history.specs.Members.{has}
 use Rattle.dr_words.proofs.Masks.{IsSuspecting}
-use Rattle.dr_program.specs.Form.{HasForm}
-use Rattle.dr_program.specs.Replica.{Replica, is_inside, may_suspect, me}
+use Rattle.dr_program.specs.{Form.HasForm, Replica.{Replica, is_inside, may_suspect, me}}
 use Rattle.dr_suspect.specs.Wishes.{may_wish}
 
 -- what is known of them

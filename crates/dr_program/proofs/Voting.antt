@@ -1,33 +1,20 @@
 -- Votes of a replica: which value it votes for, that accept words hold it, and that its votes are few.
-use Rattle.std.proofs.Common.{◌≡◌, ◌↔◌, refl, sym, ap, ◌∙◌, subst, ℕ, suc, suc-mul, mul-le-mul_right, ◌+◌, ◌*◌, ◌^◌, ◌<◌, ◌≤◌, ◌==◌, ◌||◌, ◌⊎◌, inl, inr, not, Bool, true, false, List, [], ◌∷◌, length, slice_index, arith, ◌&&◌, nat_lt}
+use Rattle.std.specs.{Cmp.Lexicographic.{other_text, same_text}, List.{list_all, range_with_len}}
 use Rattle.std.specs.Prelude.{Option, Some, None, is_some, nat_eq}
-use Rattle.std.specs.List.{list_all, range_with_len}
-use Rattle.std.proofs.lemmas.Bool.{and_from, and_parts, cases_lt, eq-eqb, eqb-true}
-use Rattle.std.proofs.lemmas.List.{get_or_past}
-use Rattle.std.proofs.lemmas.List.FromFn.{get_or-range_with_len}
-use Rattle.std.proofs.lemmas.List.Folds.{list_all_at}
-use Rattle.std.specs.Cmp.Lexicographic.{other_text, same_text}
+use Rattle.std.proofs.Common.{◌≡◌, ◌↔◌, refl, sym, ap, ◌∙◌, subst, ℕ, suc, suc-mul, mul-le-mul_right, ◌+◌, ◌*◌, ◌^◌, ◌<◌, ◌≤◌, ◌==◌, ◌||◌, ◌⊎◌, inl, inr, not, Bool, true, false, List, [], ◌∷◌, length, slice_index, arith, ◌&&◌, nat_lt}
+use Rattle.std.proofs.lemmas.Bool.{and_from, and_parts, cases_lt, eq-eqb, eqb-true, Decides.nat_tests}
+use Rattle.std.proofs.lemmas.List.{get_or_past, Folds.list_all_at, FromFn.get_or-range_with_len}
 use lib.Pointwise.{pointwise}
-use Rattle.std.proofs.lemmas.Bool.Decides.{nat_tests}
-use Rattle.dr_entry.specs.declared.record.Value.{Value}
-use Rattle.dr_entry.specs.declared.record.Vote.{Vote}
-use Rattle.dr_entry.specs.Spelling.{IsValidVote}
-use Rattle.dr_entry.proofs.Records.{same_value}
-use Rattle.dr_entry.proofs.BoolFacts.{same_test, untrue, no_letter}
-use Rattle.dr_history.specs.Members.{has}
-use Rattle.dr_history.proofs.Bits.{has_zero}
+use Rattle.dr_entry.specs.{Spelling.IsValidVote, declared.record.{Value.Value, Vote.Vote}}
+use Rattle.dr_entry.proofs.{BoolFacts.{same_test, untrue, no_letter}, Records.same_value}
+use Rattle.dr_history.{specs.Members.has, proofs.Bits.has_zero}
 use Rattle.dr_rows.specs.Words.{seen}
+use Rattle.dr_words.specs.{Accepts.{Shows, promise_of, tag_of, trim_word}, Form.IsInForm, Packing.accept_value}
+use Rattle.dr_words.specs.{Changes.{IsFirstValue, IsLeastReceived, IsProposal}, Choices.{proposal, shown_value}}
+use Rattle.dr_words.{specs.Columns.{leavers_column, recv_column, trim_column}, proofs.Accepts.leavers_accept}
+use Rattle.dr_words.{specs.Masks.without, proofs.Masks.{has_without_mask, in_roster_small}}
 use Rattle.dr_words.proofs.Choices.{accept_test, proposal_is, proposal_long, propose_test, trims_long}
 use Rattle.dr_words.proofs.Choices as choices
-use Rattle.dr_words.proofs.Masks.{has_without_mask, in_roster_small}
-use Rattle.dr_words.proofs.Accepts.{leavers_accept}
-use Rattle.dr_words.specs.Accepts.{Shows, promise_of, tag_of, trim_word}
-use Rattle.dr_words.specs.Changes.{IsFirstValue, IsLeastReceived, IsProposal}
-use Rattle.dr_words.specs.Choices.{proposal, shown_value}
-use Rattle.dr_words.specs.Columns.{leavers_column, recv_column, trim_column}
-use Rattle.dr_words.specs.Form.{IsInForm}
-use Rattle.dr_words.specs.Masks.{without}
-use Rattle.dr_words.specs.Packing.{accept_value}
 use Rattle.dr_program.specs.Form.{HasForm, IsVoteDue, waiting}
 use Rattle.dr_program.specs.Replica.{Replica, is_value, is_wedged, may_accept, may_append, may_propose, may_vote, me, promise, value_due, vote_of, is_inside, is_welcomer, may_give}
 
@@ -40,15 +27,12 @@ value_long r = by (may_propose r) refl
     by : (b : Bool) → may_propose r ≡ b → length (value_due r).trim ≡ 16
     by true e =
         let same : value_due r ≡ proposal r.roster (seen r.rows) r.members r.suspects = rw e refl in
-        ap (λ (v : Value). length v.trim) same
-        ∙ proposal_long r.roster (seen r.rows) r.members r.suspects
+        ap (λ (v : Value). length v.trim) same ∙ proposal_long r.roster (seen r.rows) r.members r.suspects
     by false e =
         let same : value_due r
-        ≡ shown_value r.roster (seen r.rows) r.members (promise_of r.roster (seen r.rows) (me r)) =
-        rw e refl in
-        ap (λ (v : Value). length v.trim) same
-        ∙ trims_long r.members (λ s. accept_value (trim_word r.roster (seen r.rows)
-        (promise_of r.roster (seen r.rows) (me r)) s))
+        ≡ shown_value r.roster (seen r.rows) r.members (promise_of r.roster (seen r.rows) (me r)) = rw e refl in
+        ap (λ (v : Value). length v.trim) same ∙ trims_long r.members
+        (λ s. accept_value (trim_word r.roster (seen r.rows) (promise_of r.roster (seen r.rows) (me r)) s))
 
 -- equal values
 pub value_test : (u v : Value) → length v.trim ≡ 16 → (is_value u v ≡ true) ↔ (u ≡ v)
@@ -132,13 +116,10 @@ promise_within r f =
 
 -- the view is of 16 members at most, and it is itself one that it doesn't suspect
 pub view_small : (r : Replica) → HasForm r → r.members < 2 ^ 16
-view_small r f = in_roster_small 16 r.members (λ i there.
-    omega (arith, f.roster i there, f.members, f.rows.few))
+view_small r f = in_roster_small 16 r.members (λ i there. omega (arith, f.roster i there, f.members, f.rows.few))
 
-pub self_left : (r : Replica) → HasForm r → is_inside r ≡ true
-    → has (without r.members r.suspects) (me r) ≡ true
-self_left r f inside =
-    has_without_mask r.members r.suspects (me r) (view_small r f)
+pub self_left : (r : Replica) → HasForm r → is_inside r ≡ true → has (without r.members r.suspects) (me r) ≡ true
+self_left r f inside = has_without_mask r.members r.suspects (me r) (view_small r f)
     ∙ and_from _ _ inside (ap not f.trusted)
 
 -- who is wedged is in its view
@@ -214,8 +195,7 @@ shown_fits r i v f shows = record {
 }
   where
     by : (s : ℕ) (b : Bool) → has r.members s ≡ b → slice_index v.trim s < 2 ^ 32
-    by s true h = rw (shows.trims s h)
-        ((seen_form r i (trim_column r.roster s) f).trim s (f.roster s h) refl)
+    by s true h = rw (shows.trims s h) ((seen_form r i (trim_column r.roster s) f).trim s (f.roster s h) refl)
     by s false h = rw (shows.others s h) (omega arith)
 
 first_fits : (r : Replica) (v : Value) → HasForm r
@@ -229,11 +209,7 @@ first_fits r v f first = record {
     least : (s : ℕ) → has r.members s ≡ true
         → IsLeastReceived (seen r.rows) (without r.members r.suspects) s (slice_index v.trim s)
         → slice_index v.trim s < 2 ^ 32
-    least s h t = omega (
-      arith,
-      t.found.2,
-      (seen_form r t.found.0 (recv_column s) f).recv s (f.roster s h) refl,
-    )
+    least s h t = omega (arith, t.found.2, (seen_form r t.found.0 (recv_column s) f).recv s (f.roster s h) refl)
 
     by : (s : ℕ) (b : Bool) → has r.members s ≡ b → slice_index v.trim s < 2 ^ 32
     by s true h = least s h (first.trims s h)
@@ -256,10 +232,8 @@ due_fits r f inside = by (may_propose r) refl
         (self_left r f inside)))
     by false e =
         let same : value_due r
-        ≡ shown_value r.roster (seen r.rows) r.members (promise_of r.roster (seen r.rows) (me r)) =
-        rw e refl in
-        subst (Fits r.roster r.members) (sym same)
-        (shown_fits r (promise_of r.roster (seen r.rows) (me r)) _ f
+        ≡ shown_value r.roster (seen r.rows) r.members (promise_of r.roster (seen r.rows) (me r)) = rw e refl in
+        subst (Fits r.roster r.members) (sym same) (shown_fits r (promise_of r.roster (seen r.rows) (me r)) _ f
         (choices.shows_value r.roster (seen r.rows) r.members (promise_of r.roster (seen r.rows) (me r))
         (view_small r f)))
 
@@ -318,8 +292,7 @@ value_compared r u b told = same_test b (is_value u due) to from
 
 pub no_vote_told : (r : Replica) (v : Value) → may_vote r (value_due r) ≡ false → may_vote r v ≡ false
 no_vote_told r v none = untrue (may_vote r v) (λ e.
-    let due : may_vote r (value_due r) ≡ true =
-    subst (λ (x : Value). may_vote r x ≡ true) (votes_for r v e) e in
+    let due : may_vote r (value_due r) ≡ true = subst (λ (x : Value). may_vote r x ≡ true) (votes_for r v e) e in
     absurd (cc (none, due)))
 
 -- where all of its view were in the one before, it has no letter to give
@@ -328,5 +301,4 @@ pub no_letters : (q : Replica) → HasForm q → (without q.members q.came_from 
 no_letters q form all j =
     let nobody : without q.members q.came_from ≡ 0 = grind (arith, nat_tests, all) in
     no_letter (nat_lt j q.roster) (is_welcomer q) (has q.members j) (has q.came_from j) (has q.given j)
-    (sym (has_without_mask q.members q.came_from j (view_small q form)) ∙ ap (λ mask. has mask j) nobody
-    ∙ has_zero j)
+    (sym (has_without_mask q.members q.came_from j (view_small q form)) ∙ ap (λ mask. has mask j) nobody ∙ has_zero j)

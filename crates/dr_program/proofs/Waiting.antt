@@ -1,12 +1,10 @@
 -- A vote that waits is acted on.
-use Rattle.std.proofs.Common.{◌≡◌, refl, sym, ap, ◌∙◌, not, true, inl, inr, arith}
 use Rattle.std.specs.Prelude.{Option, None, Some, is_some}
+use Rattle.std.proofs.Common.{◌≡◌, refl, sym, ap, ◌∙◌, not, true, inl, inr, arith}
 use Rattle.dr_entry.specs.declared.record.Vote.{Vote}
 use Rattle.dr_machine.specs.declared.step.Step.{Step}
-use Rattle.dr_program.specs.Replica.{Replica}
-use Rattle.dr_program.specs.Running.{Running, WaitsAt, next_step, step_at}
-use Rattle.dr_program.specs.Steps.{IsAppend, is_free}
-use Rattle.dr_program.specs.Turn.{part_of}
+use Rattle.dr_program.specs.{Replica.Replica, Running.{Running, WaitsAt, next_step, step_at}}
+use Rattle.dr_program.specs.{Steps.{IsAppend, is_free}, Turn.part_of}
 
 -- who has no vote that waits is free for any step
 free_none : (q : Replica) (s : Step) → q.pending ≡ None → is_free q s ≡ true
@@ -23,10 +21,8 @@ free_append : (q : Replica) (s : Step) → IsAppend s → is_free q s ≡ not (i
 free_append q s is = grind (arith, is)
 
 -- so it is due only where none waits
-pub append_free : (r : Running) → WaitsAt r (part_of r.place) → IsAppend (next_step r)
-    → r.replica.pending ≡ None
-append_free r waits due =
-    by r.replica.pending (sym (free_append r.replica (next_step r) due) ∙ free_step r waits)
+pub append_free : (r : Running) → WaitsAt r (part_of r.place) → IsAppend (next_step r) → r.replica.pending ≡ None
+append_free r waits due = by r.replica.pending (sym (free_append r.replica (next_step r) due) ∙ free_step r waits)
   where
     by : (o : Option Vote) → not (is_some o) ≡ true → o ≡ None
     by None e = refl

@@ -1,29 +1,20 @@
 -- The form that replicas and running members always have, and what ties them to a group.
 use Rattle.std.specs.Prelude.{◌≡◌, ℕ, ◌+◌, ◌*◌, ◌^◌, ◌<◌, ◌≤◌, ◌&&◌, ◌||◌, true, false, List, [], length, map, slice_index, slice_get, Option, None, Some}
 use Rattle.dr_entry.specs.declared.limits.TheConstants.{MAX_MEMBERS, MAX_MESSAGES, MAX_MESSAGE_LENGTH}
-use Rattle.dr_history.specs.Members.{has, members_of}
-use Rattle.dr_history.specs.Places.{front_of}
-use Rattle.dr_history.specs.History.{messages_of}
-use Rattle.dr_history.specs.Order.{messages_from}
+use Rattle.dr_entry.specs.declared.record.{Value.Value, Vote.Vote}
+use Rattle.dr_history.specs.{History.messages_of, Members.{has, members_of}, Order.messages_from, Places.front_of}
 use Rattle.dr_ring.specs.Slots.{slot_column}
 use Rattle.dr_rows.specs.Words.{IsWords, own, is_frozen}
-use Rattle.dr_entry.specs.declared.record.Value.{Value}
-use Rattle.dr_entry.specs.declared.record.Vote.{Vote}
-use Rattle.dr_words.specs.Accepts.{part_of as value_part}
+use Rattle.dr_words.specs.{Accepts.part_of as value_part, Columns.{columns_of, recv_column}, Form.AllInForm}
+use Rattle.dr_words.specs.{Masks.IsInRoster, Packing.{accept_promise, accept_tag, accept_value, recv_word, ring_tag}}
 use Rattle.dr_words.specs.Rewrites.{is_accept_of}
 use Rattle.dr_words.specs.declared.column.TheConstants.{BEAT_COLUMN, SUSPECTED_COLUMN, RECEIVED_COLUMN, LOGGED_COLUMN, PIECES}
-use Rattle.dr_words.specs.Columns.{columns_of, recv_column}
-use Rattle.dr_words.specs.Form.{AllInForm}
-use Rattle.dr_words.specs.Masks.{IsInRoster}
-use Rattle.dr_words.specs.Packing.{accept_promise, accept_tag, accept_value, recv_word, ring_tag}
 use Rattle.dr_suspect.specs.Waits.{IsWaits}
-use Rattle.dr_program.specs.declared.setup.Setup.{Setup}
-use Rattle.dr_program.specs.Turn.{IsIn, part_of, turn_begins}
-use Rattle.dr_machine.specs.Group as groups
-use Rattle.dr_machine.specs.Group.{Group, IsPresent, banks, late_members, roster}
-use Rattle.dr_machine.specs.Sending.{IsPut}
 use Rattle.dr_program.specs.Replica.{Replica, me, count, greatest, is_inside, is_wedged, promise, members_in_view}
-use Rattle.dr_program.specs.Running.{Running, WaitsAt, members, columns, applies}
+use Rattle.dr_program.specs.{Running.{Running, WaitsAt, members, columns, applies}, Turn.{IsIn, part_of, turn_begins}}
+use Rattle.dr_program.specs.declared.setup.Setup.{Setup}
+use Rattle.dr_machine.specs.Group as groups
+use Rattle.dr_machine.specs.{Group.{Group, IsPresent, banks, late_members, roster}, Sending.IsPut}
 
 -- what a replica begins with has its ranges
 pub record CanBegin (s : Setup) : Type 0 where

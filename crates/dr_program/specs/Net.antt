@@ -3,12 +3,9 @@
 use Rattle.std.specs.Prelude.{◌≡◌, ◌⊎◌, ℕ, ◌<◌, Contains, List, [], ◌∷◌, max, slice_index, slice_set, None, Some}
 use Rattle.dr_rows.specs.Words.{own}
 use Rattle.dr_words.specs.Layout.{word_index_of}
-use Rattle.dr_machine.specs.declared.step.Step.TheVariants.{Push}
-use Rattle.dr_machine.specs.Group.{Group, banks, columns, roster}
-use Rattle.dr_program.specs.Presence.{present_at, with_present}
-use Rattle.dr_program.specs.Program.{Move, Program, step_of}
-use Rattle.dr_program.specs.Reading.{step_of_member}
-use Rattle.dr_program.specs.Running.{Running, settled, took_letter, AsksForLetter}
+use Rattle.dr_machine.specs.{Group.{Group, banks, columns, roster}, declared.step.Step.TheVariants.Push}
+use Rattle.dr_program.specs.{Presence.{present_at, with_present}, Program.{Move, Program, step_of}}
+use Rattle.dr_program.specs.{Reading.step_of_member, Running.{Running, settled, took_letter, AsksForLetter}}
 
 -- member m of one of these programs was in this view, and this was its own word of the column
 abbrev pub HadWord : List Program → ℕ → ℕ → ℕ → ℕ → Type 0

@@ -1,26 +1,17 @@
 -- A program: the members of a group as they run, over the words of one table, and its runs.
-use Rattle.std.specs.Prelude.{◌≡◌, ℕ, ◌+◌, ◌<◌, Bool, true, IsTrue, All, List, [], ◌∷◌, ◌++◌, length, map, fold, replicate, slice_index_or, Option, None, Some, is_some, option_map, unwrap_or}
-use Rattle.dr_entry.specs.declared.limits.TheConstants.{MAX_MEMBERS}
 use Rattle.std.specs.List.{range_with_len}
-use Rattle.dr_entry.specs.declared.entry.Entry.{Entry}
-use Rattle.dr_entry.specs.declared.end.AgeEnd.{AgeEnd}
-use Rattle.dr_entry.specs.declared.end.MemberEnd.{MemberEnd}
-use Rattle.dr_entry.specs.declared.end.ViewSent.{ViewSent}
-use Rattle.dr_entry.specs.declared.end.End.{End}
+use Rattle.std.specs.Prelude.{◌≡◌, ℕ, ◌+◌, ◌<◌, Bool, true, IsTrue, All, List, [], ◌∷◌, ◌++◌, length, map, fold, replicate, slice_index_or, Option, None, Some, is_some, option_map, unwrap_or}
+use Rattle.dr_entry.specs.declared.end.{AgeEnd.AgeEnd, End.End, MemberEnd.MemberEnd, ViewSent.ViewSent}
+use Rattle.dr_entry.specs.declared.{entry.Entry.Entry, limits.TheConstants.MAX_MEMBERS}
 use Rattle.dr_entry.specs.declared.end.End.TheVariants as ends
 use Rattle.dr_words.specs.Layout.{words_of}
-use Rattle.dr_history.specs.History.{messages_of}
-use Rattle.dr_history.specs.declared.opening.Opening.{Opening}
-use Rattle.dr_program.specs.declared.outcome.Outcome.{Outcome}
-use Rattle.dr_program.specs.declared.outcome.Outcome.TheVariants as outcomes
-use Rattle.dr_program.specs.declared.setup.Setup.{Setup}
-use Rattle.dr_machine.specs.declared.step.Step.{Step}
-use Rattle.dr_machine.specs.declared.step.Step.TheVariants.{Append, Join, LogVote}
-use Rattle.dr_machine.specs.Group.{Group, IsPresent, banks, late_members, roster}
-use Rattle.dr_program.specs.Presence.{present_at, with_present}
-use Rattle.dr_program.specs.Replica.{LeftView, Replica}
+use Rattle.dr_history.specs.{History.messages_of, declared.opening.Opening.Opening}
+use Rattle.dr_program.specs.{Presence.{present_at, with_present}, Steps.{sight, stored, stored_letters}}
+use Rattle.dr_program.specs.{Replica.{LeftView, Replica}, declared.{outcome.Outcome.Outcome, setup.Setup.Setup}}
 use Rattle.dr_program.specs.Running.{Running, begun_running, next_step, after_step, broken_off, settled, took_letter}
-use Rattle.dr_program.specs.Steps.{sight, stored, stored_letters}
+use Rattle.dr_program.specs.declared.outcome.Outcome.TheVariants as outcomes
+use Rattle.dr_machine.specs.{Group.{Group, IsPresent, banks, late_members, roster}, declared.step.Step.Step}
+use Rattle.dr_machine.specs.declared.step.Step.TheVariants.{Append, Join, LogVote}
 
 pub record Program : Type 0 where
   -- the members, by number: whoever is absent has an empty place

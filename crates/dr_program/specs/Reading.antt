@@ -1,19 +1,14 @@
 -- The world that replicas and a table are.
 use Rattle.std.specs.Option.{option_map_or}
 use Rattle.std.specs.Prelude.{ℕ, ◌&&◌, ◌==◌, nat_lt, if◌then◌else◌, List, map, take, slice_index, slice_index_or, Option, None, Some, option_map}
-use Rattle.dr_entry.specs.declared.entry.Entry.{Entry}
-use Rattle.dr_entry.specs.declared.entry.Item.TheVariants.{Null}
+use Rattle.dr_entry.specs.declared.{end.End.End, entry.{Entry.Entry, Item.TheVariants.Null}}
 use Rattle.dr_rows.specs.Words.{own, seen}
 use Rattle.dr_words.specs.Layout.{word_index_of}
-use Rattle.dr_entry.specs.declared.end.End.{End}
+use Rattle.dr_machine.specs.{Group.{Group, banks, roster, columns}, World.{World, opening_world}}
 use Rattle.dr_machine.specs.declared.step.Step.{Step}
-use Rattle.dr_machine.specs.Group.{Group, banks, roster, columns}
-use Rattle.dr_machine.specs.World.{World, opening_world}
-use Rattle.dr_program.specs.declared.outcome.Outcome.{Outcome}
-use Rattle.dr_program.specs.Presence.{present_at}
+use Rattle.dr_program.specs.{Presence.present_at, Program.{Program, comes_to}}
 use Rattle.dr_program.specs.Replica.{LeftView, Replica, me, count, item, nothing_left, promise}
-use Rattle.dr_program.specs.Running.{Running, next_step}
-use Rattle.dr_program.specs.Program.{Program, comes_to}
+use Rattle.dr_program.specs.{Running.{Running, next_step}, declared.outcome.Outcome.Outcome}
 
 -- what member m has of something, and at the opening's where it is absent
 abbrev pub of_member : {A : Type 0} → List (Option Replica) → (Replica → A) → (ℕ → A) → ℕ → A

@@ -1,39 +1,25 @@
 -- A replica: what one member has and has seen, and what each of its acts makes of it. Lists go by the
 -- members' numbers.
-use Rattle.std.specs.Prelude.{ℕ, ◌+◌, ◌*◌, ◌-◌, ◌^◌, ◌/◌, ◌%◌, ◌==◌, ◌&&◌, ◌||◌, Bool, if◌then◌else◌, not, nat_lt, min, max, List, [], ◌∷◌, ◌++◌, length, map, fold, replicate, slice_index, slice_index_or, slice_set, unwrap_or, is_some, Option, None, Some, true, false}
 use Rattle.std.specs.List.{list_all, list_any, range_with_len}
-use Rattle.dr_entry.specs.declared.entry.Entry.{Entry}
-use Rattle.dr_entry.specs.declared.entry.Entry.TheVariants.{View}
-use Rattle.dr_entry.specs.declared.entry.Item.{Item}
-use Rattle.dr_entry.specs.declared.entry.Item.TheVariants.{Null, Text}
-use Rattle.dr_entry.specs.declared.end.End.{End}
+use Rattle.std.specs.Prelude.{ℕ, ◌+◌, ◌*◌, ◌-◌, ◌^◌, ◌/◌, ◌%◌, ◌==◌, ◌&&◌, ◌||◌, Bool, if◌then◌else◌, not, nat_lt, min, max, List, [], ◌∷◌, ◌++◌, length, map, fold, replicate, slice_index, slice_index_or, slice_set, unwrap_or, is_some, Option, None, Some, true, false}
+use Rattle.dr_entry.specs.{declared.end.End.End, declared.record.{Value.Value, Vote.Vote}}
 use Rattle.dr_entry.specs.declared.end.End.TheVariants.{Done, Crashed, Suspected, Excluded, NoMajority, DiskFault, LogFull, Spent}
-use Rattle.dr_entry.specs.declared.end.SentItem.{SentItem}
+use Rattle.dr_entry.specs.declared.{end.SentItem.{SentItem, TheVariants.Index}, entry.Entry.{Entry, TheVariants.View}}
+use Rattle.dr_entry.specs.declared.{entry.Item.{Item, TheVariants.{Null, Text}}, limits.TheConstants.MAX_MEMBERS}
 use Rattle.dr_entry.specs.declared.end.SentItem.TheVariants as sent_items
-use Rattle.dr_entry.specs.declared.end.SentItem.TheVariants.{Index}
-use Rattle.dr_history.specs.Members.{has, members_of}
+use Rattle.dr_history.specs.{History.{last_view, messages_in}, Members.{has, members_of}, Order.messages_from}
 use Rattle.dr_history.specs.Places.{front_of, rest_places}
-use Rattle.dr_history.specs.History.{last_view, messages_in}
-use Rattle.dr_history.specs.Order.{messages_from}
 use Rattle.dr_ring.specs.Slots.{is_free, item_in, slot_of, with_item}
 use Rattle.dr_rows.specs.Words as rows
 use Rattle.dr_rows.specs.Words.{Words, begun, row_of, seen, own, rewritten, with_frozen}
-use Rattle.dr_suspect.specs.Suspicion.{Suspicion, names_me}
-use Rattle.dr_suspect.specs.Wishes.{may_wish}
-use Rattle.dr_words.specs.Accepts.{promise_of}
-use Rattle.dr_words.specs.Choices as choices
-use Rattle.dr_words.specs.Choices.{proposal, shown_value}
+use Rattle.dr_suspect.specs.{Suspicion.{Suspicion, names_me}, Wishes.may_wish}
+use Rattle.dr_words.specs.{Accepts.promise_of, Choices.{proposal, shown_value}, Columns.{columns_of, recv_column}}
+use Rattle.dr_words.specs.{Masks.{least_of, mask_of, next_members, with_member, without}, Packing.recv_word}
 use Rattle.dr_words.specs.Rewrites.{accepted_word, wedged_word}
 use Rattle.dr_words.specs.declared.column.TheConstants.{BEAT_COLUMN, RECEIVED_COLUMN, LOGGED_COLUMN, DONE_COLUMN}
-use Rattle.dr_words.specs.Columns.{columns_of, recv_column}
-use Rattle.dr_words.specs.Masks.{least_of, mask_of, next_members, with_member, without}
-use Rattle.dr_words.specs.Packing.{recv_word}
+use Rattle.dr_words.specs.Choices as choices
 use Rattle.dr_program.specs.declared.setup.Setup.{Setup}
-use Rattle.dr_entry.specs.declared.record.Value.{Value}
-use Rattle.dr_entry.specs.declared.record.Vote.{Vote}
-use Rattle.dr_entry.specs.declared.limits.TheConstants.{MAX_MEMBERS}
-use Rattle.dr_machine.specs.World.{no_value, no_vote}
-use Rattle.dr_machine.specs.Effects.{entries_of, one_more}
+use Rattle.dr_machine.specs.{Effects.{entries_of, one_more}, World.{no_value, no_vote}}
 
 -- what a member keeps of a view that it has left: its own words, how many items of each member it had, and
 -- what it had put

@@ -1,40 +1,25 @@
 -- A running member: a replica that goes through its turn, place by place, and does at each what there is to
 -- do.
+use Rattle.std.specs.{List.{find, list_any}, Option.{option_map, option_or}}
 use Rattle.std.specs.Prelude.{◌≡◌, ◌⊎◌, ℕ, zero, suc, ◌+◌, ◌-◌, ◌==◌, ◌&&◌, ◌||◌, Bool, not, true, if◌then◌else◌, List, length, slice_index_or, Option, None, Some, is_some, unwrap_or}
-use Rattle.std.specs.List.{find, list_any}
-use Rattle.std.specs.Option.{option_map, option_or}
-use Rattle.dr_entry.specs.declared.entry.Entry.{Entry}
-use Rattle.dr_entry.specs.declared.entry.Entry.TheVariants.{View}
+use Rattle.dr_entry.specs.{declared.{end.End.End, entry.Entry.{Entry, TheVariants.View}}, declared.record.Value.Value}
 use Rattle.dr_entry.specs.declared.record.Record.TheVariants as records
-use Rattle.dr_entry.specs.declared.record.Value.{Value}
-use Rattle.dr_entry.specs.declared.end.End.{End}
 use Rattle.dr_entry.specs.declared.end.End.TheVariants as ends
 use Rattle.dr_rows.specs.Words.{own, changed, looked}
-use Rattle.dr_suspect.specs.Answers.{least_where}
-use Rattle.dr_suspect.specs.Suspicion.{names_me, spread_of}
-use Rattle.dr_suspect.specs.Wishes.{may_wish}
-use Rattle.dr_suspect.specs.Waits.{Waits, begun, compared, is_overdue}
+use Rattle.dr_suspect.specs.{Answers.least_where, Suspicion.{names_me, spread_of}}
+use Rattle.dr_suspect.specs.{Waits.{Waits, begun, compared, is_overdue}, Wishes.may_wish}
 use Rattle.dr_words.specs.Columns.{columns_of}
-use Rattle.dr_program.specs.declared.outcome.LogWhy.{LogWhy}
-use Rattle.dr_program.specs.declared.outcome.LogWhy.TheVariants as whys
-use Rattle.dr_program.specs.declared.setup.CrashPoint.{CrashPoint}
-use Rattle.dr_program.specs.declared.setup.Setup.{Setup}
-use Rattle.dr_program.specs.declared.setup.Suspicion.{Suspicion}
-use Rattle.dr_program.specs.declared.place.Place.{Place}
-use Rattle.dr_program.specs.declared.place.Part.{Part}
-use Rattle.dr_program.specs.declared.place.Part.TheVariants as parts
-use Rattle.dr_program.specs.declared.place.TheConstants.{TURN}
-use Rattle.dr_machine.specs.declared.event.Act.{Act}
-use Rattle.dr_machine.specs.declared.event.Act.TheVariants as acts
-use Rattle.dr_machine.specs.declared.step.Step.{Step}
-use Rattle.dr_machine.specs.declared.step.Step.TheVariants as steps
-use Rattle.dr_program.specs.Acts.{leaves_view}
-use Rattle.dr_program.specs.Turn.{part_of, after, is_beat, places_in, turn_ends}
-use Rattle.dr_program.specs.Steps.{allows, stepped, index_in}
-use Rattle.dr_program.specs.declared.deed.Deed.{Deed}
-use Rattle.dr_program.specs.declared.deed.Deed.TheVariants as deeds
-use Rattle.dr_machine.specs.Effects.{one_more}
+use Rattle.dr_program.specs.{Acts.leaves_view, declared.{deed.Deed.Deed, place.Part.Part}}
 use Rattle.dr_program.specs.Replica.{Replica, begun_replica, joined, me, is_other, is_others, has_majority, is_wedged, may_suspect, suspicion_of, unsuspected, value_due, vote_of}
+use Rattle.dr_program.specs.{Steps.{allows, stepped, index_in}, declared.{place.Place.Place, setup.Setup.Setup}}
+use Rattle.dr_program.specs.{Turn.{part_of, after, is_beat, places_in, turn_ends}, declared.setup.Suspicion.Suspicion}
+use Rattle.dr_program.specs.declared.{outcome.LogWhy.LogWhy, place.TheConstants.TURN, setup.CrashPoint.CrashPoint}
+use Rattle.dr_program.specs.declared.outcome.LogWhy.TheVariants as whys
+use Rattle.dr_program.specs.declared.place.Part.TheVariants as parts
+use Rattle.dr_machine.specs.{Effects.one_more, declared.{event.Act.Act, step.Step.Step}}
+use Rattle.dr_machine.specs.declared.event.Act.TheVariants as acts
+use Rattle.dr_machine.specs.declared.step.Step.TheVariants as steps
+use Rattle.dr_program.specs.declared.deed.Deed.TheVariants as deeds
 
 pub record Running : Type 0 where
   -- the replica

@@ -1,10 +1,8 @@
 -- Schedules: the order in which the members of a program take their deeds, until all have ended.
-use Rattle.std.specs.Prelude.{◌≡◌, ◌⊎◌, ⊤, ℕ, zero, suc, ◌+◌, ◌*◌, ◌/◌, ◌%◌, ◌^◌, ◌<◌, ◌||◌, All, Bool, not, true, false, List, [], ◌∷◌, ◌++◌, length, take, slice_index, Option, None, Some, is_some}
 use Rattle.std.specs.List.{range_with_len, filter}
-use Rattle.dr_program.specs.Turn.{is_beat, part_of}
-use Rattle.dr_program.specs.Running.{Running}
-use Rattle.dr_program.specs.Presence.{present_at}
-use Rattle.dr_program.specs.Program.{Program, Move, ran, step_of, AllEnded, has_ended}
+use Rattle.std.specs.Prelude.{◌≡◌, ◌⊎◌, ⊤, ℕ, zero, suc, ◌+◌, ◌*◌, ◌/◌, ◌%◌, ◌^◌, ◌<◌, ◌||◌, All, Bool, not, true, false, List, [], ◌∷◌, ◌++◌, length, take, slice_index, Option, None, Some, is_some}
+use Rattle.dr_program.specs.{Presence.present_at, Program.{Program, Move, ran, step_of, AllEnded, has_ended}}
+use Rattle.dr_program.specs.{Running.Running, Turn.{is_beat, part_of}}
 
 -- ---- lockstep: a whole turn of each member, again and again
 

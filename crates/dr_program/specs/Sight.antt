@@ -1,11 +1,9 @@
 -- What a member may see where its next deed is a look.
 use Rattle.std.specs.Prelude.{ℕ, Option, None, Some}
 use Rattle.dr_rows.specs.Words.{seen}
-use Rattle.dr_words.specs.Form.{IsInForm}
-use Rattle.dr_words.specs.Grown.{HasGrown}
+use Rattle.dr_words.specs.{Form.IsInForm, Grown.HasGrown}
 use Rattle.dr_machine.specs.declared.step.Step.{Step}
-use Rattle.dr_program.specs.Running.{Running, members}
-use Rattle.dr_program.specs.Steps.{IsLook}
+use Rattle.dr_program.specs.{Running.{Running, members}, Steps.IsLook}
 
 -- the word of row i and column c that a member may see next: it is in form, and has grown from the one that
 -- it saw before

@@ -1,17 +1,13 @@
 -- What a step makes of a replica and of the table, and when it may.
 use Rattle.std.specs.Prelude.{⊤, ◌≡◌, ℕ, ◌&&◌, ◌||◌, not, nat_lt, true, false, Bool, Option, None, Some, is_some, List, slice_index, slice_set}
 use Rattle.dr_entry.specs.declared.entry.Entry.{Entry}
-use Rattle.dr_history.specs.History.{up_to_view}
-use Rattle.dr_history.specs.Members.{has}
+use Rattle.dr_history.specs.{History.up_to_view, Members.has}
 use Rattle.dr_rows.specs.Words.{own}
+use Rattle.dr_words.specs.{Columns.columns_of, Grown.Grown, Layout.word_index_of}
 use Rattle.dr_words.specs.declared.column.TheConstants.{BEAT_COLUMN}
-use Rattle.dr_words.specs.Columns.{columns_of}
-use Rattle.dr_words.specs.Grown.{Grown}
-use Rattle.dr_words.specs.Layout.{word_index_of}
-use Rattle.dr_machine.specs.declared.step.Step.{Step}
+use Rattle.dr_machine.specs.{Effects.one_more, declared.step.Step.Step}
 use Rattle.dr_machine.specs.declared.step.Step.TheVariants.{Do, Look, Push, Append, LogVote, Welcome, Join}
 use Rattle.dr_program.specs.Acts.{is_outside_act, may, may_waiting, taken}
-use Rattle.dr_machine.specs.Effects.{one_more}
 use Rattle.dr_program.specs.Replica.{Replica, me, is_inside, is_other, may_append, may_give, may_vote, looked, pushed, appended, gave, voted}
 
 -- another member of the view has a word of this column

@@ -1,10 +1,8 @@
 -- The order of the places in a turn.
 use Rattle.std.specs.Prelude.{ℕ, ◌+◌, ◌*◌, ◌<◌, nat_lt, if◌then◌else◌, Bool, true, false, List, [], ◌∷◌, length, slice_index_or}
-use Rattle.dr_program.specs.declared.place.Part.{Part}
+use Rattle.dr_program.specs.declared.place.{Part.Part, Place.Place, TheConstants.{TURN, TURN_ENDS}}
 use Rattle.dr_machine.specs.declared.event.Act.TheVariants as acts
 use Rattle.dr_program.specs.declared.place.Part.TheVariants as parts
-use Rattle.dr_program.specs.declared.place.Place.{Place}
-use Rattle.dr_program.specs.declared.place.TheConstants.{TURN, TURN_ENDS}
 
 -- the part with which a turn begins, and whether a part is it
 abbrev pub turn_begins : Part

@@ -2,12 +2,11 @@
 ghost use Rattle.std.specs.Prelude.{◌≡◌, ℕ, ◌<◌, ◌≤◌, List, Option, [], ◌∷◌, ◌++◌, Some, slice_get};
 ghost use Rattle.dr_program.specs.declared.place.TheConstants.{PARTS, TURN, TURN_ENDS};
 ghost use Rattle.dr_program.specs.declared.setup.Setup.{Setup};
-ghost use Rattle.dr_machine.specs.Group.{Group, IsGroup, roster};
-ghost use Rattle.dr_machine.specs.World.{opening_world};
 ghost use Rattle.dr_program.specs.Running.{begun_running};
 ghost use Rattle.dr_program.specs.Program.{Program, Move, ran, IsSetup, AreSetups, begun_program};
 ghost use Rattle.dr_program.specs.Reading.{world};
 ghost use Rattle.dr_program.specs.Form.{CanBegin, IsRunningMember, IsOf};
+ghost use Rattle.dr_machine.specs.{Group.{Group, IsGroup, roster}, World.opening_world};
 
 use crate::place::Part;
 use dr_machine::Act;

@@ -1,35 +1,21 @@
 -- What the deeds of members and words that come make of a program whose words are carried by a net.
+use Rattle.std.{specs.Prelude.{max, slice_set, None, Option, Some}, proofs.lemmas.Bool.and_parts}
 use Rattle.std.proofs.Common.{◌≡◌, arith, refl, subst, sym, true, ℕ, ◌<◌, [], All, Contains, List, ◌∷◌, length, slice_index}
-use Rattle.std.specs.Prelude.{max, slice_set, None, Option, Some}
-use Rattle.std.proofs.lemmas.List.Elements.{All-cons, All-contains, All-nil, All-weaker}
-use Rattle.std.proofs.lemmas.Bool.{and_parts}
-use Rattle.std.proofs.lemmas.Option.{same_Some}
+use Rattle.std.proofs.lemmas.{List.Elements.{All-cons, All-contains, All-nil, All-weaker}, Option.same_Some}
 use Rattle.dr_entry.specs.declared.end.End.{End}
 use Rattle.dr_rows.specs.Words.{own}
-use Rattle.dr_words.proofs.Places.{word_index_within}
-use Rattle.dr_words.specs.Layout.{word_index_of}
-use Rattle.dr_machine.proofs.Runs.{is_before, stays_next}
-use Rattle.dr_machine.specs.declared.step.Step.TheVariants.{Push}
-use Rattle.dr_machine.specs.Group.{Group, IsGroup, banks, columns, roster}
-use Rattle.dr_machine.specs.Run.{ComesNext, IsReached}
-use Rattle.dr_machine.specs.World.{World}
-use Rattle.dr_program.specs.declared.packet.Packet.{Packet}
-use Rattle.dr_program.specs.Net.{FindsNone, IsOnItsWay, took_nothing}
-use Rattle.dr_program.specs.Program.{Move, Program, ok, step_of}
-use Rattle.dr_program.specs.Reading.{step_due, step_of_member, table_of, world}
-use Rattle.dr_program.specs.Replica.{is_inside, is_other, me}
-use Rattle.dr_program.specs.Running.{Running, next_step, AsksForLetter}
+use Rattle.dr_words.{specs.Layout.word_index_of, proofs.Places.word_index_within}
+use Rattle.dr_machine.specs.{Group.{Group, IsGroup, banks, columns, roster}, Run.{ComesNext, IsReached}, World.World}
+use Rattle.dr_machine.{specs.declared.step.Step.TheVariants.Push, proofs.Runs.{is_before, stays_next}}
+use Rattle.dr_program.specs.{Net.{FindsNone, IsOnItsWay, took_nothing}, Running.{Running, next_step, AsksForLetter}}
+use Rattle.dr_program.specs.{Presence.present_at, Program.{Move, Program, ok, step_of}, declared.packet.Packet.Packet}
+use Rattle.dr_program.specs.{Reading.{step_due, step_of_member, table_of, world}, Replica.{is_inside, is_other, me}}
 use Rattle.dr_program.specs.Steps.{allows, index_in}
-use Rattle.dr_refine.proofs.Deeds.{due_allowed, missed_stays, program_member, replicas, step_follows}
-use Rattle.dr_refine.proofs.Guards.{other_within}
-use Rattle.dr_refine.proofs.Members.{fits, inside}
-use Rattle.dr_refine.proofs.Tests.{cell_test}
 use Rattle.dr_refine.specs.Programs.{IsMember, IsProgram}
-use Rattle.dr_program_laws.proofs.Letters.{letters_are}
-use Rattle.dr_program_laws.proofs.Keeping.{move_kept}
+use Rattle.dr_refine.proofs.Deeds.{due_allowed, missed_stays, program_member, replicas, step_follows}
+use Rattle.dr_refine.proofs.{Guards.other_within, Members.{fits, inside}, Tests.cell_test}
+use Rattle.dr_program_laws.{specs.Carried.{IsCarried, WasSent}, proofs.{Keeping.move_kept, Letters.letters_are}}
 use Rattle.dr_program_laws.proofs.Nets.{come_follows, missed_kept, own_now, way_stays}
-use Rattle.dr_program_laws.specs.Carried.{IsCarried, WasSent}
-use Rattle.dr_program.specs.Presence.{present_at}
 
 -- what was sent was so with one moment more
 sent_more : (g : Group) (us : List World) (w : World) (packet : Packet) → WasSent g us packet
@@ -49,8 +35,7 @@ sent_more g us w packet y = record {
 
 all_sent : (g : Group) (us : List World) (w : World) (net : List Packet) → All (WasSent g us) net
     → All (WasSent g (w ∷ us)) net
-all_sent g us w net all =
-    All-weaker (WasSent g us) (WasSent g (w ∷ us)) (sent_more g us w) net all
+all_sent g us w net all = All-weaker (WasSent g us) (WasSent g (w ∷ us)) (sent_more g us w) net all
 
 -- a program begins so, and nothing is on its way
 pub carried_begins : (g : Group) (p : Program) → IsGroup g → IsProgram g p → IsReached g (world g p)
@@ -96,12 +81,10 @@ carried_pushes g p net m r j c y there push = record {
   way = (
     y.way,
     subst (ComesNext g y.before (world g p)) (sym (way_stays g p q y.group y.form
-        (letters_are g p y.group y.form (y.before, y.way)) on))
-        (stays_next g y.before (world g p)),
+        (letters_are g p y.group y.form (y.before, y.way)) on)) (stays_next g y.before (world g p)),
   );
-  sent = All-cons (WasSent g (world g q ∷ world g p ∷ y.before)) packet net
-      (sent_more g (world g p ∷ y.before) (world g q) packet new)
-      (all_sent g (world g p ∷ y.before) (world g q) net y.sent);
+  sent = All-cons (WasSent g (world g q ∷ world g p ∷ y.before)) packet net (sent_more g
+      (world g p ∷ y.before) (world g q) packet new) (all_sent g (world g p ∷ y.before) (world g q) net y.sent);
 }
   where
     q : Program
@@ -114,15 +97,7 @@ carried_pushes g p net m r j c y there push = record {
     kept = (move_kept g p (ok m) y.group y.form (y.before, y.way)).0
 
     on : IsOnItsWay p q
-    on = record {
-      move = ok m;
-      member = r;
-      there = there;
-      to = j;
-      column = c;
-      push = push;
-      made = refl;
-    }
+    on = record { move = ok m; member = r; there = there; to = j; column = c; push = push; made = refl }
 
     member : IsMember g (replicas p.members) (table_of p) m r.replica
     member = program_member g p m r y.group y.form there
@@ -142,8 +117,7 @@ carried_pushes g p net m r j c y there push = record {
       to = other_within g (replicas p.members) (table_of p) m r.replica j member cell.0;
       from = inside g m r.replica.rows r.replica.view (fits g (replicas p.members) (table_of p) m r.replica member);
       cell = cell.1;
-      place = λ z. word_index_of (member.of.members z) (member.of.window z) r.replica.view j
-          (member.of.number z) c;
+      place = λ z. word_index_of (member.of.members z) (member.of.window z) r.replica.view j (member.of.number z) c;
       was = own_now g p m r c y.before there;
     }
 
@@ -179,18 +153,17 @@ pub carried_comes : (g : Group) (p : Program) (net : List Packet) (packet : Pack
       table = slice_set p.table packet.index (max (slice_index p.table packet.index) packet.word);
       letters = p.letters;
     }) net
-carried_comes g p net packet y on =
-    subst (λ index. IsCarried g (record {
-      members = p.members;
-      table = slice_set p.table index (max (slice_index p.table index) packet.word);
-      letters = p.letters;
-    }) net) (sym one.place) (record {
-      group = y.group;
-      form = next.0;
-      before = world g p ∷ y.before;
-      way = (y.way, next.1);
-      sent = all_sent g (world g p ∷ y.before) (world g q) net y.sent;
-    })
+carried_comes g p net packet y on = subst (λ index. IsCarried g (record {
+  members = p.members;
+  table = slice_set p.table index (max (slice_index p.table index) packet.word);
+  letters = p.letters;
+}) net) (sym one.place) (record {
+  group = y.group;
+  form = next.0;
+  before = world g p ∷ y.before;
+  way = (y.way, next.1);
+  sent = all_sent g (world g p ∷ y.before) (world g q) net y.sent;
+})
   where
     one : WasSent g (world g p ∷ y.before) packet
     one = All-contains (WasSent g (world g p ∷ y.before)) net packet y.sent on
@@ -211,8 +184,7 @@ carried_comes g p net packet y on =
 
 -- and so does a take that finds no letter, as it is on its way
 pub carried_misses : (g : Group) (p : Program) (net : List Packet) (m : ℕ) (r : Running)
-    → IsCarried g p net → present_at p.members m ≡ Some r → AsksForLetter r
-    → IsCarried g (took_nothing p m r) net
+    → IsCarried g p net → present_at p.members m ≡ Some r → AsksForLetter r → IsCarried g (took_nothing p m r) net
 carried_misses g p net m r y there take = record {
   group = y.group;
   form = missed_kept g p m r y.form there take;

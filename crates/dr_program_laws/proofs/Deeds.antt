@@ -1,37 +1,22 @@
 -- A deed leads a member from where it stands so to where it does again.
+use Rattle.std.specs.{List.list_any, Prelude.{Any, Option, None, Some, slice_index_or}}
 use Rattle.std.proofs.Common.{◌≡◌, inl, inr, refl, sym, ap, ◌∙◌, subst, ℕ, ◌-◌, Bool, true, false, ◌==◌, ◌||◌, not, List, length, arith}
-use Rattle.std.specs.Prelude.{Any, Option, None, Some, slice_index_or}
-use Rattle.std.specs.List.{list_any}
-use Rattle.std.proofs.lemmas.Bool.{and_parts}
-use Rattle.std.proofs.lemmas.Bool.Decides.{nat_tests}
-use Rattle.std.proofs.lemmas.List.Folds.{Any-from_list_any}
+use Rattle.std.proofs.lemmas.{Bool.{and_parts, Decides.nat_tests}, List.Folds.Any-from_list_any}
 use Rattle.dr_entry.specs.declared.entry.Entry.{Entry}
-use Rattle.dr_machine.specs.declared.event.Act.{Act}
-use Rattle.dr_machine.specs.declared.step.Step.{Step}
+use Rattle.dr_machine.specs.declared.{event.Act.Act, step.Step.Step}
 use Rattle.dr_machine.specs.declared.step.Step.TheVariants as steps
-use Rattle.dr_program.specs.declared.outcome.Outcome.{Outcome}
-use Rattle.dr_program.specs.declared.outcome.LogWhy.{LogWhy}
-use Rattle.dr_program.specs.declared.outcome.LogWhy.TheVariants as whys
-use Rattle.dr_program.specs.declared.setup.CrashPoint.{CrashPoint}
-use Rattle.dr_program.specs.declared.setup.Setup.{Setup}
-use Rattle.dr_program.specs.declared.place.Part.{Part}
-use Rattle.dr_program.specs.declared.place.Part.TheVariants as parts
-use Rattle.dr_program.specs.declared.place.TheConstants.{TURN}
-use Rattle.dr_program.specs.Form.{IsRunningMember}
-use Rattle.dr_program.specs.Program.{after_deed, next_sight}
+use Rattle.dr_program.specs.{Acts.taken, Form.IsRunningMember, Program.{after_deed, next_sight}, Replica.value_due}
 use Rattle.dr_program.specs.Running.{Running, append_or_end, asks, begun_running, columns, crashes_now, end_by, is_at_push, is_in_turn, judged, members, next_step, push_or_crash, pushes_after, step_at, took_letter, goes, vote_or_end, waits_after}
-use Rattle.dr_program.specs.Replica.{value_due}
-use Rattle.dr_program.specs.Steps.{allows, stepped}
-use Rattle.dr_program.specs.Turn.{after, is_beat, part_of, turn_begins}
-use Rattle.dr_program.proofs.Runs.{after_either}
+use Rattle.dr_program.specs.{Steps.{allows, stepped}, Turn.{after, is_beat, part_of, turn_begins}}
+use Rattle.dr_program.specs.declared.{outcome.{LogWhy.LogWhy, Outcome.Outcome}, place.{Part.Part, TheConstants.TURN}}
+use Rattle.dr_program.{specs.declared.setup.{CrashPoint.CrashPoint, Setup.Setup}, proofs.Runs.after_either}
 use Rattle.dr_program.proofs.StepsAt.{append_either, vote_either}
-use Rattle.dr_turn.specs.Search.{IsUnderway}
-use Rattle.dr_turn.proofs.Deeds.{first_part}
-use Rattle.dr_program.specs.Acts.{taken}
-use Rattle.dr_turn.proofs.Search.{beat_test}
-use Rattle.dr_turn.proofs.Order.{all_below, each_below}
-use Rattle.dr_program_laws.specs.Ended.{IsBeforeCrash}
+use Rattle.dr_program.specs.declared.outcome.LogWhy.TheVariants as whys
+use Rattle.dr_program.specs.declared.place.Part.TheVariants as parts
+use Rattle.dr_turn.{specs.Search.IsUnderway, proofs.{Deeds.first_part, Order.{all_below, each_below}}}
 use Rattle.dr_turn.proofs.Parts.{goes_back_or_stays, is_end, is_publish, is_verdict, no_end, taken_end, taken_turns, verdict_no_beat, verdict_of}
+use Rattle.dr_turn.proofs.Search.{beat_test}
+use Rattle.dr_program_laws.specs.Ended.{IsBeforeCrash}
 use Rattle.dr_program_laws.proofs.Standing.{IsNotPast, IsProper, Stands, goes_on, is_crash, is_behind_crash, next_turn, settled_stands}
 
 -- ---- crash points
@@ -48,8 +33,7 @@ named_in_turn : (points : List CrashPoint) (turns : ℕ) → list_any (is_in_tur
     → Any (λ (c : CrashPoint). c.turn ≡ turns) points
 named_in_turn points turns e = by (Any-from_list_any (is_in_turn turns) points e)
   where
-    by : Any (λ (c : CrashPoint). is_in_turn turns c ≡ true) points
-        → Any (λ (c : CrashPoint). c.turn ≡ turns) points
+    by : Any (λ (c : CrashPoint). is_in_turn turns c ≡ true) points → Any (λ (c : CrashPoint). c.turn ≡ turns) points
     by (k, c, within, there, is) = (k, c, within, there, grind (arith, nat_tests, is))
 
 spent_at : (limit turns : ℕ) → (turns == limit) ≡ true → turns ≡ limit
@@ -69,10 +53,8 @@ early_before : (r : Running) (part : Part) → IsDue r part → is_publish part 
     → is_behind_crash (slice_index_or TURN (r.place.part - 1) turn_begins) ≡ false
 unfolding all_below
 early_before r part d e =
-    let back : is_publish (slice_index_or TURN r.place.part turn_begins)
-    ≡ true = ap is_publish d.at ∙ e in
-    implied _ _ (each_below (length TURN) r.place.part
-    (λ i. not (is_publish (slice_index_or TURN i turn_begins))
+    let back : is_publish (slice_index_or TURN r.place.part turn_begins) ≡ true = ap is_publish d.at ∙ e in
+    implied _ _ (each_below (length TURN) r.place.part (λ i. not (is_publish (slice_index_or TURN i turn_begins))
     || not (is_behind_crash (slice_index_or TURN (i - 1) turn_begins))) refl d.member.place.part) back
   where
     implied : (a b : Bool) → (not a || not b) ≡ true → a ≡ true → b ≡ false
@@ -85,8 +67,7 @@ early_before r part d e =
 -- the member is ahead of its crash at the next place, where its part is not the end of one that was to crash
 onward : (limit : ℕ) (points : List CrashPoint) (r : Running) (part : Part) → IsDue r part
     → is_crash part ≡ false → Stands limit points r
-    → is_behind_crash (part_of (after (members r) (columns r) r.place)) ≡ true
-    → IsBeforeCrash points r.replica.turns
+    → is_behind_crash (part_of (after (members r) (columns r) r.place)) ≡ true → IsBeforeCrash points r.replica.turns
 onward limit points r part d other v late =
     goes_on limit points r v (λ here. absurd (cc (ap is_crash d.at, here, other))) late
 
@@ -107,8 +88,7 @@ done_at word r part = done_by word r part (step_at r part r.place.row r.place.co
 same_turn : (limit : ℕ) (points : List CrashPoint) (word : ℕ) (r : Running) (part : Part) (s : Step)
     → (stepped word r.replica s).turns ≡ r.replica.turns → Stands limit points r
     → (is_behind_crash (part_of (goes (members r) (columns r) part r.place)) ≡ true
-    → IsBeforeCrash points r.replica.turns)
-    → IsProper limit points r.replica.turns (stepped word r.replica s).end
+    → IsBeforeCrash points r.replica.turns) → IsProper limit points r.replica.turns (stepped word r.replica s).end
     → Stands limit points (done_by word r part s)
 same_turn limit points word r part s same v ahead proper = record {
   limited = v.limited;
@@ -149,8 +129,7 @@ push_keeps limit points word r d v = by (crashes_now r) refl
 -- an append, or the end in its place
 append_keeps : (limit : ℕ) (points : List CrashPoint) (word : ℕ) (r : Running) → IsDue r parts.Append
     → Stands limit points r → Stands limit points (done_at word r parts.Append)
-append_keeps limit points word r d v =
-    same_turn limit points word r parts.Append (append_or_end r.failed)
+append_keeps limit points word r d v = same_turn limit points word r parts.Append (append_or_end r.failed)
     (append_either (λ s. (stepped word r.replica s).turns ≡ r.replica.turns) r.failed refl (λ why. refl)) v
     (onward limit points r parts.Append d refl v)
     (append_either (λ s. IsProper limit points r.replica.turns (stepped word r.replica s).end) r.failed
@@ -159,25 +138,21 @@ append_keeps limit points word r d v =
 -- a vote, or the end in its place
 vote_keeps : (limit : ℕ) (points : List CrashPoint) (word : ℕ) (r : Running) → IsDue r parts.Vote
     → Stands limit points r → Stands limit points (done_at word r parts.Vote)
-vote_keeps limit points word r d v =
-    same_turn limit points word r parts.Vote (vote_or_end r.failed (value_due r.replica))
-    (vote_either (λ s. (stepped word r.replica s).turns ≡ r.replica.turns) r.failed _ refl (λ why. refl)) v
-    (onward limit points r parts.Vote d refl v)
+vote_keeps limit points word r d v = same_turn limit points word r parts.Vote (vote_or_end r.failed
+    (value_due r.replica)) (vote_either (λ s. (stepped word r.replica s).turns ≡ r.replica.turns) r.failed _ refl
+    (λ why. refl)) v (onward limit points r parts.Vote d refl v)
     (vote_either (λ s. IsProper limit points r.replica.turns (stepped word r.replica s).end) r.failed _
     v.proper (log_proper limit points r.replica.turns))
 
 -- a verdict, to suspect another member or to end by suspicion
 verdict_keeps : (limit : ℕ) (points : List CrashPoint) (word : ℕ) (r : Running) (a : Act)
-    → is_verdict a ≡ true → Stands limit points r
-    → Stands limit points (done_by word r parts.Judge (steps.Do a))
-verdict_keeps limit points word r a is v =
-    same_turn limit points word r parts.Judge (steps.Do a) (taken_turns r.replica a (verdict_no_beat a is)) v
-    v.ahead (grind (arith, is, v.proper))
+    → is_verdict a ≡ true → Stands limit points r → Stands limit points (done_by word r parts.Judge (steps.Do a))
+verdict_keeps limit points word r a is v = same_turn limit points word r parts.Judge
+    (steps.Do a) (taken_turns r.replica a (verdict_no_beat a is)) v v.ahead (grind (arith, is, v.proper))
 
 -- so does a beat, with which a turn begins
 beat_keeps : (limit : ℕ) (points : List CrashPoint) (word : ℕ) (r : Running)
-    → IsDue r turn_begins → Stands limit points r
-    → Stands limit points (done_at word r turn_begins)
+    → IsDue r turn_begins → Stands limit points r → Stands limit points (done_at word r turn_begins)
 beat_keeps limit points word r d v = record {
   limited = v.limited;
   planned = v.planned;
@@ -226,16 +201,14 @@ act_keeps limit points word r a d v = by (is_beat (parts.Do a)) refl
 
 deed_keeps : (limit : ℕ) (points : List CrashPoint) (word : ℕ) (r : Running) (part : Part)
     → IsDue r part → Stands limit points r → Stands limit points (done_at word r part)
-deed_keeps limit points word r parts.Look d v =
-    record {
-      limited = v.limited;
-      planned = v.planned;
-      later = v.later;
-      ahead = onward limit points r parts.Look d refl v;
-      proper = v.proper;
-    }
-deed_keeps limit points word r parts.Judge d v =
-    verdict_keeps limit points word r (judged r) (verdict_of r) v
+deed_keeps limit points word r parts.Look d v = record {
+  limited = v.limited;
+  planned = v.planned;
+  later = v.later;
+  ahead = onward limit points r parts.Look d refl v;
+  proper = v.proper;
+}
+deed_keeps limit points word r parts.Judge d v = verdict_keeps limit points word r (judged r) (verdict_of r) v
 deed_keeps limit points word r parts.Append d v = append_keeps limit points word r d v
 deed_keeps limit points word r parts.Vote d v = vote_keeps limit points word r d v
 deed_keeps limit points word r parts.Push d v = push_keeps limit points word r d v
@@ -250,14 +223,13 @@ deed_keeps limit points word r parts.Crash d v = record {
 }
 deed_keeps limit points word r parts.Excluded d v =
     record { limited = v.limited; planned = v.planned; later = v.later; ahead = v.ahead; proper = tt }
-deed_keeps limit points word r parts.Done d v =
-    record {
-      limited = v.limited;
-      planned = v.planned;
-      later = v.later;
-      ahead = v.ahead;
-      proper = v.ahead (ap is_behind_crash d.at);
-    }
+deed_keeps limit points word r parts.Done d v = record {
+  limited = v.limited;
+  planned = v.planned;
+  later = v.later;
+  ahead = v.ahead;
+  proper = v.ahead (ap is_behind_crash d.at);
+}
 deed_keeps limit points word r parts.Spent d v =
     let last : r.replica.turns ≡ limit = spent_at r.limit r.replica.turns d.asked ∙ v.limited in
     record {
@@ -299,24 +271,21 @@ took_stands limit points (Some letter) r v = record {
 pub deed_stands : (limit : ℕ) (points : List CrashPoint) (table : List ℕ) (letter : Option (List Entry))
     (o : Outcome) (r : Running) → IsRunningMember r → r.replica.end ≡ None → Stands limit points r
     → Stands limit points (after_deed (next_sight table r) letter o r (next_step r))
-deed_stands limit points table letter o r member none v =
-    after_either (Stands limit points) table letter o r (next_step r)
-    (settled_stands limit points (done_at (next_sight table r) r (part_of r.place))
+deed_stands limit points table letter o r member none v = after_either (Stands limit points) table letter o r
+    (next_step r) (settled_stands limit points (done_at (next_sight table r) r (part_of r.place))
     (deed_keeps limit points (next_sight table r) r (part_of r.place) (record {
       at = refl;
       member = member;
       none = none;
       asked = (and_parts (asks r (part_of r.place) r.place.row r.place.column)
           (allows r.replica (next_step r)) (member.due none)).0;
-    }) v))
-    (λ why due. record {
+    }) v)) (λ why due. record {
       limited = v.limited;
       planned = v.planned;
       later = v.later;
       ahead = v.ahead;
       proper = v.proper;
-    })
-    (λ due. settled_stands limit points (took_letter letter r) (took_stands limit points letter r v))
+    }) (λ due. settled_stands limit points (took_letter letter r) (took_stands limit points letter r v))
 
 -- ---- the beginning
 

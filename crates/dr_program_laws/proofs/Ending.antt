@@ -1,67 +1,39 @@
 -- Members that have all ended have ended as they should.
-use Rattle.std.proofs.Common.{◌≡◌, ◌⊎◌, refl, sym, ap, ap₂, ◌∙◌, inl, inr, subst, if◌then◌else◌, ℕ, ◌==◌, ◌+◌, ◌<◌, ◌≤◌, Bool, List, [], ◌∷◌, ◌++◌, length, take, true, false, Contains, append-nil, length-append, arith}
 use Rattle.std.specs.Prelude.{IsTrue, Option, None, Some, is_some, option_map, slice_get, unwrap_or}
-use Rattle.std.proofs.lemmas.List.{length-take, nil_from_length}
-use Rattle.std.proofs.lemmas.Option.{slice_get-map, same_Some}
-use Rattle.dr_entry.specs.declared.entry.Entry.{Entry}
-use Rattle.dr_entry.specs.declared.entry.Entry.TheVariants.{View}
-use Rattle.dr_entry.specs.declared.end.End.{End}
+use Rattle.std.proofs.Common.{◌≡◌, ◌⊎◌, refl, sym, ap, ap₂, ◌∙◌, inl, inr, subst, if◌then◌else◌, ℕ, ◌==◌, ◌+◌, ◌<◌, ◌≤◌, Bool, List, [], ◌∷◌, ◌++◌, length, take, true, false, Contains, append-nil, length-append, arith}
+use Rattle.std.proofs.lemmas.{List.{length-take, nil_from_length}, Option.{slice_get-map, same_Some}}
+use Rattle.dr_entry.specs.declared.{end.{End.End, MemberEnd.MemberEnd, SentItem.SentItem}, entry.Entry.Entry}
+use Rattle.dr_entry.{specs.declared.entry.Entry.TheVariants.View, proofs.NumberFacts.same_number}
 use Rattle.dr_entry.specs.declared.end.End.TheVariants as ends
-use Rattle.dr_entry.specs.declared.end.MemberEnd.{MemberEnd}
-use Rattle.dr_entry.specs.declared.end.SentItem.{SentItem}
-use Rattle.dr_entry.proofs.NumberFacts.{same_number}
-use Rattle.dr_faithful.specs.Chosen.{endings_by, views_by}
-use Rattle.dr_faithful.specs.Faithful.{StandsOnLogs}
-use Rattle.dr_history.specs.Agreement.{EndsAgreed}
-use Rattle.dr_history.specs.declared.opening.Opening.{Opening}
-use Rattle.dr_history.specs.History.{GroupView, IsPrefixOf, view_of}
-use Rattle.dr_history.specs.Members.{has, members_of}
-use Rattle.dr_history.specs.Order.{IsLateIn, first_entries, messages_from, numbered_messages}
-use Rattle.dr_history.proofs.NumberedLemmas.{length-numbered_messages}
-use Rattle.dr_history_laws.specs.Remaining.{remaining}
-use Rattle.dr_history_laws.proofs.Courses.{head-first}
+use Rattle.dr_faithful.specs.{Chosen.{endings_by, views_by}, Faithful.StandsOnLogs}
+use Rattle.dr_history.specs.{Agreement.EndsAgreed, Order.{IsLateIn, first_entries, messages_from, numbered_messages}}
+use Rattle.dr_history.{specs.History.{GroupView, IsPrefixOf, view_of}, proofs.NumberedLemmas.length-numbered_messages}
+use Rattle.dr_history.specs.{Members.{has, members_of}, declared.opening.Opening.Opening}
+use Rattle.dr_history_laws.{specs.Remaining.remaining, proofs.Courses.head-first}
 use Rattle.dr_history_laws.proofs.Keeping.{prefix_beside, prefix_shorter, prefix_then}
-use Rattle.dr_program.specs.declared.setup.CrashPoint.{CrashPoint}
-use Rattle.dr_program.specs.declared.setup.Setup.{Setup}
-use Rattle.dr_machine.specs.Group.{Group, IsGroup, IsPresent, late_members, roster}
-use Rattle.dr_machine.proofs.Presence.{late_in}
-use Rattle.dr_machine.specs.Guards.{IsFault}
-use Rattle.dr_machine.specs.World.{World, opening_world}
-use Rattle.dr_program.specs.Form.{WaitsToJoin}
-use Rattle.dr_program.specs.Replica.{is_inside, me}
-use Rattle.dr_program.specs.Running.{Running}
-use Rattle.dr_program.proofs.Present.{ended_there, slice_present}
+use Rattle.dr_program.specs.{Form.WaitsToJoin, Net.IsRanOverNet, Presence.present_at, Running.Running}
 use Rattle.dr_program.specs.Program.{Program, AllEnded, AreSetups, IsRanFrom, absent_end, begun_program, end_at, end_of, member_end, sent_before}
-use Rattle.dr_machine.proofs.Presence.{in_roster}
-use Rattle.dr_program.specs.Net.{IsRanOverNet}
-use Rattle.dr_program.specs.Reading.{left_in, world}
-use Rattle.dr_machine.specs.Run.{IsReached}
+use Rattle.dr_program.specs.{Reading.{left_in, world}, Replica.{is_inside, me}, declared.setup.CrashPoint.CrashPoint}
+use Rattle.dr_program.{specs.declared.setup.Setup.Setup, proofs.Present.{ended_there, slice_present, present_within}}
+use Rattle.dr_machine.specs.{Group.{Group, IsGroup, IsPresent, late_members, roster}, Guards.IsFault, Run.IsReached}
+use Rattle.dr_machine.{specs.World.{World, opening_world}, proofs.Presence.{late_in, in_roster}}
 use Rattle.dr_refine.specs.Programs.{IsProgram}
 use Rattle.dr_script.specs.declared.script.Script.{Script}
-use Rattle.dr_restart.specs.declared.start.Start.{Start}
-use Rattle.dr_restart.specs.Groups.{group_of}
-use Rattle.dr_restart.specs.Setups.{IsBegun, crashes_of}
+use Rattle.dr_restart.specs.{Groups.group_of, Setups.{IsBegun, crashes_of}, declared.start.Start.Start}
 use Rattle.dr_restart.proofs.Setups.{are_setups}
 use Rattle.dr_vote_laws.proofs.Exclusions.{excluded_so}
 use Rattle.dr_words.specs.Masks.{IsInRoster, IsMajorityOf}
 use Rattle.dr_world_laws.proofs.Agreeing.{done-lacks-none, done-on-logs, done-same, either-prefix, the-view}
-use Rattle.dr_world_laws.proofs.ChosenViews.{views-leaves, views-there}
-use Rattle.dr_world_laws.proofs.Holding.{view-held}
-use Rattle.dr_world_laws.proofs.Joining.{outside-history, outside-sent}
-use Rattle.dr_world_laws.proofs.Leavings.{IsLeftSo}
+use Rattle.dr_world_laws.proofs.{ChosenViews.{views-leaves, views-there}, Holding.view-held}
+use Rattle.dr_world_laws.proofs.{Joining.{outside-history, outside-sent}, Leavings.IsLeftSo}
 use Rattle.dr_world_laws.proofs.Worlds.{Known, commits, done-durable, done-whole, first_durable, holds-remaining, in-order, known, left_so}
-use Rattle.dr_program_laws.specs.Causes.{HasCause, IsVotedOut}
+use Rattle.dr_program_laws.{specs.Causes.{HasCause, IsVotedOut}, proofs.Nets.{net_keeps, net_reached}}
 use Rattle.dr_program_laws.specs.Ended.{GoOnWithout, HasEnded, HasEndedOutside, HasReason, HaveEnded, IsComplete, LastViewIs, IsLeftOut, IsWhole, is_log_end, HasCrashed, IsSpent}
-use Rattle.dr_program_laws.proofs.Keeping.{deeds_kept}
-use Rattle.dr_program_laws.proofs.Nets.{net_keeps, net_reached}
+use Rattle.dr_program_laws.{specs.Failing.{AreFailing, IsFailing, has_log_end}, proofs.Failing.{all_fail, net_fails}}
+use Rattle.dr_program_laws.proofs.{Keeping.deeds_kept, Outside.{AreApart, IsApart, IsFaulty, net_apart, ran_apart}}
 use Rattle.dr_program_laws.proofs.Programs.{AllStand, all_stand, begun_stands, missed_stands, move_stands}
 use Rattle.dr_program_laws.proofs.Standing.{IsProper, Stands}
 use Rattle.dr_program_laws.proofs.Worlds.{all_ends, end_told, ends_agreed, ends_of, of_there, stands_there}
-use Rattle.dr_program.specs.Presence.{present_at}
-use Rattle.dr_program.proofs.Present.{present_within}
-use Rattle.dr_program_laws.proofs.Outside.{AreApart, IsApart, IsFaulty, net_apart, ran_apart}
-use Rattle.dr_program_laws.proofs.Failing.{all_fail, net_fails}
-use Rattle.dr_program_laws.specs.Failing.{AreFailing, IsFailing, has_log_end}
 
 -- ---- a member in its world
 
@@ -104,8 +76,7 @@ ended_is : (g : Group) (p : Program) (m : ℕ) (r : Running) (end : End) → IsT
     → r.replica.end ≡ Some end → (world g p).end m ≡ Some end
 ended_is g p m r end is e = of_there p (λ q. q.end) (opening_world g).end m r is.there ∙ e
 
-view_is : (g : Group) (p : Program) (m : ℕ) (r : Running) → IsThere g p m r
-    → (world g p).past.view m ≡ r.replica.view
+view_is : (g : Group) (p : Program) (m : ℕ) (r : Running) → IsThere g p m r → (world g p).past.view m ≡ r.replica.view
 view_is g p m r is = of_there p (λ q. q.view) (opening_world g).past.view m r is.there
 
 members_are : (g : Group) (p : Program) (m : ℕ) (r : Running) → IsThere g p m r
@@ -115,16 +86,13 @@ members_are g p m r is = of_there p (λ q. q.members) (opening_world g).members 
 -- the members of its view are those that the world knows of it
 views_are : (g : Group) (p : Program) (m : ℕ) (r : Running) (is : IsThere g p m r)
     → views_by g (known_of g p m r is).values ((world g p).past.view m) ≡ r.replica.members
-views_are g p m r is =
-    sym ((known_of g p m r is).chosen.faithful.views.own m) ∙ members_are g p m r is
+views_are g p m r is = sym ((known_of g p m r is).chosen.faithful.views.own m) ∙ members_are g p m r is
 
 -- its history is in the view that it is in
 in_view : (g : Group) (p : Program) (m : ℕ) (r : Running) → IsThere g p m r
     → LastViewIs g.opening r.replica.view r.replica.members r.replica.history
-in_view g p m r is =
-    ap view_of (sym (history_is g p m r is))
-    ∙ the-view g y.values (world g p) m is.group y.chosen (within g p m r is)
-    ∙ ap (λ mask. Some (view_with ((world g p).past.view m) mask)) (views_are g p m r is)
+in_view g p m r is = ap view_of (sym (history_is g p m r is)) ∙ the-view g y.values (world g p) m is.group y.chosen
+    (within g p m r is) ∙ ap (λ mask. Some (view_with ((world g p).past.view m) mask)) (views_are g p m r is)
     ∙ ap (λ v. Some (view_with v r.replica.members)) (view_is g p m r is)
   where
     y : Known g (world g p)
@@ -177,18 +145,15 @@ end_there p i e at = by (slice_get p.members i) refl
 -- each member of the view stands at its place
 beside_it : (g : Group) (p : Program) (m : ℕ) (r : Running) (i : ℕ) → IsThere g p m r
     → has r.replica.members i ≡ true → (q : Running) × (present_at p.members i ≡ Some q)
-beside_it g p m r i is member = stands_there g p i is.group is.program
-    (views-there g (known_of g p m r is).values ((world g p).past.view m) i is.group
-    (ap (λ mask. has mask i) (views_are g p m r is) ∙ member))
+beside_it g p m r i is member = stands_there g p i is.group is.program (views-there g (known_of g p m r is).values
+    ((world g p).past.view m) i is.group (ap (λ mask. has mask i) (views_are g p m r is) ∙ member))
 
 -- ---- a member that is done
 
 -- it has all messages of the members of its view
-done_whole : (g : Group) (p : Program) (m : ℕ) (r : Running) → IsThere g p m r
-    → r.replica.end ≡ Some ends.Done → (s : ℕ) → has r.replica.members s ≡ true
-    → messages_from s r.replica.history ≡ numbered_messages g.opening s
-done_whole g p m r is end s member =
-    ap (messages_from s) (sym (history_is g p m r is))
+done_whole : (g : Group) (p : Program) (m : ℕ) (r : Running) → IsThere g p m r → r.replica.end ≡ Some ends.Done
+    → (s : ℕ) → has r.replica.members s ≡ true → messages_from s r.replica.history ≡ numbered_messages g.opening s
+done_whole g p m r is end s member = ap (messages_from s) (sym (history_is g p m r is))
     ∙ all (messages_from s ((world g p).past.history m)) numbered.0 (numbered_messages g.opening s) numbered.1
     (done-whole g (world g p) m is.group y (within g p m r is) (ended_is g p m r ends.Done is end) s
     (ap (λ mask. has mask s) (members_are g p m r is) ∙ member) ∙ sym (length-numbered_messages g.opening s))
@@ -207,20 +172,16 @@ done_whole g p m r is end s member =
 -- all of it is durable
 done_durable : (g : Group) (p : Program) (m : ℕ) (r : Running) → IsThere g p m r
     → r.replica.end ≡ Some ends.Done → r.replica.durable ≡ length r.replica.history
-done_durable g p m r is end =
-    sym (durable_is g p m r is)
-    ∙ done-durable g (world g p) m (known_of g p m r is) (within g p m r is)
-    (ended_is g p m r ends.Done is end)
-    ∙ ap length (history_is g p m r is)
+done_durable g p m r is end = sym (durable_is g p m r is) ∙ done-durable g (world g p) m
+    (known_of g p m r is) (within g p m r is) (ended_is g p m r ends.Done is end) ∙ ap length (history_is g p m r is)
 
 -- who has so much on its log has it all
 done_held : (g : Group) (p : Program) (m : ℕ) (r : Running) (i : ℕ) (q : Running) → IsThere g p m r
     → r.replica.end ≡ Some ends.Done → present_at p.members i ≡ Some q
     → (world g p).past.durable m ≤ length ((world g p).past.log i)
     → IsPrefixOf r.replica.history (take q.replica.logged q.replica.history)
-done_held g p m r i q is end at enough =
-    subst (λ h. IsPrefixOf h (take q.replica.logged q.replica.history)) (history_is g p m r is)
-    (subst (IsPrefixOf (w.past.history m)) (log_is g p i q other)
+done_held g p m r i q is end at enough = subst (λ h. IsPrefixOf h (take q.replica.logged q.replica.history))
+    (history_is g p m r is) (subst (IsPrefixOf (w.past.history m)) (log_is g p i q other)
     (by (either-prefix g y.values w m i is.group y.chosen (within g p m r is) (within g p i q other))))
   where
     w : World
@@ -236,11 +197,7 @@ done_held g p m r i q is end at enough =
     front = y.chosen.faithful.logs.front i
 
     long : length ((world g p).past.history m) ≤ length ((world g p).past.log i)
-    long = omega (
-      arith,
-      enough,
-      done-durable g w m y (within g p m r is) (ended_is g p m r ends.Done is end),
-    )
+    long = omega (arith, enough, done-durable g w m y (within g p m r is) (ended_is g p m r ends.Done is end))
 
     by : IsPrefixOf ((world g p).past.history m) ((world g p).past.history i)
         ⊎ IsPrefixOf ((world g p).past.history i) ((world g p).past.history m)
@@ -262,8 +219,7 @@ done_kept : (g : Group) (p : Program) (m : ℕ) (r : Running) (i : ℕ) (q : Run
     → IsPrefixOf r.replica.history (take q.replica.logged q.replica.history)
 done_kept g p m r i q is end member at =
     let y = known_of g p m r is in
-    done_held g p m r i q is end at
-    (done-on-logs g y.values (world g p) m i is.group y.chosen (there_is g p m r is)
+    done_held g p m r i q is end at (done-on-logs g y.values (world g p) m i is.group y.chosen (there_is g p m r is)
     (ended_is g p m r ends.Done is end) (ap (λ mask. has mask i) (views_are g p m r is) ∙ member))
 
 -- it has itself all of it on its log
@@ -289,8 +245,7 @@ done_lacks g p m r s i q is either end at =
     (subst (λ h. IsPrefixOf (messages_from s ((world g p).past.history i)) (messages_from s h))
     (history_is g p m r is) (done-lacks-none g y.values (world g p) m i s is.group y.chosen
     (subst (λ mask. (¬ IsLateIn g.opening s) ⊎ (has mask s ≡ true)) (sym (members_are g p m r is)) either)
-    (within g p m r is)
-    (ended_is g p m r ends.Done is end) (within g p i q other)))
+    (within g p m r is) (ended_is g p m r ends.Done is end) (within g p i q other)))
 
 -- who has ended as done is told so
 told_done : (o : Option End) → IsTrue (is_some o) → unwrap_or o ends.Done ≡ ends.Done → o ≡ Some ends.Done
@@ -300,32 +255,26 @@ told_done (Some end) some e = ap Some e
 -- who is done in the same view has the same history
 done_same : (g : Group) (p : Program) (m : ℕ) (r : Running) (i : ℕ) (q : Running) → IsThere g p m r
     → r.replica.end ≡ Some ends.Done → present_at p.members i ≡ Some q → q.replica.end ≡ Some ends.Done
-    → LastViewIs g.opening r.replica.view r.replica.members q.replica.history
-    → q.replica.history ≡ r.replica.history
+    → LastViewIs g.opening r.replica.view r.replica.members q.replica.history → q.replica.history ≡ r.replica.history
 done_same g p m r i q is end at done here =
     let y = known_of g p m r is in
     let other = beside g p m r i q is at in
-    let view : q.replica.view ≡ r.replica.view =
-    ap number (sym (in_view g p i q other) ∙ here) in
-    sym (history_is g p i q other)
-    ∙ sym (done-same g y.values (world g p) m i is.group y.chosen (within g p m r is)
+    let view : q.replica.view ≡ r.replica.view = ap number (sym (in_view g p i q other) ∙ here) in
+    sym (history_is g p i q other) ∙ sym (done-same g y.values (world g p) m i is.group y.chosen (within g p m r is)
     (ended_is g p m r ends.Done is end) (within g p i q other) (ended_is g p i q ends.Done other done)
-    (view_is g p m r is ∙ sym view ∙ sym (view_is g p i q other)))
-    ∙ history_is g p m r is
+    (view_is g p m r is ∙ sym view ∙ sym (view_is g p i q other))) ∙ history_is g p m r is
   where
     number : Option GroupView → ℕ
     number None = 0
     number (Some v) = v.number
 
 -- in the first view its history is what the script and the start alone determine
-done_first : (g : Group) (p : Program) (m : ℕ) (r : Running) → IsThere g p m r
-    → r.replica.end ≡ Some ends.Done → r.replica.view ≡ 0
-    → r.replica.history ≡ first_entries g.opening ++ remaining g.opening
+done_first : (g : Group) (p : Program) (m : ℕ) (r : Running) → IsThere g p m r → r.replica.end ≡ Some ends.Done
+    → r.replica.view ≡ 0 → r.replica.history ≡ first_entries g.opening ++ remaining g.opening
 done_first g p m r is end first =
     let y = known_of g p m r is in
-    sym (history_is g p m r is)
-    ∙ holds-remaining g (world g p) m is.group y (within g p m r is) (view_is g p m r is ∙ first)
-    (done-whole g (world g p) m is.group y (within g p m r is) (ended_is g p m r ends.Done is end))
+    sym (history_is g p m r is) ∙ holds-remaining g (world g p) m is.group y (within g p m r is) (view_is g p m r is
+    ∙ first) (done-whole g (world g p) m is.group y (within g p m r is) (ended_is g p m r ends.Done is end))
 
 -- so a member that has ended as done there is complete
 pub complete : (g : Group) (p : Program) (m : ℕ) (r : Running) → IsThere g p m r
@@ -338,8 +287,7 @@ complete g p m r is end first = record {
 }
 
 whole : (g : Group) (p : Program) (m : ℕ) (r : Running) → IsThere g p m r → AllEnded p
-    → r.replica.end ≡ Some ends.Done
-    → IsWhole g.opening (ends_of p) r.replica.view r.replica.members (end_of r)
+    → r.replica.end ≡ Some ends.Done → IsWhole g.opening (ends_of p) r.replica.view r.replica.members (end_of r)
 whole g p m r is ended end = record {
   end = ap (λ o. unwrap_or o ends.Done) end;
   whole = done_whole g p m r is end;
@@ -355,15 +303,13 @@ whole g p m r is ended end = record {
   first = done_first g p m r is end;
 }
   where
-    so : (i : ℕ) (e : MemberEnd) → e.end ≡ ends.Done
-        → LastViewIs g.opening r.replica.view r.replica.members e.history
+    so : (i : ℕ) (e : MemberEnd) → e.end ≡ ends.Done → LastViewIs g.opening r.replica.view r.replica.members e.history
         → (e ≡ absent_end) ⊎ ((q : Running) × (present_at p.members i ≡ Some q) × (end_of q ≡ e))
         → e.history ≡ r.replica.history
     so i e done here (inl absent) = absurd (cc (ap (λ (x : MemberEnd). x.end) absent, done))
     so i e done here (inr (q, at, same)) = ap (λ (x : MemberEnd). x.history) (sym same)
-        ∙ done_same g p m r i q is end at
-        (told_done q.replica.end (ended_there p i q ended at) (ap (λ (x : MemberEnd). x.end) same ∙ done))
-        (ap (λ (x : MemberEnd). view_of x.history) same ∙ here)
+        ∙ done_same g p m r i q is end at (told_done q.replica.end (ended_there p i q ended at)
+        (ap (λ (x : MemberEnd). x.end) same ∙ done)) (ap (λ (x : MemberEnd). view_of x.history) same ∙ here)
 
 -- ---- a member that is left out
 
@@ -401,17 +347,14 @@ without_it g p m r view is end =
     here : has (views_by g y.values ((world g p).past.view m)) m ≡ true
     here = y.chosen.faithful.suspicions.inside m (y.chosen.wedged m out.value out.committed)
 
-    left : (members : ℕ) → views_by g y.values ((world g p).past.view m + 1) ≡ members
-        → has members m ≡ false
-    left members same = ap (λ mask. has mask m) (sym same)
-        ∙ views-leaves g y.values ((world g p).past.view m) m here
+    left : (members : ℕ) → views_by g y.values ((world g p).past.view m + 1) ≡ members → has members m ≡ false
+    left members same = ap (λ mask. has mask m) (sym same) ∙ views-leaves g y.values ((world g p).past.view m) m here
         (ap (λ x. has x.leavers m) (sym (y.by.now m out.value out.committed)) ∙ out.named)
 
 -- an end by suspicion is as the world has it
 left_so_there : (g : Group) (p : Program) (m : ℕ) (r : Running) (end : End) → IsThere g p m r
     → r.replica.end ≡ Some end → IsLeftSo (world g p) m (Some end)
-left_so_there g p m r end is e =
-    subst (IsLeftSo (world g p) m) (ended_is g p m r end is e)
+left_so_there g p m r end is e = subst (IsLeftSo (world g p) m) (ended_is g p m r end is e)
     (left_so g (world g p) is.group (known_of g p m r is) m (within g p m r is))
 
 -- the end of a member has its cause
@@ -455,8 +398,7 @@ has_reason g p limit points m r is all ended v = by r.replica.end refl ended v.p
       first = v.later;
     }))))
 
-    by : (o : Option End) → r.replica.end ≡ o → IsTrue (is_some o)
-        → IsProper limit points r.replica.turns o → Reason
+    by : (o : Option End) → r.replica.end ≡ o → IsTrue (is_some o) → IsProper limit points r.replica.turns o → Reason
     by None e t so = absurd (cc)
     by (Some ends.Done) e t so = inl (record { whole = whole g p m r is all e; uncrashed = so })
     by (Some ends.Crashed) e t so =
@@ -496,8 +438,7 @@ outside_history : (g : Group) (p : Program) (m : ℕ) (r : Running) → IsThere 
     → has r.replica.members m ≡ false → r.replica.history ≡ first_entries g.opening
 outside_history g p m r is outside =
     let y = known_of g p m r is in
-    sym (history_is g p m r is)
-    ∙ outside-history g y.values (world g p) m y.chosen.faithful y.chosen.laid
+    sym (history_is g p m r is) ∙ outside-history g y.values (world g p) m y.chosen.faithful y.chosen.laid
     (within g p m r is) (none_of_it g p m r is outside)
     ∙ head-first g.opening (world g p).past.sent (endings_by g.opening y.values)
 
@@ -515,9 +456,8 @@ outside_durable g p m r is outside = omega (
 )
 
 -- it has put nothing
-outside_sent : (g : Group) (p : Program) (m : ℕ) (r : Running) → IsThere g p m r
-    → has r.replica.members m ≡ false → r.replica.view ≡ 0
-    → (member_end r.replica).sent ≡ record { number = 0; items = [] } ∷ []
+outside_sent : (g : Group) (p : Program) (m : ℕ) (r : Running) → IsThere g p m r → has r.replica.members m ≡ false
+    → r.replica.view ≡ 0 → (member_end r.replica).sent ≡ record { number = 0; items = [] } ∷ []
 outside_sent g p m r is outside first =
     ap (λ ls. sent_before 0 ls ++ record { number = r.replica.view; items = r.replica.sent } ∷ [])
     (nil_from_length r.replica.left (omega (arith, (is.program.form m r is.there).replica.left, first)))
@@ -529,18 +469,15 @@ outside_sent g p m r is outside first =
     none : r.replica.sent ≡ []
     none = sym (ap (λ b. if b then r.replica.sent else (left_in r.replica r.replica.view).sent)
         (same_number r.replica.view))
-        ∙ sym (ap (λ f. f r.replica.view)
-        (of_there p (λ q v. if v == q.view then q.sent else (left_in q v).sent)
+        ∙ sym (ap (λ f. f r.replica.view) (of_there p (λ q v. if v == q.view then q.sent else (left_in q v).sent)
         (opening_world g).past.sent m r is.there))
-        ∙ ap (w.past.sent m) (sym (view_is g p m r is))
-        ∙ outside-sent g (views_by g (known_of g p m r is).values) w m (known_of g p m r is).chosen.faithful
-        (within g p m r is) (none_of_it g p m r is outside)
+        ∙ ap (w.past.sent m) (sym (view_is g p m r is)) ∙ outside-sent g (views_by g (known_of g p m r is).values) w m
+        (known_of g p m r is).chosen.faithful (within g p m r is) (none_of_it g p m r is outside)
 
 -- so it ends
 outside_end : (g : Group) (p : Program) (limit : ℕ) (points : List CrashPoint) (m : ℕ) (r : Running)
-    → IsThere g p m r → has r.replica.members m ≡ false
-    → IsSpent limit points (end_of r) ⊎ HasCrashed points (end_of r)
-    → HasEndedOutside g.opening limit points (end_of r)
+    → IsThere g p m r → has r.replica.members m ≡ false → IsSpent limit points (end_of r)
+    ⊎ HasCrashed points (end_of r) → HasEndedOutside g.opening limit points (end_of r)
 outside_end g p limit points m r is outside reason =
     let waits = (is.program.form m r is.there).replica.outside
     (ap (has r.replica.members) (is.program.of m r is.there).number ∙ outside) in record {
@@ -563,8 +500,7 @@ none_left_out o all number members m end left fault = left
 by_fault : (o : Opening) (all : List MemberEnd) (number members limit m : ℕ) (points : List CrashPoint)
     (e : MemberEnd) → HasReason o all number members limit m points e → IsFault e.end
     → is_log_end e.end ≡ false → IsSpent limit points e ⊎ HasCrashed points e
-by_fault o all number members limit m points e (inl done) fault log =
-    absurd (subst IsFault done.whole.end fault)
+by_fault o all number members limit m points e (inl done) fault log = absurd (subst IsFault done.whole.end fault)
 by_fault o all number members limit m points e (inr (inl spent)) fault log = inl spent
 by_fault o all number members limit m points e (inr (inr (inl crashed))) fault log = inr crashed
 by_fault o all number members limit m points e (inr (inr (inr (inl stopped)))) fault log =
@@ -598,15 +534,13 @@ has_ended g p limit points m r is all ended v apart fails = record {
 }
 
 -- the members of a program in a reached world, each of which stands as its setup lets it
-ended_so : (g : Group) (turns : ℕ) (setups : List (Option Setup)) (points : ℕ → List CrashPoint)
-    (p : Program) → IsGroup g → AreSetups g turns setups
-    → ((m : ℕ) (s : Setup) → present_at setups m ≡ Some s → s.crashes ≡ points m)
-    → IsProgram g p × IsReached g (world g p) → AllStand setups p → AreApart p → AreFailing p → AllEnded p
-    → HaveEnded g.opening turns points (ends_of p)
+ended_so : (g : Group) (turns : ℕ) (setups : List (Option Setup)) (points : ℕ → List CrashPoint) (p : Program)
+    → IsGroup g → AreSetups g turns setups → ((m : ℕ)
+    (s : Setup) → present_at setups m ≡ Some s → s.crashes ≡ points m) → IsProgram g p × IsReached g (world g p)
+    → AllStand setups p → AreApart p → AreFailing p → AllEnded p → HaveEnded g.opening turns points (ends_of p)
 ended_so g turns setups points p is are planned kept stand apart fail ended = record {
   each = λ m e at here. let r = stands_there g p m is kept.0 here in
-      subst (HasEnded g.opening (ends_of p) turns m (points m)) (end_is p m r.0 e r.1 at)
-      (each m r.0 here r.1);
+      subst (HasEnded g.opening (ends_of p) turns m (points m)) (end_is p m r.0 e r.1 at) (each m r.0 here r.1);
   absent = λ m e at away. by m e away (end_there p m e at);
 }
   where
@@ -625,8 +559,7 @@ ended_so g turns setups points p is are planned kept stand apart fail ended = re
         (apart m r there) (fail m r there)
 
     by : (m : ℕ) (e : MemberEnd) → ¬ IsPresent g m
-        → (e ≡ absent_end) ⊎ ((r : Running) × (present_at p.members m ≡ Some r) × (end_of r ≡ e))
-        → e ≡ absent_end
+        → (e ≡ absent_end) ⊎ ((r : Running) × (present_at p.members m ≡ Some r) × (end_of r ≡ e)) → e ≡ absent_end
     by m e away (inl absent) = absent
     by m e away (inr (r, there, same)) = absurd (away (kept.0.of m r there).present)
 
@@ -654,16 +587,14 @@ net_ended g turns setups points p is some are planned (before, way) ended =
 
 -- and each that has ended has its cause
 pub have_causes : (g : Group) (turns : ℕ) (setups : List (Option Setup)) (p : Program) (m : ℕ) (r : Running)
-    (end : End)
-    → IsGroup g → 1 ≤ turns → AreSetups g turns setups → IsRanFrom (begun_program g setups) p
+    (end : End) → IsGroup g → 1 ≤ turns → AreSetups g turns setups → IsRanFrom (begun_program g setups) p
     → present_at p.members m ≡ Some r → r.replica.end ≡ Some end → HasCause g (world g p) m end
 have_causes g turns setups p m r end is some are ran there e =
     let kept = deeds_kept g turns setups p is some are ran in
     has_cause g p m r end (record { group = is; program = kept.0; reached = kept.1; there = there }) e
 
 pub net_causes : (g : Group) (turns : ℕ) (setups : List (Option Setup)) (p : Program) (m : ℕ) (r : Running)
-    (end : End)
-    → IsGroup g → 1 ≤ turns → AreSetups g turns setups → IsRanOverNet g (begun_program g setups) p
+    (end : End) → IsGroup g → 1 ≤ turns → AreSetups g turns setups → IsRanOverNet g (begun_program g setups) p
     → present_at p.members m ≡ Some r → r.replica.end ≡ Some end → HasCause g (world g p) m end
 net_causes g turns setups p m r end is some are ran there e =
     let kept = net_reached g turns setups p is some are ran in
@@ -673,8 +604,7 @@ net_causes g turns setups p m r end is some are ran there e =
 pub ended_by_script : (script : Script) (start : Start) (nth : ℕ) (begun p : Program)
     → IsGroup (group_of script start) → length script.messages ≡ script.members
     → 1 ≤ script.turns → IsBegun script start nth begun → IsRanFrom begun p
-    → AllEnded p → HaveEnded (group_of script start).opening script.turns (crashes_of script.faults nth)
-    (ends_of p)
+    → AllEnded p → HaveEnded (group_of script start).opening script.turns (crashes_of script.faults nth) (ends_of p)
 ended_by_script script start nth begun p is lists some (setups, are, same) ran ended =
     have_ended (group_of script start) script.turns setups (crashes_of script.faults nth) p is some
     (are_setups script start nth setups lists are)
@@ -684,13 +614,11 @@ ended_by_script script start nth begun p is lists some (setups, are, same) ran e
 
 -- whatever deeds were taken, what has been delivered agrees
 pub ran_agreed : (g : Group) (turns : ℕ) (setups : List (Option Setup)) (p : Program) → IsGroup g → 1 ≤ turns
-    → AreSetups g turns setups
-    → IsRanFrom (begun_program g setups) p → EndsAgreed g.opening (ends_of p)
+    → AreSetups g turns setups → IsRanFrom (begun_program g setups) p → EndsAgreed g.opening (ends_of p)
 ran_agreed g turns setups p is some are ran = let kept = deeds_kept g turns setups p is some are ran in
     ends_agreed g p is kept.0 kept.1
 
 pub net_agreed : (g : Group) (turns : ℕ) (setups : List (Option Setup)) (p : Program) → IsGroup g → 1 ≤ turns
-    → AreSetups g turns setups
-    → IsRanOverNet g (begun_program g setups) p → EndsAgreed g.opening (ends_of p)
+    → AreSetups g turns setups → IsRanOverNet g (begun_program g setups) p → EndsAgreed g.opening (ends_of p)
 net_agreed g turns setups p is some are ran = let kept = net_reached g turns setups p is some are ran in
     ends_agreed g p is kept.0 kept.1

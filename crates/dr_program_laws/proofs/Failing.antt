@@ -1,47 +1,27 @@
 -- A failed append ends its member.
+use Rattle.std.{specs.Prelude.{Option, None, Some, is_some, option_map}, proofs.lemmas.Option.same_Some}
 use Rattle.std.proofs.Common.{◌≡◌, refl, sym, ap, ◌∙◌, subst, inl, inr, ℕ, ◌≤◌, Bool, true, false, List, arith, length}
-use Rattle.std.specs.Prelude.{Option, None, Some, is_some, option_map}
-use Rattle.std.proofs.lemmas.Option.{same_Some}
-use Rattle.dr_entry.specs.declared.end.End.{End}
-use Rattle.dr_entry.specs.declared.entry.Entry.{Entry}
+use Rattle.dr_entry.specs.declared.{end.End.End, entry.Entry.Entry}
 use Rattle.dr_script.specs.declared.script.Script.{Script}
-use Rattle.dr_machine.specs.declared.event.Act.{Act}
-use Rattle.dr_machine.specs.Group.{Group, IsGroup}
-use Rattle.dr_program.specs.declared.outcome.LogWhy.{LogWhy}
-use Rattle.dr_program.specs.declared.place.Part.{Part}
-use Rattle.dr_program.specs.declared.place.Part.TheVariants as parts
-use Rattle.dr_program.specs.declared.setup.Setup.{Setup}
-use Rattle.dr_program.specs.Acts.{taken}
-use Rattle.dr_program.specs.Form.{IsRunningMember}
+use Rattle.dr_machine.specs.{Group.{Group, IsGroup}, declared.event.Act.Act}
+use Rattle.dr_program.{specs.{Acts.taken, Presence.present_at}, proofs.Runs.after_either}
+use Rattle.dr_program.{specs.{Form.IsRunningMember, Turn.part_of}, proofs.{Present.present_map, StepsAt.push_either}}
+use Rattle.dr_program.specs.{Net.{IsRanOverNet, took_nothing}, declared.{outcome.LogWhy.LogWhy, setup.Setup.Setup}}
 use Rattle.dr_program.specs.Program.{AreSetups, IsRanFrom, Move, Program, after_deed, begun_program, letter_for, moved_by, next_sight, step_of}
-use Rattle.dr_program.specs.Net.{IsRanOverNet, took_nothing}
-use Rattle.dr_program.specs.Replica.{Replica, value_due}
+use Rattle.dr_program.specs.{Replica.{Replica, value_due}, Steps.{IsAppend, stepped}, declared.place.Part.Part}
 use Rattle.dr_program.specs.Running.{Running, after_step, append_or_end, begun_running, broken_off, crashes_now, end_by, judged, next_step, push_or_crash, settled, step_at, took, took_letter, vote_or_end, AsksForLetter}
-use Rattle.dr_program.specs.Steps.{IsAppend, stepped}
-use Rattle.dr_program.specs.Turn.{part_of}
-use Rattle.dr_program.proofs.Runs.{after_either}
-use Rattle.dr_program.proofs.StepsAt.{push_either}
-use Rattle.dr_refine.specs.Programs.{IsProgram}
-use Rattle.dr_refine.proofs.Deeds.{rest_changes_nothing, step_is}
+use Rattle.dr_program.specs.declared.place.Part.TheVariants as parts
+use Rattle.dr_refine.{specs.Programs.IsProgram, proofs.Deeds.{rest_changes_nothing, step_is}}
 use Rattle.dr_refine.proofs.Steps.{begun_is_program}
-use Rattle.dr_turn.proofs.Search.{settle_only}
-use Rattle.dr_program_laws.specs.Failing.{AreFailing, EndsBy, IsFailing, has_log_end}
-use Rattle.dr_turn.proofs.Parts.{is_end, is_verdict, no_end, taken_end, verdict_of}
-use Rattle.dr_program_laws.proofs.Keeping.{begun_reached, take_leaves}
-use Rattle.dr_program_laws.proofs.Nets.{net_keeps}
-use Rattle.dr_program_laws.proofs.Programs.{ran_keeps, replaced_either}
-use Rattle.dr_program.specs.Presence.{present_at}
-use Rattle.dr_program.proofs.Present.{present_map}
-use Rattle.dr_restart.proofs.Setups.{are_setups}
-use Rattle.dr_restart.specs.declared.start.Start.{Start}
-use Rattle.dr_restart.specs.Groups.{group_of}
-use Rattle.dr_restart.specs.Setups.{IsBegun}
+use Rattle.dr_turn.proofs.{Parts.{is_end, is_verdict, no_end, taken_end, verdict_of}, Search.settle_only}
+use Rattle.dr_program_laws.{specs.Failing.{AreFailing, EndsBy, IsFailing, has_log_end}, proofs.Nets.net_keeps}
+use Rattle.dr_program_laws.proofs.{Keeping.{begun_reached, take_leaves}, Programs.{ran_keeps, replaced_either}}
+use Rattle.dr_restart.{specs.{Groups.group_of, Setups.IsBegun, declared.start.Start.Start}, proofs.Setups.are_setups}
 
 -- ---- one deed
 
 -- a verdict ends no member by its log
-verdict_logs : (r : Replica) (a : Act) → is_verdict a ≡ true → r.end ≡ None
-    → has_log_end (taken r a).end ≡ false
+verdict_logs : (r : Replica) (a : Act) → is_verdict a ≡ true → r.end ≡ None → has_log_end (taken r a).end ≡ false
 verdict_logs r a is none = grind (arith, is, none)
 
 -- where no append has failed no part of a turn ends its member by its log
@@ -50,12 +30,10 @@ no_log_end : (word : ℕ) (r : Running) (part : Part) (i c : ℕ) → r.failed �
 no_log_end word r parts.Judge i c well none plain = verdict_logs r.replica (judged r) (verdict_of r) none
 no_log_end word r parts.Append i c well none plain =
     ap (λ o. has_log_end (stepped word r.replica (append_or_end o)).end) well ∙ ap has_log_end none
-no_log_end word r parts.Vote i c well none plain =
-    ap (λ o. has_log_end (stepped word r.replica (vote_or_end o (value_due r.replica))).end) well
-    ∙ ap has_log_end none
-no_log_end word r parts.Push i c well none plain =
-    push_either (λ s. has_log_end (stepped word r.replica s).end ≡ false) (crashes_now r) i c
-    (ap has_log_end none) refl
+no_log_end word r parts.Vote i c well none plain = ap (λ o. has_log_end
+    (stepped word r.replica (vote_or_end o (value_due r.replica))).end) well ∙ ap has_log_end none
+no_log_end word r parts.Push i c well none plain = push_either (λ s. has_log_end
+    (stepped word r.replica s).end ≡ false) (crashes_now r) i c (ap has_log_end none) refl
 no_log_end word r parts.Crash i c well none plain = refl
 no_log_end word r parts.Excluded i c well none plain = refl
 no_log_end word r parts.Done i c well none plain = refl
@@ -93,8 +71,7 @@ breaks_at why r parts.Push i c due = absurd (by (crashes_now r) due)
     by false e = e
 breaks_at why r part i c due = absurd due
 
-breaks : (why : LogWhy) (r : Running) → r.replica.end ≡ None → IsAppend (next_step r)
-    → IsFailing (broken_off why r)
+breaks : (why : LogWhy) (r : Running) → r.replica.end ≡ None → IsAppend (next_step r) → IsFailing (broken_off why r)
 breaks why r none due = record {
   well = λ unfailed. absurd (cc);
   broken = λ reason failed. inl (
@@ -123,20 +100,17 @@ takes_letter letter r asks is = record {
 
 -- ---- a move
 
-pub move_fails : (g : Group) (p : Program) (e : Move) → IsProgram g p → AreFailing p
-    → AreFailing (step_of p e)
+pub move_fails : (g : Group) (p : Program) (e : Move) → IsProgram g p → AreFailing p → AreFailing (step_of p e)
 move_fails g p e is all = by (present_at p.members e.member) refl
   where
     at : (r : Running) → present_at p.members e.member ≡ Some r → (o : Option End) → r.replica.end ≡ o
         → AreFailing (step_of p e)
-    at r there (Some x) ended = subst AreFailing
-        (sym (rest_changes_nothing p e r there (ap is_some ended))) all
+    at r there (Some x) ended = subst AreFailing (sym (rest_changes_nothing p e r there (ap is_some ended))) all
     at r there None unended = subst AreFailing (sym (step_is p e r there unended)) (λ m y found.
         elim (replaced_either p.members e.member r
         (after_deed (next_sight p.table r) (letter_for p e.member) e.outcome r (next_step r)) there m y found) [
           | inl here ↦ subst IsFailing here.1 (after_either IsFailing p.table (letter_for p e.member) e.outcome r
-              (next_step r)
-              (takes (next_sight p.table r) r (is.form e.member r there) unended (all e.member r there))
+              (next_step r) (takes (next_sight p.table r) r (is.form e.member r there) unended (all e.member r there))
               (λ why due. breaks why r unended due)
               (λ due. takes_letter (letter_for p e.member) r (record { unended = unended; due = due }) (all e.member r there)))
           | inr other ↦ all m y other.1
@@ -162,10 +136,9 @@ begun_fails g setups m r there = by (present_at setups m) (sym (present_map begu
 pub all_fail : (g : Group) (turns : ℕ) (setups : List (Option Setup)) (p : Program) (m : ℕ) (r : Running)
     → IsGroup g → 1 ≤ turns → AreSetups g turns setups → IsRanFrom (begun_program g setups) p
     → present_at p.members m ≡ Some r → IsFailing r
-all_fail g turns setups p m r group some are (es, is) =
-    subst AreFailing (sym is) (ran_keeps g AreFailing (begun_program g setups) es group
-    (begun_is_program g turns setups group some are) (begun_reached g turns setups group are)
-    (move_fails g) (begun_fails g setups)) m r
+all_fail g turns setups p m r group some are (es, is) = subst AreFailing (sym is)
+    (ran_keeps g AreFailing (begun_program g setups) es group (begun_is_program g turns setups group some are)
+    (begun_reached g turns setups group are) (move_fails g) (begun_fails g setups)) m r
 
 -- a take that finds no letter
 missed_fails : (p : Program) (m : ℕ) (r : Running) → AreFailing p → present_at p.members m ≡ Some r

@@ -1,37 +1,22 @@
 -- Moves keep a program of its group, in a world that is reached.
-use Rattle.std.proofs.Common.{◌≡◌, refl, sym, ap, ◌∙◌, subst, ℕ, ◌≤◌, true, List, [], ◌∷◌}
 use Rattle.std.specs.Prelude.{Option, None, Some}
-use Rattle.std.proofs.lemmas.Option.{same_Some}
-use Rattle.dr_entry.specs.declared.end.End.{End}
-use Rattle.dr_entry.specs.declared.entry.Entry.{Entry}
+use Rattle.std.proofs.{Common.{◌≡◌, refl, sym, ap, ◌∙◌, subst, ℕ, ◌≤◌, true, List, [], ◌∷◌}, lemmas.Option.same_Some}
+use Rattle.dr_entry.specs.declared.{end.End.End, entry.Entry.Entry}
 use Rattle.dr_words.specs.Form.{IsInForm}
 use Rattle.dr_program.specs.declared.place.Part.TheVariants as parts
-use Rattle.dr_machine.specs.Group.{Group, IsGroup}
-use Rattle.dr_machine.proofs.Runs.{events_reached}
-use Rattle.dr_machine.specs.Run.{ComesOfEvents, IsReached}
-use Rattle.dr_program.specs.declared.outcome.Outcome.{Outcome}
-use Rattle.dr_program.specs.declared.setup.Setup.{Setup}
-use Rattle.dr_program.specs.Form.{HasForm, IsRunningMember}
+use Rattle.dr_machine.{specs.{Group.{Group, IsGroup}, Run.{ComesOfEvents, IsReached}}, proofs.Runs.events_reached}
+use Rattle.dr_program.{specs.Form.{HasForm, IsRunningMember}, proofs.Opening.begins_at_the_opening}
+use Rattle.dr_program.{specs.Presence.present_at, proofs.{Runs.after_either, Waiting.free_step}}
 use Rattle.dr_program.specs.Program.{AreSetups, IsRanFrom, Move, Program, after_deed, begun_program, letter_for, next_sight, ran, step_of}
-use Rattle.dr_program.specs.Reading.{step_due, step_of_member, world}
+use Rattle.dr_program.specs.{Reading.{step_due, step_of_member, world}, declared.outcome.Outcome.Outcome}
 use Rattle.dr_program.specs.Running.{Running, after_step, next_step, settled, step_at, took_letter, AsksForLetter}
-use Rattle.dr_program.specs.Sight.{IsSeenNext, MaySee}
-use Rattle.dr_program.specs.Steps.{allows, sight, stepped}
-use Rattle.dr_program.proofs.Opening.{begins_at_the_opening}
-use Rattle.dr_program.proofs.Runs.{after_either}
-use Rattle.dr_program.proofs.Waiting.{free_step}
-use Rattle.dr_refine.specs.Programs.{IsProgram}
-use Rattle.dr_refine.proofs.Deeds.{due_allowed, step_events, step_reached}
+use Rattle.dr_program.specs.{Sight.{IsSeenNext, MaySee}, Steps.{allows, sight, stepped}, declared.setup.Setup.Setup}
+use Rattle.dr_refine.{specs.Programs.IsProgram, proofs.Deeds.{due_allowed, step_events, step_reached}}
 use Rattle.dr_refine.proofs.Steps.{begun_is_program, step_kept}
-use Rattle.dr_form.proofs.Finishing.{joined_form}
-use Rattle.dr_form.proofs.Steps.{stepped_form}
-use Rattle.dr_program_laws.proofs.Letters.{letters_are, letters_have_room}
-use Rattle.dr_turn.proofs.Deeds.{deeds_keep_form}
-use Rattle.dr_turn.proofs.Failing.{failed_form}
-use Rattle.dr_turn.proofs.Search.{settle_only}
+use Rattle.dr_form.proofs.{Finishing.joined_form, Steps.stepped_form}
+use Rattle.dr_program_laws.proofs.{Letters.{letters_are, letters_have_room}, Sight.found_seen}
+use Rattle.dr_turn.proofs.{Deeds.deeds_keep_form, Failing.failed_form, Search.settle_only}
 use Rattle.dr_turn.proofs.Takes.{takes_keep_form, taking}
-use Rattle.dr_program_laws.proofs.Sight.{found_seen}
-use Rattle.dr_program.specs.Presence.{present_at}
 
 -- ---- one move
 
@@ -39,21 +24,18 @@ use Rattle.dr_program.specs.Presence.{present_at}
 pub next_form : (g : Group) (p : Program) (m : ℕ) (r : Running) → IsGroup g → IsProgram g p
     → IsReached g (world g p) → present_at p.members m ≡ Some r → r.replica.end ≡ None
     → HasForm (stepped (next_sight p.table r) r.replica (next_step r))
-next_form g p m r group is run there unended =
-    stepped_form (next_sight p.table r) r.replica (next_step r) (is.form m r there).replica may
-    (free_step r (is.form m r there).free) (λ i c at.
-    subst (λ s. IsInForm r.replica.roster c (sight p.table r.replica s)) (sym at)
-    (found_seen g p m r i c group is run there (subst (λ s. allows r.replica s ≡ true) at may)).form)
+next_form g p m r group is run there unended = stepped_form (next_sight p.table r) r.replica
+    (next_step r) (is.form m r there).replica may (free_step r (is.form m r there).free)
+    (λ i c at. subst (λ s. IsInForm r.replica.roster c (sight p.table r.replica s))
+    (sym at) (found_seen g p m r i c group is run there (subst (λ s. allows r.replica s ≡ true) at may)).form)
   where
     may : allows r.replica (next_step r) ≡ true
     may = due_allowed r ((is.form m r there).due unended)
 
 -- and so does the member
-member_kept : (g : Group) (p : Program) (m : ℕ) (r : Running) → IsGroup g → IsProgram g p
-    → IsReached g (world g p) → present_at p.members m ≡ Some r
-    → r.replica.end ≡ None → IsRunningMember (after_step (next_sight p.table r) r)
-member_kept g p m r group is run there unended =
-    deeds_keep_form (next_sight p.table r) r (is.form m r there) unended
+member_kept : (g : Group) (p : Program) (m : ℕ) (r : Running) → IsGroup g → IsProgram g p → IsReached g (world g p)
+    → present_at p.members m ≡ Some r → r.replica.end ≡ None → IsRunningMember (after_step (next_sight p.table r) r)
+member_kept g p m r group is run there unended = deeds_keep_form (next_sight p.table r) r (is.form m r there) unended
     (next_form g p m r group is run there unended)
 
 -- a take keeps its form as well, whatever letter it finds
@@ -83,8 +65,7 @@ take_leaves letter r = (
     only = settle_only _ (took_letter letter r)
 
     same : (letter : Option (List Entry)) → ((took_letter letter r).replica.end ≡ r.replica.end)
-        × ((took_letter letter r).failed ≡ r.failed)
-        × ((took_letter letter r).replica.pending ≡ r.replica.pending)
+        × ((took_letter letter r).failed ≡ r.failed) × ((took_letter letter r).replica.pending ≡ r.replica.pending)
     same None = (refl, refl, refl)
     same (Some es) = (refl, refl, refl)
 
@@ -92,17 +73,14 @@ take_leaves letter r = (
 deed_kept : (g : Group) (p : Program) (m : ℕ) (o : Outcome) (r : Running) → IsGroup g → IsProgram g p
     → IsReached g (world g p) → present_at p.members m ≡ Some r → r.replica.end ≡ None
     → IsRunningMember (after_deed (next_sight p.table r) (letter_for p m) o r (next_step r))
-deed_kept g p m o r group is run there unended =
-    after_either IsRunningMember p.table (letter_for p m) o r (next_step r)
-    (member_kept g p m r group is run there unended)
-    (λ why due. failed_form why r (is.form m r there) unended due)
-    (λ due. let asks : AsksForLetter r = record { unended = unended; due = due } in
+deed_kept g p m o r group is run there unended = after_either IsRunningMember p.table
+    (letter_for p m) o r (next_step r) (member_kept g p m r group is run there unended) (λ why due. failed_form why r
+    (is.form m r there) unended due) (λ due. let asks : AsksForLetter r = record { unended = unended; due = due } in
     takes_keep_form (letter_for p m) r (is.form m r there) asks
     (took_form g p m r (letter_for p m) group is run there asks refl))
 
 -- a move keeps a program of its group, in a world that is reached
-pub move_kept : (g : Group) (p : Program) (e : Move) → IsGroup g → IsProgram g p
-    → IsReached g (world g p)
+pub move_kept : (g : Group) (p : Program) (e : Move) → IsGroup g → IsProgram g p → IsReached g (world g p)
     → IsProgram g (step_of p e) × IsReached g (world g (step_of p e))
 move_kept g p e group is run = (
   step_kept g p e is (λ r there unended. deed_kept g p e.member e.outcome r group is run there unended),
@@ -111,8 +89,7 @@ move_kept g p e group is run = (
 
 -- ---- every run
 
-run_kept : (g : Group) (p : Program) (es : List Move) → IsGroup g → IsProgram g p
-    → IsReached g (world g p)
+run_kept : (g : Group) (p : Program) (es : List Move) → IsGroup g → IsProgram g p → IsReached g (world g p)
     → IsProgram g (ran p es) × IsReached g (world g (ran p es))
 unfolding ran
 run_kept g p [] group is run = (is, run)
@@ -126,10 +103,8 @@ begun_reached g turns setups group are = ([], begins_at_the_opening g turns setu
 
 -- a program that ran from its beginning is one of its group, in a world that is reached
 pub deeds_kept : (g : Group) (turns : ℕ) (setups : List (Option Setup)) (p : Program) → IsGroup g → 1 ≤ turns
-    → AreSetups g turns setups → IsRanFrom (begun_program g setups) p
-    → IsProgram g p × IsReached g (world g p)
-deeds_kept g turns setups p group some are (es, is) =
-    subst (λ q. IsProgram g q × IsReached g (world g q)) (sym is)
+    → AreSetups g turns setups → IsRanFrom (begun_program g setups) p → IsProgram g p × IsReached g (world g p)
+deeds_kept g turns setups p group some are (es, is) = subst (λ q. IsProgram g q × IsReached g (world g q)) (sym is)
     (run_kept g (begun_program g setups) es group (begun_is_program g turns setups group some are)
     (begun_reached g turns setups group are))
 
@@ -144,8 +119,7 @@ run_events g p (e ∷ es) group is come =
 -- and the world comes of events alone
 pub deeds_events : (g : Group) (turns : ℕ) (setups : List (Option Setup)) (p : Program) → IsGroup g → 1 ≤ turns
     → AreSetups g turns setups → IsRanFrom (begun_program g setups) p → ComesOfEvents g (world g p)
-deeds_events g turns setups p group some are (es, is) =
-    subst (λ q. ComesOfEvents g (world g q)) (sym is)
+deeds_events g turns setups p group some are (es, is) = subst (λ q. ComesOfEvents g (world g q)) (sym is)
     (run_events g (begun_program g setups) es group (begun_is_program g turns setups group some are)
     ([], begins_at_the_opening g turns setups group are))
 
@@ -153,15 +127,13 @@ deeds_events g turns setups p group some are (es, is) =
 
 -- a look that is due finds a word that its member may see
 pub sees : (g : Group) (p : Program) (m : ℕ) (r : Running) (i c : ℕ) → IsGroup g → IsProgram g p
-    → IsReached g (world g p)
-    → present_at p.members m ≡ Some r → step_of_member r ≡ Some (step_at r parts.Look i c)
+    → IsReached g (world g p) → present_at p.members m ≡ Some r → step_of_member r ≡ Some (step_at r parts.Look i c)
     → MaySee r (step_of_member r) (next_sight p.table r)
 sees g p m r i c group is run there due = by r.replica.end refl due
   where
     found_there : next_step r ≡ step_at r parts.Look i c → r.replica.end ≡ None
         → IsSeenNext r i c (next_sight p.table r)
-    found_there at unended =
-        subst (λ s. IsSeenNext r i c (sight p.table r.replica s)) (sym at)
+    found_there at unended = subst (λ s. IsSeenNext r i c (sight p.table r.replica s)) (sym at)
         (found_seen g p m r i c group is run there
         (subst (λ s. allows r.replica s ≡ true) at (due_allowed r ((is.form m r there).due unended))))
 

@@ -1,34 +1,18 @@
 -- In a reached world each letter is one that its member can go on from, and has room for.
-use Rattle.std.proofs.Common.{◌≡◌, List, Some, ap, arith, false, length, length-append, subst, sym, ℕ, ◌++◌, ◌<◌, ◌∙◌, ◌-◌}
 use Rattle.std.specs.Prelude.{Option}
+use Rattle.std.proofs.Common.{◌≡◌, List, Some, ap, arith, false, length, length-append, subst, sym, ℕ, ◌++◌, ◌<◌, ◌∙◌, ◌-◌}
 use Rattle.dr_entry.specs.declared.entry.Entry.{Entry}
 use Rattle.dr_form.specs.Letters.{IsFitting}
-use Rattle.dr_history.specs.History.{IsPrefixOf, last_view}
-use Rattle.dr_history.specs.Members.{has}
-use Rattle.dr_history.specs.Order.{messages_from}
-use Rattle.dr_machine.specs.Group.{Group, IsGroup, roster}
-use Rattle.dr_machine.specs.Run.{IsReached}
-use Rattle.dr_machine.specs.World.{World}
-use Rattle.dr_machine.specs.Guards.{CanWelcome}
-use Rattle.dr_program.specs.Form.{IsOf}
-use Rattle.dr_program.specs.Presence.{present_at}
-use Rattle.dr_program.specs.Program.{Program, letter_for}
-use Rattle.dr_program.specs.Reading.{Shared, letters_of, table_of, world, world_of}
-use Rattle.dr_program.specs.Replica.{Replica, greatest, is_inside, me}
-use Rattle.dr_program.specs.Running.{Running}
-use Rattle.dr_program.proofs.Holdings.{held_of}
+use Rattle.dr_history.specs.{History.{IsPrefixOf, last_view}, Members.has, Order.messages_from}
+use Rattle.dr_machine.specs.{Group.{Group, IsGroup, roster}, Guards.CanWelcome, Run.IsReached, World.World}
+use Rattle.dr_program.{specs.Form.IsOf, proofs.{Holdings.held_of, Present.MayGet}}
+use Rattle.dr_program.specs.{Presence.present_at, Replica.{Replica, greatest, is_inside, me}, Running.Running}
+use Rattle.dr_program.specs.{Program.{Program, letter_for}, Reading.{Shared, letters_of, table_of, world, world_of}}
 use Rattle.dr_refine.specs.Programs.{AreLetters, IsLetterFor, IsMember, IsProgram}
-use Rattle.dr_refine.proofs.Deeds.{program_member, replicas}
-use Rattle.dr_refine.proofs.Guards.{members_are}
-use Rattle.dr_refine.proofs.Members.{fits, inside}
+use Rattle.dr_refine.proofs.{Deeds.{program_member, replicas}, Guards.members_are, Members.{fits, inside}}
 use Rattle.dr_faithful.specs.Chosen.{views_by}
-use Rattle.dr_program.proofs.Present.{MayGet}
-use Rattle.dr_world_laws.proofs.Finishing.{head-few}
-use Rattle.dr_world_laws.proofs.Holding.{reaches}
-use Rattle.dr_world_laws.proofs.Joining.{letter-begins, letter-number, letter-view}
-use Rattle.dr_world_laws.proofs.Letters.{IsLetter, gives-once}
-use Rattle.dr_world_laws.proofs.Rooms.{view-below}
-use Rattle.dr_world_laws.proofs.Worlds.{Known, known}
+use Rattle.dr_world_laws.proofs.{Finishing.head-few, Holding.reaches, Rooms.view-below, Worlds.{Known, known}}
+use Rattle.dr_world_laws.proofs.{Joining.{letter-begins, letter-number, letter-view}, Letters.{IsLetter, gives-once}}
 use Rattle.dr_program_laws.proofs.Bounds.{greatest_at, history_below}
 
 -- what is known of a letter for a member that hasn't joined
@@ -49,8 +33,7 @@ is_for g rs table m r letter member reached outside found = record {
   within = within;
   held = ap (λ h. h.history) (held_of g rs table m r member.there);
   begins = letter-begins g y.values w m letter member.group y.chosen.faithful y.chosen.laid within
-      (ap (λ k. has k m) (members_are g rs table m r member)
-      ∙ ap (has r.members) (sym member.of.number) ∙ outside) t;
+      (ap (λ k. has k m) (members_are g rs table m r member) ∙ ap (has r.members) (sym member.of.number) ∙ outside) t;
 }
   where
     w : World
@@ -105,8 +88,7 @@ letter_fits g rs table m r letter member reached outside found = record {
     of.members,
     y.chosen.faithful.views.within t.view i (ap (λ k. has k i) (sym members) ∙ there),
   );
-  inside = ap (λ k. has k (me r)) members
-      ∙ ap (has (views_by g y.values t.view)) of.number ∙ t.member;
+  inside = ap (λ k. has k (me r)) members ∙ ap (has (views_by g y.values t.view)) of.number ∙ t.member;
 }
   where
     w : World
@@ -137,16 +119,14 @@ letter_fits g rs table m r letter member reached outside found = record {
 
 -- so it is in a program
 pub letters_are : (g : Group) (p : Program) → IsGroup g → IsProgram g p → IsReached g (world g p) → AreLetters p
-letters_are g p group is reached m r letter there outside found =
-    letter_goes_on g (replicas p.members) (table_of p) m r.replica letter (program_member g p m r group is there)
-    reached outside found
+letters_are g p group is reached m r letter there outside found = letter_goes_on g
+    (replicas p.members) (table_of p) m r.replica letter (program_member g p m r group is there) reached outside found
 
 pub letters_have_room : (g : Group) (p : Program) (m : ℕ) (r : Running) (letter : List Entry) → IsGroup g
     → IsProgram g p → IsReached g (world g p) → present_at p.members m ≡ Some r
     → is_inside r.replica ≡ false → letter_for p m ≡ Some letter → IsFitting r.replica letter
-letters_have_room g p m r letter group is reached there outside found =
-    letter_fits g (replicas p.members) (table_of p) m r.replica letter (program_member g p m r group is there)
-    reached outside found
+letters_have_room g p m r letter group is reached there outside found = letter_fits g
+    (replicas p.members) (table_of p) m r.replica letter (program_member g p m r group is there) reached outside found
 
 pub may_get : (g : Group) (w : World) (letters : List (Option (List Entry))) (m j : ℕ) → IsGroup g → IsReached g w
     → length letters ≡ roster g → w.letter ≡ letters_of letters → CanWelcome g w m j → MayGet g letters j

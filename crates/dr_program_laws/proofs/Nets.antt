@@ -1,35 +1,25 @@
 -- A program over a net stays one of its group, in a world that is reached: its deeds are events, and the words
 -- that come are own words of moments before.
+use Rattle.std.specs.Prelude.{◌==◌, if◌then◌else◌, max, None, Option, Some, slice_set}
 use Rattle.std.proofs.Common.{◌≡◌, ◌⊎◌, ◌∙◌, ap, arith, inl, inr, le_refl, map, refl, subst, sym, ℕ, ◌<◌, ◌≤◌, List, [], ◌∷◌, Contains, slice_index}
-use Rattle.std.specs.Prelude.{◌==◌, if◌then◌else◌, max, None, Option, Some, slice_set, Option}
-use Rattle.std.proofs.lemmas.Bool.{cases_lt}
+use Rattle.std.proofs.lemmas.{Bool.cases_lt, List.{get_or-map, length-map, length-set}}
 use Rattle.dr_entry.specs.declared.entry.Entry.{Entry}
-use Rattle.std.proofs.lemmas.List.{get_or-map, length-map, length-set}
 use Rattle.dr_rows.specs.Words.{own}
 use Rattle.dr_words.specs.Layout.{word_index_of}
-use Rattle.dr_machine.proofs.Runs.{is_last, stays_next}
-use Rattle.dr_machine.specs.declared.step.Step.TheVariants.{Push}
-use Rattle.dr_machine.specs.Group.{Group, IsGroup, banks, columns, roster}
-use Rattle.dr_machine.specs.Run.{ComesNext, HaveArrived, IsReached, MayArrive, WasOwn, Way, with_table}
-use Rattle.dr_machine.specs.World.{World, opening_world}
-use Rattle.dr_machine.specs.Writes.{at₄}
+use Rattle.dr_machine.specs.{Group.{Group, IsGroup, banks, columns, roster}, declared.step.Step.TheVariants.Push}
+use Rattle.dr_machine.specs.{Run.{ComesNext, HaveArrived, IsReached, MayArrive, WasOwn, Way, with_table}, Writes.at₄}
+use Rattle.dr_machine.{specs.World.{World, opening_world}, proofs.Runs.{is_last, stays_next}}
 use Rattle.dr_faithful.proofs.Writes.{at₄_case}
-use Rattle.dr_program.proofs.Opening.{begins_at_the_opening}
-use Rattle.dr_program.specs.declared.setup.Setup.{Setup}
 use Rattle.dr_program.specs.Net.{NetStep, HadWord, IsOnItsWay, IsRanOverNet, NetWay, took_nothing}
+use Rattle.dr_program.{specs.Presence.present_at, proofs.Opening.begins_at_the_opening}
 use Rattle.dr_program.specs.Program.{AreSetups, Move, Program, begun_program, comes_to, letter_for, step_of}
-use Rattle.dr_program.specs.Reading.{kept_word, in_view, letters_of, word_of, world}
-use Rattle.dr_program.specs.Running.{Running, settled, took_letter, AsksForLetter}
-use Rattle.dr_refine.proofs.Deeds.{deed_is_step, missed_stays, step_follows}
+use Rattle.dr_program.specs.{Reading.{kept_word, in_view, letters_of, word_of, world}, declared.setup.Setup.Setup}
+use Rattle.dr_program.{specs.Running.{Running, settled, took_letter, AsksForLetter}, proofs.Present.present_within}
+use Rattle.dr_refine.{specs.Programs.{AreLetters, IsProgram}, proofs.Deeds.{deed_is_step, missed_stays, step_follows}}
 use Rattle.dr_refine.proofs.Steps.{begun_is_program, of_settled, replaced_program}
 use Rattle.dr_refine.proofs.Tables.{table_written, word_inside}
-use Rattle.dr_refine.specs.Programs.{AreLetters, IsProgram}
-use Rattle.dr_program_laws.proofs.Letters.{letters_are}
+use Rattle.dr_program_laws.proofs.{Keeping.move_kept, Letters.letters_are, Worlds.of_there}
 use Rattle.dr_turn.proofs.Takes.{takes_keep_form}
-use Rattle.dr_program_laws.proofs.Keeping.{move_kept}
-use Rattle.dr_program_laws.proofs.Worlds.{of_there}
-use Rattle.dr_program.specs.Presence.{present_at}
-use Rattle.dr_program.proofs.Present.{present_within}
 
 -- the worlds that programs are
 abbrev pub worlds : Group → List Program → List World
@@ -50,14 +40,12 @@ view_there g p m r there = of_there p (λ q. q.view) (opening_world g).past.view
 
 own_there : (g : Group) (p : Program) (m : ℕ) (r : Running) (c : ℕ) → present_at p.members m ≡ Some r
     → (world g p).past.own m r.replica.view c ≡ own r.replica.rows c
-own_there g p m r c there =
-    ap (λ (f : ℕ → ℕ → ℕ). f r.replica.view c)
+own_there g p m r c there = ap (λ (f : ℕ → ℕ → ℕ). f r.replica.view c)
     (of_there p (λ q n k. in_view q n (own q.rows k) (kept_word q n k)) (opening_world g).past.own m r there)
     ∙ same_view r.replica.view (own r.replica.rows c) (kept_word r.replica r.replica.view c)
 
 pub own_now : (g : Group) (p : Program) (m : ℕ) (r : Running) (c : ℕ) (before : List World)
-    → present_at p.members m ≡ Some r
-    → WasOwn (world g p ∷ before) r.replica.view m c (own r.replica.rows c)
+    → present_at p.members m ≡ Some r → WasOwn (world g p ∷ before) r.replica.view m c (own r.replica.rows c)
 own_now g p m r c before there =
     (world g p, is_last before (world g p), view_there g p m r there, own_there g p m r c there)
 
@@ -148,23 +136,20 @@ come_follows g before p v j i c word is bank to from cell was = (
 -- a take that finds no letter keeps a program of its group
 pub missed_kept : (g : Group) (p : Program) (m : ℕ) (r : Running) → IsProgram g p → present_at p.members m ≡ Some r
     → AsksForLetter r → IsProgram g (took_nothing p m r)
-missed_kept g p m r is there asks = replaced_program g p m (settled (took_letter None r)) p.table p.letters
-    is (present_within p.members m r there)
-    (takes_keep_form None r (is.form m r there) asks (is.form m r there).replica)
+missed_kept g p m r is there asks = replaced_program g p m (settled (took_letter None r)) p.table p.letters is
+    (present_within p.members m r there) (takes_keep_form None r (is.form m r there) asks (is.form m r there).replica)
     (of_settled g m (took_letter None r) (is.of m r there)) refl refl
 
 -- what comes next of a program is of the group, and is the next world
-goes_on : (g : Group) (before : List Program) (p q : Program) → IsGroup g → IsProgram g p
-    → IsReached g (world g p) → NetStep g before p q
-    → IsProgram g q × ComesNext g (worlds g before) (world g p) (world g q)
+goes_on : (g : Group) (before : List Program) (p q : Program) → IsGroup g → IsProgram g p → IsReached g (world g p)
+    → NetStep g before p q → IsProgram g q × ComesNext g (worlds g before) (world g p) (world g q)
 goes_on g before p q group is run (inl (e, same)) =
     subst (λ x. IsProgram g x × ComesNext g (worlds g before) (world g p) (world g x)) (sym same)
     ((move_kept g p e group is run).0, step_follows g p e (worlds g before) group is (letters_are g p group is run))
 goes_on g before p q group is run (inr (inl on)) = (
   let kept = (move_kept g p on.move group is run).0 in subst (IsProgram g) (sym on.made)
       (record { all = kept.all; form = kept.form; of = kept.of; there = kept.there; table = is.table; posts = is.posts }),
-  subst (ComesNext g (worlds g before) (world g p))
-      (sym (way_stays g p q group is (letters_are g p group is run) on))
+  subst (ComesNext g (worlds g before) (world g p)) (sym (way_stays g p q group is (letters_are g p group is run) on))
       (stays_next g (worlds g before) (world g p)),
 )
 goes_on g before p q group is run (inr (inr (inr t))) = (
@@ -192,8 +177,7 @@ net_kept g turns setups (x ∷ xs) p group some are way =
     let now = goes_on g xs x p group old.0 (worlds g xs, old.1) way.1 in (now.0, (old.1, now.1))
 
 pub net_reached : (g : Group) (turns : ℕ) (setups : List (Option Setup)) (p : Program) → IsGroup g → 1 ≤ turns
-    → AreSetups g turns setups → IsRanOverNet g (begun_program g setups) p
-    → IsProgram g p × IsReached g (world g p)
+    → AreSetups g turns setups → IsRanOverNet g (begun_program g setups) p → IsProgram g p × IsReached g (world g p)
 net_reached g turns setups p group some are (before, way) =
     let kept = net_kept g turns setups before p group some are way in (kept.0, (worlds g before, kept.1))
 
@@ -204,8 +188,7 @@ pub net_keeps : (g : Group) (turns : ℕ) (setups : List (Option Setup)) (P : Pr
     → ((q : Program) (table : List ℕ) (letters : List (Option (List Entry))) → P q
     → P (record { members = q.members; table = table; letters = letters }))
     → ((q : Program) (m : ℕ) (r : Running) → IsProgram g q → P q → present_at q.members m ≡ Some r
-    → AsksForLetter r → P (took_nothing q m r))
-    → P (begun_program g setups) → (before : List Program) (p : Program)
+    → AsksForLetter r → P (took_nothing q m r)) → P (begun_program g setups) → (before : List Program) (p : Program)
     → NetWay g (begun_program g setups) before p → P p
 net_keeps g turns setups P group some are keeps same misses begun [] p way = subst P (sym way) begun
 net_keeps g turns setups P group some are keeps same misses begun (x ∷ xs) p way =

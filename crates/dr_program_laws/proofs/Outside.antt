@@ -1,41 +1,25 @@
 -- Members that are none of their view: no append of one has failed, and it ends by a fault alone.
-use Rattle.std.proofs.Common.{◌≡◌, refl, sym, ap, ◌∙◌, subst, inl, inr, ℕ, ◌+◌, ◌≤◌, ◌||◌, Bool, true, false, List, arith}
 use Rattle.std.specs.Prelude.{⊤, Option, None, Some, is_some, option_map}
-use Rattle.std.proofs.lemmas.Bool.{and_parts}
-use Rattle.std.proofs.lemmas.Option.{same_Some}
-use Rattle.dr_entry.specs.declared.end.End.{End}
+use Rattle.std.proofs.Common.{◌≡◌, refl, sym, ap, ◌∙◌, subst, inl, inr, ℕ, ◌+◌, ◌≤◌, ◌||◌, Bool, true, false, List, arith}
+use Rattle.std.proofs.lemmas.{Bool.and_parts, Option.same_Some}
+use Rattle.dr_entry.specs.declared.{end.End.End, entry.Entry.Entry}
 use Rattle.dr_entry.specs.declared.end.End.TheVariants as ends
-use Rattle.dr_entry.specs.declared.entry.Entry.{Entry}
 use Rattle.dr_history.specs.Members.{has}
 use Rattle.dr_machine.specs.declared.event.Act.TheVariants as acts
-use Rattle.dr_machine.specs.declared.step.Step.{Step}
+use Rattle.dr_machine.specs.{Group.{Group, IsGroup}, Guards.IsFault, Run.IsReached, declared.step.Step.Step}
 use Rattle.dr_machine.specs.declared.step.Step.TheVariants.{Do}
-use Rattle.dr_machine.specs.Group.{Group, IsGroup}
-use Rattle.dr_machine.specs.Guards.{IsFault}
-use Rattle.dr_machine.specs.Run.{IsReached}
-use Rattle.dr_program.specs.declared.outcome.LogWhy.{LogWhy}
-use Rattle.dr_program.specs.declared.setup.Setup.{Setup}
-use Rattle.dr_program.specs.Acts.{may}
-use Rattle.dr_program.specs.Form.{HasForm, IsRunningMember}
-use Rattle.dr_program.specs.Net.{IsRanOverNet, took_nothing}
-use Rattle.dr_program.specs.Presence.{present_at}
+use Rattle.dr_program.specs.{Acts.may, Reading.world}
+use Rattle.dr_program.{specs.Form.{HasForm, IsRunningMember}, proofs.{Fixed.{Told, step_told}, Present.present_map}}
+use Rattle.dr_program.specs.{Net.{IsRanOverNet, took_nothing}, declared.{outcome.LogWhy.LogWhy, setup.Setup.Setup}}
+use Rattle.dr_program.specs.{Presence.present_at, Steps.{IsAppend, allows, allows_inside, is_outside_step, stepped}}
 use Rattle.dr_program.specs.Program.{AreSetups, IsRanFrom, Move, Program, after_deed, begun_program, letter_for, moved_by, next_sight, step_of}
-use Rattle.dr_program.specs.Reading.{world}
-use Rattle.dr_program.specs.Replica.{Replica, is_fault, is_inside, me}
+use Rattle.dr_program.{specs.Replica.{Replica, is_fault, is_inside, me}, proofs.Runs.{after_either, joins_outside}}
 use Rattle.dr_program.specs.Running.{AsksForLetter, Running, after_step, begun_running, broken_off, next_step, settled, took, took_letter}
-use Rattle.dr_program.specs.Steps.{IsAppend, allows, allows_inside, is_outside_step, stepped}
-use Rattle.dr_program.proofs.Fixed.{Told, step_told}
-use Rattle.dr_program.proofs.Present.{present_map}
-use Rattle.dr_program.proofs.Runs.{after_either, joins_outside}
 use Rattle.dr_refine.specs.Programs.{IsProgram}
-use Rattle.dr_refine.proofs.Deeds.{due_allowed, rest_changes_nothing, step_is, step_reached}
-use Rattle.dr_refine.proofs.Steps.{begun_is_program}
-use Rattle.dr_program_laws.proofs.Letters.{letters_are}
-use Rattle.dr_turn.proofs.Search.{settle_only}
-use Rattle.dr_turn.proofs.Tasks.{ends_view}
-use Rattle.dr_program_laws.proofs.Keeping.{begun_reached, next_form, take_leaves}
-use Rattle.dr_program_laws.proofs.Nets.{net_keeps}
-use Rattle.dr_program_laws.proofs.Programs.{ran_keeps, replaced_either}
+use Rattle.dr_refine.proofs.{Deeds.{due_allowed, rest_changes_nothing, step_is, step_reached}, Steps.begun_is_program}
+use Rattle.dr_program_laws.proofs.{Keeping.{begun_reached, next_form, take_leaves}, Letters.letters_are}
+use Rattle.dr_program_laws.proofs.{Nets.net_keeps, Programs.{ran_keeps, replaced_either}}
+use Rattle.dr_turn.proofs.{Search.settle_only, Tasks.ends_view}
 
 -- the end, if there is one, is a fault
 abbrev pub IsFaulty : Option End → Type 0
@@ -136,8 +120,7 @@ move_apart g p e group is run all = by (present_at p.members e.member) refl
         elim (replaced_either p.members e.member r
         (after_deed (next_sight p.table r) (letter_for p e.member) e.outcome r (next_step r)) there m y found) [
           | inl here ↦ subst IsApart here.1 (after_either IsApart p.table (letter_for p e.member) e.outcome r
-              (next_step r)
-              (takes (next_sight p.table r) r (is.form e.member r there) unended
+              (next_step r) (takes (next_sight p.table r) r (is.form e.member r there) unended
               (next_form g p e.member r group is run there unended) (all e.member r there))
               (λ why due. breaks why r (is.form e.member r there) unended due)
               (λ due. takes_letter (letter_for p e.member) r (is.form e.member r there)
@@ -174,17 +157,14 @@ pub ran_apart : (g : Group) (turns : ℕ) (setups : List (Option Setup)) (p : Pr
     → AreSetups g turns setups → IsRanFrom (begun_program g setups) p → AreApart p
 ran_apart g turns setups p group some are (es, same) = subst AreApart (sym same)
     (ran_keeps g (λ q. IsReached g (world g q) × AreApart q) (begun_program g setups) es group
-    (begun_is_program g turns setups group some are) (begun_reached g turns setups group are)
-    (λ q e is so. (
+    (begun_is_program g turns setups group some are) (begun_reached g turns setups group are) (λ q e is so. (
       step_reached g q e group is (letters_are g q group is so.0) so.0,
       move_apart g q e group is so.0 so.1,
-    ))
-    (begun_reached g turns setups group are, begun_apart g setups)).1
+    )) (begun_reached g turns setups group are, begun_apart g setups)).1
 
 -- and over a net
 pub net_apart : (g : Group) (turns : ℕ) (setups : List (Option Setup)) (p : Program) → IsGroup g → 1 ≤ turns
     → AreSetups g turns setups → IsRanOverNet g (begun_program g setups) p → AreApart p
-net_apart g turns setups p group some are (before, way) =
-    net_keeps g turns setups AreApart group some are (λ q e form run all. move_apart g q e group form run all)
-    (λ q table letters all. all) (λ q m r form all there asks. missed_apart g q m r form all there asks)
-    (begun_apart g setups) before p way
+net_apart g turns setups p group some are (before, way) = net_keeps g turns setups AreApart group some are
+    (λ q e form run all. move_apart g q e group form run all) (λ q table letters all. all)
+    (λ q m r form all there asks. missed_apart g q m r form all there asks) (begun_apart g setups) before p way

@@ -1,31 +1,21 @@
 -- How long a member waits for news of others, over its deeds.
+use Rattle.std.{specs.Prelude.None, proofs.lemmas.Bool.{cases_eq, cases_lt, not-true, Decides.nat_tests}}
 use Rattle.std.proofs.Common.{◌≡◌, ◌≢◌, ◌⊎◌, refl, sym, ap, ◌∙◌, subst, inl, inr, ℕ, suc, ◌+◌, ◌-◌, ◌^◌, ◌<◌, ◌≤◌, ◌==◌, ◌||◌, Bool, true, false, not, nat_lt, min, if◌then◌else◌, length, le_trans, replicate, arith}
-use Rattle.std.proofs.lemmas.Bool.{cases_eq, cases_lt, not-true}
-use Rattle.std.proofs.lemmas.Bool.Decides.{nat_tests}
 use Rattle.std.proofs.lemmas.List.{get_or-replicate, get_or_past, get_or-set_same, get_or-set_other}
-use Rattle.std.specs.Prelude.{None}
-use Rattle.dr_machine.specs.declared.step.Step.{Step}
-use Rattle.dr_machine.specs.declared.step.Step.TheVariants.{Look}
-use Rattle.dr_program.specs.declared.place.Part.{Part}
-use Rattle.dr_program.specs.declared.place.Part.TheVariants as parts
-use Rattle.dr_program.specs.declared.place.Place.{Place}
-use Rattle.dr_program.specs.declared.place.TheConstants.{TURN}
+use Rattle.dr_machine.specs.declared.step.Step.{Step, TheVariants.Look}
 use Rattle.dr_program.specs.Form.{IsRunningMember}
 use Rattle.dr_program.specs.Running.{Running, after_step, applies, columns, crashes_now, goes, members, next_step, settled, step_at, took, took_letter, waits_after}
-use Rattle.dr_program.specs.Turn.{after, columns_in, is_beat, part_of, rows_in, turn_begins}
-use Rattle.dr_program.proofs.Fixed.{Told, step_told}
-use Rattle.dr_program.proofs.StepsAt.{append_either, push_either, vote_either}
+use Rattle.dr_program.specs.{Steps.IsNoJoin, Turn.{after, columns_in, is_beat, part_of, rows_in, turn_begins}}
+use Rattle.dr_program.specs.declared.place.{Part.Part, Place.Place, TheConstants.TURN}
+use Rattle.dr_program.proofs.{Fixed.{Told, step_told}, StepsAt.{append_either, push_either, vote_either}}
+use Rattle.dr_program.specs.declared.place.Part.TheVariants as parts
 use Rattle.dr_rows.specs.Words.{Words, looked, seen}
 use Rattle.dr_suspect.specs.Waits.{Waits, beat_of, begun, compared, next_count, turns_without_news}
-use Rattle.dr_turn.specs.Search.{Passed, here, on}
-use Rattle.dr_turn.proofs.Order.{all_below, each_below, is_take}
-use Rattle.dr_turn.proofs.Search.{applies_at, beat_test, passed_at, settle_only, settle_passed}
-use Rattle.dr_turn.proofs.Tasks.{ends_view}
+use Rattle.dr_turn.{specs.Search.{Passed, here, on}, proofs.Tasks.ends_view}
+use Rattle.dr_turn.proofs.{Order.{all_below, each_below, is_take}, Parts.{goes_back_or_stays, is_publish, numbered}}
+use Rattle.dr_turn.proofs.{Search.{applies_at, beat_test, passed_at, settle_only, settle_passed}, Takes.no_join_at}
 use Rattle.dr_words.specs.declared.column.TheConstants.{BEAT_COLUMN}
 use Rattle.dr_program_laws.specs.Trusting.{IsOthers, IsPatient, MayWait, to_come}
-use Rattle.dr_turn.proofs.Parts.{goes_back_or_stays, is_publish, numbered}
-use Rattle.dr_program.specs.Steps.{IsNoJoin}
-use Rattle.dr_turn.proofs.Takes.{no_join_at}
 
 -- ---- the rows that are still to be compared in the turn of a place
 
@@ -78,13 +68,10 @@ looks_first a l looks = take_test (numbered a) (implied _ _
     implied true y t e = t
     implied false y t e = absurd (cc e)
 
-looks_before : (a : ℕ) → a < length TURN → is_publish (numbered a) ≡ true
-    → is_looks (numbered (a - 1)) ≡ false
+looks_before : (a : ℕ) → a < length TURN → is_publish (numbered a) ≡ true → is_looks (numbered (a - 1)) ≡ false
 unfolding all_below
 looks_before a l back = implied _ _
-    (each_below (length TURN) a (λ b. not (is_publish (numbered b)) || not (is_looks (numbered
-    (b - 1)))) refl l)
-    back
+    (each_below (length TURN) a (λ b. not (is_publish (numbered b)) || not (is_looks (numbered (b - 1)))) refl l) back
   where
     implied : (x y : Bool) → (not x || not y) ≡ true → x ≡ true → y ≡ false
     implied true y t e = not-true y t
@@ -99,8 +86,7 @@ last_begins a l = by (cases_lt a (length TURN))
     by (inr beyond) = ap is_beat (get_or_past TURN a turn_begins beyond)
 
 -- so the place after leaves no more, but where the next turn begins
-pub after_less : (n k : ℕ) (p : Place) (i : ℕ) → is_beat (part_of p) ≡ false
-    → comes (after n k p) i ≤ comes p i
+pub after_less : (n k : ℕ) (p : Place) (i : ℕ) → is_beat (part_of p) ≡ false → comes (after n k p) i ≤ comes p i
 after_less n k p i amid = by (nat_lt (p.column + 1) (columns_in k (part_of p)))
     (nat_lt (p.row + 1) (rows_in n (part_of p))) (cases_lt (p.part + 1) (length TURN))
   where
@@ -114,12 +100,7 @@ after_less n k p i amid = by (nat_lt (p.column + 1) (columns_in k (part_of p)))
     looked false e l = omega (arith, none_comes (numbered (p.part + 1)) 0 i e)
 
     next : (p.part + 1 < length TURN) ⊎ (length TURN ≤ p.part + 1)
-        → comes (record {
-          part = if nat_lt (p.part + 1)
-              (length TURN) then p.part + 1 else 0;
-          row = 0;
-          column = 0;
-        })
+        → comes (record { part = if nat_lt (p.part + 1) (length TURN) then p.part + 1 else 0; row = 0; column = 0 })
         i ≤ comes p i
     next (inl l) =
         let within : nat_lt (p.part + 1) (length TURN) ≡ true = grind (arith, l) in
@@ -127,14 +108,8 @@ after_less n k p i amid = by (nat_lt (p.column + 1) (columns_in k (part_of p)))
     next (inr l) = absurd (cc (last_begins p.part l, amid))
 
     by : (x y : Bool) → (p.part + 1 < length TURN) ⊎ (length TURN ≤ p.part + 1)
-        → comes (if x then record p { column = p.column + 1 }
-        else (if y then record p { row = p.row + 1; column = 0 }
-        else record {
-          part = if nat_lt (p.part + 1)
-              (length TURN) then p.part + 1 else 0;
-          row = 0;
-          column = 0;
-        }))
+        → comes (if x then record p { column = p.column + 1 } else (if y then record p { row = p.row + 1; column = 0 }
+        else record { part = if nat_lt (p.part + 1) (length TURN) then p.part + 1 else 0; row = 0; column = 0 }))
         i ≤ comes p i
     by true y l = omega arith
     by false true l = row_less (part_of p) p.row i
@@ -146,21 +121,16 @@ passed_amid r p fails = by (is_beat (part_of p)) refl
   where
     by : (b : Bool) → is_beat (part_of p) ≡ b → is_beat (part_of p) ≡ false
     by false other = other
-    by true beat = absurd (cc (
-      ap (λ part. applies_at r part p.row p.column) (beat_test (part_of p) beat),
-      fails,
-    ))
+    by true beat = absurd (cc (ap (λ part. applies_at r part p.row p.column) (beat_test (part_of p) beat), fails))
 
 pub passed_less : (r : Running) (p q : Place) (i : ℕ) → Passed r p q → comes q i ≤ comes p i
 passed_less r _ _ i (here p) = omega arith
-passed_less r _ _ i (on p q fails rest) = le_trans
-    (passed_less r (after (members r) (columns r) p) q i rest)
+passed_less r _ _ i (on p q fails rest) = le_trans (passed_less r (after (members r) (columns r) p) q i rest)
     (after_less (members r) (columns r) p i (passed_amid r p fails))
 
 -- the search passes only places with nothing to do, as its member is behind it
 pub settled_passed : (y : Running) → Passed (settled y) y.place (settled y).place
-settled_passed y =
-    subst (λ (z : Running). Passed z y.place (settled y).place) (sym (settle_only _ y))
+settled_passed y = subst (λ (z : Running). Passed z y.place (settled y).place) (sym (settle_only _ y))
     (passed_at (record y { place = (settled y).place }) y.place y.place (settled y).place (settle_passed _ y))
 
 -- ---- a deed
@@ -170,8 +140,7 @@ is_look (Look i c) = true
 is_look s = false
 
 -- only the looks of a turn are
-pub plain_looks : (r : Running) (part : Part) (i c : ℕ) → is_looks part ≡ false
-    → is_look (step_at r part i c) ≡ false
+pub plain_looks : (r : Running) (part : Part) (i c : ℕ) → is_looks part ≡ false → is_look (step_at r part i c) ≡ false
 plain_looks r parts.Look i c other = absurd (cc other)
 plain_looks r parts.Append i c other = append_either (λ s. is_look s ≡ false) r.failed refl (λ why. refl)
 plain_looks r parts.Vote i c other = vote_either (λ s. is_look s ≡ false) r.failed _ refl (λ why. refl)
@@ -197,8 +166,7 @@ goes_less n k (parts.Do a) p i at amid other = by (goes_back_or_stays n k a p am
         → to_come (numbered (p.part - 1)) p.row i ≤ comes p i
     back (inl l) e = omega (
       arith,
-      none_comes (numbered (p.part - 1)) p.row i
-          (looks_before p.part l (ap is_publish at ∙ e)),
+      none_comes (numbered (p.part - 1)) p.row i (looks_before p.part l (ap is_publish at ∙ e)),
     )
     back (inr l) e = absurd (cc (last_begins p.part (omega (arith, l)), ap is_beat at, amid))
 
@@ -244,8 +212,7 @@ is_below a b l = grind (arith, l)
 -- the looks: with the last word of a row one is counted, and none is to come for it
 looks_less : (word : ℕ) (r : Running) (i : ℕ) → IsRunningMember r → part_of r.place ≡ parts.Look
     → turns_without_news (waits_after word r (step_at r parts.Look r.place.row r.place.column)) i
-    + comes (after (members r) (columns r) r.place) i
-    ≤ turns_without_news r.waits i + comes r.place i
+    + comes (after (members r) (columns r) r.place) i ≤ turns_without_news r.waits i + comes r.place i
 looks_less word r i member at = by (r.place.column + 1 == columns r) refl (cases_eq i r.place.row)
   where
     less : comes (after (members r) (columns r) r.place) i ≤ comes r.place i
@@ -258,8 +225,7 @@ looks_less word r i member at = by (r.place.column + 1 == columns r) refl (cases
         → comes (after (members r) (columns r) r.place) i ≡ 0
     done same e = past (nat_lt (r.place.column + 1) (columns_in (columns r) (part_of r.place)))
         (nat_lt (r.place.row + 1) (rows_in (members r) (part_of r.place)))
-        (ap (λ part. nat_lt (r.place.column + 1) (columns_in (columns r) part)) at
-        ∙ grind (arith, nat_tests, e))
+        (ap (λ part. nat_lt (r.place.column + 1) (columns_in (columns r) part)) at ∙ grind (arith, nat_tests, e))
         (cases_lt (r.place.part + 1) (length TURN))
       where
         no_looks : (b : Bool) → is_looks (numbered (r.place.part + 1)) ≡ b → r.place.part + 1 < length TURN
@@ -267,23 +233,20 @@ looks_less word r i member at = by (r.place.column + 1 == columns r) refl (cases
         no_looks true e l = absurd (cc (sym (looks_first r.place.part l e) ∙ at))
         no_looks false e l = e
 
-        next : (r.place.part + 1 < length TURN) ⊎ (length TURN ≤ r.place.part + 1)
-            → comes (record {
-              part = if nat_lt (r.place.part + 1) (length TURN) then r.place.part + 1 else 0;
-              row = 0;
-              column = 0;
-            }) i ≡ 0
+        next : (r.place.part + 1 < length TURN) ⊎ (length TURN ≤ r.place.part + 1) → comes (record {
+          part = if nat_lt (r.place.part + 1) (length TURN) then r.place.part + 1 else 0;
+          row = 0;
+          column = 0;
+        }) i ≡ 0
         next (inl l) =
             let within = is_below (r.place.part + 1) (length TURN) l in
             rw within (none_comes (numbered (r.place.part + 1)) 0 i
             (no_looks (is_looks (numbered (r.place.part + 1))) refl l))
         next (inr l) = absurd (cc (last_begins r.place.part l, ap is_beat at))
 
-        past : (x y : Bool) → x ≡ false
-            → (r.place.part + 1 < length TURN) ⊎ (length TURN ≤ r.place.part + 1)
+        past : (x y : Bool) → x ≡ false → (r.place.part + 1 < length TURN) ⊎ (length TURN ≤ r.place.part + 1)
             → comes (if x then record r.place { column = r.place.column + 1 }
-            else (if y then record r.place { row = r.place.row + 1; column = 0 }
-            else record {
+            else (if y then record r.place { row = r.place.row + 1; column = 0 } else record {
               part = if nat_lt (r.place.part + 1) (length TURN) then r.place.part + 1 else 0;
               row = 0;
               column = 0;
@@ -301,11 +264,10 @@ looks_less word r i member at = by (r.place.column + 1 == columns r) refl (cases
       member.replica.members,
     )
 
-    by : (b : Bool) → (r.place.column + 1 == columns r) ≡ b → (i ≡ r.place.row) ⊎ (i ≢ r.place.row)
-        → turns_without_news (if b then compared r.waits
-        (looked r.replica.rows r.place.row r.place.column word) r.place.row
-        else r.waits) i + comes (after (members r) (columns r) r.place) i
-        ≤ turns_without_news r.waits i + comes r.place i
+    by : (b : Bool) → (r.place.column + 1 == columns r) ≡ b
+        → (i ≡ r.place.row) ⊎ (i ≢ r.place.row) → turns_without_news (if b then compared r.waits
+        (looked r.replica.rows r.place.row r.place.column word) r.place.row else r.waits) i + comes (after (members r)
+        (columns r) r.place) i ≤ turns_without_news r.waits i + comes r.place i
     by true e (inl same) = omega (
       arith,
       compared_count r.waits (looked r.replica.rows r.place.row r.place.column word) r.place.row i within,
@@ -323,10 +285,8 @@ looks_less word r i member at = by (r.place.column + 1 == columns r) refl (cases
 
 -- the deed of a part leaves no more looks and turns together
 abbrev Lessens : ℕ → Running → ℕ → Part → Type 0
-Lessens word r i part =
-    turns_without_news (waits_after word r (step_at r part r.place.row r.place.column)) i
-    + comes (goes (members r) (columns r) part r.place) i
-    ≤ turns_without_news r.waits i + comes r.place i
+Lessens word r i part = turns_without_news (waits_after word r (step_at r part r.place.row r.place.column)) i
+    + comes (goes (members r) (columns r) part r.place) i ≤ turns_without_news r.waits i + comes r.place i
 
 -- who waits anew has waited for nobody
 no_news : (limit i : ℕ) → turns_without_news (begun limit) i ≡ 0
@@ -338,9 +298,8 @@ no_news limit i = by (cases_lt i 16)
 
 -- so it is where no turn begins by it
 took_less : (word : ℕ) (r : Running) (i : ℕ) → IsRunningMember r → ends_view (next_step r) ≡ false
-    → is_beat (part_of r.place) ≡ false
-    → turns_without_news (took word r (next_step r)).waits i + comes (took word r (next_step r)).place i
-    ≤ turns_without_news r.waits i + comes r.place i
+    → is_beat (part_of r.place) ≡ false → turns_without_news (took word r (next_step r)).waits i + comes (took word r
+    (next_step r)).place i ≤ turns_without_news r.waits i + comes r.place i
 took_less word r i member stays amid = by (part_of r.place) refl
   where
     plain : (part : Part) → part_of r.place ≡ part → is_looks part ≡ false → Lessens word r i part
@@ -355,8 +314,7 @@ took_less word r i member stays amid = by (part_of r.place) refl
 
     by : (part : Part) → part_of r.place ≡ part → Lessens word r i (part_of r.place)
     by parts.Look at = subst (Lessens word r i) (sym at) (looks_less word r i member at)
-    by parts.Take at = subst (Lessens word r i) (sym at)
-        (omega (arith, no_news r.waits.limit i))
+    by parts.Take at = subst (Lessens word r i) (sym at) (omega (arith, no_news r.waits.limit i))
     by part at = subst (Lessens word r i) (sym at) (plain part at refl)
 
 -- a patient member stays so over a take that finds no letter
@@ -376,8 +334,7 @@ patient_take r patient = subst IsPatient (sym (settle_only _ y)) (by patient)
 
 -- so a patient member stays so, where it may wait as its turn begins
 pub patient_on : (word : ℕ) (r : Running) → IsRunningMember r → ends_view (next_step r) ≡ false
-    → (is_beat (part_of r.place) ≡ true → MayWait r)
-    → (waits_after word r (next_step r)).limit ≡ r.waits.limit
+    → (is_beat (part_of r.place) ≡ true → MayWait r) → (waits_after word r (next_step r)).limit ≡ r.waits.limit
     → IsPatient r → IsPatient (after_step word r)
 patient_on word r member stays may limit patient =
     subst IsPatient (sym (settle_only _ y)) (by (is_beat (part_of r.place)) refl patient)
@@ -385,8 +342,7 @@ patient_on word r member stays may limit patient =
     y : Running
     y = took word r (next_step r)
 
-    less : (i : ℕ) → comes (settled (took word r (next_step r))).place i ≤ comes (took word r
-        (next_step r)).place i
+    less : (i : ℕ) → comes (settled (took word r (next_step r))).place i ≤ comes (took word r (next_step r)).place i
     less i = passed_less (settled y) y.place (settled y).place i (settled_passed y)
 
     other : (i : ℕ) → IsOthers y.replica i → IsOthers r.replica i
@@ -395,8 +351,7 @@ patient_on word r member stays may limit patient =
       subst (λ (t : Told). i ≢ t.number) (step_told word r.replica (next_step r)) is.1,
     )
 
-    begun : MayWait r → is_beat (part_of r.place) ≡ true
-        → IsPatient (record y { place = (settled y).place })
+    begun : MayWait r → is_beat (part_of r.place) ≡ true → IsPatient (record y { place = (settled y).place })
     begun (inl none) beat = inl (limit ∙ none)
     begun (inr enough) beat = inr (λ i is. omega (
       arith,
@@ -408,8 +363,7 @@ patient_on word r member stays may limit patient =
           (sym (beat_test (part_of r.place) beat)) refl),
     ))
 
-    by : (b : Bool) → is_beat (part_of r.place) ≡ b → IsPatient r
-        → IsPatient (record y { place = (settled y).place })
+    by : (b : Bool) → is_beat (part_of r.place) ≡ b → IsPatient r → IsPatient (record y { place = (settled y).place })
     by true beat was = begun (may beat) beat
     by false amid (inl none) = inl (limit ∙ none)
     by false amid (inr enough) = inr (λ i is. omega (

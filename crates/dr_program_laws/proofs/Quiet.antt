@@ -1,12 +1,8 @@
 -- Who suspects nobody passes the parts of its turn that are for voting.
-use Rattle.std.proofs.Common.{◌≡◌, Bool, true, false, arith}
-use Rattle.std.specs.Prelude.{None}
-use Rattle.dr_machine.specs.declared.event.Act.{Act}
+use Rattle.std.{specs.Prelude.None, proofs.Common.{◌≡◌, Bool, true, false, arith}}
+use Rattle.dr_machine.specs.declared.{event.Act.Act, step.Step.TheVariants.Do}
 use Rattle.dr_machine.specs.declared.event.Act.TheVariants as acts
-use Rattle.dr_machine.specs.declared.step.Step.TheVariants.{Do}
-use Rattle.dr_program.specs.Acts.{may}
-use Rattle.dr_program.specs.Replica.{Replica}
-use Rattle.dr_program.specs.declared.place.Part.{Part}
+use Rattle.dr_program.specs.{Acts.may, Replica.Replica, declared.place.Part.Part}
 use Rattle.dr_program.specs.declared.place.Part.TheVariants as parts
 use Rattle.dr_turn.proofs.Tasks.{ends_view}
 

@@ -1,42 +1,24 @@
 -- What a look finds in the table of a program in a reached world, its member may see.
+use Rattle.std.{specs.Prelude.Some, proofs.lemmas.Bool.and_parts}
 use Rattle.std.proofs.Common.{◌≡◌, ◌≢◌, sym, ap, ◌∙◌, subst, ℕ, ◌<◌, true, slice_index, not, arith}
-use Rattle.std.specs.Prelude.{Some}
-use Rattle.std.proofs.lemmas.Bool.{and_parts}
 use Rattle.dr_history.specs.Members.{has}
 use Rattle.dr_rows.specs.Words.{seen}
-use Rattle.dr_words.specs.Form.{IsInForm}
-use Rattle.dr_words.specs.Grown.{HasGrown}
-use Rattle.dr_words.specs.Layout.{word_index_of}
+use Rattle.dr_words.specs.{Form.IsInForm, Grown.HasGrown, Layout.word_index_of}
+use Rattle.dr_machine.specs.{Group.{Group, IsGroup, columns, roster}, Run.IsReached, World.World}
 use Rattle.dr_machine.specs.declared.step.Step.TheVariants.{Look}
-use Rattle.dr_machine.specs.Group.{Group, IsGroup, columns, roster}
-use Rattle.dr_machine.specs.Run.{IsReached}
-use Rattle.dr_machine.specs.World.{World}
-use Rattle.dr_program.specs.Replica.{is_inside, is_other}
-use Rattle.dr_program.specs.Running.{Running}
-use Rattle.dr_program.specs.Steps.{allows, found, has_cell}
-use Rattle.dr_program.specs.Form.{IsOf}
-use Rattle.dr_program.specs.Program.{Program}
-use Rattle.dr_program.specs.Reading.{table_of, world}
-use Rattle.dr_program.specs.Sight.{IsSeenNext}
-use Rattle.dr_program.proofs.Holdings.{held_of}
-use Rattle.dr_faithful.specs.Faithful.{Faithful}
-use Rattle.dr_faithful.specs.Chosen.{views_by}
-use Rattle.dr_refine.specs.Programs.{IsMember, IsProgram}
-use Rattle.dr_refine.proofs.Deeds.{program_member, replicas}
-use Rattle.dr_refine.proofs.Guards.{other_member, other_within, seen_is}
-use Rattle.dr_refine.proofs.Tables.{word_inside}
-use Rattle.dr_refine.proofs.Tests.{cell_test}
+use Rattle.dr_program.specs.{Form.IsOf, Presence.present_at, Program.Program, Reading.{table_of, world}}
+use Rattle.dr_program.specs.{Replica.{is_inside, is_other}, Running.Running, Sight.IsSeenNext}
+use Rattle.dr_program.{specs.Steps.{allows, found, has_cell}, proofs.{Holdings.held_of, Present.present_within}}
+use Rattle.dr_faithful.specs.{Chosen.views_by, Faithful.Faithful}
+use Rattle.dr_refine.{specs.Programs.{IsMember, IsProgram}, proofs.Deeds.{program_member, replicas}}
+use Rattle.dr_refine.proofs.{Guards.{other_member, other_within, seen_is}, Tables.word_inside, Tests.cell_test}
 use Rattle.dr_world_laws.proofs.Worlds.{Known, faithful, known}
-use Rattle.dr_program.specs.Presence.{present_at}
-use Rattle.dr_program.proofs.Present.{present_within}
 
 -- the word that the look finds is that of the world's table
 word_found : (g : Group) (p : Program) (m : ℕ) (r : Running) (i c : ℕ)
-    → IsMember g (replicas p.members) (table_of p) m r.replica
-    → m < roster g → is_other r.replica i ≡ true → c < columns g
-    → (world g p).table ((world g p).past.view m) m i c ≡ found p.table r.replica i c
-word_found g p m r i c member within other column =
-    ap (λ v. (world g p).table v m i c)
+    → IsMember g (replicas p.members) (table_of p) m r.replica → m < roster g → is_other r.replica i ≡ true
+    → c < columns g → (world g p).table ((world g p).past.view m) m i c ≡ found p.table r.replica i c
+word_found g p m r i c member within other column = ap (λ v. (world g p).table v m i c)
     (ap (λ x. x.view) (held_of g (replicas p.members) (table_of p) m r.replica member.there))
     ∙ word_inside g p.table r.replica.view m i c (omega (arith, member.form.bank, member.of.banks)) within
     (other_within g (replicas p.members) (table_of p) m r.replica i member other) column
@@ -45,8 +27,7 @@ word_found g p m r i c member within other column =
 
 -- it is in form, and has grown from the word that was seen before
 pub found_seen : (g : Group) (p : Program) (m : ℕ) (r : Running) (i c : ℕ) → IsGroup g
-    → IsProgram g p → IsReached g (world g p)
-    → present_at p.members m ≡ Some r → allows r.replica (Look i c) ≡ true
+    → IsProgram g p → IsReached g (world g p) → present_at p.members m ≡ Some r → allows r.replica (Look i c) ≡ true
     → IsSeenNext r i c (found p.table r.replica i c)
 found_seen g p m r i c group is run there may = record {
   form = subst (λ n. IsInForm n c word) (sym of.members)
@@ -84,5 +65,4 @@ found_seen g p m r i c group is run there may = record {
     told = faithful g (world g p) y
 
     same : (world g p).table ((world g p).past.view m) m i c ≡ found p.table r.replica i c
-    same = word_found g p m r i c member
-        (omega (arith, present_within p.members m r there, is.all)) cell.0 cell.1
+    same = word_found g p m r i c member (omega (arith, present_within p.members m r there, is.all)) cell.0 cell.1

@@ -1,22 +1,15 @@
 -- How a member stands in its turn: before its crash, and at its end as it should be.
+use Rattle.std.specs.{List.list_any, Prelude.{⊤, All, Any, Option, None, Some, is_some, slice_index_or}}
 use Rattle.std.proofs.Common.{◌≡◌, refl, sym, ap, ◌∙◌, ℕ, zero, suc, ◌+◌, ◌-◌, ◌<◌, ◌≤◌, Bool, true, false, ◌&&◌, ◌||◌, not, nat_lt, if◌then◌else◌, List, length, min, arith}
-use Rattle.std.specs.Prelude.{⊤, All, Any, Option, None, Some, is_some, slice_index_or}
-use Rattle.std.specs.List.{list_any}
-use Rattle.std.proofs.lemmas.Bool.Decides.{nat_tests}
-use Rattle.std.proofs.lemmas.List.Folds.{list_any_at}
+use Rattle.std.proofs.lemmas.{Bool.Decides.nat_tests, List.Folds.list_any_at}
 use Rattle.dr_entry.specs.declared.end.End.{End}
 use Rattle.dr_entry.specs.declared.end.End.TheVariants as ends
 use Rattle.dr_machine.specs.declared.step.Step.TheVariants as steps
-use Rattle.dr_program.specs.declared.setup.CrashPoint.{CrashPoint}
-use Rattle.dr_program.specs.declared.place.Part.{Part}
-use Rattle.dr_program.specs.declared.place.Part.TheVariants as parts
-use Rattle.dr_program.specs.declared.place.Place.{Place}
-use Rattle.dr_program.specs.declared.place.TheConstants.{TURN}
-use Rattle.dr_program.specs.Turn.{after, columns_in, is_beat, part_of, rows_in, turn_begins}
 use Rattle.dr_program.specs.Running.{Running, applies, columns, crashes_in_turn, is_in_turn, members, moved, settle, settled}
-use Rattle.dr_turn.proofs.Order.{all_below, each_below}
-use Rattle.dr_turn.proofs.Search.{applies_at}
-use Rattle.dr_turn.proofs.Tasks.{ends_view}
+use Rattle.dr_program.specs.Turn.{after, columns_in, is_beat, part_of, rows_in, turn_begins}
+use Rattle.dr_program.specs.declared.{place.{Part.Part, Place.Place, TheConstants.TURN}, setup.CrashPoint.CrashPoint}
+use Rattle.dr_program.specs.declared.place.Part.TheVariants as parts
+use Rattle.dr_turn.proofs.{Order.{all_below, each_below}, Search.applies_at, Tasks.ends_view}
 use Rattle.dr_program_laws.specs.Ended.{IsBeforeCrash}
 
 -- ---- before and after a crash
@@ -42,13 +35,12 @@ none_at test xs k d none within = by (test (slice_index_or xs k d)) refl
 -- a member that doesn't crash in a turn is past it
 pub no_crash : (points : List CrashPoint) (turns : ℕ) → IsNotPast points turns
     → list_any (is_in_turn turns) points ≡ false → IsBeforeCrash points turns
-no_crash points turns later none =
-    λ k d within some. grind (
-      arith,
-      nat_tests,
-      none_at (is_in_turn turns) points k d none within,
-      later k d within some,
-    )
+no_crash points turns later none = λ k d within some. grind (
+  arith,
+  nat_tests,
+  none_at (is_in_turn turns) points k d none within,
+  later k d within some,
+)
 
 -- ---- where it is known that the turn has no crash
 
@@ -70,14 +62,12 @@ crash_test parts.Crash e = refl
 crash_test part e = absurd (cc)
 
 -- these parts come only behind such ones, and behind that of a crash
-behind_next : (i : ℕ) → i + 1 < length TURN → is_behind_crash (slice_index_or TURN (i + 1) turn_begins)
-    ≡ true
+behind_next : (i : ℕ) → i + 1 < length TURN → is_behind_crash (slice_index_or TURN (i + 1) turn_begins) ≡ true
     → (is_behind_crash (slice_index_or TURN i turn_begins)
     || is_crash (slice_index_or TURN i turn_begins)) ≡ true
 unfolding all_below
-behind_next i l late =
-    implied _ _ (each_below (length TURN - 1) i
-    (λ j. not (is_behind_crash (slice_index_or TURN (j + 1) turn_begins))
+behind_next i l late = implied _ _
+    (each_below (length TURN - 1) i (λ j. not (is_behind_crash (slice_index_or TURN (j + 1) turn_begins))
     || (is_behind_crash (slice_index_or TURN j turn_begins)
     || is_crash (slice_index_or TURN j turn_begins))) refl (omega (arith, l))) late
   where
@@ -94,10 +84,8 @@ behind_after n k p late = by (nat_lt (p.column + 1) (columns_in k (part_of p)))
     same : (a b : Bool) → a ≡ true → (a || b) ≡ true
     same a b e = rw e refl
 
-    by : (x y z : Bool) → nat_lt (p.part + 1) (length TURN) ≡ z
-        → is_behind_crash (part_of
-        (if x then record p { column = p.column + 1 } else
-        (if y then record p { row = p.row + 1; column = 0 }
+    by : (x y z : Bool) → nat_lt (p.part + 1) (length TURN) ≡ z → is_behind_crash (part_of
+        (if x then record p { column = p.column + 1 } else (if y then record p { row = p.row + 1; column = 0 }
         else record { part = if z then p.part + 1 else 0; row = 0; column = 0 }))) ≡ true
         → (is_behind_crash (part_of p) || is_crash (part_of p)) ≡ true
     by true y z e h = same _ _ h
@@ -112,8 +100,7 @@ abbrev pub IsProper : ℕ → List CrashPoint → ℕ → Option End → Type 0
 IsProper limit points turns None = ⊤
 IsProper limit points turns (Some ends.Done) = IsBeforeCrash points turns
 IsProper limit points turns (Some ends.Crashed) = Any (λ (c : CrashPoint). c.turn ≡ turns) points
-IsProper limit points turns (Some (ends.Spent n)) = (n ≡ limit) × (turns ≡ limit)
-    × IsBeforeCrash points turns
+IsProper limit points turns (Some (ends.Spent n)) = (n ≡ limit) × (turns ≡ limit) × IsBeforeCrash points turns
 IsProper limit points turns (Some ends.DiskFault) = ⊤
 IsProper limit points turns (Some (ends.LogFull len)) = ⊤
 IsProper limit points turns (Some (ends.Suspected by)) = ⊤
@@ -135,8 +122,7 @@ pub record Stands (limit : ℕ) (points : List CrashPoint) (r : Running) : Type 
 -- the next place, where this one's part is not that end, or the turn has no crash
 pub goes_on : (limit : ℕ) (points : List CrashPoint) (r : Running) → Stands limit points r
     → (is_crash (part_of r.place) ≡ true → IsBeforeCrash points r.replica.turns)
-    → is_behind_crash (part_of (after (members r) (columns r) r.place)) ≡ true
-    → IsBeforeCrash points r.replica.turns
+    → is_behind_crash (part_of (after (members r) (columns r) r.place)) ≡ true → IsBeforeCrash points r.replica.turns
 goes_on limit points r v missed late =
     by (is_behind_crash (part_of r.place)) refl (behind_after (members r) (columns r) r.place late)
   where
@@ -162,9 +148,7 @@ searched limit points r v idle = record {
     left_out false e = refl
 
     missed : part_of r.place ≡ parts.Crash → list_any (is_in_turn r.replica.turns) points ≡ false
-    missed here =
-        ap (list_any (is_in_turn r.replica.turns)) (sym v.planned)
-        ∙ left_out (crashes_in_turn r)
+    missed here = ap (list_any (is_in_turn r.replica.turns)) (sym v.planned) ∙ left_out (crashes_in_turn r)
         (sym (ap (λ x. applies_at r x r.place.row r.place.column) here) ∙ idle)
 
 settle_stands : (limit : ℕ) (points : List CrashPoint) (f : ℕ) (r : Running) → Stands limit points r

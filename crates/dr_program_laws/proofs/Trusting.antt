@@ -1,74 +1,41 @@
 -- Members that suspect nobody, and wait for everybody or have not waited for too long, judge nothing: so
 -- nobody is suspected, and no member is ended by suspicion.
+use Rattle.std.specs.{List.find, Prelude.{Option, None, Some, filter_map, is_some, slice_index_or, unwrap_or}}
+use Rattle.std.{specs.Option.{option_and_then, option_map}, proofs.Math.Path.fun_ext}
 use Rattle.std.proofs.Common.{◌≡◌, ◌≢◌, refl, sym, ap, ◌∙◌, subst, inl, inr, ◌⊎◌, ℕ, suc, ◌+◌, ◌<◌, ◌≤◌, ◌==◌, ◌&&◌, ◌||◌, not, nat_lt, Bool, true, false, if◌then◌else◌, All, List, [], ◌∷◌, length, map, arith}
-use Rattle.std.proofs.Math.Path.{fun_ext}
-use Rattle.std.specs.List.{find}
-use Rattle.std.specs.Option.{option_and_then, option_map}
-use Rattle.std.specs.Prelude.{Option, None, Some, filter_map, is_some, slice_index_or, unwrap_or}
-use Rattle.std.proofs.lemmas.Bool.{and_left, and_right, cases_eq, cases_lt}
-use Rattle.std.proofs.lemmas.Bool.Decides.{nat_tests}
-use Rattle.std.proofs.lemmas.Option.{same_Some}
-use Rattle.dr_entry.specs.declared.end.End.{End}
-use Rattle.dr_entry.specs.declared.entry.Entry.{Entry}
+use Rattle.std.proofs.lemmas.{Bool.{and_left, and_right, cases_eq, cases_lt, Decides.nat_tests}, Option.same_Some}
+use Rattle.dr_entry.specs.declared.{end.End.End, entry.Entry.Entry}
 use Rattle.dr_entry.specs.declared.end.End.TheVariants as ends
-use Rattle.dr_faithful.specs.Chosen.{views_by}
-use Rattle.dr_faithful.specs.Faithful.{Faithful}
-use Rattle.dr_machine.specs.declared.event.Act.{Act}
-use Rattle.dr_machine.specs.declared.step.Step.{Step}
-use Rattle.dr_machine.specs.declared.step.Step.TheVariants.{Do, LogVote}
-use Rattle.dr_machine.specs.Group.{Group, IsGroup}
-use Rattle.dr_machine.specs.Run.{IsReached}
-use Rattle.dr_machine.specs.World.{World, opening_world}
-use Rattle.dr_program.specs.Acts.{is_outside_act}
-use Rattle.dr_program.specs.declared.place.Part.{Part}
-use Rattle.dr_program.specs.declared.place.Part.TheVariants as parts
-use Rattle.dr_program.specs.declared.setup.Setup.{Setup}
-use Rattle.dr_program.specs.declared.setup.Suspicion.{Suspicion}
+use Rattle.dr_faithful.specs.{Chosen.views_by, Faithful.Faithful}
+use Rattle.dr_machine.specs.{Group.{Group, IsGroup}, Run.IsReached, World.{World, opening_world}}
+use Rattle.dr_machine.specs.declared.{event.Act.Act, step.Step.{Step, TheVariants.{Do, LogVote}}}
+use Rattle.dr_program.{specs.{Acts.is_outside_act, Turn.{is_beat, part_of}}, proofs.Present.present_map}
+use Rattle.dr_program.specs.{Form.{HasForm, IsRunningMember}, Reading.{table_of, world}, Steps.{allows, stepped}}
+use Rattle.dr_program.specs.{Net.{IsRanOverNet, took_nothing}, declared.setup.{Setup.Setup, Suspicion.Suspicion}}
+use Rattle.dr_program.{specs.Presence.present_at, proofs.{Runs.after_either, Voting.view_small}}
 use Rattle.dr_program.specs.Program.{AreSetups, IsRanFrom, Move, Program, after_deed, begun_program, end_at, letter_for, moved_by, next_sight, step_of}
-use Rattle.dr_program.specs.Net.{IsRanOverNet, took_nothing}
-use Rattle.dr_program.specs.Reading.{table_of, world}
 use Rattle.dr_program.specs.Replica.{Replica, is_inside, is_named, is_wedged, is_welcomer, me, value_due}
-use Rattle.dr_program.specs.Replica as replica
 use Rattle.dr_program.specs.Running.{Running, after_step, begun_running, crashes_now, is_scripted, judged, judgement, minority, named_by, next_step, overdue, scripted, settled, step_at, told, took, took_letter, vote_or_end, waits_after}
-use Rattle.dr_program.specs.Steps.{allows, stepped}
-use Rattle.dr_program.specs.Turn.{is_beat, part_of}
-use Rattle.dr_program.specs.Form.{HasForm, IsRunningMember}
-use Rattle.dr_program.proofs.Runs.{after_either}
-use Rattle.dr_program.proofs.Voting.{view_small}
-use Rattle.dr_program.proofs.StepsAt.{append_either, push_either, vote_either}
-use Rattle.dr_refine.specs.Programs.{IsProgram}
+use Rattle.dr_program.{specs.declared.place.Part.Part, proofs.StepsAt.{append_either, push_either, vote_either}}
+use Rattle.dr_program.specs.declared.place.Part.TheVariants as parts
+use Rattle.dr_program.specs.Replica as replica
+use Rattle.dr_refine.{specs.Programs.IsProgram, proofs.{Guards.seen_is, Steps.begun_is_program}}
 use Rattle.dr_refine.proofs.Deeds.{due_allowed, program_member, replicas, rest_changes_nothing, step_is, step_reached}
-use Rattle.dr_refine.proofs.Guards.{seen_is}
-use Rattle.dr_refine.proofs.Steps.{begun_is_program}
-use Rattle.dr_program_laws.proofs.Letters.{letters_are}
-use Rattle.dr_restart.specs.declared.start.Start.{Start}
-use Rattle.dr_restart.specs.Groups.{group_of}
-use Rattle.dr_restart.specs.Setups.{AreSetupsOf, IsBegun, suspicion_in, suspicion_of}
-use Rattle.dr_restart.proofs.Setups.{are_setups}
-use Rattle.dr_rows.specs.Words.{seen}
-use Rattle.dr_script.specs.declared.script.Fault.{Fault}
-use Rattle.dr_script.specs.declared.script.Script.{Script}
-use Rattle.dr_suspect.specs.Answers.{least_where}
-use Rattle.dr_suspect.specs.Suspicion.{is_unsuspected, names, names_me, spreads}
-use Rattle.dr_suspect.specs.Wishes.{may_wish}
-use Rattle.dr_suspect.specs.Waits.{is_late, is_overdue, turns_without_news}
-use Rattle.dr_turn.proofs.Parts.{has_verdict, is_judge, is_verdict, no_verdict}
-use Rattle.dr_turn.proofs.Search.{settle_only}
-use Rattle.dr_turn.proofs.Tasks.{ends_view, view_stays}
-use Rattle.dr_words.proofs.Masks.{has_without_mask}
-use Rattle.dr_words.specs.declared.column.TheConstants.{SUSPECTED_COLUMN}
-use Rattle.dr_world_laws.proofs.Worlds.{Known, faithful, known, quiet}
-use Rattle.dr_history.specs.Members.{has}
-use Rattle.dr_history.proofs.Bits.{has_zero}
 use Rattle.dr_program_laws.specs.Trusting.{AreAtEase, AreTrusting, IsAtEase, IsCalm, IsPatient, IsTrusting, MayWait, NoneLeft, SuspectsNobody, has_been_left, is_left_out, to_come, AllCalm}
-use Rattle.dr_program_laws.proofs.Patience.{patient_on, patient_take}
-use Rattle.dr_program_laws.proofs.Keeping.{begun_reached}
-use Rattle.dr_program_laws.proofs.Nets.{net_keeps}
-use Rattle.dr_program_laws.proofs.Programs.{ran_keeps, replaced_either}
-use Rattle.dr_program_laws.proofs.Quiet.{is_passed, passed_act}
-use Rattle.dr_program_laws.proofs.Worlds.{all_ends, of_there}
-use Rattle.dr_program.specs.Presence.{present_at}
-use Rattle.dr_program.proofs.Present.{present_map}
+use Rattle.dr_program_laws.proofs.{Keeping.begun_reached, Letters.letters_are, Nets.net_keeps}
+use Rattle.dr_program_laws.proofs.{Patience.{patient_on, patient_take}, Programs.{ran_keeps, replaced_either}}
+use Rattle.dr_program_laws.proofs.{Quiet.{is_passed, passed_act}, Worlds.{all_ends, of_there}}
+use Rattle.dr_restart.specs.{Groups.group_of, Setups.{AreSetupsOf, IsBegun, suspicion_in, suspicion_of}}
+use Rattle.dr_restart.{specs.declared.start.Start.Start, proofs.Setups.are_setups}
+use Rattle.dr_rows.specs.Words.{seen}
+use Rattle.dr_script.specs.declared.script.{Fault.Fault, Script.Script}
+use Rattle.dr_suspect.specs.{Answers.least_where, Suspicion.{is_unsuspected, names, names_me, spreads}}
+use Rattle.dr_suspect.specs.{Waits.{is_late, is_overdue, turns_without_news}, Wishes.may_wish}
+use Rattle.dr_turn.proofs.{Parts.{has_verdict, is_judge, is_verdict, no_verdict}, Search.settle_only}
+use Rattle.dr_turn.proofs.Tasks.{ends_view, view_stays}
+use Rattle.dr_words.{specs.declared.column.TheConstants.SUSPECTED_COLUMN, proofs.Masks.has_without_mask}
+use Rattle.dr_world_laws.proofs.Worlds.{Known, faithful, known, quiet}
+use Rattle.dr_history.{specs.Members.has, proofs.Bits.has_zero}
 
 -- ---- words
 
@@ -78,8 +45,7 @@ nobody_suspects g p m ease = by (present_at p.members m) refl
   where
     by : (o : Option Running) → present_at p.members m ≡ o → (world g p).suspects m ≡ 0
     by None none = rw (present_map (λ (x : Running). x.replica) p.members m, none) refl
-    by (Some r) there = of_there p (λ q. q.suspects) (opening_world g).suspects m r there
-        ∙ (ease m r there).unwedged
+    by (Some r) there = of_there p (λ q. q.suspects) (opening_world g).suspects m r there ∙ (ease m r there).unwedged
 
 -- and everybody is in the first view
 pub stay_first : (g : Group) (p : Program) (m : ℕ) → AreAtEase p → (world g p).past.view m ≡ 0
@@ -87,8 +53,7 @@ stay_first g p m ease = by (present_at p.members m) refl
   where
     by : (o : Option Running) → present_at p.members m ≡ o → (world g p).past.view m ≡ 0
     by None none = rw (present_map (λ (x : Running). x.replica) p.members m, none) refl
-    by (Some r) there = of_there p (λ q. q.view) (opening_world g).past.view m r there
-        ∙ (ease m r there).first
+    by (Some r) there = of_there p (λ q. q.view) (opening_world g).past.view m r there ∙ (ease m r there).first
 
 -- member m of such a program, in a world that is reached
 pub record IsAmong (g : Group) (p : Program) (m : ℕ) (r : Running) : Type 0 where
@@ -102,8 +67,7 @@ pub record IsAmong (g : Group) (p : Program) (m : ℕ) (r : Running) : Type 0 wh
 unsuspecting : (g : Group) (p : Program) (m : ℕ) (r : Running) → IsAmong g p m r → (i : ℕ)
     → seen r.replica.rows i SUSPECTED_COLUMN ≡ 0
 unsuspecting g p m r is i = elim (cases_eq i (me r.replica)) [
-  | inl same ↦ rw same ((is.program.form m r is.there).replica.suspected
-      ∙ (is.ease m r is.there).unwedged)
+  | inl same ↦ rw same ((is.program.form m r is.there).replica.suspected ∙ (is.ease m r is.there).unwedged)
   | inr apart ↦
       let other : i ≢ m = λ same. apart (same ∙ sym (is.program.of m r is.there).number) in
       sym (seen_is g (replicas p.members) (table_of p) m r.replica i SUSPECTED_COLUMN
@@ -122,8 +86,7 @@ unsuspecting g p m r is i = elim (cases_eq i (me r.replica)) [
     told_truly = faithful g w y
 
     own : w.past.own i (w.past.view m) SUSPECTED_COLUMN ≡ 0
-    own = ap (λ v. w.past.own i v SUSPECTED_COLUMN)
-        (stay_first g p m is.ease ∙ sym (stay_first g p i is.ease))
+    own = ap (λ v. w.past.own i v SUSPECTED_COLUMN) (stay_first g p m is.ease ∙ sym (stay_first g p i is.ease))
         ∙ told_truly.suspicions.told i ∙ nobody_suspects g p i is.ease
 
     nothing : {a b c : ℕ} → a ≤ b → b ≤ c → c ≡ 0 → a ≡ 0
@@ -150,8 +113,7 @@ nothing_spreads test none = ap (λ (t : ℕ → ℕ → Bool). option_and_then (
     (least_where (λ i. is_some (least_where (t i))))) (fun_ext λ i. fun_ext (none i))
 
 -- such a member judges nothing
-judges_nothing : (g : Group) (p : Program) (m : ℕ) (r : Running) → IsAmong g p m r
-    → judgement r ≡ None
+judges_nothing : (g : Group) (p : Program) (m : ℕ) (r : Running) → IsAmong g p m r → judgement r ≡ None
 judges_nothing g p m r is = grind (arith, named, script, spread, late, few)
   where
     q : Replica
@@ -175,19 +137,16 @@ judges_nothing g p m r is = grind (arith, named, script, spread, late, few)
 
     spread : told q ≡ None
     spread = nothing_spreads (spreads (replica.suspicion_of q) (may_wish q.history q.age q.late) q.rows) (λ i j.
-        and_right (is_unsuspected (replica.suspicion_of q) i) _
-        (and_left (names q.rows i j) _ (unnamed i j)))
+        and_right (is_unsuspected (replica.suspicion_of q) i) _ (and_left (names q.rows i j) _ (unnamed i j)))
 
     -- in a view whose members are none of the roster's, nobody is waited for
     unknown : (i : ℕ) → r.replica.roster ≤ i → has (replica.unsuspected r.replica) i ≡ false
     unknown i beyond = has_without_mask q.members q.suspects i (view_small q form)
         ∙ and_left (has q.members i) _ (not_in (has q.members i) (form.roster i) beyond)
 
-    in_time : IsPatient r → (i : ℕ)
-        → is_overdue r.waits r.replica.rows (replica.unsuspected r.replica) i ≡ false
+    in_time : IsPatient r → (i : ℕ) → is_overdue r.waits r.replica.rows (replica.unsuspected r.replica) i ≡ false
     in_time (inl none) i = and_left (not (r.waits.limit == 0)) _ (ap (λ n. not (n == 0)) none)
-    in_time (inr enough) i = and_right (not (r.waits.limit == 0)) _ (by (cases_lt i q.roster) (cases_eq i
-        (me q)))
+    in_time (inr enough) i = and_right (not (r.waits.limit == 0)) _ (by (cases_lt i q.roster) (cases_eq i (me q)))
       where
         by : (i < r.replica.roster) ⊎ (r.replica.roster ≤ i) → (i ≡ me r.replica) ⊎ (i ≢ me r.replica)
             → ((has (replica.unsuspected r.replica) i && not (i == me r.replica))
@@ -249,15 +208,13 @@ came_from_none g p m r is = by (has r.replica.came_from (me r.replica)) refl
         ∙ ap (has r.replica.came_from) (sym (is.program.of m r is.there).number) ∙ came) in
         omega (arith, before.1, stay_first g p m is.ease)
 
-    by : (b : Bool) → has r.replica.came_from (me r.replica) ≡ b
-        → has r.replica.came_from (me r.replica) ≡ false
+    by : (b : Bool) → has r.replica.came_from (me r.replica) ≡ b → has r.replica.came_from (me r.replica) ≡ false
     by true came = absurd (none came)
     by false other = other
 
 -- so in its view, until an append of it fails, it stands at no part that it passes
 pub never_passed : (g : Group) (p : Program) (m : ℕ) (r : Running) → IsAmong g p m r
-    → is_inside r.replica ≡ true → r.replica.end ≡ None → r.failed ≡ None
-    → is_passed (part_of r.place) ≡ false
+    → is_inside r.replica ≡ true → r.replica.end ≡ None → r.failed ≡ None → is_passed (part_of r.place) ≡ false
 never_passed g p m r is inside unended well = by (part_of r.place) refl
   where
     none : (r.replica.pending ≡ None) × (r.replica.committed ≡ None)
@@ -288,8 +245,7 @@ never_passed g p m r is inside unended well = by (part_of r.place) refl
 
     act : (a : Act) → part_of r.place ≡ parts.Do a → (b : Bool) → is_passed (parts.Do a) ≡ b
         → is_passed (parts.Do a) ≡ false
-    act a at true passed =
-        never (parts.Do a) at (and_right (is_outside_act a || is_inside r.replica) _
+    act a at true passed = never (parts.Do a) at (and_right (is_outside_act a || is_inside r.replica) _
         (passed_act r.replica a (is.ease m r is.there).unwedged none.0 none.1 passed))
     act a at false other = other
 
@@ -357,8 +313,7 @@ step_eases : (word : ℕ) (r : Running) → IsRunningMember r → r.replica.comm
 step_eases word r member none other may waits so =
     let stays = view_goes_on r.replica (next_step r) none may in
     let only = settle_only _ (took word r (next_step r)) in record {
-      first = ap (λ (x : Running). x.replica.view) only
-          ∙ view_stays word r.replica (next_step r) stays ∙ so.first;
+      first = ap (λ (x : Running). x.replica.view) only ∙ view_stays word r.replica (next_step r) stays ∙ so.first;
       unwedged = ap (λ (x : Running). x.replica.suspects) only
           ∙ suspects_stay word r.replica (next_step r) other stays ∙ so.unwedged;
       patient = patient_on word r member stays waits (limit_stays word r (next_step r)) so.patient;
@@ -401,9 +356,7 @@ deed_eases g p e r is unended waits =
     after_either IsAtEase p.table (letter_for p e.member) e.outcome r (next_step r)
     (step_eases (next_sight p.table r) r form (votes_nothing g p e.member r is).1
     (plain_step r (part_of r.place) r.place.row r.place.column (never_judges g p e.member r is unended)
-    (no_verdict r.place.part form.place.part))
-    (due_allowed r (form.due unended)) waits so)
-    (λ why due. record {
+    (no_verdict r.place.part form.place.part)) (due_allowed r (form.due unended)) waits so) (λ why due. record {
       first = so.first;
       unwedged = so.unwedged;
       patient = so.patient;
@@ -428,9 +381,8 @@ moved_all P p e all deed = by (present_at p.members e.member) refl
         → Holds (step_of p e)
     at r there (Some x) ended = subst (λ (q : Program). (k : ℕ) (y : Running) → present_at q.members k ≡ Some y
         → P y) (sym (rest_changes_nothing p e r there (ap is_some ended))) all
-    at r there None unended = subst (λ (q : Program). (k : ℕ) (y : Running) → present_at q.members k ≡ Some y
-        → P y) (sym (step_is p e r there unended)) (λ k y here.
-        elim (replaced_either p.members e.member r
+    at r there None unended = subst (λ (q : Program). (k : ℕ) (y : Running) → present_at q.members k ≡ Some y → P y)
+        (sym (step_is p e r there unended)) (λ k y here. elim (replaced_either p.members e.member r
         (after_deed (next_sight p.table r) (letter_for p e.member) e.outcome r (next_step r)) there k y here) [
           | inl moved ↦ subst P moved.1 (deed r there unended)
           | inr other ↦ all k y other.1
@@ -497,31 +449,21 @@ trusting_begins g turns setups group are calm m r there =
   where
     begun : (s : Setup) → IsCalm s → IsTrusting (begun_running s)
     begun s so =
-        record {
-          first = refl;
-          unwedged = refl;
-          patient = so.patient;
-          unscripted = so.unscripted;
-          kept =
-              refl;
-        }
+        record { first = refl; unwedged = refl; patient = so.patient; unscripted = so.unscripted; kept = refl }
 
     by : (o : Option Setup) → present_at setups m ≡ o → option_map begun_running o ≡ Some r → IsTrusting r
     by None e same = absurd (cc)
-    by (Some s) e same = subst IsTrusting (same_Some (begun_running s) r same)
-        (begun s (calm m s e))
+    by (Some s) e same = subst IsTrusting (same_Some (begun_running s) r same) (begun s (calm m s e))
 
 -- and stay so by any moves
 pub trusting_ran : (g : Group) (turns : ℕ) (setups : List (Option Setup)) (p : Program) → IsGroup g → 1 ≤ turns
     → AreSetups g turns setups → AllCalm setups → IsRanFrom (begun_program g setups) p → AreTrusting p
 trusting_ran g turns setups p group some are calm (es, same) = subst AreTrusting (sym same)
     (ran_keeps g (λ q. IsReached g (world g q) × AreTrusting q) (begun_program g setups) es group
-    (begun_is_program g turns setups group some are) (begun_reached g turns setups group are)
-    (λ q e is so. (
+    (begun_is_program g turns setups group some are) (begun_reached g turns setups group are) (λ q e is so. (
       step_reached g q e group is (letters_are g q group is so.0) so.0,
       move_trusts g q e group is so.0 so.1,
-    ))
-    (begun_reached g turns setups group are, trusting_begins g turns setups group are calm)).1
+    )) (begun_reached g turns setups group are, trusting_begins g turns setups group are calm)).1
 
 -- a take that finds no letter leaves them so
 missed_trusts : (p : Program) (m : ℕ) (r : Running) → AreTrusting p → present_at p.members m ≡ Some r
@@ -552,8 +494,7 @@ missed_trusts p m r trusting there k y found =
 -- over a net too, however late the words of others come
 pub net_trusts : (g : Group) (turns : ℕ) (setups : List (Option Setup)) (p : Program) → IsGroup g → 1 ≤ turns
     → AreSetups g turns setups → AllCalm setups → IsRanOverNet g (begun_program g setups) p → AreTrusting p
-net_trusts g turns setups p group some are calm (before, way) =
-    net_keeps g turns setups AreTrusting group some are
+net_trusts g turns setups p group some are calm (before, way) = net_keeps g turns setups AreTrusting group some are
     (λ q e form run trusting. move_trusts g q e group form run trusting) (λ q table letters trusting. trusting)
     (λ q m r form trusting there asks. missed_trusts q m r trusting there)
     (trusting_begins g turns setups group are calm) before p way
@@ -576,8 +517,7 @@ none_is_left g turns setups p group some are calm run =
 -- ---- scripts
 
 -- nothing comes of a list where nothing comes of each element
-nothing_of : {X Y : Type 0} (h : X → Option Y) (xs : List X) → All (λ x. h x ≡ None) xs
-    → filter_map h xs ≡ []
+nothing_of : {X Y : Type 0} (h : X → Option Y) (xs : List X) → All (λ x. h x ≡ None) xs → filter_map h xs ≡ []
 nothing_of h [] none = refl
 nothing_of h (x ∷ xs) none = rw (none 0 x (omega arith))
     (nothing_of h xs (λ k d l. none (suc k) d (omega (arith, l))))
@@ -601,8 +541,7 @@ calm_setups script start nth setups nobody are m s there =
 
 pub none_by_script : (script : Script) (start : Start) (nth : ℕ) (begun p : Program)
     → IsGroup (group_of script start) → length script.messages ≡ script.members → 1 ≤ script.turns
-    → SuspectsNobody script → IsBegun script start nth begun → IsRanFrom begun p
-    → NoneLeft (map end_at p.members)
+    → SuspectsNobody script → IsBegun script start nth begun → IsRanFrom begun p → NoneLeft (map end_at p.members)
 none_by_script script start nth begun p is lists some nobody (setups, are, same) run =
     none_is_left (group_of script start) script.turns setups p is some
     (are_setups script start nth setups lists are) (calm_setups script start nth setups nobody are)

@@ -1,29 +1,18 @@
 -- The ends of a program's members in the world that it is.
+use Rattle.std.specs.{Option.option_map_or, Prelude.{Option, None, Some, slice_get, option_map}}
 use Rattle.std.proofs.Common.{◌≡◌, refl, sym, ap, ◌∙◌, subst, ℕ, zero, suc, ◌≤◌, All, List, [], ◌∷◌, length, map, take, arith}
-use Rattle.std.specs.Prelude.{Option, None, Some, slice_get, option_map}
-use Rattle.std.specs.Option.{option_map_or}
-use Rattle.std.proofs.lemmas.List.{length-map}
-use Rattle.std.proofs.lemmas.Option.{get_or_from_slice_get, slice_get-map}
+use Rattle.std.proofs.lemmas.{List.length-map, Option.{get_or_from_slice_get, slice_get-map}}
 use Rattle.dr_entry.specs.declared.end.MemberEnd.{MemberEnd}
-use Rattle.dr_history.specs.History.{sent_of}
-use Rattle.dr_history.specs.Agreement.{EndsAgreed, accounts_of}
+use Rattle.dr_history.specs.{Agreement.{EndsAgreed, accounts_of}, History.sent_of}
 use Rattle.dr_history_laws.proofs.Lists.{slice_get-some}
-use Rattle.dr_machine.specs.Group.{Group, IsGroup, IsPresent}
-use Rattle.dr_machine.specs.World.{opening_world}
-use Rattle.dr_program.specs.Replica.{Replica}
-use Rattle.dr_program.specs.Running.{Running}
-use Rattle.dr_program.specs.Program.{Program, absent_end, end_at, end_of}
-use Rattle.dr_program.proofs.Present.{present_map, present_slice, slice_present}
-use Rattle.dr_refine.proofs.Deeds.{replica_there}
+use Rattle.dr_machine.specs.{Group.{Group, IsGroup, IsPresent}, Run.IsReached, World.opening_world}
 use Rattle.dr_machine.proofs.Presence.{in_roster}
-use Rattle.dr_program.specs.Reading.{of_member, world}
-use Rattle.dr_program.proofs.Sent.{sent_there}
-use Rattle.dr_machine.specs.Run.{IsReached}
-use Rattle.dr_refine.specs.Programs.{IsProgram}
-use Rattle.dr_world_laws.proofs.Agreeing.{AreAccounts}
-use Rattle.dr_world_laws.proofs.Worlds.{agreed-by, known}
+use Rattle.dr_program.specs.{Presence.present_at, Program.{Program, absent_end, end_at, end_of}}
+use Rattle.dr_program.specs.{Reading.{of_member, world}, Replica.Replica, Running.Running}
+use Rattle.dr_program.proofs.{Present.{present_map, present_slice, slice_present}, Sent.sent_there}
+use Rattle.dr_refine.{specs.Programs.IsProgram, proofs.Deeds.replica_there}
+use Rattle.dr_world_laws.proofs.{Agreeing.AreAccounts, Worlds.{agreed-by, known}}
 use mathlib.Core.Path.{fun_ext}
-use Rattle.dr_program.specs.Presence.{present_at}
 
 -- the ends of the members
 abbrev pub ends_of : Program → List MemberEnd
@@ -35,22 +24,17 @@ replicas_of p = map (option_map (λ (r : Running). r.replica)) p.members
 
 -- what a member of the program has of something, in the world
 pub of_there : {A : Type 0} (p : Program) (f : Replica → A) (opening : ℕ → A) (m : ℕ) (r : Running)
-    → present_at p.members m ≡ Some r
-    → of_member (replicas_of p) f opening m ≡ f r.replica
-of_there p f opening m r there =
-    ap (λ o. option_map_or f o (opening m))
-    (replica_there p m r there)
+    → present_at p.members m ≡ Some r → of_member (replicas_of p) f opening m ≡ f r.replica
+of_there p f opening m r there = ap (λ o. option_map_or f o (opening m)) (replica_there p m r there)
 
 -- what the ends tell of a member, and of one that is absent
 pub end_told : (p : Program) (m : ℕ) (r : Running) → present_at p.members m ≡ Some r
     → slice_get (ends_of p) m ≡ Some (end_of r)
-end_told p m r there = slice_get-map end_at p.members m
-    ∙ ap (option_map end_at) (present_slice p.members m r there)
+end_told p m r there = slice_get-map end_at p.members m ∙ ap (option_map end_at) (present_slice p.members m r there)
 
 -- ---- what was sent
 
-absent_sent : (os : List (Option Running)) (m v : ℕ) → present_at os m ≡ None
-    → sent_of (map end_at os) m v ≡ []
+absent_sent : (os : List (Option Running)) (m v : ℕ) → present_at os m ≡ None → sent_of (map end_at os) m v ≡ []
 absent_sent [] m v e = refl
 absent_sent (None ∷ os) zero v e = refl
 absent_sent (Some r ∷ os) zero v e = absurd (cc)
@@ -62,8 +46,7 @@ world_sent g p program = fun_ext λ m. fun_ext λ v. by m v (present_at p.member
   where
     by : (m v : ℕ) (o : Option Running) → present_at p.members m ≡ o → (world g p).past.sent m v
         ≡ sent_of (ends_of p) m v
-    by m v None e = rw (present_map (λ (x : Running). x.replica) p.members m, e)
-        (sym (absent_sent p.members m v e))
+    by m v None e = rw (present_map (λ (x : Running). x.replica) p.members m, e) (sym (absent_sent p.members m v e))
     by m v (Some r) e = rw (replica_there p m r e, end_told p m r e)
         (sent_there r.replica v (program.form m r e).replica.left)
 
@@ -78,10 +61,8 @@ stands_there g p m is program here = program.there m (in_roster g m is here) her
 
 -- what the end of a member tells
 of_end : {A : Type 0} (p : Program) (f : MemberEnd → A) (none : A) (m : ℕ) (r : Running)
-    → present_at p.members m ≡ Some r
-    → option_map_or f (slice_get (ends_of p) m) none ≡ f (end_of r)
-of_end p f none m r there = ap (λ o. option_map_or f o none)
-    (end_told p m r there)
+    → present_at p.members m ≡ Some r → option_map_or f (slice_get (ends_of p) m) none ≡ f (end_of r)
+of_end p f none m r there = ap (λ o. option_map_or f o none) (end_told p m r there)
 
 -- the ends tell what the members have done in the world
 are_accounts : (g : Group) (p : Program) → IsGroup g → IsProgram g p → AreAccounts g (world g p) (accounts_of (ends_of p))

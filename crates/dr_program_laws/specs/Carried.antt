@@ -1,12 +1,8 @@
 -- A program of which words are on their way, as who carries them knows it.
 use Rattle.std.specs.Prelude.{◌≡◌, ℕ, ◌<◌, All, List, ◌∷◌}
 use Rattle.dr_words.specs.Layout.{word_index_of}
-use Rattle.dr_machine.specs.Group.{Group, IsGroup, banks, columns, roster}
-use Rattle.dr_machine.specs.Run.{WasOwn, Way}
-use Rattle.dr_machine.specs.World.{World}
-use Rattle.dr_program.specs.declared.packet.Packet.{Packet}
-use Rattle.dr_program.specs.Program.{Program}
-use Rattle.dr_program.specs.Reading.{world}
+use Rattle.dr_machine.specs.{Group.{Group, IsGroup, banks, columns, roster}, Run.{WasOwn, Way}, World.World}
+use Rattle.dr_program.specs.{Program.Program, Reading.world, declared.packet.Packet.Packet}
 use Rattle.dr_refine.specs.Programs.{IsProgram}
 
 -- a packet for a place of the table, whose word was an own one of the row of that place at one of these moments

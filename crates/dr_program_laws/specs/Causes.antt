@@ -1,12 +1,9 @@
 -- Why members end, in the world that their program is.
 use Rattle.std.specs.Prelude.{◌≡◌, ⊤, ℕ, ◌+◌, true, length, Some}
-use Rattle.dr_entry.specs.declared.end.End.{End}
-use Rattle.dr_entry.specs.declared.end.End.TheVariants.{Done, Excluded, NoMajority, Suspected}
+use Rattle.dr_entry.specs.declared.end.End.{End, TheVariants.{Done, Excluded, NoMajority, Suspected}}
 use Rattle.dr_entry.specs.declared.record.Value.{Value}
 use Rattle.dr_history.specs.Members.{has}
-use Rattle.dr_machine.specs.Group.{Group}
-use Rattle.dr_machine.specs.Guards.{HoldsAll}
-use Rattle.dr_machine.specs.World.{World}
+use Rattle.dr_machine.specs.{Group.Group, Guards.HoldsAll, World.World}
 use Rattle.dr_vote_laws.specs.Voting.{HaveVotedFor}
 use Rattle.dr_world_laws.specs.Ends.{IsLeftWith, IsSuspectedBack}
 

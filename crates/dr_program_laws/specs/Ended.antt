@@ -1,18 +1,12 @@
 -- How the members of an age are to end.
 use Rattle.std.specs.Prelude.{◌≡◌, ◌≢◌, ◌⊎◌, ℕ, ◌+◌, ◌<◌, ◌≤◌, All, Any, Bool, true, false, Contains, List, [], ◌∷◌, ◌++◌, length, slice_get, take, Some}
-use Rattle.dr_entry.specs.declared.end.End.{End}
+use Rattle.dr_entry.specs.declared.{end.{End.End, MemberEnd.MemberEnd}, entry.Entry.{Entry, TheVariants.View}}
 use Rattle.dr_entry.specs.declared.end.End.TheVariants.{Done, Crashed, Suspected, Excluded, NoMajority, DiskFault, LogFull, Spent}
-use Rattle.dr_entry.specs.declared.end.MemberEnd.{MemberEnd}
-use Rattle.dr_entry.specs.declared.entry.Entry.{Entry}
-use Rattle.dr_entry.specs.declared.entry.Entry.TheVariants.{View}
+use Rattle.dr_history.specs.{History.{IsPrefixOf, view_of}, Members.{has, members_of}}
+use Rattle.dr_history.specs.{Order.{IsLateIn, first_entries, messages_from, numbered_messages}, Soundness.IsPresentIn}
 use Rattle.dr_history.specs.declared.opening.Opening.{Opening}
-use Rattle.dr_history.specs.History.{IsPrefixOf, view_of}
-use Rattle.dr_history.specs.Members.{has, members_of}
-use Rattle.dr_history.specs.Order.{IsLateIn, first_entries, messages_from, numbered_messages}
 use Rattle.dr_history_laws.specs.Remaining.{remaining}
-use Rattle.dr_history.specs.Soundness.{IsPresentIn}
-use Rattle.dr_program.specs.declared.setup.CrashPoint.{CrashPoint}
-use Rattle.dr_program.specs.Program.{absent_end}
+use Rattle.dr_program.specs.{Program.absent_end, declared.setup.CrashPoint.CrashPoint}
 use Rattle.dr_words.specs.Masks.{IsInRoster, IsMajorityOf, IsPartOf}
 
 -- no crash point names a turn from 1 up to this one

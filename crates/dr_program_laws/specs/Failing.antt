@@ -1,11 +1,9 @@
 -- Members whose appends fail.
 use Rattle.std.specs.Prelude.{◌≡◌, ◌⊎◌, ℕ, Bool, false, Option, None, Some}
 use Rattle.dr_entry.specs.declared.end.End.{End}
-use Rattle.dr_program.specs.declared.outcome.LogWhy.{LogWhy}
-use Rattle.dr_program.specs.Program.{Program}
-use Rattle.dr_program.specs.Running.{Running, append_or_end, end_by, next_step}
+use Rattle.dr_program.specs.{Presence.present_at, Program.Program}
+use Rattle.dr_program.specs.{Running.{Running, append_or_end, end_by, next_step}, declared.outcome.LogWhy.LogWhy}
 use Rattle.dr_program_laws.specs.Ended.{is_log_end}
-use Rattle.dr_program.specs.Presence.{present_at}
 
 -- a member has ended by its log
 abbrev pub has_log_end : Option End → Bool

@@ -1,20 +1,12 @@
 -- Members that suspect nobody, and never will.
 use Rattle.std.specs.Prelude.{◌≡◌, ◌≢◌, ◌⊎◌, ℕ, ◌+◌, ◌<◌, nat_lt, if◌then◌else◌, All, Bool, true, false, List, [], Option, None, Some}
-use Rattle.dr_entry.specs.declared.end.End.{End}
-use Rattle.dr_entry.specs.declared.end.End.TheVariants.{Suspected, Excluded, NoMajority}
-use Rattle.dr_entry.specs.declared.end.MemberEnd.{MemberEnd}
-use Rattle.dr_program.specs.declared.place.Part.{Part}
+use Rattle.dr_entry.specs.declared.end.{End.{End, TheVariants.{Suspected, Excluded, NoMajority}}, MemberEnd.MemberEnd}
+use Rattle.dr_program.specs.{Presence.present_at, Program.Program, Replica.{Replica, me}, Running.Running}
+use Rattle.dr_program.specs.{Turn.part_of, declared.{place.Part.Part, setup.Setup.Setup}}
 use Rattle.dr_program.specs.declared.place.Part.TheVariants as parts
-use Rattle.dr_program.specs.declared.setup.Setup.{Setup}
-use Rattle.dr_program.specs.Program.{Program}
-use Rattle.dr_program.specs.Replica.{Replica, me}
-use Rattle.dr_program.specs.Running.{Running}
-use Rattle.dr_program.specs.Turn.{part_of}
 use Rattle.dr_restart.specs.Setups.{suspicion_in}
-use Rattle.dr_script.specs.declared.script.Fault.{Fault}
-use Rattle.dr_script.specs.declared.script.Script.{Script}
+use Rattle.dr_script.specs.declared.script.{Fault.Fault, Script.Script}
 use Rattle.dr_suspect.specs.Waits.{turns_without_news}
-use Rattle.dr_program.specs.Presence.{present_at}
 
 -- the end is by suspicion
 abbrev pub is_left_out : End → Bool

@@ -6,16 +6,10 @@ ghost use Rattle.std.specs.Prelude.{◌≡◌, ℕ, ◌+◌, ◌*◌, ◌≤◌,
 ghost use Rattle.dr_entry.specs.declared.limits.TheConstants.{MAX_MEMBERS, MAX_MESSAGES};
 ghost use Rattle.dr_entry.specs.declared.entry.Entry.{Entry};
 ghost use Rattle.dr_form.specs.Letters.{IsFitting};
+ghost use Rattle.dr_machine.specs.{Acts.CanTake, Group.{Group, IsGroup, banks, roster}, Run.IsReached, World.World};
 ghost use Rattle.dr_machine.specs.declared.step.Step.{Step};
-ghost use Rattle.dr_machine.specs.Group.{Group, IsGroup, banks, roster};
-ghost use Rattle.dr_machine.specs.Acts.{CanTake};
-ghost use Rattle.dr_machine.specs.World.{World};
-ghost use Rattle.dr_machine.specs.Run.{IsReached};
-ghost use Rattle.dr_program.specs.Replica.{Replica, greatest, is_inside};
-ghost use Rattle.dr_program.specs.Presence.{present_at};
-ghost use Rattle.dr_program.specs.Program.{Program, letter_for};
-ghost use Rattle.dr_program.specs.Reading.{Shared, world, world_of};
-ghost use Rattle.dr_program.specs.Running.{Running};
+ghost use Rattle.dr_program.specs.{Presence.present_at, Program.{Program, letter_for}, Running.Running};
+ghost use Rattle.dr_program.specs.{Reading.{Shared, world, world_of}, Replica.{Replica, greatest, is_inside}};
 ghost use Rattle.dr_refine.specs.Programs.{AreLetters, HasRoomFor, IsMember, IsProgram};
 
 /// In a reached world a member has the room that a step asks for, where its history has room for every

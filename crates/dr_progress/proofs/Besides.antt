@@ -1,23 +1,18 @@
 -- What a watcher with a progress beside it is told of a run.
 use Rattle.std.proofs.Common.{◌≡◌, ◌⊎◌, ◌≤◌, ◌∙◌, inl, inr, refl, sym, ap, subst, ℕ, ◌+◌, true, List, [], ◌∷◌, Option, None, Some, arith}
 use Rattle.std.proofs.lemmas.Bool.{true≢false}
-use Rattle.dr_ages.specs.declared.part.Part.{Part}
-use Rattle.dr_ages.specs.declared.mode.Mode.TheVariants.{Sim}
-use Rattle.dr_ages.specs.Watched.{AreWatched}
+use Rattle.dr_ages.specs.{Watched.AreWatched, declared.{mode.Mode.TheVariants.Sim, part.Part.Part}}
 use Rattle.dr_entry.specs.declared.end.AgeEnd.{AgeEnd}
-use Rattle.dr_program.specs.Program.{Move, Program, step_of}
-use Rattle.dr_program.specs.Running.{Running}
+use Rattle.dr_program.specs.{Program.{Move, Program, step_of}, Running.Running}
 use Rattle.dr_restart.specs.declared.start.Start.{Start}
 use Rattle.dr_script.specs.declared.script.Script.{Script}
 use Rattle.dr_sim.specs.Watched.{WasTold}
-use Rattle.dr_progress.specs.declared.beside.Beside.{Beside}
-use Rattle.dr_progress.specs.Progress.{Begins, Ends, IsQuiet, MaySay, Standing}
+use Rattle.dr_progress.specs.{Progress.{Begins, Ends, IsQuiet, MaySay, Standing}, declared.beside.Beside.Beside}
 
 -- nothing is said before a line is due
 abbrev pub WaitsFor : Option ℕ → Standing → Standing → Type 0
 WaitsFor None old new = (new.held ≡ old.held) × (new.stands ≡ old.stands) × (new.due ≡ None)
-WaitsFor (Some at) old new =
-    (at ≤ new.now)
+WaitsFor (Some at) old new = (at ≤ new.now)
     ⊎ ((new.held ≡ old.held) × (new.stands ≡ old.stands) × ((new.due ≡ Some at) ⊎ (new.due ≡ None)))
 
 abbrev pub Waits : Standing → Standing → Type 0
@@ -68,21 +63,18 @@ said_waits turn old new (inr line) = (
 )
 
 kept_waits : (old new : Standing) (age : ℕ) → new ≡ record old { age = age } → Waits old new
-kept_waits old new age same =
-    subst (Waits old) (sym same)
+kept_waits old new age same = subst (Waits old) (sym same)
     (omega arith, silent old.due old (record old { age = age }) refl refl (inl refl))
 
 -- what becomes of a progress beside a watcher: it waits, and both stay where they are
 abbrev pub GoesOn : {W T K : Type 0} → Beside W T K → Beside W T K → Type 0
-GoesOn old new =
-    Waits old.progress.now new.progress.now × (new.watcher.ghost_name ≡ old.watcher.ghost_name)
+GoesOn old new = Waits old.progress.now new.progress.now × (new.watcher.ghost_name ≡ old.watcher.ghost_name)
     × (new.progress.ghost_name ≡ old.progress.ghost_name)
 
 goes_on_at_rest : {W T K : Type 0} (now : Beside W T K) → GoesOn now now
 goes_on_at_rest now = (waits_at_rest now.progress.now, refl, refl)
 
-goes_on_both : {W T K : Type 0} (old now new : Beside W T K) → GoesOn old now → GoesOn now new
-    → GoesOn old new
+goes_on_both : {W T K : Type 0} (old now new : Beside W T K) → GoesOn old now → GoesOn now new → GoesOn old new
 goes_on_both old now new first next = (
   waits_both old.progress.now now.progress.now new.progress.now first.0 next.0,
   next.1 ∙ first.1,
@@ -92,35 +84,28 @@ goes_on_both old now new first next = (
 -- what both do as they are told of a deed
 abbrev pub BothSee : {W T K : Type 0} → (W → Running → List ℕ → W → Type 0) → Beside W T K → Running → List ℕ
     → Beside W T K → Type 0
-BothSee sees old member table new =
-    sees old.watcher.now member table new.watcher.now
+BothSee sees old member table new = sees old.watcher.now member table new.watcher.now
     × MaySay member.replica.turns old.progress.now new.progress.now
-    × (new.watcher.ghost_name ≡ old.watcher.ghost_name)
-    × (new.progress.ghost_name ≡ old.progress.ghost_name)
+    × (new.watcher.ghost_name ≡ old.watcher.ghost_name) × (new.progress.ghost_name ≡ old.progress.ghost_name)
 
 -- of the opening of an age
-abbrev pub BothOpen : {W T K : Type 0} → (W → Start → W → Type 0) → Beside W T K → Start → Beside W T K
-    → Type 0
-BothOpen opens old start new =
-    opens old.watcher.now start new.watcher.now
+abbrev pub BothOpen : {W T K : Type 0} → (W → Start → W → Type 0) → Beside W T K → Start → Beside W T K → Type 0
+BothOpen opens old start new = opens old.watcher.now start new.watcher.now
     × (new.progress.now ≡ record old.progress.now { age = start.age })
-    × (new.watcher.ghost_name ≡ old.watcher.ghost_name)
-    × (new.progress.ghost_name ≡ old.progress.ghost_name)
+    × (new.watcher.ghost_name ≡ old.watcher.ghost_name) × (new.progress.ghost_name ≡ old.progress.ghost_name)
 
 -- and of its end
 abbrev pub BothClose : {W T K : Type 0} → (W → List (Option Running) → List ℕ → W → Type 0) → Beside W T K
     → List (Option Running) → List ℕ → Beside W T K → Type 0
 BothClose closes old members table new =
     closes old.watcher.now members table new.watcher.now × (new.progress.now ≡ old.progress.now)
-    × (new.watcher.ghost_name ≡ old.watcher.ghost_name)
-    × (new.progress.ghost_name ≡ old.progress.ghost_name)
+    × (new.watcher.ghost_name ≡ old.watcher.ghost_name) × (new.progress.ghost_name ≡ old.progress.ghost_name)
 
 -- the watcher is told of all moves that both are told of
 beside_told : {W T K : Type 0} (sees : W → Running → List ℕ → W → Type 0) (p : Program) (es : List Move)
     (old new : Beside W T K) → WasTold (BothSee sees) p es old new
     → WasTold sees p es old.watcher.now new.watcher.now × GoesOn old new
-beside_told sees p [] old new same =
-    (ap (λ b. b.watcher.now) same, subst (GoesOn old) same (goes_on_at_rest old))
+beside_told sees p [] old new same = (ap (λ b. b.watcher.now) same, subst (GoesOn old) same (goes_on_at_rest old))
 beside_told sees p (e ∷ es) old new (r, next, there, seen, more) =
     let rest = beside_told sees (step_of p e) es next new more in
     let goes : GoesOn old next =
@@ -176,10 +161,7 @@ quiet turns old begun over new begins waits ends = by begins.due
     late terminal (inl passed) = inr (terminal, omega (arith, begins.later, passed, ends.now))
     late terminal (inr kept) = unsaid kept.0 kept.1
 
-    by : (begun.due ≡ None) ⊎ ((old.is_terminal ≡ true) × (begun.due ≡ Some (begun.now + 2000)))
-        → IsQuiet old new
+    by : (begun.due ≡ None) ⊎ ((old.is_terminal ≡ true) × (begun.due ≡ Some (begun.now + 2000))) → IsQuiet old new
     by (inl none) =
-        let kept = subst (λ (due : Option ℕ). WaitsFor due begun over) none waits.1 in
-        unsaid kept.0 kept.1
-    by (inr (terminal, due)) =
-        late terminal (subst (λ (d : Option ℕ). WaitsFor d begun over) due waits.1)
+        let kept = subst (λ (due : Option ℕ). WaitsFor due begun over) none waits.1 in unsaid kept.0 kept.1
+    by (inr (terminal, due)) = late terminal (subst (λ (d : Option ℕ). WaitsFor d begun over) due waits.1)

@@ -1,6 +1,6 @@
 -- How far a run is said to be, and when.
-use Rattle.std.specs.Prelude.{◌≡◌, ◌⊎◌, ◌≤◌, ℕ, ◌+◌, Bool, true, false, List, ◌++◌, codes, Option, None, Some, IfSome}
 use Rattle.std.specs.Fmt.{decimal}
+use Rattle.std.specs.Prelude.{◌≡◌, ◌⊎◌, ◌≤◌, ℕ, ◌+◌, Bool, true, false, List, ◌++◌, codes, Option, None, Some, IfSome}
 use Rattle.dr_io.specs.Sink.{Gains}
 use Rattle.dr_text.specs.Writing.{WroteFront}
 use Rattle.dr_progress.specs.declared.line.TheConstants.{BLANK}

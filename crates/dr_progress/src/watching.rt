@@ -1,10 +1,7 @@
 ghost use Rattle.std.specs.Prelude.{◌≡◌, ◌⊎◌, None, []};
 ghost use Rattle.dr_script.specs.Ranges.{HasRanges};
-ghost use Rattle.dr_ages.specs.Ages.{HaveSomebodyPrompt};
-ghost use Rattle.dr_ages.specs.Watched.{AreWatched};
-ghost use Rattle.dr_ages.specs.declared.mode.Mode.TheVariants.{Sim};
-ghost use Rattle.dr_outcome.specs.Last.{last_of};
-ghost use Rattle.dr_outcome.specs.Outcome.{IsMemoryRun};
+ghost use Rattle.dr_ages.specs.{Ages.HaveSomebodyPrompt, Watched.AreWatched, declared.mode.Mode.TheVariants.Sim};
+ghost use Rattle.dr_outcome.specs.{Last.last_of, Outcome.IsMemoryRun};
 ghost use Rattle.dr_progress.specs.Progress.{IsQuiet};
 
 use crate::beside::Beside;

@@ -1,12 +1,8 @@
 -- What the steps of a choice know makes a start, or a reason for which there is none.
-use Rattle.std.proofs.Common.{◌≡◌, sym, subst, Result, Ok, Err}
-use Rattle.std.specs.Prelude.{IfErr}
+use Rattle.std.{specs.Prelude.IfErr, proofs.Common.{◌≡◌, sym, subst, Result, Ok, Err}}
 use Rattle.dr_history.specs.declared.opening.Opening.{Opening}
-use Rattle.dr_restart.specs.declared.start.Start.{Start}
-use Rattle.dr_restart.specs.Choosing.{Handed}
-use Rattle.dr_quorum.specs.declared.faults.ChooseFault.{ChooseFault}
-use Rattle.dr_quorum.specs.declared.faults.ChooseFault.TheVariants.{OutOfMemory}
-use Rattle.dr_quorum.specs.Telling.{IsRightlyTold}
+use Rattle.dr_restart.specs.{Choosing.Handed, declared.start.Start.Start}
+use Rattle.dr_quorum.specs.{Telling.IsRightlyTold, declared.faults.ChooseFault.{ChooseFault, TheVariants.OutOfMemory}}
 
 -- of want of memory nothing is told
 pub told_memory : (o : Opening) (h : Handed) (r : Result Start ChooseFault) → IfErr r (λ why. why ≡ OutOfMemory)

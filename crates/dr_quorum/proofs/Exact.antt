@@ -1,29 +1,24 @@
 -- Logs that make a start are refused for nothing else than want of memory, and those that are refused for a
 -- reason are told it.
-use Rattle.std.proofs.Common.{◌≡◌, refl, ap, ◌⊎◌, inl, inr, Result, Ok, Err, Some}
 use Rattle.std.specs.Prelude.{IfErr, IfOk, MatchResult}
+use Rattle.std.proofs.Common.{◌≡◌, refl, ap, ◌⊎◌, inl, inr, Result, Ok, Err, Some}
 use Rattle.dr_history.specs.declared.opening.Opening.{Opening}
-use Rattle.dr_restart.specs.declared.start.Start.{Start}
-use Rattle.dr_restart.specs.Choosing.{Handed, IsChosenStart}
-use Rattle.dr_restart.specs.Refusing.{IsRefusedFor, Refusal}
-use Rattle.dr_restart.specs.Refusing.Refusal.{AgesUsedUp, Disagree, Foreign, NoQuorum}
+use Rattle.dr_restart.specs.{Choosing.{Handed, IsChosenStart}, Refusing.{IsRefusedFor, Refusal}}
+use Rattle.dr_restart.specs.{Refusing.Refusal.{AgesUsedUp, Disagree, Foreign, NoQuorum}, declared.start.Start.Start}
 use Rattle.dr_quorum_laws.proofs.Refusals.{no-refusal, one-refusal}
-use Rattle.dr_quorum.specs.declared.faults.ChooseFault.{ChooseFault}
+use Rattle.dr_quorum.specs.{Telling.{IsRightlyTold, reason_of}, declared.faults.ChooseFault.ChooseFault}
 use Rattle.dr_quorum.specs.declared.faults.ChooseFault.TheVariants as faults
-use Rattle.dr_quorum.specs.Telling.{IsRightlyTold, reason_of}
 
 pub only_memory : (o : Opening) (h : Handed) (r : Result Start ChooseFault) → IfErr r (IsRightlyTold o h)
     → (start : Start) → IsChosenStart o h start → IfErr r (λ why. why ≡ faults.OutOfMemory)
 only_memory o h (Ok s) told start chosen = tt
 only_memory o h (Err faults.OutOfMemory) told start chosen = refl
-only_memory o h (Err (faults.Foreign m p)) told start chosen =
-    absurd (no-refusal o h start (Foreign m p) chosen told)
+only_memory o h (Err (faults.Foreign m p)) told start chosen = absurd (no-refusal o h start (Foreign m p) chosen told)
 only_memory o h (Err (faults.NoQuorum v a b)) told start chosen =
     absurd (no-refusal o h start (NoQuorum v a b) chosen told)
 only_memory o h (Err (faults.Disagree a b p)) told start chosen =
     absurd (no-refusal o h start (Disagree a b p) chosen told)
-only_memory o h (Err faults.AgesUsedUp) told start chosen =
-    absurd (no-refusal o h start AgesUsedUp chosen told)
+only_memory o h (Err faults.AgesUsedUp) told start chosen = absurd (no-refusal o h start AgesUsedUp chosen told)
 
 pub only_reason : (o : Opening) (h : Handed) (r : Result Start ChooseFault) → IfOk r (IsChosenStart o h)
     → IfErr r (IsRightlyTold o h) → (why : Refusal) → IsRefusedFor o h why

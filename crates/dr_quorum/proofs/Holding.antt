@@ -1,18 +1,13 @@
 -- The logs of a list by number, the holders of an age, and the longest of them.
 use Rattle.std.proofs.Common.{◌≡◌, sym, ◌∙◌, subst, ℕ, ◌+◌, ◌<◌, ◌≤◌, ◌⊎◌, inl, inr, arith, List, [], length, Option, None, Some}
-use Rattle.std.proofs.lemmas.Bool.{cases_lt}
-use Rattle.std.proofs.lemmas.List.{append-nil, get_or_past}
-use Rattle.std.proofs.lemmas.Option.{none-some}
+use Rattle.std.proofs.lemmas.{Bool.cases_lt, List.{append-nil, get_or_past}, Option.none-some}
 use Rattle.dr_entry.specs.declared.entry.Entry.{Entry}
-use Rattle.dr_history.specs.Restarting.{AreAlong}
-use Rattle.dr_history.proofs.Restarts.{turned}
+use Rattle.dr_history.{specs.Restarting.AreAlong, proofs.Restarts.turned}
 use Rattle.dr_history_laws.proofs.Keeping.{along_by_longest}
+use Rattle.dr_restart.specs.{Choosing.{AreOnHolder, Handed}, Refusing.{AreHoldersAlong, IsFirstSplit, IsHeldBy}}
 use Rattle.dr_restart.specs.declared.lists.LogLists.{LogLists}
-use Rattle.dr_restart.specs.Choosing.{AreOnHolder, Handed}
-use Rattle.dr_restart.specs.Refusing.{AreHoldersAlong, IsFirstSplit, IsHeldBy}
 use Rattle.dr_restart.proofs.Choosing.{held_some, IsLongestBelow, by_holder, one_held}
-use Rattle.dr_quorum.specs.Comparing.{AreAlongBelow, IsFirstApart}
-use Rattle.dr_quorum.specs.Handing.{handed_by}
+use Rattle.dr_quorum.specs.{Comparing.{AreAlongBelow, IsFirstApart}, Handing.handed_by}
 
 -- a log that was handed in has a place in the list
 pub handed_within : (lists : List (Option LogLists)) (m : ℕ) (log : LogLists) → handed_by lists m ≡ Some log
@@ -46,8 +41,7 @@ along_more h age m es old here i f l x = by (cases_lt i m)
     by : (i < m) ⊎ (m ≤ i) → AreAlong f es
     by (inl k) = old i f k x
     by (inr k) =
-        let same : i ≡ m = omega (arith, l, k) in
-        here f (subst (λ j. IsHeldBy h age j f) same x)
+        let same : i ≡ m = omega (arith, l, k) in here f (subst (λ j. IsHeldBy h age j f) same x)
 
 -- where what all holders have is along the longest list, it is along one another
 pub fronts_along : (lists : List (Option LogLists)) (age m : ℕ) (es : List Entry) → length lists ≤ m

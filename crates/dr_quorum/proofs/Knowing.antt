@@ -1,19 +1,15 @@
 -- The greatest of ages, as they come one by one.
-use Rattle.std.proofs.Common.{◌≡◌, refl, ap, sym, ◌∙◌, subst, ◌⊎◌, inl, inr, ℕ, ◌+◌, ◌<◌, ◌≤◌, nat_lt, arith, Bool, true, false, if◌then◌else◌, List, [], ◌∷◌, ◌++◌, length, take, get_or, Contains, Option, None, Some}
 use Rattle.std.specs.Prelude.{IfNone, IfSome, option_map}
-use Rattle.std.proofs.lemmas.List.{get_or_default, take_all, take_more}
+use Rattle.std.proofs.Common.{◌≡◌, refl, ap, sym, ◌∙◌, subst, ◌⊎◌, inl, inr, ℕ, ◌+◌, ◌<◌, ◌≤◌, nat_lt, arith, Bool, true, false, if◌then◌else◌, List, [], ◌∷◌, ◌++◌, length, take, get_or, Contains, Option, None, Some}
+use Rattle.std.proofs.lemmas.{List.{get_or_default, take_all, take_more}, Option.{none-some, same_Some}}
 use Rattle.std.proofs.lemmas.List.Elements.{Contains-append_left, Contains-push, Contains-push_cases}
-use Rattle.std.proofs.lemmas.Option.{none-some, same_Some}
-use Rattle.dr_entry.specs.declared.entry.Entry.{Entry}
-use Rattle.dr_entry.specs.declared.entry.Entry.TheVariants.{View, Msg}
+use Rattle.dr_entry.specs.{declared.entry.Entry.{Entry, TheVariants.{View, Msg}}, declared.record.AgeVote.AgeVote}
 use Rattle.dr_entry.specs.declared.record.Vote.{Vote}
 use Rattle.dr_history.specs.History.{GroupView, view_of}
-use Rattle.dr_entry.specs.declared.record.AgeVote.{AgeVote}
-use Rattle.dr_restart.specs.declared.lists.LogLists.{LogLists}
 use Rattle.dr_restart.specs.Choosing.{EndsInAge, Handed, HasAge, IsAgeAfter, IsLastAge}
-use Rattle.dr_quorum.specs.Handing.{handed_by}
+use Rattle.dr_restart.specs.declared.lists.LogLists.{LogLists}
+use Rattle.dr_quorum.{specs.Handing.handed_by, proofs.Holding.handed_within}
 use Rattle.dr_quorum.specs.Knowing.{HasAgeVoteOf, HasViewOfAge, HasVoteOfAge, HaveNoView, IsGreatestAge, OfLog, OfSomeLog, age_of_view, later_age}
-use Rattle.dr_quorum.proofs.Holding.{handed_within}
 
 -- it is the same of ages that are the same
 pub same_ages : (P Q : ℕ → Type 0) (best : Option ℕ) → ((a : ℕ) → P a → Q a) → ((a : ℕ) → Q a → P a)
@@ -65,18 +61,14 @@ abbrev pub OfSome : {A : Type 0} → (A → ℕ → Type 0) → List A → ℕ �
 OfSome {A} R xs a = (x : A) × Contains xs x × R x a
 
 pub none_known : {A : Type 0} (R : A → ℕ → Type 0) → IsGreatestAge (OfSome R []) None
-none_known R = record {
-  one = λ a e. absurd (none-some a e);
-  most = λ a k. absurd (omega (arith, k.1.1));
-}
+none_known R = record { one = λ a e. absurd (none-some a e); most = λ a k. absurd (omega (arith, k.1.1)) }
 
 pub more_known : {A : Type 0} (R : A → ℕ → Type 0) (xs : List A) (i : ℕ) (x : A) (best next other : Option ℕ)
     → i < length xs → x ≡ get_or xs i x → IsGreatestAge (OfSome R (take i xs)) best
     → IsGreatestAge (R x) other → next ≡ later_age best other → IsGreatestAge (OfSome R (take (i + 1) xs)) next
-more_known {A} R xs i x best next other l read old new is =
-    subst (IsGreatestAge (OfSome R (take (i + 1) xs))) (sym is)
-    (same_ages (λ a. OfSome R (take i xs) a ⊎ R x a) (OfSome R (take (i + 1) xs)) (later_age best other) to from
-    (joined_ages (OfSome R (take i xs)) (R x) best other old new))
+more_known {A} R xs i x best next other l read old new is = subst (IsGreatestAge (OfSome R (take (i + 1) xs)))
+    (sym is) (same_ages (λ a. OfSome R (take i xs) a ⊎ R x a) (OfSome R (take (i + 1) xs))
+    (later_age best other) to from (joined_ages (OfSome R (take i xs)) (R x) best other old new))
   where
     more : take (i + 1) xs ≡ take i xs ++ x ∷ []
     more = take_more xs i x l ∙ ap (λ (y : A). take i xs ++ y ∷ []) (sym read)
@@ -101,13 +93,11 @@ all_known R xs i best l known = subst (λ ys. IsGreatestAge (OfSome R ys) best) 
 one_known : (a : ℕ) → IsGreatestAge (λ b. a ≡ b) (Some a)
 one_known a = record { one = λ b e. same_Some a b e; most = λ b e. (a, refl, omega (arith, e)) }
 
-pub more_aged : {A : Type 0} (age : A → ℕ) (xs : List A) (i : ℕ) (d : A) (best next : Option ℕ)
-    → i < length xs → IsGreatestAge (OfSome (λ x a. age x ≡ a) (take i xs)) best
-    → next ≡ later_age best (Some (age (get_or xs i d)))
+pub more_aged : {A : Type 0} (age : A → ℕ) (xs : List A) (i : ℕ) (d : A) (best next : Option ℕ) → i < length xs
+    → IsGreatestAge (OfSome (λ x a. age x ≡ a) (take i xs)) best → next ≡ later_age best (Some (age (get_or xs i d)))
     → IsGreatestAge (OfSome (λ x a. age x ≡ a) (take (i + 1) xs)) next
-more_aged age xs i d best next l old is =
-    more_known (λ x a. age x ≡ a) xs i (get_or xs i d) best next (Some (age (get_or xs i d))) l
-    (get_or_default xs i d (get_or xs i d) l) old (one_known (age (get_or xs i d))) is
+more_aged age xs i d best next l old is = more_known (λ x a. age x ≡ a) xs i (get_or xs i d) best next
+    (Some (age (get_or xs i d))) l (get_or_default xs i d (get_or xs i d) l) old (one_known (age (get_or xs i d))) is
 
 -- or one that may be none
 pub option_known : (o : Option ℕ) → IsGreatestAge (λ b. o ≡ Some b) o
@@ -136,13 +126,10 @@ pub log_known : (log : LogLists) (es : List Entry) (votes : List Vote) (age_vote
     → IsGreatestAge (HasViewOfAge es) a → IsGreatestAge (HasVoteOfAge votes) b
     → IsGreatestAge (HasAgeVoteOf age_votes) c → voted ≡ later_age b c → best ≡ later_age a voted
     → IsGreatestAge (HasAge log) best
-log_known log es votes age_votes a b c voted best e f g x y z v w =
-    subst (IsGreatestAge (HasAge log)) (sym w)
-    (joined_ages (HasViewOfAge log.entries) Q a voted
-    (subst (λ xs. IsGreatestAge (HasViewOfAge xs) a) e x)
+log_known log es votes age_votes a b c voted best e f g x y z v w = subst (IsGreatestAge (HasAge log)) (sym w)
+    (joined_ages (HasViewOfAge log.entries) Q a voted (subst (λ xs. IsGreatestAge (HasViewOfAge xs) a) e x)
     (subst (IsGreatestAge Q) (sym v) (joined_ages (HasVoteOfAge log.votes) (HasAgeVoteOf log.age_votes) b c
-    (subst (λ xs. IsGreatestAge (HasVoteOfAge xs) b) f y)
-    (subst (λ xs. IsGreatestAge (HasAgeVoteOf xs) c) g z))))
+    (subst (λ xs. IsGreatestAge (HasVoteOfAge xs) b) f y) (subst (λ xs. IsGreatestAge (HasAgeVoteOf xs) c) g z))))
   where
     Q : ℕ → Type 0
     Q age = HasVoteOfAge log.votes age ⊎ HasAgeVoteOf log.age_votes age
@@ -163,8 +150,7 @@ lists_known says lists best known =
 
     from : (a : ℕ) → OfSomeLog says (handed_by lists) a → OfSome (OfLog says) lists a
     from a (m, log, at, r) =
-        let l = handed_within lists m log at in
-        (Some log, (m, l, get_or_default lists m (Some log) None l ∙ at), r)
+        let l = handed_within lists m log at in (Some log, (m, l, get_or_default lists m (Some log) None l ∙ at), r)
 
 -- ---- the age after all
 
@@ -174,8 +160,7 @@ after_none h known = record {
   next = inl refl;
 }
 
-pub after_some : (h : Handed) (age : ℕ) → IsGreatestAge (OfSomeLog HasAge h) (Some age)
-    → IsAgeAfter h (age + 1)
+pub after_some : (h : Handed) (age : ℕ) → IsGreatestAge (OfSomeLog HasAge h) (Some age) → IsAgeAfter h (age + 1)
 after_some h age known = record {
   above = λ m a log at has. let t = known.most a (m, log, at, has) in
       omega (arith, same_Some age t.0 t.1, t.2);
@@ -186,17 +171,10 @@ after_some h age known = record {
 
 pub end_known : (log : LogLists) (o : Option GroupView) → o ≡ view_of log.entries
     → IsGreatestAge (EndsInAge log) (option_map (λ v. v.age) o)
-end_known log None e = record {
-  one = λ a i. absurd (none-some a i);
-  most = λ a k. absurd (none-some k.0 (e ∙ k.1));
-}
+end_known log None e = record { one = λ a i. absurd (none-some a i); most = λ a k. absurd (none-some k.0 (e ∙ k.1)) }
 end_known log (Some v) e = record {
   one = λ a i. (v, sym e, same_Some v.age a i);
-  most = λ a k. (
-    v.age,
-    refl,
-    omega (arith, ap (λ (u : GroupView). u.age) (same_Some v k.0 (e ∙ k.1)), k.2),
-  );
+  most = λ a k. (v.age, refl, omega (arith, ap (λ (u : GroupView). u.age) (same_Some v k.0 (e ∙ k.1)), k.2));
 }
 
 last_some : (h : Handed) (age : ℕ) → IsGreatestAge (OfSomeLog EndsInAge h) (Some age) → IsLastAge h age
@@ -213,12 +191,10 @@ last_none h known m log at = by (view_of log.entries) refl
     by None e = e
     by (Some v) e = let t = known.most v.age (m, log, at, (v, e, refl)) in absurd (none-some t.0 t.1)
 
-pub last_if_some : (h : Handed) (o : Option ℕ) → IsGreatestAge (OfSomeLog EndsInAge h) o
-    → IfSome o (IsLastAge h)
+pub last_if_some : (h : Handed) (o : Option ℕ) → IsGreatestAge (OfSomeLog EndsInAge h) o → IfSome o (IsLastAge h)
 last_if_some h None known = tt
 last_if_some h (Some age) known = last_some h age known
 
-pub last_if_none : (h : Handed) (o : Option ℕ) → IsGreatestAge (OfSomeLog EndsInAge h) o
-    → IfNone o (HaveNoView h)
+pub last_if_none : (h : Handed) (o : Option ℕ) → IsGreatestAge (OfSomeLog EndsInAge h) o → IfNone o (HaveNoView h)
 last_if_none h None known = last_none h known
 last_if_none h (Some age) known = tt

@@ -1,11 +1,8 @@
 -- The path of the views that votes name, walked from View 0 on.
 use Rattle.std.proofs.Common.{◌≡◌, refl, ap, sym, ◌∙◌, subst, ◌⊎◌, inl, inr, ℕ, ◌+◌, ◌<◌, ◌≤◌, arith, List, Option, None, Some}
-use Rattle.std.proofs.lemmas.Bool.{cases_lt}
-use Rattle.std.proofs.lemmas.Option.{none-some, same_Some}
-use Rattle.dr_restart.specs.declared.lists.LogLists.{LogLists}
-use Rattle.dr_restart.specs.Choosing.{HasQuorum, next_on_path, on_path}
-use Rattle.dr_restart.specs.Refusing.{HasPath, LacksPath, LacksQuorum}
-use Rattle.dr_restart.proofs.Choosing.{path_more, path_ends, path_past}
+use Rattle.std.proofs.lemmas.{Bool.cases_lt, Option.{none-some, same_Some}}
+use Rattle.dr_restart.specs.{Choosing.{HasQuorum, next_on_path, on_path}, Refusing.{HasPath, LacksPath, LacksQuorum}}
+use Rattle.dr_restart.{specs.declared.lists.LogLists.LogLists, proofs.Choosing.{path_more, path_ends, path_past}}
 use Rattle.dr_quorum.specs.Handing.{handed_by}
 
 -- the path has come to this view, with these members, and each view before it has a majority handed in
@@ -19,9 +16,8 @@ unfolding on_path
 none_walked logs n age first = record { here = refl; before = λ v earlier l e. absurd (omega (arith, l)) }
 
 quorum_up : (logs : List (Option LogLists)) (n age first view members : ℕ)
-    → IsWalked logs n age first view members → HasQuorum (handed_by logs) members
-    → (v earlier : ℕ) → v < view + 1 → on_path (handed_by logs) n age first v ≡ Some earlier
-    → HasQuorum (handed_by logs) earlier
+    → IsWalked logs n age first view members → HasQuorum (handed_by logs) members → (v earlier : ℕ)
+    → v < view + 1 → on_path (handed_by logs) n age first v ≡ Some earlier → HasQuorum (handed_by logs) earlier
 quorum_up logs n age first view members w q v earlier l e = by (cases_lt v view)
   where
     same : v ≡ view → Some members ≡ Some earlier
@@ -55,9 +51,8 @@ pub ended_walk : (logs : List (Option LogLists)) (n age first view members : ℕ
 ended_walk logs n age first view members l w q e = whole logs n age first view members w q
     (path_more (handed_by logs) n age first view members w.here l ∙ sym e)
 
-pub last_walk : (logs : List (Option LogLists)) (n age first members : ℕ)
-    → IsWalked logs n age first 255 members → HasQuorum (handed_by logs) members
-    → HasPath n (handed_by logs) age first
+pub last_walk : (logs : List (Option LogLists)) (n age first members : ℕ) → IsWalked logs n age first 255 members
+    → HasQuorum (handed_by logs) members → HasPath n (handed_by logs) age first
 last_walk logs n age first members w q = whole logs n age first 255 members w q (path_past (handed_by logs) n age first)
 
 pub lacks_walk : (logs : List (Option LogLists)) (n age first view members have need : ℕ)

@@ -1,19 +1,11 @@
 -- The vote of the highest ballot, as votes come one by one.
+use Rattle.std.{specs.{List.flat_map, Option.option_map_or}, proofs.Math.Seq.take-suc}
 use Rattle.std.proofs.Common.{◌≡◌, refl, ap, sym, ◌∙◌, ℕ, ◌<◌, ◌+◌, filter, take, get_or, suc, length, nat_lt, arith, Bool, true, false, if◌then◌else◌, List, [], ◌∷◌, ◌++◌, Option, None, Some}
-use Rattle.std.proofs.lemmas.Grind.{flat_map-append}
-use Rattle.std.proofs.lemmas.List.{append-nil, append_assoc}
-use Rattle.std.proofs.lemmas.List.Elements.{filter-append}
-use Rattle.std.proofs.Math.Seq.{take-suc}
-use Rattle.std.specs.List.{flat_map}
-use Rattle.std.specs.Option.{option_map_or}
-use Rattle.dr_history.specs.Members.{has, members_below, members_of}
-use Rattle.dr_history.proofs.MemberLemmas.{members_below_more}
-use Rattle.dr_restart.specs.declared.lists.LogLists.{LogLists}
-use Rattle.dr_restart.specs.Choosing.{names_next, next_votes}
+use Rattle.std.proofs.lemmas.{Grind.flat_map-append, List.{append-nil, append_assoc, Elements.filter-append}}
+use Rattle.dr_history.{specs.Members.{has, members_below, members_of}, proofs.MemberLemmas.members_below_more}
+use Rattle.dr_restart.specs.{Choosing.{names_next, next_votes, highest}, declared.lists.LogLists.LogLists}
 use Rattle.dr_entry.specs.declared.record.Vote.{Vote}
-use Rattle.dr_restart.specs.Choosing.{highest}
-use Rattle.dr_quorum.specs.Ballots.{better}
-use Rattle.dr_quorum.specs.Handing.{handed_by}
+use Rattle.dr_quorum.specs.{Ballots.better, Handing.handed_by}
 
 abbrev first_of : Vote → Option Vote → Vote
 first_of x o = option_map_or (λ y. if nat_lt x.ballot y.ballot then y else x) o x
@@ -48,9 +40,8 @@ votes_below logs n age v members m = flat_map (votes_of_member logs n age v memb
 pub votes_below-more : (logs : List (Option LogLists)) (n age v members m : ℕ) → has members m ≡ true
     → votes_below logs n age v members (m + 1) ≡ votes_below logs n age v members m
     ++ votes_of_member logs n age v members m
-votes_below-more logs n age v members m h =
-    ap (flat_map (votes_of_member logs n age v members)) (members_below_more members m
-    ∙ ap (λ b. members_below members m ++ (if b then m ∷ [] else [])) h)
+votes_below-more logs n age v members m h = ap (flat_map (votes_of_member logs n age v members))
+    (members_below_more members m ∙ ap (λ b. members_below members m ++ (if b then m ∷ [] else [])) h)
     ∙ flat_map-append (votes_of_member logs n age v members) (members_below members m) (m ∷ [])
     ∙ ap (λ ys. votes_below logs n age v members m ++ ys) (append-nil (votes_of_member logs n age v members m))
 
@@ -64,13 +55,10 @@ votes_below-other logs n age v members m h =
 pub highest-one : (p : Vote → Bool) (before xs : List Vote) (y : Vote) (b : Bool) (o : Option Vote) → p y ≡ b
     → o ≡ highest (before ++ filter p xs)
     → (if b then Some (better o y) else o) ≡ highest (before ++ filter p (xs ++ y ∷ []))
-highest-one p before xs y true o e h =
-    ap (λ z. Some (better z y)) h ∙ sym (highest-more (before ++ filter p xs) y)
-    ∙ ap highest (append_assoc before (filter p xs) (y ∷ [])
-    ∙ ap (λ ys. before ++ ys) (ap (λ b. filter p xs ++ (if b then y ∷ [] else [])) (sym e)
-    ∙ sym (filter-append p xs (y ∷ []))))
-highest-one p before xs y false o e h =
-    h ∙ ap (λ ys. highest (before ++ ys)) (sym (append-nil (filter p xs))
+highest-one p before xs y true o e h = ap (λ z. Some (better z y)) h ∙ sym (highest-more (before ++ filter p xs) y)
+    ∙ ap highest (append_assoc before (filter p xs) (y ∷ []) ∙ ap (λ ys. before ++ ys)
+    (ap (λ b. filter p xs ++ (if b then y ∷ [] else [])) (sym e) ∙ sym (filter-append p xs (y ∷ []))))
+highest-one p before xs y false o e h = h ∙ ap (λ ys. highest (before ++ ys)) (sym (append-nil (filter p xs))
     ∙ (ap (λ b. filter p xs ++ (if b then y ∷ [] else [])) (sym e) ∙ sym (filter-append p xs (y ∷ []))))
 
 pub none_below_zero : (logs : List (Option LogLists)) (n age v members : ℕ)

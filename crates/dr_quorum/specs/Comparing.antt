@@ -2,8 +2,7 @@
 use Rattle.std.specs.Prelude.{ℕ, ◌<◌, List}
 use Rattle.dr_entry.specs.declared.entry.Entry.{Entry}
 use Rattle.dr_history.specs.Restarting.{AreAlong, DifferAt}
-use Rattle.dr_restart.specs.Choosing.{Handed}
-use Rattle.dr_restart.specs.Refusing.{IsHeldBy}
+use Rattle.dr_restart.specs.{Choosing.Handed, Refusing.IsHeldBy}
 
 -- what the holders below a number have is along these entries
 abbrev pub AreAlongBelow : Handed → ℕ → ℕ → List Entry → Type 0

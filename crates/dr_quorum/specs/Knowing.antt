@@ -1,12 +1,9 @@
 -- The ages that logs know: of their Views, of their votes and of their age votes.
 use Rattle.std.specs.Prelude.{◌≡◌, ℕ, ◌≤◌, nat_lt, if◌then◌else◌, List, Contains, Option, None, Some}
-use Rattle.dr_entry.specs.declared.entry.Entry.{Entry}
-use Rattle.dr_entry.specs.declared.entry.Entry.TheVariants.{View, Msg}
+use Rattle.dr_entry.specs.{declared.entry.Entry.{Entry, TheVariants.{View, Msg}}, declared.record.AgeVote.AgeVote}
 use Rattle.dr_entry.specs.declared.record.Vote.{Vote}
 use Rattle.dr_history.specs.History.{view_of}
-use Rattle.dr_entry.specs.declared.record.AgeVote.{AgeVote}
-use Rattle.dr_restart.specs.declared.lists.LogLists.{LogLists}
-use Rattle.dr_restart.specs.Choosing.{Handed}
+use Rattle.dr_restart.specs.{Choosing.Handed, declared.lists.LogLists.LogLists}
 
 -- the greatest of the ages of a kind, and none where there is none
 pub record IsGreatestAge (P : ℕ → Type 0) (best : Option ℕ) : Type 0 where

@@ -1,8 +1,7 @@
 -- What it tells where the logs that are handed in make no start.
 use Rattle.std.specs.Prelude.{Option, None, Some, IfSome}
 use Rattle.dr_history.specs.declared.opening.Opening.{Opening}
-use Rattle.dr_restart.specs.Choosing.{Handed}
-use Rattle.dr_restart.specs.Refusing.{IsRefusedFor, Refusal}
+use Rattle.dr_restart.specs.{Choosing.Handed, Refusing.{IsRefusedFor, Refusal}}
 use Rattle.dr_restart.specs.Refusing.Refusal.{AgesUsedUp, Disagree, Foreign, NoQuorum}
 use Rattle.dr_quorum.specs.declared.faults.ChooseFault.{ChooseFault}
 use Rattle.dr_quorum.specs.declared.faults.ChooseFault.TheVariants as faults

@@ -1,13 +1,11 @@
 //! Chooses what the next age starts with.
 ghost use Rattle.std.specs.Prelude.{◌≡◌, ◌⊎◌, IfErr, IfOk, MatchResult, Some, length};
-ghost use Rattle.dr_restart.specs.declared.start.Start.{Start as StartOf};
 ghost use Rattle.dr_restart.specs.Choosing.{AreOfHolders, AreOfNobody, IsAgeAfter, IsChosenStart, IsLastAge};
-ghost use Rattle.dr_restart.specs.Groups.{first_group_of};
-ghost use Rattle.dr_restart.specs.Refusing.{AreEnough, IsRefusedFor, Refusal};
+ghost use Rattle.dr_restart.specs.{Groups.first_group_of, Refusing.{AreEnough, IsRefusedFor, Refusal}};
+ghost use Rattle.dr_restart.specs.declared.start.Start.{Start as StartOf};
 ghost use Rattle.dr_script.specs.Ranges.{HasGroupRanges};
+ghost use Rattle.dr_quorum.specs.{Handing.handed_by, Telling.{IsRightlyTold, reason_of}};
 ghost use Rattle.dr_quorum.specs.declared.faults.ChooseFault.TheVariants.{OutOfMemory};
-ghost use Rattle.dr_quorum.specs.Handing.{handed_by};
-ghost use Rattle.dr_quorum.specs.Telling.{IsRightlyTold, reason_of};
 
 use crate::ages::{age_after, last_age};
 use crate::borrowed::BorrowedLists;

@@ -2,10 +2,8 @@
 ghost use Rattle.std.specs.Prelude.{◌≡◌, ◌<◌, ◌≤◌, ◌↔◌, ℕ, IfNone, IfSome, IsTrue, List, length};
 ghost use Rattle.dr_entry.specs.declared.entry.Entry.{Entry as EntryOf};
 ghost use Rattle.dr_history.specs.Restarting.{AreAlong, DifferAt};
-ghost use Rattle.dr_restart.specs.Choosing.{AreOnHolder};
-ghost use Rattle.dr_restart.specs.Refusing.{AreHoldersAlong, IsFirstSplit, IsHeldBy};
-ghost use Rattle.dr_quorum.specs.Comparing.{AreAlongBelow, IsFirstApart};
-ghost use Rattle.dr_quorum.specs.Handing.{handed_by};
+ghost use Rattle.dr_restart.specs.{Choosing.AreOnHolder, Refusing.{AreHoldersAlong, IsFirstSplit, IsHeldBy}};
+ghost use Rattle.dr_quorum.specs.{Comparing.{AreAlongBelow, IsFirstApart}, Handing.handed_by};
 
 use crate::borrowed::BorrowedLists;
 use crate::holders::held;

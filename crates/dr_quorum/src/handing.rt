@@ -1,12 +1,10 @@
 //! Which logs were handed in, and whether they are such as the script can have brought about.
 ghost use Rattle.std.specs.Prelude.{◌≡◌, ◌<◌, IfErr, IfNone, IfOk, IfSome, length};
 ghost use Rattle.dr_history.specs.Soundness.{whole_roster};
-ghost use Rattle.dr_restart.specs.Choosing.{HasQuorum, handed_of};
-ghost use Rattle.dr_restart.specs.Groups.{first_group_of};
+ghost use Rattle.dr_restart.specs.{Choosing.{HasQuorum, handed_of}, Groups.first_group_of};
 ghost use Rattle.dr_restart.specs.Refusing.{AreEnough, HaveNothingForeign, IsFirstForeignOf, LacksQuorum};
 ghost use Rattle.dr_script.specs.Ranges.{HasGroupRanges};
-ghost use Rattle.dr_quorum.specs.Handing.{handed_by};
-ghost use Rattle.dr_quorum.specs.Telling.{IsRightlyTold};
+ghost use Rattle.dr_quorum.specs.{Handing.handed_by, Telling.IsRightlyTold};
 
 use crate::borrowed::BorrowedLists;
 use crate::faults::ChooseFault;

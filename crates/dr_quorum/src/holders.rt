@@ -1,8 +1,7 @@
 //! The logs that end in the last age, and the longest of them.
 ghost use Rattle.std.specs.Prelude.{◌≡◌, ◌<◌, ◌≤◌, ◌↔◌, ℕ, IfNone, IfSome, IsTrue, List, length, option_map};
 ghost use Rattle.dr_entry.specs.declared.entry.Entry.{Entry as EntryOf};
-ghost use Rattle.dr_restart.specs.Choosing.{AreOnHolder, EndsInAge};
-ghost use Rattle.dr_restart.specs.Refusing.{IsHeldBy};
+ghost use Rattle.dr_restart.specs.{Choosing.{AreOnHolder, EndsInAge}, Refusing.IsHeldBy};
 ghost use Rattle.dr_quorum.specs.Handing.{handed_by};
 
 use crate::borrowed::BorrowedLists;

@@ -4,16 +4,10 @@
 //! events of a group.
 ghost use Rattle.std.specs.Prelude.{◌≡◌, ◌<◌, ◌++◌, [], ◌∷◌, List};
 ghost use Rattle.dr_entry.specs.declared.entry.Entry.{Entry};
-ghost use Rattle.dr_history.specs.Restarting.{Kept};
-ghost use Rattle.dr_history.specs.Soundness.{whole_roster};
-ghost use Rattle.dr_machine.specs.Group.{IsGroup};
-ghost use Rattle.dr_machine.specs.Run.{Run, accounts_in};
-ghost use Rattle.dr_machine.specs.World.{World, opening_world};
+ghost use Rattle.dr_history.specs.{Restarting.Kept, Soundness.whole_roster};
+ghost use Rattle.dr_machine.specs.{Group.IsGroup, Run.{Run, accounts_in}, World.{World, opening_world}};
+ghost use Rattle.dr_restart.specs.{Choosing.{IsChosenStart, of_set}, Groups.group_of, Left.AreLeft, Trying.IsTry};
 ghost use Rattle.dr_restart.specs.declared.start.Start.{Start as StartOf};
-ghost use Rattle.dr_restart.specs.Choosing.{IsChosenStart, of_set};
-ghost use Rattle.dr_restart.specs.Groups.{group_of};
-ghost use Rattle.dr_restart.specs.Left.{AreLeft};
-ghost use Rattle.dr_restart.specs.Trying.{IsTry};
 ghost use Rattle.dr_words.specs.Masks.{IsMajorityOf};
 ghost use Rattle.dr_quorum_laws.specs.Holding.{HoldSince, IsKeptBy, IsLongestHistory};
 

@@ -1,16 +1,14 @@
 //! The path of the views that the logs handed in name.
 ghost use Rattle.dr_entry.specs.declared.limits.TheConstants.{MAX_MEMBERS};
-ghost use Rattle.std.specs.Prelude.{◌≡◌, ◌≤◌, ℕ, IfNone, IfSome, List, [], ◌++◌, Contains, filter, length, Some};
-ghost use Rattle.std.specs.Option.{option_map_or};
 ghost use Rattle.dr_entry.specs.declared.entry.Entry.TheVariants.{View};
 ghost use Rattle.dr_entry.specs.declared.record.Vote.{Vote as VoteOf};
-ghost use Rattle.dr_restart.specs.Choosing.{highest, names_next, next_on_path, next_votes};
-ghost use Rattle.dr_history.specs.Restarting.{AllStand};
-ghost use Rattle.dr_restart.specs.Groups.{first_group_of};
+ghost use Rattle.std.specs.Option.{option_map_or};
+ghost use Rattle.std.specs.Prelude.{◌≡◌, ◌≤◌, ℕ, IfNone, IfSome, List, [], ◌++◌, Contains, filter, length, Some};
+ghost use Rattle.dr_restart.specs.{Choosing.{highest, names_next, next_on_path, next_votes}, Groups.first_group_of};
 ghost use Rattle.dr_restart.specs.Refusing.{HasPath, LacksPath};
+ghost use Rattle.dr_history.specs.Restarting.{AllStand};
 ghost use Rattle.dr_script.specs.Ranges.{HasGroupRanges};
-ghost use Rattle.dr_quorum.specs.Ballots.{better};
-ghost use Rattle.dr_quorum.specs.Handing.{handed_by};
+ghost use Rattle.dr_quorum.specs.{Ballots.better, Handing.handed_by};
 
 use crate::borrowed::BorrowedLists;
 use crate::handing::lacking;

@@ -1,8 +1,7 @@
 //! Reads a log's entries, up to the first that may not stand.
 ghost use Rattle.std.specs.Prelude.{◌≡◌, ◌<◌, ◌+◌, ◌↔◌, IsTrue, IfSome, IfNone, length, slice_get, take, Some};
 ghost use Rattle.dr_entry.specs.declared.entry.Entry.{Entry as EntryOf};
-ghost use Rattle.dr_history.specs.Restarting.{AllStand, IsForeignAt};
-ghost use Rattle.dr_history.specs.Soundness.{MayStand};
+ghost use Rattle.dr_history.specs.{Restarting.{AllStand, IsForeignAt}, Soundness.MayStand};
 ghost use Rattle.dr_restart.specs.Groups.{first_group_of};
 ghost use Rattle.dr_script.specs.Ranges.{HasGroupRanges};
 ghost use Rattle.dr_quorum.specs.Reading.{IsRead};

@@ -1,8 +1,6 @@
 //! Whether an entry may stand on a log behind those before it.
 ghost use Rattle.std.specs.Prelude.{◌≡◌, ◌≢◌, ◌↔◌, IsTrue, IsSomeAnd, Contains, Some, length, slice_get, slice_index_or, []};
-ghost use Rattle.dr_history.specs.Members.{members_of};
-ghost use Rattle.dr_history.specs.Soundness.{Opens};
-ghost use Rattle.dr_history.specs.Order.{AreOfRoster, ContinuesAge};
+ghost use Rattle.dr_history.specs.{Members.members_of, Order.{AreOfRoster, ContinuesAge}, Soundness.Opens};
 ghost use Rattle.dr_script.specs.Ranges.{HasGroupRanges};
 
 use dr_entry::{MAX_MEMBERS, Message};

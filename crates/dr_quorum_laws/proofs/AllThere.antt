@@ -1,34 +1,21 @@
 -- Where the logs of more than half of the roster come back, those of all members of the last age among them, or
 -- none is missing, all may stand, and of any two one is a front of the other, they are refused only where one
 -- knows the last age.
-use Rattle.std.proofs.Common.{◌≡◌, ◌≢◌, refl, ap, sym, ◌∙◌, ◌⊎◌, inl, inr, subst, ℕ, zero, suc, ◌-◌, ◌^◌, ◌<◌, ◌≤◌, ◌==◌, ◌&&◌, not, nat_lt, arith, Bool, true, false, List, [], ◌∷◌, filter, length, Contains, Option, None, Some, is_some, slice_get, append-nil, if◌then◌else◌, option_and_then, option_map}
 use Rattle.std.specs.Option.{option_map_or}
-use Rattle.std.proofs.lemmas.Option.{none-some, same_Some}
-use Rattle.dr_entry.specs.declared.entry.Entry.{Entry}
-use Rattle.dr_entry.specs.declared.entry.Entry.TheVariants.{View}
-use Rattle.dr_entry.specs.declared.record.Vote.{Vote}
-use Rattle.dr_history.specs.declared.opening.Opening.{Opening}
-use Rattle.dr_history.specs.Members.{has, members_of}
-use Rattle.dr_history.specs.Restarting.{AllStand, AreAllAlong, AreAlong}
-use Rattle.dr_history.specs.Soundness.{whole_roster}
-use Rattle.dr_history.specs.Order.{AreOfRoster}
-use Rattle.dr_history_laws.proofs.Differing.{differ_not_along}
-use Rattle.dr_history_laws.proofs.Lists.{slice_get-some}
-use Rattle.dr_history_laws.proofs.Members.{has-member}
-use Rattle.std.proofs.lemmas.Bool.{cases_lt}
-use Rattle.std.proofs.lemmas.Nat.Bits.{bit_at_above}
-use Rattle.dr_history.proofs.Bits.{has_ones, has_zero}
-use Rattle.dr_history.proofs.Masks.{same_masks}
-use Rattle.dr_restart.specs.declared.lists.LogLists.{LogLists}
+use Rattle.std.proofs.Common.{◌≡◌, ◌≢◌, refl, ap, sym, ◌∙◌, ◌⊎◌, inl, inr, subst, ℕ, zero, suc, ◌-◌, ◌^◌, ◌<◌, ◌≤◌, ◌==◌, ◌&&◌, not, nat_lt, arith, Bool, true, false, List, [], ◌∷◌, filter, length, Contains, Option, None, Some, is_some, slice_get, append-nil, if◌then◌else◌, option_and_then, option_map}
+use Rattle.std.proofs.lemmas.{Bool.cases_lt, Nat.Bits.bit_at_above, Option.{none-some, same_Some}}
+use Rattle.dr_entry.specs.{declared.entry.Entry.{Entry, TheVariants.View}, declared.record.Vote.Vote}
+use Rattle.dr_history.specs.{Members.{has, members_of}, Order.AreOfRoster}
+use Rattle.dr_history.specs.{Restarting.{AllStand, AreAllAlong, AreAlong}, Soundness.whole_roster}
+use Rattle.dr_history.{specs.declared.opening.Opening.Opening, proofs.{Bits.{has_ones, has_zero}, Masks.same_masks}}
+use Rattle.dr_history_laws.proofs.{Differing.differ_not_along, Lists.slice_get-some, Members.has-member}
 use Rattle.dr_restart.specs.Choosing.{AreFirst, Handed, HasQuorum, IsLastAge, handed_of, highest, names_next, next_on_path, next_votes, of_set, on_path}
-use Rattle.dr_restart.specs.Left.{entries_on_logs}
+use Rattle.dr_restart.specs.{Left.entries_on_logs, Refusing.Refusal.{AgesUsedUp, Disagree, Foreign, NoQuorum}}
 use Rattle.dr_restart.specs.Refusing.{AreHoldersAlong, HaveNothingForeign, IsRefusedFor, Refusal}
-use Rattle.dr_restart.specs.Refusing.Refusal.{AgesUsedUp, Disagree, Foreign, NoQuorum}
-use Rattle.dr_restart.proofs.Listed.{listed}
-use Rattle.dr_words.proofs.Masks.{has_mask_of, has_next_members, mask_of_small, next_members_small, next_members_within}
+use Rattle.dr_restart.{specs.declared.lists.LogLists.LogLists, proofs.Listed.listed}
 use Rattle.dr_words.specs.Masks.{mask_of, next_members, without}
-use Rattle.dr_quorum_laws.specs.Returning.{HasHandedIn, HaveReturned}
-use Rattle.dr_quorum_laws.proofs.Handing.{log-of_set, set-log}
+use Rattle.dr_words.proofs.Masks.{has_mask_of, has_next_members, mask_of_small, next_members_small, next_members_within}
+use Rattle.dr_quorum_laws.{specs.Returning.{HasHandedIn, HaveReturned}, proofs.Handing.{log-of_set, set-log}}
 use Rattle.dr_quorum_laws.proofs.Lists.{filter-in, flat_map-in, highest-in, in-nothing, read-in}
 use Rattle.dr_quorum_laws.proofs.Refusals.{foreign-no, lacks-no}
 
@@ -110,8 +97,7 @@ some-own n mask most of = record {
 all-handed : (h : Handed) (IsSuch : ℕ → Type 0) (mask : ℕ) → ((m : ℕ) → IsSuch m → HasHandedIn h m)
     → AreSomeOf IsSuch mask → HasQuorum h mask
 all-handed h IsSuch mask all of =
-    let some = some-members mask of.small of.some in
-    omega (arith, some, ap (λ k. length (members_of k)) same)
+    let some = some-members mask of.small of.some in omega (arith, some, ap (λ k. length (members_of k)) same)
   where
     below : (i : ℕ) → has mask i ≡ true → (i < 16) ⊎ (16 ≤ i) → i < 16
     below i e (inl l) = l
@@ -120,8 +106,7 @@ all-handed h IsSuch mask all of =
     by : (i : ℕ) (b : Bool) → has mask i ≡ b → (nat_lt i 16 && (has mask i && is_some (h i))) ≡ has mask i
     by i true e =
         let l : i < 16 = below i e (cases_lt i 16) in
-        let there = all i (of.within i e) in
-        grind (arith, e, l, there)
+        let there = all i (of.within i e) in grind (arith, e, l, there)
     by i false e = grind (arith, e)
 
     same : handed_of h mask ≡ mask
@@ -150,8 +135,7 @@ next-of : (h : Handed) (IsSuch : ℕ → Type 0) (n age v members next : ℕ) �
     → AreSomeOf IsSuch members → next_on_path h n age v members ≡ Some next → AreSomeOf IsSuch next
 next-of h IsSuch n age v members next names of e = by (highest (next_votes h n age v members)) refl e
   where
-    counted : (x : Vote) → Contains (next_votes h n age v members) x
-        → (next_members members x.value.leavers ≢ 0)
+    counted : (x : Vote) → Contains (next_votes h n age v members) x → (next_members members x.value.leavers ≢ 0)
         × ((m : ℕ) → m < 16 → has x.value.leavers m ≡ true → IsSuch m)
     counted x c =
         let t = flat_map-in (λ m. filter (names_next n age v members) (option_map_or (λ (log : LogLists). log.votes) (h m) []))
@@ -179,8 +163,7 @@ next-of h IsSuch n age v members next names of e = by (highest (next_votes h n a
 
         by : (b : Bool) → has x.value.leavers m ≡ b → IsSuch m
         by false e =
-            let mine : has members m ≡ true =
-            grind (arith, e, has_next_members members x.value.leavers m l, there) in
+            let mine : has members m ≡ true = grind (arith, e, has_next_members members x.value.leavers m l, there) in
             of.within m mine
         by true e = named m l e
 
@@ -189,10 +172,8 @@ next-of h IsSuch n age v members next names of e = by (highest (next_votes h n a
         → AreSomeOf IsSuch next
     by None f g = absurd (none-some next
         (ap (option_map (λ (x : Vote). next_members members x.value.leavers)) (sym f) ∙ g))
-    by (Some x) f g = subst (AreSomeOf IsSuch)
-        (same_Some (next_members members x.value.leavers) next
-        (ap (option_map (λ (y : Vote). next_members members y.value.leavers)) (sym f) ∙ g))
-        (record {
+    by (Some x) f g = subst (AreSomeOf IsSuch) (same_Some (next_members members x.value.leavers) next
+        (ap (option_map (λ (y : Vote). next_members members y.value.leavers)) (sym f) ∙ g)) (record {
           small = next_members_small members x.value.leavers;
           some = (counted x (highest-in (next_votes h n age v members) x f)).0;
           within = part x (counted x (highest-in (next_votes h n age v members) x f)).1;
@@ -205,10 +186,9 @@ path-of h IsSuch n age first zero members names of e = subst (AreSomeOf IsSuch) 
 path-of h IsSuch n age first (suc v) members names of e =
     go (λ u is. path-of h IsSuch n age first v u names of is) (nat_lt v 255) (on_path h n age first v) refl e
   where
-    go : ((u : ℕ) → on_path h n age first v ≡ Some u → AreSomeOf IsSuch u) → (b : Bool) (o : Option ℕ)
-        → on_path h n age first v ≡ o
-        → (if b then option_and_then (next_on_path h n age v) (on_path h n age first v) else None) ≡ Some members
-        → AreSomeOf IsSuch members
+    go : ((u : ℕ) → on_path h n age first v ≡ Some u → AreSomeOf IsSuch u)
+        → (b : Bool) (o : Option ℕ) → on_path h n age first v ≡ o → (if b then option_and_then
+        (next_on_path h n age v) (on_path h n age first v) else None) ≡ Some members → AreSomeOf IsSuch members
     go old false o f g = absurd (none-some members g)
     go old true None f g = absurd (none-some members (ap (option_and_then (next_on_path h n age v)) (sym f) ∙ g))
     go old true (Some u) f g =
@@ -261,8 +241,7 @@ some_is o log e = ap is_some e
 
 -- where of any two holders one is a front of the other
 pub holders-pass : (o : Opening) (logs : List LogLists) (set : ℕ) (why : Refusal) → 1 ≤ length o.messages
-    → length o.messages ≤ 16 → length logs ≡ length o.messages
-    → ((m : ℕ) → m < length logs → has set m ≡ true)
+    → length o.messages ≤ 16 → length logs ≡ length o.messages → ((m : ℕ) → m < length logs → has set m ≡ true)
     → ((m : ℕ) (log : LogLists) → slice_get logs m ≡ Some log → AllStand o log.entries)
     → ((age : ℕ) → IsLastAge (of_set logs set) age → AreHoldersAlong (of_set logs set) age)
     → IsRefusedFor o (of_set logs set) why → why ≡ AgesUsedUp
@@ -294,16 +273,14 @@ holders-pass o logs set why least most long all stand along = returned-pass o h 
         below m e is = grind (arith, e, is)
 
     first-within : (age first : ℕ) → AreFirst h age first → (m : ℕ) → has first m ≡ true → m < n
-    first-within age first (es, (m, log, at, ends, same), c) =
-        (sound m log at k.0 (View age 0 first) k.1).0.within
+    first-within age first (es, (m, log, at, ends, same), c) = (sound m log at k.0 (View age 0 first) k.1).0.within
       where
         k : (i : ℕ) × (slice_get log.entries i ≡ Some (View age 0 first))
         k = read-in log.entries (View age 0 first) (subst (λ l. Contains l (View age 0 first)) same c)
 
 -- or of any two logs
 pub all-pass : (o : Opening) (logs : List LogLists) (set : ℕ) (why : Refusal) → 1 ≤ length o.messages
-    → length o.messages ≤ 16 → length logs ≡ length o.messages
-    → ((m : ℕ) → m < length logs → has set m ≡ true)
+    → length o.messages ≤ 16 → length logs ≡ length o.messages → ((m : ℕ) → m < length logs → has set m ≡ true)
     → ((m : ℕ) (log : LogLists) → slice_get logs m ≡ Some log → AllStand o log.entries)
     → AreAllAlong (entries_on_logs logs) → IsRefusedFor o (of_set logs set) why → why ≡ AgesUsedUp
 all-pass o logs set why least most long all stand along = holders-pass o logs set why least most long all stand

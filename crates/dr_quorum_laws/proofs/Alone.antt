@@ -1,33 +1,22 @@
 -- Logs on which nothing stands but what tries have left: they hold after a further one.
 use Rattle.std.proofs.Common.{◌≡◌, refl, ap, sym, ◌∙◌, ◌⊎◌, inl, inr, subst, ℕ, ◌+◌, ◌<◌, arith, true, List, [], ◌∷◌, ◌++◌, length, take, drop, Contains, Some, slice_get, append_assoc}
 use Rattle.std.proofs.lemmas.Option.{none-some, same_Some}
-use Rattle.dr_entry.specs.declared.entry.Entry.{Entry}
-use Rattle.dr_entry.specs.declared.entry.Entry.TheVariants.{View}
-use Rattle.dr_history.proofs.Following.{view_of-nil}
-use Rattle.dr_history.proofs.ViewLemmas.{view_of-View}
-use Rattle.dr_history.specs.declared.opening.Opening.{Opening}
-use Rattle.dr_history.specs.History.{GroupView, IsPrefixOf, view_of}
-use Rattle.dr_history.specs.Restarting.{AllStand}
-use Rattle.dr_history.specs.Soundness.{MayStand, whole_roster}
-use Rattle.dr_history_laws.proofs.Lists.{slice_get-push_cases}
-use Rattle.dr_history_laws.proofs.Standing.{all-by}
+use Rattle.dr_entry.specs.declared.entry.Entry.{Entry, TheVariants.View}
+use Rattle.dr_history.specs.{History.{GroupView, IsPrefixOf, view_of}, Restarting.AllStand}
+use Rattle.dr_history.specs.{Soundness.{MayStand, whole_roster}, declared.opening.Opening.Opening}
+use Rattle.dr_history.proofs.{Following.view_of-nil, ViewLemmas.view_of-View}
+use Rattle.dr_history_laws.proofs.{Lists.slice_get-push_cases, Standing.all-by}
 use Rattle.dr_machine.specs.Group.{Group}
-use Rattle.dr_restart.specs.declared.lists.Attempt.{Attempt}
-use Rattle.dr_restart.specs.declared.lists.LogLists.{LogLists}
-use Rattle.dr_restart.specs.declared.start.Start.{Start}
 use Rattle.dr_restart.specs.Choosing.{AreOfHolders, AreOfNobody, EndsInAge, IsChosenStart, handed_of, of_set}
-use Rattle.dr_restart.specs.Groups.{first_group_of, group_of}
-use Rattle.dr_restart.specs.Left.{IsLeftByOther}
-use Rattle.dr_restart.specs.Trying.{HaveAgeVote, IsTry, age_vote_of, first_view_of}
+use Rattle.dr_restart.specs.{Groups.{first_group_of, group_of}, Left.IsLeftByOther}
+use Rattle.dr_restart.specs.{Trying.{HaveAgeVote, IsTry, age_vote_of, first_view_of}, declared.lists.Attempt.Attempt}
+use Rattle.dr_restart.specs.declared.{lists.LogLists.LogLists, start.Start.Start}
 use Rattle.dr_script.specs.declared.script.Script.{Script}
 use Rattle.dr_words.specs.Masks.{IsMajorityOf, IsPartOf}
-use Rattle.dr_quorum_laws.specs.Holding.{IsOpenedTry}
-use Rattle.dr_quorum_laws.specs.Lasting.{HoldTriesAlone}
+use Rattle.dr_quorum_laws.specs.{Holding.IsOpenedTry, Lasting.HoldTriesAlone}
 use Rattle.dr_quorum_laws.proofs.Grown.{IsBroughtUp, entries-case, last-opened, more-opened, old-log, opened-cases}
-use Rattle.dr_quorum_laws.proofs.Handing.{handed-part, quorum-meets, set-log}
-use Rattle.dr_quorum_laws.proofs.Lists.{in-nothing, last-of, read-in, split-last}
-use Rattle.dr_quorum_laws.proofs.Missing.{around, try-sound}
-use Rattle.dr_quorum_laws.proofs.Tried.{each-try, front_case}
+use Rattle.dr_quorum_laws.proofs.{Handing.{handed-part, quorum-meets, set-log}, Missing.{around, try-sound}}
+use Rattle.dr_quorum_laws.proofs.{Lists.{in-nothing, last-of, read-in, split-last}, Tried.{each-try, front_case}}
 
 -- ---- opened tries
 
@@ -51,16 +40,14 @@ one-try tries one other rise (i, at, o) (j, here, p) same = by (apart i j)
 
 -- the entries are the start of an opened try and its View
 abbrev pub EndInTry : List Attempt → List Entry → Type 0
-EndInTry tries es =
-    (try : Attempt) × IsOpenedTry tries try × (es ≡ try.start.entries ++ first_view_of try.start ∷ [])
+EndInTry tries es = (try : Attempt) × IsOpenedTry tries try × (es ≡ try.start.entries ++ first_view_of try.start ∷ [])
 
 -- then the last View is of its age
 pub age-of-try : (tries : List Attempt) (log : LogLists) (age : ℕ) (t : EndInTry tries log.entries)
     → EndsInAge log age → age ≡ t.0.start.age
 age-of-try tries log age t ends =
     let last = view_of-View t.0.start.entries t.0.start.age 0 t.0.start.members in
-    sym ends.2 ∙ ap (λ (v : GroupView). v.age)
-    (same_Some ends.0 _ (sym ends.1 ∙ ap view_of t.2 ∙ last))
+    sym ends.2 ∙ ap (λ (v : GroupView). v.age) (same_Some ends.0 _ (sym ends.1 ∙ ap view_of t.2 ∙ last))
 
 -- so two that end in the same age are equal
 pub same-ends : (tries : List Attempt) (f g : LogLists) (age : ℕ) → AgesRise tries → EndInTry tries f.entries
@@ -104,9 +91,8 @@ pub alone-stand : (o : Opening) (tries : List Attempt) (logs : List LogLists) (m
 alone-stand o tries logs m log held at i e here =
     let t = view-at o tries logs m i log e held at here in
     let sound = held.sound t.1.0 t.0 t.1.1 in
-    subst (MayStand o (take i log.entries)) (sym t.2)
-    (subst (λ es. MayStand o es (first_view_of t.0.start)) (sym t.3)
-    (sound.members, inl (record { later = sound.later; first = refl })))
+    subst (MayStand o (take i log.entries)) (sym t.2) (subst (λ es. MayStand o es (first_view_of t.0.start))
+    (sym t.3) (sound.members, inl (record { later = sound.later; first = refl })))
 
 -- a start that is chosen of the logs is of an age above those of all opened tries
 pub alone-after : (o : Opening) (tries : List Attempt) (logs : List LogLists) (set : ℕ) (start : Start) (try : Attempt)
@@ -125,8 +111,7 @@ alone-below : (o : Opening) (tries : List Attempt) (logs : List LogLists) (set :
 alone-below o tries logs set start m a n k log held c at on =
     let r = read-in log.entries (View a n k) on in
     let t = view-at o tries logs m r.0 log (View a n k) held at r.1 in
-    let same : a ≡ t.0.start.age = cc (t.2) in
-    omega (arith, alone-after o tries logs set start t.0 held c t.1, same)
+    let same : a ≡ t.0.start.age = cc (t.2) in omega (arith, alone-after o tries logs set start t.0 held c t.1, same)
 
 -- and the logs are such as a member leaves that isn't there in that age
 pub alone-others : (script : Script) (tries : List Attempt) (logs : List LogLists) (set : ℕ) (start : Start) (m : ℕ)
@@ -162,8 +147,7 @@ alone-tried g tries before after try held t = record {
   sound = try-sound g.opening before after tries try held.sound t;
   part = λ k one at. each-try (λ a. IsPartOf a.set (whole_roster g.opening)) tries try one k held.part
       (subst (λ mask. IsPartOf mask (whole_roster g.opening)) (sym set)
-      (handed-part (of_set before try.set) (whole_roster g.opening)))
-      (slice_get-push_cases tries try one k at);
+      (handed-part (of_set before try.set) (whole_roster g.opening))) (slice_get-push_cases tries try one k at);
   majority = λ k one at. each-try (λ a. IsMajorityOf a.set (whole_roster g.opening)) tries try one k held.majority
       (subst (λ mask. IsMajorityOf mask (whole_roster g.opening)) (sym set) t.choice.quorum)
       (slice_get-push_cases tries try one k at);
@@ -200,15 +184,13 @@ alone-tried g tries before after try held t = record {
         more front e (held.views m old front behind e was (sym same ∙ is))
     views m old log front behind e was is (inr up) = by (front_case try.start log.entries up.2)
       where
-        last : ((front ≡ try.start.entries) × (e ≡ first_view_of try.start))
-            ⊎ ((rest : List Entry) × (try.start.entries ≡ front ++ e ∷ rest))
-            → IsViewBehind (tries ++ try ∷ []) front e
+        last : ((front ≡ try.start.entries) × (e ≡ first_view_of try.start)) ⊎ ((rest : List Entry)
+            × (try.start.entries ≡ front ++ e ∷ rest)) → IsViewBehind (tries ++ try ∷ []) front e
         last (inl r) = (try, last-opened tries try up.0, r.1, r.0)
         last (inr r) = within front r.0 e r.1
 
-        by : IsPrefixOf log.entries try.start.entries
-            ⊎ (log.entries ≡ try.start.entries ++ first_view_of try.start ∷ [])
-            → IsViewBehind (tries ++ try ∷ []) front e
+        by : IsPrefixOf log.entries try.start.entries ⊎ (log.entries ≡ try.start.entries
+            ++ first_view_of try.start ∷ []) → IsViewBehind (tries ++ try ∷ []) front e
         by (inl q) = within front (behind ++ q.0) e
             (sym q.1 ∙ ap (λ l. l ++ q.0) is ∙ append_assoc front (e ∷ behind) q.0)
         by (inr q) = last (split-last front behind try.start.entries e (first_view_of try.start) (sym is ∙ q))
@@ -221,10 +203,9 @@ alone-tried g tries before after try held t = record {
     voted one opened (inr (same, o)) = subst (λ (a : Attempt). HaveAgeVote after a.set a.start) same
         (t.opened (ap (λ (a : Attempt). a.opened) same ∙ o))
 
-    rising : (i j : ℕ) (one other : Attempt) → i < j → one.opened ≡ true → other.opened ≡ true
-        → ((i < length tries) × (slice_get tries i ≡ Some one)) ⊎ ((i ≡ length tries) × (try ≡ one))
-        → ((j < length tries) × (slice_get tries j ≡ Some other)) ⊎ ((j ≡ length tries) × (try ≡ other))
-        → one.start.age < other.start.age
+    rising : (i j : ℕ) (one other : Attempt) → i < j → one.opened ≡ true → other.opened ≡ true → ((i < length tries)
+        × (slice_get tries i ≡ Some one)) ⊎ ((i ≡ length tries) × (try ≡ one)) → ((j < length tries)
+        × (slice_get tries j ≡ Some other)) ⊎ ((j ≡ length tries) × (try ≡ other)) → one.start.age < other.start.age
     rising i j one other l o p (inl (within, at)) (inl (less, here)) = held.rising i j one other l at o here p
     rising i j one other l o p (inl (within, at)) (inr (last, same)) =
         subst (λ (a : Attempt). one.start.age < a.start.age) same (after_all one (i, at, o))

@@ -2,22 +2,14 @@
 use Rattle.std.proofs.Common.{◌≡◌, refl, ap, sym, ◌∙◌, inl, inr, subst, ℕ, ◌≤◌, arith, Bool, true, false, List, [], length, take, drop, Some, slice_get, append-nil, length-take, take-append-drop}
 use Rattle.std.proofs.lemmas.Option.{none-some, same_Some}
 use Rattle.dr_entry.specs.declared.entry.Entry.{Entry}
-use Rattle.dr_history.specs.History.{IsPrefixOf}
-use Rattle.dr_history.specs.Members.{has}
-use Rattle.dr_history.specs.Order.{first_entries}
-use Rattle.dr_history.specs.Soundness.{whole_roster}
-use Rattle.dr_history_laws.proofs.Keeping.{prefix_beside, prefix_then}
-use Rattle.dr_history_laws.proofs.Lists.{take-prefix}
-use Rattle.dr_machine.specs.Group.{Group, IsGroup, IsPresent}
-use Rattle.dr_machine.specs.World.{World}
-use Rattle.dr_restart.specs.declared.lists.LogLists.{LogLists}
-use Rattle.dr_words.proofs.Majorities.{majorities_meet_lem}
-use Rattle.dr_words.specs.Masks.{IsMajorityOf, IsPartOf}
+use Rattle.dr_history.specs.{History.IsPrefixOf, Members.has, Order.first_entries, Soundness.whole_roster}
+use Rattle.dr_history_laws.proofs.{Keeping.{prefix_beside, prefix_then}, Lists.take-prefix}
+use Rattle.dr_machine.specs.{Group.{Group, IsGroup, IsPresent}, World.World}
+use Rattle.dr_restart.specs.{Left.{AreLeft, votes_of_age}, declared.lists.LogLists.LogLists}
+use Rattle.dr_words.{specs.Masks.{IsMajorityOf, IsPartOf}, proofs.Majorities.majorities_meet_lem}
 use Rattle.dr_world_laws.proofs.Worlds.{Known, agreed}
-use Rattle.dr_quorum_laws.specs.Holding.{HoldSince, IsLongestHistory, IsOfAgeOrEarlier}
-use Rattle.dr_restart.specs.Left.{AreLeft, votes_of_age}
+use Rattle.dr_quorum_laws.{specs.Holding.{HoldSince, IsLongestHistory, IsOfAgeOrEarlier}, proofs.Handing.left-entries}
 use Rattle.dr_quorum_laws.proofs.Ended.{first-begins, first-durable, first-in, longest-history, own-durable}
-use Rattle.dr_quorum_laws.proofs.Handing.{left-entries}
 
 -- where more than half of the roster is there, somebody is
 pub somebody-there : (g : Group) → IsPartOf g.opening.present (whole_roster g.opening)
@@ -54,8 +46,7 @@ left-held g w choice is y part most left = record {
     longest : (history : List Entry) × IsLongestHistory g w history
     longest = let i = somebody-there g part most in longest-history g w i.0 is y i.1
 
-    same : (m : ℕ) (was log : LogLists) → slice_get choice m ≡ Some was → slice_get choice m ≡ Some log
-        → log ≡ was
+    same : (m : ℕ) (was log : LogLists) → slice_get choice m ≡ Some was → slice_get choice m ≡ Some log → log ≡ was
     same m was log at here = same_Some log was (sym here ∙ at)
 
     entries : (m : ℕ) (log : LogLists) → IsPresent g m → slice_get choice m ≡ Some log
@@ -68,16 +59,14 @@ left-held g w choice is y part most left = record {
     begins m d was log there at here l =
         let e = entries m was there at in
         subst (λ (x : LogLists). IsPrefixOf (take d longest.0) x.entries) (sym (same m was log at here))
-        (subst (λ es. IsPrefixOf es was.entries)
-        (sym (take-prefix was.entries longest.0 d
+        (subst (λ es. IsPrefixOf es was.entries) (sym (take-prefix was.entries longest.0 d
         (prefix_then was.entries (w.past.history m) longest.0 e.1 (longest.1.longest m there)) l))
         (drop d was.entries, take-append-drop d was.entries))
 
     grown : (m : ℕ) (log : LogLists) → slice_get choice m ≡ Some log → (b : Bool)
         → has g.opening.present m ≡ b → IsOfAgeOrEarlier g longest.0 [] log
     grown m log at false e =
-        let t = left.others m log (λ there. absurd (cc (there, e))) at in
-        inr (t.stands, t.earlier)
+        let t = left.others m log (λ there. absurd (cc (there, e))) at in inr (t.stands, t.earlier)
     grown m log at true e =
         let t = entries m log e at in
         let first : IsPrefixOf (first_entries g.opening) log.entries =

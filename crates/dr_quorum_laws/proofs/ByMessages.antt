@@ -1,13 +1,11 @@
 -- What logs make goes by the messages of an opening alone.
 use Rattle.std.proofs.Common.{◌≡◌, refl, ◌⊎◌, inl, inr, subst, ℕ, List, take, None, Some}
 use Rattle.dr_entry.specs.declared.entry.Entry.{Entry}
-use Rattle.dr_history.specs.declared.opening.Opening.{Opening}
-use Rattle.dr_history.specs.Restarting.{AllStand, IsForeignAt}
+use Rattle.dr_history.specs.{Restarting.{AllStand, IsForeignAt}, declared.opening.Opening.Opening}
 use Rattle.dr_history_laws.proofs.Standing.{stands-by}
-use Rattle.dr_restart.specs.declared.start.Start.{Start}
 use Rattle.dr_restart.specs.Choosing.{AreOfHolders, AreOfNobody, Handed, IsChosenStart}
 use Rattle.dr_restart.specs.Refusing.{HaveNothingForeign, IsRefusedFor, Refusal}
-use Rattle.dr_restart.specs.Refusing.Refusal.{AgesUsedUp, Disagree, Foreign, NoQuorum}
+use Rattle.dr_restart.specs.{Refusing.Refusal.{AgesUsedUp, Disagree, Foreign, NoQuorum}, declared.start.Start.Start}
 
 -- an opening with the messages of another
 abbrev with_messages : Opening → List (List (List ℕ)) → Opening
@@ -27,8 +25,7 @@ held-so o p h es x = record {
 stand-so : (o p : Opening) (es : List Entry) → AllStand (with_messages o p.messages) es → AllStand p es
 stand-so o p es all i e at = stands-by (with_messages o p.messages) p (take i es) e refl (all i e at)
 
-sound-so : (o p : Opening) (h : Handed) → HaveNothingForeign (with_messages o p.messages) h
-    → HaveNothingForeign p h
+sound-so : (o p : Opening) (h : Handed) → HaveNothingForeign (with_messages o p.messages) h → HaveNothingForeign p h
 sound-so o p h sound m log at = stand-so o p log.entries (sound m log at)
 
 start-so : (o p : Opening) (h : Handed) (start : Start) → IsChosenStart (with_messages o p.messages) h start
@@ -72,8 +69,7 @@ refused-so o p h (Foreign m place) x = record {
   foreign = foreign-so o p x.log.entries place x.foreign;
 }
 refused-so o p h (NoQuorum None have need) x = (sound-so o p h x.0, x.1)
-refused-so o p h (NoQuorum (Some v) have need) x =
-    ((sound-so o p h x.0.0, x.0.1), x.1, x.2, x.3, x.4, x.5, x.6)
+refused-so o p h (NoQuorum (Some v) have need) x = ((sound-so o p h x.0.0, x.0.1), x.1, x.2, x.3, x.4, x.5, x.6)
 refused-so o p h (Disagree a b place) x = ((sound-so o p h x.0.0, x.0.1), x.1, x.2, x.3)
 refused-so o p h AgesUsedUp x = ((sound-so o p h x.0.0, x.0.1), x.1, x.2, x.3, x.4, x.5)
 

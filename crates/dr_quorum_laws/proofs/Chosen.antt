@@ -1,26 +1,19 @@
 -- What a choice keeps: the start that held logs make, whichever are handed in, keeps all that was durable.
 use Rattle.std.proofs.Common.{◌≡◌, refl, ap, sym, ◌∙◌, ◌⊎◌, inl, inr, subst, ℕ, ◌<◌, ◌≤◌, arith, true, List, [], ◌∷◌, ◌++◌, length, take, drop, Contains, Some, slice_get, append-nil, append_assoc, take-append-drop}
 use Rattle.std.proofs.lemmas.Option.{none-some}
-use Rattle.dr_entry.specs.declared.entry.Entry.{Entry}
-use Rattle.dr_entry.specs.declared.entry.Entry.TheVariants.{View}
-use Rattle.dr_history.specs.History.{IsPrefixOf}
-use Rattle.dr_history.specs.Members.{has}
-use Rattle.dr_history.specs.Soundness.{whole_roster}
+use Rattle.dr_entry.specs.declared.entry.Entry.{Entry, TheVariants.View}
+use Rattle.dr_history.specs.{History.IsPrefixOf, Members.has, Soundness.whole_roster}
 use Rattle.dr_history_laws.proofs.Keeping.{prefix_beside, prefix_shorter}
 use Rattle.dr_history_laws.proofs.Lists.{slice_get-prefix, slice_get-push_cases, slice_get-seam}
-use Rattle.dr_machine.specs.Group.{Group, IsPresent, roster}
-use Rattle.dr_machine.specs.World.{World}
-use Rattle.dr_restart.specs.declared.lists.Attempt.{Attempt}
-use Rattle.dr_restart.specs.declared.lists.LogLists.{LogLists}
-use Rattle.dr_restart.specs.declared.start.Start.{Start}
+use Rattle.dr_machine.specs.{Group.{Group, IsPresent, roster}, World.World}
 use Rattle.dr_restart.specs.Choosing.{AreFirst, AreOfHolders, AreOfNobody, EndsInAge, HasQuorum, IsChosenStart, of_set, on_path}
-use Rattle.dr_restart.specs.Trying.{age_vote_of, first_view_of}
+use Rattle.dr_restart.specs.{Trying.{age_vote_of, first_view_of}, declared.lists.{Attempt.Attempt, LogLists.LogLists}}
+use Rattle.dr_restart.specs.declared.start.Start.{Start}
 use Rattle.dr_world_laws.specs.Views.{HasView}
 use Rattle.dr_quorum_laws.specs.Holding.{GoesOnFrom, IsKeptBy, IsOfAgeOrEarlier, IsOpenedTry, KeepsDurable}
 use Rattle.dr_quorum_laws.proofs.Ended.{durable-delivered, durable-front, durable-since, first-in, no-later, view-present}
 use Rattle.dr_quorum_laws.proofs.Handing.{Since, durable-there, first-there, quorum-meets, quorum-some, set-log}
-use Rattle.dr_quorum_laws.proofs.LastViews.{last-view, view-come, view-late}
-use Rattle.dr_quorum_laws.proofs.Lists.{last-of, prefix-in}
+use Rattle.dr_quorum_laws.proofs.{LastViews.{last-view, view-come, view-late}, Lists.{last-of, prefix-in}}
 use Rattle.dr_quorum_laws.proofs.Paths.{path-has}
 
 -- ---- which logs there are
@@ -35,9 +28,8 @@ met g w choice logs tries set start s c =
 
 -- the log of a member that was there ends in an age no earlier than that one
 ends_late : (g : Group) (w : World) (choice logs : List LogLists) (tries : List Attempt) (set : ℕ) (start : Start)
-    → Since g w choice tries logs → IsChosenStart g.opening (of_set logs set) start
-    → (i : ℕ) (log : LogLists) → IsPresent g i → of_set logs set i ≡ Some log
-    → (a : ℕ) × EndsInAge log a × (g.opening.age ≤ a)
+    → Since g w choice tries logs → IsChosenStart g.opening (of_set logs set) start → (i : ℕ) (log : LogLists)
+    → IsPresent g i → of_set logs set i ≡ Some log → (a : ℕ) × EndsInAge log a × (g.opening.age ≤ a)
 ends_late g w choice logs tries set start s c i log there handed =
     let first = first-in g log.entries
     (first-there g w choice logs tries s i log there (set-log logs set i log handed).1) in
@@ -60,12 +52,10 @@ history-none g w choice logs tries s a n k c =
 -- where the holders' age is that of the ended one, a holder without a View of a try is so long as all that is
 -- durable
 whole_front : (g : Group) (w : World) (choice logs : List LogLists) (tries : List Attempt) (set : ℕ) (start : Start)
-    (s : Since g w choice tries logs) → IsChosenStart g.opening (of_set logs set) start
-    → (h : AreOfHolders g.opening (of_set logs set) start.entries) → h.age ≡ g.opening.age
-    → IsPrefixOf start.entries s.held.history → (m : ℕ) → IsPresent g m
-    → IsPrefixOf (take (w.past.durable m) (w.past.history m)) start.entries
-whole_front g w choice logs tries set start s c h same front m there =
-    subst (λ es. IsPrefixOf es start.entries)
+    (s : Since g w choice tries logs) → IsChosenStart g.opening (of_set logs set) start → (h : AreOfHolders g.opening
+    (of_set logs set) start.entries) → h.age ≡ g.opening.age → IsPrefixOf start.entries s.held.history
+    → (m : ℕ) → IsPresent g m → IsPrefixOf (take (w.past.durable m) (w.past.history m)) start.entries
+whole_front g w choice logs tries set start s c h same front m there = subst (λ es. IsPrefixOf es start.entries)
     (durable-front g w s.held.history m s.group s.known s.held.longest there
     (durable-delivered g w m s.group s.known there))
     (prefix_beside (take d s.held.history) start.entries s.held.history
@@ -86,8 +76,7 @@ whole_front g w choice logs tries set start s c h same front m there =
         let is : e.0 ≡ g.opening.age = omega (arith, e.2, most, same) in (
           t.2.entries,
           (t.0, t.2, t.3, subst (EndsInAge t.2) is e.1, refl),
-          first-in g t.2.entries (first-there g w choice logs tries s t.0 t.2 t.1
-              (set-log logs set t.0 t.2 t.3).1),
+          first-in g t.2.entries (first-there g w choice logs tries s t.0 t.2 t.1 (set-log logs set t.0 t.2 t.3).1),
         )
 
     quorums : (u mask : ℕ) → on_path (of_set logs set) (roster g) g.opening.age g.opening.members u ≡ Some mask
@@ -121,16 +110,14 @@ whole_front g w choice logs tries set start s c h same front m there =
 -- ---- the ages
 
 -- the new age is above the one that has ended
-pub age-later : (g : Group) (w : World) (choice logs : List LogLists) (tries : List Attempt) (set : ℕ)
-    (start : Start) → Since g w choice tries logs → IsChosenStart g.opening (of_set logs set) start
-    → g.opening.age < start.age
+pub age-later : (g : Group) (w : World) (choice logs : List LogLists) (tries : List Attempt) (set : ℕ) (start : Start)
+    → Since g w choice tries logs → IsChosenStart g.opening (of_set logs set) start → g.opening.age < start.age
 age-later g w choice logs tries set start s c =
     let t = met g w choice logs tries set start s c in
     c.age.above t.0 g.opening.age t.2 t.3 (inl (
       0,
       g.opening.members,
-      first-in g t.2.entries
-          (first-there g w choice logs tries s t.0 t.2 t.1 (set-log logs set t.0 t.2 t.3).1),
+      first-in g t.2.entries (first-there g w choice logs tries s t.0 t.2 t.1 (set-log logs set t.0 t.2 t.3).1),
     ))
 
 -- and above those of all opened tries
@@ -150,17 +137,15 @@ pub opened-before : (tries : List Attempt) (k : ℕ) (try : Attempt) → IsOpene
     → IsOpenedTry tries try
 opened-before tries k try (i, e, o) = (
   i,
-  slice_get-prefix (take k tries) tries i try
-      (drop k tries, take-append-drop k tries) e,
+  slice_get-prefix (take k tries) tries i try (drop k tries, take-append-drop k tries) e,
   o,
 )
 
 -- a holder that ends in the View of an opened try has the try's start before it
 by_try : (g : Group) (w : World) (choice logs : List LogLists) (tries : List Attempt)
     (s : Since g w choice tries logs) (m : ℕ) (log : LogLists) (before : List Entry) (x : Entry)
-    → slice_get logs m ≡ Some log → log.entries ≡ before ++ x ∷ []
-    → (try : Attempt) × IsOpenedTry tries try × (x ≡ first_view_of try.start)
-    → KeepsDurable g w s.held.history tries log.entries
+    → slice_get logs m ≡ Some log → log.entries ≡ before ++ x ∷ [] → (try : Attempt)
+    × IsOpenedTry tries try × (x ≡ first_view_of try.start) → KeepsDurable g w s.held.history tries log.entries
 by_try g w choice logs tries s m log before x at is (try, opened, same) = record {
   front = old.front;
   goes = record {
@@ -168,8 +153,7 @@ by_try g w choice logs tries s m log before x at is (try, opened, same) = record
     is = whole ∙ ap (λ es. es ++ first_view_of try.start ∷ []) (started ∙ old.goes.is)
         ∙ append_assoc old.front old.goes.views (first_view_of try.start ∷ []);
     delivered = old.goes.delivered;
-    opened = λ k e h. views k e (slice_get-push_cases old.goes.views
-        (first_view_of try.start) e k h);
+    opened = λ k e h. views k e (slice_get-push_cases old.goes.views (first_view_of try.start) e k h);
   };
   durable = old.durable;
 }
@@ -183,8 +167,7 @@ by_try g w choice logs tries s m log before x at is (try, opened, same) = record
     old : KeepsDurable g w s.held.history (take opened.0 tries) try.start.entries
     old = s.held.kept opened.0 try opened.1
 
-    views : (k : ℕ) (e : Entry)
-        → ((k < length old.goes.views) × (slice_get old.goes.views k ≡ Some e))
+    views : (k : ℕ) (e : Entry) → ((k < length old.goes.views) × (slice_get old.goes.views k ≡ Some e))
         ⊎ ((k ≡ length old.goes.views) × (first_view_of try.start ≡ e))
         → (t : Attempt) × IsOpenedTry tries t × (e ≡ first_view_of t.start)
     views k e (inl (l, h)) =
@@ -192,10 +175,9 @@ by_try g w choice logs tries s m log before x at is (try, opened, same) = record
     views k e (inr (l, h)) = (try, opened, sym h)
 
 -- a holder is a log that goes on from a front of the history
-holder_goes : (g : Group) (w : World) (choice logs : List LogLists) (tries : List Attempt) (set : ℕ)
-    (start : Start) (s : Since g w choice tries logs) → IsChosenStart g.opening (of_set logs set) start
-    → (h : AreOfHolders g.opening (of_set logs set) start.entries) → (m : ℕ) (log : LogLists)
-    → of_set logs set m ≡ Some log → EndsInAge log h.age
+holder_goes : (g : Group) (w : World) (choice logs : List LogLists) (tries : List Attempt) (set : ℕ) (start : Start)
+    (s : Since g w choice tries logs) → IsChosenStart g.opening (of_set logs set) start → (h : AreOfHolders g.opening
+    (of_set logs set) start.entries) → (m : ℕ) (log : LogLists) → of_set logs set m ≡ Some log → EndsInAge log h.age
     → (g.opening.age ≤ h.age) × (front : List Entry) × GoesOnFrom s.held.history tries front log.entries
 holder_goes g w choice logs tries set start s c h m log handed ends =
     by (s.held.grown m log (set-log logs set m log handed).1)
@@ -211,14 +193,12 @@ holder_goes g w choice logs tries set start s c h m log handed ends =
     by (inl t) = (late, t.1, t.2)
     by (inr t) =
         let last = last-view log.entries ends.0 ends.1 in
-        let early = t.1.views ends.0.age ends.0.number last.0 last.1 in
-        absurd (omega (arith, early, ends.2, late))
+        let early = t.1.views ends.0.age ends.0.number last.0 last.1 in absurd (omega (arith, early, ends.2, late))
 
 -- so its entries keep all that was durable
-holder_keeps : (g : Group) (w : World) (choice logs : List LogLists) (tries : List Attempt) (set : ℕ)
-    (start : Start) (s : Since g w choice tries logs) → IsChosenStart g.opening (of_set logs set) start
-    → (h : AreOfHolders g.opening (of_set logs set) start.entries)
-    → KeepsDurable g w s.held.history tries start.entries
+holder_keeps : (g : Group) (w : World) (choice logs : List LogLists) (tries : List Attempt) (set : ℕ) (start : Start)
+    (s : Since g w choice tries logs) → IsChosenStart g.opening (of_set logs set) start → (h : AreOfHolders g.opening
+    (of_set logs set) start.entries) → KeepsDurable g w s.held.history tries start.entries
 holder_keeps g w choice logs tries set start s c h =
     subst (KeepsDurable g w s.held.history tries) (sym h.held.4) (by (last-of t.2.views))
   where
@@ -257,8 +237,7 @@ holder_keeps g w choice logs tries set start s c h =
         }
     by (inr (vs, x, e)) = by_try g w choice logs tries s h.held.0 h.held.1 (t.1 ++ vs) x here
         (t.2.is ∙ ap (λ l. t.1 ++ l) e ∙ sym (append_assoc t.1 vs (x ∷ [])))
-        (t.2.opened (length vs) x (ap (λ l. slice_get l (length vs)) e
-        ∙ slice_get-seam vs x []))
+        (t.2.opened (length vs) x (ap (λ l. slice_get l (length vs)) e ∙ slice_get-seam vs x []))
 
 -- ---- the start
 

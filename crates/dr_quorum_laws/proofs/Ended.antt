@@ -1,34 +1,19 @@
 -- What is known of the members of an age that has ended, or goes on: their histories, the views of these, and
 -- what is durable.
 use Rattle.std.proofs.Common.{◌≡◌, refl, sym, ◌∙◌, ◌⊎◌, inl, inr, subst, ℕ, zero, suc, ◌+◌, ◌<◌, ◌≤◌, arith, Bool, true, false, List, [], ◌∷◌, length, take, All, Contains, append-nil}
-use Rattle.std.proofs.lemmas.List.Elements.{All-contains, Contains-append_cases}
-use Rattle.std.proofs.lemmas.Bool.{cases_lt}
-use Rattle.dr_entry.specs.declared.entry.Entry.{Entry}
-use Rattle.dr_entry.specs.declared.entry.Entry.TheVariants.{View}
+use Rattle.std.proofs.lemmas.{Bool.cases_lt, List.Elements.{All-contains, Contains-append_cases}}
+use Rattle.dr_entry.specs.declared.entry.Entry.{Entry, TheVariants.View}
 use Rattle.dr_faithful.specs.Chosen.{views_by}
-use Rattle.dr_history.specs.History.{IsPrefixOf}
-use Rattle.dr_history.specs.Members.{has}
-use Rattle.dr_history.specs.Order.{first_entries}
+use Rattle.dr_history.specs.{Agreement.sent_by, History.IsPrefixOf, Members.has, Order.first_entries}
 use Rattle.dr_history.specs.Restarting.{AllStand}
-use Rattle.dr_history_laws.proofs.Keeping.{prefix_shorter, prefix_then}
-use Rattle.dr_history_laws.proofs.Lists.{take-prefix}
-use Rattle.dr_history_laws.proofs.Standing.{history-stands}
-use Rattle.dr_machine.proofs.Presence.{in_roster, late_few}
-use Rattle.dr_machine.specs.Group.{Group, IsGroup, IsPresent, roster}
+use Rattle.dr_history_laws.proofs.{Keeping.{prefix_shorter, prefix_then}, Lists.take-prefix, Standing.history-stands}
+use Rattle.dr_machine.specs.{Group.{Group, IsGroup, IsPresent, roster}, Run.{Way, WorldAgreed, accounts_in}}
+use Rattle.dr_machine.{specs.World.{World, opening_world}, proofs.Presence.{in_roster, late_few}}
 use Rattle.dr_machine.proofs.Runs.{is_before, is_last}
-use Rattle.dr_machine.specs.Run.{Way, WorldAgreed, accounts_in}
-use Rattle.dr_machine.specs.World.{World, opening_world}
-use Rattle.dr_history.specs.Agreement.{sent_by}
-use Rattle.dr_world_laws.proofs.ChosenViews.{views-first, views-there}
-use Rattle.dr_world_laws.proofs.HeldViews.{view-is}
-use Rattle.dr_world_laws.proofs.Holding.{view-held}
-use Rattle.dr_world_laws.proofs.Rooms.{view-below}
-use Rattle.dr_world_laws.proofs.Telling.{has-view}
-use Rattle.dr_world_laws.proofs.Worlds.{Known, agreed, holds_messages, past_since}
-use Rattle.dr_world_laws.specs.Historic.{HoldsMessages, IsOfAge}
-use Rattle.dr_world_laws.specs.Views.{HasView}
-use Rattle.dr_quorum_laws.specs.Holding.{IsLongestHistory}
-use Rattle.dr_quorum_laws.proofs.LastViews.{start-earlier}
+use Rattle.dr_world_laws.{specs.Historic.{HoldsMessages, IsOfAge}, proofs.ChosenViews.{views-first, views-there}}
+use Rattle.dr_world_laws.{specs.Views.HasView, proofs.{Holding.view-held, Rooms.view-below, Telling.has-view}}
+use Rattle.dr_world_laws.proofs.{HeldViews.view-is, Worlds.{Known, agreed, holds_messages, past_since}}
+use Rattle.dr_quorum_laws.{specs.Holding.IsLongestHistory, proofs.LastViews.start-earlier}
 use Rattle.dr_quorum_laws.proofs.Lists.{in-cases, in-nothing, in-split, prefix-in}
 
 -- ---- the first entries
@@ -69,8 +54,7 @@ no-later g w m a n k is y there c = by (holds_messages g w m is y (in_roster g m
     last : Contains (View g.opening.age 0 g.opening.members ∷ []) (View a n k) → a ≤ g.opening.age
     last c = one (in-cases (View g.opening.age 0 g.opening.members) (View a n k) [] c)
       where
-        one : (View g.opening.age 0 g.opening.members ≡ View a n k) ⊎ Contains [] (View a n k)
-            → a ≤ g.opening.age
+        one : (View g.opening.age 0 g.opening.members ≡ View a n k) ⊎ Contains [] (View a n k) → a ≤ g.opening.age
         one (inl e) = let same : g.opening.age ≡ a = cc in omega (arith, same)
         one (inr h) = absurd (in-nothing (View a n k) h)
 
@@ -84,8 +68,7 @@ no-later g w m a n k is y there c = by (holds_messages g w m is y (in_roster g m
     rest more all (inl h) = first (Contains-append_cases g.opening.start
         (View g.opening.age 0 g.opening.members ∷ []) (View a n k) h)
     rest more all (inr h) =
-        let t : IsOfAge g (View a n k) = All-contains (IsOfAge g) more (View a n k) all h in
-        omega (arith, t.0)
+        let t : IsOfAge g (View a n k) = All-contains (IsOfAge g) more (View a n k) all h in omega (arith, t.0)
 
     by : HoldsMessages g (w.past.history m) → a ≤ g.opening.age
     by (more, e, all) = rest more all (Contains-append_cases (first_entries g.opening) more (View a n k)
@@ -94,10 +77,8 @@ no-later g w m a n k is y there c = by (holds_messages g w m is y (in_roster g m
 -- ---- the longest history
 
 -- of the members below a number that are there
-longest-below : (g : Group) (w : World) → WorldAgreed g w → (n : ℕ)
-    → ((m : ℕ) → m < n → IsPresent g m → ⊥)
-    ⊎ ((k : ℕ) × IsPresent g k
-    × ((m : ℕ) → m < n → IsPresent g m → IsPrefixOf (w.past.history m) (w.past.history k)))
+longest-below : (g : Group) (w : World) → WorldAgreed g w → (n : ℕ) → ((m : ℕ) → m < n → IsPresent g m → ⊥)
+    ⊎ ((k : ℕ) × IsPresent g k × ((m : ℕ) → m < n → IsPresent g m → IsPrefixOf (w.past.history m) (w.past.history k)))
 longest-below g w agrees zero = inl (λ m l there. absurd (omega (arith, l)))
 longest-below g w agrees (suc n) = by (has g.opening.present n) refl (longest-below g w agrees n)
   where
@@ -108,12 +89,10 @@ longest-below g w agrees (suc n) = by (has g.opening.present n) refl (longest-be
         case (inl less) = old m less
         case (inr more) = let same : n ≡ m = omega (arith, l, more) in subst P same new
 
-    two : (k : ℕ) → IsPresent g k → IsPresent g n
-        → ((m : ℕ) → m < n → IsPresent g m → IsPrefixOf (w.past.history m) (w.past.history k))
-        → IsPrefixOf (w.past.history k) (w.past.history n) ⊎ IsPrefixOf (w.past.history n) (w.past.history k)
-        → ((m : ℕ) → m < suc n → IsPresent g m → ⊥)
-        ⊎ ((k : ℕ) × IsPresent g k
-        × ((m : ℕ) → m < suc n → IsPresent g m → IsPrefixOf (w.past.history m) (w.past.history k)))
+    two : (k : ℕ) → IsPresent g k → IsPresent g n → ((m : ℕ) → m < n → IsPresent g m → IsPrefixOf (w.past.history m)
+        (w.past.history k)) → IsPrefixOf (w.past.history k) (w.past.history n)
+        ⊎ IsPrefixOf (w.past.history n) (w.past.history k) → ((m : ℕ) → m < suc n → IsPresent g m → ⊥) ⊎ ((k : ℕ)
+        × IsPresent g k × ((m : ℕ) → m < suc n → IsPresent g m → IsPrefixOf (w.past.history m) (w.past.history k)))
     two k there here old (inl p) = inr (
       n,
       here,
@@ -127,19 +106,15 @@ longest-below g w agrees (suc n) = by (has g.opening.present n) refl (longest-be
       below (λ m. IsPresent g m → IsPrefixOf (w.past.history m) (w.past.history k)) old (λ h. p),
     )
 
-    by : (b : Bool) → has g.opening.present n ≡ b
-        → ((m : ℕ) → m < n → IsPresent g m → ⊥)
-        ⊎ ((k : ℕ) × IsPresent g k
-        × ((m : ℕ) → m < n → IsPresent g m → IsPrefixOf (w.past.history m) (w.past.history k)))
-        → ((m : ℕ) → m < suc n → IsPresent g m → ⊥)
-        ⊎ ((k : ℕ) × IsPresent g k
-        × ((m : ℕ) → m < suc n → IsPresent g m → IsPrefixOf (w.past.history m) (w.past.history k)))
+    by : (b : Bool) → has g.opening.present n ≡ b → ((m : ℕ) → m < n → IsPresent g m → ⊥) ⊎ ((k : ℕ)
+        × IsPresent g k × ((m : ℕ) → m < n → IsPresent g m → IsPrefixOf (w.past.history m) (w.past.history k)))
+        → ((m : ℕ) → m < suc n → IsPresent g m → ⊥) ⊎ ((k : ℕ)
+        × IsPresent g k × ((m : ℕ) → m < suc n → IsPresent g m → IsPrefixOf (w.past.history m) (w.past.history k)))
     by false e (inl none) = inl (below (λ m. IsPresent g m → ⊥) none (λ h. absurd (cc (e, h))))
     by false e (inr t) = inr (
       t.0,
       t.1,
-      below (λ m. IsPresent g m → IsPrefixOf (w.past.history m) (w.past.history t.0)) t.2
-          (λ h. absurd (cc (e, h))),
+      below (λ m. IsPresent g m → IsPrefixOf (w.past.history m) (w.past.history t.0)) t.2 (λ h. absurd (cc (e, h))),
     )
     by true e (inl none) = inr (
       n,
@@ -153,17 +128,13 @@ pub longest-history : (g : Group) (w : World) (i : ℕ) → IsGroup g → Known 
     → (history : List Entry) × IsLongestHistory g w history
 longest-history g w i is y here = by (longest-below g w (agreed g w is y) (roster g))
   where
-    by : ((m : ℕ) → m < roster g → IsPresent g m → ⊥)
-        ⊎ ((k : ℕ) × IsPresent g k
-        × ((m : ℕ) → m < roster g → IsPresent g m → IsPrefixOf (w.past.history m) (w.past.history k)))
+    by : ((m : ℕ) → m < roster g → IsPresent g m → ⊥) ⊎ ((k : ℕ)
+        × IsPresent g k × ((m : ℕ) → m < roster g → IsPresent g m → IsPrefixOf (w.past.history m) (w.past.history k)))
         → (history : List Entry) × IsLongestHistory g w history
     by (inl none) = absurd (none i (in_roster g i is here) here)
     by (inr t) = (
       w.past.history t.0,
-      record {
-        one = (t.0, t.1, refl);
-        longest = λ m there. t.2 m (in_roster g m is there) there;
-      },
+      record { one = (t.0, t.1, refl); longest = λ m there. t.2 m (in_roster g m is there) there },
     )
 
 -- so much of it as a member knows to be durable is so much of that member's history
@@ -196,9 +167,8 @@ view-before g w v next is y h =
     )
 
 -- what a member knows to be durable stands on the logs of all members of some view that has come
-pub durable-since : (g : Group) (w : World) (m : ℕ) → IsGroup g → Known g w → IsPresent g m
-    → (v : ℕ) × (members : ℕ) × HasView g w v members
-    × ((i : ℕ) → has members i ≡ true → w.past.durable m ≤ length (w.past.log i))
+pub durable-since : (g : Group) (w : World) (m : ℕ) → IsGroup g → Known g w → IsPresent g m → (v : ℕ) × (members : ℕ)
+    × HasView g w v members × ((i : ℕ) → has members i ≡ true → w.past.durable m ≤ length (w.past.log i))
 durable-since g w m is y there =
     let safe = y.chosen.faithful.logs.safe m there in (
       safe.since,

@@ -1,30 +1,16 @@
 -- Votes with those that members may have begun to log before they ended: they still have one value.
-use Rattle.std.proofs.Common.{◌≡◌, sym, ◌⊎◌, inl, inr, subst, true, ℕ, ◌≤◌}
-use Rattle.std.proofs.lemmas.Option.{none-some}
-use Rattle.dr_entry.specs.declared.record.Value.{Value}
-use Rattle.dr_entry.specs.declared.record.Vote.{Vote}
-use Rattle.dr_faithful.proofs.Faithfulness.{past_on_event}
-use Rattle.dr_faithful.specs.Chosen.{AreChosen, Values, views_by}
-use Rattle.dr_history.specs.Members.{has}
-use Rattle.dr_history.specs.Order.{IsNewIn}
+use Rattle.std.proofs.{Common.{◌≡◌, sym, ◌⊎◌, inl, inr, subst, true, ℕ, ◌≤◌}, lemmas.Option.none-some}
+use Rattle.dr_entry.specs.declared.record.{Value.Value, Vote.Vote}
+use Rattle.dr_faithful.{specs.{Chosen.{AreChosen, Values, views_by}, Tells.Views}, proofs.Faithfulness.past_on_event}
+use Rattle.dr_history.specs.{Members.has, Order.IsNewIn}
+use Rattle.dr_machine.specs.{Effects.{logs_vote, vote_for}, Group.{Group, IsGroup, IsPresent}, Guards.CanLogVote}
+use Rattle.dr_machine.specs.{Run.PastGrew, Votes.{HasLogged, IsOf, MajorityHas}, World.World}
 use Rattle.dr_machine.specs.declared.event.Event.TheVariants.{LogVote}
-use Rattle.dr_machine.specs.Effects.{logs_vote, vote_for}
-use Rattle.dr_machine.specs.Group.{Group, IsGroup, IsPresent}
-use Rattle.dr_machine.specs.Guards.{CanLogVote}
-use Rattle.dr_machine.specs.Run.{PastGrew}
-use Rattle.dr_machine.specs.Votes.{HasLogged, IsOf, MajorityHas}
-use Rattle.dr_machine.specs.World.{World}
-use Rattle.dr_vote_laws.proofs.Cuts.{vote_cut}
-use Rattle.dr_vote_laws.proofs.Logs.{logged_new}
+use Rattle.dr_vote_laws.{specs.Voting.{HaveVotedFor, IsChosen, Voting}, proofs.{Cuts.vote_cut, Logs.logged_new}}
 use Rattle.dr_vote_laws.proofs.Values.{chosen_since, higher, somebody, vote_is}
-use Rattle.dr_vote_laws.specs.Voting.{HaveVotedFor, IsChosen, Voting}
-use Rattle.dr_faithful.specs.Tells.{Views}
-use Rattle.dr_world_laws.proofs.ChosenViews.{views-there}
-use Rattle.dr_world_laws.proofs.HeldViews.{view-is}
+use Rattle.dr_world_laws.{specs.Views.HasView, proofs.{ChosenViews.views-there, HeldViews.view-is}}
+use Rattle.dr_world_laws.proofs.{Reached.{all-go_on, event-known}, Worlds.Known}
 use Rattle.dr_world_laws.proofs.Reached as worlds
-use Rattle.dr_world_laws.proofs.Reached.{all-go_on, event-known}
-use Rattle.dr_world_laws.proofs.Worlds.{Known}
-use Rattle.dr_world_laws.specs.Views.{HasView}
 use Rattle.dr_restart.specs.Left.{MayLogVote, without_ends}
 
 -- what is known of a world is so without its ends
@@ -39,11 +25,7 @@ endless-known g values w y = record {
     counts = y.faithful.counts;
     suspicions = y.faithful.suspicions;
     accepts = y.faithful.accepts;
-    words = record {
-      own = y.faithful.words.own;
-      table = y.faithful.words.table;
-      seen = y.faithful.words.seen;
-    };
+    words = record { own = y.faithful.words.own; table = y.faithful.words.table; seen = y.faithful.words.seen };
     logs = y.faithful.logs;
     delivered = y.faithful.delivered;
     fresh = y.faithful.fresh;
@@ -125,8 +107,7 @@ left-value g w m b members x z is y held voted l = by
         let t = extra-known g y.values w m v is y.by.now y.chosen can in
         value-of g (views_by g y.values) u m b x z t.voting
         (chosen_since (views_by g y.values) w u z.view b x (extra-grew g y.values w m v is y.by.now y.chosen can)
-        chosen) l
-        (subst (HasLogged u.past.votes m) (sym e) (logged_new w.past.votes m (vote_for g w m v)))
+        chosen) l (subst (HasLogged u.past.votes m) (sym e) (logged_new w.past.votes m (vote_for g w m v)))
 
 -- whom a vote names that a member has logged, or may have begun to log, is there
 pub vote-present : (g : Group) (w : World) (m j : ℕ) (x : Vote) → IsGroup g → Known g w

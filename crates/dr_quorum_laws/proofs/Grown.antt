@@ -1,28 +1,16 @@
 -- What a try makes of one log, and which Views stand on logs that hold.
 use Rattle.std.proofs.Common.{◌≡◌, refl, ap, sym, ◌∙◌, ◌⊎◌, inl, inr, subst, ℕ, ◌<◌, arith, Bool, true, false, List, [], ◌∷◌, ◌++◌, length, take, drop, Contains, Some, slice_get, length-append, length-take, take-append-drop}
-use Rattle.std.proofs.lemmas.List.Elements.{Contains-append_cases}
-use Rattle.std.proofs.lemmas.Option.{same_Some, slice_get_within}
-use Rattle.dr_entry.specs.declared.entry.Entry.{Entry}
-use Rattle.dr_entry.specs.declared.entry.Entry.TheVariants.{View}
-use Rattle.dr_history.specs.History.{IsPrefixOf}
-use Rattle.dr_history.specs.Members.{has}
-use Rattle.dr_history.specs.Order.{first_entries}
-use Rattle.dr_history.specs.Restarting.{AllStand}
-use Rattle.dr_history_laws.proofs.Keeping.{prefix_beside, prefix_then}
+use Rattle.std.proofs.lemmas.{List.Elements.Contains-append_cases, Option.{same_Some, slice_get_within}}
+use Rattle.dr_entry.specs.declared.entry.Entry.{Entry, TheVariants.View}
+use Rattle.dr_history.specs.{History.IsPrefixOf, Members.has, Order.first_entries, Restarting.AllStand}
+use Rattle.dr_history_laws.proofs.{Keeping.{prefix_beside, prefix_then}, Views.{View-once, ViewsRise-standing}}
 use Rattle.dr_history_laws.proofs.Lists.{slice_get-prefix, slice_get-push_cases, slice_get-seam, slice_get-some}
-use Rattle.dr_history_laws.proofs.Views.{View-once, ViewsRise-standing}
-use Rattle.dr_machine.specs.Group.{Group, IsPresent}
-use Rattle.dr_machine.specs.World.{World}
-use Rattle.dr_restart.specs.declared.lists.Attempt.{Attempt}
-use Rattle.dr_restart.specs.declared.lists.LogLists.{LogLists}
-use Rattle.dr_restart.specs.declared.start.Start.{Start}
+use Rattle.dr_machine.specs.{Group.{Group, IsPresent}, World.World}
 use Rattle.dr_restart.specs.Trying.{BeginsWithCommon, IsTry, MayBeBroughtUp, MayHaveAgeVote, first_view_of}
+use Rattle.dr_restart.specs.declared.{lists.{Attempt.Attempt, LogLists.LogLists}, start.Start.Start}
 use Rattle.dr_quorum_laws.specs.Holding.{AreTheirViews, GoesOnFrom, IsKeptBy, IsOfAgeOrEarlier, IsOpenedTry}
-use Rattle.dr_quorum_laws.proofs.Beginning.{somebody-there}
-use Rattle.dr_quorum_laws.proofs.Chosen.{history-none}
-use Rattle.dr_quorum_laws.proofs.Ended.{durable-delivered, first-begins, first-durable, stands}
-use Rattle.dr_quorum_laws.proofs.Handing.{Since}
-use Rattle.dr_quorum_laws.proofs.Lists.{prefix-in, prefix-more, read-in}
+use Rattle.dr_quorum_laws.proofs.{Beginning.somebody-there, Handing.Since, Lists.{prefix-in, prefix-more, read-in}}
+use Rattle.dr_quorum_laws.proofs.{Chosen.history-none, Ended.{durable-delivered, first-begins, first-durable, stands}}
 
 -- ---- what a try makes of one log
 
@@ -34,9 +22,8 @@ old-log g before after try t m new at =
 
 -- its entries are as before, or the try was opened and they are brought up to its start
 abbrev pub IsBroughtUp : Attempt → ℕ → LogLists → LogLists → Type 0
-IsBroughtUp try m old new = (try.opened ≡ true) × (has try.set m ≡ true)
-    × IsPrefixOf new.entries (try.start.entries ++ first_view_of try.start ∷ [])
-    × BeginsWithCommon old.entries try.start.entries new.entries
+IsBroughtUp try m old new = (try.opened ≡ true) × (has try.set m ≡ true) × IsPrefixOf new.entries
+    (try.start.entries ++ first_view_of try.start ∷ []) × BeginsWithCommon old.entries try.start.entries new.entries
 
 pub entries-case : (g : Group) (before after : List LogLists) (try : Attempt) → IsTry g.opening before after try
     → (m : ℕ) (old new : LogLists) → slice_get before m ≡ Some old → slice_get after m ≡ Some new
@@ -52,10 +39,8 @@ entries-case g before after try t m old new was is = by (has try.set m) (try.ope
     up o h (inl e) = inl e
     up o h (inr p) = inr (o, h, p.0, p.1)
 
-    by : (b o : Bool) → has try.set m ≡ b → try.opened ≡ o
-        → (new.entries ≡ old.entries) ⊎ IsBroughtUp try m old new
-    by false o e f = inl (ap (λ (l : LogLists). l.entries)
-        (same_Some new old (sym is ∙ t.others m e ∙ was)))
+    by : (b o : Bool) → has try.set m ≡ b → try.opened ≡ o → (new.entries ≡ old.entries) ⊎ IsBroughtUp try m old new
+    by false o e f = inl (ap (λ (l : LogLists). l.entries) (same_Some new old (sym is ∙ t.others m e ∙ was)))
     by true false e f = inl (vote (t.waits f m old new (e, was) is))
     by true true e f = up f e (t.brought f m old new (e, was) is)
 
@@ -91,8 +76,7 @@ goes-more history tries try front entries goes = record {
 pub first-of : (g : Group) (w : World) (choice logs : List LogLists) (tries : List Attempt)
     (s : Since g w choice tries logs) (front : List Entry) (k : ℕ) → IsPrefixOf front s.held.history
     → Contains front (View g.opening.age 0 k) → IsPrefixOf (first_entries g.opening) front
-first-of g w choice logs tries s front k p c =
-    prefix_beside (first_entries g.opening) front s.held.history begins p
+first-of g w choice logs tries s front k p c = prefix_beside (first_entries g.opening) front s.held.history begins p
     (omega (arith, length-append g.opening.start (View g.opening.age 0 g.opening.members ∷ []), place, within))
   where
     one : (m : ℕ) × IsPresent g m × (w.past.history m ≡ s.held.history)
@@ -112,10 +96,9 @@ first-of g w choice logs tries s front k p c =
 
     place : at.0 ≡ length g.opening.start
     place = View-once s.held.history at.0 (length g.opening.start) g.opening.age 0 k g.opening.members
-        (ViewsRise-standing g.opening s.held.history stand)
-        (slice_get-prefix front s.held.history at.0 (View g.opening.age 0 k) p at.1)
-        (slice_get-prefix (first_entries g.opening) s.held.history (length g.opening.start)
-        (View g.opening.age 0 g.opening.members) begins
+        (ViewsRise-standing g.opening s.held.history stand) (slice_get-prefix front s.held.history at.0
+        (View g.opening.age 0 k) p at.1) (slice_get-prefix (first_entries g.opening) s.held.history
+        (length g.opening.start) (View g.opening.age 0 g.opening.members) begins
         (slice_get-seam g.opening.start (View g.opening.age 0 g.opening.members) []))
 
 -- the View of an opened try isn't it
@@ -125,16 +108,13 @@ no-first : (g : Group) (w : World) (choice logs : List LogLists) (tries : List A
 no-first g w choice logs tries s views k theirs c =
     let at = read-in views (View g.opening.age 0 k) c in
     let t = theirs at.0 (View g.opening.age 0 k) at.1 in
-    let same : g.opening.age ≡ t.0.start.age = cc (t.2) in
-    absurd (omega (arith, s.held.above t.0 t.1, same))
+    let same : g.opening.age ≡ t.0.start.age = cc (t.2) in absurd (omega (arith, s.held.above t.0 t.1, same))
 
 -- a log that holds it has all first entries
 pub first-held : (g : Group) (w : World) (choice logs : List LogLists) (tries : List Attempt)
-    (s : Since g w choice tries logs) (es front : List Entry) (k : ℕ)
-    → GoesOnFrom s.held.history tries front es → Contains es (View g.opening.age 0 k)
-    → IsPrefixOf (first_entries g.opening) es
-first-held g w choice logs tries s es front k goes c =
-    subst (IsPrefixOf (first_entries g.opening)) (sym goes.is)
+    (s : Since g w choice tries logs) (es front : List Entry) (k : ℕ) → GoesOnFrom s.held.history tries front es
+    → Contains es (View g.opening.age 0 k) → IsPrefixOf (first_entries g.opening) es
+first-held g w choice logs tries s es front k goes c = subst (IsPrefixOf (first_entries g.opening)) (sym goes.is)
     (prefix-more (first_entries g.opening) front goes.views
     (by (Contains-append_cases front goes.views (View g.opening.age 0 k)
     (subst (λ l. Contains l (View g.opening.age 0 k)) goes.is c))))
@@ -160,31 +140,27 @@ first-kept g w choice logs tries s front durable =
       length-take (w.past.durable i.0) (w.past.history i.0),
       first-durable g w i.0 s.group s.known,
       durable-delivered g w i.0 s.group s.known i.1,
-    )))
-    (durable i.0 i.1)
+    ))) (durable i.0 i.1)
 
 -- ---- ages
 
 -- every View on a log is of an age below that of the try
 pub ages-below : (g : Group) (w : World) (choice logs : List LogLists) (tries : List Attempt)
-    (s : Since g w choice tries logs) (start : Start) → IsKeptBy g w s.held.history tries start
-    → (m : ℕ) (log : LogLists) (a n k : ℕ) → slice_get logs m ≡ Some log → Contains log.entries (View a n k)
-    → a < start.age
+    (s : Since g w choice tries logs) (start : Start) → IsKeptBy g w s.held.history tries start → (m : ℕ)
+    (log : LogLists) (a n k : ℕ) → slice_get logs m ≡ Some log → Contains log.entries (View a n k) → a < start.age
 ages-below g w choice logs tries s start kept m log a n k at c = by (s.held.grown m log at)
   where
     views : (vs : List Entry) → AreTheirViews tries vs → Contains vs (View a n k) → a < start.age
     views vs theirs h =
         let r = read-in vs (View a n k) h in
         let t = theirs r.0 (View a n k) r.1 in
-        let same : a ≡ t.0.start.age = cc (t.2) in
-        omega (arith, kept.after t.0 t.1, same)
+        let same : a ≡ t.0.start.age = cc (t.2) in omega (arith, kept.after t.0 t.1, same)
 
     parts : (front : List Entry) → (x : GoesOnFrom s.held.history tries front log.entries)
         → Contains front (View a n k) ⊎ Contains x.views (View a n k) → a < start.age
     parts front x (inl h) = omega (
       arith,
-      history-none g w choice logs tries s a n k
-          (prefix-in front s.held.history (View a n k) x.delivered h),
+      history-none g w choice logs tries s a n k (prefix-in front s.held.history (View a n k) x.delivered h),
       kept.later,
     )
     parts front x (inr h) = views x.views x.opened h

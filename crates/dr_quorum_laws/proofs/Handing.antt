@@ -1,30 +1,17 @@
 -- Logs that are handed in: two majorities share one, and what stands on that of a member that was there.
 use Rattle.std.proofs.Common.{◌≡◌, refl, ap, sym, ◌∙◌, ◌⊎◌, inl, inr, subst, ℕ, ◌≤◌, ◌==◌, ◌&&◌, nat_lt, arith, Bool, true, false, List, [], ◌∷◌, length, take, Contains, Option, None, Some, is_some, slice_get, if◌then◌else◌, length-append}
-use Rattle.std.proofs.lemmas.List.{take_all}
-use Rattle.std.proofs.lemmas.List.Elements.{Contains-push_cases, Contains-append_left}
-use Rattle.std.proofs.lemmas.Option.{none-some}
-use Rattle.dr_entry.specs.declared.entry.Entry.{Entry}
-use Rattle.dr_entry.specs.declared.record.Vote.{Vote}
-use Rattle.dr_history.specs.History.{IsPrefixOf}
-use Rattle.dr_history.specs.Members.{has}
-use Rattle.dr_history.specs.Order.{first_entries}
-use Rattle.dr_history.specs.Soundness.{whole_roster}
-use Rattle.dr_history_laws.proofs.Keeping.{prefix_then}
-use Rattle.dr_history_laws.proofs.Lists.{slice_get-some, take-prefix}
+use Rattle.std.proofs.lemmas.{List.{take_all, Elements.{Contains-push_cases, Contains-append_left}}, Option.none-some}
+use Rattle.dr_entry.specs.{declared.entry.Entry.Entry, declared.record.Vote.Vote}
+use Rattle.dr_history.specs.{History.IsPrefixOf, Members.has, Order.first_entries, Soundness.whole_roster}
+use Rattle.dr_history_laws.proofs.{Keeping.prefix_then, Lists.{slice_get-some, take-prefix}}
+use Rattle.dr_machine.specs.{Group.{Group, IsGroup, IsPresent}, Votes.HasLogged, World.World}
 use Rattle.dr_machine.proofs.Presence.{in_roster}
-use Rattle.dr_machine.specs.Group.{Group, IsGroup, IsPresent}
-use Rattle.dr_machine.specs.Votes.{HasLogged}
-use Rattle.dr_machine.specs.World.{World}
-use Rattle.dr_restart.specs.declared.lists.Attempt.{Attempt}
-use Rattle.dr_restart.specs.declared.lists.LogLists.{LogLists}
 use Rattle.dr_restart.specs.Choosing.{HasQuorum, Handed, handed_of, of_set}
-use Rattle.dr_words.proofs.Majorities.{majorities_meet_lem}
-use Rattle.dr_words.proofs.Masks.{has_mask_of}
-use Rattle.dr_words.specs.Masks.{IsMajorityOf, IsPartOf}
-use Rattle.dr_world_laws.proofs.Worlds.{Known, agreed}
-use Rattle.dr_quorum_laws.specs.Holding.{HoldSince}
 use Rattle.dr_restart.specs.Left.{AreLeft, AreLeftOf, IsLeftByMember, MayLogVote, votes_of_age}
-use Rattle.dr_quorum_laws.proofs.Ended.{first-begins, first-durable, own-durable}
+use Rattle.dr_restart.specs.declared.lists.{Attempt.Attempt, LogLists.LogLists}
+use Rattle.dr_words.{specs.Masks.{IsMajorityOf, IsPartOf}, proofs.{Majorities.majorities_meet_lem, Masks.has_mask_of}}
+use Rattle.dr_world_laws.proofs.Worlds.{Known, agreed}
+use Rattle.dr_quorum_laws.{specs.Holding.HoldSince, proofs.Ended.{first-begins, first-durable, own-durable}}
 use Rattle.dr_quorum_laws.proofs.Lists.{filter-in, in-filter, in-read, read-in}
 
 -- ---- who has handed in a log
@@ -59,8 +46,7 @@ pub handed-has : (h : Handed) (members m : ℕ) → has (handed_of h members) m 
 handed-has h members m e =
     let t = both_true (nat_lt m 16) (has members m) (is_some (h m))
     (sym (has_mask_of (λ i. has members i && is_some (h i)) m) ∙ e) in
-    let l = there (h m) t.1 in
-    (t.0, l.0, l.1)
+    let l = there (h m) t.1 in (t.0, l.0, l.1)
 
 pub handed-part : (h : Handed) (members : ℕ) → IsPartOf (handed_of h members) members
 handed-part h members m e = (handed-has h members m e).0
@@ -71,8 +57,7 @@ pub quorum-meets : (h : Handed) (members mask : ℕ) → HasQuorum h members →
     → (m : ℕ) × (has members m ≡ true) × (has mask m ≡ true) × (log : LogLists) × (h m ≡ Some log)
 quorum-meets h members mask q part most =
     let t = majorities_meet_lem members mask (handed_of h members) part (handed-part h members) most q in
-    let l = handed-has h members t.0 t.4 in
-    (t.0, t.2, t.3, l.1, l.2)
+    let l = handed-has h members t.0 t.4 in (t.0, t.2, t.3, l.1, l.2)
 
 -- and one has
 pub quorum-some : (h : Handed) (members : ℕ) → HasQuorum h members
@@ -164,8 +149,7 @@ durable-there g w choice logs tries s m k d log present at knows logged durable 
 pub first-there : (g : Group) (w : World) (choice logs : List LogLists) (tries : List Attempt)
     → Since g w choice tries logs → (m : ℕ) (log : LogLists) → IsPresent g m → slice_get logs m ≡ Some log
     → IsPrefixOf (first_entries g.opening) log.entries
-first-there g w choice logs tries s m log present at =
-    subst (λ es. IsPrefixOf es log.entries) front
+first-there g w choice logs tries s m log present at = subst (λ es. IsPrefixOf es log.entries) front
     (durable-there g w choice logs tries s m m n log present at present
     (omega (arith, durable, own-durable g w m s.group s.known present)) durable)
   where

@@ -2,26 +2,16 @@
 use Rattle.std.proofs.Common.{◌≡◌, refl, ap, sym, ◌∙◌, subst, ℕ, ◌<◌, nat_lt, true, arith, List, [], ◌∷◌, ◌++◌, append-nil, take}
 use Rattle.std.proofs.lemmas.Option.{none-some}
 use Rattle.dr_entry.specs.declared.entry.Entry.{Entry}
-use Rattle.dr_history.specs.declared.opening.Opening.{Opening}
-use Rattle.dr_history.specs.History.{IsPrefixOf}
-use Rattle.dr_history.specs.Restarting.{Kept}
-use Rattle.dr_history.specs.Soundness.{whole_roster}
-use Rattle.dr_history.proofs.Bits.{has_ones}
+use Rattle.dr_history.specs.{History.IsPrefixOf, Restarting.Kept, Soundness.whole_roster}
+use Rattle.dr_history.{specs.declared.opening.Opening.Opening, proofs.Bits.has_ones}
+use Rattle.dr_machine.specs.{Group.{Group, IsGroup, roster}, Run.accounts_in, World.World}
 use Rattle.dr_machine.proofs.Presence.{in_roster}
-use Rattle.dr_machine.specs.Group.{Group, IsGroup, roster}
-use Rattle.dr_machine.specs.Run.{accounts_in}
-use Rattle.dr_machine.specs.World.{World}
-use Rattle.dr_restart.specs.declared.lists.Attempt.{Attempt}
-use Rattle.dr_restart.specs.declared.lists.LogLists.{LogLists}
-use Rattle.dr_restart.specs.declared.start.Start.{Start}
-use Rattle.dr_restart.specs.Choosing.{IsChosenStart, of_set}
+use Rattle.dr_restart.specs.{Choosing.{IsChosenStart, of_set}, Left.AreLeft, declared.lists.Attempt.Attempt}
+use Rattle.dr_restart.specs.declared.{lists.LogLists.LogLists, start.Start.Start}
 use Rattle.dr_words.specs.Masks.{IsMajorityOf, IsPartOf}
 use Rattle.dr_world_laws.proofs.Worlds.{Known}
 use Rattle.dr_quorum_laws.specs.Holding.{AreTheirViews, HoldSince, IsKeptBy, IsLongestHistory}
-use Rattle.dr_restart.specs.Left.{AreLeft}
-use Rattle.dr_quorum_laws.proofs.Beginning.{left-held}
-use Rattle.dr_quorum_laws.proofs.Chosen.{chosen-keeps}
-use Rattle.dr_quorum_laws.proofs.Handing.{Since}
+use Rattle.dr_quorum_laws.proofs.{Beginning.left-held, Chosen.chosen-keeps, Handing.Since}
 
 -- who is there is of the roster
 pub present-part : (g : Group) → IsGroup g → IsPartOf g.opening.present (whole_roster g.opening)
@@ -71,9 +61,8 @@ choice-keeps g w choice set chosen next s c same later = record {
     kept = chosen-keeps g w choice choice [] set chosen s c
 
     whole : next.start ≡ kept.keeps.front
-    whole = same ∙ kept.keeps.goes.is
-        ∙ ap (λ vs. kept.keeps.front ++ vs) (no_views kept.keeps.goes.views kept.keeps.goes.opened)
-        ∙ append-nil kept.keeps.front
+    whole = same ∙ kept.keeps.goes.is ∙ ap (λ vs. kept.keeps.front ++ vs)
+        (no_views kept.keeps.goes.views kept.keeps.goes.opened) ∙ append-nil kept.keeps.front
 
 -- so it is for whatever logs hold
 pub majority-keeps : (g : Group) (w : World) (choice logs : List LogLists) (tries : List Attempt) (set : ℕ)

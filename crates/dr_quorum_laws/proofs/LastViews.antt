@@ -1,17 +1,11 @@
 -- The last View of a list of entries, and what the Views before it are.
 use Rattle.std.proofs.Common.{◌≡◌, ap, sym, ◌∙◌, ◌⊎◌, inl, inr, subst, ℕ, ◌+◌, ◌-◌, ◌<◌, ◌≤◌, arith, List, [], ◌∷◌, length, take, Contains, Option, None, Some, slice_get}
-use Rattle.std.proofs.lemmas.List.{take_all}
-use Rattle.std.proofs.lemmas.Option.{none-some, same_Some, slice_get-get_or}
-use Rattle.dr_entry.specs.declared.entry.Entry.{Entry}
-use Rattle.dr_entry.specs.declared.entry.Entry.TheVariants.{View, Msg}
-use Rattle.dr_history.specs.declared.opening.Opening.{Opening}
-use Rattle.dr_history.specs.History.{GroupView, view_after, view_of, IsPrefixOf}
-use Rattle.dr_history.specs.Members.{members_of}
-use Rattle.dr_history.specs.Restarting.{AllStand}
-use Rattle.dr_history.specs.Soundness.{Sound}
+use Rattle.std.proofs.lemmas.{List.take_all, Option.{none-some, same_Some, slice_get-get_or}}
+use Rattle.dr_entry.specs.declared.entry.Entry.{Entry, TheVariants.{View, Msg}}
+use Rattle.dr_history.specs.{History.{GroupView, view_after, view_of, IsPrefixOf}, Members.members_of}
+use Rattle.dr_history.specs.{Restarting.AllStand, Soundness.Sound, declared.opening.Opening.Opening}
 use Rattle.dr_history.proofs.ViewLemmas.{view_of-View}
-use Rattle.dr_history_laws.proofs.Lists.{take-next}
-use Rattle.dr_history_laws.proofs.Views.{HasCome, ViewsRise, ViewsRise-standing, view-after}
+use Rattle.dr_history_laws.proofs.{Lists.take-next, Views.{HasCome, ViewsRise, ViewsRise-standing, view-after}}
 use Rattle.dr_quorum_laws.proofs.Lists.{in-head, in-tail, prefix-in}
 
 -- the view of a list is that of a View on it, or was there before
@@ -31,8 +25,7 @@ last_from u (View a n m ∷ es) v e =
         let is : here ≡ v = same_Some here v same in
         inr (
           m,
-          subst (λ (w : GroupView). Contains (View a n m ∷ es) (View w.age w.number m)) is
-              (in-head (View a n m) es),
+          subst (λ (w : GroupView). Contains (View a n m ∷ es) (View w.age w.number m)) is (in-head (View a n m) es),
         )
     by (inr t) = inr (t.0, in-tail (View a n m) (View v.age v.number t.0) es t.1)
 last_from u (Msg s i b ∷ es) v e = by (last_from u es v e)
@@ -78,8 +71,7 @@ pub view-late : (o : Opening) (es : List Entry) (a n m : ℕ) (v : GroupView) �
     → Contains es (View a n m) → view_of es ≡ Some v → a ≤ v.age
 view-late o es a n m v stand c e =
     let t = view-come o es a n m stand c in
-    let same : t.0 ≡ v = same_Some t.0 v (sym t.1 ∙ e) in
-    by (subst (HasCome a n) same t.2)
+    let same : t.0 ≡ v = same_Some t.0 v (sym t.1 ∙ e) in by (subst (HasCome a n) same t.2)
   where
     by : HasCome a n v → a ≤ v.age
     by (inl l) = omega (arith, l)

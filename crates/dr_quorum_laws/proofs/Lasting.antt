@@ -2,50 +2,31 @@
 -- age is left.
 use Rattle.std.proofs.Common.{◌≡◌, refl, ap, sym, ◌∙◌, ◌⊎◌, inl, inr, subst, ℕ, ◌<◌, ◌≤◌, arith, true, List, [], ◌∷◌, ◌++◌, length, length-take, take, drop, Contains, Some, slice_get, append-nil, append_assoc, take-append-drop}
 use Rattle.std.proofs.lemmas.Option.{none-some}
-use Rattle.dr_entry.specs.declared.entry.Entry.{Entry}
-use Rattle.dr_entry.specs.declared.entry.Entry.TheVariants.{View}
-use Rattle.dr_history.specs.declared.opening.Opening.{Opening}
-use Rattle.dr_history.specs.History.{IsPrefixOf}
-use Rattle.dr_history.specs.Members.{has}
-use Rattle.dr_history.specs.Order.{first_entries}
-use Rattle.dr_history.specs.Restarting.{AllStand, AreAlong}
-use Rattle.dr_history.specs.Soundness.{whole_roster}
-use Rattle.dr_history_laws.proofs.Keeping.{prefix_beside, prefix_then}
-use Rattle.dr_history_laws.proofs.Lists.{slice_get-seam, slice_get-some}
-use Rattle.dr_history_laws.proofs.Parts.{both_along}
-use Rattle.dr_history_laws.proofs.Standing.{all-by}
+use Rattle.dr_entry.specs.declared.entry.Entry.{Entry, TheVariants.View}
+use Rattle.dr_history.specs.{History.IsPrefixOf, Members.has, Order.first_entries, Restarting.{AllStand, AreAlong}}
+use Rattle.dr_history.specs.{Soundness.whole_roster, declared.opening.Opening.Opening}
+use Rattle.dr_history_laws.proofs.{Keeping.{prefix_beside, prefix_then}, Lists.{slice_get-seam, slice_get-some}}
+use Rattle.dr_history_laws.proofs.{Parts.both_along, Standing.all-by}
+use Rattle.dr_machine.specs.{Group.{Group, IsGroup, IsPresent}, Run.IsReached, World.World}
 use Rattle.dr_machine.proofs.Presence.{in_roster}
-use Rattle.dr_machine.specs.Group.{Group, IsGroup, IsPresent}
-use Rattle.dr_machine.specs.Run.{IsReached}
-use Rattle.dr_machine.specs.World.{World}
-use Rattle.dr_restart.specs.declared.lists.Attempt.{Attempt}
-use Rattle.dr_restart.specs.declared.lists.LogLists.{LogLists}
-use Rattle.dr_restart.specs.declared.start.Start.{Start}
 use Rattle.dr_restart.specs.Choosing.{AreOfHolders, EndsInAge, IsChosenStart, IsLastAge, of_set}
-use Rattle.dr_restart.specs.Groups.{first_group_of, group_of}
-use Rattle.dr_restart.specs.Left.{AreLeft, IsLeftByOther}
-use Rattle.dr_restart.specs.Refusing.{AreHoldersAlong, IsRefusedFor, Refusal}
-use Rattle.dr_restart.specs.Refusing.Refusal.{AgesUsedUp}
-use Rattle.dr_restart.specs.Trying.{IsTry, first_view_of}
-use Rattle.dr_script.specs.declared.script.Script.{Script}
-use Rattle.dr_script.specs.Ranges.{HasGroupRanges}
+use Rattle.dr_restart.specs.{Groups.{first_group_of, group_of}, Left.{AreLeft, IsLeftByOther}}
+use Rattle.dr_restart.specs.Refusing.{AreHoldersAlong, IsRefusedFor, Refusal, Refusal.AgesUsedUp}
+use Rattle.dr_restart.specs.{Trying.{IsTry, first_view_of}, declared.lists.{Attempt.Attempt, LogLists.LogLists}}
+use Rattle.dr_restart.specs.declared.start.Start.{Start}
+use Rattle.dr_script.specs.{Ranges.HasGroupRanges, declared.script.Script.Script}
 use Rattle.dr_words.specs.Masks.{IsMajorityOf}
 use Rattle.dr_world_laws.proofs.Worlds.{known}
 use Rattle.dr_quorum_laws.specs.Holding.{GoesOnFrom, IsKeptBy, IsOfAgeOrEarlier, IsOpenedTry}
-use Rattle.dr_quorum_laws.specs.Lasting.{AreDurableIn, AreLasting, HoldSinceAge}
-use Rattle.dr_quorum_laws.proofs.AllThere.{holders-pass}
+use Rattle.dr_quorum_laws.{specs.Lasting.{AreDurableIn, AreLasting, HoldSinceAge}, proofs.Tried.tried-held}
+use Rattle.dr_quorum_laws.proofs.{AllThere.holders-pass, Handing.{Since, first-there, log-of_set, set-log}}
 use Rattle.dr_quorum_laws.proofs.Alone.{EndInTry, age-of-try, alone-ends, alone-others, alone-stand, alone-tried, same-ends}
-use Rattle.dr_quorum_laws.proofs.Beginning.{somebody-there}
-use Rattle.dr_quorum_laws.proofs.ByMessages.{start-by-messages}
-use Rattle.dr_quorum_laws.proofs.Chosen.{chosen-keeps, history-none, start-holder}
-use Rattle.dr_quorum_laws.proofs.Ended.{durable-delivered, first-begins, first-durable, first-in}
-use Rattle.dr_quorum_laws.proofs.Grown.{ages-below}
-use Rattle.dr_quorum_laws.proofs.Handing.{Since, first-there, log-of_set, set-log}
+use Rattle.dr_quorum_laws.proofs.{Beginning.somebody-there, Missing.{held-stand, left-votes, tried-votes, try-sound}}
+use Rattle.dr_quorum_laws.proofs.{ByMessages.start-by-messages, Chosen.{chosen-keeps, history-none, start-holder}}
+use Rattle.dr_quorum_laws.proofs.{Ended.{durable-delivered, first-begins, first-durable, first-in}, Grown.ages-below}
 use Rattle.dr_quorum_laws.proofs.Keeping.{present-part, since-held, since-left}
 use Rattle.dr_quorum_laws.proofs.LastViews.{last-view, view-come, view-late}
 use Rattle.dr_quorum_laws.proofs.Lists.{last-of, prefix-in, prefix-more}
-use Rattle.dr_quorum_laws.proofs.Missing.{held-stand, left-votes, tried-votes, try-sound}
-use Rattle.dr_quorum_laws.proofs.Tried.{tried-held}
 
 -- ---- logs that hold since an age
 
@@ -71,9 +52,8 @@ held-ends g w choice logs tries s m age log at ends late = by (s.held.grown m lo
         inr (p, omega (arith, early, late, ends.2))
     goes front x (inr (vs, e, is)) =
         let t = x.opened (length vs) e (ap (λ l. slice_get l (length vs)) is ∙ slice_get-seam vs e []) in
-        let whole : log.entries ≡ (front ++ vs) ++ first_view_of t.0.start ∷ [] =
-        x.is ∙ ap (λ l. front ++ l) (is ∙ ap (λ y. vs ++ y ∷ []) t.2)
-        ∙ sym (append_assoc front vs (first_view_of t.0.start ∷ [])) in
+        let whole : log.entries ≡ (front ++ vs) ++ first_view_of t.0.start ∷ [] = x.is ∙ ap (λ l. front ++ l)
+        (is ∙ ap (λ y. vs ++ y ∷ []) t.2) ∙ sym (append_assoc front vs (first_view_of t.0.start ∷ [])) in
         inl (
           t.0,
           t.1,
@@ -134,9 +114,8 @@ on-start g w choice logs tries set m start log es s c there handed on starts =
     late = omega (arith, mine.2, h.last.greatest m mine.0 log handed mine.1)
 
     -- where the holder is a front of the history, so is the log, which is no longer
-    both : IsPrefixOf h.held.1.entries s.held.history → h.age ≡ g.opening.age
-        → EndInTry tries log.entries ⊎ (IsPrefixOf log.entries s.held.history × (mine.0 ≡ g.opening.age))
-        → IsPrefixOf es h.held.1.entries
+    both : IsPrefixOf h.held.1.entries s.held.history → h.age ≡ g.opening.age → EndInTry tries log.entries
+        ⊎ (IsPrefixOf log.entries s.held.history × (mine.0 ≡ g.opening.age)) → IsPrefixOf es h.held.1.entries
     both p same (inl t) = absurd (omega (
       arith,
       same,
@@ -287,8 +266,7 @@ last-kept script es logs set start (inl (earlier, w, h, (m, there, durable))) c 
     kept = chosen-keeps (group_of script earlier) w h.choice logs h.tries set start s
         (start-by-messages (first_group_of script).opening (group_of script earlier).opening (of_set logs set) start
         refl c)
-last-kept script es logs set start (inr (tries, h, all, none)) c =
-    (start.entries, ap (λ l. l ++ start.entries) none)
+last-kept script es logs set start (inr (tries, h, all, none)) c = (start.entries, ap (λ l. l ++ start.entries) none)
 
 -- and the logs are such as a member leaves that isn't there in its age
 pub last-others : (script : Script) (es : List Entry) (logs : List LogLists) (set : ℕ) (start : Start) (m : ℕ)
@@ -311,9 +289,8 @@ last-others script es logs set start m log (inl (earlier, w, h, durable)) c at =
     s = since-of script earlier w logs h
 
     kept : IsKeptBy (group_of script earlier) w s.held.history h.tries start
-    kept = chosen-keeps g w h.choice logs h.tries set start s
-        (start-by-messages (first_group_of script).opening (group_of script earlier).opening (of_set logs set) start
-        refl c)
+    kept = chosen-keeps g w h.choice logs h.tries set start s (start-by-messages (first_group_of script).opening
+        (group_of script earlier).opening (of_set logs set) start refl c)
 last-others script es logs set start m log (inr (tries, h, all, none)) c at = alone-others script tries logs set start m log h c at
 
 -- all of them are refused only as no age is left
@@ -352,27 +329,19 @@ last-pass script es logs set why ranges lasting whole refused = by lasting
             let l : i.0 < length logs = omega (arith, in_roster g i.0 h.group i.1, s.held.all) in
             let t = slice_get-some logs i.0 l in
             let e = member-ends g w h.choice logs h.tries s i.0 t.0 i.1 t.1 (stand i.0 t.0 t.1) in
-            omega (
-              arith,
-              e.2,
-              last.greatest i.0 e.0 t.0 (log-of_set logs set i.0 t.0 (whole i.0 l) t.1) e.1,
-            )
+            omega (arith, e.2, last.greatest i.0 e.0 t.0 (log-of_set logs set i.0 t.0 (whole i.0 l) t.1) e.1)
 
         along : (age : ℕ) → IsLastAge (of_set logs set) age → AreHoldersAlong (of_set logs set) age
-        along age last f f' (i, x, at, ends, is) (j, y, here, also, same) =
-            subst (λ es. AreAlong es f') (sym is) (subst (AreAlong x.entries) (sym same)
-            (held-along g w h.choice logs h.tries s age x y ends also
+        along age last f f' (i, x, at, ends, is) (j, y, here, also, same) = subst (λ es. AreAlong es f')
+            (sym is) (subst (AreAlong x.entries) (sym same) (held-along g w h.choice logs h.tries s age x y ends also
             (held-ends g w h.choice logs h.tries s i age x (set-log logs set i x at).1 ends (late age last))
             (held-ends g w h.choice logs h.tries s j age y (set-log logs set j y here).1 also (late age last))))
     by (inr (tries, h, all, none)) = pass (all ∙ sym ranges.lists) (λ m log at. alone-stand o tries logs m log h at) along
       where
         along : (age : ℕ) → IsLastAge (of_set logs set) age → AreHoldersAlong (of_set logs set) age
-        along age last f f' (i, x, at, ends, is) (j, y, here, also, same) =
-            inl (
-              [],
-              append-nil f ∙ is
-                  ∙ same-ends tries x y age h.rising
-                  (alone-ends o tries logs i age x h (set-log logs set i x at).1 ends)
-                  (alone-ends o tries logs j age y h (set-log logs set j y here).1 also) ends also
-                  ∙ sym same,
-            )
+        along age last f f' (i, x, at, ends, is) (j, y, here, also, same) = inl (
+          [],
+          append-nil f ∙ is ∙ same-ends tries x y age h.rising
+              (alone-ends o tries logs i age x h (set-log logs set i x at).1 ends)
+              (alone-ends o tries logs j age y h (set-log logs set j y here).1 also) ends also ∙ sym same,
+        )

@@ -1,14 +1,10 @@
 -- Elements of lists, prefixes, and the vote of the highest ballot.
+use Rattle.std.specs.{List.flat_map, Option.option_map_or}
 use Rattle.std.proofs.Common.{◌≡◌, refl, ap, sym, ◌∙◌, ◌⊎◌, inl, inr, subst, ℕ, zero, suc, ◌<◌, ◌≤◌, arith, Bool, true, false, nat_lt, if◌then◌else◌, List, [], ◌∷◌, ◌++◌, filter, Contains, Option, None, Some, slice_get, append_assoc, append-nil, length}
-use Rattle.std.specs.List.{flat_map}
-use Rattle.std.specs.Option.{option_map_or}
 use Rattle.std.proofs.lemmas.List.Elements.{All-contains, All-contains_itself, All-filter, Contains-append_cases, Contains-append_left, Contains-append_right, filter_passes}
 use Rattle.std.proofs.lemmas.Option.{none-some, same_Some, slice_get-get_or, slice_get_within, get_or_from_slice_get}
-use Rattle.dr_entry.specs.declared.record.Vote.{Vote}
-use Rattle.dr_entry.specs.declared.entry.Entry.{Entry}
-use Rattle.dr_entry.specs.declared.entry.Entry.TheVariants.{View}
-use Rattle.dr_history.specs.History.{IsPrefixOf}
-use Rattle.dr_history.specs.declared.opening.Opening.{Opening}
+use Rattle.dr_entry.specs.{declared.entry.Entry.{Entry, TheVariants.View}, declared.record.Vote.Vote}
+use Rattle.dr_history.specs.{History.IsPrefixOf, declared.opening.Opening.Opening}
 use Rattle.dr_history_laws.proofs.Keeping.{front_of}
 use Rattle.dr_restart.specs.Choosing.{highest, AreFirst, AreOfHolders, AreOnHolder, Handed, IsLastAge}
 use Rattle.dr_restart.specs.Refusing.{AreHoldersAlong, HasPath}
@@ -70,16 +66,14 @@ pub in-flat_map : {A B : Type 0} (f : A → List B) (xs : List A) (x : A) (y : B
 in-flat_map f [] x y c d = absurd (in-nothing x c)
 in-flat_map {A} {B} f (z ∷ xs) x y c d = by (λ h. in-flat_map f xs x y h d) (in-cases z x xs c)
   where
-    by : (Contains xs x → Contains (flat_map f xs) y) → (z ≡ x) ⊎ Contains xs x
-        → Contains (f z ++ flat_map f xs) y
+    by : (Contains xs x → Contains (flat_map f xs) y) → (z ≡ x) ⊎ Contains xs x → Contains (f z ++ flat_map f xs) y
     by rest (inl e) = Contains-append_left (f z) (flat_map f xs) y (subst (λ t. Contains (f t) y) (sym e) d)
     by rest (inr h) = Contains-append_right (f z) (flat_map f xs) y (rest h)
 
 pub flat_map-in : {A B : Type 0} (f : A → List B) (xs : List A) (y : B) → Contains (flat_map f xs) y
     → (x : A) × Contains xs x × Contains (f x) y
 flat_map-in f [] y c = absurd (in-nothing y c)
-flat_map-in {A} {B} f (z ∷ xs) y c =
-    by (λ h. flat_map-in f xs y h) (Contains-append_cases (f z) (flat_map f xs) y c)
+flat_map-in {A} {B} f (z ∷ xs) y c = by (λ h. flat_map-in f xs y h) (Contains-append_cases (f z) (flat_map f xs) y c)
   where
     by : (Contains (flat_map f xs) y → (x : A) × Contains xs x × Contains (f x) y)
         → Contains (f z) y ⊎ Contains (flat_map f xs) y → (x : A) × Contains (z ∷ xs) x × Contains (f x) y
@@ -114,8 +108,7 @@ prefix-split {A} (x ∷ xs) (y ∷ ys) zs p = by (prefix-split xs ys zs (p.0, re
     rest = cc
 
     by : IsPrefixOf xs ys ⊎ ((front : List A) × (xs ≡ ys ++ front) × IsPrefixOf front zs)
-        → IsPrefixOf (x ∷ xs) (y ∷ ys)
-        ⊎ ((front : List A) × (x ∷ xs ≡ y ∷ (ys ++ front)) × IsPrefixOf front zs)
+        → IsPrefixOf (x ∷ xs) (y ∷ ys) ⊎ ((front : List A) × (x ∷ xs ≡ y ∷ (ys ++ front)) × IsPrefixOf front zs)
     by (inl q) = inl (q.0, ap (λ l. x ∷ l) q.1 ∙ ap (λ t. t ∷ ys) same)
     by (inr t) = inr (t.0, ap (λ l. x ∷ l) t.1 ∙ ap (λ z. z ∷ (ys ++ t.0)) same, t.2)
 
@@ -165,18 +158,15 @@ highest-in (x ∷ xs) y e = by (λ z f. highest-in xs z f) (highest xs) refl e
     two : (z : Vote) → Contains xs z → (b : Bool) → nat_lt x.ballot z.ballot ≡ b
         → Some (if nat_lt x.ballot z.ballot then z else x) ≡ Some y → Contains (x ∷ xs) y
     two z c true f h =
-        let one : z ≡ y = grind (arith, f, h) in
-        in-tail x y xs (subst (Contains xs) one c)
+        let one : z ≡ y = grind (arith, f, h) in in-tail x y xs (subst (Contains xs) one c)
     two z c false f h =
-        let one : x ≡ y = grind (arith, f, h) in
-        subst (Contains (x ∷ xs)) one (in-head x xs)
+        let one : x ≡ y = grind (arith, f, h) in subst (Contains (x ∷ xs)) one (in-head x xs)
 
     by : ((z : Vote) → highest xs ≡ Some z → Contains xs z) → (o : Option Vote) → highest xs ≡ o
         → Some (option_map_or (λ z. if nat_lt x.ballot z.ballot then z else x) (highest xs) x) ≡ Some y
         → Contains (x ∷ xs) y
     by rest None f h =
-        let one : x ≡ y = grind (arith, f, h) in
-        subst (Contains (x ∷ xs)) one (in-head x xs)
+        let one : x ≡ y = grind (arith, f, h) in subst (Contains (x ∷ xs)) one (in-head x xs)
     by rest (Some z) f h = two z (rest z f) (nat_lt x.ballot z.ballot) refl
         (ap (λ o. Some (option_map_or (λ z. if nat_lt x.ballot z.ballot then z else x) o x)) (sym f) ∙ h)
 
@@ -187,8 +177,7 @@ unfolding highest
 highest-is [] z c = absurd (in-nothing z c)
 highest-is (x ∷ xs) z c = by (λ h. highest-is xs z h) (highest xs) refl (in-cases x z xs c)
   where
-    two : (y : Vote) → (z.ballot ≤ x.ballot) ⊎ (z.ballot ≤ y.ballot) → (b : Bool)
-        → nat_lt x.ballot y.ballot ≡ b
+    two : (y : Vote) → (z.ballot ≤ x.ballot) ⊎ (z.ballot ≤ y.ballot) → (b : Bool) → nat_lt x.ballot y.ballot ≡ b
         → (w : Vote) × (Some (if nat_lt x.ballot y.ballot then y else x) ≡ Some w) × (z.ballot ≤ w.ballot)
     two y h true e = rw e (y, refl, low h)
       where
@@ -208,8 +197,7 @@ highest-is (x ∷ xs) z c = by (λ h. highest-is xs z h) (highest xs) refl (in-c
         low (inr l) = omega (arith, l, more)
 
     by : (Contains xs z → (y : Vote) × (highest xs ≡ Some y) × (z.ballot ≤ y.ballot))
-        → (o : Option Vote) → highest xs ≡ o → (x ≡ z) ⊎ Contains xs z
-        → (y : Vote)
+        → (o : Option Vote) → highest xs ≡ o → (x ≡ z) ⊎ Contains xs z → (y : Vote)
         × (Some (option_map_or (λ y. if nat_lt x.ballot y.ballot then y else x) (highest xs) x) ≡ Some y)
         × (z.ballot ≤ y.ballot)
     by rest None e (inl same) = rw e (x, refl, omega (arith, ap (λ (v : Vote). v.ballot) same))
@@ -223,10 +211,8 @@ highest-is (x ∷ xs) z c = by (λ h. highest-is xs z h) (highest xs) refl (in-c
 
 -- the longest entries of a holder are chosen
 pub of_holders : (o : Opening) (h : Handed) (age : ℕ) (es : List Entry) → IsLastAge h age
-    → AreHoldersAlong h age → AreOnHolder h age es
-    → ((f : List Entry) → AreOnHolder h age f → length f ≤ length es)
-    → ((first : ℕ) → Contains es (View age 0 first) → HasPath (length o.messages) h age first)
-    → AreOfHolders o h es
+    → AreHoldersAlong h age → AreOnHolder h age es → ((f : List Entry) → AreOnHolder h age f → length f ≤ length es)
+    → ((first : ℕ) → Contains es (View age 0 first) → HasPath (length o.messages) h age first) → AreOfHolders o h es
 of_holders o h age es last along held longest path = record {
   age = age;
   last = last;

@@ -1,22 +1,16 @@
 -- Where no log is missing, and all are fronts of one list, the longest of all is chosen.
 use Rattle.std.proofs.Common.{◌≡◌, refl, ap, sym, ◌∙◌, ◌⊎◌, inl, inr, subst, ℕ, ◌<◌, ◌≤◌, arith, true, List, [], ◌∷◌, length, Contains, None, Some, slice_get, IsSomeAnd, take_at}
 use Rattle.std.proofs.lemmas.Option.{none-some, same_Some, slice_get_within}
-use Rattle.dr_entry.specs.declared.entry.Entry.{Entry}
-use Rattle.dr_entry.specs.declared.entry.Entry.TheVariants.{View, Msg}
+use Rattle.dr_entry.specs.declared.entry.Entry.{Entry, TheVariants.{View, Msg}}
+use Rattle.dr_history.specs.{History.{GroupView, IsPrefixOf, view_after, view_of}, Members.{has, members_of}}
+use Rattle.dr_history.specs.{Restarting.{AllStand, AreAllAlong, AreAlong, IsLongest}, Soundness.whole_roster}
 use Rattle.dr_history.specs.declared.opening.Opening.{Opening}
-use Rattle.dr_history.specs.History.{GroupView, IsPrefixOf, view_after, view_of}
-use Rattle.dr_history.specs.Members.{has, members_of}
-use Rattle.dr_history.specs.Restarting.{AllStand, AreAllAlong, AreAlong, IsLongest}
-use Rattle.dr_history.specs.Soundness.{whole_roster}
 use Rattle.dr_history_laws.proofs.Keeping.{prefix_shorter}
-use Rattle.dr_restart.specs.declared.lists.LogLists.{LogLists}
-use Rattle.dr_restart.specs.declared.start.Start.{Start}
 use Rattle.dr_restart.specs.Choosing.{AreOfHolders, AreOfNobody, EndsInAge, IsChosenStart, of_set}
-use Rattle.dr_restart.specs.Left.{entries_on_logs}
+use Rattle.dr_restart.specs.{Left.entries_on_logs, declared.{lists.LogLists.LogLists, start.Start.Start}}
 use Rattle.dr_restart.proofs.Listed.{listed, log-listed}
 use Rattle.dr_quorum_laws.proofs.Handing.{log-of_set, quorum-some, set-log}
-use Rattle.dr_quorum_laws.proofs.LastViews.{last-view, view-come, view-late}
-use Rattle.dr_quorum_laws.proofs.Lists.{prefix-in}
+use Rattle.dr_quorum_laws.proofs.{LastViews.{last-view, view-come, view-late}, Lists.prefix-in}
 
 -- ---- logs without a View
 
@@ -61,18 +55,13 @@ longest-chosen o logs set start c all along = by c.entries
     handed m log at = log-of_set logs set m log (all m (slice_get_within logs m log at)) at
 
     holders : AreOfHolders o (of_set logs set) start.entries → IsLongest (entries_on_logs logs) start.entries
-    holders h = record {
-      place = h.held.0;
-      one = mine;
-      longest = λ m l at. shorter m l at (apart m h.held.0);
-    }
+    holders h = record { place = h.held.0; one = mine; longest = λ m l at. shorter m l at (apart m h.held.0) }
       where
         apart : (i j : ℕ) → (i < j) ⊎ ((i ≡ j) ⊎ (j < i))
         apart i j = grind arith
 
         mine : slice_get (entries_on_logs logs) h.held.0 ≡ Some start.entries
-        mine = listed logs h.held.0 h.held.1 (set-log logs set h.held.0 h.held.1 h.held.2).1
-            ∙ ap Some (sym h.held.4)
+        mine = listed logs h.held.0 h.held.1 (set-log logs set h.held.0 h.held.1 h.held.2).1 ∙ ap Some (sym h.held.4)
 
         longer : (m : ℕ) (l : List Entry) → slice_get (entries_on_logs logs) m ≡ Some l
             → IsPrefixOf start.entries l → length l ≤ length start.entries

@@ -1,29 +1,18 @@
 -- Logs that hold have nothing foreign, and those that a further try lacks are of ages before it.
 use Rattle.std.proofs.Common.{◌≡◌, refl, ap, sym, ◌∙◌, ◌⊎◌, inl, inr, subst, ℕ, ◌+◌, ◌-◌, ◌<◌, ◌≤◌, arith, Bool, true, false, List, [], ◌∷◌, ◌++◌, length, length-append, length-take, take, drop, Contains, Some, slice_get, append_assoc, take-append-drop, take_at}
-use Rattle.std.proofs.lemmas.Bool.{cases_lt}
-use Rattle.std.proofs.lemmas.Option.{same_Some, slice_get_within}
+use Rattle.std.proofs.lemmas.{Bool.cases_lt, Option.{same_Some, slice_get_within}}
 use Rattle.dr_entry.specs.declared.entry.Entry.{Entry}
+use Rattle.dr_history.specs.{Members.has, Restarting.AllStand, Soundness.{MayStand, Sound}}
 use Rattle.dr_history.specs.declared.opening.Opening.{Opening}
-use Rattle.dr_history.specs.Members.{has}
-use Rattle.dr_history.specs.Restarting.{AllStand}
-use Rattle.dr_history.specs.Soundness.{MayStand, Sound}
 use Rattle.dr_history_laws.proofs.Lists.{slice_get-left, slice_get-push_cases, slice_get-seam, slice_get-some, take-next, take-prefix}
 use Rattle.dr_history_laws.proofs.Standing.{all-by, part-stands}
-use Rattle.dr_machine.specs.Group.{Group, IsGroup}
-use Rattle.dr_machine.specs.World.{World}
-use Rattle.dr_restart.specs.declared.lists.Attempt.{Attempt}
-use Rattle.dr_restart.specs.declared.lists.LogLists.{LogLists}
-use Rattle.dr_restart.specs.declared.start.Start.{Start}
-use Rattle.dr_restart.specs.Groups.{group_of}
-use Rattle.dr_restart.specs.Left.{AreLeft, IsLeftByOther}
-use Rattle.dr_restart.specs.Trying.{IsTry, first_view_of, opened_by}
+use Rattle.dr_machine.specs.{Group.{Group, IsGroup}, World.World}
+use Rattle.dr_restart.specs.{Groups.group_of, Left.{AreLeft, IsLeftByOther}, Trying.{IsTry, first_view_of, opened_by}}
+use Rattle.dr_restart.specs.declared.{lists.{Attempt.Attempt, LogLists.LogLists}, start.Start.Start}
 use Rattle.dr_script.specs.declared.script.Script.{Script}
 use Rattle.dr_world_laws.proofs.Worlds.{Known}
 use Rattle.dr_quorum_laws.specs.Holding.{AreSoundTries, GoesOnFrom, HaveNoLaterVotes, HoldSince, IsKeptBy, IsOfAgeOrEarlier, IsOpenedTry}
-use Rattle.dr_quorum_laws.proofs.Chosen.{chosen-keeps}
-use Rattle.dr_quorum_laws.proofs.Ended.{stands}
-use Rattle.dr_quorum_laws.proofs.Grown.{ages-below}
-use Rattle.dr_quorum_laws.proofs.Handing.{Since}
+use Rattle.dr_quorum_laws.proofs.{Chosen.chosen-keeps, Ended.stands, Grown.ages-below, Handing.Since}
 use Rattle.dr_quorum_laws.proofs.Sounding.{choice-sound}
 
 -- ---- the starts of tries
@@ -54,8 +43,7 @@ goes-stand : (g : Group) (w : World) (choice logs : List LogLists) (tries : List
 goes-stand g w choice logs tries m log front is y held sounds at goes i e here = by (cases_lt i (length front))
   where
     history : AllStand g.opening held.history
-    history = subst (AllStand g.opening) held.longest.one.2
-        (stands g w held.longest.one.0 is y held.longest.one.1)
+    history = subst (AllStand g.opening) held.longest.one.2 (stands g w held.longest.one.0 is y held.longest.one.1)
 
     whole : log.entries ≡ front ++ goes.views
     whole = goes.is
@@ -77,8 +65,7 @@ goes-stand g w choice logs tries m log front is y held sounds at goes i e here =
       where
         at-view : (x : Entry) × (slice_get goes.views (i - length front) ≡ Some x)
             → MayStand g.opening (take i log.entries) e
-        at-view (x, there) =
-            subst (MayStand g.opening (take i log.entries)) (sym t.2 ∙ same)
+        at-view (x, there) = subst (MayStand g.opening (take i log.entries)) (sym t.2 ∙ same)
             (subst (λ es. MayStand g.opening es (first_view_of t.0.start))
             (sym (held.started t.0 m log (front ++ take k goes.views) (drop (k + 1) goes.views) t.1 at
             (split ∙ ap (λ z. (front ++ take k goes.views) ++ z ∷ drop (k + 1) goes.views) t.2)) ∙ sym start)
@@ -152,12 +139,11 @@ tried-votes o before after try age t below m log x at c =
     let old = slice_get-some before m (omega (arith, slice_get_within after m log at, t.places)) in
     below m old.0 x old.1 (subst (λ l. Contains l x) (t.votes m old.0 log old.1 at).0 c)
 
-pub others-left : (script : Script) (start : Start) (w : World) (choice before after : List LogLists)
-    (tries : List Attempt) (try : Attempt) (m : ℕ) (log : LogLists)
+pub others-left : (script : Script) (start : Start)
+    (w : World) (choice before after : List LogLists) (tries : List Attempt) (try : Attempt) (m : ℕ) (log : LogLists)
     → Since (group_of script start) w choice tries before → AreSoundTries (group_of script start).opening tries
-    → HaveNoLaterVotes start.age before
-    → IsTry (group_of script start).opening before after try → has try.set m ≡ false
-    → slice_get after m ≡ Some log → IsLeftByOther (group_of script try.start) log
+    → HaveNoLaterVotes start.age before → IsTry (group_of script start).opening before after try
+    → has try.set m ≡ false → slice_get after m ≡ Some log → IsLeftByOther (group_of script try.start) log
 others-left script start w choice before after tries try m log s sounds below t none at = record {
   stands = all-by (group_of script start).opening (group_of script try.start).opening log.entries refl
       (held-stand (group_of script start) w choice before tries m log s.group s.known s.held sounds here);

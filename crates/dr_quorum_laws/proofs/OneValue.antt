@@ -1,35 +1,22 @@
 -- All votes that were left are of one world: that in which each member has logged the vote that it may have
 -- begun to log. So they agree on one value.
-use Rattle.std.proofs.Common.{◌≡◌, ◌≢◌, refl, ap, sym, ◌∙◌, ◌⊎◌, inl, inr, subst, ℕ, zero, suc, ◌<◌, ◌≤◌, ◌==◌, arith, Bool, true, false, List, [], Contains, Option, None, Some, slice_get}
-use Rattle.std.proofs.lemmas.Bool.{cases_lt}
-use Rattle.std.proofs.lemmas.Option.{none-some, slice_get_within}
-use Rattle.std.proofs.lemmas.List.Elements.{Contains-push_cases}
 use Rattle.std.specs.Option.{option_map_or}
-use Rattle.dr_entry.specs.declared.record.Value.{Value}
-use Rattle.dr_entry.specs.declared.record.Vote.{Vote}
-use Rattle.dr_faithful.proofs.Writes.{at_other}
-use Rattle.dr_faithful.specs.Chosen.{AreChosen, Values, views_by}
+use Rattle.std.proofs.Common.{◌≡◌, ◌≢◌, refl, ap, sym, ◌∙◌, ◌⊎◌, inl, inr, subst, ℕ, zero, suc, ◌<◌, ◌≤◌, ◌==◌, arith, Bool, true, false, List, [], Contains, Option, None, Some, slice_get}
+use Rattle.std.proofs.lemmas.{Bool.cases_lt, List.Elements.Contains-push_cases, Option.{none-some, slice_get_within}}
+use Rattle.dr_entry.specs.declared.record.{Value.Value, Vote.Vote}
+use Rattle.dr_faithful.{specs.Chosen.{AreChosen, Values, views_by}, proofs.Writes.at_other}
 use Rattle.dr_history.specs.Members.{has}
+use Rattle.dr_machine.specs.{Effects.{logs_vote, vote_for}, Group.{Group, IsGroup, IsPresent, roster}}
+use Rattle.dr_machine.specs.{Guards.CanLogVote, Votes.{HasLogged, IsOf, MajorityHas}, World.World}
 use Rattle.dr_machine.specs.declared.event.Event.TheVariants.{LogVote}
-use Rattle.dr_machine.specs.Effects.{logs_vote, vote_for}
-use Rattle.dr_machine.specs.Group.{Group, IsGroup, IsPresent, roster}
-use Rattle.dr_machine.specs.Guards.{CanLogVote}
-use Rattle.dr_machine.specs.Votes.{HasLogged, IsOf, MajorityHas}
-use Rattle.dr_machine.specs.World.{World}
-use Rattle.dr_restart.specs.declared.lists.LogLists.{LogLists}
-use Rattle.dr_vote_laws.proofs.Logs.{logged_new, logged_stays}
-use Rattle.dr_vote_laws.proofs.Values.{majority_stays, same_ballot}
-use Rattle.dr_vote_laws.specs.Voting.{HaveVotedFor}
-use Rattle.dr_world_laws.proofs.HeldViews.{view-is}
-use Rattle.dr_world_laws.proofs.Reached as worlds
-use Rattle.dr_world_laws.proofs.Reached.{event-known}
-use Rattle.dr_world_laws.proofs.Telling.{has-present}
-use Rattle.dr_world_laws.proofs.Worlds.{Known, commits}
-use Rattle.dr_world_laws.specs.Views.{HasView}
 use Rattle.dr_restart.specs.Left.{AreLeft, AreLeftOf, MayLogVote, votes_of_age, votes_on_logs, without_ends}
-use Rattle.dr_quorum_laws.proofs.Ended.{view-present}
-use Rattle.dr_quorum_laws.proofs.Extra.{endless-known}
-use Rattle.dr_quorum_laws.proofs.Handing.{logged-left, was-left}
+use Rattle.dr_restart.specs.declared.lists.LogLists.{LogLists}
+use Rattle.dr_vote_laws.{specs.Voting.HaveVotedFor, proofs.Logs.{logged_new, logged_stays}}
+use Rattle.dr_vote_laws.proofs.Values.{majority_stays, same_ballot}
+use Rattle.dr_world_laws.{specs.Views.HasView, proofs.{HeldViews.view-is, Reached.event-known, Telling.has-present}}
+use Rattle.dr_world_laws.proofs.Worlds.{Known, commits}
+use Rattle.dr_world_laws.proofs.Reached as worlds
+use Rattle.dr_quorum_laws.proofs.{Ended.view-present, Extra.endless-known, Handing.{logged-left, was-left}}
 use Rattle.dr_quorum_laws.proofs.Lists.{filter-in, in-filter, in-nothing, in-read, read-in}
 
 -- a vote of one member takes no vote from another
@@ -61,8 +48,7 @@ record HaveLogged (g : Group) (values : Values) (w : World) (logs : List LogList
 -- a vote that was left is one of the age on the log
 vote-left : (g : Group) (logs : List LogLists) (i : ℕ) (x : Vote) → HasLogged (votes_on_logs g logs) i x
     → (log : LogLists) × (slice_get logs i ≡ Some log) × Contains log.votes x × (x.age ≡ g.opening.age)
-vote-left g logs i x h = by (slice_get logs i) refl
-    (in-read (votes_on_logs g logs i) h.0 x h.1)
+vote-left g logs i x h = by (slice_get logs i) refl (in-read (votes_on_logs g logs i) h.0 x h.1)
   where
     equal : (a b : ℕ) → (a == b) ≡ true → a ≡ b
     equal a b e = grind (arith, e)
@@ -91,14 +77,12 @@ left-on g logs i log x at c e = read-in (votes_on_logs g logs i) x (subst
 absent-none : (g : Group) (w : World) (logs : List LogLists) (i : ℕ) (x : Vote) → AreLeft g w logs
     → ¬ IsPresent g i → HasLogged (votes_on_logs g logs) i x → ⊥
 absent-none g w logs i x left absent h =
-    let t = vote-left g logs i x h in
-    omega (arith, (left.others i t.0 absent t.1).earlier.votes x t.2, t.3)
+    let t = vote-left g logs i x h in omega (arith, (left.others i t.0 absent t.1).earlier.votes x t.2, t.3)
 
 -- of a member, all such are one vote: the last one
-one-left : (g : Group) (w : World) (logs : List LogLists) (i : ℕ) → AreLeft g w logs → IsPresent g i
-    → ((x : Vote) → HasLogged (votes_on_logs g logs) i x → HasLogged w.past.votes i x)
-    ⊎ ((z : Vote) × MayLogVote g w i z
-    × ((x : Vote) → HasLogged (votes_on_logs g logs) i x → HasLogged w.past.votes i x ⊎ (z ≡ x)))
+one-left : (g : Group) (w : World) (logs : List LogLists) (i : ℕ) → AreLeft g w logs
+    → IsPresent g i → ((x : Vote) → HasLogged (votes_on_logs g logs) i x → HasLogged w.past.votes i x) ⊎ ((z : Vote)
+    × MayLogVote g w i z × ((x : Vote) → HasLogged (votes_on_logs g logs) i x → HasLogged w.past.votes i x ⊎ (z ≡ x)))
 one-left g w logs i left there = by (was-left-log (slice_get logs i) refl)
   where
     none : slice_get logs i ≡ None → (x : Vote) → HasLogged (votes_on_logs g logs) i x → HasLogged w.past.votes i x
@@ -124,16 +108,13 @@ one-left g w logs i left there = by (was-left-log (slice_get logs i) refl)
             → ((x : Vote) → HasLogged (votes_on_logs g logs) i x → HasLogged w.past.votes i x)
             ⊎ ((z : Vote) × MayLogVote g w i z
             × ((x : Vote) → HasLogged (votes_on_logs g logs) i x → HasLogged w.past.votes i x ⊎ (z ≡ x)))
-        of (inl (entries, same)) = inl (λ x h. read-in (w.past.votes i) x
-            (subst (λ l. Contains l x) same (on x h)))
+        of (inl (entries, same)) = inl (λ x h. read-in (w.past.votes i) x (subst (λ l. Contains l x) same (on x h)))
         of (inr (inl (entry, entries, p, same))) = inl (λ x h. read-in (w.past.votes i) x
             (subst (λ l. Contains l x) same (on x h)))
         of (inr (inr (z, entries, more, may))) = inr (
           z,
           may,
-          λ x h.
-              last x z (Contains-push_cases (w.past.votes i) z x
-              (subst (λ l. Contains l x) more (on x h))),
+          λ x h. last x z (Contains-push_cases (w.past.votes i) z x (subst (λ l. Contains l x) more (on x h))),
         )
           where
             last : (x z : Vote) → Contains (w.past.votes i) x ⊎ (z ≡ x) → HasLogged w.past.votes i x ⊎ (z ≡ x)
@@ -183,10 +164,9 @@ next-logged g values w logs n is left old = by (has g.opening.present n) refl
       world = logs_vote g old.world n v;
       known = event-known g values old.world (LogVote n v) is old.chosen now old.known;
       chosen = old.chosen;
-      logged = λ i x l h. below (λ x i. HasLogged (logs_vote g old.world n v).past.votes i x) x i l
-          (λ less. stay i x (old.logged i x less h))
-          (λ j. subst (λ k. HasLogged (logs_vote g old.world n v).past.votes k x) (sym j)
-          (new x (all x (subst (λ k. HasLogged (votes_on_logs g logs) k x) j h))));
+      logged = λ i x l h. below (λ x i. HasLogged (logs_vote g old.world n v).past.votes i x) x i l (λ less. stay i x
+          (old.logged i x less h)) (λ j. subst (λ k. HasLogged (logs_vote g old.world n v).past.votes k x)
+          (sym j) (new x (all x (subst (λ k. HasLogged (votes_on_logs g logs) k x) j h))));
       may = λ i u l may. vote-apart g old.world i n u v (λ same. absurd (omega (arith, l, same)))
           (old.may i u (omega (arith, l)) may);
       same = old.same;
@@ -200,11 +180,9 @@ next-logged g values w logs n is left old = by (has g.opening.present n) refl
             → HasLogged (logs_vote g old.world n v).past.votes i x
         stay i x h = logged_stays old.world.past.votes n (vote_for g old.world n v) i x h
 
-        new : (x : Vote) → HasLogged w.past.votes n x ⊎ (z ≡ x)
-            → HasLogged (logs_vote g old.world n v).past.votes n x
+        new : (x : Vote) → HasLogged w.past.votes n x ⊎ (z ≡ x) → HasLogged (logs_vote g old.world n v).past.votes n x
         new x (inl h) = stay n x (old.before n x h)
-        new x (inr same) = subst (HasLogged (logs_vote g old.world n v).past.votes n)
-            (old.same n v ∙ sym e ∙ same)
+        new x (inr same) = subst (HasLogged (logs_vote g old.world n v).past.votes n) (old.same n v ∙ sym e ∙ same)
             (logged_new old.world.past.votes n (vote_for g old.world n v))
 
     there : ((x : Vote) → HasLogged (votes_on_logs g logs) n x → HasLogged w.past.votes n x)
@@ -249,22 +227,19 @@ logged-there g w logs is y left i x h =
 pub left-ballot : (g : Group) (w : World) (logs : List LogLists) (i j : ℕ) (x z : Vote) → IsGroup g → Known g w
     → AreLeft g w logs → HasLogged (votes_on_logs g logs) i x → HasLogged (votes_on_logs g logs) j z
     → IsOf z x.view x.ballot → x ≡ z
-left-ballot g w logs i j x z is y left h k of =
-    same_ballot g (views_by g y.values) (all-logged g w logs is y left).world i j x z
-    (all-logged g w logs is y left).known.voting (logged-there g w logs is y left i x h)
-    (logged-there g w logs is y left j z k) of
+left-ballot g w logs i j x z is y left h k of = same_ballot g
+    (views_by g y.values) (all-logged g w logs is y left).world i j x z (all-logged g w logs is y left).known.voting
+    (logged-there g w logs is y left i x h) (logged-there g w logs is y left j z k) of
 
 pub left-majority : (g : Group) (w : World) (logs : List LogLists) (i j members : ℕ) (x z : Vote) → IsGroup g
     → Known g w → AreLeft g w logs → HasView g w x.view members → HasLogged (votes_on_logs g logs) i x
-    → HasLogged (votes_on_logs g logs) j z
-    → MajorityHas (votes_on_logs g logs) members (λ a. IsOf a x.view x.ballot)
+    → HasLogged (votes_on_logs g logs) j z → MajorityHas (votes_on_logs g logs) members (λ a. IsOf a x.view x.ballot)
     → z.view ≡ x.view → x.ballot ≤ z.ballot → z.value ≡ x.value
-left-majority g w logs i j members x z is y left held h k most view above =
-    majority_stays g (views_by g y.values) (all-logged g w logs is y left).world i j x z
-    (all-logged g w logs is y left).known.voting (logged-there g w logs is y left i x h)
-    (logged-there g w logs is y left j z k)
-    (subst (λ mask. MajorityHas (all-logged g w logs is y left).world.past.votes mask
-    (λ a. IsOf a x.view x.ballot)) (sym (view-is g y.values w x.view members is y.chosen held)) there) view above
+left-majority g w logs i j members x z is y left held h k most view above = majority_stays g
+    (views_by g y.values) (all-logged g w logs is y left).world i j x z (all-logged g w logs is y left).known.voting
+    (logged-there g w logs is y left i x h) (logged-there g w logs is y left j z k)
+    (subst (λ mask. MajorityHas (all-logged g w logs is y left).world.past.votes mask (λ a. IsOf a x.view x.ballot))
+    (sym (view-is g y.values w x.view members is y.chosen held)) there) view above
   where
     there : MajorityHas (all-logged g w logs is y left).world.past.votes members (λ a. IsOf a x.view x.ballot)
     there = record {

@@ -1,34 +1,21 @@
 -- The path of views that the logs handed in name has every view that the histories of the age have.
-use Rattle.std.proofs.Common.{◌≡◌, ◌≢◌, ◌⊎◌, inl, inr, ◌&&◌, not, Bool, false, refl, ap, sym, ◌∙◌, subst, ℕ, zero, suc, ◌+◌, ◌-◌, ◌^◌, ◌<◌, ◌≤◌, nat_lt, arith, true, List, [], Contains, filter, Option, None, Some, option_and_then, option_map, if◌then◌else◌}
 use Rattle.std.specs.Option.{option_map_or}
-use Rattle.dr_entry.specs.declared.record.Value.{Value}
-use Rattle.dr_entry.specs.declared.record.Vote.{Vote}
+use Rattle.std.proofs.Common.{◌≡◌, ◌≢◌, ◌⊎◌, inl, inr, ◌&&◌, not, Bool, false, refl, ap, sym, ◌∙◌, subst, ℕ, zero, suc, ◌+◌, ◌-◌, ◌^◌, ◌<◌, ◌≤◌, nat_lt, arith, true, List, [], Contains, filter, Option, None, Some, option_and_then, option_map, if◌then◌else◌}
+use Rattle.dr_entry.specs.declared.record.{Value.Value, Vote.Vote}
 use Rattle.dr_faithful.specs.Chosen.{views_by}
-use Rattle.dr_history.specs.Members.{has, members_of}
-use Rattle.dr_history.specs.Order.{IsNewIn}
-use Rattle.dr_history.proofs.Bits.{has_ones, has_zero}
+use Rattle.dr_history.{specs.{Members.{has, members_of}, Order.IsNewIn}, proofs.Bits.{has_ones, has_zero}}
 use Rattle.dr_history.proofs.Masks.{same_masks}
 use Rattle.dr_history_laws.proofs.Members.{has-member, member-has}
+use Rattle.dr_machine.specs.{Group.{Group, IsGroup, IsPresent, roster}, Votes.{HasLogged, IsOf, vote_in}, World.World}
 use Rattle.dr_machine.proofs.Presence.{in_roster}
-use Rattle.dr_machine.specs.Group.{Group, IsGroup, IsPresent, roster}
-use Rattle.dr_machine.specs.Votes.{HasLogged, IsOf, vote_in}
-use Rattle.dr_machine.specs.World.{World}
-use Rattle.dr_restart.specs.declared.lists.Attempt.{Attempt}
-use Rattle.dr_restart.specs.declared.lists.LogLists.{LogLists}
 use Rattle.dr_restart.specs.Choosing.{HasQuorum, Handed, highest, names_next, next_on_path, next_votes, of_set, on_path}
-use Rattle.dr_vote_laws.proofs.Cuts.{vote_cut}
-use Rattle.dr_vote_laws.specs.Voting.{HaveVotedFor, IsCut}
-use Rattle.dr_words.proofs.Majorities.{majorities_meet_lem}
+use Rattle.dr_restart.specs.{Left.IsLeftByMember, declared.lists.{Attempt.Attempt, LogLists.LogLists}}
+use Rattle.dr_vote_laws.{specs.Voting.{HaveVotedFor, IsCut}, proofs.Cuts.vote_cut}
+use Rattle.dr_words.{specs.Masks.{next_members, without}, proofs.Majorities.majorities_meet_lem}
 use Rattle.dr_words.proofs.Masks.{has_mask_of, has_next_members}
-use Rattle.dr_words.specs.Masks.{next_members, without}
-use Rattle.dr_world_laws.proofs.ChosenViews.{views-within}
-use Rattle.dr_world_laws.proofs.HeldViews.{view-is}
-use Rattle.dr_world_laws.proofs.Telling.{view-ended}
-use Rattle.dr_world_laws.proofs.Worlds.{Known}
-use Rattle.dr_world_laws.specs.Views.{HasView}
-use Rattle.dr_restart.specs.Left.{IsLeftByMember}
-use Rattle.dr_quorum_laws.proofs.Ended.{first-view, view-before, view-present}
-use Rattle.dr_quorum_laws.proofs.Extra.{left-value}
+use Rattle.dr_world_laws.{specs.Views.HasView, proofs.{ChosenViews.views-within, HeldViews.view-is}}
+use Rattle.dr_world_laws.proofs.{Telling.view-ended, Worlds.Known}
+use Rattle.dr_quorum_laws.proofs.{Ended.{first-view, view-before, view-present}, Extra.left-value}
 use Rattle.dr_quorum_laws.proofs.Handing.{Since, left-vote, logged-left, quorum-meets, set-log, was-left}
 use Rattle.dr_quorum_laws.proofs.Lists.{filter-in, flat_map-in, highest-in, highest-is, in-filter, in-flat_map, in-nothing, read-in}
 
@@ -39,12 +26,7 @@ of-roster-alone : (n mask : ℕ) → ((i : ℕ) → has mask i ≡ true → i < 
 of-roster-alone n mask within = same_masks (without mask (2 ^ n - 1)) 0 (λ i. by i (has mask i) refl)
   where
     by : (i : ℕ) (b : Bool) → has mask i ≡ b → has (without mask (2 ^ n - 1)) i ≡ has 0 i
-    by i false e = grind (
-      arith,
-      e,
-      has_mask_of (λ j. has mask j && not (has (2 ^ n - 1) j)) i,
-      has_zero i,
-    )
+    by i false e = grind (arith, e, has_mask_of (λ j. has mask j && not (has (2 ^ n - 1) j)) i, has_zero i)
     by i true e = grind (
       arith,
       e,
@@ -59,14 +41,12 @@ names_so : (n age v members : ℕ) (x : Vote) → x.age ≡ age → x.view ≡ v
     → next_members members x.value.leavers ≢ 0 → names_next n age v members x ≡ true
 names_so n age v members x a b c d inside e = grind (arith, a, b, c, d, inside, e)
 
-names_parts : (n age v members : ℕ) (x : Vote) → names_next n age v members x ≡ true
-    → (x.age ≡ age) × (x.view ≡ v)
+names_parts : (n age v members : ℕ) (x : Vote) → names_next n age v members x ≡ true → (x.age ≡ age) × (x.view ≡ v)
 names_parts n age v members x e = grind (arith, e)
 
 -- a vote of a view names the next one: it names somebody, and somebody stays
-vote_names : (g : Group) (w : World) (i members : ℕ) (x : Vote) → IsGroup g → Known g w
-    → HasView g w x.view members → HasLogged w.past.votes i x
-    → names_next (roster g) g.opening.age x.view members x ≡ true
+vote_names : (g : Group) (w : World) (i members : ℕ) (x : Vote) → IsGroup g → Known g w → HasView g w x.view members
+    → HasLogged w.past.votes i x → names_next (roster g) g.opening.age x.view members x ≡ true
 vote_names g w i members x is y held h = names_so (roster g) g.opening.age x.view members x
     (ap (λ (z : Vote). z.age) own) refl (ap (λ (z : Vote). z.members) own) some inside left
   where
@@ -138,8 +118,7 @@ among-vote h n age v members x c = by t.0 (h t.0) refl t.1 t.2
     by m (Some log) e is there =
         let r = filter-in (names_next n age v members) log.votes x (subst
         (λ o. Contains (filter (names_next n age v members) (option_map_or (λ l. l.votes) o [])) x) e there) in
-        let at = read-in (members_of members) m is in
-        (m, log, e, member-has members at.0 m at.1, r.0, r.1)
+        let at = read-in (members_of members) m is in (m, log, e, member-has members at.0 m at.1, r.0, r.1)
 
 -- ---- the path
 
@@ -157,8 +136,7 @@ next_is g w choice logs tries set v members next s held after quorum = from top
     is : IsGroup g
     is = s.group
 
-    ended : (b : ℕ) × (x : Value) × HaveVotedFor w.past.votes members v b x
-        × (next ≡ next_members members x.leavers)
+    ended : (b : ℕ) × (x : Value) × HaveVotedFor w.past.votes members v b x × (next ≡ next_members members x.leavers)
     ended = let plus : suc v ≡ v + 1 = omega arith in
         view-ended g w v members next s.group s.known held (subst (λ k. HasView g w k next) plus after)
 
@@ -194,8 +172,7 @@ next_is g w choice logs tries set v members next s held after quorum = from top
     top = highest-is (next_votes (of_set logs set) (roster g) g.opening.age v members) one.0 found
 
     from : (y : Vote) × (highest (next_votes (of_set logs set) (roster g) g.opening.age v members) ≡ Some y)
-        × (one.0.ballot ≤ y.ballot)
-        → next_on_path (of_set logs set) (roster g) g.opening.age v members ≡ Some next
+        × (one.0.ballot ≤ y.ballot) → next_on_path (of_set logs set) (roster g) g.opening.age v members ≡ Some next
     from (y, e, l) =
         let a = among-vote (of_set logs set) (roster g) g.opening.age v members y
         (highest-in (next_votes (of_set logs set) (roster g) g.opening.age v members) y e) in
@@ -204,8 +181,7 @@ next_is g w choice logs tries set v members next s held after quorum = from top
         let value : y.value ≡ ended.1 = left-value g w a.0 ended.0 members ended.1 y s.group s.known
         (subst (λ k. HasView g w k members) (sym p.1) held)
         (subst (λ k. HaveVotedFor w.past.votes members k ended.0 ended.1) (sym p.1) ended.2)
-        (omega (arith, l, one.2.0.by_ballot))
-        (left-vote g w a.0 t.0 y t.1 (subst (λ l. Contains l y) t.2 a.4) p.0) in
+        (omega (arith, l, one.2.0.by_ballot)) (left-vote g w a.0 t.0 y t.1 (subst (λ l. Contains l y) t.2 a.4) p.0) in
         ap (option_map (λ (x : Vote). next_members members x.value.leavers)) e
         ∙ ap (λ (x : Value). Some (next_members members x.leavers)) value ∙ ap Some (sym ended.3)
 
@@ -214,23 +190,19 @@ below-last v few = grind (arith, few)
 
 -- so each view of the histories is on the path, where of each view on it more than half has
 pub path-has : (g : Group) (w : World) (choice logs : List LogLists) (tries : List Attempt) (set v members : ℕ)
-    → Since g w choice tries logs
-    → ((u mask : ℕ) → on_path (of_set logs set) (roster g) g.opening.age g.opening.members u ≡ Some mask
-    → HasQuorum (of_set logs set) mask)
-    → HasView g w v members
-    → on_path (of_set logs set) (roster g) g.opening.age g.opening.members v ≡ Some members
+    → Since g w choice tries logs → ((u mask : ℕ) → on_path (of_set logs set)
+    (roster g) g.opening.age g.opening.members u ≡ Some mask → HasQuorum (of_set logs set) mask)
+    → HasView g w v members → on_path (of_set logs set) (roster g) g.opening.age g.opening.members v ≡ Some members
 unfolding on_path
 path-has g w choice logs tries set zero members s quorum held =
     ap Some (sym (first-view g w members s.group s.known held))
-path-has g w choice logs tries set (suc v) members s quorum held =
-    by (view-before g w v members s.group s.known held)
+path-has g w choice logs tries set (suc v) members s quorum held = by (view-before g w v members s.group s.known held)
     (λ mask. path-has g w choice logs tries set v mask s quorum)
   where
     h : Handed
     h = of_set logs set
 
-    by : (v + 1 < 32) × (mask : ℕ) × HasView g w v mask
-        → ((mask : ℕ) → HasView g w v mask
+    by : (v + 1 < 32) × (mask : ℕ) × HasView g w v mask → ((mask : ℕ) → HasView g w v mask
         → on_path (of_set logs set) (roster g) g.opening.age g.opening.members v ≡ Some mask)
         → (if nat_lt v 255 then option_and_then (next_on_path (of_set logs set) (roster g) g.opening.age v)
         (on_path (of_set logs set) (roster g) g.opening.age g.opening.members v) else None) ≡ Some members

@@ -1,20 +1,16 @@
 -- Logs make one start, or are refused for one reason.
 use Rattle.std.proofs.Common.{◌≡◌, refl, ap, ap₂, sym, ◌∙◌, ◌⊎◌, inl, inr, subst, ℕ, ◌+◌, ◌*◌, ◌/◌, ◌<◌, ◌≤◌, arith, List, [], ◌∷◌, ◌++◌, length, length-append, Contains, None, Some, slice_get, append-nil}
 use Rattle.std.proofs.lemmas.Option.{none-some, same_Some}
-use Rattle.dr_entry.specs.declared.entry.Entry.{Entry}
-use Rattle.dr_entry.specs.declared.entry.Entry.TheVariants.{View}
-use Rattle.dr_history.specs.declared.opening.Opening.{Opening}
-use Rattle.dr_history.specs.History.{IsPrefixOf}
-use Rattle.dr_history.specs.Members.{members_of}
+use Rattle.dr_entry.specs.declared.entry.Entry.{Entry, TheVariants.View}
+use Rattle.dr_history.specs.{History.IsPrefixOf, Members.members_of}
 use Rattle.dr_history.specs.Restarting.{AllStand, AreAlong, DifferAt, IsEarlierPair, IsForeignAt}
-use Rattle.dr_history.specs.Soundness.{whole_roster}
+use Rattle.dr_history.specs.{Soundness.whole_roster, declared.opening.Opening.Opening}
 use Rattle.dr_history_laws.proofs.Differing.{differ_not_along, one_difference}
 use Rattle.dr_history_laws.proofs.Views.{View-once, ViewsRise, ViewsRise-standing}
-use Rattle.dr_restart.specs.declared.lists.LogLists.{LogLists}
-use Rattle.dr_restart.specs.declared.start.Start.{Start}
 use Rattle.dr_restart.specs.Choosing.{AreFirst, AreOfHolders, AreOfNobody, AreOnHolder, Handed, HasQuorum, HasAge, IsAgeAfter, IsChosenStart, IsLastAge, handed_of, on_path}
 use Rattle.dr_restart.specs.Refusing.{AreHoldersAlong, Refusal, HasPath, HaveNothingForeign, IsFirstForeignOf, IsFirstSplit, IsHeldBy, IsRefusedFor, LacksPath, LacksQuorum}
 use Rattle.dr_restart.specs.Refusing.Refusal.{AgesUsedUp, Disagree, Foreign, NoQuorum}
+use Rattle.dr_restart.specs.declared.{lists.LogLists.LogLists, start.Start.Start}
 use Rattle.dr_quorum_laws.proofs.Lists.{prefix-in, read-in}
 
 apart : (i j : ℕ) → (i < j) ⊎ ((i ≡ j) ⊎ (j < i))
@@ -30,8 +26,7 @@ one-last h a b x y = omega (
 )
 
 pub no-last : (h : Handed) (es : List Entry) (age : ℕ) → AreOfNobody h es → IsLastAge h age → ⊥
-no-last h es age n x =
-    none-some x.some.3.0 (sym (n.nobody x.some.0 x.some.1 x.some.2) ∙ x.some.3.1)
+no-last h es age n x = none-some x.some.3.0 (sym (n.nobody x.some.0 x.some.1 x.some.2) ∙ x.some.3.1)
 
 same-long : (xs ys : List Entry) → IsPrefixOf xs ys → length ys ≤ length xs → xs ≡ ys
 same-long xs ys (rest, e) l = by rest e
@@ -62,8 +57,7 @@ one-age : (h : Handed) (a b : ℕ) → IsAgeAfter h a → IsAgeAfter h b → a �
 one-age h a b x y = by x.next y.next
   where
     by : (a ≡ 0) ⊎ ((c : ℕ) × (m : ℕ) × (log : LogLists) × (h m ≡ Some log) × HasAge log c × (a ≡ c + 1))
-        → (b ≡ 0) ⊎ ((c : ℕ) × (m : ℕ) × (log : LogLists) × (h m ≡ Some log) × HasAge log c × (b ≡ c + 1))
-        → a ≡ b
+        → (b ≡ 0) ⊎ ((c : ℕ) × (m : ℕ) × (log : LogLists) × (h m ≡ Some log) × HasAge log c × (b ≡ c + 1)) → a ≡ b
     by (inl e) (inl f) = e ∙ sym f
     by (inl e) (inr (c, m, log, at, has, f)) = absurd (omega (arith, e, x.above m c log at has))
     by (inr (c, m, log, at, has, e)) (inl f) = absurd (omega (arith, f, y.above m c log at has))
@@ -87,8 +81,7 @@ one-start o h s t x y = same-start s t (one-age h s.age t.age x.age y.age) (x.pr
 -- ---- what each reason excludes
 
 pub foreign-no : (o : Opening) (h : Handed) (m place : ℕ) → IsFirstForeignOf o h m place → HaveNothingForeign o h → ⊥
-foreign-no o h m place x sound =
-    x.foreign.foreign (sound m x.log x.here place x.foreign.entry x.foreign.here)
+foreign-no o h m place x sound = x.foreign.foreign (sound m x.log x.here place x.foreign.entry x.foreign.here)
 
 pub lacks-no : (h : Handed) (members have need : ℕ) → LacksQuorum h members have need → HasQuorum h members → ⊥
 lacks-no h members have need x q =
@@ -118,8 +111,7 @@ path-no n h age other first view have need last is x also path =
 
 -- ---- a start and a reason exclude each other
 
-pub no-refusal : (o : Opening) (h : Handed) (s : Start) (r : Refusal) → IsChosenStart o h s
-    → IsRefusedFor o h r → ⊥
+pub no-refusal : (o : Opening) (h : Handed) (s : Start) (r : Refusal) → IsChosenStart o h s → IsRefusedFor o h r → ⊥
 no-refusal o h s (Foreign m place) c x = foreign-no o h m place x c.sound
 no-refusal o h s (NoQuorum None have need) c x = lacks-no h (whole_roster o) have need x.1 c.quorum
 no-refusal o h s (Disagree a b place) c x = by c.entries
@@ -133,13 +125,11 @@ no-refusal o h s (NoQuorum (Some v) have need) c x = by c.entries
     by (inl y) = path-no (length o.messages) h x.1 y.age x.4 v have need x.2 x.5 x.6 y.last
         (λ f is u members e. y.path f u members is e)
     by (inr y) = no-last h s.entries x.1 y x.2
-no-refusal o h s AgesUsedUp c x =
-    omega (arith, c.left, c.age.above x.2 65535 x.3 x.4 x.5)
+no-refusal o h s AgesUsedUp c x = omega (arith, c.left, c.age.above x.2 65535 x.3 x.4 x.5)
 
 -- ---- one reason
 
-one-place : (o : Opening) (es : List Entry) (p q : ℕ) → IsForeignAt o es p
-    → IsForeignAt o es q → p ≡ q
+one-place : (o : Opening) (es : List Entry) (p q : ℕ) → IsForeignAt o es p → IsForeignAt o es q → p ≡ q
 one-place o es p q x y = by (apart p q)
   where
     by : (p < q) ⊎ ((p ≡ q) ⊎ (q < p)) → p ≡ q
@@ -152,8 +142,7 @@ one-foreign : (o : Opening) (h : Handed) (m p n q : ℕ) → IsFirstForeignOf o 
 one-foreign o h m p n q x y = by (apart m n)
   where
     later : (m p n q : ℕ) → IsFirstForeignOf o h m p → IsFirstForeignOf o h n q → m < n → ⊥
-    later m p n q x y l =
-        x.foreign.foreign (y.before m x.log l x.here p x.foreign.entry x.foreign.here)
+    later m p n q x y l = x.foreign.foreign (y.before m x.log l x.here p x.foreign.entry x.foreign.here)
 
     by : (m < n) ⊎ ((m ≡ n) ⊎ (n < m)) → Foreign m p ≡ Foreign n q
     by (inl l) = absurd (later m p n q x y l)
@@ -168,8 +157,7 @@ one-split : (h : Handed) (age a b p i j q : ℕ) → IsFirstSplit h age a b p �
 one-split h age a b p i j q x y = by (apart b j) (apart a i)
   where
     earlier : (a b p i j q : ℕ) → IsFirstSplit h age a b p → IsFirstSplit h age i j q → IsEarlierPair a b i j → ⊥
-    earlier a b p i j q x y e =
-        differ_not_along x.one x.other p x.differ (y.before a b x.one x.other e x.in_a x.in_b)
+    earlier a b p i j q x y e = differ_not_along x.one x.other p x.differ (y.before a b x.one x.other e x.in_a x.in_b)
 
     same-held : (m n : ℕ) (f g : List Entry) → m ≡ n → IsHeldBy h age m f → IsHeldBy h age n g → f ≡ g
     same-held m n f g e (log, at, ends, is) (other, here, also, too) =
@@ -207,8 +195,7 @@ pub one-first : (o : Opening) (h : Handed) (age f g : ℕ) → HaveNothingForeig
 one-first o h age f g sound along x y = by (along x.0 y.0 x.1 y.1)
   where
     rise : (es : List Entry) → AreOnHolder h age es → ViewsRise 0 es
-    rise es (m, log, at, ends, e) =
-        ViewsRise-standing o es (subst (AllStand o) (sym e) (sound m log at))
+    rise es (m, log, at, ends, e) = ViewsRise-standing o es (subst (AllStand o) (sym e) (sound m log at))
 
     by : AreAlong x.0 y.0 → f ≡ g
     by (inl p) = one-view y.0 age 0 f g (rise y.0 y.1) (prefix-in x.0 y.0 (View age 0 f) p x.2) y.2
@@ -236,8 +223,7 @@ one-path n h age first v a b u c d x y = by (apart v u)
 one-short : (o : Opening) (h : Handed) (a b c d : ℕ) → LacksQuorum h (whole_roster o) a b
     → LacksQuorum h (whole_roster o) c d → NoQuorum None a b ≡ NoQuorum None c d
 one-short o h a b c d x y =
-    let t = same-count h (whole_roster o) (whole_roster o) a b c d refl x y in
-    ap₂ (NoQuorum None) t.0 t.1
+    let t = same-count h (whole_roster o) (whole_roster o) a b c d refl x y in ap₂ (NoQuorum None) t.0 t.1
 
 pub one-refusal : (o : Opening) (h : Handed) (r q : Refusal) → IsRefusedFor o h r → IsRefusedFor o h q → r ≡ q
 one-refusal o h (Foreign m p) (Foreign n q) x y = one-foreign o h m p n q x y
@@ -247,29 +233,24 @@ one-refusal o h (Foreign m p) (Disagree i j k) x y = absurd (foreign-no o h m p 
 one-refusal o h (Foreign m p) AgesUsedUp x y = absurd (foreign-no o h m p x y.0.0)
 one-refusal o h (NoQuorum None a b) (Foreign n q) x y = absurd (foreign-no o h n q y x.0)
 one-refusal o h (NoQuorum None a b) (NoQuorum None c d) x y = one-short o h a b c d x.1 y.1
-one-refusal o h (NoQuorum None a b) (NoQuorum (Some u) c d) x y =
-    absurd (lacks-no h (whole_roster o) a b x.1 y.0.1)
+one-refusal o h (NoQuorum None a b) (NoQuorum (Some u) c d) x y = absurd (lacks-no h (whole_roster o) a b x.1 y.0.1)
 one-refusal o h (NoQuorum None a b) (Disagree i j k) x y = absurd (lacks-no h (whole_roster o) a b x.1 y.0.1)
 one-refusal o h (NoQuorum None a b) AgesUsedUp x y = absurd (lacks-no h (whole_roster o) a b x.1 y.0.1)
 one-refusal o h (Disagree a b p) (Foreign n q) x y = absurd (foreign-no o h n q y x.0.0)
 one-refusal o h (Disagree a b p) (NoQuorum None c d) x y = absurd (lacks-no h (whole_roster o) c d y.1 x.0.1)
-one-refusal o h (Disagree a b p) (NoQuorum (Some u) c d) x y =
-    absurd (split-no h x.1 y.1 a b p x.2 x.3 y.2 y.3)
+one-refusal o h (Disagree a b p) (NoQuorum (Some u) c d) x y = absurd (split-no h x.1 y.1 a b p x.2 x.3 y.2 y.3)
 one-refusal o h (Disagree a b p) (Disagree i j q) x y =
     one-split h x.1 a b p i j q x.3 (subst (λ age. IsFirstSplit h age i j q) (one-last h y.1 x.1 y.2 x.2) y.3)
 one-refusal o h (Disagree a b p) AgesUsedUp x y = absurd (split-no h x.1 x.1 a b p x.2 x.3 x.2 (y.1 x.1 x.2).0)
 one-refusal o h (NoQuorum (Some v) a b) (Foreign n q) x y = absurd (foreign-no o h n q y x.0.0)
-one-refusal o h (NoQuorum (Some v) a b) (NoQuorum None c d) x y =
-    absurd (lacks-no h (whole_roster o) c d y.1 x.0.1)
+one-refusal o h (NoQuorum (Some v) a b) (NoQuorum None c d) x y = absurd (lacks-no h (whole_roster o) c d y.1 x.0.1)
 one-refusal o h (NoQuorum (Some v) a b) (NoQuorum (Some u) c d) x y =
     let age : y.1 ≡ x.1 = one-last h y.1 x.1 y.2 x.2 in
-    let first : y.4 ≡ x.4 =
-    one-first o h x.1 y.4 x.4 x.0.0 x.3 (subst (λ e. AreFirst h e y.4) age y.5) x.5 in
+    let first : y.4 ≡ x.4 = one-first o h x.1 y.4 x.4 x.0.0 x.3 (subst (λ e. AreFirst h e y.4) age y.5) x.5 in
     one-path (length o.messages) h x.1 x.4 v a b u c d x.6
     (subst (λ f. LacksPath (length o.messages) h x.1 f u c d) first
     (subst (λ e. LacksPath (length o.messages) h e y.4 u c d) age y.6))
-one-refusal o h (NoQuorum (Some v) a b) (Disagree i j q) x y =
-    absurd (split-no h y.1 x.1 i j q y.2 y.3 x.2 x.3)
+one-refusal o h (NoQuorum (Some v) a b) (Disagree i j q) x y = absurd (split-no h y.1 x.1 i j q y.2 y.3 x.2 x.3)
 one-refusal o h (NoQuorum (Some v) a b) AgesUsedUp x y =
     absurd (path-no (length o.messages) h x.1 x.1 x.4 v a b x.2 x.5 x.6 x.2 (y.1 x.1 x.2).1)
 one-refusal o h AgesUsedUp (Foreign n q) x y = absurd (foreign-no o h n q y x.0.0)

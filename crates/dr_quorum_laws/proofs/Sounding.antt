@@ -1,39 +1,23 @@
 -- A start that logs make is one that an age may start with.
+use Rattle.std.specs.{Option.option_map_or, Prelude.{Some, Option}}
 use Rattle.std.proofs.Common.{◌≡◌, refl, ap, sym, ◌∙◌, ◌⊎◌, inl, inr, subst, ℕ, ◌<◌, nat_lt, arith, true, length, Contains, slice_get, ◌^◌, List, All, take, get_or, []}
 use Rattle.std.proofs.lemmas.Option.{none-some, slice_get-get_or, slice_get_within}
+use Rattle.dr_entry.specs.{Spelling.IsValidEntry, declared.{end.MemberEnd.MemberEnd, entry.Entry.Entry}}
 use Rattle.dr_entry.specs.declared.entry.Entry.TheVariants.{View}
-use Rattle.dr_history.specs.declared.opening.Opening.{Opening}
-use Rattle.dr_history.specs.History.{GroupView, view_of, IsPrefixOf}
-use Rattle.dr_history.specs.Members.{has}
-use Rattle.dr_history.specs.Restarting.{AllStand}
-use Rattle.dr_history.specs.Soundness.{Sound, whole_roster}
-use Rattle.dr_history_laws.proofs.Standing.{all-by}
-use Rattle.std.specs.Prelude.{Some, Option}
-use Rattle.std.specs.Option.{option_map_or}
-use Rattle.dr_entry.specs.declared.entry.Entry.{Entry}
-use Rattle.dr_entry.specs.Spelling.{IsValidEntry}
-use Rattle.dr_entry.specs.declared.end.MemberEnd.{MemberEnd}
-use Rattle.dr_history.proofs.Bits.{has_ones, has_zero}
-use Rattle.dr_history.proofs.Histories.{AreFirstPartsOf}
-use Rattle.dr_history.specs.Agreement.{accounts_of}
-use Rattle.dr_restart.specs.declared.lists.LogLists.{LogLists}
-use Rattle.dr_restart.specs.declared.start.Start.{Start}
+use Rattle.dr_history.specs.{Agreement.accounts_of, History.{GroupView, view_of, IsPrefixOf}, Members.has}
+use Rattle.dr_history.specs.{Restarting.AllStand, Soundness.{Sound, whole_roster}, declared.opening.Opening.Opening}
+use Rattle.dr_history.proofs.{Bits.{has_ones, has_zero}, Histories.AreFirstPartsOf}
+use Rattle.dr_history_laws.{specs.Parts.AreFirstParts, proofs.Standing.all-by}
 use Rattle.dr_restart.specs.Choosing.{AreOfHolders, AreOfNobody, Handed, HasQuorum, IsChosenStart, handed_of, IsAgeAfter}
-use Rattle.dr_restart.specs.Trying.{opened_by}
+use Rattle.dr_restart.specs.{Groups.{first_group_of, group_of}, Refusing.AreEnough, Trying.opened_by}
+use Rattle.dr_restart.specs.declared.{lists.LogLists.LogLists, start.Start.Start}
 use Rattle.dr_restart.proofs.Groups.{first_group, valid_entry}
-use Rattle.dr_restart.specs.Groups.{first_group_of, group_of}
-use Rattle.dr_machine.specs.Group.{IsGroup, AllPresent, roster}
-use Rattle.dr_script.specs.declared.script.Script.{Script}
-use Rattle.dr_script.specs.Ranges.{HasGroupRanges}
-use Rattle.dr_history_laws.specs.Parts.{AreFirstParts}
-use Rattle.dr_machine.proofs.Presence.{is_present}
-use Rattle.dr_restart.specs.Refusing.{AreEnough}
-use Rattle.dr_quorum_laws.proofs.Handing.{handed-part, quorum-meets}
-use Rattle.dr_quorum_laws.proofs.LastViews.{last-view}
+use Rattle.dr_machine.{specs.Group.{IsGroup, AllPresent, roster}, proofs.Presence.is_present}
+use Rattle.dr_script.specs.{Ranges.HasGroupRanges, declared.script.Script.Script}
+use Rattle.dr_quorum_laws.proofs.{Handing.{handed-part, quorum-meets}, LastViews.last-view}
 
 -- all entries of the start may stand
-start-stands : (o : Opening) (h : Handed) (start : Start) → IsChosenStart o h start
-    → AllStand o start.entries
+start-stands : (o : Opening) (h : Handed) (start : Start) → IsChosenStart o h start → AllStand o start.entries
 start-stands o h start c = by c.entries
   where
     by : AreOfHolders o h start.entries ⊎ AreOfNobody h start.entries → AllStand o start.entries
@@ -57,8 +41,7 @@ start-present : (o : Opening) (h : Handed) (start : Start) (m : ℕ) → IsChose
 start-present o h start m c e = by (has_ones (length o.messages) m)
     (handed-part h (whole_roster o) m (subst (λ mask. has mask m ≡ true) c.present e))
   where
-    by : has (whole_roster o) m ≡ nat_lt m (length o.messages) → has (whole_roster o) m ≡ true
-        → m < length o.messages
+    by : has (whole_roster o) m ≡ nat_lt m (length o.messages) → has (whole_roster o) m ≡ true → m < length o.messages
     by is there = grind (arith, is, there)
 
 -- where more than half of the roster have handed in their logs, somebody has
@@ -67,21 +50,16 @@ handed-some o h quorum = nonzero (handed_of h (whole_roster o)) t.0 t.2
   where
     t : (m : ℕ) × (has (whole_roster o) m ≡ true) × (has (handed_of h (whole_roster o)) m ≡ true)
         × (log : LogLists) × (h m ≡ Some log)
-    t = quorum-meets h (whole_roster o) (handed_of h (whole_roster o)) quorum (handed-part h (whole_roster o))
-        quorum
+    t = quorum-meets h (whole_roster o) (handed_of h (whole_roster o)) quorum (handed-part h (whole_roster o)) quorum
 
     nonzero : (mask i : ℕ) → has mask i ≡ true → 0 < mask
     nonzero mask i h = grind (arith, h, has_zero i)
 
-pub choice-sound : (o : Opening) (h : Handed) (start : Start) → IsChosenStart o h start
-    → Sound (opened_by o start)
+pub choice-sound : (o : Opening) (h : Handed) (start : Start) → IsChosenStart o h start → Sound (opened_by o start)
 choice-sound o h start c = record {
   entries = all-by o (opened_by o start) start.entries refl (start-stands o h start c);
   later = λ v e. start-later o h start v c e;
-  members = record {
-    some = c.some;
-    within = λ m e. start-present o h start m c (c.members m e);
-  };
+  members = record { some = c.some; within = λ m e. start-present o h start m c (c.members m e) };
   part = c.members;
   present = λ m e. start-present o h start m c e;
 }
@@ -106,9 +84,8 @@ choice-group script h start ranges c = record {
 
 -- a start is chosen that has what the steps have found
 pub chosen_start : (o : Opening) (h : Handed) (start : Start) (es : List Entry) → AreEnough o h
-    → AreOfHolders o h es ⊎ AreOfNobody h es → start.entries ≡ es → IsAgeAfter h start.age
-    → start.age < 2 ^ 16 → start.present ≡ handed_of h (whole_roster o) → start.members ≡ start.present
-    → IsChosenStart o h start
+    → AreOfHolders o h es ⊎ AreOfNobody h es → start.entries ≡ es → IsAgeAfter h start.age → start.age < 2 ^ 16
+    → start.present ≡ handed_of h (whole_roster o) → start.members ≡ start.present → IsChosenStart o h start
 chosen_start o h start es enough chosen same age left present members = record {
   sound = enough.0;
   quorum = enough.1;
@@ -122,10 +99,9 @@ chosen_start o h start es enough chosen same age left present members = record {
 
 pub chosen_valid : (script : Script) (h : Handed) (start : Start) → HasGroupRanges script
     → IsChosenStart (first_group_of script).opening h start → All IsValidEntry start.entries
-chosen_valid script h start ranges c i d l =
-    valid_entry script start (take i start.entries) (get_or start.entries i d) ranges
-    ((choice-sound (first_group_of script).opening h start c).entries i (get_or start.entries i d)
-    (slice_get-get_or start.entries i d l))
+chosen_valid script h start ranges c i d l = valid_entry script start (take i start.entries)
+    (get_or start.entries i d) ranges ((choice-sound (first_group_of script).opening h start c).entries i
+    (get_or start.entries i d) (slice_get-get_or start.entries i d l))
 
 -- first parts of the histories of its members, by their accounts
 pub first_parts : (script : Script) (start : Start) (ends : List MemberEnd) (lists : List (List Entry))

@@ -1,32 +1,20 @@
 -- After a try the logs hold again, with the try at the end of the list.
 use Rattle.std.proofs.Common.{◌≡◌, ap, sym, ◌∙◌, ◌⊎◌, inl, inr, subst, ℕ, ◌<◌, ◌≤◌, arith, true, List, [], ◌∷◌, ◌++◌, length, take, Contains, Some, slice_get, append-nil, append_assoc, length-append, take_at}
-use Rattle.std.proofs.lemmas.Bool.{cases_lt}
-use Rattle.std.proofs.lemmas.List.{take-append-le}
-use Rattle.std.proofs.lemmas.Option.{none-some}
-use Rattle.dr_entry.specs.declared.entry.Entry.{Entry}
-use Rattle.dr_entry.specs.declared.entry.Entry.TheVariants.{View}
-use Rattle.dr_history.specs.History.{IsPrefixOf}
-use Rattle.dr_history.specs.Order.{first_entries}
-use Rattle.dr_history.specs.Restarting.{AllStand}
-use Rattle.dr_history.specs.Soundness.{whole_roster}
+use Rattle.std.proofs.lemmas.{Bool.cases_lt, List.take-append-le, Option.none-some}
+use Rattle.dr_entry.specs.declared.entry.Entry.{Entry, TheVariants.View}
+use Rattle.dr_history.specs.{History.IsPrefixOf, Order.first_entries, Restarting.AllStand, Soundness.whole_roster}
 use Rattle.dr_history_laws.proofs.Keeping.{prefix_beside, prefix_shorter, prefix_then}
-use Rattle.dr_history_laws.proofs.Lists.{slice_get-prefix, slice_get-push_cases}
-use Rattle.dr_history_laws.proofs.Standing.{part-stands}
-use Rattle.dr_machine.specs.Group.{Group, IsPresent}
-use Rattle.dr_machine.specs.World.{World}
-use Rattle.dr_restart.specs.declared.lists.Attempt.{Attempt}
-use Rattle.dr_restart.specs.declared.lists.LogLists.{LogLists}
-use Rattle.dr_restart.specs.declared.start.Start.{Start}
+use Rattle.dr_history_laws.proofs.{Lists.{slice_get-prefix, slice_get-push_cases}, Standing.part-stands}
+use Rattle.dr_machine.specs.{Group.{Group, IsPresent}, World.World}
 use Rattle.dr_restart.specs.Choosing.{AreOfHolders, handed_of, of_set}
-use Rattle.dr_restart.specs.Trying.{HaveAgeVote, IsTry, age_vote_of, first_view_of}
+use Rattle.dr_restart.specs.{Trying.{HaveAgeVote, IsTry, age_vote_of, first_view_of}, declared.lists.Attempt.Attempt}
+use Rattle.dr_restart.specs.declared.{lists.LogLists.LogLists, start.Start.Start}
 use Rattle.dr_words.specs.Masks.{IsMajorityOf, IsPartOf}
 use Rattle.dr_quorum_laws.specs.Holding.{GoesOnFrom, HoldSince, IsKeptBy, IsOfAgeOrEarlier, IsOpenedTry, KeepsDurable}
-use Rattle.dr_quorum_laws.proofs.Beginning.{take-less}
-use Rattle.dr_quorum_laws.proofs.Chosen.{chosen-keeps, start-holder}
+use Rattle.dr_quorum_laws.proofs.{Beginning.take-less, Chosen.{chosen-keeps, start-holder}}
 use Rattle.dr_quorum_laws.proofs.Ended.{durable-delivered, durable-front, first-in}
 use Rattle.dr_quorum_laws.proofs.Grown.{IsBroughtUp, ages-below, entries-case, first-held, first-kept, goes-more, last-opened, more-opened, old-log, opened-cases}
-use Rattle.dr_quorum_laws.proofs.Handing.{Since, handed-part, set-log}
-use Rattle.dr_quorum_laws.proofs.LastViews.{start-earlier}
+use Rattle.dr_quorum_laws.proofs.{Handing.{Since, handed-part, set-log}, LastViews.start-earlier}
 use Rattle.dr_quorum_laws.proofs.Lists.{in-split, prefix-in, prefix-itself, prefix-split, split-last}
 
 -- ---- what a log begins with
@@ -35,14 +23,11 @@ use Rattle.dr_quorum_laws.proofs.Lists.{in-split, prefix-in, prefix-itself, pref
 durable-in : (g : Group) (w : World) (choice logs : List LogLists) (tries : List Attempt)
     (s : Since g w choice tries logs) (es : List Entry) → KeepsDurable g w s.held.history tries es
     → (k d : ℕ) → IsPresent g k → d ≤ w.past.durable k → IsPrefixOf (take d s.held.history) es
-durable-in g w choice logs tries s es keeps k d there l =
-    prefix_then (take d s.held.history) keeps.front es
+durable-in g w choice logs tries s es keeps k d there l = prefix_then (take d s.held.history) keeps.front es
     (prefix_then (take d s.held.history) (take (w.past.durable k) s.held.history) keeps.front
-    (take-less d (w.past.durable k) s.held.history l)
-    (subst (λ l. IsPrefixOf l keeps.front)
+    (take-less d (w.past.durable k) s.held.history l) (subst (λ l. IsPrefixOf l keeps.front)
     (sym (durable-front g w s.held.history k s.group s.known s.held.longest there
-    (durable-delivered g w k s.group s.known there))) (keeps.durable k there)))
-    (keeps.goes.views, sym keeps.goes.is)
+    (durable-delivered g w k s.group s.known there))) (keeps.durable k there))) (keeps.goes.views, sym keeps.goes.is)
 
 -- ---- how the entries of a log have grown
 
@@ -57,26 +42,23 @@ front_case start es p = by (prefix-split es start.entries (first_view_of start �
         (prefix-itself start.entries))
     one (x ∷ []) e q = inr (e ∙ ap (λ y. start.entries ++ y ∷ []) (head x [] q.0 q.1))
       where
-        head : (x : Entry) (xs ys : List Entry) → x ∷ (xs ++ ys) ≡ first_view_of start ∷ []
-            → x ≡ first_view_of start
+        head : (x : Entry) (xs ys : List Entry) → x ∷ (xs ++ ys) ≡ first_view_of start ∷ [] → x ≡ first_view_of start
         head x xs ys h = cc
     one (x ∷ (y ∷ f)) e q = absurd (none q.1)
       where
         none : x ∷ (y ∷ (f ++ q.0)) ≡ first_view_of start ∷ [] → ⊥
         none h = absurd (omega (arith, ap length h))
 
-    by : IsPrefixOf es start.entries
-        ⊎ ((f : List Entry) × (es ≡ start.entries ++ f) × IsPrefixOf f (first_view_of start ∷ []))
-        → IsPrefixOf es start.entries ⊎ (es ≡ start.entries ++ first_view_of start ∷ [])
+    by : IsPrefixOf es start.entries ⊎ ((f : List Entry) × (es ≡ start.entries ++ f) × IsPrefixOf f
+        (first_view_of start ∷ [])) → IsPrefixOf es start.entries ⊎ (es ≡ start.entries ++ first_view_of start ∷ [])
     by (inl q) = inl q
     by (inr t) = one t.0 t.1 t.2
 
 -- brought up, it still is of the age or of earlier ones
-brought-grown : (g : Group) (w : World) (choice before after : List LogLists) (tries : List Attempt)
-    (try : Attempt) (s : Since g w choice tries before) → IsTry g.opening before after try
-    → IsKeptBy g w s.held.history tries try.start → (m : ℕ) (old new : LogLists)
-    → slice_get before m ≡ Some old → new.votes ≡ old.votes → IsBroughtUp try m old new
-    → IsOfAgeOrEarlier g s.held.history (tries ++ try ∷ []) new
+brought-grown : (g : Group) (w : World) (choice before after : List LogLists)
+    (tries : List Attempt) (try : Attempt) (s : Since g w choice tries before) → IsTry g.opening before after try
+    → IsKeptBy g w s.held.history tries try.start → (m : ℕ) (old new : LogLists) → slice_get before m ≡ Some old
+    → new.votes ≡ old.votes → IsBroughtUp try m old new → IsOfAgeOrEarlier g s.held.history (tries ++ try ∷ []) new
 brought-grown g w choice before after tries try s t kept m old new was votes up =
     by (front_case try.start new.entries up.2)
   where
@@ -115,8 +97,7 @@ brought-grown g w choice before after tries try s t kept m old new was votes up 
         behind = e ∙ ap (λ es. es ++ first_view_of try.start ∷ []) goes.is
             ∙ append_assoc kept.keeps.front goes.views (first_view_of try.start ∷ [])
 
-        views : (k : ℕ) (x : Entry)
-            → ((k < length goes.views) × (slice_get goes.views k ≡ Some x))
+        views : (k : ℕ) (x : Entry) → ((k < length goes.views) × (slice_get goes.views k ≡ Some x))
             ⊎ ((k ≡ length goes.views) × (first_view_of try.start ≡ x))
             → (one : Attempt) × IsOpenedTry (tries ++ try ∷ []) one × (x ≡ first_view_of one.start)
         views k x (inl r) =
@@ -146,8 +127,7 @@ brought-grown g w choice before after tries try s t kept m old new was votes up 
       l,
       prefix_shorter (first_entries g.opening) new.entries (up.3 (first_entries g.opening)
           (first-held g w choice before tries s old.entries o.1 o.0.0 o.2 o.0.1)
-          (prefix_then (first_entries g.opening) kept.keeps.front try.start.entries first
-          (goes.views, sym goes.is))),
+          (prefix_then (first_entries g.opening) kept.keeps.front try.start.entries first (goes.views, sym goes.is))),
     ))
     early l p (inr o) = inr (
       part-stands g.opening new.entries g.opening.start part s.group.sound.entries,
@@ -164,10 +144,8 @@ brought-grown g w choice before after tries try s t kept m old new was votes up 
             (prefix_then (first_entries g.opening) kept.keeps.front s.held.history first goes.delivered)
             (omega (arith, l))))
           where
-            short : IsPrefixOf new.entries g.opening.start
-                ⊎ ((f : List Entry) × (new.entries ≡ g.opening.start ++ f)
-                × IsPrefixOf f (View g.opening.age 0 g.opening.members ∷ []))
-                → IsPrefixOf new.entries g.opening.start
+            short : IsPrefixOf new.entries g.opening.start ⊎ ((f : List Entry) × (new.entries ≡ g.opening.start ++ f)
+                × IsPrefixOf f (View g.opening.age 0 g.opening.members ∷ [])) → IsPrefixOf new.entries g.opening.start
             short (inl q) = q
             short (inr ([], e, q)) = subst (λ es. IsPrefixOf es g.opening.start)
                 (sym (e ∙ append-nil g.opening.start)) (prefix-itself g.opening.start)
@@ -180,9 +158,8 @@ brought-grown g w choice before after tries try s t kept m old new was votes up 
             ))
 
     -- a part of the start
-    part : IsPrefixOf new.entries kept.keeps.front
-        ⊎ ((f : List Entry) × (new.entries ≡ kept.keeps.front ++ f) × IsPrefixOf f goes.views)
-        → IsOfAgeOrEarlier g s.held.history (tries ++ try ∷ []) new
+    part : IsPrefixOf new.entries kept.keeps.front ⊎ ((f : List Entry) × (new.entries ≡ kept.keeps.front ++ f)
+        × IsPrefixOf f goes.views) → IsOfAgeOrEarlier g s.held.history (tries ++ try ∷ []) new
     part (inl p) = case (cases_lt (length new.entries) (length (first_entries g.opening)))
       where
         q : IsPrefixOf new.entries s.held.history
@@ -206,8 +183,7 @@ brought-grown g w choice before after tries try s t kept m old new was votes up 
       },
     )
 
-    by : IsPrefixOf new.entries try.start.entries
-        ⊎ (new.entries ≡ try.start.entries ++ first_view_of try.start ∷ [])
+    by : IsPrefixOf new.entries try.start.entries ⊎ (new.entries ≡ try.start.entries ++ first_view_of try.start ∷ [])
         → IsOfAgeOrEarlier g s.held.history (tries ++ try ∷ []) new
     by (inl p) = part (prefix-split new.entries kept.keeps.front goes.views
         (subst (IsPrefixOf new.entries) goes.is p))
@@ -253,12 +229,11 @@ old-started g w choice logs tries try one s kept m log es before behind at same 
     (subst (λ l. Contains l (first_view_of one.start)) (sym e ∙ same)
     (in-split before behind (first_view_of one.start)))))
 
-brought-started : (g : Group) (w : World) (choice before after : List LogLists) (tries : List Attempt)
-    (try one : Attempt) (s : Since g w choice tries before) → IsTry g.opening before after try
-    → IsKeptBy g w s.held.history tries try.start → (es front behind : List Entry)
-    → IsPrefixOf es (try.start.entries ++ first_view_of try.start ∷ [])
-    → es ≡ front ++ first_view_of one.start ∷ behind
-    → IsOpenedTry tries one ⊎ ((try ≡ one) × (one.opened ≡ true)) → front ≡ one.start.entries
+brought-started : (g : Group) (w : World) (choice before after : List LogLists)
+    (tries : List Attempt) (try one : Attempt) (s : Since g w choice tries before)
+    → IsTry g.opening before after try → IsKeptBy g w s.held.history tries try.start → (es front behind : List Entry)
+    → IsPrefixOf es (try.start.entries ++ first_view_of try.start ∷ []) → es ≡ front ++ first_view_of one.start
+    ∷ behind → IsOpenedTry tries one ⊎ ((try ≡ one) × (one.opened ≡ true)) → front ≡ one.start.entries
 brought-started g w choice before after tries try one s t kept es front behind p e opened =
     by (front_case try.start es p)
   where
@@ -281,8 +256,7 @@ brought-started g w choice before after tries try one s t kept es front behind p
     last (inr r) o = within r.0 r.1
     last (inl r) (inr o) = r.0 ∙ ap (λ (a : Attempt). a.start.entries) o.0
     last (inl r) (inl o) =
-        let same : one.start.age ≡ try.start.age = cc (r.1) in
-        absurd (omega (arith, kept.after one o, same))
+        let same : one.start.age ≡ try.start.age = cc (r.1) in absurd (omega (arith, kept.after one o, same))
 
     by : IsPrefixOf es try.start.entries ⊎ (es ≡ try.start.entries ++ first_view_of try.start ∷ [])
         → front ≡ one.start.entries
@@ -296,8 +270,7 @@ brought-started g w choice before after tries try one s t kept es front behind p
 -- of the tries before a new one those before each are the same
 kept-before : (g : Group) (w : World) (history : List Entry) (tries : List Attempt) (try one : Attempt) (k : ℕ)
     → ((k : ℕ) (one : Attempt) → slice_get tries k ≡ Some one
-    → KeepsDurable g w history (take k tries) one.start.entries)
-    → KeepsDurable g w history tries try.start.entries
+    → KeepsDurable g w history (take k tries) one.start.entries) → KeepsDurable g w history tries try.start.entries
     → ((k < length tries) × (slice_get tries k ≡ Some one)) ⊎ ((k ≡ length tries) × (try ≡ one))
     → KeepsDurable g w history (take k (tries ++ try ∷ [])) one.start.entries
 kept-before g w history tries try one k old new (inl (l, at)) =
@@ -326,8 +299,7 @@ tried-held g w choice before after tries try s t = record {
       (t.votes m old.0 log old.1 here).0 ∙ s.held.votes m was old.0 present at old.1;
   begins = λ m d k was log there at here l knows durable.
       let old = old-log g before after try t m log here in
-      begins m d k old.0 log here old.1 knows durable
-      (s.held.begins m d k was old.0 there at old.1 l knows durable)
+      begins m d k old.0 log here old.1 knows durable (s.held.begins m d k was old.0 there at old.1 l knows durable)
       (entries-case g before after try t m old.0 log old.1 here);
   grown = λ m log here.
       let old = old-log g before after try t m log here in
@@ -342,10 +314,8 @@ tried-held g w choice before after tries try s t = record {
       (entries-case g before after try t m old.0 log old.1 here);
   part = λ k one at. each-try (λ a. IsPartOf a.set (whole_roster g.opening)) tries try one k s.held.part
       (subst (λ mask. IsPartOf mask (whole_roster g.opening)) (sym set)
-      (handed-part (of_set before try.set) (whole_roster g.opening)))
-      (slice_get-push_cases tries try one k at);
-  majority = λ k one at. each-try (λ a. IsMajorityOf a.set (whole_roster g.opening)) tries try one k
-      s.held.majority
+      (handed-part (of_set before try.set) (whole_roster g.opening))) (slice_get-push_cases tries try one k at);
+  majority = λ k one at. each-try (λ a. IsMajorityOf a.set (whole_roster g.opening)) tries try one k s.held.majority
       (subst (λ mask. IsMajorityOf mask (whole_roster g.opening)) (sym set) t.choice.quorum)
       (slice_get-push_cases tries try one k at);
   kept = λ k one at. kept-before g w s.held.history tries try one k s.held.kept kept.keeps
@@ -360,10 +330,8 @@ tried-held g w choice before after tries try s t = record {
 
     begins : (m d k : ℕ) (old log : LogLists) → slice_get after m ≡ Some log → slice_get before m ≡ Some old
         → IsPresent g k → d ≤ w.past.durable k → IsPrefixOf (take d s.held.history) old.entries
-        → (log.entries ≡ old.entries) ⊎ IsBroughtUp try m old log
-        → IsPrefixOf (take d s.held.history) log.entries
-    begins m d k old log here was knows durable p (inl e) =
-        subst (IsPrefixOf (take d s.held.history)) (sym e) p
+        → (log.entries ≡ old.entries) ⊎ IsBroughtUp try m old log → IsPrefixOf (take d s.held.history) log.entries
+    begins m d k old log here was knows durable p (inl e) = subst (IsPrefixOf (take d s.held.history)) (sym e) p
     begins m d k old log here was knows durable p (inr up) = up.3 (take d s.held.history) p
         (durable-in g w choice before tries s try.start.entries kept.keeps k d knows durable)
 
@@ -383,10 +351,9 @@ tried-held g w choice before after tries try s t = record {
     voted one opened (inr (same, o)) = subst (λ (a : Attempt). HaveAgeVote after a.set a.start) same
         (t.opened (ap (λ (a : Attempt). a.opened) same ∙ o))
 
-    rising : (i j : ℕ) (one other : Attempt) → i < j → one.opened ≡ true → other.opened ≡ true
-        → ((i < length tries) × (slice_get tries i ≡ Some one)) ⊎ ((i ≡ length tries) × (try ≡ one))
-        → ((j < length tries) × (slice_get tries j ≡ Some other)) ⊎ ((j ≡ length tries) × (try ≡ other))
-        → one.start.age < other.start.age
+    rising : (i j : ℕ) (one other : Attempt) → i < j → one.opened ≡ true → other.opened ≡ true → ((i < length tries)
+        × (slice_get tries i ≡ Some one)) ⊎ ((i ≡ length tries) × (try ≡ one)) → ((j < length tries)
+        × (slice_get tries j ≡ Some other)) ⊎ ((j ≡ length tries) × (try ≡ other)) → one.start.age < other.start.age
     rising i j one other l o p (inl (within, at)) (inl (less, here)) = s.held.rising i j one other l at o here p
     rising i j one other l o p (inl (within, at)) (inr (last, same)) =
         subst (λ (a : Attempt). one.start.age < a.start.age) same (kept.after one (i, at, o))
@@ -398,10 +365,9 @@ tried-held g w choice before after tries try s t = record {
     above one (inl o) = s.held.above one o
     above one (inr (same, o)) = subst (λ (a : Attempt). g.opening.age < a.start.age) same kept.later
 
-    started : (one : Attempt) (m : ℕ) (old log : LogLists) (front behind : List Entry)
-        → slice_get before m ≡ Some old → log.entries ≡ front ++ first_view_of one.start ∷ behind
-        → IsOpenedTry tries one ⊎ ((try ≡ one) × (one.opened ≡ true))
-        → (log.entries ≡ old.entries) ⊎ IsBroughtUp try m old log → front ≡ one.start.entries
+    started : (one : Attempt) (m : ℕ) (old log : LogLists) (front behind : List Entry) → slice_get before m ≡ Some old
+        → log.entries ≡ front ++ first_view_of one.start ∷ behind → IsOpenedTry tries one ⊎ ((try ≡ one)
+        × (one.opened ≡ true)) → (log.entries ≡ old.entries) ⊎ IsBroughtUp try m old log → front ≡ one.start.entries
     started one m old log front behind was e opened (inl same) =
         old-started g w choice before tries try one s kept m old log.entries front behind was same e opened
     started one m old log front behind was e opened (inr up) =

@@ -1,19 +1,11 @@
 -- What the logs hold after any list of tries to open an age, since an age has ended and has left others.
 use Rattle.std.specs.Prelude.{◌≡◌, ℕ, ◌<◌, ◌≤◌, ◌⊎◌, true, List, ◌∷◌, ◌++◌, length, take, Contains, Some, slice_get}
-use Rattle.dr_entry.specs.declared.entry.Entry.{Entry}
-use Rattle.dr_entry.specs.declared.entry.Entry.TheVariants.{View}
-use Rattle.dr_entry.specs.declared.record.Vote.{Vote}
+use Rattle.dr_entry.specs.{declared.entry.Entry.{Entry, TheVariants.View}, declared.record.Vote.Vote}
+use Rattle.dr_history.specs.{History.IsPrefixOf, Restarting.AllStand, Soundness.{Sound, whole_roster}}
 use Rattle.dr_history.specs.declared.opening.Opening.{Opening}
-use Rattle.dr_history.specs.History.{IsPrefixOf}
-use Rattle.dr_history.specs.Restarting.{AllStand}
-use Rattle.dr_history.specs.Soundness.{Sound, whole_roster}
-use Rattle.dr_machine.specs.Group.{Group, IsPresent, roster}
-use Rattle.dr_machine.specs.World.{World}
-use Rattle.dr_restart.specs.declared.lists.Attempt.{Attempt}
-use Rattle.dr_restart.specs.declared.lists.LogLists.{LogLists}
-use Rattle.dr_restart.specs.declared.start.Start.{Start}
-use Rattle.dr_restart.specs.Left.{IsOfEarlierAges}
-use Rattle.dr_restart.specs.Trying.{HaveAgeVote, first_view_of, opened_by}
+use Rattle.dr_machine.specs.{Group.{Group, IsPresent, roster}, World.World}
+use Rattle.dr_restart.specs.{Left.IsOfEarlierAges, Trying.{HaveAgeVote, first_view_of, opened_by}}
+use Rattle.dr_restart.specs.declared.{lists.{Attempt.Attempt, LogLists.LogLists}, start.Start.Start}
 use Rattle.dr_words.specs.Masks.{IsMajorityOf, IsPartOf}
 
 -- the history of a member that is there, of which those of all others are prefixes

@@ -1,11 +1,9 @@
 -- Logs that come back behind an age, though others are missing.
 use Rattle.std.specs.Prelude.{◌≡◌, ℕ, ◌<◌, Contains, Some, length, true, is_some}
 use Rattle.dr_entry.specs.declared.record.Vote.{Vote}
-use Rattle.dr_history.specs.declared.opening.Opening.{Opening}
-use Rattle.dr_history.specs.Members.{has}
+use Rattle.dr_history.specs.{Members.has, declared.opening.Opening.Opening}
+use Rattle.dr_restart.specs.{Choosing.{AreFirst, Handed, IsLastAge}, Refusing.{AreEnough, AreHoldersAlong}}
 use Rattle.dr_restart.specs.declared.lists.LogLists.{LogLists}
-use Rattle.dr_restart.specs.Choosing.{AreFirst, Handed, IsLastAge}
-use Rattle.dr_restart.specs.Refusing.{AreEnough, AreHoldersAlong}
 
 -- the member has handed in its log
 abbrev pub HasHandedIn : Handed → ℕ → Type 0

@@ -1,8 +1,6 @@
 -- Whether a text can be shown, and texts behind one another.
-use Rattle.std.proofs.Common.{◌≡◌, refl, ℕ, true, false, inl, inr, List}
-use Rattle.std.specs.Str.{IsUtf8, is_utf8}
-use Rattle.std.proofs.lemmas.Bool.{cases_Bool}
-use Rattle.std.proofs.lemmas.Str.{IsUtf8-from_is_utf8, is_utf8-from_IsUtf8}
+use Rattle.std.{specs.Str.{IsUtf8, is_utf8}, proofs.Common.{◌≡◌, refl, ℕ, true, false, inl, inr, List}}
+use Rattle.std.proofs.lemmas.{Bool.cases_Bool, Str.{IsUtf8-from_is_utf8, is_utf8-from_IsUtf8}}
 use Rattle.dr_quote.specs.Quote.{can_be_shown, is_clear}
 
 -- a text in UTF-8 each of whose characters can be seen can be shown, and no other one

@@ -1,7 +1,6 @@
 -- A message in quotes, or in hexadecimal.
+use Rattle.std.specs.{List.{flat_map, list_any}, Str.{chars, is_utf8}}
 use Rattle.std.specs.Prelude.{ℕ, ◌==◌, ◌&&◌, ◌||◌, not, nat_le, if◌then◌else◌, Bool, List, [], ◌∷◌, ◌++◌}
-use Rattle.std.specs.List.{flat_map, list_any}
-use Rattle.std.specs.Str.{chars, is_utf8}
 use Rattle.dr_text.specs.Report.{hex_text}
 
 -- a printable byte of ASCII, but for the quote and the backslash: it stands in quotes as it is

@@ -1,57 +1,35 @@
 -- A member that ends its view: when it may, and what it makes of the world.
+use Rattle.std.specs.{List.list_all, Prelude.{Option, None, Some, nat_lt, unwrap_or}}
 use Rattle.std.proofs.Common.{◌≡◌, ◌≢◌, refl, sym, ap, ◌∙◌, ◌↔◌, subst, ℕ, zero, suc, ◌+◌, ◌*◌, ◌/◌, ◌%◌, ◌<◌, ◌≤◌, ◌==◌, inl, inr, not, Bool, true, false, if◌then◌else◌, List, [], ◌∷◌, ◌++◌, length, map, fold, take, slice_index, slice_index_or, arith, set-set}
-use Rattle.std.proofs.Math.Path.{fun_ext}
-use Rattle.std.specs.Prelude.{Option, None, Some, nat_lt, unwrap_or}
-use Rattle.std.specs.List.{list_all}
-use Rattle.std.proofs.lemmas.Bool.{and_from, and_parts, cases_eq}
-use Rattle.std.proofs.lemmas.Bool.Decides.{nat_tests}
-use Rattle.std.proofs.lemmas.List.{get_or_past, length-take-le, take-append-le}
-use Rattle.std.proofs.lemmas.Option.{none-some}
-use Rattle.dr_entry.specs.declared.entry.Entry.{Entry}
-use Rattle.dr_entry.specs.declared.entry.Entry.TheVariants.{View}
-use Rattle.dr_entry.specs.declared.entry.Item.{Item}
-use Rattle.dr_entry.specs.declared.entry.Item.TheVariants.{Null}
-use Rattle.dr_entry.specs.declared.record.Value.{Value}
-use Rattle.dr_entry.proofs.ListPlaces.{copy_at}
-use Rattle.dr_entry.proofs.BoolFacts.{both_same}
+use Rattle.std.proofs.{Math.Path.fun_ext, lemmas.Bool.{and_from, and_parts, cases_eq, Decides.nat_tests}}
+use Rattle.std.proofs.lemmas.{List.{get_or_past, length-take-le, take-append-le}, Option.none-some}
+use Rattle.dr_entry.specs.declared.entry.{Entry.{Entry, TheVariants.View}, Item.{Item, TheVariants.Null}}
+use Rattle.dr_entry.{specs.declared.record.Value.Value, proofs.{BoolFacts.both_same, ListPlaces.copy_at}}
 use Rattle.dr_entry.proofs.NumberFacts.{same_number, other_number}
-use Rattle.dr_history.specs.Members.{has, members_of}
-use Rattle.dr_history.specs.Order.{messages_from}
-use Rattle.dr_history.specs.Places.{rest_places}
+use Rattle.dr_history.specs.{Members.{has, members_of}, Order.messages_from, Places.rest_places}
 use Rattle.dr_history.proofs.Tests.{all_members}
 use Rattle.dr_rows.specs.Words.{Words, begun, own, with_own}
-use Rattle.dr_words.specs.declared.column.TheConstants.{BEAT_COLUMN, LOGGED_COLUMN}
-use Rattle.dr_words.specs.Masks.{IsInRoster, next_members}
-use Rattle.dr_words.proofs.Tests.{each_member}
-use Rattle.dr_words.proofs.Layouts.{first_seen}
-use Rattle.dr_machine.specs.Writes.{at₂, at₃}
-use Rattle.dr_machine.specs.Group.{Group, roster}
-use Rattle.dr_machine.specs.Guards.{CanFinish}
-use Rattle.dr_machine.specs.World.{World, items_received, no_value}
-use Rattle.dr_machine.specs.Effects as effects
+use Rattle.dr_words.{specs.Masks.{IsInRoster, next_members}, proofs.Tests.each_member}
+use Rattle.dr_words.{specs.declared.column.TheConstants.{BEAT_COLUMN, LOGGED_COLUMN}, proofs.Layouts.first_seen}
 use Rattle.dr_machine.specs.Effects.{committed_value, entries_of, finishes, finishes_by, one_more, stamped, stamped_in}
+use Rattle.dr_machine.specs.{Group.{Group, roster}, Guards.CanFinish, World.{World, items_received, no_value}}
+use Rattle.dr_machine.specs.Writes.{at₂, at₃}
+use Rattle.dr_machine.specs.Effects as effects
+use Rattle.dr_program.specs.{Presence.{present_at, with_present}, Reading.{Shared, kept_word, world_of}}
 use Rattle.dr_program.specs.Replica.{LeftView, Replica, me, acted, count, finished, finished_by, finished_history, item_of_place, left_now, may_end, may_finish, nothing_left, sender_of_place, members_in_view, with_place}
-use Rattle.dr_program.specs.Reading.{Shared, kept_word, world_of}
-use Rattle.dr_program.proofs.Finishing.{finished_more}
-use Rattle.dr_program.proofs.Holdings.{Holding, held, holding_of, held_of, Changes}
-use Rattle.dr_program.proofs.Opening.{first_own}
+use Rattle.dr_program.proofs.{Finishing.finished_more, Holdings.{Holding, held, holding_of, held_of, Changes}}
+use Rattle.dr_program.proofs.{Opening.first_own, Present.{present_within, present_set}}
 use Rattle.dr_faithful.proofs.Writes.{at_same}
-use Rattle.dr_refine.specs.Programs.{IsMember, acted_table}
-use Rattle.dr_refine.proofs.Acts.{item_shown}
+use Rattle.dr_refine.{specs.Programs.{IsMember, acted_table}, proofs.Acts.item_shown}
 use Rattle.dr_refine.proofs.Guards.{IsIdle, count_is, may_choose}
-use Rattle.dr_refine.proofs.Members.{Fits, acted_world, fits, fits_own, replaced}
-use Rattle.dr_refine.proofs.Views.{member_below}
-use Rattle.dr_program.specs.Presence.{present_at, with_present}
-use Rattle.dr_program.proofs.Present.{present_within, present_set}
+use Rattle.dr_refine.proofs.{Members.{Fits, acted_world, fits, fits_own, replaced}, Views.member_below}
 
 -- ---- when it may
 
 -- it ends its view exactly where that may come, and it has room
 pub finish_guard : (g : Group) (rs : List (Option Replica)) (table : Shared) (m : ℕ) (r : Replica)
-    → IsMember g rs table m r → IsIdle r
-    → (may_finish r r.committed ≡ true)
-    ↔ (CanFinish g (world_of g rs table) m × (length (finished r).history ≤ r.room)
-    × ((finished r).base ≤ length r.messages))
+    → IsMember g rs table m r → IsIdle r → (may_finish r r.committed ≡ true) ↔ (CanFinish g (world_of g rs table) m
+    × (length (finished r).history ≤ r.room) × ((finished r).base ≤ length r.messages))
 finish_guard g rs table m r is free = by r.committed refl
   where
     w : World
@@ -86,8 +64,7 @@ finish_guard g rs table m r is free = by r.committed refl
 
     forth : (x : Value) → r.committed ≡ Some x → may_end r x ≡ true
         → CanFinish g w m × (length (finished_history r (unwrap_or r.committed no_value)) ≤ r.room)
-        × (length (messages_from (me r) (finished_history r (unwrap_or r.committed no_value)))
-        ≤ length r.messages)
+        × (length (messages_from (me r) (finished_history r (unwrap_or r.committed no_value))) ≤ length r.messages)
     forth x e test =
         let a = and_parts (not (has x.leavers (me r))) _ test in
         let b = and_parts (nat_lt (r.view + 1) r.banks) _ a.1 in
@@ -104,8 +81,7 @@ finish_guard g rs table m r is free = by r.committed refl
             stays = ap (has x.leavers) (sym is.of.number) ∙ flip _ a.0;
             bank = omega (arith, view, bank, is.of.banks);
             items = λ s h.
-                let test = each_member (λ s. nat_lt (slice_index x.trim s) (count r s + 1)) r.roster
-                r.members few
+                let test = each_member (λ s. nat_lt (slice_index x.trim s) (count r s + 1)) r.roster r.members few
                 is.form.roster c.0 s (ap (λ k. has k s) (sym members) ∙ h) in
                 let below : slice_index x.trim s < count r s + 1 = grind (arith, nat_tests, test) in
                 omega (arith, below, count_is g rs table m r s is);
@@ -115,23 +91,18 @@ finish_guard g rs table m r is free = by r.committed refl
         )
 
     from : (x : Value) → r.committed ≡ Some x → CanFinish g w m
-        → length (finished_history r (unwrap_or r.committed no_value)) ≤ r.room
-        → length (messages_from (me r) (finished_history r (unwrap_or r.committed no_value)))
-        ≤ length r.messages
-        → may_end r x ≡ true
+        → length (finished_history r (unwrap_or r.committed no_value)) ≤ r.room → length (messages_from (me r)
+        (finished_history r (unwrap_or r.committed no_value))) ≤ length r.messages → may_end r x ≡ true
     from x e can room few =
         let one : can.value ≡ x = same can.value x (sym can.committed ∙ committed ∙ e) in
         let bank : r.view + 1 < r.banks = omega (arith, view, can.bank, is.of.banks) in
-        let rooms : length (finished_history r x) < r.room + 1 =
-        omega (arith, room, ap length (history x e)) in
+        let rooms : length (finished_history r x) < r.room + 1 = omega (arith, room, ap length (history x e)) in
         let mine : length (messages_from (me r) (finished_history r x)) < length r.messages + 1 =
         omega (arith, few, ap (λ es. length (messages_from (me r) es)) (history x e)) in
         and_from _ _
-        (back _ (ap (has x.leavers) is.of.number
-        ∙ subst (λ (y : Value). has y.leavers m ≡ false) one can.stays))
+        (back _ (ap (has x.leavers) is.of.number ∙ subst (λ (y : Value). has y.leavers m ≡ false) one can.stays))
         (and_from _ _ (grind (arith, nat_tests, bank)) (and_from _ _
-        (all_members (λ s. nat_lt (slice_index x.trim s) (count r s + 1)) r.members (λ s h. below s
-        (omega (
+        (all_members (λ s. nat_lt (slice_index x.trim s) (count r s + 1)) r.members (λ s h. below s (omega (
           arith,
           subst (λ (y : Value). slice_index y.trim s ≤ items_received w m s) one
               (can.items s (ap (λ k. has k s) members ∙ h)),
@@ -141,19 +112,15 @@ finish_guard g rs table m r is free = by r.committed refl
         (nat_lt (length (messages_from (me r) (finished_history r x))) (length r.messages + 1))
         (grind (arith, nat_tests, rooms)) (grind (arith, nat_tests, mine)))))
       where
-        below : (s : ℕ) → slice_index x.trim s < count r s + 1
-            → nat_lt (slice_index x.trim s) (count r s + 1) ≡ true
+        below : (s : ℕ) → slice_index x.trim s < count r s + 1 → nat_lt (slice_index x.trim s) (count r s + 1) ≡ true
         below s l = grind (arith, nat_tests, l)
 
-    by : (o : Option Value) → r.committed ≡ o
-        → (may_finish r o ≡ true)
+    by : (o : Option Value) → r.committed ≡ o → (may_finish r o ≡ true)
         ↔ (CanFinish g w m × (length (finished_history r (unwrap_or r.committed no_value)) ≤ r.room)
-        × (length (messages_from (me r) (finished_history r (unwrap_or r.committed no_value)))
-        ≤ length r.messages))
+        × (length (messages_from (me r) (finished_history r (unwrap_or r.committed no_value))) ≤ length r.messages))
     by None e = (
       λ test. absurd (cc test),
-      λ can. absurd (none-some can.0.value (sym e ∙ sym committed
-          ∙ can.0.committed)),
+      λ can. absurd (none-some can.0.value (sym e ∙ sym committed ∙ can.0.committed)),
     )
     by (Some x) e = (forth x e, λ can. from x e can.0 can.1 can.2)
 
@@ -163,13 +130,11 @@ finish_guard g rs table m r is free = by r.committed refl
 abbrev place_from : Holding → List Entry → ℕ → List Entry
 place_from h history p =
     let ms = members_of h.members in
-    let s = slice_index ms (p % length ms) in
-    history ++ entries_of history s (h.item s (p / length ms))
+    let s = slice_index ms (p % length ms) in history ++ entries_of history s (h.item s (p / length ms))
 
 abbrev history_from : Group → Value → Holding → List Entry
 history_from g x h =
-    fold (place_from h) h.history (rest_places
-    (map (λ s. slice_index x.trim s) (members_of h.members)) h.next)
+    fold (place_from h) h.history (rest_places (map (λ s. slice_index x.trim s) (members_of h.members)) h.next)
     ++ View g.opening.age (h.view + 1) (next_members h.members x.leavers) ∷ []
 
 abbrev finish_after : Group → ℕ → Value → Holding → Holding
@@ -225,9 +190,8 @@ pub record MayGoOn (g : Group) (m : ℕ) (r : Replica) : Type 0 where
 pub finish_world : (g : Group) (rs : List (Option Replica)) (table : Shared) (m : ℕ) (r : Replica) (x : Value)
     → present_at rs m ≡ Some r → MayGoOn g m r
     → world_of g (with_present rs m (finished_by r x)) table ≡ finishes_by g (world_of g rs table) m x
-finish_world g rs table m r x there f =
-    replaced g rs table table m r (finished_by r x) (finishes_by g (world_of g rs table) m x)
-    (finish_after g m x) there (finish_changes g (world_of g rs table) m x) same refl refl
+finish_world g rs table m r x there f = replaced g rs table table m r (finished_by r x) (finishes_by g
+    (world_of g rs table) m x) (finish_after g m x) there (finish_changes g (world_of g rs table) m x) same refl refl
   where
     q : Replica
     q = finished_by r x
@@ -245,22 +209,19 @@ finish_world g rs table m r x there f =
     places : place_from (holding_of g r) ≡ with_place r
     places = fun_ext λ history. fun_ext λ p.
         let s : ℕ = sender_of_place r p in
-        let within : s < roster g = rw f.members at
-        (member_below r.roster r.members (p % length (members_of r.members))
-        (omega (arith, f.members, f.some)) f.roster) in
+        let within : s < roster g = rw f.members at (member_below r.roster r.members
+        (p % length (members_of r.members)) (omega (arith, f.members, f.some)) f.roster) in
         ap (λ (i : Item). history ++ entries_of history s i) (item_shown (roster g) s (item_of_place r p) within)
 
     history : history_from g x (holding_of g r) ≡ finished_history r x
     history = ap (λ add. fold add r.history (rest_places (map (λ s. slice_index x.trim s) (members_in_view r)) r.next)
-        ++ View g.opening.age (r.view + 1) (next_members r.members x.leavers) ∷ []) places
-        ∙ ap (λ age. fold (with_place r) r.history
-        (rest_places (map (λ s. slice_index x.trim s) (members_in_view r)) r.next)
+        ++ View g.opening.age (r.view + 1) (next_members r.members x.leavers) ∷ []) places ∙ ap (λ age. fold
+        (with_place r) r.history (rest_places (map (λ s. slice_index x.trim s) (members_in_view r)) r.next)
         ++ View age (r.view + 1) (next_members r.members x.leavers) ∷ []) (sym f.age)
 
     log : take r.logged (finished_history r x) ≡ take r.logged r.history
     log =
-        let rest = finished_more r x in
-        ap (take r.logged) rest.1 ∙ take-append-le r.logged r.history rest.0 f.logged
+        let rest = finished_more r x in ap (take r.logged) rest.1 ∙ take-append-le r.logged r.history rest.0 f.logged
 
     base : length (messages_from m (history_from g x (holding_of g r)))
         ≡ length (messages_from (me r) (finished_history r x))
@@ -343,32 +304,27 @@ finish_world g rs table m r x there f =
     }
 
 -- an act's stamp and the end of the view may change places
-stamps_apart : (own : ℕ → ℕ → ℕ → ℕ) (m v x y : ℕ)
-    → at₃ (at₃ own m v BEAT_COLUMN x) m (v + 1) LOGGED_COLUMN y
+stamps_apart : (own : ℕ → ℕ → ℕ → ℕ) (m v x y : ℕ) → at₃ (at₃ own m v BEAT_COLUMN x) m (v + 1) LOGGED_COLUMN y
     ≡ at₃ (at₃ own m (v + 1) LOGGED_COLUMN y) m v BEAT_COLUMN x
 stamps_apart own m v x y = fun_ext λ i. fun_ext λ u. fun_ext λ c. grind arith
 
 stamped_first : (g : Group) (w : World) (m : ℕ) (x : Value)
     → finishes_by g (stamped w m) m x ≡ stamped_in (finishes_by g w m x) m (w.past.view m)
 stamped_first g w m x =
-    let one = stamps_apart w.past.own m (w.past.view m) (one_more 64 (w.past.acts m))
-    (length (w.past.log m)) in
+    let one = stamps_apart w.past.own m (w.past.view m) (one_more 64 (w.past.acts m)) (length (w.past.log m)) in
     λ z. record (stamped_in (finishes_by g w m x) m (w.past.view m)) {
       past = record (stamped_in (finishes_by g w m x) m (w.past.view m)).past { own = one z };
     }
 
 -- it ends its view
 pub finish_effect : (g : Group) (rs : List (Option Replica)) (table : Shared) (m : ℕ) (r : Replica)
-    → IsMember g rs table m r
-    → world_of g (with_present rs m (finished (acted r))) (acted_table g table m r)
+    → IsMember g rs table m r → world_of g (with_present rs m (finished (acted r))) (acted_table g table m r)
     ≡ stamped_in (finishes g (world_of g rs table) m) m ((world_of g rs table).past.view m)
-finish_effect g rs table m r is =
-    ap (λ qs. world_of g qs cells) (sym (set-set rs m (Some (acted r)) (Some (finished (acted r)))))
-    ∙ finish_world g (with_present rs m (acted r)) cells m (acted r) x
-    (present_set rs m (acted r) (present_within rs m r is.there)) may
+finish_effect g rs table m r is = ap (λ qs. world_of g qs cells)
+    (sym (set-set rs m (Some (acted r)) (Some (finished (acted r))))) ∙ finish_world g (with_present rs m
+    (acted r)) cells m (acted r) x (present_set rs m (acted r) (present_within rs m r is.there)) may
     ∙ ap (λ u. finishes_by g u m x) (acted_world g rs table m r is.there f is.cells)
-    ∙ stamped_first g w m x
-    ∙ ap (λ y. stamped_in (finishes_by g w m y) m (w.past.view m)) (sym value)
+    ∙ stamped_first g w m x ∙ ap (λ y. stamped_in (finishes_by g w m y) m (w.past.view m)) (sym value)
   where
     w : World
     w = world_of g rs table
@@ -401,8 +357,7 @@ pub finish_room : (g : Group) (rs : List (Option Replica)) (table : Shared) (m :
     → IsMember g rs table m r → (can : CanFinish g (world_of g rs table) m)
     → length ((stamped_in (finishes g (world_of g rs table) m) m
     ((world_of g rs table).past.view m)).past.history m) ≤ r.room
-    → length (messages_from m (effects.finished_history g (world_of g rs table) m can.value))
-    ≤ length r.messages
+    → length (messages_from m (effects.finished_history g (world_of g rs table) m can.value)) ≤ length r.messages
     → (length (finished r).history ≤ r.room) × ((finished r).base ≤ length r.messages)
 finish_room g rs table m r is can room few = (
   omega (arith, room, ap length history),
@@ -416,8 +371,7 @@ finish_room g rs table m r is can room few = (
     after = stamped_in (finishes g w m) m (w.past.view m)
 
     shown : {X : Type 0} (get : Holding → X) → get (held after m) ≡ get (holding_of g (finished (acted r)))
-    shown get =
-        ap (λ u. get (held u m)) (sym (finish_effect g rs table m r is))
+    shown get = ap (λ u. get (held u m)) (sym (finish_effect g rs table m r is))
         ∙ ap get (held_of g (with_present rs m (finished (acted r))) (acted_table g table m r) m
         (finished (acted r)) (present_set rs m (finished (acted r)) (present_within rs m r is.there)))
 

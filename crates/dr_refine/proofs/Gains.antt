@@ -1,30 +1,18 @@
 -- What an item more makes of the world: items that are put and items that are received.
-use Rattle.std.proofs.Common.{◌≡◌, refl, sym, ap, ◌∙◌, ℕ, ◌+◌, ◌*◌, ◌<◌, ◌==◌, inl, inr, false, if◌then◌else◌, List, length, map, slice_index, slice_index_or, arith}
-use Rattle.std.proofs.Math.Path.{fun_ext}
 use Rattle.std.specs.Prelude.{Some, slice_set, nat_lt, Option}
-use Rattle.std.proofs.lemmas.Bool.{cases_eq, cases_lt}
-use Rattle.std.proofs.lemmas.Bool.Decides.{nat_tests}
-use Rattle.std.proofs.lemmas.List.{get_or-set_same, get_or-set_other}
-use Rattle.std.proofs.lemmas.Nat.{mul-add-lt, same_from_place}
-use Rattle.dr_entry.specs.declared.entry.Item.{Item}
-use Rattle.dr_entry.specs.declared.entry.Item.TheVariants.{Null}
+use Rattle.std.proofs.Common.{◌≡◌, refl, sym, ap, ◌∙◌, ℕ, ◌+◌, ◌*◌, ◌<◌, ◌==◌, inl, inr, false, if◌then◌else◌, List, length, map, slice_index, slice_index_or, arith}
+use Rattle.std.proofs.{Math.Path.fun_ext, lemmas.Bool.{cases_eq, cases_lt, Decides.nat_tests}}
+use Rattle.std.proofs.lemmas.{List.{get_or-set_same, get_or-set_other}, Nat.{mul-add-lt, same_from_place}}
+use Rattle.dr_entry.specs.declared.entry.Item.{Item, TheVariants.Null}
 use Rattle.dr_entry.proofs.NumberFacts.{same_number, other_number}
-use Rattle.dr_history.specs.Members.{members_of}
-use Rattle.dr_history.specs.Places.{front_of}
-use Rattle.dr_rows.specs.Words.{Words, IsWords, own, with_own}
-use Rattle.dr_rows.proofs.Grids.{own_with}
-use Rattle.dr_words.specs.declared.column.TheConstants.{RECEIVED_COLUMN}
-use Rattle.dr_words.specs.Columns.{recv_column}
-use Rattle.dr_words.specs.Packing.{recv_word}
-use Rattle.dr_machine.specs.Writes.{at, at₂}
-use Rattle.dr_machine.specs.Group.{Group, roster}
-use Rattle.dr_machine.specs.World.{World}
-use Rattle.dr_machine.specs.Effects.{gains}
+use Rattle.dr_history.specs.{Members.members_of, Places.front_of}
+use Rattle.dr_rows.{specs.Words.{Words, IsWords, own, with_own}, proofs.Grids.own_with}
+use Rattle.dr_words.specs.{Columns.recv_column, Packing.recv_word, declared.column.TheConstants.RECEIVED_COLUMN}
+use Rattle.dr_machine.specs.{Effects.gains, Group.{Group, roster}, World.World, Writes.{at, at₂}}
+use Rattle.dr_program.specs.{Presence.{present_at, with_present}, Reading.{Shared, kept_count, kept_word, world_of}}
 use Rattle.dr_program.specs.Replica.{Replica, count, item, gained, greatest, members_in_view}
-use Rattle.dr_program.specs.Reading.{Shared, kept_count, kept_word, world_of}
 use Rattle.dr_program.proofs.Holdings.{Holding, held, holding_of, Changes}
 use Rattle.dr_refine.proofs.Members.{Fits, fits_own, replaced, seen_kept}
-use Rattle.dr_program.specs.Presence.{present_at, with_present}
 
 -- ---- an item more
 
@@ -41,8 +29,7 @@ gain_from s x h own count =
 abbrev gain_after : ℕ → Item → Holding → Holding
 gain_after s x h = gain_from s x h (h.own h.view) (h.count h.view)
 
-gain_changes : (w : World) (m s : ℕ) (item : Item)
-    → Changes w (gains w m s item) m (gain_after s item (held w m))
+gain_changes : (w : World) (m s : ℕ) (item : Item) → Changes w (gains w m s item) m (gain_after s item (held w m))
 gain_changes w m s item = record {
   others = λ k other. rw (other_number k m other) refl;
   here = rw (same_number m) refl;
@@ -62,19 +49,15 @@ pub row_written : (f h : ℕ → ℕ) (kept : ℕ → ℕ → ℕ) (view v d : �
 row_written f h kept view v d = grind arith
 
 -- the items with one of them set; that of another place stays
-item_set : (items : List Item) (n k s : ℕ) (x : Item) (most l t : ℕ) → length items ≡ most * n → k
-    < most → s < n → t < n
-    → slice_index_or (slice_set items (k * n + s) x) (l * n + t) Null
-    ≡ (if t == s then (if l == k then x else slice_index_or items (l * n + t) Null)
-    else slice_index_or items (l * n + t) Null)
+item_set : (items : List Item) (n k s : ℕ) (x : Item) (most l t : ℕ) → length items ≡ most * n
+    → k < most → s < n → t < n → slice_index_or (slice_set items (k * n + s) x) (l * n + t) Null ≡ (if t == s then
+    (if l == k then x else slice_index_or items (l * n + t) Null) else slice_index_or items (l * n + t) Null)
 item_set items n k s x most l t len few row other = elim (cases_eq t s) [
   | inr apart ↦ rw (other_number t s apart)
-      (get_or-set_other items (k * n + s) (l * n + t) x Null
-      (λ e. apart (same_from_place l t k s n other row e).1))
+      (get_or-set_other items (k * n + s) (l * n + t) x Null (λ e. apart (same_from_place l t k s n other row e).1))
   | inl same ↦ rw (same, same_number s) (elim (cases_eq l k) [
     | inr apart ↦ rw (other_number l k apart)
-        (get_or-set_other items (k * n + s) (l * n + s) x Null
-        (λ e. apart (same_from_place l s k s n row row e).0))
+        (get_or-set_other items (k * n + s) (l * n + s) x Null (λ e. apart (same_from_place l s k s n row row e).0))
     | inl here ↦ rw (here, same_number k)
         (get_or-set_same items (k * n + s) x Null (omega (arith, len, mul-add-lt k n s most few row)))
   ])
@@ -106,8 +89,7 @@ pub record MayGain (g : Group) (r : Replica) (s : ℕ) : Type 0 where
 
 -- the words of a replica that has one item more of s
 abbrev pub gained_rows : Replica → ℕ → Words
-gained_rows r s =
-    with_own (with_own r.rows (recv_column s) (recv_word (count r s + 1) false)) RECEIVED_COLUMN
+gained_rows r s = with_own (with_own r.rows (recv_column s) (recv_word (count r s + 1) false)) RECEIVED_COLUMN
     (front_of (map (slice_index (slice_set r.counts s (count r s + 1))) (members_in_view r)))
 
 -- the rows still fit with an item more
@@ -119,8 +101,7 @@ fits_gained g m r s f =
     (fits_own g m r.rows r.view (recv_column s) (recv_word (count r s + 1) false) f)
 
 -- two own words written
-own_two : (w : Words) (c x d y k : ℕ) → IsWords w → IsWords (with_own w c x) → c < w.columns → d
-    < w.columns
+own_two : (w : Words) (c x d y k : ℕ) → IsWords w → IsWords (with_own w c x) → c < w.columns → d < w.columns
     → own (with_own (with_own w c x) d y) k ≡ at (at (own w) c x) d y k
 own_two w c x d y k form then_form p q = own_with (with_own w c x) d y k then_form q
     ∙ ap (λ o. if k == d then y else o) (own_with w c x k form p)
@@ -129,11 +110,10 @@ own_two w c x d y k form then_form p q = own_with (with_own w c x) d y k then_fo
 gained_items : (g : Group) (r : Replica) (s : ℕ) (x : Item) → MayGain g r s
     → (holding_of g (gained r s x)).item ≡ at₂ (holding_of g r).item s (count r s) x
 gained_items g r s x may = fun_ext λ t. fun_ext λ l. item_written
-    (λ i j. slice_index_or r.items (j * r.roster + i) Null) (roster g) s (count r s) t l x
-    (slice_index_or (slice_set r.items (count r s * r.roster + s) x) (l * r.roster + t) Null)
-    (omega (arith, may.sender, may.roster))
-    (λ within. item_set r.items r.roster (count r s) s x (greatest r.totals) l t
-    may.items may.few may.sender (omega (arith, within, may.roster)))
+    (λ i j. slice_index_or r.items (j * r.roster + i) Null) (roster g) s
+    (count r s) t l x (slice_index_or (slice_set r.items (count r s * r.roster + s) x) (l * r.roster + t) Null)
+    (omega (arith, may.sender, may.roster)) (λ within. item_set r.items r.roster
+    (count r s) s x (greatest r.totals) l t may.items may.few may.sender (omega (arith, within, may.roster)))
 
 -- an item more of a replica is one more in its world
 pub gained_world : (g : Group) (rs : List (Option Replica)) (table : Shared) (m : ℕ) (r : Replica) (s : ℕ)
@@ -165,8 +145,7 @@ gained_world g rs table m r s x there f may =
         ∙ ap (λ x. at (at (own r.rows) (recv_column s) (recv_word (count r s + 1) false)) RECEIVED_COLUMN
         x d) same_front
 
-    own_is : (holding_of g (gained r s x)).own
-        ≡ at (holding_of g r).own r.view
+    own_is : (holding_of g (gained r s x)).own ≡ at (holding_of g r).own r.view
         (at (at (own r.rows) (recv_column s) (recv_word (count r s + 1) false)) RECEIVED_COLUMN
         (front_of (map (at (slice_index r.counts) s (count r s + 1)) (members_in_view r))))
     own_is = fun_ext λ v. fun_ext λ d. ap (λ x. if v == r.view then x else kept_word r v d) (words d)
@@ -176,20 +155,17 @@ gained_world g rs table m r s x there f may =
 
     count_is : (holding_of g (gained r s x)).count
         ≡ at (holding_of g r).count r.view (at (slice_index r.counts) s (count r s + 1))
-    count_is = fun_ext λ v. fun_ext λ t. ap
-        (λ (h : ℕ → ℕ). if v == r.view then h t else kept_count r v t) counts
-        ∙ row_written (slice_index r.counts) (at (slice_index r.counts) s (count r s + 1))
-        (kept_count r) r.view v t
+    count_is = fun_ext λ v. fun_ext λ t. ap (λ (h : ℕ → ℕ). if v == r.view then h t else kept_count r v t) counts
+        ∙ row_written (slice_index r.counts) (at (slice_index r.counts) s (count r s + 1)) (kept_count r) r.view v t
 
     seen_is : (holding_of g (gained r s x)).seen ≡ (holding_of g r).seen
     seen_is = seen_kept (with_own r.rows (recv_column s) (recv_word (count r s + 1) false)) RECEIVED_COLUMN
         front ∙ seen_kept r.rows (recv_column s) (recv_word (count r s + 1) false)
 
     same : gain_after s x (holding_of g r) ≡ holding_of g (gained r s x)
-    same = (λ z. gain_from s x (holding_of g r) (own_here g r z) (count_here g r z))
-        ∙ (λ z. record (holding_of g r) {
-          count = sym count_is z;
-          item = sym (gained_items g r s x may) z;
-          own = sym own_is z;
-          seen = sym seen_is z;
-        })
+    same = (λ z. gain_from s x (holding_of g r) (own_here g r z) (count_here g r z)) ∙ (λ z. record (holding_of g r) {
+      count = sym count_is z;
+      item = sym (gained_items g r s x may) z;
+      own = sym own_is z;
+      seen = sym seen_is z;
+    })

@@ -1,42 +1,27 @@
 -- A replica may act exactly where the event may come.
+use Rattle.std.specs.{List.{list_all, list_any}, Prelude.{Option, Some, None, nat_lt, is_some, IsSome}}
 use Rattle.std.proofs.Common.{◌≡◌, ◌≢◌, refl, sym, ap, ◌∙◌, ◌↔◌, subst, ℕ, ◌+◌, ◌-◌, ◌^◌, ◌<◌, ◌≤◌, ◌==◌, ◌&&◌, ◌||◌, inl, inr, not, suc, ◌*◌, Bool, true, false, List, [], ◌∷◌, length, slice_index, arith, le_trans}
 use Rattle.std.proofs.Math.Path.{fun_ext}
-use Rattle.dr_entry.specs.declared.entry.Item.{Item}
-use Rattle.std.specs.Prelude.{Option, Some, None, nat_lt, is_some, IsSome}
-use Rattle.std.specs.List.{list_all, list_any}
 use Rattle.std.proofs.lemmas.Bool.{and_from, and_parts, cases_eq, cases_lt, eq-eqb, eqb-true, lt-ltb, ltb-true, or_cases}
-use Rattle.std.proofs.lemmas.Bool.Decides.{nat_tests}
-use Rattle.std.proofs.lemmas.List.{get_or_past, length-take-le}
-use Rattle.std.proofs.lemmas.List.Folds.{list_any_at}
-use Rattle.dr_entry.specs.declared.end.End.{End}
-use Rattle.dr_entry.specs.declared.end.End.TheVariants.{Done, Suspected, Excluded, NoMajority}
-use Rattle.dr_entry.specs.declared.record.Value.{Value}
+use Rattle.std.proofs.lemmas.{Bool.Decides.nat_tests, List.{get_or_past, length-take-le, Folds.list_any_at}}
+use Rattle.dr_entry.specs.declared.end.End.{End, TheVariants.{Done, Suspected, Excluded, NoMajority}}
+use Rattle.dr_entry.specs.{declared.entry.Item.Item, declared.record.Value.Value}
 use Rattle.dr_entry.proofs.NumberFacts.{same_number, other_number}
-use Rattle.dr_history.specs.Members.{has, members_of}
-use Rattle.dr_history.specs.History.{messages_in}
-use Rattle.dr_history.specs.Order.{MayJoin, messages_from}
+use Rattle.dr_history.specs.{History.messages_in, Members.{has, members_of}, Order.{MayJoin, messages_from}}
 use Rattle.dr_history.proofs.Tests.{all_members}
 use Rattle.dr_ring.specs.Slots.{IsFree, is_free, IsReady, slot_of, slot_column}
-use Rattle.dr_ring.proofs.Freedom.{is_free-true, IsFree-from_test}
-use Rattle.dr_ring.proofs.Readiness.{ready_test}
+use Rattle.dr_ring.proofs.{Freedom.{is_free-true, IsFree-from_test}, Readiness.ready_test}
 use Rattle.dr_rows.specs.Words.{own, seen}
+use Rattle.dr_words.{specs.{Columns.recv_column, Masks.{IsInRoster, without}}, proofs.Tests.each_member}
 use Rattle.dr_words.specs.declared.column.TheConstants.{SUSPECTED_COLUMN, RECEIVED_COLUMN, LOGGED_COLUMN, DONE_COLUMN}
-use Rattle.dr_words.specs.Columns.{recv_column}
-use Rattle.dr_words.specs.Masks.{IsInRoster, without}
-use Rattle.dr_machine.proofs.Presence.{in_roster}
 use Rattle.dr_machine.specs.Group.{Group, roster, columns}
-use Rattle.dr_machine.specs.World.{World, items_received, shown}
-use Rattle.dr_machine.specs.Guards as guards
 use Rattle.dr_machine.specs.Guards.{IsInView, IsNamable, IsRunning, MayChoose, MayTurn, IsOther, IsFault, CanBeat, CanLook, CanPush, CanSend, CanNull, CanReceive, CanDeliver, CanAppend, CanPublish, CanReport, CanMark, CanSuspect, CanHalt, CanCrash, HasRoom, IsBehind, IsUnwedged, IsDue, IsDone, IsExcluded, IsSuspectedBy, IsMinority, seen_slot, unsuspected_of}
+use Rattle.dr_machine.{specs.World.{World, items_received, shown}, proofs.Presence.in_roster}
+use Rattle.dr_machine.specs.Guards as guards
 use Rattle.dr_suspect.specs.Wishes.{is_silent, may_wish}
+use Rattle.dr_program.{specs.Reading.{Shared, world_of}, proofs.{Holdings.{Holding, held_of}, Least.received_small}}
 use Rattle.dr_program.specs.Replica.{Replica, me, is_inside, is_other, count, greatest, least_seen, ready_item, next_index, holds_all, all_done, is_behind, is_wedged, is_due, is_named, has_majority, unsuspected, members_in_view, may_receive, may_send, may_null, may_deliver, may_append, may_publish, may_report, may_mark, may_suspect}
-use Rattle.dr_program.specs.Reading.{Shared, world_of}
-use Rattle.dr_program.proofs.Holdings.{Holding, held_of}
-use Rattle.dr_program.proofs.Least.{received_small}
-use Rattle.dr_refine.specs.Programs.{IsMember}
-use Rattle.dr_refine.proofs.Members.{inside, shown_seen, own_shown}
-use Rattle.dr_words.proofs.Tests.{each_member}
-use Rattle.dr_refine.proofs.Views.{below_least}
+use Rattle.dr_refine.{specs.Programs.IsMember, proofs.{Members.{inside, shown_seen, own_shown}, Views.below_least}}
 use Rattle.dr_refine.proofs.Wishes.{late_test, silent_test}
 
 -- ---- the member
@@ -82,8 +67,7 @@ may_choose g rs table m r is free = record {
 -- where it may, no vote waits
 pub no_vote_waits : (g : Group) (rs : List (Option Replica)) (table : Shared) (m : ℕ) (r : Replica)
     → IsMember g rs table m r → MayTurn g (world_of g rs table) m → r.pending ≡ None
-no_vote_waits g rs table m r is may =
-    sym (ap (λ h. h.pending) (held_of g rs table m r is.there)) ∙ may.idle
+no_vote_waits g rs table m r is may = sym (ap (λ h. h.pending) (held_of g rs table m r is.there)) ∙ may.idle
 
 -- whom it suspects
 pub suspects_are : (g : Group) (rs : List (Option Replica)) (table : Shared) (m : ℕ) (r : Replica)
@@ -94,8 +78,7 @@ suspects_are g rs table m r is = ap (λ h. h.suspects) (held_of g rs table m r i
 not_wedged : (r : Replica) → (not (is_wedged r) ≡ true) ↔ (r.suspects ≡ 0)
 not_wedged r = (λ e. grind (arith, e), λ none. grind (arith, none))
 
-unwedged : (g : Group) (rs : List (Option Replica)) (table : Shared) (m : ℕ) (r : Replica)
-    → IsMember g rs table m r
+unwedged : (g : Group) (rs : List (Option Replica)) (table : Shared) (m : ℕ) (r : Replica) → IsMember g rs table m r
     → (not (is_wedged r) ≡ true) ↔ IsUnwedged (world_of g rs table) m
 unwedged g rs table m r is =
     let same = suspects_are g rs table m r is in (
@@ -104,8 +87,7 @@ unwedged g rs table m r is =
     )
 
 -- and who suspects somebody is
-pub wedged : (g : Group) (rs : List (Option Replica)) (table : Shared) (m : ℕ) (r : Replica)
-    → IsMember g rs table m r
+pub wedged : (g : Group) (rs : List (Option Replica)) (table : Shared) (m : ℕ) (r : Replica) → IsMember g rs table m r
     → (is_wedged r ≡ true) ↔ (¬ IsUnwedged (world_of g rs table) m)
 wedged g rs table m r is =
     let same = suspects_are g rs table m r is in (
@@ -120,17 +102,13 @@ wedged g rs table m r is =
 pub not_less : (a b : ℕ) → (not (nat_lt a b) ≡ true) ↔ (¬ (a < b))
 not_less a b = (
   λ e less. absurd (grind (arith, nat_tests, e, less)),
-  λ no. elim (cases_lt a b) [
-    | inl less ↦ absurd (no less)
-    | inr more ↦ grind (arith, nat_tests, more)
-  ],
+  λ no. elim (cases_lt a b) [ inl less ↦ absurd (no less) | inr more ↦ grind (arith, nat_tests, more) ],
 )
 
 -- a test that only one who isn't wedged passes is the guard of an event that comes to no other, where the
 -- rest of it is for one who suspects nobody
 unless_wedged : (g : Group) (rs : List (Option Replica)) (table : Shared) (m : ℕ) (r : Replica) (test : Bool)
-    {Can : Type 0} → IsMember g rs table m r
-    → (IsUnwedged (world_of g rs table) m → (test ≡ true) ↔ Can)
+    {Can : Type 0} → IsMember g rs table m r → (IsUnwedged (world_of g rs table) m → (test ≡ true) ↔ Can)
     → (Can → IsUnwedged (world_of g rs table) m) → ((not (is_wedged r) && test) ≡ true) ↔ Can
 unless_wedged g rs table m r test is same none =
     let free = unwedged g rs table m r is in (
@@ -140,8 +118,7 @@ unless_wedged g rs table m r test is same none =
 
 -- a member that it doesn't suspect
 unsuspected_member : (g : Group) (rs : List (Option Replica)) (table : Shared) (m : ℕ) (r : Replica) (i : ℕ)
-    → IsMember g rs table m r
-    → (not (has r.suspects i) ≡ true) ↔ (has ((world_of g rs table).suspects m) i ≡ false)
+    → IsMember g rs table m r → (not (has r.suspects i) ≡ true) ↔ (has ((world_of g rs table).suspects m) i ≡ false)
 unsuspected_member g rs table m r i is =
     let same = ap (λ x. has x i) (suspects_are g rs table m r is) in (
       λ e. same ∙ grind (arith, e),
@@ -155,16 +132,14 @@ members_are g rs table m r is = ap (λ h. h.members) (held_of g rs table m r is.
 
 -- another member of the view
 pub other_member : (g : Group) (rs : List (Option Replica)) (table : Shared) (m : ℕ) (r : Replica) (i : ℕ)
-    → IsMember g rs table m r
-    → (is_other r i ≡ true) ↔ IsOther (world_of g rs table) m i
+    → IsMember g rs table m r → (is_other r i ≡ true) ↔ IsOther (world_of g rs table) m i
 other_member g rs table m r i is = (
   λ e. let two = and_parts (has r.members i) (not (i == me r)) e in record {
     member = ap (λ x. has x i) (members_are g rs table m r is) ∙ two.0;
     other = λ same. differs i (me r) two.1 (same ∙ sym is.of.number);
   },
-  λ o. and_from (has r.members i) (not (i == me r))
-      (ap (λ x. has x i) (sym (members_are g rs table m r is)) ∙ o.member)
-      (ap not (other_number i (me r) (λ same. o.other (same ∙ is.of.number)))),
+  λ o. and_from (has r.members i) (not (i == me r)) (ap (λ x. has x i) (sym (members_are g rs table m r is))
+      ∙ o.member) (ap not (other_number i (me r) (λ same. o.other (same ∙ is.of.number)))),
 )
   where
     differs : (a b : ℕ) → not (a == b) ≡ true → a ≡ b → ⊥
@@ -187,21 +162,17 @@ other_below g rs table m r i is e =
 -- the seen word of another row
 pub seen_is : (g : Group) (rs : List (Option Replica)) (table : Shared) (m : ℕ) (r : Replica) (i c : ℕ)
     → IsMember g rs table m r → i ≢ m → (world_of g rs table).seen m i c ≡ seen r.rows i c
-seen_is g rs table m r i c is other =
-    ap (λ h. h.seen i c) (held_of g rs table m r is.there)
+seen_is g rs table m r i c is other = ap (λ h. h.seen i c) (held_of g rs table m r is.there)
     ∙ rw (other_number i (me r) (λ e. other (e ∙ is.of.number))) refl
 
 -- a number is below the least word over the view exactly where it is below the word of each row
 below_each : (g : Group) (rs : List (Option Replica)) (table : Shared) (m : ℕ) (r : Replica) (c x : ℕ)
     → IsMember g rs table m r → nat_lt x (least_seen r c) ≡ true
-    → (i : ℕ) → has ((world_of g rs table).members m) i ≡ true → x
-    < shown (world_of g rs table) m i c
+    → (i : ℕ) → has ((world_of g rs table).members m) i ≡ true → x < shown (world_of g rs table) m i c
 below_each g rs table m r c x is e i member =
-    let tests = and_parts (nat_lt x (2 ^ 64 - 1))
-    (list_all (λ k. nat_lt x (seen r.rows k c)) (members_of r.members))
+    let tests = and_parts (nat_lt x (2 ^ 64 - 1)) (list_all (λ k. nat_lt x (seen r.rows k c)) (members_of r.members))
     (sym (below_least x (2 ^ 64 - 1) (λ k. seen r.rows k c) (members_of r.members)) ∙ e) in
-    let here : nat_lt x (seen r.rows i c)
-    ≡ true = each_member (λ k. nat_lt x (seen r.rows k c)) r.roster r.members
+    let here : nat_lt x (seen r.rows i c) ≡ true = each_member (λ k. nat_lt x (seen r.rows k c)) r.roster r.members
     (omega (arith, is.of.members, is.group.most_members)) is.form.roster tests.1 i
     (ap (λ k. has k i) (sym (members_are g rs table m r is)) ∙ member) in
     rw (shown_seen g rs table m r i c is.there is.of.number) (grind (arith, nat_tests, here))
@@ -216,8 +187,7 @@ each_below g rs table m r c x is inside small each =
     (each i (ap (λ k. has k i) (members_are g rs table m r is) ∙ member)) in
     below_least x (2 ^ 64 - 1) (λ k. seen r.rows k c) (members_of r.members)
     ∙ and_from _ _ (lt-ltb x (2 ^ 64 - 1) (le_trans (here (me r) inside) small))
-    (all_members (λ k. nat_lt x (seen r.rows k c)) r.members
-    (λ i member. lt-ltb x (seen r.rows i c) (here i member)))
+    (all_members (λ k. nat_lt x (seen r.rows k c)) r.members (λ i member. lt-ltb x (seen r.rows i c) (here i member)))
 
 -- ---- deliveries and reports
 
@@ -226,30 +196,25 @@ pub deliver_guard : (g : Group) (rs : List (Option Replica)) (table : Shared) (m
     → IsMember g rs table m r → IsIdle r
     → (may_deliver r ≡ true) ↔ (CanDeliver g (world_of g rs table) m × (length r.history < r.room))
 deliver_guard g rs table m r is alive =
-    let next : (world_of g rs table).next m
-    ≡ r.next = ap (λ h. h.next) (held_of g rs table m r is.there) in
+    let next : (world_of g rs table).next m ≡ r.next = ap (λ h. h.next) (held_of g rs table m r is.there) in
     unless_wedged g rs table m r _ is (λ none. (
       λ e. let two = and_parts (nat_lt r.next (least_seen r RECEIVED_COLUMN))
           (nat_lt (length r.history) r.room) e in (
             record {
               may = may_choose g rs table m r is alive;
               unwedged = none;
-              received = λ i member. rw next
-                  (below_each g rs table m r RECEIVED_COLUMN r.next is two.0 i member);
+              received = λ i member. rw next (below_each g rs table m r RECEIVED_COLUMN r.next is two.0 i member);
             },
             grind (arith, nat_tests, two.1),
           ),
-      λ can. and_from _ _
-          (each_below g rs table m r RECEIVED_COLUMN r.next is alive.2
+      λ can. and_from _ _ (each_below g rs table m r RECEIVED_COLUMN r.next is alive.2
           (omega (arith, is.form.received, received_small r (λ s. le_trans (is.form.bounded s) is.form.few)))
-          (λ i member. rw next at (can.0.received i member)))
-          (grind (arith, nat_tests, can.1)),
+          (λ i member. rw next at (can.0.received i member))) (grind (arith, nat_tests, can.1)),
     )) (λ can. can.0.unwedged)
 
 -- it reports exactly where that may come
 pub report_guard : (g : Group) (rs : List (Option Replica)) (table : Shared) (m : ℕ) (r : Replica)
-    → IsMember g rs table m r → IsIdle r
-    → (may_report r ≡ true) ↔ CanReport g (world_of g rs table) m
+    → IsMember g rs table m r → IsIdle r → (may_report r ≡ true) ↔ CanReport g (world_of g rs table) m
 report_guard g rs table m r is alive =
     let durable : (world_of g rs table).past.durable m
     ≡ r.durable = ap (λ h. h.durable) (held_of g rs table m r is.there) in (
@@ -266,8 +231,7 @@ report_guard g rs table m r is alive =
 
 -- it appends exactly where that may come
 pub append_guard : (g : Group) (rs : List (Option Replica)) (table : Shared) (m : ℕ) (r : Replica)
-    → IsMember g rs table m r → IsIdle r
-    → (may_append r ≡ true) ↔ CanAppend g (world_of g rs table) m
+    → IsMember g rs table m r → IsIdle r → (may_append r ≡ true) ↔ CanAppend g (world_of g rs table) m
 append_guard g rs table m r is alive =
     let was = held_of g rs table m r is.there in
     let log : length ((world_of g rs table).past.log m) ≡ r.logged = ap (λ h. length h.log) was
@@ -283,17 +247,13 @@ append_guard g rs table m r is alive =
 
 -- it publishes exactly where that may come
 pub publish_guard : (g : Group) (rs : List (Option Replica)) (table : Shared) (m : ℕ) (r : Replica)
-    → IsMember g rs table m r → IsIdle r
-    → (may_publish r ≡ true) ↔ CanPublish g (world_of g rs table) m
+    → IsMember g rs table m r → IsIdle r → (may_publish r ≡ true) ↔ CanPublish g (world_of g rs table) m
 publish_guard g rs table m r is alive =
     let was = held_of g rs table m r is.there in
     let log : length ((world_of g rs table).past.log m) ≡ r.logged = ap (λ h. length h.log) was
     ∙ length-take-le r.logged r.history is.form.logged in
     let word = own_shown g rs table m r LOGGED_COLUMN is.there in (
-      λ e. record {
-        may = may_choose g rs table m r is alive;
-        behind = rw (log, word) (grind (arith, nat_tests, e));
-      },
+      λ e. record { may = may_choose g rs table m r is alive; behind = rw (log, word) (grind (arith, nat_tests, e)) },
       λ can. let behind = rw (log, word) at can.behind in grind (arith, nat_tests, behind),
     )
 
@@ -301,8 +261,7 @@ publish_guard g rs table m r is alive =
 
 -- it marks exactly where that may come
 pub mark_guard : (g : Group) (rs : List (Option Replica)) (table : Shared) (m : ℕ) (r : Replica)
-    → IsMember g rs table m r → IsIdle r
-    → (may_mark r ≡ true) ↔ CanMark g (world_of g rs table) m
+    → IsMember g rs table m r → IsIdle r → (may_mark r ≡ true) ↔ CanMark g (world_of g rs table) m
 mark_guard g rs table m r is alive =
     let w : World = world_of g rs table in
     let was = held_of g rs table m r is.there in
@@ -312,15 +271,13 @@ mark_guard g rs table m r is alive =
     let members = members_are g rs table m r is in
     let whole : ℕ → Bool = λ s. length (messages_from s r.history) == slice_index r.totals s in
     unless_wedged g rs table m r _ is (λ none. (
-      λ e. let two = and_parts (own r.rows DONE_COLUMN == 0)
-          (holds_all r && (r.durable == length r.history)) e in
+      λ e. let two = and_parts (own r.rows DONE_COLUMN == 0) (holds_all r && (r.durable == length r.history)) e in
           let three = and_parts (holds_all r) (r.durable == length r.history) two.1 in record {
             may = may_choose g rs table m r is alive;
             unwedged = none;
             unmarked = rw word (eqb-true (own r.rows DONE_COLUMN) 0 two.0);
-            whole = λ s member. rw (history, ← is.of.totals s)
-                (eqb-true (length (messages_from s r.history)) (slice_index r.totals s)
-                (each_member whole r.roster r.members
+            whole = λ s member. rw (history, ← is.of.totals s) (eqb-true (length (messages_from s r.history))
+                (slice_index r.totals s) (each_member whole r.roster r.members
                 (omega (arith, is.of.members, is.group.most_members)) is.form.roster three.0 s
                 (ap (λ x. has x s) (sym members) ∙ member)));
             durable = rw (durable, history) (eqb-true r.durable (length r.history) three.1);
@@ -353,10 +310,8 @@ wish_test g rs table m r j is =
 
 namable_test : (g : Group) (rs : List (Option Replica)) (table : Shared) (m : ℕ) (r : Replica) (j : ℕ)
     → IsMember g rs table m r
-    → (j ≢ m → (has r.members j || may_wish r.history r.age r.late j) ≡ true
-    → IsNamable g (world_of g rs table) m j)
-    × (IsNamable g (world_of g rs table) m j
-    → (has r.members j || may_wish r.history r.age r.late j) ≡ true)
+    → (j ≢ m → (has r.members j || may_wish r.history r.age r.late j) ≡ true → IsNamable g (world_of g rs table) m j)
+    × (IsNamable g (world_of g rs table) m j → (has r.members j || may_wish r.history r.age r.late j) ≡ true)
 namable_test g rs table m r j is = (
   λ other e. elim (or_cases (has r.members j) (may_wish r.history r.age r.late j) e) [
     | inl there ↦ inl (record { member = ap (λ k. has k j) (members_are g rs table m r is) ∙ there; other = other })
@@ -379,8 +334,7 @@ namable_below g rs table m r j is (inr join) =
 
 -- it suspects exactly where that may come
 pub suspect_guard : (g : Group) (rs : List (Option Replica)) (table : Shared) (m : ℕ) (r : Replica) (j : ℕ)
-    → IsMember g rs table m r → IsIdle r
-    → (may_suspect r j ≡ true) ↔ CanSuspect g (world_of g rs table) m j
+    → IsMember g rs table m r → IsIdle r → (may_suspect r j ≡ true) ↔ CanSuspect g (world_of g rs table) m j
 suspect_guard g rs table m r j is alive =
     let free = unsuspected_member g rs table m r j is in
     let named = namable_test g rs table m r j is in (
@@ -404,8 +358,7 @@ suspect_guard g rs table m r j is alive =
     not_me e same = absurd (grind (arith, e, same))
 
 -- it is done exactly where the world says so
-done_due : (g : Group) (rs : List (Option Replica)) (table : Shared) (m : ℕ) (r : Replica)
-    → IsMember g rs table m r
+done_due : (g : Group) (rs : List (Option Replica)) (table : Shared) (m : ℕ) (r : Replica) → IsMember g rs table m r
     → (is_due r Done ≡ true) ↔ IsDone (world_of g rs table) m
 done_due g rs table m r is =
     let members = members_are g rs table m r is in
@@ -425,8 +378,7 @@ done_due g rs table m r is =
 
 -- a row says that it is suspected exactly where the world says so
 suspected_due : (g : Group) (rs : List (Option Replica)) (table : Shared) (m : ℕ) (r : Replica) (i : ℕ)
-    → IsMember g rs table m r
-    → (is_due r (Suspected i) ≡ true) ↔ IsSuspectedBy (world_of g rs table) m i
+    → IsMember g rs table m r → (is_due r (Suspected i) ≡ true) ↔ IsSuspectedBy (world_of g rs table) m i
 suspected_due g rs table m r i is = (
   λ e. let two = and_parts (nat_lt i r.roster) _ e in
       let three = and_parts (not (i == me r)) _ two.1 in
@@ -439,9 +391,8 @@ suspected_due g rs table m r i is = (
       },
   λ due. let e = other.1 due.row in
       let two = and_parts (has r.members i) (not (i == me r)) e in
-      and_from _ _ (other_below g rs table m r i is e)
-      (and_from _ _ two.1 (and_from _ _ (and_from _ _ two.0 (free.1 due.unsuspected))
-      (sym (word due.row.other) ∙ due.named))),
+      and_from _ _ (other_below g rs table m r i is e) (and_from _ _ two.1
+      (and_from _ _ (and_from _ _ two.0 (free.1 due.unsuspected)) (sym (word due.row.other) ∙ due.named))),
 )
   where
     other : (is_other r i ≡ true) ↔ IsOther (world_of g rs table) m i
@@ -457,16 +408,14 @@ suspected_due g rs table m r i is = (
 
 -- it is left with no majority exactly where the world says so
 minority_due : (g : Group) (rs : List (Option Replica)) (table : Shared) (m : ℕ) (r : Replica) (mask : ℕ)
-    → IsMember g rs table m r
-    → (is_due r (NoMajority mask) ≡ true) ↔ IsMinority (world_of g rs table) m mask
+    → IsMember g rs table m r → (is_due r (NoMajority mask) ≡ true) ↔ IsMinority (world_of g rs table) m mask
 minority_due g rs table m r mask is = (
   λ e. let two = and_parts (is_wedged r) _ e in
       let three = and_parts (mask == unsuspected r) (not (has_majority r)) two.1 in
       let here = eqb-true mask (unsuspected r) three.0 in record {
         wedged = (wedged g rs table m r is).0 two.0;
         unsuspected = here ∙ sym left;
-        minority = λ more. (not_less all few).0 three.1
-            (subst (λ k. all < 2 * length (members_of k)) here
+        minority = λ more. (not_less all few).0 three.1 (subst (λ k. all < 2 * length (members_of k)) here
             (subst (λ k. length (members_of k) < 2 * length (members_of mask)) members more));
       },
   λ due. let here : mask ≡ unsuspected r = due.unsuspected ∙ left in
@@ -491,14 +440,12 @@ minority_due g rs table m r mask is = (
 
 -- the value that it has committed names it exactly where the world says so
 excluded_due : (g : Group) (rs : List (Option Replica)) (table : Shared) (m : ℕ) (r : Replica) (view : ℕ)
-    → IsMember g rs table m r
-    → (is_due r (Excluded view) ≡ true) ↔ IsExcluded (world_of g rs table) m view
+    → IsMember g rs table m r → (is_due r (Excluded view) ≡ true) ↔ IsExcluded (world_of g rs table) m view
 excluded_due g rs table m r view is = (
   λ e. let two = and_parts (is_named (me r) r.committed) (view == r.view + 1) e in
       from r.committed refl two.0 (eqb-true view (r.view + 1) two.1),
-  λ due. and_from _ _
-      (subst (λ o. is_named (me r) o ≡ true) (sym (sym committed ∙ due.committed))
-      (ap (has due.value.leavers) is.of.number ∙ due.named))
+  λ due. and_from _ _ (subst (λ o. is_named (me r) o ≡ true)
+      (sym (sym committed ∙ due.committed)) (ap (has due.value.leavers) is.of.number ∙ due.named))
       (eq-eqb view (r.view + 1) (due.next ∙ ap (λ v. v + 1) number)),
 )
   where
@@ -520,8 +467,7 @@ excluded_due g rs table m r view is = (
 
 -- its end is due exactly where the world says so
 end_due : (g : Group) (rs : List (Option Replica)) (table : Shared) (m : ℕ) (r : Replica) (end : End)
-    → IsMember g rs table m r
-    → (is_due r end ≡ true) ↔ IsDue (world_of g rs table) m end
+    → IsMember g rs table m r → (is_due r end ≡ true) ↔ IsDue (world_of g rs table) m end
 end_due g rs table m r Done is = done_due g rs table m r is
 end_due g rs table m r (Suspected i) is = suspected_due g rs table m r i is
 end_due g rs table m r (NoMajority mask) is = minority_due g rs table m r mask is
@@ -530,8 +476,7 @@ end_due g rs table m r end is = (λ e. absurd (cc), λ due. absurd due)
 
 -- it halts exactly where that may come
 pub halt_guard : (g : Group) (rs : List (Option Replica)) (table : Shared) (m : ℕ) (r : Replica) (end : End)
-    → IsMember g rs table m r → IsIdle r
-    → (is_due r end ≡ true) ↔ CanHalt g (world_of g rs table) m end
+    → IsMember g rs table m r → IsIdle r → (is_due r end ≡ true) ↔ CanHalt g (world_of g rs table) m end
 halt_guard g rs table m r end is alive =
     let same = end_due g rs table m r end is in (
       λ e. record { may = may_choose g rs table m r is alive; due = same.0 e },
@@ -540,8 +485,7 @@ halt_guard g rs table m r end is alive =
 
 -- it crashes exactly where that may come
 pub crash_guard : (g : Group) (rs : List (Option Replica)) (table : Shared) (m : ℕ) (r : Replica) (end : End)
-    → IsMember g rs table m r → r.end ≡ None
-    → IsFault end ↔ CanCrash g (world_of g rs table) m end
+    → IsMember g rs table m r → r.end ≡ None → IsFault end ↔ CanCrash g (world_of g rs table) m end
 crash_guard g rs table m r end is alive =
     (λ fault. record { alive = running g rs table m r is alive; fault = fault }, λ can. can.fault)
 
@@ -549,8 +493,7 @@ crash_guard g rs table m r end is alive =
 
 -- it may always begin a turn
 pub beat_guard : (g : Group) (rs : List (Option Replica)) (table : Shared) (m : ℕ) (r : Replica)
-    → IsMember g rs table m r → r.end ≡ None → r.pending ≡ None
-    → CanBeat g (world_of g rs table) m
+    → IsMember g rs table m r → r.end ≡ None → r.pending ≡ None → CanBeat g (world_of g rs table) m
 beat_guard = may_turn
 
 -- it looks exactly where that may come
@@ -596,13 +539,11 @@ count_is g rs table m r s is =
     ap show (held_of g rs table m r is.there) ∙ rw (same_number r.view) refl
 
 -- the slot of its next item is free exactly where the world says so
-room_guard : (g : Group) (rs : List (Option Replica)) (table : Shared) (m : ℕ) (r : Replica)
-    → IsMember g rs table m r
+room_guard : (g : Group) (rs : List (Option Replica)) (table : Shared) (m : ℕ) (r : Replica) → IsMember g rs table m r
     → (is_free r.window r.rows r.members (count r (me r)) ≡ true)
     ↔ HasRoom g (world_of g rs table) m (items_received (world_of g rs table) m m)
 room_guard g rs table m r is = (
-  λ e. rw counts (room_from
-      (IsFree-from_test r.window r.rows r.members (count r m) is.form.rows.few roster_is
+  λ e. rw counts (room_from (IsFree-from_test r.window r.rows r.members (count r m) is.form.rows.few roster_is
       (subst free is.of.number e))),
   λ room. subst free (sym is.of.number)
       (is_free-true r.window r.rows r.members (count r m) (room_to (rw counts at room))),
@@ -639,8 +580,7 @@ room_guard g rs table m r is = (
 
 -- it sends exactly where that may come
 pub send_guard : (g : Group) (rs : List (Option Replica)) (table : Shared) (m : ℕ) (r : Replica)
-    → IsMember g rs table m r → IsIdle r
-    → (may_send r ≡ true) ↔ CanSend g (world_of g rs table) m
+    → IsMember g rs table m r → IsIdle r → (may_send r ≡ true) ↔ CanSend g (world_of g rs table) m
 send_guard g rs table m r is alive = unless_wedged g rs table m r _ is (λ none. (
   λ e. let two = and_parts (nat_lt (next_index r) (length r.messages))
       (is_free r.window r.rows r.members (count r (me r))) e in record {
@@ -691,8 +631,7 @@ behind_guard g rs table m r is = (
 
 -- it puts a null exactly where that may come
 pub null_guard : (g : Group) (rs : List (Option Replica)) (table : Shared) (m : ℕ) (r : Replica)
-    → IsMember g rs table m r → IsIdle r
-    → (may_null r ≡ true) ↔ CanNull g (world_of g rs table) m
+    → IsMember g rs table m r → IsIdle r → (may_null r ≡ true) ↔ CanNull g (world_of g rs table) m
 null_guard g rs table m r is alive = unless_wedged g rs table m r _ is (λ none. (
   λ e. let two = and_parts (not (nat_lt (next_index r) (length r.messages))) _ e in
       let three = and_parts (is_behind r) _ two.1 in record {
@@ -704,8 +643,7 @@ null_guard g rs table m r is alive = unless_wedged g rs table m r _ is (λ none.
       },
   λ can. let left = rw (next_is g rs table m r is, ← is.of.messages) at can.none_left in
       and_from _ _ (grind (arith, nat_tests, left))
-      (and_from _ _ ((behind_guard g rs table m r is).1 can.behind)
-      ((room_guard g rs table m r is).1 can.room)),
+      (and_from _ _ ((behind_guard g rs table m r is).1 can.behind) ((room_guard g rs table m r is).1 can.room)),
 )) (λ can. can.unwedged)
 
 some_test : (o : Option Item) → (is_some o ≡ true) ↔ IsSome o
@@ -714,8 +652,7 @@ some_test (Some x) = (λ e. refl, λ s. refl)
 
 -- the slot of the next item of another member, as it is seen
 pub slot_is : (g : Group) (rs : List (Option Replica)) (table : Shared) (m : ℕ) (r : Replica) (s k : ℕ)
-    → IsMember g rs table m r → s ≢ m
-    → seen_slot g (world_of g rs table) m s k ≡ slot_of r.window r.rows s k
+    → IsMember g rs table m r → s ≢ m → seen_slot g (world_of g rs table) m s k ≡ slot_of r.window r.rows s k
 slot_is g rs table m r s k is other = fun_ext λ part.
     seen_is g rs table m r s (slot_column (roster g) g.window k + part) is other
     ∙ ap (λ n. seen r.rows s (slot_column n g.window k + part)) (sym (is.form.members ∙ is.of.members))
@@ -724,8 +661,7 @@ slot_is g rs table m r s k is other = fun_ext λ part.
 -- it receives exactly where that may come, and fewer were taken than anyone has messages
 pub receive_guard : (g : Group) (rs : List (Option Replica)) (table : Shared) (m : ℕ) (r : Replica) (s : ℕ)
     → IsMember g rs table m r → IsIdle r
-    → (may_receive r s ≡ true) ↔ (CanReceive g (world_of g rs table) m s
-    × (count r s < greatest r.totals))
+    → (may_receive r s ≡ true) ↔ (CanReceive g (world_of g rs table) m s × (count r s < greatest r.totals))
 receive_guard g rs table m r s is alive =
     let w : World = world_of g rs table in
     let counts = count_is g rs table m r s is in
@@ -735,24 +671,21 @@ receive_guard g rs table m r s is alive =
           (is_some (ready_item r s) && nat_lt (count r s) (greatest r.totals)) e in
           let three = and_parts (is_some (ready_item r s)) (nat_lt (count r s) (greatest r.totals)) two.1 in
           let sender : IsOther w m s = other.0 two.0 in
-          let ready : IsReady (count r s) (slot_of r.window r.rows s (count r s)) =
-          (ready_test (count r s) (slot_of r.window r.rows s (count r s))).0
-          ((some_test (ready_item r s)).0 three.0) in (
+          let ready : IsReady (count r s) (slot_of r.window r.rows s (count r s)) = (ready_test (count r s)
+          (slot_of r.window r.rows s (count r s))).0 ((some_test (ready_item r s)).0 three.0) in (
             record {
               may = may_choose g rs table m r is alive;
               unwedged = none;
               sender = sender;
               ready = subst (λ k. IsReady k (seen_slot g w m s k)) (sym counts)
-                  (subst (IsReady (count r s)) (sym (slot_is g rs table m r s (count r s) is sender.other))
-                  ready);
+                  (subst (IsReady (count r s)) (sym (slot_is g rs table m r s (count r s) is sender.other)) ready);
             },
             grind (arith, nat_tests, three.1),
           ),
       λ can. let ready : IsReady (count r s) (slot_of r.window r.rows s (count r s)) =
           subst (IsReady (count r s)) (slot_is g rs table m r s (count r s) is can.0.sender.other)
           (subst (λ k. IsReady k (seen_slot g w m s k)) counts can.0.ready) in
-          and_from _ _ (other.1 can.0.sender)
-          (and_from _ _ ((some_test (ready_item r s)).1
-          ((ready_test (count r s) (slot_of r.window r.rows s (count r s))).1 ready))
+          and_from _ _ (other.1 can.0.sender) (and_from _ _
+          ((some_test (ready_item r s)).1 ((ready_test (count r s) (slot_of r.window r.rows s (count r s))).1 ready))
           (grind (arith, nat_tests, can.1))),
     )) (λ can. can.0.unwedged)

@@ -1,36 +1,21 @@
 -- Letters: when a replica gives one, what that makes of the world, and what a replica makes of its own.
+use Rattle.std.{specs.Prelude.{Option, None, Some, nat_lt, slice_set, unwrap_or}, proofs.Math.Path.fun_ext}
 use Rattle.std.proofs.Common.{◌≡◌, ◌≢◌, refl, sym, ap, ◌∙◌, ◌↔◌, ℕ, zero, suc, ◌+◌, ◌-◌, ◌*◌, ◌<◌, ◌≤◌, ◌==◌, ◌&&◌, inl, inr, not, Bool, true, false, if◌then◌else◌, List, [], ◌∷◌, length, replicate, take, slice_index, slice_index_or, arith}
-use Rattle.std.proofs.Math.Path.{fun_ext}
-use Rattle.std.specs.Prelude.{Option, None, Some, nat_lt, slice_set, unwrap_or}
-use Rattle.std.proofs.lemmas.Bool.{and_from, and_parts, cases_eq, eq-eqb, eqb-true}
-use Rattle.std.proofs.lemmas.Bool.Decides.{nat_tests}
+use Rattle.std.proofs.lemmas.Bool.{and_from, and_parts, cases_eq, eq-eqb, eqb-true, Decides.nat_tests}
 use Rattle.std.proofs.lemmas.List.{get_or-set_other, get_or-set_same, get_or_past, length-take-le, take-append-le}
-use Rattle.dr_entry.specs.declared.entry.Entry.{Entry}
-use Rattle.dr_entry.specs.declared.entry.Item.{Item}
-use Rattle.dr_entry.specs.declared.entry.Item.TheVariants.{Null}
-use Rattle.dr_entry.proofs.ListPlaces.{copy_at}
-use Rattle.dr_entry.proofs.BoolFacts.{both_same}
-use Rattle.dr_entry.proofs.NumberFacts.{same_number, other_number}
-use Rattle.dr_history.specs.Members.{has}
-use Rattle.dr_history.specs.History.{last_view, up_to_view}
-use Rattle.dr_history.specs.Order.{messages_from}
+use Rattle.dr_entry.{specs.declared.entry.{Entry.Entry, Item.{Item, TheVariants.Null}}, proofs.BoolFacts.both_same}
+use Rattle.dr_entry.proofs.{ListPlaces.copy_at, NumberFacts.{same_number, other_number}}
+use Rattle.dr_history.specs.{History.{last_view, up_to_view}, Members.has, Order.messages_from}
 use Rattle.dr_rows.specs.Words.{begun, own, with_own}
-use Rattle.dr_words.specs.declared.column.TheConstants.{LOGGED_COLUMN}
 use Rattle.dr_words.specs.Masks.{IsLeastOf, least_of, mask_of, with_member}
+use Rattle.dr_words.{specs.declared.column.TheConstants.LOGGED_COLUMN, proofs.Layouts.first_seen}
 use Rattle.dr_words.proofs.Masks.{has_mask_of, least_of_is, mask_of_small}
-use Rattle.dr_words.proofs.Layouts.{first_seen}
-use Rattle.dr_machine.specs.Writes.{at, at₂}
-use Rattle.dr_machine.specs.Group.{Group, roster}
-use Rattle.dr_machine.specs.Guards.{CanWelcome}
-use Rattle.dr_machine.specs.World.{World, no_value}
-use Rattle.dr_machine.specs.Effects.{enters, joins, welcomes}
+use Rattle.dr_machine.specs.{Effects.{enters, joins, welcomes}, Group.{Group, roster}, Guards.CanWelcome}
+use Rattle.dr_machine.specs.{World.{World, no_value}, Writes.{at, at₂}}
+use Rattle.dr_program.specs.{Presence.{present_at, with_present}, Reading.{Shared, kept_word, letters_of, world_of}}
 use Rattle.dr_program.specs.Replica.{LeftView, Replica, me, count, gave, is_inside, is_welcomer, joined, left_now, may_give, nothing_left}
-use Rattle.dr_program.specs.Reading.{Shared, kept_word, letters_of, world_of}
-use Rattle.dr_program.specs.Presence.{present_at, with_present}
-use Rattle.dr_program.proofs.Holdings.{Holding, held, holding_of, held_of, Changes}
-use Rattle.dr_program.proofs.Opening.{first_own}
-use Rattle.dr_refine.specs.Programs.{IsLetterFor, IsMember}
-use Rattle.dr_refine.proofs.Guards.{IsIdle, may_choose, members_are}
+use Rattle.dr_program.proofs.{Holdings.{Holding, held, holding_of, held_of, Changes}, Opening.first_own}
+use Rattle.dr_refine.{specs.Programs.{IsLetterFor, IsMember}, proofs.Guards.{IsIdle, may_choose, members_are}}
 use Rattle.dr_refine.proofs.Members.{Fits, fits, replaced}
 
 -- ---- when it gives one
@@ -69,8 +54,7 @@ welcomer_test r few inside before = (
 
 -- it gives a letter exactly where that may come
 pub give_guard : (g : Group) (rs : List (Option Replica)) (table : Shared) (m : ℕ) (r : Replica) (j : ℕ)
-    → IsMember g rs table m r → IsIdle r
-    → (may_give r j ≡ true) ↔ CanWelcome g (world_of g rs table) m j
+    → IsMember g rs table m r → IsIdle r → (may_give r j ≡ true) ↔ CanWelcome g (world_of g rs table) m j
 give_guard g rs table m r j is free = (forth, back)
   where
     w : World
@@ -130,13 +114,11 @@ give_guard g rs table m r j is free = (forth, back)
         (λ i small there member. omega (
           arith,
           is.of.number,
-          can.least i (ap (λ k. has k i) came_from ∙ there)
-              (ap (λ k. has k i) members ∙ member),
+          can.least i (ap (λ k. has k i) came_from ∙ there) (ap (λ k. has k i) members ∙ member),
         )) in
         and_from (nat_lt j r.roster) _ (grind (arith, nat_tests, within))
         (and_from (is_welcomer r) _ (and_from (has r.came_from (me r)) _ mine (eq-eqb _ _ least))
-        (and_from (has r.members j) _ newcomer
-        (and_from (not (has r.came_from j)) (not (has r.given j))
+        (and_from (has r.members j) _ newcomer (and_from (not (has r.came_from j)) (not (has r.given j))
         (ap not (sym (ap (λ k. has k j) came_from) ∙ can.new)) (ap not (sym (ap (λ k. has k j) given) ∙ can.none)))))
 
 -- ---- what that makes of the world
@@ -154,20 +136,15 @@ abbrev give_after : ℕ → Holding → Holding
 give_after j h = record h { given = with_member h.given j }
 
 give_changes : (w : World) (m j : ℕ) → Changes w (welcomes w m j) m (give_after j (held w m))
-give_changes w m j = record {
-  others = λ k other. rw (other_number k m other) refl;
-  here = rw (same_number m) refl;
-}
+give_changes w m j = record { others = λ k other. rw (other_number k m other) refl; here = rw (same_number m) refl }
 
 pub welcome_effect : (g : Group) (rs : List (Option Replica)) (table : Shared) (m : ℕ) (r : Replica) (j : ℕ)
-    → IsMember g rs table m r → may_give r j ≡ true
-    → world_of g (with_present rs m (gave r j))
+    → IsMember g rs table m r → may_give r j ≡ true → world_of g (with_present rs m (gave r j))
     (record table { letters = slice_set table.letters j (Some (up_to_view r.history)) })
     ≡ welcomes (world_of g rs table) m j
-welcome_effect g rs table m r j is may =
-    replaced g rs table (record table { letters = slice_set table.letters j (Some (up_to_view r.history)) }) m r
-    (gave r j) (welcomes (world_of g rs table) m j) (give_after j) is.there
-    (give_changes (world_of g rs table) m j) refl refl
+welcome_effect g rs table m r j is may = replaced g rs table
+    (record table { letters = slice_set table.letters j (Some (up_to_view r.history)) }) m r (gave r j)
+    (welcomes (world_of g rs table) m j) (give_after j) is.there (give_changes (world_of g rs table) m j) refl refl
     (letters_written table.letters j (Some (up_to_view r.history)) within
     ∙ ap (λ es. at (letters_of table.letters) j (Some (up_to_view es)))
     (sym (ap (λ h. h.history) (held_of g rs table m r is.there))))
@@ -200,9 +177,8 @@ join_after m letter h =
       seen = λ i c. 0;
     }
 
-join_changes : (w : World) (m : ℕ) (letter : List Entry)
-    → Changes w (enters w m (last_view (0, 0) letter).0 (last_view (0, 0) letter).1 letter) m
-    (join_after m letter (held w m))
+join_changes : (w : World) (m : ℕ) (letter : List Entry) → Changes w (enters w m
+    (last_view (0, 0) letter).0 (last_view (0, 0) letter).1 letter) m (join_after m letter (held w m))
 join_changes w m letter = record {
   others = λ k other. rw (other_number k m other) refl;
   here = rw (same_number m) refl;
@@ -258,8 +234,7 @@ join_world g rs table m r letter there f for =
     beyond : (u : ℕ) → slice_index_or r.left u nothing_left ≡ nothing_left
     beyond u = get_or_past r.left u nothing_left (omega (arith, f.left))
 
-    kept : (u : ℕ) → u ≢ r.view
-        → slice_index_or left u nothing_left ≡ slice_index_or r.left u nothing_left
+    kept : (u : ℕ) → u ≢ r.view → slice_index_or left u nothing_left ≡ slice_index_or r.left u nothing_left
     kept u other = kept_rest (left_now r) (v - 1) u (λ e. other (e ∙ sym f.first)) ∙ sym (beyond u)
 
     kept_here : slice_index_or left r.view nothing_left ≡ left_now r
@@ -291,8 +266,7 @@ join_world g rs table m r letter there f for =
 
     sent_is : (holding_of g r).sent ≡ (holding_of g q).sent
     sent_is = fun_ext λ u. elim (cases_eq u v) [
-      | inl next ↦ rw (next, same_number v, other_number v r.view apart)
-          (ap (λ (l : LeftView). l.sent) (beyond v))
+      | inl next ↦ rw (next, same_number v, other_number v r.view apart) (ap (λ (l : LeftView). l.sent) (beyond v))
       | inr d ↦ rw (other_number u v d) (pick u (λ l. l.sent) r.sent refl)
     ]
 
@@ -319,8 +293,7 @@ join_world g rs table m r letter there f for =
 
 -- a member that takes its letter joins
 pub join_effect : (g : Group) (rs : List (Option Replica)) (table : Shared) (m : ℕ) (r : Replica) (letter : List Entry)
-    → IsMember g rs table m r → is_inside r ≡ false → letters_of table.letters m ≡ Some letter
-    → IsLetterFor r letter
+    → IsMember g rs table m r → is_inside r ≡ false → letters_of table.letters m ≡ Some letter → IsLetterFor r letter
     → world_of g (with_present rs m (joined r letter)) table ≡ joins (world_of g rs table) m
 join_effect g rs table m r letter is outside found for =
     let first = (is.form.outside outside).first in

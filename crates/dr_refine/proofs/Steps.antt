@@ -1,28 +1,18 @@
 -- A move keeps a program of the group, where it keeps the form of the member that makes it.
-use Rattle.std.proofs.Common.{◌≡◌, refl, sym, ap, ◌∙◌, subst, ℕ, ◌<◌, ◌≤◌, inl, inr, List, length, map, arith}
 use Rattle.std.specs.Prelude.{Option, Some, None, is_some, option_map}
-use Rattle.std.proofs.lemmas.Bool.{cases_eq}
-use Rattle.std.proofs.lemmas.List.{length-set, length-map, length-replicate}
-use Rattle.std.proofs.lemmas.Option.{same_Some}
+use Rattle.std.proofs.Common.{◌≡◌, refl, sym, ap, ◌∙◌, subst, ℕ, ◌<◌, ◌≤◌, inl, inr, List, length, map, arith}
+use Rattle.std.proofs.lemmas.{Bool.cases_eq, List.{length-set, length-map, length-replicate}, Option.same_Some}
 use Rattle.dr_words.specs.Layout.{words_of}
-use Rattle.dr_program.specs.declared.setup.Setup.{Setup}
-use Rattle.dr_machine.specs.Group.{Group, IsGroup, banks, roster}
-use Rattle.dr_program.specs.Replica.{Replica, joined}
-use Rattle.dr_entry.specs.declared.end.End.{End}
-use Rattle.dr_entry.specs.declared.entry.Entry.{Entry}
-use Rattle.dr_machine.specs.declared.step.Step.{Step}
-use Rattle.dr_program.specs.declared.outcome.Outcome.{Outcome}
-use Rattle.dr_program.specs.Steps.{stepped, stored, stored_letters}
-use Rattle.dr_program.specs.Running.{Running, begun_running, next_step, settled, took, took_letter}
+use Rattle.dr_program.{specs.Form.{IsOf, IsRunningMember}, proofs.OpeningForm.begins_in_form}
+use Rattle.dr_program.specs.{Presence.{present_at, with_present}, declared.outcome.Outcome.Outcome}
 use Rattle.dr_program.specs.Program.{Program, Move, AreSetups, after_deed, begun_program, letter_for, next_sight, step_of}
-use Rattle.dr_program.specs.Form.{IsOf, IsRunningMember}
-use Rattle.dr_program.proofs.Fixed.{join_told, step_told, of_told}
-use Rattle.dr_program.proofs.OpeningForm.{begins_in_form}
-use Rattle.dr_program.proofs.Runs.{after_either}
-use Rattle.dr_refine.specs.Programs.{IsProgram}
-use Rattle.dr_refine.proofs.Deeds.{rest_changes_nothing, settle_replica, step_is}
-use Rattle.dr_program.specs.Presence.{present_at, with_present}
-use Rattle.dr_program.proofs.Present.{present_kept, present_map, present_set, present_within}
+use Rattle.dr_program.specs.{Replica.{Replica, joined}, declared.setup.Setup.Setup}
+use Rattle.dr_program.specs.Running.{Running, begun_running, next_step, settled, took, took_letter}
+use Rattle.dr_program.{specs.Steps.{stepped, stored, stored_letters}, proofs.Fixed.{join_told, step_told, of_told}}
+use Rattle.dr_program.proofs.{Present.{present_kept, present_map, present_set, present_within}, Runs.after_either}
+use Rattle.dr_machine.specs.{Group.{Group, IsGroup, banks, roster}, declared.step.Step.Step}
+use Rattle.dr_entry.specs.declared.{end.End.End, entry.Entry.Entry}
+use Rattle.dr_refine.{specs.Programs.IsProgram, proofs.Deeds.{rest_changes_nothing, settle_replica, step_is}}
 
 -- ---- the member
 
@@ -40,10 +30,9 @@ pub posts_length : (letters : List (Option (List Entry))) (q : Replica) (s : Ste
 posts_length letters q s = grind (arith, length-set letters)
 
 -- one member replaced by a running one of its number
-pub replaced_program : (g : Group) (p : Program) (m : ℕ) (r : Running) (cells : List ℕ)
-    (letters : List (Option (List Entry))) → IsProgram g p
-    → m < length p.members → IsRunningMember r → IsOf g m r.replica
-    → length cells ≡ length p.table → length letters ≡ length p.letters
+pub replaced_program : (g : Group) (p : Program) (m : ℕ)
+    (r : Running) (cells : List ℕ) (letters : List (Option (List Entry))) → IsProgram g p → m < length p.members
+    → IsRunningMember r → IsOf g m r.replica → length cells ≡ length p.table → length letters ≡ length p.letters
     → IsProgram g (record { members = with_present p.members m r; table = cells; letters = letters })
 replaced_program g p m r cells letters is within form of same_length same_letters = record {
   all = length-set p.members m (Some r) ∙ is.all;
@@ -68,8 +57,7 @@ replaced_program g p m r cells letters is within form of same_length same_letter
 -- a deed leaves the member the one that it was, however its append went
 of_deed : (g : Group) (m : ℕ) (table : List ℕ) (letter : Option (List Entry)) (o : Outcome) (r : Running)
     → IsOf g m r.replica → IsOf g m (after_deed (next_sight table r) letter o r (next_step r)).replica
-of_deed g m table letter o r of =
-    after_either (λ (x : Running). IsOf g m x.replica) table letter o r (next_step r)
+of_deed g m table letter o r of = after_either (λ (x : Running). IsOf g m x.replica) table letter o r (next_step r)
     (of_settled g m (took (next_sight table r) r (next_step r)) (of_told g m r.replica
     (stepped (next_sight table r) r.replica (next_step r))
     (step_told (next_sight table r) r.replica (next_step r)) of))
@@ -88,10 +76,8 @@ step_kept g p e is keeps = by (present_at p.members e.member) refl
   where
     at : (r : Running) → present_at p.members e.member ≡ Some r → (o : Option End) → r.replica.end
         ≡ o → IsProgram g (step_of p e)
-    at r there (Some x) ended = subst (IsProgram g)
-        (sym (rest_changes_nothing p e r there (ap is_some ended))) is
-    at r there None unended = subst (IsProgram g) (sym (step_is p e r there unended))
-        (replaced_program g p e.member
+    at r there (Some x) ended = subst (IsProgram g) (sym (rest_changes_nothing p e r there (ap is_some ended))) is
+    at r there None unended = subst (IsProgram g) (sym (step_is p e r there unended)) (replaced_program g p e.member
         (after_deed (next_sight p.table r) (letter_for p e.member) e.outcome r (next_step r))
         (stored p.table r.replica (next_step r)) (stored_letters p.letters r.replica (next_step r)) is
         (present_within p.members e.member r there) (keeps r there unended)
@@ -120,11 +106,9 @@ begun_is_program g limit setups is some are = record {
     named : (m : ℕ) (r : Running) (o : Option Setup) → present_at setups m ≡ o
         → option_map begun_running o ≡ Some r → IsRunningMember r × IsOf g m r.replica
     named m r None e there = absurd (cc)
-    named m r (Some s) e there =
-        subst (λ (x : Running). IsRunningMember x × IsOf g m x.replica)
+    named m r (Some s) e there = subst (λ (x : Running). IsRunningMember x × IsOf g m x.replica)
         (same_Some (begun_running s) r there) (begins_in_form g limit m s is some (are.each m s e))
 
     begun : (m : ℕ) (r : Running) → present_at (map (option_map begun_running) setups) m ≡ Some r
         → IsRunningMember r × IsOf g m r.replica
-    begun m r there = named m r (present_at setups m) refl
-        (sym (present_map begun_running setups m) ∙ there)
+    begun m r there = named m r (present_at setups m) refl (sym (present_map begun_running setups m) ∙ there)

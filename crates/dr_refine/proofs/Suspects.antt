@@ -1,27 +1,16 @@
 -- What a suspicion makes of the world.
+use Rattle.std.{specs.Prelude.Option, proofs.{Math.Path.fun_ext, lemmas.Bool.cases_eq}}
 use Rattle.std.proofs.Common.{◌≡◌, refl, sym, ap, ◌∙◌, ℕ, ◌==◌, if◌then◌else◌, inl, inr, true, List, arith}
-use Rattle.std.proofs.Math.Path.{fun_ext}
-use Rattle.std.proofs.lemmas.Bool.{cases_eq}
 use Rattle.dr_rows.specs.Words.{own, rewritten}
 use Rattle.dr_rows.proofs.Rewrites.{IsWords-frozen, IsWords-rewritten, own_rewritten_all, seen_rewritten}
-use Rattle.dr_words.specs.Masks.{least_of, with_member, without}
-use Rattle.dr_words.specs.Rewrites.{wedged_word}
-use Rattle.dr_words.proofs.Masks.{IsSuspecting, more_some}
-use Rattle.dr_words.proofs.Rewrites.{wedged_rest}
-use Rattle.dr_machine.specs.Writes.{at}
-use Rattle.dr_machine.specs.Group.{Group, roster}
-use Rattle.dr_machine.specs.World.{World}
-use Rattle.dr_machine.specs.Effects.{stamped, suspects}
-use Rattle.dr_program.specs.Replica.{Replica, acted, is_inside, may_suspect, suspected}
-use Rattle.dr_program.specs.Reading.{Shared, kept_word, world_of}
-use Rattle.dr_program.proofs.Holdings.{Holding, held, holding_of, Changes}
-use Rattle.dr_program.proofs.Suspecting.{suspecting}
-use Rattle.dr_refine.specs.Programs.{IsMember, acted_table}
+use Rattle.dr_words.specs.{Masks.{least_of, with_member, without}, Rewrites.wedged_word}
+use Rattle.dr_words.proofs.{Masks.{IsSuspecting, more_some}, Rewrites.wedged_rest}
+use Rattle.dr_machine.specs.{Effects.{stamped, suspects}, Group.{Group, roster}, World.World, Writes.at}
+use Rattle.dr_program.specs.{Presence.with_present, Replica.{Replica, acted, is_inside, may_suspect, suspected}}
+use Rattle.dr_program.{specs.Reading.{Shared, kept_word, world_of}, proofs.Suspecting.suspecting}
+use Rattle.dr_program.proofs.{Holdings.{Holding, held, holding_of, Changes}, Present.present_within}
+use Rattle.dr_refine.{specs.Programs.{IsMember, acted_table}, proofs.Gains.{row_written, own_here}}
 use Rattle.dr_refine.proofs.Members.{Fits, fits, replaced, then_acted}
-use Rattle.dr_refine.proofs.Gains.{row_written, own_here}
-use Rattle.dr_program.specs.Presence.{with_present}
-use Rattle.dr_program.proofs.Present.{present_within}
-use Rattle.std.specs.Prelude.{Option}
 use Rattle.dr_entry.proofs.NumberFacts.{same_number, other_number}
 
 -- what a member has once it suspects j too, where these were its own words in its view
@@ -37,8 +26,7 @@ suspect_from g j h own =
 abbrev suspect_after : Group → ℕ → Holding → Holding
 suspect_after g j h = suspect_from g j h (h.own h.view)
 
-suspect_changes : (g : Group) (w : World) (m j : ℕ)
-    → Changes w (suspects g w m j) m (suspect_after g j (held w m))
+suspect_changes : (g : Group) (w : World) (m j : ℕ) → Changes w (suspects g w m j) m (suspect_after g j (held w m))
 suspect_changes g w m j = record {
   others = λ k other. rw (other_number k m other) refl;
   here = rw (same_number m) refl;
@@ -46,14 +34,11 @@ suspect_changes g w m j = record {
 
 -- one member more is suspected
 pub suspect_effect : (g : Group) (rs : List (Option Replica)) (table : Shared) (m : ℕ) (r : Replica) (j : ℕ)
-    → IsMember g rs table m r → is_inside r ≡ true → may_suspect r j ≡ true
-    → world_of g (with_present rs m (acted (suspected r j))) (acted_table g table m r)
-    ≡ stamped (suspects g (world_of g rs table) m j) m
-suspect_effect g rs table m r j is inside e =
-    then_acted g rs table m (suspected r j) (suspects g w m j) (present_within rs m r is.there)
-    new_fits is.cells
-    (replaced g rs table table m r (suspected r j) (suspects g w m j) (suspect_after g j) is.there
-    (suspect_changes g w m j) same refl refl)
+    → IsMember g rs table m r → is_inside r ≡ true → may_suspect r j ≡ true → world_of g (with_present rs m
+    (acted (suspected r j))) (acted_table g table m r) ≡ stamped (suspects g (world_of g rs table) m j) m
+suspect_effect g rs table m r j is inside e = then_acted g rs table m (suspected r j)
+    (suspects g w m j) (present_within rs m r is.there) new_fits is.cells (replaced g rs table table m r
+    (suspected r j) (suspects g w m j) (suspect_after g j) is.there (suspect_changes g w m j) same refl refl)
   where
     w : World
     w = world_of g rs table
@@ -82,15 +67,12 @@ suspect_effect g rs table m r j is inside e =
       bank = f.bank;
     }
 
-    words : (c : ℕ) → own (suspected r j).rows c
-        ≡ wedged_word (roster g) r.members mask promise c (own r.rows c)
-    words c = own_rewritten_all r.rows make c f.words
-        (λ past. wedged_rest r.roster r.members mask promise c 0 (omega (arith, is.form.columns, past))
-        (inr (omega (arith, is.form.columns, past))))
+    words : (c : ℕ) → own (suspected r j).rows c ≡ wedged_word (roster g) r.members mask promise c (own r.rows c)
+    words c = own_rewritten_all r.rows make c f.words (λ past. wedged_rest r.roster r.members mask promise c 0
+        (omega (arith, is.form.columns, past)) (inr (omega (arith, is.form.columns, past))))
         ∙ ap (λ n. wedged_word n r.members mask promise c (own r.rows c)) is.of.members
 
-    own_is : (holding_of g (suspected r j)).own
-        ≡ at (holding_of g r).own r.view
+    own_is : (holding_of g (suspected r j)).own ≡ at (holding_of g r).own r.view
         (λ c. wedged_word (roster g) r.members mask promise c (own r.rows c))
     own_is = fun_ext λ v. fun_ext λ c. ap (λ x. if v == r.view then x else kept_word r v c) (words c)
         ∙ row_written (own r.rows)
@@ -106,10 +88,9 @@ suspect_effect g rs table m r j is inside e =
     promise_is = rw (other_number mask 0 (more_some s)) refl
 
     same : suspect_after g j (holding_of g r) ≡ holding_of g (suspected r j)
-    same = (λ z. suspect_from g j (holding_of g r) (own_here g r z))
-        ∙ (λ z. record (holding_of g r) {
-          own = sym own_is z;
-          suspects = mask;
-          promise = sym promise_is z;
-          seen = sym seen_is z;
-        })
+    same = (λ z. suspect_from g j (holding_of g r) (own_here g r z)) ∙ (λ z. record (holding_of g r) {
+      own = sym own_is z;
+      suspects = mask;
+      promise = sym promise_is z;
+      seen = sym seen_is z;
+    })

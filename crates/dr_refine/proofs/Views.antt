@@ -1,10 +1,7 @@
 -- The least number over the members of a mask, and where they are.
+use Rattle.std.{specs.List.list_all, proofs.lemmas.Bool.{and_parts, Decides.nat_tests}}
 use Rattle.std.proofs.Common.{◌≡◌, ◌∙◌, ℕ, zero, suc, ◌<◌, ◌≤◌, Bool, true, ◌&&◌, nat_lt, min, List, [], ◌∷◌, map, fold, slice_index, arith}
-use Rattle.std.specs.List.{list_all}
-use Rattle.std.proofs.lemmas.Bool.{and_parts}
-use Rattle.std.proofs.lemmas.Bool.Decides.{nat_tests}
-use Rattle.dr_history.specs.Members.{members_of}
-use Rattle.dr_history.proofs.Tests.{all_members}
+use Rattle.dr_history.{specs.Members.members_of, proofs.Tests.all_members}
 use Rattle.dr_words.specs.Masks.{IsInRoster}
 
 -- a number is below the least exactly where it is below all
@@ -31,6 +28,5 @@ element_below n (x ∷ xs) (suc k) some all =
 
 -- the member at a place among them
 pub member_below : (n mask k : ℕ) → 1 ≤ n → IsInRoster n mask → slice_index (members_of mask) k < n
-member_below n mask k some roster =
-    element_below n (members_of mask) k some
+member_below n mask k some roster = element_below n (members_of mask) k some
     (all_members (λ i. nat_lt i n) mask (λ i member. grind (arith, nat_tests, roster i member)))

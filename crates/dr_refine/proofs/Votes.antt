@@ -1,49 +1,33 @@
 -- A replica may vote, act on its vote and commit exactly where that may come, and what it makes of the world.
+use Rattle.std.{specs.Prelude.{Option, Some, None, is_some, unwrap_or}, proofs.Math.Path.fun_ext}
 use Rattle.std.proofs.Common.{◌≡◌, ◌↔◌, refl, sym, ap, ◌∙◌, subst, ℕ, ◌+◌, ◌^◌, ◌<◌, ◌≤◌, ◌==◌, ◌||◌, ◌⊎◌, inl, inr, not, Bool, true, false, if◌then◌else◌, List, [], ◌∷◌, ◌++◌, length, arith}
-use Rattle.std.proofs.Math.Path.{fun_ext}
-use Rattle.std.specs.Prelude.{Option, Some, None, is_some, unwrap_or}
-use Rattle.std.proofs.lemmas.Bool.{and_from, and_parts, cases_eq, eq-eqb, eqb-true}
-use Rattle.std.proofs.lemmas.List.{length-take-le}
-use Rattle.dr_entry.specs.declared.record.Value.{Value}
-use Rattle.dr_entry.specs.declared.record.Vote.{Vote}
-use Rattle.dr_entry.proofs.NumberFacts.{same_number, other_number}
+use Rattle.std.proofs.lemmas.{Bool.{and_from, and_parts, cases_eq, eq-eqb, eqb-true}, List.length-take-le}
+use Rattle.dr_entry.{specs.declared.record.{Value.Value, Vote.Vote}, proofs.NumberFacts.{same_number, other_number}}
 use Rattle.dr_history.specs.Members.{has}
-use Rattle.dr_rows.specs.Words.{own, seen}
-use Rattle.dr_rows.proofs.Rewrites.{IsWords-rewritten, own_rewritten_all, seen_rewritten}
+use Rattle.dr_rows.{specs.Words.{own, seen}, proofs.Rewrites.{IsWords-rewritten, own_rewritten_all, seen_rewritten}}
+use Rattle.dr_words.specs.{Accepts.{Shown, Shows, promise_of}, Changes.{IsProposal, MayAccept, MayCommit, MayPropose}}
+use Rattle.dr_words.specs.{Choices.{proposal, shown_value}, Masks.without, Rewrites.accepted_word}
 use Rattle.dr_words.proofs.Choices.{accept_test, commit_test, proposal_is, propose_test, shows_value}
-use Rattle.dr_words.proofs.Masks.{has_without_mask, in_roster_small}
-use Rattle.dr_words.proofs.Rewrites.{accepted_rest}
+use Rattle.dr_words.proofs.{Masks.{has_without_mask, in_roster_small}, Rewrites.accepted_rest}
 use Rattle.dr_words.proofs.Values.{proposal_once, shows_once}
-use Rattle.dr_words.specs.Accepts.{Shown, Shows, promise_of}
-use Rattle.dr_words.specs.Changes.{IsProposal, MayAccept, MayCommit, MayPropose}
-use Rattle.dr_words.specs.Choices.{proposal, shown_value}
-use Rattle.dr_words.specs.Masks.{without}
-use Rattle.dr_words.specs.Rewrites.{accepted_word}
-use Rattle.dr_machine.specs.Effects.{accepts, commits, logs_vote, stamped}
-use Rattle.dr_machine.specs.Group.{Group, roster}
-use Rattle.dr_machine.specs.Guards.{CanAccept, CanCommit, CanLogVote, CanPropose}
-use Rattle.dr_machine.specs.Votes.{vote_in}
-use Rattle.dr_machine.specs.World.{World, no_vote, shown}
-use Rattle.dr_machine.specs.Writes.{at}
+use Rattle.dr_machine.specs.{Effects.{accepts, commits, logs_vote, stamped}, Group.{Group, roster}}
+use Rattle.dr_machine.specs.{Guards.{CanAccept, CanCommit, CanLogVote, CanPropose}, Votes.vote_in}
+use Rattle.dr_machine.specs.{World.{World, no_vote, shown}, Writes.at}
+use Rattle.dr_program.specs.{Presence.with_present, Reading.{Shared, kept_word, world_of}}
 use Rattle.dr_program.specs.Replica.{Replica, accepted, acted, decided, is_inside, is_others, is_own, is_value, is_wedged, may_append, may_commit, may_vote, me, promise, value_due, vote_of, voted}
-use Rattle.dr_program.specs.Replica as replicas
-use Rattle.dr_program.specs.Reading.{Shared, kept_word, world_of}
-use Rattle.dr_program.proofs.Holdings.{Changes, Holding, held, held_of, holding_of}
+use Rattle.dr_program.proofs.{Holdings.{Changes, Holding, held, held_of, holding_of}, Present.present_within}
 use Rattle.dr_program.proofs.Voting.{value_long, value_test}
-use Rattle.dr_refine.specs.Programs.{IsMember, acted_table}
-use Rattle.dr_refine.proofs.Gains.{own_here, row_written}
+use Rattle.dr_program.specs.Replica as replicas
+use Rattle.dr_refine.{specs.Programs.{IsMember, acted_table}, proofs.Gains.{own_here, row_written}}
 use Rattle.dr_refine.proofs.Guards.{IsIdle, in_view_test, may_choose, members_are, not_less, running, suspects_are, wedged}
 use Rattle.dr_refine.proofs.Members.{Fits, fits, replaced, shown_seen, then_acted}
-use Rattle.dr_program.specs.Presence.{with_present}
-use Rattle.dr_program.proofs.Present.{present_within}
 
 -- ---- the rows
 
 -- the rows that the member shows are those of its replica
 shows_rows : (g : Group) (rs : List (Option Replica)) (table : Shared) (m : ℕ) (r : Replica)
     → IsMember g rs table m r → ◌≡◌ {A = ℕ → ℕ → ℕ} (shown (world_of g rs table) m) (seen r.rows)
-shows_rows g rs table m r is =
-    fun_ext λ i. fun_ext λ c. shown_seen g rs table m r i c is.there is.of.number
+shows_rows g rs table m r is = fun_ext λ i. fun_ext λ c. shown_seen g rs table m r i c is.there is.of.number
 
 -- what holds of them, of the view and of the suspects holds in the world
 to_world : (g : Group) (rs : List (Option Replica)) (table : Shared) (m : ℕ) (r : Replica)
@@ -63,8 +47,7 @@ to_world g rs table m r P is p =
 from_world : (g : Group) (rs : List (Option Replica)) (table : Shared) (m : ℕ) (r : Replica)
     (P : ℕ → Shown → ℕ → ℕ → ℕ → Type 0) → IsMember g rs table m r
     → P (roster g) (shown (world_of g rs table) m) ((world_of g rs table).members m)
-    ((world_of g rs table).suspects m) m
-    → P r.roster (seen r.rows) r.members r.suspects (me r)
+    ((world_of g rs table).suspects m) m → P r.roster (seen r.rows) r.members r.suspects (me r)
 from_world g rs table m r P is p =
     let w : World = world_of g rs table in
     subst (λ k. P k (seen r.rows) r.members r.suspects (me r)) (sym is.of.members)
@@ -77,13 +60,11 @@ from_world g rs table m r P is p =
 view_small : (g : Group) (rs : List (Option Replica)) (table : Shared) (m : ℕ) (r : Replica)
     → IsMember g rs table m r → r.members < 2 ^ 16
 view_small g rs table m r is = in_roster_small 16 r.members (λ i there.
-    let within : i < r.roster = is.form.roster i there in
-    omega (arith, within, is.of.members, is.group.most_members))
+    let within : i < r.roster = is.form.roster i there in omega (arith, within, is.of.members, is.group.most_members))
 
 self_left : (g : Group) (rs : List (Option Replica)) (table : Shared) (m : ℕ) (r : Replica)
     → IsMember g rs table m r → is_inside r ≡ true → has (without r.members r.suspects) (me r) ≡ true
-self_left g rs table m r is inside =
-    has_without_mask r.members r.suspects (me r) (view_small g rs table m r is)
+self_left g rs table m r is inside = has_without_mask r.members r.suspects (me r) (view_small g rs table m r is)
     ∙ and_from _ _ inside (ap not is.form.trusted)
 
 -- ---- votes
@@ -108,12 +89,10 @@ allowed_test g rs table m r v is inside long = (λ p. from (replicas.may_propose
     small : r.members < 2 ^ 16
     small = view_small g rs table m r is
 
-    propose : (replicas.may_propose r ≡ true)
-        ↔ MayPropose r.roster (seen r.rows) r.members r.suspects (me r)
+    propose : (replicas.may_propose r ≡ true) ↔ MayPropose r.roster (seen r.rows) r.members r.suspects (me r)
     propose = propose_test r.roster (seen r.rows) r.members r.suspects (me r) small
 
-    accept : (replicas.may_accept r ≡ true)
-        ↔ MayAccept r.roster (seen r.rows) r.members r.suspects (me r)
+    accept : (replicas.may_accept r ≡ true) ↔ MayAccept r.roster (seen r.rows) r.members r.suspects (me r)
     accept = accept_test r.roster (seen r.rows) r.members r.suspects (me r) small
 
     proposes : IsProposal r.roster (seen r.rows) r.members r.suspects
@@ -130,9 +109,8 @@ allowed_test g rs table m r v is inside long = (λ p. from (replicas.may_propose
         else shown_value r.roster (seen r.rows) r.members (promise_of r.roster (seen r.rows) (me r)))
     due_is b e = rw e refl
 
-    from : (b : Bool) → replicas.may_propose r ≡ b
-        → ((replicas.may_propose r || replicas.may_accept r) ≡ true) × (v ≡ value_due r)
-        → IsAllowed v r.roster (seen r.rows) r.members r.suspects (me r)
+    from : (b : Bool) → replicas.may_propose r ≡ b → ((replicas.may_propose r || replicas.may_accept r) ≡ true)
+        × (v ≡ value_due r) → IsAllowed v r.roster (seen r.rows) r.members r.suspects (me r)
     from true e p = inl (
       propose.0 e,
       subst (IsProposal r.roster (seen r.rows) r.members r.suspects) (sym (p.1 ∙ due_is true e)) proposes,
@@ -169,8 +147,7 @@ allowed_test g rs table m r v is inside long = (λ p. from (replicas.may_propose
 
 -- it votes exactly where that may come
 pub vote_guard : (g : Group) (rs : List (Option Replica)) (table : Shared) (m : ℕ) (r : Replica) (v : Value)
-    → IsMember g rs table m r → IsIdle r
-    → (may_vote r v ≡ true) ↔ CanLogVote g (world_of g rs table) m v
+    → IsMember g rs table m r → IsIdle r → (may_vote r v ≡ true) ↔ CanLogVote g (world_of g rs table) m v
 vote_guard g rs table m r v is free = (
   λ e. let a = and_parts (is_wedged r) _ e in
       let b = and_parts (not (is_some r.committed)) _ a.1 in
@@ -199,8 +176,7 @@ vote_guard g rs table m r v is free = (
     committed = ap (λ h. h.committed) (held_of g rs table m r is.there)
 
     log : length ((world_of g rs table).past.log m) ≡ r.logged
-    log = ap (λ h. length h.log) (held_of g rs table m r is.there)
-        ∙ length-take-le r.logged r.history is.form.logged
+    log = ap (λ h. length h.log) (held_of g rs table m r is.there) ∙ length-take-le r.logged r.history is.form.logged
 
     history : length ((world_of g rs table).past.history m) ≡ length r.history
     history = ap (λ h. length h.history) (held_of g rs table m r is.there)
@@ -226,8 +202,7 @@ propose_guard g rs table m r is alive inside = (
     pending : (world_of g rs table).pending m ≡ r.pending
     pending = ap (λ h. h.pending) (held_of g rs table m r is.there)
 
-    from : (o : Option Vote) → r.pending ≡ o → is_own (me r) o ≡ true
-        → CanPropose g (world_of g rs table) m
+    from : (o : Option Vote) → r.pending ≡ o → is_own (me r) o ≡ true → CanPropose g (world_of g rs table) m
     from None q e = absurd (cc e)
     from (Some x) q e = record {
       alive = running g rs table m r is alive;
@@ -252,8 +227,7 @@ accept_guard g rs table m r is alive inside = (
     differs : (a b : ℕ) → not (a == b) ≡ true → a ≡ b → ⊥
     differs a b e same = absurd (grind (arith, e, same))
 
-    from : (o : Option Vote) → r.pending ≡ o → is_others (me r) o ≡ true
-        → CanAccept g (world_of g rs table) m
+    from : (o : Option Vote) → r.pending ≡ o → is_others (me r) o ≡ true → CanAccept g (world_of g rs table) m
     from None q e = absurd (cc e)
     from (Some x) q e = record {
       alive = running g rs table m r is alive;
@@ -265,8 +239,7 @@ accept_guard g rs table m r is alive inside = (
 
 -- and commits exactly where that may come
 pub commit_guard : (g : Group) (rs : List (Option Replica)) (table : Shared) (m : ℕ) (r : Replica)
-    → IsMember g rs table m r → IsIdle r
-    → (may_commit r ≡ true) ↔ CanCommit g (world_of g rs table) m
+    → IsMember g rs table m r → IsIdle r → (may_commit r ≡ true) ↔ CanCommit g (world_of g rs table) m
 commit_guard g rs table m r is free = (
   λ e. let a = and_parts (is_wedged r) _ e in
       let b = and_parts (not (is_some r.committed)) _ a.1 in record {
@@ -295,18 +268,14 @@ vote_after g v h = record h {
 
 vote_changes : (g : Group) (w : World) (m : ℕ) (v : Value)
     → Changes w (logs_vote g w m v) m (vote_after g v (held w m))
-vote_changes g w m v = record {
-  others = λ k other. rw (other_number k m other) refl;
-  here = rw (same_number m) refl;
-}
+vote_changes g w m v = record { others = λ k other. rw (other_number k m other) refl; here = rw (same_number m) refl }
 
 -- a vote goes on the log
 pub vote_effect : (g : Group) (rs : List (Option Replica)) (table : Shared) (m : ℕ) (r : Replica) (v : Value)
     → IsMember g rs table m r
     → world_of g (with_present rs m (voted r v)) table ≡ logs_vote g (world_of g rs table) m v
 vote_effect g rs table m r v is =
-    let vote : vote_in g r.view (promise r) v ≡ vote_of r v =
-    (λ z. record {
+    let vote : vote_in g r.view (promise r) v ≡ vote_of r v = (λ z. record {
       age = sym is.of.age z;
       view = r.view;
       ballot = promise r;
@@ -321,21 +290,15 @@ abbrev commit_after : Holding → Holding
 commit_after h = record h { committed = Some h.value }
 
 commit_changes : (w : World) (m : ℕ) → Changes w (commits w m) m (commit_after (held w m))
-commit_changes w m = record {
-  others = λ k other. rw (other_number k m other) refl;
-  here = rw (same_number m) refl;
-}
+commit_changes w m = record { others = λ k other. rw (other_number k m other) refl; here = rw (same_number m) refl }
 
 -- a value is committed
 pub commit_effect : (g : Group) (rs : List (Option Replica)) (table : Shared) (m : ℕ) (r : Replica)
-    → IsMember g rs table m r
-    → world_of g (with_present rs m (acted (decided r))) (acted_table g table m r)
+    → IsMember g rs table m r → world_of g (with_present rs m (acted (decided r))) (acted_table g table m r)
     ≡ stamped (commits (world_of g rs table) m) m
-commit_effect g rs table m r is =
-    then_acted g rs table m (decided r) (commits (world_of g rs table) m) (present_within rs m r is.there)
-    (fits g rs table m r is) is.cells
-    (replaced g rs table table m r (decided r) (commits (world_of g rs table) m) commit_after is.there
-    (commit_changes (world_of g rs table) m) refl refl refl)
+commit_effect g rs table m r is = then_acted g rs table m (decided r) (commits (world_of g rs table) m)
+    (present_within rs m r is.there) (fits g rs table m r is) is.cells (replaced g rs table table m r (decided r)
+    (commits (world_of g rs table) m) commit_after is.there (commit_changes (world_of g rs table) m) refl refl refl)
 
 -- what a member has once it has accepted this vote, where these were its own words in its view
 abbrev accept_from : Group → Holding → Vote → (ℕ → ℕ) → Holding
@@ -349,23 +312,16 @@ accept_from g h vote own = record h {
 abbrev accept_after : Group → Holding → Holding
 accept_after g h = accept_from g h (unwrap_or h.pending no_vote) (h.own h.view)
 
-accept_changes : (g : Group) (w : World) (m : ℕ)
-    → Changes w (accepts g w m) m (accept_after g (held w m))
-accept_changes g w m = record {
-  others = λ k other. rw (other_number k m other) refl;
-  here = rw (same_number m) refl;
-}
+accept_changes : (g : Group) (w : World) (m : ℕ) → Changes w (accepts g w m) m (accept_after g (held w m))
+accept_changes g w m = record { others = λ k other. rw (other_number k m other) refl; here = rw (same_number m) refl }
 
 -- what it has voted for is accepted
 pub accept_effect : (g : Group) (rs : List (Option Replica)) (table : Shared) (m : ℕ) (r : Replica)
-    → IsMember g rs table m r
-    → world_of g (with_present rs m (acted (accepted r))) (acted_table g table m r)
+    → IsMember g rs table m r → world_of g (with_present rs m (acted (accepted r))) (acted_table g table m r)
     ≡ stamped (accepts g (world_of g rs table) m) m
-accept_effect g rs table m r is =
-    then_acted g rs table m (accepted r) (accepts g w m) (present_within rs m r is.there)
-    new_fits is.cells
-    (replaced g rs table table m r (accepted r) (accepts g w m) (accept_after g) is.there
-    (accept_changes g w m) same refl refl)
+accept_effect g rs table m r is = then_acted g rs table m
+    (accepted r) (accepts g w m) (present_within rs m r is.there) new_fits is.cells (replaced g rs table table m r
+    (accepted r) (accepts g w m) (accept_after g) is.there (accept_changes g w m) same refl refl)
   where
     w : World
     w = world_of g rs table
@@ -390,18 +346,15 @@ accept_effect g rs table m r is =
 
     words : (c : ℕ) → own (accepted r).rows c
         ≡ accepted_word (roster g) r.members (vote.ballot + 1) vote.value c (own r.rows c)
-    words c = own_rewritten_all r.rows make c f.words
-        (λ past. accepted_rest r.roster r.members (vote.ballot + 1) vote.value c 0
-        (inr (omega (arith, is.form.columns, past))))
+    words c = own_rewritten_all r.rows make c f.words (λ past. accepted_rest r.roster r.members
+        (vote.ballot + 1) vote.value c 0 (inr (omega (arith, is.form.columns, past))))
         ∙ ap (λ n. accepted_word n r.members (vote.ballot + 1) vote.value c (own r.rows c)) is.of.members
 
-    own_is : (holding_of g (accepted r)).own
-        ≡ at (holding_of g r).own r.view
+    own_is : (holding_of g (accepted r)).own ≡ at (holding_of g r).own r.view
         (λ c. accepted_word (roster g) r.members (vote.ballot + 1) vote.value c (own r.rows c))
     own_is = fun_ext λ v. fun_ext λ c. ap (λ x. if v == r.view then x else kept_word r v c) (words c)
-        ∙ row_written (own r.rows)
-        (λ d. accepted_word (roster g) r.members (vote.ballot + 1) vote.value d (own r.rows d))
-        (kept_word r) r.view v c
+        ∙ row_written (own r.rows) (λ d. accepted_word
+        (roster g) r.members (vote.ballot + 1) vote.value d (own r.rows d)) (kept_word r) r.view v c
 
     seen_is : (holding_of g (accepted r)).seen ≡ (holding_of g r).seen
     seen_is = fun_ext λ i. fun_ext λ c. elim (cases_eq i r.rows.me) [
@@ -410,11 +363,10 @@ accept_effect g rs table m r is =
     ]
 
     same : accept_after g (holding_of g r) ≡ holding_of g (accepted r)
-    same = (λ z. accept_from g (holding_of g r) vote (own_here g r z))
-        ∙ (λ z. record (holding_of g r) {
-          own = sym own_is z;
-          tag = vote.ballot + 1;
-          value = vote.value;
-          pending = None;
-          seen = sym seen_is z;
-        })
+    same = (λ z. accept_from g (holding_of g r) vote (own_here g r z)) ∙ (λ z. record (holding_of g r) {
+      own = sym own_is z;
+      tag = vote.ballot + 1;
+      value = vote.value;
+      pending = None;
+      seen = sym seen_is z;
+    })

@@ -1,25 +1,19 @@
 -- Whom a replica may wish for.
+use Rattle.std.{specs.List.list_all, proofs.lemmas.Bool.{cases_eq, and_from, and_parts}}
 use Rattle.std.proofs.Common.{◌≡◌, refl, ap, ◌∙◌, ◌↔◌, ℕ, ◌&&◌, ◌==◌, not, true, false, inl, inr, List, [], ◌∷◌, All, arith}
-use Rattle.std.specs.List.{list_all}
-use Rattle.std.proofs.lemmas.Bool.{cases_eq}
-use Rattle.std.proofs.lemmas.Bool.{and_from, and_parts}
 use Rattle.std.proofs.lemmas.List.Elements.{All-cons, All-contains, All-nil, Contains-append_right}
-use Rattle.dr_entry.specs.declared.entry.Entry.{Entry}
-use Rattle.dr_entry.specs.declared.entry.Entry.TheVariants.{View, Msg}
-use Rattle.dr_history.specs.Members.{has}
-use Rattle.dr_history.specs.Order.{IsInNoView, IsLateIn}
+use Rattle.dr_entry.specs.declared.entry.Entry.{Entry, TheVariants.{View, Msg}}
+use Rattle.dr_history.specs.{Members.has, Order.{IsInNoView, IsLateIn}}
 use Rattle.dr_words.proofs.Masks.{has_without_mask, in_roster_small}
-use Rattle.dr_machine.proofs.Presence.{late_in}
-use Rattle.dr_machine.specs.Group.{Group, IsGroup, late_members}
+use Rattle.dr_machine.{specs.Group.{Group, IsGroup, late_members}, proofs.Presence.late_in}
 use Rattle.dr_suspect.specs.Wishes.{is_silent}
 
 -- the late members are those of the mask
 pub late_test : (g : Group) (j : ℕ) → IsGroup g → (has (late_members g) j ≡ true) ↔ IsLateIn g.opening j
 late_test g j is = (
   late_in g j is,
-  λ late. has_without_mask g.opening.present g.opening.members j
-      (in_roster_small 16 g.opening.present (λ i h. omega (arith, is.sound.present i h, is.most_members)))
-      ∙ and_from _ _ late.0 (ap not late.1),
+  λ late. has_without_mask g.opening.present g.opening.members j (in_roster_small 16 g.opening.present
+      (λ i h. omega (arith, is.sound.present i h, is.most_members))) ∙ and_from _ _ late.0 (ap not late.1),
 )
 
 -- an entry that passes names the member in no View of the age
@@ -42,8 +36,7 @@ spares_test age j (View a n m) = (forth, back)
     ]
 
 -- it is in no View of the age where every entry passes
-pub silent_test : (age j : ℕ) (es : List Entry)
-    → (list_all (is_silent age j) es ≡ true) ↔ IsInNoView age es j
+pub silent_test : (age j : ℕ) (es : List Entry) → (list_all (is_silent age j) es ≡ true) ↔ IsInNoView age es j
 silent_test age j es = (
   λ e number members there. All-contains (Spares age j) es (View age number members) (all es e) there number members refl,
   λ none. from es none,

@@ -1,21 +1,14 @@
 -- Replicas and programs of a group, in their form.
-use Rattle.std.specs.Prelude.{◌≡◌, ℕ, ◌<◌, ◌≤◌, false, List, ◌++◌, length, slice_set, Option, Some, Option}
+use Rattle.std.specs.Prelude.{◌≡◌, ℕ, ◌<◌, ◌≤◌, false, List, ◌++◌, length, slice_set, Option, Some}
 use Rattle.dr_entry.specs.declared.entry.Entry.{Entry}
 use Rattle.dr_history.specs.History.{last_view}
-use Rattle.dr_words.specs.declared.column.TheConstants.{BEAT_COLUMN}
-use Rattle.dr_words.specs.Layout.{words_of, word_index_of}
-use Rattle.dr_machine.specs.Group.{Group, IsGroup, IsPresent, banks, roster}
-use Rattle.dr_machine.specs.Effects.{one_more}
-use Rattle.dr_machine.specs.declared.event.Act.TheVariants.{Receive, Deliver, Finish}
-use Rattle.dr_machine.specs.declared.step.Step.{Step}
+use Rattle.dr_words.specs.{Layout.{words_of, word_index_of}, declared.column.TheConstants.BEAT_COLUMN}
+use Rattle.dr_machine.specs.{Effects.one_more, Group.{Group, IsGroup, IsPresent, banks, roster}}
+use Rattle.dr_machine.specs.declared.{event.Act.TheVariants.{Receive, Deliver, Finish}, step.Step.Step}
 use Rattle.dr_machine.specs.declared.step.Step.TheVariants.{Do}
-use Rattle.dr_program.specs.Replica.{Replica, count, finished, greatest, is_inside}
-use Rattle.dr_program.specs.Running.{Running}
-use Rattle.dr_program.specs.Program.{Program, letter_for}
-use Rattle.dr_program.specs.Reading.{Shared}
-use Rattle.dr_program.specs.Steps.{stored, stored_letters}
-use Rattle.dr_program.specs.Form.{HasForm, IsOf, IsRunningMember}
-use Rattle.dr_program.specs.Presence.{present_at}
+use Rattle.dr_program.specs.{Form.{HasForm, IsOf, IsRunningMember}, Program.{Program, letter_for}, Running.Running}
+use Rattle.dr_program.specs.{Presence.present_at, Reading.Shared}
+use Rattle.dr_program.specs.{Replica.{Replica, count, finished, greatest, is_inside}, Steps.{stored, stored_letters}}
 
 -- the table has a word for each bank, copy, row and column, and a letter or none for each member
 abbrev pub IsTable : Group → List ℕ → Type 0

@@ -1,21 +1,14 @@
 //! Laws that tie replicas and running members to the machine.
 ghost use Rattle.std.specs.Prelude.{◌≡◌, ◌↔◌, ℕ, ◌≤◌, true, false, List, is_some, Some, None, Option};
 ghost use Rattle.dr_entry.specs.declared.entry.Entry.{Entry};
+ghost use Rattle.dr_machine.specs.{Acts.{CanTake, effect_of}, Effects.joins, Group.{Group, IsGroup}, Run.IsReached};
 ghost use Rattle.dr_machine.specs.declared.step.Step.{Step};
-ghost use Rattle.dr_program.specs.declared.setup.Setup.{Setup};
-ghost use Rattle.dr_machine.specs.Group.{Group, IsGroup};
-ghost use Rattle.dr_machine.specs.Acts.{CanTake, effect_of};
-ghost use Rattle.dr_machine.specs.Run.{IsReached};
-ghost use Rattle.dr_program.specs.Replica.{Replica, is_inside, joined};
-ghost use Rattle.dr_program.specs.Steps.{allows, may_take, stepped_over, HasLetter, IsNoJoin};
-ghost use Rattle.dr_program.specs.Running.{Running, next_step};
+ghost use Rattle.dr_program.specs.{Form.IsRunningMember, Steps.{allows, may_take, stepped_over, HasLetter, IsNoJoin}};
+ghost use Rattle.dr_program.specs.{Net.FindsNone, Running.{Running, next_step}, declared.setup.Setup.Setup};
+ghost use Rattle.dr_program.specs.{Presence.{present_at, with_present}, Replica.{Replica, is_inside, joined}};
 ghost use Rattle.dr_program.specs.Program.{Program, Move, AreSetups, after_deed, begun_program, letter_for, next_sight, step_of};
-ghost use Rattle.dr_program.specs.Net.{FindsNone};
 ghost use Rattle.dr_program.specs.Reading.{Shared, letters_of, step_by, world, world_of};
-ghost use Rattle.dr_program.specs.Form.{IsRunningMember};
 ghost use Rattle.dr_refine.specs.Programs.{AreLetters, HasRoomFor, IsLetterFor, IsMember, IsProgram, stored_in};
-ghost use Rattle.dr_program.specs.Presence.{present_at, with_present};
-ghost use Rattle.dr_machine.specs.Effects.{joins};
 
 /// A member's step may come exactly where its replica has no end and passes the test of the step, and
 /// a join finds a letter, but for three ranges: it takes no more items of a member than anyone has

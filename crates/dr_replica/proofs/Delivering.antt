@@ -1,35 +1,22 @@
 -- The rest of a view, delivered place by place.
+use Rattle.std.{specs.{List.list_all, Prelude.{◌&&◌, nat_le}}, proofs.lemmas.List.Folds.list_all_at}
 use Rattle.std.proofs.Common.{◌≡◌, ℕ, ◌+◌, ◌*◌, ◌/◌, ◌%◌, ◌<◌, ◌≤◌, Bool, true, false, nat_lt, List, [], ◌∷◌, ◌++◌, fold, length, map, slice_index, slice_index_or, Some, None, inl, inr, refl, sym, ap, subst, ◌∙◌, arith, le_trans, length-append}
-use Rattle.std.specs.List.{list_all}
-use Rattle.std.specs.Prelude.{◌&&◌, nat_le}
-use Rattle.std.proofs.lemmas.Bool.{cases_lt, ltb-true}
-use Rattle.std.proofs.lemmas.List.{get_or-map, get_or_past, length-map}
-use Rattle.std.proofs.lemmas.List.Folds.{list_all_at}
-use Rattle.dr_entry.specs.declared.entry.Item.TheVariants.{Null}
-use Rattle.dr_history.proofs.NumberedLemmas.{messages_from-append}
+use Rattle.std.proofs.lemmas.{Bool.{cases_lt, ltb-true}, List.{get_or-map, get_or_past, length-map}}
+use Rattle.dr_entry.{specs.declared.entry.{Entry.Entry, Item.TheVariants.Null}, proofs.NumberFacts.fits_by_own}
+use Rattle.dr_history.specs.{Members.members_of, Order.messages_from, Places.rest_places}
+use Rattle.dr_history.proofs.{NumberedLemmas.messages_from-append, Orders.few_messages}
 use Rattle.dr_program.specs.Replica as replica
 use Rattle.dr_program.specs.Replica.{Replica, with_place}
-use Rattle.dr_replica.specs.Inside.{IsInsideReplica}
-use Rattle.dr_replica.specs.Inside.{replica_inside as replica_of}
-use Rattle.dr_replica.specs.declared.replica.Replica.TheInside.{Inside}
-use Rattle.dr_entry.specs.declared.entry.Entry.{Entry}
-use Rattle.dr_entry.proofs.NumberFacts.{fits_by_own}
-use Rattle.dr_history.specs.Members.{members_of}
-use Rattle.dr_history.specs.Order.{messages_from}
-use Rattle.dr_history.specs.Places.{rest_places}
-use Rattle.dr_history.proofs.Orders.{few_messages}
+use Rattle.dr_replica.specs.{History.Kept, Rests.{AreWithin, fits, has_taken, merged, merged_from, with_item}}
+use Rattle.dr_replica.specs.Inside.{IsInsideReplica, replica_inside as replica_of}
+use Rattle.dr_replica.specs.{Items.{Held, item_held_at, sender_held_at}, declared.replica.Replica.TheInside.Inside}
 use Rattle.dr_machine.specs.Effects.{entries_of}
-use Rattle.dr_order.specs.Merge.{IsNextHeld}
-use Rattle.dr_order.proofs.Merges.{rest_places-next, rest_places-none}
-use Rattle.dr_replica.specs.History.{Kept}
-use Rattle.dr_replica.specs.Items.{Held, item_held_at, sender_held_at}
-use Rattle.dr_replica.specs.Rests.{AreWithin, fits, has_taken, merged, merged_from, with_item}
+use Rattle.dr_order.{specs.Merge.IsNextHeld, proofs.Merges.{rest_places-next, rest_places-none}}
 use Rattle.dr_trim.specs.Trims.{trims_by_rank}
 
 -- the item of the next place goes first, and the rest follows it
 pub next_merged : (h : Held) (es : List Entry) (trims : List ℕ) (from p : ℕ) → 0 < length trims
-    → IsNextHeld trims from (Some p)
-    → merged_from h es trims from ≡ merged_from h (with_item h es p) trims (p + 1)
+    → IsNextHeld trims from (Some p) → merged_from h es trims from ≡ merged_from h (with_item h es p) trims (p + 1)
 next_merged h es trims from p some next =
     ap (λ (ps : List ℕ). fold (with_item h) es ps) (rest_places-next trims from p some next)
 
@@ -40,8 +27,7 @@ none_merged h es trims from some none =
     ap (λ (ps : List ℕ). fold (with_item h) es ps) (rest_places-none trims from some none)
 
 -- what is delivered makes a history no shorter
-items_lengthen : (h : Held) (es : List Entry) (ps : List ℕ)
-    → length es ≤ length (fold (with_item h) es ps)
+items_lengthen : (h : Held) (es : List Entry) (ps : List ℕ) → length es ≤ length (fold (with_item h) es ps)
 items_lengthen h es [] = omega arith
 items_lengthen h es (p ∷ ps) =
     le_trans (omega (arith, length-append es (entries_of es (sender_held_at h p) (item_held_at h p))))
@@ -61,8 +47,7 @@ history_is h g es roster entries room =
 
 -- there is a history of so many entries, so many of which are the member's messages, behind which what is
 -- left from a place on makes what there will be
-pub record AreCounted (h : Held) (es : List Entry) (trims : List ℕ)
-    (start from me entries own : ℕ) : Type 0 where
+pub record AreCounted (h : Held) (es : List Entry) (trims : List ℕ) (start from me entries own : ℕ) : Type 0 where
   pub so_far : List Entry
   pub entries_are : entries ≡ length so_far
   pub own_are : own ≡ length (messages_from me so_far)
@@ -77,8 +62,7 @@ pub counted_more : (h : Held) (es : List Entry) (trims : List ℕ) (start from p
     → AreCounted h es trims start (p + 1) me (entries + e) (own + o)
 counted_more h es trims start from p me entries own e o some next are more mine = record {
   so_far = with_item h are.so_far p;
-  entries_are =
-      omega (arith, are.entries_are, more are.so_far, length-append are.so_far (added are.so_far));
+  entries_are = omega (arith, are.entries_are, more are.so_far, length-append are.so_far (added are.so_far));
   own_are = omega (
     arith,
     are.own_are,
@@ -109,8 +93,7 @@ pub counted_all : (h : Held) (es : List Entry) (trims : List ℕ) (start from me
 counted_all h es trims start from me entries own some none are =
     let whole = sym (none_merged h are.so_far trims from some none) ∙ are.left in (
       are.entries_are ∙ ap length whole,
-      are.own_are
-          ∙ ap (λ (x : List Entry). length (messages_from me x)) whole,
+      are.own_are ∙ ap (λ (x : List Entry). length (messages_from me x)) whole,
     )
 
 -- ---- the same of a replica's fields
@@ -142,8 +125,7 @@ taken_within a trim members taken =
     all : list_all test a.items.members ≡ true
     all = ap (list_all test) members ∙ taken
 
-    each : (i : ℕ) → i < length a.items.members
-        → slice_index trim (slice_index a.items.members i)
+    each : (i : ℕ) → i < length a.items.members → slice_index trim (slice_index a.items.members i)
         ≤ slice_index a.items.counts (slice_index a.items.members i)
     each i l = by (slice_index a.items.members i) refl (test (slice_index a.items.members i)) refl
       where
@@ -156,22 +138,17 @@ taken_within a trim members taken =
 -- what a trim has left is the same to a replica
 place_same : (a : Inside) → IsInsideReplica a → (es : List Entry) (p : ℕ)
     → with_item a.items es p ≡ with_place (replica_of a) es p
-place_same a inside es p =
-    ap (λ (ms : List ℕ). es ++ entries_of es (slice_index ms (p % length ms))
+place_same a inside es p = ap (λ (ms : List ℕ). es ++ entries_of es (slice_index ms (p % length ms))
     (slice_index_or a.items.items (p / length ms * a.items.roster + slice_index ms (p % length ms)) Null))
-    inside.members
-    ∙ ap (λ (n : ℕ). es ++ entries_of es (replica.sender_of_place (replica_of a) p)
+    inside.members ∙ ap (λ (n : ℕ). es ++ entries_of es (replica.sender_of_place (replica_of a) p)
     (slice_index_or a.items.items (p / length (replica.members_in_view (replica_of a)) * n
     + replica.sender_of_place (replica_of a) p) Null)) inside.roster
 
 pub merged_same : (a : Inside) (trim : List ℕ) → IsInsideReplica a
-    → merged_from a.items a.history.entries (trims_by_rank a.members trim) a.next.place
-    ≡ merged (replica_of a) trim
-merged_same a trim inside =
-    by a.history.entries (rest_places (trims_by_rank a.members trim) a.next.place)
+    → merged_from a.items a.history.entries (trims_by_rank a.members trim) a.next.place ≡ merged (replica_of a) trim
+merged_same a trim inside = by a.history.entries (rest_places (trims_by_rank a.members trim) a.next.place)
   where
-    by : (es : List Entry) (ps : List ℕ)
-        → fold (with_item a.items) es ps ≡ fold (with_place (replica_of a)) es ps
+    by : (es : List Entry) (ps : List ℕ) → fold (with_item a.items) es ps ≡ fold (with_place (replica_of a)) es ps
     by es [] = refl
     by es (p ∷ ps) = by (with_item a.items es p) ps
         ∙ ap (λ (x : List Entry). fold (with_place (replica_of a)) x ps) (place_same a inside es p)
@@ -179,8 +156,7 @@ merged_same a trim inside =
 -- whether there is room is asked of what the fields tell
 pub fits_is : (a : Inside) (now : Replica) (trim : List ℕ) → replica_of a ≡ now → IsInsideReplica a
     → (nat_lt (length (merged_from a.items a.history.entries (trims_by_rank a.members trim) a.next.place))
-    a.history.room
-    && nat_lt (length (messages_from a.rows.me
+    a.history.room && nat_lt (length (messages_from a.rows.me
     (merged_from a.items a.history.entries (trims_by_rank a.members trim) a.next.place)))
     (length a.messages.items + 1)) ≡ fits now (merged now trim)
 fits_is a now trim same inside = ap (λ (es : List Entry). fits (replica_of a) es) (merged_same a trim inside)
@@ -193,10 +169,8 @@ pub fits_told : (a : Inside) (now : Replica) (trim : List ℕ) (entries own k me
     (merged_from a.items a.history.entries (trims_by_rank a.members trim) a.next.place))
     → nat_le own k ≡ fits now (merged now trim)
 fits_told a now trim entries own k me same inside mine long room count own_count =
-    let es : List Entry =
-    merged_from a.items a.history.entries (trims_by_rank a.members trim) a.next.place in
+    let es : List Entry = merged_from a.items a.history.entries (trims_by_rank a.members trim) a.next.place in
     ap (nat_le own) long ∙ fits_by_own entries own a.history.room (length a.messages.items) room
     ∙ ap (λ (n : ℕ). nat_lt n a.history.room && nat_lt own (length a.messages.items + 1)) count
     ∙ ap (λ (n : ℕ). nat_lt (length es) a.history.room && nat_lt n (length a.messages.items + 1))
-    (own_count ∙ ap (λ (m : ℕ). length (messages_from m es)) mine)
-    ∙ fits_is a now trim same inside
+    (own_count ∙ ap (λ (m : ℕ). length (messages_from m es)) mine) ∙ fits_is a now trim same inside

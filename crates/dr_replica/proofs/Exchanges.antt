@@ -1,25 +1,16 @@
 -- The fields after an item was taken or put.
+use Rattle.std.{specs.Prelude.vec_capacity, proofs.lemmas.List.{get_or-set_same, get_or_read}}
 use Rattle.std.proofs.Common.{◌≡◌, ℕ, ◌+◌, ◌*◌, ◌<◌, ◌≤◌, false, List, [], ◌∷◌, ◌++◌, length, map, get_or, set, slice_index, slice_index_or, Option, Some, unwrap_or, sym, ap, subst, ◌∙◌, arith, le_trans}
-use Rattle.std.specs.Prelude.{vec_capacity}
-use Rattle.std.proofs.lemmas.List.{get_or-set_same, get_or_read}
-use Rattle.dr_entry.specs.declared.entry.Item.{Item}
-use Rattle.dr_entry.specs.declared.entry.Item.TheVariants.{Null, Text}
-use Rattle.dr_entry.specs.declared.end.SentItem.{SentItem}
-use Rattle.dr_history.specs.Members.{members_of}
-use Rattle.dr_history.specs.Places.{front_of}
+use Rattle.dr_entry.specs.declared.{end.SentItem.SentItem, entry.Item.{Item, TheVariants.{Null, Text}}}
+use Rattle.dr_history.specs.{Members.members_of, Places.front_of}
 use Rattle.dr_ring.specs.Slots.{item_in, slot_of, with_item}
 use Rattle.dr_rows.specs.Words.{Words, own}
-use Rattle.dr_words.specs.declared.column.TheConstants.{RECEIVED_COLUMN}
-use Rattle.dr_words.specs.Columns.{recv_column}
-use Rattle.dr_words.specs.Packing.{recv_word}
-use Rattle.dr_program.specs.Replica.{Replica, me, count, greatest, least_seen, next_index, ready_item, gained, put, received}
+use Rattle.dr_words.specs.{Columns.recv_column, Packing.recv_word, declared.column.TheConstants.RECEIVED_COLUMN}
 use Rattle.dr_program.specs.Form.{HasForm}
-use Rattle.dr_replica.specs.Items.{Held, front, taken}
-use Rattle.dr_replica.specs.Inside.{IsInsideReplica, replica_inside}
-use Rattle.dr_replica.specs.declared.replica.Replica.TheInside.{Inside}
-use Rattle.dr_replica.proofs.Insides.{same_suspicion}
-use Rattle.dr_form.proofs.Gains.{front_rises, shown}
-use Rattle.dr_form.specs.Puts.{MayPut}
+use Rattle.dr_program.specs.Replica.{Replica, me, count, greatest, least_seen, next_index, ready_item, gained, put, received}
+use Rattle.dr_replica.specs.{Inside.{IsInsideReplica, replica_inside}, Items.{Held, front, taken}}
+use Rattle.dr_replica.{specs.declared.replica.Replica.TheInside.Inside, proofs.Insides.same_suspicion}
+use Rattle.dr_form.{specs.Puts.MayPut, proofs.Gains.{front_rises, shown}}
 use Rattle.dr_form.proofs.Keeps.{message_to_send, open_recv, putting}
 
 -- the words that follow an item more
@@ -27,8 +18,7 @@ abbrev pub Shown : Words → Words → Held → ℕ → Type 0
 Shown old new t s = new ≡ shown old s (slice_index t.counts s) (front t)
 
 -- the new count, and the front that doesn't fall
-counted : (a : Inside) (s c : ℕ) → IsInsideReplica a → s < a.shape.members
-    → get_or (set a.items.counts s c) s 0 ≡ c
+counted : (a : Inside) (s c : ℕ) → IsInsideReplica a → s < a.shape.members → get_or (set a.items.counts s c) s 0 ≡ c
 counted a s c inside within = get_or-set_same a.items.counts s c 0 (omega (arith, inside.form.counts, within))
 
 -- after an item is taken the front is at least the one that the member shows
@@ -52,15 +42,13 @@ gained_after : (a : Inside) (rows w : Words) (t : Held) (s : ℕ) (item : Item) 
 gained_after a rows w t s item puts inside within took after =
     let old : ℕ = get_or a.items.counts s 0 in
     let cs : List ℕ = set a.items.counts s (old + 1) in
-    let words : w ≡ shown rows s (old + 1) (front_of (map (slice_index cs) (members_of a.members))) =
-    after
+    let words : w ≡ shown rows s (old + 1) (front_of (map (slice_index cs) (members_of a.members))) = after
     ∙ ap (λ (h : Held). shown rows s (slice_index h.counts s) (front h)) took
     ∙ ap (λ (n : ℕ). shown rows s n (front (taken a.items s item))) (counted a s (old + 1) inside within)
     ∙ ap (λ (ms : List ℕ). shown rows s (old + 1) (front_of (map (slice_index cs) ms))) inside.members in
     ap (λ (h : Held). record (replica_inside a) { rows = w; counts = h.counts; items = h.items; sent = puts }) took
     ∙ ap (λ (x : Words). record (replica_inside a)
-    { rows = x; counts = cs; items = set a.items.items (old * a.items.roster + s) item; sent = puts })
-    words
+    { rows = x; counts = cs; items = set a.items.items (old * a.items.roster + s) item; sent = puts }) words
     ∙ ap (λ (n : ℕ). record (replica_inside a) {
       rows = shown rows s (old + 1) (front_of (map (slice_index cs) (members_of a.members)));
       counts = cs;
@@ -73,12 +61,10 @@ gained_after a rows w t s item puts inside within took after =
 -- these fields are those of the replica that has received the sender's next item
 pub received_after : (a : Inside) (w : Words) (t : Held) (s k : ℕ) (item : Item)
     → IsInsideReplica a → s < a.shape.members → k ≡ slice_index a.items.counts s
-    → item_in k (slot_of a.shape.window a.rows s k) ≡ Some item → t
-    ≡ taken a.items s item → Shown a.rows w t s
+    → item_in k (slot_of a.shape.window a.rows s k) ≡ Some item → t ≡ taken a.items s item → Shown a.rows w t s
     → record (replica_inside a) { rows = w; counts = t.counts; items = t.items } ≡ received (replica_inside a) s
 received_after a w t s k item inside within count some took after =
-    let what : item ≡ unwrap_or (ready_item (replica_inside a) s) Null =
-    ap (λ (x : Option Item). unwrap_or x Null)
+    let what : item ≡ unwrap_or (ready_item (replica_inside a) s) Null = ap (λ (x : Option Item). unwrap_or x Null)
     (sym some ∙ ap (λ (n : ℕ). item_in n (slot_of a.shape.window a.rows s n)) count) in
     gained_after a a.rows w t s item a.sent.items inside within took after
     ∙ ap (λ (x : Item). gained (replica_inside a) s x) what
@@ -95,13 +81,11 @@ pub record WasPut (a : Inside) (m k : ℕ) (x : Item) (w : Words) (t : Held) : T
 -- the message that was read is the next one
 pub message_read : (a : Inside) (now : Replica) (i : ℕ) (read bytes : List ℕ) → replica_inside a ≡ now
     → next_index now < length now.messages → i ≡ next_index now
-    → read ≡ slice_index_or a.messages.items i read → bytes ≡ read
-    → Text bytes ≡ message_to_send now
+    → read ≡ slice_index_or a.messages.items i read → bytes ≡ read → Text bytes ≡ message_to_send now
 message_read a now i read bytes same left next there equal =
     let list : a.messages.items ≡ now.messages = ap (λ (r : Replica). r.messages) same in
     let here = get_or_read a.messages.items i read (omega (arith, next, left, ap length list)) there [] in
-    ap (λ (x : List ℕ). Text x) (equal ∙ here
-    ∙ ap (λ (xs : List (List ℕ)). get_or xs i []) list
+    ap (λ (x : List ℕ). Text x) (equal ∙ here ∙ ap (λ (xs : List (List ℕ)). get_or xs i []) list
     ∙ ap (λ (j : ℕ). get_or now.messages j []) next)
 
 -- there is room for it
@@ -111,15 +95,13 @@ room_left a m name item inside may mine = rw mine (omega (arith, may.room, insid
 
 rows_are : (a : Inside) (m k : ℕ) (item : Item) (rows : Words) (t : Held) → WasPut a m k item rows t
     → rows ≡ with_item a.shape.window a.rows (count (replica_inside a) (me (replica_inside a))) item
-rows_are a m k item rows t p =
-    p.rows ∙ ap (λ (n : ℕ). with_item a.shape.window a.rows n item)
+rows_are a m k item rows t p = p.rows ∙ ap (λ (n : ℕ). with_item a.shape.window a.rows n item)
     (p.count ∙ ap (λ (i : ℕ). slice_index a.items.counts i) p.me)
 
 -- after a put neither the member's own count nor its front falls
 pub put_shows : (a : Inside) (m k : ℕ) (name : SentItem) (item : Item) (rows : Words) (t : Held)
     → IsInsideReplica a → MayPut (replica_inside a) name item → WasPut a m k item rows t
-    → (own rows (recv_column m) ≤ recv_word (slice_index t.counts m) false)
-    × (own rows RECEIVED_COLUMN ≤ front t)
+    → (own rows (recv_column m) ≤ recv_word (slice_index t.counts m) false) × (own rows RECEIVED_COLUMN ≤ front t)
 put_shows a m k name item rows t inside may p =
     let r : Replica = replica_inside a in
     let f = inside.form in
@@ -129,8 +111,7 @@ put_shows a m k name item rows t inside may p =
     let recv : own rows (recv_column (me r))
     ≡ recv_word (count r (me r)) false = ap (λ (w : Words). own w (recv_column (me r))) there
     ∙ n.kept (recv_column (me r)) (omega (arith, n.sender)) ∙ open_recv r (me r) f n.unwedged n.sender in
-    let mine : own rows (recv_column m)
-    ≡ recv_word (count r m) false =
+    let mine : own rows (recv_column m) ≡ recv_word (count r m) false =
     subst (λ (i : ℕ). own rows (recv_column i) ≡ recv_word (count r i) false) (sym p.me) recv in
     let received : own rows RECEIVED_COLUMN
     ≡ own a.rows RECEIVED_COLUMN = ap (λ (w : Words). own w RECEIVED_COLUMN) there
@@ -142,16 +123,14 @@ put_shows a m k name item rows t inside may p =
 -- these fields are those of the replica that has put the item
 pub put_after : (a : Inside) (w : Words) (m k : ℕ) (name : SentItem) (item : Item) (rows : Words)
     (t : Held) (puts : List SentItem) → IsInsideReplica a → MayPut (replica_inside a) name item
-    → WasPut a m k item rows t
-    → puts ≡ a.sent.items ++ name ∷ [] → Shown rows w t m
+    → WasPut a m k item rows t → puts ≡ a.sent.items ++ name ∷ [] → Shown rows w t m
     → record (replica_inside a) { rows = w; counts = t.counts; items = t.items; sent = puts }
     ≡ put (replica_inside a) name item
 put_after a w m k name item rows t puts inside may p more after =
     let r : Replica = replica_inside a in
     let within : m < a.shape.members = omega (arith, p.me, (putting r name item inside.form may).sender) in
-    gained_after a rows w t m item puts inside within p.took after
-    ∙ ap (λ (x : Words). gained (record r { rows = x; sent = puts }) m item) (rows_are a m k item rows t p)
-    ∙ ap (λ (xs : List SentItem). gained
+    gained_after a rows w t m item puts inside within p.took after ∙ ap (λ (x : Words). gained
+    (record r { rows = x; sent = puts }) m item) (rows_are a m k item rows t p) ∙ ap (λ (xs : List SentItem). gained
     (record r { rows = with_item a.shape.window a.rows (count r (me r)) item; sent = xs }) m item) more
     ∙ ap (λ (j : ℕ). gained (record r {
       rows = with_item a.shape.window a.rows (count r (me r)) item;

@@ -1,38 +1,24 @@
 -- The fields keep their invariant.
-use Rattle.std.proofs.Common.{◌≡◌, ◌≢◌, ℕ, ◌+◌, ◌*◌, ◌/◌, ◌%◌, ◌^◌, ◌<◌, ◌≤◌, true, map, slice_index, slice_index_or, List, ◌++◌, [], ◌∷◌, length, Option, None, unwrap_or, refl, sym, ap, subst, ◌∙◌, arith, le_trans}
-use Rattle.dr_entry.specs.declared.end.End.{End}
-use Rattle.dr_entry.specs.declared.entry.Item.{Item}
-use Rattle.dr_entry.specs.declared.entry.Item.TheVariants.{Null}
-use Rattle.dr_history.specs.Places.{front_of}
-use Rattle.dr_rows.specs.Words.{Words, rewritten}
-use Rattle.dr_words.specs.Rewrites.{accepted_word, wedged_word}
-use Rattle.dr_words.specs.declared.column.TheConstants.{RECEIVED_COLUMN}
-use Rattle.dr_machine.specs.Effects.{entries_of}
-use Rattle.dr_program.specs.Replica as replica
-use Rattle.dr_program.specs.Replica.{Replica, delivered, least_seen, may_deliver, may_suspect, suspected, suspicion_of, accepted, vote_of, voted}
-use Rattle.dr_program.specs.Form.{HasForm}
 use Rattle.std.specs.Prelude.{Some, slice_get, vec_capacity}
-use Rattle.dr_entry.specs.declared.record.Value.{Value}
+use Rattle.std.proofs.Common.{◌≡◌, ◌≢◌, ℕ, ◌+◌, ◌*◌, ◌/◌, ◌%◌, ◌^◌, ◌<◌, ◌≤◌, true, map, slice_index, slice_index_or, List, ◌++◌, [], ◌∷◌, length, Option, None, unwrap_or, refl, sym, ap, subst, ◌∙◌, arith, le_trans}
+use Rattle.dr_entry.specs.{declared.{end.End.End, entry.Item.{Item, TheVariants.Null}}, declared.record.Value.Value}
 use Rattle.dr_entry.specs.declared.record.Vote.{Vote}
-use Rattle.dr_machine.specs.World.{no_vote}
+use Rattle.dr_history.specs.{Members.members_of, Places.front_of}
+use Rattle.dr_rows.specs.Words.{Words, rewritten, with_frozen, with_own}
+use Rattle.dr_words.specs.{Masks.{with_member, without}, Rewrites.{accepted_word, wedged_word}}
+use Rattle.dr_words.{specs.declared.column.TheConstants.RECEIVED_COLUMN, proofs.Masks.least_read}
+use Rattle.dr_machine.specs.{Effects.entries_of, World.no_vote}
+use Rattle.dr_program.specs.Replica as replica
+use Rattle.dr_program.{specs.Form.HasForm, proofs.{Least.{other_received, next_held}, Replicas.may_of}}
+use Rattle.dr_program.specs.Replica.{Replica, delivered, least_seen, may_deliver, may_suspect, suspected, suspicion_of, accepted, vote_of, voted}
 use Rattle.dr_form.proofs.Accepting.{accepted_form, decided_form, accepted_received}
-use Rattle.dr_history.specs.Members.{members_of}
-use Rattle.dr_rows.specs.Words.{with_frozen, with_own}
-use Rattle.dr_words.specs.Masks as masks
-use Rattle.dr_words.specs.Masks.{with_member, without}
-use Rattle.dr_words.proofs.Masks.{least_read}
-use Rattle.dr_suspect.specs.Suspicion.{Suspicion}
-use Rattle.dr_program.proofs.Least.{other_received, next_held}
-use Rattle.dr_program.proofs.Replicas.{may_of}
 use Rattle.dr_form.proofs.Wedging.{suspected_form, suspected_received}
+use Rattle.dr_words.specs.Masks as masks
+use Rattle.dr_suspect.specs.Suspicion.{Suspicion}
 use Rattle.dr_replica.specs.Items as items
-use Rattle.dr_replica.specs.Items.{Held}
+use Rattle.dr_replica.specs.{History.Kept, Inside.{IsInsideReplica, replica_inside}, Items.Held, Spots.IsSpot}
+use Rattle.dr_replica.specs.declared.{replica.Replica.TheInside.Inside, spot.Spot.Spot}
 use Rattle.dr_replica.specs.History as histories
-use Rattle.dr_replica.specs.History.{Kept}
-use Rattle.dr_replica.specs.Inside.{IsInsideReplica, replica_inside}
-use Rattle.dr_replica.specs.Spots.{IsSpot}
-use Rattle.dr_replica.specs.declared.spot.Spot.{Spot}
-use Rattle.dr_replica.specs.declared.replica.Replica.TheInside.{Inside}
 
 -- the suspicion stays where the rows are of the same member
 pub same_suspicion : (a : Inside) (rows : Words) → IsInsideReplica a → rows.me ≡ a.rows.me
@@ -41,9 +27,8 @@ same_suspicion a rows inside me = inside.suspicion
     ∙ ap (λ (m : ℕ). record a.suspects { me = m; members = a.members }) (sym me)
 
 -- where items, history and what was put stay as they are, only the form is left, and what is kept beside it
-fields_kept : (a : Inside) (rows : Words) (suspects : Suspicion) (tag : ℕ) (value : Value)
-    (pending : Option Vote) (votes : _) (logged durable turns acts : ℕ) (end : Option End)
-    → let q : Inside = record a {
+fields_kept : (a : Inside) (rows : Words) (suspects : Suspicion) (tag : ℕ) (value : Value) (pending : Option Vote)
+    (votes : _) (logged durable turns acts : ℕ) (end : Option End) → let q : Inside = record a {
       rows = rows;
       suspects = suspects;
       tag = tag;
@@ -146,31 +131,27 @@ delivered_after a n h s item inside sender what after next =
     let p : ℕ = a.next.place in
     let who : s ≡ replica.sender_of_place (replica_inside a) p = sender
     ∙ ap (λ (ms : List ℕ). slice_index ms (p % length ms)) inside.members in
-    let which : item ≡ replica.item_of_place (replica_inside a) p =
-    what
+    let which : item ≡ replica.item_of_place (replica_inside a) p = what
     ∙ ap (λ (ms : List ℕ). slice_index_or a.items.items
     (p / length ms * a.items.roster + slice_index ms (p % length ms)) Null) inside.members
     ∙ ap (λ (m : ℕ). slice_index_or a.items.items
     (p / length (replica.members_in_view (replica_inside a)) * m + replica.sender_of_place (replica_inside a) p) Null) inside.roster
-    in
-    ap (λ (k : Kept). replica_inside (record a { next = n; history = k })) after
+    in ap (λ (k : Kept). replica_inside (record a { next = n; history = k })) after
     ∙ ap (λ (m : ℕ). record (replica_inside a)
     { next = m; history = a.history.entries ++ entries_of a.history.entries s item }) next
     ∙ ap (λ (i : ℕ). record (replica_inside a)
     { next = p + 1; history = a.history.entries ++ entries_of a.history.entries i item }) who
     ∙ ap (λ (x : Item). record (replica_inside a) {
       next = p + 1;
-      history = a.history.entries
-          ++ entries_of a.history.entries (replica.sender_of_place (replica_inside a) p) x;
+      history = a.history.entries ++ entries_of a.history.entries (replica.sender_of_place (replica_inside a) p) x;
     }) which
 
 -- ---- suspicion
 
 -- whom it then promises to accept from
 pub voter_read : (a : Inside) (s : Suspicion) (m p rest : ℕ) → IsInsideReplica a
-    → s ≡ record a.suspects { suspects = s.suspects } → m ≡ s.suspects
-    → rest ≡ without s.members s.suspects → slice_get (members_of rest) 0 ≡ Some p
-    → p ≡ masks.least_of (without a.members m)
+    → s ≡ record a.suspects { suspects = s.suspects } → m ≡ s.suspects → rest ≡ without s.members s.suspects
+    → slice_get (members_of rest) 0 ≡ Some p → p ≡ masks.least_of (without a.members m)
 voter_read a s m p rest inside same mask left there =
     least_read (without a.members m) p (subst (λ (x : ℕ). slice_get (members_of x) 0 ≡ Some p)
     (left ∙ ap (λ (x : ℕ). without x s.suspects) members ∙ ap (without a.members) (sym mask)) there)
@@ -180,8 +161,7 @@ voter_read a s m p rest inside same mask left there =
 
 -- the fields are those of the replica that suspects one member more
 pub suspected_after : (a : Inside) (s : Suspicion) (rows mid : Words) (j m p : ℕ) → IsInsideReplica a
-    → s.suspects ≡ with_member a.suspects.suspects j → m ≡ s.suspects
-    → p ≡ masks.least_of (without a.members m)
+    → s.suspects ≡ with_member a.suspects.suspects j → m ≡ s.suspects → p ≡ masks.least_of (without a.members m)
     → mid ≡ rewritten a.rows (wedged_word a.shape.members a.members m p) → rows ≡ with_frozen mid j
     → replica_inside (record a { rows = rows; suspects = s }) ≡ suspected (replica_inside a) j
 suspected_after a s rows mid j m p inside more mask voter words frozen =
@@ -204,8 +184,7 @@ suspected_kept a s rows j inside in_view may rest there =
     (rest ∙ ap (λ (x : Suspicion). record x { suspects = s.suspects }) inside.suspicion
     ∙ ap (λ (m : ℕ). record { me = m; members = a.members; suspects = s.suspects })
     (sym (ap (λ (r : Replica). r.rows.me) there)))
-    (subst (λ (q : Replica). least_seen (replica_inside a) RECEIVED_COLUMN ≤ least_seen q RECEIVED_COLUMN)
-    (sym there)
+    (subst (λ (q : Replica). least_seen (replica_inside a) RECEIVED_COLUMN ≤ least_seen q RECEIVED_COLUMN) (sym there)
     (suspected_received (replica_inside a) j inside.form in_view may)) inside.votes
 
 -- ---- votes
@@ -214,11 +193,9 @@ suspected_kept a s rows j inside in_view may rest there =
 pub promise_read : (a : Inside) (now : Replica) (rest p : ℕ) → IsInsideReplica a → replica_inside a ≡ now
     → replica.is_wedged now ≡ true → rest ≡ without a.suspects.members a.suspects.suspects
     → slice_get (members_of rest) 0 ≡ Some p → p ≡ replica.promise now
-promise_read a now rest p inside same wedged left there =
-    least_read (without a.members a.suspects.suspects) p
+promise_read a now rest p inside same wedged left there = least_read (without a.members a.suspects.suspects) p
     (subst (λ (x : ℕ). slice_get (members_of x) 0 ≡ Some p)
-    (left ∙ ap (λ (x : ℕ). without x a.suspects.suspects) members) there)
-    ∙ sym promised ∙ ap replica.promise same
+    (left ∙ ap (λ (x : ℕ). without x a.suspects.suspects) members) there) ∙ sym promised ∙ ap replica.promise same
   where
     members : a.suspects.members ≡ a.members
     members = ap (λ (x : Suspicion). x.members) inside.suspicion
@@ -269,6 +246,5 @@ accepted_kept a x rows inside waits there =
     fields_kept a rows a.suspects (x.ballot + 1) x.value None a.votes a.logged a.durable a.turns a.acts a.end
     inside (subst HasForm (sym there) (accepted_form (replica_inside a) x inside.form waits))
     (same_suspicion a rows inside (ap (λ (r : Replica). r.rows.me) there))
-    (subst (λ (q : Replica). least_seen (replica_inside a) RECEIVED_COLUMN ≤ least_seen q RECEIVED_COLUMN)
-    (sym there)
+    (subst (λ (q : Replica). least_seen (replica_inside a) RECEIVED_COLUMN ≤ least_seen q RECEIVED_COLUMN) (sym there)
     (accepted_received (replica_inside a) x inside.form waits)) inside.votes

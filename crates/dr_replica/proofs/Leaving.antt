@@ -1,36 +1,22 @@
 -- How a member goes on in a later view, and what one that may end its view has room for.
-use Rattle.std.proofs.Common.{◌≡◌, ℕ, ◌+◌, ◌<◌, ◌≤◌, true, not, nat_lt, List, [], ◌∷◌, ◌++◌, length, map, Option, None, Some, refl, sym, ap, subst, ◌∙◌, arith, length-append}
 use Rattle.std.specs.Prelude.{All, option_to_list, unwrap_or, vec_capacity}
-use Rattle.std.proofs.lemmas.List.Elements.{All-pop}
-use Rattle.std.proofs.lemmas.Bool.{and_parts, ltb-true}
-use Rattle.dr_entry.specs.declared.entry.Entry.{Entry}
-use Rattle.dr_entry.specs.declared.entry.Entry.TheVariants.{View}
-use Rattle.dr_entry.specs.declared.record.Value.{Value}
-use Rattle.dr_history.specs.Members.{has, members_of}
-use Rattle.dr_history.specs.Order.{messages_from}
+use Rattle.std.proofs.Common.{◌≡◌, ℕ, ◌+◌, ◌<◌, ◌≤◌, true, not, nat_lt, List, [], ◌∷◌, ◌++◌, length, map, Option, None, Some, refl, sym, ap, subst, ◌∙◌, arith, length-append}
+use Rattle.std.proofs.lemmas.{Bool.{and_parts, ltb-true}, List.Elements.All-pop}
+use Rattle.dr_entry.specs.{declared.entry.Entry.{Entry, TheVariants.View}, declared.record.Value.Value}
+use Rattle.dr_history.specs.{Members.{has, members_of}, Order.messages_from}
 use Rattle.dr_machine.specs.World.{no_value}
-use Rattle.dr_program.specs.Form.{HasForm}
+use Rattle.dr_program.{specs.Form.HasForm, proofs.Replicas.entered_some}
 use Rattle.dr_program.specs.Replica.{LeftView, Replica, entered, finished, finished_by, finished_history, greatest, is_inside, left_now, may_end, may_finish, me}
 use Rattle.dr_rows.specs.Words.{Words, begun, with_own}
 use Rattle.dr_suspect.specs.Suspicion.{Suspicion, trusting}
-use Rattle.dr_words.specs.declared.column.TheConstants.{LOGGED_COLUMN}
+use Rattle.dr_words.specs.{Columns.columns_of, Masks.next_members, declared.column.TheConstants.LOGGED_COLUMN}
 use Rattle.dr_trim.specs.Trims.{trims_by_rank}
-use Rattle.dr_words.specs.Masks.{next_members}
-use Rattle.dr_replica.specs.History.{Kept}
-use Rattle.dr_replica.specs.Items.{Held, none_held}
-use Rattle.dr_replica.specs.Inside.{IsInsideReplica, replica_inside}
-use Rattle.dr_replica.specs.Lefts.{HasRoom, IsSpare, left_of}
-use Rattle.dr_replica.specs.declared.left.Left.{Left}
-use Rattle.dr_words.specs.Columns.{columns_of}
-use Rattle.dr_program.proofs.Replicas.{entered_some}
-use Rattle.dr_replica.specs.Spots.{first_spot}
-use Rattle.dr_replica.specs.declared.spot.Spot.{Spot}
-use Rattle.dr_replica.specs.Rests.{has_taken, merged, merged_from}
-use Rattle.dr_replica.specs.declared.replica.Replica.TheInside.{Inside}
-use Rattle.dr_replica.proofs.Delivering.{merged_same}
-use Rattle.dr_form.proofs.Finishing.{finished_form}
-use Rattle.dr_replica.proofs.Openings.{AreReserved}
+use Rattle.dr_replica.specs.{History.Kept, Inside.{IsInsideReplica, replica_inside}, Items.{Held, none_held}}
+use Rattle.dr_replica.specs.{Lefts.{HasRoom, IsSpare, left_of}, Rests.{has_taken, merged, merged_from}}
+use Rattle.dr_replica.specs.{Spots.first_spot, declared.{left.Left.Left, replica.Replica.TheInside.Inside}}
+use Rattle.dr_replica.{specs.declared.spot.Spot.Spot, proofs.{Delivering.merged_same, Openings.AreReserved}}
 use Rattle.dr_replica.proofs.Spots.{first_is_spot}
+use Rattle.dr_form.proofs.Finishing.{finished_form}
 
 -- what the fields say of a member that may end its view with a value
 pub record MayLeave (a : Inside) (x : Value) : Type 0 where
@@ -113,8 +99,7 @@ entered_view a b view members entries kept inside l =
     let came_from = l.came_from in let given = l.given in let sent = l.sent in let left = l.left in
     let logged = l.logged in let durable = l.durable in let turns = l.turns in let acts = l.acts in
     let end = l.end in let age = l.age in let tag = l.tag in let value = l.value in
-    let committed = l.committed in let pending = l.pending in let votes = l.votes in
-    cc
+    let committed = l.committed in let pending = l.pending in let votes = l.votes in cc
 
 -- the fields keep their invariant, where the replica keeps its form
 pub entered_inside : (a b : Inside) (view members : ℕ) (entries : List Entry) (kept : List LeftView)
@@ -129,8 +114,7 @@ entered_inside a b view members entries kept inside l later form held sent past 
   members = ap (λ (h : Held). h.members) l.items ∙ sym (ap members_of l.members);
   roster = ap (λ (h : Held). h.roster) l.items ∙ inside.roster ∙ ap (λ (s : _). s.members) (sym l.shape);
   most = ap (λ (h : Held). h.most) l.items ∙ inside.most ∙ ap greatest (sym l.totals);
-  messages = ap (λ (h : Kept). h.roster) l.history ∙ inside.messages
-      ∙ ap (λ (s : _). s.members) (sym l.shape);
+  messages = ap (λ (h : Kept). h.roster) l.history ∙ inside.messages ∙ ap (λ (s : _). s.members) (sym l.shape);
   next = rw (l.next, l.members) (first_is_spot (length (members_of members))
       (entered_some (replica_inside a) view members entries kept later form).0);
   received = rw l.received (omega arith);
@@ -147,8 +131,7 @@ entered_inside a b view members entries kept inside l later form held sent past 
 
 -- the entries of a member that has ended its view with a value
 abbrev pub ended_entries : Inside → Value → List Entry
-ended_entries a x =
-    merged_from a.items a.history.entries (trims_by_rank a.members x.trim) a.next.place
+ended_entries a x = merged_from a.items a.history.entries (trims_by_rank a.members x.trim) a.next.place
     ++ View a.age (a.view + 1) (next_members a.members x.leavers) ∷ []
 
 -- and what it keeps of its views
@@ -157,33 +140,28 @@ ended_views a = map left_of a.left.items ++ left_now (replica_inside a) ∷ []
 
 -- so it goes on
 abbrev pub AreLeft : Inside → Inside → Value → Type 0
-AreLeft a b x =
-    AreEntered a b (a.view + 1) (next_members a.members x.leavers) (ended_entries a x) (ended_views a)
+AreLeft a b x = AreEntered a b (a.view + 1) (next_members a.members x.leavers) (ended_entries a x) (ended_views a)
 
 ended_by : (a : Inside) (x : Value) → IsInsideReplica a
     → entered (replica_inside a) (a.view + 1) (next_members a.members x.leavers) (ended_entries a x) (ended_views a)
     ≡ finished_by (replica_inside a) x
-ended_by a x inside =
-    ap (λ (es : List Entry). entered (replica_inside a) (a.view + 1) (next_members a.members x.leavers)
-    (es ++ View a.age (a.view + 1) (next_members a.members x.leavers) ∷ []) (ended_views a))
-    (merged_same a x.trim inside)
+ended_by a x inside = ap (λ (es : List Entry). entered (replica_inside a) (a.view + 1)
+    (next_members a.members x.leavers) (es ++ View a.age (a.view + 1) (next_members a.members x.leavers) ∷ [])
+    (ended_views a)) (merged_same a x.trim inside)
 
 -- this is what ending the view makes of the replica
 pub left_after : (a b : Inside) (now : Replica) (x : Value) → replica_inside a ≡ now → IsInsideReplica a
     → a.committed ≡ Some x → AreLeft a b x → replica_inside b ≡ finished now
-left_after a b now x same inside committed l =
-    entered_view a b (a.view + 1) (next_members a.members x.leavers) (ended_entries a x) (ended_views a) inside l
-    ∙ ended_by a x inside
-    ∙ ap (λ (o : Option Value). finished_by (replica_inside a) (unwrap_or o no_value)) (sym committed)
-    ∙ ap finished same
+left_after a b now x same inside committed l = entered_view a b (a.view + 1) (next_members a.members x.leavers)
+    (ended_entries a x) (ended_views a) inside l ∙ ended_by a x inside ∙ ap (λ (o : Option Value). finished_by
+    (replica_inside a) (unwrap_or o no_value)) (sym committed) ∙ ap finished same
 
 -- its form stays
 pub left_form : (a : Inside) (now : Replica) (x : Value) → replica_inside a ≡ now → IsInsideReplica a
     → a.committed ≡ Some x → may_finish now now.committed ≡ true → is_inside now ≡ true → now.pending ≡ None
     → HasForm (entered (replica_inside a) (a.view + 1) (next_members a.members x.leavers) (ended_entries a x)
     (ended_views a))
-left_form a now x same inside committed may in_view none =
-    subst HasForm (sym (ended_by a x inside))
+left_form a now x same inside committed may in_view none = subst HasForm (sym (ended_by a x inside))
     (subst (λ (o : Option Value). HasForm (finished_by (replica_inside a) (unwrap_or o no_value))) committed
     (finished_form (replica_inside a) inside.form (ap is_inside same ∙ in_view)
     (ap (λ (r : Replica). may_finish r r.committed) same ∙ may) (ap (λ (r : Replica). r.pending) same ∙ none)))
@@ -193,16 +171,14 @@ left_form a now x same inside committed may in_view none =
 -- it takes one of the spares, and there are enough left
 pub record AreTaken (a : Inside) (spares : List Left) (left : Left) : Type 0 where
   pub spare : IsSpare (columns_of a.shape.members a.shape.window) a.shape.members (greatest a.totals) left
-  pub others : All (IsSpare (columns_of a.shape.members a.shape.window) a.shape.members
-      (greatest a.totals)) spares
+  pub others : All (IsSpare (columns_of a.shape.members a.shape.window) a.shape.members (greatest a.totals)) spares
   pub enough : a.shape.banks ≤ a.view + 1 + 1 + length spares
   pub room : HasRoom a.rows.columns a.items.roster left
 
 pub spare_taken : (a : Inside) (spares : List Left) (r : Option Left) (left : Left) → IsInsideReplica a
     → a.spares.items ≡ spares ++ option_to_list r → r ≡ Some left → AreTaken a spares left
 spare_taken a spares r left inside items is =
-    let P : Left → Type 0 =
-    IsSpare (columns_of a.shape.members a.shape.window) a.shape.members (greatest a.totals) in
+    let P : Left → Type 0 = IsSpare (columns_of a.shape.members a.shape.window) a.shape.members (greatest a.totals) in
     let old : a.spares.items ≡ spares ++ left ∷ [] =
     items ∙ ap (λ (o : Option Left). spares ++ option_to_list o) is in
     let parts = All-pop P a.spares.items spares (Some left) old inside.spares in

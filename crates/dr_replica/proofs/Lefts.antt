@@ -1,26 +1,20 @@
 -- What is emptied as a view is left, and how its end tells of all views.
 use Rattle.std.proofs.Common.{◌≡◌, ℕ, ◌+◌, ◌<◌, List, [], ◌∷◌, ◌++◌, length, length-append, append-nil, map, sym, ap, ◌∙◌, arith}
 use Rattle.std.proofs.lemmas.List.{length-map, map-append}
-use Rattle.dr_replica.specs.Lefts.{left_of}
-use Rattle.dr_replica.specs.declared.left.Left.{Left}
-use Rattle.dr_entry.specs.declared.end.SentItem.{SentItem}
-use Rattle.dr_entry.specs.declared.end.ViewSent.{ViewSent}
-use Rattle.dr_program.specs.Program.{sent_before}
-use Rattle.dr_program.specs.Form.{HasForm}
-use Rattle.dr_program.specs.Replica.{Replica}
+use Rattle.dr_replica.specs.{Lefts.left_of, declared.left.Left.Left}
+use Rattle.dr_entry.specs.declared.end.{SentItem.SentItem, ViewSent.ViewSent}
+use Rattle.dr_program.specs.{Form.HasForm, Program.sent_before, Replica.Replica}
 use Rattle.dr_program.proofs.Programs.{sent_before_long, sent_before_more}
 
 -- a member's lists are put together view by view, each with its number
 pub put_before : (sent : List ViewSent) (given : List Left) (l : Left) (n : ℕ) (items : List SentItem)
     → sent ≡ sent_before 0 (map left_of given) → n ≡ length sent → items ≡ l.sent.items
     → sent ++ record { number = n; items = items } ∷ [] ≡ sent_before 0 (map left_of (given ++ l ∷ []))
-put_before sent given l n items told count is =
-    ap (λ (x : List ViewSent). x ++ record { number = n; items = items } ∷ []) told
-    ∙ ap (λ (k : ℕ). sent_before 0 (map left_of given) ++ record { number = k; items = items } ∷ []) number
+put_before sent given l n items told count is = ap (λ (x : List ViewSent). x ++ record { number = n; items = items }
+    ∷ []) told ∙ ap (λ (k : ℕ). sent_before 0 (map left_of given) ++ record { number = k; items = items } ∷ []) number
     ∙ ap (λ (x : List SentItem). sent_before 0 (map left_of given)
-    ++ record { number = 0 + length (map left_of given); items = x } ∷ []) is
-    ∙ sym (sent_before_more 0 (map left_of given) (left_of l))
-    ∙ ap (sent_before 0) (sym (map-append left_of given (l ∷ [])))
+    ++ record { number = 0 + length (map left_of given); items = x } ∷ []) is ∙ sym (sent_before_more 0
+    (map left_of given) (left_of l)) ∙ ap (sent_before 0) (sym (map-append left_of given (l ∷ [])))
   where
     number : n ≡ 0 + length (map left_of given)
     number = omega (arith, count, ap length told, sent_before_long 0 (map left_of given))
@@ -50,6 +44,5 @@ pub put_all : (sent : List ViewSent) (given rest : List Left) (r : Replica)
 put_all sent given (l ∷ rest) r told all none form = absurd (omega (arith, none))
 put_all sent given [] r told all none form =
     let same : sent ≡ sent_before 0 r.left = told
-    ∙ ap (λ (ls : List Left). sent_before 0 (map left_of ls)) (sym (append-nil given))
-    ∙ ap (sent_before 0) all in
+    ∙ ap (λ (ls : List Left). sent_before 0 (map left_of ls)) (sym (append-nil given)) ∙ ap (sent_before 0) all in
     (same, (omega (arith, ap length same, sent_before_long 0 r.left, form.left), form.bank))

@@ -1,27 +1,18 @@
 -- The fields of a replica as its age opens.
-use Rattle.std.proofs.Common.{◌≡◌, ℕ, ◌+◌, ◌*◌, ◌≤◌, [], List, length, None, refl, sym, ap, subst, ◌∙◌, arith}
 use Rattle.std.specs.Prelude.{All, if◌then◌else◌, map, vec_capacity}
-use Rattle.dr_replica.specs.Lefts.{IsSpare, left_of}
+use Rattle.std.proofs.Common.{◌≡◌, ℕ, ◌+◌, ◌*◌, ◌≤◌, [], List, length, None, refl, sym, ap, subst, ◌∙◌, arith}
+use Rattle.dr_replica.specs.{History.Kept, Inside.{IsInsideReplica, replica_inside}, Items.{Held, none_held}}
+use Rattle.dr_replica.specs.{Lefts.{IsSpare, left_of}, Spots.first_spot, declared.replica.Replica.TheInside.Inside}
+use Rattle.dr_replica.{specs.declared.spot.Spot.Spot, proofs.Spots.first_is_spot}
 use Rattle.dr_entry.specs.declared.entry.Entry.{Entry}
-use Rattle.dr_history.specs.Members.{has, members_of}
-use Rattle.dr_history.specs.Order.{messages_from}
+use Rattle.dr_history.specs.{Members.{has, members_of}, Order.messages_from}
 use Rattle.dr_history.proofs.NumberedLemmas.{messages_from-View}
 use Rattle.dr_rows.specs.Words.{Words, begun, with_own}
-use Rattle.dr_words.specs.declared.column.TheConstants.{LOGGED_COLUMN}
-use Rattle.dr_words.specs.Columns.{columns_of}
+use Rattle.dr_words.specs.{Columns.columns_of, declared.column.TheConstants.LOGGED_COLUMN}
 use Rattle.dr_suspect.specs.Suspicion.{Suspicion, trusting}
 use Rattle.dr_machine.specs.World.{no_value}
-use Rattle.dr_program.specs.declared.setup.Setup.{Setup}
-use Rattle.dr_program.specs.Replica.{begun_replica, first_entries_of, greatest}
-use Rattle.dr_program.specs.Form.{CanBegin, HasForm}
-use Rattle.dr_program.proofs.OpeningForm.{begun_in_form, someone}
-use Rattle.dr_replica.specs.Items.{Held, none_held}
-use Rattle.dr_replica.specs.History.{Kept}
-use Rattle.dr_replica.specs.Inside.{IsInsideReplica, replica_inside}
-use Rattle.dr_replica.specs.declared.replica.Replica.TheInside.{Inside}
-use Rattle.dr_replica.specs.Spots.{first_spot}
-use Rattle.dr_replica.specs.declared.spot.Spot.{Spot}
-use Rattle.dr_replica.proofs.Spots.{first_is_spot}
+use Rattle.dr_program.specs.{Form.{CanBegin, HasForm}, Replica.{begun_replica, first_entries_of, greatest}}
+use Rattle.dr_program.{specs.declared.setup.Setup.Setup, proofs.OpeningForm.{begun_in_form, someone}}
 
 -- the fields, as they were made
 pub record AreBegun (a : Inside) (s : Setup) (fresh : Words) (top : ℕ) : Type 0 where
@@ -72,15 +63,12 @@ begun_view a s first most b =
     ∙ ap (λ (n : ℕ). none_held s.members s.shape.members n) b.most in
     let count : ℕ = length (first_entries_of s) in
     let rows : a.rows ≡ with_own (begun s.shape.members (columns_of s.shape.members s.shape.window) s.me)
-    LOGGED_COLUMN (if has s.members s.me then count else 0) =
-    b.rows ∙ ap (λ (w : Words). with_own w LOGGED_COLUMN
-    (if has s.members s.me then length a.history.entries else 0)) b.first
-    ∙ ap (λ (es : List Entry). with_own
+    LOGGED_COLUMN (if has s.members s.me then count else 0) = b.rows ∙ ap (λ (w : Words). with_own w LOGGED_COLUMN
+    (if has s.members s.me then length a.history.entries else 0)) b.first ∙ ap (λ (es : List Entry). with_own
     (begun s.shape.members (columns_of s.shape.members s.shape.window) s.me) LOGGED_COLUMN
     (if has s.members s.me then length es else 0)) entries in
-    let base : a.base ≡ length (messages_from s.me s.start) =
-    b.base ∙ ap (λ (es : List Entry). length (messages_from s.me es)) entries
-    ∙ ap length (messages_from-View s.me s.start s.age 0 s.members) in
+    let base : a.base ≡ length (messages_from s.me s.start) = b.base ∙ ap (λ (es : List Entry). length
+    (messages_from s.me es)) entries ∙ ap length (messages_from-View s.me s.start s.age 0 s.members) in
     let logged : a.logged ≡ count = b.logged ∙ ap length entries in
     let durable : a.durable ≡ count = b.durable ∙ ap length entries in
     let shape = b.shape in let messages = b.messages in let totals = b.totals in let late = b.late in
@@ -90,8 +78,7 @@ begun_view a s first most b =
     let sent = b.sent in let left = ap (map left_of) b.left in
     let next : a.next.place ≡ 0 = ap (λ (n : Spot). n.place) b.next in let turns = b.turns in
     let acts = b.acts in let end = b.end in let age = b.age in let tag = b.tag in let value = b.value in
-    let committed = b.committed in let pending = b.pending in let votes = b.votes in
-    cc
+    let committed = b.committed in let pending = b.pending in let votes = b.votes in cc
 
 -- the memory that was taken for what the member keeps of its views, for its end and for its votes
 pub record AreReserved (a : Inside) : Type 0 where
@@ -104,8 +91,7 @@ pub record AreReserved (a : Inside) : Type 0 where
 
 -- the fields as they were made are in good order inside
 pub begun_inside : (a : Inside) (s : Setup) (first : Words) (most : ℕ) → CanBegin s
-    → AreBegun a s first most → most ≤ vec_capacity a.sent → AreReserved a
-    → a.past.items ≡ [] → IsInsideReplica a
+    → AreBegun a s first most → most ≤ vec_capacity a.sent → AreReserved a → a.past.items ≡ [] → IsInsideReplica a
 begun_inside a s first most can b sent held past = record {
   form = subst HasForm (sym (begun_view a s first most b)) (begun_in_form s can);
   suspicion =

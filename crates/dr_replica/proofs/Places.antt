@@ -1,28 +1,17 @@
 -- The items by place, and their front.
 use Rattle.std.proofs.Common.{◌≡◌, ℕ, ◌+◌, ◌*◌, ◌/◌, ◌%◌, ◌<◌, ◌≤◌, inl, inr, true, nat_lt, List, length, replicate, map, get_or, set, slice_index, slice_index_or, sym, ap, subst, ◌∙◌, arith, le_refl, le_trans}
-use Rattle.std.proofs.lemmas.Bool.{cases_lt, ltb-true}
+use Rattle.std.proofs.lemmas.{Bool.{cases_lt, ltb-true}, Nat.{mod_below, mul-le, mul-add-lt}}
 use Rattle.std.proofs.lemmas.List.{get_or-map, get_or-replicate, get_or_past, get_or_read, length-map, length-replicate}
-use Rattle.std.proofs.lemmas.Nat.{mod_below, mul-le, mul-add-lt}
-use Rattle.dr_entry.specs.declared.entry.Item.{Item}
-use Rattle.dr_entry.specs.declared.entry.Item.TheVariants.{Null}
+use Rattle.dr_entry.{specs.declared.entry.Item.{Item, TheVariants.Null}, proofs.Items.all_null}
 use Rattle.dr_entry.proofs.ListPlaces.{greatest_within}
-use Rattle.dr_entry.proofs.Items.{all_null}
-use Rattle.dr_history.specs.Members.{members_of}
-use Rattle.dr_words.specs.Masks.{IsInRoster}
-use Rattle.dr_program.specs.Replica.{greatest}
-use Rattle.dr_words.proofs.Ranks.{roster_members}
-use Rattle.dr_history.specs.Places.{place_of, is_held, AllHeldBelow}
-use Rattle.dr_history.proofs.Fronts.{front_is}
-use Rattle.dr_history.proofs.Places.{front_of_none, held_item}
-use Rattle.dr_history.proofs.MemberLemmas.{few_members}
-use Rattle.dr_program.proofs.Replicas.{greatest_most}
-use Rattle.dr_replica.specs.Items.{Held, IsHeld, counts_of, front, none_held, sender_held_at, item_held_at}
+use Rattle.dr_history.{specs.{Members.members_of, Places.{place_of, is_held, AllHeldBelow}}, proofs.Fronts.front_is}
+use Rattle.dr_history.proofs.{MemberLemmas.few_members, Places.{front_of_none, held_item}}
+use Rattle.dr_words.{specs.Masks.IsInRoster, proofs.Ranks.roster_members}
+use Rattle.dr_program.{specs.Replica.greatest, proofs.Replicas.greatest_most}
 use Rattle.dr_replica.specs.Inside.{AreItems, held_of}
-use Rattle.dr_replica.specs.Rests.{AreWithin}
-use Rattle.dr_replica.specs.declared.items.Items.TheInside.{Inside}
-use Rattle.dr_replica.specs.Spots.{IsSpot, first_spot}
-use Rattle.dr_replica.specs.declared.spot.Spot.{Spot}
-use Rattle.dr_replica.proofs.Spots.{first_is_spot, spot_number, spot_rank}
+use Rattle.dr_replica.specs.Items.{Held, IsHeld, counts_of, front, none_held, sender_held_at, item_held_at}
+use Rattle.dr_replica.specs.{Rests.AreWithin, Spots.{IsSpot, first_spot}, declared.items.Items.TheInside.Inside}
+use Rattle.dr_replica.{specs.declared.spot.Spot.Spot, proofs.Spots.{first_is_spot, spot_number, spot_rank}}
 use Rattle.dr_form.proofs.Gains.{counts_rise}
 
 -- a place that trims take has its item
@@ -46,9 +35,8 @@ held_read counts members s m c is at count =
     let which = get_or-map (slice_index counts) members s.rank 0 0 is.rank in
     let test : nat_lt s.number c ≡ nat_lt (s.place / length members)
     (get_or (map (slice_index counts) members) (s.place % length members) 0) = cc in
-    subst (λ (n : ℕ). nat_lt s.number c
-    ≡ nat_lt (s.place / n) (get_or (map (slice_index counts) members) (s.place % n) 0))
-    (sym (length-map members (slice_index counts))) test
+    subst (λ (n : ℕ). nat_lt s.number c ≡ nat_lt (s.place / n)
+    (get_or (map (slice_index counts) members) (s.place % n) 0)) (sym (length-map members (slice_index counts))) test
 
 -- an item that is held has its place
 item_within : (h : Held) (p : ℕ) → IsHeld h → is_held (counts_of h) p ≡ true
@@ -68,8 +56,7 @@ few_items h is = let product = mul-le h.most h.roster 4096 16 is.most is.roster 
 -- the item that was read there is the one of the place
 pub item_number : (a : Inside) (now : Held) (s : Spot) → held_of a ≡ now
     → IsSpot (length now.members) s → s.number ≡ s.place / length a.members.items
-item_number a now s same is =
-    subst (λ (h : Held). s.number ≡ s.place / length h.members) (sym same)
+item_number a now s same is = subst (λ (h : Held). s.number ≡ s.place / length h.members) (sym same)
     (spot_number (length now.members) s is)
 
 -- an item that is held has a place in the list
@@ -77,8 +64,7 @@ pub item_place : (a : Inside) (now : Held) (p k r s : ℕ) → held_of a ≡ now
     → is_held (counts_of now) p ≡ true → k ≡ p / length a.members.items → r ≡ a.roster → s ≡ sender_held_at now p
     → (k * r + s < length a.items.items) × (length a.items.items ≤ 65536)
 item_place a now p k r s same are before number roster sender =
-    let there = item_within (held_of a) p are.form
-    (ap (λ (h : Held). is_held (counts_of h) p) same ∙ before) in (
+    let there = item_within (held_of a) p are.form (ap (λ (h : Held). is_held (counts_of h) p) same ∙ before) in (
       rw (number, roster, sender ∙ ap (λ (h : Held). sender_held_at h p) (sym same)) there,
       few_items (held_of a) are.form,
     )
@@ -94,18 +80,13 @@ item_read a now p k r s x same are before number roster sender read =
     here ∙ ap (λ (i : ℕ). slice_index_or a.items.items i Null)
     (ap (λ (m : ℕ). m * r + s) number ∙ ap (λ (m : ℕ). p / length a.members.items * m + s) roster
     ∙ ap (λ (m : ℕ). p / length a.members.items * a.roster + m)
-    (sender ∙ ap (λ (h : Held). sender_held_at h p) (sym same)))
-    ∙ ap (λ (h : Held). item_held_at h p) same
+    (sender ∙ ap (λ (h : Held). sender_held_at h p) (sym same))) ∙ ap (λ (h : Held). item_held_at h p) same
 
 -- the places up to that of the greatest count are there, and from it on there are nulls
 pub used_within : (a : Inside) → AreItems a → greatest a.counts.items * a.roster ≤ length a.items.items
 used_within a are =
     let few = greatest_within a.counts.items 0 a.most (omega arith) are.form.bounded in
-    omega (
-      arith,
-      are.form.items,
-      mul-le (greatest a.counts.items) a.roster a.most a.roster few (le_refl a.roster),
-    )
+    omega (arith, are.form.items, mul-le (greatest a.counts.items) a.roster a.most a.roster few (le_refl a.roster))
 
 pub nulls_past : (a : Inside) (k : ℕ) → AreItems a → greatest a.counts.items * a.roster ≤ k
     → slice_index_or a.items.items k Null ≡ Null
@@ -153,8 +134,7 @@ none_is a view n most e =
 
 -- so they are where others were made so
 pub renewed_none : (old new : Inside) (view : ℕ) → AreItems old → new.members.items ≡ members_of view
-    → new.roster ≡ old.roster → new.most ≡ old.most
-    → new.counts.items ≡ replicate (length old.counts.items) 0
+    → new.roster ≡ old.roster → new.most ≡ old.most → new.counts.items ≡ replicate (length old.counts.items) 0
     → length new.items.items ≡ length old.items.items
     → ((k : ℕ) → k < length old.items.items → slice_index_or new.items.items k Null ≡ Null)
     → AreNone new view old.roster old.most
@@ -189,8 +169,7 @@ begun_items a view n most e zero few members some small = record {
     all_nulls : (long k : ℕ) → get_or (replicate long Null) k Null ≡ Null
     all_nulls long k = elim (cases_lt k long) [
       | inl within ↦ get_or-replicate {A = Item} long k Null Null within
-      | inr past ↦
-          get_or_past (replicate {A = Item} long Null) k Null
+      | inr past ↦ get_or_past (replicate {A = Item} long Null) k Null
           (omega (arith, length-replicate {A = Item} long Null))
     ]
 
@@ -204,16 +183,14 @@ begun_items a view n most e zero few members some small = record {
     ]
 
 -- the new counts are above the old front
-pub taken_above : (a : Inside) (now : Held) (members counts : List ℕ) (s e f x : ℕ) → held_of a
-    ≡ now → AreItems a → s < now.roster → e ≡ s → f ≡ s
-    → x ≡ slice_index_or a.counts.items e x → members ≡ a.members.items → counts
-    ≡ set a.counts.items f (x + 1) → AllHeldBelow (map (slice_index counts) members) a.front.place
+pub taken_above : (a : Inside) (now : Held) (members counts : List ℕ) (s e f x : ℕ) → held_of a ≡ now
+    → AreItems a → s < now.roster → e ≡ s → f ≡ s → x ≡ slice_index_or a.counts.items e x → members ≡ a.members.items
+    → counts ≡ set a.counts.items f (x + 1) → AllHeldBelow (map (slice_index counts) members) a.front.place
 taken_above a now members counts s e f x same are within from at read who new =
     let mine : s < a.roster = subst (λ (h : Held). s < h.roster) (sym same) within in
     let here : x ≡ get_or a.counts.items s 0 =
     subst (λ (i : ℕ). x ≡ slice_index_or a.counts.items i x → x ≡ get_or a.counts.items s 0)
     (sym from) (λ r. get_or_read a.counts.items s x (omega (arith, mine, are.form.counts)) r 0) read in
     let counts_are : counts ≡ set a.counts.items s (get_or a.counts.items s 0 + 1) = new
-    ∙ ap (λ (i : ℕ). set a.counts.items i (x + 1)) at
-    ∙ ap (λ (n : ℕ). set a.counts.items s (n + 1)) here in
+    ∙ ap (λ (i : ℕ). set a.counts.items i (x + 1)) at ∙ ap (λ (n : ℕ). set a.counts.items s (n + 1)) here in
     rw (counts_are, who, are.front) (still_held (held_of a) s are.form mine)

@@ -1,11 +1,8 @@
 -- What a trim has left, walked spot by spot.
 use Rattle.std.proofs.Common.{◌≡◌, ℕ, ◌+◌, ◌*◌, ◌<◌, ◌≤◌, nat_lt, List, length, slice_index, arith, le_refl}
-use Rattle.std.proofs.lemmas.Nat.{mul-le}
-use Rattle.std.proofs.Math.Nat.{mul_comm, suc-mul}
+use Rattle.std.proofs.{Math.Nat.{mul_comm, suc-mul}, lemmas.Nat.mul-le}
 use Rattle.dr_history.specs.Places.{is_held}
-use Rattle.dr_replica.specs.Spots.{IsSpot}
-use Rattle.dr_replica.specs.declared.spot.Spot.{Spot}
-use Rattle.dr_replica.proofs.Spots.{spot_number, spot_rank}
+use Rattle.dr_replica.{specs.{Spots.IsSpot, declared.spot.Spot.Spot}, proofs.Spots.{spot_number, spot_rank}}
 
 -- the item at a spot is taken where its number is below the trim of its rank
 pub taken_read : (trims : List ℕ) (s : Spot) (trim : ℕ) → IsSpot (length trims) s

@@ -1,7 +1,6 @@
 -- The history of a member, which knows how many messages of each member it has.
 use Rattle.std.specs.Prelude.{ℕ, ◌^◌, ◌<◌, ◌≤◌, List, ◌++◌, length}
-use Rattle.dr_entry.specs.declared.entry.Entry.{Entry}
-use Rattle.dr_entry.specs.declared.entry.Item.{Item}
+use Rattle.dr_entry.specs.declared.entry.{Entry.Entry, Item.Item}
 use Rattle.dr_machine.specs.Effects.{entries_of}
 
 -- the number of members of the roster, the entries, and how many there is room for

@@ -1,16 +1,11 @@
 -- How the fields hold what contracts see of them.
 use Rattle.std.specs.Prelude.{◌≡◌, ℕ, ◌+◌, ◌*◌, ◌<◌, ◌≤◌, All, [], length, map, slice_index, slice_index_or, vec_capacity}
 use Rattle.dr_entry.specs.declared.entry.Item.TheVariants.{Null}
-use Rattle.dr_history.specs.Order.{messages_from}
-use Rattle.dr_history.specs.Members.{members_of}
-use Rattle.dr_program.specs.Replica.{Replica, greatest, least_seen, suspicion_of}
-use Rattle.dr_program.specs.Form.{HasForm}
-use Rattle.dr_words.specs.Columns.{columns_of}
-use Rattle.dr_words.specs.declared.column.TheConstants.{RECEIVED_COLUMN}
-use Rattle.dr_replica.specs.Items.{Held, IsHeld, front}
-use Rattle.dr_replica.specs.Lefts.{IsSpare, left_of}
+use Rattle.dr_history.specs.{Members.members_of, Order.messages_from}
+use Rattle.dr_program.specs.{Form.HasForm, Replica.{Replica, greatest, least_seen, suspicion_of}}
+use Rattle.dr_words.specs.{Columns.columns_of, declared.column.TheConstants.RECEIVED_COLUMN}
+use Rattle.dr_replica.specs.{History.{Kept, HasEntryRoom}, Items.{Held, IsHeld, front}, Lefts.{IsSpare, left_of}}
 use Rattle.dr_replica.specs.Spots.{IsSpot}
-use Rattle.dr_replica.specs.History.{Kept, HasEntryRoom}
 use Rattle.dr_replica.specs.declared.items.Items.TheInside as items
 use Rattle.dr_replica.specs.declared.history.History.TheInside as history
 use Rattle.dr_replica.specs.declared.replica.Replica.TheInside as replica

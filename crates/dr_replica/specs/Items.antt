@@ -1,9 +1,7 @@
 -- The items that a member has in its view.
 use Rattle.std.specs.Prelude.{◌≡◌, ℕ, ◌+◌, ◌*◌, ◌/◌, ◌%◌, ◌<◌, ◌≤◌, List, length, map, replicate, slice_index, slice_index_or, slice_set}
-use Rattle.dr_entry.specs.declared.entry.Item.{Item}
-use Rattle.dr_entry.specs.declared.entry.Item.TheVariants.{Null}
-use Rattle.dr_history.specs.Members.{members_of}
-use Rattle.dr_history.specs.Places.{front_of}
+use Rattle.dr_entry.specs.declared.entry.Item.{Item, TheVariants.Null}
+use Rattle.dr_history.specs.{Members.members_of, Places.front_of}
 
 -- the view's members, ascending; the number of members of the roster; the greatest number of items of a
 -- member; by member

@@ -1,9 +1,8 @@
 -- What is delivered as a view ends.
-use Rattle.std.specs.Prelude.{◌≡◌, ℕ, ◌+◌, ◌≤◌, ◌++◌, ◌&&◌, Bool, List, fold, length, nat_lt, slice_index}
 use Rattle.std.specs.List.{list_all}
+use Rattle.std.specs.Prelude.{◌≡◌, ℕ, ◌+◌, ◌≤◌, ◌++◌, ◌&&◌, Bool, List, fold, length, nat_lt, slice_index}
 use Rattle.dr_entry.specs.declared.entry.Entry.{Entry}
-use Rattle.dr_history.specs.Order.{messages_from}
-use Rattle.dr_history.specs.Places.{rest_places}
+use Rattle.dr_history.specs.{Order.messages_from, Places.rest_places}
 use Rattle.dr_machine.specs.Effects.{entries_of}
 use Rattle.dr_program.specs.Replica.{Replica, count, me, members_in_view, with_place}
 use Rattle.dr_replica.specs.Items.{Held, counts_of, item_held_at, sender_held_at}

@@ -1,8 +1,7 @@
 -- What the own words of a wedged member say, and those of one that has accepted a value.
 use Rattle.std.specs.Prelude.{ℕ}
 use Rattle.dr_words.specs.Rewrites.{accepted_word, wedged_word}
-use Rattle.dr_replica.specs.declared.acceptance.Acceptance.{Acceptance}
-use Rattle.dr_replica.specs.declared.wedge.Wedge.{Wedge}
+use Rattle.dr_replica.specs.declared.{acceptance.Acceptance.Acceptance, wedge.Wedge.Wedge}
 
 -- the own word of a column, by the one before
 abbrev pub wedged : Wedge → ℕ → ℕ → ℕ

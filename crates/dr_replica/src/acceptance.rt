@@ -2,8 +2,7 @@ ghost use Rattle.std.specs.Prelude.{◌≡◌, ℕ, ◌^◌, ◌<◌, ◌≤◌,
 ghost use Rattle.dr_replica.specs.Wedges.{accepted};
 ghost use Rattle.dr_ring.specs.Slots.{HasShape};
 ghost use Rattle.dr_rows.specs.Words.{IsWords, own, rewritten};
-ghost use Rattle.dr_words.specs.Accepts.{part_of};
-ghost use Rattle.dr_words.specs.Rewrites.{is_accept_of};
+ghost use Rattle.dr_words.specs.{Accepts.part_of, Rewrites.is_accept_of};
 
 use crate::wedge::is_accept;
 use dr_entry::Value;

@@ -1,7 +1,6 @@
-ghost use Rattle.std.specs.Prelude.{◌≡◌, ℕ, ◌<◌, ◌≤◌, IfOk, length, map, nat_lt, replicate, slice_index, slice_index_or, true};
 ghost use Rattle.std.specs.List.{list_any};
-ghost use Rattle.dr_history.specs.Members.{has, members_of};
-ghost use Rattle.dr_history.specs.Places.{AllHeldBelow, front_of, is_held};
+ghost use Rattle.std.specs.Prelude.{◌≡◌, ℕ, ◌<◌, ◌≤◌, IfOk, length, map, nat_lt, replicate, slice_index, slice_index_or, true};
+ghost use Rattle.dr_history.specs.{Members.{has, members_of}, Places.{AllHeldBelow, front_of, is_held}};
 ghost use Rattle.dr_program.specs.Replica.{greatest};
 ghost use Rattle.dr_replica.specs.Spots.{IsSpot};
 ghost use Rattle.dr_words.specs.Masks.{IsInRoster};

@@ -1,6 +1,5 @@
 //! What a trim has left of a view.
-ghost use Rattle.std.specs.Prelude.{◌≡◌, ℕ, ◌+◌, ◌^◌, ◌<◌, ◌≤◌, IfSome, length, slice_index};
-ghost use Rattle.std.specs.Option.{option_map};
+ghost use Rattle.std.specs.{Option.option_map, Prelude.{◌≡◌, ℕ, ◌+◌, ◌^◌, ◌<◌, ◌≤◌, IfSome, length, slice_index}};
 ghost use Rattle.dr_history.specs.Members.{members_of};
 ghost use Rattle.dr_order.specs.Merge.{IsNextHeld};
 ghost use Rattle.dr_replica.specs.Spots.{IsSpot};

@@ -1,27 +1,21 @@
 -- Which logs hold an entry, and the longest of them.
-use Rattle.std.proofs.Common.{sym, subst, ℕ, List, refl, ◌≤◌, length, ◌≡◌, ap, ◌∙◌, ◌<◌, arith, [], ◌∷◌, Bool, Decides, Some, false, None, ◌+◌, ◌⊎◌, inl, inr, suc, nat_lt, true, if◌then◌else◌, zero, Option}
-use Rattle.std.proofs.lemmas.Option.{same_Some, none-some}
-use Rattle.std.proofs.lemmas.Bool.{false≢true, cases_lt}
 use Rattle.std.specs.Prelude.{option_and_then, IfSome, IsSomeAnd}
+use Rattle.std.proofs.Common.{sym, subst, ℕ, List, refl, ◌≤◌, length, ◌≡◌, ap, ◌∙◌, ◌<◌, arith, [], ◌∷◌, Bool, Decides, Some, false, None, ◌+◌, ◌⊎◌, inl, inr, suc, nat_lt, true, if◌then◌else◌, zero, Option}
+use Rattle.std.proofs.lemmas.{Bool.{false≢true, cases_lt}, Option.{same_Some, none-some}}
 use Rattle.dr_entry.specs.declared.entry.Entry.{Entry}
+use Rattle.dr_history.specs.{History.{view_of, GroupView}, Restarting.AllStand, declared.opening.Opening.Opening}
 use Rattle.dr_history.proofs.Histories.{no_view}
-use Rattle.dr_history.specs.declared.opening.Opening.{Opening}
-use Rattle.dr_history.specs.Restarting.{AllStand}
-use Rattle.dr_history.specs.History.{view_of, GroupView}
 use Rattle.dr_restart.specs.Choosing.{AreOnHolder, Handed, IsLastAge, EndsInAge, next_on_path, on_path, AreOfHolders, AreOfNobody}
-use Rattle.dr_restart.specs.Refusing.{HaveNothingForeign, IsHeldBy, Refusal}
-use Rattle.dr_restart.specs.declared.lists.LogLists.{LogLists}
+use Rattle.dr_restart.specs.{Refusing.{HaveNothingForeign, IsHeldBy, Refusal}, declared.lists.LogLists.LogLists}
 
 -- all that a holder has may stand
 pub holder_stands : (o : Opening) (h : Handed) (age : ℕ) (es : List Entry) → HaveNothingForeign o h
     → AreOnHolder h age es → AllStand o es
-holder_stands o h age es sound (m, log, at, ends, e) =
-    subst (AllStand o) (sym e) (sound m log at)
+holder_stands o h age es sound (m, log, at, ends, e) = subst (AllStand o) (sym e) (sound m log at)
 
 -- a holder has the longest entries
 pub longest_on : (h : Handed) (age : ℕ) (es : List Entry) → IsLastAge h age
-    → ((m : ℕ) (f : List Entry) → IsHeldBy h age m f
-    → AreOnHolder h age es × (length f ≤ length es))
+    → ((m : ℕ) (f : List Entry) → IsHeldBy h age m f → AreOnHolder h age es × (length f ≤ length es))
     → AreOnHolder h age es × ((f : List Entry) → AreOnHolder h age f → length f ≤ length es)
 longest_on h age es last all = (
   (all last.some.0 last.some.1.entries (last.some.1, last.some.2, last.some.3, refl)).0,
@@ -30,8 +24,7 @@ longest_on h age es last all = (
 
 -- a holder has one list
 pub one_held : (h : Handed) (age m : ℕ) (f g : List Entry) → IsHeldBy h age m f → IsHeldBy h age m g → f ≡ g
-one_held h age m f g x y =
-    x.3 ∙ (ap (λ (log : LogLists). log.entries) (same_Some x.0 y.0 (sym x.1 ∙ y.1)) ∙ sym y.3)
+one_held h age m f g x y = x.3 ∙ (ap (λ (log : LogLists). log.entries) (same_Some x.0 y.0 (sym x.1 ∙ y.1)) ∙ sym y.3)
 
 pub held_some : (h : Handed) (age m : ℕ) (es : List Entry) → IsHeldBy h age m es → 0 < length es
 held_some h age m [] x = absurd (no_view x.2.0 (ap view_of x.3 ∙ x.2.1))
@@ -60,10 +53,7 @@ pub record IsLongestBelow (h : Handed) (age m best most : ℕ) : Type 0 where
   pub longest : (i : ℕ) (f : List Entry) → i < m → IsHeldBy h age i f → length f ≤ most
 
 pub none_longest : (h : Handed) (age : ℕ) → IsLongestBelow h age 0 0 0
-none_longest h age = record {
-  held = λ l. absurd (omega (arith, l));
-  longest = λ i f l x. absurd (omega (arith, l));
-}
+none_longest h age = record { held = λ l. absurd (omega (arith, l)); longest = λ i f l x. absurd (omega (arith, l)) }
 
 -- one member more, which has so many entries if it is a holder
 longest_more : (h : Handed) (age m best most len : ℕ) → IsLongestBelow h age m best most
@@ -77,12 +67,10 @@ longest_more h age m best most len old is some more = record {
     by : (i : ℕ) (f : List Entry) → IsHeldBy h age i f → (i < m) ⊎ (m ≤ i) → i < m + 1 → length f ≤ len
     by i f x (inl l) k = omega (arith, old.longest i f l x, more)
     by i f x (inr l) k =
-        let same : i ≡ m = omega (arith, l, k) in
-        omega (arith, is f (subst (λ j. IsHeldBy h age j f) same x))
+        let same : i ≡ m = omega (arith, l, k) in omega (arith, is f (subst (λ j. IsHeldBy h age j f) same x))
 
 longest_other : (h : Handed) (age m best most len : ℕ) → IsLongestBelow h age m best most
-    → ((f : List Entry) → IsHeldBy h age m f → len ≡ length f) → len ≤ most
-    → IsLongestBelow h age (m + 1) best most
+    → ((f : List Entry) → IsHeldBy h age m f → len ≡ length f) → len ≤ most → IsLongestBelow h age (m + 1) best most
 longest_other h age m best most len old is less = record {
   held = old.held;
   longest = λ i f l x. by i f x (cases_lt i m) l;
@@ -91,12 +79,10 @@ longest_other h age m best most len old is less = record {
     by : (i : ℕ) (f : List Entry) → IsHeldBy h age i f → (i < m) ⊎ (m ≤ i) → i < m + 1 → length f ≤ most
     by i f x (inl l) k = old.longest i f l x
     by i f x (inr l) k =
-        let same : i ≡ m = omega (arith, l, k) in
-        omega (arith, is f (subst (λ j. IsHeldBy h age j f) same x), less)
+        let same : i ≡ m = omega (arith, l, k) in omega (arith, is f (subst (λ j. IsHeldBy h age j f) same x), less)
 
 pub longest_step : (h : Handed) (age m best most len next now : ℕ) → IsLongestBelow h age m best most
-    → ((f : List Entry) → IsHeldBy h age m f → len ≡ length f)
-    → (0 < len → (es : List Entry) × IsHeldBy h age m es)
+    → ((f : List Entry) → IsHeldBy h age m f → len ≡ length f) → (0 < len → (es : List Entry) × IsHeldBy h age m es)
     → ((next ≡ m) × (now ≡ len) × (most < len)) ⊎ ((next ≡ best) × (now ≡ most) × (len ≤ most))
     → IsLongestBelow h age (m + 1) next now
 longest_step h age m best most len next now old is some (inl (e, f, l)) =
@@ -151,8 +137,7 @@ held_beside o other h es same (inl held) = inl (record {
   age = held.age;
   last = held.last;
   along = held.along;
-  path = λ first v members are on.
-      held.path first v members are
+  path = λ first v members are on. held.path first v members are
       (subst (λ (n : ℕ). on_path h n held.age first v ≡ Some members) (sym same) on);
   held = held.held;
   longest = held.longest;

@@ -1,24 +1,12 @@
 -- A script and a first start make a group.
-use Rattle.std.proofs.Common.{◌≡◌, true, sym, ap, ℕ, ◌-◌, ◌^◌, ◌<◌, ◌≤◌, List, [], length, arith}
-use Rattle.std.specs.Prelude.{All}
+use Rattle.std.{specs.Prelude.All, proofs.Common.{◌≡◌, true, sym, ap, ℕ, ◌-◌, ◌^◌, ◌<◌, ◌≤◌, List, [], length, arith}}
 use Rattle.std.proofs.lemmas.Option.{slice_get_within}
-use Rattle.dr_entry.proofs.Bits.{few_at}
-use Rattle.dr_entry.proofs.ListPlaces.{each_at, byte_at}
-use Rattle.dr_entry.proofs.NumberFacts.{above_whole}
-use Rattle.dr_entry.specs.declared.entry.Entry.{Entry}
-use Rattle.dr_entry.specs.declared.entry.Entry.TheVariants.{View, Msg}
-use Rattle.dr_entry.specs.Spelling.{IsValidEntry}
-use Rattle.dr_script.specs.declared.script.Script.{Script}
-use Rattle.dr_history.specs.Members.{has}
-use Rattle.dr_history.proofs.Bits.{has_ones}
-use Rattle.dr_history.proofs.Histories.{no_view}
-use Rattle.dr_history.specs.Soundness.{MayStand}
+use Rattle.dr_entry.specs.{Spelling.IsValidEntry, declared.entry.Entry.{Entry, TheVariants.{View, Msg}}}
+use Rattle.dr_entry.proofs.{Bits.few_at, ListPlaces.{each_at, byte_at}, NumberFacts.above_whole}
+use Rattle.dr_script.{specs.{Ranges.HasGroupRanges, declared.script.Script.Script}, proofs.Ranges.sender_small}
+use Rattle.dr_history.{specs.{Members.has, Soundness.MayStand}, proofs.{Bits.has_ones, Histories.no_view}}
 use Rattle.dr_machine.specs.Group.{IsGroup, AllPresent}
-use Rattle.dr_script.specs.Ranges.{HasGroupRanges}
-use Rattle.dr_script.proofs.Ranges.{sender_small}
-use Rattle.dr_restart.specs.Groups.{first_group_of}
-use Rattle.dr_restart.specs.declared.start.Start.{Start}
-use Rattle.dr_restart.specs.Trying.{opened_by}
+use Rattle.dr_restart.specs.{Groups.first_group_of, Trying.opened_by, declared.start.Start.Start}
 
 -- a script is a group in its first age
 pub first_group : (script : Script) → HasGroupRanges script → IsGroup (first_group_of script)

@@ -1,17 +1,12 @@
 -- The setups of a script's members, and that they are those of its group.
+use Rattle.std.{specs.Prelude.{None, Option, Some}, proofs.lemmas.{Bool.cases_lt, Option.same_Some}}
 use Rattle.std.proofs.Common.{◌≡◌, ◌⊎◌, inl, inr, refl, sym, ap, ◌∙◌, subst, ℕ, ◌+◌, ◌<◌, ◌≤◌, List, [], ◌∷◌, ◌++◌, length, length-append, arith}
-use Rattle.std.specs.Prelude.{None, Option, Some}
-use Rattle.std.proofs.lemmas.Bool.{cases_lt}
-use Rattle.std.proofs.lemmas.Option.{same_Some}
 use Rattle.dr_machine.specs.Group.{IsPresent}
-use Rattle.dr_program.specs.Presence.{present_at}
+use Rattle.dr_program.specs.{Presence.present_at, Program.{AreSetups, Program, begun_program}}
+use Rattle.dr_program.{specs.declared.setup.Setup.Setup, proofs.Present.{each_more, still_there, last_there}}
 use Rattle.dr_script.specs.declared.script.Script.{Script}
-use Rattle.dr_program.specs.declared.setup.Setup.{Setup}
-use Rattle.dr_program.specs.Program.{AreSetups, Program, begun_program}
-use Rattle.dr_program.proofs.Present.{each_more, still_there, last_there}
+use Rattle.dr_restart.specs.{Groups.group_of, Setups.{AreFirstSetupsOf, AreSetupsOf, IsSetupOf, IsBegun}}
 use Rattle.dr_restart.specs.declared.start.Start.{Start}
-use Rattle.dr_restart.specs.Groups.{group_of}
-use Rattle.dr_restart.specs.Setups.{AreFirstSetupsOf, AreSetupsOf, IsSetupOf, IsBegun}
 
 -- no setups are the first none of an age
 pub none : (script : Script) (start : Start) (nth : ℕ) → AreFirstSetupsOf script start nth 0 []
@@ -20,8 +15,7 @@ none script start nth = record
 
 -- the places of the first n, and one more
 one_more : (script : Script) (start : Start) (nth n : ℕ) (setups : List (Option Setup)) (o : Option Setup)
-    → AreFirstSetupsOf script start nth n setups
-    → ((s : Setup) → o ≡ Some s → IsSetupOf script start nth n s)
+    → AreFirstSetupsOf script start nth n setups → ((s : Setup) → o ≡ Some s → IsSetupOf script start nth n s)
     → (IsPresent (group_of script start) n → (s : Setup) × (o ≡ Some s))
     → AreFirstSetupsOf script start nth (n + 1) (setups ++ o ∷ [])
 one_more script start nth n setups o so_far next there = record {
@@ -44,8 +38,7 @@ one_more script start nth n setups o so_far next there = record {
 pub more : (script : Script) (start : Start) (nth n : ℕ) (setups : List (Option Setup)) (s : Setup)
     → AreFirstSetupsOf script start nth n setups
     → IsSetupOf script start nth n s → AreFirstSetupsOf script start nth (n + 1) (setups ++ Some s ∷ [])
-more script start nth n setups s so_far next =
-    one_more script start nth n setups (Some s) so_far
+more script start nth n setups s so_far next = one_more script start nth n setups (Some s) so_far
     (λ t is. subst (IsSetupOf script start nth n) (same_Some s t is) next) (λ here. (s, refl))
 
 -- so does an empty place, where the next member is absent

@@ -1,21 +1,15 @@
 -- A script, a start and the number of an age leave no choice: there is one list of setups.
-use Rattle.std.proofs.Common.{◌≡◌, refl, sym, ap, ◌∙◌, ℕ, ◌<◌, List, arith}
-use Rattle.std.specs.Prelude.{None, Option, Some}
+use Rattle.std.{specs.Prelude.{None, Option, Some}, proofs.Common.{◌≡◌, refl, sym, ap, ◌∙◌, ℕ, ◌<◌, List, arith}}
 use Rattle.std.proofs.lemmas.List.{ext_get_or}
-use Rattle.dr_program.specs.Presence.{present_at}
+use Rattle.dr_program.{specs.{Presence.present_at, declared.setup.Setup.Setup}, proofs.Opening.{setup_is, setup_of}}
 use Rattle.dr_script.specs.declared.script.Script.{Script}
 use Rattle.dr_words.proofs.Unique.{same_shape}
-use Rattle.dr_program.specs.declared.setup.Setup.{Setup}
 use Rattle.dr_machine.specs.Group.{Group}
-use Rattle.dr_program.proofs.Opening.{setup_is, setup_of}
-use Rattle.dr_restart.specs.declared.start.Start.{Start}
-use Rattle.dr_restart.specs.Groups.{group_of}
-use Rattle.dr_restart.specs.Setups.{AreSetupsOf, IsSetupOf}
+use Rattle.dr_restart.specs.{Groups.group_of, Setups.{AreSetupsOf, IsSetupOf}, declared.start.Start.Start}
 
 same_setup : (script : Script) (start : Start) (nth m : ℕ) (s t : Setup)
     → IsSetupOf script start nth m s → IsSetupOf script start nth m t → s ≡ t
-same_setup script start nth m s t one other =
-    setup_is g script.turns m s one.setup
+same_setup script start nth m s t one other = setup_is g script.turns m s one.setup
     ∙ (ap (λ shape. setup_of g script.turns m shape s) shapes
     ∙ (same ∙ sym (setup_is g script.turns m t other.setup)))
   where
@@ -36,8 +30,7 @@ same_setup script start nth m s t one other =
 -- a script and a start give one list of setups for an age
 pub same_setups : (script : Script) (start : Start) (nth : ℕ) (xs ys : List (Option Setup))
     → AreSetupsOf script start nth xs → AreSetupsOf script start nth ys → xs ≡ ys
-same_setups script start nth xs ys ones others =
-    ext_get_or None xs ys (ones.all ∙ sym others.all)
+same_setups script start nth xs ys ones others = ext_get_or None xs ys (ones.all ∙ sym others.all)
     (λ m within. by m (present_at xs m) (present_at ys m) refl refl (omega (arith, within, ones.all)))
   where
     by : (m : ℕ) (o q : Option Setup) → present_at xs m ≡ o → present_at ys m ≡ q → m < script.members

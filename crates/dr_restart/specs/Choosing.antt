@@ -1,19 +1,12 @@
 -- What the logs that are handed in make the next age start with, though others may be missing.
+use Rattle.std.specs.{List.flat_map, Option.option_map_or}
 use Rattle.std.specs.Prelude.{◌≡◌, ℕ, zero, suc, ◌+◌, ◌-◌, ◌<◌, ◌≤◌, ◌⊎◌, ◌^◌, ◌==◌, ◌&&◌, nat_lt, not, if◌then◌else◌, List, [], ◌∷◌, filter, length, Contains, Option, None, Some, is_some, option_and_then, option_map, slice_get, Bool}
-use Rattle.std.specs.List.{flat_map}
-use Rattle.std.specs.Option.{option_map_or}
-use Rattle.dr_entry.specs.declared.entry.Entry.{Entry}
-use Rattle.dr_entry.specs.declared.entry.Entry.TheVariants.{View}
+use Rattle.dr_entry.specs.{declared.entry.Entry.{Entry, TheVariants.View}, declared.record.AgeVote.AgeVote}
 use Rattle.dr_entry.specs.declared.record.Vote.{Vote}
-use Rattle.dr_history.specs.declared.opening.Opening.{Opening}
-use Rattle.dr_history.specs.History.{GroupView, view_of}
-use Rattle.dr_history.specs.Members.{has, members_of}
-use Rattle.dr_history.specs.Restarting.{AllStand, AreAlong}
-use Rattle.dr_history.specs.Soundness.{whole_roster}
+use Rattle.dr_history.specs.{History.{GroupView, view_of}, Members.{has, members_of}, Restarting.{AllStand, AreAlong}}
+use Rattle.dr_history.specs.{Soundness.whole_roster, declared.opening.Opening.Opening}
 use Rattle.dr_words.specs.Masks.{IsMajorityOf, IsPartOf, mask_of, next_members, without}
-use Rattle.dr_entry.specs.declared.record.AgeVote.{AgeVote}
-use Rattle.dr_restart.specs.declared.lists.LogLists.{LogLists}
-use Rattle.dr_restart.specs.declared.start.Start.{Start}
+use Rattle.dr_restart.specs.declared.{lists.LogLists.LogLists, start.Start.Start}
 
 -- the log of each member, by number, where it was handed in
 abbrev pub Handed : Type 0

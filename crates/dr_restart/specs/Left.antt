@@ -1,17 +1,10 @@
 -- What stops leave on the logs of all members of the roster, those of an age that has ended and those that
 -- were not there.
-use Rattle.std.specs.Prelude.{◌≡◌, ℕ, ◌==◌, ◌<◌, ◌≤◌, ◌⊎◌, List, [], ◌∷◌, ◌++◌, filter, map, length, Contains, None, Some, slice_get}
 use Rattle.std.specs.Option.{option_map_or}
-use Rattle.dr_entry.specs.declared.entry.Entry.{Entry}
-use Rattle.dr_entry.specs.declared.entry.Entry.TheVariants.{View}
-use Rattle.dr_entry.specs.declared.record.Value.{Value}
-use Rattle.dr_entry.specs.declared.record.Vote.{Vote}
-use Rattle.dr_history.specs.History.{IsPrefixOf}
-use Rattle.dr_history.specs.Restarting.{AllStand}
-use Rattle.dr_machine.specs.Effects.{vote_for}
-use Rattle.dr_machine.specs.Group.{Group, IsPresent, roster}
-use Rattle.dr_machine.specs.Guards.{CanLogVote}
-use Rattle.dr_machine.specs.Votes.{Votes}
+use Rattle.std.specs.Prelude.{◌≡◌, ℕ, ◌==◌, ◌<◌, ◌≤◌, ◌⊎◌, List, [], ◌∷◌, ◌++◌, filter, map, length, Contains, None, Some, slice_get}
+use Rattle.dr_entry.specs.{declared.entry.Entry.{Entry, TheVariants.View}, declared.record.{Value.Value, Vote.Vote}}
+use Rattle.dr_history.specs.{History.IsPrefixOf, Restarting.AllStand}
+use Rattle.dr_machine.specs.{Effects.vote_for, Group.{Group, IsPresent, roster}, Guards.CanLogVote, Votes.Votes}
 use Rattle.dr_machine.specs.World.{World}
 use Rattle.dr_restart.specs.declared.lists.LogLists.{LogLists}
 

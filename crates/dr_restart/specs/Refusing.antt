@@ -1,12 +1,10 @@
 -- Why the logs that are handed in make no start, each reason where none of those before it holds.
 use Rattle.std.specs.Prelude.{◌≡◌, ℕ, ◌+◌, ◌<◌, ◌/◌, List, length, Option, None, Some}
 use Rattle.dr_entry.specs.declared.entry.Entry.{Entry}
-use Rattle.dr_history.specs.declared.opening.Opening.{Opening}
-use Rattle.dr_history.specs.Members.{members_of}
+use Rattle.dr_history.specs.{Members.members_of, Soundness.whole_roster, declared.opening.Opening.Opening}
 use Rattle.dr_history.specs.Restarting.{AllStand, AreAlong, DifferAt, IsEarlierPair, IsForeignAt}
-use Rattle.dr_history.specs.Soundness.{whole_roster}
-use Rattle.dr_restart.specs.declared.lists.LogLists.{LogLists}
 use Rattle.dr_restart.specs.Choosing.{AreFirst, AreOnHolder, EndsInAge, Handed, HasAge, HasQuorum, IsLastAge, handed_of, on_path}
+use Rattle.dr_restart.specs.declared.lists.LogLists.{LogLists}
 
 pub data Refusal : Type 0 where
   -- on the log of this member the entry at this place may not stand

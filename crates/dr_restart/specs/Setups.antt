@@ -1,17 +1,10 @@
 -- What the members of a script's group are told as an age opens, and the program that they are then.
 use Rattle.std.specs.Prelude.{◌≡◌, ℕ, ◌<◌, ◌==◌, ◌&&◌, if◌then◌else◌, List, length, filter_map, Option, None, Some}
-use Rattle.dr_script.specs.declared.script.Fault.{Fault}
-use Rattle.dr_script.specs.declared.script.Script.{Script}
-use Rattle.dr_script.specs.declared.script.What.{What}
-use Rattle.dr_script.specs.declared.script.What.TheVariants.{Crash, Suspect}
-use Rattle.dr_program.specs.declared.setup.CrashPoint.{CrashPoint}
-use Rattle.dr_program.specs.declared.setup.Setup.{Setup}
-use Rattle.dr_program.specs.declared.setup.Suspicion.{Suspicion}
+use Rattle.dr_script.specs.declared.script.{Fault.Fault, Script.Script, What.{What, TheVariants.{Crash, Suspect}}}
+use Rattle.dr_program.specs.{Presence.present_at, Program.{Program, IsSetup, begun_program}}
+use Rattle.dr_program.specs.declared.setup.{CrashPoint.CrashPoint, Setup.Setup, Suspicion.Suspicion}
 use Rattle.dr_machine.specs.Group.{IsPresent}
-use Rattle.dr_program.specs.Presence.{present_at}
-use Rattle.dr_program.specs.Program.{Program, IsSetup, begun_program}
-use Rattle.dr_restart.specs.declared.start.Start.{Start}
-use Rattle.dr_restart.specs.Groups.{group_of}
+use Rattle.dr_restart.specs.{Groups.group_of, declared.start.Start.Start}
 
 -- the crash point of what happens to a member, where it is a crash
 abbrev pub point_of : What → Option CrashPoint

@@ -1,15 +1,9 @@
 -- What a try to open an age makes of the logs, wherever it is stopped.
 use Rattle.std.specs.Prelude.{◌≡◌, ℕ, ◌⊎◌, true, false, List, [], ◌∷◌, ◌++◌, length, Contains, Some, slice_get}
-use Rattle.dr_entry.specs.declared.entry.Entry.{Entry}
-use Rattle.dr_entry.specs.declared.entry.Entry.TheVariants.{View}
-use Rattle.dr_history.specs.declared.opening.Opening.{Opening}
-use Rattle.dr_history.specs.History.{IsPrefixOf}
-use Rattle.dr_history.specs.Members.{has}
-use Rattle.dr_entry.specs.declared.record.AgeVote.{AgeVote}
-use Rattle.dr_restart.specs.declared.lists.Attempt.{Attempt}
-use Rattle.dr_restart.specs.declared.lists.LogLists.{LogLists}
+use Rattle.dr_entry.specs.{declared.entry.Entry.{Entry, TheVariants.View}, declared.record.AgeVote.AgeVote}
+use Rattle.dr_history.specs.{History.IsPrefixOf, Members.has, declared.opening.Opening.Opening}
+use Rattle.dr_restart.specs.{Choosing.{IsChosenStart, of_set}, declared.lists.{Attempt.Attempt, LogLists.LogLists}}
 use Rattle.dr_restart.specs.declared.start.Start.{Start}
-use Rattle.dr_restart.specs.Choosing.{IsChosenStart, of_set}
 
 -- View 0 of the age of a start, and the vote for this age
 abbrev pub first_view_of : Start → Entry

@@ -2,11 +2,9 @@
 ghost use Rattle.std.specs.Prelude.{◌≡◌, ℕ, ◌+◌, List, [], ◌∷◌, ◌++◌, length, None, Option, Some};
 ghost use Rattle.dr_machine.specs.Group.{IsPresent};
 ghost use Rattle.dr_script.specs.declared.script.Script.{Script};
-ghost use Rattle.dr_program.specs.declared.setup.Setup.{Setup};
-ghost use Rattle.dr_program.specs.Program.{AreSetups};
+ghost use Rattle.dr_program.specs.{Program.AreSetups, declared.setup.Setup.Setup};
+ghost use Rattle.dr_restart.specs.{Groups.group_of, Setups.{AreFirstSetupsOf, AreSetupsOf, IsSetupOf}};
 ghost use Rattle.dr_restart.specs.declared.start.Start.{Start};
-ghost use Rattle.dr_restart.specs.Groups.{group_of};
-ghost use Rattle.dr_restart.specs.Setups.{AreFirstSetupsOf, AreSetupsOf, IsSetupOf};
 
 /// Setups come one by one, with an empty place for a member that is absent; and a script, a start and the
 /// number of an age leave no choice of them. Those of the whole roster are the group's, for as many turns as the script allows, where it has a list of messages

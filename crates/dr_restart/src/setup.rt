@@ -1,12 +1,11 @@
 //! What the members of a group are told as its age opens.
-ghost use Rattle.std.specs.Prelude.{◌≡◌, ◌+◌, ◌≤◌, ◌<◌, All, IfOk, [], length, map, slice_index_or};
 ghost use Rattle.std.specs.List.{range_with_len};
+ghost use Rattle.std.specs.Prelude.{◌≡◌, ◌+◌, ◌≤◌, ◌<◌, All, IfOk, [], length, map, slice_index_or};
 ghost use Rattle.dr_history.specs.Members.{members_of};
 ghost use Rattle.dr_words.specs.Masks.{without};
 ghost use Rattle.dr_machine.specs.Group.{IsPresent};
 ghost use Rattle.dr_script.specs.Ranges.{HasGroupRanges};
-ghost use Rattle.dr_restart.specs.Groups.{group_of};
-ghost use Rattle.dr_restart.specs.Setups.{IsSetupOf, crashes_of, suspicions_of};
+ghost use Rattle.dr_restart.specs.{Groups.group_of, Setups.{IsSetupOf, crashes_of, suspicions_of}};
 
 use crate::copies::{copy_entries, copy_messages};
 use crate::start::Start;

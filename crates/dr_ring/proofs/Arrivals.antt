@@ -1,22 +1,17 @@
 -- What is read from a slot of which some words have come.
+use Rattle.std.{specs.List.{list_all, range_with_len}, proofs.lemmas.Bool.Decides.nat_tests}
 use Rattle.std.proofs.Common.{◌≡◌, ℕ, suc, ◌+◌, ◌^◌, ◌<◌, ◌≤◌, Bool, true, false, cond, length, get_or, map, Option, Some, None, refl, sym, ap, ◌∙◌, arith}
-use Rattle.std.specs.List.{list_all, range_with_len}
-use Rattle.std.proofs.lemmas.Bool.Decides.{nat_tests}
-use Rattle.dr_entry.specs.declared.entry.Item.{Item}
-use Rattle.dr_entry.proofs.ListFacts.{first_words, same_tests}
+use Rattle.dr_entry.{specs.declared.entry.Item.Item, proofs.ListFacts.{first_words, same_tests}}
 use Rattle.dr_entry.proofs.NumberFacts.{tests_all}
-use Rattle.dr_words.specs.Packing.{ring_word, ring_tag, ring_low}
-use Rattle.dr_words.proofs.Packed.{low_word, same_pieces}
-use Rattle.dr_ring.specs.Pieces.{head_piece, body_pieces, pieces, item_of}
-use Rattle.dr_ring.specs.Slots.{is_of, item_in}
+use Rattle.dr_words.{specs.Packing.{ring_word, ring_tag, ring_low}, proofs.Packed.{low_word, same_pieces}}
+use Rattle.dr_ring.specs.{Pieces.{head_piece, body_pieces, pieces, item_of}, Slots.{is_of, item_in}}
 use Rattle.dr_ring.proofs.Items.{IsItem, item_of-pieces, body_len-pieces, head_is_head, head_fits, piece_fits}
 
 -- the words that have come hold the pieces of item k, and the others are of earlier items
 pub record HasCome (k : ℕ) (item : Item) (slot : ℕ → ℕ) (come : ℕ → Bool) : Type 0 where
   pub here : (part : ℕ) → part < length (pieces item) → come part ≡ true
       → slot part ≡ ring_word k (get_or (pieces item) part 0)
-  pub earlier : (part : ℕ) → part < length (pieces item) → come part ≡ false
-      → ring_tag (slot part) ≤ k
+  pub earlier : (part : ℕ) → part < length (pieces item) → come part ≡ false → ring_tag (slot part) ≤ k
 
 of_word : (k word low : ℕ) → low < 2 ^ 32 → word ≡ ring_word k low → is_of k word ≡ true
 of_word k word low fits e = let tag : ring_tag word ≡ k + 1 = omega (arith, e) in grind (arith, nat_tests)
@@ -28,16 +23,14 @@ abbrev some : Item → Option Item
 some x = Some x
 
 -- the item is read exactly where all words that it needs have come
-pub item_in-come : (k : ℕ) (item : Item) (slot : ℕ → ℕ) (come : ℕ → Bool) → IsItem item
-    → HasCome k item slot come
+pub item_in-come : (k : ℕ) (item : Item) (slot : ℕ → ℕ) (come : ℕ → Bool) → IsItem item → HasCome k item slot come
     → item_in k slot ≡ cond (list_all come (range_with_len 0 (length (pieces item)))) (Some item) None
 item_in-come k item slot come is words = by (come 0) refl
   where
     all : Bool
     all = list_all come (range_with_len 1 (length (body_pieces item)))
 
-    agrees : (i : ℕ) → i < length (pieces item) → (b : Bool) → come i ≡ b
-        → is_of k (slot i) ≡ come i
+    agrees : (i : ℕ) → i < length (pieces item) → (b : Bool) → come i ≡ b → is_of k (slot i) ≡ come i
     agrees i lt true e = of_word k (slot i) (get_or (pieces item) i 0) (piece_fits item i is)
         (words.here i lt e) ∙ sym e
     agrees i lt false e = not_of k (slot i) (words.earlier i lt e) ∙ sym e
@@ -57,8 +50,7 @@ item_in-come k item slot come is words = by (come 0) refl
         let come_i = tests_all come (length (body_pieces item)) 1 e (1 + i) (omega arith) (omega arith) in
         let there : 1 + i ≡ suc i = omega arith in
         low_word k (slot (1 + i)) (get_or (body_pieces item) i 0) (piece_fits item (suc i) is)
-        (words.here (1 + i) (omega arith) come_i
-        ∙ ap (λ (j : ℕ). ring_word k (get_or (pieces item) j 0)) there)) in
+        (words.here (1 + i) (omega arith) come_i ∙ ap (λ (j : ℕ). ring_word k (get_or (pieces item) j 0)) there)) in
         rw (e, body) (ap (λ (x : Item). some x) (item_of-pieces item is))
 
     by : (head : Bool) → come 0 ≡ head

@@ -1,13 +1,9 @@
 -- The heads of a ring's next items: their columns, their mask, and whether they are all of nulls.
+use Rattle.std.{specs.Int.Bits.and_self, proofs.lemmas.{Bool.cases_lt, Nat.{and_le_l, and_le_r, mod_below}}}
 use Rattle.std.proofs.Common.{◌≡◌, ◌↔◌, ℕ, ◌+◌, ◌-◌, ◌%◌, ◌^◌, ◌<◌, ◌≤◌, ◌⊎◌, inl, inr, bit_and, sym, ap, ap₂, ◌∙◌, below_more, arith}
 use native.Mathlib.Nat.{mod-add-mod, mod-eq_of_lt, mod_self}
-use Rattle.std.specs.Int.Bits.{and_self}
-use Rattle.std.proofs.lemmas.Bool.{cases_lt}
-use Rattle.std.proofs.lemmas.Nat.{and_le_l, and_le_r, mod_below}
-use Rattle.dr_words.specs.declared.column.TheConstants.{PIECES}
-use Rattle.dr_words.specs.Columns.{head_column}
-use Rattle.dr_ring.specs.Pieces.{null_mark}
-use Rattle.dr_ring.specs.Slots.{slot_column}
+use Rattle.dr_words.specs.{Columns.head_column, declared.column.TheConstants.PIECES}
+use Rattle.dr_ring.specs.{Pieces.null_mark, Slots.slot_column}
 
 -- ---- columns
 
@@ -40,8 +36,7 @@ head_next members window k column some here other =
 -- ---- nulls
 
 -- the bits that two pieces share are all exactly where both are the mark of a null
-both_null : (a b : ℕ) → a < 2 ^ 32 → b < 2 ^ 32
-    → (bit_and a b ≡ null_mark) ↔ ((a ≡ null_mark) × (b ≡ null_mark))
+both_null : (a b : ℕ) → a < 2 ^ 32 → b < 2 ^ 32 → (bit_and a b ≡ null_mark) ↔ ((a ≡ null_mark) × (b ≡ null_mark))
 both_null a b a_fits b_fits = (
   λ e. (omega (arith, e, and_le_l a b, a_fits), omega (arith, e, and_le_r a b, b_fits)),
   λ both. ap₂ bit_and both.0 both.1 ∙ and_self null_mark,

@@ -1,17 +1,12 @@
 -- The test whether an item can be read.
+use Rattle.std.{specs.List.list_all, proofs.lemmas.Bool.Decides.nat_tests}
 use Rattle.std.proofs.Common.{◌≡◌, ℕ, ◌+◌, ◌≤◌, Bool, true, false, nat_le, ◌⊎◌, inl, inr, ◌↔◌, Some, IsSome, IsTrue, is_some, refl, sym, ap, subst, ◌∙◌, arith, ◌%◌, map}
-use Rattle.std.specs.List.{list_all}
-use Rattle.std.proofs.lemmas.Bool.Decides.{nat_tests}
-use Rattle.dr_entry.specs.declared.limits.TheConstants.{MAX_MESSAGE_LENGTH}
+use Rattle.dr_entry.{specs.declared.limits.TheConstants.MAX_MESSAGE_LENGTH, proofs.Items.some_three}
+use Rattle.dr_entry.proofs.{ListFacts.first_words, OptionFacts.{all_pass, each_passes, some_tested}}
 use native.Mathlib.Nat.{add-mod_left}
-use Rattle.dr_entry.proofs.ListFacts.{first_words}
-use Rattle.dr_entry.proofs.OptionFacts.{all_pass, each_passes, some_tested}
-use Rattle.dr_entry.proofs.Items.{some_three}
 use Rattle.dr_rows.specs.Words.{Words, seen}
-use Rattle.dr_words.specs.Columns.{head_column}
-use Rattle.dr_words.specs.Packing.{ring_tag, ring_low}
-use Rattle.dr_ring.specs.Pieces.{null_mark, is_head, body_len, item_of}
-use Rattle.dr_ring.specs.Slots.{IsReady, is_of, item_in, slot_of}
+use Rattle.dr_words.specs.{Columns.head_column, Packing.{ring_tag, ring_low}}
+use Rattle.dr_ring.specs.{Pieces.{null_mark, is_head, body_len, item_of}, Slots.{IsReady, is_of, item_in, slot_of}}
 
 pub tag_of : (k word : ℕ) → is_of k word ≡ true → ring_tag word ≡ k + 1
 tag_of k word e = grind (arith, nat_tests)
@@ -22,8 +17,7 @@ of_tag k word e = grind (arith, nat_tests)
 head_of : (low : ℕ) → is_head low ≡ true → (low ≤ MAX_MESSAGE_LENGTH) ⊎ (low ≡ null_mark)
 head_of low e = by (nat_le low MAX_MESSAGE_LENGTH) refl
   where
-    by : (b : Bool) → nat_le low MAX_MESSAGE_LENGTH ≡ b
-        → (low ≤ MAX_MESSAGE_LENGTH) ⊎ (low ≡ null_mark)
+    by : (b : Bool) → nat_le low MAX_MESSAGE_LENGTH ≡ b → (low ≤ MAX_MESSAGE_LENGTH) ⊎ (low ≡ null_mark)
     by true p = inl (grind (arith, nat_tests))
     by false p = inr (grind (arith, nat_tests))
 
@@ -32,15 +26,13 @@ of_head low (inl short) = grind (arith, nat_tests)
 of_head low (inr null) = grind (arith, nat_tests)
 
 -- an item that is there is what its pieces say
-pub item_there : (k : ℕ) (slot : ℕ → ℕ) → IsReady k slot
-    → let head = ring_low (slot 0) in
+pub item_there : (k : ℕ) (slot : ℕ → ℕ) → IsReady k slot → let head = ring_low (slot 0) in
     item_in k slot ≡ Some (item_of head (map ring_low (first_words slot (body_len head))))
 item_there k slot r =
     let a : is_of k (slot 0) ≡ true = of_tag k (slot 0) r.head in
     let b : is_head (ring_low (slot 0)) ≡ true = of_head (ring_low (slot 0)) r.length_or_null in
-    let c : list_all (is_of k) (first_words slot (body_len (ring_low (slot 0))))
-    ≡ true = all_pass (is_of k) slot (body_len (ring_low (slot 0)))
-    (λ part lt. of_tag k (slot (1 + part)) (r.body part lt)) in
+    let c : list_all (is_of k) (first_words slot (body_len (ring_low (slot 0)))) ≡ true = all_pass (is_of k) slot
+    (body_len (ring_low (slot 0))) (λ part lt. of_tag k (slot (1 + part)) (r.body part lt)) in
     rw (a, b, c) refl
 
 -- the item is there exactly where the words that it needs are
@@ -60,8 +52,7 @@ ready_test k slot = (
 -- the same, as a test
 pub ready_value : (k : ℕ) (slot : ℕ → ℕ) (ready : Bool) → ready ≡ is_some (item_in k slot)
     → IsTrue ready ↔ IsReady k slot
-ready_value k slot ready same =
-    subst (λ (b : Bool). IsTrue b ↔ IsReady k slot) (sym same)
+ready_value k slot ready same = subst (λ (b : Bool). IsTrue b ↔ IsReady k slot) (sym same)
     (some_tested (item_in k slot) (IsReady k slot) (ready_test k slot))
 
 -- an item whose slot holds the one a window before it is not there yet

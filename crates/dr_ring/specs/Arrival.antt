@@ -1,12 +1,10 @@
 -- How the words of an item come to another member.
-use Rattle.std.specs.Prelude.{◌≡◌, ℕ, ◌+◌, ◌<◌, ◌≤◌, Bool, ◌==◌, List, [], ◌∷◌, length, Some, None, if◌then◌else◌}
 use Rattle.std.specs.List.{list_any, list_all, range_with_len}
+use Rattle.std.specs.Prelude.{◌≡◌, ℕ, ◌+◌, ◌<◌, ◌≤◌, Bool, ◌==◌, List, [], ◌∷◌, length, Some, None, if◌then◌else◌}
 use Rattle.dr_entry.specs.declared.entry.Item.{Item}
-use Rattle.dr_words.specs.declared.column.TheConstants.{PIECES}
-use Rattle.dr_words.specs.Packing.{ring_tag}
+use Rattle.dr_words.specs.{Packing.ring_tag, declared.column.TheConstants.PIECES}
 use Rattle.dr_rows.specs.Words.{Words, IsWords, looked, own}
-use Rattle.dr_ring.specs.Pieces.{pieces}
-use Rattle.dr_ring.specs.Slots.{slot_column, slot_of, item_in}
+use Rattle.dr_ring.specs.{Pieces.pieces, Slots.{slot_column, slot_of, item_in}}
 
 -- another member of the owner's group, that sees nothing of item k yet: words of earlier items, or none,
 -- stand in its slot

@@ -1,10 +1,8 @@
 -- The pieces of an item, of 32 bits each: that of its head, and those of its body.
+use Rattle.std.specs.{Int.{w32, div_ceil, from_be_bytes, to_be_bytes}, List.{flat_map, range_with_len}}
 use Rattle.std.specs.Prelude.{ℕ, ◌-◌, ◌*◌, ◌^◌, Bool, ◌||◌, ◌==◌, nat_le, if◌then◌else◌, List, [], ◌∷◌, length, take, drop, map}
-use Rattle.std.specs.List.{flat_map, range_with_len}
-use Rattle.std.specs.Int.{w32, div_ceil, from_be_bytes, to_be_bytes}
+use Rattle.dr_entry.specs.declared.entry.Item.{Item, TheVariants.{Null, Text}}
 use Rattle.dr_entry.specs.declared.limits.TheConstants.{MAX_MESSAGE_LENGTH}
-use Rattle.dr_entry.specs.declared.entry.Item.{Item}
-use Rattle.dr_entry.specs.declared.entry.Item.TheVariants.{Null, Text}
 
 -- the head of a null; the head of a message is its length
 abbrev pub null_mark : ℕ

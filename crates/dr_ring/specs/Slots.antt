@@ -1,12 +1,9 @@
 -- The slots of a ring: when they can be written and read, and what then.
-use Rattle.std.specs.Prelude.{◌≡◌, ◌≢◌, ℕ, ◌+◌, ◌-◌, ◌%◌, ◌<◌, ◌≤◌, ◌⊎◌, Bool, ◌&&◌, ◌||◌, ◌==◌, nat_lt, if◌then◌else◌, true, List, ◌++◌, length, take, drop, map, slice_set, Option, Some, None}
 use Rattle.std.specs.List.{list_all, range_with_len}
+use Rattle.std.specs.Prelude.{◌≡◌, ◌≢◌, ℕ, ◌+◌, ◌-◌, ◌%◌, ◌<◌, ◌≤◌, ◌⊎◌, Bool, ◌&&◌, ◌||◌, ◌==◌, nat_lt, if◌then◌else◌, true, List, ◌++◌, length, take, drop, map, slice_set, Option, Some, None}
 use Rattle.dr_history.specs.Members.{has, members_of}
-use Rattle.dr_entry.specs.declared.limits.TheConstants.{MAX_MESSAGE_LENGTH}
-use Rattle.dr_entry.specs.declared.entry.Item.{Item}
-use Rattle.dr_words.specs.Columns.{head_column}
-use Rattle.dr_words.specs.Counts.{count_of}
-use Rattle.dr_words.specs.Packing.{ring_word, ring_tag, ring_low}
+use Rattle.dr_entry.specs.declared.{entry.Item.Item, limits.TheConstants.MAX_MESSAGE_LENGTH}
+use Rattle.dr_words.specs.{Columns.head_column, Counts.count_of, Packing.{ring_word, ring_tag, ring_low}}
 use Rattle.dr_rows.specs.Words.{Words, row_of, seen}
 pub use Rattle.dr_words.specs.Shapes.{HasShape}
 use Rattle.dr_ring.specs.Pieces.{null_mark, is_head, body_len, pieces, item_of}

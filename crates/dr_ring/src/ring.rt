@@ -1,15 +1,10 @@
+ghost use Rattle.std.specs.{Int.{bit_at, div_ceil}, List.{list_all, range_with_len}};
 ghost use Rattle.std.specs.Prelude.{length, slice_index, ◌≡◌, ℕ, ◌+◌, ◌-◌, ◌*◌, ◌%◌, ◌^◌, ◌&&◌, ◌<◌, ◌≤◌, ◌↔◌, true, false, IsTrue, IsSome, Some, is_some, map, take};
-ghost use Rattle.std.specs.List.{list_all, range_with_len};
-ghost use Rattle.std.specs.Int.{bit_at, div_ceil};
-ghost use Rattle.dr_words.specs.Columns.{columns_of};
-ghost use Rattle.dr_words.specs.Form.{AllInForm};
-ghost use Rattle.dr_words.specs.Grown.{Grown};
-ghost use Rattle.dr_words.specs.Masks.{IsInRoster};
+ghost use Rattle.dr_words.specs.{Columns.columns_of, Form.AllInForm, Grown.Grown, Masks.IsInRoster};
 ghost use Rattle.dr_words.specs.Packing.{ring_tag, ring_low};
 ghost use Rattle.dr_rows.specs.Words.{IsWords, seen};
-ghost use Rattle.dr_ring.specs.Pieces.{body_len, body_piece, bytes_of, is_head, null_mark};
+ghost use Rattle.dr_ring.specs.{Arrival.Arrives, Pieces.{body_len, body_piece, bytes_of, is_head, null_mark}};
 ghost use Rattle.dr_ring.specs.Slots.{HasShape, IsFree, is_free, IsReady, is_of, item_in, slot_column, slot_of, with_item};
-ghost use Rattle.dr_ring.specs.Arrival.{Arrives};
 
 use dr_entry::{Item, MAX_MESSAGE_LENGTH, Message};
 use dr_lane::match_mask;

@@ -1,15 +1,12 @@
 -- Rows taken whole, column by column, in the vectors of `Rows`.
+use Rattle.std.{specs.Vec.with_items, proofs.lemmas.List.with_items_is}
 use Rattle.std.proofs.Common.{◌≡◌, ◌≢◌, ℕ, zero, suc, ◌+◌, ◌*◌, ◌<◌, ◌≤◌, ◌==◌, Bool, not, false, true, List, length, set, slice_index, slice_set, refl, sym, ap, ap₂, subst, ◌∙◌, rules, arith, le_trans}
-use Rattle.dr_rows.specs.Along.{Pushes, looked_along, pushed_along, with_look, with_push}
-use Rattle.dr_rows.specs.Growth.{RowsGrew}
-use Rattle.std.specs.Vec.{with_items}
-use Rattle.std.proofs.lemmas.List.{with_items_is}
-use Rattle.dr_entry.proofs.NumberFacts.{fold_range_more}
+use Rattle.dr_rows.specs.{Along.{Pushes, looked_along, pushed_along, with_look, with_push}, Growth.RowsGrew}
 use Rattle.dr_rows.specs.Inside.{IsInsideRows, by_column, by_row, rows_at, rows_inside}
-use Rattle.dr_rows.specs.declared.rows.Rows.TheInside.{Inside}
 use Rattle.dr_rows.specs.Words.{Words, IsWords, changed, is_frozen, looked, own, pushed, row_of, seen, with_word}
-use Rattle.dr_rows.proofs.Grids.{with_word-column, with_word-row}
+use Rattle.dr_rows.{specs.declared.rows.Rows.TheInside.Inside, proofs.Grids.{with_word-column, with_word-row}}
 use Rattle.dr_rows.proofs.FlatRows.{IsLayout-by_column, IsLayout-by_row, rows_at-set, word_at-rows_at}
+use Rattle.dr_entry.proofs.NumberFacts.{fold_range_more}
 
 -- ---- what the vectors mean while one of them is lent
 
@@ -33,8 +30,7 @@ looked_more i table first w from m c e = fold_range_more (with_look i table firs
 -- a word that was put at its place is a look
 pub look_written : (w : Words) (flat : List ℕ) (i c p v : ℕ) → IsFlat w flat → i < w.members → c < w.columns
     → p ≡ c * w.members + i → by_columns w (set flat p v) ≡ looked (by_columns w flat) i c v
-look_written w flat i c p v long row column at =
-    ap (λ q. by_columns w (set flat q v)) at
+look_written w flat i c p v long row column at = ap (λ q. by_columns w (set flat q v)) at
     ∙ ap (λ rows. record w { words = rows })
     (rows_at-set (by_column w.members) w.members w.columns flat i c v
     (IsLayout-by_column w.members w.columns) long row column)
@@ -66,9 +62,8 @@ seen_behind i table first w from (suc m) j d past =
 pub row_beside : (i : ℕ) (table : List ℕ) (first : ℕ) (w : Words) (from m j : ℕ) → j ≢ i
     → row_of (looked_along i table first w from m).words j ≡ row_of w.words j
 row_beside i table first w from zero j other = refl
-row_beside i table first w from (suc m) j other =
-    row_beside i table first (with_look i table first w from) (from + 1) m j other
-    ∙ with_word-row w.words i from (slice_index table (first + from)) j other
+row_beside i table first w from (suc m) j other = row_beside i table first (with_look i table first w from)
+    (from + 1) m j other ∙ with_word-row w.words i from (slice_index table (first + from)) j other
 
 -- nothing else changes
 pub looked_stays : (i : ℕ) (table : List ℕ) (first : ℕ) (w : Words) (from m : ℕ)
@@ -109,33 +104,26 @@ pushed_more j first s from m c e = fold_range_more (with_push j first) s from m 
 -- a word that was put at its place is a push
 pub push_written : (w : Words) (flat : List ℕ) (j c p v : ℕ) → IsFlat w flat → j < w.members → c < w.columns
     → p ≡ j * w.columns + c → v ≡ own w c → by_rows w (set flat p v) ≡ pushed (by_rows w flat) j c
-push_written w flat j c p v long row column at is =
-    ap (λ q. by_rows w (set flat q v)) at
+push_written w flat j c p v long row column at is = ap (λ q. by_rows w (set flat q v)) at
     ∙ ap (λ rows. record w { sent = rows })
     (rows_at-set (by_row w.columns) w.members w.columns flat j c v
-    (IsLayout-by_row w.members w.columns) long row column)
-    ∙ ap (pushed_as w flat j c) is
+    (IsLayout-by_row w.members w.columns) long row column) ∙ ap (pushed_as w flat j c) is
   where
     pushed_as : Words → List ℕ → ℕ → ℕ → ℕ → Words
-    pushed_as w flat j c v = record w {
-      sent = with_word (rows_at (by_row w.columns) w.members w.columns flat) j c v;
-    }
+    pushed_as w flat j c v = record w { sent = with_word (rows_at (by_row w.columns) w.members w.columns flat) j c v }
 
 -- a word that differs from the one at its place has changed, and one that does not has not
 pub push_test : (w : Words) (flat : List ℕ) (j c p v x : ℕ) → j < w.members → c < w.columns
-    → p ≡ j * w.columns + c → v ≡ own w c → x ≡ slice_index flat p
-    → changed (by_rows w flat) j c ≡ not (v == x)
-push_test w flat j c p v x row column at is read =
-    ap₂ (λ (a b : ℕ). not (a == b)) (sym is)
+    → p ≡ j * w.columns + c → v ≡ own w c → x ≡ slice_index flat p → changed (by_rows w flat) j c ≡ not (v == x)
+push_test w flat j c p v x row column at is read = ap₂ (λ (a b : ℕ). not (a == b)) (sym is)
     (word_at-rows_at (by_row w.columns) w.members w.columns flat j c row column
     ∙ ap (slice_index flat) (sym at) ∙ sym read)
 
-pub push_is : (j first : ℕ) (s : Pushes) (c : ℕ) → changed s.words j c ≡ true
-    → with_push j first s c ≡ record {
-      words = pushed s.words j c;
-      table = slice_set s.table (first + c) (own s.words c);
-      count = s.count + 1;
-    }
+pub push_is : (j first : ℕ) (s : Pushes) (c : ℕ) → changed s.words j c ≡ true → with_push j first s c ≡ record {
+  words = pushed s.words j c;
+  table = slice_set s.table (first + c) (own s.words c);
+  count = s.count + 1;
+}
 push_is j first s c e = rw e refl
 
 pub push_is_none : (j first : ℕ) (s : Pushes) (c : ℕ) → changed s.words j c ≡ false → with_push j first s c ≡ s
@@ -153,11 +141,9 @@ push_stays j first s c = by (changed s.words j c) refl
     by true e = subst IsSo (sym (push_is j first s c e)) refl
     by false e = subst IsSo (sym (push_is_none j first s c e)) refl
 
-pub pushed_stays : (j first : ℕ) (s : Pushes) (from m : ℕ)
-    → (pushed_along j first s from m).words
+pub pushed_stays : (j first : ℕ) (s : Pushes) (from m : ℕ) → (pushed_along j first s from m).words
     ≡ record s.words { sent = (pushed_along j first s from m).words.sent }
 pushed_stays j first s from zero = refl
-pushed_stays j first s from (suc m) =
-    pushed_stays j first (with_push j first s from) (from + 1) m
+pushed_stays j first s from (suc m) = pushed_stays j first (with_push j first s from) (from + 1) m
     ∙ ap (λ (w : Words). record w { sent = (pushed_along j first s from (suc m)).words.sent })
     (push_stays j first s from)

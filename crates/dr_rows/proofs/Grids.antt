@@ -1,7 +1,6 @@
 -- Rows of words as a grid: what stands at each place, also after a write.
 use Rattle.std.proofs.Common.{◌≡◌, ◌≢◌, ℕ, ◌<◌, ◌⊎◌, inl, inr, List, [], length, get_or, set, replicate, sym, ap, ◌∙◌, arith, slice_index, ◌==◌, if◌then◌else◌}
-use Rattle.std.proofs.lemmas.Bool.{cases_eq, cases_lt}
-use Rattle.std.proofs.lemmas.Grind.{common_steps, same_number_lists}
+use Rattle.std.proofs.lemmas.{Bool.{cases_eq, cases_lt}, Grind.{common_steps, same_number_lists}}
 use Rattle.std.proofs.lemmas.List.{get_or-set_same, get_or-set_other, get_or_default, length-set, length-replicate, same_lists, set_past}
 use Rattle.std.proofs.lemmas.List.Elements.{All-set, All-replicate}
 use Rattle.dr_entry.proofs.NumberFacts.{same_number, other_number}
@@ -15,53 +14,46 @@ same_grids n k xs ys p q same = same_lists xs ys (p.height ∙ sym q.height) (λ
     let y = q.width i d (omega (arith, p.height, q.height)) in
     let left = get_or_default xs i d [] h in
     let right = get_or_default ys i d [] (omega (arith, p.height, q.height)) in
-    same_number_lists (get_or xs i d) (get_or ys i d) (x ∙ sym y)
-    (λ c g. ap (λ row. get_or row c 0) left ∙ same i c (omega (arith, p.height)) (omega (arith, x))
-    ∙ sym (ap (λ row. get_or row c 0) right)))
+    same_number_lists (get_or xs i d) (get_or ys i d) (x ∙ sym y) (λ c g. ap (λ row. get_or row c 0) left
+    ∙ same i c (omega (arith, p.height)) (omega (arith, x)) ∙ sym (ap (λ row. get_or row c 0) right)))
 
 -- the word that was written stands at its place
 pub with_word-same : (n k : ℕ) (rows : List (List ℕ)) (i c v : ℕ) → IsGrid n k rows → i < n
     → c < k → word_at (with_word rows i c v) i c ≡ v
 with_word-same n k rows i c v p h g =
-    ap (λ row. get_or row c 0) (get_or-set_same rows i (set (row_of rows i) c v) []
-    (omega (arith, p.height)))
+    ap (λ row. get_or row c 0) (get_or-set_same rows i (set (row_of rows i) c v) [] (omega (arith, p.height)))
     ∙ get_or-set_same (row_of rows i) c v 0 (omega (arith, p.width i [] (omega (arith, p.height))))
 
 -- a write to a row leaves the other rows
-pub with_word-row : (rows : List (List ℕ)) (i c v j : ℕ) → j ≢ i
-    → row_of (with_word rows i c v) j ≡ row_of rows j
+pub with_word-row : (rows : List (List ℕ)) (i c v j : ℕ) → j ≢ i → row_of (with_word rows i c v) j ≡ row_of rows j
 with_word-row rows i c v j other = get_or-set_other rows i j (set (row_of rows i) c v) [] other
 
 -- a write to a column leaves the words of the other columns
 pub with_word-column : (rows : List (List ℕ)) (i c v j d : ℕ) → d ≢ c
     → word_at (with_word rows i c v) j d ≡ word_at rows j d
-with_word-column rows i c v j d other =
-    elim (cases_eq j i) [
-      | inr apart ↦ ap (λ row. get_or row d 0) (with_word-row rows i c v j apart)
-      | inl same ↦ elim (cases_lt i (length rows)) [
-        | inl within ↦ grind (
-          arith,
-          common_steps,
-          get_or-set_same rows i (set (row_of rows i) c v) [] within,
-          get_or-set_other (row_of rows i) c d v 0 other,
-        )
-        | inr past ↦ ap (λ xs. word_at xs j d) (set_past rows i (set (row_of rows i) c v) past)
-      ]
-    ]
+with_word-column rows i c v j d other = elim (cases_eq j i) [
+  | inr apart ↦ ap (λ row. get_or row d 0) (with_word-row rows i c v j apart)
+  | inl same ↦ elim (cases_lt i (length rows)) [
+    | inl within ↦ grind (
+      arith,
+      common_steps,
+      get_or-set_same rows i (set (row_of rows i) c v) [] within,
+      get_or-set_other (row_of rows i) c d v 0 other,
+    )
+    | inr past ↦ ap (λ xs. word_at xs j d) (set_past rows i (set (row_of rows i) c v) past)
+  ]
+]
 
 -- a word is as before the write, or is the one that was written to its column
-pub with_word_either : (n k : ℕ) (rows : List (List ℕ)) (i c v j d : ℕ) → IsGrid n k rows → i < n
-    → c < k
-    → (word_at (with_word rows i c v) j d ≡ word_at rows j d)
-    ⊎ ((d ≡ c) × (word_at (with_word rows i c v) j d ≡ v))
-with_word_either n k rows i c v j d grid h g =
-    elim (cases_eq d c) [
-      | inr apart ↦ inl (with_word-column rows i c v j d apart)
-      | inl same ↦ elim (cases_eq j i) [
-        | inr apart ↦ inl (ap (λ row. get_or row d 0) (with_word-row rows i c v j apart))
-        | inl here ↦ let there = with_word-same n k rows i c v grid h g in inr (same, cc)
-      ]
-    ]
+pub with_word_either : (n k : ℕ) (rows : List (List ℕ)) (i c v j d : ℕ) → IsGrid n k rows → i < n → c < k
+    → (word_at (with_word rows i c v) j d ≡ word_at rows j d) ⊎ ((d ≡ c) × (word_at (with_word rows i c v) j d ≡ v))
+with_word_either n k rows i c v j d grid h g = elim (cases_eq d c) [
+  | inr apart ↦ inl (with_word-column rows i c v j d apart)
+  | inl same ↦ elim (cases_eq j i) [
+    | inr apart ↦ inl (ap (λ row. get_or row d 0) (with_word-row rows i c v j apart))
+    | inl here ↦ let there = with_word-same n k rows i c v grid h g in inr (same, cc)
+  ]
+]
 
 -- a write keeps the grid
 pub IsGrid-with_word : (n k : ℕ) (rows : List (List ℕ)) (i c v : ℕ) → IsGrid n k rows → i < n
@@ -80,18 +72,16 @@ IsGrid-zeros n k = record {
 }
 
 -- a word is as before the write, or is the one that was written to its column
-pub written_either : (n k : ℕ) (rows : List (List ℕ)) (i c v j d : ℕ) → IsGrid n k rows → i < n
-    → c < k
+pub written_either : (n k : ℕ) (rows : List (List ℕ)) (i c v j d : ℕ) → IsGrid n k rows → i < n → c < k
     → (word_at (with_word rows i c v) j d ≡ word_at rows j d)
     ⊎ ((j ≡ i) × (d ≡ c) × (word_at (with_word rows i c v) j d ≡ v))
-written_either n k rows i c v j d grid h g =
-    elim (cases_eq d c) [
-      | inr apart ↦ inl (with_word-column rows i c v j d apart)
-      | inl same ↦ elim (cases_eq j i) [
-        | inr apart ↦ inl (ap (λ row. get_or row d 0) (with_word-row rows i c v j apart))
-        | inl here ↦ let there = with_word-same n k rows i c v grid h g in inr (here, same, cc)
-      ]
-    ]
+written_either n k rows i c v j d grid h g = elim (cases_eq d c) [
+  | inr apart ↦ inl (with_word-column rows i c v j d apart)
+  | inl same ↦ elim (cases_eq j i) [
+    | inr apart ↦ inl (ap (λ row. get_or row d 0) (with_word-row rows i c v j apart))
+    | inl here ↦ let there = with_word-same n k rows i c v grid h g in inr (here, same, cc)
+  ]
+]
 
 -- setting an own word leaves the others
 pub own_left : (w : Words) (c v d : ℕ) → d ≢ c → own (with_own w c v) d ≡ own w d
@@ -109,9 +99,8 @@ seen_with w c v i d other = ap (λ row. slice_index row d) (with_word-row w.word
 -- the own words with one of them written
 pub own_with : (w : Words) (c v d : ℕ) → IsWords w → c < w.columns → own (with_own w c v) d
     ≡ (if d == c then v else own w d)
-own_with w c v d form within =
-    elim (cases_eq d c) [
-      | inl same ↦ rw (same, same_number c)
-          (with_word-same w.members w.columns w.words w.me c v form.rows form.present within)
-      | inr other ↦ rw (other_number d c other) (with_word-column w.words w.me c v w.me d other)
-    ]
+own_with w c v d form within = elim (cases_eq d c) [
+  | inl same ↦ rw (same, same_number c)
+      (with_word-same w.members w.columns w.words w.me c v form.rows form.present within)
+  | inr other ↦ rw (other_number d c other) (with_word-column w.words w.me c v w.me d other)
+]

@@ -1,10 +1,8 @@
 -- Own words of which each is made of the one before: what stands in them, and a loop that makes them one by
 -- one.
+use Rattle.std.{specs.List.range_with_len, proofs.lemmas.{Bool.{cases_eq, cases_lt}, List.Elements.All-set}}
 use Rattle.std.proofs.Common.{◌≡◌, ◌≢◌, ℕ, ◌+◌, ◌<◌, ◌≤◌, ◌⊎◌, inl, inr, true, false, List, [], length, map, get_or, set, refl, sym, ap, ◌∙◌, ◌||◌, ◌==◌, arith}
-use Rattle.std.specs.List.{range_with_len}
-use Rattle.std.proofs.lemmas.Bool.{cases_eq, cases_lt}
 use Rattle.std.proofs.lemmas.List.{length-set, get_or-set_same, get_or-set_other, get_or_past, set-get_or}
-use Rattle.std.proofs.lemmas.List.Elements.{All-set}
 use Rattle.std.proofs.lemmas.List.FromFn.{fill_by_all, get_or-map-range_with_len, length-map-range_with_len}
 use Rattle.dr_entry.proofs.ListFacts.{set_over}
 use Rattle.dr_rows.specs.Words.{Words, IsWords, is_frozen, own, rewritten, row_of, seen, with_frozen, with_own, word_at}
@@ -63,8 +61,7 @@ own_past w c f past =
 -- an own word, made anew
 pub own_rewritten : (w : Words) (make : ℕ → ℕ → ℕ) (c : ℕ) → IsWords w → c < w.columns
     → own (rewritten w make) c ≡ make c (own w c)
-own_rewritten w make c f low =
-    ap (λ row. get_or row c 0)
+own_rewritten w make c f low = ap (λ row. get_or row c 0)
     (get_or-set_same w.words w.me (made w make) [] (omega (arith, f.rows.height, f.present)))
     ∙ get_or-map-range_with_len (λ d. make d (own w d)) 0 w.columns c c 0 low (omega arith)
 
@@ -82,8 +79,7 @@ pub row_rewritten : (w : Words) (make : ℕ → ℕ → ℕ) (i : ℕ) → i ≢
     → row_of (rewritten w make).words i ≡ row_of w.words i
 row_rewritten w make i other = get_or-set_other w.words w.me i (made w make) [] other
 
-pub seen_rewritten : (w : Words) (make : ℕ → ℕ → ℕ) (i c : ℕ) → i ≢ w.me
-    → seen (rewritten w make) i c ≡ seen w i c
+pub seen_rewritten : (w : Words) (make : ℕ → ℕ → ℕ) (i c : ℕ) → i ≢ w.me → seen (rewritten w make) i c ≡ seen w i c
 seen_rewritten w make i c other = ap (λ row. get_or row c 0) (row_rewritten w make i other)
 
 -- a word is as before, or it is an own one made anew
@@ -93,11 +89,7 @@ pub rewritten_either : (w : Words) (make : ℕ → ℕ → ℕ) (i c : ℕ) → 
 rewritten_either w make i c f = elim (cases_eq i w.me) [
   | inr other ↦ inl (seen_rewritten w make i c other)
   | inl same ↦ elim (cases_lt c w.columns) [
-    | inl low ↦ inr (
-      same,
-      ap (λ (j : ℕ). word_at (rewritten w make).words j c) same
-          ∙ own_rewritten w make c f low,
-    )
+    | inl low ↦ inr (same, ap (λ (j : ℕ). word_at (rewritten w make).words j c) same ∙ own_rewritten w make c f low)
     | inr past ↦ inl (rw same (own_past (rewritten w make) c (IsWords-rewritten w make f) past
         ∙ sym (own_past w c f past)))
   ]
@@ -130,8 +122,7 @@ rewritten_none w make from f same = record {
 -- one column more
 pub rewritten_more : (old mid new : Words) (make : ℕ → ℕ → ℕ) (column : ℕ)
     → IsRewrittenTo old mid make column → column < old.columns
-    → new ≡ with_own mid column (make column (own mid column)) → IsWords new
-    → IsRewrittenTo old new make (column + 1)
+    → new ≡ with_own mid column (make column (own mid column)) → IsWords new → IsRewrittenTo old new make (column + 1)
 rewritten_more old mid new make column so low is form = record {
   form = form;
   rest = rest;
@@ -160,27 +151,21 @@ rewritten_more old mid new make column so low is form = record {
         (omega (arith, columns, low))
 
     left : (c : ℕ) → c ≢ column → own new c ≡ own mid c
-    left c other = ap (λ (w : Words). own w c) is
-        ∙ with_word-column mid.words mid.me column v mid.me c other
+    left c other = ap (λ (w : Words). own w c) is ∙ with_word-column mid.words mid.me column v mid.me c other
 
     there : row_of new.words old.me ≡ row
-    there = ap (λ (w : Words). row_of w.words old.me) is
-        ∙ ap (λ (m : ℕ). row_of (set mid.words mid.me row) m) (sym me)
-        ∙ get_or-set_same mid.words mid.me row [] (omega (arith, so.form.rows.height, so.form.present))
+    there = ap (λ (w : Words). row_of w.words old.me) is ∙ ap (λ (m : ℕ). row_of (set mid.words mid.me row) m)
+        (sym me) ∙ get_or-set_same mid.words mid.me row [] (omega (arith, so.form.rows.height, so.form.present))
 
     rest : new ≡ record old { words = set old.words old.me (row_of new.words old.me) }
-    rest = is
-        ∙ ap (λ (w : Words). record w { words = set mid.words mid.me row }) so.rest
-        ∙ ap (λ (rows : List (List ℕ)). record old { words = rows })
-        (ap (λ (m : ℕ). set mid.words m row) me
-        ∙ ap (λ (w : Words). set w.words old.me row) so.rest
-        ∙ set_over old.words old.me (row_of mid.words old.me) row
+    rest = is ∙ ap (λ (w : Words). record w { words = set mid.words mid.me row }) so.rest
+        ∙ ap (λ (rows : List (List ℕ)). record old { words = rows }) (ap (λ (m : ℕ). set mid.words m row) me
+        ∙ ap (λ (w : Words). set w.words old.me row) so.rest ∙ set_over old.words old.me (row_of mid.words old.me) row
         ∙ ap (λ (r : List ℕ). set old.words old.me r) (sym there))
 
 -- after the last column that is made anew all are
-pub rewritten_whole : (old new : Words) (make : ℕ → ℕ → ℕ) (column : ℕ)
-    → IsRewrittenTo old new make column → ((c : ℕ) → column ≤ c → make c (own old c) ≡ own old c)
-    → new ≡ rewritten old make
+pub rewritten_whole : (old new : Words) (make : ℕ → ℕ → ℕ) (column : ℕ) → IsRewrittenTo old new make column
+    → ((c : ℕ) → column ≤ c → make c (own old c) ≡ own old c) → new ≡ rewritten old make
 rewritten_whole old new make column so same =
     so.rest ∙ ap (λ (row : List ℕ). record old { words = set old.words old.me row }) row
   where

@@ -1,13 +1,11 @@
 -- What the writes to the vectors of `Rows` are to its callers.
+use Rattle.std.specs.Vec.{with_item}
 use Rattle.std.proofs.Common.{◌≡◌, ◌≢◌, ℕ, ◌+◌, ◌*◌, ◌<◌, ◌≤◌, false, List, [], get_or, length, set, replicate, slice_index_or, sym, ap, subst, ◌∙◌, arith}
 use Rattle.std.proofs.lemmas.List.{get_or_default, get_or-replicate, get_or-set_same, length-set, length-replicate}
-use Rattle.std.specs.Vec.{with_item}
+use Rattle.dr_rows.specs.{Growth.IsFresh, declared.rows.Rows.TheInside.Inside}
+use Rattle.dr_rows.{specs.Inside.{IsInsideRows, by_column, by_row, rows_at, rows_inside}, proofs.Grids.with_word-row}
 use Rattle.dr_rows.specs.Words.{Words, IsWords, begun, last_pushed, looked, own, pushed, row_of, seen, with_word, word_at}
-use Rattle.dr_rows.specs.Growth.{IsFresh}
-use Rattle.dr_rows.specs.Inside.{IsInsideRows, by_column, by_row, rows_at, rows_inside}
-use Rattle.dr_rows.specs.declared.rows.Rows.TheInside.{Inside}
 use Rattle.dr_rows.proofs.FlatRows.{IsLayout, IsLayout-by_column, IsLayout-by_row, rows_at-set, rows_at-zeros, word_at-rows_at}
-use Rattle.dr_rows.proofs.Grids.{with_word-row}
 use Rattle.dr_rows.proofs.WordsLemmas.{IsFresh-begun, IsWords-begun, IsWords-looked, IsWords-pushed}
 
 -- the own row is one of the rows
@@ -16,18 +14,16 @@ present a now same inside = subst (λ (w : Words). w.me < w.members) same inside
 
 -- the word that was read at a place is that of its row and its column
 word_read : (place : ℕ → ℕ → ℕ) (members columns : ℕ) (flat : List ℕ) (i c p x : ℕ)
-    → IsLayout place members columns → length flat ≡ members * columns
-    → i < members → c < columns → p ≡ place i c → x ≡ slice_index_or flat p x
-    → x ≡ word_at (rows_at place members columns flat) i c
+    → IsLayout place members columns → length flat ≡ members * columns → i < members
+    → c < columns → p ≡ place i c → x ≡ slice_index_or flat p x → x ≡ word_at (rows_at place members columns flat) i c
 word_read place members columns flat i c p x layout long h g at read =
     let near = layout.within i c h g in
     read ∙ get_or_default flat p x 0 (omega (arith, long)) ∙ ap (λ q. slice_index_or flat q 0) at
     ∙ sym (word_at-rows_at place members columns flat i c h g)
 
 -- so it is the seen one
-pub seen_read : (a : Inside) (now : Words) (i c p x : ℕ) → rows_inside a ≡ now → IsInsideRows a
-    → i < now.members → c < now.columns
-    → p ≡ c * now.members + i → x ≡ slice_index_or a.words.items p x → x ≡ seen now i c
+pub seen_read : (a : Inside) (now : Words) (i c p x : ℕ) → rows_inside a ≡ now → IsInsideRows a → i < now.members
+    → c < now.columns → p ≡ c * now.members + i → x ≡ slice_index_or a.words.items p x → x ≡ seen now i c
 seen_read a now i c p x same inside = subst (λ (w : Words). i < w.members → c < w.columns
     → p ≡ c * w.members + i → x ≡ slice_index_or a.words.items p x → x ≡ seen w i c) same
     (word_read (by_column a.members) a.members a.columns a.words.items i c p x
@@ -45,12 +41,10 @@ last_pushed_read a now i c p x same inside = subst (λ (w : Words). i < w.member
 -- the own words are the own row
 pub own_row : (a : Inside) (now : Words) (flat : List ℕ) → rows_inside a ≡ now → IsInsideRows a
     → flat ≡ a.own.items → flat ≡ row_of now.words now.me
-own_row a now flat same inside is =
-    is ∙ inside.own ∙ ap (λ (w : Words). row_of w.words w.me) same
+own_row a now flat same inside is = is ∙ inside.own ∙ ap (λ (w : Words). row_of w.words w.me) same
 
 -- of which there is one for each column
-pub own_long : (a : Inside) (now : Words) → rows_inside a ≡ now → IsInsideRows a
-    → length a.own.items ≡ now.columns
+pub own_long : (a : Inside) (now : Words) → rows_inside a ≡ now → IsInsideRows a → length a.own.items ≡ now.columns
 own_long a now same inside =
     let form = inside.form in
     ap length inside.own ∙ form.rows.width a.me [] (omega (arith, form.rows.height, form.present))
@@ -66,12 +60,10 @@ own_read a now c x same inside low read =
 -- a word that was written at its place is a look
 pub looked_written : (a : Inside) (now : Words) (i c p v : ℕ) → rows_inside a ≡ now → IsInsideRows a
     → i < now.members → c < now.columns
-    → p ≡ c * now.members + i → rows_inside (record a { words = with_item a.words p v })
-    ≡ looked now i c v
+    → p ≡ c * now.members + i → rows_inside (record a { words = with_item a.words p v }) ≡ looked now i c v
 looked_written a now i c p v same inside = subst (λ (w : Words). i < w.members → c < w.columns
     → p ≡ c * w.members + i → rows_inside (record a { words = with_item a.words p v }) ≡ looked w i c v)
-    same (λ h g at.
-    ap (λ q. rows_inside (record a { words = with_item a.words q v })) at
+    same (λ h g at. ap (λ q. rows_inside (record a { words = with_item a.words q v })) at
     ∙ ap (λ rows. record (rows_inside a) { words = rows })
     (rows_at-set (by_column a.members) a.members a.columns a.words.items i c v
     (IsLayout-by_column a.members a.columns) inside.words h g))
@@ -84,9 +76,8 @@ IsInside-looked a now i c p v same inside h g other at =
     let written = looked_written a now i c p v same inside h g at in
     record {
       form = subst IsWords (sym written) (IsWords-looked now i c v (subst IsWords same inside.form) h);
-      own = own_row a now a.own.items same inside (λ j. a.own.items)
-          ∙ sym (with_word-row now.words i c v now.me (λ e. other (sym e)))
-          ∙ ap (λ (w : Words). row_of w.words w.me) (sym written);
+      own = own_row a now a.own.items same inside (λ j. a.own.items) ∙ sym (with_word-row now.words i c v now.me
+          (λ e. other (sym e))) ∙ ap (λ (w : Words). row_of w.words w.me) (sym written);
       words = length-set a.words.items p v ∙ inside.words;
       sent = inside.sent;
     }
@@ -108,16 +99,14 @@ IsInside-own a now c p v same inside g at =
       form = subst IsWords (sym written) (IsWords-looked now now.me c v form here);
       own = ap (λ (row : List ℕ). set row c v) (own_row a now a.own.items same inside (λ j. a.own.items))
           ∙ sym (get_or-set_same now.words now.me (set (row_of now.words now.me) c v) []
-          (omega (arith, form.rows.height, here)))
-          ∙ ap (λ (w : Words). row_of w.words w.me) (sym written);
+          (omega (arith, form.rows.height, here))) ∙ ap (λ (w : Words). row_of w.words w.me) (sym written);
       words = length-set a.words.items p v ∙ inside.words;
       sent = inside.sent;
     }
 
 -- the own word that was written at its place is a push
 pub pushed_written : (a : Inside) (now : Words) (j c p v : ℕ) → rows_inside a ≡ now → IsInsideRows a
-    → j < now.members → c < now.columns
-    → p ≡ j * now.columns + c → v ≡ own now c
+    → j < now.members → c < now.columns → p ≡ j * now.columns + c → v ≡ own now c
     → rows_inside (record a { sent = with_item a.sent p v }) ≡ pushed now j c
 pushed_written a now j c p v same inside = subst (λ (w : Words). j < w.members → c < w.columns
     → p ≡ j * w.columns + c → v ≡ own w c
@@ -155,15 +144,12 @@ begun_blank a blank =
     ∙ rows_at-zeros (by_column a.members) a.members a.columns (IsLayout-by_column a.members a.columns) in
     let sent = ap (rows_at (by_row a.columns) a.members a.columns) blank.sent
     ∙ rows_at-zeros (by_row a.columns) a.members a.columns (IsLayout-by_row a.members a.columns) in
-    let frozen = blank.frozen in
-    cc
+    let frozen = blank.frozen in cc
 
 -- blank vectors have their form, where members and columns are within their limits
-pub IsInside-begun : (a : Inside) → IsBlank a → a.members ≤ 16 → a.columns ≤ 1024
-    → a.me < a.members → IsInsideRows a
+pub IsInside-begun : (a : Inside) → IsBlank a → a.members ≤ 16 → a.columns ≤ 1024 → a.me < a.members → IsInsideRows a
 IsInside-begun a blank few narrow present = record {
-  form = subst IsWords (sym (begun_blank a blank))
-      (IsWords-begun a.members a.columns a.me few narrow present);
+  form = subst IsWords (sym (begun_blank a blank)) (IsWords-begun a.members a.columns a.me few narrow present);
   own = blank.own ∙ sym (get_or-replicate a.members a.me (replicate a.columns 0) [] present)
       ∙ ap (λ (w : Words). row_of w.words w.me) (sym (begun_blank a blank));
   words = ap length blank.words ∙ length-replicate (a.members * a.columns) 0;

@@ -1,11 +1,9 @@
 -- Each change of the words keeps their form, and they grow.
 use Rattle.std.proofs.Common.{◌≡◌, ℕ, ◌<◌, ◌≤◌, [], false, get_or, replicate, inl, inr, ap, ◌∙◌, arith}
-use Rattle.std.proofs.lemmas.Bool.{cases_lt}
-use Rattle.std.proofs.lemmas.Bool.Decides.{nat_tests}
+use Rattle.std.proofs.lemmas.Bool.{cases_lt, Decides.nat_tests}
 use Rattle.std.proofs.lemmas.List.{get_or-replicate, get_or_past, length-replicate}
 use Rattle.dr_entry.proofs.ListFacts.{copy_at}
-use Rattle.dr_rows.specs.Words.{Words, IsWords, begun, looked, pushed, own, word_at, zeros}
-use Rattle.dr_rows.specs.Growth.{IsFresh}
+use Rattle.dr_rows.specs.{Growth.IsFresh, Words.{Words, IsWords, begun, looked, pushed, own, word_at, zeros}}
 use Rattle.dr_rows.proofs.Grids.{IsGrid-with_word, IsGrid-zeros}
 
 -- the words of the beginning have their form
@@ -46,13 +44,11 @@ IsWords-pushed w j c form within = record {
 
 -- all words of rows of zeros are 0
 word_at-zeros : (n k i c : ℕ) → word_at (zeros n k) i c ≡ 0
-word_at-zeros n k i c =
-    elim (cases_lt i n) [
-      | inl within ↦ ap (λ row. get_or row c 0) (get_or-replicate n i (replicate k 0) [] within)
-          ∙ copy_at k 0 c
-      | inr past ↦ ap (λ row. get_or row c 0)
-          (get_or_past (zeros n k) i [] (omega (arith, length-replicate n (replicate {A = ℕ} k 0))))
-    ]
+word_at-zeros n k i c = elim (cases_lt i n) [
+  | inl within ↦ ap (λ row. get_or row c 0) (get_or-replicate n i (replicate k 0) [] within) ∙ copy_at k 0 c
+  | inr past ↦ ap (λ row. get_or row c 0)
+      (get_or_past (zeros n k) i [] (omega (arith, length-replicate n (replicate {A = ℕ} k 0))))
+]
 
 -- the words of the beginning are fresh
 pub IsFresh-begun : (n k me : ℕ) → IsFresh (begun n k me)

@@ -1,6 +1,5 @@
 -- Rows that are taken whole: the looks, or the pushes, of one row, one column after the other.
-use Rattle.std.specs.Prelude.{ℕ, ◌+◌, if◌then◌else◌, List, fold, slice_index, slice_set}
-use Rattle.std.specs.List.{range_with_len}
+use Rattle.std.specs.{List.range_with_len, Prelude.{ℕ, ◌+◌, if◌then◌else◌, List, fold, slice_index, slice_set}}
 use Rattle.dr_rows.specs.Words.{Words, changed, looked, own, pushed}
 
 -- the words after a look at a column of row i, whose word stands in a table so far behind this index

@@ -1,8 +1,6 @@
 -- How the vectors of `Rows` hold the words.
-use Rattle.std.specs.Prelude.{◌≡◌, ℕ, ◌+◌, ◌*◌, List, length, map, slice_index}
-use Rattle.std.specs.List.{range_with_len}
-use Rattle.dr_rows.specs.Words.{Words, IsWords, row_of}
-use Rattle.dr_rows.specs.declared.rows.Rows.TheInside.{Inside}
+use Rattle.std.specs.{List.range_with_len, Prelude.{◌≡◌, ℕ, ◌+◌, ◌*◌, List, length, map, slice_index}}
+use Rattle.dr_rows.specs.{Words.{Words, IsWords, row_of}, declared.rows.Rows.TheInside.Inside}
 
 -- the rows whose words stand in a vector, each where its row and its column say
 unfoldable pub rows_at : (ℕ → ℕ → ℕ) → ℕ → ℕ → List ℕ → List (List ℕ)

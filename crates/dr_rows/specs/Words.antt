@@ -1,6 +1,6 @@
 -- What `Rows` is to its callers: the words that one member has, and sees of the others.
-use Rattle.std.specs.Prelude.{◌≡◌, ℕ, ◌<◌, ◌≤◌, ◌==◌, Bool, true, false, not, List, [], All, length, map, replicate, slice_index, slice_index_or, slice_set}
 use Rattle.std.specs.List.{range_with_len}
+use Rattle.std.specs.Prelude.{◌≡◌, ℕ, ◌<◌, ◌≤◌, ◌==◌, Bool, true, false, not, List, [], All, length, map, replicate, slice_index, slice_index_or, slice_set}
 use Rattle.dr_entry.specs.declared.limits.TheConstants.{MAX_MEMBERS}
 
 -- the numbers of members and of columns, the own member, and by member the row of words (the own row has

@@ -1,33 +1,20 @@
 -- The ranges of a script that keeps all rules.
-use Rattle.std.proofs.Common.{◌≡◌, ◌≢◌, ◌⊎◌, inl, inr, ℕ, ◌+◌, ◌<◌, ◌≤◌, Bool, true, false, not, List, [], ◌∷◌, length, Option, Some, None, refl, sym, ◌∙◌, subst, arith}
-use Rattle.std.specs.Prelude.{◌==◌, ◌&&◌, ◌||◌, if◌then◌else◌, codes, nat_le, nat_lt, is_some, unwrap_or}
 use Rattle.std.specs.List.{All, filter_map}
-use Rattle.std.proofs.lemmas.Bool.{leb-true, ltb-true, eqb-true}
-use Rattle.std.proofs.lemmas.List.{length-map}
-use Rattle.std.proofs.lemmas.List.Elements.{All-cons}
-use Rattle.dr_script.specs.declared.place.Place.{Place}
-use Rattle.dr_script.specs.declared.place.Place.TheVariants as places
-use Rattle.serde_json.specs.Data.{Data}
-use Rattle.serde_json.specs.Find.{get, as_str}
-use Rattle.dr_entry.proofs.BoolFacts.{both, either}
-use Rattle.dr_entry.proofs.OptionFacts.{then_some, there}
-use Rattle.dr_entry.proofs.NumberFacts.{not_same}
-use Rattle.dr_entry.proofs.ListParts.{nothing, all_filter_map}
-use Rattle.dr_entry.proofs.ListFacts.{length_filter_map}
-use Rattle.dr_script.specs.declared.script.Script.{Script}
-use Rattle.dr_script.specs.declared.script.Fault.{Fault}
-use Rattle.dr_script.specs.declared.script.What.{What}
-use Rattle.dr_script.specs.declared.script.What.TheVariants.{Crash, Suspect}
-use Rattle.dr_script.specs.declared.sizes.Sizes.{Sizes}
+use Rattle.std.specs.Prelude.{◌==◌, ◌&&◌, ◌||◌, if◌then◌else◌, codes, nat_le, nat_lt, is_some, unwrap_or}
+use Rattle.std.proofs.Common.{◌≡◌, ◌≢◌, ◌⊎◌, inl, inr, ℕ, ◌+◌, ◌<◌, ◌≤◌, Bool, true, false, not, List, [], ◌∷◌, length, Option, Some, None, refl, sym, ◌∙◌, subst, arith}
+use Rattle.std.proofs.lemmas.{Bool.{leb-true, ltb-true, eqb-true}, List.{length-map, Elements.All-cons}}
 use Rattle.dr_script.specs.Json.{◌>>=◌, only_if, list_at, elements_of, within, below, whole_of, number_at, number_below, pair_at}
-use Rattle.dr_script.specs.Places.{unless, each_from, broken_at}
+use Rattle.dr_script.specs.{Places.{unless, each_from, broken_at}, Ranges.{HasRanges, HasFaultRanges, HasWhatRanges}}
+use Rattle.dr_script.{specs.Reading.{messages_in, script_of}, proofs.EachLemmas.{broken_at_append, neither}}
 use Rattle.dr_script.specs.Rules.{object_breaks, keys_breaks, members_of, members_breaks, window_of, window_breaks, turns_of, turns_breaks, patience_of, patience_breaks, ages_of, ages_breaks, sizes_of, are_lists, lists_of, messages_breaks, lists_in, is_short, texts_breaks, text_of, few_faults_of, faults_in, age_of, member_of, crash_of, suspect_of, what_of, fault_of, rules, first_broken}
-use Rattle.dr_script.specs.Reading.{messages_in, script_of}
-use Rattle.dr_script.specs.Ranges.{HasRanges, HasFaultRanges, HasWhatRanges}
-use Rattle.dr_script.proofs.EachLemmas.{broken_at_append, neither}
+use Rattle.dr_script.specs.declared.{passage.Passage.Passage, script.{Fault.Fault, What.TheVariants.{Crash, Suspect}}}
+use Rattle.dr_script.specs.declared.{script.{Script.Script, What.What}, sizes.Sizes.Sizes}
+use Rattle.dr_script.specs.declared.passage.Passage.TheVariants as places
+use Rattle.serde_json.specs.{Data.Data, Find.{get, as_str}}
+use Rattle.dr_entry.proofs.{BoolFacts.{both, either}, ListFacts.length_filter_map}
+use Rattle.dr_entry.proofs.{ListParts.{nothing, all_filter_map}, NumberFacts.not_same, OptionFacts.{then_some, there}}
 
-kept : (rule : ℕ) (test : Bool) (place : Place) → broken_at rule (unless test place) ≡ None → test
-    ≡ true
+kept : (rule : ℕ) (test : Bool) (place : Passage) → broken_at rule (unless test place) ≡ None → test ≡ true
 kept rule true place is = refl
 kept rule false place is = absurd cc
 
@@ -38,25 +25,20 @@ only_if_some P true x y holds is = let same : x ≡ y = cc in subst P same (hold
 only_if_some P false x y holds is = absurd cc
 
 within_some : (low high n m : ℕ) → within low high n ≡ Some m → (low ≤ m) × (m ≤ high)
-within_some low high n m is =
-    only_if_some (λ k. (low ≤ k) × (k ≤ high)) (nat_le low n && nat_le n high) n m
+within_some low high n m is = only_if_some (λ k. (low ≤ k) × (k ≤ high)) (nat_le low n && nat_le n high) n m
     (λ passed. let parts = both (nat_le low n) (nat_le n high) passed in
     (leb-true low n parts.0, leb-true n high parts.1)) is
 
 below_some : (limit n m : ℕ) → below limit n ≡ Some m → m < limit
-below_some limit n m is = only_if_some (λ k. k < limit) (nat_lt n limit) n m
-    (λ passed. ltb-true n limit passed) is
+below_some limit n m is = only_if_some (λ k. k < limit) (nat_lt n limit) n m (λ passed. ltb-true n limit passed) is
 
 number_at_some : (key : List ℕ) (low high : ℕ) (d : Data) (m : ℕ) → number_at key low high d
     ≡ Some m → (low ≤ m) × (m ≤ high)
-number_at_some key low high d m is =
-    then_some (λ k. (low ≤ k) × (k ≤ high)) (within low high) (get key d >>= whole_of) m
-    (λ n _ here. within_some low high n m here) is
+number_at_some key low high d m is = then_some (λ k. (low ≤ k) × (k ≤ high))
+    (within low high) (get key d >>= whole_of) m (λ n _ here. within_some low high n m here) is
 
-number_below_some : (key : List ℕ) (limit : ℕ) (d : Data) (m : ℕ) → number_below key limit d
-    ≡ Some m → m < limit
-number_below_some key limit d m is =
-    then_some (λ k. k < limit) (below limit) (get key d >>= whole_of) m
+number_below_some : (key : List ℕ) (limit : ℕ) (d : Data) (m : ℕ) → number_below key limit d ≡ Some m → m < limit
+number_below_some key limit d m is = then_some (λ k. k < limit) (below limit) (get key d >>= whole_of) m
     (λ n _ here. below_some limit n m here) is
 
 abbrev HasPatience : ℕ → Type 0
@@ -70,10 +52,8 @@ patience_some d m is = then_some HasPatience (λ n. only_if (n == 0 || nat_le 3 
     elim (either (n == 0) (nat_le 3 n) passed)
     [ inl zero ↦ inl (eqb-true n 0 zero) | inr more ↦ inr (leb-true 3 n more, most.1) ]) here) is
 
-lists_some : (members : ℕ) (d : Data) (lists : List Data) → lists_of members d ≡ Some lists
-    → length lists ≡ members
-lists_some members d lists is =
-    then_some (λ ls. length ls ≡ members) (λ ls. only_if (are_lists members ls) ls)
+lists_some : (members : ℕ) (d : Data) (lists : List Data) → lists_of members d ≡ Some lists → length lists ≡ members
+lists_some members d lists is = then_some (λ ls. length ls ≡ members) (λ ls. only_if (are_lists members ls) ls)
     (list_at (codes "messages") d) lists
     (λ ls _ here. only_if_some (λ es. length es ≡ members) (are_lists members ls) ls lists
     (λ passed. eqb-true (length ls) members (both (length ls == members) _ passed).0) here) is
@@ -85,8 +65,7 @@ few_some d faults is = then_some (λ fs. length fs ≤ 256) (λ fs. only_if (nat
     (λ passed. leb-true (length fs) 256 passed) here) is
 
 text_some : (d : Data) (bytes : List ℕ) → text_of d ≡ Some bytes → length bytes ≤ 64
-text_some d bytes is = then_some (λ bs. length bs ≤ 64) (λ bs. only_if (nat_le (length bs) 64) bs)
-    (as_str d) bytes
+text_some d bytes is = then_some (λ bs. length bs ≤ 64) (λ bs. only_if (nat_le (length bs) 64) bs) (as_str d) bytes
     (λ bs _ here. only_if_some (λ es. length es ≤ 64) (nat_le (length bs) 64) bs bytes
     (λ passed. leb-true (length bs) 64 passed) here) is
 
@@ -98,41 +77,32 @@ HasWhat sizes member (Suspect turn other) = (1 ≤ turn) × (turn ≤ sizes.turn
 
 crash_some : (sizes : Sizes) (member : ℕ) (d : Data) (what : What) → crash_of sizes d ≡ Some what
     → HasWhat sizes member what
-crash_some sizes member d what is =
-    then_some (HasWhat sizes member)
-    (λ pair. within 1 sizes.turns pair.0 >>=
-    (λ turn. within 0 65535 pair.1 >>= (λ push. Some (Crash turn push))))
+crash_some sizes member d what is = then_some (HasWhat sizes member)
+    (λ pair. within 1 sizes.turns pair.0 >>= (λ turn. within 0 65535 pair.1 >>= (λ push. Some (Crash turn push))))
     (pair_at (codes "crash") d) what
     (λ pair _ more. then_some (HasWhat sizes member)
-    (λ turn. within 0 65535 pair.1 >>= (λ push. Some (Crash turn push)))
-    (within 1 sizes.turns pair.0) what
-    (λ turn turns last. then_some (HasWhat sizes member) (λ push. Some (Crash turn push))
-    (within 0 65535 pair.1) what
+    (λ turn. within 0 65535 pair.1 >>= (λ push. Some (Crash turn push))) (within 1 sizes.turns pair.0) what
+    (λ turn turns last. then_some (HasWhat sizes member) (λ push. Some (Crash turn push)) (within 0 65535 pair.1) what
     (λ push pushes same. let e : Crash turn push ≡ what = cc in
     let t = within_some 1 sizes.turns pair.0 turn turns in
     subst (HasWhat sizes member) e (t.0, t.1, (within_some 0 65535 pair.1 push pushes).1)) last) more) is
 
 suspect_some : (sizes : Sizes) (member : ℕ) (d : Data) (what : What) → suspect_of sizes member d
     ≡ Some what → HasWhat sizes member what
-suspect_some sizes member d what is =
-    then_some (HasWhat sizes member)
+suspect_some sizes member d what is = then_some (HasWhat sizes member)
     (λ pair. within 1 sizes.turns pair.0 >>=
     (λ turn. below sizes.members pair.1 >>=
     (λ other. only_if (not (other == member)) (Suspect turn other)))) (pair_at (codes "suspect") d) what
     (λ pair _ more. then_some (HasWhat sizes member)
-    (λ turn. below sizes.members pair.1 >>=
-    (λ other. only_if (not (other == member)) (Suspect turn other))) (within 1 sizes.turns pair.0) what
-    (λ turn turns last. then_some (HasWhat sizes member)
+    (λ turn. below sizes.members pair.1 >>= (λ other. only_if (not (other == member)) (Suspect turn other)))
+    (within 1 sizes.turns pair.0) what (λ turn turns last. then_some (HasWhat sizes member)
     (λ other. only_if (not (other == member)) (Suspect turn other)) (below sizes.members pair.1) what
-    (λ other others only. only_if_some (HasWhat sizes member) (not (other == member))
-    (Suspect turn other) what
+    (λ other others only. only_if_some (HasWhat sizes member) (not (other == member)) (Suspect turn other) what
     (λ passed. let t = within_some 1 sizes.turns pair.0 turn turns in
-    (t.0, t.1, below_some sizes.members pair.1 other others, not_same other member passed)) only) last)
-    more) is
+    (t.0, t.1, below_some sizes.members pair.1 other others, not_same other member passed)) only) last) more) is
 
 what_some : (crashes : Bool) (sizes : Sizes) (member : ℕ) (d : Data) (what : What)
-    → (if crashes then crash_of sizes d else suspect_of sizes member d) ≡ Some what
-    → HasWhat sizes member what
+    → (if crashes then crash_of sizes d else suspect_of sizes member d) ≡ Some what → HasWhat sizes member what
 what_some true sizes member d what is = crash_some sizes member d what is
 what_some false sizes member d what is = suspect_some sizes member d what is
 
@@ -144,18 +114,13 @@ record HasFault (sizes : Sizes) (fault : Fault) : Type 0 where
   member : fault.member < sizes.members
   what : HasWhat sizes fault.member fault.what
 
-fault_some : (sizes : Sizes) (d : Data) (fault : Fault) → fault_of sizes d ≡ Some fault
-    → HasFault sizes fault
-fault_some sizes d fault is =
-    then_some (HasFault sizes) (λ age. member_of sizes d >>=
-    (λ member. what_of sizes member d >>= (λ what. Some (fault_with age member what))))
-    (age_of sizes d) fault
-    (λ age ages more. then_some (HasFault sizes)
-    (λ member. what_of sizes member d >>= (λ what. Some (fault_with age member what)))
-    (member_of sizes d) fault
+fault_some : (sizes : Sizes) (d : Data) (fault : Fault) → fault_of sizes d ≡ Some fault → HasFault sizes fault
+fault_some sizes d fault is = then_some (HasFault sizes)
+    (λ age. member_of sizes d >>= (λ member. what_of sizes member d >>= (λ what. Some (fault_with age member what))))
+    (age_of sizes d) fault (λ age ages more. then_some (HasFault sizes)
+    (λ member. what_of sizes member d >>= (λ what. Some (fault_with age member what))) (member_of sizes d) fault
     (λ member members last. then_some (HasFault sizes) (λ what. Some (fault_with age member what))
-    (what_of sizes member d) fault
-    (λ what whats same. let e : fault_with age member what ≡ fault = cc in
+    (what_of sizes member d) fault (λ what whats same. let e : fault_with age member what ≡ fault = cc in
     subst (HasFault sizes) e (record {
       age = number_below_some (codes "age") sizes.ages d age ages;
       member = number_below_some (codes "member") sizes.members d member members;
@@ -177,17 +142,14 @@ short_lists n (list ∷ lists) none =
 
 short_texts : (lists : List Data) → All (All (λ bytes. length bytes ≤ 64)) (messages_in lists)
 short_texts [] = nothing (All (λ bytes. length bytes ≤ 64))
-short_texts (list ∷ lists) =
-    All-cons (All (λ bytes. length bytes ≤ 64)) (filter_map text_of (elements_of list))
+short_texts (list ∷ lists) = All-cons (All (λ bytes. length bytes ≤ 64)) (filter_map text_of (elements_of list))
     (messages_in lists) (all_filter_map (λ bytes. length bytes ≤ 64) text_of text_some
     (elements_of list)) (short_texts lists)
 
 what_in : (script : Script) (sizes : Sizes) → script.turns ≡ sizes.turns → script.members
-    ≡ sizes.members → (member : ℕ) (what : What) → HasWhat sizes member what
-    → HasWhatRanges script member what
+    ≡ sizes.members → (member : ℕ) (what : What) → HasWhat sizes member what → HasWhatRanges script member what
 what_in script sizes turns members member (Crash turn push) has = (has.0, rw turns has.1, has.2)
-what_in script sizes turns members member (Suspect turn other) has =
-    (has.0, rw turns has.1, rw members has.2, has.3)
+what_in script sizes turns members member (Suspect turn other) has = (has.0, rw turns has.1, rw members has.2, has.3)
 
 fault_in : (d : Data) (fault : Fault) → HasFault (sizes_of d) fault → HasFaultRanges (script_of d) fault
 fault_in d fault has = record {
@@ -228,8 +190,7 @@ kept_of d none =
     }
 
 few_faults : (o : Option (List Data))
-    → ((faults : List Data) → o ≡ Some faults → length faults ≤ 256) → length (unwrap_or o [])
-    ≤ 256
+    → ((faults : List Data) → o ≡ Some faults → length faults ≤ 256) → length (unwrap_or o []) ≤ 256
 few_faults None few = omega arith
 few_faults (Some faults) few = few faults refl
 
@@ -244,8 +205,7 @@ ranges_of_kept d none bytes =
     (number_at_some (codes "window") 1 8 d) holds.window in
     let turns = there (λ n. (1 ≤ n) × (n ≤ 1000000)) (turns_of d) 0
     (number_at_some (codes "turns") 1 1000000 d) holds.turns in
-    let ages = there (λ n. (1 ≤ n) × (n ≤ 16)) (ages_of d) 0
-    (number_at_some (codes "ages") 1 16 d) holds.ages in
+    let ages = there (λ n. (1 ≤ n) × (n ≤ 16)) (ages_of d) 0 (number_at_some (codes "ages") 1 16 d) holds.ages in
     let faults = length_filter_map (fault_of (sizes_of d)) (faults_in d) in
     let few = few_faults (few_faults_of d) (few_some d) in
     record {

@@ -1,12 +1,10 @@
 -- Which messages may stand, by what was read.
-use Rattle.std.proofs.Common.{◌≡◌, ap, sym, ◌∙◌, subst, ℕ, ◌<◌, ◌≤◌, ◌⊎◌, inl, inr, arith, List, [], length, Some, slice_get, get_or, Bool, true, false, cond, Option, None, refl}
 use Rattle.std.specs.Prelude.{unwrap_or}
-use Rattle.std.proofs.lemmas.Bool.{cases_lt}
-use Rattle.std.proofs.lemmas.Option.{slice_get_within, slice_get_past, unwrap_or-slice_get}
+use Rattle.std.proofs.Common.{◌≡◌, ap, sym, ◌∙◌, subst, ℕ, ◌<◌, ◌≤◌, ◌⊎◌, inl, inr, arith, List, [], length, Some, slice_get, get_or, Bool, true, false, cond, Option, None, refl}
+use Rattle.std.proofs.lemmas.{Bool.cases_lt, Option.{slice_get_within, slice_get_past, unwrap_or-slice_get}}
 use Rattle.serde_json.specs.Data.{Data}
 use Rattle.dr_entry.proofs.Bits.{few_at}
-use Rattle.dr_script.specs.declared.script.Script.{Script}
-use Rattle.dr_script.specs.Ranges.{HasGroupRanges}
+use Rattle.dr_script.specs.{Ranges.HasGroupRanges, declared.script.Script.Script}
 
 -- who has a message in the script is a member of the roster
 pub sender_small : (script : Script) (s i : ℕ) (b : List ℕ) → HasGroupRanges script
@@ -16,9 +14,8 @@ sender_small script s i b ranges at = by (cases_lt s (length script.messages))
     by : (s < length script.messages) ⊎ (length script.messages ≤ s) → s < 16
     by (inl l) = omega (arith, l, ranges.lists, ranges.most_members)
     by (inr past) =
-        let none : get_or script.messages s [] ≡ [] =
-        sym (unwrap_or-slice_get script.messages s []) ∙ ap (λ o. unwrap_or o [])
-        (slice_get_past script.messages s past) in
+        let none : get_or script.messages s [] ≡ [] = sym (unwrap_or-slice_get script.messages s [])
+        ∙ ap (λ o. unwrap_or o []) (slice_get_past script.messages s past) in
         let there : slice_get {X = List ℕ} [] i ≡ Some b = subst (λ xs. slice_get xs i ≡ Some b) none at in
         absurd (omega (arith, slice_get_within {A = List ℕ} [] i b there))
 

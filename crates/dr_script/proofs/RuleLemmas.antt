@@ -1,10 +1,9 @@
 -- Parts of the table of rules.
 use Rattle.std.proofs.Common.{◌≡◌, List, [], ◌∷◌, ◌++◌, Option, Some, None, refl, ap, ◌∙◌}
 use Rattle.serde_json.specs.Data.{Data}
-use Rattle.dr_script.specs.declared.place.Broken.{Broken}
 use Rattle.dr_script.specs.Places.{broken_at, or_else}
 use Rattle.dr_script.specs.Rules.{Rule, first_broken, shape_rules, size_rules, message_rules, fault_rules, schedule_rules, rules}
-use Rattle.dr_script.proofs.EachLemmas.{behind_none, before_some}
+use Rattle.dr_script.{specs.declared.passage.Broken.Broken, proofs.EachLemmas.{behind_none, before_some}}
 
 or_else_assoc : {A : Type 0} (o p q : Option A) → or_else o (or_else p q) ≡ or_else (or_else o p) q
 or_else_assoc None p q = refl

@@ -1,9 +1,6 @@
 -- What stops a reading.
-use Rattle.std.proofs.Common.{◌≡◌, Result, Ok, Err}
-use Rattle.std.specs.Prelude.{IsErrOf, IsErrAnd}
-use Rattle.dr_script.specs.declared.place.Broken.{Broken}
-use Rattle.dr_script.specs.declared.refusal.Stop.{Stop}
-use Rattle.dr_script.specs.declared.refusal.Stop.TheVariants.{Rule}
+use Rattle.std.{specs.Prelude.{IsErrOf, IsErrAnd}, proofs.Common.{◌≡◌, Result, Ok, Err}}
+use Rattle.dr_script.specs.declared.{passage.Broken.Broken, refusal.Stop.{Stop, TheVariants.Rule}}
 
 -- the broken rule that a stop names
 pub rule_of : {A : Type 0} (result : Result A Stop) (named broken : Broken)
@@ -12,9 +9,8 @@ rule_of (Ok x) named broken here is = absurd (here)
 rule_of (Err stop) named broken here is = cc
 
 -- a stop that is handed on
-pub handed_on : {A B : Type 0} (result : Result A Stop) (from : Result B Stop) (stop : Stop)
-    (broken : Broken) → IsErrAnd result (λ s. s ≡ stop) → from ≡ Err stop
-    → IsErrOf result (Rule broken) → IsErrOf from (Rule broken)
+pub handed_on : {A B : Type 0} (result : Result A Stop) (from : Result B Stop) (stop : Stop) (broken : Broken)
+    → IsErrAnd result (λ s. s ≡ stop) → from ≡ Err stop → IsErrOf result (Rule broken) → IsErrOf from (Rule broken)
 handed_on (Ok x) from stop broken here was is = absurd (here)
 handed_on (Err s) (Ok y) stop broken here was is = absurd cc
 handed_on (Err s) (Err t) stop broken here was is = cc

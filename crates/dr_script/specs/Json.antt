@@ -1,11 +1,8 @@
 -- Looking into JSON text.
+use Rattle.std.specs.{List.{list_all, list_any}, Option.option_map_or, Str.{is_utf8, bytes_eq}}
 use Rattle.std.specs.Prelude.{ℕ, List, [], ◌∷◌, Bool, false, ◌&&◌, nat_le, nat_lt, if◌then◌else◌, Option, Some, None, is_some, option_map, option_and_then, unwrap_or}
-use Rattle.std.specs.List.{list_all, list_any}
-use Rattle.std.specs.Option.{option_map_or}
-use Rattle.std.specs.Str.{is_utf8, bytes_eq}
 use Rattle.serde_json.specs.Data.{Data, Items, no_items, item, Members, no_members, member}
-use Rattle.serde_json.specs.Find.{get, as_number, as_u64, as_array, as_object}
-use Rattle.serde_json.specs.Read.{read}
+use Rattle.serde_json.specs.{Find.{get, as_number, as_u64, as_array, as_object}, Read.read}
 
 infixl 10 ◌>>=◌
 -- what the second step makes of what the first one gave

@@ -1,11 +1,7 @@
 -- The ranges that the rules give the parts of a script.
-use Rattle.std.specs.Prelude.{◌≡◌, ◌≢◌, ◌⊎◌, ℕ, ◌<◌, ◌≤◌, length}
-use Rattle.std.specs.List.{All}
+use Rattle.std.specs.{List.All, Prelude.{◌≡◌, ◌≢◌, ◌⊎◌, ℕ, ◌<◌, ◌≤◌, length}}
 use Rattle.dr_entry.specs.declared.limits.TheConstants.{MAX_MEMBERS, MAX_MESSAGE_LENGTH, MAX_MESSAGES}
-use Rattle.dr_script.specs.declared.script.Script.{Script}
-use Rattle.dr_script.specs.declared.script.Fault.{Fault}
-use Rattle.dr_script.specs.declared.script.What.{What}
-use Rattle.dr_script.specs.declared.script.What.TheVariants.{Crash, Suspect}
+use Rattle.dr_script.specs.declared.script.{Fault.Fault, Script.Script, What.{What, TheVariants.{Crash, Suspect}}}
 
 -- a turn of the script, a push, and another member than this one
 abbrev pub HasWhatRanges : Script → ℕ → What → Type 0

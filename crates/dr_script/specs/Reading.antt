@@ -1,13 +1,10 @@
 -- What is read of a text.
-use Rattle.std.specs.Prelude.{ℕ, List, length, nat_le, if◌then◌else◌, map, Option, Some, None, unwrap_or}
 use Rattle.std.specs.List.{filter_map}
+use Rattle.std.specs.Prelude.{ℕ, List, length, nat_le, if◌then◌else◌, map, Option, Some, None, unwrap_or}
 use Rattle.serde_json.specs.Data.{Data}
-use Rattle.dr_script.specs.declared.script.Script.{Script}
-use Rattle.dr_script.specs.declared.script.Schedule.TheVariants.{Lockstep}
-use Rattle.dr_script.specs.declared.place.Broken.{Broken}
-use Rattle.dr_script.specs.Json.{json_of, elements_of}
-use Rattle.dr_script.specs.Places.{path_text}
+use Rattle.dr_script.specs.{Json.{json_of, elements_of}, Places.path_text}
 use Rattle.dr_script.specs.Rules.{sizes_of, lists_in, text_of, faults_in, fault_of, schedule_of, rules, first_broken}
+use Rattle.dr_script.specs.declared.{passage.Broken.Broken, script.{Schedule.TheVariants.Lockstep, Script.Script}}
 
 -- a text is too long, or no JSON, or breaks a rule, with its number and the path, or is a script
 pub data Reading : Type 0 where

@@ -1,12 +1,11 @@
-ghost use Rattle.std.specs.Prelude.{◌≡◌, ◌<◌, Some, None, IfOk, IfErr, IsErrOf, OnOk, map, option_map};
 ghost use Rattle.std.specs.List.{filter_map};
+ghost use Rattle.std.specs.Prelude.{◌≡◌, ◌<◌, Some, None, IfOk, IfErr, IsErrOf, OnOk, map, option_map};
 ghost use Rattle.serde_json.specs.View.{view};
-ghost use Rattle.dr_script.specs.declared.place.Broken.{Broken};
-ghost use Rattle.dr_script.specs.Places.{broken_at};
+ghost use Rattle.dr_script.specs.{Places.broken_at, declared.passage.Broken.Broken};
 ghost use Rattle.dr_script.specs.Rules.{sizes_of, few_faults_of, is_fault, form_breaks, place_breaks, deed_breaks, is_placed, faults_in, crash_of, suspect_of, what_of, fault_of, fault_rules, first_broken};
 
 use crate::json::{below, has_exactly, list_at, number_below, pair_at, within};
-use crate::place::{Broken, Place};
+use crate::passage::{Broken, Passage};
 use crate::refusal::Stop;
 use crate::script::{Fault, What};
 use crate::sizes::Sizes;
@@ -29,7 +28,7 @@ pub(crate) fn faults_of(alloc: Global, value: &Value, sizes: &Sizes) -> Result<S
 {
     let faults = few_faults_of(value).ok_or(Broken {
         rule: 11,
-        place: Place::Faults,
+        place: Passage::Faults,
     })?;
     check_forms(faults)?;
     check_places(faults, sizes)?;
@@ -55,7 +54,7 @@ fn check_forms(values: &[Value]) -> Result<(), Broken>
         if !is_fault(value) {
             return Err(Broken {
                 rule: 11,
-                place: Place::Fault { index },
+                place: Passage::Fault { index },
             });
         }
     }
@@ -78,7 +77,7 @@ fn check_places(values: &[Value], sizes: &Sizes) -> Result<(), Broken>
         if !is_placed(value, sizes) {
             return Err(Broken {
                 rule: 12,
-                place: Place::Fault { index },
+                place: Passage::Fault { index },
             });
         }
     }
@@ -103,7 +102,7 @@ fn faults_in(alloc: Global, values: &[Value], sizes: &Sizes) -> Result<Seq<Fault
     for (index, value) in values.iter().enumerate() {
         let fault = fault_of(value, sizes).ok_or(Broken {
             rule: 13,
-            place: Place::Fault { index },
+            place: Passage::Fault { index },
         })?;
         faults.push(fault)?;
     }

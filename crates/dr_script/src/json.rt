@@ -1,6 +1,5 @@
+ghost use Rattle.std.specs.{BTreeMap.keys, List.list_all};
 ghost use Rattle.std.specs.Prelude.{◌≡◌, ◌⊎◌, ◌<◌, ◌≤◌, Some, None, IfOk, IfErr, IsErrOf, IfSome, map, option_map, string_bytes};
-ghost use Rattle.std.specs.BTreeMap.{keys};
-ghost use Rattle.std.specs.List.{list_all};
 ghost use Rattle.serde_json.specs.View.{view};
 ghost use Rattle.dr_script.specs.Json.{json_of, is_among, has_only, has_every, has_exactly, list_of, list_at, elements_of, within, below, number_at, number_below, pair_at};
 

@@ -17,7 +17,7 @@
 mod faults;
 mod json;
 mod messages;
-mod place;
+mod passage;
 mod reading;
 mod refusal;
 mod script;

@@ -1,14 +1,12 @@
-ghost use Rattle.std.specs.Prelude.{◌≡◌, ◌<◌, Some, None, All, IfOk, IfErr, IfSome, IsErrOf, OnOk, map, option_map, is_some};
 ghost use Rattle.std.specs.List.{filter_map, list_all};
+ghost use Rattle.std.specs.Prelude.{◌≡◌, ◌<◌, Some, None, All, IfOk, IfErr, IfSome, IsErrOf, OnOk, map, option_map, is_some};
 ghost use Rattle.serde_json.specs.View.{view};
-ghost use Rattle.dr_script.specs.declared.place.Broken.{Broken};
-ghost use Rattle.dr_script.specs.Json.{elements_of, list_of};
-ghost use Rattle.dr_script.specs.Places.{broken_at};
+ghost use Rattle.dr_script.specs.{Json.{elements_of, list_of}, Places.broken_at, Reading.messages_in};
 ghost use Rattle.dr_script.specs.Rules.{sizes_of, are_lists, lists_of, lists_in, is_short, long_breaks, text_of, member_breaks, list_breaks, message_rules, first_broken};
-ghost use Rattle.dr_script.specs.Reading.{messages_in};
+ghost use Rattle.dr_script.specs.declared.passage.Broken.{Broken};
 
 use crate::json::{elements_of, list_at, list_of};
-use crate::place::{Broken, Place};
+use crate::passage::{Broken, Passage};
 use crate::refusal::Stop;
 use dr_entry::{MAX_MESSAGES, Message, Seq};
 use serde_json::Value;
@@ -30,7 +28,7 @@ pub(crate) fn messages_of(
 {
     let lists = lists_of(value, members).ok_or(Broken {
         rule: 8,
-        place: Place::Messages,
+        place: Passage::Messages,
     })?;
     check_lengths(lists)?;
     lists_in(alloc, lists)
@@ -70,7 +68,7 @@ fn check_lengths(lists: &[Value]) -> Result<(), Broken>
         if !is_short(list) {
             return Err(Broken {
                 rule: 9,
-                place: Place::Texts { member },
+                place: Passage::Texts { member },
             });
         }
     }
@@ -110,7 +108,7 @@ fn texts_in(alloc: Global, member: usize, texts: &[Value]) -> Result<Seq<Message
     for (index, text) in texts.iter().enumerate() {
         let message = text_of(text).ok_or(Broken {
             rule: 10,
-            place: Place::Text { member, index },
+            place: Passage::Text { member, index },
         })?;
         messages.push(message)?;
     }

@@ -1,14 +1,13 @@
 ghost use Rattle.std.specs.Prelude.{◌≡◌, ℕ, List, Some, None, IfOk, IfErr, IsErrOf, OnOk, All};
 ghost use Rattle.serde_json.specs.View.{view};
-ghost use Rattle.dr_script.specs.declared.place.Broken.{Broken};
-ghost use Rattle.dr_script.specs.Rules.{schedule_of, shape_rules, rules, first_broken};
+ghost use Rattle.dr_script.specs.{Ranges.HasRanges, Rules.{schedule_of, shape_rules, rules, first_broken}};
 ghost use Rattle.dr_script.specs.Reading.{Reading, TooLong, NotJson, Wrong, Reads, script_of, reading_of};
-ghost use Rattle.dr_script.specs.Ranges.{HasRanges};
+ghost use Rattle.dr_script.specs.declared.passage.Broken.{Broken};
 
 use crate::faults::faults_of;
 use crate::json::{has_exactly, value_of};
 use crate::messages::messages_of;
-use crate::place::{Broken, Place};
+use crate::passage::{Broken, Passage};
 use crate::refusal::{ScriptFault, Stop};
 use crate::script::{Schedule, Script};
 use crate::sizes::sizes_of;
@@ -66,7 +65,7 @@ fn script_of(alloc: Global, value: &Value) -> Result<Script, Stop>
     let faults = faults_of(alloc, value, &sizes)?;
     let schedule = schedule_of(value).ok_or(Broken {
         rule: 14,
-        place: Place::Schedule,
+        place: Passage::Schedule,
     })?;
     Ok(Script {
         members: sizes.members,
@@ -89,13 +88,13 @@ fn check_shape(value: &Value) -> Result<(), Broken>
     if value.as_object().is_none() {
         return Err(Broken {
             rule: 1,
-            place: Place::Whole,
+            place: Passage::Whole,
         });
     }
     if !has_exactly(value, &KEYS) {
         return Err(Broken {
             rule: 2,
-            place: Place::Whole,
+            place: Passage::Whole,
         });
     }
     Ok(())

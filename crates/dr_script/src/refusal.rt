@@ -1,4 +1,4 @@
-use crate::place::Broken;
+use crate::passage::Broken;
 use dr_entry::Text;
 use std::alloc::{AllocError, AllocFailed};
 use thiserror::Error;

@@ -3,7 +3,7 @@ ghost use Rattle.serde_json.specs.View.{view};
 ghost use Rattle.dr_script.specs.Rules.{members_of, window_of, turns_of, patience_of, ages_of, sizes_of, size_rules, first_broken};
 
 use crate::json::number_at;
-use crate::place::{Broken, Place};
+use crate::passage::{Broken, Passage};
 use dr_entry::MAX_MEMBERS;
 use serde_json::Value;
 
@@ -27,23 +27,23 @@ pub(crate) fn sizes_of(value: &Value) -> Result<Sizes, Broken>
     Ok(Sizes {
         members: members_of(value).ok_or(Broken {
             rule: 3,
-            place: Place::Members,
+            place: Passage::Members,
         })?,
         window: window_of(value).ok_or(Broken {
             rule: 4,
-            place: Place::Window,
+            place: Passage::Window,
         })?,
         turns: turns_of(value).ok_or(Broken {
             rule: 5,
-            place: Place::Turns,
+            place: Passage::Turns,
         })?,
         patience: patience_of(value).ok_or(Broken {
             rule: 6,
-            place: Place::Patience,
+            place: Passage::Patience,
         })?,
         ages: ages_of(value).ok_or(Broken {
             rule: 7,
-            place: Place::Ages,
+            place: Passage::Ages,
         })?,
     })
 }

@@ -1,22 +1,14 @@
 -- The line of a deed: what a member is about to do, told by what it has, by what it has seen, and by the
 -- words of the table.
+use Rattle.std.specs.{Fmt.{decimal, digits}, List.{concat, flat_map}, Option.option_map_or}
 use Rattle.std.specs.Prelude.{ℕ, ◌+◌, ◌==◌, false, if◌then◌else◌, List, [], ◌∷◌, ◌++◌, length, take, codes, slice_index_or, Option, None, Some, unwrap_or}
-use Rattle.std.specs.Fmt.{decimal, digits}
-use Rattle.std.specs.List.{concat, flat_map}
-use Rattle.std.specs.Option.{option_map_or}
-use Rattle.dr_entry.specs.declared.entry.Item.{Item}
-use Rattle.dr_entry.specs.declared.entry.Item.TheVariants.{Null, Text}
-use Rattle.dr_entry.specs.declared.record.Value.{Value}
+use Rattle.dr_entry.specs.{declared.entry.Item.{Item, TheVariants.{Null, Text}}, declared.record.Value.Value}
 use Rattle.dr_history.specs.Order.{messages_from}
-use Rattle.dr_machine.specs.World.{no_vote}
-use Rattle.dr_machine.specs.Effects.{one_more}
-use Rattle.dr_machine.specs.declared.event.Act.{Act}
+use Rattle.dr_machine.specs.{Effects.one_more, World.no_vote, declared.{event.Act.Act, step.Step.Step}}
 use Rattle.dr_machine.specs.declared.event.Act.TheVariants as acts
-use Rattle.dr_machine.specs.declared.step.Step.{Step}
 use Rattle.dr_machine.specs.declared.step.Step.TheVariants as steps
 use Rattle.dr_program.specs.Replica.{Replica, count, item_of_place, least_seen, me, next_index, promise, sender_of_place}
-use Rattle.dr_program.specs.Running.{Running, next_step}
-use Rattle.dr_program.specs.Steps.{found}
+use Rattle.dr_program.specs.{Running.{Running, next_step}, Steps.found}
 use Rattle.dr_rows.specs.Words.{own, seen}
 use Rattle.dr_text.specs.Report.{end_text, mask_text, message_text}
 use Rattle.dr_words.specs.declared.column.TheConstants.{LOGGED_COLUMN}

@@ -1,7 +1,6 @@
 -- What is written as a run goes on.
 use Rattle.std.specs.Prelude.{◌≡◌, ℕ, List, ◌++◌, Option, None, Some}
-use Rattle.dr_io.specs.Faults.{Rose}
-use Rattle.dr_io.specs.Sink.{Gains}
+use Rattle.dr_io.specs.{Faults.Rose, Sink.Gains}
 use Rattle.dr_seeing.specs.declared.output.Trouble.{Trouble}
 use Rattle.dr_seeing.specs.declared.output.Trouble.TheVariants as troubles
 use Rattle.dr_text.specs.Writing.{WroteFront}

@@ -2,8 +2,7 @@
 ghost use Rattle.std.specs.Prelude.{◌≡◌, ◌||◌, ◌<◌, ◌≤◌, ◌++◌, None, OnOk, length, string_bytes, true};
 ghost use Rattle.dr_machine.specs.declared.event.Act.TheVariants as acts;
 ghost use Rattle.dr_member.specs.Deeds.{table_size};
-ghost use Rattle.dr_program.specs.Acts.{is_outside_act, may};
-ghost use Rattle.dr_program.specs.Form.{IsRunningMember};
+ghost use Rattle.dr_program.specs.{Acts.{is_outside_act, may}, Form.IsRunningMember};
 ghost use Rattle.dr_program.specs.Replica.{is_inside, may_deliver, may_send, me};
 ghost use Rattle.dr_seeing.specs.Lines.{act_text, line_of, told};
 

@@ -1,6 +1,6 @@
 //! The lines of ages and words, and what the lines of deeds share.
-ghost use Rattle.std.specs.Prelude.{◌≡◌, ◌<◌, ◌++◌, OnOk, [], codes, is_some, string_bytes, true, unwrap_or};
 ghost use Rattle.std.specs.Option.{option_map_or};
+ghost use Rattle.std.specs.Prelude.{◌≡◌, ◌<◌, ◌++◌, OnOk, [], codes, is_some, string_bytes, true, unwrap_or};
 ghost use Rattle.dr_machine.specs.World.{no_vote};
 ghost use Rattle.dr_program.specs.Replica.{me};
 ghost use Rattle.dr_text.specs.Report.{end_text};

@@ -3,8 +3,7 @@ ghost use Rattle.std.specs.Prelude.{◌≡◌, ◌≤◌, ◌++◌, ℕ, List, [
 ghost use Rattle.dr_member.specs.Deeds.{table_size};
 ghost use Rattle.dr_program.specs.Form.{IsRunningMember};
 ghost use Rattle.dr_text.specs.Report.{last_text};
-ghost use Rattle.dr_seeing.specs.Lines.{age_line, line_of};
-ghost use Rattle.dr_seeing.specs.Output.{HasTold, IsFinished, Tells, Written};
+ghost use Rattle.dr_seeing.specs.{Lines.{age_line, line_of}, Output.{HasTold, IsFinished, Tells, Written}};
 
 use crate::deeds::push_line;
 use crate::lines::push_age;

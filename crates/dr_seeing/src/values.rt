@@ -1,7 +1,5 @@
 //! The texts of values, of items and of words.
-ghost use Rattle.std.specs.Prelude.{◌≡◌, ◌<◌, ◌≤◌, ◌++◌, OnOk, length, string_bytes, take};
-ghost use Rattle.std.specs.List.{flat_map};
-ghost use Rattle.std.specs.Prelude.{codes};
+ghost use Rattle.std.specs.{List.flat_map, Prelude.{◌≡◌, ◌<◌, ◌≤◌, ◌++◌, OnOk, length, string_bytes, take, codes}};
 ghost use Rattle.dr_text.specs.Report.{message_text};
 ghost use Rattle.dr_seeing.specs.Lines.{item_text, leavers_text, value_text, with_number};
 

@@ -1,22 +1,13 @@
 -- Lists that have grown.
+use Rattle.std.{specs.{List.enumerate_from, Prelude.slice_index_or}, proofs.lemmas.List.Elements.AllZip-push}
 use Rattle.std.proofs.Common.{◌≡◌, refl, sym, ap, ◌∙◌, ℕ, zero, suc, ◌<◌, arith, List, [], ◌∷◌, ◌++◌, append-nil, get_or, length, map, set, Some, slice_get, subst, ◌+◌, ◌-◌, ◌≤◌, ◌⊎◌, inl, inr}
-use Rattle.std.proofs.lemmas.List.{map-append, get_or_past}
-use Rattle.std.proofs.lemmas.List.Elements.{AllZip-push}
-use Rattle.std.proofs.lemmas.Option.{same_Some, slice_get-get_or}
-use Rattle.std.specs.Prelude.{slice_index_or}
-use Rattle.std.proofs.lemmas.Bool.{cases_lt}
-use Rattle.std.specs.List.{enumerate_from}
+use Rattle.std.proofs.lemmas.{Bool.cases_lt, List.{map-append, get_or_past}, Option.{same_Some, slice_get-get_or}}
+use Rattle.dr_entry.specs.declared.entry.Entry.{Entry, TheVariants.{Msg, View}}
 use Rattle.dr_entry.proofs.ListFacts.{unmoved_set, numbered_on}
-use Rattle.dr_entry.specs.declared.entry.Entry.{Entry}
-use Rattle.dr_entry.specs.declared.entry.Entry.TheVariants.{Msg, View}
-use Rattle.dr_history.specs.History.{IsPrefixOf, messages_of}
+use Rattle.dr_history.specs.{History.{IsPrefixOf, messages_of}, Order.numbered_messages, Soundness.MayStand}
 use Rattle.dr_history.specs.declared.opening.Opening.{Opening}
-use Rattle.dr_history.specs.Order.{numbered_messages}
-use Rattle.dr_history.specs.Soundness.{MayStand}
-use Rattle.dr_history_laws.proofs.Keeping.{prefix_then}
-use Rattle.dr_history_laws.proofs.Lists.{slice_get-prefix}
-use Rattle.dr_senders.specs.Pushing.{given_by}
-use Rattle.dr_senders.specs.Senders.{HaveGrown, Lists, given_in, taken_in}
+use Rattle.dr_history_laws.proofs.{Keeping.prefix_then, Lists.slice_get-prefix}
+use Rattle.dr_senders.specs.{Pushing.given_by, Senders.{HaveGrown, Lists, given_in, taken_in}}
 use Rattle.dr_senders.specs.declared.sender.Sender.{Sender}
 
 pub grown_same : (lists : Lists) → HaveGrown lists lists
@@ -29,8 +20,7 @@ grown_then [] [] (z ∷ c) first next = absurd next
 grown_then [] (y ∷ b) c first next = absurd first
 grown_then (x ∷ a) [] c first next = absurd first
 grown_then (x ∷ a) (y ∷ b) [] first next = absurd next
-grown_then (x ∷ a) (y ∷ b) (z ∷ c) first next =
-    (prefix_then x y z first.0 next.0, grown_then a b c first.1 next.1)
+grown_then (x ∷ a) (y ∷ b) (z ∷ c) first next = (prefix_then x y z first.0 next.0, grown_then a b c first.1 next.1)
 
 pub grown_length : (old new : Lists) → HaveGrown old new → length new ≡ length old
 grown_length [] [] grown = refl
@@ -48,9 +38,8 @@ grown_at (x ∷ old) (y ∷ new) (suc m) before after grown at_old at_new =
     grown_at old new m before after grown.1 at_old at_new
 
 -- one of them has grown
-pub grown_set : {X : Type 0} (f : X → List (List ℕ)) (old : Lists) (xs : List X) (m : ℕ) (y d : X)
-    → m < length xs → HaveGrown old (map f xs) → IsPrefixOf (f (get_or xs m d)) (f y)
-    → HaveGrown old (map f (set xs m y))
+pub grown_set : {X : Type 0} (f : X → List (List ℕ)) (old : Lists) (xs : List X) (m : ℕ) (y d : X) → m < length xs
+    → HaveGrown old (map f xs) → IsPrefixOf (f (get_or xs m d)) (f y) → HaveGrown old (map f (set xs m y))
 grown_set f old [] m y d l grown more = absurd (omega (arith, l))
 grown_set f [] (x ∷ xs) m y d l grown more = absurd grown
 grown_set f (o ∷ old) (x ∷ xs) zero y d l grown more = (prefix_then o (f x) (f y) grown.0 more, grown.1)
@@ -67,21 +56,18 @@ given_set left old xs m y d l same before =
 pub taken_set : {A : Type 0} (old : Lists) (xs : List (Sender A)) (m : ℕ) (y d : Sender A) → m < length xs
     → IsPrefixOf (get_or xs m d).inbox.messages.items y.inbox.messages.items
     → HaveGrown old (taken_in xs) → HaveGrown old (taken_in (set xs m y))
-taken_set old xs m y d l more grown =
-    grown_set (λ (s : Sender _). s.inbox.messages.items) old xs m y d l grown more
+taken_set old xs m y d l more grown = grown_set (λ (s : Sender _). s.inbox.messages.items) old xs m y d l grown more
 
 -- one more sender
 pub given_push : {A : Type 0} (left : A → List (List ℕ)) (xs : List (Sender A)) (s : Sender A) (given : Lists)
     (list : List (List ℕ)) → given_in left xs ≡ given → given_by left s.pushing ≡ list
     → given_in left (xs ++ s ∷ []) ≡ given ++ list ∷ []
-given_push left xs s given list before same =
-    map-append (λ (s : Sender _). given_by left s.pushing) xs (s ∷ []) ∙ cc
+given_push left xs s given list before same = map-append (λ (s : Sender _). given_by left s.pushing) xs (s ∷ []) ∙ cc
 
 pub taken_push : {A : Type 0} (xs : List (Sender A)) (s : Sender A) (lists : Lists) (list : List (List ℕ))
     → HaveGrown (taken_in xs) lists → IsPrefixOf s.inbox.messages.items list
     → HaveGrown (taken_in (xs ++ s ∷ [])) (lists ++ list ∷ [])
-taken_push xs s lists list grown more =
-    subst (λ old. HaveGrown old (lists ++ list ∷ []))
+taken_push xs s lists list grown more = subst (λ old. HaveGrown old (lists ++ list ∷ []))
     (sym (map-append (λ (s : Sender _). s.inbox.messages.items) xs (s ∷ [])))
     (AllZip-push (λ (before after : List (List ℕ)). IsPrefixOf before after) (taken_in xs) lists
     s.inbox.messages.items list grown more)
@@ -92,9 +78,8 @@ pub grown_list : (old new : Lists) (s : ℕ) → HaveGrown old new
 grown_list old new s grown = by (cases_lt s (length old))
   where
     by : (s < length old) ⊎ (length old ≤ s) → IsPrefixOf (slice_index_or old s []) (slice_index_or new s [])
-    by (inl l) =
-        grown_at old new s (slice_index_or old s []) (slice_index_or new s []) grown (slice_get-get_or old s [] l)
-        (slice_get-get_or new s [] (omega (arith, l, grown_length old new grown)))
+    by (inl l) = grown_at old new s (slice_index_or old s []) (slice_index_or new s []) grown
+        (slice_get-get_or old s [] l) (slice_get-get_or new s [] (omega (arith, l, grown_length old new grown)))
     by (inr past) = (
       slice_index_or new s [],
       ap (λ (l : List (List ℕ)). l ++ slice_index_or new s []) (get_or_past old s [] past),

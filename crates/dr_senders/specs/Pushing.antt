@@ -1,11 +1,7 @@
 -- The threads that push.
-use Rattle.std.specs.Global.{Global}
-use Rattle.std.specs.Prelude.{ℕ, List}
-use Rattle.rtrb.specs.Ring.{sent}
-use Rattle.rtrb.specs.declared.AnyItems.{AnyItems}
-use Rattle.rtrb.specs.declared.producer.Producer.{Producer}
-use Rattle.dr_senders.specs.declared.pushing.Pushing.{Pushing}
-use Rattle.dr_senders.specs.declared.pushing.Pushing.TheVariants.{Begun, Over}
+use Rattle.std.specs.{Global.Global, Prelude.{ℕ, List}}
+use Rattle.rtrb.specs.{Ring.sent, declared.{AnyItems.AnyItems, producer.Producer.Producer}}
+use Rattle.dr_senders.specs.declared.pushing.Pushing.{Pushing, TheVariants.{Begun, Over}}
 
 -- the messages that are pushed in all, where `left` tells what an app still gives
 abbrev pub given_by : {A : Type 0} → (A → List (List ℕ)) → Pushing A → List (List ℕ)

@@ -1,9 +1,7 @@
 -- What senders push, and what is taken of it.
-use Rattle.std.specs.Prelude.{ℕ, List, map}
-use Rattle.std.specs.List.{AllZip}
+use Rattle.std.specs.{List.AllZip, Prelude.{ℕ, List, map}}
 use Rattle.dr_history.specs.History.{IsPrefixOf}
-use Rattle.dr_senders.specs.declared.sender.Sender.{Sender}
-use Rattle.dr_senders.specs.Pushing.{given_by}
+use Rattle.dr_senders.specs.{Pushing.given_by, declared.sender.Sender.Sender}
 
 -- the messages of each sender, by number
 abbrev pub Lists : Type 0

@@ -2,8 +2,7 @@
 ghost use Rattle.std.specs.Prelude.{◌≡◌, ◌≤◌, All, IfOk, List, ℕ, length, map};
 ghost use Rattle.dr_entry.specs.Messages.{IsMessage};
 ghost use Rattle.dr_entry.specs.declared.limits.TheConstants.{MAX_MESSAGES};
-ghost use Rattle.dr_senders.specs.Pushing.{given_by};
-ghost use Rattle.dr_senders.specs.Senders.{HaveGrown, given_in, taken_in};
+ghost use Rattle.dr_senders.specs.{Pushing.given_by, Senders.{HaveGrown, given_in, taken_in}};
 
 use crate::app::App;
 use crate::sender::Sender;

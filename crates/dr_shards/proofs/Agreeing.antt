@@ -1,20 +1,14 @@
 -- Scripts that agree on a shard give it one script, and so one age.
+use Rattle.std.specs.{List.cons_option, Prelude.{None, Some, filter, filter_map, map, slice_index_or}}
 use Rattle.std.proofs.Common.{◌≡◌, ℕ, ◌/◌, ◌<◌, Bool, true, false, cond, List, [], ◌∷◌, length, refl, ap, sym, subst, ◌∙◌, arith}
-use Rattle.std.specs.Prelude.{None, Some, filter, filter_map, map, slice_index_or}
-use Rattle.std.specs.List.{cons_option}
-use Rattle.dr_entry.specs.declared.end.AgeEnd.{AgeEnd}
-use Rattle.dr_entry.proofs.ListParts.{map_alike}
-use Rattle.dr_restart.specs.Groups.{first_start_of, group_of}
-use Rattle.dr_restart.specs.declared.start.Start.{Start}
+use Rattle.dr_entry.{specs.declared.end.AgeEnd.AgeEnd, proofs.ListParts.map_alike}
+use Rattle.dr_restart.specs.{Groups.{first_start_of, group_of}, declared.start.Start.Start}
 use Rattle.dr_restart.proofs.Groups.{first_group}
-use Rattle.dr_script.specs.Ranges.{HasRanges}
-use Rattle.dr_script.specs.declared.script.Fault.{Fault}
-use Rattle.dr_script.specs.declared.script.Script.{Script}
+use Rattle.dr_script.specs.{Ranges.HasRanges, declared.script.{Fault.Fault, Script.Script}}
 use Rattle.dr_machine.specs.Group.{IsGroup}
 use Rattle.dr_sim.specs.Repeated.{IsRepeated}
 use Rattle.dr_shards.specs.Layout.{AgreeOn, is_of_shard, lay_refusal, renumbered, shard_fault, shard_members, shard_messages, shard_of}
-use Rattle.dr_shards.specs.Shards.{IsShardAge}
-use Rattle.dr_shards.specs.declared.run.ShardMode.TheVariants.{Sim}
+use Rattle.dr_shards.specs.{Shards.IsShardAge, declared.run.ShardMode.TheVariants.Sim}
 use Rattle.dr_shards.proofs.Laying.{lays_out, shard_ranges}
 
 -- the faults of a shard are made of those of its members alone
@@ -24,8 +18,7 @@ module _ (shards k : ℕ) where
 
   one_fault : (f there : Fault) (rest faults : List Fault)
       → filter_map (shard_fault shards k) rest ≡ filter_map (shard_fault shards k) faults
-      → (b : Bool) → is_of_shard shards k f.member ≡ b
-      → shard_fault shards k f ≡ cond b (Some there) None
+      → (b : Bool) → is_of_shard shards k f.member ≡ b → shard_fault shards k f ≡ cond b (Some there) None
       → filter_map (shard_fault shards k) (cond b (f ∷ rest) rest)
       ≡ cons_option (shard_fault shards k f) (filter_map (shard_fault shards k) faults)
   one_fault f there rest faults same true is made = ap (cons_option (shard_fault shards k f)) same
@@ -35,13 +28,11 @@ module _ (shards k : ℕ) where
   own_faults : (faults : List Fault)
       → filter_map (shard_fault shards k) (of_members faults) ≡ filter_map (shard_fault shards k) faults
   own_faults [] = refl
-  own_faults (f ∷ faults) =
-      one_fault f (record f { member = f.member / shards; what = renumbered shards f.what })
+  own_faults (f ∷ faults) = one_fault f (record f { member = f.member / shards; what = renumbered shards f.what })
       (of_members faults) faults (own_faults faults) (is_of_shard shards k f.member) refl refl
 
 pub same_shard : (one other : Script) (shards k : ℕ) → lay_refusal one shards ≡ None
-    → lay_refusal other shards ≡ None → AgreeOn shards k one other
-    → shard_of one shards k ≡ shard_of other shards k
+    → lay_refusal other shards ≡ None → AgreeOn shards k one other → shard_of one shards k ≡ shard_of other shards k
 same_shard one other shards k laid laid' agree = λ z. record {
   members = length (agree.members z);
   window = agree.window z;
@@ -57,14 +48,12 @@ same_shard one other shards k laid laid' agree = λ z. record {
     ages = (lays_out one shards laid).one_age ∙ sym (lays_out other shards laid').one_age
 
     messages : shard_messages one shards k ≡ shard_messages other shards k
-    messages =
-        map_alike (λ m. slice_index_or one.messages m []) (λ m. slice_index_or other.messages m [])
+    messages = map_alike (λ m. slice_index_or one.messages m []) (λ m. slice_index_or other.messages m [])
         (shard_members shards k one.members) agree.messages
         ∙ ap (map (λ m. slice_index_or other.messages m [])) agree.members
 
     faults : filter_map (shard_fault shards k) one.faults ≡ filter_map (shard_fault shards k) other.faults
-    faults =
-        sym (own_faults shards k one.faults) ∙ ap (filter_map (shard_fault shards k)) agree.faults
+    faults = sym (own_faults shards k one.faults) ∙ ap (filter_map (shard_fault shards k)) agree.faults
         ∙ own_faults shards k other.faults
 
 -- simulations repeat

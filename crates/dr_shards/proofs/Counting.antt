@@ -1,36 +1,26 @@
 -- How many members a shard has.
+use Rattle.std.specs.{Fmt.decimal, List.range_with_len, Prelude.{filter, codes}}
 use Rattle.std.proofs.Common.{◌≡◌, ℕ, zero, suc, ◌+◌, ◌-◌, ◌/◌, ◌%◌, ◌<◌, ◌≤◌, Bool, true, false, cond, ltb, [], ◌∷◌, ◌++◌, length, refl, ap, sym, ◌∙◌, arith, List, All, if◌then◌else◌, append_assoc, ap₂}
-use Rattle.std.specs.Prelude.{filter, codes}
-use Rattle.std.specs.List.{range_with_len}
 use Rattle.std.proofs.Math.Nat.{add-div_right, add-mod_right, div-eq_of_lt}
-use Rattle.std.proofs.lemmas.Bool.{eq-eqb, ltb-true, ltb-false}
-use Rattle.std.proofs.lemmas.List.{length-append, append-nil}
+use Rattle.std.proofs.lemmas.{Bool.{eq-eqb, ltb-true, ltb-false}, List.{length-append, append-nil}}
 use Rattle.std.proofs.lemmas.List.Elements.{filter-append, All-cons, All-nil, All-head, All-tail}
-use Rattle.std.specs.Fmt.{decimal}
+use Rattle.dr_entry.specs.declared.{end.AgeEnd.AgeEnd, limits.TheConstants.MAX_MEMBERS}
+use Rattle.dr_entry.proofs.{ListFacts.{commas, has_none, one_more, longer, commas_more}, ListPlaces.range_more}
 use Rattle.dr_entry.proofs.NumberFacts.{moved, one_more_most, wider}
-use Rattle.dr_entry.proofs.ListPlaces.{range_more}
-use Rattle.dr_entry.proofs.ListFacts.{commas, has_none, one_more, longer, commas_more}
-use Rattle.dr_entry.specs.declared.end.AgeEnd.{AgeEnd}
-use Rattle.dr_entry.specs.declared.limits.TheConstants.{MAX_MEMBERS}
-use Rattle.dr_script.specs.declared.script.Script.{Script}
-use Rattle.dr_script.specs.Ranges.{HasRanges}
-use Rattle.dr_shards.specs.Layout.{is_of_shard, shard_members}
+use Rattle.dr_script.specs.{Ranges.HasRanges, declared.script.Script.Script}
+use Rattle.dr_shards.specs.{Layout.{is_of_shard, shard_members}, Shards.AreShardAges}
 use Rattle.dr_shards.specs.declared.run.ShardMode.{ShardMode}
-use Rattle.dr_shards.specs.Shards.{AreShardAges}
 
 -- one more member of the roster, of the shard or not
 pub members_more : (shards k n : ℕ)
     → shard_members shards k (n + 1) ≡ shard_members shards k n ++ cond (is_of_shard shards k n) (n ∷ []) []
 members_more shards k n = ap (filter (is_of_shard shards k)) (range_more 0 n)
     ∙ filter-append (is_of_shard shards k) (range_with_len 0 n) ((0 + n) ∷ [])
-    ∙ moved (λ m. shard_members shards k n ++ cond (is_of_shard shards k m) (m ∷ []) []) (0 + n) n
-    (omega arith)
+    ∙ moved (λ m. shard_members shards k n ++ cond (is_of_shard shards k m) (m ∷ []) []) (0 + n) n (omega arith)
 
-count_more : (shards k n : ℕ)
-    → length (shard_members shards k (n + 1)) ≡ length (shard_members shards k n) + cond
+count_more : (shards k n : ℕ) → length (shard_members shards k (n + 1)) ≡ length (shard_members shards k n) + cond
     (is_of_shard shards k n) 1 0
-count_more shards k n =
-    ap length (members_more shards k n)
+count_more shards k n = ap length (members_more shards k n)
     ∙ length-append (shard_members shards k n) (cond (is_of_shard shards k n) (n ∷ []) [])
     ∙ ap (λ c. length (shard_members shards k n) + c) (alone (is_of_shard shards k n))
   where
@@ -38,8 +28,7 @@ count_more shards k n =
     alone true = refl
     alone false = refl
 
-pub counted : (shards k n : ℕ)
-    → length (shard_members shards k (suc n)) ≡ length (shard_members shards k n) + cond
+pub counted : (shards k n : ℕ) → length (shard_members shards k (suc n)) ≡ length (shard_members shards k n) + cond
     (is_of_shard shards k n) 1 0
 counted shards k n = moved (λ m. length (shard_members shards k m)) (suc n) (n + 1) (omega arith)
     ∙ count_more shards k n
@@ -64,14 +53,12 @@ count_above shards k (suc n) i some below is =
           eq-eqb (n % shards) k (moved (λ m. m % shards) n i (sym same) ∙ is) in
           let e : length (shard_members shards k (suc n)) ≡ length (shard_members shards k n) + 1 =
           counted shards k n ∙ ap (λ b. length (shard_members shards k n) + cond b 1 0) here in
-          elim (ltb n shards) as (λ b. ltb n shards ≡ b
-          → i / shards < length (shard_members shards k (suc n))) [
+          elim (ltb n shards) as (λ b. ltb n shards ≡ b → i / shards < length (shard_members shards k (suc n))) [
             | true ↦ λ early. omega (
               arith,
               e,
               moved (λ m. m / shards) i n same,
-              div-eq_of_lt
-                  (ltb-true n shards early),
+              div-eq_of_lt (ltb-true n shards early),
             )
             | false ↦ λ later.
                 let m = n - shards in
@@ -95,8 +82,7 @@ few_members mode (s ∷ scripts) (age ∷ ages) ranges (is, rest) =
     let first = All-head (λ (s : Script). HasRanges s × (s.ages ≡ 1)) s scripts ranges in
     All-cons (λ (a : AgeEnd). length a.members ≤ MAX_MEMBERS) age ages
     (omega (arith, is.played.roster, first.0.group.most_members))
-    (few_members mode scripts ages
-    (All-tail (λ (s : Script). HasRanges s × (s.ages ≡ 1)) s scripts ranges) rest)
+    (few_members mode scripts ages (All-tail (λ (s : Script). HasRanges s × (s.ages ≡ 1)) s scripts ranges) rest)
 
 -- the members of shard k below n
 abbrev pub listed : ℕ → ℕ → ℕ → List ℕ
@@ -113,8 +99,7 @@ taken shards k n first old now new is before after =
     members_more shards k n ∙ ap (λ b. ns ++ cond b (n ∷ []) []) is in (
       sym (ap has_none more ∙ longer ns n),
       after ∙ append_assoc now (if first then [] else codes ",") (decimal n)
-          ∙ ap₂ (λ a b. a ++ one_more b n) before.1 before.0
-          ∙ append_assoc old (commas ns) (one_more (has_none ns) n)
+          ∙ ap₂ (λ a b. a ++ one_more b n) before.1 before.0 ∙ append_assoc old (commas ns) (one_more (has_none ns) n)
           ∙ ap (λ l. old ++ l) (sym (ap commas more ∙ commas_more ns n)),
     )
 

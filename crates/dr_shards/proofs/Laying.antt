@@ -1,26 +1,15 @@
 -- The script of a shard keeps the rules of a script.
+use Rattle.std.{specs.List.{cons_option, position_or_len}, proofs.lemmas.List.{length-map, map-append}}
+use Rattle.std.specs.{Option.option_map, Prelude.{All, None, Some, filter_map, map, slice_index_or, position}}
 use Rattle.std.proofs.Common.{◌≡◌, ℕ, suc, ◌+◌, ◌/◌, ◌%◌, ◌<◌, ◌≤◌, Bool, true, false, cond, not, eqb, ltb, ◌++◌, List, [], ◌∷◌, length, refl, ap, sym, subst, ◌∙◌, arith}
-use Rattle.std.specs.Prelude.{All, None, Some, filter_map, map, slice_index_or, position}
-use Rattle.std.specs.List.{cons_option, position_or_len}
-use Rattle.std.specs.Option.{option_map}
-use Rattle.std.proofs.lemmas.Bool.{eqb-true, ltb-false}
-use Rattle.std.proofs.Math.Nat.{mod-eq_of_lt}
-use Rattle.std.proofs.lemmas.List.{length-map, map-append}
-use Rattle.std.proofs.lemmas.List.FromFn.{get_or-map-range_with_len, length-map-range_with_len}
-use Rattle.std.proofs.lemmas.Option.{same_Some}
-use Rattle.std.proofs.lemmas.List.Elements.{All-cons}
-use Rattle.dr_entry.specs.declared.limits.TheConstants.{MAX_MESSAGE_LENGTH, MAX_MESSAGES}
-use Rattle.dr_entry.proofs.OptionFacts.{same_number}
-use Rattle.dr_entry.proofs.ListPlaces.{any_or}
-use Rattle.dr_entry.proofs.Bits.{all_map}
-use Rattle.dr_entry.proofs.ListParts.{none_passes}
-use Rattle.dr_script.specs.Ranges.{HasFaultRanges, HasRanges, HasWhatRanges}
-use Rattle.dr_script.specs.declared.script.Fault.{Fault}
-use Rattle.dr_script.specs.declared.script.Script.{Script}
-use Rattle.dr_script.specs.declared.script.What.{What}
-use Rattle.dr_script.specs.declared.script.What.TheVariants.{Crash, Suspect}
-use Rattle.dr_shards.specs.declared.fault.LayFault.TheVariants.{Crosses, ManyAges, NoShard}
+use Rattle.std.proofs.{Math.Nat.mod-eq_of_lt, lemmas.{Bool.{eqb-true, ltb-false}, Option.same_Some}}
+use Rattle.std.proofs.lemmas.List.{Elements.All-cons, FromFn.{get_or-map-range_with_len, length-map-range_with_len}}
+use Rattle.dr_entry.{specs.declared.limits.TheConstants.{MAX_MESSAGE_LENGTH, MAX_MESSAGES}, proofs.Bits.all_map}
+use Rattle.dr_entry.proofs.{ListParts.none_passes, ListPlaces.any_or, OptionFacts.same_number}
+use Rattle.dr_script.specs.{Ranges.{HasFaultRanges, HasRanges, HasWhatRanges}, declared.script.Fault.Fault}
+use Rattle.dr_script.specs.declared.script.{Script.Script, What.{What, TheVariants.{Crash, Suspect}}}
 use Rattle.dr_shards.specs.Layout.{crosses, crosses_by, shard_fault, is_of_shard, layout, shard_members, shard_messages, lay_refusal, renumbered, shard_of}
+use Rattle.dr_shards.specs.declared.fault.LayFault.TheVariants.{Crosses, ManyAges, NoShard}
 use Rattle.dr_shards.proofs.Counting.{count_above, count_most, members_more}
 
 -- no suspicion crosses shards
@@ -41,16 +30,12 @@ all_found shards k P Q each (f ∷ faults) all none =
           (each f g (all 0 f (omega arith)) (none 0 f (omega arith)) is) rest
     ] refl
 
-few_found : (shards k : ℕ) (faults : List Fault)
-    → length (filter_map (shard_fault shards k) faults) ≤ length faults
+few_found : (shards k : ℕ) (faults : List Fault) → length (filter_map (shard_fault shards k) faults) ≤ length faults
 few_found shards k [] = omega arith
 few_found shards k (f ∷ faults) =
     let rest = few_found shards k faults in
     elim (shard_fault shards k f) as (λ x. length (cons_option x (filter_map (shard_fault shards k) faults)) ≤
-    suc (length faults)) [
-      | None ↦ omega (arith, rest)
-      | Some g ↦ omega (arith, rest)
-    ]
+    suc (length faults)) [ None ↦ omega (arith, rest) | Some g ↦ omega (arith, rest) ]
 
 module _ (script : Script) (ranges : HasRanges script) (shards k : ℕ) (some : 0 < shards) (below : k < shards)
     (enough : shards ≤ script.members) where
@@ -62,8 +47,7 @@ module _ (script : Script) (ranges : HasRanges script) (shards k : ℕ) (some : 
       let there : other % shards ≡ m % shards = eqb-true (other % shards) (m % shards) (not_false _ apart) in (
         has.0,
         has.1,
-        count_above shards k script.members other some has.2 (there
-            ∙ here),
+        count_above shards k script.members other some has.2 (there ∙ here),
         λ same. has.3 (same_number shards other m there same),
       )
     where
@@ -74,12 +58,10 @@ module _ (script : Script) (ranges : HasRanges script) (shards k : ℕ) (some : 
   fault_ranges : (f g : Fault) → HasFaultRanges script f → crosses shards f ≡ false
       → shard_fault shards k f ≡ Some g → HasFaultRanges (shard_of script shards k) g
   fault_ranges f g has apart is =
-      elim (is_of_shard shards k f.member) as (λ b. is_of_shard shards k f.member ≡ b
-      → cond b (Some (record {
+      elim (is_of_shard shards k f.member) as (λ b. is_of_shard shards k f.member ≡ b → cond b (Some (record {
         age = f.age;
         member = f.member / shards;
-        what =
-            renumbered shards f.what;
+        what = renumbered shards f.what;
       })) None ≡ Some g → HasFaultRanges (shard_of script shards k) g) [
         | false ↦ λ _ no. absurd (cc no)
         | true ↦ λ at found.
@@ -94,12 +76,10 @@ module _ (script : Script) (ranges : HasRanges script) (shards k : ℕ) (some : 
   pub shard_ranges : NoneCross shards script.faults → HasRanges (shard_of script shards k)
   shard_ranges apart = record {
     group = record {
-      some_member =
-          omega (
-            arith,
-            count_above shards k script.members k some (omega (arith, below, enough))
-                (mod-eq_of_lt below),
-          );
+      some_member = omega (
+        arith,
+        count_above shards k script.members k some (omega (arith, below, enough)) (mod-eq_of_lt below),
+      );
       most_members = omega (arith, count_most shards k script.members, ranges.group.most_members);
       some_slot = ranges.group.some_slot;
       most_slots = ranges.group.most_slots;
@@ -107,11 +87,9 @@ module _ (script : Script) (ranges : HasRanges script) (shards k : ℕ) (some : 
       few = all_map (λ m. slice_index_or script.messages m []) (λ ms. length ms ≤ MAX_MESSAGES)
           (λ m. any_or (λ ms. length ms ≤ MAX_MESSAGES) script.messages m ranges.group.few (omega arith))
           (shard_members shards k script.members);
-      short = all_map (λ m. slice_index_or script.messages m [])
-          (All (λ bytes. length bytes ≤ MAX_MESSAGE_LENGTH))
+      short = all_map (λ m. slice_index_or script.messages m []) (All (λ bytes. length bytes ≤ MAX_MESSAGE_LENGTH))
           (λ m. any_or (All (λ (bytes : List ℕ). length bytes ≤ MAX_MESSAGE_LENGTH)) script.messages m
-          ranges.group.short (λ n d within. absurd (omega (arith, within))))
-          (shard_members shards k script.members);
+          ranges.group.short (λ n d within. absurd (omega (arith, within)))) (shard_members shards k script.members);
       bytes = all_map (λ m. slice_index_or script.messages m []) (All (All (λ byte. byte < 256)))
           (λ m. any_or (All (All (λ (byte : ℕ). byte < 256))) script.messages m ranges.group.bytes
           (λ n d within. absurd (omega (arith, within)))) (shard_members shards k script.members);
@@ -133,11 +111,9 @@ pub record LaysOut (script : Script) (shards : ℕ) : Type 0 where
   pub apart : NoneCross shards script.faults
 
 pub lays_out : (script : Script) (shards : ℕ) → lay_refusal script shards ≡ None → LaysOut script shards
-lays_out script shards unrefused =
-    elim (ltb script.members shards) as (λ b. ltb script.members shards ≡ b
+lays_out script shards unrefused = elim (ltb script.members shards) as (λ b. ltb script.members shards ≡ b
     → cond b (Some (NoShard shards script.members))
-    (cond (eqb script.ages 1)
-    (option_map (λ fault. Crosses fault) (position (crosses shards) script.faults))
+    (cond (eqb script.ages 1) (option_map (λ fault. Crosses fault) (position (crosses shards) script.faults))
     (Some (ManyAges script.ages))) ≡ None → LaysOut script shards) [
       | true ↦ λ _ no. absurd (cc no)
       | false ↦ λ enough. elim (eqb script.ages 1) as (λ b. eqb script.ages 1 ≡ b
@@ -164,8 +140,7 @@ lays_out script shards unrefused =
 pub layout_ranges : (script : Script) (shards : ℕ) → HasRanges script → 0 < shards → LaysOut script shards
     → All (λ (s : Script). HasRanges s × (s.ages ≡ 1)) (layout script shards)
 layout_ranges script shards ranges some lays k d within =
-    let below : k < shards =
-    omega (arith, within, length-map-range_with_len (shard_of script shards) 0 shards) in
+    let below : k < shards = omega (arith, within, length-map-range_with_len (shard_of script shards) 0 shards) in
     subst (λ (s : Script). HasRanges s × (s.ages ≡ 1))
     (sym (get_or-map-range_with_len (shard_of script shards) 0 shards k k d below (omega arith)))
     (shard_ranges script ranges shards k some below lays.enough lays.apart, lays.one_age)
@@ -175,11 +150,9 @@ pub messages_more : (script : Script) (shards k n : ℕ) (b : Bool) → is_of_sh
     → map (λ m. slice_index_or script.messages m []) (shard_members shards k (n + 1)) ≡ map
     (λ m. slice_index_or script.messages m []) (shard_members shards k n) ++ cond b
     (slice_index_or script.messages n [] ∷ []) []
-messages_more script shards k n b is =
-    ap (map (λ m. slice_index_or script.messages m [])) (members_more shards k n)
-    ∙ map-append (λ m. slice_index_or script.messages m []) (shard_members shards k n)
-    (cond (is_of_shard shards k n) (n ∷ []) [])
-    ∙ ap (λ xs. map (λ m. slice_index_or script.messages m []) (shard_members shards k n) ++ xs)
+messages_more script shards k n b is = ap (map (λ m. slice_index_or script.messages m [])) (members_more shards k n)
+    ∙ map-append (λ m. slice_index_or script.messages m []) (shard_members shards k n) (cond (is_of_shard shards k n)
+    (n ∷ []) []) ∙ ap (λ xs. map (λ m. slice_index_or script.messages m []) (shard_members shards k n) ++ xs)
     (alone (is_of_shard shards k n) ∙ ap (λ x. cond x (slice_index_or script.messages n [] ∷ []) []) is)
   where
     alone : (x : Bool) → map (λ m. slice_index_or script.messages m []) (cond x (n ∷ []) []) ≡ cond x
@@ -189,10 +162,8 @@ messages_more script shards k n b is =
 
 -- a shard has as many members as it has lists of messages, which are few
 pub lists_few : (script : Script) (shards k : ℕ) → length (shard_messages script shards k) ≤ script.members
-lists_few script shards k =
-    omega (
-      arith,
-      length-map (shard_members shards k script.members)
-          (λ m. slice_index_or script.messages m []),
-      count_most shards k script.members,
-    )
+lists_few script shards k = omega (
+  arith,
+  length-map (shard_members shards k script.members) (λ m. slice_index_or script.messages m []),
+  count_most shards k script.members,
+)

@@ -1,13 +1,10 @@
 -- The number of a member in its shard.
-use Rattle.std.proofs.Common.{◌≡◌, ℕ, zero, suc, ◌+◌, ◌-◌, ◌*◌, ◌/◌, ◌%◌, ◌<◌, true, false, cond, eqb, ltb, [], ◌∷◌, ◌++◌, length, refl, ap, sym, subst, ◌∙◌, arith}
 use Rattle.std.specs.Prelude.{Some, slice_get}
-use Rattle.std.proofs.Math.Nat.{mod-lt}
-use Rattle.std.proofs.lemmas.Bool.{eq-eqb, ltb-true, ltb-false}
-use Rattle.std.proofs.lemmas.Nat.{div-add-mod', mod-mul-add}
+use Rattle.std.proofs.Common.{◌≡◌, ℕ, zero, suc, ◌+◌, ◌-◌, ◌*◌, ◌/◌, ◌%◌, ◌<◌, true, false, cond, eqb, ltb, [], ◌∷◌, ◌++◌, length, refl, ap, sym, subst, ◌∙◌, arith}
+use Rattle.std.proofs.{Math.Nat.mod-lt, lemmas.{Bool.{eq-eqb, ltb-true, ltb-false}, Nat.{div-add-mod', mod-mul-add}}}
 use Rattle.dr_entry.proofs.NumberFacts.{one_below, last_one, none_below}
 use Rattle.dr_history_laws.proofs.Lists.{slice_get-left, slice_get-seam}
-use Rattle.dr_shards.specs.Layout.{is_of_shard, shard_members}
-use Rattle.dr_shards.proofs.Counting.{count_above, counted, members_more}
+use Rattle.dr_shards.{specs.Layout.{is_of_shard, shard_members}, proofs.Counting.{count_above, counted, members_more}}
 
 -- of each full row of shards every shard has one member, and of a row begun those that it has come past
 counted_by_rows : (shards k n q r : ℕ) → k < shards → r < shards → n ≡ q * shards + r
@@ -24,8 +21,7 @@ counted_by_rows shards k (suc n) q (suc r) small less is =
 counted_by_rows shards k (suc n) zero zero small less is = absurd (omega (arith, is))
 counted_by_rows shards k (suc n) (suc q) zero small less is =
     let e : n ≡ q * shards + (shards - 1) = omega (arith, is, small) in
-    let here : n % shards ≡ shards - 1 = ap (λ x. x % shards) e
-    ∙ mod-mul-add q shards (shards - 1) (omega arith) in
+    let here : n % shards ≡ shards - 1 = ap (λ x. x % shards) e ∙ mod-mul-add q shards (shards - 1) (omega arith) in
     let rest = counted_by_rows shards k n q (shards - 1) small (omega arith) e in
     counted shards k n ∙ ap (λ x. length (shard_members shards k n) + cond (eqb x k) 1 0) here
     ∙ omega (arith, rest, last_one k shards small, none_below k 0 (omega arith))
@@ -35,15 +31,13 @@ pub numbered : (shards k n i : ℕ) → 0 < shards → i < n → i % shards ≡ 
 numbered shards k zero i some below is = absurd (omega (arith, below))
 numbered shards k (suc n) i some below is =
     let longer : suc n ≡ n + 1 = omega arith in
-    let more : shard_members shards k (suc n) ≡ shard_members shards k n ++ cond (is_of_shard shards k n)
-    (n ∷ []) []
+    let more : shard_members shards k (suc n) ≡ shard_members shards k n ++ cond (is_of_shard shards k n) (n ∷ []) []
     = ap (shard_members shards k) longer ∙ members_more shards k n in
     elim (ltb i n) as (λ b. ltb i n ≡ b → slice_get (shard_members shards k (suc n)) (i / shards) ≡ Some i) [
       | true ↦ λ earlier.
           let front = count_above shards k n i some (ltb-true i n earlier) is in
           ap (λ xs. slice_get xs (i / shards)) more
-          ∙ slice_get-left (shard_members shards k n) (cond (is_of_shard shards k n) (n ∷ []) []) (i / shards)
-          front
+          ∙ slice_get-left (shard_members shards k n) (cond (is_of_shard shards k n) (n ∷ []) []) (i / shards) front
           ∙ numbered shards k n i some (ltb-true i n earlier) is
       | false ↦ λ last.
           let same : i ≡ n = omega (arith, ltb-false i n last, below) in
@@ -53,9 +47,8 @@ numbered shards k (suc n) i some below is =
           (sym (div-add-mod' n shards)) in
           let count : length (shard_members shards k n) ≡ i / shards
           = omega (arith, rows, none_below k (n % shards) (omega (arith, rest)), ap (λ m. m / shards) same) in
-          ap (λ xs. slice_get xs (i / shards)) (more
-          ∙ ap (λ b. shard_members shards k n ++ cond b (n ∷ []) []) (eq-eqb (n % shards) k rest))
-          ∙ ap (slice_get (shard_members shards k n ++ n ∷ [])) (sym count)
+          ap (λ xs. slice_get xs (i / shards)) (more ∙ ap (λ b. shard_members shards k n ++ cond b (n ∷ []) [])
+          (eq-eqb (n % shards) k rest)) ∙ ap (slice_get (shard_members shards k n ++ n ∷ [])) (sym count)
           ∙ slice_get-seam (shard_members shards k n) n [] ∙ ap Some (sym same)
     ] refl
 

@@ -1,42 +1,29 @@
 -- What the members of a shard deliver is what the script gives them.
+use Rattle.std.{specs.{Option.option_map_or, Prelude.Option}, proofs.lemmas.Option.slice_get-get_or}
 use Rattle.std.proofs.Common.{◌≡◌, ℕ, ◌-◌, ◌^◌, List, [], length, get_or, Some, slice_get, ap, sym, subst, ◌∙◌, arith, refl, ◌∷◌, ◌++◌}
-use Rattle.std.specs.Prelude.{Option}
-use Rattle.std.specs.Option.{option_map_or}
-use Rattle.std.proofs.lemmas.Option.{slice_get-get_or}
-use Rattle.dr_age.proofs.Lasting.{none_stopped}
-use Rattle.dr_age.specs.Age.{IsAge, IsAgeOn}
-use Rattle.dr_age.specs.Logged.{AreAmple, AreOpened}
+use Rattle.dr_play.{specs.{Age.{IsAge, IsAgeOn}, Logged.{AreAmple, AreOpened}}, proofs.Lasting.none_stopped}
 use Rattle.dr_disk.specs.Disk.{Told}
-use Rattle.dr_entry.specs.declared.end.AgeEnd.{AgeEnd}
-use Rattle.dr_entry.specs.declared.end.MemberEnd.{MemberEnd}
-use Rattle.dr_entry.specs.declared.entry.Entry.TheVariants.{Msg}
-use Rattle.dr_history.specs.Agreement.{EndsAgreed, accounts_of, sent_by}
-use Rattle.dr_history.specs.Restarting.{AllStand}
+use Rattle.dr_entry.specs.declared.{end.{AgeEnd.AgeEnd, MemberEnd.MemberEnd}, entry.Entry.TheVariants.Msg}
+use Rattle.dr_history.specs.{Agreement.{EndsAgreed, accounts_of, sent_by}, Restarting.AllStand}
 use Rattle.dr_history_laws.proofs.Standing.{history-stands}
 use Rattle.dr_log.specs.State.{LogState}
-use Rattle.dr_machine.proofs.Presence.{is_present}
-use Rattle.dr_machine.specs.Group.{AllPresent, IsGroup}
+use Rattle.dr_machine.{specs.Group.{AllPresent, IsGroup}, proofs.Presence.is_present}
 use Rattle.dr_program.specs.Program.{Program, age_of}
-use Rattle.dr_restart.specs.Groups.{first_group_of, first_start_of, group_of}
-use Rattle.dr_restart.specs.declared.start.Start.{Start}
+use Rattle.dr_restart.specs.{Groups.{first_group_of, first_start_of, group_of}, declared.start.Start.Start}
 use Rattle.dr_script.specs.declared.script.Script.{Script}
-use Rattle.dr_shards.specs.Shards.{AreShardAges, DeliversOwn, IsRunIn, IsShardAge}
-use Rattle.dr_shards.specs.declared.run.ShardMode.{ShardMode}
+use Rattle.dr_shards.specs.{Shards.{AreShardAges, DeliversOwn, IsRunIn, IsShardAge}, declared.run.ShardMode.ShardMode}
 use Rattle.dr_shards.specs.declared.run.ShardMode.TheVariants.{Sim, Run}
 
-own : (script : Script) (ends : List MemberEnd) → IsGroup (first_group_of script)
-    → AllPresent (first_group_of script)
-    → length ends ≡ length script.messages → EndsAgreed (first_group_of script).opening ends
-    → DeliversOwn script ends
+own : (script : Script) (ends : List MemberEnd) → IsGroup (first_group_of script) → AllPresent (first_group_of script)
+    → length ends ≡ length script.messages → EndsAgreed (first_group_of script).opening ends → DeliversOwn script ends
 own script ends is present all agreed m d within s i bytes has =
     let g = first_group_of script in let e = get_or ends m d in
     let there = is_present g m present (omega (arith, all)) in
     let at : slice_get ends m ≡ Some e = slice_get-get_or ends m d within in
     let same : (accounts_of ends m).history ≡ e.history =
     ap (λ x. option_map_or (λ (y : MemberEnd). y.history) x []) at in
-    let stands : AllStand g.opening e.history =
-    subst (AllStand g.opening) same (history-stands g.opening (sent_by (accounts_of ends))
-    (accounts_of ends m).history is.sound (agreed.agreed.ordered m there)) in
+    let stands : AllStand g.opening e.history = subst (AllStand g.opening) same (history-stands g.opening
+    (sent_by (accounts_of ends)) (accounts_of ends m).history is.sound (agreed.agreed.ordered m there)) in
     (stands has.0 (Msg s i bytes) (slice_get-get_or e.history has.0 (Msg s i bytes) has.1 ∙ ap Some has.2)).2
 
 -- how its members ended is told by its program
@@ -78,5 +65,4 @@ pub ages_more : (mode : ShardMode) (scripts : List Script) (ages : List AgeEnd) 
 ages_more mode [] ages script age are is = subst (λ xs. AreShardAges mode (script ∷ []) (xs ++ age ∷ []))
     (sym are) (is, refl)
 ages_more mode (s ∷ scripts) [] script age are is = absurd are
-ages_more mode (s ∷ scripts) (a ∷ ages) script age are is =
-    (are.0, ages_more mode scripts ages script age are.1 is)
+ages_more mode (s ∷ scripts) (a ∷ ages) script age are is = (are.0, ages_more mode scripts ages script age are.1 is)

@@ -1,12 +1,8 @@
 -- How a roster is laid out in shards.
-use Rattle.std.specs.Prelude.{◌≡◌, ℕ, All, ◌/◌, ◌%◌, ◌==◌, Bool, false, not, nat_lt, if◌then◌else◌, List, [], length, map, filter, filter_map, position, slice_index_or, Option, None, Some, option_map}
 use Rattle.std.specs.List.{range_with_len}
-use Rattle.dr_script.specs.declared.script.Fault.{Fault}
-use Rattle.dr_script.specs.declared.script.Script.{Script}
-use Rattle.dr_script.specs.declared.script.What.{What}
-use Rattle.dr_script.specs.declared.script.What.TheVariants.{Crash, Suspect}
-use Rattle.dr_shards.specs.declared.fault.LayFault.{LayFault}
-use Rattle.dr_shards.specs.declared.fault.LayFault.TheVariants.{Crosses, ManyAges, NoShard}
+use Rattle.std.specs.Prelude.{◌≡◌, ℕ, All, ◌/◌, ◌%◌, ◌==◌, Bool, false, not, nat_lt, if◌then◌else◌, List, [], length, map, filter, filter_map, position, slice_index_or, Option, None, Some, option_map}
+use Rattle.dr_script.specs.declared.script.{Fault.Fault, Script.Script, What.{What, TheVariants.{Crash, Suspect}}}
+use Rattle.dr_shards.specs.declared.fault.LayFault.{LayFault, TheVariants.{Crosses, ManyAges, NoShard}}
 
 -- whether member m is in shard k of so many
 abbrev pub is_of_shard : ℕ → ℕ → ℕ → Bool

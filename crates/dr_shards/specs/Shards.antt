@@ -1,18 +1,12 @@
 -- What comes of the run of a shard.
 use Rattle.std.specs.Prelude.{◌≡◌, ℕ, List, [], ◌∷◌, All, Contains, slice_get, Some}
-use Rattle.dr_age.specs.Age.{IsAge}
-use Rattle.dr_age.specs.Logged.{NoneStopped}
-use Rattle.dr_age.specs.Run.{IsRun}
-use Rattle.dr_entry.specs.declared.end.AgeEnd.{AgeEnd}
-use Rattle.dr_entry.specs.declared.end.MemberEnd.{MemberEnd}
-use Rattle.dr_entry.specs.declared.entry.Entry.TheVariants.{Msg}
+use Rattle.dr_play.specs.{Age.IsAge, Logged.NoneStopped, Run.IsRun}
+use Rattle.dr_entry.specs.declared.{end.{AgeEnd.AgeEnd, MemberEnd.MemberEnd}, entry.Entry.TheVariants.Msg}
 use Rattle.dr_history.specs.History.{messages_of}
 use Rattle.dr_program.specs.Program.{Program}
-use Rattle.dr_restart.specs.declared.start.Start.{Start}
-use Rattle.dr_restart.specs.Groups.{first_group_of, first_start_of}
+use Rattle.dr_restart.specs.{Groups.{first_group_of, first_start_of}, declared.start.Start.Start}
 use Rattle.dr_script.specs.declared.script.Script.{Script}
-use Rattle.dr_shards.specs.declared.run.ShardMode.{ShardMode}
-use Rattle.dr_shards.specs.declared.run.ShardMode.TheVariants.{Sim, Run}
+use Rattle.dr_shards.specs.declared.run.ShardMode.{ShardMode, TheVariants.{Sim, Run}}
 use Rattle.dr_sim.specs.Simulated.{IsSimulated}
 
 -- an age is played by the script's schedule, or by some list of deeds

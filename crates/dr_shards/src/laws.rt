@@ -1,10 +1,8 @@
 //! Laws of shards.
 ghost use Rattle.std.specs.Prelude.{◌≡◌, ℕ, ◌/◌, ◌%◌, ◌<◌, None, Some, slice_get};
 ghost use Rattle.dr_entry.specs.declared.end.AgeEnd.{AgeEnd};
-ghost use Rattle.dr_script.specs.Ranges.{HasRanges};
-ghost use Rattle.dr_script.specs.declared.script.Script.{Script};
-ghost use Rattle.dr_shards.specs.Layout.{AgreeOn, lay_refusal, shard_members, shard_of};
-ghost use Rattle.dr_shards.specs.Shards.{IsShardAge};
+ghost use Rattle.dr_script.specs.{Ranges.HasRanges, declared.script.Script.Script};
+ghost use Rattle.dr_shards.specs.{Layout.{AgreeOn, lay_refusal, shard_members, shard_of}, Shards.IsShardAge};
 ghost use Rattle.dr_shards.specs.declared.run.ShardMode.TheVariants.{Sim};
 
 use dr_sim::simulations_repeat;

@@ -1,8 +1,7 @@
 ghost use Rattle.std.specs.Prelude.{◌≡◌, ◌≢◌, ◌<◌, ◌≤◌, ◌⊎◌, All, filter_map, IfOk, IfErr, IfSome, Some, [], length, position};
-ghost use Rattle.dr_script.specs.Ranges.{HasRanges};
-ghost use Rattle.dr_script.specs.declared.script.Script.{Script as ScriptOf};
-ghost use Rattle.dr_shards.specs.declared.fault.LayFault.TheVariants.{OutOfMemory};
+ghost use Rattle.dr_script.specs.{Ranges.HasRanges, declared.script.Script.Script as ScriptOf};
 ghost use Rattle.dr_shards.specs.Layout.{crosses, crosses_by, shard_fault, is_of_shard, layout, shard_messages, lay_refusal, renumbered, shard_of};
+ghost use Rattle.dr_shards.specs.declared.fault.LayFault.TheVariants.{OutOfMemory};
 
 use crate::fault::LayFault;
 use dr_entry::{Message, Seq};

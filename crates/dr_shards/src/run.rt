@@ -1,6 +1,5 @@
 ghost use Rattle.std.specs.Prelude.{◌≡◌, ◌≢◌, [], All, IfOk};
-ghost use Rattle.dr_script.specs.Ranges.{HasRanges};
-ghost use Rattle.dr_script.specs.declared.script.Script.{Script as ScriptOf};
+ghost use Rattle.dr_script.specs.{Ranges.HasRanges, declared.script.Script.Script as ScriptOf};
 ghost use Rattle.dr_shards.specs.Shards.{AreShardAges, IsShardAge};
 
 use dr_entry::AgeEnd;

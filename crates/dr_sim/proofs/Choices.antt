@@ -1,27 +1,17 @@
 -- Seeded runs: what the generator has chosen, and who goes on.
+use Rattle.std.specs.{List.{range_with_len, filter, remove}, Prelude.{Option, Some, None}}
 use Rattle.std.proofs.Common.{◌≡◌, refl, sym, ap, ◌∙◌, subst, ℕ, ◌+◌, ◌<◌, not, true, false, List, [], ◌∷◌, ◌++◌, length, slice_index, inl, inr, ◌⊎◌}
-use Rattle.std.specs.Prelude.{Option, Some, None}
-use Rattle.std.specs.List.{range_with_len, filter, remove}
-use Rattle.std.proofs.lemmas.Bool.{cases_eq}
-use Rattle.std.proofs.lemmas.List.Elements.{filter_agree}
+use Rattle.std.proofs.lemmas.{Bool.cases_eq, List.Elements.filter_agree}
 use Rattle.dr_entry.proofs.ListPlaces.{one_fails}
 use Rattle.dr_script.specs.declared.script.Schedule.TheVariants.{Seed}
 use Rattle.dr_program.specs.declared.outcome.Outcome.TheVariants as outcomes
-use Rattle.dr_program.specs.Running.{Running}
-use Rattle.dr_program.specs.Program.{Move, Program, has_ended, ran, step_of}
-use Rattle.dr_program.specs.Schedule.{next_state, going, AreChosen}
-use Rattle.dr_program.specs.declared.outcome.Outcome.{Outcome}
-use Rattle.dr_sim.specs.Simulated.{HasRun, SomeFailed, WentWell}
-use Rattle.dr_logged.specs.Served.{AtMember}
-use Rattle.dr_sim.specs.Sound.{move}
-use Rattle.dr_sim.specs.Watched.{WasTold}
-use Rattle.dr_sim.proofs.Outcomes.{none_well, well_both, well_one}
-use Rattle.dr_sim.proofs.Tellings.{told_more}
-use Rattle.dr_program.specs.Presence.{present_at}
-use Rattle.dr_program.proofs.Runs.{ran_more}
-use Rattle.dr_program.proofs.Programs.{ran_one, state_after, state_more, chosen_more, goes}
-use Rattle.dr_program.proofs.Schedules.{IsChoice}
-use Rattle.dr_program.proofs.Present.{others_go, nobody_goes}
+use Rattle.dr_program.{specs.{Presence.present_at, Running.Running}, proofs.Runs.ran_more}
+use Rattle.dr_program.specs.{Program.{Move, Program, has_ended, ran, step_of}, declared.outcome.Outcome.Outcome}
+use Rattle.dr_program.{specs.Schedule.{next_state, going, AreChosen}, proofs.Present.{others_go, nobody_goes}}
+use Rattle.dr_program.proofs.{Programs.{ran_one, state_after, state_more, chosen_more, goes}, Schedules.IsChoice}
+use Rattle.dr_sim.specs.{Simulated.{HasRun, SomeFailed, WentWell}, Sound.move, Watched.WasTold}
+use Rattle.dr_sim.proofs.{Outcomes.{none_well, well_both, well_one}, Tellings.told_more}
+use Rattle.dr_served.specs.Served.{AtMember}
 
 -- ---- the choices
 
@@ -59,29 +49,23 @@ chosen_again {W} {sees} {old} {mid} new seed begun x y p q m o has next to step 
   are = chosen_more seed begun has.chosen (move m o) has.are
       (subst (λ (v : Program). IsChoice (state_after seed has.chosen) v m) has.taken
       (subst (λ s. IsChoice s p m) has.state next));
-  well = well_both has.chosen (move m o ∷ []) p q has.well (well_one m o q well)
-      (step ∙ sym (ran_one p (move m o)));
+  well = well_both has.chosen (move m o ∷ []) p q has.well (well_one m o q well) (step ∙ sym (ran_one p (move m o)));
   state = to ∙ ap next_state has.state ∙ sym (state_more seed has.chosen (move m o));
-  taken = step ∙ ap (λ (v : Program). step_of v (move m o)) has.taken
-      ∙ sym (ran_more begun has.chosen (move m o));
+  taken = step ∙ ap (λ (v : Program). step_of v (move m o)) has.taken ∙ sym (ran_more begun has.chosen (move m o));
   told = by (present_at p.members m) refl going;
 }
   where
     by : (r : Option Running) → present_at p.members m ≡ r → has_ended r ≡ false
         → WasTold sees begun (has.chosen ++ move m o ∷ []) old new
     by None is goes = absurd (cc)
-    by (Some r) is goes =
-        told_more sees begun has.chosen p m o r old mid new has.taken has.told is (seen r is)
+    by (Some r) is goes = told_more sees begun has.chosen p m o r old mid new has.taken has.told is (seen r is)
 
 -- ---- who goes on
 
 -- where the chosen member has not ended, the members that go on are the same
-pub going_on : (p q : Program) (m : ℕ) (o : Outcome) → q ≡ step_of p (move m o) → length q.members
-    ≡ length p.members → has_ended (present_at p.members m) ≡ false
-    → has_ended (present_at q.members m) ≡ false
-    → going q ≡ going p
-going_on p q m o step same before after =
-    ap (λ n. filter (goes q) (range_with_len 0 n)) same
+pub going_on : (p q : Program) (m : ℕ) (o : Outcome) → q ≡ step_of p (move m o) → length q.members ≡ length p.members
+    → has_ended (present_at p.members m) ≡ false → has_ended (present_at q.members m) ≡ false → going q ≡ going p
+going_on p q m o step same before after = ap (λ n. filter (goes q) (range_with_len 0 n)) same
     ∙ filter_agree (goes q) (goes p) each (range_with_len 0 (length p.members))
   where
     each : (k : ℕ) → goes q k ≡ goes p k
@@ -94,8 +78,7 @@ going_on p q m o step same before after =
 pub one_has_ended : (p q : Program) (m j : ℕ) (o : Outcome) → q ≡ step_of p (move m o) → length q.members
     ≡ length p.members → j < length (going p) → m ≡ slice_index (going p) j
     → has_ended (present_at q.members m) ≡ true → going q ≡ remove (going p) j
-one_has_ended p q m j o step same within at after =
-    ap (λ n. filter (goes q) (range_with_len 0 n)) same
+one_has_ended p q m j o step same within at after = ap (λ n. filter (goes q) (range_with_len 0 n)) same
     ∙ one_fails (goes p) (goes q) m 0 (length p.members) j (ap not after)
     (λ k other. ap (λ (v : Program). goes v k) step ∙ others_go p (move m o) k other) within at
 
@@ -108,16 +91,11 @@ HasRunTold sees old new seed begun p = (run : HasRun (Seed seed) begun p) × Was
 -- once nobody is left, the run is one of the seed
 pub seeded : {W : Type 0} {sees : W → Running → List ℕ → W → Type 0} {old new : W} (seed : ℕ)
     (begun : Program) (x : ℕ) (p : Program) (xs : List ℕ)
-    → HasChosen sees old new seed begun x p → xs ≡ going p → length xs ≡ 0
-    → HasRunTold sees old new seed begun p
+    → HasChosen sees old new seed begun x p → xs ≡ going p → length xs ≡ 0 → HasRunTold sees old new seed begun p
 seeded seed begun x p xs has listed none = (
   record {
     moves = has.chosen;
-    by = record {
-      chosen = has.are;
-      ran = has.taken;
-      ended = nobody_goes p (ap length (sym listed) ∙ none);
-    };
+    by = record { chosen = has.are; ran = has.taken; ended = nobody_goes p (ap length (sym listed) ∙ none) };
     well = has.well;
   },
   has.told,

@@ -1,24 +1,18 @@
 -- What the next deed of a member makes of it and of the table.
-use Rattle.std.proofs.Common.{◌≡◌, sym, ap, ◌∙◌, subst, ℕ, false, List, slice_index}
 use Rattle.std.specs.Prelude.{None, Option, Some, slice_set}
-use Rattle.dr_entry.specs.declared.entry.Entry.{Entry}
+use Rattle.std.proofs.Common.{◌≡◌, sym, ap, ◌∙◌, subst, ℕ, false, List, slice_index}
+use Rattle.dr_entry.specs.{declared.entry.Entry.Entry, declared.record.Record.Record}
 use Rattle.dr_history.specs.History.{up_to_view}
-use Rattle.dr_entry.specs.declared.record.Record.{Record}
 use Rattle.dr_program.specs.declared.deed.Deed.TheVariants as deeds
-use Rattle.dr_program.specs.declared.outcome.LogWhy.{LogWhy}
-use Rattle.dr_program.specs.declared.outcome.Outcome.TheVariants.{Failed, Ok}
-use Rattle.dr_program.specs.Program.{after_deed, next_sight}
-use Rattle.dr_program.specs.Reading.{step_due, step_of_member}
+use Rattle.dr_program.specs.{Program.{after_deed, next_sight}, Reading.{step_due, step_of_member}}
 use Rattle.dr_program.specs.Running.{Running, after_step, broken_off, next_deed, next_step, settled, took_letter}
-use Rattle.dr_program.specs.Sight.{MaySee}
-use Rattle.dr_program.specs.Steps.{IsNoJoin, stored, stored_letters}
-use Rattle.dr_program.proofs.Programs.{after_append}
+use Rattle.dr_program.specs.{Sight.MaySee, Steps.{IsNoJoin, stored, stored_letters}, declared.outcome.LogWhy.LogWhy}
+use Rattle.dr_program.{specs.declared.outcome.Outcome.TheVariants.{Failed, Ok}, proofs.Programs.after_append}
 use Rattle.dr_program.proofs.RunningPrograms.{after_take}
-use Rattle.dr_logged.specs.Appended.{is_append}
-use Rattle.dr_age.proofs.Deeds.{IsStoreAt, any_outcome, deed_tells}
+use Rattle.dr_served.specs.Appended.{is_append}
+use Rattle.dr_play.proofs.Deeds.{IsStoreAt, any_outcome, deed_tells}
 use Rattle.dr_refine.proofs.Deeds.{append_gives, table_at}
-use Rattle.dr_turn.proofs.Failing.{none_failed}
-use Rattle.dr_turn.proofs.Search.{settled_same}
+use Rattle.dr_turn.proofs.{Failing.none_failed, Search.settled_same}
 use Rattle.dr_sim.specs.Deeds.{IsTaken, SeesWell, outcome_by, own_letter, posted, stores, went_so}
 
 -- ---- a look
@@ -48,10 +42,9 @@ is_taken table posts r cells mails x none member words letters = record {
 
 -- by a deed that is no append and no take
 pub other_taken : (table : List ℕ) (posts : List (Option (List Entry))) (r : Running) (cells : List ℕ)
-    (mails : List (Option (List Entry))) (x : Running) → r.replica.end ≡ None
-    → is_append (next_step r) ≡ false → IsNoJoin (next_step r) → x ≡ after_step (next_sight table r) r
-    → cells ≡ stored table r.replica (next_step r) → mails ≡ stored_letters posts r.replica (next_step r)
-    → IsTaken table posts r cells mails x
+    (mails : List (Option (List Entry))) (x : Running) → r.replica.end ≡ None → is_append (next_step r) ≡ false
+    → IsNoJoin (next_step r) → x ≡ after_step (next_sight table r) r → cells ≡ stored table r.replica (next_step r)
+    → mails ≡ stored_letters posts r.replica (next_step r) → IsTaken table posts r cells mails x
 other_taken table posts r cells mails x none other stays member words letters =
     is_taken table posts r cells mails x none
     (member ∙ sym (any_outcome (next_sight table r) (own_letter posts r) (outcome_by x.failed) r (next_step r) other
@@ -70,30 +63,26 @@ look_taken table posts r index x is member =
 -- a member at a push or an act takes it, and the word stands in the table
 store_taken : (table : List ℕ) (posts : List (Option (List Entry))) (r : Running) (index word : ℕ)
     (cells : List ℕ) (x : Running) → r.replica.end ≡ None → IsStoreAt table r (next_step r) index word
-    → ((seen : ℕ) → x ≡ after_step seen r) → cells ≡ slice_set table index word
-    → IsTaken table posts r cells posts x
+    → ((seen : ℕ) → x ≡ after_step seen r) → cells ≡ slice_set table index word → IsTaken table posts r cells posts x
 store_taken table posts r index word cells x none says member words =
     other_taken table posts r cells posts x none says.other says.no_join (member (next_sight table r))
     (words ∙ sym says.stores) (sym (says.posts posts))
 
 pub push_taken : (table : List ℕ) (posts : List (Option (List Entry))) (r : Running) (index word : ℕ)
     (cells : List ℕ) (x : Running) → next_deed r ≡ deeds.Push index word
-    → ((seen : ℕ) → x ≡ after_step seen r) → cells ≡ slice_set table index word
-    → IsTaken table posts r cells posts x
+    → ((seen : ℕ) → x ≡ after_step seen r) → cells ≡ slice_set table index word → IsTaken table posts r cells posts x
 push_taken table posts r index word cells x is = let t = deed_tells table r (deeds.Push index word) is in
     store_taken table posts r index word cells x t.none t.says
 
 pub act_taken : (table : List ℕ) (posts : List (Option (List Entry))) (r : Running) (index word : ℕ)
     (cells : List ℕ) (x : Running) → next_deed r ≡ deeds.Act index word
-    → ((seen : ℕ) → x ≡ after_step seen r) → cells ≡ slice_set table index word
-    → IsTaken table posts r cells posts x
+    → ((seen : ℕ) → x ≡ after_step seen r) → cells ≡ slice_set table index word → IsTaken table posts r cells posts x
 act_taken table posts r index word cells x is = let t = deed_tells table r (deeds.Act index word) is in
     store_taken table posts r index word cells x t.none t.says
 
 -- a member at an append takes it where it goes well
 pub append_taken : (table : List ℕ) (posts : List (Option (List Entry))) (r : Running) (due : Record) (x : Running)
-    → next_deed r ≡ deeds.Append due
-    → ((seen : ℕ) → x ≡ after_step seen r) → IsTaken table posts r table posts x
+    → next_deed r ≡ deeds.Append due → ((seen : ℕ) → x ≡ after_step seen r) → IsTaken table posts r table posts x
 append_taken table posts r due x is member =
     let t = deed_tells table r (deeds.Append due) is in
     let well : x.failed ≡ None = ap (λ (y : Running). y.failed) (member 0 ∙ settled_same 0 r)
@@ -104,9 +93,8 @@ append_taken table posts r due x is member =
     (table_at table r t.says.0) (sym (append_gives posts r.replica (next_step r) t.says.0))
 
 -- and where it fails
-pub failure_taken : (table : List ℕ) (posts : List (Option (List Entry))) (r : Running) (due : Record)
-    (why : LogWhy) (x : Running) → next_deed r
-    ≡ deeds.Append due → x ≡ broken_off why r → IsTaken table posts r table posts x
+pub failure_taken : (table : List ℕ) (posts : List (Option (List Entry))) (r : Running) (due : Record) (why : LogWhy)
+    (x : Running) → next_deed r ≡ deeds.Append due → x ≡ broken_off why r → IsTaken table posts r table posts x
 failure_taken table posts r due why x is broken =
     let t = deed_tells table r (deeds.Append due) is in
     subst (IsTaken table posts r table posts) (sym broken) (is_taken table posts r table posts (broken_off why r) t.none

@@ -1,42 +1,26 @@
 -- The letters and the lists for them: what a sound program's member finds, and what its deed leaves.
-use Rattle.std.proofs.Common.{◌≡◌, refl, sym, ap, ◌∙◌, subst, ℕ, ◌+◌, ◌<◌, ◌≤◌, false, List, length, inl, inr, arith}
 use Rattle.std.specs.Prelude.{IfSome, Option, None, Some, slice_set}
-use Rattle.std.proofs.lemmas.Bool.{cases_eq}
-use Rattle.std.proofs.lemmas.Option.{same_Some}
+use Rattle.std.proofs.Common.{◌≡◌, refl, sym, ap, ◌∙◌, subst, ℕ, ◌+◌, ◌<◌, ◌≤◌, false, List, length, inl, inr, arith}
+use Rattle.std.proofs.lemmas.{Bool.cases_eq, Option.same_Some}
 use Rattle.dr_entry.specs.declared.entry.Entry.{Entry}
 use Rattle.dr_form.specs.Letters.{IsFitting}
-use Rattle.dr_history.specs.History.{up_to_view}
-use Rattle.dr_history.specs.Members.{members_of}
-use Rattle.dr_logged.specs.Served.{LetterGoesOn}
-use Rattle.dr_machine.specs.Acts.{CanTake}
-use Rattle.dr_machine.specs.Group.{Group, late_members, roster}
-use Rattle.dr_machine.specs.Guards.{CanWelcome}
+use Rattle.dr_history.specs.{History.up_to_view, Members.members_of}
+use Rattle.dr_served.specs.{Appended.is_append, Served.LetterGoesOn}
+use Rattle.dr_machine.specs.{Acts.CanTake, Group.{Group, late_members, roster}, Guards.CanWelcome}
 use Rattle.dr_program.specs.declared.deed.Deed.TheVariants as deeds
-use Rattle.dr_program.specs.declared.outcome.Outcome.TheVariants.{Ok}
-use Rattle.dr_program.specs.Presence.{present_at, with_present}
-use Rattle.dr_program.specs.Program.{Program, next_sight, step_of, letter_for}
-use Rattle.dr_program.specs.Reading.{letters_of, world}
-use Rattle.dr_program.specs.Replica.{Replica, is_inside}
+use Rattle.dr_program.specs.{Presence.{present_at, with_present}, Program.{Program, next_sight, step_of, letter_for}}
+use Rattle.dr_program.specs.{Reading.{letters_of, world}, Replica.{Replica, is_inside}}
 use Rattle.dr_program.specs.Running.{AsksForLetter, Running, after_step, deed, deed_of, next_deed, next_step, settled}
-use Rattle.dr_program.specs.Steps.{IsNoJoin, stored_letters}
-use Rattle.dr_program.proofs.Fixed.{Told, told}
-use Rattle.dr_program.proofs.Present.{present_kept, present_set, present_within, MayGet}
-use Rattle.dr_refine.proofs.Deeds.{deed_step, step_is}
-use Rattle.dr_refine.proofs.Tests.{given_welcome}
-use Rattle.dr_program_laws.proofs.Letters.{letters_are, letters_have_room, may_get}
+use Rattle.dr_program.specs.{Steps.{IsNoJoin, stored_letters}, declared.outcome.Outcome.TheVariants.Ok}
+use Rattle.dr_program.proofs.{Fixed.{Told, told}, Present.{present_kept, present_set, present_within, MayGet}}
+use Rattle.dr_refine.proofs.{Deeds.{deed_step, step_is}, Tests.given_welcome}
+use Rattle.dr_program_laws.proofs.{Letters.{letters_are, letters_have_room, may_get}, Lists.deed_told}
 use Rattle.dr_turn.proofs.Takes.{taking}
-use Rattle.dr_world.specs.Posts.{PostsOf, count_filled}
-use Rattle.dr_world.specs.Steps.{posts_after}
+use Rattle.dr_world.specs.{Posts.{PostsOf, count_filled}, Steps.posts_after}
 use Rattle.dr_world.proofs.Letters.{enough_after, list_left}
-use Rattle.dr_age.specs.Sound.{IsSound}
-use Rattle.dr_age.proofs.Deeds.{any_outcome, at_give, at_take}
-use Rattle.dr_logged.specs.Appended.{is_append}
-use Rattle.dr_program_laws.proofs.Lists.{deed_told}
-use Rattle.dr_age.proofs.Sound.{move_sound}
-use Rattle.dr_sim.specs.Deeds.{IsTaken, outcome_by, own_letter, went_so}
-use Rattle.dr_sim.specs.Lists.{FindsLists, HasSpare, HaveSpares}
-use Rattle.dr_sim.specs.Sound.{IsAmong, move, with_member}
-use Rattle.dr_sim.proofs.Steps.{own_there}
+use Rattle.dr_play.{specs.Sound.IsSound, proofs.{Deeds.{any_outcome, at_give, at_take}, Sound.move_sound}}
+use Rattle.dr_sim.specs.{Deeds.{IsTaken, outcome_by, own_letter, went_so}, Lists.{FindsLists, HasSpare, HaveSpares}}
+use Rattle.dr_sim.{specs.Sound.{IsAmong, move, with_member}, proofs.Steps.own_there}
 
 -- ---- what a member finds
 
@@ -53,10 +37,9 @@ is_free g p m r posts j is none lists gives = record {
   within = get.within;
   none = get.none;
   left = list_left g (world g (step_of p (move m Ok))) posts.letters j posts.left (up_to_view r.replica.history)
-      is.sound.group (move_sound g p (move m Ok) is.sound).reached whole
-      (ap (λ (q : Program). letters_of q.letters) (step_is p (move m Ok) r is.there none)
-      ∙ ap (λ s. letters_of (stored_letters p.letters r.replica s)) (at_give r j gives)
-      ∙ ap (λ ls. letters_of (slice_set ls j (Some (up_to_view r.replica.history)))) is.letters)
+      is.sound.group (move_sound g p (move m Ok) is.sound).reached whole (ap (λ (q : Program). letters_of q.letters)
+      (step_is p (move m Ok) r is.there none) ∙ ap (λ s. letters_of (stored_letters p.letters r.replica s))
+      (at_give r j gives) ∙ ap (λ ls. letters_of (slice_set ls j (Some (up_to_view r.replica.history)))) is.letters)
       get (omega (arith, lists.enough, ap (λ k. length (members_of k)) (is.sound.form.of m r is.there).late));
 }
   where
@@ -72,8 +55,7 @@ is_free g p m r posts j is none lists gives = record {
         (any_outcome (next_sight p.table r) (letter_for p m) Ok r (next_step r) (ap is_append (at_give r j gives)) plain)).0
 
     get : MayGet g posts.letters j
-    get = may_get g (world g p) posts.letters m j is.sound.group is.sound.reached whole
-        (ap letters_of is.letters) can
+    get = may_get g (world g p) posts.letters m j is.sound.group is.sound.reached whole (ap letters_of is.letters) can
 
 -- a letter that is there for a member that takes it fits it, and goes on from what it has
 record IsGood (r : Running) (letter : Option (List Entry)) : Type 0 where
@@ -111,27 +93,23 @@ finds_lists g p m r cells posts is none lists = record {
 pub taken_told : (words : List ℕ) (posts : List (Option (List Entry))) (r : Running) (cells : List ℕ)
     (mails : List (Option (List Entry))) (x : Running) → r.replica.end ≡ None
     → IsTaken words posts r cells mails x → told x.replica ≡ told r.replica
-taken_told words posts r cells mails x none taken =
-    ap (λ (y : Running). told y.replica)
+taken_told words posts r cells mails x none taken = ap (λ (y : Running). told y.replica)
     (taken.member ∙ ap (went_so words (own_letter posts r) (outcome_by x.failed) r) none)
     ∙ deed_told words (own_letter posts r) (outcome_by x.failed) r
 
 -- so lists are left for it as before
 pub lists_after : (posts after : PostsOf) (r x : Running) → r.replica.end ≡ None → told x.replica ≡ told r.replica
-    → after ≡ posts_after posts r.replica (next_step r) → FindsLists posts r → HasSpare posts r
-    → HasSpare after x
-lists_after posts after r x none same is finds lists =
-    subst (λ p. HasSpare p x) (sym is) (record {
-      enough = omega (
-        arith,
-        ap (λ (t : Told). length (members_of t.late)) same,
-        enough_after posts.letters posts.left (length (members_of r.replica.late)) r.replica (next_step r)
-            lists.enough
-            (λ j given. let free = finds.list j (ap (deed r) none
-            ∙ ap (deed_of r) (given_welcome (next_step r) j given)) in (free.2, free.1, free.0)),
-      );
-      room = omega (arith, ap (λ (t : Told). t.room) same, lists.room);
-    })
+    → after ≡ posts_after posts r.replica (next_step r) → FindsLists posts r → HasSpare posts r → HasSpare after x
+lists_after posts after r x none same is finds lists = subst (λ p. HasSpare p x) (sym is) (record {
+  enough = omega (
+    arith,
+    ap (λ (t : Told). length (members_of t.late)) same,
+    enough_after posts.letters posts.left (length (members_of r.replica.late)) r.replica (next_step r) lists.enough
+        (λ j given. let free = finds.list j (ap (deed r) none
+        ∙ ap (deed_of r) (given_welcome (next_step r) j given)) in (free.2, free.1, free.0)),
+  );
+  room = omega (arith, ap (λ (t : Told). t.room) same, lists.room);
+})
 
 pub lists_still : (posts : PostsOf) (r x : Running) → told x.replica ≡ told r.replica → HasSpare posts r
     → HasSpare posts x
@@ -165,6 +143,5 @@ lists_on g p posts after m r x is there same lists room have = λ k q at. elim (
 pub turn_told : (g : Group) (p : Program) (m : ℕ) (r x : Running) (cells : List ℕ)
     (mails : List (Option (List Entry))) → IsSound g p → present_at p.members m ≡ Some r
     → IsSound g (with_member p m x cells mails) → x.replica.late ≡ r.replica.late
-turn_told g p m r x cells mails is there after =
-    (after.form.of m x (present_set p.members m x (present_within p.members m r there))).late
-    ∙ sym (is.form.of m r there).late
+turn_told g p m r x cells mails is there after = (after.form.of m x
+    (present_set p.members m x (present_within p.members m r there))).late ∙ sym (is.form.of m r there).late

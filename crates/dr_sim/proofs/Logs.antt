@@ -1,16 +1,12 @@
 -- The logs of a program, where one member and its log go on.
-use Rattle.std.proofs.Common.{◌≡◌, sym, ap, ◌∙◌, subst, inl, inr, ℕ, ◌<◌, List, length, length-set}
 use Rattle.std.specs.Prelude.{Option, Some, None, slice_set}
-use Rattle.std.proofs.lemmas.Bool.{cases_eq}
-use Rattle.std.proofs.lemmas.List.{get_or-set_same, get_or-set_other}
-use Rattle.std.proofs.lemmas.Option.{same_Some}
+use Rattle.std.proofs.Common.{◌≡◌, sym, ap, ◌∙◌, subst, inl, inr, ℕ, ◌<◌, List, length, length-set}
+use Rattle.std.proofs.lemmas.{Bool.cases_eq, List.{get_or-set_same, get_or-set_other}, Option.same_Some}
 use Rattle.dr_disk.specs.Disk.{Told}
 use Rattle.dr_log.specs.State.{LogState}
-use Rattle.dr_program.specs.Program.{Program}
-use Rattle.dr_logged.specs.Served.{AreReady, AtMember, HaveServed, IsReady}
-use Rattle.dr_sim.specs.Places.{HasServedAt, IsReadyAt}
-use Rattle.dr_sim.specs.Sound.{AreOthers}
-use Rattle.dr_program.specs.Presence.{present_at}
+use Rattle.dr_program.specs.{Presence.present_at, Program.Program}
+use Rattle.dr_served.specs.Served.{AreReady, AtMember, HaveServed, IsReady}
+use Rattle.dr_sim.specs.{Places.{HasServedAt, IsReadyAt}, Sound.AreOthers}
 
 -- the member's log is ready again, and the others are as they were
 pub ready_on : {D : Type 0} (logs : List (Option (LogState D))) (place : Option (LogState D)) (p q : Program)
@@ -29,10 +25,8 @@ ready_on logs place p q m ready same others at within = record {
   each = λ k l r there member. elim (cases_eq k m) [
     | inl here ↦
         let now = at r (ap (present_at q.members) (sym here) ∙ member) in
-        subst (λ x. IsReady x r)
-        (same_Some now.0 l (sym now.1 ∙ sym (get_or-set_same logs m place None within)
-        ∙ ap (present_at (slice_set logs m place)) (sym here) ∙ there))
-        now.2
+        subst (λ x. IsReady x r) (same_Some now.0 l (sym now.1 ∙ sym (get_or-set_same logs m place None within)
+        ∙ ap (present_at (slice_set logs m place)) (sym here) ∙ there)) now.2
     | inr other ↦ ready.each k l r (sym (get_or-set_other logs m k place None other) ∙ there)
         (sym (others k other) ∙ member)
   ];
@@ -46,9 +40,8 @@ pub served_on : {D : Type 0} (told : D → Option Told) (count : D → ℕ) (bas
 served_on told count bases logs place p q m others within at served = λ k base l r from there member.
     elim (cases_eq k m) [
       | inl here ↦ at base (ap (present_at bases) (sym here) ∙ from) r
-          (ap (present_at q.members) (sym here) ∙ member) l
-          (sym (get_or-set_same logs m place None within) ∙ ap (present_at (slice_set logs m place)) (sym here)
-          ∙ there)
+          (ap (present_at q.members) (sym here) ∙ member) l (sym (get_or-set_same logs m place None within)
+          ∙ ap (present_at (slice_set logs m place)) (sym here) ∙ there)
       | inr other ↦ served k base l r from (sym (get_or-set_other logs m k place None other) ∙ there)
           (sym (others k other) ∙ member)
     ]

@@ -1,26 +1,19 @@
 -- Whether appends went well over moves: they did, or some member's has failed, and that stays.
-use Rattle.std.proofs.Common.{◌≡◌, refl, sym, ap, ◌∙◌, subst, inl, inr, ◌⊎◌, ℕ, List, [], ◌∷◌, ◌++◌}
 use Rattle.std.specs.Prelude.{Option, None, Some}
-use Rattle.std.proofs.lemmas.Bool.{cases_eq}
-use Rattle.std.proofs.lemmas.List.Elements.{All-append, All-nil}
-use Rattle.std.proofs.lemmas.Option.{same_Some}
+use Rattle.std.proofs.Common.{◌≡◌, refl, sym, ap, ◌∙◌, subst, inl, inr, ◌⊎◌, ℕ, List, [], ◌∷◌, ◌++◌}
+use Rattle.std.proofs.lemmas.{Bool.cases_eq, List.Elements.{All-append, All-nil}, Option.same_Some}
 use Rattle.dr_entry.specs.declared.end.End.{End}
-use Rattle.dr_program.specs.declared.outcome.Outcome.{Outcome}
-use Rattle.dr_program.specs.declared.outcome.Outcome.TheVariants.{Ok}
-use Rattle.dr_program.specs.Program.{Move, Program, after_deed, letter_for, moved_by, next_sight, ran, step_of, went}
-use Rattle.dr_program.specs.Running.{Running, next_step}
-use Rattle.dr_sim.specs.Simulated.{SomeFailed, WentWell}
-use Rattle.dr_sim.specs.Sound.{move}
 use Rattle.dr_program.specs.Presence.{present_at}
-use Rattle.dr_program.proofs.Present.{present_within, present_set, present_kept}
-use Rattle.dr_program.proofs.Programs.{one_ok}
+use Rattle.dr_program.specs.Program.{Move, Program, after_deed, letter_for, moved_by, next_sight, ran, step_of, went}
+use Rattle.dr_program.specs.{Running.{Running, next_step}, declared.outcome.Outcome.{Outcome, TheVariants.Ok}}
+use Rattle.dr_program.proofs.{Present.{present_within, present_set, present_kept}, Programs.one_ok}
+use Rattle.dr_sim.specs.{Simulated.{SomeFailed, WentWell}, Sound.move}
 use Rattle.dr_turn.proofs.Search.{still_failed}
 
 failed_step : (p : Program) (e : Move) → SomeFailed p → SomeFailed (step_of p e)
 failed_step p e (m, r, why, there, at) = by (present_at p.members e.member) refl
   where
-    on : (x : Running) → present_at p.members e.member ≡ Some x → (o : Option End)
-        → SomeFailed (went p x e o)
+    on : (x : Running) → present_at p.members e.member ≡ Some x → (o : Option End) → SomeFailed (went p x e o)
     on x is (Some end) = (m, r, why, there, at)
     on x is None = elim (cases_eq m e.member) [
       | inr other ↦ (
@@ -60,8 +53,7 @@ none_well p = inl (All-nil (λ (e : Move). e.outcome ≡ Ok))
 -- so did moves and more of them
 pub well_both : (es fs : List Move) (p q : Program) → WentWell es p → WentWell fs q → q ≡ ran p fs
     → WentWell (es ++ fs) q
-well_both es fs p q (inl first) (inl next) is =
-    inl (All-append (λ (e : Move). e.outcome ≡ Ok) es fs first next)
+well_both es fs p q (inl first) (inl next) is = inl (All-append (λ (e : Move). e.outcome ≡ Ok) es fs first next)
 well_both es fs p q first (inr failed) is = inr failed
 well_both es fs p q (inr failed) next is = inr (subst SomeFailed (sym is) (failed_ran p fs failed))
 

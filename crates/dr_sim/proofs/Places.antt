@@ -1,17 +1,13 @@
 -- A member's log at its place: what other deeds than appends leave, and what stands there of ready logs.
+use Rattle.std.{specs.Prelude.{Option, None, Some, is_some}, proofs.lemmas.{List.get_or_default, Option.same_Some}}
 use Rattle.std.proofs.Common.{◌≡◌, sym, ◌∙◌, subst, ℕ, ◌<◌, ◌≤◌, false, List, length, get_or, arith}
-use Rattle.std.specs.Prelude.{Option, None, Some, is_some}
-use Rattle.std.proofs.lemmas.List.{get_or_default}
-use Rattle.std.proofs.lemmas.Option.{same_Some}
 use Rattle.dr_disk.specs.Disk.{Told}
 use Rattle.dr_entry.specs.declared.entry.Entry.{Entry}
 use Rattle.dr_log.specs.State.{LogState}
-use Rattle.dr_logged.specs.Appended.{is_append}
-use Rattle.dr_logged.specs.Served.{AreReady, HaveServed, IsReady, LetterGoesOn}
-use Rattle.dr_logged.proofs.Serving.{other_ready, other_served, took_served, took_stays_ready}
-use Rattle.dr_program.specs.Presence.{present_at}
+use Rattle.dr_served.specs.{Appended.is_append, Served.{AreReady, HaveServed, IsReady, LetterGoesOn}}
+use Rattle.dr_served.proofs.Serving.{other_ready, other_served, took_served, took_stays_ready}
+use Rattle.dr_program.{specs.Presence.present_at, proofs.Present.present_within}
 use Rattle.dr_program.specs.Running.{AsksForLetter, Running, after_step, next_step, settled, took_letter}
-use Rattle.dr_program.proofs.Present.{present_within}
 use Rattle.dr_sim.specs.Places.{HasServedAt, IsReadyAt}
 
 -- a deed that is no append leaves it ready, and it has served the member still
@@ -31,11 +27,10 @@ pub ready_took : {D : Type 0} (place : Option (LogState D)) (letter : Option (Li
     → IsReadyAt place r → IsReadyAt place (settled (took_letter letter r))
 ready_took place letter r (log, at, ready) = (log, at, took_stays_ready log letter r ready)
 
-pub served_took : {D : Type 0} (told : D → Option Told) (faults : D → ℕ) (base : LogState D)
-    (place : Option (LogState D)) (letter : Option (List Entry)) (r : Running) → AsksForLetter r
-    → r.replica.logged ≤ length r.replica.history
-    → LetterGoesOn r.replica.history letter → HasServedAt told faults base place r
-    → HasServedAt told faults base place (settled (took_letter letter r))
+pub served_took : {D : Type 0} (told : D → Option Told)
+    (faults : D → ℕ) (base : LogState D) (place : Option (LogState D)) (letter : Option (List Entry)) (r : Running)
+    → AsksForLetter r → r.replica.logged ≤ length r.replica.history → LetterGoesOn r.replica.history letter
+    → HasServedAt told faults base place r → HasServedAt told faults base place (settled (took_letter letter r))
 served_took told faults base place letter r asks within on served = λ log at.
     took_served told faults base log letter r asks within on (served log at)
 

@@ -1,33 +1,21 @@
 -- A schedule leads to one program where no append fails, so a script and a start lead to one age.
+use Rattle.std.specs.{List.range_with_len, Prelude.{None, Some, replicate, slice_get}}
 use Rattle.std.proofs.Common.{◌≡◌, sym, ap, ◌∙◌, subst, inl, inr, ℕ, zero, suc, ◌≤◌, List, [], ◌∷◌, length, take, true≢false, arith}
-use Rattle.std.specs.Prelude.{None, Some, replicate, slice_get}
-use Rattle.std.specs.List.{range_with_len}
 use Rattle.std.proofs.lemmas.List.{take-replicate}
-use Rattle.dr_age.specs.Logged.{NoneStopped, why_ended}
-use Rattle.dr_entry.specs.declared.end.AgeEnd.{AgeEnd}
-use Rattle.dr_entry.specs.declared.end.MemberEnd.{MemberEnd}
-use Rattle.dr_entry.proofs.ListParts.{each_at}
+use Rattle.dr_play.{specs.Logged.{NoneStopped, why_ended}, proofs.LoggedMembers.stopped}
+use Rattle.dr_entry.{specs.declared.end.{AgeEnd.AgeEnd, MemberEnd.MemberEnd}, proofs.ListParts.each_at}
 use Rattle.dr_entry.proofs.NumberFacts.{not_less}
 use Rattle.dr_machine.specs.Group.{IsGroup}
-use Rattle.dr_program.specs.Program.{AllEnded, AllOk, Move, Program, age_of, end_of, ok, ran}
+use Rattle.dr_program.specs.{Presence.present_at, Program.{AllEnded, AllOk, Move, Program, age_of, end_of, ok, ran}}
 use Rattle.dr_program.specs.Schedule.{IsTurn, Rounds, TakeTurns, TakesTurn, is_between_turns}
-use Rattle.dr_restart.specs.declared.start.Start.{Start}
-use Rattle.dr_restart.specs.Groups.{group_of}
-use Rattle.dr_script.specs.Ranges.{HasRanges}
-use Rattle.dr_script.specs.declared.script.Schedule.{Schedule}
-use Rattle.dr_script.specs.declared.script.Schedule.TheVariants.{Lockstep, Seed}
-use Rattle.dr_script.specs.declared.script.Script.{Script}
-use Rattle.dr_sim.specs.Repeated.{IsRepeated}
-use Rattle.dr_sim.specs.Simulated.{IsRunBy, IsSimulated, SomeFailed}
-use Rattle.dr_sim.proofs.Courses.{schedule_ends, schedule_ran}
-use Rattle.dr_program.specs.Presence.{present_at}
-use Rattle.dr_program.proofs.Present.{ended_there, rest_rounds}
-use Rattle.dr_program.proofs.Programs.{own_moves, front_ok, back_ok}
+use Rattle.dr_program.proofs.{Present.{ended_there, rest_rounds}, Programs.{own_moves, front_ok, back_ok}}
 use Rattle.dr_program.proofs.Received.{chosen_same}
-use Rattle.dr_restart.proofs.Setups.{AreOne, begun_same}
-use Rattle.dr_program_laws.proofs.Worlds.{end_told}
-use Rattle.dr_program_laws.proofs.Failing.{all_failing}
-use Rattle.dr_age.proofs.LoggedMembers.{stopped}
+use Rattle.dr_restart.{specs.{Groups.group_of, declared.start.Start.Start}, proofs.Setups.{AreOne, begun_same}}
+use Rattle.dr_script.specs.{Ranges.HasRanges, declared.script.Schedule.{Schedule, TheVariants.{Lockstep, Seed}}}
+use Rattle.dr_script.specs.declared.script.Script.{Script}
+use Rattle.dr_sim.specs.{Repeated.IsRepeated, Simulated.{IsRunBy, IsSimulated, SomeFailed}}
+use Rattle.dr_sim.proofs.Courses.{schedule_ends, schedule_ran}
+use Rattle.dr_program_laws.proofs.{Failing.all_failing, Worlds.end_told}
 
 -- ---- moves
 
@@ -42,15 +30,13 @@ module _ (m : ℕ) (p : Program) where
       ∙ take-replicate (length es) (length fs) (ok m) (omega arith) ∙ sym (own_moves m es one.own well) in
       let still = ap (λ xs. is_between_turns (present_at (ran p xs).members m)) (sym same)
       ∙ other.first (length es) one.some less in
-      true≢false (sym one.whole ∙ ap (λ (x : Program). is_between_turns (present_at x.members m)) one.taken
-      ∙ still))
+      true≢false (sym one.whole ∙ ap (λ (x : Program). is_between_turns (present_at x.members m)) one.taken ∙ still))
 
   same_turn : (es : List Move) (q : Program) (fs : List Move) (u : Program) → IsTurn m p es q
       → IsTurn m p fs u → AllOk es → AllOk fs → q ≡ u
   same_turn es q fs u one other well well' =
       let long : length es ≡ length fs =
-      omega (arith, not_longer es q fs u one other well well', not_longer fs u es q other one well' well)
-      in
+      omega (arith, not_longer es q fs u one other well well', not_longer fs u es q other one well' well) in
       let same : es ≡ fs = own_moves m es one.own well ∙ ap (λ n. replicate n (ok m)) long
       ∙ sym (own_moves m fs other.own well') in
       one.taken ∙ ap (ran p) same ∙ sym other.taken
@@ -125,11 +111,8 @@ all_ok script start nth age over ranges group is none = elim is.run.well [
 pub repeats : AreOne → (script : Script) (start : Start) (nth : ℕ) → HasRanges script
     → IsGroup (group_of script start) → IsRepeated script start nth
 repeats same script start nth ranges group one other p q is is' none none' =
-    let begun : is.begun ≡ is'.begun
-    = begun_same same script start nth is.begun is'.begun is.begins is'.begins in
-    let over : p ≡ q
-    = runs_same script.schedule is.begun is.run.moves is'.run.moves p q is.run.by
+    let begun : is.begun ≡ is'.begun = begun_same same script start nth is.begun is'.begun is.begins is'.begins in
+    let over : p ≡ q = runs_same script.schedule is.begun is.run.moves is'.run.moves p q is.run.by
     (subst (λ b. IsRunBy script.schedule b is'.run.moves q) (sym begun) is'.run.by)
-    (all_ok script start nth one p ranges group is none)
-    (all_ok script start nth other q ranges group is' none') in
+    (all_ok script start nth one p ranges group is none) (all_ok script start nth other q ranges group is' none') in
     is.told ∙ ap (age_of (group_of script start).opening) over ∙ sym is'.told

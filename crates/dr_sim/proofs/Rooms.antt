@@ -1,17 +1,12 @@
 -- Room on the logs of members, made one after the other.
-use Rattle.std.proofs.Common.{◌≡◌, refl, sym, ap, ◌∙◌, subst, inl, inr, ℕ, ◌+◌, ◌<◌, List, length, length-set, le_refl, get_or, arith}
 use Rattle.std.specs.Prelude.{Option, None, Some, is_some, slice_set}
-use Rattle.std.proofs.lemmas.Bool.{cases_eq}
-use Rattle.std.proofs.lemmas.List.{get_or_default}
-use Rattle.std.proofs.lemmas.Option.{same_Some}
+use Rattle.std.proofs.Common.{◌≡◌, refl, sym, ap, ◌∙◌, subst, inl, inr, ℕ, ◌+◌, ◌<◌, List, length, length-set, le_refl, get_or, arith}
+use Rattle.std.proofs.lemmas.{Bool.cases_eq, List.get_or_default, Option.same_Some}
 use Rattle.dr_disk.specs.Disk.{Told}
 use Rattle.dr_log.specs.State.{LogState}
-use Rattle.dr_program.specs.Presence.{present_at}
-use Rattle.dr_program.specs.Running.{Running}
-use Rattle.dr_logged.specs.Served.{HaveSamePlaces, IsRoomy}
-use Rattle.dr_logged.proofs.Rooms.{here_set, others_set}
-use Rattle.dr_age.specs.Logged.{AreAsBefore, AreCalm, IsAsBefore}
-use Rattle.dr_age.proofs.LoggedMembers.{HasMadeRoom}
+use Rattle.dr_program.specs.{Presence.present_at, Running.Running}
+use Rattle.dr_served.{specs.Served.{HaveSamePlaces, IsRoomy}, proofs.Rooms.{here_set, others_set}}
+use Rattle.dr_play.{specs.Logged.{AreAsBefore, AreCalm, IsAsBefore}, proofs.LoggedMembers.HasMadeRoom}
 use Rattle.dr_sim.specs.Rooms.{GotRoomAt, StaysAt}
 
 -- a place that stays as it was, in the place of one
@@ -25,9 +20,8 @@ stays_set {D} told count olds news k x new within stays places same calm = (
     all = length-set news k new ∙ places.all;
     each = λ m. elim (cases_eq m k) [
       | inr other ↦ ap is_some (others_set news m k new other) ∙ places.each m
-      | inl at ↦ ap (λ n. is_some (present_at (slice_set news k new) n)) at
-          ∙ ap is_some (here_set news k new within) ∙ stays.place ∙ ap is_some (sym was)
-          ∙ ap (λ n. is_some (present_at news n)) (sym at) ∙ places.each m
+      | inl at ↦ ap (λ n. is_some (present_at (slice_set news k new) n)) at ∙ ap is_some (here_set news k new within)
+          ∙ stays.place ∙ ap is_some (sym was) ∙ ap (λ n. is_some (present_at news n)) (sym at) ∙ places.each m
     ];
   },
   λ m old y there here. elim (cases_eq m k) [
@@ -55,8 +49,7 @@ stays_set {D} told count olds news k x new within stays places same calm = (
         by None none = absurd (cc (ap is_some is, stays.place, ap is_some none))
         by (Some z) some = (z, some, ap (present_at news) at ∙ was ∙ some)
 
-    by_same : (m : ℕ) (old y : LogState D) → m ≡ k → present_at olds m ≡ Some old → new ≡ Some y
-        → IsAsBefore old y
+    by_same : (m : ℕ) (old y : LogState D) → m ≡ k → present_at olds m ≡ Some old → new ≡ Some y → IsAsBefore old y
     by_same m old y at there is =
         let z = before m y at is in stays.kept z.0 y z.1 is ∙ same m old z.0 there z.2
 
@@ -79,10 +72,8 @@ one_more_made {D} told count members olds news k o x new so_far within member st
       made = λ m q old y below there from here. elim (cases_eq m k) [
         | inr other ↦ so_far.made m q old y (omega (arith, below, other)) there from
             (sym (others_set news m k new other) ∙ here)
-        | inl at ↦ room q old y
-            (sym member ∙ ap (present_at members) (sym at) ∙ there)
-            (get_or_default news k x None within ∙ so_far.others k (le_refl k)
-            ∙ ap (present_at olds) (sym at) ∙ from)
+        | inl at ↦ room q old y (sym member ∙ ap (present_at members) (sym at) ∙ there)
+            (get_or_default news k x None within ∙ so_far.others k (le_refl k) ∙ ap (present_at olds) (sym at) ∙ from)
             (sym (here_set news k new within) ∙ ap (present_at (slice_set news k new)) (sym at) ∙ here)
       ];
       others = λ m above. others_set news m k new (λ at. absurd (omega (arith, above, at)))
@@ -120,8 +111,7 @@ pub log_stays : {D : Type 0} (told : D → Option Told) (count : D → ℕ) (pla
     → count new.disk ≡ count old.disk → StaysAt told count place (Some new)
 log_stays {D} told count place old new there same tells calm = record {
   place = sym (ap is_some there);
-  kept = λ x y from to.
-      ap (λ (l : LogState D). l.content) (sym (same_Some new y to)) ∙ same
+  kept = λ x y from to. ap (λ (l : LogState D). l.content) (sym (same_Some new y to)) ∙ same
       ∙ ap (λ (l : LogState D). l.content) (same_Some old x (sym there ∙ from));
   calm = λ x y from to.
       let is = sym (same_Some new y to) in
@@ -135,6 +125,5 @@ pub log_got_room : {D : Type 0} (told : D → Option Told) (count : D → ℕ) (
     (place : Option (LogState D)) (r : Running) (old new : LogState D) → member ≡ Some r → place ≡ Some old
     → IsRoomy told count r old new → GotRoomAt told count member place (Some new)
 log_got_room {D} told count member place r old new at there roomy = λ q x y member from to.
-    subst (λ s. IsRoomy told count s x y) (same_Some r q (sym at ∙ member))
-    (subst (λ l. IsRoomy told count r l y) (same_Some old x (sym there ∙ from))
-    (subst (λ l. IsRoomy told count r old l) (same_Some new y to) roomy))
+    subst (λ s. IsRoomy told count s x y) (same_Some r q (sym at ∙ member)) (subst (λ l. IsRoomy told count r l y)
+    (same_Some old x (sym there ∙ from)) (subst (λ l. IsRoomy told count r old l) (same_Some new y to) roomy))

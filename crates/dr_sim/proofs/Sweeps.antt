@@ -1,40 +1,23 @@
 -- Sweeps: what comes of a program, and of a log, by looks and pushes of one member.
+use Rattle.std.{specs.Prelude.{Option, None, Some}, proofs.lemmas.List.Sums.sum_by-set}
 use Rattle.std.proofs.Common.{◌≡◌, refl, sym, ap, ◌∙◌, subst, inl, inr, ℕ, zero, suc, ◌<◌, ◌≤◌, true, false, List, length, le_of_eq, arith}
-use Rattle.std.specs.Prelude.{Option, None, Some}
-use Rattle.std.proofs.lemmas.List.Sums.{sum_by-set}
 use Rattle.dr_disk.specs.Disk.{Told}
 use Rattle.dr_log.specs.State.{LogState}
 use Rattle.dr_machine.specs.Group.{Group}
-use Rattle.dr_member.specs.Alone.{IsAtSweep, LeadsTo, SeesAlong}
-use Rattle.dr_member.specs.Deeds.{table_size}
-use Rattle.dr_member.proofs.Alone.{look_step}
-use Rattle.dr_program.specs.Program.{Move, Program, next_sight}
-use Rattle.dr_program.specs.Reading.{step_of_member}
-use Rattle.dr_program.specs.Running.{Running, after_step, next_step}
-use Rattle.dr_program.specs.Sight.{MaySee}
-use Rattle.dr_program.specs.Schedule.{IsTurn, is_between_turns}
-use Rattle.dr_program.specs.Steps.{stored}
-use Rattle.dr_entry.specs.declared.entry.Entry.{Entry}
-use Rattle.dr_entry.proofs.ListPlaces.{set_twice}
+use Rattle.dr_member.{specs.{Alone.{IsAtSweep, LeadsTo, SeesAlong}, Deeds.table_size}, proofs.Alone.look_step}
+use Rattle.dr_program.specs.{Presence.{present_at, with_present}, Program.{Move, Program, next_sight}, Sight.MaySee}
+use Rattle.dr_program.specs.{Reading.step_of_member, Schedule.{IsTurn, is_between_turns}, Steps.stored}
+use Rattle.dr_program.{specs.Running.{Running, after_step, next_step}, proofs.Present.{present_within, present_set}}
+use Rattle.dr_entry.{specs.declared.entry.Entry.Entry, proofs.ListPlaces.set_twice}
 use Rattle.dr_turn.specs.Work.{deeds_left}
-use Rattle.dr_age.specs.Sound.{IsSound}
-use Rattle.dr_sim.specs.Deeds.{IsTaken}
-use Rattle.dr_world.specs.Posts.{PostsOf}
-use Rattle.dr_sim.specs.Lists.{HasSpare}
-use Rattle.dr_sim.specs.Places.{HasServedAt, IsReadyAt}
-use Rattle.dr_sim.specs.Simulated.{WentWell}
-use Rattle.dr_sim.specs.Sound.{IsAmong, IsSomewhere, all_left, left_at, program_over, with_member}
-use Rattle.dr_sim.specs.Sweeps.{HasGoneOn}
-use Rattle.dr_sim.specs.Watched.{TakesNoNote, WasTold}
-use Rattle.dr_sim.proofs.Deeds.{other_taken}
-use Rattle.dr_sim.proofs.Lists.{lists_still, taken_told}
+use Rattle.dr_play.{specs.Sound.IsSound, proofs.{Deeds.{at_sweep, swept_ready, swept_served}, Sound.whole_table}}
+use Rattle.dr_sim.specs.{Deeds.IsTaken, Lists.HasSpare, Places.{HasServedAt, IsReadyAt}, Simulated.WentWell}
+use Rattle.dr_sim.specs.{Sound.{IsAmong, IsSomewhere, all_left, left_at, program_over, with_member}, Sweeps.HasGoneOn}
+use Rattle.dr_sim.{specs.Watched.{TakesNoNote, WasTold}, proofs.{Deeds.other_taken, Lists.{lists_still, taken_told}}}
 use Rattle.dr_sim.proofs.Steps.{HasStepped, sees_well, stepped}
 use Rattle.dr_sim.proofs.Turns.{HasTurn, IsInTurn, IsUnderWay, more_moves, stands, turn_ends, turn_goes_on}
-use Rattle.dr_program.specs.Presence.{present_at, with_present}
-use Rattle.dr_program.proofs.Present.{present_within, present_set}
-use Rattle.dr_logged.proofs.Appends.{IsSweeping}
-use Rattle.dr_age.proofs.Sound.{whole_table}
-use Rattle.dr_age.proofs.Deeds.{at_sweep, swept_ready, swept_served}
+use Rattle.dr_world.specs.Posts.{PostsOf}
+use Rattle.dr_served.proofs.Appends.{IsSweeping}
 
 -- ---- a member at a look or a push
 
@@ -67,12 +50,10 @@ somewhere_on r x words cells posts mails (g, p, m, is) none taken =
 
 -- so it is wherever looks and pushes lead it
 pub leads_somewhere : (n : ℕ) (words : List ℕ) (posts : List (Option (List Entry))) (r : Running)
-    (cells : List ℕ) (q : Running) → LeadsTo n words r cells q → IsSomewhere r words posts
-    → IsSomewhere q cells posts
+    (cells : List ℕ) (q : Running) → LeadsTo n words r cells q → IsSomewhere r words posts → IsSomewhere q cells posts
 leads_somewhere zero words posts r cells q (same, is) somewhere = subst (λ t. IsSomewhere q t posts) same
     (subst (λ x. IsSomewhere x words posts) is somewhere)
-leads_somewhere (suc n) words posts r cells q (due, rest) somewhere =
-    leads_somewhere n _ posts _ cells q rest
+leads_somewhere (suc n) words posts r cells q (due, rest) somewhere = leads_somewhere n _ posts _ cells q rest
     (somewhere_on r (after_step (next_sight words r) r) words (stored words r.replica (next_step r)) posts posts
     somewhere (at_sweep r due).none (swept_taken words posts r (at_sweep r due)))
 
@@ -88,8 +69,7 @@ sees_along words posts r somewhere n q lead due =
 -- the table has all words that it may name
 pub whole_words : (words : List ℕ) (posts : List (Option (List Entry))) (r : Running) → IsSomewhere r words posts
     → table_size r ≤ length words
-whole_words words posts r (g, p, m, is) =
-    le_of_eq (whole_table g p m r is.sound is.there ∙ ap length is.table)
+whole_words words posts r (g, p, m, is) = le_of_eq (whole_table g p m r is.sound is.there ∙ ap length is.table)
 
 -- ---- a turn
 
@@ -116,16 +96,14 @@ steps_there : (g : Group) (p : Program) (m : ℕ) (x y : Running) (cells next : 
     (posts mails : List (Option (List Entry))) → m < length p.members
     → IsSound g (with_member p m x cells posts) → x.replica.end ≡ None → IsTaken cells posts x next mails y
     → HasStepped g (with_member p m x cells posts) m (with_member p m y next mails)
-steps_there g p m x y cells next posts mails within sound none taken =
-    subst (λ rs. HasStepped g (with_member p m x cells posts) m (program_over rs next mails))
-    (set_twice p.members m (Some x) (Some y))
+steps_there g p m x y cells next posts mails within sound none taken = subst (λ rs. HasStepped g
+    (with_member p m x cells posts) m (program_over rs next mails)) (set_twice p.members m (Some x) (Some y))
     (stepped g (with_member p m x cells posts) m x y next mails sound (present_set p.members m x within) none taken)
 
-gone_by : {W : Type 0} {sees : W → Running → List ℕ → W → Type 0} {old mid : W} (new : W) (g : Group)
-    (p : Program) (m : ℕ) (x y : Running) (cells next : List ℕ) (posts mails : List (Option (List Entry)))
-    → m < length p.members → IsOnWay sees old mid g p m (with_member p m x cells posts)
-    → x.replica.end ≡ None → IsTaken cells posts x next mails y
-    → sees mid x cells new → HasGone sees old new g p m y next mails
+gone_by : {W : Type 0} {sees : W → Running → List ℕ → W → Type 0} {old mid : W} (new : W)
+    (g : Group) (p : Program) (m : ℕ) (x y : Running) (cells next : List ℕ) (posts mails : List (Option (List Entry)))
+    → m < length p.members → IsOnWay sees old mid g p m (with_member p m x cells posts) → x.replica.end ≡ None
+    → IsTaken cells posts x next mails y → sees mid x cells new → HasGone sees old new g p m y next mails
 gone_by new g p m x y cells next posts mails within way none taken seen =
     let step = steps_there g p m x y cells next posts mails within way.sound none taken in
     let there = present_set p.members m x within in
@@ -159,8 +137,7 @@ module _ {W : Type 0} (sees : W → Running → List ℕ → W → Type 0) (old 
   gone_sweeping : (n : ℕ) (words : List ℕ) (r : Running) (cells : List ℕ) (q : Running)
       → IsOnWay sees old now g p m (with_member p m r words posts) → is_between_turns (Some r) ≡ false
       → LeadsTo n words r cells q → HasGone sees old now g p m q cells posts
-  gone_sweeping zero words r cells q way amid (same, is) =
-      subst (λ x. HasGone sees old now g p m x cells posts) is
+  gone_sweeping zero words r cells q way amid (same, is) = subst (λ x. HasGone sees old now g p m x cells posts) is
       (subst (λ t. HasGone sees old now g p m r t posts) same (record {
         amid = λ e. way;
         whole = λ whole. absurd (cc);
@@ -176,8 +153,7 @@ module _ {W : Type 0} (sees : W → Running → List ℕ → W → Type 0) (old 
 
 -- fewer deeds are left to all, where a member has fewer left
 left_falls : (p : Program) (m : ℕ) (r x y : Running) (cells next : List ℕ)
-    (posts mails : List (Option (List Entry))) → present_at p.members m ≡ Some r
-    → deeds_left y < deeds_left x
+    (posts mails : List (Option (List Entry))) → present_at p.members m ≡ Some r → deeds_left y < deeds_left x
     → all_left (with_member p m y next mails) < all_left (with_member p m x cells posts)
 left_falls p m r x y cells next posts mails there falls = omega (
   arith,
@@ -187,11 +163,10 @@ left_falls p m r x y cells next posts mails there falls = omega (
 )
 
 -- a member that goes on is under way still, or has ended its turn, as its place says
-pub way_on : {W : Type 0} {sees : W → Running → List ℕ → W → Type 0} {old mid : W} (new : W) (g : Group)
-    (p : Program) (m : ℕ) (r x y : Running) (table cells next : List ℕ)
-    (letters posts mails : List (Option (List Entry))) → IsAmong g p m r table letters
-    → IsUnderWay sees old mid g p m (with_member p m x cells posts) → x.replica.end ≡ None
-    → HasGoneOn sees mid new cells posts x next mails y → deeds_left y < deeds_left x
+pub way_on : {W : Type 0} {sees : W → Running → List ℕ → W → Type 0} {old mid : W} (new : W) (g : Group) (p : Program)
+    (m : ℕ) (r x y : Running) (table cells next : List ℕ) (letters posts mails : List (Option (List Entry)))
+    → IsAmong g p m r table letters → IsUnderWay sees old mid g p m (with_member p m x cells posts)
+    → x.replica.end ≡ None → HasGoneOn sees mid new cells posts x next mails y → deeds_left y < deeds_left x
     → (is_between_turns (Some y) ≡ false → IsUnderWay sees old new g p m (with_member p m y next mails))
     × (is_between_turns (Some y) ≡ true → HasTurn sees old new g p m (with_member p m y next mails))
 way_on {W} {sees} {old} {mid} new g p m r x y table cells next letters posts mails is way none goes falls = (
@@ -200,13 +175,7 @@ way_on {W} {sees} {old} {mid} new g p m r x y table cells next letters posts mai
   λ whole.
       let done = (gone goes).whole whole in
       let (es, turn, well, told) = done.turn in (
-        record {
-          moves = es;
-          turn = turn;
-          well = well;
-          sound = done.sound;
-          falls = omega (arith, less, way.falls);
-        },
+        record { moves = es; turn = turn; well = well; sound = done.sound; falls = omega (arith, less, way.falls) },
         told,
       ),
 )
@@ -222,8 +191,7 @@ way_on {W} {sees} {old} {mid} new g p m r x y table cells next letters posts mai
 
     gone : HasGoneOn sees mid new cells posts x next mails y → HasGone sees old new g p m y next mails
     gone (inl (taken, seen)) = gone_by new g p m x y cells next posts mails within here none taken seen
-    gone (inr (due, (n, taken), stay, same, idle)) =
-        subst (λ w. HasGone sees old w g p m y next mails) same
+    gone (inr (due, (n, taken), stay, same, idle)) = subst (λ w. HasGone sees old w g p m y next mails) same
         (subst (HasGone sees old mid g p m y next) (sym stay)
         (gone_sweeping sees old mid idle g p m within posts n cells x next y here (at_sweep x due).amid taken))
 
@@ -241,8 +209,7 @@ swept_lists : (posts : PostsOf) (n : ℕ) (words : List ℕ) (r : Running) (cell
 swept_lists posts zero words r cells q (same, is) lists = subst (HasSpare posts) is lists
 swept_lists posts (suc n) words r cells q (due, rest) lists =
     let is = at_sweep r due in
-    swept_lists posts n _ _ cells q rest
-    (lists_still posts r (after_step (next_sight words r) r)
+    swept_lists posts n _ _ cells q rest (lists_still posts r (after_step (next_sight words r) r)
     (taken_told words posts.letters r _ posts.letters _ is.none (swept_taken words posts.letters r is)) lists)
 
 pub come_lists : (posts : PostsOf) (words : List ℕ) (r : Running) (cells : List ℕ) (q : Running)

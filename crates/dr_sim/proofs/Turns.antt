@@ -1,31 +1,21 @@
 -- Runs in lockstep: turns, rounds, and what goes on.
+use Rattle.std.specs.{List.range_with_len, Prelude.{All, Option, Some}}
 use Rattle.std.proofs.Common.{◌≡◌, refl, sym, ap, ◌∙◌, subst, inl, inr, ◌⊎◌, ℕ, suc, ◌+◌, ◌<◌, ◌≤◌, Bool, true, false, List, [], ◌∷◌, ◌++◌, length, take, le_refl, arith}
-use Rattle.std.specs.Prelude.{All, Option, Some}
-use Rattle.std.specs.List.{range_with_len}
-use Rattle.std.proofs.lemmas.List.{length_push, take-append-le, take_all}
-use Rattle.std.proofs.lemmas.List.Elements.{All-append, All-nil}
-use Rattle.dr_entry.specs.declared.entry.Entry.{Entry}
-use Rattle.dr_entry.proofs.ListFacts.{count_more}
+use Rattle.std.proofs.lemmas.List.{length_push, take-append-le, take_all, Elements.{All-append, All-nil}}
+use Rattle.dr_entry.{specs.declared.entry.Entry.Entry, proofs.ListFacts.count_more}
 use Rattle.dr_machine.specs.Group.{Group}
 use Rattle.dr_program.specs.declared.outcome.Outcome.TheVariants as outcomes
-use Rattle.dr_program.specs.Schedule.{is_between_turns, IsTurn, Rounds, TakeTurns, TakesTurn}
-use Rattle.dr_program.specs.Program.{AllEnded, Move, Program, ran, step_of, has_ended}
-use Rattle.dr_program.specs.Running.{Running}
-use Rattle.dr_program.proofs.Runs.{ran_on, ran_more}
-use Rattle.dr_program_laws.proofs.Schedules.{turns_taken}
+use Rattle.dr_program.specs.{Presence.present_at, Schedule.{is_between_turns, IsTurn, Rounds, TakeTurns, TakesTurn}}
+use Rattle.dr_program.specs.{Program.{AllEnded, Move, Program, ran, step_of, has_ended}, Running.Running}
 use Rattle.dr_program.specs.declared.outcome.Outcome.{Outcome}
+use Rattle.dr_program.proofs.{Present.{present_within, present_set, set_itself, each_ended}, Runs.{ran_on, ran_more}}
+use Rattle.dr_program.proofs.{Programs.{ran_none, one, ran_one, took_turn}, Schedules.{turns_more, rounds_more}}
+use Rattle.dr_program_laws.proofs.Schedules.{turns_taken}
 use Rattle.dr_script.specs.declared.script.Schedule.TheVariants.{Lockstep}
-use Rattle.dr_sim.specs.Simulated.{HasRun, SomeFailed, WentWell}
-use Rattle.dr_age.specs.Sound.{IsSound}
+use Rattle.dr_sim.{specs.Simulated.{HasRun, SomeFailed, WentWell}, proofs.Outcomes.{none_well, well_both, well_one}}
 use Rattle.dr_sim.specs.Sound.{IsAmong, TookTurn, TookTurns, all_left, move, program_over, with_member}
-use Rattle.dr_sim.proofs.Outcomes.{none_well, well_both, well_one}
-use Rattle.dr_sim.specs.Watched.{WasTold}
-use Rattle.dr_sim.proofs.Steps.{took}
-use Rattle.dr_sim.proofs.Tellings.{told_both, told_more}
-use Rattle.dr_program.specs.Presence.{present_at}
-use Rattle.dr_program.proofs.Present.{present_within, present_set, set_itself, each_ended}
-use Rattle.dr_program.proofs.Programs.{ran_none, one, ran_one, took_turn}
-use Rattle.dr_program.proofs.Schedules.{turns_more, rounds_more}
+use Rattle.dr_sim.{specs.Watched.WasTold, proofs.{Steps.took, Tellings.{told_both, told_more}}}
+use Rattle.dr_play.specs.Sound.{IsSound}
 
 -- ---- a turn
 
@@ -82,28 +72,23 @@ more_length m o begun p is = length_push is.moves (move m o)
 
 -- before the last move the member is amid its turn
 more_amid : {W : Type 0} {sees : W → Running → List ℕ → W → Type 0} {old new : W} (m : ℕ)
-    (o : Outcome) (begun p : Program) (is : IsInTurn sees old new m begun p) (k : ℕ) → 0 < k
-    → k ≤ length is.moves
+    (o : Outcome) (begun p : Program) (is : IsInTurn sees old new m begun p) (k : ℕ) → 0 < k → k ≤ length is.moves
     → is_between_turns (present_at (ran begun (take k (more_moves m o begun p is))).members m) ≡ false
-more_amid m o begun p is k some few =
-    subst (λ es. is_between_turns (present_at (ran begun es).members m) ≡ false)
+more_amid m o begun p is k some few = subst (λ es. is_between_turns (present_at (ran begun es).members m) ≡ false)
     (sym (take-append-le k is.moves (move m o ∷ []) few)) (is.amid k some few)
 
-more_told : {W : Type 0} {sees : W → Running → List ℕ → W → Type 0} {old mid : W} (new : W) (m : ℕ)
-    (o : Outcome) (begun p : Program) (is : IsInTurn sees old mid m begun p) (r : Running)
-    → present_at p.members m ≡ Some r → sees mid r p.table new
-    → WasTold sees begun (more_moves m o begun p is) old new
+more_told : {W : Type 0} {sees : W → Running → List ℕ → W → Type 0} {old mid : W} (new : W) (m : ℕ) (o : Outcome)
+    (begun p : Program) (is : IsInTurn sees old mid m begun p) (r : Running) → present_at p.members m ≡ Some r
+    → sees mid r p.table new → WasTold sees begun (more_moves m o begun p is) old new
 more_told {W} {sees} {old} {mid} new m o begun p is r there seen =
     told_more sees begun is.moves p m o r old mid new is.taken is.told there seen
 
 -- a move between turns ends the turn
-pub turn_ends : {W : Type 0} {sees : W → Running → List ℕ → W → Type 0} {old mid : W} (new : W) (m : ℕ)
-    (o : Outcome) (begun p q : Program) (r : Running) (is : IsInTurn sees old mid m begun p)
-    → q ≡ step_of p (move m o) → (o ≡ outcomes.Ok) ⊎ SomeFailed q
-    → is_between_turns (present_at q.members m) ≡ true → present_at p.members m ≡ Some r
-    → sees mid r p.table new
-    → IsTurn m begun (more_moves m o begun p is) q × WentWell (more_moves m o begun p is) q
-    × WasTold sees begun (more_moves m o begun p is) old new
+pub turn_ends : {W : Type 0} {sees : W → Running → List ℕ → W → Type 0} {old mid : W}
+    (new : W) (m : ℕ) (o : Outcome) (begun p q : Program) (r : Running) (is : IsInTurn sees old mid m begun p)
+    → q ≡ step_of p (move m o) → (o ≡ outcomes.Ok) ⊎ SomeFailed q → is_between_turns (present_at q.members m) ≡ true
+    → present_at p.members m ≡ Some r → sees mid r p.table new → IsTurn m begun (more_moves m o begun p is) q
+    × WentWell (more_moves m o begun p is) q × WasTold sees begun (more_moves m o begun p is) old new
 turn_ends new m o begun p q r is step well whole there seen = (
   record {
     some = omega (arith, more_length m o begun p is);
@@ -117,11 +102,10 @@ turn_ends new m o begun p q r is step well whole there seen = (
 )
 
 -- a move within the turn goes on with it
-pub turn_goes_on : {W : Type 0} {sees : W → Running → List ℕ → W → Type 0} {old mid : W} (new : W) (m : ℕ)
-    (o : Outcome) (begun p q : Program) (r : Running) → IsInTurn sees old mid m begun p
-    → q ≡ step_of p (move m o) → (o ≡ outcomes.Ok) ⊎ SomeFailed q
-    → is_between_turns (present_at q.members m) ≡ false → present_at p.members m ≡ Some r
-    → sees mid r p.table new → IsInTurn sees old new m begun q
+pub turn_goes_on : {W : Type 0} {sees : W → Running → List ℕ → W → Type 0} {old mid : W}
+    (new : W) (m : ℕ) (o : Outcome) (begun p q : Program) (r : Running) → IsInTurn sees old mid m begun p
+    → q ≡ step_of p (move m o) → (o ≡ outcomes.Ok) ⊎ SomeFailed q → is_between_turns (present_at q.members m) ≡ false
+    → present_at p.members m ≡ Some r → sees mid r p.table new → IsInTurn sees old new m begun q
 turn_goes_on new m o begun p q r is step well amid there seen = record {
   moves = more_moves m o begun p is;
   own = more_own m o begun p is;
@@ -136,14 +120,12 @@ turn_goes_on new m o begun p q r is step well amid there seen = record {
 
     each : (k : ℕ) → 0 < k → k ≤ length (more_moves m o begun p is)
         → is_between_turns (present_at (ran begun (take k (more_moves m o begun p is))).members m) ≡ false
-    each k some few = elim (last_or_before k (length is.moves)
-        (omega (arith, few, more_length m o begun p is))) [
-          | inl last ↦ subst (λ (x : Program). is_between_turns (present_at x.members m) ≡ false)
-              (more_taken m o begun p q is step
-              ∙ ap (ran begun) (sym
-              (take_all k (more_moves m o begun p is) (omega (arith, last, more_length m o begun p is))))) amid
-          | inr before ↦ more_amid m o begun p is k some before
-        ]
+    each k some few = elim (last_or_before k (length is.moves) (omega (arith, few, more_length m o begun p is))) [
+      | inl last ↦ subst (λ (x : Program). is_between_turns (present_at x.members m) ≡ false)
+          (more_taken m o begun p q is step ∙ ap (ran begun)
+          (sym (take_all k (more_moves m o begun p is) (omega (arith, last, more_length m o begun p is))))) amid
+      | inr before ↦ more_amid m o begun p is k some before
+    ]
 
 -- ---- a turn of a member alone
 
@@ -158,8 +140,7 @@ pub record IsUnderWay {W : Type 0} (sees : W → Running → List ℕ → W → 
 pub way_begins : {W : Type 0} (sees : W → Running → List ℕ → W → Type 0) (w : W) (g : Group) (p : Program)
     (m : ℕ) (r : Running) (table : List ℕ) (posts : List (Option (List Entry))) → IsAmong g p m r table posts
     → IsUnderWay sees w w g p m (with_member p m r table posts)
-way_begins sees w g p m r table posts is =
-    subst (IsUnderWay sees w w g p m) (sym same)
+way_begins sees w g p m r table posts is = subst (IsUnderWay sees w w g p m) (sym same)
     (record { sound = is.sound; turn = turn_begins sees w m p; falls = le_refl _ })
   where
     same : with_member p m r table posts ≡ p
@@ -170,13 +151,12 @@ pub way_among : {W : Type 0} {sees : W → Running → List ℕ → W → Type 0
     (p : Program) (m : ℕ) (r x : Running) (table cells : List ℕ) (letters posts : List (Option (List Entry)))
     → IsAmong g p m r table letters → IsUnderWay sees old new g p m (with_member p m x cells posts)
     → IsAmong g (with_member p m x cells posts) m x cells posts
-way_among g p m r x table cells letters posts is way =
-    record {
-      sound = way.sound;
-      there = present_set p.members m x (present_within p.members m r is.there);
-      table = refl;
-      letters = refl;
-    }
+way_among g p m r x table cells letters posts is way = record {
+  sound = way.sound;
+  there = present_set p.members m x (present_within p.members m r is.there);
+  table = refl;
+  letters = refl;
+}
 
 -- where it stands then is where it stands in the program
 pub stands : (p : Program) (m : ℕ) (y : Running) (next : List ℕ) (mails : List (Option (List Entry))) (b : Bool)
@@ -192,14 +172,12 @@ HasTurn sees old new g p m q = (took : TookTurn g p m q) × WasTold sees p took.
 -- ---- a round
 
 -- these members each took their turn, in this order, and the watcher was told of it
-abbrev pub HasTurns : {W : Type 0} → (W → Running → List ℕ → W → Type 0) → W → W → List ℕ → Program → Program
-    → Type 0
+abbrev pub HasTurns : {W : Type 0} → (W → Running → List ℕ → W → Type 0) → W → W → List ℕ → Program → Program → Type 0
 HasTurns sees old new ms p q = (turns : TookTurns ms p q) × WasTold sees p turns.moves old new
 
-turns_by : {W : Type 0} (sees : W → Running → List ℕ → W → Type 0) (old mid new : W) (m : ℕ) (p q r : Program)
-    (turn : List Move) → HasTurns sees old mid (range_with_len 0 m) p q
-    → TakesTurn m q turn r → WentWell turn r → WasTold sees q turn mid new
-    → HasTurns sees old new (range_with_len 0 (m + 1)) p r
+turns_by : {W : Type 0} (sees : W → Running → List ℕ → W → Type 0) (old mid new : W) (m : ℕ)
+    (p q r : Program) (turn : List Move) → HasTurns sees old mid (range_with_len 0 m) p q → TakesTurn m q turn r
+    → WentWell turn r → WasTold sees q turn mid new → HasTurns sees old new (range_with_len 0 (m + 1)) p r
 turns_by sees old mid new m p q r turn (took, told) last fine next = (
   record {
     moves = took.moves ++ turn;
@@ -242,9 +220,8 @@ round_passes {W} {sees} {old} {new} g m begun p is ended = record {
     last_or_before k n h = grind arith
 
     by : ((p ≡ begun) × ((k : ℕ) → k < m → has_ended (present_at begun.members k) ≡ true))
-        ⊎ (all_left p < all_left begun)
-        → ((p ≡ begun) × ((k : ℕ) → k < m + 1 → has_ended (present_at begun.members k) ≡ true))
-        ⊎ (all_left p < all_left begun)
+        ⊎ (all_left p < all_left begun) → ((p ≡ begun)
+        × ((k : ℕ) → k < m + 1 → has_ended (present_at begun.members k) ≡ true)) ⊎ (all_left p < all_left begun)
     by (inr less) = inr less
     by (inl (same, each)) = inl (
       same,
@@ -256,11 +233,9 @@ round_passes {W} {sees} {old} {new} g m begun p is ended = record {
     )
 
 -- a round goes on with the turn of a member that has not ended
-pub round_goes_on : {W : Type 0} {sees : W → Running → List ℕ → W → Type 0} {old mid : W} (new : W)
-    (g : Group) (m : ℕ) (begun p q : Program) → IsInRound sees old mid g m begun p
-    → has_ended (present_at p.members m) ≡ false
-    → HasTurn sees mid new g p m q
-    → IsInRound sees old new g (m + 1) begun q
+pub round_goes_on : {W : Type 0} {sees : W → Running → List ℕ → W → Type 0} {old mid : W} (new : W) (g : Group)
+    (m : ℕ) (begun p q : Program) → IsInRound sees old mid g m begun p → has_ended (present_at p.members m) ≡ false
+    → HasTurn sees mid new g p m q → IsInRound sees old new g (m + 1) begun q
 round_goes_on {W} {sees} {old} {mid} new g m begun p q is going (took, told) = record {
   turns = turns_by sees old mid new m begun p q took.moves is.turns (inr (going, took.turn)) took.well told;
   sound = took.sound;
@@ -296,8 +271,7 @@ pub record HasRounds {W : Type 0} (sees : W → Running → List ℕ → W → T
   pub told : WasTold sees begun moves old new
 
 -- no rounds leave a program as it is
-pub no_rounds : {W : Type 0} (sees : W → Running → List ℕ → W → Type 0) (w : W) (p : Program)
-    → HasRounds sees w w p p
+pub no_rounds : {W : Type 0} (sees : W → Running → List ℕ → W → Type 0) (w : W) (p : Program) → HasRounds sees w w p p
 no_rounds sees w p = record {
   rounds = 0;
   moves = [];
@@ -327,10 +301,6 @@ pub rounds_end : {W : Type 0} {sees : W → Running → List ℕ → W → Type 
     → HasRounds sees old new begun p → AllEnded p
     → (run : HasRun Lockstep begun p) × WasTold sees begun run.moves old new
 rounds_end begun p has ended = (
-  record {
-    moves = has.moves;
-    by = record { rounds = has.rounds; ran = has.run; ended = ended };
-    well = has.well;
-  },
+  record { moves = has.moves; by = record { rounds = has.rounds; ran = has.run; ended = ended }; well = has.well },
   has.told,
 )

@@ -1,17 +1,10 @@
 -- The deeds that a simulation takes.
 use Rattle.std.specs.Prelude.{◌≡◌, ℕ, List, Option, None, Some}
-use Rattle.dr_entry.specs.declared.end.End.{End}
-use Rattle.dr_entry.specs.declared.entry.Entry.{Entry}
+use Rattle.dr_entry.specs.declared.{end.End.End, entry.Entry.Entry}
 use Rattle.dr_machine.specs.declared.step.Step.TheVariants.{Look}
-use Rattle.dr_program.specs.declared.outcome.LogWhy.{LogWhy}
-use Rattle.dr_program.specs.declared.outcome.Outcome.{Outcome}
-use Rattle.dr_program.specs.declared.outcome.Outcome.TheVariants.{Ok, Failed}
-use Rattle.dr_program.specs.Program.{after_deed, next_sight}
-use Rattle.dr_program.specs.Reading.{letters_of, step_of_member}
-use Rattle.dr_program.specs.Replica.{me}
-use Rattle.dr_program.specs.Running.{Running, next_step}
-use Rattle.dr_program.specs.Sight.{MaySee}
-use Rattle.dr_program.specs.Steps.{stored, stored_letters}
+use Rattle.dr_program.specs.{Program.{after_deed, next_sight}, Reading.{letters_of, step_of_member}, Replica.me}
+use Rattle.dr_program.specs.{Running.{Running, next_step}, Sight.MaySee, Steps.{stored, stored_letters}}
+use Rattle.dr_program.specs.declared.outcome.{LogWhy.LogWhy, Outcome.{Outcome, TheVariants.{Ok, Failed}}}
 
 -- where the next deed is a look, the member may see the word that stands there
 abbrev pub SeesWell : List ℕ → Running → Type 0

@@ -1,11 +1,9 @@
 -- How the fields of a simulation and of a generator hold what contracts see of them.
 use Rattle.std.specs.Prelude.{◌≡◌}
 use Rattle.dr_program.specs.Program.{Program}
-use Rattle.dr_sim.specs.Lists.{HaveSpares}
-use Rattle.dr_sim.specs.Sound.{program_over}
-use Rattle.dr_sim.specs.declared.lcg.Lcg.TheInside as lcg
-use Rattle.dr_sim.specs.declared.lcg.TheConstants.{INCREMENT, MULTIPLIER}
+use Rattle.dr_sim.specs.{Lists.HaveSpares, Sound.program_over, declared.lcg.TheConstants.{INCREMENT, MULTIPLIER}}
 use Rattle.dr_sim.specs.declared.simulation.Simulation.TheInside.{Inside}
+use Rattle.dr_sim.specs.declared.lcg.Lcg.TheInside as lcg
 
 abbrev pub program_of : Inside → Program
 program_of a = program_over a.members.items a.table.items a.posts.letters

@@ -2,10 +2,9 @@
 use Rattle.std.specs.Prelude.{◌≡◌, ℕ, ◌+◌, ◌<◌, ◌≤◌, IfSome, List, None, Option, Some, length}
 use Rattle.dr_form.specs.Letters.{IsFitting}
 use Rattle.dr_history.specs.Members.{members_of}
-use Rattle.dr_logged.specs.Served.{LetterGoesOn}
+use Rattle.dr_served.specs.Served.{LetterGoesOn}
+use Rattle.dr_program.specs.{Presence.present_at, Running.{Running, next_deed}}
 use Rattle.dr_program.specs.declared.deed.Deed.TheVariants.{Give, Take}
-use Rattle.dr_program.specs.Presence.{present_at}
-use Rattle.dr_program.specs.Running.{Running, next_deed}
 use Rattle.dr_sim.specs.Deeds.{own_letter}
 use Rattle.dr_world.specs.Posts.{PostsOf, count_filled}
 

@@ -2,7 +2,7 @@
 use Rattle.std.specs.Prelude.{◌≡◌, ℕ, Option, Some}
 use Rattle.dr_disk.specs.Disk.{Told}
 use Rattle.dr_log.specs.State.{LogState}
-use Rattle.dr_logged.specs.Served.{HasServed, IsReady}
+use Rattle.dr_served.specs.Served.{HasServed, IsReady}
 use Rattle.dr_program.specs.Running.{Running}
 
 -- a log stands there, and is ready for the member

@@ -1,6 +1,6 @@
 -- What a script, a start and the number of an age leave open of a simulation: nothing, where no log failed.
 use Rattle.std.specs.Prelude.{◌≡◌, ℕ}
-use Rattle.dr_age.specs.Logged.{NoneStopped}
+use Rattle.dr_play.specs.Logged.{NoneStopped}
 use Rattle.dr_entry.specs.declared.end.AgeEnd.{AgeEnd}
 use Rattle.dr_program.specs.Program.{Program}
 use Rattle.dr_restart.specs.declared.start.Start.{Start}

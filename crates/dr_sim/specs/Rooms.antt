@@ -1,9 +1,9 @@
 -- What becomes of the place of a log as room is made on it.
 use Rattle.std.specs.Prelude.{◌≡◌, ℕ, Option, Some, is_some}
-use Rattle.dr_age.specs.Logged.{IsAsBefore}
+use Rattle.dr_play.specs.Logged.{IsAsBefore}
 use Rattle.dr_disk.specs.Disk.{Told}
 use Rattle.dr_log.specs.State.{LogState}
-use Rattle.dr_logged.specs.Served.{IsRoomy}
+use Rattle.dr_served.specs.Served.{IsRoomy}
 use Rattle.dr_program.specs.Running.{Running}
 
 -- it has a log still where it had one, with what was on it; its disk tells the same, and has counted no fault

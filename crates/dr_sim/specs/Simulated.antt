@@ -1,17 +1,10 @@
 -- What a simulated age is.
 use Rattle.std.specs.Prelude.{◌≡◌, ◌⊎◌, ℕ, List, Some}
 use Rattle.dr_entry.specs.declared.end.AgeEnd.{AgeEnd}
-use Rattle.dr_script.specs.declared.script.Script.{Script}
-use Rattle.dr_script.specs.declared.script.Schedule.{Schedule}
-use Rattle.dr_script.specs.declared.script.Schedule.TheVariants.{Lockstep, Seed}
-use Rattle.dr_program.specs.declared.outcome.LogWhy.{LogWhy}
-use Rattle.dr_program.specs.Running.{Running}
-use Rattle.dr_program.specs.Program.{AllOk, Move, Program, age_of}
-use Rattle.dr_program.specs.Schedule.{IsLockstep, IsSeeded}
-use Rattle.dr_restart.specs.declared.start.Start.{Start}
-use Rattle.dr_restart.specs.Groups.{group_of}
-use Rattle.dr_restart.specs.Setups.{IsBegun}
-use Rattle.dr_program.specs.Presence.{present_at}
+use Rattle.dr_script.specs.declared.script.{Schedule.{Schedule, TheVariants.{Lockstep, Seed}}, Script.Script}
+use Rattle.dr_program.specs.{Presence.present_at, Program.{AllOk, Move, Program, age_of}, Running.Running}
+use Rattle.dr_program.specs.{Schedule.{IsLockstep, IsSeeded}, declared.outcome.LogWhy.LogWhy}
+use Rattle.dr_restart.specs.{Groups.group_of, Setups.IsBegun, declared.start.Start.Start}
 
 -- the program has run by the schedule until all its members had ended, by these moves
 abbrev pub IsRunBy : Schedule → Program → List Move → Program → Type 0

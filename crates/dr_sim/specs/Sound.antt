@@ -2,15 +2,11 @@
 use Rattle.std.specs.Prelude.{◌≡◌, ◌≢◌, ◌⊎◌, ℕ, ◌<◌, List, Some, sum_by, Option, None}
 use Rattle.dr_entry.specs.declared.entry.Entry.{Entry}
 use Rattle.dr_machine.specs.Group.{Group}
-use Rattle.dr_program.specs.Running.{Running}
-use Rattle.dr_program.specs.declared.outcome.Outcome.{Outcome}
-use Rattle.dr_program.specs.declared.outcome.Outcome.TheVariants.{Ok}
-use Rattle.dr_program.specs.Program.{Move, Program, step_of}
-use Rattle.dr_program.specs.Schedule.{IsTurn, TakeTurns}
-use Rattle.dr_age.specs.Sound.{IsSound}
+use Rattle.dr_program.specs.{Presence.{present_at, with_present}, Program.{Move, Program, step_of}, Running.Running}
+use Rattle.dr_program.specs.{Schedule.{IsTurn, TakeTurns}, declared.outcome.Outcome.{Outcome, TheVariants.Ok}}
+use Rattle.dr_play.specs.Sound.{IsSound}
 use Rattle.dr_sim.specs.Simulated.{SomeFailed, WentWell}
 use Rattle.dr_turn.specs.Work.{deeds_left}
-use Rattle.dr_program.specs.Presence.{present_at, with_present}
 
 -- the program that has these members, over these words and letters
 abbrev pub program_over : List (Option Running) → List ℕ → List (Option (List Entry)) → Program

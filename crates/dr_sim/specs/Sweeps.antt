@@ -3,8 +3,7 @@ use Rattle.std.specs.Prelude.{◌≡◌, ◌⊎◌, ℕ, List, Option}
 use Rattle.dr_entry.specs.declared.entry.Entry.{Entry}
 use Rattle.dr_member.specs.Alone.{IsAtSweep, LeadsTo}
 use Rattle.dr_program.specs.Running.{Running}
-use Rattle.dr_sim.specs.Deeds.{IsTaken}
-use Rattle.dr_sim.specs.Watched.{TakesNoNote}
+use Rattle.dr_sim.specs.{Deeds.IsTaken, Watched.TakesNoNote}
 
 -- a member r over these words and letters has become x over those: by its next deed, of which the watcher was told, or by
 -- looks or pushes of it, of which the watcher takes no note

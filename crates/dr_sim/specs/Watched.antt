@@ -1,12 +1,10 @@
 -- What the watcher of a simulated age is told.
 use Rattle.std.specs.Prelude.{◌≡◌, ℕ, List, [], ◌∷◌, Some, Option}
 use Rattle.dr_entry.specs.declared.end.AgeEnd.{AgeEnd}
-use Rattle.dr_program.specs.Program.{Move, Program, step_of}
-use Rattle.dr_program.specs.Running.{Running}
+use Rattle.dr_program.specs.{Presence.present_at, Program.{Move, Program, step_of}, Running.Running}
 use Rattle.dr_restart.specs.declared.start.Start.{Start}
 use Rattle.dr_script.specs.declared.script.Script.{Script}
 use Rattle.dr_sim.specs.Simulated.{IsSimulated}
-use Rattle.dr_program.specs.Presence.{present_at}
 
 -- the watcher takes note of no deed: it stays as it is, whatever it is told of
 abbrev pub TakesNoNote : {W : Type 0} → (W → Running → List ℕ → W → Type 0) → W → Type 0

@@ -1,27 +1,22 @@
 ghost use Rattle.std.specs.Prelude.{◌≡◌, ℕ, ◌-◌, ◌<◌, ◌≤◌, ◌↔◌, All, IsTrue, None, true, false, is_some, slice_set, Some, List, Option, length};
 ghost use Rattle.dr_machine.specs.Group.{Group};
 ghost use Rattle.dr_log.specs.State.{LogState};
-ghost use Rattle.dr_program.specs.Form.{IsRunningMember};
-ghost use Rattle.dr_program.specs.Program.{Program, has_ended};
+ghost use Rattle.dr_program.specs.{Form.IsRunningMember, Running.{after_step, next_deed, settled, took_letter}};
+ghost use Rattle.dr_program.specs.{Program.{Program, has_ended}, declared.deed.Deed.TheVariants.{Give, Take}};
 ghost use Rattle.dr_member.specs.Deeds.{is_append, table_size};
 ghost use Rattle.dr_turn.specs.Work.{deeds_left};
 ghost use Rattle.dr_entry.specs.declared.entry.Entry.{Entry};
-ghost use Rattle.dr_program.specs.declared.deed.Deed.TheVariants.{Give, Take};
-ghost use Rattle.dr_program.specs.Running.{after_step, next_deed, settled, took_letter};
 ghost use Rattle.dr_history.specs.History.{up_to_view};
-ghost use Rattle.dr_sim.specs.Deeds.{IsTaken, SeesWell, own_letter};
-ghost use Rattle.dr_sim.specs.Lists.{FindsLists, HasSpare};
-ghost use Rattle.dr_logged.specs.Served.{AppendsWell};
-ghost use Rattle.dr_sim.specs.Places.{HasServedAt, IsReadyAt};
-ghost use Rattle.dr_sim.specs.Sound.{IsAmong, IsSomewhere, TookTurn, with_member};
-ghost use Rattle.dr_sim.specs.Sweeps.{HasGoneOn};
-ghost use Rattle.dr_sim.specs.Watched.{WasTold};
+ghost use Rattle.dr_sim.specs.{Deeds.{IsTaken, SeesWell, own_letter}, Lists.{FindsLists, HasSpare}};
+ghost use Rattle.dr_sim.specs.{Places.{HasServedAt, IsReadyAt}, Sound.{IsAmong, IsSomewhere, TookTurn, with_member}};
+ghost use Rattle.dr_sim.specs.{Sweeps.HasGoneOn, Watched.WasTold};
+ghost use Rattle.dr_served.specs.Served.{AppendsWell};
 
 use crate::watcher::Watcher;
 use dr_disk::Disk;
 use dr_log::Log;
-use dr_logged::why_of;
 use dr_member::{Deed, Member};
+use dr_served::why_of;
 use dr_world::Posts;
 
 /// The member, which has not ended, takes its next deed, over the words of the table and the letters. The

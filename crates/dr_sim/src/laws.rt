@@ -1,10 +1,8 @@
 //! A law of simulations.
 ghost use Rattle.std.specs.Prelude.{ℕ};
 ghost use Rattle.dr_machine.specs.Group.{IsGroup};
-ghost use Rattle.dr_restart.specs.declared.start.Start.{Start};
-ghost use Rattle.dr_restart.specs.Groups.{group_of};
-ghost use Rattle.dr_script.specs.Ranges.{HasRanges};
-ghost use Rattle.dr_script.specs.declared.script.Script.{Script};
+ghost use Rattle.dr_restart.specs.{Groups.group_of, declared.start.Start.Start};
+ghost use Rattle.dr_script.specs.{Ranges.HasRanges, declared.script.Script.Script};
 ghost use Rattle.dr_sim.specs.Repeated.{IsRepeated};
 
 use dr_restart::setups_are_of_the_group;

@@ -2,18 +2,14 @@
 //!
 //! A turn runs over one member and the table alone. Its contract says what the turn is in every sound program
 //! in which the member may stand there, so the loop holds one member, and looks it up once a turn.
-ghost use Rattle.dr_program.specs.Presence.{present_at};
-ghost use Rattle.std.specs.Prelude.{◌<◌, List, length, Option, false, ◌≡◌};
-ghost use Rattle.std.specs.List.{range_with_len};
+ghost use Rattle.dr_program.specs.{Presence.present_at, Program.{AllEnded, has_ended}};
+ghost use Rattle.std.specs.{List.range_with_len, Prelude.{◌<◌, List, length, Option, false, ◌≡◌}};
 ghost use Rattle.dr_machine.specs.Group.{Group};
-ghost use Rattle.dr_program.specs.Program.{AllEnded, has_ended};
 ghost use Rattle.dr_script.specs.declared.script.Schedule.TheVariants.{Lockstep};
 ghost use Rattle.dr_log.specs.State.{LogState};
-ghost use Rattle.dr_logged.specs.Served.{AreReady, HaveServed, HaveSamePlaces};
-ghost use Rattle.dr_sim.specs.Simulated.{HasRun};
-ghost use Rattle.dr_age.specs.Sound.{IsSound};
-ghost use Rattle.dr_sim.specs.Sound.{TookTurns, all_left, TookTurn};
-ghost use Rattle.dr_sim.specs.Watched.{WasTold};
+ghost use Rattle.dr_served.specs.Served.{AreReady, HaveServed, HaveSamePlaces};
+ghost use Rattle.dr_sim.specs.{Simulated.HasRun, Sound.{TookTurns, all_left, TookTurn}, Watched.WasTold};
+ghost use Rattle.dr_play.specs.Sound.{IsSound};
 
 use crate::simulation::Simulation;
 use crate::watcher::Watcher;

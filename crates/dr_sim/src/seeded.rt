@@ -6,21 +6,15 @@
 //! and words are slices, so where they begin is read once; a log is handed on as its place, where an append
 //! alone looks whether there is one; a number is struck off the list in a function of its own. So a deed
 //! keeps neither the number nor its place in the list at hand. Together these are a fifth of a seeded run.
-ghost use Rattle.std.specs.Prelude.{◌≡◌, ◌+◌, ◌<◌, ◌≤◌, ℕ, List, false, length, Option};
-ghost use Rattle.std.specs.List.{remove};
+ghost use Rattle.std.specs.{List.remove, Prelude.{◌≡◌, ◌+◌, ◌<◌, ◌≤◌, ℕ, List, false, length, Option}};
 ghost use Rattle.dr_machine.specs.Group.{Group};
-ghost use Rattle.dr_program.specs.Program.{has_ended};
-ghost use Rattle.dr_program.specs.Schedule.{choice_of, going};
+ghost use Rattle.dr_program.specs.{Presence.present_at, Program.has_ended, Schedule.{choice_of, going}};
 ghost use Rattle.dr_script.specs.declared.script.Schedule.TheVariants.{Seed};
 ghost use Rattle.dr_log.specs.State.{LogState};
-ghost use Rattle.dr_logged.specs.Served.{AreReady, AtMember, HaveServed, HaveSamePlaces};
+ghost use Rattle.dr_served.specs.Served.{AreReady, AtMember, HaveServed, HaveSamePlaces};
 ghost use Rattle.dr_entry.specs.declared.entry.Entry.{Entry};
-ghost use Rattle.dr_sim.specs.Lists.{HaveSpares};
-ghost use Rattle.dr_sim.specs.Simulated.{HasRun};
-ghost use Rattle.dr_age.specs.Sound.{IsSound};
-ghost use Rattle.dr_sim.specs.Sound.{TookDeed, program_over};
-ghost use Rattle.dr_sim.specs.Watched.{WasTold};
-ghost use Rattle.dr_program.specs.Presence.{present_at};
+ghost use Rattle.dr_sim.specs.{Lists.HaveSpares, Simulated.HasRun, Sound.{TookDeed, program_over}, Watched.WasTold};
+ghost use Rattle.dr_play.specs.Sound.{IsSound};
 
 use crate::deed::{has_ended, take};
 use crate::lcg::{Lcg, choice};

@@ -10,10 +10,8 @@
 //! are the same for both, and `sim` pays nothing for a watcher that it doesn't have. Threads have none: which
 //! deeds they took is written down nowhere.
 ghost use Rattle.std.specs.Prelude.{◌≡◌, ◌≤◌, ℕ, List, None, Option, Some, false, length};
-ghost use Rattle.dr_program.specs.Presence.{present_at};
+ghost use Rattle.dr_program.specs.{Form.IsRunningMember, Presence.present_at, Running.Running};
 ghost use Rattle.dr_member.specs.Deeds.{table_size};
-ghost use Rattle.dr_program.specs.Form.{IsRunningMember};
-ghost use Rattle.dr_program.specs.Running.{Running};
 ghost use Rattle.dr_restart.specs.declared.start.Start.{Start};
 ghost use Rattle.dr_sim.specs.Watched.{TakesNoNote};
 

@@ -1,12 +1,9 @@
 -- What the changes of a key give at a version: the last of those up to it decides.
+use Rattle.std.specs.{List.{AllWithin, Sorted.IsPartitionPoint}, Prelude.{Option, None, is_some}}
 use Rattle.std.proofs.Common.{◌≡◌, ℕ, zero, suc, ◌+◌, ◌-◌, ◌≤◌, ◌<◌, true, false, cond, leb, List, [], ◌∷◌, ◌++◌, length, get_or, drop, fold, refl, ap, subst, sym, ◌∙◌, arith, get_or-drop, length-drop}
 use Rattle.std.proofs.lemmas.Bool.{leb-true, le-leb}
-use Rattle.std.specs.Prelude.{Option, None, is_some}
-use Rattle.std.specs.List.{AllWithin}
-use Rattle.std.specs.List.Sorted.{IsPartitionPoint}
 use Rattle.dr_entry.proofs.ListFacts.{no_value}
-use Rattle.dr_store.specs.declared.changes.Change.{Change}
-use Rattle.dr_store.specs.Stock.{value_by}
+use Rattle.dr_store.specs.{Stock.value_by, declared.changes.Change.Change}
 
 -- the value after a change
 abbrev pub turned : ℕ → Option (List ℕ) → Change → Option (List ℕ)
@@ -16,9 +13,8 @@ turned v value c = cond (leb c.version v) c.value value
 pub turned-above : (v : ℕ) (x : Option (List ℕ)) (cs : List Change)
     → AllWithin (λ c. leb c.version v ≡ false) cs 0 (length cs) → fold (turned v) x cs ≡ x
 turned-above v x [] above = refl
-turned-above v x (c ∷ cs) above =
-    ap (λ b. fold (turned v) (cond b c.value x) cs) (above 0 c (omega arith) (omega arith))
-    ∙ turned-above v x cs (λ k d low high. above (suc k) d (omega arith) (omega arith))
+turned-above v x (c ∷ cs) above = ap (λ b. fold (turned v) (cond b c.value x) cs) (above 0 c
+    (omega arith) (omega arith)) ∙ turned-above v x cs (λ k d low high. above (suc k) d (omega arith) (omega arith))
 
 -- a change up to the version decides
 pub turned-at : (v : ℕ) (x : Option (List ℕ)) (cs : List Change) (j : ℕ) (d : Change) → j < length cs
@@ -51,11 +47,9 @@ given-none v cs above = turned-above v None cs above
 pub given-last : (v : ℕ) (cs : List Change) (j : ℕ) (d : Change) → j < length cs
     → AllWithin (λ c. leb c.version v ≡ true) cs 0 (j + 1)
     → AllWithin (λ c. leb c.version v ≡ false) cs (j + 1) (length cs) → value_by v cs ≡ (get_or cs j d).value
-given-last v cs j d within below above =
-    turned-at v None cs j d within (below j d (omega arith) (omega arith))
-    ∙ turned-above v (get_or cs j d).value (drop (suc j) cs)
-    (λ k e low high. subst (λ x. leb x.version v ≡ false) (sym (get_or-drop (suc j) cs k e))
-    (above (suc j + k) e (omega arith) (omega (arith, length-drop (suc j) cs))))
+given-last v cs j d within below above = turned-at v None cs j d within (below j d (omega arith) (omega arith))
+    ∙ turned-above v (get_or cs j d).value (drop (suc j) cs) (λ k e low high. subst (λ x. leb x.version v ≡ false)
+    (sym (get_or-drop (suc j) cs k e)) (above (suc j + k) e (omega arith) (omega (arith, length-drop (suc j) cs))))
 
 -- changes up to a version are up to each later one
 pub still_up_to : (below v : ℕ) (c : Change) → below ≤ v → leb c.version below ≡ true → leb c.version v ≡ true
@@ -71,18 +65,15 @@ given-from_last below v cs j d later within up_to =
 pub given-behind_last : (below v : ℕ) (cs : List Change) (j : ℕ) (d : Change) → below ≤ v → j < length cs
     → leb (get_or cs j d).version below ≡ true → (get_or cs j d).value ≡ None
     → value_by v (drop (suc j) cs) ≡ value_by v cs
-given-behind_last below v cs j d later within up_to none =
-    ap (λ x. fold (turned v) x (drop (suc j) cs)) (sym none)
+given-behind_last below v cs j d later within up_to none = ap (λ x. fold (turned v) x (drop (suc j) cs)) (sym none)
     ∙ sym (turned-at v None cs j d within (still_up_to below v (get_or cs j d) later up_to))
 
 -- what the last of the first n changes is worth, where these are the ones up to the version
 pub given-counted : (v : ℕ) (cs : List Change) (n : ℕ) (d : Change) → n ≤ length cs → (n ≡ 0 → ⊥)
     → IsPartitionPoint (λ c. leb c.version v ≡ true) (λ c. leb c.version v ≡ false) cs n
     → d ≡ get_or cs (n - 1) d → value_by v cs ≡ d.value
-given-counted v cs n d few some parted is =
-    given-last v cs (n - 1) d (omega arith) (λ k e low high. parted.0 k e low (omega arith))
-    (λ k e low high. parted.1 k e (omega arith) high)
-    ∙ ap (λ c. c.value) (sym is)
+given-counted v cs n d few some parted is = given-last v cs (n - 1) d (omega arith) (λ k e low high. parted.0 k e low
+    (omega arith)) (λ k e low high. parted.1 k e (omega arith) high) ∙ ap (λ c. c.value) (sym is)
 
 -- the last of the first n changes is one of those up to the version
 pub counted : (v : ℕ) (cs : List Change) (n : ℕ) (d : Change) → n ≤ length cs → (n ≡ 0 → ⊥)
@@ -96,6 +87,5 @@ pub given-behind_counted : (below v : ℕ) (cs : List Change) (n : ℕ) (d : Cha
     → is_some d.value ≡ false → value_by v (drop n cs) ≡ value_by v cs
 given-behind_counted below v cs n d later few some up_to is none =
     let counts : n ≡ suc (n - 1) = omega arith in
-    ap (λ k. value_by v (drop k cs)) counts
-    ∙ given-behind_last below v cs (n - 1) d later (omega arith) up_to (ap (λ c. c.value) (sym is)
-    ∙ no_value d.value none)
+    ap (λ k. value_by v (drop k cs)) counts ∙ given-behind_last below v cs
+    (n - 1) d later (omega arith) up_to (ap (λ c. c.value) (sym is) ∙ no_value d.value none)

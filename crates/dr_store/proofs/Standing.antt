@@ -1,26 +1,15 @@
 -- A store stands for what was applied to it.
+use Rattle.std.{specs.{Cmp.Lexicographic.nat_list_cmp_total, Ordering.is_eq}, proofs.lemmas.Bool.{le-leb, ltb-false}}
+use Rattle.std.{specs.Option.unwrap_or, proofs.lemmas.List.{Elements.All-push, Sums.fold-append}}
+use Rattle.std.{specs.Prelude.{Option, None, Some, All}, proofs.lemmas.List.{take-append-le, take_all, length-append}}
 use Rattle.std.proofs.Common.{◌≡◌, ℕ, suc, ◌+◌, ◌≤◌, Bool, true, false, cond, ltb, List, [], ◌∷◌, ◌++◌, length, take, fold, refl, ap, sym, subst, ◌∙◌, arith}
-use Rattle.std.proofs.lemmas.List.{take-append-le, take_all, length-append}
-use Rattle.std.proofs.lemmas.List.Sums.{fold-append}
-use Rattle.std.proofs.lemmas.Bool.{le-leb, ltb-false}
-use Rattle.std.proofs.lemmas.List.Elements.{All-push}
-use Rattle.std.specs.Prelude.{Option, None, Some, All}
-use Rattle.std.specs.Cmp.Lexicographic.{nat_list_cmp_total}
 use Rattle.std.specs.FinMap as maps
-use Rattle.std.specs.Option.{unwrap_or}
-use Rattle.std.specs.Ordering.{is_eq}
-use Rattle.dr_entry.specs.declared.entry.Entry.{Entry}
-use Rattle.dr_entry.specs.declared.entry.Entry.TheVariants.{View, Msg}
-use Rattle.dr_entry.proofs.ListFacts.{by_bytes}
-use Rattle.dr_entry.proofs.PlainFacts.{same_key}
-use Rattle.dr_entry.proofs.BoolFacts.{equal, alike}
-use Rattle.dr_entry.proofs.NumberFacts.{by_version, lt-leb-false}
-use Rattle.dr_store.specs.declared.changes.Change.{Change}
-use Rattle.dr_store.specs.declared.fault.AtFault.TheVariants.{Ahead, Forgotten}
+use Rattle.dr_entry.{specs.declared.entry.Entry.{Entry, TheVariants.{View, Msg}}, proofs.BoolFacts.{equal, alike}}
+use Rattle.dr_entry.proofs.{ListFacts.by_bytes, NumberFacts.{by_version, lt-leb-false}, PlainFacts.same_key}
 use Rattle.dr_store.specs.Commands.{Contents, StoreCommand, after_command, command_in, contents, messages}
 use Rattle.dr_store.specs.Stock.{ChangesByKey, Stock, HasNothingLater, IsStoreOf, changes_at, value_by, refusal_at, value_at}
-use Rattle.dr_store.specs.Tables.{with_change, with_command}
-use Rattle.dr_store.proofs.Givens.{turned, given-push}
+use Rattle.dr_store.specs.{Tables.{with_change, with_command}, declared.changes.Change.Change}
+use Rattle.dr_store.{specs.declared.fault.AtFault.TheVariants.{Ahead, Forgotten}, proofs.Givens.{turned, given-push}}
 
 pub messages_append : (g h : List Entry) → messages (g ++ h) ≡ messages g ++ messages h
 messages_append [] h = refl
@@ -28,13 +17,10 @@ messages_append (View a n m ∷ g) h = messages_append g h
 messages_append (Msg s i b ∷ g) h = ap (λ rest. b ∷ rest) (messages_append g h)
 
 -- what comes later changes no earlier version
-pub contents_prefix : (h more : List Entry) (v : ℕ) → v ≤ length (messages h)
-    → contents (h ++ more) v ≡ contents h v
+pub contents_prefix : (h more : List Entry) (v : ℕ) → v ≤ length (messages h) → contents (h ++ more) v ≡ contents h v
 unfolding contents
-contents_prefix h more v within =
-    ap (λ ms. fold (λ m bytes. after_command m (command_in bytes)) maps.empty (take v ms))
-    (messages_append h more)
-    ∙ ap (fold (λ m bytes. after_command m (command_in bytes)) maps.empty)
+contents_prefix h more v within = ap (λ ms. fold (λ m bytes. after_command m (command_in bytes)) maps.empty
+    (take v ms)) (messages_append h more) ∙ ap (fold (λ m bytes. after_command m (command_in bytes)) maps.empty)
     (take-append-le v (messages h) (messages more) within)
 
 -- the next message
@@ -58,10 +44,8 @@ get_changed m key (Some value) q = maps.get-insert nat_list_cmp_total m key valu
 pub changes_with : (m : ChangesByKey) (key : List ℕ) (c : Change) (q : List ℕ)
     → unwrap_or (maps.get (with_change m key c) q) [] ≡ cond (is_eq (by_bytes q key))
     (unwrap_or (maps.get m q) [] ++ c ∷ []) (unwrap_or (maps.get m q) [])
-changes_with m key c q =
-    ap (λ x. unwrap_or x [])
-    (maps.get-insert nat_list_cmp_total m key (unwrap_or (maps.get m key) [] ++ c ∷ []) q)
-    ∙ elim (is_eq (by_bytes q key)) as (λ b. is_eq (by_bytes q key) ≡ b
+changes_with m key c q = ap (λ x. unwrap_or x []) (maps.get-insert nat_list_cmp_total m key
+    (unwrap_or (maps.get m key) [] ++ c ∷ []) q) ∙ elim (is_eq (by_bytes q key)) as (λ b. is_eq (by_bytes q key) ≡ b
     → unwrap_or (cond b (Some (unwrap_or (maps.get m key) [] ++ c ∷ [])) (maps.get m q)) [] ≡ cond b
     (unwrap_or (maps.get m q) [] ++ c ∷ []) (unwrap_or (maps.get m q) [])) [
       | true ↦ λ t. ap (λ k. unwrap_or (maps.get m k) [] ++ c ∷ []) (sym (same_key q key (equal _ t)))
@@ -79,12 +63,10 @@ given_beyond n v x (c ∷ cs) later up_to =
     ∙ ap (λ b. fold (turned n) (cond b c.value x) cs) (sym (le-leb c.version n low))
 
 -- a view changes nothing
-pub stands-view : (s : Stock) (h : List Entry) (a n m : ℕ) → IsStoreOf s h
-    → IsStoreOf s (h ++ View a n m ∷ [])
+pub stands-view : (s : Stock) (h : List Entry) (a n m : ℕ) → IsStoreOf s h → IsStoreOf s (h ++ View a n m ∷ [])
 stands-view s h a n m stands = record {
   version = stands.version ∙ sym (ap length (messages_append h (View a n m ∷ [])) ∙ same_length (messages h));
-  gives = λ v key low high. stands.gives v key low high
-      ∙ ap (λ (x : Contents). maps.get x key)
+  gives = λ v key low high. stands.gives v key low high ∙ ap (λ (x : Contents). maps.get x key)
       (sym (contents_prefix h (View a n m ∷ []) v (omega (arith, stands.version))));
 }
   where
@@ -92,8 +74,7 @@ stands-view s h a n m stands = record {
     same_length ms = omega (arith, length-append ms [])
 
 -- how many messages there are once one more came
-counts : (h : List Entry) (s i : ℕ) (b : List ℕ)
-    → length (messages (h ++ Msg s i b ∷ [])) ≡ length (messages h) + 1
+counts : (h : List Entry) (s i : ℕ) (b : List ℕ) → length (messages (h ++ Msg s i b ∷ [])) ≡ length (messages h) + 1
 counts h s i b = ap length (messages_append h (Msg s i b ∷ [])) ∙ length-append (messages h) (b ∷ [])
 
 -- what the changes give where one more came or not
@@ -115,8 +96,7 @@ module _ (s : Stock) (h : List Entry) (kept : HasNothingLater s) (stands : IsSto
   -- at a version that had come it gives what it gave
   before_next : (key : List ℕ) (v : ℕ) → s.oldest ≤ v → v ≤ s.version
       → value_at s key v ≡ maps.get (contents (h ++ Msg sender i b ∷ []) v) key
-  before_next key v low high = stands.gives v key low high
-      ∙ ap (λ (x : Contents). maps.get x key)
+  before_next key v low high = stands.gives v key low high ∙ ap (λ (x : Contents). maps.get x key)
       (sym (contents_prefix h (Msg sender i b ∷ []) v (omega (arith, stands.version))))
 
   -- at the next version the earlier changes give what they gave at the last
@@ -146,16 +126,12 @@ module _ (s : Stock) (h : List Entry) (kept : HasNothingLater s) (stands : IsSto
     gives = λ v q low high.
         let c : Change = record { version = s.version + 1; value = value } in
         let same = is_eq (by_bytes q key) in let cs = changes_at s q in
-        ap (value_by v) (changes_with s.changes key c q)
-        ∙ branches same v cs c
-        ∙ by_version v s.version high
+        ap (value_by v) (changes_with s.changes key c q) ∙ branches same v cs c ∙ by_version v s.version high
         (λ had. ap (λ x. cond same (cond x value (value_by v cs)) (value_by v cs))
         (lt-leb-false v s.version had) ∙ alike same (value_by v cs) ∙ before_next q v low had)
         (λ new. ap (λ x. cond same (cond x value (value_by v cs)) (value_by v cs))
-        (le-leb (s.version + 1) v (omega arith))
-        ∙ ap (λ n. cond same value (value_by n cs)) new
-        ∙ ap (cond same value) (at_next q)
-        ∙ sym (get_changed (contents h s.version) key value q)
+        (le-leb (s.version + 1) v (omega arith)) ∙ ap (λ n. cond same value (value_by n cs)) new
+        ∙ ap (cond same value) (at_next q) ∙ sym (get_changed (contents h s.version) key value q)
         ∙ ap (λ x. maps.get (after_command (contents h s.version) x) q) (sym is)
         ∙ ap (λ (x : Contents). maps.get x q) (sym (contents_next h sender i b s.version stands.version))
         ∙ ap (λ n. maps.get (contents (h ++ Msg sender i b ∷ []) n) q) (sym new));
@@ -174,8 +150,7 @@ module _ (s : Stock) (kept : HasNothingLater s) where
   kept-other : HasNothingLater (next_with s None)
   kept-other = record {
     come = omega (arith, kept.come);
-    up_to =
-        λ key k d within. omega (arith, kept.up_to key k d within);
+    up_to = λ key k d within. omega (arith, kept.up_to key k d within);
   }
 
   kept-command : (key : List ℕ) (value : Option (List ℕ)) → HasNothingLater (next_with s (Some (key, value)))
@@ -203,26 +178,21 @@ unfolding contents
 stands-new = record {
   version = refl;
   gives = λ v key low high. ap (λ x. value_by v (unwrap_or x [])) (maps.get-empty by_bytes key)
-      ∙ sym (ap
-      (λ ms. maps.get (fold (λ m bytes. after_command m (command_in bytes)) (maps.empty {R = by_bytes}) ms)
+      ∙ sym (ap (λ ms. maps.get (fold (λ m bytes. after_command m (command_in bytes)) (maps.empty {R = by_bytes}) ms)
       key) (take_all v [] (omega arith)) ∙ maps.get-empty by_bytes key);
 }
 
 pub kept-new : HasNothingLater (record { changes = maps.empty; version = 0; oldest = 0 })
-kept-new =
-    record {
-      come = omega arith;
-      up_to =
-          λ key. subst (λ x. All (λ (c : Change). c.version ≤ 0) (unwrap_or x []))
-          (sym (maps.get-empty by_bytes key)) (λ k d within. absurd (omega (arith, within)));
-    }
+kept-new = record {
+  come = omega arith;
+  up_to = λ key. subst (λ x. All (λ (c : Change). c.version ≤ 0) (unwrap_or x []))
+      (sym (maps.get-empty by_bytes key)) (λ k d within. absurd (omega (arith, within)));
+}
 
 -- a store that answers has come to the version and not forgotten it
 pub not_refused : (s : Stock) (v : ℕ) → refusal_at s v ≡ None → (s.oldest ≤ v) × (v ≤ s.version)
-not_refused s v answers =
-    elim (ltb s.version v) as (λ b. ltb s.version v ≡ b
-    → cond b (Some (Ahead s.version)) (cond (ltb v s.oldest) (Some (Forgotten s.oldest)) None) ≡ None
-    → (s.oldest ≤ v) × (v ≤ s.version)) [
+not_refused s v answers = elim (ltb s.version v) as (λ b. ltb s.version v ≡ b → cond b (Some (Ahead s.version))
+    (cond (ltb v s.oldest) (Some (Forgotten s.oldest)) None) ≡ None → (s.oldest ≤ v) × (v ≤ s.version)) [
       | true ↦ λ _ e. absurd (cc e)
       | false ↦ λ come. elim (ltb v s.oldest) as (λ b. ltb v s.oldest ≡ b
           → cond b (Some (Forgotten s.oldest)) None ≡ None → (s.oldest ≤ v) × (v ≤ s.version)) [
@@ -235,8 +205,7 @@ not_refused s v answers =
 pub alike_at : (one other : Stock) (h more : List Entry) (v : ℕ) (key : List ℕ) → IsStoreOf one h
     → IsStoreOf other (h ++ more) → one.oldest ≤ v → v ≤ one.version → other.oldest ≤ v → v ≤ other.version
     → value_at one key v ≡ value_at other key v
-alike_at one other h more v key for_one for_other low high low' high' =
-    for_one.gives v key low high
+alike_at one other h more v key for_one for_other low high low' high' = for_one.gives v key low high
     ∙ ap (λ (x : Contents). maps.get x key) (sym (contents_prefix h more v (omega (arith, for_one.version))))
     ∙ sym (for_other.gives v key low' high')
 

@@ -1,14 +1,8 @@
 -- How a store reads its table.
-use Rattle.std.specs.Prelude.{ℕ, List, [], ◌∷◌, ◌++◌, map, Option, None, Some, Vec}
-use Rattle.std.specs.Bool.{IsTrue}
-use Rattle.std.specs.Cmp.Lexicographic.{slice_cmp}
+use Rattle.std.specs.{Bool.IsTrue, Cmp.Lexicographic.slice_cmp, Option.unwrap_or, Ordering.nat_cmp}
+use Rattle.std.specs.{Prelude.{ℕ, List, [], ◌∷◌, ◌++◌, map, Option, None, Some, Vec}, declared.alloc.Global.Global}
 use Rattle.std.specs.FinMap as maps
-use Rattle.std.specs.Option.{unwrap_or}
-use Rattle.std.specs.Ordering.{nat_cmp}
-use Rattle.std.specs.declared.alloc.Global.{Global}
-use Rattle.dr_store.specs.declared.changes.Change.{Change}
-use Rattle.dr_store.specs.Commands.{StoreCommand}
-use Rattle.dr_store.specs.Stock.{ChangesByKey}
+use Rattle.dr_store.specs.{Commands.StoreCommand, Stock.ChangesByKey, declared.changes.Change.Change}
 
 -- the table of a store: its keys with their changes
 abbrev pub KeyTable : Type 0

@@ -1,5 +1,5 @@
-ghost use Rattle.std.specs.Prelude.{◌≡◌, ◌≤◌, ◌∷◌, ◌++◌, [], ℕ, All, OnOk, OnErr, IfOk, IfSome, IsTrue, ◌↔◌, length, nat_le, drop, true, false, option_map};
 ghost use Rattle.std.specs.List.Sorted.{IsPartitionPoint};
+ghost use Rattle.std.specs.Prelude.{◌≡◌, ◌≤◌, ◌∷◌, ◌++◌, [], ℕ, All, OnOk, OnErr, IfOk, IfSome, IsTrue, ◌↔◌, length, nat_le, drop, true, false, option_map};
 ghost use Rattle.dr_entry.specs.declared.limits.TheConstants.{MAX_MESSAGE_LENGTH};
 ghost use Rattle.dr_store.specs.Stock.{value_by};
 

@@ -1,9 +1,8 @@
 mod scanning;
 
+ghost use Rattle.std.specs.{Option.unwrap_or, Result.result_err};
 ghost use Rattle.std.specs.Prelude.{◌≡◌, ◌+◌, ◌-◌, ◌^◌, ◌<◌, ◌≤◌, ◌⊎◌, ◌∷◌, ◌++◌, [], ℕ, List, All, OnOk, OnErr, IfOk, IfErr, IfSome, length, nat_lt, Some, None, filter_map, max, option_map, is_ok, if◌then◌else◌};
 ghost use Rattle.std.specs.FinMap as map;
-ghost use Rattle.std.specs.Option.{unwrap_or};
-ghost use Rattle.std.specs.Result.{result_err};
 ghost use Rattle.dr_entry.specs.declared.entry.Entry.{Entry as EntryOf};
 ghost use Rattle.dr_entry.specs.declared.limits.TheConstants.{MAX_MESSAGE_LENGTH};
 ghost use Rattle.dr_store.specs.Commands.{command_in, contents, messages};

@@ -1,20 +1,12 @@
 -- Members that agree have fronts of the longest history.
 use Rattle.std.proofs.Common.{◌≡◌, refl, sym, ap, ◌∙◌, inl, inr, ℕ, suc, ◌<◌, ◌≤◌, ◌⊎◌, List, [], ◌∷◌, length, get_or, All, nat_lt, if◌then◌else◌, arith, subst}
-use Rattle.std.proofs.lemmas.Bool.{cases_Bool, ltb-true, ltb-false}
-use Rattle.std.proofs.lemmas.List.{nil_from_length}
-use Rattle.std.proofs.lemmas.List.Elements.{All-cons, All-nil}
-use Rattle.std.proofs.lemmas.Option.{slice_get-get_or}
-use Rattle.dr_entry.specs.declared.entry.Entry.{Entry}
-use Rattle.dr_entry.specs.declared.end.MemberEnd.{MemberEnd}
-use Rattle.dr_entry.proofs.Entries.{as_empty}
-use Rattle.dr_history.specs.declared.opening.Opening.{Opening}
-use Rattle.dr_history.specs.Agreement.{accounts_of}
-use Rattle.dr_history.specs.History.{IsPrefixOf}
-use Rattle.dr_history.specs.Soundness.{IsPresentIn}
+use Rattle.std.proofs.lemmas.{Bool.{cases_Bool, ltb-true, ltb-false}, List.nil_from_length}
+use Rattle.std.proofs.lemmas.{List.Elements.{All-cons, All-nil}, Option.slice_get-get_or}
+use Rattle.dr_entry.{specs.declared.{end.MemberEnd.MemberEnd, entry.Entry.Entry}, proofs.Entries.as_empty}
+use Rattle.dr_history.specs.{Agreement.accounts_of, History.IsPrefixOf, Soundness.IsPresentIn}
+use Rattle.dr_history.{specs.declared.opening.Opening.Opening, proofs.Fronts.history_of}
 use Rattle.dr_history.proofs.Histories.{shorter_begins, empty_begins}
-use Rattle.dr_history.proofs.Fronts.{history_of}
-use Rattle.dr_summary.specs.Summary.{HaveAgreed}
-use Rattle.dr_summary.specs.Histories.{longer, longest, longest_from}
+use Rattle.dr_summary.specs.{Histories.{longer, longest, longest_from}, Summary.HaveAgreed}
 
 -- the longer of two is no shorter than either
 longer_is_long : (h : List Entry) (m : MemberEnd) → (length h ≤ length (longer h m)) × (length m.history ≤ length (longer h m))
@@ -29,8 +21,7 @@ longest_is_long h [] = omega arith
 longest_is_long h (m ∷ ms) = omega (arith, (longer_is_long h m).0, longest_is_long (longer h m) ms)
 
 -- the longest is one of them
-is_one_of : (h : List Entry) (members : List MemberEnd)
-    → (longest_from h members ≡ h)
+is_one_of : (h : List Entry) (members : List MemberEnd) → (longest_from h members ≡ h)
     ⊎ ((i : ℕ) × (i < length members) × ((d : MemberEnd) → longest_from h members ≡ (get_or members i d).history))
 is_one_of h [] = inl refl
 is_one_of h (m ∷ ms) = elim (is_one_of (longer h m) ms) [
@@ -39,8 +30,7 @@ is_one_of h (m ∷ ms) = elim (is_one_of (longer h m) ms) [
         let is : longer h m ≡ m.history = ap (λ b. if b then m.history else h) below in
         inr (0, omega arith, λ d. same ∙ is)
     | inr above ↦
-        let is : longer h m ≡ h = ap (λ b. if b then m.history else h) above in
-        inl (same ∙ is)
+        let is : longer h m ≡ h = ap (λ b. if b then m.history else h) above in inl (same ∙ is)
   ]
   | inr (i, within, is) ↦ inr (suc i, omega (arith, within), λ d. is d)
 ]
@@ -49,8 +39,7 @@ is_one_of h (m ∷ ms) = elim (is_one_of (longer h m) ms) [
 is_longest : (h : List Entry) (members : List MemberEnd)
     → All (λ (m : MemberEnd). length m.history ≤ length (longest_from h members)) members
 is_longest h [] = All-nil (λ (m : MemberEnd). length m.history ≤ length (longest_from h []))
-is_longest h (m ∷ ms) =
-    All-cons (λ (e : MemberEnd). length e.history ≤ length (longest_from (longer h m) ms)) m ms
+is_longest h (m ∷ ms) = All-cons (λ (e : MemberEnd). length e.history ≤ length (longest_from (longer h m) ms)) m ms
     (omega (arith, longest_is_long (longer h m) ms, (longer_is_long h m).1)) (is_longest (longer h m) ms)
 
 -- of two members that took part the one with the history that isn't longer has a front of the other's
@@ -65,8 +54,7 @@ one_begins o members k i d agreed here there below within short =
     shorter_begins (get_or members k d).history (get_or members i d).history
     (subst (λ (h : List Entry). IsPrefixOf (get_or members k d).history h ⊎ IsPrefixOf h (get_or members k d).history)
     other (subst (λ (h : List Entry). IsPrefixOf h (accounts_of members i).history
-    ⊎ IsPrefixOf (accounts_of members i).history h) own alike))
-    short
+    ⊎ IsPrefixOf (accounts_of members i).history h) own alike)) short
 
 pub fronts_of_longest : (o : Opening) (members : List MemberEnd) → HaveAgreed o members
     → All (λ (m : MemberEnd). IsPrefixOf m.history (longest members)) members
@@ -78,12 +66,9 @@ fronts_of_longest o members agreed k d below = elim (is_one_of [] members) [
   | inr (i, within, is) ↦ elim (agreed.present k (get_or members k d) (slice_get-get_or members k d below)) [
     | inr none ↦ empty_begins (get_or members k d).history (longest members) none
     | inl here ↦ elim (agreed.present i (get_or members i d) (slice_get-get_or members i d within)) [
-      | inr none ↦
-          empty_begins (get_or members k d).history (longest members)
-          (as_empty (get_or members k d).history (get_or members i d).history (longest members) none (is d)
-          (is_longest [] members k d below))
-      | inl there ↦
-          subst (IsPrefixOf (get_or members k d).history) (sym (is d))
+      | inr none ↦ empty_begins (get_or members k d).history (longest members) (as_empty (get_or members k d).history
+          (get_or members i d).history (longest members) none (is d) (is_longest [] members k d below))
+      | inl there ↦ subst (IsPrefixOf (get_or members k d).history) (sym (is d))
           (one_begins o members k i d agreed here there below within
           (omega (arith, is_longest [] members k d below, ap length (is d))))
     ]

@@ -1,7 +1,6 @@
 -- The histories of members, taken together.
 use Rattle.std.specs.Prelude.{nat_lt, if◌then◌else◌, List, [], ◌∷◌, length}
-use Rattle.dr_entry.specs.declared.entry.Entry.{Entry}
-use Rattle.dr_entry.specs.declared.end.MemberEnd.{MemberEnd}
+use Rattle.dr_entry.specs.declared.{end.MemberEnd.MemberEnd, entry.Entry.Entry}
 
 -- the longest history, the first one of these: each member's is a front of it, or all of it
 abbrev pub longer : List Entry → MemberEnd → List Entry

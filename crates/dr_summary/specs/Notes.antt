@@ -1,16 +1,9 @@
 -- The lines below the table of an age.
+use Rattle.std.specs.{Fmt.decimal, List.{concat, enumerate_from, flat_map, list_any, range_with_len}}
 use Rattle.std.specs.Prelude.{ℕ, ◌-◌, ◌==◌, ◌&&◌, not, nat_lt, nat_le, if◌then◌else◌, Bool, true, false, List, [], ◌∷◌, ◌++◌, length, map, filter, take, codes, slice_get, Option, None, Some}
-use Rattle.std.specs.Fmt.{decimal}
-use Rattle.std.specs.List.{concat, enumerate_from, flat_map, list_any, range_with_len}
-use Rattle.dr_entry.specs.declared.entry.Entry.{Entry}
+use Rattle.dr_entry.specs.declared.{end.{End.{End, TheVariants.Crashed}, MemberEnd.MemberEnd}, entry.Entry.Entry}
 use Rattle.dr_entry.specs.declared.entry.Entry.TheVariants.{View, Msg}
-use Rattle.dr_entry.specs.declared.end.End.{End}
-use Rattle.dr_entry.specs.declared.end.End.TheVariants.{Crashed}
-use Rattle.dr_entry.specs.declared.end.MemberEnd.{MemberEnd}
-use Rattle.dr_script.specs.declared.script.Fault.{Fault}
-use Rattle.dr_script.specs.declared.script.Script.{Script}
-use Rattle.dr_script.specs.declared.script.What.{What}
-use Rattle.dr_script.specs.declared.script.What.TheVariants.{Crash, Suspect}
+use Rattle.dr_script.specs.declared.script.{Fault.Fault, Script.Script, What.{What, TheVariants.{Crash, Suspect}}}
 use Rattle.dr_text.specs.Report.{end_text}
 
 -- whether an entry is a message of this sender

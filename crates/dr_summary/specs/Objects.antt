@@ -1,16 +1,12 @@
 -- The summary of an age as a JSON object.
+use Rattle.std.specs.{Fmt.decimal, List.{concat, enumerate_from, flat_map}}
 use Rattle.std.specs.Prelude.{ℕ, ◌+◌, ◌==◌, if◌then◌else◌, List, [], ◌∷◌, ◌++◌, length, drop, codes}
-use Rattle.std.specs.Fmt.{decimal}
-use Rattle.std.specs.List.{concat, enumerate_from, flat_map}
-use Rattle.dr_entry.specs.declared.end.AgeEnd.{AgeEnd}
-use Rattle.dr_entry.specs.declared.end.MemberEnd.{MemberEnd}
-use Rattle.dr_entry.specs.declared.entry.Entry.{Entry}
+use Rattle.dr_entry.specs.declared.{end.{AgeEnd.AgeEnd, MemberEnd.MemberEnd}, entry.Entry.Entry}
 use Rattle.dr_entry.specs.declared.entry.Entry.TheVariants.{View, Msg}
 use Rattle.dr_json.specs.Json.{comma_before, json_text}
 use Rattle.dr_script.specs.declared.script.Script.{Script}
 use Rattle.dr_text.specs.Report.{end_text, mask_text}
-use Rattle.dr_summary.specs.Histories.{longest}
-use Rattle.dr_summary.specs.Notes.{missed, undelivered}
+use Rattle.dr_summary.specs.{Histories.longest, Notes.{missed, undelivered}}
 
 -- what begins the line of an element of a list with this number, behind a comma but for the first
 abbrev pub line_before : ℕ → List ℕ

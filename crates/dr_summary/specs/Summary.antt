@@ -1,13 +1,9 @@
 -- The summary of an age, and what it rests on.
 use Rattle.std.specs.Prelude.{◌≡◌, ◌⊎◌, ℕ, List, [], ◌++◌, slice_get, Some}
-use Rattle.dr_entry.specs.declared.end.AgeEnd.{AgeEnd}
-use Rattle.dr_entry.specs.declared.end.MemberEnd.{MemberEnd}
-use Rattle.dr_history.specs.declared.opening.Opening.{Opening}
-use Rattle.dr_history.specs.Agreement.{EndsAgreed}
-use Rattle.dr_history.specs.Soundness.{IsPresentIn}
+use Rattle.dr_entry.specs.declared.end.{AgeEnd.AgeEnd, MemberEnd.MemberEnd}
+use Rattle.dr_history.specs.{Agreement.EndsAgreed, Soundness.IsPresentIn, declared.opening.Opening.Opening}
 use Rattle.dr_script.specs.declared.script.Script.{Script}
-use Rattle.dr_summary.specs.Notes.{ends_text, faults_text, undelivered, undelivered_text}
-use Rattle.dr_summary.specs.Histories.{longest}
+use Rattle.dr_summary.specs.{Histories.longest, Notes.{ends_text, faults_text, undelivered, undelivered_text}}
 use Rattle.dr_summary.specs.Table.{table_text}
 
 -- these are the ends of members that agree: each took part in an age with this opening, or has no history

@@ -1,14 +1,9 @@
 -- The table of an age: one history as rows, the members as columns.
+use Rattle.std.specs.{Fmt.decimal, List.{concat, enumerate_from, flat_map}, Str.chars}
 use Rattle.std.specs.Prelude.{ℕ, ◌+◌, ◌-◌, nat_lt, nat_le, if◌then◌else◌, List, [], ◌∷◌, ◌++◌, length, drop, replicate, codes}
-use Rattle.std.specs.Fmt.{decimal}
-use Rattle.std.specs.List.{concat, enumerate_from, flat_map}
-use Rattle.std.specs.Str.{chars}
-use Rattle.dr_entry.specs.declared.entry.Entry.{Entry}
-use Rattle.dr_entry.specs.declared.entry.Entry.TheVariants.{View, Msg}
-use Rattle.dr_entry.specs.declared.end.AgeEnd.{AgeEnd}
-use Rattle.dr_entry.specs.declared.end.End.{End}
+use Rattle.dr_entry.specs.declared.end.{AgeEnd.AgeEnd, End.End}
 use Rattle.dr_entry.specs.declared.end.End.TheVariants.{Done, Crashed, Suspected, Excluded, NoMajority, DiskFault, LogFull, Spent, Absent}
-use Rattle.dr_entry.specs.declared.end.MemberEnd.{MemberEnd}
+use Rattle.dr_entry.specs.declared.{end.MemberEnd.MemberEnd, entry.Entry.{Entry, TheVariants.{View, Msg}}}
 use Rattle.dr_quote.specs.Quote.{message_text}
 use Rattle.dr_summary.specs.Histories.{longest}
 use Rattle.dr_text.specs.Report.{mask_text}

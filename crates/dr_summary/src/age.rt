@@ -1,8 +1,6 @@
 ghost use Rattle.std.specs.Prelude.{◌≡◌, ◌++◌, OnOk, drop, string_bytes};
 ghost use Rattle.dr_history.specs.declared.opening.Opening.{Opening};
-ghost use Rattle.dr_summary.specs.Summary.{HaveAgreed, age_text, notes_text};
-ghost use Rattle.dr_summary.specs.Histories.{longest};
-ghost use Rattle.dr_summary.specs.Table.{table_text};
+ghost use Rattle.dr_summary.specs.{Histories.longest, Summary.{HaveAgreed, age_text, notes_text}, Table.table_text};
 
 use crate::ends::{push_ends, push_head};
 use crate::faults::push_faults;

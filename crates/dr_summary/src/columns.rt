@@ -1,6 +1,4 @@
-ghost use Rattle.std.specs.Prelude.{◌≡◌, ◌++◌, OnOk, length, replicate, string_bytes};
-ghost use Rattle.std.specs.Fmt.{decimal};
-ghost use Rattle.std.specs.Str.{chars};
+ghost use Rattle.std.specs.{Fmt.decimal, Prelude.{◌≡◌, ◌++◌, OnOk, length, replicate, string_bytes}, Str.chars};
 ghost use Rattle.dr_summary.specs.Table.{behind_blanks, gap_text, in_column, margin};
 
 use itoa::Buffer;

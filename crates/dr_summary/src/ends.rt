@@ -1,5 +1,4 @@
-ghost use Rattle.std.specs.Prelude.{◌≡◌, ◌++◌, OnOk, string_bytes};
-ghost use Rattle.std.specs.List.{enumerate_from, flat_map};
+ghost use Rattle.std.specs.{List.{enumerate_from, flat_map}, Prelude.{◌≡◌, ◌++◌, OnOk, string_bytes}};
 ghost use Rattle.dr_entry.specs.declared.end.MemberEnd.{MemberEnd as MemberEndOf};
 ghost use Rattle.dr_summary.specs.Notes.{end_line, ends_text};
 ghost use Rattle.dr_summary.specs.Table.{age_line, end_name, ends_row, name_text, names_row};

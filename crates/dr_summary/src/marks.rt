@@ -1,6 +1,5 @@
 ghost use Rattle.std.specs.Prelude.{◌≡◌, ◌<◌, ◌≤◌, ◌++◌, All, IfOk, OnOk, string_bytes};
-ghost use Rattle.dr_summary.specs.Marks.{AreMarks, IsMarkUntil};
-ghost use Rattle.dr_summary.specs.Table.{mark_text, marks_text};
+ghost use Rattle.dr_summary.specs.{Marks.{AreMarks, IsMarkUntil}, Table.{mark_text, marks_text}};
 
 use dr_entry::MemberEnd;
 use std::alloc::{AllocError, Global};

@@ -1,7 +1,7 @@
 //! The summary of an age as a JSON object.
 ghost use Rattle.std.specs.Prelude.{◌≡◌, ◌+◌, ◌<◌, ◌^◌, ◌++◌, OnOk, length, string_bytes};
-ghost use Rattle.dr_summary.specs.Objects.{age_back, age_entries, age_front, age_members, age_missed, age_object, age_start, age_undelivered, entry_object, entry_objects, line_before, member_ended, member_known, member_object, member_objects, message_head, name_array, name_arrays, next_entry_object, number_element, number_elements, view_tail};
 ghost use Rattle.dr_summary.specs.Notes.{missed, undelivered};
+ghost use Rattle.dr_summary.specs.Objects.{age_back, age_entries, age_front, age_members, age_missed, age_object, age_start, age_undelivered, entry_object, entry_objects, line_before, member_ended, member_known, member_object, member_objects, message_head, name_array, name_arrays, next_entry_object, number_element, number_elements, view_tail};
 
 use crate::age::behind;
 use crate::faults::missed;

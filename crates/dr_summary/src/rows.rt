@@ -1,5 +1,5 @@
-ghost use Rattle.std.specs.Prelude.{◌≡◌, ◌∷◌, [], ◌+◌, ◌^◌, ◌<◌, ◌++◌, OnOk, codes, length, string_bytes};
 ghost use Rattle.std.specs.List.{concat};
+ghost use Rattle.std.specs.Prelude.{◌≡◌, ◌∷◌, [], ◌+◌, ◌^◌, ◌<◌, ◌++◌, OnOk, codes, length, string_bytes};
 ghost use Rattle.dr_summary.specs.Table.{in_column, label_text, rows_text};
 
 use crate::columns::push_in_column;

@@ -1,5 +1,4 @@
-ghost use Rattle.std.specs.Prelude.{◌≡◌, ◌++◌, IfOk, OnOk, string_bytes, take};
-ghost use Rattle.std.specs.List.{flat_map};
+ghost use Rattle.std.specs.{List.flat_map, Prelude.{◌≡◌, ◌++◌, IfOk, OnOk, string_bytes, take}};
 ghost use Rattle.dr_summary.specs.Notes.{count_from, is_from, message_name, more_text, named_text, names_behind, names_line, undelivered, undelivered_of, undelivered_text};
 
 use dr_entry::{Entry, Message, Seq};

@@ -1,10 +1,7 @@
 -- What the questions to rows answer, and which rows may be asked.
-use Rattle.std.specs.Prelude.{◌≡◌, ℕ, ◌<◌, ◌≤◌, Bool, true, false, Option, MatchOption}
-use Rattle.std.specs.List.{find, range_with_len}
+use Rattle.std.specs.{List.{find, range_with_len}, Prelude.{◌≡◌, ℕ, ◌<◌, ◌≤◌, Bool, true, false, Option, MatchOption}}
 use Rattle.dr_entry.specs.declared.limits.TheConstants.{MAX_MEMBERS}
-use Rattle.dr_words.specs.declared.column.TheConstants.{DONE_COLUMN}
-use Rattle.dr_words.specs.Form.{AllInForm}
-use Rattle.dr_words.specs.Masks.{IsInRoster}
+use Rattle.dr_words.specs.{Form.AllInForm, Masks.IsInRoster, declared.column.TheConstants.DONE_COLUMN}
 use Rattle.dr_rows.specs.Words.{Words}
 
 -- the rows are those of a group whose roster has all of these members: they have the columns up to that of

@@ -1,7 +1,6 @@
 -- Whom a member suspects or wishes for, and what the suspected words of others make of that.
+use Rattle.std.specs.{List.filter, Option.option_and_then}
 use Rattle.std.specs.Prelude.{◌≡◌, ℕ, ◌<◌, ◌==◌, Bool, ◌&&◌, ◌||◌, not, true, false, List, Option, is_some}
-use Rattle.std.specs.Option.{option_and_then}
-use Rattle.std.specs.List.{filter}
 use Rattle.dr_entry.specs.declared.limits.TheConstants.{MAX_MEMBERS}
 use Rattle.dr_history.specs.Members.{has, members_of}
 use Rattle.dr_words.specs.declared.column.TheConstants.{SUSPECTED_COLUMN}

@@ -1,8 +1,6 @@
 -- Whom a member may wish for: a late member that is in no view so far.
-use Rattle.std.specs.Prelude.{ℕ, ◌==◌, ◌&&◌, not, Bool, true, List}
-use Rattle.std.specs.List.{list_all}
-use Rattle.dr_entry.specs.declared.entry.Entry.{Entry}
-use Rattle.dr_entry.specs.declared.entry.Entry.TheVariants.{View, Msg}
+use Rattle.std.specs.{List.list_all, Prelude.{ℕ, ◌==◌, ◌&&◌, not, Bool, true, List}}
+use Rattle.dr_entry.specs.declared.entry.Entry.{Entry, TheVariants.{View, Msg}}
 use Rattle.dr_history.specs.Members.{has}
 
 -- the entry is no View of the age that names the member

@@ -3,8 +3,7 @@ ghost use Rattle.dr_history.specs.Members.{has, members_of};
 ghost use Rattle.dr_words.specs.declared.column.TheConstants.{SUSPECTED_COLUMN};
 ghost use Rattle.dr_words.specs.Masks.{IsPartOf, with_member, without};
 ghost use Rattle.dr_rows.specs.Words.{seen};
-ghost use Rattle.dr_suspect.specs.Answers.{AreOfGroup, IsLeastOrNone, least_where};
-ghost use Rattle.dr_suspect.specs.Wishes.{may_wish};
+ghost use Rattle.dr_suspect.specs.{Answers.{AreOfGroup, IsLeastOrNone, least_where}, Wishes.may_wish};
 ghost use Rattle.dr_suspect.specs.Suspicion.{IsNextSpread, IsSuspicion, is_unsuspected, names_me, spread_of, spreads, trusting, unsuspected_of};
 
 use crate::others::{common, either, others};

@@ -1,15 +1,9 @@
 -- What a hand of one member holds, deed by deed.
+use Rattle.std.{specs.Prelude.{Option, option_map, None, Some, is_some, IsTrue}, proofs.lemmas.List.length-map}
 use Rattle.std.proofs.Common.{zero, suc, ◌+◌, List, [], ◌∷◌, ◌++◌, ◌≡◌, sym, ap, ◌∙◌, length, refl, ℕ, ◌<◌, true, subst, arith, true≢false}
-use Rattle.std.specs.Prelude.{Option, option_map, None, Some, is_some, IsTrue}
-use Rattle.std.proofs.lemmas.List.{length-map}
 use Rattle.dr_entry.specs.declared.end.End.{End}
-use Rattle.dr_program.proofs.Present.{present_map}
-use Rattle.dr_program.specs.Running.{Running}
-use Rattle.dr_program.specs.Form.{IsRunningMember}
-use Rattle.dr_program.specs.Presence.{present_at}
-use Rattle.dr_table.specs.Cards.{AreAtEnd, AreSame, IsAtEnd}
-use Rattle.dr_table.specs.Rule.{number}
-use Rattle.dr_table.specs.Steps.{IsReachedMember}
+use Rattle.dr_program.{specs.{Form.IsRunningMember, Presence.present_at, Running.Running}, proofs.Present.present_map}
+use Rattle.dr_table.specs.{Cards.{AreAtEnd, AreSame, IsAtEnd}, Rule.number, Steps.IsReachedMember}
 
 pub ended_behind : (rs qs : List (Option Running)) → AreAtEnd rs → AreAtEnd qs → AreAtEnd (rs ++ qs)
 ended_behind [] qs a b k r there = b k r there
@@ -30,9 +24,8 @@ filled (Some r) = refl
 -- and stand at the same places
 pub as_filled : (rs qs : List (Option Running)) (k : ℕ) → AreSame rs qs
     → is_some (present_at qs k) ≡ is_some (present_at rs k)
-as_filled rs qs k same = sym (filled (present_at qs k))
-    ∙ ap is_some (sym (present_map number qs k) ∙ ap (λ l. present_at l k) same ∙ present_map number rs k)
-    ∙ filled (present_at rs k)
+as_filled rs qs k same = sym (filled (present_at qs k)) ∙ ap is_some (sym (present_map number qs k)
+    ∙ ap (λ l. present_at l k) same ∙ present_map number rs k) ∙ filled (present_at rs k)
 
 -- a member that tells an end has ended
 pub ended_by : (r : Running) (o : Option End) → o ≡ r.replica.end → is_some o ≡ true → IsAtEnd r

@@ -1,22 +1,17 @@
 -- Cutting a hand in two, and putting two together, keep the rule.
-use Rattle.std.proofs.Common.{◌≡◌, refl, sym, ap, ◌∙◌, subst, ℕ, List, [], ◌∷◌, ◌++◌, length, take, drop, inl, inr}
 use Rattle.std.specs.Prelude.{slice_get, slice_set, sum_by, Option, None, Some}
+use Rattle.std.proofs.Common.{◌≡◌, refl, sym, ap, ◌∙◌, subst, ℕ, List, [], ◌∷◌, ◌++◌, length, take, drop, inl, inr}
 use Rattle.std.proofs.lemmas.Option.{slice_get_within}
 use Rattle.atomic_table.specs.Table.{Splits, Joins}
 use Rattle.dr_history_laws.proofs.Lists.{slice_get-left, slice_get-push_cases}
 use Rattle.dr_entry.specs.declared.entry.Entry.{Entry}
+use Rattle.dr_entry.proofs.ListPlaces.{replica_kept, by_table, places_cut, places_joined}
 use Rattle.dr_machine.specs.Group.{Group}
-use Rattle.dr_program.specs.Running.{Running}
-use Rattle.dr_table.specs.declared.rule.View.{View}
-use Rattle.dr_table.specs.Rule.{HasSuchProgram, Stands, hands}
-use Rattle.dr_table.specs.Slots.{HaveSlots, Slot}
-use Rattle.dr_table.proofs.Errands.{slots_stay}
-use Rattle.dr_table.proofs.Places.{stands_cut, stands_joined}
-use Rattle.dr_table.proofs.Posting.{free}
+use Rattle.dr_program.{specs.Running.Running, proofs.Present.further_same}
+use Rattle.dr_table.specs.{Rule.{HasSuchProgram, Stands, hands}, Slots.{HaveSlots, Slot}, declared.rule.View.View}
+use Rattle.dr_table.proofs.{Errands.slots_stay, Places.{stands_cut, stands_joined}, Posting.free}
 use Rattle.dr_table.proofs.Seats.{hands_behind, hands_get, hands_set}
 use mathlib.Core.Option.{Option as Maybe}
-use Rattle.dr_entry.proofs.ListPlaces.{replica_kept, by_table, places_cut, places_joined}
-use Rattle.dr_program.proofs.Present.{further_same}
 
 -- a seat more that is about nothing
 slots_more : (g : Group) (members : List (Option Running)) (letters : List (Option (List Entry))) (most : ℕ)
@@ -69,8 +64,7 @@ cut_allowed dealt id at v none s k is = record {
         ∙ ap (λ hs. hs ++ drop at v.members ∷ []) (hands_set s.views id (free (take at v.members)))
 
 pub join_allowed : (dealt : List (Option Running)) (id : ℕ) (v : View) (other : ℕ) (w : View) → v.errand ≡ None
-    → w.errand ≡ None
-    → Joins {S = Slot} {V = View} (λ s. HasSuchProgram dealt s.words s.homes s.views) id v other w
+    → w.errand ≡ None → Joins {S = Slot} {V = View} (λ s. HasSuchProgram dealt s.words s.homes s.views) id v other w
     (free (v.members ++ w.members)) (free [])
 join_allowed dealt id v other w none too s k is apart there = record {
   opening = k.opening;
@@ -85,9 +79,8 @@ join_allowed dealt id v other w none too s k is apart there = record {
   stands = subst (λ hs. Stands hs k.members) (sym same)
       (stands_joined (hands s.views) k.members id v.members other w.members (hands_get s.views id v home) apart
       (hands_get s.views other w (sym (replica_kept s.views id other both apart) ∙ away)) k.stands);
-  places = ap (sum_by length) same
-      ∙ places_joined (hands s.views) id v.members other w.members (hands_get s.views id v home)
-      (ap (λ hs. slice_get hs other) (sym (hands_set s.views id both))
+  places = ap (sum_by length) same ∙ places_joined (hands s.views) id v.members other w.members
+      (hands_get s.views id v home) (ap (λ hs. slice_get hs other) (sym (hands_set s.views id both))
       ∙ hands_get (slice_set s.views id both) other w away) ∙ k.places;
   slots = slots_stay k.opening.group k.members k.members k.letters k.most k.flags s.homes
       (slice_set s.views id both) other w (free []) away too (further_same k.members) (λ e busy. absurd (cc busy))

@@ -1,29 +1,20 @@
 -- Deeds that store, appends, and which program a deed makes.
-use Rattle.std.proofs.Common.{◌≡◌, refl, sym, ap, ◌∙◌, subst, ℕ, List, [], ◌∷◌, set-set, ◌<◌, arith}
 use Rattle.std.specs.Prelude.{None, Some, Option, slice_index_or}
+use Rattle.std.proofs.Common.{◌≡◌, refl, sym, ap, ◌∙◌, subst, ℕ, List, [], ◌∷◌, set-set, ◌<◌, arith}
 use Rattle.dr_entry.specs.declared.entry.Entry.{Entry}
-use Rattle.dr_program.specs.declared.deed.Deed.{Deed}
-use Rattle.dr_program.specs.declared.deed.Deed.TheVariants as deeds
-use Rattle.dr_program.specs.declared.outcome.Outcome.{Outcome}
-use Rattle.dr_program.specs.declared.outcome.Outcome.TheVariants as outcomes
-use Rattle.dr_program.specs.Program.{IsRanFrom, Program, after_deed, appended_as, next_sight, ran}
+use Rattle.dr_program.specs.{Form.HasForm, Program.{IsRanFrom, Program, after_deed, appended_as, next_sight, ran}}
+use Rattle.dr_program.{specs.Presence.{present_at, with_present}, proofs.Fixed.{Told, join_told, told, step_told}}
 use Rattle.dr_program.specs.Running.{Running, after_step, next_deed, next_step, settled, took, took_letter, deed, deed_of}
-use Rattle.dr_program.specs.Steps.{stored, stored_letters}
-use Rattle.dr_program.proofs.Fixed.{Told, join_told, told, step_told}
+use Rattle.dr_program.{specs.Steps.{stored, stored_letters}, proofs.Present.{present_within, present_set, set_itself}}
+use Rattle.dr_program.{specs.declared.{deed.Deed.Deed, outcome.Outcome.Outcome}, proofs.Programs.after_append}
+use Rattle.dr_program.specs.declared.deed.Deed.TheVariants as deeds
+use Rattle.dr_program.specs.declared.outcome.Outcome.TheVariants as outcomes
 use Rattle.dr_refine.proofs.Deeds.{append_gives, append_stores, settle_replica, deed_ran}
-use Rattle.dr_age.proofs.Deeds.{IsStoreAt, deed_tells}
-use Rattle.dr_table.specs.Rule.{number}
-use Rattle.dr_table.specs.Deeds.{IsStore}
-use Rattle.dr_table.specs.Steps.{HasAppended, IsReachedMember}
-use Rattle.dr_program.specs.Presence.{present_at, with_present}
-use Rattle.dr_program.proofs.Present.{present_within, present_set, set_itself}
-use Rattle.dr_program.proofs.Programs.{after_append}
-use Rattle.dr_age.proofs.LoggedMembers.{append_due}
+use Rattle.dr_play.proofs.{Deeds.{IsStoreAt, deed_tells}, LoggedMembers.append_due}
+use Rattle.dr_table.specs.{Deeds.IsStore, Rule.number, Steps.{HasAppended, IsReachedMember}}
 use Rattle.dr_member.specs.Deeds.{table_size}
-use Rattle.dr_program.specs.Form.{HasForm}
 use Rattle.dr_words.proofs.Places.{word_index_within}
-use Rattle.dr_machine.specs.declared.step.Step.{Step}
-use Rattle.dr_machine.specs.declared.step.Step.TheVariants.{Do}
+use Rattle.dr_machine.specs.declared.step.Step.{Step, TheVariants.Do}
 
 -- ---- a step, by its deed
 
@@ -73,22 +64,19 @@ act_within r index word (g, p, is) next =
 -- ---- what a member was told stays
 
 pub after_told : (word : ℕ) (r : Running) → told (after_step word r).replica ≡ told r.replica
-after_told word r =
-    ap told (settle_replica _ (took word r (next_step r))) ∙ step_told word r.replica (next_step r)
+after_told word r = ap told (settle_replica _ (took word r (next_step r))) ∙ step_told word r.replica (next_step r)
 
 -- nor does a take
 pub took_told : (letter : Option (List Entry)) (r : Running)
     → told (settled (took_letter letter r)).replica ≡ told r.replica
 took_told None r = ap told (settle_replica _ (took_letter None r))
-took_told (Some letter) r =
-    ap told (settle_replica _ (took_letter (Some letter) r)) ∙ join_told r.replica letter
+took_told (Some letter) r = ap told (settle_replica _ (took_letter (Some letter) r)) ∙ join_told r.replica letter
 
 pub appended_told : (o : Outcome) (r : Running) → told (appended_as o r).replica ≡ told r.replica
 appended_told outcomes.Ok r = after_told 0 r
 appended_told (outcomes.Failed why) r = refl
 
-pub appends_told : (os : List Outcome) (r q : Running) → HasAppended os r q
-    → told q.replica ≡ told r.replica
+pub appends_told : (os : List Outcome) (r q : Running) → HasAppended os r q → told q.replica ≡ told r.replica
 appends_told [] r q same = ap (λ (x : Running). told x.replica) (sym same)
 appends_told (o ∷ os) r q (due, more) = appends_told os (appended_as o r) q more ∙ appended_told o r
 
@@ -111,13 +99,11 @@ appends_ran begun words letters (o ∷ os) members m r q (due, more) there ran =
     let x = appended_as o r in
     let once : IsRanFrom begun (record { members = with_present members m x; table = words; letters = letters }) =
     subst (λ t. IsRanFrom begun (record { members = with_present members m x; table = t; letters = letters }))
-    (append_stores words r.replica (next_step r) step)
-    (subst (λ ls. IsRanFrom begun (record {
+    (append_stores words r.replica (next_step r) step) (subst (λ ls. IsRanFrom begun (record {
       members = with_present members m x;
       table = stored words r.replica (next_step r);
       letters = ls;
-    })) (append_gives letters r.replica (next_step r) step)
-    (subst (λ y. IsRanFrom begun (record {
+    })) (append_gives letters r.replica (next_step r) step) (subst (λ y. IsRanFrom begun (record {
       members = with_present members m y;
       table = stored words r.replica (next_step r);
       letters = stored_letters letters r.replica (next_step r);
@@ -139,15 +125,12 @@ deeds_ran begun words cells letters os members m r q x more there none to stores
     let here = present_set members m q (present_within members m r there) in
     subst (λ l. IsRanFrom begun (record { members = l; table = cells; letters = letters })) (set-set members m (Some q) (Some x))
     (subst (λ t. IsRanFrom begun (record { members = with_present (with_present members m q) m x; table = t; letters = letters }))
-    stores
-    (subst (λ ls. IsRanFrom begun (record {
+    stores (subst (λ ls. IsRanFrom begun (record {
       members = with_present (with_present members m q) m x;
       table = stored words q.replica (next_step q);
       letters = ls;
-    })) posts
-    (subst (λ y. IsRanFrom begun (record {
+    })) posts (subst (λ y. IsRanFrom begun (record {
       members = with_present (with_present members m q) m y;
       table = stored words q.replica (next_step q);
       letters = stored_letters letters q.replica (next_step q);
-    })) to
-    (deed_ran begun words letters (with_present members m q) m outcomes.Ok q here none caught))))
+    })) to (deed_ran begun words letters (with_present members m q) m outcomes.Ok q here none caught))))

@@ -1,22 +1,15 @@
 -- How words, slots and errands stand after a step of one seat.
+use Rattle.std.{specs.Prelude.{Option, None, Some, slice_get, slice_set}, proofs.lemmas.Bool.cases_eq}
 use Rattle.std.proofs.Common.{◌≡◌, ◌≢◌, ◌⊎◌, inl, inr, sym, ap, ◌∙◌, subst, ℕ, ◌<◌, true, false, true≢false, List, slice_index, length, arith}
-use Rattle.std.specs.Prelude.{Option, None, Some, slice_get, slice_set}
-use Rattle.std.proofs.lemmas.Bool.{cases_eq}
-use Rattle.std.proofs.lemmas.List.{get_or-set_other, get_or-set_same}
-use Rattle.std.proofs.lemmas.Option.{same_Some, slice_get_within}
-use Rattle.dr_entry.specs.declared.entry.Entry.{Entry}
+use Rattle.std.proofs.lemmas.{List.{get_or-set_other, get_or-set_same}, Option.{same_Some, slice_get_within}}
+use Rattle.dr_entry.{specs.declared.entry.Entry.Entry, proofs.ListPlaces.{replica_kept, replica_set, at_set}}
 use Rattle.dr_history.specs.Members.{has}
 use Rattle.dr_machine.specs.Group.{Group, late_members}
-use Rattle.dr_program.specs.Presence.{present_at}
-use Rattle.dr_program.specs.Reading.{letters_of}
-use Rattle.dr_program.specs.Running.{Running}
-use Rattle.dr_table.specs.declared.rule.Errand.{Errand}
+use Rattle.dr_program.{specs.{Presence.present_at, Reading.letters_of, Running.Running}, proofs.Present.AreFurther}
+use Rattle.dr_table.specs.{Slots.{HaveSlots, IsAbout, IsPosted, Slot, slot_number}, declared.rule.Errand.Errand}
 use Rattle.dr_table.specs.declared.rule.View.{View}
-use Rattle.dr_table.specs.Slots.{HaveSlots, IsAbout, IsPosted, Slot, slot_number}
 use mathlib.Core.Option.{Option as Maybe}
 use lib.ListN.{get_elem?}
-use Rattle.dr_entry.proofs.ListPlaces.{replica_kept, replica_set, at_set}
-use Rattle.dr_program.proofs.Present.{AreFurther}
 
 -- ---- no word and no slot changes
 
@@ -86,8 +79,7 @@ slots_changed g members after letters posts most flags homes cells views id v w 
         (get_elem? cells (slot_number (late_members g) k)) (letters_of posts k)) (sym same)
         (subst (λ n. IsPosted most n (get_elem? cells (slot_number (late_members g) j)) (letters_of posts j)) (sym here)
         c.posted)
-    | inr other ↦
-        subst (λ n. IsPosted most n (get_elem? cells (slot_number (late_members g) i)) (letters_of posts i))
+    | inr other ↦ subst (λ n. IsPosted most n (get_elem? cells (slot_number (late_members g) i)) (letters_of posts i))
         (sym (apart i other))
         (subst (λ o. IsPosted most (slice_index flags i) o (letters_of posts i)) (sym (c.homes_stay i late other))
         (subst (IsPosted most (slice_index flags i) (get_elem? homes (slot_number (late_members g) i)))
@@ -119,8 +111,7 @@ slots_changed g members after letters posts most flags homes cells views id v w 
           s,
           u,
           e,
-          replica_kept views id s w (λ same. other (sym named
-              ∙ c.mine e (ap (λ (z : View). z.errand)
+          replica_kept views id s w (λ same. other (sym named ∙ c.mine e (ap (λ (z : View). z.errand)
               (same_Some v u (sym c.is ∙ ap (slice_get views) (sym same) ∙ there)) ∙ busy))) ∙ there,
           busy,
           named,

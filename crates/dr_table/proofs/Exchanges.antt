@@ -1,32 +1,24 @@
 -- The steps with a slot are allowed, one for each kind.
+use Rattle.std.specs.{Prelude.{None, Some, Option, Vec, slice_get, slice_set}, declared.alloc.Global.Global}
 use Rattle.std.proofs.Common.{◌≡◌, inl, inr, refl, sym, ap, ◌∙◌, subst, ℕ, ◌+◌, [], ◌∷◌, List, slice_index, set-set, arith}
-use Rattle.std.specs.Prelude.{None, Some, Option, Vec, slice_get, slice_set}
-use Rattle.std.specs.declared.alloc.Global.{Global}
-use Rattle.std.proofs.lemmas.Bool.{cases_eq}
-use Rattle.std.proofs.lemmas.List.{set-get_or}
-use Rattle.std.proofs.lemmas.Option.{same_Some}
+use Rattle.std.proofs.lemmas.{Bool.cases_eq, List.set-get_or, Option.same_Some}
 use Rattle.atomic_table.specs.Table.{gives, keeps, takes, put_back, rest, Allows, Me}
-use Rattle.dr_entry.specs.declared.entry.Entry.{Entry}
+use Rattle.dr_entry.{specs.declared.entry.Entry.Entry, proofs.ListPlaces.{behind_read, by_table}}
 use Rattle.dr_history.specs.History.{up_to_view}
 use Rattle.dr_member.specs.Deeds.{table_size}
 use Rattle.dr_program.specs.declared.deed.Deed.TheVariants as deeds
 use Rattle.dr_program.specs.Running.{Running, after_step, next_deed, settled, took_letter}
-use Rattle.dr_table.specs.declared.rule.Errand.{Errand}
-use Rattle.dr_table.specs.declared.rule.View.{View}
-use Rattle.dr_table.specs.Rule.{HasSuchProgram, number}
-use Rattle.dr_table.specs.Slots.{Slot, slot_number}
+use Rattle.dr_table.{specs.Rule.{HasSuchProgram, number}, proofs.Keeping.{Caught, catch_up, no_slots, went_on}}
+use Rattle.dr_table.specs.{Slots.{Slot, slot_number}, declared.rule.{Errand.Errand, View.View}}
 use Rattle.dr_table.specs.Steps.{Fetched, HasFetched, IsAhead, Opened, Peeked, Returned, Stored, alone, busy}
-use Rattle.dr_table.proofs.Keeping.{Caught, catch_up, no_slots, went_on}
 use Rattle.dr_table.proofs.Posting.{about, fetched, homed, kept, missed, no_letter, noticed, one, opened, returned, sized, sound, stood}
 use mathlib.Core.Option.{Option as Maybe, none, some}
 use lib.ListN.{get_elem?}
-use Rattle.dr_entry.proofs.ListPlaces.{behind_read, by_table}
 
 -- a seat that caught up and is about something now
-errand_on : (dealt : List (Option Running)) (words : List ℕ) (homes : List (Maybe Slot)) (views : List View) (id : ℕ)
-    (q : Running) (e : Errand)
-    → HasSuchProgram dealt words homes (slice_set (slice_set views id (one q)) id (about q e))
-    → HasSuchProgram dealt words homes (slice_set views id (about q e))
+errand_on : (dealt : List (Option Running)) (words : List ℕ) (homes : List (Maybe Slot)) (views : List View)
+    (id : ℕ) (q : Running) (e : Errand) → HasSuchProgram dealt words homes (slice_set (slice_set views id (one q)) id
+    (about q e)) → HasSuchProgram dealt words homes (slice_set views id (about q e))
 errand_on dealt words homes views id q e =
     subst (λ vs. HasSuchProgram dealt words homes vs) (set-set views id (one q) (about q e))
 
@@ -58,8 +50,7 @@ open_allowed dealt slots id index me e r q only first ahead next at s k _ is _ =
     )
 
 pub home_allowed : (dealt : List (Option Running)) (slots id index slot : ℕ) (me : Me Slot View) (e : Errand)
-    (list : Vec Entry Global) (q : Running)
-    → me ≡ busy q e ((slot, Some list) ∷ []) → e.word ≡ 1
+    (list : Vec Entry Global) (q : Running) → me ≡ busy q e ((slot, Some list) ∷ []) → e.word ≡ 1
     → next_deed q ≡ deeds.Give e.late → index ≡ table_size q + e.late → slot ≡ slot_number q.replica.late e.late
     → list.items ≡ up_to_view q.replica.history
     → Allows {S = Slot} {V = View} (λ s. HasSuchProgram dealt s.words s.homes s.views) slots id me index (λ _. 2)
@@ -86,8 +77,7 @@ peek_allowed dealt slots id index me e r q only two ahead next named at s k _ is
         about q e,
         keeps,
         tt,
-        same (about q e)
-            (errand_on dealt s.words s.homes s.views id q e
+        same (about q e) (errand_on dealt s.words s.homes s.views id q e
             (noticed c.rule id e q c.is two next named (sym read ∙ there))),
         inl (there, λ z. (about q e, no_slots me (Some r ∷ []) only z)),
       )
@@ -96,16 +86,10 @@ peek_allowed dealt slots id index me e r q only two ahead next named at s k _ is
             one x,
             keeps,
             tt,
-            same (one x)
-                (went_on dealt s.words s.homes s.views id q x (missed c.rule id q c.is next nothing)),
+            same (one x) (went_on dealt s.words s.homes s.views id q x (missed c.rule id q c.is next nothing)),
             inr (
               other,
-              (
-                c.rule.opening.group,
-                kept c.rule,
-                record { sound = sound c.rule; there = c.there },
-                nothing,
-              ),
+              (c.rule.opening.group, kept c.rule, record { sound = sound c.rule; there = c.there }, nothing),
               λ z. (one x, no_slots me (Some r ∷ []) only z),
             ),
           )
@@ -126,8 +110,7 @@ peek_allowed dealt slots id index me e r q only two ahead next named at s k _ is
     same v = subst (λ ws. HasSuchProgram dealt ws s.homes (slice_set s.views id v)) (sym (set-get_or s.words index 0))
 
 pub fetch_allowed : (dealt : List (Option Running)) (slots id index : ℕ) (me : Me Slot View) (e : Errand) (q : Running)
-    → me ≡ busy q e [] → e.word ≡ 2
-    → next_deed q ≡ deeds.Take → number q ≡ e.late → index ≡ table_size q + e.late
+    → me ≡ busy q e [] → e.word ≡ 2 → next_deed q ≡ deeds.Take → number q ≡ e.late → index ≡ table_size q + e.late
     → Allows {S = Slot} {V = View} (λ s. HasSuchProgram dealt s.words s.homes s.views) slots id me index (λ _. 3)
     (λ _ w. Fetched e q w)
 fetch_allowed dealt slots id index me e q seen two next named at s k _ is _ =
@@ -147,8 +130,7 @@ fetch_allowed dealt slots id index me e q seen two next named at s k _ is _ =
     )
 
 pub return_allowed : (dealt : List (Option Running)) (slots id index : ℕ) (me : Me Slot View) (e : Errand)
-    (q : Running) → HasFetched e q me
-    → next_deed q ≡ deeds.Take → number q ≡ e.late → index ≡ table_size q + e.late
+    (q : Running) → HasFetched e q me → next_deed q ≡ deeds.Take → number q ≡ e.late → index ≡ table_size q + e.late
     → Allows {S = Slot} {V = View} (λ s. HasSuchProgram dealt s.words s.homes s.views) slots id me index (λ _. 4)
     (λ _ w. Returned q me w)
 return_allowed dealt slots id index me e q (letter, has) next named at s k _ is _ =
@@ -161,7 +143,6 @@ return_allowed dealt slots id index me e q (letter, has) next named at s k _ is 
       tt,
       subst (λ (c : List (ℕ × Slot)). HasSuchProgram dealt (slice_set s.words index 4)
           (put_back s.homes c) (slice_set s.views id x)) (sym (slots_of me has)) on,
-      λ g same. (λ z. (x, rest (slots_of me has z)))
-          ∙ ap (λ (o : Errand). alone (settled (took_letter (Some o.letter) q)))
-          (same_Some f g (sym (errand_of me has) ∙ same)),
+      λ g same. (λ z. (x, rest (slots_of me has z))) ∙ ap (λ (o : Errand). alone
+          (settled (took_letter (Some o.letter) q))) (same_Some f g (sym (errand_of me has) ∙ same)),
     )

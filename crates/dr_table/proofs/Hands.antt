@@ -1,42 +1,26 @@
 -- What is known of the members of a hand, as it is dealt, and as hands are cut and put together.
-use Rattle.std.proofs.Common.{◌≡◌, ◌⊎◌, inl, inr, refl, sym, ap, ◌∙◌, subst, ℕ, zero, suc, ◌+◌, ◌-◌, ◌<◌, ◌≤◌, List, [], ◌∷◌, get_or, length, map, replicate, arith}
 use Rattle.std.specs.Prelude.{All, None, Some, option_map, Option, Vec, slice_get, slice_index, ◌^◌}
 use Rattle.std.specs.declared.alloc.Global.{Global}
+use Rattle.std.proofs.Common.{◌≡◌, ◌⊎◌, inl, inr, refl, sym, ap, ◌∙◌, subst, ℕ, zero, suc, ◌+◌, ◌-◌, ◌<◌, ◌≤◌, List, [], ◌∷◌, get_or, length, map, replicate, arith}
 use Rattle.std.proofs.lemmas.List.{get_or_default, length-map, length-replicate, replicate-append-replicate}
-use Rattle.std.proofs.lemmas.List.Sums.{sum_by-cons}
-use Rattle.std.proofs.lemmas.Option.{same_Some, slice_get_within}
-use Rattle.dr_entry.specs.declared.entry.Entry.{Entry}
-use Rattle.dr_history.specs.Members.{members_of}
-use Rattle.dr_machine.proofs.Presence.{in_roster, late_in}
-use Rattle.dr_machine.specs.Group.{banks, late_members, roster}
+use Rattle.std.proofs.lemmas.{List.Sums.sum_by-cons, Option.{same_Some, slice_get_within}}
+use Rattle.dr_entry.{specs.declared.entry.Entry.Entry, proofs.ListPlaces.no_trim}
+use Rattle.dr_history.{specs.Members.members_of, proofs.{MemberLemmas.few_members, Orders.some_of, Ranks.at_rank_of}}
+use Rattle.dr_machine.{specs.Group.{banks, late_members, roster}, proofs.Presence.{in_roster, late_in}}
 use Rattle.dr_member.specs.Deeds.{table_size}
-use Rattle.dr_program.specs.Form.{IsRunningMember}
-use Rattle.dr_program.specs.Reading.{letters_of}
-use Rattle.dr_program.specs.Presence.{present_at}
-use Rattle.dr_program.specs.Program.{Program, begun_program, ran}
-use Rattle.dr_program.specs.Running.{Running, begun_running}
-use Rattle.dr_program.proofs.Present.{present_map, none_read}
+use Rattle.dr_program.specs.{Form.IsRunningMember, Presence.present_at, Program.{Program, begun_program, ran}}
+use Rattle.dr_program.specs.{Reading.letters_of, Running.{Running, begun_running}}
+use Rattle.dr_program.proofs.{Present.{present_map, none_read}, Programs.none_ran}
 use Rattle.dr_program_laws.proofs.Keeping.{begun_reached}
-use Rattle.dr_refine.specs.Programs.{IsProgram}
-use Rattle.dr_refine.proofs.Steps.{begun_is_program}
-use Rattle.dr_words.specs.Layout.{words_of}
-use Rattle.dr_words.specs.Columns.{columns_of}
+use Rattle.dr_refine.{specs.Programs.IsProgram, proofs.Steps.begun_is_program}
+use Rattle.dr_words.{specs.{Columns.columns_of, Layout.words_of}, proofs.Layouts.words_small}
 use Rattle.dr_words.proofs.Places.{word_index_within}
-use Rattle.dr_table.specs.Cards.{AreOf, AreReached, Cards, opened}
-use Rattle.dr_table.specs.declared.rule.Errand.{Errand}
-use Rattle.dr_table.specs.declared.rule.View.{View}
+use Rattle.dr_table.{specs.{Cards.{AreOf, AreReached, Cards, opened}, declared.rule.View.View}, proofs.Posting.free}
+use Rattle.dr_table.specs.{Rule.{Found, HasSuchProgram, IsDealt, no_posts, number}, declared.rule.Errand.Errand}
 use Rattle.dr_table.specs.Slots.{HaveSlots, IsBlankList, IsBlankSlot, IsPosted, Slot, slot_number}
-use Rattle.dr_table.specs.Rule.{Found, HasSuchProgram, IsDealt, no_posts, number}
-use Rattle.dr_table.proofs.Posting.{free}
 use Rattle.atomic_table.proofs.Lists.{at_index, at_map}
 use mathlib.Core.Option.{some}
 use lib.ListN.{get_elem?}
-use Rattle.dr_entry.proofs.ListPlaces.{no_trim}
-use Rattle.dr_history.proofs.Ranks.{at_rank_of}
-use Rattle.dr_history.proofs.MemberLemmas.{few_members}
-use Rattle.dr_history.proofs.Orders.{some_of}
-use Rattle.dr_words.proofs.Layouts.{words_small}
-use Rattle.dr_program.proofs.Programs.{none_ran}
 
 -- ---- members as they are dealt
 
@@ -74,8 +58,7 @@ dealt_words dealt d =
     let some : 0 < roster d.group = let s = d.is.some_member in omega arith in
     let column : 0 < columns_of (roster d.group) d.group.window = omega arith in
     let bank : 0 < banks d.group = omega (arith, some) in
-    let below = word_index_within (roster d.group) d.group.window (banks d.group) 0 0 0 0 bank some some
-    column in
+    let below = word_index_within (roster d.group) d.group.window (banks d.group) 0 0 0 0 bank some some column in
     omega (arith, below)
 
 -- each of its members knows the number, and that of the board's words
@@ -119,11 +102,9 @@ dealt_some dealt d =
 
 -- one of them knows the late members of the group
 pub dealt_late : (dealt list : List (Option Running)) (d : IsDealt dealt) (r : Running) (mask : ℕ)
-    → list ≡ dealt → (k : ℕ) × (present_at list k ≡ Some r) → mask ≡ r.replica.late
-    → mask ≡ late_members d.group
+    → list ≡ dealt → (k : ℕ) × (present_at list k ≡ Some r) → mask ≡ r.replica.late → mask ≡ late_members d.group
 dealt_late dealt list d r mask same (k, there) is = is
-    ∙ ((dealt_program dealt d).of k r
-    (dealt_there dealt d k r (ap (λ l. present_at l k) (sym same) ∙ there))).late
+    ∙ ((dealt_program dealt d).of k r (dealt_there dealt d k r (ap (λ l. present_at l k) (sym same) ∙ there))).late
 
 -- and the number of the words of its table
 pub dealt_size : (dealt list : List (Option Running)) (d : IsDealt dealt) (r : Running) (size : ℕ)
@@ -172,17 +153,14 @@ slots_dealt dealt d n room slots are = record {
       let rank = at_rank_of (late_members d.group) j
       (omega (arith, in_roster d.group j d.is (late_in d.group j d.is late).0, d.is.most_members)) late in
       subst (λ word. IsPosted room word (get_elem? (map some slots) (slot_number (late_members d.group) j))
-      (letters_of (no_posts dealt) j)) (sym (no_trim n j))
-      (record {
+      (letters_of (no_posts dealt) j)) (sym (no_trim n j)) (record {
         yet = λ below. none_read (length dealt) j;
         there = λ two. absurd (omega (arith, two));
-        blank = λ none. blank_there room slots (slot_number (late_members d.group) j)
-            (omega (
-              arith,
-              are.count,
-              slice_get_within (members_of (late_members d.group))
-                  (slot_number (late_members d.group) j) j rank,
-            )) are.blank;
+        blank = λ none. blank_there room slots (slot_number (late_members d.group) j) (omega (
+          arith,
+          are.count,
+          slice_get_within (members_of (late_members d.group)) (slot_number (late_members d.group) j) j rank,
+        )) are.blank;
         full = λ two. absurd (omega (arith, two));
         empty = λ four. absurd (omega (arith, four));
         away = λ out. absurd (neither out);
@@ -223,8 +201,7 @@ dealt_kept dealt d words room slots same are = record {
     members = dealt;
     table = replicate words 0;
     letters = no_posts dealt;
-  })
-      (dealt_opened dealt d words same);
+  }) (dealt_opened dealt d words same);
   laid = sym (replicate-append-replicate words (length dealt) 0);
   all = length-replicate (length dealt) 0 ∙ dealt_few dealt d;
   stands = record {
@@ -252,6 +229,5 @@ pub board_opened : (inside board : Cards) → inside ≡ board → inside.table.
 board_opened inside board is places d are =
     let (k, r, there) = dealt_some inside.members d in
     let size = sym (are k r there) ∙ dealt_of inside.members d k r there in
-    ap opened (sym is)
-    ∙ dealt_opened inside.members d (inside.table.id.words - inside.table.places)
+    ap opened (sym is) ∙ dealt_opened inside.members d (inside.table.id.words - inside.table.places)
     (omega (arith, size, places, dealt_few inside.members d))

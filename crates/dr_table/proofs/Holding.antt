@@ -1,31 +1,22 @@
 -- What a seat holds while it is about a letter, and what is known of the member that gives or takes it.
+use Rattle.std.specs.{Prelude.{IfSome, Option, None, Some, Vec, option_map, ◌^◌, ◌==◌}, declared.alloc.Global.Global}
 use Rattle.std.proofs.Common.{◌≡◌, inl, inr, sym, ap, ◌∙◌, ℕ, ◌+◌, ◌<◌, ◌≤◌, Bool, true, ne_eqb, List, [], ◌∷◌, arith}
-use Rattle.std.specs.Prelude.{IfSome, Option, None, Some, Vec, option_map, ◌^◌, ◌==◌}
-use Rattle.std.specs.declared.alloc.Global.{Global}
 use Rattle.std.proofs.lemmas.Option.{same_Some}
 use Rattle.atomic_table.specs.Table.{Me, rest}
-use Rattle.dr_age.proofs.Deeds.{deed_tells}
+use Rattle.dr_play.proofs.Deeds.{deed_tells}
 use Rattle.dr_entry.specs.declared.entry.Entry.{Entry}
-use Rattle.dr_history.specs.Members.{has}
-use Rattle.dr_history.proofs.MemberLemmas.{few_members}
+use Rattle.dr_history.{specs.Members.has, proofs.MemberLemmas.few_members}
 use Rattle.dr_machine.specs.Group.{Group, late_members, roster}
 use Rattle.dr_member.specs.Deeds.{table_size}
 use Rattle.dr_program.specs.declared.deed.Deed.TheVariants as deeds
-use Rattle.dr_program.specs.Form.{IsOf}
-use Rattle.dr_program.specs.Program.{Program}
-use Rattle.dr_program.specs.Replica.{me}
-use Rattle.dr_program.specs.Running.{Running, next_deed}
+use Rattle.dr_program.specs.{Form.IsOf, Program.Program, Replica.me, Running.{Running, next_deed}}
 use Rattle.dr_form.specs.Letters.{IsFitting}
 use Rattle.dr_program_laws.proofs.Letters.{letters_have_room}
 use Rattle.dr_turn.proofs.Takes.{taking}
 use Rattle.dr_words.proofs.Layouts.{words_small}
-use Rattle.dr_table.specs.Cards.{board_size}
-use Rattle.dr_table.specs.declared.rule.Errand.{Errand}
-use Rattle.dr_table.specs.declared.rule.View.{View}
-use Rattle.dr_table.specs.Rule.{number}
-use Rattle.dr_table.specs.Slots.{Slot, slot_number}
+use Rattle.dr_table.specs.{Cards.board_size, Rule.number, Slots.{Slot, slot_number}}
 use Rattle.dr_table.specs.Steps.{IsLetterAt, IsOfProgram, IsReachedMember, MayTake, Peeked, busy}
-use Rattle.dr_table.proofs.Welcoming.{newcomer}
+use Rattle.dr_table.{specs.declared.rule.{Errand.Errand, View.View}, proofs.Welcoming.newcomer}
 
 -- ---- what a seat holds
 
@@ -45,8 +36,7 @@ first_is l k j x y a b =
 
 -- a seat that is about a letter, once this was put into its slot
 pub exchanged : (old new : Me Slot View) (r : Running) (e : Errand) (was : ℕ × Slot) (slot : ℕ)
-    (x : Slot) → old ≡ busy r e (was ∷ []) → new ≡ (old.0, (slot, x) ∷ rest old.1)
-    → new ≡ busy r e ((slot, x) ∷ [])
+    (x : Slot) → old ≡ busy r e (was ∷ []) → new ≡ (old.0, (slot, x) ∷ rest old.1) → new ≡ busy r e ((slot, x) ∷ [])
 exchanged old new r e was slot x is to = to ∙ (λ z. ((is z).0, (slot, x) ∷ rest (is z).1))
 
 -- the list that was in a slot

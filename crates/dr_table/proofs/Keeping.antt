@@ -1,38 +1,28 @@
 -- The steps of a hand's members keep the rule, and what they tell.
-use Rattle.std.proofs.Common.{◌≡◌, refl, sym, ap, ◌∙◌, subst, ℕ, ◌<◌, true, [], ◌∷◌, List, set-set, arith}
 use Rattle.std.specs.Prelude.{None, Some, slice_get, slice_index, slice_index_or, slice_set, Option}
-use Rattle.std.proofs.lemmas.List.{set-get_or}
-use Rattle.std.proofs.lemmas.Option.{slice_get_within}
+use Rattle.std.proofs.Common.{◌≡◌, refl, sym, ap, ◌∙◌, subst, ℕ, ◌<◌, true, [], ◌∷◌, List, set-set, arith}
+use Rattle.std.proofs.lemmas.{List.set-get_or, Option.slice_get_within}
 use Rattle.atomic_table.specs.Table.{keeps, Allows, Me}
 use Rattle.dr_entry.specs.declared.entry.Entry.{Entry}
+use Rattle.dr_entry.proofs.ListPlaces.{by_table, front_read, front_set, replica_set}
 use Rattle.dr_machine.specs.Group.{Group}
 use Rattle.dr_member.specs.Deeds.{is_append, table_size}
 use Rattle.dr_program.specs.declared.deed.Deed.TheVariants as deeds
-use Rattle.dr_program.specs.declared.outcome.Outcome.{Outcome}
-use Rattle.dr_program.specs.declared.outcome.Outcome.TheVariants as outcomes
+use Rattle.dr_program.{specs.Presence.{present_at, with_present}, proofs.Present.{present_within, present_set}}
 use Rattle.dr_program.specs.Program.{Move, Program, after_deed, appended_as, begun_program, letter_for, next_sight, step_of}
-use Rattle.dr_program.specs.Reading.{step_due, step_of_member}
-use Rattle.dr_program.specs.Running.{Running, after_step, next_deed, next_step, settled, took_letter}
-use Rattle.dr_program.specs.Sight.{MaySee}
-use Rattle.dr_program.specs.Steps.{sight, stored}
+use Rattle.dr_program.specs.{Reading.{step_due, step_of_member}, declared.outcome.Outcome.Outcome}
+use Rattle.dr_program.specs.{Running.{Running, after_step, next_deed, next_step, settled, took_letter}, Sight.MaySee}
+use Rattle.dr_program.{specs.Steps.{sight, stored}, proofs.{Programs.after_append, RunningPrograms.after_take}}
+use Rattle.dr_program.specs.declared.outcome.Outcome.TheVariants as outcomes
 use Rattle.dr_program_laws.proofs.Keeping.{move_kept, sees}
 use Rattle.dr_refine.proofs.Deeds.{step_is, after_later}
-use Rattle.dr_age.proofs.Deeds.{any_outcome, at_look, deed_tells}
-use Rattle.dr_table.specs.declared.rule.View.{View}
-use Rattle.dr_table.specs.Deeds.{IsStore}
-use Rattle.dr_table.specs.Rule.{HasSuchProgram, number}
-use Rattle.dr_table.specs.Slots.{Slot}
+use Rattle.dr_play.proofs.{Deeds.{any_outcome, at_look, deed_tells}, LoggedMembers.append_due}
+use Rattle.dr_table.{specs.Deeds.IsStore, proofs.Posting.{caught_up, kept, member_on, one, sized, sound, stood}}
+use Rattle.dr_table.specs.{Rule.{HasSuchProgram, number}, Slots.Slot, declared.rule.View.View}
 use Rattle.dr_table.specs.Steps.{IsAhead, IsOfProgram, IsReachedMember, Looked, MayFind, MayTake, Stored, alone, idle}
 use Rattle.dr_table.proofs.Deeds.{after_told, appended_told, deeds_ran, same_number, stores, took_told}
-use Rattle.dr_table.proofs.Posting.{caught_up, kept, member_on, one, sized, sound, stood}
-use Rattle.dr_program.specs.Presence.{present_at, with_present}
-use Rattle.dr_program.proofs.Present.{present_within, present_set}
 use mathlib.Core.Option.{Option as Maybe, some}
 use lib.ListN.{get_elem?}
-use Rattle.dr_program.proofs.Programs.{after_append}
-use Rattle.dr_program.proofs.RunningPrograms.{after_take}
-use Rattle.dr_age.proofs.LoggedMembers.{append_due}
-use Rattle.dr_entry.proofs.ListPlaces.{by_table, front_read, front_set, replica_set}
 
 -- ---- members of programs that are reached
 
@@ -50,8 +40,7 @@ goes_on g p r x o is none to same =
             ∙ ap (present_at (with_present p.members (number r)
             (after_deed (next_sight p.table r) (letter_for p (number r)) o r (next_step r)))) same
             ∙ present_set p.members (number r) (after_deed (next_sight p.table r) (letter_for p (number r)) o r (next_step r))
-            (present_within p.members (number r) r is.there)
-            ∙ ap (λ y. Some y) to;
+            (present_within p.members (number r) r is.there) ∙ ap (λ y. Some y) to;
       },
     )
 
@@ -60,10 +49,9 @@ pub look_reached : (r : Running) (index word : ℕ) → next_deed r ≡ deeds.Lo
     → IsReachedMember (after_step word r)
 look_reached r index word next (g, p, is, found) =
     let t = deed_tells p.table r (deeds.Look index) next in
-    goes_on g p r (after_step word r) outcomes.Ok is t.none
-    (any_outcome (next_sight p.table r) (letter_for p (number r)) outcomes.Ok r (next_step r)
-    (at_look r index next) t.says.no_join ∙ ap (λ w. after_step w r) found)
-    (same_number r (after_step word r) (after_told word r))
+    goes_on g p r (after_step word r) outcomes.Ok is t.none (any_outcome (next_sight p.table r)
+    (letter_for p (number r)) outcomes.Ok r (next_step r) (at_look r index next) t.says.no_join
+    ∙ ap (λ w. after_step w r) found) (same_number r (after_step word r) (after_told word r))
 
 -- by a deed that stores
 pub store_reached : (r : Running) (index word : ℕ) → IsStore index word (next_deed r) → IsReachedMember r
@@ -72,17 +60,15 @@ store_reached r index word next (g, p, is) =
     let t = stores p.table r index word next in
     goes_on g p r (after_step 0 r) outcomes.Ok is t.none
     (any_outcome (next_sight p.table r) (letter_for p (number r)) outcomes.Ok r (next_step r) t.says.other
-    t.says.no_join ∙ ap (λ w. after_step w r) t.says.sees)
-    (same_number r (after_step 0 r) (after_told 0 r))
+    t.says.no_join ∙ ap (λ w. after_step w r) t.says.sees) (same_number r (after_step 0 r) (after_told 0 r))
 
 -- by an append
 pub append_reached : (r : Running) (o : Outcome) → is_append (next_deed r) ≡ true → IsReachedMember r
     → IsReachedMember (appended_as o r)
 append_reached r o due (g, p, is) =
     let (none, step) = append_due r due in
-    goes_on g p r (appended_as o r) o is none
-    (after_append (next_sight p.table r) (letter_for p (number r)) o r (next_step r) step)
-    (same_number r (appended_as o r) (appended_told o r))
+    goes_on g p r (appended_as o r) o is none (after_append (next_sight p.table r)
+    (letter_for p (number r)) o r (next_step r) step) (same_number r (appended_as o r) (appended_told o r))
 
 -- by giving a letter
 pub give_reached : (r : Running) (j : ℕ) → next_deed r ≡ deeds.Give j → IsReachedMember r
@@ -100,8 +86,7 @@ take_reached r letter next (g, p, is, found) =
     let t = deed_tells p.table r deeds.Take next in
     goes_on g p r (settled (took_letter letter r)) outcomes.Ok is t.none
     (after_take (next_sight p.table r) (letter_for p (number r)) outcomes.Ok r (next_step r) t.says
-    ∙ ap (λ o. settled (took_letter o r)) found)
-    (same_number r (settled (took_letter letter r)) (took_told letter r))
+    ∙ ap (λ o. settled (took_letter o r)) found) (same_number r (settled (took_letter letter r)) (took_told letter r))
 
 -- the word that a look may find, its member may see
 pub find_seen : (r : Running) (index word : ℕ) → next_deed r ≡ deeds.Look index → MayFind r word
@@ -173,12 +158,7 @@ look_allowed dealt slots id index me r q only ahead next within s k _ is _ =
           (went_on dealt s.words s.homes s.views id q x on),
       (
         λ z. (one x, no_slots me (Some r ∷ []) only z),
-        (
-          c.rule.opening.group,
-          kept c.rule,
-          record { sound = sound c.rule; there = c.there },
-          t.says.sees ∙ sym read,
-        ),
+        (c.rule.opening.group, kept c.rule, record { sound = sound c.rule; there = c.there }, t.says.sees ∙ sym read),
       ),
     )
 
@@ -191,9 +171,8 @@ store_allowed dealt slots id index new me r q only ahead next within s k _ is _ 
     let x = after_step 0 q in
     let t = stores c.rule.table q index new next in
     let on = member_on c.rule id q x (slice_set c.rule.table index new) (slice_set s.words index new) c.is
-    (after_told 0 q) (after_later 0 q)
-    (ap (λ ws. slice_set ws index new) c.rule.laid ∙ front_set c.rule.table c.rule.flags index new
-    (omega (arith, within, sized c.rule q c.there)))
+    (after_told 0 q) (after_later 0 q) (ap (λ ws. slice_set ws index new) c.rule.laid
+    ∙ front_set c.rule.table c.rule.flags index new (omega (arith, within, sized c.rule q c.there)))
     (deeds_ran (begun_program c.rule.opening.group c.rule.opening.setups) c.rule.table
     (slice_set c.rule.table index new) c.rule.letters [] c.rule.members (number q) q q x refl c.there t.none
     (any_outcome (next_sight c.rule.table q) (slice_index_or c.rule.letters (number q) None) outcomes.Ok q

@@ -1,8 +1,6 @@
 -- No step leads a member to an earlier view.
 use Rattle.std.proofs.Common.{subst, ◌≤◌, List, [], ◌∷◌, arith}
-use Rattle.dr_program.specs.declared.outcome.Outcome.{Outcome}
-use Rattle.dr_program.specs.Program.{appended_as}
-use Rattle.dr_program.specs.Running.{Running}
+use Rattle.dr_program.specs.{Program.appended_as, Running.Running, declared.outcome.Outcome.Outcome}
 use Rattle.dr_refine.proofs.Deeds.{appended_later}
 use Rattle.dr_table.specs.Steps.{HasAppended}
 

@@ -1,28 +1,22 @@
 -- A seated member takes a step or appends, and goes back into a hand: what is known of it then.
-use Rattle.std.proofs.Common.{◌≡◌, sym, ap, ◌∙◌, subst, ◌+◌, ◌<◌, List, [], ◌∷◌, ◌++◌, true}
 use Rattle.std.specs.Prelude.{None, is_some}
+use Rattle.std.proofs.Common.{◌≡◌, sym, ap, ◌∙◌, subst, ◌+◌, ◌<◌, List, [], ◌∷◌, ◌++◌, true}
 use Rattle.atomic_table.specs.Seated.{TableId}
 use Rattle.dr_member.specs.Deeds.{is_append}
-use Rattle.dr_program.specs.declared.outcome.Outcome.{Outcome}
-use Rattle.dr_program.specs.Program.{appended_as}
-use Rattle.dr_program.specs.Running.{Running, next_deed}
+use Rattle.dr_program.specs.{Program.appended_as, Running.{Running, next_deed}, declared.outcome.Outcome.Outcome}
 use Rattle.dr_program.proofs.Fixed.{Told, told}
 use Rattle.dr_words.specs.Layout.{words_of}
-use Rattle.dr_table.specs.Inside.{IsInsideSeated}
-use Rattle.dr_table.specs.Cards.{IsAtEnd}
-use Rattle.dr_table.specs.declared.seated.SeatedMember.TheInside.{Inside}
-use Rattle.dr_table.specs.Steps.{HasAppended, IsAhead, IsReachedMember, alone}
-use Rattle.dr_table.proofs.Deeds.{appended_told}
+use Rattle.dr_table.specs.{Cards.IsAtEnd, Inside.IsInsideSeated, Steps.{HasAppended, IsAhead, IsReachedMember, alone}}
+use Rattle.dr_table.{specs.declared.seated.SeatedMember.TheInside.Inside, proofs.Deeds.appended_told}
 use Rattle.dr_table.proofs.Keeping.{append_reached}
-use Rattle.dr_age.proofs.LoggedMembers.{append_stays}
+use Rattle.dr_play.proofs.LoggedMembers.{append_stays}
 
 -- ---- appends that no step has counted yet
 
 -- one more
 one_more : (os : List Outcome) (o : Outcome) (r q : Running) → HasAppended os r q → is_append (next_deed q) ≡ true
     → HasAppended (os ++ o ∷ []) r (appended_as o q)
-one_more [] o r q same due =
-    (ap (λ x. is_append (next_deed x)) same ∙ due, ap (appended_as o) same)
+one_more [] o r q same due = (ap (λ x. is_append (next_deed x)) same ∙ due, ap (appended_as o) same)
 one_more (p ∷ os) o r q (was, rest) due = (was, one_more os o (appended_as p r) q rest due)
 
 -- a member that has ended is as the seat knows it
@@ -32,8 +26,7 @@ ended_same (o ∷ os) r q (due, rest) ended = absurd (stays os (appended_as o r)
   where
     stays : (os : List Outcome) (x : Running) → HasAppended os x q → x.replica.end ≡ None → ⊥
     stays [] x same none = absurd (cc (
-      ap (λ (y : Running). is_some y.replica.end) (sym same) ∙ ap is_some
-          none,
+      ap (λ (y : Running). is_some y.replica.end) (sym same) ∙ ap is_some none,
       ended,
     ))
     stays (p ∷ os) x (due, rest) none = stays os (appended_as p x) rest (append_stays p x due)

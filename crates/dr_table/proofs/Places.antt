@@ -1,22 +1,18 @@
 -- Where members stand after one of them changes, after a hand is cut in two, and after two are put together.
-use Rattle.std.proofs.Common.{◌≡◌, ◌≢◌, ◌⊎◌, inl, inr, refl, sym, ap, ◌∙◌, ℕ, ◌+◌, ◌-◌, ◌≤◌, List, [], ◌∷◌, ◌++◌, length, take, drop, length-set, arith, eq-eqb, ne_eqb, lt-ltb, le-ltb, eqb, cond}
 use Rattle.std.specs.Prelude.{Some, slice_get, slice_set, Option}
-use Rattle.std.proofs.lemmas.Bool.{cases_eq, cases_lt}
-use Rattle.std.proofs.lemmas.Option.{same_Some, slice_get_within}
+use Rattle.std.proofs.Common.{◌≡◌, ◌≢◌, ◌⊎◌, inl, inr, refl, sym, ap, ◌∙◌, ℕ, ◌+◌, ◌-◌, ◌≤◌, List, [], ◌∷◌, ◌++◌, length, take, drop, length-set, arith, eq-eqb, ne_eqb, lt-ltb, le-ltb, eqb, cond}
+use Rattle.std.proofs.lemmas.{Bool.{cases_eq, cases_lt}, Option.{same_Some, slice_get_within}}
 use Rattle.dr_history_laws.proofs.Lists.{slice_get-left, slice_get-push_cases, slice_get-seam}
-use Rattle.dr_program.specs.Running.{Running}
-use Rattle.dr_table.specs.Rule.{Found, Stands, number}
-use Rattle.dr_program.specs.Presence.{present_at, with_present}
+use Rattle.dr_program.specs.{Presence.{present_at, with_present}, Running.Running}
 use Rattle.dr_program.proofs.Present.{present_within, present_set, present_kept, place_append, place_behind, place_drop, place_front, place_take, take_place, only_one}
-use Rattle.dr_entry.proofs.ListPlaces.{replica_kept, replica_set, at_set}
-use Rattle.dr_entry.proofs.NumberFacts.{cut_back}
+use Rattle.dr_table.specs.Rule.{Found, Stands, number}
+use Rattle.dr_entry.proofs.{ListPlaces.{replica_kept, replica_set, at_set}, NumberFacts.cut_back}
 
 -- ---- one member changes
 
 -- what stands where the member of a hand of one was replaced: the new one there, or what stood in another hand
 found_set : (views : List (List (Option Running))) (id : ℕ) (x : Running) (s a : ℕ) (q : Running)
-    → Found (slice_set views id (Some x ∷ [])) s a q
-    → ((s ≡ id) × (a ≡ 0) × (x ≡ q)) ⊎ (Found views s a q × (s ≢ id))
+    → Found (slice_set views id (Some x ∷ [])) s a q → ((s ≡ id) × (a ≡ 0) × (x ≡ q)) ⊎ (Found views s a q × (s ≢ id))
 found_set views id x s a q (w, there, stands) = elim (at_set views id s (Some x ∷ []) w there) [
   | inl here ↦ let one = only_one x q a (ap (λ u. present_at u a) here.1 ∙ stands) in inl (here.0, one.0, one.1)
   | inr other ↦ inr ((w, other.1, stands), other.0)
@@ -43,12 +39,10 @@ stands_set views members id r x is same h = record { each = each; once = once; a
     each : (s a : ℕ) (q : Running) → Found after s a q
         → present_at (with_present members (number r) x) (number q) ≡ Some q
     each s a q f = elim (found_set views id x s a q f) [
-      | inl now ↦
-          ap (present_at (with_present members (number r) x)) (ap number (sym now.2) ∙ same)
+      | inl now ↦ ap (present_at (with_present members (number r) x)) (ap number (sym now.2) ∙ same)
           ∙ present_set members (number r) x (present_within members (number r) r (h.each id 0 r mine))
           ∙ ap (λ y. Some y) now.2
-      | inr old ↦
-          present_kept members (number r) (number q) x (other s a q old.1 old.0) ∙ h.each s a q old.0
+      | inr old ↦ present_kept members (number r) (number q) x (other s a q old.1 old.0) ∙ h.each s a q old.0
     ]
 
     once : (s a t b : ℕ) (q u : Running) → Found after s a q → Found after t b u → number q ≡ number u
@@ -82,8 +76,7 @@ stands_set views members id r x is same h = record { each = each; once = once; a
 -- each place in the new hands comes from one in the old, which `back` leads there, and each member still
 -- stands somewhere
 stands_moved : (views views' : List (List (Option Running))) (members : List (Option Running)) (back : ℕ → ℕ → ℕ × ℕ)
-    → ((s a : ℕ) (r : Running) → Found views' s a r
-    → (t b : ℕ) × Found views t b r × (back t b ≡ (s, a)))
+    → ((s a : ℕ) (r : Running) → Found views' s a r → (t b : ℕ) × Found views t b r × (back t b ≡ (s, a)))
     → ((s a : ℕ) (r : Running) → Found views s a r → (t b : ℕ) × Found views' t b r)
     → Stands views members → Stands views' members
 stands_moved views views' members back way on h = record {
@@ -103,8 +96,7 @@ pub stands_cut : (views : List (List (Option Running))) (members : List (Option 
     → slice_get views id ≡ Some v → Stands views members
     → Stands (slice_set views id (take at v) ++ drop at v ∷ []) members
 unfolding cut_back
-stands_cut views members id at v is h =
-    stands_moved views after members (cut_back id at (length views)) way on h
+stands_cut views members id at v is h = stands_moved views after members (cut_back id at (length views)) way on h
   where
     after : List (List (Option Running))
     after = slice_set views id (take at v) ++ drop at v ∷ []
@@ -154,8 +146,7 @@ stands_cut views members id at v is h =
                   (
                     drop at v,
                     slice_get-seam (slice_set views id (take at v)) (drop at v) [],
-                    place_drop at v (a - at) ∙ ap (present_at v) back ∙ ap (λ l. present_at l a) (sym same)
-                        ∙ stands,
+                    place_drop at v (a - at) ∙ ap (present_at v) back ∙ ap (λ l. present_at l a) (sym same) ∙ stands,
                   ),
                 )
           ]
@@ -203,8 +194,7 @@ stands_joined views members id v other w is apart there h =
                 other,
                 a - length v,
                 (w, there, second.1),
-                rw (eq-eqb other other refl)
-                    (λ k. (sym here.0 k, back k)),
+                rw (eq-eqb other other refl) (λ k. (sym here.0 k, back k)),
               )
         ]
         | inr third ↦ (s, a, (u, third.1, stands), rw (ne_eqb s other old.0) refl)
@@ -229,11 +219,7 @@ stands_joined views members id v other w is apart there h =
         | inr third ↦ (
           s,
           a,
-          (
-            u,
-            replica_kept both other s [] third ∙ replica_kept views id s (v ++ w) away ∙ at,
-            stands,
-          ),
+          (u, replica_kept both other s [] third ∙ replica_kept views id s (v ++ w) away ∙ at, stands),
         )
       ]
     ]

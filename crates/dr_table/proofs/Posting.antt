@@ -1,51 +1,32 @@
 -- A letter is given and taken: each step of that keeps the rule.
+use Rattle.std.specs.{Prelude.{Option, None, Some, Vec, slice_get, slice_set, sum_by}, declared.alloc.Global.Global}
 use Rattle.std.proofs.Common.{◌≡◌, ◌≢◌, ◌⊎◌, inl, inr, refl, sym, ap, ◌∙◌, subst, ℕ, ◌+◌, ◌<◌, ◌≤◌, true, List, [], ◌∷◌, ◌++◌, length, length-set, slice_index, arith}
-use Rattle.std.specs.Prelude.{Option, None, Some, Vec, slice_get, slice_set, sum_by}
-use Rattle.std.specs.declared.alloc.Global.{Global}
-use Rattle.std.proofs.lemmas.Bool.{cases_lt}
-use Rattle.std.proofs.lemmas.List.{get_or-set_same}
-use Rattle.std.proofs.lemmas.Option.{same_Some}
+use Rattle.std.proofs.lemmas.{Bool.cases_lt, List.get_or-set_same, Option.same_Some}
 use Rattle.atomic_table.proofs.Lists.{set_else, set_here}
-use Rattle.dr_age.proofs.Deeds.{deed_tells, give_ran, take_ran}
-use Rattle.dr_age.specs.Sound.{IsSound}
-use Rattle.dr_entry.specs.declared.entry.Entry.{Entry}
-use Rattle.dr_history.specs.History.{up_to_view}
-use Rattle.dr_history.specs.Members.{has}
-use Rattle.dr_machine.specs.Group.{Group, IsGroup, late_members}
-use Rattle.dr_machine.proofs.Presence.{in_roster, late_in}
+use Rattle.dr_play.{specs.Sound.IsSound, proofs.Deeds.{deed_tells, give_ran, take_ran}}
+use Rattle.dr_entry.{specs.declared.entry.Entry.Entry, proofs.ListPlaces.{behind_set, slot_within, sum_again}}
+use Rattle.dr_entry.proofs.NumberFacts.{below_two}
+use Rattle.dr_history.{specs.{History.up_to_view, Members.has}, proofs.Ranks.at_rank_of}
+use Rattle.dr_machine.{specs.Group.{Group, IsGroup, late_members}, proofs.Presence.{in_roster, late_in}}
 use Rattle.dr_member.specs.Deeds.{table_size}
-use Rattle.dr_program.proofs.Fixed.{Told, join_told, told}
+use Rattle.dr_program.{specs.{Form.IsOf, declared.outcome.Outcome.Outcome}, proofs.Fixed.{Told, join_told, told}}
+use Rattle.dr_program.specs.{Presence.{present_at, with_present}, Program.{IsRanFrom, Program, begun_program}}
+use Rattle.dr_program.specs.{Reading.letters_of, Running.{Running, after_step, next_deed, settled, took_letter}}
+use Rattle.dr_program.specs.Replica.{Replica, joined}
 use Rattle.dr_program.proofs.Present.{present_kept, present_set, present_within, further_same, further_set}
 use Rattle.dr_program.specs.declared.deed.Deed.TheVariants as deeds
-use Rattle.dr_program.specs.declared.outcome.Outcome.{Outcome}
-use Rattle.dr_program.specs.Form.{IsOf}
-use Rattle.dr_program.specs.Presence.{present_at, with_present}
-use Rattle.dr_program.specs.Program.{IsRanFrom, Program, begun_program}
-use Rattle.dr_program.specs.Reading.{letters_of}
-use Rattle.dr_program.specs.Replica.{Replica, joined}
-use Rattle.dr_program.specs.Running.{Running, after_step, next_deed, settled, took_letter}
-use Rattle.dr_program_laws.proofs.Keeping.{deeds_kept}
-use Rattle.dr_refine.proofs.Deeds.{settle_replica, after_later}
-use Rattle.dr_refine.specs.Programs.{IsLetterFor}
-use Rattle.dr_program_laws.proofs.Letters.{letters_are}
+use Rattle.dr_program_laws.proofs.{Keeping.deeds_kept, Letters.letters_are}
+use Rattle.dr_refine.{specs.Programs.IsLetterFor, proofs.Deeds.{settle_replica, after_later}}
 use Rattle.dr_turn.proofs.Takes.{IsTaking, taking}
 use Rattle.dr_words.specs.Layout.{words_of}
-use Rattle.dr_table.specs.declared.rule.Errand.{Errand}
-use Rattle.dr_table.specs.declared.rule.View.{View}
 use Rattle.dr_table.specs.Rule.{HasSuchProgram, Stands, hands, number}
-use Rattle.dr_table.specs.Slots.{HaveSlots, IsAbout, IsBlankList, IsPosted, Slot, slot_number}
-use Rattle.dr_table.specs.Steps.{HasAppended}
+use Rattle.dr_table.specs.{Slots.{HaveSlots, IsAbout, IsBlankList, IsPosted, Slot, slot_number}, Steps.HasAppended}
+use Rattle.dr_table.specs.declared.rule.{Errand.Errand, View.View}
 use Rattle.dr_table.proofs.Deeds.{after_told, appends_ran, appends_told, same_number}
-use Rattle.dr_table.proofs.Errands.{SlotChange, slots_changed, slots_stay}
-use Rattle.dr_table.proofs.Later.{appends_later}
-use Rattle.dr_table.proofs.Places.{stands_set}
-use Rattle.dr_table.proofs.Seats.{hands_get, hands_same, hands_set}
-use Rattle.dr_table.proofs.Welcoming.{IsNewcomer, newcomer, one_welcomer}
+use Rattle.dr_table.proofs.{Errands.{SlotChange, slots_changed, slots_stay}, Later.appends_later, Places.stands_set}
+use Rattle.dr_table.proofs.{Seats.{hands_get, hands_same, hands_set}, Welcoming.{IsNewcomer, newcomer, one_welcomer}}
 use mathlib.Core.Option.{Option as Maybe, some, none}
 use lib.ListN.{get_elem?}
-use Rattle.dr_entry.proofs.ListPlaces.{behind_set, slot_within, sum_again}
-use Rattle.dr_entry.proofs.NumberFacts.{below_two}
-use Rattle.dr_history.proofs.Ranks.{at_rank_of}
 
 -- ---- slots
 
@@ -114,8 +95,7 @@ module _ {dealt : List (Option Running)} {words : List ℕ} {homes : List (Maybe
   -- its table is as long as the member knows
   pub sized : (r : Running) → present_at k.members (number r) ≡ Some r → length k.table ≡ table_size r
   sized r there =
-      let of = of_group r there in
-      sound.form.table ∙ sym (λ z. words_of (of.members z) (of.window z) (of.banks z))
+      let of = of_group r there in sound.form.table ∙ sym (λ z. words_of (of.members z) (of.window z) (of.banks z))
 
   -- the word of a member of the roster stands behind it
   laid_set : (r : Running) (index j n : ℕ) → present_at k.members (number r) ≡ Some r → index ≡ table_size r + j
@@ -127,9 +107,8 @@ module _ {dealt : List (Option Running)} {words : List ℕ} {homes : List (Maybe
 
   -- it is about this now
   about_now : (id : ℕ) (v : View) (r : Running) (e : Errand) (cells flags : List ℕ) (shelves : List (Maybe Slot))
-      → slice_get views id ≡ Some v → v.members ≡ Some r ∷ [] → length flags ≡ length k.flags
-      → cells ≡ k.table ++ flags
-      → HaveSlots k.opening.group k.members k.letters k.most flags shelves (slice_set views id (about r e))
+      → slice_get views id ≡ Some v → v.members ≡ Some r ∷ [] → length flags ≡ length k.flags → cells ≡ k.table
+      ++ flags → HaveSlots k.opening.group k.members k.letters k.most flags shelves (slice_set views id (about r e))
       → HasSuchProgram dealt cells shelves (slice_set views id (about r e))
   about_now id v r e cells flags shelves is here long laid slots =
       let same = hands_same views id v (about r e) is (sym here) in record {
@@ -148,15 +127,13 @@ module _ {dealt : List (Option Running)} {words : List ℕ} {homes : List (Maybe
       }
 
   -- its member has gone on, and it is about nothing
-  member_now : (id : ℕ) (v : View) (r x : Running) (table cells flags : List ℕ)
-      (letters : List (Option (List Entry))) (shelves : List (Maybe Slot))
-      → slice_get views id ≡ Some v → v.members ≡ Some r ∷ [] → number x ≡ number r
-      → length flags ≡ length k.flags → cells ≡ table ++ flags
-      → IsRanFrom (begun_program k.opening.group k.opening.setups)
+  member_now : (id : ℕ) (v : View) (r x : Running)
+      (table cells flags : List ℕ) (letters : List (Option (List Entry))) (shelves : List (Maybe Slot))
+      → slice_get views id ≡ Some v → v.members ≡ Some r ∷ [] → number x ≡ number r → length flags ≡ length k.flags
+      → cells ≡ table ++ flags → IsRanFrom (begun_program k.opening.group k.opening.setups)
       (record { members = with_present k.members (number r) x; table = table; letters = letters })
       → HaveSlots k.opening.group (with_present k.members (number r) x) letters k.most flags shelves
-      (slice_set views id (one x))
-      → HasSuchProgram dealt cells shelves (slice_set views id (one x))
+      (slice_set views id (one x)) → HasSuchProgram dealt cells shelves (slice_set views id (one x))
   member_now id v r x table cells flags letters shelves is here named long laid ran slots =
       let same = hands_set views id (one x) in
       let mine = hands_get views id v is ∙ ap Some here in record {
@@ -200,15 +177,13 @@ module _ {dealt : List (Option Running)} {words : List ℕ} {homes : List (Maybe
   -- ---- a letter is given
 
   -- of the seats only this one can be about a letter that its member is to give
-  gives_alone : (id : ℕ) (v : View) (j : ℕ) (r : Running) → slice_get views id ≡ Some v → v.members ≡ Some r ∷ []
-      → next_deed r ≡ deeds.Give j
-      → (s : ℕ) (u : View) (e : Errand) → slice_get views s ≡ Some u → u.errand ≡ Some e → e.late ≡ j → e.word ≡ 1
-      → s ≡ id
+  gives_alone : (id : ℕ) (v : View) (j : ℕ) (r : Running) → slice_get views id ≡ Some v
+      → v.members ≡ Some r ∷ [] → next_deed r ≡ deeds.Give j → (s : ℕ) (u : View) (e : Errand)
+      → slice_get views s ≡ Some u → u.errand ≡ Some e → e.late ≡ j → e.word ≡ 1 → s ≡ id
   gives_alone id v j r is here next s u e there busy named single =
       let (q, stands, due) = (k.slots.abouts s u e there busy).member in
-      one_seat s id u v q r there stands is here
-      (one_welcomer k.opening.group kept (number r) (number q) j r q sound (stood id v r is here)
-      (stood s u q there stands) next (due.gives single ∙ ap (λ n. deeds.Give n) named))
+      one_seat s id u v q r there stands is here (one_welcomer k.opening.group kept (number r) (number q) j r q sound
+      (stood id v r is here) (stood s u q there stands) next (due.gives single ∙ ap (λ n. deeds.Give n) named))
 
   -- the word of the late member is still 0
   unopened : (id j : ℕ) (r : Running) → slice_get views id ≡ Some (one r) → next_deed r ≡ deeds.Give j
@@ -237,19 +212,14 @@ module _ {dealt : List (Option Running)} {words : List ℕ} {homes : List (Maybe
       ]
 
   -- the member takes the slot, with a blank list
-  pub opened : (id : ℕ) (e : Errand) (slot index : ℕ) (r : Running) → slice_get views id ≡ Some (one r)
-      → e.word ≡ 1 → next_deed r ≡ deeds.Give e.late
-      → slot ≡ slot_number r.replica.late e.late → index ≡ table_size r + e.late
-      → (list : Vec Entry Global) × (get_elem? homes slot ≡ some (some (Some list)))
-      × IsBlankList r.replica.room list
+  pub opened : (id : ℕ) (e : Errand) (slot index : ℕ) (r : Running) → slice_get views id ≡ Some (one r) → e.word ≡ 1
+      → next_deed r ≡ deeds.Give e.late → slot ≡ slot_number r.replica.late e.late → index ≡ table_size r + e.late
+      → (list : Vec Entry Global) × (get_elem? homes slot ≡ some (some (Some list))) × IsBlankList r.replica.room list
       × HasSuchProgram dealt (slice_set words index 1) (slice_set homes slot none) (slice_set views id (about r e))
   opened id e slot index r is first next same_slot same_index = (
     list.0,
     ap (get_elem? homes) at_slot ∙ list.1,
-    record {
-      empty = list.2.empty;
-      fits = omega (arith, list.2.fits, k.slots.room (number r) r there);
-    },
+    record { empty = list.2.empty; fits = omega (arith, list.2.fits, k.slots.room (number r) r there) },
     about_now id (one r) r e (slice_set words index 1) (slice_set k.flags j 1) (slice_set homes slot none) is refl
         (length-set k.flags j 1) (laid_set r index j 1 there same_index)
         (slots_changed g k.members k.members k.letters k.letters k.most k.flags homes (slice_set homes slot none)
@@ -321,12 +291,11 @@ module _ {dealt : List (Option Running)} {words : List ℕ} {homes : List (Maybe
       → list.items ≡ up_to_view r.replica.history
       → HasSuchProgram dealt (slice_set words index 2) (slice_set homes slot (some (Some list)))
       (slice_set views id (one (after_step 0 r)))
-  homed id e slot index list r is first next same_slot same_index items =
-      member_now id (about r e) r x k.table (slice_set words index 2) (slice_set k.flags j 2) posts
-      (slice_set homes slot (some (Some list))) is refl (same_number r x (after_told 0 r)) (length-set k.flags j 2)
-      (laid_set r index j 2 there same_index)
-      (give_ran (begun_program k.opening.group k.opening.setups) k.table k.letters k.members (number r) j r there
-      next k.ran)
+  homed id e slot index list r is first next same_slot same_index items = member_now id (about r e) r x k.table
+      (slice_set words index 2) (slice_set k.flags j 2) posts (slice_set homes slot (some (Some list))) is refl
+      (same_number r x (after_told 0 r)) (length-set k.flags j 2) (laid_set r index j 2 there same_index)
+      (give_ran (begun_program k.opening.group k.opening.setups) k.table k.letters k.members
+      (number r) j r there next k.ran)
       (slots_changed g k.members (with_present k.members (number r) x) k.letters posts k.most k.flags homes
       (slice_set homes slot (some (Some list))) views id (about r e) (one x) j 2 change k.slots)
     where
@@ -455,17 +424,15 @@ module _ {dealt : List (Option Running)} {words : List ℕ} {homes : List (Maybe
   missed id r is next nothing =
       let x = settled (took_letter None r) in
       let same : x.replica ≡ r.replica = settle_replica _ (took_letter None r) in
-      member_on id r x k.table words is (ap told same)
-      (subst (λ (q : Replica). r.replica.view ≤ q.view) (sym same) (omega arith)) k.laid
-      (take_ran (begun_program k.opening.group k.opening.setups) k.table k.letters k.members (number r) r None
-      (stood id (one r) r is refl) next nothing k.ran)
+      member_on id r x k.table words is (ap told same) (subst (λ (q : Replica). r.replica.view ≤ q.view) (sym same)
+      (omega arith)) k.laid (take_ran (begun_program k.opening.group k.opening.setups) k.table k.letters k.members
+      (number r) r None (stood id (one r) r is refl) next nothing k.ran)
 
   -- it sees that the letter is there
   pub noticed : (id : ℕ) (e : Errand) (r : Running) → slice_get views id ≡ Some (one r)
       → e.word ≡ 2 → next_deed r ≡ deeds.Take → number r ≡ e.late → slice_index k.flags (number r) ≡ 2
       → HasSuchProgram dealt words homes (slice_set views id (about r e))
-  noticed id e r is second next named two =
-      about_now id (one r) r e words k.flags homes is refl refl k.laid
+  noticed id e r is second next named two = about_now id (one r) r e words k.flags homes is refl refl k.laid
       (slots_stay k.opening.group k.members k.members k.letters k.most k.flags homes views id (one r) (about r e)
       is refl (further_same k.members)
       (λ f busy. subst (IsAbout k.letters k.flags (Some r ∷ [])) (same_Some e f busy) (record {
@@ -482,8 +449,7 @@ module _ {dealt : List (Option Running)} {words : List ℕ} {homes : List (Maybe
   -- it takes the slot, with the letter
   pub fetched : (id : ℕ) (e : Errand) (slot index : ℕ) (r : Running) → slice_get views id ≡ Some (about r e)
       → e.word ≡ 2 → next_deed r ≡ deeds.Take → number r ≡ e.late → slot ≡ slot_number r.replica.late e.late
-      → index ≡ table_size r + e.late
-      → (list : Vec Entry Global) × (get_elem? homes slot ≡ some (some (Some list)))
+      → index ≡ table_size r + e.late → (list : Vec Entry Global) × (get_elem? homes slot ≡ some (some (Some list)))
       × (letters_of k.letters (number r) ≡ Some list.items)
       × HasSuchProgram dealt (slice_set words index 3) (slice_set homes slot none)
       (slice_set views id (about r (record e { word = 3; letter = list.items })))
@@ -564,15 +530,13 @@ module _ {dealt : List (Option Running)} {words : List ℕ} {homes : List (Maybe
   -- it puts the slot back, empty, and has joined
   pub returned : (id : ℕ) (e : Errand) (slot index : ℕ) (r : Running) → slice_get views id ≡ Some (about r e)
       → e.word ≡ 3 → next_deed r ≡ deeds.Take → number r ≡ e.late → slot ≡ slot_number r.replica.late e.late
-      → index ≡ table_size r + e.late
-      → HasSuchProgram dealt (slice_set words index 4) (slice_set homes slot (some None))
-      (slice_set views id (one (settled (took_letter (Some e.letter) r))))
-  returned id e slot index r is three next named same_slot same_index =
-      member_now id (about r e) r x k.table (slice_set words index 4) (slice_set k.flags j 4) k.letters
-      (slice_set homes slot (some None)) is refl (same_number r x same) (length-set k.flags j 4)
-      (laid_set r index j 4 there same_index)
-      (take_ran (begun_program k.opening.group k.opening.setups) k.table k.letters k.members (number r) r
-      (Some e.letter) there next letter k.ran)
+      → index ≡ table_size r + e.late → HasSuchProgram dealt (slice_set words index 4) (slice_set homes slot
+      (some None)) (slice_set views id (one (settled (took_letter (Some e.letter) r))))
+  returned id e slot index r is three next named same_slot same_index = member_now id (about r e) r x k.table
+      (slice_set words index 4) (slice_set k.flags j 4) k.letters (slice_set homes slot (some None)) is refl
+      (same_number r x same) (length-set k.flags j 4) (laid_set r index j 4 there same_index)
+      (take_ran (begun_program k.opening.group k.opening.setups) k.table k.letters k.members
+      (number r) r (Some e.letter) there next letter k.ran)
       (slots_changed g k.members (with_present k.members (number r) x) k.letters k.letters k.most k.flags homes
       (slice_set homes slot (some None)) views id (about r e) (one x) j 4 change k.slots)
     where

@@ -1,22 +1,15 @@
 -- A hand has no more places than were dealt, and a hand of all members has those of the program.
-use Rattle.std.proofs.Common.{◌≡◌, refl, sym, ap, ◌∙◌, subst, ℕ, ◌<◌, ◌≤◌, List, length, arith}
 use Rattle.std.specs.Prelude.{Option, None, Some, is_some, option_map, slice_get, slice_set}
-use Rattle.std.proofs.lemmas.List.{length-map, set-get_or}
-use Rattle.std.proofs.lemmas.List.Sums.{get_or-le-sum_by}
+use Rattle.std.proofs.Common.{◌≡◌, refl, sym, ap, ◌∙◌, subst, ℕ, ◌<◌, ◌≤◌, List, length, arith}
+use Rattle.std.proofs.lemmas.List.{length-map, set-get_or, Sums.get_or-le-sum_by}
 use Rattle.std.proofs.lemmas.Option.{get_or_from_slice_get, same_Some, slice_get_within}
 use Rattle.atomic_table.specs.Table.{keeps, Allows, Me}
 use Rattle.dr_machine.specs.Group.{roster}
-use Rattle.dr_program.specs.Presence.{present_at}
-use Rattle.dr_program.specs.Running.{Running, begun_running}
+use Rattle.dr_program.specs.{Presence.present_at, Running.{Running, begun_running}}
 use Rattle.dr_program.proofs.Present.{present_map, present_within, same_places}
 use Rattle.dr_refine.specs.Programs.{IsProgram}
-use Rattle.dr_table.specs.Cards.{AreSame}
-use Rattle.dr_table.specs.declared.rule.View.{View}
-use Rattle.dr_table.specs.Rule.{HasSuchProgram, hands, number}
-use Rattle.dr_table.specs.Slots.{Slot}
-use Rattle.dr_table.proofs.Hands.{dealt_few, dealt_number}
-use Rattle.dr_table.proofs.Posting.{kept, sound}
-use Rattle.dr_table.proofs.Seats.{hands_get}
+use Rattle.dr_table.specs.{Cards.AreSame, Rule.{HasSuchProgram, hands, number}, Slots.Slot, declared.rule.View.View}
+use Rattle.dr_table.proofs.{Hands.{dealt_few, dealt_number}, Posting.{kept, sound}, Seats.hands_get}
 use mathlib.Core.Option.{Option as Maybe}
 use Rattle.dr_entry.proofs.ListPlaces.{by_table, set_again}
 
@@ -31,8 +24,7 @@ few dealt words homes views id v is k =
       k.places,
     )
 
-pub count_allowed : (dealt : List (Option Running)) (slots id n : ℕ) (me : Me Slot View)
-    → length dealt ≡ n
+pub count_allowed : (dealt : List (Option Running)) (slots id n : ℕ) (me : Me Slot View) → length dealt ≡ n
     → Allows {S = Slot} {V = View} (λ s. HasSuchProgram dealt s.words s.homes s.views) slots id me 0 (λ n. n)
     (λ _ w. (w ≡ me) × (length me.0.members ≤ n))
 count_allowed dealt slots id n me many s k _ is _ =
@@ -42,10 +34,7 @@ count_allowed dealt slots id n me many s k _ is _ =
       tt,
       subst (λ ws. HasSuchProgram dealt ws s.homes (slice_set s.views id me.0)) (sym (set-get_or s.words 0 0))
           (subst (λ vs. HasSuchProgram dealt s.words s.homes vs) (sym (set_again s.views id me.0 home)) k),
-      (
-        refl,
-        subst (λ most. length me.0.members ≤ most) many (few dealt s.words s.homes s.views id me.0 home k),
-      ),
+      (refl, subst (λ most. length me.0.members ≤ most) many (few dealt s.words s.homes s.views id me.0 home k)),
     )
 
 -- a hand that holds the dealt members, in their order, holds those of the program
@@ -79,14 +68,12 @@ whole dealt words homes views id v is same k = same_places k.members v lengths f
     named : (m : ℕ) (q : Running) → present_at v m ≡ Some q → number q ≡ m
     named m q here = by (present_at dealt m) refl (sym (names m) ∙ ap (option_map number) here)
       where
-        by : (o : Option Running) → present_at dealt m ≡ o → option_map number o ≡ Some (number q)
-            → number q ≡ m
+        by : (o : Option Running) → present_at dealt m ≡ o → option_map number o ≡ Some (number q) → number q ≡ m
         by None none e = absurd (cc)
         by (Some r) there e = sym (same_Some (number r) (number q) e) ∙ dealt_number dealt k.opening m r there
 
     stood : (m : ℕ) (q : Running) → present_at v m ≡ Some q → present_at k.members m ≡ Some q
-    stood m q here =
-        ap (present_at k.members) (sym (named m q here)) ∙ k.stands.each id m q (v, is, here)
+    stood m q here = ap (present_at k.members) (sym (named m q here)) ∙ k.stands.each id m q (v, is, here)
 
     filled : (m : ℕ) → is_some (present_at v m) ≡ is_some (present_at k.members m)
     filled m = by (present_at v m) (present_at k.members m) refl refl

@@ -1,10 +1,8 @@
 -- The hands of the seats, as one of these changes.
-use Rattle.std.proofs.Common.{◌≡◌, refl, ap, ◌∙◌, ℕ, zero, suc, List, [], ◌∷◌, ◌++◌}
 use Rattle.std.specs.Prelude.{Some, option_map, slice_get, slice_set}
-use Rattle.std.proofs.lemmas.Option.{slice_get-map}
+use Rattle.std.proofs.{Common.{◌≡◌, refl, ap, ◌∙◌, ℕ, zero, suc, List, [], ◌∷◌, ◌++◌}, lemmas.Option.slice_get-map}
 use Rattle.dr_entry.proofs.ListPlaces.{set_again}
-use Rattle.dr_table.specs.declared.rule.View.{View}
-use Rattle.dr_table.specs.Rule.{hands}
+use Rattle.dr_table.specs.{Rule.hands, declared.rule.View.View}
 
 pub hands_get : (views : List View) (id : ℕ) (v : View) → slice_get views id ≡ Some v
     → slice_get (hands views) id ≡ Some v.members
@@ -24,6 +22,5 @@ hands_behind (v ∷ vs) w = ap (λ hs. v.members ∷ hs) (hands_behind vs w)
 -- a seat that keeps its members leaves the hands
 pub hands_same : (views : List View) (id : ℕ) (v w : View) → slice_get views id ≡ Some v
     → w.members ≡ v.members → hands (slice_set views id w) ≡ hands views
-hands_same views id v w is same =
-    hands_set views id w ∙ ap (slice_set (hands views) id) same
+hands_same views id v w is same = hands_set views id w ∙ ap (slice_set (hands views) id) same
     ∙ set_again (hands views) id v.members (hands_get views id v is)

@@ -1,21 +1,14 @@
 -- Sweeps: what a seated member knows as one begins, as it goes on, and as it ends.
-use Rattle.std.proofs.Common.{◌≡◌, refl, sym, ap, ◌∙◌, subst, ℕ, ◌+◌, List, [], ◌∷◌, ◌++◌}
-use Rattle.std.specs.Prelude.{None}
+use Rattle.std.{specs.Prelude.None, proofs.Common.{◌≡◌, refl, sym, ap, ◌∙◌, subst, ℕ, ◌+◌, List, [], ◌∷◌, ◌++◌}}
 use Rattle.atomic_table.specs.Table.{Me}
-use Rattle.dr_program.specs.declared.deed.Deed.{Deed}
-use Rattle.dr_program.specs.declared.deed.Deed.TheVariants as deeds
-use Rattle.dr_program.specs.Running.{Running, after_step, next_deed}
+use Rattle.dr_program.specs.{Running.{Running, after_step, next_deed}, declared.deed.Deed.Deed}
 use Rattle.dr_program.proofs.Fixed.{Told, told}
+use Rattle.dr_program.specs.declared.deed.Deed.TheVariants as deeds
 use Rattle.dr_words.specs.Layout.{words_of}
-use Rattle.dr_age.proofs.Deeds.{deed_tells}
-use Rattle.dr_table.specs.Deeds.{IsStore}
-use Rattle.dr_table.specs.declared.rule.View.{View}
-use Rattle.dr_table.specs.declared.seated.SeatedMember.TheInside.{Inside}
-use Rattle.dr_table.specs.Inside.{IsInsideSeated}
-use Rattle.dr_table.specs.Slots.{Slot}
-use Rattle.dr_table.specs.Steps.{IsReachedMember, MayFind, alone}
-use Rattle.dr_table.specs.Sweeps.{HasComeBySweep, HasTaken, IsSwept}
-use Rattle.dr_table.proofs.Deeds.{after_told, stores}
+use Rattle.dr_play.proofs.Deeds.{deed_tells}
+use Rattle.dr_table.specs.{Deeds.IsStore, Inside.IsInsideSeated, Slots.Slot, Steps.{IsReachedMember, MayFind, alone}}
+use Rattle.dr_table.specs.{Sweeps.{HasComeBySweep, HasTaken, IsSwept}, declared.rule.View.View}
+use Rattle.dr_table.{specs.declared.seated.SeatedMember.TheInside.Inside, proofs.Deeds.{after_told, stores}}
 use Rattle.dr_table.proofs.Members.{IsSameBut, inside_after}
 
 -- one deed more
@@ -29,8 +22,7 @@ taken_more (w ∷ words) word r q (first, at, rest) swept found =
 -- what a member was told stays
 pub taken_told : (words : List ℕ) (r q : Running) → HasTaken words r q → told q.replica ≡ told r.replica
 taken_told [] r q same = ap (λ (x : Running). told x.replica) (sym same)
-taken_told (word ∷ words) r q (swept, found, rest) =
-    taken_told words (after_step word r) q rest ∙ after_told word r
+taken_told (word ∷ words) r q (swept, found, rest) = taken_told words (after_step word r) q rest ∙ after_told word r
 
 -- no deed was taken yet
 pub come_begins : (s : Inside) → IsInsideSeated s → HasComeBySweep s.seat.table_id.words s.member s.seat.me s.member
@@ -38,9 +30,8 @@ come_begins s is = record { taken = ([], refl); seat = is.known; reached = is.re
 
 -- one more was taken
 pub come_on : (size : ℕ) (from : Running) (me after : Me Slot View) (q : Running) (word : ℕ)
-    → HasComeBySweep size from me q → IsSwept (next_deed q) → MayFind q word
-    → after ≡ alone (after_step word q) → IsReachedMember (after_step word q)
-    → HasComeBySweep size from after (after_step word q)
+    → HasComeBySweep size from me q → IsSwept (next_deed q) → MayFind q word → after ≡ alone (after_step word q)
+    → IsReachedMember (after_step word q) → HasComeBySweep size from after (after_step word q)
 come_on size from me after q word come swept found to reached =
     let x = after_step word q in
     let (words, taken) = come.taken in
@@ -52,8 +43,7 @@ come_on size from me after q word come swept found to reached =
     }
 
 -- a push sees nothing, which its member may find
-pub push_finds : (q : Running) (index new : ℕ) → next_deed q ≡ deeds.Push index new → IsReachedMember q
-    → MayFind q 0
+pub push_finds : (q : Running) (index new : ℕ) → next_deed q ≡ deeds.Push index new → IsReachedMember q → MayFind q 0
 push_finds q index new next (g, p, is) =
     (g, p, is, (stores p.table q index new (subst (IsStore index new) (sym next) (refl, refl))).says.sees)
 

@@ -3,11 +3,8 @@ use Rattle.std.specs.Prelude.{◌≡◌, ◌+◌, ◌-◌, ℕ, IsTrue, List, is
 use Rattle.dr_entry.specs.declared.entry.Entry.{Entry}
 use Rattle.atomic_table.specs.Seated.{TableId}
 use Rattle.dr_member.specs.Deeds.{table_size}
-use Rattle.dr_program.specs.Program.{Program}
-use Rattle.dr_program.specs.Running.{Running, settled, took_letter}
-use Rattle.dr_table.specs.Rule.{no_posts, number}
-use Rattle.dr_table.specs.Steps.{IsReachedMember, MayTake}
-use Rattle.dr_program.specs.Presence.{present_at}
+use Rattle.dr_program.specs.{Presence.present_at, Program.Program, Running.{Running, settled, took_letter}}
+use Rattle.dr_table.specs.{Rule.{no_posts, number}, Steps.{IsReachedMember, MayTake}}
 
 -- which table it is, and how many places were dealt over it
 pub record DealtTable : Type 0 where

@@ -2,8 +2,7 @@
 use Rattle.std.specs.Prelude.{◌≡◌, ◌<◌, ◌≤◌, [], vec_capacity}
 use Rattle.dr_program.specs.Running.{Running}
 use Rattle.dr_table.specs.Cards.{AreOf, AreReached, Cards, Seated, board_size}
-use Rattle.dr_table.specs.Steps.{IsAhead, IsReachedMember, alone, idle}
-use Rattle.dr_table.specs.declared.hand.Hand.TheInside.{Inside}
+use Rattle.dr_table.specs.{Steps.{IsAhead, IsReachedMember, alone, idle}, declared.hand.Hand.TheInside.Inside}
 use Rattle.dr_table.specs.declared.seated.SeatedMember.TheInside.{Inside as InsideSeated}
 
 abbrev pub cards_of : Inside → Cards

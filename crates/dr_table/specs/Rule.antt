@@ -3,13 +3,9 @@
 use Rattle.std.specs.Prelude.{◌≡◌, ◌≤◌, ◌++◌, ℕ, List, length, map, replicate, slice_get, None, Some, sum_by, Option, option_map}
 use Rattle.dr_entry.specs.declared.entry.Entry.{Entry}
 use Rattle.dr_machine.specs.Group.{Group, IsGroup, roster}
-use Rattle.dr_program.specs.declared.setup.Setup.{Setup}
-use Rattle.dr_program.specs.Program.{AreSetups, IsRanFrom, begun_program}
-use Rattle.dr_program.specs.Replica.{me}
-use Rattle.dr_program.specs.Running.{Running, begun_running}
-use Rattle.dr_program.specs.Presence.{present_at}
-use Rattle.dr_table.specs.declared.rule.View.{View}
-use Rattle.dr_table.specs.Slots.{HaveSlots, Slot}
+use Rattle.dr_program.specs.{Presence.present_at, Program.{AreSetups, IsRanFrom, begun_program}, Replica.me}
+use Rattle.dr_program.specs.{Running.{Running, begun_running}, declared.setup.Setup.Setup}
+use Rattle.dr_table.specs.{Slots.{HaveSlots, Slot}, declared.rule.View.View}
 use mathlib.Core.Option.{Option as Maybe}
 
 -- the members of a group, those that are there, by number, as its age opens, before their first deeds

@@ -5,12 +5,8 @@ use Rattle.dr_entry.specs.declared.entry.Entry.{Entry}
 use Rattle.dr_history.specs.Members.{has, members_below}
 use Rattle.dr_machine.specs.Group.{Group, late_members}
 use Rattle.dr_program.specs.declared.deed.Deed.TheVariants as deeds
-use Rattle.dr_program.specs.Presence.{present_at}
-use Rattle.dr_program.specs.Reading.{letters_of}
-use Rattle.dr_program.specs.Replica.{me}
-use Rattle.dr_program.specs.Running.{Running, next_deed}
-use Rattle.dr_table.specs.declared.rule.Errand.{Errand}
-use Rattle.dr_table.specs.declared.rule.View.{View}
+use Rattle.dr_program.specs.{Presence.present_at, Reading.letters_of, Replica.me, Running.{Running, next_deed}}
+use Rattle.dr_table.specs.declared.rule.{Errand.Errand, View.View}
 use mathlib.Core.Option.{Option as Maybe, some, none}
 use lib.ListN.{get_elem?}
 

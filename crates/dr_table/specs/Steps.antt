@@ -2,19 +2,14 @@
 use Rattle.std.specs.Prelude.{◌≡◌, ◌≢◌, ◌⊎◌, ◌+◌, ◌<◌, ℕ, true, List, [], ◌∷◌, None, Some, Option, Vec}
 use Rattle.std.specs.declared.alloc.Global.{Global}
 use Rattle.atomic_table.specs.Table.{Me}
-use Rattle.dr_age.specs.Sound.{IsSound}
+use Rattle.dr_play.specs.Sound.{IsSound}
 use Rattle.dr_entry.specs.declared.entry.Entry.{Entry}
-use Rattle.dr_machine.specs.Group.{Group}
-use Rattle.dr_machine.specs.World.{no_value}
+use Rattle.dr_machine.specs.{Group.Group, World.no_value}
 use Rattle.dr_member.specs.Deeds.{is_append, table_size}
-use Rattle.dr_program.specs.declared.outcome.Outcome.{Outcome}
-use Rattle.dr_program.specs.Program.{Program, appended_as, letter_for, next_sight}
-use Rattle.dr_program.specs.Running.{Running, after_step, next_deed, settled, took_letter}
-use Rattle.dr_table.specs.declared.rule.Errand.{Errand}
+use Rattle.dr_program.specs.{Presence.present_at, Running.{Running, after_step, next_deed, settled, took_letter}}
+use Rattle.dr_program.specs.{Program.{Program, appended_as, letter_for, next_sight}, declared.outcome.Outcome.Outcome}
+use Rattle.dr_table.specs.{Rule.number, Slots.{IsBlankList, Slot, slot_number}, declared.rule.Errand.Errand}
 use Rattle.dr_table.specs.declared.rule.View.{View}
-use Rattle.dr_table.specs.Rule.{number}
-use Rattle.dr_table.specs.Slots.{IsBlankList, Slot, slot_number}
-use Rattle.dr_program.specs.Presence.{present_at}
 
 -- a seat with these members that is about no letter and holds no slot
 abbrev pub idle : List (Option Running) → Me Slot View

@@ -1,13 +1,10 @@
 -- Sweeps: looks and pushes that a member takes one after the other.
 use Rattle.std.specs.Prelude.{◌≡◌, ℕ, List, [], ◌∷◌}
 use Rattle.atomic_table.specs.Table.{Me}
-use Rattle.dr_program.specs.declared.deed.Deed.{Deed}
+use Rattle.dr_program.specs.{Running.{Running, after_step, next_deed}, declared.deed.Deed.Deed}
 use Rattle.dr_program.specs.declared.deed.Deed.TheVariants as deeds
-use Rattle.dr_program.specs.Running.{Running, after_step, next_deed}
-use Rattle.dr_table.specs.Cards.{board_size}
+use Rattle.dr_table.specs.{Cards.board_size, Slots.Slot, Steps.{IsAhead, IsReachedMember, MayFind, alone}}
 use Rattle.dr_table.specs.declared.rule.View.{View}
-use Rattle.dr_table.specs.Slots.{Slot}
-use Rattle.dr_table.specs.Steps.{IsAhead, IsReachedMember, MayFind, alone}
 
 -- the deed is a look or a push
 abbrev pub IsSwept : Deed → Type 0

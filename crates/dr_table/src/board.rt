@@ -1,14 +1,9 @@
 //! The board of an age: its words and slots, dealt and closed.
-ghost use Rattle.std.specs.Prelude.{◌≡◌, ◌≤◌, All, IfOk, ℕ, List, Some, Option, length};
-ghost use Rattle.std.specs.Mem.Slots.{IsFull};
+ghost use Rattle.std.specs.{Mem.Slots.IsFull, Prelude.{◌≡◌, ◌≤◌, All, IfOk, ℕ, List, Some, Option, length}};
 ghost use Rattle.dr_entry.specs.declared.entry.Entry.{Entry};
-ghost use Rattle.dr_program.specs.Form.{IsRunningMember};
-ghost use Rattle.dr_program.specs.Program.{IsRanFrom, begun_program};
-ghost use Rattle.dr_table.specs.Cards.{AreAtEnd, AreOf, AreSame, opened};
-ghost use Rattle.dr_program.specs.Presence.{present_at};
+ghost use Rattle.dr_program.specs.{Form.IsRunningMember, Presence.present_at, Program.{IsRanFrom, begun_program}};
 ghost use Rattle.dr_program.specs.Running.{Running};
-ghost use Rattle.dr_table.specs.Rule.{IsDealt};
-ghost use Rattle.dr_table.specs.Slots.{IsBlankSlot};
+ghost use Rattle.dr_table.specs.{Cards.{AreAtEnd, AreOf, AreSame, opened}, Rule.IsDealt, Slots.IsBlankSlot};
 
 use crate::hand::Hand;
 use crate::rule::{Ruled, Slot, View};

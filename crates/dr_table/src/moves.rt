@@ -1,13 +1,11 @@
 //! The steps on the table, one for each kind.
 ghost use Rattle.std.specs.Prelude.{◌≡◌, ◌<◌, ◌≤◌, drop, length, take};
 ghost use Rattle.dr_member.specs.Deeds.{table_size};
-ghost use Rattle.dr_program.specs.declared.deed.Deed.TheVariants.{Look};
-ghost use Rattle.dr_program.specs.Running.{Running, next_deed};
-ghost use Rattle.dr_table.specs.Deeds.{IsStore};
-ghost use Rattle.dr_table.specs.Steps.{IsAhead, Looked, Stored, alone, idle};
+ghost use Rattle.dr_program.specs.{Running.{Running, next_deed}, declared.deed.Deed.TheVariants.Look};
+ghost use Rattle.dr_table.specs.{Deeds.IsStore, Steps.{IsAhead, Looked, Stored, alone, idle}};
 
 use crate::board::Board;
-use crate::rule::{Counts, Cuts, Looks, Mover, Place, Slot, Stores, View};
+use crate::rule::{Counts, Cuts, Looks, Mover, Slot, Stores, View, WordPlace};
 use atomic_table::Seat;
 use dr_member::Standing;
 
@@ -53,7 +51,7 @@ pub(crate) fn store_at<J: Mover>(
 }
 
 /// Cuts the hand of a seat at a place. The new seat has what stands from there on.
-pub(crate) fn cut_at<J: Place>(
+pub(crate) fn cut_at<J: WordPlace>(
     board: &Board,
     seat: &mut Seat<Slot, View>,
     at: usize,
@@ -69,7 +67,7 @@ pub(crate) fn cut_at<J: Place>(
 }
 
 /// The hand of a seat has no more places than were dealt.
-pub(crate) fn count_at<J: Place>(board: &Board, seat: &mut Seat<Slot, View>)
+pub(crate) fn count_at<J: WordPlace>(board: &Board, seat: &mut Seat<Slot, View>)
     requires at { length board.now.members ≡ J.at }
     requires table { seat.old.table_id ≡ board.now.table.id }
     requires words { 0 < board.now.table.id.words }

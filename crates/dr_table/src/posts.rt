@@ -15,10 +15,8 @@ ghost use Rattle.dr_form.specs.Letters.{IsFitting};
 ghost use Rattle.dr_history.specs.History.{up_to_view};
 ghost use Rattle.dr_member.specs.Deeds.{is_take, table_size};
 ghost use Rattle.dr_turn.specs.Work.{deeds_left};
-ghost use Rattle.dr_program.specs.Replica.{me};
-ghost use Rattle.dr_program.specs.Running.{Running, after_step, next_deed, settled, took_letter};
-ghost use Rattle.dr_table.specs.Cards.{board_size};
-ghost use Rattle.dr_table.specs.Slots.{IsBlankList, IsDueFor};
+ghost use Rattle.dr_program.specs.{Replica.me, Running.{Running, after_step, next_deed, settled, took_letter}};
+ghost use Rattle.dr_table.specs.{Cards.board_size, Slots.{IsBlankList, IsDueFor}};
 ghost use Rattle.dr_table.specs.Steps.{HasFetched, IsAhead, IsLetterAt, IsReachedMember, MayTake, Peeked, Returned, alone, busy};
 
 use crate::board::Board;

@@ -39,13 +39,13 @@ impl TableRule<Slot, View, Vec<Option<Member>>> for Ruled {
 }
 
 /// A place of a hand, or behind it. A cut and a count pick it.
-pub trait Place {
+pub trait WordPlace {
     ghost use Rattle.std.specs.Prelude.{ℕ};
 
     ghost at: { ℕ };
 }
 
-impl Place for Brand {
+impl WordPlace for Brand {
     ghost at = { 0 };
 }
 
@@ -107,7 +107,7 @@ pub struct Cuts<J> {
     at: PhantomData<J>,
 }
 
-impl<J: Place> Split<View> for Cuts<J> {
+impl<J: WordPlace> Split<View> for Cuts<J> {
     ghost use Rattle.std.specs.Prelude.{None, take, drop};
 
     ghost left = { λ v. record { members = take J.at v.members; errand = None } };
@@ -131,7 +131,7 @@ pub struct Counts<J> {
     at: PhantomData<J>,
 }
 
-impl<J: Place> Play<Slot, View> for Counts<J> {
+impl<J: WordPlace> Play<Slot, View> for Counts<J> {
     ghost use Rattle.std.specs.Prelude.{◌≡◌, ◌≤◌, length};
 
     ghost then = { λ _ me _ after. (after ≡ me) × (length me.0.members ≤ J.at) };

@@ -1,11 +1,9 @@
 //! A member at its seat, and the deeds that it takes from there.
 ghost use Rattle.std.specs.Prelude.{◌≡◌, ◌<◌, ◌∷◌, [], true, Some};
 ghost use Rattle.dr_member.specs.Deeds.{is_append, is_look, is_push, is_take};
-ghost use Rattle.dr_program.specs.declared.deed.Deed.TheVariants.{Act, Give};
 ghost use Rattle.dr_program.specs.Running.{after_step, broken_off, next_deed};
-ghost use Rattle.dr_table.specs.Cards.{HasAskedForLetter, IsAtEnd};
-ghost use Rattle.dr_table.specs.Steps.{IsReachedMember};
-ghost use Rattle.dr_table.specs.Sweeps.{HasSwept};
+ghost use Rattle.dr_program.specs.declared.deed.Deed.TheVariants.{Act, Give};
+ghost use Rattle.dr_table.specs.{Cards.{HasAskedForLetter, IsAtEnd}, Steps.IsReachedMember, Sweeps.HasSwept};
 ghost use Rattle.dr_turn.specs.Work.{deeds_left};
 
 use crate::board::Board;

@@ -1,13 +1,9 @@
 -- Rows of a group, in which the members 0 and 1 have each a word in one column.
 use Rattle.std.proofs.Common.{refl, sym, subst, ℕ, ◌<◌, ◌≤◌, arith}
 use Rattle.dr_pred.specs.Group.{IsOfShape}
-use Rattle.dr_rows.proofs.WordsLemmas.{IsFresh-begun, IsWords-begun}
-use Rattle.dr_rows.specs.Words.{begun, looked, with_own}
-use Rattle.dr_words.proofs.Forms.{form_zero}
+use Rattle.dr_rows.{specs.Words.{begun, looked, with_own}, proofs.WordsLemmas.{IsFresh-begun, IsWords-begun}}
+use Rattle.dr_words.{specs.{Columns.columns_of, Form.IsInForm, declared.shape.Shape.Shape}, proofs.Forms.form_zero}
 use Rattle.dr_words.proofs.Tables.{IsTable, table_looked, table_set}
-use Rattle.dr_words.specs.declared.shape.Shape.{Shape}
-use Rattle.dr_words.specs.Columns.{columns_of}
-use Rattle.dr_words.specs.Form.{IsInForm}
 
 begun_table : (n window : ℕ) → 1 < n → n ≤ 16 → columns_of n window ≤ 1024
     → IsTable n window (begun n (columns_of n window) 0)
@@ -22,8 +18,7 @@ begun_table n window several most few = record {
 -- rows in which the members 0 and 1 have each a word in form in one column are those of the group
 pub pair_of_shape : (s : Shape) (column one other : ℕ) → 1 < s.members → s.members ≤ 16
     → columns_of s.members s.window ≤ 1024 → column < columns_of s.members s.window
-    → IsInForm s.members column one → IsInForm s.members column other
-    → IsOfShape s
+    → IsInForm s.members column one → IsInForm s.members column other → IsOfShape s
     (looked (with_own (begun s.members (columns_of s.members s.window) 0) column one) 1 column other)
 pair_of_shape s column one other several most few within form_one form_other =
     let begins = begun_table s.members s.window several most few in

@@ -1,17 +1,15 @@
 -- The logs of two members as their first age opens.
 use Rattle.std.proofs.Common.{◌≡◌, refl, sym, ap, ◌∙◌, subst, true, ℕ, zero, suc, ◌-◌, ◌^◌, ◌<◌, arith, List, [], ◌∷◌, ◌++◌, length, Option, None, Some}
 use Rattle.std.proofs.lemmas.Option.{same_Some}
-use Rattle.dr_age.specs.Logged.{AreOpened, IsOpened}
+use Rattle.dr_play.specs.Logged.{AreOpened, IsOpened}
 use Rattle.dr_entry.specs.declared.entry.Entry.TheVariants.{View}
 use Rattle.dr_fresh.specs.Fresh.{IsFresh}
 use Rattle.dr_history.specs.Members.{has}
 use Rattle.dr_log.specs.State.{LogState}
 use Rattle.dr_machine.specs.Group.{IsPresent, roster}
 use Rattle.dr_program.specs.Presence.{present_at}
-use Rattle.dr_restart.specs.Groups.{first_start_of, group_of}
-use Rattle.dr_restart.specs.declared.start.Start.{Start}
-use Rattle.dr_script.specs.Ranges.{HasRanges}
-use Rattle.dr_script.specs.declared.script.Script.{Script}
+use Rattle.dr_restart.specs.{Groups.{first_start_of, group_of}, declared.start.Start.Start}
+use Rattle.dr_script.specs.{Ranges.HasRanges, declared.script.Script.Script}
 
 -- two fresh logs are those of a group of two in its first age
 pub two_opened : {D : Type 0} (script : Script) (start : Start) (one other : ℕ) (a b : LogState D)

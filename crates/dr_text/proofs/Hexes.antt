@@ -1,6 +1,5 @@
 -- Messages are bytes, as the kit's hexadecimal text takes them.
-use Rattle.std.proofs.Common.{ℕ, inl, inr, ◌<◌, arith, ◌≤◌, ◌⊎◌, List, length, get_or}
-use Rattle.std.proofs.lemmas.Bool.{cases_lt}
+use Rattle.std.proofs.{Common.{ℕ, inl, inr, ◌<◌, arith, ◌≤◌, ◌⊎◌, List, length, get_or}, lemmas.Bool.cases_lt}
 use Rattle.std.proofs.lemmas.List.{get_or_past}
 use Rattle.hex.specs.Hex.{IsBytes}
 use Rattle.dr_entry.specs.Messages.{IsMessage}

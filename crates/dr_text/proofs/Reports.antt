@@ -1,27 +1,18 @@
 -- Lines of a report, and whether one was written.
+use Rattle.std.specs.{Fmt.{decimal, digits}, List.{concat, flat_map}}
 use Rattle.std.proofs.Common.{[], ◌∷◌, codes, refl, ◌≡◌, ap, ◌+◌, List, ◌++◌, map, Option, None, Some, IfSome, ◌≢◌, sym, true, true≢false, ◌↔◌, inl, inr, Bool, false, ℕ, length, Result, Ok, Err, OnOk, OnErr, subst, arith}
-use Rattle.std.specs.Fmt.{decimal, digits}
-use Rattle.std.specs.List.{concat, flat_map}
-use Rattle.std.proofs.lemmas.Bool.{cases_Bool}
-use Rattle.std.proofs.lemmas.List.{take_all}
-use Rattle.dr_entry.proofs.ListFacts.{ends_concat, EndsFed, IsFed}
-use Rattle.dr_entry.proofs.PlainFacts.{feed}
-use Rattle.dr_entry.proofs.Entries.{filler}
-use Rattle.dr_entry.specs.declared.entry.Entry.{Entry}
-use Rattle.dr_entry.specs.declared.entry.Entry.TheVariants.{View, Msg}
-use Rattle.dr_entry.specs.declared.end.End.{End}
+use Rattle.std.proofs.lemmas.{Bool.cases_Bool, List.take_all}
+use Rattle.dr_entry.specs.declared.{end.End.End, entry.Entry.{Entry, TheVariants.{View, Msg}}}
+use Rattle.dr_entry.proofs.{Entries.filler, ListFacts.{ends_concat, EndsFed, IsFed}, PlainFacts.feed}
 use Rattle.dr_entry.specs.declared.end.End.TheVariants as ends
 use Rattle.dr_io.specs.Sink.{Gains}
-use Rattle.dr_text.specs.Report.{entry_text, mask_text, message_text, is_absent}
+use Rattle.dr_text.specs.{Report.{entry_text, mask_text, message_text, is_absent}, Writing.WroteFront}
 use Rattle.dr_text.specs.declared.last.Last.{Last}
-use Rattle.dr_text.specs.Writing.{WroteFront}
 
 pub entry_ends : (e : Entry) → EndsFed (entry_text e)
-entry_ends (View age number members) =
-    ends_concat (codes "  view ")
+entry_ends (View age number members) = ends_concat (codes "  view ")
     (decimal age ∷ codes " " ∷ decimal number ∷ codes " " ∷ mask_text members ∷ codes "\n" ∷ []) feed
-entry_ends (Msg sender index bytes) =
-    ends_concat (codes "  msg ")
+entry_ends (Msg sender index bytes) = ends_concat (codes "  msg ")
     (decimal sender ∷ codes " " ∷ decimal index ∷ codes " " ∷ message_text bytes ∷ codes "\n" ∷ []) feed
 
 pub filler_fed : IsFed (entry_text filler)

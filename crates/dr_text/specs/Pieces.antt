@@ -1,6 +1,5 @@
 -- A text in pieces, which share lines.
-use Rattle.std.specs.Prelude.{ℕ, List, ◌++◌, string_bytes, take}
-use Rattle.std.specs.List.{flat_map}
+use Rattle.std.specs.{List.flat_map, Prelude.{ℕ, List, ◌++◌, string_bytes, take}}
 use Rattle.dr_text.specs.declared.pieces.Piece.{Piece}
 
 -- a piece: its own bytes, and behind them the first of the shared lines

@@ -1,6 +1,5 @@
 -- Lines that are printed once for several members.
-use Rattle.std.specs.Prelude.{ℕ, ◌≡◌, ◌+◌, ◌≤◌, List, length, take, get_or}
-use Rattle.std.specs.List.{flat_map}
+use Rattle.std.specs.{List.flat_map, Prelude.{ℕ, ◌≡◌, ◌+◌, ◌≤◌, List, length, take, get_or}}
 use Rattle.dr_entry.specs.declared.entry.Entry.{Entry}
 use Rattle.dr_text.specs.Report.{entry_text}
 

@@ -1,17 +1,12 @@
 -- The text of a report. Every line ends with one line feed, and numbers are decimal without leading zeros.
+use Rattle.std.specs.{Fmt.{decimal, digit_glyph}, List.{concat, enumerate_from, flat_map, join_by}}
 use Rattle.std.specs.Prelude.{ℕ, ◌/◌, ◌%◌, Bool, true, false, if◌then◌else◌, List, [], ◌∷◌, ◌++◌, length, drop, codes, Option, None, Some}
-use Rattle.std.specs.Fmt.{decimal, digit_glyph}
-use Rattle.std.specs.List.{concat, enumerate_from, flat_map, join_by}
-use Rattle.dr_entry.specs.declared.entry.Entry.{Entry}
-use Rattle.dr_entry.specs.declared.entry.Entry.TheVariants.{View, Msg}
-use Rattle.dr_entry.specs.declared.end.End.{End}
+use Rattle.dr_entry.specs.declared.end.{AgeEnd.AgeEnd, End.End}
 use Rattle.dr_entry.specs.declared.end.End.TheVariants.{Done, Crashed, Suspected, Excluded, NoMajority, DiskFault, LogFull, Spent, Absent}
-use Rattle.dr_entry.specs.declared.end.MemberEnd.{MemberEnd}
-use Rattle.dr_entry.specs.declared.end.AgeEnd.{AgeEnd}
+use Rattle.dr_entry.specs.declared.{end.MemberEnd.MemberEnd, entry.Entry.{Entry, TheVariants.{View, Msg}}}
 use Rattle.dr_history.specs.Members.{members_of}
-use Rattle.dr_text.specs.declared.last.Clause.{Clause}
+use Rattle.dr_text.specs.declared.last.{Clause.Clause, Last.Last}
 use Rattle.dr_text.specs.declared.last.Clause.TheVariants as clauses
-use Rattle.dr_text.specs.declared.last.Last.{Last}
 use Rattle.dr_text.specs.declared.last.Last.TheVariants as lasts
 
 -- the members of a mask, ascending, with commas between them

@@ -1,7 +1,7 @@
-ghost use Rattle.std.specs.Prelude.{◌≡◌, ℕ, ◌≤◌, ◌++◌, All, IfOk, OnOk, OnErr, drop, length, string_bytes};
 ghost use Rattle.std.specs.List.{flat_map};
-ghost use Rattle.dr_text.specs.Report.{age_head, age_text, entry_text, members_text, member_line, member_text};
+ghost use Rattle.std.specs.Prelude.{◌≡◌, ℕ, ◌≤◌, ◌++◌, All, IfOk, OnOk, OnErr, drop, length, string_bytes};
 ghost use Rattle.dr_text.specs.Pieces.{pieces_text};
+ghost use Rattle.dr_text.specs.Report.{age_head, age_text, entry_text, members_text, member_line, member_text};
 
 use crate::ends::{is_absent, push_end};
 use crate::entries::push_entries;

@@ -1,6 +1,5 @@
+ghost use Rattle.std.specs.{Fmt.{decimal, digit_glyph}, List.flat_map};
 ghost use Rattle.std.specs.Prelude.{◌≡◌, ◌<◌, ◌≤◌, ◌++◌, false, OnOk, string_bytes, length, ◌*◌, IsAscii};
-ghost use Rattle.std.specs.Fmt.{decimal, digit_glyph};
-ghost use Rattle.std.specs.List.{flat_map};
 ghost use Rattle.dr_text.specs.Report.{hex_text};
 
 use dr_entry::MAX_MESSAGE_LENGTH;

@@ -1,6 +1,5 @@
+ghost use Rattle.std.specs.{Fmt.decimal, List.{concat, flat_map}};
 ghost use Rattle.std.specs.Prelude.{◌≡◌, ◌<◌, ◌≤◌, ◌++◌, OnOk, string_bytes, codes, if◌then◌else◌, length, [], ◌∷◌};
-ghost use Rattle.std.specs.Fmt.{decimal};
-ghost use Rattle.std.specs.List.{concat, flat_map};
 ghost use Rattle.dr_entry.specs.declared.entry.Entry.{Entry};
 ghost use Rattle.dr_history.specs.Members.{has};
 ghost use Rattle.dr_text.specs.Report.{entry_text, message_text, hex_text, mask_text};

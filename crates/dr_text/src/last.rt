@@ -1,6 +1,5 @@
 ghost use Rattle.std.specs.Prelude.{◌≡◌, ◌++◌, OnOk, string_bytes};
-ghost use Rattle.dr_text.specs.declared.last.Last.{Last};
-ghost use Rattle.dr_text.specs.Report.{last_text, rule_text, clause_word};
+ghost use Rattle.dr_text.specs.{Report.{last_text, rule_text, clause_word}, declared.last.Last.Last};
 
 use dr_entry::Text;
 use std::alloc::AllocError;

@@ -1,11 +1,8 @@
 //! Texts that are never made whole.
 
-ghost use Rattle.std.specs.Prelude.{◌≡◌, ◌++◌, [], IfOk, OnOk, OnErr, string_bytes};
-ghost use Rattle.std.specs.List.{concat, flat_map};
-ghost use Rattle.dr_io.specs.Faults.{HasCause};
-ghost use Rattle.dr_io.specs.Sink.{Gains};
-ghost use Rattle.dr_text.specs.Report.{age_text};
-ghost use Rattle.dr_text.specs.Writing.{WroteFront};
+ghost use Rattle.std.specs.{List.{concat, flat_map}, Prelude.{◌≡◌, ◌++◌, [], IfOk, OnOk, OnErr, string_bytes}};
+ghost use Rattle.dr_io.specs.{Faults.HasCause, Sink.Gains};
+ghost use Rattle.dr_text.specs.{Report.age_text, Writing.WroteFront};
 
 use crate::age::text_of;
 use crate::pieces::{Piece, PiecedText};

@@ -1,8 +1,6 @@
 ghost use Rattle.std.specs.Prelude.{◌≡◌, OnOk, OnErr, string_bytes, take};
-ghost use Rattle.dr_io.specs.Faults.{HasCause};
-ghost use Rattle.dr_io.specs.Sink.{Gains};
-ghost use Rattle.dr_text.specs.Pieces.{piece_text, pieces_text};
-ghost use Rattle.dr_text.specs.Writing.{WroteFront};
+ghost use Rattle.dr_io.specs.{Faults.HasCause, Sink.Gains};
+ghost use Rattle.dr_text.specs.{Pieces.{piece_text, pieces_text}, Writing.WroteFront};
 
 use crate::writing::write_all;
 use dr_io::{Failed, Sink};

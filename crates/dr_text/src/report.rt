@@ -1,8 +1,6 @@
 ghost use Rattle.std.specs.Prelude.{◌≡◌, IfOk, OnOk, OnErr};
-ghost use Rattle.dr_io.specs.Faults.{HasCause};
-ghost use Rattle.dr_io.specs.Sink.{Gains};
-ghost use Rattle.dr_text.specs.Report.{report_text};
-ghost use Rattle.dr_text.specs.Writing.{WroteFront};
+ghost use Rattle.dr_io.specs.{Faults.HasCause, Sink.Gains};
+ghost use Rattle.dr_text.specs.{Report.report_text, Writing.WroteFront};
 
 use crate::last::{Last, push_last};
 use crate::long_text::LongText;

@@ -1,6 +1,5 @@
 ghost use Rattle.std.specs.Prelude.{OnOk, OnErr};
-ghost use Rattle.dr_io.specs.Faults.{HasCause};
-ghost use Rattle.dr_io.specs.Sink.{Gains};
+ghost use Rattle.dr_io.specs.{Faults.HasCause, Sink.Gains};
 ghost use Rattle.dr_text.specs.Writing.{WroteFront};
 
 use dr_io::{Failed, Sink};

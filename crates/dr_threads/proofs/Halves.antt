@@ -1,28 +1,17 @@
 -- The answers of two halves are the answer of both.
-use Rattle.std.proofs.Common.{◌≡◌, refl, sym, ap, ◌∙◌, subst, inl, inr, ℕ, ◌+◌, List, ◌++◌, ◌-◌, length, length-take, map, min, take, drop, le_refl}
 use Rattle.std.specs.Prelude.{None, Option, Result, Ok, Err, Vec, is_some, option_map}
-use Rattle.std.specs.declared.alloc.AllocError.{AllocError}
-use Rattle.std.specs.declared.alloc.Global.{Global}
-use Rattle.std.proofs.lemmas.List.{get_or-drop, length-drop, map-append}
-use Rattle.std.proofs.lemmas.Option.{same_Some}
+use Rattle.std.specs.declared.alloc.{AllocError.AllocError, Global.Global}
+use Rattle.std.proofs.Common.{◌≡◌, refl, sym, ap, ◌∙◌, subst, inl, inr, ℕ, ◌+◌, List, ◌++◌, ◌-◌, length, length-take, map, min, take, drop, le_refl}
+use Rattle.std.proofs.lemmas.{List.{get_or-drop, length-drop, map-append}, Option.same_Some}
 use Rattle.dr_entry.proofs.OptionFacts.{some_there}
-use Rattle.dr_disk.proofs.Moments.{lasts_still}
-use Rattle.dr_disk.specs.Disk.{Told}
-use Rattle.dr_log.specs.Standing.{LosesNone}
-use Rattle.dr_log.specs.State.{LogState}
-use Rattle.dr_log.proofs.Ordinary.{has_itself}
-use Rattle.dr_logged.specs.Served.{HaveSamePlaces, HaveServed}
-use Rattle.dr_logged.proofs.Serving.{has_base}
-use Rattle.dr_program.specs.Running.{Running}
-use Rattle.dr_table.specs.Cards.{AreAtEnd, Cards, DealtTable}
-use Rattle.dr_table.specs.Rule.{number}
-use Rattle.dr_threads.specs.Answers.{IsHandAnswer, logs_of}
-use Rattle.dr_threads.specs.Course.{HaveRun}
-use Rattle.dr_threads.specs.Logs.{AreFor, AreLonger, IsLonger}
-use Rattle.dr_program.specs.Presence.{present_at}
+use Rattle.dr_disk.{specs.Disk.Told, proofs.Moments.lasts_still}
+use Rattle.dr_log.{specs.{Standing.LosesNone, State.LogState}, proofs.Ordinary.has_itself}
+use Rattle.dr_served.{specs.Served.{HaveSamePlaces, HaveServed}, proofs.{Served.places_behind, Serving.has_base}}
+use Rattle.dr_program.specs.{Presence.present_at, Running.Running}
 use Rattle.dr_program.proofs.Present.{pairs, triples, at_first, filled_first}
-use Rattle.dr_logged.proofs.Served.{places_behind}
+use Rattle.dr_table.specs.{Cards.{AreAtEnd, Cards, DealtTable}, Rule.number}
 use Rattle.dr_table.proofs.Cards.{as_filled, as_many, ended_behind}
+use Rattle.dr_threads.specs.{Answers.{IsHandAnswer, logs_of}, Course.HaveRun, Logs.{AreFor, AreLonger, IsLonger}}
 
 -- ---- lists of one length
 
@@ -35,20 +24,17 @@ module _ {D : Type 0} (told : D → Option Told) (faults : D → ℕ) where
   -- both halves have run
   pub both_run : (table : DealtTable) (before after : List (Option Running)) (logs more : List (Option (LogState D)))
       (a b both : Cards) (news newer all : List (Option (LogState D))) → length logs ≡ length before
-      → length more ≡ length after → both.table ≡ table → both.members ≡ a.members ++ b.members
-      → all ≡ news ++ newer → HaveRun told faults table before logs a news
-      → HaveRun told faults table after more b newer
+      → length more ≡ length after → both.table ≡ table → both.members ≡ a.members ++ b.members → all ≡ news
+      ++ newer → HaveRun told faults table before logs a news → HaveRun told faults table after more b newer
       → HaveRun told faults table (before ++ after) (logs ++ more) both all
   both_run table before after logs more a b both news newer all m n home is to h k = record {
     over = record {
       home = home;
       same = ap (map (option_map number)) is ∙ map-append (option_map number) a.members b.members
-          ∙ (λ z. h.over.same z ++ k.over.same z)
-          ∙ sym (map-append (option_map number) before after);
+          ∙ (λ z. h.over.same z ++ k.over.same z) ∙ sym (map-append (option_map number) before after);
       ended = subst AreAtEnd (sym is) (ended_behind a.members b.members h.over.ended k.over.ended);
     };
-    places = subst (HaveSamePlaces (logs ++ more)) (sym to)
-        (places_behind logs more news newer h.places k.places);
+    places = subst (HaveSamePlaces (logs ++ more)) (sym to) (places_behind logs more news newer h.places k.places);
     served = subst (λ l. HaveServed told faults (logs ++ more) l both.members) (sym to)
         (subst (λ l. HaveServed told faults (logs ++ more) (news ++ newer) l) (sym is)
         (λ i base log r from there member.
@@ -113,8 +99,7 @@ module _ {D : Type 0} (told : D → Option Told) (faults : D → ℕ) where
     places = record { all = refl; each = λ k. refl };
     each = λ k old new from there.
         let is = same_Some old new (sym from ∙ there) in
-        subst (λ x. IsLonger told faults old x) is
-        (record {
+        subst (λ x. IsLonger told faults old x) is (record {
           has = has_itself old.content;
           moments = inl refl;
           lasting = λ first. lasts_still (told old.disk) (LosesNone first);

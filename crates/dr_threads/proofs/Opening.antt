@@ -1,32 +1,19 @@
 -- What an age opens with: the members that are dealt, and their logs.
-use Rattle.std.proofs.Common.{◌≡◌, refl, sym, ap, ◌∙◌, subst, ℕ, ◌≤◌, List, length, arith}
 use Rattle.std.specs.Prelude.{None, Option, Some, is_some, option_map}
-use Rattle.std.proofs.lemmas.List.{length-map}
+use Rattle.std.proofs.{Common.{◌≡◌, refl, sym, ap, ◌∙◌, subst, ℕ, ◌≤◌, List, length, arith}, lemmas.List.length-map}
 use Rattle.dr_disk.specs.Disk.{Told}
 use Rattle.dr_entry.specs.declared.end.AgeEnd.{AgeEnd}
 use Rattle.dr_log.specs.State.{LogState}
-use Rattle.dr_logged.specs.Served.{HaveSamePlaces, HaveServed}
+use Rattle.dr_served.specs.Served.{HaveSamePlaces, HaveServed}
 use Rattle.dr_machine.specs.Group.{IsGroup, IsPresent}
-use Rattle.dr_program.proofs.Present.{all_ended, present_map, present_within, begun_fresh}
-use Rattle.dr_program.specs.Presence.{present_at}
+use Rattle.dr_program.specs.{Presence.present_at, Running.{Running, begun_running}}
 use Rattle.dr_program.specs.Program.{AllEnded, AreSetups, IsRanFrom, Program, age_of, begun_program}
-use Rattle.dr_program.specs.Running.{Running, begun_running}
-use Rattle.dr_restart.specs.declared.start.Start.{Start}
-use Rattle.dr_program_laws.proofs.Keeping.{deeds_kept}
-use Rattle.dr_restart.specs.Groups.{group_of}
-use Rattle.dr_restart.specs.Setups.{IsBegun}
-use Rattle.dr_restart.proofs.Setups.{are_setups}
-use Rattle.dr_script.specs.declared.script.Script.{Script}
-use Rattle.dr_script.specs.Ranges.{HasRanges}
-use Rattle.dr_age.specs.Age.{IsAgeOn}
-use Rattle.dr_age.specs.Logged.{AreOpened}
-use Rattle.dr_age.specs.Begun.{HaveBegun}
-use Rattle.dr_age.specs.Run.{IsRun}
-use Rattle.dr_program.proofs.RunningPrograms.{IsFresh}
-use Rattle.dr_program_laws.proofs.Failing.{all_failing}
-use Rattle.dr_age.proofs.Playing.{age_on}
-use Rattle.dr_table.specs.Cards.{AreAtEnd}
-use Rattle.dr_table.specs.Rule.{IsDealt}
+use Rattle.dr_program.proofs.{Present.{all_ended, present_map, present_within, begun_fresh}, RunningPrograms.IsFresh}
+use Rattle.dr_restart.{specs.{Groups.group_of, Setups.IsBegun, declared.start.Start.Start}, proofs.Setups.are_setups}
+use Rattle.dr_program_laws.proofs.{Failing.all_failing, Keeping.deeds_kept}
+use Rattle.dr_script.specs.{Ranges.HasRanges, declared.script.Script.Script}
+use Rattle.dr_play.{specs.{Age.IsAgeOn, Begun.HaveBegun, Logged.AreOpened, Run.IsRun}, proofs.Playing.age_on}
+use Rattle.dr_table.specs.{Cards.AreAtEnd, Rule.IsDealt}
 use Rattle.dr_threads.specs.Logs.{AreFor}
 
 -- the members of a script are those of its group
@@ -46,8 +33,7 @@ is_dealt script start nth members group lists some begun = record {
 -- logs that are opened are for them
 pub are_for : {D : Type 0} (script : Script) (start : Start) (nth : ℕ) (members : List (Option Running))
     (logs : List (Option (LogState D))) → length script.messages ≡ script.members
-    → HaveBegun script start nth script.members members → AreOpened (group_of script start) logs
-    → AreFor logs members
+    → HaveBegun script start nth script.members members → AreOpened (group_of script start) logs → AreFor logs members
 are_for {D} script start nth members logs lists begun opened = record {
   all = opened.all ∙ sym (ap length begun.begun ∙ length-map begun.setups (option_map begun_running) ∙ are.all);
   there = λ k. by k (present_at logs k) (present_at members k) refl refl;
@@ -85,8 +71,7 @@ are_for {D} script start nth members logs lists begun opened = record {
         )) (is_fresh k r here).0 in
         absurd (cc (at, log.1))
     by k (Some log) None at here =
-        let setup = are.there k (omega (arith, present_within logs k log at, opened.all))
-        (opened.each k log at).0 in
+        let setup = are.there k (omega (arith, present_within logs k log at, opened.all)) (opened.each k log at).0 in
         let member = ap (λ l. present_at l k) begun.begun ∙ present_map begun_running begun.setups k
         ∙ ap (option_map begun_running) setup.1 in
         absurd (cc (here, member))

@@ -1,27 +1,21 @@
 -- The run of one member, sweep by sweep and deed by deed.
-use Rattle.std.proofs.Common.{◌≡◌, refl, sym, ◌∙◌, subst, ℕ, false, List, [], ◌∷◌}
 use Rattle.std.specs.Prelude.{Option, None, Some}
+use Rattle.std.proofs.Common.{◌≡◌, refl, sym, ◌∙◌, subst, ℕ, false, List, [], ◌∷◌}
 use Rattle.dr_disk.specs.Disk.{Told}
 use Rattle.dr_entry.specs.declared.entry.Entry.{Entry}
 use Rattle.dr_log.specs.State.{LogState}
-use Rattle.dr_logged.specs.Appended.{is_append}
-use Rattle.dr_logged.specs.Served.{AppendsWell, LetterGoesOn}
-use Rattle.dr_logged.proofs.Serving.{other_ready, other_served, took_served, took_stays_ready}
+use Rattle.dr_served.specs.{Appended.is_append, Served.{AppendsWell, LetterGoesOn}}
+use Rattle.dr_served.proofs.Serving.{other_ready, other_served, took_served, took_stays_ready}
+use Rattle.dr_program.specs.Running.{Running, after_step, next_deed, next_step, settled, took_letter}
 use Rattle.dr_program.specs.declared.deed.Deed.{Deed}
 use Rattle.dr_program.specs.declared.deed.Deed.TheVariants as deeds
-use Rattle.dr_program.specs.Running.{Running, after_step, next_deed, next_step, settled, took_letter}
-use Rattle.dr_age.proofs.Deeds.{at_look, at_push, at_take, deed_tells}
-use Rattle.dr_age.proofs.Sound.{appends_well}
+use Rattle.dr_play.proofs.{Deeds.{at_look, at_push, at_take, deed_tells}, Sound.appends_well}
 use Rattle.dr_program_laws.proofs.Letters.{letters_are}
 use Rattle.dr_turn.proofs.Takes.{taking}
-use Rattle.dr_table.specs.Cards.{HasAskedForLetter}
-use Rattle.dr_table.specs.Rule.{number}
-use Rattle.dr_table.specs.Steps.{IsReachedMember, MayTake}
-use Rattle.dr_table.specs.Sweeps.{HasSwept, HasTaken, IsSwept}
-use Rattle.dr_table.proofs.Deeds.{after_told, same_number, took_told}
+use Rattle.dr_table.specs.{Cards.HasAskedForLetter, Rule.number, Steps.{IsReachedMember, MayTake}}
+use Rattle.dr_table.{specs.Sweeps.{HasSwept, HasTaken, IsSwept}, proofs.Cards.reached_form}
+use Rattle.dr_table.proofs.{Deeds.{after_told, same_number, took_told}, Sweeps.swept_going}
 use Rattle.dr_threads.specs.Course.{HasGone}
-use Rattle.dr_table.proofs.Sweeps.{swept_going}
-use Rattle.dr_table.proofs.Cards.{reached_form}
 
 -- ---- a member that is reached
 
@@ -89,6 +83,5 @@ module _ {D : Type 0} (told : D → Option Told) (faults : D → ℕ) where
     where
       by : (words : List ℕ) (r : Running) → HasTaken words r q → HasGone told faults r log q log
       by [] r same = subst (λ x. HasGone told faults r log x log) same (gone_none r log)
-      by (word ∷ words) r (swept, (g, p, is, sees), rest) =
-          gone_more r (after_step word r) q log log log
+      by (word ∷ words) r (swept, (g, p, is, sees), rest) = gone_more r (after_step word r) q log log log
           (gone_step r word log (g, p, is) (swept_going r swept) (swept_other r swept)) (by words (after_step word r) rest)

@@ -1,13 +1,11 @@
 -- What a run answers: a hand and logs, or the logs alone where memory was wanting.
 use Rattle.std.specs.Prelude.{ℕ, List, Option, Result, Ok, Err, Vec, vec_capacity}
-use Rattle.std.specs.declared.alloc.AllocError.{AllocError}
-use Rattle.std.specs.declared.alloc.Global.{Global}
+use Rattle.std.specs.declared.alloc.{AllocError.AllocError, Global.Global}
 use Rattle.dr_disk.specs.Disk.{Told}
 use Rattle.dr_log.specs.State.{LogState}
 use Rattle.dr_program.specs.Running.{Running}
 use Rattle.dr_table.specs.Cards.{Cards, DealtTable}
-use Rattle.dr_threads.specs.Course.{HaveRun}
-use Rattle.dr_threads.specs.Logs.{AreLonger}
+use Rattle.dr_threads.specs.{Course.HaveRun, Logs.AreLonger}
 
 module _ {D : Type 0} where
   -- the logs, and how many there is room for

@@ -2,10 +2,9 @@
 use Rattle.std.specs.Prelude.{◌≡◌, ℕ, List, Option}
 use Rattle.dr_disk.specs.Disk.{Told}
 use Rattle.dr_log.specs.State.{LogState}
-use Rattle.dr_logged.specs.Served.{HasServed, HaveSamePlaces, HaveServed, IsReady}
+use Rattle.dr_served.specs.Served.{HasServed, HaveSamePlaces, HaveServed, IsReady}
 use Rattle.dr_program.specs.Running.{Running}
-use Rattle.dr_table.specs.Cards.{AreAtEnd, AreSame, Cards, DealtTable}
-use Rattle.dr_table.specs.Rule.{number}
+use Rattle.dr_table.specs.{Cards.{AreAtEnd, AreSame, Cards, DealtTable}, Rule.number}
 
 -- a member and its log have gone on: it is the same member still, and its log ready and served
 pub record HasGone {D : Type 0} (told : D → Option Told) (faults : D → ℕ) (r : Running)

@@ -1,12 +1,9 @@
 -- The logs of a hand's members, before a run and behind it.
 use Rattle.std.specs.Prelude.{◌≡◌, ◌⊎◌, ◌≤◌, ℕ, false, List, [], length, Option, None, Some, is_some}
-use Rattle.dr_disk.specs.Disk.{Told}
-use Rattle.dr_disk.specs.Images.{Goes}
-use Rattle.dr_log.specs.Standing.{HasAllOf, LosesNone}
-use Rattle.dr_log.specs.State.{LogState}
-use Rattle.dr_logged.specs.Served.{HaveSamePlaces, LosesNothing}
-use Rattle.dr_program.specs.Running.{Running}
-use Rattle.dr_program.specs.Presence.{present_at}
+use Rattle.dr_disk.specs.{Disk.Told, Images.Goes}
+use Rattle.dr_log.specs.{Standing.{HasAllOf, LosesNone}, State.LogState}
+use Rattle.dr_served.specs.Served.{HaveSamePlaces, LosesNothing}
+use Rattle.dr_program.specs.{Presence.present_at, Running.Running}
 
 -- a log has all of its member's history, as the age opens, no append to it has failed, and the member has not
 -- voted

@@ -3,8 +3,7 @@ ghost use Rattle.std.specs.Prelude.{◌≡◌, ◌<◌, ◌≤◌, ◌+◌, ◌+
 ghost use Rattle.std.specs.Thread.{IsSync};
 ghost use Rattle.dr_log.specs.State.{LogState};
 ghost use Rattle.dr_program.specs.Running.{Running};
-ghost use Rattle.dr_threads.specs.Answers.{IsHandAnswer, logs_of, room_of};
-ghost use Rattle.dr_threads.specs.Logs.{AreFor};
+ghost use Rattle.dr_threads.specs.{Answers.{IsHandAnswer, logs_of, room_of}, Logs.AreFor};
 
 use crate::member::run_member;
 use dr_disk::Disk;

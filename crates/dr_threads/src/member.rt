@@ -1,6 +1,6 @@
 //! The run of one member.
 ghost use Rattle.std.specs.Prelude.{◌≡◌, ◌<◌, true, None};
-ghost use Rattle.dr_logged.specs.Served.{IsReady};
+ghost use Rattle.dr_served.specs.Served.{IsReady};
 ghost use Rattle.dr_member.specs.Deeds.{is_append};
 ghost use Rattle.dr_program.specs.Running.{next_deed};
 ghost use Rattle.dr_table.specs.Cards.{IsAtEnd};
@@ -9,9 +9,9 @@ ghost use Rattle.dr_turn.specs.Work.{deeds_left};
 
 use dr_disk::Disk;
 use dr_log::Log;
-use dr_logged::why_of;
 use dr_member::Deed;
 use dr_pace::Pace;
+use dr_served::why_of;
 use dr_table::{Board, SeatedMember};
 
 /// Runs a member to its end, with its log.

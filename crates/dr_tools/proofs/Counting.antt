@@ -1,16 +1,11 @@
 -- Counting one run more.
+use Rattle.std.specs.{List.position_or_len, Option.option_or}
 use Rattle.std.proofs.Common.{◌≡◌, ◌⊎◌, ◌∙◌, inl, inr, refl, sym, ap, subst, ℕ, zero, suc, ◌+◌, ◌<◌, ◌≤◌, arith, Bool, true, false, add-zero, if◌then◌else◌, List, [], ◌∷◌, ◌++◌, All, AllPairs, Option, None, Some, bytes_eq, get_or, length, map, position, set}
-use Rattle.std.specs.List.{position_or_len}
-use Rattle.std.specs.Option.{option_or}
-use Rattle.std.proofs.lemmas.Bool.{cases_Bool, cases_lt}
-use Rattle.std.proofs.lemmas.Grind.{common_steps}
-use Rattle.std.proofs.lemmas.List.{get_or_append_left, get_or_push, length_push}
-use Rattle.std.proofs.lemmas.List.Elements.{All-nil, All-cons, All-head, All-tail}
-use Rattle.std.proofs.lemmas.List.Quantifiers.{all_pairs_push, position-Some}
-use Rattle.std.proofs.lemmas.List.Sums.{fails_before_first}
+use Rattle.std.proofs.lemmas.{Bool.{cases_Bool, cases_lt}, List.{get_or_append_left, get_or_push, length_push}}
+use Rattle.std.proofs.lemmas.{Grind.common_steps, List.Quantifiers.{all_pairs_push, position-Some}}
+use Rattle.std.proofs.lemmas.List.{Elements.{All-nil, All-cons, All-head, All-tail}, Sums.fails_before_first}
 use Rattle.dr_entry.proofs.ListFacts.{same_line, other_line}
-use Rattle.dr_tools.specs.declared.sweeps.rows.Row.{Row}
-use Rattle.dr_tools.specs.Outcomes.{ComesTo}
+use Rattle.dr_tools.specs.{Outcomes.ComesTo, declared.sweeps.rows.Row.Row}
 use Rattle.dr_tools.specs.Rows.{AreRows, HaveOutcomes, IsTally, count_in, first_in, first_seed, row_line, times, with_run}
 use Rattle.dr_script.specs.declared.script.Script.{Script}
 
@@ -24,8 +19,7 @@ new seed line = record { line = line; count = 1; first = seed }
 -- ---- where the row stands
 
 pub run_at : (seed : ℕ) (line : List ℕ) (rows : List Row) (i : ℕ) (d : Row) → i < length rows
-    → bytes_eq (get_or rows i d).line line ≡ true
-    → ((k : ℕ) → k < i → bytes_eq (get_or rows k d).line line ≡ false)
+    → bytes_eq (get_or rows i d).line line ≡ true → ((k : ℕ) → k < i → bytes_eq (get_or rows k d).line line ≡ false)
     → with_run seed line rows ≡ set rows i (plus (get_or rows i d))
 run_at seed line [] i d below is before = absurd (omega (arith, below))
 run_at seed line (r ∷ rs) zero d below is before = rw is refl
@@ -49,8 +43,7 @@ run_found seed line rows i d is =
     run_at seed line rows i d first.0 first.1 first.2
 
 pub run_missing : (seed : ℕ) (line : List ℕ) (rows : List Row)
-    → position (λ (r : Row). bytes_eq r.line line) rows ≡ None
-    → with_run seed line rows ≡ rows ++ new seed line ∷ []
+    → position (λ (r : Row). bytes_eq r.line line) rows ≡ None → with_run seed line rows ≡ rows ++ new seed line ∷ []
 run_missing seed line rows is =
     let test : Row → Bool = λ r. bytes_eq r.line line in
     let all : length rows ≤ position_or_len test rows = grind (arith, common_steps) in
@@ -72,14 +65,13 @@ count_more seed line l (r ∷ rs) = elim (cases_Bool (bytes_eq r.line line)) [
         | inl own ↦ rw (same, is, own) refl
         | inr other ↦ rw (same, is, other) (omega arith)
       ]
-  | inr differs ↦
-      elim (cases_Bool (bytes_eq r.line l)) [
-        | inl own ↦
-            let not : bytes_eq line l ≡ false =
-            ap (bytes_eq line) (sym (same_line r.line l own)) ∙ other_line r.line line differs in
-            rw (differs, own, not) (omega arith)
-        | inr other ↦ rw (differs, other) (count_more seed line l rs)
-      ]
+  | inr differs ↦ elim (cases_Bool (bytes_eq r.line l)) [
+    | inl own ↦
+        let not : bytes_eq line l ≡ false =
+        ap (bytes_eq line) (sym (same_line r.line l own)) ∙ other_line r.line line differs in
+        rw (differs, own, not) (omega arith)
+    | inr other ↦ rw (differs, other) (count_more seed line l rs)
+  ]
 ]
 
 pub times_more : (line l : List ℕ) (ls : List (List ℕ))
@@ -87,8 +79,7 @@ pub times_more : (line l : List ℕ) (ls : List (List ℕ))
 times_more line l [] = omega arith
 times_more line l (x ∷ xs) = omega (arith, times_more line l xs)
 
-pub first_more : (seed : ℕ) (line l : List ℕ) (rows : List Row)
-    → first_in l (with_run seed line rows)
+pub first_more : (seed : ℕ) (line l : List ℕ) (rows : List Row) → first_in l (with_run seed line rows)
     ≡ option_or (first_in l rows) (if bytes_eq line l then Some seed else None)
 first_more seed line l [] = refl
 first_more seed line l (r ∷ rs) = elim (cases_Bool (bytes_eq r.line line)) [
@@ -98,19 +89,17 @@ first_more seed line l (r ∷ rs) = elim (cases_Bool (bytes_eq r.line line)) [
         | inl own ↦ rw (same, is, own) refl
         | inr other ↦ rw (same, is, other) (or_none (first_in l rs))
       ]
-  | inr differs ↦
-      elim (cases_Bool (bytes_eq r.line l)) [
-        | inl own ↦ rw (differs, own) refl
-        | inr other ↦ rw (differs, other) (first_more seed line l rs)
-      ]
+  | inr differs ↦ elim (cases_Bool (bytes_eq r.line l)) [
+    | inl own ↦ rw (differs, own) refl
+    | inr other ↦ rw (differs, other) (first_more seed line l rs)
+  ]
 ]
   where
     or_none : (o : Option ℕ) → o ≡ option_or o None
     or_none None = refl
     or_none (Some n) = refl
 
-pub first_seed_more : (from : ℕ) (line l : List ℕ) (ls : List (List ℕ))
-    → first_seed from l (ls ++ line ∷ [])
+pub first_seed_more : (from : ℕ) (line l : List ℕ) (ls : List (List ℕ)) → first_seed from l (ls ++ line ∷ [])
     ≡ option_or (first_seed from l ls) (if bytes_eq line l then Some (from + length ls) else None)
 first_seed_more from line l [] = rw (add-zero) refl
 first_seed_more from line l (x ∷ xs) = elim (cases_Bool (bytes_eq x l)) [
@@ -159,14 +148,12 @@ counts_within seed n line (r ∷ rs) few =
     elim (cases_Bool (bytes_eq r.line line)) [
       | inl same ↦
           let here : with_run seed line (r ∷ rs) ≡ plus r ∷ rs = rw same refl in
-          subst (All (λ (r : Row). r.count ≤ n + 1)) (sym here)
-          (All-cons (λ (r : Row). r.count ≤ n + 1) (plus r) rs (omega (arith, own))
-          (λ k d within. omega (arith, rest k d within)))
+          subst (All (λ (r : Row). r.count ≤ n + 1)) (sym here) (All-cons (λ (r : Row). r.count ≤ n + 1)
+          (plus r) rs (omega (arith, own)) (λ k d within. omega (arith, rest k d within)))
       | inr differs ↦
           let here : with_run seed line (r ∷ rs) ≡ r ∷ with_run seed line rs = rw differs refl in
-          subst (All (λ (r : Row). r.count ≤ n + 1)) (sym here)
-          (All-cons (λ (r : Row). r.count ≤ n + 1) r (with_run seed line rs) (omega (arith, own))
-          (counts_within seed n line rs rest))
+          subst (All (λ (r : Row). r.count ≤ n + 1)) (sym here) (All-cons (λ (r : Row). r.count ≤ n + 1) r
+          (with_run seed line rs) (omega (arith, own)) (counts_within seed n line rs rest))
     ]
 
 -- ---- all together
@@ -192,8 +179,7 @@ outcomes_more scripts late n line lines have comes = record {
         (sym (get_or_append_left lines (line ∷ []) [] i (omega (arith, old, have.many)))) (have.each i old)
     | inr last ↦
         let is : i ≡ n = omega (arith, last, below) in
-        let at : get_or (lines ++ line ∷ []) i [] ≡ line =
-        get_or_push lines line [] i (have.many ∙ sym is) in
+        let at : get_or (lines ++ line ∷ []) i [] ≡ line = get_or_push lines line [] i (have.many ∙ sym is) in
         subst (ComesTo (scripts i) late) (sym at) (subst (λ k. ComesTo (scripts k) late line) (sym is) comes)
   ];
 }
@@ -202,11 +188,7 @@ pub no_rows : (scripts : ℕ → Script) (late from : ℕ) → IsTally scripts l
 no_rows scripts late from = record {
   lines = [];
   have = record { many = refl; each = λ i below. absurd (omega (arith, below)) };
-  are = record {
-    once = λ i j d less within. absurd (omega (arith, within));
-    counts = λ l. refl;
-    firsts = λ l. refl;
-  };
+  are = record { once = λ i j d less within. absurd (omega (arith, within)); counts = λ l. refl; firsts = λ l. refl };
 }
 
 pub tally_more : (scripts : ℕ → Script) (late from n : ℕ) (line : List ℕ) (rows : List Row)

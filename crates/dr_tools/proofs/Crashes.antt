@@ -1,16 +1,10 @@
 -- What is counted of a run has a number for each turn.
 use Rattle.std.proofs.Common.{◌≡◌, ◌∙◌, refl, sym, ap, ℕ, ◌+◌, ◌*◌, ◌==◌, nat_lt, inl, inr, true, false, List, [], ◌∷◌, length, Option}
-use Rattle.std.proofs.lemmas.Bool.{cases_Bool}
-use Rattle.std.proofs.lemmas.List.{length-replicate, length-set}
-use Rattle.dr_ages.specs.declared.mode.Mode.TheVariants.{Sim}
-use Rattle.dr_ages.specs.declared.part.Part.{Part}
-use Rattle.dr_ages.specs.Ages.{start_of}
-use Rattle.dr_ages.specs.Watched.{AreWatched}
+use Rattle.std.proofs.lemmas.{Bool.cases_Bool, List.{length-replicate, length-set}}
+use Rattle.dr_ages.specs.{Ages.start_of, Watched.AreWatched, declared.{mode.Mode.TheVariants.Sim, part.Part.Part}}
 use Rattle.dr_entry.specs.declared.end.AgeEnd.{AgeEnd}
 use Rattle.dr_member.specs.Deeds.{is_before_turn}
-use Rattle.dr_program.specs.Program.{Move, Program, step_of}
-use Rattle.dr_program.specs.Replica.{me}
-use Rattle.dr_program.specs.Running.{Running, next_deed}
+use Rattle.dr_program.specs.{Program.{Move, Program, step_of}, Replica.me, Running.{Running, next_deed}}
 use Rattle.dr_restart.specs.declared.start.Start.{Start}
 use Rattle.dr_script.specs.declared.script.Script.{Script}
 use Rattle.dr_sim.specs.Watched.{IsWatched, WasTold}
@@ -51,17 +45,15 @@ points_told p (e ∷ es) old new (r, next, at, sees, rest) =
 
 points_seen : (script : Script) (start : Start) (nth : ℕ) (old new : Counted) (age : AgeEnd)
     → IsWatched Opens Sees Closes script start nth old new age → length new.points ≡ length old.points
-points_seen script start nth old new age seen =
-    ap (λ (c : Counted). length c.points) seen.closing
+points_seen script start nth old new age seen = ap (λ (c : Counted). length c.points) seen.closing
     ∙ points_told seen.is.begun seen.is.run.moves seen.opened seen.ended seen.moves
     ∙ ap (λ (c : Counted). length c.points) seen.opening
 
 pub points_watched : (script : Script) (part : Part) (nth : ℕ) (ages : List AgeEnd) (old new : Counted)
     → AreWatched Opens Sees Closes Sim script part nth ages old new → length new.points ≡ length old.points
 points_watched script part nth [] old new is = ap (λ (c : Counted). length c.points) is
-points_watched script part nth (age ∷ ages) old new (next, seen, rest) =
-    points_watched script part (nth + 1) ages next new rest
-    ∙ points_seen script (start_of script part age) nth old next age seen
+points_watched script part nth (age ∷ ages) old new (next, seen, rest) = points_watched script part
+    (nth + 1) ages next new rest ∙ points_seen script (start_of script part age) nth old next age seen
 
 pub points_uncounted : (script : Script) (member : ℕ)
     → length (uncounted script member).points ≡ script.ages * script.turns

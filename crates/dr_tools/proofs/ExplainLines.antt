@@ -2,28 +2,23 @@
 use Rattle.std.proofs.Common.{◌≡◌, ◌∙◌, sym, ap, subst, ℕ, List, ◌++◌, Some, Result, Ok, Err, IfOk, string_bytes, append_assoc}
 use Rattle.std.proofs.lemmas.Option.{none-some, same_Some}
 use Rattle.dr_complete.specs.Enough.{most_messages}
-use Rattle.dr_intake.specs.Reading.{refusal_in}
-use Rattle.dr_intake.specs.Status.{status_of}
-use Rattle.dr_script.specs.declared.script.Script.{Script}
-use Rattle.dr_script.specs.Reading.{Reading, TooLong, NotJson, Wrong, Reads}
-use Rattle.dr_text.specs.declared.last.Last.{Last}
+use Rattle.dr_intake.specs.{Reading.refusal_in, Status.status_of, declared.answer.Answer.Answer}
+use Rattle.dr_script.specs.{Reading.{Reading, TooLong, NotJson, Wrong, Reads}, declared.script.Script.Script}
+use Rattle.dr_text.specs.{Report.last_text, declared.last.Last.Last}
 use Rattle.dr_text.specs.declared.last.Last.TheVariants as lasts
-use Rattle.dr_text.specs.Report.{last_text}
-use Rattle.dr_intake.specs.declared.answer.Answer.{Answer}
 use Rattle.dr_tools.specs.Explained.{BeginsWith, IsAnswerFor, TellsTurns, taken_line, turns_line}
 
 -- the answer to a script
 pub script_answer : (r : Reading) (s : Script) (text : List ℕ) (status : ℕ) → r ≡ Reads s
     → TellsTurns s text → status ≡ 0 → IsAnswerFor r text status
-script_answer r s text status is turns due =
-    subst (λ (x : Reading). IsAnswerFor x text status) (sym is) (record {
-      begins = (
-        taken_line (most_messages s) turns.taken ++ turns.begins.0,
-        turns.begins.1 ∙ append_assoc (turns_line s) (taken_line (most_messages s) turns.taken) turns.begins.0,
-      );
-      turns = turns;
-      due = due;
-    })
+script_answer r s text status is turns due = subst (λ (x : Reading). IsAnswerFor x text status) (sym is) (record {
+  begins = (
+    taken_line (most_messages s) turns.taken ++ turns.begins.0,
+    turns.begins.1 ∙ append_assoc (turns_line s) (taken_line (most_messages s) turns.taken) turns.begins.0,
+  );
+  turns = turns;
+  due = due;
+})
 
 -- the answer to a text that is refused
 pub refused_answer : (r : Reading) (line : Last) (text : List ℕ) (status : ℕ) → refusal_in r ≡ Some line
@@ -60,7 +55,6 @@ script_if (Err e) r s is turns due = tt
 
 pub refused_if : {E : Type 0} (answer : Result Answer E) (r : Reading) (line : Last)
     → refusal_in r ≡ Some line → IfOk answer (λ a. BeginsWith (last_text line) (string_bytes a.text))
-    → IfOk answer (λ a. a.status ≡ status_of line)
-    → IfOk answer (λ a. IsAnswerFor r (string_bytes a.text) a.status)
+    → IfOk answer (λ a. a.status ≡ status_of line) → IfOk answer (λ a. IsAnswerFor r (string_bytes a.text) a.status)
 refused_if (Ok a) r line is begins due = refused_answer r line (string_bytes a.text) a.status is begins due
 refused_if (Err e) r line is begins due = tt

@@ -1,19 +1,13 @@
 -- What comes of a report that was judged.
 use Rattle.std.proofs.Common.{◌≡◌, ◌∙◌, inl, inr, refl, ap, ℕ, List, [], ◌++◌, append_assoc, length, ◌≤◌, Option, Result, Ok, Err, IfErr, IfOk, OnOk, string_bytes}
-use Rattle.dr_check.specs.Flaws.{IsFirstFlaw}
-use Rattle.dr_check.specs.Grammar.{IsReport}
-use Rattle.dr_check.specs.declared.flaw.Flaw.{Flaw}
-use Rattle.dr_check.specs.declared.report.Report.{Report}
+use Rattle.dr_check.specs.{Flaws.IsFirstFlaw, Grammar.IsReport, declared.{flaw.Flaw.Flaw, report.Report.Report}}
 use Rattle.dr_entry.specs.declared.entry.Entry.{Entry}
+use Rattle.dr_intake.specs.{Reading.{WasRead, WasReadTo}, Status.{WroteText, status_of}}
 use Rattle.dr_intake.specs.declared.answer.Answer.{Answer}
-use Rattle.dr_intake.specs.Reading.{WasRead, WasReadTo}
-use Rattle.dr_intake.specs.Status.{WroteText, status_of}
 use Rattle.dr_io.specs.Sink.{Gains}
-use Rattle.dr_script.specs.declared.script.Script.{Script}
-use Rattle.dr_script.specs.Reading.{reading_of}
-use Rattle.dr_text.specs.declared.last.Last.{Last}
+use Rattle.dr_script.specs.{Reading.reading_of, declared.script.Script.Script}
+use Rattle.dr_text.specs.{Report.last_text, declared.last.Last.Last}
 use Rattle.dr_text.specs.declared.last.Last.TheVariants as lasts
-use Rattle.dr_text.specs.Report.{last_text}
 use Rattle.dr_tools.specs.Differing.{Differs, ShowsDifference, told_entry}
 use Rattle.dr_tools.specs.Judged.{IsAlone, IsJudged, Judged, SaysOfBytes, SaysOfReport, SaysOfText, StandsBehind, TellsFlaw, judged, no_memory}
 
@@ -39,8 +33,7 @@ alone_if P (Err e) line text due is = tt
 
 -- what is said of a report is said of its text
 pub of_text_if : {E : Type 0} (script : Script) (text : List ℕ) (report : Report) (r : Result Answer E)
-    → IsReport script.members text report
-    → IfOk r (λ a. SaysOfReport script report (string_bytes a.text, a.status))
+    → IsReport script.members text report → IfOk r (λ a. SaysOfReport script report (string_bytes a.text, a.status))
     → IfOk r (λ a. SaysOfText script text (string_bytes a.text, a.status))
 of_text_if script text report (Ok a) is says = inl (report, is, says)
 of_text_if script text report (Err e) is says = tt
@@ -48,9 +41,8 @@ of_text_if script text report (Err e) is says = tt
 -- a flaw, and what stands behind its line
 pub flaw_told : (script : Script) (r : Report) (flaw : Flaw) (text new : List ℕ) (status : ℕ)
     → IsFirstFlaw script r flaw → text ≡ last_text (lasts.Wrong flaw.clause flaw.line)
-    → status ≡ status_of (lasts.Wrong flaw.clause flaw.line)
-    → (more : List ℕ) × StandsBehind flaw.clause r flaw.line more × (new ≡ text ++ more)
-    → TellsFlaw script r (new, status)
+    → status ≡ status_of (lasts.Wrong flaw.clause flaw.line) → (more : List ℕ)
+    × StandsBehind flaw.clause r flaw.line more × (new ≡ text ++ more) → TellsFlaw script r (new, status)
 flaw_told script r flaw text new status first line due behind = record {
   flaw = flaw;
   first = first;
@@ -77,10 +69,9 @@ few_if script text (Err e) few says = tt
 -- what was written of what was read
 pub judged_told : {E : Type 0} (r : Result Answer E) (script text : List ℕ)
     (old new before after held holds : Option (List ℕ)) (failed fails missed misses fell falls status : ℕ)
-    → WasRead old new script → WasReadTo 2147483649 before after text
-    → IfOk r (λ a. IsJudged (reading_of script) text (string_bytes a.text, a.status))
-    → IfOk r (λ a. WroteText held holds fell falls status a.status (string_bytes a.text))
-    → IfErr r (λ _. (status ≡ 10) × Gains held holds [])
+    → WasRead old new script → WasReadTo 2147483649 before after text → IfOk r (λ a. IsJudged (reading_of script) text
+    (string_bytes a.text, a.status)) → IfOk r (λ a. WroteText held holds fell falls status a.status
+    (string_bytes a.text)) → IfErr r (λ _. (status ≡ 10) × Gains held holds [])
     → Judged old new before after failed fails missed misses held holds fell falls status
 judged_told (Ok a) script text old new before after held holds failed fails missed misses fell falls status
     script_read text_read says wrote wanting = judged (record {

@@ -1,15 +1,11 @@
 -- How the printing of a log's records goes on, and how it ends.
-use Rattle.std.specs.Fmt.{decimal}
+use Rattle.std.{specs.Fmt.decimal, proofs.lemmas.List.length-take-le}
 use Rattle.std.proofs.Common.{◌≡◌, inr, Result, Ok, Err, IfOk, string_bytes, refl, sym, ap, subst, ◌∙◌, ℕ, ◌+◌, ◌-◌, ◌<◌, ◌≤◌, Bool, List, [], ◌∷◌, ◌++◌, length, take, drop, append_assoc, append-nil, arith, length-append}
-use Rattle.std.proofs.lemmas.List.{length-take-le}
-use Rattle.dr_entry.specs.declared.record.Record.{Record}
+use Rattle.dr_entry.specs.{Spelling.spelling, declared.record.Record.Record}
 use Rattle.dr_entry.specs.declared.record.Record.TheVariants as records
-use Rattle.dr_entry.specs.Spelling.{spelling}
 use Rattle.dr_log_bytes.specs.declared.block.Block.TheVariants as found
-use Rattle.dr_log_bytes.specs.Blocks.{IsBlockAt}
+use Rattle.dr_log_bytes.specs.{Blocks.IsBlockAt, Grammar.{BreaksAt, IsBroken, blocks, magic_of}, Parsed.IsReadTo}
 use Rattle.dr_log_bytes.specs.Content.{IsPlaced, MayFollow, OnLog, block_length, content_after, empty_of, with_record}
-use Rattle.dr_log_bytes.specs.Grammar.{BreaksAt, IsBroken, blocks, magic_of}
-use Rattle.dr_log_bytes.specs.Parsed.{IsReadTo}
 use Rattle.dr_log_bytes.proofs.Reading.{begun_read, closed_read, content-added, misplaced_breaks, next_read, no_record}
 use Rattle.dr_intake.specs.declared.answer.Answer.{Answer}
 use Rattle.dr_tools.specs.LogText.{IsSaid, IsTold, broken, whole, closed_line, damaged_line, most_bytes, format_behind, number_behind, record_line, record_text, records_text}
@@ -66,35 +62,32 @@ pub record IsPrinted (bytes text : List ℕ) (at number : ℕ) (newer : Bool) : 
 line-added : (n k : ℕ) (rs : List Record) (r : Record) → records_text n k (rs ++ r ∷ [])
     ≡ records_text n k rs ++ record_line (n + length (blocks rs)) (number_after k rs) r
 line-added n k [] r =
-    let none : n ≡ n + 0 = omega arith in
-    append-nil (record_line n k r) ∙ ap (λ (i : ℕ). record_line i k r) none
+    let none : n ≡ n + 0 = omega arith in append-nil (record_line n k r) ∙ ap (λ (i : ℕ). record_line i k r) none
 line-added n k (s ∷ rs) r =
     let first = record_line n k s in
     let behind = n + block_length s in
     let next = number_behind k s in
     let same : behind + length (blocks rs) ≡ n + length (blocks (s ∷ rs)) =
     omega (arith, length-append (spelling s) (blocks rs)) in
-    ap (λ (l : List ℕ). first ++ l) (line-added behind next rs r)
-    ∙ sym (append_assoc first (records_text behind next rs)
-    (record_line (behind + length (blocks rs)) (number_after next rs) r))
+    ap (λ (l : List ℕ). first ++ l) (line-added behind next rs r) ∙ sym (append_assoc first
+    (records_text behind next rs) (record_line (behind + length (blocks rs)) (number_after next rs) r))
     ∙ ap (λ (i : ℕ). (first ++ records_text behind next rs) ++ record_line i (number_after next rs) r) same
 
 -- a log begins with nothing printed
 pub begun_printed : (bytes text : List ℕ) (newer : Bool) → take 8 bytes ≡ magic_of newer → text ≡ []
     → IsPrinted bytes text 8 0 newer
-begun_printed bytes text newer is none =
-    record {
-      format = newer;
-      records = [];
-      read = begun_read bytes newer is;
-      made = empty_of newer;
-      makes = refl;
-      many = refl;
-      now = refl;
-      numbered = refl;
-      few = omega arith;
-      printed = none;
-    }
+begun_printed bytes text newer is none = record {
+  format = newer;
+  records = [];
+  read = begun_read bytes newer is;
+  made = empty_of newer;
+  makes = refl;
+  many = refl;
+  now = refl;
+  numbered = refl;
+  few = omega arith;
+  printed = none;
+}
 
 -- a record more is a line more
 pub next_printed : (bytes text text' : List ℕ) (at n number number' : ℕ) (newer newer' : Bool) (r : Record)
@@ -103,9 +96,8 @@ pub next_printed : (bytes text text' : List ℕ) (at n number number' : ℕ) (ne
     → newer' ≡ format_behind newer r → IsPrinted bytes text' (at + (1 + n)) number' newer'
 next_printed bytes text text' at n number number' newer newer' r is block may line next format =
     let place : at + 1 ≡ 9 + length (blocks is.records) = omega (arith, is.read.place) in
-    let here : MayFollow is.made.newer (length is.made.entries) r =
-    subst (λ (k : ℕ). MayFollow is.made.newer k r) (sym is.many)
-    (subst (λ (b : Bool). MayFollow b number r) (sym is.now) may) in
+    let here : MayFollow is.made.newer (length is.made.entries) r = subst (λ (k : ℕ). MayFollow is.made.newer k r)
+    (sym is.many) (subst (λ (b : Bool). MayFollow b number r) (sym is.now) may) in
     record {
       format = is.format;
       records = is.records ++ r ∷ [];
@@ -119,8 +111,7 @@ next_printed bytes text text' at n number number' newer newer' r is block may li
       printed = line ∙ ap (λ (l : List ℕ). l ++ record_line (at + 1) number r) is.printed
           ∙ ap (λ (k : ℕ). records_text 9 0 is.records ++ record_line k number r) place
           ∙ ap (λ (k : ℕ). records_text 9 0 is.records ++ record_line (9 + length (blocks is.records)) k r)
-          is.numbered
-          ∙ sym (line-added 9 0 is.records r);
+          is.numbered ∙ sym (line-added 9 0 is.records r);
     }
 
 -- a closed gate is told behind the lines of all records

@@ -1,26 +1,21 @@
 -- What is said of a text, by what is read of it, and with which status.
-use Rattle.std.proofs.Common.{inl, inr, refl, sym, ap, subst, ℕ, List, Option, [], String, Result, Ok, Err, IfOk, map, string_bytes, arith}
 use Rattle.std.specs.declared.alloc.Global.{Global}
-use Rattle.dr_entry.proofs.NumberFacts.{IsKnown}
-use Rattle.dr_entry.proofs.ListParts.{run_known}
+use Rattle.std.proofs.Common.{inl, inr, refl, sym, ap, subst, ℕ, List, Option, [], String, Result, Ok, Err, IfOk, map, string_bytes, arith}
+use Rattle.dr_entry.proofs.{ListParts.run_known, NumberFacts.IsKnown}
 use Rattle.dr_history.proofs.Bits.{has_zero}
-use Rattle.dr_ages.specs.declared.mode.Mode.TheVariants.{Sim}
+use Rattle.dr_ages.specs.{Ages.all_with, declared.mode.Mode.TheVariants.Sim}
+use Rattle.dr_intake.specs.{Answer.{IsLine, Said, done, no_memory, no_source, usage}, Status.{WroteText, status_of}}
 use Rattle.dr_intake.specs.declared.answer.Answer.{Answer}
-use Rattle.dr_intake.specs.Answer.{IsLine, Said, done, no_memory, no_source, usage}
-use Rattle.dr_intake.specs.Status.{WroteText, status_of}
-use Rattle.dr_outcome.proofs.Runs.{part_lasts}
-use Rattle.dr_outcome.specs.Outcome.{AreAllLate}
-use Rattle.dr_ages.specs.Ages.{all_with}
-use Rattle.dr_script.specs.declared.script.Script.{Script}
+use Rattle.dr_outcome.{specs.Outcome.AreAllLate, proofs.Runs.part_lasts}
 use Rattle.dr_script.specs.Reading.{Reading, TooLong, NotJson, Wrong, Reads, reading_of}
+use Rattle.dr_script.specs.declared.script.Script.{Script}
 use Rattle.dr_text.specs.declared.last.Last.TheVariants as lasts
 use Rattle.dr_tools.specs.SummaryAnswer.{IsAnswerFor, IsRunAnswer, IsScriptAnswer, IsSummaryAnswer, SummaryTold, summary_usage}
 use Rattle.dr_tools.specs.declared.summary.words.Asked.{Asked}
 
 -- what is said of a script, where there was memory for it: of its run, or how it is called
-pub run_if : {E : Type 0} (answer : Result Answer E) (k : Asked) (s : Script)
-    → IfOk answer (λ a. IsRunAnswer k s (string_bytes a.text, a.status))
-    → IfOk answer (λ a. IsScriptAnswer k s (string_bytes a.text, a.status))
+pub run_if : {E : Type 0} (answer : Result Answer E) (k : Asked) (s : Script) → IfOk answer (λ a. IsRunAnswer k s
+    (string_bytes a.text, a.status)) → IfOk answer (λ a. IsScriptAnswer k s (string_bytes a.text, a.status))
 run_if (Ok a) k s answer = inl answer
 run_if (Err e) k s answer = tt
 
@@ -34,9 +29,7 @@ answer_known : (k : Asked) (r : Reading) (said : Said) → IsAnswerFor k r said 
 answer_known k TooLong said is = (2, omega arith, sym is.1)
 answer_known k NotJson said is = (2, omega arith, sym is.1)
 answer_known k (Wrong rule path) said is = (2, omega arith, sym is.1)
-answer_known k (Reads script) said (inl is) =
-    subst IsKnown (sym is.due)
-    (run_known (status_of is.last)
+answer_known k (Reads script) said (inl is) = subst IsKnown (sym is.due) (run_known (status_of is.last)
     (part_lasts script (all_with k.late) Sim is.ages is.stop is.last (λ m below. has_zero m) is.run is.line))
 answer_known k (Reads script) said (inr unrun) = (1, omega arith, sym unrun.due)
 
@@ -57,7 +50,6 @@ told_known words old new failed fails held holds fell falls status (inl wanting)
 told_known words old new failed fails held holds fell falls status (inr wrote) = by wrote.wrote
   where
     by : WroteText held holds fell falls status wrote.due wrote.text → IsKnown status
-    by (inl whole) =
-        subst IsKnown (sym whole.0)
+    by (inl whole) = subst IsKnown (sym whole.0)
         (due_known words old new failed fails (wrote.text, wrote.due) wrote.answer)
     by (inr front) = (4, omega arith, sym front.0)

@@ -1,13 +1,9 @@
 -- What is said of the crashes of a member.
-use Rattle.std.proofs.Common.{ℕ, ◌<◌, List, Result, Ok, Err, IfOk, length, string_bytes}
-use Rattle.std.proofs.lemmas.Bool.{lt-ltb}
+use Rattle.std.proofs.{Common.{ℕ, ◌<◌, List, Result, Ok, Err, IfOk, length, string_bytes}, lemmas.Bool.lt-ltb}
 use Rattle.dr_intake.specs.declared.answer.Answer.{Answer}
-use Rattle.dr_script.specs.declared.script.Fault.{Fault}
-use Rattle.dr_script.specs.declared.script.Script.{Script}
-use Rattle.dr_tools.specs.declared.sweeps.variants.Variants.TheVariants.{Crashes}
-use Rattle.dr_tools.specs.declared.sweeps.words.Task.{Task}
-use Rattle.dr_tools.specs.Crashes.{AreCrashes}
-use Rattle.dr_tools.specs.SweepAnswer.{IsSaidOfCrashes, IsSaidOfVariants}
+use Rattle.dr_script.specs.declared.script.{Fault.Fault, Script.Script}
+use Rattle.dr_tools.specs.{Crashes.AreCrashes, SweepAnswer.{IsSaidOfCrashes, IsSaidOfVariants}}
+use Rattle.dr_tools.specs.declared.sweeps.{variants.Variants.TheVariants.Crashes, words.Task.Task}
 
 -- of a member of the script, which may have a fault more, it is told of its crashes
 pub crashes_said : {E : Type 0} (r : Result Answer E) (member : ℕ) (task : Task) (script : Script)

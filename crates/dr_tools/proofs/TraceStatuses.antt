@@ -1,21 +1,13 @@
 -- With which statuses a call ends.
 use Rattle.std.proofs.Common.{◌≡◌, ◌⊎◌, inl, inr, refl, sym, subst, ℕ, zero, suc, List, Option, None, Some, [], ◌∷◌, Contains, arith}
-use Rattle.dr_ages.specs.declared.mode.Mode.TheVariants.{Sim}
-use Rattle.dr_ages.specs.declared.stop.Stop.{Stop}
-use Rattle.dr_entry.specs.declared.end.AgeEnd.{AgeEnd}
-use Rattle.dr_entry.proofs.OptionFacts.{IsKnown, wanting_known}
+use Rattle.dr_ages.specs.{Ages.all_with, declared.{mode.Mode.TheVariants.Sim, stop.Stop.Stop}}
+use Rattle.dr_entry.{specs.declared.end.AgeEnd.AgeEnd, proofs.OptionFacts.{IsKnown, wanting_known}}
 use Rattle.dr_history.proofs.Bits.{has_zero}
 use Rattle.dr_intake.specs.Status.{WroteText}
-use Rattle.dr_outcome.proofs.Runs.{part_lasts}
-use Rattle.dr_outcome.specs.Last.{last_of}
-use Rattle.dr_outcome.specs.Outcome.{IsMemoryRun}
-use Rattle.dr_ages.specs.Ages.{all_with}
-use Rattle.dr_script.specs.declared.script.Script.{Script}
-use Rattle.dr_script.specs.Reading.{Reading, TooLong, NotJson, Wrong, Reads}
-use Rattle.dr_text.specs.declared.last.Last.{Last}
-use Rattle.dr_text.specs.Writing.{WroteFront}
-use Rattle.dr_tools.specs.Trace.{IsTracedFor, Wrote, end_status}
-use Rattle.dr_tools.specs.declared.tracing.words.Asked.{Asked}
+use Rattle.dr_outcome.{specs.{Last.last_of, Outcome.IsMemoryRun}, proofs.Runs.part_lasts}
+use Rattle.dr_script.specs.{Reading.{Reading, TooLong, NotJson, Wrong, Reads}, declared.script.Script.Script}
+use Rattle.dr_text.specs.{Writing.WroteFront, declared.last.Last.Last}
+use Rattle.dr_tools.specs.{Trace.{IsTracedFor, Wrote, end_status}, declared.tracing.words.Asked.Asked}
 
 last_known : (script : Script) (late : ℕ) (ages : List AgeEnd) (stop : Option Stop) (last : Option Last)
     → IsMemoryRun script (all_with late) Sim ages stop → last_of ages stop ≡ last → IsKnown (end_status last)
@@ -38,8 +30,7 @@ traced_known asked NotJson text due (inr is) = (2, omega arith, sym is.1)
 traced_known asked (Wrong rule path) text due (inl wanting) = wanting_known due wanting.1
 traced_known asked (Wrong rule path) text due (inr is) = (2, omega arith, sym is.1)
 traced_known asked (Reads script) text due (inl (inl wanting)) = wanting_known due wanting.1
-traced_known asked (Reads script) text due (inl (inr is)) =
-    subst IsKnown (sym is.status)
+traced_known asked (Reads script) text due (inl (inr is)) = subst IsKnown (sym is.status)
     (last_known script asked.late is.ages is.stop (last_of is.ages is.stop) is.run refl)
 traced_known asked (Reads script) text due (inr unrun) = (1, omega arith, sym unrun.status)
 

@@ -1,35 +1,22 @@
 -- What is told of a run, by what its watcher was told.
-use Rattle.std.specs.declared.alloc.Global.{Global}
-use Rattle.dr_tools.specs.TraceWords.{asked_by}
+use Rattle.std.{specs.declared.alloc.Global.Global, proofs.lemmas.Option.none-some}
 use Rattle.std.proofs.Common.{MatchOption, String, ◌≡◌, ℕ, ◌+◌, List, [], ◌∷◌, ◌++◌, Option, Some, None, length, refl, sym, ap, subst, append-nil, ◌⊎◌, inl, inr}
-use Rattle.std.proofs.lemmas.Option.{none-some}
-use Rattle.dr_ages.specs.declared.mode.Mode.TheVariants.{Sim}
-use Rattle.dr_ages.specs.Watched.{AreWatched}
-use Rattle.dr_entry.specs.declared.end.AgeEnd.{AgeEnd}
-use Rattle.dr_program.specs.Presence.{present_at}
-use Rattle.dr_program.specs.Program.{Move, Program, step_of}
-use Rattle.dr_program.specs.Running.{Running}
-use Rattle.dr_restart.specs.declared.start.Start.{Start}
-use Rattle.dr_script.specs.declared.script.Script.{Script}
-use Rattle.dr_seeing.specs.Lines.{age_line, line_of}
-use Rattle.dr_seeing.specs.Output.{HasTold, Tells, TellsSome, Written}
-use Rattle.dr_seeing.proofs.Outputs.{tells_both, some_both}
-use Rattle.dr_sim.specs.Watched.{WasTold}
-use Rattle.dr_ages.specs.declared.part.Part.{Part}
-use Rattle.dr_ages.specs.declared.stop.Stop.{Stop}
-use Rattle.dr_intake.specs.declared.call.Unread.{Unread}
-use Rattle.dr_intake.specs.Answer.{IsLine, IsUnread, unread_line}
-use Rattle.dr_intake.proofs.Answers.{unread_alone}
-use Rattle.dr_intake.specs.Reading.{refusal_in}
-use Rattle.dr_outcome.specs.Last.{last_of}
-use Rattle.dr_outcome.specs.Outcome.{IsMemoryRun}
-use Rattle.dr_script.specs.Reading.{Reading, NotJson, Reads, TooLong, Wrong, reading_of}
-use Rattle.dr_text.specs.declared.last.Last.{Last}
-use Rattle.dr_seeing.proofs.Traces.{tells_same}
-use Rattle.dr_tools.specs.declared.tracing.words.Asked.{Asked}
-use Rattle.dr_tools.specs.declared.tracing.words.Form.{Form}
-use Rattle.dr_tools.specs.declared.tracing.words.Form.TheVariants.{Chart, Lines, Picture}
 use Rattle.dr_tools.specs.Trace.{AreLines, IsRunTold, IsToldOf, IsTraceAnswer, IsTracedFor, IsWanting, Wrote, WroteOne, deed_line, end_status, ending, moves_text, picture_ending, trace_usage, traced_end_line}
+use Rattle.dr_tools.specs.{TraceWords.asked_by, declared.tracing.words.{Asked.Asked, Form.Form}}
+use Rattle.dr_tools.specs.declared.tracing.words.Form.TheVariants.{Chart, Lines, Picture}
+use Rattle.dr_ages.specs.{Watched.AreWatched, declared.{mode.Mode.TheVariants.Sim, part.Part.Part, stop.Stop.Stop}}
+use Rattle.dr_entry.specs.declared.end.AgeEnd.{AgeEnd}
+use Rattle.dr_program.specs.{Presence.present_at, Program.{Move, Program, step_of}, Running.Running}
+use Rattle.dr_restart.specs.declared.start.Start.{Start}
+use Rattle.dr_script.specs.Reading.{Reading, NotJson, Reads, TooLong, Wrong, reading_of}
+use Rattle.dr_script.specs.declared.script.Script.{Script}
+use Rattle.dr_seeing.specs.{Lines.{age_line, line_of}, Output.{HasTold, Tells, TellsSome, Written}}
+use Rattle.dr_seeing.proofs.{Outputs.{tells_both, some_both}, Traces.tells_same}
+use Rattle.dr_sim.specs.Watched.{WasTold}
+use Rattle.dr_intake.specs.{Answer.{IsLine, IsUnread, unread_line}, Reading.refusal_in, declared.call.Unread.Unread}
+use Rattle.dr_intake.proofs.Answers.{unread_alone}
+use Rattle.dr_outcome.specs.{Last.last_of, Outcome.IsMemoryRun}
+use Rattle.dr_text.specs.declared.last.Last.{Last}
 
 -- what `Lines` does as it is told of an age, of a deed and of the end
 abbrev pub Opens : Written → Start → Written → Type 0
@@ -49,8 +36,7 @@ moves_told p (e ∷ es) old new was =
     let line : deed_line p.table (present_at p.members e.member) ≡ line_of was.0 p.table =
     ap (deed_line p.table) was.2 in
     tells_both (deed_line p.table (present_at p.members e.member)) (moves_text (step_of p e) es) old was.1 new
-    (subst (λ (l : List ℕ). Tells l old was.1) (sym line) was.3)
-    (moves_told (step_of p e) es was.1 new was.4)
+    (subst (λ (l : List ℕ). Tells l old was.1) (sym line) was.3) (moves_told (step_of p e) es was.1 new was.4)
 
 -- these ages have lines, which are told
 pub record HaveLines (script : Script) (part : Part) (nth : ℕ) (ages : List AgeEnd) (old new : Written) : Type 0 where
@@ -60,22 +46,16 @@ pub record HaveLines (script : Script) (part : Part) (nth : ℕ) (ages : List Ag
 
 pub lines_told : (script : Script) (part : Part) (nth : ℕ) (ages : List AgeEnd) (old new : Written)
     → AreWatched Opens Sees Closes Sim script part nth ages old new → HaveLines script part nth ages old new
-lines_told script part nth [] old new same = record {
-  text = [];
-  lines = refl;
-  tells = tells_same old new (sym same);
-}
+lines_told script part nth [] old new same = record { text = []; lines = refl; tells = tells_same old new (sym same) }
 lines_told script part nth (age ∷ ages) old new was =
     let next = was.0 in
     let seen = was.1 in
     let rest = lines_told script part (nth + 1) ages next new was.2 in
     let head = age_line age.age (length age.start) in
     let moves = moves_text seen.is.begun seen.is.run.moves in
-    let told : Tells (head ++ moves) old seen.ended =
-    tells_both head moves old seen.opened seen.ended seen.opening
+    let told : Tells (head ++ moves) old seen.ended = tells_both head moves old seen.opened seen.ended seen.opening
     (moves_told seen.is.begun seen.is.run.moves seen.opened seen.ended seen.moves) in
-    let all : Tells (head ++ moves) old next =
-    subst (λ (l : List ℕ). Tells l old next) (append-nil (head ++ moves))
+    let all : Tells (head ++ moves) old next = subst (λ (l : List ℕ). Tells l old next) (append-nil (head ++ moves))
     (tells_both (head ++ moves) [] old seen.ended next told seen.closing) in
     record {
       text = (head ++ moves) ++ rest.text;
@@ -94,20 +74,16 @@ SeesSome old member table new = TellsSome old new
 abbrev pub ClosesSome : Written → List (Option Running) → List ℕ → Written → Type 0
 ClosesSome old members table new = TellsSome old new
 
-some_moves : (p : Program) (es : List Move) (old new : Written) → WasTold SeesSome p es old new
-    → TellsSome old new
+some_moves : (p : Program) (es : List Move) (old new : Written) → WasTold SeesSome p es old new → TellsSome old new
 some_moves p [] old new same = ([], tells_same old new same)
-some_moves p (e ∷ es) old new was =
-    some_both old was.1 new was.3 (some_moves (step_of p e) es was.1 new was.4)
+some_moves p (e ∷ es) old new was = some_both old was.1 new was.3 (some_moves (step_of p e) es was.1 new was.4)
 
 pub some_told : (script : Script) (part : Part) (nth : ℕ) (ages : List AgeEnd) (old new : Written)
     → AreWatched OpensSome SeesSome ClosesSome Sim script part nth ages old new → TellsSome old new
 some_told script part nth [] old new same = ([], tells_same old new (sym same))
 some_told script part nth (age ∷ ages) old new was =
     let seen = was.1 in
-    some_both old was.0 new
-    (some_both old seen.opened was.0 seen.opening
-    (some_both seen.opened seen.ended was.0
+    some_both old was.0 new (some_both old seen.opened was.0 seen.opening (some_both seen.opened seen.ended was.0
     (some_moves seen.is.begun seen.is.run.moves seen.opened seen.ended seen.moves) seen.closing))
     (some_told script part (nth + 1) ages was.0 new was.2)
 
@@ -128,20 +104,17 @@ unread_traced words asked old new failed fails found why text due by same unread
 
 -- nothing was run as memory was wanting, or this is the run
 abbrev pub HasRun : Script → Part → List AgeEnd → Option Stop → Option Last → Type 0
-HasRun script part ages stop last =
-    ((ages ≡ []) × (stop ≡ None) × (last ≡ None))
+HasRun script part ages stop last = ((ages ≡ []) × (stop ≡ None) × (last ≡ None))
     ⊎ (IsMemoryRun script part Sim ages stop × (last ≡ last_of ages stop))
 
 -- whatever is told, it is written with the last line behind it
 abbrev pub Writes : Option (List ℕ) → Option (List ℕ) → ℕ → ℕ → ℕ → Option Last → Written → Type 0
-Writes held holds fell falls status last now =
-    (text : List ℕ) → HasTold held fell text now
+Writes held holds fell falls status last now = (text : List ℕ) → HasTold held fell text now
     → Wrote held holds fell falls status (end_status last) (text ++ traced_end_line last)
 
 wanting_wrote : (form : Form) (script : Script) (part : Part) (last : Option Last) (held holds : Option (List ℕ))
-    (fell falls status : ℕ) → last ≡ None
-    → Wrote held holds fell falls status (end_status last) ([] ++ traced_end_line last)
-    → WroteOne (IsRunTold form script part) held holds fell falls status
+    (fell falls status : ℕ) → last ≡ None → Wrote held holds fell falls status (end_status last) ([]
+    ++ traced_end_line last) → WroteOne (IsRunTold form script part) held holds fell falls status
 wanting_wrote form script part last held holds fell falls status none wrote = record {
   text = traced_end_line last;
   due = end_status last;
@@ -150,8 +123,7 @@ wanting_wrote form script part last held holds fell falls status none wrote = re
 }
 
 run_wrote : (form : Form) (script : Script) (part : Part) (ages : List AgeEnd) (stop : Option Stop) (last : Option Last)
-    (held holds : Option (List ℕ)) (fell falls status : ℕ) (told : List ℕ)
-    → IsMemoryRun script part Sim ages stop
+    (held holds : Option (List ℕ)) (fell falls status : ℕ) (told : List ℕ) → IsMemoryRun script part Sim ages stop
     → last ≡ last_of ages stop → IsToldOf form script part ages told
     → Wrote held holds fell falls status (end_status last) (told ++ ending form last)
     → WroteOne (IsRunTold form script part) held holds fell falls status
@@ -203,8 +175,7 @@ chart_wrote script part ages stop last held holds fell falls status old new (inr
 
 -- a picture was written, with the last line in it
 pub picture_wrote : (from to : ℕ) (script : Script) (part : Part) (ages : List AgeEnd) (stop : Option Stop) (last : Last)
-    (held holds : Option (List ℕ)) (fell falls status : ℕ) (told : List ℕ)
-    → HasRun script part ages stop (Some last)
+    (held holds : Option (List ℕ)) (fell falls status : ℕ) (told : List ℕ) → HasRun script part ages stop (Some last)
     → Wrote held holds fell falls status (end_status (Some last)) (told ++ picture_ending (Some last))
     → WroteOne (IsRunTold (Picture from to) script part) held holds fell falls status
 picture_wrote from to script part ages stop last held holds fell falls status told (inl none) wrote =

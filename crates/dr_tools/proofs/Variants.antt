@@ -1,18 +1,11 @@
 -- The scripts of a sweep's runs.
 use Rattle.std.proofs.Common.{◌≡◌, ◌∙◌, refl, sym, ap, subst, ℕ, zero, suc, ◌<◌, arith, inl, inr, Bool, true, List, [], ◌∷◌, ◌++◌, get_or, length}
-use Rattle.std.proofs.lemmas.List.{get_or_append_left, get_or_push, length_push}
-use Rattle.std.proofs.lemmas.Bool.{cases_lt}
-use Rattle.dr_ages.specs.Ages.{HaveSomebodyPrompt}
-use Rattle.dr_ages.specs.declared.part.Part.{Part}
-use Rattle.dr_script.specs.declared.script.Fault.{Fault}
-use Rattle.dr_script.specs.declared.script.Script.{Script}
-use Rattle.dr_script.specs.declared.script.What.{What}
-use Rattle.dr_script.specs.declared.script.What.TheVariants.{Crash, Suspect}
-use Rattle.dr_script.specs.Ranges.{HasFaultRanges, HasRanges, HasWhatRanges}
-use Rattle.dr_tools.specs.declared.sweeps.variants.Variants.{Variants}
-use Rattle.dr_tools.specs.declared.sweeps.variants.Variants.TheVariants.{Crashes, Seeded}
-use Rattle.dr_tools.specs.Parts.{kept_parts, stays}
-use Rattle.dr_tools.specs.Variants.{by_seed, variant, with_each, with_fault}
+use Rattle.std.proofs.lemmas.{Bool.cases_lt, List.{get_or_append_left, get_or_push, length_push}}
+use Rattle.dr_ages.specs.{Ages.HaveSomebodyPrompt, declared.part.Part.Part}
+use Rattle.dr_script.specs.{Ranges.{HasFaultRanges, HasRanges, HasWhatRanges}, declared.script.Fault.Fault}
+use Rattle.dr_script.specs.declared.script.{Script.Script, What.{What, TheVariants.{Crash, Suspect}}}
+use Rattle.dr_tools.specs.{Parts.{kept_parts, stays}, Variants.{by_seed, variant, with_each, with_fault}}
+use Rattle.dr_tools.specs.declared.sweeps.variants.Variants.{Variants, TheVariants.{Crashes, Seeded}}
 use Rattle.dr_tools.proofs.Whole.{all_parts_kept}
 
 what_ranges : (s : Script) (seed member : ℕ) (what : What) → HasWhatRanges s member what
@@ -55,8 +48,7 @@ nothing_said zero = refl
 nothing_said (suc n) = refl
 
 pub whole_copy : (keeps : List Bool) (s copy : Script) → keeps ≡ [] → copy ≡ kept_parts keeps s → copy ≡ s
-whole_copy keeps s copy none is =
-    is ∙ ap (λ (k : List Bool). kept_parts k s) none ∙ all_parts_kept [] s nothing_said
+whole_copy keeps s copy none is = is ∙ ap (λ (k : List Bool). kept_parts k s) none ∙ all_parts_kept [] s nothing_said
 
 what_with : (s : Script) (f : Fault) (member : ℕ) (what : What) → HasWhatRanges s member what
     → HasWhatRanges (with_fault s f) member what
@@ -93,8 +85,7 @@ faulty_ranges s f ranges few own = record {
   faults = λ k d within. elim (cases_lt k (length s.faults)) [
     | inl old ↦ fault_with s f (get_or (s.faults ++ f ∷ []) k d)
         (subst (HasFaultRanges s) (sym (get_or_append_left s.faults (f ∷ []) d k old)) (ranges.faults k d old))
-    | inr last ↦ fault_with s f (get_or (s.faults ++ f ∷ []) k d)
-        (subst (HasFaultRanges s)
+    | inr last ↦ fault_with s f (get_or (s.faults ++ f ∷ []) k d) (subst (HasFaultRanges s)
         (sym (get_or_push s.faults f d k (omega (arith, last, within, length_push s.faults f)))) own)
   ];
 }

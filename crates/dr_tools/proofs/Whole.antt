@@ -1,10 +1,9 @@
 -- Scripts of which all stays.
-use Rattle.std.proofs.Common.{◌≡◌, ◌∙◌, refl, ap, subst, sym, ℕ, zero, suc, ◌+◌, arith, Bool, true, Global, if◌then◌else◌, List, [], ◌∷◌, drop, length, Result, Ok, Err, IfOk, String, string_bytes}
 use Rattle.std.specs.List.{enumerate_from, flat_map}
+use Rattle.std.proofs.Common.{◌≡◌, ◌∙◌, refl, ap, subst, sym, ℕ, zero, suc, ◌+◌, arith, Bool, true, Global, if◌then◌else◌, List, [], ◌∷◌, drop, length, Result, Ok, Err, IfOk, String, string_bytes}
 use Rattle.dr_json.specs.Json.{script_json}
 use Rattle.dr_script.specs.declared.script.Script.{Script}
-use Rattle.dr_tools.specs.Outcomes.{TextEndsSo}
-use Rattle.dr_tools.specs.Parts.{kept, kept_lists, kept_parts, stays}
+use Rattle.dr_tools.specs.{Outcomes.TextEndsSo, Parts.{kept, kept_lists, kept_parts, stays}}
 use Rattle.dr_tools.specs.Shrinking.{EndsSoWith, IsSmaller}
 
 -- everything stays
@@ -28,20 +27,17 @@ kept_from keeps n (x ∷ xs) all = rw (all n) (ap (λ ys. x ∷ ys) (kept_from k
 pub all_kept : {A : Type 0} (keeps : List Bool) (xs : List A) → AllStay keeps → kept keeps xs ≡ xs
 all_kept keeps xs all = kept_from keeps 0 xs all
 
-pub all_lists_kept : {A : Type 0} (keeps : List Bool) (ls : List (List A)) → AllStay keeps
-    → kept_lists keeps ls ≡ ls
+pub all_lists_kept : {A : Type 0} (keeps : List Bool) (ls : List (List A)) → AllStay keeps → kept_lists keeps ls ≡ ls
 all_lists_kept keeps [] all = refl
 all_lists_kept keeps (l ∷ ls) all =
     let rest = all_lists_kept (drop (length l) keeps) ls (drop_stays keeps (length l) all) in
-    let own = all_kept keeps l all in
-    λ i. own i ∷ rest i
+    let own = all_kept keeps l all in λ i. own i ∷ rest i
 
 -- the script is the whole one
 pub all_parts_kept : (keeps : List Bool) (s : Script) → AllStay keeps → kept_parts keeps s ≡ s
 all_parts_kept keeps s all =
     let faults = all_kept keeps s.faults all in
-    let lists = all_lists_kept (drop (length s.faults) keeps) s.messages
-    (drop_stays keeps (length s.faults) all) in
+    let lists = all_lists_kept (drop (length s.faults) keeps) s.messages (drop_stays keeps (length s.faults) all) in
     λ i. record s { faults = faults i; messages = lists i }
 
 -- the text of what is left of a script that ends so

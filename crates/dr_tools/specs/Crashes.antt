@@ -1,22 +1,14 @@
 -- At which points of a run a member may crash.
-use Rattle.std.specs.Prelude.{◌≡◌, ℕ, ◌+◌, ◌-◌, ◌*◌, ◌/◌, ◌%◌, ◌==◌, nat_lt, if◌then◌else◌, Bool, true, false, List, get_or, length, map, replicate, slice_set, Option}
 use Rattle.std.specs.List.{enumerate_from, flat_map, range_with_len}
-use Rattle.dr_ages.specs.Ages.{all_with}
-use Rattle.dr_ages.specs.declared.mode.Mode.TheVariants.{Sim}
-use Rattle.dr_ages.specs.declared.stop.Stop.{Stop}
-use Rattle.dr_ages.specs.Watched.{AreWatched}
+use Rattle.std.specs.Prelude.{◌≡◌, ℕ, ◌+◌, ◌-◌, ◌*◌, ◌/◌, ◌%◌, ◌==◌, nat_lt, if◌then◌else◌, Bool, true, false, List, get_or, length, map, replicate, slice_set, Option}
+use Rattle.dr_ages.specs.{Ages.all_with, Watched.AreWatched, declared.{mode.Mode.TheVariants.Sim, stop.Stop.Stop}}
 use Rattle.dr_entry.specs.declared.end.AgeEnd.{AgeEnd}
 use Rattle.dr_machine.specs.Effects.{one_more}
 use Rattle.dr_member.specs.Deeds.{is_before_turn}
 use Rattle.dr_outcome.specs.Outcome.{IsMemoryRun}
-use Rattle.dr_program.specs.declared.deed.Deed.{Deed}
-use Rattle.dr_program.specs.declared.deed.Deed.TheVariants.{Push}
-use Rattle.dr_program.specs.Replica.{me}
-use Rattle.dr_program.specs.Running.{Running, next_deed}
+use Rattle.dr_program.specs.{Replica.me, Running.{Running, next_deed}, declared.deed.Deed.{Deed, TheVariants.Push}}
 use Rattle.dr_restart.specs.declared.start.Start.{Start}
-use Rattle.dr_script.specs.declared.script.Fault.{Fault}
-use Rattle.dr_script.specs.declared.script.Script.{Script}
-use Rattle.dr_script.specs.declared.script.What.TheVariants.{Crash}
+use Rattle.dr_script.specs.declared.script.{Fault.Fault, Script.Script, What.TheVariants.Crash}
 
 -- of this member it has been counted, up to this age, at how many points it may crash in each of so many turns of each
 -- age, one age behind the other

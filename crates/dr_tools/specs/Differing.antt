@@ -1,13 +1,8 @@
 -- Entries by which two histories of an age differ.
+use Rattle.std.specs.{Fmt.decimal, List.concat}
 use Rattle.std.specs.Prelude.{◌≡◌, ◌≢◌, ℕ, ◌+◌, ◌-◌, ◌<◌, List, [], ◌∷◌, ◌++◌, codes, length, slice_get, Some}
-use Rattle.std.specs.Fmt.{decimal}
-use Rattle.std.specs.List.{concat}
-use Rattle.dr_check.specs.Clauses.{KeepsPrefix}
-use Rattle.dr_check.specs.Firsts.{AllKeep}
-use Rattle.dr_check.specs.Flaws.{line_behind, own_entries}
-use Rattle.dr_check.specs.declared.report.Report.{Report}
-use Rattle.dr_check.specs.declared.report.ReportAge.{ReportAge}
-use Rattle.dr_check.specs.declared.report.ReportMember.{ReportMember}
+use Rattle.dr_check.specs.{Clauses.KeepsPrefix, Firsts.AllKeep, Flaws.{line_behind, own_entries}}
+use Rattle.dr_check.specs.declared.report.{Report.Report, ReportAge.ReportAge, ReportMember.ReportMember}
 use Rattle.dr_entry.specs.declared.entry.Entry.{Entry}
 use Rattle.dr_text.specs.Report.{entry_text}
 

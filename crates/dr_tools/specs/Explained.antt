@@ -1,15 +1,9 @@
 -- What is said of a text, and what a call comes to.
-use Rattle.std.specs.Prelude.{◌≡◌, ⊤, ℕ, List, [], ◌∷◌, ◌++◌, codes, Option, String}
-use Rattle.std.specs.Fmt.{decimal}
-use Rattle.std.specs.List.{concat}
-use Rattle.std.specs.Option.{option_map_or}
-use Rattle.std.specs.declared.alloc.Global.{Global}
+use Rattle.std.specs.{Fmt.decimal, List.concat, Option.option_map_or}
+use Rattle.std.specs.{Prelude.{◌≡◌, ⊤, ℕ, List, [], ◌∷◌, ◌++◌, codes, Option, String}, declared.alloc.Global.Global}
 use Rattle.dr_complete.specs.Enough.{most_messages, turns_enough}
-use Rattle.dr_intake.specs.Answer.{IsCallAnswer, Said, ToldBy, wordless}
-use Rattle.dr_intake.specs.Reading.{refusal_in}
-use Rattle.dr_intake.specs.Status.{status_of}
-use Rattle.dr_script.specs.declared.script.Script.{Script}
-use Rattle.dr_script.specs.Reading.{Reading, Reads, reading_of}
+use Rattle.dr_intake.specs.{Answer.{IsCallAnswer, Said, ToldBy, wordless}, Reading.refusal_in, Status.status_of}
+use Rattle.dr_script.specs.{Reading.{Reading, Reads, reading_of}, declared.script.Script.Script}
 use Rattle.dr_text.specs.Report.{last_text}
 use Rattle.dr_tools.specs.Turns.{TakesTurns, calm_group}
 

@@ -1,14 +1,11 @@
 -- What a call comes to.
 use Rattle.std.specs.Prelude.{◌≡◌, ℕ, List, [], ◌∷◌, length, codes, Option, None, String, string_bytes}
 use Rattle.std.specs.declared.alloc.Global.{Global}
-use Rattle.dr_folder.specs.declared.checking.FolderCheck.{FolderCheck}
-use Rattle.dr_folder.specs.declared.file.LogFile.{LogFile}
-use Rattle.dr_folder.specs.Checked.{IsFolderCheck}
-use Rattle.dr_folder.specs.Told.{TellsNext, status_due}
+use Rattle.dr_folder.specs.{Checked.IsFolderCheck, Told.{TellsNext, status_due}}
+use Rattle.dr_folder.specs.declared.{checking.FolderCheck.FolderCheck, file.LogFile.LogFile}
 use Rattle.dr_intake.specs.Answer.{IsCallAnswer, Said, SaysOf, ToldBy}
 use Rattle.dr_literals.specs.Options.{value_word}
-use Rattle.dr_script.specs.declared.script.Script.{Script}
-use Rattle.dr_script.specs.Reading.{Reading, reading_of}
+use Rattle.dr_script.specs.{Reading.{Reading, reading_of}, declared.script.Script.Script}
 
 -- the folder that the words name: it is the only one, is not empty and begins with no dash
 abbrev pub folder_named : List (String Global) → Option (List ℕ)

@@ -1,21 +1,12 @@
 -- What is said of a script and of the report of a run of it, and what a call comes to.
 use Rattle.std.specs.Prelude.{◌≡◌, ◌⊎◌, ℕ, ◌<◌, ◌≤◌, List, [], ◌++◌, length, Option}
-use Rattle.dr_check.specs.Flaws.{IsFirstFlaw, IsRight}
-use Rattle.dr_check.specs.Grammar.{IsNoReportAt, IsReport}
-use Rattle.dr_check.specs.declared.flaw.Flaw.{Flaw}
+use Rattle.dr_check.specs.{Flaws.{IsFirstFlaw, IsRight}, Grammar.{IsNoReportAt, IsReport}, declared.flaw.Flaw.Flaw}
 use Rattle.dr_check.specs.declared.report.Report.{Report}
-use Rattle.dr_intake.specs.Answer.{Said, SaysOf}
-use Rattle.dr_intake.specs.Reading.{WasRead, WasReadTo}
-use Rattle.dr_intake.specs.Status.{WroteText, status_of}
-use Rattle.dr_io.specs.Faults.{Rose}
-use Rattle.dr_io.specs.Sink.{Gains}
-use Rattle.dr_script.specs.declared.script.Script.{Script}
-use Rattle.dr_script.specs.Reading.{Reading, reading_of}
-use Rattle.dr_text.specs.declared.last.Clause.{Clause}
-use Rattle.dr_text.specs.declared.last.Clause.TheVariants.{Prefix}
-use Rattle.dr_text.specs.declared.last.Last.{Last}
+use Rattle.dr_intake.specs.{Answer.{Said, SaysOf}, Reading.{WasRead, WasReadTo}, Status.{WroteText, status_of}}
+use Rattle.dr_io.specs.{Faults.Rose, Sink.Gains}
+use Rattle.dr_script.specs.{Reading.{Reading, reading_of}, declared.script.Script.Script}
+use Rattle.dr_text.specs.{Report.last_text, declared.last.{Clause.{Clause, TheVariants.Prefix}, Last.Last}}
 use Rattle.dr_text.specs.declared.last.Last.TheVariants as lasts
-use Rattle.dr_text.specs.Report.{last_text}
 use Rattle.dr_tools.specs.Differing.{ShowsDifference}
 
 -- a line alone is said, with its status

@@ -1,9 +1,7 @@
 -- What comes of a log that is read and printed.
 use Rattle.std.specs.Prelude.{◌≡◌, ℕ, List, [], Option}
-use Rattle.dr_intake.specs.Reading.{WasReadTo}
-use Rattle.dr_intake.specs.Status.{WroteText}
-use Rattle.dr_io.specs.Faults.{Rose}
-use Rattle.dr_io.specs.Sink.{Gains}
+use Rattle.dr_intake.specs.{Reading.WasReadTo, Status.WroteText}
+use Rattle.dr_io.specs.{Faults.Rose, Sink.Gains}
 use Rattle.dr_tools.specs.LogText.{IsSaid}
 
 -- these bytes were read, at most one more than a log has, and what is said of them was written

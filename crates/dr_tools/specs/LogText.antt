@@ -1,13 +1,9 @@
 -- What is printed of a log.
+use Rattle.std.specs.{Fmt.decimal, List.{concat, enumerate_from, flat_map}}
 use Rattle.std.specs.Prelude.{◌≡◌, ◌≢◌, ◌⊎◌, ℕ, ◌+◌, ◌-◌, ◌<◌, ◌≤◌, Bool, true, List, [], ◌∷◌, ◌++◌, length, take, codes, ◌==◌, if◌then◌else◌}
-use Rattle.std.specs.Fmt.{decimal}
-use Rattle.std.specs.List.{concat, enumerate_from, flat_map}
-use Rattle.dr_entry.specs.declared.record.AgeVote.{AgeVote}
-use Rattle.dr_entry.specs.declared.record.Record.{Record}
+use Rattle.dr_entry.specs.declared.record.{AgeVote.AgeVote, Record.Record, Vote.Vote}
 use Rattle.dr_entry.specs.declared.record.Record.TheVariants as records
-use Rattle.dr_entry.specs.declared.record.Vote.{Vote}
-use Rattle.dr_log_bytes.specs.Content.{block_length}
-use Rattle.dr_log_bytes.specs.Grammar.{BreaksAt, IsLog, blocks, magic_of}
+use Rattle.dr_log_bytes.specs.{Content.block_length, Grammar.{BreaksAt, IsLog, blocks, magic_of}}
 use Rattle.dr_text.specs.declared.last.Last.TheVariants as lasts
 use Rattle.dr_text.specs.Report.{entry_text, last_text, mask_text}
 

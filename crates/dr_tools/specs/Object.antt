@@ -1,17 +1,13 @@
 -- A summary as a JSON object.
-use Rattle.std.specs.Prelude.{ℕ, List, [], ◌∷◌, ◌++◌, codes}
-use Rattle.std.specs.Fmt.{decimal}
-use Rattle.std.specs.List.{concat, enumerate_from, flat_map}
+use Rattle.std.specs.{Fmt.decimal, List.{concat, enumerate_from, flat_map}, Prelude.{ℕ, List, [], ◌∷◌, ◌++◌, codes}}
 use Rattle.dr_entry.specs.declared.end.AgeEnd.{AgeEnd}
 use Rattle.dr_intake.specs.Status.{status_of}
 use Rattle.dr_script.specs.declared.script.Script.{Script}
 use Rattle.dr_summary.specs.Objects.{age_object}
 use Rattle.dr_text.specs.declared.last.Last.{Last}
-use Rattle.dr_tools.specs.Summary.{enough_of, summary_text}
-use Rattle.dr_tools.specs.declared.summary.enough.Enough.{Enough}
+use Rattle.dr_tools.specs.{Summary.{enough_of, summary_text}, declared.summary.enough.Enough.Enough}
 use Rattle.dr_tools.specs.declared.summary.enough.Enough.TheVariants.{ForRun, InLockstep, Unknown}
-use Rattle.dr_tools.specs.declared.summary.words.Wording.{Wording}
-use Rattle.dr_tools.specs.declared.summary.words.Wording.TheVariants.{People, Programs}
+use Rattle.dr_tools.specs.declared.summary.words.Wording.{Wording, TheVariants.{People, Programs}}
 
 -- the ages of a run
 abbrev pub age_objects : Script → List AgeEnd → List ℕ

@@ -1,6 +1,6 @@
 -- Which texts are outcomes, as they are spelled in rows, but without blanks.
-use Rattle.std.specs.Prelude.{ℕ, ◌-◌, ◌==◌, ◌&&◌, ◌||◌, nat_lt, if◌then◌else◌, Bool, false, List, [], ◌∷◌, Option, None, Some, bytes_eq, codes, drop, length, take}
 use Rattle.std.specs.List.{after_first, before_first, concat, list_all, position_or_len, slice_split}
+use Rattle.std.specs.Prelude.{ℕ, ◌-◌, ◌==◌, ◌&&◌, ◌||◌, nat_lt, if◌then◌else◌, Bool, false, List, [], ◌∷◌, Option, None, Some, bytes_eq, codes, drop, length, take}
 use Rattle.dr_literals.specs.Literals.{is_digit}
 
 -- a text without its blanks

@@ -1,18 +1,12 @@
 -- How a run ends, as a line.
-use Rattle.std.specs.Prelude.{◌≡◌, ◌⊎◌, ℕ, ◌==◌, ◌||◌, if◌then◌else◌, Bool, false, List, [], ◌∷◌, ◌++◌, bytes_eq, codes, Option, Some}
 use Rattle.std.specs.List.{concat, enumerate_from, flat_map}
-use Rattle.dr_ages.specs.Ages.{all_with}
-use Rattle.dr_ages.specs.declared.mode.Mode.TheVariants.{Sim}
-use Rattle.dr_ages.specs.declared.stop.Stop.{Stop}
-use Rattle.dr_entry.specs.declared.end.AgeEnd.{AgeEnd}
-use Rattle.dr_entry.specs.declared.end.MemberEnd.{MemberEnd}
+use Rattle.std.specs.Prelude.{◌≡◌, ◌⊎◌, ℕ, ◌==◌, ◌||◌, if◌then◌else◌, Bool, false, List, [], ◌∷◌, ◌++◌, bytes_eq, codes, Option, Some}
+use Rattle.dr_ages.specs.{Ages.all_with, declared.{mode.Mode.TheVariants.Sim, stop.Stop.Stop}}
+use Rattle.dr_entry.specs.declared.end.{AgeEnd.AgeEnd, MemberEnd.MemberEnd}
 use Rattle.dr_json.specs.Json.{comma_before}
-use Rattle.dr_outcome.specs.Last.{last_of}
-use Rattle.dr_outcome.specs.Outcome.{AreAllLate, IsMemoryRun}
-use Rattle.dr_script.specs.declared.script.Script.{Script}
-use Rattle.dr_script.specs.Reading.{Reading, Reads, reading_of}
-use Rattle.dr_text.specs.declared.last.Last.{Last}
-use Rattle.dr_text.specs.Report.{end_text, last_text}
+use Rattle.dr_outcome.specs.{Last.last_of, Outcome.{AreAllLate, IsMemoryRun}}
+use Rattle.dr_script.specs.{Reading.{Reading, Reads, reading_of}, declared.script.Script.Script}
+use Rattle.dr_text.specs.{Report.{end_text, last_text}, declared.last.Last.Last}
 use Rattle.dr_tools.specs.OutcomeForms.{without_blanks}
 
 -- how the member with this number ended

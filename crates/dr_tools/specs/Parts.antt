@@ -1,6 +1,6 @@
 -- Scripts of which some faults and messages are left out.
-use Rattle.std.specs.Prelude.{ℕ, Bool, true, if◌then◌else◌, List, [], ◌∷◌, drop, length, slice_get, unwrap_or}
 use Rattle.std.specs.List.{enumerate_from, flat_map}
+use Rattle.std.specs.Prelude.{ℕ, Bool, true, if◌then◌else◌, List, [], ◌∷◌, drop, length, slice_get, unwrap_or}
 use Rattle.dr_script.specs.declared.script.Script.{Script}
 
 -- whether the part with this number stays, by what is said of the parts in turn

@@ -1,16 +1,10 @@
 -- The table of outcomes: for each the number of runs that have it, and the first seed.
+use Rattle.std.specs.{Fmt.decimal, List.{concat, flat_map}}
 use Rattle.std.specs.Prelude.{◌≡◌, ℕ, ◌+◌, ◌<◌, if◌then◌else◌, false, List, [], ◌∷◌, ◌++◌, AllPairs, bytes_eq, codes, get_or, length, map, slice_get, Option, None, Some}
-use Rattle.std.specs.Fmt.{decimal}
-use Rattle.std.specs.List.{concat, flat_map}
-use Rattle.dr_script.specs.declared.script.Fault.{Fault}
-use Rattle.dr_script.specs.declared.script.Script.{Script}
-use Rattle.dr_script.specs.declared.script.What.{What}
-use Rattle.dr_script.specs.declared.script.What.TheVariants.{Crash, Suspect}
+use Rattle.dr_script.specs.declared.script.{Fault.Fault, Script.Script, What.{What, TheVariants.{Crash, Suspect}}}
 use Rattle.dr_summary.specs.Table.{behind_blanks}
-use Rattle.dr_tools.specs.declared.sweeps.rows.Row.{Row}
-use Rattle.dr_tools.specs.declared.sweeps.variants.Variants.{Variants}
+use Rattle.dr_tools.specs.{Outcomes.ComesTo, declared.sweeps.{rows.Row.Row, variants.Variants.Variants}}
 use Rattle.dr_tools.specs.declared.sweeps.variants.Variants.TheVariants.{Crashes, Seeded}
-use Rattle.dr_tools.specs.Outcomes.{ComesTo}
 
 -- how many of these lines are this one
 abbrev pub times : List ℕ → List (List ℕ) → ℕ

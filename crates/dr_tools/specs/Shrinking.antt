@@ -2,8 +2,7 @@
 use Rattle.std.specs.Prelude.{◌≡◌, ℕ, ◌<◌, Bool, true, false, List}
 use Rattle.dr_json.specs.Json.{script_json}
 use Rattle.dr_script.specs.declared.script.Script.{Script}
-use Rattle.dr_tools.specs.Outcomes.{TextEndsSo}
-use Rattle.dr_tools.specs.Parts.{kept_parts}
+use Rattle.dr_tools.specs.{Outcomes.TextEndsSo, Parts.kept_parts}
 
 -- the script with these of its parts ends so
 abbrev pub EndsSoWith : Script → ℕ → List ℕ → List Bool → Type 0

@@ -1,22 +1,14 @@
 -- The text of a summary.
+use Rattle.std.specs.{Fmt.decimal, List.{concat, enumerate_from, flat_map, list_any}}
 use Rattle.std.specs.Prelude.{ℕ, ◌-◌, ◌^◌, ◌==◌, ◌&&◌, if◌then◌else◌, Bool, true, false, List, [], ◌∷◌, All, length, map, fold, max, codes}
-use Rattle.std.specs.Fmt.{decimal}
-use Rattle.std.specs.List.{concat, enumerate_from, flat_map, list_any}
 use Rattle.dr_complete.specs.Enough.{turns_enough}
-use Rattle.dr_entry.specs.declared.end.AgeEnd.{AgeEnd}
-use Rattle.dr_entry.specs.declared.end.End.{End}
-use Rattle.dr_entry.specs.declared.end.End.TheVariants.{Spent}
-use Rattle.dr_entry.specs.declared.end.MemberEnd.{MemberEnd}
+use Rattle.dr_entry.specs.declared.end.{AgeEnd.AgeEnd, End.{End, TheVariants.Spent}, MemberEnd.MemberEnd}
 use Rattle.dr_history.specs.declared.opening.Opening.{Opening}
-use Rattle.dr_script.specs.declared.script.Schedule.{Schedule}
-use Rattle.dr_script.specs.declared.script.Schedule.TheVariants.{Lockstep, Seed}
-use Rattle.dr_script.specs.declared.script.Script.{Script}
+use Rattle.dr_script.specs.declared.script.{Schedule.{Schedule, TheVariants.{Lockstep, Seed}}, Script.Script}
 use Rattle.dr_summary.specs.Summary.{HaveAgreed, age_text}
-use Rattle.dr_text.specs.declared.last.Last.{Last}
-use Rattle.dr_text.specs.Report.{last_text}
+use Rattle.dr_text.specs.{Report.last_text, declared.last.Last.Last}
 use Rattle.dr_words.specs.Masks.{without}
-use Rattle.dr_tools.specs.declared.summary.enough.Enough.{Enough}
-use Rattle.dr_tools.specs.declared.summary.enough.Enough.TheVariants.{ForRun, InLockstep, Unknown}
+use Rattle.dr_tools.specs.declared.summary.enough.Enough.{Enough, TheVariants.{ForRun, InLockstep, Unknown}}
 
 -- the members of each age agree
 abbrev pub AreAgreed : List AgeEnd → Type 0

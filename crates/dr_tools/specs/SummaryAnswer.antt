@@ -1,20 +1,13 @@
 -- What a call comes to.
 use Rattle.std.specs.Prelude.{◌≡◌, ◌⊎◌, ℕ, List, Option, Some, String, codes, map, string_bytes}
 use Rattle.std.specs.declared.alloc.Global.{Global}
-use Rattle.dr_ages.specs.declared.mode.Mode.TheVariants.{Sim}
-use Rattle.dr_ages.specs.declared.stop.Stop.{Stop}
+use Rattle.dr_ages.specs.{Ages.all_with, declared.{mode.Mode.TheVariants.Sim, stop.Stop.Stop}}
 use Rattle.dr_entry.specs.declared.end.AgeEnd.{AgeEnd}
-use Rattle.dr_intake.specs.Answer.{IsCallAnswer, Said, SaysOf, ToldBy}
-use Rattle.dr_intake.specs.Status.{status_of}
-use Rattle.dr_outcome.specs.Last.{last_of}
-use Rattle.dr_outcome.specs.Outcome.{AreAllLate, IsMemoryRun}
-use Rattle.dr_ages.specs.Ages.{all_with}
-use Rattle.dr_script.specs.declared.script.Script.{Script}
-use Rattle.dr_script.specs.Reading.{Reading, reading_of}
+use Rattle.dr_intake.specs.{Answer.{IsCallAnswer, Said, SaysOf, ToldBy}, Status.status_of}
+use Rattle.dr_outcome.specs.{Last.last_of, Outcome.{AreAllLate, IsMemoryRun}}
+use Rattle.dr_script.specs.{Reading.{Reading, reading_of}, declared.script.Script.Script}
 use Rattle.dr_text.specs.declared.last.Last.{Last}
-use Rattle.dr_tools.specs.declared.summary.words.Asked.{Asked}
-use Rattle.dr_tools.specs.Object.{summary_by}
-use Rattle.dr_tools.specs.SummaryWords.{asked_of}
+use Rattle.dr_tools.specs.{Object.summary_by, SummaryWords.asked_of, declared.summary.words.Asked.Asked}
 
 -- how it is called
 abbrev pub summary_usage : List ℕ

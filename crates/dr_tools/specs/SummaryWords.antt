@@ -1,9 +1,7 @@
 -- What the words of a call ask for.
 use Rattle.std.specs.Prelude.{ℕ, if◌then◌else◌, List, [], ◌∷◌, codes, bytes_eq, Option, option_map}
 use Rattle.dr_literals.specs.Options.{late_named}
-use Rattle.dr_tools.specs.declared.summary.words.Asked.{Asked}
-use Rattle.dr_tools.specs.declared.summary.words.Wording.{Wording}
-use Rattle.dr_tools.specs.declared.summary.words.Wording.TheVariants.{People, Programs}
+use Rattle.dr_tools.specs.declared.summary.words.{Asked.Asked, Wording.{Wording, TheVariants.{People, Programs}}}
 
 -- the wording that the words begin with, and the words behind it
 abbrev pub wording_at : List (List ℕ) → Wording × List (List ℕ)

@@ -4,23 +4,13 @@ use Rattle.std.specs.declared.alloc.Global.{Global}
 use Rattle.dr_ages.specs.Ages.{all_with}
 use Rattle.dr_intake.specs.Answer.{IsCallAnswer, Said, SaysOf, ToldBy}
 use Rattle.dr_outcome.specs.Outcome.{AreAllLate}
-use Rattle.dr_script.specs.declared.script.Fault.{Fault}
-use Rattle.dr_script.specs.declared.script.Script.{Script}
-use Rattle.dr_script.specs.Reading.{Reading, reading_of}
+use Rattle.dr_script.specs.{Reading.{Reading, reading_of}, declared.script.{Fault.Fault, Script.Script}}
 use Rattle.dr_text.specs.declared.last.Last.TheVariants as lasts
 use Rattle.dr_text.specs.Report.{last_text}
-use Rattle.dr_tools.specs.declared.sweeps.rows.Row.{Row}
-use Rattle.dr_tools.specs.declared.sweeps.variants.Variants.{Variants}
-use Rattle.dr_tools.specs.declared.sweeps.variants.Variants.TheVariants.{Crashes, Seeded}
-use Rattle.dr_tools.specs.declared.sweeps.words.Runs.{Runs}
-use Rattle.dr_tools.specs.declared.sweeps.words.Runs.TheVariants.{ByCrashes, BySeeds}
-use Rattle.dr_tools.specs.declared.sweeps.words.Task.{Task}
-use Rattle.dr_tools.specs.Crashes.{AreCrashes}
-use Rattle.dr_tools.specs.OutcomeForms.{is_outcome}
-use Rattle.dr_tools.specs.Rows.{IsTally, rows_text}
-use Rattle.dr_tools.specs.Shrinking.{IsShrunk, NoneEndsSo}
-use Rattle.dr_tools.specs.SweepWords.{task_in}
-use Rattle.dr_tools.specs.Variants.{first_variant, variant, variants_in}
+use Rattle.dr_tools.specs.{Crashes.AreCrashes, OutcomeForms.is_outcome, Rows.{IsTally, rows_text}, SweepWords.task_in}
+use Rattle.dr_tools.specs.{Shrinking.{IsShrunk, NoneEndsSo}, Variants.{first_variant, variant, variants_in}}
+use Rattle.dr_tools.specs.declared.sweeps.{rows.Row.Row, variants.Variants.{Variants, TheVariants.{Crashes, Seeded}}}
+use Rattle.dr_tools.specs.declared.sweeps.words.{Runs.{Runs, TheVariants.{ByCrashes, BySeeds}}, Task.Task}
 
 -- the text is the table of the runs of these variants of a script in which these members are late
 pub record IsSweep (variants : Variants) (late : ℕ) (script : Script) (text : List ℕ) : Type 0 where

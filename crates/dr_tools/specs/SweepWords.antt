@@ -1,14 +1,10 @@
 -- What the words of a call ask for.
-use Rattle.std.specs.Prelude.{⊤, ℕ, ◌+◌, ◌<◌, ◌^◌, nat_lt, if◌then◌else◌, List, ◌∷◌, ◌++◌, codes, Option, None, Some, option_map}
 use Rattle.std.specs.Option.{option_and_then}
-use Rattle.dr_literals.specs.Literals.{number_word}
-use Rattle.dr_literals.specs.Options.{late_named, option_of}
+use Rattle.std.specs.Prelude.{⊤, ℕ, ◌+◌, ◌<◌, ◌^◌, nat_lt, if◌then◌else◌, List, ◌∷◌, ◌++◌, codes, Option, None, Some, option_map}
+use Rattle.dr_literals.specs.{Literals.number_word, Options.{late_named, option_of}}
 use Rattle.dr_entry.specs.declared.limits.TheConstants.{MAX_MEMBERS}
-use Rattle.dr_tools.specs.declared.sweeps.words.Runs.{Runs}
-use Rattle.dr_tools.specs.declared.sweeps.words.Runs.TheVariants.{ByCrashes, BySeeds}
-use Rattle.dr_tools.specs.declared.sweeps.words.Seeds.{Seeds}
-use Rattle.dr_tools.specs.declared.sweeps.words.Task.{Task}
-use Rattle.dr_tools.specs.OutcomeForms.{without_blanks}
+use Rattle.dr_tools.specs.{OutcomeForms.without_blanks, declared.sweeps.words.Runs.Runs}
+use Rattle.dr_tools.specs.declared.sweeps.words.{Runs.TheVariants.{ByCrashes, BySeeds}, Seeds.Seeds, Task.Task}
 
 -- so many seeds from this one on, where the one behind them is still of 64 bits
 abbrev pub seeds_of : Option ℕ → Option ℕ → Option Seeds

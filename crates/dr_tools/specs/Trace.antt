@@ -1,31 +1,18 @@
 -- What is told of a run, and what a call comes to.
+use Rattle.std.specs.{Option.option_map_or, declared.alloc.Global.Global}
 use Rattle.std.specs.Prelude.{◌≡◌, ◌⊎◌, ⊤, ℕ, true, MatchOption, ◌+◌, List, [], ◌∷◌, ◌++◌, length, codes, Option, String}
-use Rattle.std.specs.Option.{option_map_or}
-use Rattle.std.specs.declared.alloc.Global.{Global}
-use Rattle.dr_ages.specs.declared.mode.Mode.TheVariants.{Sim}
+use Rattle.dr_ages.specs.{Ages.{all_with, start_of}, declared.{mode.Mode.TheVariants.Sim, part.Part.Part}}
 use Rattle.dr_ages.specs.declared.stop.Stop.{Stop}
-use Rattle.dr_ages.specs.declared.part.Part.{Part}
-use Rattle.dr_ages.specs.Ages.{all_with, start_of}
 use Rattle.dr_entry.specs.declared.end.AgeEnd.{AgeEnd}
 use Rattle.dr_intake.specs.Answer as intake
-use Rattle.dr_intake.specs.Answer.{IsLine, Said}
-use Rattle.dr_intake.specs.Reading.{refusal_in}
-use Rattle.dr_intake.specs.Status.{WroteText, status_of}
-use Rattle.dr_outcome.specs.Last.{last_of}
-use Rattle.dr_outcome.specs.Outcome.{AreAllLate, IsMemoryRun}
-use Rattle.dr_program.specs.Presence.{present_at}
-use Rattle.dr_program.specs.Program.{Move, Program, step_of}
-use Rattle.dr_program.specs.Running.{Running}
-use Rattle.dr_script.specs.declared.script.Script.{Script}
-use Rattle.dr_script.specs.Reading.{Reading, Reads, reading_of}
+use Rattle.dr_intake.specs.{Answer.{IsLine, Said}, Reading.refusal_in, Status.{WroteText, status_of}}
+use Rattle.dr_outcome.specs.{Last.last_of, Outcome.{AreAllLate, IsMemoryRun}}
+use Rattle.dr_program.specs.{Presence.present_at, Program.{Move, Program, step_of}, Running.Running}
+use Rattle.dr_script.specs.{Reading.{Reading, Reads, reading_of}, declared.script.Script.Script}
 use Rattle.dr_seeing.specs.Lines.{age_line, line_of}
 use Rattle.dr_sim.specs.Simulated.{IsSimulated}
-use Rattle.dr_text.specs.declared.last.Last.{Last}
-use Rattle.dr_text.specs.Report.{last_text}
-use Rattle.dr_text.specs.Writing.{WroteFront}
-use Rattle.dr_tools.specs.TraceWords.{asked_by}
-use Rattle.dr_tools.specs.declared.tracing.words.Asked.{Asked}
-use Rattle.dr_tools.specs.declared.tracing.words.Form.{Form}
+use Rattle.dr_text.specs.{Report.last_text, Writing.WroteFront, declared.last.Last.Last}
+use Rattle.dr_tools.specs.{TraceWords.asked_by, declared.tracing.words.{Asked.Asked, Form.Form}}
 use Rattle.dr_tools.specs.declared.tracing.words.Form.TheVariants.{Chart, Lines, Picture}
 
 -- the line of the next deed of a member

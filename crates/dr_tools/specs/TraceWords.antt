@@ -1,11 +1,8 @@
 -- What the words of a call ask for.
 use Rattle.std.specs.Prelude.{ℕ, if◌then◌else◌, List, [], ◌∷◌, map, codes, bytes_eq, Option, None, Some, option_map, String, string_bytes}
 use Rattle.std.specs.declared.alloc.Global.{Global}
-use Rattle.dr_literals.specs.Literals.{number_word}
-use Rattle.dr_literals.specs.Options.{late_named}
-use Rattle.dr_tools.specs.declared.tracing.words.Asked.{Asked}
-use Rattle.dr_tools.specs.declared.tracing.words.Form.{Form}
-use Rattle.dr_tools.specs.declared.tracing.words.Form.TheVariants.{Chart, Lines, Picture}
+use Rattle.dr_literals.specs.{Literals.number_word, Options.late_named}
+use Rattle.dr_tools.specs.declared.tracing.words.{Asked.Asked, Form.{Form, TheVariants.{Chart, Lines, Picture}}}
 
 -- a picture of the turns from one to another, which words write in decimal
 abbrev pub picture_of : Option ℕ → Option ℕ → Option Form

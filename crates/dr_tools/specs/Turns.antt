@@ -1,15 +1,10 @@
 -- How many turns a group takes in lockstep without faults.
-use Rattle.std.specs.Prelude.{◌≡◌, ℕ, ◌-◌, ◌<◌, Bool, true, false, []}
-use Rattle.std.specs.List.{list_all}
-use Rattle.dr_age.specs.Logged.{NoneStopped}
-use Rattle.dr_entry.specs.declared.end.AgeEnd.{AgeEnd}
-use Rattle.dr_entry.specs.declared.end.End.{End}
-use Rattle.dr_entry.specs.declared.end.End.TheVariants.{Done}
-use Rattle.dr_entry.specs.declared.end.MemberEnd.{MemberEnd}
+use Rattle.std.specs.{List.list_all, Prelude.{◌≡◌, ℕ, ◌-◌, ◌<◌, Bool, true, false, []}}
+use Rattle.dr_play.specs.Logged.{NoneStopped}
+use Rattle.dr_entry.specs.declared.end.{AgeEnd.AgeEnd, End.{End, TheVariants.Done}, MemberEnd.MemberEnd}
 use Rattle.dr_program.specs.Program.{Program}
 use Rattle.dr_restart.specs.Groups.{first_start_of}
-use Rattle.dr_script.specs.declared.script.Schedule.TheVariants.{Lockstep}
-use Rattle.dr_script.specs.declared.script.Script.{Script}
+use Rattle.dr_script.specs.declared.script.{Schedule.TheVariants.Lockstep, Script.Script}
 use Rattle.dr_sim.specs.Simulated.{IsSimulated}
 
 -- the script with so many turns

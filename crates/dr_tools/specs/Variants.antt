@@ -1,11 +1,8 @@
 -- The scripts of a sweep's runs.
 use Rattle.std.specs.Prelude.{ℕ, zero, suc, ◌+◌, ◌<◌, ◌^◌, All, List, [], ◌∷◌, ◌++◌, length}
-use Rattle.dr_script.specs.declared.script.Fault.{Fault}
-use Rattle.dr_script.specs.declared.script.Schedule.TheVariants.{Seed}
+use Rattle.dr_script.specs.{Ranges.HasFaultRanges, declared.script.{Fault.Fault, Schedule.TheVariants.Seed}}
 use Rattle.dr_script.specs.declared.script.Script.{Script}
-use Rattle.dr_script.specs.Ranges.{HasFaultRanges}
-use Rattle.dr_tools.specs.declared.sweeps.variants.Variants.{Variants}
-use Rattle.dr_tools.specs.declared.sweeps.variants.Variants.TheVariants.{Crashes, Seeded}
+use Rattle.dr_tools.specs.declared.sweeps.variants.Variants.{Variants, TheVariants.{Crashes, Seeded}}
 
 -- the script by this seed, in place of its own schedule
 abbrev pub by_seed : Script → ℕ → Script

@@ -1,29 +1,21 @@
 -- Each deed of a running member is done once and for all: it has fewer left then.
-use Rattle.std.proofs.Common.{◌≡◌, refl, sym, ap, ◌∙◌, subst, ℕ, zero, suc, ◌+◌, ◌-◌, ◌*◌, ◌^◌, ◌<◌, ◌≤◌, ◌&&◌, ◌||◌, inl, inr, not, Bool, true, false, nat_lt, length, le_trans, suc-le-suc, arith}
 use Rattle.std.specs.Prelude.{Option, Some, None, is_some, drop, slice_index_or}
-use Rattle.std.proofs.Math.Nat.{min-eq_left, min-le_left}
-use Rattle.std.proofs.lemmas.Bool.{and_parts}
-use Rattle.std.proofs.lemmas.Bool.Decides.{nat_tests}
+use Rattle.std.proofs.Common.{◌≡◌, refl, sym, ap, ◌∙◌, subst, ℕ, zero, suc, ◌+◌, ◌-◌, ◌*◌, ◌^◌, ◌<◌, ◌≤◌, ◌&&◌, ◌||◌, inl, inr, not, Bool, true, false, nat_lt, length, le_trans, suc-le-suc, arith}
+use Rattle.std.proofs.{Math.Nat.{min-eq_left, min-le_left}, lemmas.Bool.{and_parts, Decides.nat_tests}}
 use Rattle.dr_entry.specs.declared.end.End.{End}
 use Rattle.dr_words.specs.Columns.{columns_of}
-use Rattle.dr_machine.specs.declared.step.Step.{Step}
-use Rattle.dr_program.specs.declared.place.Part.{Part}
-use Rattle.dr_program.specs.declared.place.Part.TheVariants as parts
-use Rattle.dr_program.specs.declared.place.Place.{Place}
-use Rattle.dr_program.specs.declared.place.TheConstants.{TURN}
-use Rattle.dr_machine.specs.Effects.{one_more}
-use Rattle.dr_program.specs.Turn.{after, is_beat, IsIn, part_of, places_in, rows_in, columns_in, turn_begins}
-use Rattle.dr_history.specs.Members.{has}
-use Rattle.dr_program.specs.Replica.{Replica, is_inside, value_due}
-use Rattle.dr_rows.specs.Words.{is_frozen}
-use Rattle.dr_program.specs.Steps.{AtLook, NoWordFell, allows, has_cell, stepped}
+use Rattle.dr_machine.specs.{Effects.one_more, declared.step.Step.Step}
+use Rattle.dr_program.specs.{Form.{HasForm, IsOf, IsRunningMember}, Replica.{Replica, is_inside, value_due}}
 use Rattle.dr_program.specs.Running.{Running, members, columns, asks, waits_after, settled, goes, pushes_after, took, next_step, after_step, WaitsAt}
-use Rattle.dr_program.specs.Form.{HasForm, IsOf, IsRunningMember}
-use Rattle.dr_program.proofs.Fixed.{Told, step_told, of_told}
+use Rattle.dr_program.specs.{Steps.{AtLook, NoWordFell, allows, has_cell, stepped}, declared.place.TheConstants.TURN}
+use Rattle.dr_program.specs.Turn.{after, is_beat, IsIn, part_of, places_in, rows_in, columns_in, turn_begins}
+use Rattle.dr_program.{specs.declared.place.{Part.Part, Place.Place}, proofs.Fixed.{Told, step_told, of_told}}
+use Rattle.dr_program.specs.declared.place.Part.TheVariants as parts
+use Rattle.dr_history.specs.Members.{has}
+use Rattle.dr_rows.specs.Words.{is_frozen}
 use Rattle.dr_program.proofs.Fixed as fixed
-use Rattle.dr_turn.specs.Search.{left, IsUnderway}
+use Rattle.dr_turn.{specs.Search.{left, IsUnderway}, proofs.Fewer.{fewer_here, fewer_turns}}
 use Rattle.dr_turn.specs.Work.{work, deeds_of, left_to, may_fail, deeds_left, HasGrownTo, IsAfterDeed}
-use Rattle.dr_turn.proofs.Fewer.{fewer_here, fewer_turns}
 use Rattle.dr_turn.proofs.Order.{after_beat, after_in, all_below, beat_last, each_below, ends_in, from_part, implied, is_take, left_falls, left_small, left_some, left_take}
 use Rattle.dr_turn.proofs.Parts.{Going, Lowers, acts_on, due_at, end_comes, end_stays, going, is_final, is_publish, is_vote, lowers, none_waits, pending_gone, pending_stays, publish_size, turns_stay, vote_waits, waits_keep}
 use Rattle.dr_turn.proofs.Search.{beat_test, part_before, settle_less, settle_only, settled_running, settled_underway, some_column, some_member}
@@ -46,9 +38,8 @@ over : (r x : Running) → r.replica.end ≡ None → IsUnderway r → is_some x
 over r x none u ends = by x.replica.end refl ends
   where
     some : 0 < left_to r None
-    some = some_deed (r.limit - r.replica.turns) (places_in (members r) (columns r) TURN)
-        (left (members r) (columns r) r.place) (work r.replica) (may_fail r.failed)
-        (left_some (members r) (columns r) r.place u.place)
+    some = some_deed (r.limit - r.replica.turns) (places_in (members r) (columns r) TURN) (left (members r)
+        (columns r) r.place) (work r.replica) (may_fail r.failed) (left_some (members r) (columns r) r.place u.place)
 
     by : (o : Option End) → x.replica.end ≡ o → is_some o ≡ true → deeds_left x < deeds_left r
     by None e is = absurd (cc)
@@ -82,16 +73,13 @@ is_append part = false
 append_test : (part : Part) → is_append part ≡ true → part ≡ parts.Append
 append_test part e = grind (arith, e)
 
-append_before : (i : ℕ) → i < length TURN → is_publish (slice_index_or TURN i turn_begins)
-    ≡ true
+append_before : (i : ℕ) → i < length TURN → is_publish (slice_index_or TURN i turn_begins) ≡ true
     → (1 ≤ i) × (slice_index_or TURN (i - 1) turn_begins ≡ parts.Append)
 unfolding all_below
 append_before i l e =
-    let test = each_below (length TURN) i
-    (λ j. not (is_publish (slice_index_or TURN j turn_begins))
+    let test = each_below (length TURN) i (λ j. not (is_publish (slice_index_or TURN j turn_begins))
     || (nat_lt 0 j && is_append (slice_index_or TURN (j - 1) turn_begins))) refl l in
-    let both = and_parts (nat_lt 0 i) (is_append (slice_index_or TURN (i - 1) turn_begins))
-    (implied _ _ test e) in
+    let both = and_parts (nat_lt 0 i) (is_append (slice_index_or TURN (i - 1) turn_begins)) (implied _ _ test e) in
     (grind (arith, nat_tests, both.0), append_test _ both.1)
 
 -- a place of publishing, and that before it
@@ -142,8 +130,7 @@ back n k p inside is =
 -- a member that publishes is at such a place
 publishing_at : (word : ℕ) (r : Running) (part : Part) → IsDue word r part → is_publish part ≡ true
     → IsPublishing (members r) (columns r) r.place
-publishing_at word r part d is =
-    publishing (members r) (columns r) r.place d.underway.place (ap is_publish d.at ∙ is)
+publishing_at word r part d is = publishing (members r) (columns r) r.place d.underway.place (ap is_publish d.at ∙ is)
 
 -- the member stands in its turn
 goes_in : (word : ℕ) (r : Running) (part : Part) → IsDue word r part
@@ -151,8 +138,7 @@ goes_in : (word : ℕ) (r : Running) (part : Part) → IsDue word r part
 goes_in word r part d = by (going r part)
   where
     by : Going r part → IsIn (members r) (columns r) (goes (members r) (columns r) part r.place)
-    by (inl on) =
-        rw on (after_in _ _ r.place (some_member r d.underway.replica) (some_column r) d.underway.place)
+    by (inl on) = rw on (after_in _ _ r.place (some_member r d.underway.replica) (some_column r) d.underway.place)
     by (inr (inl went)) = let at = publishing_at word r part d went.0 in
         rw went.1 (record {
           part = omega (arith, d.underway.place.part);
@@ -182,20 +168,14 @@ turns_keep word r part d = by (is_beat part) refl
 
 -- before a turn one more is left
 left_behind : (r : Running) → IsUnderway r → is_beat (part_of r.place) ≡ false
-    → part_of (after (members r) (columns r) r.place) ≡ turn_begins → part_of r.place
-    ≡ parts.Spent
-left_behind r u other begins =
-    after_beat (members r) (columns r) r.place
+    → part_of (after (members r) (columns r) r.place) ≡ turn_begins → part_of r.place ≡ parts.Spent
+left_behind r u other begins = after_beat (members r) (columns r) r.place
     (after_in _ _ r.place (some_member r u.replica) (some_column r) u.place) other (ap is_beat begins)
 
 -- a turn begins at the last place
 pub beat_place : (r : Running) → IsUnderway r → part_of r.place ≡ turn_begins → r.place
     ≡ record { part = length TURN - 1; row = 0; column = 0 }
-beat_place r u at = λ z. record {
-  part = last z;
-  row = none r.place.row row z;
-  column = none r.place.column column z;
-}
+beat_place r u at = λ z. record { part = last z; row = none r.place.row row z; column = none r.place.column column z }
   where
     row : r.place.row < 1
     row = subst (λ x. r.place.row < rows_in (members r) x) at u.place.row
@@ -214,8 +194,7 @@ pub first_part : (r : Running) → IsUnderway r → part_of r.place ≡ turn_beg
     → part_of (after (members r) (columns r) r.place) ≡ parts.Take
 first_part r u at = ap (λ (p : Place). part_of (after (members r) (columns r) p)) (beat_place r u at)
 
-unturned : (word : ℕ) (r : Running) (part : Part) → IsDue word r part
-    → (does_at word r part).replica.end ≡ None
+unturned : (word : ℕ) (r : Running) (part : Part) → IsDue word r part → (does_at word r part).replica.end ≡ None
     → part_of (goes (members r) (columns r) part r.place) ≡ turn_begins
     → (does_at word r part).replica.turns < r.limit
 unturned word r part d none begins = absurd (by (is_beat part) refl (going r part))
@@ -240,8 +219,7 @@ pub left_shaped : (r x : Running) → fixed.told x.replica ≡ fixed.told r.repl
     (left (members r) (columns r) x.place) (work x.replica) + may_fail x.failed
 left_shaped r x same =
     let roster : members x ≡ members r = ap (λ (t : Told). t.roster) same in
-    let window : x.replica.window ≡ r.replica.window = ap (λ (t : Told). t.window) same in
-    rw (roster, window) refl
+    let window : x.replica.window ≡ r.replica.window = ap (λ (t : Told). t.window) same in rw (roster, window) refl
 
 -- a beat leaves a turn less
 fewer_beat : (word : ℕ) (r : Running) → r.limit < 2 ^ 32 → IsDue word r turn_begins
@@ -250,21 +228,18 @@ fewer_beat : (word : ℕ) (r : Running) → r.limit < 2 ^ 32 → IsDue word r tu
 fewer_beat word r fits d less = let l = d.underway.left d.none d.at in
     lower r (does_at word r turn_begins) d.none refl
     (fewer_turns (r.limit - r.replica.turns) (r.limit - one_more 32 r.replica.turns)
-    (places_in (members r) (columns r) TURN) _ _ _ _ _
-    (omega (arith, one_turn r.replica.turns r.limit l fits, l))
+    (places_in (members r) (columns r) TURN) _ _ _ _ _ (omega (arith, one_turn r.replica.turns r.limit l fits, l))
     (left_small (members r) (columns r) (goes (members r) (columns r) turn_begins r.place)
     (goes_in word r turn_begins d)) less)
 
 -- another step that is no end leaves fewer places and less work together
 fewer_amid : (word : ℕ) (r : Running) (part : Part) → IsDue word r part → is_beat part ≡ false
-    → is_final (due_at r part) ≡ false
-    → Lowers (due_at r part) (work r.replica) (work (does_at word r part).replica)
+    → is_final (due_at r part) ≡ false → Lowers (due_at r part) (work r.replica) (work (does_at word r part).replica)
     → left (members r) (columns r) (does_at word r part).place + work (does_at word r part).replica
     < left (members r) (columns r) r.place + work r.replica
 fewer_amid word r part d amid other less = by (going r part)
   where
-    by : Going r part
-        → left (members r) (columns r) (does_at word r part).place + work (does_at word r part).replica
+    by : Going r part → left (members r) (columns r) (does_at word r part).place + work (does_at word r part).replica
         < left (members r) (columns r) r.place + work r.replica
     by (inl on) = rw on (omega (
       arith,
@@ -294,17 +269,14 @@ fewer word r part fits d less = by (is_final (due_at r part)) (is_beat part) ref
         → deeds_left (does_at word r part) < deeds_left r
     by true beat ends e =
         over r (does_at word r part) d.none d.underway (end_comes word r.replica (due_at r part) ends)
-    by false true other e =
-        subst (λ x. IsDue word r x → work (does_at word r x).replica ≤ work r.replica
-        → deeds_left (does_at word r x) < deeds_left r) (sym (beat_test part e)) (fewer_beat word r fits) d
-        (omega (arith, less))
-    by false false other amid =
-        lower r (does_at word r part) d.none (end_stays word r.replica (due_at r part) other)
+    by false true other e = subst (λ x. IsDue word r x → work (does_at word r x).replica ≤ work r.replica
+        → deeds_left (does_at word r x) < deeds_left r)
+        (sym (beat_test part e)) (fewer_beat word r fits) d (omega (arith, less))
+    by false false other amid = lower r (does_at word r part) d.none (end_stays word r.replica (due_at r part) other)
         (rw (
           left_shaped r (does_at word r part) (step_told word r.replica (due_at r part)),
           turns_stay word r part amid,
-        )
-        (fewer_here (r.limit - r.replica.turns) _ _ _ _ _ _ (fewer_amid word r part d amid other less)))
+        ) (fewer_here (r.limit - r.replica.turns) _ _ _ _ _ _ (fewer_amid word r part d amid other less)))
 
 -- ---- every deed
 
@@ -312,12 +284,10 @@ fewer word r part fits d less = by (is_final (due_at r part)) (is_beat part) ref
 place_in : (word : ℕ) (r : Running) (part : Part) → IsDue word r part → (q : Replica)
     → fixed.told q ≡ fixed.told r.replica → IsIn q.roster (columns_of q.roster q.window)
     (goes (members r) (columns r) part r.place)
-place_in word r part d q f =
-    subst (λ (w : ℕ). IsIn q.roster (columns_of q.roster w) (goes (members r) (columns r) part r.place))
-    (sym (ap (λ (t : Told). t.window) f))
-    (subst (λ (n : ℕ). IsIn n (columns_of n r.replica.window)
-    (goes (members r) (columns r) part r.place)) (sym (ap (λ (t : Told). t.roster) f))
-    (goes_in word r part d))
+place_in word r part d q f = subst (λ (w : ℕ). IsIn q.roster
+    (columns_of q.roster w) (goes (members r) (columns r) part r.place)) (sym (ap (λ (t : Told). t.window) f))
+    (subst (λ (n : ℕ). IsIn n (columns_of n r.replica.window) (goes (members r) (columns r) part r.place))
+    (sym (ap (λ (t : Told). t.roster) f)) (goes_in word r part d))
 
 -- behind any other deed than a vote none waits
 none_after : (word : ℕ) (r : Running) (part : Part) → is_vote part ≡ false → IsDue word r part
@@ -326,8 +296,7 @@ none_after word r part other d = by (acts_on part) refl
   where
     by : (b : Bool) → acts_on part ≡ b → (does_at word r part).replica.pending ≡ None
     by true acts = pending_gone word r part acts
-    by false acts =
-        pending_stays word r part other acts ∙ none_waits r part d.at acts d.underway.free
+    by false acts = pending_stays word r part other acts ∙ none_waits r part d.at acts d.underway.free
 
 -- and behind a vote it is acted on
 free_after : (word : ℕ) (r : Running) (part : Part) → IsDue word r part
@@ -340,8 +309,7 @@ free_after word r part d = inl (none_after word r part refl d)
 goes_on : (word : ℕ) (r : Running) (part : Part) → IsDue word r part → IsUnderway (does_at word r part)
 goes_on word r part d = record {
   replica = d.form;
-  place = place_in word r part d (does_at word r part).replica
-      (step_told word r.replica (due_at r part));
+  place = place_in word r part d (does_at word r part).replica (step_told word r.replica (due_at r part));
   turns = turns_keep word r part d;
   waits = waits_keep word r (due_at r part) d.underway.waits;
   free = free_after word r part d;
@@ -350,16 +318,12 @@ goes_on word r part d = record {
 
 does : (word : ℕ) (r : Running) (part : Part) → r.limit < 2 ^ 32 → IsDue word r part
     → HasGrownTo r (does_at word r part) → IsAfterDeed r (does_at word r part)
-does word r part fits d grown =
-    record {
-      underway = goes_on word r part d;
-      grown = grown;
-      fewer = fewer word r part fits d
-          (lowers word r.replica (due_at r part) d.underway.replica d.allowed
-          d.form grown);
-      still = λ g m. of_told g m r.replica (does_at word r part).replica
-          (step_told word r.replica (due_at r part));
-    }
+does word r part fits d grown = record {
+  underway = goes_on word r part d;
+  grown = grown;
+  fewer = fewer word r part fits d (lowers word r.replica (due_at r part) d.underway.replica d.allowed d.form grown);
+  still = λ g m. of_told g m r.replica (does_at word r part).replica (step_told word r.replica (due_at r part));
+}
 
 -- the search keeps what a deed has done
 pub settled_done : (r y : Running) → IsAfterDeed r y → IsAfterDeed r (settled y)
@@ -391,16 +355,13 @@ deeds_keep_form word r m none form =
     settled_running _ (goes_on word r (part_of r.place) (deed_due word r m none form))
 
 -- a deed is done after which the replica has its form and no word has fallen
-pub deed_done : (word : ℕ) (r : Running) → IsRunningMember r → r.limit < 2 ^ 32 → r.replica.end
-    ≡ None
+pub deed_done : (word : ℕ) (r : Running) → IsRunningMember r → r.limit < 2 ^ 32 → r.replica.end ≡ None
     → HasForm (took word r (next_step r)).replica → HasGrownTo r (took word r (next_step r))
     → IsAfterDeed r (took word r (next_step r))
-deed_done word r m fits none form grown =
-    does word r (part_of r.place) fits (deed_due word r m none form) grown
+deed_done word r m fits none form grown = does word r (part_of r.place) fits (deed_due word r m none form) grown
 
 -- after such a deed the member is a running member, and the deed is done
-pub deeds_keep : (word : ℕ) (r : Running) → IsRunningMember r → r.limit < 2 ^ 32 → r.replica.end
-    ≡ None
+pub deeds_keep : (word : ℕ) (r : Running) → IsRunningMember r → r.limit < 2 ^ 32 → r.replica.end ≡ None
     → HasForm (took word r (next_step r)).replica → HasGrownTo r (took word r (next_step r))
     → IsRunningMember (after_step word r) × IsAfterDeed r (after_step word r)
 deeds_keep word r m fits none form grown =
@@ -410,9 +371,8 @@ deeds_keep word r m fits none form grown =
 pub unfrozen_read : (r : Running) → IsRunningMember r → r.replica.end ≡ None
     → AtLook (next_step r) (λ i c. is_frozen r.replica.rows i ≡ false)
 unfrozen_read r m none = λ i c look.
-    let may : allows r.replica (next_step r) ≡ true =
-    (and_parts (asks r (part_of r.place) r.place.row r.place.column) (allows r.replica (next_step r))
-    (m.due none)).1 in
+    let may : allows r.replica (next_step r) ≡ true = (and_parts (asks r (part_of r.place) r.place.row r.place.column)
+    (allows r.replica (next_step r)) (m.due none)).1 in
     let test = and_parts (is_inside r.replica) (not (has r.replica.suspects i) && has_cell r.replica i c)
     (subst (λ (s : Step). allows r.replica s ≡ true) look may) in
     let other = and_parts (not (has r.replica.suspects i)) (has_cell r.replica i c) test.1 in

@@ -1,20 +1,12 @@
 -- An append that fails is done once: the member stays where it is, and what is due there then is its end.
-use Rattle.std.proofs.Common.{◌≡◌, refl, ap, ℕ, ◌<◌, Bool, true, false, arith}
-use Rattle.std.specs.Prelude.{Option, Some, None}
+use Rattle.std.{specs.Prelude.{Option, Some, None}, proofs.Common.{◌≡◌, refl, ap, ℕ, ◌<◌, Bool, true, false, arith}}
 use Rattle.dr_words.proofs.Order.{Grown_refl}
-use Rattle.dr_program.specs.declared.outcome.LogWhy.{LogWhy}
-use Rattle.dr_program.specs.declared.outcome.LogWhy.TheVariants as whys
-use Rattle.dr_program.specs.declared.place.Part.{Part}
-use Rattle.dr_program.specs.declared.place.Part.TheVariants as parts
-use Rattle.dr_program.specs.Replica.{is_fault, value_due}
-use Rattle.dr_program.specs.Steps.{IsAppend}
-use Rattle.dr_program.specs.Turn.{part_of}
+use Rattle.dr_program.{specs.{Form.IsRunningMember, Steps.IsAppend, Turn.part_of}, proofs.StepsAt.push_either}
+use Rattle.dr_program.specs.{Replica.{is_fault, value_due}, declared.{outcome.LogWhy.LogWhy, place.Part.Part}}
 use Rattle.dr_program.specs.Running.{Running, append_or_end, broken_off, crashes_now, end_by, next_step, step_at, vote_or_end}
-use Rattle.dr_program.specs.Form.{IsRunningMember}
-use Rattle.dr_program.proofs.StepsAt.{push_either}
-use Rattle.dr_turn.specs.Work.{IsAfterDeed, left_to, may_fail}
-use Rattle.dr_turn.proofs.Deeds.{lower}
-use Rattle.dr_turn.proofs.Search.{applies_at}
+use Rattle.dr_program.specs.declared.outcome.LogWhy.TheVariants as whys
+use Rattle.dr_program.specs.declared.place.Part.TheVariants as parts
+use Rattle.dr_turn.{specs.Work.{IsAfterDeed, left_to, may_fail}, proofs.{Deeds.lower, Search.applies_at}}
 
 -- the parts of appends
 abbrev appends : Part → Bool
@@ -35,8 +27,7 @@ append_at r parts.Vote i c e = (refl, by r.failed refl e)
     by : (o : Option LogWhy) → r.failed ≡ o → IsAppend (vote_or_end o (value_due r.replica)) → r.failed ≡ None
     by None same e = same
     by (Some why) same e = absurd e
-append_at r parts.Push i c e =
-    absurd (push_either (λ s. IsAppend s → ⊥) (crashes_now r) i c (λ x. x) (λ x. x) e)
+append_at r parts.Push i c e = absurd (push_either (λ s. IsAppend s → ⊥) (crashes_now r) i c (λ x. x) (λ x. x) e)
 append_at r part i c e = absurd e
 
 -- a member may end by a fault of its log at any time

@@ -1,10 +1,7 @@
 -- Each deed of a running member lowers the number of deeds that are left to it.
-use Rattle.std.proofs.Common.{ℕ, inl, inr, zero, suc, ◌+◌, ◌-◌, ◌<◌, ◌≤◌, List, [], ◌∷◌, length, slice_index, slice_set, sum_by, le_refl, arith}
 use Rattle.std.specs.Prelude.{⊤, slice_index_or}
-use Rattle.std.proofs.lemmas.Bool.{cases_lt}
-use Rattle.std.proofs.lemmas.List.{set_past}
-use Rattle.std.proofs.lemmas.Nat.{mul-add-lt}
-use Rattle.std.proofs.lemmas.List.Sums.{sum_by-set}
+use Rattle.std.proofs.Common.{ℕ, inl, inr, zero, suc, ◌+◌, ◌-◌, ◌<◌, ◌≤◌, List, [], ◌∷◌, length, slice_index, slice_set, sum_by, le_refl, arith}
+use Rattle.std.proofs.lemmas.{Bool.cases_lt, List.{set_past, Sums.sum_by-set}, Nat.mul-add-lt}
 use Rattle.dr_program.specs.Replica.{Replica}
 use Rattle.dr_turn.specs.Work.{deeds_of, sum_of}
 
@@ -16,16 +13,14 @@ NoneRises r q [] = ⊤
 NoneRises r q (task ∷ tasks) = (task q ≤ task r) × NoneRises r q tasks
 
 -- where no task rises, their sum doesn't
-pub sum_keeps : (r q : Replica) (tasks : List (Replica → ℕ)) → NoneRises r q tasks
-    → sum_of tasks q ≤ sum_of tasks r
+pub sum_keeps : (r q : Replica) (tasks : List (Replica → ℕ)) → NoneRises r q tasks → sum_of tasks q ≤ sum_of tasks r
 unfolding sum_of
 sum_keeps r q [] none = le_refl 0
 sum_keeps r q (task ∷ tasks) none = omega (arith, none.0, sum_keeps r q tasks none.1)
 
 -- where one of them is less by so much, the sum is
 pub sum_falls : (r q : Replica) (tasks : List (Replica → ℕ)) (i by : ℕ) (other : Replica → ℕ)
-    → NoneRises r q tasks → i < length tasks
-    → slice_index_or tasks i other q + by ≤ slice_index_or tasks i other r
+    → NoneRises r q tasks → i < length tasks → slice_index_or tasks i other q + by ≤ slice_index_or tasks i other r
     → sum_of tasks q + by ≤ sum_of tasks r
 unfolding sum_of
 sum_falls r q [] i by other none within less = absurd (omega arith)
@@ -35,20 +30,17 @@ sum_falls r q (task ∷ tasks) (suc i) by other none within less =
     omega (arith, none.0, sum_falls r q tasks i by other none.1 (omega arith) less)
 
 -- a count that rises lowers the sum of what is left up to the greatest
-pub items_less : (most : ℕ) (counts : List ℕ) (s : ℕ) → s < length counts → slice_index counts s
-    < most
+pub items_less : (most : ℕ) (counts : List ℕ) (s : ℕ) → s < length counts → slice_index counts s < most
     → sum_by (λ count. most - count) (slice_set counts s (slice_index counts s + 1)) < sum_by
     (λ count. most - count) counts
 items_less most counts s within below =
     omega (arith, sum_by-set (λ (count : ℕ). most - count) counts s (slice_index counts s + 1) 0 within)
 
 -- and it never raises that sum
-pub items_no_more : (most : ℕ) (counts : List ℕ) (s : ℕ)
-    → sum_by (λ count. most - count) (slice_set counts s (slice_index counts s + 1))
-    ≤ sum_by (λ count. most - count) counts
+pub items_no_more : (most : ℕ) (counts : List ℕ) (s : ℕ) → sum_by (λ count. most - count) (slice_set counts s
+    (slice_index counts s + 1)) ≤ sum_by (λ count. most - count) counts
 items_no_more most counts s = elim (cases_lt s (length counts)) [
-  | inl within ↦ omega
-      (arith, sum_by-set (λ (count : ℕ). most - count) counts s (slice_index counts s + 1) 0 within)
+  | inl within ↦ omega (arith, sum_by-set (λ (count : ℕ). most - count) counts s (slice_index counts s + 1) 0 within)
   | inr past ↦ rw (set_past counts s (slice_index counts s + 1) past) (le_refl _)
 ]
 
@@ -67,9 +59,8 @@ unfolding deeds_of
 no_more_here turns places here here' todo fails h = omega arith
 
 -- a turn fewer is worth all the places of one
-pub fewer_turns : (turns turns' places here' here todo todo' fails : ℕ) → turns' < turns
-    → here' ≤ places → todo' ≤ todo
-    → deeds_of turns' places here' todo' + fails < deeds_of turns places here todo + fails
+pub fewer_turns : (turns turns' places here' here todo todo' fails : ℕ) → turns' < turns → here' ≤ places
+    → todo' ≤ todo → deeds_of turns' places here' todo' + fails < deeds_of turns places here todo + fails
 unfolding deeds_of
 fewer_turns turns turns' places here' here todo todo' fails a b c =
     omega (arith, mul-add-lt turns' (places + 1) places turns a (omega arith))

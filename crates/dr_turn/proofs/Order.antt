@@ -1,15 +1,11 @@
 -- The order of a turn: each place but the last has more places left than the one after it.
-use Rattle.std.proofs.Common.{◌≡◌, ◌≢◌, refl, sym, ap, ℕ, zero, suc, ◌+◌, ◌-◌, ◌*◌, ◌<◌, ◌≤◌, ◌==◌, ◌&&◌, ◌||◌, not, inl, inr, Bool, true, false, if◌then◌else◌, nat_lt, List, [], ◌∷◌, length, drop, arith}
 use Rattle.std.specs.Prelude.{slice_index_or}
-use Rattle.std.proofs.lemmas.Nat.{mul-add-lt}
-use Rattle.std.proofs.lemmas.Bool.{and_parts, cases_eq}
-use Rattle.std.proofs.lemmas.Bool.Decides.{nat_tests}
-use Rattle.dr_program.specs.declared.place.Part.{Part}
-use Rattle.dr_program.specs.declared.place.Part.TheVariants as parts
-use Rattle.dr_program.specs.declared.place.Place.{Place}
-use Rattle.dr_program.specs.declared.place.TheConstants.{TURN}
+use Rattle.std.proofs.Common.{◌≡◌, ◌≢◌, refl, sym, ap, ℕ, zero, suc, ◌+◌, ◌-◌, ◌*◌, ◌<◌, ◌≤◌, ◌==◌, ◌&&◌, ◌||◌, not, inl, inr, Bool, true, false, if◌then◌else◌, nat_lt, List, [], ◌∷◌, length, drop, arith}
+use Rattle.std.proofs.lemmas.{Bool.{and_parts, cases_eq, Decides.nat_tests}, Nat.mul-add-lt}
 use Rattle.dr_program.specs.Turn.{after, columns_in, is_beat, IsIn, part_of, places_in, rows_in, turn_begins, turn_ends}
+use Rattle.dr_program.specs.declared.place.{Part.Part, Place.Place, TheConstants.TURN}
 use Rattle.dr_program.proofs.Parts.{is_give, give_to, is_append_part, begin, only_place, is_vote}
+use Rattle.dr_program.specs.declared.place.Part.TheVariants as parts
 use Rattle.dr_turn.specs.Search.{left}
 
 -- the places of a part
@@ -31,8 +27,7 @@ few_places n k (suc i) [] = omega arith
 few_places n k (suc i) (p ∷ ps) = omega (arith, few_places n k i ps)
 
 -- a place of a turn is one of its part's
-within : (rows columns row column : ℕ) → row < rows → column < columns
-    → row * columns + column < rows * columns
+within : (rows columns row column : ℕ) → row < rows → column < columns → row * columns + column < rows * columns
 within rows columns row column a b = omega (arith, mul-add-lt row columns column rows a b)
 
 -- a turn has enough places
@@ -52,11 +47,9 @@ left_some n k p is =
 
 falls : (n k : ℕ) (p : Place) (x y z : Bool) → nat_lt (p.column + 1) (columns_in k (part_of p)) ≡ x
     → nat_lt (p.row + 1) (rows_in n (part_of p)) ≡ y → nat_lt (p.part + 1) (length TURN) ≡ z
-    → IsIn n k p → p.part + 1 < length TURN
-    → left n k (if x then record p { column = p.column + 1 } else
+    → IsIn n k p → p.part + 1 < length TURN → left n k (if x then record p { column = p.column + 1 } else
     (if y then record p { row = p.row + 1; column = 0 } else record {
-      part =
-          if z then p.part + 1 else 0;
+      part = if z then p.part + 1 else 0;
       row = 0;
       column = 0;
     })) < left n k p
@@ -66,17 +59,15 @@ falls n k p true y z a b c is more =
 falls n k p false true z a b c is more =
     let columns = columns_in k (part_of p) in
     omega (arith, within (rows_in n (part_of p)) columns p.row p.column is.row is.column, is.column)
-falls n k p false false true a b c is more =
-    omega (
-      arith,
-      from_part n k (p.part + 1) (p.part + 1 + 1) TURN turn_begins (omega arith) more,
-      within (rows_in n (part_of p)) (columns_in k (part_of p)) p.row p.column is.row is.column,
-    )
+falls n k p false false true a b c is more = omega (
+  arith,
+  from_part n k (p.part + 1) (p.part + 1 + 1) TURN turn_begins (omega arith) more,
+  within (rows_in n (part_of p)) (columns_in k (part_of p)) p.row p.column is.row is.column,
+)
 falls n k p false false false a b c is more = absurd (grind (arith, nat_tests, more))
 
 -- before the last part, the next place has fewer places left
-pub left_falls : (n k : ℕ) (p : Place) → IsIn n k p → p.part + 1 < length TURN
-    → left n k (after n k p) < left n k p
+pub left_falls : (n k : ℕ) (p : Place) → IsIn n k p → p.part + 1 < length TURN → left n k (after n k p) < left n k p
 left_falls n k p is more = falls n k p _ _ _ refl refl refl is more
 
 -- each part has a place
@@ -89,23 +80,16 @@ some_place n k p a b = (omega arith, omega arith)
 
 comes : (n k : ℕ) (p : Place) (x y z : Bool) → nat_lt (p.column + 1) (columns_in k (part_of p)) ≡ x
     → nat_lt (p.row + 1) (rows_in n (part_of p)) ≡ y → nat_lt (p.part + 1) (length TURN) ≡ z
-    → 0 < n → 0 < k → IsIn n k p
-    → IsIn n k (if x then record p { column = p.column + 1 } else
+    → 0 < n → 0 < k → IsIn n k p → IsIn n k (if x then record p { column = p.column + 1 } else
     (if y then record p { row = p.row + 1; column = 0 } else record {
-      part =
-          if z then p.part + 1 else 0;
+      part = if z then p.part + 1 else 0;
       row = 0;
       column = 0;
     }))
 comes n k p true y z a b c some wide is =
     record { part = is.part; row = is.row; column = grind (arith, nat_tests, a) }
 comes n k p false true z a b c some wide is =
-    record {
-      part = is.part;
-      row = grind (arith, nat_tests, b);
-      column =
-          (some_place n k (part_of p) some wide).1;
-    }
+    record { part = is.part; row = grind (arith, nat_tests, b); column = (some_place n k (part_of p) some wide).1 }
 comes n k p false false true a b c some wide is = record {
   part = grind (arith, nat_tests, c);
   row = (some_place n k (slice_index_or TURN (p.part + 1) turn_begins) some wide).0;
@@ -122,15 +106,12 @@ pub after_in : (n k : ℕ) (p : Place) → 0 < n → 0 < k → IsIn n k p → Is
 after_in n k p some wide is = comes n k p _ _ _ refl refl refl some wide is
 
 -- the order comes to a part only from the part before it, or from a place of its own
-arrives : (n k t : ℕ) (p : Place) (x y z : Bool)
-    → (if x then record p { column = p.column + 1 } else
+arrives : (n k t : ℕ) (p : Place) (x y z : Bool) → (if x then record p { column = p.column + 1 } else
     (if y then record p { row = p.row + 1; column = 0 } else record {
-      part =
-          if z then p.part + 1 else 0;
+      part = if z then p.part + 1 else 0;
       row = 0;
       column = 0;
-    })).part ≡ t
-    → 0 < t → t ≢ p.part → p.part + 1 ≡ t
+    })).part ≡ t → 0 < t → t ≢ p.part → p.part + 1 ≡ t
 arrives n k t p true y z e some other = absurd (other (sym e))
 arrives n k t p false true z e some other = absurd (other (sym e))
 arrives n k t p false false true e some other = e
@@ -153,8 +134,7 @@ each_below (suc n) i test e l = elim (cases_eq i n) [
 ]
 
 -- the turn begins at the last part alone
-pub beat_last : (i : ℕ) → i < length TURN → is_beat (slice_index_or TURN i turn_begins)
-    ≡ true → i + 1 ≡ length TURN
+pub beat_last : (i : ℕ) → i < length TURN → is_beat (slice_index_or TURN i turn_begins) ≡ true → i + 1 ≡ length TURN
 unfolding all_below
 beat_last i l e = grind (
   arith,
@@ -178,8 +158,7 @@ take_first i l e = grind (
 )
 
 -- and behind it more places are left than where a turn ends
-pub left_take : (n k : ℕ) (p : Place) → IsIn n k p → is_take (part_of p) ≡ true
-    → left n k turn_ends < left n k p
+pub left_take : (n k : ℕ) (p : Place) → IsIn n k p → is_take (part_of p) ≡ true → left n k turn_ends < left n k p
 unfolding left
 left_take n k p is at = omega (
   arith,
@@ -198,14 +177,11 @@ pub after_beat : (n k : ℕ) (p : Place) → IsIn n k (after n k p) → is_beat 
     → is_beat (part_of (after n k p)) ≡ true → part_of p ≡ parts.Spent
 after_beat n k p is other e =
     let last = beat_last (after n k p).part is.part e in
-    let before : p.part + 1 ≡ length TURN - 1 =
-    arrives n k (length TURN - 1) p (nat_lt (p.column + 1) (columns_in k (part_of p)))
-    (nat_lt (p.row + 1) (rows_in n (part_of p))) (nat_lt (p.part + 1) (length TURN))
-    (omega (arith, last)) (omega arith)
-    (λ (same : length TURN - 1 ≡ p.part). absurd
+    let before : p.part + 1 ≡ length TURN - 1 = arrives n k (length TURN - 1) p (nat_lt (p.column + 1)
+    (columns_in k (part_of p))) (nat_lt (p.row + 1) (rows_in n (part_of p))) (nat_lt (p.part + 1) (length TURN))
+    (omega (arith, last)) (omega arith) (λ (same : length TURN - 1 ≡ p.part). absurd
     (cc (ap (λ i. is_beat (slice_index_or TURN i turn_begins)) same, other))) in
-    let at : p.part ≡ length TURN - 2 = omega (arith, before) in
-    ap (λ i. slice_index_or TURN i turn_begins) at
+    let at : p.part ≡ length TURN - 2 = omega (arith, before) in ap (λ i. slice_index_or TURN i turn_begins) at
 
 -- ---- the next part
 
@@ -220,8 +196,7 @@ nexts : (n k : ℕ) (p : Place) (x y z : Bool) → nat_lt (p.column + 1) (column
     → rows_in n (part_of p) ≡ 1 → columns_in k (part_of p) ≡ 1 → p.part + 1 < length TURN
     → (if x then record p { column = p.column + 1 } else
     (if y then record p { row = p.row + 1; column = 0 } else record {
-      part =
-          if z then p.part + 1 else 0;
+      part = if z then p.part + 1 else 0;
       row = 0;
       column = 0;
     })).part ≡ p.part + 1
@@ -236,8 +211,7 @@ next_part n k p rows columns more =
     ap (λ i. slice_index_or TURN i turn_begins) (nexts n k p _ _ _ refl refl refl rows columns more)
 
 -- where behind each part of one kind there is one of another kind, so it is behind this one
-pub follows : (here next : Part → Bool)
-    → all_below (length TURN) (λ j. not (here (slice_index_or TURN j turn_begins))
+pub follows : (here next : Part → Bool) → all_below (length TURN) (λ j. not (here (slice_index_or TURN j turn_begins))
     || (nat_lt (j + 1) (length TURN) && next (slice_index_or TURN (j + 1) turn_begins))) ≡ true
     → (i : ℕ) → i < length TURN → here (slice_index_or TURN i turn_begins) ≡ true
     → (i + 1 < length TURN) × (next (slice_index_or TURN (i + 1) turn_begins) ≡ true)
@@ -252,9 +226,8 @@ pub part_number : (test : Part → Bool) (i : ℕ) (p : Place)
     → all_below (length TURN) (λ j. not (test (slice_index_or TURN j turn_begins)) || (j == i)) ≡ true
     → p.part < length TURN → test (part_of p) ≡ true → p.part ≡ i
 part_number test i p alone within e =
-    let same = implied _ _
-    (each_below (length TURN) p.part (λ j. not (test (slice_index_or TURN j turn_begins)) || (j == i))
-    alone within) e in
+    let same = implied _ _ (each_below (length TURN) p.part
+    (λ j. not (test (slice_index_or TURN j turn_begins)) || (j == i)) alone within) e in
     grind (arith, nat_tests, same)
 
 -- a place of the letters' part is that of some member

@@ -1,32 +1,22 @@
 -- What each part of a turn and each act is: whether it ends a view or the member, which task it lowers, and
 -- where the member goes on.
-use Rattle.std.proofs.Common.{◌≡◌, refl, sym, ap, ◌∙◌, ℕ, ◌+◌, ◌-◌, ◌<◌, ◌≤◌, ◌==◌, ◌&&◌, ◌||◌, ◌⊎◌, inl, inr, if◌then◌else◌, not, Bool, true, false, length, arith}
+use Rattle.std.{specs.Option.{option_map, option_or}, proofs.lemmas.{Bool.{and_parts, not-true}, List.length-set}}
 use Rattle.std.specs.Prelude.{Option, Some, None, is_some, slice_index_or, unwrap_or}
-use Rattle.std.proofs.lemmas.Bool.{and_parts, not-true}
-use Rattle.std.specs.Option.{option_map, option_or}
-use Rattle.std.proofs.lemmas.List.{length-set}
+use Rattle.std.proofs.Common.{◌≡◌, refl, sym, ap, ◌∙◌, ℕ, ◌+◌, ◌-◌, ◌<◌, ◌≤◌, ◌==◌, ◌&&◌, ◌||◌, ◌⊎◌, inl, inr, if◌then◌else◌, not, Bool, true, false, length, arith}
 use Rattle.dr_entry.specs.declared.end.End.TheVariants as ends
-use Rattle.dr_entry.specs.declared.record.Value.{Value}
-use Rattle.dr_entry.specs.declared.record.Vote.{Vote}
-use Rattle.dr_machine.specs.declared.event.Act.{Act}
+use Rattle.dr_entry.specs.declared.record.{Value.Value, Vote.Vote}
+use Rattle.dr_machine.specs.declared.{event.Act.Act, step.Step.Step}
 use Rattle.dr_machine.specs.declared.event.Act.TheVariants as acts
-use Rattle.dr_machine.specs.declared.step.Step.{Step}
 use Rattle.dr_machine.specs.declared.step.Step.TheVariants as steps
-use Rattle.dr_program.specs.declared.outcome.LogWhy.{LogWhy}
-use Rattle.dr_program.specs.declared.place.Part.{Part}
-use Rattle.dr_program.specs.declared.place.Part.TheVariants as parts
-use Rattle.dr_program.specs.declared.place.Place.{Place}
-use Rattle.dr_program.specs.declared.place.TheConstants.{TURN}
-use Rattle.dr_program.specs.Acts.{taken}
-use Rattle.dr_program.specs.Form.{HasForm}
+use Rattle.dr_program.{specs.Acts.taken, proofs.Fixed.{Told, step_told}}
+use Rattle.dr_program.specs.{Form.HasForm, Steps.{NoWordFell, allows, allows_inside, is_outside_step, stepped}}
 use Rattle.dr_program.specs.Replica.{Replica, has_majority, is_inside, is_others, is_own, is_wedged, me, unsuspected}
 use Rattle.dr_program.specs.Running.{Running, WaitsAt, applies, asks, columns, goes, judged, members, moved, named_by, overdue, scripted, step_at, told, vote_or_end, waits_after}
-use Rattle.dr_program.specs.Steps.{NoWordFell, allows, allows_inside, is_outside_step, stepped}
 use Rattle.dr_program.specs.Turn.{IsIn, after, columns_in, is_beat, part_of, rows_in, turn_begins, turn_ends}
-use Rattle.dr_program.proofs.Fixed.{Told, step_told}
+use Rattle.dr_program.specs.declared.{outcome.LogWhy.LogWhy, place.{Part.Part, Place.Place, TheConstants.TURN}}
+use Rattle.dr_program.specs.declared.place.Part.TheVariants as parts
 use Rattle.dr_suspect.specs.Waits.{IsWaits}
-use Rattle.dr_turn.specs.Work.{tasks, work}
-use Rattle.dr_turn.proofs.Fewer.{NoneRises, sum_falls, sum_keeps}
+use Rattle.dr_turn.{specs.Work.{tasks, work}, proofs.Fewer.{NoneRises, sum_falls, sum_keeps}}
 use Rattle.dr_turn.proofs.Order.{all_below, each_below, follows, is_take, next_part}
 use Rattle.dr_turn.proofs.Tasks.{accepted_less, decided_less, delivered_less, ends_view, finished_less, gave_less, marked_less, none_rises, proposed_less, published_less, put_less, received_less, reported_less, risen, suspected_less, view_stays, views_keep}
 
@@ -89,8 +79,7 @@ verdict_of r = by (named_by r.replica) (scripted r) (told r.replica) (overdue r)
     by : (named script spread late : Option ℕ) (few : Bool)
         → is_verdict (unwrap_or (option_or (option_map (λ by. acts.Halt (ends.Suspected by)) named)
         (option_or (option_map acts.Suspect script)
-        (option_or (option_map acts.Suspect spread)
-        (option_or (option_map acts.Suspect late)
+        (option_or (option_map acts.Suspect spread) (option_or (option_map acts.Suspect late)
         (if few then Some (acts.Halt (ends.NoMajority (unsuspected r.replica))) else None)))))
         (acts.Suspect (me r.replica))) ≡ true
     by (Some i) script spread late few = refl
@@ -107,8 +96,7 @@ has_verdict part = false
 
 pub no_verdict : (i : ℕ) → i < length TURN → has_verdict (numbered i) ≡ false
 unfolding all_below
-no_verdict i within =
-    not-true _ (each_below (length TURN) i (λ j. not (has_verdict (numbered j))) refl within)
+no_verdict i within = not-true _ (each_below (length TURN) i (λ j. not (has_verdict (numbered j))) refl within)
 
 -- what a member judges is no beat
 pub verdict_no_beat : (a : Act) → is_verdict a ≡ true → is_beat (parts.Do a) ≡ false
@@ -124,16 +112,14 @@ pub taken_end : (r : Replica) (a : Act) → is_end (parts.Do a) ≡ false → (t
 taken_end r a other = grind (arith, other)
 
 -- no act by which the member stays in its view changes what was pushed
-pub taken_pushed : (r : Replica) (a : Act) → ends_view (steps.Do a) ≡ false
-    → (taken r a).rows.sent ≡ r.rows.sent
+pub taken_pushed : (r : Replica) (a : Act) → ends_view (steps.Do a) ≡ false → (taken r a).rows.sent ≡ r.rows.sent
 taken_pushed r a stays = grind (arith, stays)
 
 -- so it is with the ends of steps
 pub end_stays : (word : ℕ) (r : Replica) (s : Step) → is_final s ≡ false → (stepped word r s).end ≡ r.end
 end_stays word r s other = grind (arith, other)
 
-pub end_comes : (word : ℕ) (r : Replica) (s : Step) → is_final s ≡ true
-    → is_some (stepped word r s).end ≡ true
+pub end_comes : (word : ℕ) (r : Replica) (s : Step) → is_final s ≡ true → is_some (stepped word r s).end ≡ true
 end_comes word r s final = grind (arith, final)
 
 -- and with the turns of the step that a part has where the member stands
@@ -142,8 +128,7 @@ due_at r part = step_at r part r.place.row r.place.column
 
 pub turns_stay : (word : ℕ) (r : Running) (part : Part) → is_beat part ≡ false
     → (stepped word r.replica (due_at r part)).turns ≡ r.replica.turns
-turns_stay word r parts.Judge other =
-    taken_turns r.replica (judged r) (verdict_no_beat (judged r) (verdict_of r))
+turns_stay word r parts.Judge other = taken_turns r.replica (judged r) (verdict_no_beat (judged r) (verdict_of r))
 turns_stay word r part other = grind (arith, other)
 
 -- ---- the task that an act lowers
@@ -176,21 +161,18 @@ less_by word r s stays none i by within less = omega (
   sum_falls r (stepped word r s) tasks i by no_task none within less,
 )
 
-less : (word : ℕ) (r : Replica) (s : Step) → ends_view s ≡ false → NoneRises r (stepped word r s) tasks
-    → (i : ℕ) → i < length tasks
-    → slice_index_or tasks i no_task (stepped word r s) < slice_index_or tasks i no_task r
+less : (word : ℕ) (r : Replica) (s : Step) → ends_view s ≡ false → NoneRises r (stepped word r s) tasks → (i : ℕ)
+    → i < length tasks → slice_index_or tasks i no_task (stepped word r s) < slice_index_or tasks i no_task r
     → work (stepped word r s) + 1 ≤ work r
 less word r s stays none i within l = less_by word r s stays none i 1 within (omega (arith, l))
 
 no_more : (word : ℕ) (r : Replica) (s : Step) → ends_view s ≡ false → NoneRises r (stepped word r s) tasks
     → work (stepped word r s) + 0 ≤ work r
 unfolding work
-no_more word r s stays none =
-    omega (arith, views_keep word r s stays, sum_keeps r (stepped word r s) tasks none)
+no_more word r s stays none = omega (arith, views_keep word r s stays, sum_keeps r (stepped word r s) tasks none)
 
 lowers_task : (word : ℕ) (r : Replica) (s : Step) → ends_view s ≡ false → HasForm r → allows_inside r s ≡ true
-    → HasForm (stepped word r s) → NoneRises r (stepped word r s) tasks
-    → Lowers s (work r) (work (stepped word r s))
+    → HasForm (stepped word r s) → NoneRises r (stepped word r s) tasks → Lowers s (work r) (work (stepped word r s))
 lowers_task word r (steps.Do acts.Beat) stays f may form none = no_more word r (steps.Do acts.Beat) stays none
 lowers_task word r (steps.Do (acts.Receive s)) stays f may form none =
     less word r (steps.Do (acts.Receive s)) stays none 0 (omega arith) (received_less r s f may form)
@@ -228,8 +210,7 @@ ending_lowers word r (steps.Do a) ends f = absurd (cc ends)
 ending_lowers word r s ends f = absurd (cc ends)
 
 -- an allowed step lowers the work that it does
-pub lowers : (word : ℕ) (r : Replica) (s : Step) → HasForm r → allows r s ≡ true
-    → HasForm (stepped word r s)
+pub lowers : (word : ℕ) (r : Replica) (s : Step) → HasForm r → allows r s ≡ true → HasForm (stepped word r s)
     → ((stepped word r s).view ≡ r.view → NoWordFell r (stepped word r s))
     → Lowers s (work r) (work (stepped word r s))
 lowers word r s f may form grown = by (ends_view s) refl
@@ -256,8 +237,7 @@ goes_back_or_stays n k a p other = grind (arith, other)
 abbrev pub Going : Running → Part → Type 0
 Going r part = let there : Place = goes (members r) (columns r) part r.place in
     (there ≡ after (members r) (columns r) r.place)
-    ⊎ (((is_publish part ≡ true) × (there ≡ record r.place { part = r.place.part - 1 })
-    × (least (due_at r part) ≡ 2))
+    ⊎ (((is_publish part ≡ true) × (there ≡ record r.place { part = r.place.part - 1 }) × (least (due_at r part) ≡ 2))
     ⊎ (((there ≡ r.place) × (is_final (due_at r part) ≡ false → least (due_at r part) ≡ 1))
     ⊎ ((is_take part ≡ true) × (there ≡ turn_ends))))
 
@@ -271,8 +251,7 @@ going r parts.Give = inr (inr (inl (refl, λ other. refl)))
 going r part = grind arith
 
 -- publishing is at one place
-pub publish_size : (n k : ℕ) (part : Part) → is_publish part ≡ true
-    → (rows_in n part ≡ 1) × (columns_in k part ≡ 1)
+pub publish_size : (n k : ℕ) (part : Part) → is_publish part ≡ true → (rows_in n part ≡ 1) × (columns_in k part ≡ 1)
 publish_size n k part is = (grind (arith, is), grind (arith, is))
 
 -- ---- waiting
@@ -360,8 +339,7 @@ pub waits_on : (r : Running) → IsIn (members r) (columns r) r.place → WaitsA
     → applies r r.place ≡ false → WaitsAt r (part_of (moved r).place)
 waits_on r is waits idle e = by waits r.replica.pending refl
   where
-    here : (part : Part) → part_of r.place ≡ part
-        → (asks r part r.place.row r.place.column
+    here : (part : Part) → part_of r.place ≡ part → (asks r part r.place.row r.place.column
         && allows r.replica (step_at r part r.place.row r.place.column)) ≡ false
     here part at = sym (ap (λ x. asks r x r.place.row r.place.column
         && allows r.replica (step_at r x r.place.row r.place.column)) at) ∙ e
@@ -373,13 +351,11 @@ waits_on r is waits idle e = by waits r.replica.pending refl
         by true t = refl
         by false t = absurd (cc (q, idle t))
 
-    by : WaitsAt r (part_of r.place) → (o : Option Vote) → r.replica.pending ≡ o
-        → WaitsAt r (part_of (moved r).place)
+    by : WaitsAt r (part_of r.place) → (o : Option Vote) → r.replica.pending ≡ o → WaitsAt r (part_of (moved r).place)
     by (inl none) o q = inl none
     by (inr (inl at)) None q = inl q
     by (inr (inl at)) (Some x) q =
-        let not_own : is_own (me r.replica) (Some x) ≡ false =
-        sym (ap (is_own (me r.replica)) q)
+        let not_own : is_own (me r.replica) (Some x) ≡ false = sym (ap (is_own (me r.replica)) q)
         ∙ tested (is_inside r.replica) (is_own (me r.replica) r.replica.pending) (inside x q)
         (here (parts.Do acts.Propose) at) in
         inr (inr (

@@ -1,32 +1,18 @@
 -- The search along the order of a turn.
+use Rattle.std.{specs.Prelude.{Option, Some, None, is_some, slice_index_or}, proofs.lemmas.Bool.Decides.nat_tests}
 use Rattle.std.proofs.Common.{◌≡◌, refl, sym, ap, ◌∙◌, ℕ, zero, suc, ◌+◌, ◌-◌, ◌<◌, ◌≤◌, ◌==◌, ◌&&◌, ◌||◌, Bool, true, false, if◌then◌else◌, length, le_refl, le_trans, arith, List}
-use Rattle.std.specs.Prelude.{Option, Some, None, is_some, slice_index_or}
-use Rattle.std.proofs.lemmas.Bool.Decides.{nat_tests}
-use Rattle.dr_entry.specs.declared.end.End.{End}
-use Rattle.dr_entry.proofs.BoolFacts.{together, first_out}
+use Rattle.dr_entry.{specs.declared.{end.End.End, entry.Entry.Entry}, proofs.BoolFacts.{together, first_out}}
 use Rattle.dr_entry.proofs.ListFacts.{both}
-use Rattle.dr_entry.specs.declared.entry.Entry.{Entry}
 use Rattle.dr_rows.specs.Words.{changed}
-use Rattle.dr_program.specs.declared.place.Part.{Part}
-use Rattle.dr_program.specs.declared.place.Part.TheVariants as parts
-use Rattle.dr_program.specs.declared.place.Place.{Place}
-use Rattle.dr_program.specs.declared.place.TheConstants.{TURN}
-use Rattle.dr_program.specs.Turn.{after, is_beat, IsIn, part_of, places_in, turn_begins}
+use Rattle.dr_program.specs.{Form.{HasForm, IsRunningMember}, Replica.{is_inside, is_other}, Steps.{allows, has_cell}}
+use Rattle.dr_program.{specs.Program.{after_deed, next_sight}, proofs.{Parts.is_inner, RunningPrograms.judge_allowed}}
 use Rattle.dr_program.specs.Running.{Running, WaitsAt, members, columns, asks, step_at, applies, moved, settle, settled, after_step, next_step, took, took_letter, crashes_now, push_or_crash}
-use Rattle.dr_program.specs.Steps.{allows, has_cell}
-use Rattle.dr_program.specs.Form.{HasForm, IsRunningMember}
-use Rattle.dr_program.proofs.Replicas.{may_look}
-use Rattle.dr_program.proofs.RunningPrograms.{judge_allowed}
-use Rattle.dr_program.proofs.Parts.{is_inner}
-use Rattle.dr_program.proofs.Runs.{after_either}
-use Rattle.dr_program.specs.Replica.{is_inside, is_other}
-use Rattle.dr_program.specs.declared.outcome.LogWhy.{LogWhy}
-use Rattle.dr_program.specs.declared.outcome.Outcome.{Outcome}
-use Rattle.dr_program.specs.Program.{after_deed, next_sight}
-use Rattle.dr_turn.specs.Search.{left, IsUnderway, Passed, here, on}
-use Rattle.dr_turn.specs.Work.{left_to, deeds_left, may_fail, work}
-use Rattle.dr_turn.proofs.Fewer.{no_more_here}
-use Rattle.dr_turn.proofs.Order.{after_beat, after_in, left_falls, left_small, left_some}
+use Rattle.dr_program.specs.{Turn.{after, is_beat, IsIn, part_of, places_in, turn_begins}, declared.place.Place.Place}
+use Rattle.dr_program.specs.declared.{outcome.{LogWhy.LogWhy, Outcome.Outcome}, place.{Part.Part, TheConstants.TURN}}
+use Rattle.dr_program.proofs.{Replicas.may_look, Runs.after_either}
+use Rattle.dr_program.specs.declared.place.Part.TheVariants as parts
+use Rattle.dr_turn.specs.{Search.{left, IsUnderway, Passed, here, on}, Work.{left_to, deeds_left, may_fail, work}}
+use Rattle.dr_turn.proofs.{Fewer.no_more_here, Order.{after_beat, after_in, left_falls, left_small, left_some}}
 use Rattle.dr_turn.proofs.Parts.{waits_on}
 
 -- ---- what applies at which part
@@ -59,8 +45,7 @@ idle_part r p e = by (is_beat (part_of p)) refl
         ap (λ x. applies_at r x p.row p.column) (beat_test (part_of p) h) in absurd (cc)
 
 -- a place that is no beat is not in the last part of the turn
-pub part_before : (n k : ℕ) (p : Place) → IsIn n k p → is_beat (part_of p) ≡ false → p.part + 1
-    < length TURN
+pub part_before : (n k : ℕ) (p : Place) → IsIn n k p → is_beat (part_of p) ≡ false → p.part + 1 < length TURN
 part_before n k p is other = by (p.part == length TURN - 1) refl
   where
     by : (b : Bool) → (p.part == length TURN - 1) ≡ b → p.part + 1 < length TURN
@@ -94,8 +79,7 @@ underway_moved r u other unspent free = record {
   place = inside;
   turns = u.turns;
   waits = u.waits;
-  left = λ none begins. unspent none
-      (after_beat (members r) (columns r) r.place inside other (ap is_beat begins));
+  left = λ none begins. unspent none (after_beat (members r) (columns r) r.place inside other (ap is_beat begins));
 }
   where
     inside : IsIn (members r) (columns r) (after (members r) (columns r) r.place)
@@ -103,8 +87,7 @@ underway_moved r u other unspent free = record {
 
 -- a member under way is still so behind a place with nothing to do
 pub underway_idle : (r : Running) → IsUnderway r → applies r r.place ≡ false → IsUnderway (moved r)
-underway_idle r u e =
-    underway_moved r u (idle_part r r.place e)
+underway_idle r u e = underway_moved r u (idle_part r r.place e)
     (λ none spent. unspent (ap (λ x. applies_at r x r.place.row r.place.column) spent))
     (waits_on r u.place u.free (λ outside. (u.replica.outside outside).idle) e)
   where
@@ -120,10 +103,7 @@ settle_only zero r = refl
 settle_only (suc f) r = by (is_some r.replica.end || applies r r.place) (settle_only f (moved r))
   where
     by : (x : Bool) → settle f (moved r) ≡ record (moved r) { place = (settle f (moved r)).place }
-        → (if x then r else settle f (moved r)) ≡ record r {
-          place =
-              (if x then r else settle f (moved r)).place;
-        }
+        → (if x then r else settle f (moved r)) ≡ record r { place = (if x then r else settle f (moved r)).place }
     by true e = refl
     by false e = e
 
@@ -148,40 +128,31 @@ unfolding settle
 settle_passed zero r = here r.place
 settle_passed (suc f) r = by (is_some r.replica.end || applies r r.place) refl (settle_passed f (moved r))
   where
-    by : (x : Bool) → (is_some r.replica.end || applies r r.place) ≡ x
-        → Passed (moved r) (moved r).place (settle f (moved r)).place
-        → Passed r r.place (if x then r else settle f (moved r)).place
+    by : (x : Bool) → (is_some r.replica.end || applies r r.place) ≡ x → Passed (moved r) (moved r).place (settle f
+        (moved r)).place → Passed r r.place (if x then r else settle f (moved r)).place
     by true e s = here r.place
     by false e s = on r.place _ (idle _ _ e) (passed_at r (moved r).place (moved r).place _ s)
 
 -- with as many steps as places are left, the search comes to a place at which there is something to do
 pub settle_due : (f : ℕ) (r : Running) → IsUnderway r → left (members r) (columns r) r.place ≤ f
-    → IsUnderway (settle f r)
-    × ((settle f r).replica.end ≡ None → applies (settle f r) (settle f r).place ≡ true)
+    → IsUnderway (settle f r) × ((settle f r).replica.end ≡ None → applies (settle f r) (settle f r).place ≡ true)
 unfolding settle
 settle_due zero r u l = absurd (omega (arith, l, left_some (members r) (columns r) r.place u.place))
 settle_due (suc f) r u l = by (is_some r.replica.end || applies r r.place) refl (settle_due f (moved r))
   where
     by : (x : Bool) → (is_some r.replica.end || applies r r.place) ≡ x
-        → (IsUnderway (moved r) → left (members r) (columns r) (moved r).place ≤ f
-        → IsUnderway (settle f (moved r))
-        × ((settle f (moved r)).replica.end ≡ None
-        → applies (settle f (moved r)) (settle f (moved r)).place ≡ true))
-        → IsUnderway (if x then r else settle f (moved r))
-        × ((if x then r else settle f (moved r)).replica.end ≡ None
-        → applies (if x then r else settle f (moved r)) (if x then r else settle f (moved r)).place
-        ≡ true)
+        → (IsUnderway (moved r) → left (members r) (columns r) (moved r).place ≤ f → IsUnderway (settle f (moved r))
+        × ((settle f (moved r)).replica.end ≡ None → applies (settle f (moved r)) (settle f (moved r)).place ≡ true))
+        → IsUnderway (if x then r else settle f (moved r)) × ((if x then r else settle f (moved r)).replica.end ≡ None
+        → applies (if x then r else settle f (moved r)) (if x then r else settle f (moved r)).place ≡ true)
     by true e s = (u, awake r.replica.end (applies r r.place) e)
-    by false e s =
-        s (underway_idle r u (idle _ _ e)) (omega (arith, l, falls r u (idle_part r r.place (idle _ _ e))))
+    by false e s = s (underway_idle r u (idle _ _ e)) (omega (arith, l, falls r u (idle_part r r.place (idle _ _ e))))
 
 -- a member under way is a running member where the search stays
 pub settled_running : (r : Running) → IsUnderway r → IsRunningMember (settled r)
-settled_running r u =
-    running (settled r) (settle_due _ r u (left_small (members r) (columns r) r.place u.place))
+settled_running r u = running (settled r) (settle_due _ r u (left_small (members r) (columns r) r.place u.place))
   where
-    running : (s : Running) → IsUnderway s × (s.replica.end ≡ None → applies s s.place ≡ true)
-        → IsRunningMember s
+    running : (s : Running) → IsUnderway s × (s.replica.end ≡ None → applies s s.place ≡ true) → IsRunningMember s
     running s d = record {
       replica = d.0.replica;
       place = d.0.place;
@@ -189,15 +160,12 @@ settled_running r u =
       turns = d.0.turns;
       waits = d.0.waits;
       free = d.0.free;
-      left =
-          d.0.left;
+      left = d.0.left;
     }
 
 -- where a member under way has not ended, the search stays where there is something to do
-pub settled_due : (r : Running) → IsUnderway r → r.replica.end ≡ None
-    → applies (settled r) (settled r).place ≡ true
-settled_due r u none =
-    (settle_due _ r u (left_small (members r) (columns r) r.place u.place)).1
+pub settled_due : (r : Running) → IsUnderway r → r.replica.end ≡ None → applies (settled r) (settled r).place ≡ true
+settled_due r u none = (settle_due _ r u (left_small (members r) (columns r) r.place u.place)).1
     (ap (λ (x : Running). x.replica.end) (settle_only (places_in (members r) (columns r) TURN) r) ∙ none)
 
 -- a member under way is so where the search stays
@@ -205,8 +173,7 @@ pub settled_underway : (r : Running) → IsUnderway r → IsUnderway (settled r)
 settled_underway r u = (settle_due _ r u (left_small (members r) (columns r) r.place u.place)).0
 
 -- the search leaves no more
-less_left : (r : Running) (o : Option End) → left (members r) (columns r) (moved r).place
-    ≤ left (members r)
+less_left : (r : Running) (o : Option End) → left (members r) (columns r) (moved r).place ≤ left (members r)
     (columns r) r.place → left_to (moved r) o ≤ left_to r o
 less_left r None h = no_more_here _ _ _ _ (work r.replica) (may_fail r.failed) h
 less_left r (Some x) h = le_refl 0
@@ -221,8 +188,7 @@ settle_less (suc f) r u = by (is_some r.replica.end || applies r r.place) refl (
         → (IsUnderway (moved r) → deeds_left (settle f (moved r)) ≤ deeds_left (moved r))
         → deeds_left (if x then r else settle f (moved r)) ≤ deeds_left r
     by true e s = le_refl _
-    by false e s =
-        le_trans (s (underway_idle r u (idle _ _ e)))
+    by false e s = le_trans (s (underway_idle r u (idle _ _ e)))
         (less_left r r.replica.end (omega (arith, falls r u (idle_part r r.place (idle _ _ e)))))
 
 -- the search changes nothing but the place
@@ -242,17 +208,13 @@ settled_took letter r = settle_only (places_in (members r') (columns r') TURN) r
 
 pub look_applies : (r : Running) (p : Place) → part_of p ≡ parts.Look → is_inside r.replica ≡ true
     → may_look r.replica p.row p.column ≡ true → applies r p ≡ true
-look_applies r p at inside may =
-    ap (λ x. applies_at r x p.row p.column) at
+look_applies r p at inside may = ap (λ x. applies_at r x p.row p.column) at
     ∙ together (is_inside r.replica) (may_look r.replica p.row p.column) inside may
 
-pub push_applies : (r : Running) (p : Place) → part_of p ≡ parts.Push → is_other r.replica p.row
-    ≡ true
-    → (is_inside r.replica || crashes_now r) ≡ true
-    → changed r.replica.rows p.row p.column ≡ true
+pub push_applies : (r : Running) (p : Place) → part_of p ≡ parts.Push → is_other r.replica p.row ≡ true
+    → (is_inside r.replica || crashes_now r) ≡ true → changed r.replica.rows p.row p.column ≡ true
     → has_cell r.replica p.row p.column ≡ true → applies r p ≡ true
-push_applies r p at other may word cell =
-    ap (λ x. applies_at r x p.row p.column) at
+push_applies r p at other may word cell = ap (λ x. applies_at r x p.row p.column) at
     ∙ both (is_other r.replica p.row) (changed r.replica.rows p.row p.column)
     (allows r.replica (step_at r parts.Push p.row p.column)) other word (by (crashes_now r) may)
   where
@@ -260,8 +222,7 @@ push_applies r p at other may word cell =
     either true e = refl
     either false e = absurd (cc e)
 
-    by : (b : Bool) → (is_inside r.replica || b) ≡ true
-        → allows r.replica (push_or_crash b p.row p.column) ≡ true
+    by : (b : Bool) → (is_inside r.replica || b) ≡ true → allows r.replica (push_or_crash b p.row p.column) ≡ true
     by true e = refl
     by false e = together (is_inside r.replica) (has_cell r.replica p.row p.column)
         (either (is_inside r.replica) e) cell
@@ -284,22 +245,15 @@ pub record GoesBy (r x : Running) : Type 0 where
 
 -- what the search goes by on its way from y it goes by from r
 pub goes_far : (r x y : Running) → GoesBy r x → GoesBy x y → GoesBy r y
-goes_far r x y a b = record {
-  same = b.same ∙ a.same;
-  underway = b.underway;
-  later =
-      omega (arith, a.later, b.later);
-}
+goes_far r x y a b = record { same = b.same ∙ a.same; underway = b.underway; later = omega (arith, a.later, b.later) }
 
 -- a member whose append has failed stays one
 pub still_failed : (table : List ℕ) (letter : Option (List Entry)) (o : Outcome) (r : Running) (why : LogWhy)
     → r.failed ≡ Some why
     → (next : LogWhy) × ((after_deed (next_sight table r) letter o r (next_step r)).failed ≡ Some next)
-still_failed table letter o r why at =
-    after_either (λ x. (next : LogWhy) × (x.failed ≡ Some next)) table letter o r (next_step r)
-    (why, ap (λ (x : Running). x.failed) (settled_same (next_sight table r) r) ∙ at)
-    (λ next due. (next, refl))
-    (λ due. (why, took_same letter ∙ at))
+still_failed table letter o r why at = after_either (λ x. (next : LogWhy) × (x.failed ≡ Some next)) table letter o r
+    (next_step r) (why, ap (λ (x : Running). x.failed) (settled_same (next_sight table r) r) ∙ at)
+    (λ next due. (next, refl)) (λ due. (why, took_same letter ∙ at))
   where
     took_same : (l : Option (List Entry)) → (settled (took_letter l r)).failed ≡ r.failed
     took_same None = ap (λ (x : Running). x.failed) (settle_only (places_in (members r) (columns r) TURN) (took_letter None r))

@@ -1,28 +1,17 @@
 -- A take: where it finds a letter the member joins, and else its turn ends. It then has fewer deeds left.
-use Rattle.std.proofs.Common.{◌≡◌, refl, subst, ℕ, ◌-◌, ◌<◌, Bool, true, false, inl, arith}
 use Rattle.std.specs.Prelude.{List, Option, Some, None}
-use Rattle.std.proofs.lemmas.Bool.{and_parts}
+use Rattle.std.proofs.{Common.{◌≡◌, refl, subst, ℕ, ◌-◌, ◌<◌, Bool, true, false, inl, arith}, lemmas.Bool.and_parts}
 use Rattle.dr_entry.specs.declared.entry.Entry.{Entry}
 use Rattle.dr_words.proofs.Order.{Grown_refl}
-use Rattle.dr_program.specs.declared.place.Part.{Part}
-use Rattle.dr_program.specs.declared.place.Part.TheVariants as parts
-use Rattle.dr_program.specs.Replica.{is_inside, joined}
-use Rattle.dr_program.specs.Steps.{allows, IsNoJoin}
-use Rattle.dr_program.specs.Turn.{part_of}
+use Rattle.dr_program.{specs.Form.{HasForm, IsRunningMember}, proofs.{Fixed.{join_told, of_told}, Runs.joins_outside}}
+use Rattle.dr_program.{specs.Replica.{is_inside, joined}, proofs.StepsAt.{push_either, append_either, vote_either}}
 use Rattle.dr_program.specs.Running.{Running, asks, columns, crashes_now, members, next_step, settled, step_at, took_letter, AsksForLetter}
-use Rattle.dr_program.specs.Form.{HasForm, IsRunningMember}
-use Rattle.dr_program.proofs.Fixed.{join_told, of_told}
-use Rattle.dr_program.proofs.StepsAt.{push_either, append_either, vote_either}
+use Rattle.dr_program.specs.{Steps.{allows, IsNoJoin}, Turn.part_of, declared.place.Part.Part}
+use Rattle.dr_program.specs.declared.place.Part.TheVariants as parts
 use Rattle.dr_suspect.specs.Waits.{IsWaits, begun}
-use Rattle.dr_turn.specs.Search.{IsUnderway}
-use Rattle.dr_turn.specs.Work.{HasGrownTo, IsAfterDeed, IsStill, LeadsOn, deeds_left, work}
-use Rattle.dr_turn.proofs.Deeds.{lower, settled_done}
-use Rattle.dr_turn.proofs.Fewer.{fewer_here}
-use Rattle.dr_turn.proofs.Order.{ends_in, is_take, left_take}
-use Rattle.dr_turn.proofs.Parts.{acts_on, none_waits}
-use Rattle.dr_turn.proofs.Search.{settled_running}
-use Rattle.dr_turn.proofs.Tasks.{joined_less}
-use Rattle.dr_program.proofs.Runs.{joins_outside}
+use Rattle.dr_turn.specs.{Search.IsUnderway, Work.{HasGrownTo, IsAfterDeed, IsStill, LeadsOn, deeds_left, work}}
+use Rattle.dr_turn.proofs.{Deeds.{lower, settled_done}, Fewer.fewer_here, Order.{ends_in, is_take, left_take}}
+use Rattle.dr_turn.proofs.{Parts.{acts_on, none_waits}, Search.settled_running, Tasks.joined_less}
 
 -- ---- where a take is due
 
@@ -98,8 +87,7 @@ took_fewer None r m none t later = lower r (took_letter None r) none refl
     (fewer_here (r.limit - r.replica.turns) _ _ _ (work r.replica) (work r.replica) _
     (omega (arith, left_take (members r) (columns r) r.place m.place t.at)))
 took_fewer (Some letter) r m none t later = lower r (took_letter (Some letter) r) none refl
-    (fewer_here (r.limit - r.replica.turns) _ _ _ (work r.replica) (work (joined r.replica letter)) _
-    (omega (
+    (fewer_here (r.limit - r.replica.turns) _ _ _ (work r.replica) (work (joined r.replica letter)) _ (omega (
       arith,
       left_take (members r) (columns r) r.place m.place t.at,
       joined_less r.replica letter m.replica (omega (arith, t.first, later)),
@@ -113,8 +101,7 @@ took_grown (Some letter) r t later same = absurd (omega (arith, t.first, later, 
 
 took_still : (letter : Option (List Entry)) (r : Running) → IsStill r (took_letter letter r)
 took_still None r g m is = is
-took_still (Some letter) r g m is =
-    of_told g m r.replica (joined r.replica letter) (join_told r.replica letter) is
+took_still (Some letter) r g m is = of_told g m r.replica (joined r.replica letter) (join_told r.replica letter) is
 
 -- ---- the take as a deed
 
@@ -126,8 +113,7 @@ takes_keep_form letter r m asks form =
 
 -- and has fewer deeds left
 pub takes_done : (letter : Option (List Entry)) (r : Running) → IsRunningMember r → AsksForLetter r
-    → HasForm (took_letter letter r).replica → LeadsOn letter
-    → IsAfterDeed r (settled (took_letter letter r))
+    → HasForm (took_letter letter r).replica → LeadsOn letter → IsAfterDeed r (settled (took_letter letter r))
 takes_done letter r m asks form later = let t = taking r m asks in
     settled_done r (took_letter letter r) (record {
       underway = took_underway letter r m t form;

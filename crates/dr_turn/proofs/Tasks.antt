@@ -1,36 +1,20 @@
 -- The tasks of a replica: which of its deeds lowers each, and that no deed raises any.
-use Rattle.std.proofs.Common.{◌≡◌, refl, ap, inl, sym, subst, ◌∙◌, ℕ, suc, ◌+◌, ◌-◌, ◌*◌, ◌^◌, ◌<◌, ◌≤◌, ◌==◌, nat_lt, not, ◌&&◌, Bool, true, false, List, [], ◌∷◌, ◌++◌, replicate, length, le_refl, slice_index, arith}
-use Rattle.std.proofs.lemmas.Bool.{and_parts, ltb-true}
-use Rattle.std.proofs.lemmas.Bool.Decides.{nat_tests}
-use Rattle.std.proofs.lemmas.List.{get_or-set_same}
-use Rattle.std.proofs.lemmas.List.Folds.{sum_by-replicate}
-use Rattle.std.proofs.Math.Nat.{mul_comm, mul-le-mul, mul-suc}
-use Rattle.dr_entry.specs.declared.entry.Entry.{Entry}
-use Rattle.dr_entry.specs.declared.entry.Item.{Item}
-use Rattle.dr_history.specs.History.{last_view}
-use Rattle.dr_history.specs.Members.{has}
-use Rattle.dr_entry.specs.declared.end.SentItem.{SentItem}
-use Rattle.dr_entry.specs.declared.record.Value.{Value}
-use Rattle.dr_entry.specs.declared.record.Vote.{Vote}
-use Rattle.dr_machine.specs.World.{no_value, no_vote}
-use Rattle.dr_words.proofs.Accepts.{leavers_accept}
-use Rattle.dr_words.specs.Columns.{leavers_column}
 use Rattle.std.specs.Prelude.{None, Option, Some, is_some, unwrap_or}
-use Rattle.dr_machine.specs.declared.event.Act.TheVariants as acts
-use Rattle.dr_machine.specs.declared.step.Step.{Step}
-use Rattle.dr_machine.specs.declared.step.Step.TheVariants.{Do, Welcome}
-use Rattle.dr_rows.specs.Words.{own, seen, with_own}
-use Rattle.dr_rows.proofs.Grids.{with_word-same, with_word-column}
-use Rattle.dr_words.specs.Rewrites.{is_accept_of}
+use Rattle.std.proofs.Common.{◌≡◌, refl, ap, inl, sym, subst, ◌∙◌, ℕ, suc, ◌+◌, ◌-◌, ◌*◌, ◌^◌, ◌<◌, ◌≤◌, ◌==◌, nat_lt, not, ◌&&◌, Bool, true, false, List, [], ◌∷◌, ◌++◌, replicate, length, le_refl, slice_index, arith}
+use Rattle.std.proofs.{Math.Nat.{mul_comm, mul-le-mul, mul-suc}, lemmas.Bool.{and_parts, ltb-true, Decides.nat_tests}}
+use Rattle.std.proofs.lemmas.List.{get_or-set_same, Folds.sum_by-replicate}
+use Rattle.dr_entry.specs.declared.{end.SentItem.SentItem, entry.{Entry.Entry, Item.Item}}
+use Rattle.dr_entry.specs.declared.record.{Value.Value, Vote.Vote}
+use Rattle.dr_history.specs.{History.last_view, Members.has}
+use Rattle.dr_machine.specs.{World.{no_value, no_vote}, declared.step.Step.{Step, TheVariants.{Do, Welcome}}}
+use Rattle.dr_words.specs.{Columns.leavers_column, Masks.with_member, Rewrites.is_accept_of}
 use Rattle.dr_words.specs.declared.column.TheConstants.{BEAT_COLUMN, RECEIVED_COLUMN, LOGGED_COLUMN, DONE_COLUMN}
-use Rattle.dr_words.proofs.Masks.{in_roster_small, with_member_greater, with_member_small}
-use Rattle.dr_words.specs.Masks.{with_member}
-use Rattle.dr_program.specs.Acts.{leaves_view}
+use Rattle.dr_words.proofs.{Accepts.leavers_accept, Masks.{in_roster_small, with_member_greater, with_member_small}}
+use Rattle.dr_machine.specs.declared.event.Act.TheVariants as acts
+use Rattle.dr_rows.{specs.Words.{own, seen, with_own}, proofs.Grids.{with_word-same, with_word-column}}
+use Rattle.dr_program.specs.{Acts.leaves_view, Form.HasForm}
 use Rattle.dr_program.specs.Replica.{LeftView, Replica, me, entered, finished_history, gave, left_now, nothing_left, greatest, is_welcomer, is_wedged, joined, may_give, least_seen, may_deliver, may_mark, may_publish, may_receive, may_report, may_suspect, acted, received, put, delivered, published, reported, marked, suspected, accepted, decided, finished, is_own, is_others, may_commit, promise}
-use Rattle.dr_program.specs.Steps.{NoWordFell, allows_inside, stepped}
-use Rattle.dr_program.specs.Form.{HasForm}
-use Rattle.dr_program.proofs.Least.{least_fits}
-use Rattle.dr_program.proofs.Opening.{first_own}
+use Rattle.dr_program.{specs.Steps.{NoWordFell, allows_inside, stepped}, proofs.{Least.least_fits, Opening.first_own}}
 use Rattle.dr_turn.specs.Work.{ballots_left, commit_left, items_left, letters_left, open_count, places_left, log_left, refill, reports_left, mark_left, sum_of, trust_left, tasks, views_left, work}
 use Rattle.dr_turn.proofs.Fewer.{NoneRises, items_less, items_no_more}
 
@@ -54,10 +38,7 @@ minus_less most a b h g = omega arith
 -- where no word fell, the words have risen
 pub risen : (r q : Replica) → me q ≡ me r → NoWordFell r q → HasRisen r q
 risen r q same grown =
-    record {
-      rise = λ c. subst (λ (i : ℕ). own r.rows c ≤ seen q.rows i c) (sym same)
-          (grown.words (me r) c).number;
-    }
+    record { rise = λ c. subst (λ (i : ℕ). own r.rows c ≤ seen q.rows i c) (sym same) (grown.words (me r) c).number }
 
 -- ---- items
 
@@ -68,15 +49,13 @@ unfolding items_left
 received_less r s f is form = items_less (greatest r.totals) r.counts s within below
   where
     within : s < length r.counts
-    within = omega
-        (arith, f.counts, ltb-true s r.roster (and_parts (nat_lt s r.roster) (may_receive r s) is).0)
+    within = omega (arith, f.counts, ltb-true s r.roster (and_parts (nat_lt s r.roster) (may_receive r s) is).0)
 
     below : slice_index r.counts s < greatest r.totals
     below = omega (arith, form.bounded s, get_or-set_same r.counts s (slice_index r.counts s + 1) 0 within)
 
 -- an item that is put leaves fewer items to come
-pub put_less : (r : Replica) (name : SentItem) (item : Item) → HasForm r
-    → HasForm (acted (put r name item))
+pub put_less : (r : Replica) (name : SentItem) (item : Item) → HasForm r → HasForm (acted (put r name item))
     → items_left (acted (put r name item)) < items_left r
 unfolding items_left
 put_less r name item f form = items_less (greatest r.totals) r.counts (me r) within below
@@ -88,20 +67,17 @@ put_less r name item f form = items_less (greatest r.totals) r.counts (me r) wit
     below = omega (
       arith,
       form.bounded (me r),
-      get_or-set_same r.counts (me r)
-          (slice_index r.counts (me r) + 1) 0 within,
+      get_or-set_same r.counts (me r) (slice_index r.counts (me r) + 1) 0 within,
     )
 
-items_keep : (word : ℕ) (r : Replica) (s : Step) → ends_view s ≡ false
-    → items_left (stepped word r s) ≤ items_left r
+items_keep : (word : ℕ) (r : Replica) (s : Step) → ends_view s ≡ false → items_left (stepped word r s) ≤ items_left r
 unfolding items_left
 items_keep word r s stays = grind (arith, stays, items_no_more (greatest r.totals) r.counts)
 
 -- ---- places
 
 -- a delivery leaves fewer places to deliver
-pub delivered_less : (r : Replica) → may_deliver r ≡ true → places_left (acted (delivered r))
-    < places_left r
+pub delivered_less : (r : Replica) → may_deliver r ≡ true → places_left (acted (delivered r)) < places_left r
 unfolding places_left
 delivered_less r is =
     let below = ltb-true r.next (least_seen r RECEIVED_COLUMN)
@@ -142,11 +118,9 @@ log_keeps word r s form is rise =
 -- ---- reports
 
 -- a report leaves fewer entries to report
-pub reported_less : (r : Replica) → may_report r ≡ true → reports_left (acted (reported r))
-    < reports_left r
+pub reported_less : (r : Replica) → may_report r ≡ true → reports_left (acted (reported r)) < reports_left r
 unfolding reports_left
-reported_less r is =
-    minus_less (2 ^ 64) r.durable (least_seen r LOGGED_COLUMN)
+reported_less r is = minus_less (2 ^ 64) r.durable (least_seen r LOGGED_COLUMN)
     (ltb-true r.durable (least_seen r LOGGED_COLUMN) is) (omega (arith, least_fits r LOGGED_COLUMN))
 
 reports_keep : (word : ℕ) (r : Replica) (s : Step) → allows_inside r s ≡ true
@@ -157,14 +131,12 @@ reports_keep word r s is = grind (arith, is, reported_less r)
 -- ---- the mark
 
 -- after marking, the mark is no more to set
-pub marked_less : (r : Replica) → HasForm r → may_mark r ≡ true → mark_left (acted (marked r))
-    < mark_left r
+pub marked_less : (r : Replica) → HasForm r → may_mark r ≡ true → mark_left (acted (marked r)) < mark_left r
 unfolding mark_left
 marked_less r form is = omega (
   arith,
   now,
-  unmarked (and_parts (own r.rows DONE_COLUMN == 0) _
-      (and_parts (not (is_wedged r)) _ is).1).0,
+  unmarked (and_parts (own r.rows DONE_COLUMN == 0) _ (and_parts (not (is_wedged r)) _ is).1).0,
 )
   where
     now : own (acted (marked r)).rows DONE_COLUMN ≡ 1
@@ -193,15 +165,12 @@ suspected_less r j form is = minus_less (2 ^ 16) r.suspects (with_member r.suspe
     (with_member_greater r.suspects j (suspects_small r form) few (grind (
       arith,
       (and_parts _ (not (has r.suspects j)) (and_parts (not (j == me r)) _ (and_parts (nat_lt j r.roster) _ is).1).1).1,
-    )))
-    (omega (arith, with_member_small r.suspects j))
+    ))) (omega (arith, with_member_small r.suspects j))
   where
     few : j < 16
-    few = omega
-        (arith, ltb-true j r.roster (and_parts (nat_lt j r.roster) _ is).0, form.rows.few, form.members)
+    few = omega (arith, ltb-true j r.roster (and_parts (nat_lt j r.roster) _ is).0, form.rows.few, form.members)
 
-trust_keeps : (word : ℕ) (r : Replica) (s : Step) → ends_view s ≡ false → HasForm r
-    → allows_inside r s ≡ true
+trust_keeps : (word : ℕ) (r : Replica) (s : Step) → ends_view s ≡ false → HasForm r → allows_inside r s ≡ true
     → trust_left (stepped word r s) ≤ trust_left r
 unfolding trust_left
 trust_keeps word r s stays form is = grind (arith, stays, is, form, suspected_less r)
@@ -213,12 +182,7 @@ promise_small : (r : Replica) → HasForm r → promise r < 16
 promise_small r form =
     let c : ℕ = leavers_column r.rows.members in
     let there : is_accept_of r.roster r.members c ≡ true = rw form.members (leavers_accept r.roster r.members) in
-    omega (
-      arith,
-      (form.words r.rows.me c).promise (inl refl),
-      form.accept c there,
-      form.rows.few,
-    )
+    omega (arith, (form.words r.rows.me c).promise (inl refl), form.accept c there, form.rows.few)
 
 -- an acceptance leaves fewer ballots to vote by
 accepted_from : (r : Replica) (x : Vote) → HasForm r → r.pending ≡ Some x
@@ -259,12 +223,10 @@ open_one : (o : Option Value) → not (is_some o) ≡ true → open_count o ≡ 
 open_one None e = refl
 open_one (Some v) e = absurd (cc e)
 
-pub decided_less : (r : Replica) → may_commit r ≡ true
-    → commit_left (acted (decided r)) < commit_left r
+pub decided_less : (r : Replica) → may_commit r ≡ true → commit_left (acted (decided r)) < commit_left r
 unfolding commit_left
 decided_less r is =
-    let one = open_one r.committed (and_parts (not (is_some r.committed)) _
-    (and_parts (is_wedged r) _ is).1).0 in
+    let one = open_one r.committed (and_parts (not (is_some r.committed)) _ (and_parts (is_wedged r) _ is).1).0 in
     omega (arith, one)
 
 commit_keeps : (word : ℕ) (r : Replica) (s : Step) → ends_view s ≡ false → allows_inside r s ≡ true
@@ -278,8 +240,7 @@ commit_keeps word r s stays is = grind (arith, stays, is, decided_less r)
 pub gave_less : (r : Replica) (j : ℕ) → HasForm r → may_give r j ≡ true → letters_left (gave r j) < letters_left r
 unfolding letters_left
 gave_less r j form is = minus_less (2 ^ 16) r.given (with_member r.given j)
-    (with_member_greater r.given j form.given few (grind (arith, new)))
-    (omega (arith, with_member_small r.given j))
+    (with_member_greater r.given j form.given few (grind (arith, new))) (omega (arith, with_member_small r.given j))
   where
     within : nat_lt j r.roster ≡ true
     within = (and_parts (nat_lt j r.roster) _ is).0
@@ -303,10 +264,8 @@ letters_keep word r s stays form is = le_refl _
 -- ---- all of them
 
 -- no step in a view raises any of the tasks
-pub none_rises : (word : ℕ) (r : Replica) (s : Step) → ends_view s ≡ false → HasForm r
-    → allows_inside r s ≡ true
-    → HasForm (stepped word r s) → HasRisen r (stepped word r s)
-    → NoneRises r (stepped word r s) tasks
+pub none_rises : (word : ℕ) (r : Replica) (s : Step) → ends_view s ≡ false → HasForm r → allows_inside r s ≡ true
+    → HasForm (stepped word r s) → HasRisen r (stepped word r s) → NoneRises r (stepped word r s) tasks
 none_rises word r s stays f is form rise = (
   items_keep word r s stays,
   (
@@ -333,8 +292,7 @@ none_rises word r s stays f is form rise = (
 -- ---- the views
 
 -- other steps stay in the view
-pub view_stays : (word : ℕ) (r : Replica) (s : Step) → ends_view s ≡ false
-    → (stepped word r s).view ≡ r.view
+pub view_stays : (word : ℕ) (r : Replica) (s : Step) → ends_view s ≡ false → (stepped word r s).view ≡ r.view
 view_stays word r s stays = grind (arith, stays)
 
 pub views_keep : (word : ℕ) (r : Replica) (s : Step) → ends_view s ≡ false

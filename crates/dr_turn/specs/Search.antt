@@ -1,10 +1,8 @@
 -- A member wherever in its turn it stands, and how many places of the turn come from there on.
 use Rattle.std.specs.Prelude.{◌≡◌, ℕ, ◌+◌, ◌*◌, ◌-◌, ◌<◌, ◌≤◌, drop, false, None}
-use Rattle.dr_program.specs.declared.place.Place.{Place}
-use Rattle.dr_program.specs.declared.place.TheConstants.{TURN}
+use Rattle.dr_program.specs.{Form.HasForm, Running.{Running, WaitsAt, members, columns, applies}}
 use Rattle.dr_program.specs.Turn.{IsIn, after, part_of, rows_in, columns_in, places_in, turn_begins}
-use Rattle.dr_program.specs.Running.{Running, WaitsAt, members, columns, applies}
-use Rattle.dr_program.specs.Form.{HasForm}
+use Rattle.dr_program.specs.declared.place.{Place.Place, TheConstants.TURN}
 use Rattle.dr_suspect.specs.Waits.{IsWaits}
 
 -- how many places of the turn come from here on

@@ -1,20 +1,13 @@
 -- How much a running member still has to do at most: a number that each of its deeds lowers.
 use Rattle.std.specs.Prelude.{⊤, ◌≡◌, ℕ, ◌+◌, ◌*◌, ◌-◌, ◌^◌, ◌<◌, List, [], ◌∷◌, Option, None, Some, sum_by}
-use Rattle.dr_entry.specs.declared.end.End.{End}
-use Rattle.dr_entry.specs.declared.entry.Entry.{Entry}
-use Rattle.dr_history.specs.History.{last_view}
+use Rattle.dr_entry.specs.declared.{end.End.End, entry.Entry.Entry, limits.TheConstants.MAX_MEMBERS}
 use Rattle.dr_entry.specs.declared.record.Value.{Value}
-use Rattle.dr_entry.specs.declared.limits.TheConstants.{MAX_MEMBERS}
-use Rattle.dr_program.specs.declared.outcome.LogWhy.{LogWhy}
-use Rattle.dr_program.specs.declared.place.TheConstants.{TURN}
-use Rattle.dr_program.specs.Turn.{places_in}
+use Rattle.dr_history.specs.History.{last_view}
+use Rattle.dr_program.specs.{Form.IsOf, Replica.{Replica, greatest}, Turn.places_in, declared.outcome.LogWhy.LogWhy}
+use Rattle.dr_program.specs.{Running.{Running, members, columns}, Steps.NoWordFell, declared.place.TheConstants.TURN}
 use Rattle.dr_machine.specs.Group.{Group}
-use Rattle.dr_program.specs.Form.{IsOf}
 use Rattle.dr_rows.specs.Words.{own}
 use Rattle.dr_words.specs.declared.column.TheConstants.{LOGGED_COLUMN, DONE_COLUMN}
-use Rattle.dr_program.specs.Replica.{Replica, greatest}
-use Rattle.dr_program.specs.Steps.{NoWordFell}
-use Rattle.dr_program.specs.Running.{Running, members, columns}
 use Rattle.dr_turn.specs.Search.{left, IsUnderway}
 
 -- ---- what a replica still has to do: tasks, each with a number that its own deeds lower and no deed in

@@ -1,13 +1,11 @@
 //! Laws of the turn.
 ghost use Rattle.std.specs.Prelude.{◌≡◌, ℕ, ◌^◌, ◌<◌, ◌≤◌, List, Option, None, is_some, false, true};
 ghost use Rattle.dr_entry.specs.declared.entry.Entry.{Entry};
-ghost use Rattle.dr_program.specs.declared.outcome.LogWhy.{LogWhy};
 ghost use Rattle.dr_program.specs.Form.{HasForm, IsRunningMember};
 ghost use Rattle.dr_program.specs.Running.{Running, after_step, applies, broken_off, next_step, settled, took, took_letter, AsksForLetter};
-ghost use Rattle.dr_program.specs.Steps.{AtLook, IsAppend};
+ghost use Rattle.dr_program.specs.{Steps.{AtLook, IsAppend}, declared.outcome.LogWhy.LogWhy};
 ghost use Rattle.dr_rows.specs.Words.{is_frozen};
-ghost use Rattle.dr_turn.specs.Search.{IsUnderway, Passed};
-ghost use Rattle.dr_turn.specs.Work.{HasGrownTo, IsAfterDeed, LeadsOn, deeds_left};
+ghost use Rattle.dr_turn.specs.{Search.{IsUnderway, Passed}, Work.{HasGrownTo, IsAfterDeed, LeadsOn, deeds_left}};
 
 /// The search leads to the first place of the turn, from where the member stands, at which there is
 /// something to do. It changes nothing else, and leaves no more deeds to do. A member that has ended

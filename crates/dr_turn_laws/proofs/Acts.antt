@@ -1,47 +1,29 @@
 -- What is told act by act of a whole turn: what each step asks, what it leaves of what other steps ask, and
 -- that none is asked for behind the turn. A further act adds its lines here.
+use Rattle.std.{specs.Prelude.{List, Option, None, Some, is_some, option_map}, proofs.Math.Nat.min-le_left}
 use Rattle.std.proofs.Common.{◌≡◌, refl, sym, ◌∙◌, inl, ℕ, ◌<◌, ◌≤◌, ◌^◌, ◌==◌, Bool, true, false, length, ap, ◌+◌, ◌-◌, ◌&&◌, ◌||◌, arith}
-use Rattle.std.proofs.Math.Nat.{min-le_left}
-use Rattle.std.specs.Prelude.{List, Option, None, Some, is_some, option_map}
-use Rattle.dr_entry.specs.declared.end.End.{End}
-use Rattle.dr_entry.specs.declared.entry.Entry.{Entry}
+use Rattle.dr_entry.specs.declared.{end.End.End, entry.Entry.Entry}
 use Rattle.dr_entry.specs.declared.end.End.TheVariants as ends
-use Rattle.dr_history.specs.Members.{has}
-use Rattle.dr_history.proofs.Bits.{has_zero}
-use Rattle.dr_machine.specs.Acts.{does, effect_of, CanTake}
-use Rattle.dr_machine.specs.Effects.{one_more, stamped, with_own}
-use Rattle.dr_machine.specs.Group.{Group, columns, roster}
-use Rattle.dr_machine.specs.Guards.{HasRoom, IsUnwedged, IsDue, MayChoose, IsBehind}
-use Rattle.dr_machine.specs.World.{World, items_received, own_word}
-use Rattle.dr_machine.specs.declared.event.Act.{Act}
+use Rattle.dr_history.{specs.Members.has, proofs.Bits.has_zero}
+use Rattle.dr_machine.specs.{Acts.{does, effect_of, CanTake}, Effects.{one_more, stamped, with_own}}
+use Rattle.dr_machine.specs.{Group.{Group, columns, roster}, Guards.{HasRoom, IsUnwedged, IsDue, MayChoose, IsBehind}}
+use Rattle.dr_machine.specs.{World.{World, items_received, own_word}, declared.{event.Act.Act, step.Step.Step}}
 use Rattle.dr_machine.specs.declared.event.Act.TheVariants as acts
-use Rattle.dr_machine.specs.declared.step.Step.{Step}
 use Rattle.dr_machine.specs.declared.step.Step.TheVariants as steps
-use Rattle.dr_program.specs.Acts.{taken}
-use Rattle.dr_program.specs.Form.{HasForm}
-use Rattle.dr_program.specs.Replica.{Replica}
-use Rattle.dr_program.specs.declared.outcome.LogWhy.{LogWhy}
+use Rattle.dr_program.specs.{Acts.taken, Form.HasForm, Replica.Replica, declared.place.Part.Part}
+use Rattle.dr_program.specs.{Program.{after_deed, comes_to}, declared.place.{Place.Place, TheConstants.TURN}}
+use Rattle.dr_program.specs.{Running.{Running, broken_off, step_at}, Turn.{part_of, columns_in, is_beat, rows_in}}
+use Rattle.dr_program.specs.{Steps.{IsAppend, NoWordFell, allows, stepped, IsNoJoin}, declared.outcome.LogWhy.LogWhy}
 use Rattle.dr_program.specs.declared.outcome.Outcome.TheVariants as outcomes
-use Rattle.dr_program.specs.Program.{after_deed, comes_to}
-use Rattle.dr_program.specs.Running.{Running, broken_off, step_at}
-use Rattle.dr_program.specs.Steps.{IsAppend, NoWordFell, allows, stepped, IsNoJoin}
-use Rattle.dr_turn.specs.Work.{work}
-use Rattle.dr_program.specs.Turn.{part_of, columns_in, is_beat, rows_in}
-use Rattle.dr_program.specs.declared.place.Part.{Part}
+use Rattle.dr_turn.{specs.Work.work, proofs.{Deeds.one_turn, Order.{all_below, each_below}}}
+use Rattle.dr_turn.proofs.{Parts.{is_publish, lowers, numbered}, Tasks.ends_view}
 use Rattle.dr_program.specs.declared.place.Part.TheVariants as parts
-use Rattle.dr_program.specs.declared.place.Place.{Place}
-use Rattle.dr_program.specs.declared.place.TheConstants.{TURN}
-use Rattle.dr_turn_laws.specs.Rested.{IsRested}
-use Rattle.dr_turn_laws.specs.Swept.{IsIdle, Swept}
+use Rattle.dr_turn_laws.specs.{Rested.IsRested, Swept.{IsIdle, Swept}}
 use Rattle.dr_turn_laws.specs.Wants.{Wants, ShowsMore, is_work, IsToTake, IsLeft, NoneIsLeft, IsToEnd, IsToLog, IsToPublish, IsToMark}
-use Rattle.dr_turn.proofs.Deeds.{one_turn}
-use Rattle.dr_turn.proofs.Order.{all_below, each_below}
-use Rattle.dr_turn.proofs.Parts.{is_publish, lowers, numbered}
-use Rattle.dr_turn.proofs.Tasks.{ends_view}
+use Rattle.dr_turn_laws.proofs.Leaving.{Stays, apart_by, differs, done_own, end_kept, gained_other, nulled_left, own_other, publish_own, published_own, row_other, shows_own, still_room, to_take}
 use Rattle.dr_program_laws.proofs.Quiet.{is_passed}
 use Rattle.dr_words.specs.declared.column.TheConstants.{BEAT_COLUMN, DONE_COLUMN, LOGGED_COLUMN, RECEIVED_COLUMN}
 use Rattle.dr_words.proofs.Layouts.{first_rows}
-use Rattle.dr_turn_laws.proofs.Leaving.{Stays, apart_by, differs, done_own, end_kept, gained_other, nulled_left, own_other, publish_own, published_own, row_other, shows_own, still_room, to_take}
 
 -- ---- what a step asks is its guard, but for what every choice asks
 
@@ -75,8 +57,7 @@ asked g w m (steps.Do acts.Send) may calm wants =
     record { may = may; unwedged = calm; left = wants.0; room = wants.1 }
 asked g w m (steps.Do acts.Null) may calm wants =
     record { may = may; unwedged = calm; none_left = wants.0; room = wants.1; behind = wants.2 }
-asked g w m (steps.Do acts.Deliver) may calm wants =
-    record { may = may; unwedged = calm; received = wants }
+asked g w m (steps.Do acts.Deliver) may calm wants = record { may = may; unwedged = calm; received = wants }
 asked g w m (steps.Do acts.Publish) may calm wants = record { may = may; behind = wants }
 asked g w m (steps.Do acts.Report) may calm wants = record { may = may; logged = wants }
 asked g w m (steps.Do acts.Mark) may calm wants =
@@ -102,8 +83,7 @@ asked g w m (steps.Look i c) may calm wants = record {
   unsuspected = trusted w m i calm;
   column = wants.1;
 }
-asked g w m (steps.Push j c) may calm wants =
-    record { may = may; copy = wants.0; column = wants.1 }
+asked g w m (steps.Push j c) may calm wants = record { may = may; copy = wants.0; column = wants.1 }
 asked g w m steps.Append may calm wants = record { may = may; behind = wants }
 asked g w m (steps.LogVote v) may calm wants = absurd wants
 asked g w m (steps.Welcome j) may calm wants = record {
@@ -117,8 +97,7 @@ asked g w m (steps.Welcome j) may calm wants = record {
 asked g w m steps.Join may calm wants = absurd wants
 
 -- a step that may come is asked for: an end or a vote, where its member may choose and suspects nobody
-pub asks : (g : Group) (w : World) (m : ℕ) (s : Step)
-    → (is_work s ≡ false → MayChoose g w m × IsUnwedged w m)
+pub asks : (g : Group) (w : World) (m : ℕ) (s : Step) → (is_work s ≡ false → MayChoose g w m × IsUnwedged w m)
     → CanTake g w m s → Wants g w m s
 asks g w m (steps.Do acts.Beat) calm can = tt
 asks g w m (steps.Do (acts.Receive s)) calm can = (can.sender, can.ready)
@@ -153,12 +132,10 @@ asks_no_join g w m s wants = tt
 receive_kept : (g : Group) (w : World) (m : ℕ) (s : Step) (i c : ℕ)
     → Option (Stays g w (effect_of g w m s) m parts.Receive i c)
 receive_kept g w m (steps.Do (acts.Receive j)) i c = None
-receive_kept g w m (steps.Do acts.Send) i c =
-    Some (λ old wants. old (gained_other g w (effect_of g w m (steps.Do acts.Send)) m m i wants.0.other refl
-    wants.0 wants.1))
-receive_kept g w m (steps.Do acts.Null) i c =
-    Some (λ old wants. old (gained_other g w (effect_of g w m (steps.Do acts.Null)) m m i wants.0.other refl
-    wants.0 wants.1))
+receive_kept g w m (steps.Do acts.Send) i c = Some (λ old wants. old
+    (gained_other g w (effect_of g w m (steps.Do acts.Send)) m m i wants.0.other refl wants.0 wants.1))
+receive_kept g w m (steps.Do acts.Null) i c = Some (λ old wants. old
+    (gained_other g w (effect_of g w m (steps.Do acts.Null)) m m i wants.0.other refl wants.0 wants.1))
 receive_kept g w m (steps.Do acts.Finish) i c = None
 receive_kept g w m (steps.Look j d) i c = None
 receive_kept g w m steps.Join i c = None
@@ -175,8 +152,7 @@ send_kept g w m (steps.Look j d) i c = None
 send_kept g w m steps.Join i c = None
 send_kept g w m s i c = Some (λ old wants. old (
   wants.0,
-  still_room g w (effect_of g w m s) m (items_received w m m)
-      (items_received w m m) refl (omega arith) wants.1,
+  still_room g w (effect_of g w m s) m (items_received w m m) (items_received w m m) refl (omega arith) wants.1,
 ))
 
 null_kept : (g : Group) (w : World) (m : ℕ) (s : Step) (i c : ℕ)
@@ -189,8 +165,7 @@ null_kept g w m (steps.Look j d) i c = None
 null_kept g w m steps.Join i c = None
 null_kept g w m s i c = Some (λ old wants. old (
   wants.0,
-  still_room g w (effect_of g w m s) m (items_received w m m)
-      (items_received w m m) refl (omega arith) wants.1,
+  still_room g w (effect_of g w m s) m (items_received w m m) (items_received w m m) refl (omega arith) wants.1,
   wants.2,
 ))
 
@@ -201,18 +176,15 @@ own_kept g w m c x parts.Receive i k = None
 own_kept g w m c x (parts.Do (acts.Receive s)) i k = None
 own_kept g w m c x (parts.Do acts.Send) i k = None
 own_kept g w m c x (parts.Do acts.Null) i k = None
-own_kept g w m c x (parts.Do acts.Deliver) i k =
-    option_map (λ apart old all. old (shows_own w m c x RECEIVED_COLUMN (w.next m) apart all))
-    (differs c RECEIVED_COLUMN)
+own_kept g w m c x (parts.Do acts.Deliver) i k = option_map (λ apart old all. old
+    (shows_own w m c x RECEIVED_COLUMN (w.next m) apart all)) (differs c RECEIVED_COLUMN)
 own_kept g w m c x parts.Append i k =
     option_map (λ apart old wants. publish_own w m c x apart (old wants)) (differs c LOGGED_COLUMN)
 own_kept g w m c x (parts.Do acts.Publish) i k =
     option_map (λ apart old wants. old (published_own w m c x apart wants)) (differs c LOGGED_COLUMN)
-own_kept g w m c x (parts.Do acts.Report) i k =
-    option_map (λ apart old all. old (shows_own w m c x LOGGED_COLUMN (w.past.durable m) apart all))
-    (differs c LOGGED_COLUMN)
-own_kept g w m c x (parts.Do acts.Mark) i k =
-    option_map (λ apart old wants. old
+own_kept g w m c x (parts.Do acts.Report) i k = option_map (λ apart old all. old
+    (shows_own w m c x LOGGED_COLUMN (w.past.durable m) apart all)) (differs c LOGGED_COLUMN)
+own_kept g w m c x (parts.Do acts.Mark) i k = option_map (λ apart old wants. old
     (sym (own_other w.past.own m (w.past.view m) c x DONE_COLUMN apart) ∙ wants.0, wants.1, wants.2))
     (differs c DONE_COLUMN)
 own_kept g w m c x parts.Done i k =
@@ -223,22 +195,19 @@ own_kept g w m c x (parts.Do (acts.Halt end)) i k = None
 own_kept g w m c x part i k = Some (λ old. old)
 
 -- the stamp of an act
-stamp_kept : (g : Group) (w : World) (m : ℕ) (part : Part) (i c : ℕ)
-    → Option (Stays g w (stamped w m) m part i c)
+stamp_kept : (g : Group) (w : World) (m : ℕ) (part : Part) (i c : ℕ) → Option (Stays g w (stamped w m) m part i c)
 stamp_kept g w m parts.Receive i c = None
 stamp_kept g w m (parts.Do (acts.Receive s)) i c = None
 stamp_kept g w m (parts.Do acts.Send) i c = None
 stamp_kept g w m (parts.Do acts.Null) i c = None
-stamp_kept g w m parts.Look i c =
-    Some (λ old other. old other
+stamp_kept g w m parts.Look i c = Some (λ old other. old other
     ∙ sym (row_other w.table (w.past.view m) m m BEAT_COLUMN (one_more 64 (w.past.acts m)) m i c other))
 stamp_kept g w m parts.Push i c = None
 stamp_kept g w m (parts.Do (acts.Suspect j)) i c = None
 stamp_kept g w m (parts.Do (acts.Halt end)) i c = None
 stamp_kept g w m (parts.Do acts.Mark) i c =
     own_kept g w m BEAT_COLUMN (one_more 64 (w.past.acts m)) (parts.Do acts.Mark) i c
-stamp_kept g w m (parts.Do a) i c =
-    own_kept g w m BEAT_COLUMN (one_more 64 (w.past.acts m)) (parts.Do a) i c
+stamp_kept g w m (parts.Do a) i c = own_kept g w m BEAT_COLUMN (one_more 64 (w.past.acts m)) (parts.Do a) i c
 stamp_kept g w m part i c = own_kept g w m BEAT_COLUMN (one_more 64 (w.past.acts m)) part i c
 
 -- an act, but for its stamp
@@ -320,8 +289,7 @@ uncrashed r part i c = step_at r part i c
 
 -- the deed of part a leaves part b, or goes back to it, or is passed
 abbrev leaves : Group → World → ℕ → Running → Place → Place → ℕ → ℕ → Bool
-leaves g w m r p q a b =
-    (is_passed (numbered a) || (is_publish (numbered a) && (b + 1 == a)))
+leaves g w m r p q a b = (is_passed (numbered a) || (is_publish (numbered a) && (b + 1 == a)))
     || is_some (kept g w m (uncrashed r (numbered a) p.row p.column) (numbered b) q.row q.column)
 
 -- each deed of a turn that isn't passed leaves what is known of the parts before it
@@ -330,8 +298,7 @@ all_leave : (g : Group) (w : World) (m : ℕ) (r : Running) (p q : Place)
 unfolding all_below kept receive_kept send_kept null_kept does_kept stamp_kept own_kept both differs apart_by
 all_leave g w m r p q = refl
 
-given : {A : Type 0} (j t : Bool) (o : Option A) → j ≡ false → t ≡ false
-    → ((j || t) || is_some o) ≡ true → A
+given : {A : Type 0} (j t : Bool) (o : Option A) → j ≡ false → t ≡ false → ((j || t) || is_some o) ≡ true → A
 given true t o plain other e = absurd (cc)
 given false true o plain other e = absurd (cc)
 given false false (Some x) plain other e = x
@@ -340,15 +307,12 @@ given false false None plain other e = absurd (cc)
 -- what is known of a place stays known after the deed of a later part that isn't passed, but where that goes
 -- back to it
 pub earlier_kept : (g : Group) (w : World) (m : ℕ) (r : Running) (p q : Place) → p.part + 1 < length TURN
-    → q.part < p.part → is_passed (part_of p) ≡ false
-    → (is_publish (part_of p) && (q.part + 1 == p.part)) ≡ false
+    → q.part < p.part → is_passed (part_of p) ≡ false → (is_publish (part_of p) && (q.part + 1 == p.part)) ≡ false
     → Stays g w (effect_of g w m (uncrashed r (part_of p) p.row p.column)) m (part_of q) q.row q.column
-earlier_kept g w m r p q inside before plain forth =
-    given _ _ (kept g w m (uncrashed r (part_of p) p.row p.column) (part_of q) q.row q.column) plain forth
-    (each_below p.part q.part (leaves g w m r p q p.part)
+earlier_kept g w m r p q inside before plain forth = given _ _ (kept g w m (uncrashed r (part_of p) p.row p.column)
+    (part_of q) q.row q.column) plain forth (each_below p.part q.part (leaves g w m r p q p.part)
     (each_below (length TURN - 1) p.part (λ a. all_below a (leaves g w m r p q a)) (all_leave g w m r p q)
-    (omega (arith, inside)))
-    before)
+    (omega (arith, inside))) before)
 
 -- ---- behind the turn
 
@@ -359,13 +323,10 @@ pub record IsPastPushes (g : Group) (w : World) (m : ℕ) (p : Place) : Type 0 w
   pub view : (i : ℕ) → has (w.members m) i ≡ true → i < roster g
 
 -- a row and a column of a part
-pub idle_part : (g : Group) (w : World) (m : ℕ) (p : Place) (a i c : ℕ) → IsPastPushes g w m p
-    → a < length TURN - 6 → i < rows_in (roster g) (numbered a) → c < columns_in (columns g) (numbered a)
-    → IsIdle g w m (numbered a) i c
-idle_part g w m p a i c behind early row column =
-    behind.swept (record { part = a; row = i; column = c })
-    (record { part = omega (arith, early); row = row; column = column })
-    (inl (omega (arith, early, behind.late)))
+pub idle_part : (g : Group) (w : World) (m : ℕ) (p : Place) (a i c : ℕ) → IsPastPushes g w m p → a < length TURN - 6
+    → i < rows_in (roster g) (numbered a) → c < columns_in (columns g) (numbered a) → IsIdle g w m (numbered a) i c
+idle_part g w m p a i c behind early row column = behind.swept (record { part = a; row = i; column = c })
+    (record { part = omega (arith, early); row = row; column = column }) (inl (omega (arith, early, behind.late)))
 
 -- no step of the turn is asked for. Parts behind those of the items are counted from the end
 pub idle_work : (g : Group) (w : World) (m : ℕ) (p : Place) → IsPastPushes g w m p
@@ -374,8 +335,7 @@ idle_work g w m p behind s work = by s work
   where
     one : (a : ℕ) → a < length TURN - 6 → rows_in (roster g) (numbered a) ≡ 1
         → columns_in (columns g) (numbered a) ≡ 1 → IsIdle g w m (numbered a) 0 0
-    one a early row column =
-        idle_part g w m p a 0 0 behind early (omega (arith, row)) (omega (arith, column))
+    one a early row column = idle_part g w m p a 0 0 behind early (omega (arith, row)) (omega (arith, column))
 
     by : (s : Step) → is_work s ≡ true → Wants g w m s → ⊥
     by (steps.Do (acts.Receive i)) work = λ wants.
@@ -448,8 +408,7 @@ one_act n = min-le_left (n + 1) (2 ^ 64 - 1)
 -- what a step does is paid for
 pub worked_on : (word n : ℕ) (r : Replica) (s : Step) → HasForm r → allows r s ≡ true
     → HasForm (stepped word r s) → ((stepped word r s).view ≡ r.view → NoWordFell r (stepped word r s))
-    → (begins_turn s ≡ true → r.turns + 1 < 2 ^ 32) → r.acts + work r ≤ n + r.turns
-    → (stepped word r s).end ≡ None
+    → (begins_turn s ≡ true → r.turns + 1 < 2 ^ 32) → r.acts + work r ≤ n + r.turns → (stepped word r s).end ≡ None
     → (stepped word r s).acts + work (stepped word r s) ≤ n + (stepped word r s).turns
 worked_on word n r (steps.Do acts.Beat) form may keeps grown turn old going = omega (
   arith,
@@ -462,8 +421,7 @@ worked_on word n r (steps.Do (acts.Halt end)) form may keeps grown turn old goin
 worked_on word n r (steps.Do (acts.Crash end)) form may keeps grown turn old going = absurd (cc going)
 worked_on word n r (steps.Do a) form may keeps grown turn old going =
     omega (arith, lowers word r (steps.Do a) form may keeps grown, one_act r.acts, old)
-worked_on word n r s form may keeps grown turn old going =
-    omega (arith, lowers word r s form may keeps grown, old)
+worked_on word n r s form may keeps grown turn old going = omega (arith, lowers word r s form may keeps grown, old)
 
 -- ---- an append that fails
 

@@ -1,32 +1,19 @@
 -- In the first view acts are few, so the beat of a member rises with each turn.
 use Rattle.std.proofs.Common.{◌≡◌, refl, ap, ◌∙◌, subst, inl, inr, ◌⊎◌, ℕ, ◌+◌, ◌-◌, ◌*◌, ◌^◌, ◌<◌, ◌≤◌, List, fold, length, map, max, not, slice_index, true, arith}
-use Rattle.std.proofs.Math.Nat.{min-eq_left, mul-le-mul}
-use Rattle.std.proofs.lemmas.Bool.{cases_lt}
+use Rattle.std.proofs.{Math.Nat.{min-eq_left, mul-le-mul}, lemmas.Bool.cases_lt}
 use Rattle.std.proofs.lemmas.List.{get_or-map, get_or_past, length-map, length-take}
 use Rattle.dr_entry.proofs.ListPlaces.{greatest_within}
-use Rattle.dr_history.specs.Members.{has}
-use Rattle.dr_history.specs.Places.{front_of, is_held}
-use Rattle.dr_history.proofs.Fronts.{first_within}
+use Rattle.dr_history.{specs.{Members.has, Places.{front_of, is_held}}, proofs.Fronts.first_within}
 use Rattle.dr_history_laws.proofs.Members.{members_of-few}
-use Rattle.dr_machine.specs.Acts.{effect_of}
-use Rattle.dr_machine.specs.Effects.{one_more}
-use Rattle.dr_machine.specs.Group.{Group, IsPresent}
-use Rattle.dr_machine.specs.World.{World}
-use Rattle.dr_machine.specs.Writes.{at₃}
-use Rattle.dr_program.specs.Form.{HasForm}
-use Rattle.dr_program.specs.Program.{Program, ok, step_of}
-use Rattle.dr_program.specs.Reading.{table_of, world}
-use Rattle.dr_program.specs.Replica.{Replica, greatest, members_in_view}
-use Rattle.dr_program.specs.Running.{Running, step_at}
-use Rattle.dr_program.specs.Turn.{part_of, turn_begins}
-use Rattle.dr_program.proofs.Holdings.{held_of}
-use Rattle.dr_refine.proofs.Deeds.{replicas}
-use Rattle.dr_refine.proofs.Members.{own_shown}
+use Rattle.dr_machine.specs.{Acts.effect_of, Effects.one_more, Group.{Group, IsPresent}, World.World, Writes.at₃}
+use Rattle.dr_program.specs.{Form.HasForm, Program.{Program, ok, step_of}, Reading.{table_of, world}}
+use Rattle.dr_program.specs.{Replica.{Replica, greatest, members_in_view}, Running.{Running, step_at}}
+use Rattle.dr_program.{specs.Turn.{part_of, turn_begins}, proofs.Holdings.held_of}
+use Rattle.dr_refine.proofs.{Deeds.replicas, Members.own_shown}
 use Rattle.dr_turn.specs.Work.{ballots_left, commit_left, items_left, letters_left, log_left, mark_left, places_left, refill, reports_left, sum_of, trust_left, views_left, work}
 use Rattle.dr_words.specs.declared.column.TheConstants.{BEAT_COLUMN, RECEIVED_COLUMN}
 use Rattle.dr_world_laws.proofs.Worlds.{Known, known}
-use Rattle.dr_turn_laws.proofs.Passing.{IsGoing, member}
-use Rattle.dr_turn_laws.proofs.Steadying.{world_on}
+use Rattle.dr_turn_laws.proofs.{Passing.{IsGoing, member}, Steadying.world_on}
 use Rattle.dr_program_laws.proofs.Trusting.{stay_first}
 
 -- ---- places
@@ -34,8 +21,7 @@ use Rattle.dr_program_laws.proofs.Trusting.{stay_first}
 -- a front is not behind the items of all
 front_most : (counts : List ℕ) → front_of counts ≤ length counts * fold max 0 counts
 unfolding front_of
-front_most counts =
-    omega (arith, first_within (λ p. not (is_held counts p)) 0 (length counts * fold max 0 counts))
+front_most counts = omega (arith, first_within (λ p. not (is_held counts p)) 0 (length counts * fold max 0 counts))
 
 -- no member has come to more places than all messages have
 places_few : (r : Replica) → HasForm r → front_of (map (slice_index r.counts) (members_in_view r)) ≤ 16 * 4096
@@ -75,26 +61,18 @@ places_few r form = omega (
 few : (x acts items next log durable rest some room turns : ℕ)
     → acts + (x + (items + ((2 ^ 64 - next) + (log + ((2 ^ 64 - durable) + rest)))))
     ≤ x + (some + 2 ^ 65 + 2 * room + 2 ^ 16 + 2 ^ 16 + 16 + 4) + turns
-    → next ≤ 16 * 4096 → durable ≤ room → room < 2 ^ 32 → some ≤ 4096 * 16 → turns < 2 ^ 32
-    → acts + 1 < 2 ^ 64
+    → next ≤ 16 * 4096 → durable ≤ room → room < 2 ^ 32 → some ≤ 4096 * 16 → turns < 2 ^ 32 → acts + 1 < 2 ^ 64
 few x acts items next log durable rest some room turns paid places known small messages early =
     omega (arith, paid, places, known, small, messages, early)
 
 pub acts_few : (g : Group) (p : Program) (m : ℕ) (r : Running) → IsGoing g p m r → r.replica.acts + 1 < 2 ^ 64
 unfolding work views_left sum_of places_left reports_left
-acts_few g p m r is =
-    few (refill q * q.banks) q.acts (items_left q) q.next (log_left q) q.durable
-    (mark_left q + (trust_left q + (ballots_left q + (commit_left q + (letters_left q + 0)))))
+acts_few g p m r is = few (refill q * q.banks) q.acts (items_left q) q.next
+    (log_left q) q.durable (mark_left q + (trust_left q + (ballots_left q + (commit_left q + (letters_left q + 0)))))
     (greatest q.totals * q.roster) q.room
-    q.turns (omega (
-      arith,
-      is.steady.works m r is.there is.unended,
-      ap
-          (λ b. refill q * b) first,
-    )) next durable
-    form.small
-    (mul-le-mul {n₁ = greatest q.totals} {m₁ = q.roster} {n₂ = 4096} {m₂ = 16} form.few
-    (omega (arith, form.rows.few, form.members)))
+    q.turns (omega (arith, is.steady.works m r is.there is.unended, ap (λ b. refill q * b) first)) next durable
+    form.small (mul-le-mul {n₁ = greatest q.totals}
+    {m₁ = q.roster} {n₂ = 4096} {m₂ = 16} form.few (omega (arith, form.rows.few, form.members)))
     (omega (arith, (is.steady.program.form m r is.there).turns, is.steady.limits m r is.there))
   where
     q : Replica
@@ -147,8 +125,7 @@ one_stamp : (n : ℕ) → n + 1 < 2 ^ 64 → one_more 64 n ≡ n + 1
 one_stamp n small = min-eq_left (omega (arith, small))
 
 -- with the deed that begins a turn it rises
-pub beat_rises : (g : Group) (p : Program) (m : ℕ) (r : Running) → IsGoing g p m r
-    → part_of r.place ≡ turn_begins
+pub beat_rises : (g : Group) (p : Program) (m : ℕ) (r : Running) → IsGoing g p m r → part_of r.place ≡ turn_begins
     → (world g p).past.own m 0 BEAT_COLUMN < (world g (step_of p (ok m))).past.own m 0 BEAT_COLUMN
 beat_rises g p m r is begins = subst (λ v. w.past.own m v BEAT_COLUMN < u.past.own m v BEAT_COLUMN)
     (stay_first g p m is.ease) (omega (
@@ -172,7 +149,6 @@ beat_rises g p m r is begins = subst (λ v. w.past.own m v BEAT_COLUMN < u.past.
     y : Known g (world g p)
     y = known g (world g p) is.steady.group is.steady.reached
 
-    moved : world g (step_of p (ok m))
-        ≡ effect_of g (world g p) m (step_at r turn_begins r.place.row r.place.column)
+    moved : world g (step_of p (ok m)) ≡ effect_of g (world g p) m (step_at r turn_begins r.place.row r.place.column)
     moved = (world_on g p m r is.steady is.there is.unended).1
         ∙ ap (λ part. effect_of g (world g p) m (step_at r part r.place.row r.place.column)) begins

@@ -1,8 +1,7 @@
 -- The order of the places of a turn.
 use Rattle.std.proofs.Common.{◌≡◌, refl, subst, inl, inr, ◌⊎◌, ℕ, ◌+◌, ◌<◌, Bool, true, false, if◌then◌else◌, nat_lt, arith}
 use Rattle.std.proofs.lemmas.Bool.Decides.{nat_tests}
-use Rattle.dr_program.specs.declared.place.Place.{Place}
-use Rattle.dr_program.specs.Turn.{IsIn, after, columns_in, part_of, rows_in}
+use Rattle.dr_program.specs.{Turn.{IsIn, after, columns_in, part_of, rows_in}, declared.place.Place.Place}
 use Rattle.dr_turn_laws.specs.Swept.{IsBefore}
 
 -- a row and a column come before others
@@ -10,22 +9,18 @@ abbrev pub IsLess : ℕ → ℕ → ℕ → ℕ → Type 0
 IsLess j d i c = (j < i) ⊎ ((j ≡ i) × (d < c))
 
 -- what is not after a column of a row is before it, or there
-split_column : (j d i c : ℕ) → (j < i) ⊎ ((j ≡ i) × (d < c + 1))
-    → IsLess j d i c ⊎ ((j ≡ i) × (d ≡ c))
+split_column : (j d i c : ℕ) → (j < i) ⊎ ((j ≡ i) × (d < c + 1)) → IsLess j d i c ⊎ ((j ≡ i) × (d ≡ c))
 split_column j d i c before = grind (arith, before)
 
-split_place : (q p : Place) → q.part ≡ p.part → IsLess q.row q.column p.row (p.column + 1)
-    → IsBefore q p ⊎ (q ≡ p)
+split_place : (q p : Place) → q.part ≡ p.part → IsLess q.row q.column p.row (p.column + 1) → IsBefore q p ⊎ (q ≡ p)
 split_place q p same before = by (split_column q.row q.column p.row p.column before)
   where
-    by : IsLess q.row q.column p.row p.column ⊎ ((q.row ≡ p.row) × (q.column ≡ p.column))
-        → IsBefore q p ⊎ (q ≡ p)
+    by : IsLess q.row q.column p.row p.column ⊎ ((q.row ≡ p.row) × (q.column ≡ p.column)) → IsBefore q p ⊎ (q ≡ p)
     by (inl less) = inl (inr (same, less))
     by (inr at) = inr (λ z. record { part = same z; row = at.0 z; column = at.1 z })
 
 -- what comes before the next place comes before this one, or is it
-pub before_after : (n k : ℕ) (q p : Place) → IsIn n k q → IsBefore q (after n k p)
-    → IsBefore q p ⊎ (q ≡ p)
+pub before_after : (n k : ℕ) (q p : Place) → IsIn n k q → IsBefore q (after n k p) → IsBefore q p ⊎ (q ≡ p)
 before_after n k q p is = by _ _ _ refl refl
   where
     column : q.part ≡ p.part → q.column < columns_in k (part_of p)
@@ -42,27 +37,22 @@ before_after n k q p is = by _ _ _ refl refl
         → (j < i) ⊎ ((j ≡ i) × (d < c + 1))
     last_row j d i c n k l h low last = grind (arith, nat_tests, l, h, low, last)
 
-    next_part : (a b j d : ℕ) → (a < b + 1) ⊎ ((a ≡ b + 1) × ((j < 0) ⊎ ((j ≡ 0) × (d < 0))))
-        → (a < b) ⊎ (a ≡ b)
+    next_part : (a b j d : ℕ) → (a < b + 1) ⊎ ((a ≡ b + 1) × ((j < 0) ⊎ ((j ≡ 0) × (d < 0)))) → (a < b) ⊎ (a ≡ b)
     next_part a b j d before = grind (arith, before)
 
     nothing : (a j d : ℕ) → (a < 0) ⊎ ((a ≡ 0) × ((j < 0) ⊎ ((j ≡ 0) × (d < 0)))) → ⊥
     nothing a j d before = grind (arith, before)
 
-    behind : nat_lt (p.column + 1) (columns_in k (part_of p)) ≡ false
-        → nat_lt (p.row + 1) (rows_in n (part_of p)) ≡ false → (q.part < p.part) ⊎ (q.part ≡ p.part)
-        → IsBefore q p ⊎ (q ≡ p)
+    behind : nat_lt (p.column + 1) (columns_in k (part_of p)) ≡ false → nat_lt (p.row + 1) (rows_in n
+        (part_of p)) ≡ false → (q.part < p.part) ⊎ (q.part ≡ p.part) → IsBefore q p ⊎ (q ≡ p)
     behind e f (inl earlier) = inl (inl earlier)
-    behind e f (inr same) = split_place q p same
-        (last_row q.row q.column p.row p.column (rows_in n (part_of p)) (columns_in k (part_of p))
-        (row same) (column same) f e)
+    behind e f (inr same) = split_place q p same (last_row q.row q.column p.row p.column
+        (rows_in n (part_of p)) (columns_in k (part_of p)) (row same) (column same) f e)
 
-    by : (x y z : Bool) → nat_lt (p.column + 1) (columns_in k (part_of p)) ≡ x
-        → nat_lt (p.row + 1) (rows_in n (part_of p)) ≡ y
-        → IsBefore q (if x then record p { column = p.column + 1 } else
+    by : (x y z : Bool) → nat_lt (p.column + 1) (columns_in k (part_of p)) ≡ x → nat_lt (p.row + 1) (rows_in n
+        (part_of p)) ≡ y → IsBefore q (if x then record p { column = p.column + 1 } else
         (if y then record p { row = p.row + 1; column = 0 }
-        else record { part = if z then p.part + 1 else 0; row = 0; column = 0 }))
-        → IsBefore q p ⊎ (q ≡ p)
+        else record { part = if z then p.part + 1 else 0; row = 0; column = 0 })) → IsBefore q p ⊎ (q ≡ p)
     by true y z e f (inl earlier) = inl (inl earlier)
     by true y z e f (inr here) = split_place q p here.0 here.1
     by false true z e f (inl earlier) = inl (inl earlier)

@@ -1,44 +1,32 @@
 -- What the writes of a step leave of what other steps ask.
+use Rattle.std.{specs.Prelude.{Option, None, Some}, proofs.lemmas.Bool.cases_eq}
 use Rattle.std.proofs.Common.{◌≡◌, ◌≢◌, refl, sym, ◌∙◌, subst, inl, inr, ℕ, ◌<◌, ◌==◌, Bool, true, false, if◌then◌else◌, List, [], ◌∷◌, ◌++◌, length, ap, ◌+◌, ◌-◌, ◌≤◌, ◌⊎◌, arith}
-use Rattle.std.specs.Prelude.{Option, None, Some}
-use Rattle.std.proofs.lemmas.Bool.{cases_eq}
-use Rattle.dr_entry.specs.declared.end.End.{End}
-use Rattle.dr_entry.specs.declared.end.SentItem.{SentItem}
-use Rattle.dr_entry.specs.declared.end.SentItem.TheVariants.{Null}
-use Rattle.dr_history.specs.History.{messages_in, messages_of}
-use Rattle.dr_history.specs.Members.{has}
-use Rattle.dr_history.proofs.Histories.{messages_null}
-use Rattle.dr_machine.specs.Effects.{ends, nulls, one_more, receives, stamped, stamped_in, with_own}
-use Rattle.dr_machine.specs.Group.{Group}
-use Rattle.dr_machine.specs.Guards.{HasRoom, IsOther, seen_slot}
-use Rattle.dr_machine.specs.World.{World, items_received, own_word}
+use Rattle.dr_entry.specs.declared.end.{End.End, SentItem.{SentItem, TheVariants.Null}}
+use Rattle.dr_history.{specs.{History.{messages_in, messages_of}, Members.has}, proofs.Histories.messages_null}
+use Rattle.dr_machine.specs.{Effects.{ends, nulls, one_more, receives, stamped, stamped_in, with_own}, Group.Group}
+use Rattle.dr_machine.specs.{Guards.{HasRoom, IsOther, seen_slot}, World.{World, items_received, own_word}}
 use Rattle.dr_machine.specs.Writes.{at, at₂, at₃, at₄}
 use Rattle.dr_program.specs.declared.place.Part.{Part}
 use Rattle.dr_program.specs.declared.place.Part.TheVariants as parts
 use Rattle.dr_refine.proofs.Tests.{count_written}
 use Rattle.dr_ring.specs.Slots.{IsReady}
+use Rattle.dr_words.specs.{Columns.recv_column, Packing.recv_count}
 use Rattle.dr_words.specs.declared.column.TheConstants.{BEAT_COLUMN, DONE_COLUMN, LOGGED_COLUMN}
-use Rattle.dr_words.specs.Columns.{recv_column}
-use Rattle.dr_words.specs.Packing.{recv_count}
-use Rattle.dr_turn_laws.specs.Swept.{IsIdle}
-use Rattle.dr_turn_laws.specs.Wants.{IsLeft, IsToTake, SeesAllDone, ShowsMore}
+use Rattle.dr_turn_laws.specs.{Swept.IsIdle, Wants.{IsLeft, IsToTake, SeesAllDone, ShowsMore}}
 
 -- ---- writes
 
-pub own_other : (own : ℕ → ℕ → ℕ → ℕ) (m v c x d : ℕ) → d ≢ c
-    → at₃ own m v c x m v d ≡ own m v d
+pub own_other : (own : ℕ → ℕ → ℕ → ℕ) (m v c x d : ℕ) → d ≢ c → at₃ own m v c x m v d ≡ own m v d
 own_other own m v c x d other = grind (arith, other)
 
 pub row_other : (table : ℕ → ℕ → ℕ → ℕ → ℕ) (v a m c x b j d : ℕ) → j ≢ m
     → at₄ table v a m c x v b j d ≡ table v b j d
 row_other table v a m c x b j d other = grind (arith, other)
 
-copy_other : (table : ℕ → ℕ → ℕ → ℕ → ℕ) (v a i c x b j d : ℕ) → b ≢ a
-    → at₄ table v a i c x v b j d ≡ table v b j d
+copy_other : (table : ℕ → ℕ → ℕ → ℕ → ℕ) (v a i c x b j d : ℕ) → b ≢ a → at₄ table v a i c x v b j d ≡ table v b j d
 copy_other table v a i c x b j d other = grind (arith, other)
 
-count_other : (count : ℕ → ℕ → ℕ → ℕ) (m v s x t : ℕ) → t ≢ s
-    → at₂ count m v (at (count m v) s x) m v t ≡ count m v t
+count_other : (count : ℕ → ℕ → ℕ → ℕ) (m v s x t : ℕ) → t ≢ s → at₂ count m v (at (count m v) s x) m v t ≡ count m v t
 count_other count m v s x t other = grind (arith, other)
 
 end_here : (end : ℕ → Option End) (m : ℕ) (x : Option End) → at end m x m ≡ x
@@ -57,10 +45,8 @@ apart_by c d false e = Some (λ same. unequal c d same e)
 unfoldable pub differs : (c d : ℕ) → Option (d ≢ c)
 differs c d = apart_by c d (c == d) refl
 
-pub shows_own : (w : World) (m c x d y : ℕ) → d ≢ c → ShowsMore (with_own w m c x) m d y
-    → ShowsMore w m d y
-shows_own w m c x d y apart all i member =
-    subst (λ z. y < (if i == m then z else w.seen m i d))
+pub shows_own : (w : World) (m c x d y : ℕ) → d ≢ c → ShowsMore (with_own w m c x) m d y → ShowsMore w m d y
+shows_own w m c x d y apart all i member = subst (λ z. y < (if i == m then z else w.seen m i d))
     (own_other w.past.own m (w.past.view m) c x d apart) (all i member)
 
 pub published_own : (w : World) (m c x : ℕ) → LOGGED_COLUMN ≢ c
@@ -69,16 +55,13 @@ pub published_own : (w : World) (m c x : ℕ) → LOGGED_COLUMN ≢ c
 published_own w m c x apart behind =
     omega (arith, behind, own_other w.past.own m (w.past.view m) c x LOGGED_COLUMN apart)
 
-pub publish_own : (w : World) (m c x : ℕ) → LOGGED_COLUMN ≢ c
-    → own_word w m LOGGED_COLUMN < length (w.past.log m)
+pub publish_own : (w : World) (m c x : ℕ) → LOGGED_COLUMN ≢ c → own_word w m LOGGED_COLUMN < length (w.past.log m)
     → own_word (with_own w m c x) m LOGGED_COLUMN < length (w.past.log m)
 publish_own w m c x apart behind =
     omega (arith, behind, own_other w.past.own m (w.past.view m) c x LOGGED_COLUMN apart)
 
-pub done_own : (w : World) (m c x : ℕ) → DONE_COLUMN ≢ c → SeesAllDone (with_own w m c x) m
-    → SeesAllDone w m
-done_own w m c x apart all i member =
-    subst (λ z. (if i == m then z else w.seen m i DONE_COLUMN) ≡ 1)
+pub done_own : (w : World) (m c x : ℕ) → DONE_COLUMN ≢ c → SeesAllDone (with_own w m c x) m → SeesAllDone w m
+done_own w m c x apart all i member = subst (λ z. (if i == m then z else w.seen m i DONE_COLUMN) ≡ 1)
     (own_other w.past.own m (w.past.view m) c x DONE_COLUMN apart) (all i member)
 
 -- ---- items and ends
@@ -96,19 +79,15 @@ to_take g w v m i n view same other ready = (
 )
 
 -- an item more of s leaves the items of another sender
-pub gained_other : (g : Group) (w v : World) (m s i : ℕ) → i ≢ s → v.members m ≡ w.members m
-    → IsOther v m i
+pub gained_other : (g : Group) (w v : World) (m s i : ℕ) → i ≢ s → v.members m ≡ w.members m → IsOther v m i
     → IsReady (items_received (receives g w m s) m i) (seen_slot g w m i (items_received (receives g w m s) m i))
     → IsToTake g w m i
-gained_other g w v m s i apart view other ready =
-    to_take g w v m i (items_received (receives g w m s) m i) view
+gained_other g w v m s i apart view other ready = to_take g w v m i (items_received (receives g w m s) m i) view
     (count_other w.past.count m (w.past.view m) s (w.past.count m (w.past.view m) s + 1) i apart) other ready
 
 -- where an item has room, with the same view, so has an earlier one
-pub still_room : (g : Group) (w v : World) (m n k : ℕ) → v.members m ≡ w.members m → n ≤ k
-    → (k < g.window)
-    ⊎ ((i : ℕ) → IsOther v m i → k - g.window < recv_count (w.seen m i (recv_column m)))
-    → HasRoom g w m n
+pub still_room : (g : Group) (w v : World) (m n k : ℕ) → v.members m ≡ w.members m → n ≤ k → (k < g.window)
+    ⊎ ((i : ℕ) → IsOther v m i → k - g.window < recv_count (w.seen m i (recv_column m))) → HasRoom g w m n
 still_room g w v m n k view earlier (inl early) = inl (omega (arith, earlier, early))
 still_room g w v m n k view earlier (inr all) = inr (λ i other. omega (
   arith,
@@ -116,8 +95,7 @@ still_room g w v m n k view earlier (inr all) = inr (λ i other. omega (
   all i (record { member = ap (λ x. has x i) view ∙ other.member; other = other.other }),
 ))
 
-sent_here : (sent : ℕ → ℕ → List SentItem) (m v : ℕ) (items : List SentItem)
-    → at₂ sent m v items m v ≡ items
+sent_here : (sent : ℕ → ℕ → List SentItem) (m v : ℕ) (items : List SentItem) → at₂ sent m v items m v ≡ items
 sent_here sent m v items = grind arith
 
 -- a null is no message, and where there is a slot behind it there was one before
@@ -132,8 +110,7 @@ nulled_left g w m wants = (
     sent : List SentItem
     sent = w.past.sent m (w.past.view m)
 
-    same : messages_in (at₂ w.past.sent m (w.past.view m) (sent ++ Null ∷ []) m (w.past.view m))
-        ≡ messages_in sent
+    same : messages_in (at₂ w.past.sent m (w.past.view m) (sent ++ Null ∷ []) m (w.past.view m)) ≡ messages_in sent
     same = ap messages_in (sent_here w.past.sent m (w.past.view m) (sent ++ Null ∷ [])) ∙ messages_null sent
 
     more : items_received (nulls g w m) m m ≡ items_received w m m + 1
@@ -144,15 +121,13 @@ pub end_kept : (g : Group) (w : World) (m : ℕ) (end : End) (i c : ℕ)
     → Stays g w (stamped (ends w m end) m) m parts.Push i c
 end_kept g w m end i c old other open_end = elim (cases_eq c BEAT_COLUMN) [
   | inl same ↦ absurd (cc (sym (end_here w.end m (Some end)) ∙ open_end same))
-  | inr apart ↦
-      copy_other w.table (w.past.view m) m m BEAT_COLUMN (one_more 64 (w.past.acts m)) i m c other
+  | inr apart ↦ copy_other w.table (w.past.view m) m m BEAT_COLUMN (one_more 64 (w.past.acts m)) i m c other
       ∙ old other (λ same. absurd (apart same))
       ∙ sym (own_other w.past.own m (w.past.view m) BEAT_COLUMN (one_more 64 (w.past.acts m)) c apart)
 ]
 
 -- a member that sees that all are done still sees it at its end
 pub end_sees : (w : World) (m : ℕ) (end : End) → SeesAllDone w m → SeesAllDone (stamped (ends w m end) m) m
-end_sees w m end all i member =
-    subst (λ z. (if i == m then z else w.seen m i DONE_COLUMN) ≡ 1)
+end_sees w m end all i member = subst (λ z. (if i == m then z else w.seen m i DONE_COLUMN) ≡ 1)
     (sym (own_other w.past.own m (w.past.view m) BEAT_COLUMN (one_more 64 (w.past.acts m)) DONE_COLUMN
     (omega arith))) (all i member)

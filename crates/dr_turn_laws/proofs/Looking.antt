@@ -1,69 +1,41 @@
 -- In its turn a member compares the beat of each other member once.
-use Rattle.std.proofs.Common.{◌≡◌, ◌≢◌, refl, sym, ap, ◌∙◌, subst, inl, inr, ◌⊎◌, ℕ, ◌+◌, ◌<◌, ◌≤◌, ◌==◌, Bool, true, false, nat_lt, if◌then◌else◌, length, arith}
 use Rattle.std.specs.Prelude.{Option, None, Some, is_some}
-use Rattle.std.proofs.lemmas.Bool.{cases_eq, cases_lt}
-use Rattle.std.proofs.lemmas.Bool.Decides.{nat_tests}
-use Rattle.std.proofs.lemmas.List.{get_or-set_same, get_or-set_other}
+use Rattle.std.proofs.Common.{◌≡◌, ◌≢◌, refl, sym, ap, ◌∙◌, subst, inl, inr, ◌⊎◌, ℕ, ◌+◌, ◌<◌, ◌≤◌, ◌==◌, Bool, true, false, nat_lt, if◌then◌else◌, length, arith}
+use Rattle.std.proofs.lemmas.{Bool.{cases_eq, cases_lt, Decides.nat_tests}, List.{get_or-set_same, get_or-set_other}}
 use Rattle.dr_entry.specs.declared.end.End.{End}
+use Rattle.dr_machine.specs.{Acts.effect_of, Group.{Group, columns, roster}, World.World, Writes.at₃}
 use Rattle.dr_machine.specs.declared.step.Step.{Step}
-use Rattle.dr_machine.specs.Acts.{effect_of}
-use Rattle.dr_machine.specs.Group.{Group, columns, roster}
-use Rattle.dr_machine.specs.World.{World}
-use Rattle.dr_machine.specs.Writes.{at₃}
-use Rattle.dr_program.specs.declared.place.Part.{Part}
-use Rattle.dr_program.specs.declared.place.Part.TheVariants as parts
-use Rattle.dr_program.specs.declared.place.Place.{Place}
-use Rattle.dr_program.specs.declared.place.TheConstants.{TURN}
-use Rattle.dr_program.specs.Form.{IsOf, IsRunningMember}
-use Rattle.dr_program.specs.Program.{Program, next_sight, ok, step_of}
-use Rattle.dr_program.specs.Reading.{table_of, world}
-use Rattle.dr_program.specs.Running as running
+use Rattle.dr_program.specs.{Form.{IsOf, IsRunningMember}, Turn.{IsIn, after, columns_in, is_beat, part_of, rows_in}}
+use Rattle.dr_program.specs.{Program.{Program, next_sight, ok, step_of}, declared.place.TheConstants.TURN}
+use Rattle.dr_program.specs.{Reading.{table_of, world}, Replica.Replica, Steps.{stepped, IsNoJoin}}
 use Rattle.dr_program.specs.Running.{Running, applies, goes, members, next_step, settled, step_at, took, waits_after}
-use Rattle.dr_program.specs.Steps.{stepped, IsNoJoin}
-use Rattle.dr_program.specs.Turn.{IsIn, after, columns_in, is_beat, part_of, rows_in}
-use Rattle.dr_refine.proofs.Deeds.{program_member, replicas}
-use Rattle.dr_refine.proofs.Guards.{seen_is}
+use Rattle.dr_program.{specs.declared.place.{Part.Part, Place.Place}, proofs.Fixed.{of_told, step_told}}
+use Rattle.dr_program.specs.declared.place.Part.TheVariants as parts
+use Rattle.dr_program.specs.Running as running
+use Rattle.dr_refine.proofs.{Deeds.{program_member, replicas}, Guards.seen_is}
 use Rattle.dr_rows.specs.Words.{Words, looked, seen}
-use Rattle.dr_program.specs.Replica.{Replica}
-use Rattle.dr_program.proofs.Fixed.{of_told, step_told}
 use Rattle.dr_suspect.specs.Waits.{Waits, beat_of, compared, next_count, turns_without_news}
-use Rattle.dr_turn.specs.Search.{Passed, here, on}
-use Rattle.dr_turn.proofs.Deeds.{deed_done}
-use Rattle.dr_turn.proofs.Order.{after_in, is_take, take_first}
-use Rattle.dr_turn.proofs.Search.{applies_at, settle_only}
-use Rattle.dr_turn.proofs.Staying.{settled_end}
-use Rattle.dr_turn.proofs.Tasks.{ends_view}
-use Rattle.dr_words.specs.Columns.{columns_of}
-use Rattle.dr_words.specs.declared.column.TheConstants.{BEAT_COLUMN}
-use Rattle.dr_turn_laws.specs.Rested.{HasCompared}
-use Rattle.dr_program_laws.specs.Trusting.{AreAtEase, to_come}
-use Rattle.dr_turn.proofs.Parts.{numbered}
-use Rattle.dr_program_laws.proofs.Keeping.{next_form}
-use Rattle.dr_turn_laws.proofs.Passing.{IsGoing, among, in_view, unasked}
-use Rattle.dr_program_laws.proofs.Patience.{after_less, comes, compared_other, goes_less, is_look, is_looks, last_begins, looks_first, none_comes, passed_amid, plain_looks, settled_passed, waits_stay}
+use Rattle.dr_turn.{specs.Search.{Passed, here, on}, proofs.{Deeds.deed_done, Order.{after_in, is_take, take_first}}}
+use Rattle.dr_turn.proofs.{Parts.numbered, Search.{applies_at, settle_only}, Staying.settled_end, Tasks.ends_view}
+use Rattle.dr_words.specs.{Columns.columns_of, declared.column.TheConstants.BEAT_COLUMN}
+use Rattle.dr_turn_laws.{specs.Rested.HasCompared, proofs.Passing.{IsGoing, among, in_view, unasked}}
 use Rattle.dr_turn_laws.proofs.Steadying.{moved_member, steady_moves, stepped_on, stepped_replica, takes_none, world_on}
-use Rattle.dr_program_laws.proofs.Trusting.{never_ends}
 use Rattle.dr_turn_laws.proofs.Working.{next_grown}
+use Rattle.dr_program_laws.{specs.Trusting.{AreAtEase, to_come}, proofs.{Keeping.next_form, Trusting.never_ends}}
+use Rattle.dr_program_laws.proofs.Patience.{after_less, comes, compared_other, goes_less, is_look, is_looks, last_begins, looks_first, none_comes, passed_amid, plain_looks, settled_passed, waits_stay}
 
 -- what member m knows amid its turn: of the rows that it has compared in it, and of those that are to come
 pub record HasLooked (g : Group) (w : World) (m : ℕ) (old : Waits) (y : Running) : Type 0 where
   pub limit : y.waits.limit ≡ old.limit
   pub still : (i : ℕ) → i < roster g → i ≢ m → comes y.place i ≡ 1
       → (turns_without_news y.waits i ≡ turns_without_news old i) × (beat_of y.waits i ≡ beat_of old i)
-  pub news : (i : ℕ) → i < roster g → i ≢ m → comes y.place i ≡ 0
-      → HasCompared old y.waits i (w.seen m i BEAT_COLUMN)
+  pub news : (i : ℕ) → i < roster g → i ≢ m → comes y.place i ≡ 0 → HasCompared old y.waits i (w.seen m i BEAT_COLUMN)
 
 -- ---- places
 
 -- behind the looks none is to come
 next_none : (p : Place) (i : ℕ) → part_of p ≡ parts.Look
-    → comes (record {
-      part = if nat_lt (p.part + 1)
-          (length TURN) then p.part + 1 else 0;
-      row = 0;
-      column = 0;
-    }) i
-    ≡ 0
+    → comes (record { part = if nat_lt (p.part + 1) (length TURN) then p.part + 1 else 0; row = 0; column = 0 }) i ≡ 0
 next_none p i at = by (cases_lt (p.part + 1) (length TURN))
   where
     no_looks : (b : Bool) → is_looks (numbered (p.part + 1)) ≡ b → p.part + 1 < length TURN
@@ -72,12 +44,7 @@ next_none p i at = by (cases_lt (p.part + 1) (length TURN))
     no_looks false e l = e
 
     by : (p.part + 1 < length TURN) ⊎ (length TURN ≤ p.part + 1)
-        → comes (record {
-          part = if nat_lt (p.part + 1)
-              (length TURN) then p.part + 1 else 0;
-          row = 0;
-          column = 0;
-        })
+        → comes (record { part = if nat_lt (p.part + 1) (length TURN) then p.part + 1 else 0; row = 0; column = 0 })
         i ≡ 0
     by (inl l) =
         let within : nat_lt (p.part + 1) (length TURN) ≡ true = grind (arith, l) in
@@ -93,37 +60,26 @@ come_after row n i = one_of (nat_lt (row + 1) n) (to_come parts.Look (row + 1) i
 
 last_after : (n k : ℕ) (p : Place) (i : ℕ) → part_of p ≡ parts.Look → (p.column + 1 == k) ≡ true
     → comes (after n k p) i ≡ come_after p.row n i
-last_after n k p i at e = by (nat_lt (p.column + 1) (columns_in k (part_of p)))
-    (nat_lt (p.row + 1) (rows_in n (part_of p)))
-    (ap (λ part. nat_lt (p.column + 1) (columns_in k part)) at ∙ grind (arith, nat_tests, e))
+last_after n k p i at e = by (nat_lt (p.column + 1) (columns_in k (part_of p))) (nat_lt (p.row + 1)
+    (rows_in n (part_of p))) (ap (λ part. nat_lt (p.column + 1) (columns_in k part)) at ∙ grind (arith, nat_tests, e))
     (ap (λ part. nat_lt (p.row + 1) (rows_in n part)) at)
   where
     by : (x y : Bool) → x ≡ false → y ≡ nat_lt (p.row + 1) n
-        → comes (if x then record p { column = p.column + 1 }
-        else (if y then record p { row = p.row + 1; column = 0 }
-        else record {
-          part = if nat_lt (p.part + 1)
-              (length TURN) then p.part + 1 else 0;
-          row = 0;
-          column = 0;
-        })) i
+        → comes (if x then record p { column = p.column + 1 } else (if y then record p { row = p.row + 1; column = 0 }
+        else record { part = if nat_lt (p.part + 1) (length TURN) then p.part + 1 else 0; row = 0; column = 0 })) i
         ≡ come_after p.row n i
     by true y f r = absurd (cc f)
     by false true f r = ap (λ part. to_come part (p.row + 1) i) at
         ∙ ap (λ b. one_of b (to_come parts.Look (p.row + 1) i)) r
-    by false false f r = next_none p i at
-        ∙ ap (λ b. one_of b (to_come parts.Look (p.row + 1) i)) r
+    by false false f r = next_none p i at ∙ ap (λ b. one_of b (to_come parts.Look (p.row + 1) i)) r
 
-row_come : (row n i : ℕ) → i ≡ row
-    → come_after row n i ≡ 0
+row_come : (row n i : ℕ) → i ≡ row → come_after row n i ≡ 0
 row_come row n i same = grind (arith, same)
 
-rows_stay : (row n i : ℕ) → i ≢ row → i < n
-    → come_after row n i ≡ to_come parts.Look row i
+rows_stay : (row n i : ℕ) → i ≢ row → i < n → come_after row n i ≡ to_come parts.Look row i
 rows_stay row n i other within = by (cases_lt i row)
   where
-    by : (i < row) ⊎ (row ≤ i) → come_after row n i
-        ≡ to_come parts.Look row i
+    by : (i < row) ⊎ (row ≤ i) → come_after row n i ≡ to_come parts.Look row i
     by (inl l) = grind (arith, l)
     by (inr l) = grind (arith, l, other, within)
 
@@ -135,12 +91,7 @@ wide_after n k p i at low e = by (nat_lt (p.column + 1) (columns_in k (part_of p
   where
     by : (x : Bool) → x ≡ true → comes (if x then record p { column = p.column + 1 }
         else (if nat_lt (p.row + 1) (rows_in n (part_of p)) then record p { row = p.row + 1; column = 0 }
-        else record {
-          part = if nat_lt (p.part + 1)
-              (length TURN) then p.part + 1 else 0;
-          row = 0;
-          column = 0;
-        })) i
+        else record { part = if nat_lt (p.part + 1) (length TURN) then p.part + 1 else 0; row = 0; column = 0 })) i
         ≡ comes p i
     by true t = refl
     by false t = absurd (cc t)
@@ -161,8 +112,7 @@ rows_after n k p i at low other within = by (p.column + 1 == k) refl
 pub at_first : (i : ℕ) → to_come parts.Look 0 i ≡ 1
 at_first i = grind arith
 
-take_after : (n k : ℕ) (p : Place) (i : ℕ) → IsIn n k p → part_of p ≡ parts.Take
-    → comes (after n k p) i ≡ comes p i
+take_after : (n k : ℕ) (p : Place) (i : ℕ) → IsIn n k p → part_of p ≡ parts.Take → comes (after n k p) i ≡ comes p i
 take_after n k p i is at = ap (λ q. comes (after n k q) i) first ∙ at_first i
     ∙ sym (ap (λ part. to_come part p.row i) at)
   where
@@ -184,11 +134,9 @@ passes_none : (g : Group) (q : Program) (m : ℕ) (z : Running) (a : Place) (i :
     → comes (after (roster g) (columns g) a) i ≡ comes a i
 passes_none g q m z a i is inside fails within other = by (part_of a) refl
   where
-    looks : part_of a ≡ parts.Look → (a.row ≡ m) ⊎ (a.row ≢ m)
-        → comes (after (roster g) (columns g) a) i ≡ comes a i
+    looks : part_of a ≡ parts.Look → (a.row ≡ m) ⊎ (a.row ≢ m) → comes (after (roster g) (columns g) a) i ≡ comes a i
     looks at (inl own) = rows_after (roster g) (columns g) a i at
-        (subst (λ part. a.column < columns_in (columns g) part) at inside.column)
-        (λ same. other (same ∙ own)) within
+        (subst (λ part. a.column < columns_in (columns g) part) at inside.column) (λ same. other (same ∙ own)) within
     looks at (inr apart) = absurd (unasked g q m z (step_at z parts.Look a.row a.column) is
         (sym (ap (λ part. applies_at z part a.row a.column) at) ∙ fails) (
           record {
@@ -211,12 +159,10 @@ passes_none g q m z a i is inside fails within other = by (part_of a) refl
 search_same : (g : Group) (q : Program) (m : ℕ) (z : Running) (a b : Place) (i : ℕ) → IsGoing g q m z
     → IsIn (roster g) (columns g) a → Passed z a b → i < roster g → i ≢ m → comes b i ≡ comes a i
 search_same g q m z _ _ i is inside (here a) within other = refl
-search_same g q m z _ _ i is inside (on a b fails rest) within other =
-    search_same g q m z (after (members z) (running.columns z) a) b i is
-    (subst (IsIn (roster g) (columns g)) (sym next)
-    (after_in (roster g) (columns g) a (omega (arith, within)) wide inside)) rest within other
-    ∙ ap (λ p. comes p i) next
-    ∙ passes_none g q m z a i is inside fails within other
+search_same g q m z _ _ i is inside (on a b fails rest) within other = search_same g q m z
+    (after (members z) (running.columns z) a) b i is (subst (IsIn (roster g) (columns g))
+    (sym next) (after_in (roster g) (columns g) a (omega (arith, within)) wide inside)) rest within other
+    ∙ ap (λ p. comes p i) next ∙ passes_none g q m z a i is inside fails within other
   where
     of : IsOf g m z.replica
     of = is.steady.program.of m z is.there
@@ -243,8 +189,7 @@ compared_beat w rows j i other = get_or-set_other w.beats j i (seen rows j BEAT_
 
 -- amid its turn, and behind a deed of it before the search
 abbrev Behind : Group → Program → ℕ → Waits → Running → Type 0
-Behind g p m old r = HasLooked g (world g (step_of p (ok m))) m old (took (next_sight p.table r) r
-    (next_step r))
+Behind g p m old r = HasLooked g (world g (step_of p (ok m))) m old (took (next_sight p.table r) r (next_step r))
 
 moved : (g : Group) (p : Program) (m : ℕ) (r : Running) → IsGoing g p m r
     → world g (step_of p (ok m)) ≡ effect_of g (world g p) m (next_step r)
@@ -318,15 +263,12 @@ look_behind g p m r old is at was = by (r.place.column + 1 == running.columns r)
     all = (is.steady.program.of m r is.there).members
 
     waits : (b : Bool) → (r.place.column + 1 == running.columns r) ≡ b
-        → (took (next_sight p.table r) r (next_step r)).waits
-        ≡ (if b then compared r.waits (looked r.replica.rows r.place.row r.place.column
-        (next_sight p.table r))
-        r.place.row else r.waits)
+        → (took (next_sight p.table r) r (next_step r)).waits ≡ (if b then compared r.waits
+        (looked r.replica.rows r.place.row r.place.column (next_sight p.table r)) r.place.row else r.waits)
     waits b e = ap (waits_after word r) step
         ∙ ap (λ x. if x then compared r.waits (looked r.replica.rows j r.place.column word) j else r.waits) e
 
-    place : (took (next_sight p.table r) r (next_step r)).place ≡ after (members r)
-        (running.columns r) r.place
+    place : (took (next_sight p.table r) r (next_step r)).place ≡ after (members r) (running.columns r) r.place
     place = ap (λ part. goes n k part r.place) at
 
     -- the row of the look is still to come before it
@@ -342,15 +284,13 @@ look_behind g p m r old is at was = by (r.place.column + 1 == running.columns r)
 
     -- what is seen of the row is what the look has left
     seen_here : r.place.row ≢ m → (world g (step_of p (ok m))).seen m r.place.row BEAT_COLUMN
-        ≡ seen (looked r.replica.rows r.place.row r.place.column
-        (next_sight p.table r)) r.place.row BEAT_COLUMN
+        ≡ seen (looked r.replica.rows r.place.row r.place.column (next_sight p.table r)) r.place.row BEAT_COLUMN
     seen_here other =
         let steady = steady_moves g p (ok m) is.steady in
         seen_is g (replicas (step_of p (ok m)).members) (table_of (step_of p (ok m))) m (stepped_on p r).replica j
         BEAT_COLUMN (program_member g (step_of p (ok m)) m (stepped_on p r) steady.group steady.program
         (moved_member g p m r is.steady is.there is.unended)) other
-        ∙ ap (λ (q : Replica). seen q.rows j BEAT_COLUMN) (stepped_replica p r
-        ∙ ap (stepped word r.replica) step)
+        ∙ ap (λ (q : Replica). seen q.rows j BEAT_COLUMN) (stepped_replica p r ∙ ap (stepped word r.replica) step)
 
     within : r.place.row < 16
     within = omega (arith, row, form.replica.rows.few, form.replica.members)
@@ -359,13 +299,11 @@ look_behind g p m r old is at was = by (r.place.column + 1 == running.columns r)
     by false e = record {
       limit = ap (λ (w : Waits). w.limit) (waits false e) ∙ was.limit;
       still = λ i l d one. subst (λ (w : Waits). (turns_without_news w i ≡ turns_without_news old i) ×
-          (beat_of w i ≡ beat_of old i))
-          (sym (waits false e)) (was.still i l d (same i ∙ one));
+          (beat_of w i ≡ beat_of old i)) (sym (waits false e)) (was.still i l d (same i ∙ one));
       news = λ i l d come.
           let before : comes r.place i ≡ 0 = same i ∙ come in
           let other : i ≢ r.place.row = λ z. absurd (omega (arith, own_comes i z, before)) in
-          subst (λ w. HasCompared old w i ((world g (step_of p (ok m))).seen m i BEAT_COLUMN)) (sym
-          (waits false e))
+          subst (λ w. HasCompared old w i ((world g (step_of p (ok m))).seen m i BEAT_COLUMN)) (sym (waits false e))
           (subst (HasCompared old r.waits i) (sym (seen_same i other)) (was.news i l d before));
     }
       where
@@ -374,8 +312,7 @@ look_behind g p m r old is at was = by (r.place.column + 1 == running.columns r)
     by true e = record {
       limit = ap (λ (w : Waits). w.limit) (waits true e) ∙ was.limit;
       still = λ i l d one. still i l d one (cases_eq i r.place.row);
-      news = λ i l d come. subst (λ w. HasCompared old w i ((world g (step_of p
-          (ok m))).seen m i BEAT_COLUMN))
+      news = λ i l d come. subst (λ w. HasCompared old w i ((world g (step_of p (ok m))).seen m i BEAT_COLUMN))
           (sym (waits true e)) (news i l d come (cases_eq i r.place.row));
     }
       where
@@ -387,8 +324,7 @@ look_behind g p m r old is at was = by (r.place.column + 1 == running.columns r)
         own : (i : ℕ) → i ≡ r.place.row → comes (took (next_sight p.table r) r (next_step r)).place i ≡ 0
         own i z = ap (λ q. comes q i) place ∙ last_after n k r.place i at e ∙ row_come r.place.row n i z
 
-        still : (i : ℕ) → i < roster g → i ≢ m
-            → comes (took (next_sight p.table r) r (next_step r)).place i ≡ 1
+        still : (i : ℕ) → i < roster g → i ≢ m → comes (took (next_sight p.table r) r (next_step r)).place i ≡ 1
             → (i ≡ r.place.row) ⊎ (i ≢ r.place.row)
             → (turns_without_news (took (next_sight p.table r) r (next_step r)).waits i ≡ turns_without_news old i)
             × (beat_of (took (next_sight p.table r) r (next_step r)).waits i ≡ beat_of old i)
@@ -401,8 +337,7 @@ look_behind g p m r old is at was = by (r.place.column + 1 == running.columns r)
                   ∙ compared_beat r.waits (looked r.replica.rows j r.place.column word) j i other ∙ before.1,
             )
 
-        news : (i : ℕ) → i < roster g → i ≢ m
-            → comes (took (next_sight p.table r) r (next_step r)).place i ≡ 0
+        news : (i : ℕ) → i < roster g → i ≢ m → comes (took (next_sight p.table r) r (next_step r)).place i ≡ 0
             → (i ≡ r.place.row) ⊎ (i ≢ r.place.row)
             → HasCompared old (compared r.waits (looked r.replica.rows r.place.row r.place.column
             (next_sight p.table r)) r.place.row) i ((world g (step_of p (ok m))).seen m i BEAT_COLUMN)
@@ -415,9 +350,8 @@ look_behind g p m r old is at was = by (r.place.column + 1 == running.columns r)
             }
         news i l d come (inl z) = rw z (here_news (λ s. d (z ∙ s)))
           where
-            here_news : r.place.row ≢ m
-                → HasCompared old (compared r.waits (looked r.replica.rows r.place.row r.place.column
-                (next_sight p.table r)) r.place.row) r.place.row
+            here_news : r.place.row ≢ m → HasCompared old (compared r.waits
+                (looked r.replica.rows r.place.row r.place.column (next_sight p.table r)) r.place.row) r.place.row
                 ((world g (step_of p (ok m))).seen m r.place.row BEAT_COLUMN)
             here_news other =
                 let before = was.still j (omega (arith, row, all)) other (own_comes j refl) in record {
@@ -425,11 +359,9 @@ look_behind g p m r old is at was = by (r.place.column + 1 == running.columns r)
                       (seen (looked r.replica.rows j r.place.column word) j BEAT_COLUMN) 0
                       (omega (arith, within, form.waits.beats)) ∙ sym (seen_here other);
                   count = get_or-set_same r.waits.counts j (next_count (turns_without_news r.waits j)
-                      (beat_of r.waits j)
-                      (seen (looked r.replica.rows j r.place.column word) j BEAT_COLUMN)) 0
-                      (omega (arith, within, form.waits.counts))
-                      ∙ ap (λ c. next_count c (beat_of r.waits j)
-                      (seen (looked r.replica.rows j r.place.column word) j BEAT_COLUMN)) before.0
+                      (beat_of r.waits j) (seen (looked r.replica.rows j r.place.column word) j BEAT_COLUMN)) 0
+                      (omega (arith, within, form.waits.counts)) ∙ ap (λ c. next_count c
+                      (beat_of r.waits j) (seen (looked r.replica.rows j r.place.column word) j BEAT_COLUMN)) before.0
                       ∙ ap (λ b. next_count (turns_without_news old j) b
                       (seen (looked r.replica.rows j r.place.column word) j BEAT_COLUMN)) before.1
                       ∙ ap (next_count (turns_without_news old j) (beat_of old j)) (sym (seen_here other));
@@ -465,14 +397,12 @@ settled_behind g p m r old is ease was = by (stepped_on p r).replica.end refl
     inside =
         let of = of_told g m r.replica (took word r (next_step r)).replica
         (step_told word r.replica (next_step r)) (is.steady.program.of m r is.there) in
-        let done = deed_done word r (is.steady.program.form m r is.there)
-        (is.steady.limits m r is.there) is.unended
+        let done = deed_done word r (is.steady.program.form m r is.there) (is.steady.limits m r is.there) is.unended
         (next_form g p m r is.steady.group is.steady.program is.steady.reached is.there is.unended)
         (next_grown g p m r is.steady.group is.steady.program is.steady.reached is.there is.unended) in
         subst (λ x. IsIn x (columns g) (took word r (next_step r)).place) of.members
         (subst (λ x. IsIn (members (took word r (next_step r))) x (took word r (next_step r)).place)
-        (λ z. columns_of (of.members z) (of.window z))
-        done.underway.place)
+        (λ z. columns_of (of.members z) (of.window z)) done.underway.place)
 
     by : (o : Option End) → (stepped_on p r).replica.end ≡ o
         → HasLooked g (world g (step_of p (ok m))) m old (stepped_on p r)
@@ -482,10 +412,8 @@ settled_behind g p m r old is ease was = by (stepped_on p r).replica.end refl
     by None e = record {
       limit = ap (λ (w : Waits). w.limit) waits ∙ was.limit;
       still = λ i l d one. subst (λ (w : Waits). (turns_without_news w i ≡ turns_without_news old i) ×
-          (beat_of w i ≡ beat_of old i))
-          (sym waits) (was.still i l d (sym (same i l d) ∙ one));
-      news = λ i l d come. subst (λ w. HasCompared old w i ((world g (step_of p
-          (ok m))).seen m i BEAT_COLUMN))
+          (beat_of w i ≡ beat_of old i)) (sym waits) (was.still i l d (sym (same i l d) ∙ one));
+      news = λ i l d come. subst (λ w. HasCompared old w i ((world g (step_of p (ok m))).seen m i BEAT_COLUMN))
           (sym waits) (was.news i l d (sym (same i l d) ∙ come));
     }
       where

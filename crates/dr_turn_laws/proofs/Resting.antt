@@ -1,23 +1,15 @@
 -- A member that has come to the end of its turn has nothing left to do.
+use Rattle.std.{specs.Prelude.{⊤, Option, None, Some, is_some}, proofs.lemmas.Bool.Decides.nat_tests}
 use Rattle.std.proofs.Common.{◌≡◌, ◌↔◌, refl, subst, inl, inr, ◌⊎◌, ℕ, ◌-◌, ◌<◌, ◌==◌, ◌||◌, Bool, true, false, length, arith}
-use Rattle.std.specs.Prelude.{⊤, Option, None, Some, is_some}
-use Rattle.std.proofs.lemmas.Bool.Decides.{nat_tests}
 use Rattle.dr_entry.specs.declared.end.End.{End}
 use Rattle.dr_entry.specs.declared.end.End.TheVariants as ends
 use Rattle.dr_history.specs.Members.{has}
-use Rattle.dr_machine.specs.Group.{Group, roster}
-use Rattle.dr_machine.specs.World.{World}
-use Rattle.dr_program.specs.declared.place.Part.{Part}
+use Rattle.dr_machine.specs.{Group.{Group, roster}, World.World}
+use Rattle.dr_program.specs.{Turn.{is_beat, part_of}, declared.place.{Part.Part, Place.Place, TheConstants.TURN}}
 use Rattle.dr_program.specs.declared.place.Part.TheVariants as parts
-use Rattle.dr_program.specs.declared.place.Place.{Place}
-use Rattle.dr_program.specs.declared.place.TheConstants.{TURN}
-use Rattle.dr_program.specs.Turn.{is_beat, part_of}
-use Rattle.dr_turn.proofs.Order.{all_below, beat_last, each_below}
+use Rattle.dr_turn.proofs.{Order.{all_below, beat_last, each_below}, Parts.numbered}
 use Rattle.dr_program_laws.specs.Failing.{has_log_end}
-use Rattle.dr_turn_laws.specs.Rested.{IsRested}
-use Rattle.dr_turn_laws.specs.Swept.{Swept}
-use Rattle.dr_turn_laws.specs.Wants.{SeesAllDone}
-use Rattle.dr_turn.proofs.Parts.{numbered}
+use Rattle.dr_turn_laws.specs.{Rested.IsRested, Swept.Swept, Wants.SeesAllDone}
 use Rattle.dr_turn_laws.proofs.Acts.{IsPastPushes, idle_part, idle_work}
 
 -- ---- what is known of a member within its turn
@@ -49,8 +41,7 @@ is_at i part = true
 
 stands_at : (i : ℕ) (part : Part) → i < length TURN → numbered i ≡ part → is_at i part ≡ true
 unfolding all_below
-stands_at i part within at =
-    subst (λ x. is_at i x ≡ true) at
+stands_at i part within at = subst (λ x. is_at i x ≡ true) at
     (each_below (length TURN) i (λ j. is_at j (numbered j)) refl within)
 
 -- ---- what is idle
@@ -60,25 +51,21 @@ rested_behind : (g : Group) (w : World) (m : ℕ) (p : Place) → IsPastPushes g
 rested_behind g w m p behind done = record {
   idle = idle_work g w m p behind;
   seen = λ i c within other low. idle_part g w m p 1 i c behind (omega arith) within low other;
-  pushed = λ j c within other low.
-      idle_part g w m p (length TURN - 7) j c behind (omega arith) within low other;
+  pushed = λ j c within other low. idle_part g w m p (length TURN - 7) j c behind (omega arith) within low other;
   done = done;
 }
 
 -- where the end as done was asked for and not taken, not all are done
-undone : (g : Group) (w : World) (m : ℕ) (p : Place) → Swept g w m p → length TURN - 5 < p.part
-    → SeesAllDone w m → ⊥
-undone g w m p swept late all =
-    swept (record { part = length TURN - 5; row = 0; column = 0 })
+undone : (g : Group) (w : World) (m : ℕ) (p : Place) → Swept g w m p → length TURN - 5 < p.part → SeesAllDone w m → ⊥
+undone g w m p swept late all = swept (record { part = length TURN - 5; row = 0; column = 0 })
     (record { part = omega arith; row = omega arith; column = omega arith }) (inl late) all
 
 -- ---- the end of a turn
 
 -- a member that has ended or stands before its next turn has crashed, or has nothing left to do
-pub rests : (g : Group) (w : World) (m : ℕ) (p : Place) (o : Option End) → w.end m ≡ o
-    → p.part < length TURN → (is_some o || is_beat (part_of p)) ≡ true
-    → ((i : ℕ) → has (w.members m) i ≡ true → i < roster g) → Knows g w m p o
-    → (w.end m ≡ Some ends.Crashed) ⊎ IsRested g w m
+pub rests : (g : Group) (w : World) (m : ℕ) (p : Place) (o : Option End) → w.end m ≡ o → p.part < length TURN
+    → (is_some o || is_beat (part_of p)) ≡ true → ((i : ℕ) → has (w.members m) i ≡ true → i < roster g)
+    → Knows g w m p o → (w.end m ≡ Some ends.Crashed) ⊎ IsRested g w m
 rests g w m p None e inside between view swept =
     let last = beat_last p.part inside between in
     inr (rested_behind g w m p (record { swept = swept; late = omega (arith, last); view = view })
@@ -86,8 +73,7 @@ rests g w m p None e inside between view swept =
 rests g w m p (Some ends.Done) e inside between view known =
     let at = stands_at p.part parts.Done inside known.1 in
     let late : length TURN - 6 < p.part = grind (arith, nat_tests, at) in
-    inr (rested_behind g w m p (record { swept = known.0; late = late; view = view })
-    (λ done. known.2, λ all. e))
+    inr (rested_behind g w m p (record { swept = known.0; late = late; view = view }) (λ done. known.2, λ all. e))
 rests g w m p (Some (ends.Spent n)) e inside between view known =
     let at = stands_at p.part parts.Spent inside known.1 in
     let late : length TURN - 5 < p.part = grind (arith, nat_tests, at) in

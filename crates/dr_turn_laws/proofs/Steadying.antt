@@ -1,62 +1,35 @@
 -- Programs begin steady, and moves keep them so.
-use Rattle.std.proofs.Common.{◌≡◌, ◌≢◌, refl, sym, ap, ◌∙◌, subst, inl, inr, ◌⊎◌, ℕ, ◌+◌, ◌*◌, ◌^◌, ◌<◌, ◌≤◌, ◌==◌, not, Bool, true, false, List, length, slice_index, arith}
 use Rattle.std.specs.Prelude.{Option, None, Some, is_some, option_map}
-use Rattle.std.proofs.lemmas.Bool.{cases_eq}
-use Rattle.std.proofs.lemmas.Bool.Decides.{nat_tests}
-use Rattle.std.proofs.lemmas.Option.{same_Some}
+use Rattle.std.proofs.Common.{◌≡◌, ◌≢◌, refl, sym, ap, ◌∙◌, subst, inl, inr, ◌⊎◌, ℕ, ◌+◌, ◌*◌, ◌^◌, ◌<◌, ◌≤◌, ◌==◌, not, Bool, true, false, List, length, slice_index, arith}
+use Rattle.std.proofs.lemmas.{Bool.{cases_eq, Decides.nat_tests}, Option.same_Some}
 use Rattle.dr_entry.specs.declared.end.End.{End}
-use Rattle.dr_machine.specs.declared.event.Act.{Act}
-use Rattle.dr_machine.specs.declared.step.Step.{Step}
-use Rattle.dr_history.specs.Members.{has}
-use Rattle.dr_history.specs.Order.{IsLateIn}
-use Rattle.dr_history.specs.Soundness.{IsNobodyLate}
-use Rattle.dr_machine.proofs.Presence.{late_in}
-use Rattle.dr_machine.specs.declared.step.Step.TheVariants.{Do}
-use Rattle.dr_machine.specs.Acts.{CanTake, does, effect_of}
-use Rattle.dr_machine.specs.Effects.{one_more, pushes}
-use Rattle.dr_machine.specs.Group.{AllPresent, Group, IsGroup, banks, columns, late_members, roster}
-use Rattle.dr_machine.specs.World.{World, own_word}
-use Rattle.dr_machine.specs.Writes.{at₄}
-use Rattle.dr_program.specs.declared.outcome.LogWhy.{LogWhy}
-use Rattle.dr_program.specs.declared.outcome.Outcome.TheVariants as outcomes
-use Rattle.dr_program.specs.declared.setup.Setup.{Setup}
-use Rattle.dr_program.specs.Acts.{taken}
+use Rattle.dr_machine.specs.{Acts.{CanTake, does, effect_of}, Effects.{one_more, pushes}}
+use Rattle.dr_machine.specs.{Group.{AllPresent, Group, IsGroup, banks, columns, late_members, roster}, Run.IsReached}
+use Rattle.dr_machine.specs.{World.{World, own_word}, Writes.at₄, declared.{event.Act.Act, step.Step.Step}}
+use Rattle.dr_machine.{specs.declared.step.Step.TheVariants.Do, proofs.Presence.late_in}
+use Rattle.dr_history.specs.{Members.has, Order.IsLateIn, Soundness.IsNobodyLate}
+use Rattle.dr_program.specs.{Acts.taken, Replica.{Replica, first_entries_of, greatest, is_inside, me, pushed}}
+use Rattle.dr_program.specs.{Presence.{present_at, with_present}, Reading.{step_by, step_due, table_of, world}}
 use Rattle.dr_program.specs.Program.{AreSetups, IsSetup, Move, Program, after_deed, begun_program, comes_to, letter_for, moved_by, next_sight, ok, step_of}
-use Rattle.dr_program.specs.Reading.{step_by, step_due, table_of, world}
-use Rattle.dr_program.specs.Replica.{Replica, first_entries_of, greatest, is_inside, me, pushed}
 use Rattle.dr_program.specs.Running.{Running, after_step, begun_running, broken_off, crashes_now, judged, next_step, step_at, took}
-use Rattle.dr_program.specs.Turn.{is_beat, part_of}
-use Rattle.dr_program.specs.declared.place.Part.{Part}
+use Rattle.dr_program.specs.{Steps.{IsAppend, stepped, stored, stored_letters, IsNoJoin}, declared.setup.Setup.Setup}
+use Rattle.dr_program.{specs.{Turn.{is_beat, part_of}, declared.place.Part.Part}, proofs.Fixed.{Told, step_told}}
+use Rattle.dr_program.{specs.declared.outcome.LogWhy.LogWhy, proofs.StepsAt.{append_either, push_either, vote_either}}
+use Rattle.dr_program.proofs.{Holdings.held_of, Present.{present_within, present_set, present_kept, present_map}}
+use Rattle.dr_program.proofs.{Opening.begins_at_the_opening, Runs.{after_either, after_ok, inside_no_join}}
+use Rattle.dr_program.specs.declared.outcome.Outcome.TheVariants as outcomes
 use Rattle.dr_program.specs.declared.place.Part.TheVariants as parts
-use Rattle.dr_program.specs.Steps.{IsAppend, stepped, stored, stored_letters, IsNoJoin}
-use Rattle.dr_program.proofs.Fixed.{Told, step_told}
-use Rattle.dr_program.proofs.Holdings.{held_of}
-use Rattle.dr_program.proofs.Opening.{begins_at_the_opening}
-use Rattle.dr_program.proofs.Runs.{after_either, after_ok, inside_no_join}
-use Rattle.dr_program.proofs.StepsAt.{append_either, push_either, vote_either}
-use Rattle.dr_program_laws.proofs.Keeping.{begun_reached, move_kept}
+use Rattle.dr_program_laws.proofs.{Keeping.{begun_reached, move_kept}, Programs.replaced_either}
+use Rattle.dr_refine.{specs.Programs.IsProgram, proofs.{Members.own_shown, Steps.begun_is_program}}
 use Rattle.dr_refine.proofs.Deeds.{deed_step, due_allowed, no_step_no_change, program_member, replicas, rest_changes_nothing, settle_replica, step_is}
-use Rattle.dr_machine.specs.Run.{IsReached}
-use Rattle.dr_refine.specs.Programs.{IsProgram}
-use Rattle.dr_refine.proofs.Members.{own_shown}
-use Rattle.dr_refine.proofs.Steps.{begun_is_program}
 use Rattle.dr_rows.specs.Words.{IsWords, begun, last_pushed, own, with_word, word_at}
-use Rattle.dr_rows.proofs.Grids.{with_word-same, with_word-row, with_word-column}
-use Rattle.dr_rows.proofs.WordsLemmas.{IsFresh-begun}
-use Rattle.dr_turn.specs.Work.{work}
-use Rattle.dr_turn.proofs.Search.{beat_test, settle_only}
-use Rattle.dr_turn.proofs.Tasks.{ends_view, view_stays}
-use Rattle.dr_words.specs.declared.column.TheConstants.{BEAT_COLUMN}
-use Rattle.dr_words.specs.Columns.{columns_of}
-use Rattle.dr_words.proofs.Layouts.{first_rows}
+use Rattle.dr_rows.proofs.{Grids.{with_word-same, with_word-row, with_word-column}, WordsLemmas.IsFresh-begun}
+use Rattle.dr_turn.{specs.Work.work, proofs.Parts.{taken_pushed, verdict_no_beat, verdict_of}}
+use Rattle.dr_turn.proofs.{Search.{beat_test, settle_only}, Tasks.{ends_view, view_stays}}
+use Rattle.dr_words.{specs.{Columns.columns_of, declared.column.TheConstants.BEAT_COLUMN}, proofs.Layouts.first_rows}
 use Rattle.dr_world_laws.proofs.Worlds.{faithful, known}
 use Rattle.dr_turn_laws.specs.Steady.{HasRooms, HasWorked, IsSteady, all_work}
-use Rattle.dr_turn.proofs.Parts.{taken_pushed, verdict_no_beat, verdict_of}
-use Rattle.dr_turn_laws.proofs.Acts.{begins_anew, begins_turn, fails, table_stays}
-use Rattle.dr_turn_laws.proofs.Working.{works_begin, works_on}
-use Rattle.dr_program_laws.proofs.Programs.{replaced_either}
-use Rattle.dr_program.specs.Presence.{present_at, with_present}
-use Rattle.dr_program.proofs.Present.{present_within, present_set, present_kept, present_map}
+use Rattle.dr_turn_laws.proofs.{Acts.{begins_anew, begins_turn, fails, table_stays}, Working.{works_begin, works_on}}
 
 -- ---- nobody is late
 
@@ -99,23 +72,19 @@ takes_step g p m r is there unended = elim (after_ok p.table (letter_for p m) r 
 
 -- a move of a member without an end
 move_made : (g : Group) (p : Program) (m : ℕ) (r : Running) → IsSteady g p → present_at p.members m ≡ Some r
-    → r.replica.end ≡ None
-    → step_of p (ok m) ≡ record {
+    → r.replica.end ≡ None → step_of p (ok m) ≡ record {
       members = with_present p.members m (stepped_on p r);
       table = stored p.table r.replica (next_step r);
       letters = stored_letters p.letters r.replica (next_step r);
     }
-move_made g p m r is there unended =
-    step_is p (ok m) r there unended
-    ∙ ap (λ x. record {
-      members = with_present p.members m x;
-      table = stored p.table r.replica (next_step r);
-      letters = stored_letters p.letters r.replica (next_step r);
-    }) (takes_step g p m r is there unended)
+move_made g p m r is there unended = step_is p (ok m) r there unended ∙ ap (λ x. record {
+  members = with_present p.members m x;
+  table = stored p.table r.replica (next_step r);
+  letters = stored_letters p.letters r.replica (next_step r);
+}) (takes_step g p m r is there unended)
 
 -- leads it on
-pub moved_member : (g : Group) (p : Program) (m : ℕ) (r : Running) → IsSteady g p
-    → present_at p.members m ≡ Some r
+pub moved_member : (g : Group) (p : Program) (m : ℕ) (r : Running) → IsSteady g p → present_at p.members m ≡ Some r
     → r.replica.end ≡ None → present_at (step_of p (ok m)).members m ≡ Some (stepped_on p r)
 moved_member g p m r is there unended =
     ap (λ (x : Program). present_at x.members m) (move_made g p m r is there unended)
@@ -125,9 +94,8 @@ moved_member g p m r is there unended =
 pub other_member : (g : Group) (p : Program) (m : ℕ) (r : Running) (i : ℕ) → IsSteady g p
     → present_at p.members m ≡ Some r → r.replica.end ≡ None → i ≢ m
     → present_at (step_of p (ok m)).members i ≡ present_at p.members i
-other_member g p m r i is there unended other =
-    ap (λ (x : Program). present_at x.members i) (move_made g p m r is there unended)
-    ∙ present_kept p.members m i (stepped_on p r) other
+other_member g p m r i is there unended other = ap (λ (x : Program). present_at x.members i)
+    (move_made g p m r is there unended) ∙ present_kept p.members m i (stepped_on p r) other
 
 -- the search leaves the replica of the one that moved
 pub stepped_replica : (p : Program) (r : Running)
@@ -138,17 +106,14 @@ stepped_replica p r = settle_replica _ (took (next_sight p.table r) r (next_step
 
 -- the limit
 stepped_limit : (p : Program) (r : Running) → (stepped_on p r).limit ≡ r.limit
-stepped_limit p r =
-    ap (λ (x : Running). x.limit) (settle_only _ (took (next_sight p.table r) r (next_step r)))
+stepped_limit p r = ap (λ (x : Running). x.limit) (settle_only _ (took (next_sight p.table r) r (next_step r)))
 
 -- whether an append has failed
 pub stepped_failed : (p : Program) (r : Running) → (stepped_on p r).failed ≡ r.failed
-stepped_failed p r =
-    ap (λ (x : Running). x.failed) (settle_only _ (took (next_sight p.table r) r (next_step r)))
+stepped_failed p r = ap (λ (x : Running). x.failed) (settle_only _ (took (next_sight p.table r) r (next_step r)))
 
 -- the room
-rooms_told : (g : Group) (word : ℕ) (r : Replica) (s : Step) → HasRooms g r
-    → HasRooms g (stepped word r s)
+rooms_told : (g : Group) (word : ℕ) (r : Replica) (s : Step) → HasRooms g r → HasRooms g (stepped word r s)
 rooms_told g word r s rooms = subst
     (λ (t : Told). length g.opening.start + banks g + greatest t.totals * roster g < t.room)
     (sym (step_told word r s)) rooms
@@ -163,10 +128,8 @@ cell_apart table b m d x v j i c (inr other) = grind (arith, other)
 -- an act stores its stamp in the own copy alone
 act_cells : (g : Group) (w : World) (m : ℕ) (a : Act) (v j i c : ℕ) → (j ≢ m) ⊎ (i ≢ m)
     → (effect_of g w m (Do a)).table v j i c ≡ w.table v j i c
-act_cells g w m a v j i c apart =
-    cell_apart (does g w m a).table (w.past.view m) m BEAT_COLUMN
-    (one_more 64 ((does g w m a).past.acts m)) v j i c apart
-    ∙ ap (λ t. t v j i c) (table_stays g w m a)
+act_cells g w m a v j i c apart = cell_apart (does g w m a).table (w.past.view m) m BEAT_COLUMN
+    (one_more 64 ((does g w m a).past.acts m)) v j i c apart ∙ ap (λ t. t v j i c) (table_stays g w m a)
 
 -- the rows of the other members stay
 rows_stay : (g : Group) (w : World) (m : ℕ) (s : Step) (v j i c : ℕ) → i ≢ m
@@ -176,14 +139,12 @@ rows_stay g w m s v j i c other = grind (arith, other)
 
 -- the own words that stand in the table as they were pushed
 abbrev ArePushed : Group → World → ℕ → Replica → Type 0
-ArePushed g w m r = (j c : ℕ) → j < roster g → j ≢ m → c < columns g
-    → last_pushed r.rows j c ≡ w.table r.view j m c
+ArePushed g w m r = (j c : ℕ) → j < roster g → j ≢ m → c < columns g → last_pushed r.rows j c ≡ w.table r.view j m c
 
 push_stands : (g : Group) (w : World) (m : ℕ) (r : Replica) (k d : ℕ) → IsWords r.rows
     → r.rows.members ≡ roster g → r.rows.columns ≡ columns g → w.past.view m ≡ r.view
     → own_word w m d ≡ own r.rows d → ArePushed g w m r → ArePushed g (pushes w m k d) m (pushed r k d)
-push_stands g w m r k d form rows wide view word old j c l other low =
-    by (cases_eq j k) (cases_eq c d)
+push_stands g w m r k d form rows wide view word old j c l other low = by (cases_eq j k) (cases_eq c d)
   where
     here : (t : ℕ → ℕ → ℕ → ℕ → ℕ) (x b v : ℕ) → b ≡ v → at₄ t b k m d x v k m d ≡ x
     here t x b v same = rw same (grind arith)
@@ -194,20 +155,14 @@ push_stands g w m r k d form rows wide view word old j c l other low =
     column_apart : (t : ℕ → ℕ → ℕ → ℕ → ℕ) (x b v : ℕ) → c ≢ d → at₄ t b k m d x v j m c ≡ t v j m c
     column_apart t x b v apart = grind (arith, apart)
 
-    by : (j ≡ k) ⊎ (j ≢ k) → (c ≡ d) ⊎ (c ≢ d)
-        → word_at (with_word r.rows.sent k d (own r.rows d)) j c
+    by : (j ≡ k) ⊎ (j ≢ k) → (c ≡ d) ⊎ (c ≢ d) → word_at (with_word r.rows.sent k d (own r.rows d)) j c
         ≡ at₄ w.table (w.past.view m) k m d (own_word w m d) r.view j m c
-    by (inr apart) column =
-        ap (λ row. slice_index row c) (with_word-row r.rows.sent k d (own r.rows d) j apart)
-        ∙ old j c l other low
-        ∙ sym (copy_apart w.table (own_word w m d) (w.past.view m) r.view apart)
-    by (inl row) (inr apart) =
-        with_word-column r.rows.sent k d (own r.rows d) j c apart
-        ∙ old j c l other low
+    by (inr apart) column = ap (λ row. slice_index row c) (with_word-row r.rows.sent k d (own r.rows d) j apart)
+        ∙ old j c l other low ∙ sym (copy_apart w.table (own_word w m d) (w.past.view m) r.view apart)
+    by (inl row) (inr apart) = with_word-column r.rows.sent k d (own r.rows d) j c apart ∙ old j c l other low
         ∙ sym (column_apart w.table (own_word w m d) (w.past.view m) r.view apart)
-    by (inl row) (inl column) = rw (row, column)
-        (with_word-same r.rows.members r.rows.columns r.rows.sent k d (own r.rows d) form.pushes
-        (omega (arith, l, row, rows)) (omega (arith, low, column, wide))
+    by (inl row) (inl column) = rw (row, column) (with_word-same r.rows.members r.rows.columns r.rows.sent k d
+        (own r.rows d) form.pushes (omega (arith, l, row, rows)) (omega (arith, low, column, wide))
         ∙ sym word ∙ sym (here w.table (own_word w m d) (w.past.view m) r.view view))
 
 -- what a world has of a member, and the shape of its rows
@@ -221,9 +176,8 @@ record HasShown (g : Group) (w : World) (m : ℕ) (r : Replica) : Type 0 where
 
 -- rows that begin have pushed nothing
 begun_unpushed : (n k m logged j c : ℕ) → last_pushed (first_rows n k m logged) j c ≡ 0
-begun_unpushed n k m logged j c =
-    zero (own (begun n k m) c) (last_pushed (begun n k m) j c) ((IsFresh-begun n k m).zero m c)
-    ((IsFresh-begun n k m).unchanged j c)
+begun_unpushed n k m logged j c = zero (own (begun n k m) c)
+    (last_pushed (begun n k m) j c) ((IsFresh-begun n k m).zero m c) ((IsFresh-begun n k m).unchanged j c)
   where
     zero : (a b : ℕ) → a ≡ 0 → not (a == b) ≡ false → b ≡ 0
     zero a b none same = grind (arith, nat_tests, none, same)
@@ -242,14 +196,12 @@ step_stands g w m word r (Do a) shown old j c l other low = by (ends_view (Do a)
         ∙ ap (λ v. w.table v j m c) (sym (view_stays word r (Do a) stays)) ∙ same
     by true ends =
         let anew = begins_anew r a ends in
-        ap (λ rows. last_pushed rows j c) anew.0
-        ∙ begun_unpushed r.rows.members r.rows.columns r.rows.me r.logged j c ∙ sym (shown.unwritten j c)
-        ∙ ap (λ v. w.table v j m c) (sym anew.1) ∙ same
+        ap (λ rows. last_pushed rows j c) anew.0 ∙ begun_unpushed r.rows.members r.rows.columns r.rows.me r.logged j c
+        ∙ sym (shown.unwritten j c) ∙ ap (λ v. w.table v j m c) (sym anew.1) ∙ same
 step_stands g w m word r s shown old j c l other low = grind (arith, old j c l other low, here)
   where
     here : (k d : ℕ) → last_pushed (pushed r k d).rows j c ≡ (pushes w m k d).table r.view j m c
-    here k d =
-        push_stands g w m r k d shown.form shown.rows shown.wide shown.view (shown.own d) old j c l other low
+    here k d = push_stands g w m r k d shown.form shown.rows shown.wide shown.view (shown.own d) old j c l other low
 
 -- ---- the program
 
@@ -275,12 +227,10 @@ shown_in g p m r is there =
 
 -- the world after the next step of a member
 pub world_on : (g : Group) (p : Program) (m : ℕ) (r : Running) → IsSteady g p
-    → present_at p.members m ≡ Some r → r.replica.end ≡ None
-    → CanTake g (world g p) m (next_step r)
+    → present_at p.members m ≡ Some r → r.replica.end ≡ None → CanTake g (world g p) m (next_step r)
     × (world g (step_of p (ok m)) ≡ effect_of g (world g p) m (next_step r))
-world_on g p m r is there unended =
-    deed_step g p m outcomes.Ok r is.group is.program there unended (takes_none g p m r is there unended)
-    (takes_step g p m r is there unended)
+world_on g p m r is there unended = deed_step g p m outcomes.Ok r is.group is.program there unended
+    (takes_none g p m r is there unended) (takes_step g p m r is there unended)
 
 -- a member of the program after a move is the one that moved, or as it was
 moved_either : (g : Group) (p : Program) (m : ℕ) (r : Running) → IsSteady g p → present_at p.members m ≡ Some r
@@ -290,11 +240,9 @@ moved_either g p m r is there unended i y at = replaced_either p.members m r (st
     (sym (ap (λ (x : Program). present_at x.members i) (move_made g p m r is there unended)) ∙ at)
 
 -- only one part begins a turn
-plain_begins : (r : Running) (part : Part) (i c : ℕ) → is_beat part ≡ false
-    → begins_turn (step_at r part i c) ≡ false
+plain_begins : (r : Running) (part : Part) (i c : ℕ) → is_beat part ≡ false → begins_turn (step_at r part i c) ≡ false
 plain_begins r parts.Judge i c other = verdict_no_beat (judged r) (verdict_of r)
-plain_begins r parts.Append i c other =
-    append_either (λ s. begins_turn s ≡ false) r.failed refl (λ why. refl)
+plain_begins r parts.Append i c other = append_either (λ s. begins_turn s ≡ false) r.failed refl (λ why. refl)
 plain_begins r parts.Vote i c other = vote_either (λ s. begins_turn s ≡ false) r.failed _ refl (λ why. refl)
 plain_begins r parts.Push i c other = push_either (λ s. begins_turn s ≡ false) (crashes_now r) i c refl refl
 plain_begins r (parts.Do a) i c other = other
@@ -314,8 +262,7 @@ steady_on g p m r is there unended = record {
     | inr there ↦ is.limits i y there.1
   ];
   rooms = λ i y at. elim (moved_either g p m r is there unended i y at) [
-    | inl here ↦ subst (λ (x : Running). HasRooms g x.replica) here.1
-        (subst (HasRooms g) (sym (stepped_replica p r))
+    | inl here ↦ subst (λ (x : Running). HasRooms g x.replica) here.1 (subst (HasRooms g) (sym (stepped_replica p r))
         (rooms_told g (next_sight p.table r) r.replica (next_step r) (is.rooms m r there)))
     | inr there ↦ is.rooms i y there.1
   ];
@@ -328,8 +275,7 @@ steady_on g p m r is there unended = record {
   pushes = λ i y at. elim (moved_either g p m r is there unended i y at) [
     | inl here ↦ rw here.0 (subst (λ (x : Running). ArePushed g after m x.replica) here.1
         (subst (ArePushed g after m) (sym (stepped_replica p r))
-        (subst (λ v. ArePushed g v m
-        (stepped (next_sight p.table r) r.replica (next_step r))) (sym moved.1)
+        (subst (λ v. ArePushed g v m (stepped (next_sight p.table r) r.replica (next_step r))) (sym moved.1)
         (step_stands g (world g p) m (next_sight p.table r) r.replica (next_step r)
         (shown_in g p m r is there) (is.pushes m r there)))))
     | inr there ↦ λ j c l other low. is.pushes i y there.1 j c l other low
@@ -350,8 +296,7 @@ steady_on g p m r is there unended = record {
           (is.program.form m r there).left unended (beat_test (part_of r.place) beat),
           is.limits m r there,
         )
-        by false other =
-            absurd (cc (at, plain_begins r (part_of r.place) r.place.row r.place.column other))
+        by false other = absurd (cc (at, plain_begins r (part_of r.place) r.place.row r.place.column other))
 
     moved : CanTake g (world g p) m (next_step r)
         × (world g (step_of p (ok m)) ≡ effect_of g (world g p) m (next_step r))
@@ -366,8 +311,7 @@ failed_made : (p : Program) (m : ℕ) (why : LogWhy) (r : Running) → present_a
       letters = stored_letters p.letters r.replica (next_step r);
     }
 failed_made p m why r there unended due =
-    step_is p (record { member = m; outcome = outcomes.Failed why }) r there unended
-    ∙ ap (λ x. record {
+    step_is p (record { member = m; outcome = outcomes.Failed why }) r there unended ∙ ap (λ x. record {
       members = with_present p.members m x;
       table = stored p.table r.replica (next_step r);
       letters = stored_letters p.letters r.replica (next_step r);
@@ -377,21 +321,14 @@ failed_made p m why r there unended due =
 failed_leaves : (p : Program) (m : ℕ) (why : LogWhy) (r : Running) → present_at p.members m ≡ Some r
     → (i : ℕ) (y : Running) → present_at (with_present p.members m (broken_off why r)) i ≡ Some y
     → (x : Running) × (present_at p.members i ≡ Some x) × (x.replica ≡ y.replica) × (x.limit ≡ y.limit)
-failed_leaves p m why r there i y at =
-    elim (replaced_either p.members m r (broken_off why r) there i y at) [
-      | inl here ↦ (
-        r,
-        rw here.0 there,
-        ap (λ (x : Running). x.replica) here.1,
-        ap (λ (x : Running). x.limit) here.1,
-      )
-      | inr other ↦ (y, other.1, refl, refl)
-    ]
+failed_leaves p m why r there i y at = elim (replaced_either p.members m r (broken_off why r) there i y at) [
+  | inl here ↦ (r, rw here.0 there, ap (λ (x : Running). x.replica) here.1, ap (λ (x : Running). x.limit) here.1)
+  | inr other ↦ (y, other.1, refl, refl)
+]
 
 -- so it keeps the program steady
 steady_failed : (g : Group) (p : Program) (m : ℕ) (why : LogWhy) (r : Running) → IsSteady g p
-    → present_at p.members m ≡ Some r → r.replica.end ≡ None → IsAppend (next_step r)
-    → IsSteady g (record {
+    → present_at p.members m ≡ Some r → r.replica.end ≡ None → IsAppend (next_step r) → IsSteady g (record {
       members = with_present p.members m (broken_off why r);
       table = stored p.table r.replica (next_step r);
       letters = stored_letters p.letters r.replica (next_step r);
@@ -450,12 +387,10 @@ steady_moves g p e is = by (present_at p.members e.member) refl
           table = stored p.table r.replica (next_step r);
           letters = stored_letters p.letters r.replica (next_step r);
         })) p.table (letter_for p e.member) e.outcome r (next_step r)
-        (subst (IsSteady g) (move_made g p e.member r is there unended)
-        (steady_on g p e.member r is there unended))
+        (subst (IsSteady g) (move_made g p e.member r is there unended) (steady_on g p e.member r is there unended))
         (λ why due. steady_failed g p e.member why r is there unended due)
         (λ take. absurd (subst IsNoJoin take (takes_none g p e.member r is there unended))))
-    at r there (Some x) ended = subst (IsSteady g)
-        (sym (rest_changes_nothing p e r there (ap is_some ended))) is
+    at r there (Some x) ended = subst (IsSteady g) (sym (rest_changes_nothing p e r there (ap is_some ended))) is
 
     by : (o : Option Running) → present_at p.members e.member ≡ o → IsSteady g (step_of p e)
     by None none = subst (IsSteady g) (sym (ap (λ o. moved_by p o e) none)) is
@@ -470,16 +405,10 @@ record BeginsSteady (g : Group) (turns m : ℕ) (r : Running) : Type 0 where
   works : HasWorked r
   unpushed : (j c : ℕ) → last_pushed r.replica.rows j c ≡ 0
 
-begun_member : (g : Group) (turns m : ℕ) (s : Setup) → IsSetup g turns m s
-    → BeginsSteady g turns m (begun_running s)
+begun_member : (g : Group) (turns m : ℕ) (s : Setup) → IsSetup g turns m s → BeginsSteady g turns m (begun_running s)
 begun_member g turns m s of = record {
   limit = of.turns;
-  rooms = omega (
-    arith,
-    ap length of.start,
-    of.banks,
-    ap (λ n. greatest s.totals * n) of.members,
-  );
+  rooms = omega (arith, ap length of.start, of.banks, ap (λ n. greatest s.totals * n) of.members);
   works = works_begin s;
   unpushed = λ j c. begun_unpushed s.shape.members (columns_of s.shape.members s.shape.window) s.me
       (length (first_entries_of s)) j c;
@@ -498,8 +427,7 @@ steady_begins g turns setups group nobody some small whole are = record {
   rooms = λ m r there. (begins m r there).rooms;
   works = λ m r there. (begins m r there).works;
   pushes = λ m r there j c l other low. (begins m r there).unpushed j c
-      ∙ sym (ap (λ (w : World). w.table r.replica.view j m c)
-      (begins_at_the_opening g turns setups group are));
+      ∙ sym (ap (λ (w : World). w.table r.replica.view j m c) (begins_at_the_opening g turns setups group are));
 }
   where
     named : (m : ℕ) (r : Running) (o : Option Setup) → present_at setups m ≡ o
@@ -508,7 +436,5 @@ steady_begins g turns setups group nobody some small whole are = record {
     named m r (Some s) e there = subst (BeginsSteady g turns m) (same_Some (begun_running s) r there)
         (begun_member g turns m s (are.each m s e))
 
-    begins : (m : ℕ) (r : Running) → present_at (begun_program g setups).members m ≡ Some r
-        → BeginsSteady g turns m r
-    begins m r there = named m r (present_at setups m) refl
-        (sym (present_map begun_running setups m) ∙ there)
+    begins : (m : ℕ) (r : Running) → present_at (begun_program g setups).members m ≡ Some r → BeginsSteady g turns m r
+    begins m r there = named m r (present_at setups m) refl (sym (present_map begun_running setups m) ∙ there)

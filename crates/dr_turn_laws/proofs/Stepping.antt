@@ -1,39 +1,24 @@
 -- What is known of a member within its turn, after its next deed.
+use Rattle.std.{specs.Prelude.{None, Some, is_some}, proofs.lemmas.Option.same_Some}
 use Rattle.std.proofs.Common.{◌≡◌, refl, sym, ap, ◌∙◌, subst, ℕ, ◌<◌, Bool, true, false, length}
-use Rattle.std.specs.Prelude.{None, Some, is_some}
-use Rattle.std.proofs.lemmas.Option.{same_Some}
 use Rattle.dr_entry.specs.declared.end.End.{End}
 use Rattle.dr_entry.specs.declared.end.End.TheVariants as ends
+use Rattle.dr_machine.specs.{Acts.{CanTake, effect_of}, Group.{Group, columns, roster}, World.World}
 use Rattle.dr_machine.specs.declared.step.Step.{Step}
-use Rattle.dr_machine.specs.Acts.{CanTake, effect_of}
-use Rattle.dr_machine.specs.Group.{Group, columns, roster}
-use Rattle.dr_machine.specs.World.{World}
-use Rattle.dr_program.specs.declared.place.Part.{Part}
-use Rattle.dr_program.specs.declared.place.Part.TheVariants as parts
-use Rattle.dr_program.specs.declared.place.TheConstants.{TURN}
-use Rattle.dr_program.specs.Program.{Program, next_sight, ok, step_of}
-use Rattle.dr_program.specs.Reading.{world}
-use Rattle.dr_program.specs.Replica.{Replica}
-use Rattle.dr_program.specs.Running as running
+use Rattle.dr_program.specs.{Program.{Program, next_sight, ok, step_of}, Reading.world, Replica.Replica}
 use Rattle.dr_program.specs.Running.{Running, append_or_end, crashes_now, goes, members, next_step, push_or_crash, settled, step_at, took}
-use Rattle.dr_program.specs.Steps.{stepped}
-use Rattle.dr_program.specs.Turn.{IsIn, columns_in, is_beat, part_of, rows_in}
-use Rattle.dr_turn.proofs.Staying.{settled_end}
-use Rattle.dr_words.specs.Columns.{columns_of}
-use Rattle.dr_words.specs.declared.column.TheConstants.{LOGGED_COLUMN}
+use Rattle.dr_program.specs.{Steps.stepped, Turn.{IsIn, columns_in, is_beat, part_of, rows_in}}
+use Rattle.dr_program.specs.declared.place.{Part.Part, TheConstants.TURN}
+use Rattle.dr_program.specs.declared.place.Part.TheVariants as parts
+use Rattle.dr_program.specs.Running as running
+use Rattle.dr_turn.proofs.{Parts.{is_end, no_end, taken_end}, Staying.settled_end}
+use Rattle.dr_words.specs.{Columns.columns_of, declared.column.TheConstants.LOGGED_COLUMN}
 use Rattle.dr_world_laws.proofs.Worlds.{faithful, known}
-use Rattle.dr_turn_laws.specs.Swept.{Swept}
-use Rattle.dr_program_laws.specs.Trusting.{AreAtEase, MayWait}
-use Rattle.dr_turn_laws.specs.Wants.{SeesAllDone}
-use Rattle.dr_turn.proofs.Parts.{is_end, no_end, taken_end}
-use Rattle.dr_program_laws.proofs.Quiet.{is_passed}
-use Rattle.dr_turn_laws.proofs.Acts.{asks, uncrashed}
-use Rattle.dr_turn_laws.proofs.Leaving.{end_sees}
-use Rattle.dr_turn_laws.proofs.Passing.{IsGoing, among, passes}
-use Rattle.dr_turn_laws.proofs.Resting.{Knows}
+use Rattle.dr_turn_laws.{specs.{Swept.Swept, Wants.SeesAllDone}, proofs.{Acts.{asks, uncrashed}, Leaving.end_sees}}
+use Rattle.dr_turn_laws.proofs.{Passing.{IsGoing, among, passes}, Resting.Knows}
 use Rattle.dr_turn_laws.proofs.Steadying.{is_in, moved_member, steady_moves, stepped_on, stepped_replica, world_on}
 use Rattle.dr_turn_laws.proofs.Sweeping.{swept_behind, world_behind}
-use Rattle.dr_program_laws.proofs.Patience.{settled_passed}
+use Rattle.dr_program_laws.{specs.Trusting.{AreAtEase, MayWait}, proofs.{Patience.settled_passed, Quiet.is_passed}}
 use Rattle.dr_program_laws.proofs.Trusting.{move_eases, never_passed, nobody_suspects}
 
 -- ---- a deed
@@ -41,8 +26,7 @@ use Rattle.dr_program_laws.proofs.Trusting.{move_eases, never_passed, nobody_sus
 -- a move of its member leaves all at ease, where it may wait if its turn begins by it
 pub ease_on : (g : Group) (p : Program) (m : ℕ) (r : Running) → IsGoing g p m r
     → (is_beat (part_of r.place) ≡ true → MayWait r) → AreAtEase (step_of p (ok m))
-ease_on g p m r is waits =
-    move_eases g p (ok m) is.steady.group is.steady.program is.steady.reached is.ease
+ease_on g p m r is waits = move_eases g p (ok m) is.steady.group is.steady.program is.steady.reached is.ease
     (λ y there. subst (λ (x : Running). is_beat (part_of x.place) ≡ true → MayWait x)
     (same_Some r y (sym is.there ∙ there)) waits)
 
@@ -54,8 +38,7 @@ pub record IsWithin (g : Group) (p : Program) (m : ℕ) (r : Running) : Type 0 w
   pub swept : Swept g (world g p) m r.place
 
 -- it stands at a place of the group's turn
-place_of : (g : Group) (p : Program) (m : ℕ) (r : Running) → IsGoing g p m r
-    → IsIn (roster g) (columns g) r.place
+place_of : (g : Group) (p : Program) (m : ℕ) (r : Running) → IsGoing g p m r → IsIn (roster g) (columns g) r.place
 place_of g p m r is =
     let of = is.steady.program.of m r is.there in
     let place = (is.steady.program.form m r is.there).place in record {
@@ -67,15 +50,13 @@ place_of g p m r is =
 
 -- behind a deed that is no crash nothing is left to do before the place where it goes on
 swept_on : (g : Group) (p : Program) (m : ℕ) (r : Running) → IsWithin g p m r
-    → next_step r ≡ uncrashed r (part_of r.place) r.place.row r.place.column
-    → Swept g (world g (step_of p (ok m))) m
+    → next_step r ≡ uncrashed r (part_of r.place) r.place.row r.place.column → Swept g (world g (step_of p (ok m))) m
     (goes (members r) (running.columns r) (part_of r.place) r.place)
 swept_on g p m r is plain =
     let of = is.going.steady.program.of m r is.going.there in
     let on = world_on g p m r is.going.steady is.going.there is.going.unended in
     subst (λ v. Swept g v m (goes (members r) (running.columns r) (part_of r.place) r.place))
-    (sym (on.1 ∙ ap (effect_of g (world g p) m) plain))
-    (subst (Swept g (world_behind g (world g p) m r) m)
+    (sym (on.1 ∙ ap (effect_of g (world g p) m) plain)) (subst (Swept g (world_behind g (world g p) m r) m)
     (λ z. goes (sym of.members z) (columns_of (sym of.members z) (sym of.window z)) (part_of r.place) r.place)
     (swept_behind g (world g p) m r (record {
       place = place_of g p m r is.going;
@@ -97,17 +78,14 @@ behind p r part = stepped (next_sight p.table r) r.replica (due r part)
 
 -- what is known behind the next deed
 abbrev KnowsNext : Group → Program → ℕ → Running → Type 0
-KnowsNext g p m r =
-    Knows g (world g (step_of p (ok m))) m (stepped_on p r).place (stepped_on p r).replica.end
+KnowsNext g p m r = Knows g (world g (step_of p (ok m))) m (stepped_on p r).place (stepped_on p r).replica.end
 
 -- a member that hasn't ended goes on to its next place
-onward : (g : Group) (p : Program) (m : ℕ) (r : Running) (part : Part) → IsWithin g p m r
-    → part_of r.place ≡ part → due r part ≡ uncrashed r part r.place.row r.place.column
-    → (behind p r part).end ≡ None → KnowsNext g p m r
-onward g p m r part is at plain unended =
-    subst (Knows g (world g (step_of p (ok m))) m (stepped_on p r).place) (sym none)
-    (passes g (step_of p (ok m)) m (stepped_on p r) (took (next_sight p.table r) r (next_step r)).place
-    (stepped_on p r).place (record {
+onward : (g : Group) (p : Program) (m : ℕ) (r : Running) (part : Part) → IsWithin g p m r → part_of r.place ≡ part
+    → due r part ≡ uncrashed r part r.place.row r.place.column → (behind p r part).end ≡ None → KnowsNext g p m r
+onward g p m r part is at plain unended = subst (Knows g (world g (step_of p (ok m))) m (stepped_on p r).place)
+    (sym none) (passes g (step_of p (ok m)) m
+    (stepped_on p r) (took (next_sight p.table r) r (next_step r)).place (stepped_on p r).place (record {
       steady = steady_moves g p (ok m) is.going.steady;
       ease = ease_on g p m r is.going (λ beat. absurd (cc (beat, is.begun)));
       there = moved_member g p m r is.going.steady is.going.there is.going.unended;
@@ -116,19 +94,16 @@ onward g p m r part is at plain unended =
     (swept_on g p m r is (subst (λ x. due r x ≡ uncrashed r x r.place.row r.place.column) (sym at) plain)))
   where
     none : (stepped_on p r).replica.end ≡ None
-    none = ap (λ (q : Replica). q.end) (stepped_replica p r)
-        ∙ subst (λ x. (behind p r x).end ≡ None) (sym at) unended
+    none = ap (λ (q : Replica). q.end) (stepped_replica p r) ∙ subst (λ x. (behind p r x).end ≡ None) (sym at) unended
 
 -- a member that has ended stays
-ended : (g : Group) (p : Program) (m : ℕ) (r : Running) (part : Part) (end : End) → IsWithin g p m r
-    → part_of r.place ≡ part → (behind p r part).end ≡ Some end
-    → Knows g (world g (step_of p (ok m))) m (goes (members r) (running.columns r) part r.place) (Some end)
-    → KnowsNext g p m r
+ended : (g : Group) (p : Program) (m : ℕ) (r : Running) (part : Part) (end : End)
+    → IsWithin g p m r → part_of r.place ≡ part → (behind p r part).end ≡ Some end → Knows g (world g
+    (step_of p (ok m))) m (goes (members r) (running.columns r) part r.place) (Some end) → KnowsNext g p m r
 ended g p m r part end is at over known =
     subst (λ (y : Running). Knows g (world g (step_of p (ok m))) m y.place y.replica.end)
     (sym (settled_end (took (next_sight p.table r) r (next_step r)) (ap is_some some)))
-    (subst (Knows g (world g (step_of p (ok m))) m (took (next_sight p.table r) r (next_step r)).place)
-    (sym some)
+    (subst (Knows g (world g (step_of p (ok m))) m (took (next_sight p.table r) r (next_step r)).place) (sym some)
     (subst (λ x. Knows g (world g (step_of p (ok m))) m
     (goes (members r) (running.columns r) x r.place) (Some end)) (sym at) known))
   where
@@ -151,8 +126,7 @@ knows_next g p m r is = by (part_of r.place) refl
     moved : CanTake g w m (next_step r) × (v ≡ effect_of g w m (next_step r))
     moved = world_on g p m r is.going.steady is.going.there is.going.unended
 
-    plainly : (part : Part) → part_of r.place ≡ part
-        → due r part ≡ uncrashed r part r.place.row r.place.column
+    plainly : (part : Part) → part_of r.place ≡ part → due r part ≡ uncrashed r part r.place.row r.place.column
         → Swept g v m (goes (members r) (running.columns r) part r.place)
     plainly part at plain = subst (λ x. Swept g v m (goes (members r) (running.columns r) x r.place)) at
         (swept_on g p m r is (subst (λ x. due r x ≡ uncrashed r x r.place.row r.place.column) (sym at) plain))
@@ -163,15 +137,13 @@ knows_next g p m r is = by (part_of r.place) refl
     sees : part_of r.place ≡ parts.Done → SeesAllDone v m
     sees at = subst (λ u. SeesAllDone u m) (sym (moved.1 ∙ ap (λ x. effect_of g w m (due r x)) at))
         (end_sees w m ends.Done
-        (asks g w m (due r parts.Done) (λ end. ((halts at).may, nobody_suspects g p m is.going.ease))
-        (halts at)))
+        (asks g w m (due r parts.Done) (λ end. ((halts at).may, nobody_suspects g p m is.going.ease)) (halts at)))
 
     push : (b : Bool) → crashes_now r ≡ b → part_of r.place ≡ parts.Push → KnowsNext g p m r
     push true crash at = ended g p m r parts.Push ends.Crashed is at
         (ap (λ b. (stepped (next_sight p.table r) r.replica
         (push_or_crash b r.place.row r.place.column)).end) crash) tt
-    push false crash at = onward g p m r parts.Push is at
-        (ap (λ b. push_or_crash b r.place.row r.place.column) crash)
+    push false crash at = onward g p m r parts.Push is at (ap (λ b. push_or_crash b r.place.row r.place.column) crash)
         (ap (λ b. (stepped (next_sight p.table r) r.replica
         (push_or_crash b r.place.row r.place.column)).end) crash ∙ is.going.unended)
 
@@ -190,12 +162,10 @@ knows_next g p m r is = by (part_of r.place) refl
     by parts.Excluded at = elsewhere parts.Excluded at refl
     by parts.Give at = elsewhere parts.Give at refl
     by parts.Append at = onward g p m r parts.Append is at (ap append_or_end is.well)
-        (ap (λ o. (stepped (next_sight p.table r) r.replica (append_or_end o)).end) is.well
-        ∙ is.going.unended)
+        (ap (λ o. (stepped (next_sight p.table r) r.replica (append_or_end o)).end) is.well ∙ is.going.unended)
     by parts.Push at = push (crashes_now r) refl at
     by parts.Crash at = ended g p m r parts.Crash ends.Crashed is at refl tt
-    by parts.Done at = ended g p m r parts.Done ends.Done is at refl
-        (plainly parts.Done at refl, at, sees at)
+    by parts.Done at = ended g p m r parts.Done ends.Done is at refl (plainly parts.Done at refl, at, sees at)
     by parts.Spent at = ended g p m r parts.Spent (ends.Spent r.replica.turns) is at refl
         (plainly parts.Spent at refl, at)
     by (parts.Do a) at = onward g p m r (parts.Do a) is at refl

@@ -1,31 +1,21 @@
 -- After a deed of a turn nothing is left to do at the places before the one where the member goes on.
 use Rattle.std.proofs.Common.{◌≡◌, ◌≢◌, refl, sym, ap, ◌∙◌, subst, inl, inr, ℕ, ◌+◌, ◌-◌, ◌<◌, ◌≤◌, ◌==◌, ◌&&◌, Bool, true, false, List, length, take, drop, ◌++◌, length-append, arith}
-use Rattle.std.proofs.lemmas.Bool.Decides.{nat_tests}
-use Rattle.std.proofs.lemmas.List.{length-take, length-drop}
+use Rattle.std.proofs.lemmas.{Bool.Decides.nat_tests, List.{length-take, length-drop}}
 use Rattle.dr_entry.specs.declared.entry.Entry.{Entry}
-use Rattle.dr_machine.specs.declared.event.Act.{Act}
-use Rattle.dr_machine.specs.Acts.{CanTake, effect_of}
-use Rattle.dr_machine.specs.Group.{Group, columns, roster}
-use Rattle.dr_machine.specs.World.{World, own_word}
-use Rattle.dr_machine.specs.Writes.{at, at₃, at₄}
-use Rattle.dr_program.specs.declared.place.Part.{Part}
+use Rattle.dr_machine.specs.{Acts.{CanTake, effect_of}, Group.{Group, columns, roster}, World.{World, own_word}}
+use Rattle.dr_machine.specs.{Writes.{at, at₃, at₄}, declared.event.Act.Act}
+use Rattle.dr_program.specs.{Running.{Running, goes}, Turn.{IsIn, after, columns_in, is_beat, part_of, rows_in}}
+use Rattle.dr_program.specs.declared.place.{Part.Part, Place.Place}
 use Rattle.dr_program.specs.declared.place.Part.TheVariants as parts
-use Rattle.dr_program.specs.declared.place.Place.{Place}
-use Rattle.dr_program.specs.Running.{Running, goes}
-use Rattle.dr_program.specs.Turn.{IsIn, after, columns_in, is_beat, part_of, rows_in}
-use Rattle.dr_turn.proofs.Search.{part_before}
+use Rattle.dr_turn.proofs.{Parts.{goes_back_or_stays, is_publish}, Search.part_before}
 use Rattle.dr_words.specs.declared.column.TheConstants.{LOGGED_COLUMN}
-use Rattle.dr_turn_laws.specs.Swept.{IsBefore, IsIdle, Swept}
-use Rattle.dr_turn_laws.proofs.Before.{IsLess, before_after}
-use Rattle.dr_turn.proofs.Parts.{goes_back_or_stays, is_publish}
+use Rattle.dr_turn_laws.{specs.Swept.{IsBefore, IsIdle, Swept}, proofs.Acts.{earlier_kept, uncrashed}}
+use Rattle.dr_turn_laws.proofs.{Before.{IsLess, before_after}, Leaving.{Stays, gained_other}}
 use Rattle.dr_program_laws.proofs.Quiet.{is_passed}
-use Rattle.dr_turn_laws.proofs.Acts.{earlier_kept, uncrashed}
-use Rattle.dr_turn_laws.proofs.Leaving.{Stays, gained_other}
 
 -- ---- what a deed leaves of its own part
 
-seen_less : (seen : ℕ → ℕ → ℕ → ℕ) (m i c x j d : ℕ) → IsLess j d i c
-    → at₃ seen m i c x m j d ≡ seen m j d
+seen_less : (seen : ℕ → ℕ → ℕ → ℕ) (m i c x j d : ℕ) → IsLess j d i c → at₃ seen m i c x m j d ≡ seen m j d
 seen_less seen m i c x j d (inl earlier) = grind (arith, earlier)
 seen_less seen m i c x j d (inr here) = grind (arith, here)
 
@@ -42,9 +32,8 @@ one_column : (j d i c : ℕ) → c < 1 → IsLess j d i c → j < i
 one_column j d i c column less = grind (arith, column, less)
 
 -- in earlier rows and columns it leaves what is known
-less_kept : (g : Group) (w : World) (m : ℕ) (r : Running) (part : Part) (i c j d : ℕ)
-    → i < rows_in (roster g) part → c < columns_in (columns g) part → IsLess j d i c
-    → Stays g w (effect_of g w m (uncrashed r part i c)) m part j d
+less_kept : (g : Group) (w : World) (m : ℕ) (r : Running) (part : Part) (i c j d : ℕ) → i < rows_in (roster g) part
+    → c < columns_in (columns g) part → IsLess j d i c → Stays g w (effect_of g w m (uncrashed r part i c)) m part j d
 less_kept g w m r parts.Look i c j d row column less = λ old other.
     seen_less w.seen m i c (w.table (w.past.view m) m i c) j d less ∙ old other
 less_kept g w m r parts.Receive i c j d row column less = λ old wants.
@@ -81,19 +70,16 @@ log_here : (log : ℕ → List Entry) (m : ℕ) (x : List Entry) → at log m x 
 log_here log m x = grind arith
 
 done_there : (g : Group) (w : World) (m : ℕ) (r : Running) (part : Part) (i c : ℕ)
-    → is_once part ≡ true → own_word w m LOGGED_COLUMN ≤ length (w.past.log m)
-    → CanTake g w m (uncrashed r part i c)
+    → is_once part ≡ true → own_word w m LOGGED_COLUMN ≤ length (w.past.log m) → CanTake g w m (uncrashed r part i c)
     → IsIdle g (effect_of g w m (uncrashed r part i c)) m part i c
 done_there g w m r parts.Look i c once published can = λ other. grind arith
 done_there g w m r parts.Push i c once published can = λ other unended. grind arith
-done_there g w m r parts.Append i c once published can = λ wants.
-    omega (
-      arith,
-      published,
-      ap length (log_here w.past.log m
-          (w.past.log m ++ take 1 (drop (length (w.past.log m)) (w.past.history m)))),
-      longer (w.past.log m) (w.past.history m) can.behind,
-    )
+done_there g w m r parts.Append i c once published can = λ wants. omega (
+  arith,
+  published,
+  ap length (log_here w.past.log m (w.past.log m ++ take 1 (drop (length (w.past.log m)) (w.past.history m)))),
+  longer (w.past.log m) (w.past.history m) can.behind,
+)
 done_there g w m r part i c once published can = absurd (cc)
 
 -- ---- a deed
@@ -122,12 +108,10 @@ earlier_idle : (g : Group) (w : World) (m : ℕ) (r : Running) (q : Place) → I
     → IsIdle g (world_behind g w m r) m (part_of q) q.row q.column
 earlier_idle g w m r q amid is (inl earlier) forth =
     earlier_kept g w m r r.place q (part_before (roster g) (columns g) r.place amid.place amid.begun) earlier
-    amid.unpassed (not_back q.part r.place.part (is_publish (part_of r.place)) forth)
-    (amid.swept q is (inl earlier))
-earlier_idle g w m r q amid is (inr here) forth =
-    subst (λ part. IsIdle g w m part q.row q.column
-    → IsIdle g (world_behind g w m r) m part q.row q.column) (sym same)
-    (less_kept g w m r (part_of r.place) r.place.row r.place.column q.row q.column amid.place.row
+    amid.unpassed (not_back q.part r.place.part (is_publish (part_of r.place)) forth) (amid.swept q is (inl earlier))
+earlier_idle g w m r q amid is (inr here) forth = subst (λ part. IsIdle g w m part q.row q.column
+    → IsIdle g (world_behind g w m r) m part q.row q.column)
+    (sym same) (less_kept g w m r (part_of r.place) r.place.row r.place.column q.row q.column amid.place.row
     amid.place.column here.1) (amid.swept q is (inr here))
   where
     same : part_of q ≡ part_of r.place
@@ -145,25 +129,20 @@ swept_behind g w m r amid q is = by (part_of r.place) refl
   where
     there : q ≡ r.place → is_once (part_of r.place) ≡ true
         → IsIdle g (world_behind g w m r) m (part_of q) q.row q.column
-    there same once = subst (λ (x : Place). IsIdle g (world_behind g w m r) m (part_of x) x.row x.column)
-        (sym same)
+    there same once = subst (λ (x : Place). IsIdle g (world_behind g w m r) m (part_of x) x.row x.column) (sym same)
         (done_there g w m r (part_of r.place) r.place.row r.place.column once amid.published amid.can)
 
     onward : is_once (part_of r.place) ≡ true → IsBefore q (after (roster g) (columns g) r.place)
         → IsIdle g (world_behind g w m r) m (part_of q) q.row q.column
     onward once before = elim (before_after (roster g) (columns g) q r.place is before) [
-      | inl earlier ↦ earlier_idle g w m r q amid is earlier
-          (λ back. absurd (once_not (part_of r.place) once back))
+      | inl earlier ↦ earlier_idle g w m r q amid is earlier (λ back. absurd (once_not (part_of r.place) once back))
       | inr same ↦ there same once
     ]
 
-    back : (a : Act) → part_of r.place ≡ parts.Do a
-        → IsBefore q (record r.place { part = r.place.part - 1 })
+    back : (a : Act) → part_of r.place ≡ parts.Do a → IsBefore q (record r.place { part = r.place.part - 1 })
         → IsIdle g (world_behind g w m r) m (part_of q) q.row q.column
-    back a e (inl earlier) =
-        earlier_idle g w m r q amid is (inl (omega (arith, earlier))) (λ back. earlier)
-    back a e (inr here) =
-        absurd (one_place q.row q.column r.place.row r.place.column
+    back a e (inl earlier) = earlier_idle g w m r q amid is (inl (omega (arith, earlier))) (λ back. earlier)
+    back a e (inr here) = absurd (one_place q.row q.column r.place.row r.place.column
         (subst (λ part. r.place.row < rows_in (roster g) part) e amid.place.row)
         (subst (λ part. r.place.column < columns_in (columns g) part) e amid.place.column) here.1)
 
@@ -172,17 +151,14 @@ swept_behind g w m r amid q is = by (part_of r.place) refl
     stays part e other before =
         earlier_idle g w m r q amid is before (λ back. absurd (cc (ap is_publish e, back, other)))
 
-    act : (a : Act) → part_of r.place ≡ parts.Do a
-        → IsBefore q (goes (roster g) (columns g) (parts.Do a) r.place)
+    act : (a : Act) → part_of r.place ≡ parts.Do a → IsBefore q (goes (roster g) (columns g) (parts.Do a) r.place)
         → IsIdle g (world_behind g w m r) m (part_of q) q.row q.column
-    act a e before = elim (goes_back_or_stays (roster g) (columns g) a r.place
-        (sym (ap is_beat e) ∙ amid.begun)) [
-          | inl goes ↦ back a e (subst (IsBefore q) goes.1 before)
-          | inr goes ↦ stays (parts.Do a) e goes.0 (subst (IsBefore q) goes.1 before)
-        ]
+    act a e before = elim (goes_back_or_stays (roster g) (columns g) a r.place (sym (ap is_beat e) ∙ amid.begun)) [
+      | inl goes ↦ back a e (subst (IsBefore q) goes.1 before)
+      | inr goes ↦ stays (parts.Do a) e goes.0 (subst (IsBefore q) goes.1 before)
+    ]
 
-    by : (part : Part) → part_of r.place ≡ part
-        → IsBefore q (goes (roster g) (columns g) part r.place)
+    by : (part : Part) → part_of r.place ≡ part → IsBefore q (goes (roster g) (columns g) part r.place)
         → IsIdle g (world_behind g w m r) m (part_of q) q.row q.column
     by parts.Look e before = onward (ap is_once e) before
     by parts.Append e before = onward (ap is_once e) before

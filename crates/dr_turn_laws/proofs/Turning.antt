@@ -1,55 +1,33 @@
 -- A whole turn of a member.
+use Rattle.std.{specs.Prelude.{All, Option, None, Some, is_some}, proofs.lemmas.Option.same_Some}
 use Rattle.std.proofs.Common.{◌≡◌, ◌≢◌, refl, sym, ap, ◌∙◌, subst, ◌⊎◌, ℕ, suc, ◌+◌, ◌<◌, ◌≤◌, ◌||◌, Bool, true, false, List, [], ◌∷◌, length, take, le_trans, arith}
-use Rattle.std.specs.Prelude.{All, Option, None, Some, is_some}
-use Rattle.std.proofs.lemmas.Option.{same_Some}
 use Rattle.dr_entry.specs.declared.end.End.{End}
 use Rattle.dr_entry.specs.declared.end.End.TheVariants as ends
-use Rattle.dr_faithful.proofs.Faithfulness.{grew}
-use Rattle.dr_faithful.specs.Chosen.{views_by}
-use Rattle.dr_faithful.specs.Faithful.{Faithful}
+use Rattle.dr_faithful.{specs.{Chosen.views_by, Faithful.Faithful}, proofs.Faithfulness.grew}
 use Rattle.dr_history.specs.Members.{has}
-use Rattle.dr_machine.specs.Acts.{CanTake, effect_of}
-use Rattle.dr_machine.specs.Effects.{one_more}
-use Rattle.dr_machine.specs.Group.{Group}
-use Rattle.dr_machine.specs.World.{World}
-use Rattle.dr_machine.specs.Writes.{at}
+use Rattle.dr_machine.specs.{Acts.{CanTake, effect_of}, Effects.one_more, Group.Group, World.World, Writes.at}
 use Rattle.dr_program.specs.declared.outcome.Outcome.TheVariants as outcomes
-use Rattle.dr_program.specs.declared.place.Part.{Part}
-use Rattle.dr_program.specs.declared.place.Part.TheVariants as parts
-use Rattle.dr_program.specs.declared.place.Place.{Place}
-use Rattle.dr_suspect.specs.Waits.{Waits, beat_of, turns_without_news}
-use Rattle.dr_turn.proofs.Search.{beat_test}
-use Rattle.dr_words.specs.declared.column.TheConstants.{BEAT_COLUMN}
-use Rattle.dr_program.specs.Program.{AllOk, Move, Program, next_sight, ok, ran, step_of}
-use Rattle.dr_program.specs.Form.{IsRunningMember}
-use Rattle.dr_program.specs.Reading.{table_of, world}
-use Rattle.dr_program.specs.Replica.{Replica}
-use Rattle.dr_program.specs.Steps.{stepped}
-use Rattle.dr_program.specs.Running as running
+use Rattle.dr_program.specs.{Form.IsRunningMember, Presence.present_at, Reading.{table_of, world}, Replica.Replica}
+use Rattle.dr_program.specs.{Program.{AllOk, Move, Program, next_sight, ok, ran, step_of}, declared.place.Place.Place}
 use Rattle.dr_program.specs.Running.{Running, append_or_end, crashes_now, goes, judged, members, next_step, push_or_crash, step_at, took, vote_or_end, waits_after}
-use Rattle.dr_program.specs.Schedule.{IsTurn, is_between_turns}
-use Rattle.dr_program.specs.Turn.{after, is_beat, part_of, turn_begins}
-use Rattle.dr_program.proofs.Holdings.{held_of}
-use Rattle.dr_program.proofs.StepsAt.{append_either, push_either, vote_either}
+use Rattle.dr_program.specs.{Schedule.{IsTurn, is_between_turns}, Turn.{after, is_beat, part_of, turn_begins}}
+use Rattle.dr_program.{specs.Steps.stepped, proofs.Holdings.held_of}
+use Rattle.dr_program.{specs.declared.place.Part.Part, proofs.StepsAt.{append_either, push_either, vote_either}}
+use Rattle.dr_program.specs.declared.place.Part.TheVariants as parts
+use Rattle.dr_suspect.specs.Waits.{Waits, beat_of, turns_without_news}
+use Rattle.dr_turn.{specs.Search.IsUnderway, proofs.Deeds.{beat_place, one_turn}}
+use Rattle.dr_turn.proofs.{Parts.{verdict_no_beat, verdict_of}, Search.beat_test}
+use Rattle.dr_words.specs.declared.column.TheConstants.{BEAT_COLUMN}
+use Rattle.dr_program.specs.Running as running
 use Rattle.dr_refine.proofs.Deeds.{program_member, replicas}
-use Rattle.dr_turn.specs.Search.{IsUnderway}
-use Rattle.dr_turn.proofs.Deeds.{beat_place, one_turn}
 use Rattle.dr_world_laws.proofs.Worlds.{Known, all_go_on, faithful, known}
-use Rattle.dr_program_laws.specs.Failing.{has_log_end}
-use Rattle.dr_turn_laws.specs.Rested.{HasCompared, HasTurned}
-use Rattle.dr_turn_laws.specs.Steady.{IsSteady}
-use Rattle.dr_turn_laws.specs.Swept.{IsBefore, Swept}
-use Rattle.dr_program_laws.specs.Trusting.{AreAtEase, MayWait, to_come}
-use Rattle.dr_turn_laws.proofs.Beats.{beat_rises}
-use Rattle.dr_turn_laws.proofs.Looking.{HasLooked, deed_behind, settled_behind}
-use Rattle.dr_turn.proofs.Parts.{verdict_no_beat, verdict_of}
-use Rattle.dr_turn_laws.proofs.Acts.{turns_stay}
-use Rattle.dr_turn_laws.proofs.Passing.{IsGoing, passes}
-use Rattle.dr_turn_laws.proofs.Resting.{Knows, knows_logs, rests}
-use Rattle.dr_turn_laws.proofs.Steadying.{moved_member, other_member, steady_moves, stepped_failed, stepped_on, stepped_replica, world_on}
+use Rattle.dr_program_laws.specs.{Failing.has_log_end, Trusting.{AreAtEase, MayWait, to_come}}
 use Rattle.dr_program_laws.proofs.Patience.{comes, settled_passed}
+use Rattle.dr_turn_laws.specs.{Rested.{HasCompared, HasTurned}, Steady.IsSteady, Swept.{IsBefore, Swept}}
+use Rattle.dr_turn_laws.proofs.{Acts.turns_stay, Beats.beat_rises, Looking.{HasLooked, deed_behind, settled_behind}}
+use Rattle.dr_turn_laws.proofs.{Passing.{IsGoing, passes}, Resting.{Knows, knows_logs, rests}}
+use Rattle.dr_turn_laws.proofs.Steadying.{moved_member, other_member, steady_moves, stepped_failed, stepped_on, stepped_replica, world_on}
 use Rattle.dr_turn_laws.proofs.Stepping.{ease_on, knows_next}
-use Rattle.dr_program.specs.Presence.{present_at}
 
 -- ---- what a deed leaves of turns and own words
 
@@ -62,8 +40,7 @@ turns_on g w m r parts.Vote i c other =
     vote_either (λ s. (effect_of g w m s).turns m ≡ w.turns m) r.failed _ refl (λ why. refl)
 turns_on g w m r parts.Push i c other =
     push_either (λ s. (effect_of g w m s).turns m ≡ w.turns m) (crashes_now r) i c refl refl
-turns_on g w m r parts.Judge i c other =
-    turns_stay g w m (judged r) (verdict_no_beat (judged r) (verdict_of r))
+turns_on g w m r parts.Judge i c other = turns_stay g w m (judged r) (verdict_no_beat (judged r) (verdict_of r))
 turns_on g w m r (parts.Do a) i c other = turns_stay g w m a other
 turns_on g w m r part i c other = refl
 
@@ -113,30 +90,26 @@ record HasGone (g : Group) (p : Program) (m : ℕ) (u : Program) : Type 0 where
 -- ---- its first deed
 
 -- it stands at the first place of the turn that it begins, before the search
-first_place : (g : Group) (p : Program) (m : ℕ) (r : Running) → IsGoing g p m r
-    → part_of r.place ≡ turn_begins
+first_place : (g : Group) (p : Program) (m : ℕ) (r : Running) → IsGoing g p m r → part_of r.place ≡ turn_begins
     → (took (next_sight p.table r) r (next_step r)).place ≡ record { part = 0; row = 0; column = 0 }
-first_place g p m r is at =
-    ap (λ x. goes (members r) (running.columns r) x r.place) at
+first_place g p m r is at = ap (λ x. goes (members r) (running.columns r) x r.place) at
     ∙ ap (after (members r) (running.columns r)) (beat_place r underway at)
   where
     form : IsRunningMember r
     form = is.steady.program.form m r is.there
 
     underway : IsUnderway r
-    underway =
-        record {
-          replica = form.replica;
-          place = form.place;
-          turns = form.turns;
-          waits = form.waits;
-          free = form.free;
-          left = form.left;
-        }
+    underway = record {
+      replica = form.replica;
+      place = form.place;
+      turns = form.turns;
+      waits = form.waits;
+      free = form.free;
+      left = form.left;
+    }
 
 -- nothing comes before that
-begins : (g : Group) (p : Program) (m : ℕ) (r : Running) → IsGoing g p m r
-    → part_of r.place ≡ turn_begins
+begins : (g : Group) (p : Program) (m : ℕ) (r : Running) → IsGoing g p m r → part_of r.place ≡ turn_begins
     → Swept g (world g (step_of p (ok m))) m (took (next_sight p.table r) r (next_step r)).place
 begins g p m r is at q inside before =
     absurd (nothing q.part q.row q.column (subst (IsBefore q) (first_place g p m r is at) before))
@@ -145,8 +118,7 @@ begins g p m r is at q inside before =
     nothing a i c earlier = grind (arith, earlier)
 
 -- and all rows are to come
-begins_looking : (g : Group) (p : Program) (m : ℕ) (r : Running) → IsGoing g p m r
-    → part_of r.place ≡ turn_begins
+begins_looking : (g : Group) (p : Program) (m : ℕ) (r : Running) → IsGoing g p m r → part_of r.place ≡ turn_begins
     → HasLooked g (world g (step_of p (ok m))) m r.waits (took (next_sight p.table r) r (next_step r))
 begins_looking g p m r is at = record {
   limit = ap (λ (w : Waits). w.limit) waits;
@@ -169,21 +141,18 @@ first_deed g p m r is well waits begins_at = record {
   member = stepped_on p r;
   there = there;
   well = stepped_failed p r ∙ well;
-  knows = subst (Knows g after_it m (stepped_on p r).place) (sym none)
-      (passes g (step_of p (ok m)) m (stepped_on p r) (took (next_sight p.table r) r (next_step r)).place
-      (stepped_on p r).place (record {
+  knows = subst (Knows g after_it m (stepped_on p r).place) (sym none) (passes g (step_of p (ok m)) m
+      (stepped_on p r) (took (next_sight p.table r) r (next_step r)).place (stepped_on p r).place (record {
         steady = steady;
         ease = ease_on g p m r is (λ beat. waits);
         there = there;
         unended = none;
-      })
-      (settled_passed (took (next_sight p.table r) r (next_step r))) (begins g p m r is begins_at));
+      }) (settled_passed (took (next_sight p.table r) r (next_step r))) (begins g p m r is begins_at));
   others = λ i other. other_member g p m r i is.steady is.there is.unended other;
   turns = ap (λ (u : World). u.turns m) on.1
       ∙ ap (λ x. (effect_of g (world g p) m (step_at r x r.place.row r.place.column)).turns m) begins_at
-      ∙ at_here (world g p).turns m (one_more 32 ((world g p).turns m))
-      ∙ one_turn ((world g p).turns m) r.limit (omega (arith, turns_are g p m r is.steady is.there, left))
-      (is.steady.limits m r is.there);
+      ∙ at_here (world g p).turns m (one_more 32 ((world g p).turns m)) ∙ one_turn ((world g p).turns m) r.limit
+      (omega (arith, turns_are g p m r is.steady is.there, left)) (is.steady.limits m r is.there);
   rises = deed_rises g p m r is;
   beats = beat_rises g p m r is begins_at;
   start = r;
@@ -209,8 +178,7 @@ first_deed g p m r is well waits begins_at = record {
     left = (is.steady.program.form m r is.there).left is.unended begins_at
 
     none : (stepped_on p r).replica.end ≡ None
-    none = ap (λ (q : Replica). q.end) (stepped_replica p r)
-        ∙ ap (λ x. (stepped (next_sight p.table r) r.replica
+    none = ap (λ (q : Replica). q.end) (stepped_replica p r) ∙ ap (λ x. (stepped (next_sight p.table r) r.replica
         (step_at r x r.place.row r.place.column)).end) begins_at ∙ is.unended
 
     at_here : (f : ℕ → ℕ) (i x : ℕ) → at f i x i ≡ x
@@ -244,8 +212,7 @@ next_deed g p m u gone between = record {
   beats = le_trans gone.beats (deed_rises g u m r is 0 BEAT_COLUMN);
   start = gone.start;
   began = gone.began;
-  looked = settled_behind g u m r gone.start.waits is (ease_on g u m r is (λ beat. absurd (cc
-      (beat, amid.1))))
+  looked = settled_behind g u m r gone.start.waits is (ease_on g u m r is (λ beat. absurd (cc (beat, amid.1))))
       (deed_behind g u m r gone.start.waits is amid.1 gone.looked);
 }
   where
@@ -265,21 +232,17 @@ goes_on : (g : Group) (p : Program) (m : ℕ) (es : List Move) (u : Program) →
     → HasGone g p m (ran u es)
 unfolding ran
 goes_on g p m [] u gone own well between = gone
-goes_on g p m (e ∷ es) u gone own well between =
-    goes_on g p m es (step_of u e)
-    (subst (λ x. HasGone g p m (step_of u x))
-    (sym (is_move e m (own 0 e (omega arith)) (well 0 e (omega arith))))
-    (next_deed g p m u gone (between 0 (omega arith))))
-    (λ k d l. own (suc k) d (omega (arith, l))) (λ k d l. well (suc k) d (omega (arith, l)))
-    (λ k l. between (suc k) (omega (arith, l)))
+goes_on g p m (e ∷ es) u gone own well between = goes_on g p m es (step_of u e)
+    (subst (λ x. HasGone g p m (step_of u x)) (sym (is_move e m (own 0 e (omega arith)) (well 0 e (omega arith))))
+    (next_deed g p m u gone (between 0 (omega arith)))) (λ k d l. own (suc k) d (omega (arith, l)))
+    (λ k d l. well (suc k) d (omega (arith, l))) (λ k l. between (suc k) (omega (arith, l)))
 
 -- ---- the whole turn
 
 -- behind the turn no row is to come, unless the member has crashed in it
 all_come : (g : Group) (w : World) (m : ℕ) (p : Place) (o : Option End) (i : ℕ) → Knows g w m p o
     → o ≢ Some ends.Crashed → (is_some o || is_beat (part_of p)) ≡ true → comes p i ≡ 0
-all_come g w m p None i known alive between =
-    ap (λ part. to_come part p.row i) (beat_test (part_of p) between)
+all_come g w m p None i known alive between = ap (λ part. to_come part p.row i) (beat_test (part_of p) between)
 all_come g w m p (Some ends.Done) i known alive between = ap (λ part. to_come part p.row i) known.1
 all_come g w m p (Some (ends.Spent n)) i known alive between = ap (λ part. to_come part p.row i) known.1
 all_come g w m p (Some ends.Crashed) i known alive between = absurd (alive refl)
@@ -292,11 +255,9 @@ turned g p m q gone whole = record {
   steady = gone.steady;
   ease = gone.ease;
   rested = rests g (world g q) m gone.member.place gone.member.replica.end
-      (end_is g q m gone.member gone.steady gone.there)
-      (gone.steady.program.form m gone.member gone.there).place.part
-      (sym (ap is_between_turns gone.there) ∙ whole)
-      (λ i member. told.views.within ((world g q).past.view m) i
-      (sym (ap (λ x. has x i) (told.views.own m)) ∙ member)) gone.knows;
+      (end_is g q m gone.member gone.steady gone.there) (gone.steady.program.form m gone.member gone.there).place.part
+      (sym (ap is_between_turns gone.there) ∙ whole) (λ i member. told.views.within
+      ((world g q).past.view m) i (sym (ap (λ x. has x i) (told.views.own m)) ∙ member)) gone.knows;
   well = λ y there. subst (λ (x : Running). x.failed ≡ None)
       (same_Some gone.member y (sym gone.there ∙ there)) gone.well;
   logs = ap has_log_end (end_is g q m gone.member gone.steady gone.there)
@@ -305,18 +266,15 @@ turned g p m q gone whole = record {
   turns = gone.turns;
   rises = gone.rises;
   beats = gone.beats;
-  compared = λ alive r x there here i l d.
-      subst (λ (s : Running). HasCompared s.waits x.waits i ((world g q).seen m i BEAT_COLUMN))
-      (same_Some gone.start r (sym gone.began ∙ there))
+  compared = λ alive r x there here i l d. subst (λ (s : Running). HasCompared s.waits x.waits i
+      ((world g q).seen m i BEAT_COLUMN)) (same_Some gone.start r (sym gone.began ∙ there))
       (subst (λ (s : Running). HasCompared gone.start.waits s.waits i ((world g q).seen m i BEAT_COLUMN))
-      (same_Some gone.member x (sym gone.there ∙ here)) (gone.looked.news i l d
-      (all_come g (world g q) m gone.member.place gone.member.replica.end i gone.knows
+      (same_Some gone.member x (sym gone.there ∙ here))
+      (gone.looked.news i l d (all_come g (world g q) m gone.member.place gone.member.replica.end i gone.knows
       (λ e. alive (end_is g q m gone.member gone.steady gone.there ∙ e))
       (sym (ap is_between_turns gone.there) ∙ whole))));
-  limit = λ r x there here. ap (λ (s : Running). s.waits.limit) (same_Some x gone.member (sym here
-      ∙ gone.there))
-      ∙ gone.looked.limit
-      ∙ ap (λ (s : Running). s.waits.limit) (same_Some gone.start r (sym gone.began ∙ there));
+  limit = λ r x there here. ap (λ (s : Running). s.waits.limit) (same_Some x gone.member (sym here ∙ gone.there))
+      ∙ gone.looked.limit ∙ ap (λ (s : Running). s.waits.limit) (same_Some gone.start r (sym gone.began ∙ there));
 }
   where
     y : Known g (world g q)
@@ -328,18 +286,12 @@ turned g p m q gone whole = record {
 -- a member that stands before a turn takes it, where no append of it has failed or fails
 pub takes_turn : (g : Group) (p : Program) (m : ℕ) (r : Running) (es : List Move) (q : Program)
     → IsSteady g p → AreAtEase p → present_at p.members m ≡ Some r → r.replica.end ≡ None
-    → r.failed ≡ None → MayWait r → part_of r.place ≡ turn_begins → AllOk es → IsTurn m p es q
-    → HasTurned g p m q
+    → r.failed ≡ None → MayWait r → part_of r.place ≡ turn_begins → AllOk es → IsTurn m p es q → HasTurned g p m q
 unfolding ran
-takes_turn g p m r [] q is calm there unended unfailed waits begins_at well turn =
-    absurd (omega (arith, turn.some))
-takes_turn g p m r (e ∷ es) q is calm there unended unfailed waits begins_at well turn =
-    turned g p m q
-    (subst (HasGone g p m) (sym turn.taken) (goes_on g p m es (step_of p e)
-    (subst (λ x. HasGone g p m (step_of p x))
+takes_turn g p m r [] q is calm there unended unfailed waits begins_at well turn = absurd (omega (arith, turn.some))
+takes_turn g p m r (e ∷ es) q is calm there unended unfailed waits begins_at well turn = turned g p m q
+    (subst (HasGone g p m) (sym turn.taken) (goes_on g p m es (step_of p e) (subst (λ x. HasGone g p m (step_of p x))
     (sym (is_move e m (turn.own 0 e (omega arith)) (well 0 e (omega arith))))
     (first_deed g p m r (record { steady = is; ease = calm; there = there; unended = unended }) unfailed waits
-    begins_at))
-    (λ k d l. turn.own (suc k) d (omega (arith, l))) (λ k d l. well (suc k) d (omega (arith, l)))
-    (λ k l. turn.first (suc k) (omega arith) (omega (arith, l)))))
-    turn.whole
+    begins_at)) (λ k d l. turn.own (suc k) d (omega (arith, l))) (λ k d l. well (suc k) d (omega (arith, l)))
+    (λ k l. turn.first (suc k) (omega arith) (omega (arith, l))))) turn.whole

@@ -1,31 +1,18 @@
 -- With each act a member has done some of its work, or has begun a turn: so acts are few.
+use Rattle.std.{specs.Prelude.{None, Some}, proofs.{Math.Nat.mul_comm, lemmas.List.Folds.sum_by-replicate}}
 use Rattle.std.proofs.Common.{◌≡◌, sym, ap, ◌∙◌, subst, ℕ, ◌+◌, ◌-◌, ◌*◌, ◌^◌, ◌<◌, ◌≤◌, true, [], ◌∷◌, replicate, sum_by, length-append, arith}
-use Rattle.std.specs.Prelude.{None, Some}
-use Rattle.std.proofs.Math.Nat.{mul_comm}
-use Rattle.std.proofs.lemmas.List.Folds.{sum_by-replicate}
-use Rattle.dr_entry.specs.declared.entry.Entry.TheVariants.{View}
-use Rattle.dr_entry.specs.declared.limits.TheConstants.{MAX_MEMBERS}
-use Rattle.dr_machine.specs.declared.step.Step.{Step}
-use Rattle.dr_machine.specs.Group.{Group, IsGroup}
-use Rattle.dr_machine.specs.Run.{IsReached}
-use Rattle.dr_program.specs.declared.setup.Setup.{Setup}
-use Rattle.dr_program.specs.Program.{Program, next_sight}
-use Rattle.dr_program.specs.Reading.{world}
-use Rattle.dr_program.specs.Replica.{Replica, begun_replica, greatest}
-use Rattle.dr_program.specs.Running.{Running, begun_running, next_step}
-use Rattle.dr_program.specs.Steps.{NoWordFell, allows, sight, stepped}
-use Rattle.dr_program.proofs.Fixed.{Told, step_told}
-use Rattle.dr_refine.specs.Programs.{IsProgram}
-use Rattle.dr_refine.proofs.Deeds.{due_allowed}
+use Rattle.dr_entry.specs.declared.{entry.Entry.TheVariants.View, limits.TheConstants.MAX_MEMBERS}
+use Rattle.dr_machine.specs.{Group.{Group, IsGroup}, Run.IsReached, declared.step.Step.Step}
+use Rattle.dr_program.{specs.{Presence.present_at, declared.setup.Setup.Setup}, proofs.Fixed.{Told, step_told}}
+use Rattle.dr_program.specs.{Program.{Program, next_sight}, Reading.world, Steps.{NoWordFell, allows, sight, stepped}}
+use Rattle.dr_program.specs.{Replica.{Replica, begun_replica, greatest}, Running.{Running, begun_running, next_step}}
+use Rattle.dr_refine.{specs.Programs.IsProgram, proofs.Deeds.due_allowed}
 use Rattle.dr_form.proofs.Steps.{stepped_grown}
 use Rattle.dr_rows.specs.Words.{seen}
 use Rattle.dr_turn.specs.Work.{ballots_left, commit_left, items_left, letters_left, log_left, mark_left, places_left, refill, reports_left, sum_of, trust_left, views_left, work}
 use Rattle.dr_words.specs.Grown.{HasGrown}
-use Rattle.dr_turn_laws.specs.Steady.{HasWorked, all_work}
-use Rattle.dr_program_laws.proofs.Keeping.{next_form}
-use Rattle.dr_turn_laws.proofs.Acts.{begins_turn, worked_on}
-use Rattle.dr_program_laws.proofs.Sight.{found_seen}
-use Rattle.dr_program.specs.Presence.{present_at}
+use Rattle.dr_turn_laws.{specs.Steady.{HasWorked, all_work}, proofs.Acts.{begins_turn, worked_on}}
+use Rattle.dr_program_laws.proofs.{Keeping.next_form, Sight.found_seen}
 
 -- ---- no word falls
 
@@ -74,8 +61,7 @@ items_begin most n =
 
 pub works_begin : (s : Setup) → HasWorked (begun_running s)
 unfolding work views_left sum_of items_left places_left log_left reports_left mark_left trust_left
-    ballots_left
-    commit_left letters_left
+    ballots_left commit_left letters_left
 works_begin s none = omega (
   arith,
   ap (λ b. refill (begun_replica s) * b) all,

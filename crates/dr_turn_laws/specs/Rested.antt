@@ -1,19 +1,12 @@
 -- What a whole turn of a member brings about.
 use Rattle.std.specs.Prelude.{◌≡◌, ◌≢◌, ◌↔◌, ◌⊎◌, ℕ, ◌+◌, ◌<◌, ◌≤◌, true, false, None, Some}
 use Rattle.dr_entry.specs.declared.end.End.TheVariants.{Crashed, Done}
-use Rattle.dr_machine.specs.declared.step.Step.{Step}
-use Rattle.dr_machine.specs.Group.{Group, columns, roster}
-use Rattle.dr_machine.specs.World.{World, own_word}
-use Rattle.dr_program.specs.Program.{Program}
-use Rattle.dr_program.specs.Reading.{world}
-use Rattle.dr_program.specs.Running.{Running}
+use Rattle.dr_machine.specs.{Group.{Group, columns, roster}, World.{World, own_word}, declared.step.Step.Step}
+use Rattle.dr_program.specs.{Presence.present_at, Program.Program, Reading.world, Running.Running}
 use Rattle.dr_suspect.specs.Waits.{Waits, beat_of, next_count, turns_without_news}
 use Rattle.dr_words.specs.declared.column.TheConstants.{BEAT_COLUMN}
-use Rattle.dr_program_laws.specs.Failing.{has_log_end}
-use Rattle.dr_turn_laws.specs.Steady.{IsSteady}
-use Rattle.dr_program_laws.specs.Trusting.{AreAtEase}
-use Rattle.dr_turn_laws.specs.Wants.{SeesAllDone, Wants, is_work}
-use Rattle.dr_program.specs.Presence.{present_at}
+use Rattle.dr_program_laws.specs.{Failing.has_log_end, Trusting.AreAtEase}
+use Rattle.dr_turn_laws.specs.{Steady.IsSteady, Wants.{SeesAllDone, Wants, is_work}}
 
 -- m has seen the word of a row and a column as it stands in the table
 abbrev pub HasSeen : World → ℕ → ℕ → ℕ → Type 0

@@ -2,16 +2,12 @@
 use Rattle.std.specs.Prelude.{◌≡◌, ◌≢◌, ℕ, ◌+◌, ◌*◌, ◌^◌, ◌<◌, ◌≤◌, length, None, Some}
 use Rattle.dr_entry.specs.declared.limits.TheConstants.{MAX_MEMBERS}
 use Rattle.dr_history.specs.Soundness.{IsNobodyLate}
-use Rattle.dr_machine.specs.Group.{AllPresent, Group, IsGroup, banks, columns, roster}
-use Rattle.dr_machine.specs.Run.{IsReached}
-use Rattle.dr_program.specs.Program.{Program}
-use Rattle.dr_program.specs.Reading.{world}
-use Rattle.dr_program.specs.Replica.{Replica, greatest}
+use Rattle.dr_machine.specs.{Group.{AllPresent, Group, IsGroup, banks, columns, roster}, Run.IsReached}
+use Rattle.dr_program.specs.{Presence.present_at, Program.Program, Reading.world, Replica.{Replica, greatest}}
 use Rattle.dr_program.specs.Running.{Running}
 use Rattle.dr_refine.specs.Programs.{IsProgram}
 use Rattle.dr_rows.specs.Words.{last_pushed}
 use Rattle.dr_turn.specs.Work.{refill, work}
-use Rattle.dr_program.specs.Presence.{present_at}
 
 -- a history has room for an entry of each place of the age, and for one more
 abbrev pub HasRooms : Group → Replica → Type 0

@@ -1,12 +1,9 @@
 -- What is known of a member in the places of its turn that it has passed.
 use Rattle.std.specs.Prelude.{◌≡◌, ◌≢◌, ⊤, ℕ, ◌<◌, ◌⊎◌}
 use Rattle.dr_machine.specs.declared.step.Step.TheVariants as steps
-use Rattle.dr_machine.specs.Group.{Group, columns, roster}
-use Rattle.dr_machine.specs.World.{World}
-use Rattle.dr_program.specs.declared.place.Part.{Part}
+use Rattle.dr_machine.specs.{Group.{Group, columns, roster}, World.World}
+use Rattle.dr_program.specs.{Turn.{IsIn, part_of}, declared.place.{Part.Part, Place.Place}}
 use Rattle.dr_program.specs.declared.place.Part.TheVariants as parts
-use Rattle.dr_program.specs.declared.place.Place.{Place}
-use Rattle.dr_program.specs.Turn.{IsIn, part_of}
 use Rattle.dr_turn_laws.specs.Rested.{HasPushed, HasSeen}
 use Rattle.dr_turn_laws.specs.Wants.{IsToLog, IsToPublish, IsToTake, SeesAllDone, Wants}
 

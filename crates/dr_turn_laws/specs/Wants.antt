@@ -1,16 +1,13 @@
 -- What a step asks of a member that may choose and suspects nobody.
 use Rattle.std.specs.Prelude.{◌≡◌, ◌≢◌, ⊤, ℕ, ◌+◌, ◌<◌, ◌≤◌, Bool, true, false, length, slice_index, Some}
-use Rattle.dr_entry.specs.declared.end.End.{End}
-use Rattle.dr_entry.specs.declared.end.End.TheVariants.{Done, Excluded, Suspected}
+use Rattle.dr_entry.specs.declared.end.End.{End, TheVariants.{Done, Excluded, Suspected}}
 use Rattle.dr_entry.specs.declared.record.Value.{Value}
-use Rattle.dr_history.specs.History.{messages_of}
-use Rattle.dr_history.specs.Members.{has}
+use Rattle.dr_history.specs.{History.messages_of, Members.has}
 use Rattle.dr_machine.specs.declared.event.Act.TheVariants as acts
-use Rattle.dr_machine.specs.declared.step.Step.{Step}
-use Rattle.dr_machine.specs.declared.step.Step.TheVariants as steps
 use Rattle.dr_machine.specs.Group.{Group, banks, columns}
 use Rattle.dr_machine.specs.Guards.{HasRoom, HoldsAll, IsBehind, IsExcluded, IsFault, IsNamable, IsOther, next_index, seen_slot}
-use Rattle.dr_machine.specs.World.{World, items_received, own_word, shown}
+use Rattle.dr_machine.specs.{World.{World, items_received, own_word, shown}, declared.step.Step.Step}
+use Rattle.dr_machine.specs.declared.step.Step.TheVariants as steps
 use Rattle.dr_ring.specs.Slots.{IsReady}
 use Rattle.dr_words.specs.declared.column.TheConstants.{DONE_COLUMN, LOGGED_COLUMN, RECEIVED_COLUMN, SUSPECTED_COLUMN}
 

@@ -6,21 +6,13 @@
 
 ghost use Rattle.std.specs.Prelude.{◌≡◌, ◌↔◌, ℕ, ◌^◌, ◌<◌, ◌≤◌, true, List, None, Some, Option};
 ghost use Rattle.dr_history.specs.Soundness.{IsNobodyLate};
-ghost use Rattle.dr_machine.specs.declared.step.Step.{Step};
-ghost use Rattle.dr_machine.specs.Acts.{CanTake};
-ghost use Rattle.dr_machine.specs.Group.{AllPresent, Group, IsGroup};
-ghost use Rattle.dr_machine.specs.Guards.{IsUnwedged, MayChoose};
-ghost use Rattle.dr_machine.specs.World.{World};
-ghost use Rattle.dr_program.specs.declared.setup.Setup.{Setup};
+ghost use Rattle.dr_machine.specs.{Acts.CanTake, Group.{AllPresent, Group, IsGroup}, Guards.{IsUnwedged, MayChoose}};
+ghost use Rattle.dr_machine.specs.{World.World, declared.step.Step.Step};
+ghost use Rattle.dr_program.specs.{Presence.present_at, Turn.{part_of, turn_begins}, declared.setup.Setup.Setup};
 ghost use Rattle.dr_program.specs.Program.{AllOk, AreSetups, Move, Program, begun_program, step_of};
-ghost use Rattle.dr_program.specs.Running.{Running};
-ghost use Rattle.dr_program.specs.Schedule.{IsTurn};
-ghost use Rattle.dr_program.specs.Turn.{part_of, turn_begins};
-ghost use Rattle.dr_turn_laws.specs.Rested.{HasTurned, IsRested};
-ghost use Rattle.dr_turn_laws.specs.Steady.{IsSteady};
+ghost use Rattle.dr_program.specs.{Running.Running, Schedule.IsTurn};
+ghost use Rattle.dr_turn_laws.specs.{Rested.{HasTurned, IsRested}, Steady.IsSteady, Wants.{Wants, is_work}};
 ghost use Rattle.dr_program_laws.specs.Trusting.{AreAtEase, MayWait};
-ghost use Rattle.dr_turn_laws.specs.Wants.{Wants, is_work};
-ghost use Rattle.dr_program.specs.Presence.{present_at};
 
 /// A program of a group that all of the roster are in, and in which nobody is late, begins steady, where its turns
 /// are 32 bits, and each move keeps it so.

@@ -1,34 +1,18 @@
 -- A member accepts what it has voted for, and commits what it has accepted.
+use Rattle.std.{specs.Prelude.unwrap_or, proofs.lemmas.Bool.{and_parts, cases_eq, eqb-true}}
 use Rattle.std.proofs.Common.{None, Some, ap, arith, inl, inr, le_of_eq, subst, sym, true, ℕ, ◌&&◌, ◌+◌, ◌-◌, ◌<◌, ◌==◌, ◌∙◌, ◌≡◌, ◌≢◌, ◌⊎◌, nat_lt}
-use Rattle.std.specs.Prelude.{unwrap_or}
-use Rattle.std.proofs.lemmas.Bool.{and_parts, cases_eq, eqb-true}
-use Rattle.dr_entry.specs.declared.record.Value.{Value}
-use Rattle.dr_entry.specs.declared.record.Vote.{Vote}
+use Rattle.dr_entry.specs.declared.record.{Value.Value, Vote.Vote}
 use Rattle.dr_history.specs.Members.{has}
-use Rattle.dr_machine.specs.Effects.{accepts, commits}
-use Rattle.dr_machine.specs.Group.{Group, IsGroup, roster}
-use Rattle.dr_machine.specs.Guards.{CanCommit}
-use Rattle.dr_machine.specs.Votes.{HasLogged, HasVoted, MajorityHas, vote_in}
-use Rattle.dr_machine.specs.World.{World, no_vote, shown}
-use Rattle.dr_machine.specs.Writes.{at}
-use Rattle.dr_faithful.proofs.Shown.{shown_own, shown_seen}
+use Rattle.dr_machine.specs.{Effects.{accepts, commits}, Guards.CanCommit, World.{World, no_vote, shown}, Writes.at}
+use Rattle.dr_machine.specs.{Group.{Group, IsGroup, roster}, Votes.{HasLogged, HasVoted, MajorityHas, vote_in}}
+use Rattle.dr_faithful.{specs.{Faithful.{Faithful, IsWaiting}, Tells.Views}, proofs.Shown.{shown_own, shown_seen}}
 use Rattle.dr_faithful.proofs.Votes.{accept_grew, accepted_row, is_waiting, own_tag, row_promise, row_tag, row_value, vote_waiting}
 use Rattle.dr_faithful.proofs.Writes.{at_case, at_other, at_same, at₂_read}
-use Rattle.dr_faithful.specs.Faithful.{Faithful, IsWaiting}
-use Rattle.dr_faithful.specs.Tells.{Views}
-use Rattle.dr_vote_laws.proofs.Frames.{row_rewritten}
-use Rattle.dr_vote_laws.proofs.Later.{OwnGrew, original_on}
-use Rattle.dr_vote_laws.proofs.Logs.{votes_same}
-use Rattle.dr_vote_laws.specs.Tells.{TellsVote, promise_in, tag_in}
-use Rattle.dr_vote_laws.specs.Voting.{Voting}
-use Rattle.dr_words.proofs.Masks.{has_mask_of}
-use Rattle.dr_words.proofs.Accepts.{leavers_accept}
-use Rattle.dr_words.specs.Accepts.{tag_of}
-use Rattle.dr_words.specs.Changes.{tagged_members}
-use Rattle.dr_words.specs.Columns.{leavers_column}
-use Rattle.dr_words.specs.Masks.{IsMajorityOf}
-use Rattle.dr_words.specs.Packing.{accept_promise, accept_tag}
-use Rattle.dr_words.specs.Rewrites.{is_accept_of}
+use Rattle.dr_vote_laws.{specs.{Tells.{TellsVote, promise_in, tag_in}, Voting.Voting}, proofs.Frames.row_rewritten}
+use Rattle.dr_vote_laws.proofs.{Later.{OwnGrew, original_on}, Logs.votes_same}
+use Rattle.dr_words.specs.{Accepts.tag_of, Changes.tagged_members, Columns.leavers_column, Masks.IsMajorityOf}
+use Rattle.dr_words.specs.{Packing.{accept_promise, accept_tag}, Rewrites.is_accept_of}
+use Rattle.dr_words.proofs.{Accepts.leavers_accept, Masks.has_mask_of}
 
 -- ---- what is shown
 
@@ -45,8 +29,7 @@ shown_tells g V w m i c f a = by (cases_eq i m)
 -- ---- an acceptance
 
 -- the vote that waits is on the log, in the present view and by the ballot of the promise
-pub waiting_voted : (g : Group) (V : Views) (w : World) (m : ℕ) (x : Vote) → w.pending m ≡ Some x
-    → Voting g V w
+pub waiting_voted : (g : Group) (V : Views) (w : World) (m : ℕ) (x : Vote) → w.pending m ≡ Some x → Voting g V w
     → HasVoted g w.past.votes m (w.past.view m) (vote_waiting w m).ballot (vote_waiting w m).value
 waiting_voted g V w m x e f =
     let there = f.acted.waiting m x e in
@@ -55,8 +38,7 @@ waiting_voted g V w m x e f =
     f.valid.own m x there.0 ∙ ap (λ v. vote_in g v x.ballot x.value) there.1 in
     rw same (subst (λ y. HasLogged w.past.votes m y) is there.0)
 
-row_now : (g : Group) (w : World) (m c : ℕ)
-    → (accepts g w m).past.own m (w.past.view m) c ≡ accepted_row g w m c
+row_now : (g : Group) (w : World) (m c : ℕ) → (accepts g w m).past.own m (w.past.view m) c ≡ accepted_row g w m c
 row_now g w m c = ap (λ r. r c) (at₂_read w.past.own m (w.past.view m) (accepted_row g w m))
 
 -- the words of another member, or of another view, are as before
@@ -67,28 +49,23 @@ word_before g w m i v c (inl d) = ap (λ r. r v c)
 word_before g w m i v c (inr d) = by (cases_eq i m)
   where
     by : (i ≡ m) ⊎ (i ≢ m) → (accepts g w m).past.own i v c ≡ w.past.own i v c
-    by (inl e) = rw e (ap (λ r. r v c) (at_same w.past.own m
-        (at (w.past.own m) (w.past.view m) (accepted_row g w m)))
+    by (inl e) = rw e (ap (λ r. r v c) (at_same w.past.own m (at (w.past.own m) (w.past.view m) (accepted_row g w m)))
         ∙ ap (λ r. r c) (at_other (w.past.own m) (w.past.view m) (accepted_row g w m) v d))
-    by (inr o) = ap (λ r. r v c)
-        (at_other w.past.own m (at (w.past.own m) (w.past.view m) (accepted_row g w m)) i o)
+    by (inr o) = ap (λ r. r v c) (at_other w.past.own m (at (w.past.own m) (w.past.view m) (accepted_row g w m)) i o)
 
 -- the own promise stays, and the own tag is that of the vote
 promise_now : (g : Group) (V : Views) (w : World) (m : ℕ) (x : Vote) → IsGroup g → w.pending m ≡ Some x
     → Faithful g V w → promise_in g (accepts g w m).past.own m (w.past.view m) ≡ w.promise m
 promise_now g V w m x is e f =
     let c : ℕ = leavers_column (roster g) in
-    ap accept_promise (row_now g w m c)
-    ∙ row_promise g V w m c x is e f (leavers_accept (roster g) (w.members m))
+    ap accept_promise (row_now g w m c) ∙ row_promise g V w m c x is e f (leavers_accept (roster g) (w.members m))
     ∙ f.suspicions.accept m c (leavers_accept (roster g) (V (w.past.view m)))
 
-tag_now : (g : Group) (V : Views) (w : World) (m : ℕ) (x : Vote) → IsGroup g → w.pending m ≡ Some x
-    → Faithful g V w
+tag_now : (g : Group) (V : Views) (w : World) (m : ℕ) (x : Vote) → IsGroup g → w.pending m ≡ Some x → Faithful g V w
     → tag_in g (accepts g w m).past.own m (w.past.view m) ≡ (vote_waiting w m).ballot + 1
 tag_now g V w m x is e f =
     let c : ℕ = leavers_column (roster g) in
-    ap accept_tag (row_now g w m c)
-    ∙ row_tag g V w m c x is e f (leavers_accept (roster g) (w.members m))
+    ap accept_tag (row_now g w m c) ∙ row_tag g V w m c x is e f (leavers_accept (roster g) (w.members m))
 
 -- each accept word of the row tells
 row_votes : (g : Group) (V : Views) (w : World) (m c : ℕ) (x : Vote) → IsGroup g → w.pending m ≡ Some x
@@ -121,10 +98,8 @@ row_votes g V w m c x is e f old a = record {
 -- every vote has a ballot below the tag now, but for one that waits
 below_now : (g : Group) (V : Views) (w : World) (m : ℕ) (x : Vote) → IsGroup g → w.pending m ≡ Some x
     → Faithful g V w → Voting g V w → (i v b : ℕ) (y : Value) → HasVoted g w.past.votes i v b y
-    → (b < tag_in g (accepts g w m).past.own i v)
-    ⊎ ((accepts g w m).pending i ≡ Some (vote_in g v b y))
-below_now g V w m x is e f old i v b y h =
-    by (cases_eq i m) (cases_eq v (w.past.view m)) (old.acted.below i v b y h)
+    → (b < tag_in g (accepts g w m).past.own i v) ⊎ ((accepts g w m).pending i ≡ Some (vote_in g v b y))
+below_now g V w m x is e f old i v b y h = by (cases_eq i m) (cases_eq v (w.past.view m)) (old.acted.below i v b y h)
   where
     waits : IsWaiting g (w.promise m) (w.tag m) (vote_waiting w m)
     waits = is_waiting g V w m x e f
@@ -135,8 +110,7 @@ below_now g V w m x is e f old i v b y h =
     same : vote_waiting w m ≡ x
     same = ap (λ o. unwrap_or o no_vote) e
 
-    kept : (i ≢ m) ⊎ (v ≢ w.past.view m)
-        → tag_in g (accepts g w m).past.own i v ≡ tag_in g w.past.own i v
+    kept : (i ≢ m) ⊎ (v ≢ w.past.view m) → tag_in g (accepts g w m).past.own i v ≡ tag_in g w.past.own i v
     kept d = ap accept_tag (word_before g w m i v (leavers_column (roster g)) d)
 
     -- the ballot of one of its votes in the present view
@@ -145,19 +119,16 @@ below_now g V w m x is e f old i v b y h =
     low (inl l) = omega (arith, l, tag, waits.above, waits.ballot)
     low (inr p) =
         let one : vote_in g v b y ≡ x = cc (e, p) in
-        let ballot : b ≡ (vote_waiting w m).ballot = ap (λ z. z.ballot) (one ∙ sym same) in
-        omega (arith, ballot)
+        let ballot : b ≡ (vote_waiting w m).ballot = ap (λ z. z.ballot) (one ∙ sym same) in omega (arith, ballot)
 
     by : (i ≡ m) ⊎ (i ≢ m) → (v ≡ w.past.view m) ⊎ (v ≢ w.past.view m)
         → (b < tag_in g w.past.own i v) ⊎ (w.pending i ≡ Some (vote_in g v b y))
-        → (b < tag_in g (accepts g w m).past.own i v)
-        ⊎ ((accepts g w m).pending i ≡ Some (vote_in g v b y))
+        → (b < tag_in g (accepts g w m).past.own i v) ⊎ ((accepts g w m).pending i ≡ Some (vote_in g v b y))
     by (inl q) (inl r) was = inl (rw (q, r, tag_now g V w m x is e f)
         (low (subst (λ u. (b < tag_in g w.past.own m u) ⊎ (w.pending m ≡ Some (vote_in g v b y))) r
         (subst (λ k. (b < tag_in g w.past.own k v) ⊎ (w.pending k ≡ Some (vote_in g v b y))) q was))))
     by (inl q) (inr d) (inl l) = inl (rw (kept (inr d)) l)
-    by (inl q) (inr d) (inr p) =
-        absurd (d (old.acted.waiting m (vote_in g v b y) (ap w.pending (sym q) ∙ p)).1)
+    by (inl q) (inr d) (inr p) = absurd (d (old.acted.waiting m (vote_in g v b y) (ap w.pending (sym q) ∙ p)).1)
     by (inr d) r (inl l) = inl (rw (kept (inl d)) l)
     by (inr d) r (inr p) = inr (at_other w.pending m None i d ∙ p)
 
@@ -169,9 +140,8 @@ accept_votes g V w m x is e f old = record {
   acted = record {
     below = below_now g V w m x is e f old;
     accepted = λ i b t. accepted i b (cases_eq i m) t;
-    waiting = at_case (λ i p. (y : Vote) → p ≡ Some y
-        → HasLogged w.past.votes i y × (y.view ≡ w.past.view i)) w.pending m None
-        (λ i d. old.acted.waiting i) (λ y p. absurd (cc p));
+    waiting = at_case (λ i p. (y : Vote) → p ≡ Some y → HasLogged w.past.votes i y
+        × (y.view ≡ w.past.view i)) w.pending m None (λ i d. old.acted.waiting i) (λ y p. absurd (cc p));
   };
   original = λ v b y h. original_on g V w.past.own (accepts g w m).past.own w.past.votes w.past.votes
       v b y (f.views.within v) grew (votes_same g w.past.own w.past.votes) (old.original v b y h);
@@ -202,14 +172,12 @@ pub one_ballot : (g : Group) (V : Views) (w : World) (i k v b : ℕ) (x y : Valu
 one_ballot g V w i k v b x y f p q = f.valid.one b v b x y (f.valid.led i v b x p) (f.valid.led k v b y q)
 
 -- the members whose row has the own tag
-tagged_is : (g : Group) (w : World) (m i tag : ℕ)
-    → has (tagged_members (roster g) (shown w m) (w.members m) tag) i ≡ true
-    → (has (w.members m) i ≡ true) × (tag_of (roster g) (shown w m) i ≡ tag)
+tagged_is : (g : Group) (w : World) (m i tag : ℕ) → has (tagged_members (roster g)
+    (shown w m) (w.members m) tag) i ≡ true → (has (w.members m) i ≡ true) × (tag_of (roster g) (shown w m) i ≡ tag)
 tagged_is g w m i tag h =
     let there = and_parts (nat_lt i 16) _ (sym (has_mask_of (λ i. has (w.members m) i
     && tag_of (roster g) (shown w m) i == tag) i) ∙ h) in
-    let both = and_parts (has (w.members m) i) _ there.1 in
-    (both.0, eqb-true _ _ both.1)
+    let both = and_parts (has (w.members m) i) _ there.1 in (both.0, eqb-true _ _ both.1)
 
 -- they have votes for the value that is committed
 pub commit_votes : (g : Group) (V : Views) (w : World) (m : ℕ) → CanCommit g w m → Faithful g V w

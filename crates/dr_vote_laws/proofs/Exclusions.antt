@@ -1,16 +1,9 @@
 -- Members are excluded only by the value that they have committed.
 use Rattle.std.proofs.Common.{Some, ap, inl, inr, sym, ℕ, ◌+◌, ◌∙◌, ◌≡◌}
 use Rattle.dr_entry.specs.declared.end.End.TheVariants.{Excluded}
-use Rattle.dr_machine.proofs.Ends.{EndsSo, IsStill, ended_so}
-use Rattle.dr_machine.proofs.Events.{standing}
-use Rattle.dr_machine.proofs.Runs.{reached}
-use Rattle.dr_machine.specs.Acts.{CanTake, effect_of}
-use Rattle.dr_machine.specs.Events.{member_of, step_of}
-use Rattle.dr_machine.specs.Group.{Group}
-use Rattle.dr_machine.specs.Guards.{IsExcluded}
-use Rattle.dr_machine.specs.Run.{IsReached, with_table}
-use Rattle.dr_machine.specs.World.{Table, World}
-use Rattle.dr_machine.specs.declared.step.Step.{Step}
+use Rattle.dr_machine.specs.{Acts.{CanTake, effect_of}, Events.{member_of, step_of}, Group.Group, Guards.IsExcluded}
+use Rattle.dr_machine.specs.{Run.{IsReached, with_table}, World.{Table, World}, declared.step.Step.Step}
+use Rattle.dr_machine.proofs.{Ends.{EndsSo, IsStill, ended_so}, Events.standing, Runs.reached}
 
 -- an end by exclusion is that of a member that its committed value names
 abbrev AreExcludedSo : World → Type 0
@@ -39,12 +32,10 @@ step_excludes g w m s can old k next e =
 -- words that arrive end nobody
 arrival_excludes : (w : World) (table : Table) → AreExcludedSo w → AreExcludedSo (with_table w table)
 arrival_excludes w table old k next e =
-    let so = old k next e in
-    record { value = so.value; committed = so.committed; named = so.named; next = so.next }
+    let so = old k next e in record { value = so.value; committed = so.committed; named = so.named; next = so.next }
 
 -- so it is in every world that is reached
 pub excluded_so : (g : Group) (w : World) (m next : ℕ) → IsReached g w → w.end m ≡ Some (Excluded next)
     → IsExcluded w m next
-excluded_so g w m next r =
-    reached g AreExcludedSo (λ u e run can y. step_excludes g u (member_of e) (step_of e) can y)
-    (λ u table y. arrival_excludes u table y) (λ k n e. absurd (cc)) w r m next
+excluded_so g w m next r = reached g AreExcludedSo (λ u e run can y. step_excludes g u
+    (member_of e) (step_of e) can y) (λ u table y. arrival_excludes u table y) (λ k n e. absurd (cc)) w r m next

@@ -1,26 +1,14 @@
 -- Accept words that arrive late: what they tell of votes stays true.
 use Rattle.std.proofs.Common.{◌≡◌, refl, subst, sym, ℕ, List, [], ◌∷◌, true}
 use Rattle.dr_words.specs.Rewrites.{is_accept_of}
-use Rattle.dr_machine.proofs.Runs.{arrived, none_was, were_all}
-use Rattle.dr_machine.specs.Acts.{Guard, does, effect, effect_of}
-use Rattle.dr_machine.specs.declared.event.Act.{Act}
+use Rattle.dr_machine.specs.{Acts.{Guard, does, effect, effect_of}, declared.step.Step.TheVariants.{Do, LogVote}}
+use Rattle.dr_machine.specs.{Events.{member_of, step_of}, declared.event.{Act.Act, Event.Event}}
+use Rattle.dr_machine.specs.{Group.{Group, IsGroup, roster}, Run.{HaveArrived, with_table}, declared.step.Step.Step}
+use Rattle.dr_machine.{specs.World.{Table, World, opening_world}, proofs.Runs.{arrived, none_was, were_all}}
 use Rattle.dr_machine.specs.declared.event.Act.TheVariants as acts
-use Rattle.dr_machine.specs.declared.event.Event.{Event}
-use Rattle.dr_machine.specs.declared.step.Step.{Step}
-use Rattle.dr_machine.specs.declared.step.Step.TheVariants.{Do, LogVote}
-use Rattle.dr_machine.specs.Events.{member_of, step_of}
-use Rattle.dr_machine.specs.Group.{Group, IsGroup, roster}
-use Rattle.dr_machine.specs.Run.{HaveArrived, with_table}
-use Rattle.dr_machine.specs.World.{Table, World, opening_world}
-use Rattle.dr_faithful.proofs.Faithfulness.{words_on}
-use Rattle.dr_faithful.specs.Faithful.{AllGoOn, Faithful}
-use Rattle.dr_faithful.specs.Tells.{Views}
-use Rattle.dr_vote_laws.proofs.Later.{tells_on}
-use Rattle.dr_vote_laws.proofs.Logging.{votes_grew}
-use Rattle.dr_vote_laws.proofs.Logs.{VotesGrew, votes_same}
-use Rattle.dr_vote_laws.specs.Late.{VotesBacked}
-use Rattle.dr_vote_laws.specs.Tells.{TellsVote}
-use Rattle.dr_vote_laws.specs.Voting.{Voting}
+use Rattle.dr_faithful.{specs.{Faithful.{AllGoOn, Faithful}, Tells.Views}, proofs.Faithfulness.words_on}
+use Rattle.dr_vote_laws.{specs.{Late.VotesBacked, Tells.TellsVote, Voting.Voting}, proofs.Later.tells_on}
+use Rattle.dr_vote_laws.proofs.{Logging.votes_grew, Logs.{VotesGrew, votes_same}}
 
 -- no act logs a vote
 does_votes : (g : Group) (w : World) (m : ℕ) (a : Act) → (does g w m a).past.votes ≡ w.past.votes
@@ -38,21 +26,18 @@ step_votes g V w m s f = votes_same g w.past.own w.past.votes
 -- the accept words of before, with the own ones
 backed_now : (g : Group) (V : Views) (us : List World) (w : World) → Voting g V w → VotesBacked g V us w
     → VotesBacked g V (w ∷ us) w
-backed_now g V us w old y = were_all us w
-    (λ v i c word. is_accept_of (roster g) (V v) c ≡ true → TellsVote g w.past.own w.past.votes i v c word)
-    (λ i c. old.words.in_own i (w.past.view i) c) y
+backed_now g V us w old y = were_all us w (λ v i c word. is_accept_of (roster g)
+    (V v) c ≡ true → TellsVote g w.past.own w.past.votes i v c word) (λ i c. old.words.in_own i (w.past.view i) c) y
 
 pub votes_backed : (g : Group) (V : Views) → VotesBacked g V [] (opening_world g)
 votes_backed g V = none_was (λ v i c word. is_accept_of (roster g) (V v) c ≡ true
     → TellsVote g (opening_world g).past.own (opening_world g).past.votes i v c word)
 
 pub votes_on : (g : Group) (V : Views) (us : List World) (w : World) (e : Event) → IsGroup g → AllGoOn g V w
-    → Guard g w e → Faithful g V w → Voting g V w → VotesBacked g V us w
-    → VotesBacked g V (w ∷ us) (effect g w e)
-votes_on g V us w e is well can f old y v i c word was column =
-    tells_on g w.past.own (effect g w e).past.own w.past.votes (effect g w e).past.votes i v c word
-    (words_on g V w e is well can f).own (step_votes g V w (member_of e) (step_of e) f)
-    (backed_now g V us w old y v i c word was column)
+    → Guard g w e → Faithful g V w → Voting g V w → VotesBacked g V us w → VotesBacked g V (w ∷ us) (effect g w e)
+votes_on g V us w e is well can f old y v i c word was column = tells_on g w.past.own
+    (effect g w e).past.own w.past.votes (effect g w e).past.votes i v c word (words_on g V w e is well can f).own
+    (step_votes g V w (member_of e) (step_of e) f) (backed_now g V us w old y v i c word was column)
 
 -- a word that arrives tells of its owner's votes what it told when it was sent
 pub arrived_votes : (g : Group) (V : Views) (us : List World) (w : World) (table : Table)

@@ -1,18 +1,12 @@
 -- What is told of votes, and where proposals come from, stays true as promises rise and votes are logged.
 use Rattle.std.proofs.Common.{ap, arith, inl, inr, le_trans, refl, sym, true, ℕ, ◌<◌, ◌∙◌, ◌≡◌, ◌≤◌, ◌⊎◌}
-use Rattle.dr_entry.specs.declared.record.Value.{Value}
-use Rattle.dr_entry.specs.declared.record.Vote.{Vote}
+use Rattle.dr_entry.specs.declared.record.{Value.Value, Vote.Vote}
 use Rattle.dr_history.specs.Members.{has}
-use Rattle.dr_machine.specs.Group.{Group, roster}
-use Rattle.dr_machine.specs.Votes.{HasVoted, MajorityHas, Votes, vote_in}
-use Rattle.dr_faithful.specs.Faithful.{Numbers}
-use Rattle.dr_faithful.specs.Tells.{Views}
+use Rattle.dr_machine.specs.{Group.{Group, roster}, Votes.{HasVoted, MajorityHas, Votes, vote_in}}
+use Rattle.dr_faithful.specs.{Faithful.Numbers, Tells.Views}
+use Rattle.dr_vote_laws.specs.{Tells.{TellsVote, promise_in}, Voting.{IsFirst, IsLater, IsOriginal}}
 use Rattle.dr_vote_laws.proofs.Logs.{VotesGrew}
-use Rattle.dr_vote_laws.specs.Tells.{TellsVote, promise_in}
-use Rattle.dr_vote_laws.specs.Voting.{IsFirst, IsLater, IsOriginal}
-use Rattle.dr_words.specs.Changes.{IsLeastReceived, received}
-use Rattle.dr_words.specs.Columns.{leavers_column, recv_column}
-use Rattle.dr_words.specs.Grown.{HasGrown}
+use Rattle.dr_words.specs.{Changes.{IsLeastReceived, received}, Columns.{leavers_column, recv_column}, Grown.HasGrown}
 use Rattle.dr_words.specs.Packing.{accept_promise, accept_tag, is_final, recv_count}
 
 -- own words have grown
@@ -25,9 +19,8 @@ pub promises_rise : (g : Group) (own new : Numbers) (i v : ℕ) → OwnGrew g ow
 promises_rise g own new i v grew = omega (arith, (grew i v (leavers_column (roster g))).number)
 
 -- what a word tells of votes stays true
-pub tells_on : (g : Group) (own new : Numbers) (votes more : Votes) (i v c word : ℕ)
-    → OwnGrew g own new → VotesGrew g own votes more
-    → TellsVote g own votes i v c word → TellsVote g new more i v c word
+pub tells_on : (g : Group) (own new : Numbers) (votes more : Votes) (i v c word : ℕ) → OwnGrew g own new
+    → VotesGrew g own votes more → TellsVote g own votes i v c word → TellsVote g new more i v c word
 tells_on g own new votes more i v c word grew late t = record {
   promised = le_trans t.promised (promises_rise g own new i v grew);
   low = t.low;
@@ -42,10 +35,8 @@ tells_on g own new votes more i v c word grew late t = record {
 
 -- a final count stays
 received_same : (g : Group) (own new : Numbers) (i v s : ℕ) → OwnGrew g own new → s < roster g
-    → is_final (own i v (recv_column s)) ≡ true
-    → received (λ i c. new i v c) i s ≡ received (λ i c. own i v c) i s
-received_same g own new i v s grew l final =
-    ap recv_count ((grew i v (recv_column s)).final s l refl final)
+    → is_final (own i v (recv_column s)) ≡ true → received (λ i c. new i v c) i s ≡ received (λ i c. own i v c) i s
+received_same g own new i v s grew l final = ap recv_count ((grew i v (recv_column s)).final s l refl final)
 
 -- the least counts of members whose counts are final stay
 least_on : (g : Group) (V : Views) (own new : Numbers) (v mask s count : ℕ) → OwnGrew g own new
@@ -74,8 +65,7 @@ original_on g V own new votes more v b x within grew late t = record {
   source = source t.source;
 }
   where
-    none : (i c : ℕ) (y : Value) → has t.mask i ≡ true → HasVoted g more i v c y
-        → HasVoted g votes i v c y ⊎ (b ≤ c)
+    none : (i c : ℕ) (y : Value) → has t.mask i ≡ true → HasVoted g more i v c y → HasVoted g votes i v c y ⊎ (b ≤ c)
     none i c y h voted = by (late.late i v c y voted)
       where
         by : HasVoted g votes i v c y ⊎ (promise_in g own i v ≤ c) → HasVoted g votes i v c y ⊎ (b ≤ c)
@@ -89,8 +79,7 @@ original_on g V own new votes more v b x within grew late t = record {
       leavers = f.leavers;
       newcomers = f.newcomers;
       named = f.named;
-      trims = λ s m. least_on g V own new v t.mask s _ grew (within s m) (λ i h. t.final i s h m)
-          (f.trims s m);
+      trims = λ s m. least_on g V own new v t.mask s _ grew (within s m) (λ i h. t.final i s h m) (f.trims s m);
     }
       where
         first : (i c : ℕ) (y : Value) → has t.mask i ≡ true → HasVoted g votes i v c y ⊎ (b ≤ c) → b ≤ c
@@ -99,11 +88,7 @@ original_on g V own new votes more v b x within grew late t = record {
     source (inr f) = inr record {
       ballot = f.ballot;
       earlier = f.earlier;
-      somebody = (
-        f.somebody.0,
-        f.somebody.1,
-        late.stay f.somebody.0 (vote_in g v f.ballot x) f.somebody.2,
-      );
+      somebody = (f.somebody.0, f.somebody.1, late.stay f.somebody.0 (vote_in g v f.ballot x) f.somebody.2);
       none = λ i c y h voted. later i c y h (none i c y h voted);
     }
       where
@@ -113,9 +98,8 @@ original_on g V own new votes more v b x within grew late t = record {
         later i c y h (inr high) = inr high
 
 -- a majority that has votes has them still
-pub majority_on : (votes more : Votes) (members : ℕ) (g : Group) (own : Numbers)
-    (IsSuch : Vote → Type 0) → VotesGrew g own votes more → MajorityHas votes members IsSuch
-    → MajorityHas more members IsSuch
+pub majority_on : (votes more : Votes) (members : ℕ) (g : Group) (own : Numbers) (IsSuch : Vote → Type 0)
+    → VotesGrew g own votes more → MajorityHas votes members IsSuch → MajorityHas more members IsSuch
 majority_on votes more members g own IsSuch grew t = record {
   mask = t.mask;
   part = t.part;

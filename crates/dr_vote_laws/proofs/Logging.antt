@@ -1,27 +1,17 @@
 -- A member logs a vote.
 use Rattle.std.proofs.Common.{Some, ap, false, inl, inr, le_of_eq, refl, slice_index, subst, sym, ℕ, ◌<◌, ◌∙◌, ◌≡◌, ◌≢◌, ◌≤◌, ◌⊎◌}
 use Rattle.std.proofs.lemmas.Bool.{cases_eq}
-use Rattle.dr_entry.specs.declared.record.Value.{Value}
-use Rattle.dr_entry.specs.declared.record.Vote.{Vote}
+use Rattle.dr_entry.specs.declared.record.{Value.Value, Vote.Vote}
 use Rattle.dr_history.specs.Members.{has}
-use Rattle.dr_machine.specs.Effects.{logs_vote, vote_for}
-use Rattle.dr_machine.specs.Group.{Group, IsGroup, roster}
-use Rattle.dr_machine.specs.Guards.{CanLogVote, IsToAccept, IsToPropose}
-use Rattle.dr_machine.specs.Votes.{HasLogged, HasVoted, vote_in}
-use Rattle.dr_machine.specs.World.{World, shown}
-use Rattle.dr_faithful.proofs.Votes.{own_promise}
+use Rattle.dr_machine.specs.{Effects.{logs_vote, vote_for}, Group.{Group, IsGroup, roster}, World.{World, shown}}
+use Rattle.dr_machine.specs.{Guards.{CanLogVote, IsToAccept, IsToPropose}, Votes.{HasLogged, HasVoted, vote_in}}
+use Rattle.dr_faithful.{specs.{Faithful.Faithful, Tells.Views}, proofs.Votes.own_promise}
 use Rattle.dr_faithful.proofs.Writes.{at_case, at_other, at_same}
-use Rattle.dr_faithful.specs.Faithful.{Faithful}
-use Rattle.dr_faithful.specs.Tells.{Views}
-use Rattle.dr_vote_laws.proofs.Later.{OwnGrew, majority_on, original_on, tells_on}
-use Rattle.dr_vote_laws.proofs.Logs.{VotesGrew, logged_before, logged_new, logged_stays}
-use Rattle.dr_vote_laws.proofs.Proposals.{proposed}
-use Rattle.dr_vote_laws.proofs.Rows.{no_vote_yet, shows_voted}
 use Rattle.dr_vote_laws.specs.Tells.{TellsVote, promise_in, tag_in}
 use Rattle.dr_vote_laws.specs.Voting.{AreVotes, IsOriginal, IsValueOf, Voting}
-use Rattle.dr_words.proofs.Order.{HasGrown_refl}
-use Rattle.dr_words.proofs.Accepts.{leavers_accept, all_tagged}
-use Rattle.dr_words.specs.Columns.{leavers_column}
+use Rattle.dr_vote_laws.proofs.{Later.{OwnGrew, majority_on, original_on, tells_on}, Rows.{no_vote_yet, shows_voted}}
+use Rattle.dr_vote_laws.proofs.{Logs.{VotesGrew, logged_before, logged_new, logged_stays}, Proposals.proposed}
+use Rattle.dr_words.{specs.Columns.leavers_column, proofs.{Accepts.{leavers_accept, all_tagged}, Order.HasGrown_refl}}
 
 -- the own words are as before
 own_stays : (g : Group) (w : World) → OwnGrew g w.past.own w.past.own
@@ -32,22 +22,18 @@ pub votes_grew : (g : Group) (V : Views) (w : World) (m : ℕ) (v : Value) → F
     → VotesGrew g w.past.own w.past.votes (logs_vote g w m v).past.votes
 votes_grew g V w m v f = record {
   stay = logged_stays w.past.votes m (vote_for g w m v);
-  late = λ i u b x h. late i u b x
-      (logged_before w.past.votes m (vote_for g w m v) i (vote_in g u b x) h);
+  late = λ i u b x h. late i u b x (logged_before w.past.votes m (vote_for g w m v) i (vote_in g u b x) h);
 }
   where
     promise : promise_in g w.past.own m (w.past.view m) ≡ w.promise m
-    promise = f.suspicions.accept m (leavers_column (roster g))
-        (leavers_accept (roster g) (V (w.past.view m)))
+    promise = f.suspicions.accept m (leavers_column (roster g)) (leavers_accept (roster g) (V (w.past.view m)))
 
-    late : (i u b : ℕ) (x : Value) → HasLogged w.past.votes i (vote_in g u b x)
-        ⊎ ((i ≡ m) × (vote_in g u b x ≡ vote_for g w m v))
-        → HasVoted g w.past.votes i u b x ⊎ (promise_in g w.past.own i u ≤ b)
+    late : (i u b : ℕ) (x : Value) → HasLogged w.past.votes i (vote_in g u b x) ⊎ ((i ≡ m)
+        × (vote_in g u b x ≡ vote_for g w m v)) → HasVoted g w.past.votes i u b x ⊎ (promise_in g w.past.own i u ≤ b)
     late i u b x (inl old) = inl old
     late i u b x (inr t) =
         let view : u ≡ w.past.view m = ap (λ z. z.view) t.1 in
-        let ballot : b ≡ w.promise m = ap (λ z. z.ballot) t.1 in
-        inr (rw (t.0, view, ballot) (le_of_eq promise))
+        let ballot : b ≡ w.promise m = ap (λ z. z.ballot) t.1 in inr (rw (t.0, view, ballot) (le_of_eq promise))
 
 -- ---- the votes
 
@@ -66,8 +52,7 @@ value_is g V w m v can f = record {
     others s h (inr t) = t.1.others s h
 
 -- and who leads the ballot has voted for it
-led_by : (g : Group) (V : Views) (w : World) (m : ℕ) (v : Value) → CanLogVote g w m v → Faithful g V w
-    → Voting g V w
+led_by : (g : Group) (V : Views) (w : World) (m : ℕ) (v : Value) → CanLogVote g w m v → Faithful g V w → Voting g V w
     → HasVoted g (logs_vote g w m v).past.votes (w.promise m) (w.past.view m) (w.promise m) v
 led_by g V w m v can f old = by can.allowed
   where
@@ -80,8 +65,7 @@ led_by g V w m v can f old = by can.allowed
     by (inr t) =
         let promise = own_promise g V w m f in
         logged_stays w.past.votes m (vote_for g w m v) (w.promise m) (vote_for g w m v)
-        (subst (λ p. HasVoted g w.past.votes p (w.past.view m) p v) promise
-        (shows_voted g V w m _ _ v f old can.whole
+        (subst (λ p. HasVoted g w.past.votes p (w.past.view m) p v) promise (shows_voted g V w m _ _ v f old can.whole
         (all_tagged (roster g) (shown w m) (w.members m) _ _ t.0.whole) t.1))
 
 votes_valid : (g : Group) (V : Views) (w : World) (m : ℕ) (v : Value) → CanLogVote g w m v
@@ -108,37 +92,29 @@ votes_valid g V w m v can f old = record {
     apart i u b x y h e t =
         let view : u ≡ w.past.view m = ap (λ z. z.view) t in
         let ballot : b ≡ w.promise m = ap (λ z. z.ballot) t in
-        no_vote_yet g V w m v can f old x
-        (subst (λ p. HasVoted g w.past.votes m (w.past.view m) p x) ballot
-        (subst (λ z. HasVoted g w.past.votes m z b x) view
-        (subst (λ k. HasVoted g w.past.votes k u b x) e h)))
+        no_vote_yet g V w m v can f old x (subst (λ p. HasVoted g w.past.votes m (w.past.view m) p x) ballot
+        (subst (λ z. HasVoted g w.past.votes m z b x) view (subst (λ k. HasVoted g w.past.votes k u b x) e h)))
 
     one : (i u b : ℕ) (x y : Value)
         → HasLogged w.past.votes i (vote_in g u b x) ⊎ ((i ≡ m) × (vote_in g u b x ≡ vote_for g w m v))
-        → HasLogged w.past.votes i (vote_in g u b y) ⊎ ((i ≡ m) × (vote_in g u b y ≡ vote_for g w m v))
-        → x ≡ y
+        → HasLogged w.past.votes i (vote_in g u b y) ⊎ ((i ≡ m) × (vote_in g u b y ≡ vote_for g w m v)) → x ≡ y
     one i u b x y (inl h) (inl k) = old.valid.one i u b x y h k
     one i u b x y (inl h) (inr t) = absurd (apart i u b x y h t.0 t.1)
     one i u b x y (inr t) (inl k) = absurd (apart i u b y x k t.0 t.1)
     one i u b x y (inr t) (inr s) = ap (λ z. z.value) t.1 ∙ sym (ap (λ z. z.value) s.1)
 
-    value : (i u b : ℕ) (x : Value)
-        → HasLogged w.past.votes i (vote_in g u b x) ⊎ ((i ≡ m) × (vote_in g u b x ≡ vote_for g w m v))
-        → IsValueOf (V u) x
+    value : (i u b : ℕ) (x : Value) → HasLogged w.past.votes i (vote_in g u b x)
+        ⊎ ((i ≡ m) × (vote_in g u b x ≡ vote_for g w m v)) → IsValueOf (V u) x
     value i u b x (inl h) = old.valid.value i u b x h
     value i u b x (inr t) =
         let view : u ≡ w.past.view m = ap (λ z. z.view) t.1 in
-        let same : x ≡ v = ap (λ z. z.value) t.1 in
-        rw (view, same) (value_is g V w m v can f)
+        let same : x ≡ v = ap (λ z. z.value) t.1 in rw (view, same) (value_is g V w m v can f)
 
-    led : (i u b : ℕ) (x : Value)
-        → HasLogged w.past.votes i (vote_in g u b x) ⊎ ((i ≡ m) × (vote_in g u b x ≡ vote_for g w m v))
-        → HasVoted g (logs_vote g w m v).past.votes b u b x
-    led i u b x (inl h) = logged_stays w.past.votes m (vote_for g w m v) b (vote_in g u b x)
-        (old.valid.led i u b x h)
+    led : (i u b : ℕ) (x : Value) → HasLogged w.past.votes i (vote_in g u b x)
+        ⊎ ((i ≡ m) × (vote_in g u b x ≡ vote_for g w m v)) → HasVoted g (logs_vote g w m v).past.votes b u b x
+    led i u b x (inl h) = logged_stays w.past.votes m (vote_for g w m v) b (vote_in g u b x) (old.valid.led i u b x h)
     led i u b x (inr t) =
-        let ballot : b ≡ w.promise m = ap (λ z. z.ballot) t.1 in
-        rw (t.1, ballot) (led_by g V w m v can f old)
+        let ballot : b ≡ w.promise m = ap (λ z. z.ballot) t.1 in rw (t.1, ballot) (led_by g V w m v can f old)
 
 -- ---- all that is true of votes
 
@@ -152,11 +128,9 @@ vote_votes g V w m v is can f old = record {
     accepted = λ i b t. grew.stay i (vote_in g (w.past.view i) b (w.value i)) (old.acted.accepted i b t);
     waiting = at_case (λ i o. (y : Vote) → o ≡ Some y
         → HasLogged (logs_vote g w m v).past.votes i y × (y.view ≡ w.past.view i)) w.pending m
-        (Some (vote_for g w m v))
-        (λ i d y p. let t = old.acted.waiting i y p in (grew.stay i y t.0, t.1)) waits;
+        (Some (vote_for g w m v)) (λ i d y p. let t = old.acted.waiting i y p in (grew.stay i y t.0, t.1)) waits;
   };
-  original = λ u b x h. original u b x
-      (logged_before w.past.votes m (vote_for g w m v) b (vote_in g u b x) h);
+  original = λ u b x h. original u b x (logged_before w.past.votes m (vote_for g w m v) b (vote_in g u b x) h);
   words = record {
     in_own = λ i u c a. on i u c (w.past.own i u c) (old.words.in_own i u c a);
     in_table = λ u k i c a. on i u c (w.table u k i c) (old.words.in_table u k i c a);
@@ -194,15 +168,11 @@ vote_votes g V w m v is can f old = record {
 
     below : (i u b : ℕ) (x : Value)
         → HasLogged w.past.votes i (vote_in g u b x) ⊎ ((i ≡ m) × (vote_in g u b x ≡ vote_for g w m v))
-        → (i ≡ m) ⊎ (i ≢ m)
-        → (b < tag_in g w.past.own i u) ⊎ ((logs_vote g w m v).pending i ≡ Some (vote_in g u b x))
-    below i u b x (inr t) e =
-        inr (ap (logs_vote g w m v).pending t.0 ∙ pending ∙ ap (λ z. Some z) (sym t.1))
+        → (i ≡ m) ⊎ (i ≢ m) → (b < tag_in g w.past.own i u) ⊎ ((logs_vote g w m v).pending i ≡ Some (vote_in g u b x))
+    below i u b x (inr t) e = inr (ap (logs_vote g w m v).pending t.0 ∙ pending ∙ ap (λ z. Some z) (sym t.1))
     below i u b x (inl h) (inl e) =
-        inl (rw e (mine u b x (old.acted.below m u b x
-        (subst (λ k. HasVoted g w.past.votes k u b x) e h))))
-    below i u b x (inl h) (inr d) =
-        subst (λ o. (b < tag_in g w.past.own i u) ⊎ (o ≡ Some (vote_in g u b x)))
+        inl (rw e (mine u b x (old.acted.below m u b x (subst (λ k. HasVoted g w.past.votes k u b x) e h))))
+    below i u b x (inl h) (inr d) = subst (λ o. (b < tag_in g w.past.own i u) ⊎ (o ≡ Some (vote_in g u b x)))
         (sym (at_other w.pending m (Some (vote_for g w m v)) i d)) (old.acted.below i u b x h)
 
     -- a new proposal, as an accepted one is by another's ballot
@@ -211,13 +181,11 @@ vote_votes g V w m v is can f old = record {
     new x e same (inl t) = rw same (proposed g V w m v is can t f old)
     new x e same (inr t) = absurd (t.0.other (own_promise g V w m f ∙ sym e))
 
-    original : (u b : ℕ) (x : Value)
-        → HasLogged w.past.votes b (vote_in g u b x) ⊎ ((b ≡ m) × (vote_in g u b x ≡ vote_for g w m v))
-        → IsOriginal g V w.past.own (logs_vote g w m v).past.votes u b x
+    original : (u b : ℕ) (x : Value) → HasLogged w.past.votes b (vote_in g u b x) ⊎ ((b ≡ m)
+        × (vote_in g u b x ≡ vote_for g w m v)) → IsOriginal g V w.past.own (logs_vote g w m v).past.votes u b x
     original u b x (inl h) = original_on g V w.past.own w.past.own w.past.votes
         (logs_vote g w m v).past.votes u b x (f.views.within u) (own_stays g w) grew (old.original u b x h)
     original u b x (inr t) =
         let view : u ≡ w.past.view m = ap (λ z. z.view) t.1 in
         let ballot : b ≡ w.promise m = ap (λ z. z.ballot) t.1 in
-        let same : x ≡ v = ap (λ z. z.value) t.1 in
-        rw (view, t.0) (new x (sym t.0 ∙ ballot) same can.allowed)
+        let same : x ≡ v = ap (λ z. z.value) t.1 in rw (view, t.0) (new x (sym t.0 ∙ ballot) same can.allowed)

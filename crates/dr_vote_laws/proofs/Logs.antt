@@ -1,13 +1,9 @@
 -- Votes on logs that grow: those that stand there stay, and a new one is that of a member's promise.
 use Rattle.std.proofs.Common.{List, Some, [], ap, inl, inr, refl, slice_get, suc, sym, zero, ℕ, ◌++◌, ◌∙◌, ◌∷◌, ◌≡◌, ◌≢◌, ◌≤◌, ◌⊎◌}
 use Rattle.std.proofs.lemmas.Bool.{cases_eq}
-use Rattle.dr_entry.specs.declared.record.Value.{Value}
-use Rattle.dr_entry.specs.declared.record.Vote.{Vote}
-use Rattle.dr_machine.specs.Group.{Group}
-use Rattle.dr_machine.specs.Votes.{HasLogged, HasVoted, Votes}
-use Rattle.dr_machine.specs.Writes.{at}
-use Rattle.dr_faithful.proofs.Writes.{at_other, at_same}
-use Rattle.dr_faithful.specs.Faithful.{Numbers}
+use Rattle.dr_entry.specs.declared.record.{Value.Value, Vote.Vote}
+use Rattle.dr_machine.specs.{Group.Group, Votes.{HasLogged, HasVoted, Votes}, Writes.at}
+use Rattle.dr_faithful.{specs.Faithful.Numbers, proofs.Writes.{at_other, at_same}}
 use Rattle.dr_vote_laws.specs.Tells.{promise_in}
 
 -- ---- one list
@@ -47,10 +43,7 @@ logged_stays votes m new i x t = by (cases_eq i m)
       ap (λ l. slice_get l t.0) (ap (with_vote votes m new) e ∙ at_same votes m (votes m ++ new ∷ []))
           ∙ get_more (votes m) (new ∷ []) t.0 x (ap (λ j. slice_get (votes j) t.0) (sym e) ∙ t.1),
     )
-    by (inr d) = (
-      t.0,
-      ap (λ l. slice_get l t.0) (at_other votes m (votes m ++ new ∷ []) i d) ∙ t.1,
-    )
+    by (inr d) = (t.0, ap (λ l. slice_get l t.0) (at_other votes m (votes m ++ new ∷ []) i d) ∙ t.1)
 
 -- the new one stands on the log of m
 pub logged_new : (votes : Votes) (m : ℕ) (new : Vote) → HasLogged (with_vote votes m new) m new
@@ -63,27 +56,21 @@ pub logged_before : (votes : Votes) (m : ℕ) (new : Vote) (i : ℕ) (x : Vote)
     → HasLogged (with_vote votes m new) i x → HasLogged votes i x ⊎ ((i ≡ m) × (x ≡ new))
 logged_before votes m new i x t = by (cases_eq i m)
   where
-    mine : i ≡ m → (slice_get (votes m) t.0 ≡ Some x) ⊎ (x ≡ new)
-        → HasLogged votes i x ⊎ ((i ≡ m) × (x ≡ new))
+    mine : i ≡ m → (slice_get (votes m) t.0 ≡ Some x) ⊎ (x ≡ new) → HasLogged votes i x ⊎ ((i ≡ m) × (x ≡ new))
     mine e (inl old) = inl (t.0, ap (λ j. slice_get (votes j) t.0) e ∙ old)
     mine e (inr one) = inr (e, one)
 
     by : (i ≡ m) ⊎ (i ≢ m) → HasLogged votes i x ⊎ ((i ≡ m) × (x ≡ new))
-    by (inl e) = mine e (get_one (votes m) new t.0 x
-        (ap (λ l. slice_get l t.0) (sym (ap (with_vote votes m new) e
+    by (inl e) = mine e (get_one (votes m) new t.0 x (ap (λ l. slice_get l t.0) (sym (ap (with_vote votes m new) e
         ∙ at_same votes m (votes m ++ new ∷ []))) ∙ t.1))
-    by (inr d) = inl (
-      t.0,
-      ap (λ l. slice_get l t.0) (sym (at_other votes m (votes m ++ new ∷ []) i d)) ∙ t.1,
-    )
+    by (inr d) = inl (t.0, ap (λ l. slice_get l t.0) (sym (at_other votes m (votes m ++ new ∷ []) i d)) ∙ t.1)
 
 -- ---- growth
 
 -- what was voted stays so, and no vote comes late: a new one has the ballot of a promise at least
 pub record VotesGrew (g : Group) (own : Numbers) (old new : Votes) : Type 0 where
   pub stay : (i : ℕ) (x : Vote) → HasLogged old i x → HasLogged new i x
-  pub late : (i v b : ℕ) (x : Value) → HasVoted g new i v b x
-      → HasVoted g old i v b x ⊎ (promise_in g own i v ≤ b)
+  pub late : (i v b : ℕ) (x : Value) → HasVoted g new i v b x → HasVoted g old i v b x ⊎ (promise_in g own i v ≤ b)
 
 -- nothing was voted
 pub votes_same : (g : Group) (own : Numbers) (votes : Votes) → VotesGrew g own votes votes

@@ -2,12 +2,9 @@
 -- some moment.
 use Rattle.std.proofs.Common.{◌≡◌, ◌⊎◌, refl, inl, inr, ℕ, List, [], ◌∷◌, true}
 use Rattle.dr_words.specs.Rewrites.{is_accept_of}
-use Rattle.dr_machine.proofs.Runs.{arrived, is_before, is_last, none_was, were_all}
-use Rattle.dr_machine.specs.Group.{Group, roster}
-use Rattle.dr_machine.specs.Run.{HaveArrived, WasOwn, with_table}
-use Rattle.dr_machine.specs.World.{Table, World, opening_world, own_word}
-use Rattle.dr_faithful.specs.Faithful.{Faithful, Numbers}
-use Rattle.dr_faithful.specs.Tells.{Views}
+use Rattle.dr_machine.{specs.Group.{Group, roster}, proofs.Runs.{arrived, is_before, is_last, none_was, were_all}}
+use Rattle.dr_machine.specs.{Run.{HaveArrived, WasOwn, with_table}, World.{Table, World, opening_world, own_word}}
+use Rattle.dr_faithful.specs.{Faithful.{Faithful, Numbers}, Tells.Views}
 use Rattle.dr_vote_laws.specs.Moments.{AcceptsOfMoments, HadAccepted}
 
 -- ---- moments
@@ -69,10 +66,8 @@ all_on g V us w old = record {
 
 -- with the present moment, for its own words
 pub own_on : (g : Group) (V : Views) (us : List World) (w : World) → Faithful g V w
-    → AcceptsOfMoments g V us w → (v i c word : ℕ) → WasOwn (w ∷ us) v i c word
-    → IsOfMoment g V (w ∷ us) v i c word
-own_on g V us w f old = were_all us w (IsOfMoment g V (w ∷ us))
-    (λ i c column. inr (has_now g V us w i c f column))
+    → AcceptsOfMoments g V us w → (v i c word : ℕ) → WasOwn (w ∷ us) v i c word → IsOfMoment g V (w ∷ us) v i c word
+own_on g V us w f old = were_all us w (IsOfMoment g V (w ∷ us)) (λ i c column. inr (has_now g V us w i c f column))
     (λ v i c word was. of_more g V us w v i c word (old.on_way v i c word was))
 
 -- ---- what is kept
@@ -85,9 +80,8 @@ accepts_begin g V = record {
 }
 
 -- a word that arrives was its owner's when it was sent
-pub accepts_arrive : (g : Group) (V : Views) (us : List World) (w : World) (table : Table)
-    → HaveArrived (w ∷ us) w table → Faithful g V w → AcceptsOfMoments g V us w
-    → AcceptsOfMoments g V (w ∷ us) (with_table w table)
+pub accepts_arrive : (g : Group) (V : Views) (us : List World) (w : World) (table : Table) → HaveArrived (w
+    ∷ us) w table → Faithful g V w → AcceptsOfMoments g V us w → AcceptsOfMoments g V (w ∷ us) (with_table w table)
 accepts_arrive g V us w table come f old =
     let so = all_on g V us w old in record {
       in_table = λ v j i c. arrived (w ∷ us) w v i c (table v j i c) (IsOfMoment g V (w ∷ us) v i c)

@@ -1,15 +1,10 @@
 -- As the age opens nobody has voted.
 use Rattle.std.proofs.Common.{[], arith, subst, sym, ℕ, ◌<◌, ◌≡◌, ◌≤◌}
 use Rattle.dr_entry.specs.declared.record.Vote.{Vote}
-use Rattle.dr_machine.specs.Group.{Group, roster}
-use Rattle.dr_machine.specs.Votes.{HasLogged, Votes}
-use Rattle.dr_machine.specs.World.{opening_world}
-use Rattle.dr_faithful.specs.Faithful.{Numbers}
-use Rattle.dr_faithful.specs.Tells.{Views}
-use Rattle.dr_vote_laws.specs.Tells.{TellsVote}
-use Rattle.dr_vote_laws.specs.Voting.{Voting}
-use Rattle.dr_words.proofs.Accepts.{accept_within}
-use Rattle.dr_words.specs.Columns.{head_column, recv_column}
+use Rattle.dr_machine.specs.{Group.{Group, roster}, Votes.{HasLogged, Votes}, World.opening_world}
+use Rattle.dr_faithful.specs.{Faithful.Numbers, Tells.Views}
+use Rattle.dr_vote_laws.specs.{Tells.TellsVote, Voting.Voting}
+use Rattle.dr_words.{specs.Columns.{head_column, recv_column}, proofs.Accepts.accept_within}
 
 nobody : (i : ℕ) (x : Vote) → HasLogged (λ i. []) i x → ⊥
 nobody i x (k, e) = absurd (cc e)

@@ -1,32 +1,20 @@
 -- Where the value of a new proposal comes from, by the rows of the member that makes it.
+use Rattle.std.{specs.Int.trailing_zeros, proofs.lemmas.Bool.{and_parts, cases_eq, cases_lt}}
 use Rattle.std.proofs.Common.{Bool, ap, arith, false, inl, inr, le_of_eq, le_trans, refl, slice_index, subst, sym, true, ℕ, ◌&&◌, ◌+◌, ◌-◌, ◌<◌, ◌∙◌, ◌≡◌, ◌≢◌, ◌≤◌, ◌⊎◌, not, w16}
-use Rattle.std.specs.Int.{trailing_zeros}
-use Rattle.std.proofs.lemmas.Bool.{and_parts, cases_eq, cases_lt}
 use Rattle.dr_entry.specs.declared.record.Value.{Value}
 use Rattle.dr_history.specs.Members.{has}
-use Rattle.dr_machine.specs.Effects.{logs_vote, vote_for}
-use Rattle.dr_machine.specs.Group.{Group, IsGroup, roster}
-use Rattle.dr_machine.specs.Guards.{CanLogVote, IsToPropose, unsuspected_of}
-use Rattle.dr_machine.specs.Votes.{HasLogged, HasVoted, vote_in}
-use Rattle.dr_machine.specs.World.{World, shown}
-use Rattle.dr_faithful.proofs.Suspicions.{members_small, named_in_roster}
+use Rattle.dr_machine.specs.{Effects.{logs_vote, vote_for}, Group.{Group, IsGroup, roster}, World.{World, shown}}
+use Rattle.dr_machine.specs.{Guards.{CanLogVote, IsToPropose, unsuspected_of}, Votes.{HasLogged, HasVoted, vote_in}}
+use Rattle.dr_faithful.{specs.{Faithful.Faithful, Tells.Views}, proofs.Suspicions.{members_small, named_in_roster}}
 use Rattle.dr_faithful.proofs.Votes.{own_promise}
-use Rattle.dr_faithful.specs.Faithful.{Faithful}
-use Rattle.dr_faithful.specs.Tells.{Views}
-use Rattle.dr_vote_laws.proofs.Accepting.{shown_tells}
-use Rattle.dr_vote_laws.proofs.Logs.{logged_before, logged_stays}
+use Rattle.dr_vote_laws.specs.{Tells.TellsVote, Voting.{IsFirst, IsLater, IsOriginal, Voting}}
+use Rattle.dr_vote_laws.proofs.{Accepting.shown_tells, Logs.{logged_before, logged_stays}}
 use Rattle.dr_vote_laws.proofs.Rows.{no_vote_yet, not_torn, shown_grown, shows_voted}
-use Rattle.dr_vote_laws.specs.Tells.{TellsVote}
-use Rattle.dr_vote_laws.specs.Voting.{IsFirst, IsLater, IsOriginal, Voting}
-use Rattle.dr_words.proofs.Masks.{has_without_mask, in_roster_small}
-use Rattle.dr_words.proofs.Ranks.{least_member}
-use Rattle.dr_words.proofs.Accepts.{leavers_accept, all_promised}
-use Rattle.dr_words.specs.Accepts.{Shows, tag_of}
+use Rattle.dr_words.specs.{Accepts.{Shows, tag_of}, Packing.{accept_promise, accept_tag, is_final, recv_count}}
 use Rattle.dr_words.specs.Changes.{IsFirstValue, IsHighest, IsLeastReceived, IsProposal, IsUntagged, MayPropose, received}
-use Rattle.dr_words.specs.Columns.{leavers_column, recv_column}
+use Rattle.dr_words.{specs.{Columns.{leavers_column, recv_column}, Rewrites.is_accept_of}, proofs.Ranks.least_member}
 use Rattle.dr_words.specs.Masks.{IsMajorityOf}
-use Rattle.dr_words.specs.Packing.{accept_promise, accept_tag, is_final, recv_count}
-use Rattle.dr_words.specs.Rewrites.{is_accept_of}
+use Rattle.dr_words.proofs.{Accepts.{leavers_accept, all_promised}, Masks.{has_without_mask, in_roster_small}}
 
 -- who is not suspected
 unsuspected_is : (g : Group) (V : Views) (w : World) (m i : ℕ) → IsGroup g → Faithful g V w
@@ -51,8 +39,7 @@ tag_low g V w m i c v can may f old h a = by (cases_eq (accept_tag (shown w m i 
     promise : accept_promise (shown w m i c) ≡ m
     promise = all_promised (roster g) (shown w m) (w.members m) i m (may.promises i h) c a
 
-    by : (accept_tag (shown w m i c) ≡ m + 1) ⊎ (accept_tag (shown w m i c) ≢ m + 1)
-        → accept_tag (shown w m i c) ≤ m
+    by : (accept_tag (shown w m i c) ≡ m + 1) ⊎ (accept_tag (shown w m i c) ≢ m + 1) → accept_tag (shown w m i c) ≤ m
     by (inl e) =
         let x = told.voted m e in
         let mine = old.valid.led i (w.past.view m) m x.0 x.1 in
@@ -67,13 +54,11 @@ one_tag : (g : Group) (V : Views) (w : World) (m i c : ℕ) (v : Value) → CanL
     → accept_tag (shown w m i c) ≡ tag_of (roster g) (shown w m) i
 one_tag g V w m i c v can may f old h a =
     let first : ℕ = leavers_column (roster g) in
-    let there : is_accept_of (roster g) (w.members m) first ≡ true =
-    leavers_accept (roster g) (w.members m) in
-    not_torn g w.past.own w.past.votes i (w.past.view m) first c (shown w m i first) (shown w m i c) m
-    (shown_tells g V w m i first old (rw (← f.views.own m) there))
-    (shown_tells g V w m i c old (rw (← f.views.own m) a))
-    (all_promised (roster g) (shown w m) (w.members m) i m (may.promises i h) first there)
-    (all_promised (roster g) (shown w m) (w.members m) i m (may.promises i h) c a)
+    let there : is_accept_of (roster g) (w.members m) first ≡ true = leavers_accept (roster g) (w.members m) in
+    not_torn g w.past.own w.past.votes i (w.past.view m) first c
+    (shown w m i first) (shown w m i c) m (shown_tells g V w m i first old (rw (← f.views.own m) there))
+    (shown_tells g V w m i c old (rw (← f.views.own m) a)) (all_promised (roster g) (shown w m) (w.members m) i m
+    (may.promises i h) first there) (all_promised (roster g) (shown w m) (w.members m) i m (may.promises i h) c a)
     (tag_low g V w m i first v can may f old h there) (tag_low g V w m i c v can may f old h a)
 
 -- each vote of an unsuspected member by a lower ballot is below the tag of its row
@@ -81,18 +66,15 @@ passed : (g : Group) (V : Views) (w : World) (m i b : ℕ) (x : Value)
     → MayPropose (roster g) (shown w m) (w.members m) (w.suspects m) m → Voting g V w
     → has (unsuspected_of w m) i ≡ true → HasVoted g w.past.votes i (w.past.view m) b x → b < m
     → b < tag_of (roster g) (shown w m) i
-passed g V w m i b x may old h voted l =
-    (shown_tells g V w m i (leavers_column (roster g)) old
-    (leavers_accept (roster g) (V (w.past.view m)))).passed b x voted
-    (rw (may.promises i h).leavers l)
+passed g V w m i b x may old h voted l = (shown_tells g V w m i (leavers_column (roster g)) old
+    (leavers_accept (roster g) (V (w.past.view m)))).passed b x voted (rw (may.promises i h).leavers l)
 
 -- a final count that is shown is the one that its owner has
 final_count : (g : Group) (V : Views) (w : World) (m i s : ℕ)
     → MayPropose (roster g) (shown w m) (w.members m) (w.suspects m) m → Faithful g V w
     → has (unsuspected_of w m) i ≡ true → has (w.members m) s ≡ true
     → w.past.own i (w.past.view m) (recv_column s) ≡ shown w m i (recv_column s)
-final_count g V w m i s may f h k =
-    (shown_grown g V w m i (recv_column s) f).final s
+final_count g V w m i s may f h k = (shown_grown g V w m i (recv_column s) f).final s
     (f.views.within (w.past.view m) s (ap (λ z. has z s) (sym (f.views.own m)) ∙ k)) refl (may.final i s h k)
 
 -- ---- the origin, in the logs with the new vote
@@ -110,14 +92,12 @@ old_or_new g V w m i b v y f may h =
         → HasVoted g w.past.votes i (w.past.view m) b y ⊎ (m ≤ b)
     by (inl old) = inl old
     by (inr t) =
-        let ballot : b ≡ w.promise m = ap (λ z. z.ballot) t.1 in
-        inr (omega (arith, ballot, proposer g V w m f may))
+        let ballot : b ≡ w.promise m = ap (λ z. z.ballot) t.1 in inr (omega (arith, ballot, proposer g V w m f may))
 
 -- the value that the highest tag shows is that of an earlier ballot
 later : (g : Group) (V : Views) (w : World) (m i : ℕ) (v : Value) → CanLogVote g w m v
     → MayPropose (roster g) (shown w m) (w.members m) (w.suspects m) m → Faithful g V w → Voting g V w
-    → IsHighest (roster g) (shown w m) (unsuspected_of w m) i
-    → Shows (roster g) (shown w m) (w.members m) i v
+    → IsHighest (roster g) (shown w m) (unsuspected_of w m) i → Shows (roster g) (shown w m) (w.members m) i v
     → IsLater g (logs_vote g w m v).past.votes (w.past.view m) m (unsuspected_of w m) v
 later g V w m i v can may f old high shows = record {
   ballot = ballot;
@@ -146,8 +126,7 @@ later g V w m i v can may f old high shows = record {
         (λ c a. one_tag g V w m i c v can may f old high.member a ∙ tag) shows
 
     none : (j b : ℕ) (y : Value) → has (unsuspected_of w m) j ≡ true
-        → HasVoted g w.past.votes j (w.past.view m) b y ⊎ (m ≤ b) → (b < m) ⊎ (m ≤ b)
-        → (b ≤ ballot) ⊎ (m ≤ b)
+        → HasVoted g w.past.votes j (w.past.view m) b y ⊎ (m ≤ b) → (b < m) ⊎ (m ≤ b) → (b ≤ ballot) ⊎ (m ≤ b)
     none j b y h (inr new) either = inr new
     none j b y h (inl there) (inr new) = inr new
     none j b y h (inl there) (inl l) =
@@ -156,8 +135,7 @@ later g V w m i v can may f old high shows = record {
 -- where no row has a tag the value is the first one
 first : (g : Group) (V : Views) (w : World) (m : ℕ) (v : Value) → IsGroup g → w.suspects m ≢ 0
     → MayPropose (roster g) (shown w m) (w.members m) (w.suspects m) m → Faithful g V w → Voting g V w
-    → IsUntagged (roster g) (shown w m) (unsuspected_of w m)
-    → IsFirstValue (shown w m) (w.members m) (w.suspects m) v
+    → IsUntagged (roster g) (shown w m) (unsuspected_of w m) → IsFirstValue (shown w m) (w.members m) (w.suspects m) v
     → IsFirst g V w.past.own (logs_vote g w m v).past.votes (w.past.view m) m (unsuspected_of w m) v
 first g V w m v is some may f old untagged fresh = record {
   none = λ j b y h there. none j b y h (old_or_new g V w m j b v y f may there) (cases_lt b m);
@@ -171,14 +149,12 @@ first g V w m v is some may f old untagged fresh = record {
         → HasVoted g w.past.votes j (w.past.view m) b y ⊎ (m ≤ b) → (b < m) ⊎ (m ≤ b) → m ≤ b
     none j b y h (inr new) either = new
     none j b y h (inl there) (inr new) = new
-    none j b y h (inl there) (inl l) =
-        absurd (omega (arith, passed g V w m j b y may old h there l, untagged j h))
+    none j b y h (inl there) (inl l) = absurd (omega (arith, passed g V w m j b y may old h there l, untagged j h))
 
     named : (i : ℕ) × (has v.leavers i ≡ true)
     named =
         let least = least_member (w.suspects m) (omega (arith, some))
-        (in_roster_small 16 (w.suspects m)
-        (λ i h. le_trans (named_in_roster g V w m is f i h) is.most_members)) in (
+        (in_roster_small 16 (w.suspects m) (λ i h. le_trans (named_in_roster g V w m is f i h) is.most_members)) in (
           trailing_zeros w16 (w.suspects m),
           ap (λ z. has z (trailing_zeros w16 (w.suspects m))) fresh.leavers ∙ least.member,
         )
@@ -197,8 +173,7 @@ first g V w m v is some may f old untagged fresh = record {
     same i s h k = ap recv_count (final_count g V w m i s may f h k)
 
     trims : (s : ℕ) → has (w.members m) s ≡ true
-        → IsLeastReceived (λ i c. w.past.own i (w.past.view m) c) (unsuspected_of w m) s
-        (slice_index v.trim s)
+        → IsLeastReceived (λ i c. w.past.own i (w.past.view m) c) (unsuspected_of w m) s (slice_index v.trim s)
     trims s k =
         let t = fresh.trims s k in record {
           least = λ i h. rw (same i s h k) (t.least i h);
@@ -211,12 +186,10 @@ pub proposed : (g : Group) (V : Views) (w : World) (m : ℕ) (v : Value) → IsG
     → IsOriginal g V w.past.own (logs_vote g w m v).past.votes (w.past.view m) m v
 proposed g V w m v is can (may, value) f old = record {
   mask = unsuspected_of w m;
-  part = λ i h. ap (λ z. has z i) (sym (f.views.own m))
-      ∙ (and_parts _ _ (sym (unsuspected_is g V w m i is f) ∙ h)).0;
+  part = λ i h. ap (λ z. has z i) (sym (f.views.own m)) ∙ (and_parts _ _ (sym (unsuspected_is g V w m i is f) ∙ h)).0;
   majority = subst (λ z. IsMajorityOf (unsuspected_of w m) z) (f.views.own m) may.majority;
-  promised = λ i h. le_trans (le_of_eq (sym (may.promises i h).leavers))
-      (shown_tells g V w m i (leavers_column (roster g)) old
-      (leavers_accept (roster g) (V (w.past.view m)))).promised;
+  promised = λ i h. le_trans (le_of_eq (sym (may.promises i h).leavers)) (shown_tells g V w m i
+      (leavers_column (roster g)) old (leavers_accept (roster g) (V (w.past.view m)))).promised;
   final = λ i s h k.
       let there : has (w.members m) s ≡ true = ap (λ z. has z s) (f.views.own m) ∙ k in
       ap is_final (final_count g V w m i s may f h there) ∙ may.final i s h there;

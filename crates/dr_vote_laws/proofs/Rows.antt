@@ -1,28 +1,18 @@
 -- What the accept words of one row tell together: words that were seen one by one are not torn.
 use Rattle.std.proofs.Common.{Bool, Some, ap, arith, false, inl, inr, length, refl, slice_index, subst, suc, sym, true, zero, ℕ, ◌+◌, ◌<◌, ◌∙◌, ◌≡◌, ◌≢◌, ◌≤◌, ◌⊎◌}
 use Rattle.std.proofs.lemmas.Bool.{cases_eq}
-use Rattle.dr_entry.specs.declared.limits.TheConstants.{MAX_MEMBERS}
-use Rattle.dr_entry.specs.declared.record.Value.{Value}
+use Rattle.dr_entry.specs.{declared.limits.TheConstants.MAX_MEMBERS, declared.record.Value.Value}
 use Rattle.dr_entry.proofs.Records.{same_value}
 use Rattle.dr_history.specs.Members.{has}
-use Rattle.dr_machine.specs.Group.{Group, roster}
-use Rattle.dr_machine.specs.Guards.{CanLogVote}
-use Rattle.dr_machine.specs.Votes.{HasVoted, Votes, vote_in}
+use Rattle.dr_machine.specs.{Group.{Group, roster}, Guards.CanLogVote, Votes.{HasVoted, Votes, vote_in}}
 use Rattle.dr_machine.specs.World.{World, shown}
-use Rattle.dr_faithful.proofs.Shown.{shown_own, shown_seen}
+use Rattle.dr_faithful.{specs.{Faithful.{Faithful, Numbers}, Tells.Views}, proofs.Shown.{shown_own, shown_seen}}
 use Rattle.dr_faithful.proofs.Votes.{not_yet}
-use Rattle.dr_faithful.specs.Faithful.{Faithful, Numbers}
-use Rattle.dr_faithful.specs.Tells.{Views}
-use Rattle.dr_vote_laws.proofs.Accepting.{shown_tells}
-use Rattle.dr_vote_laws.specs.Tells.{TellsVote, tag_in}
-use Rattle.dr_vote_laws.specs.Voting.{IsValueOf, Voting}
-use Rattle.dr_words.proofs.Order.{HasGrown_refl, HasGrown_trans}
+use Rattle.dr_vote_laws.{specs.{Tells.{TellsVote, tag_in}, Voting.{IsValueOf, Voting}}, proofs.Accepting.shown_tells}
+use Rattle.dr_words.specs.{Accepts.{Shows, part_of}, Columns.{leavers_column, trim_column}, Grown.HasGrown}
+use Rattle.dr_words.specs.{Packing.{accept_promise, accept_tag, accept_value}, Rewrites.is_accept_of}
 use Rattle.dr_words.proofs.Accepts.{leavers_accept, part_leavers, part_trim, trim_accept}
-use Rattle.dr_words.specs.Accepts.{Shows, part_of}
-use Rattle.dr_words.specs.Columns.{leavers_column, trim_column}
-use Rattle.dr_words.specs.Grown.{HasGrown}
-use Rattle.dr_words.specs.Packing.{accept_promise, accept_tag, accept_value}
-use Rattle.dr_words.specs.Rewrites.{is_accept_of}
+use Rattle.dr_words.proofs.Order.{HasGrown_refl, HasGrown_trans}
 
 -- ---- torn rows
 
@@ -37,8 +27,7 @@ tag_le g own votes i v c d word other promise told tells e low = by (accept_tag 
     by zero z = omega (arith, z)
     by (suc b) z =
         let x = tells.voted b (omega (arith, z)) in
-        let passed = told.passed b x.0 x.1 (omega (arith, z, e, low)) in
-        omega (arith, z, passed)
+        let passed = told.passed b x.0 x.1 (omega (arith, z, e, low)) in omega (arith, z, passed)
 
 -- a row is not torn: its words have one tag
 pub not_torn : (g : Group) (own : Numbers) (votes : Votes) (i v c d word other promise : ℕ)
@@ -61,14 +50,12 @@ pub shows_voted : (g : Group) (V : Views) (w : World) (m i b : ℕ) (v : Value) 
 shows_voted g V w m i b v f old long tags shows =
     subst (λ y. HasVoted g w.past.votes i (w.past.view m) b y) (sym same) first.1
   where
-    told : (c : ℕ) → is_accept_of (roster g) (V (w.past.view m)) c ≡ true
-        → (x : Value) × HasVoted g w.past.votes i (w.past.view m) b x
-        × (accept_value (shown w m i c) ≡ part_of (roster g) x c)
+    told : (c : ℕ) → is_accept_of (roster g) (V (w.past.view m)) c ≡ true → (x : Value)
+        × HasVoted g w.past.votes i (w.past.view m) b x × (accept_value (shown w m i c) ≡ part_of (roster g) x c)
     told c a = (shown_tells g V w m i c old a).voted b (tags c (rw (f.views.own m) a))
 
     first : (x : Value) × HasVoted g w.past.votes i (w.past.view m) b x
-        × (accept_value (shown w m i (leavers_column (roster g)))
-        ≡ part_of (roster g) x (leavers_column (roster g)))
+        × (accept_value (shown w m i (leavers_column (roster g))) ≡ part_of (roster g) x (leavers_column (roster g)))
     first = told (leavers_column (roster g)) (leavers_accept (roster g) (V (w.past.view m)))
 
     valid : IsValueOf (V (w.past.view m)) first.0
@@ -82,13 +69,11 @@ shows_voted g V w m i b v f old long tags shows =
         let is : one.0 ≡ first.0 = old.valid.one i (w.past.view m) b one.0 first.0 one.1 first.1 in
         shows.trims s h ∙ one.2 ∙ part_trim (roster g) one.0 s (trim_column (roster g) s) refl
         ∙ ap (λ (x : Value). slice_index x.trim s) is
-    trim s false h = shows.others s h
-        ∙ sym (valid.others s (ap (λ k. has k s) (sym (f.views.own m)) ∙ h))
+    trim s false h = shows.others s h ∙ sym (valid.others s (ap (λ k. has k s) (sym (f.views.own m)) ∙ h))
 
     same : v ≡ first.0
-    same = same_value v first.0 (long ∙ sym valid.whole)
-        (shows.leavers ∙ first.2 ∙ part_leavers (roster g) first.0 (leavers_column (roster g)) refl)
-        (λ s. trim s (has (w.members m) s) refl)
+    same = same_value v first.0 (long ∙ sym valid.whole) (shows.leavers ∙ first.2
+        ∙ part_leavers (roster g) first.0 (leavers_column (roster g)) refl) (λ s. trim s (has (w.members m) s) refl)
 
 -- ---- what is shown
 
@@ -99,16 +84,14 @@ shown_grown g V w m i c f = by (cases_eq i m)
   where
     by : (i ≡ m) ⊎ (i ≢ m) → HasGrown (roster g) c (shown w m i c) (w.past.own i (w.past.view m) c)
     by (inl e) = rw (shown_own w m i c e) (HasGrown_refl (roster g) c (w.past.own i (w.past.view m) c))
-    by (inr d) = rw (shown_seen w m i c d)
-        (HasGrown_trans (roster g) c (w.seen m i c) (w.table (w.past.view m) m i c)
+    by (inr d) = rw (shown_seen w m i c d) (HasGrown_trans (roster g) c (w.seen m i c) (w.table (w.past.view m) m i c)
         (w.past.own i (w.past.view m) c) (f.old.in_seen m i c d) (f.old.in_table (w.past.view m) m i c))
 
 -- ---- a member that may vote
 
 -- it has no vote by the ballot of its promise yet
 pub no_vote_yet : (g : Group) (V : Views) (w : World) (m : ℕ) (v : Value) → CanLogVote g w m v
-    → Faithful g V w → Voting g V w → (x : Value)
-    → HasVoted g w.past.votes m (w.past.view m) (w.promise m) x → ⊥
+    → Faithful g V w → Voting g V w → (x : Value) → HasVoted g w.past.votes m (w.past.view m) (w.promise m) x → ⊥
 no_vote_yet g V w m v can f old x h = by (old.acted.below m (w.past.view m) (w.promise m) x h)
   where
     tag : tag_in g w.past.own m (w.past.view m) ≡ w.tag m

@@ -1,74 +1,51 @@
 -- Each event keeps what is true of votes, each accept word one that its owner had, and whoever suspects nobody
 -- without a vote that waits.
 use Rattle.std.proofs.Common.{◌≡◌, List, None, Option, Some, arith, refl, inl, inr, ℕ, ◌+◌, ◌∷◌, length, [], unwrap_or}
-use Rattle.dr_entry.specs.declared.record.Value.{Value}
-use Rattle.dr_entry.specs.declared.end.SentItem.TheVariants.{Index, Null}
+use Rattle.dr_entry.specs.{declared.end.SentItem.{SentItem, TheVariants.{Index, Null}}, declared.record.Value.Value}
 use Rattle.dr_machine.specs.Acts.{CanDo, CanTake, Guard, does, effect, effect_of}
 use Rattle.dr_machine.specs.Effects.{finished_history, one_more, puts, receives, vote_for}
-use Rattle.dr_machine.specs.Events.{member_of, step_of}
-use Rattle.dr_machine.specs.Group.{Group, IsGroup, roster}
-use Rattle.dr_machine.specs.Guards.{next_index}
-use Rattle.dr_machine.specs.World.{World, own_word}
-use Rattle.dr_machine.specs.declared.event.Event.{Event}
-use Rattle.dr_machine.specs.declared.event.Act.{Act}
-use Rattle.dr_machine.specs.declared.event.Act.TheVariants as acts
-use Rattle.dr_machine.specs.declared.step.Step.{Step}
+use Rattle.dr_machine.specs.{Events.{member_of, step_of}, Group.{Group, IsGroup, roster}, Guards.next_index}
+use Rattle.dr_machine.specs.{World.{World, own_word}, declared.{event.{Act.Act, Event.Event}, step.Step.Step}}
 use Rattle.dr_machine.specs.declared.step.Step.TheVariants.{Do, Look, Push, LogVote, Join}
-use Rattle.dr_entry.specs.declared.end.SentItem.{SentItem}
+use Rattle.dr_machine.specs.declared.event.Act.TheVariants as acts
 use Rattle.dr_history.specs.History.{last_view}
-use Rattle.dr_words.specs.Masks.{next_members}
-use Rattle.dr_faithful.proofs.Finishes.{joined_is}
-use Rattle.dr_faithful.proofs.Faithfulness.{act_keeps, committed_is, does_grow}
-use Rattle.dr_faithful.proofs.Puts.{MayPut, may_message, may_null, put_accepts, put_grew}
-use Rattle.dr_faithful.proofs.Receipts.{receive_accepts}
-use Rattle.dr_faithful.specs.Faithful.{AllGoOn, Faithful}
-use Rattle.dr_faithful.specs.Tells.{Views, item_named}
-use Rattle.dr_vote_laws.proofs.Accepting.{accept_votes, commit_votes}
-use Rattle.dr_vote_laws.proofs.Frames.{same_accepts}
-use Rattle.dr_vote_laws.proofs.Logging.{vote_votes}
-use Rattle.dr_vote_laws.proofs.Moving.{enter_votes}
-use Rattle.dr_vote_laws.proofs.Plain.{look_votes, push_votes, stamp_votes, word_votes}
-use Rattle.dr_vote_laws.proofs.Suspecting.{suspect_votes}
-use Rattle.dr_vote_laws.specs.Voting.{Voting}
-use Rattle.dr_vote_laws.proofs.Moments.{AreOfMoments, IsOfMoment, all_on, has_now, own_on}
-use Rattle.dr_vote_laws.specs.Moments.{AcceptsOfMoments}
+use Rattle.dr_words.specs.{Masks.next_members, declared.column.TheConstants.{BEAT_COLUMN, DONE_COLUMN, LOGGED_COLUMN}}
 use Rattle.dr_words.proofs.Accepts.{accept_within}
-use Rattle.dr_faithful.proofs.Suspicions.{mask_after, mask_some, may_name, namable_within}
-use Rattle.dr_faithful.proofs.Writes.{at_both, at_case, at₃_case, at₄_case}
-use Rattle.dr_words.specs.declared.column.TheConstants.{BEAT_COLUMN, DONE_COLUMN, LOGGED_COLUMN}
+use Rattle.dr_faithful.{specs.Faithful.{AllGoOn, Faithful}, proofs.Faithfulness.{act_keeps, committed_is, does_grow}}
+use Rattle.dr_faithful.{specs.Tells.{Views, item_named}, proofs.Writes.{at_both, at_case, at₃_case, at₄_case}}
+use Rattle.dr_faithful.proofs.{Finishes.joined_is, Puts.{MayPut, may_message, may_null, put_accepts, put_grew}}
+use Rattle.dr_faithful.proofs.{Receipts.receive_accepts, Suspicions.{mask_after, mask_some, may_name, namable_within}}
+use Rattle.dr_vote_laws.specs.{Moments.AcceptsOfMoments, Voting.Voting}
+use Rattle.dr_vote_laws.proofs.{Accepting.{accept_votes, commit_votes}, Frames.same_accepts, Logging.vote_votes}
+use Rattle.dr_vote_laws.proofs.{Moments.{AreOfMoments, IsOfMoment, all_on, has_now, own_on}, Moving.enter_votes}
+use Rattle.dr_vote_laws.proofs.{Plain.{look_votes, push_votes, stamp_votes, word_votes}, Suspecting.suspect_votes}
 
 -- an item that is put
 put_votes : (g : Group) (V : Views) (w : World) (m : ℕ) (x : SentItem) → IsGroup g → MayPut g w m x
     → Faithful g V w → Voting g V w → Voting g V (puts g w m x (item_named g m x))
-put_votes g V w m x is can f old =
-    same_accepts g V w.past.view w.tag w.value w.committed w.pending w.past.own
-    (puts g w m x (item_named g m x)).past.own w.table w.table w.seen w.past.votes
-    (λ v s h. f.views.within v s h) (put_grew g V w m x is can f).own (put_accepts g V w m x is can f)
-    (λ v j i k b. refl) old
+put_votes g V w m x is can f old = same_accepts g V w.past.view w.tag w.value w.committed w.pending w.past.own
+    (puts g w m x (item_named g m x)).past.own w.table w.table w.seen w.past.votes (λ v s h. f.views.within v s h)
+    (put_grew g V w m x is can f).own (put_accepts g V w m x is can f) (λ v j i k b. refl) old
 
 -- each act keeps what is true of votes: those that neither write own words nor vote leave it as it is
 act_votes : (g : Group) (V : Views) (w : World) (m : ℕ) (a : Act) → IsGroup g → AllGoOn g V w
     → CanDo g w m a → Faithful g V w → Voting g V w → Voting g V (does g w m a)
-act_votes g V w m (acts.Receive s) is well can f old =
-    same_accepts g V w.past.view w.tag w.value w.committed w.pending w.past.own (receives g w m s).past.own
-    w.table w.table w.seen w.past.votes (λ v k h. f.views.within v k h)
-    (does_grow g V w m (acts.Receive s) is well can f).own (receive_accepts g V w m s is can f)
-    (λ v j i k b. refl) old
+act_votes g V w m
+    (acts.Receive s) is well can f old = same_accepts g V w.past.view w.tag w.value w.committed w.pending w.past.own
+    (receives g w m s).past.own w.table w.table w.seen w.past.votes (λ v k h. f.views.within v k h) (does_grow g V w m
+    (acts.Receive s) is well can f).own (receive_accepts g V w m s is can f) (λ v j i k b. refl) old
 act_votes g V w m acts.Send is well can f old =
     put_votes g V w m (Index (next_index w m)) is (may_message g V w m can f) f old
 act_votes g V w m acts.Null is well can f old = put_votes g V w m Null is (may_null g V w m can f) f old
-act_votes g V w m acts.Publish is well can f old =
-    word_votes g V w m LOGGED_COLUMN (length (w.past.log m)) (omega arith) f
-    (does_grow g V w m acts.Publish is well can f).own old
+act_votes g V w m acts.Publish is well can f old = word_votes g V w m LOGGED_COLUMN
+    (length (w.past.log m)) (omega arith) f (does_grow g V w m acts.Publish is well can f).own old
 act_votes g V w m acts.Mark is well can f old =
     word_votes g V w m DONE_COLUMN 1 (omega arith) f (does_grow g V w m acts.Mark is well can f).own old
-act_votes g V w m (acts.Suspect j) is well can f old =
-    suspect_votes g V w m j is (may_name g V w m j well can) f old
+act_votes g V w m (acts.Suspect j) is well can f old = suspect_votes g V w m j is (may_name g V w m j well can) f old
 act_votes g V w m acts.Propose is well can f old = accept_votes g V w m can.vote is can.waits f old
 act_votes g V w m acts.Accept is well can f old = accept_votes g V w m can.vote is can.waits f old
 act_votes g V w m acts.Commit is well can f old = commit_votes g V w m can f old
-act_votes g V w m acts.Finish is well can f old =
-    committed_is w m can.value (Voting g V) g can.committed
+act_votes g V w m acts.Finish is well can f old = committed_is w m can.value (Voting g V) g can.committed
     (enter_votes g V w m (w.past.view m + 1) (next_members (w.members m) can.value.leavers)
     (finished_history g w m can.value) can.may.idle (omega arith) f old)
 act_votes g V w m a is well can f old = old
@@ -76,9 +53,8 @@ act_votes g V w m a is well can f old = old
 -- and so does each step
 step_votes : (g : Group) (V : Views) (w : World) (m : ℕ) (s : Step) → IsGroup g → AllGoOn g V w
     → CanTake g w m s → Faithful g V w → Voting g V w → Voting g V (effect_of g w m s)
-step_votes g V w m (Do a) is well can f old =
-    stamp_votes g V (does g w m a) m (w.past.view m) (act_keeps g V w m a is well can f)
-    (act_votes g V w m a is well can f old)
+step_votes g V w m (Do a) is well can f old = stamp_votes g V
+    (does g w m a) m (w.past.view m) (act_keeps g V w m a is well can f) (act_votes g V w m a is well can f old)
 step_votes g V w m (Look i c) is well can f old = look_votes g V w m i c old
 step_votes g V w m (Push j c) is well can f old = push_votes g V w m j c old
 step_votes g V w m (LogVote v) is well can f old = vote_votes g V w m v is can f old
@@ -106,15 +82,12 @@ does_same g V w moments m acts.Finish so = record {
 does_same g V w moments m a so = so
 
 -- the beat word is no accept word
-beat_so : (g : Group) (V : Views) (moments : List World) (v i word : ℕ)
-    → IsOfMoment g V moments v i BEAT_COLUMN word
-beat_so g V moments v i word column =
-    absurd (omega (arith, accept_within (roster g) (V v) BEAT_COLUMN column))
+beat_so : (g : Group) (V : Views) (moments : List World) (v i word : ℕ) → IsOfMoment g V moments v i BEAT_COLUMN word
+beat_so g V moments v i word column = absurd (omega (arith, accept_within (roster g) (V v) BEAT_COLUMN column))
 
 step_so : (g : Group) (V : Views) (us : List World) (w : World) (m : ℕ) (s : Step) → Faithful g V w
     → AreOfMoments g V (w ∷ us) w.past.view w.table w.seen
-    → AreOfMoments g V (w ∷ us) (effect_of g w m s).past.view (effect_of g w m s).table
-    (effect_of g w m s).seen
+    → AreOfMoments g V (w ∷ us) (effect_of g w m s).past.view (effect_of g w m s).table (effect_of g w m s).seen
 step_so g V us w m (Do a) f so =
     let u : World = does g w m a in
     let did = does_same g V w (w ∷ us) m a so in record {
@@ -130,15 +103,13 @@ step_so g V us w m (Look i c) f so = record {
 }
 step_so g V us w m (Push j c) f so = record {
   in_table = at₄_case (λ v k a d word. IsOfMoment g V (w ∷ us) v a d word) w.table
-      (w.past.view m) j m c (own_word w m c) so.in_table
-      (λ column. inr (has_now g V us w m c f column));
+      (w.past.view m) j m c (own_word w m c) so.in_table (λ column. inr (has_now g V us w m c f column));
   in_seen = so.in_seen;
 }
 step_so g V us w m Join f so = record {
   in_table = so.in_table;
-  in_seen = at_both (λ k view row. (i c : ℕ) → IsOfMoment g V (w ∷ us) view i c (row i c))
-      w.past.view w.seen m (last_view (0, 0) (unwrap_or (w.letter m) [])).0 (λ i c. 0) so.in_seen
-      (λ i c column. inl refl);
+  in_seen = at_both (λ k view row. (i c : ℕ) → IsOfMoment g V (w ∷ us) view i c (row i c)) w.past.view w.seen m
+      (last_view (0, 0) (unwrap_or (w.letter m) [])).0 (λ i c. 0) so.in_seen (λ i c column. inl refl);
 }
 step_so g V us w m s f so = record { in_table = so.in_table; in_seen = so.in_seen }
 
@@ -160,26 +131,21 @@ AreQuiet w = (m : ℕ) → w.suspects m ≡ 0 → (w.pending m ≡ None) × (w.c
 -- each step keeps it so
 pub step_quiet : (g : Group) (V : Views) (w : World) (m : ℕ) (s : Step) → IsGroup g → Faithful g V w
     → CanTake g w m s → AreQuiet w → AreQuiet (effect_of g w m s)
-step_quiet g V w m (Do (acts.Suspect j)) is f can old =
-    at_case (λ k mask. mask ≡ 0 → (w.pending k ≡ None) × (w.committed k ≡ None)) w.suspects m
-    (mask_after w m j) (λ k d. old k)
-    (λ none. absurd (mask_some g V w m j is (namable_within g V w m j is can.namable f) f none))
-step_quiet g V w m (Do acts.Propose) is f can old =
-    at_case (λ k vote. w.suspects k ≡ 0 → (vote ≡ None) × (w.committed k ≡ None)) w.pending m None
-    (λ k d. old k) (λ calm. (refl, (old m calm).1))
-step_quiet g V w m (Do acts.Accept) is f can old =
-    at_case (λ k vote. w.suspects k ≡ 0 → (vote ≡ None) × (w.committed k ≡ None)) w.pending m None
-    (λ k d. old k) (λ calm. (refl, (old m calm).1))
-step_quiet g V w m (Do acts.Commit) is f can old =
-    at_case (λ k choice. w.suspects k ≡ 0 → (w.pending k ≡ None) × (choice ≡ None)) w.committed m
-    (Some (w.value m)) (λ k d. old k) (λ calm. absurd (can.wedged calm))
+step_quiet g V w m (Do (acts.Suspect j)) is f can old = at_case (λ k mask. mask ≡ 0 → (w.pending k ≡ None)
+    × (w.committed k ≡ None)) w.suspects m (mask_after w m j)
+    (λ k d. old k) (λ none. absurd (mask_some g V w m j is (namable_within g V w m j is can.namable f) f none))
+step_quiet g V w m (Do acts.Propose) is f can old = at_case (λ k vote. w.suspects k ≡ 0 → (vote ≡ None)
+    × (w.committed k ≡ None)) w.pending m None (λ k d. old k) (λ calm. (refl, (old m calm).1))
+step_quiet g V w m (Do acts.Accept) is f can old = at_case (λ k vote. w.suspects k ≡ 0 → (vote ≡ None)
+    × (w.committed k ≡ None)) w.pending m None (λ k d. old k) (λ calm. (refl, (old m calm).1))
+step_quiet g V w m (Do acts.Commit) is f can old = at_case (λ k choice. w.suspects k ≡ 0 → (w.pending k ≡ None)
+    × (choice ≡ None)) w.committed m (Some (w.value m)) (λ k d. old k) (λ calm. absurd (can.wedged calm))
 step_quiet g V w m (Do acts.Finish) is f can old =
     at_both (λ k (mask : ℕ) (choice : Option Value). mask ≡ 0 → (w.pending k ≡ None) × (choice ≡ None))
     w.suspects w.committed m 0 None old (λ calm. (can.may.idle, refl))
 step_quiet g V w m (Do a) is f can old = old
-step_quiet g V w m (LogVote v) is f can old =
-    at_case (λ k vote. w.suspects k ≡ 0 → (vote ≡ None) × (w.committed k ≡ None)) w.pending m
-    (Some (vote_for g w m v)) (λ k d. old k) (λ calm. absurd (can.wedged calm))
+step_quiet g V w m (LogVote v) is f can old = at_case (λ k vote. w.suspects k ≡ 0 → (vote ≡ None)
+    × (w.committed k ≡ None)) w.pending m (Some (vote_for g w m v)) (λ k d. old k) (λ calm. absurd (can.wedged calm))
 step_quiet g V w m Join is f can old =
     at_both (λ k (mask : ℕ) (choice : Option Value). mask ≡ 0 → (w.pending k ≡ None) × (choice ≡ None))
     w.suspects w.committed m 0 None old (λ calm. (can.may.idle, refl))

@@ -1,34 +1,22 @@
 -- A member suspects another one: its promise rises, and its tag and its value stay.
 use Rattle.std.proofs.Common.{Some, ap, arith, inl, inr, le_of_eq, refl, subst, sym, true, ℕ, ◌<◌, ◌∙◌, ◌≡◌, ◌⊎◌}
 use Rattle.dr_entry.specs.declared.record.Value.{Value}
-use Rattle.dr_machine.specs.Effects.{suspects}
-use Rattle.dr_machine.specs.Group.{Group, IsGroup, roster}
-use Rattle.dr_machine.specs.Votes.{vote_in}
-use Rattle.dr_machine.specs.World.{World, own_word}
+use Rattle.dr_machine.specs.{Effects.suspects, Group.{Group, IsGroup, roster}, Votes.vote_in, World.{World, own_word}}
+use Rattle.dr_faithful.{specs.{Faithful.Faithful, Tells.Views}, proofs.Writes.{at₂_case, at₂_read}}
 use Rattle.dr_faithful.proofs.Suspicions.{MayName, mask_after, promise_after, promise_rises, row_after, suspect_grew}
-use Rattle.dr_faithful.proofs.Writes.{at₂_case, at₂_read}
-use Rattle.dr_faithful.specs.Faithful.{Faithful}
-use Rattle.dr_faithful.specs.Tells.{Views}
-use Rattle.dr_vote_laws.proofs.Frames.{row_rewritten}
-use Rattle.dr_vote_laws.proofs.Later.{OwnGrew, original_on}
-use Rattle.dr_vote_laws.proofs.Logs.{votes_same}
-use Rattle.dr_vote_laws.specs.Tells.{TellsVote, promise_in, tag_in}
-use Rattle.dr_vote_laws.specs.Voting.{Voting}
+use Rattle.dr_vote_laws.{specs.{Tells.{TellsVote, promise_in, tag_in}, Voting.Voting}, proofs.Frames.row_rewritten}
+use Rattle.dr_vote_laws.proofs.{Later.{OwnGrew, original_on}, Logs.votes_same}
+use Rattle.dr_words.specs.{Columns.leavers_column, Packing.{accept_promise, accept_tag, accept_value}}
+use Rattle.dr_words.{specs.Rewrites.is_accept_of, proofs.Accepts.leavers_accept}
 use Rattle.dr_words.proofs.Rewrites.{wedged_promise, wedged_tag, wedged_value}
-use Rattle.dr_words.proofs.Accepts.{leavers_accept}
-use Rattle.dr_words.specs.Columns.{leavers_column}
-use Rattle.dr_words.specs.Packing.{accept_promise, accept_tag, accept_value}
-use Rattle.dr_words.specs.Rewrites.{is_accept_of}
 
 -- no tag changes
-tags_stay : (g : Group) (w : World) (m j i v : ℕ)
-    → tag_in g (suspects g w m j).past.own i v ≡ tag_in g w.past.own i v
+tags_stay : (g : Group) (w : World) (m j i v : ℕ) → tag_in g (suspects g w m j).past.own i v ≡ tag_in g w.past.own i v
 tags_stay g w m j i v =
     let c : ℕ = leavers_column (roster g) in
-    at₂_case (λ i v r. accept_tag (r c) ≡ accept_tag (w.past.own i v c)) w.past.own m (w.past.view m)
-    (row_after g w m j) (λ i v. refl)
-    (wedged_tag (roster g) (w.members m) (mask_after w m j) (promise_after w m j) c (own_word w m c)
-    (leavers_accept (roster g) (w.members m))) i v
+    at₂_case (λ i v r. accept_tag (r c) ≡ accept_tag (w.past.own i v c)) w.past.own m
+    (w.past.view m) (row_after g w m j) (λ i v. refl) (wedged_tag (roster g) (w.members m)
+    (mask_after w m j) (promise_after w m j) c (own_word w m c) (leavers_accept (roster g) (w.members m))) i v
 
 -- the own promise
 promise_now : (g : Group) (w : World) (m j : ℕ)
@@ -54,16 +42,13 @@ row_votes g V w m j c is can f old a = record {
     mine = rw (f.views.own m) a
 
     promise : accept_promise (row_after g w m j c) ≡ promise_after w m j
-    promise = wedged_promise (roster g) (w.members m) (mask_after w m j) (promise_after w m j) c
-        (own_word w m c) mine
+    promise = wedged_promise (roster g) (w.members m) (mask_after w m j) (promise_after w m j) c (own_word w m c) mine
 
     tag : accept_tag (row_after g w m j c) ≡ accept_tag (own_word w m c)
-    tag = wedged_tag (roster g) (w.members m) (mask_after w m j) (promise_after w m j) c
-        (own_word w m c) mine
+    tag = wedged_tag (roster g) (w.members m) (mask_after w m j) (promise_after w m j) c (own_word w m c) mine
 
     value : accept_value (row_after g w m j c) ≡ accept_value (own_word w m c)
-    value = wedged_value (roster g) (w.members m) (mask_after w m j) (promise_after w m j) c
-        (own_word w m c) mine
+    value = wedged_value (roster g) (w.members m) (mask_after w m j) (promise_after w m j) c (own_word w m c) mine
 
     before : TellsVote g w.past.own w.past.votes m (w.past.view m) c (own_word w m c)
     before = old.words.in_own m (w.past.view m) c a

@@ -2,17 +2,13 @@
 -- ballots are for the same value.
 use Rattle.std.proofs.Common.{Some, ap, arith, inl, inr, slice_get, subst, suc, sym, true, zero, ℕ, ◌<◌, ◌∙◌, ◌≡◌, ◌≢◌, ◌≤◌, ◌⊎◌}
 use Rattle.std.proofs.lemmas.Bool.{cases_eq, cases_lt}
-use Rattle.dr_entry.specs.declared.record.Value.{Value}
-use Rattle.dr_entry.specs.declared.record.Vote.{Vote}
+use Rattle.dr_entry.specs.declared.record.{Value.Value, Vote.Vote}
 use Rattle.dr_history.specs.Members.{has}
-use Rattle.dr_machine.specs.Group.{Group}
-use Rattle.dr_machine.specs.Run.{PastGrew}
-use Rattle.dr_machine.specs.Votes.{HasLogged, HasVoted, IsOf, MajorityHas, Votes, vote_in}
-use Rattle.dr_machine.specs.World.{World}
-use Rattle.dr_faithful.specs.Faithful.{Numbers}
-use Rattle.dr_faithful.specs.Tells.{Views}
-use Rattle.dr_vote_laws.proofs.Logs.{get_more}
+use Rattle.dr_machine.specs.{Group.Group, Run.PastGrew}
+use Rattle.dr_machine.specs.{Votes.{HasLogged, HasVoted, IsOf, MajorityHas, Votes, vote_in}, World.World}
+use Rattle.dr_faithful.specs.{Faithful.Numbers, Tells.Views}
 use Rattle.dr_vote_laws.specs.Voting.{AreOriginal, AreVotes, IsChosen, IsFirst, IsLater, IsOriginal, Voting}
+use Rattle.dr_vote_laws.proofs.Logs.{get_more}
 use Rattle.dr_words.proofs.Majorities.{majorities_meet_lem}
 
 -- ---- one ballot
@@ -43,15 +39,13 @@ has_voted g V votes v b i f h m =
     (one.0.value, subst (λ y. HasLogged votes i y) is one.1)
 
 -- a proposal of a higher ballot has the value, where those between have it
-proposal_is : (g : Group) (V : Views) (own : Numbers) (votes : Votes) (v b c : ℕ) (x y : Value)
-    → AreVotes g V votes → HasBallot g V votes v b → b < c → AreOf g votes v b x c
-    → IsOriginal g V own votes v c y → y ≡ x
+proposal_is : (g : Group) (V : Views) (own : Numbers) (votes : Votes) (v b c : ℕ) (x y : Value) → AreVotes g V votes
+    → HasBallot g V votes v b → b < c → AreOf g votes v b x c → IsOriginal g V own votes v c y → y ≡ x
 proposal_is g V own votes v b c x y f h l between t =
     by t.source (majorities_meet_lem (V v) h.mask t.mask h.part t.part h.majority t.majority)
   where
     by : IsFirst g V own votes v c t.mask y ⊎ IsLater g votes v c t.mask y
-        → (n : ℕ) × (n < 16) × (has (V v) n ≡ true) × (has h.mask n ≡ true) × (has t.mask n ≡ true)
-        → y ≡ x
+        → (n : ℕ) × (n < 16) × (has (V v) n ≡ true) × (has h.mask n ≡ true) × (has t.mask n ≡ true) → y ≡ x
     by (inl first) n =
         let voted = has_voted g V votes v b n.0 f h n.3 in
         absurd (omega (arith, l, first.none n.0 b voted.0 n.4 voted.1))
@@ -84,9 +78,8 @@ all_are g V own votes v b x f o h one (suc top) k c y e l voted =
 pub higher : (g : Group) (V : Views) (own : Numbers) (votes : Votes) (v b i k c : ℕ) (x y : Value)
     → AreVotes g V votes → AreOriginal g V own votes → HasBallot g V votes v b
     → HasVoted g votes i v b x → b ≤ c → HasVoted g votes k v c y → y ≡ x
-higher g V own votes v b i k c x y f o h voted e other =
-    all_are g V own votes v b x f o h (λ j z q. one_ballot g V votes j i v b z x f q voted) (suc c) k c y e
-    (omega arith) other
+higher g V own votes v b i k c x y f o h voted e other = all_are g V own votes v b x f o h
+    (λ j z q. one_ballot g V votes j i v b z x f q voted) (suc c) k c y e (omega arith) other
 
 -- ---- the laws
 
@@ -99,12 +92,10 @@ pub same_ballot : (g : Group) (V : Views) (w : World) (i j : ℕ) (x y : Vote) �
     → HasLogged w.past.votes i x → HasLogged w.past.votes j y → IsOf y x.view x.ballot → x ≡ y
 same_ballot g V w i j x y f h k of =
     let valid = f.valid in
-    let mine : y ≡ vote_in g x.view x.ballot y.value =
-    valid.own j y k ∙ ap (λ u. vote_in g u y.ballot y.value) of.in_view
-    ∙ ap (λ b. vote_in g x.view b y.value) of.by_ballot in
-    let value : x.value ≡ y.value =
-    one_ballot g V w.past.votes i j x.view x.ballot x.value y.value valid (vote_is g V w i x f h)
-    (subst (λ z. HasLogged w.past.votes j z) mine k) in
+    let mine : y ≡ vote_in g x.view x.ballot y.value = valid.own j y k
+    ∙ ap (λ u. vote_in g u y.ballot y.value) of.in_view ∙ ap (λ b. vote_in g x.view b y.value) of.by_ballot in
+    let value : x.value ≡ y.value = one_ballot g V w.past.votes i j x.view x.ballot x.value y.value valid
+    (vote_is g V w i x f h) (subst (λ z. HasLogged w.past.votes j z) mine k) in
     valid.own i x h ∙ ap (λ v. vote_in g x.view x.ballot v) value ∙ sym mine
 
 pub majority_stays : (g : Group) (V : Views) (w : World) (i j : ℕ) (x y : Vote) → Voting g V w
@@ -142,11 +133,9 @@ pub somebody : (g : Group) (V : Views) (w : World) (v b : ℕ) (x : Value) → V
 somebody g V w v b x f h =
     let n = majorities_meet_lem (V v) h.mask h.mask h.part h.part h.majority h.majority in
     let one = h.each n.0 n.3 in
-    let whole : one.0 ≡ vote_in g v b x =
-    f.valid.own n.0 one.0 one.1
+    let whole : one.0 ≡ vote_in g v b x = f.valid.own n.0 one.0 one.1
     ∙ ap (λ u. vote_in g u one.0.ballot one.0.value) one.2.0.in_view
-    ∙ ap (λ c. vote_in g v c one.0.value) one.2.0.by_ballot
-    ∙ ap (λ y. vote_in g v b y) one.2.1 in
+    ∙ ap (λ c. vote_in g v c one.0.value) one.2.0.by_ballot ∙ ap (λ y. vote_in g v b y) one.2.1 in
     (n.0, subst (λ y. HasLogged w.past.votes n.0 y) whole one.1)
 
 -- a majority for a value is one that has the ballot
@@ -200,6 +189,5 @@ pub one_commit : (g : Group) (V : Views) (early late : World) (m k : ℕ) (u v :
 one_commit g V early late m k u v before f grew e h view =
     let one = commits g V early m u before e in
     let two = commits g V late k v f h in
-    chosen_once g V late (early.past.view m) one.0 two.0 u v f
-    (chosen_since V early late (early.past.view m) one.0 u grew one.1)
-    (subst (λ z. IsChosen V late.past.votes z two.0 v) (sym view) two.1)
+    chosen_once g V late (early.past.view m) one.0 two.0 u v f (chosen_since V early late
+    (early.past.view m) one.0 u grew one.1) (subst (λ z. IsChosen V late.past.votes z two.0 v) (sym view) two.1)

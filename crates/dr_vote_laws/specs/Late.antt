@@ -2,9 +2,7 @@
 -- V gives the members of each view, as a mask, by the view's number.
 use Rattle.std.specs.Prelude.{◌≡◌, ℕ, List, true}
 use Rattle.dr_words.specs.Rewrites.{is_accept_of}
-use Rattle.dr_machine.specs.Group.{Group, roster}
-use Rattle.dr_machine.specs.Run.{WasOwn}
-use Rattle.dr_machine.specs.World.{World}
+use Rattle.dr_machine.specs.{Group.{Group, roster}, Run.WasOwn, World.World}
 use Rattle.dr_faithful.specs.Tells.{Views}
 use Rattle.dr_vote_laws.specs.Tells.{TellsVote}
 

@@ -1,11 +1,7 @@
 -- Of which moments the words of a table are, those that were seen, and those that are on their way.
 use Rattle.std.specs.Prelude.{◌≡◌, ◌⊎◌, ℕ, Contains, List, true}
-use Rattle.dr_words.specs.Accepts.{part_of}
-use Rattle.dr_words.specs.Packing.{accept_promise, accept_tag, accept_value}
-use Rattle.dr_words.specs.Rewrites.{is_accept_of}
-use Rattle.dr_machine.specs.Group.{Group, roster}
-use Rattle.dr_machine.specs.Run.{WasOwn}
-use Rattle.dr_machine.specs.World.{World}
+use Rattle.dr_words.specs.{Accepts.part_of, Packing.{accept_promise, accept_tag, accept_value}, Rewrites.is_accept_of}
+use Rattle.dr_machine.specs.{Group.{Group, roster}, Run.WasOwn, World.World}
 use Rattle.dr_faithful.specs.Tells.{Views}
 
 -- at one of these moments member i was in this view, its own word of the column was this one, and it had the

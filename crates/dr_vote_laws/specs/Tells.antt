@@ -2,15 +2,10 @@
 -- V gives the members of each view, as a mask, by the view's number.
 use Rattle.std.specs.Prelude.{◌≡◌, ℕ, ◌+◌, ◌<◌, ◌≤◌, true}
 use Rattle.dr_entry.specs.declared.record.Value.{Value}
-use Rattle.dr_words.specs.Accepts.{part_of}
-use Rattle.dr_words.specs.Columns.{leavers_column}
-use Rattle.dr_words.specs.Packing.{accept_promise, accept_tag, accept_value}
-use Rattle.dr_words.specs.Rewrites.{is_accept_of}
-use Rattle.dr_machine.specs.Group.{Group, roster}
-use Rattle.dr_machine.specs.Votes.{HasVoted, Votes}
-use Rattle.dr_machine.specs.World.{Table, World}
-use Rattle.dr_faithful.specs.Faithful.{Numbers}
-use Rattle.dr_faithful.specs.Tells.{Views}
+use Rattle.dr_words.specs.{Accepts.part_of, Columns.leavers_column}
+use Rattle.dr_words.specs.{Packing.{accept_promise, accept_tag, accept_value}, Rewrites.is_accept_of}
+use Rattle.dr_machine.specs.{Group.{Group, roster}, Votes.{HasVoted, Votes}, World.{Table, World}}
+use Rattle.dr_faithful.specs.{Faithful.Numbers, Tells.Views}
 
 -- the promise and the tag of a member in a view, by its own words: as they are, or as it left the view
 abbrev pub promise_in : Group → Numbers → ℕ → ℕ → ℕ

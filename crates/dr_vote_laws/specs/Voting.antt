@@ -1,21 +1,13 @@
 -- What is true of the votes of every world that is reached.
 -- V gives the members of each view, as a mask, by the view's number.
 use Rattle.std.specs.Prelude.{◌≡◌, ℕ, ◌+◌, ◌<◌, ◌≤◌, ◌⊎◌, true, false, not, length, slice_index, Option, Some}
-use Rattle.dr_entry.specs.declared.limits.TheConstants.{MAX_MEMBERS}
-use Rattle.dr_entry.specs.declared.record.Value.{Value}
-use Rattle.dr_entry.specs.declared.record.Vote.{Vote}
-use Rattle.dr_history.specs.declared.opening.Opening.{Opening}
-use Rattle.dr_history.specs.Members.{has}
-use Rattle.dr_history.specs.Order.{IsNewIn}
-use Rattle.dr_words.specs.Changes.{IsLeastReceived}
-use Rattle.dr_words.specs.Columns.{recv_column}
-use Rattle.dr_words.specs.Masks.{IsMajorityOf, IsPartOf}
+use Rattle.dr_entry.specs.{declared.limits.TheConstants.MAX_MEMBERS, declared.record.{Value.Value, Vote.Vote}}
+use Rattle.dr_history.specs.{Members.has, Order.IsNewIn, declared.opening.Opening.Opening}
+use Rattle.dr_words.specs.{Changes.IsLeastReceived, Columns.recv_column, Masks.{IsMajorityOf, IsPartOf}}
 use Rattle.dr_words.specs.Packing.{is_final}
-use Rattle.dr_machine.specs.Group.{Group}
-use Rattle.dr_machine.specs.Votes.{HasLogged, HasVoted, IsOf, MajorityHas, Votes, vote_in}
+use Rattle.dr_machine.specs.{Group.Group, Votes.{HasLogged, HasVoted, IsOf, MajorityHas, Votes, vote_in}}
 use Rattle.dr_machine.specs.World.{Table, World}
-use Rattle.dr_faithful.specs.Faithful.{Numbers}
-use Rattle.dr_faithful.specs.Tells.{Views}
+use Rattle.dr_faithful.specs.{Faithful.Numbers, Tells.Views}
 use Rattle.dr_vote_laws.specs.Tells.{WordsTellVotes, promise_in, tag_in}
 
 -- a value of a view of these members: a trim for each member that a roster can have, and 0 for those that

@@ -1,20 +1,11 @@
 //! Laws of votes.
 ghost use Rattle.std.specs.Prelude.{◌≡◌, ◌≤◌, ℕ, List, [], ◌∷◌, Some};
-ghost use Rattle.dr_entry.specs.declared.end.End.TheVariants.{Excluded};
-ghost use Rattle.dr_entry.specs.declared.record.Value.{Value};
-ghost use Rattle.dr_entry.specs.declared.record.Vote.{Vote};
-ghost use Rattle.dr_machine.specs.declared.event.Event.{Event};
-ghost use Rattle.dr_machine.specs.Acts.{Guard, effect};
-ghost use Rattle.dr_machine.specs.Group.{Group, IsGroup};
-ghost use Rattle.dr_machine.specs.Guards.{IsExcluded};
-ghost use Rattle.dr_machine.specs.Run.{HaveArrived, IsReached, PastGrew, with_table};
-ghost use Rattle.dr_machine.specs.Votes.{HasLogged, IsOf, MajorityHas};
-ghost use Rattle.dr_machine.specs.World.{Table, World, opening_world};
-ghost use Rattle.dr_faithful.specs.Faithful.{AllGoOn, Faithful};
-ghost use Rattle.dr_faithful.specs.Tells.{Views};
-ghost use Rattle.dr_vote_laws.specs.Late.{VotesBacked};
-ghost use Rattle.dr_vote_laws.specs.Moments.{AcceptsOfMoments};
-ghost use Rattle.dr_vote_laws.specs.Voting.{IsChosen, IsCut, Voting};
+ghost use Rattle.dr_entry.specs.{declared.end.End.TheVariants.Excluded, declared.record.{Value.Value, Vote.Vote}};
+ghost use Rattle.dr_machine.specs.{Acts.{Guard, effect}, Group.{Group, IsGroup}, Guards.IsExcluded};
+ghost use Rattle.dr_machine.specs.{Run.{HaveArrived, IsReached, PastGrew, with_table}, declared.event.Event.Event};
+ghost use Rattle.dr_machine.specs.{Votes.{HasLogged, IsOf, MajorityHas}, World.{Table, World, opening_world}};
+ghost use Rattle.dr_faithful.specs.{Faithful.{AllGoOn, Faithful}, Tells.Views};
+ghost use Rattle.dr_vote_laws.specs.{Late.VotesBacked, Moments.AcceptsOfMoments, Voting.{IsChosen, IsCut, Voting}};
 
 /// What is true of votes is so as the age opens, and each event keeps it, where the members are faithful and
 /// who ends its view goes on as it should.

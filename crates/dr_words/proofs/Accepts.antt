@@ -1,31 +1,25 @@
 -- The accept words of a row: where they stand, and which parts they pack.
 use Rattle.std.proofs.Common.{◌≡◌, ◌≢◌, ℕ, ◌-◌, ◌^◌, ◌<◌, ◌≤◌, ◌⊎◌, inl, inr, true, slice_index, arith}
-use Rattle.std.proofs.Math.Nat.{pow-le-pow_right}
-use Rattle.std.proofs.lemmas.Bool.{cases_eq}
-use Rattle.std.proofs.lemmas.Bool.Decides.{nat_tests}
+use Rattle.std.proofs.{Math.Nat.pow-le-pow_right, lemmas.Bool.{cases_eq, Decides.nat_tests}}
 use Rattle.dr_entry.specs.declared.record.Value.{Value}
 use Rattle.dr_history.specs.Members.{has}
 use Rattle.dr_words.specs.Accepts.{AllPromise, AllTag, Shown, part_of}
 use Rattle.dr_words.specs.Columns.{head_column, leavers_column, recv_column, trim_column}
-use Rattle.dr_words.specs.Packing.{accept_promise, accept_tag, accept_value, accept_word}
-use Rattle.dr_words.specs.Rewrites.{is_accept_of}
+use Rattle.dr_words.specs.{Packing.{accept_promise, accept_tag, accept_value, accept_word}, Rewrites.is_accept_of}
 
 -- ---- columns
 
 -- they stand behind the recv words, and before the ring
-pub accept_within : (n members c : ℕ) → is_accept_of n members c ≡ true
-    → (recv_column n ≤ c) × (c < head_column n 0)
+pub accept_within : (n members c : ℕ) → is_accept_of n members c ≡ true → (recv_column n ≤ c) × (c < head_column n 0)
 accept_within n members c is = (grind (arith, nat_tests, is), grind (arith, nat_tests, is))
 
 -- the leavers' word is one of them, and so are the trims of members
 pub leavers_accept : (n members : ℕ) → is_accept_of n members (leavers_column n) ≡ true
 leavers_accept n members = grind arith
 
-pub trim_accept : (n members s : ℕ) → s < n → has members s ≡ true
-    → is_accept_of n members (trim_column n s) ≡ true
+pub trim_accept : (n members s : ℕ) → s < n → has members s ≡ true → is_accept_of n members (trim_column n s) ≡ true
 trim_accept n members s l h =
-    let there : trim_column n s - trim_column n 0 ≡ s = omega arith in
-    grind (arith, l, h, there)
+    let there : trim_column n s - trim_column n 0 ≡ s = omega arith in grind (arith, l, h, there)
 
 -- there are no others
 accept_cases : (n members c : ℕ) → is_accept_of n members c ≡ true → (c ≡ leavers_column n)
@@ -82,8 +76,7 @@ part_leavers n v c e = grind (arith, e)
 pub part_trim : (n : ℕ) (v : Value) (s c : ℕ) → c ≡ trim_column n s → part_of n v c ≡ slice_index v.trim s
 part_trim n v s c e =
     let there : c - trim_column n 0 ≡ s = omega (arith, e) in
-    let other : c ≢ leavers_column n = λ q. absurd (omega (arith, e, q)) in
-    grind (arith, there, other)
+    let other : c ≢ leavers_column n = λ q. absurd (omega (arith, e, q)) in grind (arith, there, other)
 
 -- accept words of a roster of n can hold the tag and the value
 pub record FitsWords (n tag : ℕ) (v : Value) : Type 0 where

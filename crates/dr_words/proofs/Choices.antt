@@ -1,24 +1,16 @@
 -- The functions that compute tests and values are the definitions of when rows allow a vote, and of which.
 use Rattle.std.proofs.Common.{◌≡◌, ◌≢◌, ◌↔◌, ℕ, ◌+◌, ◌^◌, ◌<◌, ◌≤◌, ◌==◌, ◌&&◌, not, nat_lt, Bool, true, false, refl, sym, ap, ◌∙◌, ◌⊎◌, inl, inr, subst, arith, length, map, fold, min, max, slice_index, if◌then◌else◌}
-use Rattle.std.proofs.lemmas.Bool.{and_from, and_parts, cases_eq, cases_lt, eqb-true}
-use Rattle.std.proofs.lemmas.Bool.Decides.{nat_tests}
-use Rattle.std.proofs.lemmas.List.{get_or_past}
-use Rattle.std.proofs.lemmas.List.FromFn.{get_or-map-range_with_len, length-map-range_with_len}
-use Rattle.dr_entry.specs.declared.record.Value.{Value}
-use Rattle.dr_entry.proofs.NumberFacts.{equal_test, other_test}
-use Rattle.dr_history.specs.Members.{has, members_of}
-use Rattle.dr_history.proofs.Histories.{none_above}
-use Rattle.dr_history.proofs.Tests.{all_members}
+use Rattle.std.proofs.lemmas.Bool.{and_from, and_parts, cases_eq, cases_lt, eqb-true, Decides.nat_tests}
+use Rattle.std.proofs.lemmas.List.{get_or_past, FromFn.{get_or-map-range_with_len, length-map-range_with_len}}
+use Rattle.dr_entry.{specs.declared.record.Value.Value, proofs.NumberFacts.{equal_test, other_test}}
+use Rattle.dr_history.{specs.Members.{has, members_of}, proofs.{Histories.none_above, Tests.all_members}}
 use Rattle.dr_history.proofs.Choices.{min_below, IsFound, min_found, small_member, max_above, max_found}
-use Rattle.dr_words.proofs.Masks.{has_mask_of, least_of_is, mask_of_small}
-use Rattle.dr_words.proofs.Tests.{each_member}
 use Rattle.dr_words.specs.Accepts.{AllPromise, AllTag, Shown, Shows, promise_of, tag_of, trim_word}
 use Rattle.dr_words.specs.Changes.{AllFinal, IsFirstValue, IsHighest, IsLeastReceived, IsProposal, MayAccept, MayCommit, MayPropose, received, tagged_members}
 use Rattle.dr_words.specs.Choices.{all_final, all_of, all_promise, all_tag, first_value, highest_row, highest_tag, is_majority, least_received, may_accept, may_commit, may_propose, proposal, shown_value, trims_of}
-use Rattle.dr_words.specs.Columns.{recv_column}
-use Rattle.dr_words.specs.Masks.{IsLeastOf, IsMajorityOf, least_of, mask_of, without}
+use Rattle.dr_words.specs.{Columns.recv_column, Masks.{IsLeastOf, IsMajorityOf, least_of, mask_of, without}}
 use Rattle.dr_words.specs.Packing.{accept_promise, accept_tag, accept_value, is_final, recv_count}
-use Rattle.dr_words.proofs.Columns.{AreAlike}
+use Rattle.dr_words.proofs.{Columns.AreAlike, Masks.{has_mask_of, least_of_is, mask_of_small}, Tests.each_member}
 use Rattle.dr_words.specs.Choices as choices
 
 -- ---- the least and the greatest over the members of a mask
@@ -39,13 +31,11 @@ trim_is members trim s small = by (cases_lt s 16)
 
 trim_member : (members : ℕ) (trim : ℕ → ℕ) (s : ℕ) → members < 2 ^ 16 → has members s ≡ true
     → slice_index (trims_of members trim) s ≡ trim s
-trim_member members trim s small h =
-    trim_is members trim s small ∙ ap (λ (b : Bool). if b then trim s else 0) h
+trim_member members trim s small h = trim_is members trim s small ∙ ap (λ (b : Bool). if b then trim s else 0) h
 
 trim_other : (members : ℕ) (trim : ℕ → ℕ) (s : ℕ) → members < 2 ^ 16 → has members s ≡ false
     → slice_index (trims_of members trim) s ≡ 0
-trim_other members trim s small h =
-    trim_is members trim s small ∙ ap (λ (b : Bool). if b then trim s else 0) h
+trim_other members trim s small h = trim_is members trim s small ∙ ap (λ (b : Bool). if b then trim s else 0) h
 
 -- the trims are as many as a roster can have members
 pub trims_long : (members : ℕ) (trim : ℕ → ℕ) → length (trims_of members trim) ≡ 16
@@ -77,8 +67,7 @@ least_is rows of sender j small there = record {
     found (inr t) = t
 
 -- the first value, where somebody is unsuspected
-pub first_is : (rows : Shown) (members suspects j : ℕ) → members < 2 ^ 16
-    → has (without members suspects) j ≡ true
+pub first_is : (rows : Shown) (members suspects j : ℕ) → members < 2 ^ 16 → has (without members suspects) j ≡ true
     → IsFirstValue rows members suspects (first_value rows members suspects)
 first_is rows members suspects j small there = record {
   leavers = refl;
@@ -102,16 +91,13 @@ highest_is n rows of small some = by (max_found (tag_of n rows) of 0 16)
     test : ℕ → Bool
     test i = has of i && tag_of n rows i == highest_tag n rows of
 
-    passes : (i : ℕ) → has of i ≡ true → highest_tag n rows of ≡ tag_of n rows i
-        → has (mask_of test) i ≡ true
+    passes : (i : ℕ) → has of i ≡ true → highest_tag n rows of ≡ tag_of n rows i → has (mask_of test) i ≡ true
     passes i h e = has_mask_of test i ∙ grind (arith, nat_tests, small_member of i small h, h, e)
 
-    passed : (i : ℕ) → has (mask_of test) i ≡ true
-        → (has of i ≡ true) × (tag_of n rows i ≡ highest_tag n rows of)
+    passed : (i : ℕ) → has (mask_of test) i ≡ true → (has of i ≡ true) × (tag_of n rows i ≡ highest_tag n rows of)
     passed i h =
         let two = and_parts (nat_lt i 16) (test i) (sym (has_mask_of test i) ∙ h) in
-        let parts = and_parts (has of i) _ two.1 in
-        (parts.0, eqb-true _ _ parts.1)
+        let parts = and_parts (has of i) _ two.1 in (parts.0, eqb-true _ _ parts.1)
 
     each : (j : ℕ) → has of j ≡ true → tag_of n rows j ≤ highest_tag n rows of
     each j h = max_above (tag_of n rows) of 0 j 16 (small_member of j small h) h
@@ -131,8 +117,7 @@ highest_is n rows of small some = by (max_found (tag_of n rows) of 0 16)
 
 -- the value to propose, where somebody is unsuspected
 pub proposal_is : (n : ℕ) (rows : Shown) (members suspects j : ℕ) → members < 2 ^ 16
-    → has (without members suspects) j ≡ true
-    → IsProposal n rows members suspects (proposal n rows members suspects)
+    → has (without members suspects) j ≡ true → IsProposal n rows members suspects (proposal n rows members suspects)
 unfolding members_of
 proposal_is n rows members suspects j small there = by (cases_eq (highest_tag n rows of) 0)
   where
@@ -144,19 +129,14 @@ proposal_is n rows members suspects j small there = by (cases_eq (highest_tag n 
     by (inl e) =
         let same : proposal n rows members suspects ≡ first_value rows members suspects = rw e refl in
         subst (IsProposal n rows members suspects) (sym same) (inr (
-          λ i h. omega (
-            arith,
-            e,
-            max_above (tag_of n rows) of 0 i 16 (small_member of i (mask_of_small _) h) h,
-          ),
+          λ i h. omega (arith, e, max_above (tag_of n rows) of 0 i 16 (small_member of i (mask_of_small _) h) h),
           first_is rows members suspects j small there,
         ))
     by (inr d) =
         let other : (highest_tag n rows of == 0) ≡ false = grind (arith, nat_tests, d) in
         let same : proposal n rows members suspects ≡ shown_value n rows members (highest_row n rows of) =
         rw other refl in
-        subst (IsProposal n rows members suspects) (sym same)
-        (inl (
+        subst (IsProposal n rows members suspects) (sym same) (inl (
           highest_row n rows of,
           highest_is n rows of (mask_of_small _) d,
           shows_value n rows members (highest_row n rows of) small,
@@ -247,8 +227,7 @@ accept_test n rows members suspects me small = (
         whole = (tag_test n rows members (promise_of n rows me) (promise_of n rows me + 1) small).0 c.1;
       },
   λ may. and_from _ _ ((other_test (tag_of n rows me) (promise_of n rows me + 1)).1 may.unaccepted)
-      (and_from _ _ ((other_test (promise_of n rows me) me).1 may.other)
-      (and_from _ _ may.unsuspected
+      (and_from _ _ ((other_test (promise_of n rows me) me).1 may.other) (and_from _ _ may.unsuspected
       ((tag_test n rows members (promise_of n rows me) (promise_of n rows me + 1) small).1 may.whole))),
 )
 
@@ -272,8 +251,7 @@ proposal_long n rows members suspects = by (highest_tag n rows of == 0) refl
     of : ℕ
     of = without members suspects
 
-    by : (b : Bool) → (highest_tag n rows of == 0) ≡ b
-        → length (proposal n rows members suspects).trim ≡ 16
+    by : (b : Bool) → (highest_tag n rows of == 0) ≡ b → length (proposal n rows members suspects).trim ≡ 16
     by true e =
         let same : proposal n rows members suspects ≡ first_value rows members suspects = rw e refl in
         ap (λ (v : Value). length v.trim) same ∙ trims_long members (least_received rows (without members suspects))
@@ -286,8 +264,7 @@ proposal_long n rows members suspects = by (highest_tag n rows of == 0) refl
 pub propose_alike : (n : ℕ) (f g : Shown) (members suspects me : ℕ) → AreAlike n f g
     → choices.may_propose n f members suspects me ≡ choices.may_propose n g members suspects me
 propose_alike n f g members suspects me a = λ z. not (accept_tag (a.leavers me z) == me + 1)
-    && ((accept_promise (a.leavers me z) == me)
-    && (is_majority (without members suspects) members
+    && ((accept_promise (a.leavers me z) == me) && (is_majority (without members suspects) members
     && (all_of (without members suspects) (λ i. all_of members (λ s. is_final (a.counts i s z)))
     && all_of (without members suspects) (λ i. (accept_promise (a.leavers i z) == me)
     && all_of members (λ s. accept_promise (a.trims i s z) == me)))))
@@ -321,8 +298,7 @@ highest_alike : (n : ℕ) (f g : Shown) (of : ℕ) → AreAlike n f g
     → choices.highest_tag n f of ≡ choices.highest_tag n g of
 highest_alike n f g of a = λ z. fold max 0 (map (λ i. accept_tag (a.leavers i z)) (members_of of))
 
-row_alike : (n : ℕ) (f g : Shown) (of : ℕ) → AreAlike n f g
-    → choices.highest_row n f of ≡ choices.highest_row n g of
+row_alike : (n : ℕ) (f g : Shown) (of : ℕ) → AreAlike n f g → choices.highest_row n f of ≡ choices.highest_row n g of
 row_alike n f g of a = λ z.
     least_of (mask_of (λ i. has of i && (accept_tag (a.leavers i z) == highest_alike n f g of a z)))
 

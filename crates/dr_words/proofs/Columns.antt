@@ -1,13 +1,8 @@
 -- Columns of rows that are alike, and what stays in them.
 use Rattle.std.proofs.Common.{ℕ, ◌<◌, ◌^◌, refl, List, ◌≤◌, arith, ◌≡◌}
-use Rattle.dr_rows.proofs.Grids.{with_word-column}
-use Rattle.dr_rows.specs.Words.{Words, seen, with_own}
-use Rattle.dr_words.specs.Columns.{recv_column, head_column, leavers_column, trim_column}
-use Rattle.dr_words.specs.Form.{AllInForm}
-use Rattle.dr_words.specs.Rows.{word_at}
-use Rattle.dr_words.specs.Grown.{HasGrown}
-use Rattle.dr_words.specs.Accepts.{Shown}
-use Rattle.dr_words.specs.declared.column.TheConstants.{BEAT_COLUMN}
+use Rattle.dr_rows.{specs.Words.{Words, seen, with_own}, proofs.Grids.with_word-column}
+use Rattle.dr_words.specs.{Accepts.Shown, Columns.{recv_column, head_column, leavers_column, trim_column}}
+use Rattle.dr_words.specs.{Form.AllInForm, Grown.HasGrown, Rows.word_at, declared.column.TheConstants.BEAT_COLUMN}
 
 -- a recv word has 33 bits
 pub recv_small : (n : ℕ) (rows : List (List ℕ)) → AllInForm n rows → (s : ℕ) → s < n

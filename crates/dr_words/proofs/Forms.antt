@@ -1,14 +1,10 @@
 -- Words that are in form, and words that have grown.
 use Rattle.std.proofs.Common.{◌≡◌, ◌≢◌, ℕ, ◌^◌, ◌<◌, ◌≤◌, ◌⊎◌, inl, inr, false, arith, refl, le_trans, List, ◌+◌}
-use Rattle.std.proofs.lemmas.Nat.{pow_pos}
-use Rattle.std.proofs.Math.Pow.{pow_mono}
+use Rattle.std.proofs.{Math.Pow.pow_mono, lemmas.Nat.pow_pos}
 use Rattle.dr_history.proofs.Bits.{has_zero}
+use Rattle.dr_words.specs.{Columns.{head_column, recv_column}, Form.{IsAcceptColumn, IsInForm, AllInForm}}
+use Rattle.dr_words.specs.{Grown.HasGrown, Packing.is_final, Rows.word_at}
 use Rattle.dr_words.specs.declared.column.TheConstants.{DONE_COLUMN, SUSPECTED_COLUMN, LOGGED_COLUMN}
-use Rattle.dr_words.specs.Columns.{head_column, recv_column}
-use Rattle.dr_words.specs.Form.{IsAcceptColumn, IsInForm, AllInForm}
-use Rattle.dr_words.specs.Grown.{HasGrown}
-use Rattle.dr_words.specs.Packing.{is_final}
-use Rattle.dr_words.specs.Rows.{word_at}
 
 -- ---- form
 
@@ -112,14 +108,9 @@ grown_done n old l = record {
 }
 
 -- a count that was not final grows where it rises
-pub grown_recv : (n s old new : ℕ) → is_final old ≡ false → old ≤ new
-    → HasGrown n (recv_column s) old new
+pub grown_recv : (n s old new : ℕ) → is_final old ≡ false → old ≤ new → HasGrown n (recv_column s) old new
 grown_recv n s old new free rises =
-    record {
-      number = rises;
-      suspected = λ e. absurd (omega arith);
-      final = λ i l e f. absurd (cc (f, free));
-    }
+    record { number = rises; suspected = λ e. absurd (omega arith); final = λ i l e f. absurd (cc (f, free)) }
 
 -- a suspected word has 16 bits
 pub suspected_small : (n : ℕ) (rows : List (List ℕ)) → AllInForm n rows → n ≤ 16 → (i : ℕ)
@@ -127,8 +118,7 @@ pub suspected_small : (n : ℕ) (rows : List (List ℕ)) → AllInForm n rows �
 suspected_small n rows form l i = le_trans ((form i SUSPECTED_COLUMN).suspected refl) (pow_mono l)
 
 -- any word of a ring's column is in form
-pub ring_in_form : (members column word : ℕ) → head_column members 0 ≤ column
-    → IsInForm members column word
+pub ring_in_form : (members column word : ℕ) → head_column members 0 ≤ column → IsInForm members column word
 ring_in_form members column word ring = record {
   suspected = λ e. absurd (omega arith);
   done = λ e. absurd (omega arith);

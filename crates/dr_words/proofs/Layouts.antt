@@ -1,42 +1,30 @@
 -- Where the words of a row stand, and the first rows.
+use Rattle.std.{specs.Prelude.{◌^◌}, proofs.lemmas.{Bool.cases_eq, List.length-set, Nat.mul-le}}
 use Rattle.std.proofs.Common.{ℕ, ◌≡◌, refl, ◌∙◌, ◌==◌, if◌then◌else◌, inl, inr, [], sym, subst, ◌-◌, ◌≤◌, ◌+◌, arith, ◌<◌, List, length, slice_index, set, ◌*◌}
-use Rattle.std.proofs.lemmas.Bool.{cases_eq}
-use Rattle.std.proofs.lemmas.List.{length-set}
-use Rattle.std.specs.Prelude.{◌^◌}
-use Rattle.std.proofs.lemmas.Nat.{mul-le}
-use Rattle.dr_entry.proofs.NumberFacts.{same_number, other_number}
-use Rattle.dr_entry.proofs.ListPlaces.{one_more}
+use Rattle.dr_entry.proofs.{ListPlaces.one_more, NumberFacts.{same_number, other_number}}
+use Rattle.dr_rows.{specs.Words.{Words, begun, with_own, seen, word_at}, proofs.Grids.{seen_with, with_word-column}}
 use Rattle.dr_rows.proofs.WordsLemmas.{IsFresh-begun}
-use Rattle.dr_rows.proofs.Grids.{seen_with, with_word-column}
-use Rattle.dr_rows.specs.Words.{Words, begun, with_own, seen, word_at}
-use Rattle.dr_words.proofs.Forms.{logged_in_form, form_zero}
-use Rattle.dr_words.specs.declared.column.TheConstants.{LOGGED_COLUMN}
-use Rattle.dr_words.specs.Form.{IsInForm, AllInForm}
-use Rattle.dr_words.specs.Layout.{word_index_of, words_of}
-use Rattle.dr_words.specs.Columns.{columns_of}
+use Rattle.dr_words.specs.{Columns.columns_of, Form.{IsInForm, AllInForm}, Layout.{word_index_of, words_of}}
+use Rattle.dr_words.{specs.declared.column.TheConstants.LOGGED_COLUMN, proofs.Forms.{logged_in_form, form_zero}}
 
 -- the rows as the age opens
 abbrev pub first_rows : ℕ → ℕ → ℕ → ℕ → Words
 first_rows n k m logged = with_own (begun n k m) LOGGED_COLUMN logged
 
 pub first_seen : (n k m logged i c : ℕ) → (if i == m then 0 else seen (first_rows n k m logged) i c) ≡ 0
-first_seen n k m logged i c =
-    elim (cases_eq i m) [
-      | inl same ↦ rw (same, same_number m) refl
-      | inr other ↦ rw (other_number i m other)
-          (seen_with (begun n k m) LOGGED_COLUMN logged i c other ∙ (IsFresh-begun n k m).zero i c)
-    ]
+first_seen n k m logged i c = elim (cases_eq i m) [
+  | inl same ↦ rw (same, same_number m) refl
+  | inr other ↦ rw (other_number i m other)
+      (seen_with (begun n k m) LOGGED_COLUMN logged i c other ∙ (IsFresh-begun n k m).zero i c)
+]
 
 -- words that are 0 but for a logged word are in form
 pub first_in_form : (n k m x : ℕ) → 1 ≤ n → AllInForm n (with_own (begun n k m) LOGGED_COLUMN x).words
-first_in_form n k m x some i c =
-    elim (cases_eq c LOGGED_COLUMN) [
-      | inl same ↦ rw same (logged_in_form n
-          (word_at (with_own (begun n k m) LOGGED_COLUMN x).words i LOGGED_COLUMN))
-      | inr other ↦ subst (λ v. IsInForm n c v)
-          (sym (with_word-column (begun n k m).words m LOGGED_COLUMN x i c other
-          ∙ (IsFresh-begun n k m).zero i c)) (form_zero n c some)
-    ]
+first_in_form n k m x some i c = elim (cases_eq c LOGGED_COLUMN) [
+  | inl same ↦ rw same (logged_in_form n (word_at (with_own (begun n k m) LOGGED_COLUMN x).words i LOGGED_COLUMN))
+  | inr other ↦ subst (λ v. IsInForm n c v) (sym (with_word-column (begun n k m).words m LOGGED_COLUMN x i c other
+      ∙ (IsFresh-begun n k m).zero i c)) (form_zero n c some)
+]
 
 -- a word stands so many columns behind the first of its row
 pub behind_first : (n w v copy row c : ℕ) → word_index_of n w v copy row 0 + c ≡ word_index_of n w v copy row c
@@ -53,9 +41,8 @@ pub record AreNoted (n w v m others : ℕ) (mine theirs : List ℕ) : Type 0 whe
 pub noted_more : (n w v m k i j x y : ℕ) (mine theirs : List ℕ) → k < 16 → AreNoted n w v m k mine theirs
     → i ≡ k → j ≡ k → x ≡ word_index_of n w v m k 0 → y ≡ word_index_of n w v k m 0
     → AreNoted n w v m (k + 1) (set mine i x) (set theirs j y)
-noted_more n w v m k i j x y mine theirs few before here there is also =
-    subst (λ (s : ℕ × ℕ). AreNoted n w v m (k + 1) (set mine s.0 x) (set theirs s.1 y))
-    (λ z. (sym here z, sym there z)) (record {
+noted_more n w v m k i j x y mine theirs few before here there is also = subst (λ (s : ℕ × ℕ). AreNoted n w v m
+    (k + 1) (set mine s.0 x) (set theirs s.1 y)) (λ z. (sym here z, sym there z)) (record {
       long_looks = length-set mine k x ∙ before.long_looks;
       long_pushes = length-set theirs k y ∙ before.long_pushes;
       looks = one_more mine (λ i. word_index_of n w v m i 0) k x (omega (arith, few, before.long_looks)) is

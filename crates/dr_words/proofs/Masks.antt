@@ -1,29 +1,20 @@
 -- Masks of the members that pass a test.
+use Rattle.std.specs.{Int.{bit_at, trailing_zeros}, Prelude.{IsSome, MatchOption}}
+use Rattle.std.{specs.List.{Contains, Any, count_by}, proofs.lemmas.Bool.{cases_eq, cases_lt, and_from, and_parts}}
 use Rattle.std.proofs.Common.{◌≡◌, ◌≢◌, ℕ, zero, suc, ◌+◌, ◌-◌, ◌*◌, ◌/◌, ◌%◌, ◌^◌, ◌<◌, ◌≤◌, ◌==◌, ◌&&◌, ◌||◌, not, nat_lt, Bool, true, false, sym, ap, ◌∙◌, ◌⊎◌, inl, inr, if◌then◌else◌, w16, bit_and, bit_or, bit_xor, arith, List, [], ◌∷◌, slice_get, Some, refl, All, map, le_trans, subst, IsTrue, ◌↔◌, length, Option, None, unwrap_or, Decides}
-use Rattle.std.specs.Int.{bit_at, trailing_zeros}
-use Rattle.std.proofs.lemmas.Bool.{cases_eq, cases_lt, and_from, and_parts}
-use Rattle.std.proofs.lemmas.Nat.{and_le_l, or_lt, mod_below, pow_pos, xor_of_16}
+use Rattle.std.proofs.lemmas.{Bool.Decides.nat_tests, List.Elements.{All-head, All-tail, All-contains}}
+use Rattle.std.proofs.lemmas.{Nat.{and_le_l, or_lt, mod_below, pow_pos, xor_of_16}, Option.get_or_from_slice_get}
 use Rattle.std.proofs.lemmas.Nat.Bits.{bit_at-lt, bit_at_above, bit_at_cat_low, same_from_bits}
-use Rattle.std.proofs.lemmas.List.Elements.{All-head, All-tail, All-contains}
-use Rattle.std.specs.List.{Contains, Any, count_by}
-use Rattle.std.specs.Prelude.{IsSome, MatchOption}
-use Rattle.std.proofs.lemmas.Option.{get_or_from_slice_get}
-use Rattle.std.proofs.lemmas.Bool.Decides.{nat_tests}
+use Rattle.dr_entry.proofs.{BoolFacts.{or_false, and_false}, ListFacts.among, ListPlaces.index_of_get}
 use Rattle.dr_entry.proofs.NumberFacts.{more_small}
-use Rattle.dr_entry.proofs.ListPlaces.{index_of_get}
-use Rattle.dr_entry.proofs.ListFacts.{among}
-use Rattle.dr_entry.proofs.BoolFacts.{or_false, and_false}
-use Rattle.dr_history.specs.Members.{has, members_of, members_below}
-use Rattle.dr_history.proofs.Bits.{has_zero, has_with, has_without, has_xor, has_ones}
-use Rattle.dr_history.proofs.Ranks.{first_member, count_below, some_member}
+use Rattle.dr_history.specs.{Members.{has, members_of, members_below}, Order.AreOfRoster}
+use Rattle.dr_history.proofs.{Bits.{has_zero, has_with, has_without, has_xor, has_ones}, Histories.none_above}
 use Rattle.dr_history.proofs.Masks.{has_below_suc, same_masks, some_number, among_below, has_within}
-use Rattle.dr_history.proofs.Histories.{none_above}
+use Rattle.dr_history.proofs.Ranks.{first_member, count_below, some_member}
 use Rattle.dr_history.proofs.Tests.{contains_word, all_words, some_word}
-use Rattle.dr_history.specs.Order.{AreOfRoster}
 use Rattle.dr_rows.specs.Words.{Words, seen}
-use Rattle.dr_words.proofs.Order.{IsPartOf-le}
-use Rattle.dr_words.proofs.Ranks.{least_member}
 use Rattle.dr_words.specs.Masks.{IsInRoster, IsLeastOf, IsPartOf, least_of, mask_below, mask_of, next_members, with_member, without}
+use Rattle.dr_words.proofs.{Order.IsPartOf-le, Ranks.least_member}
 use Rattle.dr_words.specs.Masks as masks
 
 below_small : (test : ℕ → Bool) (n : ℕ) → mask_below test n < 2 ^ n
@@ -34,8 +25,7 @@ below_small test (suc n) = more_small (mask_below test n) n (test n) (below_smal
 has_below : (test : ℕ → Bool) (n i : ℕ) → has (mask_below test n) i ≡ (nat_lt i n && test i)
 unfolding mask_below
 has_below test zero i = grind (arith, has_zero i)
-has_below test (suc n) i =
-    has_below_suc test (mask_below test n) n i (below_small test n) (has_below test n i)
+has_below test (suc n) i = has_below_suc test (mask_below test n) n i (below_small test n) (has_below test n i)
 
 -- who is in the mask, and that it has 16 bits
 pub has_mask_of : (test : ℕ → Bool) (i : ℕ) → has (mask_of test) i ≡ (nat_lt i 16 && test i)
@@ -56,8 +46,7 @@ is_mask_of test mask small same = same_masks mask (mask_of test) (λ i. by i (ca
     by i (inr g) = none_above mask i small g ∙ sym (has_mask_of test i ∙ grind arith)
 
 -- one member more
-pub has_with_member : (mask n i : ℕ) → mask < 2 ^ 16 → n < 16
-    → has (with_member mask n) i ≡ (i == n || has mask i)
+pub has_with_member : (mask n i : ℕ) → mask < 2 ^ 16 → n < 16 → has (with_member mask n) i ≡ (i == n || has mask i)
 has_with_member mask n i small within = has_mask_of (λ i. i == n || has mask i) i ∙ by (cases_lt i 16)
   where
     by : (i < 16) ⊎ (16 ≤ i) → (nat_lt i 16 && (i == n || has mask i)) ≡ (i == n || has mask i)
@@ -67,15 +56,12 @@ has_with_member mask n i small within = has_mask_of (λ i. i == n || has mask i)
 pub with_member_small : (mask n : ℕ) → with_member mask n < 2 ^ 16
 with_member_small mask n = mask_of_small (λ i. i == n || has mask i)
 
-pub or_is_with_member : (mask n : ℕ) → mask < 2 ^ 16 → n < 16
-    → bit_or mask (1 * 2 ^ n % 2 ^ 16) ≡ with_member mask n
-or_is_with_member mask n small within =
-    is_mask_of (λ i. i == n || has mask i) (bit_or mask (1 * 2 ^ n % 2 ^ 16))
+pub or_is_with_member : (mask n : ℕ) → mask < 2 ^ 16 → n < 16 → bit_or mask (1 * 2 ^ n % 2 ^ 16) ≡ with_member mask n
+or_is_with_member mask n small within = is_mask_of (λ i. i == n || has mask i) (bit_or mask (1 * 2 ^ n % 2 ^ 16))
     (or_lt 16 mask (1 * 2 ^ n % 2 ^ 16) small (omega arith)) (λ i l. has_with mask n within i)
 
 -- a member more makes a greater number
-pub with_member_greater : (mask n : ℕ) → mask < 2 ^ 16 → n < 16 → has mask n ≡ false
-    → mask < with_member mask n
+pub with_member_greater : (mask n : ℕ) → mask < 2 ^ 16 → n < 16 → has mask n ≡ false → mask < with_member mask n
 with_member_greater mask n small within new = by (cases_eq mask (with_member mask n))
   where
     part : (i : ℕ) → has mask i ≡ true → has (with_member mask n) i ≡ true
@@ -91,11 +77,9 @@ with_member_greater mask n small within new = by (cases_eq mask (with_member mas
 -- the members of another taken away
 pub has_without_mask : (mask other i : ℕ) → mask < 2 ^ 16
     → has (without mask other) i ≡ (has mask i && not (has other i))
-has_without_mask mask other i small = has_mask_of (λ i. has mask i && not (has other i)) i
-    ∙ by (cases_lt i 16)
+has_without_mask mask other i small = has_mask_of (λ i. has mask i && not (has other i)) i ∙ by (cases_lt i 16)
   where
-    by : (i < 16) ⊎ (16 ≤ i)
-        → (nat_lt i 16 && (has mask i && not (has other i))) ≡ (has mask i && not (has other i))
+    by : (i < 16) ⊎ (16 ≤ i) → (nat_lt i 16 && (has mask i && not (has other i))) ≡ (has mask i && not (has other i))
     by (inl l) = grind arith
     by (inr g) = grind (arith, none_above mask i small g)
 
@@ -113,8 +97,7 @@ next_members_within members names i h =
     grind (arith, has_mask_of (λ i. if has names i then not (has members i) else has members i) i, h)
 
 pub next_members_small : (members names : ℕ) → next_members members names < 2 ^ 16
-next_members_small members names =
-    mask_of_small (λ i. if has names i then not (has members i) else has members i)
+next_members_small members names = mask_of_small (λ i. if has names i then not (has members i) else has members i)
 
 pub xor_is_next : (members names : ℕ) → members < 2 ^ 16 → names < 2 ^ 16
     → bit_xor members names ≡ next_members members names
@@ -130,8 +113,7 @@ and_is_without mask other small small_other =
 
 -- a mask of a roster of n members has n bits
 pub in_roster_small : (n mask : ℕ) → IsInRoster n mask → mask < 2 ^ n
-in_roster_small n mask within =
-    rw (same_from_bits mask (mask % 2 ^ n) (λ i. by i (cases_lt i n))) low
+in_roster_small n mask within = rw (same_from_bits mask (mask % 2 ^ n) (λ i. by i (cases_lt i n))) low
   where
     low : mask % 2 ^ n < 2 ^ n
     low = mod_below mask (2 ^ n) (pow_pos n)
@@ -172,11 +154,9 @@ pub record IsSuspecting (n members suspects me other : ℕ) : Type 0 where
 
 -- its masks have 16 bits
 view_small : {n members suspects me other : ℕ} → IsSuspecting n members suspects me other → members < 2 ^ 16
-view_small {members = members} s =
-    in_roster_small 16 members (λ i there. omega (arith, s.few, s.roster i there))
+view_small {members = members} s = in_roster_small 16 members (λ i there. omega (arith, s.few, s.roster i there))
 
-suspects_small : {n members suspects me other : ℕ} → IsSuspecting n members suspects me other
-    → suspects < 2 ^ 16
+suspects_small : {n members suspects me other : ℕ} → IsSuspecting n members suspects me other → suspects < 2 ^ 16
 suspects_small {suspects = suspects} s =
     in_roster_small 16 suspects (λ i there. omega (arith, s.few, s.named i there))
 
@@ -216,8 +196,7 @@ more_some {suspects = suspects} {other = other} s none =
 pub left_me : {n members suspects me other : ℕ} → IsSuspecting n members suspects me other
     → has (without members (with_member suspects other)) me ≡ true
 left_me {members = members} {suspects = suspects} {me = me} {other = other} s =
-    has_without_mask members (with_member suspects other) me (view_small s)
-    ∙ grind (arith, s.present, more_trusted s)
+    has_without_mask members (with_member suspects other) me (view_small s) ∙ grind (arith, s.present, more_trusted s)
 
 -- the least of them is of the roster
 pub left_within : {n members suspects me other : ℕ} → IsSuspecting n members suspects me other
@@ -234,18 +213,12 @@ left_within {members = members} {suspects = suspects} {me = me} {other = other} 
 -- and is no lower than before
 pub left_rises : {n members suspects me other : ℕ} → IsSuspecting n members suspects me other
     → least_of (without members suspects) ≤ least_of (without members (with_member suspects other))
-left_rises {members = members} {suspects = suspects} {me = me} {other = other} s =
-    least_of_part (without members (with_member suspects other)) (without members suspects) me
-    (without_small members suspects) fewer (left_me s)
+left_rises {members = members} {suspects = suspects} {me = me} {other = other} s = least_of_part (without members
+    (with_member suspects other)) (without members suspects) me (without_small members suspects) fewer (left_me s)
   where
     fewer : IsPartOf (without members (with_member suspects other)) (without members suspects)
     fewer i there = has_without_mask members suspects i (view_small s)
-        ∙ grind (
-          arith,
-          has_without_mask members (with_member suspects other) i (view_small s),
-          there,
-          more_has s i,
-        )
+        ∙ grind (arith, has_without_mask members (with_member suspects other) i (view_small s), there, more_has s i)
 
 -- the numbers put into a mask, one by one
 abbrev pub with_all : ℕ → List ℕ → ℕ
@@ -255,10 +228,9 @@ with_all mask (m ∷ ms) = with_all (with_member mask m) ms
 has_with_all : (mask : ℕ) (ms : List ℕ) (i : ℕ) → mask < 2 ^ 16 → All (λ m. m < 16) ms
     → has (with_all mask ms) i ≡ (among ms i || has mask i)
 has_with_all mask [] i small low = refl
-has_with_all mask (m ∷ ms) i small low =
-    has_with_all (with_member mask m) ms i (with_member_small mask m) (All-tail (λ m. m < 16) m ms low)
-    ∙ (ap (λ b. among ms i || b) (has_with_member mask m i small (All-head (λ m. m < 16) m ms low))
-    ∙ turn (among ms i) (i == m) (has mask i))
+has_with_all mask (m ∷ ms) i small low = has_with_all (with_member mask m) ms i
+    (with_member_small mask m) (All-tail (λ m. m < 16) m ms low) ∙ (ap (λ b. among ms i || b)
+    (has_with_member mask m i small (All-head (λ m. m < 16) m ms low)) ∙ turn (among ms i) (i == m) (has mask i))
   where
     turn : (a b c : Bool) → (a || (b || c)) ≡ ((b || a) || c)
     turn true true c = refl
@@ -275,9 +247,8 @@ with_all_members mask small low = same_masks (with_all 0 (members_of mask)) mask
     zero_has i = has_zero i
 
     all : (i : ℕ) → has (with_all 0 (members_of mask)) i ≡ (nat_lt i 16 && has mask i)
-    all i = has_with_all 0 (members_of mask) i (omega arith) low
-        ∙ (ap (λ b. among (members_of mask) i || b) (zero_has i)
-        ∙ (or_false (among (members_of mask) i) ∙ among_below mask 16 i))
+    all i = has_with_all 0 (members_of mask) i (omega arith) low ∙ (ap (λ b. among (members_of mask) i || b)
+        (zero_has i) ∙ (or_false (among (members_of mask) i) ∙ among_below mask 16 i))
 
     by : (i : ℕ) → (i < 16) ⊎ (16 ≤ i) → has (with_all 0 (members_of mask)) i ≡ has mask i
     by i (inl less) = let e : nat_lt i 16 ≡ true = grind (arith, less) in all i ∙ rw e refl
@@ -295,20 +266,17 @@ pub each_word : (P : ℕ → Type 0) (f : ℕ → ℕ) (m n : ℕ) → IsInRoste
 each_word P f m n r l h i e = All-contains P (map f (members_of m)) (f i) h (member_word f m n i r l e)
 
 -- a test of all words of the list tells what holds of each member's word
-pub each_iff : (P : ℕ → Type 0) (f : ℕ → ℕ) (m n : ℕ) (words : List ℕ) (b : Bool)
-    → words ≡ map f (members_of m) → IsInRoster n m → n ≤ 16
-    → (IsTrue b ↔ All P words) → (IsTrue b ↔ ((i : ℕ) → has m i ≡ true → P (f i)))
+pub each_iff : (P : ℕ → Type 0) (f : ℕ → ℕ) (m n : ℕ) (words : List ℕ) (b : Bool) → words ≡ map f (members_of m)
+    → IsInRoster n m → n ≤ 16 → (IsTrue b ↔ All P words) → (IsTrue b ↔ ((i : ℕ) → has m i ≡ true → P (f i)))
 each_iff P f m n words b e r l h = (
   λ t. each_word P f m n r l (subst (All P) e (h.0 t)),
   λ g. h.1 (subst (All P) (sym e) (all_words P f m g)),
 )
 
 -- a test of some word of the list tells what holds of some member's word
-pub some_iff : (P : ℕ → Type 0) (f : ℕ → ℕ) (m n : ℕ) (words : List ℕ) (b : Bool)
-    → words ≡ map f (members_of m) → IsInRoster n m → n ≤ 16
-    → (IsTrue b ↔ Any P words) → (IsTrue b ↔ ((i : ℕ) × (has m i ≡ true) × P (f i)))
-some_iff P f m n words b e r l h =
-    (λ t. to (subst (Any P) e (h.0 t)), λ g. h.1 (subst (Any P) (sym e) (back g)))
+pub some_iff : (P : ℕ → Type 0) (f : ℕ → ℕ) (m n : ℕ) (words : List ℕ) (b : Bool) → words ≡ map f (members_of m)
+    → IsInRoster n m → n ≤ 16 → (IsTrue b ↔ Any P words) → (IsTrue b ↔ ((i : ℕ) × (has m i ≡ true) × P (f i)))
+some_iff P f m n words b e r l h = (λ t. to (subst (Any P) e (h.0 t)), λ g. h.1 (subst (Any P) (sym e) (back g)))
   where
     to : Any P (map f (members_of m)) → (i : ℕ) × (has m i ≡ true) × P (f i)
     to a = let w = some_word f m a.1 (a.0, a.2, a.3) in (w.0, w.1, subst P w.2 a.4)
@@ -318,8 +286,7 @@ some_iff P f m n words b e r l h =
 
 -- where the list is empty nobody is in the mask
 pub no_member : (f : ℕ → ℕ) (m n : ℕ) (words : List ℕ) → words ≡ map f (members_of m)
-    → IsInRoster n m → n ≤ 16 → length words ≡ 0
-    → (i : ℕ) → has m i ≡ false
+    → IsInRoster n m → n ≤ 16 → length words ≡ 0 → (i : ℕ) → has m i ≡ false
 no_member f m n words e r l z i = by (has m i) refl
   where
     by : (b : Bool) → has m i ≡ b → has m i ≡ false
@@ -329,11 +296,9 @@ no_member f m n words e r l z i = by (has m i) refl
 
 -- a test of all words of a column
 pub column_iff : (P : ℕ → Type 0) (rows : Words) (m : ℕ) (words : List ℕ) (column k : ℕ) (b : Bool)
-    → words ≡ map (λ i. seen rows i column) (members_of m) → column ≡ k
-    → IsInRoster rows.members m → rows.members ≤ 16
-    → (IsTrue b ↔ All P words) → (IsTrue b ↔ ((i : ℕ) → has m i ≡ true → P (seen rows i k)))
-column_iff P rows m words column k b e c r l h =
-    each_iff P (λ i. seen rows i k) m rows.members words b
+    → words ≡ map (λ i. seen rows i column) (members_of m) → column ≡ k → IsInRoster rows.members m
+    → rows.members ≤ 16 → (IsTrue b ↔ All P words) → (IsTrue b ↔ ((i : ℕ) → has m i ≡ true → P (seen rows i k)))
+column_iff P rows m words column k b e c r l h = each_iff P (λ i. seen rows i k) m rows.members words b
     (e ∙ ap (λ (x : ℕ). map (λ i. seen rows i x) (members_of m)) c) r l h
 
 pub count_tagged : (p : ℕ → Bool) (m : ℕ)
@@ -366,13 +331,11 @@ least_of_nobody = refl
 
 -- the least of them, or 0, is what the answer of the search for the welcomer tells
 pub welcomer_is : (before after : ℕ) (o : Option ℕ) → after < 2 ^ 16
-    → (o ≡ None → (i : ℕ) → has before i ≡ true → has after i ≡ false)
-    → ((m : ℕ) → o ≡ Some m → (has before m ≡ true) × (has after m ≡ true))
-    → ((m i : ℕ) → o ≡ Some m → has before i ≡ true → has after i ≡ true → m ≤ i)
+    → (o ≡ None → (i : ℕ) → has before i ≡ true → has after i ≡ false) → ((m : ℕ) → o ≡ Some m → (has before m ≡ true)
+    × (has after m ≡ true)) → ((m i : ℕ) → o ≡ Some m → has before i ≡ true → has after i ≡ true → m ≤ i)
     → unwrap_or o 0 ≡ least_of (both_of before after)
-welcomer_is before after None small none both least =
-    sym (ap least_of (same_masks (both_of before after) 0 (λ i. nobody i (has (both_of before after) i) refl))
-    ∙ least_of_nobody)
+welcomer_is before after None small none both least = sym (ap least_of
+    (same_masks (both_of before after) 0 (λ i. nobody i (has (both_of before after) i) refl)) ∙ least_of_nobody)
   where
     nobody : (i : ℕ) (b : Bool) → has (both_of before after) i ≡ b → has (both_of before after) i ≡ has 0 i
     nobody i false e = e ∙ sym (has_zero i)

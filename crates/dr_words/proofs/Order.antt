@@ -1,15 +1,11 @@
 -- Growth is reflexive and transitive, and a mask that grows is no smaller a number.
+use Rattle.std.{specs.Int.bit_at, proofs.lemmas.Nat.{and_le_r, Bits.{bit_at_and, bit_at-lt, same_from_bits}}}
 use Rattle.std.proofs.Common.{◌≡◌, ℕ, ◌≤◌, refl, sym, ◌∙◌, subst, Bool, List, le_refl, le_trans, arith, bit_and}
-use Rattle.std.specs.Int.{bit_at}
-use Rattle.std.proofs.lemmas.Nat.{and_le_r}
-use Rattle.std.proofs.lemmas.Nat.Bits.{bit_at_and, bit_at-lt, same_from_bits}
-use Rattle.dr_words.specs.Masks.{IsPartOf}
-use Rattle.dr_words.specs.Grown.{HasGrown, Grown}
+use Rattle.dr_words.specs.{Grown.{HasGrown, Grown}, Masks.IsPartOf}
 
 -- a word has grown from itself
 pub HasGrown_refl : (members column word : ℕ) → HasGrown members column word word
-HasGrown_refl members column word =
-    record { number = le_refl word; suspected = λ e i h. h; final = λ s l e h. refl }
+HasGrown_refl members column word = record { number = le_refl word; suspected = λ e i h. h; final = λ s l e h. refl }
 
 -- an equal word has grown
 pub HasGrown_same : (members column old new : ℕ) → new ≡ old → HasGrown members column old new
@@ -26,15 +22,13 @@ HasGrown_trans members column a b c p q = record {
 }
 
 -- rows have grown from themselves
-pub Grown_refl : (members : ℕ) (rows : List (List ℕ)) (marks : List Bool)
-    → Grown members rows rows marks marks
+pub Grown_refl : (members : ℕ) (rows : List (List ℕ)) (marks : List Bool) → Grown members rows rows marks marks
 Grown_refl members rows marks =
     record { words = λ i c. HasGrown_refl members c _; frozen = λ i h. h; still = λ i h. refl }
 
 -- rows that have grown twice have grown
 pub Grown_trans : (members : ℕ) (a b c : List (List ℕ)) (x y z : List Bool) → Grown members a b x y
-    → Grown members b c y z
-    → Grown members a c x z
+    → Grown members b c y z → Grown members a c x z
 Grown_trans members a b c x y z p q = record {
   words = λ i k. HasGrown_trans members k _ _ _ (p.words i k) (q.words i k);
   frozen = λ i h. q.frozen i (p.frozen i h);

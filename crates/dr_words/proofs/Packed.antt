@@ -1,6 +1,6 @@
 -- What is read from a slot of which some words have come.
-use Rattle.std.proofs.Common.{◌≡◌, ℕ, ◌^◌, ◌<◌, arith, suc, ◌+◌, List, [], ◌∷◌, length, get_or, map, refl, sym, ap, ◌∙◌, ◌≤◌}
 use Rattle.std.specs.List.{range_with_len}
+use Rattle.std.proofs.Common.{◌≡◌, ℕ, ◌^◌, ◌<◌, arith, suc, ◌+◌, List, [], ◌∷◌, length, get_or, map, refl, sym, ap, ◌∙◌, ◌≤◌}
 use Rattle.dr_words.specs.Packing.{ring_word, ring_low, ring_tag}
 
 pub low_word : (k word low : ℕ) → low < 2 ^ 32 → word ≡ ring_word k low → ring_low word ≡ low
@@ -13,10 +13,8 @@ pub same_pieces : (slot : ℕ → ℕ) (list : List ℕ) (a : ℕ)
 same_pieces slot [] a same = refl
 same_pieces slot (x ∷ list) a same =
     let place : a + 0 ≡ a = omega arith in
-    let first : ring_low (slot a) ≡ x = ap (λ (i : ℕ). ring_low (slot i)) (sym place)
-    ∙ same 0 (omega arith) in
-    let others = same_pieces slot list (a + 1)
-    (λ i lt. let next : a + 1 + i ≡ a + suc i = omega arith in
+    let first : ring_low (slot a) ≡ x = ap (λ (i : ℕ). ring_low (slot i)) (sym place) ∙ same 0 (omega arith) in
+    let others = same_pieces slot list (a + 1) (λ i lt. let next : a + 1 + i ≡ a + suc i = omega arith in
     ap (λ (j : ℕ). ring_low (slot j)) next ∙ same (suc i) (omega arith)) in
     rw (first, others) refl
 

@@ -1,10 +1,7 @@
 -- Ranks: how many members of a mask stand before one of them.
+use Rattle.std.{specs.Int.{bit_at, trailing_zeros}, proofs.lemmas.{Bool.cases_lt, Nat.Bits.bit_at-trailing_zeros}}
 use Rattle.std.proofs.Common.{◌≡◌, ℕ, ◌-◌, ◌^◌, ◌<◌, ◌≤◌, true, ◌⊎◌, inl, inr, arith, length, get_or, w16}
-use Rattle.std.specs.Int.{bit_at, trailing_zeros}
-use Rattle.std.proofs.lemmas.Bool.{cases_lt}
-use Rattle.std.proofs.lemmas.Nat.Bits.{bit_at-trailing_zeros}
-use Rattle.dr_history.specs.Members.{has, members_of}
-use Rattle.dr_history.proofs.Ranks.{each_member}
+use Rattle.dr_history.{specs.Members.{has, members_of}, proofs.Ranks.each_member}
 use Rattle.dr_words.specs.Masks.{IsInRoster, IsLeastOf}
 
 -- ---- counts of bits
@@ -27,8 +24,7 @@ least_member m p l =
     }
   where
     above : (i : ℕ) → has m i ≡ true → (i < trailing_zeros w16 m) ⊎ (trailing_zeros w16 m ≤ i)
-        → (i < trailing_zeros w16 m → bit_at m i ≡ 0)
-        → trailing_zeros w16 m ≤ i
+        → (i < trailing_zeros w16 m → bit_at m i ≡ 0) → trailing_zeros w16 m ≤ i
     above i h (inl b) none = absurd (grind (arith, none b))
     above i h (inr b) none = b
 

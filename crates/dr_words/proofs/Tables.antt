@@ -1,26 +1,21 @@
 -- The words of a member as it writes its own: what a write changes, and what it leaves.
 use Rattle.std.proofs.Common.{◌≡◌, ℕ, ◌<◌, inl, inr, Bool, false, List, get_or, sym, ap, subst, arith}
 use Rattle.dr_rows.specs.Words.{Words, IsWords, IsGrid, looked, own, seen, with_own, with_word, word_at, is_frozen}
-use Rattle.dr_rows.proofs.Grids.{with_word-same, with_word-row, written_either}
-use Rattle.dr_rows.proofs.WordsLemmas.{IsWords-looked}
-use Rattle.dr_words.specs.Columns.{columns_of}
-use Rattle.dr_words.specs.Form.{IsInForm, AllInForm}
-use Rattle.dr_words.specs.Grown.{HasGrown, Grown}
+use Rattle.dr_rows.proofs.{Grids.{with_word-same, with_word-row, written_either}, WordsLemmas.IsWords-looked}
+use Rattle.dr_words.specs.{Columns.columns_of, Form.{IsInForm, AllInForm}, Grown.{HasGrown, Grown}}
 use Rattle.dr_words.proofs.Order.{HasGrown_refl}
 
 -- ---- a write
 
 written_in_form : (n k m : ℕ) (rows : List (List ℕ)) (i c v : ℕ) → IsGrid n k rows → i < n
     → c < k → AllInForm m rows → IsInForm m c v → AllInForm m (with_word rows i c v)
-written_in_form n k m rows i c v grid h g form is j d =
-    elim (written_either n k rows i c v j d grid h g) [
-      | inl kept ↦ subst (λ (x : ℕ). IsInForm m d x) (sym kept) (form j d)
-      | inr (_, column, new) ↦ subst (λ (x : ℕ). IsInForm m d x) (sym new)
-          (subst (λ (e : ℕ). IsInForm m e v) (sym column) is)
-    ]
+written_in_form n k m rows i c v grid h g form is j d = elim (written_either n k rows i c v j d grid h g) [
+  | inl kept ↦ subst (λ (x : ℕ). IsInForm m d x) (sym kept) (form j d)
+  | inr (_, column, new) ↦ subst (λ (x : ℕ). IsInForm m d x) (sym new)
+      (subst (λ (e : ℕ). IsInForm m e v) (sym column) is)
+]
 
-written_grown : (n k m : ℕ) (rows : List (List ℕ)) (frozen : List Bool) (i c v : ℕ)
-    → IsGrid n k rows → i < n → c < k
+written_grown : (n k m : ℕ) (rows : List (List ℕ)) (frozen : List Bool) (i c v : ℕ) → IsGrid n k rows → i < n → c < k
     → get_or frozen i false ≡ false → HasGrown m c (word_at rows i c) v
     → Grown m rows (with_word rows i c v) frozen frozen
 written_grown n k m rows frozen i c v grid h g alive grown = record {
@@ -69,9 +64,8 @@ own_written n window w c v t column =
     with_word-same w.members w.columns w.words w.me c v t.rows.rows t.rows.present (omega (arith, t.columns))
 
 -- they grow where the word of a row that isn't frozen does
-pub looked_grown : (n window : ℕ) (w : Words) (i c v : ℕ) → IsTable n window w → i < n → c
-    < columns_of n window → is_frozen w i ≡ false → HasGrown n c (seen w i c) v
-    → Grown n w.words (looked w i c v).words w.frozen w.frozen
+pub looked_grown : (n window : ℕ) (w : Words) (i c v : ℕ) → IsTable n window w → i < n → c < columns_of n window
+    → is_frozen w i ≡ false → HasGrown n c (seen w i c) v → Grown n w.words (looked w i c v).words w.frozen w.frozen
 looked_grown n window w i c v t row column alive grown =
     written_grown w.members w.columns n w.words w.frozen i c v t.rows.rows (omega (arith, t.members))
     (omega (arith, t.columns)) alive grown

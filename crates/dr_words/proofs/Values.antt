@@ -1,7 +1,6 @@
 -- Values by their parts: a row shows one value, and rows give one to propose.
 use Rattle.std.proofs.Common.{◌≡◌, ℕ, Bool, true, false, sym, ◌∙◌, inl, inr, refl, subst, arith, length, slice_index}
-use Rattle.dr_entry.specs.declared.record.Value.{Value}
-use Rattle.dr_entry.proofs.Records.{same_value}
+use Rattle.dr_entry.{specs.declared.record.Value.Value, proofs.Records.same_value}
 use Rattle.dr_history.specs.Members.{has}
 use Rattle.dr_words.specs.Accepts.{Shown, Shows, tag_of}
 use Rattle.dr_words.specs.Changes.{IsFirstValue, IsHighest, IsLeastReceived, IsProposal}
@@ -38,23 +37,18 @@ first_once rows members suspects u v long p q =
     by s false h = p.others s h ∙ sym (q.others s h)
 
 -- and one row that is the least of those with the highest tag
-highest_once : (n : ℕ) (rows : Shown) (of i j : ℕ) → IsHighest n rows of i → IsHighest n rows of j
-    → i ≡ j
+highest_once : (n : ℕ) (rows : Shown) (of i j : ℕ) → IsHighest n rows of i → IsHighest n rows of j → i ≡ j
 highest_once n rows of i j p q =
-    let same : tag_of n rows j ≡ tag_of n rows i =
-    omega (arith, p.highest j q.member, q.highest i p.member) in
+    let same : tag_of n rows j ≡ tag_of n rows i = omega (arith, p.highest j q.member, q.highest i p.member) in
     omega (arith, p.least j q.member same, q.least i p.member (sym same))
 
 -- so there is one value to propose
-pub proposal_once : (n : ℕ) (rows : Shown) (members suspects : ℕ) (u v : Value)
-    → length u.trim ≡ length v.trim → IsProposal n rows members suspects u
-    → IsProposal n rows members suspects v → u ≡ v
-proposal_once n rows members suspects u v long (inl p) (inl q) =
-    shows_once n rows members q.0 u v long
+pub proposal_once : (n : ℕ) (rows : Shown) (members suspects : ℕ) (u v : Value) → length u.trim ≡ length v.trim
+    → IsProposal n rows members suspects u → IsProposal n rows members suspects v → u ≡ v
+proposal_once n rows members suspects u v long (inl p) (inl q) = shows_once n rows members q.0 u v long
     (subst (λ i. Shows n rows members i u) (highest_once n rows _ p.0 q.0 p.1 q.1) p.2) q.2
 proposal_once n rows members suspects u v long (inl p) (inr q) =
     absurd (omega (arith, p.1.tagged, q.0 p.0 p.1.member))
 proposal_once n rows members suspects u v long (inr p) (inl q) =
     absurd (omega (arith, q.1.tagged, p.0 q.0 q.1.member))
-proposal_once n rows members suspects u v long (inr p) (inr q) =
-    first_once rows members suspects u v long p.1 q.1
+proposal_once n rows members suspects u v long (inr p) (inr q) = first_once rows members suspects u v long p.1 q.1

@@ -3,8 +3,7 @@
 use Rattle.std.specs.Prelude.{◌≡◌, ℕ, ◌-◌, ◌==◌, true, false, if◌then◌else◌, slice_index}
 use Rattle.dr_entry.specs.declared.record.Value.{Value}
 use Rattle.dr_history.specs.Members.{has}
-use Rattle.dr_words.specs.Columns.{leavers_column, trim_column}
-use Rattle.dr_words.specs.Packing.{accept_promise, accept_tag, accept_value}
+use Rattle.dr_words.specs.{Columns.{leavers_column, trim_column}, Packing.{accept_promise, accept_tag, accept_value}}
 
 -- the rows that a member has: the word of each row and column
 abbrev pub Shown : Type 0

@@ -4,10 +4,8 @@
 use Rattle.std.specs.Prelude.{◌≡◌, ◌≢◌, ℕ, ◌+◌, ◌<◌, ◌≤◌, ◌==◌, ◌&&◌, ◌⊎◌, true, false, slice_index}
 use Rattle.dr_entry.specs.declared.record.Value.{Value}
 use Rattle.dr_history.specs.Members.{has}
-use Rattle.dr_words.specs.Accepts.{AllPromise, AllTag, Shown, Shows, promise_of, tag_of}
-use Rattle.dr_words.specs.Columns.{recv_column}
-use Rattle.dr_words.specs.Masks.{IsMajorityOf, mask_of, without}
-use Rattle.dr_words.specs.Packing.{is_final, recv_count}
+use Rattle.dr_words.specs.{Accepts.{AllPromise, AllTag, Shown, Shows, promise_of, tag_of}, Columns.recv_column}
+use Rattle.dr_words.specs.{Masks.{IsMajorityOf, mask_of, without}, Packing.{is_final, recv_count}}
 
 -- in the rows of these members every count of the senders is final
 abbrev pub AllFinal : ℕ → ℕ → Shown → Type 0

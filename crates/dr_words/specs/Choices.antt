@@ -1,13 +1,10 @@
 -- The tests and the values of Changes as functions that compute, for members that hold rows in code.
-use Rattle.std.specs.Prelude.{ℕ, ◌+◌, ◌*◌, ◌==◌, ◌&&◌, not, nat_lt, if◌then◌else◌, Bool, List, length, map, fold, min, max}
 use Rattle.std.specs.List.{list_all, range_with_len}
-use Rattle.dr_entry.specs.declared.limits.TheConstants.{MAX_MEMBERS}
-use Rattle.dr_entry.specs.declared.record.Value.{Value}
+use Rattle.std.specs.Prelude.{ℕ, ◌+◌, ◌*◌, ◌==◌, ◌&&◌, not, nat_lt, if◌then◌else◌, Bool, List, length, map, fold, min, max}
+use Rattle.dr_entry.specs.{declared.limits.TheConstants.MAX_MEMBERS, declared.record.Value.Value}
 use Rattle.dr_history.specs.Members.{has, members_of}
-use Rattle.dr_words.specs.Accepts.{Shown, leavers_word, promise_of, tag_of, trim_word}
-use Rattle.dr_words.specs.Changes.{received, tagged_members}
-use Rattle.dr_words.specs.Columns.{recv_column}
-use Rattle.dr_words.specs.Masks.{least_of, mask_of, without}
+use Rattle.dr_words.specs.{Accepts.{Shown, leavers_word, promise_of, tag_of, trim_word}, Columns.recv_column}
+use Rattle.dr_words.specs.{Changes.{received, tagged_members}, Masks.{least_of, mask_of, without}}
 use Rattle.dr_words.specs.Packing.{accept_promise, accept_tag, accept_value, is_final}
 
 -- all members of a mask pass a test

@@ -1,9 +1,8 @@
 -- The bounds that words keep.
 use Rattle.std.specs.Prelude.{◌≡◌, ℕ, ◌^◌, ◌<◌, ◌≤◌, ◌⊎◌, List}
-use Rattle.dr_words.specs.declared.column.TheConstants.{SUSPECTED_COLUMN, DONE_COLUMN}
 use Rattle.dr_words.specs.Columns.{recv_column, leavers_column, trim_column}
-use Rattle.dr_words.specs.Rows.{word_at}
-use Rattle.dr_words.specs.Packing.{accept_promise, accept_tag, accept_value}
+use Rattle.dr_words.specs.{Packing.{accept_promise, accept_tag, accept_value}, Rows.word_at}
+use Rattle.dr_words.specs.declared.column.TheConstants.{SUSPECTED_COLUMN, DONE_COLUMN}
 
 -- the column holds an accept word
 abbrev pub IsAcceptColumn : ℕ → ℕ → Type 0

@@ -1,10 +1,7 @@
 -- What it is for words and rows to have grown.
 use Rattle.std.specs.Prelude.{◌≡◌, ℕ, ◌<◌, ◌≤◌, Bool, true, false, List, slice_index_or}
+use Rattle.dr_words.specs.{Columns.recv_column, Masks.IsPartOf, Packing.is_final, Rows.{row_of, word_at}}
 use Rattle.dr_words.specs.declared.column.TheConstants.{SUSPECTED_COLUMN}
-use Rattle.dr_words.specs.Masks.{IsPartOf}
-use Rattle.dr_words.specs.Columns.{recv_column}
-use Rattle.dr_words.specs.Rows.{row_of, word_at}
-use Rattle.dr_words.specs.Packing.{is_final}
 
 -- a word of this column is as before or has grown, in the sense of its column
 pub record HasGrown (members column old new : ℕ) : Type 0 where

@@ -2,10 +2,9 @@
 use Rattle.std.specs.Prelude.{ℕ, ◌-◌, ◌==◌, ◌&&◌, ◌||◌, nat_le, nat_lt, true, Bool, if◌then◌else◌}
 use Rattle.dr_entry.specs.declared.record.Value.{Value}
 use Rattle.dr_history.specs.Members.{has}
-use Rattle.dr_words.specs.declared.column.TheConstants.{SUSPECTED_COLUMN}
-use Rattle.dr_words.specs.Accepts.{part_of}
-use Rattle.dr_words.specs.Columns.{recv_column, leavers_column, trim_column}
+use Rattle.dr_words.specs.{Accepts.part_of, Columns.{recv_column, leavers_column, trim_column}}
 use Rattle.dr_words.specs.Packing.{recv_count, recv_word, accept_promise, accept_tag, accept_value, accept_word}
+use Rattle.dr_words.specs.declared.column.TheConstants.{SUSPECTED_COLUMN}
 
 -- the column is that of the recv word of one of these members of a roster of n
 abbrev pub is_recv_of : ℕ → ℕ → ℕ → Bool

@@ -1,7 +1,6 @@
 -- Rows of a group of some shape.
 use Rattle.std.specs.Prelude.{◌≡◌}
-use Rattle.dr_words.specs.declared.shape.Shape.{Shape}
-use Rattle.dr_words.specs.Columns.{columns_of}
+use Rattle.dr_words.specs.{Columns.columns_of, declared.shape.Shape.Shape}
 use Rattle.dr_rows.specs.Words.{Words}
 
 -- the rows have the members and the columns of the group of this shape

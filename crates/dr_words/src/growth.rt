@@ -1,7 +1,6 @@
 //! Laws of growth.
 ghost use Rattle.std.specs.Prelude.{ℕ, ◌≤◌, Bool, List};
-ghost use Rattle.dr_words.specs.Masks.{IsPartOf};
-ghost use Rattle.dr_words.specs.Grown.{Grown};
+ghost use Rattle.dr_words.specs.{Grown.Grown, Masks.IsPartOf};
 
 /// What stays as it is counts as grown, and what has grown twice has grown. A mask that has grown is no
 /// smaller a number.

@@ -1,6 +1,5 @@
 ghost use Rattle.std.specs.Prelude.{◌≡◌, ℕ, ◌+◌, ◌-◌, ◌*◌, ◌^◌, ◌<◌, ◌≤◌, ◌⊎◌, Bool, false};
-ghost use Rattle.dr_words.specs.Columns.{recv_column, leavers_column, trim_column, head_column};
-ghost use Rattle.dr_words.specs.Form.{IsInForm};
+ghost use Rattle.dr_words.specs.{Columns.{recv_column, leavers_column, trim_column, head_column}, Form.IsInForm};
 ghost use Rattle.dr_words.specs.Grown.{HasGrown};
 ghost use Rattle.dr_words.specs.Packing.{ring_word, ring_tag, ring_low, recv_word, recv_count, is_final, accept_word, accept_promise, accept_tag, accept_value};
 

@@ -1,24 +1,17 @@
 -- Replicas that have begun are the group's as its age opens.
-use Rattle.std.proofs.Common.{◌≡◌, sym, ap, ◌∙◌, subst, ℕ, ◌+◌, List, [], ◌∷◌, ◌++◌, map, replicate}
 use Rattle.std.specs.Prelude.{Option, Some, None, option_map}
+use Rattle.std.proofs.Common.{◌≡◌, sym, ap, ◌∙◌, subst, ℕ, ◌+◌, List, [], ◌∷◌, ◌++◌, map, replicate}
 use Rattle.std.proofs.lemmas.List.{length-map, length-replicate, map-append}
-use Rattle.dr_program.specs.declared.setup.Setup.{Setup}
-use Rattle.dr_machine.specs.Group.{Group, IsGroup, roster, banks}
-use Rattle.dr_machine.specs.World.{opening_world}
-use Rattle.dr_program.specs.Replica.{Replica, begun_replica}
-use Rattle.dr_program.specs.Program.{AreSetups}
-use Rattle.dr_entry.specs.declared.entry.Entry.{Entry}
-use Rattle.dr_program.specs.Form.{HasForm, IsOf}
-use Rattle.dr_script.specs.declared.script.Script.{Script}
-use Rattle.dr_restart.specs.declared.start.Start.{Start}
-use Rattle.dr_restart.specs.Groups.{group_of}
-use Rattle.dr_words.specs.Layout.{words_of}
-use Rattle.dr_world.specs.Held.{Held, AreMembers, IsHeld, its_world}
-use Rattle.dr_restart.proofs.Setups.{absent, are_setups, more, none}
-use Rattle.dr_world.specs.Begun.{HasReplica, HaveBegun}
+use Rattle.dr_program.specs.{Form.{HasForm, IsOf}, Program.AreSetups, Replica.{Replica, begun_replica}}
+use Rattle.dr_program.{specs.declared.setup.Setup.Setup, proofs.{Opening.begun_world, OpeningForm.{begins, begun_at}}}
 use Rattle.dr_program.proofs.Present.{present_map}
-use Rattle.dr_program.proofs.OpeningForm.{begins, begun_at}
-use Rattle.dr_program.proofs.Opening.{begun_world}
+use Rattle.dr_machine.specs.{Group.{Group, IsGroup, roster, banks}, World.opening_world}
+use Rattle.dr_entry.specs.declared.entry.Entry.{Entry}
+use Rattle.dr_script.specs.declared.script.Script.{Script}
+use Rattle.dr_restart.specs.{Groups.group_of, declared.start.Start.Start}
+use Rattle.dr_restart.proofs.Setups.{absent, are_setups, more, none}
+use Rattle.dr_words.specs.Layout.{words_of}
+use Rattle.dr_world.specs.{Begun.{HasReplica, HaveBegun}, Held.{Held, AreMembers, IsHeld, its_world}}
 
 -- ---- the replicas that begin
 
@@ -57,8 +50,7 @@ begun_more script start n rs qs (Some r) so_far (s, setup, begins) pushed = (
 begun_more script start n rs qs None so_far away pushed = (
   so_far.0 ++ None ∷ [],
   absent script start 0 n so_far.0 so_far.1 away,
-  pushed ∙ (λ z. so_far.2 z ++ None ∷ [])
-      ∙ sym (map-append (option_map begun_replica) so_far.0 (None ∷ [])),
+  pushed ∙ (λ z. so_far.2 z ++ None ∷ []) ∙ sym (map-append (option_map begun_replica) so_far.0 (None ∷ [])),
 )
 
 -- ---- the world
@@ -80,8 +72,7 @@ pub opened : (script : Script) (start : Start) (h : Held) (k : ℕ) → h.script
     ≡ start → IsGroup (group_of script start)
     → script.members ≡ roster (group_of script start) → HaveBegun script start script.members h.replicas
     → k ≡ words_of script.members script.window (banks (group_of script start)) → h.table ≡ replicate k 0
-    → h.letters ≡ replicate script.members None
-    → IsHeld h × (its_world h ≡ opening_world (group_of script start))
+    → h.letters ≡ replicate script.members None → IsHeld h × (its_world h ≡ opening_world (group_of script start))
 opened script start h k same likewise is all begun words zeros none =
     subst (λ (x : Held). IsHeld x × (its_world x ≡ opening_world (group_of script start))) (sym held) (
       record {

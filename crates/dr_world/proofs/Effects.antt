@@ -1,41 +1,24 @@
 -- What an event makes of the replica of its member and of the table is its effect on the world.
+use Rattle.std.{specs.Prelude.{None, Option, Some, is_some, slice_index}, proofs.lemmas.Bool.and_parts}
 use Rattle.std.proofs.Common.{◌≡◌, ◌≢◌, refl, sym, ap, ◌∙◌, subst, inl, inr, ℕ, ◌<◌, ◌&&◌, true, false, not, List, arith}
-use Rattle.std.specs.Prelude.{None, Option, Some, is_some, slice_index}
-use Rattle.std.proofs.lemmas.Bool.{and_parts}
 use Rattle.dr_entry.specs.declared.entry.Entry.{Entry}
 use Rattle.dr_history.specs.Members.{has}
 use Rattle.dr_rows.specs.Words.{seen}
-use Rattle.dr_words.specs.Form.{IsInForm}
-use Rattle.dr_words.specs.Grown.{HasGrown}
-use Rattle.dr_words.specs.Layout.{word_index_of}
-use Rattle.dr_machine.specs.declared.event.Event.{Event}
-use Rattle.dr_machine.specs.declared.step.Step.{Step}
-use Rattle.dr_machine.specs.declared.step.Step.TheVariants.{Look}
-use Rattle.dr_machine.specs.Events.{member_of, step_of}
-use Rattle.dr_machine.proofs.Runs.{events_reached}
-use Rattle.dr_machine.specs.Group.{Group, banks, roster, columns}
-use Rattle.dr_machine.specs.World.{World}
-use Rattle.dr_machine.specs.Acts.{effect, effect_of}
-use Rattle.dr_machine.specs.Effects.{joins}
-use Rattle.dr_machine.specs.Run.{IsReached}
-use Rattle.dr_program.specs.Replica.{Replica, is_inside, is_other}
-use Rattle.dr_program.specs.Steps.{has_cell, allows, found, stored, stored_letters}
-use Rattle.dr_program.specs.Reading.{Shared, letters_of, world_of}
-use Rattle.dr_program.proofs.Runs.{joins_outside}
-use Rattle.dr_faithful.specs.Faithful.{Faithful}
-use Rattle.dr_faithful.specs.Chosen.{views_by}
+use Rattle.dr_words.specs.{Form.IsInForm, Grown.HasGrown, Layout.word_index_of}
+use Rattle.dr_machine.specs.{Acts.{effect, effect_of}, Events.{member_of, step_of}, declared.event.Event.Event}
+use Rattle.dr_machine.{specs.{Effects.joins, Run.IsReached, World.World}, proofs.Runs.events_reached}
+use Rattle.dr_machine.specs.{Group.{Group, banks, roster, columns}, declared.step.Step.{Step, TheVariants.Look}}
+use Rattle.dr_program.{specs.Presence.{present_at, with_present}, proofs.Runs.joins_outside}
+use Rattle.dr_program.specs.{Reading.{Shared, letters_of, world_of}, Replica.{Replica, is_inside, is_other}}
+use Rattle.dr_program.{specs.Steps.{has_cell, allows, found, stored, stored_letters}, proofs.Present.present_within}
+use Rattle.dr_faithful.specs.{Chosen.views_by, Faithful.Faithful}
 use Rattle.dr_world_laws.proofs.Worlds.{Known, faithful, known}
-use Rattle.dr_refine.specs.Programs.{IsMember, stored_in}
-use Rattle.dr_refine.proofs.Joins.{join_effect}
-use Rattle.dr_refine.proofs.Tables.{word_inside}
-use Rattle.dr_refine.proofs.Guards.{other_member, other_within, seen_is}
-use Rattle.dr_refine.proofs.Tests.{step_effect, cell_test, word_is}
+use Rattle.dr_refine.{specs.Programs.{IsMember, stored_in}, proofs.Guards.{other_member, other_within, seen_is}}
+use Rattle.dr_refine.proofs.{Joins.join_effect, Tables.word_inside, Tests.{step_effect, cell_test, word_is}}
 use Rattle.dr_program_laws.proofs.Letters.{letter_goes_on}
 use Rattle.dr_world.specs.Held.{Held, its_group, its_world, shared_of, IsHeld}
 use Rattle.dr_world.specs.Steps.{IsSight, finds_letter, joined_by, stepped_with}
 use Rattle.dr_world.proofs.Guarding.{is_member, join_or_not}
-use Rattle.dr_program.specs.Presence.{present_at, with_present}
-use Rattle.dr_program.proofs.Present.{present_within}
 
 -- ---- effects
 
@@ -52,18 +35,14 @@ after h e r = record h {
 with_letter : (g : Group) (rs : List (Option Replica)) (table : Shared) (m : ℕ) (r : Replica)
     → IsMember g rs table m r → IsReached g (world_of g rs table) → is_inside r ≡ false
     → is_some (letters_of table.letters m) ≡ true
-    → world_of g (with_present rs m (joined_by (letters_of table.letters m) r)) table
-    ≡ joins (world_of g rs table) m
+    → world_of g (with_present rs m (joined_by (letters_of table.letters m) r)) table ≡ joins (world_of g rs table) m
 with_letter g rs table m r is reached outside found = by (letters_of table.letters m) refl found
   where
-    by : (o : Option (List Entry)) → letters_of table.letters m ≡ o → is_some o ≡ true
-        → world_of g (with_present rs m (joined_by (letters_of table.letters m) r)) table
-        ≡ joins (world_of g rs table) m
+    by : (o : Option (List Entry)) → letters_of table.letters m ≡ o → is_some o ≡ true → world_of g (with_present rs m
+        (joined_by (letters_of table.letters m) r)) table ≡ joins (world_of g rs table) m
     by None e found = absurd (cc found)
-    by (Some letter) e found =
-        ap (λ o. world_of g (with_present rs m (joined_by o r)) table) e
-        ∙ join_effect g rs table m r letter is outside e
-        (letter_goes_on g rs table m r letter is reached outside e)
+    by (Some letter) e found = ap (λ o. world_of g (with_present rs m (joined_by o r)) table) e
+        ∙ join_effect g rs table m r letter is outside e (letter_goes_on g rs table m r letter is reached outside e)
 
 -- a step with the letter that it finds is its effect
 with_effect : (g : Group) (rs : List (Option Replica)) (table : Shared) (m : ℕ) (r : Replica) (s : Step)
@@ -72,24 +51,19 @@ with_effect : (g : Group) (rs : List (Option Replica)) (table : Shared) (m : ℕ
     → world_of g (with_present rs m (stepped_with (letters_of table.letters m) table.words r s))
     (stored_in table r s) ≡ effect_of g (world_of g rs table) m s
 with_effect g rs table m r s is reached may finds = elim (join_or_not s) [
-  | inl join ↦
-      subst (λ s. finds_letter (letters_of table.letters m) s ≡ true
+  | inl join ↦ subst (λ s. finds_letter (letters_of table.letters m) s ≡ true
       → world_of g (with_present rs m (stepped_with (letters_of table.letters m) table.words r s))
-      (stored_in table r s) ≡ effect_of g (world_of g rs table) m s) (sym join)
-      (with_letter g rs table m r is reached (joins_outside r s join may)) finds
-  | inr (other, over) ↦
-      ap (λ q. world_of g (with_present rs m q) (stored_in table r s))
-      (over (letters_of table.letters m) table.words r)
-      ∙ step_effect g rs table m r s is may other
+      (stored_in table r s) ≡ effect_of g (world_of g rs table) m s)
+      (sym join) (with_letter g rs table m r is reached (joins_outside r s join may)) finds
+  | inr (other, over) ↦ ap (λ q. world_of g (with_present rs m q) (stored_in table r s))
+      (over (letters_of table.letters m) table.words r) ∙ step_effect g rs table m r s is may other
 ]
 
 -- what an event makes of what is held is its effect
 pub take_effect : (h : Held) (e : Event) (r : Replica) → IsHeld h → present_at h.replicas (member_of e)
-    ≡ Some r → allows r (step_of e) ≡ true
-    → finds_letter (letters_of h.letters (member_of e)) (step_of e) ≡ true
+    ≡ Some r → allows r (step_of e) ≡ true → finds_letter (letters_of h.letters (member_of e)) (step_of e) ≡ true
     → its_world (after h e r) ≡ effect (its_group h) (its_world h) e
-take_effect h e r is there may finds =
-    with_effect (its_group h) h.replicas (shared_of h) (member_of e) r (step_of e)
+take_effect h e r is there may finds = with_effect (its_group h) h.replicas (shared_of h) (member_of e) r (step_of e)
     (is_member h (member_of e) r is there) (events_reached (its_group h) (its_world h) is.events) may finds
 
 -- ---- looks
@@ -99,8 +73,7 @@ pub word_there : (h : Held) (m v i c : ℕ) → v ≡ (its_world h).past.view m 
     → m < roster (its_group h) → i < roster (its_group h) → c < columns (its_group h)
     → slice_index h.table (word_index_of (roster (its_group h)) (its_group h).window v m i c)
     ≡ (its_world h).table ((its_world h).past.view m) m i c
-word_there h m v i c view bank copy row column =
-    sym (word_inside (its_group h) h.table v m i c bank copy row column)
+word_there h m v i c view bank copy row column = sym (word_inside (its_group h) h.table v m i c bank copy row column)
     ∙ ap (λ b. (its_world h).table b m i c) view
 
 -- what a look finds is in form, and has grown from the word last seen

@@ -1,24 +1,16 @@
 -- The test of an event at the replica of its member is the guard of that event, in every world that is
 -- reached.
+use Rattle.std.{specs.Prelude.{None, Option, Some}, proofs.lemmas.Bool.{and_from, and_parts}}
 use Rattle.std.proofs.Common.{◌≡◌, ◌⊎◌, inl, inr, ◌↔◌, refl, ℕ, true, false, not, Bool, List}
-use Rattle.std.specs.Prelude.{None, Option, Some}
-use Rattle.std.proofs.lemmas.Bool.{and_from, and_parts}
 use Rattle.dr_entry.specs.declared.entry.Entry.{Entry}
-use Rattle.dr_machine.specs.declared.event.Event.{Event}
-use Rattle.dr_machine.specs.declared.step.Step.{Step}
-use Rattle.dr_machine.specs.declared.step.Step.TheVariants.{Join}
-use Rattle.dr_machine.specs.Events.{member_of, step_of}
-use Rattle.dr_machine.proofs.Runs.{events_reached}
-use Rattle.dr_machine.specs.Acts.{Guard}
-use Rattle.dr_program.specs.Reading.{letters_of}
-use Rattle.dr_program.specs.Replica.{Replica, is_inside}
+use Rattle.dr_machine.specs.{Acts.Guard, Events.{member_of, step_of}, declared.{event.Event.Event, step.Step.Step}}
+use Rattle.dr_machine.{specs.declared.step.Step.TheVariants.Join, proofs.Runs.events_reached}
+use Rattle.dr_program.specs.{Presence.present_at, Reading.letters_of, Replica.{Replica, is_inside}}
 use Rattle.dr_program.specs.Steps.{HasLetter, IsNoJoin, allows, may_take, stepped_over}
-use Rattle.dr_refine.specs.Programs.{IsMember}
-use Rattle.dr_refine.proofs.Tests.{step_test}
+use Rattle.dr_refine.{specs.Programs.IsMember, proofs.Tests.step_test}
 use Rattle.dr_program_laws.proofs.Bounds.{has_room}
 use Rattle.dr_world.specs.Held.{Held, its_group, its_world, shared_of, IsHeld}
 use Rattle.dr_world.specs.Steps.{finds_letter, may_come, stepped_with}
-use Rattle.dr_program.specs.Presence.{present_at}
 
 -- ---- a member of what is held
 
@@ -44,15 +36,13 @@ join_or_not s = inr (tt, λ letter table r. refl)
 -- ---- the guard
 
 -- a letter is there where one is needed
-pub letter_test : (letter : Option (List Entry)) (s : Step)
-    → (finds_letter letter s ≡ true) ↔ HasLetter letter s
+pub letter_test : (letter : Option (List Entry)) (s : Step) → (finds_letter letter s ≡ true) ↔ HasLetter letter s
 letter_test None Join = (λ e. absurd (cc e), λ found. absurd (cc found.1))
 letter_test (Some es) Join = (λ e. (es, refl), λ found. refl)
 letter_test letter s = (λ e. tt, λ found. refl)
 
 -- the test of an event is its guard
-pub take_test : (h : Held) (e : Event) (r : Replica) → IsHeld h → present_at h.replicas (member_of e)
-    ≡ Some r
+pub take_test : (h : Held) (e : Event) (r : Replica) → IsHeld h → present_at h.replicas (member_of e) ≡ Some r
     → (may_come (Some r) (letters_of h.letters (member_of e)) (step_of e) ≡ true)
     ↔ Guard (its_group h) (its_world h) e
 take_test h e r is there =

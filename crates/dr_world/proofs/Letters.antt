@@ -1,37 +1,25 @@
 -- Letters: whose they are, how many there are, and that a list is left for each that may be given.
+use Rattle.std.{specs.Prelude.{None, Option, Some, is_some, slice_set}, proofs.lemmas.Bool.cases_lt}
 use Rattle.std.proofs.Common.{◌≡◌, ◌⊎◌, ap, sym, subst, ◌∙◌, ℕ, zero, suc, ◌+◌, ◌-◌, ◌<◌, ◌≤◌, ◌&&◌, inl, inr, refl, Bool, true, false, not, List, [], ◌∷◌, length, take, if◌then◌else◌, cond, arith}
-use Rattle.std.specs.Prelude.{None, Option, Some, is_some, slice_set}
-use Rattle.std.proofs.lemmas.Bool.{cases_lt}
-use Rattle.std.proofs.lemmas.List.{length-set, take_all}
-use Rattle.std.proofs.lemmas.List.Sums.{count_by_more_no, count_by_more_yes, sum_by-cons}
+use Rattle.std.proofs.lemmas.List.{length-set, take_all, Sums.{count_by_more_no, count_by_more_yes, sum_by-cons}}
 use Rattle.dr_entry.specs.declared.entry.Entry.{Entry}
-use Rattle.dr_history.specs.History.{up_to_view}
-use Rattle.dr_history.specs.Members.{has, members_below, members_of}
+use Rattle.dr_history.specs.{History.up_to_view, Members.{has, members_below, members_of}}
 use Rattle.dr_history.proofs.Ranks.{length-members_below_suc}
+use Rattle.dr_machine.specs.{Group.{Group, IsGroup, late_members, roster}, Run.IsReached, World.World}
 use Rattle.dr_machine.specs.declared.step.Step.{Step}
-use Rattle.dr_machine.specs.Group.{Group, IsGroup, late_members, roster}
-use Rattle.dr_machine.specs.Run.{IsReached}
-use Rattle.dr_machine.specs.World.{World}
 use Rattle.dr_words.proofs.Masks.{has_without_mask, in_roster_small}
-use Rattle.dr_program.specs.Presence.{present_at}
-use Rattle.dr_program.specs.Reading.{letters_of}
-use Rattle.dr_program.specs.Replica.{Replica}
-use Rattle.dr_program.specs.Steps.{given_to, stored_letters}
-use Rattle.dr_program.proofs.Present.{MayGet}
+use Rattle.dr_program.specs.{Presence.present_at, Reading.letters_of, Replica.Replica}
+use Rattle.dr_program.{specs.Steps.{given_to, stored_letters}, proofs.Present.MayGet}
 use Rattle.dr_refine.proofs.Tests.{letters_then}
-use Rattle.dr_world_laws.proofs.ChosenViews.{views-first, views-there}
-use Rattle.dr_world_laws.proofs.Letters.{IsLetter}
-use Rattle.dr_world_laws.proofs.Worlds.{Known, known}
-use Rattle.dr_world.specs.Posts.{count_filled}
-use Rattle.dr_world.specs.Steps.{lists_left}
+use Rattle.dr_world_laws.proofs.{ChosenViews.{views-first, views-there}, Letters.IsLetter, Worlds.{Known, known}}
+use Rattle.dr_world.specs.{Posts.count_filled, Steps.lists_left}
 
 -- ---- whose they are
 
 -- a letter is there for a late member alone
 pub letter_late : (g : Group) (w : World) (j : ℕ) (letter : List Entry) → IsGroup g → IsReached g w
     → w.letter j ≡ Some letter → has (late_members g) j ≡ true
-letter_late g w j letter is reached there =
-    has_without_mask g.opening.present g.opening.members j
+letter_late g w j letter is reached there = has_without_mask g.opening.present g.opening.members j
     (in_roster_small 16 g.opening.present (λ i h. omega (arith, is.sound.present i h, is.most_members)))
     ∙ both (has g.opening.present j) (has g.opening.members j) present outside
   where
@@ -56,14 +44,12 @@ letter_late g w j letter is reached there =
 filled_next : {A : Type 0} (places : List (Option A)) (n : ℕ) (o : Option A) → n < length places
     → present_at places n ≡ o
     → count_filled (take (n + 1) places) ≡ count_filled (take n places) + (if is_some o then 1 else 0)
-filled_next places n None within e =
-    count_by_more_no is_some places n None within (ap is_some e) ∙ omega arith
+filled_next places n None within e = count_by_more_no is_some places n None within (ap is_some e) ∙ omega arith
 filled_next places n (Some x) within e = count_by_more_yes is_some places n None within (ap is_some e)
 
 -- and one member of a mask more
 filled_more : {A : Type 0} (places : List (Option A)) (mask n : ℕ) (o : Option A)
-    → n < length places → present_at places n ≡ o
-    → ((x : A) → o ≡ Some x → has mask n ≡ true)
+    → n < length places → present_at places n ≡ o → ((x : A) → o ≡ Some x → has mask n ≡ true)
     → count_filled (take n places) ≤ length (members_below mask n)
     → count_filled (take (n + 1) places) ≤ length (members_below mask (suc n))
 filled_more places mask n None within e named before = omega (
@@ -76,8 +62,7 @@ filled_more places mask n (Some x) within e named before = omega (
   arith,
   before,
   filled_next places n (Some x) within e,
-  length-members_below_suc mask n
-      ∙ ap (λ b. length (members_below mask n) + (if b then 1 else 0)) (named x refl),
+  length-members_below_suc mask n ∙ ap (λ b. length (members_below mask n) + (if b then 1 else 0)) (named x refl),
 )
 
 filled_past : {A : Type 0} (places : List (Option A)) (mask n : ℕ) → length places ≤ n
@@ -108,9 +93,8 @@ filled_below {A} places mask (suc n) named = by (cases_lt n (length places)) (fi
     by (inr past) before = subst (λ k. count_filled (take k places) ≤ length (members_below mask (suc n))) next
         (filled_past places mask n past before)
 
-filled_few : {A : Type 0} (places : List (Option A)) (mask : ℕ) → length places ≤ 16
-    → ((k : ℕ) (x : A) → present_at places k ≡ Some x → has mask k ≡ true)
-    → count_filled places ≤ length (members_of mask)
+filled_few : {A : Type 0} (places : List (Option A)) (mask : ℕ) → length places ≤ 16 → ((k : ℕ)
+    (x : A) → present_at places k ≡ Some x → has mask k ≡ true) → count_filled places ≤ length (members_of mask)
 unfolding members_of
 filled_few places mask few named =
     omega (arith, filled_below places mask 16 named, ap count_filled (take_all 16 places few))
@@ -137,17 +121,15 @@ filled_set (o ∷ places) (suc j) x within none = omega (
 letters_few : (g : Group) (w : World) (letters : List (Option (List Entry))) → IsGroup g → IsReached g w
     → length letters ≡ roster g → w.letter ≡ letters_of letters
     → count_filled letters ≤ length (members_of (late_members g))
-letters_few g w letters is reached long are =
-    filled_few letters (late_members g) (omega (arith, long, is.most_members))
-    (λ k x e. letter_late g w k x is reached (ap (λ f. f k) are ∙ e))
+letters_few g w letters is reached long are = filled_few letters (late_members g)
+    (omega (arith, long, is.most_members)) (λ k x e. letter_late g w k x is reached (ap (λ f. f k) are ∙ e))
 
 -- ---- the lists that are left
 
 -- so a list is left for it, where after the welcome the letters are those of a reached world
 pub list_left : (g : Group) (after : World) (letters : List (Option (List Entry))) (j left : ℕ) (x : List Entry)
-    → IsGroup g → IsReached g after → length letters ≡ roster g
-    → after.letter ≡ letters_of (slice_set letters j (Some x)) → MayGet g letters j
-    → length (members_of (late_members g)) ≤ left + count_filled letters → 0 < left
+    → IsGroup g → IsReached g after → length letters ≡ roster g → after.letter ≡ letters_of (slice_set letters j
+    (Some x)) → MayGet g letters j → length (members_of (late_members g)) ≤ left + count_filled letters → 0 < left
 list_left g after letters j left x is reached long are may enough = omega (
   arith,
   enough,
@@ -157,9 +139,8 @@ list_left g after letters j left x is reached long are may enough = omega (
 
 -- and enough are left then
 pub enough_after : (letters : List (Option (List Entry))) (left late : ℕ) (r : Replica) (s : Step)
-    → late ≤ left + count_filled letters
-    → ((j : ℕ) → given_to s ≡ Some j → (0 < left) × (present_at letters j ≡ None) × (j < length letters))
-    → late ≤ lists_left left s + count_filled (stored_letters letters r s)
+    → late ≤ left + count_filled letters → ((j : ℕ) → given_to s ≡ Some j → (0 < left) × (present_at letters j ≡ None)
+    × (j < length letters)) → late ≤ lists_left left s + count_filled (stored_letters letters r s)
 enough_after letters left late r s enough free = elim (letters_then letters r s) [
   | inl (j, welcome) ↦
       let may = free j (ap given_to welcome) in

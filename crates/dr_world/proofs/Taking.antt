@@ -1,41 +1,28 @@
 -- What is held stays the members of the group, in a world that is reached.
-use Rattle.std.proofs.Common.{◌≡◌, ◌≢◌, refl, sym, ap, ◌∙◌, subst, ℕ, ◌+◌, ◌<◌, ◌≤◌, ◌⊎◌, inl, inr, true, false, List, [], ◌∷◌, length, take, get_or, arith}
 use Rattle.std.specs.Prelude.{IfSome, None, Some, Option}
-use Rattle.std.proofs.lemmas.Bool.{and_from, and_parts, cases_eq}
-use Rattle.std.proofs.lemmas.List.{length-set, take_more}
+use Rattle.std.proofs.Common.{◌≡◌, ◌≢◌, refl, sym, ap, ◌∙◌, subst, ℕ, ◌+◌, ◌<◌, ◌≤◌, ◌⊎◌, inl, inr, true, false, List, [], ◌∷◌, length, take, get_or, arith}
+use Rattle.std.proofs.lemmas.{Bool.{and_from, and_parts, cases_eq}, List.{length-set, take_more}}
 use Rattle.dr_entry.specs.declared.entry.Entry.{Entry}
 use Rattle.dr_form.specs.Letters.{IsFitting}
-use Rattle.dr_history.specs.History.{up_to_view}
-use Rattle.dr_history.specs.Members.{members_of}
+use Rattle.dr_history.specs.{History.up_to_view, Members.members_of}
 use Rattle.dr_restart.specs.Groups.{group_of}
 use Rattle.dr_words.specs.Layout.{words_of}
-use Rattle.dr_machine.specs.declared.event.Event.{Event}
-use Rattle.dr_machine.specs.declared.step.Step.{Step}
-use Rattle.dr_machine.specs.Events.{member_of, step_of}
-use Rattle.dr_machine.specs.Group.{Group, banks, late_members}
-use Rattle.dr_machine.specs.Acts.{CanTake, Guard, effect}
-use Rattle.dr_machine.specs.Run.{ComesOfEvents, Happens, Run, WordsGrew}
-use Rattle.dr_program.specs.Replica.{Replica, is_inside, me}
-use Rattle.dr_program.specs.Form.{HasForm, IsOf}
-use Rattle.dr_machine.proofs.Runs.{events_more, events_reached, run_on}
+use Rattle.dr_machine.{specs.Acts.{CanTake, Guard, effect}, proofs.Runs.{events_more, events_reached, run_on}}
+use Rattle.dr_machine.specs.{Events.{member_of, step_of}, declared.{event.Event.Event, step.Step.Step}}
+use Rattle.dr_machine.specs.{Group.{Group, banks, late_members}, Run.{ComesOfEvents, Happens, Run, WordsGrew}}
+use Rattle.dr_program.specs.{Form.{HasForm, IsOf}, Steps.{allows, given_to, may_take, sight, stored, stored_letters}}
+use Rattle.dr_program.specs.{Presence.{present_at, with_present}, Replica.{Replica, is_inside, me}}
+use Rattle.dr_program.{specs.Reading.letters_of, proofs.Runs.joins_outside}
+use Rattle.dr_program.proofs.{Fixed.{Told, join_told, told, step_told, of_told}, Replicas.{allowed, place_at}}
+use Rattle.dr_program.proofs.Present.{present_within, present_set, present_kept, MayGet, set_cases}
 use Rattle.dr_faithful.proofs.Faithfulness.{of_present, of_roster}
-use Rattle.dr_program.proofs.Fixed.{Told, join_told, told, step_told, of_told}
-use Rattle.dr_program.proofs.Runs.{joins_outside}
 use Rattle.dr_world_laws.proofs.Worlds.{known, words_grew}
-use Rattle.dr_refine.proofs.Steps.{posts_length, stored_length}
-use Rattle.dr_refine.proofs.Tests.{given_welcome}
+use Rattle.dr_refine.proofs.{Steps.{posts_length, stored_length}, Tests.given_welcome}
 use Rattle.dr_program_laws.proofs.Letters.{letter_fits, may_get}
 use Rattle.dr_world.specs.Held.{Held, its_group, its_world, shared_of, AreMembers, IsHeld}
-use Rattle.dr_program.specs.Reading.{letters_of}
-use Rattle.dr_program.specs.Steps.{allows, given_to, may_take, sight, stored, stored_letters}
-use Rattle.dr_world.specs.Posts.{HasLists, PostsOf, count_filled}
+use Rattle.dr_world.{specs.Posts.{HasLists, PostsOf, count_filled}, proofs.Letters.{enough_after, list_left}}
 use Rattle.dr_world.specs.Steps.{IsReadyFor, finds_letter, joined_by, may_come, posts_after, stepped_with}
-use Rattle.dr_world.proofs.Guarding.{is_member, join_or_not, take_test}
-use Rattle.dr_world.proofs.Effects.{after, in_sight, take_effect}
-use Rattle.dr_world.proofs.Letters.{enough_after, list_left}
-use Rattle.dr_program.specs.Presence.{present_at, with_present}
-use Rattle.dr_program.proofs.Present.{present_within, present_set, present_kept, MayGet, set_cases}
-use Rattle.dr_program.proofs.Replicas.{allowed, place_at}
+use Rattle.dr_world.proofs.{Effects.{after, in_sight, take_effect}, Guarding.{is_member, join_or_not, take_test}}
 
 -- ---- what no event changes of a replica
 
@@ -54,8 +41,7 @@ with_told letter table r s = elim (join_or_not s) [
 -- ---- the members
 
 members_kept : (g : Group) (rs : List (Option Replica)) (m : ℕ) (r q : Replica) → AreMembers g rs
-    → present_at rs m ≡ Some r → HasForm q → told q ≡ told r
-    → AreMembers g (with_present rs m q)
+    → present_at rs m ≡ Some r → HasForm q → told q ≡ told r → AreMembers g (with_present rs m q)
 members_kept g rs m r q are there form same = record {
   all = length-set rs m (Some q) ∙ are.all;
   there = λ k below here. still k (cases_eq k m) (are.there k below here);
@@ -68,17 +54,14 @@ members_kept g rs m r q are there form same = record {
 
     still : (k : ℕ) → (k ≡ m) ⊎ (k ≢ m) → (x : Replica) × (present_at rs k ≡ Some x)
         → (x : Replica) × (present_at (with_present rs m q) k ≡ Some x)
-    still k (inl here) (x, at) =
-        (q, ap (present_at (with_present rs m q)) here ∙ present_set rs m q within)
+    still k (inl here) (x, at) = (q, ap (present_at (with_present rs m q)) here ∙ present_set rs m q within)
     still k (inr other) (x, at) = (x, present_kept rs m k q other ∙ at)
 
-    by_form : (k : ℕ) (x : Replica) → ((k ≡ m) × (q ≡ x)) ⊎ (present_at rs k ≡ Some x)
-        → HasForm x
+    by_form : (k : ℕ) (x : Replica) → ((k ≡ m) × (q ≡ x)) ⊎ (present_at rs k ≡ Some x) → HasForm x
     by_form k x (inl here) = subst HasForm here.1 form
     by_form k x (inr other) = are.form k x other
 
-    by_of : (k : ℕ) (x : Replica) → ((k ≡ m) × (q ≡ x)) ⊎ (present_at rs k ≡ Some x)
-        → IsOf g k x
+    by_of : (k : ℕ) (x : Replica) → ((k ≡ m) × (q ≡ x)) ⊎ (present_at rs k ≡ Some x) → IsOf g k x
     by_of k x (inl here) = subst (IsOf g k) here.1
         (subst (λ i. IsOf g i q) (sym here.0) (of_told g m r q same (are.of m r there)))
     by_of k x (inr other) = are.of k x other
@@ -94,8 +77,7 @@ pub record MayHappen (h : Held) (e : Event) (r : Replica) : Type 0 where
 
 -- it happens
 happens_guard : (h : Held) (e : Event) (r : Replica) → MayHappen h e r → Guard (its_group h) (its_world h) e
-happens_guard h e r x = (take_test h e r x.held x.there).0
-    (and_from (may_take r (step_of e)) _ x.may x.finds)
+happens_guard h e r x = (take_test h e r x.held x.there).0 (and_from (may_take r (step_of e)) _ x.may x.finds)
 
 happens_effect : (h : Held) (e : Event) (r : Replica) → MayHappen h e r
     → its_world (after h e r) ≡ effect (its_group h) (its_world h) e
@@ -123,11 +105,9 @@ happens_held h e r x form = record {
 -- the words grow
 happens_grew : (h : Held) (e : Event) (r : Replica) → MayHappen h e r
     → WordsGrew (its_group h) (its_world h) (its_world (after h e r))
-happens_grew h e r x =
-    subst (WordsGrew (its_group h) (its_world h)) (sym (happens_effect h e r x))
+happens_grew h e r x = subst (WordsGrew (its_group h) (its_world h)) (sym (happens_effect h e r x))
     (words_grew (its_group h) (its_world h) e x.held.group (known (its_group h) (its_world h) x.held.group
-    (events_reached (its_group h) (its_world h) x.held.events))
-    (happens_guard h e r x))
+    (events_reached (its_group h) (its_world h) x.held.events)) (happens_guard h e r x))
 
 -- whom a welcome gives a letter has none, and a list is left for it
 happens_list : (h : Held) (e : Event) (r : Replica) (j left : ℕ) → MayHappen h e r → given_to (step_of e) ≡ Some j
@@ -162,8 +142,7 @@ happens_lists h e r q p x same as_told lists = record {
       (present_within h.replicas (member_of e) r x.there) is);
 }
   where
-    by : (k : ℕ) (y : Replica) → ((k ≡ member_of e) × (q ≡ y)) ⊎ (present_at h.replicas k ≡ Some y)
-        → y.room ≤ p.room
+    by : (k : ℕ) (y : Replica) → ((k ≡ member_of e) × (q ≡ y)) ⊎ (present_at h.replicas k ≡ Some y) → y.room ≤ p.room
     by k y (inl here) = subst (λ (z : Replica). z.room ≤ p.room) here.1
         (subst (λ (t : Told). t.room ≤ p.room) (sym as_told) (lists.room (member_of e) r x.there))
     by k y (inr other) = lists.room k y other
@@ -175,17 +154,15 @@ happens_fitting h e r x outside = by (letters_of h.letters (member_of e)) refl
   where
     by : (o : Option (List Entry)) → letters_of h.letters (member_of e) ≡ o → IfSome o (IsFitting r)
     by None f = tt
-    by (Some letter) f = letter_fits (its_group h) h.replicas (shared_of h) (member_of e) r letter
-        (is_member h (member_of e) r x.held x.there)
-        (events_reached (its_group h) (its_world h) x.held.events) outside f
+    by (Some letter) f = letter_fits (its_group h) h.replicas (shared_of h) (member_of e) r letter (is_member h
+        (member_of e) r x.held x.there) (events_reached (its_group h) (its_world h) x.held.events) outside f
 
 -- the table has the words of the shape that its replicas know
 words_within : (h : Held) (m : ℕ) (r : Replica) → IsHeld h → present_at h.replicas m ≡ Some r
     → length h.table ≡ words_of r.roster r.window r.banks
 words_within h m r is there =
     let of : IsOf (its_group h) m r = is.members.of m r there in
-    is.table
-    ∙ ap (λ n. words_of n (its_group h).window (banks (its_group h))) (sym of.members)
+    is.table ∙ ap (λ n. words_of n (its_group h).window (banks (its_group h))) (sym of.members)
     ∙ ap (λ w. words_of r.roster w (banks (its_group h))) (sym of.window)
     ∙ ap (words_of r.roster r.window) (sym of.banks)
 
@@ -243,8 +220,7 @@ refused_event h now e same not_now =
 
 -- a step that may come there is one of a replica that stands there
 pub may_stand : (h : Held) (m n : ℕ) (e : Event) (first then : Option Replica) (letter : Option (List Entry))
-    → n ≡ length h.replicas
-    → m < n → first ≡ get_or h.replicas m first → then ≡ get_or h.replicas m then
+    → n ≡ length h.replicas → m < n → first ≡ get_or h.replicas m first → then ≡ get_or h.replicas m then
     → may_come first letter (step_of e) ≡ true → then ≡ None → ⊥
 may_stand h m n e first then letter long within one other may none =
     let same : first ≡ None = sym (place_at h.replicas m n first long within one)
@@ -253,8 +229,7 @@ may_stand h m n e first then letter long within one other may none =
 
 -- and that event comes
 pub may_still : (h : Held) (m n : ℕ) (e : Event) (first then : Option Replica) (letter : Option (List Entry))
-    (r : Replica)
-    → IsHeld h → m ≡ member_of e → n ≡ length h.replicas → m < n → first ≡ get_or h.replicas m first
+    (r : Replica) → IsHeld h → m ≡ member_of e → n ≡ length h.replicas → m < n → first ≡ get_or h.replicas m first
     → then ≡ get_or h.replicas m then → letter ≡ letters_of h.letters (member_of e)
     → may_come first letter (step_of e) ≡ true → then ≡ Some r → MayHappen h e r
 may_still h m n e first then letter r is number long within one other found may some =
@@ -323,12 +298,10 @@ pub ran_more : (first old new : Held) (events : List Event) (i : ℕ) (d : Event
     → Run (its_group first) (its_world first) (take (i + 1) events) (its_world new)
 ran_more first old new events i d script start within happens run =
     let same : its_group old ≡ its_group first = λ z. group_of (script z) (start z) in
-    subst (λ es. Run (its_group first) (its_world first) es (its_world new))
-    (sym (take_more events i d within))
+    subst (λ es. Run (its_group first) (its_world first) es (its_world new)) (sym (take_more events i d within))
     (run_on (its_group first) (its_world first) (its_world old) (its_world new) (take i events)
     (get_or events i d ∷ []) run (
       its_world new,
-      subst (λ g. Happens g (its_world old) (get_or events i d) (its_world new)) same
-          happens,
+      subst (λ g. Happens g (its_world old) (get_or events i d) (its_world new)) same happens,
       refl,
     ))

@@ -1,12 +1,9 @@
 -- The replicas of a group as its age opens.
 use Rattle.std.specs.Prelude.{◌≡◌, ℕ, List, map, None, Option, Some, option_map}
 use Rattle.dr_script.specs.declared.script.Script.{Script}
-use Rattle.dr_program.specs.declared.setup.Setup.{Setup}
-use Rattle.dr_program.specs.Replica.{Replica, begun_replica}
+use Rattle.dr_program.specs.{Replica.{Replica, begun_replica}, declared.setup.Setup.Setup}
 use Rattle.dr_machine.specs.Group.{IsPresent}
-use Rattle.dr_restart.specs.declared.start.Start.{Start}
-use Rattle.dr_restart.specs.Groups.{group_of}
-use Rattle.dr_restart.specs.Setups.{AreFirstSetupsOf, IsSetupOf}
+use Rattle.dr_restart.specs.{Groups.group_of, Setups.{AreFirstSetupsOf, IsSetupOf}, declared.start.Start.Start}
 
 -- what stands at the place of member m as the age opens: its replica, by its setup, or nothing where it is absent.
 -- Turns and crashes are nothing to a replica, so the setup of the first age will do

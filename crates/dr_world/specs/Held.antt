@@ -2,16 +2,10 @@
 use Rattle.std.specs.Prelude.{◌≡◌, ℕ, ◌<◌, List, length, Some, Option}
 use Rattle.dr_entry.specs.declared.entry.Entry.{Entry}
 use Rattle.dr_script.specs.declared.script.Script.{Script}
-use Rattle.dr_restart.specs.declared.start.Start.{Start}
-use Rattle.dr_restart.specs.Groups.{group_of}
-use Rattle.dr_machine.specs.Group.{Group, IsGroup, IsPresent, roster}
-use Rattle.dr_machine.specs.World.{World}
-use Rattle.dr_program.specs.Replica.{Replica}
-use Rattle.dr_program.specs.Reading.{Shared, world_of}
-use Rattle.dr_program.specs.Form.{HasForm, IsOf}
-use Rattle.dr_machine.specs.Run.{ComesOfEvents}
+use Rattle.dr_restart.specs.{Groups.group_of, declared.start.Start.Start}
+use Rattle.dr_machine.specs.{Group.{Group, IsGroup, IsPresent, roster}, Run.ComesOfEvents, World.World}
+use Rattle.dr_program.specs.{Form.{HasForm, IsOf}, Presence.present_at, Reading.{Shared, world_of}, Replica.Replica}
 use Rattle.dr_refine.specs.Programs.{ArePosts, IsTable}
-use Rattle.dr_program.specs.Presence.{present_at}
 
 -- a script and the start of an age, the replicas by number, with an empty place for a member that is absent, the
 -- words of the table, and the letters for late members, by number

@@ -2,9 +2,7 @@
 use Rattle.std.specs.Prelude.{◌≡◌}
 use Rattle.dr_history.specs.Order.{first_entries}
 use Rattle.dr_restart.specs.Groups.{group_of}
-use Rattle.dr_world.specs.Held.{Held, IsHeld, its_group}
-use Rattle.dr_world.specs.Posts.{HasLists}
-use Rattle.dr_world.specs.declared.world.World.TheInside.{Inside}
+use Rattle.dr_world.specs.{Held.{Held, IsHeld, its_group}, Posts.HasLists, declared.world.World.TheInside.Inside}
 
 abbrev pub held_of : Inside → Held
 held_of a = record {

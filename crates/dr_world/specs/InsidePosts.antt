@@ -1,9 +1,7 @@
 -- How the fields of the letters for late members hold what contracts see of them.
-use Rattle.std.specs.Prelude.{List, Option, Vec, map, option_map}
-use Rattle.std.specs.declared.alloc.Global.{Global}
+use Rattle.std.specs.{Prelude.{List, Option, Vec, map, option_map}, declared.alloc.Global.Global}
 use Rattle.dr_entry.specs.declared.entry.Entry.{Entry}
-use Rattle.dr_world.specs.Posts.{PostsOf}
-use Rattle.dr_world.specs.declared.posts.Posts.TheInside.{Inside}
+use Rattle.dr_world.specs.{Posts.PostsOf, declared.posts.Posts.TheInside.Inside}
 
 -- the letters in these lists
 abbrev pub letters_in : List (Option (Vec Entry Global)) → List (Option (List Entry))

@@ -3,8 +3,7 @@ use Rattle.std.specs.Prelude.{◌≡◌, ℕ, ◌+◌, ◌≤◌, List, Option, 
 use Rattle.dr_entry.specs.declared.entry.Entry.{Entry}
 use Rattle.dr_history.specs.Members.{members_of}
 use Rattle.dr_machine.specs.Group.{Group, late_members}
-use Rattle.dr_program.specs.Presence.{present_at}
-use Rattle.dr_program.specs.Replica.{Replica}
+use Rattle.dr_program.specs.{Presence.present_at, Replica.Replica}
 
 -- the letters, by number, and how many lists are left for further ones, each with room for so many entries
 pub record PostsOf : Type 0 where

@@ -3,14 +3,10 @@ use Rattle.std.specs.Prelude.{◌≡◌, ℕ, ◌-◌, ◌<◌, ◌≤◌, ◌&&
 use Rattle.dr_entry.specs.declared.entry.Entry.{Entry}
 use Rattle.dr_form.specs.Letters.{IsFitting}
 use Rattle.dr_rows.specs.Words.{seen}
-use Rattle.dr_words.specs.Form.{IsInForm}
-use Rattle.dr_words.specs.Grown.{HasGrown}
-use Rattle.dr_words.specs.Layout.{words_of}
-use Rattle.dr_program.specs.Reading.{letters_of}
-use Rattle.dr_program.specs.Replica.{Replica, joined, me}
-use Rattle.dr_machine.specs.declared.step.Step.{Step}
-use Rattle.dr_machine.specs.declared.step.Step.TheVariants.{Join, Look}
+use Rattle.dr_words.specs.{Form.IsInForm, Grown.HasGrown, Layout.words_of}
+use Rattle.dr_program.specs.{Reading.letters_of, Replica.{Replica, joined, me}}
 use Rattle.dr_program.specs.Steps.{found, given_to, may_take, stepped_over, stored_letters}
+use Rattle.dr_machine.specs.declared.step.Step.{Step, TheVariants.{Join, Look}}
 use Rattle.dr_world.specs.Posts.{PostsOf}
 
 -- whether a letter is there where the step needs one: a join does

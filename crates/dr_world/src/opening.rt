@@ -1,10 +1,8 @@
 //! What a world opens with.
 ghost use Rattle.std.specs.Prelude.{◌≡◌, ℕ, ◌<◌, ◌≤◌, IfOk, None, Some, length, replicate};
-ghost use Rattle.dr_history.specs.Members.{members_of};
-ghost use Rattle.dr_history.specs.Order.{first_entries};
+ghost use Rattle.dr_history.specs.{Members.members_of, Order.first_entries};
 ghost use Rattle.dr_machine.specs.Group.{IsGroup, late_members};
-ghost use Rattle.dr_program.specs.Presence.{present_at};
-ghost use Rattle.dr_program.specs.Replica.{Replica as ReplicaOf};
+ghost use Rattle.dr_program.specs.{Presence.present_at, Replica.Replica as ReplicaOf};
 ghost use Rattle.dr_script.specs.Ranges.{HasGroupRanges};
 ghost use Rattle.dr_restart.specs.Groups.{group_of};
 ghost use Rattle.dr_world.specs.Begun.{HasReplica, HaveBegun};

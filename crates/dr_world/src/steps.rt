@@ -1,14 +1,10 @@
 //! What an event does at the replica of its member, in the table, and among the letters.
 ghost use Rattle.std.specs.Prelude.{◌≡◌, ℕ, ◌<◌, ◌≤◌, IfSome, None, false, true, length, option_map};
 ghost use Rattle.dr_form.specs.Letters.{IsFitting};
-ghost use Rattle.dr_machine.specs.Events.{step_of};
-ghost use Rattle.dr_machine.specs.declared.step.Step.TheVariants.{Join, Look, Welcome};
-ghost use Rattle.dr_program.specs.Form.{HasForm};
-ghost use Rattle.dr_program.specs.Reading.{letters_of};
-ghost use Rattle.dr_program.specs.Replica.{is_inside, me};
+ghost use Rattle.dr_machine.specs.{Events.step_of, declared.step.Step.TheVariants.{Join, Look, Welcome}};
+ghost use Rattle.dr_program.specs.{Form.HasForm, Reading.letters_of, Replica.{is_inside, me}};
 ghost use Rattle.dr_program.specs.Steps.{index_in, is_free, may_take, stored};
-ghost use Rattle.dr_words.specs.Columns.{columns_of};
-ghost use Rattle.dr_words.specs.Layout.{words_of};
+ghost use Rattle.dr_words.specs.{Columns.columns_of, Layout.words_of};
 ghost use Rattle.dr_world.specs.Steps.{IsReadyFor, IsSight, finds_letter, joined_by, may_come, posts_after, stepped_with};
 
 use crate::posts::Posts;

@@ -1,7 +1,6 @@
 ghost use Rattle.std.specs.Prelude.{◌≡◌, ◌↔◌, ◌<◌, IfOk, IsTrue, false};
 ghost use Rattle.dr_history.specs.Order.{first_entries};
-ghost use Rattle.dr_machine.specs.Group.{IsGroup, IsPresent, banks, columns, roster};
-ghost use Rattle.dr_machine.specs.Acts.{Guard};
+ghost use Rattle.dr_machine.specs.{Acts.Guard, Group.{IsGroup, IsPresent, banks, columns, roster}};
 ghost use Rattle.dr_machine.specs.Run.{ComesOfEvents, Happens, Run, WordsGrew};
 ghost use Rattle.dr_machine.specs.World.{items_received, opening_world};
 ghost use Rattle.dr_script.specs.Ranges.{HasGroupRanges};

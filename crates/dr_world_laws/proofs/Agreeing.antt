@@ -1,45 +1,27 @@
 -- The histories of a world that is reached agree, and a member that is done holds everything.
 use Rattle.std.proofs.Common.{◌≡◌, ◌≢◌, refl, ap, sym, ◌∙◌, ◌⊎◌, inl, inr, subst, ℕ, ◌<◌, ◌≤◌, arith, Bool, true, false, [], ◌∷◌, append-nil, take_at, ◌++◌, length, take, All, Contains, Some, List, slice_get, get_or, length-append}
-use Rattle.std.proofs.lemmas.Bool.{cases_eq, cases_lt}
-use Rattle.std.proofs.lemmas.List.{nil_from_length, take_all}
-use Rattle.std.proofs.lemmas.Option.{slice_get-get_or}
-use Rattle.dr_entry.specs.declared.entry.Entry.{Entry}
-use Rattle.dr_entry.specs.declared.entry.Entry.TheVariants.{View}
-use Rattle.dr_entry.specs.declared.end.End.TheVariants.{Done}
-use Rattle.dr_history.specs.Members.{has, members_of}
-use Rattle.dr_history.specs.History.{IsPrefixOf, GroupView, Sent, merge, messages_of, up_to_view, view_of}
-use Rattle.dr_history.specs.Order.{InOrder, IsLateIn, first_entries, messages_from}
+use Rattle.std.proofs.lemmas.{Bool.{cases_eq, cases_lt}, List.{nil_from_length, take_all}, Option.slice_get-get_or}
+use Rattle.dr_entry.specs.declared.{end.End.TheVariants.Done, entry.Entry.{Entry, TheVariants.View}}
 use Rattle.dr_history.specs.Agreement.{Accounts, sent_by, SamePast, KnowsDurable, Agreed}
+use Rattle.dr_history.specs.History.{IsPrefixOf, GroupView, Sent, merge, messages_of, up_to_view, view_of}
+use Rattle.dr_history.specs.{Members.{has, members_of}, Order.{InOrder, IsLateIn, first_entries, messages_from}}
 use Rattle.dr_history.proofs.NumberedLemmas.{length-numbered_messages, messages_from-append}
-use Rattle.dr_history_laws.specs.Courses.{IsUncut, MayReach, course, view_in}
-use Rattle.dr_history_laws.specs.Laid.{counts_sent, laid}
+use Rattle.dr_history_laws.specs.{Courses.{IsUncut, MayReach, course, view_in}, Laid.{counts_sent, laid}}
 use Rattle.dr_history_laws.proofs.Courses.{InOrder-course, either-course, head-ends, view-course}
-use Rattle.dr_history_laws.proofs.Heads.{course_up_to}
-use Rattle.dr_history_laws.proofs.Members.{has-member, member-has, view-distinct}
-use Rattle.dr_history_laws.proofs.Merging.{laid-whole}
-use Rattle.dr_history_laws.proofs.Quiet.{no-more}
-use Rattle.dr_history_laws.proofs.Views.{SamePast-either}
+use Rattle.dr_history_laws.proofs.{Heads.course_up_to, Members.{has-member, member-has, view-distinct}}
+use Rattle.dr_history_laws.proofs.{Merging.laid-whole, Quiet.no-more, Views.SamePast-either}
 use Rattle.dr_words.specs.declared.column.TheConstants.{DONE_COLUMN}
-use Rattle.dr_machine.proofs.Presence.{in_roster}
-use Rattle.dr_machine.specs.Group.{Group, IsGroup, IsPresent, roster}
-use Rattle.dr_machine.specs.Guards.{HoldsAll}
-use Rattle.dr_machine.specs.World.{World}
-use Rattle.dr_machine.specs.Run.{accounts_in, WorldAgreed}
-use Rattle.dr_faithful.specs.Chosen.{Values, endings_by, views_by}
-use Rattle.dr_faithful.specs.Faithful.{StandsOnLogs}
-use Rattle.dr_world_laws.proofs.Holding.{view-there}
+use Rattle.dr_machine.specs.{Group.{Group, IsGroup, IsPresent, roster}, Guards.HoldsAll}
+use Rattle.dr_machine.{specs.{Run.{accounts_in, WorldAgreed}, World.World}, proofs.Presence.in_roster}
+use Rattle.dr_faithful.specs.{Chosen.{Values, endings_by, views_by}, Faithful.StandsOnLogs}
 use Rattle.dr_world_laws.specs.Historic.{IsMerged, head_by, view_numbered}
-use Rattle.dr_world_laws.proofs.Completion.{done_shown}
-use Rattle.dr_world_laws.proofs.ChosenViews.{place-kept, views-there}
-use Rattle.dr_world_laws.proofs.Finishing.{goes-any}
-use Rattle.dr_world_laws.proofs.Items.{held-next}
-use Rattle.dr_world_laws.proofs.Reached.{Known}
+use Rattle.dr_world_laws.proofs.{ChosenViews.{place-kept, views-there}, Completion.done_shown, Finishing.goes-any}
+use Rattle.dr_world_laws.proofs.{Holding.view-there, Items.held-next, Reached.Known}
 
 -- ---- agreement
 
 -- a member has come where it may, to a view and to a place of it
-pub may-reach : (g : Group) (values : Values) (w : World) (m : ℕ) → IsGroup g → Known g values w
-    → m < roster g
+pub may-reach : (g : Group) (values : Values) (w : World) (m : ℕ) → IsGroup g → Known g values w → m < roster g
     → MayReach g.opening w.past.sent (endings_by g.opening values) (w.past.view m) (w.next m)
 may-reach g values w m is y l = record {
   view = record {
@@ -50,16 +32,14 @@ may-reach g values w m is y l = record {
 }
 
 -- and where another member has come to a later view, it has passed no place that is cut off
-pub is-kept : (g : Group) (values : Values) (w : World) (m k : ℕ) → IsGroup g → Known g values w
-    → m < roster g → k < roster g
-    → IsUncut g.opening (endings_by g.opening values) (w.past.view m) (w.next m) (w.past.view k)
+pub is-kept : (g : Group) (values : Values) (w : World) (m k : ℕ) → IsGroup g → Known g values w → m < roster g
+    → k < roster g → IsUncut g.opening (endings_by g.opening values) (w.past.view m) (w.next m) (w.past.view k)
 is-kept g values w m k is y l r less = place-kept g values w m is y.faithful (λ s there.
     let t = (y.laid.left k (w.past.view m) r less).least s there in (t.0, t.1, t.3))
 
 pub in-order : (g : Group) (values : Values) (w : World) (m : ℕ) → IsGroup g → Known g values w
     → m < roster g → InOrder g.opening w.past.sent (w.past.history m)
-in-order g values w m is y l = subst (InOrder g.opening w.past.sent)
-    (sym (y.laid.historic.history m l))
+in-order g values w m is y l = subst (InOrder g.opening w.past.sent) (sym (y.laid.historic.history m l))
     (InOrder-course g.opening w.past.sent (endings_by g.opening values) (w.past.view m) (w.next m) is.sound
     (may-reach g values w m is y l))
 
@@ -79,9 +59,8 @@ same-past g values w m k is y l r =
 -- the view that a member is in
 pub the-view : (g : Group) (values : Values) (w : World) (m : ℕ) → IsGroup g → Known g values w → m < roster g
     → view_of (w.past.history m) ≡ Some (view_numbered g (views_by g values) (w.past.view m))
-the-view g values w m is y l = ap view_of (y.laid.historic.history m l)
-    ∙ view-course g.opening w.past.sent (endings_by g.opening values) (w.past.view m) (w.next m) is.sound
-    (may-reach g values w m is y l).view
+the-view g values w m is y l = ap view_of (y.laid.historic.history m l) ∙ view-course g.opening w.past.sent
+    (endings_by g.opening values) (w.past.view m) (w.next m) is.sound (may-reach g values w m is y l).view
 
 -- the accounts tell what the members of a world that are there have done
 pub record AreAccounts (g : Group) (w : World) (accounts : Accounts) : Type 0 where
@@ -99,15 +78,13 @@ knows-durable g values w accounts m is y told there = by (cases_eq g.opening.mem
     l : m < roster g
     l = in_roster g m is there
 
-    safe : StandsOnLogs g (views_by g values) w.past.log (w.past.history m) m (w.past.view m)
-        (w.past.durable m)
+    safe : StandsOnLogs g (views_by g values) w.past.log (w.past.history m) m (w.past.view m) (w.past.durable m)
     safe = y.faithful.logs.safe m there
 
     own : (accounts m).durable ≤ length (accounts m).log
     own = rw (told.durable m there, told.log m there) safe.own
 
-    held : (u : ℕ) → u ≤ w.past.view m
-        → Contains (accounts m).history (View g.opening.age u (views_by g values u))
+    held : (u : ℕ) → u ≤ w.past.view m → Contains (accounts m).history (View g.opening.age u (views_by g values u))
     held u come = subst (λ es. Contains es (View g.opening.age u (views_by g values u))) (sym (told.history m there))
         (view-there g values w m u y.laid.historic l come)
 
@@ -122,8 +99,7 @@ knows-durable g values w accounts m is y told there = by (cases_eq g.opening.mem
     -- where nobody is late, all members of its view are those with which the age opened
     early : g.opening.members ≡ g.opening.present → (j : ℕ) → has (views_by g values (w.past.view m)) j ≡ true
         → has g.opening.members j ≡ true
-    early nobody j member = ap (λ k. has k j) nobody
-        ∙ views-there g values (w.past.view m) j is member
+    early nobody j member = ap (λ k. has k j) nobody ∙ views-there g values (w.past.view m) j is member
 
     by : (g.opening.members ≡ g.opening.present) ⊎ (g.opening.members ≢ g.opening.present)
         → KnowsDurable g.opening accounts m
@@ -149,18 +125,14 @@ knows-durable g values w accounts m is y told there = by (cases_eq g.opening.mem
     }
 
 -- so the members agree by all accounts that tell what they have done
-pub agreed-by : (g : Group) (values : Values) (w : World) (accounts : Accounts) → IsGroup g
-    → Known g values w
-    → AreAccounts g w accounts
-    → Agreed g.opening accounts
+pub agreed-by : (g : Group) (values : Values) (w : World) (accounts : Accounts) → IsGroup g → Known g values w
+    → AreAccounts g w accounts → Agreed g.opening accounts
 agreed-by g values w accounts is y told = record {
   prefix = λ i j l r. rw (told.history i l, told.history j r)
       (either-prefix g values w i j is y (within i l) (within j r));
   ordered = λ i l. subst (λ (s : Sent). InOrder g.opening s (accounts i).history) (sym told.sent)
-      (subst (InOrder g.opening w.past.sent) (sym (told.history i l))
-      (in-order g values w i is y (within i l)));
-  same_past = λ i j l r. subst (λ (h : List Entry). SamePast h (accounts j).history)
-      (sym (told.history i l))
+      (subst (InOrder g.opening w.past.sent) (sym (told.history i l)) (in-order g values w i is y (within i l)));
+  same_past = λ i j l r. subst (λ (h : List Entry). SamePast h (accounts j).history) (sym (told.history i l))
       (subst (SamePast (w.past.history i)) (sym (told.history j r))
       (same-past g values w i j is y (within i l) (within j r)));
   logged = λ i l. rw (told.log i l, told.history i l) (y.faithful.logs.front i);
@@ -221,9 +193,8 @@ pub done-whole : (g : Group) (values : Values) (w : World) (m : ℕ) → IsGroup
     → m < roster g → w.end m ≡ Some Done → HoldsAll g w m
 done-whole g values w m is y l e s member =
     let numbered = (in-order g values w m is y l).numbered s in
-    let all : take (w.past.durable m) (w.past.history m)
-    ≡ w.past.history m = take_all (w.past.durable m) (w.past.history m)
-    (omega (arith, done-durable g values w m y l e)) in
+    let all : take (w.past.durable m) (w.past.history m) ≡ w.past.history m = take_all (w.past.durable m)
+    (w.past.history m) (omega (arith, done-durable g values w m y l e)) in
     let of_view : has (views_by g values (w.past.view m)) s
     ≡ true = subst (λ mask. has mask s ≡ true) (y.faithful.views.own m) member in
     omega (
@@ -238,14 +209,11 @@ done-whole g values w m is y l e s member =
 
 -- so its history is the head of its view, and all that was sent in it, in the order of the places
 pub done-merged : (g : Group) (values : Values) (w : World) (m : ℕ) → IsGroup g → Known g values w
-    → m < roster g → w.end m ≡ Some Done
-    → let v = view_in g.opening (endings_by g.opening values) (w.past.view m) in
-    w.past.history m ≡ head_by g values w (w.past.view m)
-    ++ merge g.opening w.past.sent v (counts_sent w.past.sent v)
-done-merged g values w m is y l e = y.laid.historic.history m l
-    ∙ ap (λ es. head_by g values w (w.past.view m) ++ es) (laid-whole g.opening w.past.sent
-    (head_by g values w (w.past.view m)) v (w.next m)
-    (goes-any g values w (w.past.view m) is y.faithful y.laid.historic)
+    → m < roster g → w.end m ≡ Some Done → let v = view_in g.opening (endings_by g.opening values) (w.past.view m) in
+    w.past.history m ≡ head_by g values w (w.past.view m) ++ merge g.opening w.past.sent v (counts_sent w.past.sent v)
+done-merged g values w m is y l e = y.laid.historic.history m l ∙ ap (λ es. head_by g values w (w.past.view m) ++ es)
+    (laid-whole g.opening w.past.sent (head_by g values w (w.past.view m)) v
+    (w.next m) (goes-any g values w (w.past.view m) is y.faithful y.laid.historic)
     (view-distinct (head_by g values w (w.past.view m)) v
     (head-ends g.opening w.past.sent (endings_by g.opening values) (w.past.view m))) all)
   where
@@ -255,8 +223,7 @@ done-merged g values w m is y l e = y.laid.historic.history m l
     mask : ℕ
     mask = views_by g values (w.past.view m)
 
-    all : (s : ℕ) → Contains (members_of (views_by g values (w.past.view m))) s
-        → length (messages_from s
+    all : (s : ℕ) → Contains (members_of (views_by g values (w.past.view m))) s → length (messages_from s
         (course g.opening w.past.sent (endings_by g.opening values) (w.past.view m) (w.next m)))
         ≡ length (messages_of g.opening s)
     all s member =
@@ -274,11 +241,9 @@ is-merged g values w m is y l e = record { laid = y.laid; history = done-merged 
 pub done-same : (g : Group) (values : Values) (w : World) (m k : ℕ) → IsGroup g → Known g values w
     → m < roster g → w.end m ≡ Some Done → k < roster g → w.end k ≡ Some Done
     → w.past.view m ≡ w.past.view k → w.past.history m ≡ w.past.history k
-done-same g values w m k is y l e r d same =
-    done-merged g values w m is y l e
+done-same g values w m k is y l e r d same = done-merged g values w m is y l e
     ∙ ap (λ n. let v = view_in g.opening (endings_by g.opening values) n in head_by g values w n
-    ++ merge g.opening w.past.sent v (counts_sent w.past.sent v)) same
-    ∙ sym (done-merged g values w k is y r d)
+    ++ merge g.opening w.past.sent v (counts_sent w.past.sent v)) same ∙ sym (done-merged g values w k is y r d)
 
 -- nobody has a message that a member that is done lacks, but of late members that aren't in its view: as for
 -- the members of its view, it has all, and who was no member of it any more has put none behind its history
@@ -315,32 +280,26 @@ done-lacks-none g values w m k s is y either l e r = by (either-prefix g values 
           length-numbered_messages g.opening s,
           done-whole g values w m is y l e s there,
         ) in
-        sym q.1 ∙ ap (λ es. messages_from s mine ++ es) (nil_from_length q.0 none)
-        ∙ append-nil (messages_from s mine)
+        sym q.1 ∙ ap (λ es. messages_from s mine ++ es) (nil_from_length q.0 none) ∙ append-nil (messages_from s mine)
 
     -- of another one no message follows
     none_more : IsPrefixOf (w.past.history m) (w.past.history k) → has (w.members m) s ≡ false
-        → ¬ IsLateIn g.opening s
-        → messages_from s (w.past.history k) ≡ messages_from s (w.past.history m)
+        → ¬ IsLateIn g.opening s → messages_from s (w.past.history k) ≡ messages_from s (w.past.history m)
     none_more p absent early =
         let front : take (length mine) theirs ≡ mine =
         ap (take (length mine)) (sym p.1) ∙ take_at mine p.0 (length mine) refl in
         let first = (in-order g values w m is y l).begins in
         no-more g.opening w.past.sent theirs s (length mine)
-        (view_numbered g (views_by g values) (w.past.view m)) is.sound early (in-order g values w k is y r)
-        (omega (
+        (view_numbered g (views_by g values) (w.past.view m)) is.sound early (in-order g values w k is y r) (omega (
           arith,
           ap length first.1,
           length-append (first_entries g.opening) first.0,
           length-append g.opening.start (View g.opening.age 0 g.opening.members ∷ []),
-        ))
-        (omega (arith, ap length p.1, length-append mine p.0))
-        (ap view_of front ∙ the-view g values w m is y l)
+        )) (omega (arith, ap length p.1, length-append mine p.0)) (ap view_of front ∙ the-view g values w m is y l)
         (λ c. let there : has (views_by g values (w.past.view m)) s ≡ true =
         member-has (views_by g values (w.past.view m)) c.0 s
         (slice_get-get_or (members_of (views_by g values (w.past.view m))) c.0 s c.1 ∙ ap Some c.2) in
-        absurd (cc (absent, y.faithful.views.own m, there)))
-        ∙ ap (messages_from s) front
+        absurd (cc (absent, y.faithful.views.own m, there))) ∙ ap (messages_from s) front
 
     of_view : IsPrefixOf (w.past.history m) (w.past.history k) → (b : Bool) → has (w.members m) s ≡ b
         → messages_from s (w.past.history k) ≡ messages_from s (w.past.history m)

@@ -1,28 +1,19 @@
 -- The views that are left ended with values for which more than half of them have voted.
 use Rattle.std.proofs.Common.{inl, inr, subst, sym, ℕ, ◌<◌, ◌≡◌, ◌⊎◌}
-use Rattle.dr_machine.specs.Group.{Group, roster}
-use Rattle.dr_machine.specs.Guards.{CanFinish}
-use Rattle.dr_machine.specs.Run.{PastGrew}
-use Rattle.dr_machine.specs.World.{World}
-use Rattle.dr_faithful.specs.Chosen.{AreChosen, Values, views_by}
-use Rattle.dr_machine.specs.Votes.{vote_in}
-use Rattle.dr_faithful.specs.Faithful.{Numbers}
-use Rattle.dr_vote_laws.proofs.Cuts.{vote_cut}
+use Rattle.dr_machine.specs.{Group.{Group, roster}, Guards.CanFinish, Run.PastGrew, Votes.vote_in, World.World}
+use Rattle.dr_faithful.specs.{Chosen.{AreChosen, Values, views_by}, Faithful.Numbers}
+use Rattle.dr_vote_laws.{specs.Voting.{IsChosen, IsCut, Voting}, proofs.Cuts.vote_cut}
 use Rattle.dr_vote_laws.proofs.Values.{chosen_since, commits, somebody}
-use Rattle.dr_vote_laws.specs.Voting.{IsChosen, IsCut, Voting}
-use Rattle.dr_world_laws.proofs.ByValues.{AreVotedFor}
-use Rattle.dr_world_laws.proofs.ChosenViews.{Changes}
-use Rattle.dr_world_laws.proofs.Safety.{stays_out}
+use Rattle.dr_world_laws.proofs.{ByValues.AreVotedFor, ChosenViews.Changes, Safety.stays_out}
 
 -- a member has left a view, or another one of the roster has
 abbrev pub HasLeft : Group → World → ℕ → ℕ → Type 0
 HasLeft g w v k = (v < w.past.view k) ⊎ ((i : ℕ) × (i < roster g) × (v < w.past.view i))
 
 -- a member ends its view with the value that it has committed
-pub voted-for : (g : Group) (values : Values) (w : World) (k v : ℕ) → AreChosen values w
-    → Voting g (views_by g values) w → AreVotedFor g values w
-    → HasLeft g w v k ⊎ (CanFinish g w k × (v ≡ w.past.view k))
-    → (b : ℕ) × IsChosen (views_by g values) w.past.votes v b (values v)
+pub voted-for : (g : Group) (values : Values) (w : World) (k v : ℕ)
+    → AreChosen values w → Voting g (views_by g values) w → AreVotedFor g values w → HasLeft g w v k
+    ⊎ (CanFinish g w k × (v ≡ w.past.view k)) → (b : ℕ) × IsChosen (views_by g values) w.past.votes v b (values v)
 voted-for g values w k v chosen voting old (inl (inl before)) = old k v before
 voted-for g values w k v chosen voting old (inl (inr t)) = old t.0 v t.2
 voted-for g values w k v chosen voting old (inr (can, same)) =
@@ -36,8 +27,7 @@ voted-for g values w k v chosen voting old (inr (can, same)) =
 pub ballots-stay : (g : Group) (values : Values) (w u : World) (v : ℕ) → PastGrew w.past u.past
     → (b : ℕ) × IsChosen (views_by g values) w.past.votes v b (values v)
     → (b : ℕ) × IsChosen (views_by g values) u.past.votes v b (values v)
-ballots-stay g values w u v grew t =
-    (t.0, chosen_since (views_by g values) w u v t.0 (values v) grew t.1)
+ballots-stay g values w u v grew t = (t.0, chosen_since (views_by g values) w u v t.0 (values v) grew t.1)
 
 -- ---- what such a value changes
 

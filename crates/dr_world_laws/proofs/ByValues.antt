@@ -1,9 +1,7 @@
 -- Worlds that are reached by values: the values are a means of proof, no law names them but as some that
 -- there are.
 use Rattle.std.proofs.Common.{ℕ, ◌<◌, All, List}
-use Rattle.dr_machine.specs.Group.{Group}
-use Rattle.dr_machine.specs.Run.{Way}
-use Rattle.dr_machine.specs.World.{World}
+use Rattle.dr_machine.specs.{Group.Group, Run.Way, World.World}
 use Rattle.dr_faithful.specs.Chosen.{AreChosen, Values, views_by}
 use Rattle.dr_vote_laws.specs.Voting.{IsChosen}
 

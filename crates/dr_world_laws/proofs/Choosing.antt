@@ -1,37 +1,20 @@
 -- Every world that is reached is reached by values: whenever somebody commits a value in a view in which
 -- nobody has committed one before, nobody has left the view either, and so the value may be chosen for it,
 -- as far as what came before goes.
+use Rattle.std.{specs.Prelude.{⊤, unwrap_or, false}, proofs.lemmas.Option.none-some}
 use Rattle.std.proofs.Common.{All, List, [], ◌∷◌, None, Option, Some, ap, arith, inl, inr, le_refl, refl, subst, suc, sym, zero, ℕ, ◌+◌, ◌<◌, ◌∙◌, ◌≡◌, ◌≢◌, ◌≤◌, ◌⊎◌}
-use Rattle.std.specs.Prelude.{⊤}
-use Rattle.std.proofs.lemmas.Bool.{cases_eq, cases_lt}
-use Rattle.std.proofs.lemmas.List.Elements.{All-cons, All-head, All-nil, All-tail}
-use Rattle.std.proofs.lemmas.Option.{none-some}
+use Rattle.std.proofs.lemmas.{Bool.{cases_eq, cases_lt}, List.Elements.{All-cons, All-head, All-nil, All-tail}}
 use Rattle.dr_entry.specs.declared.record.Value.{Value}
-use Rattle.std.specs.Prelude.{unwrap_or, false}
-use Rattle.dr_history.specs.History.{last_view}
-use Rattle.dr_history.specs.Members.{has}
-use Rattle.dr_machine.proofs.Events.{standing_after}
-use Rattle.dr_machine.proofs.Presence.{in_roster}
-use Rattle.dr_machine.proofs.Runs.{by_way}
-use Rattle.dr_machine.specs.Acts.{CanTake, Guard, effect, effect_of}
-use Rattle.dr_machine.specs.declared.event.Event.{Event}
-use Rattle.dr_machine.specs.declared.step.Step.{Step}
-use Rattle.dr_machine.specs.Effects.{commits as after_commit, finishes, joins}
-use Rattle.dr_machine.specs.Events.{member_of, step_of}
-use Rattle.dr_machine.specs.Group.{Group, IsGroup, IsPresent, roster}
-use Rattle.dr_machine.specs.Guards.{CanCommit, CanJoin}
-use Rattle.dr_machine.specs.Run.{ComesNext, HaveArrived, Way, with_table}
-use Rattle.dr_machine.specs.Votes.{IsOf, MajorityHas}
-use Rattle.dr_machine.specs.World.{Table, World, no_value}
-use Rattle.dr_machine.specs.Writes.{at}
-use Rattle.dr_faithful.proofs.Writes.{at_both, at_case, at_other, at_same}
+use Rattle.dr_history.specs.{History.last_view, Members.has}
+use Rattle.dr_machine.specs.{Acts.{CanTake, Guard, effect, effect_of}, declared.{event.Event.Event, step.Step.Step}}
+use Rattle.dr_machine.specs.{Effects.{commits as after_commit, finishes, joins}, World.{Table, World, no_value}}
+use Rattle.dr_machine.specs.{Events.{member_of, step_of}, Guards.{CanCommit, CanJoin}, Votes.{IsOf, MajorityHas}}
+use Rattle.dr_machine.specs.{Group.{Group, IsGroup, IsPresent, roster}, Run.{ComesNext, HaveArrived, Way, with_table}}
+use Rattle.dr_machine.{specs.Writes.at, proofs.{Events.standing_after, Presence.in_roster, Runs.by_way}}
 use Rattle.dr_faithful.specs.Chosen.{AreChosen, Values, come_of, views_by}
-use Rattle.dr_vote_laws.proofs.Accepting.{commit_votes}
-use Rattle.dr_vote_laws.proofs.Values.{chosen_once, commits}
-use Rattle.dr_vote_laws.specs.Voting.{IsChosen}
-use Rattle.dr_world_laws.proofs.ChosenViews.{views-first, views-next}
-use Rattle.dr_world_laws.proofs.Reached.{Known, known}
-use Rattle.dr_world_laws.proofs.ByValues.{IsReachedBy}
+use Rattle.dr_faithful.proofs.Writes.{at_both, at_case, at_other, at_same}
+use Rattle.dr_vote_laws.{specs.Voting.IsChosen, proofs.{Accepting.commit_votes, Values.{chosen_once, commits}}}
+use Rattle.dr_world_laws.proofs.{ByValues.IsReachedBy, ChosenViews.{views-first, views-next}, Reached.{Known, known}}
 
 some_same : {A : Type 0} (x y : A) → Some x ≡ Some y → x ≡ y
 some_same x y e = cc e
@@ -49,8 +32,7 @@ others_idle g w m s is can old = standing_after g w m s
       goes_on = λ can. at_both (λ k v c. roster g ≤ k → (v ≡ 0) × (c ≡ None)) w.past.view w.committed m
           (w.past.view m + 1) None old (λ l. absurd (within can.may.alive.present l));
       joins = λ can. at_both (λ k v c. roster g ≤ k → (v ≡ 0) × (c ≡ None)) w.past.view w.committed m
-          (last_view (0, 0) (unwrap_or (w.letter m) [])).0 None old
-          (λ l. absurd (within can.may.alive.present l));
+          (last_view (0, 0) (unwrap_or (w.letter m) [])).0 None old (λ l. absurd (within can.may.alive.present l));
       chooses = λ can. at_case (λ k c. roster g ≤ k → (w.past.view k ≡ 0) × (c ≡ None)) w.committed m
           (Some (w.value m)) (λ k d. old k) (λ l. absurd (within can.may.alive.present l));
       wedges = λ j can. old;
@@ -80,8 +62,7 @@ one_of : (w : World) (v k : ℕ) → HasPassed w v k ⊎ IsBefore v (w.past.view
 one_of w v k = by (cases_lt v (w.past.view k)) (cases_eq (w.past.view k) v) (w.committed k) refl
   where
     by : (v < w.past.view k) ⊎ (w.past.view k ≤ v) → (w.past.view k ≡ v) ⊎ (w.past.view k ≢ v)
-        → (c : Option Value) → w.committed k ≡ c
-        → HasPassed w v k ⊎ IsBefore v (w.past.view k) (w.committed k)
+        → (c : Option Value) → w.committed k ≡ c → HasPassed w v k ⊎ IsBefore v (w.past.view k) (w.committed k)
     by (inl l) same c e = inl (inl l)
     by (inr l) (inl same) (Some x) e = inl (inr (same, x, e))
     by (inr l) (inl same) None e = inr record { within = l; none = λ d. e }
@@ -92,13 +73,11 @@ search : (w : World) (v n : ℕ) → ((k : ℕ) × HasPassed w v k)
 search w v zero = inr (λ k l. absurd (omega (arith, l)))
 search w v (suc n) = by (search w v n) (one_of w v n)
   where
-    last : IsBefore v (w.past.view n) (w.committed n)
-        → ((k : ℕ) → k < n → IsBefore v (w.past.view k) (w.committed k)) → (k : ℕ) → k < suc n
-        → (k < n) ⊎ (n ≤ k) → IsBefore v (w.past.view k) (w.committed k)
+    last : IsBefore v (w.past.view n) (w.committed n) → ((k : ℕ) → k < n → IsBefore v (w.past.view k) (w.committed k))
+        → (k : ℕ) → k < suc n → (k < n) ⊎ (n ≤ k) → IsBefore v (w.past.view k) (w.committed k)
     last b all k l (inl less) = all k less
     last b all k l (inr more) =
-        let same : n ≡ k = omega (arith, l, more) in
-        subst (λ i. IsBefore v (w.past.view i) (w.committed i)) same b
+        let same : n ≡ k = omega (arith, l, more) in subst (λ i. IsBefore v (w.past.view i) (w.committed i)) same b
 
     by : ((k : ℕ) × HasPassed w v k) ⊎ ((k : ℕ) → k < n → IsBefore v (w.past.view k) (w.committed k))
         → HasPassed w v n ⊎ IsBefore v (w.past.view n) (w.committed n)
@@ -126,8 +105,7 @@ passed_or_before g w v idle = by (search w v (roster g))
 
 -- ---- back along a run
 
-commit_back : (g : Group) (w : World) (m v : ℕ) → CanCommit g w m → AreBefore (after_commit w m) v
-    → AreBefore w v
+commit_back : (g : Group) (w : World) (m v : ℕ) → CanCommit g w m → AreBefore (after_commit w m) v → AreBefore w v
 commit_back g w m v can after k = by (cases_eq k m)
   where
     by : (k ≡ m) ⊎ (k ≢ m) → IsBefore v (w.past.view k) (w.committed k)
@@ -142,10 +120,9 @@ finish_back g w m v after k = by (cases_eq k m)
   where
     by : (k ≡ m) ⊎ (k ≢ m) → IsBefore v (w.past.view k) (w.committed k)
     by (inl e) =
-        let left : w.past.view k + 1 ≤ v =
-        subst (λ n. n ≤ v) (ap (at w.past.view m (w.past.view m + 1)) e
-        ∙ at_same w.past.view m (w.past.view m + 1) ∙ ap (λ i. w.past.view i + 1) (sym e)) (after k).within
-        in record { within = omega (arith, left); none = λ same. absurd (omega (arith, left, same)) }
+        let left : w.past.view k + 1 ≤ v = subst (λ n. n ≤ v) (ap (at w.past.view m (w.past.view m + 1)) e
+        ∙ at_same w.past.view m (w.past.view m + 1) ∙ ap (λ i. w.past.view i + 1) (sym e)) (after k).within in
+        record { within = omega (arith, left); none = λ same. absurd (omega (arith, left, same)) }
     by (inr d) = subst (λ x. IsBefore v x (w.committed k)) (at_other w.past.view m (w.past.view m + 1) k d)
         (subst (λ c. IsBefore v (at w.past.view m (w.past.view m + 1) k) c) (at_other w.committed m None k d)
         (after k))
@@ -207,8 +184,7 @@ way_free g values v x [] w is r all b = All-nil (AreChosen (at values v x))
 way_free g values v x (u ∷ us) w is r all b =
     let rest = All-tail (AreChosen values) u us all in
     let here = follows_back g values us u w v is (known g values us u is r.0 rest) r.1 b in
-    All-cons (AreChosen (at values v x)) u us
-    (value_free u values v x here (All-head (AreChosen values) u us all))
+    All-cons (AreChosen (at values v x)) u us (value_free u values v x here (All-head (AreChosen values) u us all))
     (way_free g values v x us u is r.0 rest here)
 
 reached_free : (g : Group) (values : Values) (us : List World) (w : World) (v : ℕ) (x : Value)
@@ -241,8 +217,7 @@ commits_same : (g : Group) (values : Values) (w : World) (m k : ℕ) → Known g
     → CanCommit g w m → HasPassed w (w.past.view m) k → w.value m ≡ values (w.past.view m)
 commits_same g values w m k y chosen can passed =
     let t = commits g (views_by g values) (after_commit w m) m (w.value m)
-    (commit_votes g (views_by g values) w m can y.faithful y.voting)
-    (at_same w.committed m (Some (w.value m))) in
+    (commit_votes g (views_by g values) w m can y.faithful y.voting) (at_same w.committed m (Some (w.value m))) in
     chosen_same g values w (w.past.view m) t.0 k (w.value m) y chosen t.1 passed
 
 -- there are values by which a world is reached, and by which its next step goes
@@ -254,15 +229,13 @@ choose g values us w m s is idle r can = standing_after g w m s (λ x. (more : V
       goes_on = λ can. (
         values,
         r,
-        at_both
-            (λ k v (c : Option Value). (y : Value) → c ≡ Some y → y ≡ values v) w.past.view w.committed m
+        at_both (λ k v (c : Option Value). (y : Value) → c ≡ Some y → y ≡ values v) w.past.view w.committed m
             (w.past.view m + 1) None r.now (λ y e. absurd (none-some y e)),
       );
       joins = λ can. (
         values,
         r,
-        at_both
-            (λ k v (c : Option Value). (y : Value) → c ≡ Some y → y ≡ values v) w.past.view w.committed m
+        at_both (λ k v (c : Option Value). (y : Value) → c ≡ Some y → y ≡ values v) w.past.view w.committed m
             (last_view (0, 0) (unwrap_or (w.letter m) [])).0 None r.now (λ y e. absurd (none-some y e)),
       );
       chooses = λ can. by can (passed_or_before g w (w.past.view m) idle);
@@ -271,8 +244,7 @@ choose g values us w m s is idle r can = standing_after g w m s (λ x. (more : V
       stays = (values, r, r.now);
     })
   where
-    commit : (more : Values) → AreChosen more w → w.value m ≡ more (w.past.view m)
-        → AreChosen more (after_commit w m)
+    commit : (more : Values) → AreChosen more w → w.value m ≡ more (w.past.view m) → AreChosen more (after_commit w m)
     commit more now so = at_case (λ k (c : Option Value). (y : Value) → c ≡ Some y → y ≡ more (w.past.view k))
         w.committed m (Some (w.value m)) (λ k d. now k) (λ y e. sym (some_same (w.value m) y e) ∙ so)
 
@@ -281,8 +253,7 @@ choose g values us w m s is idle r can = standing_after g w m s (λ x. (more : V
     by can (inl t) = (
       values,
       r,
-      commit values r.now
-          (commits_same g values w m t.0 (known g values us w is r.way r.before) r.now can t.1),
+      commit values r.now (commits_same g values w m t.0 (known g values us w is r.way r.before) r.now can t.1),
     )
     by can (inr before) =
         let more : Values = at values (w.past.view m) (w.value m) in
@@ -331,11 +302,7 @@ reached_so g us w is r = by_way g (λ u. ⊤) (IsReachedSo g) (λ us u e run all
     (λ us u table run all come y. arrived_so g us u table come y) (
       (
         no_values,
-        record {
-          way = refl;
-          before = All-nil (AreChosen no_values);
-          now = λ m x e. absurd (none-some x e);
-        },
+        record { way = refl; before = All-nil (AreChosen no_values); now = λ m x e. absurd (none-some x e) },
       ),
       λ k l. (refl, refl),
     ) us w r (λ k d l. tt)
@@ -355,22 +322,18 @@ members_stay : (g : Group) (values : Values) (v : ℕ) (x : Value) (u : ℕ) →
 members_stay g values v x zero l = views-first g (at values v x) ∙ sym (views-first g values)
 members_stay g values v x (suc u) l =
     let next : u + 1 ≡ suc u = omega arith in
-    rw (← next) (views-next g (at values v x) u
-    ∙ ap (λ mask. come_of g.opening mask (at values v x u).leavers)
+    rw (← next) (views-next g (at values v x) u ∙ ap (λ mask. come_of g.opening mask (at values v x u).leavers)
     (members_stay g values v x u (omega (arith, l)))
     ∙ ap (λ (y : Value). come_of g.opening (views_by g values u) y.leavers)
-    (at_other values v x u (λ same. omega (arith, same, l)))
-    ∙ sym (views-next g values u))
+    (at_other values v x u (λ same. omega (arith, same, l))) ∙ sym (views-next g values u))
 
 -- a world in which more than half of a view has voted for a value is reached by values of which it is one
 pub voted_by : (g : Group) (values : Values) (us : List World) (w : World) (v b : ℕ) (x : Value) → IsGroup g
     → IsReachedBy g values us w → IsChosen (views_by g values) w.past.votes v b x
-    → (more : Values) × IsReachedBy g more us w × (more v ≡ x)
-    × IsChosen (views_by g more) w.past.votes v b (more v)
+    → (more : Values) × IsReachedBy g more us w × (more v ≡ x) × IsChosen (views_by g more) w.past.votes v b (more v)
 voted_by g values us w v b x is r voted = by (passed_or_before g w v (nobody_else g us w is r.way))
   where
-    by : ((k : ℕ) × HasPassed w v k) ⊎ AreBefore w v
-        → (more : Values) × IsReachedBy g more us w × (more v ≡ x)
+    by : ((k : ℕ) × HasPassed w v k) ⊎ AreBefore w v → (more : Values) × IsReachedBy g more us w × (more v ≡ x)
         × IsChosen (views_by g more) w.past.votes v b (more v)
     by (inl t) =
         let same : x ≡ values v = chosen_same g values w v b t.0 x (known g values us w is r.way r.before) r.now voted t.1

@@ -1,30 +1,18 @@
 -- The views of an age, each of which ends with a value: their members, how one follows another, and what
 -- stays of a view that was left.
 use Rattle.std.proofs.Common.{Bool, List, [], ◌∷◌, ◌&&◌, not, nat_lt, filter, slice_get, length-append, Contains, Some, ap, arith, false, inl, inr, length, map, refl, slice_index, subst, suc, sym, true, zero, ℕ, ◌+◌, ◌*◌, ◌^◌, ◌<◌, ◌∙◌, ◌≡◌, ◌≤◌, ◌⊎◌, if◌then◌else◌}
-use Rattle.std.proofs.lemmas.Bool.{and_parts, cases_lt}
-use Rattle.std.proofs.lemmas.List.Elements.{filter-append}
-use Rattle.std.proofs.lemmas.List.{get_or-map, length-map}
+use Rattle.std.proofs.lemmas.{Bool.{and_parts, cases_lt}, List.{get_or-map, length-map, Elements.filter-append}}
 use Rattle.std.proofs.lemmas.Option.{get_or_from_slice_get, slice_get-get_or}
-use Rattle.dr_history.specs.Members.{has, members_below, members_of}
-use Rattle.dr_history.specs.Order.{AreOfRoster, ContinuesAge, IsNewIn}
-use Rattle.dr_history.specs.Places.{AllHeldBelow, front_of, place_of}
-use Rattle.dr_history.proofs.Fronts.{front_is}
-use Rattle.dr_history.proofs.Bits.{has_zero}
-use Rattle.dr_history.proofs.Histories.{none_above}
-use Rattle.dr_history.proofs.Masks.{same_masks}
-use Rattle.dr_history.proofs.Ranks.{length-members_below_suc, some_member}
-use Rattle.dr_history_laws.specs.Courses.{counts_taken, view_in}
-use Rattle.dr_history_laws.proofs.Courses.{ended-steady, members-first, members-next}
-use Rattle.dr_history_laws.proofs.Lists.{slice_get-some}
-use Rattle.dr_history_laws.proofs.Members.{has-member, member-has}
-use Rattle.dr_words.proofs.Masks.{has_mask_of, has_next_members, in_roster_small, mask_of_small, next_members_small}
-use Rattle.dr_machine.proofs.Presence.{in_roster}
-use Rattle.dr_words.specs.Columns.{recv_column}
-use Rattle.dr_words.specs.Masks.{IsMajorityOf, IsPartOf, next_members}
+use Rattle.dr_history.specs.{Members.{has, members_below, members_of}, Order.{AreOfRoster, ContinuesAge, IsNewIn}}
+use Rattle.dr_history.{specs.Places.{AllHeldBelow, front_of, place_of}, proofs.{Bits.has_zero, Fronts.front_is}}
+use Rattle.dr_history.proofs.{Histories.none_above, Masks.same_masks, Ranks.{length-members_below_suc, some_member}}
+use Rattle.dr_history_laws.{specs.Courses.{counts_taken, view_in}, proofs.Members.{has-member, member-has}}
+use Rattle.dr_history_laws.proofs.{Courses.{ended-steady, members-first, members-next}, Lists.slice_get-some}
+use Rattle.dr_words.specs.{Columns.recv_column, Masks.{IsMajorityOf, IsPartOf, next_members}}
 use Rattle.dr_words.specs.Packing.{is_final, recv_count}
-use Rattle.dr_machine.specs.Group.{Group, IsGroup, IsPresent, roster}
-use Rattle.dr_machine.specs.Run.{PastGrew, WordsGrew}
-use Rattle.dr_machine.specs.World.{World}
+use Rattle.dr_words.proofs.Masks.{has_mask_of, has_next_members, in_roster_small, mask_of_small, next_members_small}
+use Rattle.dr_machine.specs.{Group.{Group, IsGroup, IsPresent, roster}, Run.{PastGrew, WordsGrew}, World.World}
+use Rattle.dr_machine.proofs.Presence.{in_roster}
 use Rattle.dr_faithful.specs.Chosen.{Values, come_of, endings_by, members_by, views_by}
 use Rattle.dr_faithful.specs.Faithful.{Faithful, HaveStayed}
 use Rattle.dr_world_laws.specs.Historic.{HasEndedSafely}
@@ -58,8 +46,7 @@ pub views-small : (g : Group) (values : Values) (v : ℕ) → IsGroup g → view
 views-small g values zero is = rw (views-first g values) (in_roster_small 16 g.opening.members
     (λ i h. omega (arith, is.sound.members.within i h, is.most_members)))
 views-small g values (suc v) is =
-    let next : suc v ≡ v + 1 = omega arith in
-    rw (next, views-next g values v) (mask_of_small _)
+    let next : suc v ≡ v + 1 = omega arith in rw (next, views-next g values v) (mask_of_small _)
 
 -- who is in a later view is there, and was in the one before and isn't named, or is named and was not
 views-are_come : (g : Group) (values : Values) (v i : ℕ) → has (views_by g values (v + 1)) i
@@ -67,8 +54,7 @@ views-are_come : (g : Group) (values : Values) (v i : ℕ) → has (views_by g v
     && (if has (values v).leavers i then not (has (views_by g values v) i) else has (views_by g values v) i)))
 views-are_come g values v i = ap (λ k. has k i) (views-next g values v) ∙ has_mask_of _ i
 
-named_or : (a b : Bool) → (if b then not a else a) ≡ true
-    → ((a ≡ true) × (b ≡ false)) ⊎ ((a ≡ false) × (b ≡ true))
+named_or : (a b : Bool) → (if b then not a else a) ≡ true → ((a ≡ true) × (b ≡ false)) ⊎ ((a ≡ false) × (b ≡ true))
 named_or true true e = absurd (cc e)
 named_or true false e = inl (refl, refl)
 named_or false true e = inr (refl, refl)
@@ -110,8 +96,7 @@ views-stays g values v i is there stays =
     (omega (arith, l, is.most_members)) (views-there g values v i is there) (rw (stays, there) refl)
 
 pub views-comes : (g : Group) (values : Values) (v i : ℕ) → IsGroup g → IsPresent g i
-    → has (views_by g values v) i ≡ false → has (values v).leavers i ≡ true
-    → has (views_by g values (v + 1)) i ≡ true
+    → has (views_by g values v) i ≡ false → has (values v).leavers i ≡ true → has (views_by g values (v + 1)) i ≡ true
 views-comes g values v i is here out named = views-are_come g values v i
     ∙ come_in i (has g.opening.present i) (has (views_by g values v) i) (has (values v).leavers i)
     (omega (arith, in_roster g i is here, is.most_members)) here (rw (named, out) refl)
@@ -161,8 +146,7 @@ named-within g values v i is c h = in_roster g i is (named-there g values v i is
 pub views-come : (g : Group) (values : Values) (v : ℕ) → IsGroup g → Changes g values v
     → views_by g values (v + 1) ≡ next_members (views_by g values v) (values v).leavers
 views-come g values v is c = same_masks (views_by g values (v + 1))
-    (next_members (views_by g values v) (values v).leavers)
-    (λ i. by i (cases_lt i 16) (has g.opening.present i) refl)
+    (next_members (views_by g values v) (values v).leavers) (λ i. by i (cases_lt i 16) (has g.opening.present i) refl)
   where
     out : (i : ℕ) → has g.opening.present i ≡ false → (b : Bool) → has (values v).leavers i ≡ b → b ≡ false
     out i away true e = absurd (cc (away, named-there g values v i is c e))
@@ -180,11 +164,9 @@ views-come g values v is c = same_masks (views_by g values (v + 1))
 
     by : (i : ℕ) → (i < 16) ⊎ (16 ≤ i) → (p : Bool) → has g.opening.present i ≡ p
         → has (views_by g values (v + 1)) i ≡ has (next_members (views_by g values v) (values v).leavers) i
-    by i (inl small) true here = views-are_come g values v i
-        ∙ within i (has g.opening.present i) _ small here
+    by i (inl small) true here = views-are_come g values v i ∙ within i (has g.opening.present i) _ small here
         ∙ sym (has_next_members (views_by g values v) (values v).leavers i small)
-    by i (inl small) false away = views-are_come g values v i
-        ∙ beyond i (has g.opening.present i) _ away
+    by i (inl small) false away = views-are_come g values v i ∙ beyond i (has g.opening.present i) _ away
         ∙ sym (has_next_members (views_by g values v) (values v).leavers i small
         ∙ rw (out i away (has (values v).leavers i) refl, gone i away (has (views_by g values v) i) refl) refl)
     by i (inr above) p e = none_above (views_by g values (v + 1)) i (views-small g values (v + 1) is) above
@@ -196,16 +178,14 @@ kept-below : (mask all next n : ℕ) → IsPartOf mask all → IsPartOf mask nex
     → length (members_below mask n) ≤ length (filter (has next) (members_below all n))
 unfolding members_below
 kept-below mask all next zero part stay = omega arith
-kept-below mask all next (suc n) part stay =
-    omega (
-      arith,
-      length-members_below_suc mask n,
-      kept-below mask all next n part stay,
-      ap length (filter-append (has next) (members_below all n) (if has all n then n ∷ [] else [])),
-      length-append (filter (has next) (members_below all n))
-          (filter (has next) (if has all n then n ∷ [] else [])),
-      one (has mask n) (has all n) (has next n) refl (part n) (stay n),
-    )
+kept-below mask all next (suc n) part stay = omega (
+  arith,
+  length-members_below_suc mask n,
+  kept-below mask all next n part stay,
+  ap length (filter-append (has next) (members_below all n) (if has all n then n ∷ [] else [])),
+  length-append (filter (has next) (members_below all n)) (filter (has next) (if has all n then n ∷ [] else [])),
+  one (has mask n) (has all n) (has next n) refl (part n) (stay n),
+)
   where
     one : (a b c : Bool) → has next n ≡ c → (a ≡ true → b ≡ true) → (a ≡ true → c ≡ true)
         → (if a then 1 else 0) ≤ length (filter (has next) (if b then n ∷ [] else []))
@@ -249,9 +229,8 @@ next-follows g values v is c small = record {
         let l = named-within g values v i is c named in
         absurd (cc (
           out,
-          there (views_by g values (v + 1)) (views_by g values v) i same
-              (views-comes g values v i is (named-there g values v i is c named) out named)
-              (omega (arith, l, is.most_members)),
+          there (views_by g values (v + 1)) (views_by g values v) i same (views-comes g values v i is
+              (named-there g values v i is c named) out named) (omega (arith, l, is.most_members)),
         ))
 
 pub next-majority : (g : Group) (values : Values) (v : ℕ) → IsGroup g → Changes g values v
@@ -261,8 +240,7 @@ next-majority g values v is c = omega (
   arith,
   c.majority,
   kept-of c.mask (views_by g values v) (endings_by g.opening values v).next c.part
-      (λ i h. ap (λ k. has k i) (ending-next g values v)
-      ∙ views-stays g values v i is (c.part i h) (c.stay i h)),
+      (λ i h. ap (λ k. has k i) (ending-next g values v) ∙ views-stays g values v i is (c.part i h) (c.stay i h)),
 )
 
 -- somebody stays, so it has members of the roster
@@ -350,9 +328,8 @@ left-steady g values w u v is f f' grew words left = record {
   covered = λ i s was remains member. omega (arith, left.covered i s was remains member, grew.count i v s);
 }
 
-place-kept_in : (g : Group) (values : Values) (w : World) (m : ℕ) → IsGroup g
-    → Faithful g (views_by g values) w → has (views_by g values (w.past.view m)) m ≡ true
-    → ((s : ℕ) → has (views_by g values (w.past.view m)) s ≡ true
+place-kept_in : (g : Group) (values : Values) (w : World) (m : ℕ) → IsGroup g → Faithful g (views_by g values) w
+    → has (views_by g values (w.past.view m)) m ≡ true → ((s : ℕ) → has (views_by g values (w.past.view m)) s ≡ true
     → (j : ℕ) × (has (views_by g values (w.past.view m)) j ≡ true)
     × (w.past.count j (w.past.view m) s ≤ slice_index (values (w.past.view m)).trim s))
     → w.next m ≤ front_of (counts_taken g.opening (endings_by g.opening values) (w.past.view m))
@@ -377,8 +354,7 @@ place-kept_in g values w m is f here least = (front_is (map taken ms) some).grea
       some_member (views_by g values v) m (omega (arith, l, is.most_members)) here,
     )
 
-    few : (j : ℕ) → 0 < length (map (w.past.count j (w.past.view m))
-        (members_of (views_by g values (w.past.view m))))
+    few : (j : ℕ) → 0 < length (map (w.past.count j (w.past.view m)) (members_of (views_by g values (w.past.view m))))
     few j = omega (arith, some, length-map ms taken, length-map ms (w.past.count j v))
 
     held : AllHeldBelow (map taken (members_of (views_by g values (w.past.view m)))) (w.next m)
@@ -401,8 +377,7 @@ place-kept_in g values w m is f here least = (front_is (map taken ms) some).grea
         omega (arith, has_it, read, cut, j.2)
 
 -- nobody has delivered a place of it that is cut off
-pub place-kept : (g : Group) (values : Values) (w : World) (m : ℕ) → IsGroup g
-    → Faithful g (views_by g values) w
+pub place-kept : (g : Group) (values : Values) (w : World) (m : ℕ) → IsGroup g → Faithful g (views_by g values) w
     → ((s : ℕ) → has (views_by g values (w.past.view m)) s ≡ true
     → (j : ℕ) × (has (views_by g values (w.past.view m)) j ≡ true)
     × (w.past.count j (w.past.view m) s ≤ slice_index (values (w.past.view m)).trim s))

@@ -3,25 +3,15 @@
 use Rattle.std.proofs.Common.{◌≡◌, ◌≢◌, refl, ap, sym, ◌∙◌, ◌⊎◌, inl, inr, subst, ℕ, ◌+◌, ◌<◌, ◌≤◌, arith, true, [], ◌++◌, length, Some, append-nil, length-append}
 use Rattle.std.proofs.lemmas.Bool.{cases_eq}
 use Rattle.dr_entry.specs.declared.end.End.TheVariants.{Done}
-use Rattle.dr_history.specs.History.{last_view}
-use Rattle.dr_history.specs.Members.{has}
+use Rattle.dr_history.specs.{History.last_view, Members.has}
 use Rattle.dr_words.specs.declared.column.TheConstants.{BEAT_COLUMN, LOGGED_COLUMN, DONE_COLUMN}
-use Rattle.dr_machine.proofs.Ends.{EndsSo, ended_so}
-use Rattle.dr_machine.proofs.Events.{AreDoneAs, marks_or_leaves, progress_after}
-use Rattle.dr_machine.specs.declared.event.Event.{Event}
-use Rattle.dr_machine.specs.declared.step.Step.{Step}
-use Rattle.dr_machine.specs.Events.{member_of, step_of}
-use Rattle.dr_machine.specs.Group.{Group, roster}
-use Rattle.dr_machine.specs.Acts.{CanTake, Guard, effect, effect_of}
-use Rattle.dr_machine.specs.Guards.{CanReport, CanMark, CanDeliver, CanJoin, IsInView}
-use Rattle.dr_machine.specs.Run.{WordsGrew}
-use Rattle.dr_machine.specs.World.{World, own_word, shown}
+use Rattle.dr_machine.specs.{Acts.{CanTake, Guard, effect, effect_of}, Run.WordsGrew, World.{World, own_word, shown}}
 use Rattle.dr_machine.specs.Effects.{committed_value, finished_history, least_shown, marks, one_more, stamped}
-use Rattle.dr_faithful.proofs.Finishes.{joined_is}
-use Rattle.dr_faithful.proofs.Shown.{done_is_one, shown_le}
-use Rattle.dr_faithful.proofs.Writes.{at_both, at_case, at₃_member}
-use Rattle.dr_faithful.specs.Faithful.{Faithful}
-use Rattle.dr_faithful.specs.Tells.{Views}
+use Rattle.dr_machine.{specs.Events.{member_of, step_of}, proofs.Events.{AreDoneAs, marks_or_leaves, progress_after}}
+use Rattle.dr_machine.{specs.{Group.{Group, roster}, declared.step.Step.Step}, proofs.Ends.{EndsSo, ended_so}}
+use Rattle.dr_machine.specs.{Guards.{CanReport, CanMark, CanDeliver, CanJoin, IsInView}, declared.event.Event.Event}
+use Rattle.dr_faithful.{specs.{Faithful.Faithful, Tells.Views}, proofs.Finishes.joined_is}
+use Rattle.dr_faithful.proofs.{Shown.{done_is_one, shown_le}, Writes.{at_both, at_case, at₃_member}}
 use Rattle.dr_world_laws.proofs.Histories.{added}
 
 -- whoever may join comes into a later view
@@ -31,8 +21,7 @@ JoinsLater g w = (m : ℕ) (can : CanJoin g w m) → w.past.view m < (last_view 
 -- those who show done have completed their history, and nobody ends as done before all of its view show it
 pub record Complete (g : Group) (w : World) : Type 0 where
   -- who shows done knows its whole history to be durable
-  pub durable : (m : ℕ) → m < roster g → own_word w m DONE_COLUMN ≡ 1 → w.past.durable m
-      ≡ length (w.past.history m)
+  pub durable : (m : ℕ) → m < roster g → own_word w m DONE_COLUMN ≡ 1 → w.past.durable m ≡ length (w.past.history m)
   -- all members of the view of one that has ended as done show it
   pub shown : (m : ℕ) → w.end m ≡ Some Done → (i : ℕ) → has (w.members m) i ≡ true
       → w.past.own i (w.past.view m) DONE_COLUMN ≡ 1
@@ -68,27 +57,19 @@ still_durable g V w m s f nothing later can c = progress_after g w m s (λ x. (k
       puts_item = λ name may. c.durable;
       delivers_place = λ can. at_case
           (λ k h. k < roster g → own_word w k DONE_COLUMN ≡ 1 → w.past.durable k ≡ length h) w.past.history m
-          (w.past.history m ++ added w m) (λ k d. c.durable k)
-          (λ l e. c.durable m l e ∙ ap length (sym (ap (λ es. w.past.history m ++ es) (nothing m can l e)
-          ∙ append-nil (w.past.history m))));
-      knows_more = λ can. at_case
-          (λ k d. k < roster g → own_word w k DONE_COLUMN ≡ 1 → d ≡ length (w.past.history k))
+          (w.past.history m ++ added w m) (λ k d. c.durable k) (λ l e. c.durable m l e
+          ∙ ap length (sym (ap (λ es. w.past.history m ++ es) (nothing m can l e) ∙ append-nil (w.past.history m))));
+      knows_more = λ can. at_case (λ k d. k < roster g → own_word w k DONE_COLUMN ≡ 1 → d ≡ length (w.past.history k))
           w.past.durable m (least_shown w m LOGGED_COLUMN) (λ k d. c.durable k)
           (λ l e. absurd (reported g V w m f can (c.durable m l e)));
       goes_on = λ can. at_both (λ k v h. k < roster g → w.past.own k v DONE_COLUMN ≡ 1
           → w.past.durable k ≡ length h) w.past.view w.past.history m (w.past.view m + 1)
           (finished_history g w m (committed_value w m)) c.durable
-          (λ l e. absurd (omega (
-            arith,
-            e,
-            f.fresh.unwritten m (w.past.view m + 1) DONE_COLUMN (omega arith),
-          )));
-      joins = λ can. joined_is w m can.letter
-          (λ u. (k : ℕ) → k < roster g → w.past.own k (u.past.view k) DONE_COLUMN ≡ 1
-          → u.past.durable k ≡ length (u.past.history k)) can.given
+          (λ l e. absurd (omega (arith, e, f.fresh.unwritten m (w.past.view m + 1) DONE_COLUMN (omega arith))));
+      joins = λ can. joined_is w m can.letter (λ u. (k : ℕ) → k < roster g → w.past.own k
+          (u.past.view k) DONE_COLUMN ≡ 1 → u.past.durable k ≡ length (u.past.history k)) can.given
           (at_both (λ k v h. k < roster g → w.past.own k v DONE_COLUMN ≡ 1 → w.past.durable k ≡ length h)
-          w.past.view w.past.history m (last_view (0, 0) can.letter).0 can.letter c.durable
-          (λ l e. absurd (omega (
+          w.past.view w.past.history m (last_view (0, 0) can.letter).0 can.letter c.durable (λ l e. absurd (omega (
             arith,
             e,
             f.fresh.unwritten m (last_view (0, 0) can.letter).0 DONE_COLUMN (later m can),
@@ -97,16 +78,14 @@ still_durable g V w m s f nothing later can c = progress_after g w m s (λ x. (k
     })
 
 step_durable : (g : Group) (V : Views) (w : World) (m : ℕ) (s : Step) → Faithful g V w
-    → ((m : ℕ) → CanDeliver g w m → m < roster g → own_word w m DONE_COLUMN ≡ 1 → added w m ≡ [])
-    → JoinsLater g w → CanTake g w m s → Complete g w → (k : ℕ) → k < roster g
-    → own_word (effect_of g w m s) k DONE_COLUMN ≡ 1
+    → ((m : ℕ) → CanDeliver g w m → m < roster g → own_word w m DONE_COLUMN ≡ 1 → added w m ≡ []) → JoinsLater g w
+    → CanTake g w m s → Complete g w → (k : ℕ) → k < roster g → own_word (effect_of g w m s) k DONE_COLUMN ≡ 1
     → (effect_of g w m s).past.durable k ≡ length ((effect_of g w m s).past.history k)
 step_durable g V w m s f nothing later can c k l e = by (marks_or_leaves g w m s can)
   where
     marked : CanMark g w m → (k ≡ m) ⊎ (k ≢ m) → own_word (stamped (marks w m) m) k DONE_COLUMN ≡ 1
         → w.past.durable k ≡ length (w.past.history k)
-    marked can (inl same) e =
-        subst (λ i. w.past.durable i ≡ length (w.past.history i)) (sym same) can.durable
+    marked can (inl same) e = subst (λ i. w.past.durable i ≡ length (w.past.history i)) (sym same) can.durable
     marked can (inr d) e = c.durable k l (sym (at₃_member w.past.own m (w.past.view m) DONE_COLUMN 1 k
         (w.past.view k) DONE_COLUMN d) ∙ sym (at₃_member (marks w m).past.own m (w.past.view m) BEAT_COLUMN
         (one_more 64 (w.past.acts m)) k (w.past.view k) DONE_COLUMN d) ∙ e)
@@ -131,8 +110,7 @@ ends_shown g V w k f c (inr (inr fault)) = absurd fault
 -- and who shows done in a view goes on to do so
 step_shown : (g : Group) (V U : Views) (w : World) (m : ℕ) (s : Step) → Faithful g V w
     → Faithful g U (effect_of g w m s) → WordsGrew g w (effect_of g w m s) → CanTake g w m s → Complete g w
-    → (k : ℕ) → (effect_of g w m s).end k ≡ Some Done
-    → (i : ℕ) → has ((effect_of g w m s).members k) i ≡ true
+    → (k : ℕ) → (effect_of g w m s).end k ≡ Some Done → (i : ℕ) → has ((effect_of g w m s).members k) i ≡ true
     → (effect_of g w m s).past.own i ((effect_of g w m s).past.view k) DONE_COLUMN ≡ 1
 step_shown g V U w m s f after grew can c k e i member =
     let t = ended_so g w m s k Done can e in
@@ -150,8 +128,7 @@ done_shown g V w m f c l e = c.shown m e m (c.inside m e)
 step_inside : (g : Group) (w : World) (m : ℕ) (s : Step) → CanTake g w m s → Complete g w
     → (k : ℕ) → (effect_of g w m s).end k ≡ Some Done → IsInView (effect_of g w m s) k
 step_inside g w m s can c k e =
-    let t = ended_so g w m s k Done can e in
-    ap (λ mask. has mask k) t.0.members ∙ by t.1
+    let t = ended_so g w m s k Done can e in ap (λ mask. has mask k) t.0.members ∙ by t.1
   where
     by : EndsSo w k Done → has (w.members k) k ≡ true
     by (inl before) = c.inside k before
@@ -161,8 +138,7 @@ step_inside g w m s can c k e =
 -- after an event too, who shows done has completed its history
 pub event_completes : (g : Group) (V : Views) (w : World) (e : Event) → Faithful g V w
     → Faithful g V (effect g w e) → WordsGrew g w (effect g w e)
-    → ((m : ℕ) → CanDeliver g w m → m < roster g → own_word w m DONE_COLUMN ≡ 1 → added w m
-    ≡ [])
+    → ((m : ℕ) → CanDeliver g w m → m < roster g → own_word w m DONE_COLUMN ≡ 1 → added w m ≡ [])
     → JoinsLater g w → Guard g w e → Complete g w → Complete g (effect g w e)
 event_completes g V w e f after grew nothing later can c = record {
   durable = step_durable g V w (member_of e) (step_of e) f nothing later can c;

@@ -1,34 +1,21 @@
 -- What the value of a view cuts off nobody has delivered, and who goes on has received all that it takes.
 use Rattle.std.proofs.Common.{List, append_assoc, drop, length, [], ◌∷◌, ◌≡◌, ap, arith, sym, true, ◌∙◌, subst, ℕ, ◌+◌, ◌<◌, ◌≤◌, ◌++◌, slice_index, Some}
 use Rattle.std.proofs.Math.Seq.{drop-append_seam}
-use Rattle.dr_entry.specs.declared.entry.Entry.{Entry}
-use Rattle.dr_entry.specs.declared.entry.Entry.TheVariants.{View}
-use Rattle.dr_entry.specs.declared.record.Value.{Value}
-use Rattle.dr_history.specs.Members.{has}
-use Rattle.dr_history.specs.History.{IsPrefixOf, merge}
-use Rattle.dr_history.specs.Places.{front_of}
-use Rattle.dr_history_laws.specs.Courses.{counts_taken, view_in}
-use Rattle.dr_history_laws.proofs.Courses.{head-next}
-use Rattle.dr_history_laws.proofs.Cutting.{merge-prefix}
-use Rattle.dr_machine.specs.Group.{Group, IsGroup, roster}
-use Rattle.dr_machine.specs.World.{World}
+use Rattle.dr_entry.specs.{declared.entry.Entry.{Entry, TheVariants.View}, declared.record.Value.Value}
+use Rattle.dr_history.specs.{History.{IsPrefixOf, merge}, Members.has, Places.front_of}
+use Rattle.dr_history_laws.{specs.Courses.{counts_taken, view_in}, proofs.{Courses.head-next, Cutting.merge-prefix}}
+use Rattle.dr_history_laws.proofs.Heads.{head-last}
+use Rattle.dr_machine.specs.{Group.{Group, IsGroup, roster}, World.World}
 use Rattle.dr_words.specs.Masks.{next_members}
 use Rattle.dr_faithful.specs.Chosen.{AreChosen, Values, endings_by, views_by}
 use Rattle.dr_vote_laws.specs.Voting.{IsChosen, IsCut}
-use Rattle.dr_world_laws.specs.Historic.{head_by}
-use Rattle.dr_world_laws.specs.Views.{IsCovered, all_taken}
-use Rattle.dr_world_laws.proofs.HeldViews.{behind-is}
-use Rattle.dr_history_laws.proofs.Heads.{head-last}
-use Rattle.dr_world_laws.proofs.Holding.{reaches}
-use Rattle.dr_world_laws.proofs.Safety.{kept_in}
-use Rattle.dr_world_laws.proofs.ChosenViews.{ending-next, place-kept, views-come}
-use Rattle.dr_world_laws.proofs.Ballots.{cut-changes, voted-cut}
-use Rattle.dr_world_laws.proofs.Reached.{Known, safe}
+use Rattle.dr_world_laws.specs.{Historic.head_by, Views.{IsCovered, all_taken}}
+use Rattle.dr_world_laws.proofs.{Ballots.{cut-changes, voted-cut}, ChosenViews.{ending-next, place-kept, views-come}}
+use Rattle.dr_world_laws.proofs.{HeldViews.behind-is, Holding.reaches, Reached.{Known, safe}, Safety.kept_in}
 
 -- a member of a view in which a value is committed has delivered nothing that this value cuts off
 pub delivered_within : (g : Group) (values : Values) (w : World) (m k : ℕ) (x : Value) → IsGroup g
-    → Known g values w → AreChosen values w → m < roster g → w.committed k ≡ Some x
-    → w.past.view m ≡ w.past.view k
+    → Known g values w → AreChosen values w → m < roster g → w.committed k ≡ Some x → w.past.view m ≡ w.past.view k
     → w.next m ≤ front_of (counts_taken g.opening (endings_by g.opening values) (w.past.view m))
 delivered_within g values w m k x is y chosen l e same = place-kept g values w m is y.faithful (λ s there.
     let t = (safe g values w k x y e).least s (sym (member s) ∙ there) in (
@@ -42,8 +29,7 @@ delivered_within g values w m k x is y chosen l e same = place-kept g values w m
     value = chosen k x e ∙ ap values (sym same)
 
     member : (i : ℕ) → has (views_by g values (w.past.view m)) i ≡ has (w.members k) i
-    member i = sym (ap (λ z. has z i) (y.faithful.views.own k)
-        ∙ ap (λ v. has (views_by g values v) i) (sym same))
+    member i = sym (ap (λ z. has z i) (y.faithful.views.own k) ∙ ap (λ v. has (views_by g values v) i) (sym same))
 
 -- so what it has delivered in the view is the front part of the merge of what the value takes
 pub front_part : (g : Group) (values : Values) (w : World) (m : ℕ) → Known g values w → m < roster g
@@ -51,13 +37,11 @@ pub front_part : (g : Group) (values : Values) (w : World) (m : ℕ) → Known g
     → IsPrefixOf (w.past.history m) (head_by g values w (w.past.view m)
     ++ merge g.opening w.past.sent (view_in g.opening (endings_by g.opening values) (w.past.view m))
     (counts_taken g.opening (endings_by g.opening values) (w.past.view m)))
-front_part g values w m y l below = subst
-    (λ es. IsPrefixOf es (head_by g values w (w.past.view m)
+front_part g values w m y l below = subst (λ es. IsPrefixOf es (head_by g values w (w.past.view m)
     ++ merge g.opening w.past.sent (view_in g.opening (endings_by g.opening values) (w.past.view m))
     (counts_taken g.opening (endings_by g.opening values) (w.past.view m))))
-    (sym (y.laid.historic.history m l))
-    (merge-prefix g.opening w.past.sent (head_by g values w (w.past.view m))
-    (view_in g.opening (endings_by g.opening values) (w.past.view m))
+    (sym (y.laid.historic.history m l)) (merge-prefix g.opening w.past.sent
+    (head_by g values w (w.past.view m)) (view_in g.opening (endings_by g.opening values) (w.past.view m))
     (endings_by g.opening values (w.past.view m)).taken (w.next m) below)
 
 -- ---- a value that is voted for
@@ -65,15 +49,13 @@ front_part g values w m y l below = subst
 prefix_behind : (xs ys zs : List Entry) → IsPrefixOf (xs ++ ys) (xs ++ zs) → IsPrefixOf ys zs
 prefix_behind xs ys zs p = (
   p.0,
-  sym (drop-append_seam xs (ys ++ p.0))
-      ∙ ap (drop (length xs)) (sym (append_assoc xs ys p.0) ∙ p.1)
+  sym (drop-append_seam xs (ys ++ p.0)) ∙ ap (drop (length xs)) (sym (append_assoc xs ys p.0) ∙ p.1)
       ∙ drop-append_seam xs zs,
 )
 
 -- where more than half of a view has voted for its value, the value covers what is delivered
 pub covered : (g : Group) (values : Values) (w : World) (v b : ℕ) → IsGroup g → Known g values w
-    → IsChosen (views_by g values) w.past.votes v b (values v)
-    → IsCovered g w v (views_by g values v) (values v)
+    → IsChosen (views_by g values) w.past.votes v b (values v) → IsCovered g w v (views_by g values v) (values v)
 covered g values w v b is y voted = record {
   within = λ m before behind l here e.
       let r = reaches g values w m v y.laid.historic l (omega (arith, here)) in
@@ -87,8 +69,7 @@ covered g values w v b is y voted = record {
         sym (behind-is g values w m v (views_by g values v) (views_by g values v) before behind t.0
             ((merged ++ next) ++ r.0) is y l e (sym r.1
             ∙ ap (λ es. es ++ r.0) (head ∙ append_assoc (head_by g values w v) merged next)
-            ∙ append_assoc (head_by g values w v) (merged ++ next) r.0
-            ∙ head_with ((merged ++ next) ++ r.0))),
+            ∙ append_assoc (head_by g values w v) (merged ++ next) r.0 ∙ head_with ((merged ++ next) ++ r.0))),
       );
   received = λ i s inside stays there. omega (
     arith,
@@ -103,8 +84,7 @@ covered g values w v b is y voted = record {
     next : List Entry
     next = View g.opening.age (v + 1) (next_members (views_by g values v) (values v).leavers) ∷ []
 
-    t : (before : List Entry) × (head_by g values w v
-        ≡ before ++ View g.opening.age v (views_by g values v) ∷ [])
+    t : (before : List Entry) × (head_by g values w v ≡ before ++ View g.opening.age v (views_by g values v) ∷ [])
     t = head-last g.opening w.past.sent (endings_by g.opening values) v
 
     head_with : (rest : List Entry) → head_by g values w v ++ rest
@@ -115,8 +95,7 @@ covered g values w v b is y voted = record {
     cut : IsCut g.opening (views_by g values) w.past.own v (values v)
     cut = voted-cut g values w v b y.voting voted
 
-    least : (s : ℕ) → has (views_by g values v) s ≡ true
-        → (j : ℕ) × (has (views_by g values v) j ≡ true)
+    least : (s : ℕ) → has (views_by g values v) s ≡ true → (j : ℕ) × (has (views_by g values v) j ≡ true)
         × (w.past.count j v s ≤ slice_index (values v).trim s)
     least s there =
         let t = (cut.trims s there).found in (
@@ -125,23 +104,19 @@ covered g values w v b is y voted = record {
           omega (arith, t.2, y.faithful.counts.recv t.0 v s (y.faithful.views.within v s there)),
         )
 
-    head : head_by g values w (v + 1)
-        ≡ (head_by g values w v
-        ++ merge g.opening w.past.sent (view_in g.opening (endings_by g.opening values) v)
-        (counts_taken g.opening (endings_by g.opening values) v))
+    head : head_by g values w (v + 1) ≡ (head_by g values w v ++ merge g.opening w.past.sent
+        (view_in g.opening (endings_by g.opening values) v) (counts_taken g.opening (endings_by g.opening values) v))
         ++ View g.opening.age (v + 1) (next_members (views_by g values v) (values v).leavers) ∷ []
-    head = head-next g.opening w.past.sent (endings_by g.opening values) v
-        ∙ ap (λ mask. (head_by g values w v
+    head = head-next g.opening w.past.sent (endings_by g.opening values) v ∙ ap (λ mask. (head_by g values w v
         ++ merge g.opening w.past.sent (view_in g.opening (endings_by g.opening values) v)
         (counts_taken g.opening (endings_by g.opening values) v)) ++ View g.opening.age (v + 1) mask ∷ [])
         (ending-next g values v ∙ views-come g values v is (cut-changes g values w.past.own v cut))
 
     delivered : (m : ℕ) → m < roster g → w.past.view m ≡ v → IsPrefixOf (w.past.history m)
         (head_by g values w v ++ all_taken g w v (views_by g values v) (values v))
-    delivered m l here = subst (λ u. IsPrefixOf (w.past.history m) (head_by g values w u
-        ++ merge g.opening w.past.sent (view_in g.opening (endings_by g.opening values) u)
-        (counts_taken g.opening (endings_by g.opening values) u))) here
-        (front_part g values w m y l (place-kept g values w m is y.faithful (λ s there.
-        subst (λ u. (j : ℕ) × (has (views_by g values u) j ≡ true)
+    delivered m l here = subst (λ u. IsPrefixOf (w.past.history m)
+        (head_by g values w u ++ merge g.opening w.past.sent (view_in g.opening (endings_by g.opening values) u)
+        (counts_taken g.opening (endings_by g.opening values) u))) here (front_part g values w m y l
+        (place-kept g values w m is y.faithful (λ s there. subst (λ u. (j : ℕ) × (has (views_by g values u) j ≡ true)
         × (w.past.count j u s ≤ slice_index (values u).trim s)) (sym here)
         (least s (subst (λ u. has (views_by g values u) s ≡ true) here there)))))

@@ -1,27 +1,18 @@
 -- Whoever has committed a value by which it stays may end its view with it: a bank is left for the next
 -- view, and all items that the value takes are there.
 use Rattle.std.proofs.Common.{Bool, ◌≡◌, ◌⊎◌, ◌&&◌, not, nat_lt, ap, arith, inl, inr, length, refl, subst, suc, sym, zero, true, false, ℕ, ◌+◌, ◌*◌, ◌-◌, ◌^◌, ◌<◌, ◌∙◌, ◌≤◌, Some, if◌then◌else◌}
-use Rattle.std.proofs.lemmas.Bool.{cases_lt}
-use Rattle.std.proofs.lemmas.List.FromFn.{length-range_with_len}
+use Rattle.std.proofs.lemmas.{Bool.cases_lt, List.FromFn.length-range_with_len}
 use Rattle.dr_entry.specs.declared.record.Value.{Value}
-use Rattle.dr_history.specs.Members.{has, members_below, members_of}
-use Rattle.dr_history.specs.Order.{IsNewIn}
-use Rattle.dr_history.proofs.Bits.{has_ones}
+use Rattle.dr_history.{specs.{Members.{has, members_below, members_of}, Order.IsNewIn}, proofs.Bits.has_ones}
 use Rattle.dr_history.proofs.Ranks.{length-members_below_suc, some_member}
 use Rattle.dr_history_laws.proofs.Members.{members_of-ones}
-use Rattle.dr_words.proofs.Masks.{has_without_mask, in_roster_small, without_small}
-use Rattle.dr_words.specs.Masks.{without}
-use Rattle.dr_machine.specs.Group.{Group, IsGroup, banks, late_members, roster}
-use Rattle.dr_machine.specs.Guards.{CanFinish, MayChoose}
+use Rattle.dr_words.{specs.Masks.without, proofs.Masks.{has_without_mask, in_roster_small, without_small}}
+use Rattle.dr_machine.specs.{Group.{Group, IsGroup, banks, late_members, roster}, Guards.{CanFinish, MayChoose}}
 use Rattle.dr_machine.specs.World.{World}
-use Rattle.dr_faithful.proofs.Beside.{in_view}
-use Rattle.dr_faithful.specs.Chosen.{AreChosen, Values, views_by}
-use Rattle.dr_world_laws.proofs.Ballots.{cut-changes, voted-cut}
+use Rattle.dr_faithful.{specs.Chosen.{AreChosen, Values, views_by}, proofs.Beside.in_view}
+use Rattle.dr_world_laws.proofs.{Ballots.{cut-changes, voted-cut}, Finishing.changes, Reached.Known, Safety.IsSafe}
 use Rattle.dr_world_laws.proofs.ChosenViews.{Changes, named-there, named-within, views-cases, views-comes, views-first, views-leaves, views-stays}
-use Rattle.dr_world_laws.proofs.Finishing.{changes}
 use Rattle.dr_world_laws.proofs.Reached as worlds
-use Rattle.dr_world_laws.proofs.Reached.{Known}
-use Rattle.dr_world_laws.proofs.Safety.{IsSafe}
 
 -- ---- how many views there may be
 
@@ -54,9 +45,8 @@ new-next : (g : Group) (values : Values) (v i : ℕ) → has (new_in g values (v
 unfolding new_in
 new-next g values v i =
     let next : v + 1 ≡ suc v = omega arith in
-    ap (λ n. has (new_in g values n) i) next
-    ∙ has_without_mask (new_in g values v) (views_by g values (suc v)) i (new-small g values v)
-    ∙ ap (λ n. has (new_in g values v) i && not (has (views_by g values n) i)) (sym next)
+    ap (λ n. has (new_in g values n) i) next ∙ has_without_mask (new_in g values v) (views_by g values (suc v)) i
+    (new-small g values v) ∙ ap (λ n. has (new_in g values v) i && not (has (views_by g values n) i)) (sym next)
 
 -- one for a member
 abbrev one : Bool → ℕ
@@ -78,8 +68,7 @@ falls a p b q i (suc n) each = omega (
   each n,
 )
 
-falls-less : (a p b q i n : ℕ)
-    → ((k : ℕ) → one (has a k) + 2 * one (has p k) ≤ one (has b k) + 2 * one (has q k))
+falls-less : (a p b q i n : ℕ) → ((k : ℕ) → one (has a k) + 2 * one (has p k) ≤ one (has b k) + 2 * one (has q k))
     → one (has a i) + 2 * one (has p i) < one (has b i) + 2 * one (has q i) → i < n
     → length (members_below a n) + 2 * length (members_below p n)
     < length (members_below b n) + 2 * length (members_below q n)
@@ -90,8 +79,7 @@ falls-less a p b q i (suc n) each less l = by (cases_lt i n) (falls-less a p b q
     here : i ≡ n → one (has a n) + 2 * one (has p n) < one (has b n) + 2 * one (has q n)
     here e = subst (λ k. one (has a k) + 2 * one (has p k) < one (has b k) + 2 * one (has q k)) e less
 
-    by : (i < n) ⊎ (n ≤ i)
-        → (i < n → length (members_below a n) + 2 * length (members_below p n)
+    by : (i < n) ⊎ (n ≤ i) → (i < n → length (members_below a n) + 2 * length (members_below p n)
         < length (members_below b n) + 2 * length (members_below q n))
         → length (members_below a (suc n)) + 2 * length (members_below p (suc n))
         < length (members_below b (suc n)) + 2 * length (members_below q (suc n))
@@ -119,8 +107,7 @@ falls-less a p b q i (suc n) each less l = by (cases_lt i n) (falls-less a p b q
 abbrev worth : Group → Values → ℕ → ℕ
 worth g values v = length (members_of (views_by g values v)) + 2 * length (members_of (new_in g values v))
 
-no-more : (a b q : Bool) → (a ≡ true → (b ≡ true) ⊎ (q ≡ true))
-    → one a + 2 * one (q && not a) ≤ one b + 2 * one q
+no-more : (a b q : Bool) → (a ≡ true → (b ≡ true) ⊎ (q ≡ true)) → one a + 2 * one (q && not a) ≤ one b + 2 * one q
 no-more true true q came = grind arith
 no-more true false true came = omega arith
 no-more true false false came = by (came refl)
@@ -249,8 +236,7 @@ views-few g values (suc v) is left =
 -- each view that was left changed as it should
 pub left-changes : (g : Group) (values : Values) (w : World) (m u : ℕ) → Known g values w → u < w.past.view m → Changes g values u
 left-changes g values w m u y less =
-    let t = y.ballots m u less in
-    cut-changes g values w.past.own u (voted-cut g values w u t.0 y.voting t.1)
+    let t = y.ballots m u less in cut-changes g values w.past.own u (voted-cut g values w u t.0 y.voting t.1)
 
 -- a member that stays finds a bank for the next view
 bank-left : (g : Group) (values : Values) (w : World) (m : ℕ) → IsGroup g → Known g values w → m < roster g
@@ -267,9 +253,8 @@ bank-left g values w m is y l there stays c =
     )
 
 -- so it may end its view
-pub may-finish : (g : Group) (values : Values) (w : World) (m : ℕ) (x : Value) → IsGroup g
-    → Known g values w → AreChosen values w → MayChoose g w m → w.committed m ≡ Some x
-    → has x.leavers m ≡ false → CanFinish g w m
+pub may-finish : (g : Group) (values : Values) (w : World) (m : ℕ) (x : Value) → IsGroup g → Known g values w
+    → AreChosen values w → MayChoose g w m → w.committed m ≡ Some x → has x.leavers m ≡ false → CanFinish g w m
 may-finish g values w m x is y chosen may e stays = record {
   may = may;
   value = x;

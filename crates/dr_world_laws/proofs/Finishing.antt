@@ -1,44 +1,28 @@
 -- A member that may end its view comes to the head of the next one, as everybody does who ends this view.
 use Rattle.std.proofs.Common.{List, [], ◌∷◌, ◌++◌, ap, arith, fold, inl, inr, length, length-append, map, option_to_list, slice_get, slice_index, subst, sym, true, false, Contains, Some, ℕ, ◌/◌, ◌%◌, ◌+◌, ◌<◌, ◌∙◌, ◌≡◌, ◌≤◌, ◌⊎◌}
-use Rattle.std.proofs.lemmas.Bool.{cases_lt}
-use Rattle.std.proofs.lemmas.Option.{none-some, slice_get-get_or}
-use Rattle.dr_entry.specs.declared.entry.Entry.{Entry}
-use Rattle.dr_entry.specs.declared.entry.Entry.TheVariants.{View}
-use Rattle.dr_entry.specs.declared.end.SentItem.{SentItem}
-use Rattle.dr_entry.specs.declared.end.SentItem.TheVariants.{Index}
+use Rattle.std.proofs.lemmas.{Bool.cases_lt, Option.{none-some, slice_get-get_or}}
+use Rattle.dr_entry.specs.declared.{end.SentItem.{SentItem, TheVariants.Index}, entry.Entry.{Entry, TheVariants.View}}
 use Rattle.dr_entry.specs.declared.record.Value.{Value}
-use Rattle.dr_history.specs.Members.{has, members_of}
-use Rattle.dr_history.specs.History.{GroupView, item_at, merge, messages_of}
-use Rattle.dr_history.specs.Order.{messages_from}
-use Rattle.dr_history.specs.Places.{is_held, rest_places}
+use Rattle.dr_history.specs.{History.{GroupView, item_at, merge, messages_of}, Members.{has, members_of}}
+use Rattle.dr_history.specs.{Order.messages_from, Places.{is_held, rest_places}}
 use Rattle.dr_history.proofs.NumberedLemmas.{length-numbered_messages}
-use Rattle.dr_history_laws.specs.Courses.{ViewHasEnded, counts_taken}
-use Rattle.dr_history_laws.specs.Laid.{GoesOn, entry_at, laid}
-use Rattle.dr_history_laws.proofs.Courses.{InOrder-head, head-ends, head-next}
-use Rattle.dr_history_laws.proofs.Indices.{item_at-parts}
-use Rattle.dr_history_laws.proofs.Lists.{Contains-slice_get}
-use Rattle.dr_history_laws.proofs.Members.{member-has, members_of-few, view-distinct}
-use Rattle.dr_history_laws.proofs.Resting.{rest-merged}
-use Rattle.dr_history_laws.proofs.SendingLemmas.{held_member}
+use Rattle.dr_history_laws.specs.{Courses.{ViewHasEnded, counts_taken}, Laid.{GoesOn, entry_at, laid}}
+use Rattle.dr_history_laws.proofs.{Courses.{InOrder-head, head-ends, head-next}, Indices.item_at-parts}
+use Rattle.dr_history_laws.proofs.{Lists.Contains-slice_get, Members.{member-has, members_of-few, view-distinct}}
+use Rattle.dr_history_laws.proofs.{Resting.rest-merged, SendingLemmas.held_member}
 use Rattle.dr_words.specs.Masks.{next_members}
-use Rattle.dr_machine.specs.Effects.{counts_by, finished_history, with_place}
-use Rattle.dr_machine.specs.Group.{Group, IsGroup, banks, late_members, roster}
-use Rattle.dr_machine.specs.Guards.{CanFinish}
-use Rattle.dr_machine.specs.World.{World, view_members}
-use Rattle.dr_faithful.proofs.Beside.{in_view}
-use Rattle.dr_faithful.proofs.Finishes.{last_or_before, no_items}
-use Rattle.dr_faithful.specs.Chosen.{AreChosen, Values, endings_by, views_by}
-use Rattle.dr_faithful.specs.Faithful.{Faithful, GoesOnWell}
+use Rattle.dr_machine.specs.{Effects.{counts_by, finished_history, with_place}, Guards.CanFinish}
+use Rattle.dr_machine.specs.{Group.{Group, IsGroup, banks, late_members, roster}, World.{World, view_members}}
+use Rattle.dr_faithful.specs.{Chosen.{AreChosen, Values, endings_by, views_by}, Faithful.{Faithful, GoesOnWell}}
+use Rattle.dr_faithful.proofs.{Beside.in_view, Finishes.{last_or_before, no_items}}
 use Rattle.dr_world_laws.specs.Historic.{AreLaid, Historic, HasEndedSafely, head_by, view_numbered}
 use Rattle.dr_world_laws.proofs.ChosenViews.{Changes, ending-next, next-follows, next-majority, next-newcomers, next-roster, next-stayed, place-kept, views-cases, views-come, views-within}
-use Rattle.dr_world_laws.proofs.Safety.{IsSafe}
-use Rattle.dr_world_laws.proofs.Items.{IsReceived, entries-next, item-here}
+use Rattle.dr_world_laws.proofs.{Items.{IsReceived, entries-next, item-here}, Safety.IsSafe}
 
 -- a member of a view is of the roster
 of_roster : (g : Group) (values : Values) (v s : ℕ) → IsGroup g
     → Contains (members_of (views_by g values v)) s → s < roster g
-of_roster g values v s is member = views-within g values v s is
-    (member-has (views_by g values v) member.0 s
+of_roster g values v s is member = views-within g values v s is (member-has (views_by g values v) member.0 s
     (slice_get-get_or (members_of (views_by g values v)) member.0 s member.1 ∙ ap Some member.2))
 
 -- what is sent in any view goes on from its head: in one that its sender has not come to nothing is sent
@@ -56,8 +40,7 @@ goes-any g values w v is f h = record {
         → (w.past.view s < v) ⊎ (v ≤ w.past.view s)
         → GoesOn g.opening w.past.sent (head_by g values w v) (view_numbered g (views_by g values) v)
     of_sender s k i at l (inl less) =
-        let none : w.past.sent s v ≡ [] = no_items (w.past.sent s v)
-        (f.sent.all s v ∙ f.fresh.empty s v s less) in
+        let none : w.past.sent s v ≡ [] = no_items (w.past.sent s v) (f.sent.all s v ∙ f.fresh.empty s v s less) in
         absurd (none-some (Index i) (sym (ap (λ xs. slice_get xs k) none) ∙ at))
     of_sender s k i at l (inr come) = h.goes s v l come
 
@@ -94,8 +77,7 @@ finishes g values w m is f chosen can safe = record {
 
 -- a value that is safe changes the view as it should
 pub changes : (g : Group) (values : Values) (w : World) (m : ℕ) (x : Value)
-    → x ≡ values (w.past.view m) → IsSafe g (views_by g values) w m x
-    → Changes g values (w.past.view m)
+    → x ≡ values (w.past.view m) → IsSafe g (views_by g values) w m x → Changes g values (w.past.view m)
 changes g values w m x chosen safe = record {
   mask = safe.mask;
   part = safe.part;
@@ -128,13 +110,11 @@ leaves g values w m x is f y = record {
         t.0,
         member t.0 ∙ t.1,
         t.2,
-        subst (λ (z : Value). w.past.count t.0 v s ≤ slice_index z.trim s)
-            y.chosen t.3,
+        subst (λ (z : Value). w.past.count t.0 v s ≤ slice_index z.trim s) y.chosen t.3,
       );
   covered = λ i s was remains there. subst (λ (z : Value). slice_index z.trim s ≤ w.past.count i v s) y.chosen
       (y.safe.covered i s (sym (member i) ∙ was)
-      (subst (λ (z : Value). has z.leavers i ≡ false) (sym y.chosen)
-      (stay i was (views-cases g values v i remains)))
+      (subst (λ (z : Value). has z.leavers i ≡ false) (sym y.chosen) (stay i was (views-cases g values v i remains)))
       (sym (member s) ∙ there));
 }
   where
@@ -145,8 +125,7 @@ leaves g values w m x is f y = record {
     c = changes g values w m x y.chosen y.safe
 
     stay : (i : ℕ) → has (views_by g values (w.past.view m)) i ≡ true
-        → ((has (views_by g values (w.past.view m)) i ≡ true)
-        × (has (values (w.past.view m)).leavers i ≡ false))
+        → ((has (views_by g values (w.past.view m)) i ≡ true) × (has (values (w.past.view m)).leavers i ≡ false))
         ⊎ ((has (views_by g values (w.past.view m)) i ≡ false)
         × (has (values (w.past.view m)).leavers i ≡ true)) → has (values (w.past.view m)).leavers i ≡ false
     stay i was (inl t) = t.1
@@ -164,17 +143,14 @@ next-is g values w m x is f y = ap (λ (z : Value). next_members (w.members m) z
     ∙ sym (views-come g values (w.past.view m) is (changes g values w m x y.chosen y.safe))
 
 -- a place of the merge adds its entry
-rest-place : (g : Group) (values : Values) (w : World) (m : ℕ) (x : Value) → IsGroup g
-    → Faithful g (views_by g values) w → Historic g values w → Finishes g values w m x
-    → (q : ℕ) (history : List Entry)
-    → is_held (counts_taken g.opening (endings_by g.opening values) (w.past.view m)) q ≡ true
+rest-place : (g : Group) (values : Values) (w : World) (m : ℕ) (x : Value)
+    → IsGroup g → Faithful g (views_by g values) w → Historic g values w → Finishes g values w m x → (q : ℕ)
+    (history : List Entry) → is_held (counts_taken g.opening (endings_by g.opening values) (w.past.view m)) q ≡ true
     → ((s i : ℕ) → item_at w.past.sent (view_numbered g (views_by g values) (w.past.view m)) q
-    ≡ Some (s, Index i) → i ≡ length (messages_from s history))
-    → with_place w m history q ≡ history ++ option_to_list
-    (entry_at g.opening w.past.sent (view_numbered g (views_by g values) (w.past.view m)) q)
-rest-place g values w m x is f h y q history held next =
-    ap (λ es. history ++ es) (sym (entries-next g (views_by g values) w m q history r.sender r.name r.place
-    r.sent r.has_it (λ i e. (
+    ≡ Some (s, Index i) → i ≡ length (messages_from s history)) → with_place w m history q ≡ history
+    ++ option_to_list (entry_at g.opening w.past.sent (view_numbered g (views_by g values) (w.past.view m)) q)
+rest-place g values w m x is f h y q history held next = ap (λ es. history ++ es)
+    (sym (entries-next g (views_by g values) w m q history r.sender r.name r.place r.sent r.has_it (λ i e. (
       next r.sender i (r.place ∙ ap (λ (n : SentItem). Some (r.sender, n)) e),
       scripted i (r.place ∙ ap (λ (n : SentItem). Some (r.sender, n)) e),
     ))))
@@ -185,11 +161,9 @@ rest-place g values w m x is f h y q history held next =
     ms : List ℕ
     ms = members_of (views_by g values (w.past.view m))
 
-    at : (s : ℕ)
-        × (slice_get (members_of (views_by g values (w.past.view m)))
+    at : (s : ℕ) × (slice_get (members_of (views_by g values (w.past.view m)))
         (q % length (members_of (views_by g values (w.past.view m)))) ≡ Some s)
-        × (q / length (members_of (views_by g values (w.past.view m)))
-        < slice_index (values (w.past.view m)).trim s)
+        × (q / length (members_of (views_by g values (w.past.view m))) < slice_index (values (w.past.view m)).trim s)
     at = held_member (λ s. slice_index (values v).trim s) ms q held
 
     r : IsReceived g (views_by g values) w m q
@@ -199,8 +173,7 @@ rest-place g values w m x is f h y q history held next =
       omega (arith, at.2, y.items at.0 (member-has (views_by g values v) (q % length ms) at.0 at.1)),
     )
 
-    scripted : (i : ℕ)
-        → item_at w.past.sent (view_numbered g (views_by g values) (w.past.view m)) q
+    scripted : (i : ℕ) → item_at w.past.sent (view_numbered g (views_by g values) (w.past.view m)) q
         ≡ Some (r.sender, Index i) → i < length (messages_of g.opening r.sender)
     scripted i e =
         let view : GroupView = view_numbered g (views_by g values) v in
@@ -210,20 +183,16 @@ rest-place g values w m x is f h y q history held next =
 
 -- the history of a member that ends its view is the head of the next one
 pub finished-head : (g : Group) (values : Values) (w : World) (m : ℕ) (x : Value) → IsGroup g
-    → Faithful g (views_by g values) w → Historic g values w
-    → Finishes g values w m x
+    → Faithful g (views_by g values) w → Historic g values w → Finishes g values w m x
     → finished_history g w m x ≡ head_by g values w (w.past.view m + 1)
-finished-head g values w m x is f h y =
-    ap (λ cs. fold (with_place w m) (w.past.history m) (rest_places cs (w.next m)) ++ last) counts
-    ∙ ap (λ es. fold (with_place w m) es (rest_places taken (w.next m)) ++ last) (h.history m y.within)
-    ∙ ap (λ es. es ++ last) (rest-merged g.opening w.past.sent (head_by g values w v) view
+finished-head g values w m x is f h y = ap (λ cs. fold (with_place w m) (w.past.history m) (rest_places cs (w.next m))
+    ++ last) counts ∙ ap (λ es. fold (with_place w m) es (rest_places taken (w.next m)) ++ last)
+    (h.history m y.within) ∙ ap (λ es. es ++ last) (rest-merged g.opening w.past.sent (head_by g values w v) view
     (λ s. slice_index (values v).trim s) (w.next m) (with_place w m) (goes-any g values w v is f h)
-    (view-distinct (head_by g values w v) view
-    (head-ends g.opening w.past.sent (endings_by g.opening values) v))
+    (view-distinct (head_by g values w v) view (head-ends g.opening w.past.sent (endings_by g.opening values) v))
     (place-kept g values w m is f least) (rest-place g values w m x is f h y))
-    ∙ ap (λ mask. (head_by g values w v ++ merge g.opening w.past.sent view taken)
-    ++ View g.opening.age (v + 1) mask ∷ []) remain
-    ∙ sym (head-next g.opening w.past.sent (endings_by g.opening values) v)
+    ∙ ap (λ mask. (head_by g values w v ++ merge g.opening w.past.sent view taken) ++ View g.opening.age (v + 1) mask
+    ∷ []) remain ∙ sym (head-next g.opening w.past.sent (endings_by g.opening values) v)
   where
     v : ℕ
     v = w.past.view m
@@ -237,13 +206,11 @@ finished-head g values w m x is f h y =
     last : List Entry
     last = View g.opening.age (w.past.view m + 1) (next_members (w.members m) x.leavers) ∷ []
 
-    counts : counts_by w m x
-        ≡ counts_taken g.opening (endings_by g.opening values) (w.past.view m)
+    counts : counts_by w m x ≡ counts_taken g.opening (endings_by g.opening values) (w.past.view m)
     counts = ap (λ (z : Value). map (λ s. slice_index z.trim s) (view_members w m)) y.chosen
         ∙ ap (λ mask. map (λ s. slice_index (values v).trim s) (members_of mask)) (f.views.own m)
 
-    remain : next_members (w.members m) x.leavers
-        ≡ (endings_by g.opening values (w.past.view m)).next
+    remain : next_members (w.members m) x.leavers ≡ (endings_by g.opening values (w.past.view m)).next
     remain = next-is g values w m x is f y ∙ sym (ending-next g values v)
 
     least : (s : ℕ) → has (views_by g values (w.past.view m)) s ≡ true
@@ -255,8 +222,7 @@ finished-head g values w m x is f h y =
 pub head-few : (g : Group) (values : Values) (w : World) (s v : ℕ) (history : List Entry) → IsGroup g
     → Faithful g (views_by g values) w → AreLaid g values w
     → ((u : ℕ) → u < v → ViewHasEnded g.opening w.past.sent (endings_by g.opening values) u)
-    → history ≡ head_by g values w v
-    → length (messages_from s history) ≤ length (messages_of g.opening s)
+    → history ≡ head_by g values w v → length (messages_from s history) ≤ length (messages_of g.opening s)
 head-few g values w s v history is f laid ended same =
     let numbered = (InOrder-head g.opening w.past.sent (endings_by g.opening values) v is.sound
     (record { ended = ended; goes = λ u l. goes-any g values w u is f laid.historic })).numbered s in

@@ -1,29 +1,15 @@
 -- While nobody suspects anybody, nobody commits a value, and everybody stays in the first view.
 use Rattle.std.proofs.Common.{◌++◌, List, None, arith, length, length-append, refl, sym, true, ℕ, ◌+◌, ◌<◌, ◌∙◌, ◌≡◌, ◌≤◌}
-use Rattle.std.proofs.lemmas.List.Elements.{All-head}
-use Rattle.std.proofs.lemmas.Option.{none-some}
-use Rattle.dr_entry.specs.declared.entry.Entry.{Entry}
-use Rattle.dr_entry.specs.declared.entry.Item.{Item}
-use Rattle.dr_entry.specs.declared.entry.Item.TheVariants.{Null, Text}
-use Rattle.dr_history.specs.Members.{has}
-use Rattle.dr_history.specs.Order.{first_entries, messages_from}
-use Rattle.dr_machine.proofs.Events.{letters_after, progress_after, standing_after}
-use Rattle.dr_machine.proofs.Runs.{by_way}
-use Rattle.dr_machine.specs.declared.step.Step.{Step}
-use Rattle.dr_machine.specs.Acts.{CanTake, effect_of}
-use Rattle.dr_machine.specs.Effects.{entries_of, sender_at}
-use Rattle.dr_machine.specs.Events.{member_of, step_of}
-use Rattle.dr_machine.specs.Group.{Group, IsGroup, roster}
-use Rattle.dr_machine.specs.Guards.{CanFinish, CanJoin}
-use Rattle.dr_machine.specs.Writes.{at}
-use Rattle.dr_machine.specs.Run.{IsReachedWhere}
-use Rattle.dr_machine.specs.World.{World, item_at_place}
+use Rattle.std.proofs.lemmas.{List.Elements.All-head, Option.none-some}
+use Rattle.dr_entry.specs.declared.entry.{Entry.Entry, Item.{Item, TheVariants.{Null, Text}}}
+use Rattle.dr_history.specs.{Members.has, Order.{first_entries, messages_from}}
+use Rattle.dr_machine.specs.{Acts.{CanTake, effect_of}, Effects.{entries_of, sender_at}, Events.{member_of, step_of}}
+use Rattle.dr_machine.specs.{Group.{Group, IsGroup, roster}, Guards.{CanFinish, CanJoin}, Run.IsReachedWhere}
+use Rattle.dr_machine.specs.{World.{World, item_at_place}, Writes.at, declared.step.Step.Step}
+use Rattle.dr_machine.proofs.{Events.{letters_after, progress_after, standing_after}, Runs.by_way}
+use Rattle.dr_faithful.specs.{Faithful.{AllGoOn, Faithful}, Late.AreBacked, Tells.Views}
 use Rattle.dr_faithful.proofs.Faithfulness.{faithful_begins, faithful_keeps}
-use Rattle.dr_faithful.proofs.Writes.{at_both}
-use Rattle.dr_faithful.proofs.Late.{arrived_keeps, backed_arrived, backed_begins, backed_event}
-use Rattle.dr_faithful.specs.Late.{AreBacked}
-use Rattle.dr_faithful.specs.Faithful.{AllGoOn, Faithful}
-use Rattle.dr_faithful.specs.Tells.{Views}
+use Rattle.dr_faithful.proofs.{Late.{arrived_keeps, backed_arrived, backed_begins, backed_event}, Writes.at_both}
 use Rattle.dr_world_laws.specs.Ends.{NobodySuspects}
 
 -- nothing is committed, and everybody is in the first view
@@ -62,24 +48,20 @@ step_keeps g w m s can calm f u = record {
     never : CanJoin g w m → ⊥
     never can = none-some can.letter (sym (u.unsent m) ∙ can.given)
 
-    stand : ((k : ℕ) → (effect_of g w m s).committed k ≡ None)
-        × ((k : ℕ) → (effect_of g w m s).past.view k ≡ 0)
-    stand = standing_after g w m s (λ x. ((k : ℕ) → x.committed k ≡ None) × ((k : ℕ) → x.view k ≡ 0)) can
-        (record {
-          goes_on = λ can. absurd (stays can);
-          joins = λ can. absurd (never can);
-          chooses = λ can. absurd (can.wedged (calm m));
-          wedges = λ j can. (u.none, u.first);
-          stops = λ end alive why. (u.none, u.first);
-          stays = (u.none, u.first);
-        })
+    stand : ((k : ℕ) → (effect_of g w m s).committed k ≡ None) × ((k : ℕ) → (effect_of g w m s).past.view k ≡ 0)
+    stand = standing_after g w m s (λ x. ((k : ℕ) → x.committed k ≡ None) × ((k : ℕ) → x.view k ≡ 0)) can (record {
+      goes_on = λ can. absurd (stays can);
+      joins = λ can. absurd (never can);
+      chooses = λ can. absurd (can.wedged (calm m));
+      wedges = λ j can. (u.none, u.first);
+      stops = λ end alive why. (u.none, u.first);
+      stays = (u.none, u.first);
+    })
 
     new : List Entry
     new = entries_of (w.past.history m) (sender_at w m (w.next m)) (item_at_place w m (w.next m))
 
-    delivered : (k : ℕ)
-        → length (at w.past.history m
-        (w.past.history m
+    delivered : (k : ℕ) → length (at w.past.history m (w.past.history m
         ++ entries_of (w.past.history m) (sender_at w m (w.next m)) (item_at_place w m (w.next m))) k)
         ≤ length (first_entries g.opening) + at w.next m (w.next m + 1) k
     delivered = at_both (λ k h n. length h ≤ length (first_entries g.opening) + n) w.past.history w.next m
@@ -119,13 +101,11 @@ none_go_on g w u = record {
 pub trusting : (g : Group) (w : World) → IsGroup g → IsReachedWhere g NobodySuspects w
     → AreUncommitted g w × Faithful g (whole g) w
 trusting g w is r = let y = by_way g NobodySuspects
-    (λ us u. AreUncommitted g u × Faithful g (whole g) u × AreBacked g (whole g) us u)
-    (λ us u e run calm can f. (
+    (λ us u. AreUncommitted g u × Faithful g (whole g) u × AreBacked g (whole g) us u) (λ us u e run calm can f. (
       step_keeps g u (member_of e) (step_of e) can (All-head NobodySuspects u us calm) f.1 f.0,
       faithful_keeps g (whole g) u e is (none_go_on g u f.0) can f.1,
       backed_event g (whole g) us u e is (none_go_on g u f.0) can f.1 f.2,
-    ))
-    (λ us u table run calm come f. (
+    )) (λ us u table run calm come f. (
       record { none = f.0.none; first = f.0.first; start = f.0.start; short = f.0.short; unsent = f.0.unsent },
       arrived_keeps g (whole g) us u table come f.2 f.1,
       backed_arrived g (whole g) us u table f.1 come f.2,

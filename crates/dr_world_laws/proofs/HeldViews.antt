@@ -1,18 +1,12 @@
 -- The Views of an age that histories hold are those of the views that members have come to, once each.
 use Rattle.std.proofs.Common.{◌∷◌, List, ◌≡◌, ap, drop, length, sym, ℕ, ◌+◌, ◌++◌, ◌<◌, ◌∙◌, slice_get}
 use Rattle.std.proofs.Math.Seq.{drop-append-add}
-use Rattle.dr_entry.specs.declared.entry.Entry.{Entry}
-use Rattle.dr_entry.specs.declared.entry.Entry.TheVariants.{View}
-use Rattle.dr_history_laws.proofs.Lists.{slice_get-seam}
-use Rattle.dr_history_laws.proofs.Standing.{history-stands}
+use Rattle.dr_entry.specs.declared.entry.Entry.{Entry, TheVariants.View}
+use Rattle.dr_history_laws.proofs.{Lists.slice_get-seam, Standing.history-stands}
 use Rattle.dr_history_laws.proofs.Views.{View-once, ViewsRise-standing}
-use Rattle.dr_machine.specs.Group.{Group, IsGroup, roster}
-use Rattle.dr_machine.specs.World.{World}
+use Rattle.dr_machine.specs.{Group.{Group, IsGroup, roster}, World.World}
 use Rattle.dr_faithful.specs.Chosen.{Values, views_by}
-use Rattle.dr_world_laws.specs.Views.{HasView}
-use Rattle.dr_world_laws.proofs.Agreeing.{in-order}
-use Rattle.dr_world_laws.proofs.Holding.{view-held}
-use Rattle.dr_world_laws.proofs.Reached.{Known}
+use Rattle.dr_world_laws.{specs.Views.HasView, proofs.{Agreeing.in-order, Holding.view-held, Reached.Known}}
 
 pub view-is : (g : Group) (values : Values) (w : World) (v members : ℕ) → IsGroup g → Known g values w
     → HasView g w v members → views_by g values v ≡ members
@@ -21,16 +15,12 @@ view-is g values w v members is y h = (view-held g values w h.0 v members is y.l
 -- ---- what stands behind a View
 
 -- each stands once, so what is behind it is one list
-pub behind-is : (g : Group) (values : Values) (w : World) (k v m n : ℕ)
-    (before behind first rest : List Entry)
-    → IsGroup g → Known g values w → k < roster g
-    → w.past.history k ≡ before ++ View g.opening.age v m ∷ behind
+pub behind-is : (g : Group) (values : Values) (w : World) (k v m n : ℕ) (before behind first rest : List Entry)
+    → IsGroup g → Known g values w → k < roster g → w.past.history k ≡ before ++ View g.opening.age v m ∷ behind
     → w.past.history k ≡ first ++ View g.opening.age v n ∷ rest → behind ≡ rest
 behind-is g values w k v m n before behind first rest is y l e d =
-    sym (drop-append-add before (View g.opening.age v m ∷ behind) 1)
-    ∙ ap (drop (length before + 1)) (sym e)
-    ∙ ap (λ i. drop (i + 1) (w.past.history k)) place
-    ∙ ap (drop (length first + 1)) d
+    sym (drop-append-add before (View g.opening.age v m ∷ behind) 1) ∙ ap (drop (length before + 1)) (sym e)
+    ∙ ap (λ i. drop (i + 1) (w.past.history k)) place ∙ ap (drop (length first + 1)) d
     ∙ drop-append-add first (View g.opening.age v n ∷ rest) 1
   where
     place : length before ≡ length first

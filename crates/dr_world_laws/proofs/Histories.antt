@@ -1,32 +1,19 @@
 -- What each event makes of the histories.
 use Rattle.std.proofs.Common.{◌≡◌, ◌≢◌, refl, ap, sym, ◌∙◌, ◌⊎◌, inl, inr, subst, ℕ, ◌+◌, ◌<◌, ◌≤◌, le_refl, arith, List, [], ◌∷◌, ◌++◌, length, take, slice_get, option_to_list, append_assoc, append-nil}
-use Rattle.dr_entry.specs.declared.entry.Entry.{Entry}
-use Rattle.dr_entry.specs.declared.end.SentItem.{SentItem}
-use Rattle.dr_entry.specs.declared.end.SentItem.TheVariants.{Index, Null}
 use Rattle.std.proofs.lemmas.Bool.{cases_eq}
+use Rattle.dr_entry.specs.declared.{end.SentItem.{SentItem, TheVariants.{Index, Null}}, entry.Entry.Entry}
+use Rattle.dr_history.specs.{History.{IsPrefixOf, GroupView, Sent, last_view, messages_in}, Order.messages_from}
 use Rattle.dr_history.specs.declared.opening.Opening.{Opening}
-use Rattle.dr_history.specs.History.{IsPrefixOf, GroupView, Sent, last_view, messages_in}
-use Rattle.dr_history.specs.Order.{messages_from}
+use Rattle.dr_history_laws.{specs.Courses.{ViewHasEnded, course, head_of}, proofs.LaidLemmas.laid-next}
 use Rattle.dr_history_laws.specs.Laid.{laid, entry_at, GoesOn, HeldBelow, MayBeNext, SentMore}
-use Rattle.dr_history_laws.proofs.LaidLemmas.{laid-next}
-use Rattle.dr_history_laws.proofs.SendingLemmas.{GoesOn-send}
-use Rattle.dr_history_laws.specs.Courses.{ViewHasEnded, course, head_of}
-use Rattle.dr_history_laws.proofs.Courses.{course-head, course-steady, head-steady}
-use Rattle.dr_machine.specs.declared.event.Event.{Event}
-use Rattle.dr_machine.specs.declared.step.Step.{Step}
-use Rattle.dr_machine.proofs.Events.{IsNextItem, Progress, progress, progress_after}
-use Rattle.dr_machine.specs.Events.{member_of, step_of}
-use Rattle.dr_machine.specs.Group.{Group, roster, IsPresent}
-use Rattle.dr_machine.specs.Acts.{CanTake, Guard, effect, effect_of}
-use Rattle.dr_machine.specs.Guards.{CanDeliver, CanFinish, CanJoin}
-use Rattle.dr_machine.specs.Writes.{at₂}
-use Rattle.dr_machine.specs.World.{World, item_at_place}
+use Rattle.dr_history_laws.proofs.{Courses.{course-head, course-steady, head-steady}, SendingLemmas.GoesOn-send}
+use Rattle.dr_machine.specs.{Acts.{CanTake, Guard, effect, effect_of}, Guards.{CanDeliver, CanFinish, CanJoin}}
 use Rattle.dr_machine.specs.Effects.{delivers, enters, finished_history, finishes, entries_of, joins, sender_at}
-use Rattle.dr_faithful.specs.Tells.{Views}
-use Rattle.dr_faithful.specs.Chosen.{Values, endings_by, views_by}
-use Rattle.dr_faithful.proofs.Faithfulness.{committed_is}
-use Rattle.dr_faithful.proofs.Finishes.{joined_is}
-use Rattle.dr_faithful.proofs.Writes.{at_both, at_three, at₂_case, at₂_read}
+use Rattle.dr_machine.specs.{Events.{member_of, step_of}, Writes.at₂, declared.event.Event.Event}
+use Rattle.dr_machine.specs.{Group.{Group, roster, IsPresent}, World.{World, item_at_place}, declared.step.Step.Step}
+use Rattle.dr_machine.proofs.Events.{IsNextItem, Progress, progress, progress_after}
+use Rattle.dr_faithful.{specs.{Chosen.{Values, endings_by, views_by}, Tells.Views}, proofs.Faithfulness.committed_is}
+use Rattle.dr_faithful.proofs.{Finishes.joined_is, Writes.{at_both, at_three, at₂_case, at₂_read}}
 use Rattle.dr_world_laws.specs.Historic.{Historic, head_by, view_numbered}
 
 -- what the next place adds
@@ -40,17 +27,14 @@ AddsEntry g V w m = option_to_list
 
 -- every place below the next one of a member holds a sent item
 abbrev pub AreHeld : Group → Views → World → Type 0
-AreHeld g V w = (m : ℕ) → m < roster g
-    → HeldBelow w.past.sent (view_numbered g V (w.past.view m)) (w.next m)
+AreHeld g V w = (m : ℕ) → m < roster g → HeldBelow w.past.sent (view_numbered g V (w.past.view m)) (w.next m)
 
 -- one place is delivered
 deliver_keeps : (g : Group) (values : Values) (w : World) (m : ℕ) → AddsEntry g (views_by g values) w m
     → Historic g values w → Historic g values (delivers w m)
 deliver_keeps g values w m adds h = record {
-  history = at_both
-      (λ k es p. k < roster g → es
-      ≡ course g.opening w.past.sent (endings_by g.opening values) (w.past.view k) p)
-      w.past.history w.next m (w.past.history m ++ added w m) (w.next m + 1) h.history here;
+  history = at_both (λ k es p. k < roster g → es ≡ course g.opening w.past.sent (endings_by g.opening values)
+      (w.past.view k) p) w.past.history w.next m (w.past.history m ++ added w m) (w.next m + 1) h.history here;
   goes = h.goes;
   based = h.based;
 }
@@ -70,18 +54,15 @@ deliver_keeps g values w m adds h = record {
         (ap (λ es. es ++ added w m) (h.history m l) ∙ append_assoc head so_far (added w m))
 
 -- one item more is sent
-pub sent_more : (sent : Sent) (m v : ℕ) (name : SentItem)
-    → SentMore sent (at₂ sent m v (sent m v ++ name ∷ []))
+pub sent_more : (sent : Sent) (m v : ℕ) (name : SentItem) → SentMore sent (at₂ sent m v (sent m v ++ name ∷ []))
 sent_more sent m v name = at₂_case (λ s n xs. IsPrefixOf (sent s n) xs) sent m v
     (sent m v ++ name ∷ []) (λ s n. ([], append-nil (sent s n))) (name ∷ [], refl)
 
 -- what was sent in another view, or by another member
-at₂_member : {A : Type 0} (f : ℕ → ℕ → A) (a b : ℕ) (v : A) (i : ℕ) → i ≢ a
-    → at₂ f a b v i b ≡ f i b
+at₂_member : {A : Type 0} (f : ℕ → ℕ → A) (a b : ℕ) (v : A) (i : ℕ) → i ≢ a → at₂ f a b v i b ≡ f i b
 at₂_member f a b v i d = grind arith
 
-at₂_view : {A : Type 0} (f : ℕ → ℕ → A) (a b : ℕ) (v : A) (i j : ℕ) → j ≢ b
-    → at₂ f a b v i j ≡ f i j
+at₂_view : {A : Type 0} (f : ℕ → ℕ → A) (a b : ℕ) (v : A) (i j : ℕ) → j ≢ b → at₂ f a b v i j ≡ f i j
 at₂_view f a b v i j d = grind arith
 
 -- what goes on stays so where nobody sends in the view
@@ -90,8 +71,7 @@ goes_still : (o : Opening) (sent now : Sent) (h : List Entry) (v : GroupView)
 goes_still o sent now h v same goes = record {
   index = λ s k i member at. goes.index s k i member (ap (λ xs. slice_get xs k) (sym (same s)) ∙ at) ∙
       ap (λ xs. length (messages_from s h) + messages_in (take k xs)) (sym (same s));
-  scripted = λ s k i member at. goes.scripted s k i member
-      (ap (λ xs. slice_get xs k) (sym (same s)) ∙ at);
+  scripted = λ s k i member at. goes.scripted s k i member (ap (λ xs. slice_get xs k) (sym (same s)) ∙ at);
 }
 
 -- the views before those that members are in have ended
@@ -109,18 +89,12 @@ next_is g values w m (Index n) within h (can, is) = record {
       omega (arith, same, is, h.based m (within m can.may.alive.present));
   scripted = λ i e. let same : n ≡ i = cc in omega (arith, same, is, can.left);
 }
-next_is g values w m Null within h can =
-    record { index = λ i e. absurd (cc); scripted = λ i e. absurd (cc) }
+next_is g values w m Null within h can = record { index = λ i e. absurd (cc); scripted = λ i e. absurd (cc) }
 
-put_keeps : (g : Group) (values : Values) (w : World) (m : ℕ) (name : SentItem)
-    → HaveEnded g values w → AreHeld g (views_by g values) w
-    → MayBeNext g.opening w.past.sent (head_by g values w (w.past.view m))
-    (view_numbered g (views_by g values) (w.past.view m)) m name
-    → Historic g values w
-    → Historic g values (record w {
-      past = record w.past {
-        sent = at₂ w.past.sent m (w.past.view m) (w.past.sent m (w.past.view m) ++ name ∷ []);
-      };
+put_keeps : (g : Group) (values : Values) (w : World) (m : ℕ) (name : SentItem) → HaveEnded g values w
+    → AreHeld g (views_by g values) w → MayBeNext g.opening w.past.sent (head_by g values w (w.past.view m))
+    (view_numbered g (views_by g values) (w.past.view m)) m name → Historic g values w → Historic g values (record w {
+      past = record w.past { sent = at₂ w.past.sent m (w.past.view m) (w.past.sent m (w.past.view m) ++ name ∷ []) };
     })
 put_keeps g values w m name ended held next h = record {
   history = λ k l. h.history k l ∙ sym (course-steady g.opening w.past.sent now
@@ -140,44 +114,31 @@ put_keeps g values w m name ended held next h = record {
     now : Sent
     now = at₂ w.past.sent m (w.past.view m) (w.past.sent m (w.past.view m) ++ name ∷ [])
 
-    more : SentMore w.past.sent (at₂ w.past.sent m (w.past.view m)
-        (w.past.sent m (w.past.view m) ++ name ∷ []))
+    more : SentMore w.past.sent (at₂ w.past.sent m (w.past.view m) (w.past.sent m (w.past.view m) ++ name ∷ []))
     more = sent_more w.past.sent m (w.past.view m) name
 
-    steady : (k v : ℕ) → k < roster g → v ≤ w.past.view k
-        → head_of g.opening
-        (at₂ w.past.sent m (w.past.view m) (w.past.sent m (w.past.view m) ++ name ∷ []))
-        (endings_by g.opening values) v ≡ head_by g values w v
+    steady : (k v : ℕ) → k < roster g → v ≤ w.past.view k → head_of g.opening (at₂ w.past.sent m (w.past.view m)
+        (w.past.sent m (w.past.view m) ++ name ∷ [])) (endings_by g.opening values) v ≡ head_by g values w v
     steady k v l come = head-steady g.opening w.past.sent now (endings_by g.opening values) v more
         (λ x less. ended k x l (omega (arith, less, come)))
 
-    goes : (k v : ℕ) → k < roster g → v ≤ w.past.view k → (v ≡ w.past.view m) ⊎ (v ≢ w.past.view m)
-        → GoesOn g.opening
+    goes : (k v : ℕ) → k < roster g → v ≤ w.past.view k → (v ≡ w.past.view m) ⊎ (v ≢ w.past.view m) → GoesOn g.opening
         (at₂ w.past.sent m (w.past.view m) (w.past.sent m (w.past.view m) ++ name ∷ []))
         (head_by g values w v) (view_numbered g (views_by g values) v)
     goes k v l come (inl same) =
-        subst (λ n. GoesOn g.opening now (head_by g values w n) (view_numbered g (views_by g values) n))
-        (sym same)
+        subst (λ n. GoesOn g.opening now (head_by g values w n) (view_numbered g (views_by g values) n)) (sym same)
         (GoesOn-send g.opening w.past.sent now (head_by g values w u)
         (view_numbered g (views_by g values) u) m name (h.goes k u l (omega (arith, come, same)))
-        (record {
-          own = at₂_read w.past.sent m u items;
-          others = λ t d. at₂_member w.past.sent m u items t d;
-        }) next)
+        (record { own = at₂_read w.past.sent m u items; others = λ t d. at₂_member w.past.sent m u items t d }) next)
     goes k v l come (inr other) = goes_still g.opening w.past.sent now (head_by g values w v)
-        (view_numbered g (views_by g values) v) (λ s. at₂_view w.past.sent m u items s v other)
-        (h.goes k v l come)
+        (view_numbered g (views_by g values) v) (λ s. at₂_view w.past.sent m u items s v other) (h.goes k v l come)
 
 -- a member goes on in a view with its head
 enter_keeps : (g : Group) (values : Values) (w : World) (m to members : ℕ) (history : List Entry)
-    → history ≡ head_by g values w to
-    → ((u : ℕ) → GoesOn g.opening w.past.sent (head_by g values w u) (view_numbered g (views_by g values) u))
-    → Historic g values w
-    → Historic g values (enters w m to members history)
+    → history ≡ head_by g values w to → ((u : ℕ) → GoesOn g.opening w.past.sent (head_by g values w u)
+    (view_numbered g (views_by g values) u)) → Historic g values w → Historic g values (enters w m to members history)
 enter_keeps g values w m to members history is goes h = record {
-  history = at_three
-      (λ k es b p. k < roster g → es
-      ≡ course g.opening w.past.sent (endings_by g.opening values) b p)
+  history = at_three (λ k es b p. k < roster g → es ≡ course g.opening w.past.sent (endings_by g.opening values) b p)
       w.past.history w.past.view w.next m history to 0 h.history
       (λ l. is ∙ sym (course-head g.opening w.past.sent (endings_by g.opening values) to));
   goes = λ k v l come. goes v;
@@ -192,12 +153,10 @@ pub record AreReady (g : Group) (values : Values) (w : World) : Type 0 where
   pub ended : HaveEnded g values w
   pub held : AreHeld g (views_by g values) w
   pub adds : (m : ℕ) → CanDeliver g w m → AddsEntry g (views_by g values) w m
-  pub goes : (u : ℕ) → GoesOn g.opening w.past.sent (head_by g values w u)
-      (view_numbered g (views_by g values) u)
+  pub goes : (u : ℕ) → GoesOn g.opening w.past.sent (head_by g values w u) (view_numbered g (views_by g values) u)
   pub comes : (m : ℕ) → (can : CanFinish g w m) → finished_history g w m can.value
       ≡ head_by g values w (w.past.view m + 1)
-  pub joins : (m : ℕ) → (can : CanJoin g w m) → can.letter
-      ≡ head_by g values w (last_view (0, 0) can.letter).0
+  pub joins : (m : ℕ) → (can : CanJoin g w m) → can.letter ≡ head_by g values w (last_view (0, 0) can.letter).0
 
 -- the world, but for what its members have put and delivered
 abbrev with_progress : World → Progress → World

@@ -3,37 +3,24 @@
 use Rattle.std.proofs.Common.{List, [], ◌≡◌, ap, ap₂, arith, false, length, refl, subst, sym, true, ℕ, ◌<◌, ◌∙◌}
 use Rattle.std.proofs.lemmas.List.{nil_from_length}
 use Rattle.dr_entry.specs.declared.entry.Entry.{Entry}
-use Rattle.dr_history.specs.History.{IsPrefixOf, last_view, up_to_view}
-use Rattle.dr_history.specs.Members.{has}
-use Rattle.dr_history.specs.Order.{IsNewIn, MayJoin}
-use Rattle.dr_history_laws.specs.Courses.{course}
-use Rattle.dr_history_laws.proofs.Courses.{course-head}
-use Rattle.dr_history_laws.proofs.Heads.{head_view}
+use Rattle.dr_history.specs.{History.{IsPrefixOf, last_view, up_to_view}, Members.has, Order.{IsNewIn, MayJoin}}
+use Rattle.dr_history_laws.{specs.Courses.course, proofs.{Courses.course-head, Heads.head_view}}
+use Rattle.dr_machine.specs.{Group.{Group, IsGroup, IsPresent, roster}, Guards.CanJoin, World.World}
 use Rattle.dr_machine.proofs.Presence.{in_roster}
-use Rattle.dr_machine.specs.Group.{Group, IsGroup, IsPresent, roster}
-use Rattle.dr_machine.specs.Guards.{CanJoin}
-use Rattle.dr_machine.specs.World.{World}
 use Rattle.dr_words.specs.Columns.{recv_column}
+use Rattle.dr_faithful.specs.{Chosen.{Values, endings_by, views_by}, Faithful.{Faithful, JoinsWell}, Tells.Views}
 use Rattle.dr_faithful.proofs.Beside.{none_outside}
-use Rattle.dr_faithful.specs.Chosen.{Values, endings_by, views_by}
-use Rattle.dr_faithful.specs.Faithful.{Faithful, JoinsWell}
-use Rattle.dr_faithful.specs.Tells.{Views}
-use Rattle.dr_world_laws.specs.Historic.{AreLaid, Historic, head_by}
-use Rattle.dr_world_laws.proofs.ChosenViews.{views-first}
-use Rattle.dr_world_laws.proofs.Finishing.{head-few}
-use Rattle.dr_world_laws.proofs.Holding.{head-later, view-there}
-use Rattle.dr_world_laws.proofs.Letters.{IsLetter, letter-behind}
+use Rattle.dr_world_laws.{specs.Historic.{AreLaid, Historic, head_by}, proofs.Letters.{IsLetter, letter-behind}}
+use Rattle.dr_world_laws.proofs.{ChosenViews.views-first, Finishing.head-few, Holding.{head-later, view-there}}
 
 -- ---- a wish
 
 -- a late member that no View of a history names is in none of the views that its member has come to
 pub wishes-new : (g : Group) (values : Values) (w : World) (m j : ℕ) → IsGroup g → Historic g values w
-    → IsPresent g m → MayJoin g.opening (w.past.history m) j
-    → IsNewIn g.opening (views_by g values) (w.past.view m) j
+    → IsPresent g m → MayJoin g.opening (w.past.history m) j → IsNewIn g.opening (views_by g values) (w.past.view m) j
 wishes-new g values w m j is h there may = record {
   late = may.0;
-  absent = λ u come. may.1 u (views_by g values u)
-      (view-there g values w m u h (in_roster g m is there) come);
+  absent = λ u come. may.1 u (views_by g values u) (view-there g values w m u h (in_roster g m is there) come);
 }
 
 -- ---- a join
@@ -50,8 +37,7 @@ letter-number g values w j l t = ap (λ x. x.0) (letter-view g values w j l t)
 
 -- whoever is none of its view has the history of the opening
 pub outside-history : (g : Group) (values : Values) (w : World) (m : ℕ) → Faithful g (views_by g values) w
-    → AreLaid g values w → m < roster g → has (w.members m) m ≡ false
-    → w.past.history m ≡ head_by g values w 0
+    → AreLaid g values w → m < roster g → has (w.members m) m ≡ false → w.past.history m ≡ head_by g values w 0
 outside-history g values w m f laid l outside =
     let out = ap (λ k. has k m) (sym (f.views.own m)) ∙ outside in
     laid.historic.history m l ∙ ap₂ (course g.opening w.past.sent (endings_by g.opening values))
@@ -75,16 +61,12 @@ pub letter-begins : (g : Group) (values : Values) (w : World) (m : ℕ) (letter 
     → has (w.members m) m ≡ false → IsLetter g values w.past m letter → IsPrefixOf (w.past.history m) letter
 letter-begins g values w m letter is f laid l outside t =
     subst (λ es. IsPrefixOf es letter) (sym (outside-history g values w m f laid l outside))
-    (subst (IsPrefixOf (head_by g values w 0)) (sym t.is)
-    (head-later g values w 0 t.view (omega (arith, t.next))))
+    (subst (IsPrefixOf (head_by g values w 0)) (sym t.is) (head-later g values w 0 t.view (omega (arith, t.next))))
 
-pub joins-well : (g : Group) (values : Values) (w : World) (m : ℕ) → IsGroup g
-    → Faithful g (views_by g values) w → AreLaid g values w
-    → (can : CanJoin g w m) → IsLetter g values w.past m can.letter
-    → JoinsWell g (views_by g values) w m (last_view (0, 0) can.letter).0 (last_view (0, 0) can.letter).1
-    can.letter
-joins-well g values w m is f laid can t =
-    subst (λ x. JoinsWell g (views_by g values) w m x.0 x.1 can.letter)
+pub joins-well : (g : Group) (values : Values) (w : World) (m : ℕ) → IsGroup g → Faithful g (views_by g values) w
+    → AreLaid g values w → (can : CanJoin g w m) → IsLetter g values w.past m can.letter
+    → JoinsWell g (views_by g values) w m (last_view (0, 0) can.letter).0 (last_view (0, 0) can.letter).1 can.letter
+joins-well g values w m is f laid can t = subst (λ x. JoinsWell g (views_by g values) w m x.0 x.1 can.letter)
     (sym (letter-view g values w m can.letter t)) (record {
       later = omega (arith, zero, later);
       next = refl;

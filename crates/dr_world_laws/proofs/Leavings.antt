@@ -1,31 +1,18 @@
 -- Members are ended by suspicion only where they are left out.
-use Rattle.std.proofs.Common.{All, List, ◌⊎◌, inl, inr, ◌≡◌, refl, ap, sym, ◌∙◌, subst, ℕ, ◌<◌, ◌&&◌, not}
 use Rattle.std.specs.Prelude.{⊤, Option, None, Some}
-use Rattle.std.proofs.lemmas.Bool.{and_parts}
-use Rattle.std.proofs.lemmas.List.Elements.{All-head, All-tail}
-use Rattle.dr_entry.specs.declared.end.End.{End}
-use Rattle.dr_entry.specs.declared.end.End.TheVariants.{Suspected, NoMajority}
+use Rattle.std.proofs.Common.{All, List, ◌⊎◌, inl, inr, ◌≡◌, refl, ap, sym, ◌∙◌, subst, ℕ, ◌<◌, ◌&&◌, not}
+use Rattle.std.proofs.lemmas.{Bool.and_parts, List.Elements.{All-head, All-tail}}
+use Rattle.dr_entry.specs.declared.end.End.{End, TheVariants.{Suspected, NoMajority}}
 use Rattle.dr_history.specs.Members.{has}
-use Rattle.dr_words.specs.declared.column.TheConstants.{SUSPECTED_COLUMN}
-use Rattle.dr_words.specs.Masks.{IsMajorityOf, without}
+use Rattle.dr_words.specs.{Masks.{IsMajorityOf, without}, declared.column.TheConstants.SUSPECTED_COLUMN}
 use Rattle.dr_words.proofs.Masks.{has_without_mask}
-use Rattle.dr_machine.specs.declared.step.Step.{Step}
-use Rattle.dr_machine.specs.Acts.{CanTake, effect_of}
-use Rattle.dr_machine.specs.Events.{member_of, step_of}
-use Rattle.dr_machine.specs.Group.{Group, IsGroup, roster}
+use Rattle.dr_machine.specs.{Acts.{CanTake, effect_of}, Events.{member_of, step_of}, Group.{Group, IsGroup, roster}}
 use Rattle.dr_machine.specs.Guards.{IsDue, IsFault, IsInView, IsMinority, IsSuspectedBy}
-use Rattle.dr_machine.specs.Run.{Way, WordsGrew, with_table}
-use Rattle.dr_machine.specs.World.{Table, World}
-use Rattle.dr_machine.proofs.Ends.{EndsSo, IsStill, ended_so}
-use Rattle.dr_machine.proofs.Events.{standing}
-use Rattle.dr_machine.proofs.Runs.{by_way}
-use Rattle.dr_faithful.specs.Chosen.{AreChosen, Values, views_by}
-use Rattle.dr_faithful.specs.Faithful.{Faithful}
-use Rattle.dr_faithful.specs.Tells.{Views}
-use Rattle.dr_faithful.proofs.Faithfulness.{words_on}
-use Rattle.dr_faithful.proofs.Suspicions.{members_small, suspicions_told}
-use Rattle.dr_world_laws.specs.Ends.{IsLeftWith, IsSuspectedBack}
-use Rattle.dr_world_laws.proofs.Reached.{all-go_on, known}
+use Rattle.dr_machine.specs.{Run.{Way, WordsGrew, with_table}, World.{Table, World}, declared.step.Step.Step}
+use Rattle.dr_machine.proofs.{Ends.{EndsSo, IsStill, ended_so}, Events.standing, Runs.by_way}
+use Rattle.dr_faithful.specs.{Chosen.{AreChosen, Values, views_by}, Faithful.Faithful, Tells.Views}
+use Rattle.dr_faithful.proofs.{Faithfulness.words_on, Suspicions.{members_small, suspicions_told}}
+use Rattle.dr_world_laws.{specs.Ends.{IsLeftWith, IsSuspectedBack}, proofs.Reached.{all-go_on, known}}
 
 -- an end by suspicion is that of a member that is left out of its view
 abbrev pub IsLeftSo : World → ℕ → Option End → Type 0
@@ -45,8 +32,7 @@ named_so g V w m by f due = record {
   member = due.row.member;
   other = due.row.other;
   unsuspected = due.unsuspected;
-  suspects = ((suspicions_told g V w f).seen m by SUSPECTED_COLUMN due.row.other).suspected refl m
-      due.named;
+  suspects = ((suspicions_told g V w f).seen m by SUSPECTED_COLUMN due.row.other).suspected refl m due.named;
 }
 
 -- a member whose others that it trusts are few is among those, and they are of its view
@@ -85,8 +71,7 @@ stays_so g w u k (Suspected by) grew same old = record {
       ∙ (grew.own by (w.past.view k) SUSPECTED_COLUMN).suspected refl k old.suspects;
 }
 stays_so g w u k (NoMajority mask) grew same old = record {
-  unsuspected = old.unsuspected
-      ∙ sym (ap (λ view. without view (u.suspects k)) same.members
+  unsuspected = old.unsuspected ∙ sym (ap (λ view. without view (u.suspects k)) same.members
       ∙ ap (λ other. without (w.members k) other) same.suspects);
   own = old.own;
   members = λ i h. ap (λ view. has view i) same.members ∙ old.members i h;
@@ -98,8 +83,7 @@ stays_so g w u k end grew same old = tt
 
 -- who has ended after it was left out so before, or is so as it ends
 step_leaves : (g : Group) (V : Views) (w : World) (m : ℕ) (s : Step) → IsGroup g → Faithful g V w
-    → CanTake g w m s → WordsGrew g w (effect_of g w m s) → AreLeftSo g w
-    → AreLeftSo g (effect_of g w m s)
+    → CanTake g w m s → WordsGrew g w (effect_of g w m s) → AreLeftSo g w → AreLeftSo g (effect_of g w m s)
 step_leaves g V w m s is f can grew old k l = by ((effect_of g w m s).end k) refl
   where
     so : (end : End) → EndsSo w k end → IsLeftSo w k (Some end)
@@ -109,8 +93,7 @@ step_leaves g V w m s is f can grew old k l = by ((effect_of g w m s).end k) ref
     by : (o : Option End) → (effect_of g w m s).end k ≡ o → IsLeftSo (effect_of g w m s) k o
     by None e = tt
     by (Some end) e =
-        let t = ended_so g w m s k end can e in
-        stays_so g w (effect_of g w m s) k end grew t.0 (so end t.1)
+        let t = ended_so g w m s k end can e in stays_so g w (effect_of g w m s) k end grew t.0 (so end t.1)
 
 -- words that arrive leave nobody out, and take nobody back
 arrival_leaves : (w : World) (table : Table) (k : ℕ) (o : Option End) → IsLeftSo w k o
@@ -135,10 +118,8 @@ arrival_leaves w table k (Some end) old = tt
 -- so it is in every world that is reached
 pub left_so : (g : Group) (values : Values) (us : List World) (w : World) → IsGroup g → Way g us w
     → All (AreChosen values) us → AreLeftSo g w
-left_so g values us w is r chosen = by_way g (AreChosen values) (λ us u. AreLeftSo g u)
-    (λ us u e run all can y.
+left_so g values us w is r chosen = by_way g (AreChosen values) (λ us u. AreLeftSo g u) (λ us u e run all can y.
     let k = known g values us u is run (All-tail (AreChosen values) u us all) in
-    step_leaves g (views_by g values) u (member_of e) (step_of e) is k.faithful can
-    (words_on g (views_by g values) u e is
-    (all-go_on g values u is k (All-head (AreChosen values) u us all)) can k.faithful) y)
+    step_leaves g (views_by g values) u (member_of e) (step_of e) is k.faithful can (words_on g
+    (views_by g values) u e is (all-go_on g values u is k (All-head (AreChosen values) u us all)) can k.faithful) y)
     (λ us u table run all come y m l. arrival_leaves u table m (u.end m) (y m l)) (λ m l. tt) us w r chosen

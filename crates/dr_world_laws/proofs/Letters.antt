@@ -1,36 +1,18 @@
 -- The letters of late members: each is the head of the first view that its member is in.
 use Rattle.std.proofs.Common.{List, [], ◌∷◌, ◌++◌, None, Option, Some, append-nil, length, length-append, refl, ◌||◌, ◌==◌, ◌≢◌, ◌≡◌, ◌⊎◌, Contains, ap, arith, false, inl, inr, subst, sym, true, ℕ, ◌+◌, ◌<◌, ◌∙◌, ◌≤◌}
-use Rattle.std.proofs.lemmas.Bool.{cases_eq, cases_lt}
-use Rattle.std.proofs.lemmas.Bool.Decides.{nat_tests}
-use Rattle.std.proofs.lemmas.Option.{same_Some, slice_get-get_or}
+use Rattle.std.proofs.lemmas.{Bool.{cases_eq, cases_lt, Decides.nat_tests}, Option.{same_Some, slice_get-get_or}}
 use Rattle.dr_entry.specs.declared.entry.Entry.{Entry}
-use Rattle.dr_history.specs.History.{IsPrefixOf, last_view, up_to_view}
-use Rattle.dr_history.specs.Members.{has, members_of}
-use Rattle.dr_history.specs.Order.{IsNewIn}
+use Rattle.dr_history.specs.{History.{IsPrefixOf, last_view, up_to_view}, Members.{has, members_of}, Order.IsNewIn}
 use Rattle.dr_history.proofs.Bits.{has_zero}
-use Rattle.dr_history_laws.specs.Courses.{ViewHasEnded, head_of}
-use Rattle.dr_history_laws.proofs.Courses.{course-head, head-steady}
-use Rattle.dr_history_laws.proofs.Heads.{course_up_to, head_view}
-use Rattle.dr_history_laws.proofs.Members.{member-has}
-use Rattle.dr_machine.proofs.Events.{Letters, given_after, letters}
-use Rattle.dr_machine.proofs.Presence.{in_roster}
-use Rattle.dr_machine.specs.Acts.{CanTake, effect_of}
-use Rattle.dr_machine.specs.declared.step.Step.{Step}
-use Rattle.dr_machine.specs.Group.{Group, IsGroup, roster}
-use Rattle.dr_machine.specs.Guards.{CanWelcome}
-use Rattle.dr_machine.specs.Run.{PastGrew}
-use Rattle.dr_machine.specs.World.{Past, World}
-use Rattle.dr_machine.specs.Writes.{at}
-use Rattle.dr_machine.specs.Effects.{welcomes}
-use Rattle.dr_words.proofs.Masks.{has_mask_of}
-use Rattle.dr_words.specs.Masks.{with_member}
-use Rattle.dr_faithful.proofs.Finishes.{joined_is}
-use Rattle.dr_faithful.proofs.Writes.{at_case, at_other, at_same}
-use Rattle.dr_faithful.specs.Chosen.{Values, endings_by, views_by}
-use Rattle.dr_faithful.specs.Faithful.{AllGoOn, Faithful}
-use Rattle.dr_world_laws.specs.Historic.{AreLaid, head_by}
-use Rattle.dr_world_laws.proofs.ChosenViews.{ending-next}
-use Rattle.dr_world_laws.proofs.Holding.{head-later}
+use Rattle.dr_history_laws.{specs.Courses.{ViewHasEnded, head_of}, proofs.Courses.{course-head, head-steady}}
+use Rattle.dr_history_laws.proofs.{Heads.{course_up_to, head_view}, Members.member-has}
+use Rattle.dr_machine.specs.{Acts.{CanTake, effect_of}, Effects.welcomes, Group.{Group, IsGroup, roster}}
+use Rattle.dr_machine.specs.{Guards.CanWelcome, Run.PastGrew, World.{Past, World}, Writes.at, declared.step.Step.Step}
+use Rattle.dr_machine.proofs.{Events.{Letters, given_after, letters}, Presence.in_roster}
+use Rattle.dr_words.{specs.Masks.with_member, proofs.Masks.has_mask_of}
+use Rattle.dr_faithful.specs.{Chosen.{Values, endings_by, views_by}, Faithful.{AllGoOn, Faithful}}
+use Rattle.dr_faithful.proofs.{Finishes.joined_is, Writes.{at_case, at_other, at_same}}
+use Rattle.dr_world_laws.{specs.Historic.{AreLaid, head_by}, proofs.{ChosenViews.ending-next, Holding.head-later}}
 
 -- the letter for member j is the head of a view that somebody has come to, the first one that j is in
 pub record IsLetter (g : Group) (values : Values) (past : Past) (j : ℕ) (letter : List Entry) : Type 0 where
@@ -58,10 +40,8 @@ letter-behind g values w j letter t = rw whole (by begins.0 begins.1)
         (head-later g values w 0 t.view (omega (arith, t.next)))
 
     whole : up_to_view letter ≡ letter
-    whole = ap up_to_view (t.is
-        ∙ sym (course-head g.opening w.past.sent (endings_by g.opening values) t.view))
-        ∙ course_up_to g.opening w.past.sent (endings_by g.opening values) t.view 0
-        ∙ sym t.is
+    whole = ap up_to_view (t.is ∙ sym (course-head g.opening w.past.sent (endings_by g.opening values) t.view))
+        ∙ course_up_to g.opening w.past.sent (endings_by g.opening values) t.view 0 ∙ sym t.is
 
     last : (v : ℕ) → (last_view (0, 0) (head_by g values w v)).0 ≡ v
     last v = ap (λ x. x.0) (head_view g.opening w.past.sent (endings_by g.opening values) v (0, 0))
@@ -69,8 +49,7 @@ letter-behind g values w j letter t = rw whole (by begins.0 begins.1)
     number : head_by g values w 0 ≡ letter → 0 ≡ t.view
     number same = sym (last 0) ∙ ap (λ es. (last_view (0, 0) es).0) (same ∙ t.is) ∙ last t.view
 
-    by : (rest : List Entry) → head_by g values w 0 ++ rest ≡ letter
-        → length (head_by g values w 0) < length letter
+    by : (rest : List Entry) → head_by g values w 0 ++ rest ≡ letter → length (head_by g values w 0) < length letter
     by [] same = absurd (omega (arith, t.next, number (sym (append-nil (head_by g values w 0)) ∙ same)))
     by (e ∷ rest) more = omega (arith, ap length more, length-append (head_by g values w 0) (e ∷ rest))
 
@@ -98,11 +77,9 @@ letter-on g values w after j l laid grew t = record {
 }
 
 -- who comes into the view with m, which was in the one before, is in no view before
-comes-new : (g : Group) (values : Values) (w : World) (m j : ℕ) → IsGroup g
-    → Faithful g (views_by g values) w → AreLaid g values w → CanWelcome g w m j
-    → (u : ℕ) → u < w.past.view m → has (views_by g values u) j ≡ false
-comes-new g values w m j is f laid can u less =
-    (fresh (ended.newcomers j next)).absent u (omega (arith, less, was.1))
+comes-new : (g : Group) (values : Values) (w : World) (m j : ℕ) → IsGroup g → Faithful g (views_by g values) w
+    → AreLaid g values w → CanWelcome g w m j → (u : ℕ) → u < w.past.view m → has (views_by g values u) j ≡ false
+comes-new g values w m j is f laid can u less = (fresh (ended.newcomers j next)).absent u (omega (arith, less, was.1))
   where
     l : m < roster g
     l = in_roster g m is can.may.alive.present
@@ -120,8 +97,7 @@ comes-new g values w m j is f laid can u less =
     next = ap (λ k. has k j) (ending-next g values was.0)
         ∙ subst (λ v. has (views_by g values v) j ≡ true) was.1 there
 
-    fresh : Contains (members_of (views_by g values was.0)) j
-        ⊎ IsNewIn g.opening (views_by g values) was.0 j
+    fresh : Contains (members_of (views_by g values was.0)) j ⊎ IsNewIn g.opening (views_by g values) was.0 j
         → IsNewIn g.opening (views_by g values) was.0 j
     fresh (inl c) =
         let there : has (views_by g values was.0) j ≡ true = member-has (views_by g values was.0) c.0 j
@@ -130,9 +106,8 @@ comes-new g values w m j is f laid can u less =
     fresh (inr new) = new
 
 -- what m gives is one
-given-letter : (g : Group) (values : Values) (w : World) (m j : ℕ) → IsGroup g
-    → Faithful g (views_by g values) w → AreLaid g values w → CanWelcome g w m j
-    → IsLetter g values w.past j (up_to_view (w.past.history m))
+given-letter : (g : Group) (values : Values) (w : World) (m j : ℕ) → IsGroup g → Faithful g (views_by g values) w
+    → AreLaid g values w → CanWelcome g w m j → IsLetter g values w.past j (up_to_view (w.past.history m))
 given-letter g values w m j is f laid can = record {
   view = w.past.view m;
   giver = m;
@@ -146,8 +121,7 @@ given-letter g values w m j is f laid can = record {
   next = was.1;
   was = ap (λ k. has k m) (sym was.2) ∙ can.welcomer;
   stays = ap (λ k. has k m) (sym (f.views.own m)) ∙ can.may.inside;
-  least = λ i there stays. can.least i (ap (λ k. has k i) was.2 ∙ there)
-      (ap (λ k. has k i) (f.views.own m) ∙ stays);
+  least = λ i there stays. can.least i (ap (λ k. has k i) was.2 ∙ there) (ap (λ k. has k i) (f.views.own m) ∙ stays);
 }
   where
     l : m < roster g
@@ -206,25 +180,22 @@ kept-more : (view given : ℕ → ℕ) (m n giver v j : ℕ) → j < 16 → IsKe
     → IsKept view (at given m (with_member (given m) n)) giver v j
 kept-more view given m n giver v j small (inr less) = inr less
 kept-more view given m n giver v j small (inl t) = inl (elim (cases_eq giver m) [
-  | inl same ↦ ap (λ x. has x j) (ap (at given m (with_member (given m) n)) same
-      ∙ at_same given m (with_member (given m) n))
-      ∙ has-more (given m) n j small (ap (λ x. has x j) (sym (ap given same)) ∙ t)
+  | inl same ↦ ap (λ x. has x j) (ap (at given m (with_member (given m) n)) same ∙ at_same given m
+      (with_member (given m) n)) ∙ has-more (given m) n j small (ap (λ x. has x j) (sym (ap given same)) ∙ t)
   | inr d ↦ ap (λ x. has x j) (at_other given m (with_member (given m) n) giver d) ∙ t
 ])
 
 given-more : (given : ℕ → ℕ) (letter : ℕ → Option (List Entry)) (m n : ℕ) (x : List Entry)
-    → ((k j : ℕ) → has (given k) j ≡ true → (l : List Entry) × (letter j ≡ Some l))
-    → (k j : ℕ) → has (at given m (with_member (given m) n) k) j ≡ true
-    → (l : List Entry) × (at letter n (Some x) j ≡ Some l)
+    → ((k j : ℕ) → has (given k) j ≡ true → (l : List Entry) × (letter j ≡ Some l)) → (k j : ℕ)
+    → has (at given m (with_member (given m) n) k) j ≡ true → (l : List Entry) × (at letter n (Some x) j ≡ Some l)
 given-more given letter m n x old k j t = elim (cases_eq j n) [
   | inl same ↦ (x, ap (at letter n (Some x)) same ∙ at_same letter n (Some x))
   | inr d ↦ let y = old k j (before d (cases_eq k m)) in (y.0, at_other letter n (Some x) j d ∙ y.1)
 ]
   where
     before : j ≢ n → (k ≡ m) ⊎ (k ≢ m) → has (given k) j ≡ true
-    before d (inl same) = ap (λ i. has (given i) j) same ∙ has-old (given m) n j d
-        (ap (λ x. has x j) (sym (ap (at given m (with_member (given m) n)) same
-        ∙ at_same given m (with_member (given m) n))) ∙ t)
+    before d (inl same) = ap (λ i. has (given i) j) same ∙ has-old (given m) n j d (ap (λ x. has x j)
+        (sym (ap (at given m (with_member (given m) n)) same ∙ at_same given m (with_member (given m) n))) ∙ t)
     before d (inr e) = ap (λ x. has x j) (sym (at_other given m (with_member (given m) n) k e)) ∙ t
 
 -- so it stays
@@ -235,17 +206,15 @@ unfolding given-letter
 gives g values w m i is f laid can old = record {
   letters = at_case (λ k (r : Option (List Entry)). (l : List Entry) → r ≡ Some l
       → (t : IsLetter g values w.past k l) × IsKept w.past.view more t.giver t.view k) w.letter i
-      (Some (up_to_view (w.past.history m)))
-      (λ k d l e. let t = old.letters k l e in (
+      (Some (up_to_view (w.past.history m))) (λ k d l e. let t = old.letters k l e in (
         t.0,
         kept-more w.past.view w.given m i t.0.giver t.0.view k (small t.0.view k t.0.member) t.1,
       ))
       (λ l e. subst (λ es. (t : IsLetter g values w.past i es) × IsKept w.past.view more t.giver t.view i)
       (same_Some (up_to_view (w.past.history m)) l e) (
         given-letter g values w m i is f laid can,
-        inl (ap (λ x. has x i) (at_same w.given m (with_member (w.given m) i))
-            ∙ has-new (w.given m) i (small (w.past.view m) i
-            (ap (λ k. has k i) (sym (f.views.own m)) ∙ can.newcomer))),
+        inl (ap (λ x. has x i) (at_same w.given m (with_member (w.given m) i)) ∙ has-new (w.given m) i
+            (small (w.past.view m) i (ap (λ k. has k i) (sym (f.views.own m)) ∙ can.newcomer))),
       ));
   given = given-more w.given w.letter m i (up_to_view (w.past.history m)) old.given;
 }
@@ -268,8 +237,7 @@ goes g values w m to later old = record {
 -- and the letters are such after each step
 pub letters-stay : (g : Group) (values : Values) (w : World) (m : ℕ) (s : Step) → IsGroup g
     → Faithful g (views_by g values) w → AllGoOn g (views_by g values) w → AreLaid g values w
-    → PastGrew w.past (effect_of g w m s).past
-    → CanTake g w m s → AreGiven g values w.past (letters w)
+    → PastGrew w.past (effect_of g w m s).past → CanTake g w m s → AreGiven g values w.past (letters w)
     → AreGiven g values (effect_of g w m s).past (letters (effect_of g w m s))
 unfolding letter-on
 letters-stay g values w m s is f well laid grew can old = record {
@@ -288,9 +256,8 @@ letters-stay g values w m s is f well laid grew can old = record {
     })
 
 -- a member gives no second letter, nor does another
-pub gives-once : (g : Group) (values : Values) (w : World) (m j : ℕ) → IsGroup g
-    → Faithful g (views_by g values) w → AreLaid g values w → AreGiven g values w.past (letters w)
-    → CanWelcome g w m j → w.letter j ≡ None
+pub gives-once : (g : Group) (values : Values) (w : World) (m j : ℕ) → IsGroup g → Faithful g (views_by g values) w
+    → AreLaid g values w → AreGiven g values w.past (letters w) → CanWelcome g w m j → w.letter j ≡ None
 gives-once g values w m j is f laid y can = by (w.letter j) refl
   where
     was : (u : ℕ) × (w.past.view m ≡ u + 1) × (w.came_from m ≡ views_by g values u)
@@ -300,9 +267,8 @@ gives-once g values w m j is f laid y can = by (w.letter j) refl
     there = ap (λ k. has k j) (sym (f.views.own m)) ∙ can.newcomer
 
     -- it is the same view
-    same-view : (l : List Entry) (t : IsLetter g values w.past j l)
-        → (t.view < w.past.view m) ⊎ (w.past.view m ≤ t.view)
-        → (w.past.view m < t.view) ⊎ (t.view ≤ w.past.view m) → t.view ≡ w.past.view m
+    same-view : (l : List Entry) (t : IsLetter g values w.past j l) → (t.view < w.past.view m)
+        ⊎ (w.past.view m ≤ t.view) → (w.past.view m < t.view) ⊎ (t.view ≤ w.past.view m) → t.view ≡ w.past.view m
     same-view l t (inl less) b = absurd (cc (t.member, comes-new g values w m j is f laid can t.view less))
     same-view l t (inr a) (inl less) = absurd (cc (there, t.new (w.past.view m) less))
     same-view l t (inr a) (inr b) = omega (arith, a, b)
@@ -315,13 +281,11 @@ gives-once g values w m j is f laid y can = by (w.letter j) refl
         let view : t.view ≡ w.past.view m = same-view l t (cases_lt t.view (w.past.view m))
         (cases_lt (w.past.view m) t.view) in
         let from : t.from ≡ was.0 = omega (arith, view, t.next, was.1) in
-        let low : t.giver ≤ m = t.least m
-        (subst (λ u. has (views_by g values u) m ≡ true) (sym from) (ap (λ k. has k m) (sym was.2) ∙ can.welcomer))
-        (subst (λ u. has (views_by g values u) m ≡ true) (sym view)
-        (ap (λ k. has k m) (sym (f.views.own m)) ∙ can.may.inside)) in
-        let high : m ≤ t.giver = can.least t.giver
-        (ap (λ k. has k t.giver) was.2 ∙ subst (λ u. has (views_by g values u) t.giver ≡ true) from t.was)
-        (ap (λ k. has k t.giver) (f.views.own m)
+        let low : t.giver ≤ m = t.least m (subst (λ u. has (views_by g values u) m ≡ true)
+        (sym from) (ap (λ k. has k m) (sym was.2) ∙ can.welcomer)) (subst (λ u. has (views_by g values u) m ≡ true)
+        (sym view) (ap (λ k. has k m) (sym (f.views.own m)) ∙ can.may.inside)) in
+        let high : m ≤ t.giver = can.least t.giver (ap (λ k. has k t.giver) was.2
+        ∙ subst (λ u. has (views_by g values u) t.giver ≡ true) from t.was) (ap (λ k. has k t.giver) (f.views.own m)
         ∙ subst (λ u. has (views_by g values u) t.giver ≡ true) view t.stays) in
         let one : t.giver ≡ m = omega (arith, low, high) in
         elim y.1 [

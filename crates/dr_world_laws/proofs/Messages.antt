@@ -1,34 +1,23 @@
 -- The entries of a history: Views and messages of the script behind the first entries, and each of them a
 -- valid record.
 use Rattle.std.proofs.Common.{◌≡◌, refl, ap, sym, ◌∙◌, subst, ℕ, zero, suc, ◌+◌, ◌<◌, arith, inl, inr, List, [], ◌∷◌, ◌++◌, append-nil, append_assoc, length, map, take, get_or, All, Option, None, Some, slice_get, option_to_list, option_map, option_and_then}
-use Rattle.std.proofs.lemmas.Bool.{cases_lt}
-use Rattle.std.proofs.lemmas.List.{get_or_past}
-use Rattle.std.proofs.lemmas.List.Elements.{All-nil, All-cons, All-append}
+use Rattle.std.proofs.lemmas.{Bool.cases_lt, List.{get_or_past, Elements.{All-nil, All-cons, All-append}}}
 use Rattle.std.proofs.lemmas.Option.{none-some, same_Some, slice_get-get_or, slice_get_within}
-use Rattle.dr_entry.specs.declared.entry.Entry.{Entry}
-use Rattle.dr_entry.specs.declared.entry.Entry.TheVariants.{View, Msg}
-use Rattle.dr_entry.specs.declared.end.SentItem.{SentItem}
-use Rattle.dr_entry.specs.declared.end.SentItem.TheVariants.{Index, Null}
-use Rattle.dr_entry.specs.Spelling.{IsValidEntry}
-use Rattle.dr_history.specs.History.{GroupView, Sent, entry_of, item_at, merge, messages_of}
-use Rattle.dr_history.specs.Order.{first_entries}
+use Rattle.dr_entry.specs.{Spelling.IsValidEntry, declared.end.SentItem.{SentItem, TheVariants.{Index, Null}}}
+use Rattle.dr_entry.specs.declared.entry.Entry.{Entry, TheVariants.{View, Msg}}
+use Rattle.dr_history.specs.{History.{GroupView, Sent, entry_of, item_at, merge, messages_of}, Order.first_entries}
 use Rattle.dr_history.specs.Soundness.{MayStand}
-use Rattle.dr_history_laws.specs.Laid.{laid, entry_at}
 use Rattle.dr_history_laws.specs.Courses.{ViewEnds, ViewHasEnded, counts_taken, head_of, view_in}
-use Rattle.dr_history_laws.proofs.Cutting.{cut, cut_merge}
-use Rattle.dr_history_laws.proofs.Merging.{top_place}
+use Rattle.dr_history_laws.{specs.Laid.{laid, entry_at}, proofs.Cutting.{cut, cut_merge}}
+use Rattle.dr_history_laws.proofs.{LaidLemmas.{laid-next, laid-none}, Merging.top_place}
 use Rattle.dr_faithful.specs.Chosen.{Values, endings_by}
-use Rattle.dr_history_laws.proofs.LaidLemmas.{laid-next, laid-none}
-use Rattle.dr_machine.specs.Group.{Group, IsGroup, roster}
-use Rattle.dr_machine.specs.World.{World}
-use Rattle.dr_world_laws.specs.Historic.{HoldsMessages, IsOfAge}
-use Rattle.dr_world_laws.proofs.Reached.{Known}
+use Rattle.dr_machine.specs.{Group.{Group, IsGroup, roster}, World.World}
+use Rattle.dr_world_laws.{specs.Historic.{HoldsMessages, IsOfAge}, proofs.Reached.Known}
 
 -- ---- messages of the script
 
 -- who has a message is of the roster
-of_roster : (g : Group) (s i : ℕ) (b : List ℕ) → slice_get (messages_of g.opening s) i ≡ Some b
-    → s < roster g
+of_roster : (g : Group) (s i : ℕ) (b : List ℕ) → slice_get (messages_of g.opening s) i ≡ Some b → s < roster g
 of_roster g s i b e = elim (cases_lt s (roster g)) [
   | inl within ↦ within
   | inr past ↦ absurd (omega (
@@ -72,10 +61,8 @@ place_of_script g (Some (s, item)) = by (entry_of g.opening s item) refl
     by (Some e) is = All-cons (IsOfScript g) e [] (item_of_script g s item e is) (All-nil (IsOfScript g))
 
 -- and each entry that is laid
-pub laid_of_script : (g : Group) (sent : Sent) (v : GroupView) (p : ℕ)
-    → All (IsOfScript g) (laid g.opening sent v p)
-laid_of_script g sent v zero = subst (All (IsOfScript g)) (sym (laid-none g.opening sent v))
-    (All-nil (IsOfScript g))
+pub laid_of_script : (g : Group) (sent : Sent) (v : GroupView) (p : ℕ) → All (IsOfScript g) (laid g.opening sent v p)
+laid_of_script g sent v zero = subst (All (IsOfScript g)) (sym (laid-none g.opening sent v)) (All-nil (IsOfScript g))
 laid_of_script g sent v (suc p) =
     let next : suc p ≡ p + 1 = omega arith in
     subst (All (IsOfScript g)) (sym (ap (laid g.opening sent v) next ∙ laid-next g.opening sent v p))
@@ -90,32 +77,26 @@ merged_of_script g sent v taken = subst (All (IsOfScript g)) (sym (cut_merge g.o
 
 -- the head of a view holds Views and messages behind the first entries
 head_holds : (g : Group) (sent : Sent) (endings : ViewEnds) (v : ℕ) → IsGroup g
-    → ((u : ℕ) → u < v → ViewHasEnded g.opening sent endings u)
-    → HoldsMessages g (head_of g.opening sent endings v)
+    → ((u : ℕ) → u < v → ViewHasEnded g.opening sent endings u) → HoldsMessages g (head_of g.opening sent endings v)
 unfolding head_of
-head_holds g sent endings zero is ended =
-    ([], sym (append-nil (first_entries g.opening)), All-nil (IsOfAge g))
+head_holds g sent endings zero is ended = ([], sym (append-nil (first_entries g.opening)), All-nil (IsOfAge g))
 head_holds g sent endings (suc v) is ended =
     let rest = head_holds g sent endings v is (λ u l. ended u (omega (arith, l))) in
     let next = ended v (omega arith) in
-    let merged : List Entry = merge g.opening sent (view_in g.opening endings v)
-    (counts_taken g.opening endings v) in
+    let merged : List Entry = merge g.opening sent (view_in g.opening endings v) (counts_taken g.opening endings v) in
     let last : List Entry = View g.opening.age (suc v) (endings v).next ∷ [] in (
       (rest.0 ++ merged) ++ last,
       ap (λ es. (es ++ merged) ++ last) rest.1
           ∙ ap (λ es. es ++ last) (append_assoc (first_entries g.opening) rest.0 merged)
           ∙ append_assoc (first_entries g.opening) (rest.0 ++ merged) last,
-      All-append (IsOfAge g) (rest.0 ++ merged) last
-          (All-append (IsOfAge g) rest.0 merged rest.2
+      All-append (IsOfAge g) (rest.0 ++ merged) last (All-append (IsOfAge g) rest.0 merged rest.2
           (all_of_age g merged (merged_of_script g sent (view_in g.opening endings v) (endings v).taken)))
           (All-cons (IsOfAge g) (View g.opening.age (suc v) (endings v).next) []
-          (refl, omega arith, next.roster.some, next.follows.numbers.1)
-          (All-nil (IsOfAge g))),
+          (refl, omega arith, next.roster.some, next.follows.numbers.1) (All-nil (IsOfAge g))),
     )
 
 -- a history holds such Views and messages behind its first entries
-pub holds_messages : (g : Group) (values : Values) (w : World) (m : ℕ) → IsGroup g → Known g values w
-    → m < roster g
+pub holds_messages : (g : Group) (values : Values) (w : World) (m : ℕ) → IsGroup g → Known g values w → m < roster g
     → HoldsMessages g (w.past.history m)
 holds_messages g values w m is y l =
     let head = head_holds g w.past.sent (endings_by g.opening values) (w.past.view m) is
@@ -123,10 +104,8 @@ holds_messages g values w m is y l =
     let here : List Entry = laid g.opening w.past.sent
     (view_in g.opening (endings_by g.opening values) (w.past.view m)) (w.next m) in (
       head.0 ++ here,
-      y.laid.historic.history m l ∙ ap (λ es. es ++ here) head.1
-          ∙ append_assoc (first_entries g.opening) head.0 here,
-      All-append (IsOfAge g) head.0 here head.2
-          (all_of_age g here (laid_of_script g w.past.sent
+      y.laid.historic.history m l ∙ ap (λ es. es ++ here) head.1 ∙ append_assoc (first_entries g.opening) head.0 here,
+      All-append (IsOfAge g) head.0 here head.2 (all_of_age g here (laid_of_script g w.past.sent
           (view_in g.opening (endings_by g.opening values) (w.past.view m)) (w.next m))),
     )
 
@@ -141,12 +120,10 @@ valid_message g (Msg s i b) is of = (omega (arith, of.0, is.most_members), is.sh
 valid_standing : (g : Group) (before : List Entry) (e : Entry) → IsGroup g
     → MayStand g.opening before e → IsValidEntry e
 valid_standing g before (View age number members) is stands = stands.0.some
-valid_standing g before (Msg s i b) is stands =
-    valid_message g (Msg s i b) is (of_roster g s i b stands.2, stands.2)
+valid_standing g before (Msg s i b) is stands = valid_message g (Msg s i b) is (of_roster g s i b stands.2, stands.2)
 
 valid_first : (g : Group) → IsGroup g → All IsValidEntry (first_entries g.opening)
-valid_first g is = All-append IsValidEntry g.opening.start
-    (View g.opening.age 0 g.opening.members ∷ [])
+valid_first g is = All-append IsValidEntry g.opening.start (View g.opening.age 0 g.opening.members ∷ [])
     (λ k d l. valid_standing g (take k g.opening.start) (get_or g.opening.start k d) is
     (is.sound.entries k _ (slice_get-get_or g.opening.start k d l)))
     (All-cons IsValidEntry _ [] is.sound.members.some (All-nil IsValidEntry))
@@ -154,6 +131,5 @@ valid_first g is = All-append IsValidEntry g.opening.start
 -- each entry of a history is valid
 pub valid_history : (g : Group) (history : List Entry) → IsGroup g → HoldsMessages g history
     → All IsValidEntry history
-valid_history g history is holds = subst (All IsValidEntry) (sym holds.1)
-    (All-append IsValidEntry (first_entries g.opening) holds.0 (valid_first g is)
-    (λ k d l. valid_message g _ is (holds.2 k d l)))
+valid_history g history is holds = subst (All IsValidEntry) (sym holds.1) (All-append IsValidEntry
+    (first_entries g.opening) holds.0 (valid_first g is) (λ k d l. valid_message g _ is (holds.2 k d l)))

@@ -1,23 +1,17 @@
 -- The members of each view that somebody has come to are the same by all values by which worlds are reached.
 use Rattle.std.proofs.Common.{arith, subst, suc, sym, zero, ap, ℕ, ◌+◌, ◌<◌, ◌∙◌, ◌≡◌, ◌≤◌}
 use Rattle.dr_entry.specs.declared.record.Value.{Value}
-use Rattle.dr_machine.specs.Group.{Group}
-use Rattle.dr_machine.specs.Run.{PastGrew}
-use Rattle.dr_machine.specs.Votes.{IsOf, MajorityHas}
-use Rattle.dr_machine.specs.World.{World}
+use Rattle.dr_machine.specs.{Group.Group, Run.PastGrew, Votes.{IsOf, MajorityHas}, World.World}
 use Rattle.dr_faithful.specs.Chosen.{Values, come_of, views_by}
-use Rattle.dr_vote_laws.proofs.Values.{chosen_once, chosen_since}
-use Rattle.dr_vote_laws.specs.Voting.{IsChosen}
-use Rattle.dr_world_laws.proofs.ChosenViews.{views-first, views-next}
-use Rattle.dr_world_laws.proofs.Reached.{Known}
+use Rattle.dr_vote_laws.{specs.Voting.IsChosen, proofs.Values.{chosen_once, chosen_since}}
+use Rattle.dr_world_laws.proofs.{ChosenViews.{views-first, views-next}, Reached.Known}
 
 -- what a majority of a view has voted for early is so by its members as they are known later
 pub voted-since : (g : Group) (one other : Values) (early late : World) (v b : ℕ) (x : Value)
     → PastGrew early.past late.past → views_by g one v ≡ views_by g other v
     → IsChosen (views_by g one) early.past.votes v b x → IsChosen (views_by g other) late.past.votes v b x
-voted-since g one other early late v b x grew same voted =
-    subst (λ mask. MajorityHas late.past.votes mask (λ z. IsOf z v b × (z.value ≡ x))) same
-    (chosen_since (views_by g one) early late v b x grew voted)
+voted-since g one other early late v b x grew same voted = subst (λ mask. MajorityHas late.past.votes mask
+    (λ z. IsOf z v b × (z.value ≡ x))) same (chosen_since (views_by g one) early late v b x grew voted)
 
 -- so its value is the same
 value-from : (g : Group) (one other : Values) (early late : World) (m k v : ℕ) → Known g one early
@@ -33,14 +27,11 @@ value-from g one other early late m k v before after grew l n same =
 pub same-views : (g : Group) (one other : Values) (early late : World) (m k v : ℕ) → Known g one early
     → Known g other late → PastGrew early.past late.past → v ≤ early.past.view m → v ≤ late.past.view k
     → views_by g one v ≡ views_by g other v
-same-views g one other early late m k zero before after grew l n =
-    views-first g one ∙ sym (views-first g other)
+same-views g one other early late m k zero before after grew l n = views-first g one ∙ sym (views-first g other)
 same-views g one other early late m k (suc v) before after grew l n =
     let next : v + 1 ≡ suc v = omega arith in
-    let same = same-views g one other early late m k v before after grew (omega (arith, l)) (omega (arith, n))
-    in
-    rw (← next) (views-next g one v
-    ∙ ap (λ mask. come_of g.opening mask (one v).leavers) same
+    let same = same-views g one other early late m k v before after grew (omega (arith, l)) (omega (arith, n)) in
+    rw (← next) (views-next g one v ∙ ap (λ mask. come_of g.opening mask (one v).leavers) same
     ∙ ap (λ (x : Value). come_of g.opening (views_by g other v) x.leavers)
     (value-from g one other early late m k v before after grew (omega (arith, l)) (omega (arith, n)) same)
     ∙ sym (views-next g other v))

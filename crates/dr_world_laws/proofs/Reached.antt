@@ -1,60 +1,33 @@
 -- What holds of the histories of every world that is reached.
 use Rattle.std.proofs.Common.{All, List, ◌∷◌, ◌≡◌, ◌≢◌, ◌⊎◌, inl, inr, refl, ap, ap₂, sym, ◌∙◌, subst, ℕ, ◌+◌, ◌/◌, ◌%◌, ◌<◌, arith, true, Some, [], length, slice_get, take, unwrap_or}
-use Rattle.std.proofs.lemmas.Bool.{cases_eq}
-use Rattle.std.proofs.lemmas.List.{take_all}
-use Rattle.std.proofs.lemmas.List.Elements.{All-head}
-use Rattle.std.proofs.lemmas.Option.{none-some}
-use Rattle.dr_entry.specs.declared.end.SentItem.{SentItem}
-use Rattle.dr_entry.specs.declared.end.SentItem.TheVariants.{Index, Null}
-use Rattle.dr_entry.specs.declared.record.Value.{Value}
-use Rattle.dr_history.specs.Members.{has}
-use Rattle.dr_history.specs.History.{GroupView, item_at, last_view, messages_of}
-use Rattle.dr_history.specs.Order.{messages_from}
-use Rattle.dr_history.proofs.NumberedLemmas.{messages_from-View}
-use Rattle.dr_history.proofs.Bits.{has_zero}
+use Rattle.std.proofs.lemmas.{Bool.cases_eq, List.{take_all, Elements.All-head}, Option.none-some}
+use Rattle.dr_entry.specs.{declared.end.SentItem.{SentItem, TheVariants.{Index, Null}}, declared.record.Value.Value}
+use Rattle.dr_history.specs.{History.{GroupView, item_at, last_view, messages_of}, Members.has, Order.messages_from}
+use Rattle.dr_history.proofs.{Bits.has_zero, NumberedLemmas.messages_from-View}
 use Rattle.dr_words.specs.declared.column.TheConstants.{RECEIVED_COLUMN, DONE_COLUMN}
-use Rattle.dr_history_laws.specs.Laid.{GoesOn}
-use Rattle.dr_history_laws.proofs.Counting.{index-next}
-use Rattle.dr_history_laws.proofs.Indices.{item_at-parts}
-use Rattle.dr_history_laws.proofs.Lists.{Contains-slice_get}
-use Rattle.dr_history_laws.proofs.Courses.{course-head, head-ends, head-first}
-use Rattle.dr_history_laws.proofs.Members.{view-distinct}
-use Rattle.dr_history_laws.proofs.SendingLemmas.{GoesOn-none}
-use Rattle.dr_machine.specs.declared.event.Event.{Event}
-use Rattle.dr_machine.specs.Group.{Group, IsGroup, roster}
-use Rattle.dr_machine.specs.Guards.{CanDeliver, CanFinish, CanJoin}
-use Rattle.dr_machine.specs.Effects.{entries_of, joins}
-use Rattle.dr_machine.specs.World.{Table, World, opening_world, own_word}
-use Rattle.dr_machine.specs.Acts.{CanTake, Guard, effect, effect_of}
-use Rattle.dr_machine.specs.Events.{member_of, step_of}
-use Rattle.dr_machine.specs.Writes.{at}
-use Rattle.dr_machine.specs.declared.step.Step.{Step}
-use Rattle.dr_machine.proofs.Events.{letters, standing_after}
-use Rattle.dr_machine.proofs.Presence.{in_roster}
-use Rattle.dr_machine.specs.Run.{HaveArrived, Way, with_table}
-use Rattle.dr_machine.proofs.Runs.{by_way}
-use Rattle.dr_faithful.specs.Faithful.{AllGoOn, Faithful}
-use Rattle.dr_faithful.specs.Chosen.{AreChosen, Values, endings_by, views_by}
-use Rattle.dr_faithful.specs.Tells.{Views, item_named}
+use Rattle.dr_history_laws.{specs.Laid.GoesOn, proofs.Counting.index-next}
+use Rattle.dr_history_laws.proofs.{Courses.{course-head, head-ends, head-first}, Indices.item_at-parts}
+use Rattle.dr_history_laws.proofs.{Lists.Contains-slice_get, Members.view-distinct, SendingLemmas.GoesOn-none}
+use Rattle.dr_machine.specs.{Acts.{CanTake, Guard, effect, effect_of}, World.{Table, World, opening_world, own_word}}
+use Rattle.dr_machine.specs.{Effects.{entries_of, joins}, Events.{member_of, step_of}, declared.event.Event.Event}
+use Rattle.dr_machine.{specs.Group.{Group, IsGroup, roster}, proofs.{Events.{letters, standing_after}, Runs.by_way}}
+use Rattle.dr_machine.specs.{Guards.{CanDeliver, CanFinish, CanJoin}, Run.{HaveArrived, Way, with_table}, Writes.at}
+use Rattle.dr_machine.{specs.declared.step.Step.Step, proofs.Presence.in_roster}
+use Rattle.dr_faithful.specs.{Chosen.{AreChosen, Values, endings_by, views_by}, Faithful.{AllGoOn, Faithful}}
+use Rattle.dr_faithful.specs.{Late.AreBacked, Tells.{Views, item_named}}
 use Rattle.dr_faithful.proofs.Faithfulness.{faithful_begins, faithful_keeps, past_on_event, words_on}
 use Rattle.dr_faithful.proofs.Late.{arrived_keeps, backed_arrived, backed_begins, backed_event}
-use Rattle.dr_faithful.specs.Late.{AreBacked}
-use Rattle.dr_vote_laws.proofs.Late.{arrived_votes, votes_backed, votes_on}
-use Rattle.dr_vote_laws.specs.Late.{VotesBacked}
-use Rattle.dr_vote_laws.proofs.Opening.{begun as voting_begins}
-use Rattle.dr_vote_laws.proofs.Steps.{voting_keeps}
-use Rattle.dr_vote_laws.specs.Voting.{Voting}
-use Rattle.dr_world_laws.proofs.Ballots.{HasLeft, ballots-stay, voted-for}
-use Rattle.dr_world_laws.proofs.ByValues.{AreVotedFor}
+use Rattle.dr_vote_laws.{specs.{Late.VotesBacked, Voting.Voting}, proofs.Late.{arrived_votes, votes_backed, votes_on}}
+use Rattle.dr_vote_laws.proofs.{Opening.begun as voting_begins, Steps.voting_keeps}
 use Rattle.dr_world_laws.specs.Historic.{AreLaid, HasEndedSafely, head_by, view_numbered}
+use Rattle.dr_world_laws.proofs.{Ballots.{HasLeft, ballots-stay, voted-for}, Safety.{IsSafe, safe-value, wedged_stay}}
+use Rattle.dr_world_laws.proofs.{ByValues.AreVotedFor, Joining.{joins-head, joins-well, letter-number, wishes-new}}
 use Rattle.dr_world_laws.proofs.ChosenViews.{left-steady, views-first, views-within}
-use Rattle.dr_world_laws.proofs.Finishing.{Finishes, finished-head, finishes, goes-any, goes-on_well, leaves}
-use Rattle.dr_world_laws.proofs.Joining.{joins-head, joins-well, letter-number, wishes-new}
-use Rattle.dr_world_laws.proofs.Letters.{AreGiven, AreHeads, are-heads, letters-stay}
 use Rattle.dr_world_laws.proofs.Completion.{Complete, shows_own, event_completes}
+use Rattle.dr_world_laws.proofs.Finishing.{Finishes, finished-head, finishes, goes-any, goes-on_well, leaves}
 use Rattle.dr_world_laws.proofs.Histories.{AddsEntry, AreReady, added, event_keeps}
-use Rattle.dr_world_laws.proofs.Safety.{IsSafe, safe-value, wedged_stay}
 use Rattle.dr_world_laws.proofs.Items.{IsReceived, entries-next, held-next, item-received}
+use Rattle.dr_world_laws.proofs.Letters.{AreGiven, AreHeads, are-heads, letters-stay}
 
 -- what is known of a world that is reached by chosen values
 pub record Known (g : Group) (values : Values) (w : World) : Type 0 where
@@ -69,8 +42,7 @@ pub record Known (g : Group) (values : Values) (w : World) : Type 0 where
 -- so a value that somebody has committed is safe
 pub safe : (g : Group) (values : Values) (w : World) (m : ℕ) (x : Value) → Known g values w
     → w.committed m ≡ Some x → IsSafe g (views_by g values) w m x
-safe g values w m x y e =
-    safe-value g (views_by g values) w m x y.faithful y.voting (y.wedged m x e) e
+safe g values w m x y e = safe-value g (views_by g values) w m x y.faithful y.voting (y.wedged m x e) e
 
 -- and whoever may end its view does so with a value of which that much is known
 pub may-end : (g : Group) (values : Values) (w : World) (m : ℕ) → IsGroup g → Known g values w
@@ -82,18 +54,15 @@ may-end g values w m is y chosen can =
 pub all-go_on : (g : Group) (values : Values) (w : World) → IsGroup g → Known g values w
     → AreChosen values w → AllGoOn g (views_by g values) w
 all-go_on g values w is y chosen = record {
-  finish = λ m can. goes-on_well g values w m can.value is y.faithful y.laid
-      (may-end g values w m is y chosen can);
-  join = λ m can. joins-well g values w m is y.faithful y.laid can
-      (y.letters.letters m can.letter can.given).0;
+  finish = λ m can. goes-on_well g values w m can.value is y.faithful y.laid (may-end g values w m is y chosen can);
+  join = λ m can. joins-well g values w m is y.faithful y.laid can (y.letters.letters m can.letter can.given).0;
   wish = λ m j there may. wishes-new g values w m j is y.laid.historic there may;
 }
 
 -- ---- the next place
 
 -- the message at the next place has the next index of its sender, and the script has it
-index-delivered : (g : Group) (values : Values) (w : World) (m s i : ℕ) → IsGroup g → Known g values w
-    → m < roster g
+index-delivered : (g : Group) (values : Values) (w : World) (m s i : ℕ) → IsGroup g → Known g values w → m < roster g
     → item_at w.past.sent (view_numbered g (views_by g values) (w.past.view m)) (w.next m) ≡ Some (s, Index i)
     → (i ≡ length (messages_from s (w.past.history m))) × (i < length (messages_of g.opening s))
 index-delivered g values w m s i is y l place = (
@@ -119,8 +88,7 @@ index-delivered g values w m s i is y l place = (
 -- a member that may deliver has the item at the next place
 item-next : (g : Group) (V : Views) (w : World) (m : ℕ) → Faithful g V w → CanDeliver g w m
     → IsReceived g V w m (w.next m)
-item-next g V w m f can =
-    item-received g V w m (w.next m) f
+item-next g V w m f can = item-received g V w m (w.next m) f
     (shows_own w m RECEIVED_COLUMN (w.next m) (can.received m can.may.inside))
 
 adds-entry : (g : Group) (values : Values) (w : World) (m : ℕ) → IsGroup g → Known g values w
@@ -128,8 +96,7 @@ adds-entry : (g : Group) (values : Values) (w : World) (m : ℕ) → IsGroup g �
 adds-entry g values w m is y can =
     let x = item-next g (views_by g values) w m y.faithful can in
     let l = in_roster g m is can.may.alive.present in
-    entries-next g (views_by g values) w m (w.next m) (w.past.history m) x.sender x.name x.place x.sent
-    x.has_it
+    entries-next g (views_by g values) w m (w.next m) (w.past.history m) x.sender x.name x.place x.sent x.has_it
     (λ i e. index-delivered g values w m x.sender i is y l (x.place ∙ ap (λ n. Some (x.sender, n)) e))
 
 -- a member that shows done has no message left to deliver
@@ -137,8 +104,7 @@ done-delivers_none : (g : Group) (values : Values) (w : World) (m : ℕ) → IsG
     → CanDeliver g w m → m < roster g → own_word w m DONE_COLUMN ≡ 1 → added w m ≡ []
 done-delivers_none g values w m is y can l e =
     let x = item-next g (views_by g values) w m y.faithful can in
-    ap₂ (λ s item. entries_of (w.past.history m) s item) x.sent x.has_it
-    ∙ none x.sender x.name x.member x.place
+    ap₂ (λ s item. entries_of (w.past.history m) s item) x.sent x.has_it ∙ none x.sender x.name x.member x.place
   where
     v : GroupView
     v = view_numbered g (views_by g values) (w.past.view m)
@@ -147,8 +113,7 @@ done-delivers_none g values w m is y can l e =
     all = take_all (w.past.durable m) (w.past.history m) (omega (arith, y.complete.durable m l e))
 
     none : (s : ℕ) (name : SentItem) → has (views_by g values (w.past.view m)) s ≡ true
-        → item_at w.past.sent (view_numbered g (views_by g values) (w.past.view m)) (w.next m)
-        ≡ Some (s, name)
+        → item_at w.past.sent (view_numbered g (views_by g values) (w.past.view m)) (w.next m) ≡ Some (s, name)
         → entries_of (w.past.history m) s (item_named g s name) ≡ []
     none s Null member place = refl
     none s (Index i) member place =
@@ -193,8 +158,7 @@ left_or_ended g values w m s k v letters can = standing_after g w m s
 
     moved : CanFinish g w m → v < at w.past.view m (w.past.view m + 1) k → (k ≡ m) ⊎ (k ≢ m)
         → HasLeft g w v k ⊎ (CanFinish g w k × (v ≡ w.past.view k))
-    moved can l (inl same) =
-        subst (λ i. HasLeft g w v i ⊎ (CanFinish g w i × (v ≡ w.past.view i))) (sym same)
+    moved can l (inl same) = subst (λ i. HasLeft g w v i ⊎ (CanFinish g w i × (v ≡ w.past.view i))) (sym same)
         (ended can (here w.past.view m v (subst (λ i. v < at w.past.view m (w.past.view m + 1) i) same l)))
     moved can l (inr d) = before (other w.past.view m k v d l)
 
@@ -216,9 +180,8 @@ left_or_ended g values w m s k v letters can = standing_after g w m s
     came can l (inr d) = before (elsewhere w.past.view m k v (last_view (0, 0) (unwrap_or (w.letter m) [])).0 d l)
 
 -- each of them ended well
-all-left : (g : Group) (values : Values) (w : World) (e : Event) → IsGroup g → AreChosen values w
-    → Guard g w e → Known g values w → (k v : ℕ) → k < roster g → v < (effect g w e).past.view k
-    → HasEndedSafely g values w v
+all-left : (g : Group) (values : Values) (w : World) (e : Event) → IsGroup g → AreChosen values w → Guard g w e
+    → Known g values w → (k v : ℕ) → k < roster g → v < (effect g w e).past.view k → HasEndedSafely g values w v
 all-left g values w e is chosen can y k v l less =
     by (left_or_ended g values w (member_of e) (step_of e) k v (are-heads g values w.past (letters w) y.letters) can less)
   where
@@ -226,8 +189,7 @@ all-left g values w e is chosen can y k v l less =
     by (inl (inl before)) = y.laid.left k v l before
     by (inl (inr t)) = y.laid.left t.0 v t.1 t.2
     by (inr (finish, same)) = subst (HasEndedSafely g values w) (sym same)
-        (leaves g values w k finish.value is
-        y.faithful (may-end g values w k is y chosen finish))
+        (leaves g values w k finish.value is y.faithful (may-end g values w k is y chosen finish))
 
 -- ---- the induction
 
@@ -250,17 +212,13 @@ opening-complete g = record { durable = λ m l e. refl; shown = λ m e. absurd (
 
 pub begins : (g : Group) (values : Values) → IsGroup g → Known g values (opening_world g)
 begins g values is = record {
-  faithful = faithful_begins g (views_by g values) is (views-first g values)
-      (λ v m. views-within g values v m is);
+  faithful = faithful_begins g (views_by g values) is (views-first g values) (λ v m. views-within g values v m is);
   laid = opening-laid g values;
   complete = opening-complete g;
   voting = voting_begins g (views_by g values);
   ballots = λ m v l. absurd (omega (arith, l));
   wedged = λ m x e. absurd (none-some x e);
-  letters = record {
-    letters = λ j l e. absurd (none-some l e);
-    given = λ m j t. absurd (cc (has_zero j, t));
-  };
+  letters = record { letters = λ j l e. absurd (none-some l e); given = λ m j t. absurd (cc (has_zero j, t)) };
 }
 
 -- what is known stays, where the values are the chosen ones
@@ -271,9 +229,8 @@ event-known g values w e is chosen can y = record {
   laid = record {
     historic = event_keeps g values w e ready can y.laid.historic;
     left = λ k v l less. left-steady g values w (effect g w e) v is y.faithful now
-        (past_on_event g (views_by g values) w e is well can y.faithful)
-        (words_on g (views_by g values) w e is well can y.faithful)
-        (all-left g values w e is chosen can y k v l less);
+        (past_on_event g (views_by g values) w e is well can y.faithful) (words_on g
+        (views_by g values) w e is well can y.faithful) (all-left g values w e is chosen can y k v l less);
   };
   complete = event_completes g (views_by g values) w e y.faithful now
       (words_on g (views_by g values) w e is well can y.faithful)
@@ -314,8 +271,7 @@ pub record KnownLate (g : Group) (values : Values) (us : List World) (w : World)
 
 -- an event keeps it
 late_event : (g : Group) (values : Values) (us : List World) (w : World) (e : Event) → IsGroup g
-    → AreChosen values w → Guard g w e → KnownLate g values us w
-    → KnownLate g values (w ∷ us) (effect g w e)
+    → AreChosen values w → Guard g w e → KnownLate g values us w → KnownLate g values (w ∷ us) (effect g w e)
 late_event g values us w e is chosen can y =
     let well = all-go_on g values w is y.world chosen in record {
       world = event-known g values w e is chosen can y.world;
@@ -325,8 +281,7 @@ late_event g values us w e is chosen can y =
 
 -- and so does the arrival of words, as only what is said of the table speaks of them
 arrived-known : (g : Group) (values : Values) (us : List World) (w : World) (table : Table)
-    → HaveArrived (w ∷ us) w table → KnownLate g values us w
-    → KnownLate g values (w ∷ us) (with_table w table)
+    → HaveArrived (w ∷ us) w table → KnownLate g values us w → KnownLate g values (w ∷ us) (with_table w table)
 arrived-known g values us w table come y = record {
   world = record {
     faithful = arrived_keeps g (views_by g values) us w table come y.backed y.world.faithful;
@@ -362,8 +317,7 @@ pub known-late : (g : Group) (values : Values) (us : List World) (w : World) →
     → All (AreChosen values) us → KnownLate g values us w
 known-late g values us w is r chosen = by_way g (AreChosen values) (KnownLate g values)
     (λ us u e run all can y. late_event g values us u e is (All-head (AreChosen values) u us all) can y)
-    (λ us u table run all come y. arrived-known g values us u table come y)
-    (record {
+    (λ us u table run all come y. arrived-known g values us u table come y) (record {
       world = begins g values is;
       backed = backed_begins g (views_by g values);
       votes = votes_backed g (views_by g values);

@@ -1,46 +1,24 @@
 -- A member that holds all messages has the start, View 0, and the merge of what the start leaves.
-use Rattle.std.proofs.Common.{All, List, [], ◌∷◌, None, Option, Some, ap, inl, inr, length, refl, slice_get, subst, suc, sym, arith, take, true, zero, ℕ, ◌++◌, ◌+◌, ◌/◌, ◌%◌, ◌<◌, ◌∙◌, ◌≡◌, ◌≢◌, ◌⊎◌}
 use Rattle.std.specs.Prelude.{option_and_then}
-use Rattle.std.proofs.lemmas.List.Elements.{All-head, All-tail}
-use Rattle.std.proofs.lemmas.Bool.{cases_eq}
-use Rattle.std.proofs.lemmas.Option.{same_Some, slice_get-get_or}
-use Rattle.dr_entry.specs.declared.end.SentItem.{SentItem}
-use Rattle.dr_entry.specs.declared.end.SentItem.TheVariants.{Index}
-use Rattle.dr_history.proofs.NumberedLemmas.{messages_from-View}
-use Rattle.dr_history.specs.declared.opening.Opening.{Opening}
+use Rattle.std.proofs.Common.{All, List, [], ◌∷◌, None, Option, Some, ap, inl, inr, length, refl, slice_get, subst, suc, sym, arith, take, true, zero, ℕ, ◌++◌, ◌+◌, ◌/◌, ◌%◌, ◌<◌, ◌∙◌, ◌≡◌, ◌≢◌, ◌⊎◌}
+use Rattle.std.proofs.lemmas.{Bool.cases_eq, List.Elements.{All-head, All-tail}, Option.{same_Some, slice_get-get_or}}
+use Rattle.dr_entry.specs.declared.end.SentItem.{SentItem, TheVariants.Index}
 use Rattle.dr_history.specs.History.{GroupView, Sent, entry_of, item_at, messages_in, messages_of}
-use Rattle.dr_history.specs.Members.{has, members_of}
-use Rattle.dr_history.specs.Order.{first_entries, messages_from}
-use Rattle.dr_history_laws.proofs.Indices.{item_at-parts}
-use Rattle.dr_history_laws.proofs.LaidLemmas.{laid-same}
-use Rattle.dr_history_laws.proofs.Lists.{value_of}
-use Rattle.dr_history_laws.proofs.Members.{member-has, view-distinct}
-use Rattle.dr_history_laws.proofs.Merging.{laid-whole}
-use Rattle.dr_history_laws.proofs.Openings.{first-ends}
+use Rattle.dr_history.specs.{Members.{has, members_of}, Order.{first_entries, messages_from}}
+use Rattle.dr_history.{specs.declared.opening.Opening.Opening, proofs.NumberedLemmas.messages_from-View}
+use Rattle.dr_history_laws.specs.{Courses.course, Laid.{GoesOn, HeldBelow, entry_at, first_view, laid}}
+use Rattle.dr_history_laws.{specs.Remaining.{remaining, to_send}, proofs.{Courses.head-first, Indices.item_at-parts}}
+use Rattle.dr_history_laws.proofs.{LaidLemmas.laid-same, Lists.value_of, Members.{member-has, view-distinct}}
+use Rattle.dr_history_laws.proofs.{Merging.laid-whole, Openings.first-ends}
 use Rattle.dr_history_laws.specs.Laid as histories
-use Rattle.dr_history_laws.specs.Laid.{GoesOn, HeldBelow, entry_at, first_view, laid}
-use Rattle.dr_machine.specs.Group.{Group, IsGroup, roster}
-use Rattle.dr_machine.specs.Guards.{HoldsAll, IsRunning}
-use Rattle.dr_machine.proofs.Runs.{by_way}
-use Rattle.dr_machine.specs.Acts.{CanTake, effect_of}
-use Rattle.dr_machine.specs.declared.step.Step.{Step}
-use Rattle.dr_machine.specs.Effects.{puts, stamped}
-use Rattle.dr_machine.specs.Events.{member_of, step_of}
-use Rattle.dr_machine.specs.Run.{Way}
-use Rattle.dr_machine.specs.World.{World, opening_world}
-use Rattle.dr_machine.specs.Writes.{at₂}
-use Rattle.dr_machine.specs.Sending.{IsPut}
-use Rattle.dr_world_laws.proofs.ChosenViews.{views-first}
-use Rattle.dr_world_laws.proofs.Items.{held-next}
-use Rattle.dr_world_laws.specs.Historic.{head_by, view_numbered}
-use Rattle.dr_faithful.proofs.Faithfulness.{puts_or_leaves}
-use Rattle.dr_faithful.specs.Chosen.{AreChosen, Values, endings_by, views_by}
-use Rattle.dr_faithful.specs.Tells.{item_named}
-use Rattle.dr_history_laws.specs.Courses.{course}
-use Rattle.dr_history_laws.proofs.Courses.{head-first}
+use Rattle.dr_machine.specs.{Acts.{CanTake, effect_of}, Effects.{puts, stamped}, Events.{member_of, step_of}}
+use Rattle.dr_machine.specs.{Group.{Group, IsGroup, roster}, Guards.{HoldsAll, IsRunning}, Run.Way, Sending.IsPut}
+use Rattle.dr_machine.{specs.{World.{World, opening_world}, Writes.at₂, declared.step.Step.Step}, proofs.Runs.by_way}
+use Rattle.dr_world_laws.{specs.Historic.{head_by, view_numbered}, proofs.{ChosenViews.views-first, Items.held-next}}
 use Rattle.dr_world_laws.proofs.Reached.{Known, begins, event-known, known}
-use Rattle.dr_history_laws.specs.Remaining.{remaining, to_send}
 use Rattle.dr_world_laws.proofs.SentItems.{first_messages, left_at, left_within, same_entry}
+use Rattle.dr_faithful.specs.{Chosen.{AreChosen, Values, endings_by, views_by}, Tells.item_named}
+use Rattle.dr_faithful.proofs.Faithfulness.{puts_or_leaves}
 
 -- ---- what is left, as though it were sent
 
@@ -64,9 +42,8 @@ left-goes_on o v = record {
     named s k i e = index_is i _ (same_Some (Index i) _
         (sym e ∙ left_at o s v.number k (left_within o s v.number k (Index i) e)))
 
-    before : (s k i : ℕ) → slice_get (to_send o s v.number) k ≡ Some (Index i)
-        → length (messages_from s (first_entries o)) + messages_in (take k (to_send o s v.number))
-        ≡ length (messages_from s o.start) + k
+    before : (s k i : ℕ) → slice_get (to_send o s v.number) k ≡ Some (Index i) → length (messages_from s
+        (first_entries o)) + messages_in (take k (to_send o s v.number)) ≡ length (messages_from s o.start) + k
     before s k i e =
         let within = left_within o s v.number k (Index i) e in
         let some = first_messages (to_send o s v.number) k (λ j l. (
@@ -81,10 +58,8 @@ left-goes_on o v = record {
 same_place : (o : Opening) (sent : Sent) (v : GroupView) (p s : ℕ) (item : SentItem)
     → IsPut (length (messages_from s o.start)) (length (messages_of o s)) (sent s v.number)
     → item_at sent v p ≡ Some (s, item) → entry_at o (to_send o) v p ≡ entry_at o sent v p
-same_place o sent v p s item put e =
-    by (slice_get (to_send o s v.number) k) refl
-    ∙ sym (same_entry o s v.number k (sent s v.number) item put parts.1)
-    ∙ sym (ap (option_and_then (λ t. entry_of o t.0 t.1)) e)
+same_place o sent v p s item put e = by (slice_get (to_send o s v.number) k) refl ∙ sym (same_entry o s v.number k
+    (sent s v.number) item put parts.1) ∙ sym (ap (option_and_then (λ t. entry_of o t.0 t.1)) e)
   where
     k : ℕ
     k = p / length v.members
@@ -109,8 +84,7 @@ view-first g values = ap (λ mask. view_with mask) (views-first g values)
     view_with mask = record { age = g.opening.age; number = 0; members = members_of mask }
 
 pub history-first : (g : Group) (values : Values) (w : World) (m : ℕ) → Known g values w → m < roster g
-    → w.past.view m ≡ 0
-    → w.past.history m ≡ first_entries g.opening
+    → w.past.view m ≡ 0 → w.past.history m ≡ first_entries g.opening
     ++ laid g.opening w.past.sent (first_view g.opening) (w.next m)
 history-first g values w m y l first = y.laid.historic.history m l
     ∙ ap (λ n. course g.opening w.past.sent (endings_by g.opening values) n (w.next m)) first
@@ -133,15 +107,12 @@ IsPutFirst g w s =
 -- while it is in it
 put_now : (g : Group) (values : Values) (w : World) (s : ℕ) → Known g values w → s < roster g
     → w.past.view s ≡ 0 → IsPutFirst g w s
-put_now g values w s y l first =
-    subst (λ b. IsPut b (length (messages_of g.opening s)) (w.past.sent s 0)) base
-    (subst (λ n. IsPut (w.base s) (length (messages_of g.opening s)) (w.past.sent s n)) first
-    (y.faithful.sent.put s))
+put_now g values w s y l first = subst (λ b. IsPut b (length (messages_of g.opening s)) (w.past.sent s 0)) base
+    (subst (λ n. IsPut (w.base s) (length (messages_of g.opening s)) (w.past.sent s n)) first (y.faithful.sent.put s))
   where
     base : w.base s ≡ length (messages_from s g.opening.start)
     base = y.laid.historic.based s l ∙ ap (λ n. length (messages_from s (head_by g values w n))) first
-        ∙ ap (λ es. length (messages_from s es))
-        (head-first g.opening w.past.sent (endings_by g.opening values))
+        ∙ ap (λ es. length (messages_from s es)) (head-first g.opening w.past.sent (endings_by g.opening values))
         ∙ start_messages g.opening s
 
 first_or : (v : ℕ) → (v ≡ 0) ⊎ (0 < v)
@@ -159,8 +130,7 @@ put_later sent view m s items later = by (cases_eq s m)
     by (inr other) = grind (arith, other)
 
 put_stays : (g : Group) (values : Values) (w : World) (m : ℕ) (step : Step) (s : ℕ) → CanTake g w m step
-    → Known g values (effect_of g w m step) → s < roster g → IsPutFirst g w s
-    → IsPutFirst g (effect_of g w m step) s
+    → Known g values (effect_of g w m step) → s < roster g → IsPutFirst g w s → IsPutFirst g (effect_of g w m step) s
 put_stays g values w m step s can y l old = by (puts_or_leaves g w m step can)
   where
     puts_so : (name : SentItem) → effect_of g w m step ≡ stamped (puts g w m name (item_named g m name)) m
@@ -168,8 +138,7 @@ put_stays g values w m step s can y l old = by (puts_or_leaves g w m step can)
     puts_so name same (inl first) =
         put_now g values (effect_of g w m step) s y l (ap (λ (u : World). u.past.view s) same ∙ first)
     puts_so name same (inr later) = subst (λ u. IsPutFirst g u s) (sym same)
-        (subst (λ items. IsPut (length (messages_from s g.opening.start)) (length
-        (messages_of g.opening s)) items)
+        (subst (λ items. IsPut (length (messages_from s g.opening.start)) (length (messages_of g.opening s)) items)
         (sym (put_later w.past.sent w.past.view m s (w.past.sent m (w.past.view m) ++ name ∷ []) later)) old)
 
     by : ((name : SentItem) × IsRunning g w m
@@ -177,31 +146,24 @@ put_stays g values w m step s can y l old = by (puts_or_leaves g w m step can)
         ⊎ ((effect_of g w m step).past.sent ≡ w.past.sent) → IsPutFirst g (effect_of g w m step) s
     by (inl (name, running, same)) = puts_so name same (first_or (w.past.view s))
     by (inr same) = subst (λ (sent : Sent).
-        IsPut (length (messages_from s g.opening.start)) (length (messages_of g.opening s)) (sent s 0))
-        (sym same)
-        old
+        IsPut (length (messages_from s g.opening.start)) (length (messages_of g.opening s)) (sent s 0)) (sym same) old
 
 pub put_first : (g : Group) (values : Values) (us : List World) (w : World) (s : ℕ) → IsGroup g → Way g us w
     → All (AreChosen values) us → s < roster g
     → IsPut (length (messages_from s g.opening.start)) (length (messages_of g.opening s)) (w.past.sent s 0)
 put_first g values us w s is r chosen l = by_way g (AreChosen values) (λ us u. IsPutFirst g u s)
-    (λ us u e run all can y.
-    put_stays g values u (member_of e) (step_of e) s can
+    (λ us u e run all can y. put_stays g values u (member_of e) (step_of e) s can
     (event-known g values u e is (All-head (AreChosen values) u us all) can
     (known g values us u is run (All-tail (AreChosen values) u us all))) l y)
-    (λ us u table run all come y. y) (put_now g values (opening_world g) s (begins g values is) l refl) us w r
-    chosen
+    (λ us u table run all come y. y) (put_now g values (opening_world g) s (begins g values is) l refl) us w r chosen
 
 -- its history is what the script and the start alone determine
 pub holds-remaining : (g : Group) (values : Values) (us : List World) (w : World) (m : ℕ) → IsGroup g
-    → Way g us w → All (AreChosen values) us → Known g values w
-    → m < roster g → w.past.view m ≡ 0 → HoldsAll g w m
+    → Way g us w → All (AreChosen values) us → Known g values w → m < roster g → w.past.view m ≡ 0 → HoldsAll g w m
     → w.past.history m ≡ first_entries g.opening ++ remaining g.opening
-holds-remaining g values us w m is r chosen y l first whole =
-    history-first g values w m y l first
-    ∙ ap (λ es. first_entries o ++ es) (sym same
-    ∙ laid-whole o (to_send o) (first_entries o) v (w.next m) (left-goes_on o v)
-    (view-distinct (first_entries o) v (first-ends o)) all)
+holds-remaining g values us w m is r chosen y l first whole = history-first g values w m y l first
+    ∙ ap (λ es. first_entries o ++ es) (sym same ∙ laid-whole o (to_send o)
+    (first_entries o) v (w.next m) (left-goes_on o v) (view-distinct (first_entries o) v (first-ends o)) all)
   where
     o : Opening
     o = g.opening
@@ -232,5 +194,4 @@ holds-remaining g values us w m is r chosen y l first whole =
         ≡ Some s = slice_get-get_or (members_of o.members) member.0 s member.1 ∙ ap Some member.2 in
         ap (λ es. length (messages_from s (first_entries o ++ es))) same
         ∙ ap (λ es. length (messages_from s es)) (sym (history-first g values w m y l first))
-        ∙ whole s (subst (λ mask. has mask s ≡ true) (sym mask_is)
-        (member-has o.members member.0 s here))
+        ∙ whole s (subst (λ mask. has mask s ≡ true) (sym mask_is) (member-has o.members member.0 s here))

@@ -1,18 +1,12 @@
 -- Histories are short: there is a bank for each view that a member comes to, and room for its whole history.
 use Rattle.std.proofs.Common.{Bool, ◌≡◌, true, false, refl, ap, arith, length, ℕ, ◌*◌, ◌+◌, ◌<◌, ◌∙◌, ◌≤◌, Contains, Some}
 use Rattle.std.proofs.lemmas.Option.{slice_get-get_or}
-use Rattle.dr_history.specs.History.{messages_of}
-use Rattle.dr_history.specs.Members.{has, members_of}
-use Rattle.dr_history.specs.Order.{first_entries}
+use Rattle.dr_history.specs.{History.messages_of, Members.{has, members_of}, Order.first_entries}
 use Rattle.dr_history.proofs.Ranks.{some_member}
-use Rattle.dr_history_laws.proofs.Members.{member-has}
-use Rattle.dr_history_laws.proofs.Sizes.{short-course}
-use Rattle.dr_machine.specs.Group.{Group, IsGroup, banks, roster}
-use Rattle.dr_machine.specs.World.{World}
+use Rattle.dr_history_laws.proofs.{Members.member-has, Sizes.short-course}
+use Rattle.dr_machine.specs.{Group.{Group, IsGroup, banks, roster}, World.World}
 use Rattle.dr_faithful.specs.Chosen.{Values, endings_by, views_by}
-use Rattle.dr_world_laws.proofs.Agreeing.{may-reach}
-use Rattle.dr_world_laws.proofs.ChosenViews.{views-within}
-use Rattle.dr_world_laws.proofs.Ending.{left-changes, views-few}
+use Rattle.dr_world_laws.proofs.{Agreeing.may-reach, ChosenViews.views-within, Ending.{left-changes, views-few}}
 use Rattle.dr_world_laws.proofs.Reached.{Known}
 
 -- no member comes to a view for which there is no bank

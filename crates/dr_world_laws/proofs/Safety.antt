@@ -2,24 +2,13 @@
 use Rattle.std.proofs.Common.{ap, arith, false, refl, sym, true, None, Option, Some, slice_index, Bool, not, ℕ, ◌∙◌, ◌≡◌, ◌≢◌, ◌≤◌, ◌⊎◌}
 use Rattle.std.proofs.lemmas.Option.{none-some}
 use Rattle.dr_entry.specs.declared.record.Value.{Value}
-use Rattle.dr_history.specs.Members.{has}
-use Rattle.dr_words.specs.Columns.{recv_column}
-use Rattle.dr_history.specs.Order.{IsNewIn}
-use Rattle.dr_words.specs.Masks.{IsMajorityOf, IsPartOf}
-use Rattle.dr_words.specs.Packing.{is_final}
-use Rattle.dr_machine.proofs.Events.{standing_after}
-use Rattle.dr_machine.specs.Acts.{CanTake, effect_of}
-use Rattle.dr_machine.specs.declared.step.Step.{Step}
-use Rattle.dr_machine.specs.Group.{Group, IsGroup}
-use Rattle.dr_machine.specs.Votes.{vote_in}
-use Rattle.dr_machine.specs.World.{World}
-use Rattle.dr_faithful.proofs.Suspicions.{mask_after, mask_some, namable_within}
-use Rattle.dr_faithful.proofs.Writes.{at_both, at_case}
-use Rattle.dr_faithful.specs.Faithful.{Faithful}
-use Rattle.dr_faithful.specs.Tells.{Views}
-use Rattle.dr_vote_laws.proofs.Cuts.{vote_cut}
-use Rattle.dr_vote_laws.proofs.Values.{commits, somebody}
-use Rattle.dr_vote_laws.specs.Voting.{IsCut, Voting}
+use Rattle.dr_history.specs.{Members.has, Order.IsNewIn}
+use Rattle.dr_words.specs.{Columns.recv_column, Masks.{IsMajorityOf, IsPartOf}, Packing.is_final}
+use Rattle.dr_machine.specs.{Acts.{CanTake, effect_of}, Group.{Group, IsGroup}, Votes.vote_in, World.World}
+use Rattle.dr_machine.{specs.declared.step.Step.Step, proofs.Events.standing_after}
+use Rattle.dr_faithful.specs.{Faithful.Faithful, Tells.Views}
+use Rattle.dr_faithful.proofs.{Suspicions.{mask_after, mask_some, namable_within}, Writes.{at_both, at_case}}
+use Rattle.dr_vote_laws.{specs.Voting.{IsCut, Voting}, proofs.{Cuts.vote_cut, Values.{commits, somebody}}}
 
 -- a value with which m may end its view: m is wedged, more than half of the view stay, each other one that it
 -- names is new, and it names somebody; of each member it takes no less than some member has received for good,
@@ -33,8 +22,7 @@ pub record IsSafe (g : Group) (V : Views) (w : World) (m : ℕ) (value : Value) 
   pub newcomers : (i : ℕ) → has value.leavers i ≡ true
       → (has (V (w.past.view m)) i ≡ true) ⊎ IsNewIn g.opening V (w.past.view m) i
   pub named : (i : ℕ) × (has value.leavers i ≡ true)
-  pub least : (s : ℕ) → has (w.members m) s ≡ true
-      → (j : ℕ) × (has (w.members m) j ≡ true)
+  pub least : (s : ℕ) → has (w.members m) s ≡ true → (j : ℕ) × (has (w.members m) j ≡ true)
       × (is_final (w.past.own j (w.past.view m) (recv_column s)) ≡ true)
       × (w.past.count j (w.past.view m) s ≤ slice_index value.trim s)
   pub covered : (i s : ℕ) → has (w.members m) i ≡ true → has value.leavers i ≡ false
@@ -86,10 +74,8 @@ safe-value g V w m x f voting wedged e = record {
 
 -- whoever has committed a value is wedged
 pub wedged_stay : (g : Group) (V : Views) (w : World) (m : ℕ) (s : Step) → IsGroup g → CanTake g w m s
-    → Faithful g V w
-    → ((k : ℕ) (x : Value) → w.committed k ≡ Some x → w.suspects k ≢ 0)
-    → (k : ℕ) (x : Value) → (effect_of g w m s).committed k ≡ Some x
-    → (effect_of g w m s).suspects k ≢ 0
+    → Faithful g V w → ((k : ℕ) (x : Value) → w.committed k ≡ Some x → w.suspects k ≢ 0)
+    → (k : ℕ) (x : Value) → (effect_of g w m s).committed k ≡ Some x → (effect_of g w m s).suspects k ≢ 0
 wedged_stay g V w m s is can f old = standing_after g w m s
     (λ x. (k : ℕ) (y : Value) → x.committed k ≡ Some y → x.suspected k ≢ 0) can (record {
       goes_on = λ can. at_both (λ k (mask : ℕ) (c : Option Value). (x : Value) → c ≡ Some x → mask ≢ 0)

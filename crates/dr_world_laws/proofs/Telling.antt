@@ -1,45 +1,24 @@
 -- What is known of a world, told by the members of views as the histories have them.
 use Rattle.std.proofs.Common.{List, [], ◌∷◌, ◌++◌, Contains, ap, arith, inl, inr, subst, sym, true, Some, ℕ, ◌+◌, ◌<◌, ◌∙◌, ◌≡◌, ◌≤◌, ◌⊎◌, map}
 use Rattle.std.proofs.lemmas.Bool.{cases_lt}
-use Rattle.dr_entry.specs.declared.entry.Entry.TheVariants.{View}
-use Rattle.dr_entry.specs.declared.record.Value.{Value}
-use Rattle.dr_entry.specs.declared.record.Vote.{Vote}
-use Rattle.dr_entry.specs.declared.entry.Entry.{Entry}
-use Rattle.dr_history.specs.History.{IsPrefixOf}
-use Rattle.dr_history_laws.proofs.Courses.{course-head}
-use Rattle.dr_history_laws.proofs.Heads.{course_views, head-last}
-use Rattle.dr_history.specs.Members.{has, members_of}
-use Rattle.dr_history.specs.Places.{front_of}
-use Rattle.dr_words.specs.Columns.{leavers_column}
-use Rattle.dr_words.specs.Masks.{next_members}
-use Rattle.dr_words.specs.Packing.{accept_tag}
-use Rattle.dr_words.specs.Rewrites.{is_accept_of}
-use Rattle.dr_machine.specs.Group.{Group, IsGroup, roster}
-use Rattle.dr_machine.specs.Run.{WasOwn}
-use Rattle.dr_machine.specs.Votes.{HasLogged, HasVoted, IsOf, MajorityHas, vote_in}
-use Rattle.dr_machine.specs.World.{Past, World}
+use Rattle.dr_entry.specs.{declared.entry.Entry.{Entry, TheVariants.View}, declared.record.{Value.Value, Vote.Vote}}
+use Rattle.dr_history.specs.{History.IsPrefixOf, Members.{has, members_of}, Places.front_of}
+use Rattle.dr_history_laws.proofs.{Courses.course-head, Heads.{course_views, head-last}}
+use Rattle.dr_words.specs.{Columns.leavers_column, Masks.next_members, Packing.accept_tag, Rewrites.is_accept_of}
+use Rattle.dr_machine.specs.{Group.{Group, IsGroup, roster}, Run.WasOwn}
+use Rattle.dr_machine.specs.{Votes.{HasLogged, HasVoted, IsOf, MajorityHas, vote_in}, World.{Past, World}}
+use Rattle.dr_faithful.specs.{Chosen.{endings_by, views_by}, Faithful.Faithful, Tells.{Tells, Views, WordsTell}}
 use Rattle.dr_faithful.proofs.Pasts.{tells_nothing}
-use Rattle.dr_faithful.specs.Chosen.{endings_by, views_by}
-use Rattle.dr_faithful.specs.Faithful.{Faithful}
-use Rattle.dr_faithful.specs.Tells.{Tells, Views, WordsTell}
-use Rattle.dr_vote_laws.proofs.Cuts.{vote_cut}
+use Rattle.dr_vote_laws.specs.{Moments.{AcceptsOfMoments, HadAccepted}, Voting.{HaveVotedFor, IsCut, Voting}}
+use Rattle.dr_vote_laws.{specs.Tells.{TellsVote, VotesTold}, proofs.{Cuts.vote_cut, Values.{majority_stays, vote_is}}}
 use Rattle.dr_vote_laws.proofs.Opening as opening
-use Rattle.dr_vote_laws.proofs.Values.{majority_stays, vote_is}
-use Rattle.dr_vote_laws.specs.Moments.{AcceptsOfMoments, HadAccepted}
-use Rattle.dr_vote_laws.specs.Tells.{TellsVote, VotesTold}
-use Rattle.dr_vote_laws.specs.Voting.{HaveVotedFor, IsCut, Voting}
-use Rattle.dr_world_laws.specs.Historic.{head_by}
-use Rattle.dr_world_laws.specs.Letters.{IsHeadFor}
-use Rattle.dr_world_laws.specs.Views.{AreViews, HasView, IsCovered}
-use Rattle.dr_world_laws.proofs.Ballots.{cut-changes, voted-cut as changed-cut}
-use Rattle.dr_world_laws.proofs.ChosenViews.{views-come}
-use Rattle.dr_world_laws.proofs.Choosing.{nobody_else, voted_by}
-use Rattle.dr_world_laws.proofs.Covering as covering
-use Rattle.dr_world_laws.proofs.HeldViews.{view-is}
-use Rattle.dr_world_laws.proofs.Holding.{head-later, reaches, view-behind, view-held, view-there}
-use Rattle.dr_world_laws.proofs.Letters.{IsLetter}
-use Rattle.dr_world_laws.proofs.Reached as worlds
+use Rattle.dr_world_laws.specs.{Historic.head_by, Letters.IsHeadFor, Views.{AreViews, HasView, IsCovered}}
+use Rattle.dr_world_laws.proofs.{Ballots.{cut-changes, voted-cut as changed-cut}, Choosing.{nobody_else, voted_by}}
+use Rattle.dr_world_laws.proofs.{ChosenViews.views-come, HeldViews.view-is}
+use Rattle.dr_world_laws.proofs.{Holding.{head-later, reaches, view-behind, view-held, view-there}, Letters.IsLetter}
 use Rattle.dr_world_laws.proofs.Worlds.{Known, accepts_so, known_late}
+use Rattle.dr_world_laws.proofs.Covering as covering
+use Rattle.dr_world_laws.proofs.Reached as worlds
 
 -- ---- views
 
@@ -103,8 +82,7 @@ head-for g w j l is y e = record {
 -- a member that was in the view that it came from was in the one of the number before, of which its history
 -- has the View
 pub came-before : (g : Group) (w : World) (m : ℕ) → IsGroup g → Known g w → has (w.came_from m) m ≡ true
-    → (v : ℕ) × (w.past.view m ≡ v + 1)
-    × Contains (w.past.history m) (View g.opening.age v (w.came_from m))
+    → (v : ℕ) × (w.past.view m ≡ v + 1) × Contains (w.past.history m) (View g.opening.age v (w.came_from m))
 came-before g w m is y e =
     let f = y.chosen.faithful in
     let t = f.views.came m e in
@@ -123,8 +101,7 @@ came-back g w m v members is y next h there =
     y.chosen.faithful.views.back m v next (ap (λ k. has k m) same ∙ there) ∙ same
 
 -- the members of the present view of a member
-pub has-present : (g : Group) (w : World) (m : ℕ) → IsGroup g → Known g w
-    → HasView g w (w.past.view m) (w.members m)
+pub has-present : (g : Group) (w : World) (m : ℕ) → IsGroup g → Known g w → HasView g w (w.past.view m) (w.members m)
 has-present g w m is y = subst (HasView g w (w.past.view m)) (sym (y.chosen.faithful.views.own m))
     (has-view g w m (w.past.view m) is y (omega arith))
 
@@ -151,16 +128,14 @@ voted_come : (g : Group) (V : Views) (w : World) (i v b : ℕ) (x : Value) → F
     → HasVoted g w.past.votes i v b x → v ≤ w.past.view i
 voted_come g V w i v b x f voting h = by (cases_lt (w.past.view i) v)
   where
-    never : w.past.view i < v
-        → (b < accept_tag (w.past.own i v (leavers_column (roster g))))
+    never : w.past.view i < v → (b < accept_tag (w.past.own i v (leavers_column (roster g))))
         ⊎ (w.pending i ≡ Some (vote_in g v b x)) → v ≤ w.past.view i
     never less (inl tagged) =
         let none : accept_tag (w.past.own i v (leavers_column (roster g))) ≡ 0 =
         ap accept_tag (f.fresh.unwritten i v (leavers_column (roster g)) less) in
         absurd (omega (arith, tagged, none))
     never less (inr waits) =
-        let same : v ≡ w.past.view i = (voting.acted.waiting i (vote_in g v b x) waits).1 in
-        omega (arith, same)
+        let same : v ≡ w.past.view i = (voting.acted.waiting i (vote_in g v b x) waits).1 in omega (arith, same)
 
     by : (w.past.view i < v) ⊎ (v ≤ w.past.view i) → v ≤ w.past.view i
     by (inl less) = never less (voting.acted.below i v b x h)
@@ -175,10 +150,8 @@ majority-kept g w i j members x z is y held h k most view above =
     (subst (λ mask. MajorityHas w.past.votes mask (λ a. IsOf a x.view x.ballot))
     (sym (view-is g y.values w x.view members is y.chosen held)) most) view above
 
-pub voted-cut : (g : Group) (w : World) (i : ℕ) (x : Vote) → IsGroup g → Known g w
-    → HasLogged w.past.votes i x
-    → (V : Views) × AreViews g w V × HasView g w x.view (V x.view)
-    × IsCut g.opening V w.past.own x.view x.value
+pub voted-cut : (g : Group) (w : World) (i : ℕ) (x : Vote) → IsGroup g → Known g w → HasLogged w.past.votes i x
+    → (V : Views) × AreViews g w V × HasView g w x.view (V x.view) × IsCut g.opening V w.past.own x.view x.value
 voted-cut g w i x is y h = (
   views_by g y.values,
   λ v members. view-is g y.values w v members is y.chosen,
@@ -206,17 +179,14 @@ agrees : (g : Group) (V : Views) (w : World) (i v : ℕ) → IsGroup g → (y : 
 agrees g V w i v is y are come = are v (views_by g y.values v) (has-view g w i v is y come)
 
 -- in another view its words are 0
-unseen : (g : Group) (W : Views) (w : World) (v j i c : ℕ) → Faithful g W w → w.past.view i < v
-    → w.table v j i c ≡ 0
-unseen g W w v j i c f less =
-    omega (arith, (f.old.in_table v j i c).number, f.fresh.unwritten i v c less)
+unseen : (g : Group) (W : Views) (w : World) (v j i c : ℕ) → Faithful g W w → w.past.view i < v → w.table v j i c ≡ 0
+unseen g W w v j i c f less = omega (arith, (f.old.in_table v j i c).number, f.fresh.unwritten i v c less)
 
 tells_by : (g : Group) (V W : Views) (past : Past) (i v c word : ℕ) → V v ≡ W v
     → Tells g W past i v c word → Tells g V past i v c word
 tells_by g V W past i v c word same t = record {
   beat = t.beat;
-  received = λ e. subst (λ mask. word ≤ front_of (map (past.count i v) (members_of mask))) (sym same)
-      (t.received e);
+  received = λ e. subst (λ mask. word ≤ front_of (map (past.count i v) (members_of mask))) (sym same) (t.received e);
   logged = t.logged;
   done = λ e. let d = t.done e in
       (d.0, λ one s member. d.1 one s (subst (λ mask. has mask s ≡ true) same member));
@@ -244,8 +214,7 @@ words-by g V w is y are = record {
     own i v c (inr come) = tells_by g V W w.past i v c (w.past.own i v c) (agrees g V w i v is y are come)
         (f.words.own i v c)
 
-    table : (v j i c : ℕ) → (w.past.view i < v) ⊎ (v ≤ w.past.view i)
-        → Tells g V w.past i v c (w.table v j i c)
+    table : (v j i c : ℕ) → (w.past.view i < v) ⊎ (v ≤ w.past.view i) → Tells g V w.past i v c (w.table v j i c)
     table v j i c (inl less) = subst (λ x. Tells g V w.past i v c x) (sym (unseen g W w v j i c f less))
         (tells_nothing g V w.past i v c)
     table v j i c (inr come) = tells_by g V W w.past i v c (w.table v j i c)
@@ -255,24 +224,21 @@ pub votes-by : (g : Group) (V : Views) (w : World) → IsGroup g → Known g w �
 votes-by g V w is y are = record {
   in_own = λ i v c column. own i v c column (cases_lt (w.past.view i) v);
   in_table = λ v j i c column. table v j i c column (cases_lt (w.past.view i) v);
-  in_seen = λ m i c column. y.chosen.voting.words.in_seen m i c
-      (subst (λ mask. is_accept_of (roster g) mask c ≡ true)
+  in_seen = λ m i c column. y.chosen.voting.words.in_seen m i c (subst (λ mask. is_accept_of (roster g) mask c ≡ true)
       (agrees g V w m (w.past.view m) is y are (omega arith)) column);
 }
   where
     f : Faithful g (views_by g y.values) w
     f = y.chosen.faithful
 
-    own : (i v c : ℕ) → is_accept_of (roster g) (V v) c ≡ true
-        → (w.past.view i < v) ⊎ (v ≤ w.past.view i)
+    own : (i v c : ℕ) → is_accept_of (roster g) (V v) c ≡ true → (w.past.view i < v) ⊎ (v ≤ w.past.view i)
         → TellsVote g w.past.own w.past.votes i v c (w.past.own i v c)
     own i v c column (inl less) = subst (λ x. TellsVote g w.past.own w.past.votes i v c x)
         (sym (f.fresh.unwritten i v c less)) (opening.tells_nothing g w.past.own w.past.votes i v c)
     own i v c column (inr come) = y.chosen.voting.words.in_own i v c
         (subst (λ mask. is_accept_of (roster g) mask c ≡ true) (agrees g V w i v is y are come) column)
 
-    table : (v j i c : ℕ) → is_accept_of (roster g) (V v) c ≡ true
-        → (w.past.view i < v) ⊎ (v ≤ w.past.view i)
+    table : (v j i c : ℕ) → is_accept_of (roster g) (V v) c ≡ true → (w.past.view i < v) ⊎ (v ≤ w.past.view i)
         → TellsVote g w.past.own w.past.votes i v c (w.table v j i c)
     table v j i c column (inl less) = subst (λ x. TellsVote g w.past.own w.past.votes i v c x)
         (sym (unseen g (views_by g y.values) w v j i c f less))
@@ -284,8 +250,7 @@ pub moments-by : (g : Group) (V : Views) (w : World) → IsGroup g → (y : Know
     → AcceptsOfMoments g V y.run.0 w
 moments-by g V w is y are = record {
   in_table = λ v j i c column. table v j i c column (cases_lt (w.past.view i) v);
-  in_seen = λ m i c column. so.in_seen m i c
-      (subst (λ mask. is_accept_of (roster g) mask c ≡ true)
+  in_seen = λ m i c column. so.in_seen m i c (subst (λ mask. is_accept_of (roster g) mask c ≡ true)
       (agrees g V w m (w.past.view m) is y are (omega arith)) column);
   on_way = λ v i c word was column. on_way v i c word was column (cases_lt (w.past.view i) v);
 }
@@ -293,11 +258,9 @@ moments-by g V w is y are = record {
     so : AcceptsOfMoments g (views_by g y.values) y.run.0 w
     so = accepts_so g y.values y.run.0 w is y.by
 
-    table : (v j i c : ℕ) → is_accept_of (roster g) (V v) c ≡ true
-        → (w.past.view i < v) ⊎ (v ≤ w.past.view i)
+    table : (v j i c : ℕ) → is_accept_of (roster g) (V v) c ≡ true → (w.past.view i < v) ⊎ (v ≤ w.past.view i)
         → (w.table v j i c ≡ 0) ⊎ HadAccepted g y.run.0 i v c (w.table v j i c)
-    table v j i c column (inl less) =
-        inl (unseen g (views_by g y.values) w v j i c y.chosen.faithful less)
+    table v j i c column (inl less) = inl (unseen g (views_by g y.values) w v j i c y.chosen.faithful less)
     table v j i c column (inr come) = so.in_table v j i c
         (subst (λ mask. is_accept_of (roster g) mask c ≡ true) (agrees g V w i v is y are come) column)
 

@@ -1,38 +1,26 @@
 -- The start, View 0, and the merge of what the start leaves have all messages, and an age that starts with
 -- them leaves none.
 use Rattle.std.proofs.Common.{Contains, List, Some, [], ap, append-nil, arith, fold, length, length-append, lt_of_mul-lt-mul_right, map, max, slice_get, slice_index_or, subst, suc, suc-mul, sym, take, mul-le-mul_right, mul_comm, ℕ, ◌*◌, ◌+◌, ◌++◌, ◌<◌, ◌∙◌, ◌≡◌, ◌≤◌}
-use Rattle.std.proofs.lemmas.List.{length-map, take_all}
-use Rattle.std.proofs.lemmas.List.FromFn.{length-map-range_with_len}
+use Rattle.std.proofs.lemmas.List.{length-map, take_all, FromFn.length-map-range_with_len}
 use Rattle.std.proofs.lemmas.Option.{slice_get-get_or, slice_get_within}
-use Rattle.dr_entry.specs.declared.end.SentItem.{SentItem}
-use Rattle.dr_entry.specs.declared.end.SentItem.TheVariants.{Index}
-use Rattle.dr_entry.proofs.ListPlaces.{count_max}
-use Rattle.dr_history.proofs.NumberedLemmas.{length-numbered_messages, messages_from-append}
-use Rattle.dr_history.specs.declared.opening.Opening.{Opening}
-use Rattle.dr_history.specs.History.{GroupView, IsPrefixOf, messages_in}
-use Rattle.dr_history.specs.Members.{members_of}
-use Rattle.dr_history.specs.Order.{first_entries, messages_from, numbered_messages}
-use Rattle.dr_history.specs.Soundness.{Sound}
-use Rattle.dr_history_laws.proofs.Counting.{Counted, counted}
-use Rattle.dr_history_laws.proofs.LaidLemmas.{laid-none}
-use Rattle.dr_history_laws.proofs.Members.{view-distinct}
+use Rattle.dr_entry.{specs.declared.end.SentItem.{SentItem, TheVariants.Index}, proofs.ListPlaces.count_max}
+use Rattle.dr_history.specs.{History.{GroupView, IsPrefixOf, messages_in}, declared.opening.Opening.Opening}
+use Rattle.dr_history.specs.{Members.members_of, Order.{first_entries, messages_from, numbered_messages}}
+use Rattle.dr_history.{specs.Soundness.Sound, proofs.NumberedLemmas.{length-numbered_messages, messages_from-append}}
+use Rattle.dr_history_laws.{specs.Laid.{HoldsAll, counts_sent, first_view, laid}, proofs.Counting.{Counted, counted}}
+use Rattle.dr_history_laws.{specs.Remaining.{messages_left, remaining, to_send}, proofs.Members.view-distinct}
+use Rattle.dr_history_laws.proofs.{LaidLemmas.laid-none, Openings.{first-ends, numbered_stood}}
 use Rattle.dr_history_laws.proofs.Merging.{CountsAll-sent, count-rank, laid-whole, merge-laid, top_place}
-use Rattle.dr_history_laws.proofs.Openings.{first-ends, numbered_stood}
-use Rattle.dr_history_laws.specs.Laid.{HoldsAll, counts_sent, first_view, laid}
-use Rattle.dr_history_laws.specs.Remaining.{messages_left, remaining, to_send}
-use Rattle.dr_world_laws.proofs.Remaining.{left-goes_on, start_messages}
-use Rattle.dr_world_laws.proofs.SentItems.{first_messages, left_at}
+use Rattle.dr_world_laws.proofs.{Remaining.{left-goes_on, start_messages}, SentItems.{first_messages, left_at}}
 
 -- ---- what the start leaves
 
 -- the messages that the start leaves to a member are all of its items
 left-messages : (o : Opening) (s c : ℕ) → messages_left o s ≤ c
     → messages_in (take c (to_send o s 0)) ≡ messages_left o s
-left-messages o s c l =
-    ap messages_in (take_all c items (omega (arith, l, long))
-    ∙ sym (take_all (messages_left o s) items (omega (arith, long))))
-    ∙ first_messages items (messages_left o s)
-    (λ k less. (length (messages_from s o.start) + k, left_at o s 0 k less))
+left-messages o s c l = ap messages_in (take_all c items (omega (arith, l, long))
+    ∙ sym (take_all (messages_left o s) items (omega (arith, long)))) ∙ first_messages items
+    (messages_left o s) (λ k less. (length (messages_from s o.start) + k, left_at o s 0 k less))
   where
     items : List SentItem
     items = to_send o s 0
@@ -41,9 +29,8 @@ left-messages o s c l =
     long = length-map-range_with_len Index (length (messages_from s o.start)) (messages_left o s)
 
 -- below the last place that the merge looks at lie all places of these items
-all_lie : (o : Opening) (s rank : ℕ) → slice_get (first_view o).members rank ≡ Some s
-    → (c : Counted o (to_send o) (first_view o) rank s (top_place (counts_sent (to_send o) (first_view o))))
-    × (messages_left o s ≤ c.0)
+all_lie : (o : Opening) (s rank : ℕ) → slice_get (first_view o).members rank ≡ Some s → (c : Counted o (to_send o)
+    (first_view o) rank s (top_place (counts_sent (to_send o) (first_view o)))) × (messages_left o s ≤ c.0)
 all_lie o s rank at = (c, omega (arith, lt_of_mul-lt-mul_right n {m = messages_left o s} {n = suc c.0} up))
   where
     ms : List ℕ
@@ -72,21 +59,10 @@ all_lie o s rank at = (c, omega (arith, lt_of_mul-lt-mul_right n {m = messages_l
     )
 
     rounds : most * n ≤ c.0 * n + rank
-    rounds = omega (
-      arith,
-      c.1.low,
-      ap (λ k. k * most) (length-map ms sent),
-      mul_comm n most,
-    )
+    rounds = omega (arith, c.1.low, ap (λ k. k * most) (length-map ms sent), mul_comm n most)
 
     up : messages_left o s * n < suc c.0 * n
-    up = omega (
-      arith,
-      rounds,
-      slice_get_within ms rank s at,
-      suc-mul c.0 n,
-      mul-le-mul_right n few,
-    )
+    up = omega (arith, rounds, slice_get_within ms rank s at, suc-mul c.0 n, mul-le-mul_right n few)
 
 -- so the merge has them all
 pub whole-holds : (o : Opening) → Sound o → HoldsAll o (first_view o) (first_entries o ++ remaining o)
@@ -126,18 +102,13 @@ whole-holds o sound s member = omega (
 pub whole-leaves_none : (o next : Opening) → Sound o → next.members ≡ o.members
     → o.messages ≡ next.messages → next.start ≡ first_entries o ++ remaining o → remaining next ≡ []
 whole-leaves_none o next sound mask same whole =
-    sym (laid-whole next (to_send next) (first_entries next) (first_view next) 0
-    (left-goes_on next (first_view next))
+    sym (laid-whole next (to_send next) (first_entries next) (first_view next) 0 (left-goes_on next (first_view next))
     (view-distinct (first_entries next) (first_view next) (first-ends next)) all)
     ∙ laid-none next (to_send next) (first_view next)
   where
-    all : HoldsAll next (first_view next)
-        (first_entries next ++ laid next (to_send next) (first_view next) 0)
-    all s member =
-        ap (λ es. length (messages_from s (first_entries next ++ es)))
-        (laid-none next (to_send next) (first_view next))
-        ∙ (ap (λ es. length (messages_from s es)) (append-nil (first_entries next))
-        ∙ (start_messages next s
-        ∙ (ap (λ es. length (messages_from s es)) whole
+    all : HoldsAll next (first_view next) (first_entries next ++ laid next (to_send next) (first_view next) 0)
+    all s member = ap (λ es. length (messages_from s (first_entries next ++ es)))
+        (laid-none next (to_send next) (first_view next)) ∙ (ap (λ es. length (messages_from s es))
+        (append-nil (first_entries next)) ∙ (start_messages next s ∙ (ap (λ es. length (messages_from s es)) whole
         ∙ (whole-holds o sound s (subst (λ m. Contains (members_of m) s) mask member)
         ∙ ap (λ (lists : List (List (List ℕ))). length (slice_index_or lists s [])) same))))

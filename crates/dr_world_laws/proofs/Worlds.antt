@@ -1,61 +1,35 @@
 -- What is known of every world that is reached.
 use Rattle.std.proofs.Common.{[], ◌∷◌, ◌⊎◌, Contains, List, None, refl, inl, inr, arith, ap, length, map, slice_index, subst, sym, false, ℕ, ◌++◌, ◌<◌, ◌∙◌, ◌≡◌, ◌≢◌, ◌≤◌, Some, ◌+◌, true}
-use Rattle.std.proofs.lemmas.List.Elements.{All-tail}
-use Rattle.std.proofs.lemmas.Option.{slice_get-get_or}
-use Rattle.dr_entry.specs.declared.end.End.TheVariants.{Done}
-use Rattle.dr_entry.specs.declared.record.Value.{Value}
-use Rattle.dr_entry.specs.declared.record.Vote.{Vote}
-use Rattle.dr_history.specs.History.{messages_of}
-use Rattle.dr_history.specs.Members.{has, members_of}
-use Rattle.dr_history.specs.Order.{InOrder, first_entries, messages_from, IsLateIn, IsNewIn}
-use Rattle.dr_history.specs.Places.{front_of}
-use Rattle.dr_history.specs.Agreement.{Accounts, Agreed}
-use Rattle.dr_history_laws.specs.Courses.{counts_taken, ViewHasEnded}
-use Rattle.dr_history_laws.specs.Laid.{GoesOn, first_view, laid}
-use Rattle.dr_history_laws.proofs.Courses.{head-first}
-use Rattle.dr_history_laws.specs.Remaining.{remaining}
+use Rattle.std.proofs.lemmas.{List.Elements.All-tail, Option.slice_get-get_or}
+use Rattle.dr_entry.specs.{declared.end.End.TheVariants.Done, declared.record.{Value.Value, Vote.Vote}}
+use Rattle.dr_history.specs.{Agreement.{Accounts, Agreed}, History.messages_of, Members.{has, members_of}}
+use Rattle.dr_history.specs.{Order.{InOrder, first_entries, messages_from, IsLateIn, IsNewIn}, Places.front_of}
+use Rattle.dr_history_laws.specs.{Courses.{counts_taken, ViewHasEnded}, Laid.{GoesOn, first_view, laid}}
+use Rattle.dr_history_laws.{specs.Remaining.remaining, proofs.{Courses.head-first, Keeping.prefix_shorter}}
 use Rattle.dr_history_laws.proofs.Members.{member-has}
-use Rattle.dr_history_laws.proofs.Keeping.{prefix_shorter}
 use Rattle.dr_words.specs.Masks.{IsLeastOf}
-use Rattle.dr_machine.specs.Acts.{Guard, effect}
-use Rattle.dr_machine.specs.declared.event.Event.{Event}
-use Rattle.dr_machine.specs.Effects.{counts_by}
-use Rattle.dr_machine.specs.Events.{member_of, step_of}
-use Rattle.dr_machine.specs.Group.{Group, IsGroup, roster, IsPresent}
-use Rattle.dr_machine.specs.Guards.{CanFinish, HoldsAll, MayChoose, unsuspected_of, CanWelcome}
-use Rattle.dr_machine.proofs.Runs.{by_way, last_or_before, reached}
+use Rattle.dr_machine.specs.{Acts.{Guard, effect}, Votes.{HasLogged, IsOf, MajorityHas}, declared.event.Event.Event}
+use Rattle.dr_machine.specs.{Effects.counts_by, Guards.{CanFinish, HoldsAll, MayChoose, unsuspected_of, CanWelcome}}
+use Rattle.dr_machine.{specs.{Events.{member_of, step_of}, Sending.IsPut, World.World}, proofs.Presence.in_roster}
+use Rattle.dr_machine.{specs.Group.{Group, IsGroup, roster, IsPresent}, proofs.Runs.{by_way, last_or_before, reached}}
 use Rattle.dr_machine.specs.Run.{ComesNext, IsReached, NoLaterItem, PastGrew, Way, WordsGrew, WorldAgreed}
-use Rattle.dr_machine.specs.Sending.{IsPut}
-use Rattle.dr_machine.specs.Votes.{HasLogged, IsOf, MajorityHas}
-use Rattle.dr_machine.specs.World.{World}
-use Rattle.dr_machine.proofs.Presence.{in_roster}
-use Rattle.dr_faithful.proofs.Faithfulness.{none_later, past_on_event, words_on}
-use Rattle.dr_faithful.proofs.Late.{arrived_grew}
-use Rattle.dr_faithful.proofs.Pasts.{past_on, past_same}
+use Rattle.dr_faithful.specs.{Chosen.{AreChosen, Values, endings_by, views_by}, Faithful.{AllGoOn, Faithful}}
+use Rattle.dr_faithful.{specs.Tells.SuspicionsTold, proofs.Faithfulness.{none_later, past_on_event, words_on}}
+use Rattle.dr_faithful.proofs.{Late.arrived_grew, Pasts.{past_on, past_same}}
 use Rattle.dr_faithful.proofs.Suspicions.{promise_least, suspicions_told}
-use Rattle.dr_faithful.specs.Chosen.{AreChosen, Values, endings_by, views_by}
-use Rattle.dr_faithful.specs.Faithful.{AllGoOn, Faithful}
-use Rattle.dr_faithful.specs.Tells.{SuspicionsTold}
-use Rattle.dr_vote_laws.proofs.Moments.{accepts_arrive, accepts_begin}
-use Rattle.dr_vote_laws.proofs.Steps.{AreQuiet, accepts_stay, step_quiet}
+use Rattle.dr_vote_laws.specs.{Moments.AcceptsOfMoments, Voting.IsChosen}
+use Rattle.dr_vote_laws.proofs.{Moments.{accepts_arrive, accepts_begin}, Steps.{AreQuiet, accepts_stay, step_quiet}}
 use Rattle.dr_vote_laws.proofs.Values as votes
-use Rattle.dr_vote_laws.specs.Moments.{AcceptsOfMoments}
-use Rattle.dr_vote_laws.specs.Voting.{IsChosen}
-use Rattle.dr_world_laws.specs.Historic.{HoldsMessages, view_numbered}
-use Rattle.dr_world_laws.proofs.ByValues.{IsReachedBy}
+use Rattle.dr_world_laws.{specs.Historic.{HoldsMessages, view_numbered}, proofs.Agreeing.AreAccounts}
+use Rattle.dr_world_laws.proofs.{ByValues.IsReachedBy, Choosing.reached_by, ChosenViews.ending-next}
+use Rattle.dr_world_laws.proofs.{Finishing.goes-any, Leavings.IsLeftSo, Once.{same-views, voted-since}}
 use Rattle.dr_world_laws.proofs.Agreeing as agreeing
-use Rattle.dr_world_laws.proofs.Agreeing.{AreAccounts}
-use Rattle.dr_world_laws.proofs.Choosing.{reached_by}
 use Rattle.dr_world_laws.proofs.Covering as covering
 use Rattle.dr_world_laws.proofs.Ending as ending
-use Rattle.dr_world_laws.proofs.Finishing.{goes-any}
 use Rattle.dr_world_laws.proofs.Leavings as leavings
-use Rattle.dr_world_laws.proofs.Leavings.{IsLeftSo}
 use Rattle.dr_world_laws.proofs.Messages as messages
-use Rattle.dr_world_laws.proofs.Once.{same-views, voted-since}
 use Rattle.dr_world_laws.proofs.Reached as worlds
 use Rattle.dr_world_laws.proofs.Remaining as remainders
-use Rattle.dr_world_laws.proofs.ChosenViews.{ending-next}
 
 -- a world that is reached, and values by which it is
 pub record Known (g : Group) (w : World) : Type 0 where
@@ -107,8 +81,7 @@ words_grew g w e is y can = words_on g (views_by g y.values) w e is (all_go_on g
 
 pub past_grew : (g : Group) (w : World) (e : Event) → IsGroup g → Known g w → Guard g w e
     → PastGrew w.past (effect g w e).past
-past_grew g w e is y can =
-    past_on_event g (views_by g y.values) w e is (all_go_on g w is y) can y.chosen.faithful
+past_grew g w e is y can = past_on_event g (views_by g y.values) w e is (all_go_on g w is y) can y.chosen.faithful
 
 -- so it is in each world that comes next
 pub words_next : (g : Group) (us : List World) (w after : World) → IsGroup g → Way g us w
@@ -138,8 +111,7 @@ pub same_ballot : (g : Group) (w : World) (i j : ℕ) (x y : Vote) → Known g w
 same_ballot g w i j x y k h l of = votes.same_ballot g (views_by g k.values) w i j x y k.chosen.voting h l of
 
 pub commits : (g : Group) (w : World) (m : ℕ) (v : Value) → Known g w → w.committed m ≡ Some v
-    → (ballot : ℕ) × MajorityHas w.past.votes (w.members m)
-    (λ z. IsOf z (w.past.view m) ballot × (z.value ≡ v))
+    → (ballot : ℕ) × MajorityHas w.past.votes (w.members m) (λ z. IsOf z (w.past.view m) ballot × (z.value ≡ v))
 commits g w m v k e =
     let t = votes.commits g (views_by g k.values) w m v k.chosen.voting e in (
       t.0,
@@ -177,8 +149,7 @@ past_since g (u ∷ us) early late is way c =
     by rest (inl same) = subst (λ (x : World). PastGrew x.past late.past × IsReached g x) same
         (past_same late.past, (u ∷ us, way))
     by rest (inr before) =
-        let t = rest before in
-        (past_on early.past u.past late.past t.0 (past_next g us u late is way.0 way.1), t.1)
+        let t = rest before in (past_on early.past u.past late.past t.0 (past_next g us u late is way.0 way.1), t.1)
 
 -- what everybody has at the opening stays durable
 pub first_durable : (g : Group) (w : World) → IsGroup g → IsReached g w
@@ -211,8 +182,7 @@ accepts_so g values us w is r = by_way g (AreChosen values) (AcceptsOfMoments g 
 -- what a committed value takes of each member, as the ending of the view takes it
 taken_by : (g : Group) (w : World) (k : ℕ) (x : Value) (y : Known g w) → w.committed k ≡ Some x
     → counts_taken g.opening (endings_by g.opening y.values) (w.past.view k) ≡ counts_by w k x
-taken_by g w k x y e =
-    ap (λ mask. map (λ s. slice_index (y.values (w.past.view k)).trim s) (members_of mask))
+taken_by g w k x y e = ap (λ mask. map (λ s. slice_index (y.values (w.past.view k)).trim s) (members_of mask))
     (sym (y.chosen.faithful.views.own k))
     ∙ ap (λ (z : Value). map (λ s. slice_index z.trim s) (members_of (w.members k))) (sym (y.by.now k x e))
 
@@ -250,8 +220,7 @@ pub done-whole : (g : Group) (w : World) (m : ℕ) → IsGroup g → Known g w �
 done-whole g w m is y l e = agreeing.done-whole g y.values w m is y.chosen l e
 
 pub history-first : (g : Group) (w : World) (m : ℕ) → Known g w → m < roster g → w.past.view m ≡ 0
-    → w.past.history m ≡ first_entries g.opening
-    ++ laid g.opening w.past.sent (first_view g.opening) (w.next m)
+    → w.past.history m ≡ first_entries g.opening ++ laid g.opening w.past.sent (first_view g.opening) (w.next m)
 history-first g w m y l first = remainders.history-first g y.values w m y.chosen l first
 
 pub goes_first : (g : Group) (w : World) → IsGroup g → Known g w
@@ -275,15 +244,13 @@ pub holds_messages : (g : Group) (w : World) (m : ℕ) → IsGroup g → Known g
     → HoldsMessages g (w.past.history m)
 holds_messages g w m is y l = messages.holds_messages g y.values w m is y.chosen l
 
-pub left_so : (g : Group) (w : World) → IsGroup g → Known g w → (m : ℕ) → m < roster g
-    → IsLeftSo w m (w.end m)
+pub left_so : (g : Group) (w : World) → IsGroup g → Known g w → (m : ℕ) → m < roster g → IsLeftSo w m (w.end m)
 left_so g w is y m l = leavings.left_so g y.values y.run.0 w is y.by.way y.by.before m l
 
 -- who suspects nobody has no vote that waits, and has committed nothing
 pub quiet : (g : Group) (w : World) (m : ℕ) → IsGroup g → IsReached g w → w.suspects m ≡ 0
     → (w.pending m ≡ None) × (w.committed m ≡ None)
-quiet g w m is r = reached g AreQuiet
-    (λ u e run can y. let t = known g u is run in
+quiet g w m is r = reached g AreQuiet (λ u e run can y. let t = known g u is run in
     step_quiet g (views_by g t.values) u (member_of e) (step_of e) is (faithful g u t) can y)
     (λ u table y. y) (λ k calm. (refl, refl)) w r m
 

@@ -1,10 +1,8 @@
 -- How members are ended by suspicion, and worlds without any.
 use Rattle.std.specs.Prelude.{◌≡◌, ◌≢◌, ℕ, true, false}
 use Rattle.dr_history.specs.Members.{has}
-use Rattle.dr_machine.specs.Guards.{unsuspected_of}
-use Rattle.dr_machine.specs.World.{World}
-use Rattle.dr_words.specs.declared.column.TheConstants.{SUSPECTED_COLUMN}
-use Rattle.dr_words.specs.Masks.{IsMajorityOf, IsPartOf}
+use Rattle.dr_machine.specs.{Guards.unsuspected_of, World.World}
+use Rattle.dr_words.specs.{Masks.{IsMajorityOf, IsPartOf}, declared.column.TheConstants.SUSPECTED_COLUMN}
 
 -- another member of m's view, which member m doesn't suspect, suspects m: so its own word of this view
 -- says, also once it is in a later view

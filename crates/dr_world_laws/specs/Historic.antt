@@ -1,18 +1,12 @@
 -- What the histories of a group are made of.
 use Rattle.std.specs.Prelude.{◌≡◌, ℕ, ◌+◌, ◌<◌, ◌≤◌, ◌^◌, List, ◌++◌, All, Some, length, slice_get, slice_index, true}
-use Rattle.dr_entry.specs.declared.entry.Entry.{Entry}
-use Rattle.dr_entry.specs.declared.entry.Entry.TheVariants.{View, Msg}
-use Rattle.dr_history.specs.Members.{has, members_of}
-use Rattle.dr_history.specs.History.{GroupView, merge, messages_of}
+use Rattle.dr_entry.specs.declared.entry.Entry.{Entry, TheVariants.{View, Msg}}
+use Rattle.dr_history.specs.{History.{GroupView, merge, messages_of}, Members.{has, members_of}}
 use Rattle.dr_history.specs.Order.{first_entries, messages_from}
-use Rattle.dr_history_laws.specs.Courses.{ViewHasEnded, course, head_of, view_in}
-use Rattle.dr_history_laws.specs.Laid.{GoesOn, counts_sent}
-use Rattle.dr_words.specs.Columns.{recv_column}
-use Rattle.dr_words.specs.Packing.{is_final}
-use Rattle.dr_machine.specs.Group.{Group, roster}
-use Rattle.dr_machine.specs.World.{World}
-use Rattle.dr_faithful.specs.Chosen.{Values, endings_by, views_by}
-use Rattle.dr_faithful.specs.Tells.{Views}
+use Rattle.dr_history_laws.specs.{Courses.{ViewHasEnded, course, head_of, view_in}, Laid.{GoesOn, counts_sent}}
+use Rattle.dr_words.specs.{Columns.recv_column, Packing.is_final}
+use Rattle.dr_machine.specs.{Group.{Group, roster}, World.World}
+use Rattle.dr_faithful.specs.{Chosen.{Values, endings_by, views_by}, Tells.Views}
 
 -- the view with a number, of which V gives the members
 abbrev pub view_numbered : Group → Views → ℕ → GroupView

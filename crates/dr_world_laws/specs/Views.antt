@@ -1,13 +1,9 @@
 -- The views of a world, as its histories have them, and what is delivered in them.
 use Rattle.std.specs.Prelude.{◌≡◌, ℕ, ◌+◌, ◌<◌, ◌≤◌, List, [], ◌∷◌, ◌++◌, map, true, false, slice_index, Contains}
-use Rattle.dr_entry.specs.declared.entry.Entry.{Entry}
-use Rattle.dr_entry.specs.declared.entry.Entry.TheVariants.{View}
-use Rattle.dr_entry.specs.declared.record.Value.{Value}
-use Rattle.dr_history.specs.History.{IsPrefixOf, merge}
-use Rattle.dr_history.specs.Members.{has, members_of}
+use Rattle.dr_entry.specs.{declared.entry.Entry.{Entry, TheVariants.View}, declared.record.Value.Value}
+use Rattle.dr_history.specs.{History.{IsPrefixOf, merge}, Members.{has, members_of}}
 use Rattle.dr_words.specs.Masks.{next_members}
-use Rattle.dr_machine.specs.Group.{Group, roster}
-use Rattle.dr_machine.specs.World.{World}
+use Rattle.dr_machine.specs.{Group.{Group, roster}, World.World}
 use Rattle.dr_faithful.specs.Tells.{Views}
 
 -- some history holds the View of this number of the age, with these members

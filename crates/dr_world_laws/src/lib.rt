@@ -14,36 +14,22 @@
 #![tactic(auto)]
 
 ghost use Rattle.std.specs.Prelude.{◌≡◌, ◌≢◌, ◌⊎◌, ℕ, ◌*◌, ◌+◌, ◌<◌, ◌≤◌, true, false, List, [], ◌∷◌, ◌++◌, All, Contains, length, None, Some};
-ghost use Rattle.dr_entry.specs.declared.end.End.TheVariants.{Done, Suspected, NoMajority};
-ghost use Rattle.dr_entry.specs.declared.entry.Entry.{Entry};
-ghost use Rattle.dr_entry.specs.declared.entry.Entry.TheVariants.{View};
-ghost use Rattle.dr_entry.specs.Spelling.{IsValidEntry};
-ghost use Rattle.dr_entry.specs.declared.record.Value.{Value};
+ghost use Rattle.dr_entry.specs.{Spelling.IsValidEntry, declared.end.End.TheVariants.{Done, Suspected, NoMajority}};
+ghost use Rattle.dr_entry.specs.{declared.entry.Entry.{Entry, TheVariants.View}, declared.record.Value.Value};
 ghost use Rattle.dr_entry.specs.declared.record.Vote.{Vote};
-ghost use Rattle.dr_faithful.specs.Chosen.{Values};
-ghost use Rattle.dr_faithful.specs.Faithful.{Faithful};
-ghost use Rattle.dr_faithful.specs.Tells.{SuspicionsTold, Views, WordsTell};
-ghost use Rattle.dr_history.specs.History.{IsPrefixOf, messages_of};
-ghost use Rattle.dr_history.specs.Members.{has};
-ghost use Rattle.dr_history.specs.Places.{front_of};
-ghost use Rattle.dr_machine.specs.declared.event.Event.{Event};
-ghost use Rattle.dr_machine.specs.Group.{Group, IsGroup, banks, roster};
-ghost use Rattle.dr_machine.specs.World.{World, opening_world};
-ghost use Rattle.dr_history.specs.declared.opening.Opening.{Opening};
+ghost use Rattle.dr_faithful.specs.{Chosen.Values, Faithful.Faithful, Tells.{SuspicionsTold, Views, WordsTell}};
+ghost use Rattle.dr_history.specs.{History.{IsPrefixOf, messages_of}, Members.has};
+ghost use Rattle.dr_history.specs.{Order.{IsLateIn, first_entries, messages_from}, Places.front_of};
+ghost use Rattle.dr_history.specs.{Soundness.{IsNobodyLate, Sound}, declared.opening.Opening.Opening};
+ghost use Rattle.dr_machine.specs.{Effects.counts_by, World.{World, opening_world}, declared.event.Event.Event};
+ghost use Rattle.dr_machine.specs.{Group.{Group, IsGroup, banks, roster}, Votes.{HasLogged, IsOf, MajorityHas}};
 ghost use Rattle.dr_machine.specs.Guards.{CanFinish, CanWelcome, HoldsAll, MayChoose, unsuspected_of};
 ghost use Rattle.dr_machine.specs.Run.{ComesNext, Run, IsReached, IsReachedWhere, Way, NoLaterItem, PastGrew, WordsGrew, WorldAgreed};
-ghost use Rattle.dr_machine.specs.Effects.{counts_by};
-ghost use Rattle.dr_machine.specs.Votes.{HasLogged, IsOf, MajorityHas};
 ghost use Rattle.dr_words.specs.Masks.{IsLeastOf, next_members};
-ghost use Rattle.dr_vote_laws.specs.Moments.{AcceptsOfMoments};
-ghost use Rattle.dr_vote_laws.specs.Tells.{VotesTold};
-ghost use Rattle.dr_vote_laws.specs.Voting.{HaveVotedFor, IsCut};
-ghost use Rattle.dr_history.specs.Order.{IsLateIn, first_entries, messages_from};
-ghost use Rattle.dr_history.specs.Soundness.{IsNobodyLate, Sound};
+ghost use Rattle.dr_vote_laws.specs.{Moments.AcceptsOfMoments, Tells.VotesTold, Voting.{HaveVotedFor, IsCut}};
 ghost use Rattle.dr_history_laws.specs.Remaining.{remaining};
 ghost use Rattle.dr_world_laws.specs.Ends.{IsLeftWith, IsSuspectedBack, NobodySuspects};
-ghost use Rattle.dr_world_laws.specs.Historic.{AreLaid, HoldsMessages, IsMerged};
-ghost use Rattle.dr_world_laws.specs.Letters.{IsHeadFor};
+ghost use Rattle.dr_world_laws.specs.{Historic.{AreLaid, HoldsMessages, IsMerged}, Letters.IsHeadFor};
 ghost use Rattle.dr_world_laws.specs.Views.{AreViews, HasView, IsCovered};
 
 /// In every world that a group reaches its members agree: on their histories, on their logs, and on what

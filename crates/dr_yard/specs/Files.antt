@@ -1,8 +1,5 @@
 -- What a yard of files knows of them.
-use Rattle.std.specs.Prelude.{ℕ, Bool, List, [], ◌∷◌, ◌++◌, codes}
-use Rattle.std.specs.Fmt.{decimal}
-use Rattle.std.specs.List.{concat}
-use Rattle.std.specs.Path.{with_separator}
+use Rattle.std.specs.{Fmt.decimal, List.concat, Path.with_separator, Prelude.{ℕ, Bool, List, [], ◌∷◌, ◌++◌, codes}}
 
 -- which files are lent, and how many faults each had counted, by member
 pub record FileYardState : Type 0 where

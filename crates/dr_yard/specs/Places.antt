@@ -1,8 +1,6 @@
 -- What stands in the places of a yard of calm disks.
 use Rattle.std.specs.Prelude.{ℕ, List, [], get_or, Option, Some, None, Bool, true, false}
-use Rattle.dr_disk.specs.Calls.{at_rest}
-use Rattle.dr_disk.specs.Disk.{Told, Now}
-use Rattle.dr_disk.specs.Memory.{CalmState}
+use Rattle.dr_disk.specs.{Calls.at_rest, Disk.{Told, Now}, Memory.CalmState}
 
 -- what the disk at a place tells; of one that is lent, an empty one
 abbrev pub told_in : Option CalmState → Option Told

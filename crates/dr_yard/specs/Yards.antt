@@ -1,7 +1,6 @@
 -- What a yard is to those that run ages over its disks.
 use Rattle.std.specs.Prelude.{◌≡◌, ◌<◌, ℕ, [], Option, Some, IsTrue, IsSomeAnd, is_some}
-use Rattle.dr_disk.specs.Calls.{at_rest}
-use Rattle.dr_disk.specs.Disk.{Told, Now, content_of}
+use Rattle.dr_disk.specs.{Calls.at_rest, Disk.{Told, Now, content_of}}
 
 -- what is told of the disk of each member, and how many calls for it have failed
 pub record YardState : Type 0 where

@@ -1,8 +1,7 @@
 //! A yard of disks in memory that never fail.
 
 ghost use Rattle.std.specs.Prelude.{◌≡◌, ◌<◌, ℕ, IfOk, false, [], Some};
-ghost use Rattle.dr_disk.specs.Calls.{at_rest};
-ghost use Rattle.dr_disk.specs.Disk.{Now};
+ghost use Rattle.dr_disk.specs.{Calls.at_rest, Disk.Now};
 ghost use Rattle.dr_entry.specs.declared.limits.TheConstants.{MAX_MEMBERS};
 ghost use Rattle.dr_yard.specs.Places.{place_lent, place_told};
 

@@ -9,8 +9,8 @@
 //! the first gets the others. A folder is synced where a file of it is empty, not only where it was made: a
 //! run that was stopped in between may have left one whose name isn't safe.
 
-ghost use Rattle.std.specs.Prelude.{◌≡◌, ◌<◌, false, ℕ, slice_index_or, IfSome, if◌then◌else◌, ◌++◌, ◌∷◌, []};
 ghost use Rattle.std.specs.Path.{slash, with_separator};
+ghost use Rattle.std.specs.Prelude.{◌≡◌, ◌<◌, false, ℕ, slice_index_or, IfSome, if◌then◌else◌, ◌++◌, ◌∷◌, []};
 ghost use Rattle.dr_entry.specs.declared.limits.TheConstants.{MAX_MEMBERS};
 ghost use Rattle.dr_yard.specs.Files.{path_in};
 

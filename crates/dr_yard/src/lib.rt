@@ -3,11 +3,11 @@
 //! Yards have a crate apart from `dr_io`, which is below everything, since they lend disks.
 #![tactic(auto)]
 
+mod berth;
 mod calm_yard;
 mod file_disk;
 mod file_yard;
 mod memory_yard;
-mod place;
 mod yard;
 
 pub use calm_yard::CalmYard;

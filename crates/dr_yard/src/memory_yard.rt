@@ -3,10 +3,9 @@
 ghost use Rattle.std.specs.Prelude.{◌≡◌, ◌≢◌, ◌<◌, ◌≤◌, ◌↔◌, ℕ, IfOk, IsErr, OnOk, OnErr, Some, false, length, map, slice_set, take};
 ghost use Rattle.dr_entry.specs.declared.limits.TheConstants.{MAX_MEMBERS};
 ghost use Rattle.dr_io.specs.Plan.{IsPlanned, plan_after, plan_of};
-ghost use Rattle.dr_yard.specs.declared.place.Place.TheVariants.{Here};
-ghost use Rattle.dr_yard.specs.Memory.{AreHere, IsEmptyDisk, place_of};
+ghost use Rattle.dr_yard.specs.{Memory.{AreHere, IsEmptyDisk, place_of}, declared.berth.Berth.TheVariants.Here};
 
-use crate::place::Place;
+use crate::berth::Berth;
 use crate::yard::Yard;
 use dr_disk::MemoryDisk;
 use dr_entry::MAX_MEMBERS;
@@ -18,7 +17,7 @@ use std::marker::Model;
 /// and no others. Neither `lend` nor `give_back` takes memory.
 #[derive(Debug, Drop)]
 pub struct MemoryYard {
-    places: Vec<Place>,
+    places: Vec<Berth>,
     plan: Plan,
     // Room for the disks as they leave the yard.
     room: Vec<MemoryDisk>,
@@ -60,11 +59,11 @@ impl MemoryYard {
         let held = disks.len();
         let mut places = Vec::with_capacity(alloc, MAX_MEMBERS)?;
         for disk in disks {
-            places.push(Place::Here(disk)).unwrap();
+            places.push(Berth::Here(disk)).unwrap();
         }
         for _ in held..MAX_MEMBERS {
             let disk = MemoryDisk::new(alloc, &[], None)?;
-            places.push(Place::Here(disk)).unwrap();
+            places.push(Berth::Here(disk)).unwrap();
         }
         Ok(MemoryYard {
             places,
@@ -81,9 +80,9 @@ impl MemoryYard {
         let mut disks = self.room;
         for place in self.places {
             match place {
-                Place::Here(disk) => disks.push(disk).unwrap(),
+                Berth::Here(disk) => disks.push(disk).unwrap(),
                 // None is lent.
-                Place::Lent { .. } => unreachable!(),
+                Berth::Lent { .. } => unreachable!(),
             }
         }
         disks
@@ -150,6 +149,6 @@ impl Yard for MemoryYard {
         ensures places { self.new.places ≡ slice_set self.old.places member (Here disk) }
         ensures plan { self.new.plan ≡ self.old.plan }
     {
-        self.places[usize::from(member)] = Place::Here(disk);
+        self.places[usize::from(member)] = Berth::Here(disk);
     }
 }

@@ -1,7 +1,5 @@
 ghost use Rattle.std.specs.Prelude.{◌≡◌, ℕ, ◌+◌, ◌<◌, ◌≤◌, [], All, IfOk, length, slice_index_or};
-ghost use Rattle.dr_script.specs.declared.script.Fault.{Fault};
-ghost use Rattle.dr_script.specs.declared.script.What.TheVariants.{Suspect};
-ghost use Rattle.dr_script.specs.Ranges.{HasRanges};
+ghost use Rattle.dr_script.specs.{Ranges.HasRanges, declared.script.{Fault.Fault, What.TheVariants.Suspect}};
 ghost use Rattle.dr_bench.specs.Groups.{IsBounded, first_suspected};
 
 use crate::groups::first::start_with;

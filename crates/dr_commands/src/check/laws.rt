@@ -1,21 +1,12 @@
 //! Laws of the reports that are printed.
 ghost use Rattle.std.specs.Prelude.{◌≡◌, ◌↔◌, ℕ, List, [], ◌∷◌, Contains, Option, Some};
-ghost use Rattle.dr_ages.specs.Runs.{IsRunOf};
-ghost use Rattle.dr_ages.specs.declared.mode.Mode.{Mode};
-ghost use Rattle.dr_ages.specs.declared.part.Part.{Part};
-ghost use Rattle.dr_ages.specs.declared.stop.Stop.{Stop};
+ghost use Rattle.dr_ages.specs.{Runs.IsRunOf, declared.{mode.Mode.Mode, part.Part.Part, stop.Stop.Stop}};
 ghost use Rattle.dr_entry.specs.declared.end.AgeEnd.{AgeEnd};
 ghost use Rattle.dr_intake.specs.Status.{status_of};
+ghost use Rattle.dr_outcome.specs.{Last.last_of, Outcome.{Plays, outcome_text}, Playing.Playing};
 ghost use Rattle.dr_outcome.specs.declared.outcome.Outcome.{Outcome as OutcomeOf};
-ghost use Rattle.dr_outcome.specs.Last.{last_of};
-ghost use Rattle.dr_outcome.specs.Outcome.{Plays, outcome_text};
-ghost use Rattle.dr_outcome.specs.Playing.{Playing};
-ghost use Rattle.dr_script.specs.declared.script.Script.{Script};
-ghost use Rattle.dr_script.specs.Ranges.{HasRanges};
-ghost use Rattle.dr_script.specs.Reading.{Reads, reading_of};
-ghost use Rattle.dr_text.specs.declared.last.Last.{Last as LastOf};
-ghost use Rattle.dr_text.specs.declared.last.Last.TheVariants.{Right};
-ghost use Rattle.dr_text.specs.Report.{report_text};
+ghost use Rattle.dr_script.specs.{Ranges.HasRanges, Reading.{Reads, reading_of}, declared.script.Script.Script};
+ghost use Rattle.dr_text.specs.{Report.report_text, declared.last.Last.{Last as LastOf, TheVariants.Right}};
 ghost use Rattle.dr_yard.specs.Yards.{AllTell, YardState};
 ghost use Rattle.dr_commands.specs.Check.{DisksTell, HandsIn, IsChecked, IsJudgedRight, IsVerdict};
 

@@ -1,8 +1,7 @@
 ghost use Rattle.std.specs.Prelude.{◌≡◌, ◌⊎◌, ℕ, List, None, IfOk};
 ghost use Rattle.dr_yard.specs.Yards.{YardState};
 ghost use Rattle.dr_outcome.specs.Outcome.{HasDone, SaysOnly};
-ghost use Rattle.dr_commands.specs.Drill.{Drills, drill_ends};
-ghost use Rattle.dr_commands.specs.DrillLines.{drill_text};
+ghost use Rattle.dr_commands.specs.{Drill.{Drills, drill_ends}, DrillLines.drill_text};
 
 use crate::drill::lines::push_ages;
 use dr_drill::make;

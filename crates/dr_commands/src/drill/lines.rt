@@ -1,5 +1,4 @@
-ghost use Rattle.std.specs.Prelude.{◌≡◌, ◌++◌, [], OnOk, string_bytes};
-ghost use Rattle.std.specs.List.{flat_map};
+ghost use Rattle.std.specs.{List.flat_map, Prelude.{◌≡◌, ◌++◌, [], OnOk, string_bytes}};
 ghost use Rattle.dr_commands.specs.DrillLines.{drilled_text, end_lines, last_view_or, view_line};
 
 use dr_entry::{AgeEnd, Entry, MemberEnd};

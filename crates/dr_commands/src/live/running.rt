@@ -1,12 +1,10 @@
 ghost use Rattle.std.specs.Prelude.{◌≡◌, ◌⊎◌, IfOk, IfSome, None};
 ghost use Rattle.dr_live.specs.Live.{HasLived, IsLivePlan};
 ghost use Rattle.dr_outcome.specs.declared.outcome.Body.TheVariants as bodies;
-ghost use Rattle.dr_outcome.specs.Last.{last_of};
-ghost use Rattle.dr_outcome.specs.Outcome.{HasDone, SaysOnly};
+ghost use Rattle.dr_outcome.specs.{Last.last_of, Outcome.{HasDone, SaysOnly}};
 ghost use Rattle.dr_script.specs.Ranges.{HasRanges};
 ghost use Rattle.dr_yard.specs.Yards.{YardState};
-ghost use Rattle.dr_commands.specs.LiveLines.{live_text};
-ghost use Rattle.dr_commands.specs.Live.{OfPlan, RunsLive, live_ends, refused_plan};
+ghost use Rattle.dr_commands.specs.{Live.{OfPlan, RunsLive, live_ends, refused_plan}, LiveLines.live_text};
 
 use crate::live::lines::push_live;
 use crate::live::rounds::Rounds;

@@ -1,6 +1,4 @@
-ghost use Rattle.std.specs.Prelude.{◌≡◌, ◌≢◌, ◌++◌, IfOk, OnOk, codes, string_bytes};
-ghost use Rattle.std.specs.Fmt.{decimal};
-ghost use Rattle.std.specs.List.{join_by};
+ghost use Rattle.std.specs.{Fmt.decimal, List.join_by, Prelude.{◌≡◌, ◌≢◌, ◌++◌, IfOk, OnOk, codes, string_bytes}};
 ghost use Rattle.dr_shards.specs.Layout.{is_of_shard, shard_members};
 ghost use Rattle.dr_text.specs.Report.{age_text};
 ghost use Rattle.dr_commands.specs.ShardsLines.{shard_line, shards_text};

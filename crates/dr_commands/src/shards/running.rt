@@ -1,14 +1,11 @@
 ghost use Rattle.std.specs.Prelude.{◌≡◌, ◌≢◌, ◌⊎◌, [], All, IfOk, None};
 ghost use Rattle.dr_outcome.specs.declared.outcome.Body.TheVariants as bodies;
-ghost use Rattle.dr_outcome.specs.Last.{last_of};
-ghost use Rattle.dr_outcome.specs.Outcome.{HasDone, SaysOnly};
-ghost use Rattle.dr_script.specs.Ranges.{HasRanges};
-ghost use Rattle.dr_script.specs.declared.script.Script.{Script as ScriptOf};
-ghost use Rattle.dr_shards.specs.Layout.{lay_refusal};
-ghost use Rattle.dr_shards.specs.Shards.{AreShardAges};
+ghost use Rattle.dr_outcome.specs.{Last.last_of, Outcome.{HasDone, SaysOnly}};
+ghost use Rattle.dr_script.specs.{Ranges.HasRanges, declared.script.Script.Script as ScriptOf};
+ghost use Rattle.dr_shards.specs.{Layout.lay_refusal, Shards.AreShardAges};
 ghost use Rattle.dr_yard.specs.Yards.{YardState};
-ghost use Rattle.dr_commands.specs.ShardsLines.{shards_text};
 ghost use Rattle.dr_commands.specs.Shards.{OfLayout, RunsShards, refused_layout, shards_ends};
+ghost use Rattle.dr_commands.specs.ShardsLines.{shards_text};
 
 use crate::shards::lines::shards_text;
 use crate::shards::sharding::Sharding;

@@ -1,8 +1,7 @@
 ghost use Rattle.std.specs.Prelude.{◌≡◌, ◌⊎◌, None, IfOk, string_bytes};
 ghost use Rattle.dr_yard.specs.Yards.{YardState};
 ghost use Rattle.dr_outcome.specs.Outcome.{HasDone, SaysOnly};
-ghost use Rattle.dr_commands.specs.Store.{Stores, store_ends};
-ghost use Rattle.dr_commands.specs.StoreLines.{last_values_text};
+ghost use Rattle.dr_commands.specs.{Store.{Stores, store_ends}, StoreLines.last_values_text};
 
 use crate::store::values::push_values;
 use dr_entry::AgeEnd;

@@ -1,8 +1,6 @@
-use Rattle.dr_form.proofs.Finishing.{joined_form}
-use Rattle.std.proofs.Common.{not, is_some}
-use Rattle.std.proofs.lemmas.Bool.{and_parts}
+use Rattle.dr_form.proofs.{Finishing.joined_form, Steps.{stepped_form, stepped_grown}}
+use Rattle.std.proofs.{Common.{not, is_some}, lemmas.Bool.and_parts}
 use Rattle.dr_program.specs.Steps.{allows, is_free}
-use Rattle.dr_form.proofs.Steps.{stepped_form, stepped_grown}
 use Rattle.dr_form.proofs.steps_keep_the_form.Goals as goal
 
 pub returns-clause-form : goal.returns-clause-form

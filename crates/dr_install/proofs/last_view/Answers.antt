@@ -1,7 +1,6 @@
 use Rattle.std.proofs.Common.{refl, take}
 use Rattle.dr_entry.proofs.ListPlaces.{take_read}
-use Rattle.dr_history.proofs.Letters.{last_view-last}
-use Rattle.dr_history.proofs.Histories.{last_view-Msg, last_view-none}
+use Rattle.dr_history.proofs.{Histories.{last_view-Msg, last_view-none}, Letters.last_view-last}
 use Rattle.dr_install.proofs.last_view.Goals.{in-View, in_default}
 use Rattle.dr_install.proofs.last_view.Goals as goal
 
@@ -11,8 +10,7 @@ loop-entry-init c = record { last = rw (last_view-none (0, 0), c.empty.ensures.b
 pub loop-entry-preserved : goal.loop-entry-preserved
 loop-entry-preserved c = record {
   last = rw (take_read c.args.history.now c.loop-entry.entry-index c.entry-item.result c.loop-entry-test.true
-      c.entry-item.is)
-      (elim c.match-entry.branch [
+      c.entry-item.is) (elim c.match-entry.branch [
         | in-View w ↦ rw (
           w.in-View.is,
           last_view-last (take c.loop-entry.entry-index c.args.history.now) (0, 0) w.in-View.age w.in-View.number

@@ -1,14 +1,11 @@
-use Rattle.std.proofs.Common.{◌≡◌, ◌-◌, ◌≤◌, ◌==◌, length, take}
-use Rattle.std.specs.Prelude.{count_by}
+use Rattle.std.{specs.Prelude.count_by, proofs.Common.{◌≡◌, ◌-◌, ◌≤◌, ◌==◌, length, take}}
 use Rattle.dr_lane.proofs.count_equal.Given as goal
 
 abbrev pub invariant-loop-at : goal.invariant-loop-at
-invariant-loop-at l = (l.at ≤ length l.words)
-    × (l.count ≡ count_by (λ word. word == l.to) (take l.at l.words))
+invariant-loop-at l = (l.at ≤ length l.words) × (l.count ≡ count_by (λ word. word == l.to) (take l.at l.words))
 
 abbrev pub decreases-loop-at : goal.decreases-loop-at
 decreases-loop-at l = length l.words - l.at
 
 abbrev pub invariant-loop-i : goal.invariant-loop-i
-invariant-loop-i l = (l.at ≤ length l.words)
-    × (l.count ≡ count_by (λ word. word == l.to) (take l.i l.words))
+invariant-loop-i l = (l.at ≤ length l.words) × (l.count ≡ count_by (λ word. word == l.to) (take l.i l.words))

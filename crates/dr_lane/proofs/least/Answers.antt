@@ -1,9 +1,6 @@
+use Rattle.std.specs.{Prelude.Contains, Simd.Lanes.chunk}
 use Rattle.std.proofs.Common.{◌≡◌, ℕ, ◌+◌, ◌-◌, ◌≤◌, ◌<◌, get_or, length, inl, inr, sym, subst, ap, ◌∙◌, arith, le_trans}
-use Rattle.std.specs.Prelude.{Contains}
-use Rattle.std.specs.Simd.Lanes.{chunk}
-use Rattle.std.proofs.lemmas.Bool.{cases_lt}
-use Rattle.std.proofs.lemmas.List.{get_or_default}
-use Rattle.std.proofs.lemmas.Simd.{get_or-chunk}
+use Rattle.std.proofs.lemmas.{Bool.cases_lt, List.get_or_default, Simd.get_or-chunk}
 use Rattle.dr_lane.proofs.Blocks.{lower_below, lower_keeps, min_keeps, of_standing, stands}
 use Rattle.dr_lane.proofs.least.Goals as goal
 
@@ -20,9 +17,8 @@ loop-at-preserved c =
     record {
       within = omega arith;
       long = after.long;
-      among = λ j h. subst (Contains words) (sym (after.each j h))
-          (lower_keeps (Contains words) (lane j) (other j) (before.among j h)
-          (subst (Contains words) (sym (block j h)) (stands words (at + j) (omega (arith, h)))));
+      among = λ j h. subst (Contains words) (sym (after.each j h)) (lower_keeps (Contains words) (lane j) (other j)
+          (before.among j h) (subst (Contains words) (sym (block j h)) (stands words (at + j) (omega (arith, h)))));
       below = λ k h. elim (cases_lt k at) [
         | inl early ↦
             let b = before.below k early in

@@ -1,5 +1,4 @@
-use Rattle.std.proofs.Common.{◌≡◌, ℕ, ◌-◌, ◌<◌, ◌≤◌, get_or, length}
-use Rattle.std.specs.Prelude.{Contains}
+use Rattle.std.{specs.Prelude.Contains, proofs.Common.{◌≡◌, ℕ, ◌-◌, ◌<◌, ◌≤◌, get_or, length}}
 use Rattle.dr_lane.proofs.least.Given as goal
 
 abbrev pub invariant-loop-at : goal.invariant-loop-at

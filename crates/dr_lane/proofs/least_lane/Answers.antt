@@ -1,5 +1,4 @@
-use Rattle.std.proofs.Common.{ℕ, get_or, sym, subst, arith}
-use Rattle.std.specs.Prelude.{Contains}
+use Rattle.std.{specs.Prelude.Contains, proofs.Common.{ℕ, get_or, sym, subst, arith}}
 use Rattle.dr_lane.proofs.Blocks.{min_keeps, stands}
 use Rattle.dr_lane.proofs.least_lane.Goals as goal
 

@@ -1,5 +1,5 @@
-use Rattle.std.proofs.Common.{false, cond, ltb, length, get_or, ap, ◌∙◌, sym, arith, w64}
 use Rattle.std.specs.Simd.Lanes.{zip2, sel_l}
+use Rattle.std.proofs.Common.{false, cond, ltb, length, get_or, ap, ◌∙◌, sym, arith, w64}
 use Rattle.std.proofs.lemmas.Simd.{tops_compared, length-zip2, length-sel_l, get_or-sel_l, get_or-zip2}
 use Rattle.dr_lane.proofs.lower.Goals as goal
 

@@ -1,11 +1,8 @@
+use Rattle.std.{specs.{Int.bit_at, Simd.Lanes.mask_l}, proofs.lemmas.{Bool.{eq-eqb, ne_eqb}, List.take_all}}
 use Rattle.std.proofs.Common.{◌≡◌, ◌↔◌, ◌==◌, ℕ, List, get_or, map, take, arith, sym, subst, ◌∙◌, ap}
-use Rattle.std.specs.Int.{bit_at}
-use Rattle.std.specs.Simd.Lanes.{mask_l}
-use Rattle.std.proofs.lemmas.Bool.{eq-eqb, ne_eqb}
-use Rattle.std.proofs.lemmas.List.{take_all}
 use Rattle.dr_lane.proofs.Blocks.{bit_clear, bit_marked, block_marked, word_marked, word_unmarked}
-use Rattle.dr_lane.proofs.match_mask.Goals as goal
 use Rattle.dr_lane.proofs.match_mask.Goals.{then-words-i, else-words-i}
+use Rattle.dr_lane.proofs.match_mask.Goals as goal
 
 pub loop-at-preserved : goal.loop-at-preserved
 loop-at-preserved c = (

@@ -6,10 +6,8 @@
 //! looks or pushes, and these are so many deeds one after the other (`LeadsTo`). In a turn in which a member
 //! crashes it takes one push at a time, since the crash comes between two.
 ghost use Rattle.std.specs.Prelude.{◌≡◌, ◌<◌, ◌≤◌, ℕ, None, length, true};
-ghost use Rattle.dr_member.specs.Alone.{LeadsTo, SeesAlong};
-ghost use Rattle.dr_member.specs.Deeds.{is_look, is_push, table_size};
-ghost use Rattle.dr_program.specs.Form.{IsRunningMember};
-ghost use Rattle.dr_program.specs.Running.{next_deed};
+ghost use Rattle.dr_member.specs.{Alone.{LeadsTo, SeesAlong}, Deeds.{is_look, is_push, table_size}};
+ghost use Rattle.dr_program.specs.{Form.IsRunningMember, Running.next_deed};
 ghost use Rattle.dr_turn.specs.Work.{HasGrownTo, IsStill, deeds_left};
 
 use super::Member;

@@ -16,11 +16,8 @@
 //! its tags (`dr_ring::taken`).
 ghost use Rattle.std.specs.Prelude.{◌≡◌, ◌<◌, ℕ, true};
 ghost use Rattle.dr_member.specs.Deeds.{is_look, is_push, table_size};
-ghost use Rattle.dr_program.specs.declared.deed.Deed.TheVariants.{Look, Push};
-ghost use Rattle.dr_program.specs.Form.{IsRunningMember};
-ghost use Rattle.dr_program.specs.Reading.{step_of_member};
-ghost use Rattle.dr_program.specs.Running.{Running, after_step, next_deed};
-ghost use Rattle.dr_program.specs.Sight.{MaySee};
+ghost use Rattle.dr_program.specs.{Form.IsRunningMember, Running.{Running, after_step, next_deed}};
+ghost use Rattle.dr_program.specs.{Reading.step_of_member, Sight.MaySee, declared.deed.Deed.TheVariants.{Look, Push}};
 ghost use Rattle.dr_turn.specs.Work.{HasGrownTo, IsStill, deeds_left};
 
 use super::Member;

@@ -1,6 +1,4 @@
-use Rattle.dr_program_laws.proofs.Ending.{net_agreed, net_causes, net_ended}
-use Rattle.dr_program_laws.proofs.Failing.{net_fails}
-use Rattle.dr_program_laws.proofs.Nets.{net_kept}
+use Rattle.dr_program_laws.proofs.{Ending.{net_agreed, net_causes, net_ended}, Failing.net_fails, Nets.net_kept}
 use Rattle.dr_program_laws.proofs.Trusting.{net_trusts}
 use Rattle.dr_program_laws.proofs.nets_keep_programs.Goals as goal
 

@@ -2,20 +2,14 @@
 ghost use Rattle.std.specs.Prelude.{◌≡◌, ◌<◌, ◌≤◌, ℕ, ◌+◌, ◌-◌, ◌^◌, None, false, length, slice_index, true};
 ghost use Rattle.dr_history.specs.Members.{has};
 ghost use Rattle.dr_machine.specs.declared.step.Step.TheVariants.{Do};
-ghost use Rattle.dr_program.specs.Form.{HasForm};
-ghost use Rattle.dr_program.specs.Acts.{done, may, taken};
+ghost use Rattle.dr_program.specs.{Acts.{done, may, taken}, Form.HasForm};
 ghost use Rattle.dr_program.specs.Replica.{acted, appended, delivered, finished, is_inside, is_other, looked, marked, may_append, may_deliver, may_finish, may_null, may_receive, may_send, may_suspect, nulled, published, put, pushed, received, reported, sent, suspected};
-ghost use Rattle.dr_program.specs.Running.{minority};
-ghost use Rattle.dr_program.specs.Steps.{NoWordFell, allows, is_free};
+ghost use Rattle.dr_program.specs.{Running.minority, Steps.{NoWordFell, allows, is_free}};
 ghost use Rattle.dr_replica.specs.Items.{front};
 ghost use Rattle.dr_form.specs.Puts.{MayPut};
 ghost use Rattle.dr_ring.specs.Slots.{HasShape};
-ghost use Rattle.dr_rows.specs.Along.{looked_along, pushed_along};
-ghost use Rattle.dr_rows.specs.Words.{own, seen, with_own};
-ghost use Rattle.dr_words.specs.Columns.{recv_column};
-ghost use Rattle.dr_words.specs.Form.{IsInForm};
-ghost use Rattle.dr_words.specs.Grown.{HasGrown};
-ghost use Rattle.dr_words.specs.Packing.{recv_word};
+ghost use Rattle.dr_rows.specs.{Along.{looked_along, pushed_along}, Words.{own, seen, with_own}};
+ghost use Rattle.dr_words.specs.{Columns.recv_column, Form.IsInForm, Grown.HasGrown, Packing.recv_word};
 
 use super::Replica;
 use crate::items::Items;

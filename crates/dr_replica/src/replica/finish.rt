@@ -1,14 +1,11 @@
 //! How a replica ends its view and goes on in the next one.
 ghost use Rattle.std.specs.Prelude.{◌≡◌, ◌<◌, ◌≤◌, List, None, length, true};
 ghost use Rattle.dr_entry.specs.declared.entry.Entry.{Entry};
-ghost use Rattle.dr_history.specs.Members.{members_of};
-ghost use Rattle.dr_history.specs.Order.{messages_from};
-ghost use Rattle.dr_history.specs.Places.{is_held};
+ghost use Rattle.dr_history.specs.{Members.members_of, Order.messages_from, Places.is_held};
 ghost use Rattle.dr_machine.specs.Effects.{entries_of};
 ghost use Rattle.dr_program.specs.Replica.{finished, is_inside, may_end, may_finish};
 ghost use Rattle.dr_replica.specs.Items.{counts_of, item_held_at, sender_held_at};
-ghost use Rattle.dr_replica.specs.Spots.{IsSpot};
-ghost use Rattle.dr_replica.specs.Rests.{AreWithin, fits, has_taken, merged, merged_from};
+ghost use Rattle.dr_replica.specs.{Rests.{AreWithin, fits, has_taken, merged, merged_from}, Spots.IsSpot};
 ghost use Rattle.dr_trim.specs.Trims.{trims_by_rank};
 
 use super::Replica;

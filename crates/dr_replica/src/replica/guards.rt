@@ -1,6 +1,5 @@
 //! What a replica may do.
-ghost use Rattle.std.specs.Int.{bit_at};
-ghost use Rattle.std.specs.Prelude.{◌≡◌, ℕ, ◌+◌, ◌<◌, ◌≤◌, ◌↔◌, ◌&&◌, ◌||◌, ◌==◌, length, nat_lt, not};
+ghost use Rattle.std.specs.{Int.bit_at, Prelude.{◌≡◌, ℕ, ◌+◌, ◌<◌, ◌≤◌, ◌↔◌, ◌&&◌, ◌||◌, ◌==◌, length, nat_lt, not}};
 ghost use Rattle.dr_history.specs.Members.{has};
 ghost use Rattle.dr_program.specs.Replica.{all_done, count, greatest, has_majority, holds_all, is_due, is_inside, is_other, is_wedged, is_welcomer, least_seen, me, may_append, may_deliver, may_give, may_mark, may_null, may_publish, may_receive, may_report, may_send, may_suspect, next_index};
 ghost use Rattle.dr_program.specs.Steps.{allows, allows_inside, has_cell, is_outside_step};

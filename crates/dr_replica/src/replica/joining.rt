@@ -2,9 +2,7 @@
 ghost use Rattle.std.specs.Prelude.{◌≡◌, ◌≤◌, [], false, true, vec_capacity};
 ghost use Rattle.dr_form.specs.Letters.{IsFitting};
 ghost use Rattle.dr_history.specs.History.{up_to_view};
-ghost use Rattle.dr_program.specs.Form.{HasForm};
-ghost use Rattle.dr_program.specs.Replica.{gave, is_inside, joined, may_give};
-ghost use Rattle.dr_program.specs.Steps.{NoWordFell};
+ghost use Rattle.dr_program.specs.{Form.HasForm, Replica.{gave, is_inside, joined, may_give}, Steps.NoWordFell};
 
 use super::Replica;
 use super::opening::no_value;

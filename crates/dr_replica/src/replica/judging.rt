@@ -1,9 +1,7 @@
 //! Whom a replica is told to suspect, and for whom it has waited too long.
 ghost use Rattle.std.specs.Prelude.{◌≡◌, ℕ, ◌<◌};
-ghost use Rattle.dr_program.specs.Replica.{unsuspected};
-ghost use Rattle.dr_program.specs.Running.{named_by, told};
-ghost use Rattle.dr_suspect.specs.Answers.{least_where};
-ghost use Rattle.dr_suspect.specs.Waits.{IsWaits, compared, is_overdue};
+ghost use Rattle.dr_program.specs.{Replica.unsuspected, Running.{named_by, told}};
+ghost use Rattle.dr_suspect.specs.{Answers.least_where, Waits.{IsWaits, compared, is_overdue}};
 
 use super::Replica;
 use dr_suspect::Patience;

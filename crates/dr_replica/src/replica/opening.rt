@@ -1,9 +1,7 @@
 //! How a replica begins and how it is told at its end.
 ghost use Rattle.std.specs.Prelude.{◌≡◌, IfOk};
 ghost use Rattle.dr_machine.specs.World.{no_value};
-ghost use Rattle.dr_program.specs.Form.{CanBegin, HasForm};
-ghost use Rattle.dr_program.specs.Program.{member_end};
-ghost use Rattle.dr_program.specs.Replica.{begun_replica};
+ghost use Rattle.dr_program.specs.{Form.{CanBegin, HasForm}, Program.member_end, Replica.begun_replica};
 
 use super::Replica;
 use crate::history::History;

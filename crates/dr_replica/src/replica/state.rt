@@ -2,8 +2,7 @@
 ghost use Rattle.std.specs.Prelude.{◌≡◌, ◌+◌, ◌-◌, ◌*◌, ◌<◌, length, slice_get, Some, true};
 ghost use Rattle.dr_history.specs.Members.{has};
 ghost use Rattle.dr_machine.specs.Effects.{one_more};
-ghost use Rattle.dr_program.specs.Form.{HasForm};
-ghost use Rattle.dr_program.specs.Replica.{count, me, may_append};
+ghost use Rattle.dr_program.specs.{Form.HasForm, Replica.{count, me, may_append}};
 ghost use Rattle.dr_rows.specs.Words.{own, seen};
 
 use super::Replica;

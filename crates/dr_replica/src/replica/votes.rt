@@ -2,9 +2,8 @@
 ghost use Rattle.std.specs.Prelude.{◌≡◌, ◌||◌, None, is_some, length, true};
 ghost use Rattle.dr_entry.specs.declared.limits.TheConstants.{MAX_MEMBERS};
 ghost use Rattle.dr_lead.specs.Standings.{IsStanding};
-ghost use Rattle.dr_program.specs.Form.{HasForm};
+ghost use Rattle.dr_program.specs.{Form.HasForm, Steps.NoWordFell};
 ghost use Rattle.dr_program.specs.Replica.{accepted, is_named, is_others, is_own, is_wedged, may_accept, may_commit, may_propose, may_vote, me, promise, value_due, vote_of, voted};
-ghost use Rattle.dr_program.specs.Steps.{NoWordFell};
 ghost use Rattle.dr_rows.specs.Words.{seen};
 ghost use Rattle.dr_words.specs.Choices as choices;
 

@@ -1,9 +1,7 @@
 ghost use Rattle.std.specs.Prelude.{◌≡◌, ◌⊎◌, List, IfOk, IfErr, IfSome, Some, filter_map};
 ghost use Rattle.dr_entry.specs.declared.entry.Entry.{Entry as EntryOf};
-ghost use Rattle.dr_store.specs.Commands.{contents};
-ghost use Rattle.dr_store.specs.Stock.{IsStoreOf, begun_with, found_at, refusal_at, values_at};
-ghost use Rattle.dr_store.specs.Tables.{listed};
-ghost use Rattle.dr_store.specs.declared.fault.AtFault.TheVariants.{OutOfMemory};
+ghost use Rattle.dr_store.specs.{Commands.contents, Stock.{IsStoreOf, begun_with, found_at, refusal_at, values_at}};
+ghost use Rattle.dr_store.specs.{Tables.listed, declared.fault.AtFault.TheVariants.OutOfMemory};
 
 use crate::changes::Changes;
 use crate::fault::AtFault;

@@ -5,8 +5,7 @@
 ghost use Rattle.std.specs.Prelude.{◌≡◌, ◌<◌, IfOk};
 ghost use Rattle.dr_pred.specs.Group.{IsOfShape};
 ghost use Rattle.dr_rows.specs.Words.{Words};
-ghost use Rattle.dr_words.specs.Columns.{columns_of};
-ghost use Rattle.dr_words.specs.Form.{IsInForm};
+ghost use Rattle.dr_words.specs.{Columns.columns_of, Form.IsInForm};
 
 use anyhow::anyhow;
 use dr_pred::{AllDone, Once, PromisedAt, SomeSuspect, Watch};

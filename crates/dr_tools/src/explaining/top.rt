@@ -1,7 +1,6 @@
 ghost use Rattle.std.specs.Prelude.{◌≡◌, ◌⊎◌, ◌∷◌, [], IfOk, Contains, string_bytes};
 ghost use Rattle.dr_intake.specs.Status.{status_of};
-ghost use Rattle.dr_script.specs.Ranges.{HasRanges};
-ghost use Rattle.dr_script.specs.Reading.{reading_of};
+ghost use Rattle.dr_script.specs.{Ranges.HasRanges, Reading.reading_of};
 ghost use Rattle.dr_text.specs.Report.{last_text};
 ghost use Rattle.dr_tools.specs.Explained.{BeginsWith, ExplainTold, IsAnswerFor, IsExplainAnswer, TellsTurns};
 

@@ -1,8 +1,6 @@
 //! How many turns are enough for a group, and how many it takes.
-ghost use Rattle.std.specs.Prelude.{◌≡◌, ◌++◌, IfOk, OnOk, string_bytes, true};
-ghost use Rattle.std.specs.List.{list_all};
-ghost use Rattle.dr_complete.specs.Enough.{turns_enough};
-ghost use Rattle.dr_complete.specs.Time.{HasTime};
+ghost use Rattle.std.specs.{List.list_all, Prelude.{◌≡◌, ◌++◌, IfOk, OnOk, string_bytes, true}};
+ghost use Rattle.dr_complete.specs.{Enough.turns_enough, Time.HasTime};
 ghost use Rattle.dr_entry.specs.declared.end.MemberEnd.{MemberEnd as MemberEndOf};
 ghost use Rattle.dr_machine.specs.Group.{IsGroup};
 ghost use Rattle.dr_restart.specs.Groups.{first_group_of};

@@ -1,6 +1,5 @@
 ghost use Rattle.std.specs.Prelude.{◌≡◌, ◌⊎◌, IfOk, option_map, string_bytes};
-ghost use Rattle.dr_script.specs.Ranges.{HasRanges};
-ghost use Rattle.dr_script.specs.Reading.{reading_of};
+ghost use Rattle.dr_script.specs.{Ranges.HasRanges, Reading.reading_of};
 ghost use Rattle.dr_tools.specs.Folder.{CheckTold, IsCheckAnswer, IsFolderAnswer, IsSaidOf, folder_named};
 
 use crate::folder::reading::read_files;

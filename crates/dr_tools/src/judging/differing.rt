@@ -1,8 +1,7 @@
 //! The entries by which two histories of an age differ.
 ghost use Rattle.std.specs.Prelude.{◌≡◌, ◌≢◌, ◌↔◌, ◌<◌, ◌≤◌, IfNone, IfSome, IsTrue, Some, length, slice_get};
+ghost use Rattle.dr_check.specs.{Clauses.{HasSame, KeepsPrefix}, Flaws.line_behind};
 ghost use Rattle.dr_check.specs.declared.report.ReportMember.{ReportMember as MemberOf};
-ghost use Rattle.dr_check.specs.Clauses.{HasSame, KeepsPrefix};
-ghost use Rattle.dr_check.specs.Flaws.{line_behind};
 ghost use Rattle.dr_tools.specs.Differing.{AgeAgreesAt, AgreeAt, Differs, DiffersIn, DiffersOf, HasOther, ReportAgreesAt};
 
 use dr_check::{Report, ReportAge, ReportMember};

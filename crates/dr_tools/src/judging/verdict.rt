@@ -1,9 +1,8 @@
 //! What is said of a report.
 ghost use Rattle.std.specs.Prelude.{◌≡◌, ◌++◌, ℕ, List, IfOk, OnOk, string_bytes};
 ghost use Rattle.dr_check.specs.Flaws.{IsFirstFlaw};
+ghost use Rattle.dr_script.specs.{Ranges.HasGroupRanges, Reading.reading_of};
 ghost use Rattle.dr_script.specs.declared.script.Script.{Script as ScriptOf};
-ghost use Rattle.dr_script.specs.Ranges.{HasGroupRanges};
-ghost use Rattle.dr_script.specs.Reading.{reading_of};
 ghost use Rattle.dr_tools.specs.Differing.{ReportAgreesAt, ShowsDifference, told_entry};
 ghost use Rattle.dr_tools.specs.Judged.{IsJudged, SaysOfBytes, SaysOfReport, SaysOfText, StandsBehind, TellsFlaw};
 

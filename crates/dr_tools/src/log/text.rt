@@ -1,6 +1,5 @@
+ghost use Rattle.std.specs.{Fmt.decimal, List.concat};
 ghost use Rattle.std.specs.Prelude.{◌≡◌, ◌+◌, ◌^◌, ◌<◌, ◌++◌, ◌∷◌, [], IfOk, OnOk, codes, string_bytes};
-ghost use Rattle.std.specs.Fmt.{decimal};
-ghost use Rattle.std.specs.List.{concat};
 ghost use Rattle.dr_entry.specs.Spelling.{Fits, IsValid};
 ghost use Rattle.dr_text.specs.Report.{entry_text};
 ghost use Rattle.dr_tools.specs.LogText.{IsSaid, IsTold, age_vote_text, closed_line, cut_text, damaged_line, format_behind, number_behind, record_text};

@@ -1,5 +1,4 @@
-ghost use Rattle.std.specs.Prelude.{◌≡◌, ◌++◌, OnOk, string_bytes, take};
-ghost use Rattle.std.specs.List.{enumerate_from, flat_map};
+ghost use Rattle.std.specs.{List.{enumerate_from, flat_map}, Prelude.{◌≡◌, ◌++◌, OnOk, string_bytes, take}};
 ghost use Rattle.dr_entry.specs.Spelling.{FitsVote, IsValidVote};
 ghost use Rattle.dr_tools.specs.LogText.{ballot_text, naming_text, place_text, taken_text, trim_text, vote_text};
 

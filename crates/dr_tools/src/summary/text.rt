@@ -1,7 +1,6 @@
 ghost use Rattle.std.specs.Prelude.{◌≡◌, IfOk, string_bytes};
 ghost use Rattle.dr_script.specs.Ranges.{HasRanges};
-ghost use Rattle.dr_tools.specs.Object.{summary_by};
-ghost use Rattle.dr_tools.specs.Summary.{AreAgreed, summary_text};
+ghost use Rattle.dr_tools.specs.{Object.summary_by, Summary.{AreAgreed, summary_text}};
 
 use crate::summary::ages::push_ages;
 use crate::summary::enough::{Enough, enough_of};

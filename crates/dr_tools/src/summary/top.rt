@@ -1,8 +1,7 @@
 ghost use Rattle.std.specs.Prelude.{◌≡◌, ◌⊎◌, ◌∷◌, [], IfOk, Contains, string_bytes};
 ghost use Rattle.dr_progress.specs.Progress.{IsQuiet};
 ghost use Rattle.dr_ages.specs.Ages.{HaveSomebodyPrompt, all_with};
-ghost use Rattle.dr_script.specs.Ranges.{HasRanges};
-ghost use Rattle.dr_script.specs.Reading.{reading_of};
+ghost use Rattle.dr_script.specs.{Ranges.HasRanges, Reading.reading_of};
 ghost use Rattle.dr_tools.specs.SummaryAnswer.{IsAnswerFor, IsRunAnswer, IsScriptAnswer, IsSummaryAnswer, SummaryTold};
 
 use crate::summary::text::summary_by;

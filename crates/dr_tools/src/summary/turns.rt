@@ -1,5 +1,4 @@
-ghost use Rattle.std.specs.Prelude.{◌≡◌, ◌++◌, OnOk, string_bytes};
-ghost use Rattle.std.specs.List.{list_any};
+ghost use Rattle.std.specs.{List.list_any, Prelude.{◌≡◌, ◌++◌, OnOk, string_bytes}};
 ghost use Rattle.dr_entry.specs.declared.end.MemberEnd.{MemberEnd as MemberEndOf};
 ghost use Rattle.dr_tools.specs.Summary.{enough_text, is_spent, most_turns, some_spent, turns_in, turns_text};
 

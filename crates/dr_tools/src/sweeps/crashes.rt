@@ -1,6 +1,6 @@
 //! The crashes of a member at all points of a run at which it may crash.
-ghost use Rattle.std.specs.Prelude.{◌≡◌, ◌*◌, ◌+◌, ◌<◌, ◌≤◌, ◌++◌, All, IfOk, OnOk, length, map};
 ghost use Rattle.std.specs.List.{range_with_len};
+ghost use Rattle.std.specs.Prelude.{◌≡◌, ◌*◌, ◌+◌, ◌<◌, ◌≤◌, ◌++◌, All, IfOk, OnOk, length, map};
 ghost use Rattle.dr_ages.specs.Ages.{HaveSomebodyPrompt, all_with};
 ghost use Rattle.dr_script.specs.Ranges.{HasFaultRanges, HasRanges};
 ghost use Rattle.dr_tools.specs.Crashes.{AreCrashes, IsCounted, crash_at, crashes_by};

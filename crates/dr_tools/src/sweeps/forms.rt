@@ -1,6 +1,5 @@
 //! Which texts are outcomes.
-ghost use Rattle.std.specs.Prelude.{◌≡◌, ◌==◌, IfOk, Some, false, string_bytes};
-ghost use Rattle.std.specs.List.{list_all, slice_split};
+ghost use Rattle.std.specs.{List.{list_all, slice_split}, Prelude.{◌≡◌, ◌==◌, IfOk, Some, false, string_bytes}};
 ghost use Rattle.dr_literals.specs.Literals.{is_digit};
 ghost use Rattle.dr_tools.specs.OutcomeForms.{are_ages, are_ends, behind_word, is_end, is_last, is_numbered, is_outcome, without_blanks};
 

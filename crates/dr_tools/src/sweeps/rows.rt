@@ -1,8 +1,8 @@
 //! The table of outcomes.
-ghost use Rattle.std.specs.Prelude.{◌≡◌, ◌<◌, ◌-◌, ◌^◌, ◌++◌, All, OnOk, bytes_eq, option_copied, position, string_bytes};
 ghost use Rattle.std.specs.List.{flat_map};
-ghost use Rattle.dr_tools.specs.declared.sweeps.rows.Row.{Row as RowOf};
+ghost use Rattle.std.specs.Prelude.{◌≡◌, ◌<◌, ◌-◌, ◌^◌, ◌++◌, All, OnOk, bytes_eq, option_copied, position, string_bytes};
 ghost use Rattle.dr_tools.specs.Rows.{crash_text, first_text, heading, outcome_row, point_text, rows_text, with_run};
+ghost use Rattle.dr_tools.specs.declared.sweeps.rows.Row.{Row as RowOf};
 
 use crate::sweeps::variants::Variants;
 use dr_entry::Text;

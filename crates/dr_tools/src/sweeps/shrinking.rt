@@ -1,10 +1,8 @@
 ghost use Rattle.std.specs.Prelude.{◌≡◌, IfOk, MatchOption, string_bytes, true};
 ghost use Rattle.dr_json.specs.Json.{script_json};
 ghost use Rattle.dr_script.specs.Ranges.{HasRanges};
-ghost use Rattle.dr_tools.specs.Variants.{AreSound, variant, variants_in};
-ghost use Rattle.dr_tools.specs.Outcomes.{TextEndsSo};
-ghost use Rattle.dr_tools.specs.Parts.{kept_parts};
-ghost use Rattle.dr_tools.specs.Shrinking.{EndsSoWith, IsShrunk, IsSmaller, NoneEndsSo};
+ghost use Rattle.dr_tools.specs.{Outcomes.TextEndsSo, Shrinking.{EndsSoWith, IsShrunk, IsSmaller, NoneEndsSo}};
+ghost use Rattle.dr_tools.specs.{Parts.kept_parts, Variants.{AreSound, variant, variants_in}};
 
 use crate::sweeps::parts::{all_parts, with_parts};
 use crate::sweeps::runs::text_ends_so;

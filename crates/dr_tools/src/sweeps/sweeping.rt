@@ -1,8 +1,7 @@
 ghost use Rattle.std.specs.Prelude.{IfOk, string_bytes};
 ghost use Rattle.dr_ages.specs.Ages.{HaveSomebodyPrompt, all_with};
 ghost use Rattle.dr_script.specs.Ranges.{HasRanges};
-ghost use Rattle.dr_tools.specs.SweepAnswer.{IsSweep};
-ghost use Rattle.dr_tools.specs.Rows.{IsTally};
+ghost use Rattle.dr_tools.specs.{Rows.IsTally, SweepAnswer.IsSweep};
 ghost use Rattle.dr_tools.specs.Variants.{AreSound, first_variant, variant, variants_in};
 
 use crate::sweeps::rows::{Row, count_run, push_rows};

@@ -1,10 +1,8 @@
 ghost use Rattle.std.specs.Prelude.{◌≡◌, ◌⊎◌, ◌∷◌, [], IfOk, Contains, Some, string_bytes};
 ghost use Rattle.dr_ages.specs.Ages.{HaveSomebodyPrompt, all_with};
-ghost use Rattle.dr_script.specs.Ranges.{HasRanges};
-ghost use Rattle.dr_script.specs.Reading.{reading_of};
+ghost use Rattle.dr_script.specs.{Ranges.HasRanges, Reading.reading_of};
 ghost use Rattle.dr_tools.specs.SweepAnswer.{IsDone, IsSaidFor, IsSaidOfCrashes, IsSaidOfOutcome, IsSaidOfRuns, IsSaidOfVariants, IsShrinking, IsSweepAnswer, SaysFull, SweepTold, none_text};
-ghost use Rattle.dr_tools.specs.SweepWords.{AreFit};
-ghost use Rattle.dr_tools.specs.Variants.{AreSound};
+ghost use Rattle.dr_tools.specs.{SweepWords.AreFit, Variants.AreSound};
 
 use crate::sweeps::crashes::crashes_of;
 use crate::sweeps::forms::is_outcome;

@@ -1,8 +1,7 @@
 ghost use Rattle.std.specs.Prelude.{◌≡◌, ◌⊎◌, ◌∷◌, ◌++◌, ℕ, List, Option, Some, [], Contains};
 ghost use Rattle.dr_progress.specs.Progress.{IsQuiet};
 ghost use Rattle.dr_ages.specs.Ages.{HaveSomebodyPrompt, all_with};
-ghost use Rattle.dr_script.specs.Ranges.{HasRanges};
-ghost use Rattle.dr_script.specs.Reading.{reading_of};
+ghost use Rattle.dr_script.specs.{Ranges.HasRanges, Reading.reading_of};
 ghost use Rattle.dr_seeing.specs.Output.{HasTold};
 ghost use Rattle.dr_tools.specs.Trace.{IsTraceAnswer, IsRunTold, IsTraced, IsTracedFor, Wrote, WroteOne, end_status, picture_ending, trace_usage, traced_end_line};
 

@@ -1,5 +1,4 @@
-use Rattle.dr_turn_laws.proofs.Acts.{asks}
-use Rattle.dr_turn_laws.proofs.Turning.{takes_turn}
+use Rattle.dr_turn_laws.proofs.{Acts.asks, Turning.takes_turn}
 use Rattle.dr_turn_laws.proofs.a_turn_leaves_nothing_to_do.Goals as goal
 
 pub returns-clause-turned : goal.returns-clause-turned

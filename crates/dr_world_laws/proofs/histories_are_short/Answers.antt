@@ -1,5 +1,4 @@
-use Rattle.dr_world_laws.proofs.Rooms.{history-short, view-below}
-use Rattle.dr_world_laws.proofs.Worlds.{known}
+use Rattle.dr_world_laws.proofs.{Rooms.{history-short, view-below}, Worlds.known}
 use Rattle.dr_world_laws.proofs.histories_are_short.Goals as goal
 
 pub returns : goal.returns

@@ -1,5 +1,4 @@
-use Rattle.dr_world_laws.proofs.Messages.{valid_history}
-use Rattle.dr_world_laws.proofs.Worlds.{holds_messages, known}
+use Rattle.dr_world_laws.proofs.{Messages.valid_history, Worlds.{holds_messages, known}}
 use Rattle.dr_world_laws.proofs.histories_hold_messages.Goals as goal
 
 pub returns-clause-messages : goal.returns-clause-messages

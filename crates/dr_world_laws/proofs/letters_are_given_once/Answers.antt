@@ -1,7 +1,4 @@
-use Rattle.dr_world_laws.proofs.Joining.{letter-begins}
-use Rattle.dr_world_laws.proofs.Letters.{gives-once}
-use Rattle.dr_world_laws.proofs.Telling.{head-for}
-use Rattle.dr_world_laws.proofs.Worlds.{known}
+use Rattle.dr_world_laws.proofs.{Joining.letter-begins, Letters.gives-once, Telling.head-for, Worlds.known}
 use Rattle.dr_world_laws.proofs.letters_are_given_once.Goals as goal
 
 pub returns : goal.returns

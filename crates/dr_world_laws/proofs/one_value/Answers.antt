@@ -1,6 +1,5 @@
 use Rattle.dr_machine.proofs.Runs.{is_last, run_way}
-use Rattle.dr_world_laws.proofs.Telling.{majority-kept}
-use Rattle.dr_world_laws.proofs.Worlds.{commit_since, commits, known, same_ballot}
+use Rattle.dr_world_laws.proofs.{Telling.majority-kept, Worlds.{commit_since, commits, known, same_ballot}}
 use Rattle.dr_world_laws.proofs.one_value.Goals as goal
 
 pub returns : goal.returns

@@ -1,6 +1,5 @@
 use Rattle.std.proofs.Common.{subst}
-use Rattle.dr_world_laws.proofs.Leavings.{IsLeftSo}
-use Rattle.dr_world_laws.proofs.Worlds.{known, left_so}
+use Rattle.dr_world_laws.proofs.{Leavings.IsLeftSo, Worlds.{known, left_so}}
 use Rattle.dr_world_laws.proofs.suspicion_ends_members.Goals as goal
 
 pub returns : goal.returns

@@ -1,5 +1,4 @@
-use Rattle.dr_world_laws.proofs.Telling.{voted-covered}
-use Rattle.dr_world_laws.proofs.Worlds.{delivered_within, known}
+use Rattle.dr_world_laws.proofs.{Telling.voted-covered, Worlds.{delivered_within, known}}
 use Rattle.dr_world_laws.proofs.trim_covers.Goals as goal
 
 pub returns : goal.returns

@@ -1,5 +1,4 @@
-use Rattle.dr_world_laws.proofs.Telling.{voted-cut}
-use Rattle.dr_world_laws.proofs.Worlds.{known}
+use Rattle.dr_world_laws.proofs.{Telling.voted-cut, Worlds.known}
 use Rattle.dr_world_laws.proofs.values_are_cuts.Goals as goal
 
 pub returns : goal.returns

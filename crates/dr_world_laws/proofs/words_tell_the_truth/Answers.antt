@@ -1,8 +1,7 @@
 use Rattle.std.proofs.Common.{subst}
 use Rattle.dr_faithful.specs.Chosen.{views_by}
 use Rattle.dr_vote_laws.specs.Moments.{AcceptsOfMoments}
-use Rattle.dr_world_laws.proofs.HeldViews.{view-is}
-use Rattle.dr_world_laws.proofs.Telling.{moments-by, votes-by, words-by}
+use Rattle.dr_world_laws.proofs.{HeldViews.view-is, Telling.{moments-by, votes-by, words-by}}
 use Rattle.dr_world_laws.proofs.Worlds.{known, known_way, no_later, told, waits}
 use Rattle.dr_world_laws.proofs.words_tell_the_truth.Goals as goal
 

@@ -1,6 +1,5 @@
-use Rattle.std.proofs.Common.{◌∙◌, subst, sym, List, Option, refl}
-use Rattle.std.proofs.lemmas.List.{with_items_is}
-use Rattle.dr_age.specs.Logged.{AreOpened}
+use Rattle.std.proofs.{Common.{◌∙◌, subst, sym, List, Option, refl}, lemmas.List.with_items_is}
+use Rattle.dr_play.specs.Logged.{AreOpened}
 use Rattle.dr_log.specs.State.{LogState}
 use Rattle.dr_restart.specs.Groups.{group_of}
 use Rattle.dr_ages.specs.declared.mode.Mode.TheVariants.{Sim, Run}

@@ -1,40 +1,24 @@
+use Rattle.std.{specs.Prelude.OnErr, proofs.lemmas.List.with_items_is}
 use Rattle.std.proofs.Common.{◌≡◌, ◌<◌, ◌∙◌, refl, sym, ap, subst, inr, length, ℕ, List, [], ◌∷◌, Option}
-use Rattle.std.specs.Prelude.{OnErr}
-use Rattle.std.proofs.lemmas.List.{with_items_is}
-use Rattle.dr_age.specs.Age.{IsAgeOn}
-use Rattle.dr_age.specs.Logged.{AreAsBefore, AreCalm, AreOpened}
+use Rattle.dr_play.specs.{Age.IsAgeOn, Logged.{AreAsBefore, AreCalm, AreOpened}}
 use Rattle.dr_entry.proofs.OptionFacts.{err_at, ok_at}
 use Rattle.dr_log.specs.State.{LogState}
-use Rattle.dr_logged.specs.Served.{HaveSamePlaces}
-use Rattle.dr_opening.specs.Lists.{SomebodyPrompt, contents_of, log_of}
-use Rattle.dr_opening.specs.Logs.{WereOpened}
-use Rattle.dr_opening.specs.Tries.{IsChosenOf}
-use Rattle.dr_opening.specs.Unopened.{IsWhyUnopened}
-use Rattle.dr_restart.specs.declared.start.Start.{Start}
-use Rattle.dr_restart.specs.Groups.{first_group_of, group_of}
+use Rattle.dr_served.{specs.Served.HaveSamePlaces, proofs.Served.places_both}
+use Rattle.dr_opening.specs.{Lists.{SomebodyPrompt, contents_of, log_of}, Logs.WereOpened, Tries.IsChosenOf}
+use Rattle.dr_opening.{specs.Unopened.IsWhyUnopened, proofs.{Lists.contents_there, Logs.{opened_places, why_places}}}
+use Rattle.dr_restart.specs.{Groups.{first_group_of, group_of}, declared.start.Start.Start}
 use Rattle.dr_yard.specs.Yards.{YardState}
-use Rattle.dr_logged.proofs.Served.{places_both}
-use Rattle.dr_opening.proofs.Lists.{contents_there}
-use Rattle.dr_opening.proofs.Logs.{opened_places, why_places}
-use Rattle.dr_ages.specs.declared.mode.Mode.TheVariants.{Sim}
-use Rattle.dr_ages.specs.Ages.{IsPlayed}
-use Rattle.dr_ages.specs.Lent.{AreMounted}
-use Rattle.dr_ages.specs.Opened.{AreLater, HaveGoneOn}
-use Rattle.dr_ages.specs.Watched.{HasSeen}
-use Rattle.dr_ages.proofs.Lacking.{lacked_age, lacked_opening}
+use Rattle.dr_ages.specs.{Ages.IsPlayed, Lent.AreMounted, Opened.{AreLater, HaveGoneOn}, Watched.HasSeen}
+use Rattle.dr_ages.{specs.declared.mode.Mode.TheVariants.Sim, proofs.Lacking.{lacked_age, lacked_opening}}
 use Rattle.dr_ages.proofs.Opening.{are_opened, gone_on, opened_on}
-use Rattle.dr_ages.proofs.Played.{is_age, later_on, same_start, somebody_prompt}
-use Rattle.dr_ages.proofs.Staying.{later_by_all}
-use Rattle.dr_ages.proofs.Stopping.{IsOpeningOn, why_behind, why_names, why_stops}
-use Rattle.dr_ages.proofs.Tried.{why_tried}
-use Rattle.dr_ages.proofs.ages.run_over.Given.{Over}
-use Rattle.dr_ages.proofs.ages.run_over.Goals.{After-of_unopened, After-play_age-ended}
+use Rattle.dr_ages.proofs.{Played.{is_age, later_on, same_start, somebody_prompt}, Staying.later_by_all}
+use Rattle.dr_ages.proofs.{Stopping.{IsOpeningOn, why_behind, why_names, why_stops}, Tried.why_tried}
+use Rattle.dr_ages.proofs.ages.run_over.{Given.Over, Goals.{After-of_unopened, After-play_age-ended}}
 use Rattle.dr_ages.proofs.ages.run_over.Goals as goal
 
 pub open_age-requires-clause-whole : goal.open_age-requires-clause-whole
-open_age-requires-clause-whole g c κs h m log at =
-    c.requires.whole m log (ap (λ (l : List (Option (LogState g.row.D.Denot))). log_of l m)
-    (sym c.as_mut_slice.ensures.value) ∙ at)
+open_age-requires-clause-whole g c κs h m log at = c.requires.whole m log
+    (ap (λ (l : List (Option (LogState g.row.D.Denot))). log_of l m) (sym c.as_mut_slice.ensures.value) ∙ at)
 
 -- the logs of which the age opens are those that came
 abbrev Logs : Over → Type 0
@@ -69,8 +53,7 @@ why g c = subst (λ (l : Logs g).
     c.as_mut_slice.ensures.value c.in-Err.ensures.why
 
 -- there are as many behind it
-as_many : (g : Over) (c : After-of_unopened g)
-    → length c.open_age.new.logs ≡ length c.as_mut_slice.result.now
+as_many : (g : Over) (c : After-of_unopened g) → length c.open_age.new.logs ≡ length c.as_mut_slice.result.now
 as_many g c = (why_places g.D.Disk.told g.D.Disk.faults c.args.script.now c.args.part.now.late c.as_mut_slice.result.now
     c.open_age.new.logs c.in-Err.why c.in-Err.ensures.why).all
 
@@ -84,10 +67,9 @@ returns-in-Err-clause-stopped g c before mounted =
 pub returns-in-Err-clause-lacked : goal.returns-in-Err-clause-lacked
 returns-in-Err-clause-lacked g c before mounted same =
     let items = with_items_is c.args.logs c.open_age.new.logs (as_many g c ∙ c.as_mut_slice.ensures.len) in
-    rw items
-    (lacked_opening g.D.Disk.told g.D.Disk.faults c.args.script.now c.args.part.now c.args.mode before
-    c.args.logs.items c.open_age.new.logs c.in-Err.why c.requires.all mounted c.requires.places (why g c)
-    (sym c.of_unopened.ensures ∙ same))
+    rw items (lacked_opening g.D.Disk.told g.D.Disk.faults c.args.script.now c.args.part.now c.args.mode before
+    c.args.logs.items c.open_age.new.logs c.in-Err.why c.requires.all mounted c.requires.places
+    (why g c) (sym c.of_unopened.ensures ∙ same))
 
 pub returns-in-Err-clause-names : goal.returns-in-Err-clause-names
 returns-in-Err-clause-names g c before mounted =
@@ -123,14 +105,12 @@ returns-in-Err-clause-tried g c before mounted tell unlike =
 -- the start was chosen of the logs that came, and the age opened on them
 chosen : (g : Over) (c : After-play_age-ended g)
     → IsChosenOf (first_group_of c.args.script.now).opening (contents_of c.args.logs.items) c.in-Ok.start
-chosen g c = subst (λ (l : Logs g).
-    IsChosenOf (first_group_of c.args.script.now).opening (contents_of l) c.in-Ok.start)
-    c.as_mut_slice.ensures.value c.in-Ok.ensures.chosen
+chosen g c = subst (λ (l : Logs g). IsChosenOf (first_group_of c.args.script.now).opening
+    (contents_of l) c.in-Ok.start) c.as_mut_slice.ensures.value c.in-Ok.ensures.chosen
 
 began : (g : Over) (c : After-play_age-ended g)
     → WereOpened g.D.Disk.told g.D.Disk.faults c.in-Ok.start c.args.logs.items c.open_age.new.logs
-began g c = subst (λ (l : Logs g).
-    WereOpened g.D.Disk.told g.D.Disk.faults c.in-Ok.start l c.open_age.new.logs)
+began g c = subst (λ (l : Logs g). WereOpened g.D.Disk.told g.D.Disk.faults c.in-Ok.start l c.open_age.new.logs)
     c.as_mut_slice.ensures.value c.in-Ok.ensures.opened
 
 -- as many logs came of it
@@ -235,9 +215,8 @@ returns-clause-lacked g c before mounted same =
     let news : Logs g = c.play_age-ended.result.1.items in
     let a = (goal.at.returns-clause-lacked g c).After-play_age-ended in
     let items = with_items_is c.args.logs mids (same_logs g a ∙ c.as_mut_slice.ensures.len) in
-    lacked_age told faults script c.args.part.now c.args.mode before start olds mids news
-    (on g a before mounted) (began g a)
-    (subst (λ (l : Logs g). AreLater told faults [] l news) items c.play_age-ended.ensures.later)
+    lacked_age told faults script c.args.part.now c.args.mode before start olds mids news (on g a before mounted)
+    (began g a) (subst (λ (l : Logs g). AreLater told faults [] l news) items c.play_age-ended.ensures.later)
     (subst (λ (l : Logs g). HaveSamePlaces l news) items c.play_age-ended.ensures.places)
     (err_at _ c.play_age-ended.result.0 _ c.in-Err-ended.is
     (subst (λ (l : Logs g). OnErr c.play_age-ended.result.0 (c.args.mode ≡ Sim

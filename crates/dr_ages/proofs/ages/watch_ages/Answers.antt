@@ -1,16 +1,9 @@
+use Rattle.std.{specs.Prelude.{None, Some}, proofs.lemmas.Option.same_Some}
 use Rattle.std.proofs.Common.{◌≡◌, ◌∙◌, refl, sym, ap, subst, arith, rules, List, [], ◌∷◌, ◌++◌, length, length-append}
-use Rattle.std.specs.Prelude.{None, Some}
-use Rattle.std.proofs.lemmas.Option.{same_Some}
 use Rattle.dr_entry.specs.declared.end.AgeEnd.{AgeEnd}
 use Rattle.dr_yard.specs.Yards.{YardState, state_by}
-use Rattle.dr_ages.specs.declared.stop.Stop.TheVariants.{OutOfMemory}
-use Rattle.dr_ages.specs.Ages.{AreAges}
-use Rattle.dr_ages.specs.Runs.{IsRunOf}
-use Rattle.dr_ages.specs.Watched.{AreWatched}
-use Rattle.dr_ages.proofs.Chain.{ages_more, none_kept}
-use Rattle.dr_ages.proofs.Lacking.{lacked_first}
-use Rattle.dr_ages.proofs.Runs.{a_run}
-use Rattle.dr_ages.proofs.Watching.{watched_more}
+use Rattle.dr_ages.specs.{Ages.AreAges, Runs.IsRunOf, Watched.AreWatched, declared.stop.Stop.TheVariants.OutOfMemory}
+use Rattle.dr_ages.proofs.{Chain.{ages_more, none_kept}, Lacking.lacked_first, Runs.a_run, Watching.watched_more}
 use Rattle.dr_ages.proofs.ages.watch_ages.Goals as goal
 
 pub loop-nth-preserved : goal.loop-nth-preserved
@@ -41,8 +34,7 @@ returns-in_default-clause-run g c =
     let part = c.args.part.now in
     let before : YardState = state_by g.Y.Yard.told g.Y.Yard.faults c.args.yard.now in
     let kept = none_kept c.args.script.now part.missing before c.requires.ranges.group.some_member in
-    subst (λ (ages : List AgeEnd).
-    IsRunOf c.args.script.now part c.args.mode before before ages (Some OutOfMemory))
+    subst (λ (ages : List AgeEnd). IsRunOf c.args.script.now part c.args.mode before before ages (Some OutOfMemory))
     (sym (c.of.ensures ∙ c.new.ensures.items))
     (a_run c.args.script.now part c.args.mode before [] before before (Some OutOfMemory) kept.starts
     c.requires.ranges refl (omega (arith, c.requires.ranges.some_age), tt, kept.chosen, kept.passes, tt) (kept, refl)
@@ -55,18 +47,15 @@ returns-in-Err-clause-run g c =
     let before : YardState = state_by g.Y.Yard.told g.Y.Yard.faults c.args.yard.now in
     let last : YardState = state_by g.Y.Yard.told g.Y.Yard.faults c.loop-nth.yard in
     let after : YardState = state_by g.Y.Yard.told g.Y.Yard.faults c.run_age.new.yard in
-    subst (λ (ages : List AgeEnd).
-    IsRunOf c.args.script.now part c.args.mode before after ages (Some c.in-Err.stop))
-    (sym c.of-in-Err.ensures)
-    (a_run c.args.script.now part c.args.mode before c.loop-nth.ages.items last after (Some c.in-Err.stop)
-    c.in-Err.ensures.kept.starts c.requires.ranges c.loop-nth.invariant.3 (
+    subst (λ (ages : List AgeEnd). IsRunOf c.args.script.now part c.args.mode before after ages (Some c.in-Err.stop))
+    (sym c.of-in-Err.ensures) (a_run c.args.script.now part c.args.mode before c.loop-nth.ages.items last after
+    (Some c.in-Err.stop) c.in-Err.ensures.kept.starts c.requires.ranges c.loop-nth.invariant.3 (
       omega (arith, c.loop-nth.invariant.0, c.loop-nth-test.true),
       c.in-Err.ensures.stopped,
       c.in-Err.ensures.kept.chosen,
       c.in-Err.ensures.kept.passes,
       c.in-Err.ensures.names,
-    )
-    (c.in-Err.ensures.kept, refl) c.in-Err.ensures.tried
+    ) (c.in-Err.ensures.kept, refl) c.in-Err.ensures.tried
     (λ same. c.in-Err.ensures.lacked (same_Some c.in-Err.stop OutOfMemory same)))
 
 pub returns-clause-run : goal.returns-clause-run

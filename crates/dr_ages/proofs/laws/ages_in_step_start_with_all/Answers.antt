@@ -1,6 +1,4 @@
-use Rattle.dr_ages.specs.Ages.{start_of}
-use Rattle.dr_ages.proofs.InStep.{step_good, whole_front}
-use Rattle.dr_ages.proofs.Good.{found_whole}
+use Rattle.dr_ages.{specs.Ages.start_of, proofs.{Good.found_whole, InStep.{step_good, whole_front}}}
 use Rattle.dr_ages.proofs.laws.ages_in_step_start_with_all.Goals as goal
 
 pub returns : goal.returns

@@ -1,5 +1,4 @@
-use Rattle.dr_ages.proofs.Lasting.{crashed_lasting}
-use Rattle.dr_ages.proofs.Outliving.{run_begins, run_durable, run_lasting, run_since}
+use Rattle.dr_ages.proofs.{Lasting.crashed_lasting, Outliving.{run_begins, run_durable, run_lasting, run_since}}
 use Rattle.dr_ages.proofs.laws.durable_entries_outlive_runs.Goals as goal
 
 pub returns-clause-lasts : goal.returns-clause-lasts

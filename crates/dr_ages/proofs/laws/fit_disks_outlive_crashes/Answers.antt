@@ -1,6 +1,5 @@
 use Rattle.std.proofs.Common.{[]}
-use Rattle.dr_ages.proofs.InStep.{blank_step, crashed_step}
-use Rattle.dr_ages.proofs.Lasting.{blank_fit, crashed_lasting}
+use Rattle.dr_ages.proofs.{InStep.{blank_step, crashed_step}, Lasting.{blank_fit, crashed_lasting}}
 use Rattle.dr_ages.proofs.laws.fit_disks_outlive_crashes.Goals as goal
 
 pub returns-clause-begins : goal.returns-clause-begins

@@ -1,7 +1,6 @@
 use Rattle.std.proofs.Common.{refl, ◌∷◌, ◌++◌, []}
 use Rattle.dr_ages.proofs.Crashes.{logged_begins, logged_goes_on, told_before}
-use Rattle.dr_ages.proofs.Lasting.{last_over_fit, readable_tell}
-use Rattle.dr_ages.proofs.Outliving.{ended_so, run_lasting}
+use Rattle.dr_ages.proofs.{Lasting.{last_over_fit, readable_tell}, Outliving.{ended_so, run_lasting}}
 use Rattle.dr_ages.proofs.laws.runs_outlive_crashes.Goals as goal
 
 pub returns-clause-in_step : goal.returns-clause-in_step

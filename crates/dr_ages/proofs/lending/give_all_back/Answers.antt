@@ -1,12 +1,10 @@
+use Rattle.std.specs.{Option.option_map_or, Prelude.{Option, is_some}}
 use Rattle.std.proofs.Common.{◌≡◌, ◌∙◌, refl, sym, ap, subst, rules, ℕ, ◌+◌, false, arith, List, [], ◌∷◌, ◌++◌, length, length-append}
-use Rattle.std.specs.Prelude.{Option, is_some}
-use Rattle.std.specs.Option.{option_map_or}
 use Rattle.dr_log.specs.State.{LogState}
 use Rattle.dr_opening.specs.Lists.{log_of}
 use Rattle.dr_yard.specs.Yards.{state_by}
 use Rattle.dr_program.proofs.Present.{place_new}
-use Rattle.dr_ages.proofs.Backs.{one_more_back}
-use Rattle.dr_ages.proofs.Loans.{lent_less}
+use Rattle.dr_ages.proofs.{Backs.one_more_back, Loans.lent_less}
 use Rattle.dr_ages.proofs.lending.give_all_back.Goals as goal
 
 pub loop-place-preserved-in-Some-place : goal.loop-place-preserved-in-Some-place
@@ -48,24 +46,20 @@ loop-place-preserved g c =
     let parts : c.loop-place.logs.items ≡ rest ++ place ∷ [] = search rules in
     let k : ℕ = length rest in
     let long : length c.loop-place.logs.items ≡ k + 1 = ap length parts ∙ length-append rest (place ∷ []) in
-    let here : g.Y.Yard.is_lent yard k ≡ false =
-    c.loop-place.invariant.0.lent k (omega (arith, c.loop-place.invariant.0.few, long))
-    ∙ ap (λ (o : Option (LogState D)). is_some o)
-    (ap (λ (xs : List (Option (LogState D))). log_of xs k) parts
+    let here : g.Y.Yard.is_lent yard k ≡ false = c.loop-place.invariant.0.lent k
+    (omega (arith, c.loop-place.invariant.0.few, long))
+    ∙ ap (λ (o : Option (LogState D)). is_some o) (ap (λ (xs : List (Option (LogState D))). log_of xs k) parts
     ∙ (place_new rest place k refl ∙ c.in_default-place.is)) in (
       lent_less g.Y.Yard.is_lent g.Y.Yard.faults g.Y.Store.Disk.faults yard yard c.loop-place.logs.items rest
           place c.loop-place.invariant.0 parts here (λ m apart. (refl, refl)),
       one_more_back g.Y.Store.Disk.told g.Y.Store.Disk.faults
           (state_by g.Y.Yard.told g.Y.Yard.faults c.args.yard.now) c.args.logs.items
           (state_by g.Y.Yard.told g.Y.Yard.faults yard) (state_by g.Y.Yard.told g.Y.Yard.faults yard)
-          c.loop-place.logs.items rest place c.loop-place.invariant.1 parts
-          (ap (λ (o : Option (LogState D)).
+          c.loop-place.logs.items rest place c.loop-place.invariant.1 parts (ap (λ (o : Option (LogState D)).
           option_map_or (λ (log : LogState D). g.Y.Store.Disk.told log.disk) o (g.Y.Yard.told yard k))
-          (sym c.in_default-place.is))
-          (ap (λ (o : Option (LogState D)).
+          (sym c.in_default-place.is)) (ap (λ (o : Option (LogState D)).
           option_map_or (λ (log : LogState D). g.Y.Store.Disk.faults log.disk) o (g.Y.Yard.faults yard k))
-          (sym c.in_default-place.is))
-          (λ m apart. (refl, refl)),
+          (sym c.in_default-place.is)) (λ m apart. (refl, refl)),
     )
 
 pub returns-clause-back : goal.returns-clause-back

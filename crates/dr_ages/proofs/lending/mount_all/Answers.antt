@@ -1,15 +1,12 @@
+use Rattle.std.{specs.Prelude.{Err, IfSome, Option, None}, proofs.lemmas.Bool.{cases_eq, cases_lt}}
 use Rattle.std.proofs.Common.{◌≡◌, ◌∙◌, sym, ap, subst, inl, inr, ⊎_elim, arith, rules, ℕ, ◌<◌, ◌≤◌, List, [], ◌∷◌, ◌++◌, length, length-append}
-use Rattle.std.proofs.lemmas.Bool.{cases_eq, cases_lt}
-use Rattle.std.specs.Prelude.{Err, IfSome, Option, None}
 use Rattle.dr_disk.specs.Disk.{Told}
 use Rattle.dr_history.specs.Members.{has}
 use Rattle.dr_log.specs.State.{LogState}
 use Rattle.dr_opening.specs.Lists.{log_of}
 use Rattle.dr_yard.specs.Yards.{YardState, state_by}
-use Rattle.dr_ages.specs.Lent.{AreAllBut, AreLent, AreMounted, IsAlike, IsMounted}
-use Rattle.dr_ages.specs.Passing.{AreUntouched}
-use Rattle.dr_ages.proofs.Backs.{missing_at}
-use Rattle.dr_ages.proofs.Loans.{all_but_more, lent_more, mounted_more, were_refused}
+use Rattle.dr_ages.specs.{Lent.{AreAllBut, AreLent, AreMounted, IsAlike, IsMounted}, Passing.AreUntouched}
+use Rattle.dr_ages.proofs.{Backs.missing_at, Loans.{all_but_more, lent_more, mounted_more, were_refused}}
 use Rattle.dr_ages.proofs.Staying.{alike_same}
 use Rattle.dr_ages.proofs.lending.mount_all.Goals as goal
 
@@ -20,14 +17,12 @@ still : {D : Type 0} (missing k : ℕ) (before mid : YardState) (logs : List (Op
     → log_of logs m ≡ None → (mid.told m ≡ before.told m) × (mid.faults m ≡ before.faults m)
 still missing k before mid logs m but untouched at rest none = ⊎_elim
     (λ (l : m < length logs). untouched m (missing_at missing logs m but l none))
-    (λ (past : length logs ≤ m). rest m (omega (arith, past, at)))
-    (cases_lt m (length logs))
+    (λ (past : length logs ≤ m). rest m (omega (arith, past, at))) (cases_lt m (length logs))
 
 -- what is known of a place is known of it where its disk was as at first
 placed : {D : Type 0} (tells : D → Option Told) (faults : D → ℕ) (told told_then : Option Told)
     (count count_then : ℕ) (place : Option (LogState D)) → told ≡ told_then → count ≡ count_then
-    → IfSome place (IsMounted tells faults told count)
-    → IfSome place (IsMounted tells faults told_then count_then)
+    → IfSome place (IsMounted tells faults told count) → IfSome place (IsMounted tells faults told_then count_then)
 placed {D} tells faults told told_then count count_then place same same_count is =
     subst (λ (o : Option Told). IfSome place (IsMounted tells faults o count_then)) same
     (subst (λ (n : ℕ). IfSome place (IsMounted tells faults told n)) same_count is)
@@ -58,8 +53,7 @@ loop-member-preserved g c =
           (g.Y.Yard.faults c.loop-member.yard k) (before.faults k) place same.0 same.1 is.mounted)),
       λ m past.
           let o = is.others m (λ e. absurd (omega (arith, past, e))) in
-          let s = i.4 m (omega (arith, past)) in
-          (o.0 ∙ s.0, o.2 ∙ s.1),
+          let s = i.4 m (omega (arith, past)) in (o.0 ∙ s.0, o.2 ∙ s.1),
       subst (λ (l : List (Option (LogState D))). AreAllBut c.args.part.now.missing l) (sym items)
           (all_but_more c.args.part.now.missing logs place k i.5 i.0 is.there),
       λ m gone. elim (cases_eq m k) [
@@ -72,8 +66,7 @@ loop-member-preserved g c =
             )
         | inr apart ↦
             let o = is.others m apart in
-            let s = i.6 m gone in
-            (o.0 ∙ s.0, o.2 ∙ s.1)
+            let s = i.6 m gone in (o.0 ∙ s.0, o.2 ∙ s.1)
       ],
     )
 
@@ -87,12 +80,10 @@ returns-in_err-place-clause-stopped g c =
     let answer : c.from_residual.result ≡ Err c.in_err-place.field-0.0 = search rules in
     rw answer (were_refused g.Y.Store.Disk.told g.Y.Store.Disk.faults c.args.part.now.missing c.args.members k before
     (state_by g.Y.Yard.told g.Y.Yard.faults c.loop-member.yard) after c.loop-member.logs.items
-    c.in_err-place.field-0.0 (omega (arith, c.loop-member-test.true)) c.in_err-place.ensures.refused i.3 i.5 i.0
-    same.0 same.1
-    (λ j l.
+    c.in_err-place.field-0.0
+    (omega (arith, c.loop-member-test.true)) c.in_err-place.ensures.refused i.3 i.5 i.0 same.0 same.1 (λ j l.
     let o = c.in_err-place.ensures.others j (λ e. absurd (omega (arith, l, e))) in
-    let s = i.4 j (omega (arith, l)) in
-    (o.0 ∙ s.0, o.2 ∙ s.1)) c.in_err-place.ensures.stopped)
+    let s = i.4 j (omega (arith, l)) in (o.0 ∙ s.0, o.2 ∙ s.1)) c.in_err-place.ensures.stopped)
 
 pub returns-clause-on : goal.returns-clause-on
 returns-clause-on g c m none =
@@ -115,8 +106,7 @@ returns-in_err-place-clause-on g c m none =
     let same = still c.args.part.now.missing k (state_by told faults old) (state_by told faults mid)
     c.loop-member.logs.items m i.5 i.6 i.0 i.4 none in
     elim (cases_eq m k) [
-      | inl at ↦
-          subst (λ (o : Option Told). IsAlike o (faults old m) (told new m) (faults new m)) same.0
+      | inl at ↦ subst (λ (o : Option Told). IsAlike o (faults old m) (told new m) (faults new m)) same.0
           (subst (λ (n : ℕ). IsAlike (told mid m) n (told new m) (faults new m)) same.1
           (subst (λ (j : ℕ). IsAlike (told mid j) (faults mid j) (told new j) (faults new j)) (sym at)
           c.in_err-place.ensures.on))

@@ -1,5 +1,4 @@
-use Rattle.std.proofs.Common.{sym, arith}
-use Rattle.std.proofs.lemmas.List.{length-take-le}
+use Rattle.std.proofs.{Common.{sym, arith}, lemmas.List.length-take-le}
 use Rattle.dr_machine.proofs.Runs.{events_reached}
 use Rattle.dr_world_laws.proofs.Worlds.{durable_delivered}
 use Rattle.dr_world.specs.Held.{its_group, its_world}

@@ -1,9 +1,6 @@
-use Rattle.std.proofs.Common.{take, refl, arith, below_more}
-use Rattle.std.proofs.lemmas.Bool.{false≢true}
+use Rattle.std.proofs.{Common.{take, refl, arith, below_more}, lemmas.Bool.{false≢true}}
 use Rattle.dr_history.specs.History.{IsPrefixOf}
-use Rattle.dr_machine.proofs.Presence.{in_roster}
-use Rattle.dr_machine.specs.Group.{IsPresent}
-use Rattle.dr_machine.specs.World.{World}
+use Rattle.dr_machine.{specs.{Group.IsPresent, World.World}, proofs.Presence.in_roster}
 use Rattle.dr_world.specs.Held.{its_group, its_world}
 use Rattle.dr_agree.proofs.keeping.has_durable.Goals as goal
 

@@ -14,7 +14,6 @@ returns-else-is_delivered c =
         kept.delivered.0,
         kept.delivered.1,
         subst (λ (es : List Entry).
-            IsPrefixOf es ((its_world c.args.before.now).past.history kept.delivered.0)) (sym same)
-            kept.delivered.2,
+            IsPrefixOf es ((its_world c.args.before.now).past.history kept.delivered.0)) (sym same) kept.delivered.2,
       ),
     )

@@ -1,9 +1,8 @@
 use Rattle.std.proofs.Common.{arith}
 use Rattle.dr_history_laws.proofs.Keeping.{longest_keeps}
 use Rattle.dr_machine.specs.Run.{accounts_in}
-use Rattle.dr_restart.specs.Groups.{group_of}
+use Rattle.dr_restart.specs.{Groups.group_of, Left.entries_on_logs}
 use Rattle.dr_world_laws.proofs.Worlds.{agreed, known}
-use Rattle.dr_restart.specs.Left.{entries_on_logs}
 use Rattle.dr_agree.proofs.keeping.kept_wherever_reached.Goals as goal
 
 pub returns : goal.returns

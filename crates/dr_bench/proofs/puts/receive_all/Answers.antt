@@ -1,8 +1,7 @@
 use Rattle.std.proofs.Common.{◌<◌, rules, arith}
 use Rattle.dr_words.specs.Form.{IsInForm}
-use Rattle.dr_bench.proofs.Items.{received_one}
+use Rattle.dr_bench.proofs.{Items.received_one, puts.receive_all.Goals.{then-row-ne-ME, else-row-ne-ME}}
 use Rattle.dr_bench.proofs.puts.receive_all.Goals as goal
-use Rattle.dr_bench.proofs.puts.receive_all.Goals.{then-row-ne-ME, else-row-ne-ME}
 
 pub loop-row-preserved : goal.loop-row-preserved
 loop-row-preserved c =

@@ -1,7 +1,5 @@
-use Rattle.std.specs.Prelude.{IfSome, Option}
-use Rattle.std.proofs.Common.{◌≡◌, Some, None, slice_get, sym, subst, refl, arith}
-use Rattle.std.proofs.lemmas.Grind.{common_steps}
-use Rattle.std.proofs.lemmas.Option.{gets}
+use Rattle.std.{specs.Prelude.{IfSome, Option}, proofs.Common.{◌≡◌, Some, None, slice_get, sym, subst, refl, arith}}
+use Rattle.std.proofs.lemmas.{Grind.common_steps, Option.gets}
 use Rattle.dr_entry.specs.declared.entry.Entry.{Entry}
 use Rattle.dr_check.proofs.entries.has_same.Goals as goal
 
@@ -12,8 +10,7 @@ returns-in-Some c =
       λ t there. subst (λ (r : Option Entry). IfSome r (λ x. x ≡ c.args.entry.now)) (sym here)
           (c.is_same.ensures.0 t),
       λ all. c.is_same.ensures.1
-          (subst (λ (r : Option Entry). IfSome r (λ x. x ≡ c.args.entry.now)) here
-          (all c.if-not-member.false)),
+          (subst (λ (r : Option Entry). IfSome r (λ x. x ≡ c.args.entry.now)) here (all c.if-not-member.false)),
     )
 
 pub returns-in-None : goal.returns-in-None

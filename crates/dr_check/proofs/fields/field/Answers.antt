@@ -1,6 +1,5 @@
 use Rattle.std.proofs.Common.{◌≡◌, ◌-◌, ◌+◌, suc, sym, ap, ◌∙◌, arith, drop}
-use Rattle.dr_check.specs.Fields.{field}
-use Rattle.dr_check.proofs.Splitting.{field_behind, field_first}
+use Rattle.dr_check.{specs.Fields.field, proofs.Splitting.{field_behind, field_first}}
 use Rattle.dr_check.proofs.fields.field.Goals as goal
 
 pub loop-left-preserved : goal.loop-left-preserved

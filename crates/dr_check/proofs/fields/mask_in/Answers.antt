@@ -1,13 +1,10 @@
-use Rattle.std.proofs.Common.{◌≡◌, ◌+◌, ◌<◌, ◌==◌, sym, ap, ◌∙◌, arith, All, List, ℕ, [], ◌∷◌, length, take, drop}
 use Rattle.std.specs.List.{position_or_len}
-use Rattle.std.proofs.lemmas.Bool.{eqb-true, false≢true}
-use Rattle.std.proofs.lemmas.List.Elements.{All-head, All-tail, Contains-get_or}
-use Rattle.dr_entry.proofs.Bits.{joined_none}
-use Rattle.dr_entry.proofs.ListFacts.{number_first, joined}
+use Rattle.std.proofs.Common.{◌≡◌, ◌+◌, ◌<◌, ◌==◌, sym, ap, ◌∙◌, arith, All, List, ℕ, [], ◌∷◌, length, take, drop}
+use Rattle.std.proofs.lemmas.{Bool.{eqb-true, false≢true}, List.Elements.{All-head, All-tail, Contains-get_or}}
+use Rattle.dr_entry.proofs.{Bits.joined_none, ListFacts.{number_first, joined}}
 use Rattle.dr_history.specs.Members.{members_of}
 use Rattle.dr_history_laws.proofs.Members.{members_of-lt}
-use Rattle.dr_words.specs.Masks.{with_member}
-use Rattle.dr_words.proofs.Masks.{with_all, with_all_members}
+use Rattle.dr_words.{specs.Masks.with_member, proofs.Masks.{with_all, with_all_members}}
 use Rattle.dr_check.proofs.fields.mask_in.Goals as goal
 
 pub loop-rest-init : goal.loop-rest-init
@@ -16,8 +13,7 @@ loop-rest-init c ms low is = (ms, low, is, ap (λ (m : ℕ). with_all m ms) c.em
 pub loop-rest-preserved : goal.loop-rest-preserved
 loop-rest-preserved c ms low is =
     let old = c.loop-rest.invariant ms low is in
-    let rest = c.loop-rest.rest.now in
-    by old.0 old.1 old.2 old.3
+    let rest = c.loop-rest.rest.now in by old.0 old.1 old.2 old.3
   where
     Goal : Type 0
     Goal = (ys : List ℕ) × All (λ m. m < 16) ys × (c.behind_field-rest.result.now ≡ joined ys)
@@ -30,8 +26,7 @@ loop-rest-preserved c ms low is =
     by (y ∷ zs) small same all =
         let less = All-head (λ m. m < 16) y zs small in
         let parts = number_first y zs less in
-        let n : c.first_number.result ≡ y =
-        c.first_number.ensures y (omega (arith, less))
+        let n : c.first_number.result ≡ y = c.first_number.ensures y (omega (arith, less))
         (ap (λ t. take (position_or_len (λ b. b == 44) t) t) same ∙ parts.0) in
         let mask : c.with_number-mask.result ≡ with_member c.loop-rest.mask y =
         c.with_number-mask.ensures (omega (arith, n, less)) ∙ ap (with_member c.loop-rest.mask) n in (

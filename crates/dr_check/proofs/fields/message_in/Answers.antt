@@ -1,7 +1,5 @@
-use Rattle.std.proofs.Common.{◌≡◌, ◌⊎◌, inl, inr, ap, ◌∙◌, arith, length, Err}
-use Rattle.std.proofs.lemmas.Bool.Decides.{not_from_Decides}
-use Rattle.hex.specs.Hex.{decode_of}
-use Rattle.hex.specs.declared.error.FromHexError.TheVariants.{OutOfMemory}
+use Rattle.std.proofs.{Common.{◌≡◌, ◌⊎◌, inl, inr, ap, ◌∙◌, arith, length, Err}, lemmas.Bool.Decides.not_from_Decides}
+use Rattle.hex.specs.{Hex.decode_of, declared.error.FromHexError.TheVariants.OutOfMemory}
 use Rattle.dr_text.proofs.Hex.{err_message, ok_message}
 use Rattle.dr_check.proofs.fields.message_in.Goals as goal
 
@@ -16,8 +14,6 @@ returns-else-is_memory-clause-value c bytes is same = by c.in-Err.ensures.err
   where
     by : (c.in-Err.fault ≡ OutOfMemory) ⊎ (decode_of c.args.word.now ≡ Err c.in-Err.fault)
         → c.message_of-else-is_memory.result ≡ bytes
-    by (inl memory) =
-        absurd (not_from_Decides c.is_memory.result c.is_memory.ensures c.if-is_memory.false memory)
-    by (inr fault) =
-        c.message_of-else-is_memory.ensures.value (omega arith)
+    by (inl memory) = absurd (not_from_Decides c.is_memory.result c.is_memory.ensures c.if-is_memory.false memory)
+    by (inr fault) = c.message_of-else-is_memory.ensures.value (omega arith)
         ∙ err_message bytes c.args.word.now c.in-Err.fault is same fault

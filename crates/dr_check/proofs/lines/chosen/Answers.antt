@@ -1,6 +1,4 @@
-use Rattle.std.proofs.Common.{◌≡◌, ap, sym, ◌∙◌, refl}
-use Rattle.std.specs.Bool.{then_some}
-use Rattle.std.proofs.lemmas.Bool.Decides.{Decides-eqb}
+use Rattle.std.{specs.Bool.then_some, proofs.{Common.{◌≡◌, ap, sym, ◌∙◌, refl}, lemmas.Bool.Decides.Decides-eqb}}
 use Rattle.std.proofs.lemmas.Slice.Eq.{slice_eq-Decides}
 use Rattle.dr_entry.proofs.ListFacts.{some_where}
 use Rattle.dr_check.specs.declared.line.Line.{Line}

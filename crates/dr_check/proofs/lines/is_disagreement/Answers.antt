@@ -1,10 +1,7 @@
 use Rattle.std.proofs.Common.{◌≡◌, ◌<◌, sym, ap, ◌∙◌, arith, ℕ}
 use Rattle.dr_entry.proofs.OptionFacts.{iff_ok}
-use Rattle.dr_text.specs.Report.{last_text}
-use Rattle.dr_text.specs.declared.last.Last.TheVariants.{Disagree}
-use Rattle.dr_check.specs.Lasts.{TellsDisagreement}
-use Rattle.dr_check.proofs.LineFields.{field_of}
-use Rattle.dr_check.proofs.LastFields.{disagree_fields}
+use Rattle.dr_text.specs.{Report.last_text, declared.last.Last.TheVariants.Disagree}
+use Rattle.dr_check.{specs.Lasts.TellsDisagreement, proofs.{LastFields.disagree_fields, LineFields.field_of}}
 use Rattle.dr_check.proofs.lines.is_disagreement.Goals as goal
 
 pub returns-then-a-ge16 : goal.returns-then-a-ge16
@@ -31,8 +28,6 @@ returns c =
     let two : y ≡ is.1 = c.u8_in-b.ensures is.1 (omega (arith, is.4)) (c.field-2.ensures ∙ at 6) in
     let three : p ≡ is.2 = c.u64_in-place.ensures is.2 is.5 (c.field-3.ensures ∙ at 10) in (
       omega (arith, two, is.4),
-      ap (λ (n : ℕ). last_text (Disagree n y p)) one
-          ∙ (ap (λ (n : ℕ). last_text (Disagree is.0 n p)) two
+      ap (λ (n : ℕ). last_text (Disagree n y p)) one ∙ (ap (λ (n : ℕ). last_text (Disagree is.0 n p)) two
           ∙ (ap (λ (n : ℕ). last_text (Disagree is.0 is.1 n)) three ∙ is.6)),
-    ))
-    c.is_text_of.ensures
+    )) c.is_text_of.ensures

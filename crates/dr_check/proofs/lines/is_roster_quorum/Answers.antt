@@ -1,10 +1,7 @@
 use Rattle.std.proofs.Common.{◌≡◌, sym, ap, ◌∙◌, ℕ, None}
 use Rattle.dr_entry.proofs.OptionFacts.{iff_ok}
-use Rattle.dr_text.specs.Report.{last_text}
-use Rattle.dr_text.specs.declared.last.Last.TheVariants.{NoQuorum}
-use Rattle.dr_check.specs.Lasts.{TellsRosterQuorum}
-use Rattle.dr_check.proofs.LineFields.{field_of}
-use Rattle.dr_check.proofs.LastFields.{roster_fields}
+use Rattle.dr_text.specs.{Report.last_text, declared.last.Last.TheVariants.NoQuorum}
+use Rattle.dr_check.{specs.Lasts.TellsRosterQuorum, proofs.{LastFields.roster_fields, LineFields.field_of}}
 use Rattle.dr_check.proofs.lines.is_roster_quorum.Goals as goal
 
 pub returns : goal.returns
@@ -18,6 +15,5 @@ returns c =
     (roster_fields is.0 is.1 is.2 is.3) in
     let one : x ≡ is.0 = c.u64_in-have.ensures is.0 is.2 (c.field.ensures ∙ at 5) in
     let two : y ≡ is.1 = c.u64_in-need.ensures is.1 is.3 (c.field-2.ensures ∙ at 7) in
-    ap (λ (n : ℕ). last_text (NoQuorum None n y)) one
-    ∙ (ap (λ (n : ℕ). last_text (NoQuorum None is.0 n)) two ∙ is.4))
+    ap (λ (n : ℕ). last_text (NoQuorum None n y)) one ∙ (ap (λ (n : ℕ). last_text (NoQuorum None is.0 n)) two ∙ is.4))
     c.is_quorum.ensures

@@ -1,14 +1,11 @@
-use Rattle.std.proofs.Common.{◌≡◌, sym, ap, ◌∙◌, Some, ℕ, [], ◌∷◌, codes}
-use Rattle.std.specs.Fmt.{decimal}
-use Rattle.dr_check.specs.declared.line.Line.TheVariants.{Age}
-use Rattle.dr_check.specs.Lines.{age_start_text}
+use Rattle.std.{specs.Fmt.decimal, proofs.Common.{◌≡◌, sym, ap, ◌∙◌, Some, ℕ, [], ◌∷◌, codes}}
+use Rattle.dr_check.specs.{Lines.age_start_text, declared.line.Line.TheVariants.Age}
 use Rattle.dr_check.proofs.LineFields.{age_fields, chosen_some, field_of}
 use Rattle.dr_check.proofs.lines.read_age.Goals as goal
 
 pub returns-clause-some : goal.returns-clause-some
 returns-clause-some c =
-    chosen_some (Age c.u16_in-age.result c.u64_in-start.result) c.as_str.result.now c.args.bytes.now
-    c.chosen.result
+    chosen_some (Age c.u16_in-age.result c.u64_in-start.result) c.as_str.result.now c.args.bytes.now c.chosen.result
     (c.u16_in-age.type_inv, c.u64_in-start.type_inv, c.as_str.ensures.value ∙ c.in_ok-text.ensures)
     c.chosen.ensures.some
 

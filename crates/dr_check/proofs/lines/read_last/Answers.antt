@@ -1,9 +1,6 @@
-use Rattle.std.proofs.Common.{ap, ◌∙◌}
-use Rattle.std.specs.Bool.{then_some}
+use Rattle.std.{specs.Bool.then_some, proofs.Common.{ap, ◌∙◌}}
 use Rattle.dr_entry.proofs.ListFacts.{some_where}
-use Rattle.dr_check.specs.declared.line.Line.{Line}
-use Rattle.dr_check.specs.declared.line.Line.TheVariants.{Last}
-use Rattle.dr_check.specs.Lines.{IsLineText}
+use Rattle.dr_check.specs.{Lines.IsLineText, declared.line.Line.{Line, TheVariants.Last}}
 use Rattle.dr_check.proofs.LastFields.{last_of, of_last}
 use Rattle.dr_check.proofs.lines.read_last.Goals as goal
 
@@ -13,6 +10,5 @@ returns-clause-some c =
     (λ t. last_of c.args.bytes.now (c.in_ok-is_last.ensures.0 t))
 
 pub returns-clause-only : goal.returns-clause-only
-returns-clause-only c is =
-    c.then_some.ensures
+returns-clause-only c is = c.then_some.ensures
     ∙ ap (λ b. then_some b Last) (c.in_ok-is_last.ensures.1 (of_last c.args.bytes.now is.0 is.1 is.2))

@@ -1,8 +1,5 @@
-use Rattle.std.proofs.Common.{◌≡◌, sym, ◌∙◌, subst, Some}
-use Rattle.std.specs.Prelude.{IfOk}
-use Rattle.dr_check.specs.declared.line.Line.{Line}
-use Rattle.dr_check.specs.Lines.{IsLineText}
-use Rattle.dr_check.proofs.LineFields.{of_age, of_other}
+use Rattle.std.{specs.Prelude.IfOk, proofs.Common.{◌≡◌, sym, ◌∙◌, subst, Some}}
+use Rattle.dr_check.{specs.{Lines.IsLineText, declared.line.Line.Line}, proofs.LineFields.{of_age, of_other}}
 use Rattle.dr_check.proofs.lines.read_line.Goals as goal
 
 pub returns-then-first-eq97-clause-only : goal.returns-then-first-eq97-clause-only

@@ -1,10 +1,8 @@
-use Rattle.std.proofs.Common.{◌≡◌, ◌+◌, sym, ap, ◌∙◌, arith, subst, Some, ℕ, codes, length}
+use Rattle.std.{specs.Fmt.decimal, proofs.Common.{◌≡◌, ◌+◌, sym, ap, ◌∙◌, arith, subst, Some, ℕ, codes, length}}
 use Rattle.std.proofs.lemmas.Bool.Decides.{not_from_Decides}
-use Rattle.std.specs.Fmt.{decimal}
 use Rattle.dr_entry.specs.declared.end.End.{End}
+use Rattle.dr_check.specs.{Fields.{end_fields, field}, Lines.{EndFits, present_text}}
 use Rattle.dr_check.specs.declared.line.Line.TheVariants.{Present}
-use Rattle.dr_check.specs.Fields.{end_fields, field}
-use Rattle.dr_check.specs.Lines.{EndFits, present_text}
 use Rattle.dr_check.proofs.LineFields.{chosen_some, field_of, number_behind, numbers_fields, present_fields}
 use Rattle.dr_check.proofs.lines.read_present.Goals as goal
 
@@ -26,8 +24,7 @@ returns-then-not-fits_end-clause-only c member h l d is =
 
 pub returns-clause-some : goal.returns-clause-some
 returns-clause-some c =
-    chosen_some (Present c.u8_in-member.result c.u64_in-history.result c.u64_in-logged.result
-    c.u64_in-durable.result)
+    chosen_some (Present c.u8_in-member.result c.u64_in-history.result c.u64_in-logged.result c.u64_in-durable.result)
     c.as_str.result.now c.args.bytes.now c.chosen.result (
       omega (arith, c.if-member-ge16.false),
       c.u64_in-history.type_inv,
@@ -36,8 +33,7 @@ returns-clause-some c =
       (
         c.end_of-end.result.0,
         c.fits_end.ensures.0 c.if-not-fits_end.false,
-        c.as_str.ensures.value
-            ∙ c.in_ok-text.ensures,
+        c.as_str.ensures.value ∙ c.in_ok-text.ensures,
       ),
     ) c.chosen.ensures.some
 
@@ -47,8 +43,7 @@ returns-clause-only c member h l d is =
     let e = is.4.0 in
     let rest = numbers_fields h l d in
     let text = present_text member e h l d in
-    let at = λ (k : ℕ). field_of bytes text _ k is.4.2 (present_fields member e h l d is.0 is.4.1 is.1 is.2
-    is.3) in
+    let at = λ (k : ℕ). field_of bytes text _ k is.4.2 (present_fields member e h l d is.0 is.4.1 is.1 is.2 is.3) in
     let end = c.end_of-end.ensures.end member e h l d is.0 is.4.1 is.1 is.2 is.3 is.4.2 in
     let far = λ (k : ℕ). ap (λ (n : ℕ). field bytes (n + k)) end.1 ∙ (at (2 + length (end_fields e) + k)
     ∙ number_behind (codes "member") (decimal member) e rest k) in

@@ -1,5 +1,4 @@
-use Rattle.std.proofs.Common.{◌≡◌, None, slice_get, length, sym, ap, ◌∙◌, arith}
-use Rattle.std.proofs.lemmas.Grind.{common_steps}
+use Rattle.std.proofs.{Common.{◌≡◌, None, slice_get, length, sym, ap, ◌∙◌, arith}, lemmas.Grind.common_steps}
 use Rattle.std.proofs.lemmas.Option.{gets}
 use Rattle.dr_history.proofs.Masks.{nobody}
 use Rattle.dr_check.specs.Clauses.{members_named}

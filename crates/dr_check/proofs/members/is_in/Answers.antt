@@ -1,6 +1,5 @@
 use Rattle.std.proofs.Common.{◌≡◌, ◌≤◌, sym, ◌∙◌, arith, nat_lt, false}
-use Rattle.dr_history.specs.Members.{has}
-use Rattle.dr_history.proofs.Histories.{none_above}
+use Rattle.dr_history.{specs.Members.has, proofs.Histories.none_above}
 use Rattle.dr_check.proofs.members.is_in.Goals as goal
 
 pub returns-else-from-lt-MAX_MEMBERS : goal.returns-else-from-lt-MAX_MEMBERS
@@ -8,5 +7,4 @@ returns-else-from-lt-MAX_MEMBERS c =
     let above : 16 ≤ c.args.s = omega (arith, c.if-from-lt-MAX_MEMBERS.false, c.from.ensures) in
     let none : has c.args.mask c.args.s ≡ false =
     none_above c.args.mask c.args.s (omega (arith, c.ranges.mask.fits)) above in
-    let out : nat_lt c.from.result 16 ≡ false = grind (arith, c.if-from-lt-MAX_MEMBERS.false) in
-    out ∙ sym none
+    let out : nat_lt c.from.result 16 ≡ false = grind (arith, c.if-from-lt-MAX_MEMBERS.false) in out ∙ sym none

@@ -1,8 +1,5 @@
-use Rattle.std.proofs.Common.{◌≡◌, slice_get, None, Some, sym, ap, ◌∙◌, arith}
-use Rattle.std.proofs.lemmas.Bool.Decides.{Decides-eqb}
-use Rattle.std.proofs.lemmas.Grind.{common_steps}
-use Rattle.std.proofs.lemmas.Option.{gets, none-some, same_Some}
-use Rattle.std.proofs.lemmas.Slice.Eq.{slice_eq-Decides}
+use Rattle.std.proofs.{Common.{◌≡◌, slice_get, None, Some, sym, ap, ◌∙◌, arith}, lemmas.Bool.Decides.Decides-eqb}
+use Rattle.std.proofs.lemmas.{Grind.common_steps, Option.{gets, none-some, same_Some}, Slice.Eq.slice_eq-Decides}
 use Rattle.dr_check.proofs.messages.is_scripted.Goals as goal
 
 pub returns-in-Some : goal.returns-in-Some

@@ -11,5 +11,4 @@ loop-at-preserved c =
     free_more c.args.bytes.now c.loop-at.at c.loop-at-test.true c.if-bytes-at-eq10.false c.loop-at.invariant
 
 pub returns-clause-first : goal.returns-clause-first
-returns-clause-first c =
-    line_alone c.args.bytes.now c.loop-at.at c.requires c.loop-at-test.false c.loop-at.invariant
+returns-clause-first c = line_alone c.args.bytes.now c.loop-at.at c.requires c.loop-at-test.false c.loop-at.invariant

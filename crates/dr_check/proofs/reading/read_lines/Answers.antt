@@ -1,13 +1,8 @@
+use Rattle.std.{specs.Prelude.{Option, IfNone, IfSome}, proofs.lemmas.Bool.eqb-true}
 use Rattle.std.proofs.Common.{◌≡◌, ◌+◌, ◌∷◌, sym, ap, ◌∙◌, arith, subst, length, List, Some, None, ◌⊎◌, slice_get, drop}
-use Rattle.std.specs.Prelude.{Option, IfNone, IfSome}
-use Rattle.std.proofs.lemmas.Bool.{eqb-true}
 use Rattle.dr_entry.proofs.ListFacts.{no_members}
-use Rattle.dr_check.specs.declared.course.Course.{Course}
-use Rattle.dr_check.specs.declared.line.Line.{Line}
-use Rattle.dr_check.specs.Course.{beginning, next_course}
-use Rattle.dr_check.specs.Grammar.{IsNoReportAt}
-use Rattle.dr_check.specs.Lines.{IsLineText, lines_of}
-use Rattle.dr_check.specs.Progress.{HasRead, IsOnly}
+use Rattle.dr_check.specs.{Course.{beginning, next_course}, Grammar.IsNoReportAt, Lines.{IsLineText, lines_of}}
+use Rattle.dr_check.specs.{Progress.{HasRead, IsOnly}, declared.{course.Course.Course, line.Line.Line}}
 use Rattle.dr_check.proofs.Ending.{all_read, no_end, none_read, one_more, stops}
 use Rattle.dr_check.proofs.reading.read_lines.Goals as goal
 
@@ -16,8 +11,7 @@ loop-rest-init c =
     let members = c.args.members in
     let text = c.args.text.now in
     subst (λ (d : Course). HasRead members text text c.new-found.result.items d) (sym c.begin-course.ensures)
-    (subst (λ (ls : List Line). HasRead members text text ls (beginning members))
-    (sym c.new-found.ensures.items)
+    (subst (λ (ls : List Line). HasRead members text text ls (beginning members)) (sym c.new-found.ensures.items)
     (none_read members text))
 
 pub returns-in_default-clause-none : goal.returns-in_default-clause-none
@@ -41,8 +35,7 @@ loop-rest-preserved c =
     let text = c.args.text.now in
     let rest = c.loop-rest.rest.now in
     let bytes = c.split_at.result.0.now in
-    let parts : lines_of rest ≡ bytes ∷ lines_of c.split_at.result.1.now =
-    c.line_end.ensures.first
+    let parts : lines_of rest ≡ bytes ∷ lines_of c.split_at.result.1.now = c.line_end.ensures.first
     ∙ (ap (λ b. b ∷ lines_of (drop c.line_end.result rest)) (sym c.split_at.ensures.front)
     ∙ ap (λ b. bytes ∷ lines_of b) (sym c.split_at.ensures.back)) in
     let one = subst (λ (o : Option (Line × Course)). IfSome o (λ p. IsOnly p.0 bytes

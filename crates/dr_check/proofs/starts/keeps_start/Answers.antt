@@ -1,11 +1,8 @@
 use Rattle.std.proofs.Common.{◌≡◌, ◌+◌, ◌≤◌, Some, take, slice_get, sym, ap, ◌∙◌, subst, arith, refl, List, length}
 use Rattle.std.proofs.lemmas.List.{take_all}
-use Rattle.dr_entry.specs.declared.entry.Entry.{Entry}
-use Rattle.dr_entry.proofs.ListPlaces.{below_more, read_at}
+use Rattle.dr_entry.{specs.declared.entry.Entry.Entry, proofs.ListPlaces.{below_more, read_at}}
 use Rattle.dr_history.specs.History.{view_of}
-use Rattle.dr_check.specs.Clauses.{MayStart}
-use Rattle.dr_check.specs.Past.{IsPast}
-use Rattle.dr_check.proofs.Loops.{below_all}
+use Rattle.dr_check.{specs.{Clauses.MayStart, Past.IsPast}, proofs.Loops.below_all}
 use Rattle.dr_check.proofs.starts.keeps_start.Goals as goal
 
 pub loop-at-preserved : goal.loop-at-preserved
@@ -13,11 +10,9 @@ loop-at-preserved c =
     let start = c.args.age.now.start in
     let entries = c.as_slice-entries.result.now in
     let here : slice_get start c.loop-at.at ≡ Some c.index-entries-at.result =
-    subst (λ (es : List Entry). slice_get es c.loop-at.at ≡ Some c.index-entries-at.result)
-    c.as_slice-entries.ensures
+    subst (λ (es : List Entry). slice_get es c.loop-at.at ≡ Some c.index-entries-at.result) c.as_slice-entries.ensures
     (read_at entries c.loop-at.at c.index-entries-at.result c.loop-at-test.true c.index-entries-at.is) in (
-      subst (λ (es : List Entry). IsPast (take (c.loop-at.at + 1) es) c.note.new.self)
-          c.as_slice-entries.ensures
+      subst (λ (es : List Entry). IsPast (take (c.loop-at.at + 1) es) c.note.new.self) c.as_slice-entries.ensures
           c.note.ensures,
       below_more (λ i e. MayStart c.args.script.now (take i start) e) start c.loop-at.at (c.loop-at.at + 1)
           c.index-entries-at.result refl here

@@ -24,8 +24,7 @@ returns c =
         newcomers = subst (λ (xs : List ℕ). newcomers xs (members_of c.args.mask)) c.members.ensures.same
             (subst (λ (xs : List ℕ). newcomers c.members.result.now xs) three (c.may_all_be_in.ensures.0 t));
       },
-      λ keeps. c.may_all_be_in.ensures.1
-          (subst (λ (xs : List ℕ). newcomers c.members.result.now xs) (sym three)
-          (subst (λ (xs : List ℕ). newcomers xs (members_of c.args.mask)) (sym c.members.ensures.same)
+      λ keeps. c.may_all_be_in.ensures.1 (subst (λ (xs : List ℕ). newcomers c.members.result.now xs)
+          (sym three) (subst (λ (xs : List ℕ). newcomers xs (members_of c.args.mask)) (sym c.members.ensures.same)
           keeps.newcomers)),
     )

@@ -3,8 +3,7 @@ use Rattle.dr_intake.specs.Answer.{done, no_memory, no_source}
 use Rattle.dr_io.specs.Faults.{Rose}
 use Rattle.dr_outcome.specs.Outcome.{HasDone}
 use Rattle.dr_yard.specs.Yards.{state_by}
-use Rattle.dr_commands.specs.Outcome.{Does}
-use Rattle.dr_commands.specs.Words.{ends_of, reads}
+use Rattle.dr_commands.specs.{Outcome.Does, Words.{ends_of, reads}}
 use Rattle.dr_commands.proofs.outcome.outcome_of.Goals as goal
 
 pub returns-in-Ok-clause-course : goal.returns-in-Ok-clause-course
@@ -13,8 +12,7 @@ returns-in-Ok-clause-course g c = elim c.do_command.ensures.done [
   | inr has ↦ done c.in-Some.command (sym c.in-Some.ensures) c.in-Ok.bytes.items c.in-Ok.ensures.bytes
       (subst (λ (bytes : List ℕ). HasDone (Does c.in-Some.command bytes) (ends_of c.in-Some.command)
       (state_by g.Y.Yard.told g.Y.Yard.faults c.args.yard.now)
-      (state_by g.Y.Yard.told g.Y.Yard.faults c.do_command.new.yard) c.do_command.result)
-      c.deref.ensures.value has)
+      (state_by g.Y.Yard.told g.Y.Yard.faults c.do_command.new.yard) c.do_command.result) c.deref.ensures.value has)
 ]
 
 pub returns-in-Err-Failed-clause-course : goal.returns-in-Err-Failed-clause-course

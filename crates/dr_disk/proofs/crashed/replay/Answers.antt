@@ -1,11 +1,7 @@
 use Rattle.std.proofs.Common.{◌≡◌, ◌+◌, sym, subst, rules, ℕ, List, length, min}
 use Rattle.dr_disk.specs.Calls as calls
-use Rattle.dr_disk.specs.Calls.{written}
-use Rattle.dr_disk.specs.Crashed.{IsReplayed}
-use Rattle.dr_disk.specs.Ranges.{pend}
-use Rattle.dr_disk.specs.Steps.{call_of}
-use Rattle.dr_disk.specs.declared.kept.Step.TheVariants.{Write}
-use Rattle.dr_disk.proofs.Filling.{replayed_write, write_of}
+use Rattle.dr_disk.specs.{Calls.written, Crashed.IsReplayed, Ranges.pend, Steps.call_of}
+use Rattle.dr_disk.{specs.declared.kept.Step.TheVariants.Write, proofs.Filling.{replayed_write, write_of}}
 use Rattle.dr_disk.proofs.crashed.replay.Goals as goal
 
 pub returns-in_ok-reserve-in-Write : goal.returns-in_ok-reserve-in-Write

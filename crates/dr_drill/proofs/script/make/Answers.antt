@@ -1,11 +1,8 @@
 use Rattle.std.proofs.Common.{◌≡◌, ◌+◌, ◌*◌, ◌++◌, ◌∷◌, [], ap, sym, subst, ◌∙◌, arith, rules}
 use Rattle.dr_entry.proofs.NumberFacts.{moved}
-use Rattle.dr_script.specs.Ranges.{HasRanges}
-use Rattle.dr_script.specs.declared.script.Script.{Script}
-use Rattle.dr_script.specs.declared.script.Schedule.TheVariants.{Lockstep}
+use Rattle.dr_script.specs.{Ranges.HasRanges, declared.script.{Schedule.TheVariants.Lockstep, Script.Script}}
 use Rattle.dr_drill.specs.Drill.{drill, messages_of_member, state_after}
-use Rattle.dr_drill.proofs.Letters.{messages_more, state_after-none, state_more}
-use Rattle.dr_drill.proofs.Ranges.{drill_ranges}
+use Rattle.dr_drill.proofs.{Letters.{messages_more, state_after-none, state_more}, Ranges.drill_ranges}
 use Rattle.dr_drill.proofs.script.make.Goals as goal
 
 pub loop-init : goal.loop-init
@@ -29,10 +26,8 @@ returns-clause-ranges c =
       turns = 1808;
       patience = 3;
       ages = 1;
-      messages =
-          c.of.result;
+      messages = c.of.result;
       faults = c.of-2.result;
       schedule = Lockstep;
     } in
-    let is : made ≡ drill c.args.seed = search rules in
-    subst HasRanges (sym is) (drill_ranges c.args.seed)
+    let is : made ≡ drill c.args.seed = search rules in subst HasRanges (sym is) (drill_ranges c.args.seed)

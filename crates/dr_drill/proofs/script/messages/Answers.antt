@@ -1,6 +1,5 @@
+use Rattle.std.specs.{List.range_with_len, Prelude.map}
 use Rattle.std.proofs.Common.{◌+◌, ◌*◌, ◌++◌, ◌∷◌, [], ap, sym, ◌∙◌, arith}
-use Rattle.std.specs.Prelude.{map}
-use Rattle.std.specs.List.{range_with_len}
 use Rattle.dr_entry.proofs.NumberFacts.{moved}
 use Rattle.dr_drill.specs.Drill.{message, state_after}
 use Rattle.dr_drill.proofs.Letters.{message_more, messages_whole, state_after-none, state_more}
@@ -22,6 +21,5 @@ loop-preserved c =
 pub returns-clause-messages : goal.returns-clause-messages
 returns-clause-messages c =
     let x = c.args.letters.now in let n = c.loop.counter in
-    c.of.ensures ∙ c.loop.invariant.1
-    ∙ moved (λ k. map (message x) (range_with_len 0 k)) n 400
+    c.of.ensures ∙ c.loop.invariant.1 ∙ moved (λ k. map (message x) (range_with_len 0 k)) n 400
     (omega (arith, c.loop-test.false, c.loop.auto.counter-end)) ∙ sym (messages_whole x)

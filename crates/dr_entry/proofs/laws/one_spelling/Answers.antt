@@ -1,7 +1,5 @@
-use Rattle.std.proofs.Common.{◌∙◌, sym, [], ◌∙◌}
-use Rattle.std.proofs.lemmas.List.{append-nil}
-use Rattle.dr_entry.specs.Spelling.{spelling}
-use Rattle.dr_entry.proofs.RoundTrip.{begins_one}
+use Rattle.std.proofs.{Common.{◌∙◌, sym, []}, lemmas.List.append-nil}
+use Rattle.dr_entry.{specs.Spelling.spelling, proofs.RoundTrip.begins_one}
 use Rattle.dr_entry.proofs.laws.one_spelling.Goals as goal
 
 pub returns-clause-same_record : goal.returns-clause-same_record

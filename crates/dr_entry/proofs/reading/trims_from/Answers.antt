@@ -1,6 +1,5 @@
 use Rattle.std.proofs.Common.{◌≡◌, refl, ◌∙◌, ap, arith, Ok}
-use Rattle.dr_entry.specs.Grammar.{trims_at}
-use Rattle.dr_entry.proofs.Trims.{none_cut_off, one_cut_off, set-trims_at}
+use Rattle.dr_entry.{specs.Grammar.trims_at, proofs.Trims.{none_cut_off, one_cut_off, set-trims_at}}
 use Rattle.dr_entry.proofs.reading.trims_from.Goals as goal
 
 pub loop-s-preserved : goal.loop-s-preserved

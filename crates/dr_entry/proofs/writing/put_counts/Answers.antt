@@ -1,6 +1,5 @@
+use Rattle.std.specs.{Int.{w32, to_be_bytes}, List.flat_map}
 use Rattle.std.proofs.Common.{length, take, ap, arith, length-append, length-take}
-use Rattle.std.specs.List.{flat_map}
-use Rattle.std.specs.Int.{w32, to_be_bytes}
 use Rattle.dr_entry.proofs.Trims.{counts_length}
 use Rattle.dr_entry.proofs.writing.put_counts.Goals as goal
 

@@ -1,6 +1,5 @@
 use Rattle.std.proofs.Common.{◌≡◌, length, ap, rules, arith}
-use Rattle.dr_entry.specs.Spelling.{vote_spelling}
-use Rattle.dr_entry.proofs.Trims.{vote_length}
+use Rattle.dr_entry.{specs.Spelling.vote_spelling, proofs.Trims.vote_length}
 use Rattle.dr_entry.proofs.writing.put_vote.Goals as goal
 
 pub returns-clause-short : goal.returns-clause-short

@@ -1,4 +1,4 @@
-use Rattle.dr_age.specs.Sound.{IsSound}
+use Rattle.dr_play.specs.Sound.{IsSound}
 use Rattle.dr_machine.specs.Group.{Group}
 use Rattle.dr_examples.specs.Led.{LettersByNumber, over}
 use Rattle.dr_examples.proofs.leaders.lead_round.Given as goal

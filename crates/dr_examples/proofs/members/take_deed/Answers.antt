@@ -1,12 +1,11 @@
 use Rattle.std.proofs.Common.{rules, sym, ◌<◌, length}
-use Rattle.dr_examples.proofs.Carrying.{acts, appends, inside, looks, may_see, pushes, sound_on, there_is}
-use Rattle.dr_age.specs.Sound.{IsSound}
 use Rattle.dr_examples.specs.Led.{over}
+use Rattle.dr_examples.proofs.Carrying.{acts, appends, inside, looks, may_see, pushes, sound_on, there_is}
+use Rattle.dr_play.specs.Sound.{IsSound}
 use Rattle.dr_examples.proofs.members.take_deed.Goals as goal
 
 pub looked-requires : goal.looked-requires
-looked-requires c =
-    may_see c.requires.sound.0 (over c.args.members.now c.args.words.now c.requires.sound.1) c.args.m
+looked-requires c = may_see c.requires.sound.0 (over c.args.members.now c.args.words.now c.requires.sound.1) c.args.m
     c.in-Some.member c.in-Look.index c.requires.sound.2
     (there_is c.args.members.now c.args.m c.index-members-m.result c.in-Some.member c.requires.within c.in-Some.is) (sym c.in-Look.ensures.deed)
 
@@ -14,15 +13,13 @@ pub offset_bounds-words-index : goal.offset_bounds-words-index
 offset_bounds-words-index c =
     let below : c.in-Look.index < length c.args.words.now = inside c.args.members.now c.args.words.now
     c.args.m c.in-Look.index c.in-Some.member
-    (there_is c.args.members.now c.args.m c.index-members-m.result c.in-Some.member c.requires.within
-    c.in-Some.is)
+    (there_is c.args.members.now c.args.m c.index-members-m.result c.in-Some.member c.requires.within c.in-Some.is)
     c.requires.sound c.in-Look.ensures.within in
     search rules
 
 pub bounds-words-index : goal.bounds-words-index
 bounds-words-index c = inside c.args.members.now c.args.words.now c.args.m c.in-Look.index c.in-Some.member
-    (there_is c.args.members.now c.args.m c.index-members-m.result c.in-Some.member c.requires.within
-    c.in-Some.is)
+    (there_is c.args.members.now c.args.m c.index-members-m.result c.in-Some.member c.requires.within c.in-Some.is)
     c.requires.sound c.in-Look.ensures.within
 
 pub offset_bounds-words-index-in-Push : goal.offset_bounds-words-index-in-Push

@@ -1,11 +1,9 @@
 use Rattle.std.proofs.Common.{rules, subst, sym, ◌<◌, length, slice_index_or, slice_set}
 use Rattle.dr_program.specs.declared.packet.Packet.{Packet}
-use Rattle.dr_program_laws.proofs.Carried.{carried_comes}
-use Rattle.dr_program_laws.specs.Carried.{IsCarried}
-use Rattle.dr_examples.proofs.Carrying.{packet_place}
-use Rattle.dr_examples.specs.Led.{over}
-use Rattle.dr_examples.proofs.net.arrive.Goals as goal
+use Rattle.dr_program_laws.{specs.Carried.IsCarried, proofs.Carried.carried_comes}
+use Rattle.dr_examples.{specs.Led.over, proofs.Carrying.packet_place}
 use Rattle.dr_examples.proofs.net.arrive.Goals.{then-not-lossy, else-not-lossy+else-nth-ne1}
+use Rattle.dr_examples.proofs.net.arrive.Goals as goal
 
 pub offset_bounds-words-packet : goal.offset_bounds-words-packet
 offset_bounds-words-packet c =

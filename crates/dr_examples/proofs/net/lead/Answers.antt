@@ -1,7 +1,6 @@
 use Rattle.std.proofs.Common.{All, Contains, subst, sym}
-use Rattle.dr_examples.proofs.Carrying.{begins, carried_sound}
+use Rattle.dr_examples.{specs.Led.over, proofs.Carrying.{begins, carried_sound}}
 use Rattle.dr_program_laws.specs.Carried.{IsCarried}
-use Rattle.dr_examples.specs.Led.{over}
 use Rattle.dr_examples.proofs.net.lead.Goals as goal
 
 pub loop-turn-init : goal.loop-turn-init

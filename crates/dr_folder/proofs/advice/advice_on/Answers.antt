@@ -1,8 +1,6 @@
 use Rattle.std.proofs.Common.{◌+◌, subst, ℕ, List, Option, Some, None}
 use Rattle.dr_restart.specs.declared.start.Start.{Start}
-use Rattle.dr_folder.specs.declared.file.LogFile.{LogFile}
-use Rattle.dr_folder.specs.Advice.{IsNextAway}
-use Rattle.dr_folder.proofs.Advising.{away_if}
+use Rattle.dr_folder.{specs.{Advice.IsNextAway, declared.file.LogFile.LogFile}, proofs.Advising.away_if}
 use Rattle.dr_folder.proofs.advice.advice_on.Goals as goal
 
 pub returns-in-None-clause-advice : goal.returns-in-None-clause-advice

@@ -1,7 +1,5 @@
-use Rattle.std.proofs.Common.{◌≡◌, ◌≢◌, ◌<◌, ℕ}
-use Rattle.std.specs.Prelude.{Some, slice_get}
-use Rattle.dr_folder.specs.declared.survey.Survey.{Survey}
-use Rattle.dr_folder.specs.Advice.{IsIntact}
+use Rattle.std.{specs.Prelude.{Some, slice_get}, proofs.Common.{◌≡◌, ◌≢◌, ◌<◌, ℕ}}
+use Rattle.dr_folder.specs.{Advice.IsIntact, declared.survey.Survey.Survey}
 use Rattle.dr_folder.proofs.advice.are_intact_but.Given as goal
 
 -- those before are intact

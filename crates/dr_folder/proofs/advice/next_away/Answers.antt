@@ -1,7 +1,5 @@
 use Rattle.std.proofs.Common.{◌∙◌, subst, arith, List}
-use Rattle.dr_folder.specs.declared.file.LogFile.{LogFile}
-use Rattle.dr_folder.specs.Advice.{CanNotGo}
-use Rattle.dr_folder.proofs.Advising.{can_not_more}
+use Rattle.dr_folder.{specs.{Advice.CanNotGo, declared.file.LogFile.LogFile}, proofs.Advising.can_not_more}
 use Rattle.dr_folder.proofs.advice.next_away.Goals as goal
 
 pub loop-member-preserved : goal.loop-member-preserved
@@ -16,6 +14,5 @@ loop-member-preserved c =
     )
 
 pub returns-clause-next : goal.returns-clause-next
-returns-clause-next c = λ m from below.
-    c.loop-member.invariant.1 m from
+returns-clause-next c = λ m from below. c.loop-member.invariant.1 m from
     (omega (arith, below, c.loop-member-test.false, c.requires.all, c.requires.each))

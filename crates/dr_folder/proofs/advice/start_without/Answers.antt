@@ -1,5 +1,4 @@
-use Rattle.std.proofs.Common.{ap, inr}
-use Rattle.std.specs.Prelude.{Err}
+use Rattle.std.{specs.Prelude.Err, proofs.Common.{ap, inr}}
 use Rattle.dr_folder.proofs.advice.start_without.Goals as goal
 
 pub returns-clause-start : goal.returns-clause-start

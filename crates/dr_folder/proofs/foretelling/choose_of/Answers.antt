@@ -1,6 +1,5 @@
 use Rattle.std.proofs.Common.{◌∙◌, rules}
-use Rattle.dr_opening.specs.Lists.{contents_of}
-use Rattle.dr_opening.proofs.Lists.{chosen_told}
+use Rattle.dr_opening.{specs.Lists.contents_of, proofs.Lists.chosen_told}
 use Rattle.dr_folder.proofs.Refusing.{fault_told}
 use Rattle.dr_folder.proofs.foretelling.choose_of.Goals as goal
 

@@ -3,10 +3,8 @@ use Rattle.std.proofs.lemmas.List.{get_or_read}
 use Rattle.dr_log.specs.State.{LogState}
 use Rattle.dr_disk.specs.Memory.{CalmState}
 use Rattle.dr_opening.specs.Lists.{contents_of}
-use Rattle.dr_folder.specs.declared.file.LogFile.{LogFile}
-use Rattle.dr_folder.specs.declared.file.LogFile.TheVariants.{Missing}
-use Rattle.dr_folder.specs.Foretold.{AreTakenFor, IsTakenFor, file_in}
-use Rattle.dr_folder.proofs.Taking.{log_taken}
+use Rattle.dr_folder.specs.{Foretold.{AreTakenFor, IsTakenFor, file_in}, declared.file.LogFile.LogFile}
+use Rattle.dr_folder.{specs.declared.file.LogFile.TheVariants.Missing, proofs.Taking.log_taken}
 use Rattle.dr_folder.proofs.mounting.mount_files.Goals as goal
 
 pub loop-member-preserved : goal.loop-member-preserved

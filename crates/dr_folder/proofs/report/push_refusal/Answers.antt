@@ -4,7 +4,6 @@ use Rattle.dr_text.specs.Report.{last_text}
 use Rattle.dr_folder.proofs.report.push_refusal.Goals as goal
 
 pub returns : goal.returns
-returns c =
-    both_appended c.push_last.result (string_bytes c.args.out.now) (string_bytes c.push_str.new.self)
+returns c = both_appended c.push_last.result (string_bytes c.args.out.now) (string_bytes c.push_str.new.self)
     (string_bytes c.push_last.new.out) (codes "the next run: ") (last_text c.args.last.now)
     c.in_ok-push_str.ensures.bytes c.push_last.ensures

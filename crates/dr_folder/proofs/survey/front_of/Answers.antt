@@ -12,16 +12,14 @@ loop-record-preserved c =
     c.in-Record.record c.loop-record.invariant c.in-Record.ensures placed taken
 
 pub take-requires-clause-small : goal.take-requires-clause-small
-take-requires-clause-small c =
-    omega (
-      arith,
-      length_parsed c.args.bytes.now c.loop-record.content c.loop-record.at c.loop-record.invariant,
-      record_inside c.args.bytes.now c.loop-record.at c.in-Record.len c.in-Record.record c.in-Record.ensures,
-    )
+take-requires-clause-small c = omega (
+  arith,
+  length_parsed c.args.bytes.now c.loop-record.content c.loop-record.at c.loop-record.invariant,
+  record_inside c.args.bytes.now c.loop-record.at c.in-Record.len c.in-Record.record c.in-Record.ensures,
+)
 
 pub returns-in-Closed : goal.returns-in-Closed
-returns-in-Closed c =
-    closed_front c.args.bytes.now c.loop-record.content c.loop-record.at c.loop-record.invariant
+returns-in-Closed c = closed_front c.args.bytes.now c.loop-record.content c.loop-record.at c.loop-record.invariant
     c.in-Closed.ensures
 
 pub returns-in-Broken : goal.returns-in-Broken

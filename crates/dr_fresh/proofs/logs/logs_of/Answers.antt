@@ -12,8 +12,7 @@ loop-member-init c = record {
 }
 
 pub log_at-requires-clause-some : goal.log_at-requires-clause-some
-log_at-requires-clause-some c =
-    some_members (group_of c.args.script.now c.args.start.now) c.requires.group
+log_at-requires-clause-some c = some_members (group_of c.args.script.now c.args.start.now) c.requires.group
 
 pub loop-member-preserved : goal.loop-member-preserved
 loop-member-preserved c = record {
@@ -30,21 +29,17 @@ loop-member-preserved c = record {
 
 pub returns-clause-opened : goal.returns-clause-opened
 returns-clause-opened c = fresh_opened c.args.script.now c.args.start.now LOG_LIMIT c.loop-member.logs.items
-    c.requires.none
-    (omega (
+    c.requires.none (omega (
       arith,
       c.loop-member.invariant.count,
       c.loop-member-test.false,
       c.loop-member.auto.member-end,
       c.requires.ranges.lists,
-    ))
-    c.loop-member.invariant.fresh
+    )) c.loop-member.invariant.fresh
 
 pub returns-clause-limit : goal.returns-clause-limit
-returns-clause-limit c = fresh_limit c.args.start.now LOG_LIMIT c.loop-member.logs.items
-    c.loop-member.invariant.fresh
+returns-clause-limit c = fresh_limit c.args.start.now LOG_LIMIT c.loop-member.logs.items c.loop-member.invariant.fresh
 
 pub returns-clause-ample : goal.returns-clause-ample
 returns-clause-ample c = fresh_ample c.args.script.now c.args.start.now c.loop-member.logs.items c.requires.group
-    c.requires.none
-    c.loop-member.invariant.fresh
+    c.requires.none c.loop-member.invariant.fresh

@@ -2,8 +2,8 @@ use Rattle.std.proofs.Common.{◌≡◌, ◌≢◌, rules}
 use Rattle.dr_log_bytes.specs.Content.{empty_of}
 use Rattle.dr_log.proofs.Standing.{damaged_used, record_used}
 use Rattle.dr_fresh.proofs.Fresh.{empty_log, without_record}
-use Rattle.dr_fresh.proofs.on_disk.empty_log.Goals as goal
 use Rattle.dr_fresh.proofs.on_disk.empty_log.Goals.{in-OutOfMemory, in-DiskFault, in-Damaged}
+use Rattle.dr_fresh.proofs.on_disk.empty_log.Goals as goal
 
 pub returns-after-fault-clause-used : goal.returns-after-fault-clause-used
 returns-after-fault-clause-used g c = λ used. elim c.match-fault.branch [

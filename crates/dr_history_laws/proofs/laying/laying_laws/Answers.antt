@@ -1,5 +1,4 @@
-use Rattle.dr_history_laws.proofs.LaidLemmas.{laid-next, laid-prefix}
-use Rattle.dr_history_laws.proofs.Steady.{laid-steady, HeldBelow-more}
+use Rattle.dr_history_laws.proofs.{LaidLemmas.{laid-next, laid-prefix}, Steady.{laid-steady, HeldBelow-more}}
 use Rattle.dr_history_laws.proofs.laying.laying_laws.Goals as goal
 
 pub returns : goal.returns

@@ -1,5 +1,4 @@
-use Rattle.dr_history_laws.proofs.Lengths.{start-short}
-use Rattle.dr_history_laws.proofs.Openings.{InOrder-first, first-ends, first-members}
+use Rattle.dr_history_laws.proofs.{Lengths.start-short, Openings.{InOrder-first, first-ends, first-members}}
 use Rattle.dr_history_laws.proofs.order.opening_laws.Goals as goal
 
 pub returns : goal.returns

@@ -1,6 +1,4 @@
-use Rattle.dr_history_laws.proofs.Counting.{index-next}
-use Rattle.dr_history_laws.proofs.Members.{view-distinct}
-use Rattle.dr_history_laws.proofs.Ordered.{InOrder-laid}
+use Rattle.dr_history_laws.proofs.{Counting.index-next, Members.view-distinct, Ordered.InOrder-laid}
 use Rattle.dr_history_laws.proofs.Steady.{InOrder-steady}
 use Rattle.dr_history_laws.proofs.order.order_laws.Goals as goal
 

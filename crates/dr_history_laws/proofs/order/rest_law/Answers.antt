@@ -1,5 +1,4 @@
-use Rattle.dr_history_laws.proofs.Members.{view-distinct}
-use Rattle.dr_history_laws.proofs.Resting.{rest-merged}
+use Rattle.dr_history_laws.proofs.{Members.view-distinct, Resting.rest-merged}
 use Rattle.dr_history_laws.proofs.order.rest_law.Goals as goal
 
 pub returns : goal.returns

@@ -3,8 +3,7 @@ use Rattle.dr_intake.proofs.Steps.{ReadsSoFar}
 use Rattle.dr_intake.proofs.reading.read_all.Given as goal
 
 abbrev pub invariant-loop-buffer : goal.invariant-loop-buffer
-invariant-loop-buffer g l =
-    ReadsSoFar l.limit (g.S.Source.left l.initial.source) (g.S.Source.left l.source)
+invariant-loop-buffer g l = ReadsSoFar l.limit (g.S.Source.left l.initial.source) (g.S.Source.left l.source)
     (g.S.Source.faults l.initial.source) (g.S.Source.faults l.source) l.bytes.items
 
 abbrev pub decreases-loop-buffer : goal.decreases-loop-buffer

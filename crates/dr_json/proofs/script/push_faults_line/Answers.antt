@@ -9,5 +9,4 @@ returns c =
     let ended = string_bytes c.push_str-2.new.self in
     pushed_thrice c.push_str-2.result (string_bytes c.args.out.now) (string_bytes c.push_str.new.self) begun ended
     (codes "  \"faults\": [") (faults_json c.args.faults.now) (codes "],\n") c.in_ok-push_str.ensures.bytes
-    c.in_ok-push_faults.ensures
-    (if_pushed c.push_str-2.result begun ended (codes "],\n") c.push_str-2.ensures.bytes)
+    c.in_ok-push_faults.ensures (if_pushed c.push_str-2.result begun ended (codes "],\n") c.push_str-2.ensures.bytes)

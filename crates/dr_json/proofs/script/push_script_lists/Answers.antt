@@ -12,6 +12,5 @@ returns c =
     let first : begun ≡ old ++ messages_line script.messages =
     c.in_ok-push_messages_line.ensures ∙ ap (λ ms. old ++ messages_line ms) c.as_slice-messages.ensures in
     subst (λ fs. OnOk c.push_faults_line.result (new ≡ old ++ (messages_line script.messages ++ faults_line fs)))
-    c.as_slice-faults.ensures
-    (pushed_on c.push_faults_line.result old begun new (messages_line script.messages)
-    (faults_line c.as_slice-faults.result.now) first c.push_faults_line.ensures)
+    c.as_slice-faults.ensures (pushed_on c.push_faults_line.result old begun new
+    (messages_line script.messages) (faults_line c.as_slice-faults.result.now) first c.push_faults_line.ensures)

@@ -1,15 +1,10 @@
+use Rattle.std.{specs.List.count_by, proofs.lemmas.Bool.{lt-ltb, ltb-true}}
 use Rattle.std.proofs.Common.{◌≡◌, ◌==◌, ◌<◌, ◌≤◌, ◌*◌, ℕ, Bool, List, length, map, take, sym, ap, ap₂, ◌∙◌, arith}
-use Rattle.std.specs.List.{count_by}
-use Rattle.std.proofs.lemmas.Bool.{lt-ltb, ltb-true}
-use Rattle.dr_entry.proofs.ListParts.{count_by-map}
-use Rattle.dr_entry.proofs.ListFacts.{made_of}
+use Rattle.dr_entry.proofs.{ListFacts.made_of, ListParts.count_by-map}
 use Rattle.dr_history.specs.Members.{members_of}
 use Rattle.dr_rows.specs.Words.{seen}
-use Rattle.dr_words.specs.Columns.{leavers_column}
-use Rattle.dr_words.specs.Packing.{accept_tag}
-use Rattle.dr_words.proofs.Masks.{count_tagged}
-use Rattle.dr_lead.specs.Accepts.{tag_of}
-use Rattle.dr_lead.specs.Changes.{tagged_members}
+use Rattle.dr_words.{specs.{Columns.leavers_column, Packing.accept_tag}, proofs.Masks.count_tagged}
+use Rattle.dr_lead.specs.{Accepts.tag_of, Changes.tagged_members}
 use Rattle.dr_lead.proofs.commit.is_tagged_by_most.Goals as goal
 
 pub returns : goal.returns
@@ -24,19 +19,15 @@ returns c =
     c.leavers_column.ensures.value ∙ ap leavers_column (sym c.requires.group.shape.members) in
     let is_own : ℕ → Bool = λ word. word == own in
     let word_of : ℕ → ℕ = λ i. seen rows i (leavers_column rows.members) in
-    let seen_words : take count words ≡ map word_of (members_of members) =
-    c.column_of-count.ensures.words
+    let seen_words : take count words ≡ map word_of (members_of members) = c.column_of-count.ensures.words
     ∙ ap₂ (λ (k m : ℕ). map (λ i. seen rows i k) (members_of m)) column c.bits.ensures in
-    let made : take count tags ≡ map accept_tag (take count words) =
-    made_of accept_tag tags words count
+    let made : take count tags ≡ map accept_tag (take count words) = made_of accept_tag tags words count
     (omega (arith, c.loop-i.invariant.long, c.column_of-count.ensures.within))
     (omega (arith, c.column_of-count.array_long, c.column_of-count.ensures.within))
     (λ j l. c.loop-i.invariant.tags j (omega (arith, l, c.loop-i-test.false))) in
     let counted : c.count_equal.result ≡ length (members_of (tagged_members rows c.args.s.now own)) =
-    c.count_equal.ensures
-    ∙ ap₂ (λ (k : ℕ) (xs : List ℕ). count_by (λ word. word == k) xs) c.from-2.ensures
-    (made ∙ ap (map accept_tag) seen_words)
-    ∙ count_by-map is_own accept_tag (map word_of (members_of members))
+    c.count_equal.ensures ∙ ap₂ (λ (k : ℕ) (xs : List ℕ). count_by (λ word. word == k) xs) c.from-2.ensures
+    (made ∙ ap (map accept_tag) seen_words) ∙ count_by-map is_own accept_tag (map word_of (members_of members))
     ∙ count_by-map (λ word. accept_tag word == own) word_of (members_of members)
     ∙ sym (count_tagged (λ i. tag_of rows i == own) members) in
     let all : count ≡ length (members_of members) =

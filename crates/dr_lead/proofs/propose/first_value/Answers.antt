@@ -1,7 +1,5 @@
-use Rattle.std.proofs.Common.{◌≡◌, ◌<◌, true, arith}
-use Rattle.std.proofs.lemmas.Grind.{common_steps}
-use Rattle.dr_history.specs.Members.{has}
-use Rattle.dr_history.proofs.Ranks.{some_member}
+use Rattle.std.proofs.{Common.{◌≡◌, ◌<◌, true, arith}, lemmas.Grind.common_steps}
+use Rattle.dr_history.{specs.Members.has, proofs.Ranks.some_member}
 use Rattle.dr_lead.proofs.propose.first_value.Goals as goal
 
 pub trim_of-requires-clause-some : goal.trim_of-requires-clause-some

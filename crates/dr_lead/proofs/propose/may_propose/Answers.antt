@@ -1,10 +1,9 @@
-use Rattle.std.proofs.Common.{◌≡◌, ℕ, true, sym, subst, ◌∙◌, arith}
-use Rattle.std.proofs.lemmas.Grind.{common_steps}
+use Rattle.std.proofs.{Common.{◌≡◌, ℕ, true, sym, subst, ◌∙◌, arith}, lemmas.Grind.common_steps}
 use Rattle.dr_history.specs.Members.{has}
 use Rattle.dr_pred.specs.Watches.{AllCountsFinal}
 use Rattle.dr_lead.specs.Accepts.{AllPromise}
-use Rattle.dr_lead.proofs.propose.may_propose.Goals as goal
 use Rattle.dr_lead.proofs.propose.may_propose.Goals.{then-is_majority_of, else-is_majority_of}
+use Rattle.dr_lead.proofs.propose.may_propose.Goals as goal
 
 pub returns-then-are_final : goal.returns-then-are_final
 returns-then-are_final c = (
@@ -15,8 +14,7 @@ returns-then-are_final c = (
       majority = grind (arith, common_steps);
       final = elim c.if-is_majority_of.branch [
         | then-is_majority_of w ↦ subst (λ (of : ℕ). AllCountsFinal of c.args.s.now.members c.args.rows.now)
-            c.unsuspected-of.ensures.value
-            (w.are_final.ensures.0 (sym w.value-is ∙ c.if-are_final.true))
+            c.unsuspected-of.ensures.value (w.are_final.ensures.0 (sym w.value-is ∙ c.if-are_final.true))
         | else-is_majority_of w ↦ absurd (cc)
       ];
       promises = subst Promised c.unsuspected-of.ensures.value (c.all_promised.ensures.0 all);
@@ -27,5 +25,4 @@ returns-then-are_final c = (
 )
   where
     Promised : ℕ → Type 0
-    Promised of = (i : ℕ) → has of i ≡ true
-        → AllPromise c.args.rows.now c.args.s.now.members i c.args.s.now.me
+    Promised of = (i : ℕ) → has of i ≡ true → AllPromise c.args.rows.now c.args.s.now.members i c.args.s.now.me

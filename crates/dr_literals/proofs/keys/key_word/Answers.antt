@@ -1,5 +1,4 @@
-use Rattle.std.proofs.Common.{length, ap, arith}
-use Rattle.std.proofs.lemmas.List.{length_push, length-drop}
+use Rattle.std.proofs.{Common.{length, ap, arith}, lemmas.List.{length_push, length-drop}}
 use Rattle.dr_literals.proofs.Digits.{key_more}
 use Rattle.dr_literals.proofs.keys.key_word.Goals as goal
 

@@ -1,12 +1,7 @@
 use Rattle.std.proofs.Common.{◌≡◌, Option, None, refl, subst, sym}
-use Rattle.dr_ages.specs.Ages.{HaveSomebodyPrompt, all_but}
-use Rattle.dr_ages.specs.Runs.{IsRunOf}
-use Rattle.dr_ages.specs.declared.mode.Mode.TheVariants.{Run}
-use Rattle.dr_ages.specs.declared.part.Part.{Part}
-use Rattle.dr_ages.specs.declared.stop.Stop.{Stop}
-use Rattle.dr_ages.specs.declared.stop.Stop.TheVariants.{OutOfMemory}
-use Rattle.dr_ages.proofs.Prompt.{all_prompt}
-use Rattle.dr_ages.proofs.Runs.{one_age}
+use Rattle.dr_ages.specs.{Ages.{HaveSomebodyPrompt, all_but}, Runs.IsRunOf, declared.mode.Mode.TheVariants.Run}
+use Rattle.dr_ages.specs.declared.{part.Part.Part, stop.Stop.{Stop, TheVariants.OutOfMemory}}
+use Rattle.dr_ages.proofs.{Prompt.all_prompt, Runs.one_age}
 use Rattle.dr_live.specs.Live.{calm_yard}
 use Rattle.dr_live.proofs.group.run_one.Goals as goal
 

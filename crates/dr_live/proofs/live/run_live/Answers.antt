@@ -1,15 +1,10 @@
 use Rattle.std.proofs.Common.{◌≡◌, ◌+◌, ◌≤◌, ◌∙◌, All, List, ℕ, ap, arith, length, subst, sym}
-use Rattle.std.proofs.lemmas.List.{length-map}
-use Rattle.std.proofs.lemmas.List.Elements.{All-map}
-use Rattle.dr_entry.specs.declared.end.AgeEnd.{AgeEnd}
-use Rattle.dr_entry.specs.declared.limits.TheConstants.{MAX_MESSAGES}
+use Rattle.std.proofs.lemmas.List.{length-map, Elements.All-map}
+use Rattle.dr_entry.specs.declared.{end.AgeEnd.AgeEnd, limits.TheConstants.MAX_MESSAGES}
 use Rattle.dr_script.specs.Ranges.{HasRanges}
-use Rattle.dr_senders.specs.Senders.{Lists}
-use Rattle.dr_senders.proofs.Growth.{grown_length}
+use Rattle.dr_senders.{specs.Senders.Lists, proofs.Growth.grown_length}
 use Rattle.dr_live.specs.Live.{AreReadyFor, AreUpTo, HasLived, calm_yard, plan_with}
-use Rattle.dr_live.proofs.Course.{ready_grown, ready_next}
-use Rattle.dr_live.proofs.Delivering.{lived}
-use Rattle.dr_live.proofs.Growing.{lists_fit}
+use Rattle.dr_live.proofs.{Course.{ready_grown, ready_next}, Delivering.lived, Growing.lists_fit}
 use Rattle.dr_live.proofs.live.run_live.Goals as goal
 
 pub loop-init : goal.loop-init
@@ -25,8 +20,7 @@ loop-init g c =
     }
 
 pub run_age-requires-clause-ranges : goal.run_age-requires-clause-ranges
-run_age-requires-clause-ranges g c κs within =
-    lists_fit c.args.plan.now c.in_ok-lists.lists c.requires.plan
+run_age-requires-clause-ranges g c κs within = lists_fit c.args.plan.now c.in_ok-lists.lists c.requires.plan
     (ap (λ (l : Lists). length l) c.in_ok-lists.ensures.same
     ∙ (grown_length c.loop.senders.taken c.take.new.self.taken c.take.ensures.grown ∙ c.loop.invariant.all))
     c.in_ok-lists.ensures.few c.in_ok-lists.ensures.fit
@@ -69,8 +63,7 @@ run_age-requires-2-clause-ranges g c κs within =
     (lists_fit c.args.plan.now c.in_ok-pushed.pushed c.requires.plan
     (grown_length c.loop.senders.taken c.in_ok-pushed.pushed pushed.grown ∙ c.loop.invariant.all)
     (subst (λ (l : Lists). All few l) (sym (pushed.all ∙ c.loop.invariant.given))
-    (All-map few g.A.App.left c.args.apps.items c.requires.few))
-    pushed.fit)
+    (All-map few g.A.App.left c.args.apps.items c.requires.few)) pushed.fit)
 
 pub run_age-requires-2-clause-few : goal.run_age-requires-2-clause-few
 run_age-requires-2-clause-few g c κs within =

@@ -1,7 +1,5 @@
 use Rattle.std.proofs.Common.{◌≡◌, arith, rules}
-use Rattle.dr_disk.specs.Calls.{Sync}
-use Rattle.dr_disk.specs.Disk.{added}
-use Rattle.dr_disk.proofs.Moments.{reaches_synced}
+use Rattle.dr_disk.{specs.{Calls.Sync, Disk.added}, proofs.Moments.reaches_synced}
 use Rattle.dr_log.proofs.appending.open_gate.Goals as goal
 
 pub write_at-requires-clause-inside : goal.write_at-requires-clause-inside

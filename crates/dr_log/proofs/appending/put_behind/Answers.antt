@@ -1,7 +1,5 @@
 use Rattle.std.proofs.Common.{◌≡◌, rules}
-use Rattle.dr_disk.specs.Calls.{Write}
-use Rattle.dr_disk.specs.Disk.{added}
-use Rattle.dr_disk.proofs.Images.{reaches_before}
+use Rattle.dr_disk.{specs.{Calls.Write, Disk.added}, proofs.Images.reaches_before}
 use Rattle.dr_log.proofs.appending.put_behind.Goals as goal
 
 pub open_gate-requires-clause-inside : goal.open_gate-requires-clause-inside

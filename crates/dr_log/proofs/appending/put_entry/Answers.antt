@@ -1,7 +1,5 @@
 use Rattle.std.proofs.Common.{◌≡◌, ap, sym, ◌∙◌, length, rules}
-use Rattle.dr_disk.specs.Calls.{Write}
-use Rattle.dr_disk.specs.Disk.{added}
-use Rattle.dr_disk.proofs.Images.{reaches_written}
+use Rattle.dr_disk.{specs.{Calls.Write, Disk.added}, proofs.Images.reaches_written}
 use Rattle.dr_log.proofs.appending.put_entry.Goals as goal
 
 pub returns-clause-reaches : goal.returns-clause-reaches

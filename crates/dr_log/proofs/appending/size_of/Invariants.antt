@@ -1,6 +1,5 @@
 use Rattle.std.proofs.Common.{◌≡◌, ◌<◌, ◌-◌, ◌^◌, ℕ, get_or, min, take}
-use Rattle.dr_entry.specs.declared.entry.Entry.{Entry}
-use Rattle.dr_entry.specs.Spelling.{FitsEntry}
+use Rattle.dr_entry.specs.{Spelling.FitsEntry, declared.entry.Entry.Entry}
 use Rattle.dr_log.specs.Standing.{entries_length}
 use Rattle.dr_log.proofs.appending.size_of.Given as goal
 

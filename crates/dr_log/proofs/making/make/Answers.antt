@@ -1,9 +1,7 @@
 use Rattle.std.proofs.Common.{◌≡◌, rules}
-use Rattle.dr_disk.specs.Calls.{Cut}
-use Rattle.dr_disk.specs.Disk.{added}
+use Rattle.dr_disk.specs.{Calls.Cut, Disk.added}
 use Rattle.dr_log_bytes.specs.Grammar.{newer_magic}
-use Rattle.dr_log.specs.Appending.{staged}
-use Rattle.dr_log.proofs.Told.{reaches_magic}
+use Rattle.dr_log.{specs.Appending.staged, proofs.Told.reaches_magic}
 use Rattle.dr_log.proofs.making.make.Goals as goal
 
 pub write_at-requires-2-clause-inside : goal.write_at-requires-2-clause-inside

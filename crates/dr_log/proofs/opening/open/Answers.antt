@@ -1,15 +1,10 @@
 use Rattle.std.proofs.Common.{◌≡◌, ℕ, List, [], length, Option, IfSome, sym, ap, subst, ◌∙◌, rules}
 use Rattle.std.proofs.lemmas.Result.{IfOk-weaker}
-use Rattle.dr_disk.specs.Calls.{Sync}
-use Rattle.dr_disk.specs.Disk.{Told, added, content_of}
-use Rattle.dr_disk.specs.Images.{Goes}
-use Rattle.dr_log.specs.Standing.{KeepsRecords}
-use Rattle.dr_log_bytes.specs.Content.{OnLog, empty_of}
-use Rattle.dr_log.specs.Kept.{IsSettled}
-use Rattle.dr_log.specs.Appending.{made, StopsMaking}
-use Rattle.dr_log_bytes.specs.Grammar.{IsLogOf, IsNoLog, StandFor}
-use Rattle.dr_log.proofs.Mounting.{mounted_new, mounted_there, keeps_still, synced_keeps, found_settled, found_records, found_damaged, made_keeps, stops_keeps, made_records, made_settled}
+use Rattle.dr_disk.specs.{Calls.Sync, Disk.{Told, added, content_of}, Images.Goes}
+use Rattle.dr_log.specs.{Appending.{made, StopsMaking}, Kept.IsSettled, Standing.KeepsRecords}
 use Rattle.dr_log.proofs.Growing.{least_of_log}
+use Rattle.dr_log.proofs.Mounting.{mounted_new, mounted_there, keeps_still, synced_keeps, found_settled, found_records, found_damaged, made_keeps, stops_keeps, made_records, made_settled}
+use Rattle.dr_log_bytes.specs.{Content.{OnLog, empty_of}, Grammar.{IsLogOf, IsNoLog, StandFor}}
 use Rattle.dr_log.proofs.opening.open.Goals as goal
 
 pub returns-in_err-sync-clause-any_moment : goal.returns-in_err-sync-clause-any_moment
@@ -30,8 +25,7 @@ returns-in_err-make-clause-any_moment g c =
     let told = g.D.Disk.told in
     let synced : told c.sync.new.self ≡ added Sync (told c.args.disk.now) = search rules in
     let long = subst (λ (o : Option Told).
-    IfSome o (λ t. c.in_ok-len.len ≡ length
-    (content_of t))) synced c.in_ok-len.ensures.value in
+    IfSome o (λ t. c.in_ok-len.len ≡ length (content_of t))) synced c.in_ok-len.ensures.value in
     stops_keeps (told c.args.disk.now) (told c.make.new.disk) c.in_ok-len.len long c.if-len-le-EMPTY.true (search rules)
     (subst (λ (o : Option Told). StopsMaking o (told c.make.new.disk)) (c.len.ensures.told
     ∙ synced) c.in_err-make.ensures.err)
@@ -41,8 +35,7 @@ returns-then-len-le-EMPTY-clause-records g c =
     let told = g.D.Disk.told in
     let synced : told c.sync.new.self ≡ added Sync (told c.args.disk.now) = search rules in
     let long = subst (λ (o : Option Told).
-    IfSome o (λ t. c.in_ok-len.len ≡ length
-    (content_of t))) synced c.in_ok-len.ensures.value in
+    IfSome o (λ t. c.in_ok-len.len ≡ length (content_of t))) synced c.in_ok-len.ensures.value in
     subst (λ (x : OnLog). IfSome (told c.args.disk.now) (λ t. StandFor (content_of t) x)) (sym c.empty.ensures)
     (made_records (told c.args.disk.now) c.in_ok-len.len long c.if-len-le-EMPTY.true)
 
@@ -57,8 +50,7 @@ returns-then-len-le-EMPTY-clause-any_moment g c =
     let told = g.D.Disk.told in
     let synced : told c.sync.new.self ≡ added Sync (told c.args.disk.now) = search rules in
     let long = subst (λ (o : Option Told).
-    IfSome o (λ t. c.in_ok-len.len ≡ length
-    (content_of t))) synced c.in_ok-len.ensures.value in
+    IfSome o (λ t. c.in_ok-len.len ≡ length (content_of t))) synced c.in_ok-len.ensures.value in
     made_keeps (told c.args.disk.now) (told c.make.new.disk) c.in_ok-len.len long c.if-len-le-EMPTY.true (search rules)
     (c.in_ok-make.ensures.ok ∙ ap made (c.len.ensures.told ∙ synced))
 
@@ -80,39 +72,32 @@ pub returns-clause-records : goal.returns-clause-records
 returns-clause-records g c =
     let told = g.D.Disk.told in
     let synced : told c.sync.new.self ≡ added Sync (told c.args.disk.now) = search rules in
-    let long = subst (λ (o : Option Told).
-    IfSome o (λ t. c.in_ok-len.len ≡ length (content_of t)))
+    let long = subst (λ (o : Option Told). IfSome o (λ t. c.in_ok-len.len ≡ length (content_of t)))
     (sym c.len.ensures.told) c.in_ok-len.ensures.value in
     IfOk-weaker c.found_in.result _ _ (λ found h. found_records (told c.args.disk.now)
     (told c.len.new.self) c.in_ok-bytes.bytes.items found c.in_ok-len.len
     (c.len.ensures.told ∙ synced) long c.if-len-le-EMPTY.false c.in_ok-bytes.ensures.bytes
-    (subst (λ (l : List ℕ). IsLogOf l found) c.as_slice.ensures.value h))
-    c.found_in.ensures.found
+    (subst (λ (l : List ℕ). IsLogOf l found) c.as_slice.ensures.value h)) c.found_in.ensures.found
 
 pub returns-clause-settled : goal.returns-clause-settled
 returns-clause-settled g c =
     let told = g.D.Disk.told in
     let synced : told c.sync.new.self ≡ added Sync (told c.args.disk.now) = search rules in
-    let reads = subst (λ (o : Option Told).
-    IfSome o (λ t. c.in_ok-bytes.bytes.items ≡ content_of t))
+    let reads = subst (λ (o : Option Told). IfSome o (λ t. c.in_ok-bytes.bytes.items ≡ content_of t))
     (sym c.read_all.ensures.told) c.in_ok-bytes.ensures.bytes in
-    let long = subst (λ (o : Option Told).
-    IfSome o (λ t. c.in_ok-len.len ≡ length (content_of t)))
+    let long = subst (λ (o : Option Told). IfSome o (λ t. c.in_ok-len.len ≡ length (content_of t)))
     (sym c.read_all.ensures.told) (subst (λ (o : Option Told).
-    IfSome o (λ t. c.in_ok-len.len ≡ length (content_of t)))
-    (sym c.len.ensures.told) c.in_ok-len.ensures.value) in
+    IfSome o (λ t. c.in_ok-len.len ≡ length (content_of t))) (sym c.len.ensures.told) c.in_ok-len.ensures.value) in
     IfOk-weaker c.found_in.result _ _ (λ found h. found_settled (told c.args.disk.now)
     (told c.read_all.new.disk) c.in_ok-bytes.bytes.items found c.in_ok-len.len
     (c.read_all.ensures.told ∙ (c.len.ensures.told ∙ synced)) long c.if-len-le-EMPTY.false reads
-    (subst (λ (l : List ℕ). IsLogOf l found) c.as_slice.ensures.value h))
-    c.found_in.ensures.found
+    (subst (λ (l : List ℕ). IsLogOf l found) c.as_slice.ensures.value h)) c.found_in.ensures.found
 
 pub returns-clause-damaged : goal.returns-clause-damaged
 returns-clause-damaged g c at e =
     let told = g.D.Disk.told in
     let synced : told c.sync.new.self ≡ added Sync (told c.args.disk.now) = search rules in
-    let long = subst (λ (o : Option Told).
-    IfSome o (λ t. c.in_ok-len.len ≡ length (content_of t)))
+    let long = subst (λ (o : Option Told). IfSome o (λ t. c.in_ok-len.len ≡ length (content_of t)))
     (sym c.len.ensures.told) c.in_ok-len.ensures.value in
     found_damaged (told c.args.disk.now) (told c.len.new.self) c.in_ok-bytes.bytes.items c.in_ok-len.len at
     (c.len.ensures.told ∙ synced) long c.if-len-le-EMPTY.false c.in_ok-bytes.ensures.bytes
@@ -123,8 +108,7 @@ returns-then-len-le-EMPTY-clause-calls g c =
     let told = g.D.Disk.told in
     let synced : told c.sync.new.self ≡ added Sync (told c.args.disk.now) = search rules in
     let long = subst (λ (o : Option Told).
-    IfSome o (λ t. c.in_ok-len.len ≡ length
-    (content_of t))) synced c.in_ok-len.ensures.value in
+    IfSome o (λ t. c.in_ok-len.len ≡ length (content_of t))) synced c.in_ok-len.ensures.value in
     mounted_new (told c.args.disk.now) (told c.make.new.disk) c.in_ok-len.len long c.if-len-le-EMPTY.true
     (c.in_ok-make.ensures.ok ∙ ap made (c.len.ensures.told ∙ synced))
 
@@ -133,12 +117,10 @@ returns-clause-calls g c =
     let told = g.D.Disk.told in
     let synced : told c.sync.new.self ≡ added Sync (told c.args.disk.now) = search rules in
     let long = subst (λ (o : Option Told).
-    IfSome o (λ t. c.in_ok-len.len ≡ length
-    (content_of t))) synced c.in_ok-len.ensures.value in
+    IfSome o (λ t. c.in_ok-len.len ≡ length (content_of t))) synced c.in_ok-len.ensures.value in
     IfOk-weaker c.found_in.result _ _ (λ found h. mounted_there (told c.args.disk.now)
     (told c.read_all.new.disk) c.in_ok-len.len long c.if-len-le-EMPTY.false
-    (c.read_all.ensures.told ∙ (c.len.ensures.told ∙ synced)))
-    c.found_in.ensures.found
+    (c.read_all.ensures.told ∙ (c.len.ensures.told ∙ synced))) c.found_in.ensures.found
 
 pub returns-clause-left_damaged : goal.returns-clause-left_damaged
 returns-clause-left_damaged g c at e =

@@ -1,5 +1,4 @@
-use Rattle.std.proofs.Common.{◌≡◌, ◌≤◌, ◌++◌, take}
-use Rattle.std.specs.Prelude.{vec_capacity}
+use Rattle.std.{specs.Prelude.vec_capacity, proofs.Common.{◌≡◌, ◌≤◌, ◌++◌, take}}
 use Rattle.dr_log.proofs.shelves.push_all.Given as goal
 
 abbrev pub invariant-loop-i : goal.invariant-loop-i

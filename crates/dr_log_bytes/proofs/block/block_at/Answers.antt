@@ -1,6 +1,5 @@
 use Rattle.std.proofs.Common.{◌≡◌, ℕ, ◌+◌, ◌<◌, List, length, get_or, subst, sym, rules}
-use Rattle.dr_entry.specs.Spelling.{Spells}
-use Rattle.dr_entry.proofs.ListFacts.{rest_is}
+use Rattle.dr_entry.{specs.Spelling.Spells, proofs.ListFacts.rest_is}
 use Rattle.dr_log_bytes.proofs.Reading.{broken_behind}
 use Rattle.dr_log_bytes.proofs.block.block_at.Goals as goal
 

@@ -1,6 +1,5 @@
 use Rattle.std.proofs.Common.{rules, ◌≡◌, ◌+◌, ◌<◌, ◌^◌, ℕ, inr, subst, true, arith}
-use Rattle.dr_log_bytes.specs.Content.{IsPlaced, block_length, with_record}
-use Rattle.dr_log_bytes.specs.Grammar.{IsNoLog}
+use Rattle.dr_log_bytes.specs.{Content.{IsPlaced, block_length, with_record}, Grammar.IsNoLog}
 use Rattle.dr_log_bytes.proofs.Reading.{length_parsed, misplaced_read, next_parsed, record_inside}
 use Rattle.dr_log_bytes.proofs.parsing.parse.Goals as goal
 
@@ -19,9 +18,8 @@ loop-record-preserved c =
     c.in-Record.record c.loop-record.invariant c.in-Record.ensures placed taken
 
 pub take-requires-clause-small : goal.take-requires-clause-small
-take-requires-clause-small c =
-    omega (
-      arith,
-      length_parsed c.args.bytes.now c.loop-record.content c.loop-record.at c.loop-record.invariant,
-      record_inside c.args.bytes.now c.loop-record.at c.in-Record.len c.in-Record.record c.in-Record.ensures,
-    )
+take-requires-clause-small c = omega (
+  arith,
+  length_parsed c.args.bytes.now c.loop-record.content c.loop-record.at c.loop-record.invariant,
+  record_inside c.args.bytes.now c.loop-record.at c.in-Record.len c.in-Record.record c.in-Record.ensures,
+)

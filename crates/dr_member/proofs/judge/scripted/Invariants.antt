@@ -1,5 +1,4 @@
-use Rattle.std.proofs.Common.{◌≡◌, drop}
-use Rattle.std.specs.List.{find}
+use Rattle.std.{specs.List.find, proofs.Common.{◌≡◌, drop}}
 use Rattle.dr_program.specs.Running.{is_scripted}
 use Rattle.dr_member.proofs.judge.scripted.Given as goal
 

@@ -1,17 +1,13 @@
 use Rattle.std.proofs.Common.{◌≡◌, ℕ, ◌<◌, true, sym, subst, ◌∙◌}
 use Rattle.dr_words.specs.Columns.{columns_of}
-use Rattle.dr_program.specs.declared.place.Part.{Part}
-use Rattle.dr_program.specs.Replica.{is_other}
-use Rattle.dr_program.specs.Turn.{columns_in, rows_in}
+use Rattle.dr_program.specs.{Replica.is_other, Turn.{columns_in, rows_in}, declared.place.Part.Part}
 use Rattle.dr_program.proofs.Replicas.{cell_test}
 use Rattle.dr_turn.proofs.Search.{push_applies}
-use Rattle.dr_member.specs.Search.{standing}
-use Rattle.dr_member.proofs.Passing.{pushes_idle, pushes_nobody, pushes_nothing}
+use Rattle.dr_member.{specs.Search.standing, proofs.Passing.{pushes_idle, pushes_nobody, pushes_nothing}}
 use Rattle.dr_member.proofs.search.first_push.Goals as goal
 
 pub returns-then-not-is_other : goal.returns-then-not-is_other
-returns-then-not-is_other c = λ x l h.
-    pushes_nobody c.args.replica.now c.args.fate.now c.args.place x c.requires.part
+returns-then-not-is_other c = λ x l h. pushes_nobody c.args.replica.now c.args.fate.now c.args.place x c.requires.part
     (sym c.is_other.ensures ∙ c.if-not-is_other.true)
 
 pub returns-then-not-has_pushes : goal.returns-then-not-has_pushes
@@ -25,8 +21,7 @@ returns-then-next-columns c =
     let p = c.args.place in
     let next : ℕ = c.next_changed-next.result in
     let other : is_other replica p.row ≡ true = sym c.is_other.ensures ∙ c.if-not-is_other.false in
-    let within : next < columns_of replica.roster replica.window =
-    subst (λ (n : ℕ). next < n)
+    let within : next < columns_of replica.roster replica.window = subst (λ (n : ℕ). next < n)
     (c.columns-columns.ensures ∙ (λ z. columns_of (c.shape.ensures.members z) (c.shape.ensures.window z)))
     c.if-next-columns.true in
     let row : p.row < replica.roster =

@@ -4,8 +4,7 @@ use Rattle.dr_rows.specs.Words.{changed}
 use Rattle.dr_member.proofs.search.next_changed.Goals as goal
 
 pub loop-column-preserved : goal.loop-column-preserved
-loop-column-preserved c =
-    none_more (changed c.args.replica.now.rows c.args.to) c.args.from c.loop-column.column
+loop-column-preserved c = none_more (changed c.args.replica.now.rows c.args.to) c.args.from c.loop-column.column
     c.loop-column.invariant (sym c.has_changed.ensures ∙ c.if-has_changed.false)
 
 pub returns-clause-unchanged : goal.returns-clause-unchanged

@@ -1,5 +1,4 @@
-use Rattle.std.proofs.Common.{sym, ap, ◌∙◌}
-use Rattle.std.specs.Prelude.{is_some}
+use Rattle.std.{specs.Prelude.is_some, proofs.Common.{sym, ap, ◌∙◌}}
 use Rattle.dr_program.specs.Running.{applies}
 use Rattle.dr_turn.proofs.Staying.{settled_here, stops_end}
 use Rattle.dr_member.specs.Search.{standing}

@@ -1,8 +1,7 @@
 use Rattle.std.proofs.Common.{◌≡◌, None}
 use Rattle.dr_program.specs.Running.{members, columns, settled}
 use Rattle.dr_turn.specs.Search.{IsUnderway, left}
-use Rattle.dr_member.specs.Ready.{KeepsReady}
-use Rattle.dr_member.specs.Search.{standing}
+use Rattle.dr_member.specs.{Ready.KeepsReady, Search.standing}
 use Rattle.dr_member.proofs.search.settle_inside.Given as goal
 
 abbrev pub decreases-loop-place : goal.decreases-loop-place

@@ -1,18 +1,13 @@
+use Rattle.std.{specs.Prelude.{All, Err}, proofs.lemmas.List.Elements.{All-drop, All-take}}
 use Rattle.std.proofs.Common.{◌≡◌, sym, ap, subst, ℕ, ◌-◌, ◌+◌, List, [], ◌∷◌, ◌++◌, length, take, drop, max, rules, arith}
-use Rattle.std.specs.Prelude.{All, Err}
-use Rattle.std.proofs.lemmas.List.Elements.{All-drop, All-take}
-use Rattle.dr_entry.specs.declared.entry.Entry.{Entry}
-use Rattle.dr_entry.specs.declared.entry.Entry.TheVariants.{View}
-use Rattle.dr_entry.specs.Spelling.{IsValidEntry}
+use Rattle.dr_entry.specs.{Spelling.IsValidEntry, declared.entry.Entry.{Entry, TheVariants.View}}
 use Rattle.dr_entry.proofs.Entries.{lacked_is, lacking_all}
 use Rattle.dr_io.specs.Faults.{Rose}
 use Rattle.dr_history.proofs.Histories.{lacking}
-use Rattle.dr_log.specs.Standing.{entries_length}
-use Rattle.dr_log.specs.State.{LogState}
+use Rattle.dr_log.specs.{Standing.entries_length, State.LogState}
+use Rattle.dr_opening.{specs.CatchingUp.{FitsOrIsFull, lacked, opened_with}, proofs.catching_up.catch_up.Given.Over}
 use Rattle.dr_opening.specs.declared.catching_up.CatchFault.TheVariants.{OutOfMemory}
-use Rattle.dr_opening.specs.CatchingUp.{FitsOrIsFull, lacked, opened_with}
 use Rattle.dr_opening.proofs.Catching.{GotRoom, caught_all, full_alone, full_by, left_alone, stayed_still, stopped_stayed, told_disk}
-use Rattle.dr_opening.proofs.catching_up.catch_up.Given.{Over}
 use Rattle.dr_opening.proofs.catching_up.catch_up.Goals as goal
 
 pub append_entries-requires-clause-valid : goal.append_entries-requires-clause-valid
@@ -49,8 +44,7 @@ returns-in_err-reserve-clause-left_alone g c =
 
 pub returns-in_err-reserve-clause-limit : goal.returns-in_err-reserve-clause-limit
 returns-in_err-reserve-clause-limit g c =
-    let answer : c.from_residual.result ≡ Err OutOfMemory = search rules in
-    rw answer tt
+    let answer : c.from_residual.result ≡ Err OutOfMemory = search rules in rw answer tt
 
 pub returns-in-Ok-clause-caught : goal.returns-in-Ok-clause-caught
 returns-in-Ok-clause-caught g c =
@@ -68,8 +62,7 @@ returns-in-Ok-clause-caught g c =
     let all : old.content.entries ++ (first ++ last ∷ []) ≡ whole =
     lacking_all old.content.entries first start.entries last (View start.age 0 c.args.members)
     (lacking old.content.entries start.entries have entries c.requires.part c.entries-have.ensures
-    c.as_slice-entries.ensures)
-    (ap (λ (n : ℕ). View start.age 0 n) c.bits.ensures) in
+    c.as_slice-entries.ensures) (ap (λ (n : ℕ). View start.age 0 n) c.bits.ensures) in
     let is = lacked_is old.content.entries (first ++ last ∷ []) whole all in
     let got : GotRoom told faults old mid = record {
       spare_entries = max old.spare_entries (length entries - length have + 1);
@@ -81,8 +74,7 @@ returns-in-Ok-clause-caught g c =
       calm = c.in_ok-reserve.ensures.faults;
     } in
     caught_all told faults whole (first ++ last ∷ []) old mid new got c.requires.whole all is c.in-Ok.ensures.ok
-    c.in-Ok.ensures.calls c.in-Ok.ensures.any_moment c.in-Ok.ensures.durable
-    c.in-Ok.ensures.calm
+    c.in-Ok.ensures.calls c.in-Ok.ensures.any_moment c.in-Ok.ensures.durable c.in-Ok.ensures.calm
 
 pub returns-in-Ok-clause-limit : goal.returns-in-Ok-clause-limit
 returns-in-Ok-clause-limit g c =
@@ -100,8 +92,7 @@ returns-in-Ok-clause-limit g c =
     let all : old.content.entries ++ (first ++ last ∷ []) ≡ whole =
     lacking_all old.content.entries first start.entries last (View start.age 0 c.args.members)
     (lacking old.content.entries start.entries have entries c.requires.part c.entries-have.ensures
-    c.as_slice-entries.ensures)
-    (ap (λ (n : ℕ). View start.age 0 n) c.bits.ensures) in
+    c.as_slice-entries.ensures) (ap (λ (n : ℕ). View start.age 0 n) c.bits.ensures) in
     let is = lacked_is old.content.entries (first ++ last ∷ []) whole all in
     let got : GotRoom told faults old mid = record {
       spare_entries = max old.spare_entries (length entries - length have + 1);
@@ -137,11 +128,9 @@ lacks g c =
     lacked_is old.content.entries (news g c) (opened_with start c.args.members)
     (lacking_all old.content.entries (first g c) start.entries last (View start.age 0 c.args.members)
     (lacking old.content.entries start.entries c.entries-have.result.now c.as_slice-entries.result.now c.requires.part
-    c.entries-have.ensures c.as_slice-entries.ensures)
-    (ap (λ (n : ℕ). View start.age 0 n) c.bits.ensures))
+    c.entries-have.ensures c.as_slice-entries.ensures) (ap (λ (n : ℕ). View start.age 0 n) c.bits.ensures))
 
-got : (g : Over) (c : goal.After-fault_of g)
-    → GotRoom g.D.Disk.told g.D.Disk.faults c.args.log.now c.reserve.new.self
+got : (g : Over) (c : goal.After-fault_of g) → GotRoom g.D.Disk.told g.D.Disk.faults c.args.log.now c.reserve.new.self
 got g c = record {
   spare_entries = max c.args.log.now.spare_entries
       (length c.as_slice-entries.result.now - length c.entries-have.result.now + 1);

@@ -1,6 +1,5 @@
 use Rattle.std.proofs.Common.{ap, subst, inr, arith, length, take}
-use Rattle.dr_opening.specs.CuttingBack.{IsCommonFront}
-use Rattle.dr_opening.proofs.Cutting.{due_if_less}
+use Rattle.dr_opening.{specs.CuttingBack.IsCommonFront, proofs.Cutting.due_if_less}
 use Rattle.dr_opening.proofs.cutting_back.cut_back.Goals as goal
 
 pub returns-clause-cut : goal.returns-clause-cut

@@ -1,10 +1,8 @@
 use Rattle.std.proofs.Common.{refl, sym, subst, List}
 use Rattle.dr_quorum.specs.Handing.{handed_by}
 use Rattle.dr_quorum_laws.specs.Holding.{HoldSince}
-use Rattle.dr_restart.specs.declared.lists.Attempt.{Attempt}
-use Rattle.dr_restart.specs.Groups.{first_group_of, group_of}
-use Rattle.dr_opening.specs.Lists.{all_as_lists}
-use Rattle.dr_opening.proofs.Trying.{told_try}
+use Rattle.dr_restart.specs.{Groups.{first_group_of, group_of}, declared.lists.Attempt.Attempt}
+use Rattle.dr_opening.{specs.Lists.all_as_lists, proofs.Trying.told_try}
 use Rattle.dr_opening.proofs.laws.openings_hold.Goals as goal
 
 pub returns-clause-held : goal.returns-clause-held
@@ -17,8 +15,7 @@ returns-clause-held c w contents run left held is among came told =
       all = is.all;
       chosen = c.choices_go_by_messages.ensures.start (first_group_of c.args.script.now).opening g.opening
           (handed_by (all_as_lists contents)) c.args.added.now.start refl is.chosen;
-    })
-    among came told))
+    }) among came told))
 
 pub returns-clause-kept : goal.returns-clause-kept
 returns-clause-kept c w contents next run left held is among came told chosen =
@@ -31,6 +28,4 @@ returns-clause-kept c w contents next run left held is among came told chosen =
       all = is.all;
       chosen = c.choices_go_by_messages.ensures.start (first_group_of c.args.script.now).opening g.opening
           (handed_by (all_as_lists contents)) c.args.added.now.start refl is.chosen;
-    })
-    among came told)))
-    chosen
+    }) among came told))) chosen

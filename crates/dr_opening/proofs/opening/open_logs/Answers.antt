@@ -1,7 +1,5 @@
-use Rattle.std.proofs.Common.{◌≡◌, rules}
-use Rattle.std.specs.Prelude.{Err}
-use Rattle.dr_opening.specs.declared.opening.OpenFault.{OpenFault}
-use Rattle.dr_opening.proofs.Crashing.{ready_by}
+use Rattle.std.{specs.Prelude.Err, proofs.Common.{◌≡◌, rules}}
+use Rattle.dr_opening.{specs.declared.opening.OpenFault.OpenFault, proofs.Crashing.ready_by}
 use Rattle.dr_opening.proofs.Opened.{begins_after, left_after, tried_after, unvoted_on}
 use Rattle.dr_opening.proofs.opening.open_logs.Goals as goal
 
@@ -25,8 +23,7 @@ returns-clause-tried g c =
     c.raise_all.ensures.raised
 
 pub returns-clause-left : goal.returns-clause-left
-returns-clause-left g c =
-    left_after (Unit {0}) g.D.Disk.told g.D.Disk.faults c.args.start.now c.args.logs.now
+returns-clause-left g c = left_after (Unit {0}) g.D.Disk.told g.D.Disk.faults c.args.start.now c.args.logs.now
     c.vote_on_all.new.logs c.raise_all.new.logs c.raise_all.result c.requires.few c.in_ok-vote_on_all.ensures.voted
     c.raise_all.ensures.stopped
 

@@ -18,8 +18,7 @@ loop-m-preserved g c =
     (omega (arith, c.loop-m-test.true, c.loop-m.invariant.all)) c.in_default.ensures.raised
 
 pub returns-in-Err-clause-stopped : goal.returns-in-Err-clause-stopped
-returns-in-Err-clause-stopped g c =
-    stops_here (GotStart g.D.Disk.told g.D.Disk.faults c.args.start.now)
+returns-in-Err-clause-stopped g c = stops_here (GotStart g.D.Disk.told g.D.Disk.faults c.args.start.now)
     (λ old new. LacksStart g.D.Disk.told g.D.Disk.faults c.args.start.now old new c.in-Err.why) c.args.logs.now
     c.loop-m.logs c.loop-m.m c.index-logs-m.result c.raise_at.new.place c.loop-m.invariant
     (omega (arith, c.loop-m-test.true, c.loop-m.invariant.all)) c.in-Err.ensures.stuck

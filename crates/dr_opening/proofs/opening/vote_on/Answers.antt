@@ -1,9 +1,6 @@
-use Rattle.std.proofs.Common.{◌≡◌, rules, arith, max}
-use Rattle.std.specs.Prelude.{Err}
-use Rattle.dr_opening.specs.declared.catching_up.CatchFault.TheVariants.{OutOfMemory}
-use Rattle.dr_opening.proofs.Catching.{GotRoom}
-use Rattle.dr_opening.proofs.Voting.{no_room_for, unvoted_by, voted_by}
-use Rattle.dr_opening.proofs.opening.vote_on.Given.{Over}
+use Rattle.std.{specs.Prelude.Err, proofs.Common.{◌≡◌, rules, arith, max}}
+use Rattle.dr_opening.{specs.declared.catching_up.CatchFault.TheVariants.OutOfMemory, proofs.Catching.GotRoom}
+use Rattle.dr_opening.proofs.{Voting.{no_room_for, unvoted_by, voted_by}, opening.vote_on.Given.Over}
 use Rattle.dr_opening.proofs.opening.vote_on.Goals as goal
 
 -- a log that got no room, for want of memory

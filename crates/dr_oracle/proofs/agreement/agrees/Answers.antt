@@ -1,6 +1,5 @@
 use Rattle.std.proofs.Common.{List, subst, sym}
-use Rattle.dr_entry.specs.declared.entry.Entry.{Entry}
-use Rattle.dr_entry.proofs.BoolFacts.{refuted}
+use Rattle.dr_entry.{specs.declared.entry.Entry.Entry, proofs.BoolFacts.refuted}
 use Rattle.dr_history.specs.Agreement.{accounts_of}
 use Rattle.dr_oracle.specs.Agreeing.{AreConsistent}
 use Rattle.dr_oracle.proofs.agreement.agrees.Goals as goal

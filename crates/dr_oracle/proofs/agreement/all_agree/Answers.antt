@@ -3,8 +3,7 @@ use Rattle.dr_history.proofs.Histories.{below_sixteen}
 use Rattle.dr_oracle.proofs.agreement.all_agree.Goals as goal
 
 pub loop-member-preserved : goal.loop-member-preserved
-loop-member-preserved c =
-    below_more _ _ c.loop-member.invariant
+loop-member-preserved c = below_more _ _ c.loop-member.invariant
     (c.is_absent_or_agrees.ensures.0 c.if-not-is_absent_or_agrees.false)
 
 pub returns : goal.returns

@@ -1,8 +1,5 @@
-use Rattle.std.proofs.Common.{◌≤◌, arith, sym, ℕ, List, All, length, refl, subst}
-use Rattle.std.proofs.lemmas.Grind.{common_steps}
-use Rattle.std.proofs.lemmas.List.{take_all}
-use Rattle.std.proofs.lemmas.List.Elements.{All-more}
-use Rattle.std.proofs.lemmas.Option.{get_or_from_slice_get, slice_get_read}
+use Rattle.std.proofs.{Common.{◌≤◌, arith, sym, ℕ, List, All, length, refl, subst}, lemmas.Grind.common_steps}
+use Rattle.std.proofs.lemmas.{List.{take_all, Elements.All-more}, Option.{get_or_from_slice_get, slice_get_read}}
 use Rattle.dr_entry.specs.declared.end.MemberEnd.{MemberEnd}
 use Rattle.dr_oracle.proofs.agreement.all_told.Goals as goal
 

@@ -1,7 +1,6 @@
-use Rattle.std.proofs.Common.{◌≡◌, ◌≢◌, ◌==◌, List, take, All, slice_get, None, Some, sym, ap, subst, ◌∙◌}
 use Rattle.std.specs.List.{position}
-use Rattle.dr_entry.specs.declared.end.SentItem.{SentItem}
-use Rattle.dr_entry.specs.declared.end.SentItem.TheVariants.{Index}
+use Rattle.std.proofs.Common.{◌≡◌, ◌≢◌, ◌==◌, List, take, All, slice_get, None, Some, sym, ap, subst, ◌∙◌}
+use Rattle.dr_entry.specs.declared.end.SentItem.{SentItem, TheVariants.Index}
 use Rattle.dr_history.specs.History.{sent_of}
 use Rattle.dr_history.proofs.SentLemmas.{place_in-no_member, place_in-not_sent, place_in-sent}
 use Rattle.dr_oracle.proofs.delivery.place_in.Goals as goal

@@ -1,17 +1,14 @@
 use Rattle.std.proofs.Common.{◌≡◌, Decides, List, length, inl, inr, ap}
-use Rattle.dr_entry.specs.declared.entry.Entry.{Entry}
-use Rattle.dr_entry.proofs.BoolFacts.{refuted, both_decide, same_decides}
+use Rattle.dr_entry.{specs.declared.entry.Entry.Entry, proofs.BoolFacts.{refuted, both_decide, same_decides}}
 use Rattle.dr_history.specs.History.{sent_of}
 use Rattle.dr_oracle.proofs.Orders.{FrontParts, InOrder-from_parts, parts_from_InOrder}
-use Rattle.dr_oracle.proofs.order.in_order.Goals as goal
 use Rattle.dr_oracle.proofs.order.in_order.Goals.{Joined-views_are_in_order, then-views_are_in_order, else-views_are_in_order}
+use Rattle.dr_oracle.proofs.order.in_order.Goals as goal
 
 -- the first two tests decide the views and the places
-front : (c : Joined-views_are_in_order)
-    → Decides c.if-views_are_in_order.value (FrontParts c.args.opening.now (sent_of c.args.ends.now)
-    c.args.history.now (length c.as_slice-start.result.now))
-front c =
-    both_decide c.views_are_in_order.result c.if-views_are_in_order.value c.views_are_in_order.ensures
+front : (c : Joined-views_are_in_order) → Decides c.if-views_are_in_order.value (FrontParts c.args.opening.now
+    (sent_of c.args.ends.now) c.args.history.now (length c.as_slice-start.result.now))
+front c = both_decide c.views_are_in_order.result c.if-views_are_in_order.value c.views_are_in_order.ensures
     (elim c.if-views_are_in_order.branch [
       | then-views_are_in_order w ↦
           inl (w.if-views_are_in_order.true, same_decides _ _ w.value-is w.places_are_in_order.ensures)
@@ -19,8 +16,7 @@ front c =
     ])
 
 -- and they are about what stands behind the start
-start_is : (c : Joined-views_are_in_order)
-    → length c.as_slice-start.result.now ≡ length c.args.opening.now.start
+start_is : (c : Joined-views_are_in_order) → length c.as_slice-start.result.now ≡ length c.args.opening.now.start
 start_is c = ap (λ (xs : List Entry). length xs) c.as_slice-start.ensures
 
 pub returns-then-places_are_in_order : goal.returns-then-places_are_in_order

@@ -1,8 +1,5 @@
-use Rattle.std.proofs.Common.{◌≡◌, slice_get, None, Some, sym, ap, ◌∙◌, arith}
-use Rattle.std.proofs.lemmas.Bool.{eqb-true, eq-eqb}
-use Rattle.std.proofs.lemmas.Bool.Decides.{Decides-eqb}
-use Rattle.std.proofs.lemmas.Grind.{common_steps}
-use Rattle.std.proofs.lemmas.Option.{gets, none-some, same_Some}
+use Rattle.std.proofs.{Common.{◌≡◌, slice_get, None, Some, sym, ap, ◌∙◌, arith}, lemmas.Bool.{eqb-true, eq-eqb}}
+use Rattle.std.proofs.lemmas.{Bool.Decides.Decides-eqb, Grind.common_steps, Option.{gets, none-some, same_Some}}
 use Rattle.std.proofs.lemmas.Slice.Eq.{slice_eq-Decides}
 use Rattle.dr_entry.proofs.BoolFacts.{refuted}
 use Rattle.dr_oracle.proofs.order.is_next.Goals as goal

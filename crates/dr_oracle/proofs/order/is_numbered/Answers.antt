@@ -1,11 +1,7 @@
 use Rattle.std.proofs.Common.{◌≡◌, ◌++◌, ℕ, List, drop, get_or, slice_get, Some, refl, sym, ap, subst, ◌∙◌, take-append-drop, arith}
-use Rattle.std.proofs.lemmas.List.{take_all}
-use Rattle.std.proofs.lemmas.Option.{slice_get_within}
-use Rattle.dr_entry.specs.declared.entry.Entry.{Entry}
-use Rattle.dr_entry.specs.declared.entry.Entry.TheVariants.{Msg}
-use Rattle.dr_entry.proofs.BoolFacts.{refuted}
-use Rattle.dr_history.specs.History.{messages_of}
-use Rattle.dr_history.specs.Order.{messages_from, numbered_messages}
+use Rattle.std.proofs.lemmas.{List.take_all, Option.slice_get_within}
+use Rattle.dr_entry.{specs.declared.entry.Entry.{Entry, TheVariants.Msg}, proofs.BoolFacts.refuted}
+use Rattle.dr_history.specs.{History.messages_of, Order.{messages_from, numbered_messages}}
 use Rattle.dr_history.proofs.NumberedLemmas.{numbered_here, numbered_step}
 use Rattle.dr_oracle.proofs.order.is_numbered.Goals as goal
 
@@ -21,8 +17,7 @@ returns-then-not-is_next c =
       λ p. absurd (refuted c.is_next.result c.is_next.ensures c.if-not-is_next.true
           (let here = numbered_here o c.args.of h i c.loop-entry.next c.in-Msg.index c.in-Msg.bytes
           c.loop-entry-test.true read c.loop-entry.invariant.so_far c.loop-entry.invariant.given p in (
-            ap (λ (ms : List (List ℕ)). slice_get ms c.loop-entry.next) c.messages_of-messages.ensures
-                ∙ here.0,
+            ap (λ (ms : List (List ℕ)). slice_get ms c.loop-entry.next) c.messages_of-messages.ensures ∙ here.0,
             here.1,
           ))),
     )
@@ -37,8 +32,7 @@ loop-entry-preserved c =
     let read = subst (λ (e : Entry). e ≡ get_or h i e) message c.entry-item.is in
     let is = c.is_next.ensures.0 c.if-not-is_next.false in
     let at : slice_get (messages_of o c.args.of) c.loop-entry.next ≡ Some c.in-Msg.bytes =
-    ap (λ (ms : List (List ℕ)). slice_get ms c.loop-entry.next) (sym c.messages_of-messages.ensures)
-    ∙ is.0 in
+    ap (λ (ms : List (List ℕ)). slice_get ms c.loop-entry.next) (sym c.messages_of-messages.ensures) ∙ is.0 in
     record {
       so_far = numbered_step o c.args.of h i c.loop-entry.next c.in-Msg.index c.in-Msg.bytes
           c.loop-entry-test.true read c.loop-entry.invariant.so_far at is.1;

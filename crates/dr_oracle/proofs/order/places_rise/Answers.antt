@@ -1,7 +1,6 @@
 use Rattle.std.proofs.Common.{refl, arith}
 use Rattle.dr_entry.proofs.BoolFacts.{refuted}
-use Rattle.dr_history.specs.History.{sent_of}
-use Rattle.dr_history.proofs.Histories.{place_at-within}
+use Rattle.dr_history.{specs.History.sent_of, proofs.Histories.place_at-within}
 use Rattle.dr_oracle.proofs.order.places_rise.Goals as goal
 
 pub returns-then-not-rises : goal.returns-then-not-rises
@@ -13,9 +12,7 @@ returns-then-not-rises c = (
 
 pub returns : goal.returns
 returns c = (
-  λ _ i j p q after less same at there.
-      c.loop-j.invariant i j (omega
-      (arith, place_at-within (sent_of c.args.ends.now) c.args.history.now j q there)) after less p q
-      same at there,
+  λ _ i j p q after less same at there. c.loop-j.invariant i j (omega
+      (arith, place_at-within (sent_of c.args.ends.now) c.args.history.now j q there)) after less p q same at there,
   λ _. refl,
 )

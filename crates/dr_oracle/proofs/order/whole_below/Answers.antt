@@ -1,5 +1,4 @@
-use Rattle.std.proofs.Common.{◌≡◌, length, take, Some, sym, ap, ◌∙◌, le_refl}
-use Rattle.std.proofs.lemmas.List.{take_all}
+use Rattle.std.proofs.{Common.{◌≡◌, length, take, Some, sym, ap, ◌∙◌, le_refl}, lemmas.List.take_all}
 use Rattle.dr_entry.proofs.BoolFacts.{refuted}
 use Rattle.dr_history.specs.History.{sent_of, view_of, place_at}
 use Rattle.dr_oracle.proofs.order.whole_below.Goals as goal
@@ -15,6 +14,5 @@ returns-then-not-holds_delivered c =
     let before = same ∙ (ap view_of (take_all (length h) h (le_refl (length h))) ∙ last) in (
       λ t. absurd (cc),
       λ all. absurd (refuted c.holds_delivered.result c.holds_delivered.ensures c.if-not-holds_delivered.true
-          (all c.in-Some-Some.place c.loop-lower.lower c.in-Some-Some.view before last at
-          c.loop-lower-test.true)),
+          (all c.in-Some-Some.place c.loop-lower.lower c.in-Some-Some.view before last at c.loop-lower-test.true)),
     )

@@ -1,5 +1,4 @@
-use Rattle.std.proofs.Common.{◌≡◌, filter}
-use Rattle.std.specs.List.{range_with_len}
+use Rattle.std.{specs.List.range_with_len, proofs.Common.{◌≡◌, filter}}
 use Rattle.dr_history.specs.Places.{is_held}
 use Rattle.dr_oracle.proofs.places.held_places.Given as goal
 

@@ -1,5 +1,4 @@
-use Rattle.std.proofs.Common.{rules, sym, drop, length}
-use Rattle.std.proofs.lemmas.Slice.Eq.{starts_is}
+use Rattle.std.proofs.{Common.{rules, sym, drop, length}, lemmas.Slice.Eq.starts_is}
 use Rattle.dr_oracle.proofs.prefix.is_prefix.Goals as goal
 
 pub returns : goal.returns

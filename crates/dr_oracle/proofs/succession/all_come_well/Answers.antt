@@ -3,8 +3,7 @@ use Rattle.dr_history.proofs.Histories.{below_sixteen}
 use Rattle.dr_oracle.proofs.succession.all_come_well.Goals as goal
 
 pub loop-member-preserved : goal.loop-member-preserved
-loop-member-preserved c =
-    below_more _ _ c.loop-member.invariant (c.comes_well.ensures.0 c.if-not-comes_well.false)
+loop-member-preserved c = below_more _ _ c.loop-member.invariant (c.comes_well.ensures.0 c.if-not-comes_well.false)
 
 pub returns : goal.returns
 returns c = (

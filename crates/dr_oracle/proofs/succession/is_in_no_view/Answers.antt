@@ -22,8 +22,7 @@ loop-entry-preserved c =
     let read = slice_get_read c.args.entries.now _ c.loop-entry.entry-index c.entry-item.result refl
     c.loop-entry-test.true c.entry-item.is in
     below_more _ _ c.loop-entry.invariant
-    (λ number members at. c.spares.ensures.0 c.if-not-spares.false number members
-    (same_Some _ _ (sym read ∙ at)))
+    (λ number members at. c.spares.ensures.0 c.if-not-spares.false number members (same_Some _ _ (sym read ∙ at)))
 
 pub returns : goal.returns
 returns c = (

@@ -4,7 +4,5 @@ use Rattle.dr_history.specs.Members.{has}
 use Rattle.dr_oracle.proofs.succession.is_in_no_view.Given as goal
 
 abbrev pub invariant-loop-entry : goal.invariant-loop-entry
-invariant-loop-entry l =
-    (i : ℕ) → i < l.entry-index → (number members : ℕ)
-    → slice_get l.entries i ≡ Some (View l.age number members)
-    → has members l.member ≡ false
+invariant-loop-entry l = (i : ℕ) → i < l.entry-index → (number members : ℕ)
+    → slice_get l.entries i ≡ Some (View l.age number members) → has members l.member ≡ false

@@ -1,8 +1,7 @@
 use Rattle.std.proofs.Common.{◌∙◌, ◌&&◌, ap, sym, subst, Bool, MatchBool, not}
 use Rattle.dr_ages.specs.Ages.{HaveSomebodyPrompt}
 use Rattle.dr_history.specs.Members.{has}
-use Rattle.dr_outcome.specs.Outcome.{AreAllLate}
-use Rattle.dr_outcome.proofs.Due.{all_late}
+use Rattle.dr_outcome.{specs.Outcome.AreAllLate, proofs.Due.all_late}
 use Rattle.dr_outcome.proofs.playing.are_all_late.Goals as goal
 
 pub all-requires-clause-some : goal.all-requires-clause-some
@@ -16,9 +15,7 @@ returns c =
     let script = c.args.script.now in
     let part = c.args.part.now in
     subst (λ (b : Bool). MatchBool b (AreAllLate script part) (HaveSomebodyPrompt script part))
-    (sym c.is_first_alone.ensures)
-    (all_late script part c.without-there.result c.without-prompt.result
-    (λ i. c.without-there.ensures.members i
-    ∙ ap (λ b. b && not (has part.missing i)) (c.all.ensures.members i))
+    (sym c.is_first_alone.ensures) (all_late script part c.without-there.result c.without-prompt.result
+    (λ i. c.without-there.ensures.members i ∙ ap (λ b. b && not (has part.missing i)) (c.all.ensures.members i))
     c.without-prompt.ensures.members c.least-some.result c.least-first.result c.least-some.ensures.least
     c.least-first.ensures.least)

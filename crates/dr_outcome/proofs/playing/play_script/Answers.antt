@@ -1,14 +1,9 @@
 use Rattle.std.proofs.Common.{◌≡◌, ◌⊎◌, ◌∙◌, ap, inl, inr, subst, sym, ℕ, Bool, [], MatchBool, None, Option}
-use Rattle.dr_ages.specs.declared.mode.Mode.{Mode}
-use Rattle.dr_ages.specs.declared.part.Part.{Part}
-use Rattle.dr_ages.specs.Ages.{HaveSomebodyPrompt}
-use Rattle.dr_ages.specs.Runs.{IsRunOf}
+use Rattle.dr_ages.specs.{Ages.HaveSomebodyPrompt, Runs.IsRunOf, declared.{mode.Mode.Mode, part.Part.Part}}
 use Rattle.dr_script.specs.declared.script.Script.{Script}
 use Rattle.dr_yard.specs.Yards.{state_by}
-use Rattle.dr_outcome.specs.Last.{last_of}
-use Rattle.dr_outcome.specs.Outcome.{AreAllLate, HasRun, IsMemoryRun, SaysOnly, WasPlayedOrNot}
-use Rattle.dr_outcome.specs.Playing.{InFolder, Playing, part_in}
-use Rattle.dr_outcome.proofs.Due.{has_played, memory_played}
+use Rattle.dr_outcome.specs.{Last.last_of, Outcome.{AreAllLate, HasRun, IsMemoryRun, SaysOnly, WasPlayedOrNot}}
+use Rattle.dr_outcome.{specs.Playing.{InFolder, Playing, part_in}, proofs.Due.{has_played, memory_played}}
 use Rattle.dr_outcome.proofs.playing.play_script.Goals as goal
 
 -- how it is played, by what the code has of it
@@ -49,8 +44,7 @@ returns-in-Some-clause-played g c =
     let run = subst (λ (part : Part). IsRunOf script part c.play.inside.mode before after o.ages o.stop)
     c.part-part.ensures c.run_over.ensures.run in
     inr (inl (
-      has_played p script before after o c.requires.ranges
-          (subst (HaveSomebodyPrompt script) c.part-part.ensures
+      has_played p script before after o c.requires.ranges (subst (HaveSomebodyPrompt script) c.part-part.ensures
           (told script c.part-part.result _ _ c.if-are_all_late.false c.are_all_late.ensures))
           (subst (λ (q : Playing). HasRun q.mode q.folder (part_in p) script before after o.ages o.stop) same run)
           c.run_over.ensures.last,
@@ -67,10 +61,8 @@ returns-in-None-clause-played g c =
     let same = ap (λ (f : Option InFolder). playing mode f late) (sym c.in-None.is) ∙ c.play.view_is in
     let part_is = c.part-part.ensures ∙ sym (ap part_in same) in
     subst (λ (p : Playing). SaysOnly None yard yard o ⊎ WasPlayedOrNot p script yard yard o) same
-    (elim (memory_played mode late script yard o c.requires.ranges
-    (subst (HaveSomebodyPrompt script) part_is
-    (told script c.part-part.result _ _ c.if-are_all_late.false c.are_all_late.ensures))
-    c.run_in_memory.ensures.body
+    (elim (memory_played mode late script yard o c.requires.ranges (subst (HaveSomebodyPrompt script) part_is
+    (told script c.part-part.result _ _ c.if-are_all_late.false c.are_all_late.ensures)) c.run_in_memory.ensures.body
     (subst (λ (part : Part). ((o.ages ≡ []) × (o.stop ≡ None) × (o.last ≡ None))
     ⊎ (IsMemoryRun script part mode o.ages o.stop × (o.last ≡ last_of o.ages o.stop))) part_is
     c.run_in_memory.ensures.ran)) [

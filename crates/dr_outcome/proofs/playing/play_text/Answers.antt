@@ -1,9 +1,7 @@
 use Rattle.std.proofs.Common.{◌≡◌, Err, ap, inl, inr, subst, sym}
-use Rattle.dr_script.specs.declared.script.Script.{Script}
-use Rattle.dr_script.specs.Reading.{Reading, reading_of}
+use Rattle.dr_script.specs.{Reading.{Reading, reading_of}, declared.script.Script.Script}
 use Rattle.dr_yard.specs.Yards.{state_by}
-use Rattle.dr_outcome.specs.declared.outcome.Outcome.{Outcome}
-use Rattle.dr_outcome.specs.Outcome.{OfScript, WasPlayedOrNot}
+use Rattle.dr_outcome.specs.{Outcome.{OfScript, WasPlayedOrNot}, declared.outcome.Outcome.Outcome}
 use Rattle.dr_outcome.proofs.Due.{play_done, refused_of}
 use Rattle.dr_outcome.proofs.playing.play_text.Goals as goal
 

@@ -1,11 +1,7 @@
 use Rattle.std.proofs.Common.{◌≡◌, ◌⊎◌, [], None, subst, sym}
+use Rattle.dr_ages.specs.{Ages.HaveSomebodyPrompt, declared.{mode.Mode.TheVariants.Sim, part.Part.Part}}
 use Rattle.dr_ages.proofs.Prompt.{all_prompt}
-use Rattle.dr_ages.specs.Ages.{HaveSomebodyPrompt}
-use Rattle.dr_ages.specs.declared.mode.Mode.TheVariants.{Sim}
-use Rattle.dr_ages.specs.declared.part.Part.{Part}
-use Rattle.dr_outcome.specs.Last.{last_of}
-use Rattle.dr_outcome.specs.Outcome.{IsMemoryRun}
-use Rattle.dr_outcome.proofs.Due.{memory_played}
+use Rattle.dr_outcome.{specs.{Last.last_of, Outcome.IsMemoryRun}, proofs.Due.memory_played}
 use Rattle.dr_outcome.proofs.playing.simulate.Goals as goal
 
 pub run_in_memory-requires-clause-some : goal.run_in_memory-requires-clause-some
@@ -16,7 +12,6 @@ pub returns-clause-played : goal.returns-clause-played
 returns-clause-played g c = λ yard.
     let o = c.run_in_memory.result in
     memory_played Sim 0 c.args.script.now yard o c.requires (all_prompt c.args.script.now 0)
-    c.run_in_memory.ensures.body
-    (subst (λ (part : Part). ((o.ages ≡ []) × (o.stop ≡ None) × (o.last ≡ None))
+    c.run_in_memory.ensures.body (subst (λ (part : Part). ((o.ages ≡ []) × (o.stop ≡ None) × (o.last ≡ None))
     ⊎ (IsMemoryRun c.args.script.now part Sim o.ages o.stop × (o.last ≡ last_of o.ages o.stop)))
     c.everybody.ensures c.run_in_memory.ensures.ran)

@@ -1,6 +1,5 @@
 use Rattle.std.proofs.Common.{◌≤◌, All, length, subst, sym}
-use Rattle.dr_entry.specs.declared.end.AgeEnd.{AgeEnd}
-use Rattle.dr_entry.specs.declared.limits.TheConstants.{MAX_MEMBERS}
+use Rattle.dr_entry.specs.declared.{end.AgeEnd.AgeEnd, limits.TheConstants.MAX_MEMBERS}
 use Rattle.dr_yard.specs.Yards.{state_by}
 use Rattle.dr_ages.proofs.Parts.{few_members}
 use Rattle.dr_outcome.proofs.running.run_over.Goals as goal

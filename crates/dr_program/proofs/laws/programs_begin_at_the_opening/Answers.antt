@@ -1,5 +1,4 @@
-use Rattle.dr_program.proofs.Opening.{begins_at_the_opening}
-use Rattle.dr_program.proofs.OpeningForm.{begins_in_form, can_begin}
+use Rattle.dr_program.proofs.{Opening.begins_at_the_opening, OpeningForm.{begins_in_form, can_begin}}
 use Rattle.dr_program.proofs.laws.programs_begin_at_the_opening.Goals as goal
 
 pub returns-clause-world : goal.returns-clause-world

@@ -1,6 +1,5 @@
 use Rattle.std.proofs.Common.{rules, sym, subst}
-use Rattle.dr_ages.specs.declared.mode.Mode.TheVariants.{Sim}
-use Rattle.dr_ages.specs.Watched.{AreWatched}
+use Rattle.dr_ages.specs.{Watched.AreWatched, declared.mode.Mode.TheVariants.Sim}
 use Rattle.dr_progress.proofs.Besides.{Waits, beside_watched, quiet}
 use Rattle.dr_progress.proofs.watching.watch_with_progress.Goals as goal
 

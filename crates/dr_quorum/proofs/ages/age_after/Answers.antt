@@ -1,10 +1,7 @@
-use Rattle.std.proofs.Common.{◌≡◌, refl, sym, subst}
-use Rattle.std.proofs.lemmas.Option.{IfSome_then}
+use Rattle.std.proofs.{Common.{◌≡◌, refl, sym, subst}, lemmas.Option.IfSome_then}
 use Rattle.dr_entry.proofs.OptionFacts.{IfNone_then}
 use Rattle.dr_restart.specs.Choosing.{HasAge, IsAgeAfter}
-use Rattle.dr_quorum.specs.Handing.{handed_by}
-use Rattle.dr_quorum.specs.Knowing.{OfSomeLog}
-use Rattle.dr_quorum.proofs.Knowing.{after_none, after_some}
+use Rattle.dr_quorum.{specs.{Handing.handed_by, Knowing.OfSomeLog}, proofs.Knowing.{after_none, after_some}}
 use Rattle.dr_quorum.proofs.ages.age_after.Goals as goal
 
 pub returns-in-Some-clause-some : goal.returns-in-Some-clause-some

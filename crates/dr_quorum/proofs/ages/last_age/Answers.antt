@@ -1,5 +1,4 @@
-use Rattle.dr_quorum.specs.Handing.{handed_by}
-use Rattle.dr_quorum.proofs.Knowing.{last_if_none, last_if_some}
+use Rattle.dr_quorum.{specs.Handing.handed_by, proofs.Knowing.{last_if_none, last_if_some}}
 use Rattle.dr_quorum.proofs.ages.last_age.Goals as goal
 
 pub returns-clause-some : goal.returns-clause-some

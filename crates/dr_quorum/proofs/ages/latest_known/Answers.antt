@@ -1,6 +1,5 @@
 use Rattle.dr_restart.specs.Choosing.{HasAge}
-use Rattle.dr_quorum.specs.Knowing.{OfLog}
-use Rattle.dr_quorum.proofs.Knowing.{all_known, lists_known, more_known, none_known}
+use Rattle.dr_quorum.{specs.Knowing.OfLog, proofs.Knowing.{all_known, lists_known, more_known, none_known}}
 use Rattle.dr_quorum.proofs.ages.latest_known.Goals as goal
 
 pub loop-list-init : goal.loop-list-init

@@ -1,7 +1,6 @@
 use Rattle.std.proofs.Common.{take}
 use Rattle.dr_restart.specs.Choosing.{HasAge}
-use Rattle.dr_quorum.specs.Knowing.{IsGreatestAge, OfLog}
-use Rattle.dr_quorum.proofs.Knowing.{OfSome}
+use Rattle.dr_quorum.{specs.Knowing.{IsGreatestAge, OfLog}, proofs.Knowing.OfSome}
 use Rattle.dr_quorum.proofs.ages.latest_known.Given as goal
 
 abbrev pub invariant-loop-list : goal.invariant-loop-list

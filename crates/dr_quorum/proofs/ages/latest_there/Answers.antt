@@ -1,7 +1,6 @@
 use Rattle.std.proofs.Common.{sym, subst, None}
 use Rattle.dr_restart.specs.Choosing.{HasAge}
-use Rattle.dr_quorum.specs.Knowing.{IsGreatestAge, OfLog}
-use Rattle.dr_quorum.proofs.Knowing.{nothing_known}
+use Rattle.dr_quorum.{specs.Knowing.{IsGreatestAge, OfLog}, proofs.Knowing.nothing_known}
 use Rattle.dr_quorum.proofs.ages.latest_there.Goals as goal
 
 pub returns-in-Some : goal.returns-in-Some

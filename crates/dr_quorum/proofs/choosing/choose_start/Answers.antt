@@ -1,13 +1,11 @@
 use Rattle.dr_restart.specs.Groups.{first_group_of}
 use Rattle.dr_quorum_laws.proofs.Refusals.{passed}
-use Rattle.dr_quorum.specs.Handing.{handed_by}
-use Rattle.dr_quorum.proofs.Choices.{told_memory}
+use Rattle.dr_quorum.{specs.Handing.handed_by, proofs.Choices.told_memory}
 use Rattle.dr_quorum.proofs.choosing.choose_start.Goals as goal
 
 pub returns-in-Some-clause-refused : goal.returns-in-Some-clause-refused
-returns-in-Some-clause-refused c =
-    told_memory (first_group_of c.args.script.now).opening (handed_by c.args.lists.now) c.start_with.result
-    c.start_with.ensures.memory
+returns-in-Some-clause-refused c = told_memory (first_group_of c.args.script.now).opening
+    (handed_by c.args.lists.now) c.start_with.result c.start_with.ensures.memory
 
 pub returns-in-None-clause-refused : goal.returns-in-None-clause-refused
 returns-in-None-clause-refused c =

@@ -1,6 +1,5 @@
 use Rattle.std.proofs.Common.{inl}
-use Rattle.dr_restart.specs.Groups.{first_group_of}
-use Rattle.dr_restart.proofs.Choosing.{holder_stands, longest_on}
+use Rattle.dr_restart.{specs.Groups.first_group_of, proofs.Choosing.{holder_stands, longest_on}}
 use Rattle.dr_quorum_laws.proofs.Lists.{of_holders}
 use Rattle.dr_quorum.specs.Handing.{handed_by}
 use Rattle.dr_quorum.proofs.choosing.entries_of_age.Goals as goal
@@ -11,15 +10,13 @@ find_split-requires c =
     c.longest_held-longest.ensures).1
 
 pub find_short_view-requires-clause-stand : goal.find_short_view-requires-clause-stand
-find_short_view-requires-clause-stand c =
-    holder_stands (first_group_of c.args.script.now).opening (handed_by c.args.lists.now) c.args.age
-    c.longest_held-longest.result.now c.requires.enough.0
+find_short_view-requires-clause-stand c = holder_stands (first_group_of c.args.script.now).opening
+    (handed_by c.args.lists.now) c.args.age c.longest_held-longest.result.now c.requires.enough.0
     (longest_on (handed_by c.args.lists.now) c.args.age c.longest_held-longest.result.now c.requires.last
     c.longest_held-longest.ensures).0
 
 pub returns-in-Some-clause-refused : goal.returns-in-Some-clause-refused
-returns-in-Some-clause-refused c =
-    (c.requires.enough, c.args.age, c.requires.last, c.in-Some.ensures.some)
+returns-in-Some-clause-refused c = (c.requires.enough, c.args.age, c.requires.last, c.in-Some.ensures.some)
 
 pub returns-in-Some-find_short_view-clause-refused : goal.returns-in-Some-find_short_view-clause-refused
 returns-in-Some-find_short_view-clause-refused c =

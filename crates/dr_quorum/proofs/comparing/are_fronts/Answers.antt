@@ -1,6 +1,5 @@
 use Rattle.std.proofs.Common.{arith}
-use Rattle.dr_quorum.specs.Handing.{handed_by}
-use Rattle.dr_quorum.proofs.Holding.{along_more, fronts_along}
+use Rattle.dr_quorum.{specs.Handing.handed_by, proofs.Holding.{along_more, fronts_along}}
 use Rattle.dr_quorum.proofs.comparing.are_fronts.Goals as goal
 
 pub loop-m-init : goal.loop-m-init

@@ -1,5 +1,4 @@
-use Rattle.dr_quorum.specs.Handing.{handed_by}
-use Rattle.dr_quorum.specs.Comparing.{AreAlongBelow}
+use Rattle.dr_quorum.specs.{Comparing.AreAlongBelow, Handing.handed_by}
 use Rattle.dr_quorum.proofs.comparing.are_fronts.Given as goal
 
 abbrev pub invariant-loop-m : goal.invariant-loop-m

@@ -1,6 +1,5 @@
 use Rattle.std.proofs.Common.{arith}
-use Rattle.dr_quorum.specs.Handing.{handed_by}
-use Rattle.dr_quorum.proofs.Holding.{all_along, all_more, first_split}
+use Rattle.dr_quorum.{specs.Handing.handed_by, proofs.Holding.{all_along, all_more, first_split}}
 use Rattle.dr_quorum.proofs.comparing.find_split.Goals as goal
 
 pub loop-b-init : goal.loop-b-init
@@ -21,5 +20,4 @@ returns-in-Some-clause-within c =
     let t = c.in-Some.ensures.some in (omega (arith, t.2.below, c.loop-b-test.true), c.loop-b-test.true)
 
 pub returns-clause-none : goal.returns-clause-none
-returns-clause-none c =
-    all_along c.args.lists.now c.args.age c.loop-b.b c.loop-b-test.false c.loop-b.invariant
+returns-clause-none c = all_along c.args.lists.now c.args.age c.loop-b.b c.loop-b-test.false c.loop-b.invariant

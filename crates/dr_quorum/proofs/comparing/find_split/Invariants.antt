@@ -1,5 +1,4 @@
-use Rattle.dr_quorum.specs.Handing.{handed_by}
-use Rattle.dr_quorum.proofs.Holding.{AreAllAlongBelow}
+use Rattle.dr_quorum.{specs.Handing.handed_by, proofs.Holding.AreAllAlongBelow}
 use Rattle.dr_quorum.proofs.comparing.find_split.Given as goal
 
 abbrev pub invariant-loop-b : goal.invariant-loop-b

@@ -1,5 +1,4 @@
-use Rattle.std.proofs.Common.{◌<◌, arith, length, rules, sym, ap, ◌∙◌, Some}
-use Rattle.std.proofs.lemmas.Option.{slice_get-get_or}
+use Rattle.std.proofs.{Common.{◌<◌, arith, length, rules, sym, ap, ◌∙◌, Some}, lemmas.Option.slice_get-get_or}
 use Rattle.dr_entry.proofs.Entries.{same_more}
 use Rattle.dr_history.proofs.Restarts.{along_if_same}
 use Rattle.dr_quorum.proofs.comparing.first_difference.Goals as goal
@@ -27,6 +26,5 @@ loop-at-preserved c =
     c.index-one-at.is c.index-other-at.is (search rules) c.loop-at.invariant
 
 pub returns-clause-none : goal.returns-clause-none
-returns-clause-none c =
-    along_if_same c.args.one.now c.args.other.now c.loop-at.at
+returns-clause-none c = along_if_same c.args.one.now c.args.other.now c.loop-at.at
     (omega (arith, c.loop-at-test.false, c.min-shorter.ensures)) c.loop-at.invariant

@@ -1,7 +1,6 @@
 use Rattle.std.proofs.Common.{◌≡◌, ℕ, ◌<◌, Some}
-use Rattle.dr_restart.specs.declared.lists.LogLists.{LogLists}
+use Rattle.dr_restart.specs.{Groups.first_group_of, declared.lists.LogLists.LogLists}
 use Rattle.dr_history.specs.Restarting.{AllStand}
-use Rattle.dr_restart.specs.Groups.{first_group_of}
 use Rattle.dr_quorum.specs.Handing.{handed_by}
 use Rattle.dr_quorum.proofs.handing.find_foreign.Given as goal
 

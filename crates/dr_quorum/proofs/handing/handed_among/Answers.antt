@@ -1,8 +1,8 @@
-use Rattle.std.proofs.lemmas.Bool.{cases_lt}
 use Rattle.std.proofs.Common.{subst, sym, ◌∙◌, true, false, ◌<◌, ◌+◌, ◌⊎◌, inl, inr, ◌≤◌, length, arith, ◌≡◌, ℕ}
+use Rattle.std.proofs.lemmas.Bool.{cases_lt}
 use Rattle.dr_quorum.proofs.Masks.{HasThoseBelow, handed_at, all_below, one_below, other_below}
-use Rattle.dr_quorum.proofs.handing.handed_among.Goals as goal
 use Rattle.dr_quorum.proofs.handing.handed_among.Goals.{then-has+then-is_some, else-has, else-has-via-then-has+else-is_some, else-has-via-else-has}
+use Rattle.dr_quorum.proofs.handing.handed_among.Goals as goal
 
 pub loop-m-preserved : goal.loop-m-preserved
 loop-m-preserved c = elim c.if-has.branch [

@@ -1,8 +1,7 @@
 use Rattle.dr_machine.proofs.Runs.{run_reached}
 use Rattle.dr_restart.specs.Groups.{group_of}
 use Rattle.dr_world_laws.proofs.Worlds.{known}
-use Rattle.dr_quorum_laws.proofs.Keeping.{since-held, since-left}
-use Rattle.dr_quorum_laws.proofs.Tried.{tried-held}
+use Rattle.dr_quorum_laws.proofs.{Keeping.{since-held, since-left}, Tried.tried-held}
 use Rattle.dr_quorum.proofs.keeping.held_by_try.Goals as goal
 
 pub returns : goal.returns

@@ -1,8 +1,7 @@
 use Rattle.std.proofs.Common.{◌∙◌, sym, true, false}
 use Rattle.dr_restart.specs.Choosing.{names_next}
-use Rattle.dr_quorum.proofs.Votes.{highest-at}
+use Rattle.dr_quorum.proofs.{Votes.highest-at, path.best_among.Goals.{then-names_next, else-names_next}}
 use Rattle.dr_quorum.proofs.path.best_among.Goals as goal
-use Rattle.dr_quorum.proofs.path.best_among.Goals.{then-names_next, else-names_next}
 
 pub loop-vote-preserved : goal.loop-vote-preserved
 loop-vote-preserved c before h =

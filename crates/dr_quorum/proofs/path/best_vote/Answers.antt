@@ -1,8 +1,8 @@
 use Rattle.std.proofs.Common.{◌∙◌, ◌++◌, filter, sym, ap, arith}
 use Rattle.dr_restart.specs.Choosing.{highest, names_next}
 use Rattle.dr_quorum.proofs.Votes.{all_votes, none_below_zero, votes_below, votes_below-more, votes_below-other}
-use Rattle.dr_quorum.proofs.path.best_vote.Goals as goal
 use Rattle.dr_quorum.proofs.path.best_vote.Goals.{then-has, else-has}
+use Rattle.dr_quorum.proofs.path.best_vote.Goals as goal
 
 pub loop-m-init : goal.loop-m-init
 loop-m-init c = none_below_zero c.args.lists.now c.args.roster c.args.age c.args.view c.args.members

@@ -11,9 +11,8 @@ loop-entry-preserved c =
     c.entry-item.is c.loop-entry.invariant c.in_default.ensures.none
 
 pub returns-in-Some-clause-some : goal.returns-in-Some-clause-some
-returns-in-Some-clause-some c =
-    first_there c.args.entries.now c.loop-entry.entry-index c.entry-item.result (View c.args.age 0 c.in-Some.members)
-    c.loop-entry-test.true c.entry-item.is c.in-Some.ensures.some
+returns-in-Some-clause-some c = first_there c.args.entries.now c.loop-entry.entry-index c.entry-item.result
+    (View c.args.age 0 c.in-Some.members) c.loop-entry-test.true c.entry-item.is c.in-Some.ensures.some
 
 pub returns-clause-none : goal.returns-clause-none
 returns-clause-none c =

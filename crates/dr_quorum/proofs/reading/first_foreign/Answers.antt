@@ -1,5 +1,4 @@
-use Rattle.std.proofs.Common.{arith, rules}
-use Rattle.std.proofs.lemmas.Option.{slice_get_within}
+use Rattle.std.proofs.{Common.{arith, rules}, lemmas.Option.slice_get_within}
 use Rattle.dr_history_laws.proofs.Lists.{slice_get-some}
 use Rattle.dr_quorum.proofs.Stands.{none_read}
 use Rattle.dr_quorum.proofs.reading.first_foreign.Goals as goal
@@ -14,9 +13,4 @@ returns-clause-none c i e at =
 pub returns-then-not-may_stand-clause-some : goal.returns-then-not-may_stand-clause-some
 returns-then-not-may_stand-clause-some c =
     let there = slice_get-some c.args.entries.now c.loop-at.at c.loop-at-test.true in
-    record {
-      before = c.loop-at.invariant.1;
-      entry = there.0;
-      here = there.1;
-      foreign = λ stands. search rules;
-    }
+    record { before = c.loop-at.invariant.1; entry = there.0; here = there.1; foreign = λ stands. search rules }

@@ -1,7 +1,6 @@
 use Rattle.std.proofs.Common.{◌≡◌, sym, ap, ◌∙◌, subst, Decides, Some, take, slice_get}
 use Rattle.std.proofs.lemmas.Option.{slice_get-get_or, same_Some}
-use Rattle.dr_entry.specs.declared.entry.Entry.{Entry}
-use Rattle.dr_entry.specs.declared.entry.Entry.TheVariants.{Msg}
+use Rattle.dr_entry.specs.declared.entry.Entry.{Entry, TheVariants.Msg}
 use Rattle.dr_history.specs.Soundness.{MayStand}
 use Rattle.dr_restart.specs.Groups.{first_group_of}
 use Rattle.dr_quorum.proofs.Stands.{next_stands}

@@ -1,12 +1,9 @@
 use Rattle.std.proofs.Common.{◌≡◌, sym, ap, ◌∙◌, subst, arith, ℕ, ◌+◌, List, [], ◌∷◌, ◌++◌, Some, take, slice_get, get_or, set}
-use Rattle.std.proofs.lemmas.List.{take_more}
-use Rattle.std.proofs.lemmas.Option.{slice_get-get_or}
-use Rattle.dr_entry.specs.declared.entry.Entry.{Entry}
-use Rattle.dr_entry.specs.declared.entry.Entry.TheVariants.{View, Msg}
+use Rattle.std.proofs.lemmas.{List.take_more, Option.slice_get-get_or}
+use Rattle.dr_entry.specs.declared.entry.Entry.{Entry, TheVariants.{View, Msg}}
 use Rattle.dr_history.specs.History.{GroupView}
 use Rattle.dr_script.proofs.Ranges.{sender_small, index_small}
-use Rattle.dr_quorum.specs.Reading.{IsRead}
-use Rattle.dr_quorum.proofs.Walks.{read-View, read-Msg}
+use Rattle.dr_quorum.{specs.Reading.IsRead, proofs.Walks.{read-View, read-Msg}}
 use Rattle.dr_quorum.proofs.reading.note.Goals as goal
 
 pub bounds-counts-from : goal.bounds-counts-from
@@ -58,8 +55,7 @@ returns-in-View c =
     ∙ ap (λ (e : Entry). take c.args.at c.args.entries.now ++ e ∷ []) (sym c.index-entries-at.is ∙ c.in-View.is) in
     subst (λ (es : List Entry). IsRead es (Some c.new.result) c.args.counts.now) (sym more)
     (subst (λ (v : GroupView). IsRead (take c.args.at c.args.entries.now
-    ++ View c.in-View.age c.in-View.number c.in-View.members ∷ []) (Some v) c.args.counts.now)
-    (sym c.new.ensures)
+    ++ View c.in-View.age c.in-View.number c.in-View.members ∷ []) (Some v) c.args.counts.now) (sym c.new.ensures)
     (read-View (take c.args.at c.args.entries.now) c.args.view.now c.args.counts.now c.in-View.age
     c.in-View.number c.in-View.members c.requires.read))
 

@@ -1,7 +1,6 @@
 use Rattle.dr_restart.specs.Groups.{group_of}
 use Rattle.dr_world_laws.proofs.Worlds.{known}
-use Rattle.dr_quorum_laws.proofs.Keeping.{since-held, since-left}
-use Rattle.dr_quorum_laws.proofs.Tried.{tried-held}
+use Rattle.dr_quorum_laws.proofs.{Keeping.{since-held, since-left}, Tried.tried-held}
 use Rattle.dr_quorum_laws.proofs.laws.held_by_try.Goals as goal
 
 pub returns : goal.returns

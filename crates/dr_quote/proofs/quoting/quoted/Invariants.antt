@@ -1,5 +1,4 @@
-use Rattle.std.proofs.Common.{◌≡◌, ◌∷◌, take}
-use Rattle.std.specs.List.{flat_map}
+use Rattle.std.{specs.List.flat_map, proofs.Common.{◌≡◌, ◌∷◌, take}}
 use Rattle.dr_quote.specs.Quote.{escaped}
 use Rattle.dr_quote.proofs.quoting.quoted.Given as goal
 

@@ -1,6 +1,5 @@
 use Rattle.std.proofs.Common.{◌≡◌, ◌∙◌, ap, sym, true}
-use Rattle.dr_quote.specs.Quote.{is_clear}
-use Rattle.dr_quote.proofs.Texts.{hidden_raw, shown_clear}
+use Rattle.dr_quote.{specs.Quote.is_clear, proofs.Texts.{hidden_raw, shown_clear}}
 use Rattle.dr_quote.proofs.quoting.shown.Goals as goal
 
 pub returns-in_default : goal.returns-in_default

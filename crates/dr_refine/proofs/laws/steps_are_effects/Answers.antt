@@ -1,5 +1,4 @@
-use Rattle.dr_refine.proofs.Joins.{join_effect}
-use Rattle.dr_refine.proofs.Tests.{step_effect}
+use Rattle.dr_refine.proofs.{Joins.join_effect, Tests.step_effect}
 use Rattle.dr_refine.proofs.laws.steps_are_effects.Goals as goal
 
 pub returns-clause-steps : goal.returns-clause-steps

@@ -1,9 +1,6 @@
-use Rattle.std.proofs.Common.{sym, subst, ◌∙◌, arith, map, slice_index}
-use Rattle.std.proofs.lemmas.List.{length-map}
-use Rattle.dr_history.specs.Places.{AllHeldBelow}
-use Rattle.dr_history.proofs.FrontLemmas.{AllHeldBelow-more}
+use Rattle.std.proofs.{Common.{sym, subst, ◌∙◌, arith, map, slice_index}, lemmas.List.length-map}
+use Rattle.dr_history.{specs.Places.AllHeldBelow, proofs.{FrontLemmas.AllHeldBelow-more, Fronts.front_reached}}
 use Rattle.dr_history.proofs.Places.{held_small}
-use Rattle.dr_history.proofs.Fronts.{front_reached}
 use Rattle.dr_replica.proofs.items.front_from.Goals as goal
 
 pub step-requires-clause-small : goal.step-requires-clause-small
@@ -29,7 +26,6 @@ loop-spot-preserved c =
     }
 
 pub returns-clause-front : goal.returns-clause-front
-returns-clause-front c =
-    front_reached (map (slice_index c.args.counts.now) c.args.members.now) c.loop-spot.spot.place
+returns-clause-front c = front_reached (map (slice_index c.args.counts.now) c.args.members.now) c.loop-spot.spot.place
     (omega (arith, length-map c.args.members.now (slice_index c.args.counts.now), c.requires.some))
     c.loop-spot.invariant.held (sym c.is_held.ensures ∙ c.loop-spot-test.false)

@@ -1,10 +1,8 @@
-use Rattle.std.proofs.Common.{rules, ◌≡◌, ◌+◌, ◌++◌, ◌∷◌, [], List, length, map, replicate, Some, ap, ◌∙◌, arith, append_assoc, length-append}
 use Rattle.std.specs.Prelude.{Option, option_to_list}
-use Rattle.std.proofs.lemmas.List.{map-append, replicate-append-replicate}
-use Rattle.std.proofs.lemmas.List.Elements.{All-pop}
+use Rattle.std.proofs.Common.{rules, ◌≡◌, ◌+◌, ◌++◌, ◌∷◌, [], List, length, map, replicate, Some, ap, ◌∙◌, arith, append_assoc, length-append}
+use Rattle.std.proofs.lemmas.List.{map-append, replicate-append-replicate, Elements.All-pop}
 use Rattle.dr_program.specs.Replica.{LeftView, nothing_left}
-use Rattle.dr_replica.specs.Lefts.{IsSpare, left_of}
-use Rattle.dr_replica.specs.declared.left.Left.{Left}
+use Rattle.dr_replica.specs.{Lefts.{IsSpare, left_of}, declared.left.Left.Left}
 use Rattle.dr_replica.proofs.left.skip_views.Goals as goal
 
 pub loop-preserved : goal.loop-preserved
@@ -17,8 +15,7 @@ loop-preserved c =
           ∙ ap (λ (l : LeftView). map left_of c.loop.lefts.items ++ l ∷ []) c.empty.ensures
           ∙ ap (λ (ls : List LeftView). ls ++ nothing_left ∷ []) c.loop.invariant.lefts
           ∙ append_assoc (map left_of c.args.lefts.now.items) (replicate c.loop.counter nothing_left)
-          (nothing_left ∷ [])
-          ∙ ap (λ (ls : List LeftView). map left_of c.args.lefts.now.items ++ ls)
+          (nothing_left ∷ []) ∙ ap (λ (ls : List LeftView). map left_of c.args.lefts.now.items ++ ls)
           (replicate-append-replicate c.loop.counter 1 nothing_left);
       room = omega (arith, c.loop.invariant.room, c.push.ensures.capacity);
       count = omega (

@@ -1,5 +1,4 @@
-use Rattle.std.proofs.Common.{◌≡◌, ℕ, ◌+◌, ◌≤◌, ◌++◌, length, map, replicate}
-use Rattle.std.specs.Prelude.{All, vec_capacity}
+use Rattle.std.{specs.Prelude.{All, vec_capacity}, proofs.Common.{◌≡◌, ℕ, ◌+◌, ◌≤◌, ◌++◌, length, map, replicate}}
 use Rattle.dr_program.specs.Replica.{nothing_left}
 use Rattle.dr_replica.specs.Lefts.{IsSpare, left_of}
 use Rattle.dr_replica.proofs.left.skip_views.Given as goal

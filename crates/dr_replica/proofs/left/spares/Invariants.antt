@@ -1,5 +1,4 @@
-use Rattle.std.proofs.Common.{◌≡◌, ◌≤◌, All, length}
-use Rattle.std.specs.Prelude.{vec_capacity}
+use Rattle.std.{specs.Prelude.vec_capacity, proofs.Common.{◌≡◌, ◌≤◌, All, length}}
 use Rattle.dr_replica.specs.Lefts.{IsSpare}
 use Rattle.dr_replica.proofs.left.spares.Given as goal
 

@@ -1,5 +1,4 @@
-use Rattle.dr_restart.proofs.Setups.{absent, are_setups, more, none}
-use Rattle.dr_restart.proofs.Unique.{same_setups}
+use Rattle.dr_restart.proofs.{Setups.{absent, are_setups, more, none}, Unique.same_setups}
 use Rattle.dr_restart.proofs.laws.setups_are_of_the_group.Goals as goal
 
 pub returns : goal.returns

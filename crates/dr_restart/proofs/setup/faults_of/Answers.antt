@@ -1,6 +1,4 @@
-use Rattle.std.proofs.Common.{arith}
-use Rattle.std.proofs.lemmas.Grind.{common_steps}
-use Rattle.std.proofs.lemmas.List.Elements.{filter_map-append}
+use Rattle.std.proofs.{Common.arith, lemmas.{Grind.common_steps, List.Elements.filter_map-append}}
 use Rattle.dr_restart.proofs.setup.faults_of.Goals as goal
 use Rattle.dr_restart.proofs.setup.faults_of.Goals.{then-fault-nth-via-then-fault-nth, then-fault-nth-via-else-fault-nth+then-fault-me, in-Crash+in_ok-push-in-Crash, in-Suspect+in_ok-push-in-Suspect}
 

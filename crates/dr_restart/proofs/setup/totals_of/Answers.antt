@@ -1,7 +1,5 @@
-use Rattle.std.proofs.Common.{ap, ◌∙◌, [], length, arith, length-set}
-use Rattle.std.proofs.lemmas.List.{get_or_default}
-use Rattle.dr_entry.proofs.ListPlaces.{counted_more, all_counted}
-use Rattle.dr_entry.proofs.ListFacts.{rest_more}
+use Rattle.std.proofs.{Common.{ap, ◌∙◌, [], length, arith, length-set}, lemmas.List.get_or_default}
+use Rattle.dr_entry.proofs.{ListFacts.rest_more, ListPlaces.{counted_more, all_counted}}
 use Rattle.dr_restart.proofs.setup.totals_of.Goals as goal
 
 pub loop-i-preserved : goal.loop-i-preserved

@@ -1,5 +1,4 @@
-use Rattle.std.proofs.Common.{◌≡◌, ℕ, ◌<◌, ◌≤◌, [], length, get_or}
-use Rattle.std.specs.Prelude.{slice_index_or}
+use Rattle.std.{specs.Prelude.slice_index_or, proofs.Common.{◌≡◌, ℕ, ◌<◌, ◌≤◌, [], length, get_or}}
 use Rattle.dr_restart.proofs.setup.totals_of.Given as goal
 
 abbrev pub invariant-loop-i : goal.invariant-loop-i

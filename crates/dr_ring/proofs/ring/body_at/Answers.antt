@@ -1,8 +1,6 @@
-use Rattle.std.proofs.Common.{◌≡◌, ◌+◌, ℕ, ap, ◌∙◌, rules, arith}
-use Rattle.std.specs.Int.{w32, to_be_bytes}
+use Rattle.std.{specs.Int.{w32, to_be_bytes}, proofs.Common.{◌≡◌, ◌+◌, ℕ, ap, ◌∙◌, rules, arith}}
 use Rattle.dr_words.specs.Packing.{ring_low}
-use Rattle.dr_ring.specs.Slots.{slot_of}
-use Rattle.dr_ring.proofs.Bodies.{bytes_more, seen_body}
+use Rattle.dr_ring.{specs.Slots.slot_of, proofs.Bodies.{bytes_more, seen_body}}
 use Rattle.dr_ring.proofs.ring.body_at.Goals as goal
 
 pub loop-part-preserved : goal.loop-part-preserved
@@ -14,5 +12,4 @@ loop-part-preserved c =
     let piece : c.unpack_ring-piece.result.1 ≡ ring_low (slot (1 + c.loop-part.part)) = search rules in
     bytes_more slot c.loop-part.part _ c.loop-part.bytes c.copy_from_slice.new.self (omega arith)
     (search rules) c.loop-part.invariant
-    (c.copy_from_slice.ensures.after ∙ c.to_be_bytes.ensures
-    ∙ ap (λ (n : ℕ). to_be_bytes w32 n) piece)
+    (c.copy_from_slice.ensures.after ∙ c.to_be_bytes.ensures ∙ ap (λ (n : ℕ). to_be_bytes w32 n) piece)

@@ -1,8 +1,7 @@
 use Rattle.std.proofs.Common.{◌≤◌, ◌-◌, sym, rules, arith}
 use Rattle.dr_words.specs.Counts.{count_of}
 use Rattle.dr_rows.specs.Words.{row_of}
-use Rattle.dr_ring.specs.Slots.{IsFree}
-use Rattle.dr_ring.proofs.Freedom.{is_free-true, is_free-false}
+use Rattle.dr_ring.{specs.Slots.IsFree, proofs.Freedom.{is_free-true, is_free-false}}
 use Rattle.dr_ring.proofs.ring.free.Goals as goal
 
 pub unpack_recv-received-requires : goal.unpack_recv-received-requires
@@ -11,8 +10,7 @@ unpack_recv-received-requires c =
     omega (
       arith,
       c.seen.ensures,
-      form.recv c.me-me.result (omega (arith, c.me-me.ensures.form.present))
-          c.recv_column-column.ensures.value,
+      form.recv c.me-me.result (omega (arith, c.me-me.ensures.form.present)) c.recv_column-column.ensures.value,
     )
 
 pub returns-then-received-k-clause-value : goal.returns-then-received-k-clause-value

@@ -1,5 +1,4 @@
-use Rattle.std.proofs.Common.{◌≡◌, ◌+◌, ℕ, true, false, ap, sym, subst, ◌∙◌, rules, arith}
-use Rattle.std.specs.Int.{div_ceil}
+use Rattle.std.{specs.Int.div_ceil, proofs.Common.{◌≡◌, ◌+◌, ℕ, true, false, ap, sym, subst, ◌∙◌, rules, arith}}
 use Rattle.dr_entry.proofs.OptionFacts.{passes_more, passes_not, block_fails, block_passes}
 use Rattle.dr_rows.specs.Words.{seen}
 use Rattle.dr_ring.specs.Slots.{is_of}
@@ -9,10 +8,9 @@ pub returns-then-not-is_block_of : goal.returns-then-not-is_block_of
 returns-then-not-is_block_of c =
     let word : ℕ → ℕ = λ column. seen c.args.rows.now c.args.row column in
     let missing : c.is_block_of.result ≡ false = search rules in
-    sym (block_fails (is_of c.args.k) (λ part. word (c.args.column + part)) c.loop-part.part
-    (div_ceil c.args.len 4) c.is_block_of.result
-    (omega (arith, c.div_ceil-count.ensures, c.loop-part-test.true)) missing
-    (λ each. c.is_block_of.ensures.1 (λ i l.
+    sym (block_fails (is_of c.args.k)
+    (λ part. word (c.args.column + part)) c.loop-part.part (div_ceil c.args.len 4) c.is_block_of.result
+    (omega (arith, c.div_ceil-count.ensures, c.loop-part-test.true)) missing (λ each. c.is_block_of.ensures.1 (λ i l.
     let place : c.args.column + (1 + c.loop-part.part + i) ≡ c.args.column + 1 + c.loop-part.part + i =
     omega arith in subst (λ (x : ℕ). is_of c.args.k (word x) ≡ true) place (each i l))))
 

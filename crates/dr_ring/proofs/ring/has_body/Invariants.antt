@@ -1,5 +1,4 @@
-use Rattle.std.proofs.Common.{◌≡◌, ◌+◌, ◌-◌, ◌≤◌, true, map}
-use Rattle.std.specs.List.{list_all, range_with_len}
+use Rattle.std.{specs.List.{list_all, range_with_len}, proofs.Common.{◌≡◌, ◌+◌, ◌-◌, ◌≤◌, true, map}}
 use Rattle.dr_rows.specs.Words.{seen}
 use Rattle.dr_ring.specs.Slots.{is_of}
 use Rattle.dr_ring.proofs.ring.has_body.Given as goal

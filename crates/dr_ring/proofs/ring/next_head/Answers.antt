@@ -9,6 +9,5 @@ returns-then-column-head_column c = λ k here. c.head_column-then-column-head_co
 
 pub returns-else-column-head_column : goal.returns-else-column-head_column
 returns-else-column-head_column c = λ k here.
-    head_next c.args.shape.now.members c.args.shape.now.window k c.args.column
-    c.args.shape.now.some_slot here
+    head_next c.args.shape.now.members c.args.shape.now.window k c.args.column c.args.shape.now.some_slot here
     (λ last. c.if-column-head_column.false (last ∙ sym c.head_column.ensures.value))

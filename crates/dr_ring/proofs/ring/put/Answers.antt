@@ -1,11 +1,7 @@
+use Rattle.std.specs.{Int.div_ceil, List.range_with_len}
 use Rattle.std.proofs.Common.{◌≡◌, ◌+◌, ◌∷◌, ℕ, List, length, map, ap, sym, subst, ◌∙◌, rules, arith}
-use Rattle.std.specs.List.{range_with_len}
-use Rattle.std.specs.Int.{div_ceil}
-use Rattle.dr_entry.specs.declared.entry.Item.{Item}
-use Rattle.dr_entry.specs.declared.entry.Item.TheVariants.{Text}
-use Rattle.dr_ring.specs.Pieces.{null_mark, body_piece}
-use Rattle.dr_ring.specs.Slots.{with_item, with_pieces}
-use Rattle.dr_ring.proofs.Items.{IsItem}
+use Rattle.dr_entry.specs.declared.entry.Item.{Item, TheVariants.Text}
+use Rattle.dr_ring.{specs.{Pieces.{null_mark, body_piece}, Slots.{with_item, with_pieces}}, proofs.Items.IsItem}
 use Rattle.dr_ring.proofs.Puts.{HasRoom, room_before, head_set, body_set, body_rises, put_arrives, put_grows, put_in_form}
 use Rattle.dr_ring.proofs.ring.put.Goals as goal
 
@@ -61,8 +57,7 @@ set_own-requires-in-loop-part-clause-grown c =
     (search rules) c.set_own-in-Text.ensures.after c.set_own-in-Text.ensures.form in
     body_rises c.args.shape.now.window c.args.rows.now c.loop-part.rows c.args.k c.args.shape.now.members
     c.slot_at-slot.result (c.body_column-body.result + c.loop-part.part) c.pack_ring-in-loop-part.result c.loop-part.part
-    c.bytes-bytes.result.now
-    room (omega (arith, ap length c.bytes-bytes.ensures.same)) c.requires.earlier
+    c.bytes-bytes.result.now room (omega (arith, ap length c.bytes-bytes.ensures.same)) c.requires.earlier
     c.loop-part.invariant.after c.requires.shape.members c.slot_at-slot.ensures.value
     (omega (arith, c.body_column-body.ensures.value)) (search rules)
 
@@ -99,10 +94,8 @@ text_after : (c : goal.After-loop-part)
 text_after c =
     let all : c.loop-part.part ≡ div_ceil (length c.bytes-bytes.result.now) 4 =
     omega (arith, c.div_ceil-part-end.ensures) in
-    c.loop-part.invariant.after
-    ∙ ap (λ (n : ℕ). with_pieces c.args.shape.now.window c.args.rows.now c.args.k
-    (length c.bytes-bytes.result.now
-    ∷ map (body_piece c.bytes-bytes.result.now) (range_with_len 0 n))) all
+    c.loop-part.invariant.after ∙ ap (λ (n : ℕ). with_pieces c.args.shape.now.window c.args.rows.now c.args.k
+    (length c.bytes-bytes.result.now ∷ map (body_piece c.bytes-bytes.result.now) (range_with_len 0 n))) all
     ∙ ap (λ (x : Item). with_item c.args.shape.now.window c.args.rows.now c.args.k x) (sym (text_is c))
 
 pub returns-after-loop-part-clause-arrives : goal.returns-after-loop-part-clause-arrives

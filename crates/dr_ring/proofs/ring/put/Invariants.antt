@@ -1,9 +1,7 @@
-use Rattle.std.proofs.Common.{◌≡◌, ◌∷◌, length, map}
-use Rattle.std.specs.List.{range_with_len}
+use Rattle.std.{specs.List.range_with_len, proofs.Common.{◌≡◌, ◌∷◌, length, map}}
 use Rattle.dr_entry.proofs.Fields.{IsBytes}
 use Rattle.dr_rows.specs.Words.{IsWords}
-use Rattle.dr_ring.specs.Pieces.{body_piece}
-use Rattle.dr_ring.specs.Slots.{with_pieces}
+use Rattle.dr_ring.specs.{Pieces.body_piece, Slots.with_pieces}
 use Rattle.dr_ring.proofs.ring.put.Given as goal
 
 abbrev pub invariant-loop-part : goal.invariant-loop-part

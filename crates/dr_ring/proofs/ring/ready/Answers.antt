@@ -1,7 +1,6 @@
 use Rattle.std.proofs.Common.{◌↔◌, Option, IsSome, subst}
 use Rattle.dr_entry.specs.declared.entry.Item.{Item}
-use Rattle.dr_ring.specs.Slots.{IsReady, slot_of}
-use Rattle.dr_ring.proofs.Readiness.{ready_test}
+use Rattle.dr_ring.{specs.Slots.{IsReady, slot_of}, proofs.Readiness.ready_test}
 use Rattle.dr_ring.proofs.ring.ready.Goals as goal
 
 pub returns-then-is_ready-clause-ready : goal.returns-then-is_ready-clause-ready

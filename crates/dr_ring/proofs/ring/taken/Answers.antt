@@ -1,10 +1,7 @@
-use Rattle.std.proofs.Common.{◌≡◌, false, ◌==◌, Some, ap, sym, arith, rules}
-use Rattle.std.proofs.lemmas.Bool.Decides.{nat_tests}
+use Rattle.std.proofs.{Common.{◌≡◌, false, ◌==◌, Some, ap, sym, arith, rules}, lemmas.Bool.Decides.nat_tests}
 use Rattle.dr_entry.specs.declared.entry.Item.TheVariants.{Text}
 use Rattle.dr_words.specs.Packing.{ring_low}
-use Rattle.dr_ring.specs.Pieces.{null_mark}
-use Rattle.dr_ring.specs.Slots.{slot_of}
-use Rattle.dr_ring.proofs.Readiness.{item_there}
+use Rattle.dr_ring.{specs.{Pieces.null_mark, Slots.slot_of}, proofs.Readiness.item_there}
 use Rattle.dr_ring.proofs.ring.taken.Goals as goal
 
 pub returns : goal.returns

@@ -1,8 +1,6 @@
 use Rattle.std.proofs.Common.{◌≡◌, false, true, rules, tests, arith}
 use Rattle.serde_json.specs.View.{view}
-use Rattle.dr_script.specs.declared.place.Place.TheVariants.{Fault}
-use Rattle.dr_script.specs.Places.{unless}
-use Rattle.dr_script.specs.Rules.{is_placed}
+use Rattle.dr_script.specs.{Places.unless, Rules.is_placed, declared.passage.Passage.TheVariants.Fault}
 use Rattle.dr_script.proofs.EachLemmas.{each_more, each_stops, unless_kept, unless_broken}
 use Rattle.dr_script.proofs.faults.check_places.Goals as goal
 

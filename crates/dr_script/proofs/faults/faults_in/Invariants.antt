@@ -1,8 +1,6 @@
-use Rattle.std.proofs.Common.{◌≡◌, take, map, None}
-use Rattle.std.specs.List.{filter_map}
+use Rattle.std.{specs.List.filter_map, proofs.Common.{◌≡◌, take, map, None}}
 use Rattle.serde_json.specs.View.{view}
-use Rattle.dr_script.specs.Places.{broken_at}
-use Rattle.dr_script.specs.Rules.{deed_breaks, fault_of}
+use Rattle.dr_script.specs.{Places.broken_at, Rules.{deed_breaks, fault_of}}
 use Rattle.dr_script.proofs.faults.faults_in.Given as goal
 
 abbrev pub invariant-loop-index : goal.invariant-loop-index

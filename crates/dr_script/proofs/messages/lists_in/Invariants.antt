@@ -1,8 +1,6 @@
 use Rattle.std.proofs.Common.{◌≡◌, ◌<◌, All, take, map, None}
 use Rattle.serde_json.specs.View.{view}
-use Rattle.dr_script.specs.Places.{broken_at}
-use Rattle.dr_script.specs.Rules.{list_breaks}
-use Rattle.dr_script.specs.Reading.{messages_in}
+use Rattle.dr_script.specs.{Places.broken_at, Reading.messages_in, Rules.list_breaks}
 use Rattle.dr_script.proofs.messages.lists_in.Given as goal
 
 abbrev pub invariant-loop-member : goal.invariant-loop-member

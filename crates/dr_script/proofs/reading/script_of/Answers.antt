@@ -1,13 +1,9 @@
-use Rattle.std.proofs.Common.{◌≡◌, ◌<◌, Some, None, ap, sym, subst, ◌∙◌, rules as common_rules, tests}
 use Rattle.std.specs.List.{All}
+use Rattle.std.proofs.Common.{◌≡◌, ◌<◌, Some, None, ap, sym, subst, ◌∙◌, rules as common_rules, tests}
 use Rattle.serde_json.specs.View.{view}
-use Rattle.dr_script.specs.declared.script.Script.{Script}
-use Rattle.dr_script.specs.Rules.{rules, first_broken}
-use Rattle.dr_script.specs.Reading.{script_of}
-use Rattle.dr_script.specs.Ranges.{HasRanges}
-use Rattle.dr_script.proofs.RangeLemmas.{ranges_of_kept}
-use Rattle.dr_script.proofs.RuleLemmas.{broken_size, broken_message, broken_fault}
-use Rattle.dr_script.proofs.StopLemmas.{rule_of, handed_on}
+use Rattle.dr_script.specs.{Ranges.HasRanges, Reading.script_of, Rules.{rules, first_broken}}
+use Rattle.dr_script.{specs.declared.script.Script.Script, proofs.RangeLemmas.ranges_of_kept}
+use Rattle.dr_script.proofs.{RuleLemmas.{broken_size, broken_message, broken_fault}, StopLemmas.{rule_of, handed_on}}
 use Rattle.dr_script.proofs.reading.script_of.Goals as goal
 
 pub returns-in_err-sizes-clause-broken : goal.returns-in_err-sizes-clause-broken
@@ -20,8 +16,7 @@ returns-in_err-sizes-clause-broken c = λ broken is.
 pub returns-in_err-messages-clause-broken : goal.returns-in_err-messages-clause-broken
 returns-in_err-messages-clause-broken c = λ broken is.
     let named = handed_on c.from_residual-in_err-messages.result c.messages_of.result
-    c.in_err-messages.field-0.0 broken c.from_residual-in_err-messages.ensures.1 c.in_err-messages.was
-    is in
+    c.in_err-messages.field-0.0 broken c.from_residual-in_err-messages.ensures.1 c.in_err-messages.was is in
     broken_message (view c.args.value.now) broken c.in_ok-check_shape.ensures.kept
     c.in_ok-sizes.ensures.kept (c.messages_of.ensures.broken broken named)
 
@@ -48,5 +43,4 @@ returns-clause-ranges c =
     } in
     let same : made ≡ script_of d = search (common_rules, tests) in
     subst HasRanges (sym same) (ranges_of_kept d none
-    (subst (All (All (All (λ byte. byte < 256)))) c.in_ok-messages.ensures.messages
-    c.in_ok-messages.ensures.bytes))
+    (subst (All (All (All (λ byte. byte < 256)))) c.in_ok-messages.ensures.messages c.in_ok-messages.ensures.bytes))

@@ -1,6 +1,5 @@
 use Rattle.std.proofs.Common.{◌≡◌, ◌≤◌, All, List, ℕ, length, take}
-use Rattle.dr_entry.specs.declared.limits.TheConstants.{MAX_MESSAGES}
-use Rattle.dr_entry.specs.Messages.{IsMessage}
+use Rattle.dr_entry.specs.{Messages.IsMessage, declared.limits.TheConstants.MAX_MESSAGES}
 use Rattle.dr_senders.specs.Senders.{taken_in}
 use Rattle.dr_senders.proofs.senders.copies.Given as goal
 

@@ -1,9 +1,7 @@
-use Rattle.std.proofs.Common.{◌≡◌, sym, ◌∙◌, subst, All, [], ◌∷◌, ◌++◌}
-use Rattle.std.proofs.lemmas.List.Elements.{All-push}
+use Rattle.std.proofs.{Common.{◌≡◌, sym, ◌∙◌, subst, All, [], ◌∷◌, ◌++◌}, lemmas.List.Elements.All-push}
 use Rattle.dr_entry.specs.Messages.{IsMessage}
 use Rattle.dr_history.specs.History.{IsPrefixOf}
-use Rattle.dr_senders.proofs.Growth.{given_push, taken_push}
-use Rattle.dr_senders.specs.Senders.{HaveGrown, taken_in}
+use Rattle.dr_senders.{specs.Senders.{HaveGrown, taken_in}, proofs.Growth.{given_push, taken_push}}
 use Rattle.dr_senders.proofs.senders.finish_all.Goals as goal
 
 pub loop-sender-preserved : goal.loop-sender-preserved

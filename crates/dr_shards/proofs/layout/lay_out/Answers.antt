@@ -1,7 +1,5 @@
-use Rattle.std.proofs.Common.{◌≡◌, sym, subst, ◌∙◌, arith}
-use Rattle.std.specs.Prelude.{All}
-use Rattle.dr_script.specs.Ranges.{HasRanges}
-use Rattle.dr_script.specs.declared.script.Script.{Script}
+use Rattle.std.{specs.Prelude.All, proofs.Common.{◌≡◌, sym, subst, ◌∙◌, arith}}
+use Rattle.dr_script.specs.{Ranges.HasRanges, declared.script.Script.Script}
 use Rattle.dr_shards.proofs.Laying.{layout_ranges, lays_out}
 use Rattle.dr_shards.proofs.layout.lay_out.Goals as goal
 

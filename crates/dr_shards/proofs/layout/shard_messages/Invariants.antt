@@ -1,5 +1,4 @@
-use Rattle.std.proofs.Common.{◌≡◌}
-use Rattle.std.specs.Prelude.{map, slice_index_or, []}
+use Rattle.std.{specs.Prelude.{map, slice_index_or, []}, proofs.Common.{◌≡◌}}
 use Rattle.dr_shards.specs.Layout.{shard_members}
 use Rattle.dr_shards.proofs.layout.shard_messages.Given as goal
 

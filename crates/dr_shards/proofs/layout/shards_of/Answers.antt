@@ -1,7 +1,5 @@
-use Rattle.std.proofs.Common.{◌++◌, ◌∷◌, [], ap, sym, ◌∙◌, arith}
+use Rattle.std.{specs.{List.range_with_len, Prelude.map}, proofs.Common.{◌++◌, ◌∷◌, [], ap, sym, ◌∙◌, arith}}
 use Rattle.std.proofs.lemmas.List.FromFn.{map-range_with_len_more}
-use Rattle.std.specs.Prelude.{map}
-use Rattle.std.specs.List.{range_with_len}
 use Rattle.dr_shards.specs.Layout.{shard_of}
 use Rattle.dr_shards.proofs.layout.shards_of.Goals as goal
 

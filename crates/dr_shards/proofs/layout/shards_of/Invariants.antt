@@ -1,6 +1,4 @@
-use Rattle.std.proofs.Common.{◌≡◌}
-use Rattle.std.specs.Prelude.{map}
-use Rattle.std.specs.List.{range_with_len}
+use Rattle.std.{specs.{List.range_with_len, Prelude.map}, proofs.Common.{◌≡◌}}
 use Rattle.dr_shards.specs.Layout.{shard_of}
 use Rattle.dr_shards.proofs.layout.shards_of.Given as goal
 

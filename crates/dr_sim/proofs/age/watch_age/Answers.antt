@@ -1,11 +1,9 @@
 use Rattle.std.proofs.Common.{rules, arith}
 use Rattle.dr_program_laws.proofs.Failing.{all_failing}
-use Rattle.dr_age.proofs.Ends.{ready_with}
-use Rattle.dr_age.proofs.Playing.{age_on}
-use Rattle.dr_sim.specs.Simulated.{IsSimulated}
-use Rattle.dr_sim.proofs.Courses.{schedule_ran, schedule_ends}
-use Rattle.dr_logged.proofs.Served.{places_both, places_same}
+use Rattle.dr_play.proofs.{Ends.ready_with, Playing.age_on}
+use Rattle.dr_sim.{specs.Simulated.IsSimulated, proofs.Courses.{schedule_ran, schedule_ends}}
 use Rattle.dr_sim.proofs.age.watch_age.Given.{Over}
+use Rattle.dr_served.proofs.Served.{places_both, places_same}
 use Rattle.dr_sim.proofs.age.watch_age.Goals as goal
 
 -- its age is that of the script

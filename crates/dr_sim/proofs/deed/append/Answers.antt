@@ -1,12 +1,9 @@
-use Rattle.std.proofs.Common.{refl, sym, ap, ◌∙◌, subst}
-use Rattle.std.proofs.lemmas.Option.{same_Some}
+use Rattle.std.proofs.{Common.{refl, sym, ap, ◌∙◌, subst}, lemmas.Option.same_Some}
 use Rattle.dr_program.specs.Running.{broken_off}
-use Rattle.dr_logged.specs.Served.{HasServed, IsReady}
-use Rattle.dr_logged.proofs.Serving.{appended_ready, appended_served, failed_ready}
-use Rattle.dr_logged.proofs.Appends.{did_append, did_fail, has_place, has_spares}
-use Rattle.dr_age.proofs.Deeds.{at_append}
-use Rattle.dr_sim.proofs.Places.{here_ready, no_ready}
-use Rattle.dr_sim.proofs.Deeds.{append_taken, failure_taken}
+use Rattle.dr_served.{specs.Served.{HasServed, IsReady}, proofs.Appends.{did_append, did_fail, has_place, has_spares}}
+use Rattle.dr_served.proofs.Serving.{appended_ready, appended_served, failed_ready}
+use Rattle.dr_play.proofs.Deeds.{at_append}
+use Rattle.dr_sim.proofs.{Deeds.{append_taken, failure_taken}, Places.{here_ready, no_ready}}
 use Rattle.dr_sim.proofs.deed.append.Goals as goal
 
 pub unreachable-requires : goal.unreachable-requires
@@ -29,9 +26,8 @@ append-requires-clause-placed g c = λ ks within.
     (has_place c.in-Some.log c.args.member.now c.in-Append.record at.1).1
 
 pub returns-in-Ok-clause-taken : goal.returns-in-Ok-clause-taken
-returns-in-Ok-clause-taken g c = λ table posts.
-    append_taken table posts c.args.member.now _ c.appended.new.self (sym c.in-Append.ensures.deed)
-    c.appended.ensures.after
+returns-in-Ok-clause-taken g c = λ table posts. append_taken table posts c.args.member.now _ c.appended.new.self
+    (sym c.in-Append.ensures.deed) c.appended.ensures.after
 
 pub returns-in-Ok-clause-ready : goal.returns-in-Ok-clause-ready
 returns-in-Ok-clause-ready g c =

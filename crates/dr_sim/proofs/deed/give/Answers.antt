@@ -8,8 +8,7 @@ take_list-letter-requires c = (c.requires.lists.list _ c.requires.due).2
 
 pub letter-requires-clause-room : goal.letter-requires-clause-room
 letter-requires-clause-room c =
-    let list = c.requires.lists.list _ c.requires.due in
-    omega (arith, list.3, c.take_list-letter.ensures.room)
+    let list = c.requires.lists.list _ c.requires.due in omega (arith, list.3, c.take_list-letter.ensures.room)
 
 pub put-requires : goal.put-requires
 put-requires c =

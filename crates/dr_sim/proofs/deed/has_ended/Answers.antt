@@ -1,5 +1,4 @@
-use Rattle.std.proofs.Common.{sym, ap, ◌∙◌}
-use Rattle.std.specs.Prelude.{is_some}
+use Rattle.std.{specs.Prelude.is_some, proofs.Common.{sym, ap, ◌∙◌}}
 use Rattle.dr_program.specs.Program.{has_ended}
 use Rattle.dr_sim.proofs.deed.has_ended.Goals as goal
 

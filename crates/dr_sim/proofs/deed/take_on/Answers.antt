@@ -1,18 +1,14 @@
 use Rattle.std.proofs.Common.{refl, sym, ap, ◌∙◌, subst, inr, ◌||◌, ◌≤◌, ℕ, List, length, arith}
 use Rattle.std.proofs.lemmas.List.{with_items_is}
 use Rattle.dr_program.proofs.RunningPrograms.{going_none}
-use Rattle.dr_member.specs.Alone.{LeadsTo, SeesAlong}
-use Rattle.dr_member.specs.Deeds.{is_look, is_push, table_size}
-use Rattle.dr_age.proofs.Sound.{appends_well}
-use Rattle.dr_sim.specs.Deeds.{SeesWell}
-use Rattle.dr_sim.proofs.Steps.{sees_well}
-use Rattle.dr_sim.proofs.Lists.{finds_lists}
+use Rattle.dr_member.specs.{Alone.{LeadsTo, SeesAlong}, Deeds.{is_look, is_push, table_size}}
+use Rattle.dr_play.proofs.Sound.{appends_well}
+use Rattle.dr_sim.{specs.Deeds.SeesWell, proofs.{Lists.finds_lists, Steps.sees_well}}
 use Rattle.dr_sim.proofs.Sweeps.{come_lists, come_ready, come_served, sees_along, somewhere_logged, whole_words}
 use Rattle.dr_sim.proofs.deed.take_on.Goals as goal
 
 pub take-requires-clause-size : goal.take-requires-clause-size
-take-requires-clause-size g c = λ ks within.
-    subst (λ words. table_size c.args.member.now ≤ length words)
+take-requires-clause-size g c = λ ks within. subst (λ words. table_size c.args.member.now ≤ length words)
     (sym c.as_mut_slice-in_default.ensures.value)
     (whole_words c.args.table.now.items c.args.posts.now.letters c.args.member.now c.requires.somewhere)
 
@@ -62,12 +58,10 @@ returns-in-Look-clause-goes g c = inr (
 )
 
 pub returns-in-Look-clause-lists : goal.returns-in-Look-clause-lists
-returns-in-Look-clause-lists g c =
-    come_lists c.args.posts.now _ _ _ _ c.look_alone.ensures.taken c.requires.lists
+returns-in-Look-clause-lists g c = come_lists c.args.posts.now _ _ _ _ c.look_alone.ensures.taken c.requires.lists
 
 pub returns-in-Look-clause-ready : goal.returns-in-Look-clause-ready
-returns-in-Look-clause-ready g c =
-    come_ready c.args.place.now _ _ _ _ c.look_alone.ensures.taken c.requires.ready
+returns-in-Look-clause-ready g c = come_ready c.args.place.now _ _ _ _ c.look_alone.ensures.taken c.requires.ready
 
 pub returns-in-Look-clause-served : goal.returns-in-Look-clause-served
 returns-in-Look-clause-served g c = λ base served.
@@ -81,8 +75,7 @@ returns-in-Push-clause-goes g c = inr (
       (λ z. (
         c.as_mut_slice.ensures.value z,
         sym (with_items_is c.args.table.now c.push_alone.new.table
-            (omega (arith, c.push_alone.auto.table, ap length c.as_mut_slice.ensures.value, c.args.table.now.ok)))
-            z,
+            (omega (arith, c.push_alone.auto.table, ap length c.as_mut_slice.ensures.value, c.args.table.now.ok))) z,
       )) c.push_alone.ensures.taken,
   refl,
   refl,
@@ -90,12 +83,10 @@ returns-in-Push-clause-goes g c = inr (
 )
 
 pub returns-in-Push-clause-lists : goal.returns-in-Push-clause-lists
-returns-in-Push-clause-lists g c =
-    come_lists c.args.posts.now _ _ _ _ c.push_alone.ensures.taken c.requires.lists
+returns-in-Push-clause-lists g c = come_lists c.args.posts.now _ _ _ _ c.push_alone.ensures.taken c.requires.lists
 
 pub returns-in-Push-clause-ready : goal.returns-in-Push-clause-ready
-returns-in-Push-clause-ready g c =
-    come_ready c.args.place.now _ _ _ _ c.push_alone.ensures.taken c.requires.ready
+returns-in-Push-clause-ready g c = come_ready c.args.place.now _ _ _ _ c.push_alone.ensures.taken c.requires.ready
 
 pub returns-in-Push-clause-served : goal.returns-in-Push-clause-served
 returns-in-Push-clause-served g c = λ base served.

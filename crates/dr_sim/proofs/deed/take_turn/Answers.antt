@@ -1,14 +1,11 @@
 use Rattle.std.proofs.Common.{refl, sym, ◌∙◌}
-use Rattle.dr_program.proofs.Schedules.{amid_goes}
-use Rattle.dr_program.proofs.RunningPrograms.{going_none}
-use Rattle.dr_sim.proofs.Sweeps.{way_on}
-use Rattle.dr_sim.proofs.Turns.{way_among, way_begins}
+use Rattle.dr_program.proofs.{RunningPrograms.going_none, Schedules.amid_goes}
+use Rattle.dr_sim.proofs.{Sweeps.way_on, Turns.{way_among, way_begins}}
 use Rattle.dr_sim.proofs.deed.take_turn.Goals as goal
 
 pub loop-init : goal.loop-init
 loop-init g c = record {
-  way = λ h p m is.
-      way_begins g.W.Watcher.sees c.args.watcher.now h p m c.args.member.now c.args.table.now.items
+  way = λ h p m is. way_begins g.W.Watcher.sees c.args.watcher.now h p m c.args.member.now c.args.table.now.items
       c.args.posts.now.letters is;
   lists = c.requires.lists;
   same = refl;
@@ -24,8 +21,7 @@ take_on-requires-clause-somewhere g c = λ ks within.
       _,
       m,
       way_among h p m c.args.member.now c.loop.member c.args.table.now.items c.loop.table.items
-          c.args.posts.now.letters c.loop.posts.letters is
-          (c.loop.invariant.way h p m is),
+          c.args.posts.now.letters c.loop.posts.letters is (c.loop.invariant.way h p m is),
     )
 
 pub returns-then-is_between_turns-clause-turn : goal.returns-then-is_between_turns-clause-turn
@@ -49,12 +45,10 @@ loop-smaller g c = c.take_on.ensures.falls
 pub loop-preserved : goal.loop-preserved
 loop-preserved g c =
     let amid = sym c.is_between_turns.ensures ∙ c.if-is_between_turns.false in record {
-      way = λ h p m is.
-          (way_on c.take_on.new.watcher h p m c.args.member.now c.loop.member c.take_on.new.member
+      way = λ h p m is. (way_on c.take_on.new.watcher h p m c.args.member.now c.loop.member c.take_on.new.member
           c.args.table.now.items c.loop.table.items c.take_on.new.table.items c.args.posts.now.letters
-          c.loop.posts.letters c.take_on.new.posts.letters is
-          (c.loop.invariant.way h p m is) (going_none c.loop.member c.loop.invariant.going)
-          c.take_on.ensures.goes c.take_on.ensures.falls).0 amid;
+          c.loop.posts.letters c.take_on.new.posts.letters is (c.loop.invariant.way h p m is)
+          (going_none c.loop.member c.loop.invariant.going) c.take_on.ensures.goes c.take_on.ensures.falls).0 amid;
       going = amid_goes c.take_on.new.member amid;
       lists = c.take_on.ensures.lists;
       same = c.take_on.ensures.same ∙ c.loop.invariant.same;

@@ -2,11 +2,9 @@ use Rattle.std.proofs.Common.{◌≡◌, ℕ, false, is_some}
 use Rattle.dr_machine.specs.Group.{Group}
 use Rattle.dr_program.specs.Program.{Program}
 use Rattle.dr_log.specs.State.{LogState}
-use Rattle.dr_sim.specs.Lists.{HasSpare}
-use Rattle.dr_sim.specs.Places.{HasServedAt, IsReadyAt}
-use Rattle.dr_turn.specs.Work.{deeds_left}
-use Rattle.dr_sim.specs.Sound.{IsAmong, with_member}
+use Rattle.dr_sim.specs.{Lists.HasSpare, Places.{HasServedAt, IsReadyAt}, Sound.{IsAmong, with_member}}
 use Rattle.dr_sim.proofs.Turns.{IsUnderWay}
+use Rattle.dr_turn.specs.Work.{deeds_left}
 use Rattle.dr_sim.proofs.deed.take_turn.Given as goal
 
 abbrev pub invariant-loop : goal.invariant-loop

@@ -1,7 +1,5 @@
-use Rattle.std.proofs.Common.{◌≡◌, ◌≤◌, ℕ, List, length}
-use Rattle.std.specs.Prelude.{Option}
+use Rattle.std.{specs.{List.{range_with_len, filter}, Prelude.Option}, proofs.Common.{◌≡◌, ◌≤◌, ℕ, List, length}}
 use Rattle.dr_entry.specs.declared.entry.Entry.{Entry}
-use Rattle.std.specs.List.{range_with_len, filter}
 use Rattle.dr_program.proofs.Programs.{goes}
 use Rattle.dr_sim.specs.Sound.{program_over}
 use Rattle.dr_sim.proofs.seeded.going.Given as goal

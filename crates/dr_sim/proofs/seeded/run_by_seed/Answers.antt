@@ -1,12 +1,9 @@
-use Rattle.std.proofs.Common.{rules, sym, ap, ◌∙◌, ◌==◌, length}
-use Rattle.std.specs.List.{remove}
+use Rattle.std.{specs.List.remove, proofs.Common.{rules, sym, ap, ◌∙◌, ◌==◌, length}}
 use Rattle.dr_entry.proofs.NumberFacts.{count_none, count_some}
-use Rattle.dr_program.proofs.Schedules.{chosen_place}
-use Rattle.dr_program.proofs.Programs.{picked}
-use Rattle.dr_program.proofs.Present.{going_within}
-use Rattle.dr_logged.proofs.Served.{places_both, places_same}
-use Rattle.dr_sim.proofs.Choices.{chosen_again, going_on, nothing_chosen, one_has_ended, seeded}
+use Rattle.dr_program.proofs.{Present.going_within, Programs.picked, Schedules.chosen_place}
+use Rattle.dr_served.proofs.Served.{places_both, places_same}
 use Rattle.dr_sim.specs.Sound.{program_over}
+use Rattle.dr_sim.proofs.Choices.{chosen_again, going_on, nothing_chosen, one_has_ended, seeded}
 use Rattle.dr_sim.proofs.seeded.run_by_seed.Goals as goal
 
 pub members-init : goal.members-init
@@ -49,10 +46,7 @@ take_deed-requires-send-D g c = λ ks within.
             c.deeds.invariant.sound,
             (
               pick.goes,
-              (
-                going_within c.deeds.members _ pick.goes,
-                (c.deeds.invariant.ready, c.deeds.invariant.lists),
-              ),
+              (going_within c.deeds.members _ pick.goes, (c.deeds.invariant.ready, c.deeds.invariant.lists)),
             ),
           ),
         ),
@@ -73,8 +67,7 @@ members-preserved g c =
           c.deeds.invariant.few c.choose_few-at.ensures.choice)
           ∙ ap (λ xs. remove xs c.choose_few-at.result) c.deeds.invariant.going
           ∙ sym (one_has_ended (program_over c.deeds.members c.deeds.table c.deeds.posts.letters) (program_over c.take_deed.new.members c.take_deed.new.table c.take_deed.new.posts.letters) _ c.choose_few-at.result took.outcome
-          took.step all pick.within pick.place
-          (sym c.take_deed.ensures.ended ∙ c.if-take_deed.true));
+          took.step all pick.within pick.place (sym c.take_deed.ensures.ended ∙ c.if-take_deed.true));
       chosen = chosen_again c.take_deed.new.watcher c.args.seed (program_over c.args.members.now c.args.table.now c.args.posts.now.letters) c.deeds.lcg
           c.choose_few-at.new.self (program_over c.deeds.members c.deeds.table c.deeds.posts.letters) (program_over c.take_deed.new.members c.take_deed.new.table c.take_deed.new.posts.letters) _ took.outcome
           c.deeds.invariant.chosen pick.choice

@@ -1,13 +1,10 @@
-use Rattle.std.proofs.Common.{◌≡◌, ◌<◌, List, length}
+use Rattle.std.{specs.Prelude.Option, proofs.Common.{◌≡◌, ◌<◌, List, length}}
 use Rattle.dr_log.specs.State.{LogState}
-use Rattle.dr_logged.specs.Served.{AreReady, HaveSamePlaces, HaveServed}
+use Rattle.dr_served.specs.Served.{AreReady, HaveSamePlaces, HaveServed}
 use Rattle.dr_program.specs.Schedule.{going}
-use Rattle.dr_age.specs.Sound.{IsSound}
-use Rattle.dr_sim.specs.Lists.{HaveSpares}
-use Rattle.dr_sim.specs.Sound.{all_left, program_over}
-use Rattle.dr_sim.proofs.Choices.{HasChosen}
+use Rattle.dr_play.specs.Sound.{IsSound}
+use Rattle.dr_sim.{specs.{Lists.HaveSpares, Sound.{all_left, program_over}}, proofs.Choices.HasChosen}
 use Rattle.dr_sim.proofs.seeded.run_by_seed.Given as goal
-use Rattle.std.specs.Prelude.{Option}
 
 abbrev pub ghost-take_deed : goal.ghost-take_deed
 ghost-take_deed g a = g.group

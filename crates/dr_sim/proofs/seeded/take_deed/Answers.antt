@@ -1,21 +1,13 @@
+use Rattle.std.{specs.Prelude.{Some, slice_set}, proofs.lemmas.Option.same_Some}
 use Rattle.std.proofs.Common.{rules, refl, sym, ap, ◌∙◌, subst, le_of_eq, length, length-set, ◌<◌, arith}
-use Rattle.std.specs.Prelude.{Some, slice_set}
-use Rattle.std.proofs.lemmas.Option.{same_Some}
-use Rattle.dr_age.proofs.Sound.{appends_well, whole_table}
-use Rattle.dr_logged.specs.Served.{AreReady, HaveServed}
-use Rattle.dr_program.specs.Presence.{present_at, with_present}
-use Rattle.dr_program.specs.Program.{has_ended}
-use Rattle.dr_program.specs.Running.{Running}
-use Rattle.dr_program.proofs.Fixed.{Told}
-use Rattle.dr_program.proofs.Present.{present_kept, present_set, place_is, at_set}
+use Rattle.dr_play.proofs.Sound.{appends_well, whole_table}
+use Rattle.dr_served.{specs.Served.{AreReady, HaveServed}, proofs.Served.places_on}
+use Rattle.dr_program.specs.{Presence.{present_at, with_present}, Program.has_ended, Running.Running}
+use Rattle.dr_program.proofs.{Fixed.Told, Present.{present_kept, present_set, place_is, at_set}}
 use Rattle.dr_program.proofs.RunningPrograms.{going_none}
-use Rattle.dr_logged.proofs.Served.{places_on}
-use Rattle.dr_sim.specs.Places.{HasServedAt, IsReadyAt}
-use Rattle.dr_sim.specs.Sound.{program_over}
-use Rattle.dr_sim.proofs.Lists.{finds_lists, lists_on, taken_told}
-use Rattle.dr_sim.proofs.Logs.{ready_on, served_on}
-use Rattle.dr_sim.proofs.Places.{ready_at, same_place, served_at}
-use Rattle.dr_sim.proofs.Steps.{sees_well, took}
+use Rattle.dr_sim.specs.{Places.{HasServedAt, IsReadyAt}, Sound.program_over}
+use Rattle.dr_sim.proofs.{Lists.{finds_lists, lists_on, taken_told}, Logs.{ready_on, served_on}}
+use Rattle.dr_sim.proofs.{Places.{ready_at, same_place, served_at}, Steps.{sees_well, took}}
 use Rattle.dr_sim.proofs.seeded.take_deed.Goals as goal
 
 pub unreachable-requires : goal.unreachable-requires
@@ -76,9 +68,8 @@ take-requires-clause-lists g c = λ ks within.
     let at = place_is c.args.members.now c.args.m c.index-members-m.result _ c.requires.1.1.1.1.1.0 c.in-Some.is in
     finds_lists g.group (program_over c.args.members.now c.args.table.now c.args.posts.now.letters) c.args.m
     c.in-Some.member c.args.table.now c.args.posts.now
-    (record { sound = c.requires.1.1.1.0; there = at; table = refl; letters = refl })
-    (going_none c.in-Some.member (sym (ap has_ended at) ∙ c.requires.1.1.1.1.0))
-    (c.requires.1.1.1.1.1.1.1 c.args.m c.in-Some.member at)
+    (record { sound = c.requires.1.1.1.0; there = at; table = refl; letters = refl }) (going_none c.in-Some.member
+    (sym (ap has_ended at) ∙ c.requires.1.1.1.1.0)) (c.requires.1.1.1.1.1.1.1 c.args.m c.in-Some.member at)
 
 pub returns-clause-lists : goal.returns-clause-lists
 returns-clause-lists g c =
@@ -100,8 +91,7 @@ returns-clause-took g c =
     c.take.ensures.taken c.take.ensures.falls
 
 pub returns-clause-ended : goal.returns-clause-ended
-returns-clause-ended g c =
-    c.take.ensures.ended
+returns-clause-ended g c = c.take.ensures.ended
     ∙ sym (ap has_ended (present_set c.args.members.now c.args.m c.take.new.member c.requires.1.1.1.1.1.0))
 
 pub returns-clause-ready : goal.returns-clause-ready
@@ -112,8 +102,7 @@ returns-clause-ready g c =
     (with_present c.args.members.now c.args.m c.take.new.member)) (sym same)
     (ready_on c.args.logs.now c.take.new.place (program_over c.args.members.now c.args.table.now c.args.posts.now.letters)
     (program_over (with_present c.args.members.now c.args.m c.take.new.member) c.take.new.table
-    c.take.new.posts.letters) c.args.m
-    c.requires.1.1.1.1.1.1.0
+    c.take.new.posts.letters) c.args.m c.requires.1.1.1.1.1.1.0
     (length-set c.args.members.now c.args.m (Some c.take.new.member))
     (λ i other. present_kept c.args.members.now c.args.m i c.take.new.member other)
     (λ r there. at_set (IsReadyAt c.take.new.place) c.args.members.now c.args.m c.take.new.member r
@@ -146,8 +135,7 @@ returns-clause-served g c = λ bases served.
     c.args.members.now c.args.m c.take.new.member r c.requires.1.1.1.1.1.0
     (c.take.ensures.served base (served_at g.D.Disk.told g.D.Disk.faults bases c.args.logs.now c.args.members.now
     c.from-me.result c.index-logs-me.result base c.in-Some.member (omega (arith, same, within)) served
-    (ap (present_at bases) same ∙ from) (ap (present_at c.args.members.now) same ∙ at))) there)
-    served)
+    (ap (present_at bases) same ∙ from) (ap (present_at c.args.members.now) same ∙ at))) there) served)
 
 pub returns-clause-told : goal.returns-clause-told
 returns-clause-told g c = λ r there.

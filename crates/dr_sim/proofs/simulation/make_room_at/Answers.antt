@@ -1,7 +1,7 @@
 use Rattle.std.proofs.Common.{refl}
 use Rattle.dr_entry.proofs.OptionFacts.{on_ok}
-use Rattle.dr_logged.proofs.Rooms.{roomy}
-use Rattle.dr_age.proofs.LoggedMembers.{reserve_keeps}
+use Rattle.dr_served.proofs.Rooms.{roomy}
+use Rattle.dr_play.proofs.LoggedMembers.{reserve_keeps}
 use Rattle.dr_sim.proofs.Rooms.{log_got_room, log_stays, no_log_there, no_member_there, stays_same}
 use Rattle.dr_sim.proofs.simulation.make_room_at.Goals as goal
 

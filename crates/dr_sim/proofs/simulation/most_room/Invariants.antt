@@ -1,7 +1,5 @@
-use Rattle.std.proofs.Common.{◌≡◌, ℕ, ◌<◌, ◌≤◌}
-use Rattle.std.specs.Prelude.{Some}
-use Rattle.dr_program.specs.Presence.{present_at}
-use Rattle.dr_program.specs.Running.{Running}
+use Rattle.std.{specs.Prelude.Some, proofs.Common.{◌≡◌, ℕ, ◌<◌, ◌≤◌}}
+use Rattle.dr_program.specs.{Presence.present_at, Running.Running}
 use Rattle.dr_sim.proofs.simulation.most_room.Given as goal
 
 abbrev pub invariant-loop-place : goal.invariant-loop-place

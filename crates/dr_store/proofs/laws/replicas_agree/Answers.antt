@@ -1,5 +1,4 @@
-use Rattle.dr_store.proofs.Scanning.{values_alike}
-use Rattle.dr_store.proofs.Standing.{alike_at, not_refused}
+use Rattle.dr_store.proofs.{Scanning.values_alike, Standing.{alike_at, not_refused}}
 use Rattle.dr_store.proofs.laws.replicas_agree.Goals as goal
 
 pub returns-clause-values : goal.returns-clause-values

@@ -1,6 +1,5 @@
 use Rattle.std.proofs.Common.{rules}
-use Rattle.dr_store.proofs.Forgetting.{thinned-retain, thinned_map}
-use Rattle.dr_store.proofs.Tables.{sorted_listed}
+use Rattle.dr_store.proofs.{Forgetting.{thinned-retain, thinned_map}, Tables.sorted_listed}
 use Rattle.dr_store.proofs.store.forget.Goals as goal
 
 pub returns-clause-here : goal.returns-clause-here

@@ -1,7 +1,5 @@
-use Rattle.std.proofs.Common.{rules, All, subst}
-use Rattle.std.proofs.lemmas.List.{take_all}
-use Rattle.dr_summary.specs.Marks.{IsMarkUntil}
-use Rattle.dr_summary.proofs.Stretch.{alike_more}
+use Rattle.std.proofs.{Common.{rules, All, subst}, lemmas.List.take_all}
+use Rattle.dr_summary.{specs.Marks.IsMarkUntil, proofs.Stretch.alike_more}
 use Rattle.dr_summary.proofs.marks.last_alike.Goals as goal
 
 pub loop-member-preserved : goal.loop-member-preserved
@@ -13,6 +11,5 @@ loop-member-preserved c = (
 )
 
 pub returns-clause-same : goal.returns-clause-same
-returns-clause-same c =
-    subst (All (IsMarkUntil c.args.number c.loop-member.last))
+returns-clause-same c = subst (All (IsMarkUntil c.args.number c.loop-member.last))
     (take_all c.loop-member.member-index c.args.members.now (search rules)) c.loop-member.invariant.1

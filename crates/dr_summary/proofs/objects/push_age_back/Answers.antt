@@ -1,7 +1,6 @@
 use Rattle.std.proofs.Common.{◌≡◌, ◌∙◌, ◌++◌, ap, string_bytes}
 use Rattle.dr_entry.proofs.ListFacts.{pushed_thrice}
-use Rattle.dr_summary.specs.Notes.{missed, undelivered}
-use Rattle.dr_summary.specs.Objects.{age_missed, age_start, age_undelivered}
+use Rattle.dr_summary.specs.{Notes.{missed, undelivered}, Objects.{age_missed, age_start, age_undelivered}}
 use Rattle.dr_summary.proofs.objects.push_age_back.Goals as goal
 
 pub returns : goal.returns

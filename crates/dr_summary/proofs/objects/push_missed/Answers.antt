@@ -1,7 +1,6 @@
 use Rattle.std.proofs.Common.{◌≡◌, ◌∙◌, ◌++◌, ap, codes, string_bytes}
 use Rattle.dr_entry.proofs.ListFacts.{three_pushed}
-use Rattle.dr_summary.specs.Notes.{missed}
-use Rattle.dr_summary.specs.Objects.{number_elements}
+use Rattle.dr_summary.specs.{Notes.missed, Objects.number_elements}
 use Rattle.dr_summary.proofs.objects.push_missed.Goals as goal
 
 pub returns : goal.returns

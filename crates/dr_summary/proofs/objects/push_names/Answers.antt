@@ -4,8 +4,6 @@ use Rattle.dr_summary.specs.Objects.{name_array}
 use Rattle.dr_summary.proofs.objects.push_names.Goals as goal
 
 pub loop-place-preserved : goal.loop-place-preserved
-loop-place-preserved c =
-    numbered_texts_more (λ t. name_array t.0 t.1) c.args.names.now c.loop-place.place
+loop-place-preserved c = numbered_texts_more (λ t. name_array t.0 t.1) c.args.names.now c.loop-place.place
     _ (string_bytes c.args.out.now) (string_bytes c.loop-place.out)
-    (string_bytes c.push_name.new.out) (omega arith) (search rules) c.loop-place.invariant
-    c.in_ok-push_name.ensures
+    (string_bytes c.push_name.new.out) (omega arith) (search rules) c.loop-place.invariant c.in_ok-push_name.ensures

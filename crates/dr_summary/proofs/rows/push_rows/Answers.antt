@@ -1,5 +1,4 @@
-use Rattle.std.proofs.Common.{◌∷◌, [], ◌+◌, ◌++◌, ◌∙◌, ap, arith, codes, string_bytes, sym}
-use Rattle.std.specs.List.{concat}
+use Rattle.std.{specs.List.concat, proofs.Common.{◌∷◌, [], ◌+◌, ◌++◌, ◌∙◌, ap, arith, codes, string_bytes, sym}}
 use Rattle.dr_entry.proofs.ListFacts.{numbered_texts_more}
 use Rattle.dr_summary.specs.Table.{in_column, label_text, row_text}
 use Rattle.dr_summary.proofs.rows.push_rows.Goals as goal
@@ -14,7 +13,6 @@ loop-index-preserved c =
           (string_bytes c.push_row.new.out) (omega arith) c.index-entries-index.is c.loop-index.invariant.0
           (c.in_ok-push_row.ensures
           ∙ ap (λ t. string_bytes c.loop-index.out
-          ++ concat (in_column (label_text number entry) ∷ t ∷ codes "\n" ∷ []))
-          (c.as_str.ensures.value ∙ sym same)),
+          ++ concat (in_column (label_text number entry) ∷ t ∷ codes "\n" ∷ [])) (c.as_str.ensures.value ∙ sym same)),
       λ n from until. c.in_ok-renew.ensures.marks n (omega (arith, from)) until,
     )

@@ -1,5 +1,4 @@
-use Rattle.std.proofs.Common.{◌≡◌, ◌++◌, string_bytes, take}
-use Rattle.std.specs.List.{flat_map}
+use Rattle.std.{specs.List.flat_map, proofs.Common.{◌≡◌, ◌++◌, string_bytes, take}}
 use Rattle.dr_summary.specs.Notes.{message_name}
 use Rattle.dr_summary.proofs.undelivered.push_names.Given as goal
 

@@ -11,8 +11,6 @@ loop-index-preserved c = record {
 }
 
 pub returns : goal.returns
-returns c =
-    c.loop-index.invariant.names
-    ∙ ap (λ l. c.args.names.now.items ++ l)
+returns c = c.loop-index.invariant.names ∙ ap (λ l. c.args.names.now.items ++ l)
     (names_as_far c.args.sender c.args.had c.loop-index.index c.args.count c.loop-index.invariant.within
     c.loop-index-test.false)

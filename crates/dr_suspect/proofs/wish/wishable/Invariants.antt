@@ -1,5 +1,4 @@
-use Rattle.std.proofs.Common.{◌≡◌, ℕ, ◌&&◌, take}
-use Rattle.std.specs.List.{list_all}
+use Rattle.std.{specs.List.list_all, proofs.Common.{◌≡◌, ℕ, ◌&&◌, take}}
 use Rattle.dr_history.specs.Members.{has}
 use Rattle.dr_suspect.specs.Wishes.{is_silent}
 use Rattle.dr_suspect.proofs.wish.wishable.Given as goal

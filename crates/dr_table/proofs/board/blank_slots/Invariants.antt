@@ -1,5 +1,4 @@
-use Rattle.std.proofs.Common.{◌≡◌, ◌≤◌, All, length}
-use Rattle.std.specs.Prelude.{vec_capacity}
+use Rattle.std.{specs.Prelude.vec_capacity, proofs.Common.{◌≡◌, ◌≤◌, All, length}}
 use Rattle.dr_table.specs.Slots.{IsBlankSlot}
 use Rattle.dr_table.proofs.board.blank_slots.Given as goal
 

@@ -1,6 +1,4 @@
-use Rattle.std.proofs.Common.{sym, ◌∙◌, arith}
-use Rattle.std.specs.Prelude.{None}
-use Rattle.std.proofs.lemmas.List.{get_or_read}
+use Rattle.std.{specs.Prelude.None, proofs.{Common.{sym, ◌∙◌, arith}, lemmas.List.get_or_read}}
 use Rattle.dr_program.proofs.Present.{present_within}
 use Rattle.dr_table.proofs.board.first_present.Goals as goal
 

@@ -1,5 +1,4 @@
-use Rattle.std.proofs.Common.{◌≡◌, ◌<◌, ℕ}
-use Rattle.std.specs.Prelude.{None}
+use Rattle.std.{specs.Prelude.None, proofs.Common.{◌≡◌, ◌<◌, ℕ}}
 use Rattle.dr_program.specs.Presence.{present_at}
 use Rattle.dr_table.proofs.board.first_present.Given as goal
 

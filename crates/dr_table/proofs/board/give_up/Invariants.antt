@@ -1,6 +1,5 @@
+use Rattle.std.specs.Mem.Slots.{slots_filled, slots_len, Ownership.Filled}
 use Rattle.std.proofs.Common.{◌≡◌, ℕ, ◌-◌, ◌<◌, false, get_or}
-use Rattle.std.specs.Mem.Slots.{slots_filled, slots_len}
-use Rattle.std.specs.Mem.Slots.Ownership.{Filled}
 use Rattle.dr_table.proofs.board.give_up.Given as goal
 
 -- the slots before this one are empty, and the others are not

@@ -1,19 +1,11 @@
+use Rattle.std.specs.{Prelude.{vec_capacity, Option}, declared.alloc.AllocError.AllocError}
 use Rattle.std.proofs.Common.{length, length-append, ◌+◌, ◌≤◌, ◌≡◌, ◌<◌, ◌++◌, List, sym, ap, ◌∙◌, subst, arith, Result, Ok, Err, IsOk, is_ok, if◌then◌else◌, true≢false}
-use Rattle.std.specs.declared.alloc.AllocError.{AllocError}
-use Rattle.std.specs.Prelude.{vec_capacity, Option}
-use Rattle.atomic_table.specs.Seated.{TableId}
-use Rattle.atomic_table.specs.Table.{Me}
-use Rattle.dr_program.specs.Running.{Running}
-use Rattle.dr_table.specs.Cards.{AreOf, AreReached, Cards, DealtTable, board_size}
-use Rattle.dr_table.specs.declared.rule.View.{View}
-use Rattle.dr_table.specs.Slots.{Slot}
-use Rattle.dr_table.specs.Steps.{IsReachedMember, idle}
-use Rattle.dr_table.proofs.Cuts.{join_allowed}
-use Rattle.dr_table.proofs.Keeping.{no_errand, no_slots}
-use Rattle.dr_table.proofs.Posting.{free}
+use Rattle.atomic_table.specs.{Seated.TableId, Table.Me}
+use Rattle.dr_program.{specs.Running.Running, proofs.Present.each_append}
+use Rattle.dr_table.specs.{Cards.{AreOf, AreReached, Cards, DealtTable, board_size}, Slots.Slot}
+use Rattle.dr_table.{specs.{Steps.{IsReachedMember, idle}, declared.rule.View.View}, proofs.Cuts.join_allowed}
+use Rattle.dr_table.proofs.{Keeping.{no_errand, no_slots}, Posting.free, hand.gather_hands.Goals.After-append}
 use Rattle.dr_table.proofs.hand.gather_hands.Goals as goal
-use Rattle.dr_table.proofs.hand.gather_hands.Goals.{After-append}
-use Rattle.dr_program.proofs.Present.{each_append}
 
 pub join_seat-requires : goal.join_seat-requires
 join_seat-requires c =
@@ -30,15 +22,12 @@ join_seat-requires c =
     )
 
 pub count_at-requires-clause-table : goal.count_at-requires-clause-table
-count_at-requires-clause-table c =
-    c.join_seat.ensures.0 ∙ ap (λ (w : Cards). w.table.id) c.a.view_is
+count_at-requires-clause-table c = c.join_seat.ensures.0 ∙ ap (λ (w : Cards). w.table.id) c.a.view_is
     ∙ ap (λ (t : DealtTable). t.id) c.requires.first
 
 pub count_at-requires-clause-words : goal.count_at-requires-clause-words
-count_at-requires-clause-words c =
-    subst (λ (t : TableId). 0 < t.words)
-    (ap (λ (w : Cards). w.table.id) c.a.view_is ∙ ap (λ (t : DealtTable). t.id) c.requires.first)
-    c.a.invariant.words
+count_at-requires-clause-words c = subst (λ (t : TableId). 0 < t.words)
+    (ap (λ (w : Cards). w.table.id) c.a.view_is ∙ ap (λ (t : DealtTable). t.id) c.requires.first) c.a.invariant.words
 
 appended : (r : Result (Unit {0}) AllocError) (new a b : List (Option Running))
     → new ≡ (if is_ok r then a ++ b else a) → IsOk r → new ≡ a ++ b
@@ -52,8 +41,7 @@ places c = sym (ap (λ (w : Cards). length w.members) c.board.view_is)
     ∙ sym (ap (λ (w : Cards). w.table.places) c.a.view_is)
 
 -- the seat has the members of both
-both : (c : After-append)
-    → c.join_seat.new.seat.me ≡ idle (c.a.inside.members.items ++ c.b.inside.members.items)
+both : (c : After-append) → c.join_seat.new.seat.me ≡ idle (c.a.inside.members.items ++ c.b.inside.members.items)
 both c = c.join_seat.ensures.2
     ∙ (λ z. (free ((c.a.invariant.known z).0.members ++ (c.b.invariant.known z).0.members), (c.a.invariant.known z).1))
 

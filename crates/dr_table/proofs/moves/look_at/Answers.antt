@@ -1,9 +1,7 @@
 use Rattle.std.proofs.Common.{◌<◌, sym, ap, ◌∙◌, subst}
 use Rattle.dr_member.specs.Deeds.{table_size}
 use Rattle.dr_program.specs.Running.{next_deed}
-use Rattle.dr_table.specs.Cards.{Cards}
-use Rattle.dr_table.specs.Steps.{IsAhead}
-use Rattle.dr_table.proofs.Keeping.{look_allowed}
+use Rattle.dr_table.{specs.{Cards.Cards, Steps.IsAhead}, proofs.Keeping.look_allowed}
 use Rattle.dr_table.proofs.moves.look_at.Goals as goal
 
 pub load-requires : goal.load-requires

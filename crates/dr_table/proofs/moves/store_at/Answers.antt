@@ -1,10 +1,7 @@
 use Rattle.std.proofs.Common.{◌<◌, sym, ap, ◌∙◌, subst}
 use Rattle.dr_member.specs.Deeds.{table_size}
 use Rattle.dr_program.specs.Running.{next_deed}
-use Rattle.dr_table.specs.Cards.{Cards}
-use Rattle.dr_table.specs.Deeds.{IsStore}
-use Rattle.dr_table.specs.Steps.{IsAhead}
-use Rattle.dr_table.proofs.Keeping.{store_allowed}
+use Rattle.dr_table.{specs.{Cards.Cards, Deeds.IsStore, Steps.IsAhead}, proofs.Keeping.store_allowed}
 use Rattle.dr_table.proofs.moves.store_at.Goals as goal
 
 pub store-requires : goal.store-requires

@@ -1,14 +1,9 @@
+use Rattle.std.specs.{Prelude.{None, Some, Vec}, declared.alloc.Global.Global}
 use Rattle.std.proofs.Common.{◌<◌, arith, ◌∷◌, [], sym, ap, ◌∙◌, subst}
-use Rattle.std.specs.Prelude.{None, Some, Vec}
-use Rattle.std.specs.declared.alloc.Global.{Global}
 use Rattle.dr_entry.specs.declared.entry.Entry.{Entry}
 use Rattle.atomic_table.specs.Table.{Me}
-use Rattle.dr_table.specs.Cards.{Cards}
-use Rattle.dr_table.specs.declared.rule.View.{View}
-use Rattle.dr_table.specs.Slots.{Slot}
-use Rattle.dr_table.specs.Steps.{MayTake, busy}
-use Rattle.dr_table.proofs.Exchanges.{fetch_allowed}
-use Rattle.dr_table.proofs.Holding.{exchanged, first_is, held, same_list}
+use Rattle.dr_table.specs.{Cards.Cards, Slots.Slot, Steps.{MayTake, busy}, declared.rule.View.View}
+use Rattle.dr_table.proofs.{Exchanges.fetch_allowed, Holding.{exchanged, first_is, held, same_list}}
 use Rattle.dr_table.proofs.posts.fetch_at.Goals as goal
 
 pub store-requires : goal.store-requires
@@ -50,6 +45,5 @@ returns-clause-fetched g c =
     let (list, may, is) = c.store.ensures.2 in
     let same = first_is c.store.new.seat.me.1 _ _ _ _ c.exchange.ensures.2 (ap (λ (m : Me Slot View). m.1) is) in
     exchanged c.store.new.seat.me c.exchange.new.seat.me _ _ _ c.args.slot None is c.exchange.ensures.3
-    ∙ ap (λ (l : Vec Entry Global). busy g.J.Posting.now
-    (record g.J.Posting.errand { word = 3; letter = l.items }) ((c.args.slot, None) ∷ []))
-    (same_list c.exchange.result list c.in-Some.letter same c.in-Some.is)
+    ∙ ap (λ (l : Vec Entry Global). busy g.J.Posting.now (record g.J.Posting.errand { word = 3; letter = l.items })
+    ((c.args.slot, None) ∷ [])) (same_list c.exchange.result list c.in-Some.letter same c.in-Some.is)

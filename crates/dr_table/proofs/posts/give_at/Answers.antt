@@ -1,26 +1,15 @@
-use Rattle.std.proofs.Common.{◌+◌, ◌≤◌, sym, ap, ◌∙◌, subst, arith}
-use Rattle.std.specs.Prelude.{vec_capacity}
-use Rattle.dr_history.specs.History.{up_to_view}
-use Rattle.dr_history.specs.Members.{has}
+use Rattle.std.{specs.Prelude.vec_capacity, proofs.Common.{◌+◌, ◌≤◌, sym, ap, ◌∙◌, subst, arith}}
+use Rattle.dr_history.specs.{History.up_to_view, Members.has}
 use Rattle.dr_member.specs.Deeds.{table_size}
 use Rattle.dr_program.specs.Running.{Running}
-use Rattle.dr_table.specs.Slots.{slot_number}
-use Rattle.dr_table.proofs.Holding.{giver_knows, letter_at}
+use Rattle.dr_table.{specs.Slots.slot_number, proofs.Holding.{giver_knows, letter_at}}
 use Rattle.dr_table.proofs.posts.give_at.Goals as goal
 
 pub overflow_add-word : goal.overflow_add-word
 overflow_add-word g c =
     let k = giver_knows g.J.Posting.now g.J.Posting.errand.late c.requires.reached
     (c.requires.due.gives c.requires.errand.1) in
-    omega (
-      arith,
-      k.within,
-      k.few,
-      k.small,
-      c.table_words.ensures,
-      c.requires.errand.0,
-      ap table_size c.requires.now,
-    )
+    omega (arith, k.within, k.few, k.small, c.table_words.ensures, c.requires.errand.0, ap table_size c.requires.now)
 
 pub rank_of-requires-clause-number : goal.rank_of-requires-clause-number
 rank_of-requires-clause-number g c =
@@ -32,8 +21,7 @@ pub rank_of-requires-clause-member : goal.rank_of-requires-clause-member
 rank_of-requires-clause-member g c =
     let k = giver_knows g.J.Posting.now g.J.Posting.errand.late c.requires.reached
     (c.requires.due.gives c.requires.errand.1) in
-    ap (has c.late.result) (sym c.requires.errand.0)
-    ∙ ap (λ mask. has mask g.J.Posting.errand.late)
+    ap (has c.late.result) (sym c.requires.errand.0) ∙ ap (λ mask. has mask g.J.Posting.errand.late)
     (c.late.ensures ∙ sym (ap (λ (r : Running). r.replica.late) c.requires.now)) ∙ k.late
 
 pub open_at-letter-requires-clause-first : goal.open_at-letter-requires-clause-first

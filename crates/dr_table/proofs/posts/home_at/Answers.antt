@@ -1,10 +1,6 @@
-use Rattle.std.proofs.Common.{◌<◌, sym, ap, ◌∙◌, subst}
-use Rattle.std.specs.Prelude.{None, Some}
+use Rattle.std.{specs.Prelude.{None, Some}, proofs.Common.{◌<◌, sym, ap, ◌∙◌, subst}}
 use Rattle.atomic_table.specs.Table.{Me}
-use Rattle.dr_table.specs.Cards.{Cards}
-use Rattle.dr_table.specs.declared.rule.View.{View}
-use Rattle.dr_table.specs.Slots.{Slot}
-use Rattle.dr_table.proofs.Exchanges.{home_allowed}
+use Rattle.dr_table.{specs.{Cards.Cards, Slots.Slot, declared.rule.View.View}, proofs.Exchanges.home_allowed}
 use Rattle.dr_table.proofs.Holding.{exchanged, held}
 use Rattle.dr_table.proofs.posts.home_at.Goals as goal
 

@@ -1,11 +1,7 @@
-use Rattle.std.proofs.Common.{◌<◌, ◌∷◌, [], sym, ap, ◌∙◌, subst}
-use Rattle.std.specs.Prelude.{None, Some}
+use Rattle.std.{specs.Prelude.{None, Some}, proofs.Common.{◌<◌, ◌∷◌, [], sym, ap, ◌∙◌, subst}}
 use Rattle.atomic_table.specs.Table.{Me}
-use Rattle.dr_table.specs.Cards.{Cards}
-use Rattle.dr_table.specs.declared.rule.View.{View}
-use Rattle.dr_table.specs.Slots.{IsBlankList, Slot}
-use Rattle.dr_table.proofs.Exchanges.{open_allowed}
-use Rattle.dr_table.proofs.Holding.{exchanged, first_is, held, same_list}
+use Rattle.dr_table.specs.{Cards.Cards, Slots.{IsBlankList, Slot}, declared.rule.View.View}
+use Rattle.dr_table.proofs.{Exchanges.open_allowed, Holding.{exchanged, first_is, held, same_list}}
 use Rattle.dr_table.proofs.posts.open_at.Goals as goal
 
 pub store-requires : goal.store-requires

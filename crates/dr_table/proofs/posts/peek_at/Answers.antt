@@ -1,7 +1,6 @@
 use Rattle.std.proofs.Common.{◌<◌, ◌+◌, arith, sym, ap, ◌∙◌, subst}
 use Rattle.dr_member.specs.Deeds.{table_size}
-use Rattle.dr_table.specs.Cards.{Cards}
-use Rattle.dr_table.proofs.Exchanges.{peek_allowed}
+use Rattle.dr_table.{specs.Cards.Cards, proofs.Exchanges.peek_allowed}
 use Rattle.dr_table.proofs.posts.peek_at.Goals as goal
 
 pub load-requires : goal.load-requires
@@ -11,6 +10,5 @@ load-requires g c =
       c.requires.table ∙ sym (ap (λ (w : Cards). w.table.id) c.board.view_is),
       subst (λ (w : Cards). c.args.word < w.table.id.words) (sym c.board.view_is) c.requires.within,
       peek_allowed _ _ _ _ c.args.seat.now.me g.J.Posting.errand r g.J.Posting.now only c.requires.second ahead
-          due.0 due.1
-          (c.requires.word ∙ ap (λ n. table_size g.J.Posting.now + n) (sym due.1)),
+          due.0 due.1 (c.requires.word ∙ ap (λ n. table_size g.J.Posting.now + n) (sym due.1)),
     )

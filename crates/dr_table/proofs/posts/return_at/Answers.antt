@@ -1,6 +1,5 @@
 use Rattle.std.proofs.Common.{◌<◌, arith, sym, ap, ◌∙◌, subst}
-use Rattle.dr_table.specs.Cards.{Cards}
-use Rattle.dr_table.proofs.Exchanges.{return_allowed}
+use Rattle.dr_table.{specs.Cards.Cards, proofs.Exchanges.return_allowed}
 use Rattle.dr_table.proofs.posts.return_at.Goals as goal
 
 pub store-requires : goal.store-requires

@@ -1,6 +1,5 @@
 use Rattle.std.proofs.Common.{subst, sym}
-use Rattle.dr_ages.proofs.Prompt.{all_prompt}
-use Rattle.dr_ages.specs.Ages.{HaveSomebodyPrompt}
+use Rattle.dr_ages.{specs.Ages.HaveSomebodyPrompt, proofs.Prompt.all_prompt}
 use Rattle.dr_tests.proofs.suspicions.ended.Goals as goal
 
 pub run_ages-end-requires-clause-some : goal.run_ages-end-requires-clause-some

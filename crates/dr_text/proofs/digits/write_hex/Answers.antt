@@ -1,10 +1,7 @@
-use Rattle.std.proofs.Common.{◌≡◌, ◌≤◌, ◌+◌, ◌*◌, length, set, sym, ap, subst, ◌∙◌, arith}
-use Rattle.std.proofs.lemmas.List.{length-set, take_all}
-use Rattle.std.specs.List.{flat_map}
-use Rattle.std.specs.Str.{IsAscii}
+use Rattle.std.{specs.List.flat_map, proofs.Common.{◌≡◌, ◌≤◌, ◌+◌, ◌*◌, length, set, sym, ap, subst, ◌∙◌, arith}}
+use Rattle.std.{specs.Str.IsAscii, proofs.lemmas.List.{length-set, take_all}}
 use Rattle.hex.specs.Hex.{IsBytes}
-use Rattle.dr_text.specs.Report.{hex_text}
-use Rattle.dr_text.proofs.Hex.{encoded_ascii, encoded_text, two_more}
+use Rattle.dr_text.{specs.Report.hex_text, proofs.Hex.{encoded_ascii, encoded_text, two_more}}
 use Rattle.dr_text.proofs.digits.write_hex.Goals as goal
 
 pub loop-i-preserved : goal.loop-i-preserved

@@ -1,5 +1,4 @@
-use Rattle.std.proofs.Common.{◌≡◌, ◌*◌, length, take}
-use Rattle.std.specs.List.{flat_map}
+use Rattle.std.{specs.List.flat_map, proofs.Common.{◌≡◌, ◌*◌, length, take}}
 use Rattle.dr_text.specs.Report.{hex_text}
 use Rattle.dr_text.proofs.digits.write_hex.Given as goal
 

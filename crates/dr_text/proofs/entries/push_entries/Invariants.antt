@@ -1,5 +1,4 @@
-use Rattle.std.proofs.Common.{◌≡◌, ◌++◌, string_bytes, take}
-use Rattle.std.specs.List.{flat_map}
+use Rattle.std.{specs.List.flat_map, proofs.Common.{◌≡◌, ◌++◌, string_bytes, take}}
 use Rattle.dr_text.specs.Report.{entry_text}
 use Rattle.dr_text.proofs.entries.push_entries.Given as goal
 

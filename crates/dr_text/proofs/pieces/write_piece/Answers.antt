@@ -1,7 +1,5 @@
-use Rattle.std.proofs.Common.{◌++◌, List, ℕ, ◌∙◌, subst, string_bytes}
-use Rattle.std.proofs.lemmas.Result.{on_err_weaker}
-use Rattle.dr_text.specs.Writing.{WroteFront}
-use Rattle.dr_text.proofs.Sinks.{front_behind}
+use Rattle.std.proofs.{Common.{◌++◌, List, ℕ, ◌∙◌, subst, string_bytes}, lemmas.Result.on_err_weaker}
+use Rattle.dr_text.{specs.Writing.WroteFront, proofs.Sinks.front_behind}
 use Rattle.dr_text.proofs.pieces.write_piece.Goals as goal
 
 pub returns-clause-err : goal.returns-clause-err
@@ -11,9 +9,7 @@ returns-clause-err g c =
     let new = g.K.Sink.held c.write_all-2.new.sink in
     on_err_weaker c.write_all-2.result
     (λ front. subst (λ (text : List ℕ). WroteFront old new (string_bytes c.args.piece.now.own ++ text))
-    c.first.ensures
-    (subst (λ (own : List ℕ). WroteFront old new (own ++ c.first.result.now))
+    c.first.ensures (subst (λ (own : List ℕ). WroteFront old new (own ++ c.first.result.now))
     (c.as_bytes.ensures.value ∙ c.as_str.ensures.value)
-    (front_behind old now new c.as_bytes.result.now c.first.result.now
-    c.in_ok-write_all.ensures.ok front)))
+    (front_behind old now new c.as_bytes.result.now c.first.result.now c.in_ok-write_all.ensures.ok front)))
     c.write_all-2.ensures.err

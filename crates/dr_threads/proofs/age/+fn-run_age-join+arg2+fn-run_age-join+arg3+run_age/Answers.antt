@@ -1,6 +1,5 @@
 use Rattle.std.proofs.Common.{◌≡◌, ◌≤◌, Err, length, vec_capacity, rules, arith}
-use Rattle.dr_threads.specs.Answers.{IsHandAnswer, logs_of, room_of}
-use Rattle.dr_threads.proofs.Halves.{as_many_logs, same_longer}
+use Rattle.dr_threads.{specs.Answers.{IsHandAnswer, logs_of, room_of}, proofs.Halves.{as_many_logs, same_longer}}
 use Rattle.dr_threads.proofs.age.+fn-run_age-join+arg2+fn-run_age-join+arg3+run_age.Goals as goal
 
 -- no half was made, so the logs are as they were

@@ -1,10 +1,7 @@
+use Rattle.std.specs.{Prelude.{Vec, vec_capacity, Option}, declared.alloc.{AllocError.AllocError, Global.Global}}
 use Rattle.std.proofs.Common.{◌≡◌, ◌≤◌, ◌+◌, ◌++◌, List, length, sym, ap, ◌∙◌, subst, arith, Result, Ok, Err, IsOk, is_ok, if◌then◌else◌, true≢false}
-use Rattle.std.specs.Prelude.{Vec, vec_capacity, Option}
-use Rattle.std.specs.declared.alloc.AllocError.{AllocError}
-use Rattle.std.specs.declared.alloc.Global.{Global}
 use Rattle.dr_log.specs.State.{LogState}
-use Rattle.dr_threads.specs.Answers.{IsHandAnswer, logs_of, room_of}
-use Rattle.dr_threads.proofs.Halves.{Answer, both_longer, both_run}
+use Rattle.dr_threads.{specs.Answers.{IsHandAnswer, logs_of, room_of}, proofs.Halves.{Answer, both_longer, both_run}}
 use Rattle.dr_threads.proofs.age.gather_ends.Goals as goal
 
 -- the first list has room for both, so it has them all
@@ -13,8 +10,7 @@ gathered : {D : Type 0} (first second : Answer D) (r : Result (Unit {0}) AllocEr
     → logs_of second ≡ more.items → room_of first ≡ vec_capacity logs
     → length (logs_of first) + length (logs_of second) ≤ room_of first
     → all ≡ (if is_ok r then logs.items ++ more.items else logs.items)
-    → (length logs.items + length more.items ≤ vec_capacity logs → IsOk r)
-    → all ≡ logs_of first ++ logs_of second
+    → (length logs.items + length more.items ≤ vec_capacity logs → IsOk r) → all ≡ logs_of first ++ logs_of second
 gathered first second r logs more all is are has room to fits = by r to (fits (omega (
   arith,
   room,
@@ -23,9 +19,8 @@ gathered first second r logs more all is are has room to fits = by r to (fits (o
   has,
 )))
   where
-    by : (r : Result (Unit {0}) AllocError)
-        → all ≡ (if is_ok r then logs.items ++ more.items else logs.items) → IsOk r
-        → all ≡ logs_of first ++ logs_of second
+    by : (r : Result (Unit {0}) AllocError) → all ≡ (if is_ok r then logs.items ++ more.items else logs.items)
+        → IsOk r → all ≡ logs_of first ++ logs_of second
     by (Ok x) to ok = to ∙ sym (λ z. is z ++ are z)
     by (Err x) to ok = absurd (true≢false (sym ok))
 

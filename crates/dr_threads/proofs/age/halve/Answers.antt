@@ -1,6 +1,5 @@
 use Rattle.std.proofs.Common.{◌/◌, sym, subst, take, drop}
-use Rattle.dr_threads.specs.Logs.{AreFor}
-use Rattle.dr_threads.proofs.Halves.{for_drop, for_take}
+use Rattle.dr_threads.{specs.Logs.AreFor, proofs.Halves.{for_drop, for_take}}
 use Rattle.dr_threads.proofs.age.halve.Goals as goal
 
 pub returns-in-Ok-split_off-clause-logs : goal.returns-in-Ok-split_off-clause-logs

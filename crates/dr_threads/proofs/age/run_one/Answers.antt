@@ -1,12 +1,9 @@
-use Rattle.std.proofs.Common.{[], ◌∷◌, sym, ap, ◌∙◌, subst}
-use Rattle.std.specs.Prelude.{Some, is_some}
-use Rattle.dr_logged.specs.Served.{HasServed, IsReady}
+use Rattle.std.{specs.Prelude.{Some, is_some}, proofs.Common.{[], ◌∷◌, sym, ap, ◌∙◌, subst}}
+use Rattle.dr_served.{specs.Served.{HasServed, IsReady}, proofs.Served.some_log}
 use Rattle.dr_program.specs.Presence.{present_at, with_present}
-use Rattle.dr_threads.specs.Course.{HaveRun}
-use Rattle.dr_threads.specs.Logs.{AreLonger, IsFor}
+use Rattle.dr_threads.specs.{Course.HaveRun, Logs.{AreLonger, IsFor}}
 use Rattle.dr_threads.proofs.Ones.{none_run, opened_ready, reserve_longer, run_served}
 use Rattle.dr_entry.proofs.ListFacts.{one_read}
-use Rattle.dr_logged.proofs.Served.{some_log}
 use Rattle.dr_threads.proofs.age.run_one.Goals as goal
 
 pub returns-in-Err-clause-run : goal.returns-in-Err-clause-run
@@ -17,8 +14,7 @@ returns-in-Err-clause-run g c =
     c.in-Err.ensures.nobody)
 
 pub unreachable-requires : goal.unreachable-requires
-unreachable-requires g c =
-    some_log c.args.logs.items c.index_mut.result.now (c.requires.logs.all ∙ c.requires.one)
+unreachable-requires g c = some_log c.args.logs.items c.index_mut.result.now (c.requires.logs.all ∙ c.requires.one)
     (c.requires.logs.there 0 ∙ ap (λ l. is_some (present_at l 0)) c.in-Ok.ensures.member) c.index_mut.ensures.value
     c.in_default.is
 

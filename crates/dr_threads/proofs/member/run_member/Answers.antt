@@ -1,8 +1,7 @@
 use Rattle.std.proofs.Common.{ap, not, ◌∙◌, subst}
-use Rattle.dr_table.specs.Cards.{IsAtEnd}
+use Rattle.dr_table.{specs.Cards.IsAtEnd, proofs.Cards.ended_by}
 use Rattle.dr_threads.proofs.Runs.{gone_more}
 use Rattle.dr_threads.proofs.member.run_member.Goals as goal
-use Rattle.dr_table.proofs.Cards.{ended_by}
 
 pub loop-seated-preserved-then-is_between_turns : goal.loop-seated-preserved-then-is_between_turns
 loop-seated-preserved-then-is_between_turns g c = record {

@@ -1,9 +1,8 @@
 use Rattle.std.proofs.Common.{ap, sym, ◌∙◌, subst}
-use Rattle.dr_age.proofs.Deeds.{at_act, at_give}
-use Rattle.dr_logged.specs.Appended.{is_append}
+use Rattle.dr_play.proofs.Deeds.{at_act, at_give}
+use Rattle.dr_served.specs.Appended.{is_append}
 use Rattle.dr_program.specs.Running.{next_deed}
-use Rattle.dr_threads.specs.Course.{HasGone}
-use Rattle.dr_threads.proofs.Runs.{gone_step, gone_sweeping, gone_taking}
+use Rattle.dr_threads.{specs.Course.HasGone, proofs.Runs.{gone_step, gone_sweeping, gone_taking}}
 use Rattle.dr_threads.proofs.member.take.Goals as goal
 
 pub returns-in-Look-clause-gone : goal.returns-in-Look-clause-gone

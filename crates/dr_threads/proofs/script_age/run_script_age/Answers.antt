@@ -1,13 +1,9 @@
 use Rattle.std.proofs.Common.{sym, ap, ◌∙◌, subst, [], length, arith}
-use Rattle.dr_logged.specs.Served.{HaveServed}
-use Rattle.dr_program.specs.Program.{Program}
-use Rattle.dr_program.proofs.Present.{all_ended}
-use Rattle.dr_age.proofs.Beginning.{as_many_begun}
-use Rattle.dr_table.specs.Cards.{AreAtEnd, opened}
-use Rattle.dr_table.proofs.Cards.{as_many}
-use Rattle.dr_threads.specs.Logs.{AreFor}
-use Rattle.dr_threads.proofs.Halves.{same_longer}
-use Rattle.dr_threads.proofs.Opening.{age_over, are_for, is_dealt}
+use Rattle.dr_served.specs.Served.{HaveServed}
+use Rattle.dr_program.{specs.Program.Program, proofs.Present.all_ended}
+use Rattle.dr_play.proofs.Beginning.{as_many_begun}
+use Rattle.dr_table.{specs.Cards.{AreAtEnd, opened}, proofs.Cards.as_many}
+use Rattle.dr_threads.{specs.Logs.AreFor, proofs.{Halves.same_longer, Opening.{age_over, are_for, is_dealt}}}
 use Rattle.dr_threads.proofs.script_age.run_script_age.Goals as goal
 
 pub returns-in_default-clause-logs : goal.returns-in_default-clause-logs
@@ -24,16 +20,13 @@ returns-in_default-deal-clause-logs g c = same_longer g.D.Disk.told g.D.Disk.fau
 
 pub deal-requires : goal.deal-requires
 deal-requires g c = record {
-  dealt = is_dealt c.args.script.now c.args.start.now c.args.nth c.in-Ok-begun_members.members.items
-      c.requires.group
+  dealt = is_dealt c.args.script.now c.args.start.now c.args.nth c.in-Ok-begun_members.members.items c.requires.group
       c.requires.ranges.group.lists c.requires.ranges.some_turn c.in-Ok-begun_members.ensures;
 }
 
 pub run_age-requires-clause-logs : goal.run_age-requires-clause-logs
-run_age-requires-clause-logs g c = λ ks within.
-    subst (AreFor c.args.logs.items) (sym c.in-Ok-deal.ensures.hand.1)
-    (are_for c.args.script.now c.args.start.now c.args.nth c.in-Ok-begun_members.members.items
-    c.args.logs.items
+run_age-requires-clause-logs g c = λ ks within. subst (AreFor c.args.logs.items) (sym c.in-Ok-deal.ensures.hand.1)
+    (are_for c.args.script.now c.args.start.now c.args.nth c.in-Ok-begun_members.members.items c.args.logs.items
     c.requires.ranges.group.lists c.in-Ok-begun_members.ensures c.requires.logs)
 
 pub ends_of-requires-clause-ended : goal.ends_of-requires-clause-ended
@@ -67,8 +60,7 @@ returns-clause-age g c =
     c.requires.group c.in-Ok-begun_members.ensures c.in-Ok-deal.ensures.opened c.close-members.ensures.ran.2
     (subst AreAtEnd members c.in_ok-hand.ensures.run.over.ended) c.requires.logs c.in_ok-hand.ensures.run.places
     (subst (HaveServed g.D.Disk.told g.D.Disk.faults c.args.logs.items c.in_ok-hand.logs.items) members
-    c.in_ok-hand.ensures.run.served)
-    (λ z. record {
+    c.in_ok-hand.ensures.run.served) (λ z. record {
       age = c.args.start.now.age;
       start = c.in-Ok.ensures z;
       members = (c.of.ensures ∙ c.ends_of.ensures) z;

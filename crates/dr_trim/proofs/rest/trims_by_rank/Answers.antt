@@ -1,5 +1,4 @@
-use Rattle.std.proofs.Common.{◌≤◌, length, arith}
-use Rattle.std.proofs.lemmas.List.{length-map}
+use Rattle.std.proofs.{Common.{◌≤◌, length, arith}, lemmas.List.length-map}
 use Rattle.dr_history.proofs.MemberLemmas.{length_members_below}
 use Rattle.dr_trim.proofs.rest.trims_by_rank.Goals as goal
 

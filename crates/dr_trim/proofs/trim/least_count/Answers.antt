@@ -1,10 +1,8 @@
-use Rattle.std.proofs.Common.{◌≡◌, ℕ, zero, suc, ◌^◌, ◌<◌, ◌≤◌, true, false, length, append-nil, ap, refl, arith}
 use Rattle.std.specs.Prelude.{None, Some, Option, IfNone, IsSome}
+use Rattle.std.proofs.Common.{◌≡◌, ℕ, zero, suc, ◌^◌, ◌<◌, ◌≤◌, true, false, length, append-nil, ap, refl, arith}
 use Rattle.dr_history.specs.Members.{has, members_below, members_of}
 use Rattle.dr_rows.specs.Words.{Words, seen}
-use Rattle.dr_words.specs.Columns.{recv_column}
-use Rattle.dr_words.specs.Form.{AllInForm}
-use Rattle.dr_words.specs.Packing.{recv_count}
+use Rattle.dr_words.specs.{Columns.recv_column, Form.AllInForm, Packing.recv_count}
 use Rattle.dr_trim.specs.Trims.{IsLeastReceived}
 use Rattle.dr_trim.proofs.trim.least_count.Goals as goal
 
@@ -39,8 +37,7 @@ unpack_recv-requires c =
 -- the least word has the least count
 has_least_count : (rows : Words) (of sender column word : ℕ) → column ≡ recv_column sender
     → ((i : ℕ) → has of i ≡ true → word ≤ seen rows i column)
-    → (i : ℕ) × (has of i ≡ true) × (word ≡ seen rows i column)
-    → IsLeastReceived rows of sender (recv_count word)
+    → (i : ℕ) × (has of i ≡ true) × (word ≡ seen rows i column) → IsLeastReceived rows of sender (recv_count word)
 has_least_count rows of sender column word at below among = record {
   least = λ i member. omega (arith, rw at at (below i member));
   found = (among.0, among.1, ap recv_count (rw at at among.2));

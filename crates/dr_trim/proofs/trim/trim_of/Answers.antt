@@ -1,8 +1,7 @@
 use Rattle.std.proofs.Common.{sym, ◌∙◌}
 use Rattle.dr_history.proofs.Histories.{filled_more, filled_past}
-use Rattle.dr_trim.specs.Trims.{IsLeastReceived}
+use Rattle.dr_trim.{specs.Trims.IsLeastReceived, proofs.trim.trim_of.Goals.{then-has, else-has}}
 use Rattle.dr_trim.proofs.trim.trim_of.Goals as goal
-use Rattle.dr_trim.proofs.trim.trim_of.Goals.{then-has, else-has}
 
 pub loop-sender-preserved : goal.loop-sender-preserved
 loop-sender-preserved c = elim c.if-has.branch [

@@ -1,5 +1,4 @@
-use Rattle.dr_vote_laws.proofs.Opening.{begun}
-use Rattle.dr_vote_laws.proofs.Steps.{voting_keeps}
+use Rattle.dr_vote_laws.proofs.{Opening.begun, Steps.voting_keeps}
 use Rattle.dr_vote_laws.proofs.laws.votes_stay_true.Goals as goal
 
 pub returns-clause-begins : goal.returns-clause-begins

@@ -1,7 +1,5 @@
-use Rattle.std.proofs.Common.{◌≡◌, ℕ, ◌<◌, ◌≤◌}
-use Rattle.std.specs.Prelude.{Some}
-use Rattle.dr_program.specs.Presence.{present_at}
-use Rattle.dr_program.specs.Replica.{Replica}
+use Rattle.std.{specs.Prelude.Some, proofs.Common.{◌≡◌, ℕ, ◌<◌, ◌≤◌}}
+use Rattle.dr_program.specs.{Presence.present_at, Replica.Replica}
 use Rattle.dr_world.proofs.opening.most_room.Given as goal
 
 abbrev pub invariant-loop-place : goal.invariant-loop-place

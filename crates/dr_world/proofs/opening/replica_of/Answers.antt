@@ -9,6 +9,5 @@ setup_of-requires-clause-present c =
     sym (c.has.ensures ∙ ap (λ mask. has mask c.args.me) c.of.ensures) ∙ c.if-not-has.false
 
 pub begin-requires : goal.begin-requires
-begin-requires c =
-    can_begin (group_of c.args.script.now c.args.start.now) c.args.script.now.turns c.args.me
+begin-requires c = can_begin (group_of c.args.script.now c.args.start.now) c.args.script.now.turns c.args.me
     c.in_ok-setup.setup c.requires.group c.in_ok-setup.ensures.setup

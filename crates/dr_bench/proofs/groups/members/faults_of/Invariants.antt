@@ -1,6 +1,5 @@
 use Rattle.std.proofs.Common.{◌≡◌, ℕ, ◌+◌, ◌<◌, length, slice_index_or}
-use Rattle.dr_script.specs.declared.script.Fault.{Fault}
-use Rattle.dr_script.specs.declared.script.What.TheVariants.{Suspect}
+use Rattle.dr_script.specs.declared.script.{Fault.Fault, What.TheVariants.Suspect}
 use Rattle.dr_bench.specs.Groups.{first_suspected}
 use Rattle.dr_bench.proofs.groups.members.faults_of.Given as goal
 

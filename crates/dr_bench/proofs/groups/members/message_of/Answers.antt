@@ -1,5 +1,4 @@
-use Rattle.std.proofs.Common.{◌≡◌, ◌<◌, All, rules, sym, subst, arith}
-use Rattle.std.proofs.lemmas.List.{get_or_default}
+use Rattle.std.proofs.{Common.{◌≡◌, ◌<◌, All, rules, sym, subst, arith}, lemmas.List.get_or_default}
 use Rattle.dr_bench.proofs.groups.members.message_of.Goals as goal
 
 pub returns-clause-bytes : goal.returns-clause-bytes

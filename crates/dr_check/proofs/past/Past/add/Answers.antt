@@ -1,16 +1,12 @@
 use Rattle.std.proofs.Common.{◌++◌, ◌∷◌, [], sym, subst}
-use Rattle.dr_entry.specs.declared.entry.Entry.{Entry}
-use Rattle.dr_entry.specs.declared.entry.Entry.TheVariants.{Msg}
-use Rattle.dr_check.specs.declared.past.Past.{Past}
-use Rattle.dr_check.specs.Past.{IsPast}
-use Rattle.dr_check.proofs.Passing.{past_View, past_Msg, same_past}
+use Rattle.dr_entry.specs.declared.entry.Entry.{Entry, TheVariants.Msg}
+use Rattle.dr_check.{specs.{Past.IsPast, declared.past.Past.Past}, proofs.Passing.{past_View, past_Msg, same_past}}
 use Rattle.dr_check.proofs.past.Past.add.Goals as goal
 
 pub returns-in-View : goal.returns-in-View
 returns-in-View c read few is =
     let before : Past = c.args.self.now in
-    rw (c.in-View.is, c.new.ensures) (past_View read before c.in-View.age c.in-View.number c.in-View.members
-    is)
+    rw (c.in-View.is, c.new.ensures) (past_View read before c.in-View.age c.in-View.number c.in-View.members is)
 
 pub returns-in-Msg : goal.returns-in-Msg
 returns-in-Msg c read few is =

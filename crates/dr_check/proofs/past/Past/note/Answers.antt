@@ -1,7 +1,5 @@
-use Rattle.std.proofs.Common.{◌<◌, ◌-◌, ◌^◌, take, length, arith, subst, sym, List}
-use Rattle.std.proofs.lemmas.List.{length-take-le}
-use Rattle.dr_entry.specs.declared.entry.Entry.{Entry}
-use Rattle.dr_entry.proofs.ListPlaces.{take_read}
+use Rattle.std.proofs.{Common.{◌<◌, ◌-◌, ◌^◌, take, length, arith, subst, sym, List}, lemmas.List.length-take-le}
+use Rattle.dr_entry.{specs.declared.entry.Entry.Entry, proofs.ListPlaces.take_read}
 use Rattle.dr_check.specs.Past.{IsPast}
 use Rattle.dr_check.proofs.past.Past.note.Goals as goal
 

@@ -1,19 +1,14 @@
 use Rattle.std.proofs.Common.{◌⊎◌, ◌∙◌, None, ap, inl, subst, sym}
+use Rattle.dr_outcome.specs.{Outcome.{HasDone, HasPlayed, SaysOnly}, Playing.simulated}
 use Rattle.dr_outcome.specs.declared.outcome.Outcome.{Outcome}
-use Rattle.dr_outcome.specs.Outcome.{HasDone, HasPlayed, SaysOnly}
-use Rattle.dr_outcome.specs.Playing.{simulated}
 use Rattle.dr_script.specs.declared.script.Script.{Script}
-use Rattle.dr_commands.specs.Drill.{Drills, drill_ends}
-use Rattle.dr_commands.specs.DrillLines.{drill_text}
-use Rattle.dr_commands.proofs.DrillOutcome.{drill_said}
+use Rattle.dr_commands.{specs.{Drill.{Drills, drill_ends}, DrillLines.drill_text}, proofs.DrillOutcome.drill_said}
 use Rattle.dr_commands.proofs.drill.drilling.run_drill.Goals as goal
 
 pub returns-in-Ok-text_of : goal.returns-in-Ok-text_of
 returns-in-Ok-text_of g c = λ yard bytes.
-    subst (λ (o : Outcome). SaysOnly None yard yard o
-    ⊎ HasDone (Drills c.args.number bytes) drill_ends yard yard o)
-    (sym c.saying.ensures)
-    (drill_said c.args.number bytes yard c.simulate-outcome.result c.in-Ok-text_of.text
+    subst (λ (o : Outcome). SaysOnly None yard yard o ⊎ HasDone (Drills c.args.number bytes) drill_ends yard yard o)
+    (sym c.saying.ensures) (drill_said c.args.number bytes yard c.simulate-outcome.result c.in-Ok-text_of.text
     (c.in-Ok-text_of.ensures ∙ ap (drill_text c.args.number) c.as_slice.ensures)
     (subst (λ (s : Script). SaysOnly None yard yard c.simulate-outcome.result
     ⊎ HasPlayed simulated s yard yard c.simulate-outcome.result) c.in-Ok.ensures.script

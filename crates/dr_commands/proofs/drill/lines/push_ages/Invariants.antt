@@ -1,5 +1,4 @@
-use Rattle.std.proofs.Common.{◌≡◌, ◌++◌, string_bytes, take}
-use Rattle.std.specs.List.{flat_map}
+use Rattle.std.{specs.List.flat_map, proofs.Common.{◌≡◌, ◌++◌, string_bytes, take}}
 use Rattle.dr_commands.specs.DrillLines.{drilled_text}
 use Rattle.dr_commands.proofs.drill.lines.push_ages.Given as goal
 

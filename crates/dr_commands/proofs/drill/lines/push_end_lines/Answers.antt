@@ -4,16 +4,7 @@ use Rattle.dr_text.specs.Report.{member_line}
 use Rattle.dr_commands.proofs.drill.lines.push_end_lines.Goals as goal
 
 pub loop-number-preserved : goal.loop-number-preserved
-loop-number-preserved c =
-    numbered_texts_more
-    (λ t. member_line t.0 t.1)
-    c.args.members.now
-    c.loop-number.number
-    c.index-members-number.result
-    (string_bytes c.args.out.now)
-    (string_bytes c.loop-number.out)
-    (string_bytes c.push_member_line.new.out)
-    (omega arith)
-    c.index-members-number.is
-    c.loop-number.invariant
+loop-number-preserved c = numbered_texts_more (λ t. member_line t.0 t.1) c.args.members.now c.loop-number.number
+    c.index-members-number.result (string_bytes c.args.out.now) (string_bytes c.loop-number.out)
+    (string_bytes c.push_member_line.new.out) (omega arith) c.index-members-number.is c.loop-number.invariant
     c.in_ok-push_member_line.ensures

@@ -1,11 +1,7 @@
 use Rattle.std.proofs.Common.{Err, ap, inl, inr, subst, sym}
-use Rattle.dr_outcome.specs.declared.outcome.Outcome.{Outcome}
-use Rattle.dr_outcome.specs.Outcome.{OfScript}
-use Rattle.dr_outcome.proofs.Due.{refused_of}
-use Rattle.dr_script.specs.declared.script.Script.{Script}
-use Rattle.dr_script.specs.Reading.{Reading, reading_of}
-use Rattle.dr_commands.specs.Live.{OfPlan}
-use Rattle.dr_commands.proofs.LiveOutcome.{live_done}
+use Rattle.dr_outcome.{specs.{Outcome.OfScript, declared.outcome.Outcome.Outcome}, proofs.Due.refused_of}
+use Rattle.dr_script.specs.{Reading.{Reading, reading_of}, declared.script.Script.Script}
+use Rattle.dr_commands.{specs.Live.OfPlan, proofs.LiveOutcome.live_done}
 use Rattle.dr_commands.proofs.live.running.run_lived.Goals as goal
 
 pub returns-in-Ok : goal.returns-in-Ok

@@ -1,6 +1,5 @@
 use Rattle.std.proofs.Common.{◌≤◌, All, length, subst, sym}
-use Rattle.dr_entry.specs.declared.end.AgeEnd.{AgeEnd}
-use Rattle.dr_entry.specs.declared.limits.TheConstants.{MAX_MEMBERS}
+use Rattle.dr_entry.specs.declared.{end.AgeEnd.AgeEnd, limits.TheConstants.MAX_MEMBERS}
 use Rattle.dr_shards.proofs.Counting.{few_members}
 use Rattle.dr_commands.proofs.shards.running.run_all.Goals as goal
 

@@ -1,12 +1,8 @@
 use Rattle.std.proofs.Common.{Err, ap, inl, inr, subst, sym}
-use Rattle.dr_outcome.specs.declared.outcome.Outcome.{Outcome}
-use Rattle.dr_outcome.specs.Outcome.{OfScript}
-use Rattle.dr_outcome.proofs.Due.{refused_of}
-use Rattle.dr_script.specs.declared.script.Script.{Script}
-use Rattle.dr_script.specs.Reading.{Reading, reading_of}
+use Rattle.dr_outcome.{specs.{Outcome.OfScript, declared.outcome.Outcome.Outcome}, proofs.Due.refused_of}
+use Rattle.dr_script.specs.{Reading.{Reading, reading_of}, declared.script.Script.Script}
 use Rattle.dr_shards.specs.Layout.{lay_refusal}
-use Rattle.dr_commands.specs.Shards.{OfLayout}
-use Rattle.dr_commands.proofs.ShardsOutcome.{shards_done}
+use Rattle.dr_commands.{specs.Shards.OfLayout, proofs.ShardsOutcome.shards_done}
 use Rattle.dr_commands.proofs.shards.running.run_sharded.Goals as goal
 
 pub returns-in-Ok : goal.returns-in-Ok
@@ -14,8 +10,7 @@ returns-in-Ok g c = λ yard.
     let s = c.args.sharding.now in
     elim (c.run_script.ensures yard) [
       | inl wanting ↦ inl wanting
-      | inr comes ↦ inr (shards_done s c.args.bytes.now yard c.run_script.result
-          (subst (λ (r : Reading). OfScript
+      | inr comes ↦ inr (shards_done s c.args.bytes.now yard c.run_script.result (subst (λ (r : Reading). OfScript
           (λ (script : Script) (o : Outcome). OfLayout (lay_refusal script s.count) s script yard yard o) r
           yard yard c.run_script.result) (sym c.in-Ok.ensures.script) comes))
     ]
@@ -23,8 +18,7 @@ returns-in-Ok g c = λ yard.
 pub returns-in-Err : goal.returns-in-Err
 returns-in-Err g c = λ yard.
     let s = c.args.sharding.now in
-    elim (refused_of
-    (λ (script : Script) (o : Outcome). OfLayout (lay_refusal script s.count) s script yard yard o)
+    elim (refused_of (λ (script : Script) (o : Outcome). OfLayout (lay_refusal script s.count) s script yard yard o)
     yard yard c.without_ages.result c.in-Err.line (reading_of c.args.bytes.now)
     (λ l is. c.in-Err.ensures.refusal l (ap Err is)) (c.without_ages.ensures.alone yard)) [
       | inl wanting ↦ inl wanting

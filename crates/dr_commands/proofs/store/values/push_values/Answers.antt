@@ -1,7 +1,5 @@
-use Rattle.std.proofs.Common.{◌++◌, string_bytes, ap, sym, ◌∙◌}
-use Rattle.std.proofs.lemmas.Result.{on_ok_weaker}
-use Rattle.dr_commands.specs.StoreLines.{values_text}
-use Rattle.dr_commands.proofs.StoreLasts.{last_values}
+use Rattle.std.proofs.{Common.{◌++◌, string_bytes, ap, sym, ◌∙◌}, lemmas.Result.on_ok_weaker}
+use Rattle.dr_commands.{specs.StoreLines.values_text, proofs.StoreLasts.last_values}
 use Rattle.dr_commands.proofs.store.values.push_values.Goals as goal
 
 pub returns-in-len1-up : goal.returns-in-len1-up

@@ -1,12 +1,8 @@
 use Rattle.std.proofs.Common.{◌≡◌, ◌+◌, ◌-◌, ◌≤◌, ◌∙◌, sym, ap, subst, arith, [], ℕ, List, length, take, drop, get_or, length-take}
 use Rattle.std.proofs.lemmas.List.{take_all, take_more}
 use Rattle.dr_disk.specs.Calls as calls
-use Rattle.dr_disk.specs.Crashed.{IsFilled, IsReplayed}
-use Rattle.dr_disk.specs.Memory.{KeptState}
-use Rattle.dr_disk.specs.Ranges.{pend, pend_all, settled}
-use Rattle.dr_disk.specs.Steps.{call_of, calls_of, text_length}
-use Rattle.dr_disk.specs.declared.kept.Step.{Step}
-use Rattle.dr_disk.specs.declared.kept.Step.TheVariants.{Write}
+use Rattle.dr_disk.specs.{Crashed.{IsFilled, IsReplayed}, Memory.KeptState, Ranges.{pend, pend_all, settled}}
+use Rattle.dr_disk.specs.{Steps.{call_of, calls_of, text_length}, declared.kept.Step.{Step, TheVariants.Write}}
 use Rattle.dr_disk.proofs.Filling.{IsReplayedTo, bytes_within, none_replayed, one_more_replayed}
 use Rattle.dr_disk.proofs.kept.Kept.crashed.Goals as goal
 
@@ -15,9 +11,8 @@ loop-step-init c =
     let steps : List Step = c.deref-step-items.result.now in
     let text = c.self.inside.text.items in
     subst (λ (l : List ℕ). IsReplayedTo c.args.fill steps text 0 0 l c.new-image.result.items)
-    (sym c.new-now.ensures.items)
-    (subst (λ (l : List ℕ). IsReplayedTo c.args.fill steps text 0 0 [] l) (sym c.new-image.ensures.items)
-    (none_replayed c.args.fill steps text))
+    (sym c.new-now.ensures.items) (subst (λ (l : List ℕ). IsReplayedTo c.args.fill steps text 0 0 [] l)
+    (sym c.new-image.ensures.items) (none_replayed c.args.fill steps text))
 
 -- the bytes of the next step are there
 within : (c : goal.After-deref) → c.loop-step.from + c.count_of-count.result ≤ length c.deref.result.now

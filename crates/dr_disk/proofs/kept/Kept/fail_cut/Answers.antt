@@ -1,9 +1,7 @@
 use Rattle.std.proofs.Common.{◌≡◌, [], ◌∷◌, ◌++◌, List, ap, ◌∙◌, refl, rules}
-use Rattle.dr_disk.specs.Calls.{written}
-use Rattle.dr_disk.specs.Calls as calls
-use Rattle.dr_disk.specs.declared.kept.Step.TheVariants.{FailedCut}
-use Rattle.dr_disk.specs.Memory.{KeptState}
+use Rattle.dr_disk.specs.{Calls.written, Memory.KeptState, declared.kept.Step.TheVariants.FailedCut}
 use Rattle.dr_disk.proofs.Steps.{whole_still, calls_still}
+use Rattle.dr_disk.specs.Calls as calls
 use Rattle.dr_disk.proofs.kept.Kept.fail_cut.Goals as goal
 
 pub invariant_of-self : goal.invariant_of-self
@@ -17,7 +15,6 @@ pub returns-clause-told : goal.returns-clause-told
 returns-clause-told c =
     let old = c.self.inside in
     let pushed : c.push.new.self.items ≡ old.steps.items ++ FailedCut c.args.to ∷ [] = search rules in
-    calls_still old.steps.items _ old.text.items old.bytes.items
-    (FailedCut c.args.to) c.self.invariant pushed
+    calls_still old.steps.items _ old.text.items old.bytes.items (FailedCut c.args.to) c.self.invariant pushed
     ∙ ap (λ (l : List calls.Call). l ++ calls.FailedCut c.args.to ∷ [])
     (ap (λ (v : KeptState). v.calls) c.self.view_is)

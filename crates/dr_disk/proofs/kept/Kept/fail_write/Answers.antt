@@ -1,25 +1,20 @@
 use Rattle.std.proofs.Common.{◌≡◌, [], ◌∷◌, ◌++◌, List, ap, ◌∙◌, refl, rules}
-use Rattle.dr_disk.specs.Calls.{written}
-use Rattle.dr_disk.specs.Calls as calls
-use Rattle.dr_disk.specs.declared.kept.Step.TheVariants.{FailedWrite}
-use Rattle.dr_disk.specs.Memory.{KeptState}
+use Rattle.dr_disk.specs.{Calls.written, Memory.KeptState, declared.kept.Step.TheVariants.FailedWrite}
 use Rattle.dr_disk.proofs.Steps.{whole_still, calls_still}
+use Rattle.dr_disk.specs.Calls as calls
 use Rattle.dr_disk.proofs.kept.Kept.fail_write.Goals as goal
 
 pub invariant_of-self : goal.invariant_of-self
 invariant_of-self c =
     let old = c.self.inside in
-    let pushed : c.push.new.self.items ≡ old.steps.items ++ FailedWrite c.args.at c.args.count ∷ [] =
-    search rules in
+    let pushed : c.push.new.self.items ≡ old.steps.items ++ FailedWrite c.args.at c.args.count ∷ [] = search rules in
     whole_still old.steps.items _ old.text.items old.bytes.items _
     (FailedWrite c.args.at c.args.count) c.self.invariant refl pushed c.self.invariant.same
 
 pub returns-clause-told : goal.returns-clause-told
 returns-clause-told c =
     let old = c.self.inside in
-    let pushed : c.push.new.self.items ≡ old.steps.items ++ FailedWrite c.args.at c.args.count ∷ [] =
-    search rules in
+    let pushed : c.push.new.self.items ≡ old.steps.items ++ FailedWrite c.args.at c.args.count ∷ [] = search rules in
     calls_still old.steps.items _ old.text.items old.bytes.items
-    (FailedWrite c.args.at c.args.count) c.self.invariant pushed
-    ∙ ap (λ (l : List calls.Call). l ++ calls.FailedWrite c.args.at c.args.count ∷ [])
-    (ap (λ (v : KeptState). v.calls) c.self.view_is)
+    (FailedWrite c.args.at c.args.count) c.self.invariant pushed ∙ ap (λ (l : List calls.Call). l
+    ++ calls.FailedWrite c.args.at c.args.count ∷ []) (ap (λ (v : KeptState). v.calls) c.self.view_is)

@@ -1,7 +1,5 @@
-use Rattle.std.proofs.Common.{ap, subst}
-use Rattle.std.specs.Io.KnownBytes.{Keeps}
-use Rattle.dr_io.specs.Adapters.{Adapter}
-use Rattle.dr_io.proofs.KnownLemmas.{keeps_same, keeps_more, consumes_behind}
+use Rattle.std.{specs.Io.KnownBytes.Keeps, proofs.Common.{ap, subst}}
+use Rattle.dr_io.{specs.Adapters.Adapter, proofs.KnownLemmas.{keeps_same, keeps_more, consumes_behind}}
 use Rattle.dr_io.proofs.input_source.InputSourceSource.read.Goals as goal
 
 pub loop-init : goal.loop-init

@@ -10,8 +10,7 @@ rest_after bytes into at n copied = grind (arith, common_steps, take-append-drop
 
 -- nothing is copied only where nothing is left
 none_after : (bytes : List ℕ) (at piece room n : ℕ) → n
-    ≡ min piece (min room (length (drop at bytes))) → 0 < piece → 0 < room → n ≡ 0
-    → drop (at + n) bytes ≡ []
+    ≡ min piece (min room (length (drop at bytes))) → 0 < piece → 0 < room → n ≡ 0 → drop (at + n) bytes ≡ []
 none_after bytes at piece room n count some wide none = grind (arith, common_steps)
 
 pub returns-clause-bytes : goal.returns-clause-bytes

@@ -1,5 +1,4 @@
-use Rattle.std.proofs.Common.{◌≡◌}
-use Rattle.std.specs.Io.KnownBytes.{Keeps}
+use Rattle.std.{specs.Io.KnownBytes.Keeps, proofs.Common.{◌≡◌}}
 use Rattle.dr_io.proofs.output_sink.OutputSinkSink.write.Given as goal
 
 abbrev pub invariant-loop : goal.invariant-loop

@@ -1,5 +1,4 @@
-use Rattle.std.proofs.Common.{◌≡◌, ◌≤◌, All, [], length}
-use Rattle.std.specs.Prelude.{vec_capacity}
+use Rattle.std.{specs.Prelude.vec_capacity, proofs.Common.{◌≡◌, ◌≤◌, All, [], length}}
 use Rattle.dr_join.proofs.letters.Letters.new.Given as goal
 
 abbrev pub invariant-loop : goal.invariant-loop

@@ -1,7 +1,6 @@
 use Rattle.std.proofs.Common.{List, sym, subst}
 use Rattle.dr_entry.specs.declared.end.AgeEnd.{AgeEnd}
-use Rattle.dr_live.specs.Live.{AreReadyFor, calm_yard}
-use Rattle.dr_live.proofs.Course.{none_yet}
+use Rattle.dr_live.{specs.Live.{AreReadyFor, calm_yard}, proofs.Course.none_yet}
 use Rattle.dr_live.proofs.group.Group.new.Goals as goal
 
 pub returns-clause-ready : goal.returns-clause-ready

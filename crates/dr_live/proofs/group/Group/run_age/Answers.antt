@@ -1,10 +1,8 @@
 use Rattle.std.proofs.Common.{◌≡◌, ◌++◌, ◌∷◌, List, [], refl, rules, subst, sym}
-use Rattle.dr_ages.specs.Ages.{IsAgeOf, all_but}
-use Rattle.dr_ages.specs.declared.mode.Mode.TheVariants.{Run}
+use Rattle.dr_ages.specs.{Ages.{IsAgeOf, all_but}, declared.mode.Mode.TheVariants.Run}
 use Rattle.dr_entry.specs.declared.end.AgeEnd.{AgeEnd}
 use Rattle.dr_script.specs.declared.script.Script.{Script}
-use Rattle.dr_live.specs.Live.{AreUpTo, OpensAlways, calm_yard}
-use Rattle.dr_live.proofs.Course.{opens_always, up_to_next}
+use Rattle.dr_live.{specs.Live.{AreUpTo, OpensAlways, calm_yard}, proofs.Course.{opens_always, up_to_next}}
 use Rattle.dr_live.proofs.group.Group.run_age.Goals as goal
 
 pub run_one-requires-clause-opens : goal.run_one-requires-clause-opens

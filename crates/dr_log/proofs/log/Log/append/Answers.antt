@@ -1,20 +1,14 @@
+use Rattle.std.specs.Prelude.{IfSome, Option}
 use Rattle.std.proofs.Common.{◌≡◌, ℕ, ◌+◌, ◌≤◌, ◌-◌, List, [], ◌∷◌, ◌++◌, length, false, inl, ap, subst, sym, ◌∙◌, arith, rules}
-use Rattle.dr_entry.specs.Spelling.{Fits, IsValid, spelling}
-use Rattle.dr_disk.specs.Calls.{Write}
-use Rattle.dr_disk.specs.Disk.{Told, content_of}
-use Rattle.dr_disk.specs.Images.{Goes, Lasts}
-use Rattle.dr_disk.proofs.Moments.{lasts_still}
-use Rattle.dr_log.specs.Grouping.{StopsAmong, added_all, group, opening}
-use Rattle.dr_log.specs.Standing.{HasAllOf, IsBeforeOrAfter, LosesNone, least_length}
+use Rattle.dr_entry.specs.{Spelling.{Fits, IsValid, spelling}, declared.record.Record.Record}
+use Rattle.dr_disk.{specs.{Calls.Write, Disk.{Told, content_of}, Images.{Goes, Lasts}}, proofs.Moments.lasts_still}
+use Rattle.dr_log.{specs.Grouping.{StopsAmong, added_all, group, opening}, proofs.log.Log.append.Given.Over}
+use Rattle.dr_log.specs.{Kept.IsSettled, Standing.{HasAllOf, IsBeforeOrAfter, LosesNone, least_length}}
 use Rattle.dr_log.specs.State.{LogState, as_entry, as_other, as_vote}
 use Rattle.dr_log.proofs.Growing.{least_more, length-age_votes, length-entries, length-votes, one_kind}
 use Rattle.dr_log.proofs.Told.{GoesWell, MayCome, group_goes, group_settled, group_stops, images_told, reaches_end, still_goes}
-use Rattle.dr_log.proofs.log.Log.append.Given.{Over}
 use Rattle.dr_log.proofs.log.Log.append.Goals as goal
-use Rattle.dr_log.specs.Kept.{IsSettled}
 use Rattle.dr_log_bytes.specs.Content.{IsPlaced, OnLog, with_record}
-use Rattle.std.specs.Prelude.{IfSome, Option}
-use Rattle.dr_entry.specs.declared.record.Record.{Record}
 
 -- what a record is spelled as behind a closed gate
 abbrev block_of : Record → List ℕ
@@ -29,18 +23,16 @@ put_behind-requires-clause-inside g c κs h =
     subst (λ (n : ℕ). IfSome (told old.disk) (λ t. n ≤ length (content_of t))) (sym c.len-len.ensures)
     (reaches_end _ (told old.disk) (c.self.invariant.settled whole))
 
-pub returns-then-size-saturating_sub-clause-any_moment :
-    goal.returns-then-size-saturating_sub-clause-any_moment
+pub returns-then-size-saturating_sub-clause-any_moment : goal.returns-then-size-saturating_sub-clause-any_moment
 returns-then-size-saturating_sub-clause-any_moment g c =
     let told = g.D.Disk.told in
     let old = c.self.inside in
     let whole : old.failed ≡ false = ap (λ (s : LogState g.row.D.Denot). s.failed) c.self.view_is
     ∙ c.requires.whole in
     let before = old.shelves.content in
-    subst (λ (s : LogState g.row.D.Denot). Goes (told s.disk) (told s.disk)
-    (λ _. IsBeforeOrAfter s.content c.args.r.now)) c.self.view_is
-    (still_goes before (told old.disk) (IsBeforeOrAfter before c.args.r.now)
-    (c.self.invariant.settled whole) (λ image is. inl is))
+    subst (λ (s : LogState g.row.D.Denot). Goes
+    (told s.disk) (told s.disk) (λ _. IsBeforeOrAfter s.content c.args.r.now)) c.self.view_is (still_goes before
+    (told old.disk) (IsBeforeOrAfter before c.args.r.now) (c.self.invariant.settled whole) (λ image is. inl is))
 
 -- an append that stops has gone well up to there
 stopped : (g : Over) (c : goal.After-self-1 g)
@@ -50,8 +42,7 @@ stopped g c =
     let old = c.self.inside in
     let whole : old.failed ≡ false = ap (λ (s : LogState g.row.D.Denot). s.failed) c.self.view_is
     ∙ c.requires.whole in
-    let bytes : c.as_slice.result.now ≡ block_of c.args.r.now =
-    c.as_slice.ensures.value ∙ c.push.ensures.items
+    let bytes : c.as_slice.result.now ≡ block_of c.args.r.now = c.as_slice.ensures.value ∙ c.push.ensures.items
     ∙ ap (λ (l : List ℕ). l ++ (0 ∷ [])) c.encode.ensures.spelled in
     let stops : StopsAmong (Write c.len-len.result c.as_slice.result.now ∷ opening (c.len-len.result - 1)) (told old.disk)
     (told c.put_behind.new.disk) = search rules in
@@ -79,16 +70,13 @@ returns-then-size-saturating_sub-clause-lasting g c =
     λ first takes. lasts_still (g.D.Disk.told c.args.self.now.disk) (LosesNone first)
 
 pub returns-then-is_err-clause-lasting : goal.returns-then-is_err-clause-lasting
-returns-then-is_err-clause-lasting g c = λ first.
-    subst (λ (s : LogState g.row.D.Denot).
-    (HasAllOf first s.content → HasAllOf first (with_record c.args.r.now s.content))
-    → Lasts (g.D.Disk.told s.disk) (g.D.Disk.told c.put_behind.new.disk) (LosesNone first)) c.self.view_is
-    ((stopped g c).lasts first)
+returns-then-is_err-clause-lasting g c = λ first. subst (λ (s : LogState g.row.D.Denot).
+    (HasAllOf first s.content → HasAllOf first (with_record c.args.r.now s.content)) → Lasts (g.D.Disk.told s.disk)
+    (g.D.Disk.told c.put_behind.new.disk) (LosesNone first)) c.self.view_is ((stopped g c).lasts first)
 
 -- one that does not has written the record, and opened its gate
 written : (before after : Option Told) (len : ℕ) (r : Record) (bytes : List ℕ) → bytes ≡ block_of r
-    → after ≡ added_all (Write len bytes ∷ opening (len - 1)) before
-    → after ≡ added_all (group len (r ∷ [])) before
+    → after ≡ added_all (Write len bytes ∷ opening (len - 1)) before → after ≡ added_all (group len (r ∷ [])) before
 written before after len r bytes same made =
     made ∙ ap (λ (l : List ℕ). added_all (Write len l ∷ opening (len - 1)) before) same
 
@@ -131,10 +119,8 @@ returns-clause-lasting g c = λ first.
     (subst (λ (s : LogState g.row.D.Denot). IsPlaced s.content r) (sym c.self.view_is) c.requires.placed) in
     let well = group_goes before (told old.disk) (told c.put_behind.new.disk) c.len-len.result (r ∷ [])
     (c.self.invariant.settled whole) may did in
-    subst (λ (s : LogState g.row.D.Denot).
-    (HasAllOf first s.content → HasAllOf first (with_record r s.content))
-    → Lasts (told s.disk) (told c.put_behind.new.disk) (LosesNone first)) c.self.view_is
-    (well.lasts first)
+    subst (λ (s : LogState g.row.D.Denot). (HasAllOf first s.content → HasAllOf first (with_record r s.content))
+    → Lasts (told s.disk) (told c.put_behind.new.disk) (LosesNone first)) c.self.view_is (well.lasts first)
 
 pub returns-clause-durable : goal.returns-clause-durable
 returns-clause-durable g c =
@@ -151,9 +137,8 @@ returns-clause-durable g c =
     (subst (λ (s : LogState g.row.D.Denot). IsPlaced s.content r) (sym c.self.view_is) c.requires.placed) in
     let after = c.take.new.self.content in
     let content : after ≡ with_record r before = search rules in
-    let settled : IfSome (told c.put_behind.new.disk) (IsSettled after) =
-    group_settled before after (told old.disk) (told c.put_behind.new.disk) c.len-len.result (r ∷ [])
-    (c.self.invariant.settled whole) may did content in
+    let settled : IfSome (told c.put_behind.new.disk) (IsSettled after) = group_settled before after (told old.disk)
+    (told c.put_behind.new.disk) c.len-len.result (r ∷ []) (c.self.invariant.settled whole) may did content in
     images_told after (told c.put_behind.new.disk) settled
 
 pub returns-clause-calls : goal.returns-clause-calls
@@ -184,9 +169,8 @@ invariant_of-self-2 g c =
     (subst (λ (s : LogState g.row.D.Denot). IsPlaced s.content r) (sym c.self.view_is) c.requires.placed) in
     let after = c.take.new.self.content in
     let content : after ≡ with_record r before = search rules in
-    let settled : IfSome (told c.put_behind.new.disk) (IsSettled after) =
-    group_settled before after (told old.disk) (told c.put_behind.new.disk) c.len-len.result (r ∷ [])
-    (c.self.invariant.settled whole) may did content in
+    let settled : IfSome (told c.put_behind.new.disk) (IsSettled after) = group_settled before after (told old.disk)
+    (told c.put_behind.new.disk) c.len-len.result (r ∷ []) (c.self.invariant.settled whole) may did content in
     let spare_entry : as_entry r ≤ old.spares.entries =
     omega (arith, c.requires.spare_entry, ap (λ (s : LogState g.row.D.Denot). s.spare_entries) c.self.view_is) in
     let spare_vote : as_vote r ≤ old.spares.votes =

@@ -1,20 +1,14 @@
 use Rattle.std.proofs.Common.{◌≡◌, ℕ, ◌+◌, ◌≤◌, [], ◌∷◌, ◌++◌, length, false, inl, IfSome, ap, sym, subst, ◌∙◌, arith, rules, length-append}
-use Rattle.dr_disk.specs.Disk.{content_of}
-use Rattle.dr_disk.specs.Images.{Goes, Lasts}
-use Rattle.dr_log.specs.Grouping.{StopsAmong, added_all, group}
-use Rattle.dr_log.specs.Kept.{IsSettled}
-use Rattle.dr_log.specs.Standing.{IsNoneOrAll, LosesNone, as_records, least_length, with_entries}
-use Rattle.dr_log.specs.State.{LogState}
-use Rattle.dr_log.proofs.Groups.{are_spelled, some_records, spelled_more}
-use Rattle.dr_log.proofs.Growing.{content-entries, least_all, placed-entries}
-use Rattle.dr_log.proofs.Lasting.{entries_keep}
+use Rattle.dr_disk.specs.{Disk.content_of, Images.{Goes, Lasts}}
+use Rattle.dr_log.specs.{Grouping.{StopsAmong, added_all, group}, State.LogState}
+use Rattle.dr_log.specs.{Kept.IsSettled, Standing.{IsNoneOrAll, LosesNone, as_records, least_length, with_entries}}
+use Rattle.dr_log.proofs.{Groups.{are_spelled, some_records, spelled_more}, Lasting.entries_keep}
+use Rattle.dr_log.proofs.{Growing.{content-entries, least_all, placed-entries}, log.Log.append_entries.Given.Over}
 use Rattle.dr_log.proofs.Told.{GoesWell, MayCome, goes_all, group_goes, group_settled, group_stops, images_told, reaches_end, still_goes}
-use Rattle.dr_log.proofs.log.Log.append_entries.Given.{Over}
 use Rattle.dr_log.proofs.log.Log.append_entries.Goals as goal
 use Rattle.dr_log_bytes.specs.Content.{OnLog}
 
-pub returns-then-size-saturating_sub-clause-any_moment :
-    goal.returns-then-size-saturating_sub-clause-any_moment
+pub returns-then-size-saturating_sub-clause-any_moment : goal.returns-then-size-saturating_sub-clause-any_moment
 returns-then-size-saturating_sub-clause-any_moment g c =
     let told = g.D.Disk.told in
     let old = c.self.inside in
@@ -66,15 +60,13 @@ returns-then-is_err-clause-any_moment g c =
     (g.D.Disk.told c.put_group.new.disk) (stopped g c))
 
 pub returns-then-is_err-clause-lasting : goal.returns-then-is_err-clause-lasting
-returns-then-is_err-clause-lasting g c = λ first.
-    subst (λ (s : LogState g.row.D.Denot). Lasts (g.D.Disk.told s.disk) (g.D.Disk.told c.put_group.new.disk)
-    (LosesNone first)) c.self.view_is
+returns-then-is_err-clause-lasting g c = λ first. subst (λ (s : LogState g.row.D.Denot). Lasts
+    (g.D.Disk.told s.disk) (g.D.Disk.told c.put_group.new.disk) (LosesNone first)) c.self.view_is
     ((stopped g c).lasts first (entries_keep first _ (c.args.first.now ++ c.args.last.now ∷ [])))
 
 -- one that does not has written the entries, and opened their gate
-did : (g : Over) (c : goal.After-take_all g) → g.D.Disk.told c.put_group.new.disk
-    ≡ added_all (group c.len-len.result (as_records (c.args.first.now ++ c.args.last.now ∷ [])))
-    (g.D.Disk.told c.self.inside.disk)
+did : (g : Over) (c : goal.After-take_all g) → g.D.Disk.told c.put_group.new.disk ≡ added_all (group c.len-len.result
+    (as_records (c.args.first.now ++ c.args.last.now ∷ []))) (g.D.Disk.told c.self.inside.disk)
 did g c = search rules
 
 whole : (g : Over) (c : goal.After-take_all g) → c.self.inside.failed ≡ false
@@ -99,8 +91,7 @@ well g c =
     let told = g.D.Disk.told in
     let old = c.self.inside in
     group_goes _ (told old.disk) (told c.put_group.new.disk) c.len-len.result
-    (as_records (c.args.first.now ++ c.args.last.now ∷ [])) (c.self.invariant.settled (whole g c)) (may g c)
-    (did g c)
+    (as_records (c.args.first.now ++ c.args.last.now ∷ [])) (c.self.invariant.settled (whole g c)) (may g c) (did g c)
 
 -- what is on the log then
 content : (g : Over) (c : goal.After-take_all g) → c.take_all.new.self.content
@@ -125,9 +116,8 @@ returns-clause-any_moment g c =
     (g.D.Disk.told c.put_group.new.disk) (well g c))
 
 pub returns-clause-lasting : goal.returns-clause-lasting
-returns-clause-lasting g c = λ first.
-    subst (λ (s : LogState g.row.D.Denot). Lasts (g.D.Disk.told s.disk) (g.D.Disk.told c.put_group.new.disk)
-    (LosesNone first)) c.self.view_is
+returns-clause-lasting g c = λ first. subst (λ (s : LogState g.row.D.Denot). Lasts
+    (g.D.Disk.told s.disk) (g.D.Disk.told c.put_group.new.disk) (LosesNone first)) c.self.view_is
     ((well g c).lasts first (entries_keep first _ (c.args.first.now ++ c.args.last.now ∷ [])))
 
 pub returns-clause-durable : goal.returns-clause-durable
@@ -142,11 +132,9 @@ invariant_of-self-2 g c =
     let spares : length first + 1 ≤ old.spares.entries = omega (
       arith,
       c.requires.spares,
-      ap (λ (s : LogState g.row.D.Denot).
-          s.spare_entries) c.self.view_is,
+      ap (λ (s : LogState g.row.D.Denot). s.spare_entries) c.self.view_is,
     ) in
-    let more : length c.take_all.new.self.content.entries ≡ length before.entries + (length first + 1) =
-    omega (
+    let more : length c.take_all.new.self.content.entries ≡ length before.entries + (length first + 1) = omega (
       arith,
       ap (λ (x : OnLog). length x.entries) (content g c),
       length-append before.entries (first ++ last ∷ []),

@@ -1,8 +1,6 @@
 use Rattle.std.proofs.Common.{◌≡◌, ◌≤◌, ℕ, eqb, ap, ◌∙◌, subst, rules}
-use Rattle.dr_log.specs.Standing.{least_length}
-use Rattle.dr_log.specs.State.{LogState}
+use Rattle.dr_log.{specs.{Standing.least_length, State.LogState}, proofs.Growing.nothing_on}
 use Rattle.dr_log_bytes.specs.Content.{OnLog}
-use Rattle.dr_log.proofs.Growing.{nothing_on}
 use Rattle.dr_log.proofs.log.Log.is_empty.Goals as goal
 
 pub returns : goal.returns

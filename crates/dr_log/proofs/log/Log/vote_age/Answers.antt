@@ -2,8 +2,7 @@ use Rattle.std.proofs.Common.{inl, inr, refl}
 use Rattle.dr_entry.specs.declared.record.AgeVote.{AgeVote}
 use Rattle.dr_entry.specs.declared.record.Record.TheVariants as records
 use Rattle.dr_disk.proofs.Moments.{Goes-weaken, goes_on}
-use Rattle.dr_log.specs.Standing.{IsBeforeOrAfter, MayBeUpgraded, MayBeVoted}
-use Rattle.dr_log.proofs.Voting.{maybe_voted}
+use Rattle.dr_log.{specs.Standing.{IsBeforeOrAfter, MayBeUpgraded, MayBeVoted}, proofs.Voting.maybe_voted}
 use Rattle.dr_log.proofs.log.Log.vote_age.Goals as goal
 
 pub returns-in-Err-clause-appends : goal.returns-in-Err-clause-appends
@@ -13,9 +12,8 @@ pub returns-in-Err-clause-any_moment : goal.returns-in-Err-clause-any_moment
 returns-in-Err-clause-any_moment g c =
     let told = g.D.Disk.told in
     Goes-weaken (told c.args.self.now.disk) (told c.upgrade.new.self.disk)
-    (λ _. MayBeUpgraded c.args.self.now.content)
-    (λ _. MayBeVoted c.args.self.now.content (record { age = c.args.age; members = c.args.members }))
-    (λ s image here. inl here) c.in-Err.ensures.any_moment
+    (λ _. MayBeUpgraded c.args.self.now.content) (λ _. MayBeVoted c.args.self.now.content
+    (record { age = c.args.age; members = c.args.members })) (λ s image here. inl here) c.in-Err.ensures.any_moment
 
 pub returns-in-Ok-clause-appends : goal.returns-in-Ok-clause-appends
 returns-in-Ok-clause-appends g c = inl (
@@ -43,10 +41,7 @@ returns-in-Ok-clause-any_moment g c =
     let told = g.D.Disk.told in
     let vote : AgeVote = record { age = c.args.age; members = c.args.members } in
     goes_on (told c.args.self.now.disk) (told c.upgrade.new.self.disk) (told c.append.new.self.disk)
-    (λ _. MayBeUpgraded c.args.self.now.content)
-    (λ _. IsBeforeOrAfter c.upgrade.new.self.content (records.AgeVote vote))
-    (λ _. MayBeVoted c.args.self.now.content vote)
-    (λ first image e here. inl here)
+    (λ _. MayBeUpgraded c.args.self.now.content) (λ _. IsBeforeOrAfter c.upgrade.new.self.content
+    (records.AgeVote vote)) (λ _. MayBeVoted c.args.self.now.content vote) (λ first image e here. inl here)
     (λ first next image e d here. maybe_voted c.args.self.now.content c.upgrade.new.self.content vote image
-    c.in-Ok.ensures.ok here)
-    c.in-Ok.ensures.any_moment c.append.ensures.any_moment
+    c.in-Ok.ensures.ok here) c.in-Ok.ensures.any_moment c.append.ensures.any_moment

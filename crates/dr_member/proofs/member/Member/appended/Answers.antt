@@ -1,11 +1,9 @@
 use Rattle.std.proofs.Common.{sym, ap, ◌∙◌}
-use Rattle.dr_program.specs.Running.{Running}
-use Rattle.dr_program.specs.Turn.{part_of}
+use Rattle.dr_program.specs.{Running.Running, Turn.part_of}
 use Rattle.dr_member.proofs.member.Member.appended.Goals as goal
 
 pub entry_appended-requires-clause-at : goal.entry_appended-requires-clause-at
-entry_appended-requires-clause-at c = λ e.
-    c.in_default.not-Vote
+entry_appended-requires-clause-at c = λ e. c.in_default.not-Vote
     (c.part_of.ensures ∙ ap (λ (x : Running). part_of x.place) c.self.view_is ∙ e)
 
 pub vote_appended-requires-clause-at : goal.vote_appended-requires-clause-at

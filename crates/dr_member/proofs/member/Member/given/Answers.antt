@@ -1,14 +1,10 @@
 use Rattle.std.proofs.Common.{refl, ℕ, ◌∙◌}
 use Rattle.dr_words.specs.Columns.{columns_of}
-use Rattle.dr_program.specs.Turn.{part_of}
-use Rattle.dr_program.specs.Running.{goes}
+use Rattle.dr_program.specs.{Running.goes, Turn.part_of}
 use Rattle.dr_program.specs.declared.place.Part.TheVariants as parts
 use Rattle.dr_turn.proofs.Works.{IsAnswer, answer_at}
-use Rattle.dr_member.specs.Inside.{member_inside}
-use Rattle.dr_member.specs.Search.{standing}
-use Rattle.dr_member.proofs.Answers.{IsTaken, is_answer, is_done}
-use Rattle.dr_member.proofs.Joins.{give_due_at, give_taken}
-use Rattle.dr_member.proofs.Moves.{inside_after, stays_timely}
+use Rattle.dr_member.{specs.{Inside.member_inside, Search.standing}, proofs.Answers.{IsTaken, is_answer, is_done}}
+use Rattle.dr_member.proofs.{Joins.{give_due_at, give_taken}, Moves.{inside_after, stays_timely}}
 use Rattle.dr_member.proofs.Ready.{gone_elsewhere}
 use Rattle.dr_member.proofs.member.Member.given.Goals as goal
 
@@ -16,10 +12,8 @@ use Rattle.dr_member.proofs.member.Member.given.Goals as goal
 known : (c : goal.After-settle-arg-4-1) (word : ℕ)
     → IsTaken word (member_inside c.self.inside) c.give.new.self c.self.inside.fate c.go.new.place
 known c word = give_taken word c.args.self.now c.self.inside c.give.new.self c.go.new.place c.self.view_is
-    c.self.invariant c.requires c.give.ensures.after c.give.ensures.form c.give.ensures.grown
-    (c.go.ensures
-    ∙ (λ z. goes (c.shape.ensures.members z)
-    (columns_of (c.shape.ensures.members z) (c.shape.ensures.window z))
+    c.self.invariant c.requires c.give.ensures.after c.give.ensures.form c.give.ensures.grown (c.go.ensures
+    ∙ (λ z. goes (c.shape.ensures.members z) (columns_of (c.shape.ensures.members z) (c.shape.ensures.window z))
     (part_of c.self.inside.place) c.self.inside.place))
 
 answer : (c : goal.After-settle) (word : ℕ)
@@ -39,8 +33,7 @@ settle-requires-clause-ready c =
     parts.Give c.self.inside.ready c.self.invariant.form.place
     (give_due_at c.args.self.now c.self.inside c.self.view_is c.self.invariant c.requires).at refl
     (c.go.ensures
-    ∙ (λ z. goes (c.shape.ensures.members z)
-    (columns_of (c.shape.ensures.members z) (c.shape.ensures.window z))
+    ∙ (λ z. goes (c.shape.ensures.members z) (columns_of (c.shape.ensures.members z) (c.shape.ensures.window z))
     (part_of c.self.inside.place) c.self.inside.place))
 
 pub invariant_of-self : goal.invariant_of-self

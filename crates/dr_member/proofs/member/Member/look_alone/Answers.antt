@@ -58,8 +58,7 @@ look_row-requires-clause-grown c = λ d l h. (asked c).grown d l (omega (
 behind : (c : goal.After-leave_row-arg-4-1) → IsBehindRow c.args.table.now c.args.self.now c.self.inside c.args.table.now
     c.look_row.new.self (waited c.self.inside.fate c.wait_for.new.patience)
 behind c = looks_done c.args.table.now c.args.self.now c.look_index-first.result c.self.inside
-    c.look_row.new.self c.wait_for.new.patience
-    (record {
+    c.look_row.new.self c.wait_for.new.patience (record {
       view = c.self.view_is;
       inside = c.self.invariant;
       due = c.requires.deed;
@@ -87,10 +86,8 @@ left : (c : goal.After-leave_row) → HasComeAlone c.args.table.now c.args.self.
       fate = waited c.self.inside.fate c.wait_for.new.patience;
       ready = c.leave_row.new.ready;
     })
-left c =
-    (looks_done c.args.table.now c.args.self.now c.look_index-first.result c.self.inside
-    c.look_row.new.self c.wait_for.new.patience
-    (record {
+left c = (looks_done c.args.table.now c.args.self.now c.look_index-first.result c.self.inside
+    c.look_row.new.self c.wait_for.new.patience (record {
       view = c.self.view_is;
       inside = c.self.invariant;
       due = c.requires.deed;

@@ -1,13 +1,10 @@
 use Rattle.std.proofs.Common.{◌+◌, ◌<◌, refl, sym, ap, subst, arith}
 use Rattle.dr_entry.proofs.NumberFacts.{untrue}
-use Rattle.dr_program.specs.Replica.{Replica}
-use Rattle.dr_program.proofs.Replicas.{look_row_stays}
-use Rattle.dr_member.specs.Inside.{member_inside}
+use Rattle.dr_program.{specs.Replica.Replica, proofs.Replicas.look_row_stays}
+use Rattle.dr_member.{specs.Inside.member_inside, proofs.member.Member.look_row.{Given.Over, Goals.After-look}}
 use Rattle.dr_member.proofs.Moves.{IsLooked, look_left, looked_inside, looked_row_timely, waited}
 use Rattle.dr_member.proofs.Sweeps.{HasLeft, at_column, look_index, look_on, look_takes, looks_begin, looks_end, saw, stale_in, was_waited}
-use Rattle.dr_member.proofs.member.Member.look_row.Given.{Over}
 use Rattle.dr_member.proofs.member.Member.look_row.Goals as goal
-use Rattle.dr_member.proofs.member.Member.look_row.Goals.{After-look}
 
 pub loop-column-init : goal.loop-column-init
 loop-column-init g c = record {
@@ -67,8 +64,7 @@ look-requires-clause-grown g c =
 known : (g : Over) (c : After-look g)
     → IsLooked c.loop-column.self-inside.replica c.look.new.self c.loop-column.self-inside.fate
     (record c.loop-column.self-inside.place { column = c.loop-column.column }) c.look-word.result
-known g c = saw (at_column c.loop-column.self-inside c.loop-column.column) c.look.new.self _
-    c.look-word.result
+known g c = saw (at_column c.loop-column.self-inside c.loop-column.column) c.look.new.self _ c.look-word.result
     c.loop-column.invariant.on.inside c.look-word.ensures.sees c.loop-column.invariant.row
     c.look.ensures.after c.look.ensures.form c.look.ensures.grown
 
@@ -114,8 +110,7 @@ leave_row-requires-clause-underway g c =
     let a = at_column c.loop-column.self-inside c.loop-column.column in
     let l = known g (goal.at.leave_row-requires-clause-underway g c).After-look in
     look_left a.replica c.look.new.self a.fate a.place c.look-word.result c.wait_for.new.patience l
-    (was_waited a c.look.new.self _ c.look-word.result c.wait_for.new.patience
-    c.loop-column.invariant.on.inside l
+    (was_waited a c.look.new.self _ c.look-word.result c.wait_for.new.patience c.loop-column.invariant.on.inside l
     (omega (arith, c.if-column-columns.true, c.loop-column.invariant.columns))
     c.loop-column.invariant.row c.wait_for.ensures.after)
 
@@ -131,10 +126,8 @@ leave_row-requires-clause-fate g c =
     c.look-word.result c.wait_for.new.patience c.loop-column.invariant.on.inside c.look.ensures.after
 
 -- and left
-left : (g : Over) (c : goal.After-leave_row g)
-    → HasLeft c.look-word.result c.args.self.now
-    (member_inside (at_column c.loop-column.self-inside c.loop-column.column))
-    (record c.loop-column.self-inside {
+left : (g : Over) (c : goal.After-leave_row g) → HasLeft c.look-word.result c.args.self.now
+    (member_inside (at_column c.loop-column.self-inside c.loop-column.column)) (record c.loop-column.self-inside {
       replica = c.look.new.self;
       place = c.leave_row.new.place;
       fate = waited c.loop-column.self-inside.fate c.wait_for.new.patience;
@@ -149,15 +142,13 @@ left g c =
     c.leave_row.new.ready c.wait_for.new.patience is l
     (was_waited a c.look.new.self _ c.look-word.result c.wait_for.new.patience is.inside l
     (omega (arith, c.if-column-columns.true, c.loop-column.invariant.columns)) c.loop-column.invariant.row
-    c.wait_for.ensures.after)
-    c.leave_row.ensures.place c.leave_row.ensures.ready
+    c.wait_for.ensures.after) c.leave_row.ensures.place c.leave_row.ensures.ready
 
 pub invariant_of-self : goal.invariant_of-self
 invariant_of-self g c = (left g c).inside
 
 pub returns-clause-came : goal.returns-clause-came
-returns-clause-came g c =
-    subst (g.A.Access.came c.args.access.now c.args.self.now c.look-word.new.self c.args.at)
+returns-clause-came g c = subst (g.A.Access.came c.args.access.now c.args.self.now c.look-word.new.self c.args.at)
     (sym (left g c).answer.after) (c.look-word.ensures.came _ _ c.loop-column.invariant.came)
 
 pub returns-clause-form : goal.returns-clause-form

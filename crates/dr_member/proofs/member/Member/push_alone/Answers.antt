@@ -24,9 +24,8 @@ returns-then-is_some-clause-taken c = (
     push_sweeps c.args.self.now c.requires.deed,
     (
       push_stores c.args.table.now c.args.self.now c.push_index-first.result c.self.inside c.self.view_is
-          c.self.invariant c.requires.deed c.push_index-first.ensures.index
-          ∙ ap (slice_set c.args.table.now (c.push_index-first.result + c.self.inside.place.column))
-          (sym c.own.ensures),
+          c.self.invariant c.requires.deed c.push_index-first.ensures.index ∙ ap (slice_set c.args.table.now
+          (c.push_index-first.result + c.self.inside.place.column)) (sym c.own.ensures),
       sym (c.pushed.ensures.after (next_sight c.args.table.now c.args.self.now)),
     ),
   ),
@@ -40,8 +39,7 @@ push_row-count-requires-clause-within c =
 pub leave_row-requires-clause-underway : goal.leave_row-requires-clause-underway
 leave_row-requires-clause-underway c =
     (pushes_done c.args.table.now c.args.self.now c.push_index-first.result c.self.inside
-    c.push_row-count.new.self c.saturating_add-self-inside.result
-    (record {
+    c.push_row-count.new.self c.saturating_add-self-inside.result (record {
       view = c.self.view_is;
       inside = c.self.invariant;
       due = c.requires.deed;
@@ -54,8 +52,7 @@ leave_row-requires-clause-underway c =
 pub leave_row-requires-clause-inside : goal.leave_row-requires-clause-inside
 leave_row-requires-clause-inside c =
     (pushes_done c.args.table.now c.args.self.now c.push_index-first.result c.self.inside
-    c.push_row-count.new.self c.saturating_add-self-inside.result
-    (record {
+    c.push_row-count.new.self c.saturating_add-self-inside.result (record {
       view = c.self.view_is;
       inside = c.self.invariant;
       due = c.requires.deed;
@@ -80,8 +77,7 @@ left c = subst (λ cells. HasComeAlone c.args.table.now c.args.self.now cells (r
   ready = c.leave_row.new.ready;
 })) (sym c.push_row-count.ensures.after.1)
     ((pushes_done c.args.table.now c.args.self.now c.push_index-first.result c.self.inside
-    c.push_row-count.new.self c.saturating_add-self-inside.result
-    (record {
+    c.push_row-count.new.self c.saturating_add-self-inside.result (record {
       view = c.self.view_is;
       inside = c.self.invariant;
       due = c.requires.deed;

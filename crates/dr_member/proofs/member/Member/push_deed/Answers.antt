@@ -1,15 +1,12 @@
 use Rattle.std.proofs.Common.{◌≡◌, sym, ap, ◌∙◌, true, false}
 use Rattle.dr_program.specs.declared.deed.Deed.TheVariants as deeds
 use Rattle.dr_machine.specs.Effects.{one_more}
-use Rattle.dr_program.specs.Replica.{me}
-use Rattle.dr_program.specs.Running.{Running, crashes_now, deed_of, push_or_crash}
-use Rattle.dr_program.specs.Steps.{index_in}
+use Rattle.dr_program.specs.{Replica.me, Running.{Running, crashes_now, deed_of, push_or_crash}, Steps.index_in}
 use Rattle.dr_rows.specs.Words.{own}
 use Rattle.dr_member.proofs.member.Member.push_deed.Goals as goal
 
 pub returns-then-crashes_now-clause-deed : goal.returns-then-crashes_now-clause-deed
-returns-then-crashes_now-clause-deed c =
-    (λ z. deeds.Act (index z) (acts z))
+returns-then-crashes_now-clause-deed c = (λ z. deeds.Act (index z) (acts z))
     ∙ ap (λ b. deed_of c.args.self.now (push_or_crash b c.args.to c.args.column)) (sym crash)
   where
     crash : crashes_now c.args.self.now ≡ true
@@ -25,8 +22,7 @@ returns-then-crashes_now-clause-deed c =
     acts = c.acts_after.ensures ∙ ap (λ (r : Running). one_more 64 r.replica.acts) c.self.view_is
 
 pub returns-clause-deed : goal.returns-clause-deed
-returns-clause-deed c =
-    (λ z. deeds.Push (c.push_index.ensures.index z) (word z))
+returns-clause-deed c = (λ z. deeds.Push (c.push_index.ensures.index z) (word z))
     ∙ ap (λ b. deed_of c.args.self.now (push_or_crash b c.args.to c.args.column)) (sym later)
   where
     later : crashes_now c.args.self.now ≡ false

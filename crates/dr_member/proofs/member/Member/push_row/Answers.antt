@@ -2,17 +2,13 @@ use Rattle.std.proofs.Common.{◌≡◌, ◌+◌, ◌<◌, ◌≤◌, refl, sym,
 use Rattle.dr_rows.specs.Words.{changed, own}
 use Rattle.dr_words.specs.Columns.{columns_of}
 use Rattle.dr_program.specs.declared.deed.Deed.TheVariants.{Push}
-use Rattle.dr_member.specs.Inside.{member_inside}
-use Rattle.dr_member.specs.Search.{standing}
-use Rattle.dr_member.proofs.Indices.{columns_after}
-use Rattle.dr_member.proofs.Ready.{elsewhere}
+use Rattle.dr_member.{specs.{Inside.member_inside, Search.standing}, proofs.Indices.columns_after}
+use Rattle.dr_member.proofs.Moves.{IsPushed, counted, push_left, pushed_behind, pushed_inside, pushed_timely, pushed_within}
+use Rattle.dr_member.proofs.{Ready.elsewhere, member.Member.push_row.{Given.Over, Goals.After-next_changed-column}}
+use Rattle.dr_member.proofs.Sweeps.{HasLeft, IsOnRow, at_column, push_index, push_on, push_row_stays, pushed_from, pushes_begin, pushes_end, wrote}
 use Rattle.dr_program.specs.declared.place.Part.TheVariants as parts
 use Rattle.dr_turn.proofs.Works.{IsAnswer}
-use Rattle.dr_member.proofs.Moves.{IsPushed, counted, push_left, pushed_behind, pushed_inside, pushed_timely, pushed_within}
-use Rattle.dr_member.proofs.Sweeps.{HasLeft, IsOnRow, at_column, push_index, push_on, push_row_stays, pushed_from, pushes_begin, pushes_end, wrote}
-use Rattle.dr_member.proofs.member.Member.push_row.Given.{Over}
 use Rattle.dr_member.proofs.member.Member.push_row.Goals as goal
-use Rattle.dr_member.proofs.member.Member.push_row.Goals.{After-next_changed-column}
 
 pub loop-column-init : goal.loop-column-init
 loop-column-init g c = record {
@@ -39,11 +35,9 @@ push-requires-clause-within g c =
     omega (arith, is.index, is.within)
 
 pub next_changed-column-requires-clause-columns : goal.next_changed-column-requires-clause-columns
-next_changed-column-requires-clause-columns g c =
-    sym c.loop-column.invariant.columns
+next_changed-column-requires-clause-columns g c = sym c.loop-column.invariant.columns
     ∙ columns_after (at_column c.loop-column.self-inside c.loop-column.column)
-    c.push-in-loop-column.new.self _ c.loop-column.invariant.on.inside
-    c.push-in-loop-column.ensures.after refl
+    c.push-in-loop-column.new.self _ c.loop-column.invariant.on.inside c.push-in-loop-column.ensures.after refl
 
 pub next_changed-column-requires-clause-to : goal.next_changed-column-requires-clause-to
 next_changed-column-requires-clause-to g c =
@@ -67,18 +61,14 @@ known g c =
     c.next_changed-column.result c.loop-column.invariant.on c.loop-column.invariant.row
     c.push-in-loop-column.ensures.after c.push-in-loop-column.ensures.form
     c.push-in-loop-column.ensures.grown c.saturating_add-self-inside.ensures
-    c.next_changed-column.ensures.unchanged c.next_changed-column.ensures.from
-    c.next_changed-column.ensures.within
+    c.next_changed-column.ensures.unchanged c.next_changed-column.ensures.from c.next_changed-column.ensures.within
 
 -- the columns of its row
-columns : (g : Over) (c : After-next_changed-column g)
-    → c.self.inside.bases.columns
+columns : (g : Over) (c : After-next_changed-column g) → c.self.inside.bases.columns
     ≡ columns_of c.push-in-loop-column.new.self.roster c.push-in-loop-column.new.self.window
-columns g c =
-    sym c.loop-column.invariant.columns
+columns g c = sym c.loop-column.invariant.columns
     ∙ columns_after (at_column c.loop-column.self-inside c.loop-column.column)
-    c.push-in-loop-column.new.self _ c.loop-column.invariant.on.inside
-    c.push-in-loop-column.ensures.after refl
+    c.push-in-loop-column.new.self _ c.loop-column.invariant.on.inside c.push-in-loop-column.ensures.after refl
 
 -- and it stays on the row
 stays : (g : Over) (c : goal.Else-crashes_now g)
@@ -91,8 +81,7 @@ stays : (g : Over) (c : goal.Else-crashes_now g)
       replica = c.push-in-loop-column.new.self;
       fate = counted c.loop-column.self-inside.fate c.saturating_add-self-inside.result;
       place = record c.loop-column.self-inside.place { column = c.next_changed-column.result };
-    })
-    × IsAnswer 0 (member_inside (at_column c.loop-column.self-inside c.loop-column.column))
+    }) × IsAnswer 0 (member_inside (at_column c.loop-column.self-inside c.loop-column.column))
     (standing c.push-in-loop-column.new.self
     (counted c.loop-column.self-inside.fate c.saturating_add-self-inside.result)
     (record c.loop-column.self-inside.place { column = c.next_changed-column.result }))
@@ -158,11 +147,9 @@ left g c =
     c.next_changed-column.result c.loop-column.invariant.on c.loop-column.invariant.row
     c.push-in-loop-column.ensures.after c.push-in-loop-column.ensures.form
     c.push-in-loop-column.ensures.grown c.saturating_add-self-inside.ensures
-    c.next_changed-column.ensures.unchanged c.next_changed-column.ensures.from
-    c.next_changed-column.ensures.within in
+    c.next_changed-column.ensures.unchanged c.next_changed-column.ensures.from c.next_changed-column.ensures.within in
     let outer : columns_of c.push-in-loop-column.new.self.roster c.push-in-loop-column.new.self.window
-    ≤ c.next_changed-column.result =
-    omega (
+    ≤ c.next_changed-column.result = omega (
       arith,
       c.if-column-columns.true,
       c.loop-column.invariant.columns,
@@ -188,11 +175,9 @@ crashes g c =
     c.next_changed-column.result c.loop-column.invariant.on c.loop-column.invariant.row
     c.push-in-loop-column.ensures.after c.push-in-loop-column.ensures.form
     c.push-in-loop-column.ensures.grown c.saturating_add-self-inside.ensures
-    c.next_changed-column.ensures.unchanged c.next_changed-column.ensures.from
-    c.next_changed-column.ensures.within in
+    c.next_changed-column.ensures.unchanged c.next_changed-column.ensures.from c.next_changed-column.ensures.within in
     let inner : c.next_changed-column.result
-    < columns_of c.push-in-loop-column.new.self.roster c.push-in-loop-column.new.self.window =
-    omega (
+    < columns_of c.push-in-loop-column.new.self.roster c.push-in-loop-column.new.self.window = omega (
       arith,
       c.if-column-columns.false,
       c.loop-column.invariant.columns,

@@ -2,8 +2,7 @@ use Rattle.std.proofs.Common.{◌≡◌, ◌+◌, ◌≤◌}
 use Rattle.dr_rows.specs.Words.{own}
 use Rattle.dr_program.specs.declared.deed.Deed.TheVariants.{Push}
 use Rattle.dr_turn.specs.Work.{deeds_left}
-use Rattle.dr_member.specs.Inside.{member_inside}
-use Rattle.dr_member.proofs.Sweeps.{IsOnRow, at_column}
+use Rattle.dr_member.{specs.Inside.member_inside, proofs.Sweeps.{IsOnRow, at_column}}
 use Rattle.dr_member.proofs.member.Member.push_row.Given as goal
 
 abbrev pub invariant-loop-column : goal.invariant-loop-column

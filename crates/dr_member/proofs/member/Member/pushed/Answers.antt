@@ -1,31 +1,24 @@
 use Rattle.std.proofs.Common.{refl, ℕ, ◌<◌, ◌≤◌, arith}
 use Rattle.dr_words.specs.Columns.{columns_of}
-use Rattle.dr_member.specs.Search.{standing}
-use Rattle.dr_member.proofs.Indices.{columns_after}
-use Rattle.dr_member.proofs.Ready.{elsewhere}
+use Rattle.dr_member.{specs.Search.standing, proofs.{Indices.columns_after, Ready.elsewhere}}
+use Rattle.dr_member.proofs.Moves.{IsPushed, counted, inside_after, is_pushed, push_left, pushed_behind, pushed_inside, pushed_timely, pushed_within}
 use Rattle.dr_program.specs.declared.place.Part.TheVariants as parts
 use Rattle.dr_turn.proofs.Works.{IsAnswer}
-use Rattle.dr_member.proofs.Moves.{IsPushed, counted, inside_after, is_pushed, push_left, pushed_behind, pushed_inside, pushed_timely, pushed_within}
 use Rattle.dr_member.proofs.member.Member.pushed.Goals as goal
 
 known : (c : goal.After-self-then-next-columns-1)
     → IsPushed c.self.inside.replica c.push.new.self c.self.inside.fate c.self.inside.place
     c.saturating_add-self-inside.result c.next_changed-next.result
-known c =
-    is_pushed c.args.self.now c.self.inside c.push.new.self c.saturating_add-self-inside.result
+known c = is_pushed c.args.self.now c.self.inside c.push.new.self c.saturating_add-self-inside.result
     c.next_changed-next.result c.self.view_is c.self.invariant c.requires
     c.push.ensures.after c.push.ensures.form c.push.ensures.grown c.saturating_add-self-inside.ensures
-    c.next_changed-next.ensures.unchanged c.next_changed-next.ensures.from
-    c.next_changed-next.ensures.within
+    c.next_changed-next.ensures.unchanged c.next_changed-next.ensures.from c.next_changed-next.ensures.within
 
-next : (c : goal.After-self-then-next-columns-1) (word : ℕ)
-    → IsAnswer word c.args.self.now
+next : (c : goal.After-self-then-next-columns-1) (word : ℕ) → IsAnswer word c.args.self.now
     (standing c.push.new.self (counted c.self.inside.fate c.saturating_add-self-inside.result)
     (record c.self.inside.place { column = c.next_changed-next.result }))
-next c word =
-    pushed_within c.args.self.now c.self.inside.replica c.push.new.self c.self.inside.fate
-    c.self.inside.place c.saturating_add-self-inside.result c.next_changed-next.result word c.self.view_is
-    (known c)
+next c word = pushed_within c.args.self.now c.self.inside.replica c.push.new.self c.self.inside.fate
+    c.self.inside.place c.saturating_add-self-inside.result c.next_changed-next.result word c.self.view_is (known c)
     within (c.next_changed-next.ensures.changed within)
   where
     within : c.next_changed-next.result < columns_of c.push.new.self.roster c.push.new.self.window
@@ -38,12 +31,10 @@ next c word =
 known_past : (c : goal.After-leave_row-arg-else-next-columns-3-1)
     → IsPushed c.self.inside.replica c.push.new.self c.self.inside.fate c.self.inside.place
     c.saturating_add-self-inside.result c.next_changed-next.result
-known_past c =
-    is_pushed c.args.self.now c.self.inside c.push.new.self c.saturating_add-self-inside.result
+known_past c = is_pushed c.args.self.now c.self.inside c.push.new.self c.saturating_add-self-inside.result
     c.next_changed-next.result c.self.view_is c.self.invariant c.requires
     c.push.ensures.after c.push.ensures.form c.push.ensures.grown c.saturating_add-self-inside.ensures
-    c.next_changed-next.ensures.unchanged c.next_changed-next.ensures.from
-    c.next_changed-next.ensures.within
+    c.next_changed-next.ensures.unchanged c.next_changed-next.ensures.from c.next_changed-next.ensures.within
 
 outer : (c : goal.After-leave_row-arg-else-next-columns-3-1)
     → columns_of c.push.new.self.roster c.push.new.self.window ≤ c.next_changed-next.result
@@ -53,12 +44,9 @@ outer c = omega (
   columns_after c.self.inside c.push.new.self _ c.self.invariant c.push.ensures.after refl,
 )
 
-past : (c : goal.After-leave_row) (word : ℕ)
-    → IsAnswer word c.args.self.now
-    (standing c.push.new.self
-    (counted c.self.inside.fate c.saturating_add-self-inside.result) c.leave_row.new.place)
-past c word =
-    pushed_behind c.args.self.now c.self.inside.replica c.push.new.self c.self.inside.fate
+past : (c : goal.After-leave_row) (word : ℕ) → IsAnswer word c.args.self.now
+    (standing c.push.new.self (counted c.self.inside.fate c.saturating_add-self-inside.result) c.leave_row.new.place)
+past c word = pushed_behind c.args.self.now c.self.inside.replica c.push.new.self c.self.inside.fate
     c.self.inside.place c.leave_row.new.place c.saturating_add-self-inside.result c.next_changed-next.result
     word c.self.view_is (known_past c.before) (outer c.before) c.leave_row.ensures.place
 
@@ -79,24 +67,20 @@ leave_row-requires-clause-inside c =
 pub leave_row-requires-clause-fate : goal.leave_row-requires-clause-fate
 leave_row-requires-clause-fate c =
     pushed_timely c.self.inside.replica c.push.new.self c.self.inside.fate c.self.inside.place
-    c.saturating_add-self-inside.result c.next_changed-next.result
-    (known_past c)
+    c.saturating_add-self-inside.result c.next_changed-next.result (known_past c)
 
 pub invariant_of-self : goal.invariant_of-self
-invariant_of-self c =
-    inside_after c.self.inside c.push.new.self _
+invariant_of-self c = inside_after c.self.inside c.push.new.self _
     (counted c.self.inside.fate c.saturating_add-self-inside.result)
     (record c.self.inside.place { column = c.next_changed-next.result }) c.self.inside.ready
     c.self.invariant c.push.ensures.after refl (next c 0).form
     (pushed_timely c.self.inside.replica c.push.new.self c.self.inside.fate c.self.inside.place
-    c.saturating_add-self-inside.result c.next_changed-next.result
-    (known c)) refl
+    c.saturating_add-self-inside.result c.next_changed-next.result (known c)) refl
     (elsewhere c.push.new.self (record c.self.inside.place { column = c.next_changed-next.result })
     parts.Push c.self.inside.ready (known c).due.at refl)
 
 pub invariant_of-self-else-next-columns : goal.invariant_of-self-else-next-columns
-invariant_of-self-else-next-columns c =
-    inside_after c.self.inside c.push.new.self _
+invariant_of-self-else-next-columns c = inside_after c.self.inside c.push.new.self _
     (counted c.self.inside.fate c.saturating_add-self-inside.result) c.leave_row.new.place
     c.leave_row.new.ready c.self.invariant c.push.ensures.after refl (past c 0).form
     (pushed_timely c.self.inside.replica c.push.new.self c.self.inside.fate c.self.inside.place

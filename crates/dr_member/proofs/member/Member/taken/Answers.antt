@@ -1,12 +1,9 @@
-use Rattle.std.proofs.Common.{refl, ◌∙◌, arith}
-use Rattle.std.specs.Prelude.{option_map}
+use Rattle.std.{specs.Prelude.option_map, proofs.Common.{refl, ◌∙◌, arith}}
 use Rattle.dr_words.specs.Columns.{columns_of}
-use Rattle.dr_program.specs.Turn.{part_of}
-use Rattle.dr_program.specs.Running.{goes}
+use Rattle.dr_program.specs.{Running.goes, Turn.part_of}
 use Rattle.dr_program.specs.declared.place.Part.TheVariants as parts
-use Rattle.dr_member.specs.Search.{standing}
+use Rattle.dr_member.{specs.Search.standing, proofs.Ready.gone_elsewhere}
 use Rattle.dr_member.proofs.Joins.{HasTakenLetter, IsTakeAnswer, leads_on, take_answer, take_due_at, took_limit, took_underway}
-use Rattle.dr_member.proofs.Ready.{gone_elsewhere}
 use Rattle.dr_member.proofs.member.Member.taken.Goals as goal
 
 -- the letter was taken
@@ -20,13 +17,11 @@ known c = record {
   form = c.take_letter.ensures.form;
   leads = leads_on (λ list. list.now) c.args.self.now.replica c.args.letter c.requires.fitting;
   place = c.go.ensures
-      ∙ (λ z. goes (c.shape.ensures.members z)
-      (columns_of (c.shape.ensures.members z) (c.shape.ensures.window z))
+      ∙ (λ z. goes (c.shape.ensures.members z) (columns_of (c.shape.ensures.members z) (c.shape.ensures.window z))
       (part_of c.self.inside.place) c.self.inside.place);
 }
 
-answer : (c : goal.After-settle)
-    → IsTakeAnswer (option_map (λ list. list.now) c.args.letter) c.args.self.now
+answer : (c : goal.After-settle) → IsTakeAnswer (option_map (λ list. list.now) c.args.letter) c.args.self.now
     (standing c.take_letter.new.replica c.take_letter.new.fate c.settle.new.place)
 answer c = take_answer _ c.args.self.now c.self.inside c.take_letter.new.replica c.take_letter.new.fate
     c.go.new.place c.settle.new.place c.self.view_is (known c.before) c.settle.ensures.place

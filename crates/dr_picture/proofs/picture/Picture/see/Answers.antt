@@ -1,5 +1,4 @@
-use Rattle.std.proofs.Common.{ℕ, List, length, subst}
-use Rattle.std.proofs.lemmas.Result.{on_ok_weaker}
+use Rattle.std.proofs.{Common.{ℕ, List, length, subst}, lemmas.Result.on_ok_weaker}
 use Rattle.dr_entry.specs.declared.entry.Entry.{Entry}
 use Rattle.dr_picture.specs.Sheet.{HasDrawn}
 use Rattle.dr_picture.proofs.picture.Picture.see.Goals as goal
@@ -11,5 +10,4 @@ returns-clause-drawn c =
     let told = subst (λ (h : List Entry). HasDrawn c.me-me.result (length h) drawn)
     c.history-history.ensures c.count_drawn-first.ensures.drawn in
     on_ok_weaker c.draw_bands.result
-    (λ keeps some. subst (λ (m : ℕ). HasDrawn m (length history) drawn) c.me-me.ensures told)
-    c.draw_bands.ensures
+    (λ keeps some. subst (λ (m : ℕ). HasDrawn m (length history) drawn) c.me-me.ensures told) c.draw_bands.ensures

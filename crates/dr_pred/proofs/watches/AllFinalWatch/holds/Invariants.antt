@@ -1,7 +1,6 @@
 use Rattle.std.proofs.Common.{◌≡◌, ℕ, ◌<◌, true}
 use Rattle.dr_history.specs.Members.{has}
-use Rattle.dr_words.specs.Columns.{recv_column}
-use Rattle.dr_words.specs.Packing.{is_final}
+use Rattle.dr_words.specs.{Columns.recv_column, Packing.is_final}
 use Rattle.dr_rows.specs.Words.{seen}
 use Rattle.dr_pred.proofs.watches.AllFinalWatch.holds.Given as goal
 

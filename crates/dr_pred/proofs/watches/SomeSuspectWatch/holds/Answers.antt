@@ -1,11 +1,8 @@
-use Rattle.std.proofs.Common.{◌≡◌, ◌<◌, ◌^◌, ℕ, true, subst, sym}
-use Rattle.std.specs.List.{All}
-use Rattle.dr_history.specs.Members.{has}
-use Rattle.dr_history.proofs.Tests.{all_words, by_bits}
-use Rattle.dr_words.specs.declared.column.TheConstants.{SUSPECTED_COLUMN}
-use Rattle.dr_rows.specs.Words.{seen}
-use Rattle.dr_words.proofs.Forms.{suspected_small}
+use Rattle.std.{specs.List.All, proofs.Common.{◌≡◌, ◌<◌, ◌^◌, ℕ, true, subst, sym}}
+use Rattle.dr_history.{specs.Members.has, proofs.Tests.{all_words, by_bits}}
+use Rattle.dr_words.{specs.declared.column.TheConstants.SUSPECTED_COLUMN, proofs.Forms.suspected_small}
 use Rattle.dr_words.proofs.Masks.{some_iff}
+use Rattle.dr_rows.specs.Words.{seen}
 use Rattle.dr_pred.proofs.watches.SomeSuspectWatch.holds.Goals as goal
 
 pub any_suspects-requires-clause-masks : goal.any_suspects-requires-clause-masks
@@ -20,7 +17,5 @@ any_suspects-requires-clause-masks c =
 pub returns : goal.returns
 returns c = some_iff (λ w. has w c.args.self.now.name ≡ true)
     (λ i. seen c.args.rows.now i SUSPECTED_COLUMN) c.args.self.now.members c.args.rows.now.members
-    _ c.any_suspects.result
-    (by_bits _ c.bits.result _ _ c.column_of-count.ensures.words c.bits.ensures)
-    c.requires.1 c.requires.0.most_members
-    c.any_suspects.ensures
+    _ c.any_suspects.result (by_bits _ c.bits.result _ _ c.column_of-count.ensures.words c.bits.ensures)
+    c.requires.1 c.requires.0.most_members c.any_suspects.ensures

@@ -8,8 +8,7 @@ returns-then-at_beat g c =
     let new = c.look.new.self in (
       subst (g.W.Watcher.sees old.watcher.now c.args.member.now c.args.table.now) (sym c.look.ensures.watcher)
           c.see.ensures,
-      subst (λ (turn : ℕ). MaySay turn old.progress.now new.progress.now) c.turns.ensures
-          c.look.ensures.progress,
+      subst (λ (turn : ℕ). MaySay turn old.progress.now new.progress.now) c.turns.ensures c.look.ensures.progress,
       c.look.ensures.same_watcher,
       c.look.ensures.same_progress,
     )

@@ -1,8 +1,6 @@
 use Rattle.std.proofs.Common.{◌≡◌, ap, inr, rules, subst, true, List, ℕ, Option}
-use Rattle.dr_progress.specs.Progress.{Standing}
-use Rattle.dr_text.specs.Writing.{WroteFront}
-use Rattle.dr_text.proofs.Reports.{wrote_some}
-use Rattle.dr_progress.specs.declared.line.TheConstants.{BLANK}
+use Rattle.dr_progress.specs.{Progress.Standing, declared.line.TheConstants.BLANK}
+use Rattle.dr_text.{specs.Writing.WroteFront, proofs.Reports.wrote_some}
 use Rattle.dr_progress.proofs.progress.Progress.end.Goals as goal
 
 pub returns-then-self : goal.returns-then-self
@@ -16,8 +14,7 @@ returns-then-self g c =
       now = ap (λ (s : Standing). s.now) c.self.view_is;
       blanks = inr (
         stood,
-        subst (λ (h : Option (List ℕ)). WroteFront h holds BLANK.now) same
-            (subst (WroteFront held holds) text
+        subst (λ (h : Option (List ℕ)). WroteFront h holds BLANK.now) same (subst (WroteFront held holds) text
             (wrote_some c.write_all.result held holds c.as_bytes.result.now c.write_all.ensures.ok
             c.write_all.ensures.err)),
       );

@@ -27,8 +27,7 @@ index-requires c =
     omega (arith, there, c.self.inside.items.ok.0)
 
 pub returns : goal.returns
-returns c =
-    item_read c.self.inside c.args.self.now c.args.spot.place c.args.spot.number c.from.result
+returns c = item_read c.self.inside c.args.self.now c.args.spot.place c.args.spot.number c.from.result
     c.from-2.result c.index.result.now c.self.view_is c.self.invariant c.requires.held
     (item_number c.self.inside c.args.self.now c.args.spot c.self.view_is c.requires.spot) c.from.ensures
     (c.from-2.ensures ∙ c.sender_at-sender.ensures.sender) c.index.ensures

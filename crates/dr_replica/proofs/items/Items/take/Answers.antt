@@ -1,9 +1,6 @@
-use Rattle.std.proofs.Common.{rules, ◌<◌, length, sym, subst, arith}
-use Rattle.std.proofs.lemmas.Grind.{common_steps}
-use Rattle.std.proofs.lemmas.List.{get_or_read}
+use Rattle.std.proofs.{Common.{rules, ◌<◌, length, sym, subst, arith}, lemmas.{Grind.common_steps, List.get_or_read}}
 use Rattle.dr_form.proofs.Gains.{nulls_after}
-use Rattle.dr_replica.specs.Items.{Held}
-use Rattle.dr_replica.proofs.Places.{taken_above}
+use Rattle.dr_replica.{specs.Items.Held, proofs.Places.taken_above}
 use Rattle.dr_replica.proofs.items.Items.take.Goals as goal
 
 pub front_from-self-inside-requires-clause-held : goal.front_from-self-inside-requires-clause-held
@@ -23,8 +20,7 @@ invariant_of-self c =
     (rw c.from.ensures at c.index-count.ensures) 0 in record {
       form = grind (arith, common_steps);
       front = search rules;
-      nulls = rw (c.from-4.ensures, c.from-2.ensures, c.from-3.ensures)
-          (nulls_after c.self.inside.counts.items
+      nulls = rw (c.from-4.ensures, c.from-2.ensures, c.from-3.ensures) (nulls_after c.self.inside.counts.items
           c.self.inside.items.items c.self.inside.roster c.args.member c.index-count.result.now c.args.item
           there mine (omega (arith, read)) c.self.invariant.nulls);
       spot = search rules;

@@ -1,5 +1,4 @@
-use Rattle.std.proofs.Common.{◌≡◌, ◌==◌, drop}
-use Rattle.std.specs.List.{list_all}
+use Rattle.std.{specs.List.list_all, proofs.Common.{◌≡◌, ◌==◌, drop}}
 use Rattle.dr_program.specs.Replica.{all_done}
 use Rattle.dr_rows.specs.Words.{seen}
 use Rattle.dr_words.specs.declared.column.TheConstants.{DONE_COLUMN}

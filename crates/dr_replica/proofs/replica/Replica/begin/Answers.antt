@@ -1,16 +1,14 @@
+use Rattle.std.specs.Prelude.{All, if◌then◌else◌}
 use Rattle.std.proofs.Common.{◌≡◌, ℕ, length, None, refl, rules, sym, ap, subst, ◌∙◌, arith}
 use Rattle.dr_history.specs.Members.{has}
-use Rattle.std.specs.Prelude.{All, if◌then◌else◌}
 use Rattle.dr_words.specs.Columns.{columns_of}
-use Rattle.dr_replica.specs.Lefts.{IsSpare}
-use Rattle.dr_rows.specs.Words.{begun, with_own}
-use Rattle.dr_program.specs.Form.{HasForm}
-use Rattle.dr_program.proofs.OpeningForm.{begun_in_form, someone}
-use Rattle.dr_program.proofs.Replicas.{few_messages_each, small_room}
-use Rattle.dr_replica.specs.declared.replica.Replica.TheInside.{Inside}
+use Rattle.dr_replica.specs.{Lefts.IsSpare, declared.replica.Replica.TheInside.Inside}
 use Rattle.dr_replica.proofs.Openings.{AreBegun, AreReserved, begun_view, begun_inside}
-use Rattle.dr_replica.proofs.replica.Replica.begin.Goals as goal
 use Rattle.dr_replica.proofs.replica.Replica.begin.Goals.{After-no_value, else-has, then-has}
+use Rattle.dr_rows.specs.Words.{begun, with_own}
+use Rattle.dr_program.{specs.Form.HasForm, proofs.OpeningForm.{begun_in_form, someone}}
+use Rattle.dr_program.proofs.Replicas.{few_messages_each, small_room}
+use Rattle.dr_replica.proofs.replica.Replica.begin.Goals as goal
 
 pub begin-requires-clause-small : goal.begin-requires-clause-small
 begin-requires-clause-small c =
@@ -21,8 +19,7 @@ pub begin-requires-2-clause-some : goal.begin-requires-2-clause-some
 begin-requires-2-clause-some c = someone c.args.setup c.requires
 
 pub begin-requires-2-clause-most : goal.begin-requires-2-clause-most
-begin-requires-2-clause-most c =
-    omega (arith, c.greatest-most.ensures, few_messages_each c.args.setup c.requires)
+begin-requires-2-clause-most c = omega (arith, c.greatest-most.ensures, few_messages_each c.args.setup c.requires)
 
 -- the fields, as they are made
 abbrev fields : After-no_value → Inside
@@ -90,13 +87,7 @@ made c = record {
   left = c.in_ok-with_capacity-2.ensures.items;
   next = c.first.ensures;
   received = refl;
-  history = cc (
-    c.in_ok-history.ensures.begun,
-    c.as_slice.ensures,
-    c.from.ensures,
-    c.from-2.ensures,
-    c.bits.ensures,
-  );
+  history = cc (c.in_ok-history.ensures.begun, c.as_slice.ensures, c.from.ensures, c.from-2.ensures, c.bits.ensures);
   logged = ap length c.entries-logged.ensures.entries;
   durable = ap length c.entries-logged.ensures.entries;
   turns = refl;
@@ -123,21 +114,18 @@ reserved c = record {
 }
 
 pub invariant_of-result : goal.invariant_of-result
-invariant_of-result c =
-    begun_inside (fields c) c.args.setup c.in_ok-rows.rows c.greatest-most.result c.requires (made c)
-    (search rules) (reserved c) c.in_ok-with_capacity-3.ensures.items
+invariant_of-result c = begun_inside (fields c) c.args.setup c.in_ok-rows.rows c.greatest-most.result c.requires
+    (made c) (search rules) (reserved c) c.in_ok-with_capacity-3.ensures.items
 
 pub returns-clause-begun : goal.returns-clause-begun
-returns-clause-begun c =
-    begun_view (fields at) c.args.setup c.in_ok-rows.rows c.greatest-most.result (made at)
+returns-clause-begun c = begun_view (fields at) c.args.setup c.in_ok-rows.rows c.greatest-most.result (made at)
   where
     at : After-no_value
     at = (goal.at.returns-clause-begun c).After-no_value
 
 pub returns-clause-form : goal.returns-clause-form
 returns-clause-form c =
-    subst HasForm (sym
-    (begun_view (fields at) c.args.setup c.in_ok-rows.rows c.greatest-most.result (made at)))
+    subst HasForm (sym (begun_view (fields at) c.args.setup c.in_ok-rows.rows c.greatest-most.result (made at)))
     (begun_in_form c.args.setup c.requires)
   where
     at : After-no_value

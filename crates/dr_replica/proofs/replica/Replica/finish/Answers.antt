@@ -1,31 +1,21 @@
+use Rattle.std.{specs.Prelude.vec_capacity, proofs.lemmas.List.map-append}
 use Rattle.std.proofs.Common.{rules, ◌≡◌, ◌+◌, ◌<◌, ℕ, List, ◌++◌, ◌∷◌, [], length, map, refl, sym, ap, subst, ◌∙◌, arith, None}
-use Rattle.dr_entry.specs.declared.entry.Entry.{Entry}
-use Rattle.dr_history.specs.Members.{members_of}
-use Rattle.dr_replica.specs.Rests.{merged_from}
-use Rattle.dr_trim.specs.Trims.{trims_by_rank}
-use Rattle.dr_history.specs.Order.{messages_from}
-use Rattle.dr_rows.specs.Words.{Words, with_own}
-use Rattle.dr_suspect.specs.Suspicion.{trusting}
-use Rattle.dr_words.specs.Masks.{IsInRoster, next_members}
-use Rattle.dr_words.specs.declared.column.TheConstants.{LOGGED_COLUMN}
-use Rattle.dr_replica.specs.History.{Kept}
-use Rattle.dr_replica.specs.Items.{none_held}
-use Rattle.dr_program.specs.Replica.{LeftView}
-use Rattle.dr_entry.specs.declared.record.Value.{Value}
-use Rattle.dr_replica.specs.Inside.{replica_inside}
-use Rattle.dr_replica.specs.Lefts.{left_of}
-use Rattle.std.specs.Prelude.{vec_capacity}
-use Rattle.std.proofs.lemmas.List.{map-append}
-use Rattle.dr_program.proofs.Replicas.{entered_some}
+use Rattle.dr_entry.specs.{declared.entry.Entry.Entry, declared.record.Value.Value}
+use Rattle.dr_history.specs.{Members.members_of, Order.messages_from}
+use Rattle.dr_replica.specs.{History.Kept, Inside.replica_inside, Items.none_held, Lefts.left_of, Rests.merged_from}
 use Rattle.dr_replica.proofs.Delivering.{taken_within}
 use Rattle.dr_replica.proofs.Leaving.{AreLeft, AreTaken, ended_entries, ended_views, entered_inside, left_after, left_form, may_leave, spare_taken}
+use Rattle.dr_trim.specs.Trims.{trims_by_rank}
+use Rattle.dr_rows.specs.Words.{Words, with_own}
+use Rattle.dr_suspect.specs.Suspicion.{trusting}
+use Rattle.dr_words.specs.{Masks.{IsInRoster, next_members}, declared.column.TheConstants.LOGGED_COLUMN}
+use Rattle.dr_program.{specs.Replica.LeftView, proofs.Replicas.entered_some}
 use Rattle.dr_replica.proofs.replica.Replica.finish.Goals as goal
 
 pub deliver_rest-requires-clause-room : goal.deliver_rest-requires-clause-room
 deliver_rest-requires-clause-room c =
     let trims = c.from-rest.ensures.trims in let next = c.from-rest.ensures.next in
-    rw (trims, next)
-    (may_leave c.self.inside c.args.self.now c.unwrap-value.result c.self.view_is c.self.invariant
+    rw (trims, next) (may_leave c.self.inside c.args.self.now c.unwrap-value.result c.self.view_is c.self.invariant
     c.unwrap-value.ensures c.requires.may).room
 
 pub deliver_rest-requires-clause-taken : goal.deliver_rest-requires-clause-taken
@@ -99,17 +89,14 @@ made c = record {
       ∙ ap (λ (w : Words). with_own w LOGGED_COLUMN c.self.inside.logged) c.renew-2.ensures.after;
   view = refl;
   members = remaining;
-  suspects = c.new-self-inside.ensures.value
-      ∙ ap (λ (i : ℕ). trusting i c.next-next.result) c.me-me.ensures.me
+  suspects = c.new-self-inside.ensures.value ∙ ap (λ (i : ℕ). trusting i c.next-next.result) c.me-me.ensures.me
       ∙ ap (trusting c.self.inside.rows.me) remaining;
-  items = c.renew.ensures
-      ∙ ap (λ (m : ℕ). none_held m c.self.inside.items.roster c.self.inside.items.most) remaining;
+  items = c.renew.ensures ∙ ap (λ (m : ℕ). none_held m c.self.inside.items.roster c.self.inside.items.most) remaining;
   came_from = refl;
   given = c.empty-self-inside.ensures.bits;
-  base = c.first_unsent-self-inside.ensures
-      ∙ ap (λ (m : ℕ). length (messages_from m c.entries.result.now)) c.me-me.ensures.me
-      ∙ ap (λ (es : List Entry). length (messages_from c.self.inside.rows.me es))
-      (c.entries.ensures.entries ∙ ap (λ (h : Kept). h.entries) history);
+  base = c.first_unsent-self-inside.ensures ∙ ap (λ (m : ℕ). length
+      (messages_from m c.entries.result.now)) c.me-me.ensures.me ∙ ap (λ (es : List Entry). length
+      (messages_from c.self.inside.rows.me es)) (c.entries.ensures.entries ∙ ap (λ (h : Kept). h.entries) history);
   sent = ap (λ (v : _). v.items) c.keep.ensures.swapped ∙ (taken c).spare.empty;
   left =
       let pushed : c.push.new.self.items ≡ c.self.inside.left.items ++ c.keep.new.self ∷ [] = search rules in
@@ -135,8 +122,7 @@ made c = record {
     x = c.unwrap-value.result
 
     rest : merged_from c.self.inside.items c.self.inside.history.entries c.from-rest.result.trims.items
-        c.from-rest.result.next.place
-        ≡ merged_from c.self.inside.items c.self.inside.history.entries
+        c.from-rest.result.next.place ≡ merged_from c.self.inside.items c.self.inside.history.entries
         (trims_by_rank c.self.inside.members c.unwrap-value.result.trim) c.self.inside.next.place
     rest = let trims = c.from-rest.ensures.trims in let next = c.from-rest.ensures.next in
         rw (trims, next) refl
@@ -147,12 +133,10 @@ made c = record {
     history : c.install.new.self ≡ record c.self.inside.history { entries = ended_entries c.self.inside x }
     history = c.install.ensures
         ∙ ap (λ (h : Kept). record h { entries = h.entries ++ c.next_view.result ∷ [] }) c.deliver_rest.ensures
-        ∙ ap (λ (es : List Entry). record c.self.inside.history
-        { entries = es ++ c.next_view.result ∷ [] }) rest
+        ∙ ap (λ (es : List Entry). record c.self.inside.history { entries = es ++ c.next_view.result ∷ [] }) rest
         ∙ ap (λ (e : Entry). record c.self.inside.history {
           entries = merged_from c.self.inside.items c.self.inside.history.entries
-              (trims_by_rank c.self.inside.members x.trim)
-              c.self.inside.next.place ++ e ∷ [];
+              (trims_by_rank c.self.inside.members x.trim) c.self.inside.next.place ++ e ∷ [];
         }) c.next_view.ensures
 
 pub returns : goal.returns
@@ -160,11 +144,10 @@ returns c = left_after c.self.inside _ c.args.self.now c.unwrap-value.result c.s
     c.unwrap-value.ensures (made c)
 
 pub invariant_of-self : goal.invariant_of-self
-invariant_of-self c = entered_inside c.self.inside _ (c.self.inside.view + 1)
-    (next_members c.self.inside.members c.unwrap-value.result.leavers)
+invariant_of-self c = entered_inside c.self.inside _
+    (c.self.inside.view + 1) (next_members c.self.inside.members c.unwrap-value.result.leavers)
     (ended_entries c.self.inside c.unwrap-value.result) (ended_views c.self.inside) c.self.invariant (made c)
-    (omega arith)
-    (left_form c.self.inside c.args.self.now c.unwrap-value.result c.self.view_is c.self.invariant
+    (omega arith) (left_form c.self.inside c.args.self.now c.unwrap-value.result c.self.view_is c.self.invariant
     c.unwrap-value.ensures c.requires.may c.requires.inside c.requires.free) record {
       left = omega (arith, c.self.invariant.left, c.push.ensures.capacity);
       spares = (taken c).others;

@@ -1,8 +1,7 @@
 use Rattle.std.proofs.Common.{sym, ap, subst}
 use Rattle.dr_form.proofs.Finishing.{gave_form}
 use Rattle.dr_program.specs.Form.{HasForm}
-use Rattle.dr_replica.proofs.Joining.{gave_kept}
-use Rattle.dr_replica.specs.Inside.{replica_inside}
+use Rattle.dr_replica.{specs.Inside.replica_inside, proofs.Joining.gave_kept}
 use Rattle.dr_replica.proofs.replica.Replica.give.Goals as goal
 
 pub invariant_of-self : goal.invariant_of-self

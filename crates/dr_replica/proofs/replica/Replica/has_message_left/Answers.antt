@@ -5,8 +5,7 @@ use Rattle.dr_form.proofs.Keeps.{message_left}
 use Rattle.dr_replica.proofs.replica.Replica.has_message_left.Goals as goal
 
 pub returns : goal.returns
-returns c = subst (λ (r : Replica). nat_lt (c.self.inside.base + c.len.result) c.len-2.result
-    ≡ nat_lt (next_index r) (length r.messages)) c.self.view_is
-    (ap₂ (λ put messages. nat_lt (c.self.inside.base + put) messages)
+returns c = subst (λ (r : Replica). nat_lt (c.self.inside.base + c.len.result) c.len-2.result ≡ nat_lt (next_index r)
+    (length r.messages)) c.self.view_is (ap₂ (λ put messages. nat_lt (c.self.inside.base + put) messages)
     (c.len.ensures ∙ c.self.inside.sent.ok.0) (c.len-2.ensures ∙ c.self.inside.messages.ok.0)
     ∙ message_left (replica_inside c.self.inside) c.self.invariant.form)

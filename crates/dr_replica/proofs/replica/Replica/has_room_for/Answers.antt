@@ -2,9 +2,8 @@ use Rattle.std.proofs.Common.{◌<◌, ℕ, List, length, ap, ◌∙◌, arith}
 use Rattle.dr_order.proofs.Merges.{fewer_left}
 use Rattle.dr_program.specs.Replica.{Replica}
 use Rattle.dr_trim.specs.Trims.{trims_by_rank}
-use Rattle.dr_replica.specs.Rests.{has_taken}
+use Rattle.dr_replica.{specs.Rests.has_taken, proofs.Places.trims_held}
 use Rattle.dr_replica.proofs.Delivering.{counted_all, counted_few, counted_more, fits_is, fits_told, taken_within}
-use Rattle.dr_replica.proofs.Places.{trims_held}
 use Rattle.dr_replica.proofs.replica.Replica.has_room_for.Goals as goal
 
 pub returns-then-entries-room : goal.returns-then-entries-room
@@ -55,8 +54,7 @@ loop-spot-smaller c =
 pub loop-spot-preserved : goal.loop-spot-preserved
 loop-spot-preserved c =
     let trims : List ℕ = trims_by_rank c.self.inside.members c.args.trim.now in
-    let some : 0 < length trims =
-    omega (arith, c.loop-spot.rest.spot.rank, ap length c.loop-spot.invariant.trims) in
+    let some : 0 < length trims = omega (arith, c.loop-spot.rest.spot.rank, ap length c.loop-spot.invariant.trims) in
     let next = rw c.loop-spot.invariant.trims at c.in-Some.ensures.next in
     let behind = c.in-Some.ensures.behind in
     record {
@@ -70,8 +68,7 @@ loop-spot-preserved c =
 pub returns-then-entries-room-2 : goal.returns-then-entries-room-2
 returns-then-entries-room-2 c =
     let trims : List ℕ = trims_by_rank c.self.inside.members c.args.trim.now in
-    let some : 0 < length trims =
-    omega (arith, c.loop-spot.rest.spot.rank, ap length c.loop-spot.invariant.trims) in
+    let some : 0 < length trims = omega (arith, c.loop-spot.rest.spot.rank, ap length c.loop-spot.invariant.trims) in
     let none = rw c.loop-spot.invariant.trims at c.in_default.ensures.next in
     let all = counted_all c.self.inside.items c.self.inside.history.entries trims c.self.inside.next.place
     c.loop-spot.rest.next.place c.me-me.result c.loop-spot.entries c.loop-spot.own some none
@@ -83,8 +80,7 @@ returns-then-entries-room-2 c =
 pub returns-else-entries-room-2 : goal.returns-else-entries-room-2
 returns-else-entries-room-2 c =
     let trims : List ℕ = trims_by_rank c.self.inside.members c.args.trim.now in
-    let some : 0 < length trims =
-    omega (arith, c.loop-spot.rest.spot.rank, ap length c.loop-spot.invariant.trims) in
+    let some : 0 < length trims = omega (arith, c.loop-spot.rest.spot.rank, ap length c.loop-spot.invariant.trims) in
     let none = rw c.loop-spot.invariant.trims at c.in_default.ensures.next in
     let all = counted_all c.self.inside.items c.self.inside.history.entries trims c.self.inside.next.place
     c.loop-spot.rest.next.place c.me-me.result c.loop-spot.entries c.loop-spot.own some none

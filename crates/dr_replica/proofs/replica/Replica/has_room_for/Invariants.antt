@@ -9,8 +9,7 @@ abbrev pub invariant-loop-spot : goal.invariant-loop-spot
 invariant-loop-spot l = record {
   trims : l.rest.trims.items ≡ trims_by_rank l.self-inside.members l.trim;
   counted : AreCounted l.self-inside.items l.self-inside.history.entries
-      (trims_by_rank l.self-inside.members l.trim) l.self-inside.next.place l.rest.next.place l.me l.entries
-      l.own;
+      (trims_by_rank l.self-inside.members l.trim) l.self-inside.next.place l.rest.next.place l.me l.entries l.own;
 }
 
 abbrev pub decreases-loop-spot : goal.decreases-loop-spot

@@ -1,5 +1,4 @@
-use Rattle.std.proofs.Common.{◌≡◌, ◌≤◌, ◌++◌, map}
-use Rattle.std.specs.Prelude.{vec_capacity}
+use Rattle.std.{specs.Prelude.vec_capacity, proofs.Common.{◌≡◌, ◌≤◌, ◌++◌, map}}
 use Rattle.dr_program.specs.Program.{sent_before}
 use Rattle.dr_replica.specs.Lefts.{left_of}
 use Rattle.dr_replica.proofs.replica.Replica.into_end.Given as goal

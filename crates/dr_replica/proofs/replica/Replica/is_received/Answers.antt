@@ -1,10 +1,7 @@
-use Rattle.std.proofs.Common.{◌≡◌, ◌∙◌, subst, arith, nat_lt, sym, ap}
-use Rattle.std.proofs.lemmas.Bool.Decides.{nat_tests}
-use Rattle.dr_program.specs.Replica.{Replica, least_seen}
-use Rattle.dr_replica.proofs.Received.{is_of_group, received_test}
-use Rattle.dr_replica.specs.Inside.{replica_inside}
+use Rattle.std.proofs.{Common.{◌≡◌, ◌∙◌, subst, arith, nat_lt, sym, ap}, lemmas.Bool.Decides.nat_tests}
+use Rattle.dr_program.{specs.Replica.{Replica, least_seen}, proofs.Least.none_above}
+use Rattle.dr_replica.{specs.Inside.replica_inside, proofs.Received.{is_of_group, received_test}}
 use Rattle.dr_words.specs.declared.column.TheConstants.{RECEIVED_COLUMN}
-use Rattle.dr_program.proofs.Least.{none_above}
 use Rattle.dr_replica.proofs.replica.Replica.is_received.Goals as goal
 
 pub holds-requires : goal.holds-requires

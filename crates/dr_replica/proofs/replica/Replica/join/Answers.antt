@@ -1,19 +1,12 @@
-use Rattle.std.proofs.Common.{rules, ◌≡◌, ◌-◌, ◌<◌, ℕ, List, ◌++◌, ◌∷◌, [], length, map, replicate, refl, sym, ap, subst, ◌∙◌, arith, None}
 use Rattle.std.specs.Prelude.{vec_capacity}
-use Rattle.dr_history.specs.History.{last_view}
-use Rattle.dr_history.specs.Members.{has, members_of}
-use Rattle.dr_history.specs.Order.{messages_from}
+use Rattle.std.proofs.Common.{rules, ◌≡◌, ◌-◌, ◌<◌, ℕ, List, ◌++◌, ◌∷◌, [], length, map, replicate, refl, sym, ap, subst, ◌∙◌, arith, None}
+use Rattle.dr_history.specs.{History.last_view, Members.{has, members_of}, Order.messages_from}
 use Rattle.dr_rows.specs.Words.{Words, with_own}
 use Rattle.dr_suspect.specs.Suspicion.{trusting}
-use Rattle.dr_words.specs.Columns.{columns_of}
-use Rattle.dr_words.specs.declared.column.TheConstants.{LOGGED_COLUMN}
-use Rattle.dr_program.specs.Form.{HasForm}
-use Rattle.dr_program.specs.Replica.{LeftView, Replica, greatest, joined, nothing_left}
+use Rattle.dr_words.specs.{Columns.columns_of, declared.column.TheConstants.LOGGED_COLUMN}
+use Rattle.dr_program.specs.{Form.HasForm, Replica.{LeftView, Replica, greatest, joined, nothing_left}}
 use Rattle.dr_program.proofs.Replicas.{entered_some}
-use Rattle.dr_replica.specs.Inside.{replica_inside}
-use Rattle.dr_replica.specs.Items.{none_held}
-use Rattle.dr_replica.specs.Lefts.{left_of}
-use Rattle.dr_replica.specs.declared.left.Left.{Left}
+use Rattle.dr_replica.specs.{Inside.replica_inside, Items.none_held, Lefts.left_of, declared.left.Left.Left}
 use Rattle.dr_replica.proofs.Joining.{AreJoined, MayJoin, join_form, may_join, skipped_views}
 use Rattle.dr_replica.proofs.Leaving.{AreTaken, entered_inside, entered_view, spare_taken}
 use Rattle.dr_replica.proofs.replica.Replica.join.Goals as goal
@@ -55,8 +48,7 @@ unwrap-requires c =
     ))
 
 pub overflow_sub-view : goal.overflow_sub-view
-overflow_sub-view c =
-    omega (arith, ap (λ (v : ℕ × ℕ). v.0) c.last_view-view.ensures, c.requires.fitting.later)
+overflow_sub-view c = omega (arith, ap (λ (v : ℕ × ℕ). v.0) c.last_view-view.ensures, c.requires.fitting.later)
 
 pub skip_views-requires-clause-spares : goal.skip_views-requires-clause-spares
 skip_views-requires-clause-spares c =
@@ -156,13 +148,11 @@ made c = record {
       ∙ ap (λ (w : Words). with_own w LOGGED_COLUMN c.self.inside.logged) c.renew-2.ensures.after;
   view = number;
   members = those;
-  suspects = c.new-self-inside.ensures.value
-      ∙ ap (λ (i : ℕ). trusting i c.last_view-view.result.1) c.me-me.ensures.me
+  suspects = c.new-self-inside.ensures.value ∙ ap (λ (i : ℕ). trusting i c.last_view-view.result.1) c.me-me.ensures.me
       ∙ ap (trusting c.self.inside.rows.me) those;
   came_from = refl;
   given = c.empty-self-inside.ensures.bits;
-  items = c.renew.ensures
-      ∙ ap (λ (m : ℕ). none_held m c.self.inside.items.roster c.self.inside.items.most) those;
+  items = c.renew.ensures ∙ ap (λ (m : ℕ). none_held m c.self.inside.items.roster c.self.inside.items.most) those;
   base = c.first_unsent-self-inside.ensures
       ∙ ap (λ (m : ℕ). length (messages_from m c.args.letter.now)) c.me-me.ensures.me;
   sent = ap (λ (v : _). v.items) c.keep.ensures.swapped ∙ (taken c).spare.empty;

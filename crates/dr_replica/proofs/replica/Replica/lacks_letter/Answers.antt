@@ -9,16 +9,14 @@ returns-then-has c =
     let a = c.self.inside in
     let j = c.args.member in
     ap (λ b. b && not c.has-then-has.result) (sym c.if-has.true)
-    ∙ ap (λ b. c.has.result && not b) c.has-then-has.ensures
-    ∙ newcomer_test (has a.members j) (has a.came_from j) (has a.given j) c.has.result
-    (c.has.ensures ∙ c.newcomers.ensures.members j)
+    ∙ ap (λ b. c.has.result && not b) c.has-then-has.ensures ∙ newcomer_test (has a.members j)
+    (has a.came_from j) (has a.given j) c.has.result (c.has.ensures ∙ c.newcomers.ensures.members j)
     ∙ ap (λ (r : Replica). has r.members j && (not (has r.came_from j) && not (has r.given j))) c.self.view_is
 
 pub returns-else-has : goal.returns-else-has
 returns-else-has c =
     let a = c.self.inside in
     let j = c.args.member in
-    c.if-has.false ∙ sym (ap (λ b. b && not (has a.given j)) c.if-has.false)
-    ∙ newcomer_test (has a.members j) (has a.came_from j) (has a.given j) c.has.result
-    (c.has.ensures ∙ c.newcomers.ensures.members j)
+    c.if-has.false ∙ sym (ap (λ b. b && not (has a.given j)) c.if-has.false) ∙ newcomer_test (has a.members j)
+    (has a.came_from j) (has a.given j) c.has.result (c.has.ensures ∙ c.newcomers.ensures.members j)
     ∙ ap (λ (r : Replica). has r.members j && (not (has r.came_from j) && not (has r.given j))) c.self.view_is

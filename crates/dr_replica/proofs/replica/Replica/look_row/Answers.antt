@@ -1,18 +1,11 @@
 use Rattle.std.proofs.Common.{◌≡◌, ℕ, ◌+◌, ◌-◌, ◌<◌, ◌≤◌, slice_index, refl, sym, ap, subst, ◌∙◌, arith}
 use Rattle.dr_history.specs.Members.{has}
-use Rattle.dr_rows.specs.Words.{Words, seen}
-use Rattle.dr_rows.proofs.Along.{looked_stays}
-use Rattle.dr_words.specs.Form.{IsInForm}
-use Rattle.dr_words.specs.Grown.{HasGrown}
-use Rattle.dr_words.specs.declared.column.TheConstants.{RECEIVED_COLUMN}
-use Rattle.dr_program.specs.Replica.{Replica, is_other, least_seen}
-use Rattle.dr_program.specs.Form.{HasForm}
-use Rattle.dr_program.specs.Steps.{NoWordFell}
-use Rattle.dr_program.proofs.Replicas.{MayLook, looked_on}
-use Rattle.dr_program.proofs.Least.{grown_received}
+use Rattle.dr_rows.{specs.Words.{Words, seen}, proofs.Along.looked_stays}
+use Rattle.dr_words.specs.{Form.IsInForm, Grown.HasGrown, declared.column.TheConstants.RECEIVED_COLUMN}
+use Rattle.dr_program.specs.{Form.HasForm, Replica.{Replica, is_other, least_seen}, Steps.NoWordFell}
+use Rattle.dr_program.proofs.{Least.grown_received, Replicas.{MayLook, looked_on}}
 use Rattle.dr_form.proofs.Keeps.{looks_keep}
-use Rattle.dr_replica.specs.Inside.{replica_inside}
-use Rattle.dr_replica.proofs.Insides.{state_kept}
+use Rattle.dr_replica.{specs.Inside.replica_inside, proofs.Insides.state_kept}
 use Rattle.dr_replica.proofs.replica.Replica.look_row.Goals as goal
 
 -- the replica inside after the looks
@@ -35,9 +28,8 @@ may c =
       other = ap (λ (x : Replica). is_other x c.args.row) is ∙ c.requires.other;
       unsuspected = ap (λ (x : Replica). has x.suspects c.args.row) is ∙ c.requires.unsuspected;
       within = omega (arith, from, c.self.invariant.form.columns);
-      in_form = λ d l h. subst (λ (x : Replica). (k : ℕ) → c.args.from ≤ k → k < x.rows.columns
-          → IsInForm x.roster k (slice_index c.args.table.now (c.args.first + k))) (sym is) c.requires.in_form
-          d l (omega (arith, h, from));
+      in_form = λ d l h. subst (λ (x : Replica). (k : ℕ) → c.args.from ≤ k → k < x.rows.columns → IsInForm x.roster k
+          (slice_index c.args.table.now (c.args.first + k))) (sym is) c.requires.in_form d l (omega (arith, h, from));
       grown = λ d l h. subst (λ (x : Replica). (k : ℕ) → c.args.from ≤ k → k < x.rows.columns
           → HasGrown x.roster k (seen x.rows c.args.row k) (slice_index c.args.table.now (c.args.first + k)))
           (sym is) c.requires.grown d l (omega (arith, h, from));
@@ -53,8 +45,7 @@ invariant_of-self c =
     state_kept a c.look_row.new.self a.logged a.durable a.turns a.acts a.end c.self.invariant
     (ap (λ (w : Words). w.me) (c.look_row.ensures.after
     ∙ looked_stays c.args.row c.args.table.now c.args.first a.rows c.args.from (a.rows.columns - c.args.from)))
-    (subst HasForm (sym (there c)) (keeps c).0)
-    (subst (λ (w : Words). least_seen (replica_inside a) RECEIVED_COLUMN
+    (subst HasForm (sym (there c)) (keeps c).0) (subst (λ (w : Words). least_seen (replica_inside a) RECEIVED_COLUMN
     ≤ least_seen (record (replica_inside a) { rows = w }) RECEIVED_COLUMN) (sym c.look_row.ensures.after)
     (grown_received (replica_inside a) (new c) a.rows.frozen (new c).rows.frozen refl (keeps c).1))
 

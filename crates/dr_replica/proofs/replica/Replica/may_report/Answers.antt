@@ -1,11 +1,8 @@
-use Rattle.std.proofs.Common.{◌≡◌, ◌+◌, ◌↔◌, true, subst, arith, sym, ap, ◌∙◌}
-use Rattle.std.proofs.lemmas.Bool.Decides.{nat_tests}
+use Rattle.std.proofs.{Common.{◌≡◌, ◌+◌, ◌↔◌, true, subst, arith, sym, ap, ◌∙◌}, lemmas.Bool.Decides.nat_tests}
 use Rattle.dr_pred.specs.Watches.{AllLogged}
-use Rattle.dr_program.specs.Replica.{Replica, may_report}
-use Rattle.dr_replica.proofs.Received.{logged_test}
-use Rattle.dr_replica.specs.Inside.{replica_inside}
+use Rattle.dr_program.{specs.Replica.{Replica, may_report}, proofs.Least.none_above}
+use Rattle.dr_replica.{specs.Inside.replica_inside, proofs.Received.logged_test}
 use Rattle.dr_words.specs.declared.column.TheConstants.{LOGGED_COLUMN}
-use Rattle.dr_program.proofs.Least.{none_above}
 use Rattle.dr_replica.proofs.replica.Replica.may_report.Goals as goal
 
 pub returns-then-self-lt18446744073709551615 : goal.returns-then-self-lt18446744073709551615

@@ -1,10 +1,8 @@
 use Rattle.std.proofs.Common.{◌∙◌, ap, sym}
 use Rattle.dr_history.specs.Members.{has}
 use Rattle.dr_words.proofs.Masks.{somebody}
-use Rattle.dr_program.proofs.Voting.{wedged_inside}
-use Rattle.dr_program.specs.Replica.{is_wedged}
-use Rattle.dr_replica.proofs.Insides.{promise_read}
-use Rattle.dr_replica.specs.Inside.{replica_inside}
+use Rattle.dr_program.{specs.Replica.is_wedged, proofs.Voting.wedged_inside}
+use Rattle.dr_replica.{specs.Inside.replica_inside, proofs.Insides.promise_read}
 use Rattle.dr_suspect.specs.Suspicion.{Suspicion}
 use Rattle.dr_replica.proofs.replica.Replica.promise.Goals as goal
 

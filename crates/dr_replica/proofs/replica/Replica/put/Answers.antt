@@ -1,14 +1,11 @@
 use Rattle.std.proofs.Common.{◌≡◌, ◌≤◌, rules, sym, ap, subst, ◌∙◌, le_trans, ℕ, slice_index}
-use Rattle.dr_program.specs.Form.{HasForm}
-use Rattle.dr_program.specs.Replica.{Replica, is_inside, least_seen, put}
+use Rattle.dr_program.specs.{Form.HasForm, Replica.{Replica, is_inside, least_seen, put}}
 use Rattle.dr_ring.specs.Slots.{IsFree}
-use Rattle.dr_replica.specs.Inside.{replica_inside}
-use Rattle.dr_form.specs.Puts.{MayPut}
-use Rattle.dr_form.proofs.Keeps.{put_form, put_received}
-use Rattle.dr_words.specs.declared.column.TheConstants.{RECEIVED_COLUMN}
+use Rattle.dr_replica.{specs.Inside.replica_inside, proofs.replica.Replica.put.Goals.After-take}
 use Rattle.dr_replica.proofs.Exchanges.{WasPut, items_kept, put_after, put_shows, room_left}
+use Rattle.dr_form.{specs.Puts.MayPut, proofs.Keeps.{put_form, put_received}}
+use Rattle.dr_words.specs.declared.column.TheConstants.{RECEIVED_COLUMN}
 use Rattle.dr_replica.proofs.replica.Replica.put.Goals as goal
-use Rattle.dr_replica.proofs.replica.Replica.put.Goals.{After-take}
 
 pub put-requires-clause-free : goal.put-requires-clause-free
 put-requires-clause-free c =
@@ -25,8 +22,7 @@ take-requires-clause-room c =
     room_left c.self.inside c.me-me.result c.args.name c.args.item c.self.invariant may c.me-me.ensures.me
 
 -- the item was put, and taken
-was : (c : After-take)
-    → WasPut c.self.inside c.me-me.result c.count.result c.args.item c.put.new.rows c.take.new.self
+was : (c : After-take) → WasPut c.self.inside c.me-me.result c.count.result c.args.item c.put.new.rows c.take.new.self
 was c = record {
   me = c.me-me.ensures.me;
   count = c.count.ensures.count;
@@ -57,14 +53,11 @@ invariant_of-self c =
     ≡ put (replica_inside c.self.inside) c.args.name c.args.item =
     put_after c.self.inside c.show_items.new.rows c.me-me.result c.count.result c.args.name c.args.item
     c.put.new.rows c.take.new.self c.push.new.self.items c.self.invariant may
-    (was (goal.at.invariant_of-self c).After-take)
-    (search rules) c.show_items.ensures in
+    (was (goal.at.invariant_of-self c).After-take) (search rules) c.show_items.ensures in
     items_kept c.self.inside c.show_items.new.rows c.take.new.self c.me-me.result c.args.item
     c.push.new.self c.self.invariant c.take.ensures
-    (le_trans c.self.invariant.sent c.push.ensures.capacity) (ap (λ (r : Replica). r.rows.me) there)
-    (subst HasForm (sym there) (put_form (replica_inside c.self.inside) c.args.name c.args.item
-    c.self.invariant.form may))
-    (subst (λ (r : Replica). least_seen (replica_inside c.self.inside) RECEIVED_COLUMN
-    ≤ least_seen r RECEIVED_COLUMN) (sym there)
-    (put_received (replica_inside c.self.inside) c.args.name c.args.item c.self.invariant.form
+    (le_trans c.self.invariant.sent c.push.ensures.capacity) (ap (λ (r : Replica). r.rows.me) there) (subst HasForm
+    (sym there) (put_form (replica_inside c.self.inside) c.args.name c.args.item c.self.invariant.form may))
+    (subst (λ (r : Replica). least_seen (replica_inside c.self.inside) RECEIVED_COLUMN ≤ least_seen r RECEIVED_COLUMN)
+    (sym there) (put_received (replica_inside c.self.inside) c.args.name c.args.item c.self.invariant.form
     (ap is_inside c.self.view_is ∙ c.requires.inside) may))

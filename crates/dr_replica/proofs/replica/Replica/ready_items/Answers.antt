@@ -1,5 +1,4 @@
-use Rattle.std.proofs.Common.{◌≡◌, ℕ, ◌+◌, ◌<◌, ◌↔◌, subst}
-use Rattle.std.specs.Int.{bit_at}
+use Rattle.std.{specs.Int.bit_at, proofs.Common.{◌≡◌, ℕ, ◌+◌, ◌<◌, ◌↔◌, subst}}
 use Rattle.dr_program.specs.Replica.{Replica, count}
 use Rattle.dr_ring.specs.Slots.{IsReady, slot_of}
 use Rattle.dr_replica.specs.Inside.{replica_inside}

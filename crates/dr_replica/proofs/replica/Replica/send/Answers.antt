@@ -1,13 +1,9 @@
 use Rattle.std.proofs.Common.{◌≡◌, sym, subst, ◌∙◌, ap, ℕ, length, ◌<◌, not, nat_lt, arith}
 use Rattle.std.proofs.lemmas.Bool.{and_parts, ltb-true}
-use Rattle.dr_entry.specs.declared.entry.Item.{Item}
-use Rattle.dr_entry.specs.declared.entry.Item.TheVariants.{Text}
-use Rattle.dr_entry.specs.declared.end.SentItem.TheVariants.{Index}
-use Rattle.dr_program.specs.Form.{HasForm}
-use Rattle.dr_program.specs.Replica.{is_wedged, next_index, put}
-use Rattle.dr_form.specs.Puts.{MayPut}
+use Rattle.dr_entry.specs.declared.{end.SentItem.TheVariants.Index, entry.Item.{Item, TheVariants.Text}}
+use Rattle.dr_program.specs.{Form.HasForm, Replica.{is_wedged, next_index, put}}
+use Rattle.dr_form.{specs.Puts.MayPut, proofs.Keeps.{index_small, message_to_send, sending}}
 use Rattle.dr_replica.proofs.Exchanges.{message_read}
-use Rattle.dr_form.proofs.Keeps.{index_small, message_to_send, sending}
 use Rattle.dr_replica.proofs.replica.Replica.send.Goals as goal
 
 pub overflow_cast-index : goal.overflow_cast-index
@@ -20,8 +16,7 @@ overflow_cast-index c = omega (
 pub put-requires-clause-may : goal.put-requires-clause-may
 put-requires-clause-may c = λ form.
     let now = c.args.self.now in
-    let left : next_index now < length now.messages =
-    ltb-true (next_index now) (length now.messages)
+    let left : next_index now < length now.messages = ltb-true (next_index now) (length now.messages)
     (and_parts (nat_lt (next_index now) (length now.messages)) _
     (and_parts (not (is_wedged now)) _ c.requires.may).1).0 in
     let read : Text c.copy-message.result ≡ message_to_send now =
@@ -34,8 +29,7 @@ put-requires-clause-may c = λ form.
 pub returns : goal.returns
 returns c =
     let now = c.args.self.now in
-    let left : next_index now < length now.messages =
-    ltb-true (next_index now) (length now.messages)
+    let left : next_index now < length now.messages = ltb-true (next_index now) (length now.messages)
     (and_parts (nat_lt (next_index now) (length now.messages)) _
     (and_parts (not (is_wedged now)) _ c.requires.may).1).0 in
     let read : Text c.copy-message.result ≡ message_to_send now =

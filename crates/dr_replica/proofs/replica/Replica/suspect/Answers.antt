@@ -2,13 +2,9 @@ use Rattle.std.proofs.Common.{◌≡◌, ℕ, ◌≤◌, sym, ap, subst, ◌∙�
 use Rattle.dr_history.specs.Members.{has}
 use Rattle.dr_suspect.specs.Suspicion.{Suspicion}
 use Rattle.dr_rows.specs.Words.{own}
-use Rattle.dr_program.specs.Replica.{Replica, is_inside, may_suspect, suspected}
-use Rattle.dr_words.specs.Masks.{least_of, without}
-use Rattle.dr_words.specs.Rewrites.{wedged_word}
-use Rattle.dr_words.proofs.Masks.{somebody}
-use Rattle.dr_program.proofs.Replicas.{may_of}
-use Rattle.dr_replica.specs.Inside.{replica_inside}
-use Rattle.dr_replica.proofs.Insides.{suspected_after, suspected_kept, voter_read}
+use Rattle.dr_program.{specs.Replica.{Replica, is_inside, may_suspect, suspected}, proofs.Replicas.may_of}
+use Rattle.dr_words.{specs.{Masks.{least_of, without}, Rewrites.wedged_word}, proofs.Masks.somebody}
+use Rattle.dr_replica.{specs.Inside.replica_inside, proofs.Insides.{suspected_after, suspected_kept, voter_read}}
 use Rattle.dr_form.proofs.Wedging.{recv_small, suspected_rises}
 use Rattle.dr_replica.proofs.replica.Replica.suspect.Goals as goal
 
@@ -32,9 +28,8 @@ rewrite-requires-clause-rises c = λ column.
     (sym c.least.ensures.first ∙ c.unwrap.ensures) in
     let may = may_of (λ (r : Replica). may_suspect r c.args.other) (replica_inside a) c.args.self.now
     c.self.view_is c.requires.may in
-    subst (λ (p : ℕ). own a.rows column
-    ≤ wedged_word a.shape.members a.members c.mask.result p column (own a.rows column)) (sym voter)
-    (subst (λ (m : ℕ). own a.rows column
+    subst (λ (p : ℕ). own a.rows column ≤ wedged_word a.shape.members a.members c.mask.result p column
+    (own a.rows column)) (sym voter) (subst (λ (m : ℕ). own a.rows column
     ≤ wedged_word a.shape.members a.members m (least_of (without a.members m)) column (own a.rows column))
     (sym (c.mask.ensures.value ∙ c.add.ensures.suspects))
     (suspected_rises (replica_inside a) c.args.other column c.self.invariant.form

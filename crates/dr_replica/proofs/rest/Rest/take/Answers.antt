@@ -16,8 +16,7 @@ pub returns-then-spot-from-clause-next : goal.returns-then-spot-from-clause-next
 returns-then-spot-from-clause-next c =
     let trims : c.loop-self.self.trims.items ≡ c.args.self.now.trims.items =
     ap (λ (v : _). v.items) c.loop-self.invariant.trims in
-    let read : c.from-in-loop-self.result
-    ≡ slice_index c.loop-self.self.trims.items c.loop-self.self.next.rank =
+    let read : c.from-in-loop-self.result ≡ slice_index c.loop-self.self.trims.items c.loop-self.self.next.rank =
     c.from-in-loop-self.ensures
     ∙ ap (λ (xs : List ℕ). slice_index xs c.loop-self.self.next.rank) c.as_slice.ensures.value in
     let held : nat_lt c.loop-self.self.next.number c.from-in-loop-self.result ≡ true =
@@ -37,8 +36,7 @@ loop-self-smaller c =
 
 pub loop-self-preserved : goal.loop-self-preserved
 loop-self-preserved c =
-    let read : c.from-in-loop-self.result
-    ≡ slice_index c.loop-self.self.trims.items c.loop-self.self.next.rank =
+    let read : c.from-in-loop-self.result ≡ slice_index c.loop-self.self.trims.items c.loop-self.self.next.rank =
     c.from-in-loop-self.ensures
     ∙ ap (λ (xs : List ℕ). slice_index xs c.loop-self.self.next.rank) c.as_slice.ensures.value in
     let gap : nat_lt c.loop-self.self.next.number c.from-in-loop-self.result ≡ false =

@@ -7,8 +7,7 @@ abbrev pub invariant-loop-self : goal.invariant-loop-self
 invariant-loop-self l = record {
   trims : l.self.trims ≡ l.initial.self.trims;
   after : l.initial.self.next.place ≤ l.self.next.place;
-  none : (p : ℕ) → l.initial.self.next.place ≤ p → p < l.self.next.place
-      → is_held l.self.trims.items p ≡ false;
+  none : (p : ℕ) → l.initial.self.next.place ≤ p → p < l.self.next.place → is_held l.self.trims.items p ≡ false;
 }
 
 abbrev pub decreases-loop-self : goal.decreases-loop-self

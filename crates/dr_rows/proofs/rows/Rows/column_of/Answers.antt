@@ -2,10 +2,9 @@ use Rattle.std.proofs.Common.{◌≡◌, ◌<◌, ◌≤◌, ℕ, ◌*◌, ◌+�
 use Rattle.std.proofs.lemmas.List.{length-set}
 use Rattle.dr_history.specs.Members.{members_below, members_of}
 use Rattle.dr_history.proofs.MemberLemmas.{members_count, members_whole, members_without, word_more}
-use Rattle.dr_rows.specs.Words.{Words, seen}
-use Rattle.dr_rows.proofs.Vectors.{seen_read}
-use Rattle.dr_rows.proofs.rows.Rows.column_of.Goals as goal
+use Rattle.dr_rows.{specs.Words.{Words, seen}, proofs.Vectors.seen_read}
 use Rattle.dr_rows.proofs.rows.Rows.column_of.Goals.{then-has, else-has}
+use Rattle.dr_rows.proofs.rows.Rows.column_of.Goals as goal
 
 pub loop-member-init : goal.loop-member-init
 unfolding members_below

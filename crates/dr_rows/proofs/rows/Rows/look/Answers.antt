@@ -1,12 +1,10 @@
 use Rattle.std.proofs.Common.{rules, sym, subst}
-use Rattle.dr_rows.specs.Growth.{RowsGrew}
-use Rattle.dr_rows.proofs.Vectors.{looked_written, IsInside-looked}
+use Rattle.dr_rows.{specs.Growth.RowsGrew, proofs.Vectors.{looked_written, IsInside-looked}}
 use Rattle.dr_rows.proofs.rows.Rows.look.Goals as goal
 
 pub invariant_of-self : goal.invariant_of-self
 invariant_of-self c = IsInside-looked c.self.inside c.args.self.now c.args.row c.args.column
-    c.cell-cell.result c.args.word
-    c.self.view_is c.self.invariant c.requires.row c.requires.column c.requires.other
+    c.cell-cell.result c.args.word c.self.view_is c.self.invariant c.requires.row c.requires.column c.requires.other
     c.cell-cell.ensures.place
 
 pub returns-clause-after : goal.returns-clause-after

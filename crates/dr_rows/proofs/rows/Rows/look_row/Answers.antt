@@ -1,8 +1,6 @@
 use Rattle.std.proofs.Common.{◌≡◌, ◌+◌, ◌*◌, ◌-◌, ◌<◌, ℕ, set, slice_index, sym, ap, subst, ◌∙◌, arith}
 use Rattle.std.proofs.lemmas.List.{length-set}
-use Rattle.dr_rows.specs.Along.{looked_along}
-use Rattle.dr_rows.specs.Growth.{RowsGrew}
-use Rattle.dr_rows.specs.Words.{IsWords, Words, looked, row_of, seen}
+use Rattle.dr_rows.specs.{Along.looked_along, Growth.RowsGrew, Words.{IsWords, Words, looked, row_of, seen}}
 use Rattle.dr_rows.proofs.Along.{IsInside-lent, by_columns, grown_on, look_grown, look_written, looked_more, row_beside, seen_behind}
 use Rattle.dr_rows.proofs.WordsLemmas.{IsWords-looked}
 use Rattle.dr_rows.proofs.rows.Rows.look_row.Goals as goal
@@ -25,8 +23,7 @@ loop-column-preserved c =
     (before.cell ∙ ap (λ (n : ℕ). column * n + i) members) in
     let so_far : c.args.from + (column - c.args.from) ≡ column = omega (arith, before.from) in
     let next : column + 1 - c.args.from ≡ column - c.args.from + 1 = omega (arith, before.from) in
-    let here : seen (by_columns w flat) i column ≡ seen w i column =
-    ap (λ (x : Words). seen x i column) before.after
+    let here : seen (by_columns w flat) i column ≡ seen w i column = ap (λ (x : Words). seen x i column) before.after
     ∙ seen_behind i table c.args.first w c.args.from (column - c.args.from) i column (omega (arith, so_far)) in
     record {
       from = omega (arith, before.from);
@@ -40,8 +37,7 @@ loop-column-preserved c =
           (subst (RowsGrew (by_columns w flat)) (sym written)
           (look_grown (by_columns w flat) i column v before.form c.requires.row low c.requires.other
           c.requires.unfrozen (omega (arith, here, c.requires.grown column before.from low))));
-      form = subst IsWords (sym written)
-          (IsWords-looked (by_columns w flat) i column v before.form c.requires.row);
+      form = subst IsWords (sym written) (IsWords-looked (by_columns w flat) i column v before.form c.requires.row);
     }
 
 pub invariant_of-self : goal.invariant_of-self

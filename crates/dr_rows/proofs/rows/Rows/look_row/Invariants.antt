@@ -1,8 +1,5 @@
 use Rattle.std.proofs.Common.{◌≡◌, ◌+◌, ◌-◌, ◌*◌, ◌≤◌}
-use Rattle.dr_rows.specs.Growth.{RowsGrew}
-use Rattle.dr_rows.specs.Along.{looked_along}
-use Rattle.dr_rows.proofs.Along.{IsFlat, by_columns}
-use Rattle.dr_rows.specs.Words.{IsWords}
+use Rattle.dr_rows.{specs.{Along.looked_along, Growth.RowsGrew, Words.IsWords}, proofs.Along.{IsFlat, by_columns}}
 use Rattle.dr_rows.proofs.rows.Rows.look_row.Given as goal
 
 abbrev pub invariant-loop-column : goal.invariant-loop-column
@@ -11,8 +8,7 @@ invariant-loop-column l = record {
   within : l.column ≤ l.columns;
   cell : l.cell ≡ l.column * l.members + l.row;
   long : IsFlat l.fn.self l.words;
-  after : by_columns l.fn.self l.words
-      ≡ looked_along l.row l.table l.first l.fn.self l.from (l.column - l.from);
+  after : by_columns l.fn.self l.words ≡ looked_along l.row l.table l.first l.fn.self l.from (l.column - l.from);
   grown : RowsGrew l.fn.self (by_columns l.fn.self l.words);
   form : IsWords (by_columns l.fn.self l.words);
 }

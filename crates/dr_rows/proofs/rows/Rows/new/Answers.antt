@@ -1,6 +1,6 @@
 use Rattle.std.proofs.Common.{◌*◌, ap, ◌∙◌, replicate, false}
-use Rattle.dr_rows.proofs.Vectors.{IsBlank, begun_blank, IsInside-begun, IsFresh-blank}
 use Rattle.dr_rows.specs.declared.rows.Rows.TheInside.{Inside}
+use Rattle.dr_rows.proofs.Vectors.{IsBlank, begun_blank, IsInside-begun, IsFresh-blank}
 use Rattle.dr_rows.proofs.rows.Rows.new.Goals as goal
 
 inside : goal.In_ok-vec-4 → Inside
@@ -22,14 +22,12 @@ blank c = record {
       ∙ ap (λ n. replicate (n * c.args.columns) 0) c.from.ensures;
   sent = c.in_ok-vec-3.ensures.items_if_clones_equal (λ y h. h)
       ∙ ap (λ n. replicate (n * c.args.columns) 0) c.from.ensures;
-  frozen = c.in_ok-vec-4.ensures.items_if_clones_equal (λ y h. h)
-      ∙ ap (λ n. replicate n false) c.from-2.ensures;
+  frozen = c.in_ok-vec-4.ensures.items_if_clones_equal (λ y h. h) ∙ ap (λ n. replicate n false) c.from-2.ensures;
 }
 
 pub invariant_of-result : goal.invariant_of-result
 unfolding inside
-invariant_of-result c = IsInside-begun (inside c)
-    (blank c) c.requires.members c.requires.columns c.requires.me
+invariant_of-result c = IsInside-begun (inside c) (blank c) c.requires.members c.requires.columns c.requires.me
 
 pub returns-clause-begun : goal.returns-clause-begun
 unfolding inside

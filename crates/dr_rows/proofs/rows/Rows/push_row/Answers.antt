@@ -1,13 +1,10 @@
 use Rattle.std.proofs.Common.{◌≡◌, ◌+◌, ◌*◌, ◌-◌, ◌<◌, ◌==◌, ℕ, not, true, false, length, slice_index, slice_set, sym, ap, ap₂, subst, ◌∙◌, arith}
-use Rattle.std.proofs.lemmas.Bool.Decides.{nat_tests}
-use Rattle.std.proofs.lemmas.List.{get_or_default, length-set}
-use Rattle.dr_rows.specs.Along.{Pushes, pushed_along, with_push}
-use Rattle.dr_rows.specs.Words.{IsWords, Words, changed, own}
+use Rattle.std.proofs.lemmas.{Bool.Decides.nat_tests, List.{get_or_default, length-set}}
+use Rattle.dr_rows.specs.{Along.{Pushes, pushed_along, with_push}, Words.{IsWords, Words, changed, own}}
 use Rattle.dr_rows.proofs.Along.{by_rows, push_is, push_is_none, push_test, push_written, pushed_more}
-use Rattle.dr_rows.proofs.Vectors.{own_long, own_read}
-use Rattle.dr_rows.proofs.WordsLemmas.{IsWords-pushed}
-use Rattle.dr_rows.proofs.rows.Rows.push_row.Goals as goal
+use Rattle.dr_rows.proofs.{Vectors.{own_long, own_read}, WordsLemmas.IsWords-pushed}
 use Rattle.dr_rows.proofs.rows.Rows.push_row.Goals.{then-word-sent, else-word-sent}
+use Rattle.dr_rows.proofs.rows.Rows.push_row.Goals as goal
 
 pub loop-column-preserved : goal.loop-column-preserved
 loop-column-preserved c =
@@ -32,9 +29,8 @@ loop-column-preserved c =
     (λ z. slice_index flat place) in
     let so_far : c.args.from + (column - c.args.from) ≡ column = omega (arith, before.from) in
     let next : column - c.args.from + 1 ≡ column + 1 - c.args.from = omega (arith, before.from) in
-    let more : with_push j c.args.first s column
-    ≡ pushed_along j c.args.first begin c.args.from (column + 1 - c.args.from) =
-    ap (λ (x : Pushes). with_push j c.args.first x column) before.after
+    let more : with_push j c.args.first s column ≡ pushed_along j c.args.first begin c.args.from
+    (column + 1 - c.args.from) = ap (λ (x : Pushes). with_push j c.args.first x column) before.after
     ∙ sym (pushed_more j c.args.first begin c.args.from (column - c.args.from) column so_far)
     ∙ ap (pushed_along j c.args.first begin c.args.from) next in
     elim c.if-word-sent.branch [

@@ -1,8 +1,6 @@
 use Rattle.std.proofs.Common.{ap, ◌∙◌, replicate, false, arith}
-use Rattle.dr_rows.specs.Inside.{rows_inside}
-use Rattle.dr_rows.specs.Words.{renewed}
+use Rattle.dr_rows.specs.{Inside.rows_inside, Words.renewed, declared.rows.Rows.TheInside.Inside}
 use Rattle.dr_rows.proofs.Vectors.{IsBlank, begun_blank, own_long, IsInside-begun, IsFresh-blank}
-use Rattle.dr_rows.specs.declared.rows.Rows.TheInside.{Inside}
 use Rattle.dr_rows.proofs.rows.Rows.renew.Goals as goal
 
 inside : goal.After-fill-4 → Inside
@@ -22,8 +20,7 @@ blank c = record {
 pub invariant_of-self : goal.invariant_of-self
 unfolding inside
 invariant_of-self c =
-    let form = c.self.invariant.form in
-    IsInside-begun (inside c) (blank c) form.few form.narrow form.present
+    let form = c.self.invariant.form in IsInside-begun (inside c) (blank c) form.few form.narrow form.present
 
 pub returns-clause-after : goal.returns-clause-after
 unfolding inside

@@ -1,11 +1,9 @@
 use Rattle.std.proofs.Common.{rules, sym, subst}
-use Rattle.dr_rows.specs.Growth.{RowsGrew}
-use Rattle.dr_rows.proofs.Vectors.{looked_written, own_place, present, IsInside-own}
+use Rattle.dr_rows.{specs.Growth.RowsGrew, proofs.Vectors.{looked_written, own_place, present, IsInside-own}}
 use Rattle.dr_rows.proofs.rows.Rows.set_own.Goals as goal
 
 pub invariant_of-self : goal.invariant_of-self
-invariant_of-self c = IsInside-own c.self.inside c.args.self.now c.args.column
-    c.cell-cell.result c.args.word
+invariant_of-self c = IsInside-own c.self.inside c.args.self.now c.args.column c.cell-cell.result c.args.word
     c.self.view_is c.self.invariant c.requires.column (own_place c.self.inside c.args.self.now c.args.column c.cell-cell.result c.self.view_is
     c.cell-cell.ensures.place)
 

@@ -1,4 +1,4 @@
-use Rattle.dr_age.proofs.LoggedMembers.{HasMadeRoom}
+use Rattle.dr_play.proofs.LoggedMembers.{HasMadeRoom}
 use Rattle.dr_sim.proofs.simulation.Simulation.make_room.Given as goal
 
 abbrev pub invariant-loop-m : goal.invariant-loop-m

@@ -1,5 +1,5 @@
 use Rattle.std.proofs.Common.{◌∙◌, sym, true≢false}
-use Rattle.dr_logged.proofs.Served.{places_both, places_same}
+use Rattle.dr_served.proofs.Served.{places_both, places_same}
 use Rattle.dr_sim.proofs.Turns.{no_rounds, rounds_end, rounds_go_on}
 use Rattle.dr_sim.proofs.simulation.Simulation.run_lockstep.Goals as goal
 

@@ -1,11 +1,9 @@
-use Rattle.std.proofs.Common.{List}
+use Rattle.std.{specs.Prelude.Option, proofs.Common.List}
 use Rattle.dr_log.specs.State.{LogState}
-use Rattle.dr_logged.specs.Served.{AreReady, HaveSamePlaces, HaveServed}
-use Rattle.dr_age.specs.Sound.{IsSound}
-use Rattle.dr_sim.specs.Sound.{all_left}
-use Rattle.dr_sim.proofs.Turns.{HasRounds}
+use Rattle.dr_served.specs.Served.{AreReady, HaveSamePlaces, HaveServed}
+use Rattle.dr_play.specs.Sound.{IsSound}
+use Rattle.dr_sim.{specs.Sound.all_left, proofs.Turns.HasRounds}
 use Rattle.dr_sim.proofs.simulation.Simulation.run_lockstep.Given as goal
-use Rattle.std.specs.Prelude.{Option}
 
 abbrev pub ghost-take_round : goal.ghost-take_round
 ghost-take_round g a = g.group

@@ -1,14 +1,9 @@
-use Rattle.std.proofs.Common.{rules, ◌≡◌, sym, ap, ◌∙◌, subst, ℕ, List}
-use Rattle.std.specs.Prelude.{Option}
-use Rattle.std.specs.Vec.{with_items}
+use Rattle.std.{specs.{Prelude.Option, Vec.with_items}, proofs.Common.{rules, ◌≡◌, sym, ap, ◌∙◌, subst, ℕ, List}}
 use Rattle.std.proofs.lemmas.List.{with_items_is}
-use Rattle.dr_age.specs.Sound.{IsSound}
-use Rattle.dr_logged.specs.Served.{AreReady, HaveServed}
-use Rattle.dr_program.specs.Program.{Program}
-use Rattle.dr_program.specs.Running.{Running}
-use Rattle.dr_sim.specs.Lists.{HaveSpares}
-use Rattle.dr_sim.specs.Sound.{program_over}
-use Rattle.dr_sim.proofs.Choices.{HasRunTold}
+use Rattle.dr_play.specs.Sound.{IsSound}
+use Rattle.dr_served.specs.Served.{AreReady, HaveServed}
+use Rattle.dr_program.specs.{Program.Program, Running.Running}
+use Rattle.dr_sim.{specs.{Lists.HaveSpares, Sound.program_over}, proofs.Choices.HasRunTold}
 use Rattle.dr_sim.proofs.simulation.Simulation.run_seeded.Goals as goal
 
 pub run_by_seed-requires-send-D : goal.run_by_seed-requires-send-D
@@ -35,9 +30,8 @@ run_by_seed-requires-send-D g c = λ ks within.
 pub returns-clause-run : goal.returns-clause-run
 returns-clause-run g c =
     let before : program_over c.as_mut_slice.result.now c.as_mut_slice-2.result.now c.self.inside.posts.letters
-    ≡ c.args.self.now =
-    (λ z. program_over (c.as_mut_slice.ensures.value z) (c.as_mut_slice-2.ensures.value z)
-    c.self.inside.posts.letters) ∙ c.self.view_is in
+    ≡ c.args.self.now = (λ z. program_over (c.as_mut_slice.ensures.value z)
+    (c.as_mut_slice-2.ensures.value z) c.self.inside.posts.letters) ∙ c.self.view_is in
     let members = with_items_is c.self.inside.members c.run_by_seed.new.members
     (c.run_by_seed.auto.members ∙ c.as_mut_slice.ensures.len) in
     let table = with_items_is c.self.inside.table c.run_by_seed.new.table
@@ -58,24 +52,19 @@ returns-clause-sound g c =
     subst (IsSound g.group) (sym (λ z. program_over (members z) (table z) c.run_by_seed.new.posts.letters)) c.run_by_seed.ensures.sound
 
 pub returns-clause-ready : goal.returns-clause-ready
-returns-clause-ready g c =
-    subst (AreReady c.run_by_seed.new.logs)
+returns-clause-ready g c = subst (AreReady c.run_by_seed.new.logs)
     (sym (with_items_is c.self.inside.members c.run_by_seed.new.members
-    (c.run_by_seed.auto.members ∙ c.as_mut_slice.ensures.len)))
-    c.run_by_seed.ensures.ready
+    (c.run_by_seed.auto.members ∙ c.as_mut_slice.ensures.len))) c.run_by_seed.ensures.ready
 
 pub returns-clause-served : goal.returns-clause-served
 returns-clause-served g c = λ bases served.
     subst (HaveServed g.D.Disk.told g.D.Disk.faults bases c.run_by_seed.new.logs)
     (sym (with_items_is c.self.inside.members c.run_by_seed.new.members
     (c.run_by_seed.auto.members ∙ c.as_mut_slice.ensures.len)))
-    (c.run_by_seed.ensures.served bases
-    (subst (HaveServed g.D.Disk.told g.D.Disk.faults bases c.args.logs.now)
+    (c.run_by_seed.ensures.served bases (subst (HaveServed g.D.Disk.told g.D.Disk.faults bases c.args.logs.now)
     (sym (c.as_mut_slice.ensures.value ∙ ap (λ (v : Program). v.members) c.self.view_is)) served))
 
 pub invariant_of-self : goal.invariant_of-self
-invariant_of-self g c =
-    subst (HaveSpares c.run_by_seed.new.posts)
+invariant_of-self g c = subst (HaveSpares c.run_by_seed.new.posts)
     (sym (with_items_is c.self.inside.members c.run_by_seed.new.members
-    (c.run_by_seed.auto.members ∙ c.as_mut_slice.ensures.len)))
-    c.run_by_seed.ensures.lists
+    (c.run_by_seed.auto.members ∙ c.as_mut_slice.ensures.len))) c.run_by_seed.ensures.lists

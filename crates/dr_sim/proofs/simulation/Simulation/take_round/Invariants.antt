@@ -1,9 +1,8 @@
-use Rattle.std.proofs.Common.{List}
+use Rattle.std.{specs.Prelude.Option, proofs.Common.List}
 use Rattle.dr_log.specs.State.{LogState}
-use Rattle.dr_logged.specs.Served.{AreReady, HaveSamePlaces, HaveServed}
+use Rattle.dr_served.specs.Served.{AreReady, HaveSamePlaces, HaveServed}
 use Rattle.dr_sim.proofs.Turns.{IsInRound}
 use Rattle.dr_sim.proofs.simulation.Simulation.take_round.Given as goal
-use Rattle.std.specs.Prelude.{Option}
 
 abbrev pub ghost-take_turn_of : goal.ghost-take_turn_of
 ghost-take_turn_of g a = g.group

@@ -1,17 +1,10 @@
-use Rattle.std.proofs.Common.{refl, sym, ap, ◌∙◌, subst, List}
-use Rattle.dr_sim.specs.Places.{HasServedAt, IsReadyAt}
-use Rattle.dr_program.specs.Program.{Program, has_ended}
+use Rattle.std.{specs.Prelude.Option, proofs.Common.{refl, sym, ap, ◌∙◌, subst, List}}
+use Rattle.dr_sim.{specs.{Places.{HasServedAt, IsReadyAt}, Sound.program_over}, proofs.Lists.{lists_on, turn_told}}
+use Rattle.dr_sim.proofs.{Places.same_place, Steps.{among_read, going_there, goes_there}, Turns.HasTurn}
+use Rattle.dr_program.specs.{Presence.{present_at, with_present}, Program.{Program, has_ended}, Running.Running}
 use Rattle.dr_program.proofs.Present.{present_kept, at_set}
-use Rattle.dr_program.specs.Running.{Running}
-use Rattle.dr_age.specs.Sound.{IsSound}
-use Rattle.dr_sim.proofs.Lists.{lists_on, turn_told}
-use Rattle.dr_sim.proofs.Places.{same_place}
-use Rattle.dr_sim.specs.Sound.{program_over}
-use Rattle.dr_sim.proofs.Turns.{HasTurn}
-use Rattle.dr_sim.proofs.Steps.{among_read, going_there, goes_there}
+use Rattle.dr_play.specs.Sound.{IsSound}
 use Rattle.dr_sim.proofs.simulation.Simulation.take_turn.Goals as goal
-use Rattle.dr_program.specs.Presence.{present_at, with_present}
-use Rattle.std.specs.Prelude.{Option}
 
 pub unreachable-requires : goal.unreachable-requires
 unreachable-requires g c =
@@ -47,8 +40,7 @@ returns-clause-took g c =
     subst (λ (rs : List (Option Running)). HasTurn g.W.Watcher.sees c.args.watcher.now c.take_turn.new.watcher g.group
     c.args.self.now c.args.m
     (program_over (with_present rs c.args.m c.take_turn.new.member) c.take_turn.new.table.items
-    c.take_turn.new.posts.letters))
-    (sym (ap (λ (v : Program). v.members) c.self.view_is))
+    c.take_turn.new.posts.letters)) (sym (ap (λ (v : Program). v.members) c.self.view_is))
     (c.take_turn.ensures.turn g.group c.args.self.now c.args.m among)
 
 pub returns-clause-ready : goal.returns-clause-ready
@@ -65,8 +57,7 @@ returns-clause-served g c = λ base served r there.
     at_set (HasServedAt g.D.Disk.told g.D.Disk.faults base c.take_turn.new.place) c.self.inside.members.items
     c.args.m c.take_turn.new.member r
     (going_there c.self.inside.members.items c.self.inside.table.items c.self.inside.posts.letters c.args.self.now c.args.m c.self.view_is
-    c.requires.1.1.1.1.0)
-    (c.take_turn.ensures.served base (served c.in-Some.member among.there)) there
+    c.requires.1.1.1.1.0) (c.take_turn.ensures.served base (served c.in-Some.member among.there)) there
 
 pub returns-clause-others : goal.returns-clause-others
 returns-clause-others g c = λ i other.

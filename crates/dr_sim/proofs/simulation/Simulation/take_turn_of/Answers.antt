@@ -1,8 +1,7 @@
 use Rattle.std.proofs.Common.{rules}
-use Rattle.dr_logged.proofs.Served.{places_on}
-use Rattle.dr_age.proofs.Sound.{as_many}
-use Rattle.dr_sim.proofs.Logs.{ready_on, served_on}
-use Rattle.dr_sim.proofs.Places.{ready_at, served_at}
+use Rattle.dr_served.proofs.Served.{places_on}
+use Rattle.dr_play.proofs.Sound.{as_many}
+use Rattle.dr_sim.proofs.{Logs.{ready_on, served_on}, Places.{ready_at, served_at}}
 use Rattle.dr_sim.proofs.simulation.Simulation.take_turn_of.Goals as goal
 
 pub take_turn-requires-send-D : goal.take_turn-requires-send-D

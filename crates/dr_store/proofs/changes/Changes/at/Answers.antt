@@ -1,12 +1,10 @@
-use Rattle.std.proofs.Common.{◌-◌, get_or, ap, sym, ◌∙◌, arith}
-use Rattle.std.specs.Prelude.{Some}
+use Rattle.std.{specs.Prelude.Some, proofs.Common.{◌-◌, get_or, ap, sym, ◌∙◌, arith}}
 use Rattle.dr_store.proofs.Givens.{given-none, given-counted}
 use Rattle.dr_store.proofs.changes.Changes.at.Goals as goal
 
 pub returns-then-count-eq0-clause-value : goal.returns-then-count-eq0-clause-value
-returns-then-count-eq0-clause-value c =
-    sym (given-none c.args.version c.args.self.now (λ k d low high. c.count_to-count.ensures.parted.1 k d
-    (omega (arith, c.if-count-eq0.true)) high))
+returns-then-count-eq0-clause-value c = sym (given-none c.args.version c.args.self.now
+    (λ k d low high. c.count_to-count.ensures.parted.1 k d (omega (arith, c.if-count-eq0.true)) high))
 
 pub returns-in-Some-clause-value : goal.returns-in-Some-clause-value
 returns-in-Some-clause-value c =

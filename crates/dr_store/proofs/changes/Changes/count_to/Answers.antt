@@ -1,5 +1,4 @@
-use Rattle.std.proofs.Common.{leb, rules, tests, subst, List, ◌≡◌, true, false}
-use Rattle.std.specs.List.Sorted.{IsPartitionPoint}
+use Rattle.std.{specs.List.Sorted.IsPartitionPoint, proofs.Common.{leb, rules, tests, subst, List, ◌≡◌, true, false}}
 use Rattle.std.proofs.lemmas.List.Sorted.{IsPartitionPoint-from_clause, IsPartitionedBy-leb}
 use Rattle.dr_store.specs.declared.changes.Change.{Change}
 use Rattle.dr_store.proofs.changes.Changes.count_to.Goals as goal

@@ -1,10 +1,8 @@
 use Rattle.std.proofs.Common.{ap, sym, subst, []}
 use Rattle.std.specs.FinMap as maps
 use Rattle.dr_entry.proofs.ListFacts.{by_bytes}
-use Rattle.dr_store.specs.Stock.{ChangesByKey, HasNothingLater, Stock, IsStoreOf}
-use Rattle.dr_store.specs.Tables.{KeyTable, listed}
-use Rattle.dr_store.proofs.Standing.{kept-new, stands-new}
-use Rattle.dr_store.proofs.Tables.{changes_none}
+use Rattle.dr_store.specs.{Stock.{ChangesByKey, HasNothingLater, Stock, IsStoreOf}, Tables.{KeyTable, listed}}
+use Rattle.dr_store.proofs.{Standing.{kept-new, stands-new}, Tables.changes_none}
 use Rattle.dr_store.proofs.store.Store.new.Goals as goal
 
 fresh : ChangesByKey → Stock
@@ -14,8 +12,7 @@ pub invariant_of-result : goal.invariant_of-result
 unfolding fresh
 invariant_of-result c = (
   ap (λ (es : KeyTable). maps.is_sorted by_bytes (listed es)) c.new.ensures.empty,
-  subst (λ m. HasNothingLater (fresh m)) (sym (changes_none c.new.result.entries c.new.ensures.empty))
-      kept-new,
+  subst (λ m. HasNothingLater (fresh m)) (sym (changes_none c.new.result.entries c.new.ensures.empty)) kept-new,
 )
 
 pub returns-clause-empty : goal.returns-clause-empty

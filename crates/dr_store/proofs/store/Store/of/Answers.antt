@@ -1,19 +1,11 @@
-use Rattle.std.proofs.Common.{◌++◌, ◌∷◌, [], take, ap, sym, subst, ◌∙◌, arith}
-use Rattle.std.proofs.lemmas.List.{take_more, length-take}
-use Rattle.dr_store.specs.Stock.{IsStoreOf}
-use Rattle.dr_store.proofs.Standing.{messages_few}
+use Rattle.std.proofs.{Common.{◌++◌, ◌∷◌, [], take, ap, sym, subst, ◌∙◌, arith}, lemmas.List.{take_more, length-take}}
+use Rattle.dr_store.{specs.Stock.IsStoreOf, proofs.Standing.messages_few}
 use Rattle.dr_store.proofs.store.Store.of.Goals as goal
 
 pub apply-requires : goal.apply-requires
 apply-requires c =
     let h = c.args.history.now in let i = c.loop-entry.entry-index in
-    omega (
-      arith,
-      c.loop-entry.invariant.0.version,
-      messages_few (take i h),
-      length-take i h,
-      c.loop-entry-test.true,
-    )
+    omega (arith, c.loop-entry.invariant.0.version, messages_few (take i h), length-take i h, c.loop-entry-test.true)
 
 pub loop-entry-preserved : goal.loop-entry-preserved
 loop-entry-preserved c =
@@ -21,6 +13,5 @@ loop-entry-preserved c =
     let front = take_more h i e c.loop-entry-test.true ∙ ap (λ x. take i h ++ x ∷ []) (sym c.entry-item.is) in (
       subst (IsStoreOf c.apply.new.self) (sym front)
           (c.in_ok-apply.ensures.stands (take i h) c.loop-entry.invariant.0),
-      c.in_ok-apply.ensures.oldest
-          ∙ c.loop-entry.invariant.1,
+      c.in_ok-apply.ensures.oldest ∙ c.loop-entry.invariant.1,
     )

@@ -1,7 +1,5 @@
-use Rattle.std.proofs.Common.{◌≡◌, true, arith}
-use Rattle.std.proofs.lemmas.Grind.{common_steps}
-use Rattle.dr_suspect.specs.Waits.{is_overdue}
-use Rattle.dr_suspect.proofs.Finds.{least_found, least_missing}
+use Rattle.std.proofs.{Common.{◌≡◌, true, arith}, lemmas.Grind.common_steps}
+use Rattle.dr_suspect.{specs.Waits.is_overdue, proofs.Finds.{least_found, least_missing}}
 use Rattle.dr_suspect.proofs.patience.Patience.overdue.Goals as goal
 
 pub returns-then-is_late-clause-value : goal.returns-then-is_late-clause-value

@@ -1,14 +1,11 @@
+use Rattle.std.{specs.List.list_all, proofs.lemmas.{Bool.cases_lt, Grind.common_steps}}
 use Rattle.std.proofs.Common.{◌≡◌, ◌⊎◌, inl, inr, sym, subst, ℕ, ◌<◌, ◌≤◌, ◌==◌, ◌&&◌, Bool, false, arith}
-use Rattle.std.proofs.lemmas.Bool.{cases_lt}
-use Rattle.std.proofs.lemmas.Grind.{common_steps}
-use Rattle.std.specs.List.{list_all}
 use Rattle.dr_entry.proofs.BoolFacts.{naming}
 use Rattle.dr_history.specs.Members.{has}
-use Rattle.dr_suspect.specs.Suspicion.{may_name, names, spreads}
-use Rattle.dr_suspect.specs.Wishes.{is_silent, may_wish}
+use Rattle.dr_suspect.specs.{Suspicion.{may_name, names, spreads}, Wishes.{is_silent, may_wish}}
 use Rattle.dr_suspect.proofs.Finds.{second_found, second_missing}
-use Rattle.dr_suspect.proofs.suspects.Suspects.next_spread.Goals as goal
 use Rattle.dr_suspect.proofs.suspects.Suspects.next_spread.Goals.{then-has+in_default, else-has}
+use Rattle.dr_suspect.proofs.suspects.Suspects.next_spread.Goals as goal
 
 pub loop-row-preserved : goal.loop-row-preserved
 loop-row-preserved c i j l = by (cases_lt i c.loop-row.row)
@@ -37,8 +34,7 @@ loop-row-preserved c i j l = by (cases_lt i c.loop-row.row)
       | else-has w ↦ grind (arith, common_steps)
     ]
 
-    by : (i < c.loop-row.row) ⊎ (c.loop-row.row ≤ i)
-        → spreads c.args.self.now wished c.args.rows.now i j ≡ false
+    by : (i < c.loop-row.row) ⊎ (c.loop-row.row ≤ i) → spreads c.args.self.now wished c.args.rows.now i j ≡ false
     by (inl before) = c.loop-row.invariant i j before
     by (inr late) = let here : i ≡ c.loop-row.row = omega (arith, l, late) in
         subst (λ k. spreads c.args.self.now wished c.args.rows.now k j ≡ false) (sym here) none

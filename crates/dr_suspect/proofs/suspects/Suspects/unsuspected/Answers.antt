@@ -1,6 +1,5 @@
 use Rattle.std.proofs.Common.{not}
-use Rattle.dr_history.specs.Members.{has}
-use Rattle.dr_history.proofs.Masks.{members_kept}
+use Rattle.dr_history.{specs.Members.has, proofs.Masks.members_kept}
 use Rattle.dr_suspect.proofs.suspects.Suspects.unsuspected.Goals as goal
 
 pub returns-clause-list : goal.returns-clause-list

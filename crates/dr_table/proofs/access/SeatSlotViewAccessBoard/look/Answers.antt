@@ -1,8 +1,7 @@
 use Rattle.std.proofs.Common.{◌<◌, sym, ◌∙◌, subst, arith}
 use Rattle.atomic_table.specs.Seated.{TableId}
 use Rattle.dr_program.specs.Running.{after_step}
-use Rattle.dr_table.specs.Sweeps.{HasComeBySweep}
-use Rattle.dr_table.proofs.Keeping.{find_seen, look_reached}
+use Rattle.dr_table.{specs.Sweeps.HasComeBySweep, proofs.Keeping.{find_seen, look_reached}}
 use Rattle.dr_table.proofs.Sweeps.{come_on, look_swept}
 use Rattle.dr_table.proofs.access.SeatSlotViewAccessBoard.look.Goals as goal
 

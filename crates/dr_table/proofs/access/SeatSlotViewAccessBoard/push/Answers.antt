@@ -1,9 +1,7 @@
 use Rattle.std.proofs.Common.{◌<◌, refl, sym, ◌∙◌, subst, arith}
 use Rattle.atomic_table.specs.Seated.{TableId}
 use Rattle.dr_program.specs.Running.{after_step}
-use Rattle.dr_table.specs.Deeds.{IsStore}
-use Rattle.dr_table.specs.Sweeps.{HasComeBySweep}
-use Rattle.dr_table.proofs.Keeping.{store_reached}
+use Rattle.dr_table.{specs.{Deeds.IsStore, Sweeps.HasComeBySweep}, proofs.Keeping.store_reached}
 use Rattle.dr_table.proofs.Sweeps.{come_on, push_finds, push_swept}
 use Rattle.dr_table.proofs.access.SeatSlotViewAccessBoard.push.Goals as goal
 

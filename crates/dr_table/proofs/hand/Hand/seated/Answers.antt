@@ -1,8 +1,6 @@
-use Rattle.std.proofs.Common.{◌≡◌, ◌++◌, [], ◌∷◌, length, refl, ap, ◌∙◌, arith}
-use Rattle.std.specs.Prelude.{Some}
+use Rattle.std.{specs.Prelude.Some, proofs.Common.{◌≡◌, ◌++◌, [], ◌∷◌, length, refl, ap, ◌∙◌, arith}}
 use Rattle.dr_program.specs.Presence.{present_at}
-use Rattle.dr_table.specs.Cards.{Cards}
-use Rattle.dr_table.specs.Steps.{idle}
+use Rattle.dr_table.specs.{Cards.Cards, Steps.idle}
 use Rattle.dr_entry.proofs.ListFacts.{last_one}
 use Rattle.dr_table.proofs.hand.Hand.seated.Goals as goal
 

@@ -1,15 +1,9 @@
-use Rattle.std.proofs.Common.{◌≡◌, ◌<◌, ◌++◌, List, drop, take, sym, ap, ◌∙◌, subst, arith}
-use Rattle.std.specs.Prelude.{Option}
-use Rattle.atomic_table.specs.Seated.{TableId}
-use Rattle.atomic_table.specs.Table.{Me}
-use Rattle.dr_program.specs.Running.{Running}
-use Rattle.dr_table.specs.Cards.{AreOf, AreReached, Cards, DealtTable, board_size}
-use Rattle.dr_table.specs.declared.rule.View.{View}
-use Rattle.dr_table.specs.Slots.{Slot}
-use Rattle.dr_table.specs.Steps.{IsReachedMember, idle}
-use Rattle.dr_table.proofs.Keeping.{idle_is}
+use Rattle.std.{specs.Prelude.Option, proofs.Common.{◌≡◌, ◌<◌, ◌++◌, List, drop, take, sym, ap, ◌∙◌, subst, arith}}
+use Rattle.atomic_table.specs.{Seated.TableId, Table.Me}
+use Rattle.dr_program.{specs.Running.Running, proofs.Present.{each_drop, each_take}}
+use Rattle.dr_table.specs.{Cards.{AreOf, AreReached, Cards, DealtTable, board_size}, Slots.Slot}
+use Rattle.dr_table.{specs.{Steps.{IsReachedMember, idle}, declared.rule.View.View}, proofs.Keeping.idle_is}
 use Rattle.dr_table.proofs.hand.Hand.split.Goals as goal
-use Rattle.dr_program.proofs.Present.{each_drop, each_take}
 
 pub cut_at-other-requires-clause-idle : goal.cut_at-other-requires-clause-idle
 cut_at-other-requires-clause-idle c = idle_is c.self.inside.seat.me _ c.self.invariant.known

@@ -1,14 +1,9 @@
 use Rattle.std.proofs.Common.{◌≡◌, ◌<◌, [], refl, sym, ap, ◌∙◌, subst, arith}
 use Rattle.atomic_table.specs.Seated.{TableId}
 use Rattle.dr_member.specs.Deeds.{table_size}
-use Rattle.dr_program.proofs.Fixed.{told}
-use Rattle.dr_program.specs.Running.{Running, after_step, next_deed}
-use Rattle.dr_table.specs.Cards.{DealtTable, Seated}
-use Rattle.dr_table.specs.Deeds.{IsStore}
-use Rattle.dr_table.specs.Steps.{IsAhead, IsReachedMember, alone}
-use Rattle.dr_table.proofs.Deeds.{act_within, after_told}
-use Rattle.dr_table.proofs.Keeping.{store_reached}
-use Rattle.dr_table.proofs.Members.{inside_after}
+use Rattle.dr_program.{specs.Running.{Running, after_step, next_deed}, proofs.Fixed.told}
+use Rattle.dr_table.specs.{Cards.{DealtTable, Seated}, Deeds.IsStore, Steps.{IsAhead, IsReachedMember, alone}}
+use Rattle.dr_table.proofs.{Deeds.{act_within, after_told}, Keeping.store_reached, Members.inside_after}
 use Rattle.dr_table.proofs.seated.SeatedMember.act.Goals as goal
 
 pub store_at-requires-clause-alone : goal.store_at-requires-clause-alone
@@ -19,8 +14,7 @@ pub store_at-requires-clause-word : goal.store_at-requires-clause-word
 store_at-requires-clause-word c =
     let next = ap (λ (w : Seated). next_deed w.member) c.self.view_is ∙ c.requires.deed in
     subst (λ (t : TableId). c.args.word < t.words)
-    (ap (λ (w : Seated). w.table.id) c.self.view_is ∙ ap (λ (t : DealtTable). t.id) c.requires.board)
-    (omega (
+    (ap (λ (w : Seated). w.table.id) c.self.view_is ∙ ap (λ (t : DealtTable). t.id) c.requires.board) (omega (
       arith,
       c.self.invariant.of,
       act_within c.self.inside.member c.args.word c.args.new c.self.invariant.reached next,

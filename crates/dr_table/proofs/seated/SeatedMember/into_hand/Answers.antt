@@ -1,7 +1,5 @@
-use Rattle.std.proofs.Common.{◌≡◌, ◌++◌, [], ◌∷◌, sym, ap, ◌∙◌, subst, arith}
-use Rattle.std.specs.Prelude.{Some}
-use Rattle.dr_table.specs.Cards.{AreOf, AreReached, IsAtEnd, Seated, board_size}
-use Rattle.dr_table.specs.Steps.{IsReachedMember, idle}
+use Rattle.std.{specs.Prelude.Some, proofs.Common.{◌≡◌, ◌++◌, [], ◌∷◌, sym, ap, ◌∙◌, subst, arith}}
+use Rattle.dr_table.specs.{Cards.{AreOf, AreReached, IsAtEnd, Seated, board_size}, Steps.{IsReachedMember, idle}}
 use Rattle.dr_table.proofs.Members.{known_at_end}
 use Rattle.dr_table.proofs.seated.SeatedMember.into_hand.Goals as goal
 use Rattle.dr_program.proofs.Present.{only_one}
@@ -15,9 +13,8 @@ invariant_of-result c =
       known = known_at_end c.self.inside c.self.invariant ended ∙ ap idle (sym items);
       reached = subst AreReached (sym items)
           (λ k r there. subst IsReachedMember (only_one m r k there).1 c.self.invariant.reached);
-      of = subst (AreOf c.self.inside.seat.table_id.words) (sym items)
-          (λ k r there. subst (λ q. board_size q ≡ c.self.inside.seat.table_id.words) (only_one m r k there).1
-          c.self.invariant.of);
+      of = subst (AreOf c.self.inside.seat.table_id.words) (sym items) (λ k r there. subst
+          (λ q. board_size q ≡ c.self.inside.seat.table_id.words) (only_one m r k there).1 c.self.invariant.of);
       words = c.self.invariant.words;
       room = omega (arith, c.self.invariant.room, c.push_reserved.ensures.capacity);
     }

@@ -1,7 +1,5 @@
 use Rattle.std.proofs.Common.{refl, subst}
-use Rattle.dr_table.specs.Cards.{Seated}
-use Rattle.dr_table.specs.Sweeps.{HasSwept}
-use Rattle.dr_table.proofs.Sweeps.{come_begins, inside_swept}
+use Rattle.dr_table.{specs.{Cards.Seated, Sweeps.HasSwept}, proofs.Sweeps.{come_begins, inside_swept}}
 use Rattle.dr_table.proofs.seated.SeatedMember.look_row.Goals as goal
 
 pub look_row-requires-clause-came : goal.look_row-requires-clause-came

@@ -1,19 +1,13 @@
+use Rattle.std.specs.{Prelude.{Vec, option_map}, declared.alloc.Global.Global}
 use Rattle.std.proofs.Common.{[], sym, ap, ◌∙◌, refl, subst, arith}
-use Rattle.std.specs.Prelude.{Vec, option_map}
-use Rattle.std.specs.declared.alloc.Global.{Global}
 use Rattle.dr_entry.specs.declared.entry.Entry.{Entry}
 use Rattle.dr_form.specs.Letters.{IsFitting}
-use Rattle.dr_member.specs.Deeds.{is_take}
-use Rattle.dr_program.proofs.Fixed.{told}
-use Rattle.dr_program.specs.Running.{Running, next_deed, settled, took_letter}
-use Rattle.dr_table.specs.Cards.{DealtTable, HasAskedForLetter, Seated}
-use Rattle.dr_table.specs.Steps.{IsReachedMember}
-use Rattle.dr_table.proofs.Deeds.{took_told}
-use Rattle.dr_table.proofs.Keeping.{take_reached}
-use Rattle.dr_table.proofs.Holding.{fits_list, taken_fits}
+use Rattle.dr_member.{specs.Deeds.is_take, proofs.Deeds.a_take}
+use Rattle.dr_program.{specs.Running.{Running, next_deed, settled, took_letter}, proofs.Fixed.told}
+use Rattle.dr_table.specs.{Cards.{DealtTable, HasAskedForLetter, Seated}, Steps.IsReachedMember}
+use Rattle.dr_table.proofs.{Deeds.took_told, Holding.{fits_list, taken_fits}, Keeping.take_reached}
 use Rattle.dr_table.proofs.Members.{inside_after}
 use Rattle.dr_table.proofs.seated.SeatedMember.take.Goals as goal
-use Rattle.dr_member.proofs.Deeds.{a_take}
 
 pub take_at-letter-requires-clause-alone : goal.take_at-letter-requires-clause-alone
 take_at-letter-requires-clause-alone c = c.self.invariant.known
@@ -52,13 +46,11 @@ invariant_of-self c =
     c.take_at-letter.ensures.taken ([], sym after) (ap (λ (q : Running). told q.replica) after ∙ took_told letter r)
     (subst IsReachedMember (sym after) (take_reached r letter
     (a_take (next_deed r) (ap (λ (w : Seated). is_take (next_deed w.member)) c.self.view_is ∙ c.requires.deed))
-    c.take_at-letter.ensures.may))
-    c.take_at-letter.ensures.table
+    c.take_at-letter.ensures.may)) c.take_at-letter.ensures.table
 
 pub returns-clause-asked : goal.returns-clause-asked
-returns-clause-asked c =
-    subst (λ (w : Seated). HasAskedForLetter w.member c.take_letter.new.member) c.self.view_is (
-      option_map (λ (l : Vec Entry Global). l.items) c.take_at-letter.result,
-      c.take_at-letter.ensures.may,
-      c.take_letter.ensures.after,
-    )
+returns-clause-asked c = subst (λ (w : Seated). HasAskedForLetter w.member c.take_letter.new.member) c.self.view_is (
+  option_map (λ (l : Vec Entry Global). l.items) c.take_at-letter.result,
+  c.take_at-letter.ensures.may,
+  c.take_letter.ensures.after,
+)

@@ -10,7 +10,6 @@ returns c =
     let began = c.in_ok-rows.ensures.begun ∙ ap (λ k. begun s.members k 0) c.columns.ensures in
     let set = c.set_own.ensures.after ∙ ap (λ (w : Words). with_own w c.args.column c.args.one) began in
     let both = c.look.ensures.after ∙ ap (λ (w : Words). looked w 1 c.args.column c.args.other) set in
-    subst (IsOfShape s) (sym both)
-    (pair_of_shape s c.args.column c.args.one c.args.other (omega (arith, c.requires.members))
-    (omega (arith, c.requires.members)) (omega (arith, c.requires.members, c.requires.window))
-    c.requires.column c.requires.one c.requires.other)
+    subst (IsOfShape s) (sym both) (pair_of_shape s c.args.column c.args.one c.args.other
+    (omega (arith, c.requires.members)) (omega (arith, c.requires.members))
+    (omega (arith, c.requires.members, c.requires.window)) c.requires.column c.requires.one c.requires.other)

@@ -1,6 +1,5 @@
+use Rattle.std.{specs.Prelude.is_some, proofs.lemmas.List.get_or_read_under}
 use Rattle.std.proofs.Common.{◌≡◌, ◌∙◌, refl, sym, rules, ℕ, ◌<◌, true, length, Option, None, Some}
-use Rattle.std.proofs.lemmas.List.{get_or_read_under}
-use Rattle.std.specs.Prelude.{is_some}
 use Rattle.dr_disk.specs.declared.memory_disk.MemoryDisk.{MemoryDisk}
 use Rattle.dr_log.specs.State.{LogState}
 use Rattle.dr_tests.proofs.opening.disks.has_prompt.Goals as goal

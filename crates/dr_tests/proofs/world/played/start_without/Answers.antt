@@ -13,12 +13,10 @@ returns c =
     let there = c.bits.result in
     let none : c.of.result ≡ [] = c.of.ensures ∙ c.new.ensures.items in
     let some : 0 < first = omega (arith, c.if-first-eq0.false) in
-    let within : (m : ℕ) → has there m ≡ true → m < c.args.script.now.members =
-    λ m here.
+    let within : (m : ℕ) → has there m ≡ true → m < c.args.script.now.members = λ m here.
     let both = sym (ap (λ mask. has mask m) c.bits.ensures ∙ c.without-there.ensures.members m) ∙ here in
     ltb-true m c.args.script.now.members (sym (c.all.ensures.members m) ∙ (and_parts _ _ both).0) in
-    let part : (m : ℕ) → has first m ≡ true → has there m ≡ true =
-    λ m here.
+    let part : (m : ℕ) → has first m ≡ true → has there m ≡ true = λ m here.
     let both = sym (ap (λ mask. has mask m) c.bits-first.ensures ∙ c.without.ensures.members m) ∙ here in
     ap (λ mask. has mask m) c.bits.ensures ∙ (and_parts _ _ both).0 in
     subst (λ (es : List Entry). IsGroup (group_of c.args.script.now

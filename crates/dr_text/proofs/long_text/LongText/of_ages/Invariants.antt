@@ -1,5 +1,4 @@
-use Rattle.std.proofs.Common.{◌≡◌, take}
-use Rattle.std.specs.List.{flat_map}
+use Rattle.std.{specs.List.flat_map, proofs.Common.{◌≡◌, take}}
 use Rattle.dr_text.specs.Report.{age_text}
 use Rattle.dr_text.proofs.long_text.LongText.of_ages.Given as goal
 

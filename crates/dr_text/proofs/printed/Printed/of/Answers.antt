@@ -5,18 +5,9 @@ use Rattle.dr_text.proofs.printed.Printed.of.Goals as goal
 pub loop-entry-preserved : goal.loop-entry-preserved
 loop-entry-preserved c =
     let ends = c.loop-entry.ends.items in
-    printed_more
-    c.args.entries.now
-    c.loop-entry.entry-index
-    c.entry-item.result
-    (string_bytes c.loop-entry.text)
-    ends
-    (string_bytes c.push_entry.new.out)
-    c.push-in-loop-entry.new.self.items
-    c.loop-entry-test.true
-    c.entry-item.is
-    c.loop-entry.invariant
-    c.in_ok-push_entry.ensures
+    printed_more c.args.entries.now c.loop-entry.entry-index c.entry-item.result (string_bytes c.loop-entry.text) ends
+    (string_bytes c.push_entry.new.out) c.push-in-loop-entry.new.self.items c.loop-entry-test.true c.entry-item.is
+    c.loop-entry.invariant c.in_ok-push_entry.ensures
     (c.in_ok-push-2.ensures.items ∙ ap (λ end. ends ++ end ∷ []) (ap length c.as_str.ensures.value))
 
 pub loop-entry-init : goal.loop-entry-init

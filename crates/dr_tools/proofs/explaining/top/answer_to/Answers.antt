@@ -1,7 +1,5 @@
-use Rattle.std.proofs.Common.{◌≡◌, ◌∙◌, ℕ, List, IfOk, Option, Some, string_bytes, subst, sym}
-use Rattle.std.specs.Prelude.{⊤}
-use Rattle.dr_intake.specs.declared.answer.Answer.{Answer}
-use Rattle.dr_intake.specs.Answer.{IsUnread, wordless}
+use Rattle.std.{specs.Prelude.{⊤}, proofs.Common.{◌≡◌, ◌∙◌, ℕ, List, IfOk, Option, Some, string_bytes, subst, sym}}
+use Rattle.dr_intake.specs.{Answer.{IsUnread, wordless}, declared.answer.Answer.Answer}
 use Rattle.dr_intake.proofs.Answers.{done_if, unread_if, unread_told}
 use Rattle.dr_script.specs.Reading.{reading_of}
 use Rattle.dr_tools.specs.Explained.{IsAnswerFor, explain_usage}
@@ -13,8 +11,7 @@ returns-in-Ok-clause-answer g c =
     done_if explain_usage (λ command bytes said. IsAnswerFor (reading_of bytes) said.0 said.1)
     (wordless c.args.words.now) (g.S.Source.left c.args.source.now)
     (g.S.Source.left c.read_for.new.source) (g.S.Source.faults c.args.source.now)
-    (g.S.Source.faults c.read_for.new.source) c.answer_for.result tt c.in-Ok.bytes.items asked
-    c.in-Ok.ensures.bytes
+    (g.S.Source.faults c.read_for.new.source) c.answer_for.result tt c.in-Ok.bytes.items asked c.in-Ok.ensures.bytes
     (subst (λ (l : List ℕ). IfOk c.answer_for.result
     (λ (a : Answer). IsAnswerFor (reading_of l) (string_bytes a.text) a.status))
     c.deref.ensures.value c.answer_for.ensures)

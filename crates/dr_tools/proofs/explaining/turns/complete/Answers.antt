@@ -1,6 +1,5 @@
 use Rattle.std.proofs.Common.{refl, sym}
-use Rattle.dr_restart.specs.Groups.{first_start_of}
-use Rattle.dr_restart.proofs.Groups.{all_present}
+use Rattle.dr_restart.{specs.Groups.first_start_of, proofs.Groups.all_present}
 use Rattle.dr_tools.proofs.Calm.{all_done}
 use Rattle.dr_tools.proofs.explaining.turns.complete.Goals as goal
 

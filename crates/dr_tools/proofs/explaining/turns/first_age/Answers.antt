@@ -1,6 +1,5 @@
-use Rattle.std.proofs.Common.{refl, subst, sym}
-use Rattle.std.proofs.lemmas.Result.{IfOk-weaker}
-use Rattle.dr_age.specs.Logged.{AreAmple, AreOpened}
+use Rattle.std.proofs.{Common.{refl, subst, sym}, lemmas.Result.IfOk-weaker}
+use Rattle.dr_play.specs.Logged.{AreAmple, AreOpened}
 use Rattle.dr_restart.specs.Groups.{group_of}
 use Rattle.dr_tools.proofs.Calm.{first_age}
 use Rattle.dr_tools.proofs.explaining.turns.first_age.Goals as goal

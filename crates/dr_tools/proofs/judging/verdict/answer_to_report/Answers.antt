@@ -1,7 +1,6 @@
 use Rattle.std.proofs.Common.{inl}
 use Rattle.dr_text.specs.declared.last.Last.TheVariants as lasts
-use Rattle.dr_tools.specs.Judged.{SaysOfReport}
-use Rattle.dr_tools.proofs.JudgeAnswers.{alone_if, flaw_if}
+use Rattle.dr_tools.{specs.Judged.SaysOfReport, proofs.JudgeAnswers.{alone_if, flaw_if}}
 use Rattle.dr_tools.proofs.judging.verdict.answer_to_report.Goals as goal
 
 pub returns-in-Some : goal.returns-in-Some

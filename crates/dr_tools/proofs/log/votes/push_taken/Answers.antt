@@ -1,5 +1,4 @@
-use Rattle.std.proofs.Common.{◌<◌, get_or, length, string_bytes, arith}
-use Rattle.std.proofs.lemmas.List.{get_or_default}
+use Rattle.std.proofs.{Common.{◌<◌, get_or, length, string_bytes, arith}, lemmas.List.get_or_default}
 use Rattle.dr_entry.proofs.ListFacts.{numbered_texts_more}
 use Rattle.dr_tools.specs.LogText.{taken_text}
 use Rattle.dr_tools.proofs.log.votes.push_taken.Goals as goal

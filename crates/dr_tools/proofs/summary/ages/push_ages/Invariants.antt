@@ -3,5 +3,4 @@ use Rattle.dr_tools.specs.Summary.{ages_text}
 use Rattle.dr_tools.proofs.summary.ages.push_ages.Given as goal
 
 abbrev pub invariant-loop-nth : goal.invariant-loop-nth
-invariant-loop-nth l =
-    string_bytes l.out ≡ string_bytes l.initial.out ++ ages_text l.script (take l.nth l.ages)
+invariant-loop-nth l = string_bytes l.out ≡ string_bytes l.initial.out ++ ages_text l.script (take l.nth l.ages)

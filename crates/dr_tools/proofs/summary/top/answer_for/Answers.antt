@@ -5,9 +5,8 @@ use Rattle.dr_tools.specs.SummaryAnswer.{IsScriptAnswer}
 use Rattle.dr_tools.proofs.summary.top.answer_for.Goals as goal
 
 pub returns-in-Ok-clause-answer : goal.returns-in-Ok-clause-answer
-returns-in-Ok-clause-answer g c =
-    script_if (IsScriptAnswer c.args.asked) c.answer_to_script.result (reading_of c.args.bytes.now) c.in-Ok.script
-    c.in-Ok.ensures.script c.answer_to_script.ensures.answer
+returns-in-Ok-clause-answer g c = script_if (IsScriptAnswer c.args.asked) c.answer_to_script.result
+    (reading_of c.args.bytes.now) c.in-Ok.script c.in-Ok.ensures.script c.answer_to_script.ensures.answer
 
 pub returns-in-Err-clause-answer : goal.returns-in-Err-clause-answer
 returns-in-Err-clause-answer g c =

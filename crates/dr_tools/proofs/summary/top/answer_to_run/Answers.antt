@@ -1,11 +1,7 @@
 use Rattle.std.proofs.Common.{◌≡◌, Some, rules, subst, sym}
-use Rattle.dr_ages.specs.declared.mode.Mode.TheVariants.{Sim}
-use Rattle.dr_ages.specs.declared.part.Part.{Part}
-use Rattle.dr_ages.specs.Ages.{HaveSomebodyPrompt}
-use Rattle.dr_outcome.specs.Outcome.{IsMemoryRun}
-use Rattle.dr_outcome.proofs.OutcomeKinds.{run_behind}
-use Rattle.dr_tools.specs.Summary.{AreAgreed}
-use Rattle.dr_tools.proofs.Agreed.{agreed_run}
+use Rattle.dr_ages.specs.{Ages.HaveSomebodyPrompt, declared.{mode.Mode.TheVariants.Sim, part.Part.Part}}
+use Rattle.dr_outcome.{specs.Outcome.IsMemoryRun, proofs.OutcomeKinds.run_behind}
+use Rattle.dr_tools.{specs.Summary.AreAgreed, proofs.Agreed.agreed_run}
 use Rattle.dr_tools.proofs.summary.top.answer_to_run.Goals as goal
 
 pub watch_with_progress-ages-requires-clause-some : goal.watch_with_progress-ages-requires-clause-some

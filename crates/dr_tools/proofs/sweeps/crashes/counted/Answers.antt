@@ -1,12 +1,8 @@
 use Rattle.std.proofs.Common.{◌∙◌, ap, length, rules, subst, sym}
-use Rattle.dr_ages.specs.Ages.{HaveSomebodyPrompt, all_with}
-use Rattle.dr_ages.specs.Watched.{AreWatched}
-use Rattle.dr_ages.specs.declared.mode.Mode.TheVariants.{Sim}
+use Rattle.dr_ages.specs.{Ages.{HaveSomebodyPrompt, all_with}, Watched.AreWatched, declared.mode.Mode.TheVariants.Sim}
 use Rattle.dr_ages.specs.declared.part.Part.{Part}
-use Rattle.dr_outcome.specs.Outcome.{IsMemoryRun}
-use Rattle.dr_tools.specs.Crashes.{Counted}
-use Rattle.dr_tools.proofs.Crashes.{Closes, Opens, Sees, points_uncounted, points_watched}
-use Rattle.dr_outcome.proofs.OutcomeKinds.{run_behind}
+use Rattle.dr_outcome.{specs.Outcome.IsMemoryRun, proofs.OutcomeKinds.run_behind}
+use Rattle.dr_tools.{specs.Crashes.Counted, proofs.Crashes.{Closes, Opens, Sees, points_uncounted, points_watched}}
 use Rattle.dr_tools.proofs.sweeps.crashes.counted.Goals as goal
 
 pub watch_in_memory-outcome-requires-clause-some : goal.watch_in_memory-outcome-requires-clause-some
@@ -36,5 +32,4 @@ returns-in-Some-clause-turns g c =
     let o = c.watch_in_memory-outcome.result in
     points_watched c.args.script.now c.with_late-part.result 0 o.ages c.in_ok-counter.counter
     c.watch_in_memory-outcome.new.watcher c.watch_in_memory-outcome.ensures.watched
-    ∙ ap (λ (k : Counted). length k.points) c.in_ok-counter.ensures
-    ∙ points_uncounted c.args.script.now c.args.member
+    ∙ ap (λ (k : Counted). length k.points) c.in_ok-counter.ensures ∙ points_uncounted c.args.script.now c.args.member

@@ -1,5 +1,4 @@
-use Rattle.std.proofs.Common.{[], All, arith, map, rules, subst, sym}
-use Rattle.std.specs.List.{range_with_len}
+use Rattle.std.{specs.List.range_with_len, proofs.Common.{[], All, arith, map, rules, subst, sym}}
 use Rattle.std.proofs.lemmas.List.Elements.{All-nil}
 use Rattle.dr_script.specs.Ranges.{HasFaultRanges}
 use Rattle.dr_entry.proofs.ListFacts.{numbered_texts_more}
@@ -22,8 +21,7 @@ push_crashes-requires-clause-before c = c.loop-behind.invariant.1
 pub loop-behind-preserved : goal.loop-behind-preserved
 loop-behind-preserved c = (
   numbered_texts_more (λ t. map (crash_at c.args.member c.args.script.now.turns t.0) (range_with_len 0 t.1))
-      c.args.points.now c.loop-behind.behind _ [] c.loop-behind.crashes.items
-      c.push_crashes.new.crashes.items (omega arith) (search rules) c.loop-behind.invariant.0
-      c.in_ok-push_crashes.ensures.crashes,
+      c.args.points.now c.loop-behind.behind _ [] c.loop-behind.crashes.items c.push_crashes.new.crashes.items
+      (omega arith) (search rules) c.loop-behind.invariant.0 c.in_ok-push_crashes.ensures.crashes,
   c.in_ok-push_crashes.ensures.ranges,
 )

@@ -1,5 +1,4 @@
-use Rattle.std.proofs.Common.{◌≡◌, ◌==◌, length, string_bytes, take}
-use Rattle.std.specs.List.{concat, slice_split}
+use Rattle.std.{specs.List.{concat, slice_split}, proofs.Common.{◌≡◌, ◌==◌, length, string_bytes, take}}
 use Rattle.dr_tools.proofs.sweeps.forms.without_blanks.Given as goal
 
 abbrev pub invariant-loop-word : goal.invariant-loop-word

@@ -4,7 +4,6 @@ use Rattle.dr_tools.specs.Outcomes.{member_ending}
 use Rattle.dr_tools.proofs.sweeps.outcomes.push_members.Goals as goal
 
 pub loop-number-preserved : goal.loop-number-preserved
-loop-number-preserved c =
-    numbered_texts_more (λ t. member_ending t.0 t.1) c.args.members.now c.loop-number.number
+loop-number-preserved c = numbered_texts_more (λ t. member_ending t.0 t.1) c.args.members.now c.loop-number.number
     c.index-members-number.result (string_bytes c.args.out.now) (string_bytes c.loop-number.out)
     (string_bytes c.push_member.new.out) (omega arith) c.index-members-number.is c.loop-number.invariant c.in_ok-push_member.ensures

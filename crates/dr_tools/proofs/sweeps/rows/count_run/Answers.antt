@@ -1,6 +1,5 @@
 use Rattle.std.proofs.Common.{◌≡◌, ◌∙◌, ◌+◌, None, Some, ap, bytes_eq, position, rules, set, sym}
-use Rattle.dr_tools.specs.declared.sweeps.rows.Row.{Row}
-use Rattle.dr_tools.proofs.Counting.{run_found, run_missing}
+use Rattle.dr_tools.{specs.declared.sweeps.rows.Row.Row, proofs.Counting.{run_found, run_missing}}
 use Rattle.dr_tools.proofs.sweeps.rows.count_run.Goals as goal
 
 pub returns-in-Some : goal.returns-in-Some

@@ -1,7 +1,5 @@
-use Rattle.std.proofs.Common.{◌∙◌, rules, subst, sym}
-use Rattle.std.proofs.lemmas.Result.{IfOk-weaker}
-use Rattle.dr_ages.specs.Ages.{HaveSomebodyPrompt}
-use Rattle.dr_ages.specs.declared.part.Part.{Part}
+use Rattle.std.proofs.{Common.{◌∙◌, rules, subst, sym}, lemmas.Result.IfOk-weaker}
+use Rattle.dr_ages.specs.{Ages.HaveSomebodyPrompt, declared.part.Part.Part}
 use Rattle.dr_tools.proofs.Simulating.{ends_by}
 use Rattle.dr_tools.proofs.sweeps.runs.ends_so.Goals as goal
 

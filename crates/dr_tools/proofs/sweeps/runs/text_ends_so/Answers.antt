@@ -1,5 +1,4 @@
-use Rattle.std.proofs.Common.{◌≡◌, Some, rules}
-use Rattle.std.proofs.lemmas.Result.{IfOk-weaker}
+use Rattle.std.proofs.{Common.{◌≡◌, Some, rules}, lemmas.Result.IfOk-weaker}
 use Rattle.dr_intake.specs.Reading.{refusal_in}
 use Rattle.dr_script.specs.Reading.{Reads, reading_of}
 use Rattle.dr_tools.proofs.Simulating.{reads_so, refused_so}
@@ -8,9 +7,8 @@ use Rattle.dr_tools.proofs.sweeps.runs.text_ends_so.Goals as goal
 pub returns-in-Ok : goal.returns-in-Ok
 returns-in-Ok g c =
     let is : reading_of c.args.text.now ≡ Reads c.in-Ok.script = search rules in
-    IfOk-weaker c.read_ends_so.result _ _
-    (λ shows ends. reads_so (reading_of c.args.text.now) c.in-Ok.script c.args.late c.args.wanted.now shows is ends)
-    c.read_ends_so.ensures
+    IfOk-weaker c.read_ends_so.result _ _ (λ shows ends. reads_so
+    (reading_of c.args.text.now) c.in-Ok.script c.args.late c.args.wanted.now shows is ends) c.read_ends_so.ensures
 
 pub returns-in-Err-Some : goal.returns-in-Err-Some
 returns-in-Err-Some g c =

@@ -1,10 +1,7 @@
-use Rattle.std.proofs.Common.{◌≡◌, arith, false, inl, inr, rules, string_bytes, subst, true}
-use Rattle.std.proofs.lemmas.Bool.{cases_lt}
+use Rattle.std.proofs.{Common.{◌≡◌, arith, false, inl, inr, rules, string_bytes, subst, true}, lemmas.Bool.cases_lt}
 use Rattle.dr_json.specs.Json.{script_json}
 use Rattle.dr_script.specs.declared.script.Script.{Script}
-use Rattle.dr_tools.specs.Outcomes.{TextEndsSo}
-use Rattle.dr_tools.specs.Shrinking.{IsSmaller}
-use Rattle.dr_tools.specs.Variants.{variant}
+use Rattle.dr_tools.specs.{Outcomes.TextEndsSo, Shrinking.IsSmaller, Variants.variant}
 use Rattle.dr_tools.proofs.sweeps.shrinking.shrunk.Goals as goal
 
 pub loop-number-init : goal.loop-number-init
@@ -41,6 +38,5 @@ returns-then-ends_so g c =
     }
 
 pub returns : goal.returns
-returns g c n below =
-    c.loop-number.invariant n
+returns g c n below = c.loop-number.invariant n
     (omega (arith, below, c.loop-number-test.false, c.loop-number.auto.number-end, c.count-number-end.ensures))

@@ -1,7 +1,6 @@
 use Rattle.std.proofs.Common.{ℕ, ◌<◌, false}
 use Rattle.dr_json.specs.Json.{script_json}
-use Rattle.dr_tools.specs.Outcomes.{TextEndsSo}
-use Rattle.dr_tools.specs.Variants.{variant}
+use Rattle.dr_tools.specs.{Outcomes.TextEndsSo, Variants.variant}
 use Rattle.dr_tools.proofs.sweeps.shrinking.shrunk.Given as goal
 
 abbrev pub invariant-loop-number : goal.invariant-loop-number

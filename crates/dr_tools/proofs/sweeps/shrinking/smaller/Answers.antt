@@ -1,8 +1,7 @@
 use Rattle.std.proofs.Common.{sym, subst, true}
 use Rattle.dr_json.specs.Json.{script_json}
 use Rattle.dr_script.specs.declared.script.Script.{Script}
-use Rattle.dr_tools.specs.Outcomes.{TextEndsSo}
-use Rattle.dr_tools.proofs.Whole.{all_parts_kept, smaller_if}
+use Rattle.dr_tools.{specs.Outcomes.TextEndsSo, proofs.Whole.{all_parts_kept, smaller_if}}
 use Rattle.dr_tools.proofs.sweeps.shrinking.smaller.Goals as goal
 
 pub fewest_parts-requires-after_bounds : goal.fewest_parts-requires-after_bounds

@@ -1,8 +1,6 @@
 use Rattle.std.proofs.Common.{Bool, List, subst}
 use Rattle.dr_json.specs.Json.{script_json}
-use Rattle.dr_tools.specs.Outcomes.{TextEndsSo}
-use Rattle.dr_tools.specs.Parts.{kept_parts}
-use Rattle.dr_tools.specs.Shrinking.{EndsSoWith}
+use Rattle.dr_tools.specs.{Outcomes.TextEndsSo, Parts.kept_parts, Shrinking.EndsSoWith}
 use Rattle.dr_tools.proofs.sweeps.shrinking.without_piece.Goals as goal
 
 pub returns-then-ends_so : goal.returns-then-ends_so

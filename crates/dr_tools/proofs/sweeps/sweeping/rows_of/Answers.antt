@@ -1,12 +1,8 @@
-use Rattle.std.proofs.Common.{◌≡◌, ◌+◌, ◌≤◌, ◌∙◌, All, ap, arith, sym, subst}
-use Rattle.std.proofs.lemmas.List.Elements.{All-nil}
+use Rattle.std.proofs.{Common.{◌≡◌, ◌+◌, ◌≤◌, ◌∙◌, All, ap, arith, sym, subst}, lemmas.List.Elements.All-nil}
 use Rattle.dr_ages.specs.Ages.{HaveSomebodyPrompt, all_with}
 use Rattle.dr_script.specs.declared.script.Script.{Script}
-use Rattle.dr_tools.specs.declared.sweeps.rows.Row.{Row}
-use Rattle.dr_tools.specs.Outcomes.{ComesTo}
-use Rattle.dr_tools.specs.Rows.{IsTally, with_run}
-use Rattle.dr_tools.specs.Variants.{first_variant, variant, variants_in}
-use Rattle.dr_tools.proofs.Counting.{counts_within, no_rows, tally_more}
+use Rattle.dr_tools.specs.{Outcomes.ComesTo, Rows.{IsTally, with_run}, Variants.{first_variant, variant, variants_in}}
+use Rattle.dr_tools.{specs.declared.sweeps.rows.Row.Row, proofs.Counting.{counts_within, no_rows, tally_more}}
 use Rattle.dr_tools.proofs.Variants.{variant_prompt}
 use Rattle.dr_tools.proofs.sweeps.sweeping.rows_of.Goals as goal
 

@@ -5,9 +5,8 @@ use Rattle.dr_tools.specs.SweepAnswer.{IsDone}
 use Rattle.dr_tools.proofs.sweeps.top.answer_for.Goals as goal
 
 pub returns-in-Ok : goal.returns-in-Ok
-returns-in-Ok g c =
-    script_if (IsDone c.args.task.now) c.answer_to_script.result (reading_of c.args.bytes.now) c.in-Ok.script
-    c.in-Ok.ensures.script c.answer_to_script.ensures
+returns-in-Ok g c = script_if (IsDone c.args.task.now) c.answer_to_script.result
+    (reading_of c.args.bytes.now) c.in-Ok.script c.in-Ok.ensures.script c.answer_to_script.ensures
 
 pub returns-in-Err : goal.returns-in-Err
 returns-in-Err g c =

@@ -1,28 +1,24 @@
 use Rattle.std.proofs.Common.{◌≡◌, ◌∙◌, ℕ, List, IfOk, IfSome, Option, Some, map, string_bytes, subst, sym}
-use Rattle.dr_intake.specs.declared.answer.Answer.{Answer}
-use Rattle.dr_intake.specs.Answer.{IsUnread}
+use Rattle.dr_intake.specs.{Answer.IsUnread, declared.answer.Answer.Answer}
 use Rattle.dr_intake.proofs.Answers.{done_if, unread_if, unread_told}
 use Rattle.dr_script.specs.Reading.{reading_of}
+use Rattle.dr_tools.specs.{SweepAnswer.{IsSaidFor, sweep_usage}, SweepWords.{AreFit, task_in}}
 use Rattle.dr_tools.specs.declared.sweeps.words.Task.{Task}
-use Rattle.dr_tools.specs.SweepAnswer.{IsSaidFor, sweep_usage}
-use Rattle.dr_tools.specs.SweepWords.{AreFit, task_in}
 use Rattle.dr_tools.proofs.sweeps.top.answer_to.Goals as goal
 
 pub answer_for-requires-clause-fit : goal.answer_for-requires-clause-fit
-answer_for-requires-clause-fit g c κs h =
-    subst (λ (t : Option Task). IfSome t (λ (task : Task). AreFit task.runs)) c.in-Ok.ensures.asked
-    c.in_ok-task.ensures.fit
+answer_for-requires-clause-fit g c κs h = subst (λ (t : Option Task). IfSome t
+    (λ (task : Task). AreFit task.runs)) c.in-Ok.ensures.asked c.in_ok-task.ensures.fit
 
 pub returns-in-Ok-clause-answer : goal.returns-in-Ok-clause-answer
 returns-in-Ok-clause-answer g c =
     let asked : task_in (map string_bytes c.args.words.now) ≡ Some c.in-Ok.task =
     sym c.in_ok-task.ensures.task ∙ c.in-Ok.ensures.asked in
-    done_if sweep_usage (λ task bytes said. IsSaidFor task (reading_of bytes) said)
-    (task_in (map string_bytes c.args.words.now)) (g.S.Source.left c.args.source.now)
-    (g.S.Source.left c.read_for.new.source) (g.S.Source.faults c.args.source.now)
+    done_if sweep_usage
+    (λ task bytes said. IsSaidFor task (reading_of bytes) said) (task_in (map string_bytes c.args.words.now))
+    (g.S.Source.left c.args.source.now) (g.S.Source.left c.read_for.new.source) (g.S.Source.faults c.args.source.now)
     (g.S.Source.faults c.read_for.new.source) c.answer_for.result c.in-Ok.task c.in-Ok.bytes.items asked
-    c.in-Ok.ensures.bytes
-    (subst (λ (l : List ℕ). IfOk c.answer_for.result
+    c.in-Ok.ensures.bytes (subst (λ (l : List ℕ). IfOk c.answer_for.result
     (λ (a : Answer). IsSaidFor c.in-Ok.task (reading_of l) (string_bytes a.text, a.status)))
     c.deref.ensures.value c.answer_for.ensures)
 

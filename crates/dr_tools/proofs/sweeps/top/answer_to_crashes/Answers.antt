@@ -1,13 +1,11 @@
 use Rattle.std.proofs.Common.{IfOk, List, ap, arith, length, string_bytes, subst}
 use Rattle.dr_script.specs.declared.script.Fault.{Fault}
-use Rattle.dr_tools.specs.declared.sweeps.variants.Variants.TheVariants.{Crashes}
-use Rattle.dr_tools.specs.SweepAnswer.{IsSaidOfVariants}
+use Rattle.dr_tools.specs.{SweepAnswer.IsSaidOfVariants, declared.sweeps.variants.Variants.TheVariants.Crashes}
 use Rattle.dr_tools.proofs.SweepAnswers.{crashes_said}
 use Rattle.dr_tools.proofs.sweeps.top.answer_to_crashes.Goals as goal
 
 pub returns : goal.returns
-returns g c =
-    crashes_said c.answer_to_variants.result c.args.member c.args.task.now c.args.script.now
+returns g c = crashes_said c.answer_to_variants.result c.args.member c.args.task.now c.args.script.now
     c.in_ok-crashes.crashes.items (omega (arith, c.if-member-script.false))
     (omega (arith, c.if-as_slice-ge-MAX_FAULTS.false, ap length c.as_slice.ensures)) c.in_ok-crashes.ensures.crashes
     (subst (λ (faults : List Fault). IfOk c.answer_to_variants.result

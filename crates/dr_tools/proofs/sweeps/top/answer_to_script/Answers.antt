@@ -1,7 +1,5 @@
-use Rattle.std.proofs.Common.{inl, inr, subst}
-use Rattle.std.proofs.lemmas.Result.{IfOk-weaker}
-use Rattle.dr_ages.specs.Ages.{HaveSomebodyPrompt}
-use Rattle.dr_ages.specs.declared.part.Part.{Part}
+use Rattle.std.proofs.{Common.{inl, inr, subst}, lemmas.Result.IfOk-weaker}
+use Rattle.dr_ages.specs.{Ages.HaveSomebodyPrompt, declared.part.Part.Part}
 use Rattle.dr_outcome.specs.Outcome.{AreAllLate}
 use Rattle.dr_tools.proofs.sweeps.top.answer_to_script.Goals as goal
 

@@ -3,12 +3,8 @@ use Rattle.dr_tools.specs.SweepAnswer.{IsSaidOfWanted}
 use Rattle.dr_tools.proofs.sweeps.top.answer_to_variants.Goals as goal
 
 pub returns-in-Some : goal.returns-in-Some
-returns-in-Some g c =
-    subst (λ (wanted : Option (List ℕ)). IfOk c.shrink.result
+returns-in-Some g c = subst (λ (wanted : Option (List ℕ)). IfOk c.shrink.result
     (λ a. IsSaidOfWanted wanted c.args.variants.now c.args.task.now.late c.args.script.now
-    (string_bytes a.text, a.status)))
-    (sym c.in-Some.is)
-    (subst (λ (line : List ℕ). IfOk c.shrink.result
+    (string_bytes a.text, a.status))) (sym c.in-Some.is) (subst (λ (line : List ℕ). IfOk c.shrink.result
     (λ a. IsSaidOfWanted (Some line) c.args.variants.now c.args.task.now.late c.args.script.now
-    (string_bytes a.text, a.status)))
-    c.as_str.ensures c.shrink.ensures)
+    (string_bytes a.text, a.status))) c.as_str.ensures c.shrink.ensures)

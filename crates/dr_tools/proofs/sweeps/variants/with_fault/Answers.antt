@@ -1,6 +1,5 @@
 use Rattle.std.proofs.Common.{◌≡◌, ◌∙◌, ◌++◌, ◌∷◌, [], List, ap, refl, rules}
-use Rattle.dr_script.specs.declared.script.Fault.{Fault}
-use Rattle.dr_script.specs.declared.script.Script.{Script}
+use Rattle.dr_script.specs.declared.script.{Fault.Fault, Script.Script}
 use Rattle.dr_tools.proofs.Variants.{whole_copy}
 use Rattle.dr_tools.proofs.sweeps.variants.with_fault.Goals as goal
 

@@ -1,8 +1,6 @@
-use Rattle.std.proofs.Common.{ℕ, ◌++◌, subst}
-use Rattle.std.specs.Prelude.{codes}
+use Rattle.std.{specs.Prelude.{codes, Some}, proofs.Common.{ℕ, ◌++◌, subst}}
 use Rattle.dr_text.specs.Report.{last_text}
 use Rattle.dr_tools.specs.Trace.{Wrote, picture_ending}
-use Rattle.std.specs.Prelude.{Some}
 use Rattle.dr_seeing.proofs.Traces.{hung}
 use Rattle.dr_tools.proofs.tracing.top.hang.Goals as goal
 

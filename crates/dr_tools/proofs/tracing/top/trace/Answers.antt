@@ -4,10 +4,8 @@ use Rattle.dr_text.specs.declared.last.Last.TheVariants as lasts
 use Rattle.dr_text.specs.Report.{last_text}
 use Rattle.dr_intake.specs.declared.call.Unread.TheVariants as reasons
 use Rattle.dr_intake.specs.Answer.{done}
-use Rattle.dr_tools.specs.Trace.{IsTracedFor, trace_usage}
-use Rattle.dr_tools.specs.TraceWords.{asked_by}
-use Rattle.dr_tools.proofs.Traces.{unread_traced}
-use Rattle.dr_tools.proofs.TraceStatuses.{traced_known, wrote_known}
+use Rattle.dr_tools.specs.{Trace.{IsTracedFor, trace_usage}, TraceWords.asked_by}
+use Rattle.dr_tools.proofs.{TraceStatuses.{traced_known, wrote_known}, Traces.unread_traced}
 use Rattle.dr_tools.proofs.tracing.top.trace.Goals as goal
 
 pub returns-in-Ok-clause-told : goal.returns-in-Ok-clause-told

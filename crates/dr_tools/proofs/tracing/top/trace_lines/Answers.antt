@@ -1,6 +1,5 @@
 use Rattle.std.proofs.Common.{sym, subst}
-use Rattle.dr_ages.specs.declared.mode.Mode.TheVariants.{Sim}
-use Rattle.dr_ages.specs.Watched.{AreWatched}
+use Rattle.dr_ages.specs.{Watched.AreWatched, declared.mode.Mode.TheVariants.Sim}
 use Rattle.dr_seeing.specs.Output.{Written}
 use Rattle.dr_tools.proofs.Traces.{Closes, Opens, Sees, lines_wrote}
 use Rattle.dr_tools.proofs.tracing.top.trace_lines.Goals as goal
@@ -9,9 +8,7 @@ pub returns : goal.returns
 returns g c = λ held fell told.
     let outcome = c.watch_in_memory-outcome.result in
     lines_wrote c.args.script.now c.args.part.now outcome.ages outcome.stop outcome.last held (g.K.Sink.held
-    c.end.result.sink) fell
-    (g.K.Sink.faults c.end.result.sink) c.end.result.status c.args.lines c.lines.inside.output
+    c.end.result.sink) fell (g.K.Sink.faults c.end.result.sink) c.end.result.status c.args.lines c.lines.inside.output
     c.watch_in_memory-outcome.ensures.ran
     (subst (λ (w : Written). AreWatched Opens Sees Closes Sim c.args.script.now c.args.part.now 0 outcome.ages c.args.lines w)
-    (sym c.lines.view_is) c.watch_in_memory-outcome.ensures.watched)
-    told (c.end.ensures.wrote held fell)
+    (sym c.lines.view_is) c.watch_in_memory-outcome.ensures.watched) told (c.end.ensures.wrote held fell)

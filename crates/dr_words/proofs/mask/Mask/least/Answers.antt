@@ -1,6 +1,5 @@
 use Rattle.std.proofs.Common.{arith, sym}
-use Rattle.dr_history.proofs.Bits.{has_zero}
-use Rattle.dr_history.proofs.Ranks.{first_member, no_first}
+use Rattle.dr_history.proofs.{Bits.has_zero, Ranks.{first_member, no_first}}
 use Rattle.dr_words.proofs.Ranks.{least_member}
 use Rattle.dr_words.proofs.mask.Mask.least.Goals as goal
 

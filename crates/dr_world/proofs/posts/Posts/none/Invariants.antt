@@ -1,5 +1,4 @@
-use Rattle.std.proofs.Common.{◌≡◌, replicate}
-use Rattle.std.specs.Prelude.{None}
+use Rattle.std.{specs.Prelude.None, proofs.Common.{◌≡◌, replicate}}
 use Rattle.dr_world.specs.InsidePosts.{letters_in}
 use Rattle.dr_world.proofs.posts.Posts.none.Given as goal
 

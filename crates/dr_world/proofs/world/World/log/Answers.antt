@@ -1,5 +1,4 @@
-use Rattle.std.proofs.Common.{sym, ap, ◌∙◌, length, arith}
-use Rattle.std.proofs.lemmas.List.{length-take-le}
+use Rattle.std.proofs.{Common.{sym, ap, ◌∙◌, length, arith}, lemmas.List.length-take-le}
 use Rattle.dr_world.proofs.world.World.log.Goals as goal
 
 pub slice_bounds-result-end : goal.slice_bounds-result-end

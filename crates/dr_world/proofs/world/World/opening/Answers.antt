@@ -1,18 +1,13 @@
 use Rattle.std.proofs.Common.{◌≡◌, ◌∙◌, sym, ap, arith, length, ◌+◌}
-use Rattle.dr_history.specs.Members.{members_of}
-use Rattle.dr_history.specs.Order.{first_entries}
-use Rattle.dr_machine.specs.Group.{banks, late_members}
+use Rattle.dr_history.specs.{Members.members_of, Order.first_entries}
+use Rattle.dr_machine.specs.{Group.{banks, late_members}, World.opening_world}
 use Rattle.dr_words.specs.Layout.{words_of}
 use Rattle.dr_program.specs.Presence.{present_at}
 use Rattle.dr_restart.specs.Groups.{group_of}
-use Rattle.dr_machine.specs.World.{opening_world}
-use Rattle.dr_world.specs.Held.{IsHeld, its_world}
-use Rattle.dr_world.specs.Inside.{held_of}
-use Rattle.dr_world.proofs.Beginning.{opened}
+use Rattle.dr_world.{specs.{Held.{IsHeld, its_world}, Inside.held_of}, proofs.Beginning.opened}
 use Rattle.dr_world.proofs.world.World.opening.Goals as goal
 
-all_banks : (c : goal.In_ok-vec)
-    → c.shape_of.result.banks ≡ banks (group_of c.args.script.now c.args.start.now)
+all_banks : (c : goal.In_ok-vec) → c.shape_of.result.banks ≡ banks (group_of c.args.script.now c.args.start.now)
 all_banks c = c.shape_of.ensures.banks
     ∙ ap (λ n. n + length (members_of (late_members (group_of c.args.script.now c.args.start.now))))
     (sym c.requires.ranges.lists)

@@ -1,21 +1,14 @@
-use Rattle.std.proofs.Common.{◌≡◌, refl, sym, ap, ◌∙◌, subst, ℕ, inl, List, length, arith}
-use Rattle.std.specs.Vec.{with_items}
+use Rattle.std.{specs.Vec.with_items, proofs.Common.{◌≡◌, refl, sym, ap, ◌∙◌, subst, ℕ, inl, List, length, arith}}
 use Rattle.std.proofs.lemmas.List.{with_items_is}
-use Rattle.dr_machine.specs.Acts.{Guard}
-use Rattle.dr_machine.specs.Events.{step_of}
-use Rattle.dr_program.specs.Presence.{with_present}
-use Rattle.dr_program.specs.Reading.{letters_of}
-use Rattle.dr_program.specs.Replica.{me}
-use Rattle.dr_program.specs.Steps.{stored}
+use Rattle.dr_machine.specs.{Acts.Guard, Events.step_of}
+use Rattle.dr_program.specs.{Presence.with_present, Reading.letters_of, Replica.me, Steps.stored}
 use Rattle.dr_program.proofs.Replicas.{place_at}
 use Rattle.dr_refine.proofs.Steps.{stored_length}
-use Rattle.dr_world.specs.Held.{Held, its_group, its_world}
-use Rattle.dr_world.specs.Inside.{held_of}
-use Rattle.dr_world.specs.Posts.{HasLists}
+use Rattle.dr_world.specs.{Held.{Held, its_group, its_world}, Inside.held_of, Posts.HasLists}
 use Rattle.dr_world.specs.Steps.{IsReadyFor, may_come, stepped_with}
 use Rattle.dr_world.proofs.Taking.{MayHappen, Took, happens_ready, holding, may_stand, may_still, nobody, refused, refused_event, took}
-use Rattle.dr_world.proofs.world.World.step.Goals as goal
 use Rattle.dr_world.proofs.world.World.step.Goals.{then-m-len-via-then-m-len, then-m-len-via-else-m-len+then-not-may_come}
+use Rattle.dr_world.proofs.world.World.step.Goals as goal
 
 -- an event that is refused can't come
 cannot : (c : goal.Joined-then-m-len)
@@ -41,8 +34,7 @@ pub returns-then-m-len-clause-done : goal.returns-then-m-len-clause-done
 returns-then-m-len-clause-done c = (
   λ done. absurd (cc),
   λ can. absurd
-      (subst (λ (v : Held). ¬ Guard (its_group v) (its_world v) c.args.event.now) c.self.view_is
-      (cannot c) can),
+      (subst (λ (v : Held). ¬ Guard (its_group v) (its_world v) c.args.event.now) c.self.view_is (cannot c) can),
 )
 
 pub unreachable-requires : goal.unreachable-requires
@@ -81,16 +73,14 @@ took_now c =
     (c.letter-letter.ensures ∙ ap (letters_of c.self.inside.posts.letters) c.member-number.ensures)
     (sym c.may_come.ensures ∙ c.if-not-may_come.false) c.in-Some.is in
     let stores : c.carry_out.new.table ≡ stored h.table c.in-Some.replica (step_of c.args.event.now) =
-    c.carry_out.ensures.table
-    ∙ ap (λ (t : List ℕ). stored t c.in-Some.replica (step_of c.args.event.now))
+    c.carry_out.ensures.table ∙ ap (λ (t : List ℕ). stored t c.in-Some.replica (step_of c.args.event.now))
     c.as_mut_slice.ensures.value in
     let steps = c.carry_out.ensures.replica
     ∙ ap (λ (t : List ℕ). stepped_with (letters_of c.self.inside.posts.letters (me c.in-Some.replica)) t
     c.in-Some.replica (step_of c.args.event.now)) c.as_mut_slice.ensures.value in
     let cells = with_items_is c.self.inside.table c.carry_out.new.table
-    (ap length c.carry_out.ensures.table
-    ∙ stored_length c.as_mut_slice.result.now c.in-Some.replica (step_of c.args.event.now)
-    ∙ c.as_mut_slice.ensures.len) in
+    (ap length c.carry_out.ensures.table ∙ stored_length c.as_mut_slice.result.now c.in-Some.replica
+    (step_of c.args.event.now) ∙ c.as_mut_slice.ensures.len) in
     let both = took h c.args.event.now c.from-m.result c.in-Some.replica c.carry_out.new.replica
     c.carry_out.new.table c.self.inside.posts c.carry_out.new.posts comes
     (c.from-m.ensures ∙ c.member-number.ensures) refl c.self.invariant.lists steps stores
@@ -103,11 +93,7 @@ took_now c =
     )
 
 pub invariant_of-self : goal.invariant_of-self
-invariant_of-self c = record {
-  held = (took_now c).0.held;
-  lists = (took_now c).1;
-  first = c.self.invariant.first;
-}
+invariant_of-self c = record { held = (took_now c).0.held; lists = (took_now c).1; first = c.self.invariant.first }
 
 pub returns-clause-event : goal.returns-clause-event
 returns-clause-event c = inl ((took_now c).0.guard, (took_now c).0.effect)

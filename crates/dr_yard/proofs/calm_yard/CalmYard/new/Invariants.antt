@@ -1,6 +1,5 @@
 use Rattle.std.proofs.Common.{◌≡◌, ◌≤◌, ℕ, ◌<◌, false, [], Some, vec_len, vec_capacity}
-use Rattle.dr_disk.specs.Calls.{at_rest}
-use Rattle.dr_disk.specs.Disk.{Now}
+use Rattle.dr_disk.specs.{Calls.at_rest, Disk.Now}
 use Rattle.dr_yard.specs.Places.{place_lent, place_told}
 use Rattle.dr_yard.proofs.calm_yard.CalmYard.new.Given as goal
 

@@ -1,6 +1,6 @@
 use Rattle.std.proofs.Common.{◌≡◌, ◌≤◌, map, vec_capacity}
 use Rattle.dr_entry.specs.declared.limits.TheConstants.{MAX_MEMBERS}
-use Rattle.dr_yard.specs.declared.place.Place.TheVariants.{Here}
+use Rattle.dr_yard.specs.declared.berth.Berth.TheVariants.{Here}
 use Rattle.dr_yard.proofs.memory_yard.MemoryYard.into_disks.Given as goal
 
 abbrev pub invariant-loop-place : goal.invariant-loop-place

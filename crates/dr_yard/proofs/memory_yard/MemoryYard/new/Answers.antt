@@ -1,8 +1,6 @@
 use Rattle.std.proofs.Common.{◌≡◌, ◌+◌, ◌≤◌, ◌<◌, ℕ, ap, ◌∙◌, ◌∷◌, ◌++◌, [], arith, rules, subst, sym, take, List}
 use Rattle.std.proofs.lemmas.List.{take-append-le}
-use Rattle.dr_yard.specs.declared.place.Place.{Place}
-use Rattle.dr_yard.specs.declared.place.Place.TheVariants.{Here}
-use Rattle.dr_yard.specs.Memory.{IsEmptyDisk, place_of}
+use Rattle.dr_yard.specs.{Memory.{IsEmptyDisk, place_of}, declared.berth.Berth.{Berth, TheVariants.Here}}
 use Rattle.dr_yard.proofs.Filled.{all_here, one_more_empty}
 use Rattle.dr_yard.proofs.memory_yard.MemoryYard.new.Goals as goal
 
@@ -13,10 +11,9 @@ loop-preserved c =
     record {
       count = search rules;
       room = search rules;
-      same = ap (take c.len-held.result) more
-          ∙ (take-append-le c.len-held.result places (Here c.in_ok-disk.disk ∷ []) (search rules)
-          ∙ c.loop.invariant.same);
-      empty = subst (λ (ps : List Place). (m : ℕ) → c.len-held.result ≤ m → m < c.loop.counter + 1
+      same = ap (take c.len-held.result) more ∙ (take-append-le c.len-held.result places
+          (Here c.in_ok-disk.disk ∷ []) (search rules) ∙ c.loop.invariant.same);
+      empty = subst (λ (ps : List Berth). (m : ℕ) → c.len-held.result ≤ m → m < c.loop.counter + 1
           → IsEmptyDisk (place_of ps m)) (sym more)
           (one_more_empty places (Here c.in_ok-disk.disk) c.len-held.result c.loop.counter (search rules)
           c.loop.invariant.empty (search rules));

@@ -1,7 +1,6 @@
 use Rattle.std.proofs.Common.{◌≡◌, ◌<◌, ◌≤◌, ℕ, map, take, vec_capacity, vec_len}
 use Rattle.dr_entry.specs.declared.limits.TheConstants.{MAX_MEMBERS}
-use Rattle.dr_yard.specs.declared.place.Place.TheVariants.{Here}
-use Rattle.dr_yard.specs.Memory.{IsEmptyDisk, place_of}
+use Rattle.dr_yard.specs.{Memory.{IsEmptyDisk, place_of}, declared.berth.Berth.TheVariants.Here}
 use Rattle.dr_yard.proofs.memory_yard.MemoryYard.new.Given as goal
 
 abbrev pub invariant-loop-disk : goal.invariant-loop-disk

@@ -1,5 +1,0 @@
-use Rattle.dr_logged.proofs.Leaving.{left_log}
-use Rattle.dr_logged.proofs.laws.logs_are_left.Goals as goal
-
-pub returns : goal.returns
-returns g c = left_log _ _

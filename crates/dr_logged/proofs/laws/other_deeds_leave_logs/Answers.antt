@@ -1,8 +1,0 @@
-use Rattle.dr_logged.proofs.Serving.{other_ready, other_served}
-use Rattle.dr_logged.proofs.laws.other_deeds_leave_logs.Goals as goal
-
-pub returns : goal.returns
-returns g c = λ base log word r other none form ready served. (
-  other_served _ _ base log word r other none form.logged served,
-  other_ready log word r other ready,
-)
