@@ -4,15 +4,17 @@ use Rattle.std.proofs.Common.{◌≡◌, ◌⊎◌, inl, inr, ⊎_elim, refl, sy
 use Rattle.std.proofs.lemmas.Option.{none-some, same_Some, slice_get_within}
 use Rattle.dr_disk.specs.{Disk.{Told, content_of}, Images.IsLeft}
 use Rattle.dr_entry.specs.declared.{end.{AgeEnd.AgeEnd, MemberEnd.MemberEnd}, entry.Entry.Entry}
+use Rattle.dr_entry.proofs.ListPlaces.{slice_get-some}
 use Rattle.dr_history.specs.{History.IsPrefixOf, Members.has, Restarting.{AreAllAlong, AreAlong}}
-use Rattle.dr_history_laws.proofs.{Keeping.prefix_then, Lists.slice_get-some}
+use Rattle.dr_history.proofs.Lists.{prefix-trans}
 use Rattle.dr_log.specs.Standing.{LosesNone}
 use Rattle.dr_log_bytes.{specs.{Content.OnLog, Grammar.StandFor}, proofs.Meaning.content_once}
 use Rattle.dr_opening.{specs.{Lists.as_lists, Tries.content_at}, proofs.Trying.{chosen_by, in_set}}
 use Rattle.dr_restart.specs.{Choosing.{IsChosenStart, of_set}, Groups.{first_group_of, group_of}}
 use Rattle.dr_restart.specs.{Left.entries_on_logs, Trying.IsTry, declared.lists.{Attempt.Attempt, LogLists.LogLists}}
-use Rattle.dr_restart.{specs.declared.start.Start.Start, proofs.Listed.listed}
-use Rattle.dr_script.specs.{Ranges.HasRanges, declared.script.Script.Script}
+use Rattle.dr_restart.{specs.declared.start.Start.Start, proofs.{ByMessages.start-by-messages, Handing.log-of_set}}
+use Rattle.dr_restart.proofs.{Listed.listed, Trying.try_by}
+use Rattle.dr_script.{specs.{Ranges.HasRanges, declared.script.Script.Script}, proofs.Ranges.few}
 use Rattle.dr_yard.specs.Yards.{AllTell, YardState}
 use Rattle.dr_ages.{specs.{Ages.{IsAgeOf, start_of}, declared.{part.Part.Part, stop.Stop.Stop}}, proofs.Votes.EndsSo}
 use Rattle.dr_ages.{specs.Crashed.{HaveCrashed, IsLeftOver}, proofs.Keeping.{there_found, ended_over, image_entries}}
@@ -20,12 +22,12 @@ use Rattle.dr_ages.specs.{Fit.{AreChosen, AreInStep, AreReadable, MayLeave}, Run
 use Rattle.dr_ages.specs.{Found.{AreFound, ReadsAs}, Tried.{AreOfTry, AreTried}, declared.mode.Mode.Mode}
 use Rattle.dr_ages.{specs.Left.HasLeft, proofs.InStep.crashed_step}
 use Rattle.dr_ages.proofs.Lasting.{HadBefore, LastOverFit, crashed_chosen, crashed_readable, crashed_some, had_at, had_before, left_logs, left_over, readable_tell}
-use Rattle.dr_kept.proofs.{Chosen.few, Crashes.front_of_start, Lasting.since_behind}
+use Rattle.dr_kept.proofs.{Crashes.front_of_start, Lasting.since_behind}
 use Rattle.dr_machine.specs.{Group.{Group, IsPresent}, World.World}
 use Rattle.dr_program.specs.{Program.{Program, member_end}, Reading.world, Replica.Replica}
-use Rattle.dr_quorum_laws.{specs.Holding.IsOpenedTry, proofs.{ByMessages.start-by-messages, Grown.opened-cases}}
-use Rattle.dr_quorum_laws.proofs.{Handing.{Since, log-of_set}, Lasting.{on-start, try_by}, Tried.tried-held}
-use Rattle.dr_play.proofs.LoggedMembers.{left_begins}
+use Rattle.dr_served.proofs.Leaving.{left_begins}
+use Rattle.dr_quorum_laws.{specs.Holding.IsOpenedTry, proofs.{Grown.opened-cases, Handing.Since, Lasting.on-start}}
+use Rattle.dr_quorum_laws.proofs.Tried.{tried-held}
 
 -- ---- logs of which a crash left one image each
 
@@ -87,7 +89,7 @@ pub logged_begins : (script : Script) (part other : Part) (mode : Mode) (nth : �
 logged_begins script part other mode nth ages earlier age m e mid after end next logged is at l there here step
     crashed opens =
     let c = there_found script.members other.missing after opens.contents m opens.found l here in
-    prefix_then (take e.logged e.history) c.0.entries next.start
+    prefix-trans (take e.logged e.history) c.0.entries next.start
     (reads_on (mid.told m) (after.told m) (take e.logged e.history) c.0 (crashed m l)
     (logged earlier age m e is at there) (opens.found.each m c.0 c.1).reads)
     (front_of_start (first_group_of script).opening opens.contents (start_of script other next) m c.0 opens.starts

@@ -3,43 +3,40 @@ use Rattle.std.{specs.Option.option_map_or, proofs.lemmas.List.{Elements.All-dro
 use Rattle.std.specs.Prelude.{All, IfSome, IsSomeAnd, IsTrue, Option, None, Some, is_some, slice_get}
 use Rattle.std.proofs.Common.{◌≡◌, ◌⊎◌, refl, sym, ap, ◌∙◌, subst, inl, inr, ℕ, zero, suc, ◌+◌, ◌*◌, ◌^◌, ◌<◌, ◌≤◌, arith, not, true, List, [], ◌∷◌, ◌++◌, length, length-append, take, drop, drop_at, append_assoc}
 use Rattle.std.proofs.lemmas.{List.{drop-append-le, length-map}, Nat.mul-le, Option.{same_Some, slice_get_within}}
-use Rattle.dr_play.{specs.Logged.NoneFull, proofs.LoggedMembers.left_begins}
+use Rattle.dr_play.specs.Logged.{NoneFull}
 use Rattle.dr_disk.specs.{Disk.{Told, content_of, state_of}, Images.IsImage}
 use Rattle.dr_entry.specs.{Spelling.{IsValidVote, entry_spelling, vote_spelling}, declared.end.AgeEnd.AgeEnd}
 use Rattle.dr_entry.specs.declared.{end.MemberEnd.MemberEnd, entry.Entry.{Entry, TheVariants.View}}
 use Rattle.dr_entry.specs.{declared.limits.TheConstants.MAX_MEMBERS, declared.record.{Record.Record, Vote.Vote}}
-use Rattle.dr_entry.proofs.ListPlaces.{within_places}
+use Rattle.dr_entry.proofs.ListPlaces.{within_places, slice_get-some}
 use Rattle.dr_entry.specs.declared.record.Record.TheVariants as records
 use Rattle.dr_history.{specs.{History.IsPrefixOf, Order.first_entries}, proofs.Bits.has_zero}
-use Rattle.dr_history.proofs.Histories.{part_of_opened}
-use Rattle.dr_history_laws.proofs.{Keeping.front_of_longest, Lists.slice_get-some}
-use Rattle.dr_kept.proofs.Following.{among_lists, lists_with, on_found}
+use Rattle.dr_history.proofs.{Histories.part_of_opened, Keeping.front_of_longest}
+use Rattle.dr_kept.proofs.Following.{among_lists, lists_with}
 use Rattle.dr_log.{specs.Standing.{entries_length, votes_length}, proofs.Growing.entries_length-append}
 use Rattle.dr_log.proofs.Standing.{short_votes}
 use Rattle.dr_log_bytes.{specs.{Content.{OnLog, with_record}, Grammar.StandFor}, proofs.Meaning.content_once}
-use Rattle.dr_served.specs.Served.{IsRecordDue}
-use Rattle.dr_machine.specs.Group.{Group, IsGroup, banks, roster}
-use Rattle.dr_opening.specs.{Accepted.AreAccepted, Contents.{IsRisingStep, IsVoteStep, voted_for}}
-use Rattle.dr_opening.specs.{Lists.{all_as_lists, as_lists}, Tries.{IsChosenOf, content_at}}
-use Rattle.dr_opening.proofs.{Choosing.chosen_group, Contents.next_long, Lists.{ageless, open_uncut}}
-use Rattle.dr_opening.proofs.{Trying.chosen_by, Ways.open_entries, Whole.{all_in_set, entries_among}}
+use Rattle.dr_served.{specs.Served.IsRecordDue, proofs.Leaving.left_begins}
+use Rattle.dr_machine.{specs.Group.{Group, IsGroup, banks, roster}, proofs.Groups.banks-small}
+use Rattle.dr_opening.specs.{Accepted.AreAccepted, Lists.{all_as_lists, as_lists}, Tries.{IsChosenOf, content_at}}
+use Rattle.dr_opening.{specs.Contents.{IsRisingStep, IsVoteStep, voted_for}, proofs.Whole.{all_in_set, entries_among}}
+use Rattle.dr_opening.proofs.{Choosing.{chosen_group, opened_short}, Lists.{ageless, open_uncut, on_found}}
+use Rattle.dr_opening.proofs.{Contents.next_long, Trying.chosen_by, Ways.open_entries}
 use Rattle.dr_program.specs.{Program.member_end, Replica.Replica}
 use Rattle.dr_quorum.specs.Handing.{handed_by}
-use Rattle.dr_quorum_laws.proofs.{Longest.longest-chosen, Refusals.one-start}
-use Rattle.dr_restart.specs.Choosing.{AreOfHolders, AreOfNobody, HasAge, IsChosenStart}
-use Rattle.dr_restart.specs.{Groups.{first_group_of, group_of}, Left.entries_on_logs, Refusing.Refusal}
-use Rattle.dr_restart.specs.declared.{lists.LogLists.LogLists, start.Start.Start}
+use Rattle.dr_restart.specs.{Choosing.{AreOfHolders, AreOfNobody, HasAge, IsChosenStart}, Left.entries_on_logs}
+use Rattle.dr_restart.specs.{Groups.{first_group_of, group_of}, declared.{lists.LogLists.LogLists, start.Start.Start}}
+use Rattle.dr_restart.{specs.Refusing.Refusal, proofs.{Longest.longest-chosen, Refusals.one-start}}
 use Rattle.dr_script.specs.{Ranges.{HasGroupRanges, HasRanges}, declared.script.Script.Script}
 use Rattle.dr_yard.specs.Yards.{AllTell, AreEmpty, YardState}
-use Rattle.dr_world_laws.proofs.Finishing.{banks-small}
 use Rattle.dr_ages.specs.Ages.{AreAges, IsAgeOf, IsMemberOf, NamesNobody, opening_of, start_of}
-use Rattle.dr_ages.{specs.Found.{AreFew, AreFound, AreRoomy, ReadsAs}, proofs.Short.{found_short, opened_short}}
-use Rattle.dr_ages.{specs.Left.{HasLeft, with_logged}, proofs.{Reading.{found_read, read_once}, Votes.found_valid}}
+use Rattle.dr_ages.{specs.Found.{AreFew, AreFound, AreRoomy, ReadsAs}, proofs.Reading.{found_read, read_once}}
+use Rattle.dr_ages.specs.{Left.{HasLeft, with_logged}, declared.{mode.Mode.Mode, part.Part.Part, stop.Stop.Stop}}
 use Rattle.dr_ages.specs.Stops.{AreOpenBelow, AreRefusedFor, HasStopped, HaveVotesBelow, IsOutside, IsTooFull}
-use Rattle.dr_ages.{specs.declared.{mode.Mode.Mode, part.Part.Part, stop.Stop.Stop}, proofs.Refusals.refused_after}
 use Rattle.dr_ages.specs.declared.stop.Stop.TheVariants.{OutOfMemory, DiskFault, LogFull, Damaged, Disagree, Foreign, NoQuorum, AgesUsedUp}
 use Rattle.dr_ages.proofs.{Chain.tell_on, Good.{IsGood, empty_found, empty_good, found_of, found_whole, good_never}}
 use Rattle.dr_ages.proofs.{InStep.age_leaves_good, Keeping.{IsBehind, age_next, behind, ended_over, image_entries}}
+use Rattle.dr_ages.proofs.{Refusals.refused_after, Short.found_short, Votes.found_valid}
 
 -- ---- what an age brings to a log
 

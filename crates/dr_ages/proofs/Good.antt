@@ -4,14 +4,14 @@ use Rattle.std.specs.Prelude.{IfSome, IsSomeAnd, IsTrue, Option, None, Some, if�
 use Rattle.std.proofs.Common.{◌≡◌, sym, ap, ◌∙◌, subst, ⊎_elim, ℕ, ◌-◌, ◌^◌, ◌<◌, ◌≤◌, inl, inr, arith, Bool, true, false, not, List, [], length}
 use Rattle.std.proofs.lemmas.{List.{get_or_past, length-map}, Option.{same_Some, slice_get-map, slice_get_within}}
 use Rattle.dr_disk.specs.{Disk.{Told, content_of, state_of}, Images.AllImages}
-use Rattle.dr_entry.{specs.declared.{end.AgeEnd.AgeEnd, entry.Entry.Entry}, proofs.ListPlaces.within_places}
+use Rattle.dr_entry.specs.declared.{end.AgeEnd.AgeEnd, entry.Entry.Entry}
+use Rattle.dr_entry.proofs.ListPlaces.{within_places, slice_get-some}
 use Rattle.dr_history.{specs.{Members.has, Restarting.AllStand}, proofs.Bits.{has_ones, has_zero}}
-use Rattle.dr_history_laws.proofs.Lists.{slice_get-some}
-use Rattle.dr_kept.proofs.{Chosen.some_there, Following.{among_lists, lists_with, handed_there}}
-use Rattle.dr_log_bytes.specs.{Content.{OnLog, empty_of, with_record}, Grammar.StandFor}
+use Rattle.dr_kept.proofs.Following.{among_lists, lists_with}
+use Rattle.dr_log_bytes.{specs.{Content.{OnLog, empty_of, with_record}, Grammar.StandFor}, proofs.Grammars.some_there}
 use Rattle.dr_log_bytes.proofs.Meaning.{stands_or_damaged}
 use Rattle.dr_opening.specs.{Accepted.AreAccepted, Lists.{all_as_lists, as_lists}, Tries.content_at}
-use Rattle.dr_opening.proofs.{Accepting.none_accepted, Lists.handed_is}
+use Rattle.dr_opening.proofs.{Accepting.none_accepted, Lists.{handed_is, handed_there}}
 use Rattle.dr_program.specs.Replica.{Replica}
 use Rattle.dr_quorum.specs.Handing.{handed_by}
 use Rattle.dr_quorum_laws.proofs.AllThere.{all-pass}

@@ -4,19 +4,18 @@ use Rattle.std.proofs.Common.{◌≡◌, ◌⊎◌, sym, ap, ◌∙◌, subst, �
 use Rattle.std.proofs.lemmas.{List.length-map, Option.slice_get_within}
 use Rattle.dr_disk.specs.{Calls.at_rest, Disk.{Told, state_of}}
 use Rattle.dr_entry.specs.declared.{end.{AgeEnd.AgeEnd, MemberEnd.MemberEnd}, entry.Entry.Entry}
+use Rattle.dr_entry.proofs.ListPlaces.{slice_get-some}
 use Rattle.dr_history.{specs.{History.IsPrefixOf, declared.opening.Opening.Opening}, proofs.Bits.has_zero}
-use Rattle.dr_history.proofs.Histories.{AreFirstPartsOf, part_of_opened}
-use Rattle.dr_history_laws.proofs.{Keeping.front_of_longest, Lists.slice_get-some}
+use Rattle.dr_history.proofs.{Histories.{AreFirstPartsOf, part_of_opened}, Keeping.front_of_longest}
 use Rattle.dr_served.{specs.Left.IsLeftOf, proofs.Rooms.left_part}
 use Rattle.dr_machine.specs.Group.{IsGroup}
 use Rattle.dr_opening.{specs.{Accepted.AreAccepted, CatchingUp.opened_with, Lists.as_lists}, proofs.Trying.chosen_by}
 use Rattle.dr_opening.{specs.Tries.{IsChosenOf, content_at}, proofs.{Accepted.fronts_accepted, Choosing.chosen_group}}
 use Rattle.dr_opening.proofs.{Accepting.{ended_accepted, none_accepted}, Whole.{all_in_set, entries_among}}
-use Rattle.dr_quorum_laws.proofs.{Grown.{IsBroughtUp, entries-case, old-log}, Longest.longest-chosen}
-use Rattle.dr_quorum_laws.proofs.Sounding.{choice-group}
 use Rattle.dr_restart.specs.{Choosing.of_set, Groups.{first_group_of, group_of}, Left.entries_on_logs}
 use Rattle.dr_restart.specs.{Trying.first_view_of, declared.{lists.LogLists.LogLists, start.Start.Start}}
-use Rattle.dr_restart.proofs.Listed.{listed, log-listed}
+use Rattle.dr_restart.proofs.{Listed.{listed, log-listed}, Longest.longest-chosen, Sounding.choice-group}
+use Rattle.dr_restart.proofs.Trying.{IsBroughtUp, entries-case, old-log, nothing_on}
 use Rattle.dr_script.specs.{Ranges.{HasGroupRanges, HasRanges}, declared.script.Script.Script}
 use Rattle.dr_yard.specs.Yards.{AllTell, YardState}
 use Rattle.dr_ages.specs.{Ages.{IsAgeOf, NamesNobody, start_of}, Fit.{AreChosen, AreInStep, MayLeave}, Found.AreFound}
@@ -25,7 +24,7 @@ use Rattle.dr_ages.specs.{Stops.{HasStopped, IsBadLogs}, Tried.{AreOfTry, AreTri
 use Rattle.dr_ages.{specs.declared.{part.Part.Part, stop.Stop.Stop}, proofs.{Played.all_take_part, Votes.EndsSo}}
 use Rattle.dr_ages.proofs.{Good.{IsGood, good_never, readable_behind, undamaged}, Keeping.{ended_over, image_entries}}
 use Rattle.dr_ages.proofs.Lasting.{blank_lists, blank_readable, crashed_chosen, crashed_readable, found_chosen, readable_tell}
-use Rattle.dr_kept.proofs.Following.{among_lists, lists_with, nothing_on}
+use Rattle.dr_kept.proofs.Following.{among_lists, lists_with}
 use Rattle.dr_log_bytes.specs.Content.{OnLog}
 
 -- ---- what is found on disks in step

@@ -5,21 +5,20 @@ use Rattle.std.proofs.lemmas.{Bool.cases_lt, List.{get_or_past, take-append-drop
 use Rattle.std.proofs.lemmas.Option.{get_or_from_slice_get, slice_get_within}
 use Rattle.dr_disk.specs.{Disk.{Told, content_of, state_of}, Images.IsImage}
 use Rattle.dr_entry.specs.declared.{end.{AgeEnd.AgeEnd, MemberEnd.MemberEnd}, entry.Entry.Entry}
-use Rattle.dr_entry.{specs.declared.record.Record.Record, proofs.ListPlaces.within_places}
+use Rattle.dr_entry.{specs.declared.record.Record.Record, proofs.ListPlaces.{within_places, slice_get-some}}
 use Rattle.dr_entry.specs.declared.record.Record.TheVariants as records
 use Rattle.dr_history.specs.{Agreement.accounts_of, History.IsPrefixOf, Members.has, Order.first_entries}
-use Rattle.dr_history.{specs.Restarting.Kept, proofs.Histories.durable_by}
-use Rattle.dr_history_laws.proofs.{Keeping.prefix_then, Lists.slice_get-some}
-use Rattle.dr_kept.{specs.Leaving.{AreLeftFrom, IsAgeOfChoice, LeavesSo}, proofs.Returning.next_has_all}
-use Rattle.dr_kept.proofs.{Chosen.{has_log, known_age, some_there}, Following.{next_begins, next_keeps, next_number}}
-use Rattle.dr_log_bytes.{specs.{Content.{OnLog, with_record}, Grammar.StandFor}, proofs.Meaning.content_once}
-use Rattle.dr_served.specs.{Left.IsLeftOf, Served.IsRecordDue}
+use Rattle.dr_history.{specs.Restarting.Kept, proofs.{Histories.durable_by, Lists.prefix-trans}}
+use Rattle.dr_kept.{specs.Leaving.{AreLeftFrom, IsAgeOfChoice, LeavesSo}, proofs.Chosen.{has_log, known_age}}
+use Rattle.dr_kept.proofs.{Following.{next_begins, next_keeps, next_number}, Returning.next_has_all}
+use Rattle.dr_log_bytes.{specs.{Content.{OnLog, with_record}, Grammar.StandFor}, proofs.Grammars.some_there}
+use Rattle.dr_log_bytes.proofs.Meaning.{content_once}
+use Rattle.dr_served.{specs.{Left.IsLeftOf, Served.IsRecordDue}, proofs.Leaving.left_begins}
 use Rattle.dr_opening.specs.Tries.{IsChosenOf, content_at}
 use Rattle.dr_program.specs.{Presence.present_at, Program.{Program, member_end}, Replica.Replica, Running.Running}
 use Rattle.dr_restart.specs.{Groups.first_group_of, declared.start.Start.Start}
 use Rattle.dr_script.specs.{Ranges.HasRanges, declared.script.Script.Script}
 use Rattle.dr_yard.specs.Yards.{AllTell, YardState}
-use Rattle.dr_play.proofs.LoggedMembers.{left_begins}
 use Rattle.dr_ages.specs.{Ages.{AreAges, IsAgeOf, opening_of, start_of}, Found.{AreFound, ReadsAs}}
 use Rattle.dr_ages.specs.{Left.{HasLeft, with_logged}, Runs.AreKept, declared.{mode.Mode.Mode, part.Part.Part}}
 use Rattle.dr_ages.proofs.{Chain.{AreBeside, beside}, Votes.{EndsSo, LacksSo, member_over, ran_over, told_by}}
@@ -237,7 +236,7 @@ pub logged_first : (script : Script) (part : Part) (yard : YardState) (age : Age
     → IsChosenOf (first_group_of script).opening contents next → slice_get age.members m ≡ Some e
     → has part.missing m ≡ false → IsPrefixOf (take e.logged e.history) next.entries
 logged_first script part yard age contents next m e b chosen at there =
-    prefix_then (take e.logged e.history) on.0.entries next.entries
+    prefix-trans (take e.logged e.history) on.0.entries next.entries
     (subst (λ (end : MemberEnd). IsPrefixOf (take end.logged end.history) on.0.entries) x.is
     (left_begins (take x.r.replica.logged x.r.replica.history) (member_end x.r.replica) on.0.entries ([], append-nil _)
     (read_entries (yard.told m) x.r.replica on.0 (b.is.begun m) (b.tell m l) (b.found.each m on.0 on.1).reads
@@ -281,7 +280,7 @@ keeps_next script part start a b ranges tell r =
 pub grows : (script : Script) (part : Part) (start : YardState) (a b : AgeEnd) → HasRanges script
     → AllTell script.members start → AreBeside script part start a b → IsPrefixOf a.start b.start
 grows script part start a b ranges tell r =
-    prefix_then a.start (first_entries (opening_of script part a)) b.start (_ ∷ [], refl)
+    prefix-trans a.start (first_entries (opening_of script part a)) b.start (_ ∷ [], refl)
     (next_begins script (start_of script part a) (start_of script part b) r.nth r.first.contents r.second.contents
     r.first.played.over ranges.group ranges.some_turn (of_choice script part r.mode r.nth r.before r.mid a r.first)
     (left_from script part r.mid a r.second.contents (behind_first script part start a b ranges tell r))
@@ -315,6 +314,6 @@ are_kept script part mode before ages last ranges are tell = record {
         (ap (slice_get ages) (omega (arith, far)) ∙ at_b)) there (has (opening_of script part a).present m) refl
     ever (suc d) i j m a b e far at_a at_b there =
         let c = slice_get-some ages (i + 1 + d) (omega (arith, far, slice_get_within ages j b at_b)) in
-        prefix_then (take e.durable e.history) c.0.start b.start (ever d i (i + 1 + d) m a c.0 e refl at_a c.1 there)
+        prefix-trans (take e.durable e.history) c.0.start b.start (ever d i (i + 1 + d) m a c.0 e refl at_a c.1 there)
         (grows script part before c.0 b ranges tell
         (pair (i + 1 + d) c.0 b c.1 (ap (slice_get ages) (omega (arith, far)) ∙ at_b)))

@@ -6,11 +6,10 @@ use Rattle.std.proofs.lemmas.{Bool.cases_lt, Option.{none-some, same_Some, slice
 use Rattle.dr_disk.{specs.{Calls.{State, at_rest}, Images.{AllImages, Goes, IsImage}}, proofs.Moments.Went-last}
 use Rattle.dr_disk.{specs.Disk.{Told, content_of, state_of}, proofs.Images.{image_at_rest, empty_image}}
 use Rattle.dr_entry.specs.declared.{end.{AgeEnd.AgeEnd, MemberEnd.MemberEnd}, entry.Entry.Entry}
-use Rattle.dr_entry.proofs.ListPlaces.{within_places, pick}
+use Rattle.dr_entry.proofs.ListPlaces.{within_places, pick, slice_get-some}
 use Rattle.dr_history.{specs.{History.IsPrefixOf, Members.has}, proofs.Bits.has_ones}
-use Rattle.dr_history_laws.proofs.Lists.{slice_get-some}
-use Rattle.dr_kept.{specs.{Lasting.HasLeftLogs, Leaving.IsLeftAt}, proofs.Chosen.few}
-use Rattle.dr_kept.proofs.{Following.{among_lists, lists_with, nothing_on}, Lasting.{durable_lasts, still_lasts}}
+use Rattle.dr_kept.{specs.{Lasting.HasLeftLogs, Leaving.IsLeftAt}, proofs.Following.{among_lists, lists_with}}
+use Rattle.dr_kept.proofs.Lasting.{durable_lasts, still_lasts}
 use Rattle.dr_log.specs.Standing.{KeepsRecords}
 use Rattle.dr_log_bytes.{specs.{Content.{OnLog, empty_of}, Grammar.StandFor}, proofs.Grammars.stands_empty}
 use Rattle.dr_log_bytes.proofs.Meaning.{content_once}
@@ -18,8 +17,8 @@ use Rattle.dr_opening.{specs.{Lists.as_lists, Tries.{AreAmong, content_at}}, pro
 use Rattle.dr_program.{specs.Program.{Program, end_at}, proofs.Present.slice_present}
 use Rattle.dr_quorum_laws.{specs.Lasting.AreLasting, proofs.Lasting.{last-kept, last-pass, last-tried, none-last}}
 use Rattle.dr_restart.specs.{Groups.first_group_of, Refusing.{IsRefusedFor, Refusal}}
-use Rattle.dr_restart.specs.declared.{lists.LogLists.LogLists, start.Start.Start}
-use Rattle.dr_script.specs.{Ranges.{HasGroupRanges, HasRanges}, declared.script.Script.Script}
+use Rattle.dr_restart.{specs.declared.{lists.LogLists.LogLists, start.Start.Start}, proofs.Trying.nothing_on}
+use Rattle.dr_script.{specs.{Ranges.{HasGroupRanges, HasRanges}, declared.script.Script.Script}, proofs.Ranges.few}
 use Rattle.dr_yard.specs.Yards.{AllTell, YardState}
 use Rattle.dr_ages.specs.{Ages.{AreAges, IsAgeOf, NamesNobody, start_of}, Crashed.{HaveCrashed, IsLeftOver}}
 use Rattle.dr_ages.specs.Fit.{AreChosen, AreFit, AreLastingOn, AreReadable, IsReadable, MayLeave}

@@ -3,15 +3,15 @@ use Rattle.std.specs.{Option.option_map_or, Prelude.{IfSome, Option, None, Some,
 use Rattle.std.proofs.Common.{◌≡◌, ◌≢◌, ◌⊎◌, refl, sym, ap, ◌∙◌, subst, inl, inr, ℕ, zero, suc, ◌+◌, arith, List, [], ◌∷◌, ◌++◌, map, take}
 use Rattle.std.proofs.lemmas.Option.{none-some, same_Some, slice_get_within}
 use Rattle.dr_entry.specs.declared.{end.{AgeEnd.AgeEnd, MemberEnd.MemberEnd}, entry.Entry.Entry}
-use Rattle.dr_history.specs.History.{IsPrefixOf}
-use Rattle.dr_history_laws.proofs.{Keeping.prefix_then, Lists.slice_get-some}
-use Rattle.dr_kept.proofs.{Chosen.{few, known_age}, Following.{IsAccountOf, account_of}, Lasting.hold_behind}
+use Rattle.dr_entry.proofs.ListPlaces.{slice_get-some}
+use Rattle.dr_history.{specs.History.IsPrefixOf, proofs.Lists.{prefix-trans, prefix_refl}}
+use Rattle.dr_kept.proofs.{Chosen.known_age, Following.{IsAccountOf, account_of}, Lasting.hold_behind}
 use Rattle.dr_machine.specs.{Group.{Group, IsPresent}, World.World}
 use Rattle.dr_opening.proofs.Trying.{in_set}
 use Rattle.dr_program.specs.{Program.{Program, end_at}, Reading.world}
-use Rattle.dr_quorum_laws.{specs.Lasting.HoldSinceAge, proofs.{Lasting.since-tried, Lists.prefix-itself}}
+use Rattle.dr_quorum_laws.{specs.Lasting.HoldSinceAge, proofs.Lasting.since-tried}
 use Rattle.dr_restart.specs.{Groups.{first_group_of, group_of}, declared.{lists.LogLists.LogLists, start.Start.Start}}
-use Rattle.dr_script.specs.{Ranges.HasRanges, declared.script.Script.Script}
+use Rattle.dr_script.{specs.{Ranges.HasRanges, declared.script.Script.Script}, proofs.Ranges.few}
 use Rattle.dr_yard.specs.Yards.{AllTell, YardState}
 use Rattle.dr_ages.{specs.{Ages.{AreAges, start_of}, Lasting.HasEndedIn}, proofs.{Chain.beside, Votes.told_by}}
 use Rattle.dr_ages.specs.{Crashed.HaveCrashed, Tried.{AreOfTry, AreTried}, declared.{part.Part.Part, stop.Stop.Stop}}
@@ -65,11 +65,11 @@ starts_grow : (script : Script) (part : Part) (mode : Mode) (before : YardState)
     → AreAges script part mode 0 before ages last → slice_get ages 0 ≡ Some one → slice_get ages i ≡ Some age
     → IsPrefixOf one.start age.start
 starts_grow script part mode before ages last zero one age ranges tell are first at =
-    subst (λ (a : AgeEnd). IsPrefixOf one.start a.start) (same_Some one age (sym first ∙ at)) (prefix-itself one.start)
+    subst (λ (a : AgeEnd). IsPrefixOf one.start a.start) (same_Some one age (sym first ∙ at)) (prefix_refl one.start)
 starts_grow script part mode before ages last (suc i) one age ranges tell are first at =
     let c = slice_get-some ages i (omega (arith, slice_get_within ages (suc i) age at)) in
     let next : suc i ≡ i + 1 = omega arith in
-    prefix_then one.start c.0.start age.start
+    prefix-trans one.start c.0.start age.start
     (starts_grow script part mode before ages last i one c.0 ranges tell are first c.1)
     (grows script part before c.0 age ranges tell
     (beside script part mode 0 before ages last i c.0 age are c.1 (ap (slice_get ages) (sym next) ∙ at)))
@@ -87,7 +87,7 @@ run_begins script part mode mid before after ages stop es i age ranges lasts cra
     by : (ages : List AgeEnd) → AreAges script part mode 0 before ages r.last → slice_get ages i ≡ Some age
         → IsPrefixOf es age.start
     by [] are at = absurd (none-some age at)
-    by (one ∷ ages) are at = prefix_then es one.start age.start
+    by (one ∷ ages) are at = prefix-trans es one.start age.start
         (next_start_has script part mode 0 mid before are.0 one es ranges.group lasts crashed are.1)
         (starts_grow script part mode before (one ∷ ages) r.last i one age ranges tell are refl at)
 

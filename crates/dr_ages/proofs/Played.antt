@@ -5,22 +5,23 @@ use Rattle.std.proofs.Common.{◌≡◌, ◌≢◌, ◌⊎◌, ◌↔◌, refl, 
 use Rattle.std.proofs.lemmas.{Bool.{cases_Bool, Decides.nat_tests}, Option.{same_Some, slice_get_within}}
 use Rattle.dr_disk.{specs.{Disk.Told, Images.{Goes, IsLeft}}, proofs.{DiskCalls.goes_tells, Images.lasts_goes}}
 use Rattle.dr_disk.proofs.Moments.{Goes-weaken, stays_at}
-use Rattle.dr_entry.specs.declared.{end.{AgeEnd.AgeEnd, MemberEnd.MemberEnd}, entry.Entry.{Entry, TheVariants.View}}
-use Rattle.dr_entry.{specs.{declared.end.End.End, declared.record.Record.Record}, proofs.OptionFacts.some_map}
+use Rattle.dr_entry.specs.declared.{end.{AgeEnd.AgeEnd, End.End, MemberEnd.MemberEnd}, entry.Entry.Entry}
+use Rattle.dr_entry.specs.{declared.entry.Entry.TheVariants.View, declared.record.Record.Record}
+use Rattle.dr_entry.proofs.{ListPlaces.slice_get-some, OptionFacts.some_map}
 use Rattle.dr_history.{specs.{History.IsPrefixOf, Members.has}, proofs.{Bits.has_ones, Masks.same_masks}}
-use Rattle.dr_history_laws.proofs.Lists.{slice_get-some}
 use Rattle.dr_io.{specs.Faults.Rose, proofs.KnownLemmas.rose_since}
 use Rattle.dr_log.specs.Standing.{HasAllOf, IsBeforeOrAfter, LosesNone, entries_length, votes_length}
 use Rattle.dr_log.{specs.State.LogState, proofs.Ordinary.{has_through, less_lost}}
 use Rattle.dr_log_bytes.specs.{Content.{OnLog, block_length, empty_of}, Grammar.StandFor}
 use Rattle.dr_served.specs.Served.{BrokeOff, HasCome, HaveSamePlaces, IsFull, IsRecordDue, IsSafe, WentSo}
 use Rattle.dr_served.proofs.{Served.places_both, Serving.has_base}
-use Rattle.dr_machine.{specs.Group.{AllPresent, IsGroup, IsPresent}, proofs.Presence.in_roster}
-use Rattle.dr_opening.specs.{CatchingUp.opened_with, Contents.{IsOpenFor, voted_for}, Tries.{IsChosenOf, content_at}}
+use Rattle.dr_machine.{specs.Group.{AllPresent, IsGroup, IsPresent}, proofs.{Groups.banks-small, Presence.in_roster}}
+use Rattle.dr_opening.specs.{CatchingUp.opened_with, Contents.{IsOpenFor, voted_for}}
 use Rattle.dr_opening.specs.Lists.{SomebodyPrompt, all_as_lists, as_lists, contents_of, log_of}
-use Rattle.dr_opening.{specs.Logs.{GotStart, GotVote, WereOpened}, proofs.Logs.{opened_places, together_some}}
-use Rattle.dr_opening.proofs.{Choosing.chosen_group, Contents.open_long, Ways.open_entries}
+use Rattle.dr_opening.specs.{Logs.{GotStart, GotVote, WereOpened}, Tries.{IsChosenOf, content_at}}
+use Rattle.dr_opening.proofs.{Choosing.{chosen_group, opened_short}, Contents.open_long}
 use Rattle.dr_opening.proofs.Lists.{stays_there, was_there, content_at_log, contents_there, log_of_content}
+use Rattle.dr_opening.proofs.{Logs.{opened_places, together_some}, Ways.open_entries}
 use Rattle.dr_program.specs.{Presence.present_at, Program.{Program, end_of}, Replica.Replica, Running.Running}
 use Rattle.dr_program.{specs.declared.outcome.LogWhy.LogWhy, proofs.Present.{present_map, present_within}}
 use Rattle.dr_quorum.specs.Handing.{handed_by}
@@ -31,7 +32,6 @@ use Rattle.dr_play.{specs.Age.{IsAge, IsAgeOn}, proofs.LoggedMembers.ended_by_di
 use Rattle.dr_play.specs.Logged.{AreAmple, AreAsBefore, AreCalm, AreOpened, HaveCome, why_ended}
 use Rattle.dr_threads.specs.Logs.{AreLonger}
 use Rattle.dr_words.{specs.Masks.without, proofs.Masks.has_mask_of}
-use Rattle.dr_world_laws.proofs.Finishing.{banks-small}
 use Rattle.dr_yard.specs.Yards.{YardState}
 use Rattle.dr_program_laws.proofs.Endings.{not_away}
 use Rattle.dr_ages.specs.Ages.{HaveSomebodyPrompt, IsAgeFrom, IsAgeOf, IsPlayed, NamesNobody, start_of, taking_part}
@@ -40,7 +40,7 @@ use Rattle.dr_ages.specs.{Lent.{AreAllBut, AreMounted, IsMounted, with_logs}, Op
 use Rattle.dr_ages.specs.{Passing.AreKeptSince, declared.{mode.Mode.{Mode, TheVariants.Sim}, part.Part.Part}}
 use Rattle.dr_ages.proofs.Backs.{faults_at, kept_back, log_at, not_missing, passed_with, told_at, untouched_with}
 use Rattle.dr_ages.proofs.{Completing.complete_in, Loans.are_found, Opening.{are_opened, opened_on}}
-use Rattle.dr_ages.proofs.{Short.{found_short, opened_short}, Staying.{alike_same, later_by_all, later_then, on_same}}
+use Rattle.dr_ages.proofs.{Short.found_short, Staying.{alike_same, later_by_all, later_then, on_same}}
 use Rattle.dr_ages.proofs.{Stopping.IsOpeningOn, Votes.{EndsSo, few_cast, member_over, over_form, told_by}}
 use Rattle.dr_entry.specs.declared.end.End.TheVariants as ends
 use Rattle.dr_program.specs.declared.outcome.LogWhy.TheVariants as logs

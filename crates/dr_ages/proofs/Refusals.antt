@@ -3,12 +3,12 @@ use Rattle.std.specs.Prelude.{IfSome, IsSomeAnd, IsTrue, Option, None, Some, is_
 use Rattle.std.proofs.Common.{◌≡◌, ◌≢◌, ◌⊎◌, refl, sym, ap, ◌∙◌, subst, inl, inr, ℕ, ◌<◌, arith, not, List, [], ◌∷◌, ◌++◌, length}
 use Rattle.dr_disk.specs.Disk.{Told, content_of}
 use Rattle.dr_entry.specs.declared.{end.AgeEnd.AgeEnd, entry.Entry.Entry}
-use Rattle.dr_kept.proofs.{Chosen.some_there, Returning.refused_behind}
-use Rattle.dr_log_bytes.specs.{Content.OnLog, Grammar.IsDamaged}
+use Rattle.dr_kept.proofs.Returning.{refused_behind}
+use Rattle.dr_log_bytes.{specs.{Content.OnLog, Grammar.IsDamaged}, proofs.Grammars.some_there}
 use Rattle.dr_opening.specs.{Lists.all_as_lists, Tries.{IsChosenOf, content_at}}
 use Rattle.dr_quorum.specs.Handing.{handed_by}
-use Rattle.dr_quorum_laws.proofs.Refusals.{no-refusal, one-refusal}
 use Rattle.dr_restart.specs.{Groups.first_group_of, Refusing.Refusal, declared.start.Start.Start}
+use Rattle.dr_restart.proofs.Refusals.{no-refusal, one-refusal}
 use Rattle.dr_script.specs.{Ranges.HasRanges, declared.script.Script.Script}
 use Rattle.dr_log.proofs.Standing.{readable, one_place}
 use Rattle.dr_yard.{specs.Yards.{AllTell, YardState}, proofs.YardStates.fewer_tell}

@@ -1,23 +1,19 @@
 -- How many bytes logs take that are found, and that are open for an age.
-use Rattle.std.{specs.Prelude.option_map, proofs.lemmas.List.Sums.sum_by-cons}
-use Rattle.std.proofs.Common.{◌≡◌, ◌⊎◌, inl, inr, refl, ap, ◌∙◌, ℕ, ◌+◌, ◌≤◌, arith, List, [], ◌∷◌, length, None, Option, Some}
-use Rattle.dr_entry.specs.{Spelling.entry_spelling, declared.entry.Entry.{Entry, TheVariants.View}}
-use Rattle.dr_history.specs.{History.{GroupView, view_of}, Order.first_entries, Restarting.{AllStand, next_age}}
-use Rattle.dr_history.specs.declared.opening.Opening.{Opening}
-use Rattle.dr_history_laws.proofs.Lengths.{start-few, stood-short}
-use Rattle.dr_log.{specs.Standing.entries_length, proofs.Growing.entries_length-append}
+use Rattle.std.specs.Prelude.{option_map}
+use Rattle.std.proofs.Common.{◌≡◌, ◌⊎◌, inl, inr, refl, ap, ◌∙◌, ℕ, ◌≤◌, arith, List, length, None, Option, Some}
+use Rattle.dr_history.specs.{History.{GroupView, view_of}, Restarting.{AllStand, next_age}}
+use Rattle.dr_history.{specs.declared.opening.Opening.Opening, proofs.Lengths.stood-short}
+use Rattle.dr_log.specs.Standing.{entries_length}
 use Rattle.dr_log_bytes.specs.Content.{OnLog}
 use Rattle.dr_machine.specs.Group.{IsGroup}
 use Rattle.dr_opening.specs.{Lists.{all_as_lists, as_lists}, Tries.{IsChosenOf, content_at}}
 use Rattle.dr_opening.proofs.Choosing.{chosen_group}
 use Rattle.dr_program.proofs.Present.{present_map}
 use Rattle.dr_quorum.specs.Handing.{handed_by}
-use Rattle.dr_restart.specs.{Choosing.{AreOfHolders, AreOfNobody}, Groups.{first_group_of, group_of}}
-use Rattle.dr_restart.{specs.declared.start.Start.Start, proofs.Groups.first_group}
+use Rattle.dr_restart.specs.{Choosing.{AreOfHolders, AreOfNobody}, Groups.first_group_of, declared.start.Start.Start}
+use Rattle.dr_restart.proofs.Groups.{first_group}
 use Rattle.dr_script.specs.{Ranges.HasGroupRanges, declared.script.Script.Script}
-use Rattle.dr_play.proofs.LoggedMembers.{stood_bytes}
-
--- ---- entries
+use Rattle.dr_served.proofs.Leaving.{stood_bytes}
 
 -- ---- what is found, and what an age begins with
 
@@ -63,24 +59,3 @@ found_short script contents start m c ranges is at =
             )
         by (inr nobody) =
             absurd (cc (nobody.nobody m (as_lists c) (present_map as_lists contents m ∙ handed at), last))
-
--- what an age begins with has View 0 besides
-pub opened_short : (script : Script) (contents : List (Option OnLog)) (start : Start) → HasGroupRanges script
-    → IsChosenOf (first_group_of script).opening contents start
-    → entries_length (first_entries (group_of script start).opening) ≤ 122159111
-opened_short script contents start ranges is =
-    let g = chosen_group script contents start ranges is in
-    let o = (group_of script start).opening in
-    let more = entries_length-append start.entries (View start.age 0 start.members ∷ []) in
-    let block : 1 + length (entry_spelling (View start.age 0 start.members)) ≤ 7 = omega arith in
-    let last = sum_by-cons (λ (e : Entry). 1 + length (entry_spelling e)) (View start.age 0 start.members) [] in
-    omega (
-      arith,
-      more,
-      block,
-      last,
-      stood_bytes (group_of script start) start.entries g g.sound.entries
-          (start-few o g.sound g.age g.some_member g.most_members g.messages),
-    )
-
--- ---- logs that are open

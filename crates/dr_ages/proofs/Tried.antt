@@ -1,11 +1,10 @@
 -- What an opening that stopped leaves on the disks of a yard is as before, or a try.
-use Rattle.std.specs.Prelude.{IsSomeAnd, IsTrue, Option, None, Some, is_some, slice_get}
+use Rattle.std.specs.Prelude.{IsSomeAnd, IsTrue, Option, None, Some, is_some}
 use Rattle.std.proofs.Common.{◌≡◌, refl, sym, ◌∙◌, subst, inl, inr, ℕ, ◌<◌, arith, le_refl, List, length}
+use Rattle.dr_entry.proofs.ListPlaces.{slice_get-some}
 use Rattle.dr_disk.{specs.{Disk.{Told, state_of}, Images.{AllImages, Goes, IsLeft}}, proofs.DiskCalls.goes_tells}
 use Rattle.dr_disk.proofs.Images.{left_so}
-use Rattle.dr_history.specs.{Members.has, declared.opening.Opening.Opening}
-use Rattle.dr_history_laws.proofs.Lists.{slice_get-some}
-use Rattle.dr_kept.proofs.Chosen.{few}
+use Rattle.dr_history.specs.declared.opening.Opening.{Opening}
 use Rattle.dr_log.specs.{Standing.KeepsRecords, State.LogState}
 use Rattle.dr_opening.specs.{Contents.{IsRising, IsVoting, StandSo, voted_for}, declared.age.NotOpened.NotOpened}
 use Rattle.dr_opening.{specs.Lists.{contents_of, log_of}, proofs.Crashing.{left_so_far, AreOnWay, on_way}}
@@ -16,7 +15,7 @@ use Rattle.dr_opening.proofs.Lists.{stays_none, was_none, content_at_log, no_log
 use Rattle.dr_served.specs.Served.{HaveSamePlaces}
 use Rattle.dr_program.proofs.Present.{present_within}
 use Rattle.dr_restart.specs.{Groups.first_group_of, declared.{lists.LogLists.LogLists, start.Start.Start}}
-use Rattle.dr_script.specs.{Ranges.HasGroupRanges, declared.script.Script.Script}
+use Rattle.dr_script.{specs.{Ranges.HasGroupRanges, declared.script.Script.Script}, proofs.Ranges.few}
 use Rattle.dr_yard.specs.Yards.{AllTell, YardState}
 use Rattle.dr_ages.specs.{Fit.{AreChosen, IsReadable, MayLeave}, Lent.{AreAllBut, AreMounted, IsAlike, with_logs}}
 use Rattle.dr_ages.{specs.Tried.AreTried, proofs.Backs.{AreAllBack, alike_back, log_at, told_at, told_none}}

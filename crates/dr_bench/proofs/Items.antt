@@ -1,8 +1,9 @@
 -- What is known while items are received and put.
-use Rattle.std.proofs.Common.{◌≡◌, ◌≢◌, ℕ, ◌+◌, ◌-◌, ◌*◌, ◌^◌, ◌<◌, ◌≤◌, inl, inr, List, length, get_or, refl, le_refl, sym, ap, subst, ◌∙◌, arith}
+use Rattle.std.proofs.Common.{◌≡◌, ◌≢◌, ℕ, ◌+◌, ◌-◌, ◌*◌, ◌<◌, ◌≤◌, inl, inr, List, length, get_or, refl, le_refl, sym, ap, subst, ◌∙◌, arith}
 use Rattle.std.proofs.lemmas.Bool.{cases_lt}
 use Rattle.dr_entry.specs.declared.entry.Item.{Item}
-use Rattle.dr_words.specs.{Form.{IsInForm, AllInForm}, Packing.{ring_word, ring_tag}, declared.shape.Shape.Shape}
+use Rattle.dr_words.specs.{Form.{IsInForm, AllInForm}, Packing.ring_tag, declared.shape.Shape.Shape}
+use Rattle.dr_words.proofs.Packed.{piece_tag}
 use Rattle.dr_rows.{specs.Words.{Words, IsWords, looked, own}, proofs.Grids.{with_word-row, with_word_either}}
 use Rattle.dr_ring.{specs.{Pieces.pieces, Slots.{slot_column, with_item}}, proofs.Items.{few_pieces, piece_fits}}
 use Rattle.dr_ring.proofs.Writes.{HasSlot-from, own_set, own_left}
@@ -36,9 +37,6 @@ received_one shape word w x i c known same =
 
 -- ---- a put
 
-tag_of : (k low : ℕ) → low < 2 ^ 32 → ring_tag (ring_word k low) ≡ k + 1
-tag_of k low fits = omega arith
-
 -- no own word has a tag above k + 1 once item k has been put
 tag_after : (window : ℕ) (w : Words) (k : ℕ) (item : Item) (c : ℕ) → IsWords w → 1 ≤ window
     → w.columns ≡ 6 + 2 * w.members + 17 * window
@@ -55,7 +53,7 @@ tag_after window w k item c form some columns is before =
         | inl within ↦
             let there : column + (c - column) ≡ c = omega arith in
             let word = own_set window w k (pieces item) (c - column) slot within in
-            let tag = tag_of k (get_or (pieces item) (c - column) 0) (piece_fits item (c - column) is) in
+            let tag = piece_tag k (get_or (pieces item) (c - column) 0) (piece_fits item (c - column) is) in
             subst (λ (d : ℕ). ring_tag (own (with_item window w k item) d) ≤ k + 1) there
             (omega (arith, ap ring_tag word, tag))
         | inr behind ↦ omega (

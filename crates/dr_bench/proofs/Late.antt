@@ -1,15 +1,10 @@
 -- A group stays one where some of its members are late.
-use Rattle.std.proofs.{Common.{◌≡◌, true, zero, suc, ℕ, ◌-◌, ◌^◌, ◌<◌, ◌≤◌, [], arith}, lemmas.Nat.pow_pos}
-use Rattle.std.proofs.lemmas.Option.{slice_get_within}
+use Rattle.std.proofs.{Common.{◌≡◌, true, ℕ, ◌-◌, ◌^◌, ◌≤◌, [], arith}, lemmas.Option.slice_get_within}
+use Rattle.dr_entry.proofs.NumberFacts.{above_whole}
 use Rattle.dr_script.specs.{Ranges.HasGroupRanges, declared.script.Script.Script}
 use Rattle.dr_history.{specs.Members.has, proofs.Bits.has_ones}
 use Rattle.dr_machine.specs.Group.{IsGroup}
 use Rattle.dr_restart.specs.Groups.{first_group_of, first_start_of, group_of}
-
--- the first so many members are some, where they are not none
-above_ones : (n : ℕ) → 1 ≤ n → 0 < 2 ^ n - 1
-above_ones zero l = absurd (omega (arith, l))
-above_ones (suc n) l = omega (arith, pow_pos n)
 
 -- the first members make a view, and the others may be late
 pub late_group : (script : Script) (k : ℕ) → HasGroupRanges script → IsGroup (first_group_of script)
@@ -26,7 +21,7 @@ late_group script k ranges g some most = record {
   sound = record {
     entries = λ i e there. absurd (omega (arith, slice_get_within [] i e there));
     later = g.sound.later;
-    members = record { some = above_ones k some; within = λ m h. g.sound.present m (whole m h) };
+    members = record { some = above_whole k some; within = λ m h. g.sound.present m (whole m h) };
     part = whole;
     present = g.sound.present;
   };

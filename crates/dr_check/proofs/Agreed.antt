@@ -7,8 +7,8 @@ use Rattle.dr_entry.specs.declared.{end.{AgeEnd.AgeEnd, MemberEnd.MemberEnd}, en
 use Rattle.dr_entry.proofs.{BoolFacts.not_so, Ends.first_found}
 use Rattle.dr_history.specs.{Agreement.{EndsAgreed, accounts_of, sent_by}, History.view_of, Members.{has, members_of}}
 use Rattle.dr_history.specs.{Order.InOrder, Restarting.AllStand, Soundness.{IsNobodyLate, IsPresentIn, Sound}}
-use Rattle.dr_history.{specs.declared.opening.Opening.Opening, proofs.Histories.history_of}
-use Rattle.dr_history_laws.proofs.{Lists.first_at, Standing.history-stands}
+use Rattle.dr_history.{specs.declared.opening.Opening.Opening, proofs.{Histories.history_of, Lists.first_at}}
+use Rattle.dr_history.proofs.Standing.{history-stands}
 use Rattle.dr_script.specs.{Ranges.HasGroupRanges, declared.script.Script.Script}
 use Rattle.dr_text.specs.Report.{is_absent}
 use Rattle.dr_words.{specs.Masks.mask_of, proofs.{Masks.{has_mask_of, in_roster_small}, Ranks.least_member}}

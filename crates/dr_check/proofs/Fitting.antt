@@ -1,26 +1,19 @@
 -- What is printed of ages whose members agree is told by lines.
 use Rattle.std.specs.Prelude.{Contains, Option}
-use Rattle.std.proofs.Common.{◌≡◌, ◌⊎◌, inl, inr, refl, sym, ap, ◌∙◌, subst, ℕ, zero, suc, ◌+◌, ◌*◌, ◌^◌, ◌<◌, ◌≤◌, arith, List, [], ◌∷◌, length, take, get_or, All, None, Some, slice_get, append_assoc}
-use Rattle.std.proofs.lemmas.{List.{take_all, Elements.{All-contains, All-head, All-tail}}, Option.slice_get_within}
+use Rattle.std.proofs.Common.{◌≡◌, ◌⊎◌, inl, inr, refl, sym, ap, ◌∙◌, subst, ℕ, ◌+◌, ◌*◌, ◌^◌, ◌<◌, ◌≤◌, arith, List, [], ◌∷◌, length, take, get_or, All, None, Some, slice_get, append_assoc}
+use Rattle.std.proofs.lemmas.{List.{take_all, Elements.All-contains}, Option.slice_get_within}
 use Rattle.dr_entry.specs.declared.{end.{AgeEnd.AgeEnd, MemberEnd.MemberEnd}, entry.Entry.Entry}
 use Rattle.dr_entry.specs.declared.{entry.Entry.TheVariants.{View, Msg}, limits.TheConstants.MAX_MESSAGE_LENGTH}
-use Rattle.dr_entry.proofs.ListPlaces.{all_from_places}
+use Rattle.dr_entry.proofs.{Bits.few_at, ListParts.each_at, ListPlaces.all_from_places, OptionFacts.some_of}
 use Rattle.dr_history.specs.{Agreement.{accounts_of, sent_by}, History.{GroupView, messages_of, view_of}}
 use Rattle.dr_history.specs.{Order.InOrder, Restarting.{AllStand, next_age}, declared.opening.Opening.Opening}
-use Rattle.dr_history_laws.proofs.{Lengths.stood-short, Lists.{first_at, all_at}}
-use Rattle.dr_history_laws.proofs.Stood.{age_below, small_number, some_of, view_below, view_age}
+use Rattle.dr_history.proofs.{Lengths.stood-short, Lists.first_at}
+use Rattle.dr_history.proofs.Stood.{age_below, small_number, view_below, view_age}
 use Rattle.dr_script.specs.{Ranges.HasGroupRanges, declared.script.Script.Script}
 use Rattle.dr_words.proofs.Masks.{in_roster_small}
 use Rattle.dr_check.specs.Lines.{EndFits, EntryFits, IsLong}
 use Rattle.dr_check.specs.Values.{HasSmallNumbers, IsAgreed, IsTellable, IsTellableAge, TellsNothing, TellsPart, told_opening}
 use Rattle.dr_check.proofs.{Agreed.{durable_within, order, stand}, Telling.not_absent}
-
--- no list of lists of at most so many is longer
-few_at : (lists : List (List (List ℕ))) (s n : ℕ) → All (λ messages. length messages ≤ n) lists
-    → length (get_or lists s []) ≤ n
-few_at [] s n few = omega arith
-few_at (x ∷ lists) zero n few = All-head (λ messages. length messages ≤ n) x lists few
-few_at (x ∷ lists) (suc s) n few = few_at lists s n (All-tail (λ messages. length messages ≤ n) x lists few)
 
 -- entries that may stand, in an age of the script
 module _ (script : Script) (o : Opening) (es : List Entry) (ranges : HasGroupRanges script)
@@ -59,9 +52,9 @@ module _ (script : Script) (o : Opening) (es : List Entry) (ranges : HasGroupRan
             omega (arith, below, few),
             omega (arith, slice_get_within (get_or script.messages s []) k b its, ranges.few s [] there),
             record {
-              few = all_at (λ (bytes : List ℕ). length bytes ≤ MAX_MESSAGE_LENGTH) (get_or script.messages s []) k
+              few = each_at (λ (bytes : List ℕ). length bytes ≤ MAX_MESSAGE_LENGTH) (get_or script.messages s []) k
                   b (ranges.short s [] there) its;
-              small = all_at (All (λ byte. byte < 256)) (get_or script.messages s []) k b
+              small = each_at (All (λ byte. byte < 256)) (get_or script.messages s []) k b
                   (ranges.bytes s [] there) its;
             },
           )
@@ -113,7 +106,7 @@ agreed_fit script a ranges good small = record {
       history = long;
       logged = omega (
         arith,
-        all_at (λ (f : MemberEnd). f.logged ≤ length f.history) a.members i e good.agreed.told at,
+        each_at (λ (f : MemberEnd). f.logged ≤ length f.history) a.members i e good.agreed.told at,
         long,
       );
       durable = omega (arith, durable_within script a ranges.most_members good i e at (not_absent e.end fits), long);
@@ -136,7 +129,7 @@ agreed_fit script a ranges good small = record {
         long = entries_few script (told_opening script a) e.history ranges refl (stands i e at fits) last
 
     each : (i : ℕ) (e : MemberEnd) → slice_get a.members i ≡ Some e → IsTellable a.start e
-    each i e at = elim (all_at (λ (e : MemberEnd). EndFits e.end ⊎ TellsNothing e) a.members i e small.ends at) [
+    each i e at = elim (each_at (λ (e : MemberEnd). EndFits e.end ⊎ TellsNothing e) a.members i e small.ends at) [
       | inl fits ↦ inl (part i e at fits)
       | inr nothing ↦ inr nothing
     ]

@@ -1,8 +1,7 @@
 -- Reports that keep every clause have no flaw, and what is printed of agreed ages is one.
 use Rattle.std.proofs.Common.{inl, inr, ℕ, List, All}
-use Rattle.dr_entry.{specs.declared.end.AgeEnd.AgeEnd, proofs.ListPlaces.all_from_places}
+use Rattle.dr_entry.{specs.declared.end.AgeEnd.AgeEnd, proofs.{ListParts.each_at, ListPlaces.all_from_places}}
 use Rattle.dr_script.specs.{Ranges.HasGroupRanges, declared.script.Script.Script}
-use Rattle.dr_history_laws.proofs.Lists.{all_at}
 use Rattle.dr_text.specs.{Report.report_text, declared.last.{Clause.Clause, Last.Last}}
 use Rattle.dr_check.specs.Flaws.{AgeBreaks, AgeKeeps, IsFirstFlaw, IsRight, MemberBreaks, MemberKeeps}
 use Rattle.dr_check.specs.{Grammar.IsReport, Lines.LastFits}
@@ -37,6 +36,6 @@ pub printed_right : (script : Script) (ages : List AgeEnd) (last : Last) → Has
     → (r : Report) × IsReport script.members (report_text ages last) r × IsRight script r
 printed_right script ages last ranges agreed kept small fits =
     let r = told script.members ages last ranges.most_members (all_from_places (IsTellableAge script.members) ages
-    (λ i a at. agreed_fit script a ranges (all_at (IsAgreed script) ages i a agreed at)
-    (all_at HasSmallNumbers ages i a small at))) fits in
+    (λ i a at. agreed_fit script a ranges (each_at (IsAgreed script) ages i a agreed at)
+    (each_at HasSmallNumbers ages i a small at))) fits in
     (r.0, r.1, passes script ages r.0 ranges r.2 agreed kept)

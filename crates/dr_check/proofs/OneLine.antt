@@ -2,8 +2,7 @@
 use Rattle.std.specs.Fmt.{decimal}
 use Rattle.std.proofs.Common.{◌≡◌, refl, sym, ap, ◌∙◌, ℕ, ◌+◌, arith, List, codes, length, get_or}
 use Rattle.dr_entry.{specs.declared.entry.Entry.{Entry, TheVariants.{View, Msg}}, proofs.ListFacts.same_number}
-use Rattle.dr_history.specs.Members.{members_of}
-use Rattle.dr_history_laws.proofs.Members.{same_joined, low}
+use Rattle.dr_history.{specs.Members.members_of, proofs.MemberLemmas.{same_joined, low}}
 use Rattle.dr_text.{specs.Report.{entry_text, mask_text}, proofs.Hex.same_message}
 use Rattle.dr_words.proofs.Masks.{with_all, with_all_members}
 use Rattle.dr_check.specs.Fields.{end_fields, field, kind_of, kind_of_end, width_of}

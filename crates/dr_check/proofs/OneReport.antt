@@ -2,7 +2,7 @@
 use Rattle.std.{specs.List.{AllZip, flat_map}, proofs.lemmas.List.Elements.{All-head, All-tail}}
 use Rattle.std.proofs.Common.{◌≡◌, inl, inr, refl, sym, ap, ◌∙◌, subst, ℕ, ◌+◌, arith, All, Bool, true, false, List, [], ◌∷◌, ◌++◌, length, map, drop, append_assoc}
 use Rattle.dr_entry.{specs.declared.entry.Entry.Entry, proofs.Entries.length_behind}
-use Rattle.dr_history.proofs.Histories.{behind_start}
+use Rattle.dr_history.proofs.Lists.{behind_start}
 use Rattle.dr_check.specs.Grammar.{AgesFrom, HasStart, IsReport, IsWholeAge, MembersFrom, age_lines, member_lines, members_lines, report_lines}
 use Rattle.dr_check.{specs.Lines.{IsLineText, lines_of}, proofs.OneLine.same_line}
 use Rattle.dr_check.specs.declared.line.Line.{Line, TheVariants.{Age, Present, Absent, Entry as EntryLine, Last}}

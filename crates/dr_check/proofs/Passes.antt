@@ -3,15 +3,15 @@ use Rattle.std.specs.{List.Any, Option.option_map_or, Prelude.{Option, IfSome, I
 use Rattle.std.proofs.Common.{◌≡◌, ◌⊎◌, inl, inr, refl, sym, ap, ◌∙◌, subst, ℕ, zero, suc, ◌+◌, ◌<◌, ◌≤◌, arith, not, Bool, true, false, true≢false, List, [], length, take, get_or, All, Contains, None, Some, slice_get}
 use Rattle.std.proofs.lemmas.List.{length-take, Elements.All-weaker}
 use Rattle.std.proofs.lemmas.Option.{same_Some, slice_get-get_or, slice_get_within}
-use Rattle.dr_entry.specs.declared.{end.{AgeEnd.AgeEnd, MemberEnd.MemberEnd}, entry.Entry.TheVariants.{View, Msg}}
-use Rattle.dr_entry.{specs.declared.entry.Entry.Entry, proofs.OptionFacts.if_some}
-use Rattle.dr_entry.proofs.{BoolFacts.not_so, ListPlaces.{all_from_places, any_at, at_any, behind_at, zip_at, zip_to}}
+use Rattle.dr_entry.specs.declared.{end.{AgeEnd.AgeEnd, MemberEnd.MemberEnd}, entry.Entry.Entry}
+use Rattle.dr_entry.{specs.declared.entry.Entry.TheVariants.{View, Msg}, proofs.{BoolFacts.not_so, ListParts.each_at}}
+use Rattle.dr_entry.proofs.ListPlaces.{all_from_places, any_at, at_any, behind_at, zip_at, zip_to, Contains-slice_get}
+use Rattle.dr_entry.proofs.OptionFacts.{if_some, some_of}
 use Rattle.dr_history.specs.{Agreement.{accounts_of, sent_by}, History.{GroupView, IsPrefixOf, view_of}}
 use Rattle.dr_history.specs.{Members.{has, members_of}, Order.{IsLateIn, IsSucceededBy, MayJoin}, Restarting.Kept}
 use Rattle.dr_history.{specs.Soundness.{IsNobodyLate, IsPresentIn, MayStand}, proofs.Histories.history_of}
-use Rattle.dr_history.proofs.Masks.{same_masks}
-use Rattle.dr_history_laws.proofs.Lists.{Contains-slice_get, first_at, all_at, all_below, same_at}
-use Rattle.dr_history_laws.proofs.{Members.{member-has, in_mask, all_members}, Stood.{named_below, some_of}}
+use Rattle.dr_history.proofs.{Lists.{first_at, all_below, same_at}, Masks.same_masks}
+use Rattle.dr_history.proofs.{MemberLemmas.{member-has, in_mask, all_members}, Stood.named_below}
 use Rattle.dr_script.specs.{Ranges.HasGroupRanges, declared.script.Script.Script}
 use Rattle.dr_text.specs.{Report.is_absent, declared.last.Clause.Clause}
 use Rattle.dr_words.specs.Masks.{mask_of}
@@ -208,7 +208,7 @@ module _ (script : Script) (a : AgeEnd) (ra : ReportAge) (ranges : HasGroupRange
         let on_logs : AreLogged ra m (members_of k.1) =
         All-weaker (λ j. e.durable ≤ length (accounts_of a.members j).log) (λ s. m.durable ≤ logged_by ra s)
         (λ s less. omega (arith, less, same.durable, log_short s)) (members_of k.1) k.3 in
-        let told = all_at (λ (f : MemberEnd). f.logged ≤ length f.history) a.members i e good.agreed.told at in
+        let told = each_at (λ (f : MemberEnd). f.logged ≤ length f.history) a.members i e good.agreed.told at in
         record {
           told = omega (arith, told, same.logged, ap length same.history);
           some = any_at (IsDurableView ra m) m.history k.2.0 (View a.age k.0 k.1)
@@ -273,7 +273,7 @@ passes script ages r ranges values good kept c i ra at = (
     a = zip_at HasAge ages r.ages values i ra at
 
     fine : IsAgreed script a.0
-    fine = all_at (IsAgreed script) ages i a.0 good a.1
+    fine = each_at (IsAgreed script) ages i a.0 good a.1
 
     after : (j : ℕ) → slice_get r.ages (suc j) ≡ Some ra → IfSome (slice_get r.ages j) (λ before. KeepsAge before ra)
     after j here = by (slice_get r.ages j) refl
@@ -283,7 +283,7 @@ passes script ages r ranges values good kept c i ra at = (
         by (Some rp) was =
             let p = zip_at HasAge ages r.ages values j rp was in
             let b = zip_at HasAge ages r.ages values (suc j) ra here in
-            keeps_age script p.0 b.0 rp ra ranges (all_at (IsAgreed script) ages j p.0 good p.1) p.2 b.2
+            keeps_age script p.0 b.0 rp ra ranges (each_at (IsAgreed script) ages j p.0 good p.1) p.2 b.2
             (kept j p.0 b.0 p.1 b.1)
 
     itself : (c : Clause) (i : ℕ) → slice_get r.ages i ≡ Some ra → AgeItself c script r.ages i ra

@@ -1,14 +1,15 @@
 -- What follows where every clause is kept.
-use Rattle.std.{specs.Prelude.{IfSome, IsSomeAnd, Option}, proofs.lemmas.List.take_all}
+use Rattle.std.specs.Prelude.{IfSome, IsSomeAnd, Option}
 use Rattle.std.proofs.Common.{◌≡◌, ◌≢◌, ◌⊎◌, inl, inr, refl, sym, ap, ◌∙◌, subst, ℕ, zero, suc, ◌+◌, ◌-◌, ◌<◌, ◌≤◌, arith, List, [], ◌∷◌, ◌++◌, length, take, drop, All, None, Some, slice_get, append-nil, take-append-drop}
-use Rattle.std.proofs.lemmas.{Bool.{cases_lt, false≢true}, Option.{none-some, same_Some, slice_get_within}}
-use Rattle.dr_entry.specs.declared.entry.Entry.{Entry, TheVariants.{View, Msg}}
-use Rattle.dr_entry.proofs.ListPlaces.{all_from_places, at_any, at_behind}
+use Rattle.std.proofs.lemmas.{Bool.{cases_lt, false≢true}, List.take_all, Option.{none-some, same_Some}}
+use Rattle.dr_entry.{specs.declared.entry.Entry.{Entry, TheVariants.{View, Msg}}, proofs.ListParts.each_at}
+use Rattle.dr_entry.proofs.ListPlaces.{all_from_places, at_any, at_behind, slice_get-some, slice_get-take, take-next}
+use Rattle.dr_entry.proofs.OptionFacts.{IsSomeAnd-at}
 use Rattle.dr_history.specs.{Agreement.SamePast, History.{GroupView, IsPrefixOf, view_of}, Members.members_of}
 use Rattle.dr_history.specs.{Order.messages_from, Restarting.AreAlong, declared.opening.Opening.Opening}
-use Rattle.dr_history.proofs.{Histories.{along, turned_past}, NumberedLemmas.messages_from-View}
-use Rattle.dr_history_laws.proofs.Lists.{IsSomeAnd-at, slice_get-prefix, slice_get-some, slice_get-take, take-next, take-prefix, all_at}
-use Rattle.dr_history_laws.proofs.{Pushing.numbered-push, Views.{IsLater, View-once, ViewsRise}}
+use Rattle.dr_history.proofs.{Histories.turned_past, Lists.{slice_get-prefix, take-prefix, SamePast-prefix, along}}
+use Rattle.dr_history.proofs.{NumberedLemmas.messages_from-View, Pushing.numbered-push}
+use Rattle.dr_history.proofs.ViewLemmas.{IsLater, ViewsRise}
 use Rattle.dr_script.specs.declared.script.Script.{Script}
 use Rattle.dr_text.specs.declared.last.Clause.{Clause}
 use Rattle.dr_text.specs.declared.last.Clause.TheVariants as clauses
@@ -16,18 +17,6 @@ use Rattle.dr_check.specs.Agreeing.{AreAgreed, HasPart, IsKeptBy, IsOnLogs, IsOr
 use Rattle.dr_check.specs.Clauses.{AreLogged, Continues, EntryItself, HasDelivered, HasSame, IsDurableView, IsFirstView, IsKeptIn, KeepsAge, KeepsBytes, KeepsDurable, KeepsIndex, KeepsSender, KeepsStart, KeepsView, MayComeNext, MayStart, MemberItself, TakesPart, logged_by}
 use Rattle.dr_check.specs.{Flaws.IsRight, Grammar.{HasStart, IsWholeAge}, declared.report.Report.Report}
 use Rattle.dr_check.specs.declared.report.{ReportAge.ReportAge, ReportMember.ReportMember}
-
--- where the Views rise, a View that also stands in a front part has its past there
-past_in_front : (g h : List Entry) → ViewsRise 0 h → IsPrefixOf g h → SamePast g h
-past_in_front g h rise pre i j age number m n at_i at_j =
-    let also : slice_get h i ≡ Some (View age number m) = slice_get-prefix g h i (View age number m) pre at_i in
-    let place : i ≡ j = View-once h i j age number m n rise also at_j in
-    let same : View age number m ≡ View age number n =
-    same_Some (View age number m) (View age number n) (sym also ∙ (ap (slice_get h) place ∙ at_j)) in (
-      cc,
-      sym (take-prefix g h i pre (omega (arith, slice_get_within g i (View age number m) at_i)))
-          ∙ ap (λ k. take k h) place,
-    )
 
 -- an opening with the script's messages
 abbrev opened : Script → Opening
@@ -53,7 +42,7 @@ module _ (script : Script) (r : Report) (right : IsRight script r) (nth : ℕ) (
         (at_behind (length a.start) m.history k ∙ (ap (slice_get m.history) place ∙ spot)))
 
     front : IsPrefixOf a.start m.history
-    front = by (all_at (HasStart a.start) a.members n m whole.1 there.0)
+    front = by (each_at (HasStart a.start) a.members n m whole.1 there.0)
       where
         by : HasStart a.start m → IsPrefixOf a.start m.history
         by (inl has) = has.1
@@ -223,7 +212,7 @@ module _ (script : Script) (r : Report) (right : IsRight script r) (nth : ℕ) (
           let has : HasSame k y m = earlier keeps in same (slice_get m.history k) in_m (has here.1)
         where
           earlier : All (HasSame k y) (take j a.members) → HasSame k y m
-          earlier all = all_at (HasSame k y) (take j a.members) i m all (slice_get-take j a.members i less ∙ here.0)
+          earlier all = each_at (HasSame k y) (take j a.members) i m all (slice_get-take j a.members i less ∙ here.0)
 
           same : (z : Option Entry) → z ≡ Some x → IfSome z (λ w. w ≡ y) → x ≡ y
           same None is w = absurd (none-some x is)
@@ -260,14 +249,14 @@ module _ (script : Script) (r : Report) (right : IsRight script r) (nth : ℕ) (
     where
       past : (i j : ℕ) (m o : ReportMember) → HasPart a i m → HasPart a j o → AreAlong m.history o.history
           → SamePast m.history o.history
-      past i j m o here there (inl p) = past_in_front m.history o.history (rise j o there) p
+      past i j m o here there (inl p) = SamePast-prefix m.history o.history (rise j o there) p
       past i j m o here there (inr p) =
-          turned_past o.history m.history (past_in_front o.history m.history (rise i m here) p)
+          turned_past o.history m.history (SamePast-prefix o.history m.history (rise i m here) p)
 
 pub all_agreed : (script : Script) (r : Report) → IsRight script r → All (IsWholeAge script.members) r.ages
     → All (AreAgreed script) r.ages
 all_agreed script r right whole = all_from_places (AreAgreed script) r.ages
-    (λ i a at. agreed script r right i a at (all_at (IsWholeAge script.members) r.ages i a whole at))
+    (λ i a at. agreed script r right i a at (each_at (IsWholeAge script.members) r.ages i a whole at))
 
 -- and each age keeps the one before it
 pub keeps_before : (script : Script) (r : Report) → IsRight script r → (i : ℕ) (a next : ReportAge)
@@ -277,7 +266,7 @@ keeps_before script r right i a next at to =
     let some = at_any (HasDelivered next) a.members keeps.delivered in record {
       later = keeps.later;
       delivered = (some.0, some.1, (some.2, some.3.0), some.3.1);
-      durable = λ j m there. all_at (IsKeptIn next) a.members j m keeps.durable there.0 there.1;
+      durable = λ j m there. each_at (IsKeptIn next) a.members j m keeps.durable there.0 there.1;
     }
   where
     by : (z : Option ReportAge) → z ≡ Some a → IfSome z (λ before. KeepsAge before next) → KeepsAge a next

@@ -1,10 +1,9 @@
 -- Entries that may stand on a log may stand in a start.
 use Rattle.std.proofs.Common.{◌≡◌, ◌≢◌, refl, Bool, true, false, inl, inr, sym, ap, ◌∙◌, subst, ℕ, ◌+◌, ◌<◌, ◌≤◌, arith, List, [], length, take, All, Some, slice_get, slice_index_or}
-use Rattle.dr_entry.specs.declared.entry.Entry.{Entry, TheVariants.{View, Msg}}
-use Rattle.dr_history.specs.{History.{GroupView, view_of}, Members.{has, members_of}}
-use Rattle.dr_history.specs.{Order.{AreOfRoster, ContinuesAge}, Restarting.AllStand, Soundness.MayStand}
-use Rattle.dr_history.{specs.declared.opening.Opening.Opening, proofs.{Bits.has_zero, Masks.same_masks}}
-use Rattle.dr_history_laws.proofs.{Lists.IsSomeAnd-more, Members.has-member, Stood.named_below}
+use Rattle.dr_entry.{specs.declared.entry.Entry.{Entry, TheVariants.{View, Msg}}, proofs.OptionFacts.IsSomeAnd-more}
+use Rattle.dr_history.{specs.{History.{GroupView, view_of}, Soundness.MayStand}, proofs.MemberLemmas.has-member}
+use Rattle.dr_history.{specs.Members.{has, members_of}, proofs.{Bits.has_zero, Masks.same_masks, Stood.named_below}}
+use Rattle.dr_history.specs.{Order.{AreOfRoster, ContinuesAge}, Restarting.AllStand, declared.opening.Opening.Opening}
 use Rattle.dr_script.specs.declared.script.Script.{Script}
 use Rattle.dr_check.specs.Clauses.{Continues, MayStart}
 

@@ -5,8 +5,7 @@ use Rattle.std.proofs.Common.{◌≡◌, ◌⊎◌, inl, inr, refl, sym, ap, ◌
 use Rattle.std.proofs.lemmas.List.{drop_all, take_all, Splits.{slice_split_first, slice_split_none, slice_split_at}}
 use Rattle.std.proofs.lemmas.List.Elements.{All-append, All-cons, All-head, All-nil, All-tail, Contains-get_or}
 use Rattle.dr_entry.proofs.{ListFacts.{none_at, joined}, NumberFacts.glyph_high}
-use Rattle.dr_history.specs.Members.{members_of}
-use Rattle.dr_history_laws.proofs.Members.{members_of-lt}
+use Rattle.dr_history.{specs.Members.members_of, proofs.MemberLemmas.members_of-lt}
 use Rattle.dr_text.specs.Report.{hex_text, mask_text, message_text}
 use Rattle.dr_check.specs.Fields.{field, fields, is_end}
 

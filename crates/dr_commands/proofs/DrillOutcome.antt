@@ -3,12 +3,9 @@ use Rattle.std.proofs.Common.{◌≡◌, ◌⊎◌, ap, inl, inr, ℕ, List, Non
 use Rattle.dr_drill.specs.Drill.{drill}
 use Rattle.dr_outcome.specs.declared.outcome.Body.TheVariants as bodies
 use Rattle.dr_outcome.specs.{Outcome.{HasDone, HasPlayed, SaysOnly}, Playing.simulated}
-use Rattle.dr_outcome.{specs.declared.outcome.Outcome.Outcome, proofs.Due.played_ends}
+use Rattle.dr_outcome.{specs.declared.outcome.Outcome.Outcome, proofs.{Due.played_ends, OutcomeKinds.saying}}
 use Rattle.dr_yard.specs.Yards.{YardState}
 use Rattle.dr_commands.specs.{Drill.{Drills, drill_ends}, DrillLines.drill_text}
-
-abbrev saying : Outcome → List ℕ → Outcome
-saying o text = record o { body = bodies.Text text }
 
 played_so : (number : ℕ) (yard : YardState) (o : Outcome) (text : List ℕ)
     → HasPlayed simulated (drill number) yard yard o → HasPlayed simulated (drill number) yard yard (saying o text)

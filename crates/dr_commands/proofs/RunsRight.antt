@@ -6,12 +6,12 @@ use Rattle.dr_ages.{specs.declared.{part.Part.Part, stop.Stop.Stop}, proofs.Part
 use Rattle.dr_check.specs.Lines.{EndFits, LastFits}
 use Rattle.dr_check.specs.Values.{HasSmallNumbers, IsAgreed, KeepEachOther, TellsNothing, told_opening, took_part}
 use Rattle.dr_check.proofs.{Agreed.{end_there, is_here, order, told_as_opened}, Flawless.printed_right, Values.took}
-use Rattle.dr_entry.specs.declared.end.{AgeEnd.AgeEnd, End.End, MemberEnd.MemberEnd}
+use Rattle.dr_entry.{specs.declared.end.{AgeEnd.AgeEnd, End.End, MemberEnd.MemberEnd}, proofs.ListParts.each_at}
 use Rattle.dr_entry.proofs.{ListPlaces.all_from_places, NumberFacts.{IsRunEnd, apart}}
 use Rattle.dr_entry.specs.declared.end.End.TheVariants as ends
-use Rattle.dr_history.specs.{Agreement.{EndsAgreed, accounts_of, sent_by}, History.GroupView}
-use Rattle.dr_history.specs.{Members.{has, members_of}, Restarting.Kept, Soundness.{IsPresentIn, Sound}}
-use Rattle.dr_history.{specs.declared.opening.Opening.Opening, proofs.{Bits.has_zero, Masks.same_masks}}
+use Rattle.dr_history.specs.{Agreement.{EndsAgreed, accounts_of, sent_by}, declared.opening.Opening.Opening}
+use Rattle.dr_history.{specs.{History.GroupView, Soundness.{IsPresentIn, Sound}}, proofs.MemberLemmas.low_number}
+use Rattle.dr_history.{specs.{Members.{has, members_of}, Restarting.Kept}, proofs.{Bits.has_zero, Masks.same_masks}}
 use Rattle.dr_intake.specs.Status.{status_of}
 use Rattle.dr_outcome.specs.Last.{first_end, first_told, is_of, last_by, last_of, refusal_of, some_end, stopped_by}
 use Rattle.dr_outcome.specs.declared.last.Kind.TheVariants.{DiskFault, LogFull, NoMajority, Spent}
@@ -20,7 +20,6 @@ use Rattle.dr_program.specs.Program.{absent_end}
 use Rattle.dr_program_laws.specs.Ended.{HasEnded, HasReason, IsLeftOut, is_log_end}
 use Rattle.dr_restart.specs.Setups.{crashes_of}
 use Rattle.dr_script.specs.{Ranges.HasRanges, declared.script.Script.Script}
-use Rattle.dr_history_laws.proofs.{Lists.all_at, Members.low_number}
 use Rattle.dr_text.specs.{Report.{is_absent, report_text}, declared.last.Last.Last}
 use Rattle.dr_text.specs.declared.last.Last.TheVariants as lasts
 use Rattle.dr_words.{specs.Masks.mask_of, proofs.Masks.{has_mask_of, in_roster_small}}
@@ -192,8 +191,8 @@ keep_each_other : (script : Script) (part : Part) (ages : List AgeEnd) → AreKe
     → All (λ age. told_opening script age ≡ opening_of script part age) ages → KeepEachOther script ages
 keep_each_other script part ages kept told i a next at after =
     let same : suc i ≡ i + 1 = omega arith in
-    let one = all_at (λ age. told_opening script age ≡ opening_of script part age) ages i a told at in
-    let other = all_at (λ age. told_opening script age ≡ opening_of script part age) ages (suc i) next told after in
+    let one = each_at (λ age. told_opening script age ≡ opening_of script part age) ages i a told at in
+    let other = each_at (λ age. told_opening script age ≡ opening_of script part age) ages (suc i) next told after in
     subst (λ o. Kept o (accounts_of a.members) (told_opening script next)) (sym one)
     (subst (λ o. Kept (opening_of script part a) (accounts_of a.members) o) (sym other)
     (kept.next i a next at (ap (slice_get ages) (sym same) ∙ after)))
@@ -216,5 +215,5 @@ run_right script part mode before after ages stop last ranges tell run is end =
     (λ nth before after age is. opened_as_told script part mode nth before after age ranges is) 0 before run.last
     ages run.course))
     (all_from_places HasSmallNumbers ages
-    (λ i age at. all_at IsSmallUnlessFull ages i age small at
+    (λ i age at. each_at IsSmallUnlessFull ages i age small at
     (λ m e there. none_full ages i age m e fits.0 at there))) fits.1

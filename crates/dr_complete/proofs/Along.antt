@@ -1,95 +1,21 @@
 -- How far a member has come after so many rounds, and that its next turn brings it on.
-use Rattle.std.proofs.Common.{ap, arith, inl, inr, le_trans, length, length-append, map, subst, sym, true, ℕ, ◌%◌, ◌*◌, ◌+◌, ◌<◌, ◌∙◌, ◌≡◌, ◌≢◌, ◌≤◌, ◌⊎◌}
+use Rattle.std.proofs.Common.{ap, arith, inl, inr, le_trans, length, length-append, map, subst, sym, ℕ, ◌%◌, ◌*◌, ◌+◌, ◌<◌, ◌∙◌, ◌≡◌, ◌≢◌, ◌≤◌, ◌⊎◌}
 use Rattle.std.proofs.lemmas.{Bool.{cases_eq, cases_lt}, Nat.mod_below}
-use Rattle.dr_history.specs.{History.{messages_in, messages_of}, Members.{has, members_of}, Order.messages_from}
-use Rattle.dr_history.{specs.Places.front_of, proofs.Histories.messages_within}
-use Rattle.dr_words.specs.{Columns.recv_column, Packing.recv_count}
-use Rattle.dr_words.specs.declared.column.TheConstants.{BEAT_COLUMN, DONE_COLUMN, LOGGED_COLUMN, RECEIVED_COLUMN}
+use Rattle.dr_entry.proofs.NumberFacts.{HasCome, Rests, come_more, round_le}
+use Rattle.dr_history.{specs.{Members.members_of, Places.front_of}, proofs.Fronts.front_past}
+use Rattle.dr_words.specs.declared.column.TheConstants.{DONE_COLUMN, LOGGED_COLUMN, RECEIVED_COLUMN}
 use Rattle.dr_ring.specs.Slots.{slot_column}
-use Rattle.dr_machine.specs.{Group.{Group, columns, roster}, Guards.{HasRoom, HoldsAll, next_index}}
-use Rattle.dr_machine.{specs.World.{World, items_received, own_word, shown}, proofs.Presence.is_present}
-use Rattle.dr_program.proofs.Holdings.{Holding, held}
-use Rattle.dr_faithful.{specs.{Chosen.views_by, Faithful.Faithful}, proofs.Shown.done_is_one}
-use Rattle.dr_world_laws.proofs.{ChosenViews.views-first, SentItems.all_put, Worlds.{holds-remaining, put_first}}
-use Rattle.dr_turn_laws.{specs.{Rested.IsRested, Wants.IsLeft}, proofs.Acts.nothing_left}
-use Rattle.dr_complete.{specs.Reached.SeesSlot, proofs.Come.{HasCome, Rests, Room, come_less, come_more, come_none}}
-use Rattle.dr_complete.proofs.Firsts.{IsFirst, count_first, members_are, of_members, of_roster, own_first, start_first, told}
-use Rattle.dr_complete.proofs.Takes.{takes_all}
-use Rattle.dr_complete.proofs.Whole.{IsPastAll, PutAll, front_past, holds_all, members_first, round_le}
+use Rattle.dr_machine.specs.{Group.{Group, roster}, Guards.HoldsAll, World.{World, items_received, own_word, shown}}
+use Rattle.dr_machine.proofs.{Groups.members_first, Presence.is_present}
+use Rattle.dr_program.proofs.Holdings.{held, IsAlong}
+use Rattle.dr_faithful.specs.{Chosen.views_by, Faithful.Faithful}
+use Rattle.dr_faithful.proofs.{ChosenViews.{views-first, IsPastAll, PutAll}, Shown.done_is_one}
+use Rattle.dr_world_laws.proofs.{Firsts.{count_first, own_first, told, is_in_view, in_view_is}, Whole.holds_all}
+use Rattle.dr_world_laws.proofs.Worlds.{holds-remaining}
+use Rattle.dr_turn_laws.proofs.Acts.{nothing_left}
+use Rattle.dr_turn_laws.proofs.Resting.{HasHadTurn, slot_is_free, is_left, fills, shows_own, has_logged}
+use Rattle.dr_complete.{specs.Reached.SeesSlot, proofs.Takes.takes_all}
 use Rattle.dr_history_laws.specs.Remaining.{messages_left}
-
--- ---- how far a member has come
-
--- the history that a member has is whole
-abbrev pub IsWhole : Group → Holding → Type 0
-IsWhole g h = (s : ℕ) → has h.members s ≡ true → length (messages_from s h.history) ≡ length (messages_of g.opening s)
-
--- what member m has come to after r rounds, where nobody has more than `most` messages left
-pub record IsAlong (g : Group) (most r m : ℕ) (h : Holding) : Type 0 where
-  -- to items
-  pub come : HasCome (roster g) (messages_left g.opening) r m (h.count 0)
-  -- to all messages, on its log, with a logged word that says so
-  pub whole : 3 * most + 1 ≤ r → IsWhole g h × (length h.history ≤ h.own 0 LOGGED_COLUMN)
-  -- to showing done
-  pub done : 3 * most + 2 ≤ r → h.own 0 DONE_COLUMN ≡ 1
-
--- before the first round nothing is asked
-pub along_none : (g : Group) (most m : ℕ) (h : Holding) → IsAlong g most 0 m h
-along_none g most m h = record {
-  come = come_none (roster g) (messages_left g.opening) m (h.count 0);
-  whole = λ late. absurd (omega (arith, late));
-  done = λ late. absurd (omega (arith, late));
-}
-
--- who has come as far as a round more brings it has come so far before
-pub along_less : (g : Group) (most r m : ℕ) (h : Holding) → IsAlong g most (r + 1) m h → IsAlong g most r m h
-along_less g most r m h a = record {
-  come = come_less (roster g) (messages_left g.opening) r m (h.count 0) a.come;
-  whole = λ late. a.whole (omega (arith, late));
-  done = λ late. a.done (omega (arith, late));
-}
-
--- m sees the own words of the others as they are, but for their beats; the logged words do so once all have
--- had a turn
-abbrev pub SeesOwn : Group → World → ℕ → ℕ → Type 0
-SeesOwn g w r m = (i c : ℕ) → i < roster g → i ≢ m → c < columns g → c ≢ BEAT_COLUMN
-    → (c ≡ LOGGED_COLUMN → 1 ≤ r) → w.seen m i c ≡ w.past.own i 0 c
-
--- m has had its turn, and the others have come at least as far as r rounds bring them
-pub record HasHadTurn (g : Group) (w : World) (most r m : ℕ) : Type 0 where
-  pub known : IsFirst g w
-  pub member : m < roster g
-  pub few : (s : ℕ) → messages_left g.opening s ≤ most
-  pub rested : IsRested g w m
-  pub sees : SeesOwn g w r m
-  pub others : (i : ℕ) → i < roster g → i ≢ m → IsAlong g most r i (held w i)
-
--- ---- what m sees
-
--- the members of its view are those of the roster
-is_in_view : {g : Group} {w : World} → IsFirst g w → (m i : ℕ) → i < roster g → has (w.members m) i ≡ true
-is_in_view y m i l = ap (λ mask. has mask i) (members_are y m) ∙ of_members y i l
-
-pub in_view_is : {g : Group} {w : World} → IsFirst g w → (m i : ℕ) → has (w.members m) i ≡ true → i < roster g
-in_view_is y m i member = of_roster y i (ap (λ mask. has mask i) (sym (members_are y m)) ∙ member)
-
--- its own row shows its own words
-pub shown_mine : (w : World) (m i c x : ℕ) → i ≡ m → own_word w m c ≡ x → shown w m i c ≡ x
-shown_mine w m i c x same word = grind (arith, same, word)
-
--- and another's the words that it has seen
-pub shown_other : (w : World) (m i c x : ℕ) → i ≢ m → w.seen m i c ≡ x → shown w m i c ≡ x
-shown_other w m i c x other word = grind (arith, other, word)
-
--- each row that it sees shows the own words of its member
-shows_own : {g : Group} {w : World} {most r m : ℕ} → HasHadTurn g w most r m → (i c : ℕ) → i < roster g
-    → c < columns g → c ≢ BEAT_COLUMN → (c ≡ LOGGED_COLUMN → 1 ≤ r) → shown w m i c ≡ w.past.own i 0 c
-shows_own {g = g} {w = w} {m = m} h i c l inside apart begun = by (cases_eq i m)
-  where
-    by : (i ≡ m) ⊎ (i ≢ m) → shown w m i c ≡ w.past.own i 0 c
-    by (inl same) = shown_mine w m i c (w.past.own i 0 c) same
-        (own_first h.known m c ∙ ap (λ k. w.past.own k 0 c) (sym same))
-    by (inr other) = shown_other w m i c (w.past.own i 0 c) other (h.sees i c l other inside apart begun)
 
 -- ---- items
 
@@ -112,56 +38,6 @@ has_taken {g = g} {w = w} {m = m} h t l other =
     (is_in_view h.known m m h.member) (record { member = member; other = other }) (sees_slot h t l other)
     (λ ready. (nothing_left h.rested).items t (record { member = member; other = other }, ready))
     ∙ ap (λ v. w.past.count t v t) (h.known.view m)
-
--- room by the counts of the others is a free slot
-slot_is_free : {g : Group} {w : World} {most r m : ℕ} → HasHadTurn g w most r m
-    → Room (roster g) g.window (λ i. w.past.count i 0) m → HasRoom g w m (items_received w m m)
-slot_is_free {g = g} {w = w} {m = m} h (inl early) = inl (omega (arith, count_first h.known m m, early))
-slot_is_free {g = g} {w = w} {m = m} h (inr all) = inr (λ i other.
-    let l = in_view_is h.known m i other.member in
-    let word = h.sees i (recv_column m) l other.other (omega (arith, h.member)) (λ e. omega (arith, e))
-    (λ e. absurd (omega (arith, e))) in
-    omega (
-      arith,
-      all i l other.other,
-      count_first h.known m m,
-      ap recv_count word,
-      (told h.known).counts.recv i 0 m h.member,
-    ))
-
--- the number of the next message behind those of the start is that of the messages that m has put
-next_is : (g : Group) (w : World) (m : ℕ) → IsFirst g w → m < roster g
-    → next_index w m ≡ length (messages_from m g.opening.start) + messages_in (w.past.sent m 0)
-next_is g w m y l = ap (λ b. b + messages_in (w.past.sent m (w.past.view m))) (start_first y m l)
-    ∙ ap (λ v. length (messages_from m g.opening.start) + messages_in (w.past.sent m v)) (y.view m)
-
--- a message is left where m has put fewer items than it had messages left, and only there
-is_left : (g : Group) (w : World) (m : ℕ) → IsFirst g w → m < roster g
-    → w.past.count m 0 m < messages_left g.opening m → IsLeft g w m
-is_left g w m y l fewer =
-    omega (arith, next_is g w m y l, messages_within (w.past.sent m 0), (told y).sent.all m 0, fewer)
-
-none_left : (g : Group) (w : World) (m : ℕ) → IsFirst g w → m < roster g
-    → messages_left g.opening m ≤ w.past.count m 0 m → length (messages_of g.opening m) ≤ next_index w m
-none_left g w m y l enough =
-    let put = put_first g w m y.group y.known l in
-    let all = all_put _ _ (w.past.sent m 0) put (omega (arith, (told y).sent.all m 0, enough)) in
-    omega (arith, next_is g w m y l, all, put.left)
-
--- where no message is left and the slot is free, nobody is ahead of m: it would have put a null
-fills : {g : Group} {w : World} {most r m : ℕ} → HasHadTurn g w most r m
-    → messages_left g.opening m ≤ w.past.count m 0 m → Room (roster g) g.window (λ i. w.past.count i 0) m → (s : ℕ)
-    → w.past.count m 0 s ≤ w.past.count m 0 m
-fills {g = g} {w = w} {m = m} h enough room s = by (cases_lt (w.past.count m 0 m) (w.past.count m 0 s))
-  where
-    by : (w.past.count m 0 m < w.past.count m 0 s) ⊎ (w.past.count m 0 s ≤ w.past.count m 0 m)
-        → w.past.count m 0 s ≤ w.past.count m 0 m
-    by (inl ahead) = absurd ((nothing_left h.rested).nulls (
-      none_left g w m h.known h.member enough,
-      slot_is_free h room,
-      (s, omega (arith, ahead, count_first h.known m s, count_first h.known m m)),
-    ))
-    by (inr level) = level
 
 -- m has done all that there was to do for its items
 rests : {g : Group} {w : World} {most r m : ℕ} → HasHadTurn g w most r m
@@ -232,20 +108,6 @@ has_put_all {g = g} {w = w} h late s l = by (cases_lt (length (w.past.sent s 0))
 -- so m holds all messages
 holds : {g : Group} {w : World} {most r m : ℕ} → HasHadTurn g w most r m → 3 * most ≤ r → HoldsAll g w m
 holds {g = g} {w = w} {m = m} h late = holds_all g w m h.known h.member (is_past_all h late) (has_put_all h late)
-
--- its logged word says how many entries its history has
-has_logged : (g : Group) (w : World) (m : ℕ) → IsRested g w m → IsFirst g w
-    → length (w.past.history m) ≤ w.past.own m 0 LOGGED_COLUMN
-has_logged g w m rested y = subst (λ (z : ℕ). length (w.past.history m) ≤ z) (own_first y m LOGGED_COLUMN)
-    (by (cases_lt (length (w.past.log m)) (length (w.past.history m)))
-    (cases_lt (own_word w m LOGGED_COLUMN) (length (w.past.log m))))
-  where
-    by : (length (w.past.log m) < length (w.past.history m)) ⊎ (length (w.past.history m) ≤ length (w.past.log m))
-        → (own_word w m LOGGED_COLUMN < length (w.past.log m)) ⊎ (length (w.past.log m) ≤ own_word w m LOGGED_COLUMN)
-        → length (w.past.history m) ≤ own_word w m LOGGED_COLUMN
-    by (inl behind) b = absurd ((nothing_left rested).entries behind)
-    by (inr appended) (inl behind) = absurd ((nothing_left rested).logged behind)
-    by (inr appended) (inr published) = le_trans appended published
 
 -- ---- showing done
 

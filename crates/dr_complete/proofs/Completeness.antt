@@ -1,83 +1,31 @@
 -- In lockstep, without crashes, suspicions and failed appends and with turns enough, all members end as done,
 -- with everything.
-use Rattle.std.{specs.Prelude.{IsTrue, Option, is_some, option_map, slice_get}, proofs.lemmas.Bool.Decides.nat_tests}
-use Rattle.std.proofs.Common.{Bool, List, None, Some, [], ap, arith, if◌then◌else◌, inl, inr, map, nat_lt, refl, replicate, slice_index, subst, sym, true, ℕ, ◌&&◌, ◌*◌, ◌+◌, ◌<◌, ◌==◌, ◌^◌, ◌∙◌, ◌≡◌, ◌≤◌, ◌⊎◌}
-use Rattle.std.proofs.lemmas.{Bool.cases_lt, List.{get_or-replicate, get_or_past, length-map, length-replicate}}
-use Rattle.std.proofs.lemmas.Option.{same_Some, slice_get_within}
-use Rattle.dr_entry.specs.declared.{end.{End.End, MemberEnd.MemberEnd}, limits.TheConstants.MAX_MEMBERS}
+use Rattle.std.specs.Prelude.{IsTrue, Option, is_some, option_map, slice_get}
+use Rattle.std.proofs.Common.{List, Some, [], ap, arith, inl, inr, map, refl, subst, sym, ℕ, ◌*◌, ◌+◌, ◌<◌, ◌^◌, ◌∙◌, ◌≡◌, ◌≤◌, ◌⊎◌}
+use Rattle.std.proofs.lemmas.{List.length-map, Option.{same_Some, slice_get_within}}
+use Rattle.dr_entry.{specs.declared.end.MemberEnd.MemberEnd, proofs.{Ends.upright_end, ListPlaces.zero_at}}
 use Rattle.dr_entry.specs.declared.end.End.TheVariants as ends
-use Rattle.dr_history.specs.{Members.has, Soundness.IsNobodyLate}
+use Rattle.dr_history.specs.Soundness.{IsNobodyLate}
 use Rattle.dr_history_laws.specs.Remaining.{messages_left}
-use Rattle.dr_words.specs.declared.column.TheConstants.{BEAT_COLUMN, LOGGED_COLUMN}
+use Rattle.dr_words.specs.declared.column.TheConstants.{BEAT_COLUMN}
 use Rattle.dr_machine.specs.{Group.{AllPresent, Group, IsGroup, roster}, World.{World, opening_world}}
-use Rattle.dr_program.specs.{Presence.present_at, declared.setup.Setup.Setup}
+use Rattle.dr_machine.proofs.Groups.{ArePushed, begins_pushed}
+use Rattle.dr_program.specs.{Presence.present_at, Reading.world, Schedule.IsLockstep}
 use Rattle.dr_program.specs.Program.{AllOk, AreSetups, Move, Program, begun_program, end_of, ran, end_at}
-use Rattle.dr_program.specs.{Reading.world, Running.{Running, begun_running}, Schedule.{IsLockstep, is_between_turns}}
-use Rattle.dr_program.proofs.{Opening.begins_at_the_opening, Present.{present_within, ended_there, present_map}}
+use Rattle.dr_program.{specs.Running.{Running, begun_running}, proofs.{Deeds.of_there, Opening.begins_at_the_opening}}
+use Rattle.dr_program.{specs.declared.setup.Setup.Setup, proofs.{Holdings.along_none, RunningPrograms.HasWaited}}
+use Rattle.dr_program.proofs.Present.{present_within, ended_there, end_told, began_by, begins_whole, begins_well, begins_uncounted}
 use Rattle.dr_program_laws.proofs.Ending as ending
 use Rattle.dr_program_laws.{specs.{Ended.IsComplete, Trusting.IsAtEase}, proofs.Programs.all_stand}
-use Rattle.dr_program_laws.proofs.Worlds.{of_there, end_told}
-use Rattle.dr_complete.{specs.Time.{AllLenient, IsLenient}, proofs.Along.along_none}
-use Rattle.dr_complete.proofs.{Between.{ArePushed, HasWaited, IsBetween, IsUpright, member_at}, Rounds.rounds_keep}
+use Rattle.dr_complete.{specs.Time.{AllLenient, IsLenient}, proofs.{Between.IsBetween, Rounds.rounds_keep}}
 use Rattle.dr_suspect.specs.Waits.{beat_of, turns_without_news}
-use Rattle.dr_turn_laws.proofs.Steadying.{steady_begins}
+use Rattle.dr_turn_laws.proofs.Steadying.{steady_begins, member_at}
 
 -- ---- the beginning
-
--- before the first turn all members stand where a turn begins
-begins_whole : (setups : List (Option Setup)) (m : ℕ)
-    → is_between_turns (present_at (map (option_map begun_running) setups) m) ≡ true
-begins_whole setups m = rw (present_map begun_running setups m) (by (present_at setups m))
-  where
-    by : (o : Option Setup) → is_between_turns (option_map begun_running o) ≡ true
-    by None = refl
-    by (Some s) = refl
-
--- and no append has failed
-begins_well : (setups : List (Option Setup)) (m : ℕ) (r : Running)
-    → present_at (map (option_map begun_running) setups) m ≡ Some r → r.failed ≡ None
-begins_well setups m r there = by (present_at setups m) (sym (present_map begun_running setups m) ∙ there)
-  where
-    by : (o : Option Setup) → option_map begun_running o ≡ Some r → r.failed ≡ None
-    by None same = absurd (cc)
-    by (Some s) same = sym (ap (λ (x : Running). x.failed) (same_Some (begun_running s) r same))
-
--- each is one that its setup begins
-began_by : (setups : List (Option Setup)) (m : ℕ) (r : Running)
-    → present_at (map (option_map begun_running) setups) m ≡ Some r
-    → (s : Setup) × (present_at setups m ≡ Some s) × (begun_running s ≡ r)
-began_by setups m r there = by (present_at setups m) refl
-  where
-    by : (o : Option Setup) → present_at setups m ≡ o
-        → (s : Setup) × (present_at setups m ≡ Some s) × (begun_running s ≡ r)
-    by None e = absurd (cc (ap (option_map begun_running) (sym e) ∙ sym (present_map begun_running setups m) ∙ there))
-    by (Some s) e = (
-      s,
-      e,
-      same_Some (begun_running s) r (ap (option_map begun_running) (sym e)
-          ∙ sym (present_map begun_running setups m) ∙ there),
-    )
 
 patient_at : (setups : List (Option Setup)) (m : ℕ) (s : Setup) → AllLenient setups → present_at setups m ≡ Some s
     → IsLenient s
 patient_at setups m s calm there = calm m s there
-
--- all counts and beats are 0
-zero_at : (i : ℕ) → slice_index (replicate MAX_MEMBERS 0) i ≡ 0
-zero_at i = by (cases_lt i 16)
-  where
-    none : ℕ
-    none = 0
-
-    by : (i < 16) ⊎ (16 ≤ i) → slice_index (replicate MAX_MEMBERS 0) i ≡ 0
-    by (inl l) = get_or-replicate 16 i none none l
-    by (inr past) = get_or_past (replicate 16 none) i none (omega (arith, past, length-replicate 16 none))
-
--- it has waited for nobody
-begins_uncounted : (setups : List (Option Setup)) (m : ℕ) (r : Running)
-    → present_at (map (option_map begun_running) setups) m ≡ Some r → (i : ℕ) → turns_without_news r.waits i ≡ 0
-begins_uncounted setups m r there i =
-    let t = began_by setups m r there in ap (λ (x : Running). turns_without_news x.waits i) (sym t.2) ∙ zero_at i
 
 begins_easy : (setups : List (Option Setup)) → AllLenient setups
     → (m : ℕ) (r : Running) → present_at (map (option_map begun_running) setups) m ≡ Some r → IsAtEase r
@@ -114,14 +62,6 @@ begins_waiting g setups calm m r there unseen = record {
     t : (s : Setup) × (present_at setups m ≡ Some s) × (begun_running s ≡ r)
     t = began_by setups m r there
 
--- all words are 0 but the logged ones
-begins_pushed : (g : Group) → ArePushed g (opening_world g)
-begins_pushed g i j c a b other inside apart begun = test (has g.opening.members i) c _ (λ e. omega (arith, begun e))
-  where
-    test : (is_member : Bool) (c x : ℕ) → (c ≡ LOGGED_COLUMN → ⊥)
-        → 0 ≡ (if is_member && ((0 == 0) && (c == LOGGED_COLUMN)) then x else 0)
-    test is_member c x unlogged = grind (arith, nat_tests, unlogged)
-
 -- so no round is over yet
 begins : (g : Group) (limit most : ℕ) (setups : List (Option Setup)) → IsGroup g → IsNobodyLate g.opening
     → 1 ≤ limit → limit < 2 ^ 32 → AllPresent g → AreSetups g limit setups → AllLenient setups
@@ -152,11 +92,6 @@ begins g limit most setups is nobody some small whole are calm = record {
     opens = begins_at_the_opening g limit setups is are
 
 -- ---- the end
-
--- an end that is there, of a member that goes on or has ended as done
-upright_end : (o : Option End) → IsUpright o → IsTrue (is_some o) → o ≡ Some ends.Done
-upright_end o (inl none) ended = absurd (cc (ap is_some none, ended))
-upright_end o (inr is_done) ended = is_done
 
 -- a member that has ended so is complete
 complete : (g : Group) (setups : List (Option Setup)) (most r m : ℕ) (p : Program) (y : Running)

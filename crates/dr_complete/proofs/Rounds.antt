@@ -1,53 +1,18 @@
 -- Rounds: each member has its turn, again and again.
-use Rattle.std.{specs.{List.range_with_len, Prelude.{Option, is_some}}, proofs.lemmas.Bool.cases_lt}
-use Rattle.std.proofs.Common.{List, ◌++◌, length, None, Some, ap, arith, inl, inr, refl, subst, sym, true, false, zero, zero-add, suc, ℕ, ◌*◌, ◌+◌, ◌<◌, ◌∙◌, ◌≡◌, ◌≤◌, ◌⊎◌, ◌||◌, Bool}
-use Rattle.std.proofs.{Math.Seq.{drop-append_seam, take-append_seam}, lemmas.List.Elements.{All-drop, All-take}}
-use Rattle.dr_entry.specs.declared.end.End.{End}
+use Rattle.std.{specs.{List.range_with_len, Prelude.Option}, proofs.lemmas.Bool.cases_lt}
+use Rattle.std.proofs.Common.{List, None, Some, ap, arith, inl, inr, subst, sym, true, false, zero, zero-add, suc, ℕ, ◌*◌, ◌+◌, ◌<◌, ◌∙◌, ◌≡◌, ◌≤◌, ◌⊎◌}
+use Rattle.dr_entry.proofs.Ends.{at_beginning}
 use Rattle.dr_machine.specs.{Group.{Group, roster}, World.opening_world}
-use Rattle.dr_program.specs.declared.outcome.Outcome.TheVariants as outcomes
-use Rattle.dr_program.specs.{Form.IsOf, Presence.present_at, Program.{AllOk, Move, Program, has_ended}, Reading.world}
+use Rattle.dr_program.specs.{Presence.present_at, Program.{AllOk, Move, Program, has_ended}, Reading.world}
 use Rattle.dr_program.specs.{Running.Running, Schedule.{IsTurn, Rounds, TakeTurns, TakesTurn, is_between_turns}}
-use Rattle.dr_program.{specs.{Turn.{is_beat, part_of}, declared.setup.Setup.Setup}, proofs.Present.present_within}
-use Rattle.dr_turn.proofs.Search.{beat_test}
-use Rattle.dr_program_laws.{specs.Trusting.MayWait, proofs.{Programs.{AllStand, ran_stands}, Worlds.of_there}}
-use Rattle.dr_turn_laws.{specs.Steady.IsSteady, proofs.Turning.takes_turn}
-use Rattle.dr_complete.proofs.Between.{AreFresh, HasWaited, IsAfter, IsBetween, IsFit, IsGoing, ShowDone, first_of, member_at}
-use Rattle.dr_complete.proofs.{Firsts.of_roster, Turns.turn_keeps}
-
--- ---- moves
-
--- where all appends go well, so do those of the first moves, and those of the others
-ok_parts : (first rest : List Move) → AllOk (first ++ rest) → AllOk first × AllOk rest
-ok_parts first rest well = (
-  subst AllOk (take-append_seam first rest)
-      (All-take (λ (e : Move). e.outcome ≡ outcomes.Ok) (length first) (first ++ rest) well),
-  subst AllOk (drop-append_seam first rest)
-      (All-drop (λ (e : Move). e.outcome ≡ outcomes.Ok) (length first) (first ++ rest) well),
-)
+use Rattle.dr_program.{specs.{Turn.{is_beat, part_of}, declared.setup.Setup.Setup}, proofs.Deeds.of_there}
+use Rattle.dr_program.proofs.{Present.present_within, Programs.ok_parts, Search.beat_test}
+use Rattle.dr_world_laws.proofs.Firsts.{of_roster}
+use Rattle.dr_program_laws.proofs.Programs.{AllStand, ran_stands}
+use Rattle.dr_turn_laws.proofs.{Steadying.{first_of, member_at, may_wait}, Turning.takes_turn}
+use Rattle.dr_complete.proofs.{Between.{AreFresh, IsAfter, IsBetween, IsFit, IsGoing, ShowDone}, Turns.turn_keeps}
 
 -- ---- one member
-
--- a member that hasn't ended stands where a turn begins
-at_beginning : (o : Option End) (beat : Bool) → is_some o ≡ false → (is_some o || beat) ≡ true
-    → (o ≡ None) × (beat ≡ true)
-at_beginning None beat going e = (refl, e)
-at_beginning (Some end) beat going e = absurd (cc)
-
--- it hasn't waited too long as its turn begins
-may_wait : (g : Group) (p : Program) (x : ℕ) (y : Running) → IsSteady g p → present_at p.members x ≡ Some y
-    → y.replica.end ≡ None → HasWaited g (world g p) x y → MayWait y
-may_wait g p x y steady there none waited = by waited.limit
-  where
-    of : IsOf g x y.replica
-    of = steady.program.of x y there
-
-    by : (y.waits.limit ≡ 0) ⊎ (3 ≤ y.waits.limit) → MayWait y
-    by (inl unlimited) = inl unlimited
-    by (inr long) = inr (λ i is. omega (
-      arith,
-      long,
-      waited.few i (omega (arith, is.0, of.members)) (λ same. is.1 (same ∙ sym of.number)) none,
-    ))
 
 -- it takes its turn
 takes : (g : Group) (setups : List (Option Setup)) (limit most r x : ℕ) (p : Program) (es : List Move)

@@ -1,23 +1,22 @@
 -- A turn of a member, in a round in which the members below it have had theirs.
-use Rattle.std.{specs.Prelude.{Any, Option}, proofs.lemmas.Bool.{cases_eq, cases_lt, Decides.nat_tests}}
-use Rattle.std.proofs.Common.{Bool, List, None, Some, [], ap, arith, if◌then◌else◌, inl, inr, min, refl, subst, suc, sym, true, false, ℕ, ◌+◌, ◌-◌, ◌^◌, ◌==◌, ◌<◌, ◌∙◌, ◌≡◌, ◌≢◌, ◌≤◌, ◌⊎◌}
-use Rattle.dr_entry.specs.declared.end.End.{End}
+use Rattle.std.{specs.Prelude.Option, proofs.lemmas.Bool.{cases_eq, cases_lt}}
+use Rattle.std.proofs.Common.{List, None, Some, ap, arith, inl, inr, subst, sym, true, ℕ, ◌+◌, ◌<◌, ◌∙◌, ◌≡◌, ◌≢◌, ◌≤◌, ◌⊎◌}
 use Rattle.dr_entry.specs.declared.end.End.TheVariants as ends
+use Rattle.dr_entry.proofs.Ends.{IsUpright, IsUprightOrSpent, uncrashed}
 use Rattle.dr_words.specs.declared.column.TheConstants.{BEAT_COLUMN, DONE_COLUMN, LOGGED_COLUMN}
 use Rattle.dr_machine.specs.{Group.{Group, columns, roster}, World.{World, opening_world, shown}}
-use Rattle.dr_machine.proofs.Presence.{is_present}
+use Rattle.dr_machine.proofs.{Groups.ArePushed, Presence.is_present, Worlds.{shown_mine, shown_other}}
 use Rattle.dr_program.specs.{Presence.present_at, Program.Program, Reading.world, Running.Running}
-use Rattle.dr_program.specs.{Schedule.is_between_turns, declared.setup.{CrashPoint.CrashPoint, Setup.Setup}}
-use Rattle.dr_program.proofs.{Holdings.{Holding, held}, Present.present_within}
+use Rattle.dr_program.specs.{Schedule.is_between_turns, declared.setup.Setup.Setup}
+use Rattle.dr_program.proofs.{Deeds.{of_there, same_held}, Holdings.{Holding, held, IsAlong, along_less}}
+use Rattle.dr_program.proofs.{Present.present_within, RunningPrograms.HasWaited}
 use Rattle.dr_faithful.{specs.Chosen.views_by, proofs.Shown.done_is_one}
-use Rattle.dr_program_laws.{specs.{Failing.has_log_end, Trusting.has_been_left}, proofs.Programs.AllStand}
-use Rattle.dr_program_laws.proofs.{Standing.IsProper, Worlds.of_there}
-use Rattle.dr_turn_laws.specs.Rested.{HasCompared, HasTurned, IsRested}
-use Rattle.dr_suspect.specs.Waits.{beat_of, next_count, turns_without_news}
-use Rattle.dr_complete.specs.Reached.{AllShowDone}
-use Rattle.dr_complete.proofs.Along.{IsAlong, along_less, along_more, in_view_is, shown_mine, shown_other}
-use Rattle.dr_complete.proofs.Between.{AreFresh, ArePushed, HasGone, HasWaited, IsAfter, IsBetween, IsFit, IsGoing, IsUpright, ShowDone, first_of, member_at, same_held}
-use Rattle.dr_complete.proofs.{DoneWords.done_shows_all, Firsts.{IsFirst, members_are, of_members, own_first, told}}
+use Rattle.dr_program_laws.{specs.Failing.has_log_end, proofs.{Programs.AllStand, Standing.proper_end}}
+use Rattle.dr_turn_laws.{specs.Rested.{HasCompared, HasTurned, IsRested}, proofs.Steadying.{first_of, member_at}}
+use Rattle.dr_suspect.{specs.Waits.{beat_of, turns_without_news}, proofs.Waiting.newly}
+use Rattle.dr_world_laws.proofs.Firsts.{in_view_is, IsFirst, members_are, of_members, own_first, told}
+use Rattle.dr_complete.{specs.Reached.AllShowDone, proofs.{Along.along_more, DoneWords.done_shows_all}}
+use Rattle.dr_complete.proofs.Between.{AreFresh, HasGone, IsAfter, IsBetween, IsFit, IsGoing, ShowDone}
 
 -- member x has taken its turn, by which p has become q
 pub record HasTaken (g : Group) (setups : List (Option Setup)) (limit most r x : ℕ) (p q : Program) : Type 0 where
@@ -39,32 +38,6 @@ others_same : {g : Group} {setups : List (Option Setup)} {limit most r x : ℕ} 
 others_same {g = g} {p = p} {q = q} t i other = same_held g p q i (t.turned.others i other)
 
 -- ---- how the member has ended
-
-no_points : {P : CrashPoint → Type 0} → Any P [] → ⊥
-no_points (k, c, within, there, is) = absurd (omega (arith, within))
-
--- a member is upright, or has its turns spent and hasn't crashed
-abbrev IsUprightOrSpent : ℕ → ℕ → Option End → Type 0
-IsUprightOrSpent limit turns end = IsUpright end ⊎ ((turns ≡ limit) × (end ≢ Some ends.Crashed))
-
--- so it is where its end is proper, and is neither by its log nor by suspicion, and it has no crash points
-proper_end : (limit turns : ℕ) (end : Option End) → IsProper limit [] turns end
-    → has_log_end end ≡ false → has_been_left end ≡ false → IsUprightOrSpent limit turns end
-proper_end limit turns None proper logs kept = inl (inl refl)
-proper_end limit turns (Some ends.Done) proper logs kept = inl (inr refl)
-proper_end limit turns (Some ends.Crashed) proper logs kept = absurd (no_points proper)
-proper_end limit turns (Some (ends.Spent n)) proper logs kept = inr (proper.1, λ e. cc)
-proper_end limit turns (Some ends.DiskFault) proper logs kept = absurd (cc)
-proper_end limit turns (Some (ends.LogFull len)) proper logs kept = absurd (cc)
-proper_end limit turns (Some (ends.Suspected by)) proper logs kept = absurd (cc)
-proper_end limit turns (Some (ends.NoMajority mask)) proper logs kept = absurd (cc)
-proper_end limit turns (Some (ends.Excluded view)) proper logs kept = absurd (cc)
-proper_end limit turns (Some ends.Absent) proper logs kept = absurd proper
-
-uncrashed : (limit turns : ℕ) (end : Option End) → IsUprightOrSpent limit turns end → end ≢ Some ends.Crashed
-uncrashed limit turns end (inl (inl none)) e = cc
-uncrashed limit turns end (inl (inr is_done)) e = cc
-uncrashed limit turns end (inr spent) e = spent.1 e
 
 -- so it is with the member that has taken its turn
 end_so : {g : Group} {setups : List (Option Setup)} {limit most r x : ℕ} {p q : Program}
@@ -243,19 +216,6 @@ member_same : {g : Group} {setups : List (Option Setup)} {limit most r x : ℕ} 
     → HasTaken g setups limit most r x p q → (m : ℕ) (y : Running) → m ≢ x → present_at q.members m ≡ Some y
     → present_at p.members m ≡ Some y
 member_same t m y other there = sym (t.turned.others m other) ∙ there
-
--- the member compares what it has seen with what it sees now, and that differs
-newly : (count last beat : ℕ) → (count ≡ 0) ⊎ (last < beat) → next_count count last beat ≤ 1
-newly count last beat (inl none) = by (beat == last)
-  where
-    by : (b : Bool) → (if b then min (suc count) (2 ^ 32 - 1) else 0) ≤ 1
-    by true = omega (arith, none)
-    by false = omega arith
-newly count last beat (inr less) = by (beat == last) refl
-  where
-    by : (b : Bool) → (beat == last) ≡ b → (if b then min (suc count) (2 ^ 32 - 1) else 0) ≤ 1
-    by true e = absurd (grind (arith, nat_tests, e, less))
-    by false e = omega arith
 
 -- between turns members have waited so
 still_waits : {g : Group} {setups : List (Option Setup)} {limit most r x : ℕ} {p q : Program}

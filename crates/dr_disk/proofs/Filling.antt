@@ -113,7 +113,7 @@ pend_more : (p : Pending) (calls : List Call) (call : Call) → pend_all p (call
 pend_more p [] call = refl
 pend_more p (c ∷ calls) call = pend_more (pend p c) calls call
 
-text_length-more : (xs : List Step) (s : Step) → text_length (xs ++ s ∷ []) ≡ text_length xs + bytes_of_step s
+pub text_length-more : (xs : List Step) (s : Step) → text_length (xs ++ s ∷ []) ≡ text_length xs + bytes_of_step s
 text_length-more [] s = omega arith
 text_length-more (t ∷ xs) s = omega (arith, text_length-more xs s)
 

@@ -4,8 +4,8 @@ use Rattle.std.proofs.Common.{◌≡◌, ℕ, ◌+◌, ◌-◌, ◌<◌, ◌≤�
 use Rattle.std.proofs.lemmas.List.{ext_get_or, get_or-take, get_or-drop, get_or_append_left, get_or-append_right, length-take-le, drop_more, take-append-drop}
 use Rattle.dr_disk.specs.Calls.{Call, Write, FailedWrite, Cut, FailedCut, Sync, State, at_rest, written, step, run_from, run, content_after}
 use Rattle.dr_disk.specs.Disk.{Told, content_of, after, added, state_of, Calls, Now}
-use Rattle.dr_disk.specs.Images.{IsImage, AllImages, IsLeft, ReadsAnImage, Goes, During, LastsDuring, Lasts}
-use Rattle.dr_disk.proofs.{DiskCalls.reaches_less, Moments.state-after}
+use Rattle.dr_disk.specs.Images.{IsImage, AllImages, IsLeft, ReadsAnImage, Goes, Lasts}
+use Rattle.dr_disk.proofs.{DiskCalls.reaches_less, Moments.{state-after, lasts_on}}
 
 -- at rest there is one image
 pub image_at_rest : (bytes image : List ℕ) → IsImage (at_rest bytes) image → image ≡ bytes
@@ -256,12 +256,6 @@ pub silent : (now : Option Told) (P : List ℕ → Type 0) → false ≡ is_some
 silent None P same = tt
 silent (Some t) P same = absurd (cc)
 
--- what lasts during some calls, and each image has before them, each has at each moment of them
-lasts_during : (s : State) (calls : List Call) (P : List ℕ → Type 0) → LastsDuring s calls P → AllImages s P
-    → During s calls P
-lasts_during s [] P lasts here = here
-lasts_during s (call ∷ calls) P lasts here = lasts.0 here
-
 pub lasts_goes : (before after : Option Told) (P : List ℕ → Type 0) → Lasts before after P → IsLeft before P
     → Goes before after (λ s. P)
 lasts_goes None None P lasts here = tt
@@ -270,7 +264,7 @@ lasts_goes (Some before) None P lasts here = absurd lasts
 lasts_goes (Some (Calls before)) (Some (Calls after)) P lasts here = record {
   more = lasts.more;
   grown = lasts.grown;
-  each = lasts_during (run before) lasts.more P lasts.each here;
+  each = lasts_on (run before) lasts.more P lasts.each here;
 }
 lasts_goes (Some (Calls before)) (Some (Now after)) P lasts here = absurd lasts
 lasts_goes (Some (Now before)) (Some (Calls after)) P lasts here = absurd lasts

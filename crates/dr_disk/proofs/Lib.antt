@@ -1,6 +1,6 @@
 pub mod Steps
 pub mod Moments
 pub mod Images
-mod Filling
+pub mod Filling
 pub mod Ranges
 pub mod DiskCalls

@@ -152,7 +152,7 @@ Goes-last (Some before) (Some after) P goes = Went-last before after P goes
 -- ---- what lasts
 
 -- what lasts during some calls, and each image has before them, each has at every moment of them
-lasts_on : (s : State) (calls : List Call) (P : List ℕ → Type 0) → LastsDuring s calls P → AllImages s P
+pub lasts_on : (s : State) (calls : List Call) (P : List ℕ → Type 0) → LastsDuring s calls P → AllImages s P
     → During s calls P
 lasts_on s [] P lasts here = here
 lasts_on s (call ∷ calls) P lasts here = lasts.0 here

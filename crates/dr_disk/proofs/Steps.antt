@@ -1,8 +1,8 @@
 -- What one step more does to the record of a disk's calls.
 use Rattle.std.proofs.Common.{◌≡◌, ℕ, ◌+◌, ◌≤◌, List, [], ◌∷◌, ◌++◌, length, drop, refl, sym, ap, ap₂, ◌∙◌, append-nil, arith, length-append, length-drop}
 use Rattle.std.proofs.lemmas.List.{take-append-le, drop-append-le}
-use Rattle.dr_disk.specs.Calls.{Call, State, step, run, content_after}
-use Rattle.dr_disk.{specs.Steps.{bytes_of_step, call_of, text_length, calls_of, IsWhole}, proofs.Moments.run-added}
+use Rattle.dr_disk.{specs.Calls.{Call, State, step, run}, proofs.{Filling.text_length-more, Moments.run-added}}
+use Rattle.dr_disk.specs.Steps.{bytes_of_step, call_of, text_length, calls_of, IsWhole}
 use Rattle.dr_disk.specs.declared.kept.Step.{Step, TheVariants.{Write, FailedWrite, Cut, FailedCut, Sync}}
 use Rattle.dr_disk.specs.Calls as calls
 
@@ -15,11 +15,6 @@ call_of-append (FailedWrite at count) text more l = refl
 call_of-append (Cut to) text more l = refl
 call_of-append (FailedCut to) text more l = refl
 call_of-append Sync text more l = refl
-
-text_length-added : (steps : List Step) (s : Step)
-    → text_length (steps ++ s ∷ []) ≡ text_length steps + bytes_of_step s
-text_length-added [] s = omega arith
-text_length-added (t ∷ steps) s = omega (arith, text_length-added steps s)
 
 -- one step more is one call more
 calls_of-added : (steps : List Step) (s : Step) (text more : List ℕ) → length text ≡ text_length steps
@@ -48,7 +43,7 @@ pub whole_after : (steps steps' : List Step) (text text' bytes new : List ℕ) (
     → new ≡ (step (run (calls_of steps text)) (call_of s more)).content → IsWhole steps' text' new
 whole_after steps steps' text text' bytes new s more is count pushed extended left = record {
   whole = ap length extended ∙ length-append text more
-      ∙ omega (arith, is.whole, count, text_length-added steps s) ∙ sym (ap text_length pushed);
+      ∙ omega (arith, is.whole, count, text_length-more steps s) ∙ sym (ap text_length pushed);
   same = left ∙ sym (ap (λ (s : State). s.content)
       (ap run (calls_after steps steps' text text' bytes s more is pushed extended)
       ∙ run-added (calls_of steps text) (call_of s more)));

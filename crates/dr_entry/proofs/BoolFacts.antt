@@ -1,8 +1,8 @@
 -- Facts of tests, by their answers.
 use Rattle.std.specs.{Ordering.{is_eq, is_lt}, Prelude.{◌&&◌, ◌||◌}, declared.cmp.Ordering.Ordering}
 use Rattle.std.specs.declared.cmp.Ordering.TheVariants.{Less, Equal, Greater}
-use Rattle.std.proofs.Common.{◌≡◌, Bool, true, false, Decides, refl, ◌⊎◌, inl, inr, T, cond, subst, sym, ◌∙◌, not, if◌then◌else◌, ap, ◌≤◌, arith, ◌<◌, true≢false}
-use Rattle.dr_entry.proofs.NumberFacts.{phase}
+use Rattle.std.proofs.Common.{◌≡◌, Bool, true, false, Decides, refl, ◌⊎◌, inl, inr, T, cond, subst, sym, ◌∙◌, not, if◌then◌else◌, ap, ◌≤◌, arith, ◌<◌, true≢false, ◌+◌, ◌*◌, ◌-◌}
+use Rattle.dr_entry.proofs.NumberFacts.{phase, one}
 
 -- where an answer decides a fact, the fact decides it
 pub refuted : {P : Type 0} (r : Bool) → Decides r P → r ≡ false → P → ⊥
@@ -226,3 +226,78 @@ further true false true holds comes = by (comes refl)
         → (phase true false ≤ phase true true) × ((true ≡ false) ⊎ (phase true false < phase true true))
     by (inl e) = absurd (true≢false (sym e))
     by (inr e) = absurd (true≢false e)
+
+-- a member that isn't named stays
+pub stays_in : (a b : Bool) → a ≡ true → b ≡ false → (if b then not a else a) ≡ true
+stays_in a b e d = rw (e, d) refl
+
+-- a test that holds where another does holds there
+pub implied : (a b : Bool) → (not a || b) ≡ true → a ≡ true → b ≡ true
+implied true b t e = t
+implied false b t e = absurd (cc e)
+
+-- a vote that waits is acted on at the next place where it isn't at this one
+pub other_ballot : (b : Bool) → b ≡ false → not b ≡ true
+other_ballot true e = absurd (cc e)
+other_ballot false e = refl
+
+pub tested : (inside test : Bool) → inside ≡ true → (inside && test) ≡ false → test ≡ false
+tested true test is e = e
+tested false test is e = absurd (cc is)
+
+-- where one or the other fails, the other fails
+pub idle : (a b : Bool) → (a || b) ≡ false → b ≡ false
+idle true b e = absurd (cc)
+idle false b e = e
+
+-- the search stops where there is something to do
+pub stops_due : (a b : Bool) → b ≡ true → (a || b) ≡ true
+stops_due true b e = refl
+stops_due false b e = e
+
+pub stays_out : (a b : Bool) → a ≡ not b → b ≡ true → a ≡ false
+stays_out a b e h = rw (e, h) refl
+
+pub named_or : (a b : Bool) → (if b then not a else a) ≡ true → ((a ≡ true) × (b ≡ false)) ⊎ ((a ≡ false) × (b ≡ true))
+named_or true true e = absurd (cc e)
+named_or true false e = inl (refl, refl)
+named_or false true e = inr (refl, refl)
+named_or false false e = absurd (cc e)
+
+pub no-more : (a b q : Bool) → (a ≡ true → (b ≡ true) ⊎ (q ≡ true)) → one a + 2 * one (q && not a) ≤ one b + 2 * one q
+no-more true true q came = grind arith
+no-more true false true came = omega arith
+no-more true false false came = by (came refl)
+  where
+    by : (false ≡ true) ⊎ (false ≡ true) → one true + 2 * one (false && not true) ≤ one false + 2 * one false
+    by (inl e) = absurd (cc e)
+    by (inr e) = absurd (cc e)
+no-more false true true came = omega arith
+no-more false true false came = omega arith
+no-more false false true came = omega arith
+no-more false false false came = omega arith
+
+pub leaves-less : (q : Bool) → one false + 2 * one (q && not false) < one true + 2 * one q
+leaves-less true = omega arith
+leaves-less false = omega arith
+
+pub early-or-late : (a b c : Bool) → (a ≡ true → b ≡ true) → (b ≡ true → c ≡ true) → one a + one (b && not a) ≤ one c
+early-or-late true true true part within = omega arith
+early-or-late true true false part within = absurd (cc (within refl))
+early-or-late true false c part within = absurd (cc (part refl))
+early-or-late false true true part within = omega arith
+early-or-late false true false part within = absurd (cc (within refl))
+early-or-late false false true part within = omega arith
+early-or-late false false false part within = omega arith
+
+-- who doesn't leave is of those that stay
+pub kept_in : (a b : Bool) → a ≡ not b → a ≡ false → b ≡ true
+kept_in a true e f = refl
+kept_in a false e f = absurd (cc (e, f))
+
+-- where the step may be taken, and the row is another's, only an unchanged word is passed
+pub passed_push : (a b t : Bool) → ((a && b) && t) ≡ false → a ≡ true → t ≡ true → b ≡ false
+passed_push true false true e x y = refl
+passed_push true true true e x y = absurd (cc)
+passed_push true b false e x y = absurd (cc)
+passed_push false b t e x y = absurd (cc)

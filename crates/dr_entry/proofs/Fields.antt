@@ -3,8 +3,9 @@ use Rattle.std.{specs.Int.{w16, w32, from_be_bytes, to_be_bytes}, proofs.lemmas.
 use Rattle.std.{specs.List.AllByRecursion, proofs.lemmas.Nat.{be_bytes_2, be_bytes_4}}
 use Rattle.std.proofs.Common.{◌≡◌, ℕ, ◌+◌, ◌<◌, ◌≤◌, Bool, true, false, cond, ◌^◌, List, [], ◌∷◌, ◌++◌, length, get_or, take, drop, Option, Some, None, refl, sym, ap, ◌∙◌, inl, inr, arith, length-drop, length-take}
 use Rattle.std.proofs.lemmas.List.{drop-drop, drop_more, take-append-drop, get_or-drop, get_or-take, get_or_past}
-use Rattle.dr_entry.specs.{Grammar.{Field, number_at, first_fault}, declared.reading.DecodeFault.DecodeFault}
-use Rattle.dr_entry.specs.declared.reading.DecodeFault.TheVariants.{Short, BadField}
+use Rattle.dr_entry.specs.{Grammar.{Field, number_at, first_fault}, declared.entry.Item.Item}
+use Rattle.dr_entry.specs.declared.{entry.Item.TheVariants.{Null, Text}, limits.TheConstants.MAX_MESSAGE_LENGTH}
+use Rattle.dr_entry.specs.declared.reading.DecodeFault.{DecodeFault, TheVariants.{Short, BadField}}
 
 -- each number of the list is a byte
 abbrev pub IsBytes : List ℕ → Type 0
@@ -95,3 +96,8 @@ number_below_2 at bytes fits = let there = IsBytes-drop at bytes fits in omega (
 pub number_below_4 : (at : ℕ) (bytes : List ℕ) → IsBytes bytes → number_at w32 at bytes < 2 ^ 32
 number_below_4 at bytes fits = let there = IsBytes-drop at bytes fits in
     omega (arith, there 0, there 1, there 2, there 3)
+
+-- what an item of the code is
+abbrev pub IsItem : Item → Type 0
+IsItem Null = Unit {0}
+IsItem (Text bytes) = (length bytes ≤ MAX_MESSAGE_LENGTH) × IsBytes bytes

@@ -1,18 +1,19 @@
 -- Facts of lists: their lengths, fronts and rests, folds and maps.
-use Rattle.std.{specs.{Bool.{MatchBool, then_some}, Cmp.Lexicographic.slice_cmp}, proofs.Math.Nat.min-le_left}
+use Rattle.std.{specs.{Bool.{MatchBool, then_some}, Cmp.Lexicographic.slice_cmp}, proofs.Math.ListN.get_or-append}
 use Rattle.std.{specs.Cmp.{tied_itself, nat_cmp_total, nat_cmp_is, ranked}, proofs.lemmas.Slice.Eq.bytes_eq-Decides}
 use Rattle.std.specs.Fmt.{decimal}
 use Rattle.std.specs.List.{filter_map, list_any, cons_option, starts_with, flat_map, enumerate_from, concat, AllWithin, HoldsAt, list_all, AllZip, join_by, position_or_len, range_with_len, position_from}
 use Rattle.std.{specs.Ordering.{nat_cmp, is_le, ordering_then, is_eq}, proofs.lemmas.List.Elements.filter_map-append}
 use Rattle.std.specs.{Prelude.{◌||◌, is_some, nat_eq, Vec, IfSome, unwrap_or, ⊤}, declared.cmp.Ordering.Ordering}
-use Rattle.std.{specs.declared.alloc.Global.Global, proofs.{Math.ListN.get_or-append, lemmas.List.Concat.concat_is}}
-use Rattle.std.{specs.declared.cmp.Ordering.TheVariants.{Less, Equal, Greater}, proofs.lemmas.Fmt.decimal_injective}
-use Rattle.std.proofs.Common.{ℕ, ◌≤◌, max, List, [], ◌∷◌, fold, arith, le_refl, ◌≡◌, ◌+◌, ◌<◌, length, get_or, drop, ap, ◌∙◌, ◌-◌, take, length-drop, ◌++◌, map, Option, Some, refl, Bool, suc, None, false, true, eqb, sym, ◌&&◌, set, zero, replicate, inl, inr, nat_lt, add-zero, zero-add, append_assoc, Result, Ok, Err, OnOk, is_ok, if◌then◌else◌, min, cond, ◌==◌, not, ◌⊎◌, subst, slice_get, codes, length-append, take_at, drop_at, ◌^◌, below_more, length-take, le_trans, add-one, position, ◌≢◌, true≢false, bytes_eq}
+use Rattle.std.{specs.declared.alloc.Global.Global, proofs.lemmas.{Fmt.decimal_injective, List.Concat.concat_is}}
+use Rattle.std.{specs.declared.cmp.Ordering.TheVariants.{Less, Equal, Greater}, proofs.lemmas.Bool.Decides.nat_tests}
+use Rattle.std.proofs.Common.{ℕ, ◌≤◌, max, List, [], ◌∷◌, fold, arith, le_refl, ◌≡◌, ◌+◌, ◌<◌, length, get_or, drop, ap, ◌∙◌, ◌-◌, take, length-drop, ◌++◌, map, Option, Some, refl, Bool, suc, None, false, true, eqb, sym, ◌&&◌, set, zero, replicate, inl, inr, nat_lt, add-zero, zero-add, append_assoc, Result, Ok, Err, OnOk, is_ok, if◌then◌else◌, min, cond, ◌==◌, not, ◌⊎◌, subst, slice_get, codes, length-append, take_at, drop_at, ◌^◌, below_more, length-take, le_trans, add-one, position, ◌≢◌, true≢false, bytes_eq, option_to_list, ◌*◌, sum_by}
+use Rattle.std.proofs.{Math.Nat.{min-le_left, mul_comm}, lemmas.List.FromFn.map-range_with_len_more}
 use Rattle.std.proofs.{Math.Seq.{take-append_seam, get_or-append_seam}, lemmas.Iterator.Adapters.position_from-zero}
-use Rattle.std.proofs.lemmas.Bool.{eqb-true, eq-eqb, cases_lt, and_from, and_parts, false≢true, ne_eqb, cases_Bool}
+use Rattle.std.proofs.lemmas.Bool.{eqb-true, eq-eqb, cases_lt, and_from, and_parts, false≢true, ne_eqb, cases_Bool, cases_eq}
 use Rattle.std.proofs.lemmas.{Grind.{flat_map-append, same_number_lists}, List.Sums.{fold-append, position_or_len_is}}
 use Rattle.std.proofs.lemmas.List.{drop_more, take_all, take_more, map-append, get_or-replicate, get_or_past, length-replicate, take-append-drop, length-take-le, append-nil, drop_all, get_or-set_other, get_or-set_same, get_or-drop, get_or-map, get_or-take, length-map}
-use Rattle.std.proofs.lemmas.List.{Folds.{concat-append, list_any_at, list_any_none}, FromFn.map-range_with_len_more}
+use Rattle.std.proofs.lemmas.List.Folds.{concat-append, list_any_at, list_any_none, sum_by-replicate}
 use Rattle.std.proofs.lemmas.Option.{slice_get_past, unwrap_or-slice_get, same_Some, slice_get-get_or}
 use Rattle.dr_entry.proofs.{BoolFacts.both_true, Fields.IsBytes, ListParts.other_decimal, NumberFacts.moved}
 
@@ -55,10 +56,6 @@ pub length_filter_map : {A B : Type 0} (f : A → Option B) (xs : List A) → le
 length_filter_map f [] = omega arith
 length_filter_map f (x ∷ xs) = let rest = length_filter_map f xs in
     let one = length_cons_option (f x) (filter_map f xs) in omega arith
-
-pub no_value : (x : Option (List ℕ)) → is_some x ≡ false → x ≡ None
-no_value None is = refl
-no_value (Some x) is = absurd (cc is)
 
 -- the order of keys
 abbrev pub by_bytes : List ℕ → List ℕ → Ordering
@@ -530,13 +527,6 @@ same_map f g a b (suc n) same =
     ∙ same (k + 1) ∙ moved g (b + (k + 1)) (b + 1 + k) (omega arith)) in
     λ i. here i ∷ rest i
 
--- two in a row, where the second one could be made
-pub both_appended : {T : Type 0} {E : Type 0} (r : Result T E) (old mid new one other : List ℕ)
-    → mid ≡ old ++ one → OnOk r (new ≡ mid ++ other) → OnOk r (new ≡ old ++ (one ++ other))
-both_appended (Ok x) old mid new one other first second =
-    second ∙ (ap (λ (l : List ℕ). l ++ other) first ∙ append_assoc old one other)
-both_appended (Err e) old mid new one other first second = tt
-
 -- as entries
 pub numbered_on : (n : ℕ) (xs rest : List (List ℕ)) → (more : List (ℕ × List ℕ))
     × (enumerate_from n xs ++ more ≡ enumerate_from n (xs ++ rest))
@@ -620,3 +610,104 @@ pub one_read : {X : Type 0} (xs : List X) (x y : X) → length xs ≡ 1 → x �
 one_read [] x y one read is = absurd (omega arith)
 one_read (z ∷ []) x y one read is = ap (λ w. w ∷ []) (sym read ∙ is)
 one_read (z ∷ w ∷ ws) x y one read is = absurd (omega arith)
+
+pub one-given : {X Y : Type 0} (f : X → Option Y) (x : X) → filter_map f (x ∷ []) ≡ option_to_list (f x)
+one-given f x = by (f x) refl
+  where
+    by : (r : Option _) → f x ≡ r → filter_map f (x ∷ []) ≡ option_to_list (f x)
+    by None e = rw e refl
+    by (Some y) e = rw e refl
+
+-- no number stands twice
+abbrev pub AreDistinct : List ℕ → Type 0
+AreDistinct xs = (i j x : ℕ) → slice_get xs i ≡ Some x → slice_get xs j ≡ Some x → i ≡ j
+
+-- the place behind the last round of the greatest count
+abbrev pub top_place : List ℕ → ℕ
+top_place counts = length counts * fold max 0 counts
+
+pub none_most : (ms : List ℕ) → fold max 0 (map (λ (s : ℕ). 0) ms) ≡ 0
+none_most [] = refl
+none_most (m ∷ ms) = none_most ms
+
+pub least_within : (f : ℕ → ℕ) (ms : List ℕ) (a : ℕ) → fold min a (map f ms) ≤ a
+least_within f [] a = le_refl a
+least_within f (m ∷ ms) a = let h : fold min (min a (f m)) (map f ms)
+    ≤ min a (f m) = least_within f ms (min a (f m)) in omega (arith, h)
+
+-- no count falls
+pub counts_rise : (counts : List ℕ) (s c j : ℕ) → s < length counts → get_or counts s 0 ≤ c
+    → get_or counts j 0 ≤ get_or (set counts s c) j 0
+counts_rise counts s c j within le = elim (cases_eq j s) [
+  | inl same ↦ let there = get_or-set_same counts s c 0 within in rw (same, there) le
+  | inr other ↦ omega (arith, get_or-set_other counts s j c 0 other)
+]
+
+-- no count is greater than the greatest
+pub counts_bounded : (counts : List ℕ) (s c most : ℕ) → s < length counts → c ≤ most
+    → ((j : ℕ) → get_or counts j 0 ≤ most) → (j : ℕ) → get_or (set counts s c) j 0 ≤ most
+counts_bounded counts s c most within le all j = elim (cases_eq j s) [
+  | inl same ↦ let there = get_or-set_same counts s c 0 within in rw (same, there) le
+  | inr other ↦ omega (arith, get_or-set_other counts s j c 0 other, all j)
+]
+
+-- a number is below the least exactly where it is below all
+pub below_least : (x top : ℕ) (f : ℕ → ℕ) (xs : List ℕ) → nat_lt x (fold min top (map f xs))
+    ≡ (nat_lt x top && list_all (λ i. nat_lt x (f i)) xs)
+below_least x top f [] = with_true (nat_lt x top)
+  where
+    with_true : (b : Bool) → b ≡ (b && true)
+    with_true b = grind arith
+below_least x top f (y ∷ ys) = below_least x (min top (f y)) f ys
+    ∙ regroup x top (f y) (list_all (λ i. nat_lt x (f i)) ys)
+  where
+    regroup : (x a b : ℕ) (t : Bool) → (nat_lt x (min a b) && t) ≡ (nat_lt x a && (nat_lt x b && t))
+    regroup x a b t = grind (arith, nat_tests)
+
+-- a list is empty or has a last element
+pub last-of : {A : Type 0} (xs : List A) → (xs ≡ []) ⊎ ((front : List A) × (x : A) × (xs ≡ front ++ x ∷ []))
+last-of [] = inl refl
+last-of {A} (y ∷ xs) = by (last-of xs)
+  where
+    by : (xs ≡ []) ⊎ ((front : List A) × (x : A) × (xs ≡ front ++ x ∷ []))
+        → (y ∷ xs ≡ []) ⊎ ((front : List A) × (x : A) × (y ∷ xs ≡ front ++ x ∷ []))
+    by (inl e) = inr ([], y, ap (λ l. y ∷ l) e)
+    by (inr t) = inr (y ∷ t.0, t.1, ap (λ l. y ∷ l) t.2)
+
+-- an element of a list with one more at its end is the last one, or stands in the list
+pub split-last : {A : Type 0} (before behind es : List A) (x y : A) → before ++ x ∷ behind ≡ es ++ y ∷ []
+    → ((before ≡ es) × (x ≡ y)) ⊎ ((rest : List A) × (es ≡ before ++ x ∷ rest))
+split-last [] behind [] x y e = let same : x ≡ y = cc in inl (refl, same)
+split-last [] behind (z ∷ es) x y e = let same : z ≡ x = cc in inr (es, ap (λ t. t ∷ es) same)
+split-last {A} (b ∷ before) behind [] x y e = absurd (none before behind rest)
+  where
+    rest : before ++ x ∷ behind ≡ []
+    rest = cc
+
+    none : (front back : List A) → front ++ x ∷ back ≡ [] → ⊥
+    none [] back h = absurd (cc)
+    none (c ∷ front) back h = absurd (cc)
+split-last {A} (b ∷ before) behind (z ∷ es) x y e = by (split-last before behind es x y rest)
+  where
+    rest : before ++ x ∷ behind ≡ es ++ y ∷ []
+    rest = cc
+
+    same : b ≡ z
+    same = cc
+
+    by : ((before ≡ es) × (x ≡ y)) ⊎ ((rest : List A) × (es ≡ before ++ x ∷ rest))
+        → ((b ∷ before ≡ z ∷ es) × (x ≡ y)) ⊎ ((rest : List A) × (z ∷ es ≡ b ∷ (before ++ x ∷ rest)))
+    by (inl t) = inl (ap (λ l. b ∷ l) t.0 ∙ ap (λ c. c ∷ es) same, t.1)
+    by (inr t) = inr (t.0, ap (λ l. z ∷ l) t.1 ∙ ap (λ c. c ∷ (before ++ x ∷ t.0)) (sym same))
+
+pub items_begin : (most n : ℕ) → sum_by (λ count. most - count) (replicate n 0) ≡ most * n
+items_begin most n =
+    let none : most - 0 ≡ most = omega arith in
+    sum_by-replicate (λ (count : ℕ). most - count) n 0 ∙ ap (λ k. n * k) none ∙ mul_comm n most
+
+-- a list of messages is no longer than a bound, or has time enough
+abbrev pub Fits : ℕ → List (List ℕ) → Type 0
+Fits most messages = length messages ≤ most
+
+abbrev pub HasTurns : ℕ → List (List ℕ) → Type 0
+HasTurns turns messages = 4 * length messages + 8 ≤ turns

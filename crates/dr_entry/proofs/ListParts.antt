@@ -1,10 +1,11 @@
 -- Facts of lists: what holds of all elements, of some, or of those that pass a test.
-use Rattle.std.specs.{Fmt.decimal, Prelude.slice_get}
-use Rattle.std.specs.List.{IsAnyAnswer, All, cons_option, filter_map, range_with_len, count_by, position_or_len}
-use Rattle.std.proofs.Common.{◌≡◌, ℕ, Bool, ◌==◌, Contains, Decides, List, ◌+◌, [], ◌∷◌, ◌++◌, arith, Option, Some, None, refl, ◌≤◌, ◌<◌, length, take, get_or, subst, cond, filter, map, false, ◌%◌, ◌^◌, true, ◌&&◌, if◌then◌else◌, sym, ap, ◌∙◌, zero, suc, inl, inr, le_refl, not}
-use Rattle.std.proofs.lemmas.{Bool.{cases_eq, Decides.Decides-eqb}, Fmt.decimal_by_steps, List.Sums.sum_by-cons}
-use Rattle.std.proofs.lemmas.{List.{map-id, get_or-map, length-map}, Option.{get_or_from_slice_get, slice_get_within}}
-use Rattle.std.proofs.lemmas.List.Elements.{contains_decides, Decides-contains, All-append, All-cons, All-more, All-nil}
+use Rattle.std.specs.Fmt.{decimal}
+use Rattle.std.specs.List.{IsAnyAnswer, All, cons_option, filter_map, range_with_len, count_by, position_or_len, position, flat_map}
+use Rattle.std.{specs.Prelude.slice_get, proofs.lemmas.{Bool.{cases_eq, eqb-true}, Fmt.decimal_by_steps}}
+use Rattle.std.proofs.Common.{◌≡◌, ℕ, Bool, ◌==◌, Contains, Decides, List, ◌+◌, [], ◌∷◌, ◌++◌, arith, Option, Some, None, refl, ◌≤◌, ◌<◌, length, take, get_or, subst, cond, filter, map, false, ◌%◌, ◌^◌, true, ◌&&◌, if◌then◌else◌, sym, ap, ◌∙◌, zero, suc, inl, inr, le_refl, not, ◌-◌, nat_lt, ◌⊎◌}
+use Rattle.std.proofs.lemmas.{Bool.Decides.Decides-eqb, Option.{get_or_from_slice_get, slice_get_within, cond_some}}
+use Rattle.std.proofs.lemmas.List.{map-id, get_or-map, length-map, Sums.{sum_by-cons, passes_at_first}}
+use Rattle.std.proofs.lemmas.List.Elements.{contains_decides, Decides-contains, All-append, All-cons, All-more, All-nil, All-contains, All-contains_itself, All-filter, filter_passes, Contains-append_right, Contains-append_cases, Contains-append_left}
 use Rattle.std.proofs.lemmas.List.FromFn.{filter_of_map_range_with_len_more, get_or-map-range_with_len, length-map-range_with_len}
 use Rattle.dr_entry.proofs.NumberFacts.{not_comma, IsEarly, IsRunEnd, IsKnown}
 
@@ -150,3 +151,123 @@ run_known status (zero, below, is) = (0, omega arith, is)
 run_known status (suc zero, below, is) = (5, omega arith, is)
 run_known status (suc (suc zero), below, is) = (6, omega arith, is)
 run_known status (suc (suc (suc i)), below, is) = absurd (omega (arith, below))
+
+-- what a test lets through goes by the places that pass
+pub filter_map-agree : {X Y : Type 0} (f g : X → Option Y) (test : X → Bool) (xs : List X)
+    → ((x : X) → test x ≡ true → f x ≡ g x) → filter_map f (filter test xs) ≡ filter_map g (filter test xs)
+filter_map-agree f g test [] same = refl
+filter_map-agree {X} {Y} f g test (x ∷ xs) same = by (test x) refl (filter_map-agree f g test xs same)
+  where
+    by : (b : Bool) → test x ≡ b → filter_map f (filter test xs) ≡ filter_map g (filter test xs)
+        → filter_map f (filter test (x ∷ xs)) ≡ filter_map g (filter test (x ∷ xs))
+    by true e rest = rw (e, same x e, rest) refl
+    by false e rest = rw e rest
+
+pub all-filter_map : {X Y : Type 0} (P : Y → Type 0) (f : X → Option Y) (xs : List X)
+    → ((x : X) (y : Y) → f x ≡ Some y → P y) → All P (filter_map f xs)
+all-filter_map {X} {Y} P f [] each = All-nil P
+all-filter_map {X} {Y} P f (x ∷ xs) each = by (f x) refl (all-filter_map P f xs each)
+  where
+    by : (r : Option Y) → f x ≡ r → All P (filter_map f xs) → All P (filter_map f (x ∷ xs))
+    by None e rest = rw e rest
+    by (Some y) e rest = rw e (All-cons P y (filter_map f xs) (each x y e) rest)
+
+-- what a test leaves out gives nothing
+pub filter_map-filter : {X Y : Type 0} (f : X → Option Y) (test : X → Bool) (xs : List X)
+    → ((x : X) → test x ≡ false → f x ≡ None) → filter_map f (filter test xs) ≡ filter_map f xs
+filter_map-filter f test [] none = refl
+filter_map-filter {X} {Y} f test (x ∷ xs) none = by (test x) refl (filter_map-filter f test xs none)
+  where
+    by : (b : Bool) → test x ≡ b → filter_map f (filter test xs) ≡ filter_map f xs
+        → filter_map f (filter test (x ∷ xs)) ≡ filter_map f (x ∷ xs)
+    by true e rest = rw (e, rest) refl
+    by false e rest = rw (e, none x e) rest
+
+-- whoever has a rank is a member
+pub rank-member : (xs : List ℕ) (s rank : ℕ) → position (λ m. m == s) xs ≡ Some rank → Contains xs s
+rank-member xs s rank at =
+    let found = cond_some (nat_lt (position_or_len (λ m. m == s) xs) (length xs))
+    (position_or_len (λ m. m == s) xs) rank at in
+    let within : position_or_len (λ m. m == s) xs < length xs = grind (arith, found.0) in (
+      position_or_len (λ m. m == s) xs,
+      within,
+      eqb-true (get_or xs (position_or_len (λ m. m == s) xs) s) s (passes_at_first (λ m. m == s) xs s within),
+    )
+
+pub of_map : {X Y : Type 0} (f : X → Y) (xs : List X) (x : X) → Contains xs x → Contains (map f xs) (f x)
+of_map f xs x c = (c.0, omega (arith, c.1, length-map xs f), get_or-map f xs c.0 x (f x) c.1 ∙ ap f c.2)
+
+-- nothing comes of a list where nothing comes of each element
+pub nothing_of : {X Y : Type 0} (h : X → Option Y) (xs : List X) → All (λ x. h x ≡ None) xs → filter_map h xs ≡ []
+nothing_of h [] none = refl
+nothing_of h (x ∷ xs) none = rw (none 0 x (omega arith))
+    (nothing_of h xs (λ k d l. none (suc k) d (omega (arith, l))))
+
+pub in-nothing : {A : Type 0} (x : A) → Contains [] x → ⊥
+in-nothing x c = absurd (omega (arith, c.1))
+
+pub filter-in : {A : Type 0} (p : A → Bool) (xs : List A) (x : A) → Contains (filter p xs) x
+    → Contains xs x × (p x ≡ true)
+filter-in p xs x c = (
+  All-contains (Contains xs) (filter p xs) x (All-filter p (Contains xs) xs (All-contains_itself xs)) c,
+  All-contains (λ y. p y ≡ true) (filter p xs) x (filter_passes p xs) c,
+)
+
+pub in-head : {A : Type 0} (x : A) (xs : List A) → Contains (x ∷ xs) x
+in-head x xs = (0, omega arith, refl)
+
+pub in-tail : {A : Type 0} (x y : A) (xs : List A) → Contains xs y → Contains (x ∷ xs) y
+in-tail x y xs c = Contains-append_right (x ∷ []) xs y c
+
+pub flat_map-in : {A B : Type 0} (f : A → List B) (xs : List A) (y : B) → Contains (flat_map f xs) y
+    → (x : A) × Contains xs x × Contains (f x) y
+flat_map-in f [] y c = absurd (in-nothing y c)
+flat_map-in {A} {B} f (z ∷ xs) y c = by (λ h. flat_map-in f xs y h) (Contains-append_cases (f z) (flat_map f xs) y c)
+  where
+    by : (Contains (flat_map f xs) y → (x : A) × Contains xs x × Contains (f x) y)
+        → Contains (f z) y ⊎ Contains (flat_map f xs) y → (x : A) × Contains (z ∷ xs) x × Contains (f x) y
+    by rest (inl h) = (z, in-head z xs, h)
+    by rest (inr h) = let r = rest h in (r.0, in-tail z r.0 xs r.1, r.2)
+
+pub in-split : {A : Type 0} (before behind : List A) (x : A) → Contains (before ++ x ∷ behind) x
+in-split before behind x = Contains-append_right before (x ∷ behind) x (in-head x behind)
+
+pub in-cases : {A : Type 0} (x y : A) (xs : List A) → Contains (x ∷ xs) y → (x ≡ y) ⊎ Contains xs y
+in-cases {A} x y xs c = by (Contains-append_cases (x ∷ []) xs y c)
+  where
+    one : Contains (x ∷ []) y → x ≡ y
+    one (zero, l, e) = e
+    one (suc k, l, e) = absurd (omega (arith, l))
+
+    by : Contains (x ∷ []) y ⊎ Contains xs y → (x ≡ y) ⊎ Contains xs y
+    by (inl h) = inl (one h)
+    by (inr h) = inr h
+
+pub in-filter : {A : Type 0} (p : A → Bool) (xs : List A) (x : A) → p x ≡ true → Contains xs x
+    → Contains (filter p xs) x
+in-filter p [] x e c = absurd (in-nothing x c)
+in-filter {A} p (y ∷ xs) x e c = by (λ h. in-filter p xs x e h) (p y) refl (in-cases y x xs c)
+  where
+    by : (Contains xs x → Contains (filter p xs) x) → (b : Bool) → p y ≡ b → (y ≡ x) ⊎ Contains xs x
+        → Contains (if p y then y ∷ filter p xs else filter p xs) x
+    by rest true f (inl same) = rw f (subst (λ z. Contains (y ∷ filter p xs) z) same (in-head y (filter p xs)))
+    by rest true f (inr h) = rw f (in-tail y x (filter p xs) (rest h))
+    by rest false f (inl same) = absurd (grind (arith, f, ap p same, e))
+    by rest false f (inr h) = rw f (rest h)
+
+pub in-flat_map : {A B : Type 0} (f : A → List B) (xs : List A) (x : A) (y : B) → Contains xs x → Contains (f x) y
+    → Contains (flat_map f xs) y
+in-flat_map f [] x y c d = absurd (in-nothing x c)
+in-flat_map {A} {B} f (z ∷ xs) x y c d = by (λ h. in-flat_map f xs x y h d) (in-cases z x xs c)
+  where
+    by : (Contains xs x → Contains (flat_map f xs) y) → (z ≡ x) ⊎ Contains xs x → Contains (f z ++ flat_map f xs) y
+    by rest (inl e) = Contains-append_left (f z) (flat_map f xs) y (subst (λ t. Contains (f t) y) (sym e) d)
+    by rest (inr h) = Contains-append_right (f z) (flat_map f xs) y (rest h)
+
+pub passes_none : {A : Type 0} (p : A → Bool) (xs : List A) → ((x : A) → Contains xs x → p x ≡ false) → filter p xs ≡ []
+passes_none p [] none = refl
+passes_none p (x ∷ xs) none = rw (none x (in-head x xs), passes_none p xs (λ y c. none y (in-tail x y xs c))) refl
+
+pub passes_all : {A : Type 0} (p : A → Bool) (xs : List A) → ((x : A) → Contains xs x → p x ≡ true) → filter p xs ≡ xs
+passes_all p [] all = refl
+passes_all p (x ∷ xs) all = rw (all x (in-head x xs), passes_all p xs (λ y c. all y (in-tail x y xs c))) refl

@@ -1,18 +1,21 @@
 -- Facts of lists: what stands at which place.
 use Rattle.std.specs.{Cmp.{tied_itself, Lexicographic.nat_list_cmp_total}, Int.{w32, from_be_bytes, to_be_bytes}}
-use Rattle.std.specs.{List.{position, position_or_len, Any, AllZip, range_with_len, filter, remove}, Ordering.is_eq}
-use Rattle.std.specs.{Prelude.{Vec, slice_set, option_map, sum_by}, declared.alloc.Global.Global}
-use Rattle.std.proofs.Common.{ℕ, zero, suc, ◌<◌, ◌≤◌, max, List, [], ◌∷◌, length, fold, slice_index, arith, ◌≡◌, Bool, true, false, slice_index_or, nat_lt, None, Some, ◌+◌, ◌++◌, take, sym, ap, ◌∙◌, refl, Option, filter_map, option_to_list, slice_get, subst, ◌⊎◌, inl, inr, get_or, All, drop, ◌-◌, ◌/◌, ◌%◌, ◌≢◌, min, map, replicate, ⊎_elim, cond, le_refl, length-append}
-use Rattle.std.proofs.{Math.ListN.set, lemmas.Bool.{cond-true, lt-ltb, cond-false, le-ltb, cases_lt}}
-use Rattle.std.proofs.lemmas.List.{take_more, get_or-set_same, length-set, get_or-set_other, get_or-replicate, get_or_past, length-replicate, get_or-map, length-map, get_or_append_left, set-append_left, get_or-append_right, set-append_right, get_or_push}
-use Rattle.std.proofs.lemmas.List.{Edits.fill_by_more, Elements.filter_map-append, FromFn.fill_by_all}
+use Rattle.std.specs.List.{position, position_or_len, Any, AllZip, range_with_len, filter, remove, list_any, list_all}
+use Rattle.std.specs.{Ordering.is_eq, declared.alloc.Global.Global}
+use Rattle.std.{specs.Prelude.{Vec, slice_set, option_map, sum_by}, proofs.lemmas.List.Elements.filter_map-append}
+use Rattle.std.proofs.Common.{ℕ, zero, suc, ◌<◌, ◌≤◌, max, List, [], ◌∷◌, length, fold, slice_index, arith, ◌≡◌, Bool, true, false, slice_index_or, nat_lt, None, Some, ◌+◌, ◌++◌, take, sym, ap, ◌∙◌, refl, Option, filter_map, option_to_list, slice_get, subst, ◌⊎◌, inl, inr, get_or, All, drop, ◌-◌, ◌/◌, ◌%◌, ◌≢◌, min, map, replicate, ⊎_elim, cond, le_refl, length-append, Contains, ◌==◌, append_assoc, take-append-drop}
+use Rattle.std.proofs.{Math.ListN.set, lemmas.List.FromFn.{fill_by_all, get_or-range_with_len, length-range_with_len}}
+use Rattle.std.proofs.lemmas.Bool.{cond-true, lt-ltb, cond-false, le-ltb, cases_lt, eq-eqb, ne_eqb, ltb-true, or_cases, and_parts}
+use Rattle.std.proofs.lemmas.{Bool.Decides.nat_tests, List.{Edits.fill_by_more, Folds.list_any_at}}
+use Rattle.std.proofs.lemmas.List.{take_more, get_or-set_same, length-set, get_or-set_other, get_or-replicate, get_or_past, length-replicate, get_or-map, length-map, get_or_append_left, set-append_left, get_or-append_right, set-append_right, get_or_push, set_past}
 use Rattle.std.proofs.lemmas.List.Sums.{position_or_len_is, sum_by-append, sum_by-cons, sum_by-set}
 use Rattle.std.proofs.lemmas.Option.{same_Some, slice_get-get_or, get_or_from_slice_get, slice_get_within, none-some, slice_get_past}
 use mathlib.Core.Option.{some, some-injective, some-ne-none}
 use lib.ListN.{get_elem?}
-use Rattle.dr_entry.proofs.{BoolFacts.equal, Fields.IsBytes, PlainFacts.{same_key, zero_fits}}
-use Rattle.dr_entry.proofs.ListFacts.{fold_max, by_bytes, is_key, KeepBelow, at_most, default_past, parts_long}
+use Rattle.dr_entry.{specs.declared.limits.TheConstants.MAX_MEMBERS, proofs.{BoolFacts.equal, Fields.IsBytes}}
+use Rattle.dr_entry.proofs.ListFacts.{fold_max, by_bytes, is_key, KeepBelow, at_most, default_past, parts_long, AreDistinct}
 use Rattle.dr_entry.proofs.{ListParts.agree_above, NumberFacts.{four, byte_0, byte_1, byte_2, byte_3, moved}}
+use Rattle.dr_entry.proofs.PlainFacts.{same_key, zero_fits}
 
 -- a count is at most the greatest
 pub count_max : (xs : List ℕ) (a i : ℕ) → i < length xs → slice_index xs i ≤ fold max a xs
@@ -74,11 +77,6 @@ index_of_get (y ∷ ys) x e = cc
 pub seam : (xs : List ℕ) (x : ℕ) → slice_get (xs ++ x ∷ []) (length xs) ≡ Some x
 seam [] x = refl
 seam (y ∷ xs) x = seam xs x
-
-pub front : (xs ys : List ℕ) (i x : ℕ) → slice_get xs i ≡ Some x → slice_get (xs ++ ys) i ≡ Some x
-front [] ys i x e = absurd (cc)
-front (y ∷ xs) ys zero x e = e
-front (y ∷ xs) ys (suc i) x e = front xs ys i x e
 
 -- one more keeps it
 pub below_more : {A : Type 0} (Keeps : ℕ → A → Type 0) (xs : List A) (n m : ℕ) (y : A) → m ≡ n + 1
@@ -465,3 +463,191 @@ pushed_cases xs y m n long below = by (cases_lt m n)
     by (inl less) = inl (less, get_or_append_left xs (y ∷ []) None m (omega (arith, less, long)))
     by (inr more) =
         let same : n ≡ m = omega (arith, below, more) in inr (sym same, get_or_push xs y None m (long ∙ same))
+
+-- an element of the first ones is that of the list
+pub slice_get-take : {X : Type 0} (n : ℕ) (xs : List X) (i : ℕ) → i < n → slice_get (take n xs) i ≡ slice_get xs i
+slice_get-take zero xs i l = absurd (omega arith)
+slice_get-take (suc n) [] i l = refl
+slice_get-take (suc n) (x ∷ xs) zero l = refl
+slice_get-take (suc n) (x ∷ xs) (suc i) l = slice_get-take n xs i (omega arith)
+
+-- the count of a rank
+pub count-rank : (counts : ℕ → ℕ) (ms : List ℕ) (rank s : ℕ) → slice_get ms rank ≡ Some s
+    → slice_index (map counts ms) rank ≡ counts s
+count-rank counts ms rank s e = get_or-map counts ms rank 0 0 (slice_get_within ms rank s e)
+    ∙ ap counts (get_or_from_slice_get ms rank s 0 e)
+
+-- an element of the front part
+pub slice_get-left : {X : Type 0} (xs ys : List X) (i : ℕ) → i < length xs → slice_get (xs ++ ys) i ≡ slice_get xs i
+slice_get-left [] ys i l = absurd (omega arith)
+slice_get-left (x ∷ xs) ys zero l = refl
+slice_get-left (x ∷ xs) ys (suc i) l = slice_get-left xs ys i (omega arith)
+
+-- the elements up to and with one
+pub take-next : {X : Type 0} (xs : List X) (i : ℕ) (x : X) → slice_get xs i ≡ Some x
+    → take (i + 1) xs ≡ take i xs ++ x ∷ []
+take-next xs i x e = take_more xs i x (slice_get_within xs i x e)
+    ∙ ap (λ y. take i xs ++ y ∷ []) (get_or_from_slice_get xs i x x e)
+
+-- within a list there is an element
+pub slice_get-some : {X : Type 0} (xs : List X) (i : ℕ) → i < length xs → (x : X) × (slice_get xs i ≡ Some x)
+slice_get-some [] i l = absurd (omega arith)
+slice_get-some (x ∷ xs) zero l = (x, refl)
+slice_get-some (x ∷ xs) (suc i) l = slice_get-some xs i (omega arith)
+
+-- the element behind the front part
+pub slice_get-seam : {X : Type 0} (xs : List X) (y : X) (ys : List X) → slice_get (xs ++ y ∷ ys) (length xs) ≡ Some y
+slice_get-seam [] y ys = refl
+slice_get-seam (x ∷ xs) y ys = slice_get-seam xs y ys
+
+-- an element of a list with one more is an old one or the last
+pub slice_get-push_cases : {X : Type 0} (xs : List X) (y x : X) (i : ℕ) → slice_get (xs ++ y ∷ []) i ≡ Some x
+    → ((i < length xs) × (slice_get xs i ≡ Some x)) ⊎ ((i ≡ length xs) × (y ≡ x))
+slice_get-push_cases xs y x i e = by (within (slice_get_within (xs ++ y ∷ []) i x e))
+  where
+    within : i < length (xs ++ y ∷ []) → (i < length xs) ⊎ (i ≡ length xs)
+    within l = grind (arith, length-append xs (y ∷ []))
+
+    by : (i < length xs) ⊎ (i ≡ length xs) → ((i < length xs) × (slice_get xs i ≡ Some x))
+        ⊎ ((i ≡ length xs) × (y ≡ x))
+    by (inl l) = inl (l, sym (slice_get-left xs (y ∷ []) i l) ∙ e)
+    by (inr at) = inr (
+      at,
+      same_Some y x (sym (slice_get-seam xs y []) ∙ (ap (slice_get (xs ++ y ∷ [])) (sym at) ∙ e)),
+    )
+
+-- an element is in the list
+pub Contains-slice_get : {X : Type 0} (xs : List X) (i : ℕ) (x : X) → slice_get xs i ≡ Some x → Contains xs x
+Contains-slice_get xs i x e = (i, slice_get_within xs i x e, get_or_from_slice_get xs i x x e)
+
+-- one more number that is none of them
+pub AreDistinct-push : (xs : List ℕ) (y : ℕ) → AreDistinct xs
+    → ((i : ℕ) → slice_get xs i ≡ Some y → ⊥) → AreDistinct (xs ++ y ∷ [])
+AreDistinct-push xs y distinct other i j x at_i at_j =
+    by (slice_get-push_cases xs y x i at_i) (slice_get-push_cases xs y x j at_j)
+  where
+    by : ((i < length xs) × (slice_get xs i ≡ Some x)) ⊎ ((i ≡ length xs) × (y ≡ x))
+        → ((j < length xs) × (slice_get xs j ≡ Some x)) ⊎ ((j ≡ length xs) × (y ≡ x)) → i ≡ j
+    by (inl f) (inl g) = distinct i j x f.1 g.1
+    by (inl f) (inr g) = absurd (other i (f.1 ∙ ap Some (sym g.1)))
+    by (inr f) (inl g) = absurd (other j (g.1 ∙ ap Some (sym f.1)))
+    by (inr f) (inr g) = f.0 ∙ sym g.0
+
+-- a member's rank is its position
+pub position-rank : (xs : List ℕ) (rank s : ℕ) → AreDistinct xs → slice_get xs rank ≡ Some s
+    → position (λ m. m == s) xs ≡ Some rank
+position-rank xs rank s distinct at = position_found (λ m. m == s) xs rank 0 within (λ j l. ne_eqb (get_or xs j 0) s
+    (λ e. omega (arith, l, distinct j rank s (slice_get-get_or xs j 0 (omega (arith, l, within)) ∙ ap Some e) at)))
+    (eq-eqb (get_or xs rank 0) s (get_or_from_slice_get xs rank s 0 at))
+  where
+    within : rank < length xs
+    within = slice_get_within xs rank s at
+
+-- a number above one of the counts is none of the greatest
+pub behind_some : (k most : ℕ) (counts : List ℕ) → ((s : ℕ) → slice_index counts s ≤ most)
+    → list_any (nat_lt k) counts ≡ true → k < most
+behind_some k most [] bounded e = absurd (cc)
+behind_some k most (x ∷ xs) bounded e = elim (or_cases (nat_lt k x) (list_any (nat_lt k) xs) e) [
+  | inl here ↦ omega (arith, ltb-true k x here, bounded 0)
+  | inr there ↦ behind_some k most xs (λ s. bounded (suc s)) there
+]
+
+-- some number of a list is above k
+pub above_some : (k : ℕ) (xs : List ℕ) → list_any (nat_lt k) xs ≡ true → (s : ℕ) × (k < slice_index xs s)
+above_some k [] e = absurd (cc)
+above_some k (x ∷ xs) e = elim (or_cases (nat_lt k x) (list_any (nat_lt k) xs) e) [
+  | inl here ↦ (0, ltb-true k x here)
+  | inr there ↦ let t = above_some k xs there in (suc t.0, t.1)
+]
+
+-- no element is above the greatest, nor the default
+pub most : (xs : List ℕ) (i : ℕ) → slice_index xs i ≤ fold max 0 xs
+most xs i = elim (cases_lt i (length xs)) [
+  | inl within ↦ count_max xs 0 i within
+  | inr past ↦ omega (arith, get_or_past xs i 0 past)
+]
+
+-- an element of a list that passes is below the bound, as is the default
+pub element_below : (n : ℕ) (xs : List ℕ) (k : ℕ) → 1 ≤ n → list_all (λ i. nat_lt i n) xs
+    ≡ true → slice_index xs k < n
+element_below n [] k large all = omega (arith, large)
+element_below n (x ∷ xs) zero large all =
+    grind (arith, nat_tests, and_parts (nat_lt x n) (list_all (λ i. nat_lt i n) xs) all)
+element_below n (x ∷ xs) (suc k) large all =
+    element_below n xs k large (and_parts (nat_lt x n) (list_all (λ i. nat_lt i n) xs) all).1
+
+-- a count that rises lowers the sum of what is left up to the greatest
+pub items_less : (most : ℕ) (counts : List ℕ) (s : ℕ) → s < length counts → slice_index counts s < most
+    → sum_by (λ count. most - count) (slice_set counts s (slice_index counts s + 1)) < sum_by
+    (λ count. most - count) counts
+items_less most counts s within below =
+    omega (arith, sum_by-set (λ (count : ℕ). most - count) counts s (slice_index counts s + 1) 0 within)
+
+-- and it never raises that sum
+pub items_no_more : (most : ℕ) (counts : List ℕ) (s : ℕ) → sum_by (λ count. most - count) (slice_set counts s
+    (slice_index counts s + 1)) ≤ sum_by (λ count. most - count) counts
+items_no_more most counts s = elim (cases_lt s (length counts)) [
+  | inl within ↦ omega (arith, sum_by-set (λ (count : ℕ). most - count) counts s (slice_index counts s + 1) 0 within)
+  | inr past ↦ rw (set_past counts s (slice_index counts s + 1) past) (le_refl _)
+]
+
+pub get_more : {A : Type 0} (xs ys : List A) (k : ℕ) (x : A) → slice_get xs k ≡ Some x
+    → slice_get (xs ++ ys) k ≡ Some x
+get_more [] ys k x e = absurd (cc)
+get_more (y ∷ xs) ys zero x e = e
+get_more (y ∷ xs) ys (suc k) x e = get_more xs ys k x e
+
+-- an element of a list with one more at its end is in the list, or is the new one
+pub get_one : {A : Type 0} (xs : List A) (y : A) (k : ℕ) (x : A) → slice_get (xs ++ y ∷ []) k ≡ Some x
+    → (slice_get xs k ≡ Some x) ⊎ (x ≡ y)
+get_one [] y zero x e = inr (cc)
+get_one [] y (suc k) x e = absurd (cc)
+get_one (z ∷ xs) y zero x e = inl e
+get_one (z ∷ xs) y (suc k) x e = get_one xs y k x e
+
+pub get_last : {A : Type 0} (xs : List A) (y : A) → (k : ℕ) × (slice_get (xs ++ y ∷ []) k ≡ Some y)
+get_last [] y = (0, refl)
+get_last (z ∷ xs) y = let rest = get_last xs y in (suc rest.0, rest.1)
+
+-- somebody stays, so it has members of the roster
+pub some_of : (xs : List ℕ) → 0 < length xs → (x : ℕ) × (slice_get xs 0 ≡ Some x)
+some_of [] l = absurd (omega (arith, l))
+some_of (x ∷ xs) l = (x, refl)
+
+-- an element of a range
+pub range_at : (a n k : ℕ) → k < n → slice_get (range_with_len a n) k ≡ Some (a + k)
+range_at a n k l = slice_get-get_or (range_with_len a n) k 0 (omega (arith, l, length-range_with_len a n))
+    ∙ ap Some (get_or-range_with_len a n k 0 l)
+
+-- no element passes a test that none passes
+pub none_at : {A : Type 0} (test : A → Bool) (xs : List A) (k : ℕ) (d : A) → list_any test xs ≡ false
+    → k < length xs → test (slice_index_or xs k d) ≡ false
+none_at test xs k d none within = by (test (slice_index_or xs k d)) refl
+  where
+    by : (b : Bool) → test (slice_index_or xs k d) ≡ b → test (slice_index_or xs k d) ≡ false
+    by false e = e
+    by true e = absurd (cc (list_any_at test xs k d within e, none))
+
+pub read-in : {A : Type 0} (xs : List A) (x : A) → Contains xs x → (k : ℕ) × (slice_get xs k ≡ Some x)
+read-in xs x c = (c.0, slice_get-get_or xs c.0 x c.1 ∙ ap Some c.2)
+
+-- a list around one of its elements
+pub around : {X : Type 0} (xs : List X) (k : ℕ) (x : X) → slice_get xs k ≡ Some x
+    → xs ≡ take k xs ++ x ∷ drop (k + 1) xs
+around xs k x at = sym (take-append-drop (k + 1) xs)
+    ∙ (ap (λ l. l ++ drop (k + 1) xs) (take-next xs k x at) ∙ append_assoc (take k xs) (x ∷ []) (drop (k + 1) xs))
+
+unfoldable pub both : {A B C : Type 0} → Option (A → B) → Option (B → C) → Option (A → C)
+both (Some f) (Some h) = Some (λ x. h (f x))
+both f h = None
+
+-- all counts and beats are 0
+pub zero_at : (i : ℕ) → slice_index (replicate MAX_MEMBERS 0) i ≡ 0
+zero_at i = by (cases_lt i 16)
+  where
+    none : ℕ
+    none = 0
+
+    by : (i < 16) ⊎ (16 ≤ i) → slice_index (replicate MAX_MEMBERS 0) i ≡ 0
+    by (inl l) = get_or-replicate 16 i none none l
+    by (inr past) = get_or_past (replicate 16 none) i none (omega (arith, past, length-replicate 16 none))

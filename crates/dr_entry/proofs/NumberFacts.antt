@@ -1,10 +1,11 @@
 -- Facts of numbers.
-use Rattle.std.{specs.Fmt.digit_glyph, proofs.Math.Nat.mul-le-mul}
-use Rattle.std.specs.{List.{range_with_len, list_all, Sorted.IsStrictlyIncreasing}, Prelude.{◌==◌, nat_le}}
-use Rattle.std.proofs.Common.{◌≡◌, ◌≢◌, ℕ, true, not, arith, ◌+◌, ◌≤◌, false, leb, [], refl, Bool, T, ◌&&◌, ◌*◌, ◌/◌, ◌%◌, ◌<◌, ◌⊎◌, inl, inr, ◌-◌, zero, suc, fold, ap, ◌∙◌, subst, ◌^◌, ◌↔◌, if◌then◌else◌, count_ones, add_comm, lit<, bit_and, sym, nat_lt, cond, ◌||◌, le_refl, min, eqb, ltb, ◌∷◌, Contains}
-use Rattle.std.proofs.lemmas.Bool.{leb-true, leb-false, cases_lt, eqb-true, false≢true, and_parts, Decides.nat_tests}
-use Rattle.std.proofs.lemmas.{List.FromFn.{length-range_with_len, get_or-range_with_len}, Nat.Bits.ones_shr}
-use Rattle.std.proofs.lemmas.Nat.{div-add-mod', mul-le, mod-pow-add, ones_cat, mod_below, pow_pos, and_mask, one_shl, shr-shr}
+use Rattle.std.specs.Fmt.{digit_glyph}
+use Rattle.std.specs.{List.{range_with_len, list_all, Sorted.IsStrictlyIncreasing}, Prelude.{◌==◌, nat_le, max}}
+use Rattle.std.proofs.Common.{◌≡◌, ◌≢◌, ℕ, true, not, arith, ◌+◌, ◌≤◌, false, leb, [], refl, Bool, T, ◌&&◌, ◌*◌, ◌/◌, ◌%◌, ◌<◌, ◌⊎◌, inl, inr, ◌-◌, zero, suc, fold, ap, ◌∙◌, subst, ◌^◌, ◌↔◌, if◌then◌else◌, count_ones, add_comm, lit<, bit_and, sym, nat_lt, cond, ◌||◌, le_refl, min, eqb, ltb, ◌∷◌, Contains, suc-mul, lt_of_mul-lt-mul_right, mul_comm, mod-lt, le_antisymm, le_of_mul-le-mul_right, ap₂}
+use Rattle.std.proofs.{Math.Nat.{mul-le-mul, div-add-mod, mul-le-mul_left, mul-suc}, lemmas.Nat.Bits.ones_shr}
+use Rattle.std.proofs.lemmas.Bool.{leb-true, leb-false, cases_lt, eqb-true, false≢true, and_parts, cases_eq}
+use Rattle.std.proofs.lemmas.{Bool.Decides.nat_tests, List.FromFn.{length-range_with_len, get_or-range_with_len}}
+use Rattle.std.proofs.lemmas.Nat.{div-add-mod', mul-le, mod-pow-add, ones_cat, mod_below, pow_pos, and_mask, one_shl, shr-shr, mod-mul-add, mul-add-lt}
 use lib.Count.{ones}
 
 pub not_same : (m n : ℕ) → not (m == n) ≡ true → m ≢ n
@@ -369,3 +370,324 @@ total named now (suc n) = total named now n + phase (named n) (now n)
 -- the status of each call is one of these
 abbrev pub IsKnown : ℕ → Type 0
 IsKnown status = Contains (0 ∷ 2 ∷ 3 ∷ 4 ∷ 5 ∷ 8 ∷ 9 ∷ 10 ∷ []) status
+
+pub come_on : (a n b m c l : ℕ) → (a < b) ⊎ ((a ≡ b) × (n ≤ m)) → (b < c)
+    ⊎ ((b ≡ c) × (m < l)) → (a < c) ⊎ ((a ≡ c) × (n ≤ l))
+come_on a n b m c l h k = grind arith
+
+-- behind m whole rounds no place has a smaller number
+pub rounds-le : (n m q : ℕ) → 0 < n → n * m ≤ q → m ≤ q / n
+rounds-le n m q some l = omega (arith, lt_of_mul-lt-mul_right n {m = m} {n = suc (q / n)} up)
+  where
+    up : m * n < suc (q / n) * n
+    up = omega (arith, mul_comm n m, l, div-add-mod' q n, mod-lt q some, suc-mul (q / n) n)
+
+-- of n ranks, k places of rank s lie below x
+pub record LieBelow (n s x k : ℕ) : Type 0 where
+  pub low : x ≤ k * n + s
+  pub high : k * n + s < x + n
+
+-- below place 0 there is none
+pub lie_none : (n s : ℕ) → s < n → LieBelow n s 0 0
+lie_none n s l = record { low = omega arith; high = omega arith }
+
+-- a place of another rank adds none
+pub lie_same : (n s x k : ℕ) → s < n → x % n ≢ s → LieBelow n s x k → LieBelow n s (suc x) k
+lie_same n s x k l other b = record { low = by; high = omega arith }
+  where
+    apart : x ≡ k * n + s → ⊥
+    apart e = other (ap (λ z. z % n) e ∙ mod-mul-add k n s l)
+
+    by : suc x ≤ k * n + s
+    by = grind (arith, apart)
+
+-- a place of rank s is the next of its rank
+pub lie_next : (n s x k : ℕ) → s < n → x % n ≡ s → LieBelow n s x k → x / n ≡ k
+lie_next n s x k l e b = le_antisymm (le_of_mul-le-mul_right down (omega arith))
+    (omega (arith, lt_of_mul-lt-mul_right n {m = k} {n = suc (x / n)} up))
+  where
+    down : x / n * n ≤ k * n
+    down = omega (arith, div-add-mod' x n)
+
+    up : k * n < suc (x / n) * n
+    up = omega (arith, div-add-mod' x n, suc-mul (x / n) n)
+
+-- and it adds one
+pub lie_more : (n s x k : ℕ) → s < n → x % n ≡ s → x / n ≡ k → LieBelow n s x k → LieBelow n s (suc x) (suc k)
+lie_more n s x k l e same b =
+    record { low = omega (arith, whole, suc-mul k n); high = omega (arith, whole, suc-mul k n) }
+  where
+    whole : x ≡ k * n + s
+    whole = sym (div-add-mod' x n) ∙ ap₂ (λ q r. q * n + r) same e
+
+-- a later place of the rank has at least these before it
+pub lie_before : (n s x y k : ℕ) → y % n ≡ s → x ≤ y → LieBelow n s x k → k ≤ y / n
+lie_before n s x y k e l b = omega (arith, lt_of_mul-lt-mul_right n {m = k} {n = suc (y / n)} up)
+  where
+    up : k * n < suc (y / n) * n
+    up = omega (arith, b.high, l, e, div-add-mod' y n, suc-mul (y / n) n)
+
+pub come_later : (a n b m c l : ℕ) → (a < b) ⊎ ((a ≡ b) × (n ≤ m)) → (b < c)
+    ⊎ ((b ≡ c) × (m < l)) → (a < c) ⊎ ((a ≡ c) × (n < l))
+come_later a n b m c l h k = grind arith
+
+-- items of one slot less than a window apart are not the later one
+pub same_slot : (n k q : ℕ) → 0 < n → q % n ≡ k % n → q < k + n → q ≤ k
+same_slot n k q some e l = by (cases_lt (k / n) (q / n))
+  where
+    by : (k / n < q / n) ⊎ (q / n ≤ k / n) → q ≤ k
+    by (inl over) =
+        let round : n * suc (k / n) ≤ n * (q / n) = mul-le-mul_left n over in
+        let next : n * suc (k / n) ≡ n * (k / n) + n = mul-suc n (k / n) in
+        absurd (omega (arith, round, next, div-add-mod q n, div-add-mod k n, e, l))
+    by (inr earlier) =
+        let round : n * (q / n) ≤ n * (k / n) = mul-le-mul_left n earlier in
+        omega (arith, round, div-add-mod q n, div-add-mod k n, e)
+
+-- a column of the new item's words, or one that is as before
+abbrev pub InItem : ℕ → ℕ → ℕ → Type 0
+InItem from n c = ((part : ℕ) × (part < n) × (from + part ≡ c)) ⊎ ((c < from) ⊎ (from + n ≤ c))
+
+pub in_item : (from n c : ℕ) → InItem from n c
+in_item from n c = by (cases_lt c from) (cases_lt c (from + n))
+  where
+    by : (c < from) ⊎ (from ≤ c) → (c < from + n) ⊎ (from + n ≤ c) → InItem from n c
+    by (inl l) b = inr (inl l)
+    by (inr l) (inr b) = inr (inr b)
+    by (inr l) (inl b) = inl (c - from, omega arith, omega arith)
+
+pub itself_or : (j : ℕ) (b : Bool) → (j == j || b) ≡ true
+itself_or j b = grind arith
+
+-- who is one more or was before, and is not the one more, was before
+pub one_before : (n j : ℕ) (b : Bool) → n ≢ j → (n == j || b) ≡ true → b ≡ true
+one_before n j b d e = grind (arith, d, e)
+
+pub before_or_behind : (v u : ℕ) → (v < u) ⊎ ((v ≡ u) ⊎ (u < v))
+before_or_behind v u = grind arith
+
+-- a cell is inside the table or not
+pub cell_inside : (b n k v j i c : ℕ)
+    → (((v < b) × (j < n) × (i < n) × (c < k)) × (((nat_lt v b && nat_lt j n) && (nat_lt i n && nat_lt c k)) ≡ true))
+    ⊎ (((nat_lt v b && nat_lt j n) && (nat_lt i n && nat_lt c k)) ≡ false)
+cell_inside b n k v j i c = by ((nat_lt v b && nat_lt j n) && (nat_lt i n && nat_lt c k)) refl
+  where
+    by : (t : Bool) → ((nat_lt v b && nat_lt j n) && (nat_lt i n && nat_lt c k)) ≡ t
+        → (((v < b) × (j < n) × (i < n) × (c < k))
+        × (((nat_lt v b && nat_lt j n) && (nat_lt i n && nat_lt c k)) ≡ true))
+        ⊎ (((nat_lt v b && nat_lt j n) && (nat_lt i n && nat_lt c k)) ≡ false)
+    by true e = inl (
+      (
+        grind (arith, nat_tests, e),
+        grind (arith, nat_tests, e),
+        grind (arith, nat_tests, e),
+        grind (arith, nat_tests, e),
+      ),
+      e,
+    )
+    by false e = inr e
+
+-- a test that each number below n passes
+unfoldable pub all_below : ℕ → (ℕ → Bool) → Bool
+all_below zero test = true
+all_below (suc n) test = test n && all_below n test
+
+-- a test that all numbers below n pass is passed by each of them
+pub each_below : (n i : ℕ) (test : ℕ → Bool) → all_below n test ≡ true → i < n → test i ≡ true
+unfolding all_below
+each_below zero i test e l = absurd (omega arith)
+each_below (suc n) i test e l = elim (cases_eq i n) [
+  | inl same ↦ rw same (and_parts (test n) (all_below n test) e).0
+  | inr other ↦ each_below n i test (and_parts (test n) (all_below n test) e).1 (omega arith)
+]
+
+pub no_row : (row c : ℕ) → row < 1 → row * c ≡ 0
+no_row zero c l = omega arith
+no_row (suc row) c l = absurd (omega (arith, l))
+
+-- a place of a turn is one of its part's
+pub within : (rows columns row column : ℕ) → row < rows → column < columns → row * columns + column < rows * columns
+within rows columns row column a b = omega (arith, mul-add-lt row columns column rows a b)
+
+pub minus_le : (a b c : ℕ) → b ≤ c → a - c ≤ a - b
+minus_le a b c h = omega arith
+
+pub minus_less : (most a b : ℕ) → a < b → b ≤ most → most - b < most - a
+minus_less most a b h g = omega arith
+
+pub come_in : (i : ℕ) (p a b : Bool) → i < 16 → p ≡ true → (if b then not a else a) ≡ true
+    → (nat_lt i 16 && (p && (if b then not a else a))) ≡ true
+come_in i p a b small here e = rw (e, here) (grind (arith, small))
+
+-- one for a member
+abbrev pub one : Bool → ℕ
+one b = if b then 1 else 0
+
+pub first_or : (v : ℕ) → (v ≡ 0) ⊎ (0 < v)
+first_or zero = inl refl
+first_or (suc v) = inr (omega arith)
+
+pub spent_at : (limit turns : ℕ) → (turns == limit) ≡ true → turns ≡ limit
+spent_at limit turns e = grind (arith, nat_tests, e)
+
+pub same_view : (v x y : ℕ) → (if v == v then x else y) ≡ x
+same_view v x y = grind arith
+
+-- a word that comes is one that arrives
+pub greater : (a b : ℕ) → (max a b ≡ a) ⊎ (max a b ≡ b)
+greater a b = by (cases_lt a b)
+  where
+    by : (a < b) ⊎ (b ≤ a) → (max a b ≡ a) ⊎ (max a b ≡ b)
+    by (inl l) = inr (grind (arith, l))
+    by (inr l) = inl (grind (arith, l))
+
+pub no_less : (a b : ℕ) → a ≤ max a b
+no_less a b = grind arith
+
+pub is_below : (a b : ℕ) → a < b → nat_lt a b ≡ true
+is_below a b l = grind (arith, l)
+
+-- a count below the limit hasn't reached it
+pub soon : (count more limit : ℕ) → count + more < limit → not (nat_lt count limit) ≡ false
+soon count more limit l = grind (arith, l)
+
+-- who is beyond a roster is not of a mask of it
+pub not_in : {n i : ℕ} (b : Bool) → (b ≡ true → i < n) → n ≤ i → b ≡ false
+not_in true inside beyond = absurd (omega (arith, inside refl, beyond))
+not_in false inside beyond = refl
+
+pub both_true : (a b c : Bool) → (a && (b && c)) ≡ true → (b ≡ true) × (c ≡ true)
+both_true true true true e = (refl, refl)
+both_true true true false e = absurd (cc)
+both_true true false c e = absurd (cc)
+both_true false b c e = absurd (cc)
+
+pub same_age : (a b : ℕ) → a ≡ b → (a == b) ≡ true
+same_age a b e = grind (arith, e)
+
+pub below-last : (v : ℕ) → v + 1 < 32 → nat_lt v 255 ≡ true
+below-last v few = grind (arith, few)
+
+-- a row and a column come before others
+abbrev pub IsLess : ℕ → ℕ → ℕ → ℕ → Type 0
+IsLess j d i c = (j < i) ⊎ ((j ≡ i) × (d < c))
+
+-- what is not after a column of a row is before it, or there
+pub split_column : (j d i c : ℕ) → (j < i) ⊎ ((j ≡ i) × (d < c + 1)) → IsLess j d i c ⊎ ((j ≡ i) × (d ≡ c))
+split_column j d i c before = grind (arith, before)
+
+pub unequal : (c d : ℕ) → d ≡ c → (c == d) ≡ false → ⊥
+unequal c d same e = absurd (grind (arith, e, same))
+
+-- behind the last column of a row come those of the next one, if there is one
+abbrev pub one_of : Bool → ℕ → ℕ
+one_of b n = if b then n else 0
+
+-- a part with one place has none before it
+pub one_place : (j d i c : ℕ) → i < 1 → c < 1 → IsLess j d i c → ⊥
+one_place j d i c row column less = grind (arith, row, column, less)
+
+pub one_column : (j d i c : ℕ) → c < 1 → IsLess j d i c → j < i
+one_column j d i c column less = grind (arith, column, less)
+
+pub not_back : (a b : ℕ) (t : Bool) → (t ≡ true → a < b - 1) → (t && (a + 1 == b)) ≡ false
+not_back a b true before = grind (arith, nat_tests, before refl)
+not_back a b false before = refl
+
+-- of n members, with `left s` messages left to member s: what member m has after r rounds, where count gives
+-- how many items it has of each
+pub record HasCome (n : ℕ) (left : ℕ → ℕ) (r m : ℕ) (count : ℕ → ℕ) : Type 0 where
+  -- it has put its own message k
+  pub own : (k : ℕ) → k < left m → 3 * k + 1 ≤ r → k < count m
+  -- it has put an item k, where somebody has a message k
+  pub put : (s k : ℕ) → s < n → k < left s → 3 * k + 2 ≤ r → k < count m
+  -- and it has item k of each member
+  pub has : (s t k : ℕ) → s < n → t < n → k < left s → 3 * k + 3 ≤ r → k < count t
+
+-- no round brings nothing
+pub come_none : (n : ℕ) (left : ℕ → ℕ) (m : ℕ) (count : ℕ → ℕ) → HasCome n left 0 m count
+come_none n left m count = record {
+  own = λ k below few. absurd (omega (arith, few));
+  put = λ s k l below few. absurd (omega (arith, few));
+  has = λ s t k l b below few. absurd (omega (arith, few));
+}
+
+-- who has got as far as a round more brings it has got so far before
+pub come_less : (n : ℕ) (left : ℕ → ℕ) (r m : ℕ) (count : ℕ → ℕ) → HasCome n left (r + 1) m count
+    → HasCome n left r m count
+come_less n left r m count h = record {
+  own = λ k below few. h.own k below (omega arith);
+  put = λ s k l below few. h.put s k l below (omega arith);
+  has = λ s t k l b below few. h.has s t k l b below (omega arith);
+}
+
+-- member m has room for its next item in its window: that is one of the first, or each other member has
+-- received the one that stood in its place
+abbrev pub Room : ℕ → ℕ → (ℕ → ℕ → ℕ) → ℕ → Type 0
+Room n window count m = (count m m < window) ⊎ ((i : ℕ) → i < n → i ≢ m → count m m - window < count i m)
+
+-- member m has done all that there was to do: it has what the others have put, and has no room for its next
+-- message, nor, if none is left, for a null where somebody is ahead of it
+pub record Rests (n window : ℕ) (left : ℕ → ℕ) (m : ℕ) (count : ℕ → ℕ → ℕ) : Type 0 where
+  pub taken : (t : ℕ) → t < n → t ≢ m → count m t ≡ count t t
+  pub sent : count m m < left m → Room n window count m → ⊥
+  pub filled : left m ≤ count m m → Room n window count m → (s : ℕ) → s < n → count m s ≤ count m m
+
+-- where all others have got as far as r rounds bring them, the slot of an early item is free
+room_for : (n window : ℕ) (left : ℕ → ℕ) (r m s : ℕ) (count : ℕ → ℕ → ℕ) → 1 ≤ window → m < n
+    → ((i : ℕ) → i < n → i ≢ m → HasCome n left r i (count i)) → s < n → count m m < left s
+    → 3 * count m m ≤ r → Room n window count m
+room_for n window left r m s count some within others l below few = by (cases_lt (count m m) window)
+  where
+    by : (count m m < window) ⊎ (window ≤ count m m) → Room n window count m
+    by (inl early) = inl early
+    by (inr late) = inr (λ i h d. (others i h d).has s m (count m m - window) l within (omega arith) (omega arith))
+
+-- a member that has done all that there was to do has got as far as one round more brings it
+pub come_more : (n window : ℕ) (left : ℕ → ℕ) (r m : ℕ) (count : ℕ → ℕ → ℕ) → 1 ≤ window → m < n
+    → Rests n window left m count → ((i : ℕ) → i < n → i ≢ m → HasCome n left r i (count i))
+    → HasCome n left (r + 1) m (count m)
+come_more n window left r m count some within rests others = record { own = own; put = put; has = has }
+  where
+    room : (s : ℕ) → s < n → count m m < left s → 3 * count m m ≤ r → Room n window count m
+    room s l below few = room_for n window left r m s count some within others l below few
+
+    own : (k : ℕ) → k < left m → 3 * k + 1 ≤ r + 1 → k < count m m
+    own k below few = by (cases_lt k (count m m))
+      where
+        by : (k < count m m) ⊎ (count m m ≤ k) → k < count m m
+        by (inl is) = is
+        by (inr not_yet) = absurd (rests.sent (omega arith) (room m within (omega arith) (omega arith)))
+
+    put : (s k : ℕ) → s < n → k < left s → 3 * k + 2 ≤ r + 1 → k < count m m
+    put s k l below few = by (cases_lt k (count m m)) (cases_lt (count m m) (left m)) (cases_eq s m)
+      where
+        by : (k < count m m) ⊎ (count m m ≤ k) → (count m m < left m) ⊎ (left m ≤ count m m)
+            → (s ≡ m) ⊎ (s ≢ m) → k < count m m
+        by (inl is) more same = is
+        by (inr not_yet) (inl more) same = absurd (omega (arith, own (count m m) more (omega arith)))
+        by (inr not_yet) (inr none) (inl same) = absurd (grind (arith, same))
+        by (inr not_yet) (inr none) (inr other) = absurd (omega (
+          arith,
+          rests.filled none (room s l (omega arith) (omega arith)) s l,
+          rests.taken s l other,
+          (others s l other).own k below (omega arith),
+        ))
+
+    has : (s t k : ℕ) → s < n → t < n → k < left s → 3 * k + 3 ≤ r + 1 → k < count m t
+    has s t k l h below few = by (cases_eq t m)
+      where
+        by : (t ≡ m) ⊎ (t ≢ m) → k < count m t
+        by (inl same) = rw same (put s k l below (omega arith))
+        by (inr other) = omega (arith, rests.taken t h other, (others t h other).put s k l below (omega arith))
+
+-- an earlier place has no greater number
+pub round_le : (n a b s t : ℕ) → s < n → a * n + t ≤ b * n + s → a ≤ b
+round_le n a b s t l h = omega (arith, lt_of_mul-lt-mul_right n {m = a} {n = suc b} up)
+  where
+    up : a * n < suc b * n
+    up = omega (arith, h, l, suc-mul b n)
+
+-- a place of the same member behind it has a greater one
+pub round_lt : (n a b s p : ℕ) → a * n + s < p → p ≤ b * n + s → a < b
+round_lt n a b s p h l = lt_of_mul-lt-mul_right n {m = a} {n = b} (omega (arith, h, l))

@@ -1,12 +1,13 @@
 -- Facts of options and results.
 use Rattle.std.specs.{Fmt.decimal, List.{list_all, find, range_with_len}, declared.alloc.AllocError.AllocError}
-use Rattle.std.{specs.Option.{ok_or, option_or}, proofs.Math.Nat.div-add-mod}
-use Rattle.std.specs.Prelude.{option_and_then, is_some, unwrap_or, IfSome, ◌↔◌, IsTrue, IfOk, IfNone, option_map, OnOk}
-use Rattle.std.proofs.Common.{◌≡◌, Option, Some, None, refl, true, Err, subst, Result, Ok, OnErr, Bool, ℕ, ◌⊎◌, inr, zero, suc, ◌&&◌, ◌<◌, inl, arith, [], ◌+◌, ◌∷◌, ap, ◌∙◌, false, sym, add-one, ◌-◌, ◌≤◌, IsSome, below_more, not, ◌*◌, ◌/◌, ◌%◌, ◌||◌, Contains}
+use Rattle.std.specs.Option.{ok_or, option_or}
+use Rattle.std.specs.Prelude.{option_and_then, is_some, unwrap_or, IfSome, ◌↔◌, IsTrue, IfOk, IfNone, option_map, OnOk, nat_lt}
+use Rattle.std.proofs.Common.{◌≡◌, Option, Some, None, refl, true, Err, subst, Result, Ok, OnErr, Bool, ℕ, ◌⊎◌, inr, zero, suc, ◌&&◌, ◌<◌, inl, arith, [], ◌+◌, ◌∷◌, ap, ◌∙◌, false, sym, add-one, ◌-◌, ◌≤◌, IsSome, below_more, not, ◌*◌, ◌/◌, ◌%◌, ◌||◌, Contains, IsSomeAnd, ◌≢◌, ◌==◌}
+use Rattle.std.proofs.{Math.Nat.div-add-mod, lemmas.{Bool.Decides.nat_tests, Option.{none-some, same_Some}}}
 use Rattle.std.proofs.lemmas.{Bool.{and_parts, cases_lt, cases_eq}, List.Folds.{list_all-append, list_all_at}}
 use Rattle.std.proofs.lemmas.List.FromFn.{length-map-range_with_len, get_or-map-range_with_len}
 use Rattle.dr_entry.proofs.{Bits.Marks, BoolFacts.phase_few, ListFacts.{is_free, first_words, words_more}}
-use Rattle.dr_entry.proofs.NumberFacts.{total}
+use Rattle.dr_entry.proofs.NumberFacts.{total, unequal}
 
 -- what holds of all that a second step gives
 pub then_some : {A B : Type 0} (P : B → Type 0) (f : A → Option B) (o : Option A) (y : B)
@@ -163,10 +164,10 @@ both false b e = absurd (cc e)
 pub none_or_some : {X : Type 0} (o : Option X) (x : X) → o ≡ None → o ≡ Some x → ⊥
 none_or_some o x none some = cc (none, some)
 
--- no crash comes in this turn
-pub no_crash : (o : Option ℕ) → is_some o ≡ false → o ≡ None
-no_crash None e = refl
-no_crash (Some push) e = absurd (cc)
+-- what is not there is none
+pub no_value : {A : Type 0} (o : Option A) → is_some o ≡ false → o ≡ None
+no_value None e = refl
+no_value (Some x) e = absurd (cc e)
 
 pub IfNone_then : {X : Type 0} (r : Option X) (P Q : Type 0) → IfNone r P → (P → Q) → IfNone r Q
 IfNone_then None P Q p f = f p
@@ -187,11 +188,6 @@ some_read f P (Some x) q e h = subst (λ o. IfSome o P) (sym e) h
 pub on_ok : (A B : Type 0) (result : Result (Unit {0}) AllocError) → (A → B) → OnOk result A → OnOk result B
 on_ok A B (Ok u) so ok = so ok
 on_ok A B (Err e) so ok = tt
-
--- where nothing is there is none
-pub none_at : {X : Type 0} (o : Option X) → not (is_some o) ≡ true → o ≡ None
-none_at None is = refl
-none_at (Some x) is = absurd (cc)
 
 -- where one of two is there both are
 pub both_there : {X Y : Type 0} (o : Option X) (p : Option Y) (x : X) → is_some o ≡ is_some p → o ≡ Some x
@@ -242,3 +238,70 @@ IsKnown status = Contains (0 ∷ 2 ∷ 3 ∷ 4 ∷ 5 ∷ 8 ∷ 9 ∷ 10 ∷ []) 
 
 pub wanting_known : (status : ℕ) → status ≡ 10 → IsKnown status
 wanting_known status is = (7, omega arith, sym is)
+
+-- what holds of the value in an option
+pub IsSomeAnd-at : {X : Type 0} (r : Option X) (P : X → Type 0) (x : X) → r ≡ Some x → IsSomeAnd r P → P x
+IsSomeAnd-at r P x e h = subst (λ z. IsSomeAnd z P) e h
+
+-- the parts of a pair that was read in two steps
+pub pair-parts : {A B : Type 0} (f : A → Option B) (r : Option A) (a : A) (b : B)
+    → option_and_then {U = A × B} (λ s. option_map (λ x. (s, x)) (f s)) r ≡ Some (a, b)
+    → (r ≡ Some a) × (f a ≡ Some b)
+pair-parts f None a b e = absurd (none-some (a, b) e)
+pair-parts {A} {B} f (Some c) a b e = by (f c) refl e
+  where
+    by : (z : Option B) → f c ≡ z → option_map {U = A × B} (λ x. (c, x)) z ≡ Some (a, b)
+        → (Some c ≡ Some a) × (f a ≡ Some b)
+    by None is g = absurd (none-some (a, b) g)
+    by (Some y) is g =
+        let same : ◌≡◌ {A = A × B} (c, y) (a, b) = same_Some (c, y) (a, b) g in
+        let first : c ≡ a = ap (λ t. t.0) same in
+        let second : y ≡ b = ap (λ t. t.1) same in (ap Some first, ap f (sym first) ∙ (is ∙ ap Some second))
+
+-- what an option holds
+pub value_of : {X : Type 0} (r : Option X) → IsSome r → (x : X) × (r ≡ Some x)
+value_of None h = absurd (cc)
+value_of (Some x) h = (x, refl)
+
+-- what follows from what holds of a value that is there holds of it too
+pub IsSomeAnd-more : {X : Type 0} (r : Option X) (P Q : X → Type 0) → ((x : X) → P x → Q x)
+    → IsSomeAnd r P → IsSomeAnd r Q
+IsSomeAnd-more None P Q more h = absurd h
+IsSomeAnd-more (Some x) P Q more h = more x h
+
+-- a place below one more
+pub last_or_below : (p q : ℕ) → q < suc p → (q < p) ⊎ (q ≡ p)
+last_or_below p q l = grind arith
+
+-- what an option has
+pub some_of : {X : Type 0} (P : X → Type 0) (r : Option X) → IsSomeAnd r P → (x : X) × (r ≡ Some x) × P x
+some_of P None h = absurd h
+some_of P (Some x) h = (x, refl, h)
+
+-- a number that is not below another
+pub not_less : (a b : ℕ) → (not (nat_lt a b) ≡ true) ↔ (¬ (a < b))
+not_less a b = (
+  λ e less. absurd (grind (arith, nat_tests, e, less)),
+  λ no. elim (cases_lt a b) [ inl less ↦ absurd (no less) | inr more ↦ grind (arith, nat_tests, more) ],
+)
+
+pub none_test : {A : Type 0} (o : Option A) → (not (is_some o) ≡ true) ↔ (o ≡ None)
+none_test None = (λ e. refl, λ e. refl)
+none_test (Some x) = (λ e. absurd (cc), λ e. absurd (cc))
+
+pub some_same : {A : Type 0} (x y : A) → Some x ≡ Some y → x ≡ y
+some_same x y e = cc e
+
+pub given : {A : Type 0} (j t : Bool) (o : Option A) → j ≡ false → t ≡ false → ((j || t) || is_some o) ≡ true → A
+given true t o plain other e = absurd (cc)
+given false true o plain other e = absurd (cc)
+given false false (Some x) plain other e = x
+given false false None plain other e = absurd (cc)
+
+-- the columns differ, by their test
+unfoldable pub apart_by : (c d : ℕ) (b : Bool) → (c == d) ≡ b → Option (d ≢ c)
+apart_by c d true e = None
+apart_by c d false e = Some (λ same. unequal c d same e)
+
+unfoldable pub differs : (c d : ℕ) → Option (d ≢ c)
+differs c d = apart_by c d (c == d) refl

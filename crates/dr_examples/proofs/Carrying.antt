@@ -9,15 +9,15 @@ use Rattle.dr_served.specs.Appended.{is_append}
 use Rattle.dr_machine.specs.{Group.Group, declared.step.Step.{Step, TheVariants.Push}}
 use Rattle.dr_member.specs.Deeds.{table_size}
 use Rattle.dr_program.specs.declared.deed.Deed.TheVariants as deeds
-use Rattle.dr_program.specs.{Presence.{present_at, with_present}, Reading.{step_due, step_of_member}, Sight.MaySee}
+use Rattle.dr_program.{specs.Presence.{present_at, with_present}, proofs.Deeds.{append_gives, append_stores, step_is}}
 use Rattle.dr_program.specs.{Program.{Program, after_deed, letter_for, next_sight, ok, step_of}, Replica.me}
+use Rattle.dr_program.specs.{Reading.{step_due, step_of_member}, Sight.MaySee, declared.packet.Packet.Packet}
 use Rattle.dr_program.specs.Running.{Running, after_step, deed, deed_of, next_deed, next_step}
 use Rattle.dr_program.specs.{Steps.{index_in, stored, stored_letters}, declared.outcome.Outcome.TheVariants.Ok}
-use Rattle.dr_program.{specs.declared.packet.Packet.Packet, proofs.Programs.after_append}
+use Rattle.dr_program.proofs.Programs.{after_append}
 use Rattle.dr_rows.specs.Words.{own}
 use Rattle.dr_program_laws.{specs.Carried.IsCarried, proofs.Keeping.{move_kept, sees}}
 use Rattle.dr_program_laws.proofs.Carried.{carried_among, carried_begins, carried_place, carried_pushes}
-use Rattle.dr_refine.proofs.Deeds.{append_gives, append_stores, step_is}
 use Rattle.dr_words.specs.Layout.{words_of}
 use Rattle.dr_examples.specs.Led.{LettersByNumber, over}
 

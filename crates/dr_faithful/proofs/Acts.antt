@@ -1,20 +1,19 @@
 -- Acts that put and take no items, before they stamp the beat word: turns, ends, logs, reports, marks and
 -- deliveries.
 use Rattle.std.{specs.Prelude.Option, proofs.lemmas.List.take_all}
-use Rattle.std.proofs.Common.{List, [], ◌∷◌, ap, arith, drop, false, inl, le_of_eq, le_refl, le_trans, length, refl, sym, take, true, ℕ, ◌++◌, ◌+◌, ◌-◌, ◌<◌, ◌^◌, ◌∙◌, ◌≡◌, ◌≤◌}
-use Rattle.dr_entry.specs.declared.{end.End.End, entry.{Entry.{Entry, TheVariants.{Msg, View}}, Item.Item}}
-use Rattle.dr_entry.specs.{declared.entry.Item.TheVariants.{Null, Text}, declared.record.Value.Value}
-use Rattle.dr_history.specs.{History.{IsPrefixOf, before_some, messages_of, up_to_view}, Members.has}
-use Rattle.dr_history.specs.Order.{messages_from}
+use Rattle.std.proofs.Common.{List, ap, arith, drop, false, inl, le_of_eq, le_refl, le_trans, length, refl, sym, take, true, ℕ, ◌++◌, ◌+◌, ◌-◌, ◌<◌, ◌^◌, ◌∙◌, ◌≡◌, ◌≤◌}
+use Rattle.dr_entry.specs.{declared.{end.End.End, entry.Entry.Entry}, declared.record.Value.Value}
+use Rattle.dr_history.{specs.{History.{IsPrefixOf, messages_of}, Members.has}, proofs.Keeping.prefix_shorter}
+use Rattle.dr_history.proofs.Lists.{least_all, least_most, least_some, prefix_more, prefix_next}
 use Rattle.dr_machine.specs.Effects.{appends, beats, delivers, ends, entries_of, least_shown, marks, publishes, reports, sender_at, with_own}
-use Rattle.dr_machine.specs.Group.{Group, IsGroup, IsPresent, roster}
+use Rattle.dr_machine.specs.{Group.{Group, IsGroup, IsPresent, roster}, Writes.{at, at₃}}
 use Rattle.dr_machine.specs.{Guards.{CanDeliver, CanMark, CanReport, IsInView}, Run.{PastGrew, WordsGrew}}
-use Rattle.dr_machine.specs.{World.{Past, World, item_at_place, own_word, shown}, Writes.{at, at₃}}
-use Rattle.dr_faithful.{specs.Faithful.{Faithful, StandsOnLogs}, proofs.Beside.{in_view, same_own_keeps}}
-use Rattle.dr_faithful.{specs.Tells.{HasAll, Tells, Views}, proofs.Writes.{at_case, at₃_case}}
-use Rattle.dr_faithful.proofs.{Lists.{least_all, least_most, least_some, prefix_more, prefix_next}, Shown.shown_le}
+use Rattle.dr_machine.{specs.World.{Past, World, item_at_place, own_word, shown}, proofs.Writes.{at_case, at₃_case}}
+use Rattle.dr_machine.proofs.Worlds.{past_same, word_past, append_past, up_to_view-entries, deliver_past}
+use Rattle.dr_faithful.specs.{Faithful.{Faithful, StandsOnLogs}, Tells.{HasAll, Tells, Views}}
+use Rattle.dr_faithful.proofs.Beside.{in_view, same_own_keeps}
 use Rattle.dr_faithful.proofs.OwnWords.{IsPlain, accepts_word, counts_word, delivered_word, form_word, old_later, own_grown, suspicions_word, closed_written, fresh_written}
-use Rattle.dr_faithful.proofs.Pasts.{past_same, prefix_refl, prefix_short, same_past, tells_done, tells_later, tells_logged, words_later}
+use Rattle.dr_faithful.proofs.{Pasts.{tells_done, tells_later, tells_logged, words_later}, Shown.shown_le}
 use Rattle.dr_words.specs.{Form.IsInForm, Grown.HasGrown, declared.column.TheConstants.{DONE_COLUMN, LOGGED_COLUMN}}
 use Rattle.dr_words.proofs.{Forms.{form_done, form_free, grown_done, grown_free}, Order.HasGrown_refl}
 
@@ -46,10 +45,6 @@ pub end_keeps : (g : Group) (V : Views) (w : World) (m : ℕ) (end : End) → Fa
 end_keeps g V w m end f = beside_keeps g V w w.turns (ends w m end).end w.committed f
 
 -- ---- one own word
-
--- an own word is not what only grows
-pub word_past : (w : World) (m c x : ℕ) → PastGrew w.past (with_own w m c x).past
-word_past w m c x = same_past w.past (with_own w m c x).past refl refl refl refl refl refl refl refl
 
 -- the words after one own word has grown
 pub word_grew : (g : Group) (w : World) (m c x : ℕ) → HasGrown (roster g) c (own_word w m c) x
@@ -138,22 +133,6 @@ mark_keeps g V w m can f = word_keeps g V w m DONE_COLUMN 1 (omega arith, omega 
 
 -- ---- the log
 
--- the log is one entry longer
-pub append_past : (w : World) (m : ℕ) → PastGrew w.past (appends w m).past
-append_past w m =
-    let same = past_same w.past in
-    let one : List Entry = take 1 (drop (length (w.past.log m)) (w.past.history m)) in record {
-      view = same.view;
-      count = same.count;
-      sent = same.sent;
-      history = same.history;
-      log = at_case (λ i l. IsPrefixOf (w.past.log i) l) w.past.log m (w.past.log m ++ one)
-          (λ i d. prefix_refl (w.past.log i)) (one, refl);
-      votes = same.votes;
-      durable = same.durable;
-      acts = same.acts;
-    }
-
 -- and is a front of the history still
 pub append_keeps : (g : Group) (V : Views) (w : World) (m : ℕ) → Faithful g V w → Faithful g V (appends w m)
 append_keeps g V w m f = same_own_keeps g V w (appends w m) refl
@@ -176,7 +155,7 @@ append_keeps g V w m f = same_own_keeps g V w (appends w m) refl
     one = take 1 (drop (length (w.past.log m)) (w.past.history m))
 
     longer : (i : ℕ) → length (w.past.log i) ≤ length (at w.past.log m (w.past.log m ++ one) i)
-    longer i = prefix_short (w.past.log i) (at w.past.log m (w.past.log m ++ one) i) ((append_past w m).log i)
+    longer i = prefix_shorter (w.past.log i) (at w.past.log m (w.past.log m ++ one) i) ((append_past w m).log i)
 
 -- ---- what is durable
 
@@ -233,36 +212,6 @@ report_keeps g V w m is can f = same_own_keeps g V w (reports w m) refl
         (le_trans (shown_le g V w m i LOGGED_COLUMN f) ((f.words.own i (w.past.view m) LOGGED_COLUMN).logged refl))
 
 -- ---- the next place
-
--- messages are no View
-up_to_view-same : (h es : List Entry) → up_to_view es ≡ [] → up_to_view (h ++ es) ≡ up_to_view h
-unfolding up_to_view
-up_to_view-same [] es none = none
-up_to_view-same (View a n m ∷ h) es none = ap (λ t. View a n m ∷ t) (up_to_view-same h es none)
-up_to_view-same (Msg s i b ∷ h) es none = ap (before_some (Msg s i b)) (up_to_view-same h es none)
-
--- so the last View stays where an item is delivered
-up_to_view-entries : (h : List Entry) (s : ℕ) (item : Item) → up_to_view (h ++ entries_of h s item) ≡ up_to_view h
-unfolding up_to_view
-up_to_view-entries h s Null = up_to_view-same h [] refl
-up_to_view-entries h s (Text bytes) = up_to_view-same h (Msg s (length (messages_from s h)) bytes ∷ []) refl
-
--- the history goes on
-pub deliver_past : (w : World) (m : ℕ) → PastGrew w.past (delivers w m).past
-deliver_past w m =
-    let same = past_same w.past in
-    let new : List Entry = entries_of (w.past.history m) (sender_at w m (w.next m))
-    (item_at_place w m (w.next m)) in record {
-      view = same.view;
-      count = same.count;
-      sent = same.sent;
-      history = at_case (λ i l. IsPrefixOf (w.past.history i) l) w.past.history m (w.past.history m ++ new)
-          (λ i d. prefix_refl (w.past.history i)) (new, refl);
-      log = same.log;
-      votes = same.votes;
-      durable = same.durable;
-      acts = same.acts;
-    }
 
 -- a place is delivered that every member of the view holds
 pub deliver_keeps : (g : Group) (V : Views) (w : World) (m : ℕ) → CanDeliver g w m → Faithful g V w

@@ -1,73 +1,16 @@
 -- The members are faithful as the age opens.
-use Rattle.std.proofs.Common.{Bool, List, None, Some, [], add-one, ap, append-nil, arith, false, fold, get_or, inl, inr, le_refl, length, length-append, map, max, refl, replicate, slice_get, subst, slice_index, suc, sym, take, true, zero, ℕ, ◌++◌, ◌-◌, ◌<◌, ◌==◌, ◌∙◌, ◌∷◌, ◌≡◌, ◌≢◌, ◌≤◌, ◌⊎◌}
-use Rattle.std.proofs.{Math.Nat.mul-zero, lemmas.Bool.{cases_eq, cases_lt, eqb-true}}
-use Rattle.std.proofs.lemmas.List.{get_or-replicate, get_or_past, length-replicate, take_all, take_more}
-use Rattle.std.proofs.lemmas.Option.{slice_get_cases, slice_get_within}
-use Rattle.dr_words.specs.{Accepts.part_of, Columns.{head_column, leavers_column, recv_column, trim_column}}
-use Rattle.dr_words.specs.{Form.IsInForm, Packing.{accept_promise, accept_tag, accept_value}}
-use Rattle.dr_words.{specs.declared.column.TheConstants.LOGGED_COLUMN, proofs.Accepts.accept_within}
+use Rattle.std.proofs.Common.{[], ap, append-nil, arith, false, inl, inr, le_refl, length, length-append, refl, subst, suc, sym, true, zero, ℕ, ◌-◌, ◌<◌, ◌∙◌, ◌∷◌, ◌≡◌, ◌≢◌, ◌≤◌, ◌⊎◌}
+use Rattle.std.proofs.lemmas.Bool.{cases_eq}
+use Rattle.dr_words.specs.{Columns.{head_column, recv_column}, Packing.{accept_promise, accept_tag, accept_value}}
+use Rattle.dr_words.{specs.{Form.IsInForm, declared.column.TheConstants.LOGGED_COLUMN}, proofs.Accepts.accept_within}
 use Rattle.dr_words.proofs.Forms.{form_zero, form_free, grown_zero}
-use Rattle.dr_entry.specs.declared.{entry.Entry.{Entry, TheVariants.{Msg, View}}, limits.TheConstants.MAX_MEMBERS}
-use Rattle.dr_history.specs.{History.messages_of, Members.{has, members_of}, Order.{first_entries, messages_from}}
-use Rattle.dr_history.specs.{Places.{first, front_of}, Soundness.Sound, declared.opening.Opening.Opening}
-use Rattle.dr_history.proofs.Bits.{has_zero}
-use Rattle.dr_history.proofs.NumberedLemmas.{messages_from-Msg, messages_from-View, messages_from-other}
-use Rattle.dr_history_laws.proofs.Lengths.{start-short}
-use Rattle.dr_machine.specs.{Group.{Group, IsGroup, roster}, World.{no_value, opening_world}}
-use Rattle.dr_machine.proofs.Presence.{is_there}
+use Rattle.dr_entry.specs.declared.entry.Entry.TheVariants.{View}
+use Rattle.dr_history.{specs.{Members.{has, members_of}, Order.first_entries, Places.first}, proofs.Bits.has_zero}
+use Rattle.dr_history.proofs.{Cutting.front_of_none, Histories.start_messages, Lengths.start-short}
+use Rattle.dr_machine.{specs.{Group.{Group, IsGroup, roster}, World.opening_world}, proofs.Presence.is_there}
+use Rattle.dr_machine.proofs.Worlds.{no_part}
 use Rattle.dr_faithful.specs.{Faithful.Faithful, Tells.{Tells, Views, WordsTell}}
 use Rattle.dr_faithful.proofs.Pasts.{tells_logged, tells_nothing}
-
--- ---- the messages of the start
-
--- each message of a sound start is the next of its sender by the script
-start_entries : (o : Opening) (s k : ℕ) → Sound o → k ≤ length o.start
-    → length (messages_from s (take k o.start)) ≤ length (messages_of o s)
-start_entries o s zero sound l = omega arith
-start_entries o s (suc k) sound l = by (slice_get_cases o.start k).1 (start_entries o s k sound (omega arith))
-  where
-    next : (e : Entry) → slice_get o.start k ≡ Some e → length (messages_from s (take k o.start))
-        ≤ length (messages_of o s) → length (messages_from s (take k o.start ++ e ∷ [])) ≤ length (messages_of o s)
-    next (View a n m) is before = rw (messages_from-View s (take k o.start) a n m) before
-    next (Msg t i b) is before = mine (t == s) refl
-      where
-        mine : (b' : Bool) → (t == s) ≡ b'
-            → length (messages_from s (take k o.start ++ Msg t i b ∷ [])) ≤ length (messages_of o s)
-        mine true same =
-            let sender : t ≡ s = eqb-true t s same in
-            let one : messages_from s (take k o.start ++ Msg t i b ∷ []) ≡ messages_from s (take k o.start)
-            ++ Msg s i b ∷ [] = rw sender (messages_from-Msg s (take k o.start) i b) in
-            let entry = sound.entries k (Msg t i b) is in
-            let index : i ≡ length (messages_from s (take k o.start)) = rw (← sender) entry.1 in
-            let there : i < length (messages_of o s) =
-            rw (← sender) (slice_get_within (messages_of o t) i b entry.2) in
-            rw one (omega (arith, length-append (messages_from s (take k o.start)) (Msg s i b ∷ []), index, there))
-        mine false apart = rw (messages_from-other s (take k o.start) t i b apart) before
-
-    by : ((x : Entry) × (k < length o.start) × (slice_get o.start k ≡ Some x)
-        × (get_or o.start k x ≡ x)) ⊎ ((length o.start ≤ k) × (slice_get o.start k ≡ None))
-        → length (messages_from s (take k o.start)) ≤ length (messages_of o s)
-        → length (messages_from s (take (suc k) o.start)) ≤ length (messages_of o s)
-    by (inl t) before = rw (← add-one k, take_more o.start k t.0 t.1, t.3) (next t.0 t.2 before)
-    by (inr t) before = absurd (omega (arith, t.0))
-
--- a sound start has no more messages of a member than the script
-pub start_messages : (o : Opening) (s : ℕ) → Sound o → length (messages_from s o.start) ≤ length (messages_of o s)
-start_messages o s sound = subst (λ (h : List Entry). length (messages_from s h) ≤ length (messages_of o s))
-    (take_all (length o.start) o.start (le_refl (length o.start)))
-    (start_entries o s (length o.start) sound (le_refl (length o.start)))
-
--- ---- the front of no items
-
-none_most : (ms : List ℕ) → fold max 0 (map (λ (s : ℕ). 0) ms) ≡ 0
-none_most [] = refl
-none_most (m ∷ ms) = none_most ms
-
--- the front of no items is 0
-pub front_of_none : (ms : List ℕ) → front_of (map (λ (s : ℕ). 0) ms) ≡ 0
-unfolding front_of first
-front_of_none ms =
-    let ranks : ℕ = length (map {A = ℕ} {B = ℕ} (λ s. 0) ms) in rw (none_most ms) (rw (mul-zero ranks) refl)
 
 -- ---- the opening
 
@@ -89,21 +32,6 @@ tell g V = record {
   table = λ v j i c. tells_nothing g V (opening_world g).past i v c;
   seen = λ m i c. tells_nothing g V (opening_world g).past i 0 c;
 }
-
--- no value has parts other than 0
-no_trim : (k s : ℕ) → slice_index (replicate k 0) s ≡ 0
-no_trim k s = by (cases_lt s k)
-  where
-    by : (s < k) ⊎ (k ≤ s) → slice_index (replicate k 0) s ≡ 0
-    by (inl l) = get_or-replicate k s 0 0 l
-    by (inr h) = get_or_past (replicate k 0) s 0 (omega (arith, h, length-replicate {A = ℕ} k 0))
-
-pub no_part : (n c : ℕ) → part_of n no_value c ≡ 0
-no_part n c = by (cases_eq c (leavers_column n))
-  where
-    by : (c ≡ leavers_column n) ⊎ (c ≢ leavers_column n) → part_of n no_value c ≡ 0
-    by (inl e) = grind arith
-    by (inr d) = grind (arith, no_trim MAX_MEMBERS (c - trim_column n 0))
 
 -- the members are faithful as the age opens
 pub begun : (g : Group) (V : Views) → IsGroup g → V 0 ≡ g.opening.members
@@ -200,3 +128,10 @@ begun g V is opens within = record {
         by : (c ≡ 3) ⊎ (c ≢ 3) → IsInForm (roster g) c ((opening_world g).past.own m v c)
         by (inl e) = form_free (roster g) c _ (inl (omega arith, omega arith))
         by (inr d) = subst (λ (x : ℕ). IsInForm (roster g) c x) (grind arith) (form_zero (roster g) c is.some_member)
+
+-- the members of the one view that there is so far
+abbrev pub whole : Group → Views
+whole g v = g.opening.members
+
+pub whole_within : (g : Group) → IsGroup g → (v m : ℕ) → has (whole g v) m ≡ true → m < roster g
+whole_within g is v m h = is.sound.members.within m h

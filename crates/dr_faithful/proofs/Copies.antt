@@ -1,8 +1,9 @@
 -- A look and a push: the words go from the owner to the table, and from there to another member.
-use Rattle.std.proofs.Common.{refl, ℕ, ◌≢◌}
-use Rattle.dr_machine.specs.{Effects.{looks, pushes}, Group.{Group, roster}, Run.WordsGrew, World.{World, own_word}}
+use Rattle.std.proofs.{Common.{refl, ℕ, ◌≢◌, ◌≡◌, ◌<◌, arith, ◌==◌, if◌then◌else◌}, Math.Path.fun_ext}
+use Rattle.dr_rows.{specs.Words.{Words, IsWords, with_own, own}, proofs.{Grids.own_with, WordsLemmas.IsWords-looked}}
+use Rattle.dr_machine.specs.{Effects.{looks, pushes}, Group.{Group, roster, banks, columns}, Run.WordsGrew}
+use Rattle.dr_machine.{specs.{World.{World, own_word}, Writes.at₂}, proofs.Writes.{at₃_case, at₄_case, view_written}}
 use Rattle.dr_faithful.{specs.{Faithful.Faithful, Tells.{Tells, Views}}, proofs.Beside.same_own_keeps}
-use Rattle.dr_faithful.proofs.Writes.{at₃_case, at₄_case}
 use Rattle.dr_words.{specs.{Form.IsInForm, Grown.HasGrown}, proofs.Order.{HasGrown_refl, HasGrown_trans}}
 
 -- a look takes a word of the table
@@ -62,3 +63,33 @@ push_keeps g V w m j c f = same_own_keeps g V w (pushes w m j c) refl (record {
       (own_word w m c) f.form.in_table (f.form.in_own m (w.past.view m) c);
   in_seen = f.form.in_seen;
 }) f
+
+-- the rows are member m's, of the group's shape, in a view that has a bank
+pub record Fits (g : Group) (m : ℕ) (rows : Words) (view : ℕ) : Type 0 where
+  pub number : rows.me ≡ m
+  pub words : IsWords rows
+  pub members : rows.members ≡ roster g
+  pub columns : rows.columns ≡ columns g
+  pub bank : view < banks g
+
+-- its number is of the roster
+pub inside : (g : Group) (m : ℕ) (rows : Words) (view : ℕ) → Fits g m rows view → m < roster g
+inside g m rows view f = omega (arith, f.number, f.members, f.words.present)
+
+-- they still fit with an own word written
+pub fits_own : (g : Group) (m : ℕ) (rows : Words) (view c x : ℕ) → Fits g m rows view
+    → Fits g m (with_own rows c x) view
+fits_own g m rows view c x f = record {
+  number = f.number;
+  words = IsWords-looked rows rows.me c x f.words f.words.present;
+  members = f.members;
+  columns = f.columns;
+  bank = f.bank;
+}
+
+-- the own words of a view, one of them written
+pub own_written : (rows : Words) (kept : ℕ → ℕ → ℕ) (view c x : ℕ) → IsWords rows → c < rows.columns
+    → ◌≡◌ {A = ℕ → ℕ → ℕ} (λ v d. if v == view then own (with_own rows c x) d else kept v d)
+    (at₂ (λ v d. if v == view then own rows d else kept v d) view c x)
+own_written rows kept view c x words within = fun_ext λ v. fun_ext λ d.
+    rw (own_with rows c x d words within) (view_written (own rows) kept view c x v d)

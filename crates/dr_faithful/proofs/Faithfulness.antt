@@ -1,32 +1,31 @@
 -- Each event keeps the members faithful and lets the words grow, so in every world that is reached they are.
-use Rattle.std.proofs.Common.{ap, arith, inl, inr, le_refl, length, refl, subst, suc, sym, true, unwrap_or, Some, ℕ, ◌%◌, ◌*◌, ◌+◌, ◌/◌, ◌<◌, ◌∙◌, ◌≡◌, ◌≤◌, ◌⊎◌}
-use Rattle.std.proofs.{Math.Nat.{div-add-mod, mul-le-mul_left, mul-suc}, lemmas.{Bool.cases_lt, Nat.mod_below}}
-use Rattle.dr_entry.specs.{declared.end.SentItem.{SentItem, TheVariants.{Index, Null}}, declared.record.Value.Value}
+use Rattle.std.proofs.Common.{ap, arith, inl, inr, length, refl, sym, true, ℕ, ◌%◌, ◌+◌, ◌<◌, ◌∙◌, ◌≡◌, ◌≤◌, ◌⊎◌, ◌≢◌}
+use Rattle.std.proofs.lemmas.{Bool.cases_eq, Nat.mod_below, Option.none-some}
+use Rattle.dr_entry.{specs.declared.end.SentItem.{SentItem, TheVariants.{Index, Null}}, proofs.NumberFacts.same_slot}
 use Rattle.dr_history.specs.{History.last_view, Members.has}
-use Rattle.dr_machine.specs.{Acts.{CanDo, CanTake, Guard, does, effect, effect_of}, Events.{member_of, step_of}}
-use Rattle.dr_machine.specs.Effects.{appends, logs_vote, puts, stamped, finishes, finishes_by, stamped_in, welcomes}
-use Rattle.dr_machine.specs.{Group.{Group, IsGroup, roster, IsPresent}, Run.{NoLaterItem, PastGrew, WordsGrew}}
-use Rattle.dr_machine.specs.{Guards.{IsInView, IsOther, IsRunning, next_index}, Writes.at, declared.event.Act.Act}
-use Rattle.dr_machine.specs.{World.{World, items_received, no_value, opening_world}, declared.event.Event.Event}
+use Rattle.dr_machine.specs.{Acts.{CanDo, CanTake, Guard, does, effect, effect_of}, Group.{Group, IsGroup, roster}}
+use Rattle.dr_machine.specs.Effects.{appends, logs_vote, puts, stamped, stamped_in, welcomes}
+use Rattle.dr_machine.{specs.{Events.{member_of, step_of}, declared.event.Act.Act}, proofs.Voting.vote_past}
+use Rattle.dr_machine.specs.Guards.{IsInView, IsOther, IsRunning, next_index, unsuspected_of}
+use Rattle.dr_machine.specs.{Run.{NoLaterItem, PastGrew, WordsGrew}, World.{World, items_received, shown}}
+use Rattle.dr_machine.{specs.declared.event.Event.Event, proofs.Groups.{act_stays, step_alive, AreUncommitted}}
 use Rattle.dr_machine.specs.declared.step.Step.{Step, TheVariants.{Do, Look, Push, Append, LogVote, Welcome, Join}}
-use Rattle.dr_machine.proofs.Presence.{in_roster}
+use Rattle.dr_machine.proofs.Worlds.{append_past, deliver_past, enter_past, finish_past, joined_is, past_on, past_same, same_past, committed_is, shown_own, shown_seen}
 use Rattle.dr_machine.specs.declared.event.Act.TheVariants as acts
 use Rattle.dr_rows.specs.Words.{own, seen}
-use Rattle.dr_faithful.{specs.Faithful.{AllGoOn, Faithful}, proofs.Suspicions.{may_name, suspect_grew, suspect_keeps}}
-use Rattle.dr_faithful.specs.Tells.{TellsPiece, Views, item_named, item_sent, part_column}
-use Rattle.dr_faithful.proofs.Acts.{beside_letters, append_keeps, append_past, beat_keeps, deliver_keeps, deliver_past, end_keeps, mark_grew, mark_keeps, publish_grew, publish_keeps, report_keeps, report_past}
-use Rattle.dr_faithful.proofs.{Begin.begun, Votes.{accept_grew, accept_keeps, commit_keeps, vote_keeps, vote_past}}
+use Rattle.dr_faithful.specs.Faithful.{AllGoOn, Faithful, Numbers}
+use Rattle.dr_faithful.{specs.Tells.{TellsPiece, Views, item_named, item_sent, part_column}, proofs.Begin.whole}
+use Rattle.dr_faithful.proofs.Acts.{beside_letters, append_keeps, beat_keeps, deliver_keeps, end_keeps, mark_grew, mark_keeps, publish_grew, publish_keeps, report_keeps, report_past}
 use Rattle.dr_faithful.proofs.{Beside.{beats_late, in_view}, Copies.{look_grew, look_keeps, push_grew, push_keeps}}
-use Rattle.dr_faithful.proofs.Finishes.{enter_grew, enter_past, finish_grew, finish_keeps, finish_past, join_keeps, joined_is}
-use Rattle.dr_faithful.proofs.{Pasts.{past_on, past_same, same_past}, Stamps.{stamp_grew, stamp_keeps, stamp_past}}
+use Rattle.dr_faithful.proofs.Finishes.{enter_grew, finish_grew, finish_keeps, join_keeps}
 use Rattle.dr_faithful.proofs.{Pieces.{sent_item, tag_of_piece}, Receipts.{receive_grew, receive_keeps, receive_past}}
 use Rattle.dr_faithful.proofs.Puts.{may_message, may_null, put_grew, put_keeps, put_past}
-use Rattle.dr_words.{specs.Packing.ring_tag, proofs.Order.{HasGrown_same, HasGrown_trans}}
-
--- what holds of a member that has committed a value holds of the value that it takes
-pub committed_is : (w : World) (m : ℕ) (x : Value) (P : World → Type 0) (g : Group)
-    → w.committed m ≡ Some x → P (finishes_by g w m x) → P (finishes g w m)
-committed_is w m x P g e p = subst (λ y. P (finishes_by g w m y)) (sym (ap (λ r. unwrap_or r no_value) e)) p
+use Rattle.dr_faithful.proofs.Stamps.{stamp_grew, stamp_keeps, stamp_past}
+use Rattle.dr_faithful.proofs.Suspicions.{may_name, suspect_grew, suspect_keeps}
+use Rattle.dr_faithful.proofs.Votes.{accept_grew, accept_keeps, commit_keeps, vote_keeps}
+use Rattle.dr_words.specs.{Changes.{received, IsLeastReceived, MayPropose}, Columns.recv_column, Grown.HasGrown}
+use Rattle.dr_words.specs.Packing.{ring_tag, is_final, recv_count}
+use Rattle.dr_words.proofs.Order.{HasGrown_same, HasGrown_trans, HasGrown_refl}
 
 -- each act keeps the members faithful
 pub act_keeps : (g : Group) (V : Views) (w : World) (m : ℕ) (a : Act) → IsGroup g → AllGoOn g V w
@@ -49,24 +48,6 @@ act_keeps g V w m acts.Finish is well can f = committed_is w m can.value (Faithf
 act_keeps g V w m (acts.Halt end) is well can f = end_keeps g V w m end f
 act_keeps g V w m (acts.Crash end) is well can f = end_keeps g V w m end f
 
--- no act takes a member back to a view that it has left
-act_stays : (g : Group) (w : World) (m : ℕ) (a : Act) → w.past.view m ≤ (does g w m a).past.view m
-act_stays g w m acts.Finish = rises_at w.past.view m
-  where
-    rises_at : (view : ℕ → ℕ) (m : ℕ) → view m ≤ at view m (view m + 1) m
-    rises_at view m = grind arith
-act_stays g w m acts.Beat = le_refl (w.past.view m)
-act_stays g w m a = le_refl (w.past.view m)
-
--- only members of the roster without an end take steps
-pub step_alive : (g : Group) (w : World) (m : ℕ) (s : Step) → CanTake g w m s → IsRunning g w m
-step_alive g w m (Do acts.Beat) can = can.alive
-step_alive g w m (Do (acts.Crash end)) can = can.alive
-step_alive g w m (Do acts.Propose) can = can.alive
-step_alive g w m (Do acts.Accept) can = can.alive
-step_alive g w m (Do a) can = can.may.alive
-step_alive g w m s can = can.may.alive
-
 pub step_keeps : (g : Group) (V : Views) (w : World) (m : ℕ) (s : Step) → IsGroup g → AllGoOn g V w
     → CanTake g w m s → Faithful g V w → Faithful g V (effect_of g w m s)
 step_keeps g V w m (Do a) is well can f = stamp_keeps g V (does g w m a) m (w.past.view m) (act_stays g w m a)
@@ -83,11 +64,6 @@ step_keeps g V w m Join is well can f = joined_is w m can.letter (Faithful g V) 
 pub faithful_keeps : (g : Group) (V : Views) (w : World) (e : Event) → IsGroup g → AllGoOn g V w
     → Guard g w e → Faithful g V w → Faithful g V (effect g w e)
 faithful_keeps g V w e is well can f = step_keeps g V w (member_of e) (step_of e) is well can f
-
--- and as the age opens
-pub faithful_begins : (g : Group) (V : Views) → IsGroup g → V 0 ≡ g.opening.members
-    → ((v m : ℕ) → has (V v) m ≡ true → m < roster g) → Faithful g V (opening_world g)
-faithful_begins = begun
 
 -- ---- growth
 
@@ -189,19 +165,6 @@ past_on_event g V w e is well can f = step_past g V w (member_of e) (step_of e) 
 
 -- ---- no later item
 
--- items of one slot less than a window apart are not the later one
-same_slot : (n k q : ℕ) → 0 < n → q % n ≡ k % n → q < k + n → q ≤ k
-same_slot n k q some e l = by (cases_lt (k / n) (q / n))
-  where
-    by : (k / n < q / n) ⊎ (q / n ≤ k / n) → q ≤ k
-    by (inl over) =
-        let round : n * suc (k / n) ≤ n * (q / n) = mul-le-mul_left n over in
-        let next : n * suc (k / n) ≡ n * (k / n) + n = mul-suc n (k / n) in
-        absurd (omega (arith, round, next, div-add-mod q n, div-add-mod k n, e, l))
-    by (inr earlier) =
-        let round : n * (q / n) ≤ n * (k / n) = mul-le-mul_left n earlier in
-        omega (arith, round, div-add-mod q n, div-add-mod k n, e)
-
 -- a word of the slot of the item that m waits for is no later one's
 later_tag : (g : Group) (V : Views) (w : World) (m s part word : ℕ) → IsGroup g → Faithful g V w
     → IsInView w m → IsOther w m s → TellsPiece g (length (w.past.sent s (w.past.view m))) (item_sent g w.past.sent s
@@ -228,9 +191,58 @@ none_later g V w is f m s part l other p =
           ((f.words.seen m s column).ring (items_received w m s % g.window) part slot p refl),
     )
 
--- only members that are there have events, and these are of the roster
-pub of_present : (g : Group) (w : World) (e : Event) → Guard g w e → IsPresent g (member_of e)
-of_present g w e can = (step_alive g w (member_of e) (step_of e) can).present
+-- own words have grown
+abbrev pub OwnGrew : Group → Numbers → Numbers → Type 0
+OwnGrew g own new = (i v c : ℕ) → HasGrown (roster g) c (own i v c) (new i v c)
 
-pub of_roster : (g : Group) (w : World) (e : Event) → IsGroup g → Guard g w e → member_of e < roster g
-of_roster g w e is can = in_roster g (member_of e) is (of_present g w e can)
+-- a final count stays
+received_same : (g : Group) (own new : Numbers) (i v s : ℕ) → OwnGrew g own new → s < roster g
+    → is_final (own i v (recv_column s)) ≡ true → received (λ i c. new i v c) i s ≡ received (λ i c. own i v c) i s
+received_same g own new i v s grew l final = ap recv_count ((grew i v (recv_column s)).final s l refl final)
+
+-- the least counts of members whose counts are final stay
+pub least_on : (g : Group) (V : Views) (own new : Numbers) (v mask s count : ℕ) → OwnGrew g own new
+    → s < roster g → ((i : ℕ) → has mask i ≡ true → is_final (own i v (recv_column s)) ≡ true)
+    → IsLeastReceived (λ i c. own i v c) mask s count → IsLeastReceived (λ i c. new i v c) mask s count
+least_on g V own new v mask s count grew l final t = record {
+  least = λ i h. rw (received_same g own new i v s grew l (final i h)) (t.least i h);
+  found = (
+    t.found.0,
+    t.found.1,
+    t.found.2 ∙ sym (received_same g own new t.found.0 v s grew l (final t.found.0 t.found.1)),
+  );
+}
+
+-- the own words are as before
+pub own_stays : (g : Group) (w : World) → OwnGrew g w.past.own w.past.own
+own_stays g w i v c = HasGrown_refl (roster g) c (w.past.own i v c)
+
+-- a word that is shown has grown into its owner's
+pub shown_grown : (g : Group) (V : Views) (w : World) (m i c : ℕ) → Faithful g V w
+    → HasGrown (roster g) c (shown w m i c) (w.past.own i (w.past.view m) c)
+shown_grown g V w m i c f = by (cases_eq i m)
+  where
+    by : (i ≡ m) ⊎ (i ≢ m) → HasGrown (roster g) c (shown w m i c) (w.past.own i (w.past.view m) c)
+    by (inl e) = rw (shown_own w m i c e) (HasGrown_refl (roster g) c (w.past.own i (w.past.view m) c))
+    by (inr d) = rw (shown_seen w m i c d) (HasGrown_trans (roster g) c (w.seen m i c) (w.table (w.past.view m) m i c)
+        (w.past.own i (w.past.view m) c) (f.old.in_seen m i c d) (f.old.in_table (w.past.view m) m i c))
+
+-- a final count that is shown is the one that its owner has
+pub final_count : (g : Group) (V : Views) (w : World) (m i s : ℕ)
+    → MayPropose (roster g) (shown w m) (w.members m) (w.suspects m) m → Faithful g V w
+    → has (unsuspected_of w m) i ≡ true → has (w.members m) s ≡ true
+    → w.past.own i (w.past.view m) (recv_column s) ≡ shown w m i (recv_column s)
+final_count g V w m i s may f h k = (shown_grown g V w m i (recv_column s) f).final s
+    (f.views.within (w.past.view m) s (ap (λ z. has z s) (sym (f.views.own m)) ∙ k)) refl (may.final i s h k)
+
+-- nobody may end its view or join
+pub none_go_on : (g : Group) (w : World) → AreUncommitted g w → AllGoOn g (whole g) w
+none_go_on g w u = record {
+  finish = λ m can. absurd (none-some can.value (sym (u.none m) ∙ can.committed));
+  join = λ m can. absurd (none-some can.letter (sym (u.unsent m) ∙ can.given));
+  wish = λ m j there may. record { late = may.0; absent = λ n l. may.0.1 };
+}
+
+-- in another view its words are 0
+pub unseen : (g : Group) (W : Views) (w : World) (v j i c : ℕ) → Faithful g W w → w.past.view i < v → w.table v j i c ≡ 0
+unseen g W w v j i c f less = omega (arith, (f.old.in_table v j i c).number, f.fresh.unwritten i v c less)

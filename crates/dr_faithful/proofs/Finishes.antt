@@ -1,77 +1,27 @@
 -- A member goes on in a later view, in which nothing of it was written, as it ends its view or joins: the
 -- members stay faithful, and the words grow.
-use Rattle.std.proofs.Common.{Bool, not, if◌then◌else◌, List, None, Some, [], ap, arith, false, fold, inl, inr, le_refl, le_trans, length, length-append, unwrap_or, refl, subst, sym, true, ℕ, ◌+◌, ◌<◌, ◌∙◌, ◌∷◌, ◌≡◌, ◌≢◌, ◌≤◌, ◌⊎◌}
-use Rattle.std.proofs.lemmas.Option.{none-some}
-use Rattle.dr_entry.specs.declared.{end.SentItem.SentItem, entry.Entry.{Entry, TheVariants.View}}
-use Rattle.dr_entry.specs.{declared.entry.Item.TheVariants.Null, declared.record.{Value.Value, Vote.Vote}}
-use Rattle.dr_history.specs.{History.{IsPrefixOf, last_view, messages_of, up_to_view}, Order.{IsNewIn, messages_from}}
-use Rattle.dr_history.{specs.{Members.has, Places.rest_places}, proofs.{Bits.has_zero, Letters.up_to_view-last}}
-use Rattle.dr_machine.specs.Effects.{counts_by, enters, entries_of, finished_history, finishes_by, joins, sender_at, with_place}
-use Rattle.dr_machine.specs.{Group.{Group, IsGroup, IsPresent, roster}, Guards.MayChoose, Run.{PastGrew, WordsGrew}}
-use Rattle.dr_machine.specs.{Sending.IsPut, World.{Past, World, item_at_place, no_value}, Writes.{at₂, at₃}}
+use Rattle.std.proofs.Common.{List, None, Some, ap, arith, false, inl, inr, le_refl, le_trans, length, refl, subst, sym, true, ℕ, ◌+◌, ◌<◌, ◌∙◌, ◌≡◌, ◌≢◌, ◌≤◌, ◌⊎◌}
+use Rattle.std.proofs.{Math.Path.fun_ext, lemmas.Option.none-some}
+use Rattle.dr_entry.specs.{declared.entry.{Entry.Entry, Item.TheVariants.Null}, declared.record.Value.Value}
+use Rattle.dr_entry.{specs.declared.record.Vote.Vote, proofs.{BoolFacts.stays_in, ListFacts.no_members}}
+use Rattle.dr_entry.proofs.OptionFacts.{below_or_last}
+use Rattle.dr_history.specs.{History.{IsPrefixOf, messages_of, up_to_view}, Order.{IsNewIn, messages_from}}
+use Rattle.dr_history.{specs.Members.has, proofs.{Bits.has_zero, Keeping.prefix_shorter, Lists.prefix-trans}}
+use Rattle.dr_rows.specs.Words.{own}
+use Rattle.dr_machine.specs.Effects.{enters, finished_history, finishes_by, one_more, stamped, stamped_in}
+use Rattle.dr_machine.specs.{Group.{Group, IsGroup, IsPresent, roster}, Guards.MayChoose, Run.WordsGrew}
+use Rattle.dr_machine.specs.{Sending.IsPut, World.{Past, World, no_value}, Writes.at₃}
+use Rattle.dr_machine.proofs.Worlds.{no_part, enter_past, history_goes_on, history_behind}
+use Rattle.dr_machine.proofs.Writes.{at_both, at_case, at_three, at₃_case, at₃_column, at₃_member, at₃_view, row_member, row_view}
 use Rattle.dr_faithful.specs.Faithful.{AreAccepts, AreCounts, AreDelivered, AreSuspicions, Faithful, GoesOnWell, HaveStayed, IsClosed, IsLateBeat, StandsOnLogs, IsWaiting, JoinsWell, Numbers}
-use Rattle.dr_faithful.{specs.Tells.{Tells, Views, item_sent}, proofs.{Begin.no_part, Beside.in_view}}
+use Rattle.dr_faithful.{specs.Tells.{Tells, Views, item_sent}, proofs.Beside.in_view}
 use Rattle.dr_faithful.proofs.OwnWords.{IsPlain, accepts_word, counts_word, delivered_word, form_word, old_later, own_grown, suspicions_word}
-use Rattle.dr_faithful.proofs.Pasts.{past_same, prefix_on, prefix_refl, prefix_short, tells_later, tells_logged, tells_nothing}
-use Rattle.dr_faithful.proofs.Writes.{at_both, at_case, at_three, at₃_case, at₃_column, at₃_member, at₃_view}
+use Rattle.dr_faithful.proofs.Pasts.{tells_later, tells_logged, tells_nothing}
 use Rattle.dr_words.specs.{Accepts.part_of, Columns.recv_column, Form.IsInForm, Grown.HasGrown}
 use Rattle.dr_words.{specs.Masks.{least_of, next_members, without}, proofs.Forms.{form_zero, form_free, grown_zero}}
 use Rattle.dr_words.{specs.Packing.{accept_promise, accept_tag, accept_value, is_final}, proofs.Accepts.accept_within}
 use Rattle.dr_words.{specs.Rewrites.is_accept_of, proofs.{Masks.has_next_members, Order.HasGrown_refl}}
-use Rattle.dr_words.specs.declared.column.TheConstants.{LOGGED_COLUMN, RECEIVED_COLUMN, SUSPECTED_COLUMN}
-
--- ---- what only grows
-
--- places that are delivered add to a history
-rest_prefix : (w : World) (m : ℕ) (history : List Entry) (ps : List ℕ)
-    → IsPrefixOf history (fold (with_place w m) history ps)
-rest_prefix w m history [] = prefix_refl history
-rest_prefix w m history (p ∷ ps) = prefix_on history (with_place w m history p) _
-    (entries_of history (sender_at w m p) (item_at_place w m p), refl) (rest_prefix w m (with_place w m history p) ps)
-
--- the history goes on to the next View
-history_goes_on : (g : Group) (w : World) (m : ℕ) (x : Value)
-    → IsPrefixOf (w.past.history m) (finished_history g w m x)
-history_goes_on g w m x =
-    let ps : List ℕ = rest_places (counts_by w m x) (w.next m) in
-    prefix_on (w.past.history m) (fold (with_place w m) (w.past.history m) ps) _ (rest_prefix w m
-    (w.past.history m) ps) (View g.opening.age (w.past.view m + 1) (next_members (w.members m) x.leavers) ∷ [], refl)
-
--- which stands behind all that the member had
-history_behind : (g : Group) (w : World) (m : ℕ) (x : Value)
-    → length (w.past.history m) < length (up_to_view (finished_history g w m x))
-unfolding up_to_view
-history_behind g w m x = omega (
-  arith,
-  ap length (up_to_view-last held [] g.opening.age (w.past.view m + 1) members refl),
-  length-append held (View g.opening.age (w.past.view m + 1) members ∷ []),
-  prefix_short (w.past.history m) held (rest_prefix w m (w.past.history m) ps),
-)
-  where
-    ps : List ℕ
-    ps = rest_places (counts_by w m x) (w.next m)
-
-    held : List Entry
-    held = fold (with_place w m) (w.past.history m) ps
-
-    members : ℕ
-    members = next_members (w.members m) x.leavers
-
-pub enter_past : (w : World) (m to members : ℕ) (history : List Entry) → w.past.view m < to
-    → IsPrefixOf (w.past.history m) history → PastGrew w.past (enters w m to members history).past
-enter_past w m to members history later goes_on =
-    let same = past_same w.past in record {
-      view = at_case (λ i v. w.past.view i ≤ v) w.past.view m to
-          (λ i d. le_refl (w.past.view i)) (omega (arith, later));
-      count = same.count;
-      sent = same.sent;
-      history = at_case (λ i l. IsPrefixOf (w.past.history i) l) w.past.history m
-          history (λ i d. prefix_refl (w.past.history i)) goes_on;
-      log = same.log;
-      votes = same.votes;
-      durable = same.durable;
-      acts = same.acts;
-    }
+use Rattle.dr_words.specs.declared.column.TheConstants.{LOGGED_COLUMN, RECEIVED_COLUMN, SUSPECTED_COLUMN, BEAT_COLUMN}
 
 -- ---- the words
 
@@ -93,17 +43,6 @@ enter_grew g V w m to members history later f = record {
 }
 
 -- ---- the members stay faithful
-
--- the own row of another member, and that of another view, are as before
-row_member : (f : ℕ → ℕ → ℕ → ℕ) (a b : ℕ) (x : ℕ → ℕ) (i j : ℕ) → i ≢ a → at₂ f a b x i j ≡ f i j
-row_member f a b x i j d = grind arith
-
-row_view : (f : ℕ → ℕ → ℕ → ℕ) (a b : ℕ) (x : ℕ → ℕ) (i j : ℕ) → j ≢ b → at₂ f a b x i j ≡ f i j
-row_view f a b x i j d = grind arith
-
-pub no_items : (xs : List SentItem) → length xs ≡ 0 → xs ≡ []
-no_items [] e = refl
-no_items (x ∷ xs) e = absurd (omega (arith, e))
 
 -- what is known of a member that goes on in a view of these members with a history: it is a later view, in which
 -- it is, its history goes on, and each of its views before that one is closed
@@ -206,7 +145,7 @@ enter_keeps g V w m to members history is well f = record {
   logs = record {
     bounded = f.logs.bounded;
     front = at_case (λ i h. IsPrefixOf (w.past.log i) h) w.past.history m history (λ i d. f.logs.front i)
-        (prefix_on (w.past.log m) (w.past.history m) history (f.logs.front m) well.goes_on);
+        (prefix-trans (w.past.log m) (w.past.history m) history (f.logs.front m) well.goes_on);
     safe = at_both (λ k b h. IsPresent g k → StandsOnLogs g V w.past.log h k b (w.past.durable k)) w.past.view
         w.past.history m to history f.logs.safe (λ l. let old = f.logs.safe m l in record {
           own = old.own;
@@ -215,7 +154,7 @@ enter_keeps g V w m to members history is well f = record {
           before = λ _. omega (
             arith,
             old.own,
-            prefix_short (w.past.log m) (w.past.history m) (f.logs.front m),
+            prefix_shorter (w.past.log m) (w.past.history m) (f.logs.front m),
             well.behind,
           );
           logged = old.logged;
@@ -284,7 +223,7 @@ enter_keeps g V w m to members history is well f = record {
 
     nothing : IsPut (length (messages_from m history)) (length (messages_of g.opening m)) (w.past.sent m to)
     nothing = subst (λ xs. IsPut (length (messages_from m history)) (length (messages_of g.opening m)) xs)
-        (sym (no_items (w.past.sent m to) (f.sent.all m to ∙ f.fresh.empty m to m well.later))) (record {
+        (sym (no_members (w.past.sent m to) (f.sent.all m to ∙ f.fresh.empty m to m well.later))) (record {
           index = λ k l. absurd (omega (arith, l));
           left = omega (arith, well.few);
           nulls = λ l. absurd (omega (arith, l));
@@ -326,14 +265,6 @@ left_closed g V w m wedged f = record {
     told : w.past.own m (w.past.view m) SUSPECTED_COLUMN ≡ w.suspects m
     told = f.suspicions.told m
 
--- a member that isn't named stays
-stays_in : (a b : Bool) → a ≡ true → b ≡ false → (if b then not a else a) ≡ true
-stays_in a b e d = rw (e, d) refl
-
--- what is before the next one is the last one, or before it
-pub last_or_before : (v u : ℕ) → v < u + 1 → (v < u) ⊎ (v ≡ u)
-last_or_before v u l = grind (arith, l)
-
 -- and it stays, so it goes on well
 finish_enters : (g : Group) (V : Views) (w : World) (m : ℕ) (x : Value) → IsGroup g → MayChoose g w m
     → has x.leavers m ≡ false → GoesOnWell g V w m x → Faithful g V w
@@ -346,7 +277,7 @@ finish_enters g V w m x is may stays well f = record {
       ∙ stays_in (has (w.members m) m) (has x.leavers m) may.inside stays;
   came = λ e. refl;
   back = λ u next there. omega (arith, next);
-  closed = λ u l. closed u (last_or_before u (w.past.view m) l);
+  closed = λ u l. closed u (below_or_last u (w.past.view m) l);
   stayed = well.stayed;
   goes_on = history_goes_on g w m x;
   behind = history_behind g w m x;
@@ -362,10 +293,6 @@ finish_enters g V w m x is may stays well f = record {
     closed u (inr same) here = subst (λ v. IsClosed g V v m (w.past.own m v)) (sym same)
         (left_closed g V w m well.wedged f)
 
-pub finish_past : (g : Group) (w : World) (m : ℕ) (x : Value) → PastGrew w.past (finishes_by g w m x).past
-finish_past g w m x = enter_past w m (w.past.view m + 1) (next_members (w.members m) x.leavers)
-    (finished_history g w m x) (omega arith) (history_goes_on g w m x)
-
 pub finish_grew : (g : Group) (V : Views) (w : World) (m : ℕ) (x : Value) → Faithful g V w
     → WordsGrew g w (finishes_by g w m x)
 finish_grew g V w m x f = enter_grew g V w m (w.past.view m + 1) (next_members (w.members m) x.leavers)
@@ -378,12 +305,6 @@ finish_keeps g V w m x is may stays well f =
     (finished_history g w m x) is (finish_enters g V w m x is may stays well f) f
 
 -- ---- it joins
-
--- what holds of a member that comes into the view of its letter holds of it once it has joined
-pub joined_is : (w : World) (m : ℕ) (l : List Entry) (P : World → Type 0) → w.letter m ≡ Some l
-    → P (enters w m (last_view (0, 0) l).0 (last_view (0, 0) l).1 l) → P (joins w m)
-joined_is w m l P e p =
-    subst (λ h. P (enters w m (last_view (0, 0) h).0 (last_view (0, 0) h).1 h)) (sym (ap (λ r. unwrap_or r []) e)) p
 
 pub join_keeps : (g : Group) (V : Views) (w : World) (m v members : ℕ) (letter : List Entry) → IsGroup g
     → w.pending m ≡ None → JoinsWell g V w m v members letter → Faithful g V w
@@ -401,3 +322,16 @@ join_keeps g V w m v members letter is idle well f = enter_keeps g V w m v membe
   behind = well.behind;
   few = well.few;
 }) f
+
+-- an act's stamp and the end of the view may change places
+stamps_apart : (own : ℕ → ℕ → ℕ → ℕ) (m v x y : ℕ) → at₃ (at₃ own m v BEAT_COLUMN x) m (v + 1) LOGGED_COLUMN y
+    ≡ at₃ (at₃ own m (v + 1) LOGGED_COLUMN y) m v BEAT_COLUMN x
+stamps_apart own m v x y = fun_ext λ i. fun_ext λ u. fun_ext λ c. grind arith
+
+pub stamped_first : (g : Group) (w : World) (m : ℕ) (x : Value)
+    → finishes_by g (stamped w m) m x ≡ stamped_in (finishes_by g w m x) m (w.past.view m)
+stamped_first g w m x =
+    let one = stamps_apart w.past.own m (w.past.view m) (one_more 64 (w.past.acts m)) (length (w.past.log m)) in
+    λ z. record (stamped_in (finishes_by g w m x) m (w.past.view m)) {
+      past = record (stamped_in (finishes_by g w m x) m (w.past.view m)).past { own = one z };
+    }

@@ -1,21 +1,25 @@
 -- A member has one item more of a sender, itself or another: the members stay faithful, and the words grow.
-use Rattle.std.proofs.Common.{ap, arith, false, inl, inr, le_of_eq, le_trans, length, map, refl, subst, sym, true, ℕ, ◌+◌, ◌<◌, ◌∙◌, ◌≡◌, ◌≢◌, ◌≤◌, ◌⊎◌, le_refl}
-use Rattle.std.proofs.lemmas.Bool.{cases_eq}
-use Rattle.dr_entry.specs.declared.entry.Item.{Item}
+use Rattle.std.proofs.Common.{ap, arith, false, inl, inr, le_of_eq, le_trans, length, map, refl, subst, sym, true, ℕ, ◌+◌, ◌<◌, ◌∙◌, ◌≡◌, ◌≢◌, ◌≤◌, ◌⊎◌, le_refl, ◌==◌, if◌then◌else◌, slice_index}
+use Rattle.std.proofs.{Math.Path.fun_ext, lemmas.Bool.cases_eq}
+use Rattle.dr_entry.{specs.declared.entry.Item.Item, proofs.NumberFacts.{same_number, other_number}}
 use Rattle.dr_history.specs.{History.{IsPrefixOf, Sent, messages_of}, Members.{has, members_of}, Places.front_of}
-use Rattle.dr_machine.specs.{Group.{Group, IsGroup, roster}, Run.{PastGrew, WordsGrew}}
-use Rattle.dr_machine.specs.{World.{Past, World, items_received, own_word, view_members}, Writes.{at, at₂, at₃}}
+use Rattle.dr_history.proofs.Ranks.{some_member}
+use Rattle.dr_rows.specs.Words.{Words, IsWords, own, with_own, seen}
+use Rattle.dr_rows.proofs.Grids.{own_with, with_word-same, with_word-row, with_word-column}
+use Rattle.dr_rows.specs.Words as rows
+use Rattle.dr_machine.{specs.{Group.{Group, IsGroup, roster}, Writes.{at, at₂, at₃}}, proofs.Worlds.past_same}
+use Rattle.dr_machine.specs.{Run.{PastGrew, WordsGrew}, World.{Past, World, items_received, own_word, view_members}}
+use Rattle.dr_machine.proofs.Writes.{front_rises, at_case, at_other, at_same, at₂_both, at₂_case, at₂_read}
 use Rattle.dr_faithful.specs.Faithful.{AreCounts, AreInForm, AreItems, AreSent, AreSuspicions, Faithful, Items, Numbers}
 use Rattle.dr_faithful.specs.Tells.{Tells, TellsPiece, Views, WordsTell, item_sent, part_column}
 use Rattle.dr_faithful.proofs.CountMore.{IsMore, more, more_le, more_or_same, new_count}
-use Rattle.dr_faithful.proofs.Fronts.{front_rises, some_members}
 use Rattle.dr_faithful.proofs.OwnWords.{accepts_same, old_later, closed_written, fresh_counted, fresh_written}
-use Rattle.dr_faithful.proofs.Pasts.{item_kept, past_same, tells_later, tells_received, tells_recv, tells_ring}
-use Rattle.dr_faithful.proofs.Writes.{at_case, at_other, at_same, at₂_both, at₂_case, at₂_read}
-use Rattle.dr_words.specs.{Columns.{head_column, recv_column}, Form.IsInForm}
-use Rattle.dr_words.{specs.Grown.HasGrown, proofs.Forms.{form_free, form_recv, grown_free, grown_recv}}
-use Rattle.dr_words.{specs.Packing.{accept_promise, is_final, recv_count, recv_word}, proofs.Accepts.accept_within}
-use Rattle.dr_words.{specs.declared.column.TheConstants.RECEIVED_COLUMN, proofs.Order.{HasGrown_refl, HasGrown_same}}
+use Rattle.dr_faithful.proofs.Pasts.{item_kept, tells_later, tells_received, tells_recv, tells_ring}
+use Rattle.dr_words.specs.{Columns.{head_column, recv_column}, Form.IsInForm, Grown.HasGrown}
+use Rattle.dr_words.specs.Packing.{accept_promise, is_final, recv_count, recv_word}
+use Rattle.dr_words.{specs.declared.column.TheConstants.RECEIVED_COLUMN, proofs.Accepts.accept_within}
+use Rattle.dr_words.proofs.{Columns.low_or_high, Forms.{form_free, form_recv, grown_free, grown_recv}}
+use Rattle.dr_words.proofs.{Order.{HasGrown_refl, HasGrown_same}, Packed.open_word}
 
 -- who may have one item more: its sender, where there is room, or another one, where it was put
 abbrev pub IsSource : Group → Views → Numbers → ℕ → ℕ → ℕ → Type 0
@@ -130,17 +134,13 @@ pub record MayGain (g : Group) (V : Views) (w : World) (m s : ℕ) (x : Item) (r
       (row (part_column g slot part))
   pub order : AreSent g w.past.view w.base sent (more w.past.count m (w.past.view m) s)
 
--- below the ring, or in it
-low_or_high : (n c : ℕ) → (c < head_column n 0) ⊎ (head_column n 0 ≤ c)
-low_or_high n c = grind arith
-
 front_grown : (g : Group) (V : Views) (w : World) (m s : ℕ) → IsGroup g → has (V (w.past.view m)) m ≡ true
     → Faithful g V w
     → own_word w m 2 ≤ front_of (map (at (w.past.count m (w.past.view m)) s (items_received w m s + 1))
     (view_members w m))
 front_grown g V w m s is l f =
     let mask : V (w.past.view m) ≡ w.members m = sym (f.views.own m) in
-    let some : 0 < length (view_members w m) = some_members (w.members m) m
+    let some : 0 < length (view_members w m) = some_member (w.members m) m
     (le_trans (f.views.within (w.past.view m) m l) is.most_members) (ap (λ k. has k m) (f.views.own m) ∙ l) in
     let old : own_word w m 2 ≡ front_of (map (w.past.count m (w.past.view m)) (view_members w m)) =
     f.counts.received m (w.past.view m)
@@ -188,9 +188,6 @@ gain_grew g V w m s x row sent is may f = record {
 }
 
 -- ---- what the words tell
-
-open_word : (k : ℕ) → is_final (recv_word k false) ≡ false
-open_word k = grind arith
 
 -- a column that is neither of the ring, nor the received word, nor the recv word of the sender is as before
 row_kept : (g : Group) (V : Views) (w : World) (m s : ℕ) (x : Item) (row : ℕ → ℕ) (sent : Sent)
@@ -420,3 +417,24 @@ gain_keeps g V w m s x row sent is may f = record {
       (own_gained g V w m s x row sent is may f) f.old;
   form = form_gained g V w m s x row sent is may f;
 }
+
+-- two own words written
+pub own_two : (w : Words) (c x d y k : ℕ) → IsWords w → IsWords (with_own w c x) → c < w.columns → d < w.columns
+    → own (with_own (with_own w c x) d y) k ≡ at (at (own w) c x) d y k
+own_two w c x d y k form then_form p q = own_with (with_own w c x) d y k then_form q
+    ∙ ap (λ o. if k == d then y else o) (own_with w c x k form p)
+
+-- the seen words after a look at another row
+pub looked_seen : (w : Words) (i c x : ℕ) → IsWords w → i ≢ w.me → i < w.members → c < w.columns
+    → ◌≡◌ {A = ℕ → ℕ → ℕ} (at₂ (λ j d. if j == w.me then 0 else seen w j d) i c x)
+    (λ j d. if j == w.me then 0 else seen (rows.looked w i c x) j d)
+looked_seen w i c x form other row column = fun_ext λ j. fun_ext λ d. elim (cases_eq j i) [
+  | inr apart ↦ rw (other_number j i apart)
+      (ap (λ y. if j == w.me then 0 else y) (sym (ap (λ r. slice_index r d) (with_word-row w.words i c x j apart))))
+  | inl same ↦ rw (same, same_number i) (elim (cases_eq d c) [
+    | inr apart ↦ rw (other_number d c apart, other_number i w.me other)
+        (sym (with_word-column w.words i c x i d apart))
+    | inl here ↦ rw (here, same_number c, other_number i w.me other)
+        (sym (with_word-same w.members w.columns w.words i c x form.rows row column))
+  ])
+]

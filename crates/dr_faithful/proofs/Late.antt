@@ -1,26 +1,17 @@
 -- Words that arrive late do no harm: what a word tells stays true, so it is as true once it arrives.
-use Rattle.std.proofs.Common.{◌≡◌, ◌⊎◌, ◌∙◌, inl, inr, refl, sym, subst, arith, ℕ, ◌≤◌, List, [], ◌∷◌, Contains}
+use Rattle.std.proofs.Common.{◌≡◌, ◌⊎◌, ◌∙◌, inl, inr, refl, sym, subst, arith, ℕ, List, [], ◌∷◌}
 use Rattle.dr_machine.specs.{Acts.{Guard, does, effect, effect_of}, Effects.one_more, Group.{Group, IsGroup, roster}}
-use Rattle.dr_machine.specs.{Events.{member_of, step_of}, Writes.at₃, declared.event.Act.Act}
+use Rattle.dr_machine.{specs.{Events.{member_of, step_of}, Writes.at₃}, proofs.{Groups.does_table, Writes.at₄_case}}
 use Rattle.dr_machine.specs.{Run.{HaveArrived, MayArrive, PastGrew, WordsGrew, with_table}, declared.step.Step.Step}
 use Rattle.dr_machine.specs.{World.{Table, World, opening_world, own_word}, declared.step.Step.TheVariants.{Do, Push}}
-use Rattle.dr_machine.{specs.declared.event.Event.Event, proofs.Runs.{arrived, last_or_before, none_was, were_all}}
+use Rattle.dr_machine.{specs.declared.event.Event.Event, proofs.Runs.{arrived, none_was, were_all, one_more_moment}}
 use Rattle.dr_machine.specs.declared.event.Act.TheVariants as acts
 use Rattle.dr_faithful.specs.{Faithful.{AllGoOn, Faithful, Numbers}, Late.AreBacked, Tells.{Tells, Views}}
 use Rattle.dr_faithful.proofs.{Beside.same_own_keeps, Faithfulness.{past_on_event, words_on}, Pasts.tells_later}
-use Rattle.dr_faithful.proofs.Writes.{at₄_case}
 use Rattle.dr_words.specs.{Form.IsInForm, Grown.HasGrown, declared.column.TheConstants.BEAT_COLUMN}
-use Rattle.dr_words.proofs.Order.{HasGrown_refl, HasGrown_same, HasGrown_trans}
+use Rattle.dr_words.proofs.Order.{HasGrown_refl, HasGrown_same, HasGrown_trans, line_with}
 
 -- ---- words in line
-
--- words of which each has grown from every smaller one stay so with one more that all have grown into
-line_with : (S : ℕ → Type 0) (n c top : ℕ) → ((x y : ℕ) → S x → S y → x ≤ y → HasGrown n c x y)
-    → ((x : ℕ) → S x → HasGrown n c x top) → (x y : ℕ) → S x ⊎ (x ≡ top) → S y ⊎ (y ≡ top) → x ≤ y → HasGrown n c x y
-line_with S n c top line into x y (inl p) (inl q) l = line x y p q l
-line_with S n c top line into x y (inl p) (inr e) l = subst (HasGrown n c x) (sym e) (into x p)
-line_with S n c top line into x y (inr e) (inl q) l = HasGrown_same n c x y (omega (arith, e, l, (into y q).number))
-line_with S n c top line into x y (inr e) (inr d) l = HasGrown_same n c x y (d ∙ sym e)
 
 -- each word that may come has grown into the own one
 into_own : (g : Group) (V : Views) (us : List World) (w : World) (v i c x : ℕ) → Faithful g V w
@@ -29,16 +20,6 @@ into_own g V us w v i c x f y p = arrived us w v i c x (λ z. HasGrown (roster g
     (y.old v i c) (λ k. f.old.in_table v k i c)
 
 -- ---- the words of one world more
-
--- a word that may come where one moment is added is the own one of that moment, or could come before
-one_more_moment : (us : List World) (w : World) (v i c x : ℕ) → MayArrive (w ∷ us) w v i c x
-    → MayArrive us w v i c x ⊎ (x ≡ w.past.own i v c)
-one_more_moment us w v i c x (inr t) = inl (inr t)
-one_more_moment us w v i c x (inl was) = by (last_or_before us w was.0 was.1)
-  where
-    by : (w ≡ was.0) ⊎ Contains us was.0 → MayArrive us w v i c x ⊎ (x ≡ w.past.own i v c)
-    by (inl same) = inr (subst (λ (u : World). x ≡ u.past.own i v c) (sym same) (sym was.3))
-    by (inr earlier) = inl (inl (was.0, earlier, was.2, was.3))
 
 backed_now : (g : Group) (V : Views) (us : List World) (w : World) → Faithful g V w → AreBacked g V us w
     → AreBacked g V (w ∷ us) w
@@ -53,11 +34,6 @@ backed_now g V us w f y = record {
 }
 
 -- ---- one step
-
--- no act writes the table, but for its stamp
-pub does_table : (g : Group) (w : World) (m : ℕ) (a : Act) → (does g w m a).table ≡ w.table
-does_table g w m acts.Finish = refl
-does_table g w m a = refl
 
 own_beat : (f : Numbers) (m v x : ℕ) → at₃ f m v 0 x m v 0 ≡ x
 own_beat f m v x = grind arith

@@ -1,17 +1,14 @@
-pub mod Writes
-mod Lists
 pub mod Pieces
 pub mod Pasts
 pub mod Beside
-mod Begin
+pub mod Begin
 pub mod OwnWords
 pub mod Stamps
 pub mod Shown
 pub mod Copies
 mod Acts
-mod Fronts
 mod CountMore
-mod ItemMore
+pub mod ItemMore
 pub mod Receipts
 pub mod Puts
 pub mod Suspicions
@@ -20,3 +17,7 @@ pub mod Finishes
 pub mod Faithfulness
 pub mod Late
 mod Outside
+pub mod ChosenViews
+pub mod Completion
+pub mod Ending
+pub mod Rings

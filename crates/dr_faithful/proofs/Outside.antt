@@ -3,8 +3,8 @@ use Rattle.std.proofs.Common.{false, refl, subst, sym, ℕ, ◌≡◌, ◌≢◌
 use Rattle.dr_history.specs.Members.{has}
 use Rattle.dr_machine.specs.{Acts.{CanTake, does, effect_of}, Effects.one_more, Group.Group}
 use Rattle.dr_machine.specs.{World.{Table, World, own_word}, declared.step.Step.{Step, TheVariants.{Do, Push}}}
+use Rattle.dr_machine.proofs.{Groups.does_table, Writes.at₄_case}
 use Rattle.dr_faithful.{specs.{Faithful.{Faithful, HasNoOutsiders}, Tells.Views}, proofs.Beside.in_view}
-use Rattle.dr_faithful.proofs.{Late.does_table, Writes.at₄_case}
 use Rattle.dr_words.specs.declared.column.TheConstants.{BEAT_COLUMN}
 
 -- who stamps does so in its own copy, and who pushes is in its view

@@ -2,8 +2,9 @@
 use Rattle.std.proofs.Common.{Option, ap, arith, false, sym, true, ℕ, ◌<◌, ◌∙◌, ◌≡◌, ◌≢◌, ◌≤◌, subst}
 use Rattle.dr_entry.specs.declared.record.{Value.Value, Vote.Vote}
 use Rattle.dr_machine.specs.{Group.{Group, roster}, World.Table, Writes.{at₃, at, at₂}}
+use Rattle.dr_machine.proofs.Writes.{at₃_case, at₃_column, at_other, at₂_case, later_view, earlier_view}
 use Rattle.dr_faithful.specs.Faithful.{AreAccepts, AreCounts, AreDelivered, AreInForm, AreOld, AreSuspicions, Numbers, AreClosed, AreFresh, IsClosed, IsLateBeat}
-use Rattle.dr_faithful.{specs.Tells.Views, proofs.Writes.{at₃_case, at₃_column, at_other, at₂_case}}
+use Rattle.dr_faithful.specs.Tells.{Views}
 use Rattle.dr_words.specs.{Columns.recv_column, Form.IsInForm, Grown.HasGrown, Masks.{least_of, without}}
 use Rattle.dr_words.specs.{Packing.{accept_tag, accept_value, accept_promise, is_final}, Rewrites.is_accept_of}
 use Rattle.dr_words.specs.declared.column.TheConstants.{BEAT_COLUMN, RECEIVED_COLUMN, SUSPECTED_COLUMN}
@@ -71,11 +72,6 @@ delivered_word g V view next own m v c x plain f = record {
   none = f.none;
 }
 
--- what is written in a view that the member has come to leaves later views as they are
-later_view : {A : Type 0} (f : ℕ → ℕ → A) (view : ℕ → ℕ) (m v : ℕ) (x : A) → v ≤ view m
-    → (i u : ℕ) → view i < u → at₂ f m v x i u ≡ f i u
-later_view f view m v x l i u less = grind (arith, l, less)
-
 -- own words of such a view, of which it is a member
 pub fresh_written : (g : Group) (V : Views) (view : ℕ → ℕ) (own count : Numbers) (m v : ℕ) (row : ℕ → ℕ)
     → v ≤ view m → has (V v) m ≡ true → AreFresh g V view own count → AreFresh g V view (at₂ own m v row) count
@@ -97,10 +93,6 @@ fresh_stamped g V view own count m v x l late f = record {
       f.outside (λ out some. late out);
   empty = f.empty;
 }
-
-earlier_view : {A : Type 0} (f : ℕ → ℕ → A) (view : ℕ → ℕ) (m : ℕ) (x : A) (i u : ℕ)
-    → u < view i → at₂ f m (view m) x i u ≡ f i u
-earlier_view f view m x i u less = grind (arith, less)
 
 -- and what is written in its present view leaves those that it has left
 pub closed_written : (g : Group) (V : Views) (view : ℕ → ℕ) (own : Numbers) (m : ℕ) (row : ℕ → ℕ)

@@ -1,29 +1,17 @@
 -- What only grows has grown, and what is told of it stays told.
-use Rattle.std.proofs.Common.{List, [], append-nil, append_assoc, arith, inl, le_of_eq, le_refl, le_trans, length, length-append, map, refl, slice_index_or, subst, sym, take, ap, get_or, ℕ, ◌++◌, ◌<◌, ◌∙◌, ◌∷◌, ◌≡◌, ◌≤◌}
-use Rattle.std.proofs.lemmas.List.{get_or_append_left, get_or-map, length-map}
+use Rattle.std.proofs.Common.{List, arith, inl, le_refl, le_trans, length, map, refl, slice_index_or, subst, sym, take, ap, ℕ, ◌<◌, ◌∙◌, ◌≡◌, ◌≤◌, true, length-append, ◌++◌}
+use Rattle.std.proofs.lemmas.List.{get_or_append_left}
 use Rattle.dr_entry.specs.declared.{end.SentItem.{SentItem, TheVariants.Null}, entry.Entry.Entry}
-use Rattle.dr_entry.specs.declared.record.Vote.{Vote}
-use Rattle.dr_history.specs.{History.{IsPrefixOf, Sent}, Members.members_of, Places.front_of}
-use Rattle.dr_history.proofs.Fronts.{front_more}
+use Rattle.dr_history.specs.{History.{IsPrefixOf, Sent}, Members.{members_of, has}, Order.messages_from}
+use Rattle.dr_history.{specs.Places.front_of, proofs.{Fronts.fronts_rise, Keeping.prefix_shorter}}
+use Rattle.dr_history.proofs.{Lists.durable_front, NumberedLemmas.messages_from-append}
 use Rattle.dr_machine.specs.{Group.{Group, roster}, Run.PastGrew, World.{Past, Table, World}}
 use Rattle.dr_words.specs.{Columns.{head_column, recv_column}, Packing.recv_count}
 use Rattle.dr_words.specs.declared.column.TheConstants.{BEAT_COLUMN, LOGGED_COLUMN, DONE_COLUMN, RECEIVED_COLUMN, SUSPECTED_COLUMN}
-use Rattle.dr_faithful.{specs.Faithful.Numbers, proofs.{Lists.{has_all_more, prefix_take}, Pieces.later}}
+use Rattle.dr_faithful.{specs.Faithful.Numbers, proofs.Pieces.later}
 use Rattle.dr_faithful.specs.Tells.{HasAll, Tells, TellsPiece, Views, WordsTell, item_named, item_sent, part_column}
 
 -- ---- prefixes
-
--- a list is a front of itself
-pub prefix_refl : {A : Type 0} (xs : List A) → IsPrefixOf xs xs
-prefix_refl xs = ([], append-nil xs)
-
--- a front is no longer than its list
-pub prefix_short : {A : Type 0} (xs ys : List A) → IsPrefixOf xs ys → length xs ≤ length ys
-prefix_short xs ys p = omega (arith, length-append xs p.0, ap length p.1)
-
--- a front of a front is one
-pub prefix_on : {A : Type 0} (xs ys zs : List A) → IsPrefixOf xs ys → IsPrefixOf ys zs → IsPrefixOf xs zs
-prefix_on xs ys zs p q = (p.0 ++ q.0, sym (append_assoc xs p.0 q.0) ∙ ap (λ l. l ++ q.0) p.1 ∙ q.1)
 
 -- the items that were put stay
 pub item_kept : (g : Group) (old new : Sent) (s v k : ℕ) → IsPrefixOf (old s v) (new s v) → k < length (old s v)
@@ -33,63 +21,13 @@ item_kept g old new s v k p l = ap (λ (xs : List SentItem). item_named g s (sli
 
 -- ---- what grows
 
--- nothing has changed
-pub past_same : (past : Past) → PastGrew past past
-past_same past = record {
-  view = λ m. le_refl (past.view m);
-  count = λ m v s. le_refl (past.count m v s);
-  sent = λ m v. prefix_refl (past.sent m v);
-  history = λ m. prefix_refl (past.history m);
-  log = λ m. prefix_refl (past.log m);
-  votes = λ m. prefix_refl (past.votes m);
-  durable = λ m. le_refl (past.durable m);
-  acts = λ m. le_refl (past.acts m);
-}
-
--- what grows is the same
-pub same_past : (old new : Past) → new.view ≡ old.view → new.count ≡ old.count
-    → new.sent ≡ old.sent → new.history ≡ old.history → new.log ≡ old.log → new.votes ≡ old.votes
-    → new.durable ≡ old.durable → new.acts ≡ old.acts → PastGrew old new
-same_past old new view count sent history log votes durable acts = record {
-  view = λ m. le_of_eq (sym (ap (λ f. f m) view));
-  count = λ m v s. le_of_eq (sym (ap (λ f. f m v s) count));
-  sent = λ m v. subst (λ (f : Sent). IsPrefixOf (old.sent m v) (f m v)) (sym sent) (prefix_refl (old.sent m v));
-  history = λ m. subst (λ (f : ℕ → List Entry). IsPrefixOf (old.history m) (f m)) (sym history)
-      (prefix_refl (old.history m));
-  log = λ m. subst (λ (f : ℕ → List Entry). IsPrefixOf (old.log m) (f m)) (sym log) (prefix_refl (old.log m));
-  votes = λ m. subst (λ (f : ℕ → List Vote). IsPrefixOf (old.votes m) (f m)) (sym votes) (prefix_refl (old.votes m));
-  durable = λ m. le_of_eq (sym (ap (λ f. f m) durable));
-  acts = λ m. le_of_eq (sym (ap (λ f. f m) acts));
-}
-
--- growth, and then growth again
-pub past_on : (a b c : Past) → PastGrew a b → PastGrew b c → PastGrew a c
-past_on a b c p q = record {
-  view = λ m. le_trans (p.view m) (q.view m);
-  count = λ m v s. le_trans (p.count m v s) (q.count m v s);
-  sent = λ m v. prefix_on (a.sent m v) (b.sent m v) (c.sent m v) (p.sent m v) (q.sent m v);
-  history = λ m. prefix_on (a.history m) (b.history m) (c.history m) (p.history m) (q.history m);
-  log = λ m. prefix_on (a.log m) (b.log m) (c.log m) (p.log m) (q.log m);
-  votes = λ m. prefix_on (a.votes m) (b.votes m) (c.votes m) (p.votes m) (q.votes m);
-  durable = λ m. le_trans (p.durable m) (q.durable m);
-  acts = λ m. le_trans (p.acts m) (q.acts m);
-}
-
--- where no count falls the front of a view does not fall
-pub fronts_rise : (old new : ℕ → ℕ) (ms : List ℕ) → ((s : ℕ) → old s ≤ new s)
-    → front_of (map old ms) ≤ front_of (map new ms)
-fronts_rise old new [] more = le_refl (front_of [])
-fronts_rise old new (m ∷ ms) more =
-    let all : List ℕ = m ∷ ms in
-    front_more (map old all)
-    (map new all) (omega (arith, length-map all new)) (length-map all old ∙ sym (length-map all new)) (λ i l.
-    let within : i < length all = omega (arith, l, length-map all new) in
-    rw (get_or-map old all i 0 0 within, get_or-map new all i 0 0 within) (more (get_or all i 0)))
-
--- what is durable stays, as more is delivered and known to be durable
-durable_front : (d e : ℕ) (xs ys : List Entry) → d ≤ e → IsPrefixOf xs ys → IsPrefixOf (take d xs) (take e ys)
-durable_front d e xs ys l p =
-    subst (λ (zs : List Entry). IsPrefixOf (take d xs) (take e zs)) p.1 (prefix_take d e xs p.0 l)
+-- a longer history has no fewer messages
+pub has_all_more : (g : Group) (mask : ℕ) (xs ys : List Entry) → IsPrefixOf xs ys → HasAll g mask xs
+    → HasAll g mask ys
+has_all_more g mask xs ys p all s member =
+    let e : length (messages_from s xs ++ messages_from s p.0) ≡ length (messages_from s ys) =
+    ap length (sym (messages_from-append s xs p.0) ∙ ap (messages_from s) p.1) in
+    omega (arith, all s member, length-append (messages_from s xs) (messages_from s p.0), e)
 
 -- what a word tells stays true
 pub tells_later : (g : Group) (V : Views) (old new : Past) (i v c word : ℕ) → PastGrew old new
@@ -98,7 +36,7 @@ tells_later g V old new i v c word grew t = record {
   beat = λ e. le_trans (t.beat e) (grew.acts i);
   received = λ e. le_trans (t.received e)
       (fronts_rise (old.count i v) (new.count i v) (members_of (V v)) (grew.count i v));
-  logged = λ e. le_trans (t.logged e) (prefix_short (old.log i) (new.log i) (grew.log i));
+  logged = λ e. le_trans (t.logged e) (prefix_shorter (old.log i) (new.log i) (grew.log i));
   done = λ e. (
     (t.done e).0,
     λ one. has_all_more g (V v) (take (old.durable i) (old.history i)) (take (new.durable i) (new.history i))
@@ -107,7 +45,7 @@ tells_later g V old new i v c word grew t = record {
   );
   recv = λ s l e. le_trans (t.recv s l e) (grew.count i v s);
   ring = λ slot part l p e. later g (length (old.sent i v)) (length (new.sent i v)) (item_sent g old.sent i v)
-      (item_sent g new.sent i v) slot part word (prefix_short (old.sent i v) (new.sent i v) (grew.sent i v))
+      (item_sent g new.sent i v) slot part word (prefix_shorter (old.sent i v) (new.sent i v) (grew.sent i v))
       (λ k n. item_kept g old.sent new.sent i v k (grew.sent i v) n) (t.ring slot part l p e);
 }
 
@@ -232,4 +170,16 @@ tells_ring g V past i v c word high piece = record {
   done = λ e. absurd (omega (arith, e, high));
   recv = λ s l e. absurd (omega (arith, e, high, l));
   ring = piece;
+}
+
+pub tells_by : (g : Group) (V W : Views) (past : Past) (i v c word : ℕ) → V v ≡ W v
+    → Tells g W past i v c word → Tells g V past i v c word
+tells_by g V W past i v c word same t = record {
+  beat = t.beat;
+  received = λ e. subst (λ mask. word ≤ front_of (map (past.count i v) (members_of mask))) (sym same) (t.received e);
+  logged = t.logged;
+  done = λ e. let d = t.done e in
+      (d.0, λ one s member. d.1 one s (subst (λ mask. has mask s ≡ true) same member));
+  recv = t.recv;
+  ring = t.ring;
 }

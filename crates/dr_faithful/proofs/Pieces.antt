@@ -1,15 +1,15 @@
 -- What a word of a ring tells, and what stays told as items are added.
-use Rattle.std.specs.{List.{list_all, range_with_len}, Prelude.{◌⊎◌}}
-use Rattle.std.proofs.Common.{List, [], get_or, slice_get, slice_index_or, Bool, None, Some, ap, arith, cond, inl, inr, le_trans, length, refl, slice_index, subst, suc, sym, true, zero, ℕ, ◌+◌, ◌<◌, ◌^◌, ◌∙◌, ◌≡◌, ◌≤◌}
+use Rattle.std.specs.Prelude.{◌⊎◌}
+use Rattle.std.proofs.Common.{List, [], get_or, slice_get, slice_index_or, None, Some, ap, arith, inl, inr, le_trans, length, slice_index, subst, sym, ℕ, ◌+◌, ◌<◌, ◌∙◌, ◌≡◌, ◌≤◌}
 use Rattle.std.proofs.lemmas.{List.get_or_past, Option.{get_or_from_slice_get, slice_get_cases}}
 use Rattle.dr_entry.specs.declared.{end.SentItem.SentItem, entry.Item.{Item, TheVariants.Text}}
+use Rattle.dr_entry.proofs.Fields.{IsItem}
 use Rattle.dr_entry.specs.declared.end.SentItem.TheVariants as sent_items
 use Rattle.dr_history.specs.History.{Sent, messages_of}
 use Rattle.dr_machine.specs.Group.{Group, IsGroup}
-use Rattle.dr_ring.specs.{Pieces.{body_len, body_pieces, head_piece, pieces}, Slots.{IsReady, item_in}}
-use Rattle.dr_ring.proofs.{Arrivals.item_in-come, Items.{IsItem, body_len-pieces, few_pieces, head_fits, piece_fits}}
+use Rattle.dr_ring.{specs.Pieces.pieces, proofs.Items.piece_fits}
 use Rattle.dr_faithful.specs.Tells.{IsPiece, TellsPiece, item_named, item_sent}
-use Rattle.dr_words.specs.Packing.{ring_low, ring_tag, ring_word}
+use Rattle.dr_words.{specs.Packing.{ring_tag, ring_word}, proofs.Packed.piece_tag}
 
 -- what a member puts is an item: a null, or a message of the script, in its ranges
 pub named_item : (g : Group) (s : ℕ) (x : SentItem) → IsGroup g → IsItem (item_named g s x)
@@ -44,10 +44,6 @@ later g total more items new slot part word rises same (inr p) =
       made = subst (λ (x : Item). word ≡ ring_word p.number (slice_index (pieces x) part)) (sym e) p.made;
     })
 
--- the tag of a piece is one more than its item's number
-piece_tag : (k low : ℕ) → low < 2 ^ 32 → ring_tag (ring_word k low) ≡ k + 1
-piece_tag k low l = omega arith
-
 -- the tag of a word of an item is one more than the number of the item
 pub tag_of_piece : (g : Group) (total : ℕ) (items : ℕ → Item) (slot part word : ℕ) → ((k : ℕ) → IsItem (items k))
     → (p : IsPiece g total items slot part word) → ring_tag word ≡ p.number + 1
@@ -71,31 +67,3 @@ pub piece_le : (g : Group) (total : ℕ) (items : ℕ → Item) (slot part word 
 piece_le g total items slot part word low are (inl none) = omega arith
 piece_le g total items slot part word low are (inr p) =
     omega (arith, p.put, tag_of_piece g total items slot part word are p)
-
--- the words that item k needs are there: then it is the item that was put
-pub ready_item : (k : ℕ) (item : Item) (slot : ℕ → ℕ) → IsItem item → IsReady k slot
-    → ((part : ℕ) → part < 17 → ring_tag (slot part) ≡ k + 1 → slot part
-    ≡ ring_word k (slice_index (pieces item) part)) → item_in k slot ≡ Some item
-ready_item k item slot is ready words = item_in-come k item slot (λ part. true) is
-    (record { here = λ part l e. here part l; earlier = λ part l e. absurd (cc e) })
-    ∙ ap (λ (b : Bool). cond b (Some item) None) (all_true (length (pieces item)) 0)
-  where
-    all_true : (n a : ℕ) → list_all (λ (part : ℕ). true) (range_with_len a n) ≡ true
-    all_true zero a = refl
-    all_true (suc n) a = all_true n (a + 1)
-
-    head : slot 0 ≡ ring_word k (head_piece item)
-    head = words 0 (omega arith) ready.head
-
-    low : ring_low (slot 0) ≡ head_piece item
-    low = omega (arith, head, head_fits item is)
-
-    here : (part : ℕ) → part < length (pieces item) → slot part ≡ ring_word k (slice_index (pieces item) part)
-    here zero l = head
-    here (suc part) l =
-        let body : body_len (ring_low (slot 0)) ≡ length (body_pieces item) = ap body_len low
-        ∙ body_len-pieces item is in
-        let there : 1 + part ≡ suc part = omega arith in
-        let tag : ring_tag (slot (suc part)) ≡ k + 1 = subst (λ i. ring_tag (slot i) ≡ k + 1) there
-        (ready.body part (omega (arith, body))) in
-        words (suc part) (omega (arith, few_pieces item is)) tag

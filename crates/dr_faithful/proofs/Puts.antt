@@ -1,52 +1,33 @@
 -- A member puts its next message, or a null: the pieces stand in a free slot.
-use Rattle.std.proofs.Common.{List, [], ap, arith, inl, inr, le_of_eq, le_trans, length, map, refl, slice_index, slice_index_or, subst, sym, true, ℕ, ◌%◌, ◌++◌, ◌+◌, ◌-◌, ◌<◌, ◌∙◌, ◌∷◌, ◌≡◌, ◌≢◌, ◌≤◌, ◌⊎◌}
-use Rattle.std.proofs.{Math.Seq.get_or-append_seam, lemmas.{Bool.cases_lt, List.length_push, Nat.mod_below}}
+use Rattle.std.{specs.Prelude.{nat_lt, nat_le}, proofs.lemmas.Nat.mod_below}
+use Rattle.std.proofs.Common.{List, [], ap, arith, inl, inr, le_of_eq, le_trans, length, map, refl, slice_index, slice_index_or, subst, sym, true, ℕ, ◌%◌, ◌++◌, ◌+◌, ◌-◌, ◌<◌, ◌∙◌, ◌∷◌, ◌≡◌, ◌≢◌, ◌≤◌, ◌⊎◌, ◌&&◌, if◌then◌else◌}
+use Rattle.std.proofs.{Math.Seq.get_or-append_seam, lemmas.{Bool.{cases_lt, Decides.nat_tests}, List.length_push}}
 use Rattle.dr_entry.specs.declared.{end.SentItem.{SentItem, TheVariants.{Index, Null}}, entry.Item.Item}
-use Rattle.dr_history.specs.{History.{IsPrefixOf, Sent, messages_of}, Members.has, Places.front_of}
-use Rattle.dr_machine.specs.{Effects.{puts, row_with}, Group.{Group, IsGroup, IsPresent, roster}}
-use Rattle.dr_machine.specs.Guards.{CanNull, CanSend, HasRoom, IsUnwedged, MayChoose, next_index}
-use Rattle.dr_machine.specs.{Run.{PastGrew, WordsGrew}, Sending.IsPut}
-use Rattle.dr_machine.specs.{World.{World, items_received, own_word, view_members}, Writes.{at, at₂, at₃}}
-use Rattle.dr_machine.proofs.{Presence.in_roster, Sending.{next_message, next_null, only_messages}}
-use Rattle.dr_ring.{specs.{Pieces.pieces, Slots.slot_column}, proofs.Items.few_pieces}
-use Rattle.dr_faithful.specs.Faithful.{AreSent, Faithful, Numbers}
-use Rattle.dr_faithful.{specs.Tells.{TellsPiece, Views, item_named, item_sent, part_column}, proofs.Beside.in_view}
-use Rattle.dr_faithful.proofs.{CountMore.{more, new_count}, Writes.{at_same, at₂_both, at₂_case, at₂_read, at₂_twice}}
+use Rattle.dr_entry.proofs.NumberFacts.{InItem, in_item}
+use Rattle.dr_history.{specs.{History.messages_of, Members.has, Places.front_of}, proofs.Keeping.prefix_shorter}
+use Rattle.dr_rows.specs.Words.{Words, own}
+use Rattle.dr_machine.{specs.Effects.{puts, row_with}, proofs.Sending.{next_message, next_null, only_messages}}
+use Rattle.dr_machine.specs.Group.{Group, IsGroup, IsPresent, roster}
+use Rattle.dr_machine.specs.{Guards.{CanNull, CanSend, HasRoom, IsUnwedged, MayChoose, next_index}, Sending.IsPut}
+use Rattle.dr_machine.specs.{Run.{PastGrew, WordsGrew}, World.{World, items_received, own_word, view_members}}
+use Rattle.dr_machine.{specs.Writes.{at, at₂, at₃}, proofs.Writes.{at_same, at₂_both, at₂_case, at₂_read, at₂_twice}}
+use Rattle.dr_machine.proofs.{Presence.in_roster, Worlds.{sent_after, row_in, row_out, sent_grew}}
+use Rattle.dr_ring.{specs.{Pieces.pieces, Slots.{slot_column, with_pieces}}, proofs.Items.few_pieces}
+use Rattle.dr_ring.proofs.Writes.{HasSlot, own_set, own_left}
+use Rattle.dr_faithful.{specs.Faithful.{AreSent, Faithful, Numbers}, proofs.{Beside.in_view, Shown.seen_le}}
+use Rattle.dr_faithful.{specs.Tells.{TellsPiece, Views, item_named, item_sent, part_column}, proofs.Pasts.item_kept}
+use Rattle.dr_faithful.proofs.{CountMore.{more, new_count}, Pieces.{later, named_item, piece_le, sent_item}}
 use Rattle.dr_faithful.proofs.ItemMore.{MayGain, accept_gained, counted_row, gain_grew, gain_keeps, gained, past_gained}
-use Rattle.dr_faithful.proofs.Pasts.{item_kept, prefix_refl, prefix_short}
-use Rattle.dr_faithful.proofs.{Pieces.{later, named_item, piece_le, sent_item}, Shown.seen_le}
 use Rattle.dr_words.specs.{Columns.{head_column, recv_column}, Packing.{recv_count, ring_word}}
 use Rattle.dr_words.specs.declared.column.TheConstants.{PIECES}
 
 -- ---- the row
 
--- a column of the new item's words, or one that is as before
-abbrev InItem : ℕ → ℕ → ℕ → Type 0
-InItem from n c = ((part : ℕ) × (part < n) × (from + part ≡ c)) ⊎ ((c < from) ⊎ (from + n ≤ c))
-
-in_item : (from n c : ℕ) → InItem from n c
-in_item from n c = by (cases_lt c from) (cases_lt c (from + n))
-  where
-    by : (c < from) ⊎ (from ≤ c) → (c < from + n) ⊎ (from + n ≤ c) → InItem from n c
-    by (inl l) b = inr (inl l)
-    by (inr l) (inr b) = inr (inr b)
-    by (inr l) (inl b) = inl (c - from, omega arith, omega arith)
-
-pub row_in : (row : ℕ → ℕ) (from k part : ℕ) (list : List ℕ) → part < length list
-    → row_with row from k list (from + part) ≡ ring_word k (slice_index list part)
-row_in row from k part list l =
-    let there : from + part - from ≡ part = omega arith in rw there (grind (arith, l))
-
-row_out : (row : ℕ → ℕ) (from k c : ℕ) (list : List ℕ) → (c < from)
-    ⊎ (from + length list ≤ c) → row_with row from k list c ≡ row c
-row_out row from k c list (inl l) = grind arith
-row_out row from k c list (inr l) = grind arith
-
 -- two writes of own rows at one member
-row_twice : (own : Numbers) (m v : ℕ) (row : ℕ → ℕ) (then : (ℕ → ℕ) → ℕ → ℕ)
-    → at₂ (at₂ own m v row) m v (then (at₂ own m v row m v)) ≡ at₂ own m v (then row)
-row_twice own m v row then = at₂_twice own m v row (then (at₂ own m v row m v))
-    ∙ ap (λ r. at₂ own m v (then r)) (at₂_read own m v row)
+row_twice : (own : Numbers) (m v : ℕ) (row : ℕ → ℕ) (next : (ℕ → ℕ) → ℕ → ℕ)
+    → at₂ (at₂ own m v row) m v (next (at₂ own m v row m v)) ≡ at₂ own m v (next row)
+row_twice own m v row next = at₂_twice own m v row (next (at₂ own m v row m v))
+    ∙ ap (λ r. at₂ own m v (next r)) (at₂_read own m v row)
 
 -- ---- what is put
 
@@ -54,9 +35,6 @@ row_twice own m v row then = at₂_twice own m v row (then (at₂ own m v row m 
 abbrev put_row : Group → World → ℕ → SentItem → ℕ → ℕ
 put_row g w m x = row_with (w.past.own m (w.past.view m)) (slot_column (roster g) g.window (items_received w m m))
     (items_received w m m) (pieces (item_named g m x))
-
-abbrev sent_after : World → ℕ → SentItem → Sent
-sent_after w m x = at₂ w.past.sent m (w.past.view m) (w.past.sent m (w.past.view m) ++ x ∷ [])
 
 -- m may put it next
 pub record MayPut (g : Group) (w : World) (m : ℕ) (x : SentItem) : Type 0 where
@@ -111,11 +89,6 @@ puts_is g w m x = ap (λ (own : Numbers). record w {
     (front_of (map (at (w.past.count m (w.past.view m)) m (items_received w m m + 1)) (view_members w m)))))
 
 -- ---- what may be gained
-
--- what was put stays, and one more element stands behind it
-sent_grew : (w : World) (m : ℕ) (x : SentItem) (a u : ℕ) → IsPrefixOf (w.past.sent a u) (sent_after w m x a u)
-sent_grew w m x = at₂_case (λ a u l. IsPrefixOf (w.past.sent a u) l) w.past.sent m (w.past.view m) _
-    (λ a u. prefix_refl (w.past.sent a u)) (x ∷ [], refl)
 
 -- the new element names the item
 names_item : (g : Group) (V : Views) (w : World) (m : ℕ) (x : SentItem) (k : ℕ) → Faithful g V w
@@ -214,7 +187,7 @@ put_ring g V w m x slot part is can f l p (inr out) =
     (sym (row_out (w.past.own m v) (slot_from g w m) (items_received w m m) c (pieces (item_named g m x)) out))
     (later g (length (w.past.sent m v)) (length (sent_after w m x m v)) (item_sent g w.past.sent m v)
     (item_sent g (sent_after w m x) m v) slot part (own_word w m c)
-    (prefix_short (w.past.sent m v) (sent_after w m x m v) (sent_grew w m x m v))
+    (prefix_shorter (w.past.sent m v) (sent_after w m x m v) (sent_grew w m x m v))
     (λ i n. item_kept g w.past.sent (sent_after w m x) m v i (sent_grew w m x m v) n)
     ((f.words.own m v c).ring slot part l p refl))
 
@@ -276,3 +249,29 @@ pub put_keeps : (g : Group) (V : Views) (w : World) (m : ℕ) (x : SentItem) →
     → MayPut g w m x → Faithful g V w → Faithful g V (puts g w m x (item_named g m x))
 put_keeps g V w m x is can f = subst (λ (u : World). Faithful g V u) (sym (puts_is g w m x))
     (gain_keeps g V w m m (item_named g m x) (put_row g w m x) (sent_after w m x) is (put_gains g V w m x is can f) f)
+
+-- the own words with the pieces of an item
+pub own_pieces : (window : ℕ) (w : Words) (k : ℕ) (list : List ℕ) (c : ℕ) → HasSlot window w k → length list ≤ 17
+    → own (with_pieces window w k list) c ≡ row_with (own w) (slot_column w.members window k) k list c
+own_pieces window w k list c slot few = elim (cases_lt c (slot_column w.members window k)) [
+  | inl before ↦ own_left window w k list c slot few (inl before) ∙ sym (outside (slot_column w.members window k) c
+      (length list) (ring_word k (slice_index list (c - slot_column w.members window k))) (own w c) (inl before))
+  | inr past ↦ elim (cases_lt c (slot_column w.members window k + length list)) [
+    | inr behind ↦ own_left window w k list c slot few (inr behind) ∙ sym (outside (slot_column w.members window k) c
+        (length list) (ring_word k (slice_index list (c - slot_column w.members window k))) (own w c) (inr behind))
+    | inl within ↦
+        let place : slot_column w.members window k + (c - slot_column w.members window k) ≡ c = omega (arith, past) in
+        ap (λ d. own (with_pieces window w k list) d) (sym place)
+        ∙ own_set window w k list (c - slot_column w.members window k) slot (omega (arith, past, within))
+        ∙ sym (within_is (slot_column w.members window k) c (length list)
+        (ring_word k (slice_index list (c - slot_column w.members window k))) (own w c) past within)
+  ]
+]
+  where
+    outside : (from c len x o : ℕ) → (c < from) ⊎ (from + len ≤ c)
+        → (if nat_le from c && nat_lt c (from + len) then x else o) ≡ o
+    outside from c len x o out = grind (arith, nat_tests, out)
+
+    within_is : (from c len x o : ℕ) → from ≤ c → c < from + len
+        → (if nat_le from c && nat_lt c (from + len) then x else o) ≡ x
+    within_is from c len x o p q = grind (arith, nat_tests, p, q)

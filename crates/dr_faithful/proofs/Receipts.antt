@@ -1,13 +1,13 @@
 -- Receipts: the item that a member takes is the one that its sender has put.
 use Rattle.std.{specs.Prelude.unwrap_or, proofs.lemmas.Nat.mod_below}
 use Rattle.std.proofs.Common.{Some, ap, arith, inr, le_refl, le_trans, length, refl, slice_index, sym, ℕ, ◌%◌, ◌+◌, ◌<◌, ◌∙◌, ◌≡◌, ◌≤◌}
-use Rattle.dr_entry.specs.declared.entry.Item.{Item, TheVariants.Null}
-use Rattle.dr_history.specs.Members.{has}
+use Rattle.dr_entry.{specs.declared.entry.Item.{Item, TheVariants.Null}, proofs.Fields.IsItem}
+use Rattle.dr_history.{specs.Members.has, proofs.Lists.prefix_refl}
 use Rattle.dr_machine.specs.{Effects.{next_item, receives}, Guards.{CanReceive, seen_slot}, Run.{PastGrew, WordsGrew}}
 use Rattle.dr_machine.specs.{Group.{Group, IsGroup, roster}, World.{World, items_received, own_word}}
-use Rattle.dr_ring.{specs.{Pieces.pieces, Slots.item_in}, proofs.Items.IsItem}
-use Rattle.dr_faithful.{specs.Faithful.Faithful, proofs.{CountMore.own_same, Pasts.prefix_refl}}
-use Rattle.dr_faithful.{specs.Tells.{Views, item_sent, part_column}, proofs.Pieces.{piece_of, ready_item, sent_item}}
+use Rattle.dr_ring.{specs.{Pieces.pieces, Slots.item_in}, proofs.Arrivals.ready_item}
+use Rattle.dr_faithful.{specs.Faithful.Faithful, proofs.CountMore.own_same}
+use Rattle.dr_faithful.{specs.Tells.{Views, item_sent, part_column}, proofs.Pieces.{piece_of, sent_item}}
 use Rattle.dr_faithful.proofs.{Beside.in_view, ItemMore.{MayGain, accept_gained, gain_grew, gain_keeps, past_gained}}
 use Rattle.dr_words.specs.{Columns.{head_column, recv_column}, Packing.{ring_tag, ring_word}}
 

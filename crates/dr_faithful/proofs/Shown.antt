@@ -2,20 +2,13 @@
 use Rattle.std.proofs.Common.{arith, inl, inr, le_of_eq, le_trans, refl, ℕ, ◌≡◌, ◌≢◌, ◌≤◌, ◌⊎◌}
 use Rattle.std.proofs.lemmas.Bool.{cases_eq}
 use Rattle.dr_words.specs.declared.column.TheConstants.{DONE_COLUMN}
-use Rattle.dr_machine.specs.{Group.Group, World.{World, shown}}
+use Rattle.dr_machine.{specs.{Group.Group, World.{World, shown}}, proofs.Worlds.{shown_own, shown_seen}}
 use Rattle.dr_faithful.specs.{Faithful.Faithful, Tells.Views}
 
 -- a seen word is at most its owner's
 pub seen_le : (g : Group) (V : Views) (w : World) (m i c : ℕ) → Faithful g V w → i ≢ m
     → w.seen m i c ≤ w.past.own i (w.past.view m) c
 seen_le g V w m i c f d = le_trans (f.old.in_seen m i c d).number (f.old.in_table (w.past.view m) m i c).number
-
--- the own word in the own row, and else the one that was seen
-pub shown_own : (w : World) (m i c : ℕ) → i ≡ m → shown w m i c ≡ w.past.own i (w.past.view m) c
-shown_own w m i c e = grind arith
-
-pub shown_seen : (w : World) (m i c : ℕ) → i ≢ m → shown w m i c ≡ w.seen m i c
-shown_seen w m i c d = grind arith
 
 -- and so is a word that is shown
 pub shown_le : (g : Group) (V : Views) (w : World) (m i c : ℕ) → Faithful g V w → shown w m i c

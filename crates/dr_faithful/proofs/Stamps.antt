@@ -1,17 +1,14 @@
 -- An act stamps the beat word, and its cell in the own copy: the members stay faithful, and the words grow.
-use Rattle.std.proofs.Common.{arith, false, inl, le_of_eq, le_refl, refl, subst, sym, ℕ, ◌<◌, ◌^◌, ◌≡◌, ◌≢◌, ◌≤◌}
+use Rattle.std.proofs.Common.{arith, false, inl, le_of_eq, le_refl, refl, subst, sym, ℕ, ◌<◌, ◌^◌, ◌≡◌, ◌≤◌}
 use Rattle.dr_history.specs.Members.{has}
 use Rattle.dr_machine.specs.{Effects.{one_more, stamped_in}, Group.{Group, roster}, Run.{PastGrew, WordsGrew}}
-use Rattle.dr_machine.specs.{World.{Past, World}, Writes.{at₃, at₄}}
+use Rattle.dr_machine.{specs.{World.{Past, World}, Writes.at₃}, proofs.Worlds.{past_same, rises}}
+use Rattle.dr_machine.proofs.Writes.{at_case, at_same, at₃_case, at₄_case, other_row, own_beat}
 use Rattle.dr_faithful.specs.{Faithful.{AreOld, Faithful, IsLateBeat}, Tells.{Tells, Views}}
 use Rattle.dr_faithful.proofs.OwnWords.{IsPlain, accepts_word, counts_word, delivered_word, form_word, old_later, own_grown, suspicions_word, closed_stamped, fresh_stamped}
-use Rattle.dr_faithful.proofs.Pasts.{past_same, tells_beat, tells_later}
-use Rattle.dr_faithful.proofs.Writes.{at_case, at_same, at₃_case, at₄_case}
+use Rattle.dr_faithful.proofs.Pasts.{tells_beat, tells_later}
 use Rattle.dr_words.specs.{Form.IsInForm, Grown.HasGrown, declared.column.TheConstants.BEAT_COLUMN}
 use Rattle.dr_words.proofs.{Forms.{form_free, grown_free}, Order.{HasGrown_refl, HasGrown_same, HasGrown_trans}}
-
-rises : (a x : ℕ) → x ≤ a → a < 2 ^ 64 → (x ≤ one_more 64 a) × (one_more 64 a < 2 ^ 64)
-rises a x l b = (omega arith, omega arith)
 
 -- the own beat word takes the number of acts
 beat_grown : (g : Group) (V : Views) (w : World) (m b : ℕ) → Faithful g V w
@@ -49,13 +46,6 @@ stamp_grew g V w m b f = record {
       (w.past.own m b BEAT_COLUMN) (one_more 64 (w.past.acts m)) (f.old.in_table b m m 0) (beat_grown g V w m b f));
   seen = λ i k c e. HasGrown_refl (roster g) c (w.seen i k c);
 }
-
--- a word of another row than the own one in the own copy is as before
-other_row : (f : ℕ → ℕ → ℕ → ℕ → ℕ) (a b x v j i c : ℕ) → i ≢ j → at₄ f a b b 0 x v j i c ≡ f v j i c
-other_row f a b x v j i c d = grind arith
-
-own_beat : (f : ℕ → ℕ → ℕ → ℕ) (m v x : ℕ) → at₃ f m v 0 x m v 0 ≡ x
-own_beat f m v x = grind arith
 
 -- the words of the table are older ones still
 stamp_old : (g : Group) (V : Views) (w : World) (m b : ℕ) → Faithful g V w

@@ -1,34 +1,29 @@
 -- A member suspects another one: its whole row is written anew, and the members stay faithful.
-use Rattle.std.proofs.Common.{Bool, ◌==◌, ◌||◌, ap, arith, false, inl, inr, le_trans, refl, subst, sym, true, Some, ℕ, ◌+◌, ◌-◌, ◌<◌, ◌^◌, ◌∙◌, ◌≡◌, ◌≢◌, ◌≤◌, ◌⊎◌, le_refl}
-use Rattle.std.proofs.lemmas.Bool.{cases_eq}
-use Rattle.dr_entry.specs.declared.record.Vote.{Vote}
+use Rattle.std.proofs.Common.{Bool, ap, arith, false, inl, inr, le_trans, refl, subst, sym, true, Some, ℕ, ◌+◌, ◌-◌, ◌<◌, ◌^◌, ◌∙◌, ◌≡◌, ◌≢◌, ◌≤◌, ◌⊎◌, le_refl, ◌&&◌, not, None, Option}
+use Rattle.std.proofs.lemmas.{Bool.cases_eq, Option.none-some}
+use Rattle.dr_entry.specs.declared.record.{Value.Value, Vote.Vote}
+use Rattle.dr_entry.proofs.NumberFacts.{itself_or, one_before, before_or_behind}
 use Rattle.dr_history.{specs.{Members.has, Order.IsNewIn}, proofs.Bits.has_zero}
-use Rattle.dr_machine.specs.{Effects.suspects, Guards.{CanSuspect, IsNamable, IsOther, MayChoose, unsuspected_of}}
-use Rattle.dr_machine.specs.{Group.{Group, IsGroup, roster}, Run.{PastGrew, WordsGrew}, World.{Past, World, own_word}}
-use Rattle.dr_machine.{specs.Writes.{at, at₂}, proofs.Presence.in_roster}
+use Rattle.dr_machine.specs.{Acts.{CanTake, effect_of}, Effects.{suspects, vote_for}, World.{Past, World, own_word}}
+use Rattle.dr_machine.specs.{Group.{Group, IsGroup, roster}, declared.step.Step.TheVariants.{Do, LogVote, Join}}
+use Rattle.dr_machine.specs.{Guards.{CanSuspect, IsNamable, IsOther, MayChoose, unsuspected_of}, Writes.{at, at₂}}
+use Rattle.dr_machine.{specs.Run.WordsGrew, proofs.{Events.standing_after, Presence.in_roster}}
+use Rattle.dr_machine.{specs.declared.step.Step.Step, proofs.Writes.{at_case, at_other, at_same, at₂_case, at_both}}
+use Rattle.dr_machine.proofs.Worlds.{mask_after, promise_after, row_after, own_here, own_there, suspect_past, AreQuiet}
 use Rattle.dr_faithful.specs.Faithful.{AllGoOn, AreAccepts, AreCounts, AreSuspicions, Faithful, IsWaiting, Numbers}
 use Rattle.dr_faithful.specs.Tells.{SuspicionsTold, Tells, TellsSuspicion, Views, WordsTell}
 use Rattle.dr_faithful.proofs.{Beside.{in_view, none_outside}, OwnWords.{closed_written, fresh_written, old_later}}
-use Rattle.dr_faithful.proofs.Pasts.{same_past, tells_later, tells_recv, tells_accept, tells_suspected}
-use Rattle.dr_faithful.proofs.Writes.{at_case, at_other, at_same, at₂_case, at₂_read}
+use Rattle.dr_faithful.proofs.Pasts.{tells_later, tells_recv, tells_accept, tells_suspected}
 use Rattle.dr_words.specs.{Columns.recv_column, declared.column.TheConstants.{RECEIVED_COLUMN, SUSPECTED_COLUMN}}
-use Rattle.dr_words.{specs.Form.IsInForm, proofs.Accepts.accept_within}
-use Rattle.dr_words.specs.{Grown.HasGrown, Masks.{IsInRoster, IsLeastOf, IsPartOf, least_of, with_member, without}}
+use Rattle.dr_words.specs.{Form.IsInForm, Grown.HasGrown}
+use Rattle.dr_words.{specs.Masks.{IsInRoster, IsLeastOf, IsPartOf, least_of, without}, proofs.Accepts.accept_within}
 use Rattle.dr_words.specs.Packing.{accept_promise, accept_tag, accept_value, is_final, recv_count, recv_word}
 use Rattle.dr_words.{specs.Rewrites.{is_accept_of, wedged_word}, proofs.Order.{HasGrown_refl, HasGrown_trans}}
 use Rattle.dr_words.proofs.Masks.{IsSuspecting, has_with_member, has_without_mask, in_roster_small, least_of_is, left_rises, left_within, more_grows, more_has, more_named, more_trusted, without_small}
 use Rattle.dr_words.proofs.Rewrites.{recv_within, wedged_by, wedged_count, wedged_final, wedged_grown, wedged_in_form, wedged_promise, wedged_rest, wedged_tag, wedged_value}
+use Rattle.dr_machine.specs.declared.event.Act.TheVariants as acts
 
 -- ---- the mask and the promise
-
-abbrev pub mask_after : World → ℕ → ℕ → ℕ
-mask_after w m j = with_member (w.suspects m) j
-
-abbrev pub promise_after : World → ℕ → ℕ → ℕ
-promise_after w m j = least_of (without (w.members m) (mask_after w m j))
-
-abbrev pub row_after : Group → World → ℕ → ℕ → ℕ → ℕ
-row_after g w m j c = wedged_word (roster g) (w.members m) (mask_after w m j) (promise_after w m j) c (own_word w m c)
 
 -- whom a member names is of the roster
 pub named_in_roster : (g : Group) (V : Views) (w : World) (m : ℕ) → IsGroup g → Faithful g V w
@@ -92,9 +87,6 @@ suspecting g V w m j is can f = record {
       in_view g V w m f can.may.inside,
     ))
 
-itself_or : (j : ℕ) (b : Bool) → (j == j || b) ≡ true
-itself_or j b = grind arith
-
 -- somebody is named now
 pub mask_some : (g : Group) (V : Views) (w : World) (m j : ℕ) → IsGroup g → j < roster g
     → Faithful g V w → mask_after w m j ≢ 0
@@ -144,10 +136,6 @@ own_after g V w m j is can f = at₂_case (λ i v r. (c : ℕ) → HasGrown (ros
     (w.past.own i v c) (r c)) w.past.own m (w.past.view m)
     (row_after g w m j) (λ i v c. HasGrown_refl (roster g) c (w.past.own i v c)) (row_grown g V w m j is can f)
 
--- a suspicion is not what only grows
-pub suspect_past : (g : Group) (w : World) (m j : ℕ) → PastGrew w.past (suspects g w m j).past
-suspect_past g w m j = same_past w.past (suspects g w m j).past refl refl refl refl refl refl refl refl
-
 -- the words grow
 pub suspect_grew : (g : Group) (V : Views) (w : World) (m j : ℕ) → IsGroup g → MayName g V w m j
     → Faithful g V w → WordsGrew g w (suspects g w m j)
@@ -176,19 +164,6 @@ counts_suspected g V w m j is can f = record {
       m (w.past.view m) a u RECEIVED_COLUMN (omega arith) (omega arith) ∙ f.counts.received a u;
   few = f.counts.few;
 }
-
--- the own words of the member, and of the others, in their views
-own_here : (g : Group) (w : World) (m j c : ℕ) → (suspects g w m j).past.own m (w.past.view m) c ≡ row_after g w m j c
-own_here g w m j c = ap (λ r. r c) (at₂_read w.past.own m (w.past.view m) (row_after g w m j))
-
-own_there : (g : Group) (w : World) (m j i c : ℕ) → i ≢ m
-    → (suspects g w m j).past.own i (w.past.view i) c ≡ own_word w i c
-own_there g w m j i c d = ap (λ r. r (w.past.view i) c)
-    (at_other w.past.own m (at (w.past.own m) (w.past.view m) (row_after g w m j)) i d)
-
--- who is one more or was before, and is not the one more, was before
-one_before : (n j : ℕ) (b : Bool) → n ≢ j → (n == j || b) ≡ true → b ≡ true
-one_before n j b d e = grind (arith, d, e)
 
 -- whom the members suspect, and what they promise
 suspicions_suspected : (g : Group) (V : Views) (w : World) (m j : ℕ) → IsGroup g → MayName g V w m j → Faithful g V w
@@ -357,9 +332,6 @@ suspect_keeps g V w m j is can f = record {
 
 -- ---- what is told of suspicions
 
-before_or_behind : (v u : ℕ) → (v < u) ⊎ ((v ≡ u) ⊎ (u < v))
-before_or_behind v u = grind arith
-
 -- an own word with a final count is that of a member that suspects somebody there
 final_wedged : (g : Group) (V : Views) (w : World) (i v s : ℕ) → Faithful g V w → s < roster g
     → is_final (w.past.own i v (recv_column s)) ≡ true → w.past.own i v SUSPECTED_COLUMN ≢ 0
@@ -409,3 +381,50 @@ promise_least g V w m is f some = rw (f.suspicions.least m some, ← f.views.own
     (least_of_is (unsuspected_of w m) m (without_small (w.members m) (w.suspects m))
     (has_without_mask (w.members m) (w.suspects m) m (members_small g V w m is f)
     ∙ grind (arith, ap (λ k. has k m) (f.views.own m) ∙ f.suspicions.inside m some, f.suspicions.trusted m)))
+
+-- who is not suspected
+pub unsuspected_is : (g : Group) (V : Views) (w : World) (m i : ℕ) → IsGroup g → Faithful g V w
+    → has (unsuspected_of w m) i ≡ (has (w.members m) i && not (has (w.suspects m) i))
+unsuspected_is g V w m i is f = has_without_mask (w.members m) (w.suspects m) i (members_small g V w m is f)
+
+-- each step keeps it so
+pub step_quiet : (g : Group) (V : Views) (w : World) (m : ℕ) (s : Step) → IsGroup g → Faithful g V w
+    → CanTake g w m s → AreQuiet w → AreQuiet (effect_of g w m s)
+step_quiet g V w m (Do (acts.Suspect j)) is f can old = at_case (λ k mask. mask ≡ 0 → (w.pending k ≡ None)
+    × (w.committed k ≡ None)) w.suspects m (mask_after w m j)
+    (λ k d. old k) (λ none. absurd (mask_some g V w m j is (namable_within g V w m j is can.namable f) f none))
+step_quiet g V w m (Do acts.Propose) is f can old = at_case (λ k vote. w.suspects k ≡ 0 → (vote ≡ None)
+    × (w.committed k ≡ None)) w.pending m None (λ k d. old k) (λ calm. (refl, (old m calm).1))
+step_quiet g V w m (Do acts.Accept) is f can old = at_case (λ k vote. w.suspects k ≡ 0 → (vote ≡ None)
+    × (w.committed k ≡ None)) w.pending m None (λ k d. old k) (λ calm. (refl, (old m calm).1))
+step_quiet g V w m (Do acts.Commit) is f can old = at_case (λ k choice. w.suspects k ≡ 0 → (w.pending k ≡ None)
+    × (choice ≡ None)) w.committed m (Some (w.value m)) (λ k d. old k) (λ calm. absurd (can.wedged calm))
+step_quiet g V w m (Do acts.Finish) is f can old =
+    at_both (λ k (mask : ℕ) (choice : Option Value). mask ≡ 0 → (w.pending k ≡ None) × (choice ≡ None))
+    w.suspects w.committed m 0 None old (λ calm. (can.may.idle, refl))
+step_quiet g V w m (Do a) is f can old = old
+step_quiet g V w m (LogVote v) is f can old = at_case (λ k vote. w.suspects k ≡ 0 → (vote ≡ None)
+    × (w.committed k ≡ None)) w.pending m (Some (vote_for g w m v)) (λ k d. old k) (λ calm. absurd (can.wedged calm))
+step_quiet g V w m Join is f can old =
+    at_both (λ k (mask : ℕ) (choice : Option Value). mask ≡ 0 → (w.pending k ≡ None) × (choice ≡ None))
+    w.suspects w.committed m 0 None old (λ calm. (can.may.idle, refl))
+step_quiet g V w m s is f can old = old
+
+-- whoever has committed a value is wedged
+pub wedged_stay : (g : Group) (V : Views) (w : World) (m : ℕ) (s : Step) → IsGroup g → CanTake g w m s
+    → Faithful g V w → ((k : ℕ) (x : Value) → w.committed k ≡ Some x → w.suspects k ≢ 0)
+    → (k : ℕ) (x : Value) → (effect_of g w m s).committed k ≡ Some x → (effect_of g w m s).suspects k ≢ 0
+wedged_stay g V w m s is can f old = standing_after g w m s
+    (λ x. (k : ℕ) (y : Value) → x.committed k ≡ Some y → x.suspected k ≢ 0) can (record {
+      goes_on = λ can. at_both (λ k (mask : ℕ) (c : Option Value). (x : Value) → c ≡ Some x → mask ≢ 0)
+          w.suspects w.committed m 0 None old (λ x e. absurd (none-some x e));
+      joins = λ can. at_both (λ k (mask : ℕ) (c : Option Value). (x : Value) → c ≡ Some x → mask ≢ 0)
+          w.suspects w.committed m 0 None old (λ x e. absurd (none-some x e));
+      chooses = λ can. at_case (λ k (c : Option Value). (x : Value) → c ≡ Some x → w.suspects k ≢ 0)
+          w.committed m (Some (w.value m)) (λ k d. old k) (λ x e. can.wedged);
+      wedges = λ j can. at_case (λ k (mask : ℕ). (x : Value) → w.committed k ≡ Some x → mask ≢ 0) w.suspects m
+          (mask_after w m j) (λ k d. old k) (λ x e. mask_some g V w m j is
+          (namable_within g V w m j is can.namable f) f);
+      stops = λ end alive why. old;
+      stays = old;
+    })

@@ -1,41 +1,26 @@
 -- A member logs a vote, accepts what it has voted for, and commits it: the members stay faithful.
 use Rattle.std.{specs.Prelude.unwrap_or, proofs.lemmas.Bool.cases_eq}
-use Rattle.std.proofs.Common.{Bool, List, None, Some, [], ap, arith, false, inl, inr, le_refl, refl, slice_index, subst, sym, true, ℕ, ◌++◌, ◌+◌, ◌<◌, ◌^◌, ◌∙◌, ◌∷◌, ◌≡◌, ◌≢◌, ◌≤◌, ◌⊎◌}
-use Rattle.dr_entry.specs.declared.record.{Value.Value, Vote.Vote}
-use Rattle.dr_history.specs.{History.IsPrefixOf, Members.has}
-use Rattle.dr_machine.specs.{Effects.{accepts, commits, logs_vote, vote_for}, Group.{Group, IsGroup, roster}}
-use Rattle.dr_machine.specs.{Guards.{CanLogVote, IsInView, IsToAccept, IsToPropose}, Run.{PastGrew, WordsGrew}}
-use Rattle.dr_machine.specs.{World.{Past, World, no_vote, own_word, shown}, Writes.at}
+use Rattle.std.proofs.Common.{Bool, None, Some, ap, arith, false, inl, inr, le_refl, refl, slice_index, subst, sym, true, ℕ, ◌+◌, ◌<◌, ◌^◌, ◌∙◌, ◌≡◌, ◌≢◌, ◌≤◌, ◌⊎◌}
+use Rattle.dr_entry.{specs.declared.record.{Value.Value, Vote.Vote}, proofs.Records.FitsWords}
+use Rattle.dr_history.specs.Members.{has}
+use Rattle.dr_machine.specs.{Effects.{accepts, commits, logs_vote, vote_for}, Votes.{HasLogged, HasVoted, vote_in}}
+use Rattle.dr_machine.specs.{Group.{Group, IsGroup, roster}, Guards.{CanLogVote, IsInView, IsToAccept, IsToPropose}}
+use Rattle.dr_machine.specs.{Run.WordsGrew, World.{Past, World, no_vote, own_word, shown}, Writes.at}
+use Rattle.dr_machine.proofs.Voting.{vote_past, vote_waiting, accepted_row, plain_after, others_after, mine_after, accept_past, logged_before}
+use Rattle.dr_machine.proofs.{Worlds.{shown_own, shown_seen}, Writes.{at_case, at_other, at_same, at₂_case}}
 use Rattle.dr_faithful.specs.Faithful.{AreAccepts, AreCounts, AreSuspicions, Faithful, IsWaiting}
 use Rattle.dr_faithful.{specs.Tells.{Tells, Views, WordsTell}, proofs.{Acts.beside_keeps, Beside.in_view}}
-use Rattle.dr_faithful.proofs.{OwnWords.{closed_written, fresh_written, old_later}, Suspicions.named_in_roster}
-use Rattle.dr_faithful.proofs.Pasts.{past_same, prefix_refl, same_past, tells_accept, tells_later, words_later}
-use Rattle.dr_faithful.proofs.{Shown.{shown_own, shown_seen}, Writes.{at_case, at_other, at_same, at₂_case, at₂_read}}
-use Rattle.dr_words.specs.{Accepts.{Shows, part_of, promise_of, tag_of}, Changes.{IsFirstValue, IsLeastReceived}}
-use Rattle.dr_words.specs.{Columns.{leavers_column, recv_column, trim_column}, Rewrites.{accepted_word, is_accept_of}}
-use Rattle.dr_words.specs.{Form.IsInForm, Masks.without}
-use Rattle.dr_words.specs.{Grown.HasGrown, declared.column.TheConstants.{RECEIVED_COLUMN, SUSPECTED_COLUMN}}
-use Rattle.dr_words.{specs.Packing.{accept_promise, accept_tag, accept_value}, proofs.Order.HasGrown_refl}
-use Rattle.dr_words.proofs.{Accepts.{FitsWords, accept_within, leavers_accept}, Masks.in_roster_small}
-use Rattle.dr_words.proofs.Rewrites.{accepted_by, accepted_grown, accepted_in_form, accepted_promise, accepted_rest, accepted_tag, accepted_value}
+use Rattle.dr_faithful.proofs.OwnWords.{closed_written, fresh_written, old_later}
+use Rattle.dr_faithful.proofs.{Pasts.{tells_accept, tells_later, words_later}, Suspicions.named_in_roster}
+use Rattle.dr_words.specs.Accepts.{Shows, part_of, promise_of, tag_of}
+use Rattle.dr_words.specs.Changes.{IsFirstValue, IsLeastReceived, MayPropose}
+use Rattle.dr_words.specs.{Columns.{leavers_column, recv_column, trim_column}, Form.IsInForm, Grown.HasGrown}
+use Rattle.dr_words.specs.{Masks.without, Packing.{accept_promise, accept_tag, accept_value}, Rewrites.is_accept_of}
+use Rattle.dr_words.specs.declared.column.TheConstants.{RECEIVED_COLUMN, SUSPECTED_COLUMN}
+use Rattle.dr_words.proofs.{Accepts.{accept_within, leavers_accept}, Masks.in_roster_small, Order.HasGrown_refl}
+use Rattle.dr_words.proofs.Rewrites.{accepted_by, accepted_grown, accepted_in_form, accepted_promise, accepted_tag, accepted_value}
 
 -- ---- a vote
-
--- votes only grow
-pub vote_past : (g : Group) (w : World) (m : ℕ) (v : Value) → PastGrew w.past (logs_vote g w m v).past
-vote_past g w m v =
-    let same = past_same w.past in
-    let one : List Vote = vote_for g w m v ∷ [] in record {
-      view = same.view;
-      count = same.count;
-      sent = same.sent;
-      history = same.history;
-      log = same.log;
-      votes = at_case (λ i l. IsPrefixOf (w.past.votes i) l) w.past.votes m (w.past.votes m ++ one)
-          (λ i d. prefix_refl (w.past.votes i)) (one, refl);
-      durable = same.durable;
-      acts = same.acts;
-    }
 
 -- the own promise and tag, as the member's own row shows them
 pub own_promise : (g : Group) (V : Views) (w : World) (m : ℕ) → Faithful g V w
@@ -153,14 +138,6 @@ vote_keeps g V w m v is can f = record {
 
 -- ---- the row
 
--- the vote that waits
-abbrev pub vote_waiting : World → ℕ → Vote
-vote_waiting w m = unwrap_or (w.pending m) no_vote
-
-abbrev pub accepted_row : Group → World → ℕ → ℕ → ℕ
-accepted_row g w m c = accepted_word (roster g) (w.members m) ((vote_waiting w m).ballot + 1)
-    (vote_waiting w m).value c (own_word w m c)
-
 pub is_waiting : (g : Group) (V : Views) (w : World) (m : ℕ) (x : Vote) → w.pending m ≡ Some x
     → Faithful g V w → IsWaiting g (w.promise m) (w.tag m) (vote_waiting w m)
 is_waiting g V w m x e f =
@@ -216,26 +193,6 @@ own_after : (g : Group) (V : Views) (w : World) (m : ℕ) (x : Vote) → w.pendi
 own_after g V w m x e f = at₂_case (λ i v r. (c : ℕ) → HasGrown (roster g) c (w.past.own i v c) (r c)) w.past.own m
     (w.past.view m) (accepted_row g w m) (λ i v c. HasGrown_refl (roster g) c (w.past.own i v c))
     (λ c. row_grown g V w m c x e f)
-
--- columns before the accept words are as before
-pub plain_after : (g : Group) (w : World) (m i v c : ℕ) → c < recv_column (roster g)
-    → (accepts g w m).past.own i v c ≡ w.past.own i v c
-plain_after g w m i v c l = at₂_case (λ i v r. r c ≡ w.past.own i v c) w.past.own m
-    (w.past.view m) (accepted_row g w m) (λ i v. refl) (accepted_rest (roster g)
-    (w.members m) ((vote_waiting w m).ballot + 1) (vote_waiting w m).value c (own_word w m c) (inl l)) i v
-
--- and so are the words of others
-others_after : (g : Group) (w : World) (m i c : ℕ) → i ≢ m
-    → (accepts g w m).past.own i (w.past.view i) c ≡ own_word w i c
-others_after g w m i c d = ap (λ r. r (w.past.view i) c)
-    (at_other w.past.own m (at (w.past.own m) (w.past.view m) (accepted_row g w m)) i d)
-
-mine_after : (g : Group) (w : World) (m c : ℕ) → (accepts g w m).past.own m (w.past.view m) c ≡ accepted_row g w m c
-mine_after g w m c = ap (λ r. r c) (at₂_read w.past.own m (w.past.view m) (accepted_row g w m))
-
--- an acceptance is not what only grows
-pub accept_past : (g : Group) (w : World) (m : ℕ) → PastGrew w.past (accepts g w m).past
-accept_past g w m = same_past w.past (accepts g w m).past refl refl refl refl refl refl refl refl
 
 -- the words grow
 pub accept_grew : (g : Group) (V : Views) (w : World) (m : ℕ) (x : Vote) → w.pending m ≡ Some x
@@ -372,3 +329,23 @@ accept_keeps g V w m x is inside e f = record {
 -- and nothing of this changes where a value is committed
 pub commit_keeps : (g : Group) (V : Views) (w : World) (m : ℕ) → Faithful g V w → Faithful g V (commits w m)
 commit_keeps g V w m f = beside_keeps g V w w.turns w.end (commits w m).committed f
+
+-- the promise of a proposer is to itself
+pub proposer : (g : Group) (V : Views) (w : World) (m : ℕ) → Faithful g V w
+    → MayPropose (roster g) (shown w m) (w.members m) (w.suspects m) m → w.promise m ≡ m
+proposer g V w m f may = sym (own_promise g V w m f) ∙ may.promised
+
+-- a vote of an unsuspected member is old, or by the new ballot
+pub old_or_new : (g : Group) (V : Views) (w : World) (m i b : ℕ) (v y : Value) → Faithful g V w
+    → MayPropose (roster g) (shown w m) (w.members m) (w.suspects m) m
+    → HasVoted g (logs_vote g w m v).past.votes i (w.past.view m) b y
+    → HasVoted g w.past.votes i (w.past.view m) b y ⊎ (m ≤ b)
+old_or_new g V w m i b v y f may h =
+    by (logged_before w.past.votes m (vote_for g w m v) i (vote_in g (w.past.view m) b y) h)
+  where
+    by : HasLogged w.past.votes i (vote_in g (w.past.view m) b y)
+        ⊎ ((i ≡ m) × (vote_in g (w.past.view m) b y ≡ vote_for g w m v))
+        → HasVoted g w.past.votes i (w.past.view m) b y ⊎ (m ≤ b)
+    by (inl old) = inl old
+    by (inr t) =
+        let ballot : b ≡ w.promise m = ap (λ z. z.ballot) t.1 in inr (omega (arith, ballot, proposer g V w m f may))

@@ -1,30 +1,15 @@
 -- Each step that a replica allows keeps its form, and lets no word fall.
-use Rattle.std.proofs.Common.{◌≡◌, ℕ, ◌<◌, ◌&&◌, not, true, nat_lt, refl}
-use Rattle.std.proofs.lemmas.Bool.{and_parts, ltb-true, not-true}
+use Rattle.std.proofs.{Common.{◌≡◌, ℕ, ◌&&◌, not, true, refl}, lemmas.Bool.{and_parts, not-true}}
+use Rattle.dr_entry.proofs.Records.{none_waits}
 use Rattle.dr_history.specs.Members.{has}
 use Rattle.dr_rows.specs.Words.{seen}
-use Rattle.dr_words.{specs.{Columns.columns_of, Form.IsInForm, Grown.HasGrown}, proofs.Order.Grown_refl}
+use Rattle.dr_words.{specs.{Form.IsInForm, Grown.HasGrown}, proofs.Order.Grown_refl}
 use Rattle.dr_machine.specs.declared.step.Step.{Step, TheVariants.{Append, Do, LogVote, Look, Push, Welcome}}
-use Rattle.dr_program.specs.{Form.HasForm, Replica.{Replica, is_inside, is_other, may_append, may_vote}}
+use Rattle.dr_program.specs.{Form.HasForm, Replica.{Replica, is_inside, may_append, may_vote}}
 use Rattle.dr_program.specs.Steps.{AtLook, NoWordFell, allows, has_cell, is_free, stepped}
-use Rattle.dr_form.proofs.{Accepting.voted_form, Finishing.{gave_form, none_waits}}
-use Rattle.dr_form.proofs.Keeps.{appended_keeps, looked_keeps, looked_rises, pushed_keeps, taken_grown, taken_keeps}
-
--- a cell that a step names: another member's row, and a column
-pub record IsCell (r : Replica) (i c : ℕ) : Type 0 where
-  pub row : i < r.roster
-  pub other : is_other r i ≡ true
-  pub column : c < columns_of r.roster r.window
-
-pub cell : (r : Replica) (i c : ℕ) → has_cell r i c ≡ true → IsCell r i c
-cell r i c e =
-    let two = and_parts (nat_lt i r.roster) (is_other r i && nat_lt c (columns_of r.roster r.window)) e in
-    let three = and_parts (is_other r i) (nat_lt c (columns_of r.roster r.window)) two.1 in
-    record {
-      row = ltb-true i r.roster two.0;
-      other = three.0;
-      column = ltb-true c (columns_of r.roster r.window) three.1;
-    }
+use Rattle.dr_program.proofs.{Accepting.voted_form, Finishing.gave_form}
+use Rattle.dr_program.proofs.{Keeps.{appended_keeps, looked_keeps, looked_rises, pushed_keeps}, Replicas.cell}
+use Rattle.dr_form.proofs.Keeps.{taken_grown, taken_keeps}
 
 -- a replica keeps its form over a step that it allows, where a word that it sees is in form
 pub stepped_form : (word : ℕ) (r : Replica) (s : Step) → HasForm r → allows r s ≡ true

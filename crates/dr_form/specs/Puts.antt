@@ -1,9 +1,9 @@
 -- What a replica may put next.
 use Rattle.std.specs.Prelude.{◌≡◌, ◌<◌, false, [], ◌∷◌, ◌++◌, length}
-use Rattle.dr_entry.specs.declared.{end.SentItem.SentItem, entry.Item.Item}
+use Rattle.dr_entry.{specs.declared.{end.SentItem.SentItem, entry.Item.Item}, proofs.Fields.IsItem}
 use Rattle.dr_machine.specs.Sending.{IsPut}
 use Rattle.dr_program.specs.Replica.{Replica, me, count, greatest, is_wedged}
-use Rattle.dr_ring.{specs.Slots.IsFree, proofs.Items.IsItem}
+use Rattle.dr_ring.specs.Slots.{IsFree}
 
 -- it may put this item under this name
 pub record MayPut (r : Replica) (name : SentItem) (item : Item) : Type 0 where

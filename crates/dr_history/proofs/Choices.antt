@@ -2,7 +2,7 @@
 use Rattle.std.proofs.Common.{◌≡◌, ℕ, zero, suc, ◌<◌, ◌≤◌, Bool, true, false, refl, sym, ap, ◌∙◌, ◌⊎◌, inl, inr, arith, map, fold, min, if◌then◌else◌, max, subst, ◌^◌}
 use Rattle.std.proofs.lemmas.Bool.{cases_lt}
 use Rattle.dr_entry.proofs.{ListFacts.{one_min, one_max}, NumberFacts.last_or_below}
-use Rattle.dr_history.{specs.Members.{has, members_below}, proofs.Histories.none_above}
+use Rattle.dr_history.{specs.Members.{has, members_below}, proofs.Masks.none_above}
 
 pub min_below : (f : ℕ → ℕ) (mask a i n : ℕ) → i < n → has mask i ≡ true
     → fold min a (map f (members_below mask n)) ≤ f i

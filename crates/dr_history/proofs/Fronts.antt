@@ -1,7 +1,9 @@
 -- The front of counts as the first place that holds no item.
-use Rattle.std.{specs.Option.option_map_or, proofs.{Math.Nat.mul-div_cancel_left, lemmas.Option.slice_get-get_or}}
-use Rattle.std.proofs.Common.{◌≡◌, ℕ, zero, suc, ◌+◌, ◌*◌, ◌/◌, ◌%◌, ◌<◌, ◌≤◌, Bool, true, false, not, max, cond, ◌==◌, List, [], length, fold, slice_index, nat_lt, refl, sym, subst, arith, mod-lt, ap, get_or}
-use Rattle.dr_entry.{specs.declared.end.MemberEnd.MemberEnd, proofs.ListPlaces.count_max}
+use Rattle.std.specs.{List.range_with_len, Option.option_map_or}
+use Rattle.std.proofs.Common.{◌≡◌, ℕ, zero, suc, ◌+◌, ◌*◌, ◌/◌, ◌%◌, ◌<◌, ◌≤◌, Bool, true, false, not, max, cond, ◌==◌, List, [], length, fold, slice_index, nat_lt, refl, sym, subst, arith, mod-lt, ap, get_or, le_refl, map, ◌∙◌, ◌∷◌, set}
+use Rattle.std.proofs.{Math.Nat.mul-div_cancel_left, lemmas.{List.{get_or-map, length-map}, Option.slice_get-get_or}}
+use Rattle.std.proofs.lemmas.List.FromFn.{get_or-map-range_with_len, length-map-range_with_len}
+use Rattle.dr_entry.{specs.declared.end.MemberEnd.MemberEnd, proofs.{ListFacts.counts_rise, ListPlaces.count_max}}
 use Rattle.dr_history.specs.{Agreement.accounts_of, Places.{is_held, IsFront, first, front_of, AllHeldBelow}}
 use Rattle.dr_history.proofs.FrontLemmas.{IsFront-least, IsFront-monotone, IsFront-only, is_held-below}
 
@@ -119,3 +121,44 @@ pub front_reached : (counts : List ℕ) (p : ℕ) → 0 < length counts → AllH
     → is_held counts p ≡ false → p ≡ front_of counts
 front_reached counts p some all gap =
     front_only counts p some (IsFront-least counts p some (λ q below. is_held-below counts p q some all below) gap)
+
+-- where no count falls the front of a view does not fall
+pub fronts_rise : (old new : ℕ → ℕ) (ms : List ℕ) → ((s : ℕ) → old s ≤ new s)
+    → front_of (map old ms) ≤ front_of (map new ms)
+fronts_rise old new [] more = le_refl (front_of [])
+fronts_rise old new (m ∷ ms) more =
+    let all : List ℕ = m ∷ ms in
+    front_more (map old all)
+    (map new all) (omega (arith, length-map all new)) (length-map all old ∙ sym (length-map all new)) (λ i l.
+    let within : i < length all = omega (arith, l, length-map all new) in
+    rw (get_or-map old all i 0 0 within, get_or-map new all i 0 0 within) (more (get_or all i 0)))
+
+-- nor does the front of the members' counts
+pub front_rises : (members counts : List ℕ) (s c : ℕ) → 0 < length members → s < length counts → get_or counts s 0 ≤ c
+    → front_of (map (slice_index counts) members) ≤ front_of (map (slice_index (set counts s c)) members)
+front_rises members counts s c some within le =
+    let old = length-map members (slice_index counts) in
+    let new = length-map members (slice_index (set counts s c)) in
+    front_more (map (slice_index counts) members) (map (slice_index (set counts s c)) members)
+    (omega (arith, new)) (old ∙ sym new) (λ i l.
+    let before = get_or-map (slice_index counts) members i 0 0 (omega (arith, new)) in
+    let after = get_or-map (slice_index (set counts s c)) members i 0 0 (omega (arith, new)) in
+    omega (arith, before, after, counts_rise counts s c (get_or members i 0) within le))
+
+-- a place is before the front where all places up to it are held
+pub front_past : (f : ℕ → ℕ) (n p : ℕ) → 0 < n
+    → ((k s : ℕ) → s < n → k * n + s ≤ p → k < f s) → p < front_of (map f (range_with_len 0 n))
+front_past f n p some held = omega (arith, (front_is counts (rw len some)).greatest (p + 1) all)
+  where
+    counts : List ℕ
+    counts = map f (range_with_len 0 n)
+
+    len : length counts ≡ n
+    len = length-map-range_with_len f 0 n
+
+    all : AllHeldBelow counts (p + 1)
+    all rank k l below =
+        let within : rank < n = omega (arith, l, len) in
+        let place : k * n + rank < p + 1 = subst (λ (z : ℕ). k * z + rank < p + 1) len below in
+        rw (get_or-map-range_with_len f 0 n rank rank 0 within (omega arith))
+        (held k rank within (omega (arith, place)))

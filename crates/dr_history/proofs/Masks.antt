@@ -1,9 +1,10 @@
 -- Masks of the members that pass a test.
 use Rattle.std.specs.{Int.bit_at, List.filter}
-use Rattle.std.proofs.Common.{ℕ, ◌+◌, ◌≤◌, arith, length, ◌≡◌, ◌*◌, ◌^◌, ◌<◌, ◌==◌, Bool, true, false, ap, ◌∙◌, if◌then◌else◌, ◌-◌, suc, ◌&&◌, nat_lt, ◌⊎◌, inl, inr, ◌≢◌, refl, zero, ◌||◌, [], ◌∷◌, sym}
+use Rattle.std.proofs.Common.{ℕ, ◌+◌, ◌≤◌, arith, length, ◌≡◌, ◌*◌, ◌^◌, ◌<◌, ◌==◌, Bool, true, false, ap, ◌∙◌, if◌then◌else◌, ◌-◌, suc, ◌&&◌, nat_lt, ◌⊎◌, inl, inr, ◌≢◌, refl, zero, ◌||◌, [], ◌∷◌, sym, List, ◌++◌}
 use Rattle.std.proofs.lemmas.{Bool.{cases_lt, cases_eq}, List.Elements.filter-append}
 use Rattle.std.proofs.lemmas.Nat.Bits.{bit_at_cat_low, bit_at_above, bit_at_cat_high, bit_at-lt, same_from_bits}
-use Rattle.dr_entry.proofs.{ListFacts.{among, among_append}, ListParts.one, NumberFacts.more_small}
+use Rattle.dr_entry.proofs.{BoolFacts.further, ListFacts.{among, among_append}, ListParts.one}
+use Rattle.dr_entry.proofs.NumberFacts.{more_small, phase, total}
 use Rattle.dr_history.{specs.Members.{members_below, has, members_of}, proofs.Bits.has_zero}
 
 pub none : (all one other : ℕ) → length (members_below one 0) + length (members_below other 0)
@@ -99,3 +100,52 @@ pub members_kept : (p : ℕ → Bool) (all part : ℕ) → ((i : ℕ) → has pa
     → members_of part ≡ filter p (members_of all)
 unfolding members_of
 members_kept p all part each = below p all part each 16
+
+-- whoever is in a mask of 16 bits is below 16
+pub below_sixteen : (mask x n : ℕ) → mask < 2 ^ 16 → 16 ≤ n → has mask x ≡ true → x < n
+below_sixteen mask x n small all there = by (cases x)
+  where
+    cases : (x : ℕ) → (x < 16) ⊎ (16 ≤ x)
+    cases x = grind arith
+
+    by : (x < 16) ⊎ (16 ≤ x) → x < n
+    by (inl less) = omega (arith, less, all)
+    by (inr more) = absurd (grind (arith, bit_at_above mask 16 x small more, there))
+
+-- and whoever is not below it is not in the mask
+pub none_above : (mask x : ℕ) → mask < 2 ^ 16 → 16 ≤ x → has mask x ≡ false
+none_above mask x small more = ap (λ n. n == 1) (bit_at_above mask 16 x small more)
+
+-- one view on they are farther, where there are others in it
+pub total_rises : (named : ℕ → Bool) (was now : ℕ) → ((s : ℕ) → has was s ≡ true → named s ≡ true)
+    → ((s : ℕ) → has now s ≡ true → (has was s ≡ true) ⊎ (named s ≡ false)) → (n : ℕ) → (total named
+    (has was) n ≤ total (λ s. has now s || named s) (has now) n) × ((members_below now n ≡ members_below was n)
+    ⊎ (total named (has was) n < total (λ s. has now s || named s) (has now) n))
+unfolding members_below total
+total_rises named was now holds comes zero = let e : 0 ≤ 0 = omega arith in (e, inl refl)
+total_rises named was now holds comes (suc n) = by (total_rises named was now holds comes n)
+    (further (named n) (has was n) (has now n) (holds n) (comes n))
+  where
+    old : ℕ
+    old = total named (has was) n
+
+    new : ℕ
+    new = total (λ s. has now s || named s) (has now) n
+
+    step : ℕ
+    step = phase (named n) (has was n)
+
+    stride : ℕ
+    stride = phase (has now n || named n) (has now n)
+
+    by : (old ≤ new) × ((members_below now n ≡ members_below was n) ⊎ (old < new))
+        → (step ≤ stride) × ((has now n ≡ has was n) ⊎ (step < stride)) → (old + step ≤ new + stride)
+        × ((members_below now n ++ (if has now n then n ∷ [] else [])
+        ≡ members_below was n ++ (if has was n then n ∷ [] else [])) ⊎ (old + step < new + stride))
+    by (most, inl same) (more, inl alike) = (
+      omega (arith, most, more),
+      inl (ap (λ (xs : List ℕ). xs ++ (if has now n then n ∷ [] else [])) same
+          ∙ ap (λ (b : Bool). members_below was n ++ (if b then n ∷ [] else [])) alike),
+    )
+    by (most, inl same) (more, inr less) = (omega (arith, most, more), inr (omega (arith, most, less)))
+    by (most, inr less) (more, either) = (omega (arith, most, more), inr (omega (arith, less, more)))

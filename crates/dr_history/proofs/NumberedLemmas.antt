@@ -7,8 +7,9 @@ use Rattle.std.proofs.lemmas.List.{Elements.filter-append, FromFn.{length-enumer
 use Rattle.std.proofs.lemmas.Option.{slice_get_within, get_or_from_slice_get, slice_get-get_or, slice_get_cases}
 use Rattle.dr_entry.{specs.declared.entry.Entry.{Entry, TheVariants.{View, Msg}}, proofs.ListPlaces.take_read}
 use Rattle.dr_entry.proofs.NumberFacts.{other_number}
-use Rattle.dr_history.specs.{History.{messages_of, IsPrefixOf}, Order.{messages_from, numbered_messages}}
-use Rattle.dr_history.{specs.{Soundness.{MayStand, Sound}, declared.opening.Opening.Opening}, proofs.Orders.Counts}
+use Rattle.dr_history.specs.History.{messages_of, IsPrefixOf}
+use Rattle.dr_history.specs.{Order.{messages_from, numbered_messages, first_entries}, Soundness.{MayStand, Sound}}
+use Rattle.dr_history.{specs.declared.opening.Opening.Opening, proofs.Orders.Counts}
 
 -- a sender's messages in two histories one behind the other are those of the one and then those of
 -- the other
@@ -171,3 +172,14 @@ passed_message counts new es more e s f i b all on is at past after =
 pub counted_view : (counts new : List ℕ) (es more : List Entry) (e : Entry) (a n m : ℕ)
     → Counts counts es → more ≡ es ++ e ∷ [] → e ≡ View a n m → new ≡ counts → Counts new more
 counted_view counts new es more e a n m all on is after = rw (after, on, is) (counts_view counts es a n m all)
+
+-- one more message of a sender
+pub length-pushed : (s : ℕ) (es fs : List Entry) (i : ℕ) (b : List ℕ) → fs ≡ es ++ Msg s i b ∷ []
+    → length (messages_from s fs) ≡ length (messages_from s es) + 1
+length-pushed s es fs i b e = ap (λ gs. length (messages_from s gs)) e ∙
+    (ap length (messages_from-Msg s es i b) ∙ length-append (messages_from s es) (Msg s i b ∷ []))
+
+-- the first entries have the messages of the start
+pub start_messages : (o : Opening) (s : ℕ)
+    → length (messages_from s (first_entries o)) ≡ length (messages_from s o.start)
+start_messages o s = ap length (messages_from-View s o.start o.age 0 o.members)

@@ -1,11 +1,12 @@
 -- Places of items, and which of them are held.
-use Rattle.std.{specs.List.Sorted.IsStrictlyIncreasing, proofs.lemmas.Bool.{ltb-true, cases_eq}}
-use Rattle.std.proofs.Common.{◌≡◌, ℕ, ◌+◌, ◌-◌, ◌*◌, ◌<◌, false, List, length, arith, ◌/◌, ◌%◌, ◌≤◌, subst, slice_index, ◌^◌, ◌⊎◌, inl, inr, max, fold, refl, replicate, map, true, get_or, ap, ◌∙◌}
+use Rattle.std.{specs.List.{position, Sorted.IsStrictlyIncreasing}, proofs.lemmas.Bool.{ltb-true, cases_eq}}
+use Rattle.std.proofs.Common.{◌≡◌, ℕ, ◌+◌, ◌-◌, ◌*◌, ◌<◌, false, List, length, arith, ◌/◌, ◌%◌, ◌≤◌, subst, slice_index, ◌^◌, ◌⊎◌, inl, inr, max, fold, refl, replicate, map, true, get_or, ap, ◌∙◌, sym, nat_lt, [], ◌∷◌, Some, slice_get, mod-lt, ◌==◌}
 use Rattle.std.proofs.{Math.Nat.{add-mul-div_right, add-mul-mod_self_right}, lemmas.List.{get_or-map, length-map}}
 use Rattle.std.proofs.lemmas.{List.Kept.IsStrictlyIncreasing-filter, Nat.{mod_below, div-add-mod', le-div}}
-use Rattle.dr_entry.proofs.{ListFacts.fold_max_within, ListPlaces.copy_at}
+use Rattle.dr_entry.proofs.{ListFacts.fold_max_within, ListPlaces.{copy_at, slice_get-some}}
 use Rattle.dr_entry.proofs.NumberFacts.{IsStrictlyIncreasing-range_with_len, below_product}
-use Rattle.dr_history.specs.Places.{is_held, held_places, front_of, first}
+use Rattle.dr_history.{specs.History.{IsPrefixOf, GroupView, Sent, place_in}, proofs.Lists.position-more}
+use Rattle.dr_history.{specs.Places.{is_held, held_places, front_of, first, place_of}, proofs.Merging.is_held-member}
 
 -- where a place isn't held, the same rank's place some rounds later isn't
 not_held_later : (counts : List ℕ) (p rounds : ℕ) → 0 < length counts → is_held counts p ≡ false
@@ -104,3 +105,18 @@ none_to trims from p before here q after below = elim (cases_eq q p) [
   | inl same ↦ ap (is_held trims) same ∙ here
   | inr other ↦ before q after (omega (arith, below, other))
 ]
+
+-- the member of a held place, of whom more items were received
+pub held_member : (received : ℕ → ℕ) (ms : List ℕ) (q : ℕ) → is_held (map received ms) q ≡ true
+    → (s : ℕ) × (slice_get ms (q % length ms) ≡ Some s) × (q / length ms < received s)
+held_member received [] q e = absurd (grind (arith, e))
+held_member received (m ∷ ms) q e =
+    let at = slice_get-some (m ∷ ms) (q % length (m ∷ ms)) (mod-lt q (omega arith)) in
+    let test : nat_lt (q / length (m ∷ ms)) (received at.0)
+    ≡ true = sym (is_held-member received (m ∷ ms) q at.0 at.1) ∙ e in
+    (at.0, at.1, grind (arith, test))
+
+pub place_in-more : (sent now : Sent) (v : GroupView) (s i p : ℕ) → IsPrefixOf (sent s v.number) (now s v.number)
+    → place_in sent v s i ≡ Some p → place_in now v s i ≡ Some p
+place_in-more sent now v s i p pre e = position-more (position (λ m. m == s) v.members)
+    (place_of (length v.members)) _ (sent s v.number) (now s v.number) p pre e

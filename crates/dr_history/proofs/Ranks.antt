@@ -3,7 +3,7 @@ use Rattle.std.{specs.{Int.{bit_at, trailing_zeros}, List.{count_by, sum_by}}, p
 use Rattle.std.proofs.Common.{◌≡◌, ℕ, suc, ◌+◌, ◌-◌, true, false, Bool, refl, ap, ◌∙◌, [], ◌∷◌, length, if◌then◌else◌, length-append, zero, ◌/◌, ◌%◌, ◌^◌, sym, arith, count_ones, ◌<◌, ◌⊎◌, inl, inr, ◌++◌, slice_get, Some, ◌≤◌, get_or, cond, subst, List, w16, None, ◌*◌, bit_and, ◌&&◌, ap₂}
 use Rattle.std.proofs.lemmas.List.{get_or_append_left, get_or-append_right, Sums.{sum_by-append, sum_by-cons}}
 use Rattle.std.proofs.lemmas.{Nat.{and_mask, one_shl, Bits.bit_at-trailing_zeros}, Option.slice_get_within}
-use Rattle.dr_entry.proofs.{ListPlaces.{seam, front}, NumberFacts.{ones_bit, ones_split, ones_one}}
+use Rattle.dr_entry.proofs.{ListPlaces.{seam, get_more}, NumberFacts.{ones_bit, ones_split, ones_one, one}}
 use Rattle.dr_history.{specs.Members.{has, members_below, members_of}, proofs.Bits.has_zero}
 
 -- below n + 1 there is one more where n is a member
@@ -53,7 +53,7 @@ at_rank_below m k (suc n) l h = by (last_or_below k n l) (at_rank_below m k n)
         → slice_get (members_below m n) (length (members_below m k)) ≡ Some k)
         → slice_get (members_below m n ++ (if has m n then n ∷ [] else [])) (length (members_below m k)) ≡ Some k
     by (inl e) rest = rw (← e, h) (seam (members_below m k) k)
-    by (inr p) rest = front (members_below m n) (if has m n then n ∷ [] else [])
+    by (inr p) rest = get_more (members_below m n) (if has m n then n ∷ [] else [])
         (length (members_below m k)) k (rest p h)
 
 -- a member of the mask stands at its rank in the list of all
@@ -154,3 +154,67 @@ count_below p m k (suc n) same = length-members_below_suc k n ∙ ap₂ (λ (x :
     by true b e = ap (λ (x : ℕ). count_by p (members_below m n) + x)
         (sym (sum_by-cons (λ x. cond (p x) 1 0) n [] ∙ ap (λ c. cond c 1 0 + 0) e ∙ omega arith))
     by false b e = refl
+
+-- where each member counts for no more, and one for less, all do: of a mask once, of another twice
+falls : (a p b q i n : ℕ) → ((k : ℕ) → one (has a k) + 2 * one (has p k) ≤ one (has b k) + 2 * one (has q k))
+    → length (members_below a n) + 2 * length (members_below p n)
+    ≤ length (members_below b n) + 2 * length (members_below q n)
+unfolding members_below
+falls a p b q i zero each = omega arith
+falls a p b q i (suc n) each = omega (
+  arith,
+  length-members_below_suc a n,
+  length-members_below_suc p n,
+  length-members_below_suc b n,
+  length-members_below_suc q n,
+  falls a p b q i n each,
+  each n,
+)
+
+pub falls-less : (a p b q i n : ℕ) → ((k : ℕ) → one (has a k) + 2 * one (has p k) ≤ one (has b k) + 2 * one (has q k))
+    → one (has a i) + 2 * one (has p i) < one (has b i) + 2 * one (has q i) → i < n
+    → length (members_below a n) + 2 * length (members_below p n)
+    < length (members_below b n) + 2 * length (members_below q n)
+unfolding members_below
+falls-less a p b q i zero each less l = absurd (omega (arith, l))
+falls-less a p b q i (suc n) each less l = by (cases_lt i n) (falls-less a p b q i n each less)
+  where
+    here : i ≡ n → one (has a n) + 2 * one (has p n) < one (has b n) + 2 * one (has q n)
+    here e = subst (λ k. one (has a k) + 2 * one (has p k) < one (has b k) + 2 * one (has q k)) e less
+
+    by : (i < n) ⊎ (n ≤ i) → (i < n → length (members_below a n) + 2 * length (members_below p n)
+        < length (members_below b n) + 2 * length (members_below q n))
+        → length (members_below a (suc n)) + 2 * length (members_below p (suc n))
+        < length (members_below b (suc n)) + 2 * length (members_below q (suc n))
+    by (inl less) rest = omega (
+      arith,
+      length-members_below_suc a n,
+      length-members_below_suc p n,
+      length-members_below_suc b n,
+      length-members_below_suc q n,
+      rest less,
+      each n,
+    )
+    by (inr last) rest = omega (
+      arith,
+      length-members_below_suc a n,
+      length-members_below_suc p n,
+      length-members_below_suc b n,
+      length-members_below_suc q n,
+      falls a p b q i n each,
+      here (omega (arith, last, l)),
+    )
+
+-- at first all members of the first view, and all late ones twice
+pub sums : (a p b n : ℕ) → ((k : ℕ) → one (has a k) + one (has p k) ≤ one (has b k))
+    → length (members_below a n) + length (members_below p n) ≤ length (members_below b n)
+unfolding members_below
+sums a p b zero each = omega arith
+sums a p b (suc n) each = omega (
+  arith,
+  length-members_below_suc a n,
+  length-members_below_suc p n,
+  length-members_below_suc b n,
+  sums a p b n each,
+  each n,
+)

@@ -1,15 +1,15 @@
 -- How many messages of a member are laid, and so the index of the message at the next place.
 use Rattle.std.proofs.Common.{◌≡◌, refl, ap, sym, ◌∙◌, ◌⊎◌, inl, inr, ℕ, zero, suc, ◌+◌, ◌/◌, ◌%◌, arith, List, [], ◌∷◌, ◌++◌, length, take, Some, slice_get, length-append, None, Option, ◌<◌}
 use Rattle.std.proofs.lemmas.{Bool.{cases_eq, ne_eqb}, Option.{none-some, slice_get_within, same_Some}}
-use Rattle.dr_entry.specs.declared.{end.SentItem.{SentItem, TheVariants.{Null, Index}}, entry.Entry.Entry}
-use Rattle.dr_entry.specs.declared.entry.Entry.TheVariants.{Msg}
+use Rattle.dr_entry.specs.declared.{end.SentItem.{SentItem, TheVariants.{Null, Index}}, entry.Entry.TheVariants.Msg}
+use Rattle.dr_entry.{specs.declared.entry.Entry.Entry, proofs.ListPlaces.{Contains-slice_get, slice_get-some}}
+use Rattle.dr_entry.proofs.{ListFacts.AreDistinct, NumberFacts.{LieBelow, lie_none, lie_same, lie_next, lie_more}}
 use Rattle.dr_history.specs.{History.{GroupView, Sent, messages_of, messages_in, item_at}, Order.messages_from}
 use Rattle.dr_history.specs.declared.opening.Opening.{Opening}
-use Rattle.dr_history.proofs.NumberedLemmas.{messages_from-append, messages_from-other, messages_from-Msg}
-use Rattle.dr_history_laws.{specs.Laid.{laid, GoesOn}, proofs.Lists.{Contains-slice_get, slice_get-some}}
-use Rattle.dr_history_laws.proofs.Indices.{messages_in-past, item_at-of_parts, messages_in-null, messages_in-message, item_at-parts}
-use Rattle.dr_history_laws.proofs.{LaidLemmas.{laid-none, laid-absent, laid-null, laid-message}, Members.AreDistinct}
-use Rattle.dr_history_laws.proofs.Places.{LieBelow, lie_none, lie_same, lie_next, lie_more}
+use Rattle.dr_history.proofs.Indices.{messages_in-past, item_at-of_parts, messages_in-null, messages_in-message, item_at-parts}
+use Rattle.dr_history.proofs.NumberedLemmas.{messages_from-append, messages_from-other, length-pushed}
+use Rattle.dr_history_laws.specs.Laid.{laid, GoesOn}
+use Rattle.dr_history_laws.proofs.LaidLemmas.{laid-none, laid-absent, laid-null, laid-message}
 
 -- the bytes that the script has for a message at a place
 pub bytes_at : (o : Opening) (sent : Sent) (h : List Entry) (v : GroupView) (p s i : ℕ) → GoesOn o sent h v
@@ -23,12 +23,6 @@ bytes_at o sent h v p s i goes e =
 abbrev pub Counted : Opening → Sent → GroupView → ℕ → ℕ → ℕ → Type 0
 Counted o sent v rank s p = (k : ℕ) × LieBelow (length v.members) rank p k ×
     (length (messages_from s (laid o sent v p)) ≡ messages_in (take k (sent s v.number)))
-
--- one more message of a sender
-length-pushed : (s : ℕ) (es fs : List Entry) (i : ℕ) (b : List ℕ) → fs ≡ es ++ Msg s i b ∷ []
-    → length (messages_from s fs) ≡ length (messages_from s es) + 1
-length-pushed s es fs i b e = ap (λ gs. length (messages_from s gs)) e ∙
-    (ap length (messages_from-Msg s es i b) ∙ length-append (messages_from s es) (Msg s i b ∷ []))
 
 -- a place of another rank
 counted_other : (o : Opening) (sent : Sent) (h : List Entry) (v : GroupView) (rank s p t : ℕ)

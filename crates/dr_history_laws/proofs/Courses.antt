@@ -1,17 +1,17 @@
 -- Histories that have come to places of the views of an age: they are in order, of two of them one is a
 -- prefix of the other, and they stay when more is sent.
-use Rattle.std.proofs.Common.{◌≡◌, refl, ap, sym, ◌∙◌, ◌⊎◌, inl, inr, subst, ℕ, zero, suc, ◌+◌, ◌-◌, ◌<◌, ◌≤◌, arith, List, [], ◌∷◌, ◌++◌, length, Contains, Some, false, append-nil, append_assoc, length-append}
+use Rattle.std.proofs.Common.{◌≡◌, refl, ap, sym, ◌∙◌, ◌⊎◌, inl, inr, subst, ℕ, zero, suc, ◌+◌, ◌-◌, ◌<◌, ◌≤◌, arith, List, [], ◌∷◌, ◌++◌, length, Contains, Some, false, append-nil, length-append}
 use Rattle.std.proofs.lemmas.List.Elements.{All-contains, Contains-append_cases}
-use Rattle.dr_entry.specs.declared.entry.Entry.{Entry, TheVariants.View}
+use Rattle.dr_entry.{specs.declared.entry.Entry.{Entry, TheVariants.View}, proofs.Entries.IsMessage}
 use Rattle.dr_history.specs.{Agreement.SamePast, History.{IsPrefixOf, Sent, merge, view_of}, Members.has}
 use Rattle.dr_history.specs.{Order.{IsSucceededBy, InOrder, IsNewIn, MayJoin, first_entries}, Places.front_of}
-use Rattle.dr_history.{specs.{Soundness.Sound, declared.opening.Opening.Opening}, proofs.Letters.IsMessage}
+use Rattle.dr_history.{specs.{Soundness.Sound, declared.opening.Opening.Opening}, proofs.Heads.merged_messages}
+use Rattle.dr_history.proofs.{Lists.prefix-trans, LooseOrder.InLooseOrder-from, Openings.InOrder-first}
+use Rattle.dr_history.proofs.Standing.{SamePast-either}
 use Rattle.dr_history_laws.specs.Courses.{ViewEnds, ViewHasEnded, IsUncut, MayCome, MayReach, counts_taken, course, head_of, members_in, view_in}
-use Rattle.dr_history_laws.specs.Laid.{EndsWithView, HeldBelow, SentMore, laid}
-use Rattle.dr_history_laws.proofs.Cutting.{InOrder-next_view, merge-prefix, merge-steady}
-use Rattle.dr_history_laws.proofs.{Heads.{head_views, merged_messages}, LaidLemmas.{laid-none, laid-prefix}}
-use Rattle.dr_history_laws.proofs.{LooseOrder.InLooseOrder-from, Openings.{InOrder-first, first-ends}}
-use Rattle.dr_history_laws.proofs.{Ordered.{InOrder-laid, reached}, Steady.laid-steady, Views.SamePast-either}
+use Rattle.dr_history_laws.{specs.Laid.{EndsWithView, HeldBelow, SentMore, laid}, proofs.Heads.head_views}
+use Rattle.dr_history_laws.proofs.{Cutting.{InOrder-next_view, merge-prefix, merge-steady}, Steady.laid-steady}
+use Rattle.dr_history_laws.proofs.{LaidLemmas.{laid-none, laid-prefix}, Ordered.{InOrder-laid, reached, first-ends}}
 
 -- ---- heads
 
@@ -129,9 +129,6 @@ view-course o sent endings v p sound may = (reached o sent (head_of o sent endin
     (head-ends o sent endings v) (may.goes v (omega arith))).view
 
 -- ---- prefixes
-
-prefix-trans : {A : Type 0} (xs ys zs : List A) → IsPrefixOf xs ys → IsPrefixOf ys zs → IsPrefixOf xs zs
-prefix-trans xs ys zs p q = (p.0 ++ q.0, sym (append_assoc xs p.0 q.0) ∙ (ap (λ es. es ++ q.0) p.1 ∙ q.1))
 
 -- a place that is not cut off is part of the next head
 prefix-next : (o : Opening) (sent : Sent) (endings : ViewEnds) (v p : ℕ) → p ≤ front_of (counts_taken o endings v)

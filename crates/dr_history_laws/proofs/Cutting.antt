@@ -1,29 +1,17 @@
 -- A view that ends with a cut: of each member so many of its first items, and no more.
-use Rattle.std.{specs.List.range_with_len, proofs.lemmas.{Bool.cases_eq, List.length-take, Option.slice_get_within}}
-use Rattle.std.proofs.Common.{◌≡◌, ◌≢◌, refl, ap, sym, ◌∙◌, ◌⊎◌, inl, inr, subst, ℕ, ◌+◌, ◌/◌, ◌%◌, ◌==◌, ◌<◌, ◌≤◌, arith, Bool, true, false, nat_lt, List, [], ◌∷◌, ◌++◌, length, map, filter, filter_map, take, drop, Option, None, Some, slice_get, option_and_then, append-nil, append_assoc, take-append-drop, eq-eqb, ne_eqb, if◌then◌else◌, Contains}
+use Rattle.std.{specs.List.range_with_len, proofs.lemmas.{Bool.cases_eq, Option.slice_get_within}}
+use Rattle.std.proofs.Common.{◌≡◌, ◌≢◌, refl, ap, sym, ◌∙◌, ◌⊎◌, inl, inr, subst, ℕ, ◌+◌, ◌/◌, ◌%◌, ◌<◌, ◌≤◌, arith, true, nat_lt, List, [], ◌∷◌, ◌++◌, length, map, take, drop, Option, None, Some, slice_get, option_and_then, append-nil, append_assoc, take-append-drop, Contains}
 use Rattle.dr_entry.specs.declared.{end.SentItem.TheVariants.Index, entry.Entry.{Entry, TheVariants.View}}
+use Rattle.dr_entry.proofs.{ListFacts.top_place, ListParts.filter_map-agree}
+use Rattle.dr_entry.proofs.ListPlaces.{Contains-slice_get, slice_get-some}
 use Rattle.dr_history.specs.History.{IsPrefixOf, GroupView, Sent, messages_in, entry_of, item_at, merge}
 use Rattle.dr_history.specs.{Order.{IsSucceededBy, InOrder, messages_from}, Places.{is_held, held_places, front_of}}
-use Rattle.dr_history.{specs.declared.opening.Opening.Opening, proofs.Fronts.front_held}
+use Rattle.dr_history.{specs.declared.opening.Opening.Opening, proofs.Lists.{slice_get-prefix, take-prefix}}
+use Rattle.dr_history.proofs.{Cutting.{cut, cut_here, cut_elsewhere, cut_held, cut_counts}, Merging.is_held-member}
+use Rattle.dr_history.proofs.{Fronts.front_held, LooseOrder.{InLooseOrder, InLooseOrder-from, HasReached}}
 use Rattle.dr_history_laws.specs.Laid.{laid, entry_at, EndsWithView, GoesOn, SentMore, SentMoreIn}
 use Rattle.dr_history_laws.proofs.{Following.{InOrder-View, InLooseOrder-elsewhere}, LaidLemmas.laid-same}
-use Rattle.dr_history_laws.proofs.Lists.{Contains-slice_get, slice_get-some, slice_get-take, slice_get-prefix, take-prefix}
-use Rattle.dr_history_laws.proofs.LooseOrder.{InLooseOrder, InLooseOrder-from}
-use Rattle.dr_history_laws.proofs.Merging.{CountsAll, is_held-member, top_place, merge-laid, laid-top}
-use Rattle.dr_history_laws.proofs.{Ordered.{HasReached, reached}, Steady.InOrder-steady}
-
--- what was sent, with the items of a view cut behind those that are taken
-abbrev pub cut : Sent → GroupView → (ℕ → ℕ) → Sent
-cut sent v taken s n = if n == v.number then take (taken s) (sent s n) else sent s n
-
-cut_here : (sent : Sent) (v : GroupView) (taken : ℕ → ℕ) (s : ℕ) → cut sent v taken s v.number
-    ≡ take (taken s) (sent s v.number)
-cut_here sent v taken s = let e : (v.number == v.number) ≡ true = eq-eqb v.number v.number refl in rw e refl
-
-cut_elsewhere : (sent : Sent) (v : GroupView) (taken : ℕ → ℕ) (s n : ℕ) → n ≢ v.number
-    → cut sent v taken s n ≡ sent s n
-cut_elsewhere sent v taken s n other = let e : (n == v.number) ≡ false = ne_eqb n v.number other in
-    rw e refl
+use Rattle.dr_history_laws.proofs.{Merging.{merge-laid, laid-top}, Ordered.reached, Steady.InOrder-steady}
 
 -- it is the front part of what was sent
 cut_prefix : (sent : Sent) (v : GroupView) (taken : ℕ → ℕ) → SentMore (cut sent v taken) sent
@@ -36,12 +24,6 @@ cut_prefix sent v taken s n = by (cases_eq n v.number)
           ∙ take-append-drop (taken s) (sent s v.number),
     )
     by (inr other) = ([], ap (λ items. items ++ []) (cut_elsewhere sent v taken s n other) ∙ append-nil (sent s n))
-
--- an item within the cut
-cut_item : (sent : Sent) (v : GroupView) (taken : ℕ → ℕ) (s k : ℕ) → k < taken s
-    → slice_get (cut sent v taken s v.number) k ≡ slice_get (sent s v.number) k
-cut_item sent v taken s k l = ap (λ items. slice_get items k) (cut_here sent v taken s)
-    ∙ slice_get-take (taken s) (sent s v.number) k l
 
 -- its messages go on as well
 pub cut_goes_on : (o : Opening) (sent : Sent) (h : List Entry) (v : GroupView) (taken : ℕ → ℕ) → GoesOn o sent h v
@@ -62,38 +44,6 @@ cut_goes_on o sent h v taken goes = record {
     front s k i at = sym (take-prefix (cut sent v taken s v.number) (sent s v.number) k
         (cut_prefix sent v taken s v.number)
         (omega (arith, slice_get_within (cut sent v taken s v.number) k (Index i) at)))
-
--- and has no more items than are taken
-pub cut_counts : (sent : Sent) (v : GroupView) (taken : ℕ → ℕ) → CountsAll (cut sent v taken) v taken
-cut_counts sent v taken s member =
-    omega (arith, ap length (cut_here sent v taken s), length-take (taken s) (sent s v.number))
-
--- what a test lets through goes by the places that pass
-filter_map-agree : {X Y : Type 0} (f g : X → Option Y) (test : X → Bool) (xs : List X)
-    → ((x : X) → test x ≡ true → f x ≡ g x) → filter_map f (filter test xs) ≡ filter_map g (filter test xs)
-filter_map-agree f g test [] same = refl
-filter_map-agree {X} {Y} f g test (x ∷ xs) same = by (test x) refl (filter_map-agree f g test xs same)
-  where
-    by : (b : Bool) → test x ≡ b → filter_map f (filter test xs) ≡ filter_map g (filter test xs)
-        → filter_map f (filter test (x ∷ xs)) ≡ filter_map g (filter test (x ∷ xs))
-    by true e rest = rw (e, same x e, rest) refl
-    by false e rest = rw e rest
-
--- the item of a held place is not cut off
-pub cut_held : (sent : Sent) (v : GroupView) (taken : ℕ → ℕ) (q : ℕ) → is_held (map taken v.members) q ≡ true
-    → item_at (cut sent v taken) v q ≡ item_at sent v q
-cut_held sent v taken q held = by (slice_get v.members (q % length v.members)) refl
-  where
-    less : (s : ℕ) → slice_get v.members (q % length v.members) ≡ Some s → q / length v.members < taken s
-    less s e =
-        let test : nat_lt (q / length v.members) (taken s)
-        ≡ true = sym (is_held-member taken v.members q s e) ∙ held in
-        grind (arith, test)
-
-    by : (z : Option ℕ) → slice_get v.members (q % length v.members) ≡ z
-        → item_at (cut sent v taken) v q ≡ item_at sent v q
-    by None e = rw e refl
-    by (Some s) e = rw (e, cut_item sent v taken s (q / length v.members) (less s e)) refl
 
 pub cut_entry : (o : Opening) (sent : Sent) (v : GroupView) (taken : ℕ → ℕ) (q : ℕ)
     → is_held (map taken v.members) q ≡ true → entry_at o (cut sent v taken) v q ≡ entry_at o sent v q

@@ -3,12 +3,13 @@
 use Rattle.std.proofs.Common.{◌≡◌, ◌≢◌, refl, ap, sym, ◌∙◌, ◌⊎◌, inl, inr, subst, ℕ, ◌<◌, ◌≤◌, arith, List, [], ◌∷◌, ◌++◌, length, take, Option, None, Some, slice_get, is_some, IsSome, IsSomeAnd, append_assoc, length-append}
 use Rattle.std.proofs.lemmas.{Bool.cases_lt, List.{take-append-le, take_at}, Option.{same_Some, slice_get_within}}
 use Rattle.dr_entry.specs.declared.entry.Entry.{Entry, TheVariants.{View, Msg}}
+use Rattle.dr_entry.proofs.ListPlaces.{slice_get-seam, slice_get-push_cases}
 use Rattle.dr_history.specs.History.{IsPrefixOf, GroupView, Sent, view_of, place_of_entry, place_at}
-use Rattle.dr_history.{specs.Members.members_of, proofs.{NumberedLemmas.messages_from-View, ViewLemmas.view_of-View}}
-use Rattle.dr_history.specs.{Order.{IsSucceededBy, InOrder, numbered_messages}, declared.opening.Opening.Opening}
-use Rattle.dr_history_laws.{specs.Laid.EndsWithView, proofs.Lists.{slice_get-seam, slice_get-push_cases}}
-use Rattle.dr_history_laws.proofs.LooseOrder.{view_of-left, place_at-left, InLooseOrder, InOrder-from, LastViewWhole}
-use Rattle.dr_history_laws.proofs.{Ordered.{last-View, before-last}, Views.number-before}
+use Rattle.dr_history.specs.{Members.members_of, Order.{IsSucceededBy, InOrder, numbered_messages}}
+use Rattle.dr_history.specs.declared.opening.Opening.{Opening}
+use Rattle.dr_history.proofs.LooseOrder.{view_of-left, place_at-left, InLooseOrder, InOrder-from, LastViewWhole}
+use Rattle.dr_history.proofs.{NumberedLemmas.messages_from-View, ViewLemmas.{view_of-View, number-before}}
+use Rattle.dr_history_laws.{specs.Laid.EndsWithView, proofs.Ordered.{last-View, before-last}}
 
 -- the view of a View
 abbrev view_by : ℕ → ℕ → ℕ → GroupView

@@ -1,29 +1,17 @@
 -- What is laid, place by place.
-use Rattle.std.specs.List.{range_with_len}
+use Rattle.std.{specs.List.range_with_len, proofs.lemmas.List.Elements.filter_map-append}
 use Rattle.std.proofs.Common.{◌≡◌, refl, ap, sym, ◌∙◌, ℕ, zero, suc, ◌+◌, ◌-◌, ◌<◌, ◌≤◌, arith, List, [], ◌∷◌, ◌++◌, filter_map, Option, None, Some, slice_get, option_to_list, append-nil, append_assoc}
-use Rattle.std.proofs.lemmas.List.{map-id, Elements.filter_map-append, FromFn.map-range_with_len_more}
 use Rattle.dr_entry.specs.declared.{end.SentItem.TheVariants.{Null, Index}, entry.Entry.{Entry, TheVariants.Msg}}
+use Rattle.dr_entry.proofs.ListFacts.{count_more, one-given}
 use Rattle.dr_history.specs.History.{IsPrefixOf, GroupView, Sent, messages_of, item_at}
 use Rattle.dr_history.specs.declared.opening.Opening.{Opening}
 use Rattle.dr_history_laws.specs.Laid.{laid, entry_at}
-
--- one number more
-pub range-more : (n : ℕ) → range_with_len 0 (n + 1) ≡ range_with_len 0 n ++ n ∷ []
-range-more n = rw (map-id (range_with_len 0 (n + 1)), map-id (range_with_len 0 n)) at
-    (map-range_with_len_more (λ (k : ℕ). k) 0 n n (omega arith))
-
-one-given : {X Y : Type 0} (f : X → Option Y) (x : X) → filter_map f (x ∷ []) ≡ option_to_list (f x)
-one-given f x = by (f x) refl
-  where
-    by : (r : Option _) → f x ≡ r → filter_map f (x ∷ []) ≡ option_to_list (f x)
-    by None e = rw e refl
-    by (Some y) e = rw e refl
 
 -- one place more adds its entry, if it has one
 pub laid-next : (o : Opening) (sent : Sent) (v : GroupView) (p : ℕ)
     → laid o sent v (p + 1) ≡ laid o sent v p ++ option_to_list (entry_at o sent v p)
 unfolding laid
-laid-next o sent v p = rw (range-more p, filter_map-append (entry_at o sent v) (range_with_len 0 p) (p ∷ []))
+laid-next o sent v p = rw (count_more p, filter_map-append (entry_at o sent v) (range_with_len 0 p) (p ∷ []))
     (ap (λ es. filter_map (entry_at o sent v) (range_with_len 0 p) ++ es) (one-given (entry_at o sent v) p))
 
 -- below place 0 there is nothing

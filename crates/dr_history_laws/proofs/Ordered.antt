@@ -1,38 +1,17 @@
 -- A history in order that ends with a View stays in order while the view's places are laid behind it.
-use Rattle.std.proofs.Common.{◌≡◌, refl, ap, sym, ◌∙◌, ◌⊎◌, inl, inr, subst, ℕ, zero, suc, ◌+◌, ◌<◌, ◌≤◌, arith, List, [], ◌∷◌, ◌++◌, length, take, Option, None, Some, slice_get, IsSomeAnd, length-append, append-nil, append_assoc}
-use Rattle.std.proofs.lemmas.{Bool.cases_lt, List.Elements.{Contains-append_left, Contains-push}}
-use Rattle.std.proofs.lemmas.Option.{none-some, same_Some}
+use Rattle.std.proofs.Common.{◌≡◌, refl, ap, sym, ◌∙◌, ◌⊎◌, inl, inr, subst, ℕ, zero, suc, ◌+◌, ◌<◌, ◌≤◌, arith, List, [], ◌∷◌, ◌++◌, length, take, Option, None, Some, slice_get, IsSomeAnd, length-append, append-nil, append_assoc, ◌-◌}
+use Rattle.std.proofs.lemmas.{Bool.cases_lt, List.Elements.Contains-push, Option.{none-some, same_Some}}
 use Rattle.dr_entry.specs.declared.{end.SentItem.{SentItem, TheVariants.{Null, Index}}, entry.Entry.Entry}
-use Rattle.dr_entry.specs.declared.entry.Entry.TheVariants.{View, Msg}
-use Rattle.dr_history.specs.{History.{GroupView, Sent, view_of, item_at, place_at}, Order.{InOrder, IsDelivered}}
-use Rattle.dr_history.{specs.declared.opening.Opening.Opening, proofs.ViewLemmas.{view_of-View, view_of-Msg}}
-use Rattle.dr_history_laws.{specs.Laid.{laid, HeldBelow, EndsWithView, GoesOn}, proofs.Indices.place_in-here}
-use Rattle.dr_history_laws.proofs.{Counting.{bytes_at, index-next}, Lists.{slice_get-seam, value_of, IsSomeAnd-more}}
-use Rattle.dr_history_laws.proofs.{LaidLemmas.{laid-none, laid-absent, laid-null, laid-message}, Views.number-before}
-use Rattle.dr_history_laws.proofs.LooseOrder.{place_at-within, InLooseOrder, InLooseOrder-from, InOrder-from, LastViewWhole}
-use Rattle.dr_history_laws.proofs.Members.{view-distinct}
-use Rattle.dr_history_laws.proofs.Pushing.{PlacedBelow, PlacedBelow-push, IsNext, InLooseOrder-push}
-
--- what was delivered stays so
-IsDelivered-more : (h more : List Entry) (s : ℕ) (item : SentItem) → IsDelivered h s item
-    → IsDelivered (h ++ more) s item
-IsDelivered-more h more s Null d = tt
-IsDelivered-more h more s (Index i) d = (d.0, Contains-append_left h more (Msg s i d.0) d.1)
-
--- every place of the view below p holds an item that was delivered
-abbrev pub DeliveredBelow : Sent → GroupView → List Entry → ℕ → Type 0
-DeliveredBelow sent v h p = (q : ℕ) → q < p → IsSomeAnd (item_at sent v q) (λ t. IsDelivered h t.0 t.1)
-
-DeliveredBelow-more : (sent : Sent) (v : GroupView) (h more : List Entry) (p : ℕ) → DeliveredBelow sent v h p
-    → DeliveredBelow sent v (h ++ more) p
-DeliveredBelow-more sent v h more p all q l = IsSomeAnd-more (item_at sent v q) (λ t. IsDelivered h t.0 t.1)
-    (λ t. IsDelivered (h ++ more) t.0 t.1) (λ t. IsDelivered-more h more t.0 t.1) (all q l)
-
--- a history in a view has come to place p of it
-pub record HasReached (o : Opening) (sent : Sent) (v : GroupView) (h : List Entry) (p : ℕ) : Type 0 where
-  pub ordered : InLooseOrder o sent h
-  pub view : view_of h ≡ Some v
-  pub below : PlacedBelow o sent v h p
+use Rattle.dr_entry.{specs.declared.entry.Entry.TheVariants.{View, Msg}, proofs.ListFacts.AreDistinct}
+use Rattle.dr_entry.proofs.{ListPlaces.slice_get-seam, OptionFacts.value_of}
+use Rattle.dr_history.specs.{History.{GroupView, Sent, view_of, item_at, place_at}, declared.opening.Opening.Opening}
+use Rattle.dr_history.{specs.Order.{InOrder, IsDelivered, first_entries}, proofs.MemberLemmas.members_of-distinct}
+use Rattle.dr_history.proofs.{Histories.place_at-within, Pushing.IsNext, ViewLemmas.{view_of-View, number-before}}
+use Rattle.dr_history.proofs.LooseOrder.{InLooseOrder, InLooseOrder-from, InOrder-from, LastViewWhole, HasReached, reached_same, DeliveredBelow, DeliveredBelow-more, delivered_next}
+use Rattle.dr_history.proofs.Placing.{reached_message}
+use Rattle.dr_history_laws.specs.Laid.{laid, HeldBelow, EndsWithView, GoesOn, first_view}
+use Rattle.dr_history_laws.proofs.{Counting.{bytes_at, index-next}, Indices.place_in-here}
+use Rattle.dr_history_laws.proofs.LaidLemmas.{laid-none, laid-absent, laid-null, laid-message}
 
 -- the view at its View
 view-at_end : (before : List Entry) (v : GroupView) → EndsWithView before v → view_of before ≡ Some v
@@ -82,40 +61,9 @@ none_before o sent before v i q order ends after view at =
           (last-View before v ends) view,
     )
 
--- a place below one more
-last_or_below : (p q : ℕ) → q < suc p → (q < p) ⊎ (q ≡ p)
-last_or_below p q l = grind arith
-
-delivered_next : (sent : Sent) (v : GroupView) (h : List Entry) (p s : ℕ) (item : SentItem)
-    → DeliveredBelow sent v h p
-    → item_at sent v p ≡ Some (s, item) → IsDelivered h s item → DeliveredBelow sent v h (suc p)
-delivered_next sent v h p s item all e d q l = by (last_or_below p q l)
-  where
-    here : IsSomeAnd (item_at sent v p) (λ t. IsDelivered h t.0 t.1)
-    here = subst (λ (z : Option (ℕ × SentItem)). IsSomeAnd z (λ t. IsDelivered h t.0 t.1)) (sym e) d
-
-    by : (q < p) ⊎ (q ≡ p) → IsSomeAnd (item_at sent v q) (λ t. IsDelivered h t.0 t.1)
-    by (inl less) = all q less
-    by (inr is) = subst (λ j. IsSomeAnd (item_at sent v j) (λ t. IsDelivered h t.0 t.1)) (sym is) here
-
--- it has come further where nothing is laid
-reached_same : (o : Opening) (sent : Sent) (v : GroupView) (h : List Entry) (p : ℕ) → HasReached o sent v h p
-    → HasReached o sent v h (suc p)
-reached_same o sent v h p r = record {
-  ordered = r.ordered;
-  view = r.view;
-  below = λ i q after view at. let less : q < p = r.below i q after view at in omega arith;
-}
-
--- and so by a message with its entry
-reached_message : (o : Opening) (sent : Sent) (v : GroupView) (h : List Entry) (p s i : ℕ) (b : List ℕ)
-    → IsNext o sent v h p s i b → HasReached o sent v h p → HasReached o sent v (h ++ Msg s i b ∷ []) (suc p)
-reached_message o sent v h p s i b next r = record {
-  ordered = InLooseOrder-push o sent v h p s i b r.ordered next;
-  view = view_of-Msg h s i b ∙ r.view;
-  below = λ j q after view at. let less : q
-      < p + 1 = PlacedBelow-push o sent v h p s i b next j q after view at in omega arith;
-}
+-- the members of a view that a history ends with
+pub view-distinct : (h : List Entry) (v : GroupView) → EndsWithView h v → AreDistinct v.members
+view-distinct h v ends = subst AreDistinct ends.members (members_of-distinct ends.mask)
 
 -- so it comes to every place
 pub reached : (o : Opening) (sent : Sent) (before : List Entry) (v : GroupView) (p : ℕ) → InLooseOrder o sent before
@@ -182,3 +130,7 @@ InOrder-laid o sent before v p order ends goes held = InOrder-from o sent (befor
         let below : x < p = r.below i x after (before_i ∙ ap Some (sym same)) at in
         subst (λ u. IsSomeAnd (item_at sent u q) (λ t. IsDelivered (before ++ laid o sent v p) t.0 t.1)) same
         (delivered o sent before v p goes held q (omega (arith, l, below)))
+
+-- they end with View 0
+pub first-ends : (o : Opening) → EndsWithView (first_entries o) (first_view o)
+first-ends o = record { before = o.start; mask = o.members; ends = refl; members = refl }

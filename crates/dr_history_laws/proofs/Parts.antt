@@ -1,27 +1,11 @@
 -- First parts of the histories of an age: of any two one is a prefix of the other, and a later age of the
 -- same script finds no entry in them that may not stand.
-use Rattle.std.proofs.Common.{◌≡◌, ◌⊎◌, inl, inr, ℕ, ◌≤◌, arith, List, length, take}
+use Rattle.std.proofs.Common.{◌≡◌, List, take}
 use Rattle.dr_entry.specs.declared.entry.Entry.{Entry}
-use Rattle.dr_history.specs.{Agreement.{Accounts, Agreed, sent_by}, Soundness.Sound, declared.opening.Opening.Opening}
-use Rattle.dr_history.specs.{History.IsPrefixOf, Restarting.{AreAlong, AreAllAlong, AreLeftBy, AreSound}}
-use Rattle.dr_history_laws.{specs.Parts.AreFirstParts, proofs.Keeping.{left_part, prefix_beside, prefix_then}}
-use Rattle.dr_history_laws.proofs.Standing.{history-stands, part-stands, stands-by}
-
--- first parts of a list
-pub both_along : (xs ys zs : List Entry) → IsPrefixOf xs zs → IsPrefixOf ys zs → AreAlong xs ys
-both_along xs ys zs p q = by (ordered (length xs) (length ys))
-  where
-    ordered : (m n : ℕ) → (m ≤ n) ⊎ (n ≤ m)
-    ordered m n = grind arith
-
-    by : (length xs ≤ length ys) ⊎ (length ys ≤ length xs) → AreAlong xs ys
-    by (inl l) = inl (prefix_beside xs ys zs p q l)
-    by (inr l) = inr (prefix_beside ys xs zs q p l)
-
--- and of two lists one of which is a prefix of the other
-parts_along : (xs ys g h : List Entry) → IsPrefixOf xs g → IsPrefixOf ys h → AreAlong g h → AreAlong xs ys
-parts_along xs ys g h p q (inl along) = both_along xs ys h (prefix_then xs g h p along) q
-parts_along xs ys g h p q (inr along) = both_along xs ys g p (prefix_then ys h g q along)
+use Rattle.dr_history.specs.{Agreement.{Accounts, Agreed, sent_by}, Restarting.{AreAllAlong, AreLeftBy, AreSound}}
+use Rattle.dr_history.specs.{Soundness.Sound, declared.opening.Opening.Opening}
+use Rattle.dr_history.proofs.{Keeping.{left_part, parts_along}, Standing.{history-stands, part-stands, stands-by}}
+use Rattle.dr_history_laws.specs.Parts.{AreFirstParts}
 
 pub parts_sound : (o next : Opening) (accounts : Accounts) (lists : List (List Entry)) → Sound o
     → Agreed o accounts → AreFirstParts o accounts lists → o.messages ≡ next.messages → AreSound next lists

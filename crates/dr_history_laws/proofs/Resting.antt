@@ -1,29 +1,14 @@
 -- The rest of a view's merge, place by place, brings a history that has come to a place to the whole merge.
 use Rattle.std.{specs.List.range_with_len, proofs.lemmas.Bool.cases_lt}
-use Rattle.std.proofs.Common.{◌≡◌, refl, ap, sym, ◌∙◌, ◌⊎◌, inl, inr, ℕ, zero, suc, ◌+◌, ◌-◌, ◌<◌, ◌≤◌, arith, Bool, true, false, fold, List, ◌++◌, length, map, filter, Some, option_to_list, append_assoc}
-use Rattle.dr_entry.specs.declared.{end.SentItem.TheVariants.Index, entry.Entry.Entry}
-use Rattle.dr_history.specs.{History.{GroupView, Sent, item_at, merge}, Places.{front_of, is_held, rest_places}}
-use Rattle.dr_history.{specs.{Order.messages_from, declared.opening.Opening.Opening}, proofs.Fronts.front_held}
+use Rattle.std.proofs.Common.{◌≡◌, ap, sym, ◌∙◌, ◌⊎◌, inl, inr, ℕ, suc, ◌+◌, ◌-◌, ◌<◌, ◌≤◌, arith, true, false, fold, List, ◌++◌, length, map, filter, Some, option_to_list, append_assoc}
+use Rattle.dr_entry.{specs.declared.{end.SentItem.TheVariants.Index, entry.Entry.Entry}, proofs.Entries.rest-steps}
+use Rattle.dr_entry.proofs.ListFacts.{AreDistinct, top_place}
+use Rattle.dr_history.specs.{History.{GroupView, Sent, item_at, merge}, Order.messages_from}
+use Rattle.dr_history.specs.{Places.{front_of, is_held, rest_places}, declared.opening.Opening.Opening}
+use Rattle.dr_history.proofs.{Cutting.{cut, cut_counts, cut_held}, Fronts.front_held, Merging.not_held-none}
 use Rattle.dr_history_laws.{specs.Laid.{GoesOn, entry_at, laid}, proofs.Counting.index-next}
-use Rattle.dr_history_laws.proofs.Cutting.{cut, cut_counts, cut_entry, cut_goes_on, cut_held, cut_merge}
-use Rattle.dr_history_laws.proofs.{LaidLemmas.{laid-absent, laid-next, laid-same}, Members.AreDistinct}
-use Rattle.dr_history_laws.proofs.Merging.{laid_past, not_held-none, top_place}
-
--- what is added at the places that pass a test, one after the other, where nothing is added at the others
-rest-steps : (add : List Entry → ℕ → List Entry) (test : ℕ → Bool) (at : ℕ → List Entry)
-    (p d : ℕ) → ((q : ℕ) → test q ≡ true → add (at q) q ≡ at (q + 1)) → ((q : ℕ) → test q ≡ false → at (q + 1) ≡ at q)
-    → fold add (at p) (filter test (range_with_len p d)) ≡ at (p + d)
-rest-steps add test at p zero more none = let same : p ≡ p + 0 = omega arith in ap at same
-rest-steps add test at p (suc d) more none =
-    by (test p) refl (rest-steps add test at (p + 1) d more none) ∙ ap at next
-  where
-    next : p + 1 + d ≡ p + suc d
-    next = omega arith
-
-    by : (b : Bool) → test p ≡ b → fold add (at (p + 1)) (filter test (range_with_len (p + 1) d)) ≡ at (p + 1 + d)
-        → fold add (at p) (filter test (range_with_len p (suc d))) ≡ at (p + 1 + d)
-    by true e rest = rw e (ap (λ es. fold add es (filter test (range_with_len (p + 1) d))) (more p e) ∙ rest)
-    by false e rest = rw e (ap (λ es. fold add es (filter test (range_with_len (p + 1) d))) (sym (none p e)) ∙ rest)
+use Rattle.dr_history_laws.proofs.Cutting.{cut_entry, cut_goes_on, cut_merge}
+use Rattle.dr_history_laws.proofs.{LaidLemmas.{laid-absent, laid-next, laid-same}, Merging.laid_past}
 
 -- what adds the entry of each place that is taken, where its message is the next one of its sender, brings
 -- the rest of the merge

@@ -1,12 +1,12 @@
 -- What is sent next goes on from the history, and the places below the front of what was received hold items.
-use Rattle.std.proofs.Common.{◌≡◌, ◌≢◌, ap, sym, ◌∙◌, ◌⊎◌, inl, inr, subst, ℕ, ◌+◌, ◌/◌, ◌%◌, ◌<◌, ◌≤◌, arith, true, nat_lt, List, [], ◌∷◌, ◌++◌, length, map, take, Contains, Some, slice_get, is_some, IsSome, mod-lt}
+use Rattle.std.proofs.Common.{◌≡◌, ◌≢◌, ap, sym, ◌∙◌, ◌⊎◌, inl, inr, subst, ℕ, ◌+◌, ◌/◌, ◌%◌, ◌<◌, ◌≤◌, arith, List, [], ◌∷◌, ◌++◌, length, map, take, Contains, Some, slice_get, is_some, IsSome}
 use Rattle.std.proofs.lemmas.{Bool.cases_eq, List.{take_at, take-append-le}, Option.none-some}
 use Rattle.dr_entry.specs.declared.{end.SentItem.{SentItem, TheVariants.Index}, entry.Entry.Entry}
+use Rattle.dr_entry.proofs.ListPlaces.{slice_get-push_cases, slice_get-some, Contains-slice_get}
 use Rattle.dr_history.specs.{History.{GroupView, Sent, messages_in, messages_of, item_at}, Order.messages_from}
-use Rattle.dr_history.{specs.{Places.{is_held, front_of}, declared.opening.Opening.Opening}, proofs.Fronts.front_held}
-use Rattle.dr_history_laws.{specs.Laid.{GoesOn, HeldBelow, MayBeNext, SendsNext}, proofs.Indices.item_at-of_parts}
-use Rattle.dr_history_laws.proofs.Lists.{slice_get-push_cases, slice_get-some, Contains-slice_get}
-use Rattle.dr_history_laws.proofs.Merging.{is_held-member}
+use Rattle.dr_history.{specs.{Places.front_of, declared.opening.Opening.Opening}, proofs.Fronts.front_held}
+use Rattle.dr_history.proofs.{Indices.item_at-of_parts, Places.held_member}
+use Rattle.dr_history_laws.specs.Laid.{GoesOn, HeldBelow, MayBeNext, SendsNext}
 
 -- from a history anything goes on that was not sent
 pub GoesOn-none : (o : Opening) (sent : Sent) (h : List Entry) (v : GroupView)
@@ -68,16 +68,6 @@ GoesOn-send o sent now h v s item goes sends next = record {
     scripted : (t k i : ℕ) → Contains v.members t → IsOldOrNew sent now v s item t k i → i < length (messages_of o t)
     scripted t k i member (inl old) = goes.scripted t k i member old.0
     scripted t k i member (inr new) = subst (λ u. i < length (messages_of o u)) (sym new.0) (next.scripted i new.1)
-
--- the member of a held place, of whom more items were received
-pub held_member : (received : ℕ → ℕ) (ms : List ℕ) (q : ℕ) → is_held (map received ms) q ≡ true
-    → (s : ℕ) × (slice_get ms (q % length ms) ≡ Some s) × (q / length ms < received s)
-held_member received [] q e = absurd (grind (arith, e))
-held_member received (m ∷ ms) q e =
-    let at = slice_get-some (m ∷ ms) (q % length (m ∷ ms)) (mod-lt q (omega arith)) in
-    let test : nat_lt (q / length (m ∷ ms)) (received at.0)
-    ≡ true = sym (is_held-member received (m ∷ ms) q at.0 at.1) ∙ e in
-    (at.0, at.1, grind (arith, test))
 
 -- where of each member no more items were received than it sent, the places below the front hold items
 pub HeldBelow-front : (sent : Sent) (v : GroupView) (received : ℕ → ℕ) (p : ℕ)

@@ -1,31 +1,16 @@
 -- A history that has come to a place of a view is short: it has what every history begins with, a View for
 -- each later view, and no more messages than the script.
 use Rattle.std.proofs.Common.{◌≡◌, refl, ap, sym, ◌∙◌, subst, ℕ, zero, suc, ◌+◌, ◌*◌, ◌<◌, ◌≤◌, arith, List, [], ◌∷◌, ◌++◌, length, map, Option, None, Some, Contains, append-nil, append_assoc, length-append}
-use Rattle.dr_entry.specs.declared.{end.SentItem.{SentItem, TheVariants.{Null, Index}}, entry.Entry.Entry}
-use Rattle.dr_entry.specs.declared.entry.Entry.TheVariants.{View, Msg}
-use Rattle.dr_history.specs.History.{GroupView, Sent, item_at, merge, messages_of}
-use Rattle.dr_history.specs.{Order.{first_entries, messages_from}, Soundness.Sound, declared.opening.Opening.Opening}
-use Rattle.dr_history.proofs.NumberedLemmas.{length-numbered_messages}
+use Rattle.dr_entry.specs.declared.{end.SentItem.{SentItem, TheVariants.{Null, Index}}, entry.Entry.TheVariants.Msg}
+use Rattle.dr_entry.{specs.declared.entry.Entry.Entry, proofs.{ListFacts.top_place, ListPlaces.Contains-slice_get}}
+use Rattle.dr_history.specs.{History.{GroupView, Sent, item_at, merge, messages_of}, declared.opening.Opening.Opening}
+use Rattle.dr_history.{specs.Order.{first_entries, messages_from}, proofs.NumberedLemmas.length-numbered_messages}
+use Rattle.dr_history.{specs.Soundness.Sound, proofs.Cutting.cut}
+use Rattle.dr_history.proofs.{Indices.item_at-parts, Lengths.{messages_below-most, IsSized, sized-Msg, sized-View}}
 use Rattle.dr_history_laws.specs.Courses.{ViewEnds, MayCome, MayReach, counts_taken, course, head_of, view_in}
-use Rattle.dr_history_laws.specs.Laid.{GoesOn, laid}
-use Rattle.dr_history_laws.proofs.{Counting.bytes_at, LaidLemmas.{laid-absent, laid-message, laid-none, laid-null}}
-use Rattle.dr_history_laws.proofs.{Courses.{InOrder-course, may_come-less}, Cutting.{cut, cut_goes_on, cut_merge}}
-use Rattle.dr_history_laws.proofs.{Indices.item_at-parts, Lists.Contains-slice_get, Merging.top_place}
-use Rattle.dr_history_laws.proofs.Lengths.{messages_below, messages_below-Msg, messages_below-View, messages_below-most}
-
--- behind the first entries the history has so many Views, and messages of senders below n
-abbrev pub IsSized : ℕ → ℕ → List Entry → List Entry → Type 0
-IsSized n views first h = length h + messages_below n first ≡ length first + views + messages_below n h
-
-sized-Msg : (n k : ℕ) (first h : List Entry) (s i : ℕ) (b : List ℕ) → s < n → IsSized n k first h
-    → IsSized n k first (h ++ Msg s i b ∷ [])
-sized-Msg n k first h s i b l sized =
-    omega (arith, sized, length-append h (Msg s i b ∷ []), messages_below-Msg n s h i b l)
-
-sized-View : (n k : ℕ) (first h : List Entry) (a v m : ℕ) → IsSized n k first h
-    → IsSized n (suc k) first (h ++ View a v m ∷ [])
-sized-View n k first h a v m sized =
-    omega (arith, sized, length-append h (View a v m ∷ []), messages_below-View n h a v m)
+use Rattle.dr_history_laws.{specs.Laid.{GoesOn, laid}, proofs.Counting.bytes_at}
+use Rattle.dr_history_laws.proofs.{Courses.{InOrder-course, may_come-less}, Cutting.{cut_goes_on, cut_merge}}
+use Rattle.dr_history_laws.proofs.LaidLemmas.{laid-absent, laid-message, laid-none, laid-null}
 
 -- what is laid brings messages alone
 sized-laid : (o : Opening) (sent : Sent) (before : List Entry) (v : GroupView) (n k : ℕ) (first : List Entry) (p : ℕ)

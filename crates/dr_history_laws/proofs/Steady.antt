@@ -1,13 +1,13 @@
 -- What stays when more is sent: the items and entries of places, the places of messages, and the order.
-use Rattle.std.{specs.List.position, proofs.lemmas.Option.none-some}
-use Rattle.std.proofs.Common.{◌≡◌, refl, ap, sym, ◌∙◌, subst, ℕ, ◌/◌, ◌%◌, ◌==◌, ◌<◌, arith, Bool, List, length, take, Option, None, Some, slice_get, is_some, option_map, option_and_then, IsSomeAnd}
-use Rattle.dr_entry.specs.declared.{end.SentItem.{SentItem, TheVariants.Null}, entry.Entry.Entry}
-use Rattle.dr_entry.specs.declared.entry.Entry.TheVariants.{View, Msg}
-use Rattle.dr_history.specs.History.{IsPrefixOf, GroupView, Sent, view_of, entry_of, item_at, place_in, place_of_entry, place_at}
-use Rattle.dr_history.specs.{Order.{InOrder, IsDelivered}, Places.place_of, declared.opening.Opening.Opening}
-use Rattle.dr_history_laws.specs.Laid.{laid, entry_at, HeldBelow, SentMoreIn, SentMore}
-use Rattle.dr_history_laws.proofs.{Indices.{item_at-parts, item_at-of_parts}, LaidLemmas.laid-same}
-use Rattle.dr_history_laws.proofs.Lists.{Contains-slice_get, slice_get-prefix, position-prefix, value_of}
+use Rattle.std.proofs.Common.{◌≡◌, refl, ap, sym, ◌∙◌, subst, ℕ, ◌/◌, ◌%◌, ◌<◌, arith, List, length, take, Option, None, Some, slice_get, is_some, option_and_then, IsSomeAnd}
+use Rattle.std.proofs.lemmas.Option.{none-some}
+use Rattle.dr_entry.specs.declared.{end.SentItem.SentItem, entry.Entry.{Entry, TheVariants.{View, Msg}}}
+use Rattle.dr_entry.proofs.{ListPlaces.Contains-slice_get, OptionFacts.value_of}
+use Rattle.dr_history.specs.History.{GroupView, Sent, view_of, entry_of, item_at, place_of_entry, place_at}
+use Rattle.dr_history.specs.{Order.{InOrder, IsDelivered}, declared.opening.Opening.Opening}
+use Rattle.dr_history.proofs.{Indices.{item_at-parts, item_at-of_parts}, Lists.slice_get-prefix, Places.place_in-more}
+use Rattle.dr_history.proofs.ViewLemmas.{View_placed}
+use Rattle.dr_history_laws.{specs.Laid.{laid, entry_at, HeldBelow, SentMoreIn, SentMore}, proofs.LaidLemmas.laid-same}
 
 -- an item stays at its place
 item_at-more : (sent now : Sent) (v : GroupView) (p : ℕ) (t : ℕ × SentItem)
@@ -32,23 +32,6 @@ laid-steady o sent now v p more held =
     same : (q : ℕ) → (t : ℕ × SentItem) × (item_at sent v q ≡ Some t) → entry_at o now v q ≡ entry_at o sent v q
     same q (t, e) = ap (option_and_then (λ u. entry_of o u.0 u.1)) (item_at-more sent now v q t more e ∙ sym e)
 
--- the place of the first message of an index stays
-position-more : (r : Option ℕ) (f : ℕ → ℕ → ℕ) (test : SentItem → Bool) (xs ys : List SentItem) (p : ℕ)
-    → IsPrefixOf xs ys → option_and_then (λ rank. option_map (f rank) (position test xs)) r ≡ Some p
-    → option_and_then (λ rank. option_map (f rank) (position test ys)) r ≡ Some p
-position-more None f test xs ys p pre e = absurd (none-some p e)
-position-more (Some rank) f test xs ys p pre e = by (position test xs) refl e
-  where
-    by : (z : Option ℕ) → position test xs ≡ z → option_map (f rank) z ≡ Some p
-        → option_map (f rank) (position test ys) ≡ Some p
-    by None is g = absurd (none-some p g)
-    by (Some k) is g = ap (option_map (f rank)) (position-prefix test xs ys k Null pre is) ∙ g
-
-place_in-more : (sent now : Sent) (v : GroupView) (s i p : ℕ) → IsPrefixOf (sent s v.number) (now s v.number)
-    → place_in sent v s i ≡ Some p → place_in now v s i ≡ Some p
-place_in-more sent now v s i p pre e = position-more (position (λ m. m == s) v.members)
-    (place_of (length v.members)) _ (sent s v.number) (now s v.number) p pre e
-
 place_of_entry-more : (sent now : Sent) (v : Option GroupView) (e : Entry) (p : ℕ) → SentMore sent now
     → place_of_entry sent v e ≡ Some p → place_of_entry now v e ≡ Some p
 place_of_entry-more sent now None e p more at = absurd (none-some p at)
@@ -63,11 +46,6 @@ place_at-more sent now h i p more at = by (slice_get h i) at
         → option_and_then (place_of_entry now (view_of (take i h))) z ≡ Some p
     by None e = absurd (none-some p e)
     by (Some x) e = place_of_entry-more sent now (view_of (take i h)) x p more e
-
--- no View has a place
-View_placed : (sent : Sent) (v : Option GroupView) (a n m p : ℕ) → place_of_entry sent v (View a n m) ≡ Some p → ⊥
-View_placed sent None a n m p e = none-some p e
-View_placed sent (Some v) a n m p e = none-some p e
 
 -- and no delivered message gets another one
 place_at-less : (o : Opening) (sent now : Sent) (h : List Entry) (i p : ℕ) → SentMore sent now

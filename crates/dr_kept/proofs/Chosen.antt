@@ -1,17 +1,17 @@
 -- What is known of an age that began with what was chosen of some logs.
 use Rattle.std.specs.Prelude.{Option, None, Some, is_some, option_map}
-use Rattle.std.proofs.Common.{◌≡◌, refl, ap, sym, ◌∙◌, subst, ℕ, ◌<◌, ◌≤◌, arith, true, false, List, length, map}
+use Rattle.std.proofs.Common.{◌≡◌, refl, ap, sym, ◌∙◌, subst, ℕ, ◌<◌, ◌≤◌, true, false, List}
 use Rattle.dr_entry.specs.declared.record.Record.{Record}
 use Rattle.dr_history.specs.{Members.has, Soundness.whole_roster}
-use Rattle.dr_log_bytes.specs.Content.{OnLog}
+use Rattle.dr_log_bytes.{specs.Content.OnLog, proofs.Grammars.some_there}
 use Rattle.dr_machine.specs.{Group.{Group, IsGroup, IsPresent}, Run.IsReached}
-use Rattle.dr_program.{specs.{Presence.present_at, Replica.Replica, Running.Running}, proofs.Present.present_map}
-use Rattle.dr_program.specs.{Program.{AreSetups, IsRanFrom, Program, begun_program}, Reading.{table_of, world}}
+use Rattle.dr_program.specs.{Presence.present_at, Program.{AreSetups, IsRanFrom, Program, begun_program}}
+use Rattle.dr_program.specs.{Reading.world, Running.Running}
 use Rattle.dr_program_laws.proofs.Keeping.{deeds_kept}
-use Rattle.dr_refine.specs.Programs.{IsMember, IsProgram}
+use Rattle.dr_refine.specs.Programs.{IsProgram}
 use Rattle.dr_restart.specs.{Choosing.HasAge, Groups.{first_group_of, group_of}, declared.start.Start.Start}
 use Rattle.dr_restart.proofs.Setups.{are_setups}
-use Rattle.dr_script.specs.{Ranges.HasGroupRanges, declared.script.Script.Script}
+use Rattle.dr_script.{specs.{Ranges.HasGroupRanges, declared.script.Script.Script}, proofs.Ranges.few}
 use Rattle.dr_words.specs.Masks.{IsMajorityOf}
 use Rattle.dr_world_laws.proofs.Worlds.{Known, known}
 use Rattle.dr_opening.{specs.{Lists.as_lists, Tries.content_at}, proofs.{Choosing.chosen_group, Lists.handed_is}}
@@ -55,10 +55,6 @@ known_age script start nth found p ranges some is = record {
     kept : IsProgram (group_of script start) p × IsReached (group_of script start) (world (group_of script start) p)
     kept = deeds_kept g script.turns is.begins.0 p group some are ran
 
--- the roster is small
-pub few : (script : Script) → HasGroupRanges script → length script.messages ≤ 16
-few script ranges = omega (arith, ranges.lists, ranges.most_members)
-
 -- ---- who is there
 
 -- who has a log there is there
@@ -81,10 +77,6 @@ has_log script start nth found p m ranges is present = by (content_at found m) r
         out_of_set (first_group_of script).opening found start m is.chosen (few script ranges) at in
         absurd (cc (present, out))
 
-pub some_there : (o : Option OnLog) → is_some o ≡ true → (c : OnLog) × (o ≡ Some c)
-some_there None e = absurd (cc)
-some_there (Some c) e = (c, refl)
-
 -- behind the age too
 pub log_behind : (script : Script) (start : Start) (nth : ℕ) (found after : List (Option OnLog)) (p : Program) (m : ℕ)
     → HasGroupRanges script → IsAgeOfChoice script start nth found p → AreLeftFrom start found p after
@@ -106,25 +98,3 @@ pub age_above : (script : Script) (start : Start) (nth : ℕ) (found : List (Opt
     → a < start.age
 age_above script start nth found p m a c is at has_age = is.chosen.chosen.age.above m a (as_lists c)
     (handed_is found m ∙ ap (option_map as_lists) at) has_age
-
--- ---- the members
-
--- the replicas of the members of a program
-abbrev pub replicas_of : Program → List (Option Replica)
-replicas_of p = map (option_map (λ (r : Running). r.replica)) p.members
-
-pub replica_at : (p : Program) (m : ℕ) (r : Running) → present_at p.members m ≡ Some r
-    → present_at (replicas_of p) m ≡ Some r.replica
-replica_at p m r there = present_map (λ (r : Running). r.replica) p.members m
-    ∙ ap (option_map (λ (r : Running). r.replica)) there
-
-pub member_at : (g : Group) (p : Program) (m : ℕ) (r : Running) → IsGroup g → IsProgram g p
-    → present_at p.members m ≡ Some r → IsMember g (replicas_of p) (table_of p) m r.replica
-member_at g p m r group form there = record {
-  group = group;
-  cells = form.table;
-  posts = form.posts;
-  there = replica_at p m r there;
-  form = (form.form m r there).replica;
-  of = form.of m r there;
-}

@@ -2,13 +2,11 @@
 use Rattle.std.{specs.Prelude.{Option, None, Some, option_map}, proofs.lemmas.Option.{none-some, same_Some}}
 use Rattle.std.proofs.Common.{◌≡◌, ◌⊎◌, inl, inr, ⊎_elim, refl, sym, ap, ◌∙◌, subst, ℕ, arith, List, ◌++◌}
 use Rattle.dr_history.specs.{History.{IsPrefixOf, view_of}, Restarting.AreAlong, declared.opening.Opening.Opening}
-use Rattle.dr_history.proofs.Histories.{no_longer}
+use Rattle.dr_history.proofs.{LastViews.ends_later, Lists.no_longer, Stood.nothing_without}
 use Rattle.dr_log_bytes.specs.Content.{OnLog}
-use Rattle.dr_history_laws.proofs.Stood.{nothing_without}
 use Rattle.dr_program.proofs.Present.{present_map}
 use Rattle.dr_restart.specs.Choosing.{AreOfHolders, AreOfNobody, EndsInAge, Handed}
 use Rattle.dr_restart.specs.declared.{lists.LogLists.LogLists, start.Start.Start}
-use Rattle.dr_quorum_laws.proofs.LastViews.{ends_later}
 use Rattle.dr_quorum.specs.Handing.{handed_by}
 use Rattle.dr_opening.specs.{Lists.{all_as_lists, as_lists}, Tries.{IsChosenOf, content_at}}
 

@@ -4,33 +4,30 @@ use Rattle.std.proofs.Common.{◌≡◌, refl, ap, sym, ◌∙◌, ◌⊎◌, in
 use Rattle.std.proofs.lemmas.List.{length-map, Elements.Contains-append_cases}
 use Rattle.std.proofs.lemmas.Option.{none-some, same_Some, slice_get-map}
 use Rattle.dr_entry.specs.declared.{end.MemberEnd.MemberEnd, entry.Entry.TheVariants.View}
-use Rattle.dr_entry.specs.declared.record.AgeVote.{AgeVote}
+use Rattle.dr_entry.{specs.declared.record.AgeVote.AgeVote, proofs.ListParts.{in-cases, in-nothing}}
 use Rattle.dr_history.specs.{Agreement.accounts_of, History.IsPrefixOf, Order.first_entries, Restarting.Kept}
+use Rattle.dr_history.proofs.Lists.{prefix-in}
 use Rattle.dr_log_bytes.specs.Content.{OnLog}
 use Rattle.dr_machine.{specs.{Group.{Group, IsPresent}, Run.accounts_in, World.World}, proofs.Presence.in_roster}
 use Rattle.dr_program.specs.{Presence.present_at, Program.{Program, end_at}, Reading.{table_of, world}}
 use Rattle.dr_program.{specs.Running.Running, proofs.Holdings.{Holding, held, held_of, holding_of}}
-use Rattle.dr_program.proofs.Present.{present_slice, slice_present}
+use Rattle.dr_program.proofs.{Present.{present_slice, slice_present, replica_at}, Replicas.replicas_of}
 use Rattle.dr_restart.specs.{Choosing.{HasAge, IsChosenStart, of_set}, Groups.{first_group_of, group_of}}
 use Rattle.dr_restart.specs.{Left.{IsLeftByOther, votes_of_age}, Trying.age_vote_of, declared.lists.LogLists.LogLists}
-use Rattle.dr_restart.specs.declared.start.Start.{Start}
-use Rattle.dr_script.specs.{Ranges.HasGroupRanges, declared.script.Script.Script}
-use Rattle.dr_world_laws.proofs.Worlds.{agreed}
-use Rattle.dr_quorum_laws.proofs.{ByMessages.start-by-messages, Chosen.chosen-keeps, Ended.no-later, Grown.first-kept}
-use Rattle.dr_quorum_laws.proofs.{Handing.{Since, first-there, left-entries}, Keeping.{choice-keeps, since-left}}
-use Rattle.dr_quorum_laws.proofs.Lists.{in-cases, in-nothing, prefix-in}
+use Rattle.dr_restart.{specs.declared.start.Start.Start, proofs.{ByMessages.start-by-messages, Groups.nothing_left}}
+use Rattle.dr_restart.proofs.{Handing.left-entries, Trying.nothing_on}
+use Rattle.dr_script.{specs.{Ranges.HasGroupRanges, declared.script.Script.Script}, proofs.Ranges.few}
+use Rattle.dr_world_laws.proofs.{Ended.no-later, Worlds.agreed}
+use Rattle.dr_quorum_laws.proofs.{Chosen.chosen-keeps, Grown.first-kept, Handing.{Since, first-there}}
+use Rattle.dr_quorum_laws.proofs.Keeping.{choice-keeps, since-left}
 use Rattle.dr_quorum.specs.Handing.{handed_by}
 use Rattle.dr_opening.specs.{Lists.{all_as_lists, as_lists}, Tries.{AreAmong, IsChosenOf, content_at}}
-use Rattle.dr_opening.proofs.{Lists.handed_is, Trying.chosen_by}
+use Rattle.dr_opening.proofs.{Lists.{handed_is, handed_there}, Trying.chosen_by, Ways.base_age_votes}
 use Rattle.dr_kept.specs.Leaving.{AreLeftFrom, IsAgeOfChoice, IsLeftAt}
-use Rattle.dr_kept.proofs.Behind.{AreLeftByOthers, left_behind}
-use Rattle.dr_kept.proofs.Chosen.{IsKnownAge, age_above, behind_there, few, known_age, replica_at, replicas_of}
-use Rattle.dr_kept.proofs.Leaving.{age_votes_stay, base_age_votes, left_by_member}
+use Rattle.dr_kept.proofs.{Behind.{AreLeftByOthers, left_behind}, Leaving.{age_votes_stay, left_by_member}}
+use Rattle.dr_kept.proofs.Chosen.{IsKnownAge, age_above, behind_there, known_age}
 
 -- ---- logs of all members: those that are there, and of each other one an empty one
-
-abbrev pub nothing_on : LogLists
-nothing_on = record { entries = []; votes = []; age_votes = [] }
 
 abbrev pub lists_with : List (Option OnLog) → List LogLists
 lists_with contents = map (λ o. option_map_or as_lists o nothing_on) contents
@@ -38,15 +35,6 @@ lists_with contents = map (λ o. option_map_or as_lists o nothing_on) contents
 pub among_lists : (contents : List (Option OnLog)) → AreAmong contents (lists_with contents)
 among_lists contents m c at = slice_get-map (λ o. option_map_or as_lists o nothing_on) contents m
     ∙ ap (option_map (λ o. option_map_or as_lists o nothing_on)) (present_slice contents m c at)
-
-nothing_left : (script : Script) (start : Start) → IsLeftByOther (group_of script start) nothing_on
-nothing_left script start = record {
-  stands = λ i e at. absurd (none-some e at);
-  earlier = record {
-    views = λ a number members c. absurd (in-nothing (View a number members) c);
-    votes = λ x c. absurd (in-nothing x c);
-  };
-}
 
 others_nothing : (script : Script) (start : Start) (nth : ℕ) (found after : List (Option OnLog)) (p : Program)
     → HasGroupRanges script → IsAgeOfChoice script start nth found p → AreLeftFrom start found p after
@@ -227,17 +215,6 @@ ages_within script start nth found after p m a c ranges is k left at = by
       e,
     )
 
--- a log that was handed in is one that is there
-pub handed_there : (after : List (Option OnLog)) (m : ℕ) (log : LogLists)
-    → option_map as_lists (content_at after m) ≡ Some log
-    → (c : OnLog) × (content_at after m ≡ Some c) × (as_lists c ≡ log)
-handed_there after m log at = by (content_at after m) refl at
-  where
-    by : (o : Option OnLog) → content_at after m ≡ o → option_map as_lists o ≡ Some log
-        → (c : OnLog) × (content_at after m ≡ Some c) × (as_lists c ≡ log)
-    by None here e = absurd (cc)
-    by (Some c) here e = (c, here, same_Some (as_lists c) log e)
-
 pub next_number : (script : Script) (start next : Start) (nth : ℕ) (found after : List (Option OnLog)) (p : Program)
     → HasGroupRanges script → 1 ≤ script.turns → IsAgeOfChoice script start nth found p
     → AreLeftFrom start found p after → IsChosenOf (first_group_of script).opening after next
@@ -262,9 +239,3 @@ next_number script start next nth found after p ranges some is left chosen = by 
           later,
           e,
         )
-
--- an age that is on a log that was handed in is on one that was found
-pub on_found : (contents : List (Option OnLog)) (m : ℕ) (log : LogLists)
-    → handed_by (all_as_lists contents) m ≡ Some log
-    → (c : OnLog) × (content_at contents m ≡ Some c) × (as_lists c ≡ log)
-on_found contents m log at = handed_there contents m log (sym (handed_is contents m) ∙ at)

@@ -1,22 +1,22 @@
 -- Behind an age lasts what lasted before it, and all that a member of it knew to be durable.
-use Rattle.std.specs.{Option.option_map_or, Prelude.{Option, None, Some, slice_get}}
-use Rattle.std.proofs.Common.{◌≡◌, refl, ap, sym, ◌∙◌, subst, inl, ℕ, ◌≤◌, Bool, true, false, List, [], length, map, take}
-use Rattle.dr_entry.specs.declared.{end.MemberEnd.MemberEnd, entry.Entry.Entry}
-use Rattle.dr_history.specs.{Agreement.accounts_of, History.IsPrefixOf, Members.has, Soundness.whole_roster}
+use Rattle.std.specs.Prelude.{Option, None, Some}
+use Rattle.std.proofs.Common.{◌≡◌, refl, sym, ◌∙◌, subst, inl, ℕ, List, [], map, take}
+use Rattle.dr_entry.specs.declared.entry.Entry.{Entry}
+use Rattle.dr_history.specs.{Agreement.accounts_of, History.IsPrefixOf, Soundness.whole_roster}
+use Rattle.dr_history.proofs.Lists.{prefix_refl}
 use Rattle.dr_log_bytes.specs.Content.{OnLog}
-use Rattle.dr_machine.specs.{Group.{Group, IsGroup, IsPresent}, Run.IsReached, World.World}
+use Rattle.dr_machine.specs.{Group.{Group, IsGroup, IsPresent}, Run.IsReached}
 use Rattle.dr_program.specs.{Program.{Program, end_at}, Reading.world}
 use Rattle.dr_restart.specs.{Choosing.{IsChosenStart, of_set}, Groups.{first_group_of, group_of}}
 use Rattle.dr_restart.specs.{Left.{AreLeft, IsLeftByOther}, declared.{lists.LogLists.LogLists, start.Start.Start}}
-use Rattle.dr_script.specs.{Ranges.HasGroupRanges, declared.script.Script.Script}
+use Rattle.dr_script.{specs.declared.script.Script.Script, proofs.Ranges.few}
 use Rattle.dr_words.specs.Masks.{IsMajorityOf}
 use Rattle.dr_world_laws.proofs.Worlds.{known}
-use Rattle.dr_quorum_laws.{specs.Lasting.{AreDurableIn, AreLasting, HoldSinceAge}, proofs.Handing.Since}
-use Rattle.dr_quorum_laws.proofs.{Keeping.since-left, Lasting.{last-kept, last-others, since-age, start-durable}}
-use Rattle.dr_quorum_laws.proofs.Lists.{prefix-itself}
+use Rattle.dr_quorum_laws.{specs.Lasting.{AreLasting, HoldSinceAge}, proofs.{Handing.Since, Keeping.since-left}}
+use Rattle.dr_quorum_laws.proofs.Lasting.{last-kept, last-others, since-age, start-durable}
 use Rattle.dr_opening.{specs.Tries.content_at, proofs.Trying.chosen_by}
 use Rattle.dr_kept.{specs.Lasting.HasLeftLogs, proofs.Behind.{AreLeftByOthers, held_behind, reached_behind}}
-use Rattle.dr_kept.proofs.{Chosen.{IsKnownAge, few, known_age, with_log}, Following.{IsAccountOf, account_of}}
+use Rattle.dr_kept.proofs.{Chosen.{known_age, with_log}, Following.{IsAccountOf, account_of}}
 
 -- it began with what lasted
 pub start_has : (script : Script) (start : Start) (nth : ℕ) (p : Program) (es : List Entry)
@@ -98,7 +98,7 @@ durable_lasts script start nth p es before logs m a lasting there = inl (
         (take ((world g p).past.durable m) ((world g p).past.history m))) (sym account.durable)
         (subst (λ h. IsPrefixOf (take ((world g p).past.durable m) h)
         (take ((world g p).past.durable m) ((world g p).past.history m))) (sym account.history)
-        (prefix-itself (take ((world g p).past.durable m) ((world g p).past.history m)))),
+        (prefix_refl (take ((world g p).past.durable m) ((world g p).past.history m)))),
   ),
 )
   where

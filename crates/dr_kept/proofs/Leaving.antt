@@ -1,80 +1,26 @@
 -- What a member leaves on its log is what a stop may leave in the world of the program.
-use Rattle.std.{specs.Prelude.{None, slice_get}, proofs.lemmas.Option.{get_or_from_slice_get, slice_get_within}}
-use Rattle.std.proofs.Common.{◌≡◌, refl, ap, sym, ◌∙◌, ◌⊎◌, inl, inr, subst, ℕ, ◌+◌, ◌<◌, ◌≤◌, ◌==◌, arith, Bool, true, false, List, [], ◌∷◌, ◌++◌, append_assoc, filter, take, drop, Contains, Option, Some}
-use Rattle.std.proofs.lemmas.List.{take-append-drop, take_more, Elements.{Contains-append_cases, filter-append}}
+use Rattle.std.{specs.Prelude.{None, slice_get}, proofs.lemmas.List.Elements.Contains-append_cases}
+use Rattle.std.proofs.Common.{◌≡◌, refl, ap, sym, ◌∙◌, ◌⊎◌, inl, inr, subst, ℕ, ◌+◌, ◌<◌, List, [], ◌∷◌, ◌++◌, append_assoc, take, Contains, Option, Some}
 use Rattle.dr_entry.specs.{declared.entry.Entry.Entry, declared.record.{Record.Record, Vote.Vote}}
+use Rattle.dr_entry.proofs.{ListParts.{in-cases, in-nothing}, ListPlaces.read-in, Records.none_later}
 use Rattle.dr_entry.specs.declared.record.Record.TheVariants as records
-use Rattle.dr_history.specs.History.{IsPrefixOf}
+use Rattle.dr_history.{specs.History.IsPrefixOf, proofs.Lists.entry_more}
 use Rattle.dr_log_bytes.specs.Content.{OnLog, with_record}
 use Rattle.dr_machine.specs.{Group.Group, World.World}
 use Rattle.dr_program.specs.{Form.IsRunningMember, Program.Program, Reading.{table_of, world}, Replica.Replica}
 use Rattle.dr_program.{specs.Running.Running, proofs.Holdings.{Holding, held, held_of, holding_of}}
-use Rattle.dr_restart.specs.{Groups.group_of, Left.{IsLeftByMember, MayLogVote, votes_of_age}, Trying.age_vote_of}
-use Rattle.dr_restart.specs.declared.{lists.LogLists.LogLists, start.Start.Start}
+use Rattle.dr_program.proofs.{Present.replica_at, Replicas.{MayCome, replicas_of}}
+use Rattle.dr_restart.specs.{Groups.group_of, Left.{IsLeftByMember, MayLogVote, votes_of_age}}
+use Rattle.dr_restart.{specs.declared.start.Start.Start, proofs.LeftVotes.of_age}
 use Rattle.dr_script.specs.declared.script.Script.{Script}
-use Rattle.dr_quorum_laws.proofs.Lists.{in-cases, in-head, in-nothing, in-tail, read-in}
-use Rattle.dr_opening.{specs.{Contents.{IsOpenFor, voted_for}, Lists.as_lists}, proofs.Lists.voted_lists}
-use Rattle.dr_opening.proofs.Ways.{rising_keeps, rising_votes}
-use Rattle.dr_kept.specs.Leaving.{HasJustLogged, IsAgeOfChoice, IsLeftAt, LeavesSo}
-use Rattle.dr_kept.proofs.Appending.{MayCome, may_come}
-use Rattle.dr_kept.proofs.{Chosen.{IsKnownAge, age_above, member_at, replica_at, replicas_of}, Voting.vote_may}
-
--- ---- filters that pass all, and none
-
-passes_none : {A : Type 0} (p : A → Bool) (xs : List A) → ((x : A) → Contains xs x → p x ≡ false) → filter p xs ≡ []
-passes_none p [] none = refl
-passes_none p (x ∷ xs) none = rw (none x (in-head x xs), passes_none p xs (λ y c. none y (in-tail x y xs c))) refl
-
-passes_all : {A : Type 0} (p : A → Bool) (xs : List A) → ((x : A) → Contains xs x → p x ≡ true) → filter p xs ≡ xs
-passes_all p [] all = refl
-passes_all p (x ∷ xs) all = rw (all x (in-head x xs), passes_all p xs (λ y c. all y (in-tail x y xs c))) refl
-
--- votes of earlier ages, and behind them those of the age
-of_age : (age : ℕ) (olds own : List Vote) → ((x : Vote) → Contains olds x → x.age < age)
-    → ((x : Vote) → Contains own x → x.age ≡ age) → votes_of_age age (olds ++ own) ≡ own
-of_age age olds own before now = filter-append (λ (x : Vote). x.age == age) olds own
-    ∙ ap (λ l. l ++ filter (λ (x : Vote). x.age == age) own) (passes_none (λ (x : Vote). x.age == age) olds
-    (λ x c. other x (before x c))) ∙ passes_all (λ (x : Vote). x.age == age) own (λ x c. same x (now x c))
-  where
-    other : (x : Vote) → x.age < age → (x.age == age) ≡ false
-    other x l = grind (arith, l)
-
-    same : (x : Vote) → x.age ≡ age → (x.age == age) ≡ true
-    same x e = grind (arith, e)
-
--- none is of a later age
-none_later : (age : ℕ) (olds own votes : List Vote) → votes ≡ olds ++ own
-    → ((x : Vote) → Contains olds x → x.age < age) → ((x : Vote) → Contains own x → x.age ≡ age)
-    → (x : Vote) → Contains votes x → x.age ≤ age
-none_later age olds own votes is before now x c =
-    by (Contains-append_cases olds own x (subst (λ l. Contains l x) is c))
-  where
-    by : Contains olds x ⊎ Contains own x → x.age ≤ age
-    by (inl h) = omega (arith, before x h)
-    by (inr h) = omega (arith, now x h)
+use Rattle.dr_refine.proofs.Programs.{member_at}
+use Rattle.dr_served.proofs.Leaving.{next_age_votes}
+use Rattle.dr_program_laws.proofs.Later.{vote_may}
+use Rattle.dr_opening.{specs.Lists.as_lists, proofs.Ways.base_votes}
+use Rattle.dr_kept.{specs.Leaving.{HasJustLogged, IsAgeOfChoice, IsLeftAt, LeavesSo}, proofs.Appending.may_come}
+use Rattle.dr_kept.proofs.Chosen.{IsKnownAge, age_above}
 
 -- ---- the record that may come
-
--- with the next entry of the history behind so many
-pub entry_more : (history : List Entry) (n : ℕ) (e : Entry) → slice_get history n ≡ Some e
-    → IsPrefixOf (take n history ++ e ∷ []) history
-entry_more history n e due = (
-  drop (n + 1) history,
-  ap (λ (l : List Entry). l ++ drop (n + 1) history) front ∙ take-append-drop (n + 1) history,
-)
-  where
-    front : take n history ++ e ∷ [] ≡ take (n + 1) history
-    front = ap (λ x. take n history ++ x ∷ []) (sym (get_or_from_slice_get history n e e due))
-        ∙ sym (take_more history n e (slice_get_within history n e due))
-
--- it is no age vote, so these are as they were
-next_age_votes : (r : Replica) (next : Record) (c : OnLog) → MayCome r next
-    → (with_record next c).age_votes ≡ c.age_votes
-next_age_votes r (records.Entry e) c may = refl
-next_age_votes r (records.Vote v) c may = refl
-next_age_votes r (records.AgeVote v) c may = absurd may
-next_age_votes r (records.Cut keep) c may = absurd may
-next_age_votes r records.Upgrade c may = absurd may
 
 pub age_votes_stay : (base : OnLog) (r : Running) (c : OnLog) → IsRunningMember r → LeavesSo base r c
     → c.age_votes ≡ base.age_votes
@@ -82,17 +28,6 @@ age_votes_stay base r c form (inl just) = just.age_votes
 age_votes_stay base r c form (inr begun) = ap (λ (d : OnLog). d.age_votes) begun.is
     ∙ next_age_votes r.replica begun.next begun.before (may_come r begun.next form begun.begun)
     ∙ begun.logged.age_votes
-
--- ---- what an opening leaves of the votes
-
-pub base_votes : (start : Start) (first base : OnLog) → IsOpenFor start (voted_for start first) base
-    → base.votes ≡ first.votes
-base_votes start first base opened = (rising_keeps start first base (inr (inr opened))).votes
-
-pub base_age_votes : (start : Start) (first base : OnLog) → IsOpenFor start (voted_for start first) base
-    → base.age_votes ≡ first.age_votes ++ age_vote_of start ∷ []
-base_age_votes start first base opened = (rising_votes start (voted_for start first) base
-    (inr (inr opened))).age_votes ∙ ap (λ (l : LogLists). l.age_votes) (voted_lists (age_vote_of start) first)
 
 -- ---- the log of a member
 

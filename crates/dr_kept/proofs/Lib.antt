@@ -1,6 +1,5 @@
 pub mod Appending
 pub mod Waiting
-pub mod Voting
 pub mod Chosen
 pub mod Leaving
 pub mod Behind

@@ -1,26 +1,28 @@
 -- What is on the same logs behind an age is refused only where no number is left.
 use Rattle.std.specs.Prelude.{Option, None, Some, is_some, option_map}
-use Rattle.std.proofs.Common.{◌≡◌, refl, ap, sym, ◌∙◌, ◌⊎◌, inl, inr, subst, ℕ, ◌<◌, ◌≤◌, ◌&&◌, arith, true, List, [], length, Contains}
-use Rattle.std.proofs.{Math.Path.fun_ext, lemmas.{Bool.cases_lt, Option.none-some}}
+use Rattle.std.proofs.Common.{◌≡◌, refl, ap, sym, ◌∙◌, ◌⊎◌, inl, inr, subst, ℕ, ◌≤◌, ◌&&◌, arith, true, List, [], Contains}
+use Rattle.std.proofs.{Math.Path.fun_ext, lemmas.Option.none-some}
 use Rattle.dr_entry.specs.{declared.entry.Entry.{Entry, TheVariants.View}, declared.record.Vote.Vote}
-use Rattle.dr_history.specs.{History.IsPrefixOf, Members.has, Restarting.{AllStand, AreAlong}, Soundness.whole_roster}
-use Rattle.dr_history_laws.proofs.{Keeping.{prefix_beside, prefix_then, front_of}, Standing.part-stands}
+use Rattle.dr_history.specs.{History.IsPrefixOf, Members.has, Restarting.AllStand, Soundness.whole_roster}
+use Rattle.dr_history.proofs.{Keeping.{front_of, both_along}, LastViews.{last-view, view-come, view-late}}
+use Rattle.dr_history.proofs.{Lists.{prefix-in, prefix-trans}, Standing.part-stands}
 use Rattle.dr_log_bytes.specs.Content.{OnLog}
-use Rattle.dr_machine.{specs.{Group.{Group, IsPresent}, World.World}, proofs.Presence.is_there}
+use Rattle.dr_machine.{specs.{Group.{Group, IsPresent}, World.World}, proofs.{Ends.first-in, Presence.is_there}}
 use Rattle.dr_program.specs.{Program.Program, Reading.world}
 use Rattle.dr_restart.specs.Choosing.{AreFirst, AreOfHolders, AreOfNobody, AreOnHolder, EndsInAge, Handed, HasAge, HasQuorum, handed_of}
 use Rattle.dr_restart.specs.{Groups.{first_group_of, group_of}, declared.{lists.LogLists.LogLists, start.Start.Start}}
 use Rattle.dr_restart.specs.Refusing.{AreHoldersAlong, HaveNothingForeign, IsRefusedFor, Refusal, Refusal.AgesUsedUp}
-use Rattle.dr_script.specs.{Ranges.HasGroupRanges, declared.script.Script.Script}
+use Rattle.dr_restart.proofs.{ByMessages.refused-by-messages, Handing.left-vote, Refusals.one-first}
+use Rattle.dr_script.{specs.{Ranges.HasGroupRanges, declared.script.Script.Script}, proofs.Ranges.few}
 use Rattle.dr_words.specs.Masks.{IsMajorityOf, mask_of}
+use Rattle.dr_world_laws.proofs.Ended.{no-later, stands}
 use Rattle.dr_quorum.specs.Handing.{handed_by}
 use Rattle.dr_quorum_laws.{specs.Returning.{HasHandedIn, HaveReturned}, proofs.AllThere.returned-pass}
-use Rattle.dr_quorum_laws.proofs.{ByMessages.refused-by-messages, Ended.{first-in, no-later, stands}}
-use Rattle.dr_quorum_laws.proofs.{Extra.vote-present, Handing.{Since, left-vote}}
-use Rattle.dr_quorum_laws.proofs.{LastViews.{last-view, view-come, view-late}, Lists.prefix-in, Refusals.one-first}
-use Rattle.dr_opening.{specs.{Lists.{all_as_lists, as_lists}, Tries.{IsChosenOf, content_at}}, proofs.Lists.handed_is}
-use Rattle.dr_kept.{specs.Leaving.{AreLeftFrom, IsAgeOfChoice}, proofs.Chosen.{IsKnownAge, few, has_log, known_age}}
-use Rattle.dr_kept.proofs.Following.{IsFrontAt, ages_within, front_at, handed_there, lists_with, since_age}
+use Rattle.dr_quorum_laws.proofs.{Extra.vote-present, Handing.Since}
+use Rattle.dr_opening.specs.{Lists.{all_as_lists, as_lists}, Tries.{IsChosenOf, content_at}}
+use Rattle.dr_opening.proofs.Lists.{handed_is, handed_there}
+use Rattle.dr_kept.{specs.Leaving.{AreLeftFrom, IsAgeOfChoice}, proofs.Chosen.{IsKnownAge, has_log, known_age}}
+use Rattle.dr_kept.proofs.Following.{IsFrontAt, ages_within, front_at, lists_with, since_age}
 use Rattle.dr_kept.proofs.Leaving.{left_by_member}
 
 -- an age that has ended, and what is on the same logs behind it
@@ -30,14 +32,6 @@ pub record IsBehindAge (script : Script) (start : Start) (nth : ℕ) (found afte
   pub is : IsAgeOfChoice script start nth found p
   pub knows : IsKnownAge script start p
   pub left : AreLeftFrom start found p after
-
--- of two fronts of one list one is a front of the other
-beside_one : (f g whole : List Entry) → IsPrefixOf f whole → IsPrefixOf g whole → AreAlong f g
-beside_one f g whole p q = by (cases_lt (length f) (length g))
-  where
-    by : (length f < length g) ⊎ (length g ≤ length f) → AreAlong f g
-    by (inl l) = inl (prefix_beside f g whole p q (omega (arith, l)))
-    by (inr l) = inr (prefix_beside g f whole q p l)
 
 -- the logs that are handed in
 abbrev pub handed_from : List (Option OnLog) → Handed
@@ -97,7 +91,7 @@ quorum_behind script start nth found after p b =
 -- of any two holders one is a front of the other
 along_behind : (script : Script) (start : Start) (nth : ℕ) (found after : List (Option OnLog)) (p : Program) (age : ℕ)
     → IsBehindAge script start nth found after p → AreHoldersAlong (handed_from after) age
-along_behind script start nth found after p age b f g x y = beside_one f g since.held.history (part f x) (part g y)
+along_behind script start nth found after p age b f g x y = both_along f g since.held.history (part f x) (part g y)
   where
     since : Since (group_of script start) (world (group_of script start) p) (lists_with after) [] (lists_with after)
     since = since_age script start nth found after p b.ranges b.is b.knows b.left
@@ -106,7 +100,7 @@ along_behind script start nth found after p age b f g x y = beside_one f g since
     part es (m, log, at, ends, e) =
         let t = there_so script start nth found after p m log b at in
         subst (λ l. IsPrefixOf l since.held.history) (ap (λ (l : LogLists). l.entries) t.is ∙ sym e)
-        (prefix_then t.content.entries ((world (group_of script start) p).past.history m) since.held.history
+        (prefix-trans t.content.entries ((world (group_of script start) p).past.history m) since.held.history
         t.front.front (since.held.longest.longest m t.front.present))
 
 -- the last View on each is of the age

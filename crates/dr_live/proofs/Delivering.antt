@@ -8,10 +8,11 @@ use Rattle.dr_ages.specs.{Ages.{AreAges, all_but, opening_of}, declared.mode.Mod
 use Rattle.dr_ages.proofs.{Fresh.roomy_ages, Prompt.nobody_late, Runs.{none_lacks, there_takes_part}}
 use Rattle.dr_entry.specs.declared.{end.{AgeEnd.AgeEnd, MemberEnd.MemberEnd}, entry.Entry.{Entry, TheVariants.Msg}}
 use Rattle.dr_entry.specs.declared.limits.TheConstants.{MAX_MEMBERS}
+use Rattle.dr_entry.proofs.ListPlaces.{slice_get-seam, slice_get-some}
 use Rattle.dr_entry.specs.declared.end.End.TheVariants as ends
 use Rattle.dr_history.specs.{History.IsPrefixOf, Members.has, Order.{IsLateIn, messages_from, numbered_messages}}
 use Rattle.dr_history.{specs.{Soundness.IsPresentIn, declared.opening.Opening.Opening}, proofs.Bits.has_zero}
-use Rattle.dr_history_laws.proofs.{Keeping.{prefix_then, both_ways}, Lists.{slice_get-seam, slice_get-some}}
+use Rattle.dr_history.proofs.{Keeping.both_ways, Lists.prefix-trans}
 use Rattle.dr_program_laws.{specs.{Ended.{HasEnded, IsWhole}, Trusting.NoneLeft}, proofs.Endings.done_whole}
 use Rattle.dr_restart.specs.{Groups.first_group_of, Setups.{crashes_of, suspicion_in}}
 use Rattle.dr_script.specs.{Ranges.{HasGroupRanges, HasRanges}, declared.script.{Fault.Fault, Script.Script}}
@@ -73,7 +74,7 @@ pub live_delivers : (plan : Script) (k : ℕ) (lists pushed : Lists) (last : Yar
     → DeliversPushed plan pushed age.members
 live_delivers plan k lists pushed last age ranges grown live m d within s =
     let e = get_or age.members m d in
-    prefix_then (messages_from s e.history) (numbered_messages (opening_of (plan_with plan lists) (all_but 0) age) s)
+    prefix-trans (messages_from s e.history) (numbered_messages (opening_of (plan_with plan lists) (all_but 0) age) s)
     (pushed_by plan pushed s) (numbered_in plan k lists last age m e s ranges live
     (slice_get-get_or age.members m d within)) (numbered_grown (opening_of (plan_with plan lists) (all_but 0) age)
     (first_group_of (plan_with plan pushed)).opening s grown)

@@ -3,16 +3,14 @@ use Rattle.std.{specs.Prelude.All, proofs.lemmas.{List.Elements.All-nil, Option.
 use Rattle.std.proofs.Common.{◌≡◌, sym, ap, ◌∙◌, subst, ℕ, zero, suc, ◌+◌, ◌-◌, ◌<◌, ◌≤◌, ◌⊎◌, inl, inr, arith, List, [], ◌∷◌, ◌++◌, length, length-append, take, Some, slice_get}
 use Rattle.dr_ages.proofs.{Fresh.IsRoomyAt, Good.IsGood}
 use Rattle.dr_entry.specs.{Messages.IsMessage, declared.limits.TheConstants.MAX_MESSAGES}
+use Rattle.dr_entry.proofs.ListPlaces.{slice_get-left, slice_get-push_cases, slice_get-seam, slice_get-some}
 use Rattle.dr_opening.specs.Accepted.{judged_by}
-use Rattle.dr_history_laws.proofs.Lists.{slice_get-left, slice_get-push_cases, slice_get-seam, slice_get-some}
 use Rattle.dr_script.specs.{Ranges.{HasFaultRanges, HasRanges}, declared.script.Script.Script}
 use Rattle.dr_senders.specs.Senders.{HaveGrown, Lists}
 use Rattle.dr_senders.proofs.Growth.{grown_length, grown_same, grown_then, stands_grown}
 use Rattle.dr_yard.specs.Yards.{YardState}
 use Rattle.dr_live.specs.Live.{AreGrowing, IsLastOf, IsLivePlan, plan_with}
 use Rattle.dr_live.proofs.Choosing.{chosen_before, used_before}
-
--- ---- growth
 
 -- ---- what stands
 

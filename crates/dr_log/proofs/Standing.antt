@@ -1,14 +1,16 @@
 -- What a log stands for: its content, what is read of it, and what it may lose.
 use Rattle.std.specs.Prelude.{All, slice_index_or, option_map, IsSomeAnd}
-use Rattle.std.proofs.Common.{◌+◌, ◌*◌, ◌≤◌, List, length, arith, ◌≡◌, refl, Option, None, Some, true, ap, sym, ◌∙◌, inl, inr, [], IfSome, ◌≢◌, ℕ, Bool, false}
-use Rattle.std.proofs.lemmas.{List.Sums.sum_by-le, Option.same_Some}
-use Rattle.dr_entry.specs.{Spelling.vote_spelling, declared.limits.TheConstants.MAX_MEMBERS}
-use Rattle.dr_entry.{specs.declared.record.{AgeVote.AgeVote, Vote.Vote}, proofs.Trims.short_vote}
+use Rattle.std.proofs.Common.{◌+◌, ◌*◌, ◌≤◌, List, length, arith, ◌≡◌, refl, Option, None, Some, true, ap, sym, ◌∙◌, inl, inr, [], IfSome, ◌≢◌, ℕ, Bool, false, ◌-◌, ◌∷◌, suc, filter}
+use Rattle.std.proofs.lemmas.{List.{Elements.{All-head, All-tail}, Sums.{sum_by-le, sum_by-cons}}, Option.same_Some}
+use Rattle.dr_entry.specs.{Spelling.{vote_spelling, IsValidEntry, entry_spelling}, declared.entry.Entry.Entry}
+use Rattle.dr_entry.specs.declared.{entry.Entry.TheVariants.{View, Msg}, limits.TheConstants.MAX_MEMBERS}
+use Rattle.dr_entry.{specs.declared.record.{AgeVote.AgeVote, Vote.Vote}, proofs.Entries.is_message}
+use Rattle.dr_entry.proofs.{Records.short_block, Trims.short_vote}
 use Rattle.dr_entry.specs.declared.record.Record.TheVariants as records
 use Rattle.dr_disk.{specs.{Disk.{Told, content_of, state_of}, Images.{Goes, IsLeft}}, proofs.Moments.Went-weaken}
 use Rattle.dr_log_bytes.specs.{Content.{OnLog, empty_of, block_length}, Grammar.{StandFor, IsDamaged}}
 use Rattle.dr_log_bytes.proofs.{Grammars.newer_either, Meaning.{content_once, stands_or_damaged, damaged_once}}
-use Rattle.dr_log.specs.Standing.{votes_length, with_age_vote, in_newer_format, LosesNone, StandAlike, KeepsRecords}
+use Rattle.dr_log.specs.Standing.{votes_length, with_age_vote, in_newer_format, LosesNone, StandAlike, KeepsRecords, entries_length}
 use Rattle.dr_log.specs.State.{LogState}
 
 pub short_votes : (vs : List Vote) → All (λ (v : Vote). v.members ≤ MAX_MEMBERS) vs → votes_length vs ≤ 73 * length vs
@@ -88,3 +90,28 @@ alike_goes None (Some now) P more goes left = absurd goes
 alike_goes (Some told) None P more goes left = absurd goes
 alike_goes (Some told) (Some now) P more goes left = Went-weaken told now (KeepsRecords (state_of told)) P
     (λ image k. more k.before image k.alike (left k.before k.was)) goes
+
+-- a View takes 7 bytes, and a message 72 at most
+pub entries_short : (es : List Entry) → All IsValidEntry es
+    → entries_length es ≤ 7 * length es + 65 * length (filter is_message es)
+entries_short [] valid = omega arith
+entries_short (View a k m ∷ es) valid =
+    let block : 1 + length (entry_spelling (View a k m)) ≤ 7 = omega arith in
+    let told : length (filter is_message (View a k m ∷ es)) ≡ length (filter is_message es) = refl in
+    omega (
+      arith,
+      block,
+      told,
+      sum_by-cons (λ (e : Entry). 1 + length (entry_spelling e)) (View a k m) es,
+      entries_short es (All-tail IsValidEntry (View a k m) es valid),
+    )
+entries_short (Msg s i b ∷ es) valid =
+    let block = short_block (Msg s i b) (All-head IsValidEntry (Msg s i b) es valid) in
+    let told : length (filter is_message (Msg s i b ∷ es)) ≡ suc (length (filter is_message es)) = refl in
+    omega (
+      arith,
+      block,
+      told,
+      sum_by-cons (λ (e : Entry). 1 + length (entry_spelling e)) (Msg s i b) es,
+      entries_short es (All-tail IsValidEntry (Msg s i b) es valid),
+    )

@@ -1,6 +1,7 @@
 -- The grammar of a log's bytes, where bytes are appended, and in ordinary logs.
-use Rattle.std.{specs.Prelude.{if◌then◌else◌, All}, proofs.lemmas.List.Elements.{All-append, All-cons, All-nil}}
+use Rattle.std.specs.Prelude.{if◌then◌else◌, All, Option, None, Some, is_some}
 use Rattle.std.proofs.Common.{◌≡◌, ℕ, ◌+◌, ◌-◌, List, [], ◌∷◌, ◌++◌, refl, sym, ap, ◌∙◌, append_assoc, ◌⊎◌, Bool, ◌≤◌, length, inl, inr, arith, true, false, subst}
+use Rattle.std.proofs.lemmas.List.Elements.{All-append, All-cons, All-nil}
 use Rattle.dr_entry.specs.{Spelling.{spelling, IsValid, IsValidVote}, declared.record.Record.Record}
 use Rattle.dr_entry.proofs.Records.{IsOrdinary}
 use Rattle.dr_entry.specs.declared.record.Record.TheVariants as records
@@ -98,3 +99,7 @@ pub stands_valid : (bytes : List ℕ) (c : OnLog) → StandFor bytes c → All I
 stands_valid bytes c (inl few) = subst (λ (d : OnLog). All IsValidVote d.votes) (sym few.1) (All-nil IsValidVote)
 stands_valid bytes c (inr more) = subst (λ (d : OnLog). All IsValidVote d.votes) more.1.content
     (made_valid more.1.records (empty_of more.1.newer) more.1.log.spelled (All-nil IsValidVote))
+
+pub some_there : (o : Option OnLog) → is_some o ≡ true → (c : OnLog) × (o ≡ Some c)
+some_there None e = absurd (cc)
+some_there (Some c) e = (c, refl)

@@ -1,20 +1,23 @@
 -- The event that a step of a member is: of that member, and that step of it. And which few steps change how
 -- the members stand, what they have put and delivered, and who shows done.
 use Rattle.std.specs.Prelude.{Option, unwrap_or}
-use Rattle.std.proofs.Common.{◌≡◌, ◌∙◌, ◌⊎◌, ap, refl, subst, sym, inl, inr, ℕ, ◌+◌, arith, List, [], ◌∷◌, ◌++◌}
+use Rattle.std.proofs.Common.{◌≡◌, ◌∙◌, ◌⊎◌, ap, refl, subst, sym, inl, inr, ℕ, ◌+◌, arith, List, [], ◌∷◌, ◌++◌, Bool, true, false}
 use Rattle.dr_entry.specs.declared.{end.{End.End, SentItem.SentItem}, entry.{Entry.Entry, Item.Item}}
-use Rattle.dr_entry.specs.declared.record.Value.{Value}
+use Rattle.dr_entry.{specs.declared.record.Value.Value, proofs.Entries.Letters}
 use Rattle.dr_entry.specs.declared.end.SentItem.TheVariants as sent_items
 use Rattle.dr_history.specs.History.{Sent, last_view}
 use Rattle.dr_words.specs.{Masks.with_member, declared.column.TheConstants.{BEAT_COLUMN, DONE_COLUMN}}
 use Rattle.dr_words.proofs.Rewrites.{accepted_rest, wedged_rest}
 use Rattle.dr_ring.specs.{Pieces.pieces, Slots.slot_column}
-use Rattle.dr_machine.specs.{Acts.{CanDo, CanTake, does, effect_of}, Events.{event_of, member_of, step_of}}
+use Rattle.dr_machine.specs.{Acts.{CanDo, CanTake, does, effect_of, Guard, effect}, declared.step.Step.Step}
 use Rattle.dr_machine.specs.Effects.{accepts, commits, delivers, ends, finishes, gains, joins, marks, next_item, one_more, puts, reports, row_with, stamped, stamped_in, suspects, welcomes}
-use Rattle.dr_machine.specs.{Group.{Group, roster}, Writes.{at, at₂}, declared.{event.Act.Act, step.Step.Step}}
+use Rattle.dr_machine.specs.{Events.{event_of, member_of, step_of}, Group.{Group, roster}, declared.event.Act.Act}
 use Rattle.dr_machine.specs.Guards.{CanCommit, CanDeliver, CanFinish, CanJoin, CanMark, CanNull, CanReport, CanSend, CanSuspect, CanWelcome, IsDue, IsFault, IsInView, IsRunning, next_index}
-use Rattle.dr_machine.specs.{World.{World, items_received}, declared.step.Step.TheVariants.{Do, Join, Welcome}}
+use Rattle.dr_machine.{specs.{Run.IsReached, Writes.{at, at₂}}, proofs.Runs.reached_more}
+use Rattle.dr_machine.specs.{World.{World, items_received}, declared.step.Step.TheVariants.{Do, Join, Welcome, Look}}
 use Rattle.dr_machine.specs.declared.event.Act.TheVariants as acts
+use Rattle.dr_machine.specs.Events as events
+use Rattle.dr_machine.specs.declared.step.Step.TheVariants as steps
 
 -- whose event it is
 pub member_of_event : (m : ℕ) (s : Step) → member_of (event_of m s) ≡ m
@@ -135,12 +138,6 @@ letters_after g w m (Welcome j) P can given same = given j can
 letters_after g w m (Do a) P can given same = subst P (sym (act_letters g w m a)) same
 letters_after g w m s P can given same = same
 
--- the letters so far, and who has given them, in which view
-pub record Letters : Type 0 where
-  pub view : ℕ → ℕ
-  pub given : ℕ → ℕ
-  pub letter : ℕ → Option (List Entry)
-
 abbrev pub letters : World → Letters
 letters w = record { view = w.past.view; given = w.given; letter = w.letter }
 
@@ -218,3 +215,30 @@ marks_or_leaves g w m (Do a) can = by (does_mark g w m a can)
     by (inr same) = inr (stamped_done w (does g w m a) m (w.past.view m) same)
 marks_or_leaves g w m Join can = inr (row_same w.past.own m (last_view (0, 0) (unwrap_or (w.letter m) [])).0 _ refl)
 marks_or_leaves g w m s can = inr (λ k v. refl)
+
+-- a step of a member is an event
+pub is_event : (g : Group) (w after : World) (m : ℕ) (s : Step) → CanTake g w m s → after
+    ≡ effect_of g w m s → Guard g w (event_of m s) × (after ≡ effect g w (event_of m s))
+is_event g w after m s can e = subst (λ k. CanTake g w k (events.step_of (event_of m s))
+    × (after ≡ effect_of g w k (events.step_of (event_of m s)))) (sym (member_of_event m s))
+    (subst (λ x. CanTake g w m x × (after ≡ effect_of g w m x)) (sym (step_of_event m s)) (can, e))
+
+-- so what comes of a step that may come is reached, where the world before it is
+pub taken_reached : (g : Group) (w after : World) (m : ℕ) (s : Step) → IsReached g w → CanTake g w m s
+    → after ≡ effect_of g w m s → IsReached g after
+taken_reached g w after m s reached can e =
+    reached_more g w after (event_of m s) reached (inl (is_event g w after m s can e))
+
+-- by how much a step lowers the work, at least
+abbrev pub least : Step → ℕ
+least (steps.Do acts.Beat) = 0
+least (steps.Do acts.Publish) = 2
+least (steps.Do (acts.Halt end)) = 0
+least (steps.Do (acts.Crash end)) = 0
+least (steps.Do a) = 1
+least (steps.Welcome j) = 1
+least s = 0
+
+abbrev pub is_look : Step → Bool
+is_look (Look i c) = true
+is_look s = false

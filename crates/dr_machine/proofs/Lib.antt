@@ -6,3 +6,8 @@ pub mod Ends
 pub mod Voting
 pub mod Groups
 pub mod Worlds
+pub mod Writes
+pub mod Exclusions
+pub mod Letters
+pub mod Messages
+pub mod Passed

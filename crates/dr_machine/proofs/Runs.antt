@@ -131,3 +131,18 @@ pub events_more : (g : Group) (w after : World) (e : Event) → ComesOfEvents g 
     → ComesOfEvents g after
 events_more g w after e (es, run) happens =
     (es ++ e ∷ [], run_on g (opening_world g) w after es (e ∷ []) run (after, happens, refl))
+
+-- a word that may come where one moment is added is the own one of that moment, or could come before
+pub one_more_moment : (us : List World) (w : World) (v i c x : ℕ) → MayArrive (w ∷ us) w v i c x
+    → MayArrive us w v i c x ⊎ (x ≡ w.past.own i v c)
+one_more_moment us w v i c x (inr t) = inl (inr t)
+one_more_moment us w v i c x (inl was) = by (last_or_before us w was.0 was.1)
+  where
+    by : (w ≡ was.0) ⊎ Contains us was.0 → MayArrive us w v i c x ⊎ (x ≡ w.past.own i v c)
+    by (inl same) = inr (subst (λ (u : World). x ≡ u.past.own i v c) (sym same) (sym was.3))
+    by (inr earlier) = inl (inl (was.0, earlier, was.2, was.3))
+
+-- the opening is one of the worlds on the way
+pub opening-in : (g : Group) (us : List World) (w : World) → Way g us w → Contains (w ∷ us) (opening_world g)
+opening-in g [] w way = subst (λ (u : World). Contains (w ∷ []) u) way (is_last [] w)
+opening-in g (u ∷ us) w way = is_before (u ∷ us) w (opening_world g) (opening-in g us u way.0)

@@ -1,9 +1,10 @@
 -- What a member puts in a view: what stands behind what it has put.
-use Rattle.std.proofs.Common.{List, Some, [], ap, arith, inl, inr, length, slice_get, sym, ℕ, ◌++◌, ◌+◌, ◌<◌, ◌∙◌, ◌∷◌, ◌≡◌, ◌≢◌, ◌≤◌, ◌⊎◌}
+use Rattle.std.proofs.Common.{List, Some, [], ap, arith, inl, inr, length, slice_get, sym, ℕ, ◌++◌, ◌+◌, ◌<◌, ◌∙◌, ◌∷◌, ◌≡◌, ◌≢◌, ◌≤◌, ◌⊎◌, refl, ◌-◌}
 use Rattle.std.proofs.lemmas.{Bool.{cases_eq, cases_lt}, List.length_push}
 use Rattle.dr_entry.specs.declared.end.SentItem.{SentItem, TheVariants.{Index, Null}}
 use Rattle.dr_entry.proofs.ListPlaces.{get_next, get_before}
-use Rattle.dr_history.{specs.History.messages_in, proofs.Histories.{messages_within, messages_next, messages_null}}
+use Rattle.dr_history.specs.History.{messages_in}
+use Rattle.dr_history.proofs.Indices.{messages_in-le, messages_in-message, messages_within, messages_next, messages_null, first_messages, first-few}
 use Rattle.dr_machine.specs.Sending.{IsPut}
 
 -- where a message is left, nothing but messages was put
@@ -51,3 +52,20 @@ next_null first total items put none = record {
   left = omega (arith, put.left, messages_null items);
   nulls = λ l. omega (arith, put.left, none, messages_null items);
 }
+
+-- behind the messages that a member puts there are nulls
+pub null_behind : (first total : ℕ) (items : List SentItem) (k : ℕ) (item : SentItem)
+    → IsPut first total items → messages_in items ≤ k → slice_get items k ≡ Some item → item ≡ Null
+null_behind first total items k Null put late e = refl
+null_behind first total items k (Index i) put late e = absurd (omega (
+  arith,
+  messages_in-message items k i e,
+  first-few items (k + 1),
+  messages_in-le items (messages_in items) k late,
+  first_messages items (messages_in items) (λ j l. (first + j, put.index j l)),
+))
+
+-- who has put as many items as it has messages left has put all of these
+pub all_put : (first total : ℕ) (items : List SentItem) → IsPut first total items
+    → total - first ≤ length items → total - first ≤ messages_in items
+all_put first total items put enough = grind (arith, put.nulls, put.left, enough)

@@ -6,14 +6,14 @@ use Rattle.dr_rows.specs.{Along.{Pushes, looked_along, pushed_along, with_push},
 use Rattle.dr_rows.proofs.Along.{looked_more, push_is, push_is_none, pushed_more, seen_behind}
 use Rattle.dr_rows.specs.Words as words
 use Rattle.dr_words.{specs.{Columns.columns_of, Form.IsInForm, Grown.HasGrown}, proofs.Order.Grown_refl}
-use Rattle.dr_form.proofs.Keeps.{looked_keeps, looked_rises, pushed_keeps}
 use Rattle.dr_program.specs.declared.deed.Deed.TheVariants as deeds
 use Rattle.dr_program.specs.declared.place.Part.TheVariants as parts
 use Rattle.dr_program.specs.{Form.{HasForm, IsRunningMember}, Program.next_sight, Reading.{step_due, step_of_member}}
 use Rattle.dr_program.specs.Replica.{Replica, is_inside, is_other, looked, me, pushed}
 use Rattle.dr_program.specs.Running.{Running, after_step, asks, crashes_now, next_deed, next_step, push_or_crash, settled, step_at}
 use Rattle.dr_program.specs.{Sight.MaySee, Steps.{NoWordFell, allows, index_in, sight, stored}, Turn.{IsIn, part_of}}
-use Rattle.dr_program.{specs.declared.place.Place.Place, proofs.Replicas.{may_look, IsLookOf}}
+use Rattle.dr_program.{specs.declared.place.Place.Place, proofs.Keeps.{looked_keeps, looked_rises, pushed_keeps}}
+use Rattle.dr_program.proofs.Replicas.{may_look, IsLookOf}
 use Rattle.dr_machine.specs.declared.step.Step.TheVariants as steps
 use Rattle.dr_machine.{specs.Effects.one_more, proofs.Worlds.{raised, raised_by}}
 use Rattle.dr_suspect.specs.Waits.{Waits, compared}

@@ -3,9 +3,9 @@ use Rattle.std.{specs.Prelude.{None, is_some}, proofs.Common.{◌≡◌, refl, f
 use Rattle.dr_machine.specs.declared.step.Step.{Step, TheVariants.Do}
 use Rattle.dr_program.specs.Running.{Running, deed_of, after_step, deed, next_deed, next_step, step_at}
 use Rattle.dr_program.specs.{Turn.is_beat, declared.{deed.Deed.Deed, place.Part.Part}}
+use Rattle.dr_program.proofs.{Parts.{is_final, end_stays}, Search.settled_same}
 use Rattle.dr_program.specs.declared.place.Part.TheVariants as parts
 use Rattle.dr_program.specs.declared.deed.Deed.TheVariants as deeds
-use Rattle.dr_turn.proofs.{Parts.{is_final, end_stays}, Search.settled_same}
 use Rattle.dr_member.specs.Deeds.{is_act, is_look, is_push, is_take}
 
 only_acts_are_final : (r : Running) (s : Step) → is_act (deed_of r s) ≡ false → is_final s ≡ false

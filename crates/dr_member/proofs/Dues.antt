@@ -10,9 +10,8 @@ use Rattle.dr_program.specs.Running.{AsksForLetter, Running, append_or_end, cras
 use Rattle.dr_program.specs.{Sight.{IsSeenNext, MaySee}, Steps.{IsAppend, has_cell, is_outside_step, stepped}}
 use Rattle.dr_program.specs.{Turn.part_of, declared.{outcome.LogWhy.LogWhy, place.{Part.Part, Place.Place}}}
 use Rattle.dr_program.proofs.RunningPrograms.{IsCellOf, deed_due, is_cell, allowed_inside, in_view}
-use Rattle.dr_program.proofs.{StepsAt.{append_either, push_either, vote_either}, Waiting.append_free}
+use Rattle.dr_program.proofs.{StepsAt.{append_either, push_either, vote_either, taking}, Waiting.append_free}
 use Rattle.dr_program.specs.declared.place.Part.TheVariants as parts
-use Rattle.dr_turn.proofs.Takes.{taking}
 use Rattle.dr_member.specs.{Deeds.{is_act, is_append, is_give, is_look, is_push, is_take}, Search.step_by}
 use Rattle.dr_member.specs.declared.search.Due.{Due}
 use Rattle.dr_member.specs.declared.search.Due.TheVariants as dues

@@ -6,8 +6,8 @@ use Rattle.dr_words.specs.Columns.{columns_of}
 use Rattle.dr_form.specs.Letters.{IsFitting}
 use Rattle.dr_program.specs.{Form.{HasForm, IsRunningMember}, Replica.{Replica, gave}}
 use Rattle.dr_program.specs.{Running.{Running, goes, next_deed, next_step, settled, took_letter}, Steps.NoWordFell}
-use Rattle.dr_program.specs.{Turn.{part_of, turn_ends}, declared.place.Place.Place}
-use Rattle.dr_turn.{specs.{Search.IsUnderway, Work.{IsAfterDeed, LeadsOn}}, proofs.Order.ends_in}
+use Rattle.dr_program.{specs.{Turn.{part_of, turn_ends}, declared.place.Place.Place}, proofs.Order.ends_in}
+use Rattle.dr_turn.specs.{Search.IsUnderway, Work.{IsAfterDeed, LeadsOn}}
 use Rattle.dr_turn.proofs.Takes.{takes_done, takes_keep_form}
 use Rattle.dr_member.specs.{Deeds.{is_give, is_take}, Inside.{IsInsideMember, member_inside}, Search.standing}
 use Rattle.dr_member.specs.declared.{fate.Fate.Fate, member.Member.TheInside.Inside}

@@ -2,12 +2,11 @@
 use Rattle.std.{specs.Prelude.None, proofs.lemmas.Bool.Decides.nat_tests}
 use Rattle.std.proofs.Common.{◌≡◌, sym, ap, ◌∙◌, subst, ℕ, zero, suc, ◌+◌, ◌-◌, ◌<◌, ◌==◌, not, true, false, if◌then◌else◌, nat_lt, arith}
 use Rattle.dr_program.specs.{Replica.{Replica, is_inside, may_give}, Running.step_at, Turn.{part_of, rows_in}}
-use Rattle.dr_program.{specs.declared.place.{Part.Part, Place.Place}, proofs.Parts.{begin, give_to}}
-use Rattle.dr_program.proofs.{Replicas.all_allowed, Voting.no_letters}
+use Rattle.dr_program.{specs.declared.place.{Part.Part, Place.Place}, proofs.Order.give_place}
+use Rattle.dr_program.proofs.{Parts.{begin, give_to}, Replicas.all_allowed, Voting.no_letters, Works.take_place}
 use Rattle.dr_program.specs.declared.place.Part.TheVariants as parts
 use Rattle.dr_words.specs.{Columns.columns_of, Masks.without}
-use Rattle.dr_turn.{specs.Search.IsUnderway, proofs.{Order.give_place, Search.{GoesBy, goes_far}, Staying.goes_on}}
-use Rattle.dr_turn.proofs.Works.{take_place}
+use Rattle.dr_turn.{specs.Search.IsUnderway, proofs.{Search.{GoesBy, goes_far}, Staying.goes_on}}
 use Rattle.dr_member.specs.{Search.{next_row, standing}, declared.fate.Fate.Fate}
 use Rattle.dr_member.{specs.declared.search.TheConstants.{LOOKS, SPENT}, proofs.Passing.row_passed}
 

@@ -6,17 +6,17 @@ use Rattle.dr_suspect.specs.Waits.{Waits, compared}
 use Rattle.dr_words.specs.{Columns.columns_of, declared.column.TheConstants.LOGGED_COLUMN}
 use Rattle.dr_machine.specs.{Effects.one_more, declared.{event.Act.Act, step.Step.TheVariants.Do}}
 use Rattle.dr_machine.specs.declared.event.Act.TheVariants as acts
-use Rattle.dr_program.specs.{Acts.{is_outside_act, may, taken}, Sight.MaySee, Turn.{after, columns_in, part_of}}
-use Rattle.dr_program.specs.{Form.{HasForm, IsRunningMember}, Steps.{NoWordFell, allows, has_cell, is_free, stepped}}
+use Rattle.dr_program.specs.{Acts.{is_outside_act, may, taken}, Form.{HasForm, IsRunningMember}}
 use Rattle.dr_program.specs.{Reading.step_of_member, Replica.{Replica, appended, is_inside, is_other, looked, pushed}}
 use Rattle.dr_program.specs.Running.{Running, applies, crashes_now, goes, next_deed, next_step, settled}
-use Rattle.dr_program.{specs.declared.place.{Part.Part, Place.Place}, proofs.Replicas.{may_look, cell_test}}
-use Rattle.dr_program.proofs.{Parts.begin, StepsAt.look_due}
-use Rattle.dr_program.proofs.{RunningPrograms.{IsLookDue, allowed, allowed_inside, deed_due}, Waiting.free_step}
+use Rattle.dr_program.specs.{Sight.MaySee, Steps.{NoWordFell, allows, has_cell, is_free, stepped}}
+use Rattle.dr_program.specs.{Turn.{after, columns_in, part_of}, declared.place.{Part.Part, Place.Place}}
+use Rattle.dr_program.proofs.{Order.append_next, Parts.begin, Replicas.{may_look, cell_test}}
+use Rattle.dr_program.proofs.RunningPrograms.{IsLookDue, allowed, allowed_inside, deed_due, stays}
+use Rattle.dr_program.proofs.{Search.{look_applies, push_applies}, StepsAt.look_due, Waiting.free_step}
 use Rattle.dr_program.specs.declared.place.Part.TheVariants as parts
 use Rattle.dr_entry.proofs.BoolFacts.{together}
-use Rattle.dr_turn.{specs.Search.IsUnderway, proofs.{Order.append_next, Search.{look_applies, push_applies}}}
-use Rattle.dr_turn.proofs.{Staying.stays, Works.{IsAnswer, answer_at}}
+use Rattle.dr_turn.{specs.Search.IsUnderway, proofs.Works.{IsAnswer, answer_at}}
 use Rattle.dr_member.{specs.Deeds.{is_act, is_append, is_push}, proofs.Indices.{bases_stay, footing}}
 use Rattle.dr_member.{specs.{Fate.{IsTimely, is_of_view}, Ready.KeepsReady}, proofs.Fates.{IsFateBy, fate_told}}
 use Rattle.dr_member.specs.{Inside.{IsInsideMember, member_inside}, declared.member.Member.TheInside.Inside}

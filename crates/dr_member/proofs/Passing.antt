@@ -1,14 +1,14 @@
 -- What the search may pass over at once.
 use Rattle.std.{specs.Prelude.{None, is_some}, proofs.lemmas.Bool.Decides.nat_tests}
 use Rattle.std.proofs.Common.{◌≡◌, refl, subst, ap, ◌∙◌, ℕ, zero, suc, ◌+◌, ◌-◌, ◌<◌, ◌≤◌, ◌==◌, ◌&&◌, ◌||◌, Bool, true, false, if◌then◌else◌, nat_lt, le_refl, sym, arith}
-use Rattle.dr_entry.proofs.BoolFacts.{neither}
+use Rattle.dr_entry.proofs.BoolFacts.{neither, stops_due}
 use Rattle.dr_rows.specs.Words.{changed}
 use Rattle.dr_program.specs.declared.place.Part.TheVariants as parts
 use Rattle.dr_program.specs.Replica.{Replica, is_inside, is_other}
 use Rattle.dr_program.specs.Running.{Running, members, columns, applies, crashes_now, push_or_crash, settled, step_at}
 use Rattle.dr_program.specs.{Steps.{allows, has_cell}, Turn.{columns_in, part_of}, declared.place.Place.Place}
-use Rattle.dr_turn.{specs.Search.IsUnderway, proofs.Search.{applies_at, applies_from, GoesBy, goes_far}}
-use Rattle.dr_turn.proofs.Staying.{settled_here, stops_due, goes_on}
+use Rattle.dr_program.proofs.{RunningPrograms.settled_here, Search.{applies_at, applies_from}}
+use Rattle.dr_turn.{specs.Search.IsUnderway, proofs.{Search.{GoesBy, goes_far}, Staying.goes_on}}
 use Rattle.dr_member.specs.{Search.{IsFirstDue, IsIdleTo, next_row, standing}, declared.fate.Fate.Fate}
 
 -- the place of this column in the row, or what comes after the row where it has no such column
@@ -120,5 +120,3 @@ pushes_nothing replica fate p c at neither_one = ap (λ x. applies_at (standing 
     by true crashes is e = absurd (cc e)
     by false true is e = absurd (cc e)
     by false false is e = ap (λ x. x && has_cell replica p.row c) is
-
--- ---- parts with one place

@@ -7,12 +7,11 @@ use Rattle.dr_ring.{specs.Slots.{IsReady, slot_of}, proofs.Readiness.{not_yet, r
 use Rattle.dr_words.specs.Columns.{columns_of}
 use Rattle.dr_machine.specs.declared.{event.Act.Act, step.Step.TheVariants.Do}
 use Rattle.dr_machine.specs.declared.event.Act.TheVariants as acts
-use Rattle.dr_program.specs.{Acts.{may, taken}, Form.HasForm}
+use Rattle.dr_program.{specs.{Acts.{may, taken}, Form.HasForm}, proofs.Parts.is_receive}
 use Rattle.dr_program.specs.Replica.{Replica, acted, count, greatest, is_other, is_wedged, may_receive, me, ready_item, received}
-use Rattle.dr_program.specs.{Running.{goes, next_step, step_at}, Turn.{IsIn, after, part_of}}
-use Rattle.dr_program.{specs.declared.place.{Part.Part, Place.Place}, proofs.{Parts.is_receive, Replicas.slots_stay}}
+use Rattle.dr_program.specs.{Running.{goes, next_step, step_at}, declared.place.{Part.Part, Place.Place}}
+use Rattle.dr_program.{specs.Turn.{IsIn, after, part_of}, proofs.{Replicas.slots_stay, Works.goes_receives}}
 use Rattle.dr_program.specs.declared.place.Part.TheVariants as parts
-use Rattle.dr_turn.proofs.Works.{goes_receives}
 use Rattle.dr_member.specs.{Inside.{IsInsideMember, member_inside}, Ready.{KeepsReady, TellsReady}}
 use Rattle.dr_member.specs.declared.member.Member.TheInside.{Inside}
 

@@ -1,12 +1,12 @@
 -- Where nothing of a vote is due, the search goes past the parts that votes have.
 use Rattle.std.{specs.Prelude.{None, is_some}, proofs.Common.{◌≡◌, sym, ap, ◌∙◌, subst, true}}
-use Rattle.dr_entry.proofs.BoolFacts.{calm_parts, first_fails, second_fails}
+use Rattle.dr_entry.proofs.{BoolFacts.{calm_parts, first_fails, second_fails}, OptionFacts.no_value}
 use Rattle.dr_program.specs.declared.place.Part.TheVariants as parts
 use Rattle.dr_program.specs.Replica.{Replica, is_inside, is_named, is_others, is_own, is_wedged, me, value_due}
 use Rattle.dr_program.specs.{Running.vote_or_end, Steps.allows, Turn.part_of, declared.place.Place.Place}
-use Rattle.dr_program.proofs.{Parts.{begin, none_there}, Replicas.none_waits}
+use Rattle.dr_program.proofs.{Order.vote_place, Parts.begin, Replicas.none_waits}
 use Rattle.dr_words.specs.Columns.{columns_of}
-use Rattle.dr_turn.{specs.Search.IsUnderway, proofs.{Order.vote_place, Search.{GoesBy, goes_far}, Staying.goes_on}}
+use Rattle.dr_turn.{specs.Search.IsUnderway, proofs.{Search.{GoesBy, goes_far}, Staying.goes_on}}
 use Rattle.dr_member.specs.{Search.{is_calm, standing}, declared.fate.Fate.Fate, declared.search.TheConstants.PUSHES}
 
 -- ---- what is idle where nothing of a vote is due
@@ -18,7 +18,7 @@ past q fate calm none u =
     let parts = calm_parts (is_some fate.failed) (is_wedged q) (is_named (me q) q.committed) calm in
     let pending = none_waits q.pending (me q) u.free in
     let vote = goes_on (standing q fate (begin 11)) u none (ap (λ o. allows q (vote_or_end o (value_due q)))
-    (none_there fate.failed parts.0) ∙ second_fails (is_inside q) _ (first_fails (is_wedged q) _ parts.1.0)) in
+    (no_value fate.failed parts.0) ∙ second_fails (is_inside q) _ (first_fails (is_wedged q) _ parts.1.0)) in
     let propose = goes_on (standing q fate (begin 12)) vote.underway none
     (second_fails (is_inside q) _ (ap (is_own (me q)) pending)) in
     let accept = goes_on (standing q fate (begin 13)) propose.underway none

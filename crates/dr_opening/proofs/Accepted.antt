@@ -1,10 +1,9 @@
 -- Disks whose logs are in step, whatever a crash has left of them: they stay so, where none is missing.
 use Rattle.std.{specs.Prelude.{take, Some, slice_get}, proofs.Common.{◌≡◌, refl, ℕ, ◌-◌, List, []}}
 use Rattle.dr_entry.specs.declared.entry.Entry.{Entry}
-use Rattle.dr_history.specs.History.{IsPrefixOf, Sent}
+use Rattle.dr_history.{specs.History.{IsPrefixOf, Sent}, proofs.{Keeping.both_along, Openings.InOrder-first}}
+use Rattle.dr_history.proofs.Standing.{history-stands, part-stands, stands-by}
 use Rattle.dr_script.specs.declared.script.Script.{Script}
-use Rattle.dr_history_laws.proofs.{Openings.InOrder-first, Parts.both_along}
-use Rattle.dr_history_laws.proofs.Standing.{history-stands, part-stands, stands-by}
 use Rattle.dr_machine.specs.Group.{IsGroup}
 use Rattle.dr_restart.specs.{Groups.group_of, declared.start.Start.Start}
 use Rattle.dr_opening.specs.{Accepted.{AreAccepted, judged_by}, CatchingUp.opened_with}

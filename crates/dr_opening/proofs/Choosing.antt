@@ -1,19 +1,19 @@
 -- A start that was chosen is one that an age can open with.
-use Rattle.std.{specs.Prelude.option_map, proofs.lemmas.{List.length-map, Option.none-some}}
-use Rattle.std.proofs.Common.{◌≡◌, ap, sym, ◌∙◌, subst, refl, ℕ, ◌<◌, ◌≤◌, ◌^◌, ◌&&◌, not, nat_lt, arith, true, false, List, length, Option, None, Some}
+use Rattle.std.{specs.Prelude.option_map, proofs.lemmas.{List.{length-map, Sums.sum_by-cons}, Option.none-some}}
+use Rattle.std.proofs.Common.{◌≡◌, ap, sym, ◌∙◌, subst, refl, ℕ, ◌<◌, ◌≤◌, ◌^◌, ◌&&◌, not, nat_lt, arith, true, false, List, length, Option, None, Some, ◌+◌, [], ◌∷◌}
+use Rattle.dr_entry.specs.{Spelling.entry_spelling, declared.entry.Entry.{Entry, TheVariants.View}}
 use Rattle.dr_entry.proofs.ListPlaces.{within_places}
-use Rattle.dr_history.specs.{Members.has, Soundness.whole_roster, declared.opening.Opening.Opening}
-use Rattle.dr_history.proofs.Bits.{has_zero}
-use Rattle.dr_history_laws.proofs.Lengths.{start-short}
-use Rattle.dr_log.specs.State.{LogState}
+use Rattle.dr_history.{specs.{Members.has, declared.opening.Opening.Opening}, proofs.Lengths.{start-short, start-few}}
+use Rattle.dr_history.{specs.{Order.first_entries, Soundness.whole_roster}, proofs.Bits.has_zero}
+use Rattle.dr_log.{specs.{Standing.entries_length, State.LogState}, proofs.Growing.entries_length-append}
 use Rattle.dr_log_bytes.specs.Content.{OnLog}
 use Rattle.dr_machine.specs.Group.{IsGroup}
 use Rattle.dr_quorum.specs.Handing.{handed_by}
-use Rattle.dr_quorum_laws.proofs.{Handing.quorum-some, Sounding.choice-group}
-use Rattle.dr_restart.specs.{Choosing.IsChosenStart, Groups.{first_group_of, group_of}}
-use Rattle.dr_restart.specs.declared.{lists.LogLists.LogLists, start.Start.Start}
+use Rattle.dr_restart.{specs.Choosing.IsChosenStart, proofs.{Handing.quorum-some, Sounding.choice-group}}
+use Rattle.dr_restart.specs.{Groups.{first_group_of, group_of}, declared.{lists.LogLists.LogLists, start.Start.Start}}
 use Rattle.dr_script.specs.{Ranges.HasGroupRanges, declared.script.Script.Script}
 use Rattle.dr_words.{specs.Masks.without, proofs.Masks.has_mask_of}
+use Rattle.dr_served.proofs.Leaving.{stood_bytes}
 use Rattle.dr_opening.specs.Lists.{SomebodyPrompt, all_as_lists, as_lists, contents_of, log_of}
 use Rattle.dr_opening.{specs.Tries.{IsChosenOf, content_at}, proofs.{Lists.{content_is, handed_is}, Trying.in_set}}
 
@@ -115,3 +115,22 @@ chosen_late {D} script logs lists start late mask ranges all listed chosen whole
 
     there : SomebodyPrompt late logs
     there = let one = chosen_there (first_group_of script).opening logs start so in prompt one.0 one.1 one.2
+
+-- what an age begins with has View 0 besides
+pub opened_short : (script : Script) (contents : List (Option OnLog)) (start : Start) → HasGroupRanges script
+    → IsChosenOf (first_group_of script).opening contents start
+    → entries_length (first_entries (group_of script start).opening) ≤ 122159111
+opened_short script contents start ranges is =
+    let g = chosen_group script contents start ranges is in
+    let o = (group_of script start).opening in
+    let more = entries_length-append start.entries (View start.age 0 start.members ∷ []) in
+    let block : 1 + length (entry_spelling (View start.age 0 start.members)) ≤ 7 = omega arith in
+    let last = sum_by-cons (λ (e : Entry). 1 + length (entry_spelling e)) (View start.age 0 start.members) [] in
+    omega (
+      arith,
+      more,
+      block,
+      last,
+      stood_bytes (group_of script start) start.entries g g.sound.entries
+          (start-few o g.sound g.age g.some_member g.most_members g.messages),
+    )

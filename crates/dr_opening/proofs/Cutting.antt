@@ -1,9 +1,9 @@
 -- What two lists have in common, and the cut that is due.
 use Rattle.std.{specs.Prelude.min, proofs.lemmas.{Bool.cases_lt, List.take_all, Option.{same_Some, slice_get_within}}}
 use Rattle.std.proofs.Common.{◌≡◌, ap, sym, ◌∙◌, subst, inl, inr, ⊎_elim, ℕ, ◌<◌, ◌≤◌, arith, List, [], length, length-take, ◌++◌, take, take_at, drop, append-nil, refl, take-append-drop}
-use Rattle.dr_entry.specs.declared.entry.Entry.{Entry}
+use Rattle.dr_entry.{specs.declared.entry.Entry.Entry, proofs.ListPlaces.slice_get-some}
 use Rattle.dr_history.specs.{History.IsPrefixOf, Restarting.{AreAlong, DifferAt}}
-use Rattle.dr_history_laws.proofs.{Keeping.{prefix_beside, prefix_shorter}, Lists.{slice_get-prefix, slice_get-some}}
+use Rattle.dr_history.proofs.{Keeping.{prefix_beside, prefix_shorter}, Lists.slice_get-prefix}
 use Rattle.dr_log_bytes.specs.Content.{OnLog}
 use Rattle.dr_opening.specs.CuttingBack.{IsCommonFront, IsCutDue}
 

@@ -3,7 +3,7 @@ use Rattle.std.specs.Prelude.{if◌then◌else◌, option_map, is_some}
 use Rattle.std.proofs.Common.{◌≡◌, refl, ap, sym, ◌∙◌, ℕ, ◌<◌, ◌≤◌, arith, Bool, true, false, List, [], ◌∷◌, ◌++◌, length, take, ◌+◌, get_or, Option, None, Some, subst, inl, inr, drop}
 use Rattle.std.proofs.lemmas.{List.{get_or_read_under, length-map, take_more}, Option.{same_Some, none-some}}
 use Rattle.dr_entry.specs.{declared.entry.Entry.{Entry, TheVariants.View}, declared.record.AgeVote.AgeVote}
-use Rattle.dr_entry.proofs.{ListPlaces.mapped_at, OptionFacts.{both_there, neither_there}}
+use Rattle.dr_entry.proofs.{ListParts.in-nothing, ListPlaces.mapped_at, OptionFacts.{both_there, neither_there}}
 use Rattle.dr_entry.specs.declared.record.Record.TheVariants as records
 use Rattle.dr_history.specs.History.{IsPrefixOf}
 use Rattle.dr_log.specs.{Standing.{in_newer_format, with_age_vote, entries_length}, State.LogState}
@@ -12,7 +12,6 @@ use Rattle.dr_script.specs.{Ranges.HasGroupRanges, declared.script.Script.Script
 use Rattle.dr_restart.specs.{Choosing.{HasAge, IsChosenStart}, Groups.first_group_of, Trying.age_vote_of}
 use Rattle.dr_restart.specs.declared.{lists.LogLists.LogLists, start.Start.Start}
 use Rattle.dr_served.specs.Served.{HaveSamePlaces}
-use Rattle.dr_quorum_laws.proofs.Lists.{in-nothing}
 use Rattle.dr_quorum.specs.Handing.{handed_by}
 use Rattle.dr_opening.specs.{CatchingUp.opened_with, Contents.{IsCutFor, IsOpenFor, voted_for}}
 use Rattle.dr_opening.specs.{Lists.{all_as_lists, as_lists, contents_of, log_of}, Tries.{content_at, IsChosenOf}}
@@ -157,3 +156,20 @@ chosen_told {D} script logs lists start ranges all same chosen = record {
   chosen = subst (λ (ls : List (Option LogLists)). IsChosenStart
       (first_group_of script).opening (handed_by ls) start) same chosen;
 }
+
+-- a log that was handed in is one that is there
+pub handed_there : (after : List (Option OnLog)) (m : ℕ) (log : LogLists)
+    → option_map as_lists (content_at after m) ≡ Some log
+    → (c : OnLog) × (content_at after m ≡ Some c) × (as_lists c ≡ log)
+handed_there after m log at = by (content_at after m) refl at
+  where
+    by : (o : Option OnLog) → content_at after m ≡ o → option_map as_lists o ≡ Some log
+        → (c : OnLog) × (content_at after m ≡ Some c) × (as_lists c ≡ log)
+    by None here e = absurd (cc)
+    by (Some c) here e = (c, here, same_Some (as_lists c) log e)
+
+-- an age that is on a log that was handed in is on one that was found
+pub on_found : (contents : List (Option OnLog)) (m : ℕ) (log : LogLists)
+    → handed_by (all_as_lists contents) m ≡ Some log
+    → (c : OnLog) × (content_at contents m ≡ Some c) × (as_lists c ≡ log)
+on_found contents m log at = handed_there contents m log (sym (handed_is contents m) ∙ at)

@@ -1,8 +1,8 @@
 -- What the phases of an opening keep of what was on a log, and what they bring.
-use Rattle.std.proofs.Common.{◌≡◌, refl, ap, sym, ◌∙◌, subst, inl, inr, ◌⊎◌, [], ◌∷◌, append-nil, Contains}
+use Rattle.std.proofs.Common.{◌≡◌, refl, ap, sym, ◌∙◌, subst, inl, inr, ◌⊎◌, [], ◌∷◌, append-nil, Contains, ◌+◌, ◌++◌}
 use Rattle.std.proofs.lemmas.List.Elements.{Contains-append_left, Contains-push}
 use Rattle.dr_entry.specs.declared.record.AgeVote.{AgeVote}
-use Rattle.dr_history.{specs.History.IsPrefixOf, proofs.Histories.{part_of_opened, filled}}
+use Rattle.dr_history.{specs.History.IsPrefixOf, proofs.{Histories.part_of_opened, Lists.filled}}
 use Rattle.dr_log_bytes.specs.Content.{OnLog}
 use Rattle.dr_restart.specs.Trying.{BeginsWithCommon, MayBeBroughtUp, MayHaveAgeVote, age_vote_of, first_view_of}
 use Rattle.dr_restart.specs.declared.{lists.LogLists.LogLists, start.Start.Start}
@@ -143,3 +143,12 @@ pub rising_brought : (start : Start) (c now : OnLog) → IsRising start (voted_f
     → MayBeBroughtUp start c.entries now.entries
 rising_brought start c now way = subst (λ es. MayBeBroughtUp start es now.entries) (ap (λ (l : LogLists). l.entries)
     (voted_lists (age_vote_of start) c)) (rising_by start (voted_for start c) now way)
+
+pub base_votes : (start : Start) (first base : OnLog) → IsOpenFor start (voted_for start first) base
+    → base.votes ≡ first.votes
+base_votes start first base opened = (rising_keeps start first base (inr (inr opened))).votes
+
+pub base_age_votes : (start : Start) (first base : OnLog) → IsOpenFor start (voted_for start first) base
+    → base.age_votes ≡ first.age_votes ++ age_vote_of start ∷ []
+base_age_votes start first base opened = (rising_votes start (voted_for start first) base
+    (inr (inr opened))).age_votes ∙ ap (λ (l : LogLists). l.age_votes) (voted_lists (age_vote_of start) first)

@@ -8,14 +8,14 @@ use Rattle.dr_entry.specs.declared.end.End.TheVariants as ends
 use Rattle.dr_script.specs.{Reading.{Reading, Reads}, declared.script.Script.Script}
 use Rattle.dr_text.specs.declared.last.Last.{Last}
 use Rattle.dr_text.specs.declared.last.Last.TheVariants as lasts
-use Rattle.dr_yard.specs.Yards.{YardState, empty_yard}
+use Rattle.dr_yard.specs.Yards.{YardState}
 use Rattle.dr_intake.specs.Status.{status_of}
 use Rattle.dr_program_laws.specs.Trusting.{is_left_out, NoneLeft}
 use Rattle.dr_play.specs.Logged.{why_ended, NoneStopped}
 use Rattle.dr_ages.specs.declared.{mode.Mode.TheVariants.Sim, part.Part.Part, stop.Stop.Stop}
 use Rattle.dr_outcome.specs.Last.{refusal_of, some_end, some_so, is_of, last_by, last_of}
-use Rattle.dr_outcome.specs.Outcome.{unrun_ends, AreAllLate, WasPlayedOrNot, SaysOnly, IsDue, by_run, unrun, HasPlayed, IsRunInMemory, IsMemoryRun}
-use Rattle.dr_outcome.specs.{Playing.{Playing, part_in, simulated}, declared.outcome.Outcome.Outcome}
+use Rattle.dr_outcome.specs.Outcome.{unrun_ends, AreAllLate, WasPlayedOrNot, SaysOnly, IsDue, by_run, unrun, IsMemoryRun}
+use Rattle.dr_outcome.specs.{Playing.{Playing, part_in}, declared.outcome.Outcome.Outcome}
 use Rattle.dr_outcome.specs.declared.last.Kind.{Kind, TheVariants.{DiskFault, LogFull, NoMajority, Spent}}
 use Rattle.dr_outcome.specs.declared.outcome.Body.TheVariants as bodies
 
@@ -172,13 +172,6 @@ saying o text = record o { body = bodies.Text text }
 
 pub due : (o : Outcome) (text : List ℕ) → IsDue o → IsDue (saying o text)
 due o text is = elim is [ by_run told ↦ by_run told | unrun none unstopped tells ↦ unrun none unstopped tells ]
-
--- where there is a last line the script was run over empty disks, and the line is that of the run
-pub simulated_run : (script : Script) (o : Outcome) (line : Last)
-    → SaysOnly None empty_yard empty_yard o ⊎ HasPlayed simulated script empty_yard empty_yard o
-    → o.last ≡ Some line → IsRunInMemory script Sim o.ages o.stop × (last_of o.ages o.stop ≡ Some line)
-simulated_run script o line (inl wanting) is = absurd (none-some line (sym wanting.line ∙ is))
-simulated_run script o line (inr played) is = (played.run.1, sym played.line ∙ is)
 
 -- the run behind a last line
 pub run_behind : (script : Script) (part : Part) (ages : List AgeEnd) (stop : Option Stop) (last : Option Last) (line : Last)

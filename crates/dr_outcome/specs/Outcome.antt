@@ -1,7 +1,7 @@
 -- What was run, and what is said of it.
 use Rattle.std.specs.List.{flat_map}
 use Rattle.std.specs.Prelude.{◌≡◌, ◌≢◌, ◌⊎◌, ⊤, ℕ, ◌<◌, true, false, List, [], ◌∷◌, ◌++◌, length, Option, Some, None, Contains, IfSome}
-use Rattle.dr_ages.specs.{Ages.{HaveSomebodyPrompt, NamesNobody, all_but}, Fit.{AreFit, AreInStep}, Found.AreRoomy}
+use Rattle.dr_ages.specs.{Ages.{HaveSomebodyPrompt, NamesNobody}, Fit.{AreFit, AreInStep}, Found.AreRoomy}
 use Rattle.dr_ages.specs.{Runs.IsRunOf, declared.{mode.Mode.{Mode, TheVariants.Sim}, part.Part.Part, stop.Stop.Stop}}
 use Rattle.dr_complete.specs.Time.{HasTime}
 use Rattle.dr_entry.specs.declared.end.AgeEnd.{AgeEnd}
@@ -44,10 +44,6 @@ pub record IsMemoryRun (script : Script) (part : Part) (mode : Mode) (ages : Lis
   pub after : YardState
   pub calm : (m : ℕ) → after.faults m ≡ 0
   pub run : IsRunOf script part mode empty_yard after ages stop
-
--- the same where nobody is missing, and nobody late
-abbrev pub IsRunInMemory : Script → Mode → List AgeEnd → Option Stop → Type 0
-IsRunInMemory script = IsMemoryRun script (all_but 0)
 
 -- the ages of a run over the disks of the yard that are not missing, where a folder is named, and else over
 -- disks in memory, and then the yard is as it was

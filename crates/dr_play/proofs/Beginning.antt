@@ -7,9 +7,9 @@ use Rattle.dr_words.specs.Layout.{words_of}
 use Rattle.dr_machine.specs.Group.{IsGroup, banks}
 use Rattle.dr_program.specs.{Form.IsRunningMember, Presence.present_at, Program.Program}
 use Rattle.dr_program.specs.Running.{Running, begun_running}
-use Rattle.dr_program_laws.proofs.Schedules.{age_begins_reached, begun_program_of}
 use Rattle.dr_restart.specs.{Groups.group_of, Setups.IsBegun, declared.start.Start.Start}
-use Rattle.dr_restart.proofs.Setups.{absent, more, none}
+use Rattle.dr_restart.proofs.Setups.{absent, more, none, age_begins_reached}
+use Rattle.dr_program_laws.proofs.Programs.{begun_program_of}
 use Rattle.dr_play.specs.{Begun.{HasBegunAt, HaveBegun}, Sound.IsSound}
 
 -- no members have begun as the first none

@@ -7,17 +7,18 @@ use Rattle.dr_history.specs.History.{up_to_view}
 use Rattle.dr_log.specs.State.{LogState}
 use Rattle.dr_machine.specs.{Acts.CanTake, Group.Group, Guards.CanWelcome, declared.{event.Act.Act, step.Step.Step}}
 use Rattle.dr_machine.specs.declared.step.Step.TheVariants.{Do, Append, Join, LogVote, Welcome}
-use Rattle.dr_program.{specs.{Form.IsRunningMember, Turn.{part_of, is_beat}}, proofs.Waiting.append_free}
+use Rattle.dr_program.{specs.Form.IsRunningMember, proofs.Waiting.append_free}
 use Rattle.dr_program.specs.{Presence.{present_at, with_present}, Reading.{letters_of, step_by, step_due, world}}
 use Rattle.dr_program.specs.Program.{after_deed, next_sight, IsRanFrom, Program, ran, comes_to, letter_for, ok, step_of}
 use Rattle.dr_program.specs.Running.{Running, after_step, crashes_now, deed, deed_of, next_deed, next_step, settled, step_at, took_letter}
-use Rattle.dr_program.specs.{Steps.{IsAppend, sight, stored, stored_letters, IsNoJoin}, declared.deed.Deed.Deed}
-use Rattle.dr_program.{specs.declared.{outcome.Outcome.Outcome, place.Part.Part}, proofs.RunningPrograms.after_take}
+use Rattle.dr_program.specs.{Steps.{IsAppend, sight, stored, stored_letters, IsNoJoin}, declared.place.Part.Part}
+use Rattle.dr_program.{specs.{Turn.{part_of, is_beat}, declared.deed.Deed.Deed}, proofs.RunningPrograms.after_take}
+use Rattle.dr_program.{specs.declared.outcome.Outcome.Outcome, proofs.Deeds.{due_allowed, deed_ran, step_is}}
 use Rattle.dr_program.proofs.{Present.{present_set, MayGet}, StepsAt.{append_either, push_either, vote_either}}
 use Rattle.dr_program.specs.declared.deed.Deed.TheVariants as deeds
 use Rattle.dr_program.specs.declared.place.Part.TheVariants as parts
 use Rattle.dr_program.specs.declared.outcome.Outcome.TheVariants as outcomes
-use Rattle.dr_refine.proofs.Deeds.{due_allowed, deed_ran, deed_is_step, step_is}
+use Rattle.dr_refine.proofs.Deeds.{deed_is_step}
 use Rattle.dr_served.specs.{Appended.{IsAppendDue, is_append, record_due, record_of}, Served.{IsReady, HasServed}}
 use Rattle.dr_served.proofs.{Appends.{may_log, IsPlain, IsSweeping}, Serving.{other_ready, logged_on, other_served}}
 use Rattle.dr_member.{specs.{Alone.{IsAtSweep, LeadsTo}, Deeds.{is_look, is_push}}, proofs.Deeds.no_beat}

@@ -12,18 +12,17 @@ use Rattle.dr_entry.specs.declared.record.Record.TheVariants as records
 use Rattle.dr_log.{specs.State.LogState, proofs.{Growing.short_log_length, Standing.short_votes}}
 use Rattle.dr_log_bytes.specs.Content.{block_length}
 use Rattle.dr_machine.specs.Group.{Group, IsPresent, banks, roster}
-use Rattle.dr_program.{specs.Presence.present_at, proofs.Holdings.held_of}
+use Rattle.dr_program.{specs.Presence.present_at, proofs.{Deeds.replicas, Holdings.held_of}}
 use Rattle.dr_program.specs.Program.{AllEnded, AreSetups, Program, begun_program, end_at, end_of}
-use Rattle.dr_program.{specs.Reading.{table_of, world}, proofs.{RunningPrograms.IsFresh, Voting.votes_within}}
+use Rattle.dr_program.{specs.{Reading.{table_of, world}, declared.setup.Setup.Setup}, proofs.Voting.votes_within}
 use Rattle.dr_program.specs.{Running.{Running, begun_running, end_by}, declared.outcome.LogWhy.LogWhy}
-use Rattle.dr_program.{specs.declared.setup.Setup.Setup, proofs.Present.{present_within, ended_there, begun_fresh}}
+use Rattle.dr_program.proofs.{Present.{present_within, ended_there, begun_fresh, all_ends}, RunningPrograms.IsFresh}
 use Rattle.dr_program.specs.declared.outcome.LogWhy.TheVariants as whys
 use Rattle.dr_program_laws.specs.{Ended.is_log_end, Failing.{AreFailing, IsFailing, has_log_end}}
-use Rattle.dr_program_laws.proofs.{Bounds.history_below, Worlds.all_ends}
 use Rattle.dr_restart.{specs.{Groups.group_of, Setups.IsBegun, declared.start.Start.Start}, proofs.Setups.are_setups}
 use Rattle.dr_script.specs.declared.script.Script.{Script}
-use Rattle.dr_refine.proofs.Deeds.{program_member, replicas}
-use Rattle.dr_world_laws.proofs.{Messages.valid_history, Worlds.{holds_messages, known}}
+use Rattle.dr_refine.proofs.Deeds.{program_member}
+use Rattle.dr_world_laws.proofs.{Messages.valid_history, Rooms.history_below, Worlds.{holds_messages, known}}
 use Rattle.dr_served.specs.Served.{AreReady, AreRoomy, HasCome, HasServed, HaveSamePlaces, HaveServed, IsReady, IsRecordDue, WentSo}
 use Rattle.dr_served.proofs.{Served.same_there, Serving.begins}
 use Rattle.dr_play.specs.Logged.{AreAmple, AreOpened, HaveCome, IsAmple, IsNotFull, IsOpened, NoneFull, why_ended}

@@ -7,8 +7,7 @@ use Rattle.dr_log.specs.State.{LogState}
 use Rattle.dr_served.{specs.Served.{HasCome, WentSo}, proofs.Served.same_there}
 use Rattle.dr_machine.{specs.Group.AllPresent, proofs.Presence.is_present}
 use Rattle.dr_program.specs.{Program.{Program, age_of, end_at, end_of}, Replica.Replica}
-use Rattle.dr_program.{specs.declared.outcome.LogWhy.LogWhy, proofs.Present.present_within}
-use Rattle.dr_program_laws.proofs.Worlds.{all_ends, end_told}
+use Rattle.dr_program.{specs.declared.outcome.LogWhy.LogWhy, proofs.Present.{present_within, all_ends, end_told}}
 use Rattle.dr_restart.specs.{Groups.group_of, declared.start.Start.Start}
 use Rattle.dr_script.specs.declared.script.Script.{Script}
 use Rattle.dr_play.specs.{Age.IsAgeOn, Logged.{AreAmple, AreOpened, IsNotFull, NoneFull, NoneStopped, why_ended}}

@@ -4,10 +4,10 @@ use Rattle.dr_history.specs.{Members.has, Soundness.IsNobodyLate}
 use Rattle.dr_machine.{specs.{Acts.CanTake, Group.Group}, proofs.{Groups.nobody, Presence.late_in}}
 use Rattle.dr_program.specs.{Presence.present_at, Program.{Program, comes_to, letter_for}}
 use Rattle.dr_program.specs.{Reading.{step_by, step_due, world}, Replica.me, Running.{Running, next_deed, next_step}}
-use Rattle.dr_program.{specs.declared.deed.Deed.Deed, proofs.Runs.joins_outside}
+use Rattle.dr_program.{specs.declared.deed.Deed.Deed, proofs.{Deeds.due_allowed, Runs.joins_outside}}
 use Rattle.dr_program.specs.declared.deed.Deed.TheVariants as deeds
 use Rattle.dr_program.specs.declared.outcome.Outcome.TheVariants as outcomes
-use Rattle.dr_refine.proofs.Deeds.{deed_is_step, due_allowed}
+use Rattle.dr_refine.proofs.Deeds.{deed_is_step}
 use Rattle.dr_program_laws.proofs.Letters.{letters_are}
 use Rattle.dr_world_laws.proofs.Worlds.{known, newcomer_late}
 use Rattle.dr_play.{specs.Sound.{IsOfNoLetter, IsSound}, proofs.Deeds.{deed_tells, IsTold}}

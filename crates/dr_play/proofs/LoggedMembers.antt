@@ -1,25 +1,20 @@
 -- Members with their logs, as they act and when they end.
 use Rattle.std.specs.Prelude.{IsTrue, Some, is_some, unwrap_or, Option, Err, Ok, OnErr, OnOk, Result, None}
-use Rattle.std.specs.declared.alloc.AllocError.{AllocError}
-use Rattle.std.proofs.Common.{◌≡◌, refl, sym, ap, ◌∙◌, inl, inr, [], true≢false, ℕ, ◌<◌, ◌≤◌, List, subst, arith, true, ◌-◌, ◌∷◌, take, append-nil, suc, ◌+◌, ◌*◌, length, filter, All}
-use Rattle.std.proofs.lemmas.{List.{Elements.{All-head, All-tail}, Sums.sum_by-cons}, Option.same_Some}
-use Rattle.dr_entry.specs.{Spelling.{IsValidEntry, entry_spelling}, declared.end.{End.End, MemberEnd.MemberEnd}}
-use Rattle.dr_entry.{specs.declared.entry.Entry.{Entry, TheVariants.{View, Msg}}, proofs.Records.short_block}
+use Rattle.std.{specs.declared.alloc.AllocError.AllocError, proofs.lemmas.Option.same_Some}
+use Rattle.std.proofs.Common.{◌≡◌, refl, sym, ap, ◌∙◌, inl, inr, [], true≢false, ℕ, ◌<◌, ◌≤◌, List, subst, arith, true}
+use Rattle.dr_entry.specs.declared.end.End.{End}
 use Rattle.dr_entry.specs.declared.end.End.TheVariants as ends
 use Rattle.dr_disk.specs.Disk.{Told}
-use Rattle.dr_history.specs.{History.IsPrefixOf, Restarting.AllStand}
-use Rattle.dr_history_laws.proofs.{Keeping.prefix_then, Lengths.{is_message, stood-told}}
-use Rattle.dr_log.specs.{Standing.entries_length, State.LogState}
-use Rattle.dr_machine.specs.{Group.{Group, IsGroup}, declared.step.Step.TheVariants.Append}
-use Rattle.dr_machine.proofs.Groups.{stood_valid}
+use Rattle.dr_log.specs.State.{LogState}
+use Rattle.dr_machine.specs.declared.step.Step.TheVariants.{Append}
 use Rattle.dr_program.specs.{Presence.present_at, Program.{end_of, appended_as}}
 use Rattle.dr_program.specs.{Running.{Running, end_by, next_deed, next_step}, Steps.IsAppend, declared.deed.Deed.Deed}
-use Rattle.dr_program.{specs.declared.outcome.{LogWhy.LogWhy, Outcome.Outcome}, proofs.Replicas.unended_append}
+use Rattle.dr_program.{specs.declared.outcome.{LogWhy.LogWhy, Outcome.Outcome}, proofs.Deeds.settle_replica}
+use Rattle.dr_program.proofs.Replicas.{unended_append}
 use Rattle.dr_program.specs.declared.outcome.LogWhy.TheVariants as whys
 use Rattle.dr_program.specs.declared.deed.Deed.TheVariants as deeds
 use Rattle.dr_program.specs.declared.outcome.Outcome.TheVariants as outcomes
-use Rattle.dr_refine.proofs.Deeds.{settle_replica}
-use Rattle.dr_served.specs.{Left.IsLeftOf, Served.{HaveSamePlaces, IsRoomy}}
+use Rattle.dr_served.specs.Served.{HaveSamePlaces, IsRoomy}
 use Rattle.dr_member.specs.Deeds.{is_append}
 use Rattle.dr_program_laws.specs.Failing.{IsFailing}
 use Rattle.dr_play.{specs.Logged.{why_ended, AreAsBefore, AreCalm, IsAsBefore, IsNotFull}, proofs.Deeds.deed_tells}
@@ -85,15 +80,6 @@ pub by_log : (why : LogWhy) (o : Option End) → o ≡ Some (end_by why) → why
 by_log whys.DiskFault o is none = absurd (cc)
 by_log (whys.LogFull len) o is none = absurd (cc)
 
--- and has all that is logged
-pub left_begins : (first : List Entry) (e : MemberEnd) (es : List Entry) → IsPrefixOf first (take e.logged e.history)
-    → IsLeftOf e.history e.logged es → IsPrefixOf first es
-left_begins first e es begins left = prefix_then first (take e.logged e.history) es begins (by left)
-  where
-    by : IsLeftOf e.history e.logged es → IsPrefixOf (take e.logged e.history) es
-    by (inl same) = ([], append-nil (take e.logged e.history) ∙ sym same)
-    by (inr more) = (more.0 ∷ [], sym more.1)
-
 -- whom a disk ended
 by_disk : (end : End) → why_ended end ≡ Some whys.DiskFault → end ≡ ends.DiskFault
 by_disk ends.DiskFault e = refl
@@ -105,41 +91,6 @@ pub ended_by_disk : (o : Option End) → why_ended (unwrap_or o ends.Done) ≡ S
     → o ≡ Some ends.DiskFault
 ended_by_disk None e = absurd (cc)
 ended_by_disk (Some end) e = ap Some (by_disk end e)
-
--- a View takes 7 bytes, and a message 72 at most
-pub entries_short : (es : List Entry) → All IsValidEntry es
-    → entries_length es ≤ 7 * length es + 65 * length (filter is_message es)
-entries_short [] valid = omega arith
-entries_short (View a k m ∷ es) valid =
-    let block : 1 + length (entry_spelling (View a k m)) ≤ 7 = omega arith in
-    let told : length (filter is_message (View a k m ∷ es)) ≡ length (filter is_message es) = refl in
-    omega (
-      arith,
-      block,
-      told,
-      sum_by-cons (λ (e : Entry). 1 + length (entry_spelling e)) (View a k m) es,
-      entries_short es (All-tail IsValidEntry (View a k m) es valid),
-    )
-entries_short (Msg s i b ∷ es) valid =
-    let block = short_block (Msg s i b) (All-head IsValidEntry (Msg s i b) es valid) in
-    let told : length (filter is_message (Msg s i b ∷ es)) ≡ suc (length (filter is_message es)) = refl in
-    omega (
-      arith,
-      block,
-      told,
-      sum_by-cons (λ (e : Entry). 1 + length (entry_spelling e)) (Msg s i b) es,
-      entries_short es (All-tail IsValidEntry (Msg s i b) es valid),
-    )
-
--- so they take so many bytes at most: 256 Views of each of 65,536 ages, and 4096 messages of each of 16 members
-pub stood_bytes : (g : Group) (es : List Entry) → IsGroup g → AllStand g.opening es → length es ≤ 16842752
-    → entries_length es ≤ 122159104
-stood_bytes g es is stand few = omega (
-  arith,
-  few,
-  entries_short es (stood_valid g es is stand),
-  stood-told g.opening es stand is.messages,
-)
 
 pub unstopped : (e : End) → IsNotFull e → (e ≡ ends.DiskFault → ⊥) → why_ended e ≡ None
 unstopped ends.Done room safe = refl

@@ -6,8 +6,8 @@ use Rattle.dr_entry.specs.declared.end.{AgeEnd.AgeEnd, MemberEnd.MemberEnd}
 use Rattle.dr_history.specs.Agreement.{EndsAgreed}
 use Rattle.dr_log.specs.State.{LogState}
 use Rattle.dr_program.specs.Program.{IsRanFrom, Program, age_of, end_at}
-use Rattle.dr_program_laws.{specs.{Ended.HaveEnded, Trusting.NoneLeft}, proofs.Ending.ended_by_script}
-use Rattle.dr_program_laws.proofs.{Trusting.none_by_script, Worlds.ends_agreed}
+use Rattle.dr_program_laws.{specs.{Ended.HaveEnded, Trusting.NoneLeft}, proofs.Ending.{ended_by_script, ends_agreed}}
+use Rattle.dr_program_laws.proofs.Trusting.{none_by_script}
 use Rattle.dr_restart.specs.{Groups.group_of, Setups.{IsBegun, crashes_of}, declared.start.Start.Start}
 use Rattle.dr_script.specs.{Ranges.HasRanges, declared.script.Script.Script}
 use Rattle.dr_play.{specs.{Age.IsAgeOn, Logged.NoneFull}, proofs.Ends.{IsOver, have_come, none_full}}

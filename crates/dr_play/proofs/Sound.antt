@@ -2,13 +2,13 @@
 use Rattle.std.specs.Prelude.{All, Some, Option}
 use Rattle.std.proofs.Common.{◌≡◌, sym, ap, subst, ℕ, arith, ◌∙◌, length, List, ◌≤◌}
 use Rattle.dr_program.specs.{Form.IsRunningMember, Presence.present_at, Program.{Program, Move, step_of}}
-use Rattle.dr_program.{specs.{Reading.{table_of, world}, Running.{Running, next_step}}, proofs.Holdings.held_of}
-use Rattle.dr_program.proofs.Present.{present_within}
+use Rattle.dr_program.{specs.{Reading.{table_of, world}, Running.{Running, next_step}}, proofs.Deeds.replicas}
+use Rattle.dr_program.proofs.{Holdings.held_of, Present.present_within}
 use Rattle.dr_entry.specs.Spelling.{IsValid, IsValidEntry}
 use Rattle.dr_words.specs.Layout.{words_of}
 use Rattle.dr_served.{specs.Served.AppendsWell, proofs.Appends.valid_due}
 use Rattle.dr_machine.specs.Group.{Group}
-use Rattle.dr_refine.proofs.Deeds.{program_member, replicas}
+use Rattle.dr_refine.proofs.Deeds.{program_member}
 use Rattle.dr_world_laws.proofs.{Messages.valid_history, Worlds.{holds_messages, known}}
 use Rattle.dr_member.specs.Deeds.{table_size}
 use Rattle.dr_program_laws.proofs.Keeping.{move_kept}

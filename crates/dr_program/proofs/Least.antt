@@ -5,16 +5,13 @@ use Rattle.std.proofs.{Math.Nat.mul-le-mul, lemmas.Bool.{and_parts, ltb-true, tr
 use Rattle.std.proofs.lemmas.{List.{get_or_read, length-map}, Option.slice_get-get_or}
 use Rattle.dr_entry.proofs.{ListFacts.{fold_max_within, at_most, rises_each}, ListPlaces.{at_most_each, above_each}}
 use Rattle.dr_history.{specs.{Members.{has, members_below, members_of}, Places.front_of}, proofs.Fronts.front_within}
-use Rattle.dr_history.proofs.MemberLemmas.{length_members_below}
-use Rattle.dr_history_laws.proofs.Members.{has-member, member-has}
+use Rattle.dr_history.proofs.MemberLemmas.{length_members_below, has-member, member-has}
 use Rattle.dr_program.specs.{Form.HasForm, Replica.{Replica, count, least_seen, members_in_view, may_deliver, acted}}
 use Rattle.dr_program.proofs.Received.{few_members}
 use Rattle.dr_rows.{specs.Words.{seen, with_own}, proofs.Grids.with_word-column}
 use Rattle.dr_words.specs.{Grown.Grown, declared.column.TheConstants.{RECEIVED_COLUMN, BEAT_COLUMN}}
 use Rattle.dr_machine.specs.Effects.{one_more}
 use Rattle.dr_program.specs.Replica as replica
-
--- ---- the least of a list, and a bound
 
 -- ---- the least word
 

@@ -2,19 +2,20 @@
 use Rattle.std.specs.{List.range_with_len, Prelude.{Bool, Option, Some, None, nat_lt, option_map}}
 use Rattle.std.proofs.Common.{◌≡◌, refl, ap, ◌∙◌, ℕ, zero, suc, ◌+◌, ◌*◌, ◌<◌, ◌≤◌, ◌==◌, ◌&&◌, if◌then◌else◌, List, [], ◌∷◌, length, replicate, map, arith, sym}
 use Rattle.std.proofs.{Math.{Path.fun_ext, Seq.take-length}, lemmas.Bool.Decides.nat_tests}
-use Rattle.dr_entry.{specs.declared.entry.Item.TheVariants.Null, proofs.{BoolFacts.both_same, ListPlaces.copy_at}}
+use Rattle.dr_entry.{specs.declared.entry.{Entry.Entry, Item.TheVariants.Null}, proofs.BoolFacts.both_same}
+use Rattle.dr_entry.proofs.ListPlaces.{copy_at}
 use Rattle.dr_history.specs.{History.messages_of, Members.has, Order.first_entries}
 use Rattle.dr_rows.{specs.Words.{begun, own, seen}, proofs.Grids.own_with}
 use Rattle.dr_rows.proofs.WordsLemmas.{IsWords-begun, IsFresh-begun}
 use Rattle.dr_words.specs.{Columns.columns_of, Layout.{words_of, word_index_of}, declared.shape.Shape.Shape}
 use Rattle.dr_words.{specs.declared.column.TheConstants.LOGGED_COLUMN, proofs.Layouts.{first_rows, first_seen}}
-use Rattle.dr_program.specs.{Presence.present_at, Program.{IsSetup, AreSetups, begun_program}}
-use Rattle.dr_program.specs.{Reading.{Shared, table_of, world, world_of, word_of}, Replica.{Replica, begun_replica}}
-use Rattle.dr_program.specs.{Running.{Running, begun_running}, declared.setup.Setup.Setup}
+use Rattle.dr_program.{specs.Presence.present_at, proofs.Replicas.shared_at}
+use Rattle.dr_program.{specs.Program.{IsSetup, AreSetups, begun_program}, proofs.RunningPrograms.replicas_begun}
+use Rattle.dr_program.specs.{Reading.{Shared, table_of, world, world_of, word_of}, Running.{Running, begun_running}}
+use Rattle.dr_program.specs.{Replica.{Replica, begun_replica, LeftView, me, entered}, declared.setup.Setup.Setup}
 use Rattle.dr_program.proofs.{Holdings.{held, holding_of, held_of, held_past, same_worlds}, Present.present_within}
-use Rattle.dr_program.proofs.{Replicas.shared_at, RunningPrograms.replicas_begun}
-use Rattle.dr_machine.specs.{Group.{Group, IsGroup, banks, late_members, roster, columns}, World.opening_world}
-use Rattle.dr_machine.proofs.Groups.{IsShape, wide}
+use Rattle.dr_machine.specs.{Group.{Group, IsGroup, banks, late_members, roster, columns}, Run.IsReached}
+use Rattle.dr_machine.{specs.World.opening_world, proofs.Groups.{IsShape, wide}}
 
 -- ---- the setup of a member, with what another one says of faults
 
@@ -141,3 +142,15 @@ pub begun_world : (g : Group) (limit : ℕ) (setups : List (Option Setup)) → I
     → world_of g (map (option_map begun_replica) setups) (shared_at g) ≡ opening_world g
 begun_world g limit setups is are = ap (λ rs. world_of g rs (shared_at g)) (sym (replicas_begun setups))
     ∙ begins_at_the_opening g limit setups is are
+
+-- what is logged is published in the new view from its beginning on
+pub published_there : (s : Replica) (view members : ℕ) (history : List Entry) (kept : List LeftView)
+    → s.rows.members ≤ 16 → s.rows.columns ≤ 1024 → me s < s.rows.members → LOGGED_COLUMN < s.rows.columns
+    → own (entered s view members history kept).rows LOGGED_COLUMN ≡ s.logged
+published_there s view members history kept few narrow present inside =
+    first_own s.rows.members s.rows.columns (me s) s.logged LOGGED_COLUMN few narrow present inside
+
+-- a program begins in the world of the opening
+pub begun_reached : (g : Group) (turns : ℕ) (setups : List (Option Setup)) → IsGroup g
+    → AreSetups g turns setups → IsReached g (world g (begun_program g setups))
+begun_reached g turns setups group are = ([], begins_at_the_opening g turns setups group are)

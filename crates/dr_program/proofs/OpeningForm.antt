@@ -1,30 +1,25 @@
 -- The members of a program as its age opens have their form.
 use Rattle.std.specs.Prelude.{Option, Some, None, option_map}
-use Rattle.std.proofs.Common.{◌≡◌, ◌≢◌, refl, sym, ap, ◌∙◌, subst, ℕ, zero, ◌+◌, ◌-◌, ◌*◌, ◌<◌, ◌≤◌, inl, false, true, ◌||◌, Bool, List, [], ◌∷◌, length, map, if◌then◌else◌, arith, length-append}
+use Rattle.std.proofs.Common.{◌≡◌, ◌≢◌, refl, sym, ap, ◌∙◌, subst, ℕ, zero, ◌+◌, ◌-◌, ◌*◌, ◌<◌, ◌≤◌, inl, false, true, ◌||◌, Bool, List, [], ◌∷◌, length, map, if◌then◌else◌, arith, length-append, ◌^◌}
 use Rattle.std.proofs.lemmas.{List.length-replicate, Option.same_Some}
 use Rattle.dr_entry.{specs.declared.entry.Entry.TheVariants.View, proofs.ListPlaces.{copy_at, greatest_within}}
 use Rattle.dr_entry.proofs.NumberFacts.{other_number, product_within}
-use Rattle.dr_history.{specs.{Members.{has, members_of}, Places.first}, proofs.Bits.has_zero}
+use Rattle.dr_history.{specs.{Members.{has, members_of}, Places.first}, proofs.{Bits.has_zero, Lengths.start-short}}
 use Rattle.dr_history.proofs.{MemberLemmas.few_members, Places.front_of_none}
 use Rattle.dr_rows.{specs.Words.{begun, own}, proofs.WordsLemmas.{IsWords-begun, IsWords-looked, IsFresh-begun}}
-use Rattle.dr_words.{specs.Columns.{columns_of, recv_column}, proofs.{Layouts.first_in_form, Masks.some_of}}
+use Rattle.dr_words.{specs.Columns.{columns_of, recv_column}, proofs.Masks.{some_of, in_roster_small}}
 use Rattle.dr_words.specs.{Packing.{accept_promise, accept_tag, accept_value, recv_word}, declared.shape.Shape.Shape}
 use Rattle.dr_words.specs.declared.column.TheConstants.{LOGGED_COLUMN, RECEIVED_COLUMN, SUSPECTED_COLUMN}
+use Rattle.dr_words.proofs.Layouts.{first_in_form}
 use Rattle.dr_ring.specs.Slots.{slot_column}
 use Rattle.dr_program.specs.{Form.{CanBegin, HasForm, IsOf, IsRunningMember}, declared.setup.Setup.Setup}
-use Rattle.dr_program.specs.{Presence.present_at, Running.begun_running}
+use Rattle.dr_program.{specs.Presence.present_at, proofs.{Deeds.settle_replica, Programs.with_one_turn}}
 use Rattle.dr_program.{specs.Program.{IsSetup, AreSetups}, proofs.Opening.{first_own, setup_of, setup_is, shape_is}}
 use Rattle.dr_program.specs.Replica.{Replica, begun_replica, first_entries_of, count, greatest, members_in_view}
-use Rattle.dr_program.proofs.{Present.{present_map, present_within}, Programs.with_one_turn}
-use Rattle.dr_history_laws.proofs.Lengths.{start-short}
+use Rattle.dr_program.{specs.Running.{begun_running, Running, settled}, proofs.Present.{present_map, present_within}}
+use Rattle.dr_program.proofs.{Beside.beside_form, Replicas.unended}
 use Rattle.dr_machine.{specs.Group.{Group, IsGroup, IsPresent, roster}, proofs.Worlds.no_part}
 use Rattle.dr_machine.proofs.Groups.{IsShape, base_within, totals_of, first_of_roster, late_of_roster, late_apart, first_or_late}
-
--- ---- the words
-
--- ---- counts
-
--- ---- the start
 
 -- ---- the replica
 
@@ -208,3 +203,16 @@ begun_at g limit setups are P m r there begins =
     by None e is = absurd (cc)
     by (Some s) e is = subst P (same_Some (begun_replica s) r is)
         (begins s (are.each m s e) (omega (arith, present_within setups m s e, are.all)))
+
+pub of_settled : (g : Group) (m : ℕ) (x : Running) → IsOf g m x.replica → IsOf g m (settled x).replica
+of_settled g m x of = subst (IsOf g m) (sym (settle_replica _ x)) of
+
+-- who a replica suspects are of its roster, so that they have 16 bits
+pub suspects_small : (r : Replica) → HasForm r → r.suspects < 2 ^ 16
+suspects_small r form = in_roster_small 16 r.suspects
+    (λ n h. omega (arith, form.named n h, form.rows.few, form.members))
+
+pub unended_form : (r : Replica) → HasForm r → HasForm (unended r)
+unended_form r f = beside_form r r.next r.logged r.durable r.turns r.acts r.history None r.committed r.pending
+    r.votes f (omega arith) f.logged f.room (omega arith) f.acts f.waits f.votes f.decided
+    (λ outside. let waits = f.outside outside in (waits.none, waits.idle, waits.all))

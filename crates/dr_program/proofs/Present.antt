@@ -1,15 +1,19 @@
 -- What stands at the places of members.
-use Rattle.std.specs.List.{range_with_len}
+use Rattle.std.{specs.Option.option_map_or, proofs.lemmas.Bool.{cases_lt, cases_eq}}
 use Rattle.std.specs.Prelude.{IsTrue, Option, Some, None, is_some, option_map, slice_get, slice_set}
-use Rattle.std.proofs.Common.{◌≡◌, ◌≢◌, ◌⊎◌, refl, ap, ◌∙◌, subst, ℕ, zero, suc, ◌<◌, ◌≤◌, inl, inr, List, [], ◌∷◌, length, map, ◌+◌, ◌++◌, sym, true, Bool, not, false, arith, get_or, true≢false, take, drop, ◌-◌, replicate}
-use Rattle.std.proofs.lemmas.{Bool.{cases_lt, cases_eq}, Option.{get_or_from_slice_get, slice_get-get_or, same_Some}}
-use Rattle.std.proofs.lemmas.List.{get_or-set_same, get_or-set_other, get_or_default, get_or_past, get_or_append_left, get_or_push, set-get_or, ext_get_or}
-use Rattle.dr_entry.{specs.declared.{end.End.End, entry.Entry.Entry}, proofs.ListParts.none_pass}
+use Rattle.std.proofs.Common.{◌≡◌, ◌≢◌, ◌⊎◌, refl, ap, ◌∙◌, subst, ℕ, zero, suc, ◌<◌, ◌≤◌, inl, inr, List, [], ◌∷◌, length, map, ◌+◌, ◌++◌, sym, true, Bool, not, false, arith, get_or, take, drop, ◌-◌, replicate, All}
+use Rattle.std.proofs.lemmas.List.{get_or-set_same, get_or-set_other, get_or_default, get_or_past, get_or_append_left, get_or_push, set-get_or, ext_get_or, length-map}
+use Rattle.std.proofs.lemmas.Option.{get_or_from_slice_get, slice_get-get_or, same_Some, slice_get-map}
+use Rattle.dr_entry.specs.declared.{end.{End.End, MemberEnd.MemberEnd}, entry.Entry.Entry}
+use Rattle.dr_entry.proofs.{ListParts.none_pass, ListPlaces.{slice_get-some, zero_at}}
+use Rattle.dr_history.specs.History.{sent_of}
+use Rattle.dr_suspect.specs.Waits.{turns_without_news}
 use Rattle.dr_machine.specs.Group.{Group, IsPresent}
 use Rattle.dr_program.specs.{Presence.{present_at, with_present}, Running.{Running, begun_running, next_step}}
-use Rattle.dr_program.specs.Program.{AllEnded, Program, has_ended, AreSetups, begun_program, Move, after_deed, letter_for, moved_by, next_sight, step_of, went}
-use Rattle.dr_program.specs.{Replica.Replica, Schedule.{going, TakeTurns, Rounds}, declared.setup.Setup.Setup}
-use Rattle.dr_program.proofs.{Programs.{fresh, goes}, RunningPrograms.IsFresh}
+use Rattle.dr_program.specs.Program.{AllEnded, Program, has_ended, AreSetups, begun_program, Move, after_deed, letter_for, moved_by, next_sight, step_of, went, end_at, end_of, absent_end}
+use Rattle.dr_program.specs.{Replica.Replica, Schedule.{going, is_between_turns}, declared.setup.Setup.Setup}
+use Rattle.dr_program.proofs.{Programs.{fresh, goes, ends_of}, RunningPrograms.{IsFresh, IsIdleFailed, AreIdleFailed}}
+use Rattle.dr_program.proofs.Replicas.{replicas_of}
 
 -- a member that stands there has a place
 pub present_within : {X : Type 0} (xs : List (Option X)) (m : ℕ) (x : X) → present_at xs m ≡ Some x → m < length xs
@@ -73,10 +77,6 @@ each_more P (x ∷ xs) o old new (suc m) s e = each_more (λ k. P (suc k)) xs o 
 pub still_there : (xs : List (Option Setup)) (o : Option Setup) (m : ℕ) (s : Setup) → present_at xs m ≡ Some s
     → present_at (xs ++ o ∷ []) m ≡ Some s
 still_there xs o m s there = get_or_append_left xs (o ∷ []) None m (present_within xs m s there) ∙ there
-
-pub last_there : (xs : List (Option Setup)) (o : Option Setup) (n : ℕ) → length xs ≡ n
-    → present_at (xs ++ o ∷ []) n ≡ o
-last_there xs o n long = get_or_push xs o None n long
 
 -- where j may be given a letter, none is there for it, and it is of the roster
 pub record MayGet (g : Group) (letters : List (Option (List Entry))) (j : ℕ) : Type 0 where
@@ -145,20 +145,6 @@ ended_at p m all = by (present_at p.members m) refl
     by None none = ap has_ended none
     by (Some r) there = ap has_ended there ∙ ended_there p m r all there
 
--- such a program rests
-rest_turns : (ms : List ℕ) (p : Program) (es : List Move) (q : Program) → AllEnded p → TakeTurns ms p es q → q ≡ p
-rest_turns [] p es q all turns = turns.1
-rest_turns (m ∷ ms) p es q all (turn, rest, mid, both, inl over, more) =
-    rest_turns ms mid rest q (subst AllEnded (sym over.2) all) more ∙ over.2
-rest_turns (m ∷ ms) p es q all (turn, rest, mid, both, inr took, more) =
-    absurd (true≢false (sym (ended_at p m all) ∙ took.0))
-
-pub rest_rounds : (k : ℕ) (p : Program) (es : List Move) (q : Program) → AllEnded p → Rounds k p es q → q ≡ p
-rest_rounds zero p es q all rounds = rounds.1
-rest_rounds (suc k) p es q all (round, rest, mid, both, first, more) =
-    let same : mid ≡ p = rest_turns (range_with_len 0 (length p.members)) p round mid all first in
-    rest_rounds k mid rest q (subst AllEnded (sym same) all) more ∙ same
-
 -- a member that has not ended is one of the program
 pub going_within : (rs : List (Option Running)) (m : ℕ) → has_ended (present_at rs m) ≡ false → m < length rs
 going_within rs m going = by (present_at rs m) refl going
@@ -211,13 +197,6 @@ further_set members m r x there later room k y stands = elim (place_set members 
 
 abbrev pub Each : (Running → Type 0) → List (Option Running) → Type 0
 Each P rs = (k : ℕ) (r : Running) → present_at rs k ≡ Some r → P r
-
-pub each_set : (P : Running → Type 0) (rs : List (Option Running)) (at : ℕ) (x : Running) → P x → Each P rs
-    → Each P (with_present rs at x)
-each_set P rs at x is each k r there = elim (place_set rs at k x r there) [
-  | inl here ↦ subst P here.1 is
-  | inr other ↦ each k r other.1
-]
 
 -- the first places, and the others
 pub place_take : {X : Type 0} (n : ℕ) (xs : List (Option X)) (i : ℕ) (x : X) → present_at (take n xs) i ≡ Some x
@@ -284,13 +263,6 @@ take_place zero xs i below = absurd (omega arith)
 take_place (suc n) [] i below = refl
 take_place (suc n) (y ∷ ys) zero below = refl
 take_place (suc n) (y ∷ ys) (suc i) below = take_place n ys i (omega arith)
-
--- a place that is filled is one of the list
-pub filled_within : {X : Type 0} (xs : List (Option X)) (m : ℕ) → is_some (present_at xs m) ≡ true → m < length xs
-filled_within xs m filled = elim (cases_lt m (length xs)) [
-  | inl within ↦ within
-  | inr past ↦ absurd (cc (filled, get_or_past xs m None past))
-]
 
 -- lists of one length with the same places filled, and the same there, are one
 pub same_places : {X : Type 0} (xs ys : List (Option X)) → length xs ≡ length ys
@@ -359,10 +331,6 @@ filled_first (suc n) (w ∷ ws) [] e same k = absurd (omega arith)
 filled_first (suc n) (w ∷ ws) (z ∷ zs) e same zero = same zero
 filled_first (suc n) (w ∷ ws) (z ∷ zs) e same (suc k) = filled_first n ws zs (omega arith) (λ j. same (suc j)) k
 
--- the one place of a list
-pub only : {X : Type 0} (xs : List (Option X)) (k : ℕ) (x : X) → length xs ≡ 1 → present_at xs k ≡ Some x → k ≡ 0
-only xs k x one there = omega (arith, present_within xs k x there, one)
-
 -- a place more at the end
 pub place_before : {X : Type 0} (xs : List (Option X)) (x : Option X) (m : ℕ) → m < length xs
     → present_at (xs ++ x ∷ []) m ≡ present_at xs m
@@ -384,3 +352,119 @@ nobody xs k x empty there = by k (ap (λ l. present_at l k) (sym empty) ∙ ther
     by : (k : ℕ) → present_at (None ∷ []) k ≡ Some x → ⊥
     by zero there = cc there
     by (suc k) there = cc there
+
+-- what the ends tell of a member, and of one that is absent
+pub end_told : (p : Program) (m : ℕ) (r : Running) → present_at p.members m ≡ Some r
+    → slice_get (ends_of p) m ≡ Some (end_of r)
+end_told p m r there = slice_get-map end_at p.members m ∙ ap (option_map end_at) (present_slice p.members m r there)
+
+-- the end that stands at the place of a member is that member's
+pub end_is : (p : Program) (i : ℕ) (r : Running) (e : MemberEnd) → present_at p.members i ≡ Some r
+    → slice_get (ends_of p) i ≡ Some e → end_of r ≡ e
+end_is p i r e there at = same_Some (end_of r) e (sym (end_told p i r there) ∙ at)
+
+-- each of the ends is that of a member, or of one that was absent
+pub end_there : (p : Program) (i : ℕ) (e : MemberEnd) → slice_get (ends_of p) i ≡ Some e
+    → (e ≡ absent_end) ⊎ ((r : Running) × (present_at p.members i ≡ Some r) × (end_of r ≡ e))
+end_there p i e at = by (slice_get p.members i) refl
+  where
+    named : (o : Option (Option Running)) → slice_get p.members i ≡ o → option_map end_at o ≡ Some e
+    named o is = ap (option_map end_at) (sym is) ∙ sym (slice_get-map end_at p.members i) ∙ at
+
+    by : (o : Option (Option Running)) → slice_get p.members i ≡ o
+        → (e ≡ absent_end) ⊎ ((r : Running) × (present_at p.members i ≡ Some r) × (end_of r ≡ e))
+    by None none = absurd (cc (named None none))
+    by (Some None) there = inl (sym (same_Some absent_end e (named (Some None) there)))
+    by (Some (Some r)) there = inr (
+      r,
+      slice_present p.members i (Some r) there,
+      same_Some (end_of r) e (named (Some (Some r)) there),
+    )
+
+-- a member of a list in which x was replaced by y is y, or as it was
+pub replaced_either : (rs : List (Option Running)) (m : ℕ) (x y : Running) → present_at rs m ≡ Some x → (k : ℕ)
+    (r : Running) → present_at (with_present rs m y) k ≡ Some r
+    → ((k ≡ m) × (y ≡ r)) ⊎ ((k ≢ m) × (present_at rs k ≡ Some r))
+replaced_either rs m x y at k r is = elim (cases_eq k m) [
+  | inl same ↦ inl (same, same_Some y r (sym (present_set rs m y (present_within rs m x at)) ∙ rw same at is))
+  | inr other ↦ inr (other, sym (present_kept rs m k y other) ∙ is)
+]
+
+pub absent_sent : (os : List (Option Running)) (m v : ℕ) → present_at os m ≡ None → sent_of (map end_at os) m v ≡ []
+absent_sent [] m v e = refl
+absent_sent (None ∷ os) zero v e = refl
+absent_sent (Some r ∷ os) zero v e = absurd (cc)
+absent_sent (o ∷ os) (suc m) v e = absent_sent os m v e
+
+-- what the end of a member tells
+pub of_end : {A : Type 0} (p : Program) (f : MemberEnd → A) (none : A) (m : ℕ) (r : Running)
+    → present_at p.members m ≡ Some r → option_map_or f (slice_get (ends_of p) m) none ≡ f (end_of r)
+of_end p f none m r there = ap (λ o. option_map_or f o none) (end_told p m r there)
+
+-- what is true of each member's end, and of the end of one that was absent, is true of all ends
+pub all_ends : (P : MemberEnd → Type 0) (p : Program) → P absent_end
+    → ((m : ℕ) (r : Running) → present_at p.members m ≡ Some r → P (end_of r)) → All P (ends_of p)
+all_ends P p absent each k none within =
+    let x = slice_get-some p.members k (omega (arith, within, length-map p.members end_at)) in
+    let told = get_or_from_slice_get (ends_of p) k (end_at x.0) none
+    (slice_get-map end_at p.members k ∙ ap (option_map end_at) x.1) in
+    subst P (sym told) (by x.0 x.1)
+  where
+    by : (o : Option Running) → slice_get p.members k ≡ Some o → P (end_at o)
+    by None at = absent
+    by (Some r) at = each k r (slice_present p.members k (Some r) at)
+
+-- before the first turn all members stand where a turn begins
+pub begins_whole : (setups : List (Option Setup)) (m : ℕ)
+    → is_between_turns (present_at (map (option_map begun_running) setups) m) ≡ true
+begins_whole setups m = rw (present_map begun_running setups m) (by (present_at setups m))
+  where
+    by : (o : Option Setup) → is_between_turns (option_map begun_running o) ≡ true
+    by None = refl
+    by (Some s) = refl
+
+-- and no append has failed
+pub begins_well : (setups : List (Option Setup)) (m : ℕ) (r : Running)
+    → present_at (map (option_map begun_running) setups) m ≡ Some r → r.failed ≡ None
+begins_well setups m r there = by (present_at setups m) (sym (present_map begun_running setups m) ∙ there)
+  where
+    by : (o : Option Setup) → option_map begun_running o ≡ Some r → r.failed ≡ None
+    by None same = absurd (cc)
+    by (Some s) same = sym (ap (λ (x : Running). x.failed) (same_Some (begun_running s) r same))
+
+-- each is one that its setup begins
+pub began_by : (setups : List (Option Setup)) (m : ℕ) (r : Running)
+    → present_at (map (option_map begun_running) setups) m ≡ Some r
+    → (s : Setup) × (present_at setups m ≡ Some s) × (begun_running s ≡ r)
+began_by setups m r there = by (present_at setups m) refl
+  where
+    by : (o : Option Setup) → present_at setups m ≡ o
+        → (s : Setup) × (present_at setups m ≡ Some s) × (begun_running s ≡ r)
+    by None e = absurd (cc (ap (option_map begun_running) (sym e) ∙ sym (present_map begun_running setups m) ∙ there))
+    by (Some s) e = (
+      s,
+      e,
+      same_Some (begun_running s) r (ap (option_map begun_running) (sym e)
+          ∙ sym (present_map begun_running setups m) ∙ there),
+    )
+
+-- it has waited for nobody
+pub begins_uncounted : (setups : List (Option Setup)) (m : ℕ) (r : Running)
+    → present_at (map (option_map begun_running) setups) m ≡ Some r → (i : ℕ) → turns_without_news r.waits i ≡ 0
+begins_uncounted setups m r there i =
+    let t = began_by setups m r there in ap (λ (x : Running). turns_without_news x.waits i) (sym t.2) ∙ zero_at i
+
+pub replica_at : (p : Program) (m : ℕ) (r : Running) → present_at p.members m ≡ Some r
+    → present_at (replicas_of p) m ≡ Some r.replica
+replica_at p m r there = present_map (λ (r : Running). r.replica) p.members m
+    ∙ ap (option_map (λ (r : Running). r.replica)) there
+
+pub begun_idle : (g : Group) (setups : List (Option Setup)) → AreIdleFailed (begun_program g setups)
+begun_idle g setups m r there = by (present_at setups m) (sym (present_map begun_running setups m) ∙ there)
+  where
+    begun : (s : Setup) → IsIdleFailed (begun_running s)
+    begun s why failed = absurd (cc)
+
+    by : (o : Option Setup) → option_map begun_running o ≡ Some r → IsIdleFailed r
+    by None same = absurd (cc)
+    by (Some s) same = subst IsIdleFailed (same_Some (begun_running s) r same) (begun s)

@@ -1,16 +1,21 @@
 -- Programs of members, and the turns by which they go on.
-use Rattle.std.{specs.List.{range_with_len, filter}, proofs.lemmas.List.{get_or_past, Elements.filter-append}}
-use Rattle.std.specs.Prelude.{unwrap_or, Option, All, replicate, slice_index_or, None}
-use Rattle.std.proofs.Common.{◌≡◌, ℕ, ◌+◌, List, [], ◌∷◌, length, refl, arith, ◌++◌, ap, ◌∙◌, Bool, not, ◌<◌, false, slice_index, cond, sym, true, append-nil, subst, ◌/◌, ◌^◌, zero, suc, inl, inr, ◌≤◌}
-use Rattle.dr_entry.specs.declared.{end.{End.{End, TheVariants.Done}, ViewSent.ViewSent}, entry.Entry.Entry}
-use Rattle.dr_entry.{specs.declared.entry.Entry.TheVariants.View, proofs.{BoolFacts.not_so, ListFacts.count_more}}
-use Rattle.dr_entry.proofs.{ListPlaces.passes, NumberFacts.below_some}
-use Rattle.dr_machine.specs.{Group.{Group, banks}, declared.step.Step.{Step, TheVariants.{Append, LogVote}}}
-use Rattle.dr_program.specs.{Presence.present_at, Schedule.{next_state, AreChosen, going, choice_of, TakesTurn}}
-use Rattle.dr_program.specs.Program.{sent_before, member_end, IsSetup, after_deed, appended_as, Move, Program, ran, step_of, has_ended, AllOk, ok, IsRanFrom}
-use Rattle.dr_program.{specs.{Replica.{LeftView, Replica}, declared.setup.Setup.Setup}, proofs.Schedules.IsChoice}
-use Rattle.dr_program.specs.{Running.{Running, begun_running}, declared.outcome.Outcome.{Outcome, TheVariants.Ok}}
-use Rattle.dr_program.{specs.Steps.IsAppend, proofs.RunningPrograms.IsFresh}
+use Rattle.std.{specs.List.{range_with_len, filter}, proofs.lemmas.List.Elements.{filter-append, All-drop, All-take}}
+use Rattle.std.specs.Prelude.{unwrap_or, Option, All, replicate, slice_index_or, None, Some}
+use Rattle.std.proofs.Common.{◌≡◌, ℕ, ◌+◌, List, [], ◌∷◌, length, refl, arith, ◌++◌, ap, ◌∙◌, Bool, not, ◌<◌, false, slice_index, cond, sym, true, append-nil, subst, ◌/◌, ◌^◌, zero, suc, inl, inr, ◌≤◌, map}
+use Rattle.std.proofs.{Math.Seq.{drop-append_seam, take-append_seam}, lemmas.List.get_or_past}
+use Rattle.dr_entry.specs.declared.end.{End.{End, TheVariants.Done}, MemberEnd.MemberEnd, ViewSent.ViewSent}
+use Rattle.dr_entry.{specs.declared.entry.Entry.{Entry, TheVariants.View}, proofs.BoolFacts.not_so}
+use Rattle.dr_entry.proofs.{ListFacts.count_more, ListPlaces.passes, NumberFacts.below_some}
+use Rattle.dr_machine.specs.{Group.{Group, banks}, World.World, declared.step.Step.Step}
+use Rattle.dr_machine.specs.declared.step.Step.TheVariants.{Append, LogVote}
+use Rattle.dr_machine.specs.declared.step.Step.TheVariants as steps
+use Rattle.dr_program.specs.Presence.{present_at}
+use Rattle.dr_program.specs.Program.{sent_before, member_end, IsSetup, after_deed, appended_as, Move, Program, ran, step_of, has_ended, AllOk, ok, IsRanFrom, end_at, comes_to}
+use Rattle.dr_program.specs.{Reading.world, Replica.{LeftView, Replica}, Running.{Running, begun_running, broken_off}}
+use Rattle.dr_program.specs.{Schedule.{next_state, AreChosen, going, choice_of, TakesTurn}, Steps.IsAppend}
+use Rattle.dr_program.specs.declared.{outcome.{LogWhy.LogWhy, Outcome.{Outcome, TheVariants.Ok}}, setup.Setup.Setup}
+use Rattle.dr_program.proofs.{RunningPrograms.IsFresh, Schedules.IsChoice}
+use Rattle.dr_program.specs.declared.outcome.Outcome.TheVariants as outcomes
 
 -- there is a list of what was put for each view that was left, and for one view more there is one more
 pub sent_before_long : (v : ℕ) (ls : List LeftView) → length (sent_before v ls) ≡ length ls
@@ -190,3 +195,36 @@ none_ran begun p same = ([], same)
 
 pub place_past : {X : Type 0} (xs : List (Option X)) (m : ℕ) → length xs ≤ m → present_at xs m ≡ None
 place_past xs m past = get_or_past xs m None past
+
+-- the ends of the members
+abbrev pub ends_of : Program → List MemberEnd
+ends_of p = map end_at p.members
+
+-- the worlds that programs are
+abbrev pub worlds : Group → List Program → List World
+worlds g programs = map (world g) programs
+
+pub still : (p q : Program) (es : List Move) → es ≡ [] → q ≡ p → q ≡ ran p es
+unfolding ran
+still p q es none same = rw none same
+
+-- breaks its member off, and is no step of the machine
+pub fails : (word : ℕ) (letter : Option (List Entry)) (why : LogWhy) (r : Running) (s : Step) → IsAppend s
+    → (after_deed word letter (outcomes.Failed why) r s ≡ broken_off why r)
+    × (comes_to letter (Some s) (outcomes.Failed why) ≡ None)
+fails word letter why r steps.Append is = (refl, refl)
+fails word letter why r (steps.LogVote v) is = (refl, refl)
+fails word letter why r s is = absurd is
+
+-- a move of m whose append goes well
+pub is_move : (e : Move) (m : ℕ) → e.member ≡ m → e.outcome ≡ outcomes.Ok → e ≡ ok m
+is_move e m own well = λ z. record { member = own z; outcome = well z }
+
+-- where all appends go well, so do those of the first moves, and those of the others
+pub ok_parts : (first rest : List Move) → AllOk (first ++ rest) → AllOk first × AllOk rest
+ok_parts first rest well = (
+  subst AllOk (take-append_seam first rest)
+      (All-take (λ (e : Move). e.outcome ≡ outcomes.Ok) (length first) (first ++ rest) well),
+  subst AllOk (drop-append_seam first rest)
+      (All-drop (λ (e : Move). e.outcome ≡ outcomes.Ok) (length first) (first ++ rest) well),
+)

@@ -1,28 +1,36 @@
 -- Replicas: what stays from one step to the next.
-use Rattle.std.specs.Prelude.{Option, None}
-use Rattle.std.proofs.Common.{◌≡◌, ap, ◌∙◌, if◌then◌else◌, ◌&&◌, ◌||◌, not, is_some, ℕ, ◌+◌, ◌<◌, ◌≤◌, true, false, List, slice_index, sym, subst, Bool, length, refl, arith, ◌*◌, ◌^◌, inl, inr, get_or, ◌==◌, nat_lt, ◌≢◌, map, slice_set, ◌⊎◌, replicate}
-use Rattle.std.proofs.lemmas.{Bool.{and_parts, cases_lt, Decides.nat_tests}, List.{get_or_past, get_or_read_under}}
-use Rattle.dr_entry.specs.{declared.{end.End.End, entry.Entry.Entry}, declared.record.{Value.Value, Vote.Vote}}
+use Rattle.std.specs.Prelude.{Option, None, max, Some, slice_get, option_map}
+use Rattle.std.proofs.Common.{◌≡◌, ap, ◌∙◌, if◌then◌else◌, ◌&&◌, ◌||◌, not, is_some, ℕ, ◌+◌, ◌<◌, ◌≤◌, true, false, List, slice_index, sym, subst, Bool, length, refl, arith, ◌*◌, ◌^◌, inl, inr, get_or, ◌==◌, nat_lt, ◌≢◌, map, slice_set, ◌⊎◌, replicate, [], ◌∷◌, ◌++◌, slice_index_or, zero, suc, ◌↔◌, ◌-◌, le_refl, fold}
+use Rattle.std.proofs.{Math.Nat.mul-le-mul, lemmas.Bool.{and_parts, cases_lt, ltb-true, cases_eq, Decides.nat_tests}}
+use Rattle.std.proofs.lemmas.List.{get_or_past, get_or_read_under, length-set, get_or-map, length-map}
+use Rattle.dr_entry.specs.declared.end.End.{End, TheVariants.{Crashed, DiskFault, LogFull, Spent}}
+use Rattle.dr_entry.specs.declared.{end.SentItem.SentItem, entry.{Entry.Entry, Item.Item}}
+use Rattle.dr_entry.specs.declared.record.{Record.Record, Value.Value, Vote.Vote}
 use Rattle.dr_entry.proofs.{BoolFacts.{all_true, all_three}, ListPlaces.{greatest_within, count_max}}
-use Rattle.dr_entry.proofs.NumberFacts.{product_within}
-use Rattle.dr_history.{specs.{Members.{has, members_of}, Places.front_of}, proofs.MemberLemmas.few_members}
-use Rattle.dr_history.proofs.Ranks.{some_member}
-use Rattle.dr_rows.specs.{Along.{looked_along, Pushes, pushed_along}, Words.{seen, Words, with_own}}
-use Rattle.dr_rows.proofs.{Along.pushed_stays, Grids.seen_with}
+use Rattle.dr_entry.proofs.NumberFacts.{product_within, same_number, other_number, cell_inside, greater, no_less}
+use Rattle.dr_entry.specs.declared.record.Record.TheVariants as records
+use Rattle.dr_history.{specs.{Members.{has, members_of}, Places.front_of}, proofs.Fronts.front_within}
+use Rattle.dr_history.proofs.{MemberLemmas.few_members, Ranks.some_member}
+use Rattle.dr_rows.specs.{Along.{looked_along, Pushes, pushed_along}, Words.{seen, Words, with_own, own}}
+use Rattle.dr_rows.proofs.{Along.pushed_stays, Grids.{seen_with, with_word-same, with_word-column}}
 use Rattle.dr_words.specs.{Columns.{leavers_column, columns_of, recv_column}, Packing.{accept_promise, recv_word}}
-use Rattle.dr_words.{specs.{Form.IsInForm, Layout.words_of, Masks.IsInRoster}, proofs.Columns.{AreAlike, beats_alike}}
-use Rattle.dr_words.specs.{Grown.{HasGrown, Grown}, declared.column.TheConstants.{BEAT_COLUMN, RECEIVED_COLUMN}}
+use Rattle.dr_words.{specs.{Form.IsInForm, Layout.{words_of, word_index_of}}, proofs.Columns.{AreAlike, beats_alike}}
+use Rattle.dr_words.specs.{Grown.{HasGrown, Grown}, Masks.IsInRoster, Rewrites.is_accept_of}
+use Rattle.dr_words.{specs.declared.column.TheConstants.{BEAT_COLUMN, RECEIVED_COLUMN}, proofs.Accepts.leavers_accept}
 use Rattle.dr_words.proofs.{Choices.{propose_alike, accept_alike, shown_alike, proposal_alike}, Order.Grown_refl}
 use Rattle.dr_words.specs.Choices as choices
-use Rattle.dr_ring.{specs.Slots.{IsReady, slot_of, slot_column}, proofs.Readiness.ready_test}
+use Rattle.dr_ring.{specs.{Pieces.pieces, Slots.{IsReady, slot_of, slot_column}}, proofs.Readiness.ready_test}
 use Rattle.dr_machine.specs.declared.step.Step.TheVariants as steps
 use Rattle.dr_machine.specs.declared.event.Act.TheVariants as acts
-use Rattle.dr_machine.specs.{Effects.one_more, Group.{Group, roster, banks}, declared.step.Step.Step}
-use Rattle.dr_machine.specs.declared.step.Step.TheVariants.{Append, LogVote}
-use Rattle.dr_program.specs.{Acts.may, Form.{HasForm, CanBegin}, Presence.present_at, Reading.Shared}
-use Rattle.dr_program.specs.Replica.{Replica, may_propose, may_accept, value_due, is_value, is_wedged, may_append, may_vote, is_other, count, ready_item, may_receive, LeftView, entered, me, greatest, is_inside, acted, received, looked, is_others}
-use Rattle.dr_program.specs.Steps.{NoWordFell, allows_inside, allows, is_outside_step, has_cell, is_free, may_take, IsAppend, stepped}
-use Rattle.dr_program.{specs.declared.setup.Setup.Setup, proofs.Parts.crashed}
+use Rattle.dr_machine.specs.{Acts.effect_of, Effects.{one_more, row_with}, Group.{Group, roster, banks, columns}}
+use Rattle.dr_machine.specs.{Guards.IsFault, Run.{HaveArrived, MayArrive, WasOwn}, World.World, Writes.{at₂, at₄}}
+use Rattle.dr_machine.specs.declared.{event.Act.Act, step.Step.{Step, TheVariants.{Append, LogVote}}}
+use Rattle.dr_machine.proofs.Writes.{at₄_case}
+use Rattle.dr_program.specs.{Acts.may, Presence.present_at, Program.Program, Running.Running}
+use Rattle.dr_program.specs.{Form.{HasForm, CanBegin, IsOf}, Reading.{Shared, in_view, kept_word, word_of, world}}
+use Rattle.dr_program.specs.Replica.{Replica, may_propose, may_accept, value_due, is_value, is_wedged, may_append, may_vote, is_other, count, ready_item, may_receive, LeftView, entered, me, greatest, is_inside, acted, received, looked, is_others, item, sent, is_fault, promise, members_in_view, vote_of}
+use Rattle.dr_program.specs.Steps.{NoWordFell, allows_inside, allows, is_outside_step, has_cell, is_free, may_take, IsAppend, stepped, stored, stored_letters, given_to}
+use Rattle.dr_program.{specs.{Turn.{part_of, is_beat}, declared.setup.Setup.Setup}, proofs.Parts.{crashed, is_take}}
 use Rattle.dr_program.specs.declared.place.Part.TheVariants as parts
 
 alike : (r : Replica) (end : End) → AreAlike r.roster (seen (crashed r end).rows) (seen r.rows)
@@ -222,3 +230,218 @@ unended_append word r s is = absurd is
 
 pub step_later : (word : ℕ) (r : Replica) (s : Step) → r.view ≤ (stepped word r s).view
 step_later word r s = grind arith
+
+-- a cell that a step names: another member's row, and a column
+pub record IsCell (r : Replica) (i c : ℕ) : Type 0 where
+  pub row : i < r.roster
+  pub other : is_other r i ≡ true
+  pub column : c < columns_of r.roster r.window
+
+pub cell : (r : Replica) (i c : ℕ) → has_cell r i c ≡ true → IsCell r i c
+cell r i c e =
+    let two = and_parts (nat_lt i r.roster) (is_other r i && nat_lt c (columns_of r.roster r.window)) e in
+    let three = and_parts (is_other r i) (nat_lt c (columns_of r.roster r.window)) two.1 in
+    record {
+      row = ltb-true i r.roster two.0;
+      other = three.0;
+      column = ltb-true c (columns_of r.roster r.window) three.1;
+    }
+
+pub kept_last : (xs : List LeftView) (y d : LeftView) → slice_index_or (xs ++ y ∷ []) (length xs) d ≡ y
+kept_last [] y d = refl
+kept_last (x ∷ xs) y d = kept_last xs y d
+
+pub kept_other : (xs : List LeftView) (y d : LeftView) (v : ℕ) → v ≢ length xs
+    → slice_index_or (xs ++ y ∷ []) v d ≡ slice_index_or xs v d
+kept_other [] y d zero other = absurd (other refl)
+kept_other [] y d (suc v) other = refl
+kept_other (x ∷ xs) y d zero other = refl
+kept_other (x ∷ xs) y d (suc v) other = kept_other xs y d v (λ e. other (ap suc e))
+
+-- what a replica needs for an item more of s
+pub record MayGain (g : Group) (r : Replica) (s : ℕ) : Type 0 where
+  pub roster : r.roster ≡ roster g
+  pub counts : length r.counts ≡ r.roster
+  pub items : length r.items ≡ greatest r.totals * r.roster
+  pub sender : s < r.roster
+  pub few : count r s < greatest r.totals
+
+-- it is wedged exactly where the world says that it suspects somebody
+pub not_wedged : (r : Replica) → (not (is_wedged r) ≡ true) ↔ (r.suspects ≡ 0)
+not_wedged r = (λ e. grind (arith, e), λ none. grind (arith, none))
+
+-- the word of a row, as the replica has it
+pub shown_word : (r : Replica) (m i c : ℕ) → me r ≡ m → (if i == m then in_view r r.view
+    (own r.rows c) (kept_word r r.view c) else (if i == me r then 0 else seen r.rows i c)) ≡ seen r.rows i c
+shown_word r m i c number = elim (cases_eq i m) [
+  | inl same ↦ rw (same, same_number m, same_number r.view) (ap (λ k. seen r.rows k c) number)
+  | inr other ↦ rw (other_number i m other, other_number i (me r) (λ e. other (e ∙ number))) refl
+]
+
+-- the world with the words of an item put, and its name
+abbrev pub places : Group → World → ℕ → SentItem → Item → World
+places g w m name item =
+    let v = w.past.view m in
+    let k = w.past.count m v m in record w {
+      past = record w.past {
+        own = at₂ w.past.own m v (row_with (w.past.own m v) (slot_column (roster g) g.window k) k (pieces item));
+        sent = at₂ w.past.sent m v (w.past.sent m v ++ name ∷ []);
+      };
+    }
+
+-- the table keeps its length
+pub stored_length : (table : List ℕ) (q : Replica) (s : Step) → length (stored table q s) ≡ length table
+stored_length table q s = grind (arith, length-set table)
+
+pub posts_length : (letters : List (Option (List Entry))) (q : Replica) (s : Step)
+    → length (stored_letters letters q s) ≡ length letters
+posts_length letters q s = grind (arith, length-set letters)
+
+-- the word of a cell
+pub word_inside : (g : Group) (table : List ℕ) (v j i c : ℕ) → v < banks g → j < roster g → i < roster g
+    → c < columns g → word_of g table v j i c ≡ slice_index table (word_index_of (roster g) g.window v j i c)
+word_inside g table v j i c bank copy row column = elim (cell_inside (banks g) (roster g) (columns g) v j i c) [
+  | inl inside ↦ rw inside.1 refl
+  | inr out ↦ absurd (grind (arith, nat_tests, out, bank, copy, row, column))
+]
+
+pub fault_test : (end : End) → (is_fault end ≡ true) ↔ IsFault end
+fault_test Crashed = (λ e. tt, λ f. refl)
+fault_test DiskFault = (λ e. tt, λ f. refl)
+fault_test (LogFull len) = (λ e. tt, λ f. refl)
+fault_test (Spent turns) = (λ e. tt, λ f. refl)
+fault_test end = (λ e. absurd (cc), λ f. absurd f)
+
+-- a step gives somebody a letter, or leaves all letters
+pub letters_then : (letters : List (Option (List Entry))) (r : Replica) (s : Step)
+    → ((j : ℕ) × (s ≡ steps.Welcome j)) ⊎ ((given_to s ≡ None) × (stored_letters letters r s ≡ letters))
+letters_then letters r (steps.Welcome j) = inl (j, refl)
+letters_then letters r s = inr (refl, refl)
+
+-- what is known of a member whose take is due
+pub record IsTaking (r : Running) : Type 0 where
+  pub at : is_take (part_of r.place) ≡ true
+  pub idle : r.replica.pending ≡ None
+  pub outside : is_inside r.replica ≡ false
+  pub first : r.replica.view ≡ 0
+
+-- no own word has fallen
+pub record HasRisen (r q : Replica) : Type 0 where
+  pub rise : (c : ℕ) → own r.rows c ≤ own q.rows c
+
+-- where no word fell, the words have risen
+pub risen : (r q : Replica) → me q ≡ me r → NoWordFell r q → HasRisen r q
+risen r q same grown =
+    record { rise = λ c. subst (λ (i : ℕ). own r.rows c ≤ seen q.rows i c) (sym same) (grown.words (me r) c).number }
+
+-- an own word that was set before the stamp
+pub stamped_own : (r : Replica) (c word : ℕ) → HasForm r → 0 < c → c < r.rows.columns
+    → own (acted (record r { rows = with_own r.rows c word })).rows c ≡ word
+stamped_own r c word form above within =
+    with_word-column (with_own r.rows c word).words r.rows.me BEAT_COLUMN _ r.rows.me c
+    (λ (e : c ≡ BEAT_COLUMN). absurd (omega arith))
+    ∙ with_word-same r.rows.members r.rows.columns r.rows.words r.rows.me c word form.rows.rows
+    form.rows.present within
+
+-- the member that a replica has promised is of its roster
+pub promise_small : (r : Replica) → HasForm r → promise r < 16
+promise_small r form =
+    let c : ℕ = leavers_column r.rows.members in
+    let there : is_accept_of r.roster r.members c ≡ true = rw form.members (leavers_accept r.roster r.members) in
+    omega (arith, (form.words r.rows.me c).promise (inl refl), form.accept c there, form.rows.few)
+
+pub greatest_at : (totals : List ℕ) (i : ℕ) → slice_index totals i ≤ greatest totals
+greatest_at totals i = elim (cases_lt i (length totals)) [
+  | inl within ↦ count_max totals 0 i within
+  | inr past ↦ omega (arith, get_or_past totals i 0 past)
+]
+
+pub word_arrives : (g : Group) (us : List World) (p : Program) (v j i c word : ℕ) → v < banks g → j < roster g
+    → i < roster g → c < columns g → WasOwn us v i c word
+    → HaveArrived us (world g p) (at₄ (word_of g p.table) v j i c
+    (max (slice_index p.table (word_index_of (roster g) g.window v j i c)) word))
+word_arrives g us p v j i c word bank to from cell was = record {
+  source = at₄_case (λ b k n d z. MayArrive us (world g p) b n d z) (word_of g p.table)
+      v j i c (max stood word) (λ b k n d. inr (k, refl)) (by (greater stood word));
+  rises = at₄_case (λ b k n d z. word_of g p.table b k n d ≤ z) (word_of g p.table) v j i
+      c (max stood word) (λ b k n d. le_refl (word_of g p.table b k n d))
+      (subst (λ x. x ≤ max stood word) (sym stands) (no_less stood word));
+}
+  where
+    stood : ℕ
+    stood = slice_index p.table (word_index_of (roster g) g.window v j i c)
+
+    stands : word_of g p.table v j i c ≡ stood
+    stands = word_inside g p.table v j i c bank to from cell
+
+    by : (max stood word ≡ stood) ⊎ (max stood word ≡ word) → MayArrive us (world g p) v i c (max stood word)
+    by (inl old) = inr (j, stands ∙ sym old)
+    by (inr new) = inl (subst (WasOwn us v i c) (sym new) was)
+
+-- no member has come to more places than all messages have
+pub places_few : (r : Replica) → HasForm r → front_of (map (slice_index r.counts) (members_in_view r)) ≤ 16 * 4096
+places_few r form = omega (
+  arith,
+  front_within counts,
+  mul-le-mul {n₁ = length counts} {m₁ = fold max 0 counts} {n₂ = 16} {m₂ = 4096} (omega (
+    arith,
+    length-map (members_in_view r) (slice_index r.counts),
+    few_members r.members,
+  )) (greatest_within counts 0 4096 (omega arith) each),
+)
+  where
+    counts : List ℕ
+    counts = map (slice_index r.counts) (members_in_view r)
+
+    each : (i : ℕ) → slice_index (map (slice_index r.counts) (members_in_view r)) i ≤ 4096
+    each i = by (cases_lt i (length (members_in_view r)))
+      where
+        by : (i < length (members_in_view r)) ⊎ (length (members_in_view r) ≤ i)
+            → slice_index (map (slice_index r.counts) (members_in_view r)) i ≤ 4096
+        by (inl within) = omega (
+          arith,
+          get_or-map (slice_index r.counts) (members_in_view r) i 0 0 within,
+          form.bounded (slice_index (members_in_view r) i),
+          form.few,
+        )
+        by (inr past) = omega (
+          arith,
+          get_or_past (map (slice_index r.counts) (members_in_view r)) i 0
+              (omega (arith, past, length-map (members_in_view r) (slice_index r.counts))),
+        )
+
+-- the record is the next entry of the history, or a vote that the member may cast
+abbrev pub MayCome : Replica → Record → Type 0
+MayCome r (records.Entry e) = slice_get r.history r.logged ≡ Some e
+MayCome r (records.Vote x) = (v : Value) × (may_vote r v ≡ true) × (x ≡ vote_of r v)
+MayCome r (records.AgeVote x) = ⊥
+MayCome r (records.Cut keep) = ⊥
+MayCome r records.Upgrade = ⊥
+
+-- the replicas of the members of a program
+abbrev pub replicas_of : Program → List (Option Replica)
+replicas_of p = map (option_map (λ (r : Running). r.replica)) p.members
+
+-- a replica as if its member had no end
+abbrev pub unended : Replica → Replica
+unended r = record r { end = None }
+
+pub unended_of : (g : Group) (m : ℕ) (r : Replica) → IsOf g m r → IsOf g m (unended r)
+unended_of g m r of = record {
+  present = of.present;
+  number = of.number;
+  age = of.age;
+  members = of.members;
+  window = of.window;
+  banks = of.banks;
+  messages = of.messages;
+  totals = of.totals;
+  late = of.late;
+  room = of.room;
+}
+
+-- only a beat counts a turn
+pub turns_stay : (g : Group) (w : World) (m : ℕ) (a : Act) → is_beat (parts.Do a) ≡ false
+    → (effect_of g w m (steps.Do a)).turns m ≡ w.turns m
+turns_stay g w m acts.Beat other = absurd (cc)
+turns_stay g w m a other = refl

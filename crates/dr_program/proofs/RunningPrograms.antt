@@ -1,23 +1,29 @@
 -- What is due to a running member, by the kind of its next deed.
 use Rattle.std.specs.Prelude.{Option, None, Some, slice_get, unwrap_or, option_map, is_some}
-use Rattle.std.proofs.Common.{◌≡◌, refl, List, Bool, true, false, ℕ, ◌<◌, ◌&&◌, nat_lt, sym, ap, ◌∙◌, ◌||◌, ◌+◌, ◌==◌, if◌then◌else◌, arith, ◌≤◌, not, subst, [], ◌∷◌, map, length}
-use Rattle.std.proofs.lemmas.{Bool.{and_parts, ltb-true, Decides.nat_tests}, Option.get_or_from_slice_get}
+use Rattle.std.proofs.Common.{◌≡◌, refl, List, Bool, true, false, ℕ, ◌<◌, ◌&&◌, nat_lt, sym, ap, ◌∙◌, ◌||◌, ◌+◌, ◌==◌, if◌then◌else◌, arith, ◌≤◌, not, subst, [], ◌∷◌, map, length, inl, inr, zero, suc, ◌≢◌, ◌⊎◌}
+use Rattle.std.proofs.lemmas.Bool.{and_parts, ltb-true, Decides.nat_tests}
+use Rattle.std.proofs.lemmas.Option.{get_or_from_slice_get, same_Some}
 use Rattle.dr_entry.specs.{declared.{end.End.End, entry.Entry.{Entry, TheVariants.View}}, declared.record.Vote.Vote}
+use Rattle.dr_entry.proofs.{BoolFacts.{other_ballot, tested, stops_due}, Ends.stops_end}
 use Rattle.dr_entry.specs.declared.record.Record.TheVariants as records
 use Rattle.dr_entry.specs.declared.end.End.TheVariants as ends
 use Rattle.dr_history.specs.Order.{first_entries}
 use Rattle.dr_rows.specs.Words as rows
 use Rattle.dr_rows.specs.Words.{own}
-use Rattle.dr_suspect.specs.Waits.{compared}
-use Rattle.dr_machine.specs.{Group.Group, declared.{event.Act.Act, step.Step.{Step, TheVariants.{Do, Join}}}}
+use Rattle.dr_words.specs.declared.column.TheConstants.{BEAT_COLUMN}
+use Rattle.dr_suspect.specs.Waits.{compared, beat_of, turns_without_news}
+use Rattle.dr_machine.specs.{Group.{Group, roster}, World.World, declared.{event.Act.Act, step.Step.Step}}
+use Rattle.dr_machine.specs.declared.step.Step.TheVariants.{Do, Join, Push}
 use Rattle.dr_machine.specs.declared.step.Step.TheVariants as steps
 use Rattle.dr_machine.specs.declared.event.Act.TheVariants as acts
-use Rattle.dr_program.specs.{Acts.{may, is_outside_act}, declared.{outcome.Outcome.Outcome, setup.Setup.Setup}}
-use Rattle.dr_program.{specs.{Form.IsRunningMember, declared.deed.Deed.Deed}, proofs.Replicas.{may_look, itself}}
-use Rattle.dr_program.{specs.{Program.after_deed, Sight.IsSeenNext, Turn.part_of}, proofs.Parts.judged_inside}
-use Rattle.dr_program.specs.Replica.{is_other, is_inside, looked, value_due, vote_of, me, has_majority, is_wedged, unsuspected, Replica, begun_replica}
-use Rattle.dr_program.specs.Running.{Running, took_letter, deed, deed_of, next_deed, next_step, columns, members, asks, waits_after, pushes_after, judged, judgement, named_by, overdue, scripted, told, crashes_now, push_or_crash, step_at, begun_running, settled}
-use Rattle.dr_program.specs.Steps.{has_cell, allows, allows_inside, is_outside_step, stepped, index_in}
+use Rattle.dr_program.specs.{Acts.{may, is_outside_act}, Sight.IsSeenNext, declared.{deed.Deed.Deed, place.Part.Part}}
+use Rattle.dr_program.{specs.{Form.IsRunningMember, Presence.present_at}, proofs.Parts.judged_inside}
+use Rattle.dr_program.{specs.Program.{after_deed, Program}, proofs.{Order.after_propose, Replicas.{may_look, itself}}}
+use Rattle.dr_program.specs.{Reading.{step_due, step_of_member}, declared.outcome.{LogWhy.LogWhy, Outcome.Outcome}}
+use Rattle.dr_program.specs.Replica.{is_other, is_inside, looked, value_due, vote_of, me, has_majority, is_wedged, unsuspected, Replica, begun_replica, is_others, is_own}
+use Rattle.dr_program.specs.Running.{Running, took_letter, deed, deed_of, next_deed, next_step, columns, members, asks, waits_after, pushes_after, judged, judgement, named_by, overdue, scripted, told, crashes_now, push_or_crash, step_at, begun_running, settled, WaitsAt, applies, moved, settle, broken_off}
+use Rattle.dr_program.specs.Steps.{has_cell, allows, allows_inside, is_outside_step, stepped, index_in, IsAppend}
+use Rattle.dr_program.specs.{Turn.{part_of, IsIn, places_in}, declared.{place.TheConstants.TURN, setup.Setup.Setup}}
 use Rattle.dr_program.specs.declared.deed.Deed.TheVariants as deeds
 use Rattle.dr_program.specs.declared.place.Part.TheVariants as parts
 
@@ -190,3 +196,115 @@ going_none r going = by r.replica.end going
     by : (o : Option End) → is_some o ≡ false → o ≡ None
     by None e = refl
     by (Some end) e = absurd (cc)
+
+pub waits_on : (r : Running) → IsIn (members r) (columns r) r.place → WaitsAt r (part_of r.place)
+    → (is_inside r.replica ≡ false → r.replica.pending ≡ None)
+    → applies r r.place ≡ false → WaitsAt r (part_of (moved r).place)
+waits_on r is waits idle e = by waits r.replica.pending refl
+  where
+    here : (part : Part) → part_of r.place ≡ part → (asks r part r.place.row r.place.column
+        && allows r.replica (step_at r part r.place.row r.place.column)) ≡ false
+    here part at = sym (ap (λ x. asks r x r.place.row r.place.column
+        && allows r.replica (step_at r x r.place.row r.place.column)) at) ∙ e
+
+    inside : (x : Vote) → r.replica.pending ≡ Some x → is_inside r.replica ≡ true
+    inside x q = by (is_inside r.replica) refl
+      where
+        by : (b : Bool) → is_inside r.replica ≡ b → b ≡ true
+        by true t = refl
+        by false t = absurd (cc (q, idle t))
+
+    by : WaitsAt r (part_of r.place) → (o : Option Vote) → r.replica.pending ≡ o → WaitsAt r (part_of (moved r).place)
+    by (inl none) o q = inl none
+    by (inr (inl at)) None q = inl q
+    by (inr (inl at)) (Some x) q =
+        let not_own : is_own (me r.replica) (Some x) ≡ false = sym (ap (is_own (me r.replica)) q)
+        ∙ tested (is_inside r.replica) (is_own (me r.replica) r.replica.pending) (inside x q)
+        (here (parts.Do acts.Propose) at) in
+        inr (inr (
+          after_propose (members r) (columns r) r.place is at,
+          ap (is_others (me r.replica)) q ∙ other_ballot (x.ballot == me r.replica) not_own,
+        ))
+    by (inr (inr t)) None q = inl q
+    by (inr (inr t)) (Some x) q = absurd (cc (
+      t.1,
+      tested (is_inside r.replica) (is_others (me r.replica) r.replica.pending) (inside x q)
+          (here (parts.Do acts.Accept) t.0),
+    ))
+
+-- the member has ended, or there is something to do where it stands
+abbrev pub stops : Running → Bool
+stops r = is_some r.replica.end || applies r r.place
+
+-- there the search stays
+settle_here : (f : ℕ) (r : Running) → stops r ≡ true → settle f r ≡ r
+unfolding settle
+settle_here zero r e = refl
+settle_here (suc f) r e = by (stops r) e
+  where
+    by : (x : Bool) → x ≡ true → (if x then r else settle f (moved r)) ≡ r
+    by true h = refl
+    by false h = absurd (cc)
+
+-- where a member has ended or has something to do, the search stays
+pub settled_here : (r : Running) → stops r ≡ true → settled r ≡ r
+settled_here r e = settle_here (places_in (members r) (columns r) TURN) r e
+
+-- where a member has ended, the search stays
+pub settled_end : (r : Running) → is_some r.replica.end ≡ true → settled r ≡ r
+settled_end r e = settled_here r (stops_end r.replica.end (applies r r.place) e)
+
+-- elsewhere it goes on
+pub settle_on : (f : ℕ) (r : Running) → stops r ≡ false → settle f (moved r) ≡ settle (suc f) r
+unfolding settle
+settle_on f r e = by (stops r) e
+  where
+    by : (x : Bool) → x ≡ false → settle f (moved r) ≡ (if x then r else settle f (moved r))
+    by true h = absurd (cc)
+    by false h = refl
+
+pub stays : (r : Running) → applies r r.place ≡ true → r ≡ settled r
+stays r due = sym (settled_here r (stops_due (is_some r.replica.end) (applies r r.place) due))
+
+-- a push that is due
+pub due_push : (r : Running) (j c : ℕ) → step_of_member r ≡ Some (Push j c)
+    → (r.replica.end ≡ None) × (next_step r ≡ Push j c)
+due_push r j c push = by r.replica.end refl push
+  where
+    by : (o : Option End) → r.replica.end ≡ o → step_due r o ≡ Some (Push j c)
+        → (r.replica.end ≡ None) × (next_step r ≡ Push j c)
+    by None e same = (e, same_Some (next_step r) (Push j c) same)
+    by (Some x) e same = absurd (cc)
+
+-- no step at all changes for how long it waits, nor does a take
+pub took_limit : (letter : Option (List Entry)) (r : Running) → (took_letter letter r).waits.limit ≡ r.waits.limit
+took_limit None r = refl
+took_limit (Some letter) r = refl
+
+pub limit_stays : (word : ℕ) (r : Running) (s : Step) → (waits_after word r s).limit ≡ r.waits.limit
+limit_stays word r s = grind arith
+
+-- between turns a member waits without a limit or for three turns at least, and while it goes on it has
+-- waited for nobody for more than one
+pub record HasWaited (g : Group) (w : World) (m : ℕ) (r : Running) : Type 0 where
+  pub limit : (r.waits.limit ≡ 0) ⊎ (3 ≤ r.waits.limit)
+  pub beat : (i : ℕ) → i < roster g → i ≢ m → beat_of r.waits i ≡ w.seen m i BEAT_COLUMN
+  pub few : (i : ℕ) → i < roster g → i ≢ m → r.replica.end ≡ None → turns_without_news r.waits i ≤ 1
+
+-- no vote waits where an append has failed
+abbrev pub IsIdleFailed : Running → Type 0
+IsIdleFailed r = (why : LogWhy) → r.failed ≡ Some why → r.replica.pending ≡ None
+
+abbrev pub AreIdleFailed : Program → Type 0
+AreIdleFailed p = (m : ℕ) (r : Running) → present_at p.members m ≡ Some r → IsIdleFailed r
+
+-- where the next step is an append no vote waits
+pub idle_at : (r : Running) (part : Part) (i c : ℕ) → IsAppend (step_at r part i c) → WaitsAt r part
+    → r.replica.pending ≡ None
+idle_at r part i c due (inl none) = none
+idle_at r part i c due (inr (inl propose)) = absurd (subst (λ p. IsAppend (step_at r p i c)) propose due)
+idle_at r part i c due (inr (inr (accept, other))) = absurd (subst (λ p. IsAppend (step_at r p i c)) accept due)
+
+pub breaks_idle : (why : LogWhy) (r : Running) → IsRunningMember r → IsAppend (next_step r)
+    → IsIdleFailed (broken_off why r)
+breaks_idle why r member due reason failed = idle_at r (part_of r.place) r.place.row r.place.column due member.free

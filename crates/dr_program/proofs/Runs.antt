@@ -1,12 +1,14 @@
 -- Programs that take deeds one after the other.
-use Rattle.std.{specs.Prelude.{Option, None, Some}, proofs.lemmas.{Bool.not-true, Option.same_Some}}
-use Rattle.std.proofs.Common.{◌≡◌, ◌⊎◌, inl, inr, refl, sym, subst, ℕ, true, false, List, [], ◌∷◌, ◌++◌, ◌∙◌, ◌+◌}
+use Rattle.std.specs.{List.range_with_len, Prelude.{Option, None, Some}}
+use Rattle.std.proofs.Common.{◌≡◌, ◌⊎◌, inl, inr, refl, sym, subst, ℕ, true, false, List, [], ◌∷◌, ◌++◌, ◌∙◌, ◌+◌, ap, zero, suc, length}
+use Rattle.std.proofs.lemmas.{Bool.not-true, Option.same_Some}
 use Rattle.dr_entry.specs.declared.entry.Entry.{Entry}
 use Rattle.dr_machine.specs.declared.step.Step.{Step, TheVariants.{Append, Do, Join, LogVote}}
 use Rattle.dr_program.specs.Program.{Program, Move, after_deed, comes_to, step_of, ran}
-use Rattle.dr_program.specs.{Replica.{Replica, is_inside}, declared.outcome.LogWhy.LogWhy}
-use Rattle.dr_program.{specs.Running.{Running, after_step, broken_off, settled, took_letter}, proofs.Programs.ran_one}
-use Rattle.dr_program.specs.{Steps.{IsAppend, IsNoJoin, allows, sight}, declared.outcome.Outcome.Outcome}
+use Rattle.dr_program.specs.Replica.{Replica, is_inside}
+use Rattle.dr_program.specs.Running.{Running, after_step, broken_off, settled, took_letter}
+use Rattle.dr_program.specs.{Schedule.{TakeTurns, Rounds, IsLockstep}, Steps.{IsAppend, IsNoJoin, allows, sight}}
+use Rattle.dr_program.{specs.declared.outcome.{LogWhy.LogWhy, Outcome.Outcome}, proofs.Programs.{ran_one, still}}
 use Rattle.dr_program.specs.declared.outcome.Outcome.TheVariants as outcomes
 
 -- a program may take more deeds after others
@@ -90,3 +92,22 @@ inside_no_join r s inside may = tt
 -- one move more
 pub ran_more : (p : Program) (es : List Move) (e : Move) → ran p (es ++ e ∷ []) ≡ step_of (ran p es) e
 ran_more p es e = ran_on p es (e ∷ []) ∙ ran_one (ran p es) e
+
+then : (p mid q : Program) (a b es : List Move) → es ≡ a ++ b → mid ≡ ran p a → q ≡ ran mid b → q ≡ ran p es
+then p mid q a b es both first second = second ∙ ap (λ x. ran x b) first ∙ sym (ran_on p a b) ∙ ap (ran p) (sym both)
+
+pub turns_taken : (ms : List ℕ) (p : Program) (es : List Move) (q : Program) → TakeTurns ms p es q → q ≡ ran p es
+turns_taken [] p es q t = still p q es t.0 t.1
+turns_taken (m ∷ ms) p es q (turn, rest, mid, both, first, more) = then p mid q turn rest es both (elim first [
+  | inl ended ↦ still p mid turn ended.1 ended.2
+  | inr took ↦ took.1.taken
+]) (turns_taken ms mid rest q more)
+
+rounds_taken : (k : ℕ) (p : Program) (es : List Move) (q : Program) → Rounds k p es q → q ≡ ran p es
+rounds_taken zero p es q t = still p q es t.0 t.1
+rounds_taken (suc k) p es q (round, rest, mid, both, first, more) = then p mid q round rest es both
+    (turns_taken (range_with_len 0 (length p.members)) p round mid first) (rounds_taken k mid rest q more)
+
+-- a program that a lockstep schedule leads to is the one after its moves
+pub lockstep_taken : (begun : Program) (es : List Move) (p : Program) → IsLockstep begun es p → p ≡ ran begun es
+lockstep_taken begun es p run = rounds_taken run.rounds begun es p run.ran

@@ -1,17 +1,21 @@
 -- What holds of a step that a part has and of the end in its place holds of whichever of the two is due.
-use Rattle.std.{specs.Prelude.{ℕ, Bool, true, false, Option, None, Some}, proofs.Common.{◌≡◌, refl, sym, ap, ◌∙◌}}
-use Rattle.std.proofs.lemmas.Bool.{and_parts}
+use Rattle.std.specs.Prelude.{ℕ, Bool, true, false, Option, None, Some}
+use Rattle.std.proofs.{Common.{◌≡◌, refl, sym, ap, ◌∙◌, subst, arith}, lemmas.Bool.and_parts}
 use Rattle.dr_entry.specs.declared.end.End.TheVariants as ends
 use Rattle.dr_entry.specs.{declared.end.End.End, declared.record.Value.Value}
 use Rattle.dr_machine.specs.declared.event.Act.TheVariants as acts
-use Rattle.dr_machine.specs.declared.step.Step.{Step}
+use Rattle.dr_machine.{specs.{Acts.effect_of, Group.Group, World.World, declared.step.Step.Step}, proofs.Ends.judges}
 use Rattle.dr_machine.specs.declared.step.Step.TheVariants as steps
-use Rattle.dr_program.specs.{Form.IsRunningMember, Reading.{step_due, step_of_member}}
-use Rattle.dr_program.specs.Running.{append_or_end, end_by, push_or_crash, vote_or_end, Running, broken_off, crashes_now, step_at, next_step, pushes_after, waits_after}
-use Rattle.dr_program.specs.{Sight.{IsSeenNext, MaySee}, Steps.{IsAppend, has_cell, stepped}, Turn.part_of}
-use Rattle.dr_program.specs.declared.{outcome.LogWhy.LogWhy, place.Part.Part}
+use Rattle.dr_program.specs.{Form.IsRunningMember, Turn.{part_of, is_beat}, declared.place.Part.Part}
+use Rattle.dr_program.specs.{Reading.{step_due, step_of_member}, Replica.{value_due, is_fault, is_inside}}
+use Rattle.dr_program.specs.Running.{append_or_end, end_by, push_or_crash, vote_or_end, Running, broken_off, crashes_now, step_at, next_step, pushes_after, waits_after, asks, AsksForLetter, judged}
+use Rattle.dr_program.{specs.Sight.{IsSeenNext, MaySee}, proofs.{Replicas.{IsTaking, turns_stay}, Runs.joins_outside}}
+use Rattle.dr_program.specs.{Steps.{IsAppend, has_cell, stepped, IsNoJoin, allows}, declared.outcome.LogWhy.LogWhy}
+use Rattle.dr_program.proofs.Parts.{acts_on, none_waits, has_verdict, is_judge, verdict_no_beat, verdict_of, is_take}
 use Rattle.dr_program.proofs.RunningPrograms.{is_cell, allowed_inside, in_view, waits_stay, waits_turn, IsLookDue}
+use Rattle.dr_program.proofs.Search.{applies_at}
 use Rattle.dr_program.specs.declared.place.Part.TheVariants as parts
+use Rattle.dr_program.specs.declared.outcome.LogWhy.TheVariants as whys
 
 -- an append, or the end by the log
 pub append_either : (P : Step → Type 0) (o : Option LogWhy) → P steps.Append
@@ -81,3 +85,113 @@ look_due r word m may = by r.replica.end refl may
     by : (o : Option End) → r.replica.end ≡ o → MaySee r (step_due r o) word → IsLookDue r word
     by None none may = due none may
     by (Some end) none may = absurd may
+
+-- the parts of appends
+abbrev appends : Part → Bool
+appends parts.Append = true
+appends parts.Vote = true
+appends part = false
+
+-- an append is due only at their own parts, and only where none has failed
+pub append_at : (r : Running) (part : Part) (i c : ℕ) → IsAppend (step_at r part i c)
+    → (appends part ≡ true) × (r.failed ≡ None)
+append_at r parts.Append i c e = (refl, by r.failed refl e)
+  where
+    by : (o : Option LogWhy) → r.failed ≡ o → IsAppend (append_or_end o) → r.failed ≡ None
+    by None same e = same
+    by (Some why) same e = absurd e
+append_at r parts.Vote i c e = (refl, by r.failed refl e)
+  where
+    by : (o : Option LogWhy) → r.failed ≡ o → IsAppend (vote_or_end o (value_due r.replica)) → r.failed ≡ None
+    by None same e = same
+    by (Some why) same e = absurd e
+append_at r parts.Push i c e = absurd (push_either (λ s. IsAppend s → ⊥) (crashes_now r) i c (λ x. x) (λ x. x) e)
+append_at r part i c e = absurd e
+
+-- a member may end by a fault of its log at any time
+pub may_end : (why : LogWhy) → is_fault (end_by why) ≡ true
+may_end whys.DiskFault = refl
+may_end (whys.LogFull len) = refl
+
+-- so it does where its append has failed
+ends_there : (why : LogWhy) (r : Running) (part : Part) (i c : ℕ) → appends part ≡ true
+    → applies_at (broken_off why r) part i c ≡ true
+ends_there why r parts.Append i c e = may_end why
+ends_there why r parts.Vote i c e = may_end why
+ends_there why r part i c e = absurd (cc e)
+
+-- a running member whose append fails stays one
+pub failed_form : (why : LogWhy) (r : Running) → IsRunningMember r → r.replica.end ≡ None
+    → IsAppend (next_step r) → IsRunningMember (broken_off why r)
+failed_form why r m none e = record {
+  replica = m.replica;
+  place = m.place;
+  due = λ still. ends_there why r (part_of r.place) r.place.row r.place.column at;
+  turns = m.turns;
+  waits = m.waits;
+  free = m.free;
+  left = m.left;
+}
+  where
+    at : appends (part_of r.place) ≡ true
+    at = (append_at r (part_of r.place) r.place.row r.place.column e).0
+
+-- the step is an append only where none has failed
+pub none_failed : (r : Running) → IsAppend (next_step r) → r.failed ≡ None
+none_failed r is = (append_at r (part_of r.place) r.place.row r.place.column is).1
+
+-- a join is due at its own part alone
+pub no_join_at : (r : Running) (part : Part) (i c : ℕ) → is_take part ≡ false → IsNoJoin (step_at r part i c)
+no_join_at r parts.Take i c other = absurd (cc other)
+no_join_at r parts.Append i c other = append_either IsNoJoin r.failed tt (λ why. tt)
+no_join_at r parts.Vote i c other = vote_either IsNoJoin r.failed _ tt (λ why. tt)
+no_join_at r parts.Push i c other = push_either IsNoJoin (crashes_now r) i c tt tt
+no_join_at r part i c other = tt
+
+take_at : (r : Running) (part : Part) (i c : ℕ) → (IsNoJoin (step_at r part i c) → ⊥) → is_take part ≡ true
+take_at r part i c join = by (is_take part) refl
+  where
+    by : (b : Bool) → is_take part ≡ b → is_take part ≡ true
+    by true e = e
+    by false e = absurd (join (no_join_at r part i c e))
+
+pub taking : (r : Running) → IsRunningMember r → AsksForLetter r → IsTaking r
+taking r m is = record {
+  at = at;
+  idle = none_waits r (part_of r.place) refl (other (part_of r.place) at) m.free;
+  outside = outside;
+  first = (m.replica.outside outside).first;
+}
+  where
+    at : is_take (part_of r.place) ≡ true
+    at = take_at r (part_of r.place) r.place.row r.place.column (λ none. subst IsNoJoin is.due none)
+
+    other : (part : Part) → is_take part ≡ true → acts_on part ≡ false
+    other part e = grind (arith, e)
+
+    outside : is_inside r.replica ≡ false
+    outside = joins_outside r.replica (next_step r) is.due (and_parts
+        (asks r (part_of r.place) r.place.row r.place.column) (allows r.replica (next_step r)) (m.due is.unended)).1
+
+-- no other part has such a step
+pub plain_step : (r : Running) (part : Part) (i c : ℕ) → is_judge part ≡ false → has_verdict part ≡ false
+    → judges (step_at r part i c) ≡ false
+plain_step r parts.Judge i c other none = absurd (cc)
+plain_step r parts.Append i c other none = append_either (λ s. judges s ≡ false) r.failed refl (λ why. refl)
+plain_step r parts.Vote i c other none = vote_either (λ s. judges s ≡ false) r.failed _ refl (λ why. refl)
+plain_step r parts.Push i c other none = push_either (λ s. judges s ≡ false) (crashes_now r) i c refl refl
+plain_step r (parts.Do a) i c other none = none
+plain_step r part i c other none = refl
+
+-- the turns, but where one begins
+pub turns_on : (g : Group) (w : World) (m : ℕ) (r : Running) (part : Part) (i c : ℕ)
+    → is_beat part ≡ false → (effect_of g w m (step_at r part i c)).turns m ≡ w.turns m
+turns_on g w m r parts.Append i c other =
+    append_either (λ s. (effect_of g w m s).turns m ≡ w.turns m) r.failed refl (λ why. refl)
+turns_on g w m r parts.Vote i c other =
+    vote_either (λ s. (effect_of g w m s).turns m ≡ w.turns m) r.failed _ refl (λ why. refl)
+turns_on g w m r parts.Push i c other =
+    push_either (λ s. (effect_of g w m s).turns m ≡ w.turns m) (crashes_now r) i c refl refl
+turns_on g w m r parts.Judge i c other = turns_stay g w m (judged r) (verdict_no_beat (judged r) (verdict_of r))
+turns_on g w m r (parts.Do a) i c other = turns_stay g w m a other
+turns_on g w m r part i c other = refl

@@ -1,51 +1,19 @@
 -- In a world that is reached a history is never longer than the start, a View for each bank and the messages
 -- that the script can give. So a replica with room for one entry more has the room that a step asks for.
-use Rattle.std.specs.Prelude.{Option}
-use Rattle.std.proofs.Common.{◌≡◌, refl, ap, ℕ, ◌+◌, ◌*◌, ◌<◌, ◌≤◌, inl, inr, List, [], ◌∷◌, length, map, slice_index, arith, length-append}
-use Rattle.std.proofs.{Math.{ListN.get_or-map, Nat.{mul-le-mul, mul_comm}}, lemmas.{Bool.cases_lt, List.get_or_past}}
-use Rattle.dr_entry.specs.declared.{entry.Entry.TheVariants.View, limits.TheConstants.{MAX_MEMBERS, MAX_MESSAGES}}
-use Rattle.dr_entry.proofs.ListPlaces.{count_max, greatest_within}
-use Rattle.dr_history.specs.{History.messages_of, Order.first_entries}
+use Rattle.std.{specs.Prelude.Option, proofs.Common.{refl, ap, ℕ, ◌+◌, ◌*◌, ◌<◌, ◌≤◌, List, length, arith}}
+use Rattle.std.proofs.Math.Nat.{mul-le-mul}
+use Rattle.dr_entry.specs.declared.limits.TheConstants.{MAX_MEMBERS, MAX_MESSAGES}
+use Rattle.dr_entry.proofs.ListPlaces.{greatest_within}
 use Rattle.dr_machine.specs.{Acts.{CanTake, effect_of}, Group.{Group, IsGroup, roster, banks}, Run.IsReached}
-use Rattle.dr_machine.{specs.{World.World, declared.step.Step.Step}, proofs.Presence.late_few}
+use Rattle.dr_machine.{specs.{World.World, declared.step.Step.Step}, proofs.Events.taken_reached}
+use Rattle.dr_machine.proofs.{Groups.{messages_each, each_is}, Presence.late_few}
+use Rattle.dr_faithful.proofs.Copies.{inside}
 use Rattle.dr_program.{specs.{Reading.{Shared, world_of}, Replica.{Replica, greatest}}, proofs.Holdings.held_of}
-use Rattle.dr_world_laws.proofs.{Rooms.{history-short, view-below}, Worlds.{all_go_on, known}}
-use Rattle.dr_refine.{specs.Programs.{HasRoomFor, IsMember}, proofs.{Deeds.taken_reached, Members.{fits, inside}}}
-use Rattle.dr_refine.proofs.Tests.{room_by}
+use Rattle.dr_program.proofs.Replicas.{greatest_at}
+use Rattle.dr_world_laws.proofs.{Rooms.history_below, Worlds.{all_go_on, known}}
+use Rattle.dr_refine.{specs.Programs.{HasRoomFor, IsMember}, proofs.{Members.fits, Tests.room_by}}
 
 -- ---- histories
-
--- what every history begins with is the start and one View
-first_length : (g : Group) → length (first_entries g.opening) ≡ length g.opening.start + 1
-first_length g = length-append g.opening.start (View g.opening.age 0 g.opening.members ∷ [])
-
-pub greatest_at : (totals : List ℕ) (i : ℕ) → slice_index totals i ≤ greatest totals
-greatest_at totals i = elim (cases_lt i (length totals)) [
-  | inl within ↦ count_max totals 0 i within
-  | inr past ↦ omega (arith, get_or_past totals i 0 past)
-]
-
--- how many messages the script gives each member of the roster
-abbrev messages_each : Group → List ℕ
-messages_each g = map length g.opening.messages
-
-each_is : (g : Group) (s : ℕ) → slice_index (messages_each g) s ≡ length (messages_of g.opening s)
-each_is g s = get_or-map length g.opening.messages s []
-
--- a history has no more than the start, a View for each bank, and the messages that the script can give the
--- roster
-pub history_below : (g : Group) (w : World) (m most : ℕ) → IsGroup g → IsReached g w → m < roster g
-    → ((s : ℕ) → length (messages_of g.opening s) ≤ most)
-    → length (w.past.history m) ≤ length g.opening.start + banks g + most * roster g
-history_below g w m most is r l few =
-    let y = known g w is r in
-    omega (
-      arith,
-      history-short g y.values w m most is y.chosen l few,
-      view-below g y.values w m is y.chosen l,
-      first_length g,
-      mul_comm (roster g) most,
-    )
 
 pub history_bounded : (g : Group) (w : World) (m : ℕ) → IsGroup g → IsReached g w → m < roster g
     → length (w.past.history m) ≤ length g.opening.start + banks g + greatest (messages_each g) * roster g

@@ -1,21 +1,21 @@
 -- What the deeds of members and words that come make of a program whose words are carried by a net.
-use Rattle.std.{specs.Prelude.{max, slice_set, None, Option, Some}, proofs.lemmas.Bool.and_parts}
+use Rattle.std.specs.Prelude.{max, slice_set, Some}
 use Rattle.std.proofs.Common.{◌≡◌, arith, refl, subst, sym, true, ℕ, ◌<◌, [], All, Contains, List, ◌∷◌, length, slice_index}
-use Rattle.std.proofs.lemmas.{List.Elements.{All-cons, All-contains, All-nil, All-weaker}, Option.same_Some}
-use Rattle.dr_entry.specs.declared.end.End.{End}
+use Rattle.std.proofs.lemmas.{Bool.and_parts, List.Elements.{All-cons, All-contains, All-nil, All-weaker}}
 use Rattle.dr_rows.specs.Words.{own}
 use Rattle.dr_words.{specs.Layout.word_index_of, proofs.Places.word_index_within}
 use Rattle.dr_machine.specs.{Group.{Group, IsGroup, banks, columns, roster}, Run.{ComesNext, IsReached}, World.World}
 use Rattle.dr_machine.{specs.declared.step.Step.TheVariants.Push, proofs.Runs.{is_before, stays_next}}
-use Rattle.dr_program.specs.{Net.{FindsNone, IsOnItsWay, took_nothing}, Running.{Running, next_step, AsksForLetter}}
-use Rattle.dr_program.specs.{Presence.present_at, Program.{Move, Program, ok, step_of}, declared.packet.Packet.Packet}
-use Rattle.dr_program.specs.{Reading.{step_due, step_of_member, table_of, world}, Replica.{is_inside, is_other, me}}
-use Rattle.dr_program.specs.Steps.{allows, index_in}
-use Rattle.dr_refine.specs.Programs.{IsMember, IsProgram}
-use Rattle.dr_refine.proofs.Deeds.{due_allowed, missed_stays, program_member, replicas, step_follows}
-use Rattle.dr_refine.proofs.{Guards.other_within, Members.{fits, inside}, Tests.cell_test}
+use Rattle.dr_faithful.proofs.Copies.{inside}
+use Rattle.dr_program.specs.{Net.{FindsNone, IsOnItsWay, took_nothing}, Presence.present_at}
+use Rattle.dr_program.specs.{Program.{Move, Program, ok, step_of}, Reading.{step_of_member, table_of, world}}
+use Rattle.dr_program.specs.{Replica.{is_inside, is_other, me}, Running.{Running, AsksForLetter}}
+use Rattle.dr_program.specs.{Steps.{allows, index_in}, declared.packet.Packet.Packet}
+use Rattle.dr_program.proofs.{Deeds.{due_allowed, missed_stays, replicas, own_now}, RunningPrograms.due_push}
+use Rattle.dr_refine.{specs.Programs.{IsMember, IsProgram}, proofs.Deeds.{program_member, step_follows, way_stays}}
+use Rattle.dr_refine.proofs.{Guards.other_within, Members.fits, Tables.come_follows, Tests.cell_test}
 use Rattle.dr_program_laws.{specs.Carried.{IsCarried, WasSent}, proofs.{Keeping.move_kept, Letters.letters_are}}
-use Rattle.dr_program_laws.proofs.Nets.{come_follows, missed_kept, own_now, way_stays}
+use Rattle.dr_program_laws.proofs.Nets.{missed_kept}
 
 -- what was sent was so with one moment more
 sent_more : (g : Group) (us : List World) (w : World) (packet : Packet) → WasSent g us packet
@@ -58,16 +58,6 @@ carried_moves g p net e y = record {
   way = (y.way, step_follows g p e y.before y.group y.form (letters_are g p y.group y.form (y.before, y.way)));
   sent = all_sent g (world g p ∷ y.before) (world g (step_of p e)) net y.sent;
 }
-
--- a push that is due
-due_push : (r : Running) (j c : ℕ) → step_of_member r ≡ Some (Push j c)
-    → (r.replica.end ≡ None) × (next_step r ≡ Push j c)
-due_push r j c push = by r.replica.end refl push
-  where
-    by : (o : Option End) → r.replica.end ≡ o → step_due r o ≡ Some (Push j c)
-        → (r.replica.end ≡ None) × (next_step r ≡ Push j c)
-    by None e same = (e, same_Some (next_step r) (Push j c) same)
-    by (Some x) e same = absurd (cc)
 
 -- and so does a push whose word goes into a packet
 pub carried_pushes : (g : Group) (p : Program) (net : List Packet) (m : ℕ) (r : Running) (j c : ℕ)

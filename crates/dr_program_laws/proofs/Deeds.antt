@@ -1,66 +1,22 @@
 -- A deed leads a member from where it stands so to where it does again.
-use Rattle.std.specs.{List.list_any, Prelude.{Any, Option, None, Some, slice_index_or}}
-use Rattle.std.proofs.Common.{◌≡◌, inl, inr, refl, sym, ap, ◌∙◌, subst, ℕ, ◌-◌, Bool, true, false, ◌==◌, ◌||◌, not, List, length, arith}
-use Rattle.std.proofs.lemmas.{Bool.{and_parts, Decides.nat_tests}, List.Folds.Any-from_list_any}
-use Rattle.dr_entry.specs.declared.entry.Entry.{Entry}
-use Rattle.dr_machine.specs.declared.{event.Act.Act, step.Step.Step}
+use Rattle.std.{specs.{List.list_any, Prelude.{Option, None, Some}}, proofs.lemmas.Bool.and_parts}
+use Rattle.std.proofs.Common.{◌≡◌, inl, inr, refl, sym, ap, ◌∙◌, subst, ℕ, Bool, true, false, List, arith}
+use Rattle.dr_entry.{specs.declared.entry.Entry.Entry, proofs.NumberFacts.spent_at}
+use Rattle.dr_machine.{specs.declared.{event.Act.Act, step.Step.Step}, proofs.Ends.is_verdict}
 use Rattle.dr_machine.specs.declared.step.Step.TheVariants as steps
 use Rattle.dr_program.specs.{Acts.taken, Form.IsRunningMember, Program.{after_deed, next_sight}, Replica.value_due}
 use Rattle.dr_program.specs.Running.{Running, append_or_end, asks, begun_running, columns, crashes_now, end_by, is_at_push, is_in_turn, judged, members, next_step, push_or_crash, pushes_after, step_at, took_letter, goes, vote_or_end, waits_after}
 use Rattle.dr_program.specs.{Steps.{allows, stepped}, Turn.{after, is_beat, part_of, turn_begins}}
-use Rattle.dr_program.specs.declared.{outcome.{LogWhy.LogWhy, Outcome.Outcome}, place.{Part.Part, TheConstants.TURN}}
-use Rattle.dr_program.{specs.declared.setup.{CrashPoint.CrashPoint, Setup.Setup}, proofs.Runs.after_either}
-use Rattle.dr_program.proofs.StepsAt.{append_either, vote_either}
+use Rattle.dr_program.specs.declared.{outcome.{LogWhy.LogWhy, Outcome.Outcome}, place.Part.Part}
+use Rattle.dr_program.specs.declared.setup.{CrashPoint.CrashPoint, Setup.Setup}
+use Rattle.dr_program.proofs.{Deeds.{IsDue, named_at_push, early_before, named_in_turn}, Going.goes_back_or_stays}
+use Rattle.dr_program.proofs.Parts.{is_end, no_end, taken_end, taken_turns, verdict_no_beat, verdict_of, is_crash, is_behind_crash}
+use Rattle.dr_program.proofs.{Runs.after_either, Search.beat_test, StepsAt.{append_either, vote_either}}
 use Rattle.dr_program.specs.declared.outcome.LogWhy.TheVariants as whys
 use Rattle.dr_program.specs.declared.place.Part.TheVariants as parts
-use Rattle.dr_turn.{specs.Search.IsUnderway, proofs.{Deeds.first_part, Order.{all_below, each_below}}}
-use Rattle.dr_turn.proofs.Parts.{goes_back_or_stays, is_end, is_publish, is_verdict, no_end, taken_end, taken_turns, verdict_no_beat, verdict_of}
-use Rattle.dr_turn.proofs.Search.{beat_test}
+use Rattle.dr_turn.{specs.Search.IsUnderway, proofs.Deeds.first_part}
 use Rattle.dr_program_laws.specs.Ended.{IsBeforeCrash}
-use Rattle.dr_program_laws.proofs.Standing.{IsNotPast, IsProper, Stands, goes_on, is_crash, is_behind_crash, next_turn, settled_stands}
-
--- ---- crash points
-
-named_at_push : (points : List CrashPoint) (turns push : ℕ) → list_any (is_at_push turns push) points
-    ≡ true → Any (λ (c : CrashPoint). c.turn ≡ turns) points
-named_at_push points turns push e = by (Any-from_list_any (is_at_push turns push) points e)
-  where
-    by : Any (λ (c : CrashPoint). is_at_push turns push c ≡ true) points
-        → Any (λ (c : CrashPoint). c.turn ≡ turns) points
-    by (k, c, within, there, is) = (k, c, within, there, grind (arith, nat_tests, is))
-
-named_in_turn : (points : List CrashPoint) (turns : ℕ) → list_any (is_in_turn turns) points ≡ true
-    → Any (λ (c : CrashPoint). c.turn ≡ turns) points
-named_in_turn points turns e = by (Any-from_list_any (is_in_turn turns) points e)
-  where
-    by : Any (λ (c : CrashPoint). is_in_turn turns c ≡ true) points → Any (λ (c : CrashPoint). c.turn ≡ turns) points
-    by (k, c, within, there, is) = (k, c, within, there, grind (arith, nat_tests, is))
-
-spent_at : (limit turns : ℕ) → (turns == limit) ≡ true → turns ≡ limit
-spent_at limit turns e = grind (arith, nat_tests, e)
-
--- ---- parts of the turn
-
--- what is known of a member as its deed is due
-record IsDue (r : Running) (part : Part) : Type 0 where
-  at : part_of r.place ≡ part
-  member : IsRunningMember r
-  none : r.replica.end ≡ None
-  asked : asks r part r.place.row r.place.column ≡ true
-
--- the part before the one that goes back is not behind the crash
-early_before : (r : Running) (part : Part) → IsDue r part → is_publish part ≡ true
-    → is_behind_crash (slice_index_or TURN (r.place.part - 1) turn_begins) ≡ false
-unfolding all_below
-early_before r part d e =
-    let back : is_publish (slice_index_or TURN r.place.part turn_begins) ≡ true = ap is_publish d.at ∙ e in
-    implied _ _ (each_below (length TURN) r.place.part (λ i. not (is_publish (slice_index_or TURN i turn_begins))
-    || not (is_behind_crash (slice_index_or TURN (i - 1) turn_begins))) refl d.member.place.part) back
-  where
-    implied : (a b : Bool) → (not a || not b) ≡ true → a ≡ true → b ≡ false
-    implied true true t e = absurd (cc)
-    implied true false t e = refl
-    implied false b t e = absurd (cc)
+use Rattle.dr_program_laws.proofs.Standing.{IsNotPast, IsProper, Stands, goes_on, next_turn, settled_stands}
 
 -- ---- one deed
 

@@ -1,87 +1,43 @@
 -- Members that have all ended have ended as they should.
-use Rattle.std.specs.Prelude.{IsTrue, Option, None, Some, is_some, option_map, slice_get, unwrap_or}
-use Rattle.std.proofs.Common.{◌≡◌, ◌⊎◌, refl, sym, ap, ap₂, ◌∙◌, inl, inr, subst, if◌then◌else◌, ℕ, ◌==◌, ◌+◌, ◌<◌, ◌≤◌, Bool, List, [], ◌∷◌, ◌++◌, length, take, true, false, Contains, append-nil, length-append, arith}
-use Rattle.std.proofs.lemmas.{List.{length-take, nil_from_length}, Option.{slice_get-map, same_Some}}
+use Rattle.std.specs.Prelude.{IsTrue, Option, None, Some, is_some, unwrap_or}
+use Rattle.std.proofs.Common.{◌≡◌, ◌⊎◌, refl, sym, ap, ap₂, ◌∙◌, inl, inr, subst, if◌then◌else◌, ℕ, ◌==◌, ◌+◌, ◌≤◌, List, [], ◌∷◌, ◌++◌, length, take, true, false, Contains, append-nil, length-append, arith}
+use Rattle.std.proofs.lemmas.List.{length-take, nil_from_length}
 use Rattle.dr_entry.specs.declared.{end.{End.End, MemberEnd.MemberEnd, SentItem.SentItem}, entry.Entry.Entry}
-use Rattle.dr_entry.{specs.declared.entry.Entry.TheVariants.View, proofs.NumberFacts.same_number}
+use Rattle.dr_entry.{specs.declared.entry.Entry.TheVariants.View, proofs.{Ends.told_done, NumberFacts.same_number}}
 use Rattle.dr_entry.specs.declared.end.End.TheVariants as ends
 use Rattle.dr_faithful.specs.{Chosen.{endings_by, views_by}, Faithful.StandsOnLogs}
-use Rattle.dr_history.specs.{Agreement.EndsAgreed, Order.{IsLateIn, first_entries, messages_from, numbered_messages}}
+use Rattle.dr_faithful.proofs.ChosenViews.{views-leaves, views-there, outside-sent}
+use Rattle.dr_history.{specs.Agreement.{EndsAgreed, accounts_of}, proofs.Keeping.{prefix_beside, prefix_shorter}}
 use Rattle.dr_history.{specs.History.{GroupView, IsPrefixOf, view_of}, proofs.NumberedLemmas.length-numbered_messages}
-use Rattle.dr_history.specs.{Members.{has, members_of}, declared.opening.Opening.Opening}
+use Rattle.dr_history.{specs.{Members.{has, members_of}, declared.opening.Opening.Opening}, proofs.Lists.prefix-trans}
+use Rattle.dr_history.specs.Order.{IsLateIn, first_entries, messages_from, numbered_messages}
 use Rattle.dr_history_laws.{specs.Remaining.remaining, proofs.Courses.head-first}
-use Rattle.dr_history_laws.proofs.Keeping.{prefix_beside, prefix_shorter, prefix_then}
-use Rattle.dr_program.specs.{Form.WaitsToJoin, Net.IsRanOverNet, Presence.present_at, Running.Running}
-use Rattle.dr_program.specs.Program.{Program, AllEnded, AreSetups, IsRanFrom, absent_end, begun_program, end_at, end_of, member_end, sent_before}
-use Rattle.dr_program.specs.{Reading.{left_in, world}, Replica.{is_inside, me}, declared.setup.CrashPoint.CrashPoint}
-use Rattle.dr_program.{specs.declared.setup.Setup.Setup, proofs.Present.{ended_there, slice_present, present_within}}
-use Rattle.dr_machine.specs.{Group.{Group, IsGroup, IsPresent, late_members, roster}, Guards.IsFault, Run.IsReached}
-use Rattle.dr_machine.{specs.World.{World, opening_world}, proofs.Presence.{late_in, in_roster}}
+use Rattle.dr_program.specs.{Net.IsRanOverNet, Presence.present_at}
+use Rattle.dr_program.specs.Program.{Program, AllEnded, AreSetups, IsRanFrom, absent_end, begun_program, end_of, member_end, sent_before}
+use Rattle.dr_program.specs.{Reading.{left_in, world}, Running.Running, declared.setup.CrashPoint.CrashPoint}
+use Rattle.dr_program.{specs.declared.setup.Setup.Setup, proofs.{Deeds.of_there, Outside.{AreApart, IsApart}}}
+use Rattle.dr_program.proofs.{Present.{ended_there, all_ends, end_is, end_there}, Programs.ends_of}
+use Rattle.dr_machine.specs.{Group.{Group, IsGroup, IsPresent, roster}, Guards.IsFault, World.{World, opening_world}}
+use Rattle.dr_machine.{specs.Run.IsReached, proofs.{Ends.IsFaulty, Exclusions.excluded_so, Presence.in_roster}}
 use Rattle.dr_refine.specs.Programs.{IsProgram}
+use Rattle.dr_refine.proofs.Programs.{stands_there, IsThere, members_are, within, history_is, view_is, ended_is, durable_is, beside, log_is, there_is, none_of_it, own_view, are_accounts, all_told}
 use Rattle.dr_script.specs.declared.script.Script.{Script}
 use Rattle.dr_restart.specs.{Groups.group_of, Setups.{IsBegun, crashes_of}, declared.start.Start.Start}
 use Rattle.dr_restart.proofs.Setups.{are_setups}
-use Rattle.dr_vote_laws.proofs.Exclusions.{excluded_so}
 use Rattle.dr_words.specs.Masks.{IsInRoster, IsMajorityOf}
 use Rattle.dr_world_laws.proofs.Agreeing.{done-lacks-none, done-on-logs, done-same, either-prefix, the-view}
-use Rattle.dr_world_laws.proofs.{ChosenViews.{views-leaves, views-there}, Holding.view-held}
-use Rattle.dr_world_laws.proofs.{Joining.{outside-history, outside-sent}, Leavings.IsLeftSo}
-use Rattle.dr_world_laws.proofs.Worlds.{Known, commits, done-durable, done-whole, first_durable, holds-remaining, in-order, known, left_so}
-use Rattle.dr_program_laws.{specs.Causes.{HasCause, IsVotedOut}, proofs.Nets.{net_keeps, net_reached}}
+use Rattle.dr_world_laws.proofs.{Holding.view-held, Joining.outside-history, Leavings.IsLeftSo}
+use Rattle.dr_world_laws.proofs.Worlds.{Known, commits, done-durable, done-whole, first_durable, holds-remaining, in-order, known, left_so, agreed-by}
+use Rattle.dr_program_laws.{specs.Causes.{HasCause, IsVotedOut}, proofs.Standing.{IsProper, Stands}}
 use Rattle.dr_program_laws.specs.Ended.{GoOnWithout, HasEnded, HasEndedOutside, HasReason, HaveEnded, IsComplete, LastViewIs, IsLeftOut, IsWhole, is_log_end, HasCrashed, IsSpent}
-use Rattle.dr_program_laws.{specs.Failing.{AreFailing, IsFailing, has_log_end}, proofs.Failing.{all_fail, net_fails}}
-use Rattle.dr_program_laws.proofs.{Keeping.deeds_kept, Outside.{AreApart, IsApart, IsFaulty, net_apart, ran_apart}}
+use Rattle.dr_program_laws.{specs.Failing.{AreFailing, IsFailing, has_log_end}, proofs.Outside.{net_apart, ran_apart}}
+use Rattle.dr_program_laws.proofs.{Failing.{all_fail, net_fails}, Keeping.deeds_kept, Nets.{net_keeps, net_reached}}
 use Rattle.dr_program_laws.proofs.Programs.{AllStand, all_stand, begun_stands, missed_stands, move_stands}
-use Rattle.dr_program_laws.proofs.Standing.{IsProper, Stands}
-use Rattle.dr_program_laws.proofs.Worlds.{all_ends, end_told, ends_agreed, ends_of, of_there, stands_there}
 
 -- ---- a member in its world
 
--- member m of a program of the group, in a world that is reached
-pub record IsThere (g : Group) (p : Program) (m : ℕ) (r : Running) : Type 0 where
-  pub group : IsGroup g
-  pub program : IsProgram g p
-  pub reached : IsReached g (world g p)
-  pub there : present_at p.members m ≡ Some r
-
 known_of : (g : Group) (p : Program) (m : ℕ) (r : Running) → IsThere g p m r → Known g (world g p)
 known_of g p m r is = known g (world g p) is.group is.reached
-
--- it is of the roster
-within : (g : Group) (p : Program) (m : ℕ) (r : Running) → IsThere g p m r → m < roster g
-within g p m r is = omega (arith, present_within p.members m r is.there, is.program.all)
-
-there_is : (g : Group) (p : Program) (m : ℕ) (r : Running) → IsThere g p m r → IsPresent g m
-there_is g p m r is = (is.program.of m r is.there).present
-
--- another one
-beside : (g : Group) (p : Program) (m : ℕ) (r : Running) (i : ℕ) (q : Running) → IsThere g p m r
-    → present_at p.members i ≡ Some q → IsThere g p i q
-beside g p m r i q is at = record { group = is.group; program = is.program; reached = is.reached; there = at }
-
--- what the world has of it
-history_is : (g : Group) (p : Program) (m : ℕ) (r : Running) → IsThere g p m r
-    → (world g p).past.history m ≡ r.replica.history
-history_is g p m r is = of_there p (λ q. q.history) (opening_world g).past.history m r is.there
-
-log_is : (g : Group) (p : Program) (m : ℕ) (r : Running) → IsThere g p m r
-    → (world g p).past.log m ≡ take r.replica.logged r.replica.history
-log_is g p m r is = of_there p (λ q. take q.logged q.history) (opening_world g).past.log m r is.there
-
-durable_is : (g : Group) (p : Program) (m : ℕ) (r : Running) → IsThere g p m r
-    → (world g p).past.durable m ≡ r.replica.durable
-durable_is g p m r is = of_there p (λ q. q.durable) (opening_world g).past.durable m r is.there
-
-ended_is : (g : Group) (p : Program) (m : ℕ) (r : Running) (end : End) → IsThere g p m r
-    → r.replica.end ≡ Some end → (world g p).end m ≡ Some end
-ended_is g p m r end is e = of_there p (λ q. q.end) (opening_world g).end m r is.there ∙ e
-
-view_is : (g : Group) (p : Program) (m : ℕ) (r : Running) → IsThere g p m r → (world g p).past.view m ≡ r.replica.view
-view_is g p m r is = of_there p (λ q. q.view) (opening_world g).past.view m r is.there
-
-members_are : (g : Group) (p : Program) (m : ℕ) (r : Running) → IsThere g p m r
-    → (world g p).members m ≡ r.replica.members
-members_are g p m r is = of_there p (λ q. q.members) (opening_world g).members m r is.there
 
 -- the members of its view are those that the world knows of it
 views_are : (g : Group) (p : Program) (m : ℕ) (r : Running) (is : IsThere g p m r)
@@ -100,47 +56,6 @@ in_view g p m r is = ap view_of (sym (history_is g p m r is)) ∙ the-view g y.v
 
     view_with : ℕ → ℕ → GroupView
     view_with number mask = record { age = g.opening.age; number = number; members = members_of mask }
-
--- and it is a member of it, or late, and has not joined
-own_view : (g : Group) (p : Program) (m : ℕ) (r : Running) → IsThere g p m r
-    → (has r.replica.members m ≡ true) ⊎ (IsLateIn g.opening m × (r.replica.view ≡ 0))
-own_view g p m r is = by (is_inside r.replica) refl
-  where
-    number : me r.replica ≡ m
-    number = (is.program.of m r is.there).number
-
-    late : WaitsToJoin r.replica → IsLateIn g.opening m
-    late out = late_in g m is.group (ap (λ k. has (late_members g) k) (sym number)
-        ∙ ap (λ mask. has mask (me r.replica)) (sym (is.program.of m r is.there).late) ∙ out.late)
-
-    by : (b : Bool) → is_inside r.replica ≡ b
-        → (has r.replica.members m ≡ true) ⊎ (IsLateIn g.opening m × (r.replica.view ≡ 0))
-    by true inside = inl (ap (has r.replica.members) (sym number) ∙ inside)
-    by false outside = let out = (is.program.form m r is.there).replica.outside outside in
-        inr (late out, out.first)
-
--- the end that stands at the place of a member is that member's
-end_is : (p : Program) (i : ℕ) (r : Running) (e : MemberEnd) → present_at p.members i ≡ Some r
-    → slice_get (ends_of p) i ≡ Some e → end_of r ≡ e
-end_is p i r e there at = same_Some (end_of r) e (sym (end_told p i r there) ∙ at)
-
--- each of the ends is that of a member, or of one that was absent
-end_there : (p : Program) (i : ℕ) (e : MemberEnd) → slice_get (ends_of p) i ≡ Some e
-    → (e ≡ absent_end) ⊎ ((r : Running) × (present_at p.members i ≡ Some r) × (end_of r ≡ e))
-end_there p i e at = by (slice_get p.members i) refl
-  where
-    named : (o : Option (Option Running)) → slice_get p.members i ≡ o → option_map end_at o ≡ Some e
-    named o is = ap (option_map end_at) (sym is) ∙ sym (slice_get-map end_at p.members i) ∙ at
-
-    by : (o : Option (Option Running)) → slice_get p.members i ≡ o
-        → (e ≡ absent_end) ⊎ ((r : Running) × (present_at p.members i ≡ Some r) × (end_of r ≡ e))
-    by None none = absurd (cc (named None none))
-    by (Some None) there = inl (sym (same_Some absent_end e (named (Some None) there)))
-    by (Some (Some r)) there = inr (
-      r,
-      slice_present p.members i (Some r) there,
-      same_Some (end_of r) e (named (Some (Some r)) there),
-    )
 
 -- each member of the view stands at its place
 beside_it : (g : Group) (p : Program) (m : ℕ) (r : Running) (i : ℕ) → IsThere g p m r
@@ -205,7 +120,7 @@ done_held g p m r i q is end at enough = subst (λ h. IsPrefixOf h (take q.repli
     by (inl less) = prefix_beside (w.past.history m) (w.past.log i) (w.past.history i) less front long
     by (inr more) = prefix_beside (w.past.history m) (w.past.log i) (w.past.history m)
         ([], append-nil (w.past.history m))
-        (prefix_then (w.past.log i) (w.past.history i) (w.past.history m) front more) long
+        (prefix-trans (w.past.log i) (w.past.history i) (w.past.history m) front more) long
 
 -- what it knows to be durable stands on logs
 safe_is : (g : Group) (p : Program) (m : ℕ) (r : Running) (is : IsThere g p m r)
@@ -246,11 +161,6 @@ done_lacks g p m r s i q is either end at =
     (history_is g p m r is) (done-lacks-none g y.values (world g p) m i s is.group y.chosen
     (subst (λ mask. (¬ IsLateIn g.opening s) ⊎ (has mask s ≡ true)) (sym (members_are g p m r is)) either)
     (within g p m r is) (ended_is g p m r ends.Done is end) (within g p i q other)))
-
--- who has ended as done is told so
-told_done : (o : Option End) → IsTrue (is_some o) → unwrap_or o ends.Done ≡ ends.Done → o ≡ Some ends.Done
-told_done None some e = absurd (cc)
-told_done (Some end) some e = ap Some e
 
 -- who is done in the same view has the same history
 done_same : (g : Group) (p : Program) (m : ℕ) (r : Running) (i : ℕ) (q : Running) → IsThere g p m r
@@ -427,11 +337,6 @@ has_reason g p limit points m r is all ended v = by r.replica.end refl ended v.p
     by (Some ends.Absent) e t so = absurd so
 
 -- ---- a late member that hasn't joined
-
--- the world has it as none of its view
-none_of_it : (g : Group) (p : Program) (m : ℕ) (r : Running) → IsThere g p m r
-    → has r.replica.members m ≡ false → has ((world g p).members m) m ≡ false
-none_of_it g p m r is outside = ap (λ mask. has mask m) (members_are g p m r is) ∙ outside
 
 -- it has nothing but the start and View 0
 outside_history : (g : Group) (p : Program) (m : ℕ) (r : Running) → IsThere g p m r
@@ -611,6 +516,15 @@ ended_by_script script start nth begun p is lists some (setups, are, same) ran e
     (λ m s there. (are.each m s there).crashes) (subst (λ b. IsRanFrom b p) same ran) ended
 
 -- ---- agreement
+
+-- so the members agree, as their ends tell
+pub ends_agreed : (g : Group) (p : Program) → IsGroup g → IsProgram g p → IsReached g (world g p)
+    → EndsAgreed g.opening (ends_of p)
+ends_agreed g p is program run = record {
+  told = all_told g p program;
+  agreed = agreed-by g (world g p) (accounts_of (ends_of p)) is (known g (world g p) is run)
+      (are_accounts g p is program);
+}
 
 -- whatever deeds were taken, what has been delivered agrees
 pub ran_agreed : (g : Group) (turns : ℕ) (setups : List (Option Setup)) (p : Program) → IsGroup g → 1 ≤ turns

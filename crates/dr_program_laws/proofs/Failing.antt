@@ -1,21 +1,21 @@
 -- A failed append ends its member.
 use Rattle.std.{specs.Prelude.{Option, None, Some, is_some, option_map}, proofs.lemmas.Option.same_Some}
-use Rattle.std.proofs.Common.{◌≡◌, refl, sym, ap, ◌∙◌, subst, inl, inr, ℕ, ◌≤◌, Bool, true, false, List, arith, length}
+use Rattle.std.proofs.Common.{◌≡◌, refl, sym, ap, ◌∙◌, subst, inl, inr, ℕ, ◌≤◌, true, false, List, arith, length}
 use Rattle.dr_entry.specs.declared.{end.End.End, entry.Entry.Entry}
 use Rattle.dr_script.specs.declared.script.Script.{Script}
-use Rattle.dr_machine.specs.{Group.{Group, IsGroup}, declared.event.Act.Act}
-use Rattle.dr_program.{specs.{Acts.taken, Presence.present_at}, proofs.Runs.after_either}
-use Rattle.dr_program.{specs.{Form.IsRunningMember, Turn.part_of}, proofs.{Present.present_map, StepsAt.push_either}}
+use Rattle.dr_machine.{specs.{Group.{Group, IsGroup}, declared.event.Act.Act}, proofs.Ends.is_verdict}
+use Rattle.dr_program.specs.{Acts.taken, Form.IsRunningMember, Presence.present_at, Turn.part_of}
 use Rattle.dr_program.specs.{Net.{IsRanOverNet, took_nothing}, declared.{outcome.LogWhy.LogWhy, setup.Setup.Setup}}
 use Rattle.dr_program.specs.Program.{AreSetups, IsRanFrom, Move, Program, after_deed, begun_program, letter_for, moved_by, next_sight, step_of}
-use Rattle.dr_program.specs.{Replica.{Replica, value_due}, Steps.{IsAppend, stepped}, declared.place.Part.Part}
-use Rattle.dr_program.specs.Running.{Running, after_step, append_or_end, begun_running, broken_off, crashes_now, end_by, judged, next_step, push_or_crash, settled, step_at, took, took_letter, vote_or_end, AsksForLetter}
+use Rattle.dr_program.{specs.Replica.{Replica, value_due}, proofs.{Runs.after_either, StepsAt.{push_either, ends_at}}}
+use Rattle.dr_program.specs.Running.{Running, after_step, append_or_end, begun_running, broken_off, crashes_now, end_by, judged, next_step, settled, step_at, took, took_letter, vote_or_end, AsksForLetter}
+use Rattle.dr_program.{specs.{Steps.{IsAppend, stepped}, declared.place.Part.Part}, proofs.Opening.begun_reached}
+use Rattle.dr_program.proofs.{Deeds.{rest_changes_nothing, step_is}, Search.{settle_only, take_leaves}}
+use Rattle.dr_program.proofs.{Parts.{is_end, no_end, taken_end, verdict_of}, Present.{present_map, replaced_either}}
 use Rattle.dr_program.specs.declared.place.Part.TheVariants as parts
-use Rattle.dr_refine.{specs.Programs.IsProgram, proofs.Deeds.{rest_changes_nothing, step_is}}
-use Rattle.dr_refine.proofs.Steps.{begun_is_program}
-use Rattle.dr_turn.proofs.{Parts.{is_end, is_verdict, no_end, taken_end, verdict_of}, Search.settle_only}
+use Rattle.dr_refine.{specs.Programs.IsProgram, proofs.Steps.begun_is_program}
 use Rattle.dr_program_laws.{specs.Failing.{AreFailing, EndsBy, IsFailing, has_log_end}, proofs.Nets.net_keeps}
-use Rattle.dr_program_laws.proofs.{Keeping.{begun_reached, take_leaves}, Programs.{ran_keeps, replaced_either}}
+use Rattle.dr_program_laws.proofs.Programs.{ran_keeps}
 use Rattle.dr_restart.{specs.{Groups.group_of, Setups.IsBegun, declared.start.Start.Start}, proofs.Setups.are_setups}
 
 -- ---- one deed
@@ -59,24 +59,12 @@ takes word r member none is = record {
     ends why (inl due) = ap (λ s. (stepped word r.replica s).end) due.1
     ends why (inr over) = absurd (cc (none, over))
 
--- a member whose append fails
-breaks_at : (why : LogWhy) (r : Running) (part : Part) (i c : ℕ) → IsAppend (step_at r part i c)
-    → step_at (broken_off why r) part i c ≡ append_or_end (Some why)
-breaks_at why r parts.Append i c due = refl
-breaks_at why r parts.Vote i c due = refl
-breaks_at why r parts.Push i c due = absurd (by (crashes_now r) due)
-  where
-    by : (b : Bool) → IsAppend (push_or_crash b i c) → ⊥
-    by true e = e
-    by false e = e
-breaks_at why r part i c due = absurd due
-
 breaks : (why : LogWhy) (r : Running) → r.replica.end ≡ None → IsAppend (next_step r) → IsFailing (broken_off why r)
 breaks why r none due = record {
   well = λ unfailed. absurd (cc);
   broken = λ reason failed. inl (
     none,
-    breaks_at why r (part_of r.place) r.place.row r.place.column due
+    ends_at why r (part_of r.place) r.place.row r.place.column due
         ∙ ap (λ (x : LogWhy). append_or_end (Some x)) (same_Some why reason failed),
   );
 }

@@ -1,22 +1,22 @@
 -- Moves keep a program of its group, in a world that is reached.
 use Rattle.std.specs.Prelude.{Option, None, Some}
-use Rattle.std.proofs.{Common.{◌≡◌, refl, sym, ap, ◌∙◌, subst, ℕ, ◌≤◌, true, List, [], ◌∷◌}, lemmas.Option.same_Some}
+use Rattle.std.proofs.{Common.{◌≡◌, refl, sym, subst, ℕ, ◌≤◌, true, List, [], ◌∷◌}, lemmas.Option.same_Some}
 use Rattle.dr_entry.specs.declared.{end.End.End, entry.Entry.Entry}
 use Rattle.dr_words.specs.Form.{IsInForm}
 use Rattle.dr_program.specs.declared.place.Part.TheVariants as parts
 use Rattle.dr_machine.{specs.{Group.{Group, IsGroup}, Run.{ComesOfEvents, IsReached}}, proofs.Runs.events_reached}
-use Rattle.dr_program.{specs.Form.{HasForm, IsRunningMember}, proofs.Opening.begins_at_the_opening}
-use Rattle.dr_program.{specs.Presence.present_at, proofs.{Runs.after_either, Waiting.free_step}}
+use Rattle.dr_program.specs.{Form.{HasForm, IsRunningMember}, Reading.{step_due, step_of_member, world}}
+use Rattle.dr_program.specs.{Presence.present_at, Sight.{IsSeenNext, MaySee}, declared.setup.Setup.Setup}
 use Rattle.dr_program.specs.Program.{AreSetups, IsRanFrom, Move, Program, after_deed, begun_program, letter_for, next_sight, ran, step_of}
-use Rattle.dr_program.specs.{Reading.{step_due, step_of_member, world}, declared.outcome.Outcome.Outcome}
-use Rattle.dr_program.specs.Running.{Running, after_step, next_step, settled, step_at, took_letter, AsksForLetter}
-use Rattle.dr_program.specs.{Sight.{IsSeenNext, MaySee}, Steps.{allows, sight, stepped}, declared.setup.Setup.Setup}
-use Rattle.dr_refine.{specs.Programs.IsProgram, proofs.Deeds.{due_allowed, step_events, step_reached}}
+use Rattle.dr_program.specs.Running.{Running, after_step, next_step, step_at, took_letter, AsksForLetter}
+use Rattle.dr_program.{specs.Steps.{allows, sight, stepped}, proofs.StepsAt.{failed_form, taking}}
+use Rattle.dr_program.{specs.declared.outcome.Outcome.Outcome, proofs.Opening.{begins_at_the_opening, begun_reached}}
+use Rattle.dr_program.proofs.{Deeds.due_allowed, Runs.after_either, Waiting.free_step}
+use Rattle.dr_refine.{specs.Programs.IsProgram, proofs.Deeds.{step_events, step_reached}}
 use Rattle.dr_refine.proofs.Steps.{begun_is_program, step_kept}
 use Rattle.dr_form.proofs.{Finishing.joined_form, Steps.stepped_form}
 use Rattle.dr_program_laws.proofs.{Letters.{letters_are, letters_have_room}, Sight.found_seen}
-use Rattle.dr_turn.proofs.{Deeds.deeds_keep_form, Failing.failed_form, Search.settle_only}
-use Rattle.dr_turn.proofs.Takes.{takes_keep_form, taking}
+use Rattle.dr_turn.proofs.{Deeds.deeds_keep_form, Takes.takes_keep_form}
 
 -- ---- one move
 
@@ -48,27 +48,6 @@ took_form g p m r (Some letter) group is run there asks found =
     joined_form r.replica letter (is.form m r there).replica take.outside take.idle
     (letters_have_room g p m r letter group is run there take.outside found)
 
--- whether a take finds a letter or none, the member's end, what it has failed by and its votes that wait stay
-pub take_leaves : (letter : Option (List Entry)) (r : Running)
-    → ((settled (took_letter letter r)).replica.end ≡ r.replica.end)
-    × ((settled (took_letter letter r)).failed ≡ r.failed)
-    × ((settled (took_letter letter r)).replica.pending ≡ r.replica.pending)
-take_leaves letter r = (
-  ap (λ (x : Running). x.replica.end) only ∙ (same letter).0,
-  ap (λ (x : Running). x.failed) only ∙ (same letter).1,
-  ap (λ (x : Running). x.replica.pending) only ∙ (same letter).2,
-)
-  where
-    only : settled (took_letter letter r) ≡ record (took_letter letter r) {
-      place = (settled (took_letter letter r)).place;
-    }
-    only = settle_only _ (took_letter letter r)
-
-    same : (letter : Option (List Entry)) → ((took_letter letter r).replica.end ≡ r.replica.end)
-        × ((took_letter letter r).failed ≡ r.failed) × ((took_letter letter r).replica.pending ≡ r.replica.pending)
-    same None = (refl, refl, refl)
-    same (Some es) = (refl, refl, refl)
-
 -- and over its next deed, however its append goes, and whatever letter it finds
 deed_kept : (g : Group) (p : Program) (m : ℕ) (o : Outcome) (r : Running) → IsGroup g → IsProgram g p
     → IsReached g (world g p) → present_at p.members m ≡ Some r → r.replica.end ≡ None
@@ -95,11 +74,6 @@ unfolding ran
 run_kept g p [] group is run = (is, run)
 run_kept g p (e ∷ es) group is run = let kept = move_kept g p e group is run in
     run_kept g (step_of p e) es group kept.0 kept.1
-
--- a program begins in the world of the opening
-pub begun_reached : (g : Group) (turns : ℕ) (setups : List (Option Setup)) → IsGroup g
-    → AreSetups g turns setups → IsReached g (world g (begun_program g setups))
-begun_reached g turns setups group are = ([], begins_at_the_opening g turns setups group are)
 
 -- a program that ran from its beginning is one of its group, in a world that is reached
 pub deeds_kept : (g : Group) (turns : ℕ) (setups : List (Option Setup)) (p : Program) → IsGroup g → 1 ≤ turns

@@ -5,15 +5,16 @@ use Rattle.dr_entry.specs.declared.entry.Entry.{Entry}
 use Rattle.dr_form.specs.Letters.{IsFitting}
 use Rattle.dr_history.specs.{History.{IsPrefixOf, last_view}, Members.has, Order.messages_from}
 use Rattle.dr_machine.specs.{Group.{Group, IsGroup, roster}, Guards.CanWelcome, Run.IsReached, World.World}
-use Rattle.dr_program.{specs.Form.IsOf, proofs.{Holdings.held_of, Present.MayGet}}
-use Rattle.dr_program.specs.{Presence.present_at, Replica.{Replica, greatest, is_inside, me}, Running.Running}
-use Rattle.dr_program.specs.{Program.{Program, letter_for}, Reading.{Shared, letters_of, table_of, world, world_of}}
-use Rattle.dr_refine.specs.Programs.{AreLetters, IsLetterFor, IsMember, IsProgram}
-use Rattle.dr_refine.proofs.{Deeds.{program_member, replicas}, Guards.members_are, Members.{fits, inside}}
-use Rattle.dr_faithful.specs.Chosen.{views_by}
-use Rattle.dr_world_laws.proofs.{Finishing.head-few, Holding.reaches, Rooms.view-below, Worlds.{Known, known}}
-use Rattle.dr_world_laws.proofs.{Joining.{letter-begins, letter-number, letter-view}, Letters.{IsLetter, gives-once}}
-use Rattle.dr_program_laws.proofs.Bounds.{greatest_at, history_below}
+use Rattle.dr_program.specs.{Form.IsOf, Presence.present_at, Program.{Program, letter_for}}
+use Rattle.dr_program.specs.Reading.{Shared, letters_of, table_of, world, world_of}
+use Rattle.dr_program.{specs.{Replica.{Replica, greatest, is_inside, me}, Running.Running}, proofs.Deeds.replicas}
+use Rattle.dr_program.proofs.{Holdings.held_of, Present.MayGet, Replicas.greatest_at}
+use Rattle.dr_refine.{specs.Programs.{AreLetters, IsLetterFor, IsMember, IsProgram}, proofs.Deeds.program_member}
+use Rattle.dr_refine.proofs.{Guards.members_are, Members.fits}
+use Rattle.dr_faithful.{specs.Chosen.views_by, proofs.ChosenViews.{letter-number, letter-view, IsLetter}}
+use Rattle.dr_faithful.proofs.Copies.{inside}
+use Rattle.dr_world_laws.proofs.{Finishing.head-few, Holding.reaches, Joining.letter-begins, Letters.gives-once}
+use Rattle.dr_world_laws.proofs.{Rooms.{view-below, history_below}, Worlds.{Known, known}}
 
 -- what is known of a letter for a member that hasn't joined
 record IsFor (g : Group) (rs : List (Option Replica)) (table : Shared) (m : ℕ) (r : Replica)

@@ -1,35 +1,25 @@
 -- How long a member waits for news of others, over its deeds.
-use Rattle.std.{specs.Prelude.None, proofs.lemmas.Bool.{cases_eq, cases_lt, not-true, Decides.nat_tests}}
-use Rattle.std.proofs.Common.{◌≡◌, ◌≢◌, ◌⊎◌, refl, sym, ap, ◌∙◌, subst, inl, inr, ℕ, suc, ◌+◌, ◌-◌, ◌^◌, ◌<◌, ◌≤◌, ◌==◌, ◌||◌, Bool, true, false, not, nat_lt, min, if◌then◌else◌, length, le_trans, replicate, arith}
-use Rattle.std.proofs.lemmas.List.{get_or-replicate, get_or_past, get_or-set_same, get_or-set_other}
-use Rattle.dr_machine.specs.declared.step.Step.{Step, TheVariants.Look}
-use Rattle.dr_program.specs.Form.{IsRunningMember}
-use Rattle.dr_program.specs.Running.{Running, after_step, applies, columns, crashes_now, goes, members, next_step, settled, step_at, took, took_letter, waits_after}
-use Rattle.dr_program.specs.{Steps.IsNoJoin, Turn.{after, columns_in, is_beat, part_of, rows_in, turn_begins}}
-use Rattle.dr_program.specs.declared.place.{Part.Part, Place.Place, TheConstants.TURN}
-use Rattle.dr_program.proofs.{Fixed.{Told, step_told}, StepsAt.{append_either, push_either, vote_either}}
+use Rattle.std.{specs.Prelude.None, proofs.lemmas.Bool.{cases_eq, cases_lt, Decides.nat_tests}}
+use Rattle.std.proofs.Common.{◌≡◌, ◌≢◌, ◌⊎◌, refl, sym, ap, ◌∙◌, subst, inl, inr, ℕ, ◌+◌, ◌-◌, ◌<◌, ◌≤◌, ◌==◌, Bool, true, false, nat_lt, if◌then◌else◌, length, le_trans, arith}
+use Rattle.dr_entry.proofs.NumberFacts.{is_below}
+use Rattle.dr_program.{specs.Form.IsRunningMember, proofs.{Fixed.step_told, StepsAt.no_join_at}}
+use Rattle.dr_program.specs.Running.{Running, after_step, columns, goes, members, next_step, settled, step_at, took, took_letter, waits_after}
+use Rattle.dr_program.specs.{Turn.{after, columns_in, is_beat, part_of, rows_in}, declared.place.TheConstants.TURN}
+use Rattle.dr_program.{specs.declared.place.{Part.Part, Place.Place}, proofs.Going.goes_back_or_stays}
+use Rattle.dr_program.proofs.{Parts.{ends_view, numbered, is_publish}, Search.{beat_test, settle_only, idle_part}}
+use Rattle.dr_program.proofs.Patience.{is_looks, looks_first, last_begins, looks_before, no_take, plain_looks, waits_stay}
 use Rattle.dr_program.specs.declared.place.Part.TheVariants as parts
-use Rattle.dr_rows.specs.Words.{Words, looked, seen}
-use Rattle.dr_suspect.specs.Waits.{Waits, beat_of, begun, compared, next_count, turns_without_news}
-use Rattle.dr_turn.{specs.Search.{Passed, here, on}, proofs.Tasks.ends_view}
-use Rattle.dr_turn.proofs.{Order.{all_below, each_below, is_take}, Parts.{goes_back_or_stays, is_publish, numbered}}
-use Rattle.dr_turn.proofs.{Search.{applies_at, beat_test, passed_at, settle_only, settle_passed}, Takes.no_join_at}
-use Rattle.dr_words.specs.declared.column.TheConstants.{BEAT_COLUMN}
+use Rattle.dr_rows.specs.Words.{looked}
+use Rattle.dr_suspect.specs.Waits.{Waits, begun, compared, turns_without_news}
+use Rattle.dr_suspect.proofs.Waiting.{compared_count, compared_other, no_news}
+use Rattle.dr_machine.proofs.Groups.{Told}
+use Rattle.dr_turn.{specs.Search.{Passed, here, on}, proofs.Search.settled_passed}
 use Rattle.dr_program_laws.specs.Trusting.{IsOthers, IsPatient, MayWait, to_come}
 
 -- ---- the rows that are still to be compared in the turn of a place
 
 abbrev pub comes : Place → ℕ → ℕ
 comes p i = to_come (part_of p) p.row i
-
--- the part is that of the looks, or of the take before them
-abbrev pub is_looks : Part → Bool
-is_looks parts.Take = true
-is_looks parts.Look = true
-is_looks part = false
-
-no_take : (part : Part) → is_looks part ≡ false → is_take part ≡ false
-no_take part other = grind (arith, other)
 
 -- none is behind the looks
 pub none_comes : (part : Part) (row i : ℕ) → is_looks part ≡ false → to_come part row i ≡ 0
@@ -53,37 +43,6 @@ row_less parts.Look row i = by (cases_lt i row)
     by (inl l) = grind (arith, l)
     by (inr l) = grind (arith, l)
 row_less part row i = omega arith
-
--- the looks come behind the take, with which a turn begins, and the last part begins the next
-take_test : (part : Part) → is_take part ≡ true → part ≡ parts.Take
-take_test part e = grind (arith, e)
-
-pub looks_first : (a : ℕ) → a + 1 < length TURN → is_looks (numbered (a + 1)) ≡ true → numbered a ≡ parts.Take
-unfolding all_below
-looks_first a l looks = take_test (numbered a) (implied _ _
-    (each_below (length TURN - 1) a (λ b. not (is_looks (numbered (b + 1))) || is_take (numbered b)) refl
-    (omega (arith, l))) looks)
-  where
-    implied : (x y : Bool) → (not x || y) ≡ true → x ≡ true → y ≡ true
-    implied true y t e = t
-    implied false y t e = absurd (cc e)
-
-looks_before : (a : ℕ) → a < length TURN → is_publish (numbered a) ≡ true → is_looks (numbered (a - 1)) ≡ false
-unfolding all_below
-looks_before a l back = implied _ _
-    (each_below (length TURN) a (λ b. not (is_publish (numbered b)) || not (is_looks (numbered (b - 1)))) refl l) back
-  where
-    implied : (x y : Bool) → (not x || not y) ≡ true → x ≡ true → y ≡ false
-    implied true y t e = not-true y t
-    implied false y t e = absurd (cc e)
-
-pub last_begins : (a : ℕ) → length TURN ≤ a + 1 → is_beat (numbered a) ≡ true
-last_begins a l = by (cases_lt a (length TURN))
-  where
-    by : (a < length TURN) ⊎ (length TURN ≤ a) → is_beat (numbered a) ≡ true
-    by (inl within) =
-        let last : a ≡ length TURN - 1 = omega (arith, l, within) in ap (λ b. is_beat (numbered b)) last
-    by (inr beyond) = ap is_beat (get_or_past TURN a turn_begins beyond)
 
 -- so the place after leaves no more, but where the next turn begins
 pub after_less : (n k : ℕ) (p : Place) (i : ℕ) → is_beat (part_of p) ≡ false → comes (after n k p) i ≤ comes p i
@@ -115,42 +74,12 @@ after_less n k p i amid = by (nat_lt (p.column + 1) (columns_in k (part_of p)))
     by false true l = row_less (part_of p) p.row i
     by false false l = next l
 
--- nor do the places that the search passes, as it stays where a turn begins
-pub passed_amid : (r : Running) (p : Place) → applies r p ≡ false → is_beat (part_of p) ≡ false
-passed_amid r p fails = by (is_beat (part_of p)) refl
-  where
-    by : (b : Bool) → is_beat (part_of p) ≡ b → is_beat (part_of p) ≡ false
-    by false other = other
-    by true beat = absurd (cc (ap (λ part. applies_at r part p.row p.column) (beat_test (part_of p) beat), fails))
-
 pub passed_less : (r : Running) (p q : Place) (i : ℕ) → Passed r p q → comes q i ≤ comes p i
 passed_less r _ _ i (here p) = omega arith
 passed_less r _ _ i (on p q fails rest) = le_trans (passed_less r (after (members r) (columns r) p) q i rest)
-    (after_less (members r) (columns r) p i (passed_amid r p fails))
-
--- the search passes only places with nothing to do, as its member is behind it
-pub settled_passed : (y : Running) → Passed (settled y) y.place (settled y).place
-settled_passed y = subst (λ (z : Running). Passed z y.place (settled y).place) (sym (settle_only _ y))
-    (passed_at (record y { place = (settled y).place }) y.place y.place (settled y).place (settle_passed _ y))
+    (after_less (members r) (columns r) p i (idle_part r p fails))
 
 -- ---- a deed
-
-abbrev pub is_look : Step → Bool
-is_look (Look i c) = true
-is_look s = false
-
--- only the looks of a turn are
-pub plain_looks : (r : Running) (part : Part) (i c : ℕ) → is_looks part ≡ false → is_look (step_at r part i c) ≡ false
-plain_looks r parts.Look i c other = absurd (cc other)
-plain_looks r parts.Append i c other = append_either (λ s. is_look s ≡ false) r.failed refl (λ why. refl)
-plain_looks r parts.Vote i c other = vote_either (λ s. is_look s ≡ false) r.failed _ refl (λ why. refl)
-plain_looks r parts.Push i c other = push_either (λ s. is_look s ≡ false) (crashes_now r) i c refl refl
-plain_looks r part i c other = refl
-
--- no step but a look and a join changes how long the member has waited, unless it ends its view
-pub waits_stay : (word : ℕ) (r : Running) (s : Step) → is_look s ≡ false → IsNoJoin s → ends_view s ≡ false
-    → waits_after word r s ≡ r.waits
-waits_stay word r s other no_join stays = grind (arith, other, no_join, stays)
 
 -- behind the looks no deed but the one that begins a turn goes back to them
 pub goes_less : (n k : ℕ) (part : Part) (p : Place) (i : ℕ) → part_of p ≡ part → is_beat part ≡ false
@@ -176,38 +105,6 @@ goes_less n k (parts.Do a) p i at amid other = by (goes_back_or_stays n k a p am
     by (inl t) = rw t.1 (back (cases_lt p.part (length TURN)) t.0)
     by (inr t) = rw t.1 (omega arith)
 goes_less n k part p i at amid other = omega arith
-
--- a comparison counts one turn more at most, and of its own row alone
-counted : (count last beat : ℕ) → next_count count last beat ≤ count + 1
-counted count last beat = by (beat == last)
-  where
-    by : (b : Bool) → (if b then min (suc count) (2 ^ 32 - 1) else 0) ≤ count + 1
-    by true = omega arith
-    by false = omega arith
-
-pub compared_count : (w : Waits) (rows : Words) (j i : ℕ) → j < length w.counts
-    → turns_without_news (compared w rows j) i ≤ turns_without_news w i + 1
-compared_count w rows j i l = by (cases_eq i j)
-  where
-    by : (i ≡ j) ⊎ (i ≢ j) → turns_without_news (compared w rows j) i ≤ turns_without_news w i + 1
-    by (inl same) = rw same (omega (
-      arith,
-      get_or-set_same w.counts j (next_count (turns_without_news w j) (beat_of w j) (seen rows j BEAT_COLUMN)) 0 l,
-      counted (turns_without_news w j) (beat_of w j) (seen rows j BEAT_COLUMN),
-    ))
-    by (inr other) = omega (
-      arith,
-      get_or-set_other w.counts j i (next_count (turns_without_news w j) (beat_of w j)
-          (seen rows j BEAT_COLUMN)) 0 other,
-    )
-
-pub compared_other : (w : Waits) (rows : Words) (j i : ℕ) → i ≢ j
-    → turns_without_news (compared w rows j) i ≡ turns_without_news w i
-compared_other w rows j i other =
-    get_or-set_other w.counts j i (next_count (turns_without_news w j) (beat_of w j) (seen rows j BEAT_COLUMN)) 0 other
-
-is_below : (a b : ℕ) → a < b → nat_lt a b ≡ true
-is_below a b l = grind (arith, l)
 
 -- the looks: with the last word of a row one is counted, and none is to come for it
 looks_less : (word : ℕ) (r : Running) (i : ℕ) → IsRunningMember r → part_of r.place ≡ parts.Look
@@ -288,14 +185,6 @@ abbrev Lessens : ℕ → Running → ℕ → Part → Type 0
 Lessens word r i part = turns_without_news (waits_after word r (step_at r part r.place.row r.place.column)) i
     + comes (goes (members r) (columns r) part r.place) i ≤ turns_without_news r.waits i + comes r.place i
 
--- who waits anew has waited for nobody
-no_news : (limit i : ℕ) → turns_without_news (begun limit) i ≡ 0
-no_news limit i = by (cases_lt i 16)
-  where
-    by : (i < 16) ⊎ (16 ≤ i) → turns_without_news (begun limit) i ≡ 0
-    by (inl l) = get_or-replicate 16 i 0 0 l
-    by (inr past) = get_or_past (replicate 16 0) i 0 past
-
 -- so it is where no turn begins by it
 took_less : (word : ℕ) (r : Running) (i : ℕ) → IsRunningMember r → ends_view (next_step r) ≡ false
     → is_beat (part_of r.place) ≡ false → turns_without_news (took word r (next_step r)).waits i + comes (took word r
@@ -373,3 +262,37 @@ patient_on word r member stays may limit patient =
       less i,
       took_less word r i member stays amid,
     ))
+
+-- behind the looks none is to come
+pub next_none : (p : Place) (i : ℕ) → part_of p ≡ parts.Look
+    → comes (record { part = if nat_lt (p.part + 1) (length TURN) then p.part + 1 else 0; row = 0; column = 0 }) i ≡ 0
+next_none p i at = by (cases_lt (p.part + 1) (length TURN))
+  where
+    no_looks : (b : Bool) → is_looks (numbered (p.part + 1)) ≡ b → p.part + 1 < length TURN
+        → is_looks (numbered (p.part + 1)) ≡ false
+    no_looks true e l = absurd (cc (sym (looks_first p.part l e) ∙ at))
+    no_looks false e l = e
+
+    by : (p.part + 1 < length TURN) ⊎ (length TURN ≤ p.part + 1)
+        → comes (record { part = if nat_lt (p.part + 1) (length TURN) then p.part + 1 else 0; row = 0; column = 0 })
+        i ≡ 0
+    by (inl l) =
+        let within : nat_lt (p.part + 1) (length TURN) ≡ true = grind (arith, l) in
+        rw within (none_comes (numbered (p.part + 1)) 0 i (no_looks (is_looks (numbered (p.part + 1))) refl l))
+    by (inr l) = absurd (cc (last_begins p.part l, ap is_beat at))
+
+-- a look at another column stays in its row
+pub wide_after : (n k : ℕ) (p : Place) (i : ℕ) → part_of p ≡ parts.Look → p.column < k
+    → (p.column + 1 == k) ≡ false → comes (after n k p) i ≡ comes p i
+wide_after n k p i at low e = by (nat_lt (p.column + 1) (columns_in k (part_of p)))
+    (ap (λ part. nat_lt (p.column + 1) (columns_in k part)) at ∙ grind (arith, nat_tests, e, low))
+  where
+    by : (x : Bool) → x ≡ true → comes (if x then record p { column = p.column + 1 }
+        else (if nat_lt (p.row + 1) (rows_in n (part_of p)) then record p { row = p.row + 1; column = 0 }
+        else record { part = if nat_lt (p.part + 1) (length TURN) then p.part + 1 else 0; row = 0; column = 0 })) i
+        ≡ comes p i
+    by true t = refl
+    by false t = absurd (cc t)
+
+pub here_comes : (p : Place) (i : ℕ) → part_of p ≡ parts.Look → comes p i ≡ to_come parts.Look p.row i
+here_comes p i at = ap (λ part. to_come part p.row i) at

@@ -1,17 +1,17 @@
 -- The members of a program stand so after any deeds.
-use Rattle.std.specs.Prelude.{Option, None, Some, is_some, option_map}
-use Rattle.std.proofs.Common.{◌≡◌, ◌≢◌, ◌⊎◌, refl, sym, ap, ◌∙◌, subst, ℕ, ◌≤◌, inl, inr, List, [], ◌∷◌}
-use Rattle.std.proofs.lemmas.{Bool.cases_eq, Option.same_Some}
+use Rattle.std.{specs.Prelude.{Option, None, Some, is_some, option_map}, proofs.lemmas.Option.same_Some}
+use Rattle.std.proofs.Common.{◌≡◌, refl, sym, ap, ◌∙◌, subst, ℕ, ◌≤◌, inl, inr, List, [], ◌∷◌, length}
 use Rattle.dr_entry.specs.declared.{end.End.End, entry.Entry.Entry}
+use Rattle.dr_script.specs.declared.script.Script.{Script}
 use Rattle.dr_machine.specs.{Group.{Group, IsGroup}, Run.IsReached}
-use Rattle.dr_program.specs.{Net.took_nothing, Presence.{present_at, with_present}}
+use Rattle.dr_program.specs.{Net.took_nothing, Presence.{present_at, with_present}, Steps.{stored, stored_letters}}
 use Rattle.dr_program.specs.Program.{AreSetups, Move, Program, after_deed, begun_program, letter_for, moved_by, next_sight, ran, step_of}
 use Rattle.dr_program.specs.{Reading.world, Running.{Running, begun_running, next_step, settled, took_letter}}
-use Rattle.dr_program.specs.{Steps.{stored, stored_letters}, declared.setup.Setup.Setup}
-use Rattle.dr_program.proofs.Present.{present_within, present_set, present_kept, present_map}
-use Rattle.dr_refine.{specs.Programs.IsProgram, proofs.Deeds.{rest_changes_nothing, step_is}}
-use Rattle.dr_refine.proofs.Steps.{begun_is_program}
-use Rattle.dr_program_laws.proofs.{Deeds.{begins, deed_stands, took_stands}, Keeping.{begun_reached, move_kept}}
+use Rattle.dr_program.{specs.declared.setup.Setup.Setup, proofs.Opening.begun_reached}
+use Rattle.dr_program.proofs.{Deeds.{rest_changes_nothing, step_is}, Present.{present_map, replaced_either}}
+use Rattle.dr_refine.{specs.Programs.IsProgram, proofs.Steps.begun_is_program}
+use Rattle.dr_restart.{specs.{Groups.group_of, Setups.IsBegun, declared.start.Start.Start}, proofs.Setups.are_setups}
+use Rattle.dr_program_laws.proofs.{Deeds.{begins, deed_stands, took_stands}, Keeping.move_kept}
 use Rattle.dr_program_laws.proofs.Standing.{Stands, settled_stands}
 
 -- each member stands as its setup wants
@@ -24,15 +24,6 @@ begun_stands g setups m s r there is =
     let same : option_map begun_running (Some s) ≡ Some r = ap (option_map begun_running) (sym there)
     ∙ (sym (present_map begun_running setups m) ∙ is) in
     subst (Stands s.turns s.crashes) (same_Some (begun_running s) r same) (begins s)
-
--- a member of a list in which x was replaced by y is y, or as it was
-pub replaced_either : (rs : List (Option Running)) (m : ℕ) (x y : Running) → present_at rs m ≡ Some x → (k : ℕ)
-    (r : Running) → present_at (with_present rs m y) k ≡ Some r
-    → ((k ≡ m) × (y ≡ r)) ⊎ ((k ≢ m) × (present_at rs k ≡ Some r))
-replaced_either rs m x y at k r is = elim (cases_eq k m) [
-  | inl same ↦ inl (same, same_Some y r (sym (present_set rs m y (present_within rs m x at)) ∙ rw same at is))
-  | inr other ↦ inr (other, sym (present_kept rs m k y other) ∙ is)
-]
 
 -- one member is replaced by one that stands as its setup wants
 pub replaced_stands : (setups : List (Option Setup)) (p : Program) (m : ℕ) (x y : Running) (table : List ℕ)
@@ -90,3 +81,11 @@ pub all_stand : (g : Group) (turns : ℕ) (setups : List (Option Setup)) (es : L
     ≤ turns → AreSetups g turns setups → AllStand setups (ran (begun_program g setups) es)
 all_stand g turns setups es group some are = ran_stands g setups (begun_program g setups) es group
     (begun_is_program g turns setups group some are) (begun_reached g turns setups group are) (begun_stands g setups)
+
+-- the program that begins from a script and a start is one of their group
+pub begun_program_of : (script : Script) (start : Start) (nth : ℕ) (begun : Program)
+    → IsGroup (group_of script start) → length script.messages ≡ script.members
+    → 1 ≤ script.turns → IsBegun script start nth begun → IsProgram (group_of script start) begun
+begun_program_of script start nth begun is lists some begins = subst (IsProgram (group_of script start))
+    (sym begins.2) (begun_is_program (group_of script start) script.turns begins.0 is some
+    (are_setups script start nth begins.0 lists begins.1))

@@ -1,29 +1,20 @@
 -- What a look finds in the table of a program in a reached world, its member may see.
-use Rattle.std.{specs.Prelude.Some, proofs.lemmas.Bool.and_parts}
-use Rattle.std.proofs.Common.{◌≡◌, ◌≢◌, sym, ap, ◌∙◌, subst, ℕ, ◌<◌, true, slice_index, not, arith}
+use Rattle.std.{specs.Prelude.{Some, None}, proofs.Common.{◌≡◌, ◌≢◌, sym, subst, ℕ, ◌<◌, true, not, arith}}
+use Rattle.std.proofs.lemmas.Bool.{and_parts}
 use Rattle.dr_history.specs.Members.{has}
 use Rattle.dr_rows.specs.Words.{seen}
-use Rattle.dr_words.specs.{Form.IsInForm, Grown.HasGrown, Layout.word_index_of}
+use Rattle.dr_words.specs.{Form.IsInForm, Grown.HasGrown}
 use Rattle.dr_machine.specs.{Group.{Group, IsGroup, columns, roster}, Run.IsReached, World.World}
 use Rattle.dr_machine.specs.declared.step.Step.TheVariants.{Look}
-use Rattle.dr_program.specs.{Form.IsOf, Presence.present_at, Program.Program, Reading.{table_of, world}}
-use Rattle.dr_program.specs.{Replica.{is_inside, is_other}, Running.Running, Sight.IsSeenNext}
-use Rattle.dr_program.{specs.Steps.{allows, found, has_cell}, proofs.{Holdings.held_of, Present.present_within}}
+use Rattle.dr_program.specs.{Form.IsOf, Presence.present_at, Program.{Program, next_sight}, Reading.{table_of, world}}
+use Rattle.dr_program.specs.{Replica.{is_inside, is_other}, Running.{Running, next_step}, Sight.IsSeenNext}
+use Rattle.dr_program.specs.Steps.{allows, found, has_cell, NoWordFell, sight, stepped}
+use Rattle.dr_program.proofs.{Deeds.{replicas, due_allowed}, Present.present_within}
 use Rattle.dr_faithful.specs.{Chosen.views_by, Faithful.Faithful}
-use Rattle.dr_refine.{specs.Programs.{IsMember, IsProgram}, proofs.Deeds.{program_member, replicas}}
-use Rattle.dr_refine.proofs.{Guards.{other_member, other_within, seen_is}, Tables.word_inside, Tests.cell_test}
+use Rattle.dr_form.proofs.Steps.{stepped_grown}
+use Rattle.dr_refine.{specs.Programs.{IsMember, IsProgram}, proofs.Deeds.program_member}
+use Rattle.dr_refine.proofs.{Guards.{other_member, seen_is}, Programs.word_found, Tests.cell_test}
 use Rattle.dr_world_laws.proofs.Worlds.{Known, faithful, known}
-
--- the word that the look finds is that of the world's table
-word_found : (g : Group) (p : Program) (m : ℕ) (r : Running) (i c : ℕ)
-    → IsMember g (replicas p.members) (table_of p) m r.replica → m < roster g → is_other r.replica i ≡ true
-    → c < columns g → (world g p).table ((world g p).past.view m) m i c ≡ found p.table r.replica i c
-word_found g p m r i c member within other column = ap (λ v. (world g p).table v m i c)
-    (ap (λ x. x.view) (held_of g (replicas p.members) (table_of p) m r.replica member.there))
-    ∙ word_inside g p.table r.replica.view m i c (omega (arith, member.form.bank, member.of.banks)) within
-    (other_within g (replicas p.members) (table_of p) m r.replica i member other) column
-    ∙ ap (slice_index p.table) (λ z. word_index_of (sym member.of.members z)
-    (sym member.of.window z) r.replica.view (sym member.of.number z) i c)
 
 -- it is in form, and has grown from the word that was seen before
 pub found_seen : (g : Group) (p : Program) (m : ℕ) (r : Running) (i c : ℕ) → IsGroup g
@@ -66,3 +57,15 @@ found_seen g p m r i c group is run there may = record {
 
     same : (world g p).table ((world g p).past.view m) m i c ≡ found p.table r.replica i c
     same = word_found g p m r i c member (omega (arith, present_within p.members m r there, is.all)) cell.0 cell.1
+
+pub next_grown : (g : Group) (p : Program) (m : ℕ) (r : Running) → IsGroup g → IsProgram g p
+    → IsReached g (world g p) → present_at p.members m ≡ Some r → r.replica.end ≡ None
+    → (stepped (next_sight p.table r) r.replica (next_step r)).view ≡ r.replica.view
+    → NoWordFell r.replica (stepped (next_sight p.table r) r.replica (next_step r))
+next_grown g p m r group is run there unended =
+    stepped_grown (next_sight p.table r) r.replica (next_step r) (is.form m r there).replica may (λ i c at.
+    subst (λ s. HasGrown r.replica.roster c (seen r.replica.rows i c) (sight p.table r.replica s)) (sym at)
+    (found_seen g p m r i c group is run there (subst (λ s. allows r.replica s ≡ true) at may)).grown)
+  where
+    may : allows r.replica (next_step r) ≡ true
+    may = due_allowed r ((is.form m r there).due unended)

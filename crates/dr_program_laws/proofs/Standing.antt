@@ -1,16 +1,14 @@
 -- How a member stands in its turn: before its crash, and at its end as it should be.
-use Rattle.std.specs.{List.list_any, Prelude.{⊤, All, Any, Option, None, Some, is_some, slice_index_or}}
-use Rattle.std.proofs.Common.{◌≡◌, refl, sym, ap, ◌∙◌, ℕ, zero, suc, ◌+◌, ◌-◌, ◌<◌, ◌≤◌, Bool, true, false, ◌&&◌, ◌||◌, not, nat_lt, if◌then◌else◌, List, length, min, arith}
-use Rattle.std.proofs.lemmas.{Bool.Decides.nat_tests, List.Folds.list_any_at}
-use Rattle.dr_entry.specs.declared.end.End.{End}
+use Rattle.std.specs.{List.list_any, Prelude.{⊤, All, Any, Option, None, Some, is_some}}
+use Rattle.std.proofs.Common.{◌≡◌, refl, sym, ap, ◌∙◌, ℕ, zero, suc, ◌+◌, ◌≤◌, Bool, true, false, ◌&&◌, ◌||◌, if◌then◌else◌, List, min, arith, [], inl, inr}
+use Rattle.std.proofs.lemmas.Bool.Decides.{nat_tests}
+use Rattle.dr_entry.{specs.declared.end.End.End, proofs.{Ends.IsUprightOrSpent, ListPlaces.none_at}}
 use Rattle.dr_entry.specs.declared.end.End.TheVariants as ends
-use Rattle.dr_machine.specs.declared.step.Step.TheVariants as steps
 use Rattle.dr_program.specs.Running.{Running, applies, columns, crashes_in_turn, is_in_turn, members, moved, settle, settled}
-use Rattle.dr_program.specs.Turn.{after, columns_in, is_beat, part_of, rows_in, turn_begins}
-use Rattle.dr_program.specs.declared.{place.{Part.Part, Place.Place, TheConstants.TURN}, setup.CrashPoint.CrashPoint}
+use Rattle.dr_program.{specs.{Turn.{after, part_of}, declared.setup.CrashPoint.CrashPoint}, proofs.Deeds.no_points}
+use Rattle.dr_program.proofs.{Parts.{is_behind_crash, is_crash, behind_after, crash_test}, Search.applies_at}
 use Rattle.dr_program.specs.declared.place.Part.TheVariants as parts
-use Rattle.dr_turn.proofs.{Order.{all_below, each_below}, Search.applies_at, Tasks.ends_view}
-use Rattle.dr_program_laws.specs.Ended.{IsBeforeCrash}
+use Rattle.dr_program_laws.specs.{Ended.IsBeforeCrash, Failing.has_log_end, Trusting.has_been_left}
 
 -- ---- before and after a crash
 
@@ -23,15 +21,6 @@ pub next_turn : (points : List CrashPoint) (turns : ℕ) → IsBeforeCrash point
     → IsNotPast points (min (turns + 1) 4294967295)
 next_turn points turns before = λ k d within some. omega (arith, before k d within some)
 
--- no element passes a test that none passes
-none_at : {A : Type 0} (test : A → Bool) (xs : List A) (k : ℕ) (d : A) → list_any test xs ≡ false
-    → k < length xs → test (slice_index_or xs k d) ≡ false
-none_at test xs k d none within = by (test (slice_index_or xs k d)) refl
-  where
-    by : (b : Bool) → test (slice_index_or xs k d) ≡ b → test (slice_index_or xs k d) ≡ false
-    by false e = e
-    by true e = absurd (cc (list_any_at test xs k d within e, none))
-
 -- a member that doesn't crash in a turn is past it
 pub no_crash : (points : List CrashPoint) (turns : ℕ) → IsNotPast points turns
     → list_any (is_in_turn turns) points ≡ false → IsBeforeCrash points turns
@@ -41,57 +30,6 @@ no_crash points turns later none = λ k d within some. grind (
   none_at (is_in_turn turns) points k d none within,
   later k d within some,
 )
-
--- ---- where it is known that the turn has no crash
-
--- the parts behind the end of a member that was to crash, and the beginning of the next turn
-abbrev pub is_behind_crash : Part → Bool
-is_behind_crash parts.Done = true
-is_behind_crash parts.Give = true
-is_behind_crash parts.Spent = true
-is_behind_crash (parts.Do a) = ends_view (steps.Do a) || is_beat (parts.Do a)
-is_behind_crash part = false
-
--- the part is that of a crash
-abbrev pub is_crash : Part → Bool
-is_crash parts.Crash = true
-is_crash part = false
-
-crash_test : (part : Part) → is_crash part ≡ true → part ≡ parts.Crash
-crash_test parts.Crash e = refl
-crash_test part e = absurd (cc)
-
--- these parts come only behind such ones, and behind that of a crash
-behind_next : (i : ℕ) → i + 1 < length TURN → is_behind_crash (slice_index_or TURN (i + 1) turn_begins) ≡ true
-    → (is_behind_crash (slice_index_or TURN i turn_begins)
-    || is_crash (slice_index_or TURN i turn_begins)) ≡ true
-unfolding all_below
-behind_next i l late = implied _ _
-    (each_below (length TURN - 1) i (λ j. not (is_behind_crash (slice_index_or TURN (j + 1) turn_begins))
-    || (is_behind_crash (slice_index_or TURN j turn_begins)
-    || is_crash (slice_index_or TURN j turn_begins))) refl (omega (arith, l))) late
-  where
-    implied : (a b : Bool) → (not a || b) ≡ true → a ≡ true → b ≡ true
-    implied true b t e = t
-    implied false b t e = absurd (cc)
-
--- such a place comes only behind such a one or one at a crash
-pub behind_after : (n k : ℕ) (p : Place) → is_behind_crash (part_of (after n k p)) ≡ true
-    → (is_behind_crash (part_of p) || is_crash (part_of p)) ≡ true
-behind_after n k p late = by (nat_lt (p.column + 1) (columns_in k (part_of p)))
-    (nat_lt (p.row + 1) (rows_in n (part_of p))) (nat_lt (p.part + 1) (length TURN)) refl late
-  where
-    same : (a b : Bool) → a ≡ true → (a || b) ≡ true
-    same a b e = rw e refl
-
-    by : (x y z : Bool) → nat_lt (p.part + 1) (length TURN) ≡ z → is_behind_crash (part_of
-        (if x then record p { column = p.column + 1 } else (if y then record p { row = p.row + 1; column = 0 }
-        else record { part = if z then p.part + 1 else 0; row = 0; column = 0 }))) ≡ true
-        → (is_behind_crash (part_of p) || is_crash (part_of p)) ≡ true
-    by true y z e h = same _ _ h
-    by false true z e h = same _ _ h
-    by false false true e h = behind_next p.part (grind (arith, nat_tests, e)) h
-    by false false false e h = absurd (cc)
 
 -- ---- how it stands
 
@@ -172,3 +110,17 @@ settle_stands limit points (suc f) r v =
 pub settled_stands : (limit : ℕ) (points : List CrashPoint) (r : Running) → Stands limit points r
     → Stands limit points (settled r)
 settled_stands limit points r v = settle_stands limit points _ r v
+
+-- so it is where its end is proper, and is neither by its log nor by suspicion, and it has no crash points
+pub proper_end : (limit turns : ℕ) (end : Option End) → IsProper limit [] turns end
+    → has_log_end end ≡ false → has_been_left end ≡ false → IsUprightOrSpent limit turns end
+proper_end limit turns None proper logs kept = inl (inl refl)
+proper_end limit turns (Some ends.Done) proper logs kept = inl (inr refl)
+proper_end limit turns (Some ends.Crashed) proper logs kept = absurd (no_points proper)
+proper_end limit turns (Some (ends.Spent n)) proper logs kept = inr (proper.1, λ e. cc)
+proper_end limit turns (Some ends.DiskFault) proper logs kept = absurd (cc)
+proper_end limit turns (Some (ends.LogFull len)) proper logs kept = absurd (cc)
+proper_end limit turns (Some (ends.Suspected by)) proper logs kept = absurd (cc)
+proper_end limit turns (Some (ends.NoMajority mask)) proper logs kept = absurd (cc)
+proper_end limit turns (Some (ends.Excluded view)) proper logs kept = absurd (cc)
+proper_end limit turns (Some ends.Absent) proper logs kept = absurd proper

@@ -1,38 +1,40 @@
 -- Members that suspect nobody, and wait for everybody or have not waited for too long, judge nothing: so
 -- nobody is suspected, and no member is ended by suspicion.
-use Rattle.std.specs.{List.find, Prelude.{Option, None, Some, filter_map, is_some, slice_index_or, unwrap_or}}
-use Rattle.std.{specs.Option.{option_and_then, option_map}, proofs.Math.Path.fun_ext}
-use Rattle.std.proofs.Common.{◌≡◌, ◌≢◌, refl, sym, ap, ◌∙◌, subst, inl, inr, ◌⊎◌, ℕ, suc, ◌+◌, ◌<◌, ◌≤◌, ◌==◌, ◌&&◌, ◌||◌, not, nat_lt, Bool, true, false, if◌then◌else◌, All, List, [], ◌∷◌, length, map, arith}
+use Rattle.std.specs.{List.find, Option.option_map, Prelude.{Option, None, Some, slice_index_or, unwrap_or}}
+use Rattle.std.proofs.Common.{◌≡◌, ◌≢◌, refl, sym, ap, ◌∙◌, subst, inl, inr, ◌⊎◌, ℕ, ◌+◌, ◌<◌, ◌≤◌, ◌==◌, ◌&&◌, ◌||◌, not, nat_lt, Bool, true, false, if◌then◌else◌, List, [], length, map, arith}
 use Rattle.std.proofs.lemmas.{Bool.{and_left, and_right, cases_eq, cases_lt, Decides.nat_tests}, Option.same_Some}
-use Rattle.dr_entry.specs.declared.{end.End.End, entry.Entry.Entry}
+use Rattle.dr_entry.{specs.declared.{end.End.End, entry.Entry.Entry}, proofs.ListParts.nothing_of}
+use Rattle.dr_entry.proofs.NumberFacts.{soon, not_in, one_of}
 use Rattle.dr_entry.specs.declared.end.End.TheVariants as ends
 use Rattle.dr_faithful.specs.{Chosen.views_by, Faithful.Faithful}
-use Rattle.dr_machine.specs.{Group.{Group, IsGroup}, Run.IsReached, World.{World, opening_world}}
-use Rattle.dr_machine.specs.declared.{event.Act.Act, step.Step.{Step, TheVariants.{Do, LogVote}}}
-use Rattle.dr_program.{specs.{Acts.is_outside_act, Turn.{is_beat, part_of}}, proofs.Present.present_map}
-use Rattle.dr_program.specs.{Form.{HasForm, IsRunningMember}, Reading.{table_of, world}, Steps.{allows, stepped}}
-use Rattle.dr_program.specs.{Net.{IsRanOverNet, took_nothing}, declared.setup.{Setup.Setup, Suspicion.Suspicion}}
-use Rattle.dr_program.{specs.Presence.present_at, proofs.{Runs.after_either, Voting.view_small}}
-use Rattle.dr_program.specs.Program.{AreSetups, IsRanFrom, Move, Program, after_deed, begun_program, end_at, letter_for, moved_by, next_sight, step_of}
+use Rattle.dr_machine.{specs.{Group.{Group, IsGroup}, Run.IsReached, declared.event.Act.Act}, proofs.Ends.judges}
+use Rattle.dr_machine.specs.{World.{World, opening_world}, declared.step.Step.{Step, TheVariants.{Do, LogVote}}}
+use Rattle.dr_program.{specs.{Acts.is_outside_act, Presence.present_at}, proofs.Search.settle_only}
+use Rattle.dr_program.{specs.Form.{HasForm, IsRunningMember}, proofs.Present.{present_map, replaced_either, all_ends}}
+use Rattle.dr_program.specs.{Net.{IsRanOverNet, took_nothing}, declared.place.{Place.Place, TheConstants.TURN}}
+use Rattle.dr_program.specs.Program.{AreSetups, IsRanFrom, Move, Program, after_deed, begun_program, end_at, letter_for, next_sight, step_of}
+use Rattle.dr_program.{specs.{Reading.{table_of, world}, Steps.{allows, stepped}}, proofs.Opening.begun_reached}
 use Rattle.dr_program.specs.Replica.{Replica, is_inside, is_named, is_wedged, is_welcomer, me, value_due}
-use Rattle.dr_program.specs.Running.{Running, after_step, begun_running, crashes_now, is_scripted, judged, judgement, minority, named_by, next_step, overdue, scripted, settled, step_at, told, took, took_letter, vote_or_end, waits_after}
-use Rattle.dr_program.{specs.declared.place.Part.Part, proofs.StepsAt.{append_either, push_either, vote_either}}
+use Rattle.dr_program.specs.Running.{Running, after_step, begun_running, is_scripted, judged, judgement, minority, named_by, next_step, overdue, scripted, settled, step_at, told, took, took_letter, vote_or_end}
+use Rattle.dr_program.specs.{Turn.{is_beat, part_of, after, columns_in, rows_in, IsIn}, declared.setup.Setup.Setup}
+use Rattle.dr_program.{specs.declared.place.Part.Part, proofs.Deeds.{due_allowed, replicas, of_there, moved_all}}
+use Rattle.dr_program.{specs.declared.setup.Suspicion.Suspicion, proofs.RunningPrograms.{limit_stays, took_limit}}
+use Rattle.dr_program.proofs.{Order.take_first, Runs.after_either, StepsAt.plain_step, Voting.view_small}
+use Rattle.dr_program.proofs.Parts.{is_passed, passed_act, is_judge, no_verdict, ends_view, view_stays, view_goes_on, suspects_stay, is_take}
 use Rattle.dr_program.specs.declared.place.Part.TheVariants as parts
 use Rattle.dr_program.specs.Replica as replica
-use Rattle.dr_refine.{specs.Programs.IsProgram, proofs.{Guards.seen_is, Steps.begun_is_program}}
-use Rattle.dr_refine.proofs.Deeds.{due_allowed, program_member, replicas, rest_changes_nothing, step_is, step_reached}
+use Rattle.dr_refine.{specs.Programs.IsProgram, proofs.{Deeds.{program_member, step_reached}, Guards.seen_is}}
+use Rattle.dr_refine.proofs.Steps.{begun_is_program}
 use Rattle.dr_program_laws.specs.Trusting.{AreAtEase, AreTrusting, IsAtEase, IsCalm, IsPatient, IsTrusting, MayWait, NoneLeft, SuspectsNobody, has_been_left, is_left_out, to_come, AllCalm}
-use Rattle.dr_program_laws.proofs.{Keeping.begun_reached, Letters.letters_are, Nets.net_keeps}
-use Rattle.dr_program_laws.proofs.{Patience.{patient_on, patient_take}, Programs.{ran_keeps, replaced_either}}
-use Rattle.dr_program_laws.proofs.{Quiet.{is_passed, passed_act}, Worlds.{all_ends, of_there}}
-use Rattle.dr_restart.specs.{Groups.group_of, Setups.{AreSetupsOf, IsBegun, suspicion_in, suspicion_of}}
-use Rattle.dr_restart.{specs.declared.start.Start.Start, proofs.Setups.are_setups}
+use Rattle.dr_program_laws.proofs.{Letters.letters_are, Nets.net_keeps, Programs.ran_keeps}
+use Rattle.dr_program_laws.proofs.Patience.{patient_on, patient_take, next_none, comes, wide_after, here_comes}
+use Rattle.dr_restart.specs.{Groups.group_of, Setups.{AreSetupsOf, IsBegun, suspicion_of}, declared.start.Start.Start}
+use Rattle.dr_restart.proofs.Setups.{are_setups, unsuspected}
 use Rattle.dr_rows.specs.Words.{seen}
-use Rattle.dr_script.specs.declared.script.{Fault.Fault, Script.Script}
-use Rattle.dr_suspect.specs.{Answers.least_where, Suspicion.{is_unsuspected, names, names_me, spreads}}
+use Rattle.dr_script.specs.declared.script.Script.{Script}
+use Rattle.dr_suspect.specs.Suspicion.{is_unsuspected, names, names_me, spreads}
 use Rattle.dr_suspect.specs.{Waits.{is_late, is_overdue, turns_without_news}, Wishes.may_wish}
-use Rattle.dr_turn.proofs.{Parts.{has_verdict, is_judge, is_verdict, no_verdict}, Search.settle_only}
-use Rattle.dr_turn.proofs.Tasks.{ends_view, view_stays}
+use Rattle.dr_suspect.proofs.Waiting.{nothing_found, nothing_spreads}
 use Rattle.dr_words.{specs.declared.column.TheConstants.SUSPECTED_COLUMN, proofs.Masks.has_without_mask}
 use Rattle.dr_world_laws.proofs.Worlds.{Known, faithful, known, quiet}
 use Rattle.dr_history.{specs.Members.has, proofs.Bits.has_zero}
@@ -93,24 +95,6 @@ unsuspecting g p m r is i = elim (cases_eq i (me r.replica)) [
     nothing low high none = omega (arith, low, high, none)
 
 -- ---- judging
-
--- a count below the limit hasn't reached it
-soon : (count more limit : ℕ) → count + more < limit → not (nat_lt count limit) ≡ false
-soon count more limit l = grind (arith, l)
-
--- who is beyond a roster is not of a mask of it
-not_in : {n i : ℕ} (b : Bool) → (b ≡ true → i < n) → n ≤ i → b ≡ false
-not_in true inside beyond = absurd (omega (arith, inside refl, beyond))
-not_in false inside beyond = refl
-
--- nothing is found where nothing passes the test
-nothing_found : (test : ℕ → Bool) → ((i : ℕ) → test i ≡ false) → least_where test ≡ None
-nothing_found test none = ap least_where (fun_ext none)
-
-nothing_spreads : (test : ℕ → ℕ → Bool) → ((i j : ℕ) → test i j ≡ false)
-    → option_and_then (λ i. least_where (test i)) (least_where (λ i. is_some (least_where (test i)))) ≡ None
-nothing_spreads test none = ap (λ (t : ℕ → ℕ → Bool). option_and_then (λ i. least_where (t i))
-    (least_where (λ i. is_some (least_where (t i))))) (fun_ext λ i. fun_ext (none i))
 
 -- such a member judges nothing
 judges_nothing : (g : Group) (p : Program) (m : ℕ) (r : Running) → IsAmong g p m r → judgement r ≡ None
@@ -261,48 +245,16 @@ never_passed g p m r is inside unended well = by (part_of r.place) refl
 
 -- ---- other steps
 
--- the step is an act that members judge
-abbrev judges : Step → Bool
-judges (Do a) = is_verdict a
-judges s = false
-
--- no other part has such a step
-plain_step : (r : Running) (part : Part) (i c : ℕ) → is_judge part ≡ false → has_verdict part ≡ false
-    → judges (step_at r part i c) ≡ false
-plain_step r parts.Judge i c other none = absurd (cc)
-plain_step r parts.Append i c other none = append_either (λ s. judges s ≡ false) r.failed refl (λ why. refl)
-plain_step r parts.Vote i c other none = vote_either (λ s. judges s ≡ false) r.failed _ refl (λ why. refl)
-plain_step r parts.Push i c other none = push_either (λ s. judges s ≡ false) (crashes_now r) i c refl refl
-plain_step r (parts.Do a) i c other none = none
-plain_step r part i c other none = refl
-
--- who has committed nothing doesn't end its view
-view_goes_on : (r : Replica) (s : Step) → r.committed ≡ None → allows r s ≡ true → ends_view s ≡ false
-view_goes_on r s none may = grind (arith, none, may)
-
 -- so such a member stays in its view
 pub never_ends : (g : Group) (p : Program) (m : ℕ) (r : Running) → IsAmong g p m r → r.replica.end ≡ None
     → ends_view (next_step r) ≡ false
 never_ends g p m r is unended = view_goes_on r.replica (next_step r) (votes_nothing g p m r is).1
     (due_allowed r ((is.program.form m r is.there).due unended))
 
--- and no other step makes a member suspect anybody
-suspects_stay : (word : ℕ) (r : Replica) (s : Step) → judges s ≡ false → ends_view s ≡ false
-    → (stepped word r s).suspects ≡ r.suspects
-suspects_stay word r s other stays = grind (arith, other, stays)
-
 -- or ends it by suspicion
 end_stays : (word : ℕ) (r : Replica) (s : Step) → r.committed ≡ None → judges s ≡ false
     → allows r s ≡ true → has_been_left r.end ≡ false → has_been_left (stepped word r s).end ≡ false
 end_stays word r s none other may kept = grind (arith, none, other, may, kept)
-
--- no step at all changes for how long it waits, nor does a take
-took_limit : (letter : Option (List Entry)) (r : Running) → (took_letter letter r).waits.limit ≡ r.waits.limit
-took_limit None r = refl
-took_limit (Some letter) r = refl
-
-pub limit_stays : (word : ℕ) (r : Running) (s : Step) → (waits_after word r s).limit ≡ r.waits.limit
-limit_stays word r s = grind arith
 
 -- ---- a move
 
@@ -365,33 +317,6 @@ deed_eases g p e r is unended waits =
     })
     (λ due. subst (λ letter. IsAtEase (settled (took_letter letter r)))
     (sym (no_letter g p e.member is.group is.reached is.ease)) (take_eases r so))
-
--- what holds of each member, and of the one that moves after its deed, holds after a move
-pub moved_all : (P : Running → Type 0) (p : Program) (e : Move)
-    → ((k : ℕ) (y : Running) → present_at p.members k ≡ Some y → P y)
-    → ((r : Running) → present_at p.members e.member ≡ Some r → r.replica.end ≡ None
-    → P (after_deed (next_sight p.table r) (letter_for p e.member) e.outcome r (next_step r)))
-    → (k : ℕ) (y : Running) → present_at (step_of p e).members k ≡ Some y → P y
-moved_all P p e all deed = by (present_at p.members e.member) refl
-  where
-    Holds : Program → Type 0
-    Holds q = (k : ℕ) (y : Running) → present_at q.members k ≡ Some y → P y
-
-    at : (r : Running) → present_at p.members e.member ≡ Some r → (o : Option End) → r.replica.end ≡ o
-        → Holds (step_of p e)
-    at r there (Some x) ended = subst (λ (q : Program). (k : ℕ) (y : Running) → present_at q.members k ≡ Some y
-        → P y) (sym (rest_changes_nothing p e r there (ap is_some ended))) all
-    at r there None unended = subst (λ (q : Program). (k : ℕ) (y : Running) → present_at q.members k ≡ Some y → P y)
-        (sym (step_is p e r there unended)) (λ k y here. elim (replaced_either p.members e.member r
-        (after_deed (next_sight p.table r) (letter_for p e.member) e.outcome r (next_step r)) there k y here) [
-          | inl moved ↦ subst P moved.1 (deed r there unended)
-          | inr other ↦ all k y other.1
-        ])
-
-    by : (o : Option Running) → present_at p.members e.member ≡ o → Holds (step_of p e)
-    by None none = subst (λ (q : Program). (k : ℕ) (y : Running) → present_at q.members k ≡ Some y → P y)
-        (sym (ap (λ o. moved_by p o e) none)) all
-    by (Some r) there = at r there r.replica.end refl
 
 -- a move keeps the members of the program so, where a member that begins its turn by it may wait
 pub move_eases : (g : Group) (p : Program) (e : Move) → IsGroup g → IsProgram g p
@@ -516,19 +441,6 @@ none_is_left g turns setups p group some are calm run =
 
 -- ---- scripts
 
--- nothing comes of a list where nothing comes of each element
-nothing_of : {X Y : Type 0} (h : X → Option Y) (xs : List X) → All (λ x. h x ≡ None) xs → filter_map h xs ≡ []
-nothing_of h [] none = refl
-nothing_of h (x ∷ xs) none = rw (none 0 x (omega arith))
-    (nothing_of h xs (λ k d l. none (suc k) d (omega (arith, l))))
-
-unsuspected : (nth m : ℕ) (f : Fault) → suspicion_in f.what ≡ None → suspicion_of nth m f ≡ None
-unsuspected nth m f none = by ((f.age == nth) && (f.member == m))
-  where
-    by : (b : Bool) → (if b then suspicion_in f.what else None) ≡ None
-    by true = none
-    by false = refl
-
 -- the setups of a script that suspects nobody are calm
 pub calm_setups : (script : Script) (start : Start) (nth : ℕ) (setups : List (Option Setup)) → SuspectsNobody script
     → AreSetupsOf script start nth setups → AllCalm setups
@@ -546,3 +458,58 @@ none_by_script script start nth begun p is lists some nobody (setups, are, same)
     none_is_left (group_of script start) script.turns setups p is some
     (are_setups script start nth setups lists are) (calm_setups script start nth setups nobody are)
     (subst (λ b. IsRanFrom b p) same run)
+
+abbrev come_after : ℕ → ℕ → ℕ → ℕ
+come_after row n i = one_of (nat_lt (row + 1) n) (to_come parts.Look (row + 1) i)
+
+pub last_after : (n k : ℕ) (p : Place) (i : ℕ) → part_of p ≡ parts.Look → (p.column + 1 == k) ≡ true
+    → comes (after n k p) i ≡ come_after p.row n i
+last_after n k p i at e = by (nat_lt (p.column + 1) (columns_in k (part_of p))) (nat_lt (p.row + 1)
+    (rows_in n (part_of p))) (ap (λ part. nat_lt (p.column + 1) (columns_in k part)) at ∙ grind (arith, nat_tests, e))
+    (ap (λ part. nat_lt (p.row + 1) (rows_in n part)) at)
+  where
+    by : (x y : Bool) → x ≡ false → y ≡ nat_lt (p.row + 1) n
+        → comes (if x then record p { column = p.column + 1 } else (if y then record p { row = p.row + 1; column = 0 }
+        else record { part = if nat_lt (p.part + 1) (length TURN) then p.part + 1 else 0; row = 0; column = 0 })) i
+        ≡ come_after p.row n i
+    by true y f r = absurd (cc f)
+    by false true f r = ap (λ part. to_come part (p.row + 1) i) at
+        ∙ ap (λ b. one_of b (to_come parts.Look (p.row + 1) i)) r
+    by false false f r = next_none p i at ∙ ap (λ b. one_of b (to_come parts.Look (p.row + 1) i)) r
+
+pub row_come : (row n i : ℕ) → i ≡ row → come_after row n i ≡ 0
+row_come row n i same = grind (arith, same)
+
+rows_stay : (row n i : ℕ) → i ≢ row → i < n → come_after row n i ≡ to_come parts.Look row i
+rows_stay row n i other within = by (cases_lt i row)
+  where
+    by : (i < row) ⊎ (row ≤ i) → come_after row n i ≡ to_come parts.Look row i
+    by (inl l) = grind (arith, l)
+    by (inr l) = grind (arith, l, other, within)
+
+-- so the place after a look leaves the other rows as they are
+pub rows_after : (n k : ℕ) (p : Place) (i : ℕ) → part_of p ≡ parts.Look → p.column < k → i ≢ p.row → i < n
+    → comes (after n k p) i ≡ comes p i
+rows_after n k p i at low other within = by (p.column + 1 == k) refl
+  where
+    by : (b : Bool) → (p.column + 1 == k) ≡ b → comes (after n k p) i ≡ comes p i
+    by true e = last_after n k p i at e ∙ rows_stay p.row n i other within ∙ sym (here_comes p i at)
+    by false e = wide_after n k p i at low e
+
+-- and all rows are to come from the first place of a turn on, and from the first look
+pub at_first : (i : ℕ) → to_come parts.Look 0 i ≡ 1
+at_first i = grind arith
+
+pub take_after : (n k : ℕ) (p : Place) (i : ℕ) → IsIn n k p → part_of p ≡ parts.Take → comes (after n k p) i ≡ comes p i
+take_after n k p i is at = ap (λ q. comes (after n k q) i) first ∙ at_first i
+    ∙ sym (ap (λ part. to_come part p.row i) at)
+  where
+    zero : (x : ℕ) → x < 1 → x ≡ 0
+    zero x l = omega (arith, l)
+
+    first : p ≡ record { part = 0; row = 0; column = 0 }
+    first = λ z. record {
+      part = take_first p.part is.part (ap is_take at) z;
+      row = zero p.row (subst (λ part. p.row < rows_in n part) at is.row) z;
+      column = zero p.column (subst (λ part. p.column < columns_in k part) at is.column) z;
+    }

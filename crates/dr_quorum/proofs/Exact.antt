@@ -5,7 +5,7 @@ use Rattle.std.proofs.Common.{◌≡◌, refl, ap, ◌⊎◌, inl, inr, Result, 
 use Rattle.dr_history.specs.declared.opening.Opening.{Opening}
 use Rattle.dr_restart.specs.{Choosing.{Handed, IsChosenStart}, Refusing.{IsRefusedFor, Refusal}}
 use Rattle.dr_restart.specs.{Refusing.Refusal.{AgesUsedUp, Disagree, Foreign, NoQuorum}, declared.start.Start.Start}
-use Rattle.dr_quorum_laws.proofs.Refusals.{no-refusal, one-refusal}
+use Rattle.dr_restart.proofs.Refusals.{no-refusal, one-refusal}
 use Rattle.dr_quorum.specs.{Telling.{IsRightlyTold, reason_of}, declared.faults.ChooseFault.ChooseFault}
 use Rattle.dr_quorum.specs.declared.faults.ChooseFault.TheVariants as faults
 

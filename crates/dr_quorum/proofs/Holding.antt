@@ -2,8 +2,7 @@
 use Rattle.std.proofs.Common.{◌≡◌, sym, ◌∙◌, subst, ℕ, ◌+◌, ◌<◌, ◌≤◌, ◌⊎◌, inl, inr, arith, List, [], length, Option, None, Some}
 use Rattle.std.proofs.lemmas.{Bool.cases_lt, List.{append-nil, get_or_past}, Option.none-some}
 use Rattle.dr_entry.specs.declared.entry.Entry.{Entry}
-use Rattle.dr_history.{specs.Restarting.AreAlong, proofs.Restarts.turned}
-use Rattle.dr_history_laws.proofs.Keeping.{along_by_longest}
+use Rattle.dr_history.{specs.Restarting.AreAlong, proofs.{Keeping.along_by_longest, Restarts.turned}}
 use Rattle.dr_restart.specs.{Choosing.{AreOnHolder, Handed}, Refusing.{AreHoldersAlong, IsFirstSplit, IsHeldBy}}
 use Rattle.dr_restart.specs.declared.lists.LogLists.{LogLists}
 use Rattle.dr_restart.proofs.Choosing.{held_some, IsLongestBelow, by_holder, one_held}

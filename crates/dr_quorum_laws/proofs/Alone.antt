@@ -1,22 +1,21 @@
 -- Logs on which nothing stands but what tries have left: they hold after a further one.
 use Rattle.std.proofs.Common.{◌≡◌, refl, ap, sym, ◌∙◌, ◌⊎◌, inl, inr, subst, ℕ, ◌+◌, ◌<◌, arith, true, List, [], ◌∷◌, ◌++◌, length, take, drop, Contains, Some, slice_get, append_assoc}
 use Rattle.std.proofs.lemmas.Option.{none-some, same_Some}
-use Rattle.dr_entry.specs.declared.entry.Entry.{Entry, TheVariants.View}
+use Rattle.dr_entry.{specs.declared.entry.Entry.{Entry, TheVariants.View}, proofs.ListFacts.{last-of, split-last}}
+use Rattle.dr_entry.proofs.{ListParts.in-nothing, ListPlaces.{slice_get-push_cases, around, read-in}}
 use Rattle.dr_history.specs.{History.{GroupView, IsPrefixOf, view_of}, Restarting.AllStand}
 use Rattle.dr_history.specs.{Soundness.{MayStand, whole_roster}, declared.opening.Opening.Opening}
-use Rattle.dr_history.proofs.{Following.view_of-nil, ViewLemmas.view_of-View}
-use Rattle.dr_history_laws.proofs.{Lists.slice_get-push_cases, Standing.all-by}
+use Rattle.dr_history.proofs.{Following.view_of-nil, Standing.all-by, ViewLemmas.view_of-View}
 use Rattle.dr_machine.specs.Group.{Group}
 use Rattle.dr_restart.specs.Choosing.{AreOfHolders, AreOfNobody, EndsInAge, IsChosenStart, handed_of, of_set}
-use Rattle.dr_restart.specs.{Groups.{first_group_of, group_of}, Left.IsLeftByOther}
+use Rattle.dr_restart.specs.{Groups.{first_group_of, group_of}, Left.IsLeftByOther, declared.start.Start.Start}
 use Rattle.dr_restart.specs.{Trying.{HaveAgeVote, IsTry, age_vote_of, first_view_of}, declared.lists.Attempt.Attempt}
-use Rattle.dr_restart.specs.declared.{lists.LogLists.LogLists, start.Start.Start}
+use Rattle.dr_restart.{specs.declared.lists.LogLists.LogLists, proofs.Handing.{handed-part, quorum-meets, set-log}}
+use Rattle.dr_restart.proofs.Trying.{IsBroughtUp, entries-case, old-log, each-try, front_case}
 use Rattle.dr_script.specs.declared.script.Script.{Script}
 use Rattle.dr_words.specs.Masks.{IsMajorityOf, IsPartOf}
 use Rattle.dr_quorum_laws.specs.{Holding.IsOpenedTry, Lasting.HoldTriesAlone}
-use Rattle.dr_quorum_laws.proofs.Grown.{IsBroughtUp, entries-case, last-opened, more-opened, old-log, opened-cases}
-use Rattle.dr_quorum_laws.proofs.{Handing.{handed-part, quorum-meets, set-log}, Missing.{around, try-sound}}
-use Rattle.dr_quorum_laws.proofs.{Lists.{in-nothing, last-of, read-in, split-last}, Tried.{each-try, front_case}}
+use Rattle.dr_quorum_laws.proofs.{Grown.{last-opened, more-opened, opened-cases}, Missing.try-sound}
 
 -- ---- opened tries
 

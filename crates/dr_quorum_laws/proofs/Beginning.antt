@@ -1,27 +1,17 @@
 -- Before any try the logs that were left hold.
-use Rattle.std.proofs.Common.{◌≡◌, refl, ap, sym, ◌∙◌, inl, inr, subst, ℕ, ◌≤◌, arith, Bool, true, false, List, [], length, take, drop, Some, slice_get, append-nil, length-take, take-append-drop}
+use Rattle.std.proofs.Common.{◌≡◌, refl, ap, sym, ◌∙◌, inl, inr, subst, ℕ, ◌≤◌, arith, Bool, true, false, List, [], length, take, drop, Some, slice_get, append-nil, take-append-drop}
 use Rattle.std.proofs.lemmas.Option.{none-some, same_Some}
 use Rattle.dr_entry.specs.declared.entry.Entry.{Entry}
 use Rattle.dr_history.specs.{History.IsPrefixOf, Members.has, Order.first_entries, Soundness.whole_roster}
-use Rattle.dr_history_laws.proofs.{Keeping.{prefix_beside, prefix_then}, Lists.take-prefix}
-use Rattle.dr_machine.specs.{Group.{Group, IsGroup, IsPresent}, World.World}
+use Rattle.dr_history.proofs.{Keeping.prefix_beside, Lists.{take-prefix, prefix-trans}}
+use Rattle.dr_machine.{specs.{Group.{Group, IsGroup, IsPresent}, World.World}, proofs.Ends.first-in}
+use Rattle.dr_machine.proofs.Groups.{somebody-there}
 use Rattle.dr_restart.specs.{Left.{AreLeft, votes_of_age}, declared.lists.LogLists.LogLists}
-use Rattle.dr_words.{specs.Masks.{IsMajorityOf, IsPartOf}, proofs.Majorities.majorities_meet_lem}
-use Rattle.dr_world_laws.proofs.Worlds.{Known, agreed}
-use Rattle.dr_quorum_laws.{specs.Holding.{HoldSince, IsLongestHistory, IsOfAgeOrEarlier}, proofs.Handing.left-entries}
-use Rattle.dr_quorum_laws.proofs.Ended.{first-begins, first-durable, first-in, longest-history, own-durable}
-
--- where more than half of the roster is there, somebody is
-pub somebody-there : (g : Group) → IsPartOf g.opening.present (whole_roster g.opening)
-    → IsMajorityOf g.opening.present (whole_roster g.opening) → (i : ℕ) × IsPresent g i
-somebody-there g part most =
-    let t = majorities_meet_lem (whole_roster g.opening) g.opening.present g.opening.present part part most most in
-    (t.0, t.3)
-
--- first ones of a list are first ones of more of them
-pub take-less : {A : Type 0} (d e : ℕ) (xs : List A) → d ≤ e → IsPrefixOf (take d xs) (take e xs)
-take-less d e xs l = prefix_beside (take d xs) (take e xs) xs (drop d xs, take-append-drop d xs)
-    (drop e xs, take-append-drop e xs) (omega (arith, l, length-take d xs, length-take e xs))
+use Rattle.dr_restart.proofs.Handing.{left-entries}
+use Rattle.dr_words.specs.Masks.{IsMajorityOf, IsPartOf}
+use Rattle.dr_world_laws.proofs.{Ended.{first-begins, first-durable, own-durable}, Worlds.{Known, agreed}}
+use Rattle.dr_quorum_laws.specs.Holding.{HoldSince, IsLongestHistory, IsOfAgeOrEarlier}
+use Rattle.dr_quorum_laws.proofs.Ended.{longest-history}
 
 -- of the logs that were left
 pub left-held : (g : Group) (w : World) (choice : List LogLists) → IsGroup g → Known g w
@@ -60,7 +50,7 @@ left-held g w choice is y part most left = record {
         let e = entries m was there at in
         subst (λ (x : LogLists). IsPrefixOf (take d longest.0) x.entries) (sym (same m was log at here))
         (subst (λ es. IsPrefixOf es was.entries) (sym (take-prefix was.entries longest.0 d
-        (prefix_then was.entries (w.past.history m) longest.0 e.1 (longest.1.longest m there)) l))
+        (prefix-trans was.entries (w.past.history m) longest.0 e.1 (longest.1.longest m there)) l))
         (drop d was.entries, take-append-drop d was.entries))
 
     grown : (m : ℕ) (log : LogLists) → slice_get choice m ≡ Some log → (b : Bool)
@@ -78,7 +68,7 @@ left-held g w choice is y part most left = record {
           record {
             views = [];
             is = sym (append-nil log.entries);
-            delivered = prefix_then log.entries (w.past.history m) longest.0 t.1 (longest.1.longest m e);
+            delivered = prefix-trans log.entries (w.past.history m) longest.0 t.1 (longest.1.longest m e);
             opened = λ k x here. absurd (none-some x here);
           },
         )

@@ -1,20 +1,19 @@
 -- What a choice keeps: the start that held logs make, whichever are handed in, keeps all that was durable.
 use Rattle.std.proofs.Common.{◌≡◌, refl, ap, sym, ◌∙◌, ◌⊎◌, inl, inr, subst, ℕ, ◌<◌, ◌≤◌, arith, true, List, [], ◌∷◌, ◌++◌, length, take, drop, Contains, Some, slice_get, append-nil, append_assoc, take-append-drop}
 use Rattle.std.proofs.lemmas.Option.{none-some}
-use Rattle.dr_entry.specs.declared.entry.Entry.{Entry, TheVariants.View}
+use Rattle.dr_entry.{specs.declared.entry.Entry.{Entry, TheVariants.View}, proofs.ListFacts.last-of}
+use Rattle.dr_entry.proofs.ListPlaces.{slice_get-push_cases, slice_get-seam}
 use Rattle.dr_history.specs.{History.IsPrefixOf, Members.has, Soundness.whole_roster}
-use Rattle.dr_history_laws.proofs.Keeping.{prefix_beside, prefix_shorter}
-use Rattle.dr_history_laws.proofs.Lists.{slice_get-prefix, slice_get-push_cases, slice_get-seam}
-use Rattle.dr_machine.specs.{Group.{Group, IsPresent, roster}, World.World}
+use Rattle.dr_history.proofs.{Keeping.{prefix_beside, prefix_shorter}, LastViews.{last-view, view-come, view-late}}
+use Rattle.dr_history.proofs.Lists.{slice_get-prefix, prefix-in}
+use Rattle.dr_machine.{specs.{Group.{Group, IsPresent, roster}, World.World}, proofs.Ends.first-in}
 use Rattle.dr_restart.specs.Choosing.{AreFirst, AreOfHolders, AreOfNobody, EndsInAge, HasQuorum, IsChosenStart, of_set, on_path}
 use Rattle.dr_restart.specs.{Trying.{age_vote_of, first_view_of}, declared.lists.{Attempt.Attempt, LogLists.LogLists}}
-use Rattle.dr_restart.specs.declared.start.Start.{Start}
+use Rattle.dr_restart.{specs.declared.start.Start.Start, proofs.Handing.{quorum-meets, quorum-some, set-log}}
 use Rattle.dr_world_laws.specs.Views.{HasView}
+use Rattle.dr_world_laws.proofs.Ended.{durable-delivered, durable-since, no-later, view-present}
 use Rattle.dr_quorum_laws.specs.Holding.{GoesOnFrom, IsKeptBy, IsOfAgeOrEarlier, IsOpenedTry, KeepsDurable}
-use Rattle.dr_quorum_laws.proofs.Ended.{durable-delivered, durable-front, durable-since, first-in, no-later, view-present}
-use Rattle.dr_quorum_laws.proofs.Handing.{Since, durable-there, first-there, quorum-meets, quorum-some, set-log}
-use Rattle.dr_quorum_laws.proofs.{LastViews.{last-view, view-come, view-late}, Lists.{last-of, prefix-in}}
-use Rattle.dr_quorum_laws.proofs.Paths.{path-has}
+use Rattle.dr_quorum_laws.proofs.{Ended.durable-front, Handing.{Since, durable-there, first-there}, Paths.path-has}
 
 -- ---- which logs there are
 

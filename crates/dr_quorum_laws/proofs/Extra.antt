@@ -1,15 +1,16 @@
 -- Votes with those that members may have begun to log before they ended: they still have one value.
 use Rattle.std.proofs.{Common.{◌≡◌, sym, ◌⊎◌, inl, inr, subst, true, ℕ, ◌≤◌}, lemmas.Option.none-some}
 use Rattle.dr_entry.specs.declared.record.{Value.Value, Vote.Vote}
-use Rattle.dr_faithful.{specs.{Chosen.{AreChosen, Values, views_by}, Tells.Views}, proofs.Faithfulness.past_on_event}
+use Rattle.dr_faithful.{specs.{Chosen.{AreChosen, Values, views_by}, Tells.Views}, proofs.ChosenViews.views-there}
+use Rattle.dr_faithful.proofs.Faithfulness.{past_on_event}
 use Rattle.dr_history.specs.{Members.has, Order.IsNewIn}
 use Rattle.dr_machine.specs.{Effects.{logs_vote, vote_for}, Group.{Group, IsGroup, IsPresent}, Guards.CanLogVote}
-use Rattle.dr_machine.specs.{Run.PastGrew, Votes.{HasLogged, IsOf, MajorityHas}, World.World}
-use Rattle.dr_machine.specs.declared.event.Event.TheVariants.{LogVote}
-use Rattle.dr_vote_laws.{specs.Voting.{HaveVotedFor, IsChosen, Voting}, proofs.{Cuts.vote_cut, Logs.logged_new}}
-use Rattle.dr_vote_laws.proofs.Values.{chosen_since, higher, somebody, vote_is}
-use Rattle.dr_world_laws.{specs.Views.HasView, proofs.{ChosenViews.views-there, HeldViews.view-is}}
-use Rattle.dr_world_laws.proofs.{Reached.{all-go_on, event-known}, Worlds.Known}
+use Rattle.dr_machine.specs.{Run.PastGrew, Votes.HasLogged, World.World, declared.event.Event.TheVariants.LogVote}
+use Rattle.dr_machine.proofs.Voting.{logged_new}
+use Rattle.dr_vote_laws.{specs.Voting.{HaveVotedFor, IsChosen, Voting}, proofs.Cuts.vote_cut}
+use Rattle.dr_vote_laws.proofs.Values.{chosen_since, value-of}
+use Rattle.dr_world_laws.{specs.Views.HasView, proofs.{HeldViews.view-is, Reached.{all-go_on, event-known}}}
+use Rattle.dr_world_laws.proofs.Worlds.{Known}
 use Rattle.dr_world_laws.proofs.Reached as worlds
 use Rattle.dr_restart.specs.Left.{MayLogVote, without_ends}
 
@@ -70,22 +71,6 @@ extra-grew g values w m v is chosen y can =
     let t = endless-known g values w y in
     past_on_event g (views_by g values) (without_ends w) (LogVote m v) is
     (all-go_on g values (without_ends w) is t chosen) can t.faithful
-
--- a vote of a ballot at least as high as one by which more than half of the view has voted is for their value
-value-of : (g : Group) (V : Views) (u : World) (m b : ℕ) (x : Value) (z : Vote) → Voting g V u
-    → IsChosen V u.past.votes z.view b x → b ≤ z.ballot → HasLogged u.past.votes m z → z.value ≡ x
-value-of g V u m b x z voting chosen l h =
-    let one = somebody g V u z.view b x voting chosen in
-    higher g V u.past.own u.past.votes z.view b one.0 m z.ballot x z.value voting.valid voting.original ballot
-    one.1 l (vote_is g V u m z voting h)
-  where
-    ballot : MajorityHas u.past.votes (V z.view) (λ y. IsOf y z.view b)
-    ballot = record {
-      mask = chosen.mask;
-      part = chosen.part;
-      majority = chosen.majority;
-      each = λ i h. let t = chosen.each i h in (t.0, t.1, t.2.0);
-    }
 
 -- so is each that a member may have begun to log
 pub left-value : (g : Group) (w : World) (m b members : ℕ) (x : Value) (z : Vote) → IsGroup g → Known g w

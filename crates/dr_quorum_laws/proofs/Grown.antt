@@ -1,48 +1,16 @@
 -- What a try makes of one log, and which Views stand on logs that hold.
-use Rattle.std.proofs.Common.{◌≡◌, refl, ap, sym, ◌∙◌, ◌⊎◌, inl, inr, subst, ℕ, ◌<◌, arith, Bool, true, false, List, [], ◌∷◌, ◌++◌, length, take, drop, Contains, Some, slice_get, length-append, length-take, take-append-drop}
-use Rattle.std.proofs.lemmas.{List.Elements.Contains-append_cases, Option.{same_Some, slice_get_within}}
+use Rattle.std.proofs.Common.{◌≡◌, refl, sym, ◌⊎◌, inl, inr, subst, ℕ, ◌<◌, arith, true, List, [], ◌∷◌, ◌++◌, length, take, drop, Contains, Some, slice_get, length-append, length-take, take-append-drop}
+use Rattle.std.proofs.lemmas.{List.Elements.Contains-append_cases, Option.slice_get_within}
 use Rattle.dr_entry.specs.declared.entry.Entry.{Entry, TheVariants.View}
-use Rattle.dr_history.specs.{History.IsPrefixOf, Members.has, Order.first_entries, Restarting.AllStand}
-use Rattle.dr_history_laws.proofs.{Keeping.{prefix_beside, prefix_then}, Views.{View-once, ViewsRise-standing}}
-use Rattle.dr_history_laws.proofs.Lists.{slice_get-prefix, slice_get-push_cases, slice_get-seam, slice_get-some}
-use Rattle.dr_machine.specs.{Group.{Group, IsPresent}, World.World}
-use Rattle.dr_restart.specs.Trying.{BeginsWithCommon, IsTry, MayBeBroughtUp, MayHaveAgeVote, first_view_of}
+use Rattle.dr_entry.proofs.ListPlaces.{slice_get-push_cases, slice_get-seam, read-in}
+use Rattle.dr_history.specs.{History.IsPrefixOf, Order.first_entries, Restarting.AllStand}
+use Rattle.dr_history.proofs.{Keeping.prefix_beside, Lists.{slice_get-prefix, prefix-in, prefix_more, prefix-trans}}
+use Rattle.dr_history.proofs.ViewLemmas.{View-once, ViewsRise-standing}
+use Rattle.dr_machine.{specs.{Group.{Group, IsPresent}, World.World}, proofs.Groups.somebody-there}
 use Rattle.dr_restart.specs.declared.{lists.{Attempt.Attempt, LogLists.LogLists}, start.Start.Start}
+use Rattle.dr_world_laws.proofs.Ended.{durable-delivered, first-begins, first-durable, stands}
 use Rattle.dr_quorum_laws.specs.Holding.{AreTheirViews, GoesOnFrom, IsKeptBy, IsOfAgeOrEarlier, IsOpenedTry}
-use Rattle.dr_quorum_laws.proofs.{Beginning.somebody-there, Handing.Since, Lists.{prefix-in, prefix-more, read-in}}
-use Rattle.dr_quorum_laws.proofs.{Chosen.history-none, Ended.{durable-delivered, first-begins, first-durable, stands}}
-
--- ---- what a try makes of one log
-
--- a log after it is one before it
-pub old-log : (g : Group) (before after : List LogLists) (try : Attempt) → IsTry g.opening before after try
-    → (m : ℕ) (new : LogLists) → slice_get after m ≡ Some new → (old : LogLists) × (slice_get before m ≡ Some old)
-old-log g before after try t m new at =
-    slice_get-some before m (omega (arith, slice_get_within after m new at, t.places))
-
--- its entries are as before, or the try was opened and they are brought up to its start
-abbrev pub IsBroughtUp : Attempt → ℕ → LogLists → LogLists → Type 0
-IsBroughtUp try m old new = (try.opened ≡ true) × (has try.set m ≡ true) × IsPrefixOf new.entries
-    (try.start.entries ++ first_view_of try.start ∷ []) × BeginsWithCommon old.entries try.start.entries new.entries
-
-pub entries-case : (g : Group) (before after : List LogLists) (try : Attempt) → IsTry g.opening before after try
-    → (m : ℕ) (old new : LogLists) → slice_get before m ≡ Some old → slice_get after m ≡ Some new
-    → (new.entries ≡ old.entries) ⊎ IsBroughtUp try m old new
-entries-case g before after try t m old new was is = by (has try.set m) (try.opened) refl refl
-  where
-    vote : MayHaveAgeVote try.start old new → new.entries ≡ old.entries
-    vote (inl e) = ap (λ (l : LogLists). l.entries) e
-    vote (inr e) = ap (λ (l : LogLists). l.entries) e
-
-    up : try.opened ≡ true → has try.set m ≡ true → MayBeBroughtUp try.start old.entries new.entries
-        → (new.entries ≡ old.entries) ⊎ IsBroughtUp try m old new
-    up o h (inl e) = inl e
-    up o h (inr p) = inr (o, h, p.0, p.1)
-
-    by : (b o : Bool) → has try.set m ≡ b → try.opened ≡ o → (new.entries ≡ old.entries) ⊎ IsBroughtUp try m old new
-    by false o e f = inl (ap (λ (l : LogLists). l.entries) (same_Some new old (sym is ∙ t.others m e ∙ was)))
-    by true false e f = inl (vote (t.waits f m old new (e, was) is))
-    by true true e f = up f e (t.brought f m old new (e, was) is)
+use Rattle.dr_quorum_laws.proofs.{Chosen.history-none, Handing.Since}
 
 -- ---- the views of the tries
 
@@ -115,7 +83,7 @@ pub first-held : (g : Group) (w : World) (choice logs : List LogLists) (tries : 
     (s : Since g w choice tries logs) (es front : List Entry) (k : ℕ) → GoesOnFrom s.held.history tries front es
     → Contains es (View g.opening.age 0 k) → IsPrefixOf (first_entries g.opening) es
 first-held g w choice logs tries s es front k goes c = subst (IsPrefixOf (first_entries g.opening)) (sym goes.is)
-    (prefix-more (first_entries g.opening) front goes.views
+    (prefix_more (first_entries g.opening) front goes.views
     (by (Contains-append_cases front goes.views (View g.opening.age 0 k)
     (subst (λ l. Contains l (View g.opening.age 0 k)) goes.is c))))
   where
@@ -131,7 +99,7 @@ pub first-kept : (g : Group) (w : World) (choice logs : List LogLists) (tries : 
     → IsPrefixOf (first_entries g.opening) front
 first-kept g w choice logs tries s front durable =
     let i = somebody-there g s.part s.majority in
-    prefix_then (first_entries g.opening) (take (w.past.durable i.0) (w.past.history i.0)) front
+    prefix-trans (first_entries g.opening) (take (w.past.durable i.0) (w.past.history i.0)) front
     (prefix_beside (first_entries g.opening) (take (w.past.durable i.0) (w.past.history i.0)) (w.past.history i.0)
     (first-begins g w i.0 s.group s.known i.1)
     (drop (w.past.durable i.0) (w.past.history i.0), take-append-drop (w.past.durable i.0) (w.past.history i.0))

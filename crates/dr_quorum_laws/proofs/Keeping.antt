@@ -1,24 +1,16 @@
 -- Without any try: an age that starts with what the logs that are left make keeps all that was durable.
-use Rattle.std.proofs.Common.{◌≡◌, refl, ap, sym, ◌∙◌, subst, ℕ, ◌<◌, nat_lt, true, arith, List, [], ◌∷◌, ◌++◌, append-nil, take}
+use Rattle.std.proofs.Common.{◌≡◌, refl, ap, sym, ◌∙◌, subst, ℕ, ◌<◌, List, [], ◌∷◌, ◌++◌, append-nil, take}
 use Rattle.std.proofs.lemmas.Option.{none-some}
 use Rattle.dr_entry.specs.declared.entry.Entry.{Entry}
 use Rattle.dr_history.specs.{History.IsPrefixOf, Restarting.Kept, Soundness.whole_roster}
-use Rattle.dr_history.{specs.declared.opening.Opening.Opening, proofs.Bits.has_ones}
-use Rattle.dr_machine.specs.{Group.{Group, IsGroup, roster}, Run.accounts_in, World.World}
-use Rattle.dr_machine.proofs.Presence.{in_roster}
+use Rattle.dr_history.specs.declared.opening.Opening.{Opening}
+use Rattle.dr_machine.{specs.{Group.{Group, IsGroup}, Run.accounts_in, World.World}, proofs.Presence.present-part}
 use Rattle.dr_restart.specs.{Choosing.{IsChosenStart, of_set}, Left.AreLeft, declared.lists.Attempt.Attempt}
 use Rattle.dr_restart.specs.declared.{lists.LogLists.LogLists, start.Start.Start}
-use Rattle.dr_words.specs.Masks.{IsMajorityOf, IsPartOf}
+use Rattle.dr_words.specs.Masks.{IsMajorityOf}
 use Rattle.dr_world_laws.proofs.Worlds.{Known}
 use Rattle.dr_quorum_laws.specs.Holding.{AreTheirViews, HoldSince, IsKeptBy, IsLongestHistory}
 use Rattle.dr_quorum_laws.proofs.{Beginning.left-held, Chosen.chosen-keeps, Handing.Since}
-
--- who is there is of the roster
-pub present-part : (g : Group) → IsGroup g → IsPartOf g.opening.present (whole_roster g.opening)
-present-part g is i there = has_ones (roster g) i ∙ by (in_roster g i is there)
-  where
-    by : i < roster g → nat_lt i (roster g) ≡ true
-    by l = grind (arith, l)
 
 -- what is known before any try, and after some
 pub since-held : (g : Group) (w : World) (choice logs : List LogLists) (tries : List Attempt) → IsGroup g

@@ -2,31 +2,29 @@
 -- age is left.
 use Rattle.std.proofs.Common.{◌≡◌, refl, ap, sym, ◌∙◌, ◌⊎◌, inl, inr, subst, ℕ, ◌<◌, ◌≤◌, arith, true, List, [], ◌∷◌, ◌++◌, length, length-take, take, drop, Contains, Some, slice_get, append-nil, append_assoc, take-append-drop}
 use Rattle.std.proofs.lemmas.Option.{none-some}
-use Rattle.dr_entry.specs.declared.entry.Entry.{Entry, TheVariants.View}
+use Rattle.dr_entry.{specs.declared.entry.Entry.{Entry, TheVariants.View}, proofs.ListFacts.last-of}
+use Rattle.dr_entry.proofs.ListPlaces.{slice_get-seam, slice_get-some}
 use Rattle.dr_history.specs.{History.IsPrefixOf, Members.has, Order.first_entries, Restarting.{AllStand, AreAlong}}
 use Rattle.dr_history.specs.{Soundness.whole_roster, declared.opening.Opening.Opening}
-use Rattle.dr_history_laws.proofs.{Keeping.{prefix_beside, prefix_then}, Lists.{slice_get-seam, slice_get-some}}
-use Rattle.dr_history_laws.proofs.{Parts.both_along, Standing.all-by}
-use Rattle.dr_machine.specs.{Group.{Group, IsGroup, IsPresent}, Run.IsReached, World.World}
-use Rattle.dr_machine.proofs.Presence.{in_roster}
+use Rattle.dr_history.proofs.{Keeping.{prefix_beside, both_along}, LastViews.{last-view, view-come, view-late}}
+use Rattle.dr_history.proofs.{Lists.{prefix-in, prefix_more, prefix-trans}, Standing.all-by}
+use Rattle.dr_machine.{specs.{Group.{Group, IsGroup, IsPresent}, Run.IsReached, World.World}, proofs.Ends.first-in}
+use Rattle.dr_machine.proofs.{Groups.somebody-there, Presence.{in_roster, present-part}}
 use Rattle.dr_restart.specs.Choosing.{AreOfHolders, EndsInAge, IsChosenStart, IsLastAge, of_set}
 use Rattle.dr_restart.specs.{Groups.{first_group_of, group_of}, Left.{AreLeft, IsLeftByOther}}
 use Rattle.dr_restart.specs.Refusing.{AreHoldersAlong, IsRefusedFor, Refusal, Refusal.AgesUsedUp}
 use Rattle.dr_restart.specs.{Trying.{IsTry, first_view_of}, declared.lists.{Attempt.Attempt, LogLists.LogLists}}
-use Rattle.dr_restart.specs.declared.start.Start.{Start}
+use Rattle.dr_restart.{specs.declared.start.Start.Start, proofs.ByMessages.start-by-messages}
+use Rattle.dr_restart.proofs.{Handing.{log-of_set, set-log}, Trying.try_by}
 use Rattle.dr_script.specs.{Ranges.HasGroupRanges, declared.script.Script.Script}
 use Rattle.dr_words.specs.Masks.{IsMajorityOf}
-use Rattle.dr_world_laws.proofs.Worlds.{known}
+use Rattle.dr_world_laws.proofs.{Ended.{durable-delivered, first-begins, first-durable}, Worlds.known}
 use Rattle.dr_quorum_laws.specs.Holding.{GoesOnFrom, IsKeptBy, IsOfAgeOrEarlier, IsOpenedTry}
-use Rattle.dr_quorum_laws.{specs.Lasting.{AreDurableIn, AreLasting, HoldSinceAge}, proofs.Tried.tried-held}
-use Rattle.dr_quorum_laws.proofs.{AllThere.holders-pass, Handing.{Since, first-there, log-of_set, set-log}}
+use Rattle.dr_quorum_laws.{specs.Lasting.{AreDurableIn, AreLasting, HoldSinceAge}, proofs.AllThere.holders-pass}
 use Rattle.dr_quorum_laws.proofs.Alone.{EndInTry, age-of-try, alone-ends, alone-others, alone-stand, alone-tried, same-ends}
-use Rattle.dr_quorum_laws.proofs.{Beginning.somebody-there, Missing.{held-stand, left-votes, tried-votes, try-sound}}
-use Rattle.dr_quorum_laws.proofs.{ByMessages.start-by-messages, Chosen.{chosen-keeps, history-none, start-holder}}
-use Rattle.dr_quorum_laws.proofs.{Ended.{durable-delivered, first-begins, first-durable, first-in}, Grown.ages-below}
-use Rattle.dr_quorum_laws.proofs.Keeping.{present-part, since-held, since-left}
-use Rattle.dr_quorum_laws.proofs.LastViews.{last-view, view-come, view-late}
-use Rattle.dr_quorum_laws.proofs.Lists.{last-of, prefix-in, prefix-more}
+use Rattle.dr_quorum_laws.proofs.{Chosen.{chosen-keeps, history-none, start-holder}, Grown.ages-below}
+use Rattle.dr_quorum_laws.proofs.{Handing.{Since, first-there}, Keeping.{since-held, since-left}}
+use Rattle.dr_quorum_laws.proofs.{Missing.{held-stand, left-votes, tried-votes, try-sound}, Tried.tried-held}
 
 -- ---- logs that hold since an age
 
@@ -125,14 +123,14 @@ on-start g w choice logs tries set m start log es s c there handed on starts =
     ))
     both p same (inr q) =
         let holder : EndsInAge log h.age = subst (EndsInAge log) (q.1 ∙ sym same) mine.1 in
-        prefix_then es log.entries h.held.1.entries on
+        prefix-trans es log.entries h.held.1.entries on
         (prefix_beside log.entries h.held.1.entries s.held.history q.0 p
         (omega (arith, h.longest log.entries (m, log, handed, holder, refl), ap length h.held.4)))
 
     by : EndInTry tries h.held.1.entries
         ⊎ (IsPrefixOf h.held.1.entries s.held.history × (h.age ≡ g.opening.age)) → IsPrefixOf es h.held.1.entries
     by (inl t) = subst (IsPrefixOf es) (sym t.2)
-        (prefix-more es t.0.start.entries (first_view_of t.0.start ∷ []) (starts t.0 t.1))
+        (prefix_more es t.0.start.entries (first_view_of t.0.start ∷ []) (starts t.0 t.1))
     by (inr p) = both p.0 p.1 (held-ends g w choice logs tries s m mine.0 log at mine.1 mine.2)
 
 -- ---- of a script
@@ -143,21 +141,6 @@ pub since-of : (script : Script) (start : Start) (w : World) (logs : List LogLis
 since-of script start w logs h =
     let g = group_of script start in
     since-held g w h.choice logs h.tries h.group (known g w h.group h.reached) h.majority h.left h.held
-
--- a try goes by the messages alone
-pub try_by : (o p : Opening) (before after : List LogLists) (try : Attempt) → o.messages ≡ p.messages
-    → IsTry o before after try → IsTry p before after try
-try_by o p before after try same t = record {
-  choice = start-by-messages o p (of_set before try.set) try.start same t.choice;
-  set = t.set;
-  places = t.places;
-  others = t.others;
-  votes = t.votes;
-  opened = t.opened;
-  unopened = t.unopened;
-  waits = t.waits;
-  brought = t.brought;
-}
 
 pub since-tried : (script : Script) (start : Start) (w : World) (before after : List LogLists) (try : Attempt)
     → HoldSinceAge script start w before → IsTry (first_group_of script).opening before after try
@@ -204,8 +187,8 @@ start-durable g w es is run most p =
     let i = somebody-there g (present-part g is) most in (
       i.0,
       i.1,
-      prefix_then es (first_entries g.opening) (take (w.past.durable i.0) (w.past.history i.0))
-          (prefix-more es g.opening.start (View g.opening.age 0 g.opening.members ∷ []) p)
+      prefix-trans es (first_entries g.opening) (take (w.past.durable i.0) (w.past.history i.0))
+          (prefix_more es g.opening.start (View g.opening.age 0 g.opening.members ∷ []) p)
           (prefix_beside (first_entries g.opening) (take (w.past.durable i.0) (w.past.history i.0)) (w.past.history i.0)
           (first-begins g w i.0 is y i.1)
           (drop (w.past.durable i.0) (w.past.history i.0), take-append-drop (w.past.durable i.0) (w.past.history i.0))
@@ -255,8 +238,8 @@ pub last-kept : (script : Script) (es : List Entry) (logs : List LogLists) (set 
     → AreLasting script es logs → IsChosenStart (first_group_of script).opening (of_set logs set) start
     → IsPrefixOf es start.entries
 last-kept script es logs set start (inl (earlier, w, h, (m, there, durable))) c =
-    prefix_then es (take (w.past.durable m) (w.past.history m)) start.entries durable
-    (prefix_then (take (w.past.durable m) (w.past.history m)) kept.keeps.front start.entries
+    prefix-trans es (take (w.past.durable m) (w.past.history m)) start.entries durable
+    (prefix-trans (take (w.past.durable m) (w.past.history m)) kept.keeps.front start.entries
     (kept.keeps.durable m there) (kept.keeps.goes.views, sym kept.keeps.goes.is))
   where
     s : Since (group_of script earlier) w h.choice h.tries logs

@@ -1,7 +1,6 @@
 pub mod AllThere
 pub mod Alone
 pub mod Beginning
-pub mod ByMessages
 pub mod Chosen
 pub mod Ended
 pub mod Extra
@@ -9,12 +8,8 @@ pub mod Grown
 pub mod Handing
 pub mod Keeping
 pub mod Lasting
-pub mod LastViews
-pub mod Lists
-pub mod Longest
 pub mod Missing
 mod OneValue
 mod Paths
-pub mod Refusals
 pub mod Sounding
 pub mod Tried

@@ -1,19 +1,18 @@
 -- Logs that hold have nothing foreign, and those that a further try lacks are of ages before it.
-use Rattle.std.proofs.Common.{◌≡◌, refl, ap, sym, ◌∙◌, ◌⊎◌, inl, inr, subst, ℕ, ◌+◌, ◌-◌, ◌<◌, ◌≤◌, arith, Bool, true, false, List, [], ◌∷◌, ◌++◌, length, length-append, length-take, take, drop, Contains, Some, slice_get, append_assoc, take-append-drop, take_at}
+use Rattle.std.proofs.Common.{◌≡◌, refl, ap, sym, ◌∙◌, ◌⊎◌, inl, inr, subst, ℕ, ◌+◌, ◌-◌, ◌<◌, ◌≤◌, arith, Bool, true, false, List, [], ◌∷◌, ◌++◌, length, length-append, length-take, take, drop, Contains, Some, slice_get, append_assoc, take_at}
 use Rattle.std.proofs.lemmas.{Bool.cases_lt, Option.{same_Some, slice_get_within}}
 use Rattle.dr_entry.specs.declared.entry.Entry.{Entry}
-use Rattle.dr_history.specs.{Members.has, Restarting.AllStand, Soundness.{MayStand, Sound}}
-use Rattle.dr_history.specs.declared.opening.Opening.{Opening}
-use Rattle.dr_history_laws.proofs.Lists.{slice_get-left, slice_get-push_cases, slice_get-seam, slice_get-some, take-next, take-prefix}
-use Rattle.dr_history_laws.proofs.Standing.{all-by, part-stands}
+use Rattle.dr_entry.proofs.ListPlaces.{slice_get-left, slice_get-push_cases, slice_get-seam, slice_get-some, around}
+use Rattle.dr_history.{specs.{Members.has, declared.opening.Opening.Opening}, proofs.Standing.{all-by, part-stands}}
+use Rattle.dr_history.{specs.{Restarting.AllStand, Soundness.{MayStand, Sound}}, proofs.Lists.take-prefix}
 use Rattle.dr_machine.specs.{Group.{Group, IsGroup}, World.World}
 use Rattle.dr_restart.specs.{Groups.group_of, Left.{AreLeft, IsLeftByOther}, Trying.{IsTry, first_view_of, opened_by}}
 use Rattle.dr_restart.specs.declared.{lists.{Attempt.Attempt, LogLists.LogLists}, start.Start.Start}
+use Rattle.dr_restart.proofs.Sounding.{choice-sound}
 use Rattle.dr_script.specs.declared.script.Script.{Script}
-use Rattle.dr_world_laws.proofs.Worlds.{Known}
+use Rattle.dr_world_laws.proofs.{Ended.stands, Worlds.Known}
 use Rattle.dr_quorum_laws.specs.Holding.{AreSoundTries, GoesOnFrom, HaveNoLaterVotes, HoldSince, IsKeptBy, IsOfAgeOrEarlier, IsOpenedTry}
-use Rattle.dr_quorum_laws.proofs.{Chosen.chosen-keeps, Ended.stands, Grown.ages-below, Handing.Since}
-use Rattle.dr_quorum_laws.proofs.Sounding.{choice-sound}
+use Rattle.dr_quorum_laws.proofs.{Chosen.chosen-keeps, Grown.ages-below, Handing.Since}
 
 -- ---- the starts of tries
 
@@ -28,12 +27,6 @@ try-sound o before after tries try sounds t k one at = by (slice_get-push_cases 
         (choice-sound o _ try.start t.choice)
 
 -- ---- what holds may stand
-
--- a list around one of its elements
-pub around : {X : Type 0} (xs : List X) (k : ℕ) (x : X) → slice_get xs k ≡ Some x
-    → xs ≡ take k xs ++ x ∷ drop (k + 1) xs
-around xs k x at = sym (take-append-drop (k + 1) xs)
-    ∙ (ap (λ l. l ++ drop (k + 1) xs) (take-next xs k x at) ∙ append_assoc (take k xs) (x ∷ []) (drop (k + 1) xs))
 
 -- entries that go on from a front of the history with Views of opened tries
 goes-stand : (g : Group) (w : World) (choice logs : List LogLists) (tries : List Attempt) (m : ℕ)

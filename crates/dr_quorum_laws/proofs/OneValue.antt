@@ -1,39 +1,21 @@
 -- All votes that were left are of one world: that in which each member has logged the vote that it may have
 -- begun to log. So they agree on one value.
-use Rattle.std.specs.Option.{option_map_or}
-use Rattle.std.proofs.Common.{◌≡◌, ◌≢◌, refl, ap, sym, ◌∙◌, ◌⊎◌, inl, inr, subst, ℕ, zero, suc, ◌<◌, ◌≤◌, ◌==◌, arith, Bool, true, false, List, [], Contains, Option, None, Some, slice_get}
-use Rattle.std.proofs.lemmas.{Bool.cases_lt, List.Elements.Contains-push_cases, Option.{none-some, slice_get_within}}
+use Rattle.std.proofs.Common.{◌≡◌, refl, ap, sym, ◌∙◌, ◌⊎◌, inl, inr, subst, ℕ, zero, suc, ◌<◌, ◌≤◌, arith, Bool, true, false, List, Some}
+use Rattle.std.proofs.lemmas.{Bool.cases_lt, Option.slice_get_within}
 use Rattle.dr_entry.specs.declared.record.{Value.Value, Vote.Vote}
-use Rattle.dr_faithful.{specs.Chosen.{AreChosen, Values, views_by}, proofs.Writes.at_other}
+use Rattle.dr_faithful.specs.Chosen.{AreChosen, Values, views_by}
 use Rattle.dr_history.specs.Members.{has}
-use Rattle.dr_machine.specs.{Effects.{logs_vote, vote_for}, Group.{Group, IsGroup, IsPresent, roster}}
-use Rattle.dr_machine.specs.{Guards.CanLogVote, Votes.{HasLogged, IsOf, MajorityHas}, World.World}
-use Rattle.dr_machine.specs.declared.event.Event.TheVariants.{LogVote}
-use Rattle.dr_restart.specs.Left.{AreLeft, AreLeftOf, MayLogVote, votes_of_age, votes_on_logs, without_ends}
-use Rattle.dr_restart.specs.declared.lists.LogLists.{LogLists}
-use Rattle.dr_vote_laws.{specs.Voting.HaveVotedFor, proofs.Logs.{logged_new, logged_stays}}
-use Rattle.dr_vote_laws.proofs.Values.{majority_stays, same_ballot}
-use Rattle.dr_world_laws.{specs.Views.HasView, proofs.{HeldViews.view-is, Reached.event-known, Telling.has-present}}
-use Rattle.dr_world_laws.proofs.Worlds.{Known, commits}
+use Rattle.dr_machine.{specs.{Effects.{logs_vote, vote_for}, Guards.CanLogVote}, proofs.Worlds.vote-apart}
+use Rattle.dr_machine.{specs.{Group.{Group, IsGroup, roster}, World.World}, proofs.Voting.{logged_new, logged_stays}}
+use Rattle.dr_machine.specs.{Votes.{HasLogged, IsOf, MajorityHas}, declared.event.Event.TheVariants.LogVote}
+use Rattle.dr_restart.specs.Left.{AreLeft, MayLogVote, votes_on_logs, without_ends}
+use Rattle.dr_restart.{specs.declared.lists.LogLists.LogLists, proofs.Handing.{logged-left, was-left}}
+use Rattle.dr_restart.proofs.LeftVotes.{absent-none, one-left, vote-left, left-on}
+use Rattle.dr_vote_laws.{specs.Voting.HaveVotedFor, proofs.Values.{majority_stays, same_ballot}}
+use Rattle.dr_world_laws.{specs.Views.HasView, proofs.{Ended.view-present, HeldViews.view-is, Reached.event-known}}
+use Rattle.dr_world_laws.proofs.{Telling.has-present, Worlds.{Known, commits}}
 use Rattle.dr_world_laws.proofs.Reached as worlds
-use Rattle.dr_quorum_laws.proofs.{Ended.view-present, Extra.endless-known, Handing.{logged-left, was-left}}
-use Rattle.dr_quorum_laws.proofs.Lists.{filter-in, in-filter, in-nothing, in-read, read-in}
-
--- a vote of one member takes no vote from another
-vote-apart : (g : Group) (u : World) (m n : ℕ) (v z : Value) → m ≢ n → CanLogVote g u m v
-    → CanLogVote g (logs_vote g u n z) m v
-vote-apart g u m n v z apart can = record {
-  may = record {
-    alive = record { present = can.may.alive.present; running = can.may.alive.running };
-    idle = at_other u.pending n (Some (vote_for g u n z)) m apart ∙ can.may.idle;
-    inside = can.may.inside;
-  };
-  wedged = can.wedged;
-  uncommitted = can.uncommitted;
-  logged = can.logged;
-  whole = can.whole;
-  allowed = can.allowed;
-}
+use Rattle.dr_quorum_laws.proofs.Extra.{endless-known}
 
 -- a world in which the members below a number have logged what they may have begun to log
 record HaveLogged (g : Group) (values : Values) (w : World) (logs : List LogLists) (n : ℕ) : Type 0 where
@@ -44,89 +26,6 @@ record HaveLogged (g : Group) (values : Values) (w : World) (logs : List LogList
   may : (i : ℕ) (v : Value) → n ≤ i → CanLogVote g (without_ends w) i v → CanLogVote g world i v
   same : (i : ℕ) (v : Value) → vote_for g world i v ≡ vote_for g w i v
   before : (i : ℕ) (x : Vote) → HasLogged w.past.votes i x → HasLogged world.past.votes i x
-
--- a vote that was left is one of the age on the log
-vote-left : (g : Group) (logs : List LogLists) (i : ℕ) (x : Vote) → HasLogged (votes_on_logs g logs) i x
-    → (log : LogLists) × (slice_get logs i ≡ Some log) × Contains log.votes x × (x.age ≡ g.opening.age)
-vote-left g logs i x h = by (slice_get logs i) refl (in-read (votes_on_logs g logs i) h.0 x h.1)
-  where
-    equal : (a b : ℕ) → (a == b) ≡ true → a ≡ b
-    equal a b e = grind (arith, e)
-
-    by : (o : Option LogLists) → slice_get logs i ≡ o
-        → Contains (option_map_or (λ log. votes_of_age g.opening.age log.votes) (slice_get logs i) []) x
-        → (log : LogLists) × (slice_get logs i ≡ Some log) × Contains log.votes x × (x.age ≡ g.opening.age)
-    by None e c = absurd (in-nothing x (subst
-        (λ o. Contains (option_map_or (λ log. votes_of_age g.opening.age log.votes) o []) x) e c))
-    by (Some log) e c =
-        let t = filter-in (λ z. z.age == g.opening.age) log.votes x (subst
-        (λ o. Contains (option_map_or (λ log. votes_of_age g.opening.age log.votes) o []) x) e c) in
-        (log, e, t.0, equal x.age g.opening.age t.1)
-
--- and the other way round
-left-on : (g : Group) (logs : List LogLists) (i : ℕ) (log : LogLists) (x : Vote) → slice_get logs i ≡ Some log
-    → Contains log.votes x → x.age ≡ g.opening.age → HasLogged (votes_on_logs g logs) i x
-left-on g logs i log x at c e = read-in (votes_on_logs g logs i) x (subst
-    (λ o. Contains (option_map_or (λ l. votes_of_age g.opening.age l.votes) o []) x) (sym at)
-    (in-filter (λ z. z.age == g.opening.age) log.votes x (same x.age g.opening.age e) c))
-  where
-    same : (a b : ℕ) → a ≡ b → (a == b) ≡ true
-    same a b e = grind (arith, e)
-
--- a member that is not there has left none
-absent-none : (g : Group) (w : World) (logs : List LogLists) (i : ℕ) (x : Vote) → AreLeft g w logs
-    → ¬ IsPresent g i → HasLogged (votes_on_logs g logs) i x → ⊥
-absent-none g w logs i x left absent h =
-    let t = vote-left g logs i x h in omega (arith, (left.others i t.0 absent t.1).earlier.votes x t.2, t.3)
-
--- of a member, all such are one vote: the last one
-one-left : (g : Group) (w : World) (logs : List LogLists) (i : ℕ) → AreLeft g w logs
-    → IsPresent g i → ((x : Vote) → HasLogged (votes_on_logs g logs) i x → HasLogged w.past.votes i x) ⊎ ((z : Vote)
-    × MayLogVote g w i z × ((x : Vote) → HasLogged (votes_on_logs g logs) i x → HasLogged w.past.votes i x ⊎ (z ≡ x)))
-one-left g w logs i left there = by (was-left-log (slice_get logs i) refl)
-  where
-    none : slice_get logs i ≡ None → (x : Vote) → HasLogged (votes_on_logs g logs) i x → HasLogged w.past.votes i x
-    none e x h = let t = vote-left g logs i x h in absurd (none-some t.0 (sym e ∙ t.1))
-
-    was-left-log : (o : Option LogLists) → slice_get logs i ≡ o
-        → (slice_get logs i ≡ None) ⊎ ((log : LogLists) × (slice_get logs i ≡ Some log))
-    was-left-log None e = inl e
-    was-left-log (Some log) e = inr (log, e)
-
-    kinds : (log : LogLists) → slice_get logs i ≡ Some log
-        → AreLeftOf g w i log.entries (votes_of_age g.opening.age log.votes)
-        → ((x : Vote) → HasLogged (votes_on_logs g logs) i x → HasLogged w.past.votes i x)
-        ⊎ ((z : Vote) × MayLogVote g w i z
-        × ((x : Vote) → HasLogged (votes_on_logs g logs) i x → HasLogged w.past.votes i x ⊎ (z ≡ x)))
-    kinds log e left = of left
-      where
-        on : (x : Vote) → HasLogged (votes_on_logs g logs) i x → Contains (votes_of_age g.opening.age log.votes) x
-        on x h = subst (λ o. Contains (option_map_or (λ l. votes_of_age g.opening.age l.votes) o []) x) e
-            (in-read (votes_on_logs g logs i) h.0 x h.1)
-
-        of : AreLeftOf g w i log.entries (votes_of_age g.opening.age log.votes)
-            → ((x : Vote) → HasLogged (votes_on_logs g logs) i x → HasLogged w.past.votes i x)
-            ⊎ ((z : Vote) × MayLogVote g w i z
-            × ((x : Vote) → HasLogged (votes_on_logs g logs) i x → HasLogged w.past.votes i x ⊎ (z ≡ x)))
-        of (inl (entries, same)) = inl (λ x h. read-in (w.past.votes i) x (subst (λ l. Contains l x) same (on x h)))
-        of (inr (inl (entry, entries, p, same))) = inl (λ x h. read-in (w.past.votes i) x
-            (subst (λ l. Contains l x) same (on x h)))
-        of (inr (inr (z, entries, more, may))) = inr (
-          z,
-          may,
-          λ x h. last x z (Contains-push_cases (w.past.votes i) z x (subst (λ l. Contains l x) more (on x h))),
-        )
-          where
-            last : (x z : Vote) → Contains (w.past.votes i) x ⊎ (z ≡ x) → HasLogged w.past.votes i x ⊎ (z ≡ x)
-            last x z (inl c) = inl (read-in (w.past.votes i) x c)
-            last x z (inr e) = inr e
-
-    by : (slice_get logs i ≡ None) ⊎ ((log : LogLists) × (slice_get logs i ≡ Some log))
-        → ((x : Vote) → HasLogged (votes_on_logs g logs) i x → HasLogged w.past.votes i x)
-        ⊎ ((z : Vote) × MayLogVote g w i z
-        × ((x : Vote) → HasLogged (votes_on_logs g logs) i x → HasLogged w.past.votes i x ⊎ (z ≡ x)))
-    by (inl e) = inl (none e)
-    by (inr (log, e)) = kinds log e (left.members i log there e).left
 
 -- one member more
 next-logged : (g : Group) (values : Values) (w : World) (logs : List LogLists) (n : ℕ) → IsGroup g

@@ -1,48 +1,23 @@
 -- The path of views that the logs handed in name has every view that the histories of the age have.
-use Rattle.std.specs.Option.{option_map_or}
-use Rattle.std.proofs.Common.{◌≡◌, ◌≢◌, ◌⊎◌, inl, inr, ◌&&◌, not, Bool, false, refl, ap, sym, ◌∙◌, subst, ℕ, zero, suc, ◌+◌, ◌-◌, ◌^◌, ◌<◌, ◌≤◌, nat_lt, arith, true, List, [], Contains, filter, Option, None, Some, option_and_then, option_map, if◌then◌else◌}
-use Rattle.dr_entry.specs.declared.record.{Value.Value, Vote.Vote}
-use Rattle.dr_faithful.specs.Chosen.{views_by}
-use Rattle.dr_history.{specs.{Members.{has, members_of}, Order.IsNewIn}, proofs.Bits.{has_ones, has_zero}}
-use Rattle.dr_history.proofs.Masks.{same_masks}
-use Rattle.dr_history_laws.proofs.Members.{has-member, member-has}
+use Rattle.std.proofs.Common.{◌≡◌, ◌≢◌, ◌⊎◌, inl, inr, refl, ap, sym, ◌∙◌, subst, ℕ, zero, suc, ◌+◌, ◌-◌, ◌^◌, ◌<◌, ◌≤◌, nat_lt, arith, true, List, Contains, None, Some, option_and_then, option_map, if◌then◌else◌}
+use Rattle.dr_entry.{specs.declared.record.{Value.Value, Vote.Vote}, proofs.NumberFacts.below-last}
+use Rattle.dr_faithful.{specs.Chosen.views_by, proofs.ChosenViews.views-within}
+use Rattle.dr_history.{specs.{Members.has, Order.IsNewIn}, proofs.Bits.has_zero}
 use Rattle.dr_machine.specs.{Group.{Group, IsGroup, IsPresent, roster}, Votes.{HasLogged, IsOf, vote_in}, World.World}
 use Rattle.dr_machine.proofs.Presence.{in_roster}
 use Rattle.dr_restart.specs.Choosing.{HasQuorum, Handed, highest, names_next, next_on_path, next_votes, of_set, on_path}
 use Rattle.dr_restart.specs.{Left.IsLeftByMember, declared.lists.{Attempt.Attempt, LogLists.LogLists}}
+use Rattle.dr_restart.proofs.Choosing.{names_so, names_parts, vote-among, among-vote}
+use Rattle.dr_restart.proofs.Handing.{left-vote, logged-left, quorum-meets, set-log, was-left}
+use Rattle.dr_restart.proofs.Listed.{highest-in, highest-is}
 use Rattle.dr_vote_laws.{specs.Voting.{HaveVotedFor, IsCut}, proofs.Cuts.vote_cut}
 use Rattle.dr_words.{specs.Masks.{next_members, without}, proofs.Majorities.majorities_meet_lem}
-use Rattle.dr_words.proofs.Masks.{has_mask_of, has_next_members}
-use Rattle.dr_world_laws.{specs.Views.HasView, proofs.{ChosenViews.views-within, HeldViews.view-is}}
-use Rattle.dr_world_laws.proofs.{Telling.view-ended, Worlds.Known}
-use Rattle.dr_quorum_laws.proofs.{Ended.{first-view, view-before, view-present}, Extra.left-value}
-use Rattle.dr_quorum_laws.proofs.Handing.{Since, left-vote, logged-left, quorum-meets, set-log, was-left}
-use Rattle.dr_quorum_laws.proofs.Lists.{filter-in, flat_map-in, highest-in, highest-is, in-filter, in-flat_map, in-nothing, read-in}
+use Rattle.dr_words.proofs.Masks.{has_next_members, of-roster-alone}
+use Rattle.dr_world_laws.{specs.Views.HasView, proofs.Ended.{first-view, view-before, view-present}}
+use Rattle.dr_world_laws.proofs.{HeldViews.view-is, Telling.view-ended, Worlds.Known}
+use Rattle.dr_quorum_laws.proofs.{Extra.left-value, Handing.Since}
 
 -- ---- votes that name the next view
-
--- a mask with members below a number alone has none but those
-of-roster-alone : (n mask : ℕ) → ((i : ℕ) → has mask i ≡ true → i < n) → without mask (2 ^ n - 1) ≡ 0
-of-roster-alone n mask within = same_masks (without mask (2 ^ n - 1)) 0 (λ i. by i (has mask i) refl)
-  where
-    by : (i : ℕ) (b : Bool) → has mask i ≡ b → has (without mask (2 ^ n - 1)) i ≡ has 0 i
-    by i false e = grind (arith, e, has_mask_of (λ j. has mask j && not (has (2 ^ n - 1) j)) i, has_zero i)
-    by i true e = grind (
-      arith,
-      e,
-      within i e,
-      has_mask_of (λ j. has mask j && not (has (2 ^ n - 1) j)) i,
-      has_ones n i,
-      has_zero i,
-    )
-
-names_so : (n age v members : ℕ) (x : Vote) → x.age ≡ age → x.view ≡ v → x.members ≡ n → x.value.leavers ≢ 0
-    → without x.value.leavers (2 ^ n - 1) ≡ 0
-    → next_members members x.value.leavers ≢ 0 → names_next n age v members x ≡ true
-names_so n age v members x a b c d inside e = grind (arith, a, b, c, d, inside, e)
-
-names_parts : (n age v members : ℕ) (x : Vote) → names_next n age v members x ≡ true → (x.age ≡ age) × (x.view ≡ v)
-names_parts n age v members x e = grind (arith, e)
 
 -- a vote of a view names the next one: it names somebody, and somebody stays
 vote_names : (g : Group) (w : World) (i members : ℕ) (x : Vote) → IsGroup g → Known g w → HasView g w x.view members
@@ -87,38 +62,6 @@ vote_names g w i members x is y held h = names_so (roster g) g.opening.age x.vie
           ap (λ mask. has mask met.0) e,
           has_zero met.0,
         ))
-
--- ---- a vote among those on the logs handed in
-
-pub vote-among : (h : Handed) (n age v members i : ℕ) (log : LogLists) (x : Vote) → h i ≡ Some log
-    → has members i ≡ true → i < 16 → Contains log.votes x → names_next n age v members x ≡ true
-    → Contains (next_votes h n age v members) x
-vote-among h n age v members i log x handed there small c names =
-    in-flat_map (λ m. filter (names_next n age v members) (option_map_or (λ l. l.votes) (h m) []))
-    (members_of members) i x (has-member members i there small)
-    (in-filter (names_next n age v members) (option_map_or (λ l. l.votes) (h i) []) x names
-    (subst (λ o. Contains (option_map_or (λ l. l.votes) o []) x) (sym handed) c))
-
-pub among-vote : (h : Handed) (n age v members : ℕ) (x : Vote) → Contains (next_votes h n age v members) x
-    → (i : ℕ) × (log : LogLists) × (h i ≡ Some log) × (has members i ≡ true) × Contains log.votes x
-    × (names_next n age v members x ≡ true)
-among-vote h n age v members x c = by t.0 (h t.0) refl t.1 t.2
-  where
-    t : (m : ℕ) × Contains (members_of members) m
-        × Contains (filter (names_next n age v members) (option_map_or (λ l. l.votes) (h m) [])) x
-    t = flat_map-in (λ m. filter (names_next n age v members) (option_map_or (λ l. l.votes) (h m) []))
-        (members_of members) x c
-
-    by : (m : ℕ) (o : Option LogLists) → h m ≡ o → Contains (members_of members) m
-        → Contains (filter (names_next n age v members) (option_map_or (λ l. l.votes) (h m) [])) x
-        → (i : ℕ) × (log : LogLists) × (h i ≡ Some log) × (has members i ≡ true) × Contains log.votes x
-        × (names_next n age v members x ≡ true)
-    by m None e is there = absurd (in-nothing x (subst
-        (λ o. Contains (filter (names_next n age v members) (option_map_or (λ l. l.votes) o [])) x) e there))
-    by m (Some log) e is there =
-        let r = filter-in (names_next n age v members) log.votes x (subst
-        (λ o. Contains (filter (names_next n age v members) (option_map_or (λ l. l.votes) o [])) x) e there) in
-        let at = read-in (members_of members) m is in (m, log, e, member-has members at.0 m at.1, r.0, r.1)
 
 -- ---- the path
 
@@ -184,9 +127,6 @@ next_is g w choice logs tries set v members next s held after quorum = from top
         (omega (arith, l, one.2.0.by_ballot)) (left-vote g w a.0 t.0 y t.1 (subst (λ l. Contains l y) t.2 a.4) p.0) in
         ap (option_map (λ (x : Vote). next_members members x.value.leavers)) e
         ∙ ap (λ (x : Value). Some (next_members members x.leavers)) value ∙ ap Some (sym ended.3)
-
-below-last : (v : ℕ) → v + 1 < 32 → nat_lt v 255 ≡ true
-below-last v few = grind (arith, few)
 
 -- so each view of the histories is on the path, where of each view on it more than half has
 pub path-has : (g : Group) (w : World) (choice logs : List LogLists) (tries : List Attempt) (set v members : ℕ)

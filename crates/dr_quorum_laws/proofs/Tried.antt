@@ -1,21 +1,22 @@
 -- After a try the logs hold again, with the try at the end of the list.
 use Rattle.std.proofs.Common.{◌≡◌, ap, sym, ◌∙◌, ◌⊎◌, inl, inr, subst, ℕ, ◌<◌, ◌≤◌, arith, true, List, [], ◌∷◌, ◌++◌, length, take, Contains, Some, slice_get, append-nil, append_assoc, length-append, take_at}
 use Rattle.std.proofs.lemmas.{Bool.cases_lt, List.take-append-le, Option.none-some}
-use Rattle.dr_entry.specs.declared.entry.Entry.{Entry, TheVariants.View}
+use Rattle.dr_entry.{specs.declared.entry.Entry.{Entry, TheVariants.View}, proofs.ListFacts.split-last}
+use Rattle.dr_entry.proofs.{ListParts.in-split, ListPlaces.slice_get-push_cases}
 use Rattle.dr_history.specs.{History.IsPrefixOf, Order.first_entries, Restarting.AllStand, Soundness.whole_roster}
-use Rattle.dr_history_laws.proofs.Keeping.{prefix_beside, prefix_shorter, prefix_then}
-use Rattle.dr_history_laws.proofs.{Lists.{slice_get-prefix, slice_get-push_cases}, Standing.part-stands}
-use Rattle.dr_machine.specs.{Group.{Group, IsPresent}, World.World}
-use Rattle.dr_restart.specs.Choosing.{AreOfHolders, handed_of, of_set}
+use Rattle.dr_history.proofs.{Keeping.{prefix_beside, prefix_shorter, take-less}, LastViews.start-earlier}
+use Rattle.dr_history.proofs.Lists.{slice_get-prefix, prefix-in, prefix-split, prefix-trans, prefix_refl}
+use Rattle.dr_history.proofs.Standing.{part-stands}
+use Rattle.dr_machine.{specs.{Group.{Group, IsPresent}, World.World}, proofs.Ends.first-in}
+use Rattle.dr_restart.specs.{Choosing.{AreOfHolders, handed_of, of_set}, declared.lists.LogLists.LogLists}
 use Rattle.dr_restart.specs.{Trying.{HaveAgeVote, IsTry, age_vote_of, first_view_of}, declared.lists.Attempt.Attempt}
-use Rattle.dr_restart.specs.declared.{lists.LogLists.LogLists, start.Start.Start}
+use Rattle.dr_restart.{specs.declared.start.Start.Start, proofs.Handing.{handed-part, set-log}}
+use Rattle.dr_restart.proofs.Trying.{IsBroughtUp, entries-case, old-log, front_case, each-try}
 use Rattle.dr_words.specs.Masks.{IsMajorityOf, IsPartOf}
+use Rattle.dr_world_laws.proofs.Ended.{durable-delivered}
 use Rattle.dr_quorum_laws.specs.Holding.{GoesOnFrom, HoldSince, IsKeptBy, IsOfAgeOrEarlier, IsOpenedTry, KeepsDurable}
-use Rattle.dr_quorum_laws.proofs.{Beginning.take-less, Chosen.{chosen-keeps, start-holder}}
-use Rattle.dr_quorum_laws.proofs.Ended.{durable-delivered, durable-front, first-in}
-use Rattle.dr_quorum_laws.proofs.Grown.{IsBroughtUp, ages-below, entries-case, first-held, first-kept, goes-more, last-opened, more-opened, old-log, opened-cases}
-use Rattle.dr_quorum_laws.proofs.{Handing.{Since, handed-part, set-log}, LastViews.start-earlier}
-use Rattle.dr_quorum_laws.proofs.Lists.{in-split, prefix-in, prefix-itself, prefix-split, split-last}
+use Rattle.dr_quorum_laws.proofs.{Chosen.{chosen-keeps, start-holder}, Ended.durable-front, Handing.Since}
+use Rattle.dr_quorum_laws.proofs.Grown.{ages-below, first-held, first-kept, goes-more, last-opened, more-opened, opened-cases}
 
 -- ---- what a log begins with
 
@@ -23,36 +24,13 @@ use Rattle.dr_quorum_laws.proofs.Lists.{in-split, prefix-in, prefix-itself, pref
 durable-in : (g : Group) (w : World) (choice logs : List LogLists) (tries : List Attempt)
     (s : Since g w choice tries logs) (es : List Entry) → KeepsDurable g w s.held.history tries es
     → (k d : ℕ) → IsPresent g k → d ≤ w.past.durable k → IsPrefixOf (take d s.held.history) es
-durable-in g w choice logs tries s es keeps k d there l = prefix_then (take d s.held.history) keeps.front es
-    (prefix_then (take d s.held.history) (take (w.past.durable k) s.held.history) keeps.front
+durable-in g w choice logs tries s es keeps k d there l = prefix-trans (take d s.held.history) keeps.front es
+    (prefix-trans (take d s.held.history) (take (w.past.durable k) s.held.history) keeps.front
     (take-less d (w.past.durable k) s.held.history l) (subst (λ l. IsPrefixOf l keeps.front)
     (sym (durable-front g w s.held.history k s.group s.known s.held.longest there
     (durable-delivered g w k s.group s.known there))) (keeps.durable k there))) (keeps.goes.views, sym keeps.goes.is)
 
 -- ---- how the entries of a log have grown
-
--- the first ones of a start, and maybe its View
-pub front_case : (start : Start) (es : List Entry) → IsPrefixOf es (start.entries ++ first_view_of start ∷ [])
-    → IsPrefixOf es start.entries ⊎ (es ≡ start.entries ++ first_view_of start ∷ [])
-front_case start es p = by (prefix-split es start.entries (first_view_of start ∷ []) p)
-  where
-    one : (f : List Entry) → es ≡ start.entries ++ f → IsPrefixOf f (first_view_of start ∷ [])
-        → IsPrefixOf es start.entries ⊎ (es ≡ start.entries ++ first_view_of start ∷ [])
-    one [] e q = inl (subst (λ l. IsPrefixOf l start.entries) (sym (e ∙ append-nil start.entries))
-        (prefix-itself start.entries))
-    one (x ∷ []) e q = inr (e ∙ ap (λ y. start.entries ++ y ∷ []) (head x [] q.0 q.1))
-      where
-        head : (x : Entry) (xs ys : List Entry) → x ∷ (xs ++ ys) ≡ first_view_of start ∷ [] → x ≡ first_view_of start
-        head x xs ys h = cc
-    one (x ∷ (y ∷ f)) e q = absurd (none q.1)
-      where
-        none : x ∷ (y ∷ (f ++ q.0)) ≡ first_view_of start ∷ [] → ⊥
-        none h = absurd (omega (arith, ap length h))
-
-    by : IsPrefixOf es start.entries ⊎ ((f : List Entry) × (es ≡ start.entries ++ f) × IsPrefixOf f
-        (first_view_of start ∷ [])) → IsPrefixOf es start.entries ⊎ (es ≡ start.entries ++ first_view_of start ∷ [])
-    by (inl q) = inl q
-    by (inr t) = one t.0 t.1 t.2
 
 -- brought up, it still is of the age or of earlier ones
 brought-grown : (g : Group) (w : World) (choice before after : List LogLists)
@@ -82,7 +60,7 @@ brought-grown g w choice before after tries try s t kept m old new was votes up 
     whole : new.entries ≡ try.start.entries ++ first_view_of try.start ∷ []
         → IsOfAgeOrEarlier g s.held.history (tries ++ try ∷ []) new
     whole e = inl (
-      holds new.entries (prefix_then (first_entries g.opening) kept.keeps.front new.entries first
+      holds new.entries (prefix-trans (first_entries g.opening) kept.keeps.front new.entries first
           (goes.views ++ first_view_of try.start ∷ [], sym behind)),
       kept.keeps.front,
       record {
@@ -109,7 +87,7 @@ brought-grown g w choice before after tries try s t kept m old new was votes up 
         → IsOfAgeOrEarlier g s.held.history (tries ++ try ∷ []) new
     far p l = inl (
       holds new.entries (prefix_beside (first_entries g.opening) new.entries s.held.history
-          (prefix_then (first_entries g.opening) kept.keeps.front s.held.history first goes.delivered) p l),
+          (prefix-trans (first_entries g.opening) kept.keeps.front s.held.history first goes.delivered) p l),
       new.entries,
       record {
         views = [];
@@ -127,7 +105,7 @@ brought-grown g w choice before after tries try s t kept m old new was votes up 
       l,
       prefix_shorter (first_entries g.opening) new.entries (up.3 (first_entries g.opening)
           (first-held g w choice before tries s old.entries o.1 o.0.0 o.2 o.0.1)
-          (prefix_then (first_entries g.opening) kept.keeps.front try.start.entries first (goes.views, sym goes.is))),
+          (prefix-trans (first_entries g.opening) kept.keeps.front try.start.entries first (goes.views, sym goes.is))),
     ))
     early l p (inr o) = inr (
       part-stands g.opening new.entries g.opening.start part s.group.sound.entries,
@@ -141,14 +119,14 @@ brought-grown g w choice before after tries try s t kept m old new was votes up 
         part : IsPrefixOf new.entries g.opening.start
         part = short (prefix-split new.entries g.opening.start (View g.opening.age 0 g.opening.members ∷ [])
             (prefix_beside new.entries (first_entries g.opening) s.held.history p
-            (prefix_then (first_entries g.opening) kept.keeps.front s.held.history first goes.delivered)
+            (prefix-trans (first_entries g.opening) kept.keeps.front s.held.history first goes.delivered)
             (omega (arith, l))))
           where
             short : IsPrefixOf new.entries g.opening.start ⊎ ((f : List Entry) × (new.entries ≡ g.opening.start ++ f)
                 × IsPrefixOf f (View g.opening.age 0 g.opening.members ∷ [])) → IsPrefixOf new.entries g.opening.start
             short (inl q) = q
             short (inr ([], e, q)) = subst (λ es. IsPrefixOf es g.opening.start)
-                (sym (e ∙ append-nil g.opening.start)) (prefix-itself g.opening.start)
+                (sym (e ∙ append-nil g.opening.start)) (prefix_refl g.opening.start)
             short (inr (x ∷ f, e, q)) = absurd (omega (
               arith,
               l,
@@ -163,7 +141,7 @@ brought-grown g w choice before after tries try s t kept m old new was votes up 
     part (inl p) = case (cases_lt (length new.entries) (length (first_entries g.opening)))
       where
         q : IsPrefixOf new.entries s.held.history
-        q = prefix_then new.entries kept.keeps.front s.held.history p goes.delivered
+        q = prefix-trans new.entries kept.keeps.front s.held.history p goes.delivered
 
         case : (length new.entries < length (first_entries g.opening))
             ⊎ (length (first_entries g.opening) ≤ length new.entries)
@@ -171,7 +149,7 @@ brought-grown g w choice before after tries try s t kept m old new was votes up 
         case (inl l) = early l q (s.held.grown m old was)
         case (inr l) = far q l
     part (inr (f, e, p)) = inl (
-      holds new.entries (prefix_then (first_entries g.opening) kept.keeps.front new.entries first (f, sym e)),
+      holds new.entries (prefix-trans (first_entries g.opening) kept.keeps.front new.entries first (f, sym e)),
       kept.keeps.front,
       record {
         views = f;
@@ -279,13 +257,6 @@ kept-before g w history tries try one k old new (inl (l, at)) =
 kept-before g w history tries try one k old new (inr (l, same)) =
     subst (λ ts. KeepsDurable g w history ts one.start.entries) (sym (take_at tries (try ∷ []) k (sym l)))
     (subst (λ (a : Attempt). KeepsDurable g w history tries a.start.entries) same new)
-
--- what is so of each try before and of the new one is so of each
-pub each-try : (P : Attempt → Type 0) (tries : List Attempt) (try one : Attempt) (k : ℕ)
-    → ((k : ℕ) (one : Attempt) → slice_get tries k ≡ Some one → P one) → P try
-    → ((k < length tries) × (slice_get tries k ≡ Some one)) ⊎ ((k ≡ length tries) × (try ≡ one)) → P one
-each-try P tries try one k old new (inl (l, at)) = old k one at
-each-try P tries try one k old new (inr (l, same)) = subst P same new
 
 pub tried-held : (g : Group) (w : World) (choice before after : List LogLists) (tries : List Attempt)
     (try : Attempt) → Since g w choice tries before → IsTry g.opening before after try

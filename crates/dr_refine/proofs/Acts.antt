@@ -1,27 +1,20 @@
 -- What beats, deliveries, appends, publications, reports, marks and ends make of the world.
-use Rattle.std.{specs.Prelude.{Some, nat_lt, Option}, proofs.Math.{Path.fun_ext, Seq.take-append-add}}
-use Rattle.std.proofs.Common.{◌≡◌, refl, sym, ap, ◌∙◌, ℕ, ◌+◌, ◌-◌, ◌/◌, ◌%◌, ◌^◌, ◌<◌, ◌≤◌, ◌==◌, true, min, if◌then◌else◌, List, ◌++◌, length, map, fold, take, drop, slice_index, arith}
-use Rattle.std.proofs.lemmas.{Bool.Decides.nat_tests, List.{take-append-drop, take-append-le, length-take-le}}
-use Rattle.dr_entry.specs.declared.{end.End.End, entry.{Entry.Entry, Item.{Item, TheVariants.Null}}}
-use Rattle.dr_entry.proofs.NumberFacts.{same_number, other_number}
+use Rattle.std.{specs.Prelude.Option, proofs.{Math.Path.fun_ext, lemmas.List.{take-append-le, length-take-le}}}
+use Rattle.std.proofs.Common.{◌≡◌, refl, sym, ap, ◌∙◌, ℕ, ◌+◌, ◌-◌, ◌%◌, ◌^◌, ◌<◌, min, List, ◌++◌, length, map, fold, arith}
+use Rattle.dr_entry.{specs.declared.end.End.End, proofs.{Entries.next_front, Items.item_shown}}
 use Rattle.dr_history.specs.Members.{members_of}
-use Rattle.dr_words.specs.declared.column.TheConstants.{LOGGED_COLUMN, DONE_COLUMN}
-use Rattle.dr_machine.specs.Effects.{one_more, entries_of, stamped, beats, delivers, appends, publishes, reports, marks}
-use Rattle.dr_machine.specs.{Group.{Group, roster}, World.World}
+use Rattle.dr_words.{specs.declared.column.TheConstants.{LOGGED_COLUMN, DONE_COLUMN}, proofs.Masks.member_below}
+use Rattle.dr_machine.specs.Effects.{entries_of, stamped, beats, delivers, appends, publishes, reports, marks}
+use Rattle.dr_machine.specs.Group.{Group, roster}
 use Rattle.dr_machine.specs.Effects as effects
+use Rattle.dr_faithful.proofs.Copies.{fits_own}
 use Rattle.dr_program.specs.{Presence.with_present, Reading.{Shared, world_of}}
 use Rattle.dr_program.specs.Replica.{Replica, item_of_place, sender_of_place, least_seen, acted, beaten, delivered, appended, published, reported, marked, ended}
-use Rattle.dr_program.proofs.{Holdings.{Holding, held, holding_of, held_of, Changes}, Present.present_within}
-use Rattle.dr_refine.{specs.Programs.{IsMember, acted_table}, proofs.Views.member_below}
-use Rattle.dr_refine.proofs.Members.{fits, fits_own, replaced, own_world, then_acted, shown_word}
+use Rattle.dr_program.proofs.Holdings.{holding_of, held_of, replaced, beat_after, beat_changes, end_after, end_changes, deliver_after, deliver_changes, append_after, append_changes, report_after, report_changes}
+use Rattle.dr_program.proofs.{Present.present_within, Replicas.shown_word}
+use Rattle.dr_refine.{specs.Programs.{IsMember, acted_table}, proofs.Members.{fits, own_world, then_acted}}
 
 -- ---- a turn begins
-
-abbrev beat_after : Holding → Holding
-beat_after h = record h { turns = one_more 32 h.turns }
-
-beat_changes : (w : World) (m : ℕ) → Changes w (beats w m) m (beat_after (held w m))
-beat_changes w m = record { others = λ k other. rw (other_number k m other) refl; here = rw (same_number m) refl }
 
 -- a turn begins
 pub beat_effect : (g : Group) (rs : List (Option Replica)) (table : Shared) (m : ℕ) (r : Replica)
@@ -33,12 +26,6 @@ beat_effect g rs table m r is = then_acted g rs table m (beaten r) (beats (world
 
 -- ---- ends
 
-abbrev end_after : End → Holding → Holding
-end_after end h = record h { end = Some end }
-
-end_changes : (w : World) (m : ℕ) (end : End) → Changes w (effects.ends w m end) m (end_after end (held w m))
-end_changes w m end = record { others = λ k other. rw (other_number k m other) refl; here = rw (same_number m) refl }
-
 -- a member ends
 pub end_effect : (g : Group) (rs : List (Option Replica)) (table : Shared) (m : ℕ) (r : Replica) (end : End)
     → IsMember g rs table m r → world_of g (with_present rs m (acted (ended r end))) (acted_table g table m r)
@@ -49,19 +36,6 @@ end_effect g rs table m r end is = then_acted g rs table m (ended r end) (effect
     (end_after end) is.there (end_changes (world_of g rs table) m end) refl refl refl)
 
 -- ---- a delivery
-
-abbrev deliver_after : Holding → Holding
-deliver_after h =
-    let ms = members_of h.members in
-    let s = slice_index ms (h.next % length ms) in
-    record h { history = h.history ++ entries_of h.history s (h.item s (h.next / length ms)); next = h.next + 1 }
-
-deliver_changes : (w : World) (m : ℕ) → Changes w (delivers w m) m (deliver_after (held w m))
-deliver_changes w m = record { others = λ k other. rw (other_number k m other) refl; here = rw (same_number m) refl }
-
-pub item_shown : (n s : ℕ) (x : Item) → s < n → (if nat_lt s n then x else Null) ≡ x
-item_shown n s x within =
-    let test : nat_lt s n ≡ true = grind (arith, nat_tests, within) in rw test refl
 
 -- a place is delivered
 pub deliver_effect : (g : Group) (rs : List (Option Replica)) (table : Shared) (m : ℕ) (r : Replica)
@@ -81,20 +55,6 @@ deliver_effect g rs table m r is =
     { history = r.history ++ entries_of r.history s (item z); next = r.next + 1; log = sym log z }) refl refl)
 
 -- ---- an append
-
-abbrev append_after : Holding → Holding
-append_after h = record h { log = h.log ++ take 1 (drop (length h.log) h.history) }
-
-append_changes : (w : World) (m : ℕ) → Changes w (appends w m) m (append_after (held w m))
-append_changes w m = record { others = λ k other. rw (other_number k m other) refl; here = rw (same_number m) refl }
-
--- a front of a list and the next element are the next front
-next_front : (xs : List Entry) (n : ℕ) → n ≤ length xs → take n xs
-    ++ take 1 (drop (length (take n xs)) xs) ≡ take (n + 1) xs
-next_front xs n within =
-    let len = length-take-le n xs within in
-    ap (λ k. take n xs ++ take 1 (drop k xs)) len ∙ sym (take-append-add (take n xs) (drop n xs) 1)
-    ∙ ap (take (length (take n xs) + 1)) (take-append-drop n xs) ∙ ap (λ k. take (k + 1) xs) len
 
 -- an entry goes on the log
 pub append_effect : (g : Group) (rs : List (Option Replica)) (table : Shared) (m : ℕ) (r : Replica)
@@ -130,15 +90,6 @@ mark_effect g rs table m r is =
     (own_world g rs table m r DONE_COLUMN 1 is.there f (omega arith))
 
 -- ---- a report
-
-abbrev report_after : ℕ → Holding → Holding
-report_after m h = record h {
-  durable = fold min (2 ^ 64 - 1)
-      (map (λ i. if i == m then h.own h.view LOGGED_COLUMN else h.seen i LOGGED_COLUMN) (members_of h.members));
-}
-
-report_changes : (w : World) (m : ℕ) → Changes w (reports w m) m (report_after m (held w m))
-report_changes w m = record { others = λ k other. rw (other_number k m other) refl; here = rw (same_number m) refl }
 
 -- more is known to be durable
 pub report_effect : (g : Group) (rs : List (Option Replica)) (table : Shared) (m : ℕ) (r : Replica)

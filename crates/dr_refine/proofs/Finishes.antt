@@ -1,28 +1,28 @@
 -- A member that ends its view: when it may, and what it makes of the world.
 use Rattle.std.specs.{List.list_all, Prelude.{Option, None, Some, nat_lt, unwrap_or}}
-use Rattle.std.proofs.Common.{◌≡◌, ◌≢◌, refl, sym, ap, ◌∙◌, ◌↔◌, subst, ℕ, zero, suc, ◌+◌, ◌*◌, ◌/◌, ◌%◌, ◌<◌, ◌≤◌, ◌==◌, inl, inr, not, Bool, true, false, if◌then◌else◌, List, [], ◌∷◌, ◌++◌, length, map, fold, take, slice_index, slice_index_or, arith, set-set}
+use Rattle.std.proofs.Common.{◌≡◌, ◌≢◌, refl, sym, ap, ◌∙◌, ◌↔◌, subst, ℕ, ◌+◌, ◌*◌, ◌%◌, ◌<◌, ◌≤◌, ◌==◌, inl, inr, not, Bool, true, false, if◌then◌else◌, List, [], ◌∷◌, ◌++◌, length, map, fold, take, slice_index, slice_index_or, arith, set-set}
 use Rattle.std.proofs.{Math.Path.fun_ext, lemmas.Bool.{and_from, and_parts, cases_eq, Decides.nat_tests}}
 use Rattle.std.proofs.lemmas.{List.{get_or_past, length-take-le, take-append-le}, Option.none-some}
-use Rattle.dr_entry.specs.declared.entry.{Entry.{Entry, TheVariants.View}, Item.{Item, TheVariants.Null}}
-use Rattle.dr_entry.{specs.declared.record.Value.Value, proofs.{BoolFacts.both_same, ListPlaces.copy_at}}
-use Rattle.dr_entry.proofs.NumberFacts.{same_number, other_number}
+use Rattle.dr_entry.specs.declared.entry.{Entry.TheVariants.View, Item.{Item, TheVariants.Null}}
+use Rattle.dr_entry.{specs.declared.record.Value.Value, proofs.{BoolFacts.both_same, Items.item_shown}}
+use Rattle.dr_entry.proofs.{ListPlaces.copy_at, NumberFacts.{same_number, other_number}}
 use Rattle.dr_history.specs.{Members.{has, members_of}, Order.messages_from, Places.rest_places}
 use Rattle.dr_history.proofs.Tests.{all_members}
 use Rattle.dr_rows.specs.Words.{Words, begun, own, with_own}
-use Rattle.dr_words.{specs.Masks.{IsInRoster, next_members}, proofs.Tests.each_member}
+use Rattle.dr_words.{specs.Masks.{IsInRoster, next_members}, proofs.{Masks.member_below, Tests.each_member}}
 use Rattle.dr_words.{specs.declared.column.TheConstants.{BEAT_COLUMN, LOGGED_COLUMN}, proofs.Layouts.first_seen}
-use Rattle.dr_machine.specs.Effects.{committed_value, entries_of, finishes, finishes_by, one_more, stamped, stamped_in}
+use Rattle.dr_machine.specs.Effects.{committed_value, entries_of, finishes, finishes_by, one_more, stamped_in}
 use Rattle.dr_machine.specs.{Group.{Group, roster}, Guards.CanFinish, World.{World, items_received, no_value}}
-use Rattle.dr_machine.specs.Writes.{at₂, at₃}
+use Rattle.dr_machine.{specs.Writes.at₂, proofs.Writes.at_same}
 use Rattle.dr_machine.specs.Effects as effects
-use Rattle.dr_program.specs.{Presence.{present_at, with_present}, Reading.{Shared, kept_word, world_of}}
+use Rattle.dr_program.{specs.Presence.{present_at, with_present}, proofs.Replicas.{kept_last, kept_other}}
+use Rattle.dr_program.{specs.Reading.{Shared, kept_word, world_of}, proofs.Present.{present_within, present_set}}
 use Rattle.dr_program.specs.Replica.{LeftView, Replica, me, acted, count, finished, finished_by, finished_history, item_of_place, left_now, may_end, may_finish, nothing_left, sender_of_place, members_in_view, with_place}
-use Rattle.dr_program.proofs.{Finishing.finished_more, Holdings.{Holding, held, holding_of, held_of, Changes}}
-use Rattle.dr_program.proofs.{Opening.first_own, Present.{present_within, present_set}}
-use Rattle.dr_faithful.proofs.Writes.{at_same}
-use Rattle.dr_refine.{specs.Programs.{IsMember, acted_table}, proofs.Acts.item_shown}
-use Rattle.dr_refine.proofs.Guards.{IsIdle, count_is, may_choose}
-use Rattle.dr_refine.proofs.{Members.{Fits, acted_world, fits, fits_own, replaced}, Views.member_below}
+use Rattle.dr_program.proofs.{Finishing.finished_more, Opening.first_own}
+use Rattle.dr_program.proofs.Holdings.{Holding, held, holding_of, held_of, replaced, place_from, history_from, finish_after, finish_changes}
+use Rattle.dr_faithful.proofs.{Copies.{Fits, fits_own}, Finishes.stamped_first}
+use Rattle.dr_refine.{specs.Programs.{IsMember, acted_table}, proofs.Guards.{IsIdle, count_is, may_choose}}
+use Rattle.dr_refine.proofs.Members.{acted_world, fits}
 
 -- ---- when it may
 
@@ -124,57 +124,7 @@ finish_guard g rs table m r is free = by r.committed refl
     )
     by (Some x) e = (forth x e, λ can. from x e can.0 can.1 can.2)
 
--- ---- what it makes of the world
-
--- what a history comes to by a place, where this is what a member has
-abbrev place_from : Holding → List Entry → ℕ → List Entry
-place_from h history p =
-    let ms = members_of h.members in
-    let s = slice_index ms (p % length ms) in history ++ entries_of history s (h.item s (p / length ms))
-
-abbrev history_from : Group → Value → Holding → List Entry
-history_from g x h =
-    fold (place_from h) h.history (rest_places (map (λ s. slice_index x.trim s) (members_of h.members)) h.next)
-    ++ View g.opening.age (h.view + 1) (next_members h.members x.leavers) ∷ []
-
-abbrev finish_after : Group → ℕ → Value → Holding → Holding
-finish_after g m x h = record h {
-  view = h.view + 1;
-  own = at₂ h.own (h.view + 1) LOGGED_COLUMN (length h.log);
-  history = history_from g x h;
-  members = next_members h.members x.leavers;
-  came_from = h.members;
-  given = 0;
-  suspects = 0;
-  promise = 0;
-  tag = 0;
-  value = no_value;
-  committed = None;
-  item = λ s k. Null;
-  next = 0;
-  base = length (messages_from m (history_from g x h));
-  seen = λ i c. 0;
-}
-
-finish_changes : (g : Group) (w : World) (m : ℕ) (x : Value)
-    → Changes w (finishes_by g w m x) m (finish_after g m x (held w m))
-finish_changes g w m x = record {
-  others = λ k other. rw (other_number k m other) refl;
-  here = rw (same_number m) refl;
-}
-
 -- ---- what is kept
-
-kept_last : (xs : List LeftView) (y d : LeftView) → slice_index_or (xs ++ y ∷ []) (length xs) d ≡ y
-kept_last [] y d = refl
-kept_last (x ∷ xs) y d = kept_last xs y d
-
-kept_other : (xs : List LeftView) (y d : LeftView) (v : ℕ) → v ≢ length xs
-    → slice_index_or (xs ++ y ∷ []) v d ≡ slice_index_or xs v d
-kept_other [] y d zero other = absurd (other refl)
-kept_other [] y d (suc v) other = refl
-kept_other (x ∷ xs) y d zero other = refl
-kept_other (x ∷ xs) y d (suc v) other = kept_other xs y d v (λ e. other (ap suc e))
 
 -- what a replica needs to go on in the next view
 pub record MayGoOn (g : Group) (m : ℕ) (r : Replica) : Type 0 where
@@ -301,19 +251,6 @@ finish_world g rs table m r x there f = replaced g rs table table m r (finished_
       log = sym log z;
       base = base z;
       seen = seen_is z;
-    }
-
--- an act's stamp and the end of the view may change places
-stamps_apart : (own : ℕ → ℕ → ℕ → ℕ) (m v x y : ℕ) → at₃ (at₃ own m v BEAT_COLUMN x) m (v + 1) LOGGED_COLUMN y
-    ≡ at₃ (at₃ own m (v + 1) LOGGED_COLUMN y) m v BEAT_COLUMN x
-stamps_apart own m v x y = fun_ext λ i. fun_ext λ u. fun_ext λ c. grind arith
-
-stamped_first : (g : Group) (w : World) (m : ℕ) (x : Value)
-    → finishes_by g (stamped w m) m x ≡ stamped_in (finishes_by g w m x) m (w.past.view m)
-stamped_first g w m x =
-    let one = stamps_apart w.past.own m (w.past.view m) (one_more 64 (w.past.acts m)) (length (w.past.log m)) in
-    λ z. record (stamped_in (finishes_by g w m x) m (w.past.view m)) {
-      past = record (stamped_in (finishes_by g w m x) m (w.past.view m)).past { own = one z };
     }
 
 -- it ends its view

@@ -1,12 +1,12 @@
 -- A replica may act exactly where the event may come.
-use Rattle.std.specs.{List.{list_all, list_any}, Prelude.{Option, Some, None, nat_lt, is_some, IsSome}}
-use Rattle.std.proofs.Common.{◌≡◌, ◌≢◌, refl, sym, ap, ◌∙◌, ◌↔◌, subst, ℕ, ◌+◌, ◌-◌, ◌^◌, ◌<◌, ◌≤◌, ◌==◌, ◌&&◌, ◌||◌, inl, inr, not, suc, ◌*◌, Bool, true, false, List, [], ◌∷◌, length, slice_index, arith, le_trans}
+use Rattle.std.specs.{List.list_all, Prelude.{Option, Some, None, nat_lt, is_some}}
+use Rattle.std.proofs.Common.{◌≡◌, ◌≢◌, refl, sym, ap, ◌∙◌, ◌↔◌, subst, ℕ, ◌+◌, ◌-◌, ◌^◌, ◌<◌, ◌≤◌, ◌==◌, ◌&&◌, ◌||◌, inl, inr, not, ◌*◌, Bool, true, false, List, [], length, slice_index, arith, le_trans}
 use Rattle.std.proofs.Math.Path.{fun_ext}
-use Rattle.std.proofs.lemmas.Bool.{and_from, and_parts, cases_eq, cases_lt, eq-eqb, eqb-true, lt-ltb, ltb-true, or_cases}
+use Rattle.std.proofs.lemmas.Bool.{and_from, and_parts, cases_eq, cases_lt, eq-eqb, eqb-true, lt-ltb, or_cases}
 use Rattle.std.proofs.lemmas.{Bool.Decides.nat_tests, List.{get_or_past, length-take-le, Folds.list_any_at}}
 use Rattle.dr_entry.specs.declared.end.End.{End, TheVariants.{Done, Suspected, Excluded, NoMajority}}
-use Rattle.dr_entry.specs.{declared.entry.Item.Item, declared.record.Value.Value}
-use Rattle.dr_entry.proofs.NumberFacts.{same_number, other_number}
+use Rattle.dr_entry.{specs.declared.record.Value.Value, proofs.{Items.some_test, ListFacts.below_least}}
+use Rattle.dr_entry.proofs.{ListPlaces.above_some, NumberFacts.{same_number, other_number}, OptionFacts.not_less}
 use Rattle.dr_history.specs.{History.messages_in, Members.{has, members_of}, Order.{MayJoin, messages_from}}
 use Rattle.dr_history.proofs.Tests.{all_members}
 use Rattle.dr_ring.specs.Slots.{IsFree, is_free, IsReady, slot_of, slot_column}
@@ -16,13 +16,14 @@ use Rattle.dr_words.{specs.{Columns.recv_column, Masks.{IsInRoster, without}}, p
 use Rattle.dr_words.specs.declared.column.TheConstants.{SUSPECTED_COLUMN, RECEIVED_COLUMN, LOGGED_COLUMN, DONE_COLUMN}
 use Rattle.dr_machine.specs.Group.{Group, roster, columns}
 use Rattle.dr_machine.specs.Guards.{IsInView, IsNamable, IsRunning, MayChoose, MayTurn, IsOther, IsFault, CanBeat, CanLook, CanPush, CanSend, CanNull, CanReceive, CanDeliver, CanAppend, CanPublish, CanReport, CanMark, CanSuspect, CanHalt, CanCrash, HasRoom, IsBehind, IsUnwedged, IsDue, IsDone, IsExcluded, IsSuspectedBy, IsMinority, seen_slot, unsuspected_of}
-use Rattle.dr_machine.{specs.World.{World, items_received, shown}, proofs.Presence.in_roster}
+use Rattle.dr_machine.{specs.World.{World, items_received, shown}, proofs.Presence.{in_roster, late_test}}
 use Rattle.dr_machine.specs.Guards as guards
-use Rattle.dr_suspect.specs.Wishes.{is_silent, may_wish}
-use Rattle.dr_program.{specs.Reading.{Shared, world_of}, proofs.{Holdings.{Holding, held_of}, Least.received_small}}
+use Rattle.dr_suspect.{specs.Wishes.{is_silent, may_wish}, proofs.Wishes.silent_test}
+use Rattle.dr_faithful.proofs.Copies.{inside}
+use Rattle.dr_program.{specs.Reading.{Shared, world_of}, proofs.Holdings.{Holding, held_of, shown_seen, own_shown}}
 use Rattle.dr_program.specs.Replica.{Replica, me, is_inside, is_other, count, greatest, least_seen, ready_item, next_index, holds_all, all_done, is_behind, is_wedged, is_due, is_named, has_majority, unsuspected, members_in_view, may_receive, may_send, may_null, may_deliver, may_append, may_publish, may_report, may_mark, may_suspect}
-use Rattle.dr_refine.{specs.Programs.IsMember, proofs.{Members.{inside, shown_seen, own_shown}, Views.below_least}}
-use Rattle.dr_refine.proofs.Wishes.{late_test, silent_test}
+use Rattle.dr_program.proofs.{Least.received_small, Replicas.not_wedged}
+use Rattle.dr_refine.specs.Programs.{IsMember}
 
 -- ---- the member
 
@@ -74,10 +75,6 @@ pub suspects_are : (g : Group) (rs : List (Option Replica)) (table : Shared) (m 
     → IsMember g rs table m r → (world_of g rs table).suspects m ≡ r.suspects
 suspects_are g rs table m r is = ap (λ h. h.suspects) (held_of g rs table m r is.there)
 
--- it is wedged exactly where the world says that it suspects somebody
-not_wedged : (r : Replica) → (not (is_wedged r) ≡ true) ↔ (r.suspects ≡ 0)
-not_wedged r = (λ e. grind (arith, e), λ none. grind (arith, none))
-
 unwedged : (g : Group) (rs : List (Option Replica)) (table : Shared) (m : ℕ) (r : Replica) → IsMember g rs table m r
     → (not (is_wedged r) ≡ true) ↔ IsUnwedged (world_of g rs table) m
 unwedged g rs table m r is =
@@ -97,13 +94,6 @@ wedged g rs table m r is =
         | inr apart ↦ grind (arith, apart)
       ],
     )
-
--- a number that is not below another
-pub not_less : (a b : ℕ) → (not (nat_lt a b) ≡ true) ↔ (¬ (a < b))
-not_less a b = (
-  λ e less. absurd (grind (arith, nat_tests, e, less)),
-  λ no. elim (cases_lt a b) [ inl less ↦ absurd (no less) | inr more ↦ grind (arith, nat_tests, more) ],
-)
 
 -- a test that only one who isn't wedged passes is the guard of an event that comes to no other, where the
 -- rest of it is for one who suspects nobody
@@ -593,14 +583,6 @@ send_guard g rs table m r is alive = unless_wedged g rs table m r _ is (λ none.
       and_from _ _ (grind (arith, nat_tests, left)) ((room_guard g rs table m r is).1 can.room),
 )) (λ can. can.unwedged)
 
--- some number of a list is above k
-pub above_some : (k : ℕ) (xs : List ℕ) → list_any (nat_lt k) xs ≡ true → (s : ℕ) × (k < slice_index xs s)
-above_some k [] e = absurd (cc)
-above_some k (x ∷ xs) e = elim (or_cases (nat_lt k x) (list_any (nat_lt k) xs) e) [
-  | inl here ↦ (0, ltb-true k x here)
-  | inr there ↦ let t = above_some k xs there in (suc t.0, t.1)
-]
-
 -- it is behind exactly where the world says so
 behind_guard : (g : Group) (rs : List (Option Replica)) (table : Shared) (m : ℕ) (r : Replica)
     → IsMember g rs table m r → (is_behind r ≡ true) ↔ IsBehind (world_of g rs table) m
@@ -645,10 +627,6 @@ null_guard g rs table m r is alive = unless_wedged g rs table m r _ is (λ none.
       and_from _ _ (grind (arith, nat_tests, left))
       (and_from _ _ ((behind_guard g rs table m r is).1 can.behind) ((room_guard g rs table m r is).1 can.room)),
 )) (λ can. can.unwedged)
-
-some_test : (o : Option Item) → (is_some o ≡ true) ↔ IsSome o
-some_test None = (λ e. absurd (cc), λ s. absurd (cc))
-some_test (Some x) = (λ e. refl, λ s. refl)
 
 -- the slot of the next item of another member, as it is seen
 pub slot_is : (g : Group) (rs : List (Option Replica)) (table : Shared) (m : ℕ) (r : Replica) (s k : ℕ)

@@ -1,56 +1,25 @@
 -- Letters: when a replica gives one, what that makes of the world, and what a replica makes of its own.
-use Rattle.std.{specs.Prelude.{Option, None, Some, nat_lt, slice_set, unwrap_or}, proofs.Math.Path.fun_ext}
-use Rattle.std.proofs.Common.{◌≡◌, ◌≢◌, refl, sym, ap, ◌∙◌, ◌↔◌, ℕ, zero, suc, ◌+◌, ◌-◌, ◌*◌, ◌<◌, ◌≤◌, ◌==◌, ◌&&◌, inl, inr, not, Bool, true, false, if◌then◌else◌, List, [], ◌∷◌, length, replicate, take, slice_index, slice_index_or, arith}
-use Rattle.std.proofs.lemmas.Bool.{and_from, and_parts, cases_eq, eq-eqb, eqb-true, Decides.nat_tests}
-use Rattle.std.proofs.lemmas.List.{get_or-set_other, get_or-set_same, get_or_past, length-take-le, take-append-le}
+use Rattle.std.specs.Prelude.{Option, Some, nat_lt, slice_set, unwrap_or}
+use Rattle.std.proofs.Common.{◌≡◌, ◌≢◌, refl, sym, ap, ◌∙◌, ◌↔◌, ℕ, ◌+◌, ◌-◌, ◌*◌, ◌<◌, ◌≤◌, ◌==◌, inl, inr, not, Bool, true, false, if◌then◌else◌, List, [], ◌∷◌, length, replicate, take, slice_index, slice_index_or, arith}
+use Rattle.std.proofs.{Math.Path.fun_ext, lemmas.Bool.{and_from, and_parts, cases_eq, eq-eqb, eqb-true}}
+use Rattle.std.proofs.lemmas.{Bool.Decides.nat_tests, List.{get_or_past, length-take-le, take-append-le}}
 use Rattle.dr_entry.{specs.declared.entry.{Entry.Entry, Item.{Item, TheVariants.Null}}, proofs.BoolFacts.both_same}
 use Rattle.dr_entry.proofs.{ListPlaces.copy_at, NumberFacts.{same_number, other_number}}
 use Rattle.dr_history.specs.{History.{last_view, up_to_view}, Members.has, Order.messages_from}
 use Rattle.dr_rows.specs.Words.{begun, own, with_own}
-use Rattle.dr_words.specs.Masks.{IsLeastOf, least_of, mask_of, with_member}
-use Rattle.dr_words.{specs.declared.column.TheConstants.LOGGED_COLUMN, proofs.Layouts.first_seen}
-use Rattle.dr_words.proofs.Masks.{has_mask_of, least_of_is, mask_of_small}
-use Rattle.dr_machine.specs.{Effects.{enters, joins, welcomes}, Group.{Group, roster}, Guards.CanWelcome}
-use Rattle.dr_machine.specs.{World.{World, no_value}, Writes.{at, at₂}}
+use Rattle.dr_words.specs.{Masks.{least_of, mask_of}, declared.column.TheConstants.LOGGED_COLUMN}
+use Rattle.dr_words.proofs.Layouts.{first_seen}
+use Rattle.dr_machine.specs.{Effects.{enters, joins, welcomes}, Group.{Group, roster}, Guards.CanWelcome, World.World}
+use Rattle.dr_machine.specs.Writes.{at, at₂}
+use Rattle.dr_faithful.proofs.Copies.{Fits}
 use Rattle.dr_program.specs.{Presence.{present_at, with_present}, Reading.{Shared, kept_word, letters_of, world_of}}
 use Rattle.dr_program.specs.Replica.{LeftView, Replica, me, count, gave, is_inside, is_welcomer, joined, left_now, may_give, nothing_left}
-use Rattle.dr_program.proofs.{Holdings.{Holding, held, holding_of, held_of, Changes}, Opening.first_own}
+use Rattle.dr_program.proofs.{Holdings.{holding_of, held_of, replaced}, Opening.first_own}
+use Rattle.dr_program.proofs.Joins.{stayed, welcomer_test, letters_written, give_after, give_changes, join_after, join_changes, kept_rest}
 use Rattle.dr_refine.{specs.Programs.{IsLetterFor, IsMember}, proofs.Guards.{IsIdle, may_choose, members_are}}
-use Rattle.dr_refine.proofs.Members.{Fits, fits, replaced}
+use Rattle.dr_refine.proofs.Members.{fits}
 
 -- ---- when it gives one
-
--- those of its view that were in the one that it came from
-abbrev stayed : Replica → ℕ → Bool
-stayed r i = has r.came_from i && has r.members i
-
--- it is the least of them exactly where none of them is less
-welcomer_test : (r : Replica) → me r < 16 → has r.members (me r) ≡ true → has r.came_from (me r) ≡ true
-    → (least_of (mask_of (stayed r)) ≡ me r)
-    ↔ ((i : ℕ) → i < 16 → has r.came_from i ≡ true → has r.members i ≡ true → me r ≤ i)
-welcomer_test r few inside before = (
-  λ e i within there member. rw e at (least.least i (there_is i within there member)),
-  λ each. omega (
-    arith,
-    least.least (me r) mine,
-    each (least_of (mask_of (stayed r))) least.number
-        (and_parts (has r.came_from _) (has r.members _) found).0 (and_parts (has r.came_from _) (has r.members _) found).1,
-  ),
-)
-  where
-    there_is : (i : ℕ) → i < 16 → has r.came_from i ≡ true → has r.members i ≡ true
-        → has (mask_of (stayed r)) i ≡ true
-    there_is i within there member = has_mask_of (stayed r) i ∙ grind (arith, nat_tests, within, there, member)
-
-    mine : has (mask_of (stayed r)) (me r) ≡ true
-    mine = there_is (me r) few before inside
-
-    least : IsLeastOf (mask_of (stayed r)) (least_of (mask_of (stayed r)))
-    least = least_of_is (mask_of (stayed r)) (me r) (mask_of_small (stayed r)) mine
-
-    found : (has r.came_from (least_of (mask_of (stayed r))) && has r.members (least_of (mask_of (stayed r)))) ≡ true
-    found = (and_parts (nat_lt (least_of (mask_of (stayed r))) 16) _
-        (sym (has_mask_of (stayed r) (least_of (mask_of (stayed r)))) ∙ least.member)).1
 
 -- it gives a letter exactly where that may come
 pub give_guard : (g : Group) (rs : List (Option Replica)) (table : Shared) (m : ℕ) (r : Replica) (j : ℕ)
@@ -123,21 +92,6 @@ give_guard g rs table m r j is free = (forth, back)
 
 -- ---- what that makes of the world
 
--- a letter that is given stands there, and the others stay
-letters_written : (letters : List (Option (List Entry))) (j : ℕ) (x : Option (List Entry)) → j < length letters
-    → letters_of (slice_set letters j x) ≡ at (letters_of letters) j x
-letters_written letters j x within = fun_ext λ k. elim (cases_eq k j) [
-  | inl same ↦ rw (same, same_number j) (get_or-set_same letters j x None within)
-  | inr other ↦ rw (other_number k j other) (get_or-set_other letters j k x None other)
-]
-
--- what a member has once it has given j the letter
-abbrev give_after : ℕ → Holding → Holding
-give_after j h = record h { given = with_member h.given j }
-
-give_changes : (w : World) (m j : ℕ) → Changes w (welcomes w m j) m (give_after j (held w m))
-give_changes w m j = record { others = λ k other. rw (other_number k m other) refl; here = rw (same_number m) refl }
-
 pub welcome_effect : (g : Group) (rs : List (Option Replica)) (table : Shared) (m : ℕ) (r : Replica) (j : ℕ)
     → IsMember g rs table m r → may_give r j ≡ true → world_of g (with_present rs m (gave r j))
     (record table { letters = slice_set table.letters j (Some (up_to_view r.history)) })
@@ -155,40 +109,6 @@ welcome_effect g rs table m r j is may = replaced g rs table
         omega (arith, low, is.posts, is.of.members)
 
 -- ---- what a member makes of its letter
-
--- what a member has once it has joined
-abbrev join_after : ℕ → List Entry → Holding → Holding
-join_after m letter h =
-    let view = last_view (0, 0) letter in record h {
-      view = view.0;
-      own = at₂ h.own view.0 LOGGED_COLUMN (length h.log);
-      history = letter;
-      members = view.1;
-      came_from = h.members;
-      given = 0;
-      suspects = 0;
-      promise = 0;
-      tag = 0;
-      value = no_value;
-      committed = None;
-      item = λ s k. Null;
-      next = 0;
-      base = length (messages_from m letter);
-      seen = λ i c. 0;
-    }
-
-join_changes : (w : World) (m : ℕ) (letter : List Entry) → Changes w (enters w m
-    (last_view (0, 0) letter).0 (last_view (0, 0) letter).1 letter) m (join_after m letter (held w m))
-join_changes w m letter = record {
-  others = λ k other. rw (other_number k m other) refl;
-  here = rw (same_number m) refl;
-}
-
--- what a member keeps that comes from its first view into a later one
-kept_rest : (now : LeftView) (k v : ℕ) → v ≢ 0
-    → slice_index_or (now ∷ replicate k nothing_left) v nothing_left ≡ nothing_left
-kept_rest now k zero other = absurd (other refl)
-kept_rest now k (suc v) other = copy_at k nothing_left v
 
 -- a member that hasn't joined: it has the first view, and keeps nothing of others
 record MayJoinIn (g : Group) (m : ℕ) (r : Replica) : Type 0 where

@@ -1,8 +1,6 @@
 pub mod Tables
 pub mod Members
-pub mod Views
 pub mod Acts
-pub mod Wishes
 pub mod Guards
 pub mod Looks
 pub mod Gains
@@ -14,3 +12,4 @@ pub mod Deeds
 pub mod Steps
 pub mod Joins
 pub mod Tests
+pub mod Programs

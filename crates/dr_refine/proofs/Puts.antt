@@ -1,28 +1,27 @@
 -- What an item that is put, and one that is received, make of the world.
-use Rattle.std.specs.{Int.div_ceil, Prelude.{nat_lt, nat_le, not, unwrap_or, take, drop, is_some, Option, Some}}
-use Rattle.std.proofs.Common.{◌≡◌, ◌≢◌, refl, sym, ap, ◌∙◌, subst, ℕ, ◌+◌, ◌-◌, ◌<◌, ◌≤◌, ◌==◌, ◌&&◌, ◌⊎◌, inl, inr, true, max, if◌then◌else◌, List, [], ◌∷◌, ◌++◌, length, map, fold, slice_index, slice_index_or, arith, length-append, length-take, length-drop, set-set}
-use Rattle.std.proofs.{Math.Path.fun_ext, lemmas.Bool.{and_parts, cases_eq, cases_lt, ltb-true, Decides.nat_tests}}
-use Rattle.std.proofs.lemmas.List.{get_or_past, length-set, length-map, Elements.All-set}
-use Rattle.std.proofs.lemmas.{List.FromFn.length-map-range_with_len, Option.slice_get-get_or}
+use Rattle.std.{specs.Prelude.{nat_lt, not, unwrap_or, is_some, Option, Some}, proofs.lemmas.Option.slice_get-get_or}
+use Rattle.std.proofs.Common.{◌≡◌, ◌≢◌, refl, sym, ap, ◌∙◌, subst, ℕ, ◌+◌, ◌-◌, ◌<◌, ◌≤◌, ◌==◌, ◌&&◌, inl, inr, true, if◌then◌else◌, List, [], ◌∷◌, ◌++◌, length, slice_index, slice_index_or, arith, set-set}
+use Rattle.std.proofs.{Math.Path.fun_ext, lemmas.Bool.{and_parts, cases_eq, ltb-true, Decides.nat_tests}}
 use Rattle.dr_entry.specs.declared.{end.SentItem.{SentItem, TheVariants.Index}, entry.Item.Item}
-use Rattle.dr_entry.{specs.declared.entry.Item.TheVariants.{Null, Text}, proofs.ListPlaces.count_max}
+use Rattle.dr_entry.{specs.declared.entry.Item.TheVariants.{Null, Text}, proofs.ListPlaces.{above_some, most}}
 use Rattle.dr_entry.proofs.NumberFacts.{same_number, other_number}
 use Rattle.dr_entry.specs.declared.end.SentItem.TheVariants as sent_items
-use Rattle.dr_ring.specs.Pieces.{pieces, body_piece}
-use Rattle.dr_ring.specs.Slots.{slot_column, written, with_pieces, with_item, item_in, is_free}
-use Rattle.dr_ring.proofs.Writes.{HasSlot, HasSlot-from, own_set, own_left, other_rows}
-use Rattle.dr_rows.specs.Words.{Words, IsWords, own, row_of}
-use Rattle.dr_words.specs.{Columns.columns_of, Packing.ring_word}
+use Rattle.dr_ring.{specs.{Pieces.pieces, Slots.{slot_column, with_item, item_in, is_free}}, proofs.Puts.few_parts}
+use Rattle.dr_ring.proofs.Writes.{HasSlot, HasSlot-from, other_rows, IsWords-pieces}
+use Rattle.dr_rows.specs.Words.{own}
+use Rattle.dr_words.specs.Columns.{columns_of}
 use Rattle.dr_machine.specs.Effects.{stamped, gains, puts, sends, nulls, receives, next_item, row_with}
-use Rattle.dr_machine.specs.{Group.{Group, roster}, Guards.seen_slot, World.World, Writes.{at, at₂}}
-use Rattle.dr_machine.proofs.Sending.{only_messages}
+use Rattle.dr_machine.specs.{Group.{Group, roster}, Guards.seen_slot, World.World, Writes.at}
+use Rattle.dr_machine.proofs.{Sending.only_messages, Writes.{row_written, view_set}}
 use Rattle.dr_machine.specs.Guards as guards
+use Rattle.dr_faithful.proofs.{Copies.Fits, Puts.own_pieces}
 use Rattle.dr_program.specs.{Presence.with_present, Reading.{Shared, kept_word, left_in, world_of}}
 use Rattle.dr_program.specs.Replica.{Replica, me, count, item, gained, received, put, sent, nulled, greatest, next_index, ready_item, is_other, is_behind, is_wedged, may_send, may_null, may_receive, acted}
-use Rattle.dr_program.proofs.{Holdings.{Holding, held, holding_of, Changes}, Present.{present_within, present_set}}
-use Rattle.dr_refine.{specs.Programs.{IsMember, acted_table}, proofs.Members.{Fits, fits, replaced, then_acted}}
-use Rattle.dr_refine.proofs.Gains.{MayGain, fits_gained, gained_world, row_written, own_here, count_here}
-use Rattle.dr_refine.proofs.Guards.{above_some, other_member, other_within, count_is, next_is, slot_is}
+use Rattle.dr_program.proofs.{Holdings.{holding_of, replaced, own_here, count_here}, Replicas.{MayGain, places}}
+use Rattle.dr_program.proofs.{Present.{present_within, present_set}, Puts.{place_from, place_after, place_changes}}
+use Rattle.dr_refine.{specs.Programs.{IsMember, acted_table}, proofs.Gains.{fits_gained, gained_world}}
+use Rattle.dr_refine.proofs.Guards.{other_member, other_within, count_is, next_is, slot_is}
+use Rattle.dr_refine.proofs.Members.{fits, then_acted}
 
 -- ---- received items
 
@@ -51,112 +50,7 @@ receive_effect g rs table m r s is e =
     (fits_gained g m r s f) is.cells
     (gained_world g rs table m r s (unwrap_or (ready_item r s) Null) is.there f may ∙ ap (gains w m s) same)
 
--- ---- the words of an item
-
--- the own words with the pieces of an item
-own_pieces : (window : ℕ) (w : Words) (k : ℕ) (list : List ℕ) (c : ℕ) → HasSlot window w k → length list ≤ 17
-    → own (with_pieces window w k list) c ≡ row_with (own w) (slot_column w.members window k) k list c
-own_pieces window w k list c slot few = elim (cases_lt c (slot_column w.members window k)) [
-  | inl before ↦ own_left window w k list c slot few (inl before) ∙ sym (outside (slot_column w.members window k) c
-      (length list) (ring_word k (slice_index list (c - slot_column w.members window k))) (own w c) (inl before))
-  | inr past ↦ elim (cases_lt c (slot_column w.members window k + length list)) [
-    | inr behind ↦ own_left window w k list c slot few (inr behind) ∙ sym (outside (slot_column w.members window k) c
-        (length list) (ring_word k (slice_index list (c - slot_column w.members window k))) (own w c) (inr behind))
-    | inl within ↦
-        let place : slot_column w.members window k + (c - slot_column w.members window k) ≡ c = omega (arith, past) in
-        ap (λ d. own (with_pieces window w k list) d) (sym place)
-        ∙ own_set window w k list (c - slot_column w.members window k) slot (omega (arith, past, within))
-        ∙ sym (within_is (slot_column w.members window k) c (length list)
-        (ring_word k (slice_index list (c - slot_column w.members window k))) (own w c) past within)
-  ]
-]
-  where
-    outside : (from c len x o : ℕ) → (c < from) ⊎ (from + len ≤ c)
-        → (if nat_le from c && nat_lt c (from + len) then x else o) ≡ o
-    outside from c len x o out = grind (arith, nat_tests, out)
-
-    within_is : (from c len x o : ℕ) → from ≤ c → c < from + len
-        → (if nat_le from c && nat_lt c (from + len) then x else o) ≡ x
-    within_is from c len x o p q = grind (arith, nat_tests, p, q)
-
--- the rows keep their form
-IsWords-pieces : (window : ℕ) (w : Words) (k : ℕ) (list : List ℕ) → HasSlot window w k
-    → length list ≤ 17 → IsWords w → IsWords (with_pieces window w k list)
-IsWords-pieces window w k list slot few form = record {
-  few = form.few;
-  narrow = form.narrow;
-  present = form.present;
-  rows = record {
-    height = length-set w.words w.me new ∙ form.rows.height;
-    width = All-set (λ row. length row ≡ w.columns) w.words w.me new
-        (same_length ∙ form.rows.width w.me [] slot.present) form.rows.width;
-  };
-  pushes = form.pushes;
-  marks = form.marks;
-  alive = form.alive;
-}
-  where
-    row : List ℕ
-    row = row_of w.words w.me
-
-    column : ℕ
-    column = slot_column w.members window k
-
-    words : List ℕ
-    words = map (ring_word k) list
-
-    new : List ℕ
-    new = written row column words
-
-    same_length : length new ≡ length row
-    same_length = omega (
-      arith,
-      slot.columns,
-      few,
-      length-append (take column row ++ words) (drop (column + length words) row),
-      length-append (take column row) words,
-      length-take column row,
-      length-drop (column + length words) row,
-      length-map list (ring_word k),
-    )
-
 -- ---- an item that is put, without the counts
-
--- what a member has with an item put, where these were its own words, its count of its own items, and what
--- it had put in its view
-abbrev place_from : Group → SentItem → Item → Holding → (ℕ → ℕ) → ℕ → List SentItem → Holding
-place_from g name x h own k sent = record h {
-  own = at h.own h.view (row_with own (slot_column (roster g) g.window k) k (pieces x));
-  sent = at h.sent h.view (sent ++ name ∷ []);
-}
-
-abbrev place_after : Group → ℕ → SentItem → Item → Holding → Holding
-place_after g m name x h = place_from g name x h (h.own h.view) (h.count h.view m) (h.sent h.view)
-
--- the world with the words of an item put, and its name
-abbrev places : Group → World → ℕ → SentItem → Item → World
-places g w m name item =
-    let v = w.past.view m in
-    let k = w.past.count m v m in record w {
-      past = record w.past {
-        own = at₂ w.past.own m v (row_with (w.past.own m v) (slot_column (roster g) g.window k) k (pieces item));
-        sent = at₂ w.past.sent m v (w.past.sent m v ++ name ∷ []);
-      };
-    }
-
-place_changes : (g : Group) (w : World) (m : ℕ) (name : SentItem) (item : Item)
-    → Changes w (places g w m name item) m (place_after g m name item (held w m))
-place_changes g w m name item = record {
-  others = λ k other. rw (other_number k m other) refl;
-  here = rw (same_number m) refl;
-}
-
-view_set : {X : Type 0} (x y : X) (kept : ℕ → X) (view v : ℕ)
-    → ◌≡◌ {A = X} (if v == view then y else kept v) (at (λ b. if b == view then x else kept b) view y v)
-view_set x y kept view v = elim (cases_eq v view) [
-  | inl same ↦ rw (same, same_number view) refl
-  | inr other ↦ rw (other_number v view other) refl
-]
 
 abbrev placed : Replica → SentItem → Item → Replica
 placed r name item = record r { rows = with_item r.window r.rows (count r (me r)) item; sent = r.sent ++ name ∷ [] }
@@ -214,13 +108,6 @@ placed_world g rs table m r name item is slot few =
 
 -- ---- a message that is sent
 
--- no element is above the greatest, nor the default
-most : (xs : List ℕ) (i : ℕ) → slice_index xs i ≤ fold max 0 xs
-most xs i = elim (cases_lt i (length xs)) [
-  | inl within ↦ count_max xs 0 i within
-  | inr past ↦ omega (arith, get_or_past xs i 0 past)
-]
-
 -- a message that is left, with the premises of putting it
 left_over : (g : Group) (rs : List (Option Replica)) (table : Shared) (m : ℕ) (r : Replica)
     → IsMember g rs table m r → next_index r < length r.messages → count r m < greatest r.totals
@@ -228,11 +115,6 @@ left_over g rs table m r is left =
     let put : length r.sent ≡ count r m = is.form.put ∙ ap (count r) is.of.number in
     let all = only_messages r.base (length r.messages) r.sent is.form.order left in
     omega (arith, left, put, all, is.form.messages, most r.totals (me r))
-
--- a message has no more pieces than a slot has words
-few_parts : (bytes : List ℕ) → length bytes ≤ 64 → length (pieces (Text bytes)) ≤ 17
-few_parts bytes short =
-    omega (arith, short, length-map-range_with_len (body_piece bytes) 0 (div_ceil (length bytes) 4))
 
 -- an item is put
 put_effect : (g : Group) (rs : List (Option Replica)) (table : Shared) (m : ℕ) (r : Replica) (name : SentItem)

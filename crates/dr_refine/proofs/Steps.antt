@@ -1,33 +1,19 @@
 -- A move keeps a program of the group, where it keeps the form of the member that makes it.
 use Rattle.std.specs.Prelude.{Option, Some, None, is_some, option_map}
-use Rattle.std.proofs.Common.{◌≡◌, refl, sym, ap, ◌∙◌, subst, ℕ, ◌<◌, ◌≤◌, inl, inr, List, length, map, arith}
+use Rattle.std.proofs.Common.{◌≡◌, refl, sym, ap, ◌∙◌, subst, ℕ, ◌<◌, ◌≤◌, inl, inr, List, length, map}
 use Rattle.std.proofs.lemmas.{Bool.cases_eq, List.{length-set, length-map, length-replicate}, Option.same_Some}
 use Rattle.dr_words.specs.Layout.{words_of}
-use Rattle.dr_program.{specs.Form.{IsOf, IsRunningMember}, proofs.OpeningForm.begins_in_form}
-use Rattle.dr_program.specs.{Presence.{present_at, with_present}, declared.outcome.Outcome.Outcome}
+use Rattle.dr_program.specs.{Form.{IsOf, IsRunningMember}, declared.setup.Setup.Setup}
+use Rattle.dr_program.specs.{Presence.{present_at, with_present}, Running.{Running, begun_running, next_step}}
 use Rattle.dr_program.specs.Program.{Program, Move, AreSetups, after_deed, begun_program, letter_for, next_sight, step_of}
-use Rattle.dr_program.specs.{Replica.{Replica, joined}, declared.setup.Setup.Setup}
-use Rattle.dr_program.specs.Running.{Running, begun_running, next_step, settled, took, took_letter}
-use Rattle.dr_program.{specs.Steps.{stepped, stored, stored_letters}, proofs.Fixed.{join_told, step_told, of_told}}
-use Rattle.dr_program.proofs.{Present.{present_kept, present_map, present_set, present_within}, Runs.after_either}
-use Rattle.dr_machine.specs.{Group.{Group, IsGroup, banks, roster}, declared.step.Step.Step}
+use Rattle.dr_program.{specs.Steps.{stored, stored_letters}, proofs.{Fixed.of_deed, OpeningForm.begins_in_form}}
+use Rattle.dr_program.proofs.{Deeds.{rest_changes_nothing, step_is}, Replicas.{stored_length, posts_length}}
+use Rattle.dr_program.proofs.Present.{present_kept, present_map, present_set, present_within}
+use Rattle.dr_machine.specs.Group.{Group, IsGroup, banks, roster}
 use Rattle.dr_entry.specs.declared.{end.End.End, entry.Entry.Entry}
-use Rattle.dr_refine.{specs.Programs.IsProgram, proofs.Deeds.{rest_changes_nothing, settle_replica, step_is}}
-
--- ---- the member
-
-pub of_settled : (g : Group) (m : ℕ) (x : Running) → IsOf g m x.replica → IsOf g m (settled x).replica
-of_settled g m x of = subst (IsOf g m) (sym (settle_replica _ x)) of
+use Rattle.dr_refine.specs.Programs.{IsProgram}
 
 -- ---- the program
-
--- the table keeps its length
-pub stored_length : (table : List ℕ) (q : Replica) (s : Step) → length (stored table q s) ≡ length table
-stored_length table q s = grind (arith, length-set table)
-
-pub posts_length : (letters : List (Option (List Entry))) (q : Replica) (s : Step)
-    → length (stored_letters letters q s) ≡ length letters
-posts_length letters q s = grind (arith, length-set letters)
 
 -- one member replaced by a running one of its number
 pub replaced_program : (g : Group) (p : Program) (m : ℕ)
@@ -53,19 +39,6 @@ replaced_program g p m r cells letters is within form of same_length same_letter
   table = same_length ∙ is.table;
   posts = same_letters ∙ is.posts;
 }
-
--- a deed leaves the member the one that it was, however its append went
-of_deed : (g : Group) (m : ℕ) (table : List ℕ) (letter : Option (List Entry)) (o : Outcome) (r : Running)
-    → IsOf g m r.replica → IsOf g m (after_deed (next_sight table r) letter o r (next_step r)).replica
-of_deed g m table letter o r of = after_either (λ (x : Running). IsOf g m x.replica) table letter o r (next_step r)
-    (of_settled g m (took (next_sight table r) r (next_step r)) (of_told g m r.replica
-    (stepped (next_sight table r) r.replica (next_step r))
-    (step_told (next_sight table r) r.replica (next_step r)) of))
-    (λ why due. of) (λ join. of_settled g m (took_letter letter r) (taken letter))
-  where
-    taken : (letter : Option (List Entry)) → IsOf g m (took_letter letter r).replica
-    taken None = of
-    taken (Some es) = of_told g m r.replica (joined r.replica es) (join_told r.replica es) of
 
 -- a move of a member that keeps its form
 pub step_kept : (g : Group) (p : Program) (e : Move) → IsProgram g p

@@ -6,31 +6,14 @@ use Rattle.dr_rows.proofs.Rewrites.{IsWords-frozen, IsWords-rewritten, own_rewri
 use Rattle.dr_words.specs.{Masks.{least_of, with_member, without}, Rewrites.wedged_word}
 use Rattle.dr_words.proofs.{Masks.{IsSuspecting, more_some}, Rewrites.wedged_rest}
 use Rattle.dr_machine.specs.{Effects.{stamped, suspects}, Group.{Group, roster}, World.World, Writes.at}
-use Rattle.dr_program.specs.{Presence.with_present, Replica.{Replica, acted, is_inside, may_suspect, suspected}}
-use Rattle.dr_program.{specs.Reading.{Shared, kept_word, world_of}, proofs.Suspecting.suspecting}
-use Rattle.dr_program.proofs.{Holdings.{Holding, held, holding_of, Changes}, Present.present_within}
-use Rattle.dr_refine.{specs.Programs.{IsMember, acted_table}, proofs.Gains.{row_written, own_here}}
-use Rattle.dr_refine.proofs.Members.{Fits, fits, replaced, then_acted}
+use Rattle.dr_machine.proofs.Writes.{row_written}
+use Rattle.dr_program.specs.{Presence.with_present, Reading.{Shared, kept_word, world_of}}
+use Rattle.dr_program.specs.Replica.{Replica, acted, is_inside, may_suspect, suspected}
+use Rattle.dr_program.proofs.Holdings.{holding_of, own_here, replaced, suspect_from, suspect_after, suspect_changes}
+use Rattle.dr_program.proofs.{Present.present_within, Suspecting.suspecting}
+use Rattle.dr_refine.{specs.Programs.{IsMember, acted_table}, proofs.Members.{fits, then_acted}}
 use Rattle.dr_entry.proofs.NumberFacts.{same_number, other_number}
-
--- what a member has once it suspects j too, where these were its own words in its view
-abbrev suspect_from : Group → ℕ → Holding → (ℕ → ℕ) → Holding
-suspect_from g j h own =
-    let mask = with_member h.suspects j in
-    let promise = least_of (without h.members mask) in record h {
-      own = at h.own h.view (λ c. wedged_word (roster g) h.members mask promise c (own c));
-      suspects = mask;
-      promise = promise;
-    }
-
-abbrev suspect_after : Group → ℕ → Holding → Holding
-suspect_after g j h = suspect_from g j h (h.own h.view)
-
-suspect_changes : (g : Group) (w : World) (m j : ℕ) → Changes w (suspects g w m j) m (suspect_after g j (held w m))
-suspect_changes g w m j = record {
-  others = λ k other. rw (other_number k m other) refl;
-  here = rw (same_number m) refl;
-}
+use Rattle.dr_faithful.proofs.Copies.{Fits}
 
 -- one member more is suspected
 pub suspect_effect : (g : Group) (rs : List (Option Replica)) (table : Shared) (m : ℕ) (r : Replica) (j : ℕ)

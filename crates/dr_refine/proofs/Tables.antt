@@ -1,60 +1,13 @@
 -- The words of the table, one of them written.
-use Rattle.std.{specs.Prelude.{slice_set, nat_lt}, proofs.Math.Path.fun_ext}
-use Rattle.std.proofs.Common.{◌≡◌, refl, sym, ◌∙◌, ℕ, ◌<◌, ◌&&◌, ◌⊎◌, inl, inr, Bool, true, false, List, slice_index, arith}
-use Rattle.std.proofs.lemmas.{Bool.{cases_eq, Decides.nat_tests}, List.{get_or-set_same, get_or-set_other}}
+use Rattle.std.{specs.Prelude.{slice_set, max}, proofs.lemmas.List.{get_or-set_same, get_or-set_other, length-set}}
+use Rattle.std.proofs.Common.{◌≡◌, refl, sym, ◌∙◌, ℕ, ◌<◌, inl, inr, List, slice_index, arith, ap, ◌∷◌}
+use Rattle.std.proofs.{Math.Path.fun_ext, lemmas.Bool.cases_eq}
+use Rattle.dr_entry.proofs.NumberFacts.{cell_inside}
 use Rattle.dr_words.{specs.Layout.word_index_of, proofs.Places.{word_index_within, word_index_one_to_one}}
-use Rattle.dr_machine.specs.{Group.{Group, banks, roster, columns}, Writes.at₄}
-use Rattle.dr_program.specs.Reading.{word_of}
-use Rattle.dr_refine.specs.Programs.{IsTable}
-
--- a write at four arguments, at these and at others
-at₄_same : (f : ℕ → ℕ → ℕ → ℕ → ℕ) (v j i c x : ℕ) → at₄ f v j i c x v j i c ≡ x
-at₄_same f v j i c x = grind arith
-
-at₄_other : (f : ℕ → ℕ → ℕ → ℕ → ℕ) (v j i c x b k n d : ℕ)
-    → (b ≡ v → k ≡ j → n ≡ i → d ≡ c → ⊥) → at₄ f v j i c x b k n d ≡ f b k n d
-at₄_other f v j i c x b k n d other = elim (cases_eq b v) [
-  | inr apart ↦ grind (arith, apart)
-  | inl bank ↦ elim (cases_eq k j) [
-    | inr apart ↦ grind (arith, bank, apart)
-    | inl copy ↦ elim (cases_eq n i) [
-      | inr apart ↦ grind (arith, bank, copy, apart)
-      | inl row ↦ elim (cases_eq d c) [
-        | inr apart ↦ grind (arith, bank, copy, row, apart)
-        | inl column ↦ absurd (other bank copy row column)
-      ]
-    ]
-  ]
-]
-
--- a cell is inside the table or not
-cell_inside : (b n k v j i c : ℕ)
-    → (((v < b) × (j < n) × (i < n) × (c < k)) × (((nat_lt v b && nat_lt j n) && (nat_lt i n && nat_lt c k)) ≡ true))
-    ⊎ (((nat_lt v b && nat_lt j n) && (nat_lt i n && nat_lt c k)) ≡ false)
-cell_inside b n k v j i c = by ((nat_lt v b && nat_lt j n) && (nat_lt i n && nat_lt c k)) refl
-  where
-    by : (t : Bool) → ((nat_lt v b && nat_lt j n) && (nat_lt i n && nat_lt c k)) ≡ t
-        → (((v < b) × (j < n) × (i < n) × (c < k))
-        × (((nat_lt v b && nat_lt j n) && (nat_lt i n && nat_lt c k)) ≡ true))
-        ⊎ (((nat_lt v b && nat_lt j n) && (nat_lt i n && nat_lt c k)) ≡ false)
-    by true e = inl (
-      (
-        grind (arith, nat_tests, e),
-        grind (arith, nat_tests, e),
-        grind (arith, nat_tests, e),
-        grind (arith, nat_tests, e),
-      ),
-      e,
-    )
-    by false e = inr e
-
--- the word of a cell
-pub word_inside : (g : Group) (table : List ℕ) (v j i c : ℕ) → v < banks g → j < roster g → i < roster g
-    → c < columns g → word_of g table v j i c ≡ slice_index table (word_index_of (roster g) g.window v j i c)
-word_inside g table v j i c bank copy row column = elim (cell_inside (banks g) (roster g) (columns g) v j i c) [
-  | inl inside ↦ rw inside.1 refl
-  | inr out ↦ absurd (grind (arith, nat_tests, out, bank, copy, row, column))
-]
+use Rattle.dr_machine.specs.{Group.{Group, banks, roster, columns}, Run.{ComesNext, WasOwn, with_table}, World.World}
+use Rattle.dr_machine.{specs.Writes.at₄, proofs.Writes.{at₄_same, at₄_other}}
+use Rattle.dr_program.{specs.{Program.Program, Reading.{word_of, world}}, proofs.Replicas.{word_inside, word_arrives}}
+use Rattle.dr_refine.specs.Programs.{IsTable, IsProgram}
 
 -- a word that is written stands in its cell, and the others stay
 pub table_written : (g : Group) (table : List ℕ) (v j i c x : ℕ) → IsTable g table → v < banks g
@@ -100,3 +53,33 @@ table_written g table v j i c x whole bank copy row column =
         ]
       ]
     ]
+
+-- so the world that it is then comes next
+pub come_follows : (g : Group) (before : List World) (p : Program) (v j i c word : ℕ) → IsProgram g p
+    → v < banks g → j < roster g → i < roster g → c < columns g → WasOwn (world g p ∷ before) v i c word
+    → let place = word_index_of (roster g) g.window v j i c in
+    let q : Program = record {
+      members = p.members;
+      table = slice_set p.table place (max (slice_index p.table place) word);
+      letters = p.letters;
+    } in
+    IsProgram g q × ComesNext g before (world g p) (world g q)
+come_follows g before p v j i c word is bank to from cell was = (
+  record {
+    all = is.all;
+    form = is.form;
+    of = is.of;
+    there = is.there;
+    table = length-set p.table place (max (slice_index p.table place) word) ∙ is.table;
+    posts = is.posts;
+  },
+  inr (
+    at₄ (word_of g p.table) v j i c (max (slice_index p.table place) word),
+    word_arrives g (world g p ∷ before) p v j i c word bank to from cell was,
+    ap (with_table (world g p)) (table_written g p.table v j i c
+        (max (slice_index p.table place) word) is.table bank to from cell),
+  ),
+)
+  where
+    place : ℕ
+    place = word_index_of (roster g) g.window v j i c

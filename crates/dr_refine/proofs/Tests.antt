@@ -1,29 +1,28 @@
 -- All cases by acts and steps: a replica that has no end and passes its test is one whose event may come, and
 -- the other way round; what the step makes of it is the effect; and which room the step asks for.
 use Rattle.std.specs.Prelude.{Option, None, Some, is_some, nat_lt}
-use Rattle.std.proofs.Common.{◌≡◌, ◌⊎◌, inl, inr, refl, sym, ap, ◌∙◌, ◌↔◌, subst, ℕ, ◌+◌, ◌<◌, ◌≤◌, ◌&&◌, not, true, false, Bool, List, length, arith, slice_index}
-use Rattle.std.proofs.lemmas.{Bool.{and_from, and_parts, Decides.nat_tests}, Option.same_Some}
-use Rattle.dr_entry.specs.declared.end.End.{End, TheVariants.{Crashed, DiskFault, LogFull, Spent}}
-use Rattle.dr_entry.specs.{declared.entry.Entry.Entry, declared.record.Vote.Vote}
+use Rattle.std.proofs.Common.{◌≡◌, refl, sym, ap, ◌∙◌, ◌↔◌, subst, ℕ, ◌+◌, ◌<◌, ◌≤◌, ◌&&◌, not, true, false, Bool, List, length, arith, slice_index}
+use Rattle.std.proofs.lemmas.Bool.{and_from, and_parts, Decides.nat_tests}
+use Rattle.dr_entry.{specs.declared.{end.End.End, entry.Entry.Entry}, proofs.OptionFacts.none_test}
+use Rattle.dr_entry.proofs.PlainFacts.{with_nothing, with_letter}
 use Rattle.dr_history.specs.{Members.has, Order.messages_from}
 use Rattle.dr_words.specs.{Columns.columns_of, Layout.word_index_of, declared.column.TheConstants.BEAT_COLUMN}
-use Rattle.dr_machine.specs.{Acts.{CanDo, CanTake, effect_of}, Effects.{finished_history, one_more}, Writes.{at, at₂}}
+use Rattle.dr_machine.specs.{Acts.{CanDo, CanTake, effect_of}, Effects.{finished_history, one_more}}
 use Rattle.dr_machine.specs.{Group.{Group, columns, roster}, World.{World, items_received}, declared.step.Step.Step}
-use Rattle.dr_machine.specs.Guards.{CanFinish, CanJoin, IsInView, IsRunning, IsFault, MayChoose, MayTurn}
-use Rattle.dr_machine.specs.declared.event.Act.{Act}
+use Rattle.dr_machine.specs.Guards.{CanFinish, CanJoin, IsInView, IsRunning, MayChoose, MayTurn}
+use Rattle.dr_machine.{specs.declared.event.Act.Act, proofs.{Groups.step_alive, Writes.count_written}}
 use Rattle.dr_machine.specs.declared.step.Step.TheVariants as steps
 use Rattle.dr_program.specs.{Acts.{may, taken}, Presence.with_present, Reading.{Shared, letters_of, world_of}}
 use Rattle.dr_program.specs.Replica.{Replica, greatest, is_inside, is_other, is_others, is_own, is_fault, may_give, may_null, may_receive, may_send, may_suspect, me, looked, pushed}
-use Rattle.dr_program.specs.Steps.{has_cell, allows, allows_inside, is_free, may_take, index_in, found, stepped_over, HasLetter, IsNoJoin, given_to, stored_letters}
-use Rattle.dr_program.proofs.Holdings.{held_of}
-use Rattle.dr_faithful.proofs.Faithfulness.{step_alive}
+use Rattle.dr_program.specs.Steps.{has_cell, allows, allows_inside, is_free, may_take, index_in, found, stepped_over, HasLetter, IsNoJoin}
+use Rattle.dr_program.proofs.{Holdings.held_of, Replicas.{word_inside, fault_test}}
 use Rattle.dr_machine.specs.declared.event.Act.TheVariants as acts
 use Rattle.dr_refine.specs.Programs.{HasRoomFor, IsMember, acted_table, stored_in, with_table_word}
 use Rattle.dr_refine.proofs.Acts.{append_effect, beat_effect, deliver_effect, publish_effect, report_effect, mark_effect, end_effect}
-use Rattle.dr_refine.proofs.{Finishes.{finish_effect, finish_guard, finish_room}, Joins.{give_guard, welcome_effect}}
+use Rattle.dr_refine.proofs.Finishes.{finish_effect, finish_guard, finish_room}
 use Rattle.dr_refine.proofs.Guards.{IsIdle, count_is, in_view_test, may_turn, no_vote_waits, beat_guard, look_guard, suspect_guard, other_member, other_below, push_guard, send_guard, null_guard, receive_guard, deliver_guard, append_guard, publish_guard, report_guard, mark_guard, halt_guard, crash_guard}
-use Rattle.dr_refine.proofs.{Looks.{look_effect, push_effect}, Puts.{null_effect, send_effect, receive_effect}}
-use Rattle.dr_refine.proofs.{Suspects.suspect_effect, Tables.word_inside}
+use Rattle.dr_refine.proofs.{Joins.{give_guard, welcome_effect}, Looks.{look_effect, push_effect}}
+use Rattle.dr_refine.proofs.{Puts.{null_effect, send_effect, receive_effect}, Suspects.suspect_effect}
 use Rattle.dr_refine.proofs.Votes.{accept_effect, accept_guard, commit_effect, commit_guard, propose_guard, vote_effect, vote_guard}
 use Rattle.dr_rows.specs.Words.{own}
 
@@ -31,19 +30,6 @@ use Rattle.dr_rows.specs.Words.{own}
 pub alive : (g : Group) (rs : List (Option Replica)) (table : Shared) (m : ℕ) (r : Replica)
     → IsMember g rs table m r → IsRunning g (world_of g rs table) m → r.end ≡ None
 alive g rs table m r is running = sym (ap (λ h. h.end) (held_of g rs table m r is.there)) ∙ running.running
-
-with_nothing : {T C : Type 0} → (T ↔ C) → T ↔ (C × Unit {0})
-with_nothing same = (λ t. (same.0 t, tt), λ c. same.1 c.0)
-
-with_letter : {T C : Type 0} → (T ↔ C) → (T × Unit {0}) ↔ C
-with_letter same = (λ t. same.0 t.0, λ c. (same.1 c, tt))
-
-fault_test : (end : End) → (is_fault end ≡ true) ↔ IsFault end
-fault_test Crashed = (λ e. tt, λ f. refl)
-fault_test DiskFault = (λ e. tt, λ f. refl)
-fault_test (LogFull len) = (λ e. tt, λ f. refl)
-fault_test (Spent turns) = (λ e. tt, λ f. refl)
-fault_test end = (λ e. absurd (cc), λ f. absurd f)
 
 end_guard : (g : Group) (rs : List (Option Replica)) (table : Shared) (m : ℕ) (r : Replica) (end : End)
     → IsMember g rs table m r → r.end ≡ None → (is_fault end ≡ true)
@@ -53,19 +39,15 @@ end_guard g rs table m r end is unended = (
   λ can. (fault_test end).1 ((crash_guard g rs table m r end is unended).1 can.0),
 )
 
-idle_test : (o : Option Vote) → (not (is_some o) ≡ true) ↔ (o ≡ None)
-idle_test None = (λ e. refl, λ e. refl)
-idle_test (Some x) = (λ e. absurd (cc), λ e. absurd (cc))
-
 -- a test behind that whether a vote waits
 unless_waiting : (g : Group) (rs : List (Option Replica)) (table : Shared) (m : ℕ)
     (r : Replica) (test : Bool) {Can : Type 0} → IsMember g rs table m r → (r.pending ≡ None → (test ≡ true) ↔ Can)
     → (Can → MayTurn g (world_of g rs table) m) → ((not (is_some r.pending) && test) ≡ true) ↔ Can
 unless_waiting g rs table m r test is same may = (
   λ e. let two = and_parts (not (is_some r.pending)) test e in
-      (same ((idle_test r.pending).0 two.0)).0 two.1,
+      (same ((none_test r.pending).0 two.0)).0 two.1,
   λ can. let idle = no_vote_waits g rs table m r is (may can) in
-      and_from (not (is_some r.pending)) test ((idle_test r.pending).1 idle) ((same idle).1 can),
+      and_from (not (is_some r.pending)) test ((none_test r.pending).1 idle) ((same idle).1 can),
 )
 
 -- and whether it is in its view
@@ -199,22 +181,16 @@ step_guard g rs table m r steps.Join is unended no_join = absurd no_join
 step_guard g rs table m r s is unended no_join = unless_idle g rs table m r (allows_inside r s) is unended
     (λ idle. free_guard g rs table m r s is idle no_join) (λ can. can.0.may)
 
--- a letter that is there is one for any step
-pub has_letter : (letter : Option (List Entry)) (es : List Entry) (s : Step) → letter ≡ Some es → HasLetter letter s
-has_letter letter es steps.Join found = (es, found)
-has_letter letter es (steps.Do a) found = tt
-has_letter letter es s found = tt
-
 -- and any one, where it finds a letter if it needs one
 pub taken_guard : (g : Group) (rs : List (Option Replica)) (table : Shared) (m : ℕ) (r : Replica) (s : Step)
     → IsMember g rs table m r → r.end ≡ None → (((is_free r s && allows r s) ≡ true)
     × HasLetter (letters_of table.letters m) s) ↔ (CanTake g (world_of g rs table) m s × HasRoomFor r s)
 taken_guard g rs table m r steps.Join is unended = (
   λ e. let two = and_parts (not (is_some r.pending)) (not (is_inside r)) e.0 in
-      ((join_guard g rs table m r is unended ((idle_test r.pending).0 two.0)).0 (two.1, e.1), tt),
+      ((join_guard g rs table m r is unended ((none_test r.pending).0 two.0)).0 (two.1, e.1), tt),
   λ can. let idle = no_vote_waits g rs table m r is can.0.may in
       let test = (join_guard g rs table m r is unended idle).1 can.0 in
-      (and_from (not (is_some r.pending)) (not (is_inside r)) ((idle_test r.pending).1 idle) test.0, test.1),
+      (and_from (not (is_some r.pending)) (not (is_inside r)) ((none_test r.pending).1 idle) test.0, test.1),
 )
 taken_guard g rs table m r (steps.Do a) is unended = with_letter (step_guard g rs table m r (steps.Do a) is unended tt)
 taken_guard g rs table m r (steps.Look i c) is unended = with_letter (step_guard g rs table m r (steps.Look i c) is unended tt)
@@ -223,20 +199,16 @@ taken_guard g rs table m r steps.Append is unended = with_letter (step_guard g r
 taken_guard g rs table m r (steps.LogVote v) is unended = with_letter (step_guard g rs table m r (steps.LogVote v) is unended tt)
 taken_guard g rs table m r (steps.Welcome j) is unended = with_letter (step_guard g rs table m r (steps.Welcome j) is unended tt)
 
-running_test : (o : Option End) → (not (is_some o) ≡ true) ↔ (o ≡ None)
-running_test None = (λ e. refl, λ e. refl)
-running_test (Some x) = (λ e. absurd (cc), λ e. absurd (cc))
-
 -- a replica may take a step exactly where that may come
 pub step_test : (g : Group) (rs : List (Option Replica)) (table : Shared) (m : ℕ) (r : Replica) (s : Step)
     → IsMember g rs table m r → ((may_take r s ≡ true) × HasLetter (letters_of table.letters m) s)
     ↔ (CanTake g (world_of g rs table) m s × HasRoomFor r s)
 step_test g rs table m r s is = (
   λ e. let two = and_parts (not (is_some r.end)) (is_free r s && allows r s) e.0 in
-      (taken_guard g rs table m r s is ((running_test r.end).0 two.0)).0 (two.1, e.1),
+      (taken_guard g rs table m r s is ((none_test r.end).0 two.0)).0 (two.1, e.1),
   λ can. let unended = alive g rs table m r is (step_alive g (world_of g rs table) m s can.0) in
       let test = (taken_guard g rs table m r s is unended).1 can in
-      (and_from (not (is_some r.end)) (is_free r s && allows r s) ((running_test r.end).1 unended) test.0, test.1),
+      (and_from (not (is_some r.end)) (is_free r s && allows r s) ((none_test r.end).1 unended) test.0, test.1),
 )
 
 -- an act of a replica is the effect of the act
@@ -263,9 +235,6 @@ act_effect g rs table m r (acts.Halt end) is may = end_effect g rs table m r end
 act_effect g rs table m r (acts.Crash end) is may = end_effect g rs table m r end is
 
 -- ---- room
-
-pub count_written : (count : ℕ → ℕ → ℕ → ℕ) (m v s x : ℕ) → at₂ count m v (at (count m v) s x) m v s ≡ x
-count_written count m v s x = grind arith
 
 -- a replica with room for one entry more has the room that a step asks for, where what comes of the step keeps
 -- within what it may hold
@@ -334,16 +303,6 @@ step_effect g rs table m r (steps.Welcome j) is may no_join =
 step_effect g rs table m r steps.Join is may no_join = absurd no_join
 
 -- ---- whom a step gives a letter
-
-pub given_welcome : (s : Step) (j : ℕ) → given_to s ≡ Some j → s ≡ steps.Welcome j
-given_welcome (steps.Welcome k) j e = ap steps.Welcome (same_Some k j e)
-given_welcome s j e = absurd (cc e)
-
--- a step gives somebody a letter, or leaves all letters
-pub letters_then : (letters : List (Option (List Entry))) (r : Replica) (s : Step)
-    → ((j : ℕ) × (s ≡ steps.Welcome j)) ⊎ ((given_to s ≡ None) × (stored_letters letters r s ≡ letters))
-letters_then letters r (steps.Welcome j) = inl (j, refl)
-letters_then letters r s = inr (refl, refl)
 
 -- the word that a look finds is the one in the world
 pub word_is : (g : Group) (rs : List (Option Replica)) (table : Shared) (m : ℕ) (r : Replica) (i c : ℕ)

@@ -3,6 +3,7 @@ use Rattle.std.{specs.Prelude.{Option, Some, None, is_some, unwrap_or}, proofs.M
 use Rattle.std.proofs.Common.{◌≡◌, ◌↔◌, refl, sym, ap, ◌∙◌, subst, ℕ, ◌+◌, ◌^◌, ◌<◌, ◌≤◌, ◌==◌, ◌||◌, ◌⊎◌, inl, inr, not, Bool, true, false, if◌then◌else◌, List, [], ◌∷◌, ◌++◌, length, arith}
 use Rattle.std.proofs.lemmas.{Bool.{and_from, and_parts, cases_eq, eq-eqb, eqb-true}, List.length-take-le}
 use Rattle.dr_entry.{specs.declared.record.{Value.Value, Vote.Vote}, proofs.NumberFacts.{same_number, other_number}}
+use Rattle.dr_entry.proofs.OptionFacts.{not_less, none_test}
 use Rattle.dr_history.specs.Members.{has}
 use Rattle.dr_rows.{specs.Words.{own, seen}, proofs.Rewrites.{IsWords-rewritten, own_rewritten_all, seen_rewritten}}
 use Rattle.dr_words.specs.{Accepts.{Shown, Shows, promise_of}, Changes.{IsProposal, MayAccept, MayCommit, MayPropose}}
@@ -12,15 +13,15 @@ use Rattle.dr_words.proofs.{Masks.{has_without_mask, in_roster_small}, Rewrites.
 use Rattle.dr_words.proofs.Values.{proposal_once, shows_once}
 use Rattle.dr_machine.specs.{Effects.{accepts, commits, logs_vote, stamped}, Group.{Group, roster}}
 use Rattle.dr_machine.specs.{Guards.{CanAccept, CanCommit, CanLogVote, CanPropose}, Votes.vote_in}
-use Rattle.dr_machine.specs.{World.{World, no_vote, shown}, Writes.at}
+use Rattle.dr_machine.{specs.{World.{World, no_vote, shown}, Writes.at}, proofs.Writes.row_written}
+use Rattle.dr_faithful.proofs.Copies.{Fits}
 use Rattle.dr_program.specs.{Presence.with_present, Reading.{Shared, kept_word, world_of}}
 use Rattle.dr_program.specs.Replica.{Replica, accepted, acted, decided, is_inside, is_others, is_own, is_value, is_wedged, may_append, may_commit, may_vote, me, promise, value_due, vote_of, voted}
-use Rattle.dr_program.proofs.{Holdings.{Changes, Holding, held, held_of, holding_of}, Present.present_within}
-use Rattle.dr_program.proofs.Voting.{value_long, value_test}
+use Rattle.dr_program.proofs.Holdings.{held_of, holding_of, own_here, replaced, shown_seen, vote_after, vote_changes, commit_after, commit_changes, accept_from, accept_after, accept_changes}
+use Rattle.dr_program.proofs.{Present.present_within, Voting.{value_long, value_test}}
 use Rattle.dr_program.specs.Replica as replicas
-use Rattle.dr_refine.{specs.Programs.{IsMember, acted_table}, proofs.Gains.{own_here, row_written}}
-use Rattle.dr_refine.proofs.Guards.{IsIdle, in_view_test, may_choose, members_are, not_less, running, suspects_are, wedged}
-use Rattle.dr_refine.proofs.Members.{Fits, fits, replaced, shown_seen, then_acted}
+use Rattle.dr_refine.{specs.Programs.{IsMember, acted_table}, proofs.Members.{fits, then_acted}}
+use Rattle.dr_refine.proofs.Guards.{IsIdle, in_view_test, may_choose, members_are, running, suspects_are, wedged}
 
 -- ---- the rows
 
@@ -68,10 +69,6 @@ self_left g rs table m r is inside = has_without_mask r.members r.suspects (me r
     ∙ and_from _ _ inside (ap not is.form.trusted)
 
 -- ---- votes
-
-none_test : {A : Type 0} (o : Option A) → (not (is_some o) ≡ true) ↔ (o ≡ None)
-none_test None = (λ e. refl, λ e. refl)
-none_test (Some x) = (λ e. absurd (cc), λ e. absurd (cc))
 
 -- what the world allows of a value, at the replica's rows
 abbrev IsAllowed : Value → ℕ → Shown → ℕ → ℕ → ℕ → Type 0
@@ -260,16 +257,6 @@ commit_guard g rs table m r is free = (
 
 -- ---- effects
 
-abbrev vote_after : Group → Value → Holding → Holding
-vote_after g v h = record h {
-  votes = h.votes ++ vote_in g h.view h.promise v ∷ [];
-  pending = Some (vote_in g h.view h.promise v);
-}
-
-vote_changes : (g : Group) (w : World) (m : ℕ) (v : Value)
-    → Changes w (logs_vote g w m v) m (vote_after g v (held w m))
-vote_changes g w m v = record { others = λ k other. rw (other_number k m other) refl; here = rw (same_number m) refl }
-
 -- a vote goes on the log
 pub vote_effect : (g : Group) (rs : List (Option Replica)) (table : Shared) (m : ℕ) (r : Replica) (v : Value)
     → IsMember g rs table m r
@@ -286,12 +273,6 @@ vote_effect g rs table m r v is =
     is.there (vote_changes g (world_of g rs table) m v)
     (λ z. record (holding_of g r) { votes = r.votes ++ vote z ∷ []; pending = Some (vote z) }) refl refl
 
-abbrev commit_after : Holding → Holding
-commit_after h = record h { committed = Some h.value }
-
-commit_changes : (w : World) (m : ℕ) → Changes w (commits w m) m (commit_after (held w m))
-commit_changes w m = record { others = λ k other. rw (other_number k m other) refl; here = rw (same_number m) refl }
-
 -- a value is committed
 pub commit_effect : (g : Group) (rs : List (Option Replica)) (table : Shared) (m : ℕ) (r : Replica)
     → IsMember g rs table m r → world_of g (with_present rs m (acted (decided r))) (acted_table g table m r)
@@ -299,21 +280,6 @@ pub commit_effect : (g : Group) (rs : List (Option Replica)) (table : Shared) (m
 commit_effect g rs table m r is = then_acted g rs table m (decided r) (commits (world_of g rs table) m)
     (present_within rs m r is.there) (fits g rs table m r is) is.cells (replaced g rs table table m r (decided r)
     (commits (world_of g rs table) m) commit_after is.there (commit_changes (world_of g rs table) m) refl refl refl)
-
--- what a member has once it has accepted this vote, where these were its own words in its view
-abbrev accept_from : Group → Holding → Vote → (ℕ → ℕ) → Holding
-accept_from g h vote own = record h {
-  own = at h.own h.view (λ c. accepted_word (roster g) h.members (vote.ballot + 1) vote.value c (own c));
-  tag = vote.ballot + 1;
-  value = vote.value;
-  pending = None;
-}
-
-abbrev accept_after : Group → Holding → Holding
-accept_after g h = accept_from g h (unwrap_or h.pending no_vote) (h.own h.view)
-
-accept_changes : (g : Group) (w : World) (m : ℕ) → Changes w (accepts g w m) m (accept_after g (held w m))
-accept_changes g w m = record { others = λ k other. rw (other_number k m other) refl; here = rw (same_number m) refl }
 
 -- what it has voted for is accepted
 pub accept_effect : (g : Group) (rs : List (Option Replica)) (table : Shared) (m : ℕ) (r : Replica)

@@ -2,16 +2,16 @@
 use Rattle.std.{specs.Prelude.vec_capacity, proofs.lemmas.List.{get_or-set_same, get_or_read}}
 use Rattle.std.proofs.Common.{◌≡◌, ℕ, ◌+◌, ◌*◌, ◌<◌, ◌≤◌, false, List, [], ◌∷◌, ◌++◌, length, map, get_or, set, slice_index, slice_index_or, Option, Some, unwrap_or, sym, ap, subst, ◌∙◌, arith, le_trans}
 use Rattle.dr_entry.specs.declared.{end.SentItem.SentItem, entry.Item.{Item, TheVariants.{Null, Text}}}
-use Rattle.dr_history.specs.{Members.members_of, Places.front_of}
+use Rattle.dr_history.{specs.{Members.members_of, Places.front_of}, proofs.Fronts.front_rises}
 use Rattle.dr_ring.specs.Slots.{item_in, slot_of, with_item}
 use Rattle.dr_rows.specs.Words.{Words, own}
 use Rattle.dr_words.specs.{Columns.recv_column, Packing.recv_word, declared.column.TheConstants.RECEIVED_COLUMN}
-use Rattle.dr_program.specs.Form.{HasForm}
+use Rattle.dr_words.proofs.Gains.{shown}
+use Rattle.dr_program.{specs.Form.HasForm, proofs.Keeps.open_recv}
 use Rattle.dr_program.specs.Replica.{Replica, me, count, greatest, least_seen, next_index, ready_item, gained, put, received}
 use Rattle.dr_replica.specs.{Inside.{IsInsideReplica, replica_inside}, Items.{Held, front, taken}}
 use Rattle.dr_replica.{specs.declared.replica.Replica.TheInside.Inside, proofs.Insides.same_suspicion}
-use Rattle.dr_form.{specs.Puts.MayPut, proofs.Gains.{front_rises, shown}}
-use Rattle.dr_form.proofs.Keeps.{message_to_send, open_recv, putting}
+use Rattle.dr_form.{specs.Puts.MayPut, proofs.Keeps.{message_to_send, putting}}
 
 -- the words that follow an item more
 abbrev pub Shown : Words → Words → Held → ℕ → Type 0

@@ -9,14 +9,14 @@ use Rattle.dr_words.specs.{Masks.{with_member, without}, Rewrites.{accepted_word
 use Rattle.dr_words.{specs.declared.column.TheConstants.RECEIVED_COLUMN, proofs.Masks.least_read}
 use Rattle.dr_machine.specs.{Effects.entries_of, World.no_vote}
 use Rattle.dr_program.specs.Replica as replica
-use Rattle.dr_program.{specs.Form.HasForm, proofs.{Least.{other_received, next_held}, Replicas.may_of}}
+use Rattle.dr_program.specs.Form.{HasForm}
 use Rattle.dr_program.specs.Replica.{Replica, delivered, least_seen, may_deliver, may_suspect, suspected, suspicion_of, accepted, vote_of, voted}
-use Rattle.dr_form.proofs.Accepting.{accepted_form, decided_form, accepted_received}
-use Rattle.dr_form.proofs.Wedging.{suspected_form, suspected_received}
+use Rattle.dr_program.proofs.{Accepting.{accepted_form, decided_form, accepted_received}, Replicas.may_of}
+use Rattle.dr_program.proofs.{Least.{other_received, next_held}, Wedging.{suspected_form, suspected_received}}
 use Rattle.dr_words.specs.Masks as masks
 use Rattle.dr_suspect.specs.Suspicion.{Suspicion}
 use Rattle.dr_replica.specs.Items as items
-use Rattle.dr_replica.specs.{History.Kept, Inside.{IsInsideReplica, replica_inside}, Items.Held, Spots.IsSpot}
+use Rattle.dr_replica.specs.{History.Kept, Inside.{IsInsideReplica, replica_inside}, Spots.IsSpot}
 use Rattle.dr_replica.specs.declared.{replica.Replica.TheInside.Inside, spot.Spot.Spot}
 use Rattle.dr_replica.specs.History as histories
 

@@ -2,15 +2,13 @@
 use Rattle.std.proofs.Common.{◌≡◌, ℕ, ◌-◌, false, List, [], ◌∷◌, length, replicate, refl, sym, ap, subst, ◌∙◌, arith}
 use Rattle.std.proofs.lemmas.List.{length-map}
 use Rattle.dr_entry.specs.declared.entry.Entry.{Entry}
-use Rattle.dr_form.{specs.Letters.IsFitting, proofs.Finishing.{gave_form, joined_form}}
+use Rattle.dr_form.{specs.Letters.IsFitting, proofs.Finishing.joined_form}
 use Rattle.dr_history.specs.History.{last_view}
-use Rattle.dr_program.specs.Form.{HasForm, WaitsToJoin}
+use Rattle.dr_program.{specs.Form.{HasForm, WaitsToJoin}, proofs.Finishing.gave_form}
 use Rattle.dr_program.specs.Replica.{LeftView, Replica, is_inside, joined, left_now, nothing_left}
 use Rattle.dr_replica.specs.{Inside.{IsInsideReplica, replica_inside}, Lefts.left_of, declared.left.Left.Left}
 use Rattle.dr_replica.{specs.declared.replica.Replica.TheInside.Inside, proofs.Leaving.AreEntered}
 use Rattle.dr_words.specs.Masks.{with_member}
-
--- ---- the welcomer
 
 -- ---- a letter that was given
 

@@ -5,7 +5,7 @@ use Rattle.std.proofs.lemmas.{Bool.{and_parts, ltb-true}, List.Elements.All-pop}
 use Rattle.dr_entry.specs.{declared.entry.Entry.{Entry, TheVariants.View}, declared.record.Value.Value}
 use Rattle.dr_history.specs.{Members.{has, members_of}, Order.messages_from}
 use Rattle.dr_machine.specs.World.{no_value}
-use Rattle.dr_program.{specs.Form.HasForm, proofs.Replicas.entered_some}
+use Rattle.dr_program.{specs.Form.HasForm, proofs.{Finishing.finished_form, Replicas.entered_some}}
 use Rattle.dr_program.specs.Replica.{LeftView, Replica, entered, finished, finished_by, finished_history, greatest, is_inside, left_now, may_end, may_finish, me}
 use Rattle.dr_rows.specs.Words.{Words, begun, with_own}
 use Rattle.dr_suspect.specs.Suspicion.{Suspicion, trusting}
@@ -16,7 +16,6 @@ use Rattle.dr_replica.specs.{Lefts.{HasRoom, IsSpare, left_of}, Rests.{has_taken
 use Rattle.dr_replica.specs.{Spots.first_spot, declared.{left.Left.Left, replica.Replica.TheInside.Inside}}
 use Rattle.dr_replica.{specs.declared.spot.Spot.Spot, proofs.{Delivering.merged_same, Openings.AreReserved}}
 use Rattle.dr_replica.proofs.Spots.{first_is_spot}
-use Rattle.dr_form.proofs.Finishing.{finished_form}
 
 -- what the fields say of a member that may end its view with a value
 pub record MayLeave (a : Inside) (x : Value) : Type 0 where

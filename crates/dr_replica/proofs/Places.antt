@@ -3,7 +3,7 @@ use Rattle.std.proofs.Common.{◌≡◌, ℕ, ◌+◌, ◌*◌, ◌/◌, ◌%◌
 use Rattle.std.proofs.lemmas.{Bool.{cases_lt, ltb-true}, Nat.{mod_below, mul-le, mul-add-lt}}
 use Rattle.std.proofs.lemmas.List.{get_or-map, get_or-replicate, get_or_past, get_or_read, length-map, length-replicate}
 use Rattle.dr_entry.{specs.declared.entry.Item.{Item, TheVariants.Null}, proofs.Items.all_null}
-use Rattle.dr_entry.proofs.ListPlaces.{greatest_within}
+use Rattle.dr_entry.proofs.{ListFacts.counts_rise, ListPlaces.greatest_within}
 use Rattle.dr_history.{specs.{Members.members_of, Places.{place_of, is_held, AllHeldBelow}}, proofs.Fronts.front_is}
 use Rattle.dr_history.proofs.{MemberLemmas.few_members, Places.{front_of_none, held_item}}
 use Rattle.dr_words.{specs.Masks.IsInRoster, proofs.Ranks.roster_members}
@@ -12,7 +12,6 @@ use Rattle.dr_replica.specs.Inside.{AreItems, held_of}
 use Rattle.dr_replica.specs.Items.{Held, IsHeld, counts_of, front, none_held, sender_held_at, item_held_at}
 use Rattle.dr_replica.specs.{Rests.AreWithin, Spots.{IsSpot, first_spot}, declared.items.Items.TheInside.Inside}
 use Rattle.dr_replica.{specs.declared.spot.Spot.Spot, proofs.Spots.{first_is_spot, spot_number, spot_rank}}
-use Rattle.dr_form.proofs.Gains.{counts_rise}
 
 -- a place that trims take has its item
 pub trims_held : (h : Held) (trims : List ℕ) (p : ℕ) → AreWithin h trims → is_held trims p ≡ true

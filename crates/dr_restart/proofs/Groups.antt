@@ -1,12 +1,13 @@
 -- A script and a first start make a group.
 use Rattle.std.{specs.Prelude.All, proofs.Common.{◌≡◌, true, sym, ap, ℕ, ◌-◌, ◌^◌, ◌<◌, ◌≤◌, List, [], length, arith}}
-use Rattle.std.proofs.lemmas.Option.{slice_get_within}
+use Rattle.std.proofs.lemmas.Option.{slice_get_within, none-some}
 use Rattle.dr_entry.specs.{Spelling.IsValidEntry, declared.entry.Entry.{Entry, TheVariants.{View, Msg}}}
-use Rattle.dr_entry.proofs.{Bits.few_at, ListPlaces.{each_at, byte_at}, NumberFacts.above_whole}
+use Rattle.dr_entry.proofs.{Bits.few_at, ListParts.in-nothing, ListPlaces.{each_at, byte_at}, NumberFacts.above_whole}
 use Rattle.dr_script.{specs.{Ranges.HasGroupRanges, declared.script.Script.Script}, proofs.Ranges.sender_small}
 use Rattle.dr_history.{specs.{Members.has, Soundness.MayStand}, proofs.{Bits.has_ones, Histories.no_view}}
 use Rattle.dr_machine.specs.Group.{IsGroup, AllPresent}
-use Rattle.dr_restart.specs.{Groups.first_group_of, Trying.opened_by, declared.start.Start.Start}
+use Rattle.dr_restart.specs.{Groups.{first_group_of, group_of}, Left.IsLeftByOther, Trying.opened_by}
+use Rattle.dr_restart.{specs.declared.start.Start.Start, proofs.Trying.nothing_on}
 
 -- a script is a group in its first age
 pub first_group : (script : Script) → HasGroupRanges script → IsGroup (first_group_of script)
@@ -42,3 +43,12 @@ valid_entry script start before (Msg s i b) ranges stands =
 -- nobody is absent in the first age of a script
 pub all_present : (script : Script) → length script.messages ≡ script.members → AllPresent (first_group_of script)
 all_present script lists = ap (λ n. 2 ^ n - 1) (sym lists)
+
+pub nothing_left : (script : Script) (start : Start) → IsLeftByOther (group_of script start) nothing_on
+nothing_left script start = record {
+  stands = λ i e at. absurd (none-some e at);
+  earlier = record {
+    views = λ a number members c. absurd (in-nothing (View a number members) c);
+    votes = λ x c. absurd (in-nothing x c);
+  };
+}

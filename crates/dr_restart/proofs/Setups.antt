@@ -1,12 +1,13 @@
 -- The setups of a script's members, and that they are those of its group.
 use Rattle.std.{specs.Prelude.{None, Option, Some}, proofs.lemmas.{Bool.cases_lt, Option.same_Some}}
-use Rattle.std.proofs.Common.{◌≡◌, ◌⊎◌, inl, inr, refl, sym, ap, ◌∙◌, subst, ℕ, ◌+◌, ◌<◌, ◌≤◌, List, [], ◌∷◌, ◌++◌, length, length-append, arith}
-use Rattle.dr_machine.specs.Group.{IsPresent}
-use Rattle.dr_program.specs.{Presence.present_at, Program.{AreSetups, Program, begun_program}}
-use Rattle.dr_program.{specs.declared.setup.Setup.Setup, proofs.Present.{each_more, still_there, last_there}}
-use Rattle.dr_script.specs.declared.script.Script.{Script}
-use Rattle.dr_restart.specs.{Groups.group_of, Setups.{AreFirstSetupsOf, AreSetupsOf, IsSetupOf, IsBegun}}
-use Rattle.dr_restart.specs.declared.start.Start.{Start}
+use Rattle.std.proofs.Common.{◌≡◌, ◌⊎◌, inl, inr, refl, sym, ap, ◌∙◌, subst, ℕ, ◌+◌, ◌<◌, ◌≤◌, List, [], ◌∷◌, ◌++◌, length, length-append, arith, ◌==◌, ◌&&◌, Bool, true, false, if◌then◌else◌}
+use Rattle.dr_machine.specs.{Group.{IsPresent, IsGroup}, Run.IsReached}
+use Rattle.dr_program.specs.{Presence.present_at, Program.{AreSetups, Program, begun_program}, Reading.world}
+use Rattle.dr_program.{specs.declared.setup.Setup.Setup, proofs.Opening.begun_reached}
+use Rattle.dr_program.proofs.Present.{each_more, still_there, place_new}
+use Rattle.dr_script.specs.declared.script.{Fault.Fault, Script.Script}
+use Rattle.dr_restart.specs.{Groups.group_of, declared.start.Start.Start}
+use Rattle.dr_restart.specs.Setups.{AreFirstSetupsOf, AreSetupsOf, IsSetupOf, IsBegun, suspicion_in, suspicion_of}
 
 -- no setups are the first none of an age
 pub none : (script : Script) (start : Start) (nth : ℕ) → AreFirstSetupsOf script start nth 0 []
@@ -32,7 +33,7 @@ one_more script start nth n setups o so_far next there = record {
     by m (inr last) below here =
         let same : m ≡ n = omega (arith, last, below) in
         let new = there (subst (IsPresent (group_of script start)) same here) in
-        (new.0, ap (present_at (setups ++ o ∷ [])) same ∙ last_there setups o n so_far.all ∙ new.1)
+        (new.0, ap (present_at (setups ++ o ∷ [])) same ∙ place_new setups o n so_far.all ∙ new.1)
 
 -- the next member's setup, behind the first n, makes them the first n + 1
 pub more : (script : Script) (start : Start) (nth n : ℕ) (setups : List (Option Setup)) (s : Setup)
@@ -68,3 +69,18 @@ pub begun_same : AreOne → (script : Script) (start : Start) (nth : ℕ) (p q :
     → IsBegun script start nth q → p ≡ q
 begun_same same script start nth p q (setups, are, is) (setups', are', is') =
     is ∙ ap (begun_program (group_of script start)) (same script start nth setups setups' are are') ∙ sym is'
+
+-- the world in which an age begins is reached
+pub age_begins_reached : (script : Script) (start : Start) (nth : ℕ) (begun : Program)
+    → IsGroup (group_of script start) → length script.messages ≡ script.members → IsBegun script start nth begun
+    → IsReached (group_of script start) (world (group_of script start) begun)
+age_begins_reached script start nth begun is lists begins = subst (λ p. IsReached (group_of script start)
+    (world (group_of script start) p)) (sym begins.2) (begun_reached (group_of script start) script.turns begins.0 is
+    (are_setups script start nth begins.0 lists begins.1))
+
+pub unsuspected : (nth m : ℕ) (f : Fault) → suspicion_in f.what ≡ None → suspicion_of nth m f ≡ None
+unsuspected nth m f none = by ((f.age == nth) && (f.member == m))
+  where
+    by : (b : Bool) → (if b then suspicion_in f.what else None) ≡ None
+    by true = none
+    by false = refl

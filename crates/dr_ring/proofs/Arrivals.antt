@@ -1,11 +1,12 @@
 -- What is read from a slot of which some words have come.
 use Rattle.std.{specs.List.{list_all, range_with_len}, proofs.lemmas.Bool.Decides.nat_tests}
-use Rattle.std.proofs.Common.{◌≡◌, ℕ, suc, ◌+◌, ◌^◌, ◌<◌, ◌≤◌, Bool, true, false, cond, length, get_or, map, Option, Some, None, refl, sym, ap, ◌∙◌, arith}
-use Rattle.dr_entry.{specs.declared.entry.Item.Item, proofs.ListFacts.{first_words, same_tests}}
+use Rattle.std.proofs.Common.{◌≡◌, ℕ, suc, ◌+◌, ◌^◌, ◌<◌, ◌≤◌, Bool, true, false, cond, length, get_or, map, Option, Some, None, refl, sym, ap, ◌∙◌, arith, slice_index, subst, zero}
+use Rattle.dr_entry.{specs.declared.entry.Item.Item, proofs.{Fields.IsItem, ListFacts.{first_words, same_tests}}}
 use Rattle.dr_entry.proofs.NumberFacts.{tests_all}
 use Rattle.dr_words.{specs.Packing.{ring_word, ring_tag, ring_low}, proofs.Packed.{low_word, same_pieces}}
-use Rattle.dr_ring.specs.{Pieces.{head_piece, body_pieces, pieces, item_of}, Slots.{is_of, item_in}}
-use Rattle.dr_ring.proofs.Items.{IsItem, item_of-pieces, body_len-pieces, head_is_head, head_fits, piece_fits}
+use Rattle.dr_ring.specs.Pieces.{head_piece, body_pieces, pieces, item_of, body_len}
+use Rattle.dr_ring.specs.Slots.{is_of, item_in, IsReady}
+use Rattle.dr_ring.proofs.Items.{item_of-pieces, body_len-pieces, head_is_head, head_fits, piece_fits, few_pieces}
 
 -- the words that have come hold the pieces of item k, and the others are of earlier items
 pub record HasCome (k : ℕ) (item : Item) (slot : ℕ → ℕ) (come : ℕ → Bool) : Type 0 where
@@ -61,3 +62,31 @@ item_in-come k item slot come is words = by (come 0) refl
         let tag = of_word k (slot 0) (head_piece item) (head_fits item is) head in
         let low = low_word k (slot 0) (head_piece item) (head_fits item is) head in
         rw (tag, low, head_is_head item is, body_len-pieces item is, tests, e) (read all refl)
+
+-- the words that item k needs are there: then it is the item that was put
+pub ready_item : (k : ℕ) (item : Item) (slot : ℕ → ℕ) → IsItem item → IsReady k slot
+    → ((part : ℕ) → part < 17 → ring_tag (slot part) ≡ k + 1 → slot part
+    ≡ ring_word k (slice_index (pieces item) part)) → item_in k slot ≡ Some item
+ready_item k item slot is ready words = item_in-come k item slot (λ part. true) is
+    (record { here = λ part l e. here part l; earlier = λ part l e. absurd (cc e) })
+    ∙ ap (λ (b : Bool). cond b (Some item) None) (all_true (length (pieces item)) 0)
+  where
+    all_true : (n a : ℕ) → list_all (λ (part : ℕ). true) (range_with_len a n) ≡ true
+    all_true zero a = refl
+    all_true (suc n) a = all_true n (a + 1)
+
+    head : slot 0 ≡ ring_word k (head_piece item)
+    head = words 0 (omega arith) ready.head
+
+    low : ring_low (slot 0) ≡ head_piece item
+    low = omega (arith, head, head_fits item is)
+
+    here : (part : ℕ) → part < length (pieces item) → slot part ≡ ring_word k (slice_index (pieces item) part)
+    here zero l = head
+    here (suc part) l =
+        let body : body_len (ring_low (slot 0)) ≡ length (body_pieces item) = ap body_len low
+        ∙ body_len-pieces item is in
+        let there : 1 + part ≡ suc part = omega arith in
+        let tag : ring_tag (slot (suc part)) ≡ k + 1 = subst (λ i. ring_tag (slot i) ≡ k + 1) there
+        (ready.body part (omega (arith, body))) in
+        words (suc part) (omega (arith, few_pieces item is)) tag

@@ -1,13 +1,13 @@
 -- An item is what its pieces say.
 use Rattle.std.specs.{Int.{w32, div_ceil, to_be_bytes}, List.range_with_len}
-use Rattle.std.proofs.Common.{◌≡◌, ℕ, zero, suc, ◌+◌, ◌-◌, ◌*◌, ◌^◌, ◌<◌, ◌≤◌, inl, inr, true, false, ◌==◌, List, [], ◌++◌, length, get_or, take, drop, map, refl, sym, ap, ◌∙◌, arith, length-drop}
+use Rattle.std.proofs.Common.{◌≡◌, ℕ, zero, suc, ◌+◌, ◌-◌, ◌*◌, ◌^◌, ◌<◌, ◌≤◌, inl, inr, true, false, ◌==◌, List, [], ◌++◌, length, get_or, take, drop, map, refl, sym, ap, ◌∙◌, arith, length-drop, subst, ◌⊎◌, slice_index}
 use Rattle.std.proofs.lemmas.{Bool.{cases_lt, Decides.nat_tests}, List.{drop-drop, drop_all, get_or_past}}
 use Rattle.std.proofs.lemmas.List.FromFn.{length-map-range_with_len, get_or-map-range_with_len}
-use Rattle.dr_words.specs.declared.column.TheConstants.{PIECES}
+use Rattle.dr_words.specs.{Packing.{ring_low, ring_tag, ring_word}, declared.column.TheConstants.PIECES}
 use Rattle.dr_entry.specs.declared.entry.Item.{Item, TheVariants.{Null, Text}}
-use Rattle.dr_entry.{specs.declared.limits.TheConstants.MAX_MESSAGE_LENGTH, proofs.Fields.{IsBytes, number_below_4}}
-use Rattle.dr_entry.proofs.{ListFacts.IsBytes-drop, ListPlaces.bytes_back}
+use Rattle.dr_entry.proofs.{Fields.{IsBytes, number_below_4, IsItem}, ListFacts.IsBytes-drop, ListPlaces.bytes_back}
 use Rattle.dr_ring.specs.Pieces.{null_mark, is_head, body_len, body_piece, head_piece, body_pieces, pieces, bytes_of, item_of}
+use Rattle.dr_ring.specs.Slots.{IsReady}
 
 -- the pieces of a body from part i on hold the bytes from there on
 text_back : (n i : ℕ) (bytes : List ℕ) → IsBytes bytes → length bytes ≤ 4 * (i + n)
@@ -27,11 +27,6 @@ text_back (suc n) i bytes fits short =
     ∙ bytes_back here rest (IsBytes-drop (4 * i) bytes fits) later
 
 -- ---- an item
-
--- what an item of the code is
-abbrev pub IsItem : Item → Type 0
-IsItem Null = Unit {0}
-IsItem (Text bytes) = (length bytes ≤ MAX_MESSAGE_LENGTH) × IsBytes bytes
 
 -- an item is read back from its pieces
 pub item_of-pieces : (item : Item) → IsItem item → item_of (head_piece item) (body_pieces item) ≡ item
@@ -76,3 +71,27 @@ piece_fits (Text bytes) (suc part) is = elim (cases_lt part (div_ceil (length by
   | inr past ↦ rw (get_or_past (body_pieces (Text bytes)) part 0
       (omega (arith, length-map-range_with_len (body_piece bytes) 0 (div_ceil (length bytes) 4)))) (omega arith)
 ]
+
+-- the head of an item is its length, or the mark of a null
+pub short_or_null : (item : Item) → IsItem item → (head_piece item ≤ 64) ⊎ (head_piece item ≡ null_mark)
+short_or_null Null is = inr refl
+short_or_null (Text bytes) is = inl is.0
+
+-- the words of a slot are pieces of item k
+abbrev pub AreOf : ℕ → Item → (ℕ → ℕ) → Type 0
+AreOf k item slot = (part : ℕ) → part < length (pieces item)
+    → (ring_tag (slot part) ≡ k + 1) × (slot part ≡ ring_word k (slice_index (pieces item) part))
+
+-- then the item is ready
+pub ready : (k : ℕ) (item : Item) (slot : ℕ → ℕ) → IsItem item → AreOf k item slot → IsReady k slot
+ready k item slot is are = record {
+  head = (are 0 (omega arith)).0;
+  length_or_null = subst (λ (z : ℕ). (z ≤ 64) ⊎ (z ≡ null_mark)) (sym low) (short_or_null item is);
+  body = λ part l. (are (1 + part) (omega (arith, needs, l))).0;
+}
+  where
+    low : ring_low (slot 0) ≡ head_piece item
+    low = omega (arith, (are 0 (omega arith)).1, head_fits item is)
+
+    needs : body_len (ring_low (slot 0)) ≡ length (body_pieces item)
+    needs = ap body_len low ∙ body_len-pieces item is

@@ -2,12 +2,11 @@
 use Rattle.std.{specs.List.list_any, proofs.lemmas.Bool.Decides.nat_tests}
 use Rattle.std.proofs.Common.{◌≡◌, ◌≢◌, ℕ, ◌+◌, ◌<◌, ◌≤◌, Bool, true, false, cond, ◌==◌, List, [], ◌∷◌, length, get_or, Some, None, refl, sym, ap, subst, ◌∙◌, arith}
 use Rattle.dr_words.specs.{Packing.{ring_word, ring_tag}, declared.column.TheConstants.PIECES}
-use Rattle.dr_entry.{specs.declared.entry.Item.Item, proofs.NumberFacts.merged}
+use Rattle.dr_entry.{specs.declared.entry.Item.Item, proofs.{Fields.IsItem, NumberFacts.merged}}
 use Rattle.dr_rows.specs.Words.{Words, IsGrid, looked, own, word_at, with_word}
 use Rattle.dr_rows.proofs.Grids.{with_word-same, with_word-column, IsGrid-with_word}
-use Rattle.dr_ring.specs.{Arrival.{Awaits, after_looks, has_all}, Pieces.pieces}
-use Rattle.dr_ring.{specs.Slots.{slot_column, slot_of, with_item, item_in}, proofs.Arrivals.item_in-come}
-use Rattle.dr_ring.proofs.{Items.{IsItem, few_pieces}, Writes.{HasSlot, own_set}}
+use Rattle.dr_ring.specs.{Arrival.{Awaits, after_looks, has_all}, Slots.{slot_column, slot_of, with_item, item_in}}
+use Rattle.dr_ring.{specs.Pieces.pieces, proofs.{Arrivals.item_in-come, Items.few_pieces, Writes.{HasSlot, own_set}}}
 
 -- the word that one look leaves at a part of the slot
 one_look : (window : ℕ) (w : Words) (me k column p v part : ℕ) → IsGrid w.members w.columns w.words

@@ -1,11 +1,11 @@
 -- The words of a member that puts an item.
 use Rattle.std.proofs.Common.{◌≡◌, ℕ, ◌+◌, ◌-◌, ◌*◌, ◌<◌, ◌≤◌, inl, inr, List, [], ◌++◌, length, get_or, take, drop, map, sym, ap, subst, ◌∙◌, arith, length-append, length-take, length-drop}
 use Rattle.std.proofs.lemmas.{Bool.cases_lt, List.{length-set, length-map, Elements.All-set}}
-use Rattle.dr_entry.specs.declared.entry.Item.{Item}
+use Rattle.dr_entry.{specs.declared.entry.Item.Item, proofs.Fields.IsItem}
 use Rattle.dr_rows.specs.Words.{Words, own, row_of}
 use Rattle.dr_words.{specs.{Columns.columns_of, Grown.Grown, Packing.{ring_word, ring_tag}}, proofs.Tables.IsTable}
 use Rattle.dr_ring.specs.{Pieces.pieces, Slots.{slot_column, written, with_item}}
-use Rattle.dr_ring.proofs.{Growing.{pieces_grow, pieces_in_form}, Items.{IsItem, few_pieces, piece_fits}}
+use Rattle.dr_ring.proofs.{Growing.{pieces_grow, pieces_in_form}, Items.{few_pieces, piece_fits}}
 use Rattle.dr_ring.proofs.Writes.{HasSlot, HasSlot-from, own_set}
 use Rattle.dr_ring.proofs.Writes as writes
 

@@ -1,14 +1,14 @@
 -- The writes by which an item is put, one after the other.
-use Rattle.std.specs.List.{range_with_len}
-use Rattle.std.proofs.Common.{◌≡◌, ℕ, ◌+◌, ◌%◌, ◌<◌, ◌≤◌, inr, List, [], ◌∷◌, length, map, sym, ap, subst, ◌∙◌, arith}
+use Rattle.std.specs.{Int.div_ceil, List.range_with_len}
+use Rattle.std.proofs.Common.{◌≡◌, ℕ, ◌+◌, ◌%◌, ◌<◌, ◌≤◌, inr, List, [], ◌∷◌, length, map, sym, ap, subst, ◌∙◌, arith, ◌-◌}
 use Rattle.std.proofs.lemmas.{List.FromFn.{length-map-range_with_len, map-range_with_len_more}, Nat.mod_below}
 use Rattle.dr_words.specs.{Columns.{columns_of, head_column, body_column}, declared.column.TheConstants.PIECES}
 use Rattle.dr_words.{specs.{Form.AllInForm, Grown.Grown, Packing.{ring_word, ring_tag}}, proofs.Packed.ring_grows}
-use Rattle.dr_entry.specs.declared.entry.Item.{Item}
+use Rattle.dr_entry.{specs.declared.entry.Item.{Item, TheVariants.Text}, proofs.Fields.IsItem}
 use Rattle.dr_rows.{specs.Words.{Words, IsWords, own, seen, with_own}, proofs.RowWords.IsWords-before}
-use Rattle.dr_ring.{specs.Arrival.Arrives, proofs.Writes.{HasSlot, HasSlot-from, pieces_none, pieces_more, own_left}}
+use Rattle.dr_ring.{specs.Arrival.Arrives, proofs.{Growing.{pieces_grow, pieces_in_form}, Items.few_pieces}}
 use Rattle.dr_ring.specs.{Pieces.{pieces, body_piece}, Slots.{slot_column, slot_of, with_pieces, with_item}}
-use Rattle.dr_ring.proofs.{Growing.{pieces_grow, pieces_in_form}, Items.{IsItem, few_pieces}, Looks.item_arrives}
+use Rattle.dr_ring.proofs.{Looks.item_arrives, Writes.{HasSlot, HasSlot-from, pieces_none, pieces_more, own_left}}
 
 -- the rows in which an item is put
 pub record HasRoom (window : ℕ) (old : Words) (k : ℕ) : Type 0 where
@@ -107,3 +107,8 @@ pub put_in_form : (window : ℕ) (old new : Words) (k : ℕ) (item : Item) → H
     → new ≡ with_item window old k item → AllInForm old.members old.words → AllInForm new.members new.words
 put_in_form window old new k item room is after form = subst (λ (n : Words). AllInForm n.members n.words) (sym after)
     (pieces_in_form window old k (pieces item) room.slot (few_pieces item is) form)
+
+-- a message has no more pieces than a slot has words
+pub few_parts : (bytes : List ℕ) → length bytes ≤ 64 → length (pieces (Text bytes)) ≤ 17
+few_parts bytes short =
+    omega (arith, short, length-map-range_with_len (body_piece bytes) 0 (div_ceil (length bytes) 4))

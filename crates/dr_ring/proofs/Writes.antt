@@ -1,7 +1,7 @@
 -- The own row with the pieces of an item.
-use Rattle.std.proofs.Common.{◌≡◌, ◌≢◌, ℕ, ◌+◌, ◌-◌, ◌%◌, ◌<◌, ◌≤◌, ◌⊎◌, inl, inr, List, [], ◌∷◌, ◌++◌, length, get_or, set, take, drop, map, sym, ap, ◌∙◌, add-zero, append_assoc, arith, length-take, set-set}
-use Rattle.std.proofs.lemmas.List.{append-nil, take-append-drop, drop_more, set_at, length_push, get_or-set_same, get_or-set_other, set-get_or, get_or_append_left, get_or-append_right, get_or-take, get_or-drop, get_or-map, map_push, length-map}
-use Rattle.std.proofs.lemmas.Nat.{mod_below}
+use Rattle.std.proofs.Common.{◌≡◌, ◌≢◌, ℕ, ◌+◌, ◌-◌, ◌%◌, ◌<◌, ◌≤◌, ◌⊎◌, inl, inr, List, [], ◌∷◌, ◌++◌, length, get_or, set, take, drop, map, sym, ap, ◌∙◌, add-zero, append_assoc, arith, length-take, set-set, length-append, length-drop}
+use Rattle.std.proofs.lemmas.List.{append-nil, take-append-drop, drop_more, set_at, length_push, get_or-set_same, get_or-set_other, set-get_or, get_or_append_left, get_or-append_right, get_or-take, get_or-drop, get_or-map, map_push, length-map, length-set}
+use Rattle.std.proofs.lemmas.{List.Elements.All-set, Nat.mod_below}
 use Rattle.dr_entry.proofs.ListFacts.{written_length}
 use Rattle.dr_words.specs.{Columns.columns_of, Packing.ring_word, declared.column.TheConstants.PIECES}
 use Rattle.dr_rows.specs.Words.{Words, IsWords, row_of, seen, with_own}
@@ -124,3 +124,44 @@ HasSlot-from window w k form some columns =
     let slot : k % window < window = mod_below k window some in
     let width : length (row_of w.words w.me) ≡ w.columns = form.rows.width w.me [] present in
     record { present = present; columns = rw (width, columns) (omega arith) }
+
+-- the rows keep their form
+pub IsWords-pieces : (window : ℕ) (w : Words) (k : ℕ) (list : List ℕ) → HasSlot window w k
+    → length list ≤ 17 → IsWords w → IsWords (with_pieces window w k list)
+IsWords-pieces window w k list slot few form = record {
+  few = form.few;
+  narrow = form.narrow;
+  present = form.present;
+  rows = record {
+    height = length-set w.words w.me new ∙ form.rows.height;
+    width = All-set (λ row. length row ≡ w.columns) w.words w.me new
+        (same_length ∙ form.rows.width w.me [] slot.present) form.rows.width;
+  };
+  pushes = form.pushes;
+  marks = form.marks;
+  alive = form.alive;
+}
+  where
+    row : List ℕ
+    row = row_of w.words w.me
+
+    column : ℕ
+    column = slot_column w.members window k
+
+    words : List ℕ
+    words = map (ring_word k) list
+
+    new : List ℕ
+    new = written row column words
+
+    same_length : length new ≡ length row
+    same_length = omega (
+      arith,
+      slot.columns,
+      few,
+      length-append (take column row ++ words) (drop (column + length words) row),
+      length-append (take column row) words,
+      length-take column row,
+      length-drop (column + length words) row,
+      length-map list (ring_word k),
+    )

@@ -1,10 +1,11 @@
 -- Rows of words as a grid: what stands at each place, also after a write.
-use Rattle.std.proofs.Common.{◌≡◌, ◌≢◌, ℕ, ◌<◌, ◌⊎◌, inl, inr, List, [], length, get_or, set, replicate, sym, ap, ◌∙◌, arith, slice_index, ◌==◌, if◌then◌else◌}
-use Rattle.std.proofs.lemmas.{Bool.{cases_eq, cases_lt}, Grind.{common_steps, same_number_lists}}
+use Rattle.std.proofs.Common.{◌≡◌, ◌≢◌, ℕ, ◌<◌, ◌⊎◌, inl, inr, List, [], length, get_or, set, replicate, sym, ap, ◌∙◌, arith, slice_index, ◌==◌, if◌then◌else◌, refl}
+use Rattle.std.proofs.{Math.Path.fun_ext, lemmas.{Bool.{cases_eq, cases_lt}, Grind.{common_steps, same_number_lists}}}
 use Rattle.std.proofs.lemmas.List.{get_or-set_same, get_or-set_other, get_or_default, length-set, length-replicate, same_lists, set_past}
 use Rattle.std.proofs.lemmas.List.Elements.{All-set, All-replicate}
 use Rattle.dr_entry.proofs.NumberFacts.{same_number, other_number}
 use Rattle.dr_rows.specs.Words.{IsGrid, row_of, word_at, with_word, zeros, Words, own, with_own, looked, seen, IsWords}
+use Rattle.dr_rows.specs.Words as rows
 
 -- two grids with the same words are one
 pub same_grids : (n k : ℕ) (xs ys : List (List ℕ)) → IsGrid n k xs → IsGrid n k ys
@@ -103,4 +104,19 @@ own_with w c v d form within = elim (cases_eq d c) [
   | inl same ↦ rw (same, same_number c)
       (with_word-same w.members w.columns w.words w.me c v form.rows form.present within)
   | inr other ↦ rw (other_number d c other) (with_word-column w.words w.me c v w.me d other)
+]
+
+-- the own words stay
+pub looked_own : (w : Words) (kept : ℕ → ℕ → ℕ) (view i c x : ℕ) → i ≢ w.me
+    → ◌≡◌ {A = ℕ → ℕ → ℕ} (λ v d. if v == view then own w d else kept v d)
+    (λ v d. if v == view then own (rows.looked w i c x) d else kept v d)
+looked_own w kept view i c x other = fun_ext λ v. fun_ext λ d. ap (λ y. if v == view then y else kept v d)
+    (sym (ap (λ r. slice_index r d) (with_word-row w.words i c x w.me (λ e. other (sym e)))))
+
+-- and the seen words of the others stay
+pub seen_kept : (rows : Words) (c x : ℕ) → ◌≡◌ {A = ℕ → ℕ → ℕ} (λ i d. if i == rows.me then 0 else seen
+    (with_own rows c x) i d) (λ i d. if i == rows.me then 0 else seen rows i d)
+seen_kept rows c x = fun_ext λ i. fun_ext λ d. elim (cases_eq i rows.me) [
+  | inl same ↦ rw (same, same_number rows.me) refl
+  | inr other ↦ rw (other_number i rows.me other) (seen_with rows c x i d other)
 ]

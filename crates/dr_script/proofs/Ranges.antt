@@ -1,8 +1,7 @@
 -- Which messages may stand, by what was read.
 use Rattle.std.specs.Prelude.{unwrap_or}
-use Rattle.std.proofs.Common.{◌≡◌, ap, sym, ◌∙◌, subst, ℕ, ◌<◌, ◌≤◌, ◌⊎◌, inl, inr, arith, List, [], length, Some, slice_get, get_or, Bool, true, false, cond, Option, None, refl}
+use Rattle.std.proofs.Common.{◌≡◌, ap, sym, ◌∙◌, subst, ℕ, ◌<◌, ◌≤◌, ◌⊎◌, inl, inr, arith, List, [], length, Some, slice_get, get_or}
 use Rattle.std.proofs.lemmas.{Bool.cases_lt, Option.{slice_get_within, slice_get_past, unwrap_or-slice_get}}
-use Rattle.serde_json.specs.Data.{Data}
 use Rattle.dr_entry.proofs.Bits.{few_at}
 use Rattle.dr_script.specs.{Ranges.HasGroupRanges, declared.script.Script.Script}
 
@@ -28,6 +27,6 @@ index_small script s i b ranges at = omega (
   few_at script.messages s 4096 ranges.few,
 )
 
-pub none_either_way : (test : Bool) (o : Option Data) → (test ≡ true → o ≡ None) → cond test o None ≡ None
-none_either_way true o refused = refused refl
-none_either_way false o refused = refl
+-- the roster is small
+pub few : (script : Script) → HasGroupRanges script → length script.messages ≤ 16
+few script ranges = omega (arith, ranges.lists, ranges.most_members)

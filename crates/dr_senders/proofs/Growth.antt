@@ -5,8 +5,7 @@ use Rattle.std.proofs.lemmas.{Bool.cases_lt, List.{map-append, get_or_past}, Opt
 use Rattle.dr_entry.specs.declared.entry.Entry.{Entry, TheVariants.{Msg, View}}
 use Rattle.dr_entry.proofs.ListFacts.{unmoved_set, numbered_on}
 use Rattle.dr_history.specs.{History.{IsPrefixOf, messages_of}, Order.numbered_messages, Soundness.MayStand}
-use Rattle.dr_history.specs.declared.opening.Opening.{Opening}
-use Rattle.dr_history_laws.proofs.{Keeping.prefix_then, Lists.slice_get-prefix}
+use Rattle.dr_history.{specs.declared.opening.Opening.Opening, proofs.Lists.{slice_get-prefix, prefix-trans}}
 use Rattle.dr_senders.specs.{Pushing.given_by, Senders.{HaveGrown, Lists, given_in, taken_in}}
 use Rattle.dr_senders.specs.declared.sender.Sender.{Sender}
 
@@ -20,7 +19,7 @@ grown_then [] [] (z ∷ c) first next = absurd next
 grown_then [] (y ∷ b) c first next = absurd first
 grown_then (x ∷ a) [] c first next = absurd first
 grown_then (x ∷ a) (y ∷ b) [] first next = absurd next
-grown_then (x ∷ a) (y ∷ b) (z ∷ c) first next = (prefix_then x y z first.0 next.0, grown_then a b c first.1 next.1)
+grown_then (x ∷ a) (y ∷ b) (z ∷ c) first next = (prefix-trans x y z first.0 next.0, grown_then a b c first.1 next.1)
 
 pub grown_length : (old new : Lists) → HaveGrown old new → length new ≡ length old
 grown_length [] [] grown = refl
@@ -42,7 +41,7 @@ pub grown_set : {X : Type 0} (f : X → List (List ℕ)) (old : Lists) (xs : Lis
     → HaveGrown old (map f xs) → IsPrefixOf (f (get_or xs m d)) (f y) → HaveGrown old (map f (set xs m y))
 grown_set f old [] m y d l grown more = absurd (omega (arith, l))
 grown_set f [] (x ∷ xs) m y d l grown more = absurd grown
-grown_set f (o ∷ old) (x ∷ xs) zero y d l grown more = (prefix_then o (f x) (f y) grown.0 more, grown.1)
+grown_set f (o ∷ old) (x ∷ xs) zero y d l grown more = (prefix-trans o (f x) (f y) grown.0 more, grown.1)
 grown_set f (o ∷ old) (x ∷ xs) (suc m) y d l grown more =
     (grown.0, grown_set f old xs m y d (omega (arith, l)) grown.1 more)
 

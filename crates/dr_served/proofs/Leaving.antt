@@ -1,12 +1,15 @@
 -- What a mount finds of a log that its member has left.
-use Rattle.std.proofs.Common.{◌≡◌, sym, ap, ◌∙◌, ℕ, ◌+◌, inl, inr, List, [], ◌∷◌, ◌++◌, take, drop, Option, Some, None}
+use Rattle.std.proofs.Common.{◌≡◌, sym, ap, ◌∙◌, ℕ, ◌+◌, inl, inr, List, [], ◌∷◌, ◌++◌, take, drop, Option, Some, None, ◌-◌, append-nil, ◌≤◌, arith, length, refl}
 use Rattle.std.proofs.lemmas.{List.{take_more, take-append-drop}, Option.{get_or_from_slice_get, slice_get_within}}
 use Rattle.dr_disk.{specs.{Disk.{Told, content_of}, Images.ReadsAnImage}, proofs.Images.of_content}
-use Rattle.dr_entry.specs.{declared.entry.Entry.Entry, declared.record.Record.Record}
+use Rattle.dr_entry.specs.{declared.{end.MemberEnd.MemberEnd, entry.Entry.Entry}, declared.record.Record.Record}
 use Rattle.dr_entry.specs.declared.record.Record.TheVariants as records
-use Rattle.dr_log.specs.{Standing.IsBeforeOrAfter, State.LogState}
+use Rattle.dr_history.{specs.{History.IsPrefixOf, Restarting.AllStand}, proofs.Lengths.stood-told}
+use Rattle.dr_history.proofs.Lists.{prefix-trans}
+use Rattle.dr_log.{specs.{Standing.{IsBeforeOrAfter, entries_length}, State.LogState}, proofs.Standing.entries_short}
 use Rattle.dr_log_bytes.{specs.{Content.{OnLog, with_record}, Grammar.StandFor}, proofs.Meaning.content_once}
-use Rattle.dr_program.specs.{Replica.Replica, declared.outcome.LogWhy.LogWhy}
+use Rattle.dr_machine.{specs.Group.{Group, IsGroup}, proofs.Groups.stood_valid}
+use Rattle.dr_program.{specs.{Replica.Replica, declared.outcome.LogWhy.LogWhy}, proofs.Replicas.MayCome}
 use Rattle.dr_program.specs.declared.outcome.LogWhy.TheVariants as whys
 use Rattle.dr_served.specs.{Left.IsLeftOf, Served.{HasCome, IsRecordDue}}
 
@@ -48,3 +51,31 @@ left_log told faults base log r found (Some whys.DiskFault) t come is reads stan
     by (records.AgeVote v) due (inr after) = absurd due
     by (records.Cut keep) due (inr after) = absurd due
     by records.Upgrade due (inr after) = absurd due
+
+-- and has all that is logged
+pub left_begins : (first : List Entry) (e : MemberEnd) (es : List Entry) → IsPrefixOf first (take e.logged e.history)
+    → IsLeftOf e.history e.logged es → IsPrefixOf first es
+left_begins first e es begins left = prefix-trans first (take e.logged e.history) es begins (by left)
+  where
+    by : IsLeftOf e.history e.logged es → IsPrefixOf (take e.logged e.history) es
+    by (inl same) = ([], append-nil (take e.logged e.history) ∙ sym same)
+    by (inr more) = (more.0 ∷ [], sym more.1)
+
+-- so they take so many bytes at most: 256 Views of each of 65,536 ages, and 4096 messages of each of 16 members
+pub stood_bytes : (g : Group) (es : List Entry) → IsGroup g → AllStand g.opening es → length es ≤ 16842752
+    → entries_length es ≤ 122159104
+stood_bytes g es is stand few = omega (
+  arith,
+  few,
+  entries_short es (stood_valid g es is stand),
+  stood-told g.opening es stand is.messages,
+)
+
+-- it is no age vote, so these are as they were
+pub next_age_votes : (r : Replica) (next : Record) (c : OnLog) → MayCome r next
+    → (with_record next c).age_votes ≡ c.age_votes
+next_age_votes r (records.Entry e) c may = refl
+next_age_votes r (records.Vote v) c may = refl
+next_age_votes r (records.AgeVote v) c may = absurd may
+next_age_votes r (records.Cut keep) c may = absurd may
+next_age_votes r records.Upgrade c may = absurd may

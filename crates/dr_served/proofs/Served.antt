@@ -2,14 +2,19 @@
 use Rattle.std.specs.Prelude.{Option, Some, is_some, None, slice_set}
 use Rattle.std.proofs.Common.{◌≡◌, ap, ◌∙◌, ℕ, List, refl, sym, inl, inr, ◌<◌, length, length-set, get_or, ◌+◌, ◌++◌, ◌-◌, length-append, arith, true, true≢false}
 use Rattle.std.proofs.lemmas.{Bool.cases_eq, List.{get_or-set_same, get_or-set_other, get_or_default}}
-use Rattle.dr_entry.{specs.declared.record.Record.Record, proofs.{OptionFacts.some_there, Records.IsOrdinary}}
+use Rattle.dr_entry.{specs.{declared.end.End.End, declared.record.Record.Record}, proofs.OptionFacts.some_there}
+use Rattle.dr_entry.proofs.Records.{IsOrdinary}
 use Rattle.dr_entry.specs.declared.record.Record.TheVariants as records
 use Rattle.dr_disk.{specs.{Disk.Told, Images.IsLeft}, proofs.Images.left_so}
 use Rattle.dr_log_bytes.specs.Grammar.{StandFor}
 use Rattle.dr_log.{specs.{Standing.LosesNone, State.LogState}, proofs.Ordinary.{has_itself, none_lost}}
-use Rattle.dr_program.specs.{Presence.{present_at, with_present}, Replica.Replica}
-use Rattle.dr_program.proofs.Present.{filled_behind, present_set, present_kept, present_within}
-use Rattle.dr_served.specs.Served.{HaveSamePlaces, IsRecordDue, IsSafe}
+use Rattle.dr_machine.specs.declared.step.Step.{Step}
+use Rattle.dr_machine.specs.declared.step.Step.TheVariants as steps
+use Rattle.dr_program.specs.{Presence.{present_at, with_present}, Replica.{Replica, vote_of}}
+use Rattle.dr_program.specs.{Running.{Running, deed_of, next_step, deed, next_deed}, Steps.IsAppend}
+use Rattle.dr_program.proofs.{Deeds.record_in, Present.{filled_behind, present_set, present_kept, present_within}}
+use Rattle.dr_program.specs.declared.deed.Deed.TheVariants as deeds
+use Rattle.dr_served.specs.Served.{HaveSamePlaces, IsRecordDue, IsSafe, next_record}
 
 -- a log at the place of one that was there
 pub same_there : {D : Type 0} (olds news : List (Option (LogState D))) (m : ℕ) (old : LogState D)
@@ -74,3 +79,38 @@ pub safe_kept : {D : Type 0} (tells : D → Option Told) (log : LogState D) → 
     → IsLeft (tells log.disk) (LosesNone log.content)
 safe_kept tells log safe = left_so (tells log.disk) (λ image. StandFor image log.content) (LosesNone log.content)
     (λ image is. none_lost log.content log.content image (has_itself log.content) is) safe
+
+-- the step is an append of this record
+abbrev pub IsAppendOf : Running → Step → Record → Type 0
+IsAppendOf r steps.Append next = next ≡ next_record r.replica.history r.replica.logged
+IsAppendOf r (steps.LogVote v) next = next ≡ records.Vote (vote_of r.replica v)
+IsAppendOf r s next = ⊥
+
+by_step : (r : Running) (s : Step) (next : Record) → deed_of r s ≡ deeds.Append next → IsAppendOf r s next
+by_step r steps.Append next e = sym (ap (record_in next) e)
+by_step r (steps.LogVote v) next e = sym (ap (record_in next) e)
+by_step r (steps.Do a) next e = absurd (cc (e))
+by_step r (steps.Look i c) next e = absurd (cc (e))
+by_step r (steps.Push j c) next e = absurd (cc (e))
+by_step r (steps.Welcome j) next e = absurd (cc (e))
+by_step r steps.Join next e = absurd (cc (e))
+
+-- who is to append has no end, and that is its next step
+pub record IsToAppend (r : Running) (next : Record) : Type 0 where
+  pub none : r.replica.end ≡ None
+  pub step : IsAppendOf r (next_step r) next
+
+pub to_append : (r : Running) (next : Record) → next_deed r ≡ deeds.Append next → IsToAppend r next
+to_append r next = by r.replica.end refl
+  where
+    by : (o : Option End) → r.replica.end ≡ o → deed r o ≡ deeds.Append next → IsToAppend r next
+    by None none e = record { none = none; step = by_step r (next_step r) next e }
+    by (Some end) ended e = absurd (cc (e))
+
+pub append_next : (r : Running) (next : Record) → next_deed r ≡ deeds.Append next → IsAppend (next_step r)
+append_next r next due = by (next_step r) (to_append r next due).step
+  where
+    by : (s : Step) → IsAppendOf r s next → IsAppend s
+    by steps.Append is = tt
+    by (steps.LogVote v) is = tt
+    by s is = absurd is

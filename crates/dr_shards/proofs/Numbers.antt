@@ -2,8 +2,8 @@
 use Rattle.std.specs.Prelude.{Some, slice_get}
 use Rattle.std.proofs.Common.{◌≡◌, ℕ, zero, suc, ◌+◌, ◌-◌, ◌*◌, ◌/◌, ◌%◌, ◌<◌, true, false, cond, eqb, ltb, [], ◌∷◌, ◌++◌, length, refl, ap, sym, subst, ◌∙◌, arith}
 use Rattle.std.proofs.{Math.Nat.mod-lt, lemmas.{Bool.{eq-eqb, ltb-true, ltb-false}, Nat.{div-add-mod', mod-mul-add}}}
+use Rattle.dr_entry.proofs.ListPlaces.{slice_get-left, slice_get-seam}
 use Rattle.dr_entry.proofs.NumberFacts.{one_below, last_one, none_below}
-use Rattle.dr_history_laws.proofs.Lists.{slice_get-left, slice_get-seam}
 use Rattle.dr_shards.{specs.Layout.{is_of_shard, shard_members}, proofs.Counting.{count_above, counted, members_more}}
 
 -- of each full row of shards every shard has one member, and of a row begun those that it has come past

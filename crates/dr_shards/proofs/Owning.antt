@@ -5,7 +5,7 @@ use Rattle.dr_play.{specs.{Age.{IsAge, IsAgeOn}, Logged.{AreAmple, AreOpened}}, 
 use Rattle.dr_disk.specs.Disk.{Told}
 use Rattle.dr_entry.specs.declared.{end.{AgeEnd.AgeEnd, MemberEnd.MemberEnd}, entry.Entry.TheVariants.Msg}
 use Rattle.dr_history.specs.{Agreement.{EndsAgreed, accounts_of, sent_by}, Restarting.AllStand}
-use Rattle.dr_history_laws.proofs.Standing.{history-stands}
+use Rattle.dr_history.proofs.Standing.{history-stands}
 use Rattle.dr_log.specs.State.{LogState}
 use Rattle.dr_machine.{specs.Group.{AllPresent, IsGroup}, proofs.Presence.is_present}
 use Rattle.dr_program.specs.Program.{Program, age_of}

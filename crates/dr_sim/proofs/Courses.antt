@@ -1,7 +1,6 @@
 -- A run by a schedule is a list of moves, behind which all members have ended.
 use Rattle.dr_script.specs.declared.script.Schedule.{Schedule, TheVariants.{Lockstep, Seed}}
-use Rattle.dr_program.specs.Program.{AllEnded, IsRanFrom, Program}
-use Rattle.dr_program_laws.proofs.Schedules.{lockstep_taken}
+use Rattle.dr_program.{specs.Program.{AllEnded, IsRanFrom, Program}, proofs.Runs.lockstep_taken}
 use Rattle.dr_sim.specs.Simulated.{HasRun}
 
 -- a program that a schedule leads to was run

@@ -7,12 +7,11 @@ use Rattle.dr_program.specs.declared.deed.Deed.TheVariants as deeds
 use Rattle.dr_program.specs.{Program.{after_deed, next_sight}, Reading.{step_due, step_of_member}}
 use Rattle.dr_program.specs.Running.{Running, after_step, broken_off, next_deed, next_step, settled, took_letter}
 use Rattle.dr_program.specs.{Sight.MaySee, Steps.{IsNoJoin, stored, stored_letters}, declared.outcome.LogWhy.LogWhy}
-use Rattle.dr_program.{specs.declared.outcome.Outcome.TheVariants.{Failed, Ok}, proofs.Programs.after_append}
-use Rattle.dr_program.proofs.RunningPrograms.{after_take}
+use Rattle.dr_program.{specs.declared.outcome.Outcome.TheVariants.{Failed, Ok}, proofs.Deeds.{append_gives, table_at}}
+use Rattle.dr_program.proofs.{Programs.after_append, RunningPrograms.after_take, Search.settled_same}
+use Rattle.dr_program.proofs.StepsAt.{none_failed}
 use Rattle.dr_served.specs.Appended.{is_append}
 use Rattle.dr_play.proofs.Deeds.{IsStoreAt, any_outcome, deed_tells}
-use Rattle.dr_refine.proofs.Deeds.{append_gives, table_at}
-use Rattle.dr_turn.proofs.{Failing.none_failed, Search.settled_same}
 use Rattle.dr_sim.specs.Deeds.{IsTaken, SeesWell, outcome_by, own_letter, posted, stores, went_so}
 
 -- ---- a look
@@ -24,8 +23,6 @@ look_seen table r index well is =
     let t = deed_tells table r (deeds.Look index) is in
     subst (MaySee r (step_of_member r)) t.says.sees
     (well t.says.row t.says.column (ap (step_due r) t.none ∙ ap Some t.says.look))
-
--- ---- a deed that is no act
 
 -- ---- what a deed makes of the member and the table
 

@@ -1,23 +1,21 @@
 -- The letters and the lists for them: what a sound program's member finds, and what its deed leaves.
 use Rattle.std.specs.Prelude.{IfSome, Option, None, Some, slice_set}
-use Rattle.std.proofs.Common.{◌≡◌, refl, sym, ap, ◌∙◌, subst, ℕ, ◌+◌, ◌<◌, ◌≤◌, false, List, length, inl, inr, arith}
+use Rattle.std.proofs.Common.{◌≡◌, refl, sym, ap, ◌∙◌, subst, ℕ, ◌<◌, List, length, inl, inr, arith}
 use Rattle.std.proofs.lemmas.{Bool.cases_eq, Option.same_Some}
 use Rattle.dr_entry.specs.declared.entry.Entry.{Entry}
 use Rattle.dr_form.specs.Letters.{IsFitting}
 use Rattle.dr_history.specs.{History.up_to_view, Members.members_of}
 use Rattle.dr_served.specs.{Appended.is_append, Served.LetterGoesOn}
-use Rattle.dr_machine.specs.{Acts.CanTake, Group.{Group, late_members, roster}, Guards.CanWelcome}
+use Rattle.dr_machine.{specs.{Acts.CanTake, Group.{Group, roster}, Guards.CanWelcome}, proofs.Groups.Told}
 use Rattle.dr_program.specs.declared.deed.Deed.TheVariants as deeds
 use Rattle.dr_program.specs.{Presence.{present_at, with_present}, Program.{Program, next_sight, step_of, letter_for}}
-use Rattle.dr_program.specs.{Reading.{letters_of, world}, Replica.{Replica, is_inside}}
-use Rattle.dr_program.specs.Running.{AsksForLetter, Running, after_step, deed, deed_of, next_deed, next_step, settled}
+use Rattle.dr_program.{specs.Reading.{letters_of, world}, proofs.{Deeds.step_is, Joins.given_welcome, StepsAt.taking}}
+use Rattle.dr_program.specs.Running.{AsksForLetter, Running, deed, deed_of, next_deed, next_step}
 use Rattle.dr_program.specs.{Steps.{IsNoJoin, stored_letters}, declared.outcome.Outcome.TheVariants.Ok}
-use Rattle.dr_program.proofs.{Fixed.{Told, told}, Present.{present_kept, present_set, present_within, MayGet}}
-use Rattle.dr_refine.proofs.{Deeds.{deed_step, step_is}, Tests.given_welcome}
-use Rattle.dr_program_laws.proofs.{Letters.{letters_are, letters_have_room, may_get}, Lists.deed_told}
-use Rattle.dr_turn.proofs.Takes.{taking}
-use Rattle.dr_world.specs.{Posts.{PostsOf, count_filled}, Steps.posts_after}
-use Rattle.dr_world.proofs.Letters.{enough_after, list_left}
+use Rattle.dr_program.proofs.{Fixed.{told, deed_told}, Present.{present_kept, present_set, present_within, MayGet}}
+use Rattle.dr_refine.proofs.Deeds.{deed_step}
+use Rattle.dr_program_laws.proofs.Letters.{letters_are, letters_have_room, may_get}
+use Rattle.dr_world.{specs.{Posts.PostsOf, Steps.posts_after}, proofs.Letters.{enough_after, list_left}}
 use Rattle.dr_play.{specs.Sound.IsSound, proofs.{Deeds.{any_outcome, at_give, at_take}, Sound.move_sound}}
 use Rattle.dr_sim.specs.{Deeds.{IsTaken, outcome_by, own_letter, went_so}, Lists.{FindsLists, HasSpare, HaveSpares}}
 use Rattle.dr_sim.{specs.Sound.{IsAmong, move, with_member}, proofs.Steps.own_there}

@@ -3,12 +3,11 @@ use Rattle.std.specs.Prelude.{Option, None, Some}
 use Rattle.std.proofs.Common.{◌≡◌, refl, sym, ap, ◌∙◌, subst, inl, inr, ◌⊎◌, ℕ, List, [], ◌∷◌, ◌++◌}
 use Rattle.std.proofs.lemmas.{Bool.cases_eq, List.Elements.{All-append, All-nil}, Option.same_Some}
 use Rattle.dr_entry.specs.declared.end.End.{End}
-use Rattle.dr_program.specs.Presence.{present_at}
+use Rattle.dr_program.{specs.Presence.present_at, proofs.Programs.one_ok}
 use Rattle.dr_program.specs.Program.{Move, Program, after_deed, letter_for, moved_by, next_sight, ran, step_of, went}
-use Rattle.dr_program.specs.{Running.{Running, next_step}, declared.outcome.Outcome.{Outcome, TheVariants.Ok}}
-use Rattle.dr_program.proofs.{Present.{present_within, present_set, present_kept}, Programs.one_ok}
+use Rattle.dr_program.{specs.Running.{Running, next_step}, proofs.Present.{present_within, present_set, present_kept}}
+use Rattle.dr_program.{specs.declared.outcome.Outcome.{Outcome, TheVariants.Ok}, proofs.Search.still_failed}
 use Rattle.dr_sim.specs.{Simulated.{SomeFailed, WentWell}, Sound.move}
-use Rattle.dr_turn.proofs.Search.{still_failed}
 
 failed_step : (p : Program) (e : Move) → SomeFailed p → SomeFailed (step_of p e)
 failed_step p e (m, r, why, there, at) = by (present_at p.members e.member) refl

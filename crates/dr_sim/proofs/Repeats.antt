@@ -8,16 +8,14 @@ use Rattle.dr_entry.proofs.NumberFacts.{not_less}
 use Rattle.dr_machine.specs.Group.{IsGroup}
 use Rattle.dr_program.specs.{Presence.present_at, Program.{AllEnded, AllOk, Move, Program, age_of, end_of, ok, ran}}
 use Rattle.dr_program.specs.Schedule.{IsTurn, Rounds, TakeTurns, TakesTurn, is_between_turns}
-use Rattle.dr_program.proofs.{Present.{ended_there, rest_rounds}, Programs.{own_moves, front_ok, back_ok}}
-use Rattle.dr_program.proofs.Received.{chosen_same}
+use Rattle.dr_program.proofs.{Present.{ended_there, end_told}, Programs.{own_moves, front_ok, back_ok}}
+use Rattle.dr_program.proofs.{Received.chosen_same, Rounds.rest_rounds}
 use Rattle.dr_restart.{specs.{Groups.group_of, declared.start.Start.Start}, proofs.Setups.{AreOne, begun_same}}
 use Rattle.dr_script.specs.{Ranges.HasRanges, declared.script.Schedule.{Schedule, TheVariants.{Lockstep, Seed}}}
 use Rattle.dr_script.specs.declared.script.Script.{Script}
 use Rattle.dr_sim.specs.{Repeated.IsRepeated, Simulated.{IsRunBy, IsSimulated, SomeFailed}}
 use Rattle.dr_sim.proofs.Courses.{schedule_ends, schedule_ran}
-use Rattle.dr_program_laws.proofs.{Failing.all_failing, Worlds.end_told}
-
--- ---- moves
+use Rattle.dr_program_laws.proofs.Failing.{all_failing}
 
 -- ---- lockstep
 
@@ -72,8 +70,6 @@ rounds_same (suc k) (suc n) p es q fs u (round, rest, mid, both, first, more)
     first' (front_ok round rest parts) (front_ok round' rest' parts') in
     rounds_same k n mid rest q rest' u more (subst (λ x. Rounds n x rest' u) (sym same) more')
     (back_ok round rest parts) (back_ok round' rest' parts') ended ended'
-
--- ---- seeded
 
 -- ---- ages
 

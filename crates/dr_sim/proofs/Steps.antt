@@ -4,10 +4,9 @@ use Rattle.std.proofs.Common.{◌≡◌, refl, sym, ap, ◌∙◌, subst, inl, i
 use Rattle.dr_machine.specs.Group.{Group}
 use Rattle.dr_program.specs.{Presence.{present_at, with_present}, declared.outcome.Outcome.{Outcome, TheVariants.Ok}}
 use Rattle.dr_program.specs.Program.{Program, after_deed, has_ended, letter_for, next_sight, step_of}
-use Rattle.dr_program.specs.{Reading.letters_of, declared.outcome.LogWhy.LogWhy}
+use Rattle.dr_program.{specs.{Reading.letters_of, declared.outcome.LogWhy.LogWhy}, proofs.Deeds.step_is}
 use Rattle.dr_program.{specs.Running.{Running, next_step}, proofs.Present.{present_within, present_set, going_within}}
 use Rattle.dr_entry.specs.declared.entry.Entry.{Entry}
-use Rattle.dr_refine.proofs.Deeds.{step_is}
 use Rattle.dr_program_laws.proofs.Keeping.{sees}
 use Rattle.dr_turn.specs.Work.{deeds_left}
 use Rattle.dr_sim.specs.Deeds.{IsTaken, SeesWell, outcome_by, own_letter, posted, stores, went_so}

@@ -6,11 +6,10 @@ use Rattle.dr_entry.{specs.declared.entry.Entry.Entry, proofs.ListFacts.count_mo
 use Rattle.dr_machine.specs.Group.{Group}
 use Rattle.dr_program.specs.declared.outcome.Outcome.TheVariants as outcomes
 use Rattle.dr_program.specs.{Presence.present_at, Schedule.{is_between_turns, IsTurn, Rounds, TakeTurns, TakesTurn}}
-use Rattle.dr_program.specs.{Program.{AllEnded, Move, Program, ran, step_of, has_ended}, Running.Running}
-use Rattle.dr_program.specs.declared.outcome.Outcome.{Outcome}
-use Rattle.dr_program.proofs.{Present.{present_within, present_set, set_itself, each_ended}, Runs.{ran_on, ran_more}}
-use Rattle.dr_program.proofs.{Programs.{ran_none, one, ran_one, took_turn}, Schedules.{turns_more, rounds_more}}
-use Rattle.dr_program_laws.proofs.Schedules.{turns_taken}
+use Rattle.dr_program.specs.Program.{AllEnded, Move, Program, ran, step_of, has_ended}
+use Rattle.dr_program.{specs.Running.Running, proofs.Present.{present_within, present_set, set_itself, each_ended}}
+use Rattle.dr_program.{specs.declared.outcome.Outcome.Outcome, proofs.Rounds.{turns_more, rounds_more}}
+use Rattle.dr_program.proofs.{Programs.{ran_none, one, ran_one, took_turn}, Runs.{ran_on, ran_more, turns_taken}}
 use Rattle.dr_script.specs.declared.script.Schedule.TheVariants.{Lockstep}
 use Rattle.dr_sim.{specs.Simulated.{HasRun, SomeFailed, WentWell}, proofs.Outcomes.{none_well, well_both, well_one}}
 use Rattle.dr_sim.specs.Sound.{IsAmong, TookTurn, TookTurns, all_left, move, program_over, with_member}

@@ -2,7 +2,7 @@
 use Rattle.std.specs.{List.{AllWithin, Sorted.IsPartitionPoint}, Prelude.{Option, None, is_some}}
 use Rattle.std.proofs.Common.{◌≡◌, ℕ, zero, suc, ◌+◌, ◌-◌, ◌≤◌, ◌<◌, true, false, cond, leb, List, [], ◌∷◌, ◌++◌, length, get_or, drop, fold, refl, ap, subst, sym, ◌∙◌, arith, get_or-drop, length-drop}
 use Rattle.std.proofs.lemmas.Bool.{leb-true, le-leb}
-use Rattle.dr_entry.proofs.ListFacts.{no_value}
+use Rattle.dr_entry.proofs.OptionFacts.{no_value}
 use Rattle.dr_store.specs.{Stock.value_by, declared.changes.Change.Change}
 
 -- the value after a change

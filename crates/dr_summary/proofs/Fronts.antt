@@ -5,7 +5,7 @@ use Rattle.std.proofs.lemmas.{List.Elements.{All-cons, All-nil}, Option.slice_ge
 use Rattle.dr_entry.{specs.declared.{end.MemberEnd.MemberEnd, entry.Entry.Entry}, proofs.Entries.as_empty}
 use Rattle.dr_history.specs.{Agreement.accounts_of, History.IsPrefixOf, Soundness.IsPresentIn}
 use Rattle.dr_history.{specs.declared.opening.Opening.Opening, proofs.Fronts.history_of}
-use Rattle.dr_history.proofs.Histories.{shorter_begins, empty_begins}
+use Rattle.dr_history.proofs.Lists.{shorter_begins, empty_begins}
 use Rattle.dr_summary.specs.{Histories.{longer, longest, longest_from}, Summary.HaveAgreed}
 
 -- the longer of two is no shorter than either

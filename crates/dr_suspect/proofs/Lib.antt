@@ -1,1 +1,3 @@
 mod Finds
+pub mod Wishes
+pub mod Waiting

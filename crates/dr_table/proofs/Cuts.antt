@@ -3,9 +3,8 @@ use Rattle.std.specs.Prelude.{slice_get, slice_set, sum_by, Option, None, Some}
 use Rattle.std.proofs.Common.{◌≡◌, refl, sym, ap, ◌∙◌, subst, ℕ, List, [], ◌∷◌, ◌++◌, length, take, drop, inl, inr}
 use Rattle.std.proofs.lemmas.Option.{slice_get_within}
 use Rattle.atomic_table.specs.Table.{Splits, Joins}
-use Rattle.dr_history_laws.proofs.Lists.{slice_get-left, slice_get-push_cases}
 use Rattle.dr_entry.specs.declared.entry.Entry.{Entry}
-use Rattle.dr_entry.proofs.ListPlaces.{replica_kept, by_table, places_cut, places_joined}
+use Rattle.dr_entry.proofs.ListPlaces.{replica_kept, by_table, places_cut, places_joined, slice_get-left, slice_get-push_cases}
 use Rattle.dr_machine.specs.Group.{Group}
 use Rattle.dr_program.{specs.Running.Running, proofs.Present.further_same}
 use Rattle.dr_table.specs.{Rule.{HasSuchProgram, Stands, hands}, Slots.{HaveSlots, Slot}, declared.rule.View.View}

@@ -2,19 +2,19 @@
 use Rattle.std.specs.Prelude.{None, Some, Option, slice_index_or}
 use Rattle.std.proofs.Common.{◌≡◌, refl, sym, ap, ◌∙◌, subst, ℕ, List, [], ◌∷◌, set-set, ◌<◌, arith}
 use Rattle.dr_entry.specs.declared.entry.Entry.{Entry}
-use Rattle.dr_program.specs.{Form.HasForm, Program.{IsRanFrom, Program, after_deed, appended_as, next_sight, ran}}
-use Rattle.dr_program.{specs.Presence.{present_at, with_present}, proofs.Fixed.{Told, join_told, told, step_told}}
-use Rattle.dr_program.specs.Running.{Running, after_step, next_deed, next_step, settled, took, took_letter, deed, deed_of}
-use Rattle.dr_program.{specs.Steps.{stored, stored_letters}, proofs.Present.{present_within, present_set, set_itself}}
-use Rattle.dr_program.{specs.declared.{deed.Deed.Deed, outcome.Outcome.Outcome}, proofs.Programs.after_append}
+use Rattle.dr_program.specs.{Form.HasForm, Presence.{present_at, with_present}}
+use Rattle.dr_program.specs.Program.{IsRanFrom, Program, after_deed, appended_as, next_sight, ran}
+use Rattle.dr_program.specs.{Running.{Running, next_deed, next_step, deed, deed_of}, Steps.{stored, stored_letters}}
+use Rattle.dr_program.specs.declared.{deed.Deed.Deed, outcome.Outcome.Outcome}
+use Rattle.dr_program.proofs.{Deeds.{append_gives, append_stores, deed_ran}, Fixed.{told, appended_told}}
+use Rattle.dr_program.proofs.{Present.{present_within, present_set, set_itself}, Programs.after_append}
 use Rattle.dr_program.specs.declared.deed.Deed.TheVariants as deeds
 use Rattle.dr_program.specs.declared.outcome.Outcome.TheVariants as outcomes
-use Rattle.dr_refine.proofs.Deeds.{append_gives, append_stores, settle_replica, deed_ran}
 use Rattle.dr_play.proofs.{Deeds.{IsStoreAt, deed_tells}, LoggedMembers.append_due}
 use Rattle.dr_table.specs.{Deeds.IsStore, Rule.number, Steps.{HasAppended, IsReachedMember}}
 use Rattle.dr_member.specs.Deeds.{table_size}
 use Rattle.dr_words.proofs.Places.{word_index_within}
-use Rattle.dr_machine.specs.declared.step.Step.{Step, TheVariants.Do}
+use Rattle.dr_machine.{specs.declared.step.Step.{Step, TheVariants.Do}, proofs.Groups.Told}
 
 -- ---- a step, by its deed
 
@@ -62,19 +62,6 @@ act_within r index word (g, p, is) next =
     by s e = absurd (cc e)
 
 -- ---- what a member was told stays
-
-pub after_told : (word : ℕ) (r : Running) → told (after_step word r).replica ≡ told r.replica
-after_told word r = ap told (settle_replica _ (took word r (next_step r))) ∙ step_told word r.replica (next_step r)
-
--- nor does a take
-pub took_told : (letter : Option (List Entry)) (r : Running)
-    → told (settled (took_letter letter r)).replica ≡ told r.replica
-took_told None r = ap told (settle_replica _ (took_letter None r))
-took_told (Some letter) r = ap told (settle_replica _ (took_letter (Some letter) r)) ∙ join_told r.replica letter
-
-pub appended_told : (o : Outcome) (r : Running) → told (appended_as o r).replica ≡ told r.replica
-appended_told outcomes.Ok r = after_told 0 r
-appended_told (outcomes.Failed why) r = refl
 
 pub appends_told : (os : List Outcome) (r q : Running) → HasAppended os r q → told q.replica ≡ told r.replica
 appends_told [] r q same = ap (λ (x : Running). told x.replica) (sym same)

@@ -9,9 +9,8 @@ use Rattle.dr_history.{specs.Members.members_of, proofs.{MemberLemmas.few_member
 use Rattle.dr_machine.{specs.Group.{banks, late_members, roster}, proofs.Presence.{in_roster, late_in}}
 use Rattle.dr_member.specs.Deeds.{table_size}
 use Rattle.dr_program.specs.{Form.IsRunningMember, Presence.present_at, Program.{Program, begun_program, ran}}
-use Rattle.dr_program.specs.{Reading.letters_of, Running.{Running, begun_running}}
+use Rattle.dr_program.{specs.{Reading.letters_of, Running.{Running, begun_running}}, proofs.Opening.begun_reached}
 use Rattle.dr_program.proofs.{Present.{present_map, none_read}, Programs.none_ran}
-use Rattle.dr_program_laws.proofs.Keeping.{begun_reached}
 use Rattle.dr_refine.{specs.Programs.IsProgram, proofs.Steps.begun_is_program}
 use Rattle.dr_words.{specs.{Columns.columns_of, Layout.words_of}, proofs.Layouts.words_small}
 use Rattle.dr_words.proofs.Places.{word_index_within}

@@ -10,9 +10,9 @@ use Rattle.dr_machine.specs.Group.{Group, late_members, roster}
 use Rattle.dr_member.specs.Deeds.{table_size}
 use Rattle.dr_program.specs.declared.deed.Deed.TheVariants as deeds
 use Rattle.dr_program.specs.{Form.IsOf, Program.Program, Replica.me, Running.{Running, next_deed}}
+use Rattle.dr_program.proofs.StepsAt.{taking}
 use Rattle.dr_form.specs.Letters.{IsFitting}
 use Rattle.dr_program_laws.proofs.Letters.{letters_have_room}
-use Rattle.dr_turn.proofs.Takes.{taking}
 use Rattle.dr_words.proofs.Layouts.{words_small}
 use Rattle.dr_table.specs.{Cards.board_size, Rule.number, Slots.{Slot, slot_number}}
 use Rattle.dr_table.specs.Steps.{IsLetterAt, IsOfProgram, IsReachedMember, MayTake, Peeked, busy}

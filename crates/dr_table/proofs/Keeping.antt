@@ -12,15 +12,15 @@ use Rattle.dr_program.{specs.Presence.{present_at, with_present}, proofs.Present
 use Rattle.dr_program.specs.Program.{Move, Program, after_deed, appended_as, begun_program, letter_for, next_sight, step_of}
 use Rattle.dr_program.specs.{Reading.{step_due, step_of_member}, declared.outcome.Outcome.Outcome}
 use Rattle.dr_program.specs.{Running.{Running, after_step, next_deed, next_step, settled, took_letter}, Sight.MaySee}
-use Rattle.dr_program.{specs.Steps.{sight, stored}, proofs.{Programs.after_append, RunningPrograms.after_take}}
+use Rattle.dr_program.{specs.Steps.{sight, stored}, proofs.{Accepting.took_told, RunningPrograms.after_take}}
+use Rattle.dr_program.proofs.{Deeds.{step_is, after_later}, Fixed.{after_told, appended_told}, Programs.after_append}
 use Rattle.dr_program.specs.declared.outcome.Outcome.TheVariants as outcomes
 use Rattle.dr_program_laws.proofs.Keeping.{move_kept, sees}
-use Rattle.dr_refine.proofs.Deeds.{step_is, after_later}
 use Rattle.dr_play.proofs.{Deeds.{any_outcome, at_look, deed_tells}, LoggedMembers.append_due}
-use Rattle.dr_table.{specs.Deeds.IsStore, proofs.Posting.{caught_up, kept, member_on, one, sized, sound, stood}}
-use Rattle.dr_table.specs.{Rule.{HasSuchProgram, number}, Slots.Slot, declared.rule.View.View}
+use Rattle.dr_table.specs.{Deeds.IsStore, Rule.{HasSuchProgram, number}, Slots.Slot}
 use Rattle.dr_table.specs.Steps.{IsAhead, IsOfProgram, IsReachedMember, Looked, MayFind, MayTake, Stored, alone, idle}
-use Rattle.dr_table.proofs.Deeds.{after_told, appended_told, deeds_ran, same_number, stores, took_told}
+use Rattle.dr_table.{specs.declared.rule.View.View, proofs.Deeds.{deeds_ran, same_number, stores}}
+use Rattle.dr_table.proofs.Posting.{caught_up, kept, member_on, one, sized, sound, stood}
 use mathlib.Core.Option.{Option as Maybe, some}
 use lib.ListN.{get_elem?}
 

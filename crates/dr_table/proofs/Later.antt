@@ -1,7 +1,7 @@
 -- No step leads a member to an earlier view.
 use Rattle.std.proofs.Common.{subst, ◌≤◌, List, [], ◌∷◌, arith}
 use Rattle.dr_program.specs.{Program.appended_as, Running.Running, declared.outcome.Outcome.Outcome}
-use Rattle.dr_refine.proofs.Deeds.{appended_later}
+use Rattle.dr_program.proofs.Deeds.{appended_later}
 use Rattle.dr_table.specs.Steps.{HasAppended}
 
 pub appends_later : (os : List Outcome) (r q : Running) → HasAppended os r q → r.replica.view ≤ q.replica.view

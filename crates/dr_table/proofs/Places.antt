@@ -2,11 +2,11 @@
 use Rattle.std.specs.Prelude.{Some, slice_get, slice_set, Option}
 use Rattle.std.proofs.Common.{◌≡◌, ◌≢◌, ◌⊎◌, inl, inr, refl, sym, ap, ◌∙◌, ℕ, ◌+◌, ◌-◌, ◌≤◌, List, [], ◌∷◌, ◌++◌, length, take, drop, length-set, arith, eq-eqb, ne_eqb, lt-ltb, le-ltb, eqb, cond}
 use Rattle.std.proofs.lemmas.{Bool.{cases_eq, cases_lt}, Option.{same_Some, slice_get_within}}
-use Rattle.dr_history_laws.proofs.Lists.{slice_get-left, slice_get-push_cases, slice_get-seam}
 use Rattle.dr_program.specs.{Presence.{present_at, with_present}, Running.Running}
 use Rattle.dr_program.proofs.Present.{present_within, present_set, present_kept, place_append, place_behind, place_drop, place_front, place_take, take_place, only_one}
 use Rattle.dr_table.specs.Rule.{Found, Stands, number}
-use Rattle.dr_entry.proofs.{ListPlaces.{replica_kept, replica_set, at_set}, NumberFacts.cut_back}
+use Rattle.dr_entry.proofs.ListPlaces.{replica_kept, replica_set, at_set, slice_get-left, slice_get-push_cases, slice_get-seam}
+use Rattle.dr_entry.proofs.NumberFacts.{cut_back}
 
 -- ---- one member changes
 

@@ -7,22 +7,23 @@ use Rattle.dr_play.{specs.Sound.IsSound, proofs.Deeds.{deed_tells, give_ran, tak
 use Rattle.dr_entry.{specs.declared.entry.Entry.Entry, proofs.ListPlaces.{behind_set, slot_within, sum_again}}
 use Rattle.dr_entry.proofs.NumberFacts.{below_two}
 use Rattle.dr_history.{specs.{History.up_to_view, Members.has}, proofs.Ranks.at_rank_of}
-use Rattle.dr_machine.{specs.Group.{Group, IsGroup, late_members}, proofs.Presence.{in_roster, late_in}}
+use Rattle.dr_machine.{specs.Group.{Group, IsGroup, late_members}, proofs.Groups.Told}
+use Rattle.dr_machine.proofs.Presence.{in_roster, late_in}
 use Rattle.dr_member.specs.Deeds.{table_size}
-use Rattle.dr_program.{specs.{Form.IsOf, declared.outcome.Outcome.Outcome}, proofs.Fixed.{Told, join_told, told}}
-use Rattle.dr_program.specs.{Presence.{present_at, with_present}, Program.{IsRanFrom, Program, begun_program}}
+use Rattle.dr_program.{specs.Form.IsOf, proofs.StepsAt.taking}
+use Rattle.dr_program.{specs.Presence.{present_at, with_present}, proofs.Fixed.{join_told, told, after_told}}
+use Rattle.dr_program.{specs.Program.{IsRanFrom, Program, begun_program}, proofs.Deeds.{settle_replica, after_later}}
 use Rattle.dr_program.specs.{Reading.letters_of, Running.{Running, after_step, next_deed, settled, took_letter}}
-use Rattle.dr_program.specs.Replica.{Replica, joined}
+use Rattle.dr_program.{specs.{Replica.{Replica, joined}, declared.outcome.Outcome.Outcome}, proofs.Replicas.IsTaking}
 use Rattle.dr_program.proofs.Present.{present_kept, present_set, present_within, further_same, further_set}
 use Rattle.dr_program.specs.declared.deed.Deed.TheVariants as deeds
 use Rattle.dr_program_laws.proofs.{Keeping.deeds_kept, Letters.letters_are}
-use Rattle.dr_refine.{specs.Programs.IsLetterFor, proofs.Deeds.{settle_replica, after_later}}
-use Rattle.dr_turn.proofs.Takes.{IsTaking, taking}
+use Rattle.dr_refine.specs.Programs.{IsLetterFor}
 use Rattle.dr_words.specs.Layout.{words_of}
 use Rattle.dr_table.specs.Rule.{HasSuchProgram, Stands, hands, number}
 use Rattle.dr_table.specs.{Slots.{HaveSlots, IsAbout, IsBlankList, IsPosted, Slot, slot_number}, Steps.HasAppended}
 use Rattle.dr_table.specs.declared.rule.{Errand.Errand, View.View}
-use Rattle.dr_table.proofs.Deeds.{after_told, appends_ran, appends_told, same_number}
+use Rattle.dr_table.proofs.Deeds.{appends_ran, appends_told, same_number}
 use Rattle.dr_table.proofs.{Errands.{SlotChange, slots_changed, slots_stay}, Later.appends_later, Places.stands_set}
 use Rattle.dr_table.proofs.{Seats.{hands_get, hands_same, hands_set}, Welcoming.{IsNewcomer, newcomer, one_welcomer}}
 use mathlib.Core.Option.{Option as Maybe, some, none}

@@ -5,11 +5,10 @@ use Rattle.dr_play.{specs.Sound.IsSound, proofs.Deeds.{deed_tells, can_welcome, 
 use Rattle.dr_history.specs.{History.up_to_view, Members.has}
 use Rattle.dr_machine.specs.Group.{Group, late_members, roster}
 use Rattle.dr_program.specs.{Presence.present_at, Program.{Program, after_deed, letter_for, next_sight, ok, step_of}}
-use Rattle.dr_program.specs.{Reading.world, Running.{Running, next_deed, next_step}}
+use Rattle.dr_program.{specs.{Reading.world, Running.{Running, next_deed, next_step}}, proofs.Deeds.step_is}
 use Rattle.dr_program.proofs.Present.{present_kept, MayGet}
 use Rattle.dr_program.specs.declared.deed.Deed.TheVariants as deeds
 use Rattle.dr_program.specs.declared.outcome.Outcome.TheVariants as outcomes
-use Rattle.dr_refine.proofs.Deeds.{step_is}
 use Rattle.dr_program_laws.proofs.Letters.{may_get}
 use Rattle.dr_world.proofs.Letters.{letter_late}
 

@@ -7,14 +7,13 @@ use Rattle.dr_log.specs.State.{LogState}
 use Rattle.dr_served.specs.{Appended.is_append, Served.{AppendsWell, LetterGoesOn}}
 use Rattle.dr_served.proofs.Serving.{other_ready, other_served, took_served, took_stays_ready}
 use Rattle.dr_program.specs.Running.{Running, after_step, next_deed, next_step, settled, took_letter}
-use Rattle.dr_program.specs.declared.deed.Deed.{Deed}
+use Rattle.dr_program.{specs.declared.deed.Deed.Deed, proofs.{Accepting.took_told, Fixed.after_told, StepsAt.taking}}
 use Rattle.dr_program.specs.declared.deed.Deed.TheVariants as deeds
 use Rattle.dr_play.proofs.{Deeds.{at_look, at_push, at_take, deed_tells}, Sound.appends_well}
 use Rattle.dr_program_laws.proofs.Letters.{letters_are}
-use Rattle.dr_turn.proofs.Takes.{taking}
 use Rattle.dr_table.specs.{Cards.HasAskedForLetter, Rule.number, Steps.{IsReachedMember, MayTake}}
-use Rattle.dr_table.{specs.Sweeps.{HasSwept, HasTaken, IsSwept}, proofs.Cards.reached_form}
-use Rattle.dr_table.proofs.{Deeds.{after_told, same_number, took_told}, Sweeps.swept_going}
+use Rattle.dr_table.{specs.Sweeps.{HasSwept, HasTaken, IsSwept}, proofs.{Cards.reached_form, Deeds.same_number}}
+use Rattle.dr_table.proofs.Sweeps.{swept_going}
 use Rattle.dr_threads.specs.Course.{HasGone}
 
 -- ---- a member that is reached

@@ -1,5 +1,5 @@
 -- What is counted of a run has a number for each turn.
-use Rattle.std.proofs.Common.{◌≡◌, ◌∙◌, refl, sym, ap, ℕ, ◌+◌, ◌*◌, ◌==◌, nat_lt, inl, inr, true, false, List, [], ◌∷◌, length, Option}
+use Rattle.std.proofs.Common.{◌≡◌, ◌∙◌, refl, sym, ap, ℕ, ◌+◌, ◌*◌, ◌==◌, nat_lt, inl, inr, List, [], ◌∷◌, length, Option}
 use Rattle.std.proofs.lemmas.{Bool.cases_Bool, List.{length-replicate, length-set}}
 use Rattle.dr_ages.specs.{Ages.start_of, Watched.AreWatched, declared.{mode.Mode.TheVariants.Sim, part.Part.Part}}
 use Rattle.dr_entry.specs.declared.end.AgeEnd.{AgeEnd}
@@ -8,7 +8,7 @@ use Rattle.dr_program.specs.{Program.{Move, Program, step_of}, Replica.me, Runni
 use Rattle.dr_restart.specs.declared.start.Start.{Start}
 use Rattle.dr_script.specs.declared.script.Script.{Script}
 use Rattle.dr_sim.specs.Watched.{IsWatched, WasTold}
-use Rattle.dr_tools.specs.Crashes.{Counted, counted, is_push, push_done, turn_begun, uncounted, with_points}
+use Rattle.dr_tools.specs.Crashes.{Counted, counted, is_push, uncounted, with_points}
 
 abbrev pub Opens : Counted → Start → Counted → Type 0
 Opens old start new = new ≡ record old { age = start.age }
@@ -58,19 +58,3 @@ points_watched script part nth (age ∷ ages) old new (next, seen, rest) = point
 pub points_uncounted : (script : Script) (member : ℕ)
     → length (uncounted script member).points ≡ script.ages * script.turns
 points_uncounted script member = length-replicate (script.ages * script.turns) 0
-
--- what is counted of another member, of one that begins a turn, of one that pushes, and of one that does something else
-pub others_counted : (c : Counted) (r : Running) → (me r.replica == c.member) ≡ false → c ≡ counted c r
-others_counted c r others = sym (rw others refl)
-
-pub turn_counted : (c : Counted) (r : Running) → (me r.replica == c.member) ≡ true → is_before_turn r ≡ true
-    → turn_begun c r.replica.turns ≡ counted c r
-turn_counted c r own begins = sym (rw (own, begins) refl)
-
-pub push_counted : (c : Counted) (r : Running) → (me r.replica == c.member) ≡ true → is_before_turn r ≡ false
-    → is_push (next_deed r) ≡ true → push_done c r.replica.turns ≡ counted c r
-push_counted c r own on pushes = sym (rw (own, on, pushes) refl)
-
-pub none_counted : (c : Counted) (r : Running) → (me r.replica == c.member) ≡ true → is_before_turn r ≡ false
-    → is_push (next_deed r) ≡ false → c ≡ counted c r
-none_counted c r own on other = sym (rw (own, on, other) refl)

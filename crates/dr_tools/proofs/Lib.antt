@@ -15,5 +15,4 @@ mod SweepAnswers
 pub mod LogLines
 mod LogAnswers
 mod FolderAnswers
-pub mod Differences
 pub mod JudgeAnswers

@@ -1,24 +1,24 @@
 -- Each deed of a running member is done once and for all: it has fewer left then.
-use Rattle.std.specs.Prelude.{Option, Some, None, is_some, drop, slice_index_or}
-use Rattle.std.proofs.Common.{◌≡◌, refl, sym, ap, ◌∙◌, subst, ℕ, zero, suc, ◌+◌, ◌-◌, ◌*◌, ◌^◌, ◌<◌, ◌≤◌, ◌&&◌, ◌||◌, inl, inr, not, Bool, true, false, nat_lt, length, le_trans, suc-le-suc, arith}
-use Rattle.std.proofs.{Math.Nat.{min-eq_left, min-le_left}, lemmas.Bool.{and_parts, Decides.nat_tests}}
-use Rattle.dr_entry.specs.declared.end.End.{End}
+use Rattle.std.{specs.Prelude.{Option, Some, None, is_some, drop, slice_index_or}, proofs.lemmas.Bool.and_parts}
+use Rattle.std.proofs.Common.{◌≡◌, refl, sym, ap, ◌∙◌, subst, ℕ, ◌+◌, ◌-◌, ◌*◌, ◌^◌, ◌<◌, ◌≤◌, inl, inr, Bool, true, false, length, le_trans, suc-le-suc, arith}
+use Rattle.dr_entry.{specs.declared.end.End.End, proofs.NumberFacts.no_row}
 use Rattle.dr_words.specs.Columns.{columns_of}
-use Rattle.dr_machine.specs.{Effects.one_more, declared.step.Step.Step}
-use Rattle.dr_program.specs.{Form.{HasForm, IsOf, IsRunningMember}, Replica.{Replica, is_inside, value_due}}
+use Rattle.dr_machine.{specs.Effects.one_more, proofs.{Groups.Told, Worlds.{one_more_at_most, one_turn}}}
+use Rattle.dr_program.specs.{Form.{HasForm, IsOf, IsRunningMember}, Steps.{NoWordFell, allows, stepped}}
+use Rattle.dr_program.{specs.Replica.{Replica, value_due}, proofs.Deeds.{IsPublishing, publishing}}
 use Rattle.dr_program.specs.Running.{Running, members, columns, asks, waits_after, settled, goes, pushes_after, took, next_step, after_step, WaitsAt}
-use Rattle.dr_program.specs.{Steps.{AtLook, NoWordFell, allows, has_cell, stepped}, declared.place.TheConstants.TURN}
 use Rattle.dr_program.specs.Turn.{after, is_beat, IsIn, part_of, places_in, rows_in, columns_in, turn_begins}
-use Rattle.dr_program.{specs.declared.place.{Part.Part, Place.Place}, proofs.Fixed.{Told, step_told, of_told}}
+use Rattle.dr_program.specs.declared.place.{Part.Part, Place.Place}
+use Rattle.dr_program.{specs.declared.place.TheConstants.TURN, proofs.Going.{Going, going, pending_stays, vote_waits}}
+use Rattle.dr_program.proofs.{Fixed.{step_told, of_told}, Order.{after_beat, after_in, beat_last, ends_in, from_part}}
+use Rattle.dr_program.proofs.Parts.{acts_on, due_at, end_comes, end_stays, is_final, none_waits, pending_gone, turns_stay, waits_keep, is_publish, is_vote, is_take}
+use Rattle.dr_program.proofs.Search.{beat_test, part_before, settle_only, some_column, some_member}
 use Rattle.dr_program.specs.declared.place.Part.TheVariants as parts
-use Rattle.dr_history.specs.Members.{has}
-use Rattle.dr_rows.specs.Words.{is_frozen}
 use Rattle.dr_program.proofs.Fixed as fixed
-use Rattle.dr_turn.{specs.Search.{left, IsUnderway}, proofs.Fewer.{fewer_here, fewer_turns}}
+use Rattle.dr_turn.specs.Search.{left, IsUnderway}
 use Rattle.dr_turn.specs.Work.{work, deeds_of, left_to, may_fail, deeds_left, HasGrownTo, IsAfterDeed}
-use Rattle.dr_turn.proofs.Order.{after_beat, after_in, all_below, beat_last, each_below, ends_in, from_part, implied, is_take, left_falls, left_small, left_some, left_take}
-use Rattle.dr_turn.proofs.Parts.{Going, Lowers, acts_on, due_at, end_comes, end_stays, going, is_final, is_publish, is_vote, lowers, none_waits, pending_gone, pending_stays, publish_size, turns_stay, vote_waits, waits_keep}
-use Rattle.dr_turn.proofs.Search.{beat_test, part_before, settle_less, settle_only, settled_running, settled_underway, some_column, some_member}
+use Rattle.dr_turn.proofs.{Fewer.{fewer_here, fewer_turns}, Order.{left_falls, left_small, left_some, left_take}}
+use Rattle.dr_turn.proofs.{Parts.{Lowers, lowers}, Search.{settle_less, settled_running, settled_underway}}
 
 -- ---- deeds
 
@@ -65,47 +65,6 @@ record IsDue (word : ℕ) (r : Running) (part : Part) : Type 0 where
 
 -- ---- where it stands
 
--- the place before that of publishing is that of an append
-abbrev is_append : Part → Bool
-is_append parts.Append = true
-is_append part = false
-
-append_test : (part : Part) → is_append part ≡ true → part ≡ parts.Append
-append_test part e = grind (arith, e)
-
-append_before : (i : ℕ) → i < length TURN → is_publish (slice_index_or TURN i turn_begins) ≡ true
-    → (1 ≤ i) × (slice_index_or TURN (i - 1) turn_begins ≡ parts.Append)
-unfolding all_below
-append_before i l e =
-    let test = each_below (length TURN) i (λ j. not (is_publish (slice_index_or TURN j turn_begins))
-    || (nat_lt 0 j && is_append (slice_index_or TURN (j - 1) turn_begins))) refl l in
-    let both = and_parts (nat_lt 0 i) (is_append (slice_index_or TURN (i - 1) turn_begins)) (implied _ _ test e) in
-    (grind (arith, nat_tests, both.0), append_test _ both.1)
-
--- a place of publishing, and that before it
-record IsPublishing (n k : ℕ) (p : Place) : Type 0 where
-  some : 1 ≤ p.part
-  before : slice_index_or TURN (p.part - 1) turn_begins ≡ parts.Append
-  row : p.row < 1
-  column : p.column < 1
-  size : rows_in n (part_of p) * columns_in k (part_of p) ≡ 1
-
-publishing : (n k : ℕ) (p : Place) → IsIn n k p → is_publish (part_of p) ≡ true → IsPublishing n k p
-publishing n k p is at =
-    let before = append_before p.part is.part at in
-    let size = publish_size n k (part_of p) at in
-    record {
-      some = before.0;
-      before = before.1;
-      row = subst (λ rows. p.row < rows) size.0 is.row;
-      column = subst (λ columns. p.column < columns) size.1 is.column;
-      size = rw (size.0, size.1) refl;
-    }
-
-no_row : (row c : ℕ) → row < 1 → row * c ≡ 0
-no_row zero c l = omega arith
-no_row (suc row) c l = absurd (omega (arith, l))
-
 -- there is one place more left before it
 back : (n k : ℕ) (p : Place) → p.part < length TURN → IsPublishing n k p
     → left n k (record p { part = p.part - 1 }) ≤ left n k p + 1
@@ -147,13 +106,6 @@ goes_in word r part d = by (going r part)
         })
     by (inr (inr (inl stays))) = rw stays.0 d.underway.place
     by (inr (inr (inr ends))) = rw ends.1 (ends_in (members r) (columns r))
-
-one_more_at_most : (a : ℕ) → one_more 32 a ≤ a + 1
-one_more_at_most a = min-le_left (a + 1) 4294967295
-
--- a turn more within a limit of 32 bits
-pub one_turn : (a b : ℕ) → a < b → b < 2 ^ 32 → one_more 32 a ≡ a + 1
-one_turn a b h g = min-eq_left (omega arith)
 
 -- its turns are within the limit
 turns_keep : (word : ℕ) (r : Running) (part : Part) → IsDue word r part
@@ -366,14 +318,3 @@ pub deeds_keep : (word : ℕ) (r : Running) → IsRunningMember r → r.limit < 
     → IsRunningMember (after_step word r) × IsAfterDeed r (after_step word r)
 deeds_keep word r m fits none form grown =
     (deeds_keep_form word r m none form, settled_done r _ (deed_done word r m fits none form grown))
-
--- no member looks at a row that is frozen for it
-pub unfrozen_read : (r : Running) → IsRunningMember r → r.replica.end ≡ None
-    → AtLook (next_step r) (λ i c. is_frozen r.replica.rows i ≡ false)
-unfrozen_read r m none = λ i c look.
-    let may : allows r.replica (next_step r) ≡ true = (and_parts (asks r (part_of r.place) r.place.row r.place.column)
-    (allows r.replica (next_step r)) (m.due none)).1 in
-    let test = and_parts (is_inside r.replica) (not (has r.replica.suspects i) && has_cell r.replica i c)
-    (subst (λ (s : Step). allows r.replica s ≡ true) look may) in
-    let other = and_parts (not (has r.replica.suspects i)) (has_cell r.replica i c) test.1 in
-    m.replica.frozen i ∙ grind (arith, other.0)

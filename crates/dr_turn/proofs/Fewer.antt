@@ -1,7 +1,6 @@
 -- Each deed of a running member lowers the number of deeds that are left to it.
-use Rattle.std.specs.Prelude.{⊤, slice_index_or}
-use Rattle.std.proofs.Common.{ℕ, inl, inr, zero, suc, ◌+◌, ◌-◌, ◌<◌, ◌≤◌, List, [], ◌∷◌, length, slice_index, slice_set, sum_by, le_refl, arith}
-use Rattle.std.proofs.lemmas.{Bool.cases_lt, List.{set_past, Sums.sum_by-set}, Nat.mul-add-lt}
+use Rattle.std.{specs.Prelude.{⊤, slice_index_or}, proofs.lemmas.Nat.mul-add-lt}
+use Rattle.std.proofs.Common.{ℕ, zero, suc, ◌+◌, ◌-◌, ◌<◌, ◌≤◌, List, [], ◌∷◌, length, le_refl, arith}
 use Rattle.dr_program.specs.Replica.{Replica}
 use Rattle.dr_turn.specs.Work.{deeds_of, sum_of}
 
@@ -28,21 +27,6 @@ sum_falls r q (task ∷ tasks) zero by other none within less = let here : task 
     omega (arith, here, sum_keeps r q tasks none.1)
 sum_falls r q (task ∷ tasks) (suc i) by other none within less =
     omega (arith, none.0, sum_falls r q tasks i by other none.1 (omega arith) less)
-
--- a count that rises lowers the sum of what is left up to the greatest
-pub items_less : (most : ℕ) (counts : List ℕ) (s : ℕ) → s < length counts → slice_index counts s < most
-    → sum_by (λ count. most - count) (slice_set counts s (slice_index counts s + 1)) < sum_by
-    (λ count. most - count) counts
-items_less most counts s within below =
-    omega (arith, sum_by-set (λ (count : ℕ). most - count) counts s (slice_index counts s + 1) 0 within)
-
--- and it never raises that sum
-pub items_no_more : (most : ℕ) (counts : List ℕ) (s : ℕ) → sum_by (λ count. most - count) (slice_set counts s
-    (slice_index counts s + 1)) ≤ sum_by (λ count. most - count) counts
-items_no_more most counts s = elim (cases_lt s (length counts)) [
-  | inl within ↦ omega (arith, sum_by-set (λ (count : ℕ). most - count) counts s (slice_index counts s + 1) 0 within)
-  | inr past ↦ rw (set_past counts s (slice_index counts s + 1) past) (le_refl _)
-]
 
 -- ---- the search
 

@@ -1,44 +1,23 @@
 -- The tasks of a replica: which of its deeds lowers each, and that no deed raises any.
 use Rattle.std.specs.Prelude.{None, Option, Some, is_some, unwrap_or}
-use Rattle.std.proofs.Common.{◌≡◌, refl, ap, inl, sym, subst, ◌∙◌, ℕ, suc, ◌+◌, ◌-◌, ◌*◌, ◌^◌, ◌<◌, ◌≤◌, ◌==◌, nat_lt, not, ◌&&◌, Bool, true, false, List, [], ◌∷◌, ◌++◌, replicate, length, le_refl, slice_index, arith}
+use Rattle.std.proofs.Common.{◌≡◌, refl, ap, ◌∙◌, ℕ, suc, ◌+◌, ◌-◌, ◌*◌, ◌^◌, ◌<◌, ◌≤◌, ◌==◌, nat_lt, not, ◌&&◌, true, false, List, [], ◌∷◌, ◌++◌, replicate, length, le_refl, slice_index, arith}
 use Rattle.std.proofs.{Math.Nat.{mul_comm, mul-le-mul, mul-suc}, lemmas.Bool.{and_parts, ltb-true, Decides.nat_tests}}
 use Rattle.std.proofs.lemmas.List.{get_or-set_same, Folds.sum_by-replicate}
 use Rattle.dr_entry.specs.declared.{end.SentItem.SentItem, entry.{Entry.Entry, Item.Item}}
-use Rattle.dr_entry.specs.declared.record.{Value.Value, Vote.Vote}
+use Rattle.dr_entry.{specs.declared.record.{Value.Value, Vote.Vote}, proofs.ListPlaces.{items_less, items_no_more}}
+use Rattle.dr_entry.proofs.NumberFacts.{minus_less, minus_le}
 use Rattle.dr_history.specs.{History.last_view, Members.has}
 use Rattle.dr_machine.specs.{World.{no_value, no_vote}, declared.step.Step.{Step, TheVariants.{Do, Welcome}}}
-use Rattle.dr_words.specs.{Columns.leavers_column, Masks.with_member, Rewrites.is_accept_of}
-use Rattle.dr_words.specs.declared.column.TheConstants.{BEAT_COLUMN, RECEIVED_COLUMN, LOGGED_COLUMN, DONE_COLUMN}
-use Rattle.dr_words.proofs.{Accepts.leavers_accept, Masks.{in_roster_small, with_member_greater, with_member_small}}
+use Rattle.dr_words.{specs.Masks.with_member, proofs.Masks.{with_member_greater, with_member_small}}
+use Rattle.dr_words.specs.declared.column.TheConstants.{RECEIVED_COLUMN, LOGGED_COLUMN, DONE_COLUMN}
 use Rattle.dr_machine.specs.declared.event.Act.TheVariants as acts
-use Rattle.dr_rows.{specs.Words.{own, seen, with_own}, proofs.Grids.{with_word-same, with_word-column}}
-use Rattle.dr_program.specs.{Acts.leaves_view, Form.HasForm}
-use Rattle.dr_program.specs.Replica.{LeftView, Replica, me, entered, finished_history, gave, left_now, nothing_left, greatest, is_welcomer, is_wedged, joined, may_give, least_seen, may_deliver, may_mark, may_publish, may_receive, may_report, may_suspect, acted, received, put, delivered, published, reported, marked, suspected, accepted, decided, finished, is_own, is_others, may_commit, promise}
-use Rattle.dr_program.{specs.Steps.{NoWordFell, allows_inside, stepped}, proofs.{Least.least_fits, Opening.first_own}}
+use Rattle.dr_rows.specs.Words.{own}
+use Rattle.dr_program.{specs.Form.HasForm, proofs.{Opening.published_there, Parts.ends_view}}
+use Rattle.dr_program.specs.Replica.{LeftView, Replica, me, entered, finished_history, gave, left_now, nothing_left, greatest, is_welcomer, is_wedged, joined, may_give, least_seen, may_deliver, may_mark, may_publish, may_receive, may_report, may_suspect, acted, received, put, delivered, published, reported, marked, suspected, accepted, decided, finished, is_own, is_others, may_commit}
+use Rattle.dr_program.{specs.Steps.{allows_inside, stepped}, proofs.{Least.least_fits, OpeningForm.suspects_small}}
+use Rattle.dr_program.proofs.{Accepting.{own_waits, others_wait}, Replicas.{stamped_own, HasRisen, promise_small}}
 use Rattle.dr_turn.specs.Work.{ballots_left, commit_left, items_left, letters_left, open_count, places_left, log_left, refill, reports_left, mark_left, sum_of, trust_left, tasks, views_left, work}
-use Rattle.dr_turn.proofs.Fewer.{NoneRises, items_less, items_no_more}
-
--- the step ends a view
-abbrev pub ends_view : Step → Bool
-ends_view (Do a) = leaves_view a
-ends_view s = false
-
--- ---- the own words
-
--- no own word has fallen
-pub record HasRisen (r q : Replica) : Type 0 where
-  pub rise : (c : ℕ) → own r.rows c ≤ own q.rows c
-
-minus_le : (a b c : ℕ) → b ≤ c → a - c ≤ a - b
-minus_le a b c h = omega arith
-
-minus_less : (most a b : ℕ) → a < b → b ≤ most → most - b < most - a
-minus_less most a b h g = omega arith
-
--- where no word fell, the words have risen
-pub risen : (r q : Replica) → me q ≡ me r → NoWordFell r q → HasRisen r q
-risen r q same grown =
-    record { rise = λ c. subst (λ (i : ℕ). own r.rows c ≤ seen q.rows i c) (sym same) (grown.words (me r) c).number }
+use Rattle.dr_turn.proofs.Fewer.{NoneRises}
 
 -- ---- items
 
@@ -90,15 +69,6 @@ unfolding places_left
 places_keep word r s stays is = grind (arith, stays, is, delivered_less r)
 
 -- ---- the log
-
--- an own word that was set before the stamp
-stamped_own : (r : Replica) (c word : ℕ) → HasForm r → 0 < c → c < r.rows.columns
-    → own (acted (record r { rows = with_own r.rows c word })).rows c ≡ word
-stamped_own r c word form above within =
-    with_word-column (with_own r.rows c word).words r.rows.me BEAT_COLUMN _ r.rows.me c
-    (λ (e : c ≡ BEAT_COLUMN). absurd (omega arith))
-    ∙ with_word-same r.rows.members r.rows.columns r.rows.words r.rows.me c word form.rows.rows
-    form.rows.present within
 
 -- publishing leaves the log's work smaller by two at least
 pub published_less : (r : Replica) → HasForm r → may_publish r ≡ true
@@ -152,11 +122,6 @@ mark_keeps word r s rise = minus_le 1 _ _ (rise.rise DONE_COLUMN)
 
 -- ---- trust
 
--- who a replica suspects are of its roster, so that they have 16 bits
-pub suspects_small : (r : Replica) → HasForm r → r.suspects < 2 ^ 16
-suspects_small r form = in_roster_small 16 r.suspects
-    (λ n h. omega (arith, form.named n h, form.rows.few, form.members))
-
 -- a suspicion leaves fewer members to suspect
 pub suspected_less : (r : Replica) (j : ℕ) → HasForm r → may_suspect r j ≡ true
     → trust_left (acted (suspected r j)) < trust_left r
@@ -177,13 +142,6 @@ trust_keeps word r s stays form is = grind (arith, stays, is, form, suspected_le
 
 -- ---- votes
 
--- the member that a replica has promised is of its roster
-promise_small : (r : Replica) → HasForm r → promise r < 16
-promise_small r form =
-    let c : ℕ = leavers_column r.rows.members in
-    let there : is_accept_of r.roster r.members c ≡ true = rw form.members (leavers_accept r.roster r.members) in
-    omega (arith, (form.words r.rows.me c).promise (inl refl), form.accept c there, form.rows.few)
-
 -- an acceptance leaves fewer ballots to vote by
 accepted_from : (r : Replica) (x : Vote) → HasForm r → r.pending ≡ Some x
     → ballots_left (acted (accepted r)) < ballots_left r
@@ -193,21 +151,13 @@ accepted_from r x form e =
     let tag : (accepted r).tag ≡ x.ballot + 1 = ap (λ o. (unwrap_or o no_vote).ballot + 1) e in
     omega (arith, tag, due.ballot, due.above, promise_small r form)
 
-waits_own : (me : ℕ) (o : Option Vote) → is_own me o ≡ true → (x : Vote) × (o ≡ Some x)
-waits_own me None e = absurd (cc e)
-waits_own me (Some x) e = (x, refl)
-
-waits_others : (me : ℕ) (o : Option Vote) → is_others me o ≡ true → (x : Vote) × (o ≡ Some x)
-waits_others me None e = absurd (cc e)
-waits_others me (Some x) e = (x, refl)
-
 pub proposed_less : (r : Replica) → HasForm r → is_own (me r) r.pending ≡ true
     → ballots_left (acted (accepted r)) < ballots_left r
-proposed_less r form is = let t = waits_own (me r) r.pending is in accepted_from r t.0 form t.1
+proposed_less r form is = let t = own_waits (me r) r.pending is in accepted_from r t.0 form t.1
 
 pub accepted_less : (r : Replica) → HasForm r → is_others (me r) r.pending ≡ true
     → ballots_left (acted (accepted r)) < ballots_left r
-accepted_less r form is = let t = waits_others (me r) r.pending is in accepted_from r t.0 form t.1
+accepted_less r form is = let t = others_wait (me r) r.pending is in accepted_from r t.0 form t.1
 
 ballots_keep : (word : ℕ) (r : Replica) (s : Step) → ends_view s ≡ false → HasForm r
     → allows_inside r s ≡ true → ballots_left (stepped word r s) ≤ ballots_left r
@@ -291,10 +241,6 @@ none_rises word r s stays f is form rise = (
 
 -- ---- the views
 
--- other steps stay in the view
-pub view_stays : (word : ℕ) (r : Replica) (s : Step) → ends_view s ≡ false → (stepped word r s).view ≡ r.view
-view_stays word r s stays = grind (arith, stays)
-
 pub views_keep : (word : ℕ) (r : Replica) (s : Step) → ends_view s ≡ false
     → views_left (stepped word r s) ≡ views_left r
 unfolding views_left refill
@@ -327,13 +273,6 @@ one_view_less r s view members history kept like l later =
       mul-suc most (r.banks - (r.view + 1)),
       mul-le-mul (le_refl most) less,
     ))
-
--- what is logged is published in the new view from its beginning on
-published_there : (s : Replica) (view members : ℕ) (history : List Entry) (kept : List LeftView)
-    → s.rows.members ≤ 16 → s.rows.columns ≤ 1024 → me s < s.rows.members → LOGGED_COLUMN < s.rows.columns
-    → own (entered s view members history kept).rows LOGGED_COLUMN ≡ s.logged
-published_there s view members history kept few narrow present inside =
-    first_own s.rows.members s.rows.columns (me s) s.logged LOGGED_COLUMN few narrow present inside
 
 items_anew : (s : Replica) (view members : ℕ) (history : List Entry) (kept : List LeftView)
     → items_left (entered s view members history kept) ≡ greatest s.totals * s.roster

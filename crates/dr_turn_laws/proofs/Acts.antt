@@ -1,35 +1,29 @@
 -- What is told act by act of a whole turn: what each step asks, what it leaves of what other steps ask, and
 -- that none is asked for behind the turn. A further act adds its lines here.
-use Rattle.std.{specs.Prelude.{List, Option, None, Some, is_some, option_map}, proofs.Math.Nat.min-le_left}
-use Rattle.std.proofs.Common.{◌≡◌, refl, sym, ◌∙◌, inl, ℕ, ◌<◌, ◌≤◌, ◌^◌, ◌==◌, Bool, true, false, length, ap, ◌+◌, ◌-◌, ◌&&◌, ◌||◌, arith}
-use Rattle.dr_entry.specs.declared.{end.End.End, entry.Entry.Entry}
+use Rattle.std.specs.Prelude.{Option, None, Some, is_some, option_map}
+use Rattle.std.proofs.Common.{◌≡◌, refl, sym, ◌∙◌, inl, ℕ, ◌<◌, ◌==◌, Bool, true, false, length, ◌+◌, ◌-◌, ◌&&◌, ◌||◌, arith}
+use Rattle.dr_entry.{specs.declared.end.End.End, proofs.{ListPlaces.both, NumberFacts.{all_below, each_below}}}
+use Rattle.dr_entry.proofs.OptionFacts.{given, apart_by, differs}
 use Rattle.dr_entry.specs.declared.end.End.TheVariants as ends
-use Rattle.dr_history.{specs.Members.has, proofs.Bits.has_zero}
+use Rattle.dr_history.specs.Members.{has}
 use Rattle.dr_machine.specs.{Acts.{does, effect_of, CanTake}, Effects.{one_more, stamped, with_own}}
 use Rattle.dr_machine.specs.{Group.{Group, columns, roster}, Guards.{HasRoom, IsUnwedged, IsDue, MayChoose, IsBehind}}
 use Rattle.dr_machine.specs.{World.{World, items_received, own_word}, declared.{event.Act.Act, step.Step.Step}}
+use Rattle.dr_machine.proofs.{Groups.still_room, Worlds.{publish_own, published_own, trusted}}
+use Rattle.dr_machine.proofs.Writes.{own_other, row_other}
 use Rattle.dr_machine.specs.declared.event.Act.TheVariants as acts
 use Rattle.dr_machine.specs.declared.step.Step.TheVariants as steps
-use Rattle.dr_program.specs.{Acts.taken, Form.HasForm, Replica.Replica, declared.place.Part.Part}
-use Rattle.dr_program.specs.{Program.{after_deed, comes_to}, declared.place.{Place.Place, TheConstants.TURN}}
-use Rattle.dr_program.specs.{Running.{Running, broken_off, step_at}, Turn.{part_of, columns_in, is_beat, rows_in}}
-use Rattle.dr_program.specs.{Steps.{IsAppend, NoWordFell, allows, stepped, IsNoJoin}, declared.outcome.LogWhy.LogWhy}
-use Rattle.dr_program.specs.declared.outcome.Outcome.TheVariants as outcomes
-use Rattle.dr_turn.{specs.Work.work, proofs.{Deeds.one_turn, Order.{all_below, each_below}}}
-use Rattle.dr_turn.proofs.{Parts.{is_publish, lowers, numbered}, Tasks.ends_view}
+use Rattle.dr_program.specs.{Running.{Running, step_at}, Steps.IsNoJoin, Turn.{part_of, columns_in, rows_in}}
+use Rattle.dr_program.specs.declared.place.{Part.Part, Place.Place, TheConstants.TURN}
+use Rattle.dr_program.proofs.Parts.{numbered, is_passed, is_publish}
+use Rattle.dr_turn.specs.Work.{work}
 use Rattle.dr_program.specs.declared.place.Part.TheVariants as parts
 use Rattle.dr_turn_laws.specs.{Rested.IsRested, Swept.{IsIdle, Swept}}
 use Rattle.dr_turn_laws.specs.Wants.{Wants, ShowsMore, is_work, IsToTake, IsLeft, NoneIsLeft, IsToEnd, IsToLog, IsToPublish, IsToMark}
-use Rattle.dr_turn_laws.proofs.Leaving.{Stays, apart_by, differs, done_own, end_kept, gained_other, nulled_left, own_other, publish_own, published_own, row_other, shows_own, still_room, to_take}
-use Rattle.dr_program_laws.proofs.Quiet.{is_passed}
+use Rattle.dr_turn_laws.proofs.Leaving.{Stays, done_own, end_kept, gained_other, nulled_left, shows_own, to_take}
 use Rattle.dr_words.specs.declared.column.TheConstants.{BEAT_COLUMN, DONE_COLUMN, LOGGED_COLUMN, RECEIVED_COLUMN}
-use Rattle.dr_words.proofs.Layouts.{first_rows}
 
 -- ---- what a step asks is its guard, but for what every choice asks
-
--- whoever suspects nobody doesn't suspect this member
-trusted : (w : World) (m i : ℕ) → IsUnwedged w m → has (w.suspects m) i ≡ false
-trusted w m i calm = ap (λ x. has x i) calm ∙ has_zero i
 
 -- an end that is asked for is due there
 is_due : (w : World) (m : ℕ) (end : End) → IsUnwedged w m → IsToEnd w m end → IsDue w m end
@@ -247,10 +241,6 @@ does_kept g w m (acts.Crash end) (parts.Do acts.Mark) i c = Some (λ old. old)
 does_kept g w m (acts.Crash end) part i c = Some (λ old. old)
 does_kept g w m acts.Beat part i c = None
 
-both : {A B C : Type 0} → Option (A → B) → Option (B → C) → Option (A → C)
-both (Some f) (Some h) = Some (λ x. h (f x))
-both f h = None
-
 -- what a step leaves
 kept : (g : Group) (w : World) (m : ℕ) (s : Step) (part : Part) (i c : ℕ)
     → Option (Stays g w (effect_of g w m s) m part i c)
@@ -297,12 +287,6 @@ all_leave : (g : Group) (w : World) (m : ℕ) (r : Running) (p q : Place)
     → all_below (length TURN - 1) (λ a. all_below a (leaves g w m r p q a)) ≡ true
 unfolding all_below kept receive_kept send_kept null_kept does_kept stamp_kept own_kept both differs apart_by
 all_leave g w m r p q = refl
-
-given : {A : Type 0} (j t : Bool) (o : Option A) → j ≡ false → t ≡ false → ((j || t) || is_some o) ≡ true → A
-given true t o plain other e = absurd (cc)
-given false true o plain other e = absurd (cc)
-given false false (Some x) plain other e = x
-given false false None plain other e = absurd (cc)
 
 -- what is known of a place stays known after the deed of a later part that isn't passed, but where that goes
 -- back to it
@@ -375,60 +359,3 @@ nothing_left rested = record {
   durable = rested.idle (steps.Do acts.Report) refl;
   mark = rested.idle (steps.Do acts.Mark) refl;
 }
-
--- ---- what is special of an act
-
--- only a beat counts a turn
-pub turns_stay : (g : Group) (w : World) (m : ℕ) (a : Act) → is_beat (parts.Do a) ≡ false
-    → (effect_of g w m (steps.Do a)).turns m ≡ w.turns m
-turns_stay g w m acts.Beat other = absurd (cc)
-turns_stay g w m a other = refl
-
--- in the table only a stamp changes
-pub table_stays : (g : Group) (w : World) (m : ℕ) (a : Act) → (does g w m a).table ≡ w.table
-table_stays g w m a = grind arith
-
--- who ends a view has pushed nothing in the next one
-pub begins_anew : (r : Replica) (a : Act) → ends_view (steps.Do a) ≡ true
-    → ((taken r a).rows ≡ first_rows r.rows.members r.rows.columns r.rows.me r.logged)
-    × ((taken r a).view ≡ r.view + 1)
-begins_anew r acts.Finish ends = (refl, refl)
-begins_anew r a ends = absurd (cc ends)
-
--- ---- the work of a step
-
--- the step begins a turn
-abbrev pub begins_turn : Step → Bool
-begins_turn (steps.Do a) = is_beat (parts.Do a)
-begins_turn s = false
-
-one_act : (n : ℕ) → one_more 64 n ≤ n + 1
-one_act n = min-le_left (n + 1) (2 ^ 64 - 1)
-
--- what a step does is paid for
-pub worked_on : (word n : ℕ) (r : Replica) (s : Step) → HasForm r → allows r s ≡ true
-    → HasForm (stepped word r s) → ((stepped word r s).view ≡ r.view → NoWordFell r (stepped word r s))
-    → (begins_turn s ≡ true → r.turns + 1 < 2 ^ 32) → r.acts + work r ≤ n + r.turns → (stepped word r s).end ≡ None
-    → (stepped word r s).acts + work (stepped word r s) ≤ n + (stepped word r s).turns
-worked_on word n r (steps.Do acts.Beat) form may keeps grown turn old going = omega (
-  arith,
-  lowers word r (steps.Do acts.Beat) form may keeps grown,
-  one_act r.acts,
-  one_turn r.turns (r.turns + 1) (omega arith) (turn refl),
-  old,
-)
-worked_on word n r (steps.Do (acts.Halt end)) form may keeps grown turn old going = absurd (cc going)
-worked_on word n r (steps.Do (acts.Crash end)) form may keeps grown turn old going = absurd (cc going)
-worked_on word n r (steps.Do a) form may keeps grown turn old going =
-    omega (arith, lowers word r (steps.Do a) form may keeps grown, one_act r.acts, old)
-worked_on word n r s form may keeps grown turn old going = omega (arith, lowers word r s form may keeps grown, old)
-
--- ---- an append that fails
-
--- breaks its member off, and is no step of the machine
-pub fails : (word : ℕ) (letter : Option (List Entry)) (why : LogWhy) (r : Running) (s : Step) → IsAppend s
-    → (after_deed word letter (outcomes.Failed why) r s ≡ broken_off why r)
-    × (comes_to letter (Some s) (outcomes.Failed why) ≡ None)
-fails word letter why r steps.Append is = (refl, refl)
-fails word letter why r (steps.LogVote v) is = (refl, refl)
-fails word letter why r s is = absurd is

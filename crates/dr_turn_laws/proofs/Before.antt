@@ -1,16 +1,9 @@
 -- The order of the places of a turn.
 use Rattle.std.proofs.Common.{◌≡◌, refl, subst, inl, inr, ◌⊎◌, ℕ, ◌+◌, ◌<◌, Bool, true, false, if◌then◌else◌, nat_lt, arith}
 use Rattle.std.proofs.lemmas.Bool.Decides.{nat_tests}
+use Rattle.dr_entry.proofs.NumberFacts.{IsLess, split_column}
 use Rattle.dr_program.specs.{Turn.{IsIn, after, columns_in, part_of, rows_in}, declared.place.Place.Place}
 use Rattle.dr_turn_laws.specs.Swept.{IsBefore}
-
--- a row and a column come before others
-abbrev pub IsLess : ℕ → ℕ → ℕ → ℕ → Type 0
-IsLess j d i c = (j < i) ⊎ ((j ≡ i) × (d < c))
-
--- what is not after a column of a row is before it, or there
-split_column : (j d i c : ℕ) → (j < i) ⊎ ((j ≡ i) × (d < c + 1)) → IsLess j d i c ⊎ ((j ≡ i) × (d ≡ c))
-split_column j d i c before = grind (arith, before)
 
 split_place : (q p : Place) → q.part ≡ p.part → IsLess q.row q.column p.row (p.column + 1) → IsBefore q p ⊎ (q ≡ p)
 split_place q p same before = by (split_column q.row q.column p.row p.column before)

@@ -1,64 +1,23 @@
 -- What the writes of a step leave of what other steps ask.
-use Rattle.std.{specs.Prelude.{Option, None, Some}, proofs.lemmas.Bool.cases_eq}
-use Rattle.std.proofs.Common.{◌≡◌, ◌≢◌, refl, sym, ◌∙◌, subst, inl, inr, ℕ, ◌<◌, ◌==◌, Bool, true, false, if◌then◌else◌, List, [], ◌∷◌, ◌++◌, length, ap, ◌+◌, ◌-◌, ◌≤◌, ◌⊎◌, arith}
+use Rattle.std.{specs.Prelude.Some, proofs.lemmas.Bool.cases_eq}
+use Rattle.std.proofs.Common.{◌≡◌, ◌≢◌, refl, sym, ◌∙◌, subst, inl, inr, ℕ, ◌<◌, ◌==◌, if◌then◌else◌, List, [], ◌∷◌, ◌++◌, length, ap, ◌+◌, arith}
 use Rattle.dr_entry.specs.declared.end.{End.End, SentItem.{SentItem, TheVariants.Null}}
-use Rattle.dr_history.{specs.{History.{messages_in, messages_of}, Members.has}, proofs.Histories.messages_null}
+use Rattle.dr_history.{specs.{History.{messages_in, messages_of}, Members.has}, proofs.Indices.messages_null}
 use Rattle.dr_machine.specs.{Effects.{ends, nulls, one_more, receives, stamped, stamped_in, with_own}, Group.Group}
-use Rattle.dr_machine.specs.{Guards.{HasRoom, IsOther, seen_slot}, World.{World, items_received, own_word}}
-use Rattle.dr_machine.specs.Writes.{at, at₂, at₃, at₄}
+use Rattle.dr_machine.specs.{Guards.{HasRoom, IsOther, seen_slot}, World.{World, items_received}, Writes.at₂}
+use Rattle.dr_machine.proofs.Groups.{still_room}
+use Rattle.dr_machine.proofs.Writes.{count_written, own_other, count_other, sent_here, copy_other, end_here}
 use Rattle.dr_program.specs.declared.place.Part.{Part}
 use Rattle.dr_program.specs.declared.place.Part.TheVariants as parts
-use Rattle.dr_refine.proofs.Tests.{count_written}
 use Rattle.dr_ring.specs.Slots.{IsReady}
-use Rattle.dr_words.specs.{Columns.recv_column, Packing.recv_count}
-use Rattle.dr_words.specs.declared.column.TheConstants.{BEAT_COLUMN, DONE_COLUMN, LOGGED_COLUMN}
+use Rattle.dr_words.specs.declared.column.TheConstants.{BEAT_COLUMN, DONE_COLUMN}
 use Rattle.dr_turn_laws.specs.{Swept.IsIdle, Wants.{IsLeft, IsToTake, SeesAllDone, ShowsMore}}
 
--- ---- writes
-
-pub own_other : (own : ℕ → ℕ → ℕ → ℕ) (m v c x d : ℕ) → d ≢ c → at₃ own m v c x m v d ≡ own m v d
-own_other own m v c x d other = grind (arith, other)
-
-pub row_other : (table : ℕ → ℕ → ℕ → ℕ → ℕ) (v a m c x b j d : ℕ) → j ≢ m
-    → at₄ table v a m c x v b j d ≡ table v b j d
-row_other table v a m c x b j d other = grind (arith, other)
-
-copy_other : (table : ℕ → ℕ → ℕ → ℕ → ℕ) (v a i c x b j d : ℕ) → b ≢ a → at₄ table v a i c x v b j d ≡ table v b j d
-copy_other table v a i c x b j d other = grind (arith, other)
-
-count_other : (count : ℕ → ℕ → ℕ → ℕ) (m v s x t : ℕ) → t ≢ s → at₂ count m v (at (count m v) s x) m v t ≡ count m v t
-count_other count m v s x t other = grind (arith, other)
-
-end_here : (end : ℕ → Option End) (m : ℕ) (x : Option End) → at end m x m ≡ x
-end_here end m x = grind arith
-
 -- ---- an own word
-
-pub unequal : (c d : ℕ) → d ≡ c → (c == d) ≡ false → ⊥
-unequal c d same e = absurd (grind (arith, e, same))
-
--- the columns differ, by their test
-unfoldable pub apart_by : (c d : ℕ) (b : Bool) → (c == d) ≡ b → Option (d ≢ c)
-apart_by c d true e = None
-apart_by c d false e = Some (λ same. unequal c d same e)
-
-unfoldable pub differs : (c d : ℕ) → Option (d ≢ c)
-differs c d = apart_by c d (c == d) refl
 
 pub shows_own : (w : World) (m c x d y : ℕ) → d ≢ c → ShowsMore (with_own w m c x) m d y → ShowsMore w m d y
 shows_own w m c x d y apart all i member = subst (λ z. y < (if i == m then z else w.seen m i d))
     (own_other w.past.own m (w.past.view m) c x d apart) (all i member)
-
-pub published_own : (w : World) (m c x : ℕ) → LOGGED_COLUMN ≢ c
-    → own_word (with_own w m c x) m LOGGED_COLUMN < length (w.past.log m)
-    → own_word w m LOGGED_COLUMN < length (w.past.log m)
-published_own w m c x apart behind =
-    omega (arith, behind, own_other w.past.own m (w.past.view m) c x LOGGED_COLUMN apart)
-
-pub publish_own : (w : World) (m c x : ℕ) → LOGGED_COLUMN ≢ c → own_word w m LOGGED_COLUMN < length (w.past.log m)
-    → own_word (with_own w m c x) m LOGGED_COLUMN < length (w.past.log m)
-publish_own w m c x apart behind =
-    omega (arith, behind, own_other w.past.own m (w.past.view m) c x LOGGED_COLUMN apart)
 
 pub done_own : (w : World) (m c x : ℕ) → DONE_COLUMN ≢ c → SeesAllDone (with_own w m c x) m → SeesAllDone w m
 done_own w m c x apart all i member = subst (λ z. (if i == m then z else w.seen m i DONE_COLUMN) ≡ 1)
@@ -84,19 +43,6 @@ pub gained_other : (g : Group) (w v : World) (m s i : ℕ) → i ≢ s → v.mem
     → IsToTake g w m i
 gained_other g w v m s i apart view other ready = to_take g w v m i (items_received (receives g w m s) m i) view
     (count_other w.past.count m (w.past.view m) s (w.past.count m (w.past.view m) s + 1) i apart) other ready
-
--- where an item has room, with the same view, so has an earlier one
-pub still_room : (g : Group) (w v : World) (m n k : ℕ) → v.members m ≡ w.members m → n ≤ k → (k < g.window)
-    ⊎ ((i : ℕ) → IsOther v m i → k - g.window < recv_count (w.seen m i (recv_column m))) → HasRoom g w m n
-still_room g w v m n k view earlier (inl early) = inl (omega (arith, earlier, early))
-still_room g w v m n k view earlier (inr all) = inr (λ i other. omega (
-  arith,
-  earlier,
-  all i (record { member = ap (λ x. has x i) view ∙ other.member; other = other.other }),
-))
-
-sent_here : (sent : ℕ → ℕ → List SentItem) (m v : ℕ) (items : List SentItem) → at₂ sent m v items m v ≡ items
-sent_here sent m v items = grind arith
 
 -- a null is no message, and where there is a slot behind it there was one before
 pub nulled_left : (g : Group) (w : World) (m : ℕ) → let v = stamped_in (nulls g w m) m (w.past.view m) in

@@ -1,28 +1,30 @@
 -- In its turn a member compares the beat of each other member once.
-use Rattle.std.specs.Prelude.{Option, None, Some, is_some}
-use Rattle.std.proofs.Common.{◌≡◌, ◌≢◌, refl, sym, ap, ◌∙◌, subst, inl, inr, ◌⊎◌, ℕ, ◌+◌, ◌<◌, ◌≤◌, ◌==◌, Bool, true, false, nat_lt, if◌then◌else◌, length, arith}
-use Rattle.std.proofs.lemmas.{Bool.{cases_eq, cases_lt, Decides.nat_tests}, List.{get_or-set_same, get_or-set_other}}
+use Rattle.std.{specs.Prelude.{Option, None, Some, is_some}, proofs.lemmas.{Bool.cases_eq, List.get_or-set_same}}
+use Rattle.std.proofs.Common.{◌≡◌, ◌≢◌, refl, sym, ap, ◌∙◌, subst, inl, inr, ◌⊎◌, ℕ, ◌+◌, ◌<◌, ◌==◌, Bool, true, false, if◌then◌else◌, arith}
 use Rattle.dr_entry.specs.declared.end.End.{End}
-use Rattle.dr_machine.specs.{Acts.effect_of, Group.{Group, columns, roster}, World.World, Writes.at₃}
-use Rattle.dr_machine.specs.declared.step.Step.{Step}
-use Rattle.dr_program.specs.{Form.{IsOf, IsRunningMember}, Turn.{IsIn, after, columns_in, is_beat, part_of, rows_in}}
-use Rattle.dr_program.specs.{Program.{Program, next_sight, ok, step_of}, declared.place.TheConstants.TURN}
-use Rattle.dr_program.specs.{Reading.{table_of, world}, Replica.Replica, Steps.{stepped, IsNoJoin}}
-use Rattle.dr_program.specs.Running.{Running, applies, goes, members, next_step, settled, step_at, took, waits_after}
-use Rattle.dr_program.{specs.declared.place.{Part.Part, Place.Place}, proofs.Fixed.{of_told, step_told}}
+use Rattle.dr_machine.{specs.{Acts.effect_of, Group.{Group, columns, roster}, World.World}, proofs.Events.is_look}
+use Rattle.dr_program.specs.{Form.{IsOf, IsRunningMember}, Program.{Program, next_sight, ok, step_of}}
+use Rattle.dr_program.specs.{Reading.{table_of, world}, Replica.Replica}
+use Rattle.dr_program.specs.Running.{Running, applies, goes, members, next_step, step_at, took, waits_after}
+use Rattle.dr_program.specs.{Steps.{stepped, IsNoJoin}, Turn.{IsIn, after, columns_in, is_beat, part_of, rows_in}}
+use Rattle.dr_program.{specs.declared.place.{Part.Part, Place.Place}, proofs.Deeds.replicas}
+use Rattle.dr_program.proofs.{Fixed.{of_told, step_told}, Order.after_in, Parts.{ends_view, seen_stays}}
+use Rattle.dr_program.proofs.{Patience.{is_looks, plain_looks, waits_stay}, RunningPrograms.settled_end}
+use Rattle.dr_program.proofs.{Search.{applies_at, settle_only, idle_part}, Stepping.{stepped_on, stepped_replica}}
 use Rattle.dr_program.specs.declared.place.Part.TheVariants as parts
 use Rattle.dr_program.specs.Running as running
-use Rattle.dr_refine.proofs.{Deeds.{program_member, replicas}, Guards.seen_is}
-use Rattle.dr_rows.specs.Words.{Words, looked, seen}
+use Rattle.dr_refine.proofs.{Deeds.program_member, Guards.seen_is}
+use Rattle.dr_rows.specs.Words.{looked, seen}
 use Rattle.dr_suspect.specs.Waits.{Waits, beat_of, compared, next_count, turns_without_news}
-use Rattle.dr_turn.{specs.Search.{Passed, here, on}, proofs.{Deeds.deed_done, Order.{after_in, is_take, take_first}}}
-use Rattle.dr_turn.proofs.{Parts.numbered, Search.{applies_at, settle_only}, Staying.settled_end, Tasks.ends_view}
+use Rattle.dr_suspect.proofs.Waiting.{compared_other, compared_beat}
+use Rattle.dr_turn.{specs.Search.{Passed, here, on}, proofs.{Deeds.deed_done, Search.settled_passed}}
 use Rattle.dr_words.specs.{Columns.columns_of, declared.column.TheConstants.BEAT_COLUMN}
+use Rattle.dr_faithful.proofs.ChosenViews.{seen_other}
 use Rattle.dr_turn_laws.{specs.Rested.HasCompared, proofs.Passing.{IsGoing, among, in_view, unasked}}
-use Rattle.dr_turn_laws.proofs.Steadying.{moved_member, steady_moves, stepped_on, stepped_replica, takes_none, world_on}
-use Rattle.dr_turn_laws.proofs.Working.{next_grown}
-use Rattle.dr_program_laws.{specs.Trusting.{AreAtEase, to_come}, proofs.{Keeping.next_form, Trusting.never_ends}}
-use Rattle.dr_program_laws.proofs.Patience.{after_less, comes, compared_other, goes_less, is_look, is_looks, last_begins, looks_first, none_comes, passed_amid, plain_looks, settled_passed, waits_stay}
+use Rattle.dr_turn_laws.proofs.Steadying.{moved_member, steady_moves, takes_none, world_on}
+use Rattle.dr_program_laws.{specs.Trusting.AreAtEase, proofs.{Keeping.next_form, Sight.next_grown}}
+use Rattle.dr_program_laws.proofs.Patience.{after_less, comes, goes_less, none_comes, wide_after, here_comes}
+use Rattle.dr_program_laws.proofs.Trusting.{never_ends, rows_after, take_after, last_after, row_come}
 
 -- what member m knows amid its turn: of the rows that it has compared in it, and of those that are to come
 pub record HasLooked (g : Group) (w : World) (m : ℕ) (old : Waits) (y : Running) : Type 0 where
@@ -30,101 +32,6 @@ pub record HasLooked (g : Group) (w : World) (m : ℕ) (old : Waits) (y : Runnin
   pub still : (i : ℕ) → i < roster g → i ≢ m → comes y.place i ≡ 1
       → (turns_without_news y.waits i ≡ turns_without_news old i) × (beat_of y.waits i ≡ beat_of old i)
   pub news : (i : ℕ) → i < roster g → i ≢ m → comes y.place i ≡ 0 → HasCompared old y.waits i (w.seen m i BEAT_COLUMN)
-
--- ---- places
-
--- behind the looks none is to come
-next_none : (p : Place) (i : ℕ) → part_of p ≡ parts.Look
-    → comes (record { part = if nat_lt (p.part + 1) (length TURN) then p.part + 1 else 0; row = 0; column = 0 }) i ≡ 0
-next_none p i at = by (cases_lt (p.part + 1) (length TURN))
-  where
-    no_looks : (b : Bool) → is_looks (numbered (p.part + 1)) ≡ b → p.part + 1 < length TURN
-        → is_looks (numbered (p.part + 1)) ≡ false
-    no_looks true e l = absurd (cc (sym (looks_first p.part l e) ∙ at))
-    no_looks false e l = e
-
-    by : (p.part + 1 < length TURN) ⊎ (length TURN ≤ p.part + 1)
-        → comes (record { part = if nat_lt (p.part + 1) (length TURN) then p.part + 1 else 0; row = 0; column = 0 })
-        i ≡ 0
-    by (inl l) =
-        let within : nat_lt (p.part + 1) (length TURN) ≡ true = grind (arith, l) in
-        rw within (none_comes (numbered (p.part + 1)) 0 i (no_looks (is_looks (numbered (p.part + 1))) refl l))
-    by (inr l) = absurd (cc (last_begins p.part l, ap is_beat at))
-
--- behind the last column of a row come those of the next one, if there is one
-abbrev one_of : Bool → ℕ → ℕ
-one_of b n = if b then n else 0
-
-abbrev come_after : ℕ → ℕ → ℕ → ℕ
-come_after row n i = one_of (nat_lt (row + 1) n) (to_come parts.Look (row + 1) i)
-
-last_after : (n k : ℕ) (p : Place) (i : ℕ) → part_of p ≡ parts.Look → (p.column + 1 == k) ≡ true
-    → comes (after n k p) i ≡ come_after p.row n i
-last_after n k p i at e = by (nat_lt (p.column + 1) (columns_in k (part_of p))) (nat_lt (p.row + 1)
-    (rows_in n (part_of p))) (ap (λ part. nat_lt (p.column + 1) (columns_in k part)) at ∙ grind (arith, nat_tests, e))
-    (ap (λ part. nat_lt (p.row + 1) (rows_in n part)) at)
-  where
-    by : (x y : Bool) → x ≡ false → y ≡ nat_lt (p.row + 1) n
-        → comes (if x then record p { column = p.column + 1 } else (if y then record p { row = p.row + 1; column = 0 }
-        else record { part = if nat_lt (p.part + 1) (length TURN) then p.part + 1 else 0; row = 0; column = 0 })) i
-        ≡ come_after p.row n i
-    by true y f r = absurd (cc f)
-    by false true f r = ap (λ part. to_come part (p.row + 1) i) at
-        ∙ ap (λ b. one_of b (to_come parts.Look (p.row + 1) i)) r
-    by false false f r = next_none p i at ∙ ap (λ b. one_of b (to_come parts.Look (p.row + 1) i)) r
-
-row_come : (row n i : ℕ) → i ≡ row → come_after row n i ≡ 0
-row_come row n i same = grind (arith, same)
-
-rows_stay : (row n i : ℕ) → i ≢ row → i < n → come_after row n i ≡ to_come parts.Look row i
-rows_stay row n i other within = by (cases_lt i row)
-  where
-    by : (i < row) ⊎ (row ≤ i) → come_after row n i ≡ to_come parts.Look row i
-    by (inl l) = grind (arith, l)
-    by (inr l) = grind (arith, l, other, within)
-
--- a look at another column stays in its row
-wide_after : (n k : ℕ) (p : Place) (i : ℕ) → part_of p ≡ parts.Look → p.column < k
-    → (p.column + 1 == k) ≡ false → comes (after n k p) i ≡ comes p i
-wide_after n k p i at low e = by (nat_lt (p.column + 1) (columns_in k (part_of p)))
-    (ap (λ part. nat_lt (p.column + 1) (columns_in k part)) at ∙ grind (arith, nat_tests, e, low))
-  where
-    by : (x : Bool) → x ≡ true → comes (if x then record p { column = p.column + 1 }
-        else (if nat_lt (p.row + 1) (rows_in n (part_of p)) then record p { row = p.row + 1; column = 0 }
-        else record { part = if nat_lt (p.part + 1) (length TURN) then p.part + 1 else 0; row = 0; column = 0 })) i
-        ≡ comes p i
-    by true t = refl
-    by false t = absurd (cc t)
-
-here_comes : (p : Place) (i : ℕ) → part_of p ≡ parts.Look → comes p i ≡ to_come parts.Look p.row i
-here_comes p i at = ap (λ part. to_come part p.row i) at
-
--- so the place after a look leaves the other rows as they are
-rows_after : (n k : ℕ) (p : Place) (i : ℕ) → part_of p ≡ parts.Look → p.column < k → i ≢ p.row → i < n
-    → comes (after n k p) i ≡ comes p i
-rows_after n k p i at low other within = by (p.column + 1 == k) refl
-  where
-    by : (b : Bool) → (p.column + 1 == k) ≡ b → comes (after n k p) i ≡ comes p i
-    by true e = last_after n k p i at e ∙ rows_stay p.row n i other within ∙ sym (here_comes p i at)
-    by false e = wide_after n k p i at low e
-
--- and all rows are to come from the first place of a turn on, and from the first look
-pub at_first : (i : ℕ) → to_come parts.Look 0 i ≡ 1
-at_first i = grind arith
-
-take_after : (n k : ℕ) (p : Place) (i : ℕ) → IsIn n k p → part_of p ≡ parts.Take → comes (after n k p) i ≡ comes p i
-take_after n k p i is at = ap (λ q. comes (after n k q) i) first ∙ at_first i
-    ∙ sym (ap (λ part. to_come part p.row i) at)
-  where
-    zero : (x : ℕ) → x < 1 → x ≡ 0
-    zero x l = omega (arith, l)
-
-    first : p ≡ record { part = 0; row = 0; column = 0 }
-    first = λ z. record {
-      part = take_first p.part is.part (ap is_take at) z;
-      row = zero p.row (subst (λ part. p.row < rows_in n part) at is.row) z;
-      column = zero p.column (subst (λ part. p.column < columns_in k part) at is.column) z;
-    }
 
 -- ---- the search
 
@@ -151,7 +58,7 @@ passes_none g q m z a i is inside fails within other = by (part_of a) refl
     by parts.Take at = take_after (roster g) (columns g) a i inside at
     by part at = omega (
       arith,
-      after_less (roster g) (columns g) a i (passed_amid z a fails),
+      after_less (roster g) (columns g) a i (idle_part z a fails),
       none_comes (part_of a) a.row i (ap is_looks at),
     )
 
@@ -174,18 +81,6 @@ search_same g q m z _ _ i is inside (on a b fails rest) within other = search_sa
     wide = omega arith
 
 -- ---- a deed
-
--- only a look and a join change what a member has seen
-seen_stays : (g : Group) (w : World) (m i : ℕ) (s : Step) → is_look s ≡ false → IsNoJoin s → ends_view s ≡ false
-    → (effect_of g w m s).seen m i BEAT_COLUMN ≡ w.seen m i BEAT_COLUMN
-seen_stays g w m i s other no_join stays = grind (arith, other, no_join, stays)
-
-seen_other : (seen : ℕ → ℕ → ℕ → ℕ) (m j c x i d : ℕ) → i ≢ j → at₃ seen m j c x m i d ≡ seen m i d
-seen_other seen m j c x i d other = grind (arith, other)
-
--- a look at another row leaves what is known of one
-compared_beat : (w : Waits) (rows : Words) (j i : ℕ) → i ≢ j → beat_of (compared w rows j) i ≡ beat_of w i
-compared_beat w rows j i other = get_or-set_other w.beats j i (seen rows j BEAT_COLUMN) 0 other
 
 -- amid its turn, and behind a deed of it before the search
 abbrev Behind : Group → Program → ℕ → Waits → Running → Type 0

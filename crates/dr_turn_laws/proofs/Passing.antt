@@ -1,23 +1,24 @@
 -- At a place that the search passes nothing is left to do.
 use Rattle.std.{specs.Prelude.{Option, None, Some}, proofs.lemmas.Bool.{and_parts, Decides.nat_tests}}
-use Rattle.std.proofs.Common.{◌≡◌, ◌≢◌, refl, sym, ap, ◌∙◌, subst, inl, inr, ℕ, ◌<◌, ◌==◌, ◌&&◌, not, Bool, true, false, arith}
+use Rattle.std.proofs.Common.{◌≡◌, ◌≢◌, refl, sym, ap, ◌∙◌, subst, inl, inr, ℕ, ◌<◌, ◌==◌, not, Bool, true, false, arith}
+use Rattle.dr_entry.proofs.BoolFacts.{passed_push}
 use Rattle.dr_faithful.specs.Chosen.{views_by}
 use Rattle.dr_history.specs.Members.{has}
-use Rattle.dr_machine.specs.{Group.{Group, columns, roster}, World.{World, own_word}, declared.step.Step.Step}
+use Rattle.dr_machine.specs.{Group.{Group, columns, roster}, World.own_word, declared.step.Step.Step}
 use Rattle.dr_machine.proofs.Presence.{is_present}
-use Rattle.dr_program.specs.{Presence.present_at, Reading.{table_of, world}, declared.place.{Part.Part, Place.Place}}
-use Rattle.dr_program.{specs.{Program.Program, Replica.is_other, Steps.{allows, is_free}}, proofs.Holdings.held_of}
+use Rattle.dr_program.specs.{Presence.present_at, Program.Program, Reading.{table_of, world}, Replica.is_other}
 use Rattle.dr_program.specs.Running.{Running, append_or_end, applies, crashes_now, members, push_or_crash, step_at}
-use Rattle.dr_program.specs.{Turn.{after, columns_in, part_of, rows_in}, declared.outcome.LogWhy.LogWhy}
+use Rattle.dr_program.specs.{Steps.{allows, is_free}, Turn.{after, columns_in, part_of, rows_in}}
+use Rattle.dr_program.{specs.declared.{outcome.LogWhy.LogWhy, place.{Part.Part, Place.Place}}, proofs.Deeds.replicas}
+use Rattle.dr_program.proofs.{Holdings.{held_of, own_shown}, Search.applies_at, StepsAt.may_end}
 use Rattle.dr_program.specs.declared.place.Part.TheVariants as parts
 use Rattle.dr_program.specs.Running as running
-use Rattle.dr_refine.{specs.Programs.IsMember, proofs.{Deeds.{program_member, replicas}, Members.own_shown}}
-use Rattle.dr_refine.proofs.Tests.{step_guard}
+use Rattle.dr_refine.{specs.Programs.IsMember, proofs.{Deeds.program_member, Tests.step_guard}}
 use Rattle.dr_refine.proofs.Guards as guards
 use Rattle.dr_program_laws.{specs.Trusting.AreAtEase, proofs.Bounds.has_room}
 use Rattle.dr_program_laws.proofs.Trusting.{IsAmong, nobody_suspects, stay_first, votes_nothing}
 use Rattle.dr_rows.specs.Words.{changed, last_pushed, own}
-use Rattle.dr_turn.{specs.Search.{Passed, here, on}, proofs.{Failing.may_end, Search.applies_at}}
+use Rattle.dr_turn.specs.Search.{Passed, here, on}
 use Rattle.dr_words.specs.Columns.{columns_of}
 use Rattle.dr_world_laws.proofs.Worlds.{faithful, known}
 use Rattle.dr_turn_laws.specs.{Steady.IsSteady, Swept.{IsBefore, IsIdle, Swept}, Wants.Wants}
@@ -90,13 +91,6 @@ unchanged_stands g p m r j c is within other low same = ap (λ v. (world g p).ta
   where
     equal : (a b : ℕ) → not (a == b) ≡ false → a ≡ b
     equal a b e = grind (arith, nat_tests, e)
-
--- where the step may be taken, and the row is another's, only an unchanged word is passed
-passed_push : (a b t : Bool) → ((a && b) && t) ≡ false → a ≡ true → t ≡ true → b ≡ false
-passed_push true false true e x y = refl
-passed_push true true true e x y = absurd (cc)
-passed_push true b false e x y = absurd (cc)
-passed_push false b t e x y = absurd (cc)
 
 unpushed : (g : Group) (p : Program) (m : ℕ) (r : Running) (j c : ℕ) → IsGoing g p m r
     → j < roster g → j ≢ m → c < columns g → applies_at r parts.Push j c ≡ false → changed r.replica.rows j c ≡ false

@@ -1,35 +1,31 @@
 -- Programs begin steady, and moves keep them so.
-use Rattle.std.specs.Prelude.{Option, None, Some, is_some, option_map}
-use Rattle.std.proofs.Common.{◌≡◌, ◌≢◌, refl, sym, ap, ◌∙◌, subst, inl, inr, ◌⊎◌, ℕ, ◌+◌, ◌*◌, ◌^◌, ◌<◌, ◌≤◌, ◌==◌, not, Bool, true, false, List, length, slice_index, arith}
-use Rattle.std.proofs.lemmas.{Bool.{cases_eq, Decides.nat_tests}, Option.same_Some}
+use Rattle.std.{specs.Prelude.{Option, None, Some, is_some, option_map}, proofs.lemmas.Option.same_Some}
+use Rattle.std.proofs.Common.{◌≡◌, ◌≢◌, refl, sym, ap, ◌∙◌, subst, inl, inr, ◌⊎◌, ℕ, ◌+◌, ◌*◌, ◌^◌, ◌<◌, ◌≤◌, Bool, true, false, List, length, arith}
 use Rattle.dr_entry.specs.declared.end.End.{End}
-use Rattle.dr_machine.specs.{Acts.{CanTake, does, effect_of}, Effects.{one_more, pushes}}
-use Rattle.dr_machine.specs.{Group.{AllPresent, Group, IsGroup, banks, columns, late_members, roster}, Run.IsReached}
-use Rattle.dr_machine.specs.{World.{World, own_word}, Writes.at₄, declared.{event.Act.Act, step.Step.Step}}
-use Rattle.dr_machine.{specs.declared.step.Step.TheVariants.Do, proofs.Presence.late_in}
+use Rattle.dr_machine.{specs.Acts.{CanTake, effect_of}, proofs.{Presence.{late_in, is_present}, Worlds.rows_stay}}
+use Rattle.dr_machine.{specs.{Effects.pushes, Run.IsReached, World.World}, proofs.Groups.Told}
+use Rattle.dr_machine.specs.{Group.{AllPresent, Group, IsGroup, banks, late_members, roster}, declared.step.Step.Step}
 use Rattle.dr_history.specs.{Members.has, Order.IsLateIn, Soundness.IsNobodyLate}
-use Rattle.dr_program.specs.{Acts.taken, Replica.{Replica, first_entries_of, greatest, is_inside, me, pushed}}
+use Rattle.dr_program.{specs.Form.IsOf, proofs.{Fixed.step_told, Parts.begins_turn, Programs.fails, Search.beat_test}}
 use Rattle.dr_program.specs.{Presence.{present_at, with_present}, Reading.{step_by, step_due, table_of, world}}
 use Rattle.dr_program.specs.Program.{AreSetups, IsSetup, Move, Program, after_deed, begun_program, comes_to, letter_for, moved_by, next_sight, ok, step_of}
-use Rattle.dr_program.specs.Running.{Running, after_step, begun_running, broken_off, crashes_now, judged, next_step, step_at, took}
-use Rattle.dr_program.specs.{Steps.{IsAppend, stepped, stored, stored_letters, IsNoJoin}, declared.setup.Setup.Setup}
-use Rattle.dr_program.{specs.{Turn.{is_beat, part_of}, declared.place.Part.Part}, proofs.Fixed.{Told, step_told}}
-use Rattle.dr_program.{specs.declared.outcome.LogWhy.LogWhy, proofs.StepsAt.{append_either, push_either, vote_either}}
-use Rattle.dr_program.proofs.{Holdings.held_of, Present.{present_within, present_set, present_kept, present_map}}
-use Rattle.dr_program.proofs.{Opening.begins_at_the_opening, Runs.{after_either, after_ok, inside_no_join}}
+use Rattle.dr_program.specs.{Replica.{Replica, first_entries_of, greatest, is_inside, me}, declared.setup.Setup.Setup}
+use Rattle.dr_program.specs.{Running.{Running, begun_running, broken_off, next_step}, declared.outcome.LogWhy.LogWhy}
+use Rattle.dr_program.specs.{Steps.{IsAppend, stepped, stored, stored_letters, IsNoJoin}, Turn.{is_beat, part_of}}
+use Rattle.dr_program.proofs.Deeds.{due_allowed, no_step_no_change, replicas, rest_changes_nothing, step_is}
+use Rattle.dr_program.proofs.{Holdings.{held_of, own_shown}, Opening.{begins_at_the_opening, begun_reached}}
+use Rattle.dr_program.proofs.Present.{present_within, present_set, present_kept, present_map, replaced_either}
+use Rattle.dr_program.proofs.{RunningPrograms.HasWaited, Runs.{after_either, after_ok, inside_no_join}}
+use Rattle.dr_program.proofs.Stepping.{stepped_on, HasShown, stepped_replica, stepped_limit, ArePushed, step_stands, plain_begins, failed_made, failed_leaves}
 use Rattle.dr_program.specs.declared.outcome.Outcome.TheVariants as outcomes
-use Rattle.dr_program.specs.declared.place.Part.TheVariants as parts
-use Rattle.dr_program_laws.proofs.{Keeping.{begun_reached, move_kept}, Programs.replaced_either}
-use Rattle.dr_refine.{specs.Programs.IsProgram, proofs.{Members.own_shown, Steps.begun_is_program}}
-use Rattle.dr_refine.proofs.Deeds.{deed_step, due_allowed, no_step_no_change, program_member, replicas, rest_changes_nothing, settle_replica, step_is}
-use Rattle.dr_rows.specs.Words.{IsWords, begun, last_pushed, own, with_word, word_at}
-use Rattle.dr_rows.proofs.{Grids.{with_word-same, with_word-row, with_word-column}, WordsLemmas.IsFresh-begun}
-use Rattle.dr_turn.{specs.Work.work, proofs.Parts.{taken_pushed, verdict_no_beat, verdict_of}}
-use Rattle.dr_turn.proofs.{Search.{beat_test, settle_only}, Tasks.{ends_view, view_stays}}
-use Rattle.dr_words.{specs.{Columns.columns_of, declared.column.TheConstants.BEAT_COLUMN}, proofs.Layouts.first_rows}
-use Rattle.dr_world_laws.proofs.Worlds.{faithful, known}
+use Rattle.dr_program_laws.{specs.Trusting.{AreAtEase, MayWait}, proofs.{Keeping.move_kept, Trusting.stay_first}}
+use Rattle.dr_refine.{specs.Programs.IsProgram, proofs.{Deeds.{deed_step, program_member}, Steps.begun_is_program}}
+use Rattle.dr_rows.specs.Words.{last_pushed, own}
+use Rattle.dr_turn.specs.Work.{work}
+use Rattle.dr_words.{specs.Columns.columns_of, proofs.Layouts.begun_unpushed}
+use Rattle.dr_world_laws.proofs.{Firsts.IsFirst, Worlds.{known, none_ahead}}
 use Rattle.dr_turn_laws.specs.Steady.{HasRooms, HasWorked, IsSteady, all_work}
-use Rattle.dr_turn_laws.proofs.{Acts.{begins_anew, begins_turn, fails, table_stays}, Working.{works_begin, works_on}}
+use Rattle.dr_turn_laws.proofs.Working.{works_begin, works_on}
 
 -- ---- nobody is late
 
@@ -57,10 +53,6 @@ takes_none g p m r is there unended = inside_no_join r.replica (next_step r) (is
     (due_allowed r ((is.program.form m r there).due unended))
 
 -- ---- a move
-
--- a member after its next step
-abbrev pub stepped_on : Program → Running → Running
-stepped_on p r = after_step (next_sight p.table r) r
 
 takes_step : (g : Group) (p : Program) (m : ℕ) (r : Running) → IsSteady g p → present_at p.members m ≡ Some r
     → r.replica.end ≡ None
@@ -97,20 +89,7 @@ pub other_member : (g : Group) (p : Program) (m : ℕ) (r : Running) (i : ℕ) �
 other_member g p m r i is there unended other = ap (λ (x : Program). present_at x.members i)
     (move_made g p m r is there unended) ∙ present_kept p.members m i (stepped_on p r) other
 
--- the search leaves the replica of the one that moved
-pub stepped_replica : (p : Program) (r : Running)
-    → (stepped_on p r).replica ≡ stepped (next_sight p.table r) r.replica (next_step r)
-stepped_replica p r = settle_replica _ (took (next_sight p.table r) r (next_step r))
-
 -- ---- what no step changes
-
--- the limit
-stepped_limit : (p : Program) (r : Running) → (stepped_on p r).limit ≡ r.limit
-stepped_limit p r = ap (λ (x : Running). x.limit) (settle_only _ (took (next_sight p.table r) r (next_step r)))
-
--- whether an append has failed
-pub stepped_failed : (p : Program) (r : Running) → (stepped_on p r).failed ≡ r.failed
-stepped_failed p r = ap (λ (x : Running). x.failed) (settle_only _ (took (next_sight p.table r) r (next_step r)))
 
 -- the room
 rooms_told : (g : Group) (word : ℕ) (r : Replica) (s : Step) → HasRooms g r → HasRooms g (stepped word r s)
@@ -118,99 +97,7 @@ rooms_told g word r s rooms = subst
     (λ (t : Told). length g.opening.start + banks g + greatest t.totals * roster g < t.room)
     (sym (step_told word r s)) rooms
 
--- ---- the table
-
-cell_apart : (table : ℕ → ℕ → ℕ → ℕ → ℕ) (b m d x v j i c : ℕ) → (j ≢ m) ⊎ (i ≢ m)
-    → at₄ table b m m d x v j i c ≡ table v j i c
-cell_apart table b m d x v j i c (inl other) = grind (arith, other)
-cell_apart table b m d x v j i c (inr other) = grind (arith, other)
-
--- an act stores its stamp in the own copy alone
-act_cells : (g : Group) (w : World) (m : ℕ) (a : Act) (v j i c : ℕ) → (j ≢ m) ⊎ (i ≢ m)
-    → (effect_of g w m (Do a)).table v j i c ≡ w.table v j i c
-act_cells g w m a v j i c apart = cell_apart (does g w m a).table (w.past.view m) m BEAT_COLUMN
-    (one_more 64 ((does g w m a).past.acts m)) v j i c apart ∙ ap (λ t. t v j i c) (table_stays g w m a)
-
--- the rows of the other members stay
-rows_stay : (g : Group) (w : World) (m : ℕ) (s : Step) (v j i c : ℕ) → i ≢ m
-    → (effect_of g w m s).table v j i c ≡ w.table v j i c
-rows_stay g w m (Do a) v j i c other = act_cells g w m a v j i c (inr other)
-rows_stay g w m s v j i c other = grind (arith, other)
-
--- the own words that stand in the table as they were pushed
-abbrev ArePushed : Group → World → ℕ → Replica → Type 0
-ArePushed g w m r = (j c : ℕ) → j < roster g → j ≢ m → c < columns g → last_pushed r.rows j c ≡ w.table r.view j m c
-
-push_stands : (g : Group) (w : World) (m : ℕ) (r : Replica) (k d : ℕ) → IsWords r.rows
-    → r.rows.members ≡ roster g → r.rows.columns ≡ columns g → w.past.view m ≡ r.view
-    → own_word w m d ≡ own r.rows d → ArePushed g w m r → ArePushed g (pushes w m k d) m (pushed r k d)
-push_stands g w m r k d form rows wide view word old j c l other low = by (cases_eq j k) (cases_eq c d)
-  where
-    here : (t : ℕ → ℕ → ℕ → ℕ → ℕ) (x b v : ℕ) → b ≡ v → at₄ t b k m d x v k m d ≡ x
-    here t x b v same = rw same (grind arith)
-
-    copy_apart : (t : ℕ → ℕ → ℕ → ℕ → ℕ) (x b v : ℕ) → j ≢ k → at₄ t b k m d x v j m c ≡ t v j m c
-    copy_apart t x b v apart = grind (arith, apart)
-
-    column_apart : (t : ℕ → ℕ → ℕ → ℕ → ℕ) (x b v : ℕ) → c ≢ d → at₄ t b k m d x v j m c ≡ t v j m c
-    column_apart t x b v apart = grind (arith, apart)
-
-    by : (j ≡ k) ⊎ (j ≢ k) → (c ≡ d) ⊎ (c ≢ d) → word_at (with_word r.rows.sent k d (own r.rows d)) j c
-        ≡ at₄ w.table (w.past.view m) k m d (own_word w m d) r.view j m c
-    by (inr apart) column = ap (λ row. slice_index row c) (with_word-row r.rows.sent k d (own r.rows d) j apart)
-        ∙ old j c l other low ∙ sym (copy_apart w.table (own_word w m d) (w.past.view m) r.view apart)
-    by (inl row) (inr apart) = with_word-column r.rows.sent k d (own r.rows d) j c apart ∙ old j c l other low
-        ∙ sym (column_apart w.table (own_word w m d) (w.past.view m) r.view apart)
-    by (inl row) (inl column) = rw (row, column) (with_word-same r.rows.members r.rows.columns r.rows.sent k d
-        (own r.rows d) form.pushes (omega (arith, l, row, rows)) (omega (arith, low, column, wide))
-        ∙ sym word ∙ sym (here w.table (own_word w m d) (w.past.view m) r.view view))
-
--- what a world has of a member, and the shape of its rows
-record HasShown (g : Group) (w : World) (m : ℕ) (r : Replica) : Type 0 where
-  form : IsWords r.rows
-  rows : r.rows.members ≡ roster g
-  wide : r.rows.columns ≡ columns g
-  view : w.past.view m ≡ r.view
-  own : (c : ℕ) → own_word w m c ≡ own r.rows c
-  unwritten : (j c : ℕ) → w.table (r.view + 1) j m c ≡ 0
-
--- rows that begin have pushed nothing
-begun_unpushed : (n k m logged j c : ℕ) → last_pushed (first_rows n k m logged) j c ≡ 0
-begun_unpushed n k m logged j c = zero (own (begun n k m) c)
-    (last_pushed (begun n k m) j c) ((IsFresh-begun n k m).zero m c) ((IsFresh-begun n k m).unchanged j c)
-  where
-    zero : (a b : ℕ) → a ≡ 0 → not (a == b) ≡ false → b ≡ 0
-    zero a b none same = grind (arith, nat_tests, none, same)
-
--- no step changes that: in a view that it has not come to, the member has written nothing
-step_stands : (g : Group) (w : World) (m word : ℕ) (r : Replica) (s : Step) → HasShown g w m r
-    → ArePushed g w m r → ArePushed g (effect_of g w m s) m (stepped word r s)
-step_stands g w m word r (Do a) shown old j c l other low = by (ends_view (Do a)) refl
-  where
-    same : w.table (taken r a).view j m c ≡ (effect_of g w m (Do a)).table (taken r a).view j m c
-    same = sym (act_cells g w m a (taken r a).view j m c (inl other))
-
-    by : (b : Bool) → ends_view (Do a) ≡ b
-        → last_pushed (taken r a).rows j c ≡ (effect_of g w m (Do a)).table (taken r a).view j m c
-    by false stays = ap (λ rows. word_at rows j c) (taken_pushed r a stays) ∙ old j c l other low
-        ∙ ap (λ v. w.table v j m c) (sym (view_stays word r (Do a) stays)) ∙ same
-    by true ends =
-        let anew = begins_anew r a ends in
-        ap (λ rows. last_pushed rows j c) anew.0 ∙ begun_unpushed r.rows.members r.rows.columns r.rows.me r.logged j c
-        ∙ sym (shown.unwritten j c) ∙ ap (λ v. w.table v j m c) (sym anew.1) ∙ same
-step_stands g w m word r s shown old j c l other low = grind (arith, old j c l other low, here)
-  where
-    here : (k d : ℕ) → last_pushed (pushed r k d).rows j c ≡ (pushes w m k d).table r.view j m c
-    here k d = push_stands g w m r k d shown.form shown.rows shown.wide shown.view (shown.own d) old j c l other low
-
 -- ---- the program
-
--- no word stands in the bank of a view that its member has not come to
-none_ahead : (g : Group) (w : World) (m v j c : ℕ) → IsGroup g → IsReached g w → w.past.view m < v
-    → w.table v j m c ≡ 0
-none_ahead g w m v j c is run ahead =
-    let f = faithful g w (known g w is run) in
-    omega (arith, (f.old.in_table v j m c).number, f.fresh.unwritten m v c ahead)
 
 shown_in : (g : Group) (p : Program) (m : ℕ) (r : Running) → IsSteady g p
     → present_at p.members m ≡ Some r → HasShown g (world g p) m r.replica
@@ -238,15 +125,6 @@ moved_either : (g : Group) (p : Program) (m : ℕ) (r : Running) → IsSteady g 
     → ((i ≡ m) × (stepped_on p r ≡ y)) ⊎ ((i ≢ m) × (present_at p.members i ≡ Some y))
 moved_either g p m r is there unended i y at = replaced_either p.members m r (stepped_on p r) there i y
     (sym (ap (λ (x : Program). present_at x.members i) (move_made g p m r is there unended)) ∙ at)
-
--- only one part begins a turn
-plain_begins : (r : Running) (part : Part) (i c : ℕ) → is_beat part ≡ false → begins_turn (step_at r part i c) ≡ false
-plain_begins r parts.Judge i c other = verdict_no_beat (judged r) (verdict_of r)
-plain_begins r parts.Append i c other = append_either (λ s. begins_turn s ≡ false) r.failed refl (λ why. refl)
-plain_begins r parts.Vote i c other = vote_either (λ s. begins_turn s ≡ false) r.failed _ refl (λ why. refl)
-plain_begins r parts.Push i c other = push_either (λ s. begins_turn s ≡ false) (crashes_now r) i c refl refl
-plain_begins r (parts.Do a) i c other = other
-plain_begins r part i c other = refl
 
 steady_on : (g : Group) (p : Program) (m : ℕ) (r : Running) → IsSteady g p
     → present_at p.members m ≡ Some r → r.replica.end ≡ None → IsSteady g (step_of p (ok m))
@@ -301,30 +179,6 @@ steady_on g p m r is there unended = record {
     moved : CanTake g (world g p) m (next_step r)
         × (world g (step_of p (ok m)) ≡ effect_of g (world g p) m (next_step r))
     moved = world_on g p m r is there unended
-
--- the program after a move whose append fails
-failed_made : (p : Program) (m : ℕ) (why : LogWhy) (r : Running) → present_at p.members m ≡ Some r
-    → r.replica.end ≡ None → IsAppend (next_step r)
-    → step_of p (record { member = m; outcome = outcomes.Failed why }) ≡ record {
-      members = with_present p.members m (broken_off why r);
-      table = stored p.table r.replica (next_step r);
-      letters = stored_letters p.letters r.replica (next_step r);
-    }
-failed_made p m why r there unended due =
-    step_is p (record { member = m; outcome = outcomes.Failed why }) r there unended ∙ ap (λ x. record {
-      members = with_present p.members m x;
-      table = stored p.table r.replica (next_step r);
-      letters = stored_letters p.letters r.replica (next_step r);
-    }) (fails (next_sight p.table r) (letter_for p m) why r (next_step r) due).0
-
--- it leaves each member its replica and its limit
-failed_leaves : (p : Program) (m : ℕ) (why : LogWhy) (r : Running) → present_at p.members m ≡ Some r
-    → (i : ℕ) (y : Running) → present_at (with_present p.members m (broken_off why r)) i ≡ Some y
-    → (x : Running) × (present_at p.members i ≡ Some x) × (x.replica ≡ y.replica) × (x.limit ≡ y.limit)
-failed_leaves p m why r there i y at = elim (replaced_either p.members m r (broken_off why r) there i y at) [
-  | inl here ↦ (r, rw here.0 there, ap (λ (x : Running). x.replica) here.1, ap (λ (x : Running). x.limit) here.1)
-  | inr other ↦ (y, other.1, refl, refl)
-]
 
 -- so it keeps the program steady
 steady_failed : (g : Group) (p : Program) (m : ℕ) (why : LogWhy) (r : Running) → IsSteady g p
@@ -438,3 +292,34 @@ steady_begins g turns setups group nobody some small whole are = record {
 
     begins : (m : ℕ) (r : Running) → present_at (begun_program g setups).members m ≡ Some r → BeginsSteady g turns m r
     begins m r there = named m r (present_at setups m) refl (sym (present_map begun_running setups m) ∙ there)
+
+-- each member of the roster is there
+pub member_at : (g : Group) (p : Program) (m : ℕ) → IsSteady g p → m < roster g
+    → (r : Running) × (present_at p.members m ≡ Some r)
+member_at g p m steady l = steady.program.there m l (is_present g m steady.whole l)
+
+-- its world is one in which everybody is in the first view
+pub first_of : (g : Group) (p : Program) → IsSteady g p → AreAtEase p → IsFirst g (world g p)
+first_of g p steady ease = record {
+  group = steady.group;
+  known = known g (world g p) steady.group steady.reached;
+  whole = steady.whole;
+  nobody = steady.nobody;
+  view = λ m. stay_first g p m ease;
+}
+
+-- it hasn't waited too long as its turn begins
+pub may_wait : (g : Group) (p : Program) (x : ℕ) (y : Running) → IsSteady g p → present_at p.members x ≡ Some y
+    → y.replica.end ≡ None → HasWaited g (world g p) x y → MayWait y
+may_wait g p x y steady there none waited = by waited.limit
+  where
+    of : IsOf g x y.replica
+    of = steady.program.of x y there
+
+    by : (y.waits.limit ≡ 0) ⊎ (3 ≤ y.waits.limit) → MayWait y
+    by (inl unlimited) = inl unlimited
+    by (inr long) = inr (λ i is. omega (
+      arith,
+      long,
+      waited.few i (omega (arith, is.0, of.members)) (λ same. is.1 (same ∙ sym of.number)) none,
+    ))

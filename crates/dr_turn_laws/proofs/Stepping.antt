@@ -4,21 +4,20 @@ use Rattle.std.proofs.Common.{◌≡◌, refl, sym, ap, ◌∙◌, subst, ℕ, �
 use Rattle.dr_entry.specs.declared.end.End.{End}
 use Rattle.dr_entry.specs.declared.end.End.TheVariants as ends
 use Rattle.dr_machine.specs.{Acts.{CanTake, effect_of}, Group.{Group, columns, roster}, World.World}
-use Rattle.dr_machine.specs.declared.step.Step.{Step}
-use Rattle.dr_program.specs.{Program.{Program, next_sight, ok, step_of}, Reading.world, Replica.Replica}
-use Rattle.dr_program.specs.Running.{Running, append_or_end, crashes_now, goes, members, next_step, push_or_crash, settled, step_at, took}
-use Rattle.dr_program.specs.{Steps.stepped, Turn.{IsIn, columns_in, is_beat, part_of, rows_in}}
-use Rattle.dr_program.specs.declared.place.{Part.Part, TheConstants.TURN}
+use Rattle.dr_program.specs.{Program.{Program, next_sight, ok, step_of}, Replica.Replica, declared.place.Part.Part}
+use Rattle.dr_program.{specs.{Reading.world, Steps.stepped}, proofs.Stepping.{stepped_on, stepped_replica}}
+use Rattle.dr_program.specs.Running.{Running, append_or_end, crashes_now, goes, members, next_step, push_or_crash, took}
+use Rattle.dr_program.specs.{Turn.{IsIn, columns_in, is_beat, part_of, rows_in}, declared.place.TheConstants.TURN}
+use Rattle.dr_program.proofs.{Parts.{is_end, no_end, taken_end, is_passed, due_at}, RunningPrograms.settled_end}
 use Rattle.dr_program.specs.declared.place.Part.TheVariants as parts
 use Rattle.dr_program.specs.Running as running
-use Rattle.dr_turn.proofs.{Parts.{is_end, no_end, taken_end}, Staying.settled_end}
 use Rattle.dr_words.specs.{Columns.columns_of, declared.column.TheConstants.LOGGED_COLUMN}
+use Rattle.dr_turn.proofs.Search.{settled_passed}
 use Rattle.dr_world_laws.proofs.Worlds.{faithful, known}
-use Rattle.dr_turn_laws.{specs.{Swept.Swept, Wants.SeesAllDone}, proofs.{Acts.{asks, uncrashed}, Leaving.end_sees}}
-use Rattle.dr_turn_laws.proofs.{Passing.{IsGoing, among, passes}, Resting.Knows}
-use Rattle.dr_turn_laws.proofs.Steadying.{is_in, moved_member, steady_moves, stepped_on, stepped_replica, world_on}
-use Rattle.dr_turn_laws.proofs.Sweeping.{swept_behind, world_behind}
-use Rattle.dr_program_laws.{specs.Trusting.{AreAtEase, MayWait}, proofs.{Patience.settled_passed, Quiet.is_passed}}
+use Rattle.dr_turn_laws.{specs.{Swept.Swept, Wants.SeesAllDone}, proofs.{Leaving.end_sees, Resting.Knows}}
+use Rattle.dr_turn_laws.proofs.{Acts.{asks, uncrashed}, Steadying.{is_in, moved_member, steady_moves, world_on}}
+use Rattle.dr_turn_laws.proofs.{Passing.{IsGoing, among, passes}, Sweeping.{swept_behind, world_behind}}
+use Rattle.dr_program_laws.specs.Trusting.{AreAtEase, MayWait}
 use Rattle.dr_program_laws.proofs.Trusting.{move_eases, never_passed, nobody_suspects}
 
 -- ---- a deed
@@ -69,12 +68,8 @@ swept_on g p m r is plain =
       swept = is.swept;
     })))
 
--- the step that is due at a part, and the replica behind it
-abbrev due : Running → Part → Step
-due r part = step_at r part r.place.row r.place.column
-
 abbrev behind : Program → Running → Part → Replica
-behind p r part = stepped (next_sight p.table r) r.replica (due r part)
+behind p r part = stepped (next_sight p.table r) r.replica (due_at r part)
 
 -- what is known behind the next deed
 abbrev KnowsNext : Group → Program → ℕ → Running → Type 0
@@ -82,7 +77,7 @@ KnowsNext g p m r = Knows g (world g (step_of p (ok m))) m (stepped_on p r).plac
 
 -- a member that hasn't ended goes on to its next place
 onward : (g : Group) (p : Program) (m : ℕ) (r : Running) (part : Part) → IsWithin g p m r → part_of r.place ≡ part
-    → due r part ≡ uncrashed r part r.place.row r.place.column → (behind p r part).end ≡ None → KnowsNext g p m r
+    → due_at r part ≡ uncrashed r part r.place.row r.place.column → (behind p r part).end ≡ None → KnowsNext g p m r
 onward g p m r part is at plain unended = subst (Knows g (world g (step_of p (ok m))) m (stepped_on p r).place)
     (sym none) (passes g (step_of p (ok m)) m
     (stepped_on p r) (took (next_sight p.table r) r (next_step r)).place (stepped_on p r).place (record {
@@ -91,7 +86,7 @@ onward g p m r part is at plain unended = subst (Knows g (world g (step_of p (ok
       there = moved_member g p m r is.going.steady is.going.there is.going.unended;
       unended = none;
     }) (settled_passed (took (next_sight p.table r) r (next_step r)))
-    (swept_on g p m r is (subst (λ x. due r x ≡ uncrashed r x r.place.row r.place.column) (sym at) plain)))
+    (swept_on g p m r is (subst (λ x. due_at r x ≡ uncrashed r x r.place.row r.place.column) (sym at) plain)))
   where
     none : (stepped_on p r).replica.end ≡ None
     none = ap (λ (q : Replica). q.end) (stepped_replica p r) ∙ subst (λ x. (behind p r x).end ≡ None) (sym at) unended
@@ -126,18 +121,18 @@ knows_next g p m r is = by (part_of r.place) refl
     moved : CanTake g w m (next_step r) × (v ≡ effect_of g w m (next_step r))
     moved = world_on g p m r is.going.steady is.going.there is.going.unended
 
-    plainly : (part : Part) → part_of r.place ≡ part → due r part ≡ uncrashed r part r.place.row r.place.column
+    plainly : (part : Part) → part_of r.place ≡ part → due_at r part ≡ uncrashed r part r.place.row r.place.column
         → Swept g v m (goes (members r) (running.columns r) part r.place)
     plainly part at plain = subst (λ x. Swept g v m (goes (members r) (running.columns r) x r.place)) at
-        (swept_on g p m r is (subst (λ x. due r x ≡ uncrashed r x r.place.row r.place.column) (sym at) plain))
+        (swept_on g p m r is (subst (λ x. due_at r x ≡ uncrashed r x r.place.row r.place.column) (sym at) plain))
 
-    halts : part_of r.place ≡ parts.Done → CanTake g w m (due r parts.Done)
-    halts at = subst (λ x. CanTake g w m (due r x)) at moved.0
+    halts : part_of r.place ≡ parts.Done → CanTake g w m (due_at r parts.Done)
+    halts at = subst (λ x. CanTake g w m (due_at r x)) at moved.0
 
     sees : part_of r.place ≡ parts.Done → SeesAllDone v m
-    sees at = subst (λ u. SeesAllDone u m) (sym (moved.1 ∙ ap (λ x. effect_of g w m (due r x)) at))
+    sees at = subst (λ u. SeesAllDone u m) (sym (moved.1 ∙ ap (λ x. effect_of g w m (due_at r x)) at))
         (end_sees w m ends.Done
-        (asks g w m (due r parts.Done) (λ end. ((halts at).may, nobody_suspects g p m is.going.ease)) (halts at)))
+        (asks g w m (due_at r parts.Done) (λ end. ((halts at).may, nobody_suspects g p m is.going.ease)) (halts at)))
 
     push : (b : Bool) → crashes_now r ≡ b → part_of r.place ≡ parts.Push → KnowsNext g p m r
     push true crash at = ended g p m r parts.Push ends.Crashed is at

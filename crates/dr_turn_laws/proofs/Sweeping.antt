@@ -1,35 +1,17 @@
 -- After a deed of a turn nothing is left to do at the places before the one where the member goes on.
-use Rattle.std.proofs.Common.{◌≡◌, ◌≢◌, refl, sym, ap, ◌∙◌, subst, inl, inr, ℕ, ◌+◌, ◌-◌, ◌<◌, ◌≤◌, ◌==◌, ◌&&◌, Bool, true, false, List, length, take, drop, ◌++◌, length-append, arith}
-use Rattle.std.proofs.lemmas.{Bool.Decides.nat_tests, List.{length-take, length-drop}}
-use Rattle.dr_entry.specs.declared.entry.Entry.{Entry}
+use Rattle.std.proofs.Common.{◌≡◌, ◌≢◌, refl, sym, ap, ◌∙◌, subst, inl, inr, ℕ, ◌+◌, ◌-◌, ◌<◌, ◌≤◌, true, false, length, take, drop, ◌++◌, arith}
+use Rattle.dr_entry.proofs.{Entries.longer, NumberFacts.{IsLess, one_place, one_column, not_back}}
 use Rattle.dr_machine.specs.{Acts.{CanTake, effect_of}, Group.{Group, columns, roster}, World.{World, own_word}}
-use Rattle.dr_machine.specs.{Writes.{at, at₃, at₄}, declared.event.Act.Act}
+use Rattle.dr_machine.{specs.declared.event.Act.Act, proofs.Writes.{seen_less, pushed_less, log_here}}
 use Rattle.dr_program.specs.{Running.{Running, goes}, Turn.{IsIn, after, columns_in, is_beat, part_of, rows_in}}
-use Rattle.dr_program.specs.declared.place.{Part.Part, Place.Place}
+use Rattle.dr_program.{specs.declared.place.{Part.Part, Place.Place}, proofs.Going.{goes_back_or_stays, once_not}}
+use Rattle.dr_program.proofs.{Parts.{is_passed, is_once, is_publish}, Search.part_before}
 use Rattle.dr_program.specs.declared.place.Part.TheVariants as parts
-use Rattle.dr_turn.proofs.{Parts.{goes_back_or_stays, is_publish}, Search.part_before}
 use Rattle.dr_words.specs.declared.column.TheConstants.{LOGGED_COLUMN}
 use Rattle.dr_turn_laws.{specs.Swept.{IsBefore, IsIdle, Swept}, proofs.Acts.{earlier_kept, uncrashed}}
-use Rattle.dr_turn_laws.proofs.{Before.{IsLess, before_after}, Leaving.{Stays, gained_other}}
-use Rattle.dr_program_laws.proofs.Quiet.{is_passed}
+use Rattle.dr_turn_laws.proofs.{Before.before_after, Leaving.{Stays, gained_other}}
 
 -- ---- what a deed leaves of its own part
-
-seen_less : (seen : ℕ → ℕ → ℕ → ℕ) (m i c x j d : ℕ) → IsLess j d i c → at₃ seen m i c x m j d ≡ seen m j d
-seen_less seen m i c x j d (inl earlier) = grind (arith, earlier)
-seen_less seen m i c x j d (inr here) = grind (arith, here)
-
-pushed_less : (table : ℕ → ℕ → ℕ → ℕ → ℕ) (v m i c x j d : ℕ) → IsLess j d i c
-    → at₄ table v i m c x v j m d ≡ table v j m d
-pushed_less table v m i c x j d (inl earlier) = grind (arith, earlier)
-pushed_less table v m i c x j d (inr here) = grind (arith, here)
-
--- a part with one place has none before it
-one_place : (j d i c : ℕ) → i < 1 → c < 1 → IsLess j d i c → ⊥
-one_place j d i c row column less = grind (arith, row, column, less)
-
-one_column : (j d i c : ℕ) → c < 1 → IsLess j d i c → j < i
-one_column j d i c column less = grind (arith, column, less)
 
 -- in earlier rows and columns it leaves what is known
 less_kept : (g : Group) (w : World) (m : ℕ) (r : Running) (part : Part) (i c j d : ℕ) → i < rows_in (roster g) part
@@ -49,26 +31,6 @@ less_kept g w m r part i c j d row column less = absurd (one_place j d i c row c
 
 -- ---- what it does at its own place
 
--- the parts whose deeds are done once
-abbrev is_once : Part → Bool
-is_once parts.Look = true
-is_once parts.Append = true
-is_once parts.Push = true
-is_once part = false
-
-longer : (log history : List Entry) → length log < length history
-    → length log < length (log ++ take 1 (drop (length log) history))
-longer log history l = omega (
-  arith,
-  l,
-  length-append log (take 1 (drop (length log) history)),
-  length-take 1 (drop (length log) history),
-  length-drop (length log) history,
-)
-
-log_here : (log : ℕ → List Entry) (m : ℕ) (x : List Entry) → at log m x m ≡ x
-log_here log m x = grind arith
-
 done_there : (g : Group) (w : World) (m : ℕ) (r : Running) (part : Part) (i c : ℕ)
     → is_once part ≡ true → own_word w m LOGGED_COLUMN ≤ length (w.past.log m) → CanTake g w m (uncrashed r part i c)
     → IsIdle g (effect_of g w m (uncrashed r part i c)) m part i c
@@ -83,10 +45,6 @@ done_there g w m r parts.Append i c once published can = λ wants. omega (
 done_there g w m r part i c once published can = absurd (cc)
 
 -- ---- a deed
-
-not_back : (a b : ℕ) (t : Bool) → (t ≡ true → a < b - 1) → (t && (a + 1 == b)) ≡ false
-not_back a b true before = grind (arith, nat_tests, before refl)
-not_back a b false before = refl
 
 -- what is known before a deed in a turn
 pub record IsAmid (g : Group) (w : World) (m : ℕ) (r : Running) : Type 0 where
@@ -116,11 +74,6 @@ earlier_idle g w m r q amid is (inr here) forth = subst (λ part. IsIdle g w m p
   where
     same : part_of q ≡ part_of r.place
     same = ap (λ a. part_of (record q { part = a })) here.0
-
--- what is done once doesn't go back
-once_not : (part : Part) → is_once part ≡ true → is_publish part ≡ true → ⊥
-once_not parts.Append once back = absurd (cc)
-once_not part once back = absurd (cc)
 
 -- nothing is left to do before the place where the member goes on
 pub swept_behind : (g : Group) (w : World) (m : ℕ) (r : Running) → IsAmid g w m r

@@ -1,48 +1,32 @@
 -- A whole turn of a member.
 use Rattle.std.{specs.Prelude.{All, Option, None, Some, is_some}, proofs.lemmas.Option.same_Some}
-use Rattle.std.proofs.Common.{◌≡◌, ◌≢◌, refl, sym, ap, ◌∙◌, subst, ◌⊎◌, ℕ, suc, ◌+◌, ◌<◌, ◌≤◌, ◌||◌, Bool, true, false, List, [], ◌∷◌, length, take, le_trans, arith}
-use Rattle.dr_entry.specs.declared.end.End.{End}
+use Rattle.std.proofs.Common.{◌≡◌, ◌≢◌, refl, sym, ap, ◌∙◌, subst, ◌⊎◌, ℕ, suc, ◌+◌, ◌<◌, ◌≤◌, ◌||◌, true, false, List, [], ◌∷◌, length, take, le_trans, arith}
+use Rattle.dr_entry.{specs.declared.end.End.End, proofs.Ends.going}
 use Rattle.dr_entry.specs.declared.end.End.TheVariants as ends
 use Rattle.dr_faithful.{specs.{Chosen.views_by, Faithful.Faithful}, proofs.Faithfulness.grew}
 use Rattle.dr_history.specs.Members.{has}
 use Rattle.dr_machine.specs.{Acts.{CanTake, effect_of}, Effects.one_more, Group.Group, World.World, Writes.at}
-use Rattle.dr_program.specs.declared.outcome.Outcome.TheVariants as outcomes
-use Rattle.dr_program.specs.{Form.IsRunningMember, Presence.present_at, Reading.{table_of, world}, Replica.Replica}
+use Rattle.dr_machine.proofs.Worlds.{one_turn}
+use Rattle.dr_program.{specs.{Form.IsRunningMember, Presence.present_at}, proofs.{Holdings.held_of, Programs.is_move}}
 use Rattle.dr_program.specs.{Program.{AllOk, Move, Program, next_sight, ok, ran, step_of}, declared.place.Place.Place}
-use Rattle.dr_program.specs.Running.{Running, append_or_end, crashes_now, goes, judged, members, next_step, push_or_crash, step_at, took, vote_or_end, waits_after}
+use Rattle.dr_program.{specs.Reading.{table_of, world}, proofs.Stepping.{stepped_failed, stepped_on, stepped_replica}}
+use Rattle.dr_program.specs.{Replica.Replica, Running.{Running, goes, members, next_step, step_at, took, waits_after}}
 use Rattle.dr_program.specs.{Schedule.{IsTurn, is_between_turns}, Turn.{after, is_beat, part_of, turn_begins}}
-use Rattle.dr_program.{specs.Steps.stepped, proofs.Holdings.held_of}
-use Rattle.dr_program.{specs.declared.place.Part.Part, proofs.StepsAt.{append_either, push_either, vote_either}}
-use Rattle.dr_program.specs.declared.place.Part.TheVariants as parts
+use Rattle.dr_program.{specs.Steps.stepped, proofs.{Deeds.replicas, Search.beat_test, StepsAt.turns_on}}
 use Rattle.dr_suspect.specs.Waits.{Waits, beat_of, turns_without_news}
-use Rattle.dr_turn.{specs.Search.IsUnderway, proofs.Deeds.{beat_place, one_turn}}
-use Rattle.dr_turn.proofs.{Parts.{verdict_no_beat, verdict_of}, Search.beat_test}
+use Rattle.dr_turn.{specs.Search.IsUnderway, proofs.{Deeds.beat_place, Search.settled_passed}}
 use Rattle.dr_words.specs.declared.column.TheConstants.{BEAT_COLUMN}
 use Rattle.dr_program.specs.Running as running
-use Rattle.dr_refine.proofs.Deeds.{program_member, replicas}
+use Rattle.dr_refine.proofs.Deeds.{program_member}
 use Rattle.dr_world_laws.proofs.Worlds.{Known, all_go_on, faithful, known}
 use Rattle.dr_program_laws.specs.{Failing.has_log_end, Trusting.{AreAtEase, MayWait, to_come}}
-use Rattle.dr_program_laws.proofs.Patience.{comes, settled_passed}
-use Rattle.dr_turn_laws.specs.{Rested.{HasCompared, HasTurned}, Steady.IsSteady, Swept.{IsBefore, Swept}}
-use Rattle.dr_turn_laws.proofs.{Acts.turns_stay, Beats.beat_rises, Looking.{HasLooked, deed_behind, settled_behind}}
-use Rattle.dr_turn_laws.proofs.{Passing.{IsGoing, passes}, Resting.{Knows, knows_logs, rests}}
-use Rattle.dr_turn_laws.proofs.Steadying.{moved_member, other_member, steady_moves, stepped_failed, stepped_on, stepped_replica, world_on}
-use Rattle.dr_turn_laws.proofs.Stepping.{ease_on, knows_next}
+use Rattle.dr_program_laws.proofs.Patience.{comes}
+use Rattle.dr_turn_laws.{specs.Rested.{HasCompared, HasTurned}, proofs.Stepping.{ease_on, knows_next}}
+use Rattle.dr_turn_laws.{specs.{Steady.IsSteady, Swept.{IsBefore, Swept}}, proofs.Passing.{IsGoing, passes}}
+use Rattle.dr_turn_laws.proofs.{Beats.beat_rises, Steadying.{moved_member, other_member, steady_moves, world_on}}
+use Rattle.dr_turn_laws.proofs.{Looking.{HasLooked, deed_behind, settled_behind}, Resting.{Knows, knows_logs, rests}}
 
 -- ---- what a deed leaves of turns and own words
-
--- the turns, but where one begins
-turns_on : (g : Group) (w : World) (m : ℕ) (r : Running) (part : Part) (i c : ℕ)
-    → is_beat part ≡ false → (effect_of g w m (step_at r part i c)).turns m ≡ w.turns m
-turns_on g w m r parts.Append i c other =
-    append_either (λ s. (effect_of g w m s).turns m ≡ w.turns m) r.failed refl (λ why. refl)
-turns_on g w m r parts.Vote i c other =
-    vote_either (λ s. (effect_of g w m s).turns m ≡ w.turns m) r.failed _ refl (λ why. refl)
-turns_on g w m r parts.Push i c other =
-    push_either (λ s. (effect_of g w m s).turns m ≡ w.turns m) (crashes_now r) i c refl refl
-turns_on g w m r parts.Judge i c other = turns_stay g w m (judged r) (verdict_no_beat (judged r) (verdict_of r))
-turns_on g w m r (parts.Do a) i c other = turns_stay g w m a other
-turns_on g w m r part i c other = refl
 
 -- no own word falls
 deed_rises : (g : Group) (p : Program) (m : ℕ) (r : Running) → IsGoing g p m r → (v c : ℕ)
@@ -64,10 +48,6 @@ end_is : (g : Group) (p : Program) (m : ℕ) (r : Running) → IsSteady g p
     → present_at p.members m ≡ Some r → (world g p).end m ≡ r.replica.end
 end_is g p m r is there = ap (λ h. h.end) (held_of g (replicas p.members) (table_of p) m r.replica
     (program_member g p m r is.group is.program there).there)
-
--- a move of m whose append goes well
-is_move : (e : Move) (m : ℕ) → e.member ≡ m → e.outcome ≡ outcomes.Ok → e ≡ ok m
-is_move e m own well = λ z. record { member = own z; outcome = well z }
 
 -- ---- a turn
 
@@ -185,11 +165,6 @@ first_deed g p m r is well waits begins_at = record {
     at_here f i x = grind arith
 
 -- ---- the rest of them
-
--- a member that is not between turns goes on
-going : (o : Option End) (b : Bool) → (is_some o || b) ≡ false → (o ≡ None) × (b ≡ false)
-going None b e = (refl, e)
-going (Some end) b e = absurd (cc)
 
 next_deed : (g : Group) (p : Program) (m : ℕ) (u : Program) → HasGone g p m u
     → is_between_turns (present_at u.members m) ≡ false → HasGone g p m (step_of u (ok m))

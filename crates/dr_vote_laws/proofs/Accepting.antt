@@ -1,18 +1,18 @@
 -- A member accepts what it has voted for, and commits what it has accepted.
-use Rattle.std.{specs.Prelude.unwrap_or, proofs.lemmas.Bool.{and_parts, cases_eq, eqb-true}}
-use Rattle.std.proofs.Common.{None, Some, ap, arith, inl, inr, le_of_eq, subst, sym, true, ℕ, ◌&&◌, ◌+◌, ◌-◌, ◌<◌, ◌==◌, ◌∙◌, ◌≡◌, ◌≢◌, ◌⊎◌, nat_lt}
+use Rattle.std.{specs.Prelude.unwrap_or, proofs.lemmas.Bool.cases_eq}
+use Rattle.std.proofs.Common.{None, Some, ap, arith, inl, inr, le_of_eq, subst, sym, true, ℕ, ◌+◌, ◌-◌, ◌<◌, ◌∙◌, ◌≡◌, ◌≢◌, ◌⊎◌}
 use Rattle.dr_entry.specs.declared.record.{Value.Value, Vote.Vote}
 use Rattle.dr_history.specs.Members.{has}
-use Rattle.dr_machine.specs.{Effects.{accepts, commits}, Guards.CanCommit, World.{World, no_vote, shown}, Writes.at}
-use Rattle.dr_machine.specs.{Group.{Group, IsGroup, roster}, Votes.{HasLogged, HasVoted, MajorityHas, vote_in}}
-use Rattle.dr_faithful.{specs.{Faithful.{Faithful, IsWaiting}, Tells.Views}, proofs.Shown.{shown_own, shown_seen}}
-use Rattle.dr_faithful.proofs.Votes.{accept_grew, accepted_row, is_waiting, own_tag, row_promise, row_tag, row_value, vote_waiting}
-use Rattle.dr_faithful.proofs.Writes.{at_case, at_other, at_same, at₂_read}
+use Rattle.dr_machine.specs.{Effects.{accepts, commits}, Group.{Group, IsGroup, roster}, Guards.CanCommit}
+use Rattle.dr_machine.specs.{Votes.{HasLogged, HasVoted, MajorityHas, vote_in}, World.{World, no_vote, shown}}
+use Rattle.dr_machine.proofs.Voting.{accepted_row, vote_waiting, mine_after, word_before}
+use Rattle.dr_machine.proofs.{Worlds.{shown_own, shown_seen, tagged_is}, Writes.{at_case, at_other, at_same}}
+use Rattle.dr_faithful.{specs.{Faithful.{Faithful, IsWaiting}, Tells.Views}, proofs.Faithfulness.OwnGrew}
+use Rattle.dr_faithful.proofs.Votes.{accept_grew, is_waiting, own_tag, row_promise, row_tag, row_value}
 use Rattle.dr_vote_laws.{specs.{Tells.{TellsVote, promise_in, tag_in}, Voting.Voting}, proofs.Frames.row_rewritten}
-use Rattle.dr_vote_laws.proofs.{Later.{OwnGrew, original_on}, Logs.votes_same}
-use Rattle.dr_words.specs.{Accepts.tag_of, Changes.tagged_members, Columns.leavers_column, Masks.IsMajorityOf}
-use Rattle.dr_words.specs.{Packing.{accept_promise, accept_tag}, Rewrites.is_accept_of}
-use Rattle.dr_words.proofs.{Accepts.leavers_accept, Masks.has_mask_of}
+use Rattle.dr_vote_laws.proofs.Later.{original_on, votes_same}
+use Rattle.dr_words.{specs.{Accepts.tag_of, Packing.{accept_promise, accept_tag}}, proofs.Accepts.leavers_accept}
+use Rattle.dr_words.specs.{Changes.tagged_members, Columns.leavers_column, Masks.IsMajorityOf, Rewrites.is_accept_of}
 
 -- ---- what is shown
 
@@ -38,34 +38,19 @@ waiting_voted g V w m x e f =
     f.valid.own m x there.0 ∙ ap (λ v. vote_in g v x.ballot x.value) there.1 in
     rw same (subst (λ y. HasLogged w.past.votes m y) is there.0)
 
-row_now : (g : Group) (w : World) (m c : ℕ) → (accepts g w m).past.own m (w.past.view m) c ≡ accepted_row g w m c
-row_now g w m c = ap (λ r. r c) (at₂_read w.past.own m (w.past.view m) (accepted_row g w m))
-
--- the words of another member, or of another view, are as before
-word_before : (g : Group) (w : World) (m i v c : ℕ) → (i ≢ m) ⊎ (v ≢ w.past.view m)
-    → (accepts g w m).past.own i v c ≡ w.past.own i v c
-word_before g w m i v c (inl d) = ap (λ r. r v c)
-    (at_other w.past.own m (at (w.past.own m) (w.past.view m) (accepted_row g w m)) i d)
-word_before g w m i v c (inr d) = by (cases_eq i m)
-  where
-    by : (i ≡ m) ⊎ (i ≢ m) → (accepts g w m).past.own i v c ≡ w.past.own i v c
-    by (inl e) = rw e (ap (λ r. r v c) (at_same w.past.own m (at (w.past.own m) (w.past.view m) (accepted_row g w m)))
-        ∙ ap (λ r. r c) (at_other (w.past.own m) (w.past.view m) (accepted_row g w m) v d))
-    by (inr o) = ap (λ r. r v c) (at_other w.past.own m (at (w.past.own m) (w.past.view m) (accepted_row g w m)) i o)
-
 -- the own promise stays, and the own tag is that of the vote
 promise_now : (g : Group) (V : Views) (w : World) (m : ℕ) (x : Vote) → IsGroup g → w.pending m ≡ Some x
     → Faithful g V w → promise_in g (accepts g w m).past.own m (w.past.view m) ≡ w.promise m
 promise_now g V w m x is e f =
     let c : ℕ = leavers_column (roster g) in
-    ap accept_promise (row_now g w m c) ∙ row_promise g V w m c x is e f (leavers_accept (roster g) (w.members m))
+    ap accept_promise (mine_after g w m c) ∙ row_promise g V w m c x is e f (leavers_accept (roster g) (w.members m))
     ∙ f.suspicions.accept m c (leavers_accept (roster g) (V (w.past.view m)))
 
 tag_now : (g : Group) (V : Views) (w : World) (m : ℕ) (x : Vote) → IsGroup g → w.pending m ≡ Some x → Faithful g V w
     → tag_in g (accepts g w m).past.own m (w.past.view m) ≡ (vote_waiting w m).ballot + 1
 tag_now g V w m x is e f =
     let c : ℕ = leavers_column (roster g) in
-    ap accept_tag (row_now g w m c) ∙ row_tag g V w m c x is e f (leavers_accept (roster g) (w.members m))
+    ap accept_tag (mine_after g w m c) ∙ row_tag g V w m c x is e f (leavers_accept (roster g) (w.members m))
 
 -- each accept word of the row tells
 row_votes : (g : Group) (V : Views) (w : World) (m c : ℕ) (x : Vote) → IsGroup g → w.pending m ≡ Some x
@@ -170,14 +155,6 @@ accept_votes g V w m x is e f old = record {
 pub one_ballot : (g : Group) (V : Views) (w : World) (i k v b : ℕ) (x y : Value) → Voting g V w
     → HasVoted g w.past.votes i v b x → HasVoted g w.past.votes k v b y → x ≡ y
 one_ballot g V w i k v b x y f p q = f.valid.one b v b x y (f.valid.led i v b x p) (f.valid.led k v b y q)
-
--- the members whose row has the own tag
-tagged_is : (g : Group) (w : World) (m i tag : ℕ) → has (tagged_members (roster g)
-    (shown w m) (w.members m) tag) i ≡ true → (has (w.members m) i ≡ true) × (tag_of (roster g) (shown w m) i ≡ tag)
-tagged_is g w m i tag h =
-    let there = and_parts (nat_lt i 16) _ (sym (has_mask_of (λ i. has (w.members m) i
-    && tag_of (roster g) (shown w m) i == tag) i) ∙ h) in
-    let both = and_parts (has (w.members m) i) _ there.1 in (both.0, eqb-true _ _ both.1)
 
 -- they have votes for the value that is committed
 pub commit_votes : (g : Group) (V : Views) (w : World) (m : ℕ) → CanCommit g w m → Faithful g V w

@@ -1,20 +1,14 @@
 -- Steps that write no accept words and log no votes leave what is true of votes.
-use Rattle.std.proofs.Common.{Option, Some, ap, arith, subst, sym, true, ℕ, ◌<◌, ◌≡◌, ◌≤◌, ◌⊎◌}
+use Rattle.std.proofs.Common.{Option, Some, ap, subst, sym, true, ℕ, ◌<◌, ◌≡◌, ◌⊎◌}
 use Rattle.dr_entry.specs.declared.record.{Value.Value, Vote.Vote}
 use Rattle.dr_history.specs.Members.{has}
 use Rattle.dr_machine.specs.{Group.{Group, roster}, Votes.{Votes, vote_in}, World.Table, Writes.at₂}
-use Rattle.dr_faithful.{specs.{Faithful.Numbers, Tells.Views}, proofs.Writes.at₂_case}
+use Rattle.dr_machine.proofs.{Groups.{IsBetween, leavers_between}, Writes.at₂_case}
+use Rattle.dr_faithful.{specs.{Faithful.Numbers, Tells.Views}, proofs.Faithfulness.OwnGrew}
 use Rattle.dr_vote_laws.specs.{Tells.{TellsVote, WordsTellVotes}, Voting.AreVoting}
-use Rattle.dr_vote_laws.proofs.{Later.{OwnGrew, original_on, tells_on}, Logs.votes_same}
-use Rattle.dr_words.specs.{Columns.{head_column, leavers_column, recv_column}, Packing.accept_tag}
-use Rattle.dr_words.{specs.Rewrites.is_accept_of, proofs.Accepts.accept_within}
-
--- the column stands where the accept words do
-abbrev pub IsBetween : Group → ℕ → Type 0
-IsBetween g c = (recv_column (roster g) ≤ c) × (c < head_column (roster g) 0)
-
-pub leavers_between : (g : Group) → IsBetween g (leavers_column (roster g))
-leavers_between g = (omega arith, omega arith)
+use Rattle.dr_vote_laws.proofs.Later.{original_on, tells_on, votes_same}
+use Rattle.dr_words.specs.{Columns.leavers_column, Packing.accept_tag, Rewrites.is_accept_of}
+use Rattle.dr_words.proofs.Accepts.{accept_within}
 
 -- where no accept word is written
 pub same_accepts : (g : Group) (V : Views) (view tag : ℕ → ℕ) (value : ℕ → Value) (committed : ℕ → Option Value)

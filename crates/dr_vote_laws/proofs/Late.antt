@@ -1,19 +1,13 @@
 -- Accept words that arrive late: what they tell of votes stays true.
-use Rattle.std.proofs.Common.{◌≡◌, refl, subst, sym, ℕ, List, [], ◌∷◌, true}
+use Rattle.std.proofs.Common.{◌≡◌, subst, sym, ℕ, List, [], ◌∷◌, true}
 use Rattle.dr_words.specs.Rewrites.{is_accept_of}
-use Rattle.dr_machine.specs.{Acts.{Guard, does, effect, effect_of}, declared.step.Step.TheVariants.{Do, LogVote}}
-use Rattle.dr_machine.specs.{Events.{member_of, step_of}, declared.event.{Act.Act, Event.Event}}
+use Rattle.dr_machine.{specs.Acts.{Guard, effect, effect_of}, proofs.Runs.{arrived, none_was, were_all}}
+use Rattle.dr_machine.{specs.{Events.{member_of, step_of}, declared.event.Event.Event}, proofs.Groups.does_votes}
 use Rattle.dr_machine.specs.{Group.{Group, IsGroup, roster}, Run.{HaveArrived, with_table}, declared.step.Step.Step}
-use Rattle.dr_machine.{specs.World.{Table, World, opening_world}, proofs.Runs.{arrived, none_was, were_all}}
-use Rattle.dr_machine.specs.declared.event.Act.TheVariants as acts
+use Rattle.dr_machine.specs.{World.{Table, World, opening_world}, declared.step.Step.TheVariants.{Do, LogVote}}
 use Rattle.dr_faithful.{specs.{Faithful.{AllGoOn, Faithful}, Tells.Views}, proofs.Faithfulness.words_on}
-use Rattle.dr_vote_laws.{specs.{Late.VotesBacked, Tells.TellsVote, Voting.Voting}, proofs.Later.tells_on}
-use Rattle.dr_vote_laws.proofs.{Logging.votes_grew, Logs.{VotesGrew, votes_same}}
-
--- no act logs a vote
-does_votes : (g : Group) (w : World) (m : ℕ) (a : Act) → (does g w m a).past.votes ≡ w.past.votes
-does_votes g w m acts.Finish = refl
-does_votes g w m a = refl
+use Rattle.dr_vote_laws.specs.{Late.VotesBacked, Tells.TellsVote, Voting.Voting}
+use Rattle.dr_vote_laws.proofs.{Later.{tells_on, VotesGrew, votes_same}, Logging.votes_grew}
 
 -- no vote comes late
 step_votes : (g : Group) (V : Views) (w : World) (m : ℕ) (s : Step) → Faithful g V w

@@ -1,22 +1,21 @@
 -- What is told of votes, and where proposals come from, stays true as promises rise and votes are logged.
-use Rattle.std.proofs.Common.{ap, arith, inl, inr, le_trans, refl, sym, true, ℕ, ◌<◌, ◌∙◌, ◌≡◌, ◌≤◌, ◌⊎◌}
+use Rattle.std.proofs.Common.{ap, arith, inl, inr, le_trans, refl, true, ℕ, ◌<◌, ◌∙◌, ◌≡◌, ◌≤◌, ◌⊎◌}
 use Rattle.dr_entry.specs.declared.record.{Value.Value, Vote.Vote}
 use Rattle.dr_history.specs.Members.{has}
-use Rattle.dr_machine.specs.{Group.{Group, roster}, Votes.{HasVoted, MajorityHas, Votes, vote_in}}
-use Rattle.dr_faithful.specs.{Faithful.Numbers, Tells.Views}
+use Rattle.dr_machine.specs.{Group.{Group, roster}, Votes.{HasVoted, MajorityHas, Votes, vote_in, HasLogged}}
+use Rattle.dr_faithful.{specs.{Faithful.Numbers, Tells.Views}, proofs.Faithfulness.{OwnGrew, least_on}}
 use Rattle.dr_vote_laws.specs.{Tells.{TellsVote, promise_in}, Voting.{IsFirst, IsLater, IsOriginal}}
-use Rattle.dr_vote_laws.proofs.Logs.{VotesGrew}
-use Rattle.dr_words.specs.{Changes.{IsLeastReceived, received}, Columns.{leavers_column, recv_column}, Grown.HasGrown}
-use Rattle.dr_words.specs.Packing.{accept_promise, accept_tag, is_final, recv_count}
-
--- own words have grown
-abbrev pub OwnGrew : Group → Numbers → Numbers → Type 0
-OwnGrew g own new = (i v c : ℕ) → HasGrown (roster g) c (own i v c) (new i v c)
+use Rattle.dr_words.specs.{Columns.{leavers_column, recv_column}, Packing.{accept_promise, accept_tag, is_final}}
 
 -- no promise has fallen
 pub promises_rise : (g : Group) (own new : Numbers) (i v : ℕ) → OwnGrew g own new
     → promise_in g own i v ≤ promise_in g new i v
 promises_rise g own new i v grew = omega (arith, (grew i v (leavers_column (roster g))).number)
+
+-- what was voted stays so, and no vote comes late: a new one has the ballot of a promise at least
+pub record VotesGrew (g : Group) (own : Numbers) (old new : Votes) : Type 0 where
+  pub stay : (i : ℕ) (x : Vote) → HasLogged old i x → HasLogged new i x
+  pub late : (i v b : ℕ) (x : Value) → HasVoted g new i v b x → HasVoted g old i v b x ⊎ (promise_in g own i v ≤ b)
 
 -- what a word tells of votes stays true
 pub tells_on : (g : Group) (own new : Numbers) (votes more : Votes) (i v c word : ℕ) → OwnGrew g own new
@@ -32,24 +31,6 @@ tells_on g own new votes more i v c word grew late t = record {
         → HasVoted g votes i v b x ⊎ (promise_in g own i v ≤ b) → b < accept_tag word
     passed b x l (inl old) = t.passed b x old l
     passed b x l (inr high) = absurd (omega (arith, l, high, t.promised))
-
--- a final count stays
-received_same : (g : Group) (own new : Numbers) (i v s : ℕ) → OwnGrew g own new → s < roster g
-    → is_final (own i v (recv_column s)) ≡ true → received (λ i c. new i v c) i s ≡ received (λ i c. own i v c) i s
-received_same g own new i v s grew l final = ap recv_count ((grew i v (recv_column s)).final s l refl final)
-
--- the least counts of members whose counts are final stay
-least_on : (g : Group) (V : Views) (own new : Numbers) (v mask s count : ℕ) → OwnGrew g own new
-    → s < roster g → ((i : ℕ) → has mask i ≡ true → is_final (own i v (recv_column s)) ≡ true)
-    → IsLeastReceived (λ i c. own i v c) mask s count → IsLeastReceived (λ i c. new i v c) mask s count
-least_on g V own new v mask s count grew l final t = record {
-  least = λ i h. rw (received_same g own new i v s grew l (final i h)) (t.least i h);
-  found = (
-    t.found.0,
-    t.found.1,
-    t.found.2 ∙ sym (received_same g own new t.found.0 v s grew l (final t.found.0 t.found.1)),
-  );
-}
 
 -- and so does the origin of a proposal
 pub original_on : (g : Group) (V : Views) (own new : Numbers) (votes more : Votes) (v b : ℕ) (x : Value)
@@ -106,3 +87,7 @@ majority_on votes more members g own IsSuch grew t = record {
   majority = t.majority;
   each = λ i h. let x = t.each i h in (x.0, grew.stay i x.0 x.1, x.2);
 }
+
+-- nothing was voted
+pub votes_same : (g : Group) (own : Numbers) (votes : Votes) → VotesGrew g own votes votes
+votes_same g own votes = record { stay = λ i x t. t; late = λ i v b x t. inl t }

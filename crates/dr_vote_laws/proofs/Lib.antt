@@ -1,4 +1,3 @@
-pub mod Logs
 pub mod Later
 pub mod Frames
 pub mod Plain
@@ -13,5 +12,5 @@ pub mod Steps
 pub mod Late
 pub mod Values
 pub mod Cuts
-pub mod Exclusions
 pub mod Moments
+pub mod Ballots

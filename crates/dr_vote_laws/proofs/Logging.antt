@@ -5,17 +5,12 @@ use Rattle.dr_entry.specs.declared.record.{Value.Value, Vote.Vote}
 use Rattle.dr_history.specs.Members.{has}
 use Rattle.dr_machine.specs.{Effects.{logs_vote, vote_for}, Group.{Group, IsGroup, roster}, World.{World, shown}}
 use Rattle.dr_machine.specs.{Guards.{CanLogVote, IsToAccept, IsToPropose}, Votes.{HasLogged, HasVoted, vote_in}}
-use Rattle.dr_faithful.{specs.{Faithful.Faithful, Tells.Views}, proofs.Votes.own_promise}
-use Rattle.dr_faithful.proofs.Writes.{at_case, at_other, at_same}
-use Rattle.dr_vote_laws.specs.Tells.{TellsVote, promise_in, tag_in}
+use Rattle.dr_machine.proofs.{Voting.{logged_before, logged_new, logged_stays}, Writes.{at_case, at_other, at_same}}
+use Rattle.dr_faithful.{specs.{Faithful.Faithful, Tells.Views}, proofs.{Faithfulness.own_stays, Votes.own_promise}}
+use Rattle.dr_vote_laws.{specs.Tells.{TellsVote, promise_in, tag_in}, proofs.Rows.{no_vote_yet, shows_voted}}
 use Rattle.dr_vote_laws.specs.Voting.{AreVotes, IsOriginal, IsValueOf, Voting}
-use Rattle.dr_vote_laws.proofs.{Later.{OwnGrew, majority_on, original_on, tells_on}, Rows.{no_vote_yet, shows_voted}}
-use Rattle.dr_vote_laws.proofs.{Logs.{VotesGrew, logged_before, logged_new, logged_stays}, Proposals.proposed}
-use Rattle.dr_words.{specs.Columns.leavers_column, proofs.{Accepts.{leavers_accept, all_tagged}, Order.HasGrown_refl}}
-
--- the own words are as before
-own_stays : (g : Group) (w : World) → OwnGrew g w.past.own w.past.own
-own_stays g w i v c = HasGrown_refl (roster g) c (w.past.own i v c)
+use Rattle.dr_vote_laws.proofs.{Later.{majority_on, original_on, tells_on, VotesGrew}, Proposals.proposed}
+use Rattle.dr_words.{specs.Columns.leavers_column, proofs.Accepts.{leavers_accept, all_tagged}}
 
 -- no vote comes late: the new one is by the ballot of the promise
 pub votes_grew : (g : Group) (V : Views) (w : World) (m : ℕ) (v : Value) → Faithful g V w

@@ -2,21 +2,13 @@
 use Rattle.std.proofs.Common.{List, None, Option, Some, arith, inl, inr, length, refl, subst, sym, true, ℕ, ◌+◌, ◌<◌, ◌∙◌, ◌≡◌, ◌≢◌, ◌⊎◌}
 use Rattle.std.proofs.lemmas.Bool.{cases_eq}
 use Rattle.dr_entry.specs.{declared.entry.Entry.Entry, declared.record.{Value.Value, Vote.Vote}}
-use Rattle.dr_machine.specs.{Effects.enters, Group.{Group, roster}, Writes.at}
+use Rattle.dr_machine.specs.{Effects.enters, Group.{Group, roster}}
 use Rattle.dr_machine.specs.{Votes.{HasLogged, HasVoted, MajorityHas, Votes, vote_in}, World.{Table, World, no_value}}
+use Rattle.dr_machine.{specs.Writes.at, proofs.Writes.{at_other, at_same, at₃_column}}
 use Rattle.dr_faithful.{specs.{Faithful.{Faithful, Numbers}, Tells.Views}, proofs.Finishes.enter_grew}
-use Rattle.dr_faithful.proofs.Writes.{at_other, at_same, at₃_column}
 use Rattle.dr_vote_laws.{specs.{Tells.TellsVote, Voting.{AreVoting, Voting}}, proofs.Frames.same_accepts}
+use Rattle.dr_vote_laws.proofs.Opening.{tells_nothing}
 use Rattle.dr_words.specs.{Rewrites.is_accept_of, declared.column.TheConstants.LOGGED_COLUMN}
-
--- a word 0 tells nothing
-tells_zero : (g : Group) (own : Numbers) (votes : Votes) (i v c : ℕ) → TellsVote g own votes i v c 0
-tells_zero g own votes i v c = record {
-  promised = omega arith;
-  low = omega arith;
-  voted = λ b e. absurd (omega (arith, e));
-  passed = λ b x h l. absurd (omega (arith, l));
-}
 
 -- a member that has moved to another view has no tag, has committed nothing, and has seen nothing in it. That
 -- its own words of the view are as they were is for the frame
@@ -42,7 +34,7 @@ moved_votes g V view tag value committed pending own table seen votes m next x i
     in_table = old.words.in_table;
     in_seen = λ k i c. by_member k (λ k. is_accept_of (roster g) (V (at view m next k)) c ≡ true
         → TellsVote g own votes i (at view m next k) c (at seen m (λ i c. 0) k i c))
-        (λ a. rw (at_same seen m (λ i c. 0)) (tells_zero g own votes i _ c))
+        (λ a. rw (at_same seen m (λ i c. 0)) (tells_nothing g own votes i _ c))
         (λ d a. rw (at_other view m next k d, at_other seen m (λ i c. 0) k d)
         (old.words.in_seen k i c (rw (← at_other view m next k d) a)));
   };

@@ -1,13 +1,9 @@
 -- As the age opens nobody has voted.
-use Rattle.std.proofs.Common.{[], arith, subst, sym, ℕ, ◌<◌, ◌≡◌, ◌≤◌}
-use Rattle.dr_entry.specs.declared.record.Vote.{Vote}
-use Rattle.dr_machine.specs.{Group.{Group, roster}, Votes.{HasLogged, Votes}, World.opening_world}
+use Rattle.std.proofs.Common.{[], arith, subst, sym, ℕ}
+use Rattle.dr_machine.{specs.{Group.{Group, roster}, Votes.Votes, World.opening_world}, proofs.Voting.{nobody, none}}
 use Rattle.dr_faithful.specs.{Faithful.Numbers, Tells.Views}
 use Rattle.dr_vote_laws.specs.{Tells.TellsVote, Voting.Voting}
-use Rattle.dr_words.{specs.Columns.{head_column, recv_column}, proofs.Accepts.accept_within}
-
-nobody : (i : ℕ) (x : Vote) → HasLogged (λ i. []) i x → ⊥
-nobody i x (k, e) = absurd (cc e)
+use Rattle.dr_words.proofs.Accepts.{accept_within}
 
 -- a word 0 tells nothing
 pub tells_nothing : (g : Group) (own : Numbers) (votes : Votes) (i v c : ℕ) → TellsVote g own votes i v c 0
@@ -17,11 +13,6 @@ tells_nothing g own votes i v c = record {
   voted = λ b e. absurd (omega (arith, e));
   passed = λ b x h l. absurd (omega (arith, l));
 }
-
--- no accept word says anything
-none : (g : Group) (i v c : ℕ) → (recv_column (roster g) ≤ c) × (c < head_column (roster g) 0)
-    → (opening_world g).past.own i v c ≡ 0
-none g i v c between = grind (arith, between.0)
 
 pub begun : (g : Group) (V : Views) → Voting g V (opening_world g)
 begun g V = record {

@@ -1,15 +1,10 @@
 -- Steps that log no votes, and accept, promise and commit nothing.
-use Rattle.std.proofs.Common.{arith, refl, true, ℕ, ◌<◌, ◌≡◌, ◌≢◌}
+use Rattle.std.proofs.Common.{arith, refl, true, ℕ, ◌<◌, ◌≡◌}
 use Rattle.dr_machine.specs.{Effects.{looks, one_more, pushes, stamped_in, with_own}, Group.{Group, roster}}
-use Rattle.dr_machine.specs.{World.{World, own_word}, Writes.at₄}
-use Rattle.dr_faithful.{specs.{Faithful.Faithful, Tells.Views}, proofs.Stamps.stamp_grew}
-use Rattle.dr_faithful.proofs.Writes.{at₃_case, at₃_column, at₄_case}
-use Rattle.dr_vote_laws.{specs.{Tells.TellsVote, Voting.Voting}, proofs.{Frames.same_accepts, Later.OwnGrew}}
+use Rattle.dr_machine.{specs.World.{World, own_word}, proofs.Writes.{at₃_case, at₃_column, at₄_case, other_column}}
+use Rattle.dr_faithful.{specs.{Faithful.Faithful, Tells.Views}, proofs.{Faithfulness.OwnGrew, Stamps.stamp_grew}}
+use Rattle.dr_vote_laws.{specs.{Tells.TellsVote, Voting.Voting}, proofs.Frames.same_accepts}
 use Rattle.dr_words.specs.{Columns.recv_column, Rewrites.is_accept_of, declared.column.TheConstants.BEAT_COLUMN}
-
--- another column of the table is as before
-other_column : (f : ℕ → ℕ → ℕ → ℕ → ℕ) (a b d e x v j i c : ℕ) → c ≢ e → at₄ f a b d e x v j i c ≡ f v j i c
-other_column f a b d e x v j i c other = grind arith
 
 -- an own word below the counts is written
 pub word_votes : (g : Group) (V : Views) (w : World) (m c x : ℕ) → c < recv_column 0 → Faithful g V w

@@ -3,28 +3,17 @@ use Rattle.std.{specs.Int.trailing_zeros, proofs.lemmas.Bool.{and_parts, cases_e
 use Rattle.std.proofs.Common.{Bool, ap, arith, false, inl, inr, le_of_eq, le_trans, refl, slice_index, subst, sym, true, ℕ, ◌&&◌, ◌+◌, ◌-◌, ◌<◌, ◌∙◌, ◌≡◌, ◌≢◌, ◌≤◌, ◌⊎◌, not, w16}
 use Rattle.dr_entry.specs.declared.record.Value.{Value}
 use Rattle.dr_history.specs.Members.{has}
-use Rattle.dr_machine.specs.{Effects.{logs_vote, vote_for}, Group.{Group, IsGroup, roster}, World.{World, shown}}
-use Rattle.dr_machine.specs.{Guards.{CanLogVote, IsToPropose, unsuspected_of}, Votes.{HasLogged, HasVoted, vote_in}}
-use Rattle.dr_faithful.{specs.{Faithful.Faithful, Tells.Views}, proofs.Suspicions.{members_small, named_in_roster}}
-use Rattle.dr_faithful.proofs.Votes.{own_promise}
+use Rattle.dr_machine.specs.{Effects.{logs_vote, vote_for}, Group.{Group, IsGroup, roster}}
+use Rattle.dr_machine.specs.{Guards.{CanLogVote, IsToPropose, unsuspected_of}, Votes.{HasVoted, vote_in}}
+use Rattle.dr_machine.{specs.World.{World, shown}, proofs.Voting.logged_stays}
+use Rattle.dr_faithful.{specs.{Faithful.Faithful, Tells.Views}, proofs.Faithfulness.final_count}
+use Rattle.dr_faithful.proofs.{Suspicions.{named_in_roster, unsuspected_is}, Votes.{proposer, old_or_new}}
 use Rattle.dr_vote_laws.specs.{Tells.TellsVote, Voting.{IsFirst, IsLater, IsOriginal, Voting}}
-use Rattle.dr_vote_laws.proofs.{Accepting.shown_tells, Logs.{logged_before, logged_stays}}
-use Rattle.dr_vote_laws.proofs.Rows.{no_vote_yet, not_torn, shown_grown, shows_voted}
-use Rattle.dr_words.specs.{Accepts.{Shows, tag_of}, Packing.{accept_promise, accept_tag, is_final, recv_count}}
+use Rattle.dr_vote_laws.proofs.{Accepting.shown_tells, Rows.{no_vote_yet, not_torn, shows_voted}}
+use Rattle.dr_words.specs.{Accepts.{Shows, tag_of}, Masks.IsMajorityOf, Rewrites.is_accept_of}
 use Rattle.dr_words.specs.Changes.{IsFirstValue, IsHighest, IsLeastReceived, IsProposal, IsUntagged, MayPropose, received}
-use Rattle.dr_words.{specs.{Columns.{leavers_column, recv_column}, Rewrites.is_accept_of}, proofs.Ranks.least_member}
-use Rattle.dr_words.specs.Masks.{IsMajorityOf}
-use Rattle.dr_words.proofs.{Accepts.{leavers_accept, all_promised}, Masks.{has_without_mask, in_roster_small}}
-
--- who is not suspected
-unsuspected_is : (g : Group) (V : Views) (w : World) (m i : ℕ) → IsGroup g → Faithful g V w
-    → has (unsuspected_of w m) i ≡ (has (w.members m) i && not (has (w.suspects m) i))
-unsuspected_is g V w m i is f = has_without_mask (w.members m) (w.suspects m) i (members_small g V w m is f)
-
--- the promise of a proposer is to itself
-proposer : (g : Group) (V : Views) (w : World) (m : ℕ) → Faithful g V w
-    → MayPropose (roster g) (shown w m) (w.members m) (w.suspects m) m → w.promise m ≡ m
-proposer g V w m f may = sym (own_promise g V w m f) ∙ may.promised
+use Rattle.dr_words.specs.{Columns.leavers_column, Packing.{accept_promise, accept_tag, is_final, recv_count}}
+use Rattle.dr_words.proofs.{Accepts.{leavers_accept, all_promised}, Masks.in_roster_small, Ranks.least_member}
 
 -- no word of an unsuspected row has a tag above the ballot
 tag_low : (g : Group) (V : Views) (w : World) (m i c : ℕ) (v : Value) → CanLogVote g w m v
@@ -69,30 +58,7 @@ passed : (g : Group) (V : Views) (w : World) (m i b : ℕ) (x : Value)
 passed g V w m i b x may old h voted l = (shown_tells g V w m i (leavers_column (roster g)) old
     (leavers_accept (roster g) (V (w.past.view m)))).passed b x voted (rw (may.promises i h).leavers l)
 
--- a final count that is shown is the one that its owner has
-final_count : (g : Group) (V : Views) (w : World) (m i s : ℕ)
-    → MayPropose (roster g) (shown w m) (w.members m) (w.suspects m) m → Faithful g V w
-    → has (unsuspected_of w m) i ≡ true → has (w.members m) s ≡ true
-    → w.past.own i (w.past.view m) (recv_column s) ≡ shown w m i (recv_column s)
-final_count g V w m i s may f h k = (shown_grown g V w m i (recv_column s) f).final s
-    (f.views.within (w.past.view m) s (ap (λ z. has z s) (sym (f.views.own m)) ∙ k)) refl (may.final i s h k)
-
 -- ---- the origin, in the logs with the new vote
-
--- a vote of an unsuspected member is old, or by the new ballot
-old_or_new : (g : Group) (V : Views) (w : World) (m i b : ℕ) (v y : Value) → Faithful g V w
-    → MayPropose (roster g) (shown w m) (w.members m) (w.suspects m) m
-    → HasVoted g (logs_vote g w m v).past.votes i (w.past.view m) b y
-    → HasVoted g w.past.votes i (w.past.view m) b y ⊎ (m ≤ b)
-old_or_new g V w m i b v y f may h =
-    by (logged_before w.past.votes m (vote_for g w m v) i (vote_in g (w.past.view m) b y) h)
-  where
-    by : HasLogged w.past.votes i (vote_in g (w.past.view m) b y)
-        ⊎ ((i ≡ m) × (vote_in g (w.past.view m) b y ≡ vote_for g w m v))
-        → HasVoted g w.past.votes i (w.past.view m) b y ⊎ (m ≤ b)
-    by (inl old) = inl old
-    by (inr t) =
-        let ballot : b ≡ w.promise m = ap (λ z. z.ballot) t.1 in inr (omega (arith, ballot, proposer g V w m f may))
 
 -- the value that the highest tag shows is that of an earlier ballot
 later : (g : Group) (V : Views) (w : World) (m i : ℕ) (v : Value) → CanLogVote g w m v

@@ -1,18 +1,15 @@
 -- What the accept words of one row tell together: words that were seen one by one are not torn.
-use Rattle.std.proofs.Common.{Bool, Some, ap, arith, false, inl, inr, length, refl, slice_index, subst, suc, sym, true, zero, ℕ, ◌+◌, ◌<◌, ◌∙◌, ◌≡◌, ◌≢◌, ◌≤◌, ◌⊎◌}
-use Rattle.std.proofs.lemmas.Bool.{cases_eq}
+use Rattle.std.proofs.Common.{Bool, Some, ap, arith, false, inl, inr, length, refl, slice_index, subst, suc, sym, true, zero, ℕ, ◌+◌, ◌<◌, ◌∙◌, ◌≡◌, ◌≤◌, ◌⊎◌}
 use Rattle.dr_entry.specs.{declared.limits.TheConstants.MAX_MEMBERS, declared.record.Value.Value}
 use Rattle.dr_entry.proofs.Records.{same_value}
 use Rattle.dr_history.specs.Members.{has}
 use Rattle.dr_machine.specs.{Group.{Group, roster}, Guards.CanLogVote, Votes.{HasVoted, Votes, vote_in}}
 use Rattle.dr_machine.specs.World.{World, shown}
-use Rattle.dr_faithful.{specs.{Faithful.{Faithful, Numbers}, Tells.Views}, proofs.Shown.{shown_own, shown_seen}}
-use Rattle.dr_faithful.proofs.Votes.{not_yet}
+use Rattle.dr_faithful.{specs.{Faithful.{Faithful, Numbers}, Tells.Views}, proofs.Votes.not_yet}
 use Rattle.dr_vote_laws.{specs.{Tells.{TellsVote, tag_in}, Voting.{IsValueOf, Voting}}, proofs.Accepting.shown_tells}
-use Rattle.dr_words.specs.{Accepts.{Shows, part_of}, Columns.{leavers_column, trim_column}, Grown.HasGrown}
+use Rattle.dr_words.specs.{Accepts.{Shows, part_of}, Columns.{leavers_column, trim_column}}
 use Rattle.dr_words.specs.{Packing.{accept_promise, accept_tag, accept_value}, Rewrites.is_accept_of}
 use Rattle.dr_words.proofs.Accepts.{leavers_accept, part_leavers, part_trim, trim_accept}
-use Rattle.dr_words.proofs.Order.{HasGrown_refl, HasGrown_trans}
 
 -- ---- torn rows
 
@@ -74,18 +71,6 @@ shows_voted g V w m i b v f old long tags shows =
     same : v ≡ first.0
     same = same_value v first.0 (long ∙ sym valid.whole) (shows.leavers ∙ first.2
         ∙ part_leavers (roster g) first.0 (leavers_column (roster g)) refl) (λ s. trim s (has (w.members m) s) refl)
-
--- ---- what is shown
-
--- a word that is shown has grown into its owner's
-pub shown_grown : (g : Group) (V : Views) (w : World) (m i c : ℕ) → Faithful g V w
-    → HasGrown (roster g) c (shown w m i c) (w.past.own i (w.past.view m) c)
-shown_grown g V w m i c f = by (cases_eq i m)
-  where
-    by : (i ≡ m) ⊎ (i ≢ m) → HasGrown (roster g) c (shown w m i c) (w.past.own i (w.past.view m) c)
-    by (inl e) = rw (shown_own w m i c e) (HasGrown_refl (roster g) c (w.past.own i (w.past.view m) c))
-    by (inr d) = rw (shown_seen w m i c d) (HasGrown_trans (roster g) c (w.seen m i c) (w.table (w.past.view m) m i c)
-        (w.past.own i (w.past.view m) c) (f.old.in_seen m i c d) (f.old.in_table (w.past.view m) m i c))
 
 -- ---- a member that may vote
 

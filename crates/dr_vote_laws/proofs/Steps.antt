@@ -1,20 +1,19 @@
 -- Each event keeps what is true of votes, each accept word one that its owner had, and whoever suspects nobody
 -- without a vote that waits.
-use Rattle.std.proofs.Common.{◌≡◌, List, None, Option, Some, arith, refl, inl, inr, ℕ, ◌+◌, ◌∷◌, length, [], unwrap_or}
-use Rattle.dr_entry.specs.{declared.end.SentItem.{SentItem, TheVariants.{Index, Null}}, declared.record.Value.Value}
-use Rattle.dr_machine.specs.Acts.{CanDo, CanTake, Guard, does, effect, effect_of}
-use Rattle.dr_machine.specs.Effects.{finished_history, one_more, puts, receives, vote_for}
-use Rattle.dr_machine.specs.{Events.{member_of, step_of}, Group.{Group, IsGroup, roster}, Guards.next_index}
-use Rattle.dr_machine.specs.{World.{World, own_word}, declared.{event.{Act.Act, Event.Event}, step.Step.Step}}
-use Rattle.dr_machine.specs.declared.step.Step.TheVariants.{Do, Look, Push, LogVote, Join}
+use Rattle.std.proofs.Common.{List, arith, refl, inl, inr, ℕ, ◌+◌, ◌∷◌, length, [], unwrap_or}
+use Rattle.dr_entry.specs.declared.end.SentItem.{SentItem, TheVariants.{Index, Null}}
+use Rattle.dr_machine.specs.{Acts.{CanDo, CanTake, Guard, does, effect, effect_of}, Group.{Group, IsGroup, roster}}
+use Rattle.dr_machine.specs.{Effects.{finished_history, one_more, puts, receives}, Events.{member_of, step_of}}
+use Rattle.dr_machine.specs.{Guards.next_index, World.{World, own_word}, declared.{event.Act.Act, step.Step.Step}}
+use Rattle.dr_machine.specs.declared.{event.Event.Event, step.Step.TheVariants.{Do, Look, Push, LogVote, Join}}
+use Rattle.dr_machine.proofs.{Worlds.{committed_is, joined_is}, Writes.{at_both, at₃_case, at₄_case}}
 use Rattle.dr_machine.specs.declared.event.Act.TheVariants as acts
 use Rattle.dr_history.specs.History.{last_view}
 use Rattle.dr_words.specs.{Masks.next_members, declared.column.TheConstants.{BEAT_COLUMN, DONE_COLUMN, LOGGED_COLUMN}}
 use Rattle.dr_words.proofs.Accepts.{accept_within}
-use Rattle.dr_faithful.{specs.Faithful.{AllGoOn, Faithful}, proofs.Faithfulness.{act_keeps, committed_is, does_grow}}
-use Rattle.dr_faithful.{specs.Tells.{Views, item_named}, proofs.Writes.{at_both, at_case, at₃_case, at₄_case}}
-use Rattle.dr_faithful.proofs.{Finishes.joined_is, Puts.{MayPut, may_message, may_null, put_accepts, put_grew}}
-use Rattle.dr_faithful.proofs.{Receipts.receive_accepts, Suspicions.{mask_after, mask_some, may_name, namable_within}}
+use Rattle.dr_faithful.{specs.Faithful.{AllGoOn, Faithful}, proofs.Faithfulness.{act_keeps, does_grow}}
+use Rattle.dr_faithful.{specs.Tells.{Views, item_named}, proofs.Suspicions.may_name}
+use Rattle.dr_faithful.proofs.{Puts.{MayPut, may_message, may_null, put_accepts, put_grew}, Receipts.receive_accepts}
 use Rattle.dr_vote_laws.specs.{Moments.AcceptsOfMoments, Voting.Voting}
 use Rattle.dr_vote_laws.proofs.{Accepting.{accept_votes, commit_votes}, Frames.same_accepts, Logging.vote_votes}
 use Rattle.dr_vote_laws.proofs.{Moments.{AreOfMoments, IsOfMoment, all_on, has_now, own_on}, Moving.enter_votes}
@@ -121,32 +120,3 @@ accepts_stay g V us w e f old =
       in_seen = so.in_seen;
       on_way = own_on g V us w f old;
     }
-
--- ---- who suspects nobody
-
--- who suspects nobody has no vote that waits, and has committed nothing
-abbrev pub AreQuiet : World → Type 0
-AreQuiet w = (m : ℕ) → w.suspects m ≡ 0 → (w.pending m ≡ None) × (w.committed m ≡ None)
-
--- each step keeps it so
-pub step_quiet : (g : Group) (V : Views) (w : World) (m : ℕ) (s : Step) → IsGroup g → Faithful g V w
-    → CanTake g w m s → AreQuiet w → AreQuiet (effect_of g w m s)
-step_quiet g V w m (Do (acts.Suspect j)) is f can old = at_case (λ k mask. mask ≡ 0 → (w.pending k ≡ None)
-    × (w.committed k ≡ None)) w.suspects m (mask_after w m j)
-    (λ k d. old k) (λ none. absurd (mask_some g V w m j is (namable_within g V w m j is can.namable f) f none))
-step_quiet g V w m (Do acts.Propose) is f can old = at_case (λ k vote. w.suspects k ≡ 0 → (vote ≡ None)
-    × (w.committed k ≡ None)) w.pending m None (λ k d. old k) (λ calm. (refl, (old m calm).1))
-step_quiet g V w m (Do acts.Accept) is f can old = at_case (λ k vote. w.suspects k ≡ 0 → (vote ≡ None)
-    × (w.committed k ≡ None)) w.pending m None (λ k d. old k) (λ calm. (refl, (old m calm).1))
-step_quiet g V w m (Do acts.Commit) is f can old = at_case (λ k choice. w.suspects k ≡ 0 → (w.pending k ≡ None)
-    × (choice ≡ None)) w.committed m (Some (w.value m)) (λ k d. old k) (λ calm. absurd (can.wedged calm))
-step_quiet g V w m (Do acts.Finish) is f can old =
-    at_both (λ k (mask : ℕ) (choice : Option Value). mask ≡ 0 → (w.pending k ≡ None) × (choice ≡ None))
-    w.suspects w.committed m 0 None old (λ calm. (can.may.idle, refl))
-step_quiet g V w m (Do a) is f can old = old
-step_quiet g V w m (LogVote v) is f can old = at_case (λ k vote. w.suspects k ≡ 0 → (vote ≡ None)
-    × (w.committed k ≡ None)) w.pending m (Some (vote_for g w m v)) (λ k d. old k) (λ calm. absurd (can.wedged calm))
-step_quiet g V w m Join is f can old =
-    at_both (λ k (mask : ℕ) (choice : Option Value). mask ≡ 0 → (w.pending k ≡ None) × (choice ≡ None))
-    w.suspects w.committed m 0 None old (λ calm. (can.may.idle, refl))
-step_quiet g V w m s is f can old = old

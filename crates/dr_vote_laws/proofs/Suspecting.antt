@@ -2,10 +2,11 @@
 use Rattle.std.proofs.Common.{Some, ap, arith, inl, inr, le_of_eq, refl, subst, sym, true, ℕ, ◌<◌, ◌∙◌, ◌≡◌, ◌⊎◌}
 use Rattle.dr_entry.specs.declared.record.Value.{Value}
 use Rattle.dr_machine.specs.{Effects.suspects, Group.{Group, IsGroup, roster}, Votes.vote_in, World.{World, own_word}}
-use Rattle.dr_faithful.{specs.{Faithful.Faithful, Tells.Views}, proofs.Writes.{at₂_case, at₂_read}}
-use Rattle.dr_faithful.proofs.Suspicions.{MayName, mask_after, promise_after, promise_rises, row_after, suspect_grew}
+use Rattle.dr_machine.proofs.{Worlds.{mask_after, promise_after, row_after}, Writes.{at₂_case, at₂_read}}
+use Rattle.dr_faithful.{specs.{Faithful.Faithful, Tells.Views}, proofs.Faithfulness.OwnGrew}
+use Rattle.dr_faithful.proofs.Suspicions.{MayName, promise_rises, suspect_grew}
 use Rattle.dr_vote_laws.{specs.{Tells.{TellsVote, promise_in, tag_in}, Voting.Voting}, proofs.Frames.row_rewritten}
-use Rattle.dr_vote_laws.proofs.{Later.{OwnGrew, original_on}, Logs.votes_same}
+use Rattle.dr_vote_laws.proofs.Later.{original_on, votes_same}
 use Rattle.dr_words.specs.{Columns.leavers_column, Packing.{accept_promise, accept_tag, accept_value}}
 use Rattle.dr_words.{specs.Rewrites.is_accept_of, proofs.Accepts.leavers_accept}
 use Rattle.dr_words.proofs.Rewrites.{wedged_promise, wedged_tag, wedged_value}

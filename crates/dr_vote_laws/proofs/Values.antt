@@ -2,13 +2,12 @@
 -- ballots are for the same value.
 use Rattle.std.proofs.Common.{Some, ap, arith, inl, inr, slice_get, subst, suc, sym, true, zero, ℕ, ◌<◌, ◌∙◌, ◌≡◌, ◌≢◌, ◌≤◌, ◌⊎◌}
 use Rattle.std.proofs.lemmas.Bool.{cases_eq, cases_lt}
-use Rattle.dr_entry.specs.declared.record.{Value.Value, Vote.Vote}
+use Rattle.dr_entry.{specs.declared.record.{Value.Value, Vote.Vote}, proofs.ListPlaces.get_more}
 use Rattle.dr_history.specs.Members.{has}
 use Rattle.dr_machine.specs.{Group.Group, Run.PastGrew}
 use Rattle.dr_machine.specs.{Votes.{HasLogged, HasVoted, IsOf, MajorityHas, Votes, vote_in}, World.World}
-use Rattle.dr_faithful.specs.{Faithful.Numbers, Tells.Views}
+use Rattle.dr_faithful.specs.{Chosen.{Values, views_by}, Faithful.Numbers, Tells.Views}
 use Rattle.dr_vote_laws.specs.Voting.{AreOriginal, AreVotes, IsChosen, IsFirst, IsLater, IsOriginal, Voting}
-use Rattle.dr_vote_laws.proofs.Logs.{get_more}
 use Rattle.dr_words.proofs.Majorities.{majorities_meet_lem}
 
 -- ---- one ballot
@@ -191,3 +190,26 @@ one_commit g V early late m k u v before f grew e h view =
     let two = commits g V late k v f h in
     chosen_once g V late (early.past.view m) one.0 two.0 u v f (chosen_since V early late
     (early.past.view m) one.0 u grew one.1) (subst (λ z. IsChosen V late.past.votes z two.0 v) (sym view) two.1)
+
+-- what a majority of a view has voted for early is so by its members as they are known later
+pub voted-since : (g : Group) (one other : Values) (early late : World) (v b : ℕ) (x : Value)
+    → PastGrew early.past late.past → views_by g one v ≡ views_by g other v
+    → IsChosen (views_by g one) early.past.votes v b x → IsChosen (views_by g other) late.past.votes v b x
+voted-since g one other early late v b x grew same voted = subst (λ mask. MajorityHas late.past.votes mask
+    (λ z. IsOf z v b × (z.value ≡ x))) same (chosen_since (views_by g one) early late v b x grew voted)
+
+-- a vote of a ballot at least as high as one by which more than half of the view has voted is for their value
+pub value-of : (g : Group) (V : Views) (u : World) (m b : ℕ) (x : Value) (z : Vote) → Voting g V u
+    → IsChosen V u.past.votes z.view b x → b ≤ z.ballot → HasLogged u.past.votes m z → z.value ≡ x
+value-of g V u m b x z voting chosen l h =
+    let one = somebody g V u z.view b x voting chosen in
+    higher g V u.past.own u.past.votes z.view b one.0 m z.ballot x z.value voting.valid voting.original ballot
+    one.1 l (vote_is g V u m z voting h)
+  where
+    ballot : MajorityHas u.past.votes (V z.view) (λ y. IsOf y z.view b)
+    ballot = record {
+      mask = chosen.mask;
+      part = chosen.part;
+      majority = chosen.majority;
+      each = λ i h. let t = chosen.each i h in (t.0, t.1, t.2.0);
+    }

@@ -1,7 +1,7 @@
 -- The accept words of a row: where they stand, and which parts they pack.
 use Rattle.std.proofs.Common.{◌≡◌, ◌≢◌, ℕ, ◌-◌, ◌^◌, ◌<◌, ◌≤◌, ◌⊎◌, inl, inr, true, slice_index, arith}
 use Rattle.std.proofs.{Math.Nat.pow-le-pow_right, lemmas.Bool.{cases_eq, Decides.nat_tests}}
-use Rattle.dr_entry.specs.declared.record.Value.{Value}
+use Rattle.dr_entry.{specs.declared.record.Value.Value, proofs.Records.FitsWords}
 use Rattle.dr_history.specs.Members.{has}
 use Rattle.dr_words.specs.Accepts.{AllPromise, AllTag, Shown, part_of}
 use Rattle.dr_words.specs.Columns.{head_column, leavers_column, recv_column, trim_column}
@@ -77,13 +77,6 @@ pub part_trim : (n : ℕ) (v : Value) (s c : ℕ) → c ≡ trim_column n s → 
 part_trim n v s c e =
     let there : c - trim_column n 0 ≡ s = omega (arith, e) in
     let other : c ≢ leavers_column n = λ q. absurd (omega (arith, e, q)) in grind (arith, there, other)
-
--- accept words of a roster of n can hold the tag and the value
-pub record FitsWords (n tag : ℕ) (v : Value) : Type 0 where
-  pub few : n ≤ 16
-  pub ballot : tag ≤ n
-  pub leavers : v.leavers < 2 ^ n
-  pub trims : (s : ℕ) → slice_index v.trim s < 2 ^ 32
 
 -- then each part of the value fits
 pub part_small : (n tag c : ℕ) (v : Value) → FitsWords n tag v → part_of n v c < 2 ^ 48

@@ -3,7 +3,7 @@ use Rattle.std.proofs.Common.{◌≡◌, ◌≢◌, ◌↔◌, ℕ, ◌+◌, ◌
 use Rattle.std.proofs.lemmas.Bool.{and_from, and_parts, cases_eq, cases_lt, eqb-true, Decides.nat_tests}
 use Rattle.std.proofs.lemmas.List.{get_or_past, FromFn.{get_or-map-range_with_len, length-map-range_with_len}}
 use Rattle.dr_entry.{specs.declared.record.Value.Value, proofs.NumberFacts.{equal_test, other_test}}
-use Rattle.dr_history.{specs.Members.{has, members_of}, proofs.{Histories.none_above, Tests.all_members}}
+use Rattle.dr_history.{specs.Members.{has, members_of}, proofs.{Masks.none_above, Tests.all_members}}
 use Rattle.dr_history.proofs.Choices.{min_below, IsFound, min_found, small_member, max_above, max_found}
 use Rattle.dr_words.specs.Accepts.{AllPromise, AllTag, Shown, Shows, promise_of, tag_of, trim_word}
 use Rattle.dr_words.specs.Changes.{AllFinal, IsFirstValue, IsHighest, IsLeastReceived, IsProposal, MayAccept, MayCommit, MayPropose, received, tagged_members}

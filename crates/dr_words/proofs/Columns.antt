@@ -1,5 +1,5 @@
 -- Columns of rows that are alike, and what stays in them.
-use Rattle.std.proofs.Common.{ℕ, ◌<◌, ◌^◌, refl, List, ◌≤◌, arith, ◌≡◌}
+use Rattle.std.proofs.Common.{ℕ, ◌<◌, ◌^◌, refl, List, ◌≤◌, arith, ◌≡◌, ◌⊎◌}
 use Rattle.dr_rows.{specs.Words.{Words, seen, with_own}, proofs.Grids.with_word-column}
 use Rattle.dr_words.specs.{Accepts.Shown, Columns.{recv_column, head_column, leavers_column, trim_column}}
 use Rattle.dr_words.specs.{Form.AllInForm, Grown.HasGrown, Rows.word_at, declared.column.TheConstants.BEAT_COLUMN}
@@ -34,3 +34,7 @@ beats_alike n w v = record {
   where
     same : (i c : ℕ) → (c ≡ 0 → ⊥) → seen (with_own w BEAT_COLUMN v) i c ≡ seen w i c
     same i c other = with_word-column w.words w.me BEAT_COLUMN v i c other
+
+-- below the ring, or in it
+pub low_or_high : (n c : ℕ) → (c < head_column n 0) ⊎ (head_column n 0 ≤ c)
+low_or_high n c = grind arith

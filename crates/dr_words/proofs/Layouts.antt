@@ -1,9 +1,9 @@
 -- Where the words of a row stand, and the first rows.
-use Rattle.std.{specs.Prelude.{◌^◌}, proofs.lemmas.{Bool.cases_eq, List.length-set, Nat.mul-le}}
-use Rattle.std.proofs.Common.{ℕ, ◌≡◌, refl, ◌∙◌, ◌==◌, if◌then◌else◌, inl, inr, [], sym, subst, ◌-◌, ◌≤◌, ◌+◌, arith, ◌<◌, List, length, slice_index, set, ◌*◌}
+use Rattle.std.{specs.Prelude.{◌^◌}, proofs.lemmas.{Bool.{cases_eq, Decides.nat_tests}, List.length-set, Nat.mul-le}}
+use Rattle.std.proofs.Common.{ℕ, ◌≡◌, refl, ◌∙◌, ◌==◌, if◌then◌else◌, inl, inr, [], sym, subst, ◌-◌, ◌≤◌, ◌+◌, arith, ◌<◌, List, length, slice_index, set, ◌*◌, not, false}
 use Rattle.dr_entry.proofs.{ListPlaces.one_more, NumberFacts.{same_number, other_number}}
-use Rattle.dr_rows.{specs.Words.{Words, begun, with_own, seen, word_at}, proofs.Grids.{seen_with, with_word-column}}
-use Rattle.dr_rows.proofs.WordsLemmas.{IsFresh-begun}
+use Rattle.dr_rows.specs.Words.{Words, begun, with_own, seen, word_at, last_pushed, own}
+use Rattle.dr_rows.proofs.{Grids.{seen_with, with_word-column}, WordsLemmas.IsFresh-begun}
 use Rattle.dr_words.specs.{Columns.columns_of, Form.{IsInForm, AllInForm}, Layout.{word_index_of, words_of}}
 use Rattle.dr_words.{specs.declared.column.TheConstants.LOGGED_COLUMN, proofs.Forms.{logged_in_form, form_zero}}
 
@@ -59,3 +59,11 @@ words_small n w banks few narrow least =
     let c : banks * n * n * columns_of n w ≤ 32 * 16 * 16 * 256 =
     mul-le (banks * n * n) (columns_of n w) (32 * 16 * 16) 256 b columns in
     omega (arith, c)
+
+-- rows that begin have pushed nothing
+pub begun_unpushed : (n k m logged j c : ℕ) → last_pushed (first_rows n k m logged) j c ≡ 0
+begun_unpushed n k m logged j c = zero (own (begun n k m) c)
+    (last_pushed (begun n k m) j c) ((IsFresh-begun n k m).zero m c) ((IsFresh-begun n k m).unchanged j c)
+  where
+    zero : (a b : ℕ) → a ≡ 0 → not (a == b) ≡ false → b ≡ 0
+    zero a b none same = grind (arith, nat_tests, none, same)

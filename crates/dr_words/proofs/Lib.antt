@@ -15,3 +15,4 @@ pub mod Columns
 pub mod Packed
 pub mod Layouts
 pub mod Unique
+pub mod Gains

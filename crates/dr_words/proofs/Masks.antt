@@ -1,17 +1,17 @@
 -- Masks of the members that pass a test.
 use Rattle.std.specs.{Int.{bit_at, trailing_zeros}, Prelude.{IsSome, MatchOption}}
 use Rattle.std.{specs.List.{Contains, Any, count_by}, proofs.lemmas.Bool.{cases_eq, cases_lt, and_from, and_parts}}
-use Rattle.std.proofs.Common.{◌≡◌, ◌≢◌, ℕ, zero, suc, ◌+◌, ◌-◌, ◌*◌, ◌/◌, ◌%◌, ◌^◌, ◌<◌, ◌≤◌, ◌==◌, ◌&&◌, ◌||◌, not, nat_lt, Bool, true, false, sym, ap, ◌∙◌, ◌⊎◌, inl, inr, if◌then◌else◌, w16, bit_and, bit_or, bit_xor, arith, List, [], ◌∷◌, slice_get, Some, refl, All, map, le_trans, subst, IsTrue, ◌↔◌, length, Option, None, unwrap_or, Decides}
-use Rattle.std.proofs.lemmas.{Bool.Decides.nat_tests, List.Elements.{All-head, All-tail, All-contains}}
+use Rattle.std.proofs.Common.{◌≡◌, ◌≢◌, ℕ, zero, suc, ◌+◌, ◌-◌, ◌*◌, ◌/◌, ◌%◌, ◌^◌, ◌<◌, ◌≤◌, ◌==◌, ◌&&◌, ◌||◌, not, nat_lt, Bool, true, false, sym, ap, ◌∙◌, ◌⊎◌, inl, inr, if◌then◌else◌, w16, bit_and, bit_or, bit_xor, arith, List, [], ◌∷◌, slice_get, Some, refl, All, map, le_trans, subst, IsTrue, ◌↔◌, length, Option, None, unwrap_or, Decides, slice_index, filter, length-append}
+use Rattle.std.proofs.lemmas.{Bool.Decides.nat_tests, List.Elements.{All-head, All-tail, All-contains, filter-append}}
 use Rattle.std.proofs.lemmas.{Nat.{and_le_l, or_lt, mod_below, pow_pos, xor_of_16}, Option.get_or_from_slice_get}
 use Rattle.std.proofs.lemmas.Nat.Bits.{bit_at-lt, bit_at_above, bit_at_cat_low, same_from_bits}
-use Rattle.dr_entry.proofs.{BoolFacts.{or_false, and_false}, ListFacts.among, ListPlaces.index_of_get}
-use Rattle.dr_entry.proofs.NumberFacts.{more_small}
-use Rattle.dr_history.specs.{Members.{has, members_of, members_below}, Order.AreOfRoster}
-use Rattle.dr_history.proofs.{Bits.{has_zero, has_with, has_without, has_xor, has_ones}, Histories.none_above}
-use Rattle.dr_history.proofs.Masks.{has_below_suc, same_masks, some_number, among_below, has_within}
-use Rattle.dr_history.proofs.Ranks.{first_member, count_below, some_member}
-use Rattle.dr_history.proofs.Tests.{contains_word, all_words, some_word}
+use Rattle.dr_entry.proofs.{BoolFacts.{or_false, and_false}, ListFacts.among}
+use Rattle.dr_entry.proofs.{ListPlaces.{index_of_get, element_below}, NumberFacts.more_small}
+use Rattle.dr_history.specs.Members.{has, members_of, members_below}
+use Rattle.dr_history.{specs.Order.AreOfRoster, proofs.Tests.{contains_word, all_words, some_word, all_members}}
+use Rattle.dr_history.proofs.{Bits.{has_zero, has_with, has_without, has_xor, has_ones}, MemberLemmas.AreSomeOf}
+use Rattle.dr_history.proofs.Masks.{has_below_suc, same_masks, some_number, among_below, has_within, none_above}
+use Rattle.dr_history.proofs.Ranks.{first_member, count_below, some_member, length-members_below_suc}
 use Rattle.dr_rows.specs.Words.{Words, seen}
 use Rattle.dr_words.specs.Masks.{IsInRoster, IsLeastOf, IsPartOf, least_of, mask_below, mask_of, next_members, with_member, without}
 use Rattle.dr_words.proofs.{Order.IsPartOf-le, Ranks.least_member}
@@ -413,3 +413,101 @@ pub without-nobody : (test : ℕ → Bool) (mask : ℕ) → mask ≡ mask_of tes
 without-nobody test mask is = subst (λ (m : ℕ). without m 0 ≡ m) (sym is)
     (same_masks (without (mask_of test) 0) (mask_of test) (λ i.
     has_mask_of (λ k. has (mask_of test) k && not (has 0 k)) i ∙ grind (arith, nat_tests, has_zero i, has_mask_of test i)))
+
+-- the member at a place among them
+pub member_below : (n mask k : ℕ) → 1 ≤ n → IsInRoster n mask → slice_index (members_of mask) k < n
+member_below n mask k some roster = element_below n (members_of mask) k some
+    (all_members (λ i. nat_lt i n) mask (λ i member. grind (arith, nat_tests, roster i member)))
+
+-- the members of a mask are no more than those members of another that pass a test, where each is one
+kept-below : (mask all next n : ℕ) → IsPartOf mask all → IsPartOf mask next
+    → length (members_below mask n) ≤ length (filter (has next) (members_below all n))
+unfolding members_below
+kept-below mask all next zero part stay = omega arith
+kept-below mask all next (suc n) part stay = omega (
+  arith,
+  length-members_below_suc mask n,
+  kept-below mask all next n part stay,
+  ap length (filter-append (has next) (members_below all n) (if has all n then n ∷ [] else [])),
+  length-append (filter (has next) (members_below all n)) (filter (has next) (if has all n then n ∷ [] else [])),
+  one (has mask n) (has all n) (has next n) refl (part n) (stay n),
+)
+  where
+    one : (a b c : Bool) → has next n ≡ c → (a ≡ true → b ≡ true) → (a ≡ true → c ≡ true)
+        → (if a then 1 else 0) ≤ length (filter (has next) (if b then n ∷ [] else []))
+    one true true true e p q = rw e (omega arith)
+    one true true false e p q = absurd (cc (q refl))
+    one true false c e p q = absurd (cc (p refl))
+    one false b c e p q = omega arith
+
+pub kept-of : (mask all next : ℕ) → IsPartOf mask all → IsPartOf mask next
+    → length (members_of mask) ≤ length (filter (has next) (members_of all))
+unfolding members_of
+kept-of mask all next part stay = kept-below mask all next 16 part stay
+
+-- a mask with one member more
+pub has-more : (mask n i : ℕ) → i < 16 → has mask i ≡ true → has (with_member mask n) i ≡ true
+has-more mask n i small there = has_mask_of (λ i. i == n || has mask i) i ∙ grind (arith, nat_tests, small, there)
+
+pub has-new : (mask n : ℕ) → n < 16 → has (with_member mask n) n ≡ true
+has-new mask n small = has_mask_of (λ i. i == n || has mask i) n ∙ grind (arith, nat_tests, small)
+
+pub has-old : (mask n i : ℕ) → i ≢ n → has (with_member mask n) i ≡ true → has mask i ≡ true
+has-old mask n i d t = grind (arith, nat_tests, d, sym (has_mask_of (λ i. i == n || has mask i) i) ∙ t)
+
+-- a mask with members below 16 alone has 16 bits
+small-mask : (n mask : ℕ) → n ≤ 16 → ((m : ℕ) → has mask m ≡ true → m < n) → mask < 2 ^ 16
+small-mask n mask most within = subst (λ k. k < 2 ^ 16) same (mask_of_small (has mask))
+  where
+    by : (i : ℕ) (b : Bool) → has mask i ≡ b → (nat_lt i 16 && has mask i) ≡ has mask i
+    by i true e = let l : i < 16 = omega (arith, within i e, most) in grind (arith, e, l)
+    by i false e = grind (arith, e)
+
+    same : mask_of (has mask) ≡ mask
+    same = same_masks (mask_of (has mask)) mask (λ i. has_mask_of (has mask) i ∙ by i (has mask i) refl)
+
+-- of the roster
+pub some-of : (n mask : ℕ) → n ≤ 16 → AreOfRoster n mask → AreSomeOf (λ m. m < n) mask
+some-of n mask most of = record {
+  small = small-mask n mask most of.within;
+  some = λ e. omega (arith, of.some, e);
+  within = of.within;
+}
+
+-- all of their own
+pub some-own : (n mask : ℕ) → n ≤ 16 → AreOfRoster n mask → AreSomeOf (λ m. has mask m ≡ true) mask
+some-own n mask most of = record {
+  small = small-mask n mask most of.within;
+  some = λ e. omega (arith, of.some, e);
+  within = λ m there. there;
+}
+
+-- a mask that has none but members of the roster
+pub in-roster : (n mask m : ℕ) → m < 16 → (without mask (2 ^ n - 1) == 0) ≡ true → has mask m ≡ true → m < n
+in-roster n mask m l alone h = grind (
+  arith,
+  h,
+  l,
+  has_mask_of (λ j. has mask j && not (has (2 ^ n - 1) j)) m,
+  ap (λ x. has x m) none,
+  has_zero m,
+  has_ones n m,
+)
+  where
+    none : without mask (2 ^ n - 1) ≡ 0
+    none = grind (arith, alone)
+
+-- a mask with members below a number alone has none but those
+pub of-roster-alone : (n mask : ℕ) → ((i : ℕ) → has mask i ≡ true → i < n) → without mask (2 ^ n - 1) ≡ 0
+of-roster-alone n mask within = same_masks (without mask (2 ^ n - 1)) 0 (λ i. by i (has mask i) refl)
+  where
+    by : (i : ℕ) (b : Bool) → has mask i ≡ b → has (without mask (2 ^ n - 1)) i ≡ has 0 i
+    by i false e = grind (arith, e, has_mask_of (λ j. has mask j && not (has (2 ^ n - 1) j)) i, has_zero i)
+    by i true e = grind (
+      arith,
+      e,
+      within i e,
+      has_mask_of (λ j. has mask j && not (has (2 ^ n - 1) j)) i,
+      has_ones n i,
+      has_zero i,
+    )

@@ -1,6 +1,6 @@
 -- Growth is reflexive and transitive, and a mask that grows is no smaller a number.
 use Rattle.std.{specs.Int.bit_at, proofs.lemmas.Nat.{and_le_r, Bits.{bit_at_and, bit_at-lt, same_from_bits}}}
-use Rattle.std.proofs.Common.{◌≡◌, ℕ, ◌≤◌, refl, sym, ◌∙◌, subst, Bool, List, le_refl, le_trans, arith, bit_and}
+use Rattle.std.proofs.Common.{◌≡◌, ℕ, ◌≤◌, refl, sym, ◌∙◌, subst, Bool, List, le_refl, le_trans, arith, bit_and, ◌⊎◌, inl, inr}
 use Rattle.dr_words.specs.{Grown.{HasGrown, Grown}, Masks.IsPartOf}
 
 -- a word has grown from itself
@@ -42,3 +42,11 @@ IsPartOf-le part whole p = subst (λ (x : ℕ). x ≤ whole) (same_from_bits (bi
   where
     same : (i : ℕ) → bit_at (bit_and part whole) i ≡ bit_at part i
     same i = grind (arith, bit_at_and part whole i, p i, bit_at-lt part i, bit_at-lt whole i)
+
+-- words of which each has grown from every smaller one stay so with one more that all have grown into
+pub line_with : (S : ℕ → Type 0) (n c top : ℕ) → ((x y : ℕ) → S x → S y → x ≤ y → HasGrown n c x y)
+    → ((x : ℕ) → S x → HasGrown n c x top) → (x y : ℕ) → S x ⊎ (x ≡ top) → S y ⊎ (y ≡ top) → x ≤ y → HasGrown n c x y
+line_with S n c top line into x y (inl p) (inl q) l = line x y p q l
+line_with S n c top line into x y (inl p) (inr e) l = subst (HasGrown n c x) (sym e) (into x p)
+line_with S n c top line into x y (inr e) (inl q) l = HasGrown_same n c x y (omega (arith, e, l, (into y q).number))
+line_with S n c top line into x y (inr e) (inr d) l = HasGrown_same n c x y (d ∙ sym e)

@@ -1,7 +1,7 @@
 -- What is read from a slot of which some words have come.
 use Rattle.std.specs.List.{range_with_len}
-use Rattle.std.proofs.Common.{◌≡◌, ℕ, ◌^◌, ◌<◌, arith, suc, ◌+◌, List, [], ◌∷◌, length, get_or, map, refl, sym, ap, ◌∙◌, ◌≤◌}
-use Rattle.dr_words.specs.Packing.{ring_word, ring_low, ring_tag}
+use Rattle.std.proofs.Common.{◌≡◌, ℕ, ◌^◌, ◌<◌, arith, suc, ◌+◌, List, [], ◌∷◌, length, get_or, map, refl, sym, ap, ◌∙◌, ◌≤◌, false, ◌&&◌, Bool, true, if◌then◌else◌}
+use Rattle.dr_words.specs.Packing.{ring_word, ring_low, ring_tag, is_final, recv_word, recv_count}
 
 pub low_word : (k word low : ℕ) → low < 2 ^ 32 → word ≡ ring_word k low → ring_low word ≡ low
 low_word k word low fits e = omega (arith, e)
@@ -21,3 +21,19 @@ same_pieces slot (x ∷ list) a same =
 -- a ring word of item k is no smaller than any word of an earlier item
 pub ring_grows : (k word low : ℕ) → ring_tag word ≤ k → word ≤ ring_word k low
 ring_grows k word low tag = omega (arith, tag)
+
+pub open_word : (k : ℕ) → is_final (recv_word k false) ≡ false
+open_word k = grind arith
+
+-- the tag of a piece is one more than its item's number
+pub piece_tag : (k low : ℕ) → low < 2 ^ 32 → ring_tag (ring_word k low) ≡ k + 1
+piece_tag k low l = omega arith
+
+-- a count that stays, final where its sender is of the view
+pub final_recv : (n : ℕ) (wedged member : Bool)
+    → (if member then recv_word (recv_count (recv_word n (wedged && member))) true
+    else recv_word n (wedged && member)) ≡ recv_word n (true && member)
+final_recv n true true = omega arith
+final_recv n false true = omega arith
+final_recv n true false = refl
+final_recv n false false = refl

@@ -2,7 +2,7 @@
 -- them, and that they are in form and have grown.
 use Rattle.std.proofs.Common.{◌≡◌, ◌≢◌, ℕ, ◌-◌, ◌^◌, ◌<◌, ◌≤◌, ◌==◌, ◌⊎◌, inl, inr, Bool, true, false, if◌then◌else◌, refl, sym, ap, subst, ◌∙◌, arith}
 use Rattle.std.proofs.lemmas.Bool.Decides.{nat_tests}
-use Rattle.dr_entry.specs.declared.record.Value.{Value}
+use Rattle.dr_entry.{specs.declared.record.Value.Value, proofs.Records.FitsWords}
 use Rattle.dr_history.specs.Members.{has}
 use Rattle.dr_rows.specs.Words.{Words, IsWords, is_frozen, own, rewritten, with_frozen, word_at}
 use Rattle.dr_rows.proofs.Rewrites.{frozen_more, rewritten_either, row_rewritten}
@@ -11,7 +11,7 @@ use Rattle.dr_words.specs.{Columns.{head_column, recv_column}, declared.column.T
 use Rattle.dr_words.{specs.Form.{AllInForm, IsInForm}, proofs.Order.{HasGrown_refl, HasGrown_same, IsPartOf-le}}
 use Rattle.dr_words.specs.{Grown.{Grown, HasGrown}, Rewrites.{accepted_word, is_accept_of, is_recv_of, wedged_word}}
 use Rattle.dr_words.specs.Packing.{accept_promise, accept_tag, accept_value, accept_word, is_final, recv_count, recv_word}
-use Rattle.dr_words.proofs.Accepts.{FitsWords, accept_within, packed_promise, packed_tag, packed_value, part_leavers, part_small, part_trim, tag_small, value_small}
+use Rattle.dr_words.proofs.Accepts.{accept_within, packed_promise, packed_tag, packed_value, part_leavers, part_small, part_trim, tag_small, value_small}
 
 -- ---- a word of a member that suspects somebody
 

@@ -8,13 +8,13 @@ use Rattle.dr_words.specs.{Form.IsInForm, Grown.HasGrown, Layout.word_index_of}
 use Rattle.dr_machine.specs.{Acts.{effect, effect_of}, Events.{member_of, step_of}, declared.event.Event.Event}
 use Rattle.dr_machine.{specs.{Effects.joins, Run.IsReached, World.World}, proofs.Runs.events_reached}
 use Rattle.dr_machine.specs.{Group.{Group, banks, roster, columns}, declared.step.Step.{Step, TheVariants.Look}}
-use Rattle.dr_program.{specs.Presence.{present_at, with_present}, proofs.Runs.joins_outside}
+use Rattle.dr_program.{specs.Presence.{present_at, with_present}, proofs.{Replicas.word_inside, Runs.joins_outside}}
 use Rattle.dr_program.specs.{Reading.{Shared, letters_of, world_of}, Replica.{Replica, is_inside, is_other}}
 use Rattle.dr_program.{specs.Steps.{has_cell, allows, found, stored, stored_letters}, proofs.Present.present_within}
 use Rattle.dr_faithful.specs.{Chosen.views_by, Faithful.Faithful}
 use Rattle.dr_world_laws.proofs.Worlds.{Known, faithful, known}
 use Rattle.dr_refine.{specs.Programs.{IsMember, stored_in}, proofs.Guards.{other_member, other_within, seen_is}}
-use Rattle.dr_refine.proofs.{Joins.join_effect, Tables.word_inside, Tests.{step_effect, cell_test, word_is}}
+use Rattle.dr_refine.proofs.{Joins.join_effect, Tests.{step_effect, cell_test, word_is}}
 use Rattle.dr_program_laws.proofs.Letters.{letter_goes_on}
 use Rattle.dr_world.specs.Held.{Held, its_group, its_world, shared_of, IsHeld}
 use Rattle.dr_world.specs.Steps.{IsSight, finds_letter, joined_by, stepped_with}

@@ -8,10 +8,10 @@ use Rattle.dr_history.proofs.Ranks.{length-members_below_suc}
 use Rattle.dr_machine.specs.{Group.{Group, IsGroup, late_members, roster}, Run.IsReached, World.World}
 use Rattle.dr_machine.specs.declared.step.Step.{Step}
 use Rattle.dr_words.proofs.Masks.{has_without_mask, in_roster_small}
+use Rattle.dr_faithful.proofs.ChosenViews.{views-first, views-there, IsLetter}
 use Rattle.dr_program.specs.{Presence.present_at, Reading.letters_of, Replica.Replica}
-use Rattle.dr_program.{specs.Steps.{given_to, stored_letters}, proofs.Present.MayGet}
-use Rattle.dr_refine.proofs.Tests.{letters_then}
-use Rattle.dr_world_laws.proofs.{ChosenViews.{views-first, views-there}, Letters.IsLetter, Worlds.{Known, known}}
+use Rattle.dr_program.{specs.Steps.{given_to, stored_letters}, proofs.{Present.MayGet, Replicas.letters_then}}
+use Rattle.dr_world_laws.proofs.Worlds.{Known, known}
 use Rattle.dr_world.specs.{Posts.count_filled, Steps.lists_left}
 
 -- ---- whose they are

@@ -2,20 +2,20 @@
 use Rattle.std.proofs.Common.{◌≡◌, ◌≢◌, refl, ap, sym, ◌∙◌, ◌⊎◌, inl, inr, subst, ℕ, ◌<◌, ◌≤◌, arith, Bool, true, false, [], ◌∷◌, append-nil, take_at, ◌++◌, length, take, All, Contains, Some, List, slice_get, get_or, length-append}
 use Rattle.std.proofs.lemmas.{Bool.{cases_eq, cases_lt}, List.{nil_from_length, take_all}, Option.slice_get-get_or}
 use Rattle.dr_entry.specs.declared.{end.End.TheVariants.Done, entry.Entry.{Entry, TheVariants.View}}
-use Rattle.dr_history.specs.Agreement.{Accounts, sent_by, SamePast, KnowsDurable, Agreed}
+use Rattle.dr_history.specs.{Agreement.{Accounts, SamePast, KnowsDurable, Agreed}, Members.{has, members_of}}
 use Rattle.dr_history.specs.History.{IsPrefixOf, GroupView, Sent, merge, messages_of, up_to_view, view_of}
-use Rattle.dr_history.specs.{Members.{has, members_of}, Order.{InOrder, IsLateIn, first_entries, messages_from}}
-use Rattle.dr_history.proofs.NumberedLemmas.{length-numbered_messages, messages_from-append}
+use Rattle.dr_history.{specs.Order.{InOrder, IsLateIn, first_entries, messages_from}, proofs.Standing.SamePast-either}
+use Rattle.dr_history.proofs.MemberLemmas.{has-member, member-has}
+use Rattle.dr_history.proofs.{NumberedLemmas.{length-numbered_messages, messages_from-append}, Quiet.no-more}
 use Rattle.dr_history_laws.specs.{Courses.{IsUncut, MayReach, course, view_in}, Laid.{counts_sent, laid}}
 use Rattle.dr_history_laws.proofs.Courses.{InOrder-course, either-course, head-ends, view-course}
-use Rattle.dr_history_laws.proofs.{Heads.course_up_to, Members.{has-member, member-has, view-distinct}}
-use Rattle.dr_history_laws.proofs.{Merging.laid-whole, Quiet.no-more, Views.SamePast-either}
+use Rattle.dr_history_laws.proofs.{Heads.course_up_to, Merging.laid-whole, Ordered.view-distinct}
 use Rattle.dr_words.specs.declared.column.TheConstants.{DONE_COLUMN}
-use Rattle.dr_machine.specs.{Group.{Group, IsGroup, IsPresent, roster}, Guards.HoldsAll}
-use Rattle.dr_machine.{specs.{Run.{accounts_in, WorldAgreed}, World.World}, proofs.Presence.in_roster}
+use Rattle.dr_machine.specs.{Group.{Group, IsGroup, IsPresent, roster}, Run.{accounts_in, WorldAgreed}, World.World}
+use Rattle.dr_machine.{specs.Guards.HoldsAll, proofs.{Groups.AreAccounts, Presence.in_roster}}
 use Rattle.dr_faithful.specs.{Chosen.{Values, endings_by, views_by}, Faithful.StandsOnLogs}
-use Rattle.dr_world_laws.specs.Historic.{IsMerged, head_by, view_numbered}
-use Rattle.dr_world_laws.proofs.{ChosenViews.{place-kept, views-there}, Completion.done_shown, Finishing.goes-any}
+use Rattle.dr_faithful.proofs.{ChosenViews.{place-kept, views-there}, Completion.done_shown}
+use Rattle.dr_world_laws.{specs.Historic.{IsMerged, head_by, view_numbered}, proofs.Finishing.goes-any}
 use Rattle.dr_world_laws.proofs.{Holding.view-there, Items.held-next, Reached.Known}
 
 -- ---- agreement
@@ -61,13 +61,6 @@ pub the-view : (g : Group) (values : Values) (w : World) (m : ℕ) → IsGroup g
     → view_of (w.past.history m) ≡ Some (view_numbered g (views_by g values) (w.past.view m))
 the-view g values w m is y l = ap view_of (y.laid.historic.history m l) ∙ view-course g.opening w.past.sent
     (endings_by g.opening values) (w.past.view m) (w.next m) is.sound (may-reach g values w m is y l).view
-
--- the accounts tell what the members of a world that are there have done
-pub record AreAccounts (g : Group) (w : World) (accounts : Accounts) : Type 0 where
-  pub sent : sent_by accounts ≡ w.past.sent
-  pub history : (m : ℕ) → IsPresent g m → (accounts m).history ≡ w.past.history m
-  pub log : (m : ℕ) → IsPresent g m → (accounts m).log ≡ w.past.log m
-  pub durable : (m : ℕ) → IsPresent g m → (accounts m).durable ≡ w.past.durable m
 
 -- what a member knows to be durable stands on logs: on those of all members of some view that it has come to,
 -- and, where nobody is late, of its view

@@ -1,131 +1,23 @@
 -- Every world that is reached is reached by values: whenever somebody commits a value in a view in which
 -- nobody has committed one before, nobody has left the view either, and so the value may be chosen for it,
 -- as far as what came before goes.
-use Rattle.std.{specs.Prelude.{⊤, unwrap_or, false}, proofs.lemmas.Option.none-some}
-use Rattle.std.proofs.Common.{All, List, [], ◌∷◌, None, Option, Some, ap, arith, inl, inr, le_refl, refl, subst, suc, sym, zero, ℕ, ◌+◌, ◌<◌, ◌∙◌, ◌≡◌, ◌≢◌, ◌≤◌, ◌⊎◌}
-use Rattle.std.proofs.lemmas.{Bool.{cases_eq, cases_lt}, List.Elements.{All-cons, All-head, All-nil, All-tail}}
-use Rattle.dr_entry.specs.declared.record.Value.{Value}
+use Rattle.std.specs.Prelude.{⊤, unwrap_or, false}
+use Rattle.std.proofs.Common.{All, List, [], ◌∷◌, None, Option, Some, ap, arith, inl, inr, le_refl, refl, subst, sym, zero, ℕ, ◌+◌, ◌∙◌, ◌≡◌, ◌≢◌, ◌⊎◌}
+use Rattle.std.proofs.lemmas.{Bool.cases_eq, List.Elements.{All-cons, All-head, All-nil, All-tail}, Option.none-some}
+use Rattle.dr_entry.{specs.declared.record.Value.Value, proofs.{OptionFacts.some_same, Records.IsBefore}}
 use Rattle.dr_history.specs.{History.last_view, Members.has}
-use Rattle.dr_machine.specs.{Acts.{CanTake, Guard, effect, effect_of}, declared.{event.Event.Event, step.Step.Step}}
-use Rattle.dr_machine.specs.{Effects.{commits as after_commit, finishes, joins}, World.{Table, World, no_value}}
-use Rattle.dr_machine.specs.{Events.{member_of, step_of}, Guards.{CanCommit, CanJoin}, Votes.{IsOf, MajorityHas}}
-use Rattle.dr_machine.specs.{Group.{Group, IsGroup, IsPresent, roster}, Run.{ComesNext, HaveArrived, Way, with_table}}
-use Rattle.dr_machine.{specs.Writes.at, proofs.{Events.standing_after, Presence.in_roster, Runs.by_way}}
-use Rattle.dr_faithful.specs.Chosen.{AreChosen, Values, come_of, views_by}
-use Rattle.dr_faithful.proofs.Writes.{at_both, at_case, at_other, at_same}
+use Rattle.dr_machine.specs.{Acts.{CanTake, Guard, effect, effect_of}, Effects.{commits as after_commit, joins}}
+use Rattle.dr_machine.specs.{Events.{member_of, step_of}, Group.{Group, IsGroup}, Guards.{CanCommit, CanJoin}}
+use Rattle.dr_machine.specs.{Run.{ComesNext, Way}, Votes.{IsOf, MajorityHas}, World.{World, no_value}, Writes.at}
+use Rattle.dr_machine.{specs.declared.{event.Event.Event, step.Step.Step}, proofs.Events.standing_after}
+use Rattle.dr_machine.proofs.Passed.{AreBefore, commit_back, finish_back, HasPassed, AreIdle, passed_or_before, others_idle}
+use Rattle.dr_machine.proofs.{Runs.by_way, Writes.{at_both, at_case, at_other, at_same}}
+use Rattle.dr_faithful.specs.Chosen.{AreChosen, Values, views_by}
+use Rattle.dr_faithful.proofs.ChosenViews.{value_free, IsReachedSo, arrived_so, members_stay, IsReachedBy}
 use Rattle.dr_vote_laws.{specs.Voting.IsChosen, proofs.{Accepting.commit_votes, Values.{chosen_once, commits}}}
-use Rattle.dr_world_laws.proofs.{ByValues.IsReachedBy, ChosenViews.{views-first, views-next}, Reached.{Known, known}}
-
-some_same : {A : Type 0} (x y : A) → Some x ≡ Some y → x ≡ y
-some_same x y e = cc e
-
--- ---- who is not of the roster
-
--- nobody else ever leaves the first view, or commits a value
-abbrev AreIdle : Group → World → Type 0
-AreIdle g w = (k : ℕ) → roster g ≤ k → (w.past.view k ≡ 0) × (w.committed k ≡ None)
-
-others_idle : (g : Group) (w : World) (m : ℕ) (s : Step) → IsGroup g → CanTake g w m s → AreIdle g w
-    → AreIdle g (effect_of g w m s)
-others_idle g w m s is can old = standing_after g w m s
-    (λ x. (k : ℕ) → roster g ≤ k → (x.view k ≡ 0) × (x.committed k ≡ None)) can (record {
-      goes_on = λ can. at_both (λ k v c. roster g ≤ k → (v ≡ 0) × (c ≡ None)) w.past.view w.committed m
-          (w.past.view m + 1) None old (λ l. absurd (within can.may.alive.present l));
-      joins = λ can. at_both (λ k v c. roster g ≤ k → (v ≡ 0) × (c ≡ None)) w.past.view w.committed m
-          (last_view (0, 0) (unwrap_or (w.letter m) [])).0 None old (λ l. absurd (within can.may.alive.present l));
-      chooses = λ can. at_case (λ k c. roster g ≤ k → (w.past.view k ≡ 0) × (c ≡ None)) w.committed m
-          (Some (w.value m)) (λ k d. old k) (λ l. absurd (within can.may.alive.present l));
-      wedges = λ j can. old;
-      stops = λ end alive why. old;
-      stays = old;
-    })
-  where
-    within : IsPresent g m → roster g ≤ m → ⊥
-    within there l = omega (arith, l, in_roster g m is there)
-
--- ---- views that nobody has committed a value in, or left
-
--- a member that is in this view, with what it has committed, has not left a view, or committed a value in it
-record IsBefore (v view : ℕ) (committed : Option Value) : Type 0 where
-  pub within : view ≤ v
-  pub none : view ≡ v → committed ≡ None
-
--- so are all members
-abbrev AreBefore : World → ℕ → Type 0
-AreBefore w v = (k : ℕ) → IsBefore v (w.past.view k) (w.committed k)
-
--- this one has left it, or has committed a value in it
-abbrev HasPassed : World → ℕ → ℕ → Type 0
-HasPassed w v k = (v < w.past.view k) ⊎ ((w.past.view k ≡ v) × (x : Value) × (w.committed k ≡ Some x))
-
-one_of : (w : World) (v k : ℕ) → HasPassed w v k ⊎ IsBefore v (w.past.view k) (w.committed k)
-one_of w v k = by (cases_lt v (w.past.view k)) (cases_eq (w.past.view k) v) (w.committed k) refl
-  where
-    by : (v < w.past.view k) ⊎ (w.past.view k ≤ v) → (w.past.view k ≡ v) ⊎ (w.past.view k ≢ v)
-        → (c : Option Value) → w.committed k ≡ c → HasPassed w v k ⊎ IsBefore v (w.past.view k) (w.committed k)
-    by (inl l) same c e = inl (inl l)
-    by (inr l) (inl same) (Some x) e = inl (inr (same, x, e))
-    by (inr l) (inl same) None e = inr record { within = l; none = λ d. e }
-    by (inr l) (inr other) c e = inr record { within = l; none = λ d. absurd (other d) }
-
-search : (w : World) (v n : ℕ) → ((k : ℕ) × HasPassed w v k)
-    ⊎ ((k : ℕ) → k < n → IsBefore v (w.past.view k) (w.committed k))
-search w v zero = inr (λ k l. absurd (omega (arith, l)))
-search w v (suc n) = by (search w v n) (one_of w v n)
-  where
-    last : IsBefore v (w.past.view n) (w.committed n) → ((k : ℕ) → k < n → IsBefore v (w.past.view k) (w.committed k))
-        → (k : ℕ) → k < suc n → (k < n) ⊎ (n ≤ k) → IsBefore v (w.past.view k) (w.committed k)
-    last b all k l (inl less) = all k less
-    last b all k l (inr more) =
-        let same : n ≡ k = omega (arith, l, more) in subst (λ i. IsBefore v (w.past.view i) (w.committed i)) same b
-
-    by : ((k : ℕ) × HasPassed w v k) ⊎ ((k : ℕ) → k < n → IsBefore v (w.past.view k) (w.committed k))
-        → HasPassed w v n ⊎ IsBefore v (w.past.view n) (w.committed n)
-        → ((k : ℕ) × HasPassed w v k) ⊎ ((k : ℕ) → k < suc n → IsBefore v (w.past.view k) (w.committed k))
-    by (inl t) one = inl t
-    by (inr all) (inl p) = inl (n, p)
-    by (inr all) (inr b) = inr (λ k l. last b all k l (cases_lt k n))
-
--- somebody has passed it, or nobody has
-passed_or_before : (g : Group) (w : World) (v : ℕ) → AreIdle g w → ((k : ℕ) × HasPassed w v k) ⊎ AreBefore w v
-passed_or_before g w v idle = by (search w v (roster g))
-  where
-    outside : (k : ℕ) → roster g ≤ k → IsBefore v (w.past.view k) (w.committed k)
-    outside k l = record { within = omega (arith, (idle k l).0); none = λ e. (idle k l).1 }
-
-    each : ((k : ℕ) → k < roster g → IsBefore v (w.past.view k) (w.committed k)) → (k : ℕ)
-        → (k < roster g) ⊎ (roster g ≤ k) → IsBefore v (w.past.view k) (w.committed k)
-    each all k (inl l) = all k l
-    each all k (inr l) = outside k l
-
-    by : ((k : ℕ) × HasPassed w v k) ⊎ ((k : ℕ) → k < roster g → IsBefore v (w.past.view k) (w.committed k))
-        → ((k : ℕ) × HasPassed w v k) ⊎ AreBefore w v
-    by (inl t) = inl t
-    by (inr all) = inr (λ k. each all k (cases_lt k (roster g)))
+use Rattle.dr_world_laws.proofs.Reached.{Known, known}
 
 -- ---- back along a run
-
-commit_back : (g : Group) (w : World) (m v : ℕ) → CanCommit g w m → AreBefore (after_commit w m) v → AreBefore w v
-commit_back g w m v can after k = by (cases_eq k m)
-  where
-    by : (k ≡ m) ⊎ (k ≢ m) → IsBefore v (w.past.view k) (w.committed k)
-    by (inl e) = record { within = (after k).within; none = λ d. ap w.committed e ∙ can.uncommitted }
-    by (inr d) = record {
-      within = (after k).within;
-      none = λ e. sym (at_other w.committed m (Some (w.value m)) k d) ∙ (after k).none e;
-    }
-
-finish_back : (g : Group) (w : World) (m v : ℕ) → AreBefore (finishes g w m) v → AreBefore w v
-finish_back g w m v after k = by (cases_eq k m)
-  where
-    by : (k ≡ m) ⊎ (k ≢ m) → IsBefore v (w.past.view k) (w.committed k)
-    by (inl e) =
-        let left : w.past.view k + 1 ≤ v = subst (λ n. n ≤ v) (ap (at w.past.view m (w.past.view m + 1)) e
-        ∙ at_same w.past.view m (w.past.view m + 1) ∙ ap (λ i. w.past.view i + 1) (sym e)) (after k).within in
-        record { within = omega (arith, left); none = λ same. absurd (omega (arith, left, same)) }
-    by (inr d) = subst (λ x. IsBefore v x (w.committed k)) (at_other w.past.view m (w.past.view m + 1) k d)
-        (subst (λ c. IsBefore v (at w.past.view m (w.past.view m + 1) k) c) (at_other w.committed m None k d)
-        (after k))
 
 -- whoever joins had the first view, and had committed nothing
 join_back : (g : Group) (values : Values) (w : World) (m v : ℕ) → IsGroup g → Known g values w → CanJoin g w m
@@ -171,12 +63,6 @@ follows_back : (g : Group) (values : Values) (us : List World) (w mid : World) (
 follows_back g values us w mid v is y (inl (e, can, same)) b =
     step_back g values w (member_of e) (step_of e) v is y can (subst (λ u. AreBefore u v) same b)
 follows_back g values us w mid v is y (inr (table, come, same)) b = subst (λ u. AreBefore u v) same b
-
--- the value of such a view may be any one
-value_free : (w : World) (values : Values) (v : ℕ) (x : Value) → AreBefore w v → AreChosen values w
-    → AreChosen (at values v x) w
-value_free w values v x before chosen k y e = chosen k y e ∙ sym (at_other values v x (w.past.view k)
-    (λ same. absurd (none-some y (sym ((before k).none same) ∙ e))))
 
 way_free : (g : Group) (values : Values) (v : ℕ) (x : Value) (us : List World) (w : World) → IsGroup g
     → Way g us w → All (AreChosen values) us → AreBefore w v → All (AreChosen (at values v x)) us
@@ -260,10 +146,6 @@ choose g values us w m s is idle r can = standing_after g w m s (λ x. (more : V
         let free = reached_free g values us w (w.past.view m) (w.value m) is before r in
         (more, free, commit more free.now (sym (at_same values (w.past.view m) (w.value m))))
 
--- so every world that is reached is reached by values
-abbrev IsReachedSo : Group → List World → World → Type 0
-IsReachedSo g us w = ((values : Values) × IsReachedBy g values us w) × AreIdle g w
-
 -- the values of no view
 abbrev no_values : Values
 no_values v = no_value
@@ -283,20 +165,6 @@ step_so g us w e is can (r, idle) =
       others_idle g w (member_of e) (step_of e) is can idle,
     )
 
-arrived_so : (g : Group) (us : List World) (w : World) (table : Table) → HaveArrived (w ∷ us) w table
-    → IsReachedSo g us w → IsReachedSo g (w ∷ us) (with_table w table)
-arrived_so g us w table come (r, idle) = (
-  (
-    r.0,
-    record {
-      way = (r.1.way, inr (table, come, refl));
-      before = All-cons (AreChosen r.0) w us r.1.now r.1.before;
-      now = r.1.now;
-    },
-  ),
-  idle,
-)
-
 pub reached_so : (g : Group) (us : List World) (w : World) → IsGroup g → Way g us w → IsReachedSo g us w
 reached_so g us w is r = by_way g (λ u. ⊤) (IsReachedSo g) (λ us u e run all can y. step_so g us u e is can y)
     (λ us u table run all come y. arrived_so g us u table come y) (
@@ -315,17 +183,6 @@ reached_by g us w is r = (reached_so g us w is r).0
 
 pub nobody_else : (g : Group) (us : List World) (w : World) → IsGroup g → Way g us w → AreIdle g w
 nobody_else g us w is r = (reached_so g us w is r).1
-
--- the members of a view are as the values of the views before it have them
-members_stay : (g : Group) (values : Values) (v : ℕ) (x : Value) (u : ℕ) → u ≤ v
-    → views_by g (at values v x) u ≡ views_by g values u
-members_stay g values v x zero l = views-first g (at values v x) ∙ sym (views-first g values)
-members_stay g values v x (suc u) l =
-    let next : u + 1 ≡ suc u = omega arith in
-    rw (← next) (views-next g (at values v x) u ∙ ap (λ mask. come_of g.opening mask (at values v x u).leavers)
-    (members_stay g values v x u (omega (arith, l)))
-    ∙ ap (λ (y : Value). come_of g.opening (views_by g values u) y.leavers)
-    (at_other values v x u (λ same. omega (arith, same, l))) ∙ sym (views-next g values u))
 
 -- a world in which more than half of a view has voted for a value is reached by values of which it is one
 pub voted_by : (g : Group) (values : Values) (us : List World) (w : World) (v b : ℕ) (x : Value) → IsGroup g

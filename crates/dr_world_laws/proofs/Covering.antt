@@ -1,17 +1,17 @@
 -- What the value of a view cuts off nobody has delivered, and who goes on has received all that it takes.
-use Rattle.std.proofs.Common.{List, append_assoc, drop, length, [], ◌∷◌, ◌≡◌, ap, arith, sym, true, ◌∙◌, subst, ℕ, ◌+◌, ◌<◌, ◌≤◌, ◌++◌, slice_index, Some}
-use Rattle.std.proofs.Math.Seq.{drop-append_seam}
+use Rattle.std.proofs.Common.{List, append_assoc, [], ◌∷◌, ◌≡◌, ap, arith, sym, true, ◌∙◌, subst, ℕ, ◌+◌, ◌<◌, ◌≤◌, ◌++◌, slice_index, Some}
 use Rattle.dr_entry.specs.{declared.entry.Entry.{Entry, TheVariants.View}, declared.record.Value.Value}
-use Rattle.dr_history.specs.{History.{IsPrefixOf, merge}, Members.has, Places.front_of}
+use Rattle.dr_entry.proofs.BoolFacts.{kept_in}
+use Rattle.dr_history.{specs.{History.{IsPrefixOf, merge}, Members.has, Places.front_of}, proofs.Lists.prefix_behind}
 use Rattle.dr_history_laws.{specs.Courses.{counts_taken, view_in}, proofs.{Courses.head-next, Cutting.merge-prefix}}
 use Rattle.dr_history_laws.proofs.Heads.{head-last}
 use Rattle.dr_machine.specs.{Group.{Group, IsGroup, roster}, World.World}
 use Rattle.dr_words.specs.Masks.{next_members}
 use Rattle.dr_faithful.specs.Chosen.{AreChosen, Values, endings_by, views_by}
-use Rattle.dr_vote_laws.specs.Voting.{IsChosen, IsCut}
-use Rattle.dr_world_laws.specs.{Historic.head_by, Views.{IsCovered, all_taken}}
-use Rattle.dr_world_laws.proofs.{Ballots.{cut-changes, voted-cut}, ChosenViews.{ending-next, place-kept, views-come}}
-use Rattle.dr_world_laws.proofs.{HeldViews.behind-is, Holding.reaches, Reached.{Known, safe}, Safety.kept_in}
+use Rattle.dr_faithful.proofs.ChosenViews.{ending-next, place-kept, views-come}
+use Rattle.dr_vote_laws.{specs.Voting.{IsChosen, IsCut}, proofs.Ballots.{cut-changes, voted-cut}}
+use Rattle.dr_world_laws.{specs.{Historic.head_by, Views.{IsCovered, all_taken}}, proofs.HeldViews.behind-is}
+use Rattle.dr_world_laws.proofs.{Holding.reaches, Reached.{Known, safe}}
 
 -- a member of a view in which a value is committed has delivered nothing that this value cuts off
 pub delivered_within : (g : Group) (values : Values) (w : World) (m k : ℕ) (x : Value) → IsGroup g
@@ -45,13 +45,6 @@ front_part g values w m y l below = subst (λ es. IsPrefixOf es (head_by g value
     (endings_by g.opening values (w.past.view m)).taken (w.next m) below)
 
 -- ---- a value that is voted for
-
-prefix_behind : (xs ys zs : List Entry) → IsPrefixOf (xs ++ ys) (xs ++ zs) → IsPrefixOf ys zs
-prefix_behind xs ys zs p = (
-  p.0,
-  sym (drop-append_seam xs (ys ++ p.0)) ∙ ap (drop (length xs)) (sym (append_assoc xs ys p.0) ∙ p.1)
-      ∙ drop-append_seam xs zs,
-)
 
 -- where more than half of a view has voted for its value, the value covers what is delivered
 pub covered : (g : Group) (values : Values) (w : World) (v b : ℕ) → IsGroup g → Known g values w

@@ -1,29 +1,23 @@
 -- A member that may end its view comes to the head of the next one, as everybody does who ends this view.
-use Rattle.std.proofs.Common.{List, [], ◌∷◌, ◌++◌, ap, arith, fold, inl, inr, length, length-append, map, option_to_list, slice_get, slice_index, subst, sym, true, false, Contains, Some, ℕ, ◌/◌, ◌%◌, ◌+◌, ◌<◌, ◌∙◌, ◌≡◌, ◌≤◌, ◌⊎◌}
+use Rattle.std.proofs.Common.{List, [], ◌∷◌, ◌++◌, ap, arith, fold, inl, inr, length, length-append, map, option_to_list, slice_get, slice_index, subst, sym, true, false, Some, ℕ, ◌/◌, ◌%◌, ◌+◌, ◌<◌, ◌∙◌, ◌≡◌, ◌≤◌, ◌⊎◌}
 use Rattle.std.proofs.lemmas.{Bool.cases_lt, Option.{none-some, slice_get-get_or}}
 use Rattle.dr_entry.specs.declared.{end.SentItem.{SentItem, TheVariants.Index}, entry.Entry.{Entry, TheVariants.View}}
-use Rattle.dr_entry.specs.declared.record.Value.{Value}
+use Rattle.dr_entry.{specs.declared.record.Value.Value, proofs.{ListFacts.no_members, ListPlaces.Contains-slice_get}}
+use Rattle.dr_entry.proofs.OptionFacts.{below_or_last}
 use Rattle.dr_history.specs.{History.{GroupView, item_at, merge, messages_of}, Members.{has, members_of}}
-use Rattle.dr_history.specs.{Order.messages_from, Places.{is_held, rest_places}}
-use Rattle.dr_history.proofs.NumberedLemmas.{length-numbered_messages}
+use Rattle.dr_history.{specs.{Order.messages_from, Places.{is_held, rest_places}}, proofs.Indices.item_at-parts}
+use Rattle.dr_history.proofs.{MemberLemmas.member-has, NumberedLemmas.length-numbered_messages, Places.held_member}
 use Rattle.dr_history_laws.specs.{Courses.{ViewHasEnded, counts_taken}, Laid.{GoesOn, entry_at, laid}}
-use Rattle.dr_history_laws.proofs.{Courses.{InOrder-head, head-ends, head-next}, Indices.item_at-parts}
-use Rattle.dr_history_laws.proofs.{Lists.Contains-slice_get, Members.{member-has, members_of-few, view-distinct}}
-use Rattle.dr_history_laws.proofs.{Resting.rest-merged, SendingLemmas.held_member}
+use Rattle.dr_history_laws.proofs.{Courses.{InOrder-head, head-ends, head-next}, Ordered.view-distinct}
+use Rattle.dr_history_laws.proofs.Resting.{rest-merged}
 use Rattle.dr_words.specs.Masks.{next_members}
-use Rattle.dr_machine.specs.{Effects.{counts_by, finished_history, with_place}, Guards.CanFinish}
-use Rattle.dr_machine.specs.{Group.{Group, IsGroup, banks, late_members, roster}, World.{World, view_members}}
-use Rattle.dr_faithful.specs.{Chosen.{AreChosen, Values, endings_by, views_by}, Faithful.{Faithful, GoesOnWell}}
-use Rattle.dr_faithful.proofs.{Beside.in_view, Finishes.{last_or_before, no_items}}
+use Rattle.dr_machine.specs.{Effects.{counts_by, finished_history, with_place}, Group.{Group, IsGroup, roster}}
+use Rattle.dr_machine.{specs.World.{World, view_members}, proofs.Groups.banks-small}
+use Rattle.dr_faithful.specs.{Chosen.{Values, endings_by, views_by}, Faithful.{Faithful, GoesOnWell}}
+use Rattle.dr_faithful.proofs.ChosenViews.{Changes, ending-next, next-follows, next-majority, next-newcomers, next-roster, next-stayed, place-kept, views-cases}
+use Rattle.dr_faithful.proofs.Ending.{of_roster, Finishes, changes, next-is}
 use Rattle.dr_world_laws.specs.Historic.{AreLaid, Historic, HasEndedSafely, head_by, view_numbered}
-use Rattle.dr_world_laws.proofs.ChosenViews.{Changes, ending-next, next-follows, next-majority, next-newcomers, next-roster, next-stayed, place-kept, views-cases, views-come, views-within}
-use Rattle.dr_world_laws.proofs.{Items.{IsReceived, entries-next, item-here}, Safety.IsSafe}
-
--- a member of a view is of the roster
-of_roster : (g : Group) (values : Values) (v s : ℕ) → IsGroup g
-    → Contains (members_of (views_by g values v)) s → s < roster g
-of_roster g values v s is member = views-within g values v s is (member-has (views_by g values v) member.0 s
-    (slice_get-get_or (members_of (views_by g values v)) member.0 s member.1 ∙ ap Some member.2))
+use Rattle.dr_world_laws.proofs.Items.{IsReceived, entries-next, item-here}
 
 -- what is sent in any view goes on from its head: in one that its sender has not come to nothing is sent
 pub goes-any : (g : Group) (values : Values) (w : World) (v : ℕ) → IsGroup g
@@ -40,56 +34,9 @@ goes-any g values w v is f h = record {
         → (w.past.view s < v) ⊎ (v ≤ w.past.view s)
         → GoesOn g.opening w.past.sent (head_by g values w v) (view_numbered g (views_by g values) v)
     of_sender s k i at l (inl less) =
-        let none : w.past.sent s v ≡ [] = no_items (w.past.sent s v) (f.sent.all s v ∙ f.fresh.empty s v s less) in
+        let none : w.past.sent s v ≡ [] = no_members (w.past.sent s v) (f.sent.all s v ∙ f.fresh.empty s v s less) in
         absurd (none-some (Index i) (sym (ap (λ xs. slice_get xs k) none) ∙ at))
     of_sender s k i at l (inr come) = h.goes s v l come
-
--- what is known of a member that may end its view with a value
-pub record Finishes (g : Group) (values : Values) (w : World) (m : ℕ) (x : Value) : Type 0 where
-  pub within : m < roster g
-  pub inside : has (views_by g values (w.past.view m)) m ≡ true
-  pub chosen : x ≡ values (w.past.view m)
-  pub stays : has (values (w.past.view m)).leavers m ≡ false
-  pub bank : w.past.view m + 1 < banks g
-  pub safe : IsSafe g (views_by g values) w m x
-  pub items : (s : ℕ) → has (views_by g values (w.past.view m)) s ≡ true
-      → slice_index (values (w.past.view m)).trim s ≤ w.past.count m (w.past.view m) s
-
-pub finishes : (g : Group) (values : Values) (w : World) (m : ℕ) → IsGroup g
-    → Faithful g (views_by g values) w → AreChosen values w → (can : CanFinish g w m)
-    → IsSafe g (views_by g values) w m can.value → Finishes g values w m can.value
-finishes g values w m is f chosen can safe = record {
-  within = f.views.within (w.past.view m) m inside;
-  inside = inside;
-  chosen = one;
-  stays = subst (λ (y : Value). has y.leavers m ≡ false) one can.stays;
-  bank = can.bank;
-  safe = safe;
-  items = λ s member. subst (λ (y : Value). slice_index y.trim s ≤ w.past.count m (w.past.view m) s) one
-      (can.items s (ap (λ k. has k s) (f.views.own m) ∙ member));
-}
-  where
-    one : can.value ≡ values (w.past.view m)
-    one = chosen m can.value can.committed
-
-    inside : has (views_by g values (w.past.view m)) m ≡ true
-    inside = in_view g (views_by g values) w m f can.may.inside
-
--- a value that is safe changes the view as it should
-pub changes : (g : Group) (values : Values) (w : World) (m : ℕ) (x : Value)
-    → x ≡ values (w.past.view m) → IsSafe g (views_by g values) w m x → Changes g values (w.past.view m)
-changes g values w m x chosen safe = record {
-  mask = safe.mask;
-  part = safe.part;
-  majority = safe.majority;
-  stay = λ i h. subst (λ (y : Value). has y.leavers i ≡ false) chosen (safe.stay i h);
-  newcomers = λ i h. safe.newcomers i (subst (λ (y : Value). has y.leavers i ≡ true) (sym chosen) h);
-  named = (safe.named.0, subst (λ (y : Value). has y.leavers safe.named.0 ≡ true) chosen safe.named.1);
-}
-
--- the numbers of views are small
-pub banks-small : (g : Group) → IsGroup g → banks g ≤ 32
-banks-small g is = omega (arith, is.most_members, members_of-few (late_members g))
 
 -- the view that it ends
 pub leaves : (g : Group) (values : Values) (w : World) (m : ℕ) (x : Value) → IsGroup g
@@ -133,14 +80,6 @@ leaves g values w m x is f y = record {
 
     member : (i : ℕ) → has (views_by g values (w.past.view m)) i ≡ has (w.members m) i
     member i = sym (ap (λ k. has k i) (f.views.own m))
-
--- the members that come of it are those of the next view
-pub next-is : (g : Group) (values : Values) (w : World) (m : ℕ) (x : Value) → IsGroup g
-    → Faithful g (views_by g values) w → Finishes g values w m x
-    → next_members (w.members m) x.leavers ≡ views_by g values (w.past.view m + 1)
-next-is g values w m x is f y = ap (λ (z : Value). next_members (w.members m) z.leavers) y.chosen
-    ∙ ap (λ mask. next_members mask (values (w.past.view m)).leavers) (f.views.own m)
-    ∙ sym (views-come g values (w.past.view m) is (changes g values w m x y.chosen y.safe))
 
 -- a place of the merge adds its entry
 rest-place : (g : Group) (values : Values) (w : World) (m : ℕ) (x : Value)
@@ -243,7 +182,7 @@ goes-on_well g values w m x is f laid y = record {
   next = sym (next-is g values w m x is f y);
   stayed = next-stayed g values v (changes g values w m x y.chosen y.safe);
   few = head-few g values w m (v + 1) (finished_history g w m x) is f laid
-      (λ u l. ended u (last_or_before u v l)) (finished-head g values w m x is f laid.historic y);
+      (λ u l. ended u (below_or_last u v l)) (finished-head g values w m x is f laid.historic y);
 }
   where
     v : ℕ

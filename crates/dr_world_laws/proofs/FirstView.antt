@@ -1,35 +1,17 @@
 -- While nobody suspects anybody, nobody commits a value, and everybody stays in the first view.
-use Rattle.std.proofs.Common.{◌++◌, List, None, arith, length, length-append, refl, sym, true, ℕ, ◌+◌, ◌<◌, ◌∙◌, ◌≡◌, ◌≤◌}
+use Rattle.std.proofs.Common.{◌++◌, List, None, arith, length, length-append, refl, sym, ℕ, ◌+◌, ◌∙◌, ◌≡◌, ◌≤◌}
 use Rattle.std.proofs.lemmas.{List.Elements.All-head, Option.none-some}
-use Rattle.dr_entry.specs.declared.entry.{Entry.Entry, Item.{Item, TheVariants.{Null, Text}}}
-use Rattle.dr_history.specs.{Members.has, Order.{first_entries, messages_from}}
+use Rattle.dr_entry.specs.declared.entry.Entry.{Entry}
+use Rattle.dr_history.specs.Order.{first_entries, messages_from}
 use Rattle.dr_machine.specs.{Acts.{CanTake, effect_of}, Effects.{entries_of, sender_at}, Events.{member_of, step_of}}
-use Rattle.dr_machine.specs.{Group.{Group, IsGroup, roster}, Guards.{CanFinish, CanJoin}, Run.IsReachedWhere}
+use Rattle.dr_machine.specs.{Group.{Group, IsGroup}, Guards.{CanFinish, CanJoin}, Run.IsReachedWhere}
 use Rattle.dr_machine.specs.{World.{World, item_at_place}, Writes.at, declared.step.Step.Step}
-use Rattle.dr_machine.proofs.{Events.{letters_after, progress_after, standing_after}, Runs.by_way}
-use Rattle.dr_faithful.specs.{Faithful.{AllGoOn, Faithful}, Late.AreBacked, Tells.Views}
-use Rattle.dr_faithful.proofs.Faithfulness.{faithful_begins, faithful_keeps}
-use Rattle.dr_faithful.proofs.{Late.{arrived_keeps, backed_arrived, backed_begins, backed_event}, Writes.at_both}
+use Rattle.dr_machine.proofs.{Events.{letters_after, progress_after, standing_after}, Groups.AreUncommitted}
+use Rattle.dr_machine.proofs.{Runs.by_way, Worlds.one_entry, Writes.at_both}
+use Rattle.dr_faithful.{specs.{Faithful.Faithful, Late.AreBacked}, proofs.Begin.{begun, whole, whole_within}}
+use Rattle.dr_faithful.proofs.Faithfulness.{faithful_keeps, none_go_on}
+use Rattle.dr_faithful.proofs.Late.{arrived_keeps, backed_arrived, backed_begins, backed_event}
 use Rattle.dr_world_laws.specs.Ends.{NobodySuspects}
-
--- nothing is committed, and everybody is in the first view
-pub record AreUncommitted (g : Group) (w : World) : Type 0 where
-  pub none : (m : ℕ) → w.committed m ≡ None
-  pub first : (m : ℕ) → w.past.view m ≡ 0
-  -- each member goes on behind the messages of the start
-  pub start : (m : ℕ) → w.base m ≡ length (messages_from m g.opening.start)
-  -- each place delivered has added one entry at most
-  pub short : (m : ℕ) → length (w.past.history m) ≤ length (first_entries g.opening) + w.next m
-  -- and no late member has a letter
-  pub unsent : (m : ℕ) → w.letter m ≡ None
-
-one_entry : (history : List Entry) (s : ℕ) (item : Item) → length (entries_of history s item) ≤ 1
-one_entry history s Null = omega arith
-one_entry history s (Text bytes) = omega arith
-
--- the members of the one view that there is so far
-abbrev pub whole : Group → Views
-whole g v = g.opening.members
 
 step_keeps : (g : Group) (w : World) (m : ℕ) (s : Step) → CanTake g w m s → NobodySuspects w
     → Faithful g (whole g) w → AreUncommitted g w → AreUncommitted g (effect_of g w m s)
@@ -85,17 +67,6 @@ step_keeps g w m s can calm f u = record {
           stays = (u.start, u.short);
         })
 
-whole_within : (g : Group) → IsGroup g → (v m : ℕ) → has (whole g v) m ≡ true → m < roster g
-whole_within g is v m h = is.sound.members.within m h
-
--- nobody may end its view or join
-pub none_go_on : (g : Group) (w : World) → AreUncommitted g w → AllGoOn g (whole g) w
-none_go_on g w u = record {
-  finish = λ m can. absurd (none-some can.value (sym (u.none m) ∙ can.committed));
-  join = λ m can. absurd (none-some can.letter (sym (u.unsent m) ∙ can.given));
-  wish = λ m j there may. record { late = may.0; absent = λ n l. may.0.1 };
-}
-
 -- so nothing is committed in a world that is reached by worlds in which nobody suspects anybody, and the
 -- members are faithful in the one view
 pub trusting : (g : Group) (w : World) → IsGroup g → IsReachedWhere g NobodySuspects w
@@ -111,7 +82,7 @@ trusting g w is r = let y = by_way g NobodySuspects
       backed_arrived g (whole g) us u table f.1 come f.2,
     )) (
       record { none = λ m. refl; first = λ m. refl; start = λ m. refl; short = λ m. omega arith; unsent = λ m. refl },
-      faithful_begins g (whole g) is refl (whole_within g is),
+      begun g (whole g) is refl (whole_within g is),
       backed_begins g (whole g),
     ) r.0 w r.1 r.2 in (y.0, y.1)
 

@@ -1,9 +1,8 @@
 -- The Views of an age that histories hold are those of the views that members have come to, once each.
 use Rattle.std.proofs.Common.{◌∷◌, List, ◌≡◌, ap, drop, length, sym, ℕ, ◌+◌, ◌++◌, ◌<◌, ◌∙◌, slice_get}
 use Rattle.std.proofs.Math.Seq.{drop-append-add}
-use Rattle.dr_entry.specs.declared.entry.Entry.{Entry, TheVariants.View}
-use Rattle.dr_history_laws.proofs.{Lists.slice_get-seam, Standing.history-stands}
-use Rattle.dr_history_laws.proofs.Views.{View-once, ViewsRise-standing}
+use Rattle.dr_entry.{specs.declared.entry.Entry.{Entry, TheVariants.View}, proofs.ListPlaces.slice_get-seam}
+use Rattle.dr_history.proofs.{Standing.history-stands, ViewLemmas.{View-once, ViewsRise-standing}}
 use Rattle.dr_machine.specs.{Group.{Group, IsGroup, roster}, World.World}
 use Rattle.dr_faithful.specs.Chosen.{Values, views_by}
 use Rattle.dr_world_laws.{specs.Views.HasView, proofs.{Agreeing.in-order, Holding.view-held, Reached.Known}}

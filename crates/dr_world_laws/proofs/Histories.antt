@@ -1,24 +1,20 @@
 -- What each event makes of the histories.
-use Rattle.std.proofs.Common.{◌≡◌, ◌≢◌, refl, ap, sym, ◌∙◌, ◌⊎◌, inl, inr, subst, ℕ, ◌+◌, ◌<◌, ◌≤◌, le_refl, arith, List, [], ◌∷◌, ◌++◌, length, take, slice_get, option_to_list, append_assoc, append-nil}
+use Rattle.std.proofs.Common.{◌≡◌, ◌≢◌, ap, sym, ◌∙◌, ◌⊎◌, inl, inr, subst, ℕ, ◌+◌, ◌<◌, ◌≤◌, le_refl, arith, List, [], ◌∷◌, ◌++◌, length, option_to_list, append_assoc}
 use Rattle.std.proofs.lemmas.Bool.{cases_eq}
 use Rattle.dr_entry.specs.declared.{end.SentItem.{SentItem, TheVariants.{Index, Null}}, entry.Entry.Entry}
-use Rattle.dr_history.specs.{History.{IsPrefixOf, GroupView, Sent, last_view, messages_in}, Order.messages_from}
-use Rattle.dr_history.specs.declared.opening.Opening.{Opening}
-use Rattle.dr_history_laws.{specs.Courses.{ViewHasEnded, course, head_of}, proofs.LaidLemmas.laid-next}
+use Rattle.dr_history.specs.{History.{GroupView, Sent, last_view}, Order.messages_from}
+use Rattle.dr_history_laws.specs.Courses.{ViewHasEnded, course, head_of}
 use Rattle.dr_history_laws.specs.Laid.{laid, entry_at, GoesOn, HeldBelow, MayBeNext, SentMore}
-use Rattle.dr_history_laws.proofs.{Courses.{course-head, course-steady, head-steady}, SendingLemmas.GoesOn-send}
-use Rattle.dr_machine.specs.{Acts.{CanTake, Guard, effect, effect_of}, Guards.{CanDeliver, CanFinish, CanJoin}}
-use Rattle.dr_machine.specs.Effects.{delivers, enters, finished_history, finishes, entries_of, joins, sender_at}
-use Rattle.dr_machine.specs.{Events.{member_of, step_of}, Writes.at₂, declared.event.Event.Event}
-use Rattle.dr_machine.specs.{Group.{Group, roster, IsPresent}, World.{World, item_at_place}, declared.step.Step.Step}
+use Rattle.dr_history_laws.proofs.{Courses.{course-head, course-steady, head-steady}, LaidLemmas.laid-next}
+use Rattle.dr_history_laws.proofs.{Merging.goes_still, SendingLemmas.GoesOn-send}
+use Rattle.dr_machine.{specs.Acts.{CanTake, Guard, effect, effect_of}, proofs.Worlds.{committed_is, joined_is, added}}
+use Rattle.dr_machine.specs.{Effects.{delivers, enters, finished_history, finishes, joins}, declared.step.Step.Step}
+use Rattle.dr_machine.specs.{Events.{member_of, step_of}, declared.event.Event.Event}
+use Rattle.dr_machine.specs.{Group.{Group, roster, IsPresent}, Guards.{CanDeliver, CanFinish, CanJoin}, World.World}
+use Rattle.dr_machine.{specs.Writes.at₂, proofs.Writes.{at_both, at_three, at₂_read, at₂_member, at₂_view}}
 use Rattle.dr_machine.proofs.Events.{IsNextItem, Progress, progress, progress_after}
-use Rattle.dr_faithful.{specs.{Chosen.{Values, endings_by, views_by}, Tells.Views}, proofs.Faithfulness.committed_is}
-use Rattle.dr_faithful.proofs.{Finishes.joined_is, Writes.{at_both, at_three, at₂_case, at₂_read}}
+use Rattle.dr_faithful.{specs.{Chosen.{Values, endings_by, views_by}, Tells.Views}, proofs.ChosenViews.sent_more}
 use Rattle.dr_world_laws.specs.Historic.{Historic, head_by, view_numbered}
-
--- what the next place adds
-abbrev pub added : World → ℕ → List Entry
-added w m = entries_of (w.past.history m) (sender_at w m (w.next m)) (item_at_place w m (w.next m))
 
 -- the entry of the next place is what a delivery adds
 abbrev pub AddsEntry : Group → Views → World → ℕ → Type 0
@@ -52,27 +48,6 @@ deliver_keeps g values w m adds h = record {
         ≡ course g.opening w.past.sent (endings_by g.opening values) (w.past.view m) (w.next m + 1)
     here l = rw (laid-next g.opening w.past.sent v (w.next m), adds)
         (ap (λ es. es ++ added w m) (h.history m l) ∙ append_assoc head so_far (added w m))
-
--- one item more is sent
-pub sent_more : (sent : Sent) (m v : ℕ) (name : SentItem) → SentMore sent (at₂ sent m v (sent m v ++ name ∷ []))
-sent_more sent m v name = at₂_case (λ s n xs. IsPrefixOf (sent s n) xs) sent m v
-    (sent m v ++ name ∷ []) (λ s n. ([], append-nil (sent s n))) (name ∷ [], refl)
-
--- what was sent in another view, or by another member
-at₂_member : {A : Type 0} (f : ℕ → ℕ → A) (a b : ℕ) (v : A) (i : ℕ) → i ≢ a → at₂ f a b v i b ≡ f i b
-at₂_member f a b v i d = grind arith
-
-at₂_view : {A : Type 0} (f : ℕ → ℕ → A) (a b : ℕ) (v : A) (i j : ℕ) → j ≢ b → at₂ f a b v i j ≡ f i j
-at₂_view f a b v i j d = grind arith
-
--- what goes on stays so where nobody sends in the view
-goes_still : (o : Opening) (sent now : Sent) (h : List Entry) (v : GroupView)
-    → ((s : ℕ) → now s v.number ≡ sent s v.number) → GoesOn o sent h v → GoesOn o now h v
-goes_still o sent now h v same goes = record {
-  index = λ s k i member at. goes.index s k i member (ap (λ xs. slice_get xs k) (sym (same s)) ∙ at) ∙
-      ap (λ xs. length (messages_from s h) + messages_in (take k xs)) (sym (same s));
-  scripted = λ s k i member at. goes.scripted s k i member (ap (λ xs. slice_get xs k) (sym (same s)) ∙ at);
-}
 
 -- the views before those that members are in have ended
 abbrev pub HaveEnded : Group → Values → World → Type 0

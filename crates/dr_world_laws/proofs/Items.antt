@@ -4,10 +4,10 @@ use Rattle.std.proofs.lemmas.Option.{get_or_from_slice_get, slice_get-get_or}
 use Rattle.dr_entry.specs.declared.{end.SentItem.{SentItem, TheVariants.{Index, Null}}, entry.Entry.Entry}
 use Rattle.dr_entry.specs.declared.entry.Entry.TheVariants.{Msg}
 use Rattle.dr_history.specs.{History.{item_at, messages_of}, Members.{has, members_of}, Order.messages_from}
-use Rattle.dr_history.proofs.Fronts.{front_held}
+use Rattle.dr_history.proofs.{Fronts.front_held, Indices.item_at-of_parts, MemberLemmas.member-has}
+use Rattle.dr_history.proofs.Places.{held_member}
 use Rattle.dr_words.specs.declared.column.TheConstants.{RECEIVED_COLUMN}
-use Rattle.dr_history_laws.{specs.Laid.{HeldBelow, entry_at}, proofs.{Indices.item_at-of_parts, Members.member-has}}
-use Rattle.dr_history_laws.proofs.SendingLemmas.{HeldBelow-front, held_member}
+use Rattle.dr_history_laws.{specs.Laid.{HeldBelow, entry_at}, proofs.SendingLemmas.HeldBelow-front}
 use Rattle.dr_machine.specs.{Effects.{entries_of, sender_at}, Group.Group, World.{World, item_at_place, own_word}}
 use Rattle.dr_faithful.specs.{Faithful.Faithful, Tells.{Views, item_named}}
 use Rattle.dr_world_laws.specs.Historic.{view_numbered}

@@ -1,17 +1,15 @@
 -- A late member that joins comes to the head of its first view, and goes on well; and whom a member may wish for
 -- is in no view so far.
-use Rattle.std.proofs.Common.{List, [], ◌≡◌, ap, ap₂, arith, false, length, refl, subst, sym, true, ℕ, ◌<◌, ◌∙◌}
-use Rattle.std.proofs.lemmas.List.{nil_from_length}
+use Rattle.std.proofs.Common.{List, ◌≡◌, ap, ap₂, arith, false, length, refl, subst, sym, true, ℕ, ◌<◌, ◌∙◌}
 use Rattle.dr_entry.specs.declared.entry.Entry.{Entry}
 use Rattle.dr_history.specs.{History.{IsPrefixOf, last_view, up_to_view}, Members.has, Order.{IsNewIn, MayJoin}}
-use Rattle.dr_history_laws.{specs.Courses.course, proofs.{Courses.course-head, Heads.head_view}}
+use Rattle.dr_history_laws.{specs.Courses.course, proofs.Courses.course-head}
 use Rattle.dr_machine.specs.{Group.{Group, IsGroup, IsPresent, roster}, Guards.CanJoin, World.World}
 use Rattle.dr_machine.proofs.Presence.{in_roster}
-use Rattle.dr_words.specs.Columns.{recv_column}
-use Rattle.dr_faithful.specs.{Chosen.{Values, endings_by, views_by}, Faithful.{Faithful, JoinsWell}, Tells.Views}
-use Rattle.dr_faithful.proofs.Beside.{none_outside}
-use Rattle.dr_world_laws.{specs.Historic.{AreLaid, Historic, head_by}, proofs.Letters.{IsLetter, letter-behind}}
-use Rattle.dr_world_laws.proofs.{ChosenViews.views-first, Finishing.head-few, Holding.{head-later, view-there}}
+use Rattle.dr_faithful.specs.{Chosen.{Values, endings_by, views_by}, Faithful.{Faithful, JoinsWell}}
+use Rattle.dr_faithful.proofs.ChosenViews.{IsLetter, views-first, letter-view}
+use Rattle.dr_world_laws.{specs.Historic.{AreLaid, Historic, head_by}, proofs.Finishing.head-few}
+use Rattle.dr_world_laws.proofs.{Holding.{head-later, view-there}, Letters.letter-behind}
 
 -- ---- a wish
 
@@ -25,16 +23,6 @@ wishes-new g values w m j is h there may = record {
 
 -- ---- a join
 
--- the last View of the letter is that of the view
-pub letter-view : (g : Group) (values : Values) (w : World) (j : ℕ) (l : List Entry)
-    → (t : IsLetter g values w.past j l) → last_view (0, 0) l ≡ (t.view, views_by g values t.view)
-letter-view g values w j l t = ap (last_view (0, 0)) t.is
-    ∙ head_view g.opening w.past.sent (endings_by g.opening values) t.view (0, 0)
-
-pub letter-number : (g : Group) (values : Values) (w : World) (j : ℕ) (l : List Entry)
-    → (t : IsLetter g values w.past j l) → (last_view (0, 0) l).0 ≡ t.view
-letter-number g values w j l t = ap (λ x. x.0) (letter-view g values w j l t)
-
 -- whoever is none of its view has the history of the opening
 pub outside-history : (g : Group) (values : Values) (w : World) (m : ℕ) → Faithful g (views_by g values) w
     → AreLaid g values w → m < roster g → has (w.members m) m ≡ false → w.past.history m ≡ head_by g values w 0
@@ -43,17 +31,6 @@ outside-history g values w m f laid l outside =
     laid.historic.history m l ∙ ap₂ (course g.opening w.past.sent (endings_by g.opening values))
     (f.views.outside m out) (f.delivered.none m out)
     ∙ course-head g.opening w.past.sent (endings_by g.opening values) 0
-
--- and it has put nothing
-pub outside-sent : (g : Group) (V : Views) (w : World) (m : ℕ) → Faithful g V w → m < roster g
-    → has (w.members m) m ≡ false → w.past.sent m (w.past.view m) ≡ []
-outside-sent g V w m f l outside = nil_from_length (w.past.sent m (w.past.view m)) (omega (
-  arith,
-  f.sent.all m (w.past.view m),
-  f.counts.recv m (w.past.view m) m l,
-  none_outside g V w m (w.past.view m) (recv_column m) f (ap (λ k. has k m) (sym (f.views.own m)) ∙ outside)
-      (omega arith),
-))
 
 -- the letter goes on from what its member has, which is none of its view yet
 pub letter-begins : (g : Group) (values : Values) (w : World) (m : ℕ) (letter : List Entry) → IsGroup g

@@ -1,34 +1,19 @@
 -- The letters of late members: each is the head of the first view that its member is in.
-use Rattle.std.proofs.Common.{List, [], ◌∷◌, ◌++◌, None, Option, Some, append-nil, length, length-append, refl, ◌||◌, ◌==◌, ◌≢◌, ◌≡◌, ◌⊎◌, Contains, ap, arith, false, inl, inr, subst, sym, true, ℕ, ◌+◌, ◌<◌, ◌∙◌, ◌≤◌}
-use Rattle.std.proofs.lemmas.{Bool.{cases_eq, cases_lt, Decides.nat_tests}, Option.{same_Some, slice_get-get_or}}
+use Rattle.std.proofs.Common.{List, [], ◌∷◌, ◌++◌, None, Option, Some, append-nil, length, length-append, refl, ◌≡◌, ◌⊎◌, Contains, ap, arith, false, inl, inr, subst, sym, true, ℕ, ◌+◌, ◌<◌, ◌∙◌, ◌≤◌}
+use Rattle.std.proofs.lemmas.{Bool.cases_lt, Option.{same_Some, slice_get-get_or}}
 use Rattle.dr_entry.specs.declared.entry.Entry.{Entry}
 use Rattle.dr_history.specs.{History.{IsPrefixOf, last_view, up_to_view}, Members.{has, members_of}, Order.IsNewIn}
-use Rattle.dr_history.proofs.Bits.{has_zero}
-use Rattle.dr_history_laws.{specs.Courses.{ViewHasEnded, head_of}, proofs.Courses.{course-head, head-steady}}
-use Rattle.dr_history_laws.proofs.{Heads.{course_up_to, head_view}, Members.member-has}
+use Rattle.dr_history.proofs.{Letters.IsKept, MemberLemmas.member-has}
+use Rattle.dr_history_laws.{specs.Courses.ViewHasEnded, proofs.Courses.{course-head, head-steady}}
+use Rattle.dr_history_laws.proofs.Heads.{course_up_to, head_view}
 use Rattle.dr_machine.specs.{Acts.{CanTake, effect_of}, Effects.welcomes, Group.{Group, IsGroup, roster}}
-use Rattle.dr_machine.specs.{Guards.CanWelcome, Run.PastGrew, World.{Past, World}, Writes.at, declared.step.Step.Step}
-use Rattle.dr_machine.proofs.{Events.{Letters, given_after, letters}, Presence.in_roster}
-use Rattle.dr_words.{specs.Masks.with_member, proofs.Masks.has_mask_of}
+use Rattle.dr_machine.specs.{Guards.CanWelcome, Run.PastGrew, World.World, Writes.at, declared.step.Step.Step}
+use Rattle.dr_machine.proofs.{Events.{given_after, letters}, Letters.{kept-more, given-more}, Presence.in_roster}
+use Rattle.dr_machine.proofs.{Worlds.joined_is, Writes.{at_case, at_same}}
+use Rattle.dr_words.{specs.Masks.with_member, proofs.Masks.has-new}
 use Rattle.dr_faithful.specs.{Chosen.{Values, endings_by, views_by}, Faithful.{AllGoOn, Faithful}}
-use Rattle.dr_faithful.proofs.{Finishes.joined_is, Writes.{at_case, at_other, at_same}}
-use Rattle.dr_world_laws.{specs.Historic.{AreLaid, head_by}, proofs.{ChosenViews.ending-next, Holding.head-later}}
-
--- the letter for member j is the head of a view that somebody has come to, the first one that j is in
-pub record IsLetter (g : Group) (values : Values) (past : Past) (j : ℕ) (letter : List Entry) : Type 0 where
-  pub view : ℕ
-  pub giver : ℕ
-  pub within : giver < roster g
-  pub come : view ≤ past.view giver
-  pub is : letter ≡ head_of g.opening past.sent (endings_by g.opening values) view
-  pub member : has (views_by g values view) j ≡ true
-  pub new : (u : ℕ) → u < view → has (views_by g values u) j ≡ false
-  -- and the least of those that stayed gave it
-  pub from : ℕ
-  pub next : view ≡ from + 1
-  pub was : has (views_by g values from) giver ≡ true
-  pub stays : has (views_by g values view) giver ≡ true
-  pub least : (i : ℕ) → has (views_by g values from) i ≡ true → has (views_by g values view) i ≡ true → giver ≤ i
+use Rattle.dr_faithful.proofs.ChosenViews.{ending-next, IsLetter, AreGiven, goes}
+use Rattle.dr_world_laws.{specs.Historic.{AreLaid, head_by}, proofs.Holding.head-later}
 
 -- its View stands behind all that every history begins with
 pub letter-behind : (g : Group) (values : Values) (w : World) (j : ℕ) (letter : List Entry)
@@ -52,10 +37,6 @@ letter-behind g values w j letter t = rw whole (by begins.0 begins.1)
     by : (rest : List Entry) → head_by g values w 0 ++ rest ≡ letter → length (head_by g values w 0) < length letter
     by [] same = absurd (omega (arith, t.next, number (sym (append-nil (head_by g values w 0)) ∙ same)))
     by (e ∷ rest) more = omega (arith, ap length more, length-append (head_by g values w 0) (e ∷ rest))
-
--- so are these letters
-abbrev pub AreHeads : Group → Values → Past → (ℕ → Option (List Entry)) → Type 0
-AreHeads g values past letter = (j : ℕ) (l : List Entry) → letter j ≡ Some l → IsLetter g values past j l
 
 -- a letter stays so
 letter-on : (g : Group) (values : Values) (w after : World) (j : ℕ) (l : List Entry) → AreLaid g values w
@@ -132,72 +113,6 @@ given-letter g values w m j is f laid can = record {
 
 -- ---- who has given it
 
--- a member that has given one keeps that in its view
-abbrev IsKept : (ℕ → ℕ) → (ℕ → ℕ) → ℕ → ℕ → ℕ → Type 0
-IsKept view given giver v j = (has (given giver) j ≡ true) ⊎ (v < view giver)
-
--- each letter is the head of such a view, and its giver keeps that it has given it; and who has given one has
--- not lost it
-pub record AreGiven (g : Group) (values : Values) (past : Past) (p : Letters) : Type 0 where
-  pub letters : (j : ℕ) (l : List Entry) → p.letter j ≡ Some l
-      → (t : IsLetter g values past j l) × IsKept p.view p.given t.giver t.view j
-  pub given : (m j : ℕ) → has (p.given m) j ≡ true → (l : List Entry) × (p.letter j ≡ Some l)
-
-pub are-heads : (g : Group) (values : Values) (past : Past) (p : Letters) → AreGiven g values past p
-    → AreHeads g values past p.letter
-are-heads g values past p y j l e = (y.letters j l e).0
-
--- who goes on in a later view
-kept-on : (view given : ℕ → ℕ) (m to giver v j : ℕ) → view m < to → v ≤ view giver → IsKept view given giver v j
-    → IsKept (at view m to) (at given m 0) giver v j
-kept-on view given m to giver v j later come kept = elim (cases_eq giver m) [
-  | inl same ↦ inr (grind (arith, same, later, come))
-  | inr d ↦ elim kept [
-    | inl t ↦ inl (ap (λ x. has x j) (at_other given m 0 giver d) ∙ t)
-    | inr less ↦ inr (grind (arith, d, less))
-  ]
-]
-
-given-on : (given : ℕ → ℕ) (letter : ℕ → Option (List Entry)) (m : ℕ)
-    → ((k j : ℕ) → has (given k) j ≡ true → (l : List Entry) × (letter j ≡ Some l))
-    → (k j : ℕ) → has (at given m 0 k) j ≡ true → (l : List Entry) × (letter j ≡ Some l)
-given-on given letter m old k j t = elim (cases_eq k m) [
-  | inl same ↦ absurd (cc (has_zero j, ap (λ x. has x j) (sym (ap (at given m 0) same ∙ at_same given m 0)) ∙ t))
-  | inr d ↦ old k j (ap (λ x. has x j) (sym (at_other given m 0 k d)) ∙ t)
-]
-
--- a mask with one member more
-has-more : (mask n i : ℕ) → i < 16 → has mask i ≡ true → has (with_member mask n) i ≡ true
-has-more mask n i small there = has_mask_of (λ i. i == n || has mask i) i ∙ grind (arith, nat_tests, small, there)
-
-has-new : (mask n : ℕ) → n < 16 → has (with_member mask n) n ≡ true
-has-new mask n small = has_mask_of (λ i. i == n || has mask i) n ∙ grind (arith, nat_tests, small)
-
-has-old : (mask n i : ℕ) → i ≢ n → has (with_member mask n) i ≡ true → has mask i ≡ true
-has-old mask n i d t = grind (arith, nat_tests, d, sym (has_mask_of (λ i. i == n || has mask i) i) ∙ t)
-
-kept-more : (view given : ℕ → ℕ) (m n giver v j : ℕ) → j < 16 → IsKept view given giver v j
-    → IsKept view (at given m (with_member (given m) n)) giver v j
-kept-more view given m n giver v j small (inr less) = inr less
-kept-more view given m n giver v j small (inl t) = inl (elim (cases_eq giver m) [
-  | inl same ↦ ap (λ x. has x j) (ap (at given m (with_member (given m) n)) same ∙ at_same given m
-      (with_member (given m) n)) ∙ has-more (given m) n j small (ap (λ x. has x j) (sym (ap given same)) ∙ t)
-  | inr d ↦ ap (λ x. has x j) (at_other given m (with_member (given m) n) giver d) ∙ t
-])
-
-given-more : (given : ℕ → ℕ) (letter : ℕ → Option (List Entry)) (m n : ℕ) (x : List Entry)
-    → ((k j : ℕ) → has (given k) j ≡ true → (l : List Entry) × (letter j ≡ Some l)) → (k j : ℕ)
-    → has (at given m (with_member (given m) n) k) j ≡ true → (l : List Entry) × (at letter n (Some x) j ≡ Some l)
-given-more given letter m n x old k j t = elim (cases_eq j n) [
-  | inl same ↦ (x, ap (at letter n (Some x)) same ∙ at_same letter n (Some x))
-  | inr d ↦ let y = old k j (before d (cases_eq k m)) in (y.0, at_other letter n (Some x) j d ∙ y.1)
-]
-  where
-    before : j ≢ n → (k ≡ m) ⊎ (k ≢ m) → has (given k) j ≡ true
-    before d (inl same) = ap (λ i. has (given i) j) same ∙ has-old (given m) n j d (ap (λ x. has x j)
-        (sym (ap (at given m (with_member (given m) n)) same ∙ at_same given m (with_member (given m) n))) ∙ t)
-    before d (inr e) = ap (λ x. has x j) (sym (at_other given m (with_member (given m) n) k e)) ∙ t
-
 -- so it stays
 gives : (g : Group) (values : Values) (w : World) (m i : ℕ) → IsGroup g → Faithful g (views_by g values) w
     → AreLaid g values w → CanWelcome g w m i → AreGiven g values w.past (letters w)
@@ -224,15 +139,6 @@ gives g values w m i is f laid can old = record {
 
     small : (v k : ℕ) → has (views_by g values v) k ≡ true → k < 16
     small v k there = omega (arith, f.views.within v k there, is.most_members)
-
-goes : (g : Group) (values : Values) (w : World) (m to : ℕ) → w.past.view m < to
-    → AreGiven g values w.past (letters w)
-    → AreGiven g values w.past (record { view = at w.past.view m to; given = at w.given m 0; letter = w.letter })
-goes g values w m to later old = record {
-  letters = λ j l e. let t = old.letters j l e in
-      (t.0, kept-on w.past.view w.given m to t.0.giver t.0.view j later t.0.come t.1);
-  given = given-on w.given w.letter m old.given;
-}
 
 -- and the letters are such after each step
 pub letters-stay : (g : Group) (values : Values) (w : World) (m : ℕ) (s : Step) → IsGroup g

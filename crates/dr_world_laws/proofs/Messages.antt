@@ -1,36 +1,16 @@
 -- The entries of a history: Views and messages of the script behind the first entries, and each of them a
 -- valid record.
-use Rattle.std.proofs.Common.{◌≡◌, refl, ap, sym, ◌∙◌, subst, ℕ, zero, suc, ◌+◌, ◌<◌, arith, inl, inr, List, [], ◌∷◌, ◌++◌, append-nil, append_assoc, length, map, take, get_or, All, Option, None, Some, slice_get, option_to_list, option_map, option_and_then}
-use Rattle.std.proofs.lemmas.{Bool.cases_lt, List.{get_or_past, Elements.{All-nil, All-cons, All-append}}}
-use Rattle.std.proofs.lemmas.Option.{none-some, same_Some, slice_get-get_or, slice_get_within}
-use Rattle.dr_entry.specs.{Spelling.IsValidEntry, declared.end.SentItem.{SentItem, TheVariants.{Index, Null}}}
-use Rattle.dr_entry.specs.declared.entry.Entry.{Entry, TheVariants.{View, Msg}}
-use Rattle.dr_history.specs.{History.{GroupView, Sent, entry_of, item_at, merge, messages_of}, Order.first_entries}
-use Rattle.dr_history.specs.Soundness.{MayStand}
-use Rattle.dr_history_laws.specs.Courses.{ViewEnds, ViewHasEnded, counts_taken, head_of, view_in}
-use Rattle.dr_history_laws.{specs.Laid.{laid, entry_at}, proofs.Cutting.{cut, cut_merge}}
-use Rattle.dr_history_laws.proofs.{LaidLemmas.{laid-next, laid-none}, Merging.top_place}
-use Rattle.dr_faithful.specs.Chosen.{Values, endings_by}
-use Rattle.dr_machine.specs.{Group.{Group, IsGroup, roster}, World.World}
+use Rattle.std.proofs.Common.{refl, ap, sym, ◌∙◌, subst, ℕ, zero, suc, ◌+◌, ◌<◌, arith, List, [], ◌∷◌, ◌++◌, append-nil, append_assoc, take, get_or, All}
+use Rattle.std.proofs.lemmas.{List.Elements.{All-nil, All-cons, All-append}, Option.slice_get-get_or}
+use Rattle.dr_entry.specs.{Spelling.IsValidEntry, declared.entry.Entry.{Entry, TheVariants.{View, Msg}}}
+use Rattle.dr_history.specs.{History.{Sent, merge}, Order.first_entries, Soundness.MayStand}
+use Rattle.dr_history_laws.specs.{Courses.{ViewEnds, ViewHasEnded, counts_taken, head_of, view_in}, Laid.laid}
+use Rattle.dr_faithful.{specs.Chosen.{Values, endings_by}, proofs.ChosenViews.{merged_of_script, laid_of_script}}
+use Rattle.dr_machine.{specs.{Group.{Group, IsGroup, roster}, World.World}, proofs.Groups.IsOfScript}
+use Rattle.dr_machine.proofs.Messages.{of_roster}
 use Rattle.dr_world_laws.{specs.Historic.{HoldsMessages, IsOfAge}, proofs.Reached.Known}
 
 -- ---- messages of the script
-
--- who has a message is of the roster
-of_roster : (g : Group) (s i : ℕ) (b : List ℕ) → slice_get (messages_of g.opening s) i ≡ Some b → s < roster g
-of_roster g s i b e = elim (cases_lt s (roster g)) [
-  | inl within ↦ within
-  | inr past ↦ absurd (omega (
-    arith,
-    slice_get_within (messages_of g.opening s) i b e,
-    ap length (get_or_past g.opening.messages s [] past),
-  ))
-]
-
--- an entry is one of the messages that the script gives to its sender, a member of the roster
-abbrev pub IsOfScript : Group → Entry → Type 0
-IsOfScript g (View age number members) = ⊥
-IsOfScript g (Msg s i b) = (s < roster g) × (slice_get (messages_of g.opening s) i ≡ Some b)
 
 of_age : (g : Group) (e : Entry) → IsOfScript g e → IsOfAge g e
 of_age g (View age number members) of = absurd of
@@ -38,42 +18,6 @@ of_age g (Msg s i b) of = of
 
 all_of_age : (g : Group) (es : List Entry) → All (IsOfScript g) es → All (IsOfAge g) es
 all_of_age g es all = λ k d l. of_age g (get_or es k d) (all k d l)
-
--- the entry of a sent item is a message of the script
-item_of_script : (g : Group) (s : ℕ) (item : SentItem) (e : Entry) → entry_of g.opening s item ≡ Some e
-    → IsOfScript g e
-item_of_script g s Null e is = absurd (none-some e is)
-item_of_script g s (Index i) e is = by (slice_get (messages_of g.opening s) i) refl is
-  where
-    by : (r : Option (List ℕ)) → slice_get (messages_of g.opening s) i ≡ r
-        → option_map (λ b. Msg s i b) r ≡ Some e → IsOfScript g e
-    by None at is = absurd (none-some e is)
-    by (Some b) at is = subst (IsOfScript g) (same_Some (Msg s i b) e is) (of_roster g s i b at, at)
-
--- so is what a place adds
-place_of_script : (g : Group) (place : Option (ℕ × SentItem))
-    → All (IsOfScript g) (option_to_list (option_and_then (λ t. entry_of g.opening t.0 t.1) place))
-place_of_script g None = All-nil (IsOfScript g)
-place_of_script g (Some (s, item)) = by (entry_of g.opening s item) refl
-  where
-    by : (r : Option Entry) → entry_of g.opening s item ≡ r → All (IsOfScript g) (option_to_list r)
-    by None is = All-nil (IsOfScript g)
-    by (Some e) is = All-cons (IsOfScript g) e [] (item_of_script g s item e is) (All-nil (IsOfScript g))
-
--- and each entry that is laid
-pub laid_of_script : (g : Group) (sent : Sent) (v : GroupView) (p : ℕ) → All (IsOfScript g) (laid g.opening sent v p)
-laid_of_script g sent v zero = subst (All (IsOfScript g)) (sym (laid-none g.opening sent v)) (All-nil (IsOfScript g))
-laid_of_script g sent v (suc p) =
-    let next : suc p ≡ p + 1 = omega arith in
-    subst (All (IsOfScript g)) (sym (ap (laid g.opening sent v) next ∙ laid-next g.opening sent v p))
-    (All-append (IsOfScript g) (laid g.opening sent v p) (option_to_list (entry_at g.opening sent v p))
-    (laid_of_script g sent v p) (place_of_script g (item_at sent v p)))
-
--- and each of a merge
-pub merged_of_script : (g : Group) (sent : Sent) (v : GroupView) (taken : ℕ → ℕ)
-    → All (IsOfScript g) (merge g.opening sent v (map taken v.members))
-merged_of_script g sent v taken = subst (All (IsOfScript g)) (sym (cut_merge g.opening sent v taken))
-    (laid_of_script g (cut sent v taken) v (top_place (map taken v.members)))
 
 -- the head of a view holds Views and messages behind the first entries
 head_holds : (g : Group) (sent : Sent) (endings : ViewEnds) (v : ℕ) → IsGroup g

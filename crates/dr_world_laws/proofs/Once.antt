@@ -1,17 +1,10 @@
 -- The members of each view that somebody has come to are the same by all values by which worlds are reached.
-use Rattle.std.proofs.Common.{arith, subst, suc, sym, zero, ap, ℕ, ◌+◌, ◌<◌, ◌∙◌, ◌≡◌, ◌≤◌}
+use Rattle.std.proofs.Common.{arith, suc, sym, zero, ap, ℕ, ◌+◌, ◌<◌, ◌∙◌, ◌≡◌, ◌≤◌}
 use Rattle.dr_entry.specs.declared.record.Value.{Value}
-use Rattle.dr_machine.specs.{Group.Group, Run.PastGrew, Votes.{IsOf, MajorityHas}, World.World}
-use Rattle.dr_faithful.specs.Chosen.{Values, come_of, views_by}
-use Rattle.dr_vote_laws.{specs.Voting.IsChosen, proofs.Values.{chosen_once, chosen_since}}
-use Rattle.dr_world_laws.proofs.{ChosenViews.{views-first, views-next}, Reached.Known}
-
--- what a majority of a view has voted for early is so by its members as they are known later
-pub voted-since : (g : Group) (one other : Values) (early late : World) (v b : ℕ) (x : Value)
-    → PastGrew early.past late.past → views_by g one v ≡ views_by g other v
-    → IsChosen (views_by g one) early.past.votes v b x → IsChosen (views_by g other) late.past.votes v b x
-voted-since g one other early late v b x grew same voted = subst (λ mask. MajorityHas late.past.votes mask
-    (λ z. IsOf z v b × (z.value ≡ x))) same (chosen_since (views_by g one) early late v b x grew voted)
+use Rattle.dr_machine.specs.{Group.Group, Run.PastGrew, World.World}
+use Rattle.dr_faithful.{specs.Chosen.{Values, come_of, views_by}, proofs.ChosenViews.{views-first, views-next}}
+use Rattle.dr_vote_laws.proofs.Values.{chosen_once, voted-since}
+use Rattle.dr_world_laws.proofs.Reached.{Known}
 
 -- so its value is the same
 value-from : (g : Group) (one other : Values) (early late : World) (m k v : ℕ) → Known g one early

@@ -1,33 +1,32 @@
 -- What holds of the histories of every world that is reached.
-use Rattle.std.proofs.Common.{All, List, ◌∷◌, ◌≡◌, ◌≢◌, ◌⊎◌, inl, inr, refl, ap, ap₂, sym, ◌∙◌, subst, ℕ, ◌+◌, ◌/◌, ◌%◌, ◌<◌, arith, true, Some, [], length, slice_get, take, unwrap_or}
-use Rattle.std.proofs.lemmas.{Bool.cases_eq, List.{take_all, Elements.All-head}, Option.none-some}
+use Rattle.std.proofs.Common.{All, List, ◌∷◌, ◌≡◌, ◌≢◌, ◌⊎◌, inl, inr, refl, ap, ap₂, sym, ◌∙◌, subst, ℕ, ◌/◌, ◌%◌, ◌<◌, arith, true, Some, [], length, slice_get, take}
+use Rattle.std.proofs.lemmas.{List.{take_all, Elements.All-head}, Option.none-some}
 use Rattle.dr_entry.specs.{declared.end.SentItem.{SentItem, TheVariants.{Index, Null}}, declared.record.Value.Value}
-use Rattle.dr_history.specs.{History.{GroupView, item_at, last_view, messages_of}, Members.has, Order.messages_from}
-use Rattle.dr_history.proofs.{Bits.has_zero, NumberedLemmas.messages_from-View}
+use Rattle.dr_entry.proofs.ListPlaces.{Contains-slice_get}
+use Rattle.dr_history.specs.{History.{GroupView, item_at, messages_of}, Members.has, Order.messages_from}
+use Rattle.dr_history.proofs.{Bits.has_zero, Indices.item_at-parts, NumberedLemmas.messages_from-View}
 use Rattle.dr_words.specs.declared.column.TheConstants.{RECEIVED_COLUMN, DONE_COLUMN}
-use Rattle.dr_history_laws.{specs.Laid.GoesOn, proofs.Counting.index-next}
-use Rattle.dr_history_laws.proofs.{Courses.{course-head, head-ends, head-first}, Indices.item_at-parts}
-use Rattle.dr_history_laws.proofs.{Lists.Contains-slice_get, Members.view-distinct, SendingLemmas.GoesOn-none}
-use Rattle.dr_machine.specs.{Acts.{CanTake, Guard, effect, effect_of}, World.{Table, World, opening_world, own_word}}
-use Rattle.dr_machine.specs.{Effects.{entries_of, joins}, Events.{member_of, step_of}, declared.event.Event.Event}
-use Rattle.dr_machine.{specs.Group.{Group, IsGroup, roster}, proofs.{Events.{letters, standing_after}, Runs.by_way}}
-use Rattle.dr_machine.specs.{Guards.{CanDeliver, CanFinish, CanJoin}, Run.{HaveArrived, Way, with_table}, Writes.at}
-use Rattle.dr_machine.{specs.declared.step.Step.Step, proofs.Presence.in_roster}
+use Rattle.dr_history_laws.{specs.Laid.GoesOn, proofs.{Counting.index-next, Ordered.view-distinct}}
+use Rattle.dr_history_laws.proofs.{Courses.{course-head, head-ends, head-first}, SendingLemmas.GoesOn-none}
+use Rattle.dr_machine.specs.{Acts.{Guard, effect}, Effects.{entries_of, joins}, Events.{member_of, step_of}}
+use Rattle.dr_machine.specs.{Group.{Group, IsGroup, roster}, Guards.{CanDeliver, CanFinish}}
+use Rattle.dr_machine.specs.{Run.{HaveArrived, Way, with_table}, World.{Table, World, opening_world, own_word}}
+use Rattle.dr_machine.{specs.{Writes.at, declared.event.Event.Event}, proofs.{Events.letters, Groups.HasLeft}}
+use Rattle.dr_machine.proofs.{Presence.in_roster, Runs.by_way, Worlds.{Complete, shows_own, added, opening-complete}}
 use Rattle.dr_faithful.specs.{Chosen.{AreChosen, Values, endings_by, views_by}, Faithful.{AllGoOn, Faithful}}
-use Rattle.dr_faithful.specs.{Late.AreBacked, Tells.{Views, item_named}}
-use Rattle.dr_faithful.proofs.Faithfulness.{faithful_begins, faithful_keeps, past_on_event, words_on}
-use Rattle.dr_faithful.proofs.Late.{arrived_keeps, backed_arrived, backed_begins, backed_event}
-use Rattle.dr_vote_laws.{specs.{Late.VotesBacked, Voting.Voting}, proofs.Late.{arrived_votes, votes_backed, votes_on}}
-use Rattle.dr_vote_laws.proofs.{Opening.begun as voting_begins, Steps.voting_keeps}
+use Rattle.dr_faithful.{specs.{Late.AreBacked, Tells.{Views, item_named}}, proofs.Ending.{Finishes, finishes, IsSafe}}
+use Rattle.dr_faithful.proofs.{Begin.begun, Late.{arrived_keeps, backed_arrived, backed_begins, backed_event}}
+use Rattle.dr_faithful.proofs.ChosenViews.{views-first, views-within, AreGiven, are-heads, left_or_ended}
+use Rattle.dr_faithful.proofs.{Completion.event_completes, Faithfulness.{faithful_keeps, past_on_event, words_on}}
+use Rattle.dr_faithful.proofs.Suspicions.{wedged_stay}
+use Rattle.dr_vote_laws.specs.{Late.VotesBacked, Voting.Voting}
+use Rattle.dr_vote_laws.proofs.{Ballots.{ballots-stay, voted-for, AreVotedFor}, Opening.begun as voting_begins}
+use Rattle.dr_vote_laws.proofs.{Cuts.safe-value, Late.{arrived_votes, votes_backed, votes_on}, Steps.voting_keeps}
 use Rattle.dr_world_laws.specs.Historic.{AreLaid, HasEndedSafely, head_by, view_numbered}
-use Rattle.dr_world_laws.proofs.{Ballots.{HasLeft, ballots-stay, voted-for}, Safety.{IsSafe, safe-value, wedged_stay}}
-use Rattle.dr_world_laws.proofs.{ByValues.AreVotedFor, Joining.{joins-head, joins-well, letter-number, wishes-new}}
-use Rattle.dr_world_laws.proofs.ChosenViews.{left-steady, views-first, views-within}
-use Rattle.dr_world_laws.proofs.Completion.{Complete, shows_own, event_completes}
-use Rattle.dr_world_laws.proofs.Finishing.{Finishes, finished-head, finishes, goes-any, goes-on_well, leaves}
-use Rattle.dr_world_laws.proofs.Histories.{AddsEntry, AreReady, added, event_keeps}
+use Rattle.dr_world_laws.proofs.{ChosenViews.left-steady, Finishing.{finished-head, goes-any, goes-on_well, leaves}}
+use Rattle.dr_world_laws.proofs.Histories.{AddsEntry, AreReady, event_keeps}
 use Rattle.dr_world_laws.proofs.Items.{IsReceived, entries-next, held-next, item-received}
-use Rattle.dr_world_laws.proofs.Letters.{AreGiven, AreHeads, are-heads, letters-stay}
+use Rattle.dr_world_laws.proofs.{Joining.{joins-head, joins-well, wishes-new}, Letters.letters-stay}
 
 -- what is known of a world that is reached by chosen values
 pub record Known (g : Group) (values : Values) (w : World) : Type 0 where
@@ -128,57 +127,6 @@ done-delivers_none g values w m is y can l e =
 
 -- ---- the views that are left
 
--- a view that is left after a step was left before it, or is the one that the step ends
-left_or_ended : (g : Group) (values : Values) (w : World) (m : ℕ) (s : Step) (k v : ℕ)
-    → AreHeads g values w.past w.letter → CanTake g w m s
-    → v < (effect_of g w m s).past.view k → HasLeft g w v k ⊎ (CanFinish g w k × (v ≡ w.past.view k))
-left_or_ended g values w m s k v letters can = standing_after g w m s
-    (λ x. v < x.view k → HasLeft g w v k ⊎ (CanFinish g w k × (v ≡ w.past.view k))) can (record {
-      goes_on = λ can l. moved can l (cases_eq k m);
-      joins = λ can l. came can l (cases_eq k m);
-      chooses = λ can l. before l;
-      wedges = λ j can l. before l;
-      stops = λ end alive why l. before l;
-      stays = λ l. before l;
-    })
-  where
-    before : v < w.past.view k → HasLeft g w v k ⊎ (CanFinish g w k × (v ≡ w.past.view k))
-    before l = inl (inl l)
-
-    here : (view : ℕ → ℕ) (m v : ℕ) → v < at view m (view m + 1) m → (v < view m) ⊎ (v ≡ view m)
-    here view m v l = grind (arith, l)
-
-    other : (view : ℕ → ℕ) (m k v : ℕ) → k ≢ m → v < at view m (view m + 1) k → v < view k
-    other view m k v d l = grind (arith, d, l)
-
-    ended : CanFinish g w m → (v < w.past.view m) ⊎ (v ≡ w.past.view m)
-        → HasLeft g w v m ⊎ (CanFinish g w m × (v ≡ w.past.view m))
-    ended can (inl less) = inl (inl less)
-    ended can (inr same) = inr (can, same)
-
-    moved : CanFinish g w m → v < at w.past.view m (w.past.view m + 1) k → (k ≡ m) ⊎ (k ≢ m)
-        → HasLeft g w v k ⊎ (CanFinish g w k × (v ≡ w.past.view k))
-    moved can l (inl same) = subst (λ i. HasLeft g w v i ⊎ (CanFinish g w i × (v ≡ w.past.view i))) (sym same)
-        (ended can (here w.past.view m v (subst (λ i. v < at w.past.view m (w.past.view m + 1) i) same l)))
-    moved can l (inr d) = before (other w.past.view m k v d l)
-
-    -- whoever joins comes into a view that the giver of its letter has come to
-    elsewhere : (view : ℕ → ℕ) (m k v to : ℕ) → k ≢ m → v < at view m to k → v < view k
-    elsewhere view m k v to d l = grind (arith, d, l)
-
-    there : (view : ℕ → ℕ) (m v to : ℕ) → v < at view m to m → v < to
-    there view m v to l = grind (arith, l)
-
-    came : CanJoin g w m → v < (joins w m).past.view k → (k ≡ m) ⊎ (k ≢ m)
-        → HasLeft g w v k ⊎ (CanFinish g w k × (v ≡ w.past.view k))
-    came can l (inl same) =
-        let t = letters m can.letter can.given in
-        let to : ℕ = (last_view (0, 0) can.letter).0 in
-        let less : v < to = there w.past.view m v to (subst (λ i. v < at w.past.view m to i) same
-        (subst (λ r. v < at w.past.view m (last_view (0, 0) (unwrap_or r [])).0 k) can.given l)) in
-        inl (inr (t.giver, t.within, omega (arith, less, t.come, letter-number g values w m can.letter t)))
-    came can l (inr d) = before (elsewhere w.past.view m k v (last_view (0, 0) (unwrap_or (w.letter m) [])).0 d l)
-
 -- each of them ended well
 all-left : (g : Group) (values : Values) (w : World) (e : Event) → IsGroup g → AreChosen values w → Guard g w e
     → Known g values w → (k v : ℕ) → k < roster g → v < (effect g w e).past.view k → HasEndedSafely g values w v
@@ -207,12 +155,9 @@ opening-laid g values = record {
   left = λ m v l less. absurd (omega (arith, less));
 }
 
-opening-complete : (g : Group) → Complete g (opening_world g)
-opening-complete g = record { durable = λ m l e. refl; shown = λ m e. absurd (cc); inside = λ m e. absurd (cc) }
-
 pub begins : (g : Group) (values : Values) → IsGroup g → Known g values (opening_world g)
 begins g values is = record {
-  faithful = faithful_begins g (views_by g values) is (views-first g values) (λ v m. views-within g values v m is);
+  faithful = begun g (views_by g values) is (views-first g values) (λ v m. views-within g values v m is);
   laid = opening-laid g values;
   complete = opening-complete g;
   voting = voting_begins g (views_by g values);

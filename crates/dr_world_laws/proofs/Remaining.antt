@@ -1,78 +1,22 @@
 -- A member that holds all messages has the start, View 0, and the merge of what the start leaves.
-use Rattle.std.specs.Prelude.{option_and_then}
-use Rattle.std.proofs.Common.{All, List, [], ◌∷◌, None, Option, Some, ap, inl, inr, length, refl, slice_get, subst, suc, sym, arith, take, true, zero, ℕ, ◌++◌, ◌+◌, ◌/◌, ◌%◌, ◌<◌, ◌∙◌, ◌≡◌, ◌≢◌, ◌⊎◌}
-use Rattle.std.proofs.lemmas.{Bool.cases_eq, List.Elements.{All-head, All-tail}, Option.{same_Some, slice_get-get_or}}
-use Rattle.dr_entry.specs.declared.end.SentItem.{SentItem, TheVariants.Index}
-use Rattle.dr_history.specs.History.{GroupView, Sent, entry_of, item_at, messages_in, messages_of}
-use Rattle.dr_history.specs.{Members.{has, members_of}, Order.{first_entries, messages_from}}
-use Rattle.dr_history.{specs.declared.opening.Opening.Opening, proofs.NumberedLemmas.messages_from-View}
-use Rattle.dr_history_laws.specs.{Courses.course, Laid.{GoesOn, HeldBelow, entry_at, first_view, laid}}
-use Rattle.dr_history_laws.{specs.Remaining.{remaining, to_send}, proofs.{Courses.head-first, Indices.item_at-parts}}
-use Rattle.dr_history_laws.proofs.{LaidLemmas.laid-same, Lists.value_of, Members.{member-has, view-distinct}}
-use Rattle.dr_history_laws.proofs.{Merging.laid-whole, Openings.first-ends}
+use Rattle.std.proofs.Common.{All, List, [], ◌∷◌, Some, ap, inl, inr, length, refl, slice_get, subst, sym, true, ℕ, ◌++◌, ◌+◌, ◌%◌, ◌<◌, ◌∙◌, ◌≡◌, ◌⊎◌}
+use Rattle.std.proofs.lemmas.{List.Elements.{All-head, All-tail}, Option.slice_get-get_or}
+use Rattle.dr_entry.{specs.declared.end.SentItem.SentItem, proofs.{NumberFacts.first_or, OptionFacts.value_of}}
+use Rattle.dr_history.specs.{History.{GroupView, Sent, item_at, messages_of}, Members.{has, members_of}}
+use Rattle.dr_history.specs.{Order.{first_entries, messages_from}, declared.opening.Opening.Opening}
+use Rattle.dr_history.proofs.{Indices.item_at-parts, MemberLemmas.member-has, NumberedLemmas.start_messages}
+use Rattle.dr_history_laws.specs.{Courses.course, Laid.{HeldBelow, first_view, laid}, Remaining.{remaining, to_send}}
+use Rattle.dr_history_laws.proofs.{Courses.head-first, LaidLemmas.laid-same, Merging.laid-whole}
+use Rattle.dr_history_laws.proofs.{Ordered.{view-distinct, first-ends}, Wholes.left-goes_on}
 use Rattle.dr_history_laws.specs.Laid as histories
 use Rattle.dr_machine.specs.{Acts.{CanTake, effect_of}, Effects.{puts, stamped}, Events.{member_of, step_of}}
 use Rattle.dr_machine.specs.{Group.{Group, IsGroup, roster}, Guards.{HoldsAll, IsRunning}, Run.Way, Sending.IsPut}
-use Rattle.dr_machine.{specs.{World.{World, opening_world}, Writes.at₂, declared.step.Step.Step}, proofs.Runs.by_way}
-use Rattle.dr_world_laws.{specs.Historic.{head_by, view_numbered}, proofs.{ChosenViews.views-first, Items.held-next}}
+use Rattle.dr_machine.{specs.{World.{World, opening_world}, declared.step.Step.Step}, proofs.Runs.by_way}
+use Rattle.dr_machine.proofs.Writes.{put_later}
+use Rattle.dr_world_laws.{specs.Historic.{head_by, view_numbered}, proofs.Items.held-next}
 use Rattle.dr_world_laws.proofs.Reached.{Known, begins, event-known, known}
-use Rattle.dr_world_laws.proofs.SentItems.{first_messages, left_at, left_within, same_entry}
 use Rattle.dr_faithful.specs.{Chosen.{AreChosen, Values, endings_by, views_by}, Tells.item_named}
-use Rattle.dr_faithful.proofs.Faithfulness.{puts_or_leaves}
-
--- ---- what is left, as though it were sent
-
--- the first entries have the messages of the start
-pub start_messages : (o : Opening) (s : ℕ)
-    → length (messages_from s (first_entries o)) ≡ length (messages_from s o.start)
-start_messages o s = ap length (messages_from-View s o.start o.age 0 o.members)
-
-index_is : (i j : ℕ) → ◌≡◌ {A = SentItem} (Index i) (Index j) → i ≡ j
-index_is i j e = cc
-
--- the messages that the start leaves go on from the first entries
-pub left-goes_on : (o : Opening) (v : GroupView) → GoesOn o (to_send o) (first_entries o) v
-left-goes_on o v = record {
-  index = λ s k i member e. named s k i e ∙ sym (before s k i e);
-  scripted = λ s k i member e. omega (arith, named s k i e, left_within o s v.number k (Index i) e);
-}
-  where
-    named : (s k i : ℕ) → slice_get (to_send o s v.number) k ≡ Some (Index i)
-        → i ≡ length (messages_from s o.start) + k
-    named s k i e = index_is i _ (same_Some (Index i) _
-        (sym e ∙ left_at o s v.number k (left_within o s v.number k (Index i) e)))
-
-    before : (s k i : ℕ) → slice_get (to_send o s v.number) k ≡ Some (Index i) → length (messages_from s
-        (first_entries o)) + messages_in (take k (to_send o s v.number)) ≡ length (messages_from s o.start) + k
-    before s k i e =
-        let within = left_within o s v.number k (Index i) e in
-        let some = first_messages (to_send o s v.number) k (λ j l. (
-          length (messages_from s o.start) + j,
-          left_at o s v.number j (omega (arith, l, within)),
-        )) in
-        omega (arith, some, start_messages o s)
-
--- ---- places
-
--- a place that holds an item adds the entry that stands there among what is left
-same_place : (o : Opening) (sent : Sent) (v : GroupView) (p s : ℕ) (item : SentItem)
-    → IsPut (length (messages_from s o.start)) (length (messages_of o s)) (sent s v.number)
-    → item_at sent v p ≡ Some (s, item) → entry_at o (to_send o) v p ≡ entry_at o sent v p
-same_place o sent v p s item put e = by (slice_get (to_send o s v.number) k) refl ∙ sym (same_entry o s v.number k
-    (sent s v.number) item put parts.1) ∙ sym (ap (option_and_then (λ t. entry_of o t.0 t.1)) e)
-  where
-    k : ℕ
-    k = p / length v.members
-
-    parts : (slice_get v.members (p % length v.members) ≡ Some s)
-        × (slice_get (sent s v.number) (p / length v.members) ≡ Some item)
-    parts = item_at-parts sent v p s item e
-
-    by : (z : Option SentItem) → slice_get (to_send o s v.number) (p / length v.members) ≡ z
-        → entry_at o (to_send o) v p
-        ≡ option_and_then (entry_of o s) (slice_get (to_send o s v.number) (p / length v.members))
-    by None is = rw (parts.0, is) refl
-    by (Some x) is = rw (parts.0, is) refl
+use Rattle.dr_faithful.proofs.{ChosenViews.{views-first, same_place}, Faithfulness.puts_or_leaves}
 
 -- ---- a member that holds all
 
@@ -114,20 +58,6 @@ put_now g values w s y l first = subst (λ b. IsPut b (length (messages_of g.ope
     base = y.laid.historic.based s l ∙ ap (λ n. length (messages_from s (head_by g values w n))) first
         ∙ ap (λ es. length (messages_from s es)) (head-first g.opening w.past.sent (endings_by g.opening values))
         ∙ start_messages g.opening s
-
-first_or : (v : ℕ) → (v ≡ 0) ⊎ (0 < v)
-first_or zero = inl refl
-first_or (suc v) = inr (omega arith)
-
--- who has left it puts nothing more there
-put_later : (sent : Sent) (view : ℕ → ℕ) (m s : ℕ) (items : List SentItem) → 0 < view s
-    → at₂ sent m (view m) items s 0 ≡ sent s 0
-put_later sent view m s items later = by (cases_eq s m)
-  where
-    by : (s ≡ m) ⊎ (s ≢ m) → at₂ sent m (view m) items s 0 ≡ sent s 0
-    by (inl same) =
-        let apart : 0 ≢ view m = λ e. absurd (omega (arith, e, ap view same, later)) in grind (arith, apart)
-    by (inr other) = grind (arith, other)
 
 put_stays : (g : Group) (values : Values) (w : World) (m : ℕ) (step : Step) (s : ℕ) → CanTake g w m step
     → Known g values (effect_of g w m step) → s < roster g → IsPutFirst g w s → IsPutFirst g (effect_of g w m step) s

@@ -1,22 +1,22 @@
 -- What is known of a world, told by the members of views as the histories have them.
-use Rattle.std.proofs.Common.{List, [], ◌∷◌, ◌++◌, Contains, ap, arith, inl, inr, subst, sym, true, Some, ℕ, ◌+◌, ◌<◌, ◌∙◌, ◌≡◌, ◌≤◌, ◌⊎◌, map}
+use Rattle.std.proofs.Common.{List, [], ◌∷◌, ◌++◌, Contains, ap, arith, inl, inr, subst, sym, true, Some, ℕ, ◌+◌, ◌<◌, ◌∙◌, ◌≡◌, ◌≤◌, ◌⊎◌}
 use Rattle.std.proofs.lemmas.Bool.{cases_lt}
 use Rattle.dr_entry.specs.{declared.entry.Entry.{Entry, TheVariants.View}, declared.record.{Value.Value, Vote.Vote}}
-use Rattle.dr_history.specs.{History.IsPrefixOf, Members.{has, members_of}, Places.front_of}
+use Rattle.dr_history.specs.{History.IsPrefixOf, Members.has}
 use Rattle.dr_history_laws.proofs.{Courses.course-head, Heads.{course_views, head-last}}
-use Rattle.dr_words.specs.{Columns.leavers_column, Masks.next_members, Packing.accept_tag, Rewrites.is_accept_of}
-use Rattle.dr_machine.specs.{Group.{Group, IsGroup, roster}, Run.WasOwn}
-use Rattle.dr_machine.specs.{Votes.{HasLogged, HasVoted, IsOf, MajorityHas, vote_in}, World.{Past, World}}
+use Rattle.dr_words.specs.{Masks.next_members, Rewrites.is_accept_of}
+use Rattle.dr_machine.specs.{Group.{Group, IsGroup, roster}, Run.WasOwn, Votes.{HasLogged, IsOf, MajorityHas}}
+use Rattle.dr_machine.specs.World.{World}
 use Rattle.dr_faithful.specs.{Chosen.{endings_by, views_by}, Faithful.Faithful, Tells.{Tells, Views, WordsTell}}
-use Rattle.dr_faithful.proofs.Pasts.{tells_nothing}
-use Rattle.dr_vote_laws.specs.{Moments.{AcceptsOfMoments, HadAccepted}, Voting.{HaveVotedFor, IsCut, Voting}}
-use Rattle.dr_vote_laws.{specs.Tells.{TellsVote, VotesTold}, proofs.{Cuts.vote_cut, Values.{majority_stays, vote_is}}}
+use Rattle.dr_faithful.proofs.{ChosenViews.{views-come, IsLetter}, Faithfulness.unseen}
+use Rattle.dr_faithful.proofs.Pasts.{tells_nothing, tells_by}
+use Rattle.dr_vote_laws.{specs.Moments.{AcceptsOfMoments, HadAccepted}, proofs.Values.{majority_stays, vote_is}}
+use Rattle.dr_vote_laws.specs.{Tells.{TellsVote, VotesTold}, Voting.{HaveVotedFor, IsCut}}
+use Rattle.dr_vote_laws.proofs.{Ballots.{cut-changes, voted-cut as changed-cut, voted_come}, Cuts.vote_cut}
 use Rattle.dr_vote_laws.proofs.Opening as opening
-use Rattle.dr_world_laws.specs.{Historic.head_by, Letters.IsHeadFor, Views.{AreViews, HasView, IsCovered}}
-use Rattle.dr_world_laws.proofs.{Ballots.{cut-changes, voted-cut as changed-cut}, Choosing.{nobody_else, voted_by}}
-use Rattle.dr_world_laws.proofs.{ChosenViews.views-come, HeldViews.view-is}
-use Rattle.dr_world_laws.proofs.{Holding.{head-later, reaches, view-behind, view-held, view-there}, Letters.IsLetter}
-use Rattle.dr_world_laws.proofs.Worlds.{Known, accepts_so, known_late}
+use Rattle.dr_world_laws.{specs.{Historic.head_by, Letters.IsHeadFor}, proofs.Choosing.{nobody_else, voted_by}}
+use Rattle.dr_world_laws.{specs.Views.{AreViews, HasView, IsCovered}, proofs.Worlds.{Known, accepts_so, known_late}}
+use Rattle.dr_world_laws.proofs.{HeldViews.view-is, Holding.{head-later, reaches, view-behind, view-held, view-there}}
 use Rattle.dr_world_laws.proofs.Covering as covering
 use Rattle.dr_world_laws.proofs.Reached as worlds
 
@@ -123,24 +123,6 @@ view-ended g w v members next is y h k =
 
 -- ---- votes
 
--- who has voted in a view has come to it
-voted_come : (g : Group) (V : Views) (w : World) (i v b : ℕ) (x : Value) → Faithful g V w → Voting g V w
-    → HasVoted g w.past.votes i v b x → v ≤ w.past.view i
-voted_come g V w i v b x f voting h = by (cases_lt (w.past.view i) v)
-  where
-    never : w.past.view i < v → (b < accept_tag (w.past.own i v (leavers_column (roster g))))
-        ⊎ (w.pending i ≡ Some (vote_in g v b x)) → v ≤ w.past.view i
-    never less (inl tagged) =
-        let none : accept_tag (w.past.own i v (leavers_column (roster g))) ≡ 0 =
-        ap accept_tag (f.fresh.unwritten i v (leavers_column (roster g)) less) in
-        absurd (omega (arith, tagged, none))
-    never less (inr waits) =
-        let same : v ≡ w.past.view i = (voting.acted.waiting i (vote_in g v b x) waits).1 in omega (arith, same)
-
-    by : (w.past.view i < v) ⊎ (v ≤ w.past.view i) → v ≤ w.past.view i
-    by (inl less) = never less (voting.acted.below i v b x h)
-    by (inr come) = come
-
 pub majority-kept : (g : Group) (w : World) (i j members : ℕ) (x z : Vote) → IsGroup g → Known g w
     → HasView g w x.view members → HasLogged w.past.votes i x → HasLogged w.past.votes j z
     → MajorityHas w.past.votes members (λ a. IsOf a x.view x.ballot)
@@ -177,22 +159,6 @@ voted-covered g w v b members x is y h voted =
 agrees : (g : Group) (V : Views) (w : World) (i v : ℕ) → IsGroup g → (y : Known g w) → AreViews g w V
     → v ≤ w.past.view i → V v ≡ views_by g y.values v
 agrees g V w i v is y are come = are v (views_by g y.values v) (has-view g w i v is y come)
-
--- in another view its words are 0
-unseen : (g : Group) (W : Views) (w : World) (v j i c : ℕ) → Faithful g W w → w.past.view i < v → w.table v j i c ≡ 0
-unseen g W w v j i c f less = omega (arith, (f.old.in_table v j i c).number, f.fresh.unwritten i v c less)
-
-tells_by : (g : Group) (V W : Views) (past : Past) (i v c word : ℕ) → V v ≡ W v
-    → Tells g W past i v c word → Tells g V past i v c word
-tells_by g V W past i v c word same t = record {
-  beat = t.beat;
-  received = λ e. subst (λ mask. word ≤ front_of (map (past.count i v) (members_of mask))) (sym same) (t.received e);
-  logged = t.logged;
-  done = λ e. let d = t.done e in
-      (d.0, λ one s member. d.1 one s (subst (λ mask. has mask s ≡ true) same member));
-  recv = t.recv;
-  ring = t.ring;
-}
 
 pub words-by : (g : Group) (V : Views) (w : World) → IsGroup g → Known g w → AreViews g w V → WordsTell g V w
 words-by g V w is y are = record {

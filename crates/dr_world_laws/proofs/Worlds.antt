@@ -1,28 +1,28 @@
 -- What is known of every world that is reached.
-use Rattle.std.proofs.Common.{[], ◌∷◌, ◌⊎◌, Contains, List, None, refl, inl, inr, arith, ap, length, map, slice_index, subst, sym, false, ℕ, ◌++◌, ◌<◌, ◌∙◌, ◌≡◌, ◌≢◌, ◌≤◌, Some, ◌+◌, true}
+use Rattle.std.proofs.Common.{[], ◌∷◌, ◌⊎◌, Contains, List, None, refl, inl, inr, arith, ap, length, map, slice_index, subst, sym, false, ℕ, ◌++◌, ◌<◌, ◌∙◌, ◌≡◌, ◌≢◌, ◌≤◌, Some, ◌+◌, true, ◌-◌, ◌*◌, ◌^◌}
 use Rattle.std.proofs.lemmas.{List.Elements.All-tail, Option.slice_get-get_or}
 use Rattle.dr_entry.specs.{declared.end.End.TheVariants.Done, declared.record.{Value.Value, Vote.Vote}}
 use Rattle.dr_history.specs.{Agreement.{Accounts, Agreed}, History.messages_of, Members.{has, members_of}}
 use Rattle.dr_history.specs.{Order.{InOrder, first_entries, messages_from, IsLateIn, IsNewIn}, Places.front_of}
+use Rattle.dr_history.proofs.{Keeping.prefix_shorter, MemberLemmas.member-has}
 use Rattle.dr_history_laws.specs.{Courses.{counts_taken, ViewHasEnded}, Laid.{GoesOn, first_view, laid}}
-use Rattle.dr_history_laws.{specs.Remaining.remaining, proofs.{Courses.head-first, Keeping.prefix_shorter}}
-use Rattle.dr_history_laws.proofs.Members.{member-has}
+use Rattle.dr_history_laws.{specs.Remaining.remaining, proofs.Courses.head-first}
 use Rattle.dr_words.specs.Masks.{IsLeastOf}
-use Rattle.dr_machine.specs.{Acts.{Guard, effect}, Votes.{HasLogged, IsOf, MajorityHas}, declared.event.Event.Event}
+use Rattle.dr_machine.{specs.{Acts.{Guard, effect}, Sending.IsPut, World.World}, proofs.Presence.in_roster}
 use Rattle.dr_machine.specs.{Effects.counts_by, Guards.{CanFinish, HoldsAll, MayChoose, unsuspected_of, CanWelcome}}
-use Rattle.dr_machine.{specs.{Events.{member_of, step_of}, Sending.IsPut, World.World}, proofs.Presence.in_roster}
+use Rattle.dr_machine.{specs.{Events.{member_of, step_of}, declared.event.Event.Event}, proofs.Groups.AreAccounts}
 use Rattle.dr_machine.{specs.Group.{Group, IsGroup, roster, IsPresent}, proofs.Runs.{by_way, last_or_before, reached}}
 use Rattle.dr_machine.specs.Run.{ComesNext, IsReached, NoLaterItem, PastGrew, Way, WordsGrew, WorldAgreed}
+use Rattle.dr_machine.{specs.Votes.{HasLogged, IsOf, MajorityHas}, proofs.Worlds.{past_on, past_same, AreQuiet}}
 use Rattle.dr_faithful.specs.{Chosen.{AreChosen, Values, endings_by, views_by}, Faithful.{AllGoOn, Faithful}}
-use Rattle.dr_faithful.{specs.Tells.SuspicionsTold, proofs.Faithfulness.{none_later, past_on_event, words_on}}
-use Rattle.dr_faithful.proofs.{Late.arrived_grew, Pasts.{past_on, past_same}}
-use Rattle.dr_faithful.proofs.Suspicions.{promise_least, suspicions_told}
+use Rattle.dr_faithful.{specs.Tells.SuspicionsTold, proofs.ChosenViews.{ending-next, IsReachedBy}}
+use Rattle.dr_faithful.proofs.{Faithfulness.{none_later, past_on_event, words_on}, Late.arrived_grew}
+use Rattle.dr_faithful.proofs.Suspicions.{promise_least, suspicions_told, step_quiet}
 use Rattle.dr_vote_laws.specs.{Moments.AcceptsOfMoments, Voting.IsChosen}
-use Rattle.dr_vote_laws.proofs.{Moments.{accepts_arrive, accepts_begin}, Steps.{AreQuiet, accepts_stay, step_quiet}}
+use Rattle.dr_vote_laws.proofs.{Moments.{accepts_arrive, accepts_begin}, Steps.accepts_stay, Values.voted-since}
 use Rattle.dr_vote_laws.proofs.Values as votes
-use Rattle.dr_world_laws.{specs.Historic.{HoldsMessages, view_numbered}, proofs.Agreeing.AreAccounts}
-use Rattle.dr_world_laws.proofs.{ByValues.IsReachedBy, Choosing.reached_by, ChosenViews.ending-next}
-use Rattle.dr_world_laws.proofs.{Finishing.goes-any, Leavings.IsLeftSo, Once.{same-views, voted-since}}
+use Rattle.dr_world_laws.{specs.Historic.{HoldsMessages, view_numbered}, proofs.Choosing.reached_by}
+use Rattle.dr_world_laws.proofs.{Finishing.goes-any, Leavings.IsLeftSo, Once.same-views}
 use Rattle.dr_world_laws.proofs.Agreeing as agreeing
 use Rattle.dr_world_laws.proofs.Covering as covering
 use Rattle.dr_world_laws.proofs.Ending as ending
@@ -290,3 +290,18 @@ durable_delivered g w m is reached there =
       (agrees.durable m there).own,
       prefix_shorter (w.past.log m) (w.past.history m) (agrees.logged m there),
     )
+
+-- what is left of all acts
+pub few : (x acts items next log durable rest some room turns : ℕ)
+    → acts + (x + (items + ((2 ^ 64 - next) + (log + ((2 ^ 64 - durable) + rest)))))
+    ≤ x + (some + 2 ^ 65 + 2 * room + 2 ^ 16 + 2 ^ 16 + 16 + 4) + turns
+    → next ≤ 16 * 4096 → durable ≤ room → room < 2 ^ 32 → some ≤ 4096 * 16 → turns < 2 ^ 32 → acts + 1 < 2 ^ 64
+few x acts items next log durable rest some room turns paid places known small messages early =
+    omega (arith, paid, places, known, small, messages, early)
+
+-- no word stands in the bank of a view that its member has not come to
+pub none_ahead : (g : Group) (w : World) (m v j c : ℕ) → IsGroup g → IsReached g w → w.past.view m < v
+    → w.table v j m c ≡ 0
+none_ahead g w m v j c is run ahead =
+    let f = faithful g w (known g w is run) in
+    omega (arith, (f.old.in_table v j m c).number, f.fresh.unwritten m v c ahead)

@@ -1,4 +1,4 @@
-use Rattle.dr_history.proofs.Histories.{up_to_view-Msg, up_to_view-View}
+use Rattle.dr_history.proofs.Letters.{up_to_view-Msg, up_to_view-View}
 use Rattle.dr_install.proofs.is_view.Goals as goal
 
 pub returns-in-View : goal.returns-in-View

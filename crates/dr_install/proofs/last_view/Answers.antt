@@ -1,6 +1,6 @@
 use Rattle.std.proofs.Common.{refl, take}
 use Rattle.dr_entry.proofs.ListPlaces.{take_read}
-use Rattle.dr_history.proofs.{Histories.{last_view-Msg, last_view-none}, Letters.last_view-last}
+use Rattle.dr_history.proofs.Letters.{last_view-last, last_view-Msg, last_view-none}
 use Rattle.dr_install.proofs.last_view.Goals.{in-View, in_default}
 use Rattle.dr_install.proofs.last_view.Goals as goal
 

@@ -1,6 +1,6 @@
 use Rattle.std.proofs.Common.{arith, sym}
 use Rattle.dr_entry.proofs.ListPlaces.{take_read}
-use Rattle.dr_history.proofs.{Histories.up_to_view-none, Letters.end_more}
+use Rattle.dr_history.proofs.Letters.{end_more, up_to_view-none}
 use Rattle.dr_install.proofs.letter_end.Goals.{then-is_view, else-is_view}
 use Rattle.dr_install.proofs.letter_end.Goals as goal
 

@@ -1,5 +1,7 @@
-use Rattle.dr_program_laws.proofs.Schedules.{age_begins_reached, begun_program_of, lockstep_taken}
+use Rattle.dr_program.proofs.Runs.{lockstep_taken}
+use Rattle.dr_restart.proofs.Setups.{age_begins_reached}
 use Rattle.dr_program_laws.proofs.ages_take_deeds.Goals as goal
+use Rattle.dr_program_laws.proofs.Programs.{begun_program_of}
 
 pub returns : goal.returns
 returns c = record {

@@ -161,7 +161,7 @@ impl Replica {
 
     /// Does what an act is for.
     #[inline(always)]
-    #[tactic(auto, using(dr_form::proofs::Accepting::own_is_there, dr_form::proofs::Accepting::others_is_there))]
+    #[tactic(auto, using(dr_program::proofs::Accepting::own_is_there, dr_program::proofs::Accepting::others_is_there))]
     fn carry_out(&mut self, act: Act)
         requires may { allows self.old (Do act) ≡ true }
         requires free { is_free self.old (Do act) ≡ true }

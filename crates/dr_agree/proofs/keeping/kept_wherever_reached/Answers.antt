@@ -1,5 +1,5 @@
 use Rattle.std.proofs.Common.{arith}
-use Rattle.dr_history_laws.proofs.Keeping.{longest_keeps}
+use Rattle.dr_history.proofs.Keeping.{longest_keeps}
 use Rattle.dr_machine.specs.Run.{accounts_in}
 use Rattle.dr_restart.specs.{Groups.group_of, Left.entries_on_logs}
 use Rattle.dr_world_laws.proofs.Worlds.{agreed, known}

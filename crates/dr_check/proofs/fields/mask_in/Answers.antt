@@ -2,8 +2,7 @@ use Rattle.std.specs.List.{position_or_len}
 use Rattle.std.proofs.Common.{◌≡◌, ◌+◌, ◌<◌, ◌==◌, sym, ap, ◌∙◌, arith, All, List, ℕ, [], ◌∷◌, length, take, drop}
 use Rattle.std.proofs.lemmas.{Bool.{eqb-true, false≢true}, List.Elements.{All-head, All-tail, Contains-get_or}}
 use Rattle.dr_entry.proofs.{Bits.joined_none, ListFacts.{number_first, joined}}
-use Rattle.dr_history.specs.Members.{members_of}
-use Rattle.dr_history_laws.proofs.Members.{members_of-lt}
+use Rattle.dr_history.{specs.Members.members_of, proofs.MemberLemmas.members_of-lt}
 use Rattle.dr_words.{specs.Masks.with_member, proofs.Masks.{with_all, with_all_members}}
 use Rattle.dr_check.proofs.fields.mask_in.Goals as goal
 

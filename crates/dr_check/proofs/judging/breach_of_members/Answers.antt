@@ -1,7 +1,6 @@
 use Rattle.std.specs.Prelude.{IfNone, IfSome}
 use Rattle.std.proofs.Common.{◌+◌, ◌<◌, ◌≤◌, ap, subst, refl, length, arith, Option, ℕ}
-use Rattle.dr_entry.proofs.ListPlaces.{below_more}
-use Rattle.dr_history_laws.proofs.Lists.{slice_get-some}
+use Rattle.dr_entry.proofs.ListPlaces.{below_more, slice_get-some}
 use Rattle.dr_check.{specs.Flaws.{MemberKeeps, MemberBreaks}, proofs.Loops.{below_all, first_breaks}}
 use Rattle.dr_check.proofs.judging.breach_of_members.Goals as goal
 

@@ -1,5 +1,5 @@
 use Rattle.std.proofs.Common.{◌≡◌, ◌≤◌, sym, ◌∙◌, arith, nat_lt, false}
-use Rattle.dr_history.{specs.Members.has, proofs.Histories.none_above}
+use Rattle.dr_history.{specs.Members.has, proofs.Masks.none_above}
 use Rattle.dr_check.proofs.members.is_in.Goals as goal
 
 pub returns-else-from-lt-MAX_MEMBERS : goal.returns-else-from-lt-MAX_MEMBERS

@@ -1,4 +1,4 @@
-use Rattle.dr_history_laws.proofs.{Members.view-distinct, Merging.{merge-laid_below, laid-whole}}
+use Rattle.dr_history_laws.proofs.{Merging.{merge-laid_below, laid-whole}, Ordered.view-distinct}
 use Rattle.dr_history_laws.proofs.laying.merge_laws.Goals as goal
 
 pub returns : goal.returns

@@ -1,5 +1,4 @@
-use Rattle.dr_history_laws.proofs.{Counting.index-next, Members.view-distinct, Ordered.InOrder-laid}
-use Rattle.dr_history_laws.proofs.Steady.{InOrder-steady}
+use Rattle.dr_history_laws.proofs.{Counting.index-next, Ordered.{InOrder-laid, view-distinct}, Steady.InOrder-steady}
 use Rattle.dr_history_laws.proofs.order.order_laws.Goals as goal
 
 pub returns : goal.returns

@@ -1,4 +1,4 @@
-use Rattle.dr_history_laws.proofs.{Members.view-distinct, Resting.rest-merged}
+use Rattle.dr_history_laws.proofs.{Ordered.view-distinct, Resting.rest-merged}
 use Rattle.dr_history_laws.proofs.order.rest_law.Goals as goal
 
 pub returns : goal.returns

@@ -3,10 +3,9 @@ use Rattle.std.proofs.{Math.Bool.and-true, lemmas.Bool.Decides.nat_tests}
 use Rattle.dr_machine.specs.declared.event.Act.TheVariants as acts
 use Rattle.dr_machine.specs.declared.step.Step.TheVariants.{Do}
 use Rattle.dr_program.specs.{Replica.may_receive, Running.{crashes_in_turn, judged}, Turn.{part_of, rows_in}}
-use Rattle.dr_program.{specs.declared.place.Part.Part, proofs.Replicas.all_allowed}
+use Rattle.dr_program.{specs.declared.place.Part.Part, proofs.{Replicas.all_allowed, Search.applies_at}}
 use Rattle.dr_program.specs.declared.place.Part.TheVariants as parts
 use Rattle.dr_member.{specs.Search.standing, proofs.Ready.receives_by}
-use Rattle.dr_turn.proofs.Search.{applies_at}
 use Rattle.dr_member.proofs.search.applies_inside.Goals as goal
 
 pub returns-in-Crash : goal.returns-in-Crash

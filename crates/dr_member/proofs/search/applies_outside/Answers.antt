@@ -1,7 +1,6 @@
 use Rattle.std.proofs.{Common.{◌&&◌, sym, ap, ◌∙◌}, Math.Bool.and-true}
 use Rattle.dr_program.specs.{Running.{crashes_in_turn, crashes_now, push_or_crash}, Steps.allows}
-use Rattle.dr_program.proofs.{Parts.inner_part, RunningPrograms.crash_alone}
-use Rattle.dr_turn.proofs.Search.{applies_at, idle_outside}
+use Rattle.dr_program.proofs.{Parts.inner_part, RunningPrograms.crash_alone, Search.{applies_at, idle_outside}}
 use Rattle.dr_member.specs.Search.{standing}
 use Rattle.dr_member.proofs.search.applies_outside.Goals as goal
 

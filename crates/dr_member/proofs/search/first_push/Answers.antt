@@ -1,8 +1,7 @@
 use Rattle.std.proofs.Common.{◌≡◌, ℕ, ◌<◌, true, sym, subst, ◌∙◌}
 use Rattle.dr_words.specs.Columns.{columns_of}
 use Rattle.dr_program.specs.{Replica.is_other, Turn.{columns_in, rows_in}, declared.place.Part.Part}
-use Rattle.dr_program.proofs.Replicas.{cell_test}
-use Rattle.dr_turn.proofs.Search.{push_applies}
+use Rattle.dr_program.proofs.{Replicas.cell_test, Search.push_applies}
 use Rattle.dr_member.{specs.Search.standing, proofs.Passing.{pushes_idle, pushes_nobody, pushes_nothing}}
 use Rattle.dr_member.proofs.search.first_push.Goals as goal
 

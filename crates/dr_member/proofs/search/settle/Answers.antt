@@ -1,6 +1,6 @@
 use Rattle.std.{specs.Prelude.is_some, proofs.Common.{sym, ap, ◌∙◌}}
-use Rattle.dr_program.specs.Running.{applies}
-use Rattle.dr_turn.proofs.Staying.{settled_here, stops_end}
+use Rattle.dr_entry.proofs.Ends.{stops_end}
+use Rattle.dr_program.{specs.Running.applies, proofs.RunningPrograms.settled_here}
 use Rattle.dr_member.specs.Search.{standing}
 use Rattle.dr_member.proofs.search.settle.Goals as goal
 

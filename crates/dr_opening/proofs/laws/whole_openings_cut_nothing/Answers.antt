@@ -1,5 +1,5 @@
 use Rattle.std.proofs.Common.{arith}
-use Rattle.dr_history_laws.proofs.Keeping.{front_of_longest}
+use Rattle.dr_history.proofs.Keeping.{front_of_longest}
 use Rattle.dr_restart.specs.Left.{entries_on_logs}
 use Rattle.dr_opening.proofs.{Trying.chosen_by, Whole.{all_in_set, entries_among}}
 use Rattle.dr_opening.proofs.laws.whole_openings_cut_nothing.Goals as goal

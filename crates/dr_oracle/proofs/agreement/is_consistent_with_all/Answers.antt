@@ -1,5 +1,5 @@
 use Rattle.std.proofs.Common.{arith, refl, below_more}
-use Rattle.dr_history.proofs.Histories.{below_sixteen}
+use Rattle.dr_history.proofs.Masks.{below_sixteen}
 use Rattle.dr_oracle.proofs.agreement.is_consistent_with_all.Goals as goal
 
 pub loop-member-preserved : goal.loop-member-preserved

@@ -1,7 +1,7 @@
 use Rattle.std.proofs.Common.{◌≡◌, length, slice_get, Some, sym, ap, ◌∙◌, arith, rules, subst, List, Decides}
 use Rattle.std.proofs.lemmas.{Grind.common_steps, Option.gets}
 use Rattle.dr_entry.specs.declared.entry.Entry.{Entry, TheVariants.View}
-use Rattle.dr_history.{specs.History.IsPrefixOf, proofs.Histories.begins_decides}
+use Rattle.dr_history.{specs.History.IsPrefixOf, proofs.Lists.begins_decides}
 use Rattle.dr_oracle.proofs.order.begins.Goals as goal
 
 pub returns-then-eq : goal.returns-then-eq

@@ -1,5 +1,5 @@
 use Rattle.std.proofs.Common.{refl, arith, below_more}
-use Rattle.dr_history.proofs.Histories.{below_sixteen}
+use Rattle.dr_history.proofs.Masks.{below_sixteen}
 use Rattle.dr_oracle.proofs.succession.all_come_well.Goals as goal
 
 pub loop-member-preserved : goal.loop-member-preserved

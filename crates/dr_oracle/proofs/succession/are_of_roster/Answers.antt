@@ -1,5 +1,5 @@
 use Rattle.std.proofs.Common.{refl, arith}
-use Rattle.dr_history.proofs.Histories.{below_sixteen}
+use Rattle.dr_history.proofs.Masks.{below_sixteen}
 use Rattle.dr_oracle.proofs.succession.are_of_roster.Goals as goal
 
 pub returns : goal.returns

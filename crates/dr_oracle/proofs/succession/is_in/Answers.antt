@@ -1,5 +1,5 @@
 use Rattle.std.proofs.Common.{arith, tests}
-use Rattle.dr_history.proofs.Histories.{none_above}
+use Rattle.dr_history.proofs.Masks.{none_above}
 use Rattle.dr_oracle.proofs.succession.is_in.Goals as goal
 
 pub returns-else-number : goal.returns-else-number

@@ -1,5 +1,4 @@
-use Rattle.dr_restart.specs.Groups.{first_group_of}
-use Rattle.dr_quorum_laws.proofs.Refusals.{passed}
+use Rattle.dr_restart.{specs.Groups.first_group_of, proofs.Refusals.passed}
 use Rattle.dr_quorum.{specs.Handing.handed_by, proofs.Choices.told_memory}
 use Rattle.dr_quorum.proofs.choosing.choose_start.Goals as goal
 

@@ -1,6 +1,5 @@
 use Rattle.std.proofs.Common.{inl}
-use Rattle.dr_restart.{specs.Groups.first_group_of, proofs.Choosing.{holder_stands, longest_on}}
-use Rattle.dr_quorum_laws.proofs.Lists.{of_holders}
+use Rattle.dr_restart.{specs.Groups.first_group_of, proofs.Choosing.{holder_stands, longest_on, of_holders}}
 use Rattle.dr_quorum.specs.Handing.{handed_by}
 use Rattle.dr_quorum.proofs.choosing.entries_of_age.Goals as goal
 

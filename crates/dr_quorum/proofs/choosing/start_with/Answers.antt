@@ -1,7 +1,6 @@
 use Rattle.std.proofs.Common.{rules, refl, ◌≡◌, ◌<◌, ◌^◌}
 use Rattle.dr_history.specs.Soundness.{whole_roster}
-use Rattle.dr_restart.specs.{Choosing.handed_of, Groups.first_group_of}
-use Rattle.dr_quorum_laws.proofs.Sounding.{chosen_start}
+use Rattle.dr_restart.{specs.{Choosing.handed_of, Groups.first_group_of}, proofs.Sounding.chosen_start}
 use Rattle.dr_quorum.specs.Handing.{handed_by}
 use Rattle.dr_quorum.proofs.choosing.start_with.Goals as goal
 

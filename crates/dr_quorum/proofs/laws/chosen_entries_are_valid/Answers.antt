@@ -1,4 +1,4 @@
-use Rattle.dr_quorum_laws.proofs.Sounding.{chosen_valid}
+use Rattle.dr_restart.proofs.Sounding.{chosen_valid}
 use Rattle.dr_quorum.proofs.laws.chosen_entries_are_valid.Goals as goal
 
 pub returns : goal.returns

@@ -1,7 +1,6 @@
 use Rattle.std.proofs.{Common.{sym, subst, ℕ, length, Contains}, lemmas.Option.IfSome_then}
 use Rattle.dr_entry.{specs.declared.entry.Entry.TheVariants.View, proofs.OptionFacts.IfNone_then}
-use Rattle.dr_restart.specs.{Groups.first_group_of, Refusing.{HasPath, LacksPath}}
-use Rattle.dr_quorum_laws.proofs.Refusals.{path_of_all}
+use Rattle.dr_restart.{specs.{Groups.first_group_of, Refusing.{HasPath, LacksPath}}, proofs.Refusals.path_of_all}
 use Rattle.dr_quorum.specs.Handing.{handed_by}
 use Rattle.dr_quorum.proofs.path.find_short_view.Goals as goal
 

@@ -1,5 +1,5 @@
 use Rattle.std.proofs.{Common.{arith, rules}, lemmas.Option.slice_get_within}
-use Rattle.dr_history_laws.proofs.Lists.{slice_get-some}
+use Rattle.dr_entry.proofs.ListPlaces.{slice_get-some}
 use Rattle.dr_quorum.proofs.Stands.{none_read}
 use Rattle.dr_quorum.proofs.reading.first_foreign.Goals as goal
 

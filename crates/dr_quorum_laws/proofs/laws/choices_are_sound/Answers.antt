@@ -1,4 +1,4 @@
-use Rattle.dr_quorum_laws.proofs.Sounding.{choice-group, choice-sound}
+use Rattle.dr_restart.proofs.Sounding.{choice-group, choice-sound}
 use Rattle.dr_quorum_laws.proofs.laws.choices_are_sound.Goals as goal
 
 pub returns : goal.returns

@@ -1,4 +1,4 @@
-use Rattle.dr_quorum_laws.proofs.ByMessages.{refused-by-messages, start-by-messages}
+use Rattle.dr_restart.proofs.ByMessages.{refused-by-messages, start-by-messages}
 use Rattle.dr_quorum_laws.proofs.laws.choices_go_by_messages.Goals as goal
 
 pub returns : goal.returns

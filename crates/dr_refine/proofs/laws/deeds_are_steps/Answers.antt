@@ -1,5 +1,5 @@
-use Rattle.dr_refine.proofs.Deeds.{deed_is_step, missed_stays, no_step_no_change, rest_changes_nothing, step_reached}
-use Rattle.dr_refine.proofs.Steps.{begun_is_program, step_kept}
+use Rattle.dr_program.proofs.Deeds.{missed_stays, no_step_no_change, rest_changes_nothing}
+use Rattle.dr_refine.proofs.{Deeds.{deed_is_step, step_reached}, Steps.{begun_is_program, step_kept}}
 use Rattle.dr_refine.proofs.laws.deeds_are_steps.Goals as goal
 
 pub returns-clause-may_come : goal.returns-clause-may_come

@@ -1,7 +1,7 @@
 use Rattle.std.specs.{Int.div_ceil, List.range_with_len}
 use Rattle.std.proofs.Common.{◌≡◌, ◌+◌, ◌∷◌, ℕ, List, length, map, ap, sym, subst, ◌∙◌, rules, arith}
-use Rattle.dr_entry.specs.declared.entry.Item.{Item, TheVariants.Text}
-use Rattle.dr_ring.{specs.{Pieces.{null_mark, body_piece}, Slots.{with_item, with_pieces}}, proofs.Items.IsItem}
+use Rattle.dr_entry.{specs.declared.entry.Item.{Item, TheVariants.Text}, proofs.Fields.IsItem}
+use Rattle.dr_ring.specs.{Pieces.{null_mark, body_piece}, Slots.{with_item, with_pieces}}
 use Rattle.dr_ring.proofs.Puts.{HasRoom, room_before, head_set, body_set, body_rises, put_arrives, put_grows, put_in_form}
 use Rattle.dr_ring.proofs.ring.put.Goals as goal
 

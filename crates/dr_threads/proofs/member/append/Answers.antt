@@ -1,9 +1,9 @@
 use Rattle.std.proofs.Common.{refl, sym, ap, ◌∙◌, subst}
 use Rattle.dr_served.{specs.Served.HasServed, proofs.Appends.{did_append, did_fail, has_place, has_spares}}
 use Rattle.dr_served.proofs.Serving.{appended_ready, appended_served, failed_ready, unfailed}
-use Rattle.dr_program.specs.Running.{after_step, broken_off, next_deed}
+use Rattle.dr_program.{specs.Running.{after_step, broken_off, next_deed}, proofs.Fixed.after_told}
 use Rattle.dr_play.proofs.Deeds.{at_append}
-use Rattle.dr_table.proofs.{Cards.reached_form, Deeds.{after_told, same_number}}
+use Rattle.dr_table.proofs.{Cards.reached_form, Deeds.same_number}
 use Rattle.dr_threads.{specs.Course.HasGone, proofs.Runs.reached_well}
 use Rattle.dr_threads.proofs.member.append.Goals as goal
 

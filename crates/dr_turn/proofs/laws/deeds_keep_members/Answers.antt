@@ -1,4 +1,5 @@
-use Rattle.dr_turn.proofs.{Deeds.{deeds_keep, deeds_keep_form}, Failing.{failed_done, failed_form}}
+use Rattle.dr_program.proofs.StepsAt.{failed_form}
+use Rattle.dr_turn.proofs.{Deeds.{deeds_keep, deeds_keep_form}, Failing.failed_done}
 use Rattle.dr_turn.proofs.Takes.{takes_done, takes_keep_form}
 use Rattle.dr_turn.proofs.laws.deeds_keep_members.Goals as goal
 

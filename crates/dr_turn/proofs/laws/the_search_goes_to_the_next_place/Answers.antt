@@ -1,5 +1,5 @@
-use Rattle.dr_turn.proofs.Search.{settle_only, settle_passed, settled_due, settled_running, settle_less}
-use Rattle.dr_turn.proofs.Staying.{settled_end}
+use Rattle.dr_program.proofs.{RunningPrograms.settled_end, Search.settle_only}
+use Rattle.dr_turn.proofs.Search.{settle_passed, settled_due, settled_running, settle_less}
 use Rattle.dr_turn.proofs.laws.the_search_goes_to_the_next_place.Goals as goal
 
 pub returns-clause-first : goal.returns-clause-first

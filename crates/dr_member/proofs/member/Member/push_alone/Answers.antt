@@ -1,5 +1,5 @@
 use Rattle.std.proofs.Common.{◌+◌, ◌-◌, ◌^◌, min, sym, ap, subst, ◌∙◌, slice_set, arith}
-use Rattle.dr_entry.proofs.OptionFacts.{no_crash}
+use Rattle.dr_entry.proofs.OptionFacts.{no_value}
 use Rattle.dr_program.specs.Program.{next_sight}
 use Rattle.dr_member.proofs.Alone.{HasComeAlone, columns_here, push_stores, push_sweeps, pushes_done, pushes_fit}
 use Rattle.dr_member.proofs.Moves.{counted}
@@ -44,7 +44,7 @@ leave_row-requires-clause-underway c =
       inside = c.self.invariant;
       due = c.requires.deed;
       begins = c.push_index-first.ensures.index;
-      safe = no_crash c.self.inside.fate.crash (sym c.is_some.ensures ∙ c.if-is_some.false);
+      safe = no_value c.self.inside.fate.crash (sym c.is_some.ensures ∙ c.if-is_some.false);
     }) c.push_row-count.ensures.after.0
     (c.saturating_add-self-inside.ensures
     ∙ ap (λ n. min (c.self.inside.fate.pushes + n) (2 ^ 32 - 1)) c.push_row-count.ensures.after.2)).underway
@@ -57,7 +57,7 @@ leave_row-requires-clause-inside c =
       inside = c.self.invariant;
       due = c.requires.deed;
       begins = c.push_index-first.ensures.index;
-      safe = no_crash c.self.inside.fate.crash (sym c.is_some.ensures ∙ c.if-is_some.false);
+      safe = no_value c.self.inside.fate.crash (sym c.is_some.ensures ∙ c.if-is_some.false);
     }) c.push_row-count.ensures.after.0
     (c.saturating_add-self-inside.ensures
     ∙ ap (λ n. min (c.self.inside.fate.pushes + n) (2 ^ 32 - 1)) c.push_row-count.ensures.after.2)).inside
@@ -82,7 +82,7 @@ left c = subst (λ cells. HasComeAlone c.args.table.now c.args.self.now cells (r
       inside = c.self.invariant;
       due = c.requires.deed;
       begins = c.push_index-first.ensures.index;
-      safe = no_crash c.self.inside.fate.crash (sym c.is_some.ensures ∙ c.if-is_some.false);
+      safe = no_value c.self.inside.fate.crash (sym c.is_some.ensures ∙ c.if-is_some.false);
     }) c.push_row-count.ensures.after.0
     (c.saturating_add-self-inside.ensures
     ∙ ap (λ n. min (c.self.inside.fate.pushes + n) (2 ^ 32 - 1)) c.push_row-count.ensures.after.2)).left

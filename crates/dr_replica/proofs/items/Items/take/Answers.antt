@@ -1,5 +1,5 @@
 use Rattle.std.proofs.{Common.{rules, ◌<◌, length, sym, subst, arith}, lemmas.{Grind.common_steps, List.get_or_read}}
-use Rattle.dr_form.proofs.Gains.{nulls_after}
+use Rattle.dr_entry.proofs.Items.{nulls_after}
 use Rattle.dr_replica.{specs.Items.Held, proofs.Places.taken_above}
 use Rattle.dr_replica.proofs.items.Items.take.Goals as goal
 

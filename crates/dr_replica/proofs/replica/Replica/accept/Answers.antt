@@ -2,9 +2,8 @@ use Rattle.std.proofs.Common.{◌+◌, ◌≤◌, unwrap_or, ap, subst, ◌∙�
 use Rattle.dr_entry.specs.declared.record.Vote.{Vote}
 use Rattle.dr_words.specs.Rewrites.{accepted_word}
 use Rattle.dr_machine.specs.World.{no_vote}
-use Rattle.dr_program.{specs.Replica.accepted, proofs.Voting.promise_within}
+use Rattle.dr_program.{specs.Replica.accepted, proofs.{Accepting.accepted_rises, Voting.promise_within}}
 use Rattle.dr_rows.specs.Words.{own}
-use Rattle.dr_form.proofs.Accepting.{accepted_rises}
 use Rattle.dr_replica.{specs.Inside.replica_inside, proofs.Insides.{accepted_after, accepted_kept}}
 use Rattle.dr_replica.proofs.replica.Replica.accept.Goals as goal
 

@@ -1,6 +1,5 @@
 use Rattle.std.proofs.Common.{sym, ap, subst}
-use Rattle.dr_form.proofs.Finishing.{gave_form}
-use Rattle.dr_program.specs.Form.{HasForm}
+use Rattle.dr_program.{specs.Form.HasForm, proofs.Finishing.gave_form}
 use Rattle.dr_replica.{specs.Inside.replica_inside, proofs.Joining.gave_kept}
 use Rattle.dr_replica.proofs.replica.Replica.give.Goals as goal
 

@@ -1,7 +1,6 @@
 use Rattle.std.proofs.Common.{◌≡◌, ◌+◌, ◌∙◌, ap₂, subst, length, nat_lt}
-use Rattle.dr_program.specs.Replica.{Replica, next_index}
+use Rattle.dr_program.{specs.Replica.{Replica, next_index}, proofs.Keeps.message_left}
 use Rattle.dr_replica.specs.Inside.{replica_inside}
-use Rattle.dr_form.proofs.Keeps.{message_left}
 use Rattle.dr_replica.proofs.replica.Replica.has_message_left.Goals as goal
 
 pub returns : goal.returns

@@ -1,6 +1,6 @@
 use Rattle.std.proofs.Common.{ap, ◌∙◌}
-use Rattle.dr_program.{specs.Replica.{Replica, acted, finished, is_inside, may_finish}, proofs.Replicas.form_to}
-use Rattle.dr_form.proofs.{Finishing.finished_form, Keeps.acted_keeps}
+use Rattle.dr_program.specs.Replica.{Replica, acted, finished, is_inside, may_finish}
+use Rattle.dr_program.proofs.{Finishing.finished_form, Keeps.acted_keeps, Replicas.form_to}
 use Rattle.dr_replica.proofs.replica.Replica.leave.Goals as goal
 
 pub finish-requires-clause-may : goal.finish-requires-clause-may

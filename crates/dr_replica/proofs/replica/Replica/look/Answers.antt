@@ -4,9 +4,8 @@ use Rattle.dr_rows.specs.Words.{Words, seen}
 use Rattle.dr_words.specs.{Columns.columns_of, Form.IsInForm, Grown.{Grown, HasGrown}}
 use Rattle.dr_words.specs.declared.column.TheConstants.{RECEIVED_COLUMN}
 use Rattle.dr_program.specs.{Form.HasForm, Replica.{Replica, is_other, least_seen, looked}}
-use Rattle.dr_program.proofs.{Least.grown_received, Replicas.grown_to}
+use Rattle.dr_program.proofs.{Keeps.{looked_keeps, looked_rises}, Least.grown_received, Replicas.grown_to}
 use Rattle.dr_replica.{specs.Inside.replica_inside, proofs.Insides.state_kept}
-use Rattle.dr_form.proofs.Keeps.{looked_keeps, looked_rises}
 use Rattle.dr_replica.proofs.replica.Replica.look.Goals as goal
 
 there : (c : goal.After-look) → replica_inside (record c.self.inside { rows = c.look.new.self })

@@ -3,8 +3,7 @@ use Rattle.dr_history.specs.Members.{has}
 use Rattle.dr_rows.{specs.Words.{Words, seen}, proofs.Along.looked_stays}
 use Rattle.dr_words.specs.{Form.IsInForm, Grown.HasGrown, declared.column.TheConstants.RECEIVED_COLUMN}
 use Rattle.dr_program.specs.{Form.HasForm, Replica.{Replica, is_other, least_seen}, Steps.NoWordFell}
-use Rattle.dr_program.proofs.{Least.grown_received, Replicas.{MayLook, looked_on}}
-use Rattle.dr_form.proofs.Keeps.{looks_keep}
+use Rattle.dr_program.proofs.{Keeps.looks_keep, Least.grown_received, Replicas.{MayLook, looked_on}}
 use Rattle.dr_replica.{specs.Inside.replica_inside, proofs.Insides.state_kept}
 use Rattle.dr_replica.proofs.replica.Replica.look_row.Goals as goal
 

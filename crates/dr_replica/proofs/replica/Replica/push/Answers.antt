@@ -1,9 +1,8 @@
 use Rattle.std.proofs.Common.{◌≡◌, ◌<◌, ◌≤◌, refl, le_of_eq, sym, ap, subst}
 use Rattle.dr_rows.specs.Words.{Words}
 use Rattle.dr_words.specs.declared.column.TheConstants.{RECEIVED_COLUMN}
-use Rattle.dr_program.specs.{Form.HasForm, Replica.{Replica, least_seen, pushed}}
+use Rattle.dr_program.{specs.{Form.HasForm, Replica.{Replica, least_seen, pushed}}, proofs.Keeps.pushed_keeps}
 use Rattle.dr_replica.{specs.Inside.replica_inside, proofs.Insides.state_kept}
-use Rattle.dr_form.proofs.Keeps.{pushed_keeps}
 use Rattle.dr_replica.proofs.replica.Replica.push.Goals as goal
 
 there : (c : goal.After-pushed) → replica_inside (record c.self.inside { rows = c.pushed.new.self })

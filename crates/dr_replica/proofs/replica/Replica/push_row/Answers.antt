@@ -2,8 +2,7 @@ use Rattle.std.proofs.Common.{◌≡◌, ◌-◌, ◌<◌, ◌≤◌, refl, sym,
 use Rattle.dr_rows.{specs.{Along.{Pushes, pushed_along}, Words.Words}, proofs.Along.pushed_stays}
 use Rattle.dr_words.specs.declared.column.TheConstants.{RECEIVED_COLUMN}
 use Rattle.dr_program.specs.{Form.HasForm, Replica.{Replica, least_seen}, Steps.NoWordFell}
-use Rattle.dr_program.proofs.{Least.grown_received, Replicas.pushes_grow}
-use Rattle.dr_form.proofs.Keeps.{pushes_keep}
+use Rattle.dr_program.proofs.{Keeps.pushes_keep, Least.grown_received, Replicas.pushes_grow}
 use Rattle.dr_replica.{specs.Inside.replica_inside, proofs.Insides.state_kept}
 use Rattle.dr_replica.proofs.replica.Replica.push_row.Goals as goal
 

@@ -2,9 +2,9 @@ use Rattle.std.proofs.Common.{◌≡◌, ℕ, ◌+◌, ◌<◌, ◌≤◌, true,
 use Rattle.std.proofs.lemmas.{Bool.{and_parts, not-true}, List.get_or-set_same}
 use Rattle.dr_replica.specs.{Inside.replica_inside, Items.Held}
 use Rattle.dr_replica.proofs.Exchanges.{front_after, received_after, items_kept}
-use Rattle.dr_program.{specs.Form.HasForm, proofs.Replicas.{may_of, item_waits}}
+use Rattle.dr_program.specs.Form.{HasForm}
 use Rattle.dr_program.specs.Replica.{Replica, count, is_inside, is_wedged, least_seen, may_receive, received}
-use Rattle.dr_form.proofs.Keeps.{open_recv, received_form, received_received}
+use Rattle.dr_program.proofs.{Keeps.{open_recv, received_form, received_received}, Replicas.{may_of, item_waits}}
 use Rattle.dr_words.specs.declared.column.TheConstants.{RECEIVED_COLUMN}
 use Rattle.dr_ring.specs.Slots.{IsReady, slot_of}
 use Rattle.dr_replica.proofs.replica.Replica.receive.Goals as goal

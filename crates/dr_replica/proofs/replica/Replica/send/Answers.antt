@@ -1,8 +1,8 @@
 use Rattle.std.proofs.Common.{◌≡◌, sym, subst, ◌∙◌, ap, ℕ, length, ◌<◌, not, nat_lt, arith}
 use Rattle.std.proofs.lemmas.Bool.{and_parts, ltb-true}
 use Rattle.dr_entry.specs.declared.{end.SentItem.TheVariants.Index, entry.Item.{Item, TheVariants.Text}}
-use Rattle.dr_program.specs.{Form.HasForm, Replica.{is_wedged, next_index, put}}
-use Rattle.dr_form.{specs.Puts.MayPut, proofs.Keeps.{index_small, message_to_send, sending}}
+use Rattle.dr_program.{specs.{Form.HasForm, Replica.{is_wedged, next_index, put}}, proofs.Keeps.index_small}
+use Rattle.dr_form.{specs.Puts.MayPut, proofs.Keeps.{message_to_send, sending}}
 use Rattle.dr_replica.proofs.Exchanges.{message_read}
 use Rattle.dr_replica.proofs.replica.Replica.send.Goals as goal
 

@@ -1,6 +1,6 @@
 use Rattle.std.proofs.Common.{arith}
 use Rattle.dr_words.specs.declared.column.TheConstants.{BEAT_COLUMN}
-use Rattle.dr_form.proofs.Keeps.{acted_keeps}
+use Rattle.dr_program.proofs.Keeps.{acted_keeps}
 use Rattle.dr_replica.{specs.Inside.replica_inside, proofs.Insides.word_kept}
 use Rattle.dr_replica.proofs.replica.Replica.stamp.Goals as goal
 

@@ -3,9 +3,9 @@ use Rattle.dr_history.specs.Members.{has}
 use Rattle.dr_suspect.specs.Suspicion.{Suspicion}
 use Rattle.dr_rows.specs.Words.{own}
 use Rattle.dr_program.{specs.Replica.{Replica, is_inside, may_suspect, suspected}, proofs.Replicas.may_of}
+use Rattle.dr_program.proofs.Wedging.{recv_small, suspected_rises}
 use Rattle.dr_words.{specs.{Masks.{least_of, without}, Rewrites.wedged_word}, proofs.Masks.somebody}
 use Rattle.dr_replica.{specs.Inside.replica_inside, proofs.Insides.{suspected_after, suspected_kept, voter_read}}
-use Rattle.dr_form.proofs.Wedging.{recv_small, suspected_rises}
 use Rattle.dr_replica.proofs.replica.Replica.suspect.Goals as goal
 
 pub unwrap-requires : goal.unwrap-requires

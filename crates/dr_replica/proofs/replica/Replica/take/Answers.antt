@@ -1,6 +1,7 @@
 use Rattle.std.proofs.Common.{◌≡◌, refl, sym, ap, ◌∙◌}
-use Rattle.dr_program.{specs.{Acts.taken, Replica.{Replica, acted}}, proofs.Replicas.{form_to, grown_to}}
-use Rattle.dr_form.proofs.Keeps.{taken_grown, taken_keeps, taken_other}
+use Rattle.dr_program.{specs.{Acts.taken, Replica.{Replica, acted}}, proofs.Keeps.taken_other}
+use Rattle.dr_program.proofs.Replicas.{form_to, grown_to}
+use Rattle.dr_form.proofs.Keeps.{taken_grown, taken_keeps}
 use Rattle.dr_replica.proofs.replica.Replica.take.Goals as goal
 use Rattle.dr_replica.proofs.replica.Replica.take.Goals.{After-stamp}
 

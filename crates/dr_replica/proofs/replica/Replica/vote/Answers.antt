@@ -1,8 +1,7 @@
 use Rattle.std.specs.Prelude.{vec_capacity}
 use Rattle.std.proofs.Common.{◌≡◌, ◌<◌, None, Some, true, rules, length, sym, ap, subst, ◌∙◌, arith, le_trans}
-use Rattle.dr_program.{specs.{Form.HasForm, Replica.{Replica, may_vote, voted}}, proofs.Replicas.may_of}
-use Rattle.dr_program.proofs.Voting.{vote_room}
-use Rattle.dr_form.proofs.Accepting.{voted_form}
+use Rattle.dr_program.{specs.{Form.HasForm, Replica.{Replica, may_vote, voted}}, proofs.Accepting.voted_form}
+use Rattle.dr_program.proofs.{Replicas.may_of, Voting.vote_room}
 use Rattle.dr_replica.{specs.Inside.replica_inside, proofs.Insides.{voted_after, votes_kept}}
 use Rattle.dr_replica.proofs.replica.Replica.vote.Goals as goal
 

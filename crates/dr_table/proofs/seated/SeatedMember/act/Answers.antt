@@ -1,9 +1,9 @@
 use Rattle.std.proofs.Common.{◌≡◌, ◌<◌, [], refl, sym, ap, ◌∙◌, subst, arith}
 use Rattle.atomic_table.specs.Seated.{TableId}
 use Rattle.dr_member.specs.Deeds.{table_size}
-use Rattle.dr_program.{specs.Running.{Running, after_step, next_deed}, proofs.Fixed.told}
+use Rattle.dr_program.{specs.Running.{Running, after_step, next_deed}, proofs.Fixed.{told, after_told}}
 use Rattle.dr_table.specs.{Cards.{DealtTable, Seated}, Deeds.IsStore, Steps.{IsAhead, IsReachedMember, alone}}
-use Rattle.dr_table.proofs.{Deeds.{act_within, after_told}, Keeping.store_reached, Members.inside_after}
+use Rattle.dr_table.proofs.{Deeds.act_within, Keeping.store_reached, Members.inside_after}
 use Rattle.dr_table.proofs.seated.SeatedMember.act.Goals as goal
 
 pub store_at-requires-clause-alone : goal.store_at-requires-clause-alone

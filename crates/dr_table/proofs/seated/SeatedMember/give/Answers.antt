@@ -1,7 +1,7 @@
 use Rattle.std.proofs.Common.{[], sym, ap, ◌∙◌, refl, subst, arith}
-use Rattle.dr_program.{specs.Running.{Running, after_step, next_deed}, proofs.Fixed.told}
-use Rattle.dr_table.{specs.{Cards.{DealtTable, Seated}, Steps.IsReachedMember}, proofs.Deeds.after_told}
-use Rattle.dr_table.proofs.{Keeping.give_reached, Members.inside_after}
+use Rattle.dr_program.{specs.Running.{Running, after_step, next_deed}, proofs.Fixed.{told, after_told}}
+use Rattle.dr_table.{specs.{Cards.{DealtTable, Seated}, Steps.IsReachedMember}, proofs.Keeping.give_reached}
+use Rattle.dr_table.proofs.Members.{inside_after}
 use Rattle.dr_table.proofs.seated.SeatedMember.give.Goals as goal
 
 pub give_at-requires-clause-alone : goal.give_at-requires-clause-alone

@@ -3,10 +3,10 @@ use Rattle.std.proofs.Common.{[], sym, ap, ◌∙◌, refl, subst, arith}
 use Rattle.dr_entry.specs.declared.entry.Entry.{Entry}
 use Rattle.dr_form.specs.Letters.{IsFitting}
 use Rattle.dr_member.{specs.Deeds.is_take, proofs.Deeds.a_take}
-use Rattle.dr_program.{specs.Running.{Running, next_deed, settled, took_letter}, proofs.Fixed.told}
+use Rattle.dr_program.{specs.Running.{Running, next_deed, settled, took_letter}, proofs.Accepting.took_told}
+use Rattle.dr_program.proofs.Fixed.{told}
 use Rattle.dr_table.specs.{Cards.{DealtTable, HasAskedForLetter, Seated}, Steps.IsReachedMember}
-use Rattle.dr_table.proofs.{Deeds.took_told, Holding.{fits_list, taken_fits}, Keeping.take_reached}
-use Rattle.dr_table.proofs.Members.{inside_after}
+use Rattle.dr_table.proofs.{Holding.{fits_list, taken_fits}, Keeping.take_reached, Members.inside_after}
 use Rattle.dr_table.proofs.seated.SeatedMember.take.Goals as goal
 
 pub take_at-letter-requires-clause-alone : goal.take_at-letter-requires-clause-alone

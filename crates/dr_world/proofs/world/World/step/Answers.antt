@@ -2,8 +2,7 @@ use Rattle.std.{specs.Vec.with_items, proofs.Common.{◌≡◌, refl, sym, ap, �
 use Rattle.std.proofs.lemmas.List.{with_items_is}
 use Rattle.dr_machine.specs.{Acts.Guard, Events.step_of}
 use Rattle.dr_program.specs.{Presence.with_present, Reading.letters_of, Replica.me, Steps.stored}
-use Rattle.dr_program.proofs.Replicas.{place_at}
-use Rattle.dr_refine.proofs.Steps.{stored_length}
+use Rattle.dr_program.proofs.Replicas.{place_at, stored_length}
 use Rattle.dr_world.specs.{Held.{Held, its_group, its_world}, Inside.held_of, Posts.HasLists}
 use Rattle.dr_world.specs.Steps.{IsReadyFor, may_come, stepped_with}
 use Rattle.dr_world.proofs.Taking.{MayHappen, Took, happens_ready, holding, may_stand, may_still, nobody, refused, refused_event, took}
