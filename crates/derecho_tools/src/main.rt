@@ -86,7 +86,7 @@ fn look(
         Tool::Summary => summarize(threads, alloc, words, &mut source, &mut sink, &mut progress),
         Tool::Trace => trace(threads, alloc, words, &mut source, sink, &mut progress).status,
         Tool::Explain => explain(alloc, words, &mut source, &mut sink),
-        Tool::Sweep => sweep(threads, alloc, words, &mut source, &mut sink),
+        Tool::Sweep => sweep(threads, alloc, words, &mut source, &mut sink, &mut progress),
         Tool::Judge => match words {
             [script, report] => judge_files(rt, alloc, script.as_str(), report.as_str()),
             _ => say(rt, JUDGE_USAGE, USAGE),

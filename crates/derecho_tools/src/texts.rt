@@ -46,10 +46,11 @@ pub(crate) const SWEEP_HELP: &str =
     "\nRuns a script by COUNT seeds from FROM on, or by its own schedule once for each point at which
 member M may crash, and counts how the runs end.
 
-  --shrink OUTCOME  a smaller script that ends so, of the first of these runs that does; an outcome
-                    is what stands last in a row, or what stands there behind the colon, and blanks
-                    in it don't count
-  --late L          the members that are late: numbers with commas, ascending
+  --shrink OUTCOME      a smaller script that ends so, of the first of these runs that does: without
+                        faults and messages that it can do without; an outcome is what stands last in
+                        a row, or what stands there behind the colon, and blanks in it don't count
+  --shrink-all OUTCOME  one with fewer turns and shorter messages too: none of them can be one less
+  --late L              the members that are late: numbers with commas, ascending
 ";
 
 pub(crate) const JUDGE_HELP: &str =

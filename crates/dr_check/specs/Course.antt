@@ -1,6 +1,5 @@
 -- How a text is read, line by line: what may come next, by what has come.
-use Rattle.std.specs.Prelude.{ℕ, suc, ◌+◌, ◌-◌, ◌&&◌, ◌==◌, nat_lt, nat_le, List, [], ◌∷◌, ◌++◌, map, Option, None, Some, true, false, if◌then◌else◌}
-use Rattle.std.specs.Prelude.{option_and_then}
+use Rattle.std.specs.Prelude.{ℕ, suc, ◌+◌, ◌-◌, ◌&&◌, ◌==◌, nat_lt, nat_le, List, [], ◌∷◌, ◌++◌, map, Option, None, Some, true, false, if◌then◌else◌, option_and_then}
 use Rattle.dr_entry.specs.declared.entry.Entry.{Entry}
 use Rattle.dr_check.specs.declared.{course.Course.Course, report.{ReportAge.ReportAge, ReportMember.ReportMember}}
 use Rattle.dr_check.specs.declared.line.Line.{Line, TheVariants.{Age, Present, Absent, Entry as EntryLine, Last}}

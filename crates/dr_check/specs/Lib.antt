@@ -10,3 +10,4 @@ pub mod Progress
 pub mod Fields
 pub mod Lasts
 pub mod Agreeing
+pub mod Verdicts

@@ -36,6 +36,7 @@ mod place;
 mod reading;
 mod report;
 mod starts;
+mod verdict;
 mod views;
 
 pub use dr_text::Clause;
@@ -47,3 +48,4 @@ pub use laws::{
 };
 pub use reading::{ParseFault, parse};
 pub use report::{Report, ReportAge, ReportMember};
+pub use verdict::{Verdict, verdict_on};

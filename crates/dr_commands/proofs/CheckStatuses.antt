@@ -1,7 +1,9 @@
 -- With which statuses a check ends.
 use Rattle.std.{specs.Prelude.IfSome, proofs.lemmas.Bool.cases_lt}
-use Rattle.std.proofs.Common.{◌⊎◌, inl, inr, refl, sym, arith, ℕ, ◌≤◌, ◌<◌, List, Contains, length, Some, None, Option}
+use Rattle.std.proofs.Common.{◌⊎◌, inl, inr, refl, sym, subst, arith, ℕ, ◌≤◌, ◌<◌, List, Contains, length, Some, None, Option}
 use Rattle.serde_json.specs.Data.{Data}
+use Rattle.dr_check.specs.{Verdicts.verdict_line, declared.verdict.Verdict.Verdict}
+use Rattle.dr_check.specs.declared.verdict.Verdict.TheVariants as verdicts
 use Rattle.dr_entry.proofs.NumberFacts.{IsEnd}
 use Rattle.dr_intake.specs.Status.{status_of}
 use Rattle.dr_script.specs.{Json.json_of, Reading.{NotJson, Reading, Reads, TooLong, Wrong, reading_of}}
@@ -9,31 +11,16 @@ use Rattle.dr_script.specs.declared.script.Script.{Script}
 use Rattle.dr_text.specs.declared.last.Last.{Last}
 use Rattle.dr_text.specs.declared.last.Last.TheVariants as lasts
 use Rattle.dr_outcome.proofs.OutcomeKinds.{refused_ends, same_end}
-use Rattle.dr_commands.specs.Check.{IsChecked, IsVerdict, SaysOfScript, SaysOfStrings, SaysOfValue, check_ends, handed_in}
+use Rattle.dr_commands.specs.Check.{IsChecked, SaysOfScript, SaysOfStrings, SaysOfValue, TellsVerdict, check_ends, handed_in}
 
-verdict_ends : (script : Script) (text : List ℕ) (last : Last) → IsVerdict script text last → IsEnd (status_of last)
-verdict_ends script text (lasts.NoReport line) is = inr (inl refl)
-verdict_ends script text lasts.Right is = inl refl
-verdict_ends script text (lasts.Wrong clause line) is = inr (inr refl)
-verdict_ends script text lasts.Done is = absurd is
-verdict_ends script text lasts.Usage is = absurd is
-verdict_ends script text lasts.TooLong is = absurd is
-verdict_ends script text lasts.NotJson is = absurd is
-verdict_ends script text (lasts.Rule rule path) is = absurd is
-verdict_ends script text lasts.SourceFault is = absurd is
-verdict_ends script text (lasts.DiskFault member) is = absurd is
-verdict_ends script text (lasts.Damaged member at) is = absurd is
-verdict_ends script text (lasts.Foreign member place) is = absurd is
-verdict_ends script text (lasts.Disagree a b place) is = absurd is
-verdict_ends script text (lasts.NoQuorum view have need) is = absurd is
-verdict_ends script text lasts.AgesUsedUp is = absurd is
-verdict_ends script text lasts.Unfinished is = absurd is
-verdict_ends script text lasts.NoMajority is = absurd is
-verdict_ends script text (lasts.LogFull member) is = absurd is
-verdict_ends script text (lasts.NoShard shards members) is = absurd is
-verdict_ends script text (lasts.ManyAges ages) is = absurd is
-verdict_ends script text (lasts.Crosses fault) is = absurd is
-verdict_ends script text lasts.NotCheck is = absurd is
+verdict_ends : (script : Script) (text : List ℕ) (last : Last) → TellsVerdict script text last
+    → IsEnd (status_of last)
+verdict_ends script text last (verdict, is, told) = subst (λ l. IsEnd (status_of l)) told (by verdict)
+  where
+    by : (v : Verdict) → IsEnd (status_of (verdict_line v))
+    by (verdicts.Right r) = inl refl
+    by (verdicts.Wrong r flaw) = inr (inr refl)
+    by (verdicts.NoReport line) = inr (inl refl)
 
 script_ends : (r : Reading) (text : List ℕ) (last : Last) → SaysOfScript r text last → IsEnd (status_of last)
 script_ends (Reads script) text last is = verdict_ends script text last is

@@ -8,6 +8,7 @@ use Rattle.dr_check.specs.Values.{HasSmallNumbers, IsAgreed, KeepEachOther, Tell
 use Rattle.dr_check.proofs.{Agreed.{end_there, is_here, order, told_as_opened}, Flawless.printed_right, Values.took}
 use Rattle.dr_entry.{specs.declared.end.{AgeEnd.AgeEnd, End.End, MemberEnd.MemberEnd}, proofs.ListParts.each_at}
 use Rattle.dr_entry.proofs.{ListPlaces.all_from_places, NumberFacts.{IsRunEnd, apart}}
+use Rattle.dr_check.specs.declared.verdict.Verdict.TheVariants as verdicts
 use Rattle.dr_entry.specs.declared.end.End.TheVariants as ends
 use Rattle.dr_history.specs.{Agreement.{EndsAgreed, accounts_of, sent_by}, declared.opening.Opening.Opening}
 use Rattle.dr_history.{specs.{History.GroupView, Soundness.{IsPresentIn, Sound}}, proofs.MemberLemmas.low_number}
@@ -24,7 +25,7 @@ use Rattle.dr_text.specs.{Report.{is_absent, report_text}, declared.last.Last.La
 use Rattle.dr_text.specs.declared.last.Last.TheVariants as lasts
 use Rattle.dr_words.{specs.Masks.mask_of, proofs.Masks.{has_mask_of, in_roster_small}}
 use Rattle.dr_yard.specs.Yards.{AllTell, YardState}
-use Rattle.dr_commands.specs.Check.{IsVerdict}
+use Rattle.dr_commands.specs.Check.{TellsVerdict}
 
 -- ---- the last line
 
@@ -200,13 +201,13 @@ keep_each_other script part ages kept told i a next at after =
 pub run_right : (script : Script) (part : Part) (mode : Mode) (before after : YardState) (ages : List AgeEnd)
     (stop : Option Stop) (last : Last) → HasRanges script → AllTell script.members before
     → IsRunOf script part mode before after ages stop → last_of ages stop ≡ Some last → IsRunEnd (status_of last)
-    → IsVerdict script (report_text ages last) lasts.Right
+    → TellsVerdict script (report_text ages last) lasts.Right
 run_right script part mode before after ages stop last ranges tell run is end =
     let fits = last_fits ages stop last is end in
     let small = all_ages IsSmallUnlessFull script part mode
     (λ nth before after age is. small_age script part mode nth before after age ranges is) 0 before run.last ages
     run.course in
-    printed_right script ages last ranges.group
+    let right = printed_right script ages last ranges.group
     (all_ages (IsAgreed script) script part mode
     (λ nth before after age is. agreed_age script part mode nth before after age ranges is) 0 before run.last
     ages run.course)
@@ -216,4 +217,5 @@ run_right script part mode before after ages stop last ranges tell run is end =
     ages run.course))
     (all_from_places HasSmallNumbers ages
     (λ i age at. each_at IsSmallUnlessFull ages i age small at
-    (λ m e there. none_full ages i age m e fits.0 at there))) fits.1
+    (λ m e there. none_full ages i age m e fits.0 at there))) fits.1 in
+    (verdicts.Right right.0, (right.1, right.2), refl)

@@ -2,8 +2,7 @@
 use Rattle.std.specs.Option.{option_map_or}
 use Rattle.std.specs.Prelude.{◌≡◌, ⊤, ℕ, ◌<◌, ◌≤◌, ◌==◌, Bool, false, if◌then◌else◌, List, [], ◌∷◌, length, codes, Option, Some, None, option_map}
 use Rattle.serde_json.specs.{Data.Data, Find.{as_object, as_str, get}}
-use Rattle.dr_check.specs.{Flaws.{IsFirstFlaw, IsRight}, Grammar.{IsNoReportAt, IsReport}}
-use Rattle.dr_check.specs.declared.report.Report.{Report}
+use Rattle.dr_check.specs.{Verdicts.{IsVerdict, verdict_line}, declared.verdict.Verdict.Verdict}
 use Rattle.dr_intake.specs.Reading.{refusal_in}
 use Rattle.dr_script.specs.{Json.{◌>>=◌, json_of, keys}, Reading.{Reading, Reads, reading_of}}
 use Rattle.dr_script.specs.declared.script.Script.{Script}
@@ -29,18 +28,13 @@ handed_in d =
     >>= (λ script. option_map (λ text. (script, text)) (text_at (codes "text") d))
     else None
 
--- the last line on the text of a report of a script
-abbrev pub IsVerdict : Script → List ℕ → Last → Type 0
-IsVerdict script text (lasts.NoReport line) = IsNoReportAt script.members text line
-IsVerdict script text lasts.Right = (r : Report) × IsReport script.members text r × IsRight script r
-IsVerdict script text (lasts.Wrong clause line) =
-    (r : Report) × IsReport script.members text r
-    × IsFirstFlaw script r (record { clause = clause; line = line })
-IsVerdict script text _ = ⊥
+-- the last line on the text of a report of a script: that of the verdict on it
+abbrev pub TellsVerdict : Script → List ℕ → Last → Type 0
+TellsVerdict script text last = (v : Verdict) × IsVerdict script text v × (verdict_line v ≡ last)
 
 -- that on a text, by what is read of the script: of one that is none the line by which it is refused
 abbrev pub SaysOfScript : Reading → List ℕ → Last → Type 0
-SaysOfScript (Reads script) text last = IsVerdict script text last
+SaysOfScript (Reads script) text last = TellsVerdict script text last
 SaysOfScript refused text last = refusal_in refused ≡ Some last
 
 -- The text is judged right, as one of a report of the script that these bytes are: that it is right is said of

@@ -1,7 +1,7 @@
 -- How far a member has come after so many rounds, and that its next turn brings it on.
 use Rattle.std.proofs.Common.{ap, arith, inl, inr, le_trans, length, length-append, map, subst, sym, ℕ, ◌%◌, ◌*◌, ◌+◌, ◌<◌, ◌∙◌, ◌≡◌, ◌≢◌, ◌≤◌, ◌⊎◌}
 use Rattle.std.proofs.lemmas.{Bool.{cases_eq, cases_lt}, Nat.mod_below}
-use Rattle.dr_entry.proofs.NumberFacts.{HasCome, Rests, come_more, round_le}
+use Rattle.dr_entry.proofs.{NumberFacts.round_le, Rounds.{HasCome, Rests, come_more}}
 use Rattle.dr_history.{specs.{Members.members_of, Places.front_of}, proofs.Fronts.front_past}
 use Rattle.dr_words.specs.declared.column.TheConstants.{DONE_COLUMN, LOGGED_COLUMN, RECEIVED_COLUMN}
 use Rattle.dr_ring.specs.Slots.{slot_column}

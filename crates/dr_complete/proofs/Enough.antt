@@ -1,7 +1,7 @@
 -- How many turns are enough, by the longest list of messages.
 use Rattle.std.proofs.Common.{◌≡◌, ◌↔◌, ◌+◌, ◌*◌, ◌≤◌, [], arith}
 use Rattle.dr_entry.specs.declared.limits.TheConstants.{MAX_MESSAGES}
-use Rattle.dr_entry.proofs.Bits.{enough_for, each_has, some_has, longest_within}
+use Rattle.dr_entry.proofs.LongestLists.{enough_for, each_has, some_has, longest_within}
 use Rattle.dr_complete.specs.{Enough.turns_enough, Time.HasTime}
 use Rattle.dr_script.specs.{Ranges.{HasGroupRanges, HasRanges}, declared.script.Schedule.TheVariants.Lockstep}
 use Rattle.dr_script.specs.declared.script.Script.{Script}

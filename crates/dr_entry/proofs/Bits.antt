@@ -1,10 +1,10 @@
 -- Facts of bits and of lists of marks.
-use Rattle.std.specs.{Fmt.decimal, Int.bit_at, Prelude.map}
-use Rattle.std.{specs.List.{flat_map, filter}, proofs.lemmas.{Bool.cases_lt, Nat.{div-add-mod', mod_below, pow_pos}}}
-use Rattle.std.proofs.Common.{◌≡◌, refl, ℕ, ◌+◌, ◌<◌, arith, List, [], ◌∷◌, ◌++◌, All, codes, length, length-append, ◌-◌, ◌/◌, ◌%◌, ◌^◌, ◌≤◌, ◌⊎◌, inl, inr, sym, ap, ◌∙◌, ◌↔◌, EachIndex, get_or, ◌*◌, bit_or, below_more, w16, Bool, false, cond, zero, suc, Contains, fold, max}
-use Rattle.std.proofs.lemmas.{Fmt.decimal_nonempty, List.Elements.{All-head, All-cons, All-tail, All-nil}}
+use Rattle.std.specs.{Fmt.decimal, Int.bit_at, List.{flat_map, filter}, Prelude.map}
+use Rattle.std.proofs.Common.{◌≡◌, refl, ℕ, ◌+◌, ◌<◌, arith, List, [], ◌∷◌, ◌++◌, All, codes, length, length-append, ◌-◌, ◌/◌, ◌%◌, ◌^◌, ◌≤◌, ◌⊎◌, inl, inr, sym, ap, ◌∙◌, ◌↔◌, EachIndex, get_or, ◌*◌, bit_or, below_more, w16, Bool, false, cond, zero, suc, Contains}
+use Rattle.std.proofs.lemmas.{Bool.cases_lt, Fmt.decimal_nonempty, List.Elements.{All-head, All-cons}}
+use Rattle.std.proofs.lemmas.Nat.{div-add-mod', mod_below, pow_pos}
 use Rattle.std.proofs.lemmas.Nat.Bits.{bit_at_above, bit_at_cat_low, same_from_bits, bit_at_ones, bit_at_ones_above, bit_at_set_other, bit_at_set_same}
-use Rattle.dr_entry.proofs.ListFacts.{joined, default_past, Lacks, Fits, HasTurns}
+use Rattle.dr_entry.proofs.ListFacts.{joined, default_past, Lacks}
 
 -- no number is nothing
 pub joined_none : (ys : List ℕ) → All (λ m. m < 16) ys → length (joined ys) ≡ 0 → ys ≡ []
@@ -73,30 +73,3 @@ pub lacks : (n : ℕ) (es : List ℕ) → Lacks n es → Contains es n → ⊥
 lacks n [] none (i, below, is) = omega (arith, below)
 lacks n (e ∷ es) none (zero, below, is) = none.0 is
 lacks n (e ∷ es) none (suc i, below, is) = lacks n es none.1 (i, omega (arith, below), is)
-
--- where no list is longer than a bound, the longest isn't
-pub longest_within : (most a : ℕ) (lists : List (List (List ℕ))) → a ≤ most
-    → All (λ messages. length messages ≤ most) lists → fold max a (map length lists) ≤ most
-longest_within most a [] l all = l
-longest_within most a (ms ∷ lists) l all = longest_within most (max a (length ms)) lists
-    (omega (arith, l, All-head (Fits most) ms lists all)) (All-tail (Fits most) ms lists all)
-
--- where each list has time enough, the longest has
-pub enough_for : (turns a : ℕ) (lists : List (List (List ℕ))) → 4 * a + 8 ≤ turns
-    → All (HasTurns turns) lists → 4 * fold max a (map length lists) + 8 ≤ turns
-enough_for turns a [] l all = l
-enough_for turns a (ms ∷ lists) l all = enough_for turns (max a (length ms)) lists
-    (omega (arith, l, All-head (HasTurns turns) ms lists all)) (All-tail (HasTurns turns) ms lists all)
-
--- and where the longest has, each has
-pub each_has : (turns a : ℕ) (lists : List (List (List ℕ)))
-    → 4 * fold max a (map length lists) + 8 ≤ turns → (4 * a + 8 ≤ turns) × All (HasTurns turns) lists
-each_has turns a [] l = (l, All-nil (HasTurns turns))
-each_has turns a (ms ∷ lists) l =
-    let rest = each_has turns (max a (length ms)) lists l in
-    (omega (arith, rest.0), All-cons (HasTurns turns) ms lists (omega (arith, rest.0)) rest.1)
-
--- the first of some lists shows that there are as many turns as no message takes
-pub some_has : (turns : ℕ) (lists : List (List (List ℕ))) → 1 ≤ length lists → All (HasTurns turns) lists → 8 ≤ turns
-some_has turns [] some all = omega (arith, some)
-some_has turns (ms ∷ lists) some all = omega (arith, All-head (HasTurns turns) ms lists all)

@@ -8,9 +8,12 @@ pub mod BoolFacts
 pub mod Ends
 pub mod OptionFacts
 pub mod NumberFacts
+pub mod Rounds
+pub mod RankPlaces
 pub mod PlainFacts
 pub mod Records
 pub mod Texts
 pub mod Entries
 pub mod Bits
+pub mod LongestLists
 pub mod Items

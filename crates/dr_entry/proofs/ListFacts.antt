@@ -705,9 +705,6 @@ items_begin most n =
     let none : most - 0 ≡ most = omega arith in
     sum_by-replicate (λ (count : ℕ). most - count) n 0 ∙ ap (λ k. n * k) none ∙ mul_comm n most
 
--- a list of messages is no longer than a bound, or has time enough
-abbrev pub Fits : ℕ → List (List ℕ) → Type 0
-Fits most messages = length messages ≤ most
-
-abbrev pub HasTurns : ℕ → List (List ℕ) → Type 0
-HasTurns turns messages = 4 * length messages + 8 ≤ turns
+-- all elements from a place on
+pub all_from : {X : Type 0} (p : ℕ) (xs : List X) → take (length xs - p) (drop p xs) ≡ drop p xs
+all_from p xs = take_all (length xs - p) (drop p xs) (omega (arith, length-drop p xs))

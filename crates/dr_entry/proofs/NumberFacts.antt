@@ -1,11 +1,11 @@
 -- Facts of numbers.
-use Rattle.std.specs.Fmt.{digit_glyph}
+use Rattle.std.{specs.Fmt.digit_glyph, proofs.Math.Nat.{add-mul, mul-le-mul, div-add-mod, mul-le-mul_left, mul-suc}}
 use Rattle.std.specs.{List.{range_with_len, list_all, Sorted.IsStrictlyIncreasing}, Prelude.{◌==◌, nat_le, max}}
-use Rattle.std.proofs.Common.{◌≡◌, ◌≢◌, ℕ, true, not, arith, ◌+◌, ◌≤◌, false, leb, [], refl, Bool, T, ◌&&◌, ◌*◌, ◌/◌, ◌%◌, ◌<◌, ◌⊎◌, inl, inr, ◌-◌, zero, suc, fold, ap, ◌∙◌, subst, ◌^◌, ◌↔◌, if◌then◌else◌, count_ones, add_comm, lit<, bit_and, sym, nat_lt, cond, ◌||◌, le_refl, min, eqb, ltb, ◌∷◌, Contains, suc-mul, lt_of_mul-lt-mul_right, mul_comm, mod-lt, le_antisymm, le_of_mul-le-mul_right, ap₂}
-use Rattle.std.proofs.{Math.Nat.{mul-le-mul, div-add-mod, mul-le-mul_left, mul-suc}, lemmas.Nat.Bits.ones_shr}
+use Rattle.std.proofs.Common.{◌≡◌, ◌≢◌, ℕ, true, not, arith, ◌+◌, ◌≤◌, false, leb, [], refl, Bool, T, ◌&&◌, ◌*◌, ◌/◌, ◌%◌, ◌<◌, ◌⊎◌, inl, inr, ◌-◌, zero, suc, fold, ap, ◌∙◌, subst, ◌^◌, ◌↔◌, if◌then◌else◌, count_ones, add_comm, lit<, bit_and, sym, nat_lt, cond, ◌||◌, le_refl, min, eqb, ltb, ◌∷◌, Contains, suc-mul, lt_of_mul-lt-mul_right}
 use Rattle.std.proofs.lemmas.Bool.{leb-true, leb-false, cases_lt, eqb-true, false≢true, and_parts, cases_eq}
 use Rattle.std.proofs.lemmas.{Bool.Decides.nat_tests, List.FromFn.{length-range_with_len, get_or-range_with_len}}
-use Rattle.std.proofs.lemmas.Nat.{div-add-mod', mul-le, mod-pow-add, ones_cat, mod_below, pow_pos, and_mask, one_shl, shr-shr, mod-mul-add, mul-add-lt}
+use Rattle.std.proofs.lemmas.Nat.{div-add-mod', mul-le, mod-pow-add, ones_cat, mod_below, pow_pos, and_mask, one_shl, shr-shr, mul-add-lt}
+use Rattle.std.proofs.lemmas.Nat.Bits.{ones_shr}
 use lib.Count.{ones}
 
 pub not_same : (m n : ℕ) → not (m == n) ≡ true → m ≢ n
@@ -375,58 +375,6 @@ pub come_on : (a n b m c l : ℕ) → (a < b) ⊎ ((a ≡ b) × (n ≤ m)) → (
     ⊎ ((b ≡ c) × (m < l)) → (a < c) ⊎ ((a ≡ c) × (n ≤ l))
 come_on a n b m c l h k = grind arith
 
--- behind m whole rounds no place has a smaller number
-pub rounds-le : (n m q : ℕ) → 0 < n → n * m ≤ q → m ≤ q / n
-rounds-le n m q some l = omega (arith, lt_of_mul-lt-mul_right n {m = m} {n = suc (q / n)} up)
-  where
-    up : m * n < suc (q / n) * n
-    up = omega (arith, mul_comm n m, l, div-add-mod' q n, mod-lt q some, suc-mul (q / n) n)
-
--- of n ranks, k places of rank s lie below x
-pub record LieBelow (n s x k : ℕ) : Type 0 where
-  pub low : x ≤ k * n + s
-  pub high : k * n + s < x + n
-
--- below place 0 there is none
-pub lie_none : (n s : ℕ) → s < n → LieBelow n s 0 0
-lie_none n s l = record { low = omega arith; high = omega arith }
-
--- a place of another rank adds none
-pub lie_same : (n s x k : ℕ) → s < n → x % n ≢ s → LieBelow n s x k → LieBelow n s (suc x) k
-lie_same n s x k l other b = record { low = by; high = omega arith }
-  where
-    apart : x ≡ k * n + s → ⊥
-    apart e = other (ap (λ z. z % n) e ∙ mod-mul-add k n s l)
-
-    by : suc x ≤ k * n + s
-    by = grind (arith, apart)
-
--- a place of rank s is the next of its rank
-pub lie_next : (n s x k : ℕ) → s < n → x % n ≡ s → LieBelow n s x k → x / n ≡ k
-lie_next n s x k l e b = le_antisymm (le_of_mul-le-mul_right down (omega arith))
-    (omega (arith, lt_of_mul-lt-mul_right n {m = k} {n = suc (x / n)} up))
-  where
-    down : x / n * n ≤ k * n
-    down = omega (arith, div-add-mod' x n)
-
-    up : k * n < suc (x / n) * n
-    up = omega (arith, div-add-mod' x n, suc-mul (x / n) n)
-
--- and it adds one
-pub lie_more : (n s x k : ℕ) → s < n → x % n ≡ s → x / n ≡ k → LieBelow n s x k → LieBelow n s (suc x) (suc k)
-lie_more n s x k l e same b =
-    record { low = omega (arith, whole, suc-mul k n); high = omega (arith, whole, suc-mul k n) }
-  where
-    whole : x ≡ k * n + s
-    whole = sym (div-add-mod' x n) ∙ ap₂ (λ q r. q * n + r) same e
-
--- a later place of the rank has at least these before it
-pub lie_before : (n s x y k : ℕ) → y % n ≡ s → x ≤ y → LieBelow n s x k → k ≤ y / n
-lie_before n s x y k e l b = omega (arith, lt_of_mul-lt-mul_right n {m = k} {n = suc (y / n)} up)
-  where
-    up : k * n < suc (y / n) * n
-    up = omega (arith, b.high, l, e, div-add-mod' y n, suc-mul (y / n) n)
-
 pub come_later : (a n b m c l : ℕ) → (a < b) ⊎ ((a ≡ b) × (n ≤ m)) → (b < c)
     ⊎ ((b ≡ c) × (m < l)) → (a < c) ⊎ ((a ≡ c) × (n < l))
 come_later a n b m c l h k = grind arith
@@ -594,93 +542,6 @@ pub not_back : (a b : ℕ) (t : Bool) → (t ≡ true → a < b - 1) → (t && (
 not_back a b true before = grind (arith, nat_tests, before refl)
 not_back a b false before = refl
 
--- of n members, with `left s` messages left to member s: what member m has after r rounds, where count gives
--- how many items it has of each
-pub record HasCome (n : ℕ) (left : ℕ → ℕ) (r m : ℕ) (count : ℕ → ℕ) : Type 0 where
-  -- it has put its own message k
-  pub own : (k : ℕ) → k < left m → 3 * k + 1 ≤ r → k < count m
-  -- it has put an item k, where somebody has a message k
-  pub put : (s k : ℕ) → s < n → k < left s → 3 * k + 2 ≤ r → k < count m
-  -- and it has item k of each member
-  pub has : (s t k : ℕ) → s < n → t < n → k < left s → 3 * k + 3 ≤ r → k < count t
-
--- no round brings nothing
-pub come_none : (n : ℕ) (left : ℕ → ℕ) (m : ℕ) (count : ℕ → ℕ) → HasCome n left 0 m count
-come_none n left m count = record {
-  own = λ k below few. absurd (omega (arith, few));
-  put = λ s k l below few. absurd (omega (arith, few));
-  has = λ s t k l b below few. absurd (omega (arith, few));
-}
-
--- who has got as far as a round more brings it has got so far before
-pub come_less : (n : ℕ) (left : ℕ → ℕ) (r m : ℕ) (count : ℕ → ℕ) → HasCome n left (r + 1) m count
-    → HasCome n left r m count
-come_less n left r m count h = record {
-  own = λ k below few. h.own k below (omega arith);
-  put = λ s k l below few. h.put s k l below (omega arith);
-  has = λ s t k l b below few. h.has s t k l b below (omega arith);
-}
-
--- member m has room for its next item in its window: that is one of the first, or each other member has
--- received the one that stood in its place
-abbrev pub Room : ℕ → ℕ → (ℕ → ℕ → ℕ) → ℕ → Type 0
-Room n window count m = (count m m < window) ⊎ ((i : ℕ) → i < n → i ≢ m → count m m - window < count i m)
-
--- member m has done all that there was to do: it has what the others have put, and has no room for its next
--- message, nor, if none is left, for a null where somebody is ahead of it
-pub record Rests (n window : ℕ) (left : ℕ → ℕ) (m : ℕ) (count : ℕ → ℕ → ℕ) : Type 0 where
-  pub taken : (t : ℕ) → t < n → t ≢ m → count m t ≡ count t t
-  pub sent : count m m < left m → Room n window count m → ⊥
-  pub filled : left m ≤ count m m → Room n window count m → (s : ℕ) → s < n → count m s ≤ count m m
-
--- where all others have got as far as r rounds bring them, the slot of an early item is free
-room_for : (n window : ℕ) (left : ℕ → ℕ) (r m s : ℕ) (count : ℕ → ℕ → ℕ) → 1 ≤ window → m < n
-    → ((i : ℕ) → i < n → i ≢ m → HasCome n left r i (count i)) → s < n → count m m < left s
-    → 3 * count m m ≤ r → Room n window count m
-room_for n window left r m s count some within others l below few = by (cases_lt (count m m) window)
-  where
-    by : (count m m < window) ⊎ (window ≤ count m m) → Room n window count m
-    by (inl early) = inl early
-    by (inr late) = inr (λ i h d. (others i h d).has s m (count m m - window) l within (omega arith) (omega arith))
-
--- a member that has done all that there was to do has got as far as one round more brings it
-pub come_more : (n window : ℕ) (left : ℕ → ℕ) (r m : ℕ) (count : ℕ → ℕ → ℕ) → 1 ≤ window → m < n
-    → Rests n window left m count → ((i : ℕ) → i < n → i ≢ m → HasCome n left r i (count i))
-    → HasCome n left (r + 1) m (count m)
-come_more n window left r m count some within rests others = record { own = own; put = put; has = has }
-  where
-    room : (s : ℕ) → s < n → count m m < left s → 3 * count m m ≤ r → Room n window count m
-    room s l below few = room_for n window left r m s count some within others l below few
-
-    own : (k : ℕ) → k < left m → 3 * k + 1 ≤ r + 1 → k < count m m
-    own k below few = by (cases_lt k (count m m))
-      where
-        by : (k < count m m) ⊎ (count m m ≤ k) → k < count m m
-        by (inl is) = is
-        by (inr not_yet) = absurd (rests.sent (omega arith) (room m within (omega arith) (omega arith)))
-
-    put : (s k : ℕ) → s < n → k < left s → 3 * k + 2 ≤ r + 1 → k < count m m
-    put s k l below few = by (cases_lt k (count m m)) (cases_lt (count m m) (left m)) (cases_eq s m)
-      where
-        by : (k < count m m) ⊎ (count m m ≤ k) → (count m m < left m) ⊎ (left m ≤ count m m)
-            → (s ≡ m) ⊎ (s ≢ m) → k < count m m
-        by (inl is) more same = is
-        by (inr not_yet) (inl more) same = absurd (omega (arith, own (count m m) more (omega arith)))
-        by (inr not_yet) (inr none) (inl same) = absurd (grind (arith, same))
-        by (inr not_yet) (inr none) (inr other) = absurd (omega (
-          arith,
-          rests.filled none (room s l (omega arith) (omega arith)) s l,
-          rests.taken s l other,
-          (others s l other).own k below (omega arith),
-        ))
-
-    has : (s t k : ℕ) → s < n → t < n → k < left s → 3 * k + 3 ≤ r + 1 → k < count m t
-    has s t k l h below few = by (cases_eq t m)
-      where
-        by : (t ≡ m) ⊎ (t ≢ m) → k < count m t
-        by (inl same) = rw same (put s k l below (omega arith))
-        by (inr other) = omega (arith, rests.taken t h other, (others t h other).put s k l below (omega arith))
-
 -- an earlier place has no greater number
 pub round_le : (n a b s t : ℕ) → s < n → a * n + t ≤ b * n + s → a ≤ b
 round_le n a b s t l h = omega (arith, lt_of_mul-lt-mul_right n {m = a} {n = suc b} up)
@@ -691,3 +552,7 @@ round_le n a b s t l h = omega (arith, lt_of_mul-lt-mul_right n {m = a} {n = suc
 -- a place of the same member behind it has a greater one
 pub round_lt : (n a b s p : ℕ) → a * n + s < p → p ≤ b * n + s → a < b
 round_lt n a b s p h l = lt_of_mul-lt-mul_right n {m = a} {n = b} (omega (arith, h, l))
+
+-- so many columns further on is so many times as far
+pub place_onward : (c n m i : ℕ) → c * m + i + n * m ≡ (c + n) * m + i
+place_onward c n m i = let each = add-mul c n m in omega (arith, each)

@@ -28,4 +28,4 @@ pub use reading::{DecodeFault, decode};
 pub use record::{AgeVote, Record, Value, Vote};
 pub use seq::Seq;
 pub use text::Text;
-pub use writing::{MAX_RECORD, RECORD_ROOM, encode};
+pub use writing::{MAX_RECORD, RECORD_ROOM, encode, encode_entry};

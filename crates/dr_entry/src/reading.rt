@@ -1,10 +1,8 @@
 ghost use Rattle.std.specs.{Int.{w16, w32}, Result.result_err};
 ghost use Rattle.std.specs.Prelude.{◌≡◌, ◌↔◌, ℕ, ◌+◌, ◌*◌, ◌<◌, ◌≤◌, length, slice_index, MatchResult};
-ghost use Rattle.dr_entry.specs.Grammar.{decoded, fault_of, unless, first_fault, number_at};
-ghost use Rattle.dr_entry.specs.Grammar.{view_fields, view_at, message_fields, message_at};
-ghost use Rattle.dr_entry.specs.Grammar.{vote_fields, vote_at, trim_fields, trims_at};
-ghost use Rattle.dr_entry.specs.{Grammar.{age_vote_at, age_vote_fields, cut_at, cut_fields}, Spelling.Spells};
-ghost use Rattle.dr_entry.specs.{declared.reading.DecodeFault.TheVariants.Short, declared.record.Record.Record};
+ghost use Rattle.dr_entry.specs.Grammar.{decoded, fault_of, unless, first_fault, number_at, view_fields, view_at, message_fields, message_at, vote_fields, vote_at, trim_fields, trims_at, age_vote_at, age_vote_fields, cut_at, cut_fields};
+ghost use Rattle.dr_entry.specs.{Spelling.Spells, declared.reading.DecodeFault.TheVariants.Short};
+ghost use Rattle.dr_entry.specs.declared.record.Record.{Record};
 
 use crate::record::{AGE_VOTE, CUT, MESSAGE, UPGRADE, VIEW, VOTE};
 use crate::writing::MAX_RECORD;

@@ -1,5 +1,5 @@
 ghost use Rattle.std.specs.{Int.{w32, to_be_bytes}, List.flat_map, Prelude.{◌≡◌, ◌≤◌, ◌+◌, ◌*◌, ◌++◌, [], length}};
-ghost use Rattle.dr_entry.specs.Spelling.{IsValid, IsValidVote, Fits, FitsVote, spelling, vote_spelling};
+ghost use Rattle.dr_entry.specs.Spelling.{IsValid, IsValidEntry, IsValidVote, Fits, FitsEntry, FitsVote, entry_spelling, spelling, vote_spelling};
 
 use crate::record::{AGE_VOTE, CUT, MESSAGE, UPGRADE, VIEW, VOTE};
 use crate::{Entry, Record, Vote};
@@ -21,31 +21,7 @@ pub fn encode(r: &Record, into: &mut ArrayVec<u8, RECORD_ROOM>)
 {
     into.clear();
     match r {
-        Record::Entry(
-            Entry::View {
-                age,
-                number,
-                members,
-            },
-        ) => {
-            into.push(VIEW);
-            put(into, &age.to_be_bytes());
-            into.push(*number);
-            put(into, &members.to_be_bytes());
-        }
-        Record::Entry(
-            Entry::Msg {
-                sender,
-                index,
-                bytes,
-            },
-        ) => {
-            into.push(MESSAGE);
-            into.push(*sender);
-            put(into, &index.to_be_bytes());
-            into.push(bytes.bytes().len() as u8);
-            put(into, bytes.bytes());
-        }
+        Record::Entry(entry) => encode_entry(entry, into),
         Record::Vote(vote) => put_vote(into, vote),
         Record::AgeVote(vote) => {
             into.push(AGE_VOTE);
@@ -57,6 +33,39 @@ pub fn encode(r: &Record, into: &mut ArrayVec<u8, RECORD_ROOM>)
             put(into, &keep.to_be_bytes());
         }
         Record::Upgrade => into.push(UPGRADE),
+    }
+}
+
+/// Writes the one spelling of the record of a valid entry in the place of what stood there.
+pub fn encode_entry(entry: &Entry, into: &mut ArrayVec<u8, RECORD_ROOM>)
+    requires valid { IsValidEntry entry.now }
+    ensures spelled { into.new.items ≡ entry_spelling entry.now }
+    ensures short { length into.new.items ≤ MAX_RECORD }
+    ensures fits { FitsEntry entry.now }
+{
+    into.clear();
+    match entry {
+        Entry::View {
+            age,
+            number,
+            members,
+        } => {
+            into.push(VIEW);
+            put(into, &age.to_be_bytes());
+            into.push(*number);
+            put(into, &members.to_be_bytes());
+        }
+        Entry::Msg {
+            sender,
+            index,
+            bytes,
+        } => {
+            into.push(MESSAGE);
+            into.push(*sender);
+            put(into, &index.to_be_bytes());
+            into.push(bytes.bytes().len() as u8);
+            put(into, bytes.bytes());
+        }
     }
 }
 

@@ -1,12 +1,12 @@
 -- A member of a sound program takes its next deed over the words of the table.
 use Rattle.std.specs.Prelude.{◌-◌, None, Option, Some, drop, slice_index_or, slice_range, slice_set}
-use Rattle.std.proofs.Common.{◌≡◌, refl, sym, ap, ◌∙◌, subst, ℕ, ◌<◌, All, Contains, List, [], ◌∷◌, ◌++◌, length, get_or, slice_index}
+use Rattle.std.proofs.Common.{◌≡◌, sym, ap, ◌∙◌, subst, ℕ, ◌<◌, All, Contains, List, [], ◌∷◌, ◌++◌, length, get_or, slice_index}
 use Rattle.std.proofs.lemmas.List.{get_or_default}
 use Rattle.std.proofs.lemmas.List.Elements.{All-contains_itself, All-drop, All-push, All-take, All-weaker, Contains-append_left, Contains-append_right, Contains-push}
 use Rattle.dr_play.{specs.Sound.IsSound, proofs.Deeds.{any_outcome, deed_tells}}
 use Rattle.dr_entry.specs.declared.record.Record.{Record}
 use Rattle.dr_served.specs.Appended.{is_append}
-use Rattle.dr_machine.specs.{Group.Group, declared.step.Step.{Step, TheVariants.Push}}
+use Rattle.dr_machine.specs.Group.{Group}
 use Rattle.dr_member.specs.Deeds.{table_size}
 use Rattle.dr_program.specs.declared.deed.Deed.TheVariants as deeds
 use Rattle.dr_program.{specs.Presence.{present_at, with_present}, proofs.Deeds.{append_gives, append_stores, step_is}}
@@ -14,8 +14,7 @@ use Rattle.dr_program.specs.{Program.{Program, after_deed, letter_for, next_sigh
 use Rattle.dr_program.specs.{Reading.{step_due, step_of_member}, Sight.MaySee, declared.packet.Packet.Packet}
 use Rattle.dr_program.specs.Running.{Running, after_step, deed, deed_of, next_deed, next_step}
 use Rattle.dr_program.specs.{Steps.{index_in, stored, stored_letters}, declared.outcome.Outcome.TheVariants.Ok}
-use Rattle.dr_program.proofs.Programs.{after_append}
-use Rattle.dr_rows.specs.Words.{own}
+use Rattle.dr_program.proofs.{Programs.after_append, RunningPrograms.push_is}
 use Rattle.dr_program_laws.{specs.Carried.IsCarried, proofs.Keeping.{move_kept, sees}}
 use Rattle.dr_program_laws.proofs.Carried.{carried_among, carried_begins, carried_place, carried_pushes}
 use Rattle.dr_words.specs.Layout.{words_of}
@@ -114,12 +113,6 @@ appends P p m r x due is there next member =
     (append_gives p.letters r.replica (next_step r) t.says.0)
 
 -- ---- over a net
-
--- a deed that pushes is a push
-push_is : (r : Running) (s : Step) (index word : ℕ) → deed_of r s ≡ deeds.Push index word → (j : ℕ)
-    × (c : ℕ) × (s ≡ Push j c) × (index_in r.replica j (me r.replica) c ≡ index) × (own r.replica.rows c ≡ word)
-push_is r (Push j c) index word e = (j, c, refl, cc e, cc e)
-push_is r s index word e = absurd (cc)
 
 -- a packet that goes behind the others is on its way with them
 behind : (net : List Packet) (packet : Packet) → All (Contains (packet ∷ net)) (net ++ packet ∷ [])

@@ -3,7 +3,7 @@
 use Rattle.std.proofs.Common.{Contains, ℕ, ◌≤◌, length, map, ◌≡◌, ap, ◌∙◌, ◌-◌, ◌/◌, ◌%◌, nat_lt, List, slice_index, Some, slice_get, refl, sym, arith, false, Option, None, subst, ◌*◌, max, fold, le_refl}
 use Rattle.std.proofs.lemmas.{List.length-map, Option.{slice_get_past, slice_get_within}}
 use Rattle.dr_entry.{specs.declared.end.SentItem.SentItem, proofs.ListFacts.top_place}
-use Rattle.dr_entry.proofs.{ListPlaces.{count-rank, Contains-slice_get, count_max}, NumberFacts.rounds-le}
+use Rattle.dr_entry.proofs.{ListPlaces.{count-rank, Contains-slice_get, count_max}, RankPlaces.rounds-le}
 use Rattle.dr_history.{specs.{History.{GroupView, Sent, item_at}, Places.is_held}, proofs.Indices.item_at-parts}
 
 -- counts by member that leave out no item that was sent

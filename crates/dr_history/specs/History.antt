@@ -1,6 +1,5 @@
 -- Histories: the entries that a member has delivered, from the first age on.
-use Rattle.std.specs.Prelude.{◌≡◌, ℕ, ◌/◌, ◌%◌, ◌==◌, Bool, true, false, List, [], ◌∷◌, ◌++◌, length, filter, filter_map, take, slice_get, slice_index_or, position, Option, None, Some, option_map, if◌then◌else◌}
-use Rattle.std.specs.Prelude.{option_and_then}
+use Rattle.std.specs.Prelude.{◌≡◌, ℕ, ◌/◌, ◌%◌, ◌==◌, Bool, true, false, List, [], ◌∷◌, ◌++◌, length, filter, filter_map, take, slice_get, slice_index_or, position, Option, None, Some, option_map, if◌then◌else◌, option_and_then}
 use Rattle.dr_entry.specs.declared.end.{MemberEnd.MemberEnd, SentItem.{SentItem, TheVariants.{Null, Index}}}
 use Rattle.dr_entry.specs.declared.{end.ViewSent.ViewSent, entry.Entry.{Entry, TheVariants.{View, Msg}}}
 use Rattle.dr_history.specs.{Members.members_of, Places.{place_of, held_places}, declared.opening.Opening.Opening}

@@ -3,7 +3,7 @@ use Rattle.std.proofs.Common.{◌≡◌, refl, ap, sym, ◌∙◌, ◌⊎◌, in
 use Rattle.std.proofs.lemmas.{Bool.{cases_eq, ne_eqb}, Option.{none-some, slice_get_within, same_Some}}
 use Rattle.dr_entry.specs.declared.{end.SentItem.{SentItem, TheVariants.{Null, Index}}, entry.Entry.TheVariants.Msg}
 use Rattle.dr_entry.{specs.declared.entry.Entry.Entry, proofs.ListPlaces.{Contains-slice_get, slice_get-some}}
-use Rattle.dr_entry.proofs.{ListFacts.AreDistinct, NumberFacts.{LieBelow, lie_none, lie_same, lie_next, lie_more}}
+use Rattle.dr_entry.proofs.{ListFacts.AreDistinct, RankPlaces.{LieBelow, lie_none, lie_same, lie_next, lie_more}}
 use Rattle.dr_history.specs.{History.{GroupView, Sent, messages_of, messages_in, item_at}, Order.messages_from}
 use Rattle.dr_history.specs.declared.opening.Opening.{Opening}
 use Rattle.dr_history.proofs.Indices.{messages_in-past, item_at-of_parts, messages_in-null, messages_in-message, item_at-parts}

@@ -4,7 +4,7 @@ use Rattle.std.{specs.List.range_with_len, proofs.lemmas.Bool.cases_lt}
 use Rattle.std.proofs.Common.{map, append-nil, ◌≡◌, subst, refl, ap, sym, ◌∙◌, ◌⊎◌, inl, inr, ℕ, ◌+◌, ◌-◌, ◌/◌, ◌%◌, ◌<◌, ◌≤◌, arith, List, [], ◌++◌, length, Option, None, Some, slice_get, option_and_then, length-append, take}
 use Rattle.dr_entry.specs.declared.{end.SentItem.{SentItem, TheVariants.{Null, Index}}, entry.Entry.Entry}
 use Rattle.dr_entry.proofs.{ListFacts.{AreDistinct, top_place}, ListParts.filter_map-filter}
-use Rattle.dr_entry.proofs.{ListPlaces.Contains-slice_get, NumberFacts.lie_before}
+use Rattle.dr_entry.proofs.{ListPlaces.Contains-slice_get, RankPlaces.lie_before}
 use Rattle.dr_history.specs.History.{IsPrefixOf, GroupView, Sent, entry_of, item_at, merge, messages_in}
 use Rattle.dr_history.specs.{Order.messages_from, Places.{is_held, held_places}, declared.opening.Opening.Opening}
 use Rattle.dr_history.proofs.{Indices.{messages_in-le, item_at-parts}, NumberedLemmas.messages_from-append}

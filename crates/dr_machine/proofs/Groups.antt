@@ -1,7 +1,7 @@
 -- Groups: their members, the first, the late and the present ones.
 use Rattle.std.{specs.List.range_with_len, proofs.{Math.{ListN.get_or-map, Seq.take-length}, lemmas.Bool.cases_lt}}
 use Rattle.std.specs.Prelude.{slice_index}
-use Rattle.std.proofs.Common.{◌≡◌, ◌<◌, ◌≤◌, arith, subst, ℕ, ◌-◌, length, sym, ap, ◌∙◌, inl, inr, [], map, ◌^◌, ◌&&◌, not, false, true, ◌||◌, ◌⊎◌, List, take, get_or, All, Some, slice_get, le_refl, ◌+◌, refl, None, ◌∷◌, length-append, ◌≢◌, Bool, if◌then◌else◌, ◌==◌, zero-add}
+use Rattle.std.proofs.Common.{◌≡◌, ◌<◌, ◌≤◌, arith, subst, ℕ, ◌-◌, length, sym, ap, ◌∙◌, inl, inr, [], map, ◌^◌, ◌&&◌, not, false, true, ◌||◌, ◌⊎◌, List, take, get_or, All, Some, slice_get, ◌≢◌, le_refl, ◌+◌, refl, None, ◌∷◌, length-append, Bool, if◌then◌else◌, ◌==◌, zero-add}
 use Rattle.std.proofs.lemmas.{Bool.Decides.nat_tests, List.get_or_past, Option.{none-some, slice_get-get_or}}
 use Rattle.std.proofs.lemmas.List.FromFn.{get_or-map-range_with_len, length-map-range_with_len, length-range_with_len}
 use Rattle.dr_entry.specs.{Spelling.IsValidEntry, declared.entry.Entry.{Entry, TheVariants.{View, Msg}}}
@@ -10,10 +10,11 @@ use Rattle.dr_history.specs.{Agreement.{Accounts, sent_by}, History.messages_of,
 use Rattle.dr_history.specs.{Order.{messages_from, IsLateIn, first_entries}, Restarting.AllStand}
 use Rattle.dr_history.{specs.Soundness.{IsNobodyLate, MayStand, whole_roster}, proofs.MemberLemmas.few_members}
 use Rattle.dr_history.proofs.{NumberedLemmas.from_before, Openings.first-members}
-use Rattle.dr_words.specs.Columns.{columns_of, head_column, recv_column, leavers_column}
+use Rattle.dr_words.specs.{Columns.{columns_of, head_column, recv_column, leavers_column}, Layout.word_index_of}
 use Rattle.dr_words.specs.{Masks.{IsInRoster, IsMajorityOf, IsPartOf}, Packing.{recv_count, ring_tag}}
 use Rattle.dr_words.specs.declared.{column.TheConstants.{LOGGED_COLUMN, BEAT_COLUMN}, shape.Shape.Shape}
 use Rattle.dr_words.proofs.{Majorities.majorities_meet_lem, Masks.{in_roster_small, has_without_mask}}
+use Rattle.dr_words.proofs.Places.{word_index_one_to_one}
 use Rattle.dr_ring.specs.Slots.{slot_column}
 use Rattle.dr_machine.specs.{Acts.{does, CanTake, Guard}, Events.{member_of, step_of}}
 use Rattle.dr_machine.specs.Group.{Group, banks, roster, IsGroup, late_members, IsPresent, columns, AllPresent}
@@ -128,18 +129,6 @@ pub does_table : (g : Group) (w : World) (m : ℕ) (a : Act) → (does g w m a).
 does_table g w m acts.Finish = refl
 does_table g w m a = refl
 
--- what a replica was told as its age opened
-pub record Told : Type 0 where
-  pub number : ℕ
-  pub age : ℕ
-  pub roster : ℕ
-  pub window : ℕ
-  pub banks : ℕ
-  pub messages : List (List ℕ)
-  pub totals : List ℕ
-  pub room : ℕ
-  pub late : ℕ
-
 -- the column stands where the accept words do
 abbrev pub IsBetween : Group → ℕ → Type 0
 IsBetween g c = (recv_column (roster g) ≤ c) × (c < head_column (roster g) 0)
@@ -248,3 +237,20 @@ pub at_rank : (g : Group) (s : ℕ) → IsGroup g → IsNobodyLate g.opening →
     → slice_get (members_of g.opening.members) s ≡ Some s
 at_rank g s is nobody whole l = ap (λ ms. slice_get ms s) (members_first g is nobody whole) ∙ range_at 0 (roster g) s l
     ∙ ap Some (zero-add s)
+
+-- a place of the group's table
+pub record IsPlace (g : Group) (v m i c : ℕ) : Type 0 where
+  pub bank : v < banks g
+  pub copy : m < roster g
+  pub row : i < roster g
+  pub column : c < columns g
+
+-- the word of a view, a row and a column in the copy of member m
+abbrev pub place_in : Group → ℕ → ℕ → ℕ → ℕ → ℕ
+place_in g v m i c = word_index_of (roster g) g.window v m i c
+
+-- places in two copies are two
+pub other_place : (g : Group) (v m i c u k j b : ℕ) → IsPlace g v m i c → k < roster g → j < roster g → b < columns g
+    → k ≢ m → place_in g u k j b ≢ place_in g v m i c
+other_place g v m i c u k j b p copy row column other same =
+    other (word_index_one_to_one (roster g) g.window v m i c u k j b p.copy p.row p.column copy row column same).1

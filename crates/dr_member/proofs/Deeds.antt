@@ -1,12 +1,15 @@
 -- Deeds of a member, and which of them are its last.
-use Rattle.std.{specs.Prelude.{None, is_some}, proofs.Common.{◌≡◌, refl, false, sym, ap, ◌∙◌, ℕ, true, ◌||◌}}
+use Rattle.std.specs.Prelude.{None, is_some, Option, Some}
+use Rattle.std.proofs.Common.{◌≡◌, refl, false, sym, ap, ◌∙◌, ℕ, true, ◌||◌}
+use Rattle.dr_entry.specs.{declared.end.End.End, declared.record.Record.Record}
+use Rattle.dr_words.specs.Layout.{words_of}
 use Rattle.dr_machine.specs.declared.step.Step.{Step, TheVariants.Do}
-use Rattle.dr_program.specs.Running.{Running, deed_of, after_step, deed, next_deed, next_step, step_at}
-use Rattle.dr_program.specs.{Turn.is_beat, declared.{deed.Deed.Deed, place.Part.Part}}
-use Rattle.dr_program.proofs.{Parts.{is_final, end_stays}, Search.settled_same}
+use Rattle.dr_program.specs.Running.{Running, deed_of, after_step, deed, next_deed, next_step, step_at, took}
+use Rattle.dr_program.{specs.Turn.is_beat, proofs.{Parts.{is_final, end_stays}, Search.{settled_same, settle_only}}}
+use Rattle.dr_program.{specs.declared.{deed.Deed.Deed, place.Part.Part}, proofs.Fixed.{step_told, Told}}
 use Rattle.dr_program.specs.declared.place.Part.TheVariants as parts
 use Rattle.dr_program.specs.declared.deed.Deed.TheVariants as deeds
-use Rattle.dr_member.specs.Deeds.{is_act, is_look, is_push, is_take}
+use Rattle.dr_member.specs.Deeds.{is_act, is_look, is_push, is_take, is_append, table_size}
 
 only_acts_are_final : (r : Running) (s : Step) → is_act (deed_of r s) ≡ false → is_final s ≡ false
 only_acts_are_final r (Do a) other = absurd (cc)
@@ -30,3 +33,20 @@ no_beat r p i c due = refl
 pub a_take : (d : Deed) → is_take d ≡ true → d ≡ deeds.Take
 a_take deeds.Take is = refl
 a_take d is = absurd (cc is)
+
+-- an append
+pub append_due : (due : Deed) → is_append due ≡ true → (x : Record) × (due ≡ deeds.Append x)
+append_due (deeds.Append x) is = (x, refl)
+append_due due is = absurd (cc)
+
+-- a member whose next deed is a look has not ended
+pub look_none : (r : Running) → is_look (next_deed r) ≡ true → r.replica.end ≡ None
+look_none r look = by r.replica.end refl look
+  where
+    by : (o : Option End) → r.replica.end ≡ o → is_look (deed r o) ≡ true → r.replica.end ≡ None
+    by None e is = e
+    by (Some end) e is = absurd (cc)
+
+pub size_after : (word : ℕ) (r : Running) → table_size (after_step word r) ≡ table_size r
+size_after word r = ap (λ (x : Running). table_size x) (settle_only _ (took word r (next_step r)))
+    ∙ ap (λ (t : Told). words_of t.roster t.window t.banks) (step_told word r.replica (next_step r))

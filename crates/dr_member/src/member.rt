@@ -247,6 +247,8 @@ impl Member {
         ensures keeps { IsStill self.old self.new }
     {
         go(&self.replica.shape(), &mut self.place);
+        // Known where this is called, the part is not read again behind the act.
+        let part = self.place.part;
         take_act(
             act,
             &mut self.replica,
@@ -261,6 +263,7 @@ impl Member {
             &mut self.place,
             &mut self.ready,
             inside,
+            part,
         );
     }
 
@@ -288,12 +291,14 @@ impl Member {
         go(&self.replica.shape(), &mut self.place);
         self.replica.give(newcomer);
         let inside = self.replica.is_inside();
+        let part = self.place.part;
         settle(
             &self.replica,
             &self.fate,
             &mut self.place,
             &mut self.ready,
             inside,
+            part,
         );
     }
 
@@ -311,12 +316,14 @@ impl Member {
         go(&self.replica.shape(), &mut self.place);
         take_letter(letter, &mut self.replica, &mut self.fate, &mut self.bases);
         let inside = self.replica.is_inside();
+        let part = self.place.part;
         settle(
             &self.replica,
             &self.fate,
             &mut self.place,
             &mut self.ready,
             inside,
+            part,
         );
     }
 
@@ -484,12 +491,14 @@ impl Member {
         let value = self.replica.value_due();
         self.replica.vote(value);
         let inside = self.replica.is_inside();
+        let part = self.place.part;
         settle(
             &self.replica,
             &self.fate,
             &mut self.place,
             &mut self.ready,
             inside,
+            part,
         );
     }
 

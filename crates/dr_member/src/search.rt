@@ -45,7 +45,8 @@ pub(crate) const BEAT: u8 = PartName::Beat as u8;
 
 /// Goes on to the first place of the turn, from this one on, at which there is something to do. Stays,
 /// where the member has ended. Where nothing of a vote is due, it goes past the parts of votes at once, and where
-/// nobody has come into the view, past the letters. Whoever calls it says whether the member is in its view.
+/// nobody has come into the view, past the letters. Whoever calls it says whether the member is in its view, and
+/// at which part this place is.
 #[inline(always)]
 pub(crate) fn settle(
     replica: &Replica,
@@ -53,11 +54,13 @@ pub(crate) fn settle(
     place: &mut Place,
     ready: &mut u16,
     inside: bool,
+    part: u8,
 )
     requires underway { IsUnderway (standing replica.now fate.now place.old) }
     requires fate { IsTimely fate.now replica.now.turns }
     requires ready { KeepsReady replica.now place.old ready.old }
     requires inside { inside ≡ is_inside replica.now }
+    requires part { part ≡ place.old.part }
     ensures place { standing replica.now fate.now place.new
         ≡ settled (standing replica.now fate.now place.old) }
     ensures ready { KeepsReady replica.now place.new ready.new }
@@ -66,24 +69,34 @@ pub(crate) fn settle(
         return;
     }
     if inside {
-        settle_inside(replica, fate, place, ready);
+        settle_inside(replica, fate, place, ready, part);
     } else {
         settle_outside(replica, fate, place, ready);
     }
 }
 
-/// The same of a member that has not ended, and is in its view: no place asks that again.
+/// The same of a member that has not ended, and is in its view: no place asks that again. Behind most acts there
+/// is more of the same to do, so that is asked first.
 #[inline(always)]
-fn settle_inside(replica: &Replica, fate: &Fate, place: &mut Place, ready: &mut u16)
+fn settle_inside(replica: &Replica, fate: &Fate, place: &mut Place, ready: &mut u16, part: u8)
     requires underway { IsUnderway (standing replica.now fate.now place.old) }
     requires fate { IsTimely fate.now replica.now.turns }
     requires ready { KeepsReady replica.now place.old ready.old }
     requires going { replica.now.end ≡ None }
     requires inside { is_inside replica.now ≡ true }
+    requires part { part ≡ place.old.part }
     ensures place { standing replica.now fate.now place.new
         ≡ settled (standing replica.now fate.now place.old) }
     ensures ready { KeepsReady replica.now place.new ready.new }
 {
+    let here = Place {
+        part,
+        row: place.row,
+        column: place.column,
+    };
+    if applies_inside(replica, fate, here, *ready) {
+        return;
+    }
     loop {
         match *part_of(*place) {
             Part::Take => place.part = LOOKS,
@@ -146,7 +159,8 @@ pub(crate) fn leave_row(replica: &Replica, fate: &Fate, place: &mut Place, ready
     ensures ready { KeepsReady replica.now place.new ready.new }
 {
     enter_row(replica, place, ready);
-    settle(replica, fate, place, ready, true);
+    let part = place.part;
+    settle(replica, fate, place, ready, true, part);
 }
 
 /// Goes on to what comes after the row. Where items of another member are received there, it sweeps the ring

@@ -287,20 +287,25 @@ has_played play script before after o ranges prompt run line = record {
   complete = λ room. all_ages play script before after o.ages o.stop o.last run line room;
 }
 
--- in memory, with these members late
-abbrev memory_play : Mode → ℕ → Playing
-memory_play mode late = record { mode = mode; folder = None; late = late }
+-- a run by what the code has of a play is one of the play
+pub run_played : {view : Playing} {folder : Option InFolder} (play : Playing) (script : Script)
+    (before after : YardState) (o : Outcome) → view ≡ play → view.folder ≡ folder
+    → HasRun view.mode folder (part_in play) script before after o.ages o.stop
+    → HasRun play.mode play.folder (part_in play) script before after o.ages o.stop
+run_played {view = view} play script before after o same is run =
+    subst (λ (p : Playing). HasRun p.mode p.folder (part_in play) script before after o.ages o.stop) same
+    (subst (λ (f : Option InFolder). HasRun view.mode f (part_in play) script before after o.ages o.stop) (sym is) run)
 
 -- nothing was run in memory, or the run there is one that was played, and every yard is as it was
-pub memory_played : (mode : Mode) (late : ℕ) (script : Script) (yard : YardState) (o : Outcome) → HasRanges script
-    → HaveSomebodyPrompt script (part_in (memory_play mode late)) → o.body ≡ bodies.Report
-    → ((o.ages ≡ []) × (o.stop ≡ None) × (o.last ≡ None))
-    ⊎ (IsMemoryRun script (part_in (memory_play mode late)) mode o.ages o.stop × (o.last ≡ last_of o.ages o.stop))
-    → SaysOnly None yard yard o ⊎ HasPlayed (memory_play mode late) script yard yard o
-memory_played mode late script yard o ranges prompt body (inl nothing) =
+pub memory_played : {view : Playing} (play : Playing) (script : Script) (yard : YardState) (o : Outcome) → view ≡ play
+    → view.folder ≡ None → HasRanges script → HaveSomebodyPrompt script (part_in play) → o.body ≡ bodies.Report
+    → ((o.ages ≡ []) × (o.stop ≡ None) × (o.last ≡ None)) ⊎ (IsMemoryRun script (part_in play) view.mode o.ages o.stop
+    × (o.last ≡ last_of o.ages o.stop)) → SaysOnly None yard yard o ⊎ HasPlayed play script yard yard o
+memory_played play script yard o same none ranges prompt body (inl nothing) =
     inl (says_only None yard o nothing.0 nothing.1 body nothing.2)
-memory_played mode late script yard o ranges prompt body (inr ran) =
-    inr (has_played (memory_play mode late) script yard yard o ranges prompt (refl, ran.0) ran.1)
+memory_played {view = view} play script yard o same none ranges prompt body (inr ran) =
+    inr (has_played play script yard yard o ranges prompt (run_played play script yard yard o same none (refl, ran.0))
+    ran.1)
 
 -- ---- the last lines of commands
 
@@ -359,12 +364,11 @@ played_ends play script before after o played = (
 )
   where
     by_folder : (folder : Option InFolder) (last : Option Last)
-        → HasRun play.mode folder (record { missing = missing_of folder; late = play.late }) script before after o.ages
-        o.stop → last_of o.ages o.stop ≡ last → IfSome last (λ line. Contains (ends_over folder) (status_of line))
+        → HasRun play.mode folder (part_in (record play { folder = folder })) script before after o.ages o.stop → last_of o.ages o.stop ≡ last → IfSome last (λ line. Contains (ends_over folder) (status_of line))
     by_folder None None run is = tt
     by_folder (Some name) None run is = tt
     by_folder None (Some line) run is = part_lasts script
-        (record { missing = 0; late = play.late }) play.mode o.ages o.stop line (λ m below. has_zero m) run.1 is
+        (part_in (record play { folder = None })) play.mode o.ages o.stop line (λ m below. has_zero m) run.1 is
     by_folder (Some name) (Some line) run is = run_lasts o.ages o.stop line is
 
 -- the statuses of a run are among those of a play, and so is that of the usage where somebody is late

@@ -1,28 +1,37 @@
 -- What the next deed of a member says of the step that is due to it.
-use Rattle.std.specs.Prelude.{Option, None, Some, slice_set, is_some, slice_index_or}
-use Rattle.std.proofs.Common.{◌≡◌, refl, ap, subst, ℕ, false, true, List, [], length, slice_index, ◌||◌, ◌∙◌, zero, suc, ◌≤◌, sym}
+use Rattle.std.specs.Prelude.{Option, None, Some, slice_set, is_some, slice_index_or, not}
+use Rattle.std.proofs.Common.{◌≡◌, refl, ap, subst, ℕ, false, true, List, [], length, slice_index, ◌||◌, ◌∙◌, zero, suc, ◌≤◌, sym, arith, ◌∷◌}
+use Rattle.std.proofs.lemmas.Bool.{and_parts}
 use Rattle.dr_entry.specs.{declared.{end.End.End, entry.Entry.Entry}, declared.record.Record.Record}
 use Rattle.dr_disk.specs.Disk.{Told}
-use Rattle.dr_history.specs.History.{up_to_view}
+use Rattle.dr_history.specs.{History.up_to_view, Members.has}
 use Rattle.dr_log.specs.State.{LogState}
-use Rattle.dr_machine.specs.{Acts.CanTake, Group.Group, Guards.CanWelcome, declared.{event.Act.Act, step.Step.Step}}
-use Rattle.dr_machine.specs.declared.step.Step.TheVariants.{Do, Append, Join, LogVote, Welcome}
-use Rattle.dr_program.{specs.Form.IsRunningMember, proofs.Waiting.append_free}
-use Rattle.dr_program.specs.{Presence.{present_at, with_present}, Reading.{letters_of, step_by, step_due, world}}
+use Rattle.dr_words.specs.Layout.{word_index_of}
+use Rattle.dr_machine.{specs.{Acts.CanTake, Guards.CanWelcome, declared.event.Act.Act}, proofs.Worlds.past_same}
+use Rattle.dr_machine.specs.{Group.Group, declared.step.Step.{Step, TheVariants.{Do, Append, Join, LogVote, Welcome}}}
+use Rattle.dr_machine.specs.{Run.PastGrew, World.World}
+use Rattle.dr_program.specs.{Form.IsRunningMember, Net.took_nothing, Presence.{present_at, with_present}}
 use Rattle.dr_program.specs.Program.{after_deed, next_sight, IsRanFrom, Program, ran, comes_to, letter_for, ok, step_of}
-use Rattle.dr_program.specs.Running.{Running, after_step, crashes_now, deed, deed_of, next_deed, next_step, settled, step_at, took_letter}
-use Rattle.dr_program.specs.{Steps.{IsAppend, sight, stored, stored_letters, IsNoJoin}, declared.place.Part.Part}
-use Rattle.dr_program.{specs.{Turn.{part_of, is_beat}, declared.deed.Deed.Deed}, proofs.RunningPrograms.after_take}
-use Rattle.dr_program.{specs.declared.outcome.Outcome.Outcome, proofs.Deeds.{due_allowed, deed_ran, step_is}}
-use Rattle.dr_program.proofs.{Present.{present_set, MayGet}, StepsAt.{append_either, push_either, vote_either}}
+use Rattle.dr_program.specs.{Reading.{letters_of, step_by, step_due, world, table_of}, Replica.is_inside}
+use Rattle.dr_program.specs.Running.{AsksForLetter, Running, after_step, crashes_now, deed, deed_of, next_deed, next_step, settled, step_at, took_letter, broken_off, took}
+use Rattle.dr_program.specs.Steps.{IsAppend, sight, stored, stored_letters, IsNoJoin, allows, has_cell}
+use Rattle.dr_program.specs.{Turn.{part_of, is_beat}, declared.{deed.Deed.Deed, outcome.LogWhy.LogWhy}}
+use Rattle.dr_program.specs.declared.{outcome.Outcome.{Outcome, TheVariants.{Ok, Failed}}, packet.Packet.Packet}
+use Rattle.dr_program.{specs.declared.place.Part.Part, proofs.Copies.IsToOther}
+use Rattle.dr_program.proofs.Deeds.{missed_stays, due_allowed, deed_ran, step_is, replicas, append_gives, append_stores}
+use Rattle.dr_program.proofs.{Present.{present_set, MayGet, present_within}, Programs.after_append}
+use Rattle.dr_program.proofs.RunningPrograms.{after_take, IsLookOf, look_is, push_is, with_member}
+use Rattle.dr_program.proofs.{StepsAt.{append_either, push_either, vote_either}, Waiting.append_free}
 use Rattle.dr_program.specs.declared.deed.Deed.TheVariants as deeds
 use Rattle.dr_program.specs.declared.place.Part.TheVariants as parts
 use Rattle.dr_program.specs.declared.outcome.Outcome.TheVariants as outcomes
-use Rattle.dr_refine.proofs.Deeds.{deed_is_step}
+use Rattle.dr_refine.proofs.{Deeds.{deed_is_step, program_member}, Guards.{other_within, other_member}}
+use Rattle.dr_refine.proofs.Tests.{cell_test}
 use Rattle.dr_served.specs.{Appended.{IsAppendDue, is_append, record_due, record_of}, Served.{IsReady, HasServed}}
 use Rattle.dr_served.proofs.{Appends.{may_log, IsPlain, IsSweeping}, Serving.{other_ready, logged_on, other_served}}
 use Rattle.dr_member.{specs.{Alone.{IsAtSweep, LeadsTo}, Deeds.{is_look, is_push}}, proofs.Deeds.no_beat}
-use Rattle.dr_program_laws.proofs.{Keeping.move_kept, Letters.letters_are}
+use Rattle.dr_program_laws.{specs.Carried.IsCarried, proofs.{Keeping.move_kept, Letters.{letters_are, may_get}}}
+use Rattle.dr_program_laws.proofs.Carried.{IsCarriedOn, moved_on, carried_on, carried_pushes, carried_misses}
 use Rattle.dr_play.specs.Sound.{IsSound}
 
 -- ---- a step, by its deed
@@ -253,3 +262,170 @@ given_after g p m j r is there next may =
           ∙ ap (λ s. present_at (stored_letters p.letters r.replica s) j) t.says
           ∙ present_set p.letters j (up_to_view r.replica.history) may.within,
     )
+
+pub look_place : (g : Group) (p : Program) (net : List Packet) (m : ℕ) (r : Running) (index : ℕ)
+    → IsCarried g p net → present_at p.members m ≡ Some r → next_deed r ≡ deeds.Look index → IsLookOf g m r index
+look_place g p net m r index y there due =
+    let t = deed_tells p.table r (deeds.Look index) due in
+    let at = look_is r (next_step r) index (sym (ap (deed r) t.none) ∙ due) in
+    let of = y.form.of m r there in
+    let member = program_member g p m r y.group y.form there in
+    let may = and_parts (is_inside r.replica) _ (subst (λ s. allows r.replica s ≡ true) at.2
+    (due_allowed r ((y.form.form m r there).due t.none))) in
+    let cell = (cell_test g (replicas p.members) (table_of p) m r.replica at.0 at.1 member).0
+    (and_parts (not (has r.replica.suspects at.0)) (has_cell r.replica at.0 at.1) may.1).1 in
+    record {
+      row = at.0;
+      column = at.1;
+      step = at.2;
+      is = record {
+        bank = omega (arith, member.form.bank, of.banks);
+        copy = omega (arith, present_within p.members m r there, y.form.all);
+        row = other_within g (replicas p.members) (table_of p) m r.replica at.0 member cell.0;
+        column = cell.1;
+      };
+      at = sym at.3 ∙ (λ z. word_index_of (of.members z) (of.window z) r.replica.view (of.number z) at.0 at.1);
+    }
+
+-- a push of a member of the program is of its own row, for a place of another copy
+pub push_place : (g : Group) (p : Program) (net : List Packet) (m : ℕ) (r : Running) (packet : Packet)
+    → IsCarried g p net → present_at p.members m ≡ Some r
+    → next_deed r ≡ deeds.Push packet.index packet.word → (to : IsToOther g packet) × (to.row ≡ m)
+push_place g p net m r packet y there due =
+    let t = deed_tells p.table r (deeds.Push packet.index packet.word) due in
+    let at = push_is r (next_step r) packet.index packet.word (sym (ap (deed r) t.none) ∙ due) in
+    let of = y.form.of m r there in
+    let member = program_member g p m r y.group y.form there in
+    let may = and_parts (is_inside r.replica) _ (subst (λ s. allows r.replica s ≡ true) at.2
+    (due_allowed r ((y.form.form m r there).due t.none))) in
+    let cell = (cell_test g (replicas p.members) (table_of p) m r.replica at.0 at.1 member).0 may.1 in (
+      record {
+        view = r.replica.view;
+        copy = at.0;
+        row = m;
+        column = at.1;
+        is = record {
+          bank = omega (arith, member.form.bank, of.banks);
+          copy = other_within g (replicas p.members) (table_of p) m r.replica at.0 member cell.0;
+          row = omega (arith, present_within p.members m r there, y.form.all);
+          column = cell.1;
+        };
+        at = sym at.3 ∙ (λ z. word_index_of (of.members z) (of.window z) r.replica.view at.0 (of.number z) at.1);
+        other = λ e. ((other_member g (replicas p.members) (table_of p) m r.replica at.0 member).0 cell.0).other (sym e);
+      },
+      refl,
+    )
+
+-- at each kind of deed
+pub looks : (g : Group) (p : Program) (net : List Packet) (m : ℕ) (r x : Running) (index : ℕ)
+    → IsCarried g p net → present_at p.members m ≡ Some r → next_deed r ≡ deeds.Look index
+    → x ≡ after_step (slice_index p.table index) r → IsCarriedOn g p (with_member p m x p.table) net
+looks g p net m r x index carried there due member =
+    let t = deed_tells p.table r (deeds.Look index) due in
+    moved_on g p net m Ok r x p.table carried there t.none (member ∙ ap (λ w. after_step w r) (sym t.says.sees)
+    ∙ sym (any_outcome (next_sight p.table r) (letter_for p m) Ok r (next_step r)
+    (ap is_append t.says.look) t.says.no_join))
+    (sym (ap (stored p.table r.replica) t.says.look)) (t.says.posts p.letters)
+
+pub acts : (g : Group) (p : Program) (net : List Packet) (m : ℕ) (r x : Running) (index word : ℕ)
+    → IsCarried g p net → present_at p.members m ≡ Some r → next_deed r ≡ deeds.Act index word
+    → x ≡ after_step 0 r → IsCarriedOn g p (with_member p m x (slice_set p.table index word)) net
+acts g p net m r x index word carried there due member =
+    let t = deed_tells p.table r (deeds.Act index word) due in
+    moved_on g p net m Ok r x (slice_set p.table index word) carried there t.none
+    (member ∙ ap (λ w. after_step w r) (sym t.says.sees)
+    ∙ sym (any_outcome (next_sight p.table r) (letter_for p m) Ok r (next_step r) t.says.other t.says.no_join))
+    (sym t.says.stores) (t.says.posts p.letters)
+
+pub appends : (g : Group) (p : Program) (net : List Packet) (m : ℕ) (r x : Running) (due : Record)
+    → IsCarried g p net → present_at p.members m ≡ Some r → next_deed r ≡ deeds.Append due
+    → x ≡ after_step 0 r → IsCarriedOn g p (with_member p m x p.table) net
+appends g p net m r x due carried there next member =
+    let t = deed_tells p.table r (deeds.Append due) next in
+    moved_on g p net m Ok r x p.table carried there t.none
+    (member ∙ sym (after_append (next_sight p.table r) (letter_for p m) Ok r (next_step r) t.says.0))
+    (sym (append_stores p.table r.replica (next_step r) t.says.0))
+    (append_gives p.letters r.replica (next_step r) t.says.0)
+
+pub fails : (g : Group) (p : Program) (net : List Packet) (m : ℕ) (why : LogWhy) (r x : Running) (due : Record)
+    → IsCarried g p net → present_at p.members m ≡ Some r → next_deed r ≡ deeds.Append due
+    → x ≡ broken_off why r → IsCarriedOn g p (with_member p m x p.table) net
+fails g p net m why r x due carried there next member =
+    let t = deed_tells p.table r (deeds.Append due) next in
+    moved_on g p net m (Failed why) r x p.table carried there t.none
+    (member ∙ sym (after_append (next_sight p.table r) (letter_for p m) (Failed why) r (next_step r) t.says.0))
+    (sym (append_stores p.table r.replica (next_step r) t.says.0))
+    (append_gives p.letters r.replica (next_step r) t.says.0)
+
+-- a letter is given: the program, which had none for that member, has it
+pub gives : (g : Group) (p : Program) (net : List Packet) (m j : ℕ) (r x : Running)
+    → IsCarried g p net → present_at p.members m ≡ Some r → next_deed r ≡ deeds.Give j → x ≡ after_step 0 r
+    → (q : Program) × IsCarriedOn g p q net × (q.members ≡ with_present p.members m x) × (q.table ≡ p.table)
+    × (q.letters ≡ with_present p.letters j (up_to_view r.replica.history)) × MayGet g p.letters j
+gives g p net m j r x carried there due member =
+    let t = deed_tells p.table r (deeds.Give j) due in
+    let same = step_is p (ok m) r there t.none in
+    let word = next_sight p.table r in
+    let sound : IsSound g p = record {
+      group = carried.group;
+      form = carried.form;
+      reached = (carried.before, carried.way);
+    } in (
+      step_of p (ok m),
+      carried_on g p net (ok m) carried,
+      ap (λ (q : Program). q.members) same ∙ ap (with_present p.members m)
+          (ap (after_deed word (letter_for p m) Ok r) t.says ∙ ap (λ s. settled (took word r s)) t.says
+          ∙ sym (ap (λ s. settled (took 0 r s)) t.says) ∙ sym member),
+      ap (λ (q : Program). q.table) same ∙ ap (stored p.table r.replica) t.says,
+      ap (λ (q : Program). q.letters) same ∙ ap (stored_letters p.letters r.replica) t.says,
+      may_get g (world g p) p.letters m j sound.group sound.reached sound.form.posts refl
+          (can_welcome g p m j r sound there due),
+    )
+
+-- a member that asks for its letter takes the one that is there
+pub takes : (g : Group) (p : Program) (net : List Packet) (m : ℕ) (r x : Running) (letter : List Entry)
+    → IsCarried g p net → present_at p.members m ≡ Some r → next_deed r ≡ deeds.Take → letter_for p m ≡ Some letter
+    → x ≡ settled (took_letter (Some letter) r) → IsCarriedOn g p (with_member p m x p.table) net
+takes g p net m r x letter carried there due found member =
+    let t = deed_tells p.table r deeds.Take due in
+    moved_on g p net m Ok r x p.table carried there t.none (member ∙ ap (λ o. settled (took_letter o r)) (sym found)
+    ∙ sym (after_take (next_sight p.table r) (letter_for p m) Ok r (next_step r) t.says))
+    (sym (ap (stored p.table r.replica) t.says)) (ap (stored_letters p.letters r.replica) t.says)
+
+-- a push whose word is on its way
+pub sends : (g : Group) (p : Program) (net : List Packet) (m : ℕ) (r x : Running) (packet : Packet)
+    → IsCarried g p net → present_at p.members m ≡ Some r → next_deed r ≡ deeds.Push packet.index packet.word
+    → x ≡ after_step 0 r → IsCarriedOn g p (with_member p m x p.table) (packet ∷ net)
+sends g p net m r x packet carried there due member =
+    let t = deed_tells p.table r (deeds.Push packet.index packet.word) due in
+    let is = push_is r (next_step r) packet.index packet.word (sym (ap (deed r) t.none) ∙ due) in
+    let after = member ∙ ap (λ w. after_step w r) (sym t.says.sees)
+    ∙ sym (any_outcome (next_sight p.table r) (letter_for p m) Ok r (next_step r) t.says.other t.says.no_join) in
+    let members : (step_of p (ok m)).members ≡ with_present p.members m x =
+    ap (λ (q : Program). q.members) (step_is p (ok m) r there t.none) ∙ ap (with_present p.members m) (sym after) in
+    let sent = carried_pushes g p net m r is.0 is.1 carried there (ap (step_due r) t.none ∙ ap Some is.2) in
+    record {
+      carried = subst (λ (q : Program). IsCarried g q (packet ∷ net))
+          (λ z. record { members = members z; table = p.table; letters = p.letters })
+          (subst (λ (one : Packet). IsCarried g (record {
+            members = (step_of p (ok m)).members;
+            table = p.table;
+            letters = p.letters;
+          }) (one ∷ net)) (λ z. record { index = is.3 z; word = is.4 z }) sent);
+      grew = subst (λ ms. PastGrew (world g p).past
+          (world g (record { members = ms; table = p.table; letters = p.letters })).past)
+          members (carried_on g p net (ok m) carried).grew;
+    }
+
+-- a letter has not come
+pub misses : (g : Group) (p : Program) (net : List Packet) (m : ℕ) (r x : Running)
+    → IsCarried g p net → present_at p.members m ≡ Some r → next_deed r ≡ deeds.Take
+    → x ≡ settled (took_letter None r) → IsCarriedOn g p (with_member p m x p.table) net
+misses g p net m r x carried there due member =
+    let t = deed_tells p.table r deeds.Take due in
+    let asks : AsksForLetter r = record { unended = t.none; due = t.says } in
+    subst (λ (y : Running). IsCarriedOn g p (with_member p m y p.table) net) (sym member) (record {
+      carried = carried_misses g p net m r carried there asks;
+      grew = subst (λ (w : World). PastGrew (world g p).past w.past) (sym (missed_stays g p (took_nothing p m r)
+          (record { number = m; member = r; there = there; take = asks; made = refl }))) (past_same (world g p).past);
+    })

@@ -2,13 +2,25 @@
 use Rattle.dr_entry.specs.declared.entry.Entry.{Entry}
 use Rattle.std.specs.Prelude.{Option, None, Some}
 use Rattle.std.proofs.Common.{◌≡◌, refl, ap, sym, subst, ◌∙◌, ℕ, ◌+◌, ◌*◌, ◌<◌, List, length, slice_index, arith}
-use Rattle.dr_machine.{specs.{Group.{Group, banks, roster}, declared.step.Step.Step}, proofs.Groups.Told}
+use Rattle.dr_machine.specs.{Group.{Group, banks, roster}, declared.step.Step.Step}
 use Rattle.dr_program.specs.{Form.IsOf, Running.{Running, took_letter, next_step, took, columns, members, after_step}}
 use Rattle.dr_program.specs.{Program.{after_deed, next_sight, appended_as}, Replica.{Replica, greatest, joined, me}}
 use Rattle.dr_program.specs.Steps.{stepped}
 use Rattle.dr_program.{specs.Turn.places_in, proofs.{OpeningForm.of_settled, Runs.after_either, Search.settled_same}}
 use Rattle.dr_program.{specs.declared.{outcome.Outcome.Outcome, place.TheConstants.TURN}, proofs.Deeds.settle_replica}
 use Rattle.dr_program.specs.declared.outcome.Outcome.TheVariants as outcomes
+
+-- what a replica was told as its age opened
+pub record Told : Type 0 where
+  pub number : ℕ
+  pub age : ℕ
+  pub roster : ℕ
+  pub window : ℕ
+  pub banks : ℕ
+  pub messages : List (List ℕ)
+  pub totals : List ℕ
+  pub room : ℕ
+  pub late : ℕ
 
 abbrev pub told : Replica → Told
 told r = record {

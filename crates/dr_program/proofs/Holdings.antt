@@ -4,7 +4,8 @@ use Rattle.std.proofs.Common.{◌≡◌, ◌≢◌, refl, sym, ◌∙◌, ℕ, �
 use Rattle.std.proofs.{Math.Path.fun_ext, lemmas.Bool.cases_eq}
 use Rattle.dr_entry.specs.declared.{end.{End.End, SentItem.SentItem}, entry.Entry.{Entry, TheVariants.View}}
 use Rattle.dr_entry.specs.{declared.entry.Item.{Item, TheVariants.Null}, declared.record.{Value.Value, Vote.Vote}}
-use Rattle.dr_entry.proofs.{Items.item_set, NumberFacts.{same_number, other_number, HasCome, come_none, come_less}}
+use Rattle.dr_entry.proofs.{Items.item_set, NumberFacts.{same_number, other_number}}
+use Rattle.dr_entry.proofs.Rounds.{HasCome, come_none, come_less}
 use Rattle.dr_history.specs.{History.messages_of, Members.{members_of, has}, Order.messages_from}
 use Rattle.dr_history.specs.Places.{rest_places, front_of}
 use Rattle.dr_history_laws.specs.Remaining.{messages_left}

@@ -32,3 +32,4 @@ pub mod Puts
 pub mod Going
 pub mod Rounds
 pub mod Stepping
+pub mod Copies

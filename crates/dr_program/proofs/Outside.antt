@@ -5,14 +5,14 @@ use Rattle.dr_entry.specs.declared.end.End.TheVariants as ends
 use Rattle.dr_entry.specs.declared.{end.End.End, entry.Entry.Entry}
 use Rattle.dr_history.specs.Members.{has}
 use Rattle.dr_machine.specs.{Group.Group, Guards.IsFault, declared.step.Step.{Step, TheVariants.Do}}
-use Rattle.dr_machine.proofs.{Ends.IsFaulty, Groups.Told}
-use Rattle.dr_machine.specs.declared.event.Act.TheVariants as acts
-use Rattle.dr_program.{specs.Acts.may, proofs.{Deeds.due_allowed, Fixed.step_told, Parts.ends_view}}
-use Rattle.dr_program.{specs.Form.{HasForm, IsRunningMember}, proofs.{Present.present_map, Runs.joins_outside}}
+use Rattle.dr_machine.proofs.Ends.{IsFaulty}
+use Rattle.dr_program.{specs.Acts.may, proofs.{Deeds.due_allowed, Parts.ends_view, Runs.joins_outside}}
+use Rattle.dr_program.{specs.Form.{HasForm, IsRunningMember}, proofs.{Fixed.{Told, step_told}, Present.present_map}}
 use Rattle.dr_program.specs.{Presence.present_at, Steps.{stepped, allows, IsAppend, is_outside_step, allows_inside}}
 use Rattle.dr_program.specs.{Program.{Program, begun_program}, declared.{outcome.LogWhy.LogWhy, setup.Setup.Setup}}
 use Rattle.dr_program.{specs.Replica.{is_inside, Replica, me, is_fault}, proofs.Search.{settle_only, take_leaves}}
 use Rattle.dr_program.specs.Running.{Running, after_step, next_step, took, broken_off, AsksForLetter, settled, took_letter, begun_running}
+use Rattle.dr_machine.specs.declared.event.Act.TheVariants as acts
 
 abbrev pub IsApart : Running → Type 0
 IsApart r = is_inside r.replica ≡ false → (r.failed ≡ None) × IsFaulty r.replica.end

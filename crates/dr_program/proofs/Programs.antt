@@ -228,3 +228,7 @@ ok_parts first rest well = (
   subst AllOk (drop-append_seam first rest)
       (All-drop (λ (e : Move). e.outcome ≡ outcomes.Ok) (length first) (first ++ rest) well),
 )
+
+-- how a move goes
+abbrev pub move_by : ℕ → Outcome → Move
+move_by m o = record { member = m; outcome = o }

@@ -3,13 +3,19 @@ use Rattle.std.{specs.{List.range_with_len, Prelude.Option}, proofs.lemmas.Bool.
 use Rattle.std.proofs.Common.{◌≡◌, ℕ, ◌<◌, true, arith, ap, not, length, refl, sym, ◌∙◌, subst, suc, List, [], ◌∷◌, ◌≢◌, ⊎_elim, ◌+◌, ◌≤◌, ◌⊎◌, ◌++◌, length-append}
 use Rattle.dr_entry.proofs.Bits.{none_pass}
 use Rattle.dr_history.specs.Members.{has}
-use Rattle.dr_program.{specs.{Form.HasForm, Replica.Replica}, proofs.Programs.place_past}
-use Rattle.dr_program.specs.{Presence.present_at, Program.{AllEnded, Program, has_ended, AllOk, Move, ran, step_of}}
-use Rattle.dr_program.{specs.Schedule.{going, AreChosen, next_state}, proofs.Present.{ended_at, place_before}}
+use Rattle.dr_program.specs.{Form.{HasForm, IsRunningMember}, Presence.present_at}
+use Rattle.dr_program.specs.{Program.{AllEnded, Program, has_ended, AllOk, Move, ran, step_of}, Replica.{Replica, me}}
+use Rattle.dr_program.specs.{Running.Running, Schedule.{going, AreChosen, next_state}}
+use Rattle.dr_program.proofs.{Present.{ended_at, place_before}, Programs.place_past}
 
 -- a member of the view is one of 16
 pub few_members : (r : Replica) (i : ℕ) → HasForm r → has r.members i ≡ true → i < 16
 few_members r i form member = omega (arith, form.roster i member, form.members, form.rows.few)
+
+-- and so is a running member
+pub running_number : (r : Running) → IsRunningMember r → me r.replica < 16
+running_number r running =
+    let form = running.replica in omega (arith, form.number, form.members, form.rows.few)
 
 none_go : (p : Program) → AllEnded p → length (going p) ≡ 0
 none_go p all = none_pass (λ m. not (has_ended (present_at p.members m))) (range_with_len 0 (length p.members))

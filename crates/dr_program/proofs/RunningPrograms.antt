@@ -13,17 +13,18 @@ use Rattle.dr_rows.specs.Words.{own}
 use Rattle.dr_words.specs.declared.column.TheConstants.{BEAT_COLUMN}
 use Rattle.dr_suspect.specs.Waits.{compared, beat_of, turns_without_news}
 use Rattle.dr_machine.specs.{Group.{Group, roster}, World.World, declared.{event.Act.Act, step.Step.Step}}
-use Rattle.dr_machine.specs.declared.step.Step.TheVariants.{Do, Join, Push}
+use Rattle.dr_machine.{specs.declared.step.Step.TheVariants.{Do, Join, Push, Look}, proofs.Groups.{IsPlace, place_in}}
 use Rattle.dr_machine.specs.declared.step.Step.TheVariants as steps
 use Rattle.dr_machine.specs.declared.event.Act.TheVariants as acts
-use Rattle.dr_program.specs.{Acts.{may, is_outside_act}, Sight.IsSeenNext, declared.{deed.Deed.Deed, place.Part.Part}}
-use Rattle.dr_program.{specs.{Form.IsRunningMember, Presence.present_at}, proofs.Parts.judged_inside}
-use Rattle.dr_program.{specs.Program.{after_deed, Program}, proofs.{Order.after_propose, Replicas.{may_look, itself}}}
-use Rattle.dr_program.specs.{Reading.{step_due, step_of_member}, declared.outcome.{LogWhy.LogWhy, Outcome.Outcome}}
+use Rattle.dr_program.{specs.Acts.{may, is_outside_act}, proofs.{Order.after_propose, Parts.judged_inside}}
+use Rattle.dr_program.{specs.{Form.IsRunningMember, declared.setup.Setup.Setup}, proofs.Replicas.{may_look, itself}}
+use Rattle.dr_program.specs.{Presence.{present_at, with_present}, Reading.{step_due, step_of_member}}
+use Rattle.dr_program.specs.{Program.{after_deed, Program}, Turn.{part_of, IsIn, places_in}, declared.deed.Deed.Deed}
 use Rattle.dr_program.specs.Replica.{is_other, is_inside, looked, value_due, vote_of, me, has_majority, is_wedged, unsuspected, Replica, begun_replica, is_others, is_own}
 use Rattle.dr_program.specs.Running.{Running, took_letter, deed, deed_of, next_deed, next_step, columns, members, asks, waits_after, pushes_after, judged, judgement, named_by, overdue, scripted, told, crashes_now, push_or_crash, step_at, begun_running, settled, WaitsAt, applies, moved, settle, broken_off}
+use Rattle.dr_program.specs.Sight.{IsSeenNext}
 use Rattle.dr_program.specs.Steps.{has_cell, allows, allows_inside, is_outside_step, stepped, index_in, IsAppend}
-use Rattle.dr_program.specs.{Turn.{part_of, IsIn, places_in}, declared.{place.TheConstants.TURN, setup.Setup.Setup}}
+use Rattle.dr_program.specs.declared.{outcome.{LogWhy.LogWhy, Outcome.Outcome}, place.{Part.Part, TheConstants.TURN}}
 use Rattle.dr_program.specs.declared.deed.Deed.TheVariants as deeds
 use Rattle.dr_program.specs.declared.place.Part.TheVariants as parts
 
@@ -308,3 +309,33 @@ idle_at r part i c due (inr (inr (accept, other))) = absurd (subst (λ p. IsAppe
 pub breaks_idle : (why : LogWhy) (r : Running) → IsRunningMember r → IsAppend (next_step r)
     → IsIdleFailed (broken_off why r)
 breaks_idle why r member due reason failed = idle_at r (part_of r.place) r.place.row r.place.column due member.free
+
+-- a look of a member of the program is at a place of its copy
+pub record IsLookOf (g : Group) (m : ℕ) (r : Running) (index : ℕ) : Type 0 where
+  pub row : ℕ
+  pub column : ℕ
+  pub step : next_step r ≡ Look row column
+  pub is : IsPlace g r.replica.view m row column
+  pub at : index ≡ place_in g r.replica.view m row column
+
+-- a deed that looks is a look at the place of a row and a column
+pub look_is : (r : Running) (s : Step) (index : ℕ) → deed_of r s ≡ deeds.Look index
+    → (i : ℕ) × (c : ℕ) × (s ≡ Look i c) × (index_in r.replica (me r.replica) i c ≡ index)
+look_is r (Look i c) index e = (i, c, refl, cc e)
+look_is r s index e = absurd (cc)
+
+-- a deed that pushes is a push
+pub push_is : (r : Running) (s : Step) (index word : ℕ) → deed_of r s ≡ deeds.Push index word → (j : ℕ)
+    × (c : ℕ) × (s ≡ Push j c) × (index_in r.replica j (me r.replica) c ≡ index) × (own r.replica.rows c ≡ word)
+push_is r (Push j c) index word e = (j, c, refl, cc e, cc e)
+push_is r s index word e = absurd (cc)
+
+-- the program in which member m is this one, over this table
+abbrev pub with_member : Program → ℕ → Running → List ℕ → Program
+with_member p m x cells = record { members = with_present p.members m x; table = cells; letters = p.letters }
+
+-- one that acts stores at the place of its own beat word
+pub act_is : (r : Running) (s : Step) (index word : ℕ) → deed_of r s ≡ deeds.Act index word
+    → index_in r.replica (me r.replica) (me r.replica) 0 ≡ index
+act_is r (Do a) index word e = cc e
+act_is r s index word e = absurd (cc)

@@ -1,21 +1,24 @@
 -- What the deeds of members and words that come make of a program whose words are carried by a net.
-use Rattle.std.specs.Prelude.{max, slice_set, Some}
-use Rattle.std.proofs.Common.{◌≡◌, arith, refl, subst, sym, true, ℕ, ◌<◌, [], All, Contains, List, ◌∷◌, length, slice_index}
+use Rattle.std.specs.Prelude.{max, slice_set, Some, None, Option}
+use Rattle.std.proofs.Common.{◌∙◌, ◌≡◌, arith, refl, subst, sym, true, ℕ, ◌<◌, [], All, Contains, List, ◌∷◌, length, slice_index}
 use Rattle.std.proofs.lemmas.{Bool.and_parts, List.Elements.{All-cons, All-contains, All-nil, All-weaker}}
 use Rattle.dr_rows.specs.Words.{own}
-use Rattle.dr_words.{specs.Layout.word_index_of, proofs.Places.word_index_within}
-use Rattle.dr_machine.specs.{Group.{Group, IsGroup, banks, columns, roster}, Run.{ComesNext, IsReached}, World.World}
-use Rattle.dr_machine.{specs.declared.step.Step.TheVariants.Push, proofs.Runs.{is_before, stays_next}}
+use Rattle.dr_words.{specs.{Form.IsInForm, Layout.word_index_of}, proofs.Places.word_index_within}
+use Rattle.dr_machine.specs.{Group.{Group, IsGroup, banks, columns, roster}, Run.{ComesNext, IsReached, PastGrew}}
+use Rattle.dr_machine.{specs.{World.World, declared.step.Step.TheVariants.Push}, proofs.Runs.{is_before, stays_next}}
 use Rattle.dr_faithful.proofs.Copies.{inside}
-use Rattle.dr_program.specs.{Net.{FindsNone, IsOnItsWay, took_nothing}, Presence.present_at}
-use Rattle.dr_program.specs.{Program.{Move, Program, ok, step_of}, Reading.{step_of_member, table_of, world}}
-use Rattle.dr_program.specs.{Replica.{is_inside, is_other, me}, Running.{Running, AsksForLetter}}
-use Rattle.dr_program.specs.{Steps.{allows, index_in}, declared.packet.Packet.Packet}
-use Rattle.dr_program.proofs.{Deeds.{due_allowed, missed_stays, replicas, own_now}, RunningPrograms.due_push}
+use Rattle.dr_program.specs.{Net.{FindsNone, IsOnItsWay, took_nothing}, Running.{Running, AsksForLetter, next_step}}
+use Rattle.dr_program.specs.{Presence.{present_at, with_present}, Reading.{step_of_member, table_of, world, step_due}}
+use Rattle.dr_program.specs.Program.{Move, Program, ok, step_of, after_deed, letter_for, next_sight}
+use Rattle.dr_program.{specs.Replica.{is_inside, is_other, me}, proofs.RunningPrograms.{due_push, with_member}}
+use Rattle.dr_program.specs.{Steps.{allows, index_in, stored, stored_letters}, declared.outcome.Outcome.Outcome}
+use Rattle.dr_program.specs.declared.packet.Packet.{Packet}
+use Rattle.dr_program.proofs.{Deeds.{due_allowed, missed_stays, replicas, own_now, step_is}, Programs.move_by}
 use Rattle.dr_refine.{specs.Programs.{IsMember, IsProgram}, proofs.Deeds.{program_member, step_follows, way_stays}}
 use Rattle.dr_refine.proofs.{Guards.other_within, Members.fits, Tables.come_follows, Tests.cell_test}
 use Rattle.dr_program_laws.{specs.Carried.{IsCarried, WasSent}, proofs.{Keeping.move_kept, Letters.letters_are}}
 use Rattle.dr_program_laws.proofs.Nets.{missed_kept}
+use Rattle.dr_world_laws.proofs.Worlds.{past_next, faithful, known, past_since}
 
 -- what was sent was so with one moment more
 sent_more : (g : Group) (us : List World) (w : World) (packet : Packet) → WasSent g us packet
@@ -189,3 +192,37 @@ carried_misses g p net m r y there take = record {
   where
     none : FindsNone p (took_nothing p m r)
     none = record { number = m; member = r; there = there; take = take; made = refl }
+
+-- a program whose words are carried, and which has all that this one had done
+pub record IsCarriedOn (g : Group) (p q : Program) (net : List Packet) : Type 0 where
+  pub carried : IsCarried g q net
+  pub grew : PastGrew (world g p).past (world g q).past
+
+-- each move makes one
+pub carried_on : (g : Group) (p : Program) (net : List Packet) (e : Move) → IsCarried g p net
+    → IsCarriedOn g p (step_of p e) net
+carried_on g p net e y = record {
+  carried = carried_moves g p net e y;
+  grew = past_next g y.before (world g p) (world g (step_of p e)) y.group y.way
+      (step_follows g p e y.before y.group y.form (letters_are g p y.group y.form (y.before, y.way)));
+}
+
+-- and so does a deed by which no letter is given, of what it makes of the member and of the table
+pub moved_on : (g : Group) (p : Program) (net : List Packet) (m : ℕ) (o : Outcome) (r x : Running) (cells : List ℕ)
+    → IsCarried g p net → present_at p.members m ≡ Some r → r.replica.end ≡ None
+    → x ≡ after_deed (next_sight p.table r) (letter_for p m) o r (next_step r)
+    → cells ≡ stored p.table r.replica (next_step r) → stored_letters p.letters r.replica (next_step r) ≡ p.letters
+    → IsCarriedOn g p (with_member p m x cells) net
+moved_on g p net m o r x cells carried there none member words posts =
+    subst (λ (q : Program). IsCarriedOn g p q net) (step_is p (move_by m o) r there none ∙ sym (λ z. record {
+      members = with_present p.members m (member z);
+      table = words z;
+      letters = sym posts z;
+    })) (carried_on g p net (move_by m o) carried)
+
+-- a word that was sent is in form
+pub sent_form : (g : Group) (p : Program) (net : List Packet) (packet : Packet) (y : IsCarried g p net)
+    → (one : WasSent g (world g p ∷ y.before) packet) → IsInForm (roster g) one.column packet.word
+sent_form g p net packet y one = subst (IsInForm (roster g) one.column) one.was.3
+    ((faithful g one.was.0 (known g one.was.0 y.group
+    (past_since g y.before one.was.0 (world g p) y.group y.way one.was.1).1)).form.in_own one.row one.view one.column)

@@ -1,18 +1,26 @@
 -- A program over a net stays one of its group, in a world that is reached: its deeds are events, and the words
 -- that come are own words of moments before.
-use Rattle.std.specs.Prelude.{None, Option, Some}
-use Rattle.std.proofs.Common.{◌≡◌, ◌∙◌, ap, inl, inr, refl, subst, sym, ℕ, ◌≤◌, List, [], ◌∷◌}
+use Rattle.std.specs.Prelude.{None, Option, Some, ◌==◌, if◌then◌else◌, max, slice_set}
+use Rattle.std.proofs.Common.{◌≡◌, ◌∙◌, ap, inl, inr, refl, subst, sym, ℕ, ◌≤◌, List, [], ◌∷◌, ◌⊎◌, arith, le_refl, map, ◌<◌, Contains, slice_index, length}
+use Rattle.std.proofs.lemmas.{Bool.cases_lt, List.{get_or-map, length-map, length-set, get_or-set_same}}
 use Rattle.dr_entry.specs.declared.entry.Entry.{Entry}
-use Rattle.dr_machine.{specs.{Group.{Group, IsGroup}, Run.{ComesNext, IsReached, Way}}, proofs.Runs.stays_next}
-use Rattle.dr_program.specs.{Net.{NetStep, IsRanOverNet, NetWay, took_nothing}, Presence.present_at}
-use Rattle.dr_program.specs.{Program.{AreSetups, Move, Program, begun_program, step_of}, Reading.world}
+use Rattle.dr_machine.specs.{Group.{Group, IsGroup, banks, columns, roster}, declared.step.Step.TheVariants.Push}
+use Rattle.dr_machine.specs.{Run.{ComesNext, IsReached, Way, HaveArrived, MayArrive, WasOwn, with_table}, Writes.at₄}
+use Rattle.dr_machine.{specs.World.{World, opening_world}, proofs.{Runs.{stays_next, is_last}, Writes.at₄_case}}
+use Rattle.dr_program.specs.Net.{NetStep, IsRanOverNet, NetWay, took_nothing, HadWord, IsOnItsWay}
+use Rattle.dr_program.{specs.Presence.present_at, proofs.{Present.present_within, Replicas.word_inside}}
+use Rattle.dr_program.specs.Program.{AreSetups, Move, Program, begun_program, step_of, comes_to, letter_for}
+use Rattle.dr_program.specs.{Reading.{world, kept_word, in_view, letters_of, word_of}, declared.packet.Packet.Packet}
 use Rattle.dr_program.specs.{Running.{Running, settled, took_letter, AsksForLetter}, declared.setup.Setup.Setup}
 use Rattle.dr_program.proofs.{Deeds.{missed_stays, had_own}, Opening.begins_at_the_opening, OpeningForm.of_settled}
-use Rattle.dr_program.proofs.{Present.present_within, Programs.worlds}
-use Rattle.dr_refine.{specs.Programs.IsProgram, proofs.Deeds.{step_follows, way_stays}}
-use Rattle.dr_refine.proofs.{Steps.{begun_is_program, replaced_program}, Tables.come_follows}
-use Rattle.dr_program_laws.proofs.{Keeping.move_kept, Letters.letters_are}
+use Rattle.dr_program.proofs.Programs.{worlds}
+use Rattle.dr_refine.{specs.Programs.{IsProgram, AreLetters}, proofs.Deeds.{step_follows, way_stays, deed_is_step}}
+use Rattle.dr_refine.proofs.{Steps.{begun_is_program, replaced_program}, Tables.{come_follows, table_written}}
+use Rattle.dr_rows.specs.Words.{own}
+use Rattle.dr_words.{specs.{Grown.HasGrown, Layout.word_index_of}, proofs.Places.word_index_within}
+use Rattle.dr_program_laws.{specs.Carried.{IsCarried, WasSent}, proofs.{Keeping.move_kept, Letters.letters_are}}
 use Rattle.dr_turn.proofs.Takes.{takes_keep_form}
+use Rattle.dr_world_laws.proofs.Worlds.{words_next}
 
 -- ---- one step
 
@@ -84,3 +92,45 @@ net_keeps g turns setups P group some are keeps same misses begun (x ∷ xs) p w
         (same (step_of x on.move) x.table x.letters (keeps x on.move old.0 (worlds g xs, old.1) so))
     by old so (inr (inr (inl y))) = subst P (sym y.made) (same x _ _ so)
     by old so (inr (inr (inr t))) = subst P (sym t.made) (misses x t.number t.member old.0 so t.there t.take)
+
+-- where it is greater than the word that stands at its place, it has grown from that
+pub sent_grown : (g : Group) (p : Program) (net : List Packet) (packet : Packet) (y : IsCarried g p net)
+    → (one : WasSent g (world g p ∷ y.before) packet) → slice_index p.table packet.index < packet.word
+    → HasGrown (roster g) one.column (slice_index p.table packet.index) packet.word
+sent_grown g p net packet y one greater =
+    subst (λ n. HasGrown (roster g) one.column (slice_index p.table n) packet.word) (sym one.place)
+    (subst (HasGrown (roster g) one.column (slice_index p.table place)) new
+    (subst (λ w. HasGrown (roster g) one.column w (slice_index q.table place)) (inside p.table)
+    (subst (HasGrown (roster g) one.column ((world g p).table one.view one.copy one.row one.column)) (inside q.table)
+    ((words_next g y.before (world g p) (world g q) y.group y.way next).table one.view one.copy one.row one.column))))
+  where
+    place : ℕ
+    place = word_index_of (roster g) g.window one.view one.copy one.row one.column
+
+    q : Program
+    q = record {
+      members = p.members;
+      table = slice_set p.table place (max (slice_index p.table place) packet.word);
+      letters = p.letters;
+    }
+
+    next : ComesNext g y.before (world g p) (world g q)
+    next = (come_follows g y.before p one.view one.copy one.row one.column packet.word y.form
+        one.bank one.to one.from one.cell one.was).1
+
+    inside : (table : List ℕ) → word_of g table one.view one.copy one.row one.column ≡ slice_index table place
+    inside table = word_inside g table one.view one.copy one.row one.column one.bank one.to one.from one.cell
+
+    within : place < length p.table
+    within = omega (
+      arith,
+      y.form.table,
+      word_index_within (roster g) g.window (banks g) one.view one.copy one.row
+          one.column one.bank one.to one.from one.cell,
+    )
+
+    less : slice_index p.table place < packet.word
+    less = subst (λ n. slice_index p.table n < packet.word) one.place greater
+
+    new : slice_index q.table place ≡ packet.word
+    new = get_or-set_same p.table place (max (slice_index p.table place) packet.word) 0 within ∙ omega (arith, less)

@@ -2,12 +2,14 @@
 use Rattle.std.specs.Prelude.{Option, None, Some, is_some}
 use Rattle.std.proofs.Common.{◌≡◌, refl, sym, ap, subst, inl, inr, ℕ, ◌≤◌, List}
 use Rattle.dr_entry.specs.declared.end.End.{End}
-use Rattle.dr_machine.specs.{Group.{Group, IsGroup}, Run.IsReached}
-use Rattle.dr_program.{specs.{Net.IsRanOverNet, Presence.present_at, Reading.world}, proofs.Runs.after_either}
+use Rattle.dr_machine.specs.{Group.{Group, IsGroup}, Run.IsReached, declared.step.Step.{Step, TheVariants.Do}}
+use Rattle.dr_program.{specs.Acts.may, proofs.Outside.{IsApart, AreApart, takes, breaks, takes_letter, begun_apart}}
+use Rattle.dr_program.specs.{Form.{HasForm, IsRunningMember}, Presence.present_at, Running.{Running, next_step}}
+use Rattle.dr_program.specs.{Net.{IsRanOverNet, took_nothing}, declared.{outcome.LogWhy.LogWhy, setup.Setup.Setup}}
 use Rattle.dr_program.specs.Program.{AreSetups, IsRanFrom, Move, Program, after_deed, begun_program, letter_for, moved_by, next_sight, step_of}
-use Rattle.dr_program.{specs.Running.{Running, next_step}, proofs.Deeds.{rest_changes_nothing, step_is}}
-use Rattle.dr_program.{specs.declared.setup.Setup.Setup, proofs.{Opening.begun_reached, Present.replaced_either}}
-use Rattle.dr_program.proofs.Outside.{IsApart, AreApart, takes, breaks, takes_letter, begun_apart}
+use Rattle.dr_program.specs.Reading.{world}
+use Rattle.dr_program.proofs.{Deeds.{rest_changes_nothing, step_is}, Present.{present_map, replaced_either}}
+use Rattle.dr_program.proofs.{Fixed.{Told, step_told}, Opening.begun_reached, Runs.after_either}
 use Rattle.dr_refine.{specs.Programs.IsProgram, proofs.{Deeds.step_reached, Programs.missed_apart}}
 use Rattle.dr_refine.proofs.Steps.{begun_is_program}
 use Rattle.dr_program_laws.proofs.{Keeping.next_form, Letters.letters_are, Nets.net_keeps, Programs.ran_keeps}

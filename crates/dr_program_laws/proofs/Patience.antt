@@ -1,18 +1,20 @@
 -- How long a member waits for news of others, over its deeds.
 use Rattle.std.{specs.Prelude.None, proofs.lemmas.Bool.{cases_eq, cases_lt, Decides.nat_tests}}
-use Rattle.std.proofs.Common.{◌≡◌, ◌≢◌, ◌⊎◌, refl, sym, ap, ◌∙◌, subst, inl, inr, ℕ, ◌+◌, ◌-◌, ◌<◌, ◌≤◌, ◌==◌, Bool, true, false, nat_lt, if◌then◌else◌, length, le_trans, arith}
+use Rattle.std.proofs.Common.{◌≡◌, ◌≢◌, ◌⊎◌, refl, sym, ap, ◌∙◌, subst, inl, inr, ℕ, ◌+◌, ◌-◌, ◌<◌, ◌≤◌, ◌==◌, Bool, true, false, nat_lt, if◌then◌else◌, length, le_trans, arith, suc, ◌^◌, ◌||◌, not, min, replicate}
+use Rattle.std.proofs.lemmas.List.{get_or-replicate, get_or_past, get_or-set_same, get_or-set_other}
 use Rattle.dr_entry.proofs.NumberFacts.{is_below}
-use Rattle.dr_program.{specs.Form.IsRunningMember, proofs.{Fixed.step_told, StepsAt.no_join_at}}
-use Rattle.dr_program.specs.Running.{Running, after_step, columns, goes, members, next_step, settled, step_at, took, took_letter, waits_after}
-use Rattle.dr_program.specs.{Turn.{after, columns_in, is_beat, part_of, rows_in}, declared.place.TheConstants.TURN}
-use Rattle.dr_program.{specs.declared.place.{Part.Part, Place.Place}, proofs.Going.goes_back_or_stays}
+use Rattle.dr_program.specs.{Form.IsRunningMember, Turn.{after, columns_in, is_beat, part_of, rows_in, turn_begins}}
+use Rattle.dr_program.specs.Running.{Running, after_step, columns, goes, members, next_step, settled, step_at, took, took_letter, waits_after, applies, crashes_now}
+use Rattle.dr_program.specs.{Steps.IsNoJoin, declared.place.{Part.Part, Place.Place, TheConstants.TURN}}
+use Rattle.dr_program.proofs.Fixed.{step_told, Told}
+use Rattle.dr_program.proofs.{Going.goes_back_or_stays, StepsAt.{no_join_at, append_either, push_either, vote_either}}
 use Rattle.dr_program.proofs.{Parts.{ends_view, numbered, is_publish}, Search.{beat_test, settle_only, idle_part}}
 use Rattle.dr_program.proofs.Patience.{is_looks, looks_first, last_begins, looks_before, no_take, plain_looks, waits_stay}
+use Rattle.dr_machine.specs.declared.step.Step.{Step, TheVariants.Look}
 use Rattle.dr_program.specs.declared.place.Part.TheVariants as parts
 use Rattle.dr_rows.specs.Words.{looked}
 use Rattle.dr_suspect.specs.Waits.{Waits, begun, compared, turns_without_news}
 use Rattle.dr_suspect.proofs.Waiting.{compared_count, compared_other, no_news}
-use Rattle.dr_machine.proofs.Groups.{Told}
 use Rattle.dr_turn.{specs.Search.{Passed, here, on}, proofs.Search.settled_passed}
 use Rattle.dr_program_laws.specs.Trusting.{IsOthers, IsPatient, MayWait, to_come}
 

@@ -7,16 +7,8 @@ use Rattle.dr_program.specs.{Program.{Move, Program, step_of}, Running.Running}
 use Rattle.dr_restart.specs.declared.start.Start.{Start}
 use Rattle.dr_script.specs.declared.script.Script.{Script}
 use Rattle.dr_sim.specs.Watched.{WasTold}
-use Rattle.dr_progress.specs.{Progress.{Begins, Ends, IsQuiet, MaySay, Standing}, declared.beside.Beside.Beside}
-
--- nothing is said before a line is due
-abbrev pub WaitsFor : Option ℕ → Standing → Standing → Type 0
-WaitsFor None old new = (new.held ≡ old.held) × (new.stands ≡ old.stands) × (new.due ≡ None)
-WaitsFor (Some at) old new = (at ≤ new.now)
-    ⊎ ((new.held ≡ old.held) × (new.stands ≡ old.stands) × ((new.due ≡ Some at) ⊎ (new.due ≡ None)))
-
-abbrev pub Waits : Standing → Standing → Type 0
-Waits old new = (old.now ≤ new.now) × WaitsFor old.due old new
+use Rattle.dr_progress.specs.Progress.{Begins, Ends, IsQuiet, MaySay, Standing, Waits, WaitsFor, next_run}
+use Rattle.dr_progress.specs.declared.beside.Beside.{Beside}
 
 -- where nothing is said and nothing else becomes due, it waits
 silent : (due : Option ℕ) (old new : Standing) → new.held ≡ old.held → new.stands ≡ old.stands
@@ -25,7 +17,7 @@ silent None old new held stands (inl due) = (held, stands, due)
 silent None old new held stands (inr due) = (held, stands, due)
 silent (Some at) old new held stands due = inr (held, stands, due)
 
-waits_at_rest : (now : Standing) → Waits now now
+pub waits_at_rest : (now : Standing) → Waits now now
 waits_at_rest now = (omega arith, silent now.due now now refl refl (inl refl))
 
 waits_more : (due : Option ℕ) (old now new : Standing) → WaitsFor due old now → now.now ≤ new.now
@@ -44,7 +36,7 @@ waits_more (Some at) old now new (inr (held, stands, inr due)) later next =
     let rest = subst (λ (d : Option ℕ). WaitsFor d now new) due next in
     inr (rest.0 ∙ held, rest.1 ∙ stands, inr rest.2)
 
-waits_both : (old now new : Standing) → Waits old now → Waits now new → Waits old new
+pub waits_both : (old now new : Standing) → Waits old now → Waits now new → Waits old new
 waits_both old now new first next = (
   omega (arith, first.0, next.0),
   waits_more old.due old now new first.1 next.0 next.1,
@@ -65,6 +57,19 @@ said_waits turn old new (inr line) = (
 kept_waits : (old new : Standing) (age : ℕ) → new ≡ record old { age = age } → Waits old new
 kept_waits old new age same = subst (Waits old) (sym same)
     (omega arith, silent old.due old (record old { age = age }) refl refl (inl refl))
+
+-- so it does where only the run, how many there are, or the turns of a run are others
+pub next_waits : (old new : Standing) → new ≡ next_run old → Waits old new
+next_waits old new same = subst (Waits old) (sym same)
+    (omega arith, silent old.due old (next_run old) refl refl (inl refl))
+
+pub counted_waits : (old new : Standing) (runs : ℕ) → new ≡ record old { run = 0; runs = runs } → Waits old new
+counted_waits old new runs same = subst (Waits old) (sym same)
+    (omega arith, silent old.due old (record old { run = 0; runs = runs }) refl refl (inl refl))
+
+pub bound_waits : (old new : Standing) (turns : ℕ) → new ≡ record old { turns = turns } → Waits old new
+bound_waits old new turns same = subst (Waits old) (sym same)
+    (omega arith, silent old.due old (record old { turns = turns }) refl refl (inl refl))
 
 -- what becomes of a progress beside a watcher: it waits, and both stay where they are
 abbrev pub GoesOn : {W T K : Type 0} → Beside W T K → Beside W T K → Type 0
@@ -146,9 +151,8 @@ beside_watched opens sees closes script part nth (age ∷ ages) old new (next, s
     )
 
 -- a run that begins, waits and ends is quiet
-pub quiet : (turns : ℕ) (old begun over new : Standing) → Begins turns old begun → Waits begun over
-    → Ends over new → IsQuiet old new
-quiet turns old begun over new begins waits ends = by begins.due
+pub quiet : (old begun over new : Standing) → Begins old begun → Waits begun over → Ends over new → IsQuiet old new
+quiet old begun over new begins waits ends = by begins.due
   where
     -- where nothing was said, nothing is to be blanked
     unsaid : over.held ≡ begun.held → over.stands ≡ begun.stands → IsQuiet old new

@@ -1,1 +1,1 @@
-mod Besides
+pub mod Besides

@@ -9,4 +9,4 @@ mod watching;
 
 pub use progress::Progress;
 pub use timer::{ClockTimer, SteppedTimer, Timer};
-pub use watching::watch_with_progress;
+pub use watching::{watch_next_with_progress, watch_with_progress};

@@ -124,7 +124,7 @@ impl History {
         ensures { self.new ≡ record self.old { entries = letter.now } }
     {
         self.entries.clear();
-        copy_entries(letter, &mut self.entries);
+        add_copies(letter, &mut self.entries);
         self.messages.fill(0);
         count_messages(letter, &mut self.messages);
     }
@@ -138,7 +138,7 @@ impl History {
 }
 
 /// Adds copies of these entries to a list with room for them.
-pub(crate) fn copy_entries(from: &[Entry], into: &mut Vec<Entry>)
+pub(crate) fn add_copies(from: &[Entry], into: &mut Vec<Entry>)
     requires { length into.old.items + length from.now ≤ vec_capacity into.old }
     ensures items { into.new.items ≡ into.old.items ++ from.now }
     ensures room { vec_capacity into.old ≤ vec_capacity into.new }

@@ -290,11 +290,13 @@ fn body_at(rows: &Rows, shape: &Shape, row: u8, k: u32, len: usize) -> Message
     ensures { result ≡ take len (bytes_of (map ring_low
         (map (slot_of shape.now.window rows.now row k) (range_with_len 1 (div_ceil len 4))))) }
 {
-    let body = shape.body_column(slot_at(shape, k), 0);
+    let (words, apart) = rows.seen_from(row, shape.body_column(slot_at(shape, k), 0));
+    let mut at = 0;
     let mut bytes = [0; MAX_MESSAGE_LENGTH];
     for part in 0..len.div_ceil(4) {
-        let (_, piece) = unpack_ring(rows.seen(row, body + part));
+        let (_, piece) = unpack_ring(words[at]);
         bytes[4 * part..4 * part + 4].copy_from_slice(&piece.to_be_bytes());
+        at += apart;
     }
     Message::of(&bytes[..len]).unwrap()
 }

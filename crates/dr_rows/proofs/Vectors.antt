@@ -1,7 +1,8 @@
 -- What the writes to the vectors of `Rows` are to its callers.
 use Rattle.std.specs.Vec.{with_item}
-use Rattle.std.proofs.Common.{◌≡◌, ◌≢◌, ℕ, ◌+◌, ◌*◌, ◌<◌, ◌≤◌, false, List, [], get_or, length, set, replicate, slice_index_or, sym, ap, subst, ◌∙◌, arith}
-use Rattle.std.proofs.lemmas.List.{get_or_default, get_or-replicate, get_or-set_same, length-set, length-replicate}
+use Rattle.std.proofs.Common.{◌≡◌, ◌≢◌, ℕ, ◌+◌, ◌*◌, ◌-◌, ◌<◌, ◌≤◌, false, List, [], drop, get_or, length, set, take, replicate, slice_index, slice_index_or, sym, ap, subst, ◌∙◌, arith}
+use Rattle.std.proofs.lemmas.List.{get_or-drop, get_or_default, length-drop, get_or-replicate, get_or-set_same, length-set, length-replicate}
+use Rattle.dr_entry.proofs.NumberFacts.{place_onward}
 use Rattle.dr_rows.specs.{Growth.IsFresh, declared.rows.Rows.TheInside.Inside}
 use Rattle.dr_rows.{specs.Inside.{IsInsideRows, by_column, by_row, rows_at, rows_inside}, proofs.Grids.with_word-row}
 use Rattle.dr_rows.specs.Words.{Words, IsWords, begun, last_pushed, looked, own, pushed, row_of, seen, with_word, word_at}
@@ -28,6 +29,29 @@ seen_read a now i c p x same inside = subst (λ (w : Words). i < w.members → c
     → p ≡ c * w.members + i → x ≡ slice_index_or a.words.items p x → x ≡ seen w i c) same
     (word_read (by_column a.members) a.members a.columns a.words.items i c p x
     (IsLayout-by_column a.members a.columns) inside.words)
+
+-- the words from its place on have those of its row, as far apart as there are rows
+pub seen_onward : (a : Inside) (now : Words) (i c p n : ℕ) → rows_inside a ≡ now → IsInsideRows a → i < now.members
+    → c + n < now.columns → p ≡ c * now.members + i
+    → slice_index (drop p a.words.items) (n * now.members) ≡ seen now i (c + n)
+seen_onward a now i c p n same inside = subst (λ (w : Words). i < w.members → c + n < w.columns
+    → p ≡ c * w.members + i → slice_index (drop p a.words.items) (n * w.members) ≡ seen w i (c + n)) same
+    (λ h g at. get_or-drop p a.words.items (n * a.members) 0
+    ∙ ap (slice_index a.words.items) (ap (λ (q : ℕ). q + n * a.members) at ∙ place_onward c n a.members i)
+    ∙ sym (word_at-rows_at (by_column a.members) a.members a.columns a.words.items i (c + n) h g))
+
+-- and they are there, up to the last column
+pub onward_within : (a : Inside) (now : Words) (i c p n : ℕ) → rows_inside a ≡ now → IsInsideRows a → i < now.members
+    → c + n < now.columns → p ≡ c * now.members + i → n * now.members < length (drop p a.words.items)
+onward_within a now i c p n same inside = subst (λ (w : Words). i < w.members → c + n < w.columns
+    → p ≡ c * w.members + i → n * w.members < length (drop p a.words.items)) same (λ h g at. omega (
+      arith,
+      length-drop p a.words.items,
+      inside.words,
+      at,
+      place_onward c n a.members i,
+      (IsLayout-by_column a.members a.columns).within i (c + n) h g,
+    ))
 
 -- or the one last pushed
 pub last_pushed_read : (a : Inside) (now : Words) (i c p x : ℕ) → rows_inside a ≡ now → IsInsideRows a

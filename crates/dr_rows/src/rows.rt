@@ -113,6 +113,22 @@ impl Rows {
         self.words[self.cell(row, column)]
     }
 
+    /// The words that were last seen of a row, or the own ones in the own row, from a column on, and how far they
+    /// stand apart: the word of each column is so many places behind that of the column before.
+    #[inline(always)]
+    pub fn seen_from(&self, row: u8, column: usize) -> (&[u64], usize)
+        requires row { row < self.now.members }
+        requires column { column < self.now.columns }
+        ensures words { (i : ℕ) → column + i < self.now.columns
+            → slice_index result.0.now (i * result.1) ≡ seen self.now row (column + i) }
+        ensures within { (i : ℕ) → column + i < self.now.columns → i * result.1 < length result.0.now }
+        ensures apart { result.1 ≡ self.now.members }
+        ensures few { result.1 ≤ MAX_MEMBERS }
+    {
+        let words = self.words.as_slice();
+        (&words[self.cell(row, column)..], usize::from(self.members))
+    }
+
     /// Puts the words that the rows of these members have in a column to the front of `into`, ascending
     /// by member, and answers how many they are.
     pub fn column_of(&self, column: usize, members: u16, into: &mut [u64; MAX_MEMBERS]) -> usize
@@ -240,13 +256,14 @@ impl Rows {
         let own = self.own.as_slice();
         let sent = self.sent.as_mut_slice();
         let mut count = 0;
+        // Without a branch, so that two words are pushed at once.
         for column in from..columns {
             let word = own[column];
-            if word != sent[row + column] {
-                sent[row + column] = word;
-                table[first + column] = word;
-                count += 1;
-            }
+            let there = table[first + column];
+            let changed = word != sent[row + column];
+            sent[row + column] = word;
+            table[first + column] = if changed { word } else { there };
+            count += u32::from(changed);
         }
         count
     }

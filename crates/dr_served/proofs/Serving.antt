@@ -16,12 +16,11 @@ use Rattle.dr_log.proofs.Ordinary.{has_itself, none_lost, moments_on}
 use Rattle.dr_log_bytes.specs.{Content.{OnLog, block_length, with_record}, Grammar.StandFor}
 use Rattle.dr_log_bytes.proofs.Grammars.{ordinary_age_votes, ordinary_newer}
 use Rattle.dr_machine.specs.declared.step.Step.{Step, TheVariants.{Append, LogVote}}
-use Rattle.dr_machine.proofs.Groups.{Told as ToldReplica}
-use Rattle.dr_program.specs.{Replica.{Replica, vote_of}, Steps.{IsAppend, stepped}, declared.place.Place.Place}
+use Rattle.dr_program.specs.{Replica.{Replica, vote_of}, Steps.{IsAppend, stepped}}
 use Rattle.dr_program.specs.Running.{Running, after_step, append_or_end, broken_off, end_by, next_step, settled, took_letter, AsksForLetter}
-use Rattle.dr_program.{specs.Turn.part_of, proofs.Fixed.step_told}
-use Rattle.dr_program.{specs.declared.outcome.LogWhy.LogWhy, proofs.Search.{settled_same, settled_took}}
-use Rattle.dr_program.proofs.{Finishing.begins_so, RunningPrograms.took_failed, StepsAt.{ends_at, none_failed}}
+use Rattle.dr_program.{specs.{Turn.part_of, declared.outcome.LogWhy.LogWhy}, proofs.StepsAt.{ends_at, none_failed}}
+use Rattle.dr_program.{specs.declared.place.Place.Place, proofs.{Finishing.begins_so, RunningPrograms.took_failed}}
+use Rattle.dr_program.proofs.{Fixed.{step_told, Told as ToldReplica}, Search.{settled_same, settled_took}}
 use Rattle.dr_program.specs.declared.outcome.LogWhy.TheVariants as whys
 use Rattle.dr_served.{specs.Appended.{IsAppendDue, MayLog, is_append, record_due, record_of}, proofs.Dues.due_still}
 use Rattle.dr_served.specs.Served.{EndsNext, HasCome, HasServed, IsReady, IsRecordDue, IsRoomy, IsSafe, LetterGoesOn, LosesNothing, WentSo}

@@ -6,13 +6,14 @@ use Rattle.dr_entry.specs.declared.entry.Entry.{Entry}
 use Rattle.dr_form.specs.Letters.{IsFitting}
 use Rattle.dr_history.specs.{History.up_to_view, Members.members_of}
 use Rattle.dr_served.specs.{Appended.is_append, Served.LetterGoesOn}
-use Rattle.dr_machine.{specs.{Acts.CanTake, Group.{Group, roster}, Guards.CanWelcome}, proofs.Groups.Told}
+use Rattle.dr_machine.specs.{Acts.CanTake, Group.{Group, roster}, Guards.CanWelcome}
 use Rattle.dr_program.specs.declared.deed.Deed.TheVariants as deeds
 use Rattle.dr_program.specs.{Presence.{present_at, with_present}, Program.{Program, next_sight, step_of, letter_for}}
-use Rattle.dr_program.{specs.Reading.{letters_of, world}, proofs.{Deeds.step_is, Joins.given_welcome, StepsAt.taking}}
+use Rattle.dr_program.specs.Reading.{letters_of, world}
 use Rattle.dr_program.specs.Running.{AsksForLetter, Running, deed, deed_of, next_deed, next_step}
 use Rattle.dr_program.specs.{Steps.{IsNoJoin, stored_letters}, declared.outcome.Outcome.TheVariants.Ok}
-use Rattle.dr_program.proofs.{Fixed.{told, deed_told}, Present.{present_kept, present_set, present_within, MayGet}}
+use Rattle.dr_program.proofs.{Deeds.step_is, Fixed.{told, deed_told, Told}, Joins.given_welcome}
+use Rattle.dr_program.proofs.{Present.{present_kept, present_set, present_within, MayGet}, StepsAt.taking}
 use Rattle.dr_refine.proofs.Deeds.{deed_step}
 use Rattle.dr_program_laws.proofs.Letters.{letters_are, letters_have_room, may_get}
 use Rattle.dr_world.{specs.{Posts.PostsOf, Steps.posts_after}, proofs.Letters.{enough_after, list_left}}

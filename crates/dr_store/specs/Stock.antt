@@ -1,7 +1,7 @@
 -- What a store keeps, what it answers, and which histories it stands for.
 use Rattle.std.specs.{Cmp.Lexicographic.slice_cmp, Coded.{Coded, code_by, coded×, coded_list, coded_option, coded_ℕ}}
-use Rattle.std.specs.{List.starts_with, Option.unwrap_or, Ordering.nat_cmp, Prelude.refl}
-use Rattle.std.specs.Prelude.{◌≡◌, ℕ, ◌≤◌, nat_le, nat_lt, nat_eq, if◌then◌else◌, List, [], length, filter_map, fold, All, Option, None, Some, option_map}
+use Rattle.std.specs.{List.starts_with, Option.unwrap_or, Ordering.nat_cmp}
+use Rattle.std.specs.Prelude.{refl, ◌≡◌, ℕ, ◌≤◌, nat_le, nat_lt, nat_eq, if◌then◌else◌, List, [], length, filter_map, fold, All, Option, None, Some, option_map}
 use Rattle.std.specs.FinMap as map
 use Rattle.dr_entry.specs.declared.entry.Entry.{Entry}
 use Rattle.dr_store.specs.{Commands.{Contents, contents, messages}, declared.changes.Change.Change}

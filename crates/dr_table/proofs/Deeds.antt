@@ -2,19 +2,19 @@
 use Rattle.std.specs.Prelude.{None, Some, Option, slice_index_or}
 use Rattle.std.proofs.Common.{◌≡◌, refl, sym, ap, ◌∙◌, subst, ℕ, List, [], ◌∷◌, set-set, ◌<◌, arith}
 use Rattle.dr_entry.specs.declared.entry.Entry.{Entry}
-use Rattle.dr_program.specs.{Form.HasForm, Presence.{present_at, with_present}}
-use Rattle.dr_program.specs.Program.{IsRanFrom, Program, after_deed, appended_as, next_sight, ran}
-use Rattle.dr_program.specs.{Running.{Running, next_deed, next_step, deed, deed_of}, Steps.{stored, stored_letters}}
-use Rattle.dr_program.specs.declared.{deed.Deed.Deed, outcome.Outcome.Outcome}
-use Rattle.dr_program.proofs.{Deeds.{append_gives, append_stores, deed_ran}, Fixed.{told, appended_told}}
-use Rattle.dr_program.proofs.{Present.{present_within, present_set, set_itself}, Programs.after_append}
+use Rattle.dr_program.specs.{Form.HasForm, Program.{IsRanFrom, Program, after_deed, appended_as, next_sight, ran}}
+use Rattle.dr_program.specs.{Presence.{present_at, with_present}, declared.{deed.Deed.Deed, outcome.Outcome.Outcome}}
+use Rattle.dr_program.specs.Running.{after_step, settled, took, took_letter, Running, next_deed, next_step, deed, deed_of}
+use Rattle.dr_program.{specs.Steps.{stored, stored_letters}, proofs.Present.{present_within, present_set, set_itself}}
+use Rattle.dr_program.proofs.{Deeds.{append_gives, append_stores, deed_ran, settle_replica}, Programs.after_append}
+use Rattle.dr_program.proofs.Fixed.{told, appended_told, join_told, step_told, Told}
 use Rattle.dr_program.specs.declared.deed.Deed.TheVariants as deeds
 use Rattle.dr_program.specs.declared.outcome.Outcome.TheVariants as outcomes
 use Rattle.dr_play.proofs.{Deeds.{IsStoreAt, deed_tells}, LoggedMembers.append_due}
 use Rattle.dr_table.specs.{Deeds.IsStore, Rule.number, Steps.{HasAppended, IsReachedMember}}
 use Rattle.dr_member.specs.Deeds.{table_size}
 use Rattle.dr_words.proofs.Places.{word_index_within}
-use Rattle.dr_machine.{specs.declared.step.Step.{Step, TheVariants.Do}, proofs.Groups.Told}
+use Rattle.dr_machine.specs.declared.step.Step.{Step, TheVariants.Do}
 
 -- ---- a step, by its deed
 

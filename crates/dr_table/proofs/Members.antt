@@ -4,9 +4,8 @@ use Rattle.std.proofs.Common.{◌≡◌, sym, ap, ◌∙◌, subst, ◌+◌, ◌
 use Rattle.atomic_table.specs.Seated.{TableId}
 use Rattle.dr_member.specs.Deeds.{is_append}
 use Rattle.dr_program.specs.{Program.appended_as, Running.{Running, next_deed}, declared.outcome.Outcome.Outcome}
-use Rattle.dr_program.proofs.Fixed.{told, appended_told}
+use Rattle.dr_program.proofs.Fixed.{told, appended_told, Told}
 use Rattle.dr_words.specs.Layout.{words_of}
-use Rattle.dr_machine.proofs.Groups.{Told}
 use Rattle.dr_table.specs.{Cards.IsAtEnd, Inside.IsInsideSeated, Steps.{HasAppended, IsAhead, IsReachedMember, alone}}
 use Rattle.dr_table.{specs.declared.seated.SeatedMember.TheInside.Inside, proofs.Keeping.append_reached}
 use Rattle.dr_play.proofs.LoggedMembers.{append_stays}

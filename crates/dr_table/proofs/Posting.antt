@@ -7,11 +7,10 @@ use Rattle.dr_play.{specs.Sound.IsSound, proofs.Deeds.{deed_tells, give_ran, tak
 use Rattle.dr_entry.{specs.declared.entry.Entry.Entry, proofs.ListPlaces.{behind_set, slot_within, sum_again}}
 use Rattle.dr_entry.proofs.NumberFacts.{below_two}
 use Rattle.dr_history.{specs.{History.up_to_view, Members.has}, proofs.Ranks.at_rank_of}
-use Rattle.dr_machine.{specs.Group.{Group, IsGroup, late_members}, proofs.Groups.Told}
-use Rattle.dr_machine.proofs.Presence.{in_roster, late_in}
+use Rattle.dr_machine.{specs.Group.{Group, IsGroup, late_members}, proofs.Presence.{in_roster, late_in}}
 use Rattle.dr_member.specs.Deeds.{table_size}
 use Rattle.dr_program.{specs.Form.IsOf, proofs.StepsAt.taking}
-use Rattle.dr_program.{specs.Presence.{present_at, with_present}, proofs.Fixed.{join_told, told, after_told}}
+use Rattle.dr_program.{specs.Presence.{present_at, with_present}, proofs.Fixed.{Told, join_told, told, after_told}}
 use Rattle.dr_program.{specs.Program.{IsRanFrom, Program, begun_program}, proofs.Deeds.{settle_replica, after_later}}
 use Rattle.dr_program.specs.{Reading.letters_of, Running.{Running, after_step, next_deed, settled, took_letter}}
 use Rattle.dr_program.{specs.{Replica.{Replica, joined}, declared.outcome.Outcome.Outcome}, proofs.Replicas.IsTaking}

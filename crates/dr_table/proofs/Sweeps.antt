@@ -2,10 +2,9 @@
 use Rattle.std.{specs.Prelude.None, proofs.Common.{◌≡◌, refl, sym, ap, ◌∙◌, subst, ℕ, ◌+◌, List, [], ◌∷◌, ◌++◌}}
 use Rattle.atomic_table.specs.Table.{Me}
 use Rattle.dr_program.specs.{Running.{Running, after_step, next_deed}, declared.deed.Deed.Deed}
-use Rattle.dr_program.proofs.Fixed.{told, after_told}
+use Rattle.dr_program.proofs.Fixed.{told, after_told, Told}
 use Rattle.dr_program.specs.declared.deed.Deed.TheVariants as deeds
 use Rattle.dr_words.specs.Layout.{words_of}
-use Rattle.dr_machine.proofs.Groups.{Told}
 use Rattle.dr_play.proofs.Deeds.{deed_tells}
 use Rattle.dr_table.specs.{Deeds.IsStore, Inside.IsInsideSeated, Slots.Slot, Steps.{IsReachedMember, MayFind, alone}}
 use Rattle.dr_table.specs.{Sweeps.{HasComeBySweep, HasTaken, IsSwept}, declared.rule.View.View}

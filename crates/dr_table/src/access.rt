@@ -13,16 +13,16 @@ impl Access<Board> for Seat<Slot, View> {
 
     ghost home = { λ seat board. seat.table_id ≡ board.table.id };
 
-    ghost came = { λ first from seat _ now.
+    ghost came = { λ first from seat now.
         (seat.table_id ≡ first.table_id) × HasComeBySweep seat.table_id.words from seat.me now };
 
     #[inline(always)]
-    fn look(&mut self, board: &Board, _at: usize, now: &Standing<'_>, word: usize) -> u64 {
+    fn look(&mut self, board: &Board, now: &Standing<'_>, word: usize) -> u64 {
         look_at::<Brand>(board, self, now, word)
     }
 
     #[inline(always)]
-    fn push(&mut self, board: &Board, _at: usize, now: &Standing<'_>, word: usize, new: u64) {
+    fn push(&mut self, board: &Board, now: &Standing<'_>, word: usize, new: u64) {
         store_at::<Brand>(board, self, now, word, new);
     }
 }

@@ -57,7 +57,7 @@ impl SeatedMember {
         ensures swept { HasSwept self.old.member self.new.member }
         ensures falls { deeds_left self.new.member < deeds_left self.old.member }
     {
-        self.member.look_row(&mut self.seat, board, 0);
+        self.member.look_row(&mut self.seat, board);
     }
 
     /// The same for its pushes. It may crash before one of them.
@@ -69,7 +69,7 @@ impl SeatedMember {
         ensures swept { HasSwept self.old.member self.new.member }
         ensures falls { deeds_left self.new.member < deeds_left self.old.member }
     {
-        self.member.push_row(&mut self.seat, board, 0);
+        self.member.push_row(&mut self.seat, board);
     }
 
     /// The member takes its next deed, this act. An append that it made before is counted with it.

@@ -4,9 +4,9 @@
 //! A line that begins with a brace is a script. One that begins with `#` says what the lines behind it show,
 //! and is printed. At a line `?` the report that was gathered is judged. Every other line is one of a report;
 //! behind one that ends with a backslash there is no line feed.
-use dr_check::{ParseFault, judge, parse};
+use dr_check::verdict_on;
 use dr_script::read_script;
-use dr_text::{Last, push_last};
+use dr_text::push_last;
 use std::alloc::Global;
 
 /// Prints what becomes of these lines.
@@ -21,8 +21,8 @@ pub(crate) fn show(rt: &HostRuntime, lines: &[String]) -> anyhow::Result<()> {
         } else if line.starts_with('#') {
             println!(rt; "{line}")?;
         } else if line == "?" {
-            let verdict = verdict_on(alloc, script.as_str(), report.as_str())?;
-            print!(rt; "{verdict}")?;
+            let line = line_for(alloc, script.as_str(), report.as_str())?;
+            print!(rt; "{line}")?;
             report.clear();
         } else if let Some(part) = line.strip_suffix('\\') {
             report.push_str(part)?;
@@ -35,20 +35,10 @@ pub(crate) fn show(rt: &HostRuntime, lines: &[String]) -> anyhow::Result<()> {
 }
 
 /// The line that says how a report of a script is judged.
-fn verdict_on(alloc: Global, script: &str, report: &str) -> anyhow::Result<String> {
+fn line_for(alloc: Global, script: &str, report: &str) -> anyhow::Result<String> {
     let script = read_script(alloc, script.as_bytes())?;
-    let last = match parse(alloc, &script, report.as_bytes()) {
-        Ok(report) => match judge(&script, &report) {
-            Some(flaw) => Last::Wrong {
-                clause: flaw.clause,
-                line: flaw.line,
-            },
-            None => Last::Right,
-        },
-        Err(ParseFault::NoReport { line }) => Last::NoReport { line },
-        Err(ParseFault::OutOfMemory) => return Err(std::alloc::AllocError.into()),
-    };
+    let verdict = verdict_on(alloc, &script, report.as_bytes())?;
     let mut text = String::new(alloc);
-    push_last(&mut text, &last)?;
+    push_last(&mut text, &verdict.line())?;
     Ok(text)
 }

@@ -8,6 +8,7 @@
 mod base;
 mod check;
 mod choices;
+mod door;
 mod log;
 mod opening;
 mod store;
@@ -56,6 +57,7 @@ fn show(
         "world" => world::show(rt, lines),
         "suspicions" => suspicions::show(rt, threads, lines),
         "threads" => threads::show(rt, threads, lines),
+        "door" => door::show(rt, lines),
         _ => Err(anyhow!("there is no part {part}")),
     }
 }

@@ -1,7 +1,7 @@
 //! When something is said of a run, and what.
 use dr_io::MemorySink;
 use dr_outcome::{Part, are_all_late};
-use dr_progress::{Progress, SteppedTimer, watch_with_progress};
+use dr_progress::{Progress, SteppedTimer, watch_next_with_progress, watch_with_progress};
 use dr_script::read_script;
 use dr_sim::Unwatched;
 use std::alloc::Global;
@@ -16,7 +16,7 @@ const STUCK: &[u8] =
   "faults":[{"age":0,"member":0,"crash":[1,0]}],"schedule":"lockstep"}"#;
 
 /// Blanks the line that stands on a terminal.
-const BLANK: &str = "\r                                             \r";
+const BLANK: &str = "\r                                                           \r";
 
 /// Checks in which turns something is said of the run, where each reading of the timer is so much later than
 /// the one before, up to the first that fails, and that no line is left behind it.
@@ -74,4 +74,35 @@ fn says_a_line_each_second(rt: HostRuntime) -> Result<(), Fail> {
 #[test]
 fn says_nothing_more_once_the_timer_fails(rt: HostRuntime) -> Result<(), Fail> {
     check(&rt, rt.alloc(), true, 700, 4, &[63])
+}
+
+/// How far three runs are, where there are two, and then nobody knows how many more come: a line is due at every other
+/// look, of which a run has 32.
+#[test]
+fn says_which_of_several_runs_it_is(rt: HostRuntime) -> Result<(), Fail> {
+    let alloc = rt.alloc();
+    let script = read_script(alloc, STUCK)?;
+    let sink = MemorySink::new(alloc, 8192, &[])?;
+    let mut progress = Progress::new(alloc, SteppedTimer::new(700, 1000), sink, true);
+    let part = Part::everybody();
+    let mut wanted = String::new(alloc);
+    progress.begin();
+    for (run, runs, name) in [(1, 2, "run 1 of 2"), (2, 2, "run 2 of 2"), (1, 0, "run 1")] {
+        if run == 1 {
+            progress.count(runs);
+        }
+        if !are_all_late(&script, &part) {
+            watch_next_with_progress(&rt, alloc, &script, &part, &mut Unwatched, &mut progress);
+        }
+        if name != "run 1 of 2" {
+            write!(wanted, "{BLANK}{name}, age 0, turn 0")?;
+        }
+        for look in 1..16 {
+            write!(wanted, "{BLANK}{name}, age 0, turn {}", look * 64 - 1)?;
+        }
+    }
+    progress.end();
+    wanted.push_str(BLANK)?;
+    assert_eq!(rt; progress.into_sink().bytes(), wanted.as_bytes());
+    Ok(())
 }

@@ -1,15 +1,15 @@
 -- What comes of a report that was judged.
-use Rattle.std.proofs.Common.{◌≡◌, ◌∙◌, inl, inr, refl, ap, ℕ, List, [], ◌++◌, append_assoc, length, ◌≤◌, Option, Result, Ok, Err, IfErr, IfOk, OnOk, string_bytes}
-use Rattle.dr_check.specs.{Flaws.IsFirstFlaw, Grammar.IsReport, declared.{flaw.Flaw.Flaw, report.Report.Report}}
+use Rattle.std.proofs.Common.{◌≡◌, ◌∙◌, inr, refl, ap, ℕ, List, [], ◌++◌, append_assoc, length, ◌≤◌, Option, Result, Ok, Err, IfErr, IfOk, OnOk, string_bytes}
+use Rattle.dr_check.specs.{Verdicts.{IsVerdict, verdict_line}, declared.report.Report.Report}
+use Rattle.dr_check.specs.declared.verdict.Verdict.{Verdict}
 use Rattle.dr_entry.specs.declared.entry.Entry.{Entry}
 use Rattle.dr_intake.specs.{Reading.{WasRead, WasReadTo}, Status.{WroteText, status_of}}
 use Rattle.dr_intake.specs.declared.answer.Answer.{Answer}
 use Rattle.dr_io.specs.Sink.{Gains}
 use Rattle.dr_script.specs.{Reading.reading_of, declared.script.Script.Script}
-use Rattle.dr_text.specs.{Report.last_text, declared.last.Last.Last}
-use Rattle.dr_text.specs.declared.last.Last.TheVariants as lasts
+use Rattle.dr_text.specs.Report.{last_text}
 use Rattle.dr_tools.specs.Differing.{Differs, ShowsDifference, told_entry}
-use Rattle.dr_tools.specs.Judged.{IsAlone, IsJudged, Judged, SaysOfBytes, SaysOfReport, SaysOfText, StandsBehind, TellsFlaw, judged, no_memory}
+use Rattle.dr_tools.specs.Judged.{FollowsVerdict, IsJudged, Judged, SaysOfBytes, SaysOfText, judged, no_memory}
 
 -- two entries that differ, one behind the other
 pub shown_if : {A E : Type 0} (res : Result A E) (r : Report) (line before : ℕ) (entry other : Entry)
@@ -24,40 +24,18 @@ shown_if (Ok v) r line before entry other old now new differ first second = (
 )
 shown_if (Err e) r line before entry other old now new differ first second = tt
 
--- a line alone
-pub alone_if : {E : Type 0} (P : List ℕ × ℕ → Type 0) (r : Result Answer E) (line : Last)
-    → IfOk r (λ a. string_bytes a.text ≡ last_text line) → IfOk r (λ a. a.status ≡ status_of line)
-    → ((said : List ℕ × ℕ) → IsAlone line said → P said) → IfOk r (λ a. P (string_bytes a.text, a.status))
-alone_if P (Ok a) line text due is = is (string_bytes a.text, a.status) (text, due)
-alone_if P (Err e) line text due is = tt
-
--- what is said of a report is said of its text
-pub of_text_if : {E : Type 0} (script : Script) (text : List ℕ) (report : Report) (r : Result Answer E)
-    → IsReport script.members text report → IfOk r (λ a. SaysOfReport script report (string_bytes a.text, a.status))
-    → IfOk r (λ a. SaysOfText script text (string_bytes a.text, a.status))
-of_text_if script text report (Ok a) is says = inl (report, is, says)
-of_text_if script text report (Err e) is says = tt
-
--- a flaw, and what stands behind its line
-pub flaw_told : (script : Script) (r : Report) (flaw : Flaw) (text new : List ℕ) (status : ℕ)
-    → IsFirstFlaw script r flaw → text ≡ last_text (lasts.Wrong flaw.clause flaw.line)
-    → status ≡ status_of (lasts.Wrong flaw.clause flaw.line) → (more : List ℕ)
-    × StandsBehind flaw.clause r flaw.line more × (new ≡ text ++ more) → TellsFlaw script r (new, status)
-flaw_told script r flaw text new status first line due behind = record {
-  flaw = flaw;
-  first = first;
+-- the line of a verdict, and what stands behind it
+pub verdict_told : (script : Script) (bytes : List ℕ) (v : Verdict) (text new : List ℕ) (status : ℕ)
+    → IsVerdict script bytes v → text ≡ last_text (verdict_line v) → status ≡ status_of (verdict_line v)
+    → (more : List ℕ) × FollowsVerdict v more × (new ≡ text ++ more) → SaysOfText script bytes (new, status)
+verdict_told script bytes v text new status is line due behind = record {
+  verdict = v;
+  is = is;
   more = behind.0;
   behind = behind.1;
   text = behind.2 ∙ ap (λ (l : List ℕ). l ++ behind.0) line;
   status = due;
 }
-
--- a flaw that is told
-pub flaw_if : {E : Type 0} (script : Script) (report : Report) (r : Result Answer E)
-    → IfOk r (λ a. TellsFlaw script report (string_bytes a.text, a.status))
-    → IfOk r (λ a. SaysOfReport script report (string_bytes a.text, a.status))
-flaw_if script report (Ok a) tells = inr tells
-flaw_if script report (Err e) tells = tt
 
 -- what is said of bytes that are not too many
 pub few_if : {E : Type 0} (script : Script) (text : List ℕ) (r : Result Answer E) → length text ≤ 2147483648

@@ -11,8 +11,10 @@ mod Variants
 mod Simulating
 mod Whole
 mod Keeping
+mod Lessening
 mod SweepAnswers
 pub mod LogLines
 mod LogAnswers
 mod FolderAnswers
+pub mod Followings
 pub mod JudgeAnswers

@@ -1,7 +1,8 @@
 -- What is told of a run, by what its watcher was told.
 use Rattle.std.{specs.declared.alloc.Global.Global, proofs.lemmas.Option.none-some}
-use Rattle.std.proofs.Common.{MatchOption, String, ◌≡◌, ℕ, ◌+◌, List, [], ◌∷◌, ◌++◌, Option, Some, None, length, refl, sym, ap, subst, append-nil, ◌⊎◌, inl, inr}
-use Rattle.dr_tools.specs.Trace.{AreLines, IsRunTold, IsToldOf, IsTraceAnswer, IsTracedFor, IsWanting, Wrote, WroteOne, deed_line, end_status, ending, moves_text, picture_ending, trace_usage, traced_end_line}
+use Rattle.std.proofs.Common.{MatchOption, String, ◌≡◌, ◌∙◌, ℕ, ◌+◌, List, [], ◌∷◌, ◌++◌, Option, Some, None, length, refl, sym, ap, subst, ◌⊎◌, inl, inr}
+use Rattle.dr_tools.specs.Following.{Followed, deed_text, deed_text_of, then_told, told_after, told_at_opening}
+use Rattle.dr_tools.specs.Trace.{AreLines, IsRunTold, IsToldOf, IsTraceAnswer, IsTracedFor, IsWanting, Wrote, WroteOne, end_status, ending, moves_text, picture_ending, trace_usage, traced_end_line}
 use Rattle.dr_tools.specs.{TraceWords.asked_by, declared.tracing.words.{Asked.Asked, Form.Form}}
 use Rattle.dr_tools.specs.declared.tracing.words.Form.TheVariants.{Chart, Lines, Picture}
 use Rattle.dr_ages.specs.{Watched.AreWatched, declared.{mode.Mode.TheVariants.Sim, part.Part.Part, stop.Stop.Stop}}
@@ -10,7 +11,7 @@ use Rattle.dr_program.specs.{Presence.present_at, Program.{Move, Program, step_o
 use Rattle.dr_restart.specs.declared.start.Start.{Start}
 use Rattle.dr_script.specs.Reading.{Reading, NotJson, Reads, TooLong, Wrong, reading_of}
 use Rattle.dr_script.specs.declared.script.Script.{Script}
-use Rattle.dr_seeing.specs.{Lines.{age_line, line_of}, Output.{HasTold, Tells, TellsSome, Written}}
+use Rattle.dr_seeing.specs.{Lines.age_line, Output.{HasTold, Tells, TellsSome, Written}}
 use Rattle.dr_seeing.proofs.{Outputs.{tells_both, some_both}, Traces.tells_same}
 use Rattle.dr_sim.specs.Watched.{WasTold}
 use Rattle.dr_intake.specs.{Answer.{IsLine, IsUnread, unread_line}, Reading.refusal_in, declared.call.Unread.Unread}
@@ -19,24 +20,30 @@ use Rattle.dr_outcome.specs.{Last.last_of, Outcome.IsMemoryRun}
 use Rattle.dr_text.specs.declared.last.Last.{Last}
 
 -- what `Lines` does as it is told of an age, of a deed and of the end
-abbrev pub Opens : Written → Start → Written → Type 0
-Opens old start new = Tells (age_line start.age (length start.entries)) old new
+abbrev pub Opens : Followed → Start → Followed → Type 0
+Opens old start new = (new.told ≡ told_at_opening (length start.entries))
+    × Tells (age_line start.age (length start.entries)) old.output new.output
 
-abbrev pub Sees : Written → Running → List ℕ → Written → Type 0
-Sees old member table new = Tells (line_of member table) old new
+abbrev pub Sees : Followed → Running → List ℕ → Followed → Type 0
+Sees old member table new =
+    (new.told ≡ told_after old.told member) × Tells (deed_text old.told table member) old.output new.output
 
-abbrev pub Closes : Written → List (Option Running) → List ℕ → Written → Type 0
-Closes old members table new = Tells [] old new
+abbrev pub Closes : Followed → List (Option Running) → List ℕ → Followed → Type 0
+Closes old members table new = new ≡ old
 
--- the lines of all moves are told
-moves_told : (p : Program) (es : List Move) (old new : Written) → WasTold Sees p es old new
-    → Tells (moves_text p es) old new
-moves_told p [] old new same = tells_same old new same
+-- what is told of all moves
+moves_told : (p : Program) (es : List Move) (old new : Followed) → WasTold Sees p es old new
+    → Tells (moves_text p old.told es) old.output new.output
+moves_told p [] old new same = tells_same old.output new.output (ap (λ (f : Followed). f.output) same)
 moves_told p (e ∷ es) old new was =
-    let line : deed_line p.table (present_at p.members e.member) ≡ line_of was.0 p.table =
-    ap (deed_line p.table) was.2 in
-    tells_both (deed_line p.table (present_at p.members e.member)) (moves_text (step_of p e) es) old was.1 new
-    (subst (λ (l : List ℕ). Tells l old was.1) (sym line) was.3) (moves_told (step_of p e) es was.1 new was.4)
+    let who = present_at p.members e.member in
+    let text : deed_text_of old.told p.table who ≡ deed_text old.told p.table was.0 =
+    ap (deed_text_of old.told p.table) was.2 in
+    let told : then_told old.told who ≡ was.1.told = ap (then_told old.told) was.2 ∙ sym was.3.0 in
+    tells_both (deed_text_of old.told p.table who) (moves_text (step_of p e) (then_told old.told who) es) old.output
+    was.1.output new.output (subst (λ (l : List ℕ). Tells l old.output was.1.output) (sym text) was.3.1)
+    (subst (λ (t : List ℕ). Tells (moves_text (step_of p e) t es) was.1.output new.output) (sym told)
+    (moves_told (step_of p e) es was.1 new was.4))
 
 -- these ages have lines, which are told
 pub record HaveLines (script : Script) (part : Part) (nth : ℕ) (ages : List AgeEnd) (old new : Written) : Type 0 where
@@ -44,23 +51,31 @@ pub record HaveLines (script : Script) (part : Part) (nth : ℕ) (ages : List Ag
   pub lines : AreLines script part nth ages text
   pub tells : Tells text old new
 
-pub lines_told : (script : Script) (part : Part) (nth : ℕ) (ages : List AgeEnd) (old new : Written)
-    → AreWatched Opens Sees Closes Sim script part nth ages old new → HaveLines script part nth ages old new
-lines_told script part nth [] old new same = record { text = []; lines = refl; tells = tells_same old new (sym same) }
+pub lines_told : (script : Script) (part : Part) (nth : ℕ) (ages : List AgeEnd) (old new : Followed)
+    → AreWatched Opens Sees Closes Sim script part nth ages old new
+    → HaveLines script part nth ages old.output new.output
+lines_told script part nth [] old new same = record {
+  text = [];
+  lines = refl;
+  tells = tells_same old.output new.output (ap (λ (f : Followed). f.output) (sym same));
+}
 lines_told script part nth (age ∷ ages) old new was =
     let next = was.0 in
     let seen = was.1 in
     let rest = lines_told script part (nth + 1) ages next new was.2 in
     let head = age_line age.age (length age.start) in
-    let moves = moves_text seen.is.begun seen.is.run.moves in
-    let told : Tells (head ++ moves) old seen.ended = tells_both head moves old seen.opened seen.ended seen.opening
-    (moves_told seen.is.begun seen.is.run.moves seen.opened seen.ended seen.moves) in
-    let all : Tells (head ++ moves) old next = subst (λ (l : List ℕ). Tells l old next) (append-nil (head ++ moves))
-    (tells_both (head ++ moves) [] old seen.ended next told seen.closing) in
+    let moves = moves_text seen.is.begun (told_at_opening (length age.start)) seen.is.run.moves in
+    let follows : Tells moves seen.opened.output seen.ended.output =
+    subst (λ (t : List ℕ). Tells (moves_text seen.is.begun t seen.is.run.moves) seen.opened.output seen.ended.output)
+    seen.opening.0 (moves_told seen.is.begun seen.is.run.moves seen.opened seen.ended seen.moves) in
+    let told : Tells (head ++ moves) old.output seen.ended.output =
+    tells_both head moves old.output seen.opened.output seen.ended.output seen.opening.1 follows in
+    let all : Tells (head ++ moves) old.output next.output =
+    subst (λ (f : Followed). Tells (head ++ moves) old.output f.output) (sym seen.closing) told in
     record {
       text = (head ++ moves) ++ rest.text;
       lines = (seen.over, seen.is, rest.text, rest.lines, refl);
-      tells = tells_both (head ++ moves) rest.text old next new all rest.tells;
+      tells = tells_both (head ++ moves) rest.text old.output next.output new.output all rest.tells;
     }
 
 -- ---- what is told of a chart
@@ -143,15 +158,15 @@ run_wrote form script part ages stop last held holds fell falls status told run 
 }
 
 pub lines_wrote : (script : Script) (part : Part) (ages : List AgeEnd) (stop : Option Stop) (last : Option Last)
-    (held holds : Option (List ℕ)) (fell falls status : ℕ) (old new : Written) → HasRun script part ages stop last
-    → AreWatched Opens Sees Closes Sim script part 0 ages old new → HasTold held fell [] old
-    → Writes held holds fell falls status last new
+    (held holds : Option (List ℕ)) (fell falls status : ℕ) (old new : Followed) → HasRun script part ages stop last
+    → AreWatched Opens Sees Closes Sim script part 0 ages old new → HasTold held fell [] old.output
+    → Writes held holds fell falls status last new.output
     → WroteOne (IsRunTold Lines script part) held holds fell falls status
 lines_wrote script part ages stop last held holds fell falls status old new (inl none) watched told writes =
     let same : new ≡ old =
     subst (λ (l : List AgeEnd). AreWatched Opens Sees Closes Sim script part 0 l old new) none.0 watched in
     wanting_wrote Lines script part last held holds fell falls status none.2
-    (writes [] (subst (λ (w : Written). HasTold held fell [] w) (sym same) told))
+    (writes [] (subst (λ (f : Followed). HasTold held fell [] f.output) (sym same) told))
 lines_wrote script part ages stop last held holds fell falls status old new (inr ran) watched told writes =
     let lines = lines_told script part 0 ages old new watched in
     run_wrote Lines script part ages stop last held holds fell falls status lines.text ran.0 ran.1 lines.lines

@@ -1,7 +1,7 @@
 -- What is said of a script and of the report of a run of it, and what a call comes to.
 use Rattle.std.specs.Prelude.{◌≡◌, ◌⊎◌, ℕ, ◌<◌, ◌≤◌, List, [], ◌++◌, length, Option}
-use Rattle.dr_check.specs.{Flaws.{IsFirstFlaw, IsRight}, Grammar.{IsNoReportAt, IsReport}, declared.flaw.Flaw.Flaw}
-use Rattle.dr_check.specs.declared.report.Report.{Report}
+use Rattle.dr_check.specs.{Verdicts.{IsVerdict, verdict_line}, declared.report.Report.Report}
+use Rattle.dr_check.specs.declared.verdict.Verdict.{Verdict, TheVariants.Wrong}
 use Rattle.dr_intake.specs.{Answer.{Said, SaysOf}, Reading.{WasRead, WasReadTo}, Status.{WroteText, status_of}}
 use Rattle.dr_io.specs.{Faults.Rose, Sink.Gains}
 use Rattle.dr_script.specs.{Reading.{Reading, reading_of}, declared.script.Script.Script}
@@ -18,24 +18,19 @@ abbrev pub StandsBehind : Clause → Report → ℕ → List ℕ → Type 0
 StandsBehind Prefix r line text = ShowsDifference r line text
 StandsBehind clause r line text = text ≡ []
 
--- the first flaw of a report is said, and what stands behind its line
-pub record TellsFlaw (script : Script) (r : Report) (said : Said) : Type 0 where
-  pub flaw : Flaw
-  pub first : IsFirstFlaw script r flaw
+-- what stands behind the line of a verdict: what does behind that of a flaw, and else nothing
+abbrev pub FollowsVerdict : Verdict → List ℕ → Type 0
+FollowsVerdict (Wrong r flaw) text = StandsBehind flaw.clause r flaw.line text
+FollowsVerdict verdict text = text ≡ []
+
+-- the line of the verdict on the text of a report is said, and what stands behind it
+pub record SaysOfText (script : Script) (bytes : List ℕ) (said : Said) : Type 0 where
+  pub verdict : Verdict
+  pub is : IsVerdict script bytes verdict
   pub more : List ℕ
-  pub behind : StandsBehind flaw.clause r flaw.line more
-  pub text : said.0 ≡ last_text (lasts.Wrong flaw.clause flaw.line) ++ more
-  pub status : said.1 ≡ 13
-
--- a report that is right is said to be, and else its first flaw is said
-abbrev pub SaysOfReport : Script → Report → Said → Type 0
-SaysOfReport script r said = (IsRight script r × IsAlone lasts.Right said) ⊎ TellsFlaw script r said
-
--- so it is of bytes that are a report of a script, and of others the first line at which they are none
-abbrev pub SaysOfText : Script → List ℕ → Said → Type 0
-SaysOfText script text said =
-    ((r : Report) × IsReport script.members text r × SaysOfReport script r said)
-    ⊎ ((line : ℕ) × IsNoReportAt script.members text line × IsAlone (lasts.NoReport line) said)
+  pub behind : FollowsVerdict verdict more
+  pub text : said.0 ≡ last_text (verdict_line verdict) ++ more
+  pub status : said.1 ≡ status_of (verdict_line verdict)
 
 -- what is said of bytes: that they are too many for a report, or what they are
 abbrev pub SaysOfBytes : List ℕ → Script → Said → Type 0

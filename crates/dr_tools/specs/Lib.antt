@@ -3,6 +3,7 @@ pub mod Summary
 pub mod Object
 pub mod SummaryAnswer
 pub mod TraceWords
+pub mod Following
 pub mod Trace
 pub mod Turns
 pub mod Explained
@@ -11,6 +12,7 @@ pub mod Outcomes
 pub mod OutcomeForms
 pub mod Rows
 pub mod Parts
+pub mod Limits
 pub mod Crashes
 pub mod Variants
 pub mod Shrinking

@@ -1,5 +1,5 @@
 -- What a call comes to.
-use Rattle.std.specs.Prelude.{◌≡◌, ◌⊎◌, ℕ, nat_lt, List, length, MatchBool, Option, None, Some, String, codes, map, string_bytes}
+use Rattle.std.specs.Prelude.{◌≡◌, ◌⊎◌, ℕ, nat_lt, Bool, List, length, MatchBool, Option, None, Some, String, codes, map, string_bytes}
 use Rattle.std.specs.declared.alloc.Global.{Global}
 use Rattle.dr_ages.specs.Ages.{all_with}
 use Rattle.dr_intake.specs.Answer.{IsCallAnswer, Said, SaysOf, ToldBy}
@@ -23,16 +23,16 @@ abbrev pub none_text : Variants → List ℕ
 none_text (Seeded seeds) = codes "by none of these seeds\n"
 none_text (Crashes faults) = codes "by none of these crashes\n"
 
--- the text is that of a smaller script, or says that by none of these variants the script ends so
-abbrev pub IsShrinking : Variants → ℕ → Script → List ℕ → Said → Type 0
-IsShrinking variants late script line said =
-    (IsShrunk (variant variants script) late (variants_in variants) line said.0 × (said.1 ≡ 0))
+-- the text is that of a smaller script, or of a least one, or says that by none of these variants the script ends so
+abbrev pub IsShrinking : Bool → Variants → ℕ → Script → List ℕ → Said → Type 0
+IsShrinking least variants late script line said =
+    (IsShrunk least (variant variants script) late (variants_in variants) line said.0 × (said.1 ≡ 0))
     ⊎ (NoneEndsSo (variant variants script) late (variants_in variants) line
     × (said.0 ≡ none_text variants) × (said.1 ≡ 14))
 
 -- how it is called, and the status then
 abbrev pub sweep_usage : List ℕ
-sweep_usage = codes "usage: derecho_tools sweep (FROM COUNT|--crashes M) [--shrink OUTCOME] [--late L] < SCRIPT\n"
+sweep_usage = codes "usage: derecho_tools sweep (FROM COUNT|--crashes M) [(--shrink|--shrink-all) OUTCOME] [--late L] < SCRIPT\n"
 
 abbrev pub SaysUsage : Said → Type 0
 SaysUsage said = (said.0 ≡ sweep_usage) × (said.1 ≡ 2)
@@ -51,12 +51,12 @@ abbrev pub SaysFull : Said → Type 0
 SaysFull said = (said.0 ≡ last_text (lasts.Rule 11 (codes "/faults"))) × (said.1 ≡ 3)
 
 -- what is said of these variants of a script: their table; or a smaller script that has the outcome that is wanted
-abbrev pub IsSaidOfWanted : Option (List ℕ) → Variants → ℕ → Script → Said → Type 0
-IsSaidOfWanted None variants late script said = IsSweep variants late script said.0 × (said.1 ≡ 0)
-IsSaidOfWanted (Some line) variants late script said = IsShrinking variants late script line said
+abbrev pub IsSaidOfWanted : Option (List ℕ) → Bool → Variants → ℕ → Script → Said → Type 0
+IsSaidOfWanted None least variants late script said = IsSweep variants late script said.0 × (said.1 ≡ 0)
+IsSaidOfWanted (Some line) least variants late script said = IsShrinking least variants late script line said
 
 abbrev pub IsSaidOfVariants : Variants → Task → Script → Said → Type 0
-IsSaidOfVariants variants task script said = IsSaidOfWanted task.wanted variants task.late script said
+IsSaidOfVariants variants task script said = IsSaidOfWanted task.wanted task.least variants task.late script said
 
 -- what is said of the crashes of a member of the script, if it is one, at all points at which it may
 abbrev pub IsSaidOfCrashes : ℕ → Task → Script → Said → Type 0

@@ -1,6 +1,6 @@
 -- What the words of a call ask for.
 use Rattle.std.specs.Option.{option_and_then}
-use Rattle.std.specs.Prelude.{⊤, ℕ, ◌+◌, ◌<◌, ◌^◌, nat_lt, if◌then◌else◌, List, ◌∷◌, ◌++◌, codes, Option, None, Some, option_map}
+use Rattle.std.specs.Prelude.{⊤, ℕ, ◌+◌, ◌<◌, ◌^◌, nat_lt, if◌then◌else◌, Bool, true, false, List, ◌∷◌, ◌++◌, codes, Option, None, Some, option_map}
 use Rattle.dr_literals.specs.{Literals.number_word, Options.{late_named, option_of}}
 use Rattle.dr_entry.specs.declared.limits.TheConstants.{MAX_MEMBERS}
 use Rattle.dr_tools.specs.{OutcomeForms.without_blanks, declared.sweeps.words.Runs.Runs}
@@ -42,15 +42,28 @@ runs_at words = option_and_then runs_by (option_of (codes "--crashes") words)
 abbrev pub wanted_line : List ℕ → List ℕ
 wanted_line outcome = without_blanks outcome ++ codes "\n"
 
--- the outcome that is wanted by these words, if one is, and behind it who is late
-abbrev pub outcome_named : List (List ℕ) → Option (Option (List ℕ) × ℕ)
+-- the outcome that is wanted by an option of a smaller script, if one is, or else by one of a least script, whether it is
+-- of that one, and the words behind it
+abbrev pub wanted_by : Option (List ℕ) × List (List ℕ) → Option ((Option (List ℕ) × Bool) × List (List ℕ))
+wanted_by (Some outcome, words) = Some ((Some outcome, false), words)
+wanted_by (None, words) = option_map (λ found. ((found.0, true), found.1)) (option_of (codes "--shrink-all") words)
+
+abbrev pub wanted_named : List (List ℕ) → Option ((Option (List ℕ) × Bool) × List (List ℕ))
+wanted_named words = option_and_then wanted_by (option_of (codes "--shrink") words)
+
+-- the same, and who is late by the words behind it
+abbrev pub outcome_named : List (List ℕ) → Option ((Option (List ℕ) × Bool) × ℕ)
 outcome_named words =
-    option_and_then (λ found. option_map (λ late. (found.0, late)) (late_named found.1))
-    (option_of (codes "--shrink") words)
+    option_and_then (λ found. option_map (λ late. (found.0, late)) (late_named found.1)) (wanted_named words)
 
 -- what is asked for, with these runs, this outcome, if one is wanted, and these late members
-abbrev pub task_with : Runs → Option (List ℕ) × ℕ → Task
-task_with runs found = record { runs = runs; wanted = option_map wanted_line found.0; late = found.1 }
+abbrev pub task_with : Runs → (Option (List ℕ) × Bool) × ℕ → Task
+task_with runs found = record {
+  runs = runs;
+  wanted = option_map wanted_line found.0.0;
+  least = found.0.1;
+  late = found.1;
+}
 
 -- what the words ask for, if they are those of a call
 abbrev pub task_in : List (List ℕ) → Option Task

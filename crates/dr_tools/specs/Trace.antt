@@ -7,31 +7,30 @@ use Rattle.dr_entry.specs.declared.end.AgeEnd.{AgeEnd}
 use Rattle.dr_intake.specs.Answer as intake
 use Rattle.dr_intake.specs.{Answer.{IsLine, Said}, Reading.refusal_in, Status.{WroteText, status_of}}
 use Rattle.dr_outcome.specs.{Last.last_of, Outcome.{AreAllLate, IsMemoryRun}}
-use Rattle.dr_program.specs.{Presence.present_at, Program.{Move, Program, step_of}, Running.Running}
+use Rattle.dr_program.specs.{Presence.present_at, Program.{Move, Program, step_of}}
 use Rattle.dr_script.specs.{Reading.{Reading, Reads, reading_of}, declared.script.Script.Script}
-use Rattle.dr_seeing.specs.Lines.{age_line, line_of}
+use Rattle.dr_seeing.specs.Lines.{age_line}
 use Rattle.dr_sim.specs.Simulated.{IsSimulated}
 use Rattle.dr_text.specs.{Report.last_text, Writing.WroteFront, declared.last.Last.Last}
-use Rattle.dr_tools.specs.{TraceWords.asked_by, declared.tracing.words.{Asked.Asked, Form.Form}}
-use Rattle.dr_tools.specs.declared.tracing.words.Form.TheVariants.{Chart, Lines, Picture}
+use Rattle.dr_tools.specs.{Following.{deed_text_of, then_told, told_at_opening}, TraceWords.asked_by}
+use Rattle.dr_tools.specs.declared.tracing.words.{Asked.Asked, Form.{Form, TheVariants.{Chart, Lines, Picture}}}
 
--- the line of the next deed of a member
-abbrev pub deed_line : List ℕ → Option Running → List ℕ
-deed_line table r = option_map_or (λ (now : Running). line_of now table) r []
+-- what is told of these moves of a program, in their order, where so many entries of each history are told
+abbrev pub moves_text : Program → List ℕ → List Move → List ℕ
+moves_text p told [] = []
+moves_text p told (e ∷ es) =
+    deed_text_of told p.table (present_at p.members e.member)
+    ++ moves_text (step_of p e) (then_told told (present_at p.members e.member)) es
 
--- the lines of these moves of a program, in their order
-abbrev pub moves_text : Program → List Move → List ℕ
-moves_text p [] = []
-moves_text p (e ∷ es) = deed_line p.table (present_at p.members e.member) ++ moves_text (step_of p e) es
-
--- the lines of these ages, the first of which is number nth of the run: for each its own line, and those of
+-- the lines of these ages, the first of which is number nth of the run: for each its own line, and what is told of
 -- the moves by which it ran
 abbrev pub AreLines : Script → Part → ℕ → List AgeEnd → List ℕ → Type 0
 AreLines script part nth [] text = text ≡ []
 AreLines script part nth (age ∷ ages) text =
     (over : Program) × (is : IsSimulated script (start_of script part age) nth age over) × (rest : List ℕ)
     × AreLines script part (nth + 1) ages rest
-    × (text ≡ (age_line age.age (length age.start) ++ moves_text is.begun is.run.moves) ++ rest)
+    × (text ≡ (age_line age.age (length age.start)
+    ++ moves_text is.begun (told_at_opening (length age.start)) is.run.moves) ++ rest)
 
 -- what is told of these ages in a form: of a chart and of a picture nothing is said
 abbrev pub IsToldOf : Form → Script → Part → List AgeEnd → List ℕ → Type 0

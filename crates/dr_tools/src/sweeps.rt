@@ -3,6 +3,8 @@
 mod counting;
 mod crashes;
 mod forms;
+mod lessening;
+mod limits;
 mod outcomes;
 mod parts;
 mod rows;

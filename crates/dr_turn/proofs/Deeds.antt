@@ -3,14 +3,14 @@ use Rattle.std.{specs.Prelude.{Option, Some, None, is_some, drop, slice_index_or
 use Rattle.std.proofs.Common.{◌≡◌, refl, sym, ap, ◌∙◌, subst, ℕ, ◌+◌, ◌-◌, ◌*◌, ◌^◌, ◌<◌, ◌≤◌, inl, inr, Bool, true, false, length, le_trans, suc-le-suc, arith}
 use Rattle.dr_entry.{specs.declared.end.End.End, proofs.NumberFacts.no_row}
 use Rattle.dr_words.specs.Columns.{columns_of}
-use Rattle.dr_machine.{specs.Effects.one_more, proofs.{Groups.Told, Worlds.{one_more_at_most, one_turn}}}
+use Rattle.dr_machine.{specs.{Effects.one_more, declared.step.Step.Step}, proofs.Worlds.{one_more_at_most, one_turn}}
 use Rattle.dr_program.specs.{Form.{HasForm, IsOf, IsRunningMember}, Steps.{NoWordFell, allows, stepped}}
-use Rattle.dr_program.{specs.Replica.{Replica, value_due}, proofs.Deeds.{IsPublishing, publishing}}
+use Rattle.dr_program.specs.{Replica.{Replica, value_due}, declared.place.{Part.Part, Place.Place}}
 use Rattle.dr_program.specs.Running.{Running, members, columns, asks, waits_after, settled, goes, pushes_after, took, next_step, after_step, WaitsAt}
 use Rattle.dr_program.specs.Turn.{after, is_beat, IsIn, part_of, places_in, rows_in, columns_in, turn_begins}
-use Rattle.dr_program.specs.declared.place.{Part.Part, Place.Place}
 use Rattle.dr_program.{specs.declared.place.TheConstants.TURN, proofs.Going.{Going, going, pending_stays, vote_waits}}
-use Rattle.dr_program.proofs.{Fixed.{step_told, of_told}, Order.{after_beat, after_in, beat_last, ends_in, from_part}}
+use Rattle.dr_program.proofs.{Deeds.{IsPublishing, publishing}, Fixed.{step_told, of_told, Told}}
+use Rattle.dr_program.proofs.Order.{after_beat, after_in, beat_last, ends_in, from_part}
 use Rattle.dr_program.proofs.Parts.{acts_on, due_at, end_comes, end_stays, is_final, none_waits, pending_gone, turns_stay, waits_keep, is_publish, is_vote, is_take}
 use Rattle.dr_program.proofs.Search.{beat_test, part_before, settle_only, some_column, some_member}
 use Rattle.dr_program.specs.declared.place.Part.TheVariants as parts

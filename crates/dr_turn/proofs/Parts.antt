@@ -3,12 +3,12 @@
 use Rattle.std.{specs.Prelude.{None, slice_index_or}, proofs.lemmas.Bool.and_parts}
 use Rattle.std.proofs.Common.{◌≡◌, refl, ap, ℕ, ◌+◌, ◌<◌, ◌≤◌, ◌||◌, Bool, true, false, length, arith, ◌^◌}
 use Rattle.dr_entry.specs.declared.end.End.TheVariants as ends
-use Rattle.dr_machine.{specs.declared.step.Step.Step, proofs.{Events.least, Groups.Told, Worlds.{one_act, one_turn}}}
+use Rattle.dr_machine.{specs.declared.step.Step.Step, proofs.{Events.least, Worlds.{one_act, one_turn}}}
 use Rattle.dr_machine.specs.declared.event.Act.TheVariants as acts
 use Rattle.dr_machine.specs.declared.step.Step.TheVariants as steps
-use Rattle.dr_program.specs.{Form.HasForm, Replica.{Replica, is_inside}}
-use Rattle.dr_program.specs.Steps.{NoWordFell, allows, allows_inside, is_outside_step, stepped}
-use Rattle.dr_program.proofs.{Fixed.step_told, Parts.{ends_view, view_stays, no_task, begins_turn}, Replicas.risen}
+use Rattle.dr_program.{specs.Acts.taken, proofs.{Fixed.{Told, step_told}, Replicas.risen}}
+use Rattle.dr_program.specs.{Form.HasForm, Steps.{NoWordFell, allows, allows_inside, is_outside_step, stepped}}
+use Rattle.dr_program.{specs.Replica.{Replica, is_inside}, proofs.Parts.{ends_view, view_stays, no_task, begins_turn}}
 use Rattle.dr_turn.{specs.Work.{tasks, work}, proofs.Fewer.{NoneRises, sum_falls, sum_keeps}}
 use Rattle.dr_turn.proofs.Tasks.{accepted_less, decided_less, delivered_less, finished_less, gave_less, marked_less, none_rises, proposed_less, published_less, put_less, received_less, reported_less, suspected_less, views_keep}
 

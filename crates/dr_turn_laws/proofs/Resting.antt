@@ -2,7 +2,7 @@
 use Rattle.std.specs.Prelude.{⊤, Option, None, Some, is_some}
 use Rattle.std.proofs.Common.{◌≡◌, ◌↔◌, refl, subst, inl, inr, ◌⊎◌, ℕ, ◌-◌, ◌<◌, ◌||◌, true, false, length, arith, ◌≢◌, ◌≤◌, ap, sym, ◌∙◌, le_trans}
 use Rattle.std.proofs.lemmas.Bool.{cases_eq, cases_lt, Decides.nat_tests}
-use Rattle.dr_entry.{specs.declared.end.End.End, proofs.NumberFacts.Room}
+use Rattle.dr_entry.{specs.declared.end.End.End, proofs.Rounds.Room}
 use Rattle.dr_entry.specs.declared.end.End.TheVariants as ends
 use Rattle.dr_history.{specs.Members.has, proofs.Indices.messages_within}
 use Rattle.dr_history_laws.specs.Remaining.{messages_left}

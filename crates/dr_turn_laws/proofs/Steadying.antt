@@ -2,20 +2,22 @@
 use Rattle.std.{specs.Prelude.{Option, None, Some, is_some, option_map}, proofs.lemmas.Option.same_Some}
 use Rattle.std.proofs.Common.{◌≡◌, ◌≢◌, refl, sym, ap, ◌∙◌, subst, inl, inr, ◌⊎◌, ℕ, ◌+◌, ◌*◌, ◌^◌, ◌<◌, ◌≤◌, Bool, true, false, List, length, arith}
 use Rattle.dr_entry.specs.declared.end.End.{End}
-use Rattle.dr_machine.{specs.Acts.{CanTake, effect_of}, proofs.{Presence.{late_in, is_present}, Worlds.rows_stay}}
-use Rattle.dr_machine.{specs.{Effects.pushes, Run.IsReached, World.World}, proofs.Groups.Told}
-use Rattle.dr_machine.specs.{Group.{AllPresent, Group, IsGroup, banks, late_members, roster}, declared.step.Step.Step}
+use Rattle.dr_machine.specs.{Acts.{CanTake, effect_of}, Effects.pushes, Run.IsReached, World.World}
+use Rattle.dr_machine.{specs.Group.{AllPresent, Group, IsGroup, banks, late_members, roster}, proofs.Worlds.rows_stay}
+use Rattle.dr_machine.{specs.declared.step.Step.{Step, TheVariants.Do}, proofs.Presence.{late_in, is_present}}
 use Rattle.dr_history.specs.{Members.has, Order.IsLateIn, Soundness.IsNobodyLate}
-use Rattle.dr_program.{specs.Form.IsOf, proofs.{Fixed.step_told, Parts.begins_turn, Programs.fails, Search.beat_test}}
+use Rattle.dr_program.specs.{Acts.taken, Replica.{Replica, first_entries_of, greatest, is_inside, me, pushed}}
+use Rattle.dr_program.specs.Form.{IsOf}
 use Rattle.dr_program.specs.{Presence.{present_at, with_present}, Reading.{step_by, step_due, table_of, world}}
 use Rattle.dr_program.specs.Program.{AreSetups, IsSetup, Move, Program, after_deed, begun_program, comes_to, letter_for, moved_by, next_sight, ok, step_of}
-use Rattle.dr_program.specs.{Replica.{Replica, first_entries_of, greatest, is_inside, me}, declared.setup.Setup.Setup}
-use Rattle.dr_program.specs.{Running.{Running, begun_running, broken_off, next_step}, declared.outcome.LogWhy.LogWhy}
-use Rattle.dr_program.specs.{Steps.{IsAppend, stepped, stored, stored_letters, IsNoJoin}, Turn.{is_beat, part_of}}
+use Rattle.dr_program.specs.Running.{Running, begun_running, broken_off, next_step, after_step, crashes_now, judged, step_at, took}
+use Rattle.dr_program.specs.{Steps.{IsAppend, stepped, stored, stored_letters, IsNoJoin}, declared.setup.Setup.Setup}
+use Rattle.dr_program.{specs.Turn.{is_beat, part_of}, proofs.{Parts.begins_turn, Programs.fails, Search.beat_test}}
+use Rattle.dr_program.{specs.declared.outcome.LogWhy.LogWhy, proofs.Opening.{begins_at_the_opening, begun_reached}}
+use Rattle.dr_program.{specs.declared.place.Part.Part, proofs.{Fixed.{step_told, Told}, RunningPrograms.HasWaited}}
 use Rattle.dr_program.proofs.Deeds.{due_allowed, no_step_no_change, replicas, rest_changes_nothing, step_is}
-use Rattle.dr_program.proofs.{Holdings.{held_of, own_shown}, Opening.{begins_at_the_opening, begun_reached}}
+use Rattle.dr_program.proofs.{Holdings.{held_of, own_shown}, Runs.{after_either, after_ok, inside_no_join}}
 use Rattle.dr_program.proofs.Present.{present_within, present_set, present_kept, present_map, replaced_either}
-use Rattle.dr_program.proofs.{RunningPrograms.HasWaited, Runs.{after_either, after_ok, inside_no_join}}
 use Rattle.dr_program.proofs.Stepping.{stepped_on, HasShown, stepped_replica, stepped_limit, ArePushed, step_stands, plain_begins, failed_made, failed_leaves}
 use Rattle.dr_program.specs.declared.outcome.Outcome.TheVariants as outcomes
 use Rattle.dr_program_laws.{specs.Trusting.{AreAtEase, MayWait}, proofs.{Keeping.move_kept, Trusting.stay_first}}

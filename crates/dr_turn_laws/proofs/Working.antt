@@ -3,11 +3,11 @@ use Rattle.std.specs.Prelude.{None, Some}
 use Rattle.std.proofs.Common.{◌≡◌, ap, ℕ, ◌+◌, ◌-◌, ◌*◌, ◌^◌, ◌<◌, ◌≤◌, true, [], ◌∷◌, length-append, arith}
 use Rattle.dr_entry.specs.declared.{entry.Entry.TheVariants.View, limits.TheConstants.MAX_MEMBERS}
 use Rattle.dr_entry.proofs.ListFacts.{items_begin}
-use Rattle.dr_machine.{specs.{Group.{Group, IsGroup}, Run.IsReached, declared.step.Step.Step}, proofs.Groups.Told}
+use Rattle.dr_machine.specs.{Group.{Group, IsGroup}, Run.IsReached, declared.step.Step.Step}
 use Rattle.dr_program.specs.{Presence.present_at, Program.{Program, next_sight}, Reading.world}
 use Rattle.dr_program.specs.{Replica.{Replica, begun_replica, greatest}, Running.{Running, begun_running, next_step}}
-use Rattle.dr_program.{specs.{Steps.stepped, declared.setup.Setup.Setup}, proofs.{Deeds.due_allowed, Fixed.step_told}}
-use Rattle.dr_program.proofs.Parts.{begins_turn}
+use Rattle.dr_program.{specs.{Steps.stepped, declared.setup.Setup.Setup}, proofs.Deeds.due_allowed}
+use Rattle.dr_program.proofs.{Fixed.{Told, step_told}, Parts.begins_turn}
 use Rattle.dr_refine.specs.Programs.{IsProgram}
 use Rattle.dr_turn.specs.Work.{ballots_left, commit_left, items_left, letters_left, log_left, mark_left, places_left, refill, reports_left, sum_of, trust_left, views_left, work}
 use Rattle.dr_turn.proofs.Parts.{worked_on}

@@ -1,8 +1,10 @@
 -- Columns of rows that are alike, and what stays in them.
-use Rattle.std.proofs.Common.{ℕ, ◌<◌, ◌^◌, refl, List, ◌≤◌, arith, ◌≡◌, ◌⊎◌}
+use Rattle.std.proofs.Common.{ℕ, ◌<◌, ◌^◌, refl, List, ◌≤◌, arith, ◌≡◌, ◌⊎◌, ◌∙◌, ap, ◌+◌, ◌*◌, ◌/◌, ◌%◌}
+use Rattle.std.proofs.lemmas.Nat.{div-mul-add, mod-mul-add}
 use Rattle.dr_rows.{specs.Words.{Words, seen, with_own}, proofs.Grids.with_word-column}
-use Rattle.dr_words.specs.{Accepts.Shown, Columns.{recv_column, head_column, leavers_column, trim_column}}
-use Rattle.dr_words.specs.{Form.AllInForm, Grown.HasGrown, Rows.word_at, declared.column.TheConstants.BEAT_COLUMN}
+use Rattle.dr_words.specs.{Accepts.Shown, Columns.{recv_column, head_column, leavers_column, trim_column, columns_of}}
+use Rattle.dr_words.specs.{Form.AllInForm, Grown.HasGrown, Layout.word_index_of, Rows.word_at}
+use Rattle.dr_words.specs.declared.column.TheConstants.{BEAT_COLUMN}
 
 -- a recv word has 33 bits
 pub recv_small : (n : ℕ) (rows : List (List ℕ)) → AllInForm n rows → (s : ℕ) → s < n
@@ -38,3 +40,13 @@ beats_alike n w v = record {
 -- below the ring, or in it
 pub low_or_high : (n c : ℕ) → (c < head_column n 0) ⊎ (head_column n 0 ≤ c)
 low_or_high n c = grind arith
+
+pub row_found : (n w view copy row column index : ℕ) → row < n → column < columns_of n w
+    → index ≡ word_index_of n w view copy row column → index / columns_of n w % n ≡ row
+row_found n w view copy row column index q s at = ap (λ x. x / columns_of n w % n) at ∙ ap (λ x. x % n)
+    (div-mul-add ((view * n + copy) * n + row) (columns_of n w) column s) ∙ mod-mul-add (view * n + copy) n row q
+
+pub column_found : (n w view copy row column index : ℕ) → column < columns_of n w
+    → index ≡ word_index_of n w view copy row column → index % columns_of n w ≡ column
+column_found n w view copy row column index s at =
+    ap (λ x. x % columns_of n w) at ∙ mod-mul-add ((view * n + copy) * n + row) (columns_of n w) column s

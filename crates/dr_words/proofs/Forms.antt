@@ -1,6 +1,7 @@
 -- Words that are in form, and words that have grown.
-use Rattle.std.proofs.Common.{◌≡◌, ◌≢◌, ℕ, ◌^◌, ◌<◌, ◌≤◌, ◌⊎◌, inl, inr, false, arith, refl, le_trans, List, ◌+◌}
-use Rattle.std.proofs.{Math.Pow.pow_mono, lemmas.Nat.pow_pos}
+use Rattle.std.specs.Prelude.{◌↔◌, IsTrue, nat_le}
+use Rattle.std.proofs.Common.{◌≡◌, ◌≢◌, ℕ, ◌^◌, ◌<◌, ◌≤◌, ◌⊎◌, inl, inr, false, arith, refl, le_trans, List, ◌+◌, Bool, ◌-◌, nat_lt, true}
+use Rattle.std.proofs.{Math.Pow.pow_mono, lemmas.{Bool.{le-leb, leb-true, lt-ltb, ltb-true}, Nat.pow_pos}}
 use Rattle.dr_history.proofs.Bits.{has_zero}
 use Rattle.dr_words.specs.{Columns.{head_column, recv_column}, Form.{IsAcceptColumn, IsInForm, AllInForm}}
 use Rattle.dr_words.specs.{Grown.HasGrown, Packing.is_final, Rows.word_at}
@@ -147,3 +148,31 @@ logged_in_form n x = record {
     no_accept : (LOGGED_COLUMN ≡ 5 + n) ⊎ ((s : ℕ) × (s < n) × (LOGGED_COLUMN ≡ 6 + n + s)) → ⊥
     no_accept (inl e) = absurd (omega (arith, e))
     no_accept (inr t) = absurd (omega (arith, t.2))
+
+-- a test says whether a word is in form
+abbrev pub IsFormTest : ℕ → ℕ → ℕ → Bool → Type 0
+IsFormTest n c w b = IsTrue b ↔ IsInForm n c w
+
+pub mask_test : (n w : ℕ) → IsFormTest n 1 w (nat_le w (2 ^ n - 1))
+mask_test n w = (
+  λ t. record {
+    suspected = λ e. omega (arith, pow_pos n, leb-true w (2 ^ n - 1) t);
+    done = λ e. absurd (omega arith);
+    recv = λ s l e. absurd (omega arith);
+    promise = λ a. absurd (omega (arith, accept_between n 1 a));
+    tag = λ a. absurd (omega (arith, accept_between n 1 a));
+    leavers = λ e. absurd (omega arith);
+    trim = λ s l e. absurd (omega arith);
+  },
+  λ f. let small : w < 2 ^ n = f.suspected refl in le-leb w (2 ^ n - 1) (omega (arith, small)),
+)
+
+pub done_test : (n w : ℕ) → IsFormTest n 4 w (nat_le w 1)
+done_test n w = (λ t. form_done n w (leb-true w 1 t), λ f. le-leb w 1 (f.done refl))
+
+pub recv_test : (n s w : ℕ) → s < n → IsFormTest n (5 + s) w (nat_lt w (2 ^ 33))
+recv_test n s w l = (λ t. form_recv n s w l (ltb-true w (2 ^ 33) t), λ f. lt-ltb w (2 ^ 33) (f.recv s l refl))
+
+pub free_test : (n c w : ℕ) → ((c ≢ 1) × (c < 4)) ⊎ (6 + (n + n) ≤ c) → IsFormTest n c w true
+free_test n c w (inl f) = (λ t. form_free n c w (inl f), λ f. refl)
+free_test n c w (inr f) = (λ t. form_free n c w (inr (omega (arith, f))), λ f. refl)

@@ -16,3 +16,4 @@ pub mod Packed
 pub mod Layouts
 pub mod Unique
 pub mod Gains
+pub mod Grown

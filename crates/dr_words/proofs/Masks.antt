@@ -1,10 +1,11 @@
 -- Masks of the members that pass a test.
-use Rattle.std.specs.{Int.{bit_at, trailing_zeros}, Prelude.{IsSome, MatchOption}}
-use Rattle.std.{specs.List.{Contains, Any, count_by}, proofs.lemmas.Bool.{cases_eq, cases_lt, and_from, and_parts}}
+use Rattle.std.specs.Int.{bit_at, trailing_zeros}
+use Rattle.std.specs.{List.{Contains, Any, count_by}, Prelude.{IsSome, MatchOption, min, nat_le}}
 use Rattle.std.proofs.Common.{◌≡◌, ◌≢◌, ℕ, zero, suc, ◌+◌, ◌-◌, ◌*◌, ◌/◌, ◌%◌, ◌^◌, ◌<◌, ◌≤◌, ◌==◌, ◌&&◌, ◌||◌, not, nat_lt, Bool, true, false, sym, ap, ◌∙◌, ◌⊎◌, inl, inr, if◌then◌else◌, w16, bit_and, bit_or, bit_xor, arith, List, [], ◌∷◌, slice_get, Some, refl, All, map, le_trans, subst, IsTrue, ◌↔◌, length, Option, None, unwrap_or, Decides, slice_index, filter, length-append}
+use Rattle.std.proofs.lemmas.Bool.{cases_eq, cases_lt, and_from, and_parts, cases_Bool, eq-eqb, eqb-true, le-leb, leb-true}
 use Rattle.std.proofs.lemmas.{Bool.Decides.nat_tests, List.Elements.{All-head, All-tail, All-contains, filter-append}}
 use Rattle.std.proofs.lemmas.{Nat.{and_le_l, or_lt, mod_below, pow_pos, xor_of_16}, Option.get_or_from_slice_get}
-use Rattle.std.proofs.lemmas.Nat.Bits.{bit_at-lt, bit_at_above, bit_at_cat_low, same_from_bits}
+use Rattle.std.proofs.lemmas.Nat.Bits.{bit_at-lt, bit_at_above, bit_at_cat_low, same_from_bits, bit_at_and}
 use Rattle.dr_entry.proofs.{BoolFacts.{or_false, and_false}, ListFacts.among}
 use Rattle.dr_entry.proofs.{ListPlaces.{index_of_get, element_below}, NumberFacts.more_small}
 use Rattle.dr_history.specs.Members.{has, members_of, members_below}
@@ -14,7 +15,7 @@ use Rattle.dr_history.proofs.Masks.{has_below_suc, same_masks, some_number, amon
 use Rattle.dr_history.proofs.Ranks.{first_member, count_below, some_member, length-members_below_suc}
 use Rattle.dr_rows.specs.Words.{Words, seen}
 use Rattle.dr_words.specs.Masks.{IsInRoster, IsLeastOf, IsPartOf, least_of, mask_below, mask_of, next_members, with_member, without}
-use Rattle.dr_words.proofs.{Order.IsPartOf-le, Ranks.least_member}
+use Rattle.dr_words.proofs.{Grown.IsGrowthTest, Order.IsPartOf-le, Ranks.least_member}
 use Rattle.dr_words.specs.Masks as masks
 
 below_small : (test : ℕ → Bool) (n : ℕ) → mask_below test n < 2 ^ n
@@ -511,3 +512,31 @@ of-roster-alone n mask within = same_masks (without mask (2 ^ n - 1)) 0 (λ i. b
       has_ones n i,
       has_zero i,
     )
+
+-- a mask has all members of another exactly where it has all its bits
+part_of_bits : (old new : ℕ) → bit_and old new ≡ old → IsPartOf old new
+part_of_bits old new same n has_it = grind (
+  arith,
+  has_it,
+  sym (bit_at_and old new n) ∙ ap (λ m. bit_at m n) same,
+  bit_at-lt old n,
+  bit_at-lt new n,
+)
+
+bits_of_part : (old new : ℕ) → IsPartOf old new → bit_and old new ≡ old
+bits_of_part old new part = same_from_bits (bit_and old new) old (λ i. bit_at_and old new i ∙ by i (cases_Bool (has old i)))
+  where
+    by : (i : ℕ) → (has old i ≡ true) ⊎ (has old i ≡ false) → min (bit_at old i) (bit_at new i) ≡ bit_at old i
+    by i (inl h) = grind (arith, h, part i h, bit_at-lt old i, bit_at-lt new i)
+    by i (inr h) = grind (arith, h, bit_at-lt old i, bit_at-lt new i)
+
+pub mask_growth : (n old new : ℕ) → IsGrowthTest n 1 old new (nat_le old new && (bit_and old new == old))
+mask_growth n old new = (
+  λ t. let p = and_parts (nat_le old new) (bit_and old new == old) t in record {
+    number = leb-true old new p.0;
+    suspected = λ e. part_of_bits old new (eqb-true (bit_and old new) old p.1);
+    final = λ s l e f. absurd (omega arith);
+  },
+  λ g. and_from (nat_le old new) (bit_and old new == old) (le-leb old new g.number)
+      (eq-eqb (bit_and old new) old (bits_of_part old new (g.suspected refl))),
+)

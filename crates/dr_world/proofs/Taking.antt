@@ -9,13 +9,14 @@ use Rattle.dr_restart.specs.Groups.{group_of}
 use Rattle.dr_words.specs.Layout.{words_of}
 use Rattle.dr_machine.specs.{Acts.{CanTake, Guard, effect}, Events.{member_of, step_of}}
 use Rattle.dr_machine.specs.{Group.{Group, banks, late_members}, Run.{ComesOfEvents, Happens, Run, WordsGrew}}
-use Rattle.dr_machine.specs.declared.{event.Event.Event, step.Step.Step}
-use Rattle.dr_machine.proofs.{Groups.{Told, of_present, of_roster}, Runs.{events_more, events_reached, run_on}}
-use Rattle.dr_program.specs.{Form.{HasForm, IsOf}, Steps.{allows, given_to, may_take, sight, stored, stored_letters}}
-use Rattle.dr_program.{specs.Presence.{present_at, with_present}, proofs.Fixed.{join_told, told, step_told, of_told}}
-use Rattle.dr_program.{specs.{Reading.letters_of, Replica.{Replica, is_inside, me}}, proofs.Runs.joins_outside}
-use Rattle.dr_program.proofs.{Joins.given_welcome, Replicas.{allowed, place_at, posts_length, stored_length}}
+use Rattle.dr_machine.{specs.declared.{event.Event.Event, step.Step.Step}, proofs.Groups.{of_present, of_roster}}
+use Rattle.dr_machine.proofs.Runs.{events_more, events_reached, run_on}
+use Rattle.dr_program.specs.{Form.{HasForm, IsOf}, Presence.{present_at, with_present}, Reading.letters_of}
+use Rattle.dr_program.specs.Replica.{Replica, is_inside, me}
+use Rattle.dr_program.specs.Steps.{allows, given_to, may_take, sight, stored, stored_letters}
+use Rattle.dr_program.proofs.{Fixed.{Told, join_told, told, step_told, of_told}, Joins.given_welcome}
 use Rattle.dr_program.proofs.Present.{present_within, present_set, present_kept, MayGet, set_cases}
+use Rattle.dr_program.proofs.{Replicas.{allowed, place_at, posts_length, stored_length}, Runs.joins_outside}
 use Rattle.dr_world_laws.proofs.Worlds.{known, words_grew}
 use Rattle.dr_program_laws.proofs.Letters.{letter_fits, may_get}
 use Rattle.dr_world.specs.Held.{Held, its_group, its_world, shared_of, AreMembers, IsHeld}

@@ -8,14 +8,14 @@ ghost use Rattle.dr_outcome.specs.declared.outcome.Outcome.{Outcome as OutcomeOf
 ghost use Rattle.dr_script.specs.{Ranges.HasRanges, Reading.{Reads, reading_of}, declared.script.Script.Script};
 ghost use Rattle.dr_text.specs.{Report.report_text, declared.last.Last.{Last as LastOf, TheVariants.Right}};
 ghost use Rattle.dr_yard.specs.Yards.{AllTell, YardState};
-ghost use Rattle.dr_commands.specs.Check.{DisksTell, HandsIn, IsChecked, IsJudgedRight, IsVerdict};
+ghost use Rattle.dr_commands.specs.Check.{DisksTell, HandsIn, IsChecked, IsJudgedRight, TellsVerdict};
 
 /// The report of a run over disks that tell is right, where its last line has status 0, 8 or 9.
 pub fn runs_are_right()
     ensures { (script : Script) (part : Part) (mode : Mode) (before after : YardState) (ages : List AgeEnd)
         (stop : Option Stop) (last : LastOf) → HasRanges script → AllTell script.members before
         → IsRunOf script part mode before after ages stop → last_of ages stop ≡ Some last
-        → Contains (0 ∷ 8 ∷ 9 ∷ []) (status_of last) → IsVerdict script (report_text ages last) Right }
+        → Contains (0 ∷ 8 ∷ 9 ∷ []) (status_of last) → TellsVerdict script (report_text ages last) Right }
 {}
 
 /// Whatever is printed of a script that was played over disks that tell is judged right, where its last line

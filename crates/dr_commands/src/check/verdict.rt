@@ -2,30 +2,23 @@
 ghost use Rattle.std.specs.Prelude.{Contains, IfSome, option_map};
 ghost use Rattle.dr_intake.specs.Status.{status_of};
 ghost use Rattle.dr_script.specs.Ranges.{HasGroupRanges};
-ghost use Rattle.dr_commands.specs.Check.{IsChecked, IsVerdict, SaysOfStrings, check_ends};
+ghost use Rattle.dr_commands.specs.Check.{IsChecked, SaysOfStrings, TellsVerdict, check_ends};
 
 use crate::check::handing::{handed_in, value_of};
-use dr_check::{ParseFault, judge, parse};
+use dr_check::verdict_on;
 use dr_intake::script_or_refusal;
 use dr_script::{MAX_SCRIPT, Script};
 use dr_text::Last;
-use std::alloc::Global;
+use std::alloc::{AllocError, Global};
 
 /// What the last line says of the text of a report of a script; none where memory was wanting.
-pub(crate) fn verdict_on(alloc: Global, script: &Script, text: &[u8]) -> Option<Last>
+fn line_for_report(alloc: Global, script: &Script, text: &[u8]) -> Option<Last>
     requires { HasGroupRanges script.now }
-    ensures { IfSome result (IsVerdict script.now text.now) }
+    ensures { IfSome result (TellsVerdict script.now text.now) }
 {
-    match parse(alloc, script, text) {
-        Ok(report) => match judge(script, &report) {
-            Some(flaw) => Some(Last::Wrong {
-                clause: flaw.clause,
-                line: flaw.line,
-            }),
-            None => Some(Last::Right),
-        },
-        Err(ParseFault::NoReport { line }) => Some(Last::NoReport { line }),
-        Err(ParseFault::OutOfMemory) => None,
+    match verdict_on(alloc, script, text) {
+        Ok(verdict) => Some(verdict.line()),
+        Err(AllocError) => None,
     }
 }
 
@@ -37,7 +30,7 @@ fn line_for(alloc: Global, texts: Option<(&str, &str)>) -> Option<Last>
         return Some(Last::NotCheck);
     };
     match script_or_refusal(alloc, script.as_bytes()) {
-        Ok(script) => verdict_on(alloc, &script, text.as_bytes()),
+        Ok(script) => line_for_report(alloc, &script, text.as_bytes()),
         Err(line) => line,
     }
 }

@@ -14,7 +14,7 @@
 //! each receive. The mask goes with the place and not with the replica, since elsewhere nothing is asked of
 //! it; contracts don't see it. What saves is that an item of which this is known is taken without a test of
 //! its tags (`dr_ring::taken`).
-ghost use Rattle.std.specs.Prelude.{◌≡◌, ◌<◌, ℕ, true};
+ghost use Rattle.std.specs.Prelude.{◌≡◌, ◌<◌, true};
 ghost use Rattle.dr_member.specs.Deeds.{is_look, is_push, table_size};
 ghost use Rattle.dr_program.specs.{Form.IsRunningMember, Running.{Running, after_step, next_deed}};
 ghost use Rattle.dr_program.specs.{Reading.step_of_member, Sight.MaySee, declared.deed.Deed.TheVariants.{Look, Push}};
@@ -45,40 +45,39 @@ impl<'a> Model for Standing<'a> {
     ghost view = { λ s. standing s.replica.now s.fate.now s.place };
 }
 
-/// Access to a table of the kind `B`: it does looks and pushes for members, each at a place of its own.
+/// Access to a table of the kind `B`: it does looks and pushes for members.
 ///
 /// `home` says that it is access to this table. `came` says of one access and one member that they have come
-/// to another access, and to the member that it has at a place. An implementation chooses by what; each look
-/// and each push keeps it, and so does a sweep.
+/// to another access and another member. An implementation chooses by what; each look and each push keeps it,
+/// and so does a sweep.
 pub trait Access<B> {
-    ghost use Rattle.std.specs.Prelude.{ℕ};
     ghost use Rattle.dr_program.specs.Running.{Running};
 
     ghost home: { Self → B → Type 0 };
 
-    ghost came: { Self → Running → Self → ℕ → Running → Type 0 };
+    ghost came: { Self → Running → Self → Running → Type 0 };
 
-    /// Does the look that is due to the member at a place, at the word of the table with this index, and
-    /// says what it found there.
-    fn look(&mut self, board: &B, at: usize, now: &Standing<'_>, word: usize) -> u64
+    /// Does the look that is due to the member, at the word of the table with this index, and says what it found
+    /// there.
+    fn look(&mut self, board: &B, now: &Standing<'_>, word: usize) -> u64
         requires home { Self.home self.old board.now }
-        requires came { (first : Self) × (from : Running) × Self.came first from self.old at now.now }
+        requires came { (first : Self) × (from : Running) × Self.came first from self.old now.now }
         requires deed { next_deed now.now ≡ Look word }
         requires within { word < table_size now.now }
         ensures home { Self.home self.new board.now }
         ensures sees { MaySee now.now (step_of_member now.now) result }
-        ensures came { (first : Self) (from : Running) → Self.came first from self.old at now.now
-            → Self.came first from self.new at (after_step result now.now) };
+        ensures came { (first : Self) (from : Running) → Self.came first from self.old now.now
+            → Self.came first from self.new (after_step result now.now) };
 
     /// Does the push that is due to it, of the word `new` to this index.
-    fn push(&mut self, board: &B, at: usize, now: &Standing<'_>, word: usize, new: u64)
+    fn push(&mut self, board: &B, now: &Standing<'_>, word: usize, new: u64)
         requires home { Self.home self.old board.now }
-        requires came { (first : Self) × (from : Running) × Self.came first from self.old at now.now }
+        requires came { (first : Self) × (from : Running) × Self.came first from self.old now.now }
         requires deed { next_deed now.now ≡ Push word new }
         requires within { word < table_size now.now }
         ensures home { Self.home self.new board.now }
-        ensures came { (first : Self) (from : Running) → Self.came first from self.old at now.now
-            → Self.came first from self.new at (after_step 0 now.now) };
+        ensures came { (first : Self) (from : Running) → Self.came first from self.old now.now
+            → Self.came first from self.new (after_step 0 now.now) };
 }
 
 impl Member {
@@ -96,12 +95,12 @@ impl Member {
 
     /// Takes its looks from this one to the last one of the row.
     #[inline(always)]
-    pub fn look_row<B, A: Access<B>>(&mut self, access: &mut A, board: &B, at: usize)
+    pub fn look_row<B, A: Access<B>>(&mut self, access: &mut A, board: &B)
         requires home { A.home access.old board.now }
-        requires came { A.came access.old self.old access.old at self.old }
+        requires came { A.came access.old self.old access.old self.old }
         requires deed { is_look (next_deed self.old) ≡ true }
         ensures home { A.home access.new board.now }
-        ensures came { A.came access.old self.old access.new at self.new }
+        ensures came { A.came access.old self.old access.new self.new }
         ensures form { IsRunningMember self.new }
         ensures grown { HasGrownTo self.old self.new }
         ensures falls { deeds_left self.new < deeds_left self.old }
@@ -123,7 +122,7 @@ impl Member {
                     ..self.place
                 },
             };
-            let word = access.look(board, at, &now, first + column);
+            let word = access.look(board, &now, first + column);
             self.replica.look(row, column, word);
             column += 1;
             if column >= columns {
@@ -136,12 +135,12 @@ impl Member {
 
     /// Takes its pushes from this one to the last one of the row, or to the one before which it crashes.
     #[inline(always)]
-    pub fn push_row<B, A: Access<B>>(&mut self, access: &mut A, board: &B, at: usize)
+    pub fn push_row<B, A: Access<B>>(&mut self, access: &mut A, board: &B)
         requires home { A.home access.old board.now }
-        requires came { A.came access.old self.old access.old at self.old }
+        requires came { A.came access.old self.old access.old self.old }
         requires deed { is_push (next_deed self.old) ≡ true }
         ensures home { A.home access.new board.now }
-        ensures came { A.came access.old self.old access.new at self.new }
+        ensures came { A.came access.old self.old access.new self.new }
         ensures form { IsRunningMember self.new }
         ensures grown { HasGrownTo self.old self.new }
         ensures falls { deeds_left self.new < deeds_left self.old }
@@ -163,7 +162,7 @@ impl Member {
                     ..self.place
                 },
             };
-            access.push(board, at, &now, first + column, self.replica.own(column));
+            access.push(board, &now, first + column, self.replica.own(column));
             self.replica.push(to, column);
             self.fate.pushes = self.fate.pushes.saturating_add(1);
             column = next_changed(&self.replica, columns, to, column + 1);

@@ -6,7 +6,7 @@ ghost use Rattle.dr_program.specs.{Form.HasForm, Replica.{gave, is_inside, joine
 
 use super::Replica;
 use super::opening::no_value;
-use crate::history::copy_entries;
+use crate::history::add_copies;
 use crate::left::skip_views;
 use crate::spot::Spot;
 use dr_entry::Entry;
@@ -23,7 +23,7 @@ impl Replica {
         ensures { into.new.items ≡ up_to_view self.now.history }
     {
         let history = self.history.entries();
-        copy_entries(&history[..letter_end(history)], into);
+        add_copies(&history[..letter_end(history)], into);
     }
 
     /// It has given the letter to this newcomer of its view.

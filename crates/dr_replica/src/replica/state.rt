@@ -141,6 +141,13 @@ impl Replica {
         self.logged as u64
     }
 
+    /// How many messages of its own it has for the group.
+    pub fn own_messages(&self) -> usize
+        ensures { result ≡ length self.now.messages }
+    {
+        self.messages.len()
+    }
+
     /// How many entries its history has room for.
     pub fn room(&self) -> usize
         ensures { result ≡ self.now.room }

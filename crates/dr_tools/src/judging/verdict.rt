@@ -1,13 +1,13 @@
 //! What is said of a report.
 ghost use Rattle.std.specs.Prelude.{◌≡◌, ◌++◌, ℕ, List, IfOk, OnOk, string_bytes};
-ghost use Rattle.dr_check.specs.Flaws.{IsFirstFlaw};
+ghost use Rattle.dr_check.specs.{Flaws.IsFirstFlaw, Verdicts.IsVerdict};
 ghost use Rattle.dr_script.specs.{Ranges.HasGroupRanges, Reading.reading_of};
 ghost use Rattle.dr_script.specs.declared.script.Script.{Script as ScriptOf};
 ghost use Rattle.dr_tools.specs.Differing.{ReportAgreesAt, ShowsDifference, told_entry};
-ghost use Rattle.dr_tools.specs.Judged.{IsJudged, SaysOfBytes, SaysOfReport, SaysOfText, StandsBehind, TellsFlaw};
+ghost use Rattle.dr_tools.specs.Judged.{FollowsVerdict, IsJudged, SaysOfBytes, SaysOfText, StandsBehind};
 
 use crate::judging::differing::difference_at;
-use dr_check::{Clause, Flaw, ParseFault, Report, judge, parse};
+use dr_check::{Clause, Flaw, Report, Verdict, verdict_on};
 use dr_entry::Entry;
 use dr_intake::{Answer, script_or_refusal};
 use dr_script::Script;
@@ -44,41 +44,27 @@ fn answer_to_text(alloc: Global, script: &Script, text: &[u8]) -> Result<Answer,
     requires { HasGroupRanges script.now }
     ensures { IfOk result (λ a. SaysOfText script.now text.now (string_bytes a.text, a.status)) }
 {
-    match parse(alloc, script, text) {
-        Ok(report) => answer_to_report(alloc, script, &report),
-        Err(ParseFault::NoReport { line }) => Answer::of_line(alloc, &Last::NoReport { line }),
-        Err(ParseFault::OutOfMemory) => Err(AllocError),
-    }
-}
-
-/// What is said of a report of this script.
-fn answer_to_report(alloc: Global, script: &Script, report: &Report) -> Result<Answer, AllocError>
-    ensures { IfOk result (λ a. SaysOfReport script.now report.now (string_bytes a.text, a.status)) }
-{
-    match judge(script, report) {
-        Some(flaw) => answer_to_flaw(alloc, script, report, flaw),
-        None => Answer::of_line(alloc, &Last::Right),
-    }
-}
-
-/// The first flaw of a report, and where that is an entry that an earlier member has otherwise, both entries.
-fn answer_to_flaw(
-    alloc: Global,
-    script: &Script,
-    report: &Report,
-    flaw: Flaw,
-) -> Result<Answer, AllocError>
-    requires { IsFirstFlaw script.now report.now flaw }
-    ensures { IfOk result (λ a. TellsFlaw script.now report.now (string_bytes a.text, a.status)) }
-{
-    let Flaw { clause, line } = flaw;
-    let mut answer = Answer::of_line(alloc, &Last::Wrong { clause, line })?;
-    push_behind(&mut answer.text, report, flaw)?;
+    let verdict = verdict_on(alloc, script, text)?;
+    let mut answer = Answer::of_line(alloc, &verdict.line())?;
+    push_behind(&mut answer.text, &verdict)?;
     Ok(answer)
 }
 
+/// Appends what stands behind the line of a verdict: where that tells of an entry that an earlier member has otherwise,
+/// both entries.
+fn push_behind(out: &mut String, verdict: &Verdict) -> Result<(), AllocError>
+    requires { (script : ScriptOf) × (text : List ℕ) × IsVerdict script text verdict.now }
+    ensures { OnOk result ((more : List ℕ) × FollowsVerdict verdict.now more
+        × (string_bytes out.new ≡ string_bytes out.old ++ more)) }
+{
+    match verdict {
+        Verdict::Wrong(report, flaw) => push_behind_flaw(out, report, *flaw),
+        _ => Ok(()),
+    }
+}
+
 /// Appends what stands behind the line of a flaw.
-fn push_behind(out: &mut String, report: &Report, flaw: Flaw) -> Result<(), AllocError>
+fn push_behind_flaw(out: &mut String, report: &Report, flaw: Flaw) -> Result<(), AllocError>
     requires { (script : ScriptOf) × IsFirstFlaw script report.now flaw }
     ensures { OnOk result ((more : List ℕ) × StandsBehind flaw.clause report.now flaw.line more
         × (string_bytes out.new ≡ string_bytes out.old ++ more)) }

@@ -3,11 +3,13 @@ ghost use Rattle.std.specs.List.{range_with_len};
 ghost use Rattle.std.specs.Prelude.{◌≡◌, ◌*◌, ◌+◌, ◌<◌, ◌≤◌, ◌++◌, All, IfOk, OnOk, length, map};
 ghost use Rattle.dr_ages.specs.Ages.{HaveSomebodyPrompt, all_with};
 ghost use Rattle.dr_script.specs.Ranges.{HasFaultRanges, HasRanges};
+ghost use Rattle.dr_progress.specs.Progress.{Waits};
 ghost use Rattle.dr_tools.specs.Crashes.{AreCrashes, IsCounted, crash_at, crashes_by};
 
 use crate::sweeps::counting::Counter;
 use dr_ages::Part;
-use dr_outcome::watch_in_memory;
+use dr_io::Sink;
+use dr_progress::{Progress, Timer, watch_next_with_progress};
 use dr_script::{Fault, Script, What};
 use dr_words::Mask;
 use std::alloc::{AllocError, Global};
@@ -15,39 +17,44 @@ use std::thread::Threads;
 
 /// The crashes of this member at all points at which it may crash, by ages, turns and pushes, in the run of a script
 /// in which these members are late.
-pub(crate) fn crashes_of<R: Threads + Sync>(
+pub(crate) fn crashes_of<R: Threads + Sync, T: Timer, E: Sink>(
     rt: &R,
     alloc: Global,
     script: &Script,
     late: Mask,
     member: u8,
+    progress: &mut Progress<T, E>,
 ) -> Result<Vec<Fault>, AllocError>
     requires ranges { HasRanges script.now }
     requires some { HaveSomebodyPrompt script.now (all_with late) }
     requires member { member < script.now.members }
     ensures crashes { IfOk result (λ v. AreCrashes script.now late member v.items) }
     ensures ranges { IfOk result (λ v. All (HasFaultRanges script.now) v.items) }
+    ensures waits { Waits progress.old progress.new }
 {
-    let counter = counted(rt, alloc, script, late, member)?;
+    let counter = counted(rt, alloc, script, late, member, progress)?;
     crashes_by(alloc, script, member, counter.points())
 }
 
 /// What is counted in the run of a script.
-fn counted<R: Threads + Sync>(
+#[tactic(auto, using(dr_progress::proofs::Besides::waits_at_rest))]
+fn counted<R: Threads + Sync, T: Timer, E: Sink>(
     rt: &R,
     alloc: Global,
     script: &Script,
     late: Mask,
     member: u8,
+    progress: &mut Progress<T, E>,
 ) -> Result<Counter, AllocError>
     requires ranges { HasRanges script.now }
     requires some { HaveSomebodyPrompt script.now (all_with late) }
     ensures counted { IfOk result (λ c. IsCounted script.now late member c.points) }
     ensures turns { IfOk result (λ c. length c.points ≡ script.now.ages * script.now.turns) }
+    ensures waits { Waits progress.old progress.new }
 {
     let mut counter = Counter::new(alloc, script, member)?;
     let part = Part::with_late(late);
-    let outcome = watch_in_memory(rt, alloc, script, &part, &mut counter);
+    let outcome = watch_next_with_progress(rt, alloc, script, &part, &mut counter, progress);
     match outcome.last {
         Some(_) => Ok(counter),
         None => Err(AllocError),

@@ -126,8 +126,8 @@ fn stays(keeps: &[bool], number: usize) -> bool
 }
 
 /// What is said of the parts after the first `count`.
-fn behind(keeps: &[bool], count: usize) -> &[bool]
-    ensures { result.now ≡ drop count keeps.now }
+pub(crate) fn behind<X>(said: &[X], count: usize) -> &[X]
+    ensures { result.now ≡ drop count said.now }
 {
-    &keeps[count.min(keeps.len())..]
+    &said[count.min(said.len())..]
 }

@@ -1,5 +1,6 @@
 ghost use Rattle.std.specs.Prelude.{◌≡◌, ◌⊎◌, ◌∷◌, [], IfOk, Contains, Some, string_bytes};
 ghost use Rattle.dr_ages.specs.Ages.{HaveSomebodyPrompt, all_with};
+ghost use Rattle.dr_progress.specs.Progress.{IsQuiet, Waits};
 ghost use Rattle.dr_script.specs.{Ranges.HasRanges, Reading.reading_of};
 ghost use Rattle.dr_tools.specs.SweepAnswer.{IsDone, IsSaidFor, IsSaidOfCrashes, IsSaidOfOutcome, IsSaidOfRuns, IsSaidOfVariants, IsShrinking, IsSweepAnswer, SaysFull, SweepTold, none_text};
 ghost use Rattle.dr_tools.specs.{SweepWords.AreFit, Variants.AreSound};
@@ -15,6 +16,7 @@ use dr_entry::{Seq, Text};
 use dr_intake::{Answer, DONE, USAGE, read_for, script_or_refusal, tell};
 use dr_io::{Sink, Source};
 use dr_outcome::are_all_late;
+use dr_progress::{Progress, Timer};
 use dr_script::Script;
 use dr_text::Last;
 use dr_words::Mask;
@@ -23,7 +25,7 @@ use std::thread::Threads;
 
 /// How it is called.
 pub const SWEEP_USAGE: &str =
-    "usage: derecho_tools sweep (FROM COUNT|--crashes M) [--shrink OUTCOME] [--late L] < SCRIPT\n";
+    "usage: derecho_tools sweep (FROM COUNT|--crashes M) [(--shrink|--shrink-all) OUTCOME] [--late L] < SCRIPT\n";
 
 /// What is said where the outcome that is wanted is none of the script.
 const OUTCOMES_TEXT: &str =
@@ -43,15 +45,16 @@ const NONE_ENDS_SO: u8 = 14;
 /// script, with this crash too.
 ///
 /// With `--shrink` it writes a smaller script that has this outcome, of the first of these runs whose whole script
-/// has it; an outcome that no script of so many members and ages has is refused. Behind that `--late` names the members
+/// has it; with `--shrink-all` one of which nothing can be one step less; an outcome that no script of so many members and ages has is refused. Behind that `--late` names the members
 /// that are late. A text that is no script is refused as `derecho` refuses it, and so is one that has as many faults
-/// as it may, where a crash more is wanted.
-pub fn sweep<R: Threads + Sync, S: Source, K: Sink>(
+/// as it may, where a crash more is wanted. While they run, the progress says how far they are.
+pub fn sweep<R: Threads + Sync, S: Source, K: Sink, T: Timer, E: Sink>(
     rt: &R,
     alloc: Global,
     words: &[String],
     source: &mut S,
     sink: &mut K,
+    progress: &mut Progress<T, E>,
 ) -> u8
     // What was read, what was run, and what was written: the table of just these runs, or a smaller script.
     ensures told { SweepTold words.now (S.left source.old) (S.left source.new)
@@ -61,98 +64,117 @@ pub fn sweep<R: Threads + Sync, S: Source, K: Sink>(
     ensures read_fault_told { (S.faults source.new ≡ S.faults source.old)
         ⊎ Contains (4 ∷ 10 ∷ 5 ∷ []) result }
     ensures write_fault_told { (K.faults sink.new ≡ K.faults sink.old) ⊎ (result ≡ 5) }
+    // How far the runs are is said to a terminal alone, and no sooner than after two seconds.
+    ensures quiet { IsQuiet progress.old progress.new }
 {
-    tell(answer_to(rt, alloc, words, source), sink)
+    progress.begin();
+    let answer = answer_to(rt, alloc, words, source, progress);
+    progress.end();
+    tell(answer, sink)
 }
 
 /// What is to be said of what the source has.
-fn answer_to<R: Threads + Sync, S: Source>(
+#[tactic(auto, using(dr_progress::proofs::Besides::waits_at_rest))]
+fn answer_to<R: Threads + Sync, S: Source, T: Timer, E: Sink>(
     rt: &R,
     alloc: Global,
     words: &[String],
     source: &mut S,
+    progress: &mut Progress<T, E>,
 ) -> Result<Answer, AllocError>
     ensures answer { IfOk result (λ a. IsSweepAnswer words.now (S.left source.old) (S.left source.new)
         (S.faults source.old) (S.faults source.new) (string_bytes a.text, a.status)) }
     ensures told { IfOk result
         (λ a. (S.faults source.new ≡ S.faults source.old) ⊎ (a.status ≡ 4)) }
+    ensures waits { Waits progress.old progress.new }
 {
     let task = task_in(alloc, words)?;
     match read_for(alloc, task, source) {
-        Ok((task, bytes)) => answer_for(rt, alloc, &task, &bytes),
+        Ok((task, bytes)) => answer_for(rt, alloc, &task, &bytes, progress),
         Err(why) => Answer::of_unread(alloc, SWEEP_USAGE, why),
     }
 }
 
 /// What is to be said of these bytes.
-fn answer_for<R: Threads + Sync>(
+#[tactic(auto, using(dr_progress::proofs::Besides::waits_at_rest))]
+fn answer_for<R: Threads + Sync, T: Timer, E: Sink>(
     rt: &R,
     alloc: Global,
     task: &Task,
     bytes: &[u8],
+    progress: &mut Progress<T, E>,
 ) -> Result<Answer, AllocError>
     requires fit { AreFit task.now.runs }
-    ensures { IfOk result
+    ensures answer { IfOk result
         (λ a. IsSaidFor task.now (reading_of bytes.now) (string_bytes a.text, a.status)) }
+    ensures waits { Waits progress.old progress.new }
 {
     match script_or_refusal(alloc, bytes) {
-        Ok(script) => answer_to_script(rt, alloc, task, &script),
+        Ok(script) => answer_to_script(rt, alloc, task, &script, progress),
         Err(line) => Answer::of_refusal(alloc, line),
     }
 }
 
 /// What is to be said of a script: where all its members are late, how the program is called.
-fn answer_to_script<R: Threads + Sync>(
+#[tactic(auto, using(dr_progress::proofs::Besides::waits_at_rest))]
+fn answer_to_script<R: Threads + Sync, T: Timer, E: Sink>(
     rt: &R,
     alloc: Global,
     task: &Task,
     script: &Script,
+    progress: &mut Progress<T, E>,
 ) -> Result<Answer, AllocError>
     requires ranges { HasRanges script.now }
     requires fit { AreFit task.now.runs }
-    ensures { IfOk result (λ a. IsDone task.now script.now (string_bytes a.text, a.status)) }
+    ensures answer { IfOk result (λ a. IsDone task.now script.now (string_bytes a.text, a.status)) }
+    ensures waits { Waits progress.old progress.new }
 {
     if are_all_late(script, &Part::with_late(task.late)) {
         return Answer::of_usage(alloc, SWEEP_USAGE);
     }
-    answer_to_outcome(rt, alloc, task, script)
+    answer_to_outcome(rt, alloc, task, script, progress)
 }
 
 /// What is to be said of the runs of a script: where the outcome that is wanted is none of it, which there are.
-fn answer_to_outcome<R: Threads + Sync>(
+fn answer_to_outcome<R: Threads + Sync, T: Timer, E: Sink>(
     rt: &R,
     alloc: Global,
     task: &Task,
     script: &Script,
+    progress: &mut Progress<T, E>,
 ) -> Result<Answer, AllocError>
     requires ranges { HasRanges script.now }
     requires some { HaveSomebodyPrompt script.now (all_with task.now.late) }
     requires fit { AreFit task.now.runs }
-    ensures { IfOk result
+    ensures answer { IfOk result
         (λ a. IsSaidOfOutcome task.now.wanted task.now script.now (string_bytes a.text, a.status)) }
+    ensures waits { Waits progress.old progress.new }
 {
     match &task.wanted {
-        Some(line) => answer_to_wanted(rt, alloc, task, script, line.as_str()),
-        None => answer_to_runs(rt, alloc, task, script),
+        Some(line) => answer_to_wanted(rt, alloc, task, script, line.as_str(), progress),
+        None => answer_to_runs(rt, alloc, task, script, progress),
     }
 }
 
 /// The same where this outcome is wanted.
-fn answer_to_wanted<R: Threads + Sync>(
+#[tactic(auto, using(dr_progress::proofs::Besides::waits_at_rest))]
+fn answer_to_wanted<R: Threads + Sync, T: Timer, E: Sink>(
     rt: &R,
     alloc: Global,
     task: &Task,
     script: &Script,
     line: &str,
+    progress: &mut Progress<T, E>,
 ) -> Result<Answer, AllocError>
     requires ranges { HasRanges script.now }
     requires some { HaveSomebodyPrompt script.now (all_with task.now.late) }
     requires fit { AreFit task.now.runs }
-    ensures { IfOk result
+    ensures answer { IfOk result
         (λ a. IsSaidOfOutcome (Some line.now) task.now script.now (string_bytes a.text, a.status)) }
+    ensures waits { Waits progress.old progress.new }
 {
     if is_outcome(script.members, script.ages, line) {
-        answer_to_runs(rt, alloc, task, script)
+        answer_to_runs(rt, alloc, task, script, progress)
     } else {
         Ok(Answer {
             text: String::from_str(alloc, OUTCOMES_TEXT)?,
@@ -162,17 +184,19 @@ fn answer_to_wanted<R: Threads + Sync>(
 }
 
 /// What is to be said of the runs that are asked for.
-fn answer_to_runs<R: Threads + Sync>(
+fn answer_to_runs<R: Threads + Sync, T: Timer, E: Sink>(
     rt: &R,
     alloc: Global,
     task: &Task,
     script: &Script,
+    progress: &mut Progress<T, E>,
 ) -> Result<Answer, AllocError>
     requires ranges { HasRanges script.now }
     requires some { HaveSomebodyPrompt script.now (all_with task.now.late) }
     requires fit { AreFit task.now.runs }
-    ensures { IfOk result
+    ensures answer { IfOk result
         (λ a. IsSaidOfRuns task.now.runs task.now script.now (string_bytes a.text, a.status)) }
+    ensures waits { Waits progress.old progress.new }
 {
     match task.runs {
         Runs::BySeeds(seeds) => answer_to_variants(
@@ -181,24 +205,28 @@ fn answer_to_runs<R: Threads + Sync>(
             task,
             script,
             &Variants::Seeded(seeds),
+            progress,
         ),
-        Runs::ByCrashes(member) => answer_to_crashes(rt, alloc, task, script, member),
+        Runs::ByCrashes(member) => answer_to_crashes(rt, alloc, task, script, member, progress),
     }
 }
 
 /// What is to be said of the runs with a crash more of this member. Nothing is run where it is none of the script, or
 /// where that may have no fault more.
-fn answer_to_crashes<R: Threads + Sync>(
+#[tactic(auto, using(dr_progress::proofs::Besides::waits_at_rest))]
+fn answer_to_crashes<R: Threads + Sync, T: Timer, E: Sink>(
     rt: &R,
     alloc: Global,
     task: &Task,
     script: &Script,
     member: u8,
+    progress: &mut Progress<T, E>,
 ) -> Result<Answer, AllocError>
     requires ranges { HasRanges script.now }
     requires some { HaveSomebodyPrompt script.now (all_with task.now.late) }
-    ensures { IfOk result
+    ensures answer { IfOk result
         (λ a. IsSaidOfCrashes member task.now script.now (string_bytes a.text, a.status)) }
+    ensures waits { Waits progress.old progress.new }
 {
     if member >= script.members {
         return Answer::of_usage(alloc, SWEEP_USAGE);
@@ -206,13 +234,14 @@ fn answer_to_crashes<R: Threads + Sync>(
     if script.faults.as_slice().len() >= MAX_FAULTS {
         return of_many_faults(alloc);
     }
-    let crashes = crashes_of(rt, alloc, script, task.late, member)?;
+    let crashes = crashes_of(rt, alloc, script, task.late, member, progress)?;
     answer_to_variants(
         rt,
         alloc,
         task,
         script,
         &Variants::Crashes(Seq::of(crashes)),
+        progress,
     )
 }
 
@@ -225,43 +254,57 @@ fn of_many_faults(alloc: Global) -> Result<Answer, AllocError>
 }
 
 /// What is to be said of the runs of these variants of a script.
-fn answer_to_variants<R: Threads + Sync>(
+fn answer_to_variants<R: Threads + Sync, T: Timer, E: Sink>(
     rt: &R,
     alloc: Global,
     task: &Task,
     script: &Script,
     variants: &Variants,
+    progress: &mut Progress<T, E>,
 ) -> Result<Answer, AllocError>
     requires ranges { HasRanges script.now }
     requires some { HaveSomebodyPrompt script.now (all_with task.now.late) }
     requires sound { AreSound script.now variants.now }
-    ensures { IfOk result
+    ensures answer { IfOk result
         (λ a. IsSaidOfVariants variants.now task.now script.now (string_bytes a.text, a.status)) }
+    ensures waits { Waits progress.old progress.new }
 {
     match &task.wanted {
         None => Ok(Answer {
-            text: sweep_of(rt, alloc, script, variants, task.late)?,
+            text: sweep_of(rt, alloc, script, variants, task.late, progress)?,
             status: DONE,
         }),
-        Some(line) => shrink(rt, alloc, script, variants, task.late, line.as_str()),
+        Some(line) => shrink(
+            rt,
+            alloc,
+            script,
+            variants,
+            task.late,
+            line.as_str(),
+            task.least,
+            progress,
+        ),
     }
 }
 
 /// A smaller script that ends as wanted, or that there is none.
-fn shrink<R: Threads + Sync>(
+fn shrink<R: Threads + Sync, T: Timer, E: Sink>(
     rt: &R,
     alloc: Global,
     script: &Script,
     variants: &Variants,
     late: Mask,
     line: &str,
+    least: bool,
+    progress: &mut Progress<T, E>,
 ) -> Result<Answer, AllocError>
     requires ranges { HasRanges script.now }
     requires sound { AreSound script.now variants.now }
-    ensures { IfOk result
-        (λ a. IsShrinking variants.now late script.now line.now (string_bytes a.text, a.status)) }
+    ensures answer { IfOk result
+        (λ a. IsShrinking least variants.now late script.now line.now (string_bytes a.text, a.status)) }
+    ensures waits { Waits progress.old progress.new }
 {
-    match shrunk(rt, alloc, script, variants, late, line)? {
+    match shrunk(rt, alloc, script, variants, late, line, least, progress)? {
         Some(text) => Ok(Answer { text, status: DONE }),
         None => Ok(Answer {
             text: String::from_str(alloc, none_text(variants))?,

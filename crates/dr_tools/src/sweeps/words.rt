@@ -1,5 +1,5 @@
 ghost use Rattle.std.specs.Prelude.{◌≡◌, ◌+◌, ◌<◌, ◌^◌, IfOk, IfSome, map, option_map, string_bytes};
-ghost use Rattle.dr_tools.specs.SweepWords.{AreFit, member_of, outcome_named, runs_at, seeds_at, seeds_by, task_in, wanted_line};
+ghost use Rattle.dr_tools.specs.SweepWords.{AreFit, member_of, outcome_named, runs_at, seeds_at, seeds_by, task_in, wanted_line, wanted_named};
 
 use crate::sweeps::forms::without_blanks;
 use dr_entry::{MAX_MEMBERS, Text};
@@ -24,11 +24,12 @@ pub(crate) enum Runs {
 }
 
 /// What a call asks for: how these runs end, in which these members are late; or a smaller script of one of these runs
-/// that has the outcome that is wanted, as a line without blanks.
+/// that has the outcome that is wanted, as a line without blanks, or a least one.
 #[derive(Drop)]
 pub(crate) struct Task {
     pub runs: Runs,
     pub wanted: Option<Text>,
+    pub least: bool,
     pub late: Mask,
 }
 
@@ -40,24 +41,41 @@ pub(crate) fn task_in(alloc: Global, words: &[String]) -> Result<Option<Task>, A
     let Some((runs, rest)) = runs_at(words) else {
         return Ok(None);
     };
-    let Some((outcome, late)) = outcome_named(rest) else {
+    let Some(((outcome, least), late)) = outcome_named(rest) else {
         return Ok(None);
     };
     Ok(Some(Task {
         runs,
         wanted: wanted_of(alloc, outcome)?,
+        least,
         late,
     }))
 }
 
-/// The outcome that is wanted by these words, if one is, and who is late by those behind it.
-fn outcome_named(words: &[String]) -> Option<(Option<&str>, Mask)>
-    ensures { option_map (λ found. (option_map (λ outcome. outcome.now) found.0, found.1)) result
+/// The outcome that is wanted by these words, if one is, whether of a least script, and who is late by the words behind
+/// that.
+fn outcome_named(words: &[String]) -> Option<((Option<&str>, bool), Mask)>
+    ensures { option_map
+        (λ found. ((option_map (λ outcome. outcome.now) found.0.0, found.0.1), found.1)) result
         ≡ outcome_named (map string_bytes words.now) }
 {
-    let (outcome, rest) = option_of("--shrink", words)?;
+    let (wanted, rest) = wanted_named(words)?;
     let late = late_named(rest)?;
-    Some((outcome, late))
+    Some((wanted, late))
+}
+
+/// The outcome that is wanted by these words, if one is, whether of a least script, and the words behind it.
+fn wanted_named(words: &[String]) -> Option<((Option<&str>, bool), &[String])>
+    ensures { option_map
+        (λ found. ((option_map (λ outcome. outcome.now) found.0.0, found.0.1), map string_bytes found.1.now)) result
+        ≡ wanted_named (map string_bytes words.now) }
+{
+    let (outcome, rest) = option_of("--shrink", words)?;
+    if outcome.is_some() {
+        return Some(((outcome, false), rest));
+    }
+    let (outcome, rest) = option_of("--shrink-all", rest)?;
+    Some(((outcome, true), rest))
 }
 
 /// The line of the outcome that is wanted, if one is.

@@ -147,7 +147,7 @@ fn trace_run<R: Threads + Sync, K: Sink, T: Timer, E: Sink>(
     ensures quiet { IsQuiet progress.old progress.new }
 {
     match form {
-        Form::Lines => trace_lines(rt, alloc, script, part, Lines { output }),
+        Form::Lines => trace_lines(rt, alloc, script, part, Lines::new(alloc, output)),
         Form::Chart => match Chart::new(alloc, script.members, is_lockstep(script)) {
             Ok(chart) => trace_chart(rt, alloc, script, part, Drawing { output, chart }),
             Err(_) => end(output, None),
@@ -169,7 +169,7 @@ fn trace_lines<R: Threads + Sync, K: Sink>(
 ) -> Traced<K>
     requires ranges { HasRanges script.now }
     requires some { HaveSomebodyPrompt script.now part.now }
-    ensures { (held : Option (List ℕ)) (fell : ℕ) → HasTold held fell [] lines
+    ensures { (held : Option (List ℕ)) (fell : ℕ) → HasTold held fell [] lines.output
         → WroteOne (IsRunTold Form.Lines script.now part.now) held (K.held result.sink)
         fell (K.faults result.sink) result.status }
 {

@@ -1,5 +1,5 @@
 use Rattle.std.proofs.Common.{arith}
-use Rattle.dr_entry.{specs.declared.limits.TheConstants.MAX_MESSAGES, proofs.Bits.longest_within}
+use Rattle.dr_entry.{specs.declared.limits.TheConstants.MAX_MESSAGES, proofs.LongestLists.longest_within}
 use Rattle.dr_complete.proofs.time.turns_enough.Goals as goal
 
 pub overflow_mul-result : goal.overflow_mul-result

@@ -1,9 +1,35 @@
-use Rattle.std.proofs.Common.{sym, ◌∙◌, subst}
-use Rattle.dr_program.specs.declared.place.Place.{Place}
-use Rattle.dr_turn.proofs.Search.{GoesBy}
-use Rattle.dr_member.{specs.Search.standing, proofs.Letters.{letters_passed, take_passed}}
+use Rattle.std.{specs.Prelude.is_some, proofs.Common.{◌≡◌, ℕ, true, ap, sym, ◌∙◌, subst}}
+use Rattle.dr_program.{specs.{Running.applies, declared.place.Place.Place}, proofs.RunningPrograms.settled_here}
+use Rattle.dr_turn.{specs.Search.IsUnderway, proofs.Search.GoesBy}
+use Rattle.dr_entry.proofs.BoolFacts.{stops_due}
+use Rattle.dr_member.{specs.{Ready.KeepsReady, Search.standing}, proofs.Letters.{letters_passed, take_passed}}
 use Rattle.dr_member.proofs.{Passing.{first_found, row_passed}, Votes.votes_passed}
 use Rattle.dr_member.proofs.search.settle_inside.Goals as goal
+
+-- the place with the part that was told is this place
+told : (place : Place) (part : ℕ) → part ≡ place.part
+    → record { part = part; row = place.row; column = place.column } ≡ place
+told place part e = ap (λ (p : ℕ). record place { part = p }) e
+
+pub applies_inside-requires-clause-underway : goal.applies_inside-requires-clause-underway
+applies_inside-requires-clause-underway c =
+    subst (λ (x : Place). IsUnderway (standing c.args.replica.now c.args.fate.now x))
+    (sym (told c.args.place.now c.args.part c.requires.part)) c.requires.underway
+
+pub applies_inside-requires-clause-ready : goal.applies_inside-requires-clause-ready
+applies_inside-requires-clause-ready c = subst (λ (x : Place). KeepsReady c.args.replica.now x c.args.ready.now)
+    (sym (told c.args.place.now c.args.part c.requires.part)) c.requires.ready
+
+pub returns-then-applies_inside-clause-place : goal.returns-then-applies_inside-clause-place
+returns-then-applies_inside-clause-place c =
+    let r = standing c.args.replica.now c.args.fate.now c.args.place.now in
+    let due : applies r r.place ≡ true =
+    subst (λ (x : Place). applies (standing c.args.replica.now c.args.fate.now x) x ≡ true)
+    (told c.args.place.now c.args.part c.requires.part) (sym c.applies_inside.ensures ∙ c.if-applies_inside.true) in
+    sym (settled_here r (stops_due (is_some r.replica.end) (applies r r.place) due))
+
+pub returns-then-applies_inside-clause-ready : goal.returns-then-applies_inside-clause-ready
+returns-then-applies_inside-clause-ready c = c.requires.ready
 
 goes : (c : goal.After-enter_row) → GoesBy (standing c.args.replica.now c.args.fate.now c.loop-place.place)
     (standing c.args.replica.now c.args.fate.now c.enter_row.new.place)

@@ -1,10 +1,10 @@
 use Rattle.std.{specs.Prelude.{Some, slice_set}, proofs.lemmas.Option.same_Some}
 use Rattle.std.proofs.Common.{rules, refl, sym, ap, ◌∙◌, subst, le_of_eq, length, length-set, ◌<◌, arith}
-use Rattle.dr_machine.proofs.Groups.{Told}
 use Rattle.dr_play.proofs.Sound.{appends_well, whole_table}
 use Rattle.dr_served.{specs.Served.{AreReady, HaveServed}, proofs.Served.places_on}
 use Rattle.dr_program.specs.{Presence.{present_at, with_present}, Program.has_ended, Running.Running}
-use Rattle.dr_program.proofs.{Present.{present_kept, present_set, place_is, at_set}, RunningPrograms.going_none}
+use Rattle.dr_program.proofs.{Fixed.Told, Present.{present_kept, present_set, place_is, at_set}}
+use Rattle.dr_program.proofs.RunningPrograms.{going_none}
 use Rattle.dr_sim.specs.{Places.{HasServedAt, IsReadyAt}, Sound.program_over}
 use Rattle.dr_sim.proofs.{Lists.{finds_lists, lists_on, taken_told}, Logs.{ready_on, served_on}}
 use Rattle.dr_sim.proofs.{Places.{ready_at, same_place, served_at}, Steps.{sees_well, took}}

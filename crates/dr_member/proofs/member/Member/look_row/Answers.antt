@@ -9,7 +9,7 @@ use Rattle.dr_member.proofs.member.Member.look_row.Goals as goal
 pub loop-column-init : goal.loop-column-init
 loop-column-init g c = record {
   home = c.requires.home;
-  came = subst (g.A.Access.came c.args.access.now c.args.self.now c.args.access.now c.args.at)
+  came = subst (g.A.Access.came c.args.access.now c.args.self.now c.args.access.now)
       (sym c.self.view_is) c.requires.came;
   on = looks_begin c.args.self.now c.self.inside c.look_index-first.result c.self.view_is c.self.invariant
       c.requires.deed c.look_index-first.ensures.index;
@@ -85,7 +85,7 @@ loop-column-preserved g c =
     (known g (goal.at.loop-column-preserved g c).After-look) inner in
     record {
       home = c.look-word.ensures.home;
-      came = subst (g.A.Access.came c.args.access.now c.args.self.now c.look-word.new.self c.args.at)
+      came = subst (g.A.Access.came c.args.access.now c.args.self.now c.look-word.new.self)
           (sym next.1.after) (c.look-word.ensures.came _ _ c.loop-column.invariant.came);
       on = next.0;
       row = c.loop-column.invariant.row;
@@ -148,7 +148,7 @@ pub invariant_of-self : goal.invariant_of-self
 invariant_of-self g c = (left g c).inside
 
 pub returns-clause-came : goal.returns-clause-came
-returns-clause-came g c = subst (g.A.Access.came c.args.access.now c.args.self.now c.look-word.new.self c.args.at)
+returns-clause-came g c = subst (g.A.Access.came c.args.access.now c.args.self.now c.look-word.new.self)
     (sym (left g c).answer.after) (c.look-word.ensures.came _ _ c.loop-column.invariant.came)
 
 pub returns-clause-form : goal.returns-clause-form

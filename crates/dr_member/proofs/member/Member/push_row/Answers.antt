@@ -13,7 +13,7 @@ use Rattle.dr_member.proofs.member.Member.push_row.Goals as goal
 pub loop-column-init : goal.loop-column-init
 loop-column-init g c = record {
   home = c.requires.home;
-  came = subst (g.A.Access.came c.args.access.now c.args.self.now c.args.access.now c.args.at)
+  came = subst (g.A.Access.came c.args.access.now c.args.self.now c.args.access.now)
       (sym c.self.view_is) c.requires.came;
   on = pushes_begin c.args.self.now c.self.inside c.push_index-first.result c.self.view_is c.self.invariant
       c.requires.deed c.push_index-first.ensures.index;
@@ -105,7 +105,7 @@ loop-column-preserved g c =
     let next = stays g c (known g (goal.at.loop-column-preserved g c).After-next_changed-column) in
     record {
       home = c.push.ensures.home;
-      came = subst (g.A.Access.came c.args.access.now c.args.self.now c.push.new.self c.args.at)
+      came = subst (g.A.Access.came c.args.access.now c.args.self.now c.push.new.self)
           (sym next.1.after) (c.push.ensures.came _ _ c.loop-column.invariant.came);
       on = next.0;
       row = c.loop-column.invariant.row;
@@ -196,7 +196,7 @@ invariant_of-self g c = (left g c).inside
 
 pub returns-then-column-columns-clause-came : goal.returns-then-column-columns-clause-came
 returns-then-column-columns-clause-came g c =
-    subst (g.A.Access.came c.args.access.now c.args.self.now c.push.new.self c.args.at)
+    subst (g.A.Access.came c.args.access.now c.args.self.now c.push.new.self)
     (sym (left g c).answer.after) (c.push.ensures.came _ _ c.loop-column.invariant.came)
 
 pub returns-then-column-columns-clause-form : goal.returns-then-column-columns-clause-form
@@ -212,8 +212,7 @@ pub invariant_of-self-then-crashes_now : goal.invariant_of-self-then-crashes_now
 invariant_of-self-then-crashes_now g c = (crashes g c).inside
 
 pub returns-then-crashes_now-clause-came : goal.returns-then-crashes_now-clause-came
-returns-then-crashes_now-clause-came g c =
-    subst (g.A.Access.came c.args.access.now c.args.self.now c.push.new.self c.args.at)
+returns-then-crashes_now-clause-came g c = subst (g.A.Access.came c.args.access.now c.args.self.now c.push.new.self)
     (sym (crashes g c).answer.after) (c.push.ensures.came _ _ c.loop-column.invariant.came)
 
 pub returns-then-crashes_now-clause-form : goal.returns-then-crashes_now-clause-form

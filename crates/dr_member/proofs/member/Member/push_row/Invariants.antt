@@ -8,7 +8,7 @@ use Rattle.dr_member.proofs.member.Member.push_row.Given as goal
 abbrev pub invariant-loop-column : goal.invariant-loop-column
 invariant-loop-column g l = record {
   home : g.A.Access.home l.access l.fn.board;
-  came : g.A.Access.came l.fn.access l.fn.self l.access l.fn.at (member_inside (at_column l.self-inside l.column));
+  came : g.A.Access.came l.fn.access l.fn.self l.access (member_inside (at_column l.self-inside l.column));
   on : IsOnRow (Push (l.first + l.column) (own l.self-inside.replica.rows l.column)) l.fn.self
       (at_column l.self-inside l.column);
   row : l.self-inside.place.row ≡ l.to;

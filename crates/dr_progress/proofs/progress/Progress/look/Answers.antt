@@ -9,6 +9,8 @@ returns-in-Some-2 g c = rw (← c.self.view_is) (inr (record {
   later = search rules;
   wrote = c.say.ensures.wrote;
   next = c.say.ensures.next;
+  run = c.say.ensures.run;
+  runs = c.say.ensures.runs;
   age = c.say.ensures.age;
   turns = c.say.ensures.turns;
 }))

@@ -1,9 +1,10 @@
-use Rattle.std.proofs.Common.{◌≡◌, ◌+◌, ◌*◌, ◌-◌, ◌<◌, ◌==◌, ℕ, not, true, false, length, slice_index, slice_set, sym, ap, ap₂, subst, ◌∙◌, arith}
-use Rattle.std.proofs.lemmas.{Bool.Decides.nat_tests, List.{get_or_default, length-set}}
+use Rattle.std.specs.Int.{from_bool}
+use Rattle.std.proofs.Common.{◌≡◌, ◌+◌, ◌*◌, ◌-◌, ◌<◌, ◌==◌, ℕ, not, true, false, slice_index, slice_set, sym, ap, ap₂, subst, ◌∙◌, arith}
+use Rattle.std.proofs.lemmas.{Bool.Decides.nat_tests, List.{get_or_default, length-set, set-get_or}}
 use Rattle.dr_rows.specs.{Along.{Pushes, pushed_along, with_push}, Words.{IsWords, Words, changed, own}}
 use Rattle.dr_rows.proofs.Along.{by_rows, push_is, push_is_none, push_test, push_written, pushed_more}
 use Rattle.dr_rows.proofs.{Vectors.{own_long, own_read}, WordsLemmas.IsWords-pushed}
-use Rattle.dr_rows.proofs.rows.Rows.push_row.Goals.{then-word-sent, else-word-sent}
+use Rattle.dr_rows.proofs.rows.Rows.push_row.Goals.{then-changed, else-changed}
 use Rattle.dr_rows.proofs.rows.Rows.push_row.Goals as goal
 
 pub loop-column-preserved : goal.loop-column-preserved
@@ -33,34 +34,46 @@ loop-column-preserved c =
     (column + 1 - c.args.from) = ap (λ (x : Pushes). with_push j c.args.first x column) before.after
     ∙ sym (pushed_more j c.args.first begin c.args.from (column - c.args.from) column so_far)
     ∙ ap (pushed_along j c.args.first begin c.args.from) next in
-    elim c.if-word-sent.branch [
-      | then-word-sent x ↦
-          let apart = x.if-word-sent.true in
-          let differs : changed s.words j column ≡ true = tested ∙ grind (arith, nat_tests, apart) in
+    let put = slice_set flat place word in
+    let into = c.args.first + column in
+    let long = length-set flat place word ∙ before.long in
+    elim c.if-changed.branch [
+      | then-changed x ↦
+          let apart = x.if-changed.true in
+          let differs : not (word == slice_index flat place) ≡ true = grind (arith, nat_tests, apart) in
+          let one : c.from-in-loop-column.result ≡ 1 = c.from-in-loop-column.ensures ∙ ap from_bool differs in
           let written = push_written w flat j column place word before.long c.requires.to low at is in
           record {
             from = omega (arith, before.from);
             within = omega (arith, c.loop-column-test.true);
-            long = ap length x.sent-is ∙ length-set flat place word ∙ before.long;
+            long = long;
             after = (λ z. record {
-              words = (ap (by_rows w) x.sent-is ∙ written) z;
-              table = (x.table-is ∙ ap (slice_set s.table (c.args.first + column)) is) z;
-              count = x.count-is z;
-            }) ∙ sym (push_is j c.args.first s column differs) ∙ more;
-            few = omega (arith, x.count-is, before.few, next);
-            form = subst IsWords (sym (ap (by_rows w) x.sent-is ∙ written))
-                (IsWords-pushed s.words j column before.form c.requires.to);
+              words = written z;
+              table = ap (slice_set s.table into) (x.table-is ∙ is) z;
+              count = ap (λ (n : ℕ). s.count + n) one z;
+            }) ∙ sym (push_is j c.args.first s column (tested ∙ differs)) ∙ more;
+            few = omega (arith, one, before.few, next);
+            form = subst IsWords (sym written) (IsWords-pushed s.words j column before.form c.requires.to);
           }
-      | else-word-sent x ↦
-          let same = x.if-word-sent.false in
-          let differs : changed s.words j column ≡ false = tested ∙ grind (arith, nat_tests, same) in
+      | else-changed x ↦
+          let same = x.if-changed.false in
+          let differs : not (word == slice_index flat place) ≡ false = grind (arith, nat_tests, same) in
+          let none : c.from-in-loop-column.result ≡ 0 = c.from-in-loop-column.ensures ∙ ap from_bool differs in
+          let still : s.count + c.from-in-loop-column.result ≡ s.count = omega (arith, none) in
+          let equal : word ≡ slice_index flat place = grind (arith, nat_tests, same) in
+          let kept : put ≡ flat = ap (slice_set flat place) equal ∙ set-get_or flat place 0 in
+          let left : slice_set s.table into c.if-changed.table ≡ s.table =
+          ap (slice_set s.table into) x.table-is ∙ set-get_or s.table into 0 in
           record {
             from = omega (arith, before.from);
             within = omega (arith, c.loop-column-test.true);
-            long = ap length x.sent-is ∙ before.long;
-            after = (λ z. record { words = by_rows w (x.sent-is z); table = x.table-is z; count = x.count-is z })
-                ∙ sym (push_is_none j c.args.first s column differs) ∙ more;
-            few = omega (arith, x.count-is, before.few, next);
-            form = subst IsWords (sym (ap (by_rows w) x.sent-is)) before.form;
+            long = long;
+            after = (λ z. record {
+              words = by_rows w (kept z);
+              table = left z;
+              count = still z;
+            }) ∙ sym (push_is_none j c.args.first s column (tested ∙ differs)) ∙ more;
+            few = omega (arith, none, before.few, next);
+            form = subst IsWords (sym (ap (by_rows w) kept)) before.form;
           }
     ]

@@ -7,9 +7,9 @@ pub ends_so-requires-clause-some : goal.ends_so-requires-clause-some
 ends_so-requires-clause-some g c κs h =
     subst (λ (p : Part). HaveSomebodyPrompt c.args.script.now p) c.with_late.ensures c.if-are_all_late.ensures
 
-pub returns-then-are_all_late : goal.returns-then-are_all_late
-returns-then-are_all_late g c =
+pub returns-then-are_all_late-clause-outcome : goal.returns-then-are_all_late-clause-outcome
+returns-then-are_all_late-clause-outcome g c =
     inr (subst (λ (p : Part). AreAllLate c.args.script.now p) c.with_late.ensures c.if-are_all_late.ensures, refl)
 
-pub returns : goal.returns
-returns g c = IfOk-weaker c.ends_so.result _ _ (λ shows ends. inl ends) c.ends_so.ensures
+pub returns-clause-outcome : goal.returns-clause-outcome
+returns-clause-outcome g c = IfOk-weaker c.ends_so.result _ _ (λ shows ends. inl ends) c.ends_so.ensures.outcome

@@ -4,6 +4,6 @@ use Rattle.dr_script.specs.declared.script.Script.{Script}
 use Rattle.dr_tools.specs.Outcomes.{TextEndsSo}
 use Rattle.dr_tools.proofs.sweeps.shrinking.ends_so_with.Goals as goal
 
-pub returns : goal.returns
-returns g c = subst (λ (s : Script). IfOk c.whole_ends_so.result
-    (TextEndsSo (script_json s) c.args.late c.args.wanted.now)) c.in_ok-fewer.ensures c.whole_ends_so.ensures
+pub returns-clause-ends : goal.returns-clause-ends
+returns-clause-ends g c = subst (λ (s : Script). IfOk c.whole_ends_so.result
+    (TextEndsSo (script_json s) c.args.late c.args.wanted.now)) c.in_ok-fewer.ensures c.whole_ends_so.ensures.ends

@@ -1,33 +1,36 @@
-use Rattle.std.proofs.Common.{Bool, Global, Vec, subst, sym}
-use Rattle.dr_tools.specs.Shrinking.{EndsSoWith}
-use Rattle.dr_tools.proofs.sweeps.shrinking.fewest_parts.Goals.{then-length-gt1+in_ok-keeps, else-length-gt1, else-loop-test, then-loop-test+in_ok-keeps-2+then-kept_count-before}
+use Rattle.dr_progress.proofs.Besides.{waits_at_rest, waits_both}
 use Rattle.dr_tools.proofs.sweeps.shrinking.fewest_parts.Goals as goal
 
 pub loop-halvings-init : goal.loop-halvings-init
-loop-halvings-init g c = c.requires
+loop-halvings-init g c = (c.requires, waits_at_rest c.args.progress.now)
 
 pub loop-halvings-preserved : goal.loop-halvings-preserved
-loop-halvings-preserved g c = elim c.if-length-gt1.branch [
-  | then-length-gt1+in_ok-keeps w ↦
-      subst (λ (v : Vec Bool Global). EndsSoWith c.args.script.now c.args.late c.args.wanted.now v.items) (sym w.keeps-is)
-      w.in_ok-keeps.ensures
-  | else-length-gt1 w ↦
-      subst (λ (v : Vec Bool Global). EndsSoWith c.args.script.now c.args.late c.args.wanted.now v.items) (sym w.keeps-is)
-      c.loop-halvings.invariant
-]
+loop-halvings-preserved g c = (
+  c.in_ok-keeps.ensures.ends,
+  waits_both c.args.progress.now c.loop-halvings.progress c.leave_out_large.new.progress c.loop-halvings.invariant.1
+      c.leave_out_large.ensures.waits,
+)
 
 pub loop-init : goal.loop-init
-loop-init g c = c.loop-halvings.invariant
+loop-init g c = (c.loop-halvings.invariant.0, waits_at_rest c.loop-halvings.progress)
 
 pub loop-preserved : goal.loop-preserved
-loop-preserved g c = c.in_ok-keeps-2.ensures
+loop-preserved g c = (
+  c.in_ok-keeps-2.ensures.ends,
+  waits_both c.loop-halvings.progress c.loop.progress c.leave_out.new.progress c.loop.invariant.1
+      c.leave_out.ensures.waits,
+)
 
-pub returns : goal.returns
-returns g c = elim c.loop-test.branch [
-  | else-loop-test w ↦
-      subst (λ (v : Vec Bool Global). EndsSoWith c.args.script.now c.args.late c.args.wanted.now v.items) (sym w.keeps-is)
-      c.loop.invariant
-  | then-loop-test+in_ok-keeps-2+then-kept_count-before w ↦
-      subst (λ (v : Vec Bool Global). EndsSoWith c.args.script.now c.args.late c.args.wanted.now v.items) (sym w.keeps-is)
-      w.in_ok-keeps-2.ensures
-]
+pub returns-then-kept_count-before-clause-waits : goal.returns-then-kept_count-before-clause-waits
+returns-then-kept_count-before-clause-waits g c =
+    waits_both c.args.progress.now c.loop-halvings.progress c.leave_out.new.progress c.loop-halvings.invariant.1
+    (waits_both c.loop-halvings.progress c.loop.progress c.leave_out.new.progress c.loop.invariant.1
+    c.leave_out.ensures.waits)
+
+pub returns-clause-ends : goal.returns-clause-ends
+returns-clause-ends g c = c.loop.invariant.0
+
+pub returns-clause-waits : goal.returns-clause-waits
+returns-clause-waits g c =
+    waits_both c.args.progress.now c.loop-halvings.progress c.loop.progress c.loop-halvings.invariant.1
+    c.loop.invariant.1

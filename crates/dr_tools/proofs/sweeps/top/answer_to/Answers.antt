@@ -20,7 +20,7 @@ returns-in-Ok-clause-answer g c =
     (g.S.Source.faults c.read_for.new.source) c.answer_for.result c.in-Ok.task c.in-Ok.bytes.items asked
     c.in-Ok.ensures.bytes (subst (λ (l : List ℕ). IfOk c.answer_for.result
     (λ (a : Answer). IsSaidFor c.in-Ok.task (reading_of l) (string_bytes a.text, a.status)))
-    c.deref.ensures.value c.answer_for.ensures)
+    c.deref.ensures.value c.answer_for.ensures.answer)
 
 pub returns-in-Err-clause-answer : goal.returns-in-Err-clause-answer
 returns-in-Err-clause-answer g c =

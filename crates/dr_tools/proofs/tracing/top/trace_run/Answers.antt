@@ -1,4 +1,5 @@
 use Rattle.std.proofs.Common.{[], inl, refl, sym, subst}
+use Rattle.dr_seeing.specs.Output.{HasTold, Written}
 use Rattle.dr_tools.specs.{Trace.{IsRunTold, WroteOne}, declared.tracing.words.Form.Form}
 use Rattle.dr_tools.proofs.tracing.top.trace_run.Goals as goal
 
@@ -6,7 +7,7 @@ pub returns-in-Lines-clause-wrote : goal.returns-in-Lines-clause-wrote
 returns-in-Lines-clause-wrote g c = λ held fell told. subst (λ (f : Form). WroteOne
     (IsRunTold f c.args.script.now c.args.part.now) held (g.K.Sink.held c.trace_lines.result.sink) fell
     (g.K.Sink.faults c.trace_lines.result.sink) c.trace_lines.result.status)
-    (sym c.in-Lines.is) (c.trace_lines.ensures held fell told)
+    (sym c.in-Lines.is) (c.trace_lines.ensures held fell (subst (λ (w : Written). HasTold held fell [] w) (sym c.new.ensures) told))
 
 pub returns-in-Ok-clause-wrote : goal.returns-in-Ok-clause-wrote
 returns-in-Ok-clause-wrote g c = λ held fell told. subst (λ (f : Form). WroteOne

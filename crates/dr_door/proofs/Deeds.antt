@@ -1,0 +1,51 @@
+-- What the code of a door makes of it is what its deeds make.
+use Rattle.std.specs.Prelude.{slice_set, not, is_some, None, Option, Some}
+use Rattle.std.proofs.{Common.{◌≡◌, ◌∙◌, refl, sym, ap, ℕ, List, slice_index, true}, lemmas.Bool.and_parts}
+use Rattle.dr_entry.specs.declared.end.End.{End}
+use Rattle.dr_member.specs.Deeds.{is_before_turn}
+use Rattle.dr_program.specs.Running.{Running, after_step, deed, deed_of, next_deed, step_at}
+use Rattle.dr_program.specs.{Turn.{is_beat, part_of}, declared.place.Part.Part}
+use Rattle.dr_program.specs.declared.place.Part.TheVariants as parts
+use Rattle.dr_program.specs.declared.deed.Deed.TheVariants as deeds
+use Rattle.dr_door.specs.Lone.{Lone, after_alone, after_push, done_alone, is_alone, pushed_on, went_on}
+use Rattle.dr_door.specs.Seeing.{sight_over}
+
+-- a look
+pub looked_is : (d now : Lone) (x : Running) (index w : ℕ) → d ≡ now → next_deed now.member ≡ deeds.Look index
+    → x ≡ after_step w d.member → w ≡ sight_over d.member (slice_index d.words index)
+    → ◌≡◌ {A = Lone} (record { member = x; words = d.words }) (done_alone now)
+looked_is d now x index w view due after sees =
+    (λ z. record { member = (after ∙ ap (λ s. after_step s d.member) sees) z; words = d.words })
+    ∙ ap (after_alone d) (sym (ap (λ (e : Lone). next_deed e.member) view ∙ due)) ∙ ap done_alone view
+
+-- an act
+pub acted_is : (d now : Lone) (x : Running) (index word : ℕ) (words : List ℕ) → d ≡ now
+    → next_deed now.member ≡ deeds.Act index word → x ≡ after_step 0 d.member → words ≡ slice_set d.words index word
+    → ◌≡◌ {A = Lone} (record { member = x; words = words }) (done_alone now)
+acted_is d now x index word words view due after stored = (λ z. record { member = after z; words = stored z })
+    ∙ ap (after_alone d) (sym (ap (λ (e : Lone). next_deed e.member) view ∙ due)) ∙ ap done_alone view
+
+-- a push
+pub pushed_is : (d now : Lone) (x : Running) (index word : ℕ) (words : List ℕ) → d ≡ now
+    → next_deed now.member ≡ deeds.Push index word → x ≡ after_step 0 d.member → words ≡ slice_set d.words index word
+    → ◌≡◌ {A = Lone} (record { member = x; words = words }) (pushed_on now)
+pushed_is d now x index word words view due after stored = (λ z. record { member = after z; words = stored z })
+    ∙ ap (after_push d) (sym (ap (λ (e : Lone). next_deed e.member) view ∙ due)) ∙ ap pushed_on view
+
+-- an append that the log has, or a letter that was given
+pub went_is : (d now : Lone) (x : Running) → d ≡ now → ((word : ℕ) → x ≡ after_step word d.member)
+    → ◌≡◌ {A = Lone} (record { member = x; words = d.words }) (went_on now)
+went_is d now x view after = (λ z. record { member = after 0 z; words = d.words }) ∙ ap went_on view
+
+-- a beat concerns nobody else
+beat_at : (part : Part) (r : Running) (i c : ℕ) → is_beat part ≡ true
+    → is_alone (deed_of r (step_at r part i c)) ≡ true
+beat_at (parts.Do a) r i c beat = refl
+beat_at part r i c beat = absurd (cc)
+
+pub beat_alone : (r : Running) → is_before_turn r ≡ true → is_alone (next_deed r) ≡ true
+beat_alone r before = by r.replica.end (and_parts (not (is_some r.replica.end)) (is_beat (part_of r.place)) before)
+  where
+    by : (o : Option End) → (not (is_some o) ≡ true) × (is_beat (part_of r.place) ≡ true) → is_alone (deed r o) ≡ true
+    by None h = beat_at (part_of r.place) r r.place.row r.place.column h.1
+    by (Some end) h = absurd (cc (h.0))

@@ -1,0 +1,12 @@
+pub mod Deeds
+pub mod Sizes
+pub mod Places
+pub mod Copies
+pub mod Seeing
+pub mod Apart
+pub mod Welcome
+pub mod Later
+pub mod Opened
+pub mod Steps
+pub mod Sending
+pub mod Fitting
