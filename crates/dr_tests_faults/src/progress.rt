@@ -18,6 +18,11 @@ const STUCK: &[u8] =
 /// Blanks the line that stands on a terminal.
 const BLANK: &str = "\r                                                           \r";
 
+/// The turns in which a run is looked at behind the first look, where a line is due at every other one.
+const TURNS: [u32; 15] = [
+    63, 127, 191, 255, 319, 383, 447, 511, 575, 639, 703, 767, 831, 895, 959,
+];
+
 /// Checks in which turns something is said of the run, where each reading of the timer is so much later than
 /// the one before, up to the first that fails, and that no line is left behind it.
 fn check<R: Threads + Sync + Abort>(
@@ -59,16 +64,7 @@ fn says_nothing_where_there_is_no_terminal(rt: HostRuntime) -> Result<(), Fail> 
 
 #[test]
 fn says_a_line_each_second(rt: HostRuntime) -> Result<(), Fail> {
-    check(
-        &rt,
-        rt.alloc(),
-        true,
-        700,
-        100,
-        &[
-            63, 127, 191, 255, 319, 383, 447, 511, 575, 639, 703, 767, 831, 895, 959,
-        ],
-    )
+    check(&rt, rt.alloc(), true, 700, 100, &TURNS)
 }
 
 #[test]
@@ -95,10 +91,14 @@ fn says_which_of_several_runs_it_is(rt: HostRuntime) -> Result<(), Fail> {
             watch_next_with_progress(&rt, alloc, &script, &part, &mut Unwatched, &mut progress);
         }
         if name != "run 1 of 2" {
-            write!(wanted, "{BLANK}{name}, age 0, turn 0")?;
+            wanted.push_str(BLANK)?;
+            wanted.push_str(name)?;
+            wanted.push_str(", age 0, turn 0")?;
         }
-        for look in 1..16 {
-            write!(wanted, "{BLANK}{name}, age 0, turn {}", look * 64 - 1)?;
+        for turn in TURNS {
+            wanted.push_str(BLANK)?;
+            wanted.push_str(name)?;
+            write!(wanted, ", age 0, turn {turn}")?;
         }
     }
     progress.end();
