@@ -10,7 +10,7 @@ ghost use Rattle.dr_log.specs.Standing.{as_records, entries_length};
 use crate::making::CLOSED;
 use arrayvec::ArrayVec;
 use dr_disk::Disk;
-use dr_entry::{Entry, RECORD_ROOM, Record, encode};
+use dr_entry::{Entry, RECORD_ROOM, encode_entry};
 use dr_io::Failed;
 use dr_log_bytes::OPEN;
 
@@ -98,7 +98,7 @@ fn put_entry<D: Disk>(disk: &mut D, at: u64, entry: &Entry, gate: u8) -> Result<
     ensures cause { HasCause (D.faults disk.old) (D.faults disk.new) result }
 {
     let mut bytes: ArrayVec<u8, RECORD_ROOM> = ArrayVec::new();
-    encode(&Record::Entry(entry.copy()), &mut bytes);
+    encode_entry(entry, &mut bytes);
     bytes.push(gate);
     disk.write_at(at, bytes.as_slice())?;
     Ok(bytes.len() as u64)
@@ -126,6 +126,6 @@ fn size_of_entry(entry: &Entry) -> u64
     ensures fits { FitsEntry entry.now }
 {
     let mut bytes: ArrayVec<u8, RECORD_ROOM> = ArrayVec::new();
-    encode(&Record::Entry(entry.copy()), &mut bytes);
+    encode_entry(entry, &mut bytes);
     bytes.len() as u64 + 1
 }

@@ -3,7 +3,8 @@
 ghost use Rattle.std.specs.Prelude.{◌≡◌, ◌≢◌, ◌↔◌, ◌+◌, ◌*◌, ◌<◌, ◌≤◌, ◌++◌, [], ◌∷◌, ℕ, List, All, length, max, true, false, IfOk, IfErr, IfSome, IsErrOf, IsTrue, OnOk, OnErr};
 ghost use Rattle.dr_io.specs.Faults.{Rose};
 ghost use Rattle.dr_disk.specs.{Calls.Sync, Disk.{added, content_of}, Images.{Goes, IsLeft, Lasts, ReadsAnImage}};
-ghost use Rattle.dr_entry.specs.Spelling.{IsValid, IsValidEntry};
+ghost use Rattle.dr_entry.specs.Spelling.{Fits, IsValid, IsValidEntry, spelling};
+ghost use Rattle.dr_entry.specs.declared.record.Record.TheVariants as records;
 ghost use Rattle.dr_log.specs.{Appending.IsMounted, Voting.{HasVotedAge, WasUpgraded}};
 ghost use Rattle.dr_log.specs.{Grouping.{added_all, group}, declared.fault.LogFault.TheVariants.{DiskFault, LogFull}};
 ghost use Rattle.dr_log.specs.Standing.{HasAllOf, IsBeforeOrAfter, IsNoneOrAll, KeepsRecords, LosesNone, MayBeUpgraded, MayBeVoted, as_records, entries_length, in_newer_format, least_length, with_age_vote};
@@ -20,7 +21,7 @@ use crate::shelves::Shelves;
 use crate::spares::Spares;
 use arrayvec::ArrayVec;
 use dr_disk::Disk;
-use dr_entry::{AgeVote, Entry, RECORD_ROOM, Record, Vote, encode};
+use dr_entry::{AgeVote, Entry, MAX_RECORD, RECORD_ROOM, Record, Vote, encode, encode_entry};
 use dr_log_bytes::EMPTY;
 use std::alloc::{AllocError, Global};
 use std::marker::Model;
@@ -179,18 +180,91 @@ impl<D: Disk> Log<D> {
     {
         let mut bytes: ArrayVec<u8, RECORD_ROOM> = ArrayVec::new();
         encode(r, &mut bytes);
+        self.append_spelled(r.copy(), &mut bytes)
+    }
+
+    /// Appends an entry, as [`Log::append`] does a record.
+    ///
+    /// # Errors
+    ///
+    /// Those of [`Log::append`].
+    pub fn append_entry(&mut self, entry: &Entry) -> Result<(), LogFault>
+        requires valid { IsValidEntry entry.now }
+        requires spare { 1 ≤ self.old.spare_entries }
+        requires whole { self.old.failed ≡ false }
+        ensures ok { OnOk result (self.new ≡ appended self.old (records.Entry entry.now) self.new.disk) }
+        ensures fault { IsErrOf result DiskFault
+            → self.new ≡ broken_off self.old (records.Entry entry.now) self.new.disk }
+        ensures full { (len : ℕ) → IsErrOf result (LogFull len) → self.new ≡ self.old }
+        ensures limit { KeepsLimit self.old.limit self.old.content.length
+            (block_length (records.Entry entry.now)) result }
+        // At any moment a crash leaves the records from before, or these and the new entry.
+        ensures any_moment { Goes (D.told self.old.disk) (D.told self.new.disk)
+            (λ s. IsBeforeOrAfter self.old.content (records.Entry entry.now)) }
+        // What no crash loses at one moment none loses later on.
+        ensures lasting { (first : OnLog)
+            → Lasts (D.told self.old.disk) (D.told self.new.disk) (LosesNone first) }
+        // Once this has answered Ok, each crash leaves the new one too.
+        ensures durable { OnOk result (IsLeft (D.told self.new.disk)
+            (λ image. StandFor image self.new.content)) }
+        ensures calls { OnOk result (D.told self.new.disk
+            ≡ added_all (group self.old.content.length (records.Entry entry.now ∷ [])) (D.told self.old.disk)) }
+        // No fault of the disk is hidden.
+        ensures calm { OnOk result (D.faults self.new.disk ≡ D.faults self.old.disk) }
+        ensures cause { IsErrOf result DiskFault → Rose (D.faults self.old.disk) (D.faults self.new.disk) }
+        ensures faults { D.faults self.old.disk ≤ D.faults self.new.disk }
+    {
+        let mut bytes: ArrayVec<u8, RECORD_ROOM> = ArrayVec::new();
+        encode_entry(entry, &mut bytes);
+        self.append_spelled(Record::Entry(entry.copy()), &mut bytes)
+    }
+
+    /// Appends a record whose spelling is given, behind which there is room for its gate. Each call has its own
+    /// copy of it, in which the kind of the record may be known.
+    #[inline(always)]
+    fn append_spelled(
+        &mut self,
+        r: Record,
+        bytes: &mut ArrayVec<u8, RECORD_ROOM>,
+    ) -> Result<(), LogFault>
+        requires spelled { bytes.old.items ≡ spelling r }
+        requires short { length bytes.old.items ≤ MAX_RECORD }
+        requires fits { Fits r }
+        requires valid { IsValid r }
+        requires spare_entry { as_entry r ≤ self.old.spare_entries }
+        requires spare_vote { as_vote r ≤ self.old.spare_votes }
+        requires spare_other { as_other r ≤ self.old.spare_others }
+        requires placed { IsPlaced self.old.content r }
+        requires whole { self.old.failed ≡ false }
+        ensures ok { OnOk result (self.new ≡ appended self.old r self.new.disk) }
+        ensures fault { IsErrOf result DiskFault → self.new ≡ broken_off self.old r self.new.disk }
+        ensures full { (len : ℕ) → IsErrOf result (LogFull len) → self.new ≡ self.old }
+        ensures limit { KeepsLimit self.old.limit self.old.content.length (block_length r) result }
+        ensures any_moment { Goes (D.told self.old.disk) (D.told self.new.disk)
+            (λ s. IsBeforeOrAfter self.old.content r) }
+        ensures lasting { (first : OnLog)
+            → (HasAllOf first self.old.content → HasAllOf first (with_record r self.old.content))
+            → Lasts (D.told self.old.disk) (D.told self.new.disk) (LosesNone first) }
+        ensures durable { OnOk result (IsLeft (D.told self.new.disk)
+            (λ image. StandFor image self.new.content)) }
+        ensures calls { OnOk result (D.told self.new.disk
+            ≡ added_all (group self.old.content.length (r ∷ [])) (D.told self.old.disk)) }
+        ensures calm { OnOk result (D.faults self.new.disk ≡ D.faults self.old.disk) }
+        ensures cause { IsErrOf result DiskFault → Rose (D.faults self.old.disk) (D.faults self.new.disk) }
+        ensures faults { D.faults self.old.disk ≤ D.faults self.new.disk }
+    {
         let size = bytes.len() as u64 + 1;
         let len = self.shelves.len();
         if size > self.limit.saturating_sub(len) {
             return Err(LogFault::LogFull { len });
         }
         bytes.push(CLOSED);
-        self.spares.spend(r);
+        self.spares.spend(&r);
         if put_behind(&mut self.disk, len, bytes.as_slice()).is_err() {
             self.failed = true;
             return Err(LogFault::DiskFault);
         }
-        self.shelves.take(r.copy(), size);
+        self.shelves.take(r, size);
         Ok(())
     }
 

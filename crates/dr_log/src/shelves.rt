@@ -113,6 +113,7 @@ impl Shelves {
     }
 
     /// Takes one record more, which has so many bytes with its gate, into a place that there is.
+    #[inline(always)]
     pub(crate) fn take(&mut self, r: Record, size: u64)
         requires size { size ≡ block_length r }
         requires small { self.old.content.length + size < 2 ^ 64 }

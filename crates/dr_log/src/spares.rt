@@ -44,6 +44,7 @@ impl Spares {
     }
 
     /// Takes one, of the record's kind.
+    #[inline(always)]
     pub(crate) fn spend(&mut self, r: &Record)
         requires entry { as_entry r.now ≤ self.old.entries }
         requires vote { as_vote r.now ≤ self.old.votes }

@@ -1,15 +1,16 @@
 -- Deeds of a member, and which of them are its last.
 use Rattle.std.specs.Prelude.{None, is_some, Option, Some}
-use Rattle.std.proofs.Common.{◌≡◌, refl, false, sym, ap, ◌∙◌, ℕ, true, ◌||◌}
-use Rattle.dr_entry.specs.{declared.end.End.End, declared.record.Record.Record}
+use Rattle.std.proofs.{Common.{◌≡◌, refl, false, sym, ap, ◌∙◌, ℕ, true, ◌||◌}, lemmas.Option.same_Some}
+use Rattle.dr_entry.specs.{declared.{end.End.End, entry.Entry.Entry}, declared.record.Record.Record}
 use Rattle.dr_words.specs.Layout.{words_of}
+use Rattle.dr_entry.specs.declared.record.Record.TheVariants as records
 use Rattle.dr_machine.specs.declared.step.Step.{Step, TheVariants.Do}
 use Rattle.dr_program.specs.Running.{Running, deed_of, after_step, deed, next_deed, next_step, step_at, took}
 use Rattle.dr_program.{specs.Turn.is_beat, proofs.{Parts.{is_final, end_stays}, Search.{settled_same, settle_only}}}
 use Rattle.dr_program.{specs.declared.{deed.Deed.Deed, place.Part.Part}, proofs.Fixed.{step_told, Told}}
 use Rattle.dr_program.specs.declared.place.Part.TheVariants as parts
 use Rattle.dr_program.specs.declared.deed.Deed.TheVariants as deeds
-use Rattle.dr_member.specs.Deeds.{is_act, is_look, is_push, is_take, is_append, table_size}
+use Rattle.dr_member.specs.Deeds.{is_act, is_look, is_push, is_take, is_append, table_size, appended_entry}
 
 only_acts_are_final : (r : Running) (s : Step) → is_act (deed_of r s) ≡ false → is_final s ≡ false
 only_acts_are_final r (Do a) other = absurd (cc)
@@ -28,6 +29,16 @@ pub no_beat : (r : Running) (p : Part) (i c : ℕ) → let d = deed_of r (step_a
     (is_look d || is_push d) ≡ true → is_beat p ≡ false
 no_beat r (parts.Do a) i c due = absurd (cc)
 no_beat r p i c due = refl
+
+-- the deed is an append, of its record
+pub an_append : (d : Deed) → is_append d ≡ true → (due : Record) × (d ≡ deeds.Append due)
+an_append (deeds.Append due) is = (due, refl)
+an_append d is = absurd (cc)
+
+-- and of this entry
+pub an_entry : (d : Deed) (entry : Entry) → Some entry ≡ appended_entry d → d ≡ deeds.Append (records.Entry entry)
+an_entry (deeds.Append (records.Entry e)) entry is = ap (λ x. deeds.Append (records.Entry x)) (sym (same_Some _ _ is))
+an_entry d entry is = absurd (cc)
 
 -- the deed is a take
 pub a_take : (d : Deed) → is_take d ≡ true → d ≡ deeds.Take

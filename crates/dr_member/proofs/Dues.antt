@@ -12,8 +12,8 @@ use Rattle.dr_program.specs.{Turn.part_of, declared.{outcome.LogWhy.LogWhy, plac
 use Rattle.dr_program.proofs.RunningPrograms.{IsCellOf, deed_due, is_cell, allowed_inside, in_view}
 use Rattle.dr_program.proofs.{StepsAt.{append_either, push_either, vote_either, taking}, Waiting.append_free}
 use Rattle.dr_program.specs.declared.place.Part.TheVariants as parts
-use Rattle.dr_member.specs.{Deeds.{is_act, is_append, is_give, is_look, is_push, is_take}, Search.step_by}
-use Rattle.dr_member.specs.declared.search.Due.{Due}
+use Rattle.dr_member.specs.Deeds.{is_act, is_append, is_give, is_look, is_push, is_take, appended_entry}
+use Rattle.dr_member.specs.{Search.step_by, declared.search.Due.Due}
 use Rattle.dr_member.specs.declared.search.Due.TheVariants as dues
 
 -- ---- the kind of a deed
@@ -261,6 +261,22 @@ step_is s d p v a e is = sym e ∙ ap (λ x. step_by x p v) is
 pub act_by : (d : Due) (p : Place) (v : Value) (a : Act) → step_by d p v ≡ steps.Do a → d ≡ dues.Act a
 act_by (dues.Act b) p v a e = cc
 act_by d p v a e = absurd (cc)
+
+-- what is due is no append of an entry
+entry_by : (r : Running) (d : Due) (p : Place) (v : Value) → d ≢ dues.Append
+    → None ≡ appended_entry (deed_of r (step_by d p v))
+entry_by r dues.Append p v other = absurd (other refl)
+entry_by r dues.Look p v other = refl
+entry_by r dues.Push p v other = refl
+entry_by r dues.Vote p v other = refl
+entry_by r dues.Give p v other = refl
+entry_by r dues.Take p v other = refl
+entry_by r (dues.Act a) p v other = refl
+
+pub no_entry : (r : Running) (d : Due) (p : Place) (v : Value) → r.replica.end ≡ None → step_by d p v ≡ next_step r
+    → d ≢ dues.Append → None ≡ appended_entry (next_deed r)
+no_entry r d p v none step other = entry_by r d p v other ∙ ap (λ s. appended_entry (deed_of r s)) step
+    ∙ ap (λ o. appended_entry (deed r o)) (sym none)
 
 -- the step of an act's deed
 act_kind : (r : Running) (s : Step) → is_act (deed_of r s) ≡ true → (a : Act) × (s ≡ steps.Do a)

@@ -1,5 +1,7 @@
 -- The deeds that a member may be due to do, and what its callers know of them.
-use Rattle.std.specs.Prelude.{ℕ, ◌<◌, ◌&&◌, Bool, not, true, false, is_some}
+use Rattle.std.specs.Prelude.{ℕ, ◌<◌, ◌&&◌, Bool, not, true, false, is_some, Option, None, Some}
+use Rattle.dr_entry.specs.declared.entry.Entry.{Entry}
+use Rattle.dr_entry.specs.declared.record.Record.TheVariants as records
 use Rattle.dr_words.specs.Layout.{words_of}
 use Rattle.dr_program.specs.{Running.Running, Turn.{is_beat, part_of}, declared.deed.Deed.Deed}
 use Rattle.dr_program.specs.declared.deed.Deed.TheVariants as deeds
@@ -28,6 +30,11 @@ is_give d = false
 abbrev pub is_take : Deed → Bool
 is_take deeds.Take = true
 is_take d = false
+
+-- the entry that the deed appends, where it appends one
+abbrev pub appended_entry : Deed → Option Entry
+appended_entry (deeds.Append (records.Entry entry)) = Some entry
+appended_entry d = None
 
 -- an index in the deed is below this size
 abbrev pub IsWithin : ℕ → Deed → Type 0

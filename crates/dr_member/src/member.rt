@@ -11,7 +11,7 @@ ghost use Rattle.dr_program.specs.{Reading.step_of_member, Schedule.is_between_t
 ghost use Rattle.dr_program.specs.Running.{after_step, begun_running, broken_off, columns, crashes_now, deed_of, end_by, members, next_deed, next_step, push_or_crash, settled, took_letter};
 ghost use Rattle.dr_form.specs.Letters.{IsFitting};
 ghost use Rattle.dr_history.specs.History.{up_to_view};
-ghost use Rattle.dr_member.specs.Deeds.{IsWithin, is_act, is_append, is_before_turn, is_give, is_push, is_take, table_size};
+ghost use Rattle.dr_member.specs.Deeds.{IsWithin, appended_entry, is_act, is_append, is_before_turn, is_give, is_push, is_take, table_size};
 ghost use Rattle.dr_turn.specs.Work.{HasGrownTo, IsStill, deeds_left};
 
 use crate::acts::{is_inside_after, take_act, take_letter};
@@ -132,6 +132,19 @@ impl Member {
                 self.look_index(self.me(), BEAT_COLUMN),
                 self.replica.acts_after(),
             ),
+        }
+    }
+
+    /// The entry of its history that the member, which has not ended, appends next; `None` where its next deed is
+    /// no append, or one of a vote.
+    #[inline]
+    pub fn next_entry(&self) -> Option<&Entry>
+        requires going { self.now.replica.end ≡ None }
+        ensures { option_map (λ entry. entry.now) result ≡ appended_entry (next_deed self.now) }
+    {
+        match due_at(&self.replica, &self.fate, self.place) {
+            Due::Append => Some(&self.replica.history()[self.replica.logged() as usize]),
+            _ => None,
         }
     }
 

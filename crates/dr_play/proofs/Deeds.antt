@@ -29,7 +29,8 @@ use Rattle.dr_refine.proofs.{Deeds.{deed_is_step, program_member}, Guards.{other
 use Rattle.dr_refine.proofs.Tests.{cell_test}
 use Rattle.dr_served.specs.{Appended.{IsAppendDue, is_append, record_due, record_of}, Served.{IsReady, HasServed}}
 use Rattle.dr_served.proofs.{Appends.{may_log, IsPlain, IsSweeping}, Serving.{other_ready, logged_on, other_served}}
-use Rattle.dr_member.{specs.{Alone.{IsAtSweep, LeadsTo}, Deeds.{is_look, is_push}}, proofs.Deeds.no_beat}
+use Rattle.dr_member.specs.{Alone.{IsAtSweep, LeadsTo}, Deeds.{is_look, is_push, is_append as is_append_deed}}
+use Rattle.dr_member.proofs.Deeds.{no_beat, an_append}
 use Rattle.dr_program_laws.{specs.Carried.IsCarried, proofs.{Keeping.move_kept, Letters.{letters_are, may_get}}}
 use Rattle.dr_program_laws.proofs.Carried.{IsCarriedOn, moved_on, carried_on, carried_pushes, carried_misses}
 use Rattle.dr_play.specs.Sound.{IsSound}
@@ -145,6 +146,10 @@ at_append r due form is =
       },
       t.says.1,
     )
+
+-- the member, whose next deed is an append, is due to append
+pub due_now : (r : Running) → IsRunningMember r → is_append_deed (next_deed r) ≡ true → IsAppendDue r
+due_now r form is = let append = an_append (next_deed r) is in (at_append r append.0 form append.1).0
 
 is_plain : (r : Running) (d : Deed) → next_deed r ≡ d → (is_look d || is_push d) ≡ true → IsPlain r (next_step r)
 is_plain r (deeds.Look index) next due =

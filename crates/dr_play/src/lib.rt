@@ -7,10 +7,12 @@
 //! no member takes memory for letters.
 #![tactic(auto)]
 
+mod appending;
 mod ending;
 mod laws;
 mod opening;
 
+pub use appending::append_due;
 pub use ending::ends_of;
 pub use laws::letters_are_for_late_members;
 pub use opening::begun_members;

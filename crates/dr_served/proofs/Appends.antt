@@ -1,5 +1,5 @@
 -- What an append to a log has come to for its member.
-use Rattle.std.{specs.Prelude.{Option, Err, IsErrOf, None, All, Some}, proofs.lemmas.Bool.and_parts}
+use Rattle.std.{specs.Prelude.{Option, Result, Ok, Err, IsErrOf, OnOk, None, All, Some}, proofs.lemmas.Bool.and_parts}
 use Rattle.std.proofs.Common.{◌≡◌, refl, sym, subst, ℕ, ◌+◌, ◌<◌, ◌≤◌, arith, ap, true, length, ltb-true, false, List}
 use Rattle.dr_disk.specs.{Disk.Told, Images.{Goes, Lasts}}
 use Rattle.dr_entry.specs.{Spelling.{IsValid, IsValidEntry}, declared.entry.Entry.{Entry, TheVariants.View}}
@@ -15,7 +15,7 @@ use Rattle.dr_program.specs.{Form.HasForm, Replica.{is_inside, may_append, may_v
 use Rattle.dr_program.specs.{Running.{Running, broken_off, next_step}, Schedule.is_between_turns}
 use Rattle.dr_program.specs.Steps.{IsAppend, allows, IsNoJoin, stored_letters}
 use Rattle.dr_program.proofs.Voting.{vote_room, vote_valid, votes_for}
-use Rattle.dr_served.specs.Appended.{HasAppended, IsAppendDue, record_due, why_of, MayLog, record_of, is_append}
+use Rattle.dr_served.specs.Appended.{HasAppended, HasBroken, IsAppendDue, IsOver, record_due, why_of, MayLog, record_of, is_append}
 use Rattle.dr_served.specs.Served.{HasServed, IsReady, IsSafe, LosesNothing}
 use Rattle.dr_served.proofs.Serving.{failed_served, full_served, ordinary_record, spares, unfailed}
 
@@ -34,8 +34,7 @@ loses_nothing told log new r due same lasting first =
     lasting first (ordinary_keeps due first log.content (ordinary_due r due same))
 
 -- a record that is the one due was appended
-pub did_append : {D : Type 0}
-    (told : D → Option Told) (count : D → ℕ) (log new : LogState D) (r : Running) (due : Record)
+did_append : {D : Type 0} (told : D → Option Told) (count : D → ℕ) (log new : LogState D) (r : Running) (due : Record)
     → due ≡ record_due r → new ≡ appended log due new.disk → log.content.length + block_length due ≤ log.limit
     → Goes (told log.disk) (told new.disk) (λ calls. IsBeforeOrAfter log.content due) → KeepsMoments told log new due
     → IsSafe told new → count new.disk ≡ count log.disk → HasAppended told count log new r
@@ -48,25 +47,56 @@ did_append told count log new r due same made fits goes lasting safe calm = reco
   calm = calm;
 }
 
--- or it wasn't, for this reason
-pub did_fail : {D : Type 0} (T : Type 0) (told : D → Option Told) (count : D → ℕ) (base log new : LogState D)
-    (r : Running) (due : Record) (fault : LogFault) → IsAppendDue r → due ≡ record_due r → (IsErrOf {T = T}
-    (Err fault) faults.DiskFault → new ≡ log_broken_off log due new.disk) → ((len : ℕ) → IsErrOf {T = T} (Err fault)
-    (faults.LogFull len) → new ≡ log) → KeepsLimit log.limit log.content.length (block_length due) {T = T} (Err fault)
+-- by the answer of its log
+pub appended_due : {D : Type 0} (T : Type 0) (told : D → Option Told) (count : D → ℕ) (log new : LogState D)
+    (r : Running) (due : Record) (result : Result T LogFault) → due ≡ record_due r
+    → OnOk result (new ≡ appended log due new.disk)
+    → KeepsLimit log.limit log.content.length (block_length due) result
     → Goes (told log.disk) (told new.disk) (λ calls. IsBeforeOrAfter log.content due) → KeepsMoments told log new due
-    → (IsErrOf {T = T} (Err fault) faults.DiskFault → Rose (count log.disk) (count new.disk))
-    → count log.disk ≤ count new.disk
+    → OnOk result (IsSafe told new) → OnOk result (count new.disk ≡ count log.disk)
+    → OnOk result (HasAppended told count log new r)
+appended_due T told count log new r due (Ok x) same made fits goes lasting safe calm =
+    did_append told count log new r due same made fits goes lasting safe calm
+appended_due T told count log new r due (Err fault) same made fits goes lasting safe calm = tt
+
+-- or it wasn't, since the disk failed
+pub broken_due : {D : Type 0} (told : D → Option Told) (count : D → ℕ) (log new : LogState D) (r : Running)
+    (due : Record) → due ≡ record_due r → new ≡ log_broken_off log due new.disk
+    → Goes (told log.disk) (told new.disk) (λ calls. IsBeforeOrAfter log.content due) → KeepsMoments told log new due
+    → Rose (count log.disk) (count new.disk) → count log.disk ≤ count new.disk → HasBroken told count log new r
+broken_due told count log new r due same made goes lasting rose later = record {
+  made = subst (λ x. new ≡ log_broken_off log x new.disk) same made;
+  goes = subst (λ x. Goes (told log.disk) (told new.disk) (λ calls. IsBeforeOrAfter log.content x)) same goes;
+  lasting = loses_nothing told log new r due same lasting;
+  rose = rose;
+  later = later;
+}
+
+-- or since there is no room for it
+pub over_due : {D : Type 0} (T : Type 0) (log : LogState D) (r : Running) (due : Record) (len : ℕ)
+    (result : Result T LogFault) → due ≡ record_due r
+    → KeepsLimit log.limit log.content.length (block_length due) result → IsErrOf result (faults.LogFull len)
+    → IsOver log len r
+over_due T log r due len result same limit is =
+    let told = subst (KeepsLimit log.limit log.content.length (block_length due)) is limit in record {
+      long = told.0;
+      over = subst (λ x. log.limit < len + block_length x) same
+          (subst (λ n. log.limit < n + block_length due) (sym told.0) told.1);
+    }
+
+-- the member tells why
+pub failed_due : {D : Type 0} (T : Type 0) (told : D → Option Told) (count : D → ℕ) (base log new : LogState D)
+    (r : Running) (fault : LogFault) → IsAppendDue r
+    → (IsErrOf {T = T} (Err fault) faults.DiskFault → HasBroken told count log new r) → ((len : ℕ)
+    → IsErrOf {T = T} (Err fault) (faults.LogFull len) → (new ≡ log) × IsOver log len r)
     → HasServed told count base log r → HasServed told count base new (broken_off (why_of fault) r)
-did_fail T told count base log new r due faults.DiskFault is same broken full limit goes lasting rose later served =
-    failed_served told count base log new r is.due served
-    (subst (λ x. new ≡ log_broken_off log x new.disk) same (broken refl))
-    (subst (λ x. Goes (told log.disk) (told new.disk) (λ calls. IsBeforeOrAfter log.content x)) same goes)
-    (loses_nothing told log new r due same lasting) (rose refl) later
-did_fail T told count base log new r due (faults.LogFull len) is same broken full limit goes lasting rose later
-    served = subst (λ l. HasServed told count base l (broken_off (why_of (faults.LogFull len)) r))
-    (sym (full len refl))
-    (full_served told count base log r len is.due served limit.0 (subst (λ x. log.limit < len + block_length x) same
-    (subst (λ n. log.limit < n + block_length due) (sym limit.0) limit.1)))
+failed_due T told count base log new r faults.DiskFault is broken full served =
+    let b = broken refl in
+    failed_served told count base log new r is.due served b.made b.goes b.lasting b.rose b.later
+failed_due T told count base log new r (faults.LogFull len) is broken full served =
+    let f = full len refl in
+    subst (λ l. HasServed told count base l (broken_off (why_of (faults.LogFull len)) r)) (sym f.0)
+    (full_served told count base log r len is.due served f.1.long f.1.over)
 
 -- the log has a spare for the record that is due, which may stand there
 pub has_spares : {D : Type 0} (log : LogState D) (r : Running) (due : Record) → IsAppendDue r

@@ -16,6 +16,7 @@ use crate::watcher::Watcher;
 use dr_disk::Disk;
 use dr_log::Log;
 use dr_member::{Deed, Member};
+use dr_play::append_due;
 use dr_served::why_of;
 use dr_world::Posts;
 
@@ -80,8 +81,8 @@ pub fn take<D: Disk, W: Watcher>(
     }
 }
 
-/// The member, whose next deed is an append, does it, to the log at this place. Out of line, and with a
-/// record of its own, it leaves the other deeds a small loop.
+/// The member, whose next deed is an append, does it, to the log at this place. Out of line, it leaves the other
+/// deeds a small loop.
 #[inline(never)]
 fn append<D: Disk>(member: &mut Member, place: &mut Option<Log<D>>)
     requires due { is_append (next_deed member.old) ≡ true }
@@ -97,11 +98,9 @@ fn append<D: Disk>(member: &mut Member, place: &mut Option<Log<D>>)
         → HasServedAt D.told D.faults base place.new member.new }
 {
     let Some(log) = place else { unreachable!() };
-    if let Deed::Append(record) = member.due_deed() {
-        match log.append(&record) {
-            Ok(()) => member.appended(),
-            Err(fault) => member.append_failed(&why_of(fault)),
-        }
+    match append_due(log, member) {
+        Ok(()) => member.appended(),
+        Err(fault) => member.append_failed(&why_of(fault)),
     }
 }
 

@@ -11,6 +11,7 @@ use dr_disk::Disk;
 use dr_log::Log;
 use dr_member::Deed;
 use dr_pace::Pace;
+use dr_play::append_due;
 use dr_served::why_of;
 use dr_table::{Board, SeatedMember};
 
@@ -67,10 +68,8 @@ fn append<D: Disk>(seated: &mut SeatedMember, log: &mut Log<D>)
     ensures gone { HasGone D.told D.faults seated.old.member log.old seated.new.member log.new }
     ensures falls { deeds_left seated.new.member < deeds_left seated.old.member }
 {
-    if let Deed::Append(record) = seated.member().next() {
-        match log.append(&record) {
-            Ok(()) => seated.appended(),
-            Err(fault) => seated.append_failed(&why_of(fault)),
-        }
+    match append_due(log, seated.member()) {
+        Ok(()) => seated.appended(),
+        Err(fault) => seated.append_failed(&why_of(fault)),
     }
 }

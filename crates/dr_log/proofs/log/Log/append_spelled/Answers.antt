@@ -2,12 +2,12 @@ use Rattle.std.specs.Prelude.{IfSome, Option}
 use Rattle.std.proofs.Common.{◌≡◌, ℕ, ◌+◌, ◌≤◌, ◌-◌, List, [], ◌∷◌, ◌++◌, length, false, inl, ap, subst, sym, ◌∙◌, arith, rules}
 use Rattle.dr_entry.specs.{Spelling.{Fits, IsValid, spelling}, declared.record.Record.Record}
 use Rattle.dr_disk.{specs.{Calls.Write, Disk.{Told, content_of}, Images.{Goes, Lasts}}, proofs.Moments.lasts_still}
-use Rattle.dr_log.{specs.Grouping.{StopsAmong, added_all, group, opening}, proofs.log.Log.append.Given.Over}
+use Rattle.dr_log.{specs.Grouping.{StopsAmong, added_all, group, opening}, proofs.log.Log.append_spelled.Given.Over}
 use Rattle.dr_log.specs.{Kept.IsSettled, Standing.{HasAllOf, IsBeforeOrAfter, LosesNone, least_length}}
 use Rattle.dr_log.specs.State.{LogState, as_entry, as_other, as_vote}
 use Rattle.dr_log.proofs.Growing.{least_more, length-age_votes, length-entries, length-votes, one_kind}
 use Rattle.dr_log.proofs.Told.{GoesWell, MayCome, group_goes, group_settled, group_stops, images_told, reaches_end, still_goes}
-use Rattle.dr_log.proofs.log.Log.append.Goals as goal
+use Rattle.dr_log.proofs.log.Log.append_spelled.Goals as goal
 use Rattle.dr_log_bytes.specs.Content.{IsPlaced, OnLog, with_record}
 
 -- what a record is spelled as behind a closed gate
@@ -31,29 +31,29 @@ returns-then-size-saturating_sub-clause-any_moment g c =
     ∙ c.requires.whole in
     let before = old.shelves.content in
     subst (λ (s : LogState g.row.D.Denot). Goes
-    (told s.disk) (told s.disk) (λ _. IsBeforeOrAfter s.content c.args.r.now)) c.self.view_is (still_goes before
-    (told old.disk) (IsBeforeOrAfter before c.args.r.now) (c.self.invariant.settled whole) (λ image is. inl is))
+    (told s.disk) (told s.disk) (λ _. IsBeforeOrAfter s.content c.args.r)) c.self.view_is (still_goes before
+    (told old.disk) (IsBeforeOrAfter before c.args.r) (c.self.invariant.settled whole) (λ image is. inl is))
 
 -- an append that stops has gone well up to there
 stopped : (g : Over) (c : goal.After-self-1 g)
-    → GoesWell c.self.inside.shelves.content (c.args.r.now ∷ []) (g.D.Disk.told c.self.inside.disk) (g.D.Disk.told c.put_behind.new.disk)
+    → GoesWell c.self.inside.shelves.content (c.args.r ∷ []) (g.D.Disk.told c.self.inside.disk)
+    (g.D.Disk.told c.put_behind.new.disk)
 stopped g c =
     let told = g.D.Disk.told in
     let old = c.self.inside in
     let whole : old.failed ≡ false = ap (λ (s : LogState g.row.D.Denot). s.failed) c.self.view_is
     ∙ c.requires.whole in
-    let bytes : c.as_slice.result.now ≡ block_of c.args.r.now = c.as_slice.ensures.value ∙ c.push.ensures.items
-    ∙ ap (λ (l : List ℕ). l ++ (0 ∷ [])) c.encode.ensures.spelled in
-    let stops : StopsAmong (Write c.len-len.result c.as_slice.result.now ∷ opening (c.len-len.result - 1)) (told old.disk)
-    (told c.put_behind.new.disk) = search rules in
-    group_stops _ (told old.disk) (told c.put_behind.new.disk) c.len-len.result (c.args.r.now ∷ [])
+    let bytes : c.as_slice.result.now ≡ block_of c.args.r = c.as_slice.ensures.value ∙ c.push.ensures.items
+    ∙ ap (λ (l : List ℕ). l ++ (0 ∷ [])) c.requires.spelled in
+    let stops : StopsAmong (Write c.len-len.result c.as_slice.result.now ∷ opening (c.len-len.result - 1))
+    (told old.disk) (told c.put_behind.new.disk) = search rules in
+    group_stops _ (told old.disk) (told c.put_behind.new.disk) c.len-len.result (c.args.r ∷ [])
     (c.self.invariant.settled whole) (record {
       long = c.len-len.ensures;
       some = omega arith;
-      fit = ((c.requires.valid, c.encode.ensures.fits), tt);
+      fit = ((c.requires.valid, c.requires.fits), tt);
       placed = (
-        subst (λ (s : LogState g.row.D.Denot). IsPlaced s.content c.args.r.now) (sym c.self.view_is)
-            c.requires.placed,
+        subst (λ (s : LogState g.row.D.Denot). IsPlaced s.content c.args.r) (sym c.self.view_is) c.requires.placed,
         tt,
       );
     })
@@ -61,9 +61,8 @@ stopped g c =
     (told c.put_behind.new.disk)) bytes stops)
 
 pub returns-then-is_err-clause-any_moment : goal.returns-then-is_err-clause-any_moment
-returns-then-is_err-clause-any_moment g c =
-    subst (λ (s : LogState g.row.D.Denot). Goes (g.D.Disk.told s.disk) (g.D.Disk.told c.put_behind.new.disk)
-    (λ _. IsBeforeOrAfter s.content c.args.r.now)) c.self.view_is (stopped g c).goes
+returns-then-is_err-clause-any_moment g c = subst (λ (s : LogState g.row.D.Denot). Goes (g.D.Disk.told s.disk)
+    (g.D.Disk.told c.put_behind.new.disk) (λ _. IsBeforeOrAfter s.content c.args.r)) c.self.view_is (stopped g c).goes
 
 pub returns-then-size-saturating_sub-clause-lasting : goal.returns-then-size-saturating_sub-clause-lasting
 returns-then-size-saturating_sub-clause-lasting g c =
@@ -71,7 +70,7 @@ returns-then-size-saturating_sub-clause-lasting g c =
 
 pub returns-then-is_err-clause-lasting : goal.returns-then-is_err-clause-lasting
 returns-then-is_err-clause-lasting g c = λ first. subst (λ (s : LogState g.row.D.Denot).
-    (HasAllOf first s.content → HasAllOf first (with_record c.args.r.now s.content)) → Lasts (g.D.Disk.told s.disk)
+    (HasAllOf first s.content → HasAllOf first (with_record c.args.r s.content)) → Lasts (g.D.Disk.told s.disk)
     (g.D.Disk.told c.put_behind.new.disk) (LosesNone first)) c.self.view_is ((stopped g c).lasts first)
 
 -- one that does not has written the record, and opened its gate
@@ -90,14 +89,14 @@ pub returns-clause-any_moment : goal.returns-clause-any_moment
 returns-clause-any_moment g c =
     let told = g.D.Disk.told in
     let old = c.self.inside in
-    let r = c.args.r.now in
+    let r = c.args.r in
     let before = old.shelves.content in
     let did = written (told old.disk) (told c.put_behind.new.disk) c.len-len.result r c.as_slice.result.now
-    (c.as_slice.ensures.value ∙ c.push.ensures.items ∙ ap (λ (l : List ℕ). l ++ (0 ∷ [])) c.encode.ensures.spelled)
+    (c.as_slice.ensures.value ∙ c.push.ensures.items ∙ ap (λ (l : List ℕ). l ++ (0 ∷ [])) c.requires.spelled)
     (search rules) in
     let whole : old.failed ≡ false = ap (λ (s : LogState g.row.D.Denot). s.failed) c.self.view_is
     ∙ c.requires.whole in
-    let may = comes before c.len-len.result r c.len-len.ensures c.requires.valid c.encode.ensures.fits
+    let may = comes before c.len-len.result r c.len-len.ensures c.requires.valid c.requires.fits
     (subst (λ (s : LogState g.row.D.Denot). IsPlaced s.content r) (sym c.self.view_is) c.requires.placed) in
     let well = group_goes before (told old.disk) (told c.put_behind.new.disk) c.len-len.result (r ∷ [])
     (c.self.invariant.settled whole) may did in
@@ -108,14 +107,14 @@ pub returns-clause-lasting : goal.returns-clause-lasting
 returns-clause-lasting g c = λ first.
     let told = g.D.Disk.told in
     let old = c.self.inside in
-    let r = c.args.r.now in
+    let r = c.args.r in
     let before = old.shelves.content in
     let did = written (told old.disk) (told c.put_behind.new.disk) c.len-len.result r c.as_slice.result.now
-    (c.as_slice.ensures.value ∙ c.push.ensures.items ∙ ap (λ (l : List ℕ). l ++ (0 ∷ [])) c.encode.ensures.spelled)
+    (c.as_slice.ensures.value ∙ c.push.ensures.items ∙ ap (λ (l : List ℕ). l ++ (0 ∷ [])) c.requires.spelled)
     (search rules) in
     let whole : old.failed ≡ false = ap (λ (s : LogState g.row.D.Denot). s.failed) c.self.view_is
     ∙ c.requires.whole in
-    let may = comes before c.len-len.result r c.len-len.ensures c.requires.valid c.encode.ensures.fits
+    let may = comes before c.len-len.result r c.len-len.ensures c.requires.valid c.requires.fits
     (subst (λ (s : LogState g.row.D.Denot). IsPlaced s.content r) (sym c.self.view_is) c.requires.placed) in
     let well = group_goes before (told old.disk) (told c.put_behind.new.disk) c.len-len.result (r ∷ [])
     (c.self.invariant.settled whole) may did in
@@ -126,14 +125,14 @@ pub returns-clause-durable : goal.returns-clause-durable
 returns-clause-durable g c =
     let told = g.D.Disk.told in
     let old = c.self.inside in
-    let r = c.args.r.now in
+    let r = c.args.r in
     let before = old.shelves.content in
     let did = written (told old.disk) (told c.put_behind.new.disk) c.len-len.result r c.as_slice.result.now
-    (c.as_slice.ensures.value ∙ c.push.ensures.items ∙ ap (λ (l : List ℕ). l ++ (0 ∷ [])) c.encode.ensures.spelled)
+    (c.as_slice.ensures.value ∙ c.push.ensures.items ∙ ap (λ (l : List ℕ). l ++ (0 ∷ [])) c.requires.spelled)
     (search rules) in
     let whole : old.failed ≡ false = ap (λ (s : LogState g.row.D.Denot). s.failed) c.self.view_is
     ∙ c.requires.whole in
-    let may = comes before c.len-len.result r c.len-len.ensures c.requires.valid c.encode.ensures.fits
+    let may = comes before c.len-len.result r c.len-len.ensures c.requires.valid c.requires.fits
     (subst (λ (s : LogState g.row.D.Denot). IsPlaced s.content r) (sym c.self.view_is) c.requires.placed) in
     let after = c.take.new.self.content in
     let content : after ≡ with_record r before = search rules in
@@ -145,9 +144,9 @@ pub returns-clause-calls : goal.returns-clause-calls
 returns-clause-calls g c =
     let told = g.D.Disk.told in
     let old = c.self.inside in
-    let r = c.args.r.now in
+    let r = c.args.r in
     let did = written (told old.disk) (told c.put_behind.new.disk) c.len-len.result r c.as_slice.result.now
-    (c.as_slice.ensures.value ∙ c.push.ensures.items ∙ ap (λ (l : List ℕ). l ++ (0 ∷ [])) c.encode.ensures.spelled)
+    (c.as_slice.ensures.value ∙ c.push.ensures.items ∙ ap (λ (l : List ℕ). l ++ (0 ∷ [])) c.requires.spelled)
     (search rules) in
     subst (λ (s : LogState g.row.D.Denot). told c.put_behind.new.disk
     ≡ added_all (group s.content.length (r ∷ [])) (told s.disk)) c.self.view_is
@@ -158,14 +157,14 @@ pub invariant_of-self-2 : goal.invariant_of-self-2
 invariant_of-self-2 g c =
     let told = g.D.Disk.told in
     let old = c.self.inside in
-    let r = c.args.r.now in
+    let r = c.args.r in
     let before = old.shelves.content in
     let did = written (told old.disk) (told c.put_behind.new.disk) c.len-len.result r c.as_slice.result.now
-    (c.as_slice.ensures.value ∙ c.push.ensures.items ∙ ap (λ (l : List ℕ). l ++ (0 ∷ [])) c.encode.ensures.spelled)
+    (c.as_slice.ensures.value ∙ c.push.ensures.items ∙ ap (λ (l : List ℕ). l ++ (0 ∷ [])) c.requires.spelled)
     (search rules) in
     let whole : old.failed ≡ false = ap (λ (s : LogState g.row.D.Denot). s.failed) c.self.view_is
     ∙ c.requires.whole in
-    let may = comes before c.len-len.result r c.len-len.ensures c.requires.valid c.encode.ensures.fits
+    let may = comes before c.len-len.result r c.len-len.ensures c.requires.valid c.requires.fits
     (subst (λ (s : LogState g.row.D.Denot). IsPlaced s.content r) (sym c.self.view_is) c.requires.placed) in
     let after = c.take.new.self.content in
     let content : after ≡ with_record r before = search rules in
@@ -206,7 +205,7 @@ invariant_of-self-2 g c =
         one_kind r,
         ap length c.as_slice.ensures.value,
         c.push.ensures.len,
-        c.encode.ensures.short,
+        c.requires.short,
       );
       places = record {
         entries = omega (
