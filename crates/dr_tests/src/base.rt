@@ -28,10 +28,9 @@ use dr_words::Mask;
 use std::alloc::Global;
 
 /// Prints what becomes of these lines.
-pub(crate) fn show(rt: &HostRuntime, lines: &[String]) -> anyhow::Result<()> {
+pub(crate) fn show(rt: &HostRuntime, lines: &str) -> anyhow::Result<()> {
     let alloc = rt.alloc();
-    for line in lines {
-        let line = line.as_str();
+    for line in lines.lines() {
         if line.starts_with('#') {
             println!(rt; "{line}")?;
         } else {

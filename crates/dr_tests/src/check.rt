@@ -10,12 +10,11 @@ use dr_text::push_last;
 use std::alloc::Global;
 
 /// Prints what becomes of these lines.
-pub(crate) fn show(rt: &HostRuntime, lines: &[String]) -> anyhow::Result<()> {
+pub(crate) fn show(rt: &HostRuntime, lines: &str) -> anyhow::Result<()> {
     let alloc = rt.alloc();
     let mut script = String::new(alloc);
     let mut report = String::new(alloc);
-    for line in lines {
-        let line = line.as_str();
+    for line in lines.lines() {
         if line.starts_with('{') {
             script = String::from_str(alloc, line)?;
         } else if line.starts_with('#') {

@@ -7,8 +7,8 @@
 //! age, a view, a ballot, a roster and leavers, `aA.L` an age vote of an age and members. Members are listed as digits.
 //! `choose` and members chooses a start by the logs of all others, and `copy` copies a start of members of whom
 //! some take part.
-mod printing;
-mod reading;
+pub(crate) mod printing;
+pub(crate) mod reading;
 
 use crate::choices::printing::text_of;
 use crate::choices::reading::{borrowed, lists_of, mask_of};
@@ -19,12 +19,11 @@ use dr_script::read_script;
 use std::alloc::Global;
 
 /// Prints what becomes of these lines.
-pub(crate) fn show(rt: &HostRuntime, lines: &[String]) -> anyhow::Result<()> {
+pub(crate) fn show(rt: &HostRuntime, lines: &str) -> anyhow::Result<()> {
     let alloc = rt.alloc();
     let mut script = String::new(alloc);
     let mut logs = Vec::new(alloc);
-    for line in lines {
-        let line = line.as_str();
+    for line in lines.lines() {
         println!(rt; "{line}")?;
         if line.starts_with('{') {
             script = String::from_str(alloc, line)?;

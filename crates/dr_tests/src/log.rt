@@ -16,10 +16,9 @@ use std::alloc::Global;
 use std::fmt::Write;
 
 /// Prints what becomes of these lines.
-pub(crate) fn show(rt: &HostRuntime, lines: &[String]) -> anyhow::Result<()> {
+pub(crate) fn show(rt: &HostRuntime, lines: &str) -> anyhow::Result<()> {
     let alloc = rt.alloc();
-    for line in lines {
-        let line = line.as_str();
+    for line in lines.lines() {
         if line.starts_with('#') {
             println!(rt; "{line}")?;
         } else {

@@ -16,12 +16,11 @@ use dr_script::read_script;
 use std::alloc::Global;
 
 /// Prints what becomes of these lines.
-pub(crate) fn show(rt: &HostRuntime, lines: &[String]) -> anyhow::Result<()> {
+pub(crate) fn show(rt: &HostRuntime, lines: &str) -> anyhow::Result<()> {
     let alloc = rt.alloc();
     let mut script = String::new(alloc);
     let mut disks = Vec::new(alloc);
-    for line in lines {
-        let line = line.as_str();
+    for line in lines.lines() {
         println!(rt; "{line}")?;
         if line.starts_with('{') {
             script = String::from_str(alloc, line)?;

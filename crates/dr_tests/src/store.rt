@@ -16,12 +16,11 @@ use std::alloc::Global;
 use std::fmt::Write;
 
 /// Prints what becomes of these lines.
-pub(crate) fn show(rt: &HostRuntime, lines: &[String]) -> anyhow::Result<()> {
+pub(crate) fn show(rt: &HostRuntime, lines: &str) -> anyhow::Result<()> {
     let alloc = rt.alloc();
     let mut store = Store::new(alloc);
     let mut history = Vec::new(alloc);
-    for line in lines {
-        let line = line.as_str();
+    for line in lines.lines() {
         match line {
             "new" => {
                 history.clear();

@@ -6,8 +6,8 @@ use dr_io::OutputSink;
 use dr_text::{Clause, Last, Report};
 use std::alloc::{AllocError, Global};
 
-/// Prints them, whatever the lines are.
-pub(crate) fn show(rt: &HostRuntime, _lines: &[String]) -> anyhow::Result<()> {
+/// Prints them.
+pub(crate) fn show(rt: &HostRuntime) -> anyhow::Result<()> {
     let alloc = rt.alloc();
     print(rt, &ages_that_differ(alloc)?, &Last::Unfinished)?;
     print(rt, &[each_end(alloc)?], &Last::Unfinished)?;

@@ -3,6 +3,7 @@ use dr_entry::Entry;
 use dr_quorum::ChooseFault;
 use dr_restart::Start;
 use std::alloc::{AllocError, Global};
+use std::fmt::Write;
 
 /// A start, or why there is none.
 pub(crate) fn text_of(alloc: Global, choice: Result<Start, ChooseFault>) -> anyhow::Result<String> {
@@ -13,46 +14,47 @@ pub(crate) fn text_of(alloc: Global, choice: Result<Start, ChooseFault>) -> anyh
 }
 
 fn start_text(alloc: Global, start: &Start) -> anyhow::Result<String> {
-    let members = digits_of(alloc, start.members)?;
-    let mut text = format!(in alloc; "age {} members {members}", start.age)?;
+    let mut text = format!(in alloc; "age {} members ", start.age)?;
+    push_digits(&mut text, start.members)?;
     if start.present != start.members {
-        let present = digits_of(alloc, start.present)?;
-        let present = format!(in alloc; " of whom {present} take part")?;
-        text.push_str(present.as_str())?;
+        text.push_str(" of whom ")?;
+        push_digits(&mut text, start.present)?;
+        text.push_str(" take part")?;
     }
     text.push_str(" start")?;
     for entry in start.entries.as_slice() {
-        let word = word_of(alloc, entry)?;
-        text.push_str(word.as_str())?;
+        push_word(&mut text, entry)?;
     }
     Ok(text)
 }
 
-fn word_of(alloc: Global, entry: &Entry) -> anyhow::Result<String> {
+/// Appends an entry as a word.
+fn push_word(out: &mut String, entry: &Entry) -> Result<(), AllocError> {
     match entry {
         Entry::View {
             age,
             number,
             members,
         } => {
-            let members = digits_of(alloc, *members)?;
-            Ok(format!(in alloc; " v{age}.{number}.{members}")?)
+            write!(out, " v{age}.{number}.")?;
+            push_digits(out, *members)?;
         }
         Entry::Msg {
             sender,
             index,
             bytes,
         } => {
-            let mut text = format!(in alloc; " m{sender}.{index}.")?;
+            write!(out, " m{sender}.{index}.")?;
             for byte in bytes.bytes() {
-                text.push(char::from(*byte))?;
+                out.push(char::from(*byte))?;
             }
-            Ok(text)
         }
     }
+    Ok(())
 }
 
-fn fault_text(alloc: Global, fault: &ChooseFault) -> anyhow::Result<String> {
+/// Why nothing was chosen.
+pub(crate) fn fault_text(alloc: Global, fault: &ChooseFault) -> anyhow::Result<String> {
     let text = match fault {
         ChooseFault::OutOfMemory => return Err(AllocError.into()),
         ChooseFault::Foreign { member, place } => {
@@ -70,14 +72,12 @@ fn fault_text(alloc: Global, fault: &ChooseFault) -> anyhow::Result<String> {
     Ok(text)
 }
 
-/// The members of a mask, as digits.
-fn digits_of(alloc: Global, members: u16) -> anyhow::Result<String> {
-    let mut text = String::new(alloc);
+/// Appends the members of a mask as digits.
+fn push_digits(out: &mut String, members: u16) -> Result<(), AllocError> {
     for m in 0..16_u8 {
         if members >> m & 1 == 1 {
-            let digit = format!(in alloc; "{m}")?;
-            text.push_str(digit.as_str())?;
+            write!(out, "{m}")?;
         }
     }
-    Ok(text)
+    Ok(())
 }

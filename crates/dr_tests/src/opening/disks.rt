@@ -5,6 +5,7 @@ ghost use Rattle.dr_disk.specs.Memory.{MemoryState};
 ghost use Rattle.dr_log.specs.State.{LogState};
 ghost use Rattle.dr_opening.specs.Lists.{SomebodyPrompt, log_of};
 
+use crate::choices::reading::mask_of;
 use anyhow::anyhow;
 use dr_disk::{Disk, MemoryDisk};
 use dr_log::Log;
@@ -38,24 +39,12 @@ pub(crate) fn late_among(logs: &[Option<Log<MemoryDisk>>], members: &str) -> any
     requires { length logs.now ≤ MAX_MEMBERS }
     ensures { IfOk result (λ late. SomebodyPrompt late logs.now) }
 {
-    let late = mask_of(members.trim())?;
+    let late = Mask::of(mask_of(members.trim())?);
     if has_prompt(logs, late) {
         Ok(late)
     } else {
         Err(anyhow!("everybody who is there is late"))
     }
-}
-
-/// The mask of members that are listed as digits.
-fn mask_of(digits: &str) -> anyhow::Result<Mask> {
-    let mut mask = Mask::empty();
-    for digit in digits.bytes() {
-        if !digit.is_ascii_digit() {
-            return Err(anyhow!("{digits} are no members"));
-        }
-        mask = mask.with(digit - b'0');
-    }
-    Ok(mask)
 }
 
 /// Whether the log of somebody is there who isn't late.

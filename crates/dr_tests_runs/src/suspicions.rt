@@ -28,10 +28,9 @@ const LOG_LIMIT: u64 = 1 << 31;
 pub(crate) fn show(
     rt: &HostRuntime,
     threads: &(impl Threads + Sync),
-    lines: &[String],
+    lines: &str,
 ) -> anyhow::Result<()> {
-    for line in lines {
-        let line = line.as_str();
+    for line in lines.lines() {
         if line.starts_with('#') {
             println!(rt; "{line}")?;
             continue;

@@ -35,17 +35,20 @@ pub(super) struct Way {
     letters: Vec<Letter>,
     /// Of so many packets the second one comes only from the next turn on; all come at once where this is 0.
     late: usize,
+    /// Whether letters come.
+    brings: bool,
     /// How many packets were refused.
     refused: u32,
 }
 
 impl Way {
     /// A way on which nothing was sent yet.
-    pub(super) fn new(alloc: Global, late: usize) -> Way {
+    pub(super) fn new(alloc: Global, late: usize, brings: bool) -> Way {
         Way {
             sent: Vec::new(alloc),
             letters: Vec::new(alloc),
             late,
+            brings,
             refused: 0,
         }
     }
@@ -155,7 +158,7 @@ fn take(door: &mut Door, way: &Way) -> anyhow::Result<()> {
     let me = door.me();
     let mut letter = None;
     for one in &way.letters {
-        if one.to == me {
+        if way.brings && one.to == me {
             letter = Some(one.entries.as_slice());
         }
     }

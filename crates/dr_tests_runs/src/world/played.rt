@@ -1,16 +1,11 @@
 //! A world, with the events that it was offered.
-ghost use Rattle.std.specs.Prelude.{IfSome};
-ghost use Rattle.dr_machine.specs.Group.{IsGroup};
-ghost use Rattle.dr_restart.specs.Groups.{group_of};
-ghost use Rattle.dr_script.specs.Ranges.{HasGroupRanges};
-
+use crate::starts::start_without;
 use crate::world::events::event_of;
 use crate::world::printing::push_world;
 use anyhow::anyhow;
 use dr_agree::agreed_run;
-use dr_entry::{MAX_MEMBERS, Seq};
-use dr_restart::Start;
-use dr_script::{Script, read_script};
+use dr_entry::MAX_MEMBERS;
+use dr_script::read_script;
 use dr_words::{Mask, Shape};
 use dr_world::{Event, World};
 use std::alloc::{AllocError, Global};
@@ -118,24 +113,6 @@ fn run_of(
     let script = read_script(alloc, script.as_bytes())?;
     let start = start_without(alloc, &script, away, late).ok_or(anyhow!("nobody is there"))?;
     Ok(agreed_run(alloc, &script, &start, events)?)
-}
-
-/// The first start of a script without some members and with others late, where somebody is left for its first view.
-fn start_without(alloc: Global, script: &Script, away: Mask, late: Mask) -> Option<Start>
-    requires { HasGroupRanges script.now }
-    ensures { IfSome result (λ start. IsGroup (group_of script.now start)) }
-{
-    let there = Mask::all(script.members).without(away);
-    let first = there.without(late).bits();
-    if first == 0 {
-        return None;
-    }
-    Some(Start {
-        age: 0,
-        members: first,
-        present: there.bits(),
-        entries: Seq::of(Vec::new(alloc)),
-    })
 }
 
 /// Appends a word of a member's copy, where there is one.

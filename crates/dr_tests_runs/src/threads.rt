@@ -27,15 +27,14 @@ const LOOKS: u64 = 100_000_000;
 pub(crate) fn show(
     rt: &HostRuntime,
     threads: &(impl Threads + Sync),
-    lines: &[String],
+    lines: &str,
 ) -> anyhow::Result<()> {
     let alloc = rt.alloc();
     let words = words_of(rt, alloc)?;
     let Some(rounds) = rounds_of(&words) else {
-        return Err(anyhow!("usage: dr_tests ROUNDS < SCRIPTS"));
+        return Err(anyhow!("usage: dr_tests_runs ROUNDS < SCRIPTS"));
     };
-    for line in lines {
-        let line = line.as_str();
+    for line in lines.lines() {
         if line == "moments" {
             print!(rt; "{}", moments::told_of_moments(threads, alloc)?)?;
         } else if let Some(script) = line.strip_prefix("shards ") {

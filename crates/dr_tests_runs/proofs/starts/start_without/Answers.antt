@@ -4,8 +4,8 @@ use Rattle.dr_entry.specs.declared.entry.Entry.{Entry}
 use Rattle.dr_history.specs.Members.{has}
 use Rattle.dr_machine.specs.Group.{IsGroup}
 use Rattle.dr_restart.specs.Groups.{group_of}
-use Rattle.dr_tests.proofs.Parts.{part_group}
-use Rattle.dr_tests.proofs.world.played.start_without.Goals as goal
+use Rattle.dr_tests_runs.proofs.Parts.{part_group}
+use Rattle.dr_tests_runs.proofs.starts.start_without.Goals as goal
 
 pub returns : goal.returns
 returns c =

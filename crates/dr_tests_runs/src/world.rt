@@ -16,11 +16,10 @@ use anyhow::anyhow;
 use std::alloc::Global;
 
 /// Prints what becomes of these lines.
-pub(crate) fn show(rt: &HostRuntime, lines: &[String]) -> anyhow::Result<()> {
+pub(crate) fn show(rt: &HostRuntime, lines: &str) -> anyhow::Result<()> {
     let alloc = rt.alloc();
     let mut played = None;
-    for line in lines {
-        let line = line.as_str();
+    for line in lines.lines() {
         if line.starts_with('{') {
             played = Some(Played::open(alloc, line)?);
         }
