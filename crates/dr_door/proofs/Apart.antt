@@ -3,33 +3,40 @@ use Rattle.std.specs.Prelude.{All, IfSome, max, slice_set, Option, None, Some, o
 use Rattle.std.proofs.Common.{◌≡◌, ◌≢◌, ◌⊎◌, ◌∙◌, inl, inr, refl, sym, ap, subst, ℕ, zero, suc, ◌+◌, ◌<◌, ◌≤◌, true, List, [], ◌∷◌, Contains, length, map, replicate, slice_index, arith}
 use Rattle.std.proofs.lemmas.{Bool.cases_eq, List.{length-map, map-set}}
 use Rattle.std.proofs.lemmas.{List.Elements.{All-cons, All-contains, All-nil, All-weaker}, Option.same_Some}
+use Rattle.dr_play.{specs.Sound.IsSound, proofs.Sound.history_there}
 use Rattle.dr_play.proofs.Deeds.{deed_tells, acts, appends, fails, gives, looks, sends, takes, look_place, push_place, misses}
-use Rattle.dr_entry.specs.declared.entry.Entry.{Entry}
-use Rattle.dr_machine.{specs.{Group.{Group, IsGroup, banks, roster}, Run.PastGrew}, proofs.Groups.{IsPlace, place_in}}
+use Rattle.dr_entry.specs.{Spelling.IsValidEntry, declared.entry.Entry.Entry}
+use Rattle.dr_machine.{specs.{Group.{Group, IsGroup, roster}, Run.PastGrew}, proofs.Groups.{IsPlace, place_in}}
 use Rattle.dr_machine.proofs.Worlds.{past_on, past_same}
 use Rattle.dr_history.specs.{Agreement.EndsAgreed, History.up_to_view}
 use Rattle.dr_program.specs.{Presence.{present_at, with_present}, declared.{deed.Deed.Deed, setup.Setup.Setup}}
-use Rattle.dr_program.specs.{Program.{Program, begun_program, end_at}, Reading.{step_due, step_of_member, world}}
-use Rattle.dr_program.specs.{Running.{Running, after_step, begun_running, deed, next_deed, next_step}, Sight.MaySee}
-use Rattle.dr_program.{specs.declared.packet.Packet.Packet, proofs.RunningPrograms.{act_is, with_member, IsLookOf}}
+use Rattle.dr_program.specs.{Program.{Program, begun_program, end_at}, Reading.world}
+use Rattle.dr_program.specs.{Running.{after_step, begun_running, deed, next_deed, next_step}}
+use Rattle.dr_program.{specs.declared.packet.Packet.Packet, proofs.RunningPrograms.{act_is, with_member}}
 use Rattle.dr_program.proofs.Copies.{IsToOther}
 use Rattle.dr_program.proofs.Present.{MayGet, present_kept, present_map, present_set, present_within, set_itself}
 use Rattle.dr_program.specs.declared.deed.Deed.TheVariants as deeds
-use Rattle.dr_program_laws.{specs.Carried.{IsCarried, WasSent}, proofs.{Ending.ends_agreed, Keeping.sees}}
+use Rattle.dr_program_laws.{specs.Carried.{IsCarried, WasSent}, proofs.Ending.ends_agreed}
 use Rattle.dr_program_laws.proofs.{Carried.{carried_begins, carried_comes, IsCarriedOn}, Programs.begun_program_of}
 use Rattle.dr_restart.specs.{Groups.group_of, Setups.{AreSetupsOf, IsSetupOf}, declared.start.Start.Start}
 use Rattle.dr_restart.proofs.Setups.{age_begins_reached}
 use Rattle.dr_script.specs.declared.script.Script.{Script}
 use Rattle.dr_words.specs.Layout.{word_index_of, words_of}
+use Rattle.dr_world_laws.proofs.{Messages.valid_history, Worlds.{holds_messages, known}}
 use Rattle.dr_member.proofs.Deeds.{append_due}
 use Rattle.dr_door.specs.Apart.{Apart, ApartStep, ApartWay, AreCopies, Gives, HaveBegunApart, IsRanApart, Letter, Sends, members_of_doors, with_door}
 use Rattle.dr_door.{specs.Begun.{HasBegun, begun_lone}, proofs.Copies.{copies_elsewhere, copies_kept, copies_written}}
-use Rattle.dr_door.{specs.{Coming.{came_by, refusal}, declared.refused.Refused.Refused}, proofs.Seeing.sight_is}
+use Rattle.dr_door.specs.{Coming.{came_by, refusal}, declared.refused.Refused.Refused}
+use Rattle.dr_door.proofs.Entries.{up_to_view_valid}
 use Rattle.dr_door.specs.Lone.{Lone, after_alone, after_asking, after_push, failed, is_alone, went_on}
 
 -- the letter stands at its member's place
 abbrev pub StandsIn : List (Option (List Entry)) → Letter → Type 0
 StandsIn letters one = present_at letters one.to ≡ Some one.entries
+
+-- its entries are valid
+abbrev pub HasValidEntries : Letter → Type 0
+HasValidEntries one = All IsValidEntry one.entries
 
 -- the doors are those of this program, whose words are carried by what they have sent, and which has the letters
 -- that they have given
@@ -39,6 +46,7 @@ pub record IsOfDoors (g : Group) (a : Apart) (p : Program) : Type 0 where
   pub copies : AreCopies g a.doors p.table
   pub others : All (IsToOther g) a.sent
   pub letters : All (StandsIn p.letters) a.letters
+  pub valid : All HasValidEntries a.letters
 
 -- ---- who stands there
 
@@ -74,6 +82,7 @@ goes g a p m x cells net is on copies others = (
     copies = copies;
     others = others;
     letters = is.letters;
+    valid = is.valid;
   },
   on.grew,
 )
@@ -92,6 +101,7 @@ stays g a p m d x cells is there same carried copies = (
     copies = copies;
     others = is.others;
     letters = is.letters;
+    valid = is.valid;
   },
   past_same (world g p).past,
 )
@@ -101,27 +111,10 @@ looks_alike : (g : Group) (a : Apart) (p : Program) (m : ℕ) (d : Lone) (index 
     → present_at a.doors m ≡ Some d → next_deed d.member ≡ deeds.Look index
     → (after_alone d (deeds.Look index)).member ≡ after_step (slice_index p.table index) d.member
 looks_alike g a p m d index is there due =
-    ap (λ w. after_step w d.member) (sight_is d.member (slice_index d.words index) may ∙ same)
-  where
-    r : Running
-    r = d.member
-
-    member : present_at p.members m ≡ Some d.member
-    member = there_is g a p m d is there
-
-    at : IsLookOf g m d.member index
-    at = look_place g p a.sent m d.member index is.carried member due
-
-    same : slice_index d.words index ≡ slice_index p.table index
-    same = ap (slice_index d.words) at.at
-        ∙ is.copies.same m d there d.member.replica.view at.row at.column at.is.bank at.is.row at.is.column
-        ∙ ap (slice_index p.table) (sym at.at)
-
-    may : MaySee d.member (step_of_member d.member) (slice_index d.words index)
-    may = let t = deed_tells p.table d.member (deeds.Look index) due in
-        subst (MaySee d.member (step_of_member d.member)) (t.says.sees ∙ sym same)
-        (sees g p m d.member t.says.row t.says.column is.carried.group is.carried.form
-        (is.carried.before, is.carried.way) member (ap (step_due d.member) t.none ∙ ap Some t.says.look))
+    let at = look_place g p a.sent m d.member index is.carried (there_is g a p m d is there) due in
+    ap (λ w. after_step w d.member) (ap (slice_index d.words) at.at
+    ∙ is.copies.same m d there d.member.replica.view at.row at.column at.is.bank at.is.row at.is.column
+    ∙ ap (slice_index p.table) (sym at.at))
 
 -- a deed that concerns nobody else
 alone_kept : (g : Group) (a : Apart) (p : Program) (m : ℕ) (d : Lone) → IsOfDoors g a p
@@ -227,6 +220,7 @@ gives_kept g a b p is s = (
     letters = subst (λ ls. All (StandsIn ls) (new ∷ a.letters)) (sym on.4) (All-cons (StandsIn after) new a.letters
         (present_set p.letters s.late new.entries on.5.within)
         (All-weaker (StandsIn p.letters) (StandsIn after) stands a.letters is.letters));
+    valid = All-cons HasValidEntries new a.letters valid is.valid;
   },
   on.1.grew,
 )
@@ -241,6 +235,24 @@ gives_kept g a b p is s = (
         × (q.table ≡ p.table) × (q.letters ≡ with_present p.letters s.late new.entries) × MayGet g p.letters s.late
     on = gives g p a.sent s.number s.late s.door.member x.member is.carried
         (there_is g a p s.number s.door is s.there) s.due refl
+
+    member : present_at p.members s.number ≡ Some s.door.member
+    member = there_is g a p s.number s.door is s.there
+
+    sound : IsSound g p
+    sound = record {
+      group = is.carried.group;
+      form = is.carried.form;
+      reached = (is.carried.before, is.carried.way);
+    }
+
+    -- the giver's history is valid
+    valid : HasValidEntries new
+    valid = up_to_view_valid s.door.member.replica.history
+        (subst (All IsValidEntry) (history_there g p s.number s.door.member sound member)
+        (valid_history g ((world g p).past.history s.number) is.carried.group
+        (holds_messages g (world g p) s.number is.carried.group (known g (world g p) is.carried.group sound.reached)
+        (omega (arith, present_within p.members s.number s.door.member member, is.carried.form.all)))))
 
     after : List (Option (List Entry))
     after = with_present p.letters s.late new.entries
@@ -397,6 +409,7 @@ begun_kept script start nth a group lists some begun = subst (λ c. (p : Program
     };
     others = All-nil (IsToOther g);
     letters = All-nil (StandsIn p.letters);
+    valid = All-nil HasValidEntries;
   },
 )
   where

@@ -1,18 +1,23 @@
 -- What the code of a door makes of it is what its deeds make.
-use Rattle.std.specs.Prelude.{slice_set, not, is_some, None, Option, Some}
-use Rattle.std.proofs.{Common.{◌≡◌, ◌∙◌, refl, sym, ap, ℕ, List, slice_index, true}, lemmas.Bool.and_parts}
+use Rattle.std.specs.Prelude.{◌&&◌, ◌||◌, slice_set, not, is_some, Bool, None, Option, Some, false}
+use Rattle.std.proofs.Common.{◌≡◌, ◌∙◌, refl, sym, ap, ℕ, ◌<◌, List, get_or, length, slice_index, true}
+use Rattle.std.proofs.lemmas.{Bool.{and_from, and_parts}, List.get_or_default}
 use Rattle.dr_entry.specs.declared.end.End.{End}
-use Rattle.dr_member.specs.Deeds.{is_before_turn}
+use Rattle.dr_member.{specs.Deeds.{is_before_turn, is_look, is_push}, proofs.Deeds.no_beat}
 use Rattle.dr_program.specs.Running.{Running, after_step, deed, deed_of, next_deed, step_at}
 use Rattle.dr_program.specs.{Turn.{is_beat, part_of}, declared.place.Part.Part}
 use Rattle.dr_program.specs.declared.place.Part.TheVariants as parts
 use Rattle.dr_program.specs.declared.deed.Deed.TheVariants as deeds
-use Rattle.dr_door.specs.Lone.{Lone, after_alone, after_push, done_alone, is_alone, pushed_on, went_on}
-use Rattle.dr_door.specs.Seeing.{sight_over}
+use Rattle.dr_door.specs.Lone.{Lone, after_alone, after_push, done_alone, goes_on, is_alone, pushed_on, went_on}
+
+-- a word that is read at an index is the one that stands there
+pub found : (words : List ℕ) (index word : ℕ) → index < length words → word ≡ get_or words index word
+    → word ≡ slice_index words index
+found words index word within read = read ∙ sym (get_or_default words index 0 word within)
 
 -- a look
 pub looked_is : (d now : Lone) (x : Running) (index w : ℕ) → d ≡ now → next_deed now.member ≡ deeds.Look index
-    → x ≡ after_step w d.member → w ≡ sight_over d.member (slice_index d.words index)
+    → x ≡ after_step w d.member → w ≡ slice_index d.words index
     → ◌≡◌ {A = Lone} (record { member = x; words = d.words }) (done_alone now)
 looked_is d now x index w view due after sees =
     (λ z. record { member = (after ∙ ap (λ s. after_step s d.member) sees) z; words = d.words })
@@ -49,3 +54,20 @@ beat_alone r before = by r.replica.end (and_parts (not (is_some r.replica.end)) 
     by : (o : Option End) → (not (is_some o) ≡ true) × (is_beat (part_of r.place) ≡ true) → is_alone (deed r o) ≡ true
     by None h = beat_at (part_of r.place) r r.place.row r.place.column h.1
     by (Some end) h = absurd (cc (h.0))
+
+-- a look concerns nobody else, and begins no turn
+pub look_goes : (d : Lone) (index : ℕ) → next_deed d.member ≡ deeds.Look index → goes_on d ≡ true
+look_goes d index due = by r.replica.end refl
+  where
+    r : Running
+    r = d.member
+
+    last : (b x : Bool) → x ≡ false → (b && x) ≡ false
+    last true x e = e
+    last false x e = refl
+
+    by : (o : Option End) → r.replica.end ≡ o → goes_on d ≡ true
+    by None none = and_from (not (is_before_turn r)) (is_alone (next_deed r)) (ap not (last (not (is_some r.replica.end))
+        (is_beat (part_of r.place)) (no_beat r (part_of r.place) r.place.row r.place.column
+        (ap (λ x. is_look x || is_push x) (sym (ap (deed r) none) ∙ due))))) (ap is_alone due)
+    by (Some end) some = absurd (cc (sym (ap (deed r) some) ∙ due))

@@ -1,11 +1,8 @@
--- What a door has at one moment it has at each later one, and its records are valid.
+-- What a door has at one moment it has at each later one.
 use Rattle.std.{specs.Prelude.Some, proofs.Common.{◌≡◌, subst, ℕ, ◌≤◌, length}}
-use Rattle.dr_play.{specs.Sound.IsSound, proofs.Sound.appends_well}
-use Rattle.dr_entry.specs.{Spelling.IsValid, declared.record.Record.Record}
 use Rattle.dr_history.specs.History.{IsPrefixOf}
 use Rattle.dr_machine.specs.{Group.IsGroup, World.opening_world}
-use Rattle.dr_program.specs.declared.deed.Deed.TheVariants as deeds
-use Rattle.dr_program.{specs.{Presence.present_at, Reading.world, Running.next_deed}, proofs.Deeds.of_there}
+use Rattle.dr_program.{specs.{Presence.present_at, Reading.world}, proofs.Deeds.of_there}
 use Rattle.dr_restart.specs.{Groups.group_of, declared.start.Start.Start}
 use Rattle.dr_script.specs.declared.script.Script.{Script}
 use Rattle.dr_door.specs.{Apart.{Apart, HaveBegunApart, IsRanApart}, Lone.Lone}
@@ -30,17 +27,3 @@ doors_last script start nth begun a later group lists some begins ran (before, w
           (opening_world g).past.durable m d.member old) (subst (λ n. (world g now.0).past.durable m ≤ n)
           (of_there on.0 (λ x. x.durable) (opening_world g).past.durable m e.member new) (on.2.durable m)),
     )
-
-pub doors_append_well : (script : Script) (start : Start) (nth : ℕ) (begun a : Apart)
-    → IsGroup (group_of script start) → length script.messages ≡ script.members → 1 ≤ script.turns
-    → HaveBegunApart script start nth begun → IsRanApart begun a → (m : ℕ) (d : Lone) (due : Record)
-    → present_at a.doors m ≡ Some d → next_deed d.member ≡ deeds.Append due → IsValid due
-doors_append_well script start nth begun a group lists some begins ran m d due there next =
-    let g = group_of script start in
-    let now = doors_kept script start nth begun a group lists some begins ran in
-    let sound : IsSound g now.0 = record {
-      group = group;
-      form = now.1.carried.form;
-      reached = (now.1.carried.before, now.1.carried.way);
-    } in
-    appends_well g now.0 m d.member sound (there_is g a now.0 m d now.1 there) due next

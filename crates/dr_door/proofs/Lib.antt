@@ -1,8 +1,10 @@
 pub mod Deeds
-pub mod Sizes
+pub mod Others
+pub mod Entries
+pub mod Kept
+pub mod Again
 pub mod Places
 pub mod Copies
-pub mod Seeing
 pub mod Apart
 pub mod Welcome
 pub mod Later

@@ -16,7 +16,7 @@ use Rattle.dr_script.specs.declared.script.Script.{Script}
 use Rattle.dr_words.{specs.{Form.IsInForm, Grown.HasGrown}, proofs.Columns.{column_found, row_found}}
 use Rattle.dr_words.proofs.Places.{word_index_within}
 use Rattle.dr_door.specs.{Apart.{Apart, HaveBegunApart, IsRanApart, Letter}, Coming.{copy_of, refusal, refusal_there}}
-use Rattle.dr_door.{specs.{Letters.Suits, Lone.Lone}, proofs.Apart.{IsOfDoors, StandsIn, doors_kept, there_is}}
+use Rattle.dr_door.{specs.{Letters.Suits, Lone.Lone}, proofs.Apart.{HasValidEntries, IsOfDoors, StandsIn, doors_kept, there_is}}
 use Rattle.dr_door.proofs.Places.{copy_found}
 use Rattle.dr_door.specs.declared.refused.Refused.TheVariants as why
 
@@ -122,6 +122,7 @@ doors_invite script start nth begun a group lists some begins ran m d entries th
     let goes = letters_are (group_of script start) so.0 group so.1.carried.form reached m d.member entries member outside
     found in record {
       begins = (goes.rest, sym goes.begins);
+      valid = All-contains HasValidEntries a.letters one so.1.valid given;
       fits = letters_have_room (group_of script start) so.0 m d.member entries group so.1.carried.form reached member
           outside found;
     }

@@ -1,6 +1,6 @@
 -- Letters for late members, as they come to doors.
-use Rattle.std.specs.Prelude.{◌≡◌, ℕ, ◌-◌, ◌^◌, ◌&&◌, nat_le, nat_lt, Bool, true, false, IfSome, List, length, Option}
-use Rattle.dr_entry.specs.declared.entry.Entry.{Entry}
+use Rattle.std.specs.Prelude.{◌≡◌, ℕ, ◌-◌, ◌^◌, ◌&&◌, nat_le, nat_lt, Bool, true, false, All, IfSome, List, length, Option}
+use Rattle.dr_entry.specs.{Spelling.IsValidEntry, declared.entry.Entry.Entry}
 use Rattle.dr_form.specs.Letters.{IsFitting}
 use Rattle.dr_history.specs.{History.{IsPrefixOf, last_view}, Members.has, Order.messages_from}
 use Rattle.dr_member.specs.Deeds.{is_take}
@@ -8,9 +8,10 @@ use Rattle.dr_program.specs.{Replica.{Replica, me}, Running.{Running, next_deed}
 use Rattle.dr_door.specs.declared.refused.NotTaken.{NotTaken}
 use Rattle.dr_door.specs.declared.refused.NotTaken.TheVariants as why
 
--- the letter begins with what the member has, and fits it
+-- the letter begins with what the member has, its entries are valid, and it fits the member
 pub record Suits (r : Replica) (letter : List Entry) : Type 0 where
   pub begins : IsPrefixOf r.history letter
+  pub valid : All IsValidEntry letter
   pub fits : IsFitting r letter
 
 -- a view of this number and of these members is one that the member may come into: one of the roster with it, above

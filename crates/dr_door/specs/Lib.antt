@@ -1,4 +1,3 @@
-pub mod Seeing
 pub mod Lone
 pub mod Coming
 pub mod Sending

@@ -1,20 +1,15 @@
 -- A member in a process of its own, with its own copy of the table.
-use Rattle.std.specs.Prelude.{◌≡◌, ℕ, zero, suc, ◌&&◌, not, Bool, true, false, if◌then◌else◌, List, length, slice_index, slice_set, Option, None, Some}
+use Rattle.std.specs.Prelude.{◌≡◌, ℕ, zero, suc, ◌&&◌, not, Bool, true, false, if◌then◌else◌, List, slice_index, slice_set, Option, None, Some}
 use Rattle.dr_entry.specs.declared.entry.Entry.{Entry}
-use Rattle.dr_member.specs.Deeds.{is_before_turn, table_size}
+use Rattle.dr_member.specs.Deeds.{is_before_turn}
 use Rattle.dr_program.specs.Running.{Running, after_step, broken_off, next_deed, settled, took_letter}
 use Rattle.dr_program.specs.declared.{deed.Deed.Deed, outcome.LogWhy.LogWhy}
 use Rattle.dr_program.specs.declared.deed.Deed.TheVariants as deeds
-use Rattle.dr_door.specs.Seeing.{sight_over}
 
 -- the member, and the words of the table by index; it sees those of its own copy
 pub record Lone : Type 0 where
   pub member : Running
   pub words : List ℕ
-
--- these are as many words as the member's table has
-abbrev pub HasAllWords : Running → List ℕ → Type 0
-HasAllWords r words = length words ≡ table_size r
 
 -- the deed concerns nobody else: it is a look or an act
 abbrev pub is_alone : Deed → Bool
@@ -25,7 +20,7 @@ is_alone d = false
 -- after such a deed
 abbrev pub after_alone : Lone → Deed → Lone
 after_alone d (deeds.Look index) = record {
-  member = after_step (sight_over d.member (slice_index d.words index)) d.member;
+  member = after_step (slice_index d.words index) d.member;
   words = d.words;
 }
 after_alone d (deeds.Act index word) = record {

@@ -1,16 +1,16 @@
-ghost use Rattle.std.specs.Prelude.{◌≡◌, ◌↔◌, ℕ, ◌<◌, ◌≤◌, nat_lt, length, IfErr, IfOk, IfSome, IsTrue, OnErr, OnOk, None, Some, false, option_map, slice_index, true};
-ghost use Rattle.dr_door.specs.{Coming.{came_to, refusal}, Letters.{IsNotTaken, Suits}, Sending.IsLastSent};
-ghost use Rattle.dr_door.specs.Lone.{HasAllWords, Leads, after_asking, done_alone, due_of, failed, goes_on, is_alone, pushed_on, went_on};
+ghost use Rattle.std.specs.Prelude.{◌≡◌, ◌↔◌, ℕ, ◌<◌, ◌≤◌, ◌≢◌, nat_lt, length, IfErr, IfOk, IfSome, IsTrue, OnErr, OnOk, None, Some, false, option_map, slice_index, true};
+ghost use Rattle.dr_door.specs.{Coming.{came_to, refusal}, Inside.IsKept, Letters.{IsNotTaken, Suits}, Sending.IsLastSent};
+ghost use Rattle.dr_door.specs.Lone.{Leads, LeadsBy, after_asking, done_alone, due_of, failed, goes_on, is_alone, pushed_on, went_on};
+ghost use Rattle.dr_entry.specs.{Spelling.IsValid, declared.record.Record.Record};
 ghost use Rattle.dr_history.specs.History.{up_to_view};
 ghost use Rattle.dr_member.specs.Deeds.{IsWithin, is_append, is_before_turn, is_give, is_push, is_take, table_size};
 ghost use Rattle.dr_program.specs.declared.deed.Deed.TheVariants as deeds;
-ghost use Rattle.dr_program.specs.{Replica.me, Running.next_deed};
+ghost use Rattle.dr_program.specs.{Form.IsRunningMember, Replica.me, Running.next_deed};
 ghost use Rattle.dr_turn.specs.Work.{deeds_left};
 
-use crate::coming::{receiver_of, refusal};
+use crate::coming::refusal;
 use crate::letters::suits;
 use crate::refused::{NotDue, NotTaken, Refused};
-use crate::sight::sight_over;
 use dr_entry::{End, Entry};
 use dr_install::letter_end;
 use dr_member::{Deed, LogWhy, Member};
@@ -47,9 +47,10 @@ impl Model for Door {
 }
 
 impl Door {
-    /// A member, over words of its table, which are as many as it has.
+    /// A member, over words of its table.
     pub(crate) fn over(member: Member, words: Vec<u64>) -> Door
-        requires { HasAllWords member words.items }
+        requires form { IsRunningMember member }
+        requires kept { IsKept member.replica words.items }
         ensures { result ≡ record { member = member; words = words.items } }
     {
         Door { member, words }
@@ -60,9 +61,11 @@ impl Door {
     pub fn go(&mut self) -> Option<Deed>
         ensures led { Leads self.old self.new }
         ensures due { result ≡ due_of self.new }
+        // What it is to append is a valid record, whatever words have come.
+        ensures valid { (what : Record) → result ≡ Some (deeds.Append what) → IsValid what }
     {
         while self.goes_on() {
-            self.alone();
+            self.go_on();
         }
         self.due()
     }
@@ -72,6 +75,18 @@ impl Door {
         ensures { result ≡ goes_on self.now }
     {
         !self.member.at_beat() && matches!(self.member.next(), Deed::Look(_) | Deed::Act(..))
+    }
+
+    /// Does its next deed, which concerns nobody else and begins no turn, and with a look the looks behind it.
+    fn go_on(&mut self)
+        requires { goes_on self.old ≡ true }
+        ensures led { (n : ℕ) × LeadsBy n self.old self.new }
+        ensures falls { deeds_left self.new.member < deeds_left self.old.member }
+    {
+        self.alone();
+        while let Deed::Look(index) = self.next() {
+            self.look(index);
+        }
     }
 
     /// Does its next deed, which concerns nobody else.
@@ -97,7 +112,8 @@ impl Door {
 
     /// Its next deed; `None` where it stands before a turn.
     fn due(&self) -> Option<Deed>
-        ensures { result ≡ due_of self.now }
+        ensures due { result ≡ due_of self.now }
+        ensures valid { (what : Record) → result ≡ Some (deeds.Append what) → IsValid what }
     {
         if self.member.at_beat() {
             return None;
@@ -109,11 +125,11 @@ impl Door {
     fn look(&mut self, index: usize)
         requires due { next_deed self.old.member ≡ deeds.Look index }
         requires within { index < table_size self.old.member }
+        ensures goes { goes_on self.old ≡ true }
         ensures after { self.new ≡ done_alone self.old }
         ensures falls { deeds_left self.new.member < deeds_left self.old.member }
     {
-        let sees = sight_over(&self.member, self.words[index]);
-        self.member.looked(sees);
+        self.member.looked(self.words[index]);
     }
 
     /// Does an act, which stores this word at this index.
@@ -202,8 +218,14 @@ impl Door {
         ensures first { IfSome result (λ p. (k : ℕ) → from ≤ k → k < p.index → ¬ IsLastSent self.now to k) }
         ensures none { result ≡ None → (k : ℕ) → from ≤ k → ¬ IsLastSent self.now to k }
     {
-        for index in from..self.words.len() {
-            if self.is_last_sent(to, index) {
+        let shape = self.shape();
+        let me = self.member.me();
+        if to == me || shape.members <= to {
+            return None;
+        }
+        for bank in 0..shape.banks {
+            let first = shape.word_index(bank, to, me, 0);
+            if let Some(index) = self.next_some(from.max(first), first + shape.columns()) {
                 return Some(Packet {
                     index,
                     word: self.words[index],
@@ -213,12 +235,20 @@ impl Door {
         None
     }
 
-    /// Whether the word at this index is one that it pushed last to the member `to`.
-    fn is_last_sent(&self, to: u8, index: usize) -> bool
-        requires { index < length self.now.words }
-        ensures { IsTrue result ↔ IsLastSent self.now to index }
+    /// The first place from this one on, and before that one, at which a word other than 0 stands.
+    fn next_some(&self, from: usize, end: usize) -> Option<usize>
+        requires { end ≤ length self.now.words }
+        ensures some { IfSome result (λ index. (from ≤ index) × (index < end)
+            × (slice_index self.now.words index ≢ 0)) }
+        ensures first { IfSome result (λ index. (k : ℕ) → from ≤ k → k < index → slice_index self.now.words k ≡ 0) }
+        ensures none { result ≡ None → (k : ℕ) → from ≤ k → k < end → slice_index self.now.words k ≡ 0 }
     {
-        to != self.member.me() && receiver_of(&self.shape(), index) == to && self.words[index] != 0
+        for index in from..end {
+            if self.words[index] != 0 {
+                return Some(index);
+            }
+        }
+        None
     }
 
     /// Takes note that its log has the record that it appends, and outlives a crash.
@@ -298,7 +328,7 @@ impl Door {
     /// # Errors
     ///
     /// `NotDue` exactly where it asks for none; else `Unfit` exactly where the letter doesn't begin with its history,
-    /// or doesn't fit it. Nothing has changed then.
+    /// has an entry that is not valid, or doesn't fit it. Nothing has changed then.
     pub fn taken(&mut self, letter: Option<&[Entry]>) -> Result<(), NotTaken>
         ensures done { OnOk result ((is_take (next_deed self.old.member) ≡ true)
             × IfSome letter.entry (λ list. Suits self.old.member.replica list.now)
@@ -317,7 +347,7 @@ impl Door {
         Ok(())
     }
 
-    /// Whether a letter, where there is one, begins with its history and fits it.
+    /// Whether a letter, where there is one, begins with its history, has valid entries alone, and fits it.
     fn suits(&self, letter: Option<&[Entry]>) -> bool
         ensures { IsTrue result ↔ IfSome letter.entry (λ list. Suits self.now.member.replica list.now) }
     {
@@ -339,24 +369,38 @@ impl Door {
     ///
     /// # Errors
     ///
-    /// Exactly where it is refused: where the table has no such place; else where it is in another member's copy;
-    /// else in the member's own row; else where the word is not in form; else where it is greater than the one that
-    /// stands there, and has not grown from it. Nothing has changed then.
+    /// Exactly where [`Door::judge`] tells this. Nothing has changed then.
     pub fn came(&mut self, index: usize, word: u64) -> Result<bool, Refused>
         ensures came { IfOk result (λ is_news. (refusal self.old index word ≡ None)
             × (is_news ≡ nat_lt (slice_index self.old.words index) word)) }
         ensures refused { IfErr result (λ why. refusal self.old index word ≡ Some why) }
         ensures after { self.new ≡ came_to self.old index word }
     {
-        if self.words.len() <= index {
-            return Err(Refused::Place);
-        }
-        let stands = self.words[index];
-        if let Some(why) = refusal(&self.shape(), self.member.me(), index, stands, word) {
+        if let Some(why) = self.judge(index, word) {
             return Err(why);
         }
+        let stands = self.words[index];
         self.words[index] = stands.max(word);
         Ok(stands < word)
+    }
+
+    /// Why a word that comes to the place of this index is refused: the table has no such place; else it is in another
+    /// member's copy; else in the member's own row; else the word is not in form; else it is greater than the one that
+    /// stands there, and has not grown from it. `None` exactly where it is taken.
+    pub fn judge(&self, index: usize, word: u64) -> Option<Refused>
+        ensures why { result ≡ refusal self.now index word }
+        ensures place { result ≡ None → index < length self.now.words }
+    {
+        if self.words.len() <= index {
+            return Some(Refused::Place);
+        }
+        refusal(
+            &self.shape(),
+            self.member.me(),
+            index,
+            self.words[index],
+            word,
+        )
     }
 
     /// The shape of its group's table.

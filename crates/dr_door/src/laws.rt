@@ -3,7 +3,7 @@ ghost use Rattle.std.specs.Prelude.{◌≡◌, ◌≢◌, ℕ, ◌<◌, ◌≤�
 ghost use Rattle.dr_door.specs.Apart.{Apart, ApartStep, AreCopies, HaveBegunApart, HaveOpenedApart, IsRanApart, members_of_doors, with_door};
 ghost use Rattle.dr_door.specs.{Coming.{copy_of, refusal}, Letters.Suits, Lone.{Leads, Lone, done_alone}};
 ghost use Rattle.dr_door.specs.Sending.{last_sent_by};
-ghost use Rattle.dr_entry.specs.{Spelling.IsValid, declared.entry.Entry.Entry, declared.record.Record.Record};
+ghost use Rattle.dr_entry.specs.declared.entry.Entry.{Entry};
 ghost use Rattle.dr_history.specs.{Agreement.EndsAgreed, History.IsPrefixOf};
 ghost use Rattle.dr_machine.specs.Group.{IsGroup};
 ghost use Rattle.dr_member.specs.Deeds.{is_before_turn};
@@ -79,13 +79,4 @@ pub fn doors_never_take_back()
         → (m : ℕ) (d e : Lone) → present_at a.doors m ≡ Some d → present_at later.doors m ≡ Some e
         → IsPrefixOf d.member.replica.history e.member.replica.history
         × (d.member.replica.durable ≤ e.member.replica.durable) }
-{}
-
-/// Each record that a door has to append is valid, so `spell` tells its bytes.
-pub fn doors_append_valid_records()
-    ensures { (script : Script) (start : Start) (nth : ℕ) (begun a : Apart)
-        → IsGroup (group_of script start) → length script.messages ≡ script.members → 1 ≤ script.turns
-        → HaveBegunApart script start nth begun → IsRanApart begun a
-        → (m : ℕ) (d : Lone) (due : Record) → present_at a.doors m ≡ Some d
-        → next_deed d.member ≡ deeds.Append due → IsValid due }
 {}

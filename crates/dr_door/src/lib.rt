@@ -15,17 +15,14 @@ mod laws;
 mod letters;
 mod opening;
 mod refused;
-mod sight;
-mod spelling;
 
 pub use coming::receiver_of;
 pub use door::Door;
+pub use dr_entry::encode;
 pub use dr_program::{Deed, LogWhy, Packet};
 pub use laws::{
-    doors_append_valid_records, doors_go_by_steps, doors_keep_programs, doors_keep_what_they_send,
-    doors_never_take_back, opened_doors_have_begun,
+    doors_go_by_steps, doors_keep_programs, doors_keep_what_they_send, doors_never_take_back,
+    opened_doors_have_begun,
 };
 pub use opening::{OpenFault, begun_door, open_door};
 pub use refused::{NotDue, NotTaken, Refused};
-pub use sight::may_see;
-pub use spelling::spell;

@@ -1,13 +1,13 @@
 //! The opening of a door.
-ghost use Rattle.std.specs.Prelude.{◌<◌, IfErr, IfOk};
+ghost use Rattle.std.specs.Prelude.{◌≤◌, IfErr, IfOk};
 ghost use Rattle.dr_door.specs.Begun.{HasBegun, HasOpened, IsOpenFault};
 ghost use Rattle.dr_machine.specs.Group.{IsGroup, IsPresent};
 ghost use Rattle.dr_restart.specs.Groups.{group_of};
-ghost use Rattle.dr_script.specs.Ranges.{HasRanges};
+ghost use Rattle.dr_script.specs.Ranges.{HasGroupRanges};
 
 use crate::door::Door;
 use dr_member::Member;
-use dr_restart::{Start, first_start, setup_of, shape_of};
+use dr_restart::{Start, first_start, setup_of};
 use dr_script::{Script, ScriptFault, read_script};
 use std::alloc::{AllocError, Global};
 use thiserror::Error;
@@ -39,6 +39,9 @@ impl From<AllocError> for OpenFault {
 
 /// The door of the member `me` of the new group of a script, which these bytes are, as its first age opens.
 ///
+/// The door counts View 0 as logged and durable from the first on, and never has it to append: write it to the logs
+/// of all members first.
+///
 /// # Errors
 ///
 /// `Script` where the bytes are no script, with their fault, or memory was wanting as they were read. Else `NoMember`
@@ -63,6 +66,11 @@ pub fn open_door(alloc: Global, bytes: &[u8], me: u8) -> Result<Door, OpenFault>
 /// The door of the member `me`, which is there, in an age of a script, before its first deed, over words that are all
 /// 0. `nth` is the number of the age in the run, from 0.
 ///
+/// The start is a sound one of this script's group: that of a new group, or one that was chosen from logs that the
+/// script has brought about. It tells all of that, and no test of the start by itself could: it says what the logs of
+/// earlier ages hold. The door counts its entries, and View 0 behind them, as logged and durable from the first on, and
+/// never has them to append: write them to the logs of all members that are there first.
+///
 /// # Errors
 ///
 /// Want of memory alone.
@@ -73,13 +81,13 @@ pub fn begun_door(
     nth: u8,
     me: u8,
 ) -> Result<Door, AllocError>
-    requires ranges { HasRanges script.now }
+    requires ranges { HasGroupRanges script.now }
+    requires turns { 1 ≤ script.now.turns }
     requires group { IsGroup (group_of script.now start.now) }
-    requires me { me < script.now.members }
     requires present { IsPresent (group_of script.now start.now) me }
     ensures { IfOk result (HasBegun script.now start.now nth me) }
 {
-    let words = vec![in alloc; 0; shape_of(script, start).words()]?;
     let setup = setup_of(alloc, script, start, nth, me)?;
+    let words = vec![in alloc; 0; setup.shape.words()]?;
     Ok(Door::over(Member::begin(alloc, setup)?, words))
 }

@@ -23,7 +23,7 @@ pub enum NotTaken {
     #[error("another deed is due")]
     NotDue,
     /// Among doors of one group this never comes of a letter that was given for this member.
-    #[error("the letter doesn't begin with the member's history, or doesn't fit it")]
+    #[error("the letter doesn't begin with the member's history, has an entry that is not valid, or doesn't fit it")]
     Unfit,
 }
 

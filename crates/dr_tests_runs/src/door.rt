@@ -1,9 +1,10 @@
 //! This part reads lines and prints what the doors of a group do. A script leads them to their ends, over a way on
 //! which words come late, twice and out of order; so does `late M SCRIPT`, where this member is late, over one on which
 //! each word comes at once, and `lost M SCRIPT`, where its letter is lost too. `open ME SCRIPT` opens the door of a
-//! member, of which the calls of the lines behind it are asked: `came INDEX WORD`, `again TO FROM`, and others by their
-//! names alone; the index of a word is `((bank * members + copy) * members + row) * columns + column`. A line that
-//! begins with `#` says what those behind it show.
+//! member, of which the calls of the lines behind it are asked: `came INDEX WORD`, `judge INDEX WORD`, `again TO FROM`,
+//! and others by their names alone; the index of a word is
+//! `((bank * members + copy) * members + row) * columns + column`. A line that begins with `#` says what those behind
+//! it show.
 mod calls;
 mod led;
 

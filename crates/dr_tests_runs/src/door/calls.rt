@@ -14,6 +14,10 @@ pub(super) fn told_of(alloc: Global, door: &mut Door, line: &str) -> anyhow::Res
             let index = usize::try_from(*index)?;
             format!(in alloc; "{:?}", door.came(index, *word))?
         }
+        ("judge", [index, word]) => {
+            let index = usize::try_from(*index)?;
+            format!(in alloc; "{:?}", door.judge(index, *word))?
+        }
         ("again", [to, from]) => {
             let to = u8::try_from(*to)?;
             let from = usize::try_from(*from)?;

@@ -3,7 +3,7 @@
 //! In each turn all packets that were ever sent come to whom they were sent to, the last one first.
 use anyhow::anyhow;
 use arrayvec::ArrayVec;
-use dr_door::{Deed, Door, Packet, receiver_of, spell};
+use dr_door::{Deed, Door, Packet, encode, receiver_of};
 use dr_entry::{Entry, RECORD_ROOM};
 use std::alloc::Global;
 
@@ -127,9 +127,7 @@ fn lead(alloc: Global, led: &mut Led, way: &mut Way) -> anyhow::Result<()> {
             }
             Deed::Append(record) => {
                 let mut bytes: ArrayVec<u8, RECORD_ROOM> = ArrayVec::new();
-                if !spell(&record, &mut bytes) {
-                    return Err(anyhow!("{record:?} has no spelling"));
-                }
+                encode(&record, &mut bytes);
                 led.records = led.records.saturating_add(1);
                 led.bytes = led.bytes.saturating_add(bytes.len());
                 let _ = led.door.appended();

@@ -1,7 +1,7 @@
 use Rattle.std.proofs.Common.{ℕ, ◌<◌, ◌≤◌}
-use Rattle.dr_door.specs.Sending.{IsLastSent}
+use Rattle.dr_door.{specs.Sending.IsLastSent, proofs.Again.bank_of}
 use Rattle.dr_door.proofs.door.Door.again.Given as goal
 
--- none was found, as far as the loop has come
-abbrev pub invariant-loop-index : goal.invariant-loop-index
-invariant-loop-index l = (k : ℕ) → l.fn.from ≤ k → k < l.index → ¬ IsLastSent l.fn.self l.to k
+-- none was found in the banks before
+abbrev pub invariant-loop-bank : goal.invariant-loop-bank
+invariant-loop-bank l = (k : ℕ) → l.fn.from ≤ k → bank_of l.fn.self.member.replica k < l.bank → ¬ IsLastSent l.fn.self l.to k

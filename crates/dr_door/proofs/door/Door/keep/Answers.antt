@@ -1,11 +1,16 @@
-use Rattle.std.{specs.Prelude.slice_set, proofs.{Common.refl, lemmas.List.length-set}}
-use Rattle.dr_door.{specs.Inside.door_inside, proofs.{Deeds.pushed_is, Sizes.whole_after}}
+use Rattle.std.{specs.Prelude.slice_set, proofs.Common.{◌∙◌, ap, refl, subst, sym}}
+use Rattle.dr_program.specs.Running.{Running, next_deed}
+use Rattle.dr_door.{specs.{Inside.{IsKept, door_inside}, Lone.Lone}, proofs.{Deeds.pushed_is, Kept.kept_push}}
 use Rattle.dr_door.proofs.door.Door.keep.Goals as goal
 
 pub invariant_of-self : goal.invariant_of-self
-invariant_of-self c = whole_after 0 c.self.inside.member c.pushed.new.self c.self.inside.words.items
-    (slice_set c.self.inside.words.items c.args.index c.args.word) c.self.invariant (c.pushed.ensures.after 0)
-    (length-set c.self.inside.words.items c.args.index c.args.word)
+invariant_of-self c = record {
+  form = c.pushed.ensures.form;
+  kept = subst (λ (x : Running). IsKept x.replica (slice_set c.self.inside.words.items c.args.index c.args.word))
+      (sym (c.pushed.ensures.after 0)) (kept_push c.self.inside.member c.self.inside.words.items c.args.index
+      c.args.word c.self.invariant.form c.self.invariant.kept
+      (ap (λ (d : Lone). next_deed d.member) c.self.view_is ∙ c.requires.due));
+}
 
 pub returns : goal.returns
 returns c = pushed_is (door_inside c.self.inside) c.args.self.now c.pushed.new.self c.args.index c.args.word

@@ -1,19 +1,41 @@
-use Rattle.std.proofs.{Common.{◌≡◌, ◌∙◌, ◌<◌, refl, sym, ap, length, slice_index, arith}, lemmas.List.get_or_default}
+use Rattle.std.proofs.{Common.{◌∙◌, ◌<◌, sym, ap, subst, length, arith}}
 use Rattle.dr_member.specs.Deeds.{table_size}
-use Rattle.dr_door.{specs.{Inside.door_inside, Lone.Lone, Seeing.sight_over}, proofs.Deeds.looked_is}
-use Rattle.dr_door.proofs.Sizes.{whole_after}
+use Rattle.dr_program.specs.{Reading.step_of_member, Running.{Running, after_step, next_deed}, Sight.MaySee}
+use Rattle.dr_door.{specs.{Inside.{IsKept, door_inside}, Lone.Lone}, proofs.{Deeds.{found, look_goes, looked_is}, Kept.{kept_look, kept_sees}}}
 use Rattle.dr_door.proofs.door.Door.look.Goals as goal
 
+pub looked-requires : goal.looked-requires
+looked-requires c =
+    let words = c.self.inside.words.items in
+    let member = c.self.inside.member in
+    let within : c.args.index < length words =
+    omega (arith, c.requires.within, c.self.invariant.kept.whole, ap (λ (d : Lone). table_size d.member) c.self.view_is) in
+    subst (MaySee member (step_of_member member)) (sym (found words c.args.index c.index.result.now within c.index.ensures))
+    (kept_sees member words c.args.index c.self.invariant.form c.self.invariant.kept
+    (ap (λ (d : Lone). next_deed d.member) c.self.view_is ∙ c.requires.due))
+
 pub invariant_of-self : goal.invariant_of-self
-invariant_of-self c = whole_after c.sight_over-sees.result c.self.inside.member c.looked.new.self
-    c.self.inside.words.items c.self.inside.words.items c.self.invariant c.looked.ensures.after refl
+invariant_of-self c =
+    let words = c.self.inside.words.items in
+    let member = c.self.inside.member in
+    let within : c.args.index < length words =
+    omega (arith, c.requires.within, c.self.invariant.kept.whole, ap (λ (d : Lone). table_size d.member) c.self.view_is) in
+    record {
+      form = c.looked.ensures.form;
+      kept = subst (λ (x : Running). IsKept x.replica words) (sym (c.looked.ensures.after
+          ∙ ap (λ w. after_step w member) (found words c.args.index c.index.result.now within c.index.ensures)))
+          (kept_look member words c.args.index c.self.invariant.form c.self.invariant.kept
+          (ap (λ (d : Lone). next_deed d.member) c.self.view_is ∙ c.requires.due));
+    }
 
 pub returns-clause-after : goal.returns-clause-after
 returns-clause-after c =
-    let within : c.args.index < length c.self.inside.words.items =
-    omega (arith, c.requires.within, c.self.invariant, ap (λ (d : Lone). table_size d.member) c.self.view_is) in
-    let stands : c.index.result.now ≡ slice_index c.self.inside.words.items c.args.index =
-    c.index.ensures ∙ sym (get_or_default c.self.inside.words.items c.args.index 0 c.index.result.now within) in
+    let words = c.self.inside.words.items in
+    let within : c.args.index < length words =
+    omega (arith, c.requires.within, c.self.invariant.kept.whole, ap (λ (d : Lone). table_size d.member) c.self.view_is) in
     looked_is (door_inside c.self.inside) c.args.self.now c.looked.new.self c.args.index
-    c.sight_over-sees.result c.self.view_is c.requires.due c.looked.ensures.after
-    (c.sight_over-sees.ensures.value ∙ ap (sight_over c.self.inside.member) stands)
+    c.index.result.now c.self.view_is c.requires.due c.looked.ensures.after
+    (found words c.args.index c.index.result.now within c.index.ensures)
+
+pub returns-clause-goes : goal.returns-clause-goes
+returns-clause-goes c = look_goes c.args.self.now c.args.index c.requires.due
