@@ -13,3 +13,4 @@ mod OneValue
 mod Paths
 pub mod Sounding
 pub mod Tried
+pub mod Voting

@@ -1,3 +1,4 @@
 pub mod Holding
 pub mod Lasting
 pub mod Returning
+pub mod Voting

@@ -16,6 +16,7 @@ ghost use Rattle.dr_words.specs.Masks.{IsMajorityOf};
 ghost use Rattle.dr_world_laws.specs.Views.{HasView};
 ghost use Rattle.dr_quorum_laws.specs.Holding.{AreSoundTries, HaveNoLaterVotes, HoldSince, IsKeptBy, IsLongestHistory};
 ghost use Rattle.dr_quorum_laws.specs.{Lasting.{AreDurableIn, AreLasting}, Returning.HaveReturned};
+ghost use Rattle.dr_quorum_laws.specs.Voting.{HaveMoreAgeVotes};
 
 use dr_restart::{Attempt, LogLists, Start};
 use dr_script::Script;
@@ -218,4 +219,14 @@ pub fn durable_entries_last()
     ensures refused { (script : ScriptOf) (es : List Entry) (logs : List LogListsOf) (set : ℕ) (why : Refusal)
         → HasGroupRanges script → AreLasting script es logs → ((m : ℕ) → m < length logs → has set m ≡ true)
         → IsRefusedFor (first_group_of script).opening (of_set logs set) why → why ≡ AgesUsedUp }
+{}
+
+/// Votes for ages that come to logs, whatever they are for, take nothing away: logs hold with the same tries, and what
+/// lasted lasts. So a vote for an age that never opens is no try, and of openings that overlap only those count for
+/// which all have voted.
+pub fn age_votes_take_nothing_away()
+    ensures held { (g : Group) (w : World) (choice before after : List LogListsOf) (tries : List AttemptOf)
+        → HaveMoreAgeVotes before after → HoldSince g w choice tries before → HoldSince g w choice tries after }
+    ensures lasts { (script : ScriptOf) (es : List Entry) (before after : List LogListsOf)
+        → HaveMoreAgeVotes before after → AreLasting script es before → AreLasting script es after }
 {}

@@ -14,7 +14,8 @@
 mod laws;
 
 pub use laws::{
-    all_logs_are_enough, all_logs_give_the_longest, choices_are_one, choices_are_sound,
-    choices_go_by_messages, durable_entries_last, held_by_try, kept_after_choice, kept_by_majority,
-    missing_logs_are_of_earlier_ages, returning_logs_are_enough, votes_left_are_one,
+    age_votes_take_nothing_away, all_logs_are_enough, all_logs_give_the_longest, choices_are_one,
+    choices_are_sound, choices_go_by_messages, durable_entries_last, held_by_try,
+    kept_after_choice, kept_by_majority, missing_logs_are_of_earlier_ages,
+    returning_logs_are_enough, votes_left_are_one,
 };

@@ -1,0 +1,4 @@
+pub mod Between
+pub mod Lasting
+pub mod Moments
+pub mod Ordered

@@ -1,0 +1,4 @@
+pub mod Bodies
+pub mod Longs
+pub mod Parts
+pub mod Puts
