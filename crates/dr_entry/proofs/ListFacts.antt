@@ -4,16 +4,17 @@ use Rattle.std.{specs.Cmp.{tied_itself, nat_cmp_total, nat_cmp_is, ranked}, proo
 use Rattle.std.specs.Fmt.{decimal}
 use Rattle.std.specs.List.{filter_map, list_any, cons_option, starts_with, flat_map, enumerate_from, concat, AllWithin, HoldsAt, list_all, AllZip, join_by, position_or_len, range_with_len, position_from}
 use Rattle.std.{specs.Ordering.{nat_cmp, is_le, ordering_then, is_eq}, proofs.lemmas.List.Elements.filter_map-append}
-use Rattle.std.specs.{Prelude.{◌||◌, is_some, nat_eq, Vec, IfSome, unwrap_or, ⊤}, declared.cmp.Ordering.Ordering}
+use Rattle.std.specs.{Prelude.{◌||◌, is_some, nat_eq, Vec, IfSome, IsTrue, unwrap_or, ⊤}, declared.cmp.Ordering.Ordering}
 use Rattle.std.{specs.declared.alloc.Global.Global, proofs.lemmas.{Fmt.decimal_injective, List.Concat.concat_is}}
 use Rattle.std.{specs.declared.cmp.Ordering.TheVariants.{Less, Equal, Greater}, proofs.lemmas.Bool.Decides.nat_tests}
 use Rattle.std.proofs.Common.{ℕ, ◌≤◌, max, List, [], ◌∷◌, fold, arith, le_refl, ◌≡◌, ◌+◌, ◌<◌, length, get_or, drop, ap, ◌∙◌, ◌-◌, take, length-drop, ◌++◌, map, Option, Some, refl, Bool, suc, None, false, true, eqb, sym, ◌&&◌, set, zero, replicate, inl, inr, nat_lt, add-zero, zero-add, append_assoc, Result, Ok, Err, OnOk, is_ok, if◌then◌else◌, min, cond, ◌==◌, not, ◌⊎◌, subst, slice_get, codes, length-append, take_at, drop_at, ◌^◌, below_more, length-take, le_trans, add-one, position, ◌≢◌, true≢false, bytes_eq, option_to_list, ◌*◌, sum_by}
-use Rattle.std.proofs.{Math.Nat.{min-le_left, mul_comm}, lemmas.List.FromFn.map-range_with_len_more}
+use Rattle.std.proofs.Math.Nat.{min-le_left, mul_comm}
+use Rattle.std.proofs.lemmas.List.FromFn.{get_or-map-range_with_len, length-map-range_with_len, map-range_with_len_more}
 use Rattle.std.proofs.{Math.Seq.{take-append_seam, get_or-append_seam}, lemmas.Iterator.Adapters.position_from-zero}
 use Rattle.std.proofs.lemmas.Bool.{eqb-true, eq-eqb, cases_lt, and_from, and_parts, false≢true, ne_eqb, cases_Bool, cases_eq}
 use Rattle.std.proofs.lemmas.{Grind.{flat_map-append, same_number_lists}, List.Sums.{fold-append, position_or_len_is}}
 use Rattle.std.proofs.lemmas.List.{drop_more, take_all, take_more, map-append, get_or-replicate, get_or_past, length-replicate, take-append-drop, length-take-le, append-nil, drop_all, get_or-set_other, get_or-set_same, get_or-drop, get_or-map, get_or-take, length-map}
-use Rattle.std.proofs.lemmas.List.Folds.{concat-append, list_any_at, list_any_none, sum_by-replicate}
+use Rattle.std.proofs.lemmas.List.Folds.{concat-append, list_all-append, list_all_at, list_any_at, list_any_none, sum_by-replicate}
 use Rattle.std.proofs.lemmas.Option.{slice_get_past, unwrap_or-slice_get, same_Some, slice_get-get_or}
 use Rattle.dr_entry.proofs.{BoolFacts.both_true, Fields.IsBytes, ListParts.other_decimal, NumberFacts.moved}
 
@@ -708,3 +709,55 @@ items_begin most n =
 -- all elements from a place on
 pub all_from : {X : Type 0} (p : ℕ) (xs : List X) → take (length xs - p) (drop p xs) ≡ drop p xs
 all_from p xs = take_all (length xs - p) (drop p xs) (omega (arith, length-drop p xs))
+
+-- one word more passes
+pub passes_more : (p : ℕ → Bool) (slot : ℕ → ℕ) (n : ℕ)
+    → list_all p (first_words slot n) ≡ true → p (slot (1 + n)) ≡ true → list_all p (first_words slot (n + 1)) ≡ true
+passes_more p slot n all one = ap (list_all p) (words_more slot n)
+    ∙ list_all-append p (first_words slot n) (slot (1 + n) ∷ []) ∙ rw (all, one) refl
+
+-- one that doesn't is enough
+pub passes_not : (p : ℕ → Bool) (slot : ℕ → ℕ) (n i : ℕ) → i < n
+    → p (slot (1 + i)) ≡ false → list_all p (first_words slot n) ≡ false
+passes_not p slot n i lt one =
+    list_all_at p (first_words slot n) i 0 (omega (arith, length-map-range_with_len slot 1 n))
+    (ap p (get_or-map-range_with_len slot 1 n i (1 + i) 0 lt refl) ∙ one)
+
+-- where each of the first words of a body passes a test, all do
+pub all_pass : (p : ℕ → Bool) (slot : ℕ → ℕ) (n : ℕ) → ((part : ℕ) → part < n → p (slot (1 + part)) ≡ true)
+    → list_all p (first_words slot n) ≡ true
+all_pass p slot zero each = refl
+all_pass p slot (suc n) each = ap (λ (m : ℕ). list_all p (first_words slot m)) (sym (add-one n))
+    ∙ passes_more p slot n (all_pass p slot n (λ part lt. each part (omega arith))) (each n (omega arith))
+
+-- where all first words of a body pass a test, each of them does
+pub each_passes : (p : ℕ → Bool) (slot : ℕ → ℕ) (n part : ℕ)
+    → list_all p (first_words slot n) ≡ true → part < n → p (slot (1 + part)) ≡ true
+each_passes p slot n part all lt = by (p (slot (1 + part))) refl
+  where
+    by : (b : Bool) → p (slot (1 + part)) ≡ b → p (slot (1 + part)) ≡ true
+    by true e = e
+    by false e = absurd (cc (sym all ∙ passes_not p slot n part lt e))
+
+-- a block more of a body passes
+pub block_passes : (p : ℕ → Bool) (slot : ℕ → ℕ) (n : ℕ) → list_all p (first_words slot n) ≡ true
+    → ((i : ℕ) → i < 4 → p (slot (1 + n + i)) ≡ true) → list_all p (first_words slot (n + 4)) ≡ true
+block_passes p slot n all each = all_pass p slot (n + 4) (λ part l. by part l (cases_lt part n))
+  where
+    by : (part : ℕ) → part < n + 4 → (part < n) ⊎ (n ≤ part) → p (slot (1 + part)) ≡ true
+    by part l (inl before) = each_passes p slot n part all before
+    by part l (inr behind) = let place : 1 + n + (part - n) ≡ 1 + part = omega (arith, behind) in
+        subst (λ (m : ℕ). p (slot m) ≡ true) place (each (part - n) (omega (arith, behind, l)))
+
+-- where not each word of a block does, not all of the body do
+pub block_fails : (p : ℕ → Bool) (slot : ℕ → ℕ) (n count : ℕ) (block : Bool) → n + 4 ≤ count → block ≡ false
+    → (((i : ℕ) → i < 4 → p (slot (1 + n + i)) ≡ true) → IsTrue block) → list_all p (first_words slot count) ≡ false
+block_fails p slot n count block room missing test = by (list_all p (first_words slot count)) refl
+  where
+    by : (b : Bool) → list_all p (first_words slot count) ≡ b → list_all p (first_words slot count) ≡ false
+    by false e = e
+    by true e = absurd (cc (missing, test each))
+      where
+        each : (i : ℕ) → i < 4 → p (slot (1 + n + i)) ≡ true
+        each i l = let place : 1 + (n + i) ≡ 1 + n + i = omega arith in
+            subst (λ (m : ℕ). p (slot m) ≡ true) place (each_passes p slot count (n + i) e (omega (arith, l, room)))

@@ -1,12 +1,11 @@
 -- Facts of options and results.
-use Rattle.std.specs.{Fmt.decimal, List.{list_all, find, range_with_len}, declared.alloc.AllocError.AllocError}
+use Rattle.std.specs.{Fmt.decimal, List.{find, range_with_len}, declared.alloc.AllocError.AllocError}
 use Rattle.std.specs.Option.{ok_or, option_or}
 use Rattle.std.specs.Prelude.{option_and_then, is_some, unwrap_or, IfSome, ◌↔◌, IsTrue, IfOk, IfNone, option_map, OnOk, nat_lt}
-use Rattle.std.proofs.Common.{◌≡◌, Option, Some, None, refl, true, Err, subst, Result, Ok, OnErr, Bool, ℕ, ◌⊎◌, inr, zero, suc, ◌&&◌, ◌<◌, inl, arith, [], ◌+◌, ◌∷◌, ap, ◌∙◌, false, sym, add-one, ◌-◌, ◌≤◌, IsSome, below_more, not, ◌*◌, ◌/◌, ◌%◌, ◌||◌, Contains, IsSomeAnd, ◌≢◌, ◌==◌}
+use Rattle.std.proofs.Common.{◌≡◌, Option, Some, None, refl, true, Err, subst, Result, Ok, OnErr, Bool, ℕ, ◌⊎◌, inr, zero, suc, ◌&&◌, ◌<◌, inl, arith, [], ◌+◌, ◌∷◌, ap, ◌∙◌, false, sym, ◌-◌, ◌≤◌, IsSome, below_more, not, ◌*◌, ◌/◌, ◌%◌, ◌||◌, Contains, IsSomeAnd, ◌≢◌, ◌==◌}
 use Rattle.std.proofs.{Math.Nat.div-add-mod, lemmas.{Bool.Decides.nat_tests, Option.{none-some, same_Some}}}
-use Rattle.std.proofs.lemmas.{Bool.{and_parts, cases_lt, cases_eq}, List.Folds.{list_all-append, list_all_at}}
-use Rattle.std.proofs.lemmas.List.FromFn.{length-map-range_with_len, get_or-map-range_with_len}
-use Rattle.dr_entry.proofs.{Bits.Marks, BoolFacts.phase_few, ListFacts.{is_free, first_words, words_more}}
+use Rattle.std.proofs.lemmas.Bool.{and_parts, cases_lt, cases_eq}
+use Rattle.dr_entry.proofs.{Bits.Marks, BoolFacts.phase_few, ListFacts.is_free}
 use Rattle.dr_entry.proofs.NumberFacts.{total, unequal}
 
 -- what holds of all that a second step gives
@@ -71,58 +70,6 @@ free_below (suc n) d h below =
       | inl less ↦ free_below n d parts.1 less
       | inr top ↦ let e : d ≡ n = omega (arith, below, top) in rw e parts.0
     ]
-
--- one word more passes
-pub passes_more : (p : ℕ → Bool) (slot : ℕ → ℕ) (n : ℕ)
-    → list_all p (first_words slot n) ≡ true → p (slot (1 + n)) ≡ true → list_all p (first_words slot (n + 1)) ≡ true
-passes_more p slot n all one = ap (list_all p) (words_more slot n)
-    ∙ list_all-append p (first_words slot n) (slot (1 + n) ∷ []) ∙ rw (all, one) refl
-
--- one that doesn't is enough
-pub passes_not : (p : ℕ → Bool) (slot : ℕ → ℕ) (n i : ℕ) → i < n
-    → p (slot (1 + i)) ≡ false → list_all p (first_words slot n) ≡ false
-passes_not p slot n i lt one =
-    list_all_at p (first_words slot n) i 0 (omega (arith, length-map-range_with_len slot 1 n))
-    (ap p (get_or-map-range_with_len slot 1 n i (1 + i) 0 lt refl) ∙ one)
-
--- where each of the first words of a body passes a test, all do
-pub all_pass : (p : ℕ → Bool) (slot : ℕ → ℕ) (n : ℕ) → ((part : ℕ) → part < n → p (slot (1 + part)) ≡ true)
-    → list_all p (first_words slot n) ≡ true
-all_pass p slot zero each = refl
-all_pass p slot (suc n) each = ap (λ (m : ℕ). list_all p (first_words slot m)) (sym (add-one n))
-    ∙ passes_more p slot n (all_pass p slot n (λ part lt. each part (omega arith))) (each n (omega arith))
-
--- where all first words of a body pass a test, each of them does
-pub each_passes : (p : ℕ → Bool) (slot : ℕ → ℕ) (n part : ℕ)
-    → list_all p (first_words slot n) ≡ true → part < n → p (slot (1 + part)) ≡ true
-each_passes p slot n part all lt = by (p (slot (1 + part))) refl
-  where
-    by : (b : Bool) → p (slot (1 + part)) ≡ b → p (slot (1 + part)) ≡ true
-    by true e = e
-    by false e = absurd (cc (sym all ∙ passes_not p slot n part lt e))
-
--- a block more of a body passes
-pub block_passes : (p : ℕ → Bool) (slot : ℕ → ℕ) (n : ℕ) → list_all p (first_words slot n) ≡ true
-    → ((i : ℕ) → i < 4 → p (slot (1 + n + i)) ≡ true) → list_all p (first_words slot (n + 4)) ≡ true
-block_passes p slot n all each = all_pass p slot (n + 4) (λ part l. by part l (cases_lt part n))
-  where
-    by : (part : ℕ) → part < n + 4 → (part < n) ⊎ (n ≤ part) → p (slot (1 + part)) ≡ true
-    by part l (inl before) = each_passes p slot n part all before
-    by part l (inr behind) = let place : 1 + n + (part - n) ≡ 1 + part = omega (arith, behind) in
-        subst (λ (m : ℕ). p (slot m) ≡ true) place (each (part - n) (omega (arith, behind, l)))
-
--- where not each word of a block does, not all of the body do
-pub block_fails : (p : ℕ → Bool) (slot : ℕ → ℕ) (n count : ℕ) (block : Bool) → n + 4 ≤ count → block ≡ false
-    → (((i : ℕ) → i < 4 → p (slot (1 + n + i)) ≡ true) → IsTrue block) → list_all p (first_words slot count) ≡ false
-block_fails p slot n count block room missing test = by (list_all p (first_words slot count)) refl
-  where
-    by : (b : Bool) → list_all p (first_words slot count) ≡ b → list_all p (first_words slot count) ≡ false
-    by false e = e
-    by true e = absurd (cc (missing, test each))
-      where
-        each : (i : ℕ) → i < 4 → p (slot (1 + n + i)) ≡ true
-        each i l = let place : 1 + (n + i) ≡ 1 + n + i = omega arith in
-            subst (λ (m : ℕ). p (slot m) ≡ true) place (each_passes p slot count (n + i) e (omega (arith, l, room)))
 
 pub some_tested : {A : Type 0} (o : Option A) (P : Type 0) → (IsSome o ↔ P) → IsTrue (is_some o) ↔ P
 some_tested None P t = t

@@ -2,7 +2,7 @@
 use Rattle.std.{specs.List.list_all, proofs.lemmas.Bool.Decides.nat_tests}
 use Rattle.std.proofs.Common.{◌≡◌, ℕ, ◌+◌, ◌≤◌, Bool, true, false, nat_le, ◌⊎◌, inl, inr, ◌↔◌, Some, IsSome, IsTrue, is_some, refl, sym, ap, subst, ◌∙◌, arith, ◌%◌, map}
 use Rattle.dr_entry.{specs.declared.limits.TheConstants.MAX_MESSAGE_LENGTH, proofs.Items.some_three}
-use Rattle.dr_entry.proofs.{ListFacts.first_words, OptionFacts.{all_pass, each_passes, some_tested}}
+use Rattle.dr_entry.proofs.{ListFacts.{all_pass, each_passes, first_words}, OptionFacts.some_tested}
 use native.Mathlib.Nat.{add-mod_left}
 use Rattle.dr_rows.specs.Words.{Words, seen}
 use Rattle.dr_words.specs.{Columns.head_column, Packing.{ring_tag, ring_low}}

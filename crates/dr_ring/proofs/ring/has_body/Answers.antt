@@ -1,5 +1,5 @@
 use Rattle.std.{specs.Int.div_ceil, proofs.Common.{◌≡◌, ◌+◌, ℕ, true, false, ap, sym, subst, ◌∙◌, rules, arith}}
-use Rattle.dr_entry.proofs.OptionFacts.{passes_more, passes_not, block_fails, block_passes}
+use Rattle.dr_entry.proofs.ListFacts.{passes_more, passes_not, block_fails, block_passes}
 use Rattle.dr_rows.specs.Words.{seen}
 use Rattle.dr_ring.specs.Slots.{is_of}
 use Rattle.dr_ring.proofs.ring.has_body.Goals as goal
