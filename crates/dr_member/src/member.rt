@@ -164,10 +164,25 @@ impl Member {
             self.place.column = next;
             self.replica.look(row, column, word);
         } else {
-            self.replica.look(row, column, word);
-            self.replica.wait_for(&mut self.fate.waits, row);
-            leave_row(&self.replica, &self.fate, &mut self.place, &mut self.ready);
+            self.looked_last(word);
         }
+    }
+
+    /// Takes the word of the last look of a row. Out of line, it leaves the others a small loop.
+    #[inline(never)]
+    fn looked_last(&mut self, word: u64)
+        requires sees { MaySee self.old (step_of_member self.old) word }
+        requires last { columns self.old ≤ self.old.place.column + 1 }
+        ensures after { self.new ≡ after_step word self.old }
+        ensures form { IsRunningMember self.new }
+        ensures grown { NoWordFell self.old.replica self.new.replica }
+        ensures falls { deeds_left self.new < deeds_left self.old }
+        ensures keeps { IsStill self.old self.new }
+    {
+        let Place { row, column, .. } = self.place;
+        self.replica.look(row, column, word);
+        self.replica.wait_for(&mut self.fate.waits, row);
+        leave_row(&self.replica, &self.fate, &mut self.place, &mut self.ready);
     }
 
     /// Takes note that its push was done.
@@ -185,9 +200,10 @@ impl Member {
             ..
         } = self.place;
         let columns = self.bases.columns;
+        // Sought before the push is noted, so that what both read is read once.
+        let next = next_changed(&self.replica, columns, to, column + 1);
         self.replica.push(to, column);
         self.fate.pushes = self.fate.pushes.saturating_add(1);
-        let next = next_changed(&self.replica, columns, to, column + 1);
         if next < columns {
             self.place.column = next;
         } else {

@@ -55,9 +55,8 @@ pub fn take<D: Disk, W: Watcher>(
             false
         }
         Deed::Push(index, word) => {
-            // The member is told first, so that nothing of it is read again behind the store.
-            member.pushed();
             table[index] = word;
+            member.pushed();
             false
         }
         Deed::Act(index, word) => {

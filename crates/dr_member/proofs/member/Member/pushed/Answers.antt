@@ -1,7 +1,8 @@
-use Rattle.std.proofs.Common.{refl, ℕ, ◌<◌, ◌≤◌, arith}
+use Rattle.std.proofs.Common.{refl, sym, subst, ◌∙◌, ℕ, ◌<◌, ◌≤◌, arith}
 use Rattle.dr_words.specs.Columns.{columns_of}
-use Rattle.dr_member.{specs.Search.standing, proofs.{Indices.columns_after, Ready.elsewhere}}
-use Rattle.dr_member.proofs.Moves.{IsPushed, counted, inside_after, is_pushed, push_left, pushed_behind, pushed_inside, pushed_timely, pushed_within}
+use Rattle.dr_program.specs.Replica.{Replica}
+use Rattle.dr_member.{specs.Search.standing, proofs.{Alone.columns_here, Indices.columns_after, Ready.elsewhere}}
+use Rattle.dr_member.proofs.Moves.{IsPushed, changed_behind, counted, inside_after, is_pushed, push_left, pushed_behind, pushed_inside, pushed_timely, pushed_within}
 use Rattle.dr_program.specs.declared.place.Part.TheVariants as parts
 use Rattle.dr_turn.proofs.Works.{IsAnswer}
 use Rattle.dr_member.proofs.member.Member.pushed.Goals as goal
@@ -12,14 +13,19 @@ known : (c : goal.After-self-then-next-columns-1)
 known c = is_pushed c.args.self.now c.self.inside c.push.new.self c.saturating_add-self-inside.result
     c.next_changed-next.result c.self.view_is c.self.invariant c.requires
     c.push.ensures.after c.push.ensures.form c.push.ensures.grown c.saturating_add-self-inside.ensures
-    c.next_changed-next.ensures.unchanged c.next_changed-next.ensures.from c.next_changed-next.ensures.within
+    (λ x above within. changed_behind c.self.inside.replica c.push.new.self _ _ x c.push.ensures.after above
+    ∙ c.next_changed-next.ensures.unchanged x above within)
+    c.next_changed-next.ensures.from (subst (λ (r : Replica). c.next_changed-next.result ≤ columns_of r.roster r.window)
+    (sym c.push.ensures.after) c.next_changed-next.ensures.within)
 
 next : (c : goal.After-self-then-next-columns-1) (word : ℕ) → IsAnswer word c.args.self.now
     (standing c.push.new.self (counted c.self.inside.fate c.saturating_add-self-inside.result)
     (record c.self.inside.place { column = c.next_changed-next.result }))
 next c word = pushed_within c.args.self.now c.self.inside.replica c.push.new.self c.self.inside.fate
     c.self.inside.place c.saturating_add-self-inside.result c.next_changed-next.result word c.self.view_is (known c)
-    within (c.next_changed-next.ensures.changed within)
+    within (changed_behind c.self.inside.replica c.push.new.self _ _ c.next_changed-next.result
+    c.push.ensures.after c.next_changed-next.ensures.from ∙ c.next_changed-next.ensures.changed
+    (omega (arith, c.if-next-columns.true, columns_here c.self.inside c.self.invariant)))
   where
     within : c.next_changed-next.result < columns_of c.push.new.self.roster c.push.new.self.window
     within = omega (
@@ -34,7 +40,10 @@ known_past : (c : goal.After-leave_row-arg-else-next-columns-3-1)
 known_past c = is_pushed c.args.self.now c.self.inside c.push.new.self c.saturating_add-self-inside.result
     c.next_changed-next.result c.self.view_is c.self.invariant c.requires
     c.push.ensures.after c.push.ensures.form c.push.ensures.grown c.saturating_add-self-inside.ensures
-    c.next_changed-next.ensures.unchanged c.next_changed-next.ensures.from c.next_changed-next.ensures.within
+    (λ x above within. changed_behind c.self.inside.replica c.push.new.self _ _ x c.push.ensures.after above
+    ∙ c.next_changed-next.ensures.unchanged x above within)
+    c.next_changed-next.ensures.from (subst (λ (r : Replica). c.next_changed-next.result ≤ columns_of r.roster r.window)
+    (sym c.push.ensures.after) c.next_changed-next.ensures.within)
 
 outer : (c : goal.After-leave_row-arg-else-next-columns-3-1)
     → columns_of c.push.new.self.roster c.push.new.self.window ≤ c.next_changed-next.result
@@ -51,8 +60,7 @@ past c word = pushed_behind c.args.self.now c.self.inside.replica c.push.new.sel
     word c.self.view_is (known_past c.before) (outer c.before) c.leave_row.ensures.place
 
 pub next_changed-next-requires-clause-columns : goal.next_changed-next-requires-clause-columns
-next_changed-next-requires-clause-columns c =
-    columns_after c.self.inside c.push.new.self _ c.self.invariant c.push.ensures.after refl
+next_changed-next-requires-clause-columns c = columns_here c.self.inside c.self.invariant
 
 pub leave_row-requires-clause-underway : goal.leave_row-requires-clause-underway
 leave_row-requires-clause-underway c =
