@@ -481,7 +481,8 @@ each-age script es begun w ranges have k lasts a =
     (subst (λ l. AreLasting script es l) (sym (same-lists (moment w zero) (λ m. (begun.places m).lists)
     (length script.messages) (λ m l. k.first m))) lasts))
 
-kept-of : (o : Opening) (begun w : Wire) → IsRunSince o begun w → Keeps o begun w
+-- all that holds of a wire that was new once
+pub kept-of : (o : Opening) (begun w : Wire) → IsRunSince o begun w → Keeps o begun w
 kept-of o begun w run = keeps o begun run.0 run.1.0 w run.1.1
 
 pub lasts : (script : Script) (es : List Entry) (begun w : Wire) → HasGroupRanges script

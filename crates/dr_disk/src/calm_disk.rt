@@ -54,6 +54,13 @@ impl CalmDisk {
             greatest: 0,
         }
     }
+
+    /// What a read gives, from the first byte on.
+    pub fn bytes(&self) -> &[u8]
+        ensures { result.now ≡ self.now.state.content }
+    {
+        self.bytes.as_slice()
+    }
 }
 
 impl Disk for CalmDisk {

@@ -21,15 +21,17 @@ kind_of (say.Hand whole at bytes) = 2
 kind_of (say.Try call far) = 3
 kind_of (say.Words age words) = 4
 
+-- and of how far somebody is
 abbrev pub far_byte : Far → ℕ
 far_byte fars.Chosen = 0
 far_byte fars.Voted = 1
 far_byte fars.Up = 2
 
--- the bytes of long numbers, eight of each, and the long number that begins at a place
+-- the bytes of long numbers, eight of each, the greatest one first
 abbrev pub long_bytes : List ℕ → List ℕ
 long_bytes numbers = flat_map (to_be_bytes w64) numbers
 
+-- the long number that begins at a place
 abbrev pub long_at : ℕ → List ℕ → ℕ
 long_at at bytes = from_be_bytes w64 (drop at bytes)
 
@@ -60,16 +62,18 @@ summed bytes = bytes ++ take 8 (sha256 bytes)
 abbrev pub spelling : Seal → Way → Says → List ℕ
 spelling seal way says = summed (head seal way (kind_of says) ++ body says)
 
--- each number fits its field
+-- each number of its head fits its field
 abbrev pub FitsWay : Way → Type 0
 FitsWay way = (way.from < 2 ^ 8) × (way.to < 2 ^ 8) × (way.ages < 2 ^ 32)
 
+-- so do those of a call, which has a length for each of 16 members
 pub record FitsCall (call : Call) : Type 0 where
   pub set : call.set < 2 ^ 16
   pub age : call.age < 2 ^ 16
   pub members : length call.lengths ≡ 16
   pub lengths : (m : ℕ) → slice_index call.lengths m < 2 ^ 64
 
+-- and those of what it says
 abbrev pub Fits : Says → Type 0
 Fits (say.Ask whole at) = (whole < 2 ^ 64) × (at < 2 ^ 64)
 Fits (say.Hand whole at bytes) = (whole < 2 ^ 64) × (at < 2 ^ 64)
@@ -100,10 +104,11 @@ HasForm bytes = (68 ≤ length bytes) × (take 4 bytes ≡ magic)
 abbrev pub IsSummed : List ℕ → Type 0
 IsSummed bytes = take 8 (sha256 (take (length bytes - 8) bytes)) ≡ drop (length bytes - 8) bytes
 
--- the name of a group, and the digest of a plan, where packets have them
+-- the name of a group, where packets have it
 abbrev pub group_in : List ℕ → List ℕ
 group_in bytes = take 16 (drop 12 bytes)
 
+-- and the digest of its plan
 abbrev pub plan_in : List ℕ → List ℕ
 plan_in bytes = take 32 (drop 28 bytes)
 

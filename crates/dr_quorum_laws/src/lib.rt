@@ -1,5 +1,5 @@
-//! The law of restarts from a majority: whatever logs are missing, an age that starts with what the others
-//! make keeps all that was durable in the one before, through any list of tries to open it.
+//! Laws of restarts from a majority: whatever logs are missing, an age keeps all that was durable in the one
+//! before, through any list of tries to open it.
 //!
 //! It speaks of lists of entries and of votes, and knows no disk. What logs make a start is `IsChosenStart`
 //! of `dr_restart`, what stops leave of an age is `AreLeft`, and what a try makes of logs is `IsTry` there.
