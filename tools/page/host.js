@@ -68,6 +68,12 @@ const SHORT = {
         return file;
     },
     close: ({ opened }, file) => opened.delete(file) ? 0 : fault(BAD_FILE),
+    rename(system, from, to) {
+        const path = system.text(from), { files } = system;
+        files.set(system.text(to), files.get(path) ?? fault(NO_ENTRY));
+        files.delete(path);
+        return 0;
+    },
     ftruncate(system, file, length) {
         system.resize(file, Number(length));
         return 0;
@@ -88,6 +94,10 @@ const SHORT = {
     fsync: () => 0,
     fdatasync: () => 0,
     fchmod: () => 0,
+    getentropy(system, at, length) {
+        crypto.getRandomValues(system.bytes(at, length));
+        return 0;
+    },
     isatty: () => 0,
     sched_yield: () => 0,
     pthread_create: () => NO_CALL,
@@ -115,7 +125,12 @@ const LONG = {
     pread: (system, file, at, length, from) =>
         system.give(at, system.content(file).subarray(Number(from), Number(from + length))),
     write(system, file, at, length) {
-        const parts = system.written[file] ?? fault(BAD_FILE);
+        const parts = system.written[file];
+        if (!parts) {
+            const from = system.places.get(file) ?? 0;
+            system.places.set(file, from + Number(length));
+            return LONG.pwrite(system, file, at, length, BigInt(from));
+        }
         system.size += Number(length);
         if (system.size > FULL) fault(NO_SPACE);
         parts.push(system.bytes(at, length).slice());

@@ -1,6 +1,9 @@
 //! Runs the ages of a group by a script, and prints what each of its members delivered.
 #![tactic(auto)]
 
+mod apart;
+
+use crate::apart::tell_apart;
 use dr_commands::derecho;
 use dr_intake::{OUT_OF_MEMORY, words_of};
 use dr_io::{InputSource, OutputSink};
@@ -28,5 +31,6 @@ fn main(rt: HostRuntime) -> ExitCode {
         &mut yard,
         &SnoozePace,
     );
+    tell_apart(&rt, alloc, &words, ended.status, &yard);
     ExitCode::from(ended.status)
 }

@@ -1,6 +1,6 @@
 use crate::unread::tell_unread;
-use dr_intake::{DONE, READ_FAULT, USAGE};
-use dr_io::{InputSource, OutputSink};
+use dr_intake::{DONE, READ_FAULT, SCRIPT_REFUSED, USAGE, WRITE_FAULT};
+use dr_io::{InputSource, OutputSink, Sink};
 use dr_text::write_all;
 use dr_tools::print_log;
 use std::alloc::Global;
@@ -34,6 +34,7 @@ pub(crate) fn print_logs(rt: &HostRuntime, alloc: Global, names: &[String]) -> u
 fn print_one(rt: &HostRuntime, alloc: Global, name: &str) -> u8 {
     let mut sink = OutputSink::new(rt.stdout());
     let status = match File::open(rt, name) {
+        Ok(file) if is_too_long(&file) => refuse_length(&mut sink),
         Ok(file) => print_log(alloc, &mut InputSource::new(file), &mut sink),
         Err(_) => READ_FAULT,
     };
@@ -41,4 +42,23 @@ fn print_one(rt: &HostRuntime, alloc: Global, name: &str) -> u8 {
         tell_unread(rt, name);
     }
     status
+}
+
+/// The most bytes that a log has.
+const MOST: u64 = 2_147_483_648;
+
+/// Whether a file has more bytes than a log: then it isn't read.
+fn is_too_long(file: &File) -> bool {
+    match file.metadata() {
+        Ok(metadata) => metadata.len() > MOST,
+        Err(_) => false,
+    }
+}
+
+/// Says that a file is too long, and answers the status.
+fn refuse_length<K: Sink>(sink: &mut K) -> u8 {
+    match write_all(sink, b"refused: too long\n") {
+        Ok(()) => SCRIPT_REFUSED,
+        Err(_) => WRITE_FAULT,
+    }
 }

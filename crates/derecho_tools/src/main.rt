@@ -1,12 +1,14 @@
 //! Looks at scripts, at their runs and at logs: the first word says what with.
 #![tactic(auto)]
 
+mod folders;
 mod logs;
 mod reports;
 mod texts;
 mod tool;
 mod unread;
 
+use crate::folders::look_at_folder;
 use crate::logs::print_logs;
 use crate::reports::{JUDGE_USAGE, judge_files};
 use crate::texts::{HELP, USAGE_TEXT, VERSION};
@@ -15,7 +17,7 @@ use dr_intake::{DONE, OUT_OF_MEMORY, USAGE, WRITE_FAULT, words_of};
 use dr_io::{InputSource, OutputSink};
 use dr_progress::{ClockTimer, Progress};
 use dr_text::write_all;
-use dr_tools::{check_logs, explain, summarize, sweep, trace};
+use dr_tools::{explain, summarize, sweep, trace};
 use std::alloc::Global;
 use std::io::IsTerminal;
 use std::process::ExitCode;
@@ -92,7 +94,7 @@ fn look(
             _ => say(rt, JUDGE_USAGE, USAGE),
         },
         Tool::Log => print_logs(rt, alloc, words),
-        Tool::Folder => check_logs(rt, alloc, words, &mut source, &mut sink),
+        Tool::Folder => look_at_folder(rt, alloc, words),
     }
 }
 

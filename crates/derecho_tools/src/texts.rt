@@ -66,5 +66,8 @@ writes no file.
 
 pub(crate) const FOLDER_HELP: &str =
     "\nReads the logs of a script's group in a folder. It tells what each is, and what the next run over
-them would start with, or by what it would be refused. It writes no file.
+them would start with, or by what it would be refused.
+
+  --accept I  first the log of member I is sealed as it is, or as a new one where there is none:
+              what stood on another log of I, and on no other, is lost; nothing else is written
 ";

@@ -18,6 +18,7 @@ mod shards;
 mod store;
 mod top;
 mod words;
+mod wrong;
 
 pub use check::{
     check_report, checked_line, checks_tell_what_is_right, played_scripts_are_judged_right,
@@ -29,3 +30,4 @@ pub use shards::{ShardCount, Sharding, run_sharded, sharding_of};
 pub use store::ask_stores;
 pub use top::{Ended, derecho};
 pub use words::Command;
+pub use wrong::wrong_words;

@@ -20,6 +20,7 @@ mod mounting;
 mod report;
 mod rows;
 mod survey;
+mod warnings;
 
 pub use advice::Advice;
 pub use checking::{FolderCheck, check_folder};
@@ -27,3 +28,4 @@ pub use file::LogFile;
 pub use laws::verdicts_are_the_runs;
 pub use report::{LOGS_MISSING, folder_report};
 pub use survey::Survey;
+pub use warnings::warnings_of;

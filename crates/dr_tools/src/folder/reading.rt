@@ -4,28 +4,74 @@ ghost use Rattle.std.specs.Prelude.{◌≡◌, IfOk, length};
 
 use dr_entry::{Seq, Text};
 use dr_folder::LogFile;
+use dr_yard::{Breach, Reason, Sealed, Trouble, breach_of, reason_against, sealed_in};
 use std::alloc::{AllocError, Global};
 use std::fs::{self, File};
 use std::io::{self, ErrorKind, Read};
 use std::rt::Files;
 
-/// One byte more than a log has.
-const READ_MOST: u64 = 2_147_483_649;
+/// The most bytes that a log has.
+const MOST: u64 = 2_147_483_648;
 
-/// What is found where the logs of so many members are to be.
+/// What is found where the logs of so many members are to be. Why a run wouldn't be lent one is told among the
+/// troubles.
 pub(crate) fn read_files<R: Files<File = File> + AllocGlobal>(
     rt: &R,
     alloc: Global,
     folder: &str,
     members: u8,
+    troubles: &mut Vec<Trouble>,
 ) -> Result<Vec<LogFile>, AllocError>
     ensures { IfOk result (λ files. length files.items ≡ members) }
 {
     let mut files = Vec::new(alloc);
     for member in 0..members {
-        files.push(read_file(rt, alloc, folder, member)?)?;
+        files.push(read_sealed(rt, alloc, folder, member, troubles)?)?;
     }
     Ok(files)
+}
+
+/// What is found where the log of a member is to be: one that isn't the log that was sealed can't be read.
+fn read_sealed<R: Files<File = File> + AllocGlobal>(
+    rt: &R,
+    alloc: Global,
+    folder: &str,
+    member: u8,
+    troubles: &mut Vec<Trouble>,
+) -> Result<LogFile, AllocError> {
+    let found = read_file(rt, alloc, folder, member)?;
+    let reason = match reason_against(rt, folder, member) {
+        Some(reason) => Some(reason),
+        None => breach_in(rt, folder, member, &found).map(Reason::Breached),
+    };
+    let Some(reason) = reason else {
+        return Ok(found)
+    };
+    troubles.push(Trouble { member, reason })?;
+    match reason {
+        Reason::Breached(_) => Ok(LogFile::Unread {
+            why: Text::of(format!(in alloc; "it {reason}")?),
+        }),
+        _ => Ok(found),
+    }
+}
+
+/// Why what was found isn't the log that was sealed, if so.
+fn breach_in<R: Files<File = File>>(
+    rt: &R,
+    folder: &str,
+    member: u8,
+    found: &LogFile,
+) -> Option<Breach> {
+    let sealed = match sealed_in(rt, folder, member) {
+        Ok(sealed) => sealed,
+        Err(_) => Sealed::Unreadable,
+    };
+    match found {
+        LogFile::Bytes(bytes) => breach_of(&sealed, Some(bytes.as_slice())),
+        LogFile::Missing => breach_of(&sealed, None),
+        LogFile::Unread { .. } => None,
+    }
 }
 
 /// What is found where the log of a member is to be.
@@ -60,11 +106,11 @@ fn bytes_of<R: Files<File = File> + AllocGlobal>(
         }
         Err(error) => return Err(error),
     };
-    let mut bytes = Vec::new(alloc);
-    let count = file.take(READ_MOST).read_to_end(&mut bytes)?;
-    if count as u64 == READ_MOST {
+    if file.metadata()?.len() > MOST {
         return Err(io::Error::from(ErrorKind::FileTooLarge));
     }
+    let mut bytes = Vec::new(alloc);
+    file.take(MOST).read_to_end(&mut bytes)?;
     Ok(Some(bytes))
 }
 

@@ -1,4 +1,4 @@
-use Rattle.std.proofs.Common.{refl, sym, subst, ◌+◌, ◌<◌, ◌≤◌, arith}
+use Rattle.std.proofs.Common.{refl, subst, ◌+◌, ◌<◌, ◌≤◌, arith}
 use Rattle.dr_words.specs.Columns.{columns_of}
 use Rattle.dr_member.{specs.Search.standing, proofs.{Alone.columns_here, Indices.columns_after, Ready.elsewhere}}
 use Rattle.dr_member.proofs.Moves.{IsLooked, inside_after, is_looked, look_due_at, looked_within, stays_timely}

@@ -1,6 +1,6 @@
 use Rattle.std.{specs.{Fmt.decimal, List.concat, Prelude.codes}, proofs.Common.{◌++◌, ◌∷◌, [], ◌∙◌, ap}}
 use Rattle.std.proofs.lemmas.Fmt.{contents_after_writes}
-use Rattle.dr_yard.proofs.file_yard.path_of.Goals as goal
+use Rattle.dr_yard.proofs.paths.path_of.Goals as goal
 
 pub returns-in-Ok : goal.returns-in-Ok
 returns-in-Ok c =
