@@ -3,10 +3,11 @@ use Rattle.std.specs.Prelude.{◌&&◌, ◌||◌, slice_set, not, is_some, Bool,
 use Rattle.std.proofs.Common.{◌≡◌, ◌∙◌, refl, sym, ap, ℕ, ◌<◌, List, get_or, length, slice_index, true}
 use Rattle.std.proofs.lemmas.{Bool.{and_from, and_parts}, List.get_or_default}
 use Rattle.dr_entry.specs.declared.end.End.{End}
-use Rattle.dr_member.{specs.Deeds.{is_before_turn, is_look, is_push}, proofs.Deeds.no_beat}
+use Rattle.dr_member.{specs.Deeds.{is_act, is_before_turn, is_look, is_push}, proofs.Deeds.no_beat}
 use Rattle.dr_program.specs.Running.{Running, after_step, deed, deed_of, next_deed, step_at}
 use Rattle.dr_program.specs.{Turn.{is_beat, part_of}, declared.place.Part.Part}
 use Rattle.dr_program.specs.declared.place.Part.TheVariants as parts
+use Rattle.dr_program.specs.declared.deed.Deed.{Deed}
 use Rattle.dr_program.specs.declared.deed.Deed.TheVariants as deeds
 use Rattle.dr_door.specs.Lone.{Lone, after_alone, after_push, done_alone, goes_on, is_alone, pushed_on, went_on}
 
@@ -14,14 +15,6 @@ use Rattle.dr_door.specs.Lone.{Lone, after_alone, after_push, done_alone, goes_o
 pub found : (words : List ℕ) (index word : ℕ) → index < length words → word ≡ get_or words index word
     → word ≡ slice_index words index
 found words index word within read = read ∙ sym (get_or_default words index 0 word within)
-
--- a look
-pub looked_is : (d now : Lone) (x : Running) (index w : ℕ) → d ≡ now → next_deed now.member ≡ deeds.Look index
-    → x ≡ after_step w d.member → w ≡ slice_index d.words index
-    → ◌≡◌ {A = Lone} (record { member = x; words = d.words }) (done_alone now)
-looked_is d now x index w view due after sees =
-    (λ z. record { member = (after ∙ ap (λ s. after_step s d.member) sees) z; words = d.words })
-    ∙ ap (after_alone d) (sym (ap (λ (e : Lone). next_deed e.member) view ∙ due)) ∙ ap done_alone view
 
 -- an act
 pub acted_is : (d now : Lone) (x : Running) (index word : ℕ) (words : List ℕ) → d ≡ now
@@ -42,18 +35,24 @@ pub went_is : (d now : Lone) (x : Running) → d ≡ now → ((word : ℕ) → x
     → ◌≡◌ {A = Lone} (record { member = x; words = d.words }) (went_on now)
 went_is d now x view after = (λ z. record { member = after 0 z; words = d.words }) ∙ ap went_on view
 
--- a beat concerns nobody else
-beat_at : (part : Part) (r : Running) (i c : ℕ) → is_beat part ≡ true
-    → is_alone (deed_of r (step_at r part i c)) ≡ true
+-- a beat is an act, and concerns nobody else
+beat_at : (part : Part) (r : Running) (i c : ℕ) → is_beat part ≡ true → is_act (deed_of r (step_at r part i c)) ≡ true
 beat_at (parts.Do a) r i c beat = refl
 beat_at part r i c beat = absurd (cc)
 
-pub beat_alone : (r : Running) → is_before_turn r ≡ true → is_alone (next_deed r) ≡ true
-beat_alone r before = by r.replica.end (and_parts (not (is_some r.replica.end)) (is_beat (part_of r.place)) before)
+pub beat_acts : (r : Running) → is_before_turn r ≡ true → is_act (next_deed r) ≡ true
+beat_acts r before = by r.replica.end (and_parts (not (is_some r.replica.end)) (is_beat (part_of r.place)) before)
   where
-    by : (o : Option End) → (not (is_some o) ≡ true) × (is_beat (part_of r.place) ≡ true) → is_alone (deed r o) ≡ true
+    by : (o : Option End) → (not (is_some o) ≡ true) × (is_beat (part_of r.place) ≡ true) → is_act (deed r o) ≡ true
     by None h = beat_at (part_of r.place) r r.place.row r.place.column h.1
     by (Some end) h = absurd (cc (h.0))
+
+pub beat_alone : (r : Running) → is_before_turn r ≡ true → is_alone (next_deed r) ≡ true
+beat_alone r before = act_alone (next_deed r) (beat_acts r before)
+  where
+    act_alone : (d : Deed) → is_act d ≡ true → is_alone d ≡ true
+    act_alone (deeds.Act index word) is = refl
+    act_alone d is = absurd (cc)
 
 -- a look concerns nobody else, and begins no turn
 pub look_goes : (d : Lone) (index : ℕ) → next_deed d.member ≡ deeds.Look index → goes_on d ≡ true

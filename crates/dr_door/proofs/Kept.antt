@@ -1,7 +1,7 @@
 -- What always holds between a door's member and its words stays so, whatever either does.
 use Rattle.std.specs.Prelude.{All, IfSome, max, not, slice_set, None, Option, Some}
 use Rattle.std.proofs.Common.{◌≡◌, ◌≢◌, ◌⊎◌, ◌∙◌, inl, inr, refl, sym, ap, subst, ℕ, ◌%◌, ◌<◌, ◌≤◌, ◌==◌, ◌&&◌, nat_le, nat_lt, Bool, true, false, List, [], ◌∷◌, ◌++◌, ◌*◌, append-nil, length, length-set, replicate, slice_index, if◌then◌else◌, arith}
-use Rattle.std.proofs.lemmas.Bool.{and_from, and_parts, cases_Bool, cases_eq, cases_lt, cond-false, eq-eqb, eqb-true, lt-leb, lt-ltb}
+use Rattle.std.proofs.lemmas.Bool.{and_from, and_parts, cases_Bool, cases_eq, cases_lt, cond-false, eq-eqb, eqb-true, lt-leb, lt-ltb, not-true}
 use Rattle.std.proofs.lemmas.{List.{get_or-set_other, get_or-set_same, length-replicate}, List.Elements.{All-nil, All-replicate}}
 use Rattle.dr_arrival.{specs.Tests.{grown, in_form}, proofs.Exact.{form_exact, growth_exact}}
 use Rattle.dr_entry.{specs.Spelling.{IsValid, IsValidEntry}, proofs.ListFacts.copy_at}
@@ -10,28 +10,29 @@ use Rattle.dr_entry.specs.declared.{entry.{Entry.{Entry, TheVariants.View}, Item
 use Rattle.dr_history.specs.{Members.has, Order.first_entries}
 use Rattle.dr_machine.specs.Group.{Group, IsGroup}
 use Rattle.dr_machine.specs.declared.step.Step.{Step}
-use Rattle.dr_member.specs.Deeds.{is_act, is_append, is_give, is_look, is_push}
+use Rattle.dr_member.specs.Deeds.{is_act, is_append, is_give, is_look, is_push, is_take}
 use Rattle.dr_program.specs.{Form.{HasForm, IsRunningMember}, Reading.{step_due, step_of_member}}
 use Rattle.dr_play.proofs.Deeds.{at_append}
 use Rattle.dr_program.specs.{Program.IsSetup, declared.setup.Setup.Setup}
-use Rattle.dr_program.specs.Replica.{Replica, begun_replica, first_entries_of, greatest, is_other, looked, me}
+use Rattle.dr_program.specs.Replica.{Replica, begun_replica, first_entries_of, greatest, is_inside, is_other, looked, me, pushed}
 use Rattle.dr_program.specs.{Running.{Running, after_step, deed_of, next_deed, next_step, settled, took_letter}}
 use Rattle.dr_program.specs.{Sight.MaySee, Steps.{has_cell, index_in, stepped}}
 use Rattle.dr_program.specs.declared.deed.Deed.{Deed}
 use Rattle.dr_program.specs.declared.deed.Deed.TheVariants as deeds
 use Rattle.dr_program.proofs.{Fixed.{Told, step_told, told, took_told}, RunningPrograms.{act_is, allowed, allowed_inside, deed_due, is_cell, look_is, next_without_end, push_is}, Search.{settled_same, settled_took}}
 use Rattle.dr_machine.specs.declared.step.Step.TheVariants as steps
-use Rattle.dr_rows.specs.Words.{begun, seen}
+use Rattle.dr_rows.specs.Words.{begun, own, seen}
 use Rattle.dr_rows.proofs.{Grids.{seen_with, with_word-column, with_word-row, with_word-same}, WordsLemmas.IsFresh-begun}
 use Rattle.dr_served.proofs.Appends.{valid_due}
 use Rattle.dr_words.specs.{Columns.columns_of, Form.IsInForm, Grown.HasGrown, Layout.{word_index_of, words_of}}
 use Rattle.dr_words.specs.declared.column.TheConstants.{LOGGED_COLUMN}
-use Rattle.dr_words.proofs.{Columns.{column_found, row_found}, Forms.{form_zero, grown_zero}, Order.{HasGrown_refl, HasGrown_trans}}
+use Rattle.dr_words.proofs.{Columns.{column_found, row_found}, Forms.{form_zero, grown_zero}, Order.{HasGrown_refl, HasGrown_trans}, Places.word_index_within}
 use Rattle.dr_world_laws.{specs.Historic.IsOfAge, proofs.Messages.valid_history}
 use Rattle.dr_door.specs.Coming.{copy_of, refusal, refusal_there, row_in}
 use Rattle.dr_door.specs.Lone.{Lone}
 use Rattle.dr_door.specs.declared.refused.Refused.TheVariants as why
-use Rattle.dr_door.specs.Inside.{AreInPlace, HaveGrown, IsKept, IsShort}
+use Rattle.dr_door.specs.{Inside.{AreInPlace, HaveGrown, HaveSent, IsKept, IsShort}, Letters.Suits}
+use Rattle.dr_door.proofs.Pushed.{SentAlike, begun_sent, is_pushing, joined_sent, sent_beside, sent_on, sent_pushed, step_sent}
 use Rattle.dr_door.proofs.{Entries.{AreValid, step_valid}, Others.{SawAlike, is_looking, joined_saw, step_saw}}
 use Rattle.dr_door.proofs.Places.{copy_found}
 
@@ -49,30 +50,39 @@ grown_on n w m r q words saw old i c row other column = by (saw i c other)
         (grown_zero n c (slice_index words (word_index_of n w q.view m i c)))
 
 kept_on : (r q : Replica) (words : List ℕ) → IsKept r words → told q ≡ told r
-    → ((i c : ℕ) → i ≢ me r → SawAlike r q i c) → AreValid q → IsKept q words
-kept_on r q words kept same saw valid = record {
+    → ((i c : ℕ) → i ≢ me r → SawAlike r q i c) → SentAlike r q → AreValid q → IsKept q words
+kept_on r q words kept same saw sent valid = record {
   whole = kept.whole ∙ sym (ap (λ (t : Told). words_of t.roster t.window t.banks) same);
   places = subst (λ (t : Told). AreInPlace t.roster t.window t.number words) (sym same) kept.places;
   grown = subst (λ (t : Told). HaveGrown t.roster t.window t.number q.view q.rows words) (sym same)
       (grown_on r.roster r.window (me r) r q words saw kept.grown);
+  sent = subst (λ (t : Told). HaveSent t.roster t.window t.number q.view q.rows words) (sym same)
+      (sent_on r.roster r.window (me r) r q words sent kept.sent);
   entries = valid.0;
   items = valid.1;
 }
 
--- at a step that is no look
-pub kept_step : (word : ℕ) (r : Running) (words : List ℕ) → IsRunningMember r → r.replica.end ≡ None
-    → is_looking (next_step r) ≡ false → IsKept r.replica words → IsKept (after_step word r).replica words
-kept_step word r words m none plain kept =
+-- at a step that is no look and no push
+kept_step : (word : ℕ) (r : Running) (words : List ℕ) → IsRunningMember r → r.replica.end ≡ None
+    → is_looking (next_step r) ≡ false → is_pushing (next_step r) ≡ false → IsKept r.replica words
+    → IsKept (after_step word r).replica words
+kept_step word r words m none plain stays kept =
     let s = next_step r in
     subst (λ q. IsKept q words) (sym (ap (λ (x : Running). x.replica) (settled_same word r)))
     (kept_on r.replica (stepped word r.replica s) words kept (step_told word r.replica s)
-    (λ i c other. step_saw word r.replica s i c other plain)
+    (λ i c other. step_saw word r.replica s i c other plain) (step_sent word r.replica s stays)
     (step_valid word r.replica s m.replica (allowed r m none s refl) (kept.entries, kept.items)))
 
 -- ---- a word of its own row is written, in its own copy or in another's
 
-pub kept_written : (r : Replica) (words : List ℕ) (index word : ℕ) → me r < r.roster → IsKept r words
-    → row_in r.roster r.window index ≡ me r → IsKept r (slice_set words index word)
+-- what doesn't speak of what it has pushed
+record IsWritten (r : Replica) (words : List ℕ) : Type 0 where
+  whole : length words ≡ words_of r.roster r.window r.banks
+  places : AreInPlace r.roster r.window (me r) words
+  grown : HaveGrown r.roster r.window (me r) r.view r.rows words
+
+kept_written : (r : Replica) (words : List ℕ) (index word : ℕ) → me r < r.roster → IsKept r words
+    → row_in r.roster r.window index ≡ me r → IsWritten r (slice_set words index word)
 kept_written r words index word number kept row = record {
   whole = length-set words index word ∙ kept.whole;
   places = record {
@@ -83,8 +93,6 @@ kept_written r words index word number kept row = record {
   grown = λ i c inside other column. subst (HasGrown r.roster c (seen r.rows i c))
       (sym (away (index_in r (me r) i c) (λ e. other (sym (row_found r.roster r.window r.view (me r) i c
       (index_in r (me r) i c) inside column refl) ∙ e)))) (kept.grown i c inside other column);
-  entries = kept.entries;
-  items = kept.items;
 }
   where
     away : (k : ℕ) → row_in r.roster r.window k ≢ me r → slice_index (slice_set words index word) k ≡ slice_index words k
@@ -101,10 +109,10 @@ pub record IsTaken (n w m : ℕ) (words : List ℕ) (index word : ℕ) : Type 0 
   pub grows : slice_index words index < word
       → grown n (index % columns_of n w) (slice_index words index) word ≡ true
 
-kept_came : (r : Replica) (words : List ℕ) (index word : ℕ) → IsKept r words
+kept_came : (r : Replica) (words : List ℕ) (index word : ℕ) → me r < r.roster → IsKept r words
     → IsTaken r.roster r.window (me r) words index word
     → IsKept r (slice_set words index (max (slice_index words index) word))
-kept_came r words index word kept is = record {
+kept_came r words index word number kept is = record {
   whole = length-set words index (max stands word) ∙ kept.whole;
   places = record {
     form = λ k copy other. form_by k copy other (cases_eq k index);
@@ -112,6 +120,7 @@ kept_came r words index word kept is = record {
   };
   grown = λ i c inside other column. grown_by i c column (kept.grown i c inside other column)
       (cases_eq (index_in r (me r) i c) index);
+  sent = sent_beside r words index (max stands word) number is.copy kept.sent;
   entries = kept.entries;
   items = kept.items;
 }
@@ -197,13 +206,13 @@ taken_there n w m words index word within none = record {
     by l (inr f) =
         absurd (cc (sym (and_from (nat_lt stands word) (not news) (lt-ltb stands word l) (ap not f)) ∙ passed.3))
 
-pub kept_coming : (d : Lone) (index word : ℕ) → IsKept d.member.replica d.words → index < length d.words
+pub kept_coming : (d : Lone) (index word : ℕ) → HasForm d.member.replica → IsKept d.member.replica d.words → index < length d.words
     → refusal d index word ≡ None
     → IsKept d.member.replica (slice_set d.words index (max (slice_index d.words index) word))
-kept_coming d index word kept within none =
+kept_coming d index word form kept within none =
     let r = d.member.replica in
     let there = refusal_there r.roster r.window (me r) index (slice_index d.words index) word in
-    kept_came r d.words index word kept (taken_there r.roster r.window (me r) d.words index word within
+    kept_came r d.words index word form.number kept (taken_there r.roster r.window (me r) d.words index word within
     (sym (cond-false (nat_le (length d.words) index) (Some why.Place) there (lt-leb (length d.words) index within))
     ∙ none))
 
@@ -224,7 +233,7 @@ apart : (r : Replica) (i : ℕ) → is_other r i ≡ true → i ≢ me r
 apart r i other e =
     absurd (cc (sym (ap not (eq-eqb i (me r) e)) ∙ (and_parts (has r.members i) (not (i == me r)) other).1))
 
-at_place : (r : Running) (index : ℕ) → IsRunningMember r → next_deed r ≡ deeds.Look index → IsAtPlace r index
+pub at_place : (r : Running) (index : ℕ) → IsRunningMember r → next_deed r ≡ deeds.Look index → IsAtPlace r index
 at_place r index m due =
     let none = (deed_due is_look (λ end. refl) r (ap is_look due)).0 in
     let at = look_is r (next_step r) index (sym (next_without_end r none) ∙ due) in
@@ -266,6 +275,7 @@ kept_looked r words i c form row column kept = record {
   whole = kept.whole;
   places = kept.places;
   grown = λ j d inside other within. by j d (cases_eq j i) (cases_eq d c) (kept.grown j d inside other within);
+  sent = kept.sent;
   entries = kept.entries;
   items = kept.items;
 }
@@ -302,19 +312,36 @@ kept_look r words index m kept due =
 
 -- ---- a letter
 
-pub kept_asked : (letter : Option (List Entry)) (r : Running) (words : List ℕ) → IsKept r.replica words
-    → IfSome letter (All IsValidEntry) → IsKept (settled (took_letter letter r)).replica words
-kept_asked letter r words kept valid = subst (λ q. IsKept q words)
+take_is : (r : Running) (s : Step) → is_take (deed_of r s) ≡ true → s ≡ steps.Join
+take_is r steps.Join is = refl
+take_is r s is = absurd (cc)
+
+pub kept_asked : (letter : Option (List Entry)) (r : Running) (words : List ℕ) → IsRunningMember r
+    → IsKept r.replica words → is_take (next_deed r) ≡ true → IfSome letter (Suits r.replica)
+    → IsKept (settled (took_letter letter r)).replica words
+kept_asked letter r words m kept due suits = subst (λ q. IsKept q words)
     (sym (ap (λ (x : Running). x.replica) (settled_took letter r)))
-    (kept_on r.replica (took_letter letter r).replica words kept (took_told letter r) (saw letter) (all letter valid))
+    (kept_on r.replica (took_letter letter r).replica words kept (took_told letter r) (saw letter) (sent letter suits)
+    (all letter suits))
   where
+    -- it has the first view still
+    first : r.replica.view ≡ 0
+    first =
+        let asks = deed_due is_take (λ end. refl) r due in
+        (m.replica.outside (not-true (is_inside r.replica)
+        (allowed_inside r m asks.0 steps.Join (take_is r (next_step r) asks.1)))).first
+
     saw : (o : Option (List Entry)) → (i c : ℕ) → i ≢ me r.replica → SawAlike r.replica (took_letter o r).replica i c
     saw None i c other = inl (refl, refl)
     saw (Some es) i c other = joined_saw r.replica es i c other
 
-    all : (o : Option (List Entry)) → IfSome o (All IsValidEntry) → AreValid (took_letter o r).replica
-    all None v = (kept.entries, kept.items)
-    all (Some es) v = (v, All-replicate IsShort (greatest r.replica.totals * r.replica.roster) Null tt)
+    sent : (o : Option (List Entry)) → IfSome o (Suits r.replica) → SentAlike r.replica (took_letter o r).replica
+    sent None s = inl (refl, λ j c. refl)
+    sent (Some es) s = joined_sent r.replica es (omega (arith, first, s.fits.later))
+
+    all : (o : Option (List Entry)) → IfSome o (Suits r.replica) → AreValid (took_letter o r).replica
+    all None s = (kept.entries, kept.items)
+    all (Some es) s = (s.valid, All-replicate IsShort (greatest r.replica.totals * r.replica.roster) Null tt)
 
 -- ---- the beginning
 
@@ -330,10 +357,16 @@ kept_begun s form valid = record {
   grown = λ i c inside other column. subst (λ x. HasGrown n c x
       (slice_index (replicate size 0) (word_index_of n s.shape.window 0 s.me i c))) (sym (none i c other))
       (grown_zero n c (slice_index (replicate size 0) (word_index_of n s.shape.window 0 s.me i c)));
+  sent = λ v j c later inside other column. copy_at size 0 (word_index_of n s.shape.window v j s.me c)
+      ∙ sym (never (v == 0) (begun_sent n (columns_of n s.shape.window) s.me j c));
   entries = valid;
   items = All-replicate IsShort (greatest s.totals * n) Null tt;
 }
   where
+    never : (b : Bool) {x : ℕ} → x ≡ 0 → (if b then x else 0) ≡ 0
+    never true zero = zero
+    never false zero = refl
+
     n : ℕ
     n = s.shape.members
 
@@ -363,41 +396,100 @@ due_valid r words what m kept due =
 -- ---- deeds that are done to a door
 
 kept_deed : (kind : Deed → Bool) → ((end : End) → kind (deeds.Rest end) ≡ false)
-    → ((index : ℕ) → kind (deeds.Look index) ≡ false) → (r : Running) (words : List ℕ) → IsRunningMember r
-    → IsKept r.replica words → kind (next_deed r) ≡ true → IsKept (after_step 0 r).replica words
-kept_deed kind rests looks r words m kept is =
+    → ((index : ℕ) → kind (deeds.Look index) ≡ false) → ((index word : ℕ) → kind (deeds.Push index word) ≡ false)
+    → (r : Running) (words : List ℕ) → IsRunningMember r → IsKept r.replica words → kind (next_deed r) ≡ true
+    → IsKept (after_step 0 r).replica words
+kept_deed kind rests looks pushes r words m kept is =
     let due = deed_due kind rests r is in
-    kept_step 0 r words m due.0 (plain (next_step r) due.1) kept
+    kept_step 0 r words m due.0 (plain (next_step r) due.1) (stays (next_step r) due.1) kept
   where
+    stays : (s : Step) → kind (deed_of r s) ≡ true → is_pushing s ≡ false
+    stays (steps.Push j c) e =
+        absurd (cc (pushes (index_in r.replica j (me r.replica) c) (own r.replica.rows c), e))
+    stays s e = refl
+
     plain : (s : Step) → kind (deed_of r s) ≡ true → is_looking s ≡ false
     plain (steps.Look i c) e = absurd (cc (looks (index_in r.replica (me r.replica) i c), e))
     plain s e = refl
 
 pub kept_append : (r : Running) (words : List ℕ) → IsRunningMember r → IsKept r.replica words
     → is_append (next_deed r) ≡ true → IsKept (after_step 0 r).replica words
-kept_append r words m kept is = kept_deed is_append (λ end. refl) (λ index. refl) r words m kept is
+kept_append r words m kept is = kept_deed is_append (λ end. refl) (λ index. refl) (λ index word. refl) r words m kept is
 
 pub kept_give : (r : Running) (words : List ℕ) → IsRunningMember r → IsKept r.replica words
     → is_give (next_deed r) ≡ true → IsKept (after_step 0 r).replica words
-kept_give r words m kept is = kept_deed is_give (λ end. refl) (λ index. refl) r words m kept is
+kept_give r words m kept is = kept_deed is_give (λ end. refl) (λ index. refl) (λ index word. refl) r words m kept is
 
 pub kept_act : (r : Running) (words : List ℕ) (index word : ℕ) → IsRunningMember r → IsKept r.replica words
     → next_deed r ≡ deeds.Act index word → IsKept (after_step 0 r).replica (slice_set words index word)
 kept_act r words index word m kept due =
     let q = r.replica in
+    let number = m.replica.number in
     let none = (deed_due is_act (λ end. refl) r (ap is_act due)).0 in
     let at = act_is r (next_step r) index word (sym (next_without_end r none) ∙ due) in
-    kept_deed is_act (λ end. refl) (λ i. refl) r (slice_set words index word) m
-    (kept_written q words index word m.replica.number kept (row_found q.roster q.window q.view (me q) (me q) 0 index
-    m.replica.number (omega arith) (sym at))) (ap is_act due)
+    let row = row_found q.roster q.window q.view (me q) (me q) 0 index number (omega arith) (sym at) in
+    let copy = copy_found q.roster q.window q.view (me q) (me q) 0 index number number (omega arith) (sym at) in
+    let written = kept_written q words index word number kept row in
+    kept_deed is_act (λ end. refl) (λ i. refl) (λ i w. refl) r (slice_set words index word) m (record {
+      whole = written.whole;
+      places = written.places;
+      grown = written.grown;
+      sent = sent_beside q words index word number copy kept.sent;
+      entries = kept.entries;
+      items = kept.items;
+    }) (ap is_act due)
+
+-- a push that is due
+pub record IsPushAt (r : Running) (index word : ℕ) : Type 0 where
+  pub none : r.replica.end ≡ None
+  pub to : ℕ
+  pub column : ℕ
+  pub step : next_step r ≡ steps.Push to column
+  pub place : index_in r.replica to (me r.replica) column ≡ index
+  pub own : own r.replica.rows column ≡ word
+  pub among : to < r.replica.roster
+  pub other : to ≢ me r.replica
+  pub within : column < columns_of r.replica.roster r.replica.window
+
+pub push_at : (r : Running) (index word : ℕ) → IsRunningMember r → next_deed r ≡ deeds.Push index word
+    → IsPushAt r index word
+push_at r index word m due =
+    let none = (deed_due is_push (λ end. refl) r (ap is_push due)).0 in
+    let at = push_is r (next_step r) index word (sym (next_without_end r none) ∙ due) in
+    let cell = is_cell r at.0 at.1 (allowed_inside r m none (steps.Push at.0 at.1) at.2) in
+    record {
+      none = none;
+      to = at.0;
+      column = at.1;
+      step = at.2;
+      place = at.3;
+      own = at.4;
+      among = cell.row;
+      other = apart r.replica at.0 cell.other;
+      within = cell.column;
+    }
 
 pub kept_push : (r : Running) (words : List ℕ) (index word : ℕ) → IsRunningMember r → IsKept r.replica words
     → next_deed r ≡ deeds.Push index word → IsKept (after_step 0 r).replica (slice_set words index word)
 kept_push r words index word m kept due =
     let q = r.replica in
-    let none = (deed_due is_push (λ end. refl) r (ap is_push due)).0 in
-    let at = push_is r (next_step r) index word (sym (next_without_end r none) ∙ due) in
-    let cell = is_cell r at.0 at.1 (allowed_inside r m none (steps.Push at.0 at.1) at.2) in
-    kept_deed is_push (λ end. refl) (λ i. refl) r (slice_set words index word) m
-    (kept_written q words index word m.replica.number kept (row_found q.roster q.window q.view at.0 (me q) at.1 index
-    m.replica.number cell.column (sym at.3))) (ap is_push due)
+    let at = push_at r index word m due in
+    let row = row_found q.roster q.window q.view at.to (me q) at.column index m.replica.number at.within (sym at.place) in
+    let written = kept_written q words index word m.replica.number kept row in
+    let inside : index_in q at.to (me q) at.column < length words = omega (
+      arith,
+      kept.whole,
+      word_index_within q.roster q.window q.banks q.view at.to (me q) at.column m.replica.bank at.among
+          m.replica.number at.within,
+    ) in
+    subst (λ x. IsKept x (slice_set words index word))
+    (sym (ap (λ (x : Running). x.replica) (settled_same 0 r) ∙ ap (stepped 0 q) at.step)) (record {
+      whole = written.whole;
+      places = written.places;
+      grown = written.grown;
+      sent = subst (λ ws. HaveSent q.roster q.window (me q) q.view (pushed q at.to at.column).rows ws)
+          (λ z. slice_set words (at.place z) (at.own z))
+          (sent_pushed q words at.to at.column m.replica at.among at.within inside kept.sent);
+      entries = kept.entries;
+      items = kept.items;
+    })

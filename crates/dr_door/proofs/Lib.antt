@@ -1,8 +1,10 @@
 pub mod Deeds
 pub mod Others
 pub mod Entries
+pub mod Pushed
 pub mod Kept
 pub mod Again
+pub mod Rows
 pub mod Places
 pub mod Copies
 pub mod Apart

@@ -7,14 +7,10 @@ use Rattle.dr_program.proofs.Present.{present_set, present_within, set_itself}
 use Rattle.dr_door.specs.Apart.{Apart, ApartStep, ApartWay, IsRanApart, with_door}
 use Rattle.dr_door.{specs.Lone.{Leads, LeadsBy, Lone, done_alone, goes_on, is_alone}, proofs.Deeds.beat_alone}
 
--- so many deeds lead on, and one more
+-- so many deeds lead on
 pub leads_on : (n : ℕ) (d x e : Lone) → LeadsBy n d x → Leads x e → Leads d e
 leads_on zero d x e same more = subst (λ y. Leads y e) (sym same) more
 leads_on (suc n) d x e by more = let on = leads_on n (done_alone d) x e by.1 more in (suc on.0, (by.0, on.1), on.2)
-
-pub leads_more : (n : ℕ) (d x : Lone) → LeadsBy n d x → goes_on x ≡ true → LeadsBy (suc n) d (done_alone x)
-leads_more zero d x same goes = (subst (λ y. goes_on y ≡ true) (sym same) goes, ap done_alone same)
-leads_more (suc n) d x by goes = (by.0, leads_more n (done_alone d) x by.1 goes)
 
 -- a deed that concerns nobody else
 alone_step : (a : Apart) (m : ℕ) (d : Lone) → present_at a.doors m ≡ Some d

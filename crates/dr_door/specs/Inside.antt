@@ -1,9 +1,9 @@
 -- How the fields of `Door` hold what contracts see of it, and what always holds between its member and its words.
-use Rattle.std.specs.Prelude.{◌≡◌, ◌≢◌, ⊤, ℕ, ◌%◌, ◌<◌, ◌≤◌, All, List, length, slice_index}
+use Rattle.std.specs.Prelude.{◌≡◌, ◌≢◌, ⊤, ℕ, ◌%◌, ◌<◌, ◌≤◌, ◌==◌, if◌then◌else◌, All, List, length, slice_index}
 use Rattle.dr_entry.specs.{Spelling.IsValidEntry, declared.entry.Item.{Item, TheVariants.{Null, Text}}}
 use Rattle.dr_entry.specs.declared.limits.TheConstants.{MAX_MESSAGE_LENGTH}
 use Rattle.dr_program.specs.{Form.IsRunningMember, Replica.{Replica, me}}
-use Rattle.dr_rows.specs.Words.{Words, seen}
+use Rattle.dr_rows.specs.Words.{Words, last_pushed, seen}
 use Rattle.dr_words.specs.{Columns.columns_of, Form.IsInForm, Grown.HasGrown, Layout.{word_index_of, words_of}}
 use Rattle.dr_door.specs.{Coming.{copy_of, row_in}, Lone.Lone, declared.door.Door.TheInside.Inside}
 
@@ -24,6 +24,12 @@ HaveGrown members window m view rows words =
     (i c : ℕ) → i < members → i ≢ m → c < columns_of members window
     → HasGrown members c (seen rows i c) (slice_index words (word_index_of members window view m i c))
 
+-- in its own row of others' copies stand the words that it pushed last, in its view, and nothing yet in later ones
+abbrev pub HaveSent : ℕ → ℕ → ℕ → ℕ → Words → List ℕ → Type 0
+HaveSent members window m view rows words =
+    (v j c : ℕ) → view ≤ v → j < members → j ≢ m → c < columns_of members window
+    → slice_index words (word_index_of members window v j m c) ≡ (if v == view then last_pushed rows j c else 0)
+
 -- the item is of a length that a message may have
 abbrev pub IsShort : Item → Type 0
 IsShort Null = ⊤
@@ -34,6 +40,7 @@ pub record IsKept (r : Replica) (words : List ℕ) : Type 0 where
   pub whole : length words ≡ words_of r.roster r.window r.banks
   pub places : AreInPlace r.roster r.window (me r) words
   pub grown : HaveGrown r.roster r.window (me r) r.view r.rows words
+  pub sent : HaveSent r.roster r.window (me r) r.view r.rows words
   pub entries : All IsValidEntry r.history
   pub items : All IsShort r.items
 

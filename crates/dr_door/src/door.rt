@@ -1,9 +1,9 @@
 ghost use Rattle.std.specs.Prelude.{◌≡◌, ◌↔◌, ℕ, ◌<◌, ◌≤◌, ◌≢◌, nat_lt, length, IfErr, IfOk, IfSome, IsTrue, OnErr, OnOk, None, Some, false, option_map, slice_index, true};
 ghost use Rattle.dr_door.specs.{Coming.{came_to, refusal}, Inside.IsKept, Letters.{IsNotTaken, Suits}, Sending.IsLastSent};
-ghost use Rattle.dr_door.specs.Lone.{Leads, LeadsBy, after_asking, done_alone, due_of, failed, goes_on, is_alone, pushed_on, went_on};
+ghost use Rattle.dr_door.specs.Lone.{Leads, LeadsBy, after_asking, done_alone, due_of, failed, goes_on, pushed_on, went_on};
 ghost use Rattle.dr_entry.specs.{Spelling.IsValid, declared.record.Record.Record};
 ghost use Rattle.dr_history.specs.History.{up_to_view};
-ghost use Rattle.dr_member.specs.Deeds.{IsWithin, is_append, is_before_turn, is_give, is_push, is_take, table_size};
+ghost use Rattle.dr_member.specs.Deeds.{IsWithin, is_act, is_append, is_before_turn, is_give, is_look, is_push, is_take, table_size};
 ghost use Rattle.dr_program.specs.declared.deed.Deed.TheVariants as deeds;
 ghost use Rattle.dr_program.specs.{Form.IsRunningMember, Replica.me, Running.next_deed};
 ghost use Rattle.dr_turn.specs.Work.{deeds_left};
@@ -77,26 +77,14 @@ impl Door {
         !self.member.at_beat() && matches!(self.member.next(), Deed::Look(_) | Deed::Act(..))
     }
 
-    /// Does its next deed, which concerns nobody else and begins no turn, and with a look the looks behind it.
+    /// Does its next deed, which concerns nobody else and begins no turn, and with a look those of the row behind it.
     fn go_on(&mut self)
         requires { goes_on self.old ≡ true }
         ensures led { (n : ℕ) × LeadsBy n self.old self.new }
         ensures falls { deeds_left self.new.member < deeds_left self.old.member }
     {
-        self.alone();
-        while let Deed::Look(index) = self.next() {
-            self.look(index);
-        }
-    }
-
-    /// Does its next deed, which concerns nobody else.
-    fn alone(&mut self)
-        requires { is_alone (next_deed self.old.member) ≡ true }
-        ensures after { self.new ≡ done_alone self.old }
-        ensures falls { deeds_left self.new.member < deeds_left self.old.member }
-    {
         match self.next() {
-            Deed::Look(index) => self.look(index),
+            Deed::Look(_) => self.look_row(),
             Deed::Act(index, word) => self.act(index, word),
             _ => {}
         }
@@ -121,15 +109,13 @@ impl Door {
         Some(self.member.next())
     }
 
-    /// Looks at the word of this index.
-    fn look(&mut self, index: usize)
-        requires due { next_deed self.old.member ≡ deeds.Look index }
-        requires within { index < table_size self.old.member }
-        ensures goes { goes_on self.old ≡ true }
-        ensures after { self.new ≡ done_alone self.old }
+    /// Takes its look, and those of the row behind it: one deed after the other, over words that stay as they are.
+    fn look_row(&mut self)
+        requires { is_look (next_deed self.old.member) ≡ true }
+        ensures led { (n : ℕ) × LeadsBy n self.old self.new }
         ensures falls { deeds_left self.new.member < deeds_left self.old.member }
     {
-        self.member.looked(self.words[index]);
+        self.member.look_alone(self.words.as_slice());
     }
 
     /// Does an act, which stores this word at this index.
@@ -155,8 +141,19 @@ impl Door {
         if !self.at_turn() {
             return Err(NotDue);
         }
-        self.alone();
+        self.begin();
         Ok(())
+    }
+
+    /// Does the act with which a turn begins.
+    fn begin(&mut self)
+        requires { is_act (next_deed self.old.member) ≡ true }
+        ensures { self.new ≡ done_alone self.old }
+    {
+        match self.next() {
+            Deed::Act(index, word) => self.act(index, word),
+            _ => {}
+        }
     }
 
     /// Whether it stands before a turn.

@@ -18,27 +18,45 @@ use dr_restart::Start;
 use dr_script::read_script;
 use std::alloc::Global;
 
+/// The script and the logs of the lines so far.
+#[derive(Drop)]
+struct Case {
+    script: String,
+    logs: Vec<String>,
+}
+
 /// Prints what becomes of these lines.
 pub(crate) fn show(rt: &HostRuntime, lines: &str) -> anyhow::Result<()> {
     let alloc = rt.alloc();
-    let mut script = String::new(alloc);
-    let mut logs = Vec::new(alloc);
+    let mut case = Case {
+        script: String::new(alloc),
+        logs: Vec::new(alloc),
+    };
     for line in lines.lines() {
         println!(rt; "{line}")?;
+        case.take(rt, line)?;
+    }
+    Ok(())
+}
+
+impl Case {
+    /// Takes a line, and prints what it chooses or copies.
+    fn take(&mut self, rt: &HostRuntime, line: &str) -> anyhow::Result<()> {
+        let alloc = rt.alloc();
         if line.starts_with('{') {
-            script = String::from_str(alloc, line)?;
-            logs.clear();
+            self.script = String::from_str(alloc, line)?;
+            self.logs.clear();
         } else if let Some(log) = line.strip_prefix("log ") {
-            logs.push(String::from_str(alloc, log)?)?;
+            self.logs.push(String::from_str(alloc, log)?)?;
         } else if let Some(missing) = line.strip_prefix("choose") {
-            let said = chosen(alloc, script.as_str(), logs.as_slice(), missing)?;
+            let said = chosen(alloc, self.script.as_str(), self.logs.as_slice(), missing)?;
             println!(rt; "{said}")?;
         } else if let Some(masks) = line.strip_prefix("copy ") {
             let said = copied(alloc, masks)?;
             println!(rt; "{said}")?;
         }
+        Ok(())
     }
-    Ok(())
 }
 
 /// The copy of a start of these members, of whom those behind the blank take part.

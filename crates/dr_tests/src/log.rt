@@ -12,7 +12,7 @@ mod steps;
 use crate::log::steps::done_on;
 use anyhow::anyhow;
 use dr_disk::{Disk, MemoryDisk};
-use std::alloc::Global;
+use std::alloc::{AllocError, Global};
 use std::fmt::Write;
 
 /// Prints what becomes of these lines.
@@ -37,24 +37,13 @@ fn told_of(alloc: Global, line: &str) -> anyhow::Result<String> {
     let _name = words.next();
     let limit = number(words.next()).unwrap_or(0);
     let fails = number(words.next()).unwrap_or(0);
-    let disk = MemoryDisk::new(alloc, &[fails], number(words.next()))?;
+    let stops = number(words.next());
     let crash = number(words.next());
-    let bytes = hex::decode(alloc, words.next().unwrap_or("").trim_start_matches('-'))?;
+    let disk = disk_with(alloc, fails, stops, words.next().unwrap_or(""))?;
     let mut told = String::new(alloc);
-    let disk = done_on(
-        alloc,
-        filled(disk, bytes.as_slice())?,
-        limit,
-        words,
-        &mut told,
-    )?;
-    let disk = match crash {
-        Some(byte) => disk.crashed(alloc, byte.to_le_bytes()[0])?,
-        None => disk,
-    };
-    let bytes = disk.bytes();
-    let bytes = hex::encode(alloc, bytes.get(..80).unwrap_or(bytes))?;
-    write!(told, "\n  {bytes}")?;
+    let disk = done_on(alloc, disk, limit, words, &mut told)?;
+    let disk = crashed(alloc, disk, crash)?;
+    push_bytes(&mut told, disk.bytes())?;
     let _disk = done_on(alloc, disk, limit, "".split_whitespace(), &mut told)?;
     Ok(told)
 }
@@ -64,14 +53,37 @@ fn number(word: Option<&str>) -> Option<u64> {
     word?.parse().ok()
 }
 
-/// An empty disk with these bytes on it.
-fn filled(disk: MemoryDisk, bytes: &[u8]) -> anyhow::Result<MemoryDisk> {
-    let mut disk = disk;
+/// A disk with the bytes of a word on it, whose call `fails` fails, and which stops behind so many calls.
+fn disk_with(
+    alloc: Global,
+    fails: u64,
+    stops: Option<u64>,
+    word: &str,
+) -> anyhow::Result<MemoryDisk> {
+    let bytes = hex::decode(alloc, word.trim_start_matches('-'))?;
+    let mut disk = MemoryDisk::new(alloc, &[fails], stops)?;
     if !bytes.is_empty() {
         disk.reserve(2, bytes.len() as u64)?;
-        if disk.write_at(0, bytes).is_err() || disk.sync().is_err() {
+        if disk.write_at(0, bytes.as_slice()).is_err() || disk.sync().is_err() {
             return Err(anyhow!("the disk failed before"));
         }
     }
     Ok(disk)
+}
+
+/// A disk behind a crash, where there is one, that leaves this byte of all that isn't safe.
+fn crashed(alloc: Global, disk: MemoryDisk, byte: Option<u64>) -> Result<MemoryDisk, AllocError> {
+    match byte {
+        Some(byte) => disk.crashed(alloc, byte.to_le_bytes()[0]),
+        None => Ok(disk),
+    }
+}
+
+/// Appends the first bytes of a disk, in hexadecimal.
+fn push_bytes(out: &mut String, bytes: &[u8]) -> Result<(), AllocError> {
+    out.push_str("\n  ")?;
+    for byte in bytes.iter().take(80) {
+        write!(out, "{byte:02x}")?;
+    }
+    Ok(())
 }

@@ -13,7 +13,7 @@ invariant_of-self c =
       form = c.self.invariant.form;
       kept = subst (λ w. IsKept c.self.inside.member.replica (slice_set words c.args.index w)) (sym (c.max.ensures
           ∙ ap (λ w. max w c.args.word) (found words c.args.index c.index-stands.result.now within c.index-stands.ensures)))
-          (kept_coming (door_inside c.self.inside) c.args.index c.args.word c.self.invariant.kept within
+          (kept_coming (door_inside c.self.inside) c.args.index c.args.word c.self.invariant.form.replica c.self.invariant.kept within
           (ap (λ (d : Lone). refusal d c.args.index c.args.word) c.self.view_is ∙ sym c.judge.ensures.why
           ∙ c.in_default.is));
     }
