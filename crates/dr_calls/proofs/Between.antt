@@ -1,6 +1,7 @@
 -- What comes of a log between two votes of its member.
 use Rattle.std.proofs.Common.{◌≡◌, refl, ap, sym, ◌∙◌, ◌⊎◌, inl, inr, subst, ℕ, ◌+◌, ◌<◌, ◌≤◌, arith, true, List, [], ◌∷◌, Contains, None, Some, slice_index, ⊎_elim}
-use Rattle.std.proofs.lemmas.{Bool.cases_eq, List.Elements.{Contains-append_left, Contains-push, Contains-push_cases}, Option.{none-some, same_Some}}
+use Rattle.std.proofs.lemmas.{Bool.cases_eq, List.Elements.{Contains-append_left, Contains-push, Contains-push_cases}}
+use Rattle.std.proofs.lemmas.Option.{none-some, same_Some}
 use Rattle.dr_entry.specs.declared.record.AgeVote.{AgeVote}
 use Rattle.dr_history.specs.{Members.has, declared.opening.Opening.Opening}
 use Rattle.dr_restart.specs.{Choosing.{IsChosenStart, of_set}, Trying.{MayBeBroughtUp, age_vote_of}}
@@ -93,11 +94,9 @@ tries-at w next m p comes none k v e = by (cases_eq k m)
 quiet : (o : Opening) (begun w next : Wire) → Keeps o begun w → Holds o next → SameLists w next
     → next.votes ≡ w.votes → ((g : Given) → Contains w.given g → Contains next.given g)
     → ((g h : Given) → Contains next.given g → Contains next.given h → g.member ≡ h.member → g.long ≡ h.long
-    → g.lists ≡ h.lists)
-    → ((k : ℕ) (v : Voted) → (next.places k).tries ≡ Some v → (w.places k).tries ≡ Some v)
+    → g.lists ≡ h.lists) → ((k : ℕ) (v : Voted) → (next.places k).tries ≡ Some v → (w.places k).tries ≡ Some v)
     → ((c : Called) → Contains w.ages c → Contains next.ages c)
-    → ((c : Called) → Contains next.ages c → IsOpened next c)
-    → Keeps o begun next
+    → ((c : Called) → Contains next.ages c → IsOpened next c) → Keeps o begun next
 quiet o begun w next k h same votes more one tries ages opens = record {
   holds = h;
   cast = λ v c. cast-more o w next v more (k.cast v (old v c));
@@ -394,11 +393,7 @@ runs o begun w next k h s = gets o begun w next k h (record {
   place = _;
   still = refl;
   comes = s.comes;
-  behind = λ b. record {
-    keeps = λ x c. s.keeps x (b.keeps x c);
-    voted = s.keeps _ b.voted;
-    how = inl s.runs;
-  };
+  behind = λ b. record { keeps = λ x c. s.keeps x (b.keeps x c); voted = s.keeps _ b.voted; how = inl s.runs };
   given = s.given;
   votes = s.votes;
   ages = s.ages;

@@ -4,23 +4,21 @@ use Rattle.std.proofs.Common.{◌≡◌, refl, ap, sym, ◌∙◌, ◌⊎◌, in
 use Rattle.std.proofs.{Math.Path.fun_ext, lemmas.Bool.{cases_eq, ltb-true}}
 use Rattle.dr_entry.specs.{declared.entry.Entry.{Entry, TheVariants.View}, declared.record.AgeVote.AgeVote}
 use Rattle.dr_entry.proofs.ListParts.{in-cases}
-use Rattle.dr_history.specs.{History.IsPrefixOf, Members.has, Restarting.AllStand, Soundness.whole_roster, declared.opening.Opening.Opening}
-use Rattle.dr_history.proofs.Bits.{has_ones}
+use Rattle.dr_history.specs.{History.IsPrefixOf, Members.has, Restarting.AllStand, Soundness.whole_roster}
+use Rattle.dr_history.{specs.declared.opening.Opening.Opening, proofs.Bits.has_ones}
 use Rattle.dr_machine.specs.{Group.{IsGroup, IsPresent}, World.World}
-use Rattle.dr_restart.specs.{Choosing.{IsChosenStart, of_set}, Groups.{first_group_of, group_of}}
-use Rattle.dr_restart.specs.Left.{AreLeft, IsLeftByMember, IsLeftByOther}
-use Rattle.dr_restart.specs.Trying.{IsTry, MayBeBroughtUp, age_vote_of}
-use Rattle.dr_restart.specs.declared.lists.{Attempt.Attempt, LogLists.LogLists}
+use Rattle.dr_restart.{specs.Choosing.{IsChosenStart, of_set}, proofs.Handing.{handed-has, log-of_set, set-log}}
+use Rattle.dr_restart.specs.{Groups.{first_group_of, group_of}, Trying.{IsTry, MayBeBroughtUp, age_vote_of}}
+use Rattle.dr_restart.specs.{Left.{AreLeft, IsLeftByMember, IsLeftByOther}, declared.lists.LogLists.LogLists}
+use Rattle.dr_restart.{specs.declared.lists.Attempt.Attempt, proofs.{Refusals.one-start, Sounding.choice-group}}
 use Rattle.dr_script.specs.{Ranges.HasGroupRanges, declared.script.Script.Script}
 use Rattle.dr_quorum_laws.specs.{Lasting.{AreDurableIn, AreLasting}, Voting.{HasMoreAgeVotes, HaveMoreAgeVotes}}
 use Rattle.dr_quorum_laws.proofs.Lasting.{last-kept, last-others, last-tried, since-age, start-durable}
 use Rattle.dr_quorum_laws.proofs.Voting.{lasting-more}
 use Rattle.dr_words.specs.Masks.{IsMajorityOf}
-use Rattle.dr_restart.proofs.{Handing.{handed-has, log-of_set, set-log}, Refusals.one-start, Sounding.choice-group}
 use Rattle.dr_calls.specs.Wire.{HasCome, HaveCome, IsOpened, IsRunSince, Voted, Wire, lists_below, logs_in, moment}
-use Rattle.dr_calls.proofs.Between.{IsBehind, Keeps, WasCast, keeps}
+use Rattle.dr_calls.proofs.{Between.{IsBehind, Keeps, WasCast, keeps}, Ordered.{Holds, ordered}}
 use Rattle.dr_calls.proofs.Moments.{at-age, at-next, at-none, at-lists, find, length-lists, lists-at, same-at, same-lists}
-use Rattle.dr_calls.proofs.Ordered.{Holds, ordered}
 
 -- ---- what calls were made of
 
@@ -34,8 +32,7 @@ log-there : (o : Opening) (w : Wire) (v : Voted) → WasCast o w v → (m : ℕ)
 log-there o w v c m inside =
     let t = handed-has (of_set v.logs v.call.set) (whole_roster o) m
     (subst (λ set. has set m ≡ true) (sym c.present ∙ c.chosen.present) inside) in
-    let s = set-log v.logs v.call.set m t.1 t.2 in
-    (t.1, record { there = t.2; given = c.given m t.1 inside s.1 })
+    let s = set-log v.logs v.call.set m t.1 t.2 in (t.1, record { there = t.2; given = c.given m t.1 inside s.1 })
 
 -- two votes for one call are of the same logs
 same-logs : (o : Opening) (begun w : Wire) → Keeps o begun w → (u v : Voted) → Contains w.votes u
@@ -55,8 +52,7 @@ same-logs o begun w k u v cu cv e = fun_ext λ m. by m (has u.call.set m) refl
 -- and for the same start
 same-start : (o : Opening) (begun w : Wire) → Keeps o begun w → (u v : Voted) → Contains w.votes u
     → Contains w.votes v → u.call ≡ v.call → u.start ≡ v.start
-same-start o begun w k u v cu cv e =
-    one-start o (of_set v.logs v.call.set) u.start v.start
+same-start o begun w k u v cu cv e = one-start o (of_set v.logs v.call.set) u.start v.start
     (subst (λ h. IsChosenStart o h u.start) (same-logs o begun w k u v cu cv e) (k.cast u cu).chosen)
     (k.cast v cv).chosen
     ∙ ap (λ n. record { age = v.start.age; members = n; present = v.start.present; entries = v.start.entries })
@@ -165,8 +161,7 @@ record IsCall (o : Opening) (begun w : Wire) (a : ℕ) (v : Voted) : Type 0 wher
 crosses-in : (o : Opening) (begun w : Wire) (a : ℕ) (v : Voted) → IsCall o begun w a v → (m : ℕ)
     → has v.call.set m ≡ true → (u : Voted) × Crosses w a m u × (u.call ≡ v.call)
 crosses-in o begun w a v c m inside =
-    let t = c.opened m inside in
-    (t.0, crosses o begun w c.keeps a m t.0 t.1 t.2 (ap (λ x. x.age) t.3 ∙ c.age), t.3)
+    let t = c.opened m inside in (t.0, crosses o begun w c.keeps a m t.0 t.1 t.2 (ap (λ x. x.age) t.3 ∙ c.age), t.3)
 
 -- its log was as in the call
 was-given : (o : Opening) (begun w : Wire) (a : ℕ) (v : Voted) → IsCall o begun w a v → (m : ℕ)
@@ -252,8 +247,7 @@ is-try o begun w a v c rests = record {
       (after-out w a v m (subst (λ set. has set m ≡ false) cast.present out));
   votes = λ m old new was is.
       let p = lists-at (moment w a) n m old was in
-      let q = lists-at (after w a v) n m new is in
-      votes m old new p.0 p.1 q.1 (has v.call.set m) refl;
+      let q = lists-at (after w a v) n m new is in votes m old new p.0 p.1 q.1 (has v.call.set m) refl;
   opened = λ _ m log is.
       let inside = subst (λ set. has set m ≡ true) cast.present is.0 in
       let q = lists-at (after w a v) n m log is.1 in
@@ -337,15 +331,13 @@ group-at script begun w a v ranges c = choice-group script
 majority-at : (script : Script) (begun w : Wire) (a : ℕ) (v : Voted)
     → IsCall (first_group_of script).opening begun w a v
     → IsMajorityOf v.start.present (whole_roster (group_of script v.start).opening)
-majority-at script begun w a v c =
-    subst (λ set. IsMajorityOf set (whole_roster (group_of script v.start).opening))
+majority-at script begun w a v c = subst (λ set. IsMajorityOf set (whole_roster (group_of script v.start).opening))
     (sym (c.keeps.cast v c.vote).present) (c.keeps.holds.right v c.vote).majority
 
 -- it leaves these logs
 left-by : (script : Script) (es : List Entry) (begun w : Wire) (a : ℕ) (v : Voted) (world : World)
     → IsCall (first_group_of script).opening begun w a v → HasCome script w v world
-    → AreLasting script es (lists_below (moment w a) (length script.messages))
-    → ((m : ℕ) → Rests w a m ⊎ Ran w a m)
+    → AreLasting script es (lists_below (moment w a) (length script.messages)) → ((m : ℕ) → Rests w a m ⊎ Ran w a m)
     → AreLeft (group_of script v.start) world (lists_below (moment w (a + 1)) (length script.messages))
 left-by script es begun w a v world c come lasts each = record {
   all = length-lists (moment w (a + 1)) (length script.messages);
@@ -526,6 +518,5 @@ durable script es more begun w v u world ranges run have first c d come is e p l
         (λ m. moves (first_group_of script).opening begun w k v.call.age m) is
 
     later : AreLasting script more (lists_below (moment w u.call.age) (length script.messages))
-    later = subst (λ i. AreLasting script more (lists_below (moment w i) (length script.messages)))
-        (omega (arith, l))
+    later = subst (λ i. AreLasting script more (lists_below (moment w i) (length script.messages))) (omega (arith, l))
         (from-age script more begun w ranges have k (v.call.age + 1) (u.call.age - (v.call.age + 1)) behind)

@@ -1,8 +1,9 @@
 -- What stood on the log of a member before its first vote for an age from a on, or stands there now.
 use Rattle.std.proofs.Common.{◌≡◌, refl, ap, sym, ◌∙◌, ◌⊎◌, inl, inr, subst, ℕ, zero, suc, ◌+◌, ◌<◌, ◌≤◌, ◌==◌, ◌&&◌, nat_le, if◌then◌else◌, arith, List, [], ◌∷◌, ◌++◌, length, Contains, Option, None, Some, slice_get, length-append, ⊎_elim}
-use Rattle.std.proofs.lemmas.{Bool.{cases_eq, cases_lt, eq-eqb, le-leb, lt-leb, ne_eqb}, List.Elements.Contains-push_cases, Option.none-some}
-use Rattle.dr_entry.proofs.BoolFacts.{first_fails, second_fails, together}
-use Rattle.dr_entry.proofs.{ListParts.in-cases, ListPlaces.{slice_get-left, slice_get-push_cases, slice_get-seam}}
+use Rattle.std.proofs.lemmas.Bool.{cases_eq, cases_lt, eq-eqb, le-leb, lt-leb, ne_eqb}
+use Rattle.std.proofs.lemmas.{List.Elements.Contains-push_cases, Option.none-some}
+use Rattle.dr_entry.proofs.{BoolFacts.{first_fails, second_fails, together}, ListParts.in-cases}
+use Rattle.dr_entry.proofs.ListPlaces.{slice_get-left, slice_get-push_cases, slice_get-seam}
 use Rattle.dr_restart.specs.declared.lists.LogLists.{LogLists}
 use Rattle.dr_calls.specs.Wire.{Voted, lists_below, stood}
 
@@ -27,8 +28,7 @@ pub at-none : (vs : List Voted) (a m : ℕ) (now : LogLists)
     → ((v : Voted) → Contains vs v → v.member ≡ m → v.call.age < a) → stood vs a m now ≡ now
 unfolding stood
 at-none [] a m now none = refl
-at-none (v ∷ vs) a m now none =
-    miss v a m v.before (stood vs a m now) (none v (0, omega arith, refl))
+at-none (v ∷ vs) a m now none = miss v a m v.before (stood vs a m now) (none v (0, omega arith, refl))
     ∙ at-none vs a m now (λ u c. none u (suc c.0, omega (arith, c.1), c.2))
 
 -- with one it doesn't matter what does
@@ -43,8 +43,7 @@ at-some (u ∷ vs) a m v c e l x y = by (in-cases u v vs c) (λ d. at-some vs a 
     by (inl same) rest =
         let f = subst (λ t. t.member ≡ m) (sym same) e in
         let g = subst (λ t. a ≤ t.call.age) (sym same) l in
-        hit u a m u.before (stood vs a m x) f g
-        ∙ sym (hit u a m u.before (stood vs a m y) f g)
+        hit u a m u.before (stood vs a m x) f g ∙ sym (hit u a m u.before (stood vs a m y) f g)
     by (inr d) rest = ap (λ l. if u.member == m && nat_le a u.call.age then u.before else l) (rest d)
 
 -- one vote more
@@ -89,11 +88,9 @@ at-age [] a m v now s c e f = absurd (omega (arith, c.1))
 at-age (u ∷ vs) a m v now s c e f = by (in-cases u v vs c) (λ d. at-age vs a m v now s.1 d e f)
   where
     by : (u ≡ v) ⊎ Contains vs v → (Contains vs v → stood vs a m now ≡ v.before) → stood (u ∷ vs) a m now ≡ v.before
-    by (inl same) rest = hit u a m u.before (stood vs a m now)
-        (subst (λ t. t.member ≡ m) (sym same) e)
+    by (inl same) rest = hit u a m u.before (stood vs a m now) (subst (λ t. t.member ≡ m) (sym same) e)
         (omega (arith, subst (λ t. t.call.age ≡ a) (sym same) f)) ∙ ap (λ t. t.before) same
-    by (inr d) rest = miss u a m u.before (stood vs a m now)
-        (λ g. omega (arith, s.0 v d (e ∙ sym g), f)) ∙ rest d
+    by (inr d) rest = miss u a m u.before (stood vs a m now) (λ g. omega (arith, s.0 v d (e ∙ sym g), f)) ∙ rest d
 
 -- a member has a vote for this age, or none
 pub find : (vs : List Voted) (a m : ℕ) → ((v : Voted) × Contains vs v × (v.member ≡ m) × (v.call.age ≡ a))
@@ -129,16 +126,14 @@ at-next (v ∷ vs) a m now none = by (cases_eq v.member m) (cases_lt v.call.age 
     out : stood vs a m now ≡ stood vs (a + 1) m now → (v.member ≡ m → v.call.age < a)
         → stood (v ∷ vs) a m now ≡ stood (v ∷ vs) (a + 1) m now
     out rest n = miss v a m v.before (stood vs a m now) n ∙ rest
-        ∙ sym (miss v (a + 1) m v.before (stood vs (a + 1) m now)
-        (λ e. omega (arith, n e)))
+        ∙ sym (miss v (a + 1) m v.before (stood vs (a + 1) m now) (λ e. omega (arith, n e)))
 
     by : (v.member ≡ m) ⊎ (v.member ≡ m → ⊥) → (v.call.age < a) ⊎ (a ≤ v.call.age)
         → stood vs a m now ≡ stood vs (a + 1) m now → stood (v ∷ vs) a m now ≡ stood (v ∷ vs) (a + 1) m now
     by (inl e) (inr l) rest =
         let n = none v (0, omega arith, refl) e in
         let above : a + 1 ≤ v.call.age = more (cases_eq v.call.age a) n in
-        hit v a m v.before (stood vs a m now) e l
-        ∙ sym (hit v (a + 1) m v.before (stood vs (a + 1) m now) e above)
+        hit v a m v.before (stood vs a m now) e l ∙ sym (hit v (a + 1) m v.before (stood vs (a + 1) m now) e above)
       where
         more : (v.call.age ≡ a) ⊎ (v.call.age ≡ a → ⊥) → (v.call.age ≡ a → ⊥) → a + 1 ≤ v.call.age
         more (inl f) n = absurd (n f)

@@ -3,11 +3,9 @@ use Rattle.std.proofs.Common.{◌≡◌, refl, ap, sym, ◌∙◌, ◌⊎◌, in
 use Rattle.std.proofs.lemmas.{Bool.cases_eq, List.Elements.{Contains-push, Contains-push_cases, Contains-append_left}}
 use Rattle.dr_entry.specs.declared.record.AgeVote.{AgeVote}
 use Rattle.dr_history.specs.{Members.has, Soundness.whole_roster, declared.opening.Opening.Opening}
-use Rattle.dr_restart.specs.Choosing.{HasAge, of_set}
-use Rattle.dr_restart.specs.Trying.{age_vote_of}
-use Rattle.dr_restart.specs.declared.lists.LogLists.{LogLists}
-use Rattle.dr_words.{specs.Masks.{IsMajorityOf, IsPartOf}, proofs.Majorities.majorities_meet_lem}
+use Rattle.dr_restart.specs.{Choosing.{HasAge, of_set}, Trying.age_vote_of, declared.lists.LogLists.LogLists}
 use Rattle.dr_restart.proofs.Handing.{handed-has, handed-part, set-log}
+use Rattle.dr_words.{specs.Masks.{IsMajorityOf, IsPartOf}, proofs.Majorities.majorities_meet_lem}
 use Rattle.dr_calls.specs.Wire.{Begins, Called, ComesTo, Given, HandsIn, IsNew, IsOpened, IsRunSince, Leaves, Place, Rises, Runs, Voted, Votes, Wire, WireStep, WireWay, vote_of}
 
 -- a log that was handed in is no longer than it is now, and where it is as long it is the same
@@ -47,10 +45,7 @@ pub of-grown : (p q : Place) (g : Given) → HasGrown p q → IsOf p g → IsOf 
 of-grown p q g grown is = by grown.longer
   where
     by : (p.long < q.long) ⊎ ((p.long ≡ q.long) × (p.lists ≡ q.lists)) → IsOf q g
-    by (inl l) = record {
-      below = omega (arith, is.below, l);
-      same = λ e. absurd (omega (arith, is.below, l, e));
-    }
+    by (inl l) = record { below = omega (arith, is.below, l); same = λ e. absurd (omega (arith, is.below, l, e)) }
     by (inr (e, f)) = record { below = omega (arith, is.below, e); same = λ s. is.same (s ∙ sym e) ∙ f }
 
 -- so it is of all places, where one came to another
@@ -128,15 +123,7 @@ pub record IsOwnLog (o : Opening) (w next : Wire) (s : Votes o w next) (log : Lo
 
 pub own-log : (o : Opening) (w next : Wire) → Holds o w → (s : Votes o w next)
     → (log : LogLists) × IsOwnLog o w next s log
-own-log o w next h s = (
-  own.0,
-  record {
-    there = own.1;
-    at = at.1;
-    given = given;
-    now = (h.given _ given).same s.own;
-  },
-)
+own-log o w next h s = (own.0, record { there = own.1; at = at.1; given = given; now = (h.given _ given).same s.own })
   where
     own : (log : LogLists) × (of_set s.logs s.call.set s.member ≡ Some log)
     own =

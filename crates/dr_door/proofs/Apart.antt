@@ -8,12 +8,11 @@ use Rattle.dr_play.proofs.Deeds.{deed_tells, acts, appends, fails, gives, looks,
 use Rattle.dr_entry.specs.{Spelling.IsValidEntry, declared.entry.Entry.Entry}
 use Rattle.dr_machine.{specs.{Group.{Group, IsGroup, roster}, Run.PastGrew}, proofs.Groups.{IsPlace, place_in}}
 use Rattle.dr_machine.proofs.Worlds.{past_on, past_same}
-use Rattle.dr_history.specs.{Agreement.EndsAgreed, History.up_to_view}
-use Rattle.dr_program.specs.{Presence.{present_at, with_present}, declared.{deed.Deed.Deed, setup.Setup.Setup}}
-use Rattle.dr_program.specs.{Program.{Program, begun_program, end_at}, Reading.world}
-use Rattle.dr_program.specs.{Running.{after_step, begun_running, deed, next_deed, next_step}}
-use Rattle.dr_program.{specs.declared.packet.Packet.Packet, proofs.RunningPrograms.{act_is, with_member}}
-use Rattle.dr_program.proofs.Copies.{IsToOther}
+use Rattle.dr_history.{specs.{Agreement.EndsAgreed, History.up_to_view}, proofs.Histories.up_to_view_valid}
+use Rattle.dr_program.specs.{Presence.{present_at, with_present}, declared.{packet.Packet.Packet, setup.Setup.Setup}}
+use Rattle.dr_program.{specs.Program.{Program, begun_program, end_at}, proofs.RunningPrograms.{act_is, with_member}}
+use Rattle.dr_program.{specs.Reading.world, proofs.Copies.IsToOther}
+use Rattle.dr_program.specs.{Running.{after_step, begun_running, deed, next_deed, next_step}, declared.deed.Deed.Deed}
 use Rattle.dr_program.proofs.Present.{MayGet, present_kept, present_map, present_set, present_within, set_itself}
 use Rattle.dr_program.specs.declared.deed.Deed.TheVariants as deeds
 use Rattle.dr_program_laws.{specs.Carried.{IsCarried, WasSent}, proofs.Ending.ends_agreed}
@@ -27,7 +26,6 @@ use Rattle.dr_member.proofs.Deeds.{append_due}
 use Rattle.dr_door.specs.Apart.{Apart, ApartStep, ApartWay, AreCopies, Gives, HaveBegunApart, IsRanApart, Letter, Sends, members_of_doors, with_door}
 use Rattle.dr_door.{specs.Begun.{HasBegun, begun_lone}, proofs.Copies.{copies_elsewhere, copies_kept, copies_written}}
 use Rattle.dr_door.specs.{Coming.{came_by, refusal}, declared.refused.Refused.Refused}
-use Rattle.dr_door.proofs.Entries.{up_to_view_valid}
 use Rattle.dr_door.specs.Lone.{Lone, after_alone, after_asking, after_push, failed, is_alone, went_on}
 
 -- the letter stands at its member's place
@@ -240,11 +238,7 @@ gives_kept g a b p is s = (
     member = there_is g a p s.number s.door is s.there
 
     sound : IsSound g p
-    sound = record {
-      group = is.carried.group;
-      form = is.carried.form;
-      reached = (is.carried.before, is.carried.way);
-    }
+    sound = record { group = is.carried.group; form = is.carried.form; reached = (is.carried.before, is.carried.way) }
 
     -- the giver's history is valid
     valid : HasValidEntries new

@@ -1,23 +1,20 @@
 -- What a member delivers is valid, whatever words it has seen.
-use Rattle.std.specs.Prelude.{All, slice_set, unwrap_or, not, Option, None, Some}
-use Rattle.std.specs.List.{list_all, range_with_len}
+use Rattle.std.specs.{List.{list_all, range_with_len}, Prelude.{All, slice_set, unwrap_or, not, Option, None, Some}}
 use Rattle.std.proofs.Common.{◌≡◌, ◌⊎◌, ◌∙◌, inl, inr, refl, sym, ap, subst, ℕ, ◌+◌, ◌*◌, ◌%◌, ◌/◌, ◌<◌, ◌≤◌, ◌==◌, ◌&&◌, ◌||◌, nat_le, Bool, true, false, if◌then◌else◌, List, [], ◌∷◌, ◌++◌, fold, length, map, slice_index, slice_index_or, take, length-take, arith}
 use Rattle.std.proofs.lemmas.Bool.{and_parts, cases_Bool, cases_lt, cond-false, cond-true, leb-true, not-true}
-use Rattle.std.proofs.lemmas.{List.get_or_past, List.Elements.{All-append, All-cons, All-head, All-nil, All-replicate, All-set, All-tail}}
+use Rattle.std.proofs.lemmas.List.{get_or_past, Elements.{All-append, All-cons, All-nil, All-replicate, All-set}}
 use Rattle.dr_entry.specs.{Spelling.IsValidEntry, declared.entry.{Entry.{Entry, TheVariants.{Msg, View}}, Item.Item}}
 use Rattle.dr_entry.specs.declared.{entry.Item.TheVariants.{Null, Text}, limits.TheConstants.MAX_MESSAGE_LENGTH}
 use Rattle.dr_entry.specs.declared.record.Value.{Value}
 use Rattle.dr_form.proofs.Keeps.{sending}
-use Rattle.dr_history.specs.{History.{before_some, up_to_view}, Members.has, Order.messages_from, Places.rest_places}
-use Rattle.dr_history.proofs.Bits.{has_zero}
+use Rattle.dr_history.{specs.{Members.has, Order.messages_from, Places.rest_places}, proofs.Bits.has_zero}
 use Rattle.dr_machine.specs.{Effects.entries_of, World.no_value, declared.{event.Act.Act, step.Step.Step}}
-use Rattle.dr_machine.specs.declared.event.Act.TheVariants as acts
 use Rattle.dr_machine.specs.declared.step.Step.TheVariants.{Do}
+use Rattle.dr_machine.specs.declared.event.Act.TheVariants as acts
 use Rattle.dr_program.{specs.{Acts.taken, Form.HasForm, Steps.{allows, stepped}}, proofs.Keeps.acted_keeps}
 use Rattle.dr_program.specs.Replica.{Replica, acted, count, finished_history, greatest, is_inside, item_of_place, may_finish, may_send, me, members_in_view, next_index, ready_item, sender_of_place, with_place}
 use Rattle.dr_ring.specs.{Pieces.{bytes_of, is_head, item_of, null_mark, body_len}, Slots.{is_of, item_in, slot_of}}
-use Rattle.dr_words.specs.{Masks.next_members, Packing.ring_low}
-use Rattle.dr_words.proofs.Masks.{has_next_members, member_below}
+use Rattle.dr_words.{specs.{Masks.next_members, Packing.ring_low}, proofs.Masks.{has_next_members, member_below}}
 use Rattle.dr_door.specs.Inside.{IsShort}
 
 -- ---- items
@@ -155,15 +152,3 @@ step_valid word r (Do a) form is valid = taken_valid r a form is valid
 step_valid word r s form is valid = valid
 
 -- ---- letters
-
-pub up_to_view_valid : (es : List Entry) → All IsValidEntry es → All IsValidEntry (up_to_view es)
-unfolding up_to_view
-up_to_view_valid [] valid = valid
-up_to_view_valid (View a n m ∷ es) valid = All-cons IsValidEntry (View a n m) (up_to_view es)
-    (All-head IsValidEntry (View a n m) es valid) (up_to_view_valid es (All-tail IsValidEntry (View a n m) es valid))
-up_to_view_valid (Msg s i b ∷ es) valid = by (up_to_view es)
-    (up_to_view_valid es (All-tail IsValidEntry (Msg s i b) es valid))
-  where
-    by : (xs : List Entry) → All IsValidEntry xs → All IsValidEntry (before_some (Msg s i b) xs)
-    by [] all = all
-    by (x ∷ xs) all = All-cons IsValidEntry (Msg s i b) (x ∷ xs) (All-head IsValidEntry (Msg s i b) es valid) all

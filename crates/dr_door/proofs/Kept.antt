@@ -1,40 +1,35 @@
 -- What always holds between a door's member and its words stays so, whatever either does.
 use Rattle.std.specs.Prelude.{All, IfSome, max, not, slice_set, None, Option, Some}
-use Rattle.std.proofs.Common.{◌≡◌, ◌≢◌, ◌⊎◌, ◌∙◌, inl, inr, refl, sym, ap, subst, ℕ, ◌%◌, ◌<◌, ◌≤◌, ◌==◌, ◌&&◌, nat_le, nat_lt, Bool, true, false, List, [], ◌∷◌, ◌++◌, ◌*◌, append-nil, length, length-set, replicate, slice_index, if◌then◌else◌, arith}
-use Rattle.std.proofs.lemmas.Bool.{and_from, and_parts, cases_Bool, cases_eq, cases_lt, cond-false, eq-eqb, eqb-true, lt-leb, lt-ltb, not-true}
-use Rattle.std.proofs.lemmas.{List.{get_or-set_other, get_or-set_same, length-replicate}, List.Elements.{All-nil, All-replicate}}
+use Rattle.std.proofs.Common.{◌≡◌, ◌≢◌, ◌⊎◌, ◌∙◌, inl, inr, refl, sym, ap, subst, ℕ, ◌%◌, ◌<◌, ◌≤◌, ◌==◌, ◌&&◌, nat_le, nat_lt, Bool, true, false, List, ◌*◌, length, length-set, replicate, slice_index, if◌then◌else◌, arith}
+use Rattle.std.proofs.lemmas.Bool.{and_from, cases_Bool, cases_eq, cases_lt, cond-false, eq-eqb, eqb-true, lt-leb, lt-ltb, not-true}
+use Rattle.std.proofs.lemmas.List.{get_or-set_other, get_or-set_same, length-replicate, Elements.All-replicate}
 use Rattle.dr_arrival.{specs.Tests.{grown, in_form}, proofs.Exact.{form_exact, growth_exact}}
-use Rattle.dr_entry.{specs.Spelling.{IsValid, IsValidEntry}, proofs.ListFacts.copy_at}
-use Rattle.dr_entry.specs.declared.end.End.{End}
-use Rattle.dr_entry.specs.declared.{entry.{Entry.{Entry, TheVariants.View}, Item.TheVariants.Null}, record.Record.Record}
-use Rattle.dr_history.specs.{Members.has, Order.first_entries}
-use Rattle.dr_machine.specs.Group.{Group, IsGroup}
-use Rattle.dr_machine.specs.declared.step.Step.{Step}
-use Rattle.dr_member.specs.Deeds.{is_act, is_append, is_give, is_look, is_push, is_take}
+use Rattle.dr_entry.specs.{Spelling.{IsValid, IsValidEntry}, declared.entry.{Entry.Entry, Item.TheVariants.Null}}
+use Rattle.dr_entry.{specs.{declared.end.End.End, declared.record.Record.Record}, proofs.ListFacts.copy_at}
+use Rattle.dr_history.specs.Members.{has}
+use Rattle.dr_machine.{specs.declared.step.Step.Step, proofs.Kinds.{is_pushing, is_looking}}
+use Rattle.dr_member.{specs.Deeds.{is_act, is_append, is_give, is_take}, proofs.Deeds.{at_place, take_is, push_at}}
 use Rattle.dr_program.specs.{Form.{HasForm, IsRunningMember}, Reading.{step_due, step_of_member}}
+use Rattle.dr_program.specs.Replica.{Replica, begun_replica, first_entries_of, greatest, is_inside, looked, me, pushed}
+use Rattle.dr_program.specs.Running.{Running, after_step, deed_of, next_deed, next_step, settled, took_letter}
+use Rattle.dr_program.specs.{Sight.MaySee, Steps.{index_in, stepped}, declared.{deed.Deed.Deed, setup.Setup.Setup}}
+use Rattle.dr_program.proofs.{Fixed.{Told, step_told, told, took_told}, Search.{settled_same, settled_took}}
+use Rattle.dr_program.proofs.Replicas.{SentAlike, joined_sent, step_sent, SawAlike, joined_saw, step_saw, apart}
+use Rattle.dr_program.proofs.RunningPrograms.{act_is, allowed, allowed_inside, deed_due, next_without_end}
 use Rattle.dr_play.proofs.Deeds.{at_append}
-use Rattle.dr_program.specs.{Program.IsSetup, declared.setup.Setup.Setup}
-use Rattle.dr_program.specs.Replica.{Replica, begun_replica, first_entries_of, greatest, is_inside, is_other, looked, me, pushed}
-use Rattle.dr_program.specs.{Running.{Running, after_step, deed_of, next_deed, next_step, settled, took_letter}}
-use Rattle.dr_program.specs.{Sight.MaySee, Steps.{has_cell, index_in, stepped}}
-use Rattle.dr_program.specs.declared.deed.Deed.{Deed}
 use Rattle.dr_program.specs.declared.deed.Deed.TheVariants as deeds
-use Rattle.dr_program.proofs.{Fixed.{Told, step_told, told, took_told}, RunningPrograms.{act_is, allowed, allowed_inside, deed_due, is_cell, look_is, next_without_end, push_is}, Search.{settled_same, settled_took}}
 use Rattle.dr_machine.specs.declared.step.Step.TheVariants as steps
-use Rattle.dr_rows.specs.Words.{begun, own, seen}
-use Rattle.dr_rows.proofs.{Grids.{seen_with, with_word-column, with_word-row, with_word-same}, WordsLemmas.IsFresh-begun}
+use Rattle.dr_rows.{specs.Words.{begun, own, seen}, proofs.WordsLemmas.{IsFresh-begun, begun_sent}}
+use Rattle.dr_rows.proofs.Grids.{seen_with, with_word-column, with_word-row, with_word-same}
 use Rattle.dr_served.proofs.Appends.{valid_due}
 use Rattle.dr_words.specs.{Columns.columns_of, Form.IsInForm, Grown.HasGrown, Layout.{word_index_of, words_of}}
-use Rattle.dr_words.specs.declared.column.TheConstants.{LOGGED_COLUMN}
-use Rattle.dr_words.proofs.{Columns.{column_found, row_found}, Forms.{form_zero, grown_zero}, Order.{HasGrown_refl, HasGrown_trans}, Places.word_index_within}
-use Rattle.dr_world_laws.{specs.Historic.IsOfAge, proofs.Messages.valid_history}
-use Rattle.dr_door.specs.Coming.{copy_of, refusal, refusal_there, row_in}
-use Rattle.dr_door.specs.Lone.{Lone}
+use Rattle.dr_words.{specs.declared.column.TheConstants.LOGGED_COLUMN, proofs.Columns.{column_found, row_found}}
+use Rattle.dr_words.proofs.{Forms.{form_zero, grown_zero}, Order.{HasGrown_refl, HasGrown_trans}}
+use Rattle.dr_words.proofs.Places.{word_index_within}
+use Rattle.dr_door.{specs.Coming.{copy_of, refusal, refusal_there, row_in}, proofs.Entries.{AreValid, step_valid}}
+use Rattle.dr_door.{specs.Inside.{AreInPlace, HaveGrown, HaveSent, IsKept, IsShort}, proofs.Places.copy_found}
+use Rattle.dr_door.{specs.{Letters.Suits, Lone.Lone}, proofs.Pushed.{sent_beside, sent_on, sent_pushed}}
 use Rattle.dr_door.specs.declared.refused.Refused.TheVariants as why
-use Rattle.dr_door.specs.{Inside.{AreInPlace, HaveGrown, HaveSent, IsKept, IsShort}, Letters.Suits}
-use Rattle.dr_door.proofs.Pushed.{SentAlike, begun_sent, is_pushing, joined_sent, sent_beside, sent_on, sent_pushed, step_sent}
-use Rattle.dr_door.proofs.{Entries.{AreValid, step_valid}, Others.{SawAlike, is_looking, joined_saw, step_saw}}
-use Rattle.dr_door.proofs.Places.{copy_found}
 
 -- ---- the member goes on
 
@@ -106,8 +101,7 @@ pub record IsTaken (n w m : ℕ) (words : List ℕ) (index word : ℕ) : Type 0 
   pub copy : copy_of n w index ≡ m
   pub row : row_in n w index ≢ m
   pub form : in_form n (index % columns_of n w) word ≡ true
-  pub grows : slice_index words index < word
-      → grown n (index % columns_of n w) (slice_index words index) word ≡ true
+  pub grows : slice_index words index < word → grown n (index % columns_of n w) (slice_index words index) word ≡ true
 
 kept_came : (r : Replica) (words : List ℕ) (index word : ℕ) → me r < r.roster → IsKept r words
     → IsTaken r.roster r.window (me r) words index word
@@ -218,38 +212,6 @@ kept_coming d index word form kept within none =
 
 -- ---- a look
 
--- a member at a look, at the place of this index
-pub record IsAtPlace (r : Running) (index : ℕ) : Type 0 where
-  pub none : r.replica.end ≡ None
-  pub row : ℕ
-  pub column : ℕ
-  pub step : next_step r ≡ steps.Look row column
-  pub place : index_in r.replica (me r.replica) row column ≡ index
-  pub among : row < r.replica.roster
-  pub other : row ≢ me r.replica
-  pub within : column < columns_of r.replica.roster r.replica.window
-
-apart : (r : Replica) (i : ℕ) → is_other r i ≡ true → i ≢ me r
-apart r i other e =
-    absurd (cc (sym (ap not (eq-eqb i (me r) e)) ∙ (and_parts (has r.members i) (not (i == me r)) other).1))
-
-pub at_place : (r : Running) (index : ℕ) → IsRunningMember r → next_deed r ≡ deeds.Look index → IsAtPlace r index
-at_place r index m due =
-    let none = (deed_due is_look (λ end. refl) r (ap is_look due)).0 in
-    let at = look_is r (next_step r) index (sym (next_without_end r none) ∙ due) in
-    let cell = is_cell r at.0 at.1 (and_parts (not (has r.replica.suspects at.0)) (has_cell r.replica at.0 at.1)
-    (allowed_inside r m none (steps.Look at.0 at.1) at.2)).1 in
-    record {
-      none = none;
-      row = at.0;
-      column = at.1;
-      step = at.2;
-      place = at.3;
-      among = cell.row;
-      other = apart r.replica at.0 cell.other;
-      within = cell.column;
-    }
-
 -- the member may see what stands there
 pub kept_sees : (r : Running) (words : List ℕ) (index : ℕ) → IsRunningMember r → IsKept r.replica words
     → next_deed r ≡ deeds.Look index → MaySee r (step_of_member r) (slice_index words index)
@@ -311,10 +273,6 @@ kept_look r words index m kept due =
     (kept_looked r.replica words i c m.replica at.among at.within kept)))
 
 -- ---- a letter
-
-take_is : (r : Running) (s : Step) → is_take (deed_of r s) ≡ true → s ≡ steps.Join
-take_is r steps.Join is = refl
-take_is r s is = absurd (cc)
 
 pub kept_asked : (letter : Option (List Entry)) (r : Running) (words : List ℕ) → IsRunningMember r
     → IsKept r.replica words → is_take (next_deed r) ≡ true → IfSome letter (Suits r.replica)
@@ -378,14 +336,6 @@ kept_begun s form valid = record {
         (if has s.members s.me then length (first_entries_of s) else 0) i c other
         ∙ (IsFresh-begun n (columns_of n s.shape.window) s.me).zero i c
 
--- what an age begins with is valid
-pub begun_valid : (g : Group) (limit m : ℕ) (s : Setup) → IsGroup g → IsSetup g limit m s
-    → All IsValidEntry (first_entries_of s)
-begun_valid g limit m s group is = subst (All IsValidEntry)
-    (λ z. sym is.start z ++ View (sym is.age z) 0 (sym is.view z) ∷ [])
-    (valid_history g (first_entries g.opening) group
-    ([], sym (append-nil (first_entries g.opening)), All-nil (IsOfAge g)))
-
 -- ---- a record that is due
 
 pub due_valid : (r : Running) (words : List ℕ) (what : Record) → IsRunningMember r → IsKept r.replica words
@@ -404,8 +354,7 @@ kept_deed kind rests looks pushes r words m kept is =
     kept_step 0 r words m due.0 (plain (next_step r) due.1) (stays (next_step r) due.1) kept
   where
     stays : (s : Step) → kind (deed_of r s) ≡ true → is_pushing s ≡ false
-    stays (steps.Push j c) e =
-        absurd (cc (pushes (index_in r.replica j (me r.replica) c) (own r.replica.rows c), e))
+    stays (steps.Push j c) e = absurd (cc (pushes (index_in r.replica j (me r.replica) c) (own r.replica.rows c), e))
     stays s e = refl
 
     plain : (s : Step) → kind (deed_of r s) ≡ true → is_looking s ≡ false
@@ -438,36 +387,6 @@ kept_act r words index word m kept due =
       entries = kept.entries;
       items = kept.items;
     }) (ap is_act due)
-
--- a push that is due
-pub record IsPushAt (r : Running) (index word : ℕ) : Type 0 where
-  pub none : r.replica.end ≡ None
-  pub to : ℕ
-  pub column : ℕ
-  pub step : next_step r ≡ steps.Push to column
-  pub place : index_in r.replica to (me r.replica) column ≡ index
-  pub own : own r.replica.rows column ≡ word
-  pub among : to < r.replica.roster
-  pub other : to ≢ me r.replica
-  pub within : column < columns_of r.replica.roster r.replica.window
-
-pub push_at : (r : Running) (index word : ℕ) → IsRunningMember r → next_deed r ≡ deeds.Push index word
-    → IsPushAt r index word
-push_at r index word m due =
-    let none = (deed_due is_push (λ end. refl) r (ap is_push due)).0 in
-    let at = push_is r (next_step r) index word (sym (next_without_end r none) ∙ due) in
-    let cell = is_cell r at.0 at.1 (allowed_inside r m none (steps.Push at.0 at.1) at.2) in
-    record {
-      none = none;
-      to = at.0;
-      column = at.1;
-      step = at.2;
-      place = at.3;
-      own = at.4;
-      among = cell.row;
-      other = apart r.replica at.0 cell.other;
-      within = cell.column;
-    }
 
 pub kept_push : (r : Running) (words : List ℕ) (index word : ℕ) → IsRunningMember r → IsKept r.replica words
     → next_deed r ≡ deeds.Push index word → IsKept (after_step 0 r).replica (slice_set words index word)

@@ -1,5 +1,4 @@
 pub mod Deeds
-pub mod Others
 pub mod Entries
 pub mod Pushed
 pub mod Kept

@@ -1,34 +1,19 @@
 -- Where looks and pushes of a member leave the words of its door as they were, all of them are looks.
-use Rattle.std.specs.Prelude.{not, None}
-use Rattle.std.proofs.Common.{◌≡◌, ◌≢◌, ◌⊎◌, ◌∙◌, inl, inr, refl, sym, ap, subst, ℕ, zero, suc, ◌<◌, ◌==◌, ◌||◌, Bool, true, false, List, length, slice_index, slice_set, arith}
-use Rattle.std.proofs.lemmas.Bool.{and_parts, cases_eq, cond-true, eq-eqb}
-use Rattle.std.proofs.lemmas.List.{get_or-set_other, get_or-set_same}
-use Rattle.dr_member.specs.{Alone.{IsAtSweep, LeadsTo, SeesAlong}, Deeds.{is_look, is_push}}
-use Rattle.dr_machine.specs.declared.step.Step.TheVariants as steps
-use Rattle.dr_program.specs.{Form.{HasForm, IsRunningMember}, Program.next_sight, Reading.step_of_member}
-use Rattle.dr_program.specs.{Replica.{Replica, is_other, looked, me, pushed}, Sight.MaySee, Steps.{allows, index_in, sight, stepped, stored}}
-use Rattle.dr_program.specs.Running.{Running, after_step, asks, crashes_now, next_deed, next_step, step_at}
-use Rattle.dr_program.specs.{Turn.part_of, declared.place.Part.Part}
-use Rattle.dr_program.specs.declared.place.Part.TheVariants as parts
-use Rattle.dr_program.specs.declared.deed.Deed.{Deed}
+use Rattle.std.proofs.Common.{◌≡◌, ◌≢◌, ◌⊎◌, ◌∙◌, inl, inr, refl, sym, ap, subst, ℕ, zero, suc, ◌<◌, ◌==◌, true, List, length, slice_index, slice_set, arith}
+use Rattle.std.proofs.lemmas.{Bool.{cases_eq, cond-true, eq-eqb}, List.{get_or-set_other, get_or-set_same}}
+use Rattle.dr_member.specs.{Alone.{LeadsTo, SeesAlong}, Deeds.{is_look, is_push}}
+use Rattle.dr_member.proofs.Deeds.{at_place, push_at, look_there, push_there, looks_or_pushes}
+use Rattle.dr_program.specs.{Form.{HasForm, IsRunningMember}, Running.{Running, after_step, next_deed, next_step}}
+use Rattle.dr_program.specs.{Program.next_sight, Sight.MaySee}
+use Rattle.dr_program.{specs.Reading.step_of_member, proofs.{Search.settled_same, StepsAt.{look_due, push_changes}}}
+use Rattle.dr_program.{specs.Replica.{Replica, looked, me, pushed}, proofs.Keeps.{looked_keeps, pushed_keeps}}
+use Rattle.dr_program.{specs.Steps.{index_in, sight, stepped, stored}, proofs.RunningPrograms.{IsAtPlace, IsPushAt}}
 use Rattle.dr_program.specs.declared.deed.Deed.TheVariants as deeds
-use Rattle.dr_program.proofs.{Keeps.{looked_keeps, pushed_keeps}, Search.settled_same}
-use Rattle.dr_program.proofs.StepsAt.{append_either, look_due, push_either, vote_either}
-use Rattle.dr_rows.{specs.Words.{changed, last_pushed, own}, proofs.Grids.own_seen}
+use Rattle.dr_rows.{specs.Words.{last_pushed, own}, proofs.Grids.own_seen}
 use Rattle.dr_turn.proofs.Deeds.{deeds_keep_form}
-use Rattle.dr_words.specs.Columns.{columns_of}
-use Rattle.dr_words.proofs.Places.{word_index_one_to_one, word_index_within}
-use Rattle.dr_door.specs.{Inside.IsKept, Lone.{LeadsBy, Lone, after_alone}}
-use Rattle.dr_door.proofs.Deeds.{look_goes}
-use Rattle.dr_door.proofs.Kept.{IsAtPlace, IsPushAt, at_place, kept_look, kept_push, kept_sees, push_at}
-
-look_there : (d : Deed) → is_look d ≡ true → (index : ℕ) × (d ≡ deeds.Look index)
-look_there (deeds.Look index) is = (index, refl)
-look_there d is = absurd (cc)
-
-push_there : (d : Deed) → is_push d ≡ true → (index : ℕ) × (word : ℕ) × (d ≡ deeds.Push index word)
-push_there (deeds.Push index word) is = (index, word, refl)
-push_there d is = absurd (cc)
+use Rattle.dr_words.{specs.Columns.columns_of, proofs.Places.{word_index_one_to_one, word_index_within}}
+use Rattle.dr_door.{specs.{Inside.IsKept, Lone.{LeadsBy, Lone, after_alone}}, proofs.Deeds.look_goes}
+use Rattle.dr_door.proofs.Kept.{kept_look, kept_push, kept_sees}
 
 -- ---- a look
 
@@ -75,43 +60,11 @@ module _ (words : List ℕ) (r : Running) (index word : ℕ) (m : IsRunningMembe
   push_runs = deeds_keep_form 0 r m to.none (subst HasForm (sym (ap (stepped 0 r.replica) to.step))
       (pushed_keeps r.replica to.to to.column m.replica to.among))
 
--- what is pushed has changed
-push_asks : (r : Running) (part : Part) (i c j d : ℕ) → asks r part i c ≡ true → step_at r part i c ≡ steps.Push j d
-    → changed r.replica.rows j d ≡ true
-push_asks r parts.Push i c j d asked is = push_either
-    (λ s. s ≡ steps.Push j d → changed r.replica.rows j d ≡ true) (crashes_now r) i c
-    (λ e. subst (λ (x : ℕ × ℕ). changed r.replica.rows x.0 x.1 ≡ true) (places e)
-    (and_parts (is_other r.replica i) (changed r.replica.rows i c) asked).1) (λ e. absurd (cc)) is
-  where
-    places : steps.Push i c ≡ steps.Push j d → ◌≡◌ {A = ℕ × ℕ} (i, c) (j, d)
-    places e = cc e
-push_asks r parts.Append i c j d asked is =
-    absurd (append_either (λ s. s ≡ steps.Push j d → ⊥) r.failed (λ e. cc) (λ why e. cc) is)
-push_asks r parts.Vote i c j d asked is =
-    absurd (vote_either (λ s. s ≡ steps.Push j d → ⊥) r.failed _ (λ e. cc) (λ why e. cc) is)
-push_asks r part i c j d asked is = absurd (cc)
-
-push_changes : (r : Running) (j d : ℕ) → IsRunningMember r → r.replica.end ≡ None → next_step r ≡ steps.Push j d
-    → own r.replica.rows d ≢ last_pushed r.replica.rows j d
-push_changes r j d m none step same =
-    let asked = (and_parts (asks r (part_of r.place) r.place.row r.place.column) (allows r.replica (next_step r))
-    (m.due none)).0 in
-    absurd (cc (sym (ap not (eq-eqb (own r.replica.rows d) (last_pushed r.replica.rows j d) same))
-    ∙ push_asks r (part_of r.place) r.place.row r.place.column j d asked step))
-
 -- ---- the words that it has pushed stay
 
 -- the member's word of a column stands in the copy of j
 abbrev pub Stands : List ℕ → Replica → ℕ → ℕ → Type 0
 Stands words r j c = slice_index words (index_in r j (me r) c) ≡ own r.rows c
-
-looks_or_pushes : (r : Running) → IsAtSweep r → (is_look (next_deed r) ≡ true) ⊎ (is_push (next_deed r) ≡ true)
-looks_or_pushes r sweep = by (is_look (next_deed r)) refl sweep
-  where
-    by : (b : Bool) → is_look (next_deed r) ≡ b → (b || is_push (next_deed r)) ≡ true
-        → (is_look (next_deed r) ≡ true) ⊎ (is_push (next_deed r) ≡ true)
-    by true e s = inl e
-    by false e s = inr s
 
 stands_on : (n : ℕ) (words cells : List ℕ) (r q : Running) (j c : ℕ) → IsRunningMember r → IsKept r.replica words
     → j < r.replica.roster → c < columns_of r.replica.roster r.replica.window → Stands words r.replica j c
@@ -138,8 +91,7 @@ stands_on (suc n) words cells r q j c m kept row column stands led =
         let at = here words r one.0 m kept one.1 in
         let same = look_replica words r one.0 m kept one.1 in
         let own_is = own_seen r.replica.rows at.row at.column w c at.other in
-        let before : Stands words x.replica j c =
-        subst (λ y. Stands words y j c) (sym same) (stands ∙ sym own_is) in
+        let before : Stands words x.replica j c = subst (λ y. Stands words y j c) (sym same) (stands ∙ sym own_is) in
         let rest : LeadsTo n words x cells q = subst (λ (z : List ℕ × Running). LeadsTo n z.0 z.1 cells q)
         (λ z. (look_stores words r one.0 m kept one.1 z, after_step (look_sees words r one.0 m kept one.1 z) r)) led.1 in
         subst (λ y. slice_index cells (index_in r.replica j (me r.replica) c) ≡ y) own_is
@@ -199,8 +151,7 @@ along (suc n) words r q m kept led = by (looks_or_pushes r led.0) (λ x. along n
         × LeadsBy n (record { member = x; words = words }) (record { member = q; words = words })
 
     by : (is_look (next_deed r) ≡ true) ⊎ (is_push (next_deed r) ≡ true) → Goes
-        → IsRunningMember q × IsKept q.replica words
-        × LeadsBy (suc n) d (record { member = q; words = words })
+        → IsRunningMember q × IsKept q.replica words × LeadsBy (suc n) d (record { member = q; words = words })
     by (inl look) goes =
         let one = look_there (next_deed r) look in
         let x = after_step (slice_index words one.0) r in

@@ -7,7 +7,7 @@ use Rattle.std.proofs.Common.{ℕ, zero, suc, ◌<◌, ◌≤◌, max, List, [],
 use Rattle.std.proofs.{Math.ListN.set, lemmas.List.FromFn.{fill_by_all, get_or-range_with_len, length-range_with_len}}
 use Rattle.std.proofs.lemmas.Bool.{cond-true, lt-ltb, cond-false, le-ltb, cases_lt, eq-eqb, ne_eqb, ltb-true, or_cases, and_parts}
 use Rattle.std.proofs.lemmas.{Bool.Decides.nat_tests, List.{Edits.fill_by_more, Folds.list_any_at}}
-use Rattle.std.proofs.lemmas.List.{take_more, get_or-set_same, length-set, get_or-set_other, get_or-replicate, get_or_past, length-replicate, get_or-map, length-map, get_or_append_left, set-append_left, get_or-append_right, set-append_right, get_or_push, set_past}
+use Rattle.std.proofs.lemmas.List.{take_more, get_or-set_same, length-set, get_or-set_other, get_or-replicate, get_or_past, length-replicate, get_or-map, length-map, get_or_append_left, set-append_left, get_or-append_right, set-append_right, get_or_push, set_past, get_or_default}
 use Rattle.std.proofs.lemmas.List.Sums.{position_or_len_is, sum_by-append, sum_by-cons, sum_by-set}
 use Rattle.std.proofs.lemmas.Option.{same_Some, slice_get-get_or, get_or_from_slice_get, slice_get_within, none-some, slice_get_past}
 use mathlib.Core.Option.{some, some-injective, some-ne-none}
@@ -651,3 +651,8 @@ zero_at i = by (cases_lt i 16)
     by : (i < 16) ⊎ (16 ≤ i) → slice_index (replicate MAX_MEMBERS 0) i ≡ 0
     by (inl l) = get_or-replicate 16 i none none l
     by (inr past) = get_or_past (replicate 16 none) i none (omega (arith, past, length-replicate 16 none))
+
+-- a word that is read at an index is the one that stands there
+pub found : (words : List ℕ) (index word : ℕ) → index < length words → word ≡ get_or words index word
+    → word ≡ slice_index words index
+found words index word within read = read ∙ sym (get_or_default words index 0 word within)

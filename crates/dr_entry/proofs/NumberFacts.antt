@@ -4,7 +4,7 @@ use Rattle.std.specs.{List.{range_with_len, list_all, Sorted.IsStrictlyIncreasin
 use Rattle.std.proofs.Common.{◌≡◌, ◌≢◌, ℕ, true, not, arith, ◌+◌, ◌≤◌, false, leb, [], refl, Bool, T, ◌&&◌, ◌*◌, ◌/◌, ◌%◌, ◌<◌, ◌⊎◌, inl, inr, ◌-◌, zero, suc, fold, ap, ◌∙◌, subst, ◌^◌, ◌↔◌, if◌then◌else◌, count_ones, add_comm, lit<, bit_and, sym, nat_lt, cond, ◌||◌, le_refl, min, eqb, ltb, ◌∷◌, Contains, suc-mul, lt_of_mul-lt-mul_right}
 use Rattle.std.proofs.lemmas.Bool.{leb-true, leb-false, cases_lt, eqb-true, false≢true, and_parts, cases_eq}
 use Rattle.std.proofs.lemmas.{Bool.Decides.nat_tests, List.FromFn.{length-range_with_len, get_or-range_with_len}}
-use Rattle.std.proofs.lemmas.Nat.{div-add-mod', mul-le, mod-pow-add, ones_cat, mod_below, pow_pos, and_mask, one_shl, shr-shr, mul-add-lt}
+use Rattle.std.proofs.lemmas.Nat.{div-add-mod', mul-le, mod-pow-add, ones_cat, mod_below, pow_pos, and_mask, one_shl, shr-shr, mul-add-lt, le-div}
 use Rattle.std.proofs.lemmas.Nat.Bits.{ones_shr}
 use lib.Count.{ones}
 
@@ -556,3 +556,6 @@ round_lt n a b s p h l = lt_of_mul-lt-mul_right n {m = a} {n = b} (omega (arith,
 -- so many columns further on is so many times as far
 pub place_onward : (c n m i : ℕ) → c * m + i + n * m ≡ (c + n) * m + i
 place_onward c n m i = let each = add-mul c n m in omega (arith, each)
+
+pub falls_no : (k i by : ℕ) → 0 < by → k ≤ i → k / by ≤ i / by
+falls_no k i by some less = le-div (k / by) i by some (omega (arith, div-add-mod' k by, less))

@@ -1,11 +1,13 @@
 -- Histories, their fronts, and who is among their members.
 use Rattle.std.{specs.Option.option_map_or, proofs.lemmas.Option.{same_Some, none-some, slice_get_within}}
+use Rattle.std.{specs.Prelude.All, proofs.lemmas.List.Elements.{All-cons, All-head, All-tail}}
 use Rattle.std.proofs.Common.{◌≡◌, ℕ, Contains, List, suc, ◌∷◌, arith, ◌⊎◌, inl, inr, ap, [], Option, Some, None, ◌<◌, ◌≤◌, true, false, drop, take, take-append-drop, ◌++◌, length, slice_get, sym, ◌∙◌, append_assoc, Bool, refl, ◌+◌, slice_index, slice_set, subst, ◌-◌, le_refl}
 use Rattle.std.proofs.lemmas.List.{drop_at, get_or-set_same, get_or-set_other, length-set, take_rest, take_all}
-use Rattle.dr_entry.specs.declared.{end.{AgeEnd.AgeEnd, MemberEnd.MemberEnd}, entry.Entry.TheVariants.{View, Msg}}
-use Rattle.dr_entry.{specs.declared.entry.Entry.Entry, proofs.{NumberFacts.total, OptionFacts.below_or_last}}
+use Rattle.dr_entry.specs.{Spelling.IsValidEntry, declared.end.{AgeEnd.AgeEnd, MemberEnd.MemberEnd}}
+use Rattle.dr_entry.{specs.declared.entry.Entry.{Entry, TheVariants.{View, Msg}}, proofs.NumberFacts.total}
+use Rattle.dr_entry.proofs.OptionFacts.{below_or_last}
 use Rattle.dr_history.specs.Agreement.{accounts_of, SamePast}
-use Rattle.dr_history.specs.History.{GroupView, view_after, view_of, IsPrefixOf, Sent, place_at, messages_of}
+use Rattle.dr_history.specs.History.{GroupView, view_after, view_of, IsPrefixOf, Sent, place_at, messages_of, before_some, up_to_view}
 use Rattle.dr_history.specs.{Members.{members_of, has}, Order.{IsInNoView, messages_from}, Soundness.Sound}
 use Rattle.dr_history.{specs.declared.opening.Opening.Opening, proofs.{NumberedLemmas.from_before, Tests.IsFilledTo}}
 
@@ -155,3 +157,15 @@ pub start_messages : (o : Opening) (s : ℕ) → Sound o → length (messages_fr
 start_messages o s sound = subst (λ (h : List Entry). length (messages_from s h) ≤ length (messages_of o s))
     (take_all (length o.start) o.start (le_refl (length o.start)))
     (from_before o s (length o.start) sound (le_refl (length o.start)))
+
+pub up_to_view_valid : (es : List Entry) → All IsValidEntry es → All IsValidEntry (up_to_view es)
+unfolding up_to_view
+up_to_view_valid [] valid = valid
+up_to_view_valid (View a n m ∷ es) valid = All-cons IsValidEntry (View a n m) (up_to_view es)
+    (All-head IsValidEntry (View a n m) es valid) (up_to_view_valid es (All-tail IsValidEntry (View a n m) es valid))
+up_to_view_valid (Msg s i b ∷ es) valid = by (up_to_view es)
+    (up_to_view_valid es (All-tail IsValidEntry (Msg s i b) es valid))
+  where
+    by : (xs : List Entry) → All IsValidEntry xs → All IsValidEntry (before_some (Msg s i b) xs)
+    by [] all = all
+    by (x ∷ xs) all = All-cons IsValidEntry (Msg s i b) (x ∷ xs) (All-head IsValidEntry (Msg s i b) es valid) all

@@ -1,7 +1,7 @@
 -- What a running member is after each kind of deed, in the terms of the code's fields.
 use Rattle.std.{specs.Prelude.None, proofs.lemmas.Bool.{and_parts, Decides.nat_tests}}
-use Rattle.std.proofs.Common.{◌≡◌, ◌≢◌, refl, sym, ap, ◌∙◌, subst, ℕ, ◌+◌, ◌^◌, ◌<◌, ◌≤◌, ◌==◌, ◌||◌, not, true, false, nat_lt, arith}
-use Rattle.dr_rows.{specs.Words.{changed, own}, proofs.Grids.with_word-column}
+use Rattle.std.proofs.Common.{◌≡◌, ◌≢◌, refl, sym, ap, ◌∙◌, subst, ℕ, ◌+◌, ◌^◌, ◌<◌, ◌≤◌, ◌||◌, true, false, nat_lt, arith}
+use Rattle.dr_rows.specs.Words.{changed, own}
 use Rattle.dr_suspect.specs.Waits.{Waits, compared}
 use Rattle.dr_words.specs.{Columns.columns_of, declared.column.TheConstants.LOGGED_COLUMN}
 use Rattle.dr_machine.specs.{Effects.one_more, declared.{event.Act.Act, step.Step.TheVariants.Do}}
@@ -173,13 +173,6 @@ pub record IsPushed (replica q : Replica) (fate : Fate) (p : Place) (n t : ℕ) 
   pub unchanged : (x : ℕ) → p.column + 1 ≤ x → x < t → changed q.rows p.row x ≡ false
   pub above : p.column + 1 ≤ t
   pub within : t ≤ columns_of q.roster q.window
-
--- a push leaves whether the words of the columns behind it have changed
-pub changed_behind : (replica q : Replica) (to column x : ℕ) → q ≡ pushed replica to column → column + 1 ≤ x
-    → changed q.rows to x ≡ changed replica.rows to x
-changed_behind replica q to column x after above = ap (λ (r : Replica). changed r.rows to x) after
-    ∙ ap (λ word. not (own replica.rows x == word)) (with_word-column replica.rows.sent to column
-    (own replica.rows column) to x (λ e. omega (arith, above, e)))
 
 -- who pushed is in its view
 pub pushed_inside : (replica q : Replica) (fate : Fate) (p : Place) (n t : ℕ)

@@ -1,14 +1,13 @@
 -- What the bytes behind a head say, by its kind.
-use Rattle.std.specs.Int.{to_be_bytes, w16, w64}
+use Rattle.std.{specs.Int.{to_be_bytes, w16, w64}, proofs.lemmas.List.{append-nil, get_or_past, nil_from_length}}
 use Rattle.std.proofs.Common.{◌≡◌, ℕ, ◌+◌, ◌*◌, ◌^◌, ◌<◌, ◌≤◌, List, ◌∷◌, ◌++◌, length, drop, refl, sym, ap, subst, ◌∙◌, inl, inr, arith, length-drop, slice_index, Bor}
-use Rattle.std.proofs.lemmas.{Bool.cases_lt, List.{append-nil, get_or_past, nil_from_length}}
-use Rattle.std.proofs.lemmas.Nat.{from_be_bytes-to_be_bytes_2, from_be_bytes-to_be_bytes_8}
+use Rattle.std.proofs.lemmas.{Bool.cases_lt, Nat.{from_be_bytes-to_be_bytes_2, from_be_bytes-to_be_bytes_8}}
 use Rattle.dr_entry.{specs.Grammar.number_at, proofs.Fields.{IsBytes, drop-byte, drop-number_2, number_below_2}}
 use Rattle.dr_packet.specs.{Packets.{Fits, SaysSame, body, far_byte, kind_of, long_at}, Reading.IsBody}
 use Rattle.dr_packet.specs.declared.{Call.Call, Far.Far, Says.Says}
+use Rattle.dr_packet.proofs.Longs.{drop-long, long-below, longs-are, longs-length, same-longs}
 use Rattle.dr_packet.specs.declared.Far.TheVariants as fars
 use Rattle.dr_packet.specs.declared.Says.TheVariants as say
-use Rattle.dr_packet.proofs.Longs.{drop-long, long-below, longs-are, longs-length, same-longs}
 
 -- ---- what is read of them
 
@@ -30,10 +29,8 @@ ask-is bytes whole at fits long e f =
 pub hand-is : (bytes : List ℕ) (whole at : ℕ) (part : Bor (List ℕ)) → IsBytes bytes → 16 ≤ length bytes
     → length bytes ≤ 1296 → whole ≡ long_at 0 bytes → at ≡ long_at 8 bytes → part.now ≡ drop 16 bytes
     → IsBody 2 bytes (say.Hand whole at part)
-hand-is bytes whole at part fits least most e f now =
-    subst (λ n. IsBody 2 bytes (say.Hand n at part)) (sym e)
-    (subst (λ n. IsBody 2 bytes (say.Hand (long_at 0 bytes) n part)) (sym f)
-    (record {
+hand-is bytes whole at part fits least most e f now = subst (λ n. IsBody 2 bytes (say.Hand n at part)) (sym e)
+    (subst (λ n. IsBody 2 bytes (say.Hand (long_at 0 bytes) n part)) (sym f) (record {
       named = refl;
       fits = (long-below 0 bytes fits, long-below 8 bytes fits);
       short = omega (arith, most, ap length now, length-drop 16 bytes);
@@ -44,8 +41,7 @@ hand-is bytes whole at part fits least most e f now =
 
 pub try-is : (bytes : List ℕ) (far : Far) (call : Call) → IsBytes bytes → length bytes ≡ 133
     → slice_index bytes 0 ≡ far_byte far → call.age ≡ number_at w16 1 bytes → call.set ≡ number_at w16 3 bytes
-    → length call.lengths ≡ 16
-    → ((m : ℕ) → m < 16 → slice_index call.lengths m ≡ long_at (5 + 8 * m) bytes)
+    → length call.lengths ≡ 16 → ((m : ℕ) → m < 16 → slice_index call.lengths m ≡ long_at (5 + 8 * m) bytes)
     → IsBody 3 bytes (say.Try call far)
 try-is bytes far call fits long first age set members each = record {
   named = refl;

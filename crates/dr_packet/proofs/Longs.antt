@@ -1,8 +1,7 @@
 -- Numbers of eight bytes.
-use Rattle.std.specs.Int.{to_be_bytes, w64}
+use Rattle.std.{specs.Int.{to_be_bytes, w64}, proofs.lemmas.Nat.{be_bytes_8, from_be_bytes-to_be_bytes_8}}
 use Rattle.std.proofs.Common.{◌≡◌, ℕ, suc, ◌+◌, ◌*◌, ◌^◌, ◌<◌, ◌≤◌, List, [], ◌∷◌, ◌++◌, length, get_or, take, drop, refl, sym, ap, ◌∙◌, inl, inr, arith, length-drop, length-take, slice_index}
-use Rattle.std.proofs.lemmas.{Bool.cases_lt, Nat.{be_bytes_8, from_be_bytes-to_be_bytes_8}}
-use Rattle.std.proofs.lemmas.List.{drop-drop, get_or-drop, get_or-take, get_or_past, nil_from_length}
+use Rattle.std.proofs.lemmas.{Bool.cases_lt, List.{drop-drop, get_or-drop, get_or-take, get_or_past, nil_from_length}}
 use Rattle.dr_entry.proofs.Fields.{IsBytes}
 use Rattle.dr_packet.specs.Packets.{long_at, long_bytes}
 
@@ -46,13 +45,11 @@ long-below at bytes fits =
     omega (arith, there 0, there 1, there 2, there 3, there 4, there 5, there 6, there 7)
 
 -- bytes up to their end are those of the numbers that are read there
-pub longs-are : (numbers : List ℕ) (at : ℕ) (bytes : List ℕ) → IsBytes bytes
-    → at + 8 * length numbers ≡ length bytes
+pub longs-are : (numbers : List ℕ) (at : ℕ) (bytes : List ℕ) → IsBytes bytes → at + 8 * length numbers ≡ length bytes
     → ((m : ℕ) → m < length numbers → slice_index numbers m ≡ long_at (at + 8 * m) bytes)
     → drop at bytes ≡ long_bytes numbers
 longs-are [] at bytes fits long each = nil_from_length (drop at bytes) (omega (arith, long, length-drop at bytes))
-longs-are (n ∷ ns) at bytes fits long each =
-    drop-long at bytes fits (omega (arith, long))
+longs-are (n ∷ ns) at bytes fits long each = drop-long at bytes fits (omega (arith, long))
     ∙ ap (λ (k : ℕ). to_be_bytes w64 k ++ drop (at + 8) bytes) (sym (each 0 (omega arith) ∙ there))
     ∙ ap (λ (rest : List ℕ). to_be_bytes w64 n ++ rest) (longs-are ns (at + 8) bytes fits (omega (arith, long)) others)
   where
@@ -69,11 +66,9 @@ pub same-longs : (xs ys : List ℕ) → length xs ≡ length ys → ((m : ℕ) �
 same-longs [] [] long below under e = refl
 same-longs [] (y ∷ ys) long below under e = absurd (omega (arith, long))
 same-longs (x ∷ xs) [] long below under e = absurd (omega (arith, long))
-same-longs (x ∷ xs) (y ∷ ys) long below under e =
-    ap (λ (n : ℕ). n ∷ xs) first
+same-longs (x ∷ xs) (y ∷ ys) long below under e = ap (λ (n : ℕ). n ∷ xs) first
     ∙ ap (λ (l : List ℕ). y ∷ l) (same-longs xs ys (omega (arith, long)) (λ m. below (suc m)) (λ m. under (suc m))
     (ap (drop 8) e))
   where
     first : x ≡ y
-    first = sym (from_be_bytes-to_be_bytes_8 x (below 0)) ∙ ap (long_at 0) e
-        ∙ from_be_bytes-to_be_bytes_8 y (under 0)
+    first = sym (from_be_bytes-to_be_bytes_8 x (below 0)) ∙ ap (long_at 0) e ∙ from_be_bytes-to_be_bytes_8 y (under 0)

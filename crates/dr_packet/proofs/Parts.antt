@@ -1,14 +1,12 @@
 -- The parts of a packet: what stands at which place of its bytes, and that nothing else is one.
 use Rattle.std.specs.Int.{to_be_bytes, w32}
 use Rattle.std.proofs.Common.{◌≡◌, ℕ, ◌+◌, ◌-◌, ◌≤◌, List, ◌∷◌, ◌++◌, length, take, drop, refl, sym, ap, subst, ◌∙◌, append_assoc, arith, length-append, length-drop, length-take, slice_index}
-use Rattle.std.proofs.lemmas.List.{drop_at, take_at, take-append-drop}
-use Rattle.std.proofs.lemmas.Nat.{from_be_bytes-to_be_bytes_4}
+use Rattle.std.proofs.lemmas.{List.{drop_at, take_at, take-append-drop}, Nat.from_be_bytes-to_be_bytes_4}
 use Rattle.sha2.{specs.Sha256.sha256, proofs.Facts256.length-sha256}
 use Rattle.dr_entry.specs.Grammar.{number_at}
 use Rattle.dr_entry.proofs.Fields.{IsBytes, drop-byte, drop-bytes, drop-number_4, number_below_4}
 use Rattle.dr_packet.specs.Packets.{FitsWay, HasForm, IsPacket, IsSummed, SaysSame, body, group_in, head, kind_of, magic, plan_in, spelling, summed}
-use Rattle.dr_packet.specs.Reading.{IsBody, way_in}
-use Rattle.dr_packet.specs.declared.{Says.Says, Seal.Seal, Way.Way}
+use Rattle.dr_packet.specs.{Reading.{IsBody, way_in}, declared.{Says.Says, Seal.Seal, Way.Way}}
 use Rattle.dr_packet.proofs.Bodies.{same-says}
 
 -- its fields are as long as in a packet
@@ -83,8 +81,7 @@ way-is seal way says fits = ap (way_with way.from way.to) (from_be_bytes-to_be_b
 
 pub form-of : (seal : Seal) (bytes : List ℕ) (way : Way) (says : Says) → IsWhole seal → IsPacket seal bytes way says
     → HasForm bytes
-form-of seal bytes way says s p =
-    subst HasForm (sym p.is) (omega (arith, spelling-length seal way says s), refl)
+form-of seal bytes way says s p = subst HasForm (sym p.is) (omega (arith, spelling-length seal way says s), refl)
 
 -- what it says is behind its head
 pub body-of : (seal : Seal) (bytes : List ℕ) (way : Way) (says : Says) → IsWhole seal → IsPacket seal bytes way says
@@ -147,8 +144,7 @@ numbers-are : (bytes : List ℕ) (kind : ℕ) → IsBytes bytes → HasForm byte
     ∷ (to_be_bytes w32 (number_at w32 8 bytes) ++ drop 12 bytes))
 numbers-are bytes kind fits form is none =
     sym (take-append-drop 4 bytes) ∙ ap (λ (l : List ℕ). l ++ drop 4 bytes) form.1
-    ∙ ap (λ (l : List ℕ). magic ++ l) (drop-byte 4 bytes (omega (arith, form.0))
-    ∙ ap (λ (n : ℕ). n ∷ drop 5 bytes) is
+    ∙ ap (λ (l : List ℕ). magic ++ l) (drop-byte 4 bytes (omega (arith, form.0)) ∙ ap (λ (n : ℕ). n ∷ drop 5 bytes) is
     ∙ ap (λ (l : List ℕ). kind ∷ l) (drop-byte 5 bytes (omega (arith, form.0))
     ∙ ap (λ (l : List ℕ). slice_index bytes 5 ∷ l) (drop-byte 6 bytes (omega (arith, form.0))
     ∙ ap (λ (l : List ℕ). slice_index bytes 6 ∷ l) (drop-byte 7 bytes (omega (arith, form.0))

@@ -1,36 +1,46 @@
 -- Replicas: what stays from one step to the next.
-use Rattle.std.specs.Prelude.{Option, None, max, Some, slice_get, option_map}
-use Rattle.std.proofs.Common.{◌≡◌, ap, ◌∙◌, if◌then◌else◌, ◌&&◌, ◌||◌, not, is_some, ℕ, ◌+◌, ◌<◌, ◌≤◌, true, false, List, slice_index, sym, subst, Bool, length, refl, arith, ◌*◌, ◌^◌, inl, inr, get_or, ◌==◌, nat_lt, ◌≢◌, map, slice_set, ◌⊎◌, replicate, [], ◌∷◌, ◌++◌, slice_index_or, zero, suc, ◌↔◌, ◌-◌, le_refl, fold}
-use Rattle.std.proofs.{Math.Nat.mul-le-mul, lemmas.Bool.{and_parts, cases_lt, ltb-true, cases_eq, Decides.nat_tests}}
-use Rattle.std.proofs.lemmas.List.{get_or_past, get_or_read_under, length-set, get_or-map, length-map}
+use Rattle.std.{specs.Prelude.{Option, None, max, Some, slice_get, option_map, unwrap_or}, proofs.Math.Nat.mul-le-mul}
+use Rattle.std.proofs.Common.{◌≡◌, ap, ◌∙◌, if◌then◌else◌, ◌&&◌, ◌||◌, not, is_some, ℕ, ◌+◌, ◌<◌, ◌≤◌, true, false, List, slice_index, sym, subst, Bool, length, refl, arith, ◌*◌, ◌^◌, inl, inr, get_or, ◌==◌, nat_lt, ◌≢◌, map, slice_set, ◌⊎◌, replicate, [], ◌∷◌, ◌++◌, slice_index_or, zero, suc, ◌↔◌, ◌-◌, le_refl, fold, ◌/◌}
+use Rattle.std.proofs.lemmas.Bool.{and_parts, cases_lt, ltb-true, cases_eq, eq-eqb, Decides.nat_tests}
+use Rattle.std.proofs.lemmas.List.{get_or_past, get_or_read_under, length-set, get_or-map, length-map, get_or-set_other}
+use Rattle.std.proofs.lemmas.Nat.{div_below}
 use Rattle.dr_entry.specs.declared.end.End.{End, TheVariants.{Crashed, DiskFault, LogFull, Spent}}
-use Rattle.dr_entry.specs.declared.{end.SentItem.SentItem, entry.{Entry.Entry, Item.Item}}
-use Rattle.dr_entry.specs.declared.record.{Record.Record, Value.Value, Vote.Vote}
-use Rattle.dr_entry.proofs.{BoolFacts.{all_true, all_three}, ListPlaces.{greatest_within, count_max}}
-use Rattle.dr_entry.proofs.NumberFacts.{product_within, same_number, other_number, cell_inside, greater, no_less}
+use Rattle.dr_entry.specs.declared.{end.SentItem.{SentItem, TheVariants.Index}, entry.{Entry.Entry, Item.Item}}
+use Rattle.dr_entry.specs.{declared.entry.Item.TheVariants.{Null, Text}, declared.record.{Record.Record, Value.Value}}
+use Rattle.dr_entry.{specs.declared.record.Vote.Vote, proofs.BoolFacts.{all_true, all_three}}
+use Rattle.dr_entry.proofs.ListPlaces.{greatest_within, count_max}
+use Rattle.dr_entry.proofs.NumberFacts.{product_within, same_number, other_number, cell_inside, greater, no_less, falls_no}
 use Rattle.dr_entry.specs.declared.record.Record.TheVariants as records
-use Rattle.dr_history.{specs.{Members.{has, members_of}, Places.front_of}, proofs.Fronts.front_within}
-use Rattle.dr_history.proofs.{MemberLemmas.few_members, Ranks.some_member}
-use Rattle.dr_rows.specs.{Along.{looked_along, Pushes, pushed_along}, Words.{seen, Words, with_own, own}}
+use Rattle.dr_entry.specs.declared.end.SentItem.TheVariants as sent_items
+use Rattle.dr_history.specs.{History.last_view, Members.{has, members_of}, Places.front_of}
+use Rattle.dr_history.proofs.{Fronts.front_within, MemberLemmas.few_members, Ranks.some_member}
+use Rattle.dr_rows.specs.Along.{looked_along, Pushes, pushed_along}
+use Rattle.dr_rows.specs.Words.{seen, Words, with_own, own, changed, row_of, begun, last_pushed}
 use Rattle.dr_rows.proofs.{Along.pushed_stays, Grids.{seen_with, with_word-same, with_word-column}}
-use Rattle.dr_words.specs.{Columns.{leavers_column, columns_of, recv_column}, Packing.{accept_promise, recv_word}}
-use Rattle.dr_words.{specs.{Form.IsInForm, Layout.{words_of, word_index_of}}, proofs.Columns.{AreAlike, beats_alike}}
-use Rattle.dr_words.specs.{Grown.{HasGrown, Grown}, Masks.IsInRoster, Rewrites.is_accept_of}
-use Rattle.dr_words.{specs.declared.column.TheConstants.{BEAT_COLUMN, RECEIVED_COLUMN}, proofs.Accepts.leavers_accept}
+use Rattle.dr_rows.proofs.{Rewrites.seen_rewritten, WordsLemmas.{IsFresh-begun, begun_sent}}
+use Rattle.dr_words.{specs.Columns.{leavers_column, columns_of, recv_column}, proofs.Columns.{AreAlike, beats_alike}}
+use Rattle.dr_words.{specs.Form.IsInForm, proofs.Accepts.leavers_accept}
+use Rattle.dr_words.specs.{Grown.{HasGrown, Grown}, Masks.{IsInRoster, least_of, with_member, without, next_members}}
+use Rattle.dr_words.specs.{Layout.{words_of, word_index_of}, Rewrites.{is_accept_of, accepted_word, wedged_word}}
+use Rattle.dr_words.{specs.Packing.{accept_promise, recv_word, ring_word}, proofs.Places.word_index_within}
+use Rattle.dr_words.specs.declared.column.TheConstants.{BEAT_COLUMN, RECEIVED_COLUMN, DONE_COLUMN, LOGGED_COLUMN}
 use Rattle.dr_words.proofs.{Choices.{propose_alike, accept_alike, shown_alike, proposal_alike}, Order.Grown_refl}
 use Rattle.dr_words.specs.Choices as choices
-use Rattle.dr_ring.{specs.{Pieces.pieces, Slots.{IsReady, slot_of, slot_column}}, proofs.Readiness.ready_test}
+use Rattle.dr_ring.specs.{Pieces.pieces, Slots.{IsReady, slot_of, slot_column, with_item, written}}
+use Rattle.dr_ring.proofs.Readiness.{ready_test}
 use Rattle.dr_machine.specs.declared.step.Step.TheVariants as steps
 use Rattle.dr_machine.specs.declared.event.Act.TheVariants as acts
 use Rattle.dr_machine.specs.{Acts.effect_of, Effects.{one_more, row_with}, Group.{Group, roster, banks, columns}}
-use Rattle.dr_machine.specs.{Guards.IsFault, Run.{HaveArrived, MayArrive, WasOwn}, World.World, Writes.{at₂, at₄}}
-use Rattle.dr_machine.specs.declared.{event.Act.Act, step.Step.{Step, TheVariants.{Append, LogVote}}}
-use Rattle.dr_machine.proofs.Writes.{at₄_case}
-use Rattle.dr_program.specs.{Acts.may, Presence.present_at, Program.Program, Running.Running}
+use Rattle.dr_machine.specs.{Guards.IsFault, Run.{HaveArrived, MayArrive, WasOwn}, World.{World, no_vote, no_value}}
+use Rattle.dr_machine.specs.{Writes.{at₂, at₄}, declared.{event.Act.Act, step.Step.Step}}
+use Rattle.dr_machine.specs.declared.step.Step.TheVariants.{Append, LogVote, Do, Look, Push}
+use Rattle.dr_machine.proofs.{Kinds.{is_looking, is_pushing}, Writes.at₄_case}
+use Rattle.dr_program.specs.{Acts.{may, done, leaves_view, taken}, Program.Program, Turn.{part_of, is_beat, after}}
 use Rattle.dr_program.specs.{Form.{HasForm, CanBegin, IsOf}, Reading.{Shared, in_view, kept_word, word_of, world}}
-use Rattle.dr_program.specs.Replica.{Replica, may_propose, may_accept, value_due, is_value, is_wedged, may_append, may_vote, is_other, count, ready_item, may_receive, LeftView, entered, me, greatest, is_inside, acted, received, looked, is_others, item, sent, is_fault, promise, members_in_view, vote_of}
+use Rattle.dr_program.{specs.{Presence.present_at, declared.setup.Setup.Setup}, proofs.Parts.{crashed, is_take}}
+use Rattle.dr_program.specs.Replica.{Replica, may_propose, may_accept, value_due, is_value, is_wedged, may_append, may_vote, is_other, count, ready_item, may_receive, LeftView, entered, me, greatest, is_inside, acted, received, looked, is_others, item, sent, is_fault, promise, members_in_view, vote_of, pushed, gained, put, next_index, finished_history, left_now, joined, nothing_left}
+use Rattle.dr_program.specs.Running.{Running}
 use Rattle.dr_program.specs.Steps.{NoWordFell, allows_inside, allows, is_outside_step, has_cell, is_free, may_take, IsAppend, stepped, stored, stored_letters, given_to}
-use Rattle.dr_program.{specs.{Turn.{part_of, is_beat}, declared.setup.Setup.Setup}, proofs.Parts.{crashed, is_take}}
 use Rattle.dr_program.specs.declared.place.Part.TheVariants as parts
 
 alike : (r : Replica) (end : End) → AreAlike r.roster (seen (crashed r end).rows) (seen r.rows)
@@ -445,3 +455,125 @@ pub turns_stay : (g : Group) (w : World) (m : ℕ) (a : Act) → is_beat (parts.
     → (effect_of g w m (steps.Do a)).turns m ≡ w.turns m
 turns_stay g w m acts.Beat other = absurd (cc)
 turns_stay g w m a other = refl
+
+-- a push leaves whether the words of the columns behind it have changed
+pub changed_behind : (replica q : Replica) (to column x : ℕ) → q ≡ pushed replica to column → column + 1 ≤ x
+    → changed q.rows to x ≡ changed replica.rows to x
+changed_behind replica q to column x after above = ap (λ (r : Replica). changed r.rows to x) after
+    ∙ ap (λ word. not (own replica.rows x == word)) (with_word-column replica.rows.sent to column
+    (own replica.rows column) to x (λ e. omega (arith, above, e)))
+
+-- the bank in which the place of this index is
+abbrev pub bank_of : Replica → ℕ → ℕ
+bank_of r index = index / columns_of r.roster r.window / r.roster / r.roster
+
+-- where the member's row begins in the copy of another, in a bank
+abbrev pub row_begins : Replica → ℕ → ℕ → ℕ
+row_begins r bank to = word_index_of r.roster r.window bank to (me r) 0
+
+-- no place before another is in a later bank
+pub bank_before : (r : Replica) (k i : ℕ) → 0 < r.roster → k ≤ i → bank_of r k ≤ bank_of r i
+bank_before r k i some less = falls_no _ _ r.roster some (falls_no _ _ r.roster some
+    (falls_no k i (columns_of r.roster r.window) (omega arith) less))
+
+-- each place of the table is in a bank
+pub bank_within : (r : Replica) (k : ℕ) → 0 < r.roster → k < words_of r.roster r.window r.banks → bank_of r k < r.banks
+bank_within r k some within = div_below _ r.roster r.banks some (div_below _ r.roster (r.banks * r.roster) some
+    (div_below k (columns_of r.roster r.window) (r.banks * r.roster * r.roster) (omega arith) within))
+
+-- the row ends in the table
+pub row_ends : (r : Replica) (bank to : ℕ) → bank < r.banks → to < r.roster → me r < r.roster
+    → row_begins r bank to + columns_of r.roster r.window ≤ words_of r.roster r.window r.banks
+row_ends r bank to within copy row = omega (
+  arith,
+  word_index_within r.roster r.window r.banks bank to (me r) (columns_of r.roster r.window - 1) within copy row
+      (omega arith),
+)
+
+pub apart : (r : Replica) (i : ℕ) → is_other r i ≡ true → i ≢ me r
+apart r i other e =
+    absurd (cc (sym (ap not (eq-eqb i (me r) e)) ∙ (and_parts (has r.members i) (not (i == me r)) other).1))
+
+-- in the view in which it was, q has seen of a word what r has, or nothing yet
+abbrev pub SawAlike : Replica → Replica → ℕ → ℕ → Type 0
+SawAlike r q i c = ((q.view ≡ r.view) × (seen q.rows i c ≡ seen r.rows i c)) ⊎ (seen q.rows i c ≡ 0)
+
+gained_saw : (r : Replica) (s : ℕ) (item : Item) (i c : ℕ) → i ≢ me r
+    → seen (gained r s item).rows i c ≡ seen r.rows i c
+gained_saw r s item i c other =
+    seen_with (with_own r.rows (recv_column s) (recv_word (count r s + 1) false)) RECEIVED_COLUMN
+    (front_of (map (slice_index (slice_set r.counts s (count r s + 1))) (members_in_view r))) i c other
+    ∙ seen_with r.rows (recv_column s) (recv_word (count r s + 1) false) i c other
+
+put_saw : (r : Replica) (name : SentItem) (item : Item) (i c : ℕ) → i ≢ me r
+    → seen (put r name item).rows i c ≡ seen r.rows i c
+put_saw r name item i c other = gained_saw (record r {
+  rows = with_item r.window r.rows (count r (me r)) item;
+  sent = r.sent ++ name ∷ [];
+}) (me r) item i c other ∙ ap (λ row. slice_index row c) (get_or-set_other r.rows.words (me r) i
+    (written (row_of r.rows.words (me r)) (slot_column r.rows.members r.window (count r (me r)))
+    (map (ring_word (count r (me r))) (pieces item))) [] other)
+
+done_saw : (r : Replica) (a : Act) (i c : ℕ) → i ≢ me r → leaves_view a ≡ false
+    → seen (done r a).rows i c ≡ seen r.rows i c
+done_saw r (acts.Receive s) i c other stays = gained_saw r s (unwrap_or (ready_item r s) Null) i c other
+done_saw r acts.Send i c other stays =
+    put_saw r (Index (next_index r)) (Text (slice_index_or r.messages (next_index r) [])) i c other
+done_saw r acts.Null i c other stays = put_saw r sent_items.Null Null i c other
+done_saw r acts.Publish i c other stays = seen_with r.rows LOGGED_COLUMN r.logged i c other
+done_saw r acts.Mark i c other stays = seen_with r.rows DONE_COLUMN 1 i c other
+done_saw r (acts.Suspect j) i c other stays = seen_rewritten r.rows (wedged_word r.roster r.members
+    (with_member r.suspects j) (least_of (without r.members (with_member r.suspects j)))) i c other
+done_saw r acts.Finish i c other stays = absurd (cc)
+done_saw r acts.Propose i c other stays =
+    let vote = unwrap_or r.pending no_vote in
+    seen_rewritten r.rows (accepted_word r.roster r.members (vote.ballot + 1) vote.value) i c other
+done_saw r acts.Accept i c other stays =
+    let vote = unwrap_or r.pending no_vote in
+    seen_rewritten r.rows (accepted_word r.roster r.members (vote.ballot + 1) vote.value) i c other
+done_saw r a i c other stays = refl
+
+entered_saw : (r : Replica) (view members : ℕ) (history : List Entry) (left : List LeftView) (i c : ℕ) → i ≢ me r
+    → seen (entered r view members history left).rows i c ≡ 0
+entered_saw r view members history left i c other =
+    seen_with (begun r.rows.members r.rows.columns (me r)) LOGGED_COLUMN r.logged i c other
+    ∙ (IsFresh-begun r.rows.members r.rows.columns (me r)).zero i c
+
+taken_saw : (r : Replica) (a : Act) (i c : ℕ) → i ≢ me r → SawAlike r (taken r a) i c
+taken_saw r acts.Finish i c other =
+    let x = unwrap_or r.committed no_value in
+    inr (entered_saw (acted r) (r.view + 1) (next_members r.members x.leavers) (finished_history (acted r) x)
+    (r.left ++ left_now (acted r) ∷ []) i c other)
+taken_saw r a i c other = inl (
+  refl,
+  seen_with (done r a).rows BEAT_COLUMN (one_more 64 (done r a).acts) i c other ∙ done_saw r a i c other refl,
+)
+
+pub step_saw : (word : ℕ) (r : Replica) (s : Step) (i c : ℕ) → i ≢ me r → is_looking s ≡ false
+    → SawAlike r (stepped word r s) i c
+step_saw word r (Do a) i c other plain = taken_saw r a i c other
+step_saw word r (Look j d) i c other plain = absurd (cc)
+step_saw word r s i c other plain = inl (refl, refl)
+
+pub joined_saw : (r : Replica) (letter : List Entry) (i c : ℕ) → i ≢ me r → SawAlike r (joined r letter) i c
+joined_saw r letter i c other =
+    let view = last_view (0, 0) letter in
+    inr (entered_saw r view.0 view.1 letter (left_now r ∷ replicate (view.0 - 1) nothing_left) i c other)
+
+-- in the view in which it was, q has pushed what r has, or it is in a later one, and has pushed nothing
+abbrev pub SentAlike : Replica → Replica → Type 0
+SentAlike r q = ((q.view ≡ r.view) × ((j c : ℕ) → last_pushed q.rows j c ≡ last_pushed r.rows j c))
+    ⊎ ((r.view < q.view) × ((j c : ℕ) → last_pushed q.rows j c ≡ 0))
+
+taken_sent : (r : Replica) (a : Act) → SentAlike r (taken r a)
+taken_sent r acts.Finish = inr (omega arith, λ j c. begun_sent r.rows.members r.rows.columns (me r) j c)
+taken_sent r a = inl (refl, λ j c. refl)
+
+pub step_sent : (word : ℕ) (r : Replica) (s : Step) → is_pushing s ≡ false → SentAlike r (stepped word r s)
+step_sent word r (Do a) plain = taken_sent r a
+step_sent word r (Push j c) plain = absurd (cc)
+step_sent word r s plain = inl (refl, λ j c. refl)
+
+pub joined_sent : (r : Replica) (letter : List Entry) → r.view < (last_view (0, 0) letter).0
+    → SentAlike r (joined r letter)
+joined_sent r letter later = inr (later, λ j c. begun_sent r.rows.members r.rows.columns (me r) j c)

@@ -10,7 +10,7 @@ use Rattle.dr_entry.specs.declared.end.End.TheVariants as ends
 use Rattle.dr_history.specs.Order.{first_entries}
 use Rattle.dr_rows.specs.Words as rows
 use Rattle.dr_rows.specs.Words.{own}
-use Rattle.dr_words.specs.declared.column.TheConstants.{BEAT_COLUMN}
+use Rattle.dr_words.specs.{Columns.columns_of, declared.column.TheConstants.BEAT_COLUMN}
 use Rattle.dr_suspect.specs.Waits.{compared, beat_of, turns_without_news}
 use Rattle.dr_machine.specs.{Group.{Group, roster}, World.World, declared.{event.Act.Act, step.Step.Step}}
 use Rattle.dr_machine.{specs.declared.step.Step.TheVariants.{Do, Join, Push, Look}, proofs.Groups.{IsPlace, place_in}}
@@ -339,3 +339,26 @@ pub act_is : (r : Running) (s : Step) (index word : ℕ) → deed_of r s ≡ dee
     → index_in r.replica (me r.replica) (me r.replica) 0 ≡ index
 act_is r (Do a) index word e = cc e
 act_is r s index word e = absurd (cc)
+
+-- a member at a look, at the place of this index
+pub record IsAtPlace (r : Running) (index : ℕ) : Type 0 where
+  pub none : r.replica.end ≡ None
+  pub row : ℕ
+  pub column : ℕ
+  pub step : next_step r ≡ steps.Look row column
+  pub place : index_in r.replica (me r.replica) row column ≡ index
+  pub among : row < r.replica.roster
+  pub other : row ≢ me r.replica
+  pub within : column < columns_of r.replica.roster r.replica.window
+
+-- a push that is due
+pub record IsPushAt (r : Running) (index word : ℕ) : Type 0 where
+  pub none : r.replica.end ≡ None
+  pub to : ℕ
+  pub column : ℕ
+  pub step : next_step r ≡ steps.Push to column
+  pub place : index_in r.replica to (me r.replica) column ≡ index
+  pub own : own r.replica.rows column ≡ word
+  pub among : to < r.replica.roster
+  pub other : to ≢ me r.replica
+  pub within : column < columns_of r.replica.roster r.replica.window

@@ -1,13 +1,14 @@
 -- What holds of a step that a part has and of the end in its place holds of whichever of the two is due.
-use Rattle.std.specs.Prelude.{ℕ, Bool, true, false, Option, None, Some}
-use Rattle.std.proofs.{Common.{◌≡◌, refl, sym, ap, ◌∙◌, subst, arith}, lemmas.Bool.and_parts}
+use Rattle.std.specs.Prelude.{ℕ, Bool, true, false, Option, None, Some, not}
+use Rattle.std.proofs.{Common.{◌≡◌, refl, sym, ap, ◌∙◌, subst, arith, ◌≢◌}, lemmas.Bool.{and_parts, eq-eqb}}
 use Rattle.dr_entry.specs.declared.end.End.TheVariants as ends
 use Rattle.dr_entry.specs.{declared.end.End.End, declared.record.Value.Value}
+use Rattle.dr_rows.specs.Words.{changed, last_pushed, own}
 use Rattle.dr_machine.specs.declared.event.Act.TheVariants as acts
 use Rattle.dr_machine.{specs.{Acts.effect_of, Group.Group, World.World, declared.step.Step.Step}, proofs.Ends.judges}
 use Rattle.dr_machine.specs.declared.step.Step.TheVariants as steps
 use Rattle.dr_program.specs.{Form.IsRunningMember, Turn.{part_of, is_beat}, declared.place.Part.Part}
-use Rattle.dr_program.specs.{Reading.{step_due, step_of_member}, Replica.{value_due, is_fault, is_inside}}
+use Rattle.dr_program.specs.{Reading.{step_due, step_of_member}, Replica.{value_due, is_fault, is_inside, is_other}}
 use Rattle.dr_program.specs.Running.{append_or_end, end_by, push_or_crash, vote_or_end, Running, broken_off, crashes_now, step_at, next_step, pushes_after, waits_after, asks, AsksForLetter, judged}
 use Rattle.dr_program.{specs.Sight.{IsSeenNext, MaySee}, proofs.{Replicas.{IsTaking, turns_stay}, Runs.joins_outside}}
 use Rattle.dr_program.specs.{Steps.{IsAppend, has_cell, stepped, IsNoJoin, allows}, declared.outcome.LogWhy.LogWhy}
@@ -195,3 +196,27 @@ turns_on g w m r parts.Push i c other =
 turns_on g w m r parts.Judge i c other = turns_stay g w m (judged r) (verdict_no_beat (judged r) (verdict_of r))
 turns_on g w m r (parts.Do a) i c other = turns_stay g w m a other
 turns_on g w m r part i c other = refl
+
+-- what is pushed has changed
+push_asks : (r : Running) (part : Part) (i c j d : ℕ) → asks r part i c ≡ true → step_at r part i c ≡ steps.Push j d
+    → changed r.replica.rows j d ≡ true
+push_asks r parts.Push i c j d asked is = push_either
+    (λ s. s ≡ steps.Push j d → changed r.replica.rows j d ≡ true) (crashes_now r) i c
+    (λ e. subst (λ (x : ℕ × ℕ). changed r.replica.rows x.0 x.1 ≡ true) (places e)
+    (and_parts (is_other r.replica i) (changed r.replica.rows i c) asked).1) (λ e. absurd (cc)) is
+  where
+    places : steps.Push i c ≡ steps.Push j d → ◌≡◌ {A = ℕ × ℕ} (i, c) (j, d)
+    places e = cc e
+push_asks r parts.Append i c j d asked is =
+    absurd (append_either (λ s. s ≡ steps.Push j d → ⊥) r.failed (λ e. cc) (λ why e. cc) is)
+push_asks r parts.Vote i c j d asked is =
+    absurd (vote_either (λ s. s ≡ steps.Push j d → ⊥) r.failed _ (λ e. cc) (λ why e. cc) is)
+push_asks r part i c j d asked is = absurd (cc)
+
+pub push_changes : (r : Running) (j d : ℕ) → IsRunningMember r → r.replica.end ≡ None → next_step r ≡ steps.Push j d
+    → own r.replica.rows d ≢ last_pushed r.replica.rows j d
+push_changes r j d m none step same =
+    let asked = (and_parts (asks r (part_of r.place) r.place.row r.place.column) (allows r.replica (next_step r))
+    (m.due none)).0 in
+    absurd (cc (sym (ap not (eq-eqb (own r.replica.rows d) (last_pushed r.replica.rows j d) same))
+    ∙ push_asks r (part_of r.place) r.place.row r.place.column j d asked step))

@@ -15,3 +15,4 @@ pub mod Bounds
 pub mod Letters
 pub mod Later
 pub mod Waiting
+pub mod Beginning

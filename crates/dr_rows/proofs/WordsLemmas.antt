@@ -3,8 +3,8 @@ use Rattle.std.proofs.Common.{◌≡◌, ℕ, ◌<◌, ◌≤◌, [], false, get
 use Rattle.std.proofs.lemmas.Bool.{cases_lt, Decides.nat_tests}
 use Rattle.std.proofs.lemmas.List.{get_or-replicate, get_or_past, length-replicate}
 use Rattle.dr_entry.proofs.ListFacts.{copy_at}
-use Rattle.dr_rows.specs.{Growth.IsFresh, Words.{Words, IsWords, begun, looked, pushed, own, word_at, zeros}}
-use Rattle.dr_rows.proofs.Grids.{IsGrid-with_word, IsGrid-zeros}
+use Rattle.dr_rows.{specs.Growth.IsFresh, proofs.Grids.{IsGrid-with_word, IsGrid-zeros}}
+use Rattle.dr_rows.specs.Words.{Words, IsWords, begun, looked, pushed, own, word_at, zeros, last_pushed}
 
 -- the words of the beginning have their form
 pub IsWords-begun : (n k me : ℕ) → n ≤ 16 → k ≤ 1024 → me < n → IsWords (begun n k me)
@@ -58,3 +58,7 @@ IsFresh-begun n k me = record {
   unchanged = λ j c. let here = word_at-zeros n k me c in let there = word_at-zeros n k j c in
       grind (arith, nat_tests);
 }
+
+pub begun_sent : (n k m j c : ℕ) → last_pushed (begun n k m) j c ≡ 0
+begun_sent n k m j c =
+    let fresh = IsFresh-begun n k m in grind (arith, nat_tests, fresh.unchanged j c, fresh.zero m c)

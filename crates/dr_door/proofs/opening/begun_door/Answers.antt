@@ -1,8 +1,8 @@
 use Rattle.std.proofs.Common.{sym, ap, ◌∙◌, replicate, subst, arith}
-use Rattle.dr_program.proofs.OpeningForm.{begins_in_form, can_begin}
-use Rattle.dr_program.specs.Running.{Running, begun_running}
+use Rattle.dr_program.{specs.Running.{Running, begun_running}, proofs.OpeningForm.{begins_in_form, can_begin}}
 use Rattle.dr_restart.specs.Groups.{group_of}
-use Rattle.dr_door.{specs.Inside.IsKept, proofs.Kept.{begun_valid, kept_begun}}
+use Rattle.dr_program_laws.proofs.Beginning.{begun_valid}
+use Rattle.dr_door.{specs.Inside.IsKept, proofs.Kept.kept_begun}
 use Rattle.dr_door.proofs.opening.begun_door.Goals as goal
 
 -- who is there is of the roster

@@ -45,8 +45,7 @@ returns-in-Some-clause-written c way says p = one-packet c.args.seal.now c.args.
     c.in-Some.says says (omega arith, omega arith) (read-so c) p
 
 pub returns-in-None-clause-written : goal.returns-in-None-clause-written
-returns-in-None-clause-written c way says p =
-    (subst (IsSaidIn c.args.bytes.now) c.in-None.is c.said_in.ensures) says
+returns-in-None-clause-written c way says p = (subst (IsSaidIn c.args.bytes.now) c.in-None.is c.said_in.ensures) says
     (zero-of c.args.seal.now c.args.bytes.now way says p)
     (body-of c.args.seal.now c.args.bytes.now way says (omega arith, omega arith) p)
 

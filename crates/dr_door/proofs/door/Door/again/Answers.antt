@@ -1,10 +1,10 @@
 use Rattle.std.proofs.Common.{◌≡◌, ◌∙◌, ℕ, ◌+◌, ◌<◌, ◌≤◌, ap, arith, length, slice_index, subst, sym, inl, inr, ◌⊎◌}
 use Rattle.std.proofs.lemmas.Bool.{cases_lt}
-use Rattle.dr_program.specs.Replica.{Replica, me}
+use Rattle.dr_entry.proofs.ListPlaces.{found}
+use Rattle.dr_program.{specs.Replica.{Replica, me}, proofs.Replicas.{bank_before, bank_of, bank_within, row_ends}}
 use Rattle.dr_words.specs.{Columns.columns_of, Layout.word_index_of}
 use Rattle.dr_door.specs.{Inside.IsKept, Lone.Lone, Sending.IsLastSent}
-use Rattle.dr_door.proofs.{Again.{IsAtBank, bank_before, bank_of, bank_within, found_there, only_there, row_ends}, Deeds.found}
-use Rattle.dr_door.proofs.door.Door.again.Goals.{After-columns}
+use Rattle.dr_door.proofs.{Again.{IsAtBank, found_there, only_there}, door.Door.again.Goals.After-columns}
 use Rattle.dr_door.proofs.door.Door.again.Goals as goal
 
 at_bank : (c : After-columns)

@@ -1,5 +1,6 @@
 use Rattle.std.proofs.Common.{ℕ, ◌<◌, ◌≤◌}
-use Rattle.dr_door.{specs.Sending.IsLastSent, proofs.Again.bank_of}
+use Rattle.dr_program.proofs.Replicas.{bank_of}
+use Rattle.dr_door.specs.Sending.{IsLastSent}
 use Rattle.dr_door.proofs.door.Door.again.Given as goal
 
 -- none was found in the banks before

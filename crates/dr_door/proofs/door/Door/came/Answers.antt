@@ -1,7 +1,6 @@
-use Rattle.std.specs.Prelude.{max, slice_set}
-use Rattle.std.proofs.Common.{◌<◌, ◌∙◌, ap, arith, length, subst, sym}
-use Rattle.dr_door.specs.{Coming.refusal, Inside.{IsKept, door_inside}, Lone.Lone}
-use Rattle.dr_door.proofs.{Deeds.found, Kept.kept_coming}
+use Rattle.std.{specs.Prelude.{max, slice_set}, proofs.Common.{◌<◌, ◌∙◌, ap, arith, length, subst, sym}}
+use Rattle.dr_entry.proofs.ListPlaces.{found}
+use Rattle.dr_door.{specs.{Coming.refusal, Inside.{IsKept, door_inside}, Lone.Lone}, proofs.Kept.kept_coming}
 use Rattle.dr_door.proofs.door.Door.came.Goals as goal
 
 pub invariant_of-self : goal.invariant_of-self

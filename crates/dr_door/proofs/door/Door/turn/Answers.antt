@@ -1,5 +1,5 @@
 use Rattle.std.proofs.Common.{sym, ◌∙◌}
-use Rattle.dr_door.proofs.Deeds.{beat_acts}
+use Rattle.dr_member.proofs.Deeds.{beat_acts}
 use Rattle.dr_door.proofs.door.Door.turn.Goals as goal
 
 pub begin-requires : goal.begin-requires

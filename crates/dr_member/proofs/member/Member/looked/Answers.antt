@@ -50,6 +50,5 @@ pub returns-then-next-self-clause-falls : goal.returns-then-next-self-clause-fal
 returns-then-next-self-clause-falls c = (within c).done.fewer
 
 pub looked_last-requires-clause-last : goal.looked_last-requires-clause-last
-looked_last-requires-clause-last c =
-    subst (λ (r : Running). columns r ≤ r.place.column + 1) c.self.view_is
+looked_last-requires-clause-last c = subst (λ (r : Running). columns r ≤ r.place.column + 1) c.self.view_is
     (omega (arith, c.if-next-self.false, columns_here c.self.inside c.self.invariant))

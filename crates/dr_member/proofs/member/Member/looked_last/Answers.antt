@@ -1,6 +1,7 @@
 use Rattle.std.proofs.Common.{refl, sym, subst, ◌+◌, ◌≤◌, arith}
 use Rattle.dr_program.specs.Running.{Running, columns}
-use Rattle.dr_member.{specs.{Inside.member_inside, Search.standing}, proofs.{Alone.columns_here, Indices.columns_after}}
+use Rattle.dr_member.{specs.{Inside.member_inside, Search.standing}, proofs.Alone.columns_here}
+use Rattle.dr_member.proofs.Indices.{columns_after}
 use Rattle.dr_member.proofs.Moves.{IsLooked, IsWaited, inside_after, is_looked, look_due_at, look_left, looked_inside, looked_past, looked_row_timely, waited}
 use Rattle.dr_turn.proofs.Works.{IsAnswer}
 use Rattle.dr_member.proofs.member.Member.looked_last.Goals as goal
@@ -8,8 +9,7 @@ use Rattle.dr_member.proofs.member.Member.looked_last.Goals as goal
 known_past : (c : goal.After-leave_row-arg-4-1)
     → IsLooked c.self.inside.replica c.look.new.self c.self.inside.fate c.self.inside.place c.args.word
 known_past c = is_looked c.args.self.now c.self.inside c.look.new.self c.args.word
-    c.self.view_is c.self.invariant c.requires.sees c.look.ensures.after
-    c.look.ensures.form c.look.ensures.grown
+    c.self.view_is c.self.invariant c.requires.sees c.look.ensures.after c.look.ensures.form c.look.ensures.grown
 
 outer : (c : goal.After-leave_row-arg-4-1)
     → IsWaited c.look.new.self c.self.inside.fate c.self.inside.place c.wait_for.new.patience

@@ -1,8 +1,8 @@
 use Rattle.std.proofs.Common.{refl, sym, subst, ◌∙◌, ℕ, ◌<◌, ◌≤◌, arith}
 use Rattle.dr_words.specs.Columns.{columns_of}
-use Rattle.dr_program.specs.Replica.{Replica}
+use Rattle.dr_program.{specs.Replica.Replica, proofs.Replicas.changed_behind}
 use Rattle.dr_member.{specs.Search.standing, proofs.{Alone.columns_here, Indices.columns_after, Ready.elsewhere}}
-use Rattle.dr_member.proofs.Moves.{IsPushed, changed_behind, counted, inside_after, is_pushed, push_left, pushed_behind, pushed_inside, pushed_timely, pushed_within}
+use Rattle.dr_member.proofs.Moves.{IsPushed, counted, inside_after, is_pushed, push_left, pushed_behind, pushed_inside, pushed_timely, pushed_within}
 use Rattle.dr_program.specs.declared.place.Part.TheVariants as parts
 use Rattle.dr_turn.proofs.Works.{IsAnswer}
 use Rattle.dr_member.proofs.member.Member.pushed.Goals as goal
