@@ -7,7 +7,7 @@ use Rattle.dr_arrival.{specs.Tests.{grown, in_form}, proofs.Exact.{form_exact, g
 use Rattle.dr_entry.specs.{Spelling.{IsValid, IsValidEntry}, declared.entry.{Entry.Entry, Item.TheVariants.Null}}
 use Rattle.dr_entry.{specs.{declared.end.End.End, declared.record.Record.Record}, proofs.ListFacts.copy_at}
 use Rattle.dr_history.specs.Members.{has}
-use Rattle.dr_machine.{specs.declared.step.Step.Step, proofs.Kinds.{is_pushing, is_looking}}
+use Rattle.dr_machine.{specs.declared.step.Step.Step, proofs.Looking.{is_pushing, is_looking}}
 use Rattle.dr_member.{specs.Deeds.{is_act, is_append, is_give, is_take}, proofs.Deeds.{at_place, take_is, push_at}}
 use Rattle.dr_program.specs.{Form.{HasForm, IsRunningMember}, Reading.{step_due, step_of_member}}
 use Rattle.dr_program.specs.Replica.{Replica, begun_replica, first_entries_of, greatest, is_inside, looked, me, pushed}

@@ -25,11 +25,14 @@ prefix_shorter xs ys p = omega (arith, ap length p.1, length-append xs p.0)
 pub left_part : (a : Account) (log : List Entry) → IsPrefixOf a.log a.history → IsLeftBy a log
     → IsPrefixOf log a.history
 left_part a log told (inl is) = subst (λ l. IsPrefixOf l a.history) (sym is) told
-left_part a log told (inr more) = more.2
+left_part a log told (inr (inl more)) = more.2
+left_part a log told (inr (inr whole)) = ([], append-nil log ∙ whole)
 
-left_long : (a : Account) (log : List Entry) → IsLeftBy a log → length a.log ≤ length log
-left_long a log (inl is) = omega (arith, ap length is)
-left_long a log (inr more) = omega (arith, ap length more.1, length-append a.log (more.0 ∷ []))
+left_long : (a : Account) (log : List Entry) → IsPrefixOf a.log a.history → IsLeftBy a log
+    → length a.log ≤ length log
+left_long a log told (inl is) = omega (arith, ap length is)
+left_long a log told (inr (inl more)) = omega (arith, ap length more.1, length-append a.log (more.0 ∷ []))
+left_long a log told (inr (inr whole)) = omega (arith, ap length whole, prefix_shorter a.log a.history told)
 
 -- what a member knows to be durable is the front of a longest log
 durable_kept : (o : Opening) (accounts : Accounts) (lists : List (List Entry)) (start : List Entry)
@@ -60,7 +63,7 @@ durable_kept o accounts lists start i agreed left longest present = by (agreed.p
       arith,
       length-take d h,
       (agreed.durable i present).own,
-      left_long (accounts i) mine.0 (left.each i mine.0 mine.1).1,
+      left_long (accounts i) mine.0 (agreed.logged i present) (left.each i mine.0 mine.1).1,
       longest.longest i mine.0 mine.1,
     )
 

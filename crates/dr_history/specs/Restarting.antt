@@ -57,9 +57,10 @@ next_age None = 0
 next_age (Some v) = v.age + 1
 
 -- A log that a member with this account may leave: the entries that it tells, or, where its last append
--- failed, maybe the next one of its history behind them.
+-- failed, maybe the next one of its history behind them, or all of it.
 abbrev pub IsLeftBy : Account → List Entry → Type 0
-IsLeftBy a log = (log ≡ a.log) ⊎ ((e : Entry) × (log ≡ a.log ++ e ∷ []) × IsPrefixOf log a.history)
+IsLeftBy a log =
+    (log ≡ a.log) ⊎ ((e : Entry) × (log ≡ a.log ++ e ∷ []) × IsPrefixOf log a.history) ⊎ (log ≡ a.history)
 
 -- the logs that the members of an age may leave, by number
 pub record AreLeftBy (o : Opening) (accounts : Accounts) (lists : List (List Entry)) : Type 0 where

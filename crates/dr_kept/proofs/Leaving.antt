@@ -102,14 +102,14 @@ left_by_running g p m r base c k = by
     vote : (v : Vote) (d : OnLog) → HasJustLogged base r.replica d → MayLogVote g (world g p) m v
         → IsLeftByMember g (world g p) m (as_lists (with_record (records.Vote v) d))
     vote v d j may = record {
-      left = inr (inr (
+      left = inr (inr (inr (
         v,
         j.entries ∙ sym log,
         ap (votes_of_age g.opening.age) more
             ∙ of_age g.opening.age base.votes (r.replica.votes ++ v ∷ []) k.earlier with_it
             ∙ ap (λ votes. votes ++ v ∷ []) (sym cast),
         may,
-      ));
+      )));
       votes = none_later g.opening.age base.votes (r.replica.votes ++ v ∷ []) (d.votes ++ v ∷ []) more k.earlier with_it;
     }
       where

@@ -11,4 +11,4 @@ pub mod Exclusions
 pub mod Letters
 pub mod Messages
 pub mod Passed
-pub mod Kinds
+pub mod Looking

@@ -34,7 +34,7 @@ use Rattle.dr_machine.specs.{Acts.effect_of, Effects.{one_more, row_with}, Group
 use Rattle.dr_machine.specs.{Guards.IsFault, Run.{HaveArrived, MayArrive, WasOwn}, World.{World, no_vote, no_value}}
 use Rattle.dr_machine.specs.{Writes.{at₂, at₄}, declared.{event.Act.Act, step.Step.Step}}
 use Rattle.dr_machine.specs.declared.step.Step.TheVariants.{Append, LogVote, Do, Look, Push}
-use Rattle.dr_machine.proofs.{Kinds.{is_looking, is_pushing}, Writes.at₄_case}
+use Rattle.dr_machine.proofs.{Looking.{is_looking, is_pushing}, Writes.at₄_case}
 use Rattle.dr_program.specs.{Acts.{may, done, leaves_view, taken}, Program.Program, Turn.{part_of, is_beat, after}}
 use Rattle.dr_program.specs.{Form.{HasForm, CanBegin, IsOf}, Reading.{Shared, in_view, kept_word, word_of, world}}
 use Rattle.dr_program.{specs.{Presence.present_at, declared.setup.Setup.Setup}, proofs.Parts.{crashed, is_take}}

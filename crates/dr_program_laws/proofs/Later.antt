@@ -29,7 +29,8 @@ left_whole o ends m e es at complete = by
 
     by : IsLeftBy (accounts_of ends m) es → es ≡ e.history
     by (inl is) = is ∙ log
-    by (inr more) = absurd (omega (
+    by (inr (inr whole)) = whole ∙ history
+    by (inr (inl more)) = absurd (omega (
       arith,
       ap length more.1,
       length-append (accounts_of ends m).log (more.0 ∷ []),

@@ -1,5 +1,5 @@
 -- Logs that are handed in: two majorities share one, and what stands on that of a member that was there.
-use Rattle.std.proofs.Common.{◌≡◌, refl, ap, sym, ◌∙◌, ℕ, Bool, true, false, List, None, Some, slice_get, if◌then◌else◌, Option, is_some, ◌&&◌, nat_lt, inl, inr, subst, ◌≤◌, arith, [], ◌∷◌, length, length-append, ◌⊎◌, Contains, ◌==◌}
+use Rattle.std.proofs.Common.{◌≡◌, refl, ap, sym, ◌∙◌, ℕ, Bool, true, false, List, None, Some, slice_get, if◌then◌else◌, Option, is_some, ◌&&◌, nat_lt, inl, inr, subst, ◌≤◌, arith, [], ◌∷◌, length, length-append, append-nil, ◌⊎◌, Contains, ◌==◌}
 use Rattle.std.proofs.lemmas.{List.Elements.{Contains-push_cases, Contains-append_left}, Option.none-some}
 use Rattle.dr_entry.specs.declared.entry.Entry.{Entry}
 use Rattle.dr_entry.{specs.declared.record.Vote.Vote, proofs.ListPlaces.{read-in, Contains-slice_get, slice_get-some}}
@@ -62,7 +62,11 @@ left-entries g w m entries votes p (inl (e, same)) =
     (omega (arith, ap length e), subst (λ es. IsPrefixOf es (w.past.history m)) (sym e) p)
 left-entries g w m entries votes p (inr (inl (x, e, q, same))) =
     (omega (arith, ap length e, length-append (w.past.log m) (x ∷ [])), q)
-left-entries g w m entries votes p (inr (inr (x, e, more, may))) =
+left-entries g w m entries votes p (inr (inr (inl (e, same)))) = (
+  omega (arith, ap length e, ap length p.1, length-append (w.past.log m) p.0),
+  ([], append-nil entries ∙ e),
+)
+left-entries g w m entries votes p (inr (inr (inr (x, e, more, may)))) =
     (omega (arith, ap length e), subst (λ es. IsPrefixOf es (w.past.history m)) (sym e) p)
 
 -- a vote of the age on it is one that it had logged, or may have begun to log
@@ -72,7 +76,9 @@ left_case g w m entries votes x (inl (e, same)) c =
     inl (read-in (w.past.votes m) x (subst (λ l. Contains l x) same c))
 left_case g w m entries votes x (inr (inl (entry, e, q, same))) c =
     inl (read-in (w.past.votes m) x (subst (λ l. Contains l x) same c))
-left_case g w m entries votes x (inr (inr (z, e, more, may))) c =
+left_case g w m entries votes x (inr (inr (inl (e, same)))) c =
+    inl (read-in (w.past.votes m) x (subst (λ l. Contains l x) same c))
+left_case g w m entries votes x (inr (inr (inr (z, e, more, may)))) c =
     by (Contains-push_cases (w.past.votes m) z x (subst (λ l. Contains l x) more c))
   where
     by : Contains (w.past.votes m) x ⊎ (z ≡ x) → HasLogged w.past.votes m x ⊎ MayLogVote g w m x
@@ -89,7 +95,8 @@ logged_case : (g : Group) (w : World) (m : ℕ) (entries : List Entry) (votes : 
     → AreLeftOf g w m entries votes → Contains (w.past.votes m) x → Contains votes x
 logged_case g w m entries votes x (inl (e, same)) c = subst (λ l. Contains l x) (sym same) c
 logged_case g w m entries votes x (inr (inl (entry, e, q, same))) c = subst (λ l. Contains l x) (sym same) c
-logged_case g w m entries votes x (inr (inr (z, e, more, may))) c =
+logged_case g w m entries votes x (inr (inr (inl (e, same)))) c = subst (λ l. Contains l x) (sym same) c
+logged_case g w m entries votes x (inr (inr (inr (z, e, more, may)))) c =
     subst (λ l. Contains l x) (sym more) (Contains-append_left (w.past.votes m) (z ∷ []) x c)
 
 pub logged-left : (g : Group) (w : World) (m : ℕ) (was : LogLists) (x : Vote) → IsLeftByMember g w m was

@@ -75,7 +75,9 @@ one-left g w logs i left there = by (was-left-log (slice_get logs i) refl)
         of (inl (entries, same)) = inl (λ x h. read-in (w.past.votes i) x (subst (λ l. Contains l x) same (on x h)))
         of (inr (inl (entry, entries, p, same))) = inl (λ x h. read-in (w.past.votes i) x
             (subst (λ l. Contains l x) same (on x h)))
-        of (inr (inr (z, entries, more, may))) = inr (
+        of (inr (inr (inl (entries, same)))) = inl (λ x h. read-in (w.past.votes i) x
+            (subst (λ l. Contains l x) same (on x h)))
+        of (inr (inr (inr (z, entries, more, may)))) = inr (
           z,
           may,
           λ x h. last x z (Contains-push_cases (w.past.votes i) z x (subst (λ l. Contains l x) more (on x h))),

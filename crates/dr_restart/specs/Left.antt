@@ -21,13 +21,14 @@ abbrev pub MayLogVote : Group → World → ℕ → Vote → Type 0
 MayLogVote g w m x = (v : Value) × CanLogVote g (without_ends w) m v × (x ≡ vote_for g w m v)
 
 -- the entries and the votes of an age that stops may leave on the log of a member: those that stand there, or
--- one record more, of which an append had begun. It is the next entry of its history, or the vote that it may
--- log
+-- besides what an append that had begun was to bring. It is the next entry of its history, or all that were left of
+-- it, or the vote that it may log
 abbrev pub AreLeftOf : Group → World → ℕ → List Entry → List Vote → Type 0
 AreLeftOf g w m entries votes =
     ((entries ≡ w.past.log m) × (votes ≡ w.past.votes m))
     ⊎ ((e : Entry) × (entries ≡ w.past.log m ++ e ∷ []) × IsPrefixOf entries (w.past.history m)
     × (votes ≡ w.past.votes m))
+    ⊎ ((entries ≡ w.past.history m) × (votes ≡ w.past.votes m))
     ⊎ ((x : Vote) × (entries ≡ w.past.log m) × (votes ≡ w.past.votes m ++ x ∷ []) × MayLogVote g w m x)
 
 -- the votes of an age

@@ -22,7 +22,7 @@
 //! since no log tells who is late. The age is the one after the greatest of any View, vote or age vote: a
 //! View that was cut off counts no more, but the age vote before it does.
 //!
-//! What stops leave (`AreLeft`) is one record more in all, and a vote is one that the guard of voting allows,
+//! What stops leave (`AreLeft`) is one append more in all, and a vote is one that the guard of voting allows,
 //! with the member's end left out of account. A try (`Attempt`) has its set, the start and whether each log
 //! of its set has the age vote, by which it is opened; late members' logs get the vote too, and are brought
 //! up like the others.
