@@ -13,10 +13,10 @@ use Rattle.dr_entry.specs.declared.record.Record.TheVariants as records
 use Rattle.dr_history.{specs.{History.IsPrefixOf, Order.first_entries}, proofs.Bits.has_zero}
 use Rattle.dr_history.proofs.{Histories.part_of_opened, Keeping.front_of_longest}
 use Rattle.dr_kept.proofs.Following.{among_lists, lists_with}
-use Rattle.dr_log.{specs.Standing.{entries_length, votes_length}, proofs.Growing.entries_length-append}
+use Rattle.dr_log.{specs.Standing.{entries_length, votes_length, with_entries}, proofs.Growing.entries_length-append}
 use Rattle.dr_log.proofs.Standing.{short_votes}
 use Rattle.dr_log_bytes.{specs.{Content.{OnLog, with_record}, Grammar.StandFor}, proofs.Meaning.content_once}
-use Rattle.dr_served.{specs.Served.IsRecordDue, proofs.Leaving.left_begins}
+use Rattle.dr_served.{specs.Served.{HasDueBehind, IsRecordDue, entries_due}, proofs.Leaving.left_begins}
 use Rattle.dr_machine.{specs.Group.{Group, IsGroup, banks, roster}, proofs.Groups.banks-small}
 use Rattle.dr_opening.specs.{Accepted.AreAccepted, Lists.{all_as_lists, as_lists}, Tries.{IsChosenOf, content_at}}
 use Rattle.dr_opening.{specs.Contents.{IsRisingStep, IsVoteStep, voted_for}, proofs.Whole.{all_in_set, entries_among}}
@@ -36,7 +36,8 @@ use Rattle.dr_ages.specs.Stops.{AreOpenBelow, AreRefusedFor, HasStopped, HaveVot
 use Rattle.dr_ages.specs.declared.stop.Stop.TheVariants.{OutOfMemory, DiskFault, LogFull, Damaged, Disagree, Foreign, NoQuorum, AgesUsedUp}
 use Rattle.dr_ages.proofs.{Chain.tell_on, Good.{IsGood, empty_found, empty_good, found_of, found_whole, good_never}}
 use Rattle.dr_ages.proofs.{InStep.age_leaves_good, Keeping.{IsBehind, age_next, behind, ended_over, image_entries}}
-use Rattle.dr_ages.proofs.{Refusals.refused_after, Short.found_short, Votes.found_valid}
+use Rattle.dr_ages.proofs.{Refusals.refused_after, Votes.found_valid}
+use Rattle.dr_kept.proofs.Short.{found_short}
 
 -- ---- what an age brings to a log
 
@@ -118,11 +119,31 @@ image_few t image g r c base is reads most of begins valid left = by left
     one_more (records.Cut keep) due s = absurd due
     one_more records.Upgrade due s = absurd due
 
+    -- with all entries that are due
+    all : StandFor image (with_entries (entries_due r) (with_logged base r)) → HasFewMore base c
+    all s =
+        let same = same_as (with_entries (entries_due r) (with_logged base r)) s in
+        let rest : drop (length base.entries) c.entries ≡ drop (length base.entries) (take r.logged r.history)
+        ++ entries_due r = ap (λ (d : OnLog). drop (length base.entries) d.entries) same
+        ∙ drop-append-le (length base.entries) (take r.logged r.history) (entries_due r)
+        (omega (arith, ap length begins.1, length-append base.entries begins.0)) in
+        omega (
+          arith,
+          ap (λ (d : OnLog). d.length) same,
+          ap entries_length rest,
+          entries_length-append (drop (length base.entries) (take r.logged r.history)) (entries_due r),
+          short r.votes (ap (λ (d : OnLog). d.votes) same) few,
+        )
+
+    more : (after : OnLog) → HasDueBehind r (with_logged base r) after → StandFor image after → HasFewMore base c
+    more after (inl (next, due, same)) stands = one_more next due (subst (StandFor image) same stands)
+    more after (inr same) stands = all (subst (StandFor image) same stands)
+
     by : HasLeft (Some t) r base → HasFewMore base c
     by (inl safe) = just (safe image is)
     by (inr broken) = elim (broken.left image is) [
       | inl before ↦ just before
-      | inr after ↦ one_more broken.next broken.due after
+      | inr after ↦ more broken.after broken.due after
     ]
 
 -- and it begins with what was logged

@@ -8,7 +8,7 @@ use Rattle.dr_entry.specs.declared.{end.AgeEnd.AgeEnd, entry.Entry.Entry}
 use Rattle.dr_entry.proofs.ListPlaces.{within_places, slice_get-some}
 use Rattle.dr_history.{specs.{Members.has, Restarting.AllStand}, proofs.Bits.{has_ones, has_zero}}
 use Rattle.dr_kept.proofs.Following.{among_lists, lists_with}
-use Rattle.dr_log_bytes.{specs.{Content.{OnLog, empty_of, with_record}, Grammar.StandFor}, proofs.Grammars.some_there}
+use Rattle.dr_log_bytes.{specs.{Content.{OnLog, empty_of}, Grammar.StandFor}, proofs.Grammars.some_there}
 use Rattle.dr_log_bytes.proofs.Meaning.{stands_or_damaged}
 use Rattle.dr_opening.specs.{Accepted.AreAccepted, Lists.{all_as_lists, as_lists}, Tries.content_at}
 use Rattle.dr_opening.proofs.{Accepting.none_accepted, Lists.{handed_is, handed_there}}
@@ -40,7 +40,7 @@ left_readable None r base some left = absurd (cc)
 left_readable (Some t) r base some (inl safe) = λ image here. (with_logged base r, safe image here)
 left_readable (Some t) r base some (inr broken) = λ image here. elim (broken.left image here) [
   | inl before ↦ (with_logged base r, before)
-  | inr after ↦ (with_record broken.next (with_logged base r), after)
+  | inr after ↦ (broken.after, after)
 ]
 
 pub readable_behind : (script : Script) (part : Part) (mode : Mode) (nth : ℕ) (before yard : YardState) (age : AgeEnd)

@@ -4,7 +4,7 @@ use Rattle.std.proofs.Common.{◌≡◌, ◌⊎◌, refl, sym, ap, ◌∙◌, su
 use Rattle.std.proofs.lemmas.{Bool.cases_lt, List.{get_or_past, take-append-drop, take_more}}
 use Rattle.std.proofs.lemmas.Option.{get_or_from_slice_get, slice_get_within}
 use Rattle.dr_disk.specs.{Disk.{Told, content_of, state_of}, Images.IsImage}
-use Rattle.dr_entry.specs.declared.{end.{AgeEnd.AgeEnd, MemberEnd.MemberEnd}, entry.Entry.Entry}
+use Rattle.dr_entry.specs.declared.{end.{AgeEnd.AgeEnd, End.TheVariants.DiskFault, MemberEnd.MemberEnd}, entry.Entry.Entry}
 use Rattle.dr_entry.{specs.declared.record.Record.Record, proofs.ListPlaces.{within_places, slice_get-some}}
 use Rattle.dr_entry.specs.declared.record.Record.TheVariants as records
 use Rattle.dr_history.specs.{Agreement.accounts_of, History.IsPrefixOf, Members.has, Order.first_entries}
@@ -13,7 +13,7 @@ use Rattle.dr_kept.{specs.Leaving.{AreLeftFrom, IsAgeOfChoice, LeavesSo}, proofs
 use Rattle.dr_kept.proofs.{Following.{next_begins, next_keeps, next_number}, Returning.next_has_all}
 use Rattle.dr_log_bytes.{specs.{Content.{OnLog, with_record}, Grammar.StandFor}, proofs.Grammars.some_there}
 use Rattle.dr_log_bytes.proofs.Meaning.{content_once}
-use Rattle.dr_served.{specs.{Left.IsLeftOf, Served.IsRecordDue}, proofs.Leaving.left_begins}
+use Rattle.dr_served.{specs.{Left.IsLeftOf, Served.{HasDueBehind, IsRecordDue}}, proofs.Leaving.left_begins}
 use Rattle.dr_opening.specs.Tries.{IsChosenOf, content_at}
 use Rattle.dr_program.specs.{Presence.present_at, Program.{Program, member_end}, Replica.Replica, Running.Running}
 use Rattle.dr_restart.specs.{Groups.first_group_of, declared.start.Start.Start}
@@ -40,7 +40,7 @@ image_entries t image r c found is reads left = by left
         → IsLeftOf r.history r.logged c.entries
     one_more (records.Entry x) due s =
         let same : c.entries ≡ logged ++ x ∷ [] = entries_of (with_record (records.Entry x) (with_logged found r)) s in
-        inr (
+        inr (inl (
           x,
           same,
           (
@@ -50,17 +50,23 @@ image_entries t image r c found is reads left = by left
                 ∙ sym (take_more r.history r.logged x (slice_get_within r.history r.logged x due)))
                 ∙ take-append-drop (r.logged + 1) r.history,
           ),
-        )
+        ))
     one_more (records.Vote v) due s = inl (entries_of (with_record (records.Vote v) (with_logged found r)) s)
     one_more (records.AgeVote v) due s = absurd due
     one_more (records.Cut keep) due s = absurd due
     one_more records.Upgrade due s = absurd due
 
+    more : (after : OnLog) → HasDueBehind r (with_logged found r) after → StandFor image after
+        → IsLeftOf r.history r.logged c.entries
+    more after (inl (next, due, same)) stands = one_more next due (subst (StandFor image) same stands)
+    more after (inr same) stands = inr (inr (entries_of after stands ∙ ap (λ (x : OnLog). x.entries) same
+        ∙ take-append-drop r.logged r.history))
+
     by : HasLeft (Some t) r found → IsLeftOf r.history r.logged c.entries
     by (inl safe) = inl (entries_of (with_logged found r) (safe image is))
     by (inr broken) = elim (broken.left image is) [
       | inl before ↦ inl (entries_of (with_logged found r) before)
-      | inr after ↦ one_more broken.next broken.due after
+      | inr after ↦ more broken.after broken.due after
     ]
 
 -- what an image stands for is what its member may leave
@@ -77,17 +83,26 @@ image_leaves t image r c base is reads left = by left
           age_votes = ap (λ (d : OnLog). d.age_votes) same;
         })
 
+    more : (after : OnLog) → r.replica.end ≡ Some DiskFault
+        → HasDueBehind r.replica (with_logged base r.replica) after → StandFor image after → LeavesSo base r c
+    more after failed (inl (next, due, same)) stands = inr (inl (record {
+      next = next;
+      begun = inr (inr failed, due);
+      before = with_logged base r.replica;
+      logged = record { entries = refl; votes = refl; age_votes = refl };
+      is = content_once image c after reads stands ∙ same;
+    }))
+    more after failed (inr same) stands = inr (inr (record {
+      before = with_logged base r.replica;
+      logged = record { entries = refl; votes = refl; age_votes = refl };
+      is = content_once image c after reads stands ∙ same;
+    }))
+
     by : HasLeft (Some t) r.replica base → LeavesSo base r c
     by (inl safe) = just (safe image is)
     by (inr broken) = elim (broken.left image is) [
       | inl before ↦ just before
-      | inr after ↦ inr (record {
-        next = broken.next;
-        begun = inr (inr broken.failed, broken.due);
-        before = with_logged base r.replica;
-        logged = record { entries = refl; votes = refl; age_votes = refl };
-        is = content_once image c (with_record broken.next (with_logged base r.replica)) reads after;
-      })
+      | inr after ↦ more broken.after broken.failed broken.due after
     ]
 
 -- and so is what a read gives

@@ -16,7 +16,6 @@ pub mod Prompt
 mod Reading
 mod Refusals
 pub mod Runs
-mod Short
 mod Staying
 mod Stopping
 mod Tried

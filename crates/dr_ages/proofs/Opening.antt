@@ -4,20 +4,19 @@ use Rattle.std.proofs.Common.{◌≡◌, refl, sym, ◌∙◌, subst, inl, inr, 
 use Rattle.dr_play.specs.Logged.{AreOpened, IsOpened}
 use Rattle.dr_disk.{specs.{Disk.Told, Images.Goes}, proofs.{DiskCalls.goes_tells, Moments.{goes_so, goes_both}}}
 use Rattle.dr_entry.specs.declared.entry.Entry.{Entry}
-use Rattle.dr_history.specs.Members.{has}
 use Rattle.dr_log.specs.{Standing.LosesNone, State.LogState}
 use Rattle.dr_log_bytes.specs.Content.{OnLog}
 use Rattle.dr_served.specs.Served.{HaveSamePlaces}
 use Rattle.dr_machine.specs.Group.{IsPresent}
 use Rattle.dr_opening.specs.{Contents.{IsRising, IsVoting, StandSo}, declared.catching_up.CatchFault.CatchFault}
 use Rattle.dr_opening.specs.{Lists.{contents_of, log_of}, Unopened.IsWhyUnopened}
-use Rattle.dr_opening.specs.Logs.{ComeBelow, GotStart, GotVote, LacksStart, LacksVote, Together, WereNotOpened, WereOpened}
+use Rattle.dr_opening.specs.Logs.{GotStart, GotVote, LacksStart, LacksVote, WereNotOpened, WereOpened}
 use Rattle.dr_opening.{specs.{Tries.IsChosenOf, declared.age.NotOpened.NotOpened}, proofs.Trying.{in_set, out_of_set}}
 use Rattle.dr_opening.specs.declared.{age.NotOpened.TheVariants.{Unchosen, Unfinished}, opening.OpenFault.OpenFault}
 use Rattle.dr_opening.proofs.{Contents.{step_voting, step_rising}, Logs.{all_raised, in_stop, opened_places}}
 use Rattle.dr_opening.proofs.{Lists.{stays_there, was_there, content_at_log, content_none}, Ways.open_entries}
 use Rattle.dr_opening.proofs.Losing.{rising_has_all, voting_has_all, voting_loses_none, rising_loses_none}
-use Rattle.dr_program.proofs.Present.{present_within}
+use Rattle.dr_kept.proofs.OpenLogs.{come_mid, in_come}
 use Rattle.dr_restart.specs.{Groups.{first_group_of, group_of}, declared.start.Start.Start}
 use Rattle.dr_script.specs.declared.script.Script.{Script}
 use Rattle.dr_ages.{specs.Opened.{AreLater, HaveGoneOn, IsLater}, proofs.Staying.{later_same, of_one_start}}
@@ -79,29 +78,6 @@ unopened_later : {D : Type 0} (told : D → Option Told) (faults : D → ℕ) (s
     → IsLater told faults (start.entries ∷ []) old new
 unopened_later told faults start old mid new why got lacks = rising_later told faults start old mid new got
     (step_rising start mid.content new.content lacks.next lacks.step) lacks.moments lacks.later
-
--- ---- the logs of all members
-
--- what two logs of one place have come to, by its number
-pub in_come : {D : Type 0} (P : LogState D → LogState D → Type 0) (olds news : List (Option (LogState D)))
-    (m : ℕ) (old new : LogState D) → ComeBelow P olds news (length olds) → log_of olds m ≡ Some old
-    → log_of news m ≡ Some new → P old new
-in_come {D} P olds news m old new come there here = subst (λ (o : Option (LogState D)). Together P (Some old) o) here
-    (subst (λ (o : Option (LogState D)). Together P o (log_of news m)) there
-    (come.below m (present_within olds m old there)))
-
--- the log that is there between
-pub come_mid : {D : Type 0} (P : LogState D → LogState D → Type 0) (olds mids : List (Option (LogState D)))
-    (m : ℕ) (old : LogState D) → ComeBelow P olds mids (length olds) → log_of olds m ≡ Some old
-    → (mid : LogState D) × (log_of mids m ≡ Some mid)
-come_mid {D} P olds mids m old come there = by (log_of mids m) refl
-    (subst (λ (o : Option (LogState D)). Together P o (log_of mids m)) there
-    (come.below m (present_within olds m old there)))
-  where
-    by : (o : Option (LogState D)) → log_of mids m ≡ o → Together P (Some old) (log_of mids m)
-        → (mid : LogState D) × (log_of mids m ≡ Some mid)
-    by None at come = absurd (subst (Together P (Some old)) at come)
-    by (Some mid) at come = (mid, at)
 
 -- ---- they have gone on
 

@@ -10,10 +10,10 @@ use Rattle.dr_entry.specs.{declared.entry.Entry.TheVariants.View, declared.recor
 use Rattle.dr_entry.proofs.{ListPlaces.slice_get-some, OptionFacts.some_map}
 use Rattle.dr_history.{specs.{History.IsPrefixOf, Members.has}, proofs.{Bits.has_ones, Masks.same_masks}}
 use Rattle.dr_io.{specs.Faults.Rose, proofs.KnownLemmas.rose_since}
-use Rattle.dr_log.specs.Standing.{HasAllOf, IsBeforeOrAfter, LosesNone, entries_length, votes_length}
+use Rattle.dr_log.specs.Standing.{HasAllOf, LosesNone, entries_length, votes_length}
 use Rattle.dr_log.{specs.State.LogState, proofs.Ordinary.{has_through, less_lost}}
 use Rattle.dr_log_bytes.specs.{Content.{OnLog, block_length, empty_of}, Grammar.StandFor}
-use Rattle.dr_served.specs.Served.{BrokeOff, HasCome, HaveSamePlaces, IsFull, IsRecordDue, IsSafe, WentSo}
+use Rattle.dr_served.specs.Served.{BrokeOff, HasCome, HasDueBehind, HaveSamePlaces, IsFull, IsRecordDue, IsSafe, WentSo}
 use Rattle.dr_served.proofs.{Served.places_both, Serving.has_base}
 use Rattle.dr_machine.{specs.Group.{AllPresent, IsGroup, IsPresent}, proofs.{Groups.banks-small, Presence.in_roster}}
 use Rattle.dr_opening.specs.{CatchingUp.opened_with, Contents.{IsOpenFor, voted_for}}
@@ -40,7 +40,8 @@ use Rattle.dr_ages.specs.{Lent.{AreAllBut, AreMounted, IsMounted, with_logs}, Op
 use Rattle.dr_ages.specs.{Passing.AreKeptSince, declared.{mode.Mode.{Mode, TheVariants.Sim}, part.Part.Part}}
 use Rattle.dr_ages.proofs.Backs.{faults_at, kept_back, log_at, not_missing, passed_with, told_at, untouched_with}
 use Rattle.dr_ages.proofs.{Completing.complete_in, Loans.are_found, Opening.{are_opened, opened_on}}
-use Rattle.dr_ages.proofs.{Short.found_short, Staying.{alike_same, later_by_all, later_then, on_same}}
+use Rattle.dr_ages.proofs.Staying.{alike_same, later_by_all, later_then, on_same}
+use Rattle.dr_kept.proofs.Short.{found_short}
 use Rattle.dr_ages.proofs.{Stopping.IsOpeningOn, Votes.{EndsSo, few_cast, member_over, over_form, told_by}}
 use Rattle.dr_entry.specs.declared.end.End.TheVariants as ends
 use Rattle.dr_program.specs.declared.outcome.LogWhy.TheVariants as logs
@@ -161,9 +162,10 @@ left_by {D} tells faults base log r found come kept = by (why_ended (end_of r).e
     by (Some (logs.LogFull len)) is went = safe went.2.safe
     by (Some logs.DiskFault) is went = inr (record {
       failed = ended_by_disk r.replica.end is;
-      next = went.0;
-      due = went.1;
-      left = subst (λ (c : OnLog). IsLeft (tells log.disk) (IsBeforeOrAfter c went.0)) kept went.2.left;
+      after = went.0;
+      due = subst (λ (c : OnLog). HasDueBehind r.replica c went.0) kept went.1;
+      left = subst (λ (c : OnLog). IsLeft (tells log.disk) (λ image. StandFor image c ⊎ StandFor image went.0)) kept
+          went.2.left;
     })
 
 -- what has come of a log in an age, by what was on it as the age began
@@ -348,11 +350,6 @@ is_of tells faults script part mode nth before start olds mids news age m r rang
 abbrev pub content_on : {D : Type 0} → List (Option (LogState D)) → ℕ → OnLog
 content_on {D} logs m = option_map_or (λ (log : LogState D). log.content) (log_of logs m) (empty_of true)
 
-content_here : {D : Type 0} (logs : List (Option (LogState D))) (m : ℕ) (log : LogState D)
-    → log_of logs m ≡ Some log → content_on logs m ≡ log.content
-content_here {D} logs m log there =
-    ap (λ (o : Option (LogState D)). option_map_or (λ (log : LogState D). log.content) o (empty_of true)) there
-
 pub is_age : {D : Type 0} (tells : D → Option Told) (faults : D → ℕ) (script : Script) (part : Part) (mode : Mode)
     (nth : ℕ) (before : YardState) (start : Start) (olds mids news : List (Option (LogState D))) (age : AgeEnd)
     → HasRanges script → IsOpeningOn tells faults script part before start olds
@@ -389,6 +386,10 @@ is_age {D} tells faults script part mode nth before start olds mids news age ran
       untouched = untouched_with tells faults part.missing before olds news on.but places;
     })
   where
+    content_here : (m : ℕ) (log : LogState D) → log_of mids m ≡ Some log → content_on mids m ≡ log.content
+    content_here m log there =
+        ap (λ (o : Option (LogState D)). option_map_or (λ (l : LogState D). l.content) o (empty_of true)) there
+
     group : IsGroup (group_of script start)
     group = chosen_group script (contents_of olds) start ranges.group on.chosen
 
@@ -430,7 +431,7 @@ is_age {D} tells faults script part mode nth before start olds mids news age ran
         let x = open_log tells faults start before olds mids m old.0 on.mounted were old.1 in
         subst (λ b. IsOpenFor start (voted_for start b) (content_on mids m)) (ap (λ (l : LogState D). l.content)
         (same_Some x.old old.0 (sym x.from ∙ old.1)) ∙ old.2) (subst (IsOpenFor start (voted_for start x.old.content))
-        (sym (content_here mids m x.mid x.by)) (is_open tells faults start before olds mids m x))
+        (sym (content_here m x.mid x.by)) (is_open tells faults start before olds mids m x))
 
     one : (m : ℕ) (r : Running) → present_at over.members m ≡ Some r
         → IsOf tells faults start before olds mids news m r
@@ -489,7 +490,7 @@ is_age {D} tells faults script part mode nth before start olds mids news age ran
     content m r at =
         let x = one m r at in
         subst (λ (c : OnLog). x.new.content ≡ with_logged c r.replica)
-        (sym (content_here mids m x.open_one.mid x.open_one.by))
+        (sym (content_here m x.open_one.mid x.open_one.by))
         (content_of_come tells faults x.open_one.mid x.new r.replica (why_ended (end_of r).end) x.come)
 
     left : (m : ℕ) (r : Running) → present_at over.members m ≡ Some r
@@ -537,8 +538,8 @@ is_age {D} tells faults script part mode nth before start olds mids news age ran
     failed m e at end =
         let by = who m e at (λ away. absurd (cc (end, away))) in
         let x = one m by.r by.at in
-        let went : (next : Record) × (IsRecordDue by.r.replica next)
-        × BrokeOff tells faults x.open_one.mid x.new next =
+        let went : (after : OnLog) × HasDueBehind by.r.replica x.new.content after
+        × BrokeOff tells faults x.open_one.mid x.new after =
         subst (λ (y : End). WentSo tells faults x.open_one.mid x.new by.r.replica (why_ended y))
         (ap (λ (x : MemberEnd). x.end) by.is ∙ end) x.come.last in
         subst (Rose (before.faults m)) (sym (faults_at tells faults before news m x.new x.to))

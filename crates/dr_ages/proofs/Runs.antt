@@ -1,13 +1,13 @@
 -- Ages that came one after the other are a run.
 use Rattle.std.{specs.Prelude.{IfSome, Option, None, Some, slice_get}, proofs.lemmas.Bool.Decides.nat_tests}
-use Rattle.std.proofs.Common.{◌≡◌, ◌≢◌, refl, sym, ap, ◌∙◌, subst, inl, inr, ℕ, ◌+◌, ◌^◌, ◌≤◌, arith, false, List, [], ◌∷◌, ◌++◌, append-nil, length, take, get_or, ◌-◌, ◌<◌, ◌&&◌, not, true}
+use Rattle.std.proofs.Common.{◌≡◌, ◌≢◌, ◌⊎◌, refl, sym, ap, ◌∙◌, subst, inl, inr, ℕ, ◌+◌, ◌^◌, ◌≤◌, arith, false, List, [], ◌∷◌, ◌++◌, append-nil, length, take, get_or, ◌-◌, ◌<◌, ◌&&◌, not, true}
 use Rattle.std.proofs.lemmas.{List.Elements.{All-cons, All-nil}, Option.{slice_get-get_or, slice_get_within}}
 use Rattle.dr_play.specs.Logged.{NoneFull}
 use Rattle.dr_disk.{specs.{Disk.Told, Images.IsLeft}, proofs.{Images.left_so, Moments.Goes-last}}
 use Rattle.dr_entry.specs.declared.{end.{AgeEnd.AgeEnd, MemberEnd.MemberEnd}, entry.Entry.Entry}
 use Rattle.dr_history.{specs.{History.IsPrefixOf, Members.has}, proofs.Bits.{has_zero, has_ones}}
-use Rattle.dr_log.specs.Standing.{HasAllOf, IsBeforeOrAfter, LosesNone}
-use Rattle.dr_log.proofs.Ordinary.{has_itself, none_lost, none_lost_by}
+use Rattle.dr_log.specs.Standing.{HasAllOf, LosesNone}
+use Rattle.dr_log.proofs.Ordinary.{entries_kept, has_itself, none_lost, ordinary_keeps}
 use Rattle.dr_log_bytes.specs.{Content.OnLog, Grammar.StandFor}
 use Rattle.dr_opening.specs.Tries.{IsChosenOf}
 use Rattle.dr_program.specs.{Program.end_of, Replica.Replica}
@@ -15,7 +15,7 @@ use Rattle.dr_restart.specs.{Groups.first_group_of, declared.start.Start.Start}
 use Rattle.dr_script.specs.{Ranges.HasRanges, declared.script.Script.Script}
 use Rattle.dr_yard.specs.Yards.{AllTell, AreEmpty, YardState}
 use Rattle.dr_words.proofs.Masks.{has_mask_of}
-use Rattle.dr_served.proofs.Served.{ordinary_due}
+use Rattle.dr_served.{specs.Served.{HasDueBehind, entries_due}, proofs.Served.ordinary_due}
 use Rattle.dr_ages.specs.Ages.{AreAges, IsAgeOf, NamesNobody, start_of, starts_of, all_but, taking_part}
 use Rattle.dr_ages.specs.{Fit.{AreFit, AreInStep}, Lacking.LackedMemory, declared.stop.Stop.Stop}
 use Rattle.dr_ages.specs.{Found.{AreFound, AreRoomy}, declared.{mode.Mode.{Mode, TheVariants.Run}, part.Part.Part}}
@@ -221,12 +221,22 @@ left_has : (o : Option Told) (r : Replica) (base first : OnLog) → HasAllOf fir
     → HasLeft o r base → IsLeft o (LosesNone first)
 left_has o r base first has left = by left
   where
+    with_due : (after : OnLog) → HasDueBehind r (with_logged base r) after → HasAllOf first after
+    with_due after (inl (next, due, is)) = subst (HasAllOf first) (sym is)
+        (ordinary_keeps next first (with_logged base r) (ordinary_due r next due) has)
+    with_due after (inr is) = subst (HasAllOf first) (sym is)
+        (entries_kept (entries_due r) first (with_logged base r) has)
+
+    either : (image : List ℕ) (after : OnLog) → HasDueBehind r (with_logged base r) after
+        → StandFor image (with_logged base r) ⊎ StandFor image after → LosesNone first image
+    either image after due (inl is) = none_lost first (with_logged base r) image has is
+    either image after due (inr is) = none_lost first after image (with_due after due) is
+
     by : HasLeft o r base → IsLeft o (LosesNone first)
     by (inl safe) = left_so o (λ image. StandFor image (with_logged base r)) (LosesNone first)
         (λ image is. none_lost first (with_logged base r) image has is) safe
-    by (inr broken) = left_so o (IsBeforeOrAfter (with_logged base r) broken.next) (LosesNone first)
-        (λ image is. none_lost_by first (with_logged base r) broken.next image
-        (ordinary_due r broken.next broken.due) has is) broken.left
+    by (inr broken) = left_so o (λ image. StandFor image (with_logged base r) ⊎ StandFor image broken.after)
+        (LosesNone first) (λ image is. either image broken.after broken.due is) broken.left
 
 -- a log with what the member has logged has these entries
 has_logged : (r : Replica) (base : OnLog) → HasAllOf (with_these (take r.logged r.history)) (with_logged base r)

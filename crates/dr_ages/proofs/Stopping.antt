@@ -28,7 +28,8 @@ use Rattle.dr_ages.specs.{Opened.AreLater, Passing.AreKeptSince, declared.{mode.
 use Rattle.dr_ages.specs.Stops.{AreOpenBelow, HasStopped, HaveVotesBelow, IsBehindMounts, IsStuckIn, NamesFaults, in_opening}
 use Rattle.dr_ages.specs.{Telling.{stop_at, stop_of, stop_of_choice}, declared.stop.Stop.TheVariants.OutOfMemory}
 use Rattle.dr_ages.proofs.Backs.{counts_still, faults_at, faults_none, kept_back, not_missing, told_at}
-use Rattle.dr_ages.proofs.{Loans.{are_found, names_none}, Opening.{come_mid, in_come, unopened_on}}
+use Rattle.dr_ages.proofs.{Loans.{are_found, names_none}, Opening.unopened_on}
+use Rattle.dr_kept.proofs.OpenLogs.{come_mid, in_come}
 
 -- ---- logs that make no start
 

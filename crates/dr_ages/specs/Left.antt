@@ -2,9 +2,9 @@
 use Rattle.std.specs.Prelude.{◌≡◌, ℕ, ◌+◌, ◌<◌, ◌⊎◌, ◌++◌, length, take, drop, Option, Some}
 use Rattle.dr_disk.specs.{Disk.Told, Images.IsLeft}
 use Rattle.dr_entry.specs.{declared.end.End.TheVariants.DiskFault, declared.record.Record.Record}
-use Rattle.dr_log.specs.Standing.{IsBeforeOrAfter, entries_length, votes_length}
+use Rattle.dr_log.specs.Standing.{entries_length, votes_length}
 use Rattle.dr_log_bytes.specs.{Content.{OnLog, block_length}, Grammar.StandFor}
-use Rattle.dr_served.specs.Served.{IsRecordDue}
+use Rattle.dr_served.specs.Served.{HasDueBehind, IsRecordDue}
 use Rattle.dr_program.specs.Replica.{Replica}
 
 -- what is on a log behind an age, by what stood on it as the age began: the entries that its member has logged, which
@@ -18,12 +18,12 @@ with_logged found r = record found {
 }
 
 -- the disk of a member that stands so at its end failed: whatever a crash leaves has what the member has logged,
--- behind the votes that stood there those that it cast, or the record besides that it has due
+-- behind the votes that stood there those that it cast, or besides what it has due: one record, or all entries
 pub record HasBroken (told : Option Told) (r : Replica) (found : OnLog) : Type 0 where
   pub failed : r.end ≡ Some DiskFault
-  pub next : Record
-  pub due : IsRecordDue r next
-  pub left : IsLeft told (IsBeforeOrAfter (with_logged found r) next)
+  pub after : OnLog
+  pub due : HasDueBehind r (with_logged found r) after
+  pub left : IsLeft told (λ image. StandFor image (with_logged found r) ⊎ StandFor image after)
 
 -- whatever a crash leaves of a disk that tells this has just what a member that stands so at its end has logged,
 -- unless the disk failed

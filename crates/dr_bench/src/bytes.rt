@@ -35,7 +35,7 @@ fn put(bytes: &mut Vec<u8>, at: u64, from: &[u8])
 }
 
 impl Disk for Bytes {
-    ghost use Rattle.std.specs.Prelude.{◌-◌, ◌^◌, None, vec_len, vec_capacity};
+    ghost use Rattle.std.specs.Prelude.{◌-◌, ◌^◌, None, vec_len, vec_capacity, false};
 
     ghost told = { λ _. None };
 
@@ -45,6 +45,12 @@ impl Disk for Bytes {
     ghost room_bytes = { λ disk. vec_capacity disk.bytes - vec_len disk.bytes };
 
     ghost faults = { λ _. 0 };
+
+    ghost groups = { λ _. false };
+
+    fn wants_groups(&self) -> bool {
+        false
+    }
 
     fn reserve(&mut self, _calls: u64, bytes: u64) -> Result<(), AllocError> {
         self.bytes.reserve(bytes as usize)

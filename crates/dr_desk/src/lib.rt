@@ -146,7 +146,7 @@ fn joined_with(from: u64, to: u64, at: u64, end: u64) -> Option<Task>
 }
 
 impl Disk for Desk {
-    ghost use Rattle.std.specs.Prelude.{◌+◌, ◌≤◌, ◌^◌, IsOk, Some, length};
+    ghost use Rattle.std.specs.Prelude.{◌+◌, ◌≤◌, ◌^◌, IsOk, Some, false, length};
     ghost use Rattle.dr_desk.specs.Tasks.{with_task, with_write};
     ghost use Rattle.dr_desk.specs.declared.Task.TheVariants as tasks;
     ghost use Rattle.dr_disk.specs.Calls as calls;
@@ -159,6 +159,12 @@ impl Disk for Desk {
     ghost room_bytes = { λ desk. desk.disk.room_bytes };
 
     ghost faults = { λ _. 0 };
+
+    ghost groups = { λ _. false };
+
+    fn wants_groups(&self) -> bool {
+        false
+    }
 
     fn reserve(&mut self, calls: u64, bytes: u64) -> Result<(), AllocError> {
         self.disk.reserve(calls, bytes)

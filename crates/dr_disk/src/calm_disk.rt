@@ -64,7 +64,7 @@ impl CalmDisk {
 }
 
 impl Disk for CalmDisk {
-    ghost use Rattle.std.specs.Prelude.{◌^◌, Some};
+    ghost use Rattle.std.specs.Prelude.{◌^◌, Some, false};
     ghost use Rattle.dr_disk.specs.Disk.{Now};
 
     ghost told = { λ disk. Some (Now disk.state) };
@@ -75,6 +75,12 @@ impl Disk for CalmDisk {
     ghost room_bytes = { λ disk. disk.room_bytes };
 
     ghost faults = { λ disk. 0 };
+
+    ghost groups = { λ _. false };
+
+    fn wants_groups(&self) -> bool {
+        false
+    }
 
     fn reserve(&mut self, _calls: u64, bytes: u64) -> Result<(), AllocError> {
         self.bytes.reserve(bytes as usize)

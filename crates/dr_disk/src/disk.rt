@@ -1,6 +1,6 @@
 //! What a disk is.
 
-ghost use Rattle.std.specs.Prelude.{◌≡◌, ◌+◌, ◌≤◌, ℕ, Option, IfOk, IfSome, OnOk, OnErr, length, take, drop};
+ghost use Rattle.std.specs.Prelude.{◌≡◌, ◌+◌, ◌≤◌, ℕ, Bool, Option, IfOk, IfSome, OnOk, OnErr, length, take, drop};
 ghost use Rattle.dr_io.specs.Faults.{HasCause};
 ghost use Rattle.dr_disk.specs.{Calls.{Write, FailedWrite, Cut, FailedCut, Sync}, Disk.{Told, added, content_of}};
 ghost use Rattle.dr_disk.specs.Images.{ReadsAnImage};
@@ -22,6 +22,14 @@ pub trait Disk: Send + Drop {
 
     // How many calls of the disk failed.
     ghost faults: { Self → ℕ };
+
+    // Whether what is written to it at once should be much.
+    ghost groups: { Self → Bool };
+
+    /// Whether a sync of it takes so long that it should be asked for few of them, each for many writes. It may answer
+    /// `false` always.
+    fn wants_groups(&self) -> bool
+        ensures { result ≡ groups self.now };
 
     /// Makes room for so many further calls of `write_at`, `cut` and `sync`, and for so many bytes
     /// that they write together. A disk that keeps its bytes elsewhere has room for all.

@@ -132,7 +132,7 @@ fn has_stopped(stop: Option<u64>, calls: u64) -> bool
 }
 
 impl Disk for MemoryDisk {
-    ghost use Rattle.std.specs.Prelude.{Some};
+    ghost use Rattle.std.specs.Prelude.{Some, false};
     ghost use Rattle.dr_disk.specs.Calls.{Write, FailedWrite, Cut, FailedCut, Sync, content_after};
     ghost use Rattle.dr_disk.specs.Disk.{Calls, added};
     ghost use Rattle.dr_disk.specs.Images.{ReadsAnImage};
@@ -145,6 +145,12 @@ impl Disk for MemoryDisk {
     ghost room_bytes = { λ disk. disk.room_bytes };
 
     ghost faults = { λ disk. disk.plan.faults };
+
+    ghost groups = { λ _. false };
+
+    fn wants_groups(&self) -> bool {
+        false
+    }
 
     fn reserve(&mut self, calls: u64, bytes: u64) -> Result<(), AllocError>
         ensures told { Some (Calls self.new.calls) ≡ Some (Calls self.old.calls) }

@@ -1,5 +1,5 @@
 -- What a door leaves on a log is what a stop may leave in the world of the program that all doors are.
-use Rattle.std.proofs.Common.{◌≡◌, sym, subst, ◌⊎◌, inl, inr, ℕ, ◌+◌, ◌<◌, ◌≤◌, true, List, Contains, take, Some}
+use Rattle.std.proofs.Common.{◌≡◌, sym, subst, inl, inr, ℕ, ◌+◌, ◌<◌, ◌≤◌, true, List, Contains, take, Some}
 use Rattle.dr_calls.specs.Wire.{HasCome, HaveCome, IsOpened, IsRunSince, Voted, Wire, logs_in, moment}
 use Rattle.dr_calls.proofs.Lasting.{durable, kept-of}
 use Rattle.dr_door.specs.{Apart.Apart, Lone.Lone}
@@ -7,7 +7,7 @@ use Rattle.dr_door.proofs.Apart.{IsOfDoors, doors_kept, there_is}
 use Rattle.dr_door_logs.specs.Leaving.{AreAgesOfDoors, IsAgeOfDoors, IsLeftByDoor, IsLogOfDoor}
 use Rattle.dr_entry.specs.declared.entry.Entry.{Entry}
 use Rattle.dr_history.{specs.{History.IsPrefixOf, Members.has}, proofs.Lists.prefix_refl}
-use Rattle.dr_kept.{specs.Leaving.HasJustLogged, proofs.{Appending.may_come, Leaving.{MayLeave, left_by_running}}}
+use Rattle.dr_kept.proofs.{Appending.may_come, Leaving.{HasLeft, left_by_running}}
 use Rattle.dr_log_bytes.specs.Content.{OnLog}
 use Rattle.dr_machine.specs.{Group.{Group, IsPresent}, World.opening_world}
 use Rattle.dr_program.{specs.Form.IsRunningMember, proofs.RunningPrograms.idle_at}
@@ -22,9 +22,9 @@ use Rattle.dr_world_laws.proofs.Worlds.{known}
 
 -- a record that a door was to append is one that its member may bring
 may-leave : (base found : OnLog) (d : Lone) → IsRunningMember d.member → IsLeftByDoor base d found
-    → HasJustLogged base d.member.replica found ⊎ MayLeave base d.member.replica found
+    → HasLeft base d.member.replica found
 may-leave base found d form (inl just) = inl just
-may-leave base found d form (inr inside) = inr (record {
+may-leave base found d form (inr inside) = inr (inl (record {
   next = inside.next;
   may = may_come d.member inside.next form (inl inside.due);
   idle = idle_at d.member (part_of d.member.place) d.member.place.row d.member.place.column
@@ -32,7 +32,7 @@ may-leave base found d form (inr inside) = inr (record {
   before = inside.before;
   logged = inside.logged;
   is = inside.is;
-})
+}))
 
 left-by-door : (g : Group) (a : Apart) (p : Program) (m : ℕ) (log : LogLists) → IsOfDoors g a p
     → IsLogOfDoor g.opening.age a m log → IsLeftByMember g (world g p) m log

@@ -33,7 +33,7 @@ impl CountedDisk {
 }
 
 impl Disk for CountedDisk {
-    ghost use Rattle.std.specs.Prelude.{◌^◌, Some};
+    ghost use Rattle.std.specs.Prelude.{◌^◌, Some, false};
     ghost use Rattle.dr_disk.specs.Disk.{Now};
 
     ghost told = { λ disk. Some (Now disk.disk.state) };
@@ -43,6 +43,12 @@ impl Disk for CountedDisk {
     ghost room_bytes = { λ disk. disk.disk.room_bytes };
 
     ghost faults = { λ _. 0 };
+
+    ghost groups = { λ _. false };
+
+    fn wants_groups(&self) -> bool {
+        false
+    }
 
     fn reserve(&mut self, calls: u64, bytes: u64) -> Result<(), AllocError> {
         self.disk.reserve(calls, bytes)

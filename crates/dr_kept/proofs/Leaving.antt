@@ -1,6 +1,7 @@
 -- What a member leaves on its log is what a stop may leave in the world of the program.
-use Rattle.std.{specs.Prelude.{None, slice_get}, proofs.lemmas.List.Elements.Contains-append_cases}
-use Rattle.std.proofs.Common.{◌≡◌, refl, ap, sym, ◌∙◌, ◌⊎◌, inl, inr, subst, ℕ, ◌+◌, ◌<◌, List, [], ◌∷◌, ◌++◌, append_assoc, take, Contains, Option, Some}
+use Rattle.std.specs.Prelude.{None, slice_get}
+use Rattle.std.proofs.lemmas.List.{Elements.Contains-append_cases, take-append-drop}
+use Rattle.std.proofs.Common.{◌≡◌, refl, ap, sym, ◌∙◌, ◌⊎◌, inl, inr, subst, ℕ, ◌<◌, List, [], ◌∷◌, ◌++◌, append_assoc, take, Contains, Option, Some}
 use Rattle.dr_entry.specs.{declared.entry.Entry.Entry, declared.record.{Record.Record, Vote.Vote}}
 use Rattle.dr_entry.proofs.{ListParts.{in-cases, in-nothing}, ListPlaces.read-in, Records.none_later}
 use Rattle.dr_entry.specs.declared.record.Record.TheVariants as records
@@ -14,11 +15,12 @@ use Rattle.dr_restart.specs.{Groups.group_of, Left.{IsLeftByMember, MayLogVote, 
 use Rattle.dr_restart.{specs.declared.start.Start.Start, proofs.LeftVotes.of_age}
 use Rattle.dr_script.specs.declared.script.Script.{Script}
 use Rattle.dr_refine.{specs.Programs.IsProgram, proofs.Programs.member_at}
-use Rattle.dr_served.proofs.Leaving.{next_age_votes}
+use Rattle.dr_log.specs.Standing.{with_entries}
+use Rattle.dr_served.{specs.Served.entries_due, proofs.Leaving.next_age_votes}
 use Rattle.dr_program_laws.proofs.Later.{vote_may}
 use Rattle.dr_world_laws.proofs.Worlds.{Known}
 use Rattle.dr_opening.{specs.Lists.as_lists, proofs.Ways.base_votes}
-use Rattle.dr_kept.{specs.Leaving.{HasJustLogged, IsAgeOfChoice, IsLeftAt, LeavesSo}, proofs.Appending.may_come}
+use Rattle.dr_kept.{specs.Leaving.{HasBegunAll, HasJustLogged, IsAgeOfChoice, IsLeftAt, LeavesSo}, proofs.Appending.may_come}
 use Rattle.dr_kept.proofs.Chosen.{IsKnownAge, age_above}
 
 -- ---- the record that may come
@@ -26,7 +28,8 @@ use Rattle.dr_kept.proofs.Chosen.{IsKnownAge, age_above}
 pub age_votes_stay : (base : OnLog) (r : Running) (c : OnLog) → IsRunningMember r → LeavesSo base r c
     → c.age_votes ≡ base.age_votes
 age_votes_stay base r c form (inl just) = just.age_votes
-age_votes_stay base r c form (inr begun) = ap (λ (d : OnLog). d.age_votes) begun.is
+age_votes_stay base r c form (inr (inr all)) = ap (λ (d : OnLog). d.age_votes) all.is ∙ all.logged.age_votes
+age_votes_stay base r c form (inr (inl begun)) = ap (λ (d : OnLog). d.age_votes) begun.is
     ∙ next_age_votes r.replica begun.next begun.before (may_come r begun.next form begun.begun)
     ∙ begun.logged.age_votes
 
@@ -41,6 +44,10 @@ pub record MayLeave (base : OnLog) (r : Replica) (c : OnLog) : Type 0 where
   pub logged : HasJustLogged base r before
   pub is : c ≡ with_record next before
 
+-- what a member leaves there: what it has logged, or besides what an append was to bring
+abbrev pub HasLeft : OnLog → Replica → OnLog → Type 0
+HasLeft base r c = HasJustLogged base r c ⊎ MayLeave base r c ⊎ HasBegunAll base r c
+
 -- a member of a program, in a world that is reached, whose log was open with votes of earlier ages alone
 pub record IsServed (g : Group) (p : Program) (m : ℕ) (r : Running) (base : OnLog) : Type 0 where
   pub group : IsGroup g
@@ -51,7 +58,7 @@ pub record IsServed (g : Group) (p : Program) (m : ℕ) (r : Running) (base : On
 
 -- what it leaves there is what a stop may leave
 pub left_by_running : (g : Group) (p : Program) (m : ℕ) (r : Running) (base c : OnLog) → IsServed g p m r base
-    → HasJustLogged base r.replica c ⊎ MayLeave base r.replica c → IsLeftByMember g (world g p) m (as_lists c)
+    → HasLeft base r.replica c → IsLeftByMember g (world g p) m (as_lists c)
 left_by_running g p m r base c k = by
   where
     w : World
@@ -99,6 +106,18 @@ left_by_running g p m r base c k = by
       votes = none_later g.opening.age base.votes r.replica.votes d.votes j.votes k.earlier own;
     }
 
+    all : (d : OnLog) → HasJustLogged base r.replica d
+        → IsLeftByMember g (world g p) m (as_lists (with_entries (entries_due r.replica) d))
+    all d j = record {
+      left = inr (inr (inl (
+        ap (λ es. es ++ entries_due r.replica) j.entries ∙ take-append-drop r.replica.logged r.replica.history
+            ∙ sym history,
+        ap (votes_of_age g.opening.age) j.votes ∙ of_age g.opening.age base.votes r.replica.votes k.earlier own
+            ∙ sym cast,
+      )));
+      votes = none_later g.opening.age base.votes r.replica.votes d.votes j.votes k.earlier own;
+    }
+
     vote : (v : Vote) (d : OnLog) → HasJustLogged base r.replica d → MayLogVote g (world g p) m v
         → IsLeftByMember g (world g p) m (as_lists (with_record (records.Vote v) d))
     vote v d j may = record {
@@ -137,9 +156,11 @@ left_by_running g p m r base c k = by
     next_is (records.Cut keep) d j may idle = absurd may
     next_is records.Upgrade d j may idle = absurd may
 
-    by : HasJustLogged base r.replica c ⊎ MayLeave base r.replica c → IsLeftByMember g (world g p) m (as_lists c)
+    by : HasLeft base r.replica c → IsLeftByMember g (world g p) m (as_lists c)
     by (inl j) = just c j
-    by (inr b) = subst (λ (d : OnLog). IsLeftByMember g (world g p) m (as_lists d)) (sym b.is)
+    by (inr (inr a)) = subst (λ (d : OnLog). IsLeftByMember g (world g p) m (as_lists d)) (sym a.is)
+        (all a.before a.logged)
+    by (inr (inl b)) = subst (λ (d : OnLog). IsLeftByMember g (world g p) m (as_lists d)) (sym b.is)
         (next_is b.next b.before b.logged b.may b.idle)
 
 -- so it is behind an age that began with what was chosen
@@ -156,13 +177,14 @@ left_by_member script start nth found p m c is k l =
           (inr (inl (x, subst (λ votes. Contains votes x) (base_votes start l.first l.base l.opened) h, refl)));
     }) (by l.leaves)
   where
-    by : LeavesSo l.base l.member c → HasJustLogged l.base l.member.replica c ⊎ MayLeave l.base l.member.replica c
+    by : LeavesSo l.base l.member c → HasLeft l.base l.member.replica c
     by (inl j) = inl j
-    by (inr b) = inr (record {
+    by (inr (inr all)) = inr (inr all)
+    by (inr (inl b)) = inr (inl (record {
       next = b.next;
       may = may_come l.member b.next (k.form.form m l.member l.there) b.begun;
       idle = k.idle m l.member b.next l.there b.begun;
       before = b.before;
       logged = b.logged;
       is = b.is;
-    })
+    }))

@@ -7,3 +7,5 @@ pub mod Following
 pub mod Returning
 pub mod Lasting
 pub mod Crashes
+pub mod OpenLogs
+pub mod Short

@@ -1,8 +1,9 @@
 -- What an age leaves on the logs of its members, by what was on them as it opened.
 use Rattle.std.specs.Prelude.{◌≡◌, ◌⊎◌, ℕ, List, ◌++◌, length, take, Option, Some, is_some}
 use Rattle.dr_entry.specs.{declared.end.End.TheVariants.DiskFault, declared.record.Record.Record}
+use Rattle.dr_log.specs.Standing.{with_entries}
 use Rattle.dr_log_bytes.specs.Content.{OnLog, with_record}
-use Rattle.dr_served.specs.Served.{IsRecordDue}
+use Rattle.dr_served.specs.Served.{IsRecordDue, entries_due}
 use Rattle.dr_program.specs.declared.deed.Deed.TheVariants as deeds
 use Rattle.dr_program.specs.declared.outcome.LogWhy.TheVariants as whys
 use Rattle.dr_program.specs.{Presence.present_at, Program.{IsRanFrom, Program}, Replica.Replica}
@@ -36,9 +37,16 @@ pub record HasBegunNext (base : OnLog) (r : Running) (c : OnLog) : Type 0 where
   pub logged : HasJustLogged base r.replica before
   pub is : c ≡ with_record next before
 
+-- An append of all entries that the member has due has begun: they stand there besides, and it may have logged some of
+-- them since.
+pub record HasBegunAll (base : OnLog) (r : Replica) (c : OnLog) : Type 0 where
+  pub before : OnLog
+  pub logged : HasJustLogged base r before
+  pub is : c ≡ with_entries (entries_due r) before
+
 -- a member that stands so, as it ended or was stopped, may leave this on a log that was open with `base`
 abbrev pub LeavesSo : OnLog → Running → OnLog → Type 0
-LeavesSo base r c = HasJustLogged base r.replica c ⊎ HasBegunNext base r c
+LeavesSo base r c = HasJustLogged base r.replica c ⊎ HasBegunNext base r c ⊎ HasBegunAll base r.replica c
 
 -- The age of a script that is number nth of a run began with what was chosen of the logs that were there, on which
 -- this was found, and its program has come so far by some deeds.

@@ -4,8 +4,8 @@
 //! and of what is on logs, one place for each member.
 //!
 //! What an age leaves (`LeavesSo`) is told by how its member stands at its end, and by what its log was open
-//! with: what it has logged, or with one record besides. That the same logs are there behind an age
-//! (`AreLeftFrom`) holds in one run; of other sets `ages_leave_what_holds` tells what is left, and the laws
+//! with: what it has logged, or besides what an append was to bring. That the same logs are there behind an
+//! age (`AreLeftFrom`) holds in one run; of other sets `ages_leave_what_holds` tells what is left, and the laws
 //! of tries go on from there.
 #![tactic(auto)]
 

@@ -1,10 +1,11 @@
 -- What no crash loses at one moment of an append no crash loses later on.
 use Rattle.std.specs.Prelude.{⊤}
-use Rattle.std.proofs.Common.{◌≡◌, ℕ, ◌≤◌, Bool, List, [], ◌∷◌, ◌++◌, length, inl, inr, refl, sym, ap, subst, ◌∙◌, append_assoc, arith}
+use Rattle.std.proofs.Common.{◌≡◌, ℕ, ◌≤◌, Bool, List, [], ◌∷◌, length, inl, inr, refl, sym, subst, arith}
 use Rattle.dr_entry.{specs.{declared.entry.Entry.Entry, declared.record.Record.Record}, proofs.ListFacts.IsWhole}
 use Rattle.dr_disk.specs.{Calls.{Call, Write, State, at_rest, step}, Images.{IsImage, During, LastsDuring}}
 use Rattle.dr_disk.proofs.{Images.unwritten_image, Moments.During-weaken}
-use Rattle.dr_log.{specs.Standing.{HasAllOf, LosesNone, as_records, with_entries}, proofs.Growing.content-entries}
+use Rattle.dr_log.specs.Standing.{HasAllOf, LosesNone, as_records}
+use Rattle.dr_log.proofs.{Growing.content-entries, Ordinary.entries_kept}
 use Rattle.dr_log_bytes.specs.{Content.{OnLog, content_after, empty_of}, Grammar.{IsLog, StandFor}}
 use Rattle.dr_log_bytes.proofs.{Grammars.HasNoneOrAll, Meaning.content_once, Reading.log_stands}
 
@@ -14,17 +15,8 @@ TakesNothing first c news = HasAllOf first c → HasAllOf first (content_after c
 
 -- entries take nothing away
 pub entries_keep : (first c : OnLog) (news : List Entry) → TakesNothing first c (as_records news)
-entries_keep first c news has = subst (HasAllOf first) (sym (content-entries c news)) so
-  where
-    so : HasAllOf first (with_entries news c)
-    so = record {
-      more_entries = has.more_entries ++ news;
-      more_votes = has.more_votes;
-      more_age_votes = has.more_age_votes;
-      entries = ap (λ (l : List Entry). l ++ news) has.entries ∙ append_assoc first.entries has.more_entries news;
-      votes = has.votes;
-      age_votes = has.age_votes;
-    }
+entries_keep first c news has =
+    subst (HasAllOf first) (sym (content-entries c news)) (entries_kept news first c has)
 
 -- some image stands for this
 pub record Witness (c : OnLog) (s : State) : Type 0 where

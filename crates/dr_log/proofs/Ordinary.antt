@@ -5,7 +5,7 @@ use Rattle.dr_entry.specs.{declared.entry.Entry.Entry, declared.record.{AgeVote.
 use Rattle.dr_entry.proofs.Records.{IsOrdinary}
 use Rattle.dr_entry.specs.declared.record.Record.TheVariants as records
 use Rattle.dr_disk.{specs.{Disk.Told, Images.{Goes, IsLeft}}, proofs.{Images.left_so, Moments.goes_on}}
-use Rattle.dr_log.specs.{Standing.{HasAllOf, IsBeforeOrAfter, LosesNone}, State.{as_other, LogState}}
+use Rattle.dr_log.specs.{Standing.{HasAllOf, IsBeforeOrAfter, IsNoneOrAll, LosesNone, with_entries}, State.{as_other, LogState}}
 use Rattle.dr_log_bytes.specs.{Content.{OnLog, with_record}, Grammar.StandFor}
 
 pub ordinary_spare : (r : Record) → IsOrdinary r → as_other r ≡ 0
@@ -89,6 +89,32 @@ moments_on told base log new r ordinary has first next =
     goes_on (told base.disk) (told log.disk) (told new.disk) (λ calls. LosesNone base.content)
     (λ calls. IsBeforeOrAfter log.content r) (λ calls. LosesNone base.content) (λ calls image at is. is)
     (λ calls more image at there is. none_lost_by base.content log.content r image ordinary has is) first next
+
+-- so it is with all entries of an append
+pub entries_kept : (news : List Entry) (first c : OnLog) → HasAllOf first c → HasAllOf first (with_entries news c)
+entries_kept news first c has = record {
+  more_entries = has.more_entries ++ news;
+  more_votes = has.more_votes;
+  more_age_votes = has.more_age_votes;
+  entries = ap (λ (l : List Entry). l ++ news) has.entries ∙ append_assoc first.entries has.more_entries news;
+  votes = has.votes;
+  age_votes = has.age_votes;
+}
+
+pub none_lost_all : (first c : OnLog) (news : List Entry) (bytes : List ℕ) → HasAllOf first c
+    → IsNoneOrAll c news bytes → LosesNone first bytes
+none_lost_all first c news bytes has (inl is) = none_lost first c bytes has is
+none_lost_all first c news bytes has (inr is) =
+    none_lost first (with_entries news c) bytes (entries_kept news first c has) is
+
+pub moments_all : {D : Type 0} (told : D → Option Told) (base log new : LogState D) (news : List Entry)
+    → HasAllOf base.content log.content → Goes (told base.disk) (told log.disk) (λ calls. LosesNone base.content)
+    → Goes (told log.disk) (told new.disk) (λ calls. IsNoneOrAll log.content news)
+    → Goes (told base.disk) (told new.disk) (λ calls. LosesNone base.content)
+moments_all told base log new news has first next =
+    goes_on (told base.disk) (told log.disk) (told new.disk) (λ calls. LosesNone base.content)
+    (λ calls. IsNoneOrAll log.content news) (λ calls. LosesNone base.content) (λ calls image at is. is)
+    (λ calls more image at there is. none_lost_all base.content log.content news image has is) first next
 
 -- what has lost none of this has lost none of what this has
 pub left_less : (o : Option Told) (first c : OnLog) → HasAllOf first c → IsLeft o (LosesNone c)

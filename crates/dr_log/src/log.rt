@@ -412,11 +412,25 @@ impl<D: Disk> Log<D> {
         self.shelves.len() == EMPTY
     }
 
+    /// Whether its disk wants groups: entries that are due should be appended together.
+    pub fn wants_groups(&self) -> bool
+        ensures { result ≡ D.groups self.now.disk }
+    {
+        self.disk.wants_groups()
+    }
+
     /// Whether an append failed. Then the log takes no further one.
     pub fn failed(&self) -> bool
         ensures { result ≡ self.now.failed }
     {
         self.failed
+    }
+
+    /// Its disk.
+    pub fn disk(&self) -> &D
+        ensures { result.now ≡ self.now.disk }
+    {
+        &self.disk
     }
 
     /// Gives the disk back.

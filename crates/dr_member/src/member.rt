@@ -2,8 +2,8 @@ mod alone;
 mod asking;
 mod sweep;
 
-ghost use Rattle.std.specs.Prelude.{◌≡◌, ◌≢◌, ◌+◌, ◌*◌, ◌-◌, ◌^◌, ◌<◌, ◌≤◌, ℕ, true, IfOk, IfSome, Some, [], is_some, length, option_map, vec_capacity};
-ghost use Rattle.dr_machine.specs.declared.{event.Act.TheVariants.{Beat, Crash}, step.Step.TheVariants.Do};
+ghost use Rattle.std.specs.Prelude.{◌≡◌, ◌≢◌, ◌+◌, ◌*◌, ◌-◌, ◌^◌, ◌<◌, ◌≤◌, ℕ, true, IfOk, IfSome, Some, [], drop, is_some, length, option_map, vec_capacity};
+ghost use Rattle.dr_machine.specs.{Effects.one_more, declared.{event.Act.TheVariants.{Beat, Crash}, step.Step.TheVariants.Do}};
 ghost use Rattle.dr_program.specs.declared.place.Part.TheVariants as parts;
 ghost use Rattle.dr_program.specs.{Form.{CanBegin, IsRunningMember}, Replica.{is_wedged, me, value_due, vote_of}};
 ghost use Rattle.dr_program.specs.{Program.end_of, Sight.MaySee, Turn.part_of};
@@ -429,6 +429,13 @@ impl Member {
         self.replica.turns()
     }
 
+    /// The number of its acts after one more, which is what that act's beat word says.
+    pub fn acts_after(&self) -> u64
+        ensures { result ≡ one_more 64 self.now.replica.acts }
+    {
+        self.replica.acts_after()
+    }
+
     /// The number of words of its group's table.
     pub fn table_words(&self) -> usize
         ensures { result ≡ table_size self.now }
@@ -448,6 +455,13 @@ impl Member {
         ensures { result ≡ self.now.replica.logged }
     {
         self.replica.logged()
+    }
+
+    /// The entries of its history that are not on its log.
+    pub fn entries_due(&self) -> &[Entry]
+        ensures { result.now ≡ drop self.now.replica.logged self.now.replica.history }
+    {
+        &self.replica.history()[self.replica.logged() as usize..]
     }
 
     /// How many entries more its log may get in this age.

@@ -1,5 +1,5 @@
 //! What a run in threads calls after each turn of a member: how its threads leave each other time, or keep
-//! step. Nothing else rests on it, since neither call answers anything.
+//! step. Nothing else rests on it, since no call answers anything.
 //!
 //! It is called after each turn of a member, the last one too, and once it has ended. It is a crate since it
 //! stands on one of the kit, and what is below all should stand on little. [`MeetPace`] and [`HoldPace`] are

@@ -6,3 +6,4 @@ pub mod Lasting
 pub mod Letters
 pub mod Playing
 pub mod LoggedMembers
+pub mod Persisting

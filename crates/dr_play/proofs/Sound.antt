@@ -20,16 +20,20 @@ pub history_there : (g : Group) (p : Program) (m : ℕ) (r : Running) → IsSoun
 history_there g p m r is there = ap (λ h. h.history)
     (held_of g (replicas p.members) (table_of p) m r.replica (program_member g p m r is.group is.form there).there)
 
+-- and it is of valid entries
+pub entries_valid : (g : Group) (p : Program) (m : ℕ) (r : Running) → IsSound g p
+    → present_at p.members m ≡ Some r → All IsValidEntry r.replica.history
+entries_valid g p m r is there = subst (All IsValidEntry) (history_there g p m r is there)
+    (valid_history g ((world g p).past.history m) is.group
+    (holds_messages g (world g p) m is.group (known g (world g p) is.group is.reached)
+    (omega (arith, present_within p.members m r there, is.form.all))))
+
 -- what a member of a sound program appends is a valid record
 pub appends_well : (g : Group) (p : Program) (m : ℕ) (r : Running) → IsSound g p
     → present_at p.members m ≡ Some r → AppendsWell r
 appends_well g p m r is there = λ due next.
     let at = at_append r due (is.form.form m r there) next in
-    let valid = subst (All IsValidEntry) (history_there g p m r is there)
-    (valid_history g ((world g p).past.history m) is.group
-    (holds_messages g (world g p) m is.group (known g (world g p) is.group is.reached)
-    (omega (arith, present_within p.members m r there, is.form.all)))) in
-    subst IsValid (sym at.1) (valid_due r (next_step r) valid at.0.due)
+    subst IsValid (sym at.1) (valid_due r (next_step r) (entries_valid g p m r is there) at.0.due)
 
 -- sound programs of one group have as many members
 pub as_many : (g : Group) (p q : Program) → IsSound g p → IsSound g q → length q.members ≡ length p.members

@@ -3,3 +3,4 @@ pub mod Begun
 pub mod Logged
 pub mod Run
 pub mod Sound
+pub mod Persisted

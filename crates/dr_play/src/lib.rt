@@ -12,7 +12,7 @@ mod ending;
 mod laws;
 mod opening;
 
-pub use appending::append_due;
+pub use appending::{Together, append_due, append_together};
 pub use ending::ends_of;
 pub use laws::letters_are_for_late_members;
 pub use opening::begun_members;

@@ -33,3 +33,4 @@ pub mod Going
 pub mod Rounds
 pub mod Stepping
 pub mod Copies
+pub mod Persisting

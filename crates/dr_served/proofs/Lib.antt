@@ -4,3 +4,4 @@ pub mod Appends
 pub mod Rooms
 pub mod Dues
 pub mod Served
+pub mod Grouped

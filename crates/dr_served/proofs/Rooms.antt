@@ -1,6 +1,6 @@
 -- Room on the log of a member.
 use Rattle.std.specs.Prelude.{Option, None, slice_set}
-use Rattle.std.proofs.Common.{◌≡◌, sym, ap, ◌∙◌, ℕ, ◌*◌, ◌-◌, max, false, length, arith, ◌<◌, List, ◌+◌, inl, inr, ◌++◌, drop}
+use Rattle.std.proofs.Common.{◌≡◌, sym, ap, ◌∙◌, ℕ, ◌*◌, ◌-◌, max, false, length, arith, ◌<◌, List, ◌+◌, inl, inr, ◌++◌, drop, [], append-nil}
 use Rattle.std.proofs.{Math.Nat.le-max_right, lemmas.List.{get_or-set_same, get_or-set_other, take-append-drop}}
 use Rattle.dr_entry.specs.declared.{end.MemberEnd.MemberEnd, entry.Entry.Entry}
 use Rattle.dr_disk.specs.Disk.{Told}
@@ -48,4 +48,5 @@ left_part e es (inl same) = (
   drop e.logged e.history,
   ap (λ (l : List Entry). l ++ drop e.logged e.history) same ∙ take-append-drop e.logged e.history,
 )
-left_part e es (inr more) = more.2
+left_part e es (inr (inl more)) = more.2
+left_part e es (inr (inr whole)) = ([], append-nil es ∙ whole)

@@ -1,6 +1,6 @@
 -- Each deed of a member leaves its log ready and served.
 use Rattle.std.{specs.Prelude.{Option, None, Some, slice_index_or}, proofs.Math.Nat.{le-max_left, le-max_right}}
-use Rattle.std.proofs.Common.{◌≡◌, ◌≢◌, refl, sym, ap, ◌∙◌, subst, ℕ, ◌+◌, ◌*◌, ◌-◌, ◌<◌, ◌≤◌, max, false, List, [], ◌∷◌, ◌++◌, length, take, drop, append-nil, append_assoc, le_refl, le_trans, arith, length-append}
+use Rattle.std.proofs.Common.{◌≡◌, ◌≢◌, ◌⊎◌, inl, inr, true, refl, sym, ap, ◌∙◌, subst, ℕ, ◌+◌, ◌*◌, ◌-◌, ◌<◌, ◌≤◌, max, false, List, [], ◌∷◌, ◌++◌, length, take, drop, append-nil, append_assoc, le_refl, le_trans, arith, length-append}
 use Rattle.std.proofs.lemmas.List.{length_push, take-append-drop, take-append-le, take_all, take_more}
 use Rattle.std.proofs.lemmas.{List.Sums.sum_by_push, Option.{same_Some, slice_get-get_or}}
 use Rattle.dr_entry.specs.{Spelling.{entry_spelling, vote_spelling}, declared.entry.Entry.{Entry, TheVariants.View}}
@@ -22,8 +22,8 @@ use Rattle.dr_program.{specs.{Turn.part_of, declared.outcome.LogWhy.LogWhy}, pro
 use Rattle.dr_program.{specs.declared.place.Place.Place, proofs.{Finishing.begins_so, RunningPrograms.took_failed}}
 use Rattle.dr_program.proofs.{Fixed.{step_told, Told as ToldReplica}, Search.{settled_same, settled_took}}
 use Rattle.dr_program.specs.declared.outcome.LogWhy.TheVariants as whys
-use Rattle.dr_served.{specs.Appended.{IsAppendDue, MayLog, is_append, record_due, record_of}, proofs.Dues.due_still}
-use Rattle.dr_served.specs.Served.{EndsNext, HasCome, HasServed, IsReady, IsRecordDue, IsRoomy, IsSafe, LetterGoesOn, LosesNothing, WentSo}
+use Rattle.dr_served.{specs.Appended.{IsAppendDue, MayLog, is_append, record_due, record_of}, proofs.Dues.{due_behind, due_still}}
+use Rattle.dr_served.specs.Served.{EndsNext, HasCome, HasDueBehind, HasServed, IsReady, IsRecordDue, IsRoomy, IsSafe, LetterGoesOn, LosesNothing, WentSo}
 
 -- ---- what a step other than an append leaves
 
@@ -46,21 +46,25 @@ grows word r s other = record {
 
 -- ---- the log of a member that doesn't append
 
--- what the member has logged stays as it is while more is delivered, and so does the record at which its last
--- append has failed, if one did
+-- what r has due q has due
+record KeepsDue (r q : Replica) : Type 0 where
+  one : (next : Record) → IsRecordDue r next → IsRecordDue q next
+  behind : (before after : OnLog) → HasDueBehind r before after → HasDueBehind q before after
+
+-- what the member has logged stays as it is while more is delivered, and so does that at which its last append
+-- has failed, if one did
 went_on : {D : Type 0} (told : D → Option Told) (faults : D → ℕ) (base log : LogState D) (r q : Replica)
-    (why : Option LogWhy) → ((next : Record) → why ≢ None → IsRecordDue r next → IsRecordDue q next)
+    (why : Option LogWhy) → (why ≢ None → KeepsDue r q)
     → WentSo told faults base log r why → WentSo told faults base log q why
 went_on told faults base log r q None still went = went
 went_on told faults base log r q (Some whys.DiskFault) still went =
-    (went.0, still went.0 (λ e. absurd (cc e)) went.1, went.2)
+    (went.0, (still (λ e. absurd (cc e))).behind log.content went.0 went.1, went.2)
 went_on told faults base log r q (Some (whys.LogFull len)) still went =
-    (went.0, still went.0 (λ e. absurd (cc e)) went.1, went.2)
+    (went.0, (still (λ e. absurd (cc e))).one went.0 went.1, went.2)
 
 come_on : {D : Type 0} (told : D → Option Told) (faults : D → ℕ) (base log : LogState D) (r q : Replica)
     (why : Option LogWhy) → Grows r q → r.logged ≤ length r.history
-    → ((next : Record) → why ≢ None → IsRecordDue r next → IsRecordDue q next)
-    → HasCome told faults base log r why → HasCome told faults base log q why
+    → (why ≢ None → KeepsDue r q) → HasCome told faults base log r why → HasCome told faults base log q why
 come_on told faults base log r q why g within still come = record {
   entries = come.entries ∙ sym (ap (λ k. take k q.history) g.logged ∙ ap (take r.logged) g.history
       ∙ take-append-le r.logged r.history g.more within);
@@ -80,11 +84,10 @@ come_on told faults base log r q why g within still come = record {
 
 -- what a member with a failed append has due it has due as it ends
 due_on : (word : ℕ) (r : Running) (why : Option LogWhy) → r.failed ≡ why → EndsNext r
-    → r.replica.end ≡ None → (next : Record) → why ≢ None → IsRecordDue r.replica next
-    → IsRecordDue (stepped word r.replica (next_step r)) next
-due_on word r None e ends none next some due = absurd (some refl)
-due_on word r (Some why) e ends none next some due = subst (λ s. IsRecordDue (stepped word r.replica s) next)
-    (sym (ends why e none)) (due_still r.replica (end_by why) next due)
+    → r.replica.end ≡ None → why ≢ None → KeepsDue r.replica (stepped word r.replica (next_step r))
+due_on word r None e ends none some = absurd (some refl)
+due_on word r (Some why) e ends none some = subst (λ s. KeepsDue r.replica (stepped word r.replica s))
+    (sym (ends why e none)) (record { one = due_still r.replica (end_by why); behind = due_behind r.replica (end_by why) })
 
 -- a member that has found its next place
 found_place : {D : Type 0} (told : D → Option Told) (faults : D → ℕ) (base log : LogState D) (word : ℕ)
@@ -152,7 +155,7 @@ took_served told faults base log letter r asks within on served =
     subst (HasServed told faults base log) (sym (settled_took letter r)) (record {
       come = subst (HasCome told faults base log (took_letter letter r).replica) (sym (took_failed letter r))
           (come_on told faults base log r.replica (took_letter letter r).replica r.failed
-          (took_grows letter r on) within (λ next some record_due. absurd (some well)) served.come);
+          (took_grows letter r on) within (λ some. absurd (some well)) served.come);
       ends = λ why failed unended. absurd (none_or_some r.failed why well (sym (took_failed letter r) ∙ failed));
     })
   where
@@ -205,7 +208,7 @@ has_base told faults base log r why come = record {
   age_votes = come.age_votes ∙ sym (append-nil base.content.age_votes);
 }
 
-lasting_on : {D : Type 0} (told : D → Option Told) (base log new : LogState D)
+pub lasting_on : {D : Type 0} (told : D → Option Told) (base log new : LogState D)
     → LosesNothing told base log → LosesNothing told log new → LosesNothing told base new
 lasting_on told base log new before behind = λ first.
     lasts_then (told base.disk) (told log.disk) (told new.disk) (LosesNone first) (before first) (behind first)
@@ -353,60 +356,59 @@ appended_ready {D} log new word r due ready made = subst (IsReady new) (sym (set
   votes = λ none. (ready_step log new word r (next_step r) due.due due.room none ready made).1;
 })
 
--- an append whose disk fails
+-- an append whose disk fails leaves what was there, or what it was to make of it
+pub broke_served : {D : Type 0} (told : D → Option Told) (faults : D → ℕ) (base log new : LogState D) (r : Running)
+    (after : OnLog) → MayLog r (next_step r) → HasServed told faults base log r → new.content ≡ log.content
+    → new.limit ≡ log.limit → new.failed ≡ true → HasDueBehind r.replica log.content after
+    → IsLeft (told new.disk) (λ image. StandFor image log.content ⊎ StandFor image after)
+    → Goes (told base.disk) (told new.disk) (λ calls. LosesNone base.content) → LosesNothing told log new
+    → Rose (faults log.disk) (faults new.disk) → faults log.disk ≤ faults new.disk
+    → HasServed told faults base new (broken_off whys.DiskFault r)
+broke_served told faults base log new r after may before same limit failed due left moments lasting rose later =
+    record { come = come; ends = ends_next whys.DiskFault r may }
+  where
+    served : HasCome told faults base log r.replica r.failed
+    served = before.come
+
+    come : HasCome told faults base new r.replica (Some whys.DiskFault)
+    come = record {
+      entries = ap (λ (c : OnLog). c.entries) same ∙ served.entries;
+      more = (served.more.0, ap (λ (c : OnLog). c.entries) same ∙ served.more.1);
+      voted = ap (λ (c : OnLog). c.votes) same ∙ served.voted;
+      age_votes = ap (λ (c : OnLog). c.age_votes) same ∙ served.age_votes;
+      newer = ap (λ (c : OnLog). c.newer) same ∙ served.newer;
+      limit = limit ∙ served.limit;
+      long = ap (λ (c : OnLog). c.length) same ∙ served.long;
+      within = subst (λ (c : OnLog). c.length ≤ max new.limit base.content.length) (sym same)
+          (subst (λ n. log.content.length ≤ max n base.content.length) (sym limit) served.within);
+      last = (
+        after,
+        subst (λ c. HasDueBehind r.replica c after) (sym same) due,
+        record {
+          failed = failed;
+          rose = rose_since (faults base.disk) (faults log.disk) (faults new.disk) served.later rose;
+          left = subst (λ c. IsLeft (told new.disk) (λ image. StandFor image c ⊎ StandFor image after)) (sym same) left;
+        },
+      );
+      moments = moments;
+      lasting = lasting_on told base log new served.lasting lasting;
+      calm = λ unbroken. absurd (unbroken refl);
+      later = le_trans served.later later;
+    }
+
+-- one of the record that is due
 pub failed_served : {D : Type 0} (told : D → Option Told) (faults : D → ℕ) (base log new : LogState D) (r : Running)
     → MayLog r (next_step r) → HasServed told faults base log r → new ≡ log_broken_off log (record_due r) new.disk
     → Goes (told log.disk) (told new.disk) (λ calls. IsBeforeOrAfter log.content (record_due r))
     → LosesNothing told log new → Rose (faults log.disk) (faults new.disk)
     → faults log.disk ≤ faults new.disk → HasServed told faults base new (broken_off whys.DiskFault r)
 failed_served {D} told faults base log new r may before made goes lasting rose later =
-    record { come = come; ends = ends_next whys.DiskFault r may }
-  where
-    served : HasCome told faults base log r.replica r.failed
-    served = before.come
-
-    entries : new.content.entries ≡ log.content.entries
-    entries = ap (λ (l : LogState D). l.content.entries) made
-
-    votes : new.content.votes ≡ log.content.votes
-    votes = ap (λ (l : LogState D). l.content.votes) made
-
-    grown : new.content.length ≡ log.content.length
-    grown = ap (λ (l : LogState D). l.content.length) made
-
-    limit : new.limit ≡ log.limit
-    limit = ap (λ (l : LogState D). l.limit) made
-
-    same : new.content ≡ log.content
-    same = ap (λ (l : LogState D). l.content) made
-
-    come : HasCome told faults base new r.replica (Some whys.DiskFault)
-    come = record {
-      entries = entries ∙ served.entries;
-      more = (served.more.0, entries ∙ served.more.1);
-      voted = votes ∙ served.voted;
-      age_votes = ap (λ (l : LogState D). l.content.age_votes) made ∙ served.age_votes;
-      newer = ap (λ (l : LogState D). l.content.newer) made ∙ served.newer;
-      limit = limit ∙ served.limit;
-      long = grown ∙ served.long;
-      within = subst (λ n. n ≤ max new.limit base.content.length) (sym grown)
-          (subst (λ n. log.content.length ≤ max n base.content.length) (sym limit) served.within);
-      last = (
-        record_due r,
-        next_is r (next_step r) may,
-        record {
-          failed = ap (λ (l : LogState D). l.failed) made;
-          rose = rose_since (faults base.disk) (faults log.disk) (faults new.disk) served.later rose;
-          left = subst (λ x. IsLeft (told new.disk) (IsBeforeOrAfter x (record_due r))) (sym same)
-              (Goes-last (told log.disk) (told new.disk) (IsBeforeOrAfter log.content (record_due r)) goes);
-        },
-      );
-      moments = moments_on told base log new (record_due r) (ordinary_record r (next_step r))
-          (has_base told faults base log r.replica r.failed served) served.moments goes;
-      lasting = lasting_on told base log new served.lasting lasting;
-      calm = λ unbroken. absurd (unbroken refl);
-      later = le_trans served.later later;
-    }
+    broke_served told faults base log new r (with_record (record_due r) log.content) may before
+    (ap (λ (l : LogState D). l.content) made) (ap (λ (l : LogState D). l.limit) made)
+    (ap (λ (l : LogState D). l.failed) made) (inl (record_due r, next_is r (next_step r) may, refl))
+    (Goes-last (told log.disk) (told new.disk) (IsBeforeOrAfter log.content (record_due r)) goes)
+    (moments_on told base log new (record_due r) (ordinary_record r (next_step r))
+    (has_base told faults base log r.replica r.failed before.come) before.come.moments goes) lasting rose later
 
 -- an append for which the log has no room
 pub full_served : {D : Type 0} (told : D → Option Told) (faults : D → ℕ) (base log : LogState D)

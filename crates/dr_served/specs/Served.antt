@@ -1,12 +1,12 @@
 -- The logs of members that run: what comes of each while its member takes its deeds.
-use Rattle.std.specs.Prelude.{⊤, ◌≡◌, ◌≢◌, ℕ, ◌+◌, ◌*◌, ◌-◌, ◌<◌, ◌≤◌, max, true, false, List, ◌++◌, length, take, slice_get, slice_index_or, Option, None, Some, is_some}
+use Rattle.std.specs.Prelude.{⊤, ◌≡◌, ◌≢◌, ◌⊎◌, ℕ, ◌+◌, ◌*◌, ◌-◌, ◌<◌, ◌≤◌, max, true, false, List, ◌++◌, length, drop, take, slice_get, slice_index_or, Option, None, Some, is_some}
 use Rattle.dr_entry.specs.{Spelling.{IsValid, IsValidVote}, declared.entry.Entry.{Entry, TheVariants.View}}
 use Rattle.dr_entry.specs.declared.record.{Record.Record, Vote.Vote}
 use Rattle.dr_entry.specs.declared.record.Record.TheVariants as records
 use Rattle.dr_io.specs.Faults.{Rose}
 use Rattle.dr_disk.specs.{Disk.Told, Images.{Goes, IsLeft, Lasts}}
-use Rattle.dr_log.specs.{Standing.{IsBeforeOrAfter, LosesNone, entries_length, votes_length}, State.LogState}
-use Rattle.dr_log_bytes.specs.{Content.{OnLog, block_length}, Grammar.StandFor}
+use Rattle.dr_log.specs.{Standing.{LosesNone, entries_length, votes_length, with_entries}, State.LogState}
+use Rattle.dr_log_bytes.specs.{Content.{OnLog, block_length, with_record}, Grammar.StandFor}
 use Rattle.dr_program.specs.declared.deed.Deed.TheVariants as deeds
 use Rattle.dr_program.specs.{Presence.present_at, Program.Program, Replica.{Replica, may_vote, value_due, vote_of}}
 use Rattle.dr_program.specs.{Running.{Running, append_or_end, next_deed, next_step}, declared.outcome.LogWhy.LogWhy}
@@ -42,12 +42,22 @@ IsRecordDue r (records.AgeVote vote) = ⊥
 IsRecordDue r (records.Cut keep) = ⊥
 IsRecordDue r records.Upgrade = ⊥
 
--- a disk failed since `base`: whatever a crash leaves has what is on the log, or the next record besides
+-- all entries that the member has due: those of its history that it has not logged
+abbrev pub entries_due : Replica → List Entry
+entries_due r = drop r.logged r.history
+
+-- what stands on a log after an append of what the member has due: of one record, or of all entries together
+abbrev pub HasDueBehind : Replica → OnLog → OnLog → Type 0
+HasDueBehind r before after =
+    ((next : Record) × (IsRecordDue r next) × (after ≡ with_record next before))
+    ⊎ (after ≡ with_entries (entries_due r) before)
+
+-- a disk failed since `base`: whatever a crash leaves has what is on the log, or what the append was to make of it
 pub record BrokeOff {D : Type 0} (told : D → Option Told) (faults : D → ℕ) (base log : LogState D)
-    (next : Record) : Type 0 where
+    (after : OnLog) : Type 0 where
   pub failed : log.failed ≡ true
   pub rose : Rose (faults base.disk) (faults log.disk)
-  pub left : IsLeft (told log.disk) (IsBeforeOrAfter log.content next)
+  pub left : IsLeft (told log.disk) (λ image. StandFor image log.content ⊎ StandFor image after)
 
 -- a log of this length has no room for the next record, and is safe
 pub record IsFull {D : Type 0} (told : D → Option Told) (log : LogState D) (len : ℕ)
@@ -57,13 +67,13 @@ pub record IsFull {D : Type 0} (told : D → Option Told) (log : LogState D) (le
   pub long : len ≡ log.content.length
   pub over : log.limit < len + block_length next
 
--- how the last append of a member to its log has gone: well, or it failed for this reason, at the record that
--- the member has due
+-- how the last append of a member to its log has gone: well, or it failed for this reason, at what the member has
+-- due
 abbrev pub WentSo : {D : Type 0} → (D → Option Told) → (D → ℕ) → LogState D → LogState D
     → Replica → Option LogWhy → Type 0
 WentSo told faults base log r None = (log.failed ≡ false) × IsSafe told log
 WentSo told faults base log r (Some whys.DiskFault) =
-    (next : Record) × (IsRecordDue r next) × BrokeOff told faults base log next
+    (after : OnLog) × (HasDueBehind r log.content after) × BrokeOff told faults base log after
 WentSo told faults base log r (Some (whys.LogFull len)) =
     (next : Record) × (IsRecordDue r next) × IsFull told log len next
 

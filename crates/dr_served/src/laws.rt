@@ -3,12 +3,14 @@ ghost use Rattle.std.specs.Prelude.{◌≡◌, ℕ, false, List, [], Option, len
 ghost use Rattle.dr_entry.specs.declared.entry.Entry.{Entry};
 ghost use Rattle.dr_disk.specs.{Disk.{Told, content_of}, Images.ReadsAnImage};
 ghost use Rattle.dr_served.specs.{Appended.{HasAppended, HasBroken, IsAppendDue, IsOver, is_append}, Left.IsLeftOf};
+ghost use Rattle.dr_served.specs.Appended.{HasAppendedAll, HasBrokenAll, HasLoggedAll};
 ghost use Rattle.dr_served.specs.Served.{HasCome, HasServed, IsReady, IsRoomy, LetterGoesOn};
 ghost use Rattle.dr_log.specs.State.{LogState};
 ghost use Rattle.dr_log_bytes.specs.{Content.OnLog, Grammar.StandFor};
 ghost use Rattle.dr_program.specs.{Form.HasForm, Replica.Replica, declared.outcome.LogWhy.LogWhy};
 ghost use Rattle.dr_program.specs.Running.{Running, after_step, broken_off, next_step, settled, took_letter, AsksForLetter};
 ghost use Rattle.dr_program.specs.declared.outcome.LogWhy.TheVariants as whys;
+ghost use Rattle.dr_machine.specs.declared.step.Step.TheVariants.{Append};
 
 use dr_disk::Disk;
 
@@ -53,8 +55,19 @@ pub fn appends_serve_logs<D: Disk>()
     ensures ready { (log : LogState D) (why : LogWhy) (r : Running) → IsReady log (broken_off why r) }
 {}
 
+/// So it is with all entries of its history that are due, where they are appended together and the member then logs
+/// them one by one.
+pub fn groups_serve_logs<D: Disk>()
+    ensures well { (base log new : LogState D) (r q : Running) → IsAppendDue r → next_step r ≡ Append
+        → IsReady log r → HasServed D.told D.faults base log r → HasAppendedAll D.told D.faults log new r → HasLoggedAll r q
+        → HasServed D.told D.faults base new q × IsReady new q }
+    ensures failed { (base log new : LogState D) (r : Running) → IsAppendDue r
+        → HasServed D.told D.faults base log r → HasBrokenAll D.told D.faults log new r
+        → HasServed D.told D.faults base new (broken_off whys.DiskFault r) }
+{}
+
 /// What a mount finds on the disk of a log, once its member has ended, is what the member has logged. Where
-/// the last append has failed it may be the next entry of the history besides.
+/// the last append has failed it may be the next entry of the history besides, or all of the history.
 pub fn logs_are_left<D: Disk>()
     ensures { (base log : LogState D) (r : Replica) (found : OnLog) (why : Option LogWhy) (told : Told)
         → HasCome D.told D.faults base log r why → D.told log.disk ≡ Some told → ReadsAnImage told

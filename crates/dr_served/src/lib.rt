@@ -14,6 +14,7 @@ mod laws;
 mod why;
 
 pub use laws::{
-    appends_serve_logs, logs_are_left, logs_begin, other_deeds_leave_logs, takes_leave_logs,
+    appends_serve_logs, groups_serve_logs, logs_are_left, logs_begin, other_deeds_leave_logs,
+    takes_leave_logs,
 };
 pub use why::why_of;

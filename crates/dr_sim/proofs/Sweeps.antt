@@ -1,6 +1,6 @@
 -- Sweeps: what comes of a program, and of a log, by looks and pushes of one member.
 use Rattle.std.{specs.Prelude.{Option, None, Some}, proofs.lemmas.List.Sums.sum_by-set}
-use Rattle.std.proofs.Common.{◌≡◌, refl, sym, ap, ◌∙◌, subst, inl, inr, ℕ, zero, suc, ◌<◌, ◌≤◌, true, false, List, length, le_of_eq, arith}
+use Rattle.std.proofs.Common.{◌≡◌, refl, sym, ap, ◌∙◌, ◌⊎◌, subst, inl, inr, ℕ, zero, suc, ◌<◌, ◌≤◌, true, false, List, length, le_of_eq, arith}
 use Rattle.dr_disk.specs.Disk.{Told}
 use Rattle.dr_log.specs.State.{LogState}
 use Rattle.dr_machine.specs.Group.{Group}
@@ -10,10 +10,12 @@ use Rattle.dr_program.specs.{Reading.step_of_member, Schedule.{IsTurn, is_betwee
 use Rattle.dr_program.{specs.Running.{Running, after_step, next_step}, proofs.Present.{present_within, present_set}}
 use Rattle.dr_entry.{specs.declared.entry.Entry.Entry, proofs.ListPlaces.set_twice}
 use Rattle.dr_turn.specs.Work.{deeds_left}
+use Rattle.dr_play.specs.Persisted.{HasPersisted, IsToPersist, persisted, words_persisted}
+use Rattle.dr_play.proofs.Persisting.{are_persisting, is_persisted}
 use Rattle.dr_play.{specs.Sound.IsSound, proofs.{Deeds.{at_sweep, swept_ready, swept_served}, Sound.whole_table}}
 use Rattle.dr_sim.specs.{Deeds.IsTaken, Lists.HasSpare, Places.{HasServedAt, IsReadyAt}, Simulated.WentWell}
-use Rattle.dr_sim.specs.{Sound.{IsAmong, IsSomewhere, all_left, left_at, program_over, with_member}, Sweeps.HasGoneOn}
-use Rattle.dr_sim.{specs.Watched.{TakesNoNote, WasTold}, proofs.{Deeds.other_taken, Lists.{lists_still, taken_told}}}
+use Rattle.dr_sim.specs.{Sound.{IsAmong, IsSomewhere, all_left, left_at, program_over, with_member}, Sweeps.{ComesTo, HasGoneOn, PersistsTo}}
+use Rattle.dr_sim.{specs.Watched.{TakesNoNote, WasTold}, proofs.{Deeds.{act_taken, append_taken, other_taken}, Lists.{lists_still, taken_told}}}
 use Rattle.dr_sim.proofs.Steps.{HasStepped, sees_well, stepped}
 use Rattle.dr_sim.proofs.Turns.{HasTurn, IsInTurn, IsUnderWay, more_moves, stands, turn_ends, turn_goes_on}
 use Rattle.dr_world.specs.Posts.{PostsOf}
@@ -151,6 +153,30 @@ module _ {W : Type 0} (sees : W → Running → List ℕ → W → Type 0) (old 
       gone_sweeping (suc n) (stored words r.replica (next_step r)) x cells q
       ((gone_swept words r way due).amid (at_sweep x then).amid) (at_sweep x then).amid (then, rest)
 
+  -- by an append of an entry and the act behind it
+  gone_persisted : (words : List ℕ) (r : Running) → IsOnWay sees old now g p m (with_member p m r words posts)
+      → IsToPersist r → HasGone sees old now g p m (persisted r)
+      (stored words (after_step 0 r).replica (next_step (after_step 0 r))) posts
+  gone_persisted words r way is =
+      let are = are_persisting words r is in
+      let q = after_step 0 r in
+      gone_by now g p m q (persisted r) words (stored words q.replica (next_step q)) posts posts within
+      ((gone_by now g p m r q words words posts posts within way is.none
+      (append_taken words posts r _ q are.append are.after) (idle r words)).amid are.amid_then) are.none
+      (act_taken words posts q _ _ (stored words q.replica (next_step q)) (persisted r) are.publish are.published
+      are.stores) (idle q words)
+
+  -- and of several
+  gone_persisting : (n : ℕ) (words : List ℕ) (r q : Running)
+      → IsOnWay sees old now g p m (with_member p m r words posts) → 0 < n → HasPersisted n r q
+      → HasGone sees old now g p m q (words_persisted n words r) posts
+  gone_persisting zero words r q way some has = absurd (omega (arith, some))
+  gone_persisting (suc zero) words r q way some (is, same) =
+      subst (λ x. HasGone sees old now g p m x (words_persisted 1 words r) posts) same (gone_persisted words r way is)
+  gone_persisting (suc (suc n)) words r q way some (is, (then, rest)) =
+      gone_persisting (suc n) (stored words (after_step 0 r).replica (next_step (after_step 0 r))) (persisted r) q
+      ((gone_persisted words r way is).amid (are_persisting words (persisted r) then).amid) (omega arith) (then, rest)
+
 -- fewer deeds are left to all, where a member has fewer left
 left_falls : (p : Program) (m : ℕ) (r x y : Running) (cells next : List ℕ)
     (posts mails : List (Option (List Entry))) → present_at p.members m ≡ Some r → deeds_left y < deeds_left x
@@ -191,9 +217,32 @@ way_on {W} {sees} {old} {mid} new g p m r x y table cells next letters posts mai
 
     gone : HasGoneOn sees mid new cells posts x next mails y → HasGone sees old new g p m y next mails
     gone (inl (taken, seen)) = gone_by new g p m x y cells next posts mails within here none taken seen
-    gone (inr (due, (n, taken), stay, same, idle)) = subst (λ w. HasGone sees old w g p m y next mails) same
-        (subst (HasGone sees old mid g p m y next) (sym stay)
-        (gone_sweeping sees old mid idle g p m within posts n cells x next y here (at_sweep x due).amid taken))
+    gone (inr (come, stay, same, idle)) = subst (λ w. HasGone sees old w g p m y next mails) same
+        (subst (HasGone sees old mid g p m y next) (sym stay) (by come))
+      where
+        by : ComesTo cells x next y → HasGone sees old mid g p m y next posts
+        by (inl (due, (n, taken))) =
+            gone_sweeping sees old mid idle g p m within posts n cells x next y here (at_sweep x due).amid taken
+        by (inr (n, some, has, are)) = subst (λ t. HasGone sees old mid g p m y t posts) (sym are)
+            (gone_persisting sees old mid idle g p m within posts n cells x y here some has)
+
+-- ---- an append
+
+-- it is the next deed, or others go with it
+pub goes_alone : {W : Type 0} (sees : W → Running → List ℕ → W → Type 0) (w : W) (words cells : List ℕ)
+    (posts : List (Option (List Entry))) (r x : Running) → TakesNoNote sees w
+    → IsTaken words posts r cells posts x ⊎ PersistsTo words r cells x
+    → HasGoneOn sees w w words posts r cells posts x
+goes_alone sees w words cells posts r x idle (inl taken) = inl (taken, idle r words)
+goes_alone sees w words cells posts r x idle (inr persists) = inr (inr persists, refl, refl, idle)
+
+-- and lists are left for it as before
+pub lists_alone : (posts : PostsOf) (words cells : List ℕ) (r x : Running) → r.replica.end ≡ None
+    → IsTaken words posts.letters r cells posts.letters x ⊎ PersistsTo words r cells x
+    → HasSpare posts r → HasSpare posts x
+lists_alone posts words cells r x none (inl taken) =
+    lists_still posts r x (taken_told words posts.letters r cells posts.letters x none taken)
+lists_alone posts words cells r x none (inr (n, some, has, are)) = lists_still posts r x (is_persisted n r x has).same
 
 -- ---- logs
 

@@ -1,7 +1,7 @@
-ghost use Rattle.std.specs.Prelude.{◌≡◌, ℕ, ◌-◌, ◌<◌, ◌≤◌, ◌↔◌, All, IsTrue, None, true, false, is_some, slice_set, Some, List, Option, length};
+ghost use Rattle.std.specs.Prelude.{◌≡◌, ℕ, ◌-◌, ◌<◌, ◌≤◌, ◌↔◌, ◌⊎◌, All, IsTrue, None, true, false, is_some, slice_set, Some, List, Option, length};
 ghost use Rattle.dr_machine.specs.Group.{Group};
 ghost use Rattle.dr_log.specs.State.{LogState};
-ghost use Rattle.dr_program.specs.{Form.IsRunningMember, Running.{after_step, next_deed, settled, took_letter}};
+ghost use Rattle.dr_program.specs.{Form.IsRunningMember, Running.{after_step, next_deed, next_step, settled, took_letter}};
 ghost use Rattle.dr_program.specs.{Program.{Program, has_ended}, declared.deed.Deed.TheVariants.{Give, Take}};
 ghost use Rattle.dr_member.specs.Deeds.{is_append, table_size};
 ghost use Rattle.dr_turn.specs.Work.{deeds_left};
@@ -9,14 +9,17 @@ ghost use Rattle.dr_entry.specs.declared.entry.Entry.{Entry};
 ghost use Rattle.dr_history.specs.History.{up_to_view};
 ghost use Rattle.dr_sim.specs.{Deeds.{IsTaken, SeesWell, own_letter}, Lists.{FindsLists, HasSpare}};
 ghost use Rattle.dr_sim.specs.{Places.{HasServedAt, IsReadyAt}, Sound.{IsAmong, IsSomewhere, TookTurn, with_member}};
-ghost use Rattle.dr_sim.specs.{Sweeps.HasGoneOn, Watched.WasTold};
-ghost use Rattle.dr_served.specs.Served.{AppendsWell};
+ghost use Rattle.dr_sim.specs.{Sweeps.{HasGoneOn, PersistsTo}, Watched.WasTold};
+ghost use Rattle.dr_served.specs.Served.{AppendsWell, entries_due};
+ghost use Rattle.dr_play.specs.Persisted.{HasPersisted, words_persisted};
+ghost use Rattle.dr_entry.specs.Spelling.{IsValidEntry};
+ghost use Rattle.dr_machine.specs.declared.step.Step.TheVariants.{Append};
 
 use crate::watcher::Watcher;
 use dr_disk::Disk;
 use dr_log::Log;
-use dr_member::{Deed, Member};
-use dr_play::append_due;
+use dr_member::{Deed, LogWhy, Member};
+use dr_play::{Together, append_due, append_together};
 use dr_served::why_of;
 use dr_world::Posts;
 
@@ -103,6 +106,53 @@ fn append<D: Disk>(member: &mut Member, place: &mut Option<Log<D>>)
     }
 }
 
+/// The member, whose next deed is an append, does it. Where all entries that are due go to its log together, it does
+/// with it those behind it, and the acts between them.
+#[inline(never)]
+fn append_alone<D: Disk>(member: &mut Member, table: &mut [u64], place: &mut Option<Log<D>>)
+    requires due { is_append (next_deed member.old) ≡ true }
+    requires going { member.old.replica.end ≡ None }
+    requires form { IsRunningMember member.old }
+    requires appends { AppendsWell member.old }
+    requires valid { All IsValidEntry member.old.replica.history }
+    requires size { table_size member.old ≤ length table.old }
+    requires ready { IsReadyAt place.old member.old }
+    ensures goes { (posts : List (Option (List Entry)))
+        → IsTaken table.old posts member.old table.new posts member.new
+        ⊎ PersistsTo table.old member.old table.new member.new }
+    ensures falls { deeds_left member.new < deeds_left member.old }
+    ensures ready { IsReadyAt place.new member.new }
+    ensures served { (base : LogState D) → HasServedAt D.told D.faults base place.old member.old
+        → HasServedAt D.told D.faults base place.new member.new }
+{
+    let Some(log) = place else { unreachable!() };
+    match append_together(log, member) {
+        Together::Appended => persist(member, table),
+        Together::Failed => member.append_failed(&LogWhy::DiskFault),
+        Together::Apart => append(member, place),
+    }
+}
+
+/// The member takes note of all entries that are due, which are on its log, and publishes each.
+fn persist(member: &mut Member, table: &mut [u64])
+    requires going { member.old.replica.end ≡ None }
+    requires form { IsRunningMember member.old }
+    requires due { next_step member.old ≡ Append }
+    requires size { table_size member.old ≤ length table.old }
+    ensures persisted { HasPersisted (length (entries_due member.old.replica)) member.old member.new }
+    ensures words { table.new ≡ words_persisted (length (entries_due member.old.replica)) table.old member.old }
+    ensures falls { deeds_left member.new < deeds_left member.old }
+{
+    for _ in 0..member.entries_due().len() {
+        member.appended();
+        let Deed::Act(index, word) = member.due_deed() else {
+            unreachable!()
+        };
+        table[index] = word;
+        member.acted();
+    }
+}
+
 /// The member, whose next deed gives a late member its letter, does it: the letter is written into one of the
 /// lists that are left.
 #[inline(never)]
@@ -135,7 +185,8 @@ fn take_letter(member: &mut Member, posts: &Posts)
 }
 
 /// The member, which has not ended, takes its next deed, told to the watcher first. Where the watcher takes
-/// note of none, it takes with a look or a push those of the same kind behind it in the row.
+/// note of none, it takes with a look or a push those of the same kind behind it in the row, and with an append those
+/// that go to its log together.
 #[inline(always)]
 fn take_on<D: Disk, W: Watcher>(
     member: &mut Member,
@@ -161,6 +212,7 @@ fn take_on<D: Disk, W: Watcher>(
     match member.due_deed() {
         Deed::Look(_) if !noted => member.look_alone(table.as_slice()),
         Deed::Push(_, _) if !noted => member.push_alone(table.as_mut_slice()),
+        Deed::Append(_) if !noted => append_alone(member, table.as_mut_slice(), place),
         _ => {
             take(member, table.as_mut_slice(), posts, place, watcher);
         }

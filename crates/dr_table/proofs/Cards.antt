@@ -1,8 +1,9 @@
 -- What a hand of one member holds, deed by deed.
-use Rattle.std.{specs.Prelude.{Option, option_map, None, Some, is_some, IsTrue}, proofs.lemmas.List.length-map}
+use Rattle.std.{specs.Prelude.{All, Option, option_map, None, Some, is_some, IsTrue}, proofs.lemmas.List.length-map}
 use Rattle.std.proofs.Common.{zero, suc, ◌+◌, List, [], ◌∷◌, ◌++◌, ◌≡◌, sym, ap, ◌∙◌, length, refl, ℕ, ◌<◌, true, subst, arith, true≢false}
-use Rattle.dr_entry.specs.declared.end.End.{End}
+use Rattle.dr_entry.specs.{Spelling.IsValidEntry, declared.end.End.End}
 use Rattle.dr_program.{specs.{Form.IsRunningMember, Presence.present_at, Running.Running}, proofs.Present.present_map}
+use Rattle.dr_play.proofs.Sound.{entries_valid}
 use Rattle.dr_table.specs.{Cards.{AreAtEnd, AreSame, IsAtEnd}, Rule.number, Steps.IsReachedMember}
 
 pub ended_behind : (rs qs : List (Option Running)) → AreAtEnd rs → AreAtEnd qs → AreAtEnd (rs ++ qs)
@@ -12,6 +13,10 @@ ended_behind (x ∷ rs) qs a b (suc k) r there = ended_behind rs qs (λ j. a (su
 
 pub reached_form : (r : Running) → IsReachedMember r → IsRunningMember r
 reached_form r (g, p, is) = is.sound.form.form (number r) r is.there
+
+-- its history is of valid entries
+pub reached_entries : (r : Running) → IsReachedMember r → All IsValidEntry r.replica.history
+reached_entries r (g, p, is) = entries_valid g p (number r) r is.sound is.there
 
 -- the same members are as many
 pub as_many : (rs qs : List (Option Running)) → AreSame rs qs → length qs ≡ length rs

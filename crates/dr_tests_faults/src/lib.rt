@@ -1,7 +1,6 @@
 //! Tests of runs whose disks stop or fail, at each of their calls in turn, of calls whose source, sink or disks
-//! fail, or whose threads wait for one another, of ages that the log of a member stops, of files that are cut or
-//! have become shorter, of the script of a drill, and of
-//! when something is said of a run.
+//! fail, or whose threads wait for one another, of ages that the log of a member stops, of disks that want groups,
+//! of files that are cut or have become shorter, of the script of a drill, and of when something is said of a run.
 #![tactic(auto)]
 
 #[cfg(test)]
@@ -10,6 +9,8 @@ mod drill;
 mod faults;
 #[cfg(test)]
 mod files;
+#[cfg(test)]
+mod groups;
 #[cfg(test)]
 mod meetings;
 #[cfg(test)]

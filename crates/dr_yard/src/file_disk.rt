@@ -233,7 +233,7 @@ fn cut_to(file: &File, to: u64) -> io::Result<()> {
 }
 
 impl Disk for FileDisk {
-    ghost use Rattle.std.specs.Prelude.{◌^◌, None};
+    ghost use Rattle.std.specs.Prelude.{◌^◌, None, true};
 
     ghost told = { λ _. None };
 
@@ -242,6 +242,12 @@ impl Disk for FileDisk {
     ghost room_bytes = { λ _. 2 ^ 64 };
 
     ghost faults = { λ disk. disk.faults };
+
+    ghost groups = { λ _. true };
+
+    fn wants_groups(&self) -> bool {
+        true
+    }
 
     fn reserve(&mut self, _calls: u64, _bytes: u64) -> Result<(), AllocError> {
         Ok(())

@@ -20,7 +20,7 @@ impl Pace for FreePace {
     fn rest(&self, _member: u8) {}
 }
 
-/// Spins after each turn as long as `SnoozePace` does before it yields.
+/// Spins after each turn as long as `SnoozePace` does after an idle one before it yields.
 #[derive(Drop)]
 pub struct SpinPace;
 
@@ -97,6 +97,27 @@ impl<'a, C: Clock, P: Pace + Drop> TimedPace<'a, C, P> {
         sums
     }
 
+    /// Takes the time of a turn that has ended now; answers when that was.
+    fn time_turn(&self, times: &CachePadded<Times>, turn: u32) -> u64 {
+        let came = self.now();
+        if turn > 1 {
+            let turning = came.wrapping_sub(read(&times.went_on));
+            add(&times.turns, 1);
+            add(&times.turning, turning);
+            times
+                .least
+                .store(read(&times.least).min(turning), Ordering::SeqCst);
+        }
+        came
+    }
+
+    /// Takes the time of what the pace has done since then.
+    fn time_pace(&self, times: &CachePadded<Times>, came: u64) {
+        let went_on = self.now();
+        add(&times.backing_off, went_on.wrapping_sub(came));
+        times.went_on.store(went_on, Ordering::SeqCst);
+    }
+
     fn now(&self) -> u64 {
         match self.clock.monotonic() {
             Ok(time) => nanos(time),
@@ -107,22 +128,19 @@ impl<'a, C: Clock, P: Pace + Drop> TimedPace<'a, C, P> {
 
 impl<'a, C: Clock, P: Pace + Drop> Pace for TimedPace<'a, C, P> {
     fn turn(&self, member: u8, turn: u32) {
-        let Some(times) = self.times.get(usize::from(member)) else {
-            return;
-        };
-        let came = self.now();
-        if turn > 1 {
-            let turning = came.wrapping_sub(read(&times.went_on));
-            add(&times.turns, 1);
-            add(&times.turning, turning);
-            times
-                .least
-                .store(read(&times.least).min(turning), Ordering::SeqCst);
+        if let Some(times) = self.times.get(usize::from(member)) {
+            let came = self.time_turn(times, turn);
+            self.pace.turn(member, turn);
+            self.time_pace(times, came);
         }
-        self.pace.turn(member, turn);
-        let went_on = self.now();
-        add(&times.backing_off, went_on.wrapping_sub(came));
-        times.went_on.store(went_on, Ordering::SeqCst);
+    }
+
+    fn idle(&self, member: u8, turn: u32) {
+        if let Some(times) = self.times.get(usize::from(member)) {
+            let came = self.time_turn(times, turn);
+            self.pace.idle(member, turn);
+            self.time_pace(times, came);
+        }
     }
 
     fn rest(&self, member: u8) {

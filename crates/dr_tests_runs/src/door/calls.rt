@@ -1,6 +1,7 @@
 //! Calls of one door.
 use dr_door::{Door, LogWhy};
 use std::alloc::Global;
+use std::fmt::Debug;
 
 /// What the door answers to the call of a line, with these numbers.
 pub(super) fn told_of(alloc: Global, door: &mut Door, line: &str) -> anyhow::Result<String> {
@@ -9,36 +10,34 @@ pub(super) fn told_of(alloc: Global, door: &mut Door, line: &str) -> anyhow::Res
     for word in rest.split_whitespace() {
         numbers.push(word.parse()?)?;
     }
-    Ok(match (name, numbers.as_slice()) {
-        ("came", [index, word]) => {
-            let index = usize::try_from(*index)?;
-            format!(in alloc; "{:?}", door.came(index, *word))?
-        }
-        ("judge", [index, word]) => {
-            let index = usize::try_from(*index)?;
-            format!(in alloc; "{:?}", door.judge(index, *word))?
-        }
-        ("again", [to, from]) => {
-            let to = u8::try_from(*to)?;
-            let from = usize::try_from(*from)?;
-            format!(in alloc; "{:?}", door.again(to, from))?
-        }
-        _ => answer_of(alloc, door, name)?,
-    })
+    match (name, numbers.as_slice()) {
+        ("came", [index, word]) => told(alloc, &door.came(usize::try_from(*index)?, *word)),
+        ("judge", [index, word]) => told(alloc, &door.judge(usize::try_from(*index)?, *word)),
+        ("again", [to, from]) => told(
+            alloc,
+            &door.again(u8::try_from(*to)?, usize::try_from(*from)?),
+        ),
+        _ => answer_of(alloc, door, name),
+    }
 }
 
 /// What the door answers to a call with no number.
 fn answer_of(alloc: Global, door: &mut Door, name: &str) -> anyhow::Result<String> {
-    Ok(match name {
-        "go" => format!(in alloc; "{:?}", door.go())?,
-        "turn" => format!(in alloc; "{:?}", door.turn())?,
-        "pushed" => format!(in alloc; "{:?}", door.pushed())?,
-        "appended" => format!(in alloc; "{:?}", door.appended())?,
-        "full" => format!(in alloc; "{:?}", door.append_failed(&LogWhy::LogFull { len: 1 }))?,
-        "given" => format!(in alloc; "{:?}", door.given())?,
-        "missed" => format!(in alloc; "{:?}", door.taken(None))?,
-        "joined" => format!(in alloc; "{:?}", door.taken(Some(&[])))?,
-        "letter" => format!(in alloc; "{:?}", door.letter())?,
-        _ => format!(in alloc; "{:?}", door.end())?,
-    })
+    match name {
+        "go" => told(alloc, &door.go()),
+        "turn" => told(alloc, &door.turn()),
+        "pushed" => told(alloc, &door.pushed()),
+        "appended" => told(alloc, &door.appended()),
+        "full" => told(alloc, &door.append_failed(&LogWhy::LogFull { len: 1 })),
+        "given" => told(alloc, &door.given()),
+        "missed" => told(alloc, &door.taken(None)),
+        "joined" => told(alloc, &door.taken(Some(&[]))),
+        "letter" => told(alloc, &door.letter()),
+        _ => told(alloc, &door.end()),
+    }
+}
+
+/// The text of an answer.
+fn told(alloc: Global, answer: &impl Debug) -> anyhow::Result<String> {
+    Ok(format!(in alloc; "{answer:?}")?)
 }

@@ -80,6 +80,10 @@ impl Pace for HoldAges {
         SnoozePace.turn(member, turn);
     }
 
+    fn idle(&self, member: u8, turn: u32) {
+        SnoozePace.idle(member, turn);
+    }
+
     fn rest(&self, _member: u8) {
         let ends = self.counts.ends.fetch_add(1, Ordering::SeqCst);
         if ends == MEMBERS - 1 {
