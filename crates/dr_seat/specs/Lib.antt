@@ -1,0 +1,10 @@
+pub mod Cards
+pub mod Opened
+pub mod Roles
+pub mod Starting
+pub mod Openings
+pub mod Books
+pub mod Words
+pub mod Duties
+pub mod Seats
+pub mod Inside
