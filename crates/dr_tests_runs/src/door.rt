@@ -22,26 +22,44 @@ const LATE: usize = 4;
 
 /// Prints what becomes of these lines.
 pub(crate) fn show(rt: &HostRuntime, lines: &str) -> anyhow::Result<()> {
-    let alloc = rt.alloc();
     let mut door = None;
     for line in lines.lines() {
-        if line.starts_with('#') {
-            println!(rt; "{line}")?;
-        } else if line.starts_with('{') {
-            let mut way = Way::new(alloc, LATE, true);
-            let led = lead_all(alloc, new_doors(alloc, line)?, &mut way)?;
-            print_way(rt, led.as_slice(), &way)?;
-            print_ends(rt, led.as_slice())?;
-        } else if let Some(rest) = line.strip_prefix("late ") {
-            print_late(rt, rest, true)?;
-        } else if let Some(rest) = line.strip_prefix("lost ") {
-            print_late(rt, rest, false)?;
-        } else if let Some(rest) = line.strip_prefix("open ") {
-            door = print_opened(rt, alloc, rest)?;
-        } else if let Some(door) = &mut door {
-            println!(rt; "{line}: {}", told_of(alloc, door, line)?)?;
+        match line.strip_prefix("open ") {
+            Some(rest) => door = print_opened(rt, rt.alloc(), rest)?,
+            None => show_line(rt, line, &mut door)?,
         }
     }
+    Ok(())
+}
+
+/// Prints what becomes of a line that opens no door, where this one was opened last.
+fn show_line(rt: &HostRuntime, line: &str, door: &mut Option<Door>) -> anyhow::Result<()> {
+    if line.starts_with('#') {
+        println!(rt; "{line}")?;
+    } else if line.starts_with('{') {
+        print_led(rt, line)?;
+    } else if let Some(rest) = line.strip_prefix("late ") {
+        print_late(rt, rest, true)?;
+    } else if let Some(rest) = line.strip_prefix("lost ") {
+        print_late(rt, rest, false)?;
+    } else if let Some(door) = door {
+        print_told(rt, door, line)?;
+    }
+    Ok(())
+}
+
+/// Leads the doors of a script's new group, to which some words come late.
+fn print_led(rt: &HostRuntime, script: &str) -> anyhow::Result<()> {
+    let alloc = rt.alloc();
+    let mut way = Way::new(alloc, LATE, true);
+    let led = lead_all(alloc, new_doors(alloc, script)?, &mut way)?;
+    print_way(rt, led.as_slice(), &way)?;
+    print_ends(rt, led.as_slice())
+}
+
+/// Prints what a door answers to the call of a line.
+fn print_told(rt: &HostRuntime, door: &mut Door, line: &str) -> anyhow::Result<()> {
+    println!(rt; "{line}: {}", told_of(rt.alloc(), door, line)?)?;
     Ok(())
 }
 
